@@ -1,0 +1,5 @@
+pub mod Certificate
+pub mod Checks
+pub mod Run
+pub mod Settle
+pub mod Text

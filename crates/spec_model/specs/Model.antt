@@ -1,0 +1,110 @@
+-- A linear program, as plain data.
+use Rattle.std.specs.Prelude.{ℕ, List, [], ◌∷◌, length, Option, Some, None, nat_eq, cond, get_or}
+use Rattle.spec_exact.specs.Fraction.{ℚ, ◌+ℚ◌, ◌-ℚ◌, ◌*ℚ◌, 0ℚ, abs_ℚ, lt_ℚ}
+use Rattle.spec_exact.specs.Sums.{sum_below}
+use Rattle.spec_model.specs.declared.parts.Sense.{Sense}
+use Rattle.spec_model.specs.declared.parts.Kind.{Kind}
+use Rattle.spec_model.specs.declared.parts.Kind.TheVariants.{L, G, E}
+use Rattle.spec_model.specs.declared.parts.Row.{Row}
+use Rattle.spec_model.specs.declared.parts.Column.{Column}
+
+-- a name, by its bytes
+abbrev pub Name : Type 0
+Name = List ℕ
+
+-- the rows and columns of a model: names are bytes, numbers are fractions, entries are pairs of a row's number and a coefficient
+abbrev pub ExactRow : Type 0
+ExactRow = Row Name ℚ
+
+abbrev pub ExactColumn : Type 0
+ExactColumn = Column Name ℚ (List (ℕ × ℚ))
+
+pub record Model : Type 0 where
+  pub name : Name
+  pub sense : Sense
+  pub objective : Name
+  pub offset : ℚ
+  pub rows : List ExactRow
+  pub columns : List ExactColumn
+
+-- from the lower one to the upper one, as far as they are there
+pub record Limits : Type 0 where
+  pub lower : Option ℚ
+  pub upper : Option ℚ
+
+abbrev pub up_to : ℚ → Limits
+up_to b = record { lower = None; upper = Some b }
+
+abbrev pub from_on : ℚ → Limits
+from_on b = record { lower = Some b; upper = None }
+
+abbrev pub from_to : ℚ → ℚ → Limits
+from_to a b = record { lower = Some a; upper = Some b }
+
+-- the limits of a row of this kind, right side and range
+abbrev pub limits_by : Kind → ℚ → Option ℚ → Limits
+limits_by L b None = up_to b
+limits_by L b (Some r) = from_to (b -ℚ abs_ℚ r) b
+limits_by G b None = from_on b
+limits_by G b (Some r) = from_to b (b +ℚ abs_ℚ r)
+limits_by E b None = from_to b b
+limits_by E b (Some r) = cond (lt_ℚ r 0ℚ) (from_to (b +ℚ r) b) (from_to b (b +ℚ r))
+
+abbrev pub limits_of : ExactRow → Limits
+limits_of r = limits_by r.kind r.rhs r.range
+
+abbrev pub bounds_of : ExactColumn → Limits
+bounds_of c = record { lower = c.lower; upper = c.upper }
+
+-- ---- rows, columns and entries by their numbers
+abbrev pub no_row : ExactRow
+no_row = record { name = []; kind = L; rhs = 0ℚ; range = None }
+
+abbrev pub no_column : ExactColumn
+no_column = record { name = []; cost = 0ℚ; lower = None; upper = None; entries = [] }
+
+abbrev pub width : Model → ℕ
+width m = length m.columns
+
+abbrev pub height : Model → ℕ
+height m = length m.rows
+
+abbrev pub column : Model → ℕ → ExactColumn
+column m j = get_or m.columns j no_column
+
+abbrev pub row : Model → ℕ → ExactRow
+row m i = get_or m.rows i no_row
+
+abbrev pub bounds : Model → ℕ → Limits
+bounds m j = bounds_of (column m j)
+
+abbrev pub limits : Model → ℕ → Limits
+limits m i = limits_of (row m i)
+
+abbrev pub cost : Model → ℕ → ℚ
+cost m j = (column m j).cost
+
+-- what stands at a row, 0 where nothing does
+abbrev pub entry_of : List (ℕ × ℚ) → ℕ → ℚ
+entry_of [] i = 0ℚ
+entry_of (e ∷ es) i = cond (nat_eq e.0 i) e.1 (entry_of es i)
+
+-- a_ij
+abbrev pub coefficient : Model → ℕ → ℕ → ℚ
+coefficient m i j = entry_of (column m j).entries i
+
+-- ---- points
+-- z_j
+abbrev pub part : List ℚ → ℕ → ℚ
+part z j = get_or z j 0ℚ
+
+-- the sum of a row
+abbrev pub activity : Model → List ℚ → ℕ → ℚ
+activity m z i = sum_below (width m) (λ j. coefficient m i j *ℚ part z j)
+
+-- the sum of the costs
+abbrev pub cost_of : Model → List ℚ → ℚ
+cost_of m z = sum_below (width m) (λ j. cost m j *ℚ part z j)
+
+abbrev pub value_of : Model → List ℚ → ℚ
+value_of m z = cost_of m z +ℚ m.offset

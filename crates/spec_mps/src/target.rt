@@ -1,0 +1,8 @@
+// What a number of a card belongs to.
+
+/// The objective, or a row by its number.
+#[derive(Clone, Copy, Debug, PartialEq, Eq)]
+pub enum Target {
+    Objective,
+    Row(u32),
+}
