@@ -1,0 +1,128 @@
+-- A script's asks, line by line.
+use Rattle.std.proofs.Common.{◌≡◌, ◌≤◌, ℕ, Bool, true, false, ◌&&◌, not, cond, Option, Some, None, List, [], ◌∷◌, ◌++◌, length, nat_le, nat_lt, refl, sym, ap, ◌∙◌, subst, append_assoc, arith, leb-true}
+use Rattle.std.specs.Option.{option_to_list}
+use Rattle.std.specs.List.{list_all}
+use Rattle.spec_text.specs.declared.line.Line.{Line}
+use Rattle.spec_text.specs.declared.line.Line.TheVariants as line
+use Rattle.spec_text.specs.Words.{same, words_of}
+use Rattle.spec_mps.specs.Numbers.{is_digit, spelled_from}
+use Rattle.spec_server.specs.declared.asks.Asked.{Asked}
+use Rattle.spec_server.specs.declared.command.Command.{Command}
+use Rattle.spec_server.specs.declared.command.Command.TheVariants.{Skip, Load, Check, Other}
+use Rattle.spec_server.specs.declared.pending.Pending.{Pending}
+use Rattle.spec_server.specs.declared.pending.Pending.TheVariants.{Between, Text, Certificate}
+use Rattle.spec_server.specs.Machine.{ExactAsk}
+use Rattle.spec_server.specs.Script.{session_of, command_by, command_for, command_by_words, command_of, begins_with_hash, begins_with_zero, ends_text, ends_certificate, begun, pending_after_line, asks_of_command, asks_of_line, asks_from, pending_after}
+
+abbrev pub Reading : Type 0
+Reading = Pending (List (Line (List ℕ)))
+
+pub asks_from-append : (p : Reading) (ls ms : List (Line (List ℕ))) → asks_from p (ls ++ ms) ≡ asks_from p ls ++ asks_from (pending_after p ls) ms
+asks_from-append p [] ms = refl
+asks_from-append p (l ∷ ls) ms =
+    ap (λ zs. asks_of_line p l ++ zs) (asks_from-append (pending_after_line p l) ls ms)
+    ∙ sym (append_assoc (asks_of_line p l) (asks_from (pending_after_line p l) ls) (asks_from (pending_after (pending_after_line p l) ls) ms))
+
+pub pending_after-append : (p : Reading) (ls ms : List (Line (List ℕ))) → pending_after p (ls ++ ms) ≡ pending_after (pending_after p ls) ms
+pending_after-append p [] ms = refl
+pending_after-append p (l ∷ ls) ms = pending_after-append (pending_after_line p l) ls ms
+
+-- ---- sessions have the numbers 0 to 64
+
+abbrev pub IsNumbered : Reading → Type 0
+IsNumbered Between = Unit {0}
+IsNumbered (Text session body) = session ≤ 64
+IsNumbered (Certificate session body) = session ≤ 64
+
+abbrev IsNumberedCommand : Command → Type 0
+IsNumberedCommand Skip = Unit {0}
+IsNumberedCommand (Load session) = session ≤ 64
+IsNumberedCommand (Check session) = session ≤ 64
+IsNumberedCommand (Other session) = session ≤ 64
+
+last_test : (s t u v w : Bool) → s && t && u && v && w ≡ true → w ≡ true
+last_test true true true true w e = e
+last_test true true true false w e = cc
+last_test true true false v w e = cc
+last_test true false u v w e = cc
+last_test false t u v w e = cc
+
+some_number : (t : Bool) (n session : ℕ) → cond t (Some n) None ≡ Some session → (t ≡ true) × (n ≡ session)
+some_number true n session e = (refl, cc)
+some_number false n session e = cc
+
+session_small : (word : List ℕ) (session : ℕ) → session_of word ≡ Some session → session ≤ 64
+unfolding session_of
+session_small word session e =
+    let s = some_number _ (spelled_from 0 word) session e in
+    subst (λ n. n ≤ 64) s.1
+    (leb-true (spelled_from 0 word) 64 (last_test (nat_lt 0 (length word)) (nat_le (length word) 2) (list_all is_digit word) (not (begins_with_zero word)) (nat_le (spelled_from 0 word) 64) s.0))
+
+choice : (t : Bool) (a b : Command) → IsNumberedCommand a → IsNumberedCommand b → IsNumberedCommand (cond t a b)
+choice true a b h k = h
+choice false a b h k = k
+
+command_by_numbered : (session : ℕ) (words : List (List ℕ)) → session ≤ 64 → IsNumberedCommand (command_by session words)
+command_by_numbered session [] h = h
+command_by_numbered session (word ∷ []) h = choice _ (Check session) (Other session) h h
+command_by_numbered session (word ∷ form ∷ []) h = choice _ (Load session) (Other session) h h
+command_by_numbered session (word ∷ form ∷ other ∷ more) h = h
+
+command_for_numbered : (found : Option ℕ) (words : List (List ℕ)) → ((session : ℕ) → found ≡ Some session → session ≤ 64) → IsNumberedCommand (command_for found words)
+command_for_numbered None words h = omega arith
+command_for_numbered (Some session) words h = command_by_numbered session words (h session refl)
+
+words_numbered : (words : List (List ℕ)) → IsNumberedCommand (command_by_words words)
+words_numbered [] = tt
+words_numbered (word ∷ words) = command_for_numbered (session_of word) words (session_small word)
+
+command_numbered : (next : Line (List ℕ)) → IsNumberedCommand (command_of next)
+unfolding command_of
+command_numbered (line.Text bytes) = choice (begins_with_hash bytes) Skip (command_by_words (words_of bytes)) tt (words_numbered (words_of bytes))
+command_numbered (line.Long len) = omega arith
+command_numbered line.End = omega arith
+command_numbered line.Over = omega arith
+
+begun_numbered : (c : Command) → IsNumberedCommand c → IsNumbered (begun c)
+begun_numbered Skip h = tt
+begun_numbered (Load session) h = h
+begun_numbered (Check session) h = h
+begun_numbered (Other session) h = tt
+
+pending_choice : (t : Bool) (a b : Reading) → IsNumbered a → IsNumbered b → IsNumbered (cond t a b)
+pending_choice true a b h k = h
+pending_choice false a b h k = k
+
+line_numbered : (p : Reading) (next : Line (List ℕ)) → IsNumbered p → IsNumbered (pending_after_line p next)
+line_numbered Between next h = begun_numbered (command_of next) (command_numbered next)
+line_numbered (Text session body) next h = pending_choice (ends_text next) Between (Text session (body ++ next ∷ [])) tt h
+line_numbered (Certificate session body) next h = pending_choice (ends_certificate next) Between (Certificate session (body ++ next ∷ [])) tt h
+
+pending_numbered : (p : Reading) (lines : List (Line (List ℕ))) → IsNumbered p → IsNumbered (pending_after p lines)
+pending_numbered p [] h = h
+pending_numbered p (l ∷ ls) h = pending_numbered (pending_after_line p l) ls (line_numbered p l h)
+
+first_asked : (a b : Asked ExactAsk) → ◌≡◌ {A = List (Asked ExactAsk)} (a ∷ []) (b ∷ []) → a ≡ b
+first_asked a b e = cc
+
+none_asked : (a : Asked ExactAsk) → ◌≡◌ {A = List (Asked ExactAsk)} [] (a ∷ []) → ⊥
+none_asked a e = cc
+
+command_asked : (c : Command) (a : Asked ExactAsk) → IsNumberedCommand c → asks_of_command c ≡ a ∷ [] → a.session ≤ 64
+command_asked Skip a h e = absurd (none_asked a e)
+command_asked (Load session) a h e = absurd (none_asked a e)
+command_asked (Check session) a h e = absurd (none_asked a e)
+command_asked (Other session) a h e = subst (λ (b : Asked ExactAsk). b.session ≤ 64) (first_asked _ a e) h
+
+body_asked : (t : Bool) (session : ℕ) (asked : ExactAsk) (a : Asked ExactAsk) → session ≤ 64 → ◌≡◌ {A = List (Asked ExactAsk)} (cond t (record { session = session; ask = asked } ∷ []) []) (a ∷ []) → a.session ≤ 64
+body_asked true session asked a h e = subst (λ (b : Asked ExactAsk). b.session ≤ 64) (first_asked _ a e) h
+body_asked false session asked a h e = absurd (none_asked a e)
+
+line_asked : (p : Reading) (next : Line (List ℕ)) (a : Asked ExactAsk) → IsNumbered p → asks_of_line p next ≡ a ∷ [] → a.session ≤ 64
+line_asked Between next a h e = command_asked (command_of next) a (command_numbered next) e
+line_asked (Text session body) next a h e = body_asked (ends_text next) session _ a h e
+line_asked (Certificate session body) next a h e = body_asked (ends_certificate next) session _ a h e
+
+-- an ask of a script is one of session 0 to 64
+pub asked_session : (lines : List (Line (List ℕ))) (next : Line (List ℕ)) (a : Asked ExactAsk) → asks_of_line (pending_after Between lines) next ≡ a ∷ [] → a.session ≤ 64
+asked_session lines next a e = line_asked (pending_after Between lines) next a (pending_numbered Between lines tt) e
