@@ -1,4 +1,4 @@
-// The greatest common divisor by subtraction and shifts.
+// The greatest common divisor of numbers of 64 bits, by subtraction and shifts.
 ghost use Rattle.std.specs.Prelude.{◌≡◌, ◌<◌, ◌≤◌, ◌%◌, ◌/◌, ◌^◌, ℕ};
 ghost use Rattle.std.specs.Int.{trailing_zeros, w64};
 ghost use Rattle.spec_exact.specs.Gcd.{gcd};
@@ -14,7 +14,7 @@ fn odd_part(n: u64) -> u64
     n >> n.trailing_zeros()
 }
 
-/// The greatest common divisor, where the first number is odd.
+// The greatest common divisor, where the first number is odd.
 fn odd_common(a: u64, b: u64) -> u64
     requires { a % 2 ≡ 1 }
     ensures { result ≡ gcd a b }
@@ -36,7 +36,7 @@ fn odd_common(a: u64, b: u64) -> u64
     x
 }
 
-/// The greatest common divisor of two numbers of 64 bits.
+// The greatest common divisor; of a number and 0 it is that number.
 pub(crate) fn common_64(a: u64, b: u64) -> u64
     ensures { result ≡ gcd a b }
 {
