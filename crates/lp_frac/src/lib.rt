@@ -26,6 +26,8 @@ mod operations;
 mod products;
 mod readers;
 mod reduced;
+#[cfg(test)]
+mod tests;
 
 pub use frac::{Frac, FracFault, LARGEST, Op, Past};
 pub use lists::{Entries, Fracs};
