@@ -1,0 +1,5 @@
+-- Lemmas.
+mod KeptLemmas
+mod PieceLemmas
+mod RunSteps
+mod SoFar
