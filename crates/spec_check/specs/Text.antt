@@ -1,6 +1,6 @@
 -- The text of a certificate in its first form: a line OPTIMAL, then a line for each part, with its letter, its name and a
 -- short number, no letter and name twice, then a line END.
-use Rattle.std.specs.Prelude.{ℕ, ◌&&◌, Bool, true, false, not, Option, Some, None, List, [], ◌∷◌, ◌++◌, codes, cond, if◌then◌else◌}
+use Rattle.std.specs.Prelude.{ℕ, ◌&&◌, Bool, true, false, not, Option, Some, None, List, [], ◌∷◌, ◌++◌, codes, if◌then◌else◌}
 use Rattle.std.specs.List.{list_any}
 use Rattle.spec_text.specs.declared.line.Line.{Line}
 use Rattle.spec_text.specs.declared.line.Line.TheVariants as line

@@ -1,0 +1,147 @@
+-- At a limit the run is the run without one, or an operation is refused.
+use Rattle.std.proofs.Common.{◌≡◌, inl, inr, ⊎_elim, ℕ, zero, suc, List, Option, Some, None, Ok, Err, Bool, true, false, cond, refl, sym, ap, ◌∙◌, subst}
+use Rattle.std.specs.Prelude.{⊤}
+use Rattle.spec_exact.specs.Fraction.{ℚ, 0ℚ, ◌+ℚ◌, ◌-ℚ◌, ◌*ℚ◌, lt_ℚ, abs_ℚ}
+use Rattle.spec_exact.specs.Limit.{add, sub, mul, compare, order}
+use Rattle.spec_exact.specs.declared.past.Op.{Op}
+use Rattle.spec_exact.specs.declared.past.Op.TheVariants.{Add, Sub, Mul, Cmp}
+use Rattle.spec_exact.proofs.Limit.{add_gives, add_unlimited, sub_gives, sub_unlimited, mul_gives, mul_unlimited}
+use Rattle.spec_exact.proofs.Compare.{compare_gives, compare_unlimited}
+use Rattle.spec_model.specs.declared.parts.Kind.{Kind}
+use Rattle.spec_model.specs.declared.parts.Kind.TheVariants.{L, G, E}
+use Rattle.spec_model.specs.Model.{Model, ExactRow, width, height, bounds, row, cost, coefficient, part}
+use Rattle.spec_check.specs.declared.certificate.Certificate.{Certificate}
+use Rattle.spec_check.specs.declared.certificate.Certificate.TheVariants.{Optimal}
+use Rattle.spec_check.specs.Checks.{signed}
+use Rattle.spec_check.specs.Run.{Run, Agrees, ◌>>=◌, step, each, each_from, plus_product, less_product, sum_run, some_run, lower_by_run, upper_by_run, lower_run, upper_run, at_least, at_most, column_within_run, activity_run, row_within_run, reduced_run, column_tight_run, row_tight_run, value_run, optimal_run, check_run}
+
+same : {A : Type 0} (o : Run A) → Agrees o o
+unfolding Agrees
+same o = inl refl
+
+goes_on : {A B : Type 0} (o : Run A) (f g : A → Run B) → ((a : A) → Agrees (f a) (g a)) → Agrees (o >>= f) (o >>= g)
+unfolding Agrees
+goes_on (Ok a) f g h = h a
+goes_on (Err e) f g h = inl refl
+
+after_agrees : {A B : Type 0} (o u : Run A) (f g : A → Run B) → Agrees o u → ((a : A) → Agrees (f a) (g a)) → Agrees (o >>= f) (u >>= g)
+unfolding Agrees
+after_agrees o u f g h k =
+    ⊎_elim
+    (λ e. subst (λ z. Agrees (z >>= f) (u >>= g)) (sym e) (goes_on u f g k))
+    (λ p. inr (p.0, ap (λ z. z >>= f) p.1))
+    h
+
+step_agrees : {A : Type 0} (op : Op) (v w : ℚ) (a b : Option A) (y : A) → ((x : A) → a ≡ Some x → x ≡ y) → b ≡ Some y → Agrees (step op v w a) (step op v w b)
+unfolding Agrees
+step_agrees op v w (Some x) b y g u = inl (ap (λ z. step op v w z) (ap Some (g x refl) ∙ sym u))
+step_agrees op v w None b y g u = inr (record { op = op; a = v; b = w }, refl)
+
+choice_agrees : {A : Type 0} (t : Bool) (a b c d : Run A) → Agrees a c → Agrees b d → Agrees (cond t a b) (cond t c d)
+choice_agrees true a b c d h k = h
+choice_agrees false a b c d h k = k
+
+each_agrees : (n : ℕ) (f g : ℕ → Run ⊤) → ((i : ℕ) → Agrees (f i) (g i)) → Agrees (each n f) (each n g)
+each_agrees zero f g h = same (Ok tt)
+each_agrees (suc n) f g h = after_agrees (each n f) (each n g) (λ _. f n) (λ _. g n) (each_agrees n f g h) (λ _. h n)
+
+each_from_agrees : (s : ℚ) (n : ℕ) (f g : ℕ → ℚ → Run ℚ) → ((i : ℕ) (u : ℚ) → Agrees (f i u) (g i u)) → Agrees (each_from s n f) (each_from s n g)
+each_from_agrees s zero f g h = same (Ok s)
+each_from_agrees s (suc n) f g h = after_agrees (each_from s n f) (each_from s n g) (λ u. f n u) (λ u. g n u) (each_from_agrees s n f g h) (λ u. h n u)
+
+module _ (limit : Option ℕ) where
+  add_agrees : (v w : ℚ) → Agrees (step Add v w (add limit v w)) (step Add v w (add None v w))
+  add_agrees v w = step_agrees Add v w (add limit v w) (add None v w) (v +ℚ w) (λ x e. add_gives limit v w x e) (add_unlimited v w)
+
+  sub_agrees : (v w : ℚ) → Agrees (step Sub v w (sub limit v w)) (step Sub v w (sub None v w))
+  sub_agrees v w = step_agrees Sub v w (sub limit v w) (sub None v w) (v -ℚ w) (λ x e. sub_gives limit v w x e) (sub_unlimited v w)
+
+  mul_agrees : (v w : ℚ) → Agrees (step Mul v w (mul limit v w)) (step Mul v w (mul None v w))
+  mul_agrees v w = step_agrees Mul v w (mul limit v w) (mul None v w) (v *ℚ w) (λ x e. mul_gives limit v w x e) (mul_unlimited v w)
+
+  compare_agrees : (v w : ℚ) → Agrees (step Cmp v w (compare limit v w)) (step Cmp v w (compare None v w))
+  compare_agrees v w = step_agrees Cmp v w (compare limit v w) (compare None v w) (order v w) (λ x e. compare_gives limit v w x e) (compare_unlimited v w)
+
+  plus_agrees : (v w s : ℚ) → Agrees (plus_product limit v w s) (plus_product None v w s)
+  plus_agrees v w s = after_agrees _ _ _ _ (mul_agrees v w) (λ p. add_agrees s p)
+
+  less_agrees : (v w s : ℚ) → Agrees (less_product limit v w s) (less_product None v w s)
+  less_agrees v w s = after_agrees _ _ _ _ (mul_agrees v w) (λ p. sub_agrees s p)
+
+  sum_agrees : (n : ℕ) (f g : ℕ → ℚ) → Agrees (sum_run limit n f g) (sum_run None n f g)
+  sum_agrees n f g = each_from_agrees 0ℚ n _ _ (λ k s. plus_agrees (f k) (g k) s)
+
+  -- a row's limits
+  some_agrees : (o u : Run ℚ) → Agrees o u → Agrees (some_run o) (some_run u)
+  some_agrees o u h = after_agrees o u _ _ h (λ v. same _)
+
+  lower_by_agrees : (k : Kind) (b : ℚ) (o : Option ℚ) → Agrees (lower_by_run limit k b o) (lower_by_run None k b o)
+  lower_by_agrees L b None = same _
+  lower_by_agrees L b (Some r) = some_agrees _ _ (sub_agrees b (abs_ℚ r))
+  lower_by_agrees G b o = same _
+  lower_by_agrees E b None = same _
+  lower_by_agrees E b (Some r) = choice_agrees (lt_ℚ r 0ℚ) _ _ _ _ (some_agrees _ _ (add_agrees b r)) (same _)
+
+  upper_by_agrees : (k : Kind) (b : ℚ) (o : Option ℚ) → Agrees (upper_by_run limit k b o) (upper_by_run None k b o)
+  upper_by_agrees L b o = same _
+  upper_by_agrees G b None = same _
+  upper_by_agrees G b (Some r) = some_agrees _ _ (add_agrees b (abs_ℚ r))
+  upper_by_agrees E b None = same _
+  upper_by_agrees E b (Some r) = choice_agrees (lt_ℚ r 0ℚ) _ _ _ _ (same _) (some_agrees _ _ (add_agrees b r))
+
+  lower_agrees : (r : ExactRow) → Agrees (lower_run limit r) (lower_run None r)
+  lower_agrees r = lower_by_agrees r.kind r.rhs r.range
+
+  upper_agrees : (r : ExactRow) → Agrees (upper_run limit r) (upper_run None r)
+  upper_agrees r = upper_by_agrees r.kind r.rhs r.range
+
+  least_agrees : (n : ℕ) (o : Option ℚ) (v : ℚ) → Agrees (at_least n limit o v) (at_least n None o v)
+  least_agrees n None v = same _
+  least_agrees n (Some k) v = after_agrees _ _ _ _ (compare_agrees v k) (λ o. same _)
+
+  most_agrees : (n : ℕ) (o : Option ℚ) (v : ℚ) → Agrees (at_most n limit o v) (at_most n None o v)
+  most_agrees n None v = same _
+  most_agrees n (Some k) v = after_agrees _ _ _ _ (compare_agrees v k) (λ o. same _)
+
+  -- a feasible point
+  column_within_agrees : (m : Model) (x : List ℚ) (j : ℕ) → Agrees (column_within_run limit m x j) (column_within_run None m x j)
+  column_within_agrees m x j = after_agrees _ _ _ _ (least_agrees 1 (bounds m j).lower (part x j)) (λ _. most_agrees 1 (bounds m j).upper (part x j))
+
+  activity_agrees : (m : Model) (z : List ℚ) (i : ℕ) → Agrees (activity_run limit m z i) (activity_run None m z i)
+  activity_agrees m z i = sum_agrees (width m) (λ j. coefficient m i j) (λ j. part z j)
+
+  row_within_agrees : (m : Model) (x : List ℚ) (i : ℕ) → Agrees (row_within_run limit m x i) (row_within_run None m x i)
+  row_within_agrees m x i =
+      after_agrees _ _ _ _ (activity_agrees m x i) (λ v.
+      after_agrees _ _ _ _ (lower_agrees (row m i)) (λ l. after_agrees _ _ _ _ (least_agrees 2 l v) (λ _.
+      after_agrees _ _ _ _ (upper_agrees (row m i)) (λ u. most_agrees 2 u v))))
+
+  -- complementary multipliers
+  reduced_agrees : (m : Model) (y : List ℚ) (j : ℕ) → Agrees (reduced_run limit m y j) (reduced_run None m y j)
+  reduced_agrees m y j = each_from_agrees (signed m.sense (cost m j)) (height m) _ _ (λ i d. less_agrees (part y i) (coefficient m i j) d)
+
+  column_tight_agrees : (m : Model) (x y : List ℚ) (j : ℕ) → Agrees (column_tight_run limit m x y j) (column_tight_run None m x y j)
+  column_tight_agrees m x y j = after_agrees _ _ _ _ (reduced_agrees m y j) (λ d. same _)
+
+  row_tight_agrees : (m : Model) (x y : List ℚ) (i : ℕ) → Agrees (row_tight_run limit m x y i) (row_tight_run None m x y i)
+  row_tight_agrees m x y i =
+      choice_agrees (lt_ℚ 0ℚ (part y i)) _ _ _ _
+      (after_agrees _ _ _ _ (activity_agrees m x i) (λ v. after_agrees _ _ _ _ (lower_agrees (row m i)) (λ l. same _)))
+      (choice_agrees (lt_ℚ (part y i) 0ℚ) _ _ _ _
+      (after_agrees _ _ _ _ (activity_agrees m x i) (λ v. after_agrees _ _ _ _ (upper_agrees (row m i)) (λ u. same _)))
+      (same (Ok tt)))
+
+  value_agrees : (m : Model) (z : List ℚ) → Agrees (value_run limit m z) (value_run None m z)
+  value_agrees m z = after_agrees _ _ _ _ (sum_agrees (width m) (cost m) (λ j. part z j)) (λ s. add_agrees s m.offset)
+
+  optimal_agrees : (m : Model) (x y : List ℚ) → Agrees (optimal_run limit m x y) (optimal_run None m x y)
+  optimal_agrees m x y =
+      after_agrees _ _ _ _ (each_agrees (width m) _ _ (column_within_agrees m x)) (λ _.
+      after_agrees _ _ _ _ (each_agrees (height m) _ _ (row_within_agrees m x)) (λ _.
+      after_agrees _ _ _ _ (each_agrees (width m) _ _ (column_tight_agrees m x y)) (λ _.
+      after_agrees _ _ _ _ (each_agrees (height m) _ _ (row_tight_agrees m x y)) (λ _.
+      after_agrees _ _ _ _ (value_agrees m x) (λ v. same _)))))
+
+  pub run_agrees : (m : Model) (cert : Certificate (List ℚ)) → Agrees (check_run limit m cert) (check_run None m cert)
+  unfolding check_run
+  run_agrees m (Optimal x y) = optimal_agrees m x y

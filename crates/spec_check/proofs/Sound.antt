@@ -1,0 +1,71 @@
+-- What a certificate shows is true.
+use Rattle.std.proofs.Common.{◌≡◌, ℕ, zero, suc, List, Option, Some, IfSome, refl, sym, subst, subst₂}
+use Rattle.spec_exact.specs.Fraction.{ℚ, ◌+ℚ◌, ◌*ℚ◌, 0ℚ, ◌≤ℚ◌}
+use Rattle.spec_exact.specs.Sums.{sum_below}
+use Rattle.spec_exact.proofs.Order.{+ℚ_mono, clash_ℚ}
+use Rattle.spec_exact.proofs.Ruleset.{ring, neg-*ℚ, neg-zero}
+use Rattle.spec_exact.proofs.Strict.{neg_mono_back}
+use Rattle.spec_model.specs.declared.parts.Sense.{Sense}
+use Rattle.spec_model.specs.declared.parts.Sense.TheVariants.{Min, Max}
+use Rattle.spec_model.specs.Model.{Model, Limits, bounds, cost, width, height, column, limits, coefficient, part, activity, value_of}
+use Rattle.spec_model.specs.Truth.{IsBetween, IsFeasible, IsBetter, IsOptimal}
+use Rattle.spec_check.specs.declared.certificate.Certificate.{Certificate}
+use Rattle.spec_check.specs.declared.certificate.Certificate.TheVariants.{Optimal}
+use Rattle.spec_check.specs.Certificate.{shown, Holds}
+use Rattle.spec_check.specs.Checks.{Checks, signed, ChecksOptimal}
+use Rattle.spec_check.proofs.Duality.{Between, Feasible, optimal}
+
+at_some : (P : ℚ → Type 0) (o : Option ℚ) → IfSome o P → (k : ℚ) → o ≡ Some k → P k
+at_some P o h k e = subst (λ o. IfSome o P) e h
+
+between : (l : Limits) (v : ℚ) → IsBetween l v → Between l.lower l.upper v
+between l v b = record { low = at_some (λ k. k ≤ℚ v) l.lower b.lower; high = at_some (λ k. v ≤ℚ k) l.upper b.upper }
+
+module _ (m : Model) where
+  abbrev below_of : ℕ → Option ℚ
+  below_of j = (bounds m j).lower
+
+  abbrev above_of : ℕ → Option ℚ
+  above_of j = (bounds m j).upper
+
+  feasible_for : (z : List ℚ) → IsFeasible m z → Feasible (width m) (height m) (coefficient m) below_of above_of (λ i. (limits m i).lower) (λ i. (limits m i).upper) (part z)
+  feasible_for z f = record {
+    columns = λ j h. between (bounds m j) (part z j) (f.columns j h);
+    rows = λ i h. between (limits m i) (activity m z i) (f.rows i h);
+  }
+
+-- the signed cost of a point
+signed_product : (s : Sense) (c z : ℚ) → signed s c *ℚ z ≡ signed s (c *ℚ z)
+signed_product Min c z = refl
+signed_product Max c z = neg-*ℚ c z
+
+signed_zero : (s : Sense) → signed s 0ℚ ≡ 0ℚ
+signed_zero Min = refl
+signed_zero Max = neg-zero
+
+signed_sum : (s : Sense) (a b : ℚ) → signed s (a +ℚ b) ≡ signed s a +ℚ signed s b
+signed_sum Min a b = refl
+signed_sum Max a b = simp ring
+
+pub signed-sum_below : (s : Sense) (n : ℕ) (c z : ℕ → ℚ) → sum_below n (λ j. signed s (c j) *ℚ z j) ≡ signed s (sum_below n (λ j. c j *ℚ z j))
+signed-sum_below s zero c z = sym (signed_zero s)
+signed-sum_below s (suc n) c z = subst₂ (λ a b. a +ℚ b ≡ signed s (sum_below n (λ j. c j *ℚ z j) +ℚ c n *ℚ z n)) (sym (signed-sum_below s n c z)) (sym (signed_product s (c n) (z n))) (sym (signed_sum s _ _))
+
+not_better : (s : Sense) (v w off : ℚ) → signed s v ≤ℚ signed s w → ¬ (IsBetter s (w +ℚ off) (v +ℚ off))
+not_better Min v w off h b = clash_ℚ _ _ b (+ℚ_mono v w off h)
+not_better Max v w off h b = clash_ℚ _ _ b (+ℚ_mono w v off (neg_mono_back w v h))
+
+pub optimal_holds : (m : Model) (x y : List ℚ) → ChecksOptimal m x y → IsOptimal m (value_of m x)
+optimal_holds m x y h = record {
+  point = (x, h.feasible, refl);
+  best = λ z f. not_better m.sense _ _ m.offset
+      (subst₂ ◌≤ℚ◌ (signed-sum_below m.sense (width m) (cost m) (part x)) (signed-sum_below m.sense (width m) (cost m) (part z))
+      (optimal (width m) (height m) (coefficient m) (below_of m) (above_of m) (λ i. (limits m i).lower) (λ i. (limits m i).upper)
+      (λ j. signed m.sense (column m j).cost) (part x) (part y) (part z)
+      (λ j p. record { above = (h.columns j p).above; below = (h.columns j p).below })
+      (λ i p. record { above = (h.rows i p).above; below = (h.rows i p).below })
+      (feasible_for m z f)));
+}
+
+pub checks_hold : (m : Model) (cert : Certificate (List ℚ)) → Checks m cert → Holds m (shown m cert)
+checks_hold m (Optimal x y) h = optimal_holds m x y h
