@@ -1,0 +1,80 @@
+// The parts of a fraction.
+ghost use Rattle.std.specs.Prelude.{◌≡◌, ◌≢◌, ◌≤◌, unsigned_abs, pos, IsTrue, ◌↔◌};
+ghost use Rattle.spec_exact.specs.Fraction.{neg_ℚ, abs_ℚ, 0ℚ, inverse};
+ghost use Rattle.spec_exact.specs.Limit.{sign as sign_of};
+ghost use Rattle.lp_frac.specs.Narrow.{largest};
+
+use crate::frac::Frac;
+use crate::limited::signed;
+use std::cmp::Ordering;
+
+/// The numerator.
+pub fn num(v: Frac) -> i128
+    ensures value { result ≡ v.num }
+    ensures size { unsigned_abs result ≤ largest }
+{
+    v.top()
+}
+
+/// The denominator.
+pub fn den(v: Frac) -> i128
+    ensures value { result ≡ pos v.den }
+    ensures size { v.den ≤ largest }
+{
+    v.bottom() as i128
+}
+
+fn has_top_zero(v: Frac) -> bool
+    ensures { IsTrue result ↔ (v.num ≡ pos 0) }
+{
+    v.top() == 0
+}
+
+pub fn is_zero(v: Frac) -> bool
+    ensures { IsTrue result ↔ (v ≡ 0ℚ) }
+{
+    has_top_zero(v)
+}
+
+pub fn neg(v: Frac) -> Frac
+    ensures { result ≡ neg_ℚ v }
+{
+    Frac::make(-v.top(), v.bottom())
+}
+
+/// The magnitude.
+pub fn abs(v: Frac) -> Frac
+    ensures { result ≡ abs_ℚ v }
+{
+    if v.top() < 0 { neg(v) } else { v }
+}
+
+/// How it compares with 0.
+pub fn sign(v: Frac) -> Ordering
+    ensures { result ≡ sign_of v }
+{
+    v.top().cmp(&0)
+}
+
+/// The fraction 0.
+pub fn zero() -> Frac
+    ensures { result ≡ 0ℚ }
+{
+    Frac::make(0, 1)
+}
+
+/// Whether the two are one fraction.
+pub fn are_same(v: Frac, w: Frac) -> bool
+    ensures { IsTrue result ↔ (v ≡ w) }
+{
+    v == w
+}
+
+/// The reciprocal.
+pub(crate) fn reciprocal(w: Frac) -> Frac
+    requires { w ≢ 0ℚ }
+    ensures { result ≡ inverse w }
+{
+    let n = w.top();
+    Frac::make(signed(n < 0, w.bottom()), n.unsigned_abs())
+}
