@@ -2,7 +2,7 @@
 -- this order; it has one row of type N, the objective; each number is short.
 --
 -- Each line is a step from what was read before it. The first check that fails ends the reading with no model.
-use Rattle.std.specs.Prelude.{ℕ, zero, suc, ◌==◌, ◌&&◌, ⊤, Bool, true, false, not, Option, Some, None, is_some, is_none, option_map, List, [], ◌∷◌, ◌++◌, length, map, nat_lt, codes, if◌then◌else◌}
+use Rattle.std.specs.Prelude.{ℕ, zero, suc, ◌==◌, ◌&&◌, ⊤, Bool, true, false, not, Option, Some, None, is_some, is_none, option_map, List, [], ◌∷◌, ◌++◌, length, nat_lt, codes, if◌then◌else◌}
 use Rattle.std.specs.List.{list_any, position}
 use Rattle.spec_text.specs.declared.line.Line.{Line}
 use Rattle.spec_text.specs.declared.line.Line.TheVariants.{Text, Long, End, Over}

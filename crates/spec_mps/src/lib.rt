@@ -11,4 +11,15 @@
 
 mod target;
 
+ghost use Rattle.std.specs.Prelude.{◌≡◌, List, ℕ, Some};
+ghost use Rattle.spec_text.specs.declared.line.Line.{Line};
+ghost use Rattle.spec_model.specs.Model.{Model};
+ghost use Rattle.spec_model.specs.Kept.{IsModel};
+ghost use Rattle.spec_mps.specs.FirstForm.{spelled};
+
 pub use target::Target;
+
+/// What a text spells is a model that may be kept.
+pub fn spelled_models_are_kept()
+    ensures { (lines : List (Line (List ℕ))) (m : Model) → spelled lines ≡ Some m → IsModel m }
+{}

@@ -1,0 +1,211 @@
+// Models and their readers.
+ghost use Rattle.std.specs.Prelude.{◌≡◌, ◌<◌, ◌≤◌, IfSome, length};
+ghost use Rattle.std.specs.List.{position};
+ghost use Rattle.spec_text.specs.Words.{same};
+ghost use Rattle.spec_model.specs.Model.{width, height, row, column, coefficient, entry_of};
+ghost use Rattle.spec_model.specs.Kept.{IsModel, row_place, column_place};
+
+use lp_base::{Name, are_same};
+use lp_frac::{Entries, Frac, zero};
+use spec_model::{Kind, Sense};
+
+/// A row.
+pub type Row = spec_model::Row<Name, Frac>;
+
+/// A column: a variable with its cost, its bounds and its coefficients.
+pub type Column = spec_model::Column<Name, Frac, Entries>;
+
+/// A linear program. It has at most 256 rows and 512 columns, with distinct names.
+#[derive(Drop)]
+pub struct Model {
+    name: Name,
+    sense: Sense,
+    objective: Name,
+    offset: Frac,
+    rows: Vec<Row>,
+    columns: Vec<Column>,
+}
+
+impl std::marker::Model for Model {
+    ghost use Rattle.spec_model.specs.Model as plain;
+    ghost use Rattle.spec_model.specs.Kept.{IsModel};
+
+    ghost Value = { plain.Model };
+
+    ghost view = { λ m. record {
+      name = m.name;
+      sense = m.sense;
+      objective = m.objective;
+      offset = m.offset;
+      rows = m.rows.items;
+      columns = m.columns.items;
+    } };
+
+    ghost invariant = { λ m. IsModel (record {
+      name = m.name;
+      sense = m.sense;
+      objective = m.objective;
+      offset = m.offset;
+      rows = m.rows.items;
+      columns = m.columns.items;
+    }) };
+}
+
+impl Model {
+    /// A model of these parts.
+    pub fn new(
+        name: Name,
+        sense: Sense,
+        objective: Name,
+        offset: Frac,
+        rows: Vec<Row>,
+        columns: Vec<Column>,
+    ) -> Model
+        requires { IsModel (record {
+          name = name;
+          sense = sense;
+          objective = objective;
+          offset = offset;
+          rows = rows.items;
+          columns = columns.items;
+        }) }
+        ensures { result ≡ record {
+          name = name;
+          sense = sense;
+          objective = objective;
+          offset = offset;
+          rows = rows.items;
+          columns = columns.items;
+        } }
+    {
+        Model {
+            name,
+            sense,
+            objective,
+            offset,
+            rows,
+            columns,
+        }
+    }
+
+    pub fn name(&self) -> &Name
+        ensures { result.now ≡ self.now.name }
+    {
+        &self.name
+    }
+
+    pub fn sense(&self) -> Sense
+        ensures { result ≡ self.now.sense }
+    {
+        self.sense
+    }
+
+    /// The objective's name.
+    pub fn objective(&self) -> &Name
+        ensures { result.now ≡ self.now.objective }
+    {
+        &self.objective
+    }
+
+    /// What the objective has at the point 0.
+    pub fn offset(&self) -> Frac
+        ensures { result ≡ self.now.offset }
+    {
+        self.offset
+    }
+
+    /// How many rows there are.
+    pub fn rows(&self) -> u32
+        ensures value { result ≡ height self.now }
+        ensures bound { result ≤ 256 }
+    {
+        self.rows.len() as u32
+    }
+
+    /// How many columns there are.
+    pub fn cols(&self) -> u32
+        ensures value { result ≡ width self.now }
+        ensures bound { result ≤ 512 }
+    {
+        self.columns.len() as u32
+    }
+
+    /// The row at `i`, counted from 0.
+    pub fn row(&self, i: u32) -> &Row
+        requires { i < height self.now }
+        ensures { result.now ≡ row self.now i }
+    {
+        &self.rows[i as usize]
+    }
+
+    /// The column at `j`, counted from 0.
+    pub fn col(&self, j: u32) -> &Column
+        requires { j < width self.now }
+        ensures { result.now ≡ column self.now j }
+    {
+        &self.columns[j as usize]
+    }
+
+    /// The coefficient of column `j` in row `i`.
+    pub fn entry(&self, i: u32, j: u32) -> Frac
+        requires i_in_range { i < height self.now }
+        requires j_in_range { j < width self.now }
+        ensures { result ≡ coefficient self.now i j }
+    {
+        entry_at(self.col(j).entries.as_slice(), i)
+    }
+
+    /// The number of the row with this name.
+    #[tactic(auto, unfolding(spec_model::specs::Kept::row_place))]
+    pub fn row_of(&self, name: &[u8]) -> Option<u32>
+        ensures value { result ≡ row_place self.now name.now }
+        ensures inside { IfSome result (λ i. i < height self.now) }
+    {
+        match row_named(&self.rows, name) {
+            Some(i) => Some(i as u32),
+            None => None,
+        }
+    }
+
+    /// The number of the column with this name.
+    #[tactic(auto, unfolding(spec_model::specs::Kept::column_place))]
+    pub fn col_of(&self, name: &[u8]) -> Option<u32>
+        ensures value { result ≡ column_place self.now name.now }
+        ensures inside { IfSome result (λ j. j < width self.now) }
+    {
+        match column_named(&self.columns, name) {
+            Some(j) => Some(j as u32),
+            None => None,
+        }
+    }
+}
+
+// The place of the first row with this name.
+fn row_named(rows: &[Row], name: &[u8]) -> Option<usize>
+    ensures value { result ≡ position (λ r. same r.name name.now) rows.now }
+    ensures inside { IfSome result (λ i. i < length rows.now) }
+{
+    rows.iter().position(|r| are_same(r.name.as_slice(), name))
+}
+
+// The place of the first column with this name.
+fn column_named(columns: &[Column], name: &[u8]) -> Option<usize>
+    ensures value { result ≡ position (λ c. same c.name name.now) columns.now }
+    ensures inside { IfSome result (λ j. j < length columns.now) }
+{
+    columns
+        .iter()
+        .position(|c| are_same(c.name.as_slice(), name))
+}
+
+// What stands at row `i`, 0 where nothing does.
+fn entry_at(entries: &[(u32, Frac)], i: u32) -> Frac
+    ensures { result ≡ entry_of entries.now i }
+{
+    for (row, value) in entries {
+        if *row == i {
+            return *value;
+        }
+    }
+    zero()
+}

@@ -1,0 +1,4 @@
+pub mod Steps
+pub mod Names
+pub mod Entries
+pub mod Kept
