@@ -1,7 +1,6 @@
-<<<<<<< HEAD
 -- The words of a line, and texts that are the same.
-use Rattle.std.proofs.Common.{◌≡◌, ◌↔◌, ℕ, ◌+◌, ◌<◌, ◌≤◌, Bool, true, false, not, cond, eqb, eqb-true, IsTrue, List, [], ◌∷◌, ◌++◌, length, take, drop, refl, sym, ap, ap₂, ◌∙◌, arith}
-use Rattle.std.specs.Prelude.{◌&&◌}
+use Rattle.std.proofs.Common.{◌≡◌, ◌≢◌, ◌↔◌, ℕ, ◌+◌, ◌<◌, ◌≤◌, Bool, true, false, not, ◌&&◌, cond, eqb, eqb→eq, eq-eqb, IsTrue, T, List, [], ◌∷◌, ◌++◌, length, take, drop, refl, sym, ap, ◌∙◌, subst, arith}
+use Rattle.std.specs.Bool.{Decides}
 use Rattle.std.specs.List.{slice_split, filter, position_or_len, onto_first}
 use Rattle.std.proofs.lemmas.List.Splits.{slice_split_first}
 use Rattle.spec_text.specs.Words.{words_of, is_blank, has_bytes, same}
@@ -33,31 +32,7 @@ pub words_of_none : words_of [] ≡ []
 unfolding words_of
 words_of_none = refl
 
-same_refl : (a : List ℕ) → same a a ≡ true
-same_refl [] = refl
-same_refl (b ∷ bs) = let h = same_refl bs in grind arith
-
-both_true : (s t : Bool) → (s && t) ≡ true → (s ≡ true) × (t ≡ true)
-both_true true true h = (refl, refl)
-both_true true false h = cc
-both_true false t h = cc
-
-equal_from_same : (a b : List ℕ) → same a b ≡ true → a ≡ b
-equal_from_same [] [] h = refl
-equal_from_same [] (y ∷ ys) h = cc
-equal_from_same (x ∷ xs) [] h = cc
-equal_from_same (x ∷ xs) (y ∷ ys) h =
-    let p = both_true (eqb x y) (same xs ys) h in
-    ap₂ (λ (b : ℕ) (bs : List ℕ). b ∷ bs) (eqb-true x y p.0) (equal_from_same xs ys p.1)
-
--- the texts that are the same are the equal ones
-pub same_is_equal : (a b : List ℕ) → IsTrue (same a b) ↔ (a ≡ b)
-same_is_equal a b = (λ t. equal_from_same a b t, λ e. ap (λ (x : List ℕ). same a x) (sym e) ∙ same_refl a)
-=======
--- Two texts are the same by test exactly where they are equal.
-use Rattle.std.proofs.Common.{◌≡◌, ◌≢◌, ℕ, Bool, true, false, ◌&&◌, List, [], ◌∷◌, eqb, refl, sym, ap, ◌∙◌, eqb→eq, eq-eqb, T, subst}
-use Rattle.std.specs.Bool.{Decides}
-use Rattle.spec_text.specs.Words.{same}
+-- ---- texts that are the same
 
 both : (s t : Bool) → s && t ≡ true → (s ≡ true) × (t ≡ true)
 both true t e = (refl, e)
@@ -87,4 +62,6 @@ same_false xs ys h e =
 
 pub same-Decides : (xs ys : List ℕ) → Decides (same xs ys) (xs ≡ ys)
 same-Decides xs ys = (same_true xs ys, λ e. sym (ap (same xs) e) ∙ same-refl xs)
->>>>>>> 77b680ba2fbed2e4dfe1e8558dc599ee30a155a1
+
+pub same_is_equal : (a b : List ℕ) → IsTrue (same a b) ↔ (a ≡ b)
+same_is_equal a b = (λ t. same_true a b t, λ e. ap (λ (x : List ℕ). same a x) (sym e) ∙ same-refl a)
