@@ -9,7 +9,7 @@ use Rattle.std.specs.List.{slice_get}
 use Rattle.std.proofs.lemmas.Option.{get_or_from_slice_get}
 use Rattle.std.specs.Str.Lines.{strip_carriage_return}
 
-take-append : (k : ℕ) (raw run : List ℕ) → take k (raw ++ run) ≡ take k raw ++ take (k - length raw) run
+pub take-append : (k : ℕ) (raw run : List ℕ) → take k (raw ++ run) ≡ take k raw ++ take (k - length raw) run
 take-append k raw run = ⊎_elim
     (λ lt. let none : 0 ≡ k - length raw = omega arith in
     take-append-le k raw run (omega arith) ∙ sym (append-nil (take k raw)) ∙ ap (λ (n : ℕ). take k raw ++ take n run) none)

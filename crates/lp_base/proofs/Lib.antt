@@ -3,3 +3,4 @@ mod KeptLemmas
 mod PieceLemmas
 mod RunSteps
 mod SoFar
+pub mod TakingLemmas
