@@ -1,5 +1,5 @@
 -- What an operation gives where a numerator is 0.
-use Rattle.std.proofs.Common.{◌≡◌, ◌≤◌, ℕ, ℤ, pos, unsigned_abs, Some, ap, ap₂, ◌∙◌, sym, subst}
+use Rattle.std.proofs.Common.{◌≡◌, ◌≤◌, ℕ, ℤ, pos, unsigned_abs, Some, ap, ◌∙◌, sym, subst}
 use Rattle.spec_exact.specs.Fraction.{ℚ, 0ℚ}
 use Rattle.spec_exact.specs.Limit.{add, mul}
 use Rattle.spec_exact.specs.Laws.{IsWithin}

@@ -18,7 +18,7 @@
 //! Contracts above cite `largest` of specs/Narrow and the operations of spec_exact's specs/Limit.
 #![tactic(auto)]
 
-mod fast;
+mod divisors;
 mod frac;
 mod limited;
 mod lists;

@@ -2,8 +2,9 @@
 ghost use Rattle.std.specs.Prelude.{◌≡◌};
 ghost use Rattle.lp_frac.specs.Answer.{fraction_of};
 
+use crate::divisors::common;
 use crate::frac::{Frac, FracFault, LARGEST};
-use crate::limited::{are_opposite, common, signed};
+use crate::limited::{are_opposite, signed};
 
 fn fraction(a: i128, b: i128) -> Result<Frac, FracFault>
     ensures { result ≡ fraction_of a b }

@@ -1,6 +1,5 @@
 // Worked fractions, at the edge of the limit and within it.
 use crate::*;
-use std::alloc::Global;
 use std::cmp::Ordering;
 use std::test::Fail;
 
@@ -88,6 +87,7 @@ fn whole_numbers_make_fractions(rt: HostRuntime) -> Result<(), Fail> {
         (6, -4, -3, 2),
         (0, -5, 0, 1),
         (M, M, 1, 1),
+        (3 << 100, 5 << 90, 3072, 5),
         (i128::MIN, i128::MIN, 1, 1),
         (i128::MIN, 2, -1 << 126, 1),
         (2, i128::MIN, -1, 1 << 126),
