@@ -5,14 +5,14 @@ use Rattle.std.specs.Str.Lines.{strip_carriage_return}
 use Rattle.std.proofs.KnownBytes.{Consumes-nil, Consumes-trans}
 use Rattle.std.proofs.lemmas.List.{take_all}
 use Rattle.std.proofs.Math.Seq.{take-append_seam}
-use Rattle.std.proofs.lemmas.List.Elements.{All-take}
+use Rattle.std.proofs.lemmas.List.Elements.{All-nil, All-take}
 use Rattle.spec_text.specs.Lines.{line_of, lines_of, ended_lines_of, input_limit}
 use Rattle.spec_text.specs.declared.line.Line.{Line}
 use Rattle.spec_text.specs.declared.line.Line.TheVariants.{Text, Long, End, Over}
 use Rattle.spec_text.proofs.LineLemmas.{lines_of_none, lines_of_line, lines_of_last, ended_lines_of_line, ended_lines_of_last}
 use Rattle.lp_base.specs.Reading.Value.{Reading, at_start}
 use Rattle.lp_base.specs.Reading.{TakesEnded, TakesLast, HasEnded, GivesLine, GivesEnd, IsOver, IsBrokenOff, Gives, GivesNext}
-use Rattle.lp_base.specs.Taking.{BeginsWith, IsWhole, Tells, TakesLines, ReadsLines, ReadsUntil, ReadsAll, ReadsFront, StopsWith}
+use Rattle.lp_base.specs.Taking.{BeginsWith, IsWhole, Tells, TakesLines, ReadsLines, ReadsUntil, ReadsAll, ReadsFront, ReadsPart, ReadsPast, StopsWith}
 use Rattle.lp_base.specs.declared.lines.LineStop.{LineStop}
 use Rattle.lp_base.specs.declared.lines.LineStop.TheVariants.{Read, NoMemory}
 use Rattle.lp_base.proofs.KeptLemmas.{take-append}
@@ -261,16 +261,17 @@ stops_at_end u =
     record { read = r.0.bytes; moved = r.0.moved; all = told.0; bound = told.1; at_end = told.2 }
 
 -- the lines that end within the limit were taken, and there are more bytes
-pub stops_over : {before after : Option (List ℕ)} {lines : List (Line (List ℕ))} → ReadsUntil before after at_start lines (Ok Over) → (front : ReadsFront before after lines) × (2 ^ 26 < length front.read)
+pub stops_over : {before after : Option (List ℕ)} {lines : List (Line (List ℕ))} → ReadsUntil before after at_start lines (Ok Over) → ReadsPast before after lines
 stops_over {before} {after} u =
-    let told = told_over u.reads.taken u.gives.gives in (
-      record {
+    let told = told_over u.reads.taken u.gives.gives in
+    record {
+      front = record {
         read = u.reads.bytes ++ u.gives.bytes;
         moved = Consumes-trans before u.mid after u.reads.bytes u.gives.bytes u.reads.moved u.gives.moved;
         ended = told.0;
-      },
-      told.1,
-    )
+      };
+      past = told.1;
+    }
 
 -- an error came
 pub stops_with : {before after : Option (List ℕ)} {lines : List (Line (List ℕ))} (stop : LineStop) → ReadsUntil before after at_start lines (Err stop) → StopsWith stop before after lines
@@ -280,18 +281,31 @@ stops_with {before} {after} Read u = record {
   ended = told_at_fault u.reads.taken u.gives.gives;
 }
 stops_with {before} {after} NoMemory u =
-    let part = told_in_part u.reads.taken u.gives.gives u.gives.bytes in (
-      part.0,
-      record {
+    let part = told_in_part u.reads.taken u.gives.gives u.gives.bytes in
+    record {
+      more = part.0;
+      front = record {
         read = u.reads.bytes ++ u.gives.bytes;
         moved = Consumes-trans before u.mid after u.reads.bytes u.gives.bytes u.reads.moved u.gives.moved;
         ended = part.1;
-      },
-    )
+      };
+    }
 
 -- a caller stops after a line
-pub stops_now : {before after : Option (List ℕ)} {new : Reading} {lines : List (Line (List ℕ))} → ReadsLines before after at_start new lines → ((more : List (Line (List ℕ))) × ReadsFront before after (lines ++ more)) ⊎ ReadsAll before after lines
+pub stops_now : {before after : Option (List ℕ)} {new : Reading} {lines : List (Line (List ℕ))} → ReadsLines before after at_start new lines → ReadsPart before after lines ⊎ ReadsAll before after lines
 stops_now r = ⊎_elim
-    (λ part. inl (part.0, record { read = r.bytes; moved = r.moved; ended = part.1 }))
+    (λ part. inl (record { more = part.0; front = record { read = r.bytes; moved = r.moved; ended = part.1 } }))
     (λ all. inr (record { read = r.bytes; moved = r.moved; all = all.0; bound = all.1; at_end = all.2 }))
     (told_now r.taken)
+
+-- a caller stops before it reads
+pub stops_before : (left : Option (List ℕ)) → ReadsFront left left []
+stops_before left = record { read = []; moved = Consumes-nil left; ended = ended_lines_of_last [] (All-nil (λ b. b ≢ 10)) }
+
+-- all of the lines are some of them
+pub front_in_part : {before after : Option (List ℕ)} {lines : List (Line (List ℕ))} → ReadsFront before after lines → ReadsPart before after lines
+front_in_part {before} {after} {lines} f = record { more = []; front = subst (ReadsFront before after) (sym (append-nil lines)) f }
+
+pub stop_in_part : {before after : Option (List ℕ)} {lines : List (Line (List ℕ))} (stop : LineStop) → StopsWith stop before after lines → ReadsPart before after lines
+stop_in_part Read s = front_in_part s
+stop_in_part NoMemory s = s

@@ -1,5 +1,5 @@
 -- The lines that several calls took, and what was read of the input when a reader stops.
-use Rattle.std.specs.Prelude.{ℕ, ◌≡◌, ◌≤◌, ◌+◌, ◌^◌, List, [], ◌++◌, length, take, Option, Result, Bool, true, false}
+use Rattle.std.specs.Prelude.{ℕ, ◌≡◌, ◌<◌, ◌≤◌, ◌+◌, ◌^◌, List, [], ◌++◌, length, take, Option, Result, Bool, true, false}
 use Rattle.std.specs.Io.KnownBytes.{Consumes, IsAtEnd}
 use Rattle.spec_text.specs.Lines.{lines_of, ended_lines_of, input_limit}
 use Rattle.spec_text.specs.declared.line.Line.{Line}
@@ -60,7 +60,17 @@ pub record ReadsFront (before after : Option (List ℕ)) (lines : List (Line (Li
   pub moved : Consumes before after read
   pub ended : ended_lines_of (take input_limit read) ≡ lines
 
--- where a source fails no line is lost; where memory is wanting there may be more lines
+-- there may be more of them
+pub record ReadsPart (before after : Option (List ℕ)) (lines : List (Line (List ℕ))) : Type 0 where
+  pub more : List (Line (List ℕ))
+  pub front : ReadsFront before after (lines ++ more)
+
+-- the input is longer than may be read
+pub record ReadsPast (before after : Option (List ℕ)) (lines : List (Line (List ℕ))) : Type 0 where
+  pub front : ReadsFront before after lines
+  pub past : 2 ^ 26 < length front.read
+
+-- where a source fails, all lines that end were taken; where memory is wanting, there may be more
 abbrev pub StopsWith : LineStop → Option (List ℕ) → Option (List ℕ) → List (Line (List ℕ)) → Type 0
 StopsWith Read before after lines = ReadsFront before after lines
-StopsWith NoMemory before after lines = (more : List (Line (List ℕ))) × ReadsFront before after (lines ++ more)
+StopsWith NoMemory before after lines = ReadsPart before after lines
