@@ -1,2 +1,3 @@
+-- Lemmas on lines and words.
 pub mod LineLemmas
 pub mod WordLemmas

@@ -1,12 +1,12 @@
 -- The lines of a text, taken off its front one by one.
-use Rattle.std.proofs.Common.{◌≡◌, ℕ, Bool, true, false, List, [], ◌∷◌, ◌++◌, All, ◌≢◌, eqb, refl, ap, ◌∙◌, cond, rules, tests, arith, map, length, ◌<◌, ◌≤◌}
+use Rattle.std.proofs.Common.{◌≡◌, ℕ, Bool, true, false, List, [], ◌∷◌, ◌++◌, All, ◌≢◌, eqb, refl, ap, ◌∙◌, cond, rules, tests, arith, map, length, ◌<◌, ◌≤◌, ◌⊎◌, inl, inr, ⊎_elim}
 use Rattle.std.specs.List.{slice_split, onto_first}
 use Rattle.std.specs.Str.Lines.{lines, lines_of_parts, strip_carriage_return}
 use Rattle.std.proofs.lemmas.List.Splits.{slice_split_at, slice_split_none}
 use Rattle.std.proofs.lemmas.List.Elements.{All-weaker}
+use Rattle.std.proofs.lemmas.Bool.{cases_lt}
 use Rattle.std.proofs.lemmas.Bool.Decides.{nat_tests}
 use Rattle.spec_text.specs.Lines.{lines_of, line_of, ended_lines_of, all_but_last}
-use Rattle.spec_text.specs.declared.line.Line.{Line}
 use Rattle.spec_text.specs.declared.line.Line.TheVariants.{Text, Long}
 
 is_lf : ℕ → Bool
@@ -77,3 +77,10 @@ pub ended_lines_of_last : (line : List ℕ) → All (λ b. b ≢ 10) line → en
 unfolding ended_lines_of
 ended_lines_of_last line h =
     ap (λ parts. map (λ raw. line_of (strip_carriage_return raw)) (all_but_last parts)) (slice_split_none (λ b. eqb b 10) line (tests_false line h))
+
+-- a line has its bytes or its length
+pub line_of_cases : (bytes : List ℕ) → (line_of bytes ≡ Text bytes) ⊎ (line_of bytes ≡ Long (length bytes))
+line_of_cases bytes = ⊎_elim
+    (λ long. inr (line_long bytes long))
+    (λ short. inl (line_short bytes short))
+    (cases_lt 16384 (length bytes))

@@ -1,0 +1,6 @@
+-- Lemmas.
+mod KeptLemmas
+mod PieceLemmas
+mod RunSteps
+mod SoFar
+pub mod TakingLemmas

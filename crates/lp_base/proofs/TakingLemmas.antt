@@ -1,0 +1,311 @@
+-- The lines that were taken, call by call, and what they are where a reader stops.
+use Rattle.std.proofs.Common.{◌≡◌, ◌≢◌, ℕ, ◌+◌, ◌-◌, ◌^◌, ◌≤◌, ◌<◌, ◌⊎◌, List, [], ◌∷◌, ◌++◌, All, length, take, Option, Result, Ok, Err, Bool, true, false, arith, ap, sym, ◌∙◌, append_assoc, length-append, append-nil, refl, inl, inr, ⊎_elim, subst}
+use Rattle.std.specs.Io.KnownBytes.{Consumes, IsAtEnd}
+use Rattle.std.specs.Str.Lines.{strip_carriage_return}
+use Rattle.std.proofs.KnownBytes.{Consumes-nil, Consumes-trans}
+use Rattle.std.proofs.lemmas.List.{take_all}
+use Rattle.std.proofs.Math.Seq.{take-append_seam}
+use Rattle.std.proofs.lemmas.List.Elements.{All-nil, All-take}
+use Rattle.spec_text.specs.Lines.{line_of, lines_of, ended_lines_of, input_limit}
+use Rattle.spec_text.specs.declared.line.Line.{Line}
+use Rattle.spec_text.specs.declared.line.Line.TheVariants.{Text, Long, End, Over}
+use Rattle.spec_text.proofs.LineLemmas.{lines_of_none, lines_of_line, lines_of_last, ended_lines_of_line, ended_lines_of_last}
+use Rattle.lp_base.specs.Reading.Value.{Reading, at_start}
+use Rattle.lp_base.specs.Reading.{TakesEnded, TakesLast, HasEnded, GivesLine, GivesEnd, IsOver, IsBrokenOff, Gives, GivesNext}
+use Rattle.lp_base.specs.Taking.{BeginsWith, IsWhole, Tells, TakesLines, ReadsLines, ReadsUntil, ReadsAll, ReadsFront, ReadsPart, ReadsPast, StopsWith}
+use Rattle.lp_base.specs.declared.lines.LineStop.{LineStop}
+use Rattle.lp_base.specs.declared.lines.LineStop.TheVariants.{Read, NoMemory}
+use Rattle.lp_base.proofs.KeptLemmas.{take-append}
+
+-- ---- what a text begins with
+begins_with_none : BeginsWith [] []
+begins_with_none = record { all = λ more. refl; ended = λ more. refl }
+
+begins_with_line : (raw : List ℕ) (line : Line (List ℕ)) → All (λ b. b ≢ 10) raw → line ≡ line_of (strip_carriage_return raw) → BeginsWith (raw ++ 10 ∷ []) (line ∷ [])
+begins_with_line raw line plain is = record {
+  all = λ more. ap lines_of (append_assoc raw (10 ∷ []) more) ∙ lines_of_line raw more plain ∙ ap (λ (l : Line (List ℕ)). l ∷ lines_of more) (sym is);
+  ended = λ more. ap ended_lines_of (append_assoc raw (10 ∷ []) more) ∙ ended_lines_of_line raw more plain ∙ ap (λ (l : Line (List ℕ)). l ∷ ended_lines_of more) (sym is);
+}
+
+BeginsWith-append : {raw : List ℕ} {lines : List (Line (List ℕ))} {more : List ℕ} {others : List (Line (List ℕ))} → BeginsWith raw lines → BeginsWith more others → BeginsWith (raw ++ more) (lines ++ others)
+BeginsWith-append {raw} {lines} {more} {others} b d = record {
+  all = λ rest. ap lines_of (append_assoc raw more rest) ∙ b.all (more ++ rest) ∙ ap (λ ls. lines ++ ls) (d.all rest) ∙ sym (append_assoc lines others (lines_of rest));
+  ended = λ rest. ap ended_lines_of (append_assoc raw more rest) ∙ b.ended (more ++ rest) ∙ ap (λ ls. lines ++ ls) (d.ended rest) ∙ sym (append_assoc lines others (ended_lines_of rest));
+}
+
+-- where nothing follows, these are all the lines
+begins_whole : {raw : List ℕ} {lines : List (Line (List ℕ))} → BeginsWith raw lines → lines_of raw ≡ lines
+begins_whole {raw} {lines} b = ap lines_of (sym (append-nil raw)) ∙ b.all [] ∙ ap (λ ls. lines ++ ls) lines_of_none ∙ append-nil lines
+
+-- the ended lines of a front of the text
+ended_front : {raw : List ℕ} {lines : List (Line (List ℕ))} (limit : ℕ) (rest : List ℕ) → BeginsWith raw lines → length raw ≤ limit → ended_lines_of (take limit (raw ++ rest)) ≡ lines ++ ended_lines_of (take (limit - length raw) rest)
+ended_front {raw} {lines} limit rest b within =
+    let short : take limit raw ≡ raw = take_all limit raw within in
+    ap ended_lines_of (take-append limit raw rest ∙ ap (λ (xs : List ℕ). xs ++ take (limit - length raw) rest) short)
+    ∙ b.ended (take (limit - length raw) rest)
+
+-- no line ends in the rest
+plain_front : {raw : List ℕ} {lines : List (Line (List ℕ))} (limit : ℕ) (rest : List ℕ) → BeginsWith raw lines → length raw ≤ limit → All (λ b. b ≢ 10) rest → ended_lines_of (take limit (raw ++ rest)) ≡ lines
+plain_front {raw} {lines} limit rest b within plain =
+    ended_front limit rest b within
+    ∙ ap (λ ls. lines ++ ls) (ended_lines_of_last (take (limit - length raw) rest) (All-take (λ b. b ≢ 10) (limit - length raw) rest plain))
+    ∙ append-nil lines
+
+-- no line ends in the rest as far as the limit
+plain_to_limit : {raw : List ℕ} {lines : List (Line (List ℕ))} (limit : ℕ) (front rest : List ℕ) → BeginsWith raw lines → length raw + length front ≡ limit → All (λ b. b ≢ 10) front → ended_lines_of (take limit (raw ++ (front ++ rest))) ≡ lines
+plain_to_limit {raw} {lines} limit front rest b len plain =
+    let room : limit - length raw ≡ length front = omega arith in
+    let all : take (limit - length raw) (front ++ rest) ≡ front = ap (λ (n : ℕ). take n (front ++ rest)) room ∙ take-append_seam front rest in
+    ended_front limit (front ++ rest) b (omega arith)
+    ∙ ap (λ (xs : List ℕ). lines ++ ended_lines_of xs) all
+    ∙ ap (λ ls. lines ++ ls) (ended_lines_of_last front plain)
+    ∙ append-nil lines
+
+-- ---- lines, call by call
+tells_begun : (ended : Bool) (after : Option (List ℕ)) (raw ahead : List ℕ) (lines : List (Line (List ℕ))) → ended ≡ false → Tells ended after raw ahead lines → BeginsWith raw lines
+tells_begun true after raw ahead lines live t = cc
+tells_begun false after raw ahead lines live t = t
+
+-- where the input has not ended, more lines may follow
+begun : {after : Option (List ℕ)} {old new : Reading} {bytes : List ℕ} {lines : List (Line (List ℕ))} (t : TakesLines after old bytes new lines) → new.ended ≡ false → BeginsWith t.raw lines
+begun {after} {old} {new} {bytes} {lines} t live = tells_begun new.ended after t.raw new.ahead lines live t.told
+
+-- none, where the input has not ended
+pub takes_none : (after : Option (List ℕ)) (reading : Reading) → reading.ended ≡ false → reading.given ≤ 2 ^ 26 → TakesLines after reading [] reading []
+takes_none after reading live bound = record {
+  raw = [];
+  cut = append-nil reading.ahead;
+  count = omega arith;
+  bound = bound;
+  told = subst (λ (b : Bool). Tells b after [] reading.ahead []) (sym live) begins_with_none;
+}
+
+-- one line
+pub takes_line : {after : Option (List ℕ)} {old : Reading} {bytes : List ℕ} {new : Reading} {line : Line (List ℕ)} → GivesLine after old bytes new line → TakesLines after old bytes new (line ∷ [])
+takes_line {after} {old} {bytes} {new} {line} g =
+    ⊎_elim
+    (λ e.
+    let raw = e.0.raw ++ 10 ∷ [] in
+    let cut : old.ahead ++ bytes ≡ raw ++ new.ahead = e.0.cut ∙ sym (append_assoc e.0.raw (10 ∷ []) new.ahead) in
+    record {
+      raw = raw;
+      cut = cut;
+      count = omega (arith, g.count, ap length cut, length-append raw new.ahead);
+      bound = g.bound;
+      told = subst (λ (b : Bool). Tells b after raw new.ahead (line ∷ [])) (sym e.1) (begins_with_line e.0.raw line e.0.plain e.0.is);
+    })
+    (λ l.
+    let raw = old.ahead ++ bytes in
+    let whole : IsWhole after raw new.ahead (line ∷ []) = record {
+      all = lines_of_last raw l.0.plain l.0.some ∙ ap (λ (x : Line (List ℕ)). x ∷ []) (sym l.0.is);
+      none = l.0.all;
+      at_end = l.2;
+    } in
+    record {
+      raw = raw;
+      cut = sym (ap (λ xs. raw ++ xs) l.0.all ∙ append-nil raw);
+      count = omega (arith, g.count, ap length l.0.all);
+      bound = g.bound;
+      told = subst (λ (b : Bool). Tells b after raw new.ahead (line ∷ [])) (sym l.1) whole;
+    })
+    g.taken
+
+Tells-append : (ended : Bool) (after : Option (List ℕ)) (raw more ahead : List ℕ) (lines others : List (Line (List ℕ))) → BeginsWith raw lines → Tells ended after more ahead others → Tells ended after (raw ++ more) ahead (lines ++ others)
+Tells-append true after raw more ahead lines others b t = record { all = b.all more ∙ ap (λ ls. lines ++ ls) t.all; none = t.none; at_end = t.at_end }
+Tells-append false after raw more ahead lines others b t = BeginsWith-append b t
+
+-- more lines, where the input had not ended before
+pub TakesLines-append : {mid after : Option (List ℕ)} {first old new : Reading} {bytes more : List ℕ} {lines others : List (Line (List ℕ))} → TakesLines mid first bytes old lines → old.ended ≡ false → TakesLines after old more new others → TakesLines after first (bytes ++ more) new (lines ++ others)
+TakesLines-append {mid} {after} {first} {old} {new} {bytes} {more} {lines} {others} t live u =
+    record {
+      raw = t.raw ++ u.raw;
+      cut = sym (append_assoc first.ahead bytes more)
+          ∙ ap (λ xs. xs ++ more) t.cut
+          ∙ append_assoc t.raw old.ahead more
+          ∙ ap (λ xs. t.raw ++ xs) u.cut
+          ∙ sym (append_assoc t.raw u.raw new.ahead);
+      count = omega (arith, t.count, u.count, length-append t.raw u.raw);
+      bound = u.bound;
+      told = Tells-append new.ended after t.raw u.raw new.ahead lines others (begun t live) u.told;
+    }
+
+tells_end : (ended : Bool) (mid after : Option (List ℕ)) (old : Reading) (raw before ahead : List ℕ) (lines : List (Line (List ℕ))) → ended ≡ old.ended → ahead ≡ [] → HasEnded old mid after → Tells ended mid raw before lines → IsWhole after raw ahead lines
+tells_end true mid after old raw before ahead lines same none (inl h) t = record { all = t.all; none = none; at_end = subst IsAtEnd (sym h.1) t.at_end }
+tells_end true mid after old raw before ahead lines same none (inr h) t = record { all = t.all; none = none; at_end = h }
+tells_end false mid after old raw before ahead lines same none (inl h) t = absurd (let e = h.0 in cc)
+tells_end false mid after old raw before ahead lines same none (inr h) t = record { all = begins_whole t; none = none; at_end = h }
+
+-- the end
+pub takes_end : {mid after : Option (List ℕ)} {first old new : Reading} {bytes more : List ℕ} {lines : List (Line (List ℕ))} → TakesLines mid first bytes old lines → GivesEnd mid after old more new → TakesLines after first (bytes ++ more) new lines
+takes_end {mid} {after} {first} {old} {new} {bytes} {more} {lines} t g =
+    let stands : new ≡ record { ahead = []; given = old.given; ended = true } = g.stands in
+    let none : new.ahead ≡ [] = ap (λ (r : Reading). r.ahead) stands in
+    record {
+      raw = t.raw;
+      cut = sym (append_assoc first.ahead bytes more)
+          ∙ ap (λ xs. xs ++ more) t.cut
+          ∙ append_assoc t.raw old.ahead more
+          ∙ ap (λ xs. t.raw ++ xs) (g.none ∙ sym none);
+      count = ap (λ (r : Reading). r.given) stands ∙ t.count;
+      bound = omega (arith, ap (λ (r : Reading). r.given) stands, g.bound);
+      told = subst (λ (b : Bool). Tells b after t.raw new.ahead lines) (sym (ap (λ (r : Reading). r.ended) stands)) (tells_end old.ended mid after old t.raw old.ahead new.ahead lines refl none g.ended t.told);
+    }
+
+-- ---- where a reader stops that began at the start of its input
+tells_whole : (ended : Bool) (after : Option (List ℕ)) (raw ahead : List ℕ) (lines : List (Line (List ℕ))) → ended ≡ true → Tells ended after raw ahead lines → IsWhole after raw ahead lines
+tells_whole true after raw ahead lines e t = t
+tells_whole false after raw ahead lines e t = cc
+
+-- all bytes that were read, from the start on
+read_so_far : {mid : Option (List ℕ)} {old : Reading} {read : List ℕ} {lines : List (Line (List ℕ))} (t : TakesLines mid at_start read old lines) (bytes : List ℕ) → read ++ bytes ≡ t.raw ++ (old.ahead ++ bytes)
+read_so_far {old = old} t bytes = ap (λ xs. xs ++ bytes) t.cut ∙ append_assoc t.raw old.ahead bytes
+
+-- at the end, these are all the lines
+pub told_all : {after : Option (List ℕ)} {new : Reading} {read : List ℕ} {lines : List (Line (List ℕ))} → TakesLines after at_start read new lines → new.ended ≡ true → (lines_of read ≡ lines) × (length read ≤ 2 ^ 26) × IsAtEnd after
+told_all {after} {new} {read} {lines} t ended =
+    let whole = tells_whole new.ended after t.raw new.ahead lines ended t.told in
+    let same : read ≡ t.raw = t.cut ∙ ap (λ xs. t.raw ++ xs) whole.none ∙ append-nil t.raw in
+    (ap lines_of same ∙ whole.all, omega (arith, t.count, t.bound, ap length same), whole.at_end)
+
+-- where the source fails, all lines that end were taken
+pub told_at_fault : {mid : Option (List ℕ)} {old new : Reading} {read bytes : List ℕ} {lines : List (Line (List ℕ))} → TakesLines mid at_start read old lines → IsBrokenOff old bytes new → ended_lines_of (take input_limit (read ++ bytes)) ≡ lines
+told_at_fault {mid} {old} {new} {read} {bytes} {lines} t broken =
+    ap (λ (xs : List ℕ). ended_lines_of (take input_limit xs)) (read_so_far t bytes)
+    ∙ plain_front input_limit (old.ahead ++ bytes) (begun t broken.live) (omega (arith, t.count, t.bound)) broken.plain
+
+-- past the limit, all lines that end within it were taken
+pub told_over : {mid : Option (List ℕ)} {old : Reading} {read bytes : List ℕ} {lines : List (Line (List ℕ))} → TakesLines mid at_start read old lines → IsOver old bytes → (ended_lines_of (take input_limit (read ++ bytes)) ≡ lines) × (2 ^ 26 < length (read ++ bytes))
+told_over {mid} {old} {read} {bytes} {lines} t over =
+    let same : read ++ bytes ≡ t.raw ++ (over.raw ++ over.rest) = read_so_far t bytes ∙ ap (λ xs. t.raw ++ xs) over.cut in (
+      ap (λ (xs : List ℕ). ended_lines_of (take input_limit xs)) same
+          ∙ plain_to_limit input_limit over.raw over.rest (begun t over.live) (omega (arith, t.count, over.len)) over.plain,
+      omega (arith, ap length same, length-append t.raw (over.raw ++ over.rest), length-append over.raw over.rest, t.count, over.len, over.more),
+    )
+
+-- wherever else it stops, the lines that were taken come first
+pub told_in_part : {mid : Option (List ℕ)} {old : Reading} {read : List ℕ} {lines : List (Line (List ℕ))} → TakesLines mid at_start read old lines → old.ended ≡ false → (bytes : List ℕ) → (more : List (Line (List ℕ))) × (ended_lines_of (take input_limit (read ++ bytes)) ≡ lines ++ more)
+told_in_part {mid} {old} {read} {lines} t live bytes = (
+  ended_lines_of (take (input_limit - length t.raw) (old.ahead ++ bytes)),
+  ap (λ (xs : List ℕ). ended_lines_of (take input_limit xs)) (read_so_far t bytes)
+      ∙ ended_front input_limit (old.ahead ++ bytes) (begun t live) (omega (arith, t.count, t.bound)),
+)
+
+-- after a call, the lines that were taken come first, or are all
+pub told_now : {after : Option (List ℕ)} {new : Reading} {read : List ℕ} {lines : List (Line (List ℕ))} → TakesLines after at_start read new lines → ((more : List (Line (List ℕ))) × (ended_lines_of (take input_limit read) ≡ lines ++ more)) ⊎ ((lines_of read ≡ lines) × (length read ≤ 2 ^ 26) × IsAtEnd after)
+told_now {after} {new} {read} {lines} t = by new.ended refl
+  where
+    by : (ended : Bool) → new.ended ≡ ended → ((more : List (Line (List ℕ))) × (ended_lines_of (take input_limit read) ≡ lines ++ more)) ⊎ ((lines_of read ≡ lines) × (length read ≤ 2 ^ 26) × IsAtEnd after)
+    by true is = inr (told_all t is)
+    by false is = let part = told_in_part t is [] in inl (part.0, ap (λ (xs : List ℕ). ended_lines_of (take input_limit xs)) (sym (append-nil read)) ∙ part.1)
+
+-- ---- the same, with what was consumed of the source
+-- an answer by its name
+pub gives_as : {before after : Option (List ℕ)} {old new : Reading} {line : Line (List ℕ)} (is : Line (List ℕ)) → line ≡ is → GivesNext before after old new (Ok line) → GivesNext before after old new (Ok is)
+gives_as {before} {after} {old} {new} is same g = subst (λ (l : Line (List ℕ)). GivesNext before after old new (Ok l)) same g
+
+given_line : (before after : Option (List ℕ)) (old : Reading) (bytes : List ℕ) (new : Reading) (line : Line (List ℕ)) → line ≢ End → line ≢ Over → Gives before after old bytes new (Ok line) → GivesLine after old bytes new line
+given_line before after old bytes new (Text text) no_end no_over g = g
+given_line before after old bytes new (Long len) no_end no_over g = g
+given_line before after old bytes new End no_end no_over g = absurd (no_end refl)
+given_line before after old bytes new Over no_end no_over g = absurd (no_over refl)
+
+-- nothing was read
+pub reads_none : (left : Option (List ℕ)) (reading : Reading) → reading.ended ≡ false → reading.given ≤ 2 ^ 26 → ReadsLines left left reading reading []
+reads_none left reading live bound = record { bytes = []; moved = Consumes-nil left; taken = takes_none left reading live bound }
+
+pub reads_start : (left : Option (List ℕ)) (reading : Reading) → reading ≡ at_start → ReadsLines left left at_start reading []
+reads_start left reading is = subst (λ (r : Reading). ReadsLines left left at_start r []) (sym is) (reads_none left at_start refl (omega arith))
+
+-- one more line was read
+pub reads_line : {before mid after : Option (List ℕ)} {first old new : Reading} {lines : List (Line (List ℕ))} (line : Line (List ℕ)) → ReadsLines before mid first old lines → GivesNext mid after old new (Ok line) → line ≢ End → line ≢ Over → ReadsLines before after first new (lines ++ line ∷ [])
+reads_line {before} {mid} {after} {old = old} {new = new} line r g no_end no_over =
+    let given = given_line mid after old g.bytes new line no_end no_over g.gives in
+    record {
+      bytes = r.bytes ++ g.bytes;
+      moved = Consumes-trans before mid after r.bytes g.bytes r.moved g.moved;
+      taken = TakesLines-append r.taken given.live (takes_line given);
+    }
+
+-- more lines were read
+pub ReadsLines-append : {before mid after : Option (List ℕ)} {first old new : Reading} {lines others : List (Line (List ℕ))} → ReadsLines before mid first old lines → old.ended ≡ false → ReadsLines mid after old new others → ReadsLines before after first new (lines ++ others)
+ReadsLines-append {before} {mid} {after} r live s = record {
+  bytes = r.bytes ++ s.bytes;
+  moved = Consumes-trans before mid after r.bytes s.bytes r.moved s.moved;
+  taken = TakesLines-append r.taken live s.taken;
+}
+
+-- the end was read
+pub reads_end : {before mid after : Option (List ℕ)} {first old new : Reading} {lines : List (Line (List ℕ))} → ReadsLines before mid first old lines → GivesNext mid after old new (Ok End) → ReadsLines before after first new lines × (new.ended ≡ true)
+reads_end {before} {mid} {after} r g = (
+  record {
+    bytes = r.bytes ++ g.bytes;
+    moved = Consumes-trans before mid after r.bytes g.bytes r.moved g.moved;
+    taken = takes_end r.taken g.gives;
+  },
+  ap (λ (x : Reading). x.ended) g.gives.stands,
+)
+
+-- lines and a last answer
+pub reads_until : {before mid after : Option (List ℕ)} {first old new : Reading} {lines : List (Line (List ℕ))} {result : Result (Line (List ℕ)) LineStop} → ReadsLines before mid first old lines → GivesNext mid after old new result → ReadsUntil before after first lines result
+reads_until {mid = mid} {old = old} {new = new} r g = record { mid = mid; old = old; new = new; reads = r; gives = g }
+
+pub ReadsUntil-append : {before mid after : Option (List ℕ)} {first old : Reading} {lines others : List (Line (List ℕ))} {result : Result (Line (List ℕ)) LineStop} → ReadsLines before mid first old lines → old.ended ≡ false → ReadsUntil mid after old others result → ReadsUntil before after first (lines ++ others) result
+ReadsUntil-append r live u = record { mid = u.mid; old = u.old; new = u.new; reads = ReadsLines-append r live u.reads; gives = u.gives }
+
+-- ---- where a reader stops that began at the start of its input
+-- all lines were taken
+pub stops_at_end : {before after : Option (List ℕ)} {lines : List (Line (List ℕ))} → ReadsUntil before after at_start lines (Ok End) → ReadsAll before after lines
+stops_at_end u =
+    let r = reads_end u.reads u.gives in
+    let told = told_all r.0.taken r.1 in
+    record { read = r.0.bytes; moved = r.0.moved; all = told.0; bound = told.1; at_end = told.2 }
+
+-- the lines that end within the limit were taken, and there are more bytes
+pub stops_over : {before after : Option (List ℕ)} {lines : List (Line (List ℕ))} → ReadsUntil before after at_start lines (Ok Over) → ReadsPast before after lines
+stops_over {before} {after} u =
+    let told = told_over u.reads.taken u.gives.gives in
+    record {
+      front = record {
+        read = u.reads.bytes ++ u.gives.bytes;
+        moved = Consumes-trans before u.mid after u.reads.bytes u.gives.bytes u.reads.moved u.gives.moved;
+        ended = told.0;
+      };
+      past = told.1;
+    }
+
+-- an error came
+pub stops_with : {before after : Option (List ℕ)} {lines : List (Line (List ℕ))} (stop : LineStop) → ReadsUntil before after at_start lines (Err stop) → StopsWith stop before after lines
+stops_with {before} {after} Read u = record {
+  read = u.reads.bytes ++ u.gives.bytes;
+  moved = Consumes-trans before u.mid after u.reads.bytes u.gives.bytes u.reads.moved u.gives.moved;
+  ended = told_at_fault u.reads.taken u.gives.gives;
+}
+stops_with {before} {after} NoMemory u =
+    let part = told_in_part u.reads.taken u.gives.gives u.gives.bytes in
+    record {
+      more = part.0;
+      front = record {
+        read = u.reads.bytes ++ u.gives.bytes;
+        moved = Consumes-trans before u.mid after u.reads.bytes u.gives.bytes u.reads.moved u.gives.moved;
+        ended = part.1;
+      };
+    }
+
+-- a caller stops after a line
+pub stops_now : {before after : Option (List ℕ)} {new : Reading} {lines : List (Line (List ℕ))} → ReadsLines before after at_start new lines → ReadsPart before after lines ⊎ ReadsAll before after lines
+stops_now r = ⊎_elim
+    (λ part. inl (record { more = part.0; front = record { read = r.bytes; moved = r.moved; ended = part.1 } }))
+    (λ all. inr (record { read = r.bytes; moved = r.moved; all = all.0; bound = all.1; at_end = all.2 }))
+    (told_now r.taken)
+
+-- a caller stops before it reads
+pub stops_before : (left : Option (List ℕ)) → ReadsFront left left []
+stops_before left = record { read = []; moved = Consumes-nil left; ended = ended_lines_of_last [] (All-nil (λ b. b ≢ 10)) }
+
+-- all of the lines are some of them
+pub front_in_part : {before after : Option (List ℕ)} {lines : List (Line (List ℕ))} → ReadsFront before after lines → ReadsPart before after lines
+front_in_part {before} {after} {lines} f = record { more = []; front = subst (ReadsFront before after) (sym (append-nil lines)) f }
+
+pub stop_in_part : {before after : Option (List ℕ)} {lines : List (Line (List ℕ))} (stop : LineStop) → StopsWith stop before after lines → ReadsPart before after lines
+stop_in_part Read s = front_in_part s
+stop_in_part NoMemory s = s

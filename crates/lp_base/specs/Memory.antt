@@ -1,0 +1,34 @@
+-- What the source and the sink in memory show.
+use Rattle.std.specs.Prelude.{ℕ, List}
+use Rattle.lp_base.specs.Pieces.{bytes_left}
+use Rattle.lp_base.specs.declared.memory.MemSource.{MemSource}
+use Rattle.lp_base.specs.declared.memory.MemSink.{MemSink}
+
+-- the bytes still to come
+abbrev pub unread : MemSource → List ℕ
+unread s = bytes_left s.piece s.from s.pieces
+
+-- the number of the next read, from 1; past the end of its type it stays
+abbrev pub next_read : MemSource → ℕ
+next_read s = s.calls.next
+
+-- the numbers of the reads that fail
+abbrev pub failing_reads : MemSource → List ℕ
+failing_reads s = s.calls.fails.items
+
+abbrev pub source_faults : MemSource → ℕ
+source_faults s = s.calls.faults
+
+abbrev pub bytes_taken : MemSink → List ℕ
+bytes_taken s = s.bytes.items
+
+-- the number of the next write, in the same way
+abbrev pub next_write : MemSink → ℕ
+next_write s = s.calls.next
+
+-- the numbers of the writes that fail
+abbrev pub failing_writes : MemSink → List ℕ
+failing_writes s = s.calls.fails.items
+
+abbrev pub sink_faults : MemSink → ℕ
+sink_faults s = s.calls.faults

@@ -1,0 +1,76 @@
+-- The lines that several calls took, and what was read of the input when a reader stops.
+use Rattle.std.specs.Prelude.{ℕ, ◌≡◌, ◌<◌, ◌≤◌, ◌+◌, ◌^◌, List, [], ◌++◌, length, take, Option, Result, Bool, true, false}
+use Rattle.std.specs.Io.KnownBytes.{Consumes, IsAtEnd}
+use Rattle.spec_text.specs.Lines.{lines_of, ended_lines_of, input_limit}
+use Rattle.spec_text.specs.declared.line.Line.{Line}
+use Rattle.lp_base.specs.Reading.Value.{Reading}
+use Rattle.lp_base.specs.Reading.{GivesNext}
+use Rattle.lp_base.specs.declared.lines.LineStop.{LineStop}
+use Rattle.lp_base.specs.declared.lines.LineStop.TheVariants.{Read, NoMemory}
+
+-- these are the first lines of a text that begins so, whatever bytes follow
+pub record BeginsWith (raw : List ℕ) (lines : List (Line (List ℕ))) : Type 0 where
+  pub all : (more : List ℕ) → lines_of (raw ++ more) ≡ lines ++ lines_of more
+  pub ended : (more : List ℕ) → ended_lines_of (raw ++ more) ≡ lines ++ ended_lines_of more
+
+-- these are all the lines of an input that has ended
+pub record IsWhole (after : Option (List ℕ)) (raw ahead : List ℕ) (lines : List (Line (List ℕ))) : Type 0 where
+  pub all : lines_of raw ≡ lines
+  pub none : ahead ≡ []
+  pub at_end : IsAtEnd after
+
+-- more may follow, unless the input has ended
+abbrev pub Tells : Bool → Option (List ℕ) → List ℕ → List ℕ → List (Line (List ℕ)) → Type 0
+Tells false after raw ahead lines = BeginsWith raw lines
+Tells true after raw ahead lines = IsWhole after raw ahead lines
+
+-- from what was ahead and the bytes that were read in between, these lines were taken
+pub record TakesLines (after : Option (List ℕ)) (old : Reading) (bytes : List ℕ) (new : Reading) (lines : List (Line (List ℕ))) : Type 0 where
+  pub raw : List ℕ
+  pub cut : old.ahead ++ bytes ≡ raw ++ new.ahead
+  pub count : new.given ≡ old.given + length raw
+  pub bound : new.given ≤ 2 ^ 26
+  pub told : Tells new.ended after raw new.ahead lines
+
+-- some bytes were read, and these lines were taken
+pub record ReadsLines (before after : Option (List ℕ)) (old new : Reading) (lines : List (Line (List ℕ))) : Type 0 where
+  pub bytes : List ℕ
+  pub moved : Consumes before after bytes
+  pub taken : TakesLines after old bytes new lines
+
+-- these lines were taken, and the next answer is the last one
+pub record ReadsUntil (before after : Option (List ℕ)) (first : Reading) (lines : List (Line (List ℕ))) (result : Result (Line (List ℕ)) LineStop) : Type 0 where
+  pub mid : Option (List ℕ)
+  pub old : Reading
+  pub new : Reading
+  pub reads : ReadsLines before mid first old lines
+  pub gives : GivesNext mid after old new result
+
+-- the whole input was read, and these are its lines
+pub record ReadsAll (before after : Option (List ℕ)) (lines : List (Line (List ℕ))) : Type 0 where
+  pub read : List ℕ
+  pub moved : Consumes before after read
+  pub all : lines_of read ≡ lines
+  pub bound : length read ≤ 2 ^ 26
+  pub at_end : IsAtEnd after
+
+-- the input was read in part, and these are the lines that end within what may be read
+pub record ReadsFront (before after : Option (List ℕ)) (lines : List (Line (List ℕ))) : Type 0 where
+  pub read : List ℕ
+  pub moved : Consumes before after read
+  pub ended : ended_lines_of (take input_limit read) ≡ lines
+
+-- there may be more of them
+pub record ReadsPart (before after : Option (List ℕ)) (lines : List (Line (List ℕ))) : Type 0 where
+  pub more : List (Line (List ℕ))
+  pub front : ReadsFront before after (lines ++ more)
+
+-- the input is longer than may be read
+pub record ReadsPast (before after : Option (List ℕ)) (lines : List (Line (List ℕ))) : Type 0 where
+  pub front : ReadsFront before after lines
+  pub past : 2 ^ 26 < length front.read
+
+-- where a source fails, all lines that end were taken; where memory is wanting, there may be more
+abbrev pub StopsWith : LineStop → Option (List ℕ) → Option (List ℕ) → List (Line (List ℕ)) → Type 0
+StopsWith Read before after lines = ReadsFront before after lines
+StopsWith NoMemory before after lines = ReadsPart before after lines

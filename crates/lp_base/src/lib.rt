@@ -1,0 +1,27 @@
+//! The outside: where bytes come from and go to, counting faults, and the lines of what is read.
+//!
+//! Source Sink          where bytes come from, and where they go: src/outside
+//! send                 writes all of a piece: src/outside
+//! MemSource MemSink    both in memory, which fail at the calls that are listed: src/memory
+//! Lines Line           the lines of a source, one by one: src/lines
+//! Bytes Name Texts     lists of bytes, and a list of them: src/bytes
+//! words                the words of a line: src/word
+//! Rose HasCause        a fault was counted: specs/Causes
+//! TakesLines           the lines that several calls took, from which bytes: specs/Taking
+#![tactic(auto)]
+
+mod bytes;
+mod lines;
+mod memory;
+mod outside;
+mod part;
+#[cfg(test)]
+mod tests;
+mod word;
+
+pub use bytes::{Bytes, Name, Texts, are_same};
+pub use lines::{Line, LineStop, Lines, MAX_INPUT};
+pub use memory::{MemSink, MemSource};
+pub use outside::{Failed, Sink, Source, WriteFault, send};
+pub use part::MAX_LINE;
+pub use word::{is_blank, words};

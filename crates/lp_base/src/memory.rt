@@ -1,0 +1,189 @@
+// A source and a sink in memory.
+ghost use Rattle.std.specs.Prelude.{◌≡◌, ◌↔◌, ℕ, ◌+◌, ◌-◌, ◌^◌, ◌<◌, ◌≤◌, ◌++◌, List, [], ◌∷◌, length, min, take, Some, IsErr, IsErrOf, OnOk, OnErr, IfOk};
+ghost use Rattle.std.specs.List.{Contains};
+ghost use Rattle.std.specs.Io.{ReadsAtMost, WritesAtMost};
+ghost use Rattle.std.specs.Io.KnownBytes.{ReadConsumes, WriteAppends};
+ghost use Rattle.lp_base.specs.Beside.{no_sink, no_source};
+ghost use Rattle.lp_base.specs.Causes.{Rose, HasCause};
+ghost use Rattle.lp_base.specs.Memory.{unread, next_read, failing_reads, source_faults, bytes_taken, next_write, failing_writes, sink_faults};
+ghost use Rattle.lp_base.specs.Pieces.{bytes_left};
+
+use crate::{Failed, Sink, Source, Texts};
+use std::alloc::Global;
+
+// Numbers calls, from 1, and says which of them fail.
+#[derive(Drop)]
+struct Calls {
+    fails: Vec<u64>,
+    // The number of the next call, which stays at the end of its type.
+    next: u64,
+    faults: u64,
+}
+
+impl Calls {
+    fn new(fails: Vec<u64>) -> Self
+        ensures { result ≡ record { fails = fails; next = 1; faults = 0 } }
+    {
+        Calls {
+            fails,
+            next: 1,
+            faults: 0,
+        }
+    }
+
+    // Counts a call, which fails where it is listed.
+    fn begin(&mut self) -> Result<(), Failed>
+        ensures fails { self.new.fails ≡ self.old.fails }
+        ensures next { self.new.next ≡ min (self.old.next + 1) (2 ^ 64 - 1) }
+        ensures listed { IsErr result ↔ Contains self.old.fails.items self.old.next }
+        ensures cause { HasCause self.old.faults self.new.faults result }
+    {
+        let is_listed = self.fails.contains(&self.next);
+        self.next = self.next.saturating_add(1);
+        if is_listed {
+            return Err(self.fail());
+        }
+        Ok(())
+    }
+
+    // Counts a fault.
+    fn fail(&mut self) -> Failed
+        ensures fails { self.new.fails ≡ self.old.fails }
+        ensures next { self.new.next ≡ self.old.next }
+        ensures later { self.old.faults ≤ self.new.faults }
+        ensures rose { Rose self.old.faults self.new.faults }
+    {
+        self.faults = self.faults.saturating_add(1);
+        Failed
+    }
+}
+
+/// Gives one piece per read, cut where the buffer is shorter; empty pieces are skipped.
+/// The reads whose number is listed fail, and no others.
+#[derive(Drop)]
+pub struct MemSource {
+    pieces: Texts,
+    // The piece to be read next, and where in it.
+    piece: usize,
+    from: usize,
+    calls: Calls,
+}
+
+impl MemSource {
+    pub fn new(pieces: Texts, fails: Vec<u64>) -> Self
+        ensures left { unread result ≡ bytes_left 0 0 pieces }
+        ensures next { next_read result ≡ 1 }
+        ensures fails { failing_reads result ≡ fails.items }
+        ensures faults { source_faults result ≡ 0 }
+    {
+        MemSource {
+            pieces,
+            piece: 0,
+            from: 0,
+            calls: Calls::new(fails),
+        }
+    }
+
+    // Gives from the next piece, as much as there is room for.
+    fn give(&mut self, buf: &mut [u8]) -> usize
+        ensures bound { result ≤ length buf.new }
+        ensures len { length buf.new ≡ length buf.old }
+        ensures bytes { unread self.old ≡ take result buf.new ++ unread self.new }
+        ensures end { result ≡ 0 → 0 < length buf.new → unread self.new ≡ [] }
+        ensures calls { self.new.calls ≡ self.old.calls }
+    {
+        while self.piece < self.pieces.len() {
+            let piece = self.pieces.at(self.piece);
+            if self.from < piece.len() {
+                let count = copy_front(&piece[self.from..], buf);
+                self.from += count;
+                return count;
+            }
+            self.piece += 1;
+            self.from = 0;
+        }
+        0
+    }
+}
+
+// Copies from the front of the bytes as far as there is room, and says how many.
+fn copy_front(bytes: &[u8], buf: &mut [u8]) -> usize
+    ensures count { result ≡ min (length bytes.now) (length buf.old) }
+    ensures len { length buf.new ≡ length buf.old }
+    ensures copied { take result buf.new ≡ take result bytes.now }
+{
+    let count = bytes.len().min(buf.len());
+    buf[..count].copy_from_slice(&bytes[..count]);
+    count
+}
+
+impl Source for MemSource {
+    ghost left = { λ s. Some (bytes_left s.piece s.from s.pieces) };
+
+    ghost read_faults = { λ s. s.calls.faults };
+
+    ghost beside_reads = { λ _. no_sink };
+
+    fn read(&mut self, buf: &mut [u8]) -> Result<usize, Failed>
+        ensures bound { ReadsAtMost result buf.new }
+        ensures bytes { ReadConsumes (Some (unread self.old)) (Some (unread self.new)) result buf.new }
+        ensures cause { HasCause (source_faults self.old) (source_faults self.new) result }
+        ensures next { next_read self.new ≡ min (next_read self.old + 1) (2 ^ 64 - 1) }
+        ensures fails { failing_reads self.new ≡ failing_reads self.old }
+        ensures listed { IsErr result ↔ Contains (failing_reads self.old) (next_read self.old) }
+    {
+        self.calls.begin()?;
+        Ok(self.give(buf))
+    }
+}
+
+/// Keeps what is written to it. The writes whose number is listed fail; another one may fail for want of memory.
+#[derive(Drop)]
+pub struct MemSink {
+    bytes: Vec<u8>,
+    calls: Calls,
+}
+
+impl MemSink {
+    pub fn new(alloc: Global, fails: Vec<u64>) -> Self
+        ensures taken { bytes_taken result ≡ [] }
+        ensures next { next_write result ≡ 1 }
+        ensures fails { failing_writes result ≡ fails.items }
+        ensures faults { sink_faults result ≡ 0 }
+    {
+        MemSink {
+            bytes: Vec::new(alloc),
+            calls: Calls::new(fails),
+        }
+    }
+
+    pub fn written(&self) -> &[u8]
+        ensures { result.now ≡ bytes_taken self.now }
+    {
+        &self.bytes
+    }
+}
+
+impl Sink for MemSink {
+    ghost taken = { λ s. Some s.bytes.items };
+
+    ghost write_faults = { λ s. s.calls.faults };
+
+    ghost beside_writes = { λ _. no_source };
+
+    fn write(&mut self, piece: &[u8]) -> Result<usize, Failed>
+        ensures bound { WritesAtMost result piece.now }
+        ensures all { IfOk result (λ n. n ≡ length piece.now) }
+        ensures bytes { WriteAppends (Some (bytes_taken self.old)) (Some (bytes_taken self.new)) result piece.now }
+        ensures cause { HasCause (sink_faults self.old) (sink_faults self.new) result }
+        ensures next { next_write self.new ≡ min (next_write self.old + 1) (2 ^ 64 - 1) }
+        ensures fails { failing_writes self.new ≡ failing_writes self.old }
+        ensures listed { Contains (failing_writes self.old) (next_write self.old) → IsErr result }
+    {
+        self.calls.begin()?;
+        if self.bytes.extend_from_slice(piece).is_err() {
+            return Err(self.calls.fail());
+        }
+        Ok(piece.len())
+    }
+}
