@@ -1,13 +1,33 @@
-// Fractions of two whole numbers of at most 127 bits.
+//! Exact fractions whose parts have at most 127 bits.
+//!
+//! An operation gives the exact result in lowest terms, or is refused where a number on the way
+//! is past `LARGEST`, and the refusal shows the operation and its operands as they were given.
+//! Its contract is one equation with the definition of `spec_exact` at that limit, for both
+//! outcomes. Nothing is rounded, and nothing here takes memory but the lists.
+//!
+//! | Item | What it is |
+//! |---|---|
+//! | `Frac`, `Frac::new`, `zero` | a fraction; one of two whole numbers; 0 |
+//! | `add` `sub` `mul` `div` `cmp` | the operations that can be refused |
+//! | `neg` `abs` `sign` `num` `den` `is_zero` `are_same` | the ones that never are |
+//! | `dot` | a sum of products, place by place |
+//! | `Past`, `Op` | a refusal, and the operation that it names |
+//! | `FracFault` | why two whole numbers make no fraction |
+//! | `Fracs`, `Entries` | lists of fractions and of a column's entries, plain lists to contracts |
+//!
+//! Contracts above cite `largest` of specs/Narrow and the operations of spec_exact's specs/Limit.
 #![tactic(auto)]
 
-mod fast;
+mod divisors;
 mod frac;
 mod limited;
 mod lists;
 mod operations;
 mod products;
 mod readers;
+mod reduced;
+#[cfg(test)]
+mod tests;
 
 pub use frac::{Frac, FracFault, LARGEST, Op, Past};
 pub use lists::{Entries, Fracs};

@@ -1,4 +1,4 @@
-// The parts of a fraction.
+// Operations that are never refused: the parts, the sign, the negative and the magnitude.
 ghost use Rattle.std.specs.Prelude.{◌≡◌, ◌≢◌, ◌≤◌, unsigned_abs, pos, IsTrue, ◌↔◌};
 ghost use Rattle.spec_exact.specs.Fraction.{neg_ℚ, abs_ℚ, 0ℚ, inverse};
 ghost use Rattle.spec_exact.specs.Limit.{sign as sign_of};
@@ -8,7 +8,7 @@ use crate::frac::Frac;
 use crate::limited::signed;
 use std::cmp::Ordering;
 
-/// The numerator.
+/// The numerator, whose magnitude is at most `LARGEST`.
 pub fn num(v: Frac) -> i128
     ensures value { result ≡ v.num }
     ensures size { unsigned_abs result ≤ largest }
@@ -16,7 +16,7 @@ pub fn num(v: Frac) -> i128
     v.top()
 }
 
-/// The denominator.
+/// The denominator, at least 1 and at most `LARGEST`.
 pub fn den(v: Frac) -> i128
     ensures value { result ≡ pos v.den }
     ensures size { v.den ≤ largest }
@@ -30,12 +30,14 @@ fn has_top_zero(v: Frac) -> bool
     v.top() == 0
 }
 
+/// Whether `v` is 0.
 pub fn is_zero(v: Frac) -> bool
     ensures { IsTrue result ↔ (v ≡ 0ℚ) }
 {
     has_top_zero(v)
 }
 
+/// The negative.
 pub fn neg(v: Frac) -> Frac
     ensures { result ≡ neg_ℚ v }
 {
@@ -49,7 +51,7 @@ pub fn abs(v: Frac) -> Frac
     if v.top() < 0 { neg(v) } else { v }
 }
 
-/// How it compares with 0.
+/// How `v` stands to 0.
 pub fn sign(v: Frac) -> Ordering
     ensures { result ≡ sign_of v }
 {
@@ -63,14 +65,14 @@ pub fn zero() -> Frac
     Frac::make(0, 1)
 }
 
-/// Whether the two are one fraction.
+/// Whether the two are one fraction. `==` answers the same; contracts say it of this function.
 pub fn are_same(v: Frac, w: Frac) -> bool
     ensures { IsTrue result ↔ (v ≡ w) }
 {
     v == w
 }
 
-/// The reciprocal.
+// The reciprocal. Both its parts are parts of `w`, so it is within the limit.
 pub(crate) fn reciprocal(w: Frac) -> Frac
     requires { w ≢ 0ℚ }
     ensures { result ≡ inverse w }

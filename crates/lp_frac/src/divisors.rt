@@ -1,0 +1,140 @@
+// The greatest common divisor, by subtraction and shifts. Of a number and 0 it is that number.
+//
+// Numbers of 64 bits take steps of 64 bits. Where one of the two is longer, one remainder makes
+// it short; where both are, they take steps of 128 bits until one is short.
+ghost use Rattle.std.specs.Prelude.{◌≡◌, ◌<◌, ◌≤◌, ◌%◌, ◌/◌, ◌^◌, ℕ};
+ghost use Rattle.std.specs.Int.{trailing_zeros, w64, w128};
+ghost use Rattle.spec_exact.specs.Gcd.{gcd};
+
+// The largest number of 64 bits.
+const SHORT: u128 = u64::MAX as u128;
+
+// A number without its factors 2.
+fn odd_part(n: u64) -> u64
+    requires { 0 < n }
+    ensures value { result ≡ n / 2 ^ trailing_zeros w64 n }
+    ensures odd { result % 2 ≡ 1 }
+    ensures size { result ≤ n }
+    ensures common { (a : ℕ) → a % 2 ≡ 1 → gcd a result ≡ gcd a n }
+{
+    n >> n.trailing_zeros()
+}
+
+// The greatest common divisor, where the first number is odd.
+fn odd_common(a: u64, b: u64) -> u64
+    requires { a % 2 ≡ 1 }
+    ensures { result ≡ gcd a b }
+{
+    let mut x = a;
+    let mut y = b;
+    while y != 0 {
+        if x == 1 {
+            return 1;
+        }
+        let z = odd_part(y);
+        if z < x {
+            y = x - z;
+            x = z;
+        } else {
+            y = z - x;
+        }
+    }
+    x
+}
+
+fn short_common(a: u64, b: u64) -> u64
+    ensures { result ≡ gcd a b }
+{
+    if a == 0 {
+        return b;
+    }
+    if b == 0 {
+        return a;
+    }
+    let twos = a.trailing_zeros().min(b.trailing_zeros());
+    odd_common(odd_part(a), b) << twos
+}
+
+// The greatest common divisor, where the second number is short.
+fn half_common(a: u128, b: u128) -> u128
+    requires { b < 2 ^ 64 }
+    ensures { result ≡ gcd a b }
+{
+    if b == 0 {
+        return a;
+    }
+    if a > SHORT {
+        return short_common(b as u64, (a % b) as u64) as u128;
+    }
+    short_common(a as u64, b as u64) as u128
+}
+
+// A long number without its factors 2.
+fn long_odd_part(n: u128) -> u128
+    requires { 0 < n }
+    ensures value { result ≡ n / 2 ^ trailing_zeros w128 n }
+    ensures odd { result % 2 ≡ 1 }
+    ensures size { result ≤ n }
+    ensures common { (a : ℕ) → a % 2 ≡ 1 → gcd a result ≡ gcd a n }
+{
+    n >> n.trailing_zeros()
+}
+
+// The greatest common divisor of long numbers, the first of which is odd.
+fn long_odd_common(a: u128, b: u128) -> u128
+    requires { a % 2 ≡ 1 }
+    ensures { result ≡ gcd a b }
+{
+    let mut x = a;
+    let mut y = b;
+    while y > SHORT {
+        if x <= SHORT {
+            return half_common(y, x);
+        }
+        let z = long_odd_part(y);
+        if z < x {
+            y = x - z;
+            x = z;
+        } else {
+            y = z - x;
+        }
+    }
+    half_common(x, y)
+}
+
+// The greatest common divisor of long numbers.
+fn long_common(a: u128, b: u128) -> u128
+    requires a_positive { 0 < a }
+    requires b_positive { 0 < b }
+    ensures { result ≡ gcd a b }
+{
+    let twos = a.trailing_zeros().min(b.trailing_zeros());
+    long_odd_common(long_odd_part(a), b) << twos
+}
+
+fn any_common(a: u128, b: u128) -> u128
+    ensures { result ≡ gcd a b }
+{
+    if a == 1 {
+        return 1;
+    }
+    if b == 1 {
+        return 1;
+    }
+    if b <= SHORT {
+        return half_common(a, b);
+    }
+    if a <= SHORT {
+        return half_common(b, a);
+    }
+    long_common(a, b)
+}
+
+// The greatest common divisor.
+pub(crate) fn common(a: u128, b: u128) -> u128
+    ensures value { result ≡ gcd a b }
+    ensures positive { 0 < b → 0 < result }
+    ensures small { 0 < b → result ≤ b }
+{
+    any_common(a, b)
+}
