@@ -11,7 +11,6 @@ use Rattle.std.proofs.lemmas.Int.{ints}
 use Rattle.spec_text.specs.declared.line.Line.{Line}
 use Rattle.spec_text.specs.declared.line.Line.TheVariants as line
 use Rattle.spec_text.specs.Words.{same}
-use Rattle.spec_text.proofs.WordLemmas.{same_false}
 use Rattle.spec_exact.specs.Fraction.{ℚ, 0ℚ, whole, eq_ℚ}
 use Rattle.spec_exact.proofs.Same.{eq_test}
 use Rattle.spec_model.specs.Model.{Model, Name, ExactRow, ExactColumn, no_row}
@@ -22,7 +21,7 @@ use Rattle.spec_mps.specs.Cards.{Card, Skip, Section, Given, free_card}
 use Rattle.spec_mps.specs.Numbers.{short_number}
 use Rattle.spec_mps.specs.FirstForm.{Draft, Part, Head, Named, Rows, Columns, RightSides, Ended, ◌>>=◌, must, RowType, ObjectiveType, KindType, row_type, is_objective, target_of, new_row, add_row, row_card, new_column, columns_with, whole_columns, is_open, opened, is_among, put_entry, with_number, column_pair, with_rhs, with_side, side_card, data_card, section_card, on_card, step, start, drafted, model_by, finished, spelled}
 use Rattle.spec_mps.proofs.Steps.{both, negated, step_some, must_some, none_if}
-use Rattle.spec_mps.proofs.Names.{none_pass, nowhere, others}
+use Rattle.spec_mps.proofs.Names.{same_false, none_pass, nowhere, others}
 use Rattle.spec_mps.proofs.Entries.{Climbs, climbs_more, climbs_higher, climbs_put, climbs_entries}
 
 abbrev row_names : List ExactRow → List Name

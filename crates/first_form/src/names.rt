@@ -1,0 +1,41 @@
+// Names that may be kept.
+ghost use Rattle.std.specs.Prelude.{◌≡◌};
+ghost use Rattle.std.specs.List.{list_all};
+ghost use Rattle.spec_model.specs.Kept as told;
+
+use lp_base::are_same;
+
+const MAX_NAME: usize = 64;
+
+fn is_printable(b: u8) -> bool
+    ensures { result ≡ told.is_printable b }
+{
+    33 <= b && b <= 126
+}
+
+fn are_printable(text: &[u8]) -> bool
+    ensures { result ≡ list_all told.is_printable text.now }
+{
+    text.iter().all(|b| is_printable(*b))
+}
+
+#[tactic(auto, unfolding(spec_model::specs::Kept::is_name))]
+pub(crate) fn is_name(name: &[u8]) -> bool
+    ensures { result ≡ told.is_name name.now }
+{
+    !name.is_empty() && name.len() <= MAX_NAME && are_printable(name)
+}
+
+#[tactic(auto, unfolding(spec_model::specs::Kept::is_row_name))]
+pub(crate) fn is_row_name(name: &[u8]) -> bool
+    ensures { result ≡ told.is_row_name name.now }
+{
+    is_name(name) && !are_same(name, b"'MARKER'")
+}
+
+#[tactic(auto, unfolding(spec_model::specs::Kept::is_model_name))]
+pub(crate) fn is_model_name(name: &[u8]) -> bool
+    ensures { result ≡ told.is_model_name name.now }
+{
+    name.len() <= MAX_NAME && are_printable(name)
+}
