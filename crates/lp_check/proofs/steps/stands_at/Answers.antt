@@ -1,0 +1,5 @@
+use Rattle.lp_check.proofs.Tests.{same_is}
+use Rattle.lp_check.proofs.steps.stands_at.Goals as goal
+
+pub returns-in-Some : goal.returns-in-Some
+returns-in-Some c = rw c.in-Some.is (same_is c.in-Some.k c.args.v c.are_same.result c.are_same.ensures)
