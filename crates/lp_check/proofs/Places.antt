@@ -1,8 +1,8 @@
 -- The parts of a certificate put into their places, one by one.
-use Rattle.std.proofs.Common.{◌≡◌, ℕ, ◌<◌, ◌≤◌, ◌+◌, List, [], ◌∷◌, length, get_or, drop, replicate, Result, Ok, Err, refl, sym, ap, ◌∙◌, subst, arith}
+use Rattle.std.proofs.Common.{◌≡◌, ℕ, ◌<◌, ◌≤◌, ◌+◌, List, ◌∷◌, length, get_or, drop, replicate, Ok, sym, ap, ◌∙◌}
 use Rattle.std.proofs.lemmas.List.{at_drop_all, drop_more}
 use Rattle.spec_exact.specs.Fraction.{ℚ, 0ℚ}
-use Rattle.spec_model.specs.Model.{Model, Name, width, height}
+use Rattle.spec_model.specs.Model.{Model, width, height}
 use Rattle.spec_check.specs.declared.certificate.Certificate.TheVariants.{Optimal}
 use Rattle.spec_check.specs.Text.{ExactPart}
 use Rattle.spec_check.specs.Settle.{placed, place_of, and_then, settled_from, certified, certificate_for}

@@ -1,5 +1,5 @@
 -- Tests of fractions: by their signs, and of equality.
-use Rattle.std.proofs.Common.{◌≡◌, ◌↔◌, ℤ, pos, ◌*ℤ◌, int_lt, int_cmp, Ordering, Less, Equal, Greater, Bool, true, false, cond, IsTrue, [], ◌∷◌, refl, sym, ap, ap₂, ◌∙◌, arith}
+use Rattle.std.proofs.Common.{◌≡◌, ◌↔◌, ℤ, pos, int_lt, int_cmp, Ordering, Less, Equal, Greater, Bool, true, false, cond, IsTrue, [], ◌∷◌, refl, sym, ap, ap₂, ◌∙◌, arith}
 use Rattle.std.proofs.lemmas.Int.{ints}
 use Rattle.spec_exact.specs.Fraction.{ℚ, 0ℚ, whole, lt_ℚ, eq_ℚ}
 use Rattle.spec_exact.specs.Limit.{sign}

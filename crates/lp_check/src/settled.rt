@@ -39,7 +39,13 @@ fn unknown(alloc: Global, name: &Name) -> SettleFault
 }
 
 // Puts the part into its place among the values and multipliers.
-fn put(alloc: Global, model: &Model, part: &Part, x: &mut Fracs, y: &mut Fracs) -> Result<(), SettleFault>
+fn put(
+    alloc: Global,
+    model: &Model,
+    part: &Part,
+    x: &mut Fracs,
+    y: &mut Fracs,
+) -> Result<(), SettleFault>
     requires values { length x.old ≡ width model.now }
     requires multipliers { length y.old ≡ height model.now }
     ensures answer { Puts model.now part.now (x.old, y.old) (x.new, y.new) result }
@@ -59,8 +65,13 @@ fn put(alloc: Global, model: &Model, part: &Part, x: &mut Fracs, y: &mut Fracs) 
     Ok(())
 }
 
-/// The certificate of these parts for the model; what they do not name is 0.
-pub fn settle(alloc: Global, model: &Model, raw: &RawCertificate) -> Result<Certificate, SettleFault>
+/// The certificate that these parts make for the model. What they do not name is 0, and of two parts
+/// with one name the later one counts. It fails with the first name that is not known.
+pub fn settle(
+    alloc: Global,
+    model: &Model,
+    raw: &RawCertificate,
+) -> Result<Certificate, SettleFault>
     ensures answer { Settles model.now raw.now.parts result }
     ensures fits { IfOk result (IsFor model.now) }
 {

@@ -1,3 +1,4 @@
+-- The loop over the rows.
 use Rattle.std.proofs.Common.{◌≡◌, Some, Ok}
 use Rattle.spec_model.specs.Model.{cost, coefficient, part}
 use Rattle.spec_check.specs.Checks.{signed}

@@ -1,3 +1,4 @@
+-- A row that is not tight stops the run.
 use Rattle.std.proofs.Common.{sym}
 use Rattle.std.proofs.lemmas.Result.{err_from_is_err_and}
 use Rattle.spec_check.proofs.Stops.{each_stops}

@@ -1,3 +1,4 @@
+-- A refused step stops the sum.
 use Rattle.std.proofs.Common.{sym}
 use Rattle.std.proofs.lemmas.Result.{err_from_is_err_and}
 use Rattle.spec_check.proofs.Stops.{from_stops}

@@ -1,5 +1,5 @@
+-- The loop over the columns.
 use Rattle.std.proofs.Common.{◌≡◌, Some, Ok}
-
 use Rattle.spec_check.specs.Run as run
 use Rattle.lp_frac.specs.Narrow.{largest}
 use Rattle.lp_check.proofs.point.columns_within.Given as goal

@@ -1,3 +1,4 @@
+-- The loop over the columns.
 use Rattle.std.proofs.Common.{◌≡◌, Some, Ok}
 use Rattle.spec_exact.specs.Fraction.{0ℚ}
 use Rattle.spec_model.specs.Model.{cost, part}

@@ -1,4 +1,4 @@
-use Rattle.std.proofs.Common.{◌≡◌, ◌<◌, ◌≤◌, length, get_or, sym, ap, subst}
+-- The first part that has no place, and the end of the parts.
 use Rattle.std.proofs.lemmas.Result.{err_from_is_err_and}
 use Rattle.lp_check.proofs.Places.{all_placed, stopped}
 use Rattle.lp_check.proofs.settled.settle.Goals as goal

@@ -1,3 +1,4 @@
+-- The loop over the parts.
 use Rattle.std.proofs.Common.{◌≡◌, length, drop, replicate}
 use Rattle.spec_exact.specs.Fraction.{0ℚ}
 use Rattle.spec_model.specs.Model.{width, height}

@@ -1,5 +1,6 @@
+-- By the three signs.
 use Rattle.std.proofs.Common.{◌∙◌, sym, ⊎_elim, Less, Equal, Greater}
-use Rattle.lp_check.proofs.Tests.{below_zero}
+use Rattle.lp_check.proofs.Signs.{below_zero}
 use Rattle.lp_check.proofs.steps.is_negative.Goals as goal
 
 pub returns-in-Less : goal.returns-in-Less

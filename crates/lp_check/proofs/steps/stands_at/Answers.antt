@@ -1,4 +1,5 @@
-use Rattle.lp_check.proofs.Tests.{same_is}
+-- The two are one fraction exactly where the test of equality says so.
+use Rattle.lp_check.proofs.Signs.{same_is}
 use Rattle.lp_check.proofs.steps.stands_at.Goals as goal
 
 pub returns-in-Some : goal.returns-in-Some
