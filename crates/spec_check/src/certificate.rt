@@ -1,4 +1,7 @@
 // Certificates and verdicts, over the type N of names, F of numbers, L of lists of numbers and P of lists of parts.
+ghost use Rattle.std.specs.Prelude.{◌≡◌};
+ghost use Rattle.spec_check.specs.declared.certificate.Stop.TheVariants as stop;
+
 use spec_exact::Past;
 use std::fmt::Debug;
 
@@ -38,7 +41,7 @@ pub enum Known<F> {
 }
 
 /// Why a certificate shows nothing.
-#[derive(Clone, Copy, Debug)]
+#[derive(Clone, Copy, Debug, PartialEq, Eq)]
 pub enum Stop<F: Debug> {
     /// The number of the condition that fails.
     No(u32),
@@ -46,8 +49,16 @@ pub enum Stop<F: Debug> {
     Past(Past<F>),
 }
 
+impl<F: Debug> From<Past<F>> for Stop<F> {
+    ghost from_gives = { λ p e. e ≡ stop.Past p };
+
+    fn from(p: Past<F>) -> Self {
+        Stop::Past(p)
+    }
+}
+
 /// What a check of a certificate says.
-#[derive(Clone, Copy, Debug)]
+#[derive(Clone, Copy, Debug, PartialEq, Eq)]
 pub enum Verdict<F: Debug> {
     Yes(Known<F>),
     No(u32),

@@ -1,0 +1,11 @@
+-- The loop over the columns.
+use Rattle.std.proofs.Common.{◌≡◌, Some, Ok}
+use Rattle.spec_exact.specs.Fraction.{0ℚ}
+use Rattle.spec_model.specs.Model.{cost, part}
+use Rattle.spec_check.specs.Run as run
+use Rattle.lp_frac.specs.Narrow.{largest}
+use Rattle.lp_check.proofs.point.cost.Given as goal
+
+-- the sum so far
+abbrev pub invariant-loop-j : goal.invariant-loop-j
+invariant-loop-j l = run.each_from 0ℚ l.j (λ k s. run.plus_product (Some largest) (cost l.model k) (part l.x k) s) ≡ Ok l.sum

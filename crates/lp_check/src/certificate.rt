@@ -1,0 +1,78 @@
+// Certificates and verdicts, with names and numbers as the code holds them.
+ghost use Rattle.std.specs.Prelude.{◌≡◌, ◌==◌, ◌<◌, [], ◌∷◌, ◌++◌, length, OnOk, OnErr};
+
+use lp_base::Name;
+use lp_frac::{Frac, Fracs};
+use std::alloc::{AllocError, Global};
+use std::marker::Model;
+
+/// A certificate of one model: a value for each column, and a multiplier for each row.
+pub type Certificate = spec_check::Certificate<Fracs>;
+
+/// What a certificate shows.
+pub type Known = spec_check::Known<Frac>;
+
+/// What a check of a certificate says.
+pub type Verdict = spec_check::Verdict<Frac>;
+
+// Why a certificate shows nothing.
+pub(crate) type Stop = spec_check::Stop<Frac>;
+
+/// One number of a certificate, for the column or the row with a name.
+pub type Part = spec_check::Part<Name, Frac>;
+
+/// A certificate as its text has it, without a model.
+pub type RawCertificate = spec_check::RawCertificate<Parts>;
+
+/// The parts of a certificate, in order.
+#[derive(Drop)]
+pub struct Parts {
+    items: Vec<Part>,
+}
+
+impl Model for Parts {
+    ghost use Rattle.std.specs.Prelude.{List};
+    ghost use Rattle.spec_check.specs.Text.{ExactPart};
+
+    ghost Value = { List ExactPart };
+
+    ghost view = { λ p. p.items.items };
+}
+
+impl Parts {
+    /// The empty list. It takes no memory until something is put in.
+    pub fn new(alloc: Global) -> Self
+        ensures { result ≡ [] }
+    {
+        Parts {
+            items: Vec::new(alloc),
+        }
+    }
+
+    /// Adds a part at the end.
+    pub fn push(&mut self, part: Part) -> Result<(), AllocError>
+        ensures ok { OnOk result (self.new ≡ self.old ++ part ∷ []) }
+        ensures err { OnErr result (self.new ≡ self.old) }
+    {
+        self.items.push(part)?;
+        Ok(())
+    }
+
+    pub fn len(&self) -> usize
+        ensures { result ≡ length self.now }
+    {
+        self.items.len()
+    }
+
+    pub fn is_empty(&self) -> bool
+        ensures { result ≡ (length self.now == 0) }
+    {
+        self.items.is_empty()
+    }
+
+    pub fn as_slice(&self) -> &[Part]
+        ensures { result.now ≡ self.now }
+    {
+        &self.items
+    }
+}

@@ -1,0 +1,103 @@
+// Conditions 3 and 4: multipliers of the rows that are complementary to a point.
+ghost use Rattle.std.specs.Prelude.{◌≡◌, ◌<◌, Some, length};
+ghost use Rattle.spec_model.specs.Model.{width, height, bounds_of};
+ghost use Rattle.spec_check.specs.Checks.{signed as signed_by};
+ghost use Rattle.spec_check.specs.Run as run;
+ghost use Rattle.lp_frac.specs.Narrow.{largest};
+
+use crate::certificate::Stop;
+use crate::limits::{lower_limit, upper_limit};
+use crate::point::activity;
+use crate::steps::{is_negative, is_positive, less_product, need, part, stands_at};
+use lp_frac::{Frac, Fracs, neg};
+use lp_model::{Column, Model, Sense};
+
+// The cost to be made least.
+fn signed(sense: Sense, cost: Frac) -> Frac
+    ensures { result ≡ signed_by sense cost }
+{
+    match sense {
+        Sense::Min => cost,
+        Sense::Max => neg(cost),
+    }
+}
+
+// What is left of the cost of column `j` without the multipliers' part.
+fn reduced(model: &Model, y: &Fracs, j: u32) -> Result<Frac, Stop>
+    requires inside { j < width model.now }
+    requires multipliers { length y.now ≡ height model.now }
+    ensures { result ≡ run.reduced_run (Some largest) model.now y.now j }
+{
+    let mut rest = signed(model.sense(), model.col(j).cost);
+    for i in 0..model.rows() {
+        rest = less_product(part(y, i), model.entry(i, j), rest)?;
+    }
+    Ok(rest)
+}
+
+// `value` stands at the column's bound that a reduced cost of this sign asks for.
+fn is_tight(column: &Column, reduced: Frac, value: Frac) -> bool
+    ensures { result ≡ run.is_tight (bounds_of column.now) reduced value }
+{
+    if is_positive(reduced) {
+        stands_at(column.lower, value)
+    } else if is_negative(reduced) {
+        stands_at(column.upper, value)
+    } else {
+        true
+    }
+}
+
+// Condition 3 at column `j`.
+fn column_tight(model: &Model, x: &Fracs, y: &Fracs, j: u32) -> Result<(), Stop>
+    requires inside { j < width model.now }
+    requires point { length x.now ≡ width model.now }
+    requires multipliers { length y.now ≡ height model.now }
+    ensures { result ≡ run.column_tight_run (Some largest) model.now x.now y.now j }
+{
+    let reduced = reduced(model, y, j)?;
+    need(3, is_tight(model.col(j), reduced, part(x, j)))
+}
+
+// Each column's value stands at the bound that its reduced cost asks for.
+pub(crate) fn columns_tight(model: &Model, x: &Fracs, y: &Fracs) -> Result<(), Stop>
+    requires point { length x.now ≡ width model.now }
+    requires multipliers { length y.now ≡ height model.now }
+    ensures { result ≡ run.each (width model.now) (run.column_tight_run (Some largest) model.now x.now y.now) }
+{
+    for j in 0..model.cols() {
+        column_tight(model, x, y, j)?;
+    }
+    Ok(())
+}
+
+// Condition 4 at row `i`. The row's sum and limit are taken again.
+fn row_tight(model: &Model, x: &Fracs, y: &Fracs, i: u32) -> Result<(), Stop>
+    requires inside { i < height model.now }
+    requires point { length x.now ≡ width model.now }
+    requires multipliers { length y.now ≡ height model.now }
+    ensures { result ≡ run.row_tight_run (Some largest) model.now x.now y.now i }
+{
+    let multiplier = part(y, i);
+    if is_positive(multiplier) {
+        let sum = activity(model, x, i)?;
+        need(4, stands_at(lower_limit(model.row(i))?, sum))
+    } else if is_negative(multiplier) {
+        let sum = activity(model, x, i)?;
+        need(4, stands_at(upper_limit(model.row(i))?, sum))
+    } else {
+        Ok(())
+    }
+}
+
+// Each row's sum stands at the limit that its multiplier asks for.
+pub(crate) fn rows_tight(model: &Model, x: &Fracs, y: &Fracs) -> Result<(), Stop>
+    requires point { length x.now ≡ width model.now }
+    requires multipliers { length y.now ≡ height model.now }
+    ensures { result ≡ run.each (height model.now) (run.row_tight_run (Some largest) model.now x.now y.now) }
+{
+    for i in 0..model.rows() {
+        row_tight(model, x, y, i)?;
+    }
+    Ok(())
+}

@@ -1,0 +1,91 @@
+// Conditions 1 and 2: a point is feasible. And its value.
+ghost use Rattle.std.specs.Prelude.{◌≡◌, ◌<◌, Some, length};
+ghost use Rattle.spec_model.specs.Model.{width, height};
+ghost use Rattle.spec_check.specs.Run as run;
+ghost use Rattle.lp_frac.specs.Narrow.{largest};
+
+use crate::certificate::Stop;
+use crate::limits::{lower_limit, upper_limit};
+use crate::steps::{at_least, at_most, part, plus_product};
+use lp_frac::{Frac, Fracs, add, zero};
+use lp_model::Model;
+
+// The value of column `j` is within the column's bounds.
+fn column_within(model: &Model, x: &Fracs, j: u32) -> Result<(), Stop>
+    requires inside { j < width model.now }
+    requires point { length x.now ≡ width model.now }
+    ensures { result ≡ run.column_within_run (Some largest) model.now x.now j }
+{
+    let column = model.col(j);
+    let value = part(x, j);
+    at_least(1, column.lower, value)?;
+    at_most(1, column.upper, value)
+}
+
+// Each column's value is within its bounds.
+pub(crate) fn columns_within(model: &Model, x: &Fracs) -> Result<(), Stop>
+    requires { length x.now ≡ width model.now }
+    ensures { result ≡ run.columns_run (Some largest) model.now x.now }
+{
+    for j in 0..model.cols() {
+        column_within(model, x, j)?;
+    }
+    Ok(())
+}
+
+// The sum of row `i`.
+pub(crate) fn activity(model: &Model, x: &Fracs, i: u32) -> Result<Frac, Stop>
+    requires inside { i < height model.now }
+    requires point { length x.now ≡ width model.now }
+    ensures { result ≡ run.activity_run (Some largest) model.now x.now i }
+{
+    let mut sum = zero();
+    for j in 0..model.cols() {
+        sum = plus_product(model.entry(i, j), part(x, j), sum)?;
+    }
+    Ok(sum)
+}
+
+// The sum of row `i` is within the row's limits.
+fn row_within(model: &Model, x: &Fracs, i: u32) -> Result<(), Stop>
+    requires inside { i < height model.now }
+    requires point { length x.now ≡ width model.now }
+    ensures { result ≡ run.row_within_run (Some largest) model.now x.now i }
+{
+    let sum = activity(model, x, i)?;
+    let row = model.row(i);
+    at_least(2, lower_limit(row)?, sum)?;
+    at_most(2, upper_limit(row)?, sum)
+}
+
+// Each row's sum is within the row's limits.
+pub(crate) fn rows_within(model: &Model, x: &Fracs) -> Result<(), Stop>
+    requires { length x.now ≡ width model.now }
+    ensures { result ≡ run.rows_run (Some largest) model.now x.now }
+{
+    for i in 0..model.rows() {
+        row_within(model, x, i)?;
+    }
+    Ok(())
+}
+
+// The sum of the costs.
+fn cost(model: &Model, x: &Fracs) -> Result<Frac, Stop>
+    requires { length x.now ≡ width model.now }
+    ensures { result ≡ run.cost_run (Some largest) model.now x.now }
+{
+    let mut sum = zero();
+    for j in 0..model.cols() {
+        sum = plus_product(model.col(j).cost, part(x, j), sum)?;
+    }
+    Ok(sum)
+}
+
+// What the objective is at the point.
+pub(crate) fn value(model: &Model, x: &Fracs) -> Result<Frac, Stop>
+    requires { length x.now ≡ width model.now }
+    ensures { result ≡ run.value_run (Some largest) model.now x.now }
+{
+    let value = add(cost(model, x)?, model.offset())?;
+    Ok(value)
+}

@@ -1,0 +1,97 @@
+// The steps of a run: operations on fractions, and tests against one limit.
+ghost use Rattle.std.specs.Prelude.{◌≡◌, ◌<◌, Some, length};
+ghost use Rattle.spec_exact.specs.Fraction.{lt_ℚ, 0ℚ};
+ghost use Rattle.spec_model.specs.Model.{part as part_of};
+ghost use Rattle.spec_check.specs.Run as run;
+ghost use Rattle.lp_frac.specs.Narrow.{largest};
+
+use crate::certificate::Stop;
+use lp_frac::{Frac, Fracs, add, are_same, cmp, mul, sign, sub};
+use std::cmp::Ordering;
+
+// The number at `k`, counted from 0.
+pub(crate) fn part(z: &Fracs, k: u32) -> Frac
+    requires { k < length z.now }
+    ensures { result ≡ part_of z.now k }
+{
+    z.at(k as usize)
+}
+
+pub(crate) fn is_negative(v: Frac) -> bool
+    ensures { result ≡ lt_ℚ v 0ℚ }
+{
+    match sign(v) {
+        Ordering::Less => true,
+        Ordering::Equal | Ordering::Greater => false,
+    }
+}
+
+pub(crate) fn is_positive(v: Frac) -> bool
+    ensures { result ≡ lt_ℚ 0ℚ v }
+{
+    match sign(v) {
+        Ordering::Less | Ordering::Equal => false,
+        Ordering::Greater => true,
+    }
+}
+
+// `v * w` onto `s`.
+pub(crate) fn plus_product(v: Frac, w: Frac, s: Frac) -> Result<Frac, Stop>
+    ensures { result ≡ run.plus_product (Some largest) v w s }
+{
+    let product = mul(v, w)?;
+    let sum = add(s, product)?;
+    Ok(sum)
+}
+
+// `v * w` off `s`.
+pub(crate) fn less_product(v: Frac, w: Frac, s: Frac) -> Result<Frac, Stop>
+    ensures { result ≡ run.less_product (Some largest) v w s }
+{
+    let product = mul(v, w)?;
+    let rest = sub(s, product)?;
+    Ok(rest)
+}
+
+// Condition `n`: `v` is at least the limit, if there is one.
+pub(crate) fn at_least(n: u32, limit: Option<Frac>, v: Frac) -> Result<(), Stop>
+    ensures { result ≡ run.at_least n (Some largest) limit v }
+{
+    match limit {
+        None => Ok(()),
+        Some(k) => match cmp(v, k)? {
+            Ordering::Less => Err(Stop::No(n)),
+            Ordering::Equal | Ordering::Greater => Ok(()),
+        },
+    }
+}
+
+// Condition `n`: `v` is at most the limit, if there is one.
+pub(crate) fn at_most(n: u32, limit: Option<Frac>, v: Frac) -> Result<(), Stop>
+    ensures { result ≡ run.at_most n (Some largest) limit v }
+{
+    match limit {
+        None => Ok(()),
+        Some(k) => match cmp(v, k)? {
+            Ordering::Less | Ordering::Equal => Ok(()),
+            Ordering::Greater => Err(Stop::No(n)),
+        },
+    }
+}
+
+// Condition `n` asks that the test holds.
+pub(crate) fn need(n: u32, holds: bool) -> Result<(), Stop>
+    ensures { result ≡ run.need n holds }
+{
+    if holds { Ok(()) } else { Err(Stop::No(n)) }
+}
+
+// The limit is there, and `v` stands at it.
+pub(crate) fn stands_at(limit: Option<Frac>, v: Frac) -> bool
+    ensures { result ≡ run.stands_at limit v }
+{
+    match limit {
+        None => false,
+        Some(k) => are_same(k, v),
+    }
+}
