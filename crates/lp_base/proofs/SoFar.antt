@@ -92,7 +92,7 @@ gives_over {before} {after} {old} {new} s live full more = record {
   };
 }
 
-none_left : (xs : List ℕ) → length xs ≤ 0 → xs ≡ []
+pub none_left : (xs : List ℕ) → length xs ≤ 0 → xs ≡ []
 none_left [] h = refl
 none_left (x ∷ xs) h = absurd (omega arith)
 
@@ -100,7 +100,7 @@ not_true : (b : Bool) → (b ≡ true → ⊥) → b ≡ false
 not_true true h = absurd (h refl)
 not_true false h = refl
 
-reading_is : (r : Reading) (ahead : List ℕ) (given : ℕ) (ended : Bool) → r.ahead ≡ ahead → r.given ≡ given → r.ended ≡ ended → r ≡ record { ahead = ahead; given = given; ended = ended }
+pub reading_is : (r : Reading) (ahead : List ℕ) (given : ℕ) (ended : Bool) → r.ahead ≡ ahead → r.given ≡ given → r.ended ≡ ended → r ≡ record { ahead = ahead; given = given; ended = ended }
 reading_is r ahead given ended a g e =
     ap (λ (x : List ℕ). let w : Reading = record { ahead = x; given = r.given; ended = r.ended } in w) a
     ∙ ap (λ (x : ℕ). let w : Reading = record { ahead = ahead; given = x; ended = r.ended } in w) g
@@ -129,11 +129,11 @@ breaks_off {before} {mid} after {old} {cur} {new} s kept none live same bound =
 -- the input had ended before this call, or ends in it
 had_ended : {before mid : Option (List ℕ)} (after : Option (List ℕ)) (old cur : Reading) → cur.ended ≡ old.ended → (old.ended ≡ true → mid ≡ before) → HasEnded cur mid after → HasEnded old before after
 had_ended after old cur same idle (inl h) = inl (sym same ∙ h.0, h.1 ∙ idle (sym same ∙ h.0))
-had_ended after old cur same idle (inr h) = inr h
+had_ended after old cur same idle (inr h) = inr (sym same ∙ h.0, h.1)
 
 at_end_now : {mid : Option (List ℕ)} (after : Option (List ℕ)) (cur : Reading) → cur.ended ≡ false → HasEnded cur mid after → IsAtEnd after
 at_end_now after cur live (inl h) = absurd (let e = h.0 in cc)
-at_end_now after cur live (inr h) = h
+at_end_now after cur live (inr h) = h.1
 
 -- the end of the input ends the line
 pub gives_last : {before mid : Option (List ℕ)} (after : Option (List ℕ)) {old cur new : Reading} {part : Part} → SoFar before mid old cur part → (more : List ℕ) → Consumes mid after more → new.ahead ≡ cur.ahead ++ more → new.given ≡ cur.given → HasMore false cur new mid after → cur.given ≤ 2 ^ 26

@@ -1,6 +1,10 @@
 -- The lines that were taken, call by call, and what they are where a reader stops.
+--
+-- A loop over `Lines::next` keeps `ReadsLines` in its invariant: `reads_start` or `reads_none` begins it, `reads_line` adds
+-- a line, `ReadsLines-append` the lines of a call that reads several. At an exit `reads_until` joins the last answer to it,
+-- and from the start of an input on `stops_at_end`, `stops_over`, `stops_with` and `stops_now` say what was read in all.
 use Rattle.std.proofs.Common.{◌≡◌, ◌≢◌, ℕ, ◌+◌, ◌-◌, ◌^◌, ◌≤◌, ◌<◌, ◌⊎◌, List, [], ◌∷◌, ◌++◌, All, length, take, Option, Result, Ok, Err, Bool, true, false, arith, ap, sym, ◌∙◌, append_assoc, length-append, append-nil, refl, inl, inr, ⊎_elim, subst}
-use Rattle.std.specs.Io.KnownBytes.{Consumes, IsAtEnd}
+use Rattle.std.specs.Io.KnownBytes.{IsAtEnd}
 use Rattle.std.specs.Str.Lines.{strip_carriage_return}
 use Rattle.std.proofs.KnownBytes.{Consumes-nil, Consumes-trans}
 use Rattle.std.proofs.lemmas.List.{take_all}
@@ -11,11 +15,12 @@ use Rattle.spec_text.specs.declared.line.Line.{Line}
 use Rattle.spec_text.specs.declared.line.Line.TheVariants.{Text, Long, End, Over}
 use Rattle.spec_text.proofs.LineLemmas.{lines_of_none, lines_of_line, lines_of_last, ended_lines_of_line, ended_lines_of_last}
 use Rattle.lp_base.specs.Reading.Value.{Reading, at_start}
-use Rattle.lp_base.specs.Reading.{TakesEnded, TakesLast, HasEnded, GivesLine, GivesEnd, IsOver, IsBrokenOff, Gives, GivesNext}
-use Rattle.lp_base.specs.Taking.{BeginsWith, IsWhole, Tells, TakesLines, ReadsLines, ReadsUntil, ReadsAll, ReadsFront, ReadsPart, ReadsPast, StopsWith}
+use Rattle.lp_base.specs.Reading.{HasEnded, GivesLine, GivesEnd, IsOver, IsBrokenOff, Gives, GivesNext}
+use Rattle.lp_base.specs.Taking.{BeginsWith, IsWhole, Tells, TakesLines, StaysEnded, ReadsLines, ReadsUntil, ReadsAll, ReadsFront, ReadsPart, ReadsPast, StopsWith}
 use Rattle.lp_base.specs.declared.lines.LineStop.{LineStop}
 use Rattle.lp_base.specs.declared.lines.LineStop.TheVariants.{Read, NoMemory}
 use Rattle.lp_base.proofs.KeptLemmas.{take-append}
+use Rattle.lp_base.proofs.SoFar.{reading_is}
 
 -- ---- what a text begins with
 begins_with_none : BeginsWith [] []
@@ -71,12 +76,13 @@ begun : {after : Option (List ℕ)} {old new : Reading} {bytes : List ℕ} {line
 begun {after} {old} {new} {bytes} {lines} t live = tells_begun new.ended after t.raw new.ahead lines live t.told
 
 -- none, where the input has not ended
-pub takes_none : (after : Option (List ℕ)) (reading : Reading) → reading.ended ≡ false → reading.given ≤ 2 ^ 26 → TakesLines after reading [] reading []
-takes_none after reading live bound = record {
+pub takes_none : (after : Option (List ℕ)) (reading : Reading) → reading.ended ≡ false → TakesLines after reading [] reading []
+takes_none after reading live = record {
+  live = live;
   raw = [];
   cut = append-nil reading.ahead;
   count = omega arith;
-  bound = bound;
+  bound = λ b. b;
   told = subst (λ (b : Bool). Tells b after [] reading.ahead []) (sym live) begins_with_none;
 }
 
@@ -88,10 +94,11 @@ takes_line {after} {old} {bytes} {new} {line} g =
     let raw = e.0.raw ++ 10 ∷ [] in
     let cut : old.ahead ++ bytes ≡ raw ++ new.ahead = e.0.cut ∙ sym (append_assoc e.0.raw (10 ∷ []) new.ahead) in
     record {
+      live = g.live;
       raw = raw;
       cut = cut;
       count = omega (arith, g.count, ap length cut, length-append raw new.ahead);
-      bound = g.bound;
+      bound = λ b. g.bound;
       told = subst (λ (b : Bool). Tells b after raw new.ahead (line ∷ [])) (sym e.1) (begins_with_line e.0.raw line e.0.plain e.0.is);
     })
     (λ l.
@@ -102,10 +109,11 @@ takes_line {after} {old} {bytes} {new} {line} g =
       at_end = l.2;
     } in
     record {
+      live = g.live;
       raw = raw;
       cut = sym (ap (λ xs. raw ++ xs) l.0.all ∙ append-nil raw);
       count = omega (arith, g.count, ap length l.0.all);
-      bound = g.bound;
+      bound = λ b. g.bound;
       told = subst (λ (b : Bool). Tells b after raw new.ahead (line ∷ [])) (sym l.1) whole;
     })
     g.taken
@@ -114,10 +122,11 @@ Tells-append : (ended : Bool) (after : Option (List ℕ)) (raw more ahead : List
 Tells-append true after raw more ahead lines others b t = record { all = b.all more ∙ ap (λ ls. lines ++ ls) t.all; none = t.none; at_end = t.at_end }
 Tells-append false after raw more ahead lines others b t = BeginsWith-append b t
 
--- more lines, where the input had not ended before
-pub TakesLines-append : {mid after : Option (List ℕ)} {first old new : Reading} {bytes more : List ℕ} {lines others : List (Line (List ℕ))} → TakesLines mid first bytes old lines → old.ended ≡ false → TakesLines after old more new others → TakesLines after first (bytes ++ more) new (lines ++ others)
-TakesLines-append {mid} {after} {first} {old} {new} {bytes} {more} {lines} {others} t live u =
+-- more lines
+pub TakesLines-append : {mid after : Option (List ℕ)} {first old new : Reading} {bytes more : List ℕ} {lines others : List (Line (List ℕ))} → TakesLines mid first bytes old lines → TakesLines after old more new others → TakesLines after first (bytes ++ more) new (lines ++ others)
+TakesLines-append {mid} {after} {first} {old} {new} {bytes} {more} {lines} {others} t u =
     record {
+      live = t.live;
       raw = t.raw ++ u.raw;
       cut = sym (append_assoc first.ahead bytes more)
           ∙ ap (λ xs. xs ++ more) t.cut
@@ -125,15 +134,15 @@ TakesLines-append {mid} {after} {first} {old} {new} {bytes} {more} {lines} {othe
           ∙ ap (λ xs. t.raw ++ xs) u.cut
           ∙ sym (append_assoc t.raw u.raw new.ahead);
       count = omega (arith, t.count, u.count, length-append t.raw u.raw);
-      bound = u.bound;
-      told = Tells-append new.ended after t.raw u.raw new.ahead lines others (begun t live) u.told;
+      bound = λ b. u.bound (t.bound b);
+      told = Tells-append new.ended after t.raw u.raw new.ahead lines others (begun t u.live) u.told;
     }
 
 tells_end : (ended : Bool) (mid after : Option (List ℕ)) (old : Reading) (raw before ahead : List ℕ) (lines : List (Line (List ℕ))) → ended ≡ old.ended → ahead ≡ [] → HasEnded old mid after → Tells ended mid raw before lines → IsWhole after raw ahead lines
 tells_end true mid after old raw before ahead lines same none (inl h) t = record { all = t.all; none = none; at_end = subst IsAtEnd (sym h.1) t.at_end }
-tells_end true mid after old raw before ahead lines same none (inr h) t = record { all = t.all; none = none; at_end = h }
+tells_end true mid after old raw before ahead lines same none (inr h) t = absurd (let e = h.0 in cc)
 tells_end false mid after old raw before ahead lines same none (inl h) t = absurd (let e = h.0 in cc)
-tells_end false mid after old raw before ahead lines same none (inr h) t = record { all = begins_whole t; none = none; at_end = h }
+tells_end false mid after old raw before ahead lines same none (inr h) t = record { all = begins_whole t; none = none; at_end = h.1 }
 
 -- the end
 pub takes_end : {mid after : Option (List ℕ)} {first old new : Reading} {bytes more : List ℕ} {lines : List (Line (List ℕ))} → TakesLines mid first bytes old lines → GivesEnd mid after old more new → TakesLines after first (bytes ++ more) new lines
@@ -141,13 +150,14 @@ takes_end {mid} {after} {first} {old} {new} {bytes} {more} {lines} t g =
     let stands : new ≡ record { ahead = []; given = old.given; ended = true } = g.stands in
     let none : new.ahead ≡ [] = ap (λ (r : Reading). r.ahead) stands in
     record {
+      live = t.live;
       raw = t.raw;
       cut = sym (append_assoc first.ahead bytes more)
           ∙ ap (λ xs. xs ++ more) t.cut
           ∙ append_assoc t.raw old.ahead more
           ∙ ap (λ xs. t.raw ++ xs) (g.none ∙ sym none);
       count = ap (λ (r : Reading). r.given) stands ∙ t.count;
-      bound = omega (arith, ap (λ (r : Reading). r.given) stands, g.bound);
+      bound = λ b. omega (arith, ap (λ (r : Reading). r.given) stands, g.bound);
       told = subst (λ (b : Bool). Tells b after t.raw new.ahead lines) (sym (ap (λ (r : Reading). r.ended) stands)) (tells_end old.ended mid after old t.raw old.ahead new.ahead lines refl none g.ended t.told);
     }
 
@@ -155,6 +165,10 @@ takes_end {mid} {after} {first} {old} {new} {bytes} {more} {lines} t g =
 tells_whole : (ended : Bool) (after : Option (List ℕ)) (raw ahead : List ℕ) (lines : List (Line (List ℕ))) → ended ≡ true → Tells ended after raw ahead lines → IsWhole after raw ahead lines
 tells_whole true after raw ahead lines e t = t
 tells_whole false after raw ahead lines e t = cc
+
+-- no more lines were taken than may be read
+raw_within : {after : Option (List ℕ)} {new : Reading} {read : List ℕ} {lines : List (Line (List ℕ))} (t : TakesLines after at_start read new lines) → length t.raw ≤ 2 ^ 26
+raw_within t = let bound = t.bound (omega arith) in omega (arith, t.count)
 
 -- all bytes that were read, from the start on
 read_so_far : {mid : Option (List ℕ)} {old : Reading} {read : List ℕ} {lines : List (Line (List ℕ))} (t : TakesLines mid at_start read old lines) (bytes : List ℕ) → read ++ bytes ≡ t.raw ++ (old.ahead ++ bytes)
@@ -165,13 +179,13 @@ pub told_all : {after : Option (List ℕ)} {new : Reading} {read : List ℕ} {li
 told_all {after} {new} {read} {lines} t ended =
     let whole = tells_whole new.ended after t.raw new.ahead lines ended t.told in
     let same : read ≡ t.raw = t.cut ∙ ap (λ xs. t.raw ++ xs) whole.none ∙ append-nil t.raw in
-    (ap lines_of same ∙ whole.all, omega (arith, t.count, t.bound, ap length same), whole.at_end)
+    (ap lines_of same ∙ whole.all, omega (arith, raw_within t, ap length same), whole.at_end)
 
 -- where the source fails, all lines that end were taken
 pub told_at_fault : {mid : Option (List ℕ)} {old new : Reading} {read bytes : List ℕ} {lines : List (Line (List ℕ))} → TakesLines mid at_start read old lines → IsBrokenOff old bytes new → ended_lines_of (take input_limit (read ++ bytes)) ≡ lines
 told_at_fault {mid} {old} {new} {read} {bytes} {lines} t broken =
     ap (λ (xs : List ℕ). ended_lines_of (take input_limit xs)) (read_so_far t bytes)
-    ∙ plain_front input_limit (old.ahead ++ bytes) (begun t broken.live) (omega (arith, t.count, t.bound)) broken.plain
+    ∙ plain_front input_limit (old.ahead ++ bytes) (begun t broken.live) (raw_within t) broken.plain
 
 -- past the limit, all lines that end within it were taken
 pub told_over : {mid : Option (List ℕ)} {old : Reading} {read bytes : List ℕ} {lines : List (Line (List ℕ))} → TakesLines mid at_start read old lines → IsOver old bytes → (ended_lines_of (take input_limit (read ++ bytes)) ≡ lines) × (2 ^ 26 < length (read ++ bytes))
@@ -210,37 +224,82 @@ given_line before after old bytes new End no_end no_over g = absurd (no_end refl
 given_line before after old bytes new Over no_end no_over g = absurd (no_over refl)
 
 -- nothing was read
-pub reads_none : (left : Option (List ℕ)) (reading : Reading) → reading.ended ≡ false → reading.given ≤ 2 ^ 26 → ReadsLines left left reading reading []
-reads_none left reading live bound = record { bytes = []; moved = Consumes-nil left; taken = takes_none left reading live bound }
+pub reads_none : (left : Option (List ℕ)) (reading : Reading) → ReadsLines left left reading reading []
+reads_none left reading = by reading.ended refl
+  where
+    by : (ended : Bool) → reading.ended ≡ ended → ReadsLines left left reading reading []
+    by true is = record { bytes = []; moved = Consumes-nil left; taken = inr (record { ended = is; unread = refl; left = refl; stays = refl; none = refl }) }
+    by false is = record { bytes = []; moved = Consumes-nil left; taken = inl (takes_none left reading is) }
 
 pub reads_start : (left : Option (List ℕ)) (reading : Reading) → reading ≡ at_start → ReadsLines left left at_start reading []
-reads_start left reading is = subst (λ (r : Reading). ReadsLines left left at_start r []) (sym is) (reads_none left at_start refl (omega arith))
+reads_start left reading is = subst (λ (r : Reading). ReadsLines left left at_start r []) (sym is) (reads_none left at_start)
+
+-- an end that stays
+same_taken : {mid after : Option (List ℕ)} {first old new : Reading} {bytes more : List ℕ} {lines others : List (Line (List ℕ))} → TakesLines mid first bytes old lines → StaysEnded mid after old more new others → TakesLines after first (bytes ++ more) new (lines ++ others)
+same_taken {mid} {after} {first} {old} {new} {bytes} {more} {lines} {others} t u =
+    subst (λ (r : Reading). TakesLines after first (bytes ++ more) r (lines ++ others)) (sym u.stays)
+    (subst (λ (left : Option (List ℕ)). TakesLines left first (bytes ++ more) old (lines ++ others)) (sym u.left)
+    (subst (λ (ls : List (Line (List ℕ))). TakesLines mid first (bytes ++ more) old ls) (sym (ap (λ ls. lines ++ ls) u.none ∙ append-nil lines))
+    (subst (λ (bs : List ℕ). TakesLines mid first bs old lines) (sym (ap (λ xs. bytes ++ xs) u.unread ∙ append-nil bytes)) t)))
+
+both_none : {A : Type 0} {xs ys : List A} → xs ≡ [] → ys ≡ [] → xs ++ ys ≡ []
+both_none {ys = ys} e f = ap (λ zs. zs ++ ys) e ∙ f
+
+ended_still : {old new : Reading} → old.ended ≡ true → new ≡ old → new.ended ≡ true
+ended_still is same = ap (λ (r : Reading). r.ended) same ∙ is
+
+true_is_not_false : {b : Bool} → b ≡ true → b ≡ false → ⊥
+true_is_not_false t f = cc
+
+-- more lines were read
+pub ReadsLines-append : {before mid after : Option (List ℕ)} {first old new : Reading} {lines others : List (Line (List ℕ))} → ReadsLines before mid first old lines → ReadsLines mid after old new others → ReadsLines before after first new (lines ++ others)
+ReadsLines-append {before} {mid} {after} {first} {old} {new} {lines} {others} r s = record {
+  bytes = r.bytes ++ s.bytes;
+  moved = Consumes-trans before mid after r.bytes s.bytes r.moved s.moved;
+  taken = by r.taken s.taken;
+}
+  where
+    by : TakesLines mid first r.bytes old lines ⊎ StaysEnded before mid first r.bytes old lines → TakesLines after old s.bytes new others ⊎ StaysEnded mid after old s.bytes new others
+        → TakesLines after first (r.bytes ++ s.bytes) new (lines ++ others) ⊎ StaysEnded before after first (r.bytes ++ s.bytes) new (lines ++ others)
+    by (inl t) (inl u) = inl (TakesLines-append t u)
+    by (inl t) (inr u) = inl (same_taken t u)
+    by (inr t) (inl u) = absurd (true_is_not_false (ended_still t.ended t.stays) u.live)
+    by (inr t) (inr u) = inr (record { ended = t.ended; unread = both_none t.unread u.unread; left = u.left ∙ t.left; stays = u.stays ∙ t.stays; none = both_none t.none u.none })
 
 -- one more line was read
 pub reads_line : {before mid after : Option (List ℕ)} {first old new : Reading} {lines : List (Line (List ℕ))} (line : Line (List ℕ)) → ReadsLines before mid first old lines → GivesNext mid after old new (Ok line) → line ≢ End → line ≢ Over → ReadsLines before after first new (lines ++ line ∷ [])
-reads_line {before} {mid} {after} {old = old} {new = new} line r g no_end no_over =
+reads_line {mid = mid} {after = after} {old = old} {new = new} line r g no_end no_over =
     let given = given_line mid after old g.bytes new line no_end no_over g.gives in
-    record {
-      bytes = r.bytes ++ g.bytes;
-      moved = Consumes-trans before mid after r.bytes g.bytes r.moved g.moved;
-      taken = TakesLines-append r.taken given.live (takes_line given);
-    }
+    ReadsLines-append r (record { bytes = g.bytes; moved = g.moved; taken = inl (takes_line given) })
 
--- more lines were read
-pub ReadsLines-append : {before mid after : Option (List ℕ)} {first old new : Reading} {lines others : List (Line (List ℕ))} → ReadsLines before mid first old lines → old.ended ≡ false → ReadsLines mid after old new others → ReadsLines before after first new (lines ++ others)
-ReadsLines-append {before} {mid} {after} r live s = record {
-  bytes = r.bytes ++ s.bytes;
-  moved = Consumes-trans before mid after r.bytes s.bytes r.moved s.moved;
-  taken = TakesLines-append r.taken live s.taken;
-}
+-- the end is told again
+stays_left : {mid after : Option (List ℕ)} (old : Reading) → old.ended ≡ true → HasEnded old mid after → after ≡ mid
+stays_left old is (inl h) = h.1
+stays_left old is (inr h) = absurd (true_is_not_false is h.0)
+
+front_none : {A : Type 0} (xs ys : List A) → xs ++ ys ≡ [] → (xs ≡ []) × (ys ≡ [])
+front_none [] ys e = (refl, e)
+front_none (x ∷ xs) ys e = absurd (let h = e in cc)
+
+ends_again : {before mid after : Option (List ℕ)} {first old new : Reading} {bytes more : List ℕ} {lines : List (Line (List ℕ))} → StaysEnded before mid first bytes old lines → GivesEnd mid after old more new → StaysEnded before after first (bytes ++ more) new lines
+ends_again {old = old} {more = more} t g =
+    let none = front_none old.ahead more g.none in
+    let ended = ended_still t.ended t.stays in
+    record {
+      ended = t.ended;
+      unread = both_none t.unread none.1;
+      left = stays_left old ended g.ended ∙ t.left;
+      stays = g.stands ∙ sym (reading_is old [] old.given true none.0 refl ended) ∙ t.stays;
+      none = t.none;
+    }
 
 -- the end was read
 pub reads_end : {before mid after : Option (List ℕ)} {first old new : Reading} {lines : List (Line (List ℕ))} → ReadsLines before mid first old lines → GivesNext mid after old new (Ok End) → ReadsLines before after first new lines × (new.ended ≡ true)
-reads_end {before} {mid} {after} r g = (
+reads_end {before} {mid} {after} {first} {old} {new} {lines} r g = (
   record {
     bytes = r.bytes ++ g.bytes;
     moved = Consumes-trans before mid after r.bytes g.bytes r.moved g.moved;
-    taken = takes_end r.taken g.gives;
+    taken = ⊎_elim (λ t. inl (takes_end t g.gives)) (λ t. inr (ends_again t g.gives)) r.taken;
   },
   ap (λ (x : Reading). x.ended) g.gives.stands,
 )
@@ -249,21 +308,26 @@ reads_end {before} {mid} {after} r g = (
 pub reads_until : {before mid after : Option (List ℕ)} {first old new : Reading} {lines : List (Line (List ℕ))} {result : Result (Line (List ℕ)) LineStop} → ReadsLines before mid first old lines → GivesNext mid after old new result → ReadsUntil before after first lines result
 reads_until {mid = mid} {old = old} {new = new} r g = record { mid = mid; old = old; new = new; reads = r; gives = g }
 
-pub ReadsUntil-append : {before mid after : Option (List ℕ)} {first old : Reading} {lines others : List (Line (List ℕ))} {result : Result (Line (List ℕ)) LineStop} → ReadsLines before mid first old lines → old.ended ≡ false → ReadsUntil mid after old others result → ReadsUntil before after first (lines ++ others) result
-ReadsUntil-append r live u = record { mid = u.mid; old = u.old; new = u.new; reads = ReadsLines-append r live u.reads; gives = u.gives }
+pub ReadsUntil-append : {before mid after : Option (List ℕ)} {first old : Reading} {lines others : List (Line (List ℕ))} {result : Result (Line (List ℕ)) LineStop} → ReadsLines before mid first old lines → ReadsUntil mid after old others result → ReadsUntil before after first (lines ++ others) result
+ReadsUntil-append r u = record { mid = u.mid; old = u.old; new = u.new; reads = ReadsLines-append r u.reads; gives = u.gives }
 
 -- ---- where a reader stops that began at the start of its input
+-- a reader that began there had not ended
+from_start : {before after : Option (List ℕ)} {bytes : List ℕ} {new : Reading} {lines : List (Line (List ℕ))} → TakesLines after at_start bytes new lines ⊎ StaysEnded before after at_start bytes new lines → TakesLines after at_start bytes new lines
+from_start (inl t) = t
+from_start (inr s) = absurd (true_is_not_false s.ended refl)
+
 -- all lines were taken
 pub stops_at_end : {before after : Option (List ℕ)} {lines : List (Line (List ℕ))} → ReadsUntil before after at_start lines (Ok End) → ReadsAll before after lines
 stops_at_end u =
     let r = reads_end u.reads u.gives in
-    let told = told_all r.0.taken r.1 in
+    let told = told_all (from_start r.0.taken) r.1 in
     record { read = r.0.bytes; moved = r.0.moved; all = told.0; bound = told.1; at_end = told.2 }
 
 -- the lines that end within the limit were taken, and there are more bytes
 pub stops_over : {before after : Option (List ℕ)} {lines : List (Line (List ℕ))} → ReadsUntil before after at_start lines (Ok Over) → ReadsPast before after lines
 stops_over {before} {after} u =
-    let told = told_over u.reads.taken u.gives.gives in
+    let told = told_over (from_start u.reads.taken) u.gives.gives in
     record {
       front = record {
         read = u.reads.bytes ++ u.gives.bytes;
@@ -278,10 +342,10 @@ pub stops_with : {before after : Option (List ℕ)} {lines : List (Line (List �
 stops_with {before} {after} Read u = record {
   read = u.reads.bytes ++ u.gives.bytes;
   moved = Consumes-trans before u.mid after u.reads.bytes u.gives.bytes u.reads.moved u.gives.moved;
-  ended = told_at_fault u.reads.taken u.gives.gives;
+  ended = told_at_fault (from_start u.reads.taken) u.gives.gives;
 }
 stops_with {before} {after} NoMemory u =
-    let part = told_in_part u.reads.taken u.gives.gives u.gives.bytes in
+    let part = told_in_part (from_start u.reads.taken) u.gives.gives u.gives.bytes in
     record {
       more = part.0;
       front = record {
@@ -296,7 +360,7 @@ pub stops_now : {before after : Option (List ℕ)} {new : Reading} {lines : List
 stops_now r = ⊎_elim
     (λ part. inl (record { more = part.0; front = record { read = r.bytes; moved = r.moved; ended = part.1 } }))
     (λ all. inr (record { read = r.bytes; moved = r.moved; all = all.0; bound = all.1; at_end = all.2 }))
-    (told_now r.taken)
+    (told_now (from_start r.taken))
 
 -- a caller stops before it reads
 pub stops_before : (left : Option (List ℕ)) → ReadsFront left left []

@@ -36,7 +36,7 @@ pub record TakesRun (old new : Reading) (before after : Part) (found : Bool) : T
 
 -- the input had ended before, and nothing was read, or nothing is left now
 abbrev pub HasEnded : Reading → Option (List ℕ) → Option (List ℕ) → Type 0
-HasEnded old before after = ((old.ended ≡ true) × (after ≡ before)) ⊎ IsAtEnd after
+HasEnded old before after = ((old.ended ≡ true) × (after ≡ before)) ⊎ ((old.ended ≡ false) × IsAtEnd after)
 
 -- Some bytes are ahead, or the input has ended.
 abbrev pub HasMore : Bool → Reading → Reading → Option (List ℕ) → Option (List ℕ) → Type 0
