@@ -217,7 +217,8 @@ told_now {after} {new} {read} {lines} t = by new.ended refl
 pub gives_as : {before after : Option (List ℕ)} {old new : Reading} {line : Line (List ℕ)} (is : Line (List ℕ)) → line ≡ is → GivesNext before after old new (Ok line) → GivesNext before after old new (Ok is)
 gives_as {before} {after} {old} {new} is same g = subst (λ (l : Line (List ℕ)). GivesNext before after old new (Ok l)) same g
 
-given_line : (before after : Option (List ℕ)) (old : Reading) (bytes : List ℕ) (new : Reading) (line : Line (List ℕ)) → line ≢ End → line ≢ Over → Gives before after old bytes new (Ok line) → GivesLine after old bytes new line
+-- a line that is given is no end
+pub given_line : (before after : Option (List ℕ)) (old : Reading) (bytes : List ℕ) (new : Reading) (line : Line (List ℕ)) → line ≢ End → line ≢ Over → Gives before after old bytes new (Ok line) → GivesLine after old bytes new line
 given_line before after old bytes new (Text text) no_end no_over g = g
 given_line before after old bytes new (Long len) no_end no_over g = g
 given_line before after old bytes new End no_end no_over g = absurd (no_end refl)

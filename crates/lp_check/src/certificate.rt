@@ -49,6 +49,12 @@ impl Parts {
         }
     }
 
+    pub fn from_vec(items: Vec<Part>) -> Self
+        ensures { result ≡ items.items }
+    {
+        Parts { items }
+    }
+
     /// Adds a part at the end.
     pub fn push(&mut self, part: Part) -> Result<(), AllocError>
         ensures ok { OnOk result (self.new ≡ self.old ++ part ∷ []) }

@@ -1,0 +1,8 @@
+//! One session: it holds a model, and replies to what it is asked.
+//!
+//! Session     steps as the one-session machine: src/session
+#![tactic(auto)]
+
+mod session;
+
+pub use session::Session;

@@ -1,0 +1,3 @@
+-- Lemmas.
+pub mod Answering
+pub mod Turns

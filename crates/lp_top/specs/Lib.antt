@@ -1,0 +1,4 @@
+pub mod Answer
+pub mod Run
+pub mod Stop
+pub mod Top

@@ -1,0 +1,79 @@
+// The run of a script.
+ghost use Rattle.std.specs.Prelude.{◌≡◌, ◌≤◌, IsErrOf};
+ghost use Rattle.lp_base.specs.Causes.{Rose};
+ghost use Rattle.lp_top.specs.declared.run.Stop.TheVariants.{Read, Write, NoMemory};
+ghost use Rattle.lp_top.specs.Run.{Runs, EndsAs};
+
+use crate::answer::respond;
+use crate::sessions::Sessions;
+use lp_base::{Line, LineStop, Lines, Sink, Source, WriteFault};
+use lp_line::ScriptReader;
+use std::alloc::{AllocError, Global};
+
+/// Why a run stops before its script has ended between two commands.
+#[derive(Clone, Copy, Debug, PartialEq, Eq)]
+pub enum Stop {
+    Read,
+    Write,
+    NoMemory,
+    Cut,
+    Over,
+}
+
+impl From<LineStop> for Stop {
+    ghost use Rattle.lp_top.specs.Stop.{stop_of};
+
+    ghost from_gives = { λ e stop. stop ≡ stop_of e };
+
+    fn from(stop: LineStop) -> Self {
+        match stop {
+            LineStop::Read => Stop::Read,
+            LineStop::NoMemory => Stop::NoMemory,
+        }
+    }
+}
+
+impl From<WriteFault> for Stop {
+    ghost from_gives = { λ _ stop. stop ≡ Write };
+
+    fn from(_: WriteFault) -> Self {
+        Stop::Write
+    }
+}
+
+impl From<AllocError> for Stop {
+    ghost from_gives = { λ _ stop. stop ≡ NoMemory };
+
+    fn from(_: AllocError) -> Self {
+        Stop::NoMemory
+    }
+}
+
+/// Answers each ask of the script that the source gives.
+pub fn run<S: Source, K: Sink>(alloc: Global, src: &mut S, out: &mut K) -> Result<(), Stop>
+    ensures output { Runs (S.left src.old) (S.left src.new) (K.taken out.old) (K.taken out.new) result }
+    ensures read { IsErrOf result Stop.Read → Rose (S.read_faults src.old) (S.read_faults src.new) }
+    ensures write { IsErrOf result Stop.Write → Rose (K.write_faults out.old) (K.write_faults out.new) }
+{
+    let mut lines = Lines::new(alloc)?;
+    let mut reader = ScriptReader::new(alloc);
+    let mut sessions = Sessions::new(alloc)?;
+    loop {
+        match lines.next(src)? {
+            Line::End => return end_of(&reader),
+            Line::Over => return Err(Stop::Over),
+            line => respond(alloc, &mut reader, &mut sessions, line, out)?,
+        }
+    }
+}
+
+// How the run of a script ends, at the end of its input.
+fn end_of(reader: &ScriptReader) -> Result<(), Stop>
+    ensures { EndsAs reader.now result }
+{
+    if reader.is_between() {
+        Ok(())
+    } else {
+        Err(Stop::Cut)
+    }
+}

@@ -1,0 +1,116 @@
+use crate::{Status, lpd_top};
+use lp_base::{Bytes, MemSink, MemSource, Texts};
+use std::alloc::{AllocError, Global};
+use std::test::Fail;
+
+const SCRIPT: &str =
+    "# a model and its certificate\n1 LOAD FREE\nNAME a\nROWS\n N cost\n G R1\nCOLUMNS\n x cost 1 R1 1\nRHS\n R1 1\nENDATA\r\n\t1  CHECK\nOPTIMAL\nx x 1\ny R1 1\nEND\n\n2 CHECK\nOPTIMAL\nEND\n1 SOLVE";
+
+const REPLIES: &str = "1 LOADED 1 1\n1 YES OPTIMAL 1\n2 ERR 4 NOMODEL\n1 ERR 15 NOTBUILT\n";
+
+// A source of these bytes in pieces of this size, whose reads fail where they are listed.
+fn source(alloc: Global, text: &str, size: usize, fails: &[u64]) -> Result<MemSource, AllocError> {
+    let mut pieces = Texts::new(alloc);
+    let mut piece = Bytes::new(alloc);
+    for byte in text.as_bytes() {
+        piece.push(*byte)?;
+        if piece.len() >= size {
+            pieces.push(piece)?;
+            piece = Bytes::new(alloc);
+        }
+    }
+    pieces.push(piece)?;
+    Ok(MemSource::new(pieces, fails.to_vec(alloc)?))
+}
+
+fn words(alloc: Global, all: &[&str]) -> Result<Vec<String>, AllocError> {
+    let mut words = Vec::new(alloc);
+    for word in all {
+        words.push(word.to_string(alloc)?)?;
+    }
+    Ok(words)
+}
+
+#[test]
+fn a_script_in_pieces(rt: HostRuntime) -> Result<(), Fail> {
+    let alloc = rt.alloc();
+    let words = words(alloc, &["run"])?;
+    for size in [1, 3, 7, 4096] {
+        let mut src = source(alloc, SCRIPT, size, &[])?;
+        let mut out = MemSink::new(alloc, Vec::new(alloc));
+        let status = lpd_top(alloc, &words, &mut src, &mut out);
+        assert_eq!(rt; status, Status::DONE, "in pieces of {size}");
+        assert_eq!(rt; out.written(), REPLIES.as_bytes(), "in pieces of {size}");
+    }
+    Ok(())
+}
+
+#[test]
+fn scripts_and_their_output(rt: HostRuntime) -> Result<(), Fail> {
+    let alloc = rt.alloc();
+    let words = words(alloc, &["run"])?;
+    for (script, status, output) in [
+        ("", 0, ""),
+        ("1 LOAD FREE\nNAME z\n", 6, ""),
+        ("1 JUMP\n1 CHECK\nOPTIMAL", 6, "1 ERR 15 NOTBUILT\n"),
+        (
+            "65 CHECK\n01 CHECK\nx\n 64\n",
+            0,
+            "0 ERR 15 NOTBUILT\n0 ERR 15 NOTBUILT\n0 ERR 15 NOTBUILT\n64 ERR 15 NOTBUILT\n",
+        ),
+        ("3 LOAD FREE\nNAME a b\nENDATA\n", 0, "3 ERR 15 NOTBUILT\n"),
+        (
+            "1 LOAD FREE\nNAME z\nROWS\n N c\n L r\nCOLUMNS\n x c 2 r 1\n y c 3\nRHS\n c -4\n r 9\nENDATA\n1 CHECK\nOPTIMAL\nx x 1\nEND\n1 CHECK\nOPTIMAL\nx x -1\nEND\n1 CHECK\nOPTIMAL\nx x 10\nEND\n1 CHECK\nOPTIMAL\nEND\n1 CHECK\nOPTIMAL\ny r 1\nEND\n1 CHECK\nOPTIMAL\nx z 1\nEND\n",
+            0,
+            "1 LOADED 1 2\n1 NO 3\n1 NO 1\n1 NO 2\n1 YES OPTIMAL 4\n1 NO 4\n1 ERR 5 NAME z\n",
+        ),
+    ] {
+        let mut src = source(alloc, script, 5, &[])?;
+        let mut out = MemSink::new(alloc, Vec::new(alloc));
+        let ended = lpd_top(alloc, &words, &mut src, &mut out);
+        assert_eq!(rt; ended.code, status, "{script}");
+        assert_eq!(rt; out.written(), output.as_bytes(), "{script}");
+    }
+    Ok(())
+}
+
+#[test]
+fn faults_in_mid_stream(rt: HostRuntime) -> Result<(), Fail> {
+    let alloc = rt.alloc();
+    let words = words(alloc, &["run"])?;
+    let mut src = source(alloc, SCRIPT, 160, &[2])?;
+    let mut out = MemSink::new(alloc, Vec::new(alloc));
+    let status = lpd_top(alloc, &words, &mut src, &mut out);
+    assert_eq!(rt; status, Status::READ);
+    assert_eq!(rt;
+        out.written(),
+        b"1 LOADED 1 1\n1 YES OPTIMAL 1\n".as_slice()
+    );
+
+    let mut src = source(alloc, SCRIPT, 160, &[])?;
+    let mut out = MemSink::new(alloc, vec![in alloc; 2]?);
+    let status = lpd_top(alloc, &words, &mut src, &mut out);
+    assert_eq!(rt; status, Status::WRITE);
+    assert_eq!(rt; out.written(), b"1 LOADED 1 1\n".as_slice());
+    Ok(())
+}
+
+#[test]
+fn other_words(rt: HostRuntime) -> Result<(), Fail> {
+    let alloc = rt.alloc();
+    for all in [
+        &[] as &[&str],
+        &["stop"],
+        &["run", "run"],
+        &["run", "--workers=2"],
+        &["gen", "1", "1"],
+    ] {
+        let words = words(alloc, all)?;
+        let mut src = source(alloc, SCRIPT, 100, &[])?;
+        let mut out = MemSink::new(alloc, Vec::new(alloc));
+        let status = lpd_top(alloc, &words, &mut src, &mut out);
+        assert_eq!(rt; status, Status::BAD_COMMAND_LINE);
+        assert!(rt; out.written().is_empty());
+    }
+    Ok(())
+}
