@@ -2,9 +2,9 @@
 ghost use Rattle.std.specs.Prelude.{◌≡◌, ◌≤◌, ◌<◌, List, [], ◌∷◌, ℕ, length, drop, IfOk, IsTrue};
 ghost use Rattle.spec_text.specs.declared.line.Line.TheVariants as line;
 ghost use Rattle.spec_mps.specs.Cards as cards;
-ghost use Rattle.spec_check.specs.Text as texts;
 ghost use Rattle.spec_server.specs.Script as script;
 
+use first_form::has_only;
 use lp_base::{Line, Texts, are_same, is_blank, words};
 use spec_server::Command;
 use std::alloc::{AllocError, Global};
@@ -124,12 +124,6 @@ fn begins_with_word(words: &Texts, word: &[u8]) -> bool
     !words.is_empty() && are_same(words.at(0), word)
 }
 
-fn is_only(words: &Texts, word: &[u8]) -> bool
-    ensures { result ≡ texts.is_only word.now words.now }
-{
-    words.len() == 1 && are_same(words.at(0), word)
-}
-
 /// Whether a line is the last one of a text of a model.
 #[tactic(auto, unfolding(spec_server::specs::Script::ends_text))]
 pub fn ends_text(alloc: Global, next: &Line) -> Result<bool, AllocError>
@@ -147,15 +141,9 @@ pub fn ends_text(alloc: Global, next: &Line) -> Result<bool, AllocError>
 }
 
 /// Whether a line is the last one of a certificate.
-#[tactic(auto, unfolding(spec_server::specs::Script::ends_certificate, spec_check::specs::Text::has_only))]
+#[tactic(auto, unfolding(spec_server::specs::Script::ends_certificate))]
 pub fn ends_certificate(alloc: Global, next: &Line) -> Result<bool, AllocError>
     ensures { IfOk result (λ ends. ends ≡ script.ends_certificate next.now) }
 {
-    match next {
-        Line::Text(text) => {
-            let words = words(alloc, text.as_slice())?;
-            Ok(is_only(&words, b"END"))
-        }
-        Line::Long(_) | Line::End | Line::Over => Ok(false),
-    }
+    has_only(alloc, b"END", next)
 }

@@ -1,9 +1,9 @@
 -- What holds of each model that is kept.
-use Rattle.std.specs.Prelude.{ℕ, ◌<◌, ◌≤◌, ◌≢◌, ◌^◌, ◌&&◌, Bool, true, not, pos, List, ◌∷◌, length, map, nat_lt, nat_le, codes, All, AllPairs, IsTrue, Option, IfSome}
+use Rattle.std.specs.Prelude.{ℕ, ◌<◌, ◌≤◌, ◌≢◌, ◌^◌, ◌&&◌, Bool, not, pos, List, ◌∷◌, length, map, nat_lt, nat_le, codes, All, AllPairs, IsTrue, Option, IfSome}
 use Rattle.std.specs.List.{list_all, position}
 use Rattle.spec_text.specs.Words.{same}
 use Rattle.spec_exact.specs.Fraction.{ℚ, 0ℚ, whole, abs_ℚ, ◌<ℚ◌}
-use Rattle.spec_model.specs.Model.{Model, Name, ExactRow, ExactColumn}
+use Rattle.spec_model.specs.Model.{Model, Name, ExactColumn}
 
 -- the most rows and columns
 abbrev pub row_limit : ℕ

@@ -1,2 +1,4 @@
+-- Lemmas.
 pub mod RunLemmas
 pub mod ScriptLemmas
+pub mod Truth

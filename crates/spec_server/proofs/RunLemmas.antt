@@ -1,9 +1,9 @@
 -- Runs of the one-session machine, one after another, and side by side.
-use Rattle.std.proofs.Common.{◌≡◌, ℕ, Bool, true, false, List, [], ◌∷◌, ◌++◌, cond, map, refl, sym, ap, ◌∙◌, subst, inl, nat_eq, eqb-true, append_assoc}
+use Rattle.std.proofs.Common.{◌≡◌, ℕ, Bool, true, false, List, [], ◌∷◌, ◌++◌, cond, map, refl, ap, subst, inl, nat_eq, eqb-true}
 use Rattle.std.proofs.lemmas.List.Elements.{filter-append}
 use Rattle.std.proofs.lemmas.Grind.{flat_map-append}
 use Rattle.spec_server.specs.declared.asks.Asked.{Asked}
-use Rattle.spec_server.specs.Machine.{ExactAsk, State, opening, reply_to, state_after, AloneStep, Exchange, asked_in, AloneRun, of_session, RunFits}
+use Rattle.spec_server.specs.Machine.{ExactAsk, State, reply_to, state_after, AloneStep, Exchange, asked_in, AloneRun, of_session}
 use Rattle.spec_server.specs.Output.{reply_line, script_out}
 
 -- a run goes on with another

@@ -1,10 +1,9 @@
 -- A script's asks, line by line.
 use Rattle.std.proofs.Common.{◌≡◌, ◌≤◌, ℕ, Bool, true, false, ◌&&◌, not, cond, Option, Some, None, List, [], ◌∷◌, ◌++◌, length, nat_le, nat_lt, refl, sym, ap, ◌∙◌, subst, append_assoc, arith, leb-true}
-use Rattle.std.specs.Option.{option_to_list}
 use Rattle.std.specs.List.{list_all}
 use Rattle.spec_text.specs.declared.line.Line.{Line}
 use Rattle.spec_text.specs.declared.line.Line.TheVariants as line
-use Rattle.spec_text.specs.Words.{same, words_of}
+use Rattle.spec_text.specs.Words.{words_of}
 use Rattle.spec_mps.specs.Numbers.{is_digit, spelled_from}
 use Rattle.spec_server.specs.declared.asks.Asked.{Asked}
 use Rattle.spec_server.specs.declared.command.Command.{Command}
