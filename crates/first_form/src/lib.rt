@@ -20,6 +20,8 @@ mod names;
 mod number;
 mod rows;
 mod targets;
+#[cfg(test)]
+mod tests;
 mod text;
 
 pub use certificate::{Part, has_only, read_certificate};
