@@ -1,5 +1,6 @@
 -- The code's draft of a model, as the definition has it.
-use Rattle.std.specs.Prelude.{◌≡◌, Bool, true, false, Option, Some, None}
+use Rattle.std.specs.Prelude.{◌≡◌, Bool, true, false, Option, Some, None, Result, IfOk}
+use Rattle.std.specs.declared.alloc.AllocError.{AllocError}
 use Rattle.first_form.specs.declared.draft.Draft.{Draft}
 use Rattle.first_form.specs.declared.draft.Section.{Section}
 use Rattle.first_form.specs.declared.draft.Section.TheVariants as section
@@ -34,6 +35,10 @@ draft_of d =
     }
 
 -- whether a step of the definition goes on, and to which draft
-abbrev pub GoesTo : Option told.Draft → Bool → told.Draft → Type 0
-GoesTo step true d = step ≡ Some d
+abbrev pub GoesTo : Option told.Draft → Bool → Draft → Type 0
+GoesTo step true d = step ≡ Some (draft_of d)
 GoesTo step false d = step ≡ None
+
+-- a step of the code does so, unless memory runs out
+abbrev pub Follows : Option told.Draft → Result Bool AllocError → Draft → Type 0
+Follows step result d = IfOk result (λ went. GoesTo step went d)

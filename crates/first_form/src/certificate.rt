@@ -1,5 +1,5 @@
 // Texts of certificates.
-ghost use Rattle.std.specs.Prelude.{◌≡◌, Bool, [], Option, Some, None, option_map, IfOk};
+ghost use Rattle.std.specs.Prelude.{◌≡◌, [], option_map, IfOk};
 ghost use Rattle.spec_check.specs.Text as told;
 
 use crate::draft::is_only;
@@ -15,7 +15,8 @@ pub type Part = spec_check::Part<Name, Frac>;
 /// The parts that the lines of a certificate spell, if they are of the first form.
 #[tactic(auto, unfolding(spec_check::specs::Text::certificate_text_of))]
 pub fn read_certificate(alloc: Global, lines: &[Line]) -> Result<Option<Vec<Part>>, AllocError>
-    ensures { IfOk result (λ found. option_map (λ parts. parts.items) found ≡ told.certificate_text_of lines.now) }
+    ensures { IfOk result (λ found.
+        option_map (λ parts. parts.items) found ≡ told.certificate_text_of lines.now) }
 {
     let Some((first, lines)) = lines.split_first() else {
         return Ok(None);

@@ -1,5 +1,5 @@
 // The numbers of a column that is read.
-ghost use Rattle.std.specs.Prelude.{◌≡◌, ◌≤◌, ℕ, length, IfOk, OnOk};
+ghost use Rattle.std.specs.Prelude.{◌≡◌, ◌≤◌, length, IfOk, OnOk};
 ghost use Rattle.std.specs.List.{insert};
 ghost use Rattle.spec_exact.specs.Fraction.{ℚ};
 ghost use Rattle.spec_mps.specs.FirstForm as told;

@@ -1,12 +1,13 @@
-// What was read of a text so far. A step answers whether it goes on, and leaves no promise where it does not.
-ghost use Rattle.std.specs.Prelude.{◌≡◌, [], ◌∷◌, ◌&&◌, not, nat_lt, length, None, Some, option_map, IfOk, IfSome, OnOk, codes};
+// What was read of a text so far. A step answers whether it goes on. Where it does not, the draft is of
+// no more use.
+ghost use Rattle.std.specs.Prelude.{◌≡◌, ◌&&◌, not, nat_lt, length, None, option_map, IfOk, IfSome, OnOk};
 ghost use Rattle.std.specs.List.{list_any};
 ghost use Rattle.spec_text.specs.Words.{same};
 ghost use Rattle.spec_model.specs.Kept.{IsModel, is_name as is_name_of, column_limit};
 ghost use Rattle.spec_mps.specs.Cards.{free_card};
 ghost use Rattle.spec_mps.specs.FirstForm as told;
 ghost use Rattle.spec_check.specs.Text as check;
-ghost use Rattle.first_form.specs.Draft.{draft_of, type_of, GoesTo};
+ghost use Rattle.first_form.specs.Draft.{draft_of, type_of, Follows, GoesTo};
 
 use crate::cards::{begins_with_blank, is_skipped};
 use crate::columns::{make_column, put_number};
@@ -107,7 +108,7 @@ impl Draft {
     /// Reads a line.
     #[tactic(auto, unfolding(spec_mps::specs::FirstForm::step))]
     pub(crate) fn step(&mut self, line: &Line) -> Result<bool, AllocError>
-        ensures { IfOk result (λ went. GoesTo (told.step (draft_of self.old) line.now) went (draft_of self.new)) }
+        ensures { Follows (told.step (draft_of self.old) line.now) result self.new }
     {
         match line {
             Line::Text(bytes) => self.card(bytes.as_slice()),
@@ -117,7 +118,7 @@ impl Draft {
 
     #[tactic(auto, unfolding(spec_mps::specs::Cards::free_card))]
     fn card(&mut self, line: &[u8]) -> Result<bool, AllocError>
-        ensures { IfOk result (λ went. GoesTo (told.on_card (draft_of self.old) (free_card line.now)) went (draft_of self.new)) }
+        ensures { Follows (told.on_card (draft_of self.old) (free_card line.now)) result self.new }
     {
         if is_skipped(line) {
             return Ok(true);
@@ -131,7 +132,7 @@ impl Draft {
     }
 
     fn data_card(&mut self, fields: &Texts) -> Result<bool, AllocError>
-        ensures { IfOk result (λ went. GoesTo (told.data_card (draft_of self.old) (draft_of self.old).part fields.now) went (draft_of self.new)) }
+        ensures { let d = draft_of self.old in Follows (told.data_card d d.part fields.now) result self.new }
     {
         match self.section {
             Section::Rows => self.rows_card(fields),
@@ -142,7 +143,7 @@ impl Draft {
     }
 
     fn rows_card(&mut self, fields: &Texts) -> Result<bool, AllocError>
-        ensures { IfOk result (λ went. GoesTo (told.data_card (draft_of self.old) told.Rows fields.now) went (draft_of self.new)) }
+        ensures { Follows (told.data_card (draft_of self.old) told.Rows fields.now) result self.new }
     {
         if fields.len() != 2 {
             return Ok(false);
@@ -151,7 +152,7 @@ impl Draft {
     }
 
     fn columns_card(&mut self, fields: &Texts) -> Result<bool, AllocError>
-        ensures { IfOk result (λ went. GoesTo (told.data_card (draft_of self.old) told.Columns fields.now) went (draft_of self.new)) }
+        ensures { Follows (told.data_card (draft_of self.old) told.Columns fields.now) result self.new }
     {
         let len = fields.len();
         if len != 3 && len != 5 {
@@ -170,7 +171,7 @@ impl Draft {
     }
 
     fn right_sides_card(&mut self, fields: &Texts) -> Result<bool, AllocError>
-        ensures { IfOk result (λ went. GoesTo (told.data_card (draft_of self.old) told.RightSides fields.now) went (draft_of self.new)) }
+        ensures { Follows (told.data_card (draft_of self.old) told.RightSides fields.now) result self.new }
     {
         if fields.len() != 2 {
             return Ok(false);
@@ -205,7 +206,7 @@ impl Draft {
 
     #[tactic(auto, unfolding(spec_mps::specs::FirstForm::row_card))]
     fn row_card(&mut self, word: &[u8], name: &[u8]) -> Result<bool, AllocError>
-        ensures { IfOk result (λ went. GoesTo (told.row_card (draft_of self.old) word.now name.now) went (draft_of self.new)) }
+        ensures { Follows (told.row_card (draft_of self.old) word.now name.now) result self.new }
     {
         let Some(row_type) = row_type(word) else {
             return Ok(false);
@@ -220,7 +221,7 @@ impl Draft {
     }
 
     fn add_objective(&mut self, name: &[u8]) -> Result<bool, AllocError>
-        ensures { IfOk result (λ went. GoesTo (told.add_row (draft_of self.old) told.ObjectiveType name.now) went (draft_of self.new)) }
+        ensures { Follows (told.add_row (draft_of self.old) told.ObjectiveType name.now) result self.new }
     {
         if self.objective.is_some() {
             return Ok(false);
@@ -230,7 +231,7 @@ impl Draft {
     }
 
     fn add_row(&mut self, kind: Kind, name: &[u8]) -> Result<bool, AllocError>
-        ensures { IfOk result (λ went. GoesTo (told.add_row (draft_of self.old) (told.KindType kind) name.now) went (draft_of self.new)) }
+        ensures { Follows (told.add_row (draft_of self.old) (told.KindType kind) name.now) result self.new }
     {
         if !self.rows.has_room() {
             return Ok(false);
@@ -253,7 +254,8 @@ impl Draft {
 
     // No more cards are read of the column.
     fn close(&mut self) -> Result<(), AllocError>
-        ensures { OnOk result (draft_of self.new ≡ record (draft_of self.old) { columns = told.whole_columns (draft_of self.old); column = None }) }
+        ensures { OnOk result (draft_of self.new ≡
+            record (draft_of self.old) { columns = told.whole_columns (draft_of self.old); column = None }) }
     {
         if let Some(column) = self.column.take() {
             self.columns.push(column)?;
@@ -261,10 +263,10 @@ impl Draft {
         Ok(())
     }
 
-    // Cards of this column are read, or of none that is there already.
+    // From now on cards are read of this column, unless a whole one has its name.
     #[tactic(auto, unfolding(spec_mps::specs::FirstForm::opened))]
     fn open(&mut self, name: &[u8]) -> Result<bool, AllocError>
-        ensures { IfOk result (λ went. GoesTo (told.opened (draft_of self.old) name.now) went (draft_of self.new)) }
+        ensures { Follows (told.opened (draft_of self.old) name.now) result self.new }
     {
         if self.is_open(name) {
             return Ok(true);
@@ -280,7 +282,7 @@ impl Draft {
 
     #[tactic(auto, unfolding(spec_mps::specs::FirstForm::column_pair))]
     fn pair(&mut self, name: &[u8], text: &[u8]) -> Result<bool, AllocError>
-        ensures { IfOk result (λ went. GoesTo (told.column_pair (draft_of self.old) name.now text.now) went (draft_of self.new)) }
+        ensures { Follows (told.column_pair (draft_of self.old) name.now text.now) result self.new }
     {
         let Some(target) = self.target_of(name) else {
             return Ok(false);
@@ -302,7 +304,7 @@ impl Draft {
 
     #[tactic(auto, unfolding(spec_mps::specs::FirstForm::side_card))]
     fn side_card(&mut self, name: &[u8], text: &[u8]) -> Result<bool, AllocError>
-        ensures { IfOk result (λ went. GoesTo (told.side_card (draft_of self.old) name.now text.now) went (draft_of self.new)) }
+        ensures { Follows (told.side_card (draft_of self.old) name.now text.now) result self.new }
     {
         let Some(target) = self.target_of(name) else {
             return Ok(false);
@@ -331,7 +333,7 @@ impl Draft {
     // ---- sections
 
     fn section_card(&mut self, words: &Texts) -> Result<bool, AllocError>
-        ensures { IfOk result (λ went. GoesTo (told.section_card (draft_of self.old) (draft_of self.old).part words.now) went (draft_of self.new)) }
+        ensures { let d = draft_of self.old in Follows (told.section_card d d.part words.now) result self.new }
     {
         match self.section {
             Section::Head => self.begin(words),
@@ -344,7 +346,7 @@ impl Draft {
     }
 
     fn begin(&mut self, words: &Texts) -> Result<bool, AllocError>
-        ensures { IfOk result (λ went. GoesTo (told.section_card (draft_of self.old) told.Head words.now) went (draft_of self.new)) }
+        ensures { Follows (told.section_card (draft_of self.old) told.Head words.now) result self.new }
     {
         if words.len() != 2 {
             return Ok(false);
@@ -358,7 +360,7 @@ impl Draft {
     }
 
     fn begin_rows(&mut self, words: &Texts) -> bool
-        ensures { GoesTo (told.section_card (draft_of self.old) told.Named words.now) result (draft_of self.new) }
+        ensures { GoesTo (told.section_card (draft_of self.old) told.Named words.now) result self.new }
     {
         if !is_only(words, b"ROWS") {
             return false;
@@ -368,7 +370,7 @@ impl Draft {
     }
 
     fn begin_columns(&mut self, words: &Texts) -> bool
-        ensures { GoesTo (told.section_card (draft_of self.old) told.Rows words.now) result (draft_of self.new) }
+        ensures { GoesTo (told.section_card (draft_of self.old) told.Rows words.now) result self.new }
     {
         if !is_only(words, b"COLUMNS") || self.objective.is_none() {
             return false;
@@ -378,7 +380,7 @@ impl Draft {
     }
 
     fn begin_right_sides(&mut self, words: &Texts) -> Result<bool, AllocError>
-        ensures { IfOk result (λ went. GoesTo (told.section_card (draft_of self.old) told.Columns words.now) went (draft_of self.new)) }
+        ensures { Follows (told.section_card (draft_of self.old) told.Columns words.now) result self.new }
     {
         if !is_only(words, b"RHS") {
             return Ok(false);
@@ -389,7 +391,7 @@ impl Draft {
     }
 
     fn end(&mut self, words: &Texts) -> bool
-        ensures { GoesTo (told.section_card (draft_of self.old) told.RightSides words.now) result (draft_of self.new) }
+        ensures { GoesTo (told.section_card (draft_of self.old) told.RightSides words.now) result self.new }
     {
         if !is_only(words, b"ENDATA") {
             return false;
@@ -432,7 +434,9 @@ impl Draft {
 
 // Whether a column may be added with this name.
 fn is_new(columns: &[Column], name: &[u8]) -> bool
-    ensures { result ≡ (is_name_of name.now && not (list_any (λ c. same c.name name.now) columns.now) && nat_lt (length columns.now) column_limit) }
+    ensures { result ≡ (is_name_of name.now
+        && not (list_any (λ c. same c.name name.now) columns.now)
+        && nat_lt (length columns.now) column_limit) }
 {
     is_name(name) && !has_column(columns, name) && columns.len() < MAX_COLUMNS
 }

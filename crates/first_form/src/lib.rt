@@ -8,8 +8,8 @@
 //! | `has_only` | whether a line is one word |
 //! | `Part` | a part of a certificate |
 //!
-//! What is of the form, and what it spells, is said by the specs of `spec_mps` and `spec_check`. A text that is not
-//! of the form is no error: the readers answer `None`.
+//! What is of the form, and what it spells, is said by the specs of `spec_mps` and `spec_check`.
+//! A text that is not of the form is no error: the readers answer `None`.
 #![tactic(auto)]
 
 mod cards;
@@ -20,6 +20,8 @@ mod names;
 mod number;
 mod rows;
 mod targets;
+#[cfg(test)]
+mod tests;
 mod text;
 
 pub use certificate::{Part, has_only, read_certificate};

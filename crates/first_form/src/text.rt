@@ -1,5 +1,5 @@
 // Whole texts.
-ghost use Rattle.std.specs.Prelude.{◌≡◌, Option, Some, None, option_map, IfOk};
+ghost use Rattle.std.specs.Prelude.{◌≡◌, option_map, IfOk};
 ghost use Rattle.spec_mps.specs.FirstForm as told;
 ghost use Rattle.first_form.specs.Draft.{draft_of};
 
