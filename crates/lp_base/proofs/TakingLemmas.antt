@@ -273,6 +273,12 @@ reads_line {mid = mid} {after = after} {old = old} {new = new} line r g no_end n
     let given = given_line mid after old g.bytes new line no_end no_over g.gives in
     ReadsLines-append r (record { bytes = g.bytes; moved = g.moved; taken = inl (takes_line given) })
 
+pub reads_text : {before mid after : Option (List ℕ)} {first old new : Reading} {lines : List (Line (List ℕ))} {line : Line (List ℕ)} (text : List ℕ) → ReadsLines before mid first old lines → GivesNext mid after old new (Ok line) → line ≡ Text text → ReadsLines before after first new (lines ++ Text text ∷ [])
+reads_text text r g is = reads_line (Text text) r (gives_as (Text text) is g) (λ e. cc) (λ e. cc)
+
+pub reads_long : {before mid after : Option (List ℕ)} {first old new : Reading} {lines : List (Line (List ℕ))} {line : Line (List ℕ)} (len : ℕ) → ReadsLines before mid first old lines → GivesNext mid after old new (Ok line) → line ≡ Long len → ReadsLines before after first new (lines ++ Long len ∷ [])
+reads_long len r g is = reads_line (Long len) r (gives_as (Long len) is g) (λ e. cc) (λ e. cc)
+
 -- the end is told again
 stays_left : {mid after : Option (List ℕ)} (old : Reading) → old.ended ≡ true → HasEnded old mid after → after ≡ mid
 stays_left old is (inl h) = h.1
