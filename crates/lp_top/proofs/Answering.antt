@@ -1,18 +1,17 @@
 -- What the answer to a line of a script is, from the answer to its ask.
-use Rattle.std.proofs.Common.{◌≡◌, ◌≢◌, ℕ, List, [], ◌∷◌, ◌++◌, map, Option, Result, Ok, Err, Bool, true, false, nat_eq, ap, sym, ◌∙◌, append-nil, refl, subst, eqb-true, eq-eqb, cond}
-use Rattle.std.specs.Prelude.{OnOk, Some, None}
+use Rattle.std.proofs.Common.{◌≡◌, ◌≢◌, ℕ, List, [], ◌∷◌, Option, Result, Ok, Err, Bool, true, false, nat_eq, ap, sym, ◌∙◌, append-nil, refl, subst, eqb-true, eq-eqb, cond}
+use Rattle.std.specs.Prelude.{OnOk}
 use Rattle.std.specs.Io.KnownBytes.{Appends}
 use Rattle.std.proofs.KnownBytes.{Appends-nil}
-use Rattle.spec_text.specs.Lines.{IsPrefixOf}
 use Rattle.spec_text.specs.declared.line.Line.{Line}
 use Rattle.spec_server.specs.declared.asks.Asked.{Asked}
 use Rattle.spec_server.specs.declared.pending.Pending.{Pending}
-use Rattle.spec_server.specs.Machine.{ExactAsk, ExactReply, State, AloneStep, Exchange, asked_in, AloneRun, of_session}
+use Rattle.spec_server.specs.Machine.{ExactAsk, ExactReply, State, AloneStep, Exchange, AloneRun, of_session}
 use Rattle.spec_server.specs.Script.{asks_of_line, pending_after_line}
 use Rattle.spec_server.specs.Output.{reply_line, script_out}
 use Rattle.spec_server.proofs.RunLemmas.{answered, asked_in-answered, answered_runs}
 use Rattle.lp_base.specs.Beside.{Takes}
-use Rattle.lp_top.specs.Answer.{state_at, Steps, Answers, AnswersInPart, Responds, RespondsInPart}
+use Rattle.lp_top.specs.Answer.{state_at, Answers, AnswersInPart, Responds, RespondsInPart}
 
 not_equal : (a b : ℕ) → nat_eq a b ≡ false → b ≢ a
 not_equal a b e same = let f : nat_eq a a ≡ false = ap (nat_eq a) (sym same) ∙ e in let g : nat_eq a a ≡ true = eq-eqb a a refl in cc

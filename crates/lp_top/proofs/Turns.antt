@@ -1,8 +1,8 @@
 -- A script's run, line by line, and what it is where it stops.
-use Rattle.std.proofs.Common.{◌≡◌, ◌≢◌, ℕ, ◌^◌, ◌≤◌, ◌<◌, ◌⊎◌, zero, suc, take, List, [], ◌∷◌, ◌++◌, length, map, replicate, Option, Result, Ok, Err, Bool, true, false, cond, nat_eq, nat_le, arith, ap, sym, ◌∙◌, append_assoc, append-nil, length-append, refl, inl, inr, subst, ⊎_elim, le-leb}
+use Rattle.std.proofs.Common.{◌≡◌, ◌≢◌, ℕ, ◌^◌, ◌≤◌, ◌<◌, ◌⊎◌, zero, suc, take, List, [], ◌∷◌, ◌++◌, length, map, replicate, Option, Result, Ok, Err, Bool, true, false, cond, nat_le, arith, ap, sym, ◌∙◌, append_assoc, append-nil, length-append, refl, inl, inr, subst, ⊎_elim, le-leb}
 use Rattle.std.specs.Prelude.{slice_index_or}
 use Rattle.std.proofs.lemmas.Bool.{lt-leb}
-use Rattle.std.specs.Io.KnownBytes.{Consumes, Appends, IsAtEnd}
+use Rattle.std.specs.Io.KnownBytes.{Appends}
 use Rattle.std.proofs.KnownBytes.{Appends-trans, Consumes-nil, Appends-nil}
 use Rattle.spec_text.specs.Lines.{lines_of, ended_lines_of, input_limit, IsPrefixOf}
 use Rattle.spec_text.specs.declared.line.Line.{Line}
@@ -10,13 +10,12 @@ use Rattle.spec_text.specs.declared.line.Line.TheVariants.{End, Over}
 use Rattle.spec_server.specs.declared.asks.Asked.{Asked}
 use Rattle.spec_server.specs.declared.pending.Pending.{Pending}
 use Rattle.spec_server.specs.declared.pending.Pending.TheVariants.{Between}
-use Rattle.spec_server.specs.Machine.{ExactAsk, State, opening, AloneStep, Exchange, asked_in, AloneRun, of_session, RunFits}
+use Rattle.spec_server.specs.Machine.{ExactAsk, State, opening, Exchange, asked_in, AloneRun, of_session, RunFits}
 use Rattle.spec_server.specs.Script.{Script, Ending, asks_of_line, pending_after_line, asks_from, pending_after, ending_by, script_of, ended_asks_of}
 use Rattle.spec_server.specs.Script as script
-use Rattle.spec_server.specs.Output.{reply_line, script_out}
+use Rattle.spec_server.specs.Output.{script_out}
 use Rattle.spec_server.proofs.RunLemmas.{AloneRun-append, of_session-append, script_out-append, asked_in-append, answered, asked_in-answered, answered_runs}
 use Rattle.spec_server.proofs.ScriptLemmas.{asks_from-append, pending_after-append, asked_session}
-use Rattle.lp_base.specs.Beside.{Takes}
 use Rattle.lp_base.specs.Reading.Value.{Reading, at_start}
 use Rattle.lp_base.specs.Reading.{GivesNext}
 use Rattle.lp_base.specs.Taking.{ReadsLines, ReadsAll, ReadsFront, ReadsPart, StopsWith}
@@ -25,8 +24,8 @@ use Rattle.lp_base.specs.declared.lines.LineStop.{LineStop}
 use Rattle.lp_base.specs.declared.lines.LineStop.TheVariants as line_stops
 use Rattle.lp_top.specs.declared.run.Stop.{Stop}
 use Rattle.lp_top.specs.declared.run.Stop.TheVariants as stops
-use Rattle.lp_top.specs.Answer.{state_at, Steps, Answers, AnswersInPart, Responds, RespondsInPart}
-use Rattle.lp_top.specs.Run.{AreAsked, Moves, IsWhole, EndsWith, EndsInput, BreaksOff, EndsSo, EndsAs}
+use Rattle.lp_top.specs.Answer.{state_at, Responds, RespondsInPart}
+use Rattle.lp_top.specs.Run.{Moves, EndsInput, BreaksOff, EndsSo, EndsAs}
 use Rattle.lp_top.specs.Stop.{stop_of}
 use Rattle.lp_top.specs.Top.{Tells}
 

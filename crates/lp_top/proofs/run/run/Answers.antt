@@ -1,8 +1,7 @@
-use Rattle.std.proofs.Common.{◌≡◌, ◌∙◌, ap, sym, arith, inl, inr, ⊎_elim, Err}
+use Rattle.std.proofs.Common.{◌∙◌, ap, arith, inl, inr, ⊎_elim, Err}
 use Rattle.std.proofs.lemmas.Result.{err_from_is_err_and}
 use Rattle.spec_text.specs.declared.line.Line.TheVariants.{End, Over}
 use Rattle.lp_base.proofs.TakingLemmas.{gives_as}
-use Rattle.lp_top.specs.declared.run.Stop.TheVariants as stops
 use Rattle.lp_top.proofs.Turns.{start, stopped, ended, too_long, in_answer, turn_on, stops_so, nothing, ends_as, in_range, takes_more}
 use Rattle.lp_top.proofs.run.run.Goals as goal
 
