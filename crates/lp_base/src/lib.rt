@@ -15,8 +15,6 @@ mod lines;
 mod memory;
 mod outside;
 mod part;
-#[cfg(test)]
-mod tests;
 mod word;
 
 pub use bytes::{Bytes, Name, Texts, are_same};

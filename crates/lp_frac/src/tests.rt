@@ -107,34 +107,3 @@ fn whole_numbers_make_fractions(rt: HostRuntime) -> Result<(), Fail> {
     }
     Ok(())
 }
-
-#[test]
-fn lists_and_their_products(rt: HostRuntime) -> Result<(), Fail> {
-    let one = Frac::new(1, 1)?;
-    let most = Frac::new(M, 1)?;
-    let half = Frac::new(1, 2)?;
-    let mut v = Fracs::zeros(rt.alloc(), 1)?;
-    v.set(0, half);
-    v.push(most)?;
-    let mut w = v.copy(rt.alloc())?;
-    w.set(1, one);
-    assert_eq!(rt; v.len(), 2);
-    assert_eq!(rt; w.len(), 2);
-    // 1/4 + M and 1/2 + 1
-    assert!(rt; dot(v.as_slice(), w.as_slice()).is_err());
-    assert_eq!(rt; dot(&[half, one], &[one, one]), Ok(Frac::new(3, 2)?));
-    assert_eq!(rt; dot(&[half, most], &[zero(), one]), Ok(most));
-    assert_eq!(rt;
-        dot(&[one, most], &[one, one]),
-        Err(Past {
-            op: Op::Add,
-            a: one,
-            b: most
-        })
-    );
-    let mut e = Entries::new(rt.alloc());
-    e.push(7, half)?;
-    e.insert(0, 3, one)?;
-    assert_eq!(rt; e.as_slice(), [(3, one), (7, half)].as_slice());
-    Ok(())
-}
