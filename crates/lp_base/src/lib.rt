@@ -7,7 +7,8 @@
 //! Bytes Name Texts     lists of bytes, and a list of them: src/bytes
 //! words                the words of a line: src/word
 //! Rose HasCause        a fault was counted: specs/Causes
-//! TakesLines           the lines that several calls took, from which bytes: specs/Taking
+//! ReadsLines           the lines that several calls took, and of which bytes: specs/Taking
+//! ReadsAll ReadsFront  what was read in all, where a reader stops: specs/Taking
 #![tactic(auto)]
 
 mod bytes;

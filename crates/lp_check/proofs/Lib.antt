@@ -1,2 +1,4 @@
+pub mod Inside
+pub mod Lines
 pub mod Places
 pub mod Signs

@@ -1,29 +1,48 @@
 -- The parts of a certificate put into their places, one by one.
-use Rattle.std.proofs.Common.{◌≡◌, ℕ, ◌<◌, ◌≤◌, ◌+◌, List, ◌∷◌, length, get_or, drop, replicate, Ok, sym, ap, ◌∙◌}
-use Rattle.std.proofs.lemmas.List.{at_drop_all, drop_more}
-use Rattle.spec_exact.specs.Fraction.{ℚ, 0ℚ}
-use Rattle.spec_model.specs.Model.{Model, width, height}
-use Rattle.spec_check.specs.declared.certificate.Certificate.TheVariants.{Optimal}
-use Rattle.spec_check.specs.Text.{ExactPart}
-use Rattle.spec_check.specs.Settle.{placed, place_of, and_then, settled_from, certified, certificate_for}
-use Rattle.lp_check.specs.declared.settled.SettleFault.{SettleFault}
-use Rattle.lp_check.specs.declared.settled.SettleFault.TheVariants.{UnknownName, NoMemory}
-use Rattle.lp_check.specs.Answer.{IsFaultOf}
+use Rattle.std.proofs.Common.{◌≡◌, ℕ, ◌<◌, ◌≤◌, ◌+◌, List, [], ◌∷◌, ◌++◌, length, get_or, take, drop, Ok, sym, ap, ◌∙◌}
+use Rattle.std.proofs.lemmas.List.{at_drop_all, drop_more, take_more}
+use Rattle.spec_exact.specs.Fraction.{ℚ}
+use Rattle.spec_model.specs.Model.{Model}
+use Rattle.spec_check.specs.declared.certificate.Certificate.{Certificate}
+use Rattle.spec_check.specs.Text.{ExactPart, ExactRaw}
+use Rattle.spec_check.specs.Settle.{◌>>=◌, blank, put, put_all, certificate_for}
+use Rattle.lp_check.specs.declared.settled.SettleError.{SettleError}
+use Rattle.lp_check.specs.declared.settled.SettleError.TheVariants.{Fault, NoMemory}
+use Rattle.lp_check.specs.Answer.{IsErrorOf}
 
--- the lists before any part is put in
-abbrev pub at_start : Model → List ℚ × List ℚ
-at_start m = (replicate (width m) 0ℚ, replicate (height m) 0ℚ)
+-- the parts from i on, put to the certificate so far, give what all of them give
+abbrev pub IsOnTheWay : Model → ExactRaw → ℕ → Certificate (List ℚ) → Type 0
+IsOnTheWay m raw i cert = put_all m (take i raw.parts) (drop i raw.parts) cert ≡ certificate_for m raw
+
+pub at_start : (m : Model) (raw : ExactRaw) (cert : Certificate (List ℚ)) → blank m raw.kind ≡ Ok cert → IsOnTheWay m raw 0 cert
+unfolding certificate_for
+at_start m raw cert e = sym (ap (λ o. o >>= λ cert. put_all m [] raw.parts cert) e)
+
+-- the next part is put
+step_of : (m : Model) (raw : ExactRaw) (i : ℕ) (p : ExactPart) (cert : Certificate (List ℚ)) → i < length raw.parts → get_or raw.parts i p ≡ p
+    → put_all m (take i raw.parts) (drop i raw.parts) cert ≡ (put m (take i raw.parts) p cert >>= λ next. put_all m (take (i + 1) raw.parts) (drop (i + 1) raw.parts) next)
+step_of m raw i p cert h g =
+    let next : drop i raw.parts ≡ p ∷ drop (i + 1) raw.parts = drop_more raw.parts i p h ∙ ap (λ q. q ∷ drop (i + 1) raw.parts) g in
+    let front : take i raw.parts ++ p ∷ [] ≡ take (i + 1) raw.parts = sym (take_more raw.parts i p h ∙ ap (λ q. take i raw.parts ++ q ∷ []) g) in
+    ap (λ ps. put_all m (take i raw.parts) ps cert) next
+    ∙ ap (λ b. put m (take i raw.parts) p cert >>= λ next. put_all m b (drop (i + 1) raw.parts) next) front
+
+pub one_more : (m : Model) (raw : ExactRaw) (i : ℕ) (p : ExactPart) (cert next : Certificate (List ℚ)) → i < length raw.parts → get_or raw.parts i p ≡ p
+    → IsOnTheWay m raw i cert → put m (take i raw.parts) p cert ≡ Ok next → IsOnTheWay m raw (i + 1) next
+one_more m raw i p cert next h g way e =
+    sym (step_of m raw i p cert h g ∙ ap (λ o. o >>= λ next. put_all m (take (i + 1) raw.parts) (drop (i + 1) raw.parts) next) e) ∙ way
+
+pub stopped : (m : Model) (raw : ExactRaw) (i : ℕ) (p : ExactPart) (cert : Certificate (List ℚ)) (error : SettleError) → i < length raw.parts → get_or raw.parts i p ≡ p
+    → IsOnTheWay m raw i cert → IsErrorOf (put m (take i raw.parts) p cert) error → IsErrorOf (certificate_for m raw) error
+stopped m raw i p cert NoMemory h g way e = tt
+stopped m raw i p cert (Fault fault) h g way e =
+    sym way ∙ step_of m raw i p cert h g ∙ ap (λ o. o >>= λ next. put_all m (take (i + 1) raw.parts) (drop (i + 1) raw.parts) next) e
+
+pub blank_stopped : (m : Model) (raw : ExactRaw) (error : SettleError) → IsErrorOf (blank m raw.kind) error → IsErrorOf (certificate_for m raw) error
+unfolding certificate_for
+blank_stopped m raw NoMemory e = tt
+blank_stopped m raw (Fault fault) e = ap (λ o. o >>= λ cert. put_all m [] raw.parts cert) e
 
 -- none is left
-pub all_placed : (m : Model) (parts : List ExactPart) (i : ℕ) (x y : List ℚ) → length parts ≤ i → settled_from m (drop i parts) (x, y) ≡ settled_from m parts (at_start m) → certificate_for m parts ≡ Ok (Optimal x y)
-unfolding certificate_for
-all_placed m parts i x y h e = ap certified (sym e ∙ at_drop_all (λ ps. settled_from m ps (x, y)) parts i h)
-
--- the next one has no place
-pub stopped : (m : Model) (parts : List ExactPart) (i : ℕ) (p : ExactPart) (lists : List ℚ × List ℚ) (fault : SettleFault) → i < length parts → p ≡ get_or parts i p → settled_from m (drop i parts) lists ≡ settled_from m parts (at_start m)
-    → IsFaultOf (placed (place_of m p.letter p.name) p lists) fault → IsFaultOf (certificate_for m parts) fault
-unfolding certificate_for
-stopped m parts i p lists NoMemory h g e s = tt
-stopped m parts i p lists (UnknownName name) h g e s =
-    let next : drop i parts ≡ p ∷ drop (i + 1) parts = drop_more parts i p h ∙ ap (λ q. q ∷ drop (i + 1) parts) (sym g) in
-    ap certified (sym e ∙ ap (λ ps. settled_from m ps lists) next ∙ ap (λ o. and_then o (λ more. settled_from m (drop (i + 1) parts) more)) s)
+pub all_put : (m : Model) (raw : ExactRaw) (i : ℕ) (cert : Certificate (List ℚ)) → length raw.parts ≤ i → IsOnTheWay m raw i cert → certificate_for m raw ≡ Ok cert
+all_put m raw i cert h way = sym way ∙ at_drop_all (λ ps. put_all m (take i raw.parts) ps cert) raw.parts i h

@@ -1,29 +1,51 @@
--- What putting the parts of a certificate to a model says.
-use Rattle.std.specs.Prelude.{◌≡◌, ⊤, List, Result, Ok, Err}
+-- What putting a certificate to a model says.
+use Rattle.std.specs.Prelude.{◌≡◌, ◌<◌, ℕ, ⊤, List, length, Result, Ok, Err}
 use Rattle.spec_exact.specs.Fraction.{ℚ}
-use Rattle.spec_model.specs.Model.{Model, Name}
+use Rattle.spec_model.specs.Model.{Model, Name, width, height}
 use Rattle.spec_check.specs.declared.certificate.Certificate.{Certificate}
-use Rattle.spec_check.specs.Text.{ExactPart}
-use Rattle.spec_check.specs.Settle.{certificate_for, placed, place_of}
-use Rattle.lp_check.specs.declared.settled.SettleFault.{SettleFault}
-use Rattle.lp_check.specs.declared.settled.SettleFault.TheVariants.{UnknownName, NoMemory}
+use Rattle.spec_check.specs.declared.certificate.Certificate.TheVariants.{Optimal, Infeasible, Unbounded}
+use Rattle.spec_check.specs.declared.certificate.Letter.{Letter}
+use Rattle.spec_check.specs.declared.certificate.Letter.TheVariants.{X, Y, R}
+use Rattle.spec_check.specs.declared.certificate.SettleFault.TheVariants.{UnknownName, Repeated}
+use Rattle.spec_check.specs.Settle.{Settled}
+use Rattle.lp_check.specs.declared.settled.SettleError.{SettleError}
+use Rattle.lp_check.specs.declared.settled.SettleError.TheVariants.{Fault, NoMemory}
 
--- the fault is the name that the answer has; that there is no memory says nothing of the answer
-abbrev pub IsFaultOf : {A : Type 0} → Result A Name → SettleFault → Type 0
-IsFaultOf answer (UnknownName name) = answer ≡ Err name
-IsFaultOf answer NoMemory = Unit {0}
+-- the fault is the one that the answer has; that there is no memory says nothing of the answer
+abbrev pub IsErrorOf : {A : Type 0} → Settled A → SettleError → Type 0
+IsErrorOf answer (Fault fault) = answer ≡ Err fault
+IsErrorOf answer NoMemory = Unit {0}
 
--- the certificate of the parts, or the first name that is not known
-abbrev pub Settles : Model → List ExactPart → Result (Certificate (List ℚ)) SettleFault → Type 0
-Settles m parts (Ok cert) = certificate_for m parts ≡ Ok cert
-Settles m parts (Err fault) = IsFaultOf (certificate_for m parts) fault
+-- the answer's certificate, or its fault
+abbrev pub Settles : Settled (Certificate (List ℚ)) → Result (Certificate (List ℚ)) SettleError → Type 0
+Settles answer (Ok cert) = answer ≡ Ok cert
+Settles answer (Err error) = IsErrorOf answer error
 
--- one part put into its place: the values and multipliers before and after
-abbrev pub Puts : Model → ExactPart → List ℚ × List ℚ → List ℚ × List ℚ → Result ⊤ SettleFault → Type 0
-Puts m p before after (Ok done) = placed (place_of m p.letter p.name) p before ≡ Ok after
-Puts m p before after (Err fault) = IsFaultOf (placed (place_of m p.letter p.name) p before) fault
+-- the answer's certificate behind a step, or its fault
+abbrev pub Puts : Settled (Certificate (List ℚ)) → Certificate (List ℚ) → Result ⊤ SettleError → Type 0
+Puts answer after (Ok done) = answer ≡ Ok after
+Puts answer after (Err error) = IsErrorOf answer error
 
--- a name that is not known
-abbrev pub IsUnknown : Name → SettleFault → Type 0
-IsUnknown name (UnknownName n) = n ≡ name
+-- a place among the columns, or among the rows
+abbrev pub IsPlace : Model → Letter → ℕ → Type 0
+IsPlace m X k = k < width m
+IsPlace m Y k = k < height m
+IsPlace m R k = k < width m
+
+-- a place in the list of the letter
+abbrev pub IsInside : Letter → ℕ → Certificate (List ℚ) → Type 0
+IsInside X k (Optimal x y) = k < length x
+IsInside Y k (Optimal x y) = k < length y
+IsInside Y k (Infeasible y) = k < length y
+IsInside X k (Unbounded x r) = k < length x
+IsInside R k (Unbounded x r) = k < length r
+IsInside letter k cert = Unit {0}
+
+-- a name that is not known, or that is given twice
+abbrev pub IsUnknown : Name → SettleError → Type 0
+IsUnknown name (Fault fault) = fault ≡ UnknownName name
 IsUnknown name NoMemory = Unit {0}
+
+abbrev pub IsRepeated : Name → SettleError → Type 0
+IsRepeated name (Fault fault) = fault ≡ Repeated name
+IsRepeated name NoMemory = Unit {0}

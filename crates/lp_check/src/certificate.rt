@@ -6,7 +6,7 @@ use lp_frac::{Frac, Fracs};
 use std::alloc::{AllocError, Global};
 use std::marker::Model;
 
-/// A certificate of one model: a value for each column, and a multiplier for each row.
+/// A certificate of one model, whose lists have a number for each column or row.
 pub type Certificate = spec_check::Certificate<Fracs>;
 
 /// What a certificate shows.
@@ -21,8 +21,14 @@ pub(crate) type Stop = spec_check::Stop<Frac>;
 /// One number of a certificate, for the column or the row with a name.
 pub type Part = spec_check::Part<Name, Frac>;
 
+/// What a text of a certificate is to show.
+pub type CertificateKind = spec_check::CertificateKind<Name>;
+
 /// A certificate as its text has it, without a model.
-pub type RawCertificate = spec_check::RawCertificate<Parts>;
+pub type RawCertificate = spec_check::RawCertificate<Name, Parts>;
+
+/// Which name of a certificate does not fit a model.
+pub type SettleFault = spec_check::SettleFault<Name>;
 
 /// The parts of a certificate, in order.
 #[derive(Drop)]

@@ -6,8 +6,10 @@ ghost use Rattle.spec_check.specs.Run as run;
 ghost use Rattle.lp_frac.specs.Narrow.{largest};
 
 use crate::certificate::{Certificate, Known, Stop, Verdict};
+use crate::farkas::{clash, infeasible};
 use crate::multipliers::{columns_tight, rows_tight};
 use crate::point::{columns_within, rows_within, value};
+use crate::ray::{better, columns_allow, rows_allow};
 use lp_frac::Fracs;
 use lp_model::Model;
 
@@ -24,6 +26,20 @@ fn optimal(model: &Model, x: &Fracs, y: &Fracs) -> Result<Known, Stop>
     Ok(Known::Optimal(value(model, x)?))
 }
 
+// What a certificate of a ray shows.
+fn unbounded(model: &Model, x: &Fracs, r: &Fracs) -> Result<Known, Stop>
+    requires point { length x.now ≡ width model.now }
+    requires ray { length r.now ≡ width model.now }
+    ensures { result ≡ run.unbounded_run (Some largest) model.now x.now r.now }
+{
+    columns_within(model, x)?;
+    rows_within(model, x)?;
+    columns_allow(model, r)?;
+    rows_allow(model, r)?;
+    better(model, r)?;
+    Ok(Known::Unbounded)
+}
+
 // What the certificate shows, or why it shows nothing.
 #[tactic(auto, unfolding(spec_check::specs::Run::check_run))]
 fn accepted(model: &Model, cert: &Certificate) -> Result<Known, Stop>
@@ -32,6 +48,9 @@ fn accepted(model: &Model, cert: &Certificate) -> Result<Known, Stop>
 {
     match cert {
         Certificate::Optimal { x, y } => optimal(model, x, y),
+        Certificate::Infeasible { y } => infeasible(model, y),
+        Certificate::Clash(j) => clash(model, *j),
+        Certificate::Unbounded { x, r } => unbounded(model, x, r),
     }
 }
 
@@ -39,9 +58,14 @@ fn accepted(model: &Model, cert: &Certificate) -> Result<Known, Stop>
 /// number of the first condition that fails, or `Past` with the first operation that is past 127
 /// bits. It takes no memory.
 ///
-/// The conditions, in their order: 1, each column's value is within its bounds; 2, each row's sum
-/// is within its limits; 3, a column whose reduced cost is not 0 stands at the bound that its sign
-/// asks for; 4, a row whose multiplier is not 0 stands at the limit that its sign asks for.
+/// The conditions of a certificate `Optimal`, in their order: 1, each column's value is within its
+/// bounds; 2, each row's sum is within its limits; 3, a column whose reduced cost is not 0 stands at
+/// the bound that its sign asks for; 4, a row whose multiplier is not 0 stands at the limit that its
+/// sign asks for. Of `Infeasible`: 1, a row whose multiplier is not 0 has the limit that its sign
+/// asks for; 2, a column in which the multipliers' part is not 0 has the bound that its sign asks
+/// for; 3, the columns give less than the rows ask for. Of `Clash`: 1, the lower bound is above the
+/// upper one. Of `Unbounded`: 1 and 2 as for `Optimal`; 3, a column's part in the ray leaves no
+/// bound; 4, a row's sum over the ray leaves no limit; 5, the objective gets better.
 pub fn check(model: &Model, cert: &Certificate) -> Verdict
     requires { IsFor model.now cert.now }
     ensures { result ≡ run.verdict_of (run.check_run (Some largest) model.now cert.now) }

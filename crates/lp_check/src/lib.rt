@@ -1,29 +1,40 @@
-//! The check of certificates, and certificates put to a model by names.
+//! The check of certificates, their text both ways, and certificates put to a model by names.
 //!
 //! | Item | What it is |
 //! |---|---|
 //! | `check` | what the conditions of `spec_check`, run at 127 bits, say of a certificate |
 //! | `settle` | the certificate of a model that parts with names make |
-//! | `Certificate` | a value for each column, and a multiplier for each row |
+//! | `cert_text` | the lines of a certificate's text |
+//! | `CertReader`, `CertFeed` | a text of a certificate that is read line by line, and what a line is answered |
+//! | `is_end` | whether the words of a line end a text of a certificate |
+//! | `Certificate` | what is handed in to show something of one model |
 //! | `Verdict`, `Known` | what a check says, and what a certificate shows |
-//! | `RawCertificate`, `Parts`, `Part`, `Letter` | a certificate as its text has it, with names |
-//! | `SettleFault` | why parts make no certificate of a model |
+//! | `RawCertificate`, `CertificateKind`, `Parts`, `Part`, `Letter` | a certificate as its text has it, with names |
+//! | `SettleError`, `SettleFault` | why parts make no certificate of a model |
 //!
-//! That an accepted certificate is true is a law of `spec_check`; the contract of `check` is one
-//! equation with the run that the law speaks of.
+//! That an accepted certificate is true, and that a written one is read back, are laws of `spec_check`; the contracts here
+//! are equations with what the laws speak of.
 #![tactic(auto)]
 
 mod certificate;
 mod conditions;
+mod farkas;
 mod limits;
 mod multipliers;
 mod point;
+mod ray;
+mod reader;
 mod settled;
 mod steps;
-#[cfg(test)]
-mod tests;
+mod text;
+mod words;
 
-pub use certificate::{Certificate, Known, Part, Parts, RawCertificate, Verdict};
+pub use certificate::{
+    Certificate, CertificateKind, Known, Part, Parts, RawCertificate, SettleFault, Verdict,
+};
 pub use conditions::check;
-pub use settled::{SettleFault, settle};
+pub use reader::{CertFeed, CertReader};
+pub use settled::{SettleError, settle};
 pub use spec_check::Letter;
+pub use text::cert_text;
+pub use words::is_end;

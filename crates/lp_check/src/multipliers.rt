@@ -13,7 +13,7 @@ use lp_frac::{Frac, Fracs, neg};
 use lp_model::{Column, Model, Sense};
 
 // The cost to be made least.
-fn signed(sense: Sense, cost: Frac) -> Frac
+pub(crate) fn signed(sense: Sense, cost: Frac) -> Frac
     ensures { result ≡ signed_by sense cost }
 {
     match sense {

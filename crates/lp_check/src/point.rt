@@ -70,7 +70,7 @@ pub(crate) fn rows_within(model: &Model, x: &Fracs) -> Result<(), Stop>
 }
 
 // The sum of the costs.
-fn cost(model: &Model, x: &Fracs) -> Result<Frac, Stop>
+pub(crate) fn cost(model: &Model, x: &Fracs) -> Result<Frac, Stop>
     requires { length x.now ≡ width model.now }
     ensures { result ≡ run.cost_run (Some largest) model.now x.now }
 {

@@ -1,84 +1,168 @@
 // The parts of a certificate, put to the rows and columns of a model.
-ghost use Rattle.std.specs.Prelude.{◌≡◌, ◌<◌, length, IfOk, Ok};
-ghost use Rattle.spec_model.specs.Model.{width, height};
+ghost use Rattle.std.specs.Prelude.{◌≡◌, ◌<◌, length, IfOk, IfSome, Ok};
 ghost use Rattle.spec_check.specs.Certificate.{IsFor};
-ghost use Rattle.lp_check.specs.Answer.{Settles, Puts, IsUnknown};
-ghost use Rattle.lp_check.specs.declared.settled.SettleFault.TheVariants.{NoMemory};
+ghost use Rattle.spec_check.specs.Settle as told;
+ghost use Rattle.lp_check.specs.Answer.{Settles, Puts, IsPlace, IsInside, IsUnknown, IsRepeated};
+ghost use Rattle.lp_check.specs.declared.settled.SettleError.TheVariants.{NoMemory};
 
-use crate::certificate::{Certificate, Part, RawCertificate};
-use lp_base::Name;
-use lp_frac::Fracs;
+use crate::certificate::{Certificate, CertificateKind, Part, RawCertificate, SettleFault};
+use lp_base::{Name, are_same};
+use lp_frac::{Frac, Fracs};
 use lp_model::Model;
 use spec_check::Letter;
 use std::alloc::{AllocError, Global};
 
-/// Why a certificate is not one of the model.
+/// Why there is no certificate of the model.
 #[derive(Drop)]
-pub enum SettleFault {
-    /// No row, or no column, has this name.
-    UnknownName(Name),
+pub enum SettleError {
+    /// A name does not fit.
+    Fault(SettleFault),
     NoMemory,
 }
 
-impl From<AllocError> for SettleFault {
+impl From<AllocError> for SettleError {
     ghost from_gives = { λ _ e. e ≡ NoMemory };
 
     fn from(_: AllocError) -> Self {
-        SettleFault::NoMemory
+        SettleError::NoMemory
     }
 }
 
 // The name is not known.
-fn unknown(alloc: Global, name: &Name) -> SettleFault
+fn unknown(alloc: Global, name: &Name) -> SettleError
     ensures { IsUnknown name.now result }
 {
     match name.copy(alloc) {
-        Ok(name) => SettleFault::UnknownName(name),
-        Err(_) => SettleFault::NoMemory,
+        Ok(name) => SettleError::Fault(SettleFault::UnknownName(name)),
+        Err(_) => SettleError::NoMemory,
     }
 }
 
-// Puts the part into its place among the values and multipliers.
+// The name was given before.
+fn repeated(alloc: Global, name: &Name) -> SettleError
+    ensures { IsRepeated name.now result }
+{
+    match name.copy(alloc) {
+        Ok(name) => SettleError::Fault(SettleFault::Repeated(name)),
+        Err(_) => SettleError::NoMemory,
+    }
+}
+
+// The certificate of this kind in which all numbers are 0.
+#[tactic(auto, unfolding(spec_check::specs::Settle::blank))]
+fn blank(alloc: Global, model: &Model, kind: &CertificateKind) -> Result<Certificate, SettleError>
+    ensures answer { Settles (told.blank model.now kind.now) result }
+    ensures fits { IfOk result (IsFor model.now) }
+{
+    let columns = model.cols() as usize;
+    let rows = model.rows() as usize;
+    match kind {
+        CertificateKind::Optimal => Ok(Certificate::Optimal {
+            x: Fracs::zeros(alloc, columns)?,
+            y: Fracs::zeros(alloc, rows)?,
+        }),
+        CertificateKind::Infeasible => Ok(Certificate::Infeasible {
+            y: Fracs::zeros(alloc, rows)?,
+        }),
+        CertificateKind::Unbounded => Ok(Certificate::Unbounded {
+            x: Fracs::zeros(alloc, columns)?,
+            r: Fracs::zeros(alloc, columns)?,
+        }),
+        CertificateKind::Clash(name) => match model.col_of(name.as_slice()) {
+            Some(j) => Ok(Certificate::Clash(j)),
+            None => Err(unknown(alloc, name)),
+        },
+    }
+}
+
+// The column or the row that a part is for.
+fn place_of(model: &Model, letter: Letter, name: &[u8]) -> Option<u32>
+    ensures value { result ≡ told.place_of model.now letter name.now }
+    ensures inside { IfSome result (IsPlace model.now letter) }
+{
+    match letter {
+        Letter::X | Letter::R => model.col_of(name),
+        Letter::Y => model.row_of(name),
+    }
+}
+
+// Puts a number into its place.
+fn set(cert: &mut Certificate, letter: Letter, k: u32, value: Frac)
+    requires { IsInside letter k cert.old }
+    ensures { cert.new ≡ told.with_value letter k value cert.old }
+{
+    let k = k as usize;
+    match cert {
+        Certificate::Optimal { x, y } => match letter {
+            Letter::X => x.set(k, value),
+            Letter::Y => y.set(k, value),
+            Letter::R => {}
+        },
+        Certificate::Infeasible { y } => {
+            if letter == Letter::Y {
+                y.set(k, value);
+            }
+        }
+        Certificate::Clash(_) => {}
+        Certificate::Unbounded { x, r } => match letter {
+            Letter::X => x.set(k, value),
+            Letter::R => r.set(k, value),
+            Letter::Y => {}
+        },
+    }
+}
+
+fn is_same_letter(letter: Letter, other: Letter) -> bool
+    ensures { result ≡ told.same_letter letter other }
+{
+    letter == other
+}
+
+// Whether one of the parts has this letter and this name.
+fn is_given(part: &Part, parts: &[Part]) -> bool
+    ensures { result ≡ told.is_given part.now.letter part.now.name parts.now }
+{
+    parts.iter().any(|p| is_same_letter(p.letter, part.letter)
+        && are_same(p.name.as_slice(), part.name.as_slice()))
+}
+
+// Puts the part into its place, behind those before it.
+#[tactic(auto, unfolding(spec_check::specs::Settle::put))]
 fn put(
     alloc: Global,
     model: &Model,
+    before: &[Part],
     part: &Part,
-    x: &mut Fracs,
-    y: &mut Fracs,
-) -> Result<(), SettleFault>
-    requires values { length x.old ≡ width model.now }
-    requires multipliers { length y.old ≡ height model.now }
-    ensures answer { Puts model.now part.now (x.old, y.old) (x.new, y.new) result }
-    ensures values_len { length x.new ≡ length x.old }
-    ensures multipliers_len { length y.new ≡ length y.old }
+    cert: &mut Certificate,
+) -> Result<(), SettleError>
+    requires { IsFor model.now cert.old }
+    ensures answer { Puts (told.put model.now before.now part.now cert.old) cert.new result }
+    ensures fits { IsFor model.now cert.new }
 {
-    match part.letter {
-        Letter::X => match model.col_of(part.name.as_slice()) {
-            Some(j) => x.set(j as usize, part.value),
-            None => return Err(unknown(alloc, &part.name)),
-        },
-        Letter::Y => match model.row_of(part.name.as_slice()) {
-            Some(i) => y.set(i as usize, part.value),
-            None => return Err(unknown(alloc, &part.name)),
-        },
+    let Some(k) = place_of(model, part.letter, part.name.as_slice()) else {
+        return Err(unknown(alloc, &part.name));
+    };
+    if is_given(part, before) {
+        return Err(repeated(alloc, &part.name));
     }
+    set(cert, part.letter, k, part.value);
     Ok(())
 }
 
-/// The certificate that these parts make for the model. What they do not name is 0, and of two parts
-/// with one name the later one counts. It fails with the first name that is not known.
+/// The certificate that these parts make for the model. What they do not name is 0. It fails with
+/// the first name that is not known, or that stands in an earlier part with the same letter.
 pub fn settle(
     alloc: Global,
     model: &Model,
     raw: &RawCertificate,
-) -> Result<Certificate, SettleFault>
-    ensures answer { Settles model.now raw.now.parts result }
+) -> Result<Certificate, SettleError>
+    ensures answer { Settles (told.certificate_for model.now raw.now) result }
     ensures fits { IfOk result (IsFor model.now) }
 {
-    let mut x = Fracs::zeros(alloc, model.cols() as usize)?;
-    let mut y = Fracs::zeros(alloc, model.rows() as usize)?;
-    for part in raw.parts.as_slice() {
-        put(alloc, model, part, &mut x, &mut y)?;
+    let mut cert = blank(alloc, model, &raw.kind)?;
+    let parts = raw.parts.as_slice();
+    for i in 0..parts.len() {
+        put(alloc, model, &parts[..i], &parts[i], &mut cert)?;
     }
-    Ok(Certificate::Optimal { x, y })
+    Ok(cert)
 }

@@ -95,3 +95,21 @@ pub(crate) fn stands_at(limit: Option<Frac>, v: Frac) -> bool
         Some(k) => are_same(k, v),
     }
 }
+
+pub(crate) fn is_less(order: Ordering) -> bool
+    ensures { result ≡ run.is_less order }
+{
+    match order {
+        Ordering::Less => true,
+        Ordering::Equal | Ordering::Greater => false,
+    }
+}
+
+pub(crate) fn is_greater(order: Ordering) -> bool
+    ensures { result ≡ run.is_greater order }
+{
+    match order {
+        Ordering::Less | Ordering::Equal => false,
+        Ordering::Greater => true,
+    }
+}

@@ -7,7 +7,7 @@
 //!
 //! | Item | What it is |
 //! |---|---|
-//! | `Frac`, `Frac::new`, `zero` | a fraction; one of two whole numbers; 0 |
+//! | `Frac`, `Frac::new`, `zero`, `one` | a fraction; one of two whole numbers; 0 and 1 |
 //! | `add` `sub` `mul` `div` `cmp` | the operations that can be refused |
 //! | `neg` `abs` `sign` `num` `den` `is_zero` `are_same` | the ones that never are |
 //! | `dot` | a sum of products, place by place |
@@ -33,4 +33,4 @@ pub use frac::{Frac, FracFault, LARGEST, Op, Past};
 pub use lists::{Entries, Fracs};
 pub use operations::{add, cmp, div, mul, sub};
 pub use products::dot;
-pub use readers::{abs, are_same, den, is_zero, neg, num, sign, zero};
+pub use readers::{abs, are_same, den, is_zero, neg, num, one, sign, zero};

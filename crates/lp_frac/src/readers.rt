@@ -1,6 +1,6 @@
 // Operations that are never refused: the parts, the sign, the negative and the magnitude.
 ghost use Rattle.std.specs.Prelude.{◌≡◌, ◌≢◌, ◌≤◌, unsigned_abs, pos, IsTrue, ◌↔◌};
-ghost use Rattle.spec_exact.specs.Fraction.{neg_ℚ, abs_ℚ, 0ℚ, inverse};
+ghost use Rattle.spec_exact.specs.Fraction.{neg_ℚ, abs_ℚ, 0ℚ, 1ℚ, inverse};
 ghost use Rattle.spec_exact.specs.Limit.{sign as sign_of};
 ghost use Rattle.lp_frac.specs.Narrow.{largest};
 
@@ -63,6 +63,13 @@ pub fn zero() -> Frac
     ensures { result ≡ 0ℚ }
 {
     Frac::make(0, 1)
+}
+
+/// The fraction 1.
+pub fn one() -> Frac
+    ensures { result ≡ 1ℚ }
+{
+    Frac::make(1, 1)
 }
 
 /// Whether the two are one fraction. `==` answers the same; contracts say it of this function.

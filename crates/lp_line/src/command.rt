@@ -4,8 +4,9 @@ ghost use Rattle.spec_text.specs.declared.line.Line.TheVariants as line;
 ghost use Rattle.spec_mps.specs.Cards as cards;
 ghost use Rattle.spec_server.specs.Script as script;
 
-use first_form::has_only;
 use lp_base::{Line, Texts, are_same, is_blank, words};
+use lp_check::is_end;
+use spec_mps::Style;
 use spec_server::Command;
 use std::alloc::{AllocError, Global};
 
@@ -61,26 +62,54 @@ fn two_digits(tens: u8, ones: u8) -> Option<u32>
     if number <= 64 { Some(number) } else { None }
 }
 
+#[tactic(auto, unfolding(spec_server::specs::Script::style_of))]
+fn style_of(word: &[u8]) -> Option<Style>
+    ensures { result ≡ script.style_of word.now }
+{
+    if are_same(word, b"FREE") {
+        Some(Style::Free)
+    } else if are_same(word, b"FIXED") {
+        Some(Style::Fixed)
+    } else {
+        None
+    }
+}
+
+// A command whose second word is a form.
+fn command_in(session: u32, word: &[u8], form: Option<Style>) -> Command
+    ensures { result ≡ script.command_in session word.now form }
+{
+    let Some(style) = form else {
+        return Command::Other(session);
+    };
+    if are_same(word, b"LOAD") {
+        Command::Load { session, style }
+    } else if are_same(word, b"WRITE") {
+        Command::Write { session, style }
+    } else {
+        Command::Other(session)
+    }
+}
+
+fn lone_command(session: u32, word: &[u8]) -> Command
+    ensures { result ≡ script.command_by session (word.now ∷ []) }
+{
+    if are_same(word, b"CHECK") {
+        Command::Check(session)
+    } else {
+        Command::Other(session)
+    }
+}
+
 // The command of a session, by the words behind its number.
 fn command_by(session: u32, words: &Texts) -> Command
     requires { 1 ≤ length words.now }
     ensures { result ≡ script.command_by session (drop 1 words.now) }
 {
-    let built = match words.len() {
-        2 => are_same(words.at(1), b"CHECK"),
-        _ => false,
-    };
-    if built {
-        return Command::Check(session);
-    }
-    let built = match words.len() {
-        3 => are_same(words.at(1), b"LOAD") && are_same(words.at(2), b"FREE"),
-        _ => false,
-    };
-    if built {
-        Command::Load(session)
-    } else {
-        Command::Other(session)
+    match words.len() {
+        2 => lone_command(session, words.at(1)),
+        3 => command_in(session, words.at(1), style_of(words.at(2))),
+        _ => Command::Other(session),
     }
 }
 
@@ -145,5 +174,8 @@ pub fn ends_text(alloc: Global, next: &Line) -> Result<bool, AllocError>
 pub fn ends_certificate(alloc: Global, next: &Line) -> Result<bool, AllocError>
     ensures { IfOk result (λ ends. ends ≡ script.ends_certificate next.now) }
 {
-    has_only(alloc, b"END", next)
+    match next {
+        Line::Text(text) => Ok(is_end(&words(alloc, text.as_slice())?)),
+        Line::Long(_) | Line::End | Line::Over => Ok(false),
+    }
 }

@@ -1,17 +1,14 @@
 // A script, line by line.
 ghost use Rattle.std.specs.Prelude.{◌≡◌, List, [], ◌∷◌, ◌++◌, ℕ, IfOk, IsTrue, ◌↔◌};
-ghost use Rattle.std.specs.Option.{option_map};
-ghost use Rattle.spec_server.specs.Script as script;
 ghost use Rattle.spec_server.specs.declared.pending.Pending.TheVariants as pending;
 ghost use Rattle.lp_line.specs.Advance.{Advances};
 
 use crate::asks::{Ask, Asked};
 use crate::body::Body;
 use crate::command::{command_of, ends_certificate, ends_text};
-use first_form::{read_certificate, read_text};
+use crate::text::{read_certificate, read_text};
 use lp_base::Line;
-use lp_check::{Part, Parts, RawCertificate};
-use lp_model::Model;
+use spec_mps::Style;
 use spec_server::{Command, Pending};
 use std::alloc::{AllocError, Global};
 use std::{marker, mem};
@@ -25,9 +22,10 @@ fn command_line(alloc: Global, next: &Line) -> Result<Advance, AllocError>
 {
     match command_of(alloc, next)? {
         Command::Skip => Ok((Pending::Between, None)),
-        Command::Load(session) => Ok((
+        Command::Load { session, style } => Ok((
             Pending::Text {
                 session,
+                style,
                 body: Body::new(alloc),
             },
             None,
@@ -39,6 +37,13 @@ fn command_line(alloc: Global, next: &Line) -> Result<Advance, AllocError>
             },
             None,
         )),
+        Command::Write { session, style } => Ok((
+            Pending::Between,
+            Some(Asked {
+                session,
+                ask: Ask::Write(style),
+            }),
+        )),
         Command::Other(session) => Ok((
             Pending::Between,
             Some(Asked {
@@ -49,36 +54,29 @@ fn command_line(alloc: Global, next: &Line) -> Result<Advance, AllocError>
     }
 }
 
-fn ask_of_model(found: Option<Model>) -> Ask
-    ensures { result ≡ script.ask_of_model found }
-{
-    match found {
-        Some(model) => Ask::Loaded(model),
-        None => Ask::NotBuilt,
-    }
-}
-
-fn ask_of_parts(found: Option<Vec<Part>>) -> Ask
-    ensures { result ≡ script.ask_of_parts (option_map (λ v. v.items) found) }
-{
-    match found {
-        Some(parts) => Ask::Checked(RawCertificate {
-            parts: Parts::from_vec(parts),
-        }),
-        None => Ask::NotBuilt,
-    }
-}
-
 // A line in the text of a model.
-fn text_line(alloc: Global, session: u32, mut body: Body, next: Line) -> Result<Advance, AllocError>
-    ensures { IfOk result (Advances (pending.Text session body) next) }
+fn text_line(
+    alloc: Global,
+    session: u32,
+    style: Style,
+    mut body: Body,
+    next: Line,
+) -> Result<Advance, AllocError>
+    ensures { IfOk result (Advances (pending.Text session style body) next) }
 {
     let ends = ends_text(alloc, &next)?;
     body.push(next)?;
     if !ends {
-        return Ok((Pending::Text { session, body }, None));
+        return Ok((
+            Pending::Text {
+                session,
+                style,
+                body,
+            },
+            None,
+        ));
     }
-    let ask = ask_of_model(read_text(alloc, body.as_slice())?);
+    let ask = read_text(alloc, style, body.as_slice())?;
     Ok((Pending::Between, Some(Asked { session, ask })))
 }
 
@@ -96,7 +94,7 @@ fn certificate_line(
     if !ends {
         return Ok((Pending::Certificate { session, body }, None));
     }
-    let ask = ask_of_parts(read_certificate(alloc, body.as_slice())?);
+    let ask = read_certificate(alloc, body.as_slice())?;
     Ok((Pending::Between, Some(Asked { session, ask })))
 }
 
@@ -105,7 +103,11 @@ fn advance(alloc: Global, state: Pending<Body>, next: Line) -> Result<Advance, A
 {
     match state {
         Pending::Between => command_line(alloc, &next),
-        Pending::Text { session, body } => text_line(alloc, session, body, next),
+        Pending::Text {
+            session,
+            style,
+            body,
+        } => text_line(alloc, session, style, body, next),
         Pending::Certificate { session, body } => certificate_line(alloc, session, body, next),
     }
 }

@@ -3,7 +3,7 @@ ghost use Rattle.std.specs.Prelude.{◌≡◌, ◌<◌, ◌≤◌, IfSome, lengt
 ghost use Rattle.std.specs.List.{position};
 ghost use Rattle.spec_text.specs.Words.{same};
 ghost use Rattle.spec_model.specs.Model.{width, height, row, column, coefficient, entry_of};
-ghost use Rattle.spec_model.specs.Kept.{IsModel, row_place, column_place};
+ghost use Rattle.spec_model.specs.Kept.{AreEntries, IsModel, row_place, column_place};
 
 use lp_base::{Name, are_same};
 use lp_frac::{Entries, Frac, zero};
@@ -144,6 +144,15 @@ impl Model {
         ensures { result.now ≡ column self.now j }
     {
         &self.columns[j as usize]
+    }
+
+    /// The entries of column `j`, counted from 0, in the order of their rows.
+    pub fn entries(&self, j: u32) -> &[(u32, Frac)]
+        requires { j < width self.now }
+        ensures value { result.now ≡ (column self.now j).entries }
+        ensures kept { AreEntries (height self.now) result.now }
+    {
+        self.columns[j as usize].entries.as_slice()
     }
 
     /// The coefficient of column `j` in row `i`.

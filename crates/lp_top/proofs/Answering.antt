@@ -8,7 +8,7 @@ use Rattle.spec_server.specs.declared.asks.Asked.{Asked}
 use Rattle.spec_server.specs.declared.pending.Pending.{Pending}
 use Rattle.spec_server.specs.Machine.{ExactAsk, ExactReply, State, AloneStep, Exchange, AloneRun, of_session}
 use Rattle.spec_server.specs.Script.{asks_of_line, pending_after_line}
-use Rattle.spec_server.specs.Output.{reply_line, script_out}
+use Rattle.spec_server.specs.Output.{reply_lines, script_out}
 use Rattle.spec_server.proofs.RunLemmas.{answered, asked_in-answered, answered_runs}
 use Rattle.lp_base.specs.Beside.{Takes}
 use Rattle.lp_top.specs.Answer.{state_at, Answers, AnswersInPart, Responds, RespondsInPart}
@@ -28,8 +28,8 @@ one_run old new asked reply step others session = by (nat_eq asked.session sessi
     by true e = (new session, subst (λ (s : ℕ). AloneStep (old s) asked.ask [] reply (new s)) (eqb-true asked.session session e) step, refl)
     by false e = others session (not_equal asked.session session e)
 
-one_line : (asked : Asked ExactAsk) (reply : ExactReply) → script_out (exchange_of asked reply ∷ []) ≡ reply_line asked.session reply
-one_line asked reply = append-nil (reply_line asked.session reply)
+one_line : (asked : Asked ExactAsk) (reply : ExactReply) → script_out (exchange_of asked reply ∷ []) ≡ reply_lines asked.session reply
+one_line asked reply = append-nil (reply_lines asked.session reply)
 
 module _ (before after : Option (List ℕ)) (pending : Pending (List (Line (List ℕ)))) (old : List State) (line : Line (List ℕ)) where
   -- the ask was answered

@@ -27,7 +27,6 @@ use Rattle.lp_top.specs.declared.run.Stop.TheVariants as stops
 use Rattle.lp_top.specs.Answer.{state_at, Responds, RespondsInPart}
 use Rattle.lp_top.specs.Run.{Moves, EndsInput, BreaksOff, EndsSo, EndsAs}
 use Rattle.lp_top.specs.Stop.{stop_of}
-use Rattle.lp_top.specs.Top.{Tells}
 
 abbrev pub Begun : Type 0
 Begun = Pending (List (Line (List ℕ)))
@@ -308,32 +307,3 @@ takes_more {before} {after} {old} {new} line g no_end no_over =
           given.taken,
       given.bound,
     )
-
--- ---- what the top call tells
-
-pub told_nothing : (left taken : Option (List ℕ)) → (moves : Moves left left taken taken) × Tells 2 moves
-unfolding nothing
-told_nothing left taken = (nothing left taken, record { done = λ e. absurd (omega arith); nothing = λ e. (refl, refl); fault = λ e. absurd (omega arith); cut = λ e. absurd (omega arith); over = λ e. absurd (omega arith) })
-
--- the code of a stop
-abbrev pub code_of : Stop → ℕ
-code_of stops.Read = 3
-code_of stops.Write = 4
-code_of stops.NoMemory = 5
-code_of stops.Cut = 6
-code_of stops.Over = 8
-
-module _ {before after taken now : Option (List ℕ)} where
-  pub told_done : ((moves : Moves before after taken now) × EndsSo moves (Ok tt)) → (moves : Moves before after taken now) × Tells 0 moves
-  told_done m = (m.0, record { done = λ e. m.1; nothing = λ e. absurd (omega arith); fault = λ e. absurd (omega arith); cut = λ e. absurd (omega arith); over = λ e. absurd (omega arith) })
-
-  told_stop : (moves : Moves before after taken now) (stop : Stop) → EndsSo moves (Err stop) → Tells (code_of stop) moves
-  told_stop moves stops.Read ends = record { done = λ e. absurd (omega arith); nothing = λ e. absurd (omega arith); fault = λ e. ends; cut = λ e. absurd (omega arith); over = λ e. absurd (omega arith) }
-  told_stop moves stops.Write ends = record { done = λ e. absurd (omega arith); nothing = λ e. absurd (omega arith); fault = λ e. absurd (omega arith); cut = λ e. absurd (omega arith); over = λ e. absurd (omega arith) }
-  told_stop moves stops.NoMemory ends = record { done = λ e. absurd (omega arith); nothing = λ e. absurd (omega arith); fault = λ e. absurd (omega arith); cut = λ e. absurd (omega arith); over = λ e. absurd (omega arith) }
-  told_stop moves stops.Cut ends = record { done = λ e. absurd (omega arith); nothing = λ e. absurd (omega arith); fault = λ e. absurd (omega arith); cut = λ e. ends; over = λ e. absurd (omega arith) }
-  told_stop moves stops.Over ends = record { done = λ e. absurd (omega arith); nothing = λ e. absurd (omega arith); fault = λ e. absurd (omega arith); cut = λ e. absurd (omega arith); over = λ e. ends }
-
-  -- the status of a stop
-  pub told_by : (stop is : Stop) → stop ≡ is → ((moves : Moves before after taken now) × EndsSo moves (Err stop)) → (moves : Moves before after taken now) × Tells (code_of is) moves
-  told_by stop is same m = (m.0, told_stop m.0 is (subst (λ (s : Stop). EndsSo m.0 (Err s)) same m.1))

@@ -7,7 +7,7 @@ use Rattle.spec_server.specs.declared.asks.Asked.{Asked}
 use Rattle.spec_server.specs.declared.pending.Pending.{Pending}
 use Rattle.spec_server.specs.Machine.{ExactAsk, ExactReply, State, opening, AloneStep, Exchange, asked_in, AloneRun, of_session}
 use Rattle.spec_server.specs.Script.{asks_of_line, pending_after_line}
-use Rattle.spec_server.specs.Output.{reply_line, script_out}
+use Rattle.spec_server.specs.Output.{reply_lines, script_out}
 
 -- the state of a session in the list of all
 abbrev pub state_at : List State → ℕ → State
@@ -22,14 +22,14 @@ pub record Steps (old new : List State) (asked : Asked ExactAsk) (reply : ExactR
 pub record Answers (before after : Option (List ℕ)) (old new : List State) (asked : Asked ExactAsk) : Type 0 where
   pub reply : ExactReply
   pub steps : Steps old new asked reply
-  pub written : Appends before after (reply_line asked.session reply)
+  pub written : Appends before after (reply_lines asked.session reply)
 
 -- a front of a reply was written
 pub record AnswersInPart (before after : Option (List ℕ)) (old : List State) (asked : Asked ExactAsk) : Type 0 where
   pub reply : ExactReply
   pub state : State
   pub step : AloneStep (state_at old asked.session) asked.ask [] reply state
-  pub written : Takes before after (reply_line asked.session reply)
+  pub written : Takes before after (reply_lines asked.session reply)
 
 -- the ask that a line completes, if it completes one, was answered
 pub record Responds (before after : Option (List ℕ)) (pending new_pending : Pending (List (Line (List ℕ)))) (old new : List State) (line : Line (List ℕ)) : Type 0 where

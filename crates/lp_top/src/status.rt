@@ -25,4 +25,7 @@ impl Status {
 
     /// The input is longer than may be read.
     pub const OVER: Status = Status { code: 8 };
+
+    /// What was read is refused.
+    pub const REFUSED: Status = Status { code: 9 };
 }

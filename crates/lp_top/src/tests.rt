@@ -58,7 +58,7 @@ fn scripts_and_their_output(rt: HostRuntime) -> Result<(), Fail> {
             0,
             "0 ERR 15 NOTBUILT\n0 ERR 15 NOTBUILT\n0 ERR 15 NOTBUILT\n64 ERR 15 NOTBUILT\n",
         ),
-        ("3 LOAD FREE\nNAME a b\nENDATA\n", 0, "3 ERR 15 NOTBUILT\n"),
+        ("3 LOAD FREE\nNAME a b\nENDATA\n", 0, "3 ERR 8 MPS 2 M1\n"),
         (
             "1 LOAD FREE\nNAME z\nROWS\n N c\n L r\nCOLUMNS\n x c 2 r 1\n y c 3\nRHS\n c -4\n r 9\nENDATA\n1 CHECK\nOPTIMAL\nx x 1\nEND\n1 CHECK\nOPTIMAL\nx x -1\nEND\n1 CHECK\nOPTIMAL\nx x 10\nEND\n1 CHECK\nOPTIMAL\nEND\n1 CHECK\nOPTIMAL\ny r 1\nEND\n1 CHECK\nOPTIMAL\nx z 1\nEND\n",
             0,
@@ -70,6 +70,45 @@ fn scripts_and_their_output(rt: HostRuntime) -> Result<(), Fail> {
         let ended = lpd_top(alloc, &words, &mut src, &mut out);
         assert_eq!(rt; ended.code, status, "{script}");
         assert_eq!(rt; out.written(), output.as_bytes(), "{script}");
+    }
+    Ok(())
+}
+
+const TEXT: &str = "NAME a\nROWS\n N cost\n G R1\nCOLUMNS\n x cost 1 R1 1\nRHS\n R1 1\nENDATA\n";
+
+#[test]
+fn certificates_behind_texts(rt: HostRuntime) -> Result<(), Fail> {
+    let alloc = rt.alloc();
+    for (all, behind, status, output) in [
+        (
+            &["check"] as &[&str],
+            "OPTIMAL\nx x 1\ny R1 1\nEND\nx",
+            0,
+            "YES OPTIMAL 1\n",
+        ),
+        (
+            &["check", "--form", "free"],
+            "OPTIMAL\nx x 2\ny R1 1\nEND",
+            0,
+            "NO 4\n",
+        ),
+        (
+            &["check", "--form", "fixed"],
+            "OPTIMAL\nEND\n",
+            9,
+            "ERR 8 MPS 3 M3\n",
+        ),
+        (&["check"], "OPTIMAL\nx q 1\nEND\n", 9, "ERR 5 NAME q\n"),
+        (&["check"], "OPTIMAL\nx x 1\n", 9, "ERR 14 CERT 3\n"),
+        (&["check", "--form"], "OPTIMAL\nEND\n", 2, ""),
+    ] {
+        let words = words(alloc, all)?;
+        let text = format!(in alloc; "{TEXT}{behind}")?;
+        let mut src = source(alloc, &text, 7, &[])?;
+        let mut out = MemSink::new(alloc, Vec::new(alloc));
+        let ended = lpd_top(alloc, &words, &mut src, &mut out);
+        assert_eq!(rt; ended.code, status, "{behind}");
+        assert_eq!(rt; out.written(), output.as_bytes(), "{behind}");
     }
     Ok(())
 }

@@ -9,11 +9,11 @@ use Rattle.spec_exact.proofs.Limit.{add_gives, add_unlimited, sub_gives, sub_unl
 use Rattle.spec_exact.proofs.Compare.{compare_gives, compare_unlimited}
 use Rattle.spec_model.specs.declared.parts.Kind.{Kind}
 use Rattle.spec_model.specs.declared.parts.Kind.TheVariants.{L, G, E}
-use Rattle.spec_model.specs.Model.{Model, ExactRow, width, height, bounds, row, cost, coefficient, part}
+use Rattle.spec_model.specs.Model.{Model, ExactRow, Limits, width, height, bounds, row, cost, coefficient, part}
 use Rattle.spec_check.specs.declared.certificate.Certificate.{Certificate}
-use Rattle.spec_check.specs.declared.certificate.Certificate.TheVariants.{Optimal}
-use Rattle.spec_check.specs.Checks.{signed}
-use Rattle.spec_check.specs.Run.{Run, Agrees, ◌>>=◌, step, each, each_from, plus_product, less_product, sum_run, some_run, lower_by_run, upper_by_run, lower_run, upper_run, at_least, at_most, column_within_run, activity_run, row_within_run, reduced_run, column_tight_run, row_tight_run, value_run, optimal_run, check_run}
+use Rattle.spec_check.specs.declared.certificate.Certificate.TheVariants.{Optimal, Infeasible, Clash, Unbounded}
+use Rattle.spec_check.specs.Checks.{signed, turned_limits}
+use Rattle.spec_check.specs.Run.{Run, Agrees, ◌>>=◌, step, each, each_from, plus_product, less_product, sum_run, some_run, lower_by_run, upper_by_run, lower_run, upper_run, at_least, at_most, column_within_run, activity_run, row_within_run, reduced_run, column_tight_run, row_tight_run, value_run, optimal_run, check_run, weighed_at, weighed, row_asks_run, priced_run, column_gives_run, infeasible_run, crossed_run, clash_run, row_allows_run, better_run, unbounded_run}
 
 same : {A : Type 0} (o : Run A) → Agrees o o
 unfolding Agrees
@@ -142,6 +142,65 @@ module _ (limit : Option ℕ) where
       after_agrees _ _ _ _ (each_agrees (height m) _ _ (row_tight_agrees m x y)) (λ _.
       after_agrees _ _ _ _ (value_agrees m x) (λ v. same _)))))
 
+  -- rows that no point meets together
+  weighed_at_agrees : (n : ℕ) (d : ℚ) (o : Option ℚ) (s : ℚ) → Agrees (weighed_at n limit d o s) (weighed_at n None d o s)
+  weighed_at_agrees n d None s = same _
+  weighed_at_agrees n d (Some b) s = plus_agrees d b s
+
+  row_asks_agrees : (m : Model) (y : List ℚ) (i : ℕ) (s : ℚ) → Agrees (row_asks_run limit m y i s) (row_asks_run None m y i s)
+  row_asks_agrees m y i s =
+      choice_agrees (lt_ℚ 0ℚ (part y i)) _ _ _ _
+      (after_agrees _ _ _ _ (lower_agrees (row m i)) (λ l. weighed_at_agrees 1 (part y i) l s))
+      (choice_agrees (lt_ℚ (part y i) 0ℚ) _ _ _ _
+      (after_agrees _ _ _ _ (upper_agrees (row m i)) (λ u. weighed_at_agrees 1 (part y i) u s))
+      (same (Ok s)))
+
+  weighed_agrees : (n : ℕ) (l : Limits) (d s : ℚ) → Agrees (weighed n limit l d s) (weighed n None l d s)
+  weighed_agrees n l d s =
+      choice_agrees (lt_ℚ 0ℚ d) _ _ _ _ (weighed_at_agrees n d l.lower s)
+      (choice_agrees (lt_ℚ d 0ℚ) _ _ _ _ (weighed_at_agrees n d l.upper s) (same (Ok s)))
+
+  priced_agrees : (m : Model) (y : List ℚ) (j : ℕ) → Agrees (priced_run limit m y j) (priced_run None m y j)
+  priced_agrees m y j = sum_agrees (height m) (λ i. part y i) (λ i. coefficient m i j)
+
+  column_gives_agrees : (m : Model) (y : List ℚ) (j : ℕ) (s : ℚ) → Agrees (column_gives_run limit m y j s) (column_gives_run None m y j s)
+  column_gives_agrees m y j s = after_agrees _ _ _ _ (priced_agrees m y j) (λ g. weighed_agrees 2 (turned_limits (bounds m j)) g s)
+
+  infeasible_agrees : (m : Model) (y : List ℚ) → Agrees (infeasible_run limit m y) (infeasible_run None m y)
+  infeasible_agrees m y =
+      after_agrees _ _ _ _ (each_from_agrees 0ℚ (height m) _ _ (row_asks_agrees m y)) (λ asked.
+      after_agrees _ _ _ _ (each_from_agrees 0ℚ (width m) _ _ (column_gives_agrees m y)) (λ given.
+      after_agrees _ _ _ _ (compare_agrees given asked) (λ o. same _)))
+
+  crossed_agrees : (l u : Option ℚ) → Agrees (crossed_run limit l u) (crossed_run None l u)
+  crossed_agrees None u = same _
+  crossed_agrees (Some l) None = same _
+  crossed_agrees (Some l) (Some u) = after_agrees _ _ _ _ (compare_agrees l u) (λ o. same _)
+
+  clash_agrees : (m : Model) (j : ℕ) → Agrees (clash_run limit m j) (clash_run None m j)
+  clash_agrees m j = after_agrees _ _ _ _ (crossed_agrees (bounds m j).lower (bounds m j).upper) (λ _. same _)
+
+  -- a ray
+  row_allows_agrees : (m : Model) (r : List ℚ) (i : ℕ) → Agrees (row_allows_run limit m r i) (row_allows_run None m r i)
+  row_allows_agrees m r i =
+      after_agrees _ _ _ _ (activity_agrees m r i) (λ s.
+      after_agrees _ _ _ _ (lower_agrees (row m i)) (λ l. after_agrees _ _ _ _ (same _) (λ _.
+      after_agrees _ _ _ _ (upper_agrees (row m i)) (λ u. same _))))
+
+  better_agrees : (m : Model) (r : List ℚ) → Agrees (better_run limit m r) (better_run None m r)
+  better_agrees m r = after_agrees _ _ _ _ (sum_agrees (width m) (cost m) (λ j. part r j)) (λ s. same _)
+
+  unbounded_agrees : (m : Model) (x r : List ℚ) → Agrees (unbounded_run limit m x r) (unbounded_run None m x r)
+  unbounded_agrees m x r =
+      after_agrees _ _ _ _ (each_agrees (width m) _ _ (column_within_agrees m x)) (λ _.
+      after_agrees _ _ _ _ (each_agrees (height m) _ _ (row_within_agrees m x)) (λ _.
+      after_agrees _ _ _ _ (same _) (λ _.
+      after_agrees _ _ _ _ (each_agrees (height m) _ _ (row_allows_agrees m r)) (λ _.
+      after_agrees _ _ _ _ (better_agrees m r) (λ _. same _)))))
+
   pub run_agrees : (m : Model) (cert : Certificate (List ℚ)) → Agrees (check_run limit m cert) (check_run None m cert)
   unfolding check_run
   run_agrees m (Optimal x y) = optimal_agrees m x y
+  run_agrees m (Infeasible y) = infeasible_agrees m y
+  run_agrees m (Clash j) = clash_agrees m j
+  run_agrees m (Unbounded x r) = unbounded_agrees m x r

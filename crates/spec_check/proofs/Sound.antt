@@ -1,19 +1,20 @@
 -- What a certificate shows is true.
-use Rattle.std.proofs.Common.{◌≡◌, ℕ, zero, suc, List, Option, Some, IfSome, refl, sym, subst, subst₂}
-use Rattle.spec_exact.specs.Fraction.{ℚ, ◌+ℚ◌, ◌*ℚ◌, 0ℚ, ◌≤ℚ◌}
+use Rattle.std.proofs.Common.{◌≡◌, ℕ, zero, suc, List, Option, Some, IfSome, refl, sym, ap, ◌∙◌, subst, subst₂}
+use Rattle.spec_exact.specs.Fraction.{ℚ, ◌+ℚ◌, ◌*ℚ◌, 0ℚ, ◌≤ℚ◌, ◌<ℚ◌}
 use Rattle.spec_exact.specs.Sums.{sum_below}
-use Rattle.spec_exact.proofs.Order.{+ℚ_mono, clash_ℚ}
+use Rattle.spec_exact.proofs.Order.{≤ℚ_trans, lt_test, not_lt_test, +ℚ_mono, clash_ℚ, <ℚ-le}
 use Rattle.spec_exact.proofs.Ruleset.{ring, neg-*ℚ, neg-zero}
 use Rattle.spec_exact.proofs.Strict.{neg_mono_back}
 use Rattle.spec_model.specs.declared.parts.Sense.{Sense}
 use Rattle.spec_model.specs.declared.parts.Sense.TheVariants.{Min, Max}
 use Rattle.spec_model.specs.Model.{Model, Limits, bounds, cost, width, height, column, limits, coefficient, part, activity, value_of}
-use Rattle.spec_model.specs.Truth.{IsBetween, IsFeasible, IsBetter, IsOptimal}
+use Rattle.spec_model.specs.Truth.{IsBetween, IsFeasible, IsBetter, IsOptimal, IsInfeasible}
 use Rattle.spec_check.specs.declared.certificate.Certificate.{Certificate}
-use Rattle.spec_check.specs.declared.certificate.Certificate.TheVariants.{Optimal}
+use Rattle.spec_check.specs.declared.certificate.Certificate.TheVariants.{Optimal, Infeasible, Clash, Unbounded}
 use Rattle.spec_check.specs.Certificate.{shown, Holds}
-use Rattle.spec_check.specs.Checks.{Checks, signed, ChecksOptimal}
-use Rattle.spec_check.proofs.Duality.{Between, Feasible, optimal}
+use Rattle.spec_check.specs.Checks.{Checks, signed, ChecksOptimal, ChecksInfeasible, asked, or_zero, HasLimit, turned_limits, priced, ChecksClash}
+use Rattle.spec_check.proofs.Duality.{Between, Feasible, optimal, infeasible}
+use Rattle.spec_check.proofs.Ray.{unbounded_holds}
 
 at_some : (P : ℚ → Type 0) (o : Option ℚ) → IfSome o P → (k : ℚ) → o ≡ Some k → P k
 at_some P o h k e = subst (λ o. IfSome o P) e h
@@ -67,5 +68,36 @@ optimal_holds m x y h = record {
       (feasible_for m z f)));
 }
 
+-- ---- no point is feasible
+
+-- the limit that a multiplier asks for is there
+asked_above : (l : Limits) (d : ℚ) → HasLimit l d → 0ℚ <ℚ d → l.lower ≡ Some (asked l d)
+asked_above l d h p =
+    let b = h.above p in
+    b.1 ∙ ap Some (sym (rw (lt_test 0ℚ d p) (ap or_zero b.1)))
+
+asked_below : (l : Limits) (d : ℚ) → HasLimit l d → d <ℚ 0ℚ → l.upper ≡ Some (asked l d)
+asked_below l d h p =
+    let b = h.below p in
+    b.1 ∙ ap Some (sym (rw (not_lt_test 0ℚ d (<ℚ-le _ _ p), lt_test d 0ℚ p) (ap or_zero b.1)))
+
+pub infeasible_holds : (m : Model) (y : List ℚ) → ChecksInfeasible m y → IsInfeasible m
+infeasible_holds m y h z f =
+    infeasible (width m) (height m) (coefficient m) (below_of m) (above_of m) (λ i. (limits m i).lower) (λ i. (limits m i).upper)
+    (part y) (λ i. asked (limits m i) (part y i)) (λ j. asked (turned_limits (bounds m j)) (priced m y j)) (part z)
+    (λ i k. record { above = asked_above (limits m i) (part y i) (h.rows i k); below = asked_below (limits m i) (part y i) (h.rows i k) })
+    (λ j k. record { above = asked_above (turned_limits (bounds m j)) (priced m y j) (h.columns j k); below = asked_below (turned_limits (bounds m j)) (priced m y j) (h.columns j k) })
+    h.less
+    (feasible_for m z f)
+
+pub clash_holds : (m : Model) (j : ℕ) → ChecksClash m j → IsInfeasible m
+clash_holds m j h z f =
+    let b : IsBetween (bounds m j) (part z j) = f.columns j h.inside in
+    clash_ℚ h.high h.low h.crossed
+    (≤ℚ_trans h.low (part z j) h.high (at_some (λ k. k ≤ℚ part z j) (bounds m j).lower b.lower h.low h.lower) (at_some (λ k. part z j ≤ℚ k) (bounds m j).upper b.upper h.high h.upper))
+
 pub checks_hold : (m : Model) (cert : Certificate (List ℚ)) → Checks m cert → Holds m (shown m cert)
 checks_hold m (Optimal x y) h = optimal_holds m x y h
+checks_hold m (Infeasible y) h = infeasible_holds m y h
+checks_hold m (Clash j) h = clash_holds m j h
+checks_hold m (Unbounded x r) h = unbounded_holds m x r h

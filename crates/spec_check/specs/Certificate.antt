@@ -1,20 +1,36 @@
 -- What a certificate shows.
-use Rattle.std.specs.Prelude.{◌≡◌, List, length}
+use Rattle.std.specs.Prelude.{◌≡◌, ◌<◌, List, length, All}
 use Rattle.spec_exact.specs.Fraction.{ℚ}
+use Rattle.spec_exact.specs.Narrow.{IsNarrow}
 use Rattle.spec_model.specs.Model.{Model, width, height, value_of}
-use Rattle.spec_model.specs.Truth.{IsOptimal}
+use Rattle.spec_model.specs.Truth.{IsOptimal, IsInfeasible, IsUnbounded}
 use Rattle.spec_check.specs.declared.certificate.Certificate.{Certificate}
-use Rattle.spec_check.specs.declared.certificate.Certificate.TheVariants.{Optimal}
+use Rattle.spec_check.specs.declared.certificate.Certificate.TheVariants.{Optimal, Infeasible, Clash, Unbounded}
 use Rattle.spec_check.specs.declared.certificate.Known.{Known}
 use Rattle.spec_check.specs.declared.certificate.Known.TheVariants as known
 
--- the lists have a number for each column and each row
+-- the lists have a number for each column or each row, and the column that is named is one
 abbrev pub IsFor : Model → Certificate (List ℚ) → Type 0
 IsFor m (Optimal x y) = (length x ≡ width m) × (length y ≡ height m)
+IsFor m (Infeasible y) = length y ≡ height m
+IsFor m (Clash j) = j < width m
+IsFor m (Unbounded x r) = (length x ≡ width m) × (length r ≡ width m)
+
+-- all its numbers are of at most 127 bits
+abbrev pub IsNarrowCertificate : Certificate (List ℚ) → Type 0
+IsNarrowCertificate (Optimal x y) = All IsNarrow x × All IsNarrow y
+IsNarrowCertificate (Infeasible y) = All IsNarrow y
+IsNarrowCertificate (Clash j) = Unit {0}
+IsNarrowCertificate (Unbounded x r) = All IsNarrow x × All IsNarrow r
 
 -- what a certificate shows of a model, if it is accepted
 abbrev pub shown : Model → Certificate (List ℚ) → Known ℚ
 shown m (Optimal x y) = known.Optimal (value_of m x)
+shown m (Infeasible y) = known.Infeasible
+shown m (Clash j) = known.Infeasible
+shown m (Unbounded x r) = known.Unbounded
 
 abbrev pub Holds : Model → Known ℚ → Type 0
 Holds m (known.Optimal v) = IsOptimal m v
+Holds m known.Infeasible = IsInfeasible m
+Holds m known.Unbounded = IsUnbounded m

@@ -1,13 +1,13 @@
 -- The conditions under which a certificate is accepted.
-use Rattle.std.specs.Prelude.{◌≡◌, ℕ, ◌<◌, List, Some}
-use Rattle.spec_exact.specs.Fraction.{ℚ, ◌-ℚ◌, ◌*ℚ◌, ◌<ℚ◌, neg_ℚ, 0ℚ}
+use Rattle.std.specs.Prelude.{◌≡◌, ℕ, ◌<◌, List, Option, Some, None, IfSome, cond}
+use Rattle.spec_exact.specs.Fraction.{ℚ, ◌-ℚ◌, ◌*ℚ◌, ◌≤ℚ◌, ◌<ℚ◌, neg_ℚ, 0ℚ, lt_ℚ}
 use Rattle.spec_exact.specs.Sums.{sum_below}
 use Rattle.spec_model.specs.declared.parts.Sense.{Sense}
 use Rattle.spec_model.specs.declared.parts.Sense.TheVariants.{Min, Max}
-use Rattle.spec_model.specs.Model.{Model, Limits, width, height, bounds, limits, cost, coefficient, activity, part}
+use Rattle.spec_model.specs.Model.{Model, Limits, width, height, bounds, limits, cost, coefficient, activity, cost_of, part}
 use Rattle.spec_model.specs.Truth.{IsFeasible}
 use Rattle.spec_check.specs.declared.certificate.Certificate.{Certificate}
-use Rattle.spec_check.specs.declared.certificate.Certificate.TheVariants.{Optimal}
+use Rattle.spec_check.specs.declared.certificate.Certificate.TheVariants.{Optimal, Infeasible, Clash, Unbounded}
 
 -- the cost to be made least
 abbrev pub signed : Sense → ℚ → ℚ
@@ -22,6 +22,8 @@ priced m y j = sum_below (height m) (λ i. part y i *ℚ coefficient m i j)
 abbrev pub reduced : Model → List ℚ → ℕ → ℚ
 reduced m y j = signed m.sense (cost m j) -ℚ priced m y j
 
+-- ---- a point that is optimal
+
 -- with a multiplier d above 0 the value v is the lower limit, with one below 0 the upper
 pub record IsTight (l : Limits) (d v : ℚ) : Type 0 where
   pub above : 0ℚ <ℚ d → l.lower ≡ Some v
@@ -33,5 +35,63 @@ pub record ChecksOptimal (m : Model) (x y : List ℚ) : Type 0 where
   pub columns : (j : ℕ) → j < width m → IsTight (bounds m j) (reduced m y j) (part x j)
   pub rows : (i : ℕ) → i < height m → IsTight (limits m i) (part y i) (activity m x i)
 
+-- ---- rows that no point meets together
+
+-- a multiplier d above 0 has the lower limit, one below 0 the upper
+pub record HasLimit (l : Limits) (d : ℚ) : Type 0 where
+  pub above : 0ℚ <ℚ d → (b : ℚ) × (l.lower ≡ Some b)
+  pub below : d <ℚ 0ℚ → (b : ℚ) × (l.upper ≡ Some b)
+
+abbrev pub or_zero : Option ℚ → ℚ
+or_zero None = 0ℚ
+or_zero (Some b) = b
+
+-- that limit
+abbrev pub asked : Limits → ℚ → ℚ
+asked l d = cond (lt_ℚ 0ℚ d) (or_zero l.lower) (cond (lt_ℚ d 0ℚ) (or_zero l.upper) 0ℚ)
+
+abbrev pub turned_limits : Limits → Limits
+turned_limits l = record { lower = l.upper; upper = l.lower }
+
+-- the least that the limits let the sum of all rows be, each of them times its multiplier
+abbrev pub rows_ask : Model → List ℚ → ℚ
+rows_ask m y = sum_below (height m) (λ i. part y i *ℚ asked (limits m i) (part y i))
+
+-- the most that the columns' bounds let that sum be
+abbrev pub columns_give : Model → List ℚ → ℚ
+columns_give m y = sum_below (width m) (λ j. priced m y j *ℚ asked (turned_limits (bounds m j)) (priced m y j))
+
+-- multipliers with which the bounds give less than the rows ask (Farkas)
+pub record ChecksInfeasible (m : Model) (y : List ℚ) : Type 0 where
+  pub rows : (i : ℕ) → i < height m → HasLimit (limits m i) (part y i)
+  pub columns : (j : ℕ) → j < width m → HasLimit (turned_limits (bounds m j)) (priced m y j)
+  pub less : columns_give m y <ℚ rows_ask m y
+
+-- ---- a column whose lower bound is above its upper bound
+pub record ChecksClash (m : Model) (j : ℕ) : Type 0 where
+  pub inside : j < width m
+  pub low : ℚ
+  pub high : ℚ
+  pub lower : (bounds m j).lower ≡ Some low
+  pub upper : (bounds m j).upper ≡ Some high
+  pub crossed : high <ℚ low
+
+-- ---- a ray along which feasible points get better without end
+
+-- limits that a value may move by r from for good
+pub record Allows (l : Limits) (r : ℚ) : Type 0 where
+  pub lower : IfSome l.lower (λ _. 0ℚ ≤ℚ r)
+  pub upper : IfSome l.upper (λ _. r ≤ℚ 0ℚ)
+
+-- a feasible point, and a ray from it that stays feasible and gets better
+pub record ChecksUnbounded (m : Model) (x r : List ℚ) : Type 0 where
+  pub feasible : IsFeasible m x
+  pub columns : (j : ℕ) → j < width m → Allows (bounds m j) (part r j)
+  pub rows : (i : ℕ) → i < height m → Allows (limits m i) (activity m r i)
+  pub better : signed m.sense (cost_of m r) <ℚ 0ℚ
+
 abbrev pub Checks : Model → Certificate (List ℚ) → Type 0
 Checks m (Optimal x y) = ChecksOptimal m x y
+Checks m (Infeasible y) = ChecksInfeasible m y
+Checks m (Clash j) = ChecksClash m j
+Checks m (Unbounded x r) = ChecksUnbounded m x r

@@ -3,3 +3,5 @@ pub mod Checks
 pub mod Run
 pub mod Settle
 pub mod Text
+pub mod TextWritten
+pub mod TextRead

@@ -11,14 +11,14 @@ use Rattle.spec_model.specs.declared.parts.Kind.{Kind}
 use Rattle.spec_model.specs.declared.parts.Kind.TheVariants.{L, G, E}
 use Rattle.spec_model.specs.Model.{Model, ExactRow, Limits, width, height, bounds, row, cost, coefficient, part}
 use Rattle.spec_check.specs.declared.certificate.Certificate.{Certificate}
-use Rattle.spec_check.specs.declared.certificate.Certificate.TheVariants.{Optimal}
+use Rattle.spec_check.specs.declared.certificate.Certificate.TheVariants.{Optimal, Infeasible, Clash, Unbounded}
 use Rattle.spec_check.specs.declared.certificate.Known.{Known}
 use Rattle.spec_check.specs.declared.certificate.Known.TheVariants as known
 use Rattle.spec_check.specs.declared.certificate.Stop.{Stop}
 use Rattle.spec_check.specs.declared.certificate.Stop.TheVariants as stop
 use Rattle.spec_check.specs.declared.certificate.Verdict.{Verdict}
 use Rattle.spec_check.specs.declared.certificate.Verdict.TheVariants as verdict
-use Rattle.spec_check.specs.Checks.{signed}
+use Rattle.spec_check.specs.Checks.{signed, turned_limits}
 
 -- a result; or the number of the condition that fails; or the operation that is refused
 abbrev pub Run : Type 0 → Type 0
@@ -157,8 +157,85 @@ optimal_run limit m x y =
     each (width m) (column_tight_run limit m x y) >>= λ _. each (height m) (row_tight_run limit m x y) >>= λ _.
     value_run limit m x >>= λ v. Ok (known.Optimal v)
 
+-- ---- rows that no point meets together
+
+-- d times a limit that condition n asks for, onto s
+abbrev pub weighed_at : ℕ → Option ℕ → ℚ → Option ℚ → ℚ → Run ℚ
+weighed_at n limit d None s = Err (stop.No n)
+weighed_at n limit d (Some b) s = plus_product limit d b s
+
+-- the limit of a row is the one that the multiplier's sign asks for
+abbrev pub row_asks_run : Option ℕ → Model → List ℚ → ℕ → ℚ → Run ℚ
+row_asks_run limit m y i s =
+    cond (lt_ℚ 0ℚ (part y i)) (lower_run limit (row m i) >>= λ l. weighed_at 1 limit (part y i) l s)
+    (cond (lt_ℚ (part y i) 0ℚ) (upper_run limit (row m i) >>= λ u. weighed_at 1 limit (part y i) u s) (Ok s))
+
+abbrev pub weighed : ℕ → Option ℕ → Limits → ℚ → ℚ → Run ℚ
+weighed n limit l d s = cond (lt_ℚ 0ℚ d) (weighed_at n limit d l.lower s) (cond (lt_ℚ d 0ℚ) (weighed_at n limit d l.upper s) (Ok s))
+
+abbrev pub priced_run : Option ℕ → Model → List ℚ → ℕ → Run ℚ
+priced_run limit m y j = sum_run limit (height m) (λ i. part y i) (λ i. coefficient m i j)
+
+-- a column's multipliers' part above 0 asks for the upper bound, one below 0 for the lower
+abbrev pub column_gives_run : Option ℕ → Model → List ℚ → ℕ → ℚ → Run ℚ
+column_gives_run limit m y j s = priced_run limit m y j >>= λ g. weighed 2 limit (turned_limits (bounds m j)) g s
+
+abbrev pub rows_ask_run : Option ℕ → Model → List ℚ → Run ℚ
+rows_ask_run limit m y = each_from 0ℚ (height m) (row_asks_run limit m y)
+
+abbrev pub columns_give_run : Option ℕ → Model → List ℚ → Run ℚ
+columns_give_run limit m y = each_from 0ℚ (width m) (column_gives_run limit m y)
+
+abbrev pub infeasible_run : Option ℕ → Model → List ℚ → Run (Known ℚ)
+infeasible_run limit m y =
+    rows_ask_run limit m y >>= λ asked. columns_give_run limit m y >>= λ given.
+    step Cmp given asked (compare limit given asked) >>= λ o. need 3 (is_less o) >>= λ _. Ok known.Infeasible
+
+-- ---- a column whose lower bound is above its upper bound
+
+abbrev pub crossed_run : Option ℕ → Option ℚ → Option ℚ → Run ⊤
+crossed_run limit None upper = Err (stop.No 1)
+crossed_run limit (Some l) None = Err (stop.No 1)
+crossed_run limit (Some l) (Some u) = step Cmp l u (compare limit l u) >>= λ o. need 1 (is_greater o)
+
+abbrev pub clash_run : Option ℕ → Model → ℕ → Run (Known ℚ)
+clash_run limit m j = crossed_run limit (bounds m j).lower (bounds m j).upper >>= λ _. Ok known.Infeasible
+
+-- ---- a ray: conditions 3 to 5, behind those of a feasible point
+
+-- a lower limit asks that r is at least 0, an upper one that it is at most 0
+abbrev pub not_below : Option ℚ → ℚ → Bool
+not_below None r = true
+not_below (Some k) r = not (lt_ℚ r 0ℚ)
+
+abbrev pub not_above : Option ℚ → ℚ → Bool
+not_above None r = true
+not_above (Some k) r = not (lt_ℚ 0ℚ r)
+
+abbrev pub column_allows_run : Model → List ℚ → ℕ → Run ⊤
+column_allows_run m r j = need 3 (not_below (bounds m j).lower (part r j)) >>= λ _. need 3 (not_above (bounds m j).upper (part r j))
+
+-- The limits are those of condition 2, taken again.
+abbrev pub row_allows_run : Option ℕ → Model → List ℚ → ℕ → Run ⊤
+row_allows_run limit m r i =
+    activity_run limit m r i >>= λ s.
+    lower_run limit (row m i) >>= λ l. need 4 (not_below l s) >>= λ _.
+    upper_run limit (row m i) >>= λ u. need 4 (not_above u s)
+
+abbrev pub better_run : Option ℕ → Model → List ℚ → Run ⊤
+better_run limit m r = cost_run limit m r >>= λ s. need 5 (lt_ℚ (signed m.sense s) 0ℚ)
+
+abbrev pub unbounded_run : Option ℕ → Model → List ℚ → List ℚ → Run (Known ℚ)
+unbounded_run limit m x r =
+    columns_run limit m x >>= λ _. rows_run limit m x >>= λ _.
+    each (width m) (column_allows_run m r) >>= λ _. each (height m) (row_allows_run limit m r) >>= λ _.
+    better_run limit m r >>= λ _. Ok known.Unbounded
+
 unfoldable pub check_run : Option ℕ → Model → Certificate (List ℚ) → Run (Known ℚ)
 check_run limit m (Optimal x y) = optimal_run limit m x y
+check_run limit m (Infeasible y) = infeasible_run limit m y
+check_run limit m (Clash j) = clash_run limit m j
+check_run limit m (Unbounded x r) = unbounded_run limit m x r
 
 -- what is said of the certificate
 abbrev pub verdict_of : Run (Known ℚ) → Verdict ℚ

@@ -1,41 +1,78 @@
 -- The parts of a certificate, put to the rows and columns of a model by their names.
-use Rattle.std.specs.Prelude.{ℕ, Option, Some, None, Result, Ok, Err, List, [], ◌∷◌, replicate, slice_set}
+use Rattle.std.specs.Prelude.{ℕ, ◌&&◌, Bool, true, false, Option, Some, None, Result, Ok, Err, List, [], ◌∷◌, ◌++◌, replicate, slice_set, if◌then◌else◌}
+use Rattle.std.specs.List.{list_any}
+use Rattle.spec_text.specs.Words.{same}
 use Rattle.spec_exact.specs.Fraction.{ℚ, 0ℚ}
 use Rattle.spec_model.specs.Model.{Model, Name, width, height}
 use Rattle.spec_model.specs.Kept.{row_place, column_place}
 use Rattle.spec_check.specs.declared.certificate.Letter.{Letter}
-use Rattle.spec_check.specs.declared.certificate.Letter.TheVariants.{X, Y}
+use Rattle.spec_check.specs.declared.certificate.Letter.TheVariants.{X, Y, R}
+use Rattle.spec_check.specs.declared.certificate.CertificateKind.TheVariants as kind
 use Rattle.spec_check.specs.declared.certificate.Certificate.{Certificate}
-use Rattle.spec_check.specs.declared.certificate.Certificate.TheVariants.{Optimal}
-use Rattle.spec_check.specs.Text.{ExactPart}
+use Rattle.spec_check.specs.declared.certificate.Certificate.TheVariants.{Optimal, Infeasible, Clash, Unbounded}
+use Rattle.spec_check.specs.declared.certificate.SettleFault.{SettleFault}
+use Rattle.spec_check.specs.declared.certificate.SettleFault.TheVariants.{UnknownName, Repeated}
+use Rattle.spec_check.specs.Text.{ExactPart, ExactRaw, ExactKind}
+
+abbrev pub Settled : Type 0 → Type 0
+Settled A = Result A (SettleFault Name)
+
+infixl 1 ◌>>=◌
+abbrev pub ◌>>=◌ : {A B : Type 0} → Settled A → (A → Settled B) → Settled B
+(Ok a) >>= next = next a
+(Err fault) >>= next = Err fault
+
+-- a place in the model, or the name that is not known
+abbrev pub known : Option ℕ → Name → Settled ℕ
+known None name = Err (UnknownName name)
+known (Some k) name = Ok k
 
 -- the column or the row that a part is for
 abbrev pub place_of : Model → Letter → Name → Option ℕ
 place_of m X name = column_place m name
 place_of m Y name = row_place m name
+place_of m R name = column_place m name
 
--- the values and the multipliers with this one among them
-abbrev pub with_value : Letter → ℕ → ℚ → List ℚ × List ℚ → List ℚ × List ℚ
-with_value X j v (x, y) = (slice_set x j v, y)
-with_value Y i v (x, y) = (x, slice_set y i v)
+abbrev pub zeros : ℕ → List ℚ
+zeros n = replicate n 0ℚ
 
-abbrev pub placed : Option ℕ → ExactPart → List ℚ × List ℚ → Result (List ℚ × List ℚ) Name
-placed None p lists = Err p.name
-placed (Some k) p lists = Ok (with_value p.letter k p.value lists)
+-- the certificate of this kind in which all numbers are 0
+unfoldable pub blank : Model → ExactKind → Settled (Certificate (List ℚ))
+blank m kind.Optimal = Ok (Optimal (zeros (width m)) (zeros (height m)))
+blank m kind.Infeasible = Ok (Infeasible (zeros (height m)))
+blank m kind.Unbounded = Ok (Unbounded (zeros (width m)) (zeros (width m)))
+blank m (kind.Clash name) = known (column_place m name) name >>= λ j. Ok (Clash j)
 
-abbrev pub and_then : Result (List ℚ × List ℚ) Name → (List ℚ × List ℚ → Result (List ℚ × List ℚ) Name) → Result (List ℚ × List ℚ) Name
-and_then (Ok lists) next = next lists
-and_then (Err name) next = Err name
+-- the certificate with this number in its place
+abbrev pub with_value : Letter → ℕ → ℚ → Certificate (List ℚ) → Certificate (List ℚ)
+with_value X j v (Optimal x y) = Optimal (slice_set x j v) y
+with_value Y i v (Optimal x y) = Optimal x (slice_set y i v)
+with_value Y i v (Infeasible y) = Infeasible (slice_set y i v)
+with_value X j v (Unbounded x r) = Unbounded (slice_set x j v) r
+with_value R j v (Unbounded x r) = Unbounded x (slice_set r j v)
+with_value letter k v cert = cert
 
--- each part in order, up to the first whose name is not known
-abbrev pub settled_from : Model → List ExactPart → List ℚ × List ℚ → Result (List ℚ × List ℚ) Name
-settled_from m [] lists = Ok lists
-settled_from m (p ∷ ps) lists = and_then (placed (place_of m p.letter p.name) p lists) (λ more. settled_from m ps more)
+abbrev pub same_letter : Letter → Letter → Bool
+same_letter X X = true
+same_letter Y Y = true
+same_letter R R = true
+same_letter a b = false
 
-abbrev pub certified : Result (List ℚ × List ℚ) Name → Result (Certificate (List ℚ)) Name
-certified (Ok (x, y)) = Ok (Optimal x y)
-certified (Err name) = Err name
+-- a part before has this letter and name already
+abbrev pub is_given : Letter → Name → List ExactPart → Bool
+is_given letter name parts = list_any (λ p. same_letter p.letter letter && same p.name name) parts
 
--- the certificate of these parts, in which what is not named is 0; or the first name that is not known
-unfoldable pub certificate_for : Model → List ExactPart → Result (Certificate (List ℚ)) Name
-certificate_for m parts = certified (settled_from m parts (replicate (width m) 0ℚ, replicate (height m) 0ℚ))
+-- one part, behind those before it
+unfoldable pub put : Model → List ExactPart → ExactPart → Certificate (List ℚ) → Settled (Certificate (List ℚ))
+put m before p cert =
+    known (place_of m p.letter p.name) p.name >>= λ k.
+    if is_given p.letter p.name before then Err (Repeated p.name) else Ok (with_value p.letter k p.value cert)
+
+-- each part in order, up to the first whose name is not known or was given before
+abbrev pub put_all : Model → List ExactPart → List ExactPart → Certificate (List ℚ) → Settled (Certificate (List ℚ))
+put_all m before [] cert = Ok cert
+put_all m before (p ∷ parts) cert = put m before p cert >>= λ next. put_all m (before ++ p ∷ []) parts next
+
+-- the certificate of these parts, in which what is not named is 0; or the first name that does not fit
+unfoldable pub certificate_for : Model → ExactRaw → Settled (Certificate (List ℚ))
+certificate_for m raw = blank m raw.kind >>= λ cert. put_all m [] raw.parts cert

@@ -1,66 +1,131 @@
--- The text of a certificate in its first form: a line OPTIMAL, then a line for each part, with its letter, its name and a
--- short number, no letter and name twice, then a line END.
-use Rattle.std.specs.Prelude.{ℕ, ◌&&◌, Bool, true, false, not, Option, Some, None, List, [], ◌∷◌, ◌++◌, codes, if◌then◌else◌}
-use Rattle.std.specs.List.{list_any}
+-- The text of a certificate. Its first line says the kind: OPTIMAL, INFEASIBLE, UNBOUNDED, or CLASH and a column's name. Each
+-- line behind it is a part: a letter that the kind takes, a name and a number. The last line is END. Each line is a step from
+-- what was read before it.
+use Rattle.std.specs.Prelude.{ℕ, ◌+◌, ◌≡◌, ◌⊎◌, Bool, true, false, Option, Some, None, List, [], ◌∷◌, ◌++◌, codes, if◌then◌else◌}
 use Rattle.spec_text.specs.declared.line.Line.{Line}
 use Rattle.spec_text.specs.declared.line.Line.TheVariants as line
 use Rattle.spec_text.specs.Words.{same, words_of}
 use Rattle.spec_exact.specs.Fraction.{ℚ}
 use Rattle.spec_model.specs.Model.{Name}
-use Rattle.spec_mps.specs.Numbers.{short_number}
-use Rattle.spec_mps.specs.FirstForm.{◌>>=◌, must}
+use Rattle.spec_mps.specs.NumberText.{NumberReading, Is, Shape, Wide, number_of}
+use Rattle.spec_mps.specs.Shapes.{look_up}
 use Rattle.spec_check.specs.declared.certificate.Letter.{Letter}
-use Rattle.spec_check.specs.declared.certificate.Letter.TheVariants.{X, Y}
+use Rattle.spec_check.specs.declared.certificate.Letter.TheVariants.{X, Y, R}
 use Rattle.spec_check.specs.declared.certificate.Part.{Part}
+use Rattle.spec_check.specs.declared.certificate.CertificateKind.{CertificateKind}
+use Rattle.spec_check.specs.declared.certificate.CertificateKind.TheVariants.{Optimal, Infeasible, Unbounded, Clash}
+use Rattle.spec_check.specs.declared.certificate.RawCertificate.{RawCertificate}
+use Rattle.spec_check.specs.declared.progress.Progress.{Progress}
+use Rattle.spec_check.specs.declared.progress.Progress.TheVariants.{More, Done, Unfit}
 
 abbrev pub ExactPart : Type 0
 ExactPart = Part Name ℚ
 
-abbrev pub is_only : List ℕ → List (List ℕ) → Bool
-is_only word [] = false
-is_only word (w ∷ []) = same w word
-is_only word (w ∷ v ∷ more) = false
+abbrev pub ExactKind : Type 0
+ExactKind = CertificateKind Name
 
--- the line has this word and no other
-unfoldable pub has_only : List ℕ → Line (List ℕ) → Bool
-has_only word (line.Text bytes) = is_only word (words_of bytes)
-has_only word (line.Long len) = false
-has_only word line.End = false
-has_only word line.Over = false
+abbrev pub ExactRaw : Type 0
+ExactRaw = RawCertificate Name (List ExactPart)
+
+-- ---- one line
 
 unfoldable pub letter_of : List ℕ → Option Letter
-letter_of word = if same word (codes "x") then Some X else (if same word (codes "y") then Some Y else None)
+letter_of word = look_up word ((codes "x", X) ∷ (codes "y", Y) ∷ (codes "r", R) ∷ [])
 
-abbrev pub part_by_words : List (List ℕ) → Option ExactPart
-part_by_words (word ∷ name ∷ text ∷ []) =
-    letter_of word >>= λ letter. short_number text >>= λ value. Some (record { letter = letter; name = name; value = value })
-part_by_words words = None
+-- the letters of each kind
+abbrev pub takes : ExactKind → Letter → Bool
+takes Optimal X = true
+takes Optimal Y = true
+takes Optimal R = false
+takes Infeasible X = false
+takes Infeasible Y = true
+takes Infeasible R = false
+takes Unbounded X = true
+takes Unbounded Y = false
+takes Unbounded R = true
+takes (Clash name) letter = false
 
--- the part of a line
-unfoldable pub part_of : Line (List ℕ) → Option ExactPart
-part_of (line.Text bytes) = part_by_words (words_of bytes)
-part_of (line.Long len) = None
-part_of line.End = None
-part_of line.Over = None
+-- the kind that the words of a first line say
+unfoldable pub kind_of : List (List ℕ) → Option ExactKind
+kind_of (word ∷ []) = look_up word ((codes "OPTIMAL", Optimal) ∷ (codes "INFEASIBLE", Infeasible) ∷ (codes "UNBOUNDED", Unbounded) ∷ [])
+kind_of (word ∷ name ∷ []) = if same word (codes "CLASH") then Some (Clash name) else None
+kind_of words = None
 
-abbrev pub same_letter : Letter → Letter → Bool
-same_letter X X = true
-same_letter X Y = false
-same_letter Y X = false
-same_letter Y Y = true
+abbrev pub valued : Letter → Name → NumberReading → Option ExactPart
+valued letter name (Is value) = Some (record { letter = letter; name = name; value = value })
+valued letter name Shape = None
+valued letter name Wide = None
 
--- a part has this letter and name already
-abbrev pub is_given : Letter → Name → List ExactPart → Bool
-is_given letter name parts = list_any (λ p. same_letter p.letter letter && same p.name name) parts
+abbrev pub lettered : ExactKind → Option Letter → Name → List ℕ → Option ExactPart
+lettered kind None name text = None
+lettered kind (Some letter) name text = if takes kind letter then valued letter name (number_of text) else None
 
--- the parts, behind those so far, up to the last line
-abbrev pub parts_from : List ExactPart → List (Line (List ℕ)) → Option (List ExactPart)
-parts_from parts [] = None
-parts_from parts (last ∷ []) = must (has_only (codes "END") last) >>= λ _. Some parts
-parts_from parts (next ∷ line ∷ lines) =
-    part_of next >>= λ p. must (not (is_given p.letter p.name parts)) >>= λ _. parts_from (parts ++ p ∷ []) (line ∷ lines)
+-- the part that the words of a line say
+unfoldable pub part_of : ExactKind → List (List ℕ) → Option ExactPart
+part_of kind (word ∷ name ∷ text ∷ []) = lettered kind (letter_of word) name text
+part_of kind words = None
 
--- the parts that the lines spell
-unfoldable pub certificate_text_of : List (Line (List ℕ)) → Option (List ExactPart)
-certificate_text_of [] = None
-certificate_text_of (first ∷ lines) = must (has_only (codes "OPTIMAL") first) >>= λ _. parts_from [] lines
+unfoldable pub is_end : List (List ℕ) → Bool
+is_end (word ∷ []) = same word (codes "END")
+is_end words = false
+
+-- the text goes on behind a line, or ends with it, or the line does not fit
+abbrev pub Outcome : Type 0
+Outcome = Progress ExactRaw
+
+abbrev pub opened : Option ExactKind → Outcome
+opened None = Unfit
+opened (Some kind) = More (record { kind = kind; parts = [] })
+
+abbrev pub with_part : ExactRaw → Option ExactPart → Outcome
+with_part raw None = Unfit
+with_part raw (Some p) = More (record raw { parts = raw.parts ++ p ∷ [] })
+
+-- by the words of a line, behind nothing or behind a kind and its parts so far
+abbrev pub step_by_words : Option ExactRaw → List (List ℕ) → Outcome
+step_by_words None words = opened (kind_of words)
+step_by_words (Some raw) words = if is_end words then Done raw else with_part raw (part_of raw.kind words)
+
+unfoldable pub step : Option ExactRaw → Line (List ℕ) → Outcome
+step so_far (line.Text bytes) = step_by_words so_far (words_of bytes)
+step so_far (line.Long len) = Unfit
+step so_far line.End = Unfit
+step so_far line.Over = Unfit
+
+-- the lines lead on from what was read before them
+abbrev pub Leads : Option ExactRaw → List (Line (List ℕ)) → Option ExactRaw → Type 0
+Leads so_far [] after = so_far ≡ after
+Leads so_far (line ∷ lines) after = (raw : ExactRaw) × (step so_far line ≡ More raw) × Leads (Some raw) lines after
+
+-- ---- a whole text
+
+-- it spells a certificate, or this line is the first that does not fit
+pub data Judgement : Type 0 where
+  Spelled : (raw : ExactRaw) → Judgement
+  Refused : (line : ℕ) → Judgement
+
+-- what follows a step at line n
+abbrev pub settled : ℕ → (ExactRaw → Judgement) → Outcome → Judgement
+settled n next (More raw) = next raw
+settled n next (Done raw) = Spelled raw
+settled n next Unfit = Refused n
+
+-- The first of the lines is line n. Where they end too early, the line that would come next does not fit.
+abbrev pub judge : Option ExactRaw → ℕ → List (Line (List ℕ)) → Judgement
+judge so_far n [] = Refused n
+judge so_far n (line ∷ lines) = settled n (λ raw. judge (Some raw) (n + 1) lines) (step so_far line)
+
+-- the lines up to END spell this certificate
+abbrev pub Spells : List (Line (List ℕ)) → ExactRaw → Type 0
+Spells lines raw = judge None 1 lines ≡ Spelled raw
+
+-- line n is the first that does not fit
+abbrev pub Refuses : List (Line (List ℕ)) → ℕ → Type 0
+Refuses lines n = judge None 1 lines ≡ Refused n
+
+-- exactly one of the two, with one certificate or one line
+pub record IsJudged (lines : List (Line (List ℕ))) : Type 0 where
+  pub some : ((raw : ExactRaw) × Spells lines raw) ⊎ ((n : ℕ) × Refuses lines n)
+  pub one_certificate : (raw other : ExactRaw) → Spells lines raw → Spells lines other → raw ≡ other
+  pub not_both : (raw : ExactRaw) (n : ℕ) → Spells lines raw → ¬ (Refuses lines n)
+  pub one_line : (n k : ℕ) → Refuses lines n → Refuses lines k → n ≡ k

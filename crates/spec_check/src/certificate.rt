@@ -5,11 +5,12 @@ ghost use Rattle.spec_check.specs.declared.certificate.Stop.TheVariants as stop;
 use spec_exact::Past;
 use std::fmt::Debug;
 
-/// What a part of a certificate is a number of: a column's value, or a row's multiplier.
+/// What a part of a certificate is a number of: a column's value, a row's multiplier, or a column's part in a ray.
 #[derive(Clone, Copy, Debug, PartialEq, Eq)]
 pub enum Letter {
     X,
     Y,
+    R,
 }
 
 /// One number of a certificate, for the column or the row with a name.
@@ -20,10 +21,30 @@ pub struct Part<N, F> {
     pub value: F,
 }
 
-/// A certificate as its text has it, without a model.
+/// What a text of a certificate is to show.
 #[derive(Drop)]
-pub struct RawCertificate<P> {
+pub enum CertificateKind<N> {
+    Optimal,
+    Infeasible,
+    Unbounded,
+    /// That the bounds of the column with this name clash.
+    Clash(N),
+}
+
+/// A certificate as its text has it, without a model. Each part is one that the kind takes.
+#[derive(Drop)]
+pub struct RawCertificate<N, P> {
+    pub kind: CertificateKind<N>,
     pub parts: P,
+}
+
+/// Which name of a certificate does not fit a model.
+#[derive(Drop)]
+pub enum SettleFault<N> {
+    /// No column, or no row, has this name.
+    UnknownName(N),
+    /// An earlier part has this name too, for the same letter.
+    Repeated(N),
 }
 
 /// What is handed in to show something of a model.
@@ -31,6 +52,12 @@ pub struct RawCertificate<P> {
 pub enum Certificate<L> {
     /// A value for each column, and a multiplier for each row.
     Optimal { x: L, y: L },
+    /// A multiplier for each row.
+    Infeasible { y: L },
+    /// The number of a column whose bounds clash.
+    Clash(u32),
+    /// A value for each column, and for each column its part in a ray.
+    Unbounded { x: L, r: L },
 }
 
 /// What a certificate shows.
@@ -38,6 +65,8 @@ pub enum Certificate<L> {
 pub enum Known<F> {
     /// The optimal value.
     Optimal(F),
+    Infeasible,
+    Unbounded,
 }
 
 /// Why a certificate shows nothing.

@@ -3,7 +3,8 @@ use Rattle.std.specs.Prelude.{ℕ, ◌<◌, ◌≤◌, ◌≢◌, ◌^◌, ◌&&
 use Rattle.std.specs.List.{list_all, position}
 use Rattle.spec_text.specs.Words.{same}
 use Rattle.spec_exact.specs.Fraction.{ℚ, 0ℚ, whole, abs_ℚ, ◌<ℚ◌}
-use Rattle.spec_model.specs.Model.{Model, Name, ExactColumn}
+use Rattle.spec_exact.specs.Narrow.{IsNarrow}
+use Rattle.spec_model.specs.Model.{Model, Name, ExactRow, ExactColumn}
 
 -- the most rows and columns
 abbrev pub row_limit : ℕ
@@ -57,6 +58,17 @@ pub record IsKeptColumn (height : ℕ) (c : ExactColumn) : Type 0 where
   pub upper : IsBound c.upper
   pub entries : AreEntries height c.entries
 
+-- numbers of at most 127 bits
+pub record IsNarrowRow (r : ExactRow) : Type 0 where
+  pub rhs : IsNarrow r.rhs
+  pub range : IfSome r.range IsNarrow
+
+pub record IsNarrowColumn (c : ExactColumn) : Type 0 where
+  pub cost : IsNarrow c.cost
+  pub lower : IfSome c.lower IsNarrow
+  pub upper : IfSome c.upper IsNarrow
+  pub entries : All (λ e. IsNarrow e.1) c.entries
+
 pub record IsModel (m : Model) : Type 0 where
   pub few_rows : length m.rows ≤ row_limit
   pub few_columns : length m.columns ≤ column_limit
@@ -66,3 +78,6 @@ pub record IsModel (m : Model) : Type 0 where
   pub columns : All (IsKeptColumn (length m.rows)) m.columns
   pub rows_distinct : AllPairs (λ x y. x ≢ y) (m.objective ∷ row_names m)
   pub columns_distinct : AllPairs (λ x y. x ≢ y) (column_names m)
+  pub offset : IsNarrow m.offset
+  pub narrow_rows : All IsNarrowRow m.rows
+  pub narrow_columns : All IsNarrowColumn m.columns

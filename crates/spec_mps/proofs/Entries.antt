@@ -8,7 +8,7 @@ use Rattle.spec_exact.specs.Fraction.{ℚ, 0ℚ}
 use Rattle.spec_model.specs.Kept.{AreEntries}
 use Rattle.spec_mps.specs.declared.target.Target.{Target}
 use Rattle.spec_mps.specs.declared.target.Target.TheVariants as target
-use Rattle.spec_mps.specs.FirstForm.{is_among, same_target, put_entry}
+use Rattle.spec_mps.specs.Reader.{is_among, same_target, put_entry}
 
 -- an entry of one of n rows, not below the row low, whose row is among those that have a number
 pub record IsEntry (n low : ℕ) (paired : List Target) (e : ℕ × ℚ) : Type 0 where

@@ -1,3 +1,12 @@
+pub mod BoundText
+pub mod Bounds
 pub mod Cards
-pub mod FirstForm
-pub mod Numbers
+pub mod Checks
+pub mod Fields
+pub mod NumberText
+pub mod NumberWritten
+pub mod Reader
+pub mod Shapes
+pub mod Sides
+pub mod Steps
+pub mod Written

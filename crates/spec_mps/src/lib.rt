@@ -1,25 +1,91 @@
-//! Texts of models: cards, and what a text of the first form spells.
+//! Texts of models: lines, cards, and the model that they spell.
 //!
-//! Target           what a coefficient or a right side belongs to: src/target
-//! free_card        the card of a line: specs/Cards
-//! short_number     numbers of the first form: specs/Numbers
-//! spelled          the model that the lines of a text spell, if they are of the first form: specs/FirstForm
+//! Style                                the two forms of texts: src/style
+//! Section, RowType, BoundKind          the words of the format: src/section, src/row_type, src/bound_kind
+//! Target, Place                        what a coefficient or a right side belongs to: src/target
+//! Code, MpsFault                       what is wrong with a text, and in which line: src/fault
+//! NumFault, BoundValue                 why a text is no number, and what it is as a bound: src/number
+//! parts_of, number_of                  the parts of a number's text, and the number: specs/NumberText
+//! bound_of                             the bound that a text is: specs/BoundText
+//! number_text, IsWord                  the text that a fraction is written as, which is one word: specs/NumberWritten
+//! Card                                 the kinds of lines: src/card
+//! Field, free_fields, fixed_fields     fields, and the card of a line in free and in fixed form: specs/Fields
+//! rows_card, columns_card              what a card of ROWS and of COLUMNS does: specs/Reader
+//! rhs_card, ranges_card                what a card of RHS and of RANGES does: specs/Sides
+//! bounds_card                          what a card of BOUNDS does: specs/Bounds
+//! cards_of, free, fixed, too_wide      the cards and the text that a model is written as: specs/Written
+//! step, Spells, Refuses                the step of a line, and what a whole text is: specs/Steps
+//! is_skipped                           the lines that count for nothing: specs/Cards
 //!
-//! The format is MPS in free form (IBM Mathematical Programming System Extended, Program Reference Manual, 1971, and the
-//! free form of later readers). Its first form is a small part of it: docs/FORMATS.md.
+//! The format is MPS (IBM Mathematical Programming System Extended, Program Reference Manual, 1971, and the free form of
+//! later readers): docs/FORMATS.md.
 #![tactic(auto)]
 
+mod bound_kind;
+mod card;
+mod fault;
+mod number;
+mod row_type;
+mod section;
+mod style;
 mod target;
 
-ghost use Rattle.std.specs.Prelude.{◌≡◌, List, ℕ, Some};
+ghost use Rattle.std.specs.Prelude.{◌≡◌, ◌≤◌, ◌↔◌, List, ℕ, None, unsigned_abs};
+ghost use Rattle.spec_text.specs.Lines.{lines_of};
 ghost use Rattle.spec_text.specs.declared.line.Line.{Line};
+ghost use Rattle.spec_exact.specs.Fraction.{ℚ, abs_ℚ, ◌<ℚ◌};
+ghost use Rattle.spec_exact.specs.Narrow.{widest};
 ghost use Rattle.spec_model.specs.Model.{Model};
 ghost use Rattle.spec_model.specs.Kept.{IsModel};
-ghost use Rattle.spec_mps.specs.FirstForm.{spelled};
+ghost use Rattle.spec_mps.specs.declared.style.Style.{Style};
+ghost use Rattle.spec_mps.specs.declared.style.Style.TheVariants as form;
+ghost use Rattle.spec_mps.specs.NumberText.{Is, number_of};
+ghost use Rattle.spec_mps.specs.BoundText.{Finite, bound_of, infinite};
+ghost use Rattle.spec_mps.specs.NumberWritten.{IsWord, number_text};
+ghost use Rattle.spec_mps.specs.Written.{free, fixed, too_wide};
+ghost use Rattle.spec_mps.specs.Steps.{IsJudged, Spells};
 
-pub use target::Target;
+pub use bound_kind::BoundKind;
+pub use card::Card;
+pub use fault::{Code, MpsFault};
+pub use number::{BoundValue, NumFault};
+pub use row_type::RowType;
+pub use section::{Section, Seen};
+pub use style::Style;
+pub use target::{Place, Target};
+
+/// Each text spells one model, or one line refuses it with one fault.
+pub fn texts_are_judged()
+    ensures { (style : Style) (lines : List (Line (List ℕ))) → IsJudged style lines }
+{}
 
 /// What a text spells is a model that may be kept.
-pub fn spelled_models_are_kept()
-    ensures { (lines : List (Line (List ℕ))) (m : Model) → spelled lines ≡ Some m → IsModel m }
+pub fn spelled_texts_are_kept()
+    ensures { (style : Style) (lines : List (Line (List ℕ))) (m : Model) → Spells style lines m → IsModel m }
+{}
+
+/// The text of a fraction within the width is read as that fraction.
+pub fn written_numbers_are_read()
+    ensures { (q : ℚ) → unsigned_abs q.num ≤ widest → q.den ≤ widest → number_of (number_text q) ≡ Is q }
+{}
+
+/// The text of a fraction within the width is one word of printed bytes.
+pub fn written_numbers_are_words()
+    ensures { (q : ℚ) → unsigned_abs q.num ≤ widest → q.den ≤ widest → IsWord (number_text q) }
+{}
+
+/// The text that a model is written as spells that model and no other, in both forms.
+pub fn written_texts_spell_their_models()
+    ensures free { (m n : Model) → IsModel m → (Spells form.Free (lines_of (free m)) n ↔ (n ≡ m)) }
+    ensures fixed { (m n : Model) → IsModel m → too_wide m ≡ None → (Spells form.Fixed (lines_of (fixed m)) n ↔ (n ≡ m)) }
+{}
+
+/// A number of a size below 10^20 is a finite bound.
+pub fn small_numbers_are_bounds()
+    ensures { (text : List ℕ) (q : ℚ) → number_of text ≡ Is q → abs_ℚ q <ℚ infinite → bound_of text ≡ Finite q }
+{}
+
+/// A finite bound is of a size below 10^20.
+pub fn finite_bounds_are_small()
+    ensures { (text : List ℕ) (q : ℚ) → bound_of text ≡ Finite q → abs_ℚ q <ℚ infinite }
 {}

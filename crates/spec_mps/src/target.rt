@@ -6,3 +6,11 @@ pub enum Target {
     Objective,
     Row(u32),
 }
+
+/// What a row's name stands for.
+#[derive(Clone, Copy, Debug, PartialEq, Eq)]
+pub enum Place {
+    Kept(Target),
+    /// A row of type N behind the objective, whose numbers count for nothing.
+    Dropped,
+}

@@ -1,17 +1,18 @@
 -- A script's asks, line by line.
-use Rattle.std.proofs.Common.{◌≡◌, ◌≤◌, ℕ, Bool, true, false, ◌&&◌, not, cond, Option, Some, None, List, [], ◌∷◌, ◌++◌, length, nat_le, nat_lt, refl, sym, ap, ◌∙◌, subst, append_assoc, arith, leb-true}
+use Rattle.std.proofs.Common.{◌≡◌, ◌≤◌, ℕ, Bool, true, false, ◌&&◌, not, cond, Option, Some, None, List, [], ◌∷◌, ◌++◌, length, nat_le, nat_lt, refl, sym, ap, ◌∙◌, subst, append_assoc, codes, arith, leb-true}
 use Rattle.std.specs.List.{list_all}
 use Rattle.spec_text.specs.declared.line.Line.{Line}
 use Rattle.spec_text.specs.declared.line.Line.TheVariants as line
-use Rattle.spec_text.specs.Words.{words_of}
-use Rattle.spec_mps.specs.Numbers.{is_digit, spelled_from}
+use Rattle.spec_text.specs.Words.{same, words_of}
+use Rattle.spec_mps.specs.declared.style.Style.{Style}
+use Rattle.spec_mps.specs.NumberText.{spelled_from}
 use Rattle.spec_server.specs.declared.asks.Asked.{Asked}
 use Rattle.spec_server.specs.declared.command.Command.{Command}
-use Rattle.spec_server.specs.declared.command.Command.TheVariants.{Skip, Load, Check, Other}
+use Rattle.spec_server.specs.declared.command.Command.TheVariants.{Skip, Load, Write, Check, Other}
 use Rattle.spec_server.specs.declared.pending.Pending.{Pending}
 use Rattle.spec_server.specs.declared.pending.Pending.TheVariants.{Between, Text, Certificate}
 use Rattle.spec_server.specs.Machine.{ExactAsk}
-use Rattle.spec_server.specs.Script.{session_of, command_by, command_for, command_by_words, command_of, begins_with_hash, begins_with_zero, ends_text, ends_certificate, begun, pending_after_line, asks_of_command, asks_of_line, asks_from, pending_after}
+use Rattle.spec_server.specs.Script.{is_digit, session_of, style_of, command_in, command_by, command_for, command_by_words, command_of, begins_with_hash, begins_with_zero, ends_text, ends_certificate, begun, pending_after_line, asks_of_command, asks_of_line, asks_from, pending_after}
 
 abbrev pub Reading : Type 0
 Reading = Pending (List (Line (List ℕ)))
@@ -30,12 +31,13 @@ pending_after-append p (l ∷ ls) ms = pending_after-append (pending_after_line 
 
 abbrev pub IsNumbered : Reading → Type 0
 IsNumbered Between = Unit {0}
-IsNumbered (Text session body) = session ≤ 64
+IsNumbered (Text session form body) = session ≤ 64
 IsNumbered (Certificate session body) = session ≤ 64
 
 abbrev IsNumberedCommand : Command → Type 0
 IsNumberedCommand Skip = Unit {0}
-IsNumberedCommand (Load session) = session ≤ 64
+IsNumberedCommand (Load session form) = session ≤ 64
+IsNumberedCommand (Write session form) = session ≤ 64
 IsNumberedCommand (Check session) = session ≤ 64
 IsNumberedCommand (Other session) = session ≤ 64
 
@@ -61,10 +63,15 @@ choice : (t : Bool) (a b : Command) → IsNumberedCommand a → IsNumberedComman
 choice true a b h k = h
 choice false a b h k = k
 
+command_in_numbered : (session : ℕ) (word : List ℕ) (form : Option Style) → session ≤ 64 → IsNumberedCommand (command_in session word form)
+command_in_numbered session word None h = h
+command_in_numbered session word (Some form) h =
+    choice _ (Load session form) (cond (same word (codes "WRITE")) (Write session form) (Other session)) h (choice _ (Write session form) (Other session) h h)
+
 command_by_numbered : (session : ℕ) (words : List (List ℕ)) → session ≤ 64 → IsNumberedCommand (command_by session words)
 command_by_numbered session [] h = h
 command_by_numbered session (word ∷ []) h = choice _ (Check session) (Other session) h h
-command_by_numbered session (word ∷ form ∷ []) h = choice _ (Load session) (Other session) h h
+command_by_numbered session (word ∷ form ∷ []) h = command_in_numbered session word (style_of form) h
 command_by_numbered session (word ∷ form ∷ other ∷ more) h = h
 
 command_for_numbered : (found : Option ℕ) (words : List (List ℕ)) → ((session : ℕ) → found ≡ Some session → session ≤ 64) → IsNumberedCommand (command_for found words)
@@ -84,7 +91,8 @@ command_numbered line.Over = omega arith
 
 begun_numbered : (c : Command) → IsNumberedCommand c → IsNumbered (begun c)
 begun_numbered Skip h = tt
-begun_numbered (Load session) h = h
+begun_numbered (Load session form) h = h
+begun_numbered (Write session form) h = tt
 begun_numbered (Check session) h = h
 begun_numbered (Other session) h = tt
 
@@ -94,7 +102,7 @@ pending_choice false a b h k = k
 
 line_numbered : (p : Reading) (next : Line (List ℕ)) → IsNumbered p → IsNumbered (pending_after_line p next)
 line_numbered Between next h = begun_numbered (command_of next) (command_numbered next)
-line_numbered (Text session body) next h = pending_choice (ends_text next) Between (Text session (body ++ next ∷ [])) tt h
+line_numbered (Text session form body) next h = pending_choice (ends_text next) Between (Text session form (body ++ next ∷ [])) tt h
 line_numbered (Certificate session body) next h = pending_choice (ends_certificate next) Between (Certificate session (body ++ next ∷ [])) tt h
 
 pending_numbered : (p : Reading) (lines : List (Line (List ℕ))) → IsNumbered p → IsNumbered (pending_after p lines)
@@ -109,7 +117,8 @@ none_asked a e = cc
 
 command_asked : (c : Command) (a : Asked ExactAsk) → IsNumberedCommand c → asks_of_command c ≡ a ∷ [] → a.session ≤ 64
 command_asked Skip a h e = absurd (none_asked a e)
-command_asked (Load session) a h e = absurd (none_asked a e)
+command_asked (Load session form) a h e = absurd (none_asked a e)
+command_asked (Write session form) a h e = subst (λ (b : Asked ExactAsk). b.session ≤ 64) (first_asked _ a e) h
 command_asked (Check session) a h e = absurd (none_asked a e)
 command_asked (Other session) a h e = subst (λ (b : Asked ExactAsk). b.session ≤ 64) (first_asked _ a e) h
 
@@ -119,7 +128,7 @@ body_asked false session asked a h e = absurd (none_asked a e)
 
 line_asked : (p : Reading) (next : Line (List ℕ)) (a : Asked ExactAsk) → IsNumbered p → asks_of_line p next ≡ a ∷ [] → a.session ≤ 64
 line_asked Between next a h e = command_asked (command_of next) a (command_numbered next) e
-line_asked (Text session body) next a h e = body_asked (ends_text next) session _ a h e
+line_asked (Text session form body) next a h e = body_asked (ends_text next) session _ a h e
 line_asked (Certificate session body) next a h e = body_asked (ends_certificate next) session _ a h e
 
 -- an ask of a script is one of session 0 to 64

@@ -1,3 +1,5 @@
 pub mod Machine
 pub mod Output
 pub mod Script
+pub mod CheckOut
+pub mod CommandLine

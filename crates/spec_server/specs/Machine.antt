@@ -1,12 +1,17 @@
 -- The one-session machine: a session that holds its model alone.
-use Rattle.std.specs.Prelude.{ℕ, ◌≡◌, ◌⊎◌, ◌==◌, Option, Some, None, Result, Ok, Err, List, [], ◌∷◌, length}
+use Rattle.std.specs.Prelude.{ℕ, ◌≡◌, ◌⊎◌, ◌==◌, Option, Some, None, Ok, Err, List, [], ◌∷◌, length}
 use Rattle.std.specs.List.{filter}
 use Rattle.spec_exact.specs.Fraction.{ℚ}
 use Rattle.spec_model.specs.Model.{Model, Name}
 use Rattle.spec_check.specs.declared.certificate.Certificate.{Certificate}
-use Rattle.spec_check.specs.Text.{ExactPart}
-use Rattle.spec_check.specs.Settle.{certificate_for}
+use Rattle.spec_check.specs.declared.certificate.SettleFault.{SettleFault}
+use Rattle.spec_check.specs.declared.certificate.SettleFault.TheVariants as settle
+use Rattle.spec_check.specs.Text.{ExactRaw}
+use Rattle.spec_check.specs.Settle.{Settled, certificate_for}
 use Rattle.spec_check.specs.Run.{check_run, verdict_of}
+use Rattle.spec_mps.specs.declared.style.Style.{Style}
+use Rattle.spec_mps.specs.declared.style.Style.TheVariants as style
+use Rattle.spec_mps.specs.Written.{free, fixed, too_wide}
 use Rattle.spec_server.specs.declared.asks.Ask.{Ask}
 use Rattle.spec_server.specs.declared.asks.Ask.TheVariants as ask
 use Rattle.spec_server.specs.declared.asks.Asked.{Asked}
@@ -16,10 +21,10 @@ use Rattle.spec_server.specs.declared.asks.Refusal.TheVariants as refusal
 
 -- an ask and a reply of exact numbers
 abbrev pub ExactAsk : Type 0
-ExactAsk = Ask Model (List ExactPart)
+ExactAsk = Ask Model ExactRaw
 
 abbrev pub ExactReply : Type 0
-ExactReply = Reply Name ℚ
+ExactReply = Reply Name ℚ (List ℕ)
 
 -- what a session holds
 pub record State : Type 0 where
@@ -32,25 +37,49 @@ opening = record { model = None }
 abbrev pub number_limit : ℕ
 number_limit = 170141183460469231731687303715884105727
 
--- the verdict on a certificate, or the name that the model does not know
-abbrev pub verdict_on : Model → Result (Certificate (List ℚ)) Name → ExactReply
-verdict_on m (Ok certificate) = reply.Checked (verdict_of (check_run (Some number_limit) m certificate))
-verdict_on m (Err name) = reply.Refused (refusal.Name name)
+-- the name that does not fit
+abbrev pub settle_reply : SettleFault Name → ExactReply
+settle_reply (settle.UnknownName name) = reply.Refused (refusal.Name name)
+settle_reply (settle.Repeated name) = reply.Refused (refusal.Repeated name)
 
-abbrev pub check_reply : Option Model → List ExactPart → ExactReply
-check_reply None parts = reply.Refused refusal.NoModel
-check_reply (Some m) parts = verdict_on m (certificate_for m parts)
+-- the verdict on a certificate, or its name that does not fit the model
+abbrev pub verdict_on : Model → Settled (Certificate (List ℚ)) → ExactReply
+verdict_on m (Ok certificate) = reply.Checked (verdict_of (check_run (Some number_limit) m certificate))
+verdict_on m (Err fault) = settle_reply fault
+
+abbrev pub check_reply : Option Model → ExactRaw → ExactReply
+check_reply None raw = reply.Refused refusal.NoModel
+check_reply (Some m) raw = verdict_on m (certificate_for m raw)
+
+-- the text of a model in fixed form, or what is too wide for it
+abbrev pub fixed_reply : Model → Option (List ℕ) → ExactReply
+fixed_reply m None = reply.Written (fixed m)
+fixed_reply m (Some item) = reply.Refused (refusal.FixedWide item)
+
+abbrev pub text_reply : Model → Style → ExactReply
+text_reply m style.Free = reply.Written (free m)
+text_reply m style.Fixed = fixed_reply m (too_wide m)
+
+abbrev pub write_reply : Option Model → Style → ExactReply
+write_reply None form = reply.Refused refusal.NoModel
+write_reply (Some m) form = text_reply m form
 
 -- the reply with memory enough
 abbrev pub reply_to : State → ExactAsk → ExactReply
 reply_to state (ask.Loaded m) = reply.Loaded (length m.rows) (length m.columns)
-reply_to state (ask.Checked raw) = check_reply state.model raw.parts
+reply_to state (ask.Misspelled fault) = reply.Refused (refusal.Misspelled fault)
+reply_to state (ask.Write form) = write_reply state.model form
+reply_to state (ask.Checked raw) = check_reply state.model raw
+reply_to state (ask.Unfit line) = reply.Refused (refusal.Unfit line)
 reply_to state ask.NotBuilt = reply.Refused refusal.NotBuilt
 
 -- the state after it
 abbrev pub state_after : State → ExactAsk → State
 state_after state (ask.Loaded m) = record state { model = Some m }
+state_after state (ask.Misspelled fault) = state
+state_after state (ask.Write form) = state
 state_after state (ask.Checked raw) = state
+state_after state (ask.Unfit line) = state
 state_after state ask.NotBuilt = state
 
 -- what a session reads of what sessions share: nothing yet

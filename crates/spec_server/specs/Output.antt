@@ -1,11 +1,14 @@
--- What is written of replies: one line each, which begins with the number of the session.
-use Rattle.std.specs.Prelude.{ℕ, ◌==◌, ◌++◌, ℤ, pos, negsuc, suc, List, [], ◌∷◌, codes, decimal, if◌then◌else◌}
-use Rattle.std.specs.List.{flat_map}
+-- What is written of replies: a line each, which begins with the number of the session, and the text of a model behind it.
+use Rattle.std.specs.Prelude.{ℕ, ◌==◌, ◌++◌, List, [], ◌∷◌, length, codes, decimal}
+use Rattle.std.specs.List.{filter, flat_map}
 use Rattle.spec_exact.specs.Fraction.{ℚ}
 use Rattle.spec_exact.specs.declared.past.Op.{Op}
 use Rattle.spec_exact.specs.declared.past.Op.TheVariants.{Add, Sub, Mul, Div, Cmp}
 use Rattle.spec_exact.specs.declared.past.Past.{Past}
 use Rattle.spec_model.specs.Model.{Name}
+use Rattle.spec_mps.specs.declared.fault.MpsFault.{MpsFault}
+use Rattle.spec_mps.specs.Checks.{code_number}
+use Rattle.spec_mps.specs.NumberWritten.{number_text}
 use Rattle.spec_check.specs.declared.certificate.Known.{Known}
 use Rattle.spec_check.specs.declared.certificate.Known.TheVariants as known
 use Rattle.spec_check.specs.declared.certificate.Verdict.{Verdict}
@@ -15,13 +18,9 @@ use Rattle.spec_server.specs.declared.asks.Refusal.{Refusal}
 use Rattle.spec_server.specs.declared.asks.Refusal.TheVariants as refusal
 use Rattle.spec_server.specs.Machine.{ExactReply, Exchange}
 
-abbrev pub whole_text : ℤ → List ℕ
-whole_text (pos n) = decimal n
-whole_text (negsuc n) = codes "-" ++ decimal (suc n)
-
--- the numerator, and the denominator behind a stroke where it is not 1
-unfoldable pub fraction_text : ℚ → List ℕ
-fraction_text q = if q.den == 1 then whole_text q.num else whole_text q.num ++ codes "/" ++ decimal q.den
+-- fractions in replies are written as the numbers of texts
+abbrev pub fraction_text : ℚ → List ℕ
+fraction_text q = number_text q
 
 abbrev pub op_text : Op → List ℕ
 op_text Add = codes "ADD"
@@ -36,27 +35,58 @@ past_text p = codes "PAST " ++ op_text p.op ++ codes " " ++ fraction_text p.a ++
 
 abbrev pub known_text : Known ℚ → List ℕ
 known_text (known.Optimal v) = codes "OPTIMAL " ++ fraction_text v
+known_text known.Infeasible = codes "INFEASIBLE"
+known_text known.Unbounded = codes "UNBOUNDED"
 
 abbrev pub verdict_text : Verdict ℚ → List ℕ
 verdict_text (verdict.Yes what) = codes "YES " ++ known_text what
 verdict_text (verdict.No n) = codes "NO " ++ decimal n
 verdict_text (verdict.Past p) = past_text p
 
-abbrev pub refusal_text : Refusal Name → List ℕ
+-- the line of a text that is wrong, and the number of what is wrong with it
+unfoldable pub fault_text : MpsFault → List ℕ
+fault_text fault = codes "MPS " ++ decimal fault.line ++ codes " M" ++ decimal (code_number fault.code)
+
+-- what is too wide for fixed form
+unfoldable pub item_text : List ℕ → List ℕ
+item_text item = codes "FIXEDWIDE " ++ item
+
+-- a name that stands twice
+unfoldable pub repeated_text : List ℕ → List ℕ
+repeated_text name = codes "REPEATED " ++ name
+
+abbrev pub refusal_text : Refusal Name (List ℕ) → List ℕ
 refusal_text refusal.NoModel = codes "4 NOMODEL"
 refusal_text (refusal.Name name) = codes "5 NAME " ++ name
+refusal_text (refusal.Repeated name) = codes "12 " ++ repeated_text name
+refusal_text (refusal.Misspelled fault) = codes "8 " ++ fault_text fault
+refusal_text (refusal.Unfit line) = codes "14 CERT " ++ decimal line
+refusal_text (refusal.FixedWide item) = codes "10 " ++ item_text item
 refusal_text refusal.NotBuilt = codes "15 NOTBUILT"
+
+-- each line ends in a line feed
+unfoldable pub count_of_lines : List ℕ → ℕ
+count_of_lines text = length (filter (λ b. b == 10) text)
 
 unfoldable pub reply_text : ExactReply → List ℕ
 reply_text (reply.Loaded rows columns) = codes "LOADED " ++ decimal rows ++ codes " " ++ decimal columns
+reply_text (reply.Written text) = codes "TEXT " ++ decimal (count_of_lines text)
 reply_text (reply.Checked what) = verdict_text what
 reply_text reply.Memory = codes "MEMORY"
 reply_text (reply.Refused why) = codes "ERR " ++ refusal_text why
 
--- a reply's line in the output of a script
-unfoldable pub reply_line : ℕ → ExactReply → List ℕ
-reply_line session replied = decimal session ++ codes " " ++ reply_text replied ++ 10 ∷ []
+-- the lines of the text of a model stand behind its reply
+abbrev pub lines_behind : ExactReply → List ℕ
+lines_behind (reply.Loaded rows columns) = []
+lines_behind (reply.Written text) = text
+lines_behind (reply.Checked what) = []
+lines_behind reply.Memory = []
+lines_behind (reply.Refused why) = []
+
+-- a reply's lines in the output of a script
+unfoldable pub reply_lines : ℕ → ExactReply → List ℕ
+reply_lines session replied = decimal session ++ codes " " ++ reply_text replied ++ 10 ∷ lines_behind replied
 
 -- the output of a script
 abbrev pub script_out : List Exchange → List ℕ
-script_out xs = flat_map (λ x. reply_line x.session x.reply) xs
+script_out xs = flat_map (λ x. reply_lines x.session x.reply) xs

@@ -1,24 +1,19 @@
-use Rattle.lp_top.specs.declared.run.Stop.TheVariants as stops
-use Rattle.lp_top.proofs.Turns.{told_nothing, told_done, told_by}
+-- By the command, and what it is answered.
+use Rattle.std.proofs.Common.{Some, ap, sym, ◌∙◌}
+use Rattle.spec_server.specs.declared.command_line.CommandLine.TheVariants.{Run, Check}
+use Rattle.lp_top.proofs.Telling.{run_done, run_stopped, check_stopped, does_as}
 use Rattle.lp_top.proofs.lpd_top.Goals as goal
 
-pub returns-then-not-is_run-clause-output : goal.returns-then-not-is_run-clause-output
-returns-then-not-is_run-clause-output g c = told_nothing _ _
-
 pub returns-in-Ok-clause-output : goal.returns-in-Ok-clause-output
-returns-in-Ok-clause-output g c = told_done c.in-Ok.ensures.output
+returns-in-Ok-clause-output g c =
+    does_as _ (Some Run) _ _ _ _ _ (sym c.command_line_of.ensures ∙ c.in-Some-Run.is ∙ ap Some c.in-Some-Run.field-0-is) (run_done c.in-Ok.ensures.output)
 
-pub returns-in-Err-Read-clause-output : goal.returns-in-Err-Read-clause-output
-returns-in-Err-Read-clause-output g c = told_by _ stops.Read c.in-Err-Read.field-0-is c.in-Err-Read.ensures.output
+pub returns-in-Err-clause-output : goal.returns-in-Err-clause-output
+returns-in-Err-clause-output g c =
+    does_as _ (Some Run) _ _ _ _ _ (sym c.command_line_of.ensures ∙ c.in-Some-Run.is ∙ ap Some c.in-Some-Run.field-0-is)
+    (run_stopped c.in-Err.stop c.status_behind.result.code c.status_behind.ensures c.in-Err.ensures.output)
 
-pub returns-in-Err-Write-clause-output : goal.returns-in-Err-Write-clause-output
-returns-in-Err-Write-clause-output g c = told_by _ stops.Write c.in-Err-Write.field-0-is c.in-Err-Write.ensures.output
-
-pub returns-in-Err-NoMemory-clause-output : goal.returns-in-Err-NoMemory-clause-output
-returns-in-Err-NoMemory-clause-output g c = told_by _ stops.NoMemory c.in-Err-NoMemory.field-0-is c.in-Err-NoMemory.ensures.output
-
-pub returns-in-Err-Cut-clause-output : goal.returns-in-Err-Cut-clause-output
-returns-in-Err-Cut-clause-output g c = told_by _ stops.Cut c.in-Err-Cut.field-0-is c.in-Err-Cut.ensures.output
-
-pub returns-in-Err-Over-clause-output : goal.returns-in-Err-Over-clause-output
-returns-in-Err-Over-clause-output g c = told_by _ stops.Over c.in-Err-Over.field-0-is c.in-Err-Over.ensures.output
+pub returns-in-Err-check-clause-output : goal.returns-in-Err-check-clause-output
+returns-in-Err-check-clause-output g c =
+    does_as _ (Some (Check c.in-Some-Check.style)) _ _ _ _ _ (sym c.command_line_of.ensures ∙ c.in-Some-Check.is ∙ ap Some c.in-Some-Check.field-0-is)
+    (check_stopped c.in-Some-Check.style _ _ _ _ c.in-Err-check.stop c.status_behind-in-Err-check.result.code c.status_behind-in-Err-check.ensures c.in-Err-check.ensures.output)

@@ -1,0 +1,10 @@
+-- A column that does not allow the ray stops the run.
+use Rattle.std.proofs.Common.{sym}
+use Rattle.std.proofs.lemmas.Result.{err_from_is_err_and}
+use Rattle.spec_check.proofs.Stops.{each_stops}
+use Rattle.lp_check.proofs.ray.columns_allow.Goals as goal
+
+pub returns-in_err-column_allows : goal.returns-in_err-column_allows
+returns-in_err-column_allows c =
+    let p = err_from_is_err_and c.from_residual.result c.from_residual.ensures.1 in
+    rw (p.1, p.2, ← c.cols-j-end.ensures.value) (sym (each_stops _ _ _ _ c.loop-j-test.true c.loop-j.invariant (sym c.in_err-column_allows.ensures)))

@@ -1,0 +1,123 @@
+// Certificates that no point is feasible: multipliers with which the rows ask for more than the bounds give, and bounds
+// that clash.
+ghost use Rattle.std.specs.Prelude.{◌≡◌, ◌<◌, Some, length};
+ghost use Rattle.spec_model.specs.Model.{width, height};
+ghost use Rattle.spec_check.specs.Run as run;
+ghost use Rattle.lp_frac.specs.Narrow.{largest};
+
+use crate::certificate::{Known, Stop};
+use crate::limits::{lower_limit, upper_limit};
+use crate::steps::{is_greater, is_less, is_negative, is_positive, need, part, plus_product};
+use lp_frac::{Frac, Fracs, cmp, zero};
+use lp_model::Model;
+
+// `d` times a limit that condition `n` asks for, onto `s`.
+fn weighed_at(n: u32, d: Frac, limit: Option<Frac>, s: Frac) -> Result<Frac, Stop>
+    ensures { result ≡ run.weighed_at n (Some largest) d limit s }
+{
+    match limit {
+        None => Err(Stop::No(n)),
+        Some(k) => plus_product(d, k, s),
+    }
+}
+
+// What row `i` asks for with its multiplier, onto `sum`.
+fn row_asks(model: &Model, y: &Fracs, i: u32, sum: Frac) -> Result<Frac, Stop>
+    requires inside { i < height model.now }
+    requires multipliers { length y.now ≡ height model.now }
+    ensures { result ≡ run.row_asks_run (Some largest) model.now y.now i sum }
+{
+    let multiplier = part(y, i);
+    if is_positive(multiplier) {
+        weighed_at(1, multiplier, lower_limit(model.row(i))?, sum)
+    } else if is_negative(multiplier) {
+        weighed_at(1, multiplier, upper_limit(model.row(i))?, sum)
+    } else {
+        Ok(sum)
+    }
+}
+
+// Condition 1: what all rows ask for.
+fn rows_ask(model: &Model, y: &Fracs) -> Result<Frac, Stop>
+    requires { length y.now ≡ height model.now }
+    ensures { result ≡ run.rows_ask_run (Some largest) model.now y.now }
+{
+    let mut sum = zero();
+    for i in 0..model.rows() {
+        sum = row_asks(model, y, i, sum)?;
+    }
+    Ok(sum)
+}
+
+// The multipliers' part in column `j`.
+fn priced(model: &Model, y: &Fracs, j: u32) -> Result<Frac, Stop>
+    requires inside { j < width model.now }
+    requires multipliers { length y.now ≡ height model.now }
+    ensures { result ≡ run.priced_run (Some largest) model.now y.now j }
+{
+    let mut sum = zero();
+    for i in 0..model.rows() {
+        sum = plus_product(part(y, i), model.entry(i, j), sum)?;
+    }
+    Ok(sum)
+}
+
+// The most that column `j` gives, onto `sum`.
+fn column_gives(model: &Model, y: &Fracs, j: u32, sum: Frac) -> Result<Frac, Stop>
+    requires inside { j < width model.now }
+    requires multipliers { length y.now ≡ height model.now }
+    ensures { result ≡ run.column_gives_run (Some largest) model.now y.now j sum }
+{
+    let column = model.col(j);
+    let priced = priced(model, y, j)?;
+    if is_positive(priced) {
+        weighed_at(2, priced, column.upper, sum)
+    } else if is_negative(priced) {
+        weighed_at(2, priced, column.lower, sum)
+    } else {
+        Ok(sum)
+    }
+}
+
+// Condition 2: the most that all columns give.
+fn columns_give(model: &Model, y: &Fracs) -> Result<Frac, Stop>
+    requires { length y.now ≡ height model.now }
+    ensures { result ≡ run.columns_give_run (Some largest) model.now y.now }
+{
+    let mut sum = zero();
+    for j in 0..model.cols() {
+        sum = column_gives(model, y, j, sum)?;
+    }
+    Ok(sum)
+}
+
+// What multipliers show with which the columns give less than the rows ask for.
+pub(crate) fn infeasible(model: &Model, y: &Fracs) -> Result<Known, Stop>
+    requires { length y.now ≡ height model.now }
+    ensures { result ≡ run.infeasible_run (Some largest) model.now y.now }
+{
+    let asked = rows_ask(model, y)?;
+    let given = columns_give(model, y)?;
+    need(3, is_less(cmp(given, asked)?))?;
+    Ok(Known::Infeasible)
+}
+
+// Condition 1: both bounds are there, and the lower one is above the upper one.
+fn crossed(lower: Option<Frac>, upper: Option<Frac>) -> Result<(), Stop>
+    ensures { result ≡ run.crossed_run (Some largest) lower upper }
+{
+    match (lower, upper) {
+        (Some(lower), Some(upper)) => need(1, is_greater(cmp(lower, upper)?)),
+        _ => Err(Stop::No(1)),
+    }
+}
+
+// What a column shows whose bounds clash.
+pub(crate) fn clash(model: &Model, j: u32) -> Result<Known, Stop>
+    requires { j < width model.now }
+    ensures { result ≡ run.clash_run (Some largest) model.now j }
+{
+    let column = model.col(j);
+    crossed(column.lower, column.upper)?;
+    Ok(Known::Infeasible)
+}

@@ -1,0 +1,88 @@
+// Conditions 3 to 5 of a ray: points stay feasible along it, and get better.
+ghost use Rattle.std.specs.Prelude.{◌≡◌, ◌<◌, Some, length};
+ghost use Rattle.spec_model.specs.Model.{width, height};
+ghost use Rattle.spec_check.specs.Run as run;
+ghost use Rattle.lp_frac.specs.Narrow.{largest};
+
+use crate::certificate::Stop;
+use crate::limits::{lower_limit, upper_limit};
+use crate::multipliers::signed;
+use crate::point::{activity, cost};
+use crate::steps::{is_negative, is_positive, need, part};
+use lp_frac::{Frac, Fracs};
+use lp_model::Model;
+
+// `r` is not below 0, where a lower limit is there.
+fn not_below(limit: Option<Frac>, r: Frac) -> bool
+    ensures { result ≡ run.not_below limit r }
+{
+    match limit {
+        None => true,
+        Some(_) => !is_negative(r),
+    }
+}
+
+// `r` is not above 0, where an upper limit is there.
+fn not_above(limit: Option<Frac>, r: Frac) -> bool
+    ensures { result ≡ run.not_above limit r }
+{
+    match limit {
+        None => true,
+        Some(_) => !is_positive(r),
+    }
+}
+
+// Condition 3 at column `j`.
+fn column_allows(model: &Model, r: &Fracs, j: u32) -> Result<(), Stop>
+    requires inside { j < width model.now }
+    requires ray { length r.now ≡ width model.now }
+    ensures { result ≡ run.column_allows_run model.now r.now j }
+{
+    let column = model.col(j);
+    let value = part(r, j);
+    need(3, not_below(column.lower, value))?;
+    need(3, not_above(column.upper, value))
+}
+
+// Each column's bounds allow the ray.
+pub(crate) fn columns_allow(model: &Model, r: &Fracs) -> Result<(), Stop>
+    requires { length r.now ≡ width model.now }
+    ensures { result ≡ run.each (width model.now) (run.column_allows_run model.now r.now) }
+{
+    for j in 0..model.cols() {
+        column_allows(model, r, j)?;
+    }
+    Ok(())
+}
+
+// Condition 4 at row `i`.
+fn row_allows(model: &Model, r: &Fracs, i: u32) -> Result<(), Stop>
+    requires inside { i < height model.now }
+    requires ray { length r.now ≡ width model.now }
+    ensures { result ≡ run.row_allows_run (Some largest) model.now r.now i }
+{
+    let sum = activity(model, r, i)?;
+    let row = model.row(i);
+    need(4, not_below(lower_limit(row)?, sum))?;
+    need(4, not_above(upper_limit(row)?, sum))
+}
+
+// Each row's limits allow the ray.
+pub(crate) fn rows_allow(model: &Model, r: &Fracs) -> Result<(), Stop>
+    requires { length r.now ≡ width model.now }
+    ensures { result ≡ run.each (height model.now) (run.row_allows_run (Some largest) model.now r.now) }
+{
+    for i in 0..model.rows() {
+        row_allows(model, r, i)?;
+    }
+    Ok(())
+}
+
+// Condition 5: the objective gets better along the ray.
+pub(crate) fn better(model: &Model, r: &Fracs) -> Result<(), Stop>
+    requires { length r.now ≡ width model.now }
+    ensures { result ≡ run.better_run (Some largest) model.now r.now }
+{
+    let cost = cost(model, r)?;
+    need(5, is_negative(signed(model.sense(), cost)))
+}

@@ -1,0 +1,117 @@
+// A text of a certificate that is read line by line.
+ghost use Rattle.std.specs.Prelude.{◌≡◌, ◌+◌, ◌<◌, ◌-◌, ◌^◌, ◌++◌, ◌∷◌, [], None, IfOk, OnOk};
+ghost use Rattle.spec_check.specs.Text as told;
+ghost use Rattle.lp_check.specs.Feeds.{Feeds};
+
+use crate::certificate::{Parts, RawCertificate};
+use crate::words::{is_end, kind_of, part_of};
+use lp_base::{Line, Texts, words};
+use std::alloc::{AllocError, Global};
+use std::marker::Model;
+
+type Progress = spec_check::Progress<RawCertificate>;
+
+/// What a line is answered.
+#[derive(Drop)]
+pub enum CertFeed {
+    /// The text goes on.
+    More,
+    /// It has ended, and spells this.
+    Done(RawCertificate),
+    /// The line with this number does not fit.
+    Refused(u32),
+    NoMemory,
+}
+
+/// A text of a certificate that is read line by line. After any answer but `More` the reader has lost what it read.
+#[derive(Drop)]
+pub struct CertReader {
+    raw: Option<RawCertificate>,
+    lines: u32,
+}
+
+impl Model for CertReader {
+    ghost use Rattle.lp_check.specs.Reading.{Reading};
+
+    ghost Value = { Reading };
+
+    ghost view = { λ r. record { raw = r.raw; lines = r.lines } };
+}
+
+// A first line.
+fn open(alloc: Global, words: &Texts) -> Result<Progress, AllocError>
+    ensures { IfOk result (λ progress. progress ≡ told.opened (told.kind_of words.now)) }
+{
+    match kind_of(alloc, words)? {
+        Some(kind) => Ok(Progress::More(RawCertificate {
+            kind,
+            parts: Parts::new(alloc),
+        })),
+        None => Ok(Progress::Unfit),
+    }
+}
+
+// A line behind the first.
+fn go_on(alloc: Global, mut raw: RawCertificate, words: &Texts) -> Result<Progress, AllocError>
+    ensures { IfOk result (λ progress. progress ≡ told.step_by_words (Some raw) words.now) }
+{
+    if is_end(words) {
+        return Ok(Progress::Done(raw));
+    }
+    match part_of(alloc, &raw.kind, words)? {
+        Some(part) => {
+            raw.parts.push(part)?;
+            Ok(Progress::More(raw))
+        }
+        None => Ok(Progress::Unfit),
+    }
+}
+
+// What a line leads to, behind what was read before it.
+#[tactic(auto, unfolding(spec_check::specs::Text::step))]
+fn advance(
+    alloc: Global,
+    so_far: Option<RawCertificate>,
+    line: &Line,
+) -> Result<Progress, AllocError>
+    ensures { IfOk result (λ progress. progress ≡ told.step so_far line.now) }
+{
+    let Line::Text(bytes) = line else {
+        return Ok(Progress::Unfit);
+    };
+    let words = words(alloc, bytes.as_slice())?;
+    match so_far {
+        None => open(alloc, &words),
+        Some(raw) => go_on(alloc, raw, &words),
+    }
+}
+
+impl CertReader {
+    /// Nothing was read.
+    pub fn new() -> Self
+        ensures { result ≡ record { raw = None; lines = 0 } }
+    {
+        CertReader {
+            raw: None,
+            lines: 0,
+        }
+    }
+
+    /// Takes the next line.
+    pub fn feed(&mut self, alloc: Global, line: &Line) -> CertFeed
+        requires { self.old.lines < 2 ^ 32 - 1 }
+        ensures { Feeds (told.step self.old.raw line.now) (self.old.lines + 1) self.new result }
+    {
+        let number = self.lines + 1;
+        match advance(alloc, self.raw.take(), line) {
+            Ok(Progress::More(raw)) => {
+                self.raw = Some(raw);
+                self.lines = number;
+                CertFeed::More
+            }
+            Ok(Progress::Done(raw)) => CertFeed::Done(raw),
+            Ok(Progress::Unfit) => CertFeed::Refused(number),
+            Err(_) => CertFeed::NoMemory,
+        }
+    }
+}

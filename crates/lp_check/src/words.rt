@@ -1,0 +1,105 @@
+// The words of a certificate's text.
+ghost use Rattle.std.specs.Prelude.{◌≡◌, [], ◌∷◌, IfOk};
+ghost use Rattle.spec_check.specs.Text as told;
+
+use crate::certificate::{CertificateKind, Part};
+use lp_base::{Name, Texts, are_same};
+use spec_check::Letter;
+use std::alloc::{AllocError, Global};
+
+#[tactic(auto, unfolding(spec_check::specs::Text::letter_of))]
+fn letter_of(word: &[u8]) -> Option<Letter>
+    ensures { result ≡ told.letter_of word.now }
+{
+    if are_same(word, b"x") {
+        return Some(Letter::X);
+    }
+    if are_same(word, b"y") {
+        return Some(Letter::Y);
+    }
+    if are_same(word, b"r") {
+        return Some(Letter::R);
+    }
+    None
+}
+
+// Whether parts with this letter stand in a certificate of this kind.
+fn takes(kind: &CertificateKind, letter: Letter) -> bool
+    ensures { result ≡ told.takes kind.now letter }
+{
+    match kind {
+        CertificateKind::Optimal => letter != Letter::R,
+        CertificateKind::Infeasible => letter == Letter::Y,
+        CertificateKind::Unbounded => letter != Letter::Y,
+        CertificateKind::Clash(_) => false,
+    }
+}
+
+// The kind that one word says.
+#[tactic(auto, unfolding(spec_check::specs::Text::kind_of))]
+fn kind_by_word(word: &[u8]) -> Option<CertificateKind>
+    ensures { result ≡ told.kind_of (word.now ∷ []) }
+{
+    if are_same(word, b"OPTIMAL") {
+        return Some(CertificateKind::Optimal);
+    }
+    if are_same(word, b"INFEASIBLE") {
+        return Some(CertificateKind::Infeasible);
+    }
+    if are_same(word, b"UNBOUNDED") {
+        return Some(CertificateKind::Unbounded);
+    }
+    None
+}
+
+// The kind that the words of a first line say.
+#[tactic(auto, unfolding(spec_check::specs::Text::kind_of))]
+pub(crate) fn kind_of(alloc: Global, words: &Texts) -> Result<Option<CertificateKind>, AllocError>
+    ensures { IfOk result (λ kind. kind ≡ told.kind_of words.now) }
+{
+    match words.len() {
+        1 => Ok(kind_by_word(words.at(0))),
+        2 if are_same(words.at(0), b"CLASH") => {
+            let name = Name::from_slice(alloc, words.at(1))?;
+            Ok(Some(CertificateKind::Clash(name)))
+        }
+        _ => Ok(None),
+    }
+}
+
+// The part that the words of a line say, in a certificate of this kind.
+#[tactic(auto, unfolding(spec_check::specs::Text::part_of))]
+pub(crate) fn part_of(
+    alloc: Global,
+    kind: &CertificateKind,
+    words: &Texts,
+) -> Result<Option<Part>, AllocError>
+    ensures { IfOk result (λ part. part ≡ told.part_of kind.now words.now) }
+{
+    if words.len() != 3 {
+        return Ok(None);
+    }
+    let Some(letter) = letter_of(words.at(0)) else {
+        return Ok(None);
+    };
+    if !takes(kind, letter) {
+        return Ok(None);
+    }
+    let Ok(value) = lp_numtext::read(words.at(2)) else {
+        return Ok(None);
+    };
+    let name = Name::from_slice(alloc, words.at(1))?;
+    Ok(Some(Part {
+        letter,
+        name,
+        value,
+    }))
+}
+
+/// Whether these words end a text of a certificate.
+#[tactic(auto, unfolding(spec_check::specs::Text::is_end))]
+pub fn is_end(words: &Texts) -> bool
+    ensures { result ≡ told.is_end words.now }
+{
+    words.len() == 1 && are_same(words.at(0), b"END")
+}

@@ -1,0 +1,3 @@
+-- Lemmas.
+pub mod Fed
+pub mod FedCertificate

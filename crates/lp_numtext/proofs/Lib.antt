@@ -1,0 +1,7 @@
+pub mod PieceSteps
+pub mod DigitSteps
+pub mod ReadSteps
+pub mod SizeSteps
+pub mod BoundSteps
+pub mod ValueSteps
+pub mod WriteSteps

@@ -1,0 +1,13 @@
+-- Sizes from which a bound is infinite.
+use Rattle.std.specs.Prelude.{suc, ◌*◌, ◌^◌, pos, negsuc, Bool, nat_le}
+use Rattle.spec_mps.specs.NumberText.{NumberParts, Decimal, Quotient}
+
+-- the size is at least 10 ^ 20
+unfoldable pub is_huge : NumberParts → Bool
+is_huge (Decimal negative s (pos e)) = nat_le (10 ^ 20) (s * 10 ^ e)
+is_huge (Decimal negative s (negsuc e)) = nat_le (10 ^ 20 * 10 ^ suc e) s
+is_huge (Quotient negative top bottom) = nat_le (10 ^ 20 * bottom) top
+
+abbrev pub sign_of : NumberParts → Bool
+sign_of (Decimal negative s e) = negative
+sign_of (Quotient negative top bottom) = negative

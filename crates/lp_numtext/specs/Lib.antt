@@ -1,0 +1,5 @@
+pub mod Huge
+pub mod Near
+pub mod Seen
+pub mod Separates
+pub mod Within

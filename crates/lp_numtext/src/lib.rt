@@ -1,0 +1,25 @@
+//! Numbers as text, both ways. Nothing is rounded: a text is one fraction whose parts have at most 127 bits, or it is
+//! refused by name. Reading takes no memory.
+//!
+//! read            the fraction that a text is: src/reading
+//! read_bound      the bound that a text is: src/bounds
+//! write           the text of a fraction: src/writing
+//!
+//! The contracts cite the rule of the text in spec_mps: number_of (specs/NumberText), bound_of (specs/BoundText) and
+//! number_text (specs/NumberWritten). Its laws, such as that what is written is read again, are spec_mps's.
+#![tactic(auto)]
+
+mod bounds;
+mod digits;
+mod parts;
+mod pieces;
+mod reading;
+#[cfg(test)]
+mod tests;
+mod width;
+mod writing;
+
+pub use bounds::read_bound;
+pub use reading::read;
+pub use spec_mps::{BoundValue, NumFault};
+pub use writing::write;

@@ -1,0 +1,89 @@
+// Fractions as text.
+ghost use Rattle.std.specs.Prelude.{◌≡◌, ◌<◌, ◌≤◌, ◌++◌, decimal, OnOk, IfSome};
+ghost use Rattle.spec_mps.specs.NumberWritten as told;
+
+use crate::width::product;
+use lp_base::Bytes;
+use lp_frac::{Frac, den, num};
+use std::alloc::{AllocError, Global};
+
+// The most digits behind a point.
+const MAX_PLACES: u32 = 18;
+
+fn write_whole(alloc: Global, n: u128, to: &mut Bytes) -> Result<(), AllocError>
+    ensures { OnOk result (to.new ≡ to.old ++ decimal n) }
+{
+    let text = n.to_string(alloc)?;
+    to.extend(text.as_bytes())
+}
+
+fn write_last_digits(n: u128, places: u32, to: &mut Bytes) -> Result<(), AllocError>
+    requires { places ≤ MAX_PLACES }
+    ensures { OnOk result (to.new ≡ to.old ++ told.last_digits places n) }
+{
+    for place in (0..places).rev() {
+        let digit = n / 10u128.pow(place) % 10;
+        to.push(b'0' + digit as u8)?;
+    }
+    Ok(())
+}
+
+#[tactic(auto, unfolding(spec_mps::specs::NumberWritten::pointed))]
+fn write_pointed(alloc: Global, n: u128, places: u32, to: &mut Bytes) -> Result<(), AllocError>
+    requires { places ≤ MAX_PLACES }
+    ensures { OnOk result (to.new ≡ to.old ++ told.pointed places n) }
+{
+    write_whole(alloc, n / 10u128.pow(places), to)?;
+    to.push(b'.')?;
+    write_last_digits(n, places, to)
+}
+
+#[tactic(auto, unfolding(spec_mps::specs::NumberWritten::quotient_text))]
+fn write_quotient(alloc: Global, n: u128, den: u128, to: &mut Bytes) -> Result<(), AllocError>
+    ensures { OnOk result (to.new ≡ to.old ++ told.quotient_text n den) }
+{
+    write_whole(alloc, n, to)?;
+    to.push(b'/')?;
+    write_whole(alloc, den, to)
+}
+
+// The least number of places behind the point that a fraction with this denominator takes, where 18 are enough.
+fn places(den: u128) -> Option<u32>
+    requires { 0 < den }
+    ensures value { result ≡ told.places den }
+    ensures bound { IfSome result (λ d. d ≤ MAX_PLACES) }
+{
+    for d in 0..=MAX_PLACES {
+        if 10u128.pow(d) % den == 0 {
+            return Some(d);
+        }
+    }
+    None
+}
+
+#[tactic(auto, unfolding(spec_mps::specs::NumberWritten::size_text, spec_mps::specs::NumberWritten::placed))]
+fn write_size(alloc: Global, n: u128, den: u128, to: &mut Bytes) -> Result<(), AllocError>
+    requires { 0 < den }
+    ensures { OnOk result (to.new ≡ to.old ++ told.size_text n den) }
+{
+    if den == 1 {
+        return write_whole(alloc, n, to);
+    }
+    if let Some(d) = places(den) {
+        if let Some(digits) = product(n, 10u128.pow(d) / den) {
+            return write_pointed(alloc, digits, d, to);
+        }
+    }
+    write_quotient(alloc, n, den, to)
+}
+
+/// Appends the text of the number, which `read` reads as that number. After an error `to` may end with a part of it.
+#[tactic(auto, unfolding(spec_mps::specs::NumberWritten::number_text))]
+pub fn write(alloc: Global, v: Frac, to: &mut Bytes) -> Result<(), AllocError>
+    ensures { OnOk result (to.new ≡ to.old ++ told.number_text v) }
+{
+    if num(v) < 0 {
+        to.push(b'-')?;
+    }
+    write_size(alloc, num(v).unsigned_abs(), den(v).unsigned_abs(), to)
+}

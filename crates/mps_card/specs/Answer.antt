@@ -1,0 +1,13 @@
+-- What the readers of cards answer.
+use Rattle.std.specs.Prelude.{◌≡◌, Result, Ok, Err}
+use Rattle.spec_mps.specs.declared.card.Card.{Card}
+use Rattle.spec_mps.specs.Fields.{Fields, CardReading, Is}
+use Rattle.spec_mps.specs.Fields as told
+use Rattle.mps_card.specs.declared.fault.CardFault.{CardFault}
+use Rattle.mps_card.specs.declared.fault.CardFault.TheVariants.{Misplaced, NoMemory}
+
+-- the card, or the column that is at fault; want of memory says nothing
+abbrev pub Gives : Result (Card Fields) CardFault → CardReading → Type 0
+Gives (Ok card) reading = reading ≡ Is card
+Gives (Err (Misplaced column)) reading = reading ≡ told.Misplaced column
+Gives (Err NoMemory) reading = Unit {0}

@@ -1,0 +1,42 @@
+// The cards of lines.
+ghost use Rattle.spec_mps.specs.Fields as told;
+ghost use Rattle.mps_card.specs.Answer.{Gives};
+
+use crate::columns::{column_fields, misplaced};
+use crate::lines::{begins_with_blank, is_skipped};
+use crate::words::word_fields;
+use crate::{Card, CardFault};
+use std::alloc::Global;
+
+/// The card of a line in free form.
+#[tactic(auto, unfolding(spec_mps::specs::Fields::free_fields))]
+pub fn free(alloc: Global, line: &[u8]) -> Result<Card, CardFault>
+    ensures { Gives result (told.free_fields line.now) }
+{
+    if is_skipped(line) {
+        return Ok(Card::Skip);
+    }
+    let fields = word_fields(alloc, line)?;
+    if begins_with_blank(line) {
+        Ok(Card::Given(fields))
+    } else {
+        Ok(Card::Section(fields))
+    }
+}
+
+/// The card of a line in fixed form.
+#[tactic(auto, unfolding(spec_mps::specs::Fields::fixed_fields))]
+pub fn fixed(alloc: Global, line: &[u8]) -> Result<Card, CardFault>
+    ensures { Gives result (told.fixed_fields line.now) }
+{
+    if is_skipped(line) {
+        return Ok(Card::Skip);
+    }
+    if !begins_with_blank(line) {
+        return Ok(Card::Section(word_fields(alloc, line)?));
+    }
+    match misplaced(line) {
+        Some(column) => Err(CardFault::Misplaced(column)),
+        None => Ok(Card::Given(column_fields(alloc, line)?)),
+    }
+}

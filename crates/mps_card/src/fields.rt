@@ -1,0 +1,119 @@
+// The fields of a card.
+ghost use Rattle.std.specs.Prelude.{◌≡◌, ◌+◌, ◌≤◌, ◌^◌, ◌<◌, ℕ, List, [], ◌∷◌, ◌++◌, length, OnOk};
+ghost use Rattle.spec_mps.specs.Fields as told;
+
+use lp_base::Bytes;
+use smallvec::SmallVec;
+use std::alloc::{AllocError, Global};
+use std::default::MadeWith;
+use std::marker::Model;
+
+/// A word with its place from 1, or what stands in one of the fields 1 to 6 of a card in fixed form.
+#[derive(Drop)]
+pub struct Field {
+    number: u32,
+    text: Bytes,
+}
+
+impl Model for Field {
+    ghost use Rattle.spec_mps.specs.Fields as told;
+
+    ghost Value = { told.Field };
+
+    ghost view = { λ f. record { number = f.number; text = f.text } };
+}
+
+impl Field {
+    pub fn number(&self) -> u32
+        ensures { result ≡ self.now.number }
+    {
+        self.number
+    }
+
+    pub fn text(&self) -> &[u8]
+        ensures { result.now ≡ self.now.text }
+    {
+        self.text.as_slice()
+    }
+}
+
+// What a place holds before a field is put there.
+impl MadeWith<Global> for Field {
+    fn made_with(alloc: Global) -> Self {
+        Field {
+            number: 0,
+            text: Bytes::new(alloc),
+        }
+    }
+}
+
+/// What a line is, with its fields.
+pub type Card = spec_mps::Card<Fields>;
+
+/// The fields of a card, in order.
+#[derive(Drop)]
+pub struct Fields {
+    items: SmallVec<Field, 6>,
+}
+
+impl Model for Fields {
+    ghost use Rattle.spec_mps.specs.Fields as told;
+
+    ghost Value = { told.Fields };
+
+    ghost view = { λ f. f.items.items };
+}
+
+impl Fields {
+    pub(crate) fn new(alloc: Global) -> Self
+        ensures { result ≡ [] }
+    {
+        Fields {
+            items: SmallVec::new(alloc),
+        }
+    }
+
+    /// All of them.
+    pub fn as_slice(&self) -> &[Field]
+        ensures { result.now ≡ self.now }
+    {
+        self.items.as_slice()
+    }
+
+    /// What stands in a field; no bytes where it is absent.
+    pub fn text_at(&self, number: u32) -> &[u8]
+        ensures { result.now ≡ told.text_at number self.now }
+    {
+        for field in self.as_slice() {
+            if field.number() == number {
+                return field.text();
+            }
+        }
+        &[]
+    }
+
+    /// Adds a field, unless nothing stands there.
+    pub(crate) fn push(&mut self, alloc: Global, number: u32, text: &[u8]) -> Result<(), AllocError>
+        ensures { OnOk result (self.new ≡ self.old ++ told.field_of number text.now) }
+    {
+        if text.is_empty() {
+            return Ok(());
+        }
+        let text = Bytes::from_slice(alloc, text)?;
+        self.items.push(Field { number, text })?;
+        Ok(())
+    }
+
+    /// Adds a word with the next number, unless it is empty. A number past a `u32` counts as want of memory.
+    pub(crate) fn push_word(&mut self, alloc: Global, word: &[u8]) -> Result<(), AllocError>
+        ensures { OnOk result (self.new ≡ self.old ++ told.field_of (length self.old + 1) word.now) }
+    {
+        let Ok(count) = u32::try_from(self.items.len()) else {
+            return Err(AllocError);
+        };
+        let Some(number) = count.checked_add(1) else {
+            return Err(AllocError);
+        };
+        self.push(alloc, number, word)
+    }
+}

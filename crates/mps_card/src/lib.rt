@@ -1,0 +1,21 @@
+//! The cards of a text of a model, one line at a time.
+//!
+//! Card Field        a card, and one of its fields: src/fields
+//! Fields            the fields of a card: src/fields
+//! free fixed        the card of a line, in free and in fixed form: src/cards
+//! CardFault         why a line has no card: src/fault
+//! Gives             what the two answer: specs/Answer
+#![tactic(auto)]
+
+mod cards;
+mod columns;
+mod fault;
+mod fields;
+mod lines;
+#[cfg(test)]
+mod tests;
+mod words;
+
+pub use cards::{fixed, free};
+pub use fault::CardFault;
+pub use fields::{Card, Field, Fields};

@@ -1,0 +1,5 @@
+pub mod Feeding
+pub mod Lists
+pub mod Runs
+pub mod Signs
+pub mod TextLists

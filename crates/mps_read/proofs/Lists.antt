@@ -1,0 +1,46 @@
+-- One place of a list, and one number of a column.
+use Rattle.std.proofs.Common.{◌≡◌, ℕ, zero, suc, ◌<◌, ◌≤◌, Bool, true, false, List, [], ◌∷◌, length, reverse, ◌||◌, get_or, cond, refl, ap, ◌∙◌, arith}
+use Rattle.std.specs.List.{list_any}
+use Rattle.std.proofs.Math.ListN.{set}
+use Rattle.std.proofs.lemmas.List.{reverse-append}
+use Rattle.std.proofs.lemmas.List.Folds.{list_any-append}
+use Rattle.spec_exact.specs.Fraction.{ℚ, 0ℚ, eq_ℚ}
+use Rattle.spec_exact.proofs.Same.{eq_test, eq_if}
+use Rattle.spec_model.specs.Model.{ExactColumn}
+use Rattle.spec_mps.specs.declared.target.Target.TheVariants as target
+use Rattle.spec_mps.specs.Reader.{put_entry, with_number}
+use Rattle.spec_mps.specs.Sides.{changed_at}
+
+-- the item at a place is written
+pub changed_at-set : {A : Type 0} (xs : List A) (i : ℕ) (f : A → A) (d : A) → i < length xs → set xs i (f (get_or xs i d)) ≡ changed_at i f xs
+changed_at-set [] i f d l = absurd (omega arith)
+changed_at-set (x ∷ xs) zero f d l = refl
+changed_at-set (x ∷ xs) (suc i) f d l = ap (λ ys. x ∷ ys) (changed_at-set xs i f d (omega arith))
+
+pub changed_at-past : {A : Type 0} (xs : List A) (i : ℕ) (f : A → A) → length xs ≤ i → xs ≡ changed_at i f xs
+changed_at-past [] i f l = refl
+changed_at-past (x ∷ xs) zero f l = absurd (omega arith)
+changed_at-past (x ∷ xs) (suc i) f l = ap (λ ys. x ∷ ys) (changed_at-past xs i f (omega arith))
+
+-- a number that is 0 is no entry
+pub number_zero : (c : ExactColumn) (i : ℕ) (v : ℚ) → v ≡ 0ℚ → c ≡ with_number c (target.Row i) v
+number_zero c i v e = rw (eq_test v 0ℚ e) refl
+
+pub number_put : (c : ExactColumn) (i : ℕ) (v : ℚ) → (v ≡ 0ℚ → ⊥) → record c { entries = put_entry i v c.entries } ≡ with_number c (target.Row i) v
+number_put c i v n = go (eq_ℚ v 0ℚ) refl
+  where
+    go : (b : Bool) → eq_ℚ v 0ℚ ≡ b → record c { entries = put_entry i v c.entries } ≡ cond b c (record c { entries = put_entry i v c.entries })
+    go true e = absurd (n (eq_if v 0ℚ e))
+    go false e = refl
+
+-- a test that some element passes does not ask in which order they stand
+pub list_any-reverse : {X : Type 0} (p : X → Bool) (xs : List X) → list_any p (reverse xs) ≡ list_any p xs
+list_any-reverse p [] = refl
+list_any-reverse p (x ∷ xs) =
+    ap (list_any p) (reverse-append (x ∷ []) xs) ∙ list_any-append p (reverse xs) (x ∷ []) ∙ ap (λ t. t || (p x || false)) (list_any-reverse p xs) ∙ turned (list_any p xs) (p x)
+  where
+    turned : (s t : Bool) → (s || (t || false)) ≡ (t || s)
+    turned true true = refl
+    turned true false = refl
+    turned false true = refl
+    turned false false = refl

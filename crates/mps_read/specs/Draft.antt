@@ -1,0 +1,28 @@
+-- The code's draft of a model, as the definition has it.
+use Rattle.std.specs.Prelude.{Option, Some, None, []}
+use Rattle.spec_model.specs.Model.{Name}
+use Rattle.spec_mps.specs.Reader.{State}
+use Rattle.mps_read.specs.declared.draft.Draft.{Draft}
+
+-- a text may have no name
+abbrev pub name_of : Option Name → Name
+name_of None = []
+name_of (Some name) = name
+
+abbrev pub state_of : Draft → State
+state_of d =
+    record {
+      part = d.part;
+      seen = d.seen;
+      name = name_of d.name;
+      sense = d.sense;
+      objective = d.objective;
+      dropped = d.dropped.items;
+      rows = d.rows;
+      offset = d.offset;
+      columns = d.columns.items;
+      column = d.column;
+      lowered = d.lowered.items;
+      paired = d.paired;
+      set = d.set;
+    }

@@ -1,0 +1,10 @@
+pub mod Advances
+pub mod Answer
+pub mod BoundSeen
+pub mod Draft
+pub mod Feeds
+pub mod Finished
+pub mod Leads
+pub mod Parts
+pub mod Reading
+pub mod Sets

@@ -1,0 +1,10 @@
+-- A text that is read line by line.
+use Rattle.std.specs.Prelude.{ℕ}
+use Rattle.spec_mps.specs.declared.style.Style.{Style}
+use Rattle.spec_mps.specs.Reader.{State}
+
+-- what was read so far, and of how many lines
+pub record Reading : Type 0 where
+  pub style : Style
+  pub state : State
+  pub lines : ℕ

@@ -1,0 +1,60 @@
+// Columns, and the numbers of the one that is read.
+ghost use Rattle.std.specs.Prelude.{◌≡◌, ◌≤◌, ℕ, length, IfOk, OnOk};
+ghost use Rattle.std.specs.List.{insert};
+ghost use Rattle.spec_exact.specs.Fraction.{ℚ};
+ghost use Rattle.spec_mps.specs.Reader as told;
+
+use lp_base::Name;
+use lp_frac::{Entries, Frac, is_zero, zero};
+use lp_model::Column;
+use spec_mps::Target;
+use std::alloc::{AllocError, Global};
+
+/// A column with the bounds 0 and none, and no numbers.
+pub(crate) fn make_column(alloc: Global, name: &[u8]) -> Result<Column, AllocError>
+    ensures { IfOk result (λ column. column ≡ told.new_column name.now) }
+{
+    let name = Name::from_slice(alloc, name)?;
+    Ok(Column {
+        name,
+        cost: zero(),
+        lower: Some(zero()),
+        upper: None,
+        entries: Entries::new(alloc),
+    })
+}
+
+/// Puts a number where it belongs: to the cost, or among the entries, unless it is 0.
+pub(crate) fn put_number(column: &mut Column, target: Target, value: Frac) -> Result<(), AllocError>
+    ensures { OnOk result (column.new ≡ told.with_number column.old target value) }
+{
+    match target {
+        Target::Objective => column.cost = value,
+        Target::Row(row) => {
+            if !is_zero(value) {
+                put_entry(&mut column.entries, row, value)?;
+            }
+        }
+    }
+    Ok(())
+}
+
+fn put_entry(entries: &mut Entries, row: u32, value: Frac) -> Result<(), AllocError>
+    ensures { OnOk result (entries.new ≡ told.put_entry row value entries.old) }
+{
+    let place = place_for(entries.as_slice(), row);
+    entries.insert(place, row, value)
+}
+
+// Before the first entry of a later row.
+fn place_for(entries: &[(u32, Frac)], row: u32) -> usize
+    ensures place { (v : ℚ) → insert entries.now result (row, v) ≡ told.put_entry row v entries.now }
+    ensures inside { result ≤ length entries.now }
+{
+    for (place, entry) in entries.iter().enumerate() {
+        if row < entry.0 {
+            return place;
+        }
+    }
+    entries.len()
+}

@@ -1,0 +1,164 @@
+// The cards of COLUMNS.
+ghost use Rattle.std.specs.Prelude.{◌≡◌, ◌∷◌, ◌++◌, [], Bool, false, None, Some, OnOk};
+ghost use Rattle.std.specs.List.{list_any};
+ghost use Rattle.spec_text.specs.Words.{same};
+ghost use Rattle.spec_mps.specs.declared.target.Place.TheVariants as place;
+ghost use Rattle.spec_mps.specs.Fields.{texts_of};
+ghost use Rattle.spec_mps.specs.Reader as told;
+ghost use Rattle.mps_read.specs.Answer.{Gives};
+ghost use Rattle.mps_read.specs.Draft.{state_of};
+
+use crate::column::{make_column, put_number};
+use crate::draft::{Draft, number_in};
+use crate::fault::Fault;
+use crate::names::is_name;
+use crate::shapes::has_shape;
+use lp_base::are_same;
+use lp_frac::Frac;
+use lp_model::Column;
+use mps_card::{Field, Fields};
+use spec_mps::{Code, Place, Section, Style, Target};
+use std::alloc::{AllocError, Global};
+
+const MAX_COLUMNS: usize = 512;
+
+// The field that says 'MARKER' on a card that marks whole columns.
+fn marker_field(style: Style) -> u32
+    ensures { result ≡ told.marker_field style }
+{
+    match style {
+        Style::Free => 2,
+        Style::Fixed => 3,
+    }
+}
+
+fn has_column(columns: &[Column], name: &[u8]) -> bool
+    ensures { result ≡ list_any (λ c. same c.name name.now) columns.now }
+{
+    columns.iter().any(|c| are_same(c.name.as_slice(), name))
+}
+
+impl Draft {
+    #[tactic(auto, unfolding(spec_mps::specs::Reader::columns_card, spec_mps::specs::Shapes::shaped))]
+    pub(crate) fn columns_card(
+        &mut self,
+        alloc: Global,
+        style: Style,
+        fields: &Fields,
+    ) -> Result<(), Fault>
+        ensures { Gives (told.columns_card style (state_of self.old) fields.now) (state_of self.new) result }
+    {
+        if are_same(fields.text_at(marker_field(style)), b"'MARKER'") {
+            return Err(Fault::Code(Code::Integer));
+        }
+        if !has_shape(style, Section::Columns, fields.as_slice()) {
+            return Err(Fault::Code(Code::CardShape));
+        }
+        self.column_by(alloc, fields.as_slice())
+    }
+
+    // A column's name, and pairs of a row's name and a number.
+    fn column_by(&mut self, alloc: Global, fields: &[Field]) -> Result<(), Fault>
+        ensures { Gives (told.column_by (state_of self.old) (texts_of fields.now)) (state_of self.new) result }
+    {
+        let Some((name, pairs)) = fields.split_first() else {
+            return Err(Fault::Code(Code::CardShape));
+        };
+        if !is_name(name.text()) {
+            return Err(Fault::Code(Code::Name));
+        }
+        self.open(alloc, name.text())?;
+        self.column_pairs(pairs)
+    }
+
+    fn is_open(&self, name: &[u8]) -> bool
+        ensures { result ≡ told.is_open (state_of self.now).column name.now }
+    {
+        match &self.column {
+            Some(column) => are_same(column.name.as_slice(), name),
+            None => false,
+        }
+    }
+
+    /// No more cards are read of the column.
+    pub(crate) fn close(&mut self) -> Result<(), AllocError>
+        ensures { OnOk result (state_of self.new ≡ record (state_of self.old) { columns = told.whole_columns (state_of self.old); column = None }) }
+    {
+        if let Some(column) = self.column.take() {
+            self.columns.push(column)?;
+        }
+        Ok(())
+    }
+
+    // Cards of this column are read, or of none that is there already.
+    #[tactic(auto, unfolding(spec_mps::specs::Reader::opened))]
+    fn open(&mut self, alloc: Global, name: &[u8]) -> Result<(), Fault>
+        ensures { Gives (told.opened (state_of self.old) name.now) (state_of self.new) result }
+    {
+        if self.is_open(name) {
+            return Ok(());
+        }
+        self.close()?;
+        if has_column(&self.columns, name) {
+            return Err(Fault::Code(Code::ColumnTaken));
+        }
+        if self.columns.len() >= MAX_COLUMNS {
+            return Err(Fault::Code(Code::Limit));
+        }
+        self.begin_column(alloc, name)?;
+        Ok(())
+    }
+
+    fn begin_column(&mut self, alloc: Global, name: &[u8]) -> Result<(), AllocError>
+        ensures { OnOk result (state_of self.new ≡ record (state_of self.old) {
+          column = Some (told.new_column name.now);
+          lowered = (state_of self.old).lowered ++ false ∷ [];
+          paired = [];
+        }) }
+    {
+        self.column = Some(make_column(alloc, name)?);
+        self.lowered.push(false)?;
+        self.paired.clear();
+        Ok(())
+    }
+
+    fn column_pairs(&mut self, fields: &[Field]) -> Result<(), Fault>
+        ensures { Gives (told.column_pairs (state_of self.old) (told.pairs_of (texts_of fields.now))) (state_of self.new) result }
+    {
+        let mut fields = fields;
+        while let [row, value, more @ ..] = fields {
+            self.column_pair(row.text(), value.text())?;
+            fields = more;
+        }
+        Ok(())
+    }
+
+    #[tactic(auto, unfolding(spec_mps::specs::Reader::column_pair, spec_mps::specs::Reader::enter))]
+    fn column_pair(&mut self, name: &[u8], text: &[u8]) -> Result<(), Fault>
+        ensures { Gives (told.column_pair (state_of self.old) name.now text.now) (state_of self.new) result }
+    {
+        let Some(place) = self.place_of(name) else {
+            return Err(Fault::Code(Code::UnknownRow));
+        };
+        let value = number_in(text)?;
+        match place {
+            Place::Dropped => Ok(()),
+            Place::Kept(target) => self.enter(target, value),
+        }
+    }
+
+    // A number of the column that is read, at a target that had none.
+    #[tactic(auto, unfolding(spec_mps::specs::Reader::enter))]
+    fn enter(&mut self, target: Target, value: Frac) -> Result<(), Fault>
+        ensures { Gives (told.enter (state_of self.old) (place.Kept target) value) (state_of self.new) result }
+    {
+        if self.paired.has(target) {
+            return Err(Fault::Code(Code::EntryRepeated));
+        }
+        if let Some(column) = &mut self.column {
+            put_number(column, target, value)?;
+        }
+        self.paired.push(target)?;
+        Ok(())
+    }
+}

@@ -1,0 +1,89 @@
+// A text that is read line by line.
+ghost use Rattle.std.specs.Prelude.{◌≡◌, ◌+◌, ◌<◌, ◌-◌, ◌^◌, ℕ};
+ghost use Rattle.spec_mps.specs.declared.style.Style.{Style};
+ghost use Rattle.spec_mps.specs.Reader.{start};
+ghost use Rattle.spec_mps.specs.Steps.{Outcome, step};
+ghost use Rattle.mps_read.specs.Answer.{Fails};
+ghost use Rattle.mps_read.specs.Reading.{Reading};
+ghost use Rattle.mps_read.specs.Feeds.{Feeds};
+
+use crate::draft::Draft;
+use crate::fault::Fault;
+use crate::finish::Progress;
+use lp_base::Line;
+use lp_model::Model;
+use spec_mps::{MpsFault, Style};
+use std::alloc::Global;
+use std::{marker, mem};
+
+/// What a line is answered.
+#[derive(Drop)]
+pub enum Feed {
+    /// The text goes on.
+    More,
+    /// It has ended, and spells this model.
+    Done(Model),
+    /// This line is wrong.
+    Refused(MpsFault),
+    NoMemory,
+}
+
+/// A text of a model that is read line by line. After any answer but `More` the reader has lost what it read.
+#[derive(Drop)]
+pub struct Reader {
+    style: Style,
+    draft: Draft,
+    lines: u32,
+}
+
+impl marker::Model for Reader {
+    ghost use Rattle.mps_read.specs.Draft.{state_of};
+    ghost use Rattle.mps_read.specs.Leads.{IsReached};
+    ghost use Rattle.mps_read.specs.Reading.{Reading};
+
+    ghost Value = { Reading };
+
+    ghost view = { λ r. record { style = r.style; state = state_of r.draft; lines = r.lines } };
+
+    ghost invariant = { λ r. IsReached r.style (state_of r.draft) };
+}
+
+fn refused(fault: Fault, line: u32) -> Feed
+    ensures { (outcome : Outcome) (style : Style) (new : Reading) → Fails outcome fault → Feeds outcome style line new result }
+{
+    match fault {
+        Fault::Code(code) => Feed::Refused(MpsFault { line, code }),
+        Fault::NoMemory => Feed::NoMemory,
+    }
+}
+
+impl Reader {
+    /// Nothing was read.
+    pub fn new(alloc: Global, style: Style) -> Self
+        ensures { result ≡ record { style = style; state = start; lines = 0 } }
+    {
+        Reader {
+            style,
+            draft: Draft::new(alloc),
+            lines: 0,
+        }
+    }
+
+    /// Takes the next line.
+    pub fn feed(&mut self, alloc: Global, line: &Line) -> Feed
+        requires { self.old.lines < 2 ^ 32 - 1 }
+        ensures { Feeds (step self.old.style self.old.state line.now) self.old.style (self.old.lines + 1) self.new result }
+    {
+        let number = self.lines + 1;
+        let draft = mem::replace(&mut self.draft, Draft::new(alloc));
+        match draft.advance(alloc, self.style, line) {
+            Ok(Progress::More(draft)) => {
+                self.draft = draft;
+                self.lines = number;
+                Feed::More
+            }
+            Ok(Progress::Done(model)) => Feed::Done(model),
+            Err(fault) => refused(fault, number),
+        }
+    }
+}

@@ -1,0 +1,98 @@
+// The cards of ROWS.
+ghost use Rattle.std.specs.Prelude.{◌≡◌, ◌+◌, ◌++◌, ◌∷◌, [], length, nat_lt, OnOk};
+ghost use Rattle.spec_model.specs.Kept.{row_limit};
+ghost use Rattle.spec_mps.specs.declared.row_type.RowType.TheVariants as row_type;
+ghost use Rattle.spec_mps.specs.Reader as told;
+ghost use Rattle.mps_read.specs.Answer.{Gives};
+ghost use Rattle.mps_read.specs.Draft.{state_of};
+ghost use Rattle.mps_read.specs.Parts.{put_row};
+
+use crate::draft::Draft;
+use crate::fault::Fault;
+use crate::names::is_row_name;
+use crate::row_list::make_row;
+use crate::shapes::has_shape;
+use crate::words::row_type_of;
+use lp_base::Name;
+use lp_model::Kind;
+use mps_card::Fields;
+use spec_mps::{Code, RowType, Section, Style};
+use std::alloc::{AllocError, Global};
+
+const MAX_ROWS: usize = 256;
+
+impl Draft {
+    #[tactic(auto, unfolding(spec_mps::specs::Reader::rows_card, spec_mps::specs::Shapes::shaped))]
+    pub(crate) fn rows_card(
+        &mut self,
+        alloc: Global,
+        style: Style,
+        fields: &Fields,
+    ) -> Result<(), Fault>
+        ensures { Gives (told.rows_card style (state_of self.old) fields.now) (state_of self.new) result }
+    {
+        if !has_shape(style, Section::Rows, fields.as_slice()) {
+            return Err(Fault::Code(Code::CardShape));
+        }
+        let Some(row_type) = row_type_of(fields.text_at(1)) else {
+            return Err(Fault::Code(Code::RowType));
+        };
+        self.add_row(alloc, row_type, fields.text_at(2))
+    }
+
+    #[tactic(auto, unfolding(spec_mps::specs::Reader::add_row))]
+    fn add_row(&mut self, alloc: Global, row_type: RowType, name: &[u8]) -> Result<(), Fault>
+        ensures { Gives (told.add_row (state_of self.old) row_type name.now) (state_of self.new) result }
+    {
+        if !is_row_name(name) {
+            return Err(Fault::Code(Code::Name));
+        }
+        if self.place_of(name).is_some() {
+            return Err(Fault::Code(Code::RowTaken));
+        }
+        match row_type {
+            RowType::Unlimited => self.add_unlimited(alloc, name),
+            RowType::Limited(kind) => self.add_limited(alloc, kind, name),
+        }
+    }
+
+    // Rows that are dropped count too.
+    fn has_room(&self) -> bool
+        ensures { result ≡ nat_lt (length (state_of self.now).rows + length (state_of self.now).dropped) row_limit }
+    {
+        let rows = self.rows.len();
+        rows < MAX_ROWS && self.dropped.len() < MAX_ROWS - rows
+    }
+
+    fn add_unlimited(&mut self, alloc: Global, name: &[u8]) -> Result<(), Fault>
+        ensures { Gives (put_row (state_of self.old) row_type.Unlimited name.now) (state_of self.new) result }
+    {
+        if self.objective.is_none() {
+            self.objective = Some(Name::from_slice(alloc, name)?);
+            return Ok(());
+        }
+        if !self.has_room() {
+            return Err(Fault::Code(Code::Limit));
+        }
+        self.drop_row(alloc, name)?;
+        Ok(())
+    }
+
+    fn drop_row(&mut self, alloc: Global, name: &[u8]) -> Result<(), AllocError>
+        ensures { OnOk result (state_of self.new ≡ record (state_of self.old) { dropped = (state_of self.old).dropped ++ name.now ∷ [] }) }
+    {
+        self.dropped.push(Name::from_slice(alloc, name)?)?;
+        Ok(())
+    }
+
+    fn add_limited(&mut self, alloc: Global, kind: Kind, name: &[u8]) -> Result<(), Fault>
+        ensures { Gives (put_row (state_of self.old) (row_type.Limited kind) name.now) (state_of self.new) result }
+    {
+        if !self.has_room() {
+            return Err(Fault::Code(Code::Limit));
+        }
+        let row = make_row(alloc, kind, name)?;
+        self.rows.push(row)?;
+        Ok(())
+    }
+}

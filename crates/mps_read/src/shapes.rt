@@ -1,0 +1,104 @@
+// Which fields a card of a section has.
+ghost use Rattle.std.specs.Prelude.{◌≡◌};
+ghost use Rattle.spec_text.specs.Words.{same};
+ghost use Rattle.spec_mps.specs.Fields.{numbers_of};
+ghost use Rattle.spec_mps.specs.Shapes as told;
+
+use mps_card::Field;
+use spec_mps::{BoundKind, Section, Style};
+
+/// Whether the fields have these numbers.
+fn has_numbers(fields: &[Field], numbers: &[u32]) -> bool
+    ensures { result ≡ same (numbers_of fields.now) numbers.now }
+{
+    let mut rest = numbers;
+    for field in fields {
+        let [number, more @ ..] = rest else {
+            return false;
+        };
+        if field.number() != *number {
+            return false;
+        }
+        rest = more;
+    }
+    rest.is_empty()
+}
+
+#[tactic(auto, unfolding(spec_mps::specs::Shapes::has_shape))]
+fn has_free_shape(section: Section, fields: &[Field]) -> bool
+    ensures { result ≡ told.has_shape (told.free_shapes section) fields.now }
+{
+    match section {
+        Section::Name | Section::End => false,
+        Section::Sense => has_numbers(fields, &[1]),
+        Section::Rows => has_numbers(fields, &[1, 2]),
+        Section::Columns => {
+            has_numbers(fields, &[1, 2, 3]) || has_numbers(fields, &[1, 2, 3, 4, 5])
+        }
+        Section::RightSides | Section::Ranges => {
+            has_numbers(fields, &[1, 2])
+                || has_numbers(fields, &[1, 2, 3])
+                || has_numbers(fields, &[1, 2, 3, 4])
+                || has_numbers(fields, &[1, 2, 3, 4, 5])
+        }
+        Section::Bounds => has_numbers(fields, &[1, 2, 3]) || has_numbers(fields, &[1, 2, 3, 4]),
+    }
+}
+
+#[tactic(auto, unfolding(spec_mps::specs::Shapes::has_shape))]
+fn has_fixed_shape(section: Section, fields: &[Field]) -> bool
+    ensures { result ≡ told.has_shape (told.fixed_shapes section) fields.now }
+{
+    match section {
+        Section::Name | Section::End => false,
+        Section::Sense => has_numbers(fields, &[1]),
+        Section::Rows => has_numbers(fields, &[1, 2]),
+        Section::Columns => {
+            has_numbers(fields, &[2, 3, 4]) || has_numbers(fields, &[2, 3, 4, 5, 6])
+        }
+        Section::RightSides | Section::Ranges => {
+            has_numbers(fields, &[3, 4])
+                || has_numbers(fields, &[2, 3, 4])
+                || has_numbers(fields, &[3, 4, 5, 6])
+                || has_numbers(fields, &[2, 3, 4, 5, 6])
+        }
+        Section::Bounds => has_numbers(fields, &[1, 3, 4]) || has_numbers(fields, &[1, 2, 3, 4]),
+    }
+}
+
+/// Whether a card of this section may have these fields.
+pub(crate) fn has_shape(style: Style, section: Section, fields: &[Field]) -> bool
+    ensures { result ≡ told.has_shape (told.shapes_of style section) fields.now }
+{
+    match style {
+        Style::Free => has_free_shape(section, fields),
+        Style::Fixed => has_fixed_shape(section, fields),
+    }
+}
+
+#[tactic(auto, unfolding(spec_mps::specs::Shapes::has_shape))]
+fn has_unvalued_shape(style: Style, fields: &[Field]) -> bool
+    ensures { result ≡ told.has_shape (told.unvalued_shapes style) fields.now }
+{
+    match style {
+        Style::Free => has_numbers(fields, &[1, 2]) || has_numbers(fields, &[1, 2, 3]),
+        Style::Fixed => {
+            has_numbers(fields, &[1, 3])
+                || has_numbers(fields, &[1, 2, 3])
+                || has_numbers(fields, &[1, 3, 4])
+                || has_numbers(fields, &[1, 2, 3, 4])
+        }
+    }
+}
+
+/// Whether a card of BOUNDS of this kind may have these fields.
+pub(crate) fn has_bound_shape(style: Style, kind: BoundKind, fields: &[Field]) -> bool
+    ensures { result ≡ told.has_shape (told.bound_shapes style kind) fields.now }
+{
+    match kind {
+        BoundKind::Up | BoundKind::Lo | BoundKind::Fx => {
+            has_shape(style, Section::Bounds, fields)
+        }
+        BoundKind::Fr | BoundKind::Mi | BoundKind::Pl => has_unvalued_shape(style, fields),
+    }
+}

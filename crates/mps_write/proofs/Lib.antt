@@ -1,0 +1,3 @@
+pub mod AddSteps
+pub mod FieldSteps
+pub mod SignSteps

@@ -1,0 +1,124 @@
+// The lines of cards.
+ghost use Rattle.std.specs.Prelude.{◌≡◌, ◌++◌, ◌-◌, [], ◌∷◌, OnOk, length, replicate};
+ghost use Rattle.spec_mps.specs.Written as told;
+ghost use Rattle.mps_write.specs.Adds.{Adds, IsAdded, PutsFields, fields_of, is_wide_in};
+
+use crate::fault::WriteFault;
+use lp_base::Bytes;
+use spec_mps::Style;
+use std::alloc::{AllocError, Global};
+
+/// The column of fixed form in which a field begins.
+fn first_column(number: u32) -> usize
+    ensures { result ≡ told.first_column number }
+{
+    match number {
+        1 => 2,
+        2 => 5,
+        3 => 15,
+        4 => 25,
+        5 => 40,
+        _ => 50,
+    }
+}
+
+/// The most bytes of a field of fixed form.
+fn field_width(number: u32) -> usize
+    ensures { result ≡ told.field_width number }
+{
+    match number {
+        1 => 2,
+        4 | 6 => 12,
+        _ => 8,
+    }
+}
+
+/// Blanks behind a line until it has so many bytes.
+fn pad(width: usize, line: &mut Bytes) -> Result<(), AllocError>
+    ensures { OnOk result (line.new ≡ line.old ++ replicate (width - length line.old) 32) }
+{
+    for done in 0..width.saturating_sub(line.len()) {
+        line.push(b' ')?;
+    }
+    Ok(())
+}
+
+/// A field of a card, by its number in fixed form, over the type T of texts.
+#[derive(Drop)]
+pub(crate) struct Field<T> {
+    pub number: u32,
+    pub text: T,
+}
+
+/// What cards are written in, and where their memory comes from.
+#[derive(Drop)]
+pub(crate) struct Writer {
+    pub alloc: Global,
+    pub style: Style,
+}
+
+impl Writer {
+    // A field behind a line, whatever its width.
+    fn place(&self, number: u32, text: &[u8], line: &mut Bytes) -> Result<(), AllocError>
+        ensures { OnOk result (line.new ≡ told.padded self.now.style number line.old ++ text.now) }
+    {
+        match self.style {
+            Style::Free => line.push(b' ')?,
+            Style::Fixed => pad(first_column(number) - 1, line)?,
+        }
+        line.extend(text)
+    }
+
+    fn is_wide(&self, number: u32, text: &[u8]) -> bool
+        ensures { result ≡ is_wide_in self.now.style (told.field_at number text.now) }
+    {
+        self.style == Style::Fixed && text.len() > field_width(number)
+    }
+
+    // Fields behind a line.
+    fn fields(&self, fields: &[Field<&[u8]>], line: &mut Bytes) -> Result<(), WriteFault>
+        ensures { PutsFields self.now.style (fields_of fields.now) line.old line.new result }
+    {
+        for field in fields {
+            if self.is_wide(field.number, field.text) {
+                return Err(WriteFault::TooWide(Bytes::from_slice(self.alloc, field.text)?));
+            }
+            self.place(field.number, field.text, line)?;
+        }
+        Ok(())
+    }
+
+    /// A data card.
+    pub fn data(&self, fields: &[Field<&[u8]>], to: &mut Bytes) -> Result<(), WriteFault>
+        ensures { Adds self.now.style (told.Data (fields_of fields.now) ∷ []) to.old to.new result }
+    {
+        let mut line = Bytes::new(self.alloc);
+        self.fields(fields, &mut line)?;
+        line.push(b'\n')?;
+        to.extend(line.as_slice())?;
+        Ok(())
+    }
+
+    /// A section card of one word.
+    pub fn section(&self, word: &[u8], to: &mut Bytes) -> Result<(), AllocError>
+        ensures { OnOk result (IsAdded self.now.style (told.section_card word.now ∷ []) to.old to.new) }
+    {
+        let mut line = Bytes::from_slice(self.alloc, word)?;
+        line.push(b'\n')?;
+        to.extend(line.as_slice())?;
+        Ok(())
+    }
+
+    /// The card of a model's name.
+    pub fn name(&self, name: &[u8], to: &mut Bytes) -> Result<(), AllocError>
+        ensures { OnOk result (IsAdded self.now.style (told.name_card name.now ∷ []) to.old to.new) }
+    {
+        let mut line = Bytes::from_slice(self.alloc, b"NAME")?;
+        if !name.is_empty() {
+            self.place(3, name, &mut line)?;
+        }
+        line.push(b'\n')?;
+        to.extend(line.as_slice())?;
+        Ok(())
+    }
+}

@@ -1,0 +1,331 @@
+// The sections of a text.
+ghost use Rattle.std.specs.Prelude.{◌≡◌, ◌<◌, [], ◌∷◌, All, IfOk, map};
+ghost use Rattle.std.specs.List.{flat_map, list_any};
+ghost use Rattle.spec_model.specs.Model.{row, column, width, height};
+ghost use Rattle.spec_mps.specs.NumberWritten as written;
+ghost use Rattle.spec_mps.specs.Written as told;
+ghost use Rattle.mps_write.specs.Adds.{Adds};
+
+use crate::fault::WriteFault;
+use crate::line::{Field, Writer};
+use crate::signs::{is_equal, is_up_from_zero, is_zero};
+use lp_base::Bytes;
+use lp_frac::{Frac, neg};
+use lp_model::{Kind, Model};
+use lp_numtext::write;
+use std::alloc::{AllocError, Global};
+
+/// The word of a kind of rows.
+fn kind_word(kind: Kind) -> &'static [u8]
+    ensures { result.now ≡ told.kind_word kind }
+{
+    match kind {
+        Kind::L => b"L",
+        Kind::G => b"G",
+        Kind::E => b"E",
+    }
+}
+
+fn number_text(alloc: Global, value: Frac) -> Result<Bytes, AllocError>
+    ensures { IfOk result (λ text. text ≡ written.number_text value) }
+{
+    let mut text = Bytes::new(alloc);
+    write(alloc, value, &mut text)?;
+    Ok(text)
+}
+
+fn field(number: u32, text: &[u8]) -> Field<&[u8]>
+    ensures number { result.number ≡ number }
+    ensures text { result.text.now ≡ text.now }
+{
+    Field { number, text }
+}
+
+impl Writer {
+    fn type_card(&self, word: &[u8], name: &[u8], to: &mut Bytes) -> Result<(), WriteFault>
+        ensures { Adds self.now.style (told.type_card word.now name.now ∷ []) to.old to.new result }
+    {
+        self.data(&[field(1, word), field(2, name)], to)
+    }
+
+    fn number_card(
+        &self,
+        group: &[u8],
+        name: &[u8],
+        value: &Frac,
+        to: &mut Bytes,
+    ) -> Result<(), WriteFault>
+        ensures { Adds self.now.style (told.number_card group.now name.now value.now ∷ []) to.old to.new result }
+    {
+        let text = number_text(self.alloc, *value)?;
+        self.data(
+            &[field(2, group), field(3, name), field(4, text.as_slice())],
+            to,
+        )
+    }
+
+    fn unbound_card(&self, kind: &[u8], name: &[u8], to: &mut Bytes) -> Result<(), WriteFault>
+        ensures { Adds self.now.style (told.unbound_card kind.now name.now ∷ []) to.old to.new result }
+    {
+        self.data(&[field(1, kind), field(2, b"BND"), field(3, name)], to)
+    }
+
+    fn bound_card(
+        &self,
+        kind: &[u8],
+        name: &[u8],
+        value: &Frac,
+        to: &mut Bytes,
+    ) -> Result<(), WriteFault>
+        ensures { Adds self.now.style (told.bound_card kind.now name.now value.now ∷ []) to.old to.new result }
+    {
+        let text = number_text(self.alloc, *value)?;
+        self.data(
+            &[
+                field(1, kind),
+                field(2, b"BND"),
+                field(3, name),
+                field(4, text.as_slice()),
+            ],
+            to,
+        )
+    }
+
+    /// `ROWS`: the objective and the rows.
+    pub fn rows(&self, model: &Model, to: &mut Bytes) -> Result<(), WriteFault>
+        ensures { Adds self.now.style (told.rows_cards model.now) to.old to.new result }
+    {
+        self.section(b"ROWS", to)?;
+        self.type_card(b"N", model.objective().as_slice(), to)?;
+        self.row_cards(model, to)
+    }
+
+    fn row_cards(&self, model: &Model, to: &mut Bytes) -> Result<(), WriteFault>
+        ensures { Adds self.now.style (map told.row_card model.now.rows) to.old to.new result }
+    {
+        for i in 0..model.rows() {
+            let row = model.row(i);
+            self.type_card(kind_word(row.kind), row.name.as_slice(), to)?;
+        }
+        Ok(())
+    }
+
+    /// `COLUMNS`: each column's cost and its entries.
+    pub fn columns(&self, model: &Model, to: &mut Bytes) -> Result<(), WriteFault>
+        ensures { Adds self.now.style (told.columns_cards model.now) to.old to.new result }
+    {
+        self.section(b"COLUMNS", to)?;
+        self.column_cards(model, to)
+    }
+
+    fn column_cards(&self, model: &Model, to: &mut Bytes) -> Result<(), WriteFault>
+        ensures { Adds self.now.style (flat_map (told.column_cards model.now) model.now.columns) to.old to.new result }
+    {
+        for j in 0..model.cols() {
+            self.column(model, j, to)?;
+        }
+        Ok(())
+    }
+
+    fn column(&self, model: &Model, j: u32, to: &mut Bytes) -> Result<(), WriteFault>
+        requires { j < width model.now }
+        ensures { Adds self.now.style (told.column_cards model.now (column model.now j)) to.old to.new result }
+    {
+        let column = model.col(j);
+        let name = column.name.as_slice();
+        self.number_card(name, model.objective().as_slice(), &column.cost, to)?;
+        self.entries(model, name, model.entries(j), to)
+    }
+
+    fn entries(
+        &self,
+        model: &Model,
+        name: &[u8],
+        entries: &[(u32, Frac)],
+        to: &mut Bytes,
+    ) -> Result<(), WriteFault>
+        requires { All (λ e. e.0 < height model.now) entries.now }
+        ensures { Adds self.now.style (map (λ e. told.number_card name.now (row model.now e.0).name e.1) entries.now) to.old to.new result }
+    {
+        for (i, value) in entries {
+            self.number_card(name, model.row(*i).name.as_slice(), value, to)?;
+        }
+        Ok(())
+    }
+
+    /// `RHS`: the right sides that are not 0.
+    pub fn sides(&self, model: &Model, to: &mut Bytes) -> Result<(), WriteFault>
+        ensures { Adds self.now.style (told.sides_cards model.now) to.old to.new result }
+    {
+        self.section(b"RHS", to)?;
+        self.side(model.objective().as_slice(), &neg(model.offset()), to)?;
+        self.row_sides(model, to)
+    }
+
+    fn row_sides(&self, model: &Model, to: &mut Bytes) -> Result<(), WriteFault>
+        ensures { Adds self.now.style (flat_map (λ r. told.side_cards r.name r.rhs) model.now.rows) to.old to.new result }
+    {
+        for i in 0..model.rows() {
+            let row = model.row(i);
+            self.side(row.name.as_slice(), &row.rhs, to)?;
+        }
+        Ok(())
+    }
+
+    fn side(&self, name: &[u8], value: &Frac, to: &mut Bytes) -> Result<(), WriteFault>
+        ensures { Adds self.now.style (told.side_cards name.now value.now) to.old to.new result }
+    {
+        if is_zero(*value) {
+            return Ok(());
+        }
+        self.number_card(b"RHS", name, value, to)
+    }
+
+    /// `RANGES`, where a row has one.
+    pub fn ranges(&self, model: &Model, to: &mut Bytes) -> Result<(), WriteFault>
+        ensures { Adds self.now.style (told.ranges_cards model.now) to.old to.new result }
+    {
+        if !has_ranges(model) {
+            return Ok(());
+        }
+        self.section(b"RANGES", to)?;
+        self.row_ranges(model, to)
+    }
+
+    fn row_ranges(&self, model: &Model, to: &mut Bytes) -> Result<(), WriteFault>
+        ensures { Adds self.now.style (flat_map (λ r. told.range_cards r.name r.range) model.now.rows) to.old to.new result }
+    {
+        for i in 0..model.rows() {
+            let row = model.row(i);
+            self.range(row.name.as_slice(), row.range, to)?;
+        }
+        Ok(())
+    }
+
+    fn range(&self, name: &[u8], range: Option<Frac>, to: &mut Bytes) -> Result<(), WriteFault>
+        ensures { Adds self.now.style (told.range_cards name.now range) to.old to.new result }
+    {
+        match range {
+            None => Ok(()),
+            Some(value) => self.number_card(b"RNG", name, &value, to),
+        }
+    }
+
+    /// `BOUNDS`, where a column has others than 0 and none.
+    pub fn bounds(&self, model: &Model, to: &mut Bytes) -> Result<(), WriteFault>
+        ensures { Adds self.now.style (told.bounds_cards model.now) to.old to.new result }
+    {
+        if !has_bounds(model) {
+            return Ok(());
+        }
+        self.section(b"BOUNDS", to)?;
+        self.column_bounds(model, to)
+    }
+
+    fn column_bounds(&self, model: &Model, to: &mut Bytes) -> Result<(), WriteFault>
+        ensures { Adds self.now.style (flat_map (λ c. told.bound_cards c.name c.lower c.upper) model.now.columns) to.old to.new result }
+    {
+        for j in 0..model.cols() {
+            let column = model.col(j);
+            self.bound_cards(column.name.as_slice(), column.lower, column.upper, to)?;
+        }
+        Ok(())
+    }
+
+    fn bound_cards(
+        &self,
+        name: &[u8],
+        lower: Option<Frac>,
+        upper: Option<Frac>,
+        to: &mut Bytes,
+    ) -> Result<(), WriteFault>
+        ensures { Adds self.now.style (told.bound_cards name.now lower upper) to.old to.new result }
+    {
+        match lower {
+            None => self.upper_cards(name, upper, to),
+            Some(l) => match upper {
+                None => self.lower_cards(name, l, to),
+                Some(u) => self.both_cards(name, l, u, to),
+            },
+        }
+    }
+
+    // No lower bound, and an upper one, if there is one.
+    fn upper_cards(
+        &self,
+        name: &[u8],
+        upper: Option<Frac>,
+        to: &mut Bytes,
+    ) -> Result<(), WriteFault>
+        ensures { Adds self.now.style (told.bound_cards name.now None upper) to.old to.new result }
+    {
+        match upper {
+            None => self.unbound_card(b"FR", name, to),
+            Some(u) => {
+                self.unbound_card(b"MI", name, to)?;
+                self.bound_card(b"UP", name, &u, to)
+            }
+        }
+    }
+
+    fn lower_cards(&self, name: &[u8], lower: Frac, to: &mut Bytes) -> Result<(), WriteFault>
+        ensures { Adds self.now.style (told.bound_cards name.now (Some lower) None) to.old to.new result }
+    {
+        if is_zero(lower) {
+            return Ok(());
+        }
+        self.bound_card(b"LO", name, &lower, to)
+    }
+
+    fn both_cards(
+        &self,
+        name: &[u8],
+        lower: Frac,
+        upper: Frac,
+        to: &mut Bytes,
+    ) -> Result<(), WriteFault>
+        ensures { Adds self.now.style (told.bound_cards name.now (Some lower) (Some upper)) to.old to.new result }
+    {
+        if is_equal(lower, upper) {
+            return self.bound_card(b"FX", name, &lower, to);
+        }
+        if is_up_from_zero(lower, upper) {
+            return self.bound_card(b"UP", name, &upper, to);
+        }
+        self.bound_card(b"LO", name, &lower, to)?;
+        self.bound_card(b"UP", name, &upper, to)
+    }
+}
+
+fn has_ranges(model: &Model) -> bool
+    ensures { result ≡ list_any told.has_range model.now.rows }
+{
+    for i in 0..model.rows() {
+        if model.row(i).range.is_some() {
+            return true;
+        }
+    }
+    false
+}
+
+fn has_bounds(model: &Model) -> bool
+    ensures { result ≡ list_any told.has_bounds model.now.columns }
+{
+    for j in 0..model.cols() {
+        let column = model.col(j);
+        if !is_usual(column.lower, column.upper) {
+            return true;
+        }
+    }
+    false
+}
+
+/// A lower bound 0 and no upper one.
+fn is_usual(lower: Option<Frac>, upper: Option<Frac>) -> bool
+    ensures { result ≡ told.is_usual lower upper }
+{
+    match (lower, upper) {
+        (Some(l), None) => is_zero(l),
+        _ => false,
+    }
+}

@@ -1,0 +1,31 @@
+// Tests of fractions.
+ghost use Rattle.std.specs.Prelude.{◌≡◌, ◌&&◌};
+ghost use Rattle.spec_exact.specs.Fraction.{0ℚ, eq_ℚ, lt_ℚ};
+
+use lp_frac::{Frac, are_same, num, zero};
+
+/// Whether the two are one fraction.
+pub fn is_equal(v: Frac, w: Frac) -> bool
+    ensures { result ≡ eq_ℚ v w }
+{
+    are_same(v, w)
+}
+
+pub fn is_zero(v: Frac) -> bool
+    ensures { result ≡ eq_ℚ v 0ℚ }
+{
+    is_equal(v, zero())
+}
+
+pub fn is_positive(v: Frac) -> bool
+    ensures { result ≡ lt_ℚ 0ℚ v }
+{
+    num(v) > 0
+}
+
+/// A lower bound 0, and an upper bound above it.
+pub fn is_up_from_zero(lower: Frac, upper: Frac) -> bool
+    ensures { result ≡ (eq_ℚ lower 0ℚ && lt_ℚ 0ℚ upper) }
+{
+    is_zero(lower) && is_positive(upper)
+}

@@ -1,0 +1,150 @@
+-- What the steps of a run without a limit give: sums, limits, comparisons, and conditions 1 and 2.
+use Rattle.std.proofs.Common.{◌≡◌, ℕ, zero, suc, ◌<◌, List, Option, Some, None, Ok, IfSome, Bool, true, false, not, cond, Ordering, Less, Equal, Greater, refl, sym, ap, ◌∙◌, arith}
+use Rattle.std.specs.Prelude.{⊤}
+use Rattle.spec_exact.specs.Fraction.{ℚ, 0ℚ, ◌+ℚ◌, ◌-ℚ◌, ◌*ℚ◌, ◌≤ℚ◌, lt_ℚ, abs_ℚ}
+use Rattle.spec_exact.specs.Sums.{sum_below}
+use Rattle.spec_exact.specs.Limit.{add, sub, mul, compare, order}
+use Rattle.spec_exact.specs.declared.past.Op.{Op}
+use Rattle.spec_exact.specs.declared.past.Op.TheVariants.{Add, Sub, Mul, Cmp}
+use Rattle.spec_exact.proofs.Field.{+ℚ_zero, +ℚ_assoc}
+use Rattle.spec_exact.proofs.Ruleset.{zero-+ℚ}
+use Rattle.spec_exact.proofs.Order.{clash_ℚ, lt_if}
+use Rattle.spec_exact.proofs.Limit.{add_unlimited, sub_unlimited, mul_unlimited}
+use Rattle.spec_exact.proofs.Compare.{compare_unlimited, order_less, order_greater}
+use Rattle.spec_exact.proofs.Same.{eq_test}
+use Rattle.spec_model.specs.declared.parts.Kind.{Kind}
+use Rattle.spec_model.specs.declared.parts.Kind.TheVariants.{L, G, E}
+use Rattle.spec_model.specs.Model.{Model, ExactRow, Limits, limits_by, limits_of, from_to, width, height, bounds, limits, row, coefficient, activity, part}
+use Rattle.spec_model.specs.Truth.{IsBetween, IsFeasible}
+use Rattle.spec_check.specs.Checks.{IsTight}
+use Rattle.spec_check.specs.Run.{Run, ◌>>=◌, step, need, each, each_from, plus_product, less_product, sum_run, some_run, lower_by_run, upper_by_run, lower_run, upper_run, is_less, is_greater, at_least, at_most, stands_at, is_tight, column_within_run, columns_run, activity_run, row_within_run, rows_run}
+
+pub then_ok : {A B : Type 0} (o : Run A) (a : A) (next : A → Run B) (b : B) → o ≡ Ok a → next a ≡ Ok b → (o >>= next) ≡ Ok b
+then_ok o a next b e f = ap (λ z. z >>= next) e ∙ f
+
+pub comes : {A : Type 0} (op : Op) (v w : ℚ) (o : Option A) (x : A) → o ≡ Some x → step op v w o ≡ Ok x
+comes op v w o x e = ap (λ z. step op v w z) e
+
+pub need_true : (n : ℕ) (t : Bool) → t ≡ true → need n t ≡ Ok tt
+need_true n true e = refl
+need_true n false e = cc
+
+pub each_all : (n : ℕ) (f : ℕ → Run ⊤) → ((i : ℕ) → i < n → f i ≡ Ok tt) → each n f ≡ Ok tt
+each_all zero f h = refl
+each_all (suc n) f h = then_ok (each n f) tt (λ _. f n) tt (each_all n f (λ i p. h i (omega (arith, p)))) (h n (omega arith))
+
+pub from_all : (s : ℚ) (n : ℕ) (f : ℕ → ℚ → Run ℚ) (t : ℕ → ℚ) → ((k : ℕ) (u : ℚ) → k < n → f k u ≡ Ok (u +ℚ t k)) → each_from s n f ≡ Ok (s +ℚ sum_below n t)
+from_all s zero f t h = ap Ok (sym (+ℚ_zero s))
+from_all s (suc n) f t h =
+    then_ok (each_from s n f) (s +ℚ sum_below n t) (λ u. f n u) (s +ℚ sum_below (suc n) t) (from_all s n f t (λ k u p. h k u (omega (arith, p))))
+    (h n (s +ℚ sum_below n t) (omega arith) ∙ ap Ok (+ℚ_assoc s (sum_below n t) (t n)))
+
+pub added : (v w : ℚ) → step Add v w (add None v w) ≡ Ok (v +ℚ w)
+added v w = comes Add v w (add None v w) (v +ℚ w) (add_unlimited v w)
+
+pub taken : (v w : ℚ) → step Sub v w (sub None v w) ≡ Ok (v -ℚ w)
+taken v w = comes Sub v w (sub None v w) (v -ℚ w) (sub_unlimited v w)
+
+pub multiplied : (v w : ℚ) → step Mul v w (mul None v w) ≡ Ok (v *ℚ w)
+multiplied v w = comes Mul v w (mul None v w) (v *ℚ w) (mul_unlimited v w)
+
+pub plus_all : (v w s : ℚ) → plus_product None v w s ≡ Ok (s +ℚ v *ℚ w)
+plus_all v w s = then_ok (step Mul v w (mul None v w)) (v *ℚ w) (λ p. step Add s p (add None s p)) (s +ℚ v *ℚ w) (multiplied v w) (added s (v *ℚ w))
+
+pub less_all : (v w s : ℚ) → less_product None v w s ≡ Ok (s -ℚ v *ℚ w)
+less_all v w s = then_ok (step Mul v w (mul None v w)) (v *ℚ w) (λ p. step Sub s p (sub None s p)) (s -ℚ v *ℚ w) (multiplied v w) (taken s (v *ℚ w))
+
+pub sum_all : (n : ℕ) (f g : ℕ → ℚ) → sum_run None n f g ≡ Ok (sum_below n (λ k. f k *ℚ g k))
+sum_all n f g = from_all 0ℚ n (λ k s. plus_product None (f k) (g k) s) (λ k. f k *ℚ g k) (λ k u p. plus_all (f k) (g k) u) ∙ ap Ok (zero-+ℚ _)
+
+-- ---- a row's limits
+pub some_all : (run : Run ℚ) (v : ℚ) → run ≡ Ok v → some_run run ≡ Ok (Some v)
+some_all run v e = ap some_run e
+
+pub lower_by_all : (k : Kind) (b : ℚ) (o : Option ℚ) → lower_by_run None k b o ≡ Ok (limits_by k b o).lower
+lower_by_all L b None = refl
+lower_by_all L b (Some r) = some_all _ (b -ℚ abs_ℚ r) (taken b (abs_ℚ r))
+lower_by_all G b None = refl
+lower_by_all G b (Some r) = refl
+lower_by_all E b None = refl
+lower_by_all E b (Some r) = by (lt_ℚ r 0ℚ)
+  where
+    by : (t : Bool) → cond t (some_run (step Add b r (add None b r))) (Ok (Some b)) ≡ Ok (cond t (from_to (b +ℚ r) b) (from_to b (b +ℚ r))).lower
+    by true = some_all _ (b +ℚ r) (added b r)
+    by false = refl
+
+pub upper_by_all : (k : Kind) (b : ℚ) (o : Option ℚ) → upper_by_run None k b o ≡ Ok (limits_by k b o).upper
+upper_by_all L b None = refl
+upper_by_all L b (Some r) = refl
+upper_by_all G b None = refl
+upper_by_all G b (Some r) = some_all _ (b +ℚ abs_ℚ r) (added b (abs_ℚ r))
+upper_by_all E b None = refl
+upper_by_all E b (Some r) = by (lt_ℚ r 0ℚ)
+  where
+    by : (t : Bool) → cond t (Ok (Some b)) (some_run (step Add b r (add None b r))) ≡ Ok (cond t (from_to (b +ℚ r) b) (from_to b (b +ℚ r))).upper
+    by true = refl
+    by false = some_all _ (b +ℚ r) (added b r)
+
+pub lower_all : (r : ExactRow) → lower_run None r ≡ Ok (limits_of r).lower
+lower_all r = lower_by_all r.kind r.rhs r.range
+
+pub upper_all : (r : ExactRow) → upper_run None r ≡ Ok (limits_of r).upper
+upper_all r = upper_by_all r.kind r.rhs r.range
+
+-- ---- comparisons
+pub ordered : (v k : ℚ) → step Cmp v k (compare None v k) ≡ Ok (order v k)
+ordered v k = comes Cmp v k (compare None v k) (order v k) (compare_unlimited v k)
+
+pub not_less_test : (o : Ordering) (v k : ℚ) → order v k ≡ o → k ≤ℚ v → not (is_less o) ≡ true
+not_less_test Less v k e h = clash_ℚ v k ((order_less v k).0 e) h
+not_less_test Equal v k e h = refl
+not_less_test Greater v k e h = refl
+
+pub not_greater_test : (o : Ordering) (v k : ℚ) → order v k ≡ o → v ≤ℚ k → not (is_greater o) ≡ true
+not_greater_test Less v k e h = refl
+not_greater_test Equal v k e h = refl
+not_greater_test Greater v k e h = clash_ℚ k v ((order_greater v k).0 e) h
+
+pub least_all : (n : ℕ) (o : Option ℚ) (v : ℚ) → IfSome o (λ k. k ≤ℚ v) → at_least n None o v ≡ Ok tt
+least_all n None v h = refl
+least_all n (Some k) v h =
+    then_ok (step Cmp v k (compare None v k)) (order v k) (λ o. need n (not (is_less o))) tt (ordered v k) (need_true n _ (not_less_test (order v k) v k refl h))
+
+pub most_all : (n : ℕ) (o : Option ℚ) (v : ℚ) → IfSome o (λ k. v ≤ℚ k) → at_most n None o v ≡ Ok tt
+most_all n None v h = refl
+most_all n (Some k) v h =
+    then_ok (step Cmp v k (compare None v k)) (order v k) (λ o. need n (not (is_greater o))) tt (ordered v k) (need_true n _ (not_greater_test (order v k) v k refl h))
+
+pub stands_test : (o : Option ℚ) (v : ℚ) → o ≡ Some v → stands_at o v ≡ true
+stands_test o v e = ap (λ z. stands_at z v) e ∙ eq_test v v refl
+
+pub tight_test : (l : Limits) (d v : ℚ) → IsTight l d v → is_tight l d v ≡ true
+tight_test l d v t = by (lt_ℚ 0ℚ d) (lt_ℚ d 0ℚ) refl refl
+  where
+    by : (a b : Bool) → lt_ℚ 0ℚ d ≡ a → lt_ℚ d 0ℚ ≡ b → cond a (stands_at l.lower v) (cond b (stands_at l.upper v) true) ≡ true
+    by true b p q = stands_test l.lower v (t.above (lt_if 0ℚ d p))
+    by false true p q = stands_test l.upper v (t.below (lt_if d 0ℚ q))
+    by false false p q = refl
+
+-- ---- a feasible point
+pub column_within_all : (m : Model) (x : List ℚ) (j : ℕ) → IsBetween (bounds m j) (part x j) → column_within_run None m x j ≡ Ok tt
+column_within_all m x j b =
+    then_ok (at_least 1 None (bounds m j).lower (part x j)) tt (λ _. at_most 1 None (bounds m j).upper (part x j)) tt
+    (least_all 1 (bounds m j).lower (part x j) b.lower) (most_all 1 (bounds m j).upper (part x j) b.upper)
+
+pub columns_all : (m : Model) (x : List ℚ) → IsFeasible m x → columns_run None m x ≡ Ok tt
+columns_all m x f = each_all (width m) (column_within_run None m x) (λ j p. column_within_all m x j (f.columns j p))
+
+pub activity_all : (m : Model) (z : List ℚ) (i : ℕ) → activity_run None m z i ≡ Ok (activity m z i)
+activity_all m z i = sum_all (width m) (λ j. coefficient m i j) (λ j. part z j)
+
+pub row_within_all : (m : Model) (x : List ℚ) (i : ℕ) → IsBetween (limits m i) (activity m x i) → row_within_run None m x i ≡ Ok tt
+row_within_all m x i b =
+    then_ok (activity_run None m x i) (activity m x i) _ tt (activity_all m x i)
+    (then_ok (lower_run None (row m i)) (limits m i).lower _ tt (lower_all (row m i))
+    (then_ok (at_least 2 None (limits m i).lower (activity m x i)) tt _ tt (least_all 2 (limits m i).lower (activity m x i) b.lower)
+    (then_ok (upper_run None (row m i)) (limits m i).upper (λ u. at_most 2 None u (activity m x i)) tt (upper_all (row m i))
+    (most_all 2 (limits m i).upper (activity m x i) b.upper))))
+
+pub rows_all : (m : Model) (x : List ℚ) → IsFeasible m x → rows_run None m x ≡ Ok tt
+rows_all m x f = each_all (height m) (row_within_run None m x) (λ i p. row_within_all m x i (f.rows i p))

@@ -1,0 +1,12 @@
+// The reading of a certificate's text, over the type R of certificates as their texts have them.
+
+/// What a line of a certificate's text leads to.
+#[derive(Drop)]
+pub enum Progress<R> {
+    /// The text goes on.
+    More(R),
+    /// The text ends, and spells this.
+    Done(R),
+    /// The line does not fit.
+    Unfit,
+}

@@ -1,0 +1,101 @@
+-- Numbers that texts are read as are of 127 bits.
+use Rattle.std.proofs.Common.{◌≡◌, ℕ, zero, suc, ◌*◌, ◌/◌, ◌^◌, ◌≤◌, Bool, true, false, cond, not, Option, Some, None, List, ℤ, pos, negsuc, int_div, unsigned_abs, refl, sym, ap, subst, arith}
+use Rattle.std.specs.Prelude.{nat_le}
+use Rattle.std.proofs.Math.Nat.{div-le_self}
+use borrow.Author.Tests.{leb-true}
+use Rattle.spec_exact.specs.Fraction.{ℚ, 0ℚ, whole, over, neg_ℚ, lt_ℚ}
+use Rattle.spec_exact.specs.Gcd.{gcd}
+use Rattle.spec_exact.specs.Narrow.{IsNarrow, widest}
+use Rattle.spec_exact.specs.Quotients.{abs-int_div, abs-neg_ℤ}
+use Rattle.spec_mps.specs.NumberText.{NumberParts, Decimal, Quotient, NumberReading, Is, Wide, signed, parts_of, value_of, is_narrow, number_by, number_of, is_negative, without_sign}
+use Rattle.spec_mps.specs.NumberText as number
+use Rattle.spec_mps.specs.BoundText.{BoundReading, Finite, PlusInf, MinusInf, Shape, infinite, is_infinity, infinity, as_bound, bound_by_value, bound_by, bound_of}
+use Rattle.spec_mps.proofs.Steps.{both}
+use Rattle.spec_mps.proofs.RoundTrip.{zero_value}
+
+-- ---- fractions
+
+pub zero_narrow : IsNarrow 0ℚ
+unfolding whole
+zero_narrow = record { top = omega arith; bottom = omega arith }
+
+whole_narrow : (n : ℤ) → unsigned_abs n ≤ widest → IsNarrow (whole n)
+unfolding whole
+whole_narrow n h = record { top = h; bottom = omega arith }
+
+-- lowest terms are no wider
+over_narrow : (n : ℤ) (d : ℕ) → unsigned_abs n ≤ widest → d ≤ widest → IsNarrow (over n d)
+unfolding over
+over_narrow n zero h k = zero_narrow
+over_narrow n (suc d) h k =
+    let g : ℕ = gcd (unsigned_abs n) (suc d) in
+    let less : unsigned_abs n / g ≤ unsigned_abs n = div-le_self (unsigned_abs n) g in
+    let low : suc d / g ≤ suc d = div-le_self (suc d) g in
+    let size : unsigned_abs (int_div n (pos g)) ≡ unsigned_abs n / g = abs-int_div n g in
+    record { top = subst (λ k. k ≤ widest) (sym size) (omega arith); bottom = omega arith }
+
+pub neg_narrow : (q : ℚ) → IsNarrow q → IsNarrow (neg_ℚ q)
+unfolding neg_ℚ
+neg_narrow q h = record { top = subst (λ k. k ≤ widest) (sym (abs-neg_ℤ q.num)) h.top; bottom = h.bottom }
+
+-- ---- numbers
+
+signed_size : (negative : Bool) (n : ℕ) → unsigned_abs (signed negative n) ≡ n
+signed_size true n = abs-neg_ℤ (pos n)
+signed_size false n = refl
+
+signed_narrow : (negative : Bool) (n : ℕ) → nat_le n widest ≡ true → unsigned_abs (signed negative n) ≤ widest
+signed_narrow negative n h = subst (λ k. k ≤ widest) (sym (signed_size negative n)) (leb-true n widest h)
+
+value_narrow : (p : NumberParts) → is_narrow p ≡ true → IsNarrow (value_of p)
+unfolding is_narrow value_of
+value_narrow (Decimal negative zero (pos e)) h = subst IsNarrow (sym (zero_value negative (pos e))) zero_narrow
+value_narrow (Decimal negative zero (negsuc e)) h = subst IsNarrow (sym (zero_value negative (negsuc e))) zero_narrow
+value_narrow (Decimal negative (suc s) (pos e)) h = whole_narrow (signed negative (suc s * 10 ^ e)) (signed_narrow negative (suc s * 10 ^ e) h)
+value_narrow (Decimal negative (suc s) (negsuc e)) h =
+    let p = both (nat_le (suc s) widest) (nat_le (10 ^ suc e) widest) h in
+    over_narrow (signed negative (suc s)) (10 ^ suc e) (signed_narrow negative (suc s) p.0) (leb-true (10 ^ suc e) widest p.1)
+value_narrow (Quotient negative top bottom) h =
+    let p = both (nat_le top widest) (nat_le bottom widest) h in
+    over_narrow (signed negative top) bottom (signed_narrow negative top p.0) (leb-true bottom widest p.1)
+
+same_number : (p q : ℚ) → Is p ≡ Is q → p ≡ q
+same_number p q e = cc
+
+parts_narrow : (o : Option NumberParts) (q : ℚ) → number_by o ≡ Is q → IsNarrow q
+unfolding number_by
+parts_narrow None q e = absurd (cc)
+parts_narrow (Some p) q e = by (is_narrow p) refl e
+  where
+    by : (t : Bool) → is_narrow p ≡ t → ◌≡◌ {A = NumberReading} (cond t (Is (value_of p)) Wide) (Is q) → IsNarrow q
+    by true n e = subst IsNarrow (same_number (value_of p) q e) (value_narrow p n)
+    by false n e = absurd (cc)
+
+pub number_narrow : (text : List ℕ) (q : ℚ) → number_of text ≡ Is q → IsNarrow q
+unfolding number_of
+number_narrow text q e = parts_narrow (parts_of text) q e
+
+-- ---- bounds
+
+finite_is : (reading : NumberReading) (q : ℚ) → as_bound reading ≡ Finite q → reading ≡ Is q
+finite_is (Is v) q e = let same : v ≡ q = cc in ap Is same
+finite_is number.Shape q e = cc
+finite_is number.Wide q e = cc
+
+pub bound_narrow : (text : List ℕ) (q : ℚ) → bound_of text ≡ Finite q → IsNarrow q
+unfolding bound_of bound_by bound_by_value
+bound_narrow text q e = by (parts_of text) e
+  where
+    by_word : (t n : Bool) → ◌≡◌ {A = BoundReading} (cond t (infinity n) Shape) (Finite q) → IsNarrow q
+    by_word true true e = absurd (cc)
+    by_word true false e = absurd (cc)
+    by_word false n e = absurd (cc)
+
+    by_tests : (p : NumberParts) (s t : Bool) → ◌≡◌ {A = BoundReading} (cond s PlusInf (cond t MinusInf (as_bound (number_by (Some p))))) (Finite q) → IsNarrow q
+    by_tests p true t e = absurd (cc)
+    by_tests p false true e = absurd (cc)
+    by_tests p false false e = parts_narrow (Some p) q (finite_is (number_by (Some p)) q e)
+
+    by : (o : Option NumberParts) → bound_by text o ≡ Finite q → IsNarrow q
+    by None e = by_word (is_infinity (without_sign text)) (is_negative text) e
+    by (Some p) e = by_tests p (not (lt_ℚ (value_of p) infinite)) (not (lt_ℚ (neg_ℚ infinite) (value_of p))) e

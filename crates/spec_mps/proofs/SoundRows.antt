@@ -1,0 +1,53 @@
+-- The names of a text so far, as a model has them.
+use Rattle.std.proofs.Common.{◌≡◌, ◌≢◌, ◌+◌, ◌<◌, ◌≤◌, Option, Some, None, List, [], ◌∷◌, ◌++◌, length, All, IfSome, IsTrue, refl, sym, subst, arith, true, append_assoc, length-append}
+use Rattle.std.specs.List.{AllPairs}
+use Rattle.std.specs.Option.{option_to_list}
+use Rattle.std.proofs.lemmas.List.Elements.{All-nil, All-push, All-weaker}
+use Rattle.std.proofs.lemmas.List.Kept.{AllPairs-cons}
+use Rattle.std.proofs.lemmas.List.Quantifiers.{all_pairs_push}
+use Rattle.spec_model.specs.Model.{Name}
+use Rattle.spec_model.specs.Kept.{is_row_name, is_model_name}
+
+-- the names of the model, of its objective and of its rows
+pub record SoundRows (name : Name) (objective : Option Name) (rows : List Name) : Type 0 where
+  pub few : length rows ≤ 256
+  pub model_name : IsTrue (is_model_name name)
+  pub objective_name : IfSome objective (λ n. IsTrue (is_row_name n))
+  pub each_name : All (λ n. IsTrue (is_row_name n)) rows
+  pub distinct : AllPairs (λ x y. x ≢ y) (option_to_list objective ++ rows)
+
+pub no_rows : SoundRows [] None []
+unfolding is_model_name
+no_rows =
+    record {
+      few = omega arith;
+      model_name = refl;
+      objective_name = tt;
+      each_name = All-nil (λ n. IsTrue (is_row_name n));
+      distinct = λ i j d l k. absurd (omega arith);
+    }
+
+pub with_name : (name : Name) (objective : Option Name) (rows : List Name) (new : Name) → is_model_name new ≡ true → SoundRows name objective rows → SoundRows new objective rows
+with_name name objective rows new t s =
+    record { few = s.few; model_name = t; objective_name = s.objective_name; each_name = s.each_name; distinct = s.distinct }
+
+pub with_objective : (name : Name) (rows : List Name) (new : Name) → is_row_name new ≡ true → All (λ n. n ≢ new) rows → SoundRows name None rows → SoundRows name (Some new) rows
+with_objective name rows new t f s =
+    record {
+      few = s.few;
+      model_name = s.model_name;
+      objective_name = t;
+      each_name = s.each_name;
+      distinct = AllPairs-cons (λ x y. x ≢ y) new rows (All-weaker (λ n. n ≢ new) (λ n. new ≢ n) (λ n g e. g (sym e)) rows f) s.distinct;
+    }
+
+pub push_row : (name : Name) (objective : Option Name) (rows : List Name) (new : Name) → is_row_name new ≡ true → length rows < 256 → All (λ n. n ≢ new) (option_to_list objective ++ rows) → SoundRows name objective rows → SoundRows name objective (rows ++ new ∷ [])
+push_row name objective rows new t few f s =
+    let longer : length (rows ++ new ∷ []) ≡ length rows + 1 = length-append rows (new ∷ []) in
+    record {
+      few = omega arith;
+      model_name = s.model_name;
+      objective_name = s.objective_name;
+      each_name = All-push (λ n. IsTrue (is_row_name n)) rows new s.each_name t;
+      distinct = subst (AllPairs (λ x y. x ≢ y)) (append_assoc (option_to_list objective) rows (new ∷ [])) (all_pairs_push (λ x y. x ≢ y) (option_to_list objective ++ rows) new s.distinct f);
+    }

@@ -1,0 +1,333 @@
+-- Data cards of a written text, in fixed form, are read as their fields.
+use Rattle.std.proofs.Common.{◌≡◌, ℕ, zero, suc, ◌+◌, ◌-◌, ◌≤◌, ◌&&◌, Bool, true, false, None, List, [], ◌∷◌, ◌++◌, length, refl, sym, ap, ◌∙◌, append_assoc, length-append, arith}
+use Rattle.std.specs.List.{list_all}
+use Rattle.std.proofs.lemmas.List.{append-nil, take-append-le, length-replicate}
+use Rattle.std.proofs.lemmas.List.Folds.{list_all-append}
+use borrow.Author.Tests.{ne_eqb}
+use Rattle.spec_text.specs.Words.{is_blank}
+use Rattle.spec_model.specs.Kept.{is_printable}
+use Rattle.spec_mps.specs.declared.card.Card.TheVariants.{Given}
+use Rattle.spec_mps.specs.declared.style.Style.TheVariants.{Fixed}
+use Rattle.spec_mps.specs.Cards.{is_skipped, begins_with_blank, begins_with_star}
+use Rattle.spec_mps.specs.Fields.{Fields, Is, field_of, in_columns, column_fields, fixed_fields, misplaced_from}
+use Rattle.spec_mps.specs.Written.{Data, field_at, first_column, with_fields, line_text}
+use Rattle.spec_mps.specs.NumberWritten.{IsWord}
+use Rattle.spec_mps.proofs.Steps.{both}
+use Rattle.spec_mps.proofs.WrittenWords.{is_plain, plain_text, stripped_plain, no_blank}
+use Rattle.spec_mps.proofs.WrittenColumns.{IsPrinted, blanks, HasNoneBeside, column_read, column_last, column_past, placed_blanks, placed_text}
+
+-- ---- lines that grow at their end
+
+pub within : (first last : ℕ) (line more : List ℕ) → last ≤ length line → in_columns first last (line ++ more) ≡ in_columns first last line
+unfolding in_columns
+within first last line more h = rw (take-append-le last line more h) refl
+
+pub within_fields : (first last : ℕ) (line : List ℕ) (fs : Fields) → last ≤ length line → in_columns first last (with_fields Fixed line fs) ≡ in_columns first last line
+within_fields first last line [] h = refl
+within_fields first last line (f ∷ fs) h =
+    let n : ℕ = first_column f.number - 1 - length line in
+    let a = length-append line (blanks n) in
+    let b = length-append (line ++ blanks n) f.text in
+    within_fields first last ((line ++ blanks n) ++ f.text) fs (omega arith) ∙ within first last (line ++ blanks n) f.text (omega arith) ∙ within first last line (blanks n) h
+
+-- a text with blanks behind it, in its columns
+pub cell_read : (front w : List ℕ) (n first last size : ℕ) → IsPrinted w → length front + 1 ≡ first → length front + size ≡ last → length w ≤ size → size ≤ length w + n
+    → in_columns first last ((front ++ w) ++ blanks n) ≡ w
+cell_read front w n first last size h a b fits far =
+    ap (in_columns first last) (append_assoc front w (blanks n) ∙ ap (λ l. front ++ (w ++ l)) (sym (append-nil (blanks n)))) ∙ column_read front w [] n first last size h a b fits far
+
+-- no byte of a line is misplaced, whatever stands behind it
+abbrev pub IsPlaced : List ℕ → Type 0
+IsPlaced line = (rest : List ℕ) → misplaced_from 1 (line ++ rest) ≡ misplaced_from (length line + 1) rest
+
+none_placed : IsPlaced []
+none_placed rest = refl
+
+blanks_placed : (line : List ℕ) (n : ℕ) → IsPlaced line → IsPlaced (line ++ blanks n)
+blanks_placed line n h rest =
+    let a : length (line ++ blanks n) ≡ length line + length (blanks n) = length-append line (blanks n) in
+    let b : length (blanks n) ≡ n = length-replicate n 32 in
+    ap (misplaced_from 1) (append_assoc line (blanks n) rest) ∙ h (blanks n ++ rest) ∙ placed_blanks (length line + 1) n rest ∙ ap (λ k. misplaced_from k rest) (omega arith)
+
+text_placed : (line w : List ℕ) (column size : ℕ) → IsPlaced line → length line + 1 ≡ column → IsPrinted w → length w ≤ size → HasNoneBeside column size → IsPlaced (line ++ w)
+text_placed line w column size h e p fits none rest =
+    let a = length-append line w in
+    ap (misplaced_from 1) (append_assoc line w rest) ∙ h (w ++ rest) ∙ ap (λ k. misplaced_from k (w ++ rest)) e ∙ placed_text column size w rest p fits none ∙ ap (λ k. misplaced_from k rest) (omega arith)
+
+whole_placed : (line : List ℕ) → IsPlaced line → misplaced_from 1 line ≡ None
+whole_placed line h = ap (misplaced_from 1) (sym (append-nil line)) ∙ h []
+
+-- ---- the columns of the fields
+
+pub none_1 : HasNoneBeside 2 2
+none_1 k a b =
+    rw (
+      ne_eqb k 1 (λ e. omega arith),
+      ne_eqb k 4 (λ e. omega arith),
+      ne_eqb k 13 (λ e. omega arith),
+      ne_eqb k 14 (λ e. omega arith),
+      ne_eqb k 23 (λ e. omega arith),
+      ne_eqb k 24 (λ e. omega arith),
+      ne_eqb k 37 (λ e. omega arith),
+      ne_eqb k 38 (λ e. omega arith),
+      ne_eqb k 39 (λ e. omega arith),
+      ne_eqb k 48 (λ e. omega arith),
+      ne_eqb k 49 (λ e. omega arith),
+      ne_eqb k 62 (λ e. omega arith),
+    ) refl
+
+pub none_2 : HasNoneBeside 5 8
+none_2 k a b =
+    rw (
+      ne_eqb k 1 (λ e. omega arith),
+      ne_eqb k 4 (λ e. omega arith),
+      ne_eqb k 13 (λ e. omega arith),
+      ne_eqb k 14 (λ e. omega arith),
+      ne_eqb k 23 (λ e. omega arith),
+      ne_eqb k 24 (λ e. omega arith),
+      ne_eqb k 37 (λ e. omega arith),
+      ne_eqb k 38 (λ e. omega arith),
+      ne_eqb k 39 (λ e. omega arith),
+      ne_eqb k 48 (λ e. omega arith),
+      ne_eqb k 49 (λ e. omega arith),
+      ne_eqb k 62 (λ e. omega arith),
+    ) refl
+
+pub none_3 : HasNoneBeside 15 8
+none_3 k a b =
+    rw (
+      ne_eqb k 1 (λ e. omega arith),
+      ne_eqb k 4 (λ e. omega arith),
+      ne_eqb k 13 (λ e. omega arith),
+      ne_eqb k 14 (λ e. omega arith),
+      ne_eqb k 23 (λ e. omega arith),
+      ne_eqb k 24 (λ e. omega arith),
+      ne_eqb k 37 (λ e. omega arith),
+      ne_eqb k 38 (λ e. omega arith),
+      ne_eqb k 39 (λ e. omega arith),
+      ne_eqb k 48 (λ e. omega arith),
+      ne_eqb k 49 (λ e. omega arith),
+      ne_eqb k 62 (λ e. omega arith),
+    ) refl
+
+pub none_4 : HasNoneBeside 25 12
+none_4 k a b =
+    rw (
+      ne_eqb k 1 (λ e. omega arith),
+      ne_eqb k 4 (λ e. omega arith),
+      ne_eqb k 13 (λ e. omega arith),
+      ne_eqb k 14 (λ e. omega arith),
+      ne_eqb k 23 (λ e. omega arith),
+      ne_eqb k 24 (λ e. omega arith),
+      ne_eqb k 37 (λ e. omega arith),
+      ne_eqb k 38 (λ e. omega arith),
+      ne_eqb k 39 (λ e. omega arith),
+      ne_eqb k 48 (λ e. omega arith),
+      ne_eqb k 49 (λ e. omega arith),
+      ne_eqb k 62 (λ e. omega arith),
+    ) refl
+
+-- ---- a line that begins with a blank and has a word is a data card
+
+and_false : (s : Bool) → s && false ≡ false
+and_false true = refl
+and_false false = refl
+
+word_not_blank : (w : List ℕ) → IsWord w → list_all is_blank w ≡ false
+word_not_blank [] h = cc
+word_not_blank (b ∷ w) h = rw (no_blank b (both (is_printable b) (list_all is_printable w) h.printable).0) refl
+
+with_word : (line w : List ℕ) → IsWord w → list_all is_blank (line ++ w) ≡ false
+with_word line w h = list_all-append is_blank line w ∙ rw (word_not_blank w h) (and_false (list_all is_blank line))
+
+plain_blanks : (n : ℕ) → list_all is_plain (blanks n) ≡ true
+plain_blanks zero = refl
+plain_blanks (suc n) = plain_blanks n
+
+plain_more : (line more : List ℕ) → list_all is_plain line ≡ true → list_all is_plain more ≡ true → list_all is_plain (line ++ more) ≡ true
+plain_more line more h k = list_all-append is_plain line more ∙ rw (h, k) refl
+
+-- a line without misplaced bytes is read by its columns
+pub by_columns : (line : List ℕ) (fs : Fields) → begins_with_star line ≡ false → begins_with_blank line ≡ true → list_all is_plain line ≡ true → list_all is_blank line ≡ false → misplaced_from 1 line ≡ None
+    → column_fields line ≡ fs → fixed_fields line ≡ Is (Given fs)
+unfolding fixed_fields is_skipped
+by_columns line fs star blank plain word none here = rw (star, stripped_plain line plain, word, blank, none, here) refl
+
+pub a_field : (n : ℕ) (w : List ℕ) → IsWord w → field_of n w ≡ field_at n w ∷ []
+a_field n [] h = cc
+a_field n (b ∷ w) h = refl
+
+-- ---- lines of cells
+
+-- so many bytes, in which no byte is misplaced
+pub record IsFront (line : List ℕ) (size : ℕ) : Type 0 where
+  pub long : length line ≡ size
+  pub plain : list_all is_plain line ≡ true
+  pub placed : IsPlaced line
+
+-- a text behind a line, with blanks up to so many bytes
+abbrev pub cell : ℕ → List ℕ → List ℕ → List ℕ
+cell next line w = (line ++ w) ++ blanks (next - length (line ++ w))
+
+pub record IsCell (column size : ℕ) (w : List ℕ) : Type 0 where
+  pub word : IsWord w
+  pub fits : length w ≤ size
+  pub none : HasNoneBeside column size
+
+pub cell_front : (line w : List ℕ) (at column size next : ℕ) → IsFront line at → at + 1 ≡ column → IsCell column size w → at + size ≤ next → IsFront (cell next line w) next
+cell_front line w at column size next h e c room =
+    let a : length (line ++ w) ≡ length line + length w = length-append line w in
+    let n : ℕ = next - length (line ++ w) in
+    let b : length (cell next line w) ≡ length (line ++ w) + length (blanks n) = length-append (line ++ w) (blanks n) in
+    let d : length (blanks n) ≡ n = length-replicate n 32 in
+    let l = h.long in
+    let f = c.fits in
+    record {
+      long = omega arith;
+      plain = plain_more (line ++ w) (blanks n) (plain_more line w h.plain (plain_text w c.word.printable)) (plain_blanks n);
+      placed = blanks_placed (line ++ w) n (text_placed line w column size h.placed (ap (λ k. k + 1) h.long ∙ e) c.word.printable c.fits c.none);
+    }
+
+-- what stands in the cell, and all that stood before it
+pub cell_is : (line w : List ℕ) (at column last size next : ℕ) → IsFront line at → at + 1 ≡ column → at + size ≡ last → IsCell column size w → at + size ≤ next → in_columns column last (cell next line w) ≡ w
+cell_is line w at column last size next h e f c room =
+    let a : length (line ++ w) ≡ length line + length w = length-append line w in
+    let l = h.long in
+    let fits = c.fits in
+    cell_read line w (next - length (line ++ w)) column last size c.word.printable (omega arith) (omega arith) c.fits (omega arith)
+
+pub cell_keeps : (line w : List ℕ) (first last next : ℕ) → last ≤ length line → in_columns first last (cell next line w) ≡ in_columns first last line
+cell_keeps line w first last next h =
+    let a : length (line ++ w) ≡ length line + length w = length-append line w in
+    within first last (line ++ w) (blanks (next - length (line ++ w))) (omega arith) ∙ within first last line w h
+
+-- a last text behind a line
+pub record IsEnded (line : List ℕ) (limit : ℕ) : Type 0 where
+  pub short : length line ≤ limit
+  pub plain : list_all is_plain line ≡ true
+  pub word : list_all is_blank line ≡ false
+  pub placed : misplaced_from 1 line ≡ None
+
+pub ended : (line w : List ℕ) (at column size limit : ℕ) → IsFront line at → at + 1 ≡ column → IsCell column size w → at + size ≡ limit → IsEnded (line ++ w) limit
+ended line w at column size limit h e c room =
+    let a : length (line ++ w) ≡ length line + length w = length-append line w in
+    let l = h.long in
+    let f = c.fits in
+    record {
+      short = omega arith;
+      plain = plain_more line w h.plain (plain_text w c.word.printable);
+      word = with_word line w c.word;
+      placed = whole_placed (line ++ w) (text_placed line w column size h.placed (ap (λ k. k + 1) h.long ∙ e) c.word.printable c.fits c.none);
+    }
+
+pub last_is : (line w : List ℕ) (at column last size : ℕ) → IsFront line at → at + 1 ≡ column → at + size ≡ last → IsCell column size w → in_columns column last (line ++ w) ≡ w
+last_is line w at column last size h e f c =
+    let l = h.long in
+    column_last line w column last size c.word.printable (omega arith) (omega arith) c.fits
+
+pub one_blank : IsFront (32 ∷ []) 1
+one_blank = record { long = refl; plain = refl; placed = blanks_placed [] 1 none_placed }
+
+pub four_blanks : IsFront (32 ∷ 32 ∷ 32 ∷ 32 ∷ []) 4
+four_blanks = record { long = refl; plain = refl; placed = blanks_placed [] 4 none_placed }
+
+-- ---- the four kinds of cards
+
+-- fields 5 and 6 are never written
+six_fields : (line k a b c : List ℕ) → in_columns 2 3 line ≡ k → in_columns 5 12 line ≡ a → in_columns 15 22 line ≡ b → in_columns 25 36 line ≡ c → in_columns 40 47 line ≡ [] → in_columns 50 61 line ≡ []
+    → column_fields line ≡ field_of 1 k ++ field_of 2 a ++ field_of 3 b ++ field_of 4 c
+unfolding column_fields
+six_fields line k a b c c1 c2 c3 c4 c5 c6 = rw (c1, c2, c3, c4, c5, c6, append-nil, append-nil) refl
+
+-- a type and a name
+pub type_card_read : (k a : List ℕ) → IsCell 2 2 k → IsCell 5 8 a
+    → fixed_fields (line_text Fixed (Data (field_at 1 k ∷ field_at 2 a ∷ []))) ≡ Is (Given (field_at 1 k ∷ field_at 2 a ∷ []))
+type_card_read k a hk ha =
+    let front : IsFront (cell 4 (32 ∷ []) k) 4 = cell_front (32 ∷ []) k 1 2 2 4 one_blank refl hk (omega arith) in
+    let long = front.long in
+    let line : List ℕ = cell 4 (32 ∷ []) k ++ a in
+    let end : IsEnded line 12 = ended (cell 4 (32 ∷ []) k) a 4 5 8 12 front refl ha refl in
+    let short = end.short in
+    let c1 : in_columns 2 3 line ≡ k = within 2 3 (cell 4 (32 ∷ []) k) a (omega arith) ∙ cell_is (32 ∷ []) k 1 2 3 2 4 one_blank refl refl hk (omega arith) in
+    let c2 : in_columns 5 12 line ≡ a = last_is (cell 4 (32 ∷ []) k) a 4 5 12 8 front refl refl ha in
+    let c3 : in_columns 15 22 line ≡ [] = column_past line 15 22 (omega arith) in
+    let c4 : in_columns 25 36 line ≡ [] = column_past line 25 36 (omega arith) in
+    let c5 : in_columns 40 47 line ≡ [] = column_past line 40 47 (omega arith) in
+    let c6 : in_columns 50 61 line ≡ [] = column_past line 50 61 (omega arith) in
+    let e : column_fields line ≡ field_at 1 k ∷ field_at 2 a ∷ [] = six_fields line k a [] [] c1 c2 c3 c4 c5 c6 ∙ rw (a_field 1 k hk.word, a_field 2 a ha.word) refl in
+    by_columns line (field_at 1 k ∷ field_at 2 a ∷ []) refl refl end.plain end.word end.placed e
+
+-- a column or a set, a row and a number
+pub number_card_read : (a b c : List ℕ) → IsCell 5 8 a → IsCell 15 8 b → IsCell 25 12 c
+    → fixed_fields (line_text Fixed (Data (field_at 2 a ∷ field_at 3 b ∷ field_at 4 c ∷ []))) ≡ Is (Given (field_at 2 a ∷ field_at 3 b ∷ field_at 4 c ∷ []))
+unfolding in_columns
+number_card_read a b c ha hb hc =
+    let start : List ℕ = 32 ∷ 32 ∷ 32 ∷ 32 ∷ [] in
+    let three : List ℕ = cell 14 start a in
+    let four : List ℕ = cell 24 three b in
+    let line : List ℕ = four ++ c in
+    let f3 : IsFront three 14 = cell_front start a 4 5 8 14 four_blanks refl ha (omega arith) in
+    let f4 : IsFront four 24 = cell_front three b 14 15 8 24 f3 refl hb (omega arith) in
+    let end : IsEnded line 36 = ended four c 24 25 12 36 f4 refl hc refl in
+    let l3 = f3.long in
+    let l4 = f4.long in
+    let short = end.short in
+    let c1 : in_columns 2 3 line ≡ [] = within 2 3 four c (omega arith) ∙ cell_keeps three b 2 3 24 (omega arith) ∙ cell_keeps start a 2 3 14 (omega arith) in
+    let c2 : in_columns 5 12 line ≡ a = within 5 12 four c (omega arith) ∙ cell_keeps three b 5 12 24 (omega arith) ∙ cell_is start a 4 5 12 8 14 four_blanks refl refl ha (omega arith) in
+    let c3 : in_columns 15 22 line ≡ b = within 15 22 four c (omega arith) ∙ cell_is three b 14 15 22 8 24 f3 refl refl hb (omega arith) in
+    let c4 : in_columns 25 36 line ≡ c = last_is four c 24 25 36 12 f4 refl refl hc in
+    let c5 : in_columns 40 47 line ≡ [] = column_past line 40 47 (omega arith) in
+    let c6 : in_columns 50 61 line ≡ [] = column_past line 50 61 (omega arith) in
+    let e : column_fields line ≡ field_at 2 a ∷ field_at 3 b ∷ field_at 4 c ∷ [] = six_fields line [] a b c c1 c2 c3 c4 c5 c6 ∙ rw (a_field 2 a ha.word, a_field 3 b hb.word, a_field 4 c hc.word) refl in
+    by_columns line (field_at 2 a ∷ field_at 3 b ∷ field_at 4 c ∷ []) refl refl end.plain end.word end.placed e
+
+-- a kind of bounds, a set and a column
+pub unbound_card_read : (k a b : List ℕ) → IsCell 2 2 k → IsCell 5 8 a → IsCell 15 8 b
+    → fixed_fields (line_text Fixed (Data (field_at 1 k ∷ field_at 2 a ∷ field_at 3 b ∷ []))) ≡ Is (Given (field_at 1 k ∷ field_at 2 a ∷ field_at 3 b ∷ []))
+unbound_card_read k a b hk ha hb =
+    let start : List ℕ = 32 ∷ [] in
+    let two : List ℕ = cell 4 start k in
+    let three : List ℕ = cell 14 two a in
+    let line : List ℕ = three ++ b in
+    let f2 : IsFront two 4 = cell_front start k 1 2 2 4 one_blank refl hk (omega arith) in
+    let f3 : IsFront three 14 = cell_front two a 4 5 8 14 f2 refl ha (omega arith) in
+    let end : IsEnded line 22 = ended three b 14 15 8 22 f3 refl hb refl in
+    let l2 = f2.long in
+    let l3 = f3.long in
+    let short = end.short in
+    let c1 : in_columns 2 3 line ≡ k = within 2 3 three b (omega arith) ∙ cell_keeps two a 2 3 14 (omega arith) ∙ cell_is start k 1 2 3 2 4 one_blank refl refl hk (omega arith) in
+    let c2 : in_columns 5 12 line ≡ a = within 5 12 three b (omega arith) ∙ cell_is two a 4 5 12 8 14 f2 refl refl ha (omega arith) in
+    let c3 : in_columns 15 22 line ≡ b = last_is three b 14 15 22 8 f3 refl refl hb in
+    let c4 : in_columns 25 36 line ≡ [] = column_past line 25 36 (omega arith) in
+    let c5 : in_columns 40 47 line ≡ [] = column_past line 40 47 (omega arith) in
+    let c6 : in_columns 50 61 line ≡ [] = column_past line 50 61 (omega arith) in
+    let e : column_fields line ≡ field_at 1 k ∷ field_at 2 a ∷ field_at 3 b ∷ [] = six_fields line k a b [] c1 c2 c3 c4 c5 c6 ∙ rw (a_field 1 k hk.word, a_field 2 a ha.word, a_field 3 b hb.word) refl in
+    by_columns line (field_at 1 k ∷ field_at 2 a ∷ field_at 3 b ∷ []) refl refl end.plain end.word end.placed e
+
+-- .. and a number
+pub bound_card_read : (k a b c : List ℕ) → IsCell 2 2 k → IsCell 5 8 a → IsCell 15 8 b → IsCell 25 12 c
+    → fixed_fields (line_text Fixed (Data (field_at 1 k ∷ field_at 2 a ∷ field_at 3 b ∷ field_at 4 c ∷ []))) ≡ Is (Given (field_at 1 k ∷ field_at 2 a ∷ field_at 3 b ∷ field_at 4 c ∷ []))
+bound_card_read k a b c hk ha hb hc =
+    let start : List ℕ = 32 ∷ [] in
+    let two : List ℕ = cell 4 start k in
+    let three : List ℕ = cell 14 two a in
+    let four : List ℕ = cell 24 three b in
+    let line : List ℕ = four ++ c in
+    let f2 : IsFront two 4 = cell_front start k 1 2 2 4 one_blank refl hk (omega arith) in
+    let f3 : IsFront three 14 = cell_front two a 4 5 8 14 f2 refl ha (omega arith) in
+    let f4 : IsFront four 24 = cell_front three b 14 15 8 24 f3 refl hb (omega arith) in
+    let end : IsEnded line 36 = ended four c 24 25 12 36 f4 refl hc refl in
+    let l2 = f2.long in
+    let l3 = f3.long in
+    let l4 = f4.long in
+    let short = end.short in
+    let c1 : in_columns 2 3 line ≡ k =
+    within 2 3 four c (omega arith) ∙ cell_keeps three b 2 3 24 (omega arith) ∙ cell_keeps two a 2 3 14 (omega arith) ∙ cell_is start k 1 2 3 2 4 one_blank refl refl hk (omega arith) in
+    let c2 : in_columns 5 12 line ≡ a = within 5 12 four c (omega arith) ∙ cell_keeps three b 5 12 24 (omega arith) ∙ cell_is two a 4 5 12 8 14 f2 refl refl ha (omega arith) in
+    let c3 : in_columns 15 22 line ≡ b = within 15 22 four c (omega arith) ∙ cell_is three b 14 15 22 8 24 f3 refl refl hb (omega arith) in
+    let c4 : in_columns 25 36 line ≡ c = last_is four c 24 25 36 12 f4 refl refl hc in
+    let c5 : in_columns 40 47 line ≡ [] = column_past line 40 47 (omega arith) in
+    let c6 : in_columns 50 61 line ≡ [] = column_past line 50 61 (omega arith) in
+    let e : column_fields line ≡ field_at 1 k ∷ field_at 2 a ∷ field_at 3 b ∷ field_at 4 c ∷ [] =
+    six_fields line k a b c c1 c2 c3 c4 c5 c6 ∙ rw (a_field 1 k hk.word, a_field 2 a ha.word, a_field 3 b hb.word, a_field 4 c hc.word) refl in
+    by_columns line (field_at 1 k ∷ field_at 2 a ∷ field_at 3 b ∷ field_at 4 c ∷ []) refl refl end.plain end.word end.placed e

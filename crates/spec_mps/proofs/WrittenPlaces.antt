@@ -1,0 +1,75 @@
+-- The names of a kept model's objective and rows stand for them, and the texts of its numbers are read as these.
+use Rattle.std.proofs.Common.{◌≡◌, ◌≢◌, ℕ, zero, suc, ◌<◌, Bool, true, false, Some, Ok, List, [], ◌∷◌, length, map, get_or, refl, sym, ap, ◌∙◌, arith}
+use Rattle.std.specs.List.{AllPairs, position, position_or_len}
+use Rattle.std.proofs.lemmas.List.{length-map}
+use Rattle.std.proofs.Math.ListN.{get_or-map}
+use borrow.Author.Tests.{lt-ltb}
+use Rattle.spec_text.specs.Words.{same}
+use Rattle.spec_text.proofs.WordLemmas.{same_is_equal}
+use Rattle.spec_exact.specs.Fraction.{ℚ}
+use Rattle.spec_exact.specs.Narrow.{IsNarrow}
+use Rattle.spec_model.specs.Model.{Model, Name, ExactRow, no_row, row}
+use Rattle.spec_model.specs.Kept.{IsModel}
+use Rattle.spec_mps.specs.declared.target.Target.TheVariants.{Objective, Row}
+use Rattle.spec_mps.specs.declared.target.Place.TheVariants.{Kept}
+use Rattle.spec_mps.specs.Checks.{coded}
+use Rattle.spec_mps.specs.NumberText.{answer}
+use Rattle.spec_mps.specs.NumberWritten.{number_text}
+use Rattle.spec_mps.specs.Reader.{State, place_of, number_in}
+use Rattle.spec_mps.proofs.WrittenSteps.{bare_row}
+use Rattle.spec_mps.proofs.RoundTrip.{read_written}
+use Rattle.spec_mps.proofs.WrittenRows.{names_of}
+
+-- ---- numbers
+
+pub number_is_in : (q : ℚ) → IsNarrow q → number_in (number_text q) ≡ Ok q
+unfolding number_in
+number_is_in q h = ap (λ reading. coded (answer reading)) (read_written q h.top h.bottom)
+
+-- ---- names
+
+pub same_itself : (name : Name) → same name name ≡ true
+same_itself name = (same_is_equal name name).1 refl
+
+pub not_same : (a b : Name) → a ≢ b → same a b ≡ false
+not_same a b h = by (same a b) refl
+  where
+    by : (t : Bool) → same a b ≡ t → same a b ≡ false
+    by true e = absurd (h ((same_is_equal a b).0 e))
+    by false e = e
+
+-- names of rows, by their places
+names_differ : (rows : List ExactRow) (first : Name) (i : ℕ) → AllPairs (λ x y. x ≢ y) (first ∷ names_of rows) → i < length rows → first ≢ (get_or rows i no_row).name
+names_differ rows first i h l e =
+    h 0 (suc i) [] (omega arith) (omega (arith, length-map rows (λ (r : ExactRow). r.name)))
+    (e ∙ sym (get_or-map (λ (r : ExactRow). r.name) rows i no_row))
+
+tail_pairs : (first : Name) (names : List Name) → AllPairs (λ x y. x ≢ y) (first ∷ names) → AllPairs (λ x y. x ≢ y) names
+tail_pairs first names h = λ i j d a b. h (suc i) (suc j) d (omega arith) (omega arith)
+
+passed : (rows : List ExactRow) (i : ℕ) → AllPairs (λ x y. x ≢ y) (names_of rows) → i < length rows → position_or_len (λ r. same r.name (get_or rows i no_row).name) (map bare_row rows) ≡ i
+passed [] i h l = absurd (omega arith)
+passed (r ∷ rows) zero h l = rw (same_itself r.name) refl
+passed (r ∷ rows) (suc i) h l =
+    let less : i < length rows = omega arith in
+    rw (not_same r.name (get_or rows i no_row).name (names_differ rows r.name i h less), passed rows i (tail_pairs r.name (names_of rows) h) less) (omega arith)
+
+position_of : (rows : List ExactRow) (i : ℕ) → AllPairs (λ x y. x ≢ y) (names_of rows) → i < length rows → position (λ r. same r.name (get_or rows i no_row).name) (map bare_row rows) ≡ Some i
+position_of rows i h l = rw (passed rows i h l, length-map rows bare_row, lt-ltb i (length rows) l) refl
+
+-- ---- what names stand for
+
+-- the objective and the rows of a model are read, and no row is dropped
+pub record HasRowsOf (m : Model) (s : State) : Type 0 where
+  pub objective : s.objective ≡ Some m.objective
+  pub none_dropped : s.dropped ≡ []
+  pub rows : s.rows ≡ map bare_row m.rows
+
+pub objective_place : (m : Model) (s : State) → HasRowsOf m s → place_of s m.objective ≡ Some (Kept Objective)
+unfolding place_of
+objective_place m s h = rw (h.objective, same_itself m.objective) refl
+
+pub row_place : (m : Model) (s : State) (i : ℕ) → IsModel m → HasRowsOf m s → i < length m.rows → place_of s (row m i).name ≡ Some (Kept (Row i))
+unfolding place_of
+row_place m s i kept h l =
+    rw (h.objective, not_same m.objective (row m i).name (names_differ m.rows m.objective i kept.rows_distinct l), h.none_dropped, h.rows, position_of m.rows i (tail_pairs m.objective (names_of m.rows) kept.rows_distinct) l) refl

@@ -1,0 +1,58 @@
+-- Where fixed form fits, the fields of cards with numbers have room.
+use Rattle.std.proofs.Common.{◌≡◌, None, [], ◌∷◌, ◌++◌, length}
+use Rattle.std.specs.Prelude.{codes}
+use Rattle.std.specs.List.{flat_map}
+use borrow.Author.Tests.{ltb-false}
+use Rattle.spec_exact.specs.Fraction.{ℚ}
+use Rattle.spec_model.specs.Model.{Model, Name}
+use Rattle.spec_mps.specs.declared.style.Style.{Style}
+use Rattle.spec_mps.specs.declared.style.Style.TheVariants.{Free, Fixed}
+use Rattle.spec_mps.specs.NumberWritten.{number_text}
+use Rattle.spec_mps.specs.Written.{WrittenCards, cards_of, name_card, sense_cards, rows_cards, columns_cards, column_cards, sides_cards, ranges_cards, bounds_cards, section_card, number_card, field_at, data_fields, first_wide, too_wide}
+use Rattle.spec_mps.proofs.WrittenCards.{HasRoom}
+use Rattle.spec_mps.proofs.WrittenSteps.{Fits}
+use Rattle.spec_mps.proofs.WrittenNames.{front_narrow, back_narrow, field_narrow}
+
+-- free form has room for all cards
+abbrev pub RoomFor : Style → WrittenCards → Type 0
+RoomFor Free cards = Unit {0}
+RoomFor Fixed cards = first_wide cards ≡ None
+
+-- a card and those behind it
+pub record HasRooms (style : Style) (column place : Name) (value : ℚ) (cards : WrittenCards) : Type 0 where
+  pub group : HasRoom style 8 column
+  pub name : HasRoom style 8 place
+  pub number : HasRoom style 12 (number_text value)
+  pub rest : RoomFor style cards
+
+pub card_room : (style : Style) (group name : Name) (value : ℚ) (cards : WrittenCards) → RoomFor style (number_card group name value ∷ cards) → HasRooms style group name value cards
+card_room Free group name value cards h = record { group = tt; name = tt; number = tt; rest = tt }
+card_room Fixed group name value cards h =
+    let rest = flat_map data_fields cards in
+    let a = field_narrow (field_at 2 group) (field_at 3 name ∷ field_at 4 (number_text value) ∷ rest) h in
+    let b = field_narrow (field_at 3 name) (field_at 4 (number_text value) ∷ rest) a.1 in
+    let c = field_narrow (field_at 4 (number_text value)) rest b.1 in
+    record { group = ltb-false 8 (length group) a.0; name = ltb-false 8 (length name) b.0; number = ltb-false 12 (length (number_text value)) c.0; rest = c.1 }
+
+pub room_front : (style : Style) (cs ds : WrittenCards) → RoomFor style (cs ++ ds) → RoomFor style cs
+room_front Free cs ds h = tt
+room_front Fixed cs ds h = front_narrow cs ds h
+
+pub room_back : (style : Style) (cs ds : WrittenCards) → RoomFor style (cs ++ ds) → RoomFor style ds
+room_back Free cs ds h = tt
+room_back Fixed cs ds h = back_narrow cs ds h
+
+columns_narrow : (m : Model) → too_wide m ≡ None → first_wide (columns_cards m) ≡ None
+unfolding too_wide cards_of
+columns_narrow m h =
+    let start : WrittenCards = name_card m.name ∷ sense_cards m.sense in
+    let a = front_narrow (start ++ rows_cards m ++ columns_cards m ++ sides_cards m ++ ranges_cards m ++ bounds_cards m) (section_card (codes "ENDATA") ∷ []) h in
+    let b = front_narrow (start ++ rows_cards m ++ columns_cards m ++ sides_cards m ++ ranges_cards m) (bounds_cards m) a in
+    let c = front_narrow (start ++ rows_cards m ++ columns_cards m ++ sides_cards m) (ranges_cards m) b in
+    let d = front_narrow (start ++ rows_cards m ++ columns_cards m) (sides_cards m) c in
+    back_narrow (start ++ rows_cards m) (columns_cards m) d
+
+pub room_for_columns : (style : Style) (m : Model) → Fits style m → RoomFor style (flat_map (column_cards m) m.columns)
+unfolding columns_cards
+room_for_columns Free m h = tt
+room_for_columns Fixed m h = columns_narrow m h

@@ -1,0 +1,73 @@
+-- The whole section ROWS of a written text.
+use Rattle.std.proofs.Common.{◌≡◌, ◌≤◌, true, Some, None, List, [], ◌∷◌, ◌++◌, length, map, refl, sym, ap, subst, arith}
+use Rattle.std.specs.Prelude.{codes}
+use Rattle.std.specs.List.{flat_map}
+use borrow.Author.Tests.{ltb-false}
+use Rattle.spec_model.specs.Model.{Name, Model, ExactRow}
+use Rattle.spec_model.specs.Kept.{IsModel, is_row_name}
+use Rattle.spec_mps.specs.declared.style.Style.{Style}
+use Rattle.spec_mps.specs.declared.style.Style.TheVariants.{Free, Fixed}
+use Rattle.spec_mps.specs.declared.section.Section.TheVariants as section
+use Rattle.spec_mps.specs.declared.row_type.RowType.TheVariants.{Unlimited}
+use Rattle.spec_mps.specs.Shapes.{row_type_of}
+use Rattle.spec_mps.specs.Reader.{State, place_of}
+use Rattle.spec_mps.specs.Steps.{begun}
+use Rattle.spec_mps.specs.Written.{WrittenCards, cards_of, name_card, sense_cards, rows_cards, columns_cards, sides_cards, ranges_cards, bounds_cards, section_card, type_card, row_card, field_at, data_fields, first_wide, too_wide}
+use Rattle.spec_mps.proofs.WrittenCards.{IsItem}
+use Rattle.spec_mps.proofs.WrittenSteps.{Fits, Goes, HasNoRows, RowsAreRead, bare_row, with_rows_of}
+use Rattle.spec_mps.proofs.WrittenHeadings.{rows_step}
+use Rattle.spec_mps.proofs.WrittenRows.{AreFresh, goes_one, goes_then, type_step, objective_added, rows_go, names_of}
+use Rattle.spec_mps.proofs.WrittenNames.{row_name_word, fresh_names, front_narrow, back_narrow, field_narrow, RoomForRows, rows_known}
+
+rows_narrow : (m : Model) → too_wide m ≡ None → first_wide (rows_cards m) ≡ None
+unfolding too_wide cards_of
+rows_narrow m h =
+    let start : WrittenCards = name_card m.name ∷ sense_cards m.sense in
+    let a = front_narrow (start ++ rows_cards m ++ columns_cards m ++ sides_cards m ++ ranges_cards m ++ bounds_cards m) (section_card (codes "ENDATA") ∷ []) h in
+    let b = front_narrow (start ++ rows_cards m ++ columns_cards m ++ sides_cards m ++ ranges_cards m) (bounds_cards m) a in
+    let c = front_narrow (start ++ rows_cards m ++ columns_cards m ++ sides_cards m) (ranges_cards m) b in
+    let d = front_narrow (start ++ rows_cards m ++ columns_cards m) (sides_cards m) c in
+    let e = front_narrow (start ++ rows_cards m) (columns_cards m) d in
+    back_narrow start (rows_cards m) e
+
+-- the objective's card has room, and so have those of the rows
+room_of : (style : Style) (m : Model) → is_row_name m.objective ≡ true → Fits style m → IsItem style 8 m.objective × RoomForRows style m.rows
+unfolding rows_cards
+room_of Free m h fits = (record { word = row_name_word m.objective h; room = tt }, tt)
+room_of Fixed m h fits =
+    let rest = flat_map data_fields (map row_card m.rows) in
+    let a = field_narrow (field_at 1 (codes "N")) (field_at 2 m.objective ∷ rest) (rows_narrow m fits) in
+    let b = field_narrow (field_at 2 m.objective) rest a.1 in
+    (record { word = row_name_word m.objective h; room = ltb-false 8 (length m.objective) b.0 }, b.1)
+
+type_item : (style : Style) → IsItem style 2 (codes "N")
+type_item Free = record { word = record { some = refl; printable = refl }; room = tt }
+type_item Fixed = record { word = record { some = refl; printable = refl }; room = omega arith }
+
+type_known : row_type_of (codes "N") ≡ Some Unlimited
+unfolding row_type_of
+type_known = refl
+
+nowhere : (s : State) (name : Name) → HasNoRows s → place_of (begun s section.Rows) name ≡ None
+unfolding place_of
+nowhere s name h = rw (h.no_objective, h.none_dropped, h.no_row) refl
+
+pub rows_are_read : (style : Style) (m : Model) → IsModel m → Fits style m → RowsAreRead style m
+unfolding rows_cards
+rows_are_read style m kept fits s none =
+    let one : State = begun s section.Rows in
+    let two : State = record one { objective = Some m.objective } in
+    let room = room_of style m kept.objective fits in
+    let heading : Goes style s (section_card (codes "ROWS") ∷ []) one = goes_one style s one (section_card (codes "ROWS")) (rows_step style s none.no_section) in
+    let objective : Goes style one (type_card (codes "N") m.objective ∷ []) two =
+    goes_one style one two (type_card (codes "N") m.objective)
+    (type_step style one two (codes "N") m.objective Unlimited refl (type_item style) room.0 type_known (objective_added one m.objective none.no_objective kept.objective (nowhere s m.objective none))) in
+    let F : List ExactRow → Type 0 = λ rows. AreFresh (m.objective ∷ names_of rows) (names_of m.rows) in
+    let P : List ExactRow → Type 0 = λ rows. Goes style two (map row_card m.rows) (record two { rows = rows ++ map bare_row m.rows }) in
+    let short : length s.rows ≡ 0 = ap length none.no_row in
+    let few : length m.rows ≤ 256 = kept.few_rows in
+    let rows : Goes style two (map row_card m.rows) (with_rows_of s m) =
+    subst P none.no_row
+    (rows_go style two m.objective m.rows refl refl none.none_dropped (rows_known style m.rows kept.rows room.1) (subst F (sym none.no_row) (fresh_names m.objective (names_of m.rows) kept.rows_distinct)) (omega arith)) in
+    goes_then style s one (with_rows_of s m) (section_card (codes "ROWS")) (type_card (codes "N") m.objective ∷ map row_card m.rows) heading
+    (goes_then style one two (with_rows_of s m) (type_card (codes "N") m.objective) (map row_card m.rows) objective rows)

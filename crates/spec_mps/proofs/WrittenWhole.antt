@@ -1,0 +1,156 @@
+-- The text that a model is written as spells that model.
+use Rattle.std.proofs.Common.{◌≡◌, ◌↔◌, ℕ, ◌+◌, None, List, [], ◌∷◌, ◌++◌, length, get_or, refl, sym, ap, ◌∙◌, subst, append_assoc}
+use Rattle.std.specs.Prelude.{codes}
+use Rattle.std.proofs.lemmas.List.{map-append}
+use Rattle.spec_text.specs.Lines.{lines_of}
+use Rattle.spec_text.specs.declared.line.Line.{Line}
+use Rattle.spec_text.specs.declared.line.Line.TheVariants.{Text}
+use Rattle.spec_exact.specs.Fraction.{neg_ℚ}
+use Rattle.spec_model.specs.declared.parts.Sense.{Sense}
+use Rattle.spec_model.specs.declared.parts.Sense.TheVariants.{Min, Max}
+use Rattle.spec_model.specs.Model.{Model}
+use Rattle.spec_model.specs.Kept.{IsModel}
+use Rattle.spec_mps.specs.declared.style.Style.{Style}
+use Rattle.spec_mps.specs.declared.style.Style.TheVariants.{Free, Fixed}
+use Rattle.spec_mps.specs.Reader.{State, start}
+use Rattle.spec_mps.specs.Steps.{Verdict, Spelled, Spells, judge, settled}
+use Rattle.spec_mps.specs.Written.{WrittenCards, cards_of, cards_text, name_card, sense_cards, rows_cards, columns_cards, sides_cards, ranges_cards, bounds_cards, section_card, side_cards, line_text, too_wide, free, fixed}
+use Rattle.spec_mps.proofs.WrittenSteps.{Goes, Fits, HasNoRows, HasNoColumns, ColumnsAreRead, card_lines, with_start_of, with_rows_of, with_columns_of}
+use Rattle.spec_mps.proofs.WrittenLines.{has_its_lines}
+use Rattle.spec_mps.proofs.WrittenStart.{start_is_read}
+use Rattle.spec_mps.proofs.WrittenRowsRead.{rows_are_read}
+use Rattle.spec_mps.proofs.WrittenGoes.{goes_append}
+use Rattle.spec_mps.proofs.WrittenRoom.{RoomFor, room_front, room_back}
+use Rattle.spec_mps.proofs.WrittenFacts.{HasNoSides, HasNoRanges, IsWhole}
+use Rattle.spec_mps.proofs.WrittenSides.{sides_of}
+use Rattle.spec_mps.proofs.WrittenSidesRead.{sides_are_read}
+use Rattle.spec_mps.proofs.WrittenRanges.{ranges_are_read}
+use Rattle.spec_mps.proofs.WrittenBoundsRead.{bounds_are_read, end_step}
+use Rattle.spec_mps.proofs.WrittenShort.{cards_short, plain_line}
+
+-- ---- the states
+
+rows_first : (name : List ℕ) (sense : Sense) → HasNoRows (with_start_of name sense)
+rows_first name Min = record { no_section = refl; no_objective = refl; none_dropped = refl; no_row = refl }
+rows_first name Max = record { no_section = refl; no_objective = refl; none_dropped = refl; no_row = refl }
+
+columns_then : (m : Model) (sense : Sense) → HasNoColumns (with_rows_of (with_start_of m.name sense) m) m
+columns_then m Min =
+    record { rows_are_read = refl; no_section = refl; no_sides = refl; objective = refl; none_dropped = refl; rows = refl; no_column = refl; none_open = refl; none_lowered = refl }
+columns_then m Max =
+    record { rows_are_read = refl; no_section = refl; no_sides = refl; objective = refl; none_dropped = refl; rows = refl; no_column = refl; none_open = refl; none_lowered = refl }
+
+sides_then : (m : Model) (sense : Sense) → sense ≡ m.sense → HasNoSides (with_columns_of (with_rows_of (with_start_of m.name sense) m) m) m
+sides_then m Min e =
+    record {
+      known = record { name = refl; sense = e; objective = refl; none_dropped = refl; may_follow = refl; none_open = refl };
+      unbounded = record { no_bounds = refl; columns = refl; none_lowered = refl };
+      part = refl;
+      no_ranges = refl;
+      offset = refl;
+      rows = refl;
+      none_paired = refl;
+      no_set = refl;
+    }
+sides_then m Max e =
+    record {
+      known = record { name = refl; sense = e; objective = refl; none_dropped = refl; may_follow = refl; none_open = refl };
+      unbounded = record { no_bounds = refl; columns = refl; none_lowered = refl };
+      part = refl;
+      no_ranges = refl;
+      offset = refl;
+      rows = refl;
+      none_paired = refl;
+      no_set = refl;
+    }
+
+-- ---- the cards
+
+-- the heading RHS belongs to the cards before it
+regroup : (a c : WrittenCards) (r s : WrittenCards) → (a ++ (c ++ r)) ++ s ≡ (a ++ c) ++ (r ++ s)
+regroup a c r s = append_assoc a (c ++ r) s ∙ ap (λ l. a ++ l) (append_assoc c r s) ∙ sym (append_assoc a c (r ++ s))
+
+abbrev sides : Model → WrittenCards
+sides m = side_cards m.objective (neg_ℚ m.offset) ++ sides_of m.rows
+
+-- what has room
+record HasItsRoom (style : Style) (m : Model) : Type 0 where
+  pub sides : RoomFor style (sides_cards m)
+  pub ranges : RoomFor style (ranges_cards m)
+  pub bounds : RoomFor style (bounds_cards m)
+
+whole_room : (style : Style) (m : Model) → Fits style m → RoomFor style (cards_of m)
+unfolding too_wide
+whole_room Free m fits = tt
+whole_room Fixed m fits = fits
+
+room_of : (style : Style) (m : Model) → Fits style m → HasItsRoom style m
+unfolding cards_of
+room_of style m fits =
+    let start : WrittenCards = name_card m.name ∷ sense_cards m.sense in
+    let a = room_front style (start ++ rows_cards m ++ columns_cards m ++ sides_cards m ++ ranges_cards m ++ bounds_cards m) (section_card (codes "ENDATA") ∷ []) (whole_room style m fits) in
+    let b = room_front style (start ++ rows_cards m ++ columns_cards m ++ sides_cards m ++ ranges_cards m) (bounds_cards m) a in
+    let c = room_front style (start ++ rows_cards m ++ columns_cards m ++ sides_cards m) (ranges_cards m) b in
+    record {
+      sides = room_back style (start ++ rows_cards m ++ columns_cards m) (sides_cards m) c;
+      ranges = room_back style (start ++ rows_cards m ++ columns_cards m ++ sides_cards m) (ranges_cards m) b;
+      bounds = room_back style (start ++ rows_cards m ++ columns_cards m ++ sides_cards m ++ ranges_cards m) (bounds_cards m) a;
+    }
+
+-- the cards before ENDATA
+abbrev body : Model → WrittenCards
+body m = (name_card m.name ∷ sense_cards m.sense) ++ rows_cards m ++ columns_cards m ++ sides_cards m ++ ranges_cards m ++ bounds_cards m
+
+sides_goes : (style : Style) (m : Model) → IsModel m → Fits style m → ColumnsAreRead style m
+    → (t : State) × Goes style start ((name_card m.name ∷ sense_cards m.sense) ++ rows_cards m ++ columns_cards m ++ sides_cards m) t × HasNoRanges t m
+unfolding sides_cards
+sides_goes style m kept fits columns_are_read =
+    let first : WrittenCards = name_card m.name ∷ sense_cards m.sense in
+    let heading : WrittenCards = section_card (codes "RHS") ∷ [] in
+    let a : State = with_start_of m.name m.sense in
+    let b : State = with_rows_of a m in
+    let c : State = with_columns_of b m in
+    let rows = rows_are_read style m kept fits a (rows_first m.name m.sense) in
+    let columns = columns_are_read b (columns_then m m.sense) in
+    let right = sides_are_read style m kept (room_back style heading (sides m) (room_of style m fits).sides) c (sides_then m m.sense refl) in
+    let to_rows = goes_append style start a b first (rows_cards m) (start_is_read style m kept) rows in
+    let to_columns = goes_append style start b c (first ++ rows_cards m) (columns_cards m ++ heading) to_rows columns in
+    let to_sides = goes_append style start c right.0 ((first ++ rows_cards m) ++ (columns_cards m ++ heading)) (sides m) to_columns right.1 in
+    (right.0, subst (λ cards. Goes style start cards right.0) (regroup (first ++ rows_cards m) (columns_cards m) heading (sides m)) to_sides, right.2)
+
+body_goes : (style : Style) (m : Model) → IsModel m → Fits style m → ColumnsAreRead style m → (t : State) × Goes style start (body m) t × IsWhole t m
+body_goes style m kept fits columns_are_read =
+    let first : WrittenCards = (name_card m.name ∷ sense_cards m.sense) ++ rows_cards m ++ columns_cards m ++ sides_cards m in
+    let a = sides_goes style m kept fits columns_are_read in
+    let b = ranges_are_read style m kept (room_of style m fits).ranges a.0 a.2 in
+    let c = bounds_are_read style m kept (room_of style m fits).bounds b.0 b.2 in
+    let to_ranges = goes_append style start a.0 b.0 first (ranges_cards m) a.1 b.1 in
+    (c.0, goes_append style start b.0 c.0 (first ++ ranges_cards m) (bounds_cards m) to_ranges c.1, c.2)
+
+cards_spell : (style : Style) (m : Model) → IsModel m → Fits style m → ColumnsAreRead style m → judge style start 1 (card_lines style (cards_of m)) ≡ Spelled m
+unfolding cards_of
+cards_spell style m kept fits columns_are_read =
+    let g = body_goes style m kept fits columns_are_read in
+    ap (judge style start 1) (map-append (λ card. Text (line_text style card)) (body m) (section_card (codes "ENDATA") ∷ [])) ∙ g.1.goes 1 (Text (codes "ENDATA") ∷ [])
+    ∙ ap (settled (1 + length (body m)) (λ u. judge style u (1 + length (body m) + 1) [])) (end_step style g.0 m g.2)
+
+-- ---- the text
+
+text_spells : (style : Style) (m : Model) → IsModel m → Fits style m → ColumnsAreRead style m → Spells style (lines_of (cards_text style (cards_of m))) m
+text_spells style m kept fits columns_are_read =
+    ap (judge style start 1) (has_its_lines style (cards_of m) (λ i d a. plain_line style (get_or (cards_of m) i d) (cards_short m kept i d a))) ∙ cards_spell style m kept fits columns_are_read
+
+pub free_spells : (m : Model) → IsModel m → ColumnsAreRead Free m → Spells Free (lines_of (free m)) m
+unfolding free
+free_spells m kept columns_are_read = text_spells Free m kept tt columns_are_read
+
+pub fixed_spells : (m : Model) → IsModel m → too_wide m ≡ None → ColumnsAreRead Fixed m → Spells Fixed (lines_of (fixed m)) m
+unfolding fixed
+fixed_spells m kept narrow columns_are_read = text_spells Fixed m kept narrow columns_are_read
+
+-- a text of a model is one of no other
+pub no_other : (style : Style) (lines : List (Line (List ℕ))) (m n : Model) → Spells style lines m → (Spells style lines n ↔ (n ≡ m))
+no_other style lines m n h = (same (judge style start 1 lines) h, λ e. subst (λ x. Spells style lines x) (sym e) h)
+  where
+    same : (v : Verdict) → v ≡ Spelled m → v ≡ Spelled n → n ≡ m
+    same v e f = cc

@@ -1,0 +1,119 @@
+-- The cards of BOUNDS.
+use Rattle.std.specs.Prelude.{ℕ, ◌==◌, ◌&&◌, ◌||◌, Bool, true, false, not, Option, Some, None, Ok, Err, List, [], ◌∷◌, get_or, if◌then◌else◌}
+use Rattle.std.specs.List.{filter, position}
+use Rattle.spec_text.specs.Words.{same}
+use Rattle.spec_exact.specs.Fraction.{ℚ, 0ℚ, lt_ℚ}
+use Rattle.spec_model.specs.Model.{Name, ExactColumn}
+use Rattle.spec_mps.specs.declared.fault.Code.TheVariants as code
+use Rattle.spec_mps.specs.declared.style.Style.{Style}
+use Rattle.spec_mps.specs.declared.bound_kind.BoundKind.{BoundKind}
+use Rattle.spec_mps.specs.declared.bound_kind.BoundKind.TheVariants.{Up, Lo, Fx, Fr, Mi, Pl}
+use Rattle.spec_mps.specs.declared.number.BoundValue.{BoundValue}
+use Rattle.spec_mps.specs.declared.number.BoundValue.TheVariants.{Finite, PlusInf, MinusInf}
+use Rattle.spec_mps.specs.BoundText.{bound_of, bound_answer}
+use Rattle.spec_mps.specs.Fields.{Fields, text_at, texts_of}
+use Rattle.spec_mps.specs.Checks.{Check, ◌>>=◌, need, coded}
+use Rattle.spec_mps.specs.Shapes.{bound_kind_of, bound_shapes, has_shape}
+use Rattle.spec_mps.specs.Reader.{State}
+use Rattle.spec_mps.specs.Sides.{is_used, changed_at}
+
+-- ---- what a card does
+
+-- `None` is no bound
+pub data BoundCard : Type 0 where
+  SetsUpper : (bound : Option ℚ) → BoundCard
+  SetsLower : (bound : Option ℚ) → BoundCard
+  SetsBoth : (lower upper : Option ℚ) → BoundCard
+
+abbrev pub upper_card : BoundValue ℚ → Check BoundCard
+upper_card (Finite u) = Ok (SetsUpper (Some u))
+upper_card PlusInf = Ok (SetsUpper None)
+upper_card MinusInf = Err code.BoundKind
+
+abbrev pub lower_card : BoundValue ℚ → Check BoundCard
+lower_card (Finite l) = Ok (SetsLower (Some l))
+lower_card PlusInf = Err code.BoundKind
+lower_card MinusInf = Ok (SetsLower None)
+
+abbrev pub both_card : BoundValue ℚ → Check BoundCard
+both_card (Finite v) = Ok (SetsBoth (Some v) (Some v))
+both_card PlusInf = Err code.BoundKind
+both_card MinusInf = Err code.BoundKind
+
+unfoldable pub bound_in : List ℕ → Check (BoundValue ℚ)
+bound_in text = coded (bound_answer (bound_of text))
+
+-- the card of a kind, with its value where it takes one
+unfoldable pub bound_card : BoundKind → List ℕ → Check BoundCard
+bound_card Up text = bound_in text >>= upper_card
+bound_card Lo text = bound_in text >>= lower_card
+bound_card Fx text = bound_in text >>= both_card
+bound_card Fr text = Ok (SetsBoth None None)
+bound_card Mi text = Ok (SetsLower None)
+bound_card Pl text = Ok (SetsUpper None)
+
+abbrev pub is_negative : Option ℚ → Bool
+is_negative None = false
+is_negative (Some u) = lt_ℚ u 0ℚ
+
+-- A negative upper bound takes away the lower bound, where no card has set that.
+abbrev pub bounded : Bool → BoundCard → ExactColumn → ExactColumn
+bounded lowered (SetsUpper u) c = if is_negative u && not lowered then record c { lower = None; upper = u } else record c { upper = u }
+bounded lowered (SetsLower l) c = record c { lower = l }
+bounded lowered (SetsBoth l u) c = record c { lower = l; upper = u }
+
+abbrev pub sets_lower : BoundCard → Bool
+sets_lower (SetsUpper u) = false
+sets_lower (SetsLower l) = true
+sets_lower (SetsBoth l u) = true
+
+unfoldable pub with_bound : State → ℕ → BoundCard → State
+with_bound s place card =
+    record s {
+      columns = changed_at place (bounded (get_or s.lowered place false) card) s.columns;
+      lowered = changed_at place (λ lowered. lowered || sets_lower card) s.lowered;
+    }
+
+-- ---- the kind, then the shape, then the set, the column and the value
+
+-- a set or none, a column, and a value, which has no bytes where the kind takes none
+pub record BoundTexts : Type 0 where
+  pub set : Option Name
+  pub column : Name
+  pub value : List ℕ
+
+abbrev pub takes_value : BoundKind → Bool
+takes_value Up = true
+takes_value Lo = true
+takes_value Fx = true
+takes_value Fr = false
+takes_value Mi = false
+takes_value Pl = false
+
+-- the texts behind the kind; of a kind that takes no value, field 4 is not read
+abbrev pub bound_texts_by : Bool → List (List ℕ) → Check BoundTexts
+bound_texts_by true (column ∷ value ∷ []) = Ok (record { set = None; column = column; value = value })
+bound_texts_by true (set ∷ column ∷ value ∷ []) = Ok (record { set = Some set; column = column; value = value })
+bound_texts_by false (column ∷ []) = Ok (record { set = None; column = column; value = [] })
+bound_texts_by false (set ∷ column ∷ []) = Ok (record { set = Some set; column = column; value = [] })
+bound_texts_by has_value texts = Err code.CardShape
+
+abbrev pub is_read : BoundKind → ℕ → Bool
+is_read kind n = not (n == 1) && (takes_value kind || not (n == 4))
+
+unfoldable pub bound_texts : Style → BoundKind → Fields → Check BoundTexts
+bound_texts style kind fields =
+    if has_shape (bound_shapes style kind) fields then bound_texts_by (takes_value kind) (texts_of (filter (λ f. is_read kind f.number) fields))
+    else Err code.CardShape
+
+unfoldable pub use_bound : State → BoundKind → BoundTexts → Check State
+use_bound s kind texts = do
+  place ← need (position (λ c. same c.name texts.column) s.columns) code.UnknownColumn
+  card ← bound_card kind texts.value
+  Ok (with_bound (record s { set = Some texts.set }) place card)
+
+unfoldable pub bounds_card : Style → State → Fields → Check State
+bounds_card style s fields = do
+  kind ← bound_kind_of (text_at 1 fields)
+  texts ← bound_texts style kind fields
+  if is_used s.set texts.set then use_bound s kind texts else Ok s

@@ -1,0 +1,99 @@
+-- The cards of a text in free and in fixed form, with numbered fields.
+use Rattle.std.specs.Prelude.{ℕ, ◌+◌, ◌-◌, ◌==◌, ◌&&◌, ◌||◌, Bool, not, Option, Some, None, List, [], ◌∷◌, ◌++◌, take, drop, map, nat_le, if◌then◌else◌}
+use Rattle.std.specs.List.{list_all}
+use Rattle.spec_text.specs.Words.{words_of}
+use Rattle.spec_mps.specs.declared.card.Card.{Card}
+use Rattle.spec_mps.specs.declared.card.Card.TheVariants.{Skip, Section, Given}
+use Rattle.spec_mps.specs.Cards.{is_skipped, begins_with_blank}
+
+-- a word with its place from 1, or what stands in one of the fields 1 to 6 of a card in fixed form
+pub record Field : Type 0 where
+  pub number : ℕ
+  pub text : List ℕ
+
+abbrev pub Fields : Type 0
+Fields = List Field
+
+-- a card, or the first column with a byte that may not stand there
+pub data CardReading : Type 0 where
+  Is : (card : Card Fields) → CardReading
+  Misplaced : (column : ℕ) → CardReading
+
+-- ---- free form: the fields are the words
+
+abbrev pub numbered_from : ℕ → List (List ℕ) → Fields
+numbered_from n [] = []
+numbered_from n (text ∷ texts) = record { number = n; text = text } ∷ numbered_from (n + 1) texts
+
+unfoldable pub word_fields : List ℕ → Fields
+word_fields line = numbered_from 1 (words_of line)
+
+unfoldable pub free_fields : List ℕ → CardReading
+free_fields line =
+    if is_skipped line then Is Skip
+    else (if begins_with_blank line then Is (Given (word_fields line)) else Is (Section (word_fields line)))
+
+-- ---- fixed form: the fields stand in columns
+
+-- the columns beside the fields, up to the last field's end
+abbrev pub is_beside : ℕ → Bool
+is_beside column =
+    column == 1 || column == 4 || column == 13 || column == 14 || column == 23 || column == 24
+    || column == 37 || column == 38 || column == 39 || column == 48 || column == 49 || column == 62
+
+-- a tab, or beside the fields anything but a space
+abbrev pub is_misplaced : ℕ → ℕ → Bool
+is_misplaced column byte = nat_le column 62 && (byte == 9 || (is_beside column && not (byte == 32)))
+
+-- the first such column, where the bytes begin in this one
+abbrev pub misplaced_from : ℕ → List ℕ → Option ℕ
+misplaced_from column [] = None
+misplaced_from column (b ∷ bs) = if is_misplaced column b then Some column else misplaced_from (column + 1) bs
+
+abbrev pub is_space : ℕ → Bool
+is_space b = b == 32
+
+-- without the spaces at the front, and at the end
+abbrev pub without_front : List ℕ → List ℕ
+without_front [] = []
+without_front (b ∷ bs) = if is_space b then without_front bs else b ∷ bs
+
+abbrev pub without_end : List ℕ → List ℕ
+without_end [] = []
+without_end (b ∷ bs) = if list_all is_space (b ∷ bs) then [] else b ∷ without_end bs
+
+-- what stands in the columns from the first to the last
+unfoldable pub in_columns : ℕ → ℕ → List ℕ → List ℕ
+in_columns first last line = without_end (without_front (drop (first - 1) (take last line)))
+
+-- a field, unless nothing stands there
+abbrev pub field_of : ℕ → List ℕ → Fields
+field_of n [] = []
+field_of n (b ∷ bs) = record { number = n; text = b ∷ bs } ∷ []
+
+unfoldable pub column_fields : List ℕ → Fields
+column_fields line =
+    field_of 1 (in_columns 2 3 line) ++ field_of 2 (in_columns 5 12 line) ++ field_of 3 (in_columns 15 22 line)
+    ++ field_of 4 (in_columns 25 36 line) ++ field_of 5 (in_columns 40 47 line) ++ field_of 6 (in_columns 50 61 line)
+
+abbrev pub placed : Option ℕ → Fields → CardReading
+placed None fields = Is (Given fields)
+placed (Some column) fields = Misplaced column
+
+unfoldable pub fixed_fields : List ℕ → CardReading
+fixed_fields line =
+    if is_skipped line then Is Skip
+    else (if begins_with_blank line then placed (misplaced_from 1 line) (column_fields line) else Is (Section (word_fields line)))
+
+-- ---- the fields of a card
+
+-- what stands in a field; no bytes where it is absent
+abbrev pub text_at : ℕ → Fields → List ℕ
+text_at n [] = []
+text_at n (f ∷ fs) = if f.number == n then f.text else text_at n fs
+
+abbrev pub numbers_of : Fields → List ℕ
+numbers_of fields = map (λ f. f.number) fields
+
+abbrev pub texts_of : Fields → List (List ℕ)
+texts_of fields = map (λ f. f.text) fields

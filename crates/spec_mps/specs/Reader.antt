@@ -1,0 +1,194 @@
+-- What was read of a text so far, and the cards of ROWS and COLUMNS.
+use Rattle.std.specs.Prelude.{ℕ, ◌+◌, ◌==◌, ◌||◌, Bool, true, false, not, Option, Some, None, is_none, option_map, Ok, Err, List, [], ◌∷◌, ◌++◌, length, nat_lt, codes, if◌then◌else◌}
+use Rattle.std.specs.List.{list_any, position}
+use Rattle.spec_text.specs.Words.{same}
+use Rattle.spec_exact.specs.Fraction.{ℚ, 0ℚ, eq_ℚ}
+use Rattle.spec_model.specs.declared.parts.Kind.{Kind}
+use Rattle.spec_model.specs.declared.parts.Sense.{Sense}
+use Rattle.spec_model.specs.Model.{Name, ExactRow, ExactColumn}
+use Rattle.spec_model.specs.Kept.{is_name, is_row_name, row_limit, column_limit}
+use Rattle.spec_mps.specs.declared.fault.Code.TheVariants as code
+use Rattle.spec_mps.specs.declared.style.Style.{Style}
+use Rattle.spec_mps.specs.declared.style.Style.TheVariants.{Free, Fixed}
+use Rattle.spec_mps.specs.declared.section.Section.{Section}
+use Rattle.spec_mps.specs.declared.section.Section.TheVariants as section
+use Rattle.spec_mps.specs.declared.section.Seen.{Seen}
+use Rattle.spec_mps.specs.declared.row_type.RowType.{RowType}
+use Rattle.spec_mps.specs.declared.row_type.RowType.TheVariants.{Unlimited, Limited}
+use Rattle.spec_mps.specs.declared.target.Target.{Target}
+use Rattle.spec_mps.specs.declared.target.Target.TheVariants.{Objective, Row}
+use Rattle.spec_mps.specs.declared.target.Place.{Place}
+use Rattle.spec_mps.specs.declared.target.Place.TheVariants.{Kept, Dropped}
+use Rattle.spec_mps.specs.NumberText.{number_of, answer}
+use Rattle.spec_mps.specs.Fields.{Fields, text_at}
+use Rattle.spec_mps.specs.Checks.{Check, ◌>>=◌, must, need, coded}
+use Rattle.spec_mps.specs.Shapes.{row_type_of, shaped}
+
+-- what was read so far
+pub record State : Type 0 where
+  pub part : Option Section  -- the section of the next data card
+  pub seen : Seen
+  pub name : Name
+  pub sense : Option Sense
+  pub objective : Option Name
+  pub dropped : List Name  -- the rows of type N behind the objective
+  pub rows : List ExactRow
+  pub offset : ℚ
+  pub columns : List ExactColumn  -- the columns that are whole
+  pub column : Option ExactColumn  -- the one that cards are read of
+  pub lowered : List Bool  -- for each column, whether a card has set its lower bound
+  pub paired : List Target  -- what has a number already, 0 too, in this column or in this section
+  pub set : Option (Option Name)  -- the set of this section's first card, which may be absent
+
+abbrev pub start : State
+start =
+    record {
+      part = None;
+      seen = record { name = false; sense = false; rows = false; columns = false; right_sides = false; ranges = false; bounds = false };
+      name = [];
+      sense = None;
+      objective = None;
+      dropped = [];
+      rows = [];
+      offset = 0ℚ;
+      columns = [];
+      column = None;
+      lowered = [];
+      paired = [];
+      set = None;
+    }
+
+-- ---- names and numbers
+
+abbrev pub is_objective : Option Name → Name → Bool
+is_objective None name = false
+is_objective (Some objective) name = same objective name
+
+abbrev pub row_at : Option ℕ → Option Place
+row_at None = None
+row_at (Some i) = Some (Kept (Row i))
+
+-- what a row's name stands for
+unfoldable pub place_of : State → Name → Option Place
+place_of s name =
+    if is_objective s.objective name then Some (Kept Objective)
+    else (if list_any (same name) s.dropped then Some Dropped else row_at (position (λ r. same r.name name) s.rows))
+
+unfoldable pub number_in : List ℕ → Check ℚ
+number_in text = coded (answer (number_of text))
+
+abbrev pub same_target : Target → Target → Bool
+same_target Objective Objective = true
+same_target Objective (Row j) = false
+same_target (Row i) Objective = false
+same_target (Row i) (Row j) = i == j
+
+abbrev pub is_among : Target → List Target → Bool
+is_among t ts = list_any (same_target t) ts
+
+-- ---- ROWS: shape, type, name, a name that is taken, too many rows
+
+abbrev pub new_row : Kind → Name → ExactRow
+new_row kind name = record { name = name; kind = kind; rhs = 0ℚ; range = None }
+
+-- the first row of type N is the objective, and later ones are dropped
+abbrev pub is_first : State → RowType → Bool
+is_first s Unlimited = is_none s.objective
+is_first s (Limited kind) = false
+
+abbrev pub with_row : State → RowType → Name → State
+with_row s Unlimited name = if is_none s.objective then record s { objective = Some name } else record s { dropped = s.dropped ++ name ∷ [] }
+with_row s (Limited kind) name = record s { rows = s.rows ++ new_row kind name ∷ [] }
+
+-- rows that are dropped count too
+unfoldable pub add_row : State → RowType → Name → Check State
+add_row s type name = do
+  _ ← must (is_row_name name) code.Name
+  _ ← must (is_none (place_of s name)) code.RowTaken
+  _ ← must (is_first s type || nat_lt (length s.rows + length s.dropped) row_limit) code.Limit
+  Ok (with_row s type name)
+
+unfoldable pub rows_card : Style → State → Fields → Check State
+rows_card style s fields = do
+  _ ← shaped style section.Rows fields
+  type ← need (row_type_of (text_at 1 fields)) code.RowType
+  add_row s type (text_at 2 fields)
+
+-- ---- COLUMNS: a marker, shape, the column's name, a name that is taken, too many columns, then the pairs
+
+-- a column with the usual bounds, 0 and none
+abbrev pub new_column : Name → ExactColumn
+new_column name = record { name = name; cost = 0ℚ; lower = Some 0ℚ; upper = None; entries = [] }
+
+abbrev pub columns_with : List ExactColumn → Option ExactColumn → List ExactColumn
+columns_with columns None = columns
+columns_with columns (Some column) = columns ++ column ∷ []
+
+-- all columns so far
+abbrev pub whole_columns : State → List ExactColumn
+whole_columns s = columns_with s.columns s.column
+
+abbrev pub is_open : Option ExactColumn → Name → Bool
+is_open None name = false
+is_open (Some column) name = same column.name name
+
+-- the column of a card: the one that is read, or a new one whose name is not taken
+unfoldable pub opened : State → Name → Check State
+opened s name =
+    if is_open s.column name then Ok s
+    else (do
+      _ ← must (not (list_any (λ c. same c.name name) (whole_columns s))) code.ColumnTaken
+      _ ← must (nat_lt (length (whole_columns s)) column_limit) code.Limit
+      Ok (record s { columns = whole_columns s; column = Some (new_column name); lowered = s.lowered ++ false ∷ []; paired = [] }))
+
+-- an entry at its place in the order of rows
+abbrev pub put_entry : ℕ → ℚ → List (ℕ × ℚ) → List (ℕ × ℚ)
+put_entry i v [] = (i, v) ∷ []
+put_entry i v (e ∷ es) = if nat_lt i e.0 then (i, v) ∷ e ∷ es else e ∷ put_entry i v es
+
+-- a number of a column: its cost, or a coefficient, which is no entry where it is 0
+abbrev pub with_number : ExactColumn → Target → ℚ → ExactColumn
+with_number c Objective v = record c { cost = v }
+with_number c (Row i) v = if eq_ℚ v 0ℚ then c else record c { entries = put_entry i v c.entries }
+
+-- a number of the column that is read, at a target that had none; one of a dropped row is forgotten
+unfoldable pub enter : State → Place → ℚ → Check State
+enter s Dropped v = Ok s
+enter s (Kept t) v = do
+  _ ← must (not (is_among t s.paired)) code.EntryRepeated
+  Ok (record s { column = option_map (λ c. with_number c t v) s.column; paired = t ∷ s.paired })
+
+unfoldable pub column_pair : State → Name → List ℕ → Check State
+column_pair s name text = do
+  place ← need (place_of s name) code.UnknownRow
+  v ← number_in text
+  enter s place v
+
+-- texts in pairs
+abbrev pub pairs_of : List (List ℕ) → List (List ℕ × List ℕ)
+pairs_of [] = []
+pairs_of (a ∷ []) = []
+pairs_of (a ∷ b ∷ more) = (a, b) ∷ pairs_of more
+
+abbrev pub column_pairs : State → List (List ℕ × List ℕ) → Check State
+column_pairs s [] = Ok s
+column_pairs s (pair ∷ pairs) = column_pair s pair.0 pair.1 >>= λ t. column_pairs t pairs
+
+-- a column's name, and pairs of a row's name and a number
+abbrev pub column_by : State → List (List ℕ) → Check State
+column_by s [] = Err code.CardShape
+column_by s (name ∷ texts) = do
+  _ ← must (is_name name) code.Name
+  t ← opened s name
+  column_pairs t (pairs_of texts)
+
+-- the field that says 'MARKER' on a card that marks whole columns
+abbrev pub marker_field : Style → ℕ
+marker_field Free = 2
+marker_field Fixed = 3
+
+unfoldable pub columns_card : Style → State → Fields → Check State
+columns_card style s fields = do
+  _ ← must (not (same (text_at (marker_field style) fields) (codes "'MARKER'"))) code.Integer
+  texts ← shaped style section.Columns fields
+  column_by s texts

@@ -1,0 +1,106 @@
+-- The words of the format, and which fields a card of a section has.
+use Rattle.std.specs.Prelude.{ℕ, Bool, Option, Some, None, Ok, Err, List, [], ◌∷◌, codes, if◌then◌else◌}
+use Rattle.std.specs.List.{list_any}
+use Rattle.spec_text.specs.Words.{same}
+use Rattle.spec_model.specs.declared.parts.Kind.TheVariants.{L, G, E}
+use Rattle.spec_model.specs.declared.parts.Sense.{Sense}
+use Rattle.spec_model.specs.declared.parts.Sense.TheVariants.{Min, Max}
+use Rattle.spec_mps.specs.declared.fault.Code.TheVariants as code
+use Rattle.spec_mps.specs.declared.style.Style.{Style}
+use Rattle.spec_mps.specs.declared.style.Style.TheVariants.{Free, Fixed}
+use Rattle.spec_mps.specs.declared.section.Section.{Section}
+use Rattle.spec_mps.specs.declared.section.Section.TheVariants as section
+use Rattle.spec_mps.specs.declared.row_type.RowType.{RowType}
+use Rattle.spec_mps.specs.declared.row_type.RowType.TheVariants.{Unlimited, Limited}
+use Rattle.spec_mps.specs.declared.bound_kind.BoundKind.{BoundKind}
+use Rattle.spec_mps.specs.declared.bound_kind.BoundKind.TheVariants.{Up, Lo, Fx, Fr, Mi, Pl}
+use Rattle.spec_mps.specs.Fields.{Fields, numbers_of, texts_of}
+use Rattle.spec_mps.specs.Checks.{Check, need, ◌>>=◌}
+
+-- ---- words
+
+-- what stands beside a word in a table
+abbrev pub look_up : {A : Type 0} → List ℕ → List (List ℕ × A) → Option A
+look_up word [] = None
+look_up word (line ∷ lines) = if same word line.0 then Some line.1 else look_up word lines
+
+unfoldable pub section_of : List ℕ → Option Section
+section_of word =
+    look_up word
+    ((codes "NAME", section.Name)
+    ∷ (codes "OBJSENSE", section.Sense)
+    ∷ (codes "ROWS", section.Rows)
+    ∷ (codes "COLUMNS", section.Columns)
+    ∷ (codes "RHS", section.RightSides)
+    ∷ (codes "RANGES", section.Ranges)
+    ∷ (codes "BOUNDS", section.Bounds)
+    ∷ (codes "ENDATA", section.End)
+    ∷ [])
+
+unfoldable pub sense_of : List ℕ → Option Sense
+sense_of word = look_up word ((codes "MIN", Min) ∷ (codes "MINIMIZE", Min) ∷ (codes "MAX", Max) ∷ (codes "MAXIMIZE", Max) ∷ [])
+
+unfoldable pub row_type_of : List ℕ → Option RowType
+row_type_of word = look_up word ((codes "N", Unlimited) ∷ (codes "L", Limited L) ∷ (codes "G", Limited G) ∷ (codes "E", Limited E) ∷ [])
+
+-- a kind that is read, or why it is not
+unfoldable pub bound_kind_of : List ℕ → Check BoundKind
+bound_kind_of word =
+    need (look_up word
+    ((codes "UP", Ok Up)
+    ∷ (codes "LO", Ok Lo)
+    ∷ (codes "FX", Ok Fx)
+    ∷ (codes "FR", Ok Fr)
+    ∷ (codes "MI", Ok Mi)
+    ∷ (codes "PL", Ok Pl)
+    ∷ (codes "BV", Err code.Integer)
+    ∷ (codes "LI", Err code.Integer)
+    ∷ (codes "UI", Err code.Integer)
+    ∷ (codes "SC", Err code.SemiContinuous)
+    ∷ [])) code.BoundKind >>= λ kind. kind
+
+-- ---- shapes: lists of the numbers of a card's fields
+
+abbrev pub free_shapes : Section → List (List ℕ)
+free_shapes section.Name = []
+free_shapes section.Sense = (1 ∷ []) ∷ []
+free_shapes section.Rows = (1 ∷ 2 ∷ []) ∷ []
+free_shapes section.Columns = (1 ∷ 2 ∷ 3 ∷ []) ∷ (1 ∷ 2 ∷ 3 ∷ 4 ∷ 5 ∷ []) ∷ []
+free_shapes section.RightSides = (1 ∷ 2 ∷ []) ∷ (1 ∷ 2 ∷ 3 ∷ []) ∷ (1 ∷ 2 ∷ 3 ∷ 4 ∷ []) ∷ (1 ∷ 2 ∷ 3 ∷ 4 ∷ 5 ∷ []) ∷ []
+free_shapes section.Ranges = (1 ∷ 2 ∷ []) ∷ (1 ∷ 2 ∷ 3 ∷ []) ∷ (1 ∷ 2 ∷ 3 ∷ 4 ∷ []) ∷ (1 ∷ 2 ∷ 3 ∷ 4 ∷ 5 ∷ []) ∷ []
+free_shapes section.Bounds = (1 ∷ 2 ∷ 3 ∷ []) ∷ (1 ∷ 2 ∷ 3 ∷ 4 ∷ []) ∷ []
+free_shapes section.End = []
+
+abbrev pub fixed_shapes : Section → List (List ℕ)
+fixed_shapes section.Name = []
+fixed_shapes section.Sense = (1 ∷ []) ∷ []
+fixed_shapes section.Rows = (1 ∷ 2 ∷ []) ∷ []
+fixed_shapes section.Columns = (2 ∷ 3 ∷ 4 ∷ []) ∷ (2 ∷ 3 ∷ 4 ∷ 5 ∷ 6 ∷ []) ∷ []
+fixed_shapes section.RightSides = (3 ∷ 4 ∷ []) ∷ (2 ∷ 3 ∷ 4 ∷ []) ∷ (3 ∷ 4 ∷ 5 ∷ 6 ∷ []) ∷ (2 ∷ 3 ∷ 4 ∷ 5 ∷ 6 ∷ []) ∷ []
+fixed_shapes section.Ranges = (3 ∷ 4 ∷ []) ∷ (2 ∷ 3 ∷ 4 ∷ []) ∷ (3 ∷ 4 ∷ 5 ∷ 6 ∷ []) ∷ (2 ∷ 3 ∷ 4 ∷ 5 ∷ 6 ∷ []) ∷ []
+fixed_shapes section.Bounds = (1 ∷ 3 ∷ 4 ∷ []) ∷ (1 ∷ 2 ∷ 3 ∷ 4 ∷ []) ∷ []
+fixed_shapes section.End = []
+
+-- a card in BOUNDS whose kind takes no value; field 4 may stand there in fixed form
+abbrev pub unvalued_shapes : Style → List (List ℕ)
+unvalued_shapes Free = (1 ∷ 2 ∷ []) ∷ (1 ∷ 2 ∷ 3 ∷ []) ∷ []
+unvalued_shapes Fixed = (1 ∷ 3 ∷ []) ∷ (1 ∷ 2 ∷ 3 ∷ []) ∷ (1 ∷ 3 ∷ 4 ∷ []) ∷ (1 ∷ 2 ∷ 3 ∷ 4 ∷ []) ∷ []
+
+abbrev pub shapes_of : Style → Section → List (List ℕ)
+shapes_of Free part = free_shapes part
+shapes_of Fixed part = fixed_shapes part
+
+abbrev pub bound_shapes : Style → BoundKind → List (List ℕ)
+bound_shapes style Up = shapes_of style section.Bounds
+bound_shapes style Lo = shapes_of style section.Bounds
+bound_shapes style Fx = shapes_of style section.Bounds
+bound_shapes style Fr = unvalued_shapes style
+bound_shapes style Mi = unvalued_shapes style
+bound_shapes style Pl = unvalued_shapes style
+
+unfoldable pub has_shape : List (List ℕ) → Fields → Bool
+has_shape shapes fields = list_any (same (numbers_of fields)) shapes
+
+-- the texts of a card that has a shape of its section; from here on both forms are alike
+unfoldable pub shaped : Style → Section → Fields → Check (List (List ℕ))
+shaped style part fields = if has_shape (shapes_of style part) fields then Ok (texts_of fields) else Err code.CardShape

@@ -1,0 +1,167 @@
+-- The text that a model is written as: its cards, and their lines in both forms.
+use Rattle.std.specs.Prelude.{ℕ, ◌-◌, ◌==◌, ◌&&◌, ◌||◌, Bool, false, not, Option, Some, None, is_some, option_map, List, [], ◌∷◌, ◌++◌, length, replicate, map, find, nat_lt, codes, if◌then◌else◌}
+use Rattle.std.specs.List.{list_any, flat_map}
+use Rattle.spec_exact.specs.Fraction.{ℚ, 0ℚ, neg_ℚ, eq_ℚ, lt_ℚ}
+use Rattle.spec_model.specs.declared.parts.Kind.{Kind}
+use Rattle.spec_model.specs.declared.parts.Kind.TheVariants.{L, G, E}
+use Rattle.spec_model.specs.declared.parts.Sense.{Sense}
+use Rattle.spec_model.specs.declared.parts.Sense.TheVariants.{Min, Max}
+use Rattle.spec_model.specs.Model.{Model, Name, ExactRow, ExactColumn, row}
+use Rattle.spec_mps.specs.declared.style.Style.{Style}
+use Rattle.spec_mps.specs.declared.style.Style.TheVariants.{Free, Fixed}
+use Rattle.spec_mps.specs.Fields.{Field, Fields, field_of}
+use Rattle.spec_mps.specs.NumberWritten.{number_text}
+
+-- ---- cards
+
+-- a section card, by what begins it and the fields behind that, or a data card; fields have the numbers of fixed form
+pub data WrittenCard : Type 0 where
+  Head : (start : List ℕ) → (fields : Fields) → WrittenCard
+  Data : (fields : Fields) → WrittenCard
+
+abbrev pub WrittenCards : Type 0
+WrittenCards = List WrittenCard
+
+abbrev pub field_at : ℕ → List ℕ → Field
+field_at n text = record { number = n; text = text }
+
+abbrev pub section_card : List ℕ → WrittenCard
+section_card word = Head word []
+
+-- a row's type and its name
+abbrev pub type_card : List ℕ → Name → WrittenCard
+type_card type name = Data (field_at 1 type ∷ field_at 2 name ∷ [])
+
+-- a column or a set, a row's name and a number
+abbrev pub number_card : Name → Name → ℚ → WrittenCard
+number_card group name value = Data (field_at 2 group ∷ field_at 3 name ∷ field_at 4 (number_text value) ∷ [])
+
+-- a kind of bounds and a column, with and without a number
+abbrev pub bound_card : List ℕ → Name → ℚ → WrittenCard
+bound_card kind name value = Data (field_at 1 kind ∷ field_at 2 (codes "BND") ∷ field_at 3 name ∷ field_at 4 (number_text value) ∷ [])
+
+abbrev pub unbound_card : List ℕ → Name → WrittenCard
+unbound_card kind name = Data (field_at 1 kind ∷ field_at 2 (codes "BND") ∷ field_at 3 name ∷ [])
+
+-- NAME, and behind it the model's name, if it has one, where field 3 stands in fixed form
+abbrev pub name_card : Name → WrittenCard
+name_card name = Head (codes "NAME") (field_of 3 name)
+
+-- the sense is written where it is not the usual one, and alike in both forms
+abbrev pub sense_cards : Sense → WrittenCards
+sense_cards Min = []
+sense_cards Max = section_card (codes "OBJSENSE MAX") ∷ []
+
+abbrev pub kind_word : Kind → List ℕ
+kind_word L = codes "L"
+kind_word G = codes "G"
+kind_word E = codes "E"
+
+abbrev pub row_card : ExactRow → WrittenCard
+row_card r = type_card (kind_word r.kind) r.name
+
+unfoldable pub rows_cards : Model → WrittenCards
+rows_cards m = section_card (codes "ROWS") ∷ type_card (codes "N") m.objective ∷ map row_card m.rows
+
+-- the cost, 0 too, then the entries in the order of rows
+abbrev pub column_cards : Model → ExactColumn → WrittenCards
+column_cards m c = number_card c.name m.objective c.cost ∷ map (λ e. number_card c.name (row m e.0).name e.1) c.entries
+
+unfoldable pub columns_cards : Model → WrittenCards
+columns_cards m = section_card (codes "COLUMNS") ∷ flat_map (column_cards m) m.columns
+
+-- a right side that is not 0
+abbrev pub side_cards : Name → ℚ → WrittenCards
+side_cards name value = if eq_ℚ value 0ℚ then [] else number_card (codes "RHS") name value ∷ []
+
+-- The right side of the objective is the negative of the offset.
+unfoldable pub sides_cards : Model → WrittenCards
+sides_cards m = section_card (codes "RHS") ∷ (side_cards m.objective (neg_ℚ m.offset) ++ flat_map (λ r. side_cards r.name r.rhs) m.rows)
+
+-- a range, if there is one, as it is
+abbrev pub range_cards : Name → Option ℚ → WrittenCards
+range_cards name None = []
+range_cards name (Some v) = number_card (codes "RNG") name v ∷ []
+
+abbrev pub has_range : ExactRow → Bool
+has_range r = is_some r.range
+
+unfoldable pub ranges_cards : Model → WrittenCards
+ranges_cards m =
+    if list_any has_range m.rows then section_card (codes "RANGES") ∷ flat_map (λ r. range_cards r.name r.range) m.rows else []
+
+-- a lower bound 0 and no upper one
+abbrev pub is_usual : Option ℚ → Option ℚ → Bool
+is_usual None upper = false
+is_usual (Some l) None = eq_ℚ l 0ℚ
+is_usual (Some l) (Some u) = false
+
+-- the bounds of a column, if they are not the usual ones
+abbrev pub bound_cards : Name → Option ℚ → Option ℚ → WrittenCards
+bound_cards name None None = unbound_card (codes "FR") name ∷ []
+bound_cards name None (Some u) = unbound_card (codes "MI") name ∷ bound_card (codes "UP") name u ∷ []
+bound_cards name (Some l) None = if eq_ℚ l 0ℚ then [] else bound_card (codes "LO") name l ∷ []
+bound_cards name (Some l) (Some u) =
+    if eq_ℚ l u then bound_card (codes "FX") name l ∷ []
+    else (if eq_ℚ l 0ℚ && lt_ℚ 0ℚ u then bound_card (codes "UP") name u ∷ [] else bound_card (codes "LO") name l ∷ bound_card (codes "UP") name u ∷ [])
+
+abbrev pub has_bounds : ExactColumn → Bool
+has_bounds c = not (is_usual c.lower c.upper)
+
+unfoldable pub bounds_cards : Model → WrittenCards
+bounds_cards m =
+    if list_any has_bounds m.columns then section_card (codes "BOUNDS") ∷ flat_map (λ c. bound_cards c.name c.lower c.upper) m.columns else []
+
+unfoldable pub cards_of : Model → WrittenCards
+cards_of m =
+    name_card m.name ∷ sense_cards m.sense ++ rows_cards m ++ columns_cards m ++ sides_cards m ++ ranges_cards m ++ bounds_cards m
+    ++ section_card (codes "ENDATA") ∷ []
+
+-- ---- lines
+
+-- the column of fixed form in which a field begins, and the most bytes that it holds
+abbrev pub first_column : ℕ → ℕ
+first_column n = if n == 1 then 2 else (if n == 2 then 5 else (if n == 3 then 15 else (if n == 4 then 25 else (if n == 5 then 40 else 50))))
+
+abbrev pub field_width : ℕ → ℕ
+field_width n = if n == 1 then 2 else (if n == 4 || n == 6 then 12 else 8)
+
+-- a line with one blank behind it, or with blanks up to the field's first column
+abbrev pub padded : Style → ℕ → List ℕ → List ℕ
+padded Free n line = line ++ 32 ∷ []
+padded Fixed n line = line ++ replicate (first_column n - 1 - length line) 32
+
+abbrev pub with_fields : Style → List ℕ → Fields → List ℕ
+with_fields style line [] = line
+with_fields style line (f ∷ fs) = with_fields style (padded style f.number line ++ f.text) fs
+
+abbrev pub line_text : Style → WrittenCard → List ℕ
+line_text style (Head start fields) = with_fields style start fields
+line_text style (Data fields) = with_fields style [] fields
+
+-- a line feed behind each line
+abbrev pub cards_text : Style → WrittenCards → List ℕ
+cards_text style cards = flat_map (λ card. line_text style card ++ 10 ∷ []) cards
+
+unfoldable pub free : Model → List ℕ
+free m = cards_text Free (cards_of m)
+
+unfoldable pub fixed : Model → List ℕ
+fixed m = cards_text Fixed (cards_of m)
+
+-- ---- what fixed form has no place for
+
+abbrev pub is_wide : Field → Bool
+is_wide f = nat_lt (field_width f.number) (length f.text)
+
+-- the fields of data cards
+abbrev pub data_fields : WrittenCard → Fields
+data_fields (Head start fields) = []
+data_fields (Data fields) = fields
+
+-- the first field of the cards that is too wide
+abbrev pub first_wide : WrittenCards → Option (List ℕ)
+first_wide cards = option_map (λ f. f.text) (find is_wide (flat_map data_fields cards))
+
+unfoldable pub too_wide : Model → Option (List ℕ)
+too_wide m = first_wide (cards_of m)

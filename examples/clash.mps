@@ -1,0 +1,10 @@
+ROWS
+ N cost
+COLUMNS
+ x cost 1
+BOUNDS
+ LO x 2
+ UP x 1
+ENDATA
+CLASH x
+END

@@ -1,0 +1,13 @@
+ROWS
+ N cost
+ L R1
+ G R2
+COLUMNS
+ x R1 1 R2 1
+RHS
+ R1 1 R2 2
+ENDATA
+INFEASIBLE
+y R1 -1
+y R2 2
+END

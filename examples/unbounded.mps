@@ -1,0 +1,14 @@
+OBJSENSE MAX
+ROWS
+ N gain
+ L R1
+COLUMNS
+ x gain 1 R1 1
+ y R1 -1
+RHS
+ R1 1
+ENDATA
+UNBOUNDED
+r x 1
+r y 1
+END
