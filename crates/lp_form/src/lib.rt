@@ -1,0 +1,19 @@
+//! The form of a linear program as the simplex method takes it, and bases.
+//!
+//! | Item | What it is |
+//! |---|---|
+//! | `Form` | columns with bounds and costs to be made least, the rows' sums among them |
+//! | `Bounds`, `Columns` | lists of optional fractions and of columns' entries, plain lists to contracts |
+//! | `Basis`, `Status` | how each structural and logical column stands |
+//!
+//! Contracts see a form as the record of spec_simplex's specs/Form.
+#![tactic(auto)]
+
+mod basis;
+mod form;
+mod lists;
+
+pub use basis::Basis;
+pub use form::Form;
+pub use lists::{Bounds, Columns};
+pub use spec_pivot::Status;

@@ -1,0 +1,48 @@
+-- The column that enters.
+use Rattle.std.proofs.Common.{◌≡◌, ◌≢◌, ℕ, zero, suc, ◌+◌, ◌-◌, ◌<◌, Option, Some, None, Bool, true, false, cond, refl, subst, ap, ap₂, ◌∙◌, arith}
+use Rattle.spec_exact.specs.Fraction.{ℚ}
+use Rattle.spec_pivot.specs.declared.status.Status.{Status}
+use Rattle.spec_pivot.specs.declared.status.Status.TheVariants.{Basic, AtLower, AtUpper, AtZero}
+use Rattle.spec_simplex.specs.declared.ends.Entering.{Entering}
+use Rattle.spec_simplex.specs.Tableau.{Tableau, all_columns}
+use Rattle.spec_simplex.specs.Step.{way_by, way_at, or_enters, entering_below, entering}
+
+-- ---- the least of many
+stays : (t : Tableau) (n d : ℕ) (e : Entering) → entering_below t n ≡ Some e → entering_below t (n + d) ≡ Some e
+stays t n zero e h = (let z : n + 0 ≡ n = omega arith in ap (entering_below t) z) ∙ h
+stays t n (suc d) e h = (let z : n + suc d ≡ suc (n + d) = omega arith in ap (entering_below t) z) ∙ ap (λ o. or_enters o (n + d) (way_at t (n + d))) (stays t n d e h)
+
+pub none_more : (t : Tableau) (k : ℕ) → entering_below t k ≡ None → way_at t k ≡ None → entering_below t (k + 1) ≡ None
+none_more t k h g = (let z : k + 1 ≡ suc k = omega arith in ap (entering_below t) z) ∙ ap₂ (λ o w. or_enters o k w) h g
+
+pub enters_at : (t : Tableau) (k n : ℕ) (up : Bool) → entering_below t k ≡ None → k < n → way_at t k ≡ Some up → entering_below t n ≡ Some (record { col = k; up = up })
+enters_at t k n up h l g =
+    let z : suc k + (n - suc k) ≡ n = omega arith in
+    subst (λ i. entering_below t i ≡ Some (record { col = k; up = up })) z (stays t (suc k) (n - suc k) (record { col = k; up = up }) (ap₂ (λ o w. or_enters o k w) h g))
+
+-- ---- what is known of it
+pub record MayEnter (t : Tableau) (n : ℕ) (e : Entering) : Type 0 where
+  pub inside : e.col < n
+  pub way : way_at t e.col ≡ Some e.up
+
+may_enter_below : (t : Tableau) (n : ℕ) (x : Entering) → entering_below t n ≡ Some x → MayEnter t n x
+may_enter_below t zero x h = let z : None ≡ Some x = h in cc
+may_enter_below t (suc n) x h = by (entering_below t n) (way_at t n) refl refl h (λ p. may_enter_below t n x p)
+  where
+    by : (e : Option Entering) (w : Option Bool) → entering_below t n ≡ e → way_at t n ≡ w → or_enters e n w ≡ Some x → (entering_below t n ≡ Some x → MayEnter t n x) → MayEnter t (suc n) x
+    by (Some e) w p q h before = let there : MayEnter t n x = before (p ∙ h) in record { inside = omega (arith, there.inside); way = there.way }
+    by None None p q h before = let z : None ≡ Some x = h in cc
+    by None (Some up) p q h before =
+        let z : ◌≡◌ {A = Entering} (record { col = n; up = up }) x = cc in
+        subst (MayEnter t (suc n)) z (record { inside = omega arith; way = q })
+
+pub may_enter : (t : Tableau) (x : Entering) → entering t ≡ Some x → MayEnter t (all_columns t) x
+may_enter t x h = may_enter_below t (all_columns t) x h
+
+-- a column that may enter is not basic
+pub not_basic : (b : Bool) (s : Status) (d : ℚ) (up : Bool) → cond b None (way_by s d) ≡ Some up → s ≢ Basic
+not_basic true s d up h e = let z : None ≡ Some up = h in cc
+not_basic false Basic d up h e = let z : None ≡ Some up = h in cc
+not_basic false AtLower d up h e = cc
+not_basic false AtUpper d up h e = cc
+not_basic false AtZero d up h e = cc

@@ -1,0 +1,5 @@
+pub mod Choices
+pub mod Enters
+pub mod Ratios
+pub mod Runs
+pub mod Signs

@@ -1,0 +1,35 @@
+// What a step does.
+ghost use Rattle.std.specs.Prelude.{◌≡◌, IfOk, Some};
+ghost use Rattle.spec_simplex.specs.Step.{choice_run, CanMake};
+ghost use Rattle.lp_frac.specs.Narrow.{largest};
+
+use crate::entering::entering;
+use crate::ratio::{best, directed};
+use lp_frac::{Frac, Past};
+use lp_tableau::{PrimalEnd, Tableau};
+
+pub(crate) type Choice = spec_simplex::Choice<Frac>;
+
+// The flip or the pivot that comes next, or the end.
+#[tactic(auto, unfolding(spec_simplex::specs::Step::choice_run))]
+pub(crate) fn choice(tab: &Tableau) -> Result<Choice, Past>
+    ensures value { result ≡ choice_run (Some largest) tab.now }
+    ensures possible { IfOk result (CanMake tab.now) }
+{
+    let Some(e) = entering(tab) else {
+        return Ok(Choice::End(PrimalEnd::Optimal));
+    };
+    let Some(best) = best(tab, e)? else {
+        let (col, up) = (e.col, e.up);
+        return Ok(Choice::End(PrimalEnd::Unbounded { col, up }));
+    };
+    match best.place {
+        None => Ok(Choice::Flip { col: e.col }),
+        Some(place) => Ok(Choice::Pivot {
+            place,
+            col: e.col,
+            theta: directed(e.up, best.ratio),
+            to: best.to,
+        }),
+    }
+}

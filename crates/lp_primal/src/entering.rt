@@ -1,0 +1,62 @@
+// Which column enters.
+ghost use Rattle.std.specs.Prelude.{◌≡◌, ◌<◌, IfSome};
+ghost use Rattle.spec_exact.specs.Fraction.{lt_ℚ, 0ℚ};
+ghost use Rattle.spec_simplex.specs.Tableau.{all_columns, is_fixed as is_fixed_of};
+ghost use Rattle.spec_simplex.specs.Step.{way_by, way_at, entering as entering_of};
+
+use lp_form::Status;
+use lp_frac::{Frac, are_same, sign};
+use lp_tableau::Tableau;
+use spec_simplex::Entering;
+use std::cmp::Ordering;
+
+// Both bounds are there, and equal.
+fn is_fixed(lower: Option<Frac>, upper: Option<Frac>) -> bool
+    ensures { result ≡ is_fixed_of lower upper }
+{
+    match (lower, upper) {
+        (Some(lower), Some(upper)) => are_same(lower, upper),
+        _ => false,
+    }
+}
+
+// Whether a column of this status and reduced cost rises or falls, if it may enter.
+fn way(status: Status, reduced: Frac) -> Option<bool>
+    ensures { result ≡ way_by status reduced }
+{
+    match sign(reduced) {
+        Ordering::Less => match status {
+            Status::AtLower | Status::AtZero => Some(true),
+            Status::Basic | Status::AtUpper => None,
+        },
+        Ordering::Equal => None,
+        Ordering::Greater => match status {
+            Status::AtUpper | Status::AtZero => Some(false),
+            Status::Basic | Status::AtLower => None,
+        },
+    }
+}
+
+// Whether column `k` rises or falls, if it may enter.
+fn column_way(tab: &Tableau, k: u32) -> Option<bool>
+    requires { k < all_columns tab.now }
+    ensures { result ≡ way_at tab.now k }
+{
+    if is_fixed(tab.lower(k), tab.upper(k)) {
+        return None;
+    }
+    way(tab.status(k), tab.reduced(k))
+}
+
+// The least column that may enter.
+pub(crate) fn entering(tab: &Tableau) -> Option<Entering>
+    ensures value { result ≡ entering_of tab.now }
+    ensures inside { IfSome result (λ e. e.col < all_columns tab.now) }
+{
+    for col in 0..tab.width() {
+        if let Some(up) = column_way(tab, col) {
+            return Some(Entering { col, up });
+        }
+    }
+    None
+}

@@ -1,0 +1,132 @@
+// Which position stops the entering column: the ratio test.
+ghost use Rattle.std.specs.Prelude.{◌≡◌, ◌≢◌, ◌<◌, Some};
+ghost use Rattle.spec_exact.specs.Fraction.{0ℚ};
+ghost use Rattle.spec_simplex.specs.Tableau.{all_columns};
+ghost use Rattle.spec_simplex.specs.Step as step;
+ghost use Rattle.lp_frac.specs.Narrow.{largest};
+
+use lp_form::Status;
+use lp_frac::{Frac, Past, abs, cmp, div, neg, sign, sub};
+use lp_tableau::Tableau;
+use spec_simplex::Entering;
+use std::cmp::Ordering;
+
+// The least ratio so far.
+pub(crate) type Best = spec_simplex::Best<Frac>;
+
+// `v`, or its negative where the entering column falls.
+pub(crate) fn directed(up: bool, v: Frac) -> Frac
+    ensures { result ≡ step.directed up v }
+{
+    if up { v } else { neg(v) }
+}
+
+fn other_bound(up: bool) -> Status
+    ensures { result ≡ step.other_bound up }
+{
+    if up { Status::AtUpper } else { Status::AtLower }
+}
+
+// How far the entering column itself may move, where it has both bounds.
+fn range(e: Entering, lower: Option<Frac>, upper: Option<Frac>) -> Result<Option<Best>, Past>
+    ensures { result ≡ step.range_run (Some largest) e lower upper }
+{
+    match (lower, upper) {
+        (Some(lower), Some(upper)) => Ok(Some(Best {
+            ratio: sub(upper, lower)?,
+            col: e.col,
+            place: None,
+            to: other_bound(e.up),
+        })),
+        _ => Ok(None),
+    }
+}
+
+// How far the value may rise.
+fn rise(upper: Option<Frac>, value: Frac) -> Result<Option<(Frac, Status)>, Past>
+    ensures { result ≡ step.rise_run (Some largest) upper value }
+{
+    match upper {
+        Some(upper) => Ok(Some((sub(upper, value)?, Status::AtUpper))),
+        None => Ok(None),
+    }
+}
+
+// How far the value may fall.
+fn fall(lower: Option<Frac>, value: Frac) -> Result<Option<(Frac, Status)>, Past>
+    ensures { result ≡ step.fall_run (Some largest) lower value }
+{
+    match lower {
+        Some(lower) => Ok(Some((sub(value, lower)?, Status::AtLower))),
+        None => Ok(None),
+    }
+}
+
+// The gap of a basic column with these bounds, whose position has this entry.
+fn gap(
+    up: bool,
+    entry: Frac,
+    lower: Option<Frac>,
+    upper: Option<Frac>,
+    value: Frac,
+) -> Result<Option<(Frac, Status)>, Past>
+    ensures { result ≡ step.gap_run (Some largest) up entry lower upper value }
+{
+    match sign(directed(up, entry)) {
+        Ordering::Less => rise(upper, value),
+        Ordering::Equal => Ok(None),
+        Ordering::Greater => fall(lower, value),
+    }
+}
+
+// The better of two: the lesser ratio, and of equal ones the lesser column.
+fn better(new: Best, best: Option<Best>) -> Result<Option<Best>, Past>
+    ensures { result ≡ step.better_run (Some largest) new best }
+{
+    let Some(best) = best else {
+        return Ok(Some(new));
+    };
+    match cmp(new.ratio, best.ratio)? {
+        Ordering::Less => Ok(Some(new)),
+        Ordering::Equal if new.col < best.col => Ok(Some(new)),
+        Ordering::Equal | Ordering::Greater => Ok(Some(best)),
+    }
+}
+
+// The best so far, with position `i`.
+fn best_with(tab: &Tableau, e: Entering, i: u32, best: Option<Best>) -> Result<Option<Best>, Past>
+    requires column { e.col < all_columns tab.now }
+    requires place { i < tab.now.rows }
+    ensures { result ≡ step.best_with (Some largest) tab.now e i best }
+{
+    let col = tab.basic(i);
+    let entry = tab.entry(i, e.col);
+    match gap(e.up, entry, tab.lower(col), tab.upper(col), tab.value(col))? {
+        Some((gap, to)) => {
+            let ratio = div(gap, abs(entry))?;
+            let place = Some(i);
+            better(
+                Best {
+                    ratio,
+                    col,
+                    place,
+                    to,
+                },
+                best,
+            )
+        }
+        None => Ok(best),
+    }
+}
+
+// The least ratio of all, if anything stops the column.
+pub(crate) fn best(tab: &Tableau, e: Entering) -> Result<Option<Best>, Past>
+    requires { e.col < all_columns tab.now }
+    ensures { result ≡ step.best_run (Some largest) tab.now e }
+{
+    let mut best = range(e, tab.lower(e.col), tab.upper(e.col))?;
+    for i in 0..tab.rows() {
+        best = best_with(tab, e, i, best)?;
+    }
+    Ok(best)
+}

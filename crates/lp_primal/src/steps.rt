@@ -1,0 +1,47 @@
+// Steps up to an end.
+ghost use Rattle.std.specs.Prelude.{◌≡◌, ◌<◌, ◌≤◌, ◌-◌, Some};
+ghost use Rattle.spec_simplex.specs.Step.{CanMake};
+ghost use Rattle.spec_simplex.specs.Phases.{done_run, run_from};
+ghost use Rattle.lp_frac.specs.Narrow.{largest};
+ghost use Rattle.lp_tableau.specs.Answer.{Gives};
+ghost use Rattle.lp_primal.specs.Answer.{Runs};
+
+use crate::choice::{Choice, choice};
+use lp_frac::Past;
+use lp_tableau::{PrimalEnd, Stop, Tableau};
+
+// The flip or the pivot; an end changes nothing.
+fn make(tab: &mut Tableau, choice: Choice) -> Result<(), Past>
+    requires { CanMake tab.old choice }
+    ensures { Gives (done_run (Some largest) tab.old choice) tab.new result }
+{
+    match choice {
+        Choice::End(_) => Ok(()),
+        Choice::Flip { col } => tab.flip(col),
+        Choice::Pivot {
+            place,
+            col,
+            theta,
+            to,
+        } => tab.pivot(place, col, theta, to),
+    }
+}
+
+/// Takes steps until no column may enter (`Optimal`), nothing stops the column that enters
+/// (`Unbounded`), an operation is past 127 bits (`Past`), or `budget` pivots and flips were made
+/// (`Spent`). `used` counts them. After `Past` the tableau is spent.
+pub fn run(tab: &mut Tableau, used: &mut u64, budget: u64) -> Result<PrimalEnd, Stop>
+    ensures { Runs (run_from (Some largest) (budget - used.old) used.old tab.old) tab.new used.new result }
+{
+    loop {
+        let next = choice(tab)?;
+        if let Choice::End(end) = next {
+            return Ok(end);
+        }
+        if *used >= budget {
+            return Err(Stop::Spent);
+        }
+        make(tab, next)?;
+        *used += 1;
+    }
+}

@@ -1,0 +1,66 @@
+-- The form of a model from its parts, and why there is none.
+use Rattle.std.proofs.Common.{◌≡◌, ℕ, ◌+◌, ◌<◌, ◌≤◌, List, [], ◌∷◌, ◌++◌, length, take, get_or, map, replicate, Option, Result, Ok, Err, sym, subst, ap, ap₂, ◌∙◌, arith}
+use Rattle.std.specs.Prelude.{All}
+use Rattle.std.proofs.lemmas.List.{length-append, length-map, length-replicate, map_more}
+use Rattle.spec_exact.specs.Fraction.{ℚ, 0ℚ}
+use Rattle.spec_model.specs.Model.{Model, ExactColumn, width, height, row, no_column}
+use Rattle.spec_model.specs.Kept.{AreEntries}
+use Rattle.spec_simplex.specs.declared.ends.FormFault.{FormFault}
+use Rattle.spec_simplex.specs.declared.ends.FormFault.TheVariants as fault
+use Rattle.spec_simplex.specs.Run.{◌>>=◌, refused_as, list_run, steps}
+use Rattle.spec_simplex.specs.Form.{Form, IsForm, limits_run, column_clash, least_cost, formed, form_of}
+use Rattle.lp_standard.specs.Answer.{IsFaultOf, IsStopOf}
+use Rattle.lp_standard.specs.Fault.{stop_of}
+use Rattle.lp_standard.specs.declared.fault.FormStop.{FormStop}
+use Rattle.lp_standard.specs.declared.fault.FormStop.TheVariants.{Clash, NoMemory}
+use Rattle.lp_standard.specs.declared.fault.FormStop.TheVariants as stop
+
+-- ---- one column more
+pub entries_more : (xs : List ExactColumn) (j : ℕ) (done : List (List (ℕ × ℚ))) (e : List (ℕ × ℚ)) → done ≡ map (λ c. c.entries) (take j xs) → e ≡ (get_or xs j no_column).entries → j < length xs → done ++ e ∷ [] ≡ map (λ c. c.entries) (take (j + 1) xs)
+entries_more xs j done e h g l = ap₂ (λ ys y. ys ++ y ∷ []) h g ∙ sym (map_more (λ (c : ExactColumn). c.entries) xs j no_column l)
+
+-- ---- the parts are those of a form
+module _ (m : Model) (limits : List (Option ℚ × Option ℚ)) (rows cols : ℕ) (entries : List (List (ℕ × ℚ))) (lower upper : List (Option ℚ)) (cost : List ℚ)
+    (a : rows ≡ height m) (b : cols ≡ width m) (c : entries ≡ map (λ c. c.entries) m.columns)
+    (d : lower ≡ map (λ c. c.lower) m.columns ++ map (λ l. l.0) limits) (e : upper ≡ map (λ c. c.upper) m.columns ++ map (λ l. l.1) limits)
+    (f : cost ≡ map (λ c. least_cost m.sense c.cost) m.columns ++ replicate (height m) 0ℚ) where
+  pub parts_are : record { rows = rows; cols = cols; entries = entries; lower = lower; upper = upper; cost = cost } ≡ formed m limits
+  parts_are = cc
+
+  pub is_form : length limits ≡ height m → rows ≤ 256 → cols ≤ 512 → All (AreEntries (height m)) entries → IsForm (record { rows = rows; cols = cols; entries = entries; lower = lower; upper = upper; cost = cost })
+  is_form g h i k =
+      record {
+        few_rows = h;
+        few_columns = i;
+        all_entries = ap length c ∙ length-map m.columns (λ (c : ExactColumn). c.entries) ∙ sym b;
+        all_lower = omega (arith, ap length d, length-append (map (λ (c : ExactColumn). c.lower) m.columns) (map (λ (l : Option ℚ × Option ℚ). l.0) limits), length-map m.columns (λ (c : ExactColumn). c.lower), length-map limits (λ (l : Option ℚ × Option ℚ). l.0), a, b, g);
+        all_upper = omega (arith, ap length e, length-append (map (λ (c : ExactColumn). c.upper) m.columns) (map (λ (l : Option ℚ × Option ℚ). l.1) limits), length-map m.columns (λ (c : ExactColumn). c.upper), length-map limits (λ (l : Option ℚ × Option ℚ). l.1), a, b, g);
+        all_costs = omega (arith, ap length f, length-append (map (λ (c : ExactColumn). least_cost m.sense c.cost) m.columns) (replicate (height m) 0ℚ), length-map m.columns (λ (c : ExactColumn). least_cost m.sense c.cost), length-replicate (height m) 0ℚ, a, b);
+        columns = subst (λ n. All (AreEntries n) entries) (sym a) k;
+      }
+
+-- ---- the form, or why there is none
+module _ (limit : Option ℕ) (m : Model) where
+  abbrev after_limits : List (Option ℚ × Option ℚ) → Result Form (FormFault ℚ)
+  after_limits limits = steps (width m) (λ j _. column_clash limit m j) tt >>= λ _. Ok (formed m limits)
+
+  pub limits_stop : (s : FormStop) → IsStopOf (list_run (height m) (λ i. limits_run limit (row m i))) s → IsFaultOf (form_of limit m) s
+  unfolding form_of
+  limits_stop (Clash j) h = absurd h
+  limits_stop (stop.Past p) h = ap (λ o. refused_as fault.Past o >>= λ limits. after_limits limits) h
+  limits_stop NoMemory h = tt
+
+  module _ (limits : List (Option ℚ × Option ℚ)) (r : list_run (height m) (λ i. limits_run limit (row m i)) ≡ Ok limits) where
+    from_limits : form_of limit m ≡ after_limits limits
+    unfolding form_of
+    from_limits = ap (λ o. refused_as fault.Past o >>= λ limits. after_limits limits) r
+
+    clash_stops : (f : FormFault ℚ) → steps (width m) (λ j _. column_clash limit m j) tt ≡ Err f → form_of limit m ≡ Err f
+    clash_stops f h = from_limits ∙ ap (λ o. o >>= λ _. Ok (formed m limits)) h
+
+    pub clash_is : (f : FormFault ℚ) → steps (width m) (λ j _. column_clash limit m j) tt ≡ Err f → IsFaultOf (form_of limit m) (stop_of f)
+    clash_is (fault.Clash j) h = clash_stops (fault.Clash j) h
+    clash_is (fault.Past p) h = clash_stops (fault.Past p) h
+
+    pub form_is : (f : Form) → steps (width m) (λ j _. column_clash limit m j) tt ≡ Ok tt → f ≡ formed m limits → form_of limit m ≡ Ok f
+    form_is f h e = from_limits ∙ ap (λ o. o >>= λ _. Ok (formed m limits)) h ∙ ap Ok (sym e)

@@ -1,0 +1,20 @@
+-- What `form` answers, by the definition at the limit of 127 bits.
+use Rattle.std.specs.Prelude.{◌≡◌, ⊤, Result, Err}
+use Rattle.spec_exact.specs.Fraction.{ℚ}
+use Rattle.spec_simplex.specs.declared.ends.FormFault.{FormFault}
+use Rattle.spec_simplex.specs.declared.ends.FormFault.TheVariants as fault
+use Rattle.spec_simplex.specs.Run.{Run}
+use Rattle.lp_standard.specs.declared.fault.FormStop.{FormStop}
+use Rattle.lp_standard.specs.declared.fault.FormStop.TheVariants.{Clash, Past, NoMemory}
+
+-- this stop is why there is no form, or memory was wanting
+abbrev pub IsFaultOf : {A : Type 0} → Result A (FormFault ℚ) → FormStop → Type 0
+IsFaultOf run (Clash j) = run ≡ Err (fault.Clash j)
+IsFaultOf run (Past p) = run ≡ Err (fault.Past p)
+IsFaultOf run NoMemory = ⊤
+
+-- this stop is the refusal, or memory was wanting
+abbrev pub IsStopOf : {A : Type 0} → Run A → FormStop → Type 0
+IsStopOf run (Clash j) = ⊥
+IsStopOf run (Past p) = run ≡ Err p
+IsStopOf run NoMemory = ⊤

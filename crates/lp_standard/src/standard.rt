@@ -1,0 +1,132 @@
+// The form of a model.
+ghost use Rattle.std.specs.Prelude.{◌≡◌, [], ◌∷◌, ◌++◌, map, replicate, All, IfOk, IfErr, OnOk, Ok, Some, length};
+ghost use Rattle.spec_exact.specs.Fraction.{0ℚ};
+ghost use Rattle.spec_model.specs.Model.{width, height, row};
+ghost use Rattle.spec_model.specs.Kept.{AreEntries};
+ghost use Rattle.spec_simplex.specs.Run.{list_run, steps};
+ghost use Rattle.spec_simplex.specs.Form as plain;
+ghost use Rattle.lp_frac.specs.Narrow.{largest};
+ghost use Rattle.lp_standard.specs.Answer.{IsFaultOf, IsStopOf};
+
+use crate::fault::FormStop;
+use crate::limits::{clash, limits};
+use lp_form::{Bounds, Columns, Form};
+use lp_frac::{Entries, Frac, Fracs, neg, zero};
+use lp_model::{Model, Sense};
+use std::alloc::{AllocError, Global};
+
+type FormFault = spec_simplex::FormFault<Frac>;
+
+// The least and the most that a row's sum may be.
+type Limits = (Option<Frac>, Option<Frac>);
+
+fn push_limits(all: &mut Vec<Limits>, limits: Limits) -> Result<(), AllocError>
+    ensures { OnOk result (all.new.items ≡ all.old.items ++ limits ∷ []) }
+{
+    all.push(limits)?;
+    Ok(())
+}
+
+// The limits of all rows, the lower and the upper one of each.
+fn all_limits(alloc: Global, model: &Model) -> Result<Vec<Limits>, FormStop>
+    ensures ok { IfOk result (λ v. list_run (height model.now) (λ i. plain.limits_run (Some largest) (row model.now i)) ≡ Ok v.items) }
+    ensures err { IfErr result (IsStopOf (list_run (height model.now) (λ i. plain.limits_run (Some largest) (row model.now i)))) }
+{
+    let mut all = Vec::new(alloc);
+    for i in 0..model.rows() {
+        push_limits(&mut all, limits(model.row(i))?)?;
+    }
+    Ok(all)
+}
+
+// The first column whose bounds clash, if there is one.
+fn first_clash(model: &Model) -> Result<(), FormFault>
+    ensures { result ≡ steps (width model.now) (λ j _. plain.column_clash (Some largest) model.now j) tt }
+{
+    for j in 0..model.cols() {
+        let column = model.col(j);
+        clash(j, column.lower, column.upper)?;
+    }
+    Ok(())
+}
+
+// The entries of all columns.
+fn entries(alloc: Global, model: &Model) -> Result<Columns, AllocError>
+    ensures value { IfOk result (λ v. v ≡ map (λ c. c.entries) model.now.columns) }
+    ensures kept { IfOk result (λ v. All (AreEntries (height model.now)) v) }
+{
+    let mut entries = Columns::new(alloc);
+    for j in 0..model.cols() {
+        let column = Vec::from_slice(alloc, model.entries(j))?;
+        entries.push(Entries::from_vec(column))?;
+    }
+    Ok(entries)
+}
+
+// The lower bounds of all columns, and then the lower limits of all rows.
+fn lowers(alloc: Global, model: &Model, limits: &[Limits]) -> Result<Bounds, AllocError>
+    ensures { IfOk result (λ v. v ≡ map (λ c. c.lower) model.now.columns ++ map (λ l. l.0) limits.now) }
+{
+    let mut lowers = Bounds::new(alloc);
+    for j in 0..model.cols() {
+        lowers.push(model.col(j).lower)?;
+    }
+    for (lower, _) in limits {
+        lowers.push(*lower)?;
+    }
+    Ok(lowers)
+}
+
+// The upper bounds of all columns, and then the upper limits of all rows.
+fn uppers(alloc: Global, model: &Model, limits: &[Limits]) -> Result<Bounds, AllocError>
+    ensures { IfOk result (λ v. v ≡ map (λ c. c.upper) model.now.columns ++ map (λ l. l.1) limits.now) }
+{
+    let mut uppers = Bounds::new(alloc);
+    for j in 0..model.cols() {
+        uppers.push(model.col(j).upper)?;
+    }
+    for (_, upper) in limits {
+        uppers.push(*upper)?;
+    }
+    Ok(uppers)
+}
+
+// The cost to be made least.
+fn least_cost(sense: Sense, cost: Frac) -> Frac
+    ensures { result ≡ plain.least_cost sense cost }
+{
+    match sense {
+        Sense::Min => cost,
+        Sense::Max => neg(cost),
+    }
+}
+
+// The costs of all columns, and then 0 for each row.
+fn costs(alloc: Global, model: &Model) -> Result<Fracs, AllocError>
+    ensures { IfOk result (λ v. v ≡ map (λ c. plain.least_cost model.now.sense c.cost) model.now.columns ++ replicate (height model.now) 0ℚ) }
+{
+    let mut costs = Fracs::new(alloc);
+    for j in 0..model.cols() {
+        costs.push(least_cost(model.sense(), model.col(j).cost))?;
+    }
+    for _ in 0..model.rows() {
+        costs.push(zero())?;
+    }
+    Ok(costs)
+}
+
+/// The form of the model: its columns, and a logical column for each row. The limits of the rows are
+/// taken first, in order, then the bounds of the columns are compared, in order; the first refused
+/// operation, or the first clash, is why there is none.
+pub fn form(alloc: Global, model: &Model) -> Result<Form, FormStop>
+    ensures ok { IfOk result (λ f. plain.form_of (Some largest) model.now ≡ Ok f) }
+    ensures err { IfErr result (IsFaultOf (plain.form_of (Some largest) model.now)) }
+{
+    let limits = all_limits(alloc, model)?;
+    first_clash(model)?;
+    let entries = entries(alloc, model)?;
+    let lower = lowers(alloc, model, &limits)?;
+    let upper = uppers(alloc, model, &limits)?;
+    let cost = costs(alloc, model)?;
+    Ok(Form::new(model.rows(), model.cols(), entries, lower, upper, cost))
+}

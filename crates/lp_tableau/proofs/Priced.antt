@@ -1,0 +1,30 @@
+-- Reduced costs, and the change to phase two.
+use Rattle.std.proofs.Common.{◌≡◌, ℕ, List, Option, Ok, Err, Result, sym, subst, ap, ◌∙◌}
+use Rattle.std.specs.Prelude.{⊤}
+use Rattle.spec_exact.specs.Fraction.{ℚ}
+use Rattle.spec_exact.specs.declared.past.Past.{Past}
+use Rattle.spec_simplex.specs.Run.{◌>>=◌}
+use Rattle.spec_simplex.specs.Form.{Form}
+use Rattle.spec_simplex.specs.Tableau.{Tableau}
+use Rattle.spec_simplex.specs.Start.{reduced_run, priced_run, with_reduced}
+use Rattle.spec_simplex.specs.Phases.{without_artificials, phase_two_run}
+use Rattle.lp_tableau.specs.Answer.{Gives}
+use Rattle.lp_tableau.proofs.Pivots.{RepricedFrom}
+
+-- reduced costs do not read those that stand already
+pub reduced_same : (limit : Option ℕ) (t u : Tableau) (costs : List ℚ) (k : ℕ) → RepricedFrom t u → reduced_run limit u costs k ≡ reduced_run limit t costs k
+reduced_same limit t u costs k e = ap (λ w. reduced_run limit w costs k) e
+
+pub repriced_again : (t u v : Tableau) (xs : List ℚ) → RepricedFrom t u → v ≡ with_reduced u xs → RepricedFrom t v
+repriced_again t u v xs e h =
+    let d : xs ≡ v.reduced = sym (ap (λ w. w.reduced) h) in
+    h ∙ ap (λ w. with_reduced w xs) e ∙ ap (with_reduced t) d
+
+pub phase_two_gives : (limit : Option ℕ) (f : Form) (t u x : Tableau) (costs : List ℚ) (r : Result ⊤ (Past ℚ)) → u ≡ without_artificials t → costs ≡ f.cost → Gives (priced_run limit u costs) x.reduced r → RepricedFrom u x → Gives (phase_two_run limit f t) x r
+unfolding phase_two_run
+phase_two_gives limit f t u x costs (Ok v) e g h k =
+    let priced : priced_run limit (without_artificials t) f.cost ≡ Ok x.reduced = subst (λ w. priced_run limit w f.cost ≡ Ok x.reduced) e (subst (λ c. priced_run limit u c ≡ Ok x.reduced) g h) in
+    ap (λ o. o >>= λ reduced. Ok (with_reduced (without_artificials t) reduced)) priced ∙ ap Ok (sym (k ∙ ap (λ w. with_reduced w x.reduced) e))
+phase_two_gives limit f t u x costs (Err p) e g h k =
+    let priced : priced_run limit (without_artificials t) f.cost ≡ Err p = subst (λ w. priced_run limit w f.cost ≡ Err p) e (subst (λ c. priced_run limit u c ≡ Err p) g h) in
+    ap (λ o. o >>= λ reduced. Ok (with_reduced (without_artificials t) reduced)) priced

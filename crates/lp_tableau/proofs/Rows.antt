@@ -1,0 +1,83 @@
+-- The rows of a block.
+use Rattle.std.proofs.Common.{◌≡◌, ℕ, zero, suc, ◌+◌, ◌*◌, ◌<◌, ◌≤◌, List, [], ◌∷◌, length, take, drop, get_or, refl, sym, ap, ap₂, ◌∙◌, arith}
+use Rattle.std.proofs.Math.ListN.{set}
+use Rattle.std.proofs.Math.Nat.{zero-mul, suc-mul, mul-le-mul_right}
+use Rattle.std.proofs.Math.Seq.{take-set-lt}
+use Rattle.std.proofs.lemmas.List.{drop-drop, drop-set-lt, drop-set-add, take-set-le, length-take-le, length-drop, get_or-take, get_or-drop}
+use Rattle.spec_exact.specs.Fraction.{ℚ, 0ℚ}
+use Rattle.spec_simplex.specs.Tableau.{at_place}
+use Rattle.lp_tableau.specs.Grid.{rows_of, IsBlock}
+
+pub length-rows_of : (n m : ℕ) (xs : List ℚ) → length (rows_of n m xs) ≡ m
+length-rows_of n zero xs = refl
+length-rows_of n (suc m) xs = ap suc (length-rows_of n m (drop n xs))
+
+next_at : (n i : ℕ) → n + i * n ≡ suc i * n
+next_at n i = omega (arith, suc-mul i n)
+
+-- row i begins behind i rows
+pub row-rows_of : (n m i : ℕ) (xs : List ℚ) → i < m → get_or (rows_of n m xs) i [] ≡ take n (drop (i * n) xs)
+row-rows_of n zero i xs h = absurd (omega arith)
+row-rows_of n (suc m) zero xs h = ap (λ k. take n (drop k xs)) (sym (zero-mul n))
+row-rows_of n (suc m) (suc i) xs h =
+    row-rows_of n m i (drop n xs) (omega arith) ∙ ap (take n) (drop-drop (i * n) n xs ∙ ap (λ k. drop k xs) (next_at n i))
+
+-- what stands in row i at column k
+pub at-rows_of : (n m i k : ℕ) (xs : List ℚ) → i < m → k < n → at_place (rows_of n m xs) i k ≡ get_or xs (i * n + k) 0ℚ
+at-rows_of n m i k xs h l =
+    ap (λ row. get_or row k 0ℚ) (row-rows_of n m i xs h) ∙ get_or-take n (drop (i * n) xs) k 0ℚ l ∙ get_or-drop (i * n) xs k 0ℚ
+
+-- a place of the block is a place of its row
+pub inside : (n m i k : ℕ) → i < m → k < n → i * n + k < m * n
+inside n m i k h l =
+    let e : suc i * n ≡ i * n + n = suc-mul i n in
+    let g : suc i * n ≤ m * n = mul-le-mul_right n (omega arith) in
+    omega (arith, e, g)
+
+-- a write into the block is a write into its row
+pub set-rows_of : (n m i k : ℕ) (xs : List ℚ) (v : ℚ) → i < m → k < n → rows_of n m (set xs (i * n + k) v) ≡ set (rows_of n m xs) i (set (get_or (rows_of n m xs) i []) k v)
+set-rows_of n zero i k xs v h l = absurd (omega arith)
+set-rows_of n (suc m) zero k xs v h l =
+    let e : zero * n + k ≡ k = omega (arith, zero-mul n) in
+    ap (λ j. rows_of n (suc m) (set xs j v)) e ∙ ap₂ (λ row rows. row ∷ rows_of n m rows) (take-set-lt n xs k v l) (drop-set-lt n xs k v l)
+set-rows_of n (suc m) (suc i) k xs v h l =
+    let e : suc i * n + k ≡ n + (i * n + k) = omega (arith, suc-mul i n) in
+    ap (λ j. rows_of n (suc m) (set xs j v)) e
+    ∙ ap₂ (λ row rows. row ∷ rows_of n m rows) (take-set-le n xs (n + (i * n + k)) v (omega arith)) (drop-set-add n xs (i * n + k) v)
+    ∙ ap (λ rows. take n xs ∷ rows) (set-rows_of n m i k (drop n xs) v (omega arith) l)
+
+-- all rows are as wide as the block asks for
+pub row_width : (n m i : ℕ) (xs : List ℚ) → i < m → length xs ≡ m * n → length (get_or (rows_of n m xs) i []) ≡ n
+row_width n m i xs h e =
+    let s : suc i * n ≡ i * n + n = suc-mul i n in
+    let g : suc i * n ≤ m * n = mul-le-mul_right n (omega arith) in
+    ap length (row-rows_of n m i xs h) ∙ length-take-le n (drop (i * n) xs) (omega (arith, length-drop (i * n) xs, s, g, e))
+
+-- the place in a block of what stands in row i at column k
+pub record IsPlace (n m i k : ℕ) (xs : List ℚ) : Type 0 where
+  pub row : i * n ≤ 262144
+  pub place : i * n + k ≤ 263168
+  pub inside : i * n + k < length xs
+
+-- in a block that is seen as these rows
+module _ (n m i k : ℕ) (xs : List ℚ) (rows : List (List ℚ)) (e : rows_of n m xs ≡ rows) (b : IsBlock m n xs) (h : i < length rows) (l : k < length (get_or rows i [])) where
+  row_in : i < m
+  row_in = omega (arith, h, length-rows_of n m xs, ap length e)
+
+  column_in : k < n
+  column_in = omega (arith, l, row_width n m i xs row_in b.size, ap (λ rows. length (get_or rows i [])) e)
+
+  pub place_in : IsPlace n m i k xs
+  place_in =
+      let g : i * n ≤ 256 * n = mul-le-mul_right n (omega (arith, row_in, b.few_rows)) in
+      record {
+        row = omega (arith, g, b.few_columns);
+        place = omega (arith, g, b.few_columns, column_in);
+        inside = omega (arith, inside n m i k row_in column_in, b.size);
+      }
+
+  pub at_is : get_or xs (i * n + k) 0ℚ ≡ at_place rows i k
+  at_is = sym (at-rows_of n m i k xs row_in column_in) ∙ ap (λ rows. at_place rows i k) e
+
+  pub set_is : (v : ℚ) → rows_of n m (set xs (i * n + k) v) ≡ set rows i (set (get_or rows i []) k v)
+  set_is v = set-rows_of n m i k xs v row_in column_in ∙ ap (λ rows. set rows i (set (get_or rows i []) k v)) e

@@ -1,0 +1,9 @@
+-- The loop over the columns.
+use Rattle.std.proofs.Common.{◌≡◌}
+use Rattle.spec_simplex.specs.Run.{made}
+use Rattle.spec_simplex.specs.Start.{start_status}
+use Rattle.lp_tableau.proofs.start.statuses.Given as goal
+
+-- the columns so far are there
+abbrev pub invariant-loop-k : goal.invariant-loop-k
+invariant-loop-k l = l.statuses.items ≡ made l.k (start_status l.form l.starts)

@@ -1,0 +1,34 @@
+// How runs of steps end.
+ghost use Rattle.std.specs.Prelude.{◌≡◌};
+ghost use Rattle.lp_tableau.specs.declared.ends.ColdStop.TheVariants as cold;
+
+use lp_frac::{Frac, Past};
+pub use spec_simplex::PrimalEnd;
+use std::alloc::AllocError;
+
+/// Why a run does not end by itself.
+pub type Stop = spec_simplex::Stop<Frac>;
+
+/// Why a form has no start.
+#[derive(Clone, Copy, Debug, PartialEq, Eq)]
+pub enum ColdStop {
+    /// The operation that is past 127 bits.
+    Past(Past),
+    NoMemory,
+}
+
+impl From<Past> for ColdStop {
+    ghost from_gives = { λ p e. e ≡ cold.Past p };
+
+    fn from(p: Past) -> Self {
+        ColdStop::Past(p)
+    }
+}
+
+impl From<AllocError> for ColdStop {
+    ghost from_gives = { λ _ e. e ≡ cold.NoMemory };
+
+    fn from(_: AllocError) -> Self {
+        ColdStop::NoMemory
+    }
+}

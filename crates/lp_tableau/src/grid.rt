@@ -1,0 +1,56 @@
+// Rows of fractions of one width, kept one after the other in one block.
+ghost use Rattle.std.specs.Prelude.{◌≡◌, ◌<◌, [], length, get_or, slice_set};
+ghost use Rattle.spec_simplex.specs.Tableau.{at_place};
+ghost use Rattle.lp_tableau.specs.Grid.{IsBlock, rows_of};
+
+use lp_frac::Frac;
+use std::marker::Model;
+
+#[derive(Drop)]
+pub(crate) struct Grid {
+    height: usize,
+    width: usize,
+    block: Vec<Frac>,
+}
+
+impl Model for Grid {
+    ghost use Rattle.std.specs.Prelude.{List};
+    ghost use Rattle.spec_exact.specs.Fraction.{ℚ};
+    ghost use Rattle.lp_tableau.specs.Grid.{IsBlock, rows_of};
+
+    ghost Value = { List (List ℚ) };
+
+    ghost view = { λ g. rows_of g.width g.height g.block.items };
+
+    ghost invariant = { λ g. IsBlock g.height g.width g.block.items };
+}
+
+impl Grid {
+    pub(crate) fn from_block(height: usize, width: usize, block: Vec<Frac>) -> Grid
+        requires { IsBlock height width block.items }
+        ensures { result ≡ rows_of width height block.items }
+    {
+        Grid {
+            height,
+            width,
+            block,
+        }
+    }
+
+    // What stands in row `i` at column `k`.
+    pub(crate) fn at(&self, i: usize, k: usize) -> Frac
+        requires row { i < length self.now }
+        requires column { k < length (get_or self.now i []) }
+        ensures { result ≡ at_place self.now i k }
+    {
+        self.block[i * self.width + k]
+    }
+
+    pub(crate) fn set(&mut self, i: usize, k: usize, value: Frac)
+        requires row { i < length self.old }
+        requires column { k < length (get_or self.old i []) }
+        ensures { self.new ≡ slice_set self.old i (slice_set (get_or self.old i []) k value) }
+    {
+        self.block[i * self.width + k] = value;
+    }
+}

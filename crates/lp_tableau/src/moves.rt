@@ -1,0 +1,100 @@
+// How the basic columns move with one that is not basic, and flips.
+ghost use Rattle.std.specs.Prelude.{◌≡◌, ◌<◌, Some};
+ghost use Rattle.spec_simplex.specs.Tableau.{all_columns};
+ghost use Rattle.spec_simplex.specs.Step.{CanFlip, directed as directed_by, other_bound as other_bound_of, is_place as is_place_of, moved_at, moved_run, flip_way as flip_way_of, flipped, flip_run};
+ghost use Rattle.lp_frac.specs.Narrow.{largest};
+ghost use Rattle.lp_tableau.specs.Answer.{Gives};
+
+use crate::steps::{less_product, or_zero, stand};
+use crate::tableau::Tableau;
+use lp_form::Status;
+use lp_frac::{Frac, Past, neg, sub};
+
+// `v`, or its negative where the entering column falls.
+fn directed(up: bool, v: Frac) -> Frac
+    ensures { result ≡ directed_by up v }
+{
+    if up { v } else { neg(v) }
+}
+
+fn other_bound(up: bool) -> Status
+    ensures { result ≡ other_bound_of up }
+{
+    if up { Status::AtUpper } else { Status::AtLower }
+}
+
+// Whether a column of this status rises in a flip.
+fn flip_way(status: Status) -> bool
+    ensures { result ≡ flip_way_of status }
+{
+    match status {
+        Status::AtLower => true,
+        Status::Basic | Status::AtUpper | Status::AtZero => false,
+    }
+}
+
+fn is_place(but: Option<u32>, i: u32) -> bool
+    ensures { result ≡ is_place_of but i }
+{
+    match but {
+        Some(place) => i == place,
+        None => false,
+    }
+}
+
+impl Tableau {
+    // The column at position `i` moves with column `col`.
+    fn move_at(&mut self, col: u32, theta: Frac, i: u32) -> Result<(), Past>
+        requires col_in_range { col < all_columns self.old }
+        requires place_in_range { i < self.old.rows }
+        ensures moved { Gives (moved_at (Some largest) self.old col theta i self.old.value) self.new.value result }
+        ensures rest { self.new ≡ record self.old { value = self.new.value } }
+    {
+        let k = self.basic(i) as usize;
+        let value = less_product(self.entry(i, col), theta, self.value[k])?;
+        self.value[k] = value;
+        Ok(())
+    }
+
+    // All basic columns move with column `col`, but for the one at a position, if one is named.
+    pub(crate) fn move_values(
+        &mut self,
+        col: u32,
+        theta: Frac,
+        but: Option<u32>,
+    ) -> Result<(), Past>
+        requires { col < all_columns self.old }
+        ensures moved { Gives (moved_run (Some largest) self.old col theta but) self.new.value result }
+        ensures rest { self.new ≡ record self.old { value = self.new.value } }
+    {
+        for i in 0..self.rows() {
+            if !is_place(but, i) {
+                self.move_at(col, theta, i)?;
+            }
+        }
+        Ok(())
+    }
+
+    // Column `col` stands at the bound `to`.
+    fn put_at(&mut self, col: u32, to: Status)
+        requires { col < all_columns self.old }
+        ensures { self.new ≡ flipped self.old col to self.old.value }
+    {
+        let value = stand(to, self.lower(col), self.upper(col));
+        self.value[col as usize] = value;
+        self.status[col as usize] = to;
+    }
+
+    /// Moves a column to its other bound, and the basic columns with it. After a refusal the tableau
+    /// is spent.
+    pub fn flip(&mut self, col: u32) -> Result<(), Past>
+        requires { CanFlip self.old col }
+        ensures { Gives (flip_run (Some largest) self.old col) self.new result }
+    {
+        let range = sub(or_zero(self.upper(col)), or_zero(self.lower(col)))?;
+        let up = flip_way(self.status(col));
+        self.move_values(col, directed(up, range), None)?;
+        self.put_at(col, other_bound(up));
+        Ok(())
+    }
+}

@@ -1,0 +1,155 @@
+// Pivots.
+ghost use Rattle.std.specs.Prelude.{◌≡◌, ◌≢◌, ◌<◌, Some, length};
+ghost use Rattle.spec_exact.specs.Fraction.{0ℚ};
+ghost use Rattle.spec_simplex.specs.Tableau.{all_columns, at_place, entry_at};
+ghost use Rattle.spec_simplex.specs.Step.{CanPivot, scaled_run, cleared_run, turned_run, repriced_run, shifted_run, exchanged, pivot_run};
+ghost use Rattle.lp_frac.specs.Narrow.{largest};
+ghost use Rattle.lp_tableau.specs.Answer.{Gives};
+ghost use Rattle.lp_tableau.specs.Grid.{IsGrid};
+
+use crate::grid::Grid;
+use crate::steps::{less_product, stand};
+use crate::tableau::Tableau;
+use lp_form::Status;
+use lp_frac::{Frac, Past, add, div, zero};
+
+// Row `p` over its entry in column `j`.
+fn scale(grid: &mut Grid, height: u32, width: u32, p: u32, j: u32) -> Result<(), Past>
+    requires shape { IsGrid height width grid.old }
+    requires place { p < height }
+    requires column { j < width }
+    requires entry { at_place grid.old p j ≢ 0ℚ }
+    ensures rows { Gives (scaled_run (Some largest) width grid.old p j) grid.new result }
+    ensures shape { IsGrid height width grid.new }
+{
+    let by = grid.at(p as usize, j as usize);
+    for k in 0..width {
+        let entry = div(grid.at(p as usize, k as usize), by)?;
+        grid.set(p as usize, k as usize, entry);
+    }
+    Ok(())
+}
+
+// Row `i` less row `p`, as often as makes its entry in column `j` 0.
+fn clear(grid: &mut Grid, height: u32, width: u32, p: u32, j: u32, i: u32) -> Result<(), Past>
+    requires shape { IsGrid height width grid.old }
+    requires place { p < height }
+    requires column { j < width }
+    requires row { i < height }
+    requires other { i ≢ p }
+    ensures rows { Gives (cleared_run (Some largest) width p j i grid.old) grid.new result }
+    ensures shape { IsGrid height width grid.new }
+{
+    let times = grid.at(i as usize, j as usize);
+    for k in 0..width {
+        let entry = less_product(
+            times,
+            grid.at(p as usize, k as usize),
+            grid.at(i as usize, k as usize),
+        )?;
+        grid.set(i as usize, k as usize, entry);
+    }
+    Ok(())
+}
+
+// All rows, so that column `j` has 1 in row `p` and 0 in the others.
+fn turn(grid: &mut Grid, height: u32, width: u32, p: u32, j: u32) -> Result<(), Past>
+    requires shape { IsGrid height width grid.old }
+    requires place { p < height }
+    requires column { j < width }
+    requires entry { at_place grid.old p j ≢ 0ℚ }
+    ensures rows { Gives (turned_run (Some largest) height width grid.old p j) grid.new result }
+    ensures shape { IsGrid height width grid.new }
+{
+    scale(grid, height, width, p, j)?;
+    for i in 0..height {
+        if i != p {
+            clear(grid, height, width, p, j, i)?;
+        }
+    }
+    Ok(())
+}
+
+// The reduced costs less row `p`, as often as makes that of column `j` 0.
+fn reprice(reduced: &mut [Frac], grid: &Grid, height: u32, p: u32, j: u32) -> Result<(), Past>
+    requires shape { IsGrid height (length reduced.old) grid.now }
+    requires place { p < height }
+    requires column { j < length reduced.old }
+    ensures costs { Gives (repriced_run (Some largest) (length reduced.old) reduced.old grid.now p j) reduced.new result }
+    ensures len { length reduced.new ≡ length reduced.old }
+{
+    let times = reduced[j as usize];
+    for k in 0..reduced.len() {
+        reduced[k] = less_product(times, grid.at(p as usize, k), reduced[k])?;
+    }
+    Ok(())
+}
+
+impl Tableau {
+    // Column `col`, which is not basic, moves by `theta`.
+    #[tactic(auto, unfolding(spec_simplex::specs::Step::shifted_run))]
+    fn shift(&mut self, col: u32, theta: Frac) -> Result<(), Past>
+        requires { col < all_columns self.old }
+        ensures value { Gives (shifted_run (Some largest) self.old.value col theta) self.new.value result }
+        ensures rest { self.new ≡ record self.old { value = self.new.value } }
+    {
+        let value = add(self.value[col as usize], theta)?;
+        self.value[col as usize] = value;
+        Ok(())
+    }
+
+    fn turn_rows(&mut self, place: u32, col: u32) -> Result<(), Past>
+        requires place { place < self.old.rows }
+        requires column { col < all_columns self.old }
+        requires entry { entry_at self.old place col ≢ 0ℚ }
+        ensures rows { Gives (turned_run (Some largest) self.old.rows (all_columns self.old) self.old.entries place col) self.new.entries result }
+        ensures rest { self.new ≡ record self.old { entries = self.new.entries } }
+    {
+        let (rows, width) = (self.rows(), self.width());
+        turn(&mut self.grid, rows, width, place, col)
+    }
+
+    fn reprice(&mut self, place: u32, col: u32) -> Result<(), Past>
+        requires place { place < self.old.rows }
+        requires column { col < all_columns self.old }
+        ensures costs { Gives (repriced_run (Some largest) (all_columns self.old) self.old.reduced self.old.entries place col) self.new.reduced result }
+        ensures rest { self.new ≡ record self.old { reduced = self.new.reduced } }
+    {
+        let rows = self.rows();
+        reprice(&mut self.reduced, &self.grid, rows, place, col)
+    }
+
+    // The column at a position goes to the bound `to`, and column `col` takes the position. An
+    // artificial that leaves is at 0 for good.
+    fn exchange(&mut self, place: u32, col: u32, to: Status)
+        requires place { place < self.old.rows }
+        requires column { col < all_columns self.old }
+        ensures { self.new ≡ exchanged self.old place col to }
+    {
+        let leaving = self.basic(place) as usize;
+        let artificials = (self.cols + self.rows) as usize;
+        let value = stand(to, self.lower[leaving], self.upper[leaving]);
+        self.basic[place as usize] = col;
+        self.value[leaving] = value;
+        self.status[leaving] = to;
+        self.status[col as usize] = Status::Basic;
+        if leaving >= artificials {
+            self.lower[leaving] = Some(zero());
+            self.upper[leaving] = Some(zero());
+        }
+    }
+
+    /// Moves column `col` by `theta` and the basic columns with it, and puts it in place of the one at
+    /// a position, which goes to the bound `to`. After a refusal the tableau is spent.
+    pub fn pivot(&mut self, place: u32, col: u32, theta: Frac, to: Status) -> Result<(), Past>
+        requires { CanPivot self.old place col theta to }
+        ensures { Gives (pivot_run (Some largest) self.old place col theta to) self.new result }
+    {
+        self.move_values(col, theta, Some(place))?;
+        self.shift(col, theta)?;
+        self.turn_rows(place, col)?;
+        self.reprice(place, col)?;
+        self.exchange(place, col, to);
+        Ok(())
+    }
+}

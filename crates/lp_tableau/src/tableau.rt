@@ -1,0 +1,135 @@
+// Tableaus and their readers.
+ghost use Rattle.std.specs.Prelude.{◌≡◌, ◌<◌, ◌≤◌};
+ghost use Rattle.spec_simplex.specs.Tableau.{IsTableauShape, all_columns, entry_at, basic_at, value_at, reduced_at, status_at, lower_at, upper_at};
+
+use crate::grid::Grid;
+use lp_form::Status;
+use lp_frac::Frac;
+use std::marker::Model;
+
+/// A tableau: for each of `rows` positions a basic column and a row over `cols + 2 * rows` columns,
+/// and for each column its value, its reduced cost, its status and its bounds.
+///
+/// The columns are the structural ones, then the logical and then the artificial ones of the rows.
+#[derive(Drop)]
+pub struct Tableau {
+    pub(crate) rows: u32,
+    pub(crate) cols: u32,
+    pub(crate) grid: Grid,
+    pub(crate) basic: Vec<u32>,
+    pub(crate) value: Vec<Frac>,
+    pub(crate) reduced: Vec<Frac>,
+    pub(crate) status: Vec<Status>,
+    pub(crate) lower: Vec<Option<Frac>>,
+    pub(crate) upper: Vec<Option<Frac>>,
+}
+
+impl Model for Tableau {
+    ghost use Rattle.spec_simplex.specs.Tableau as plain;
+
+    ghost Value = { plain.Tableau };
+
+    ghost view = { λ t. record {
+      rows = t.rows;
+      cols = t.cols;
+      entries = t.grid;
+      basic = t.basic.items;
+      value = t.value.items;
+      reduced = t.reduced.items;
+      status = t.status.items;
+      lower = t.lower.items;
+      upper = t.upper.items;
+    } };
+
+    ghost invariant = { λ t. plain.IsTableauShape (record {
+      rows = t.rows;
+      cols = t.cols;
+      entries = t.grid;
+      basic = t.basic.items;
+      value = t.value.items;
+      reduced = t.reduced.items;
+      status = t.status.items;
+      lower = t.lower.items;
+      upper = t.upper.items;
+    }) };
+}
+
+impl Tableau {
+    /// How many positions there are.
+    pub fn rows(&self) -> u32
+        ensures value { result ≡ self.now.rows }
+        ensures bound { result ≤ 256 }
+    {
+        self.rows
+    }
+
+    /// How many structural columns there are.
+    pub fn cols(&self) -> u32
+        ensures value { result ≡ self.now.cols }
+        ensures bound { result ≤ 512 }
+    {
+        self.cols
+    }
+
+    /// How many columns there are, and so how many items each list of columns has.
+    pub fn width(&self) -> u32
+        ensures value { result ≡ all_columns self.now }
+        ensures shape { IsTableauShape self.now }
+    {
+        self.cols + 2 * self.rows
+    }
+
+    /// What stands in the row of a position at column `col`.
+    pub fn entry(&self, place: u32, col: u32) -> Frac
+        requires place_in_range { place < self.now.rows }
+        requires col_in_range { col < all_columns self.now }
+        ensures { result ≡ entry_at self.now place col }
+    {
+        self.grid.at(place as usize, col as usize)
+    }
+
+    /// The basic column of a position.
+    pub fn basic(&self, place: u32) -> u32
+        requires { place < self.now.rows }
+        ensures value { result ≡ basic_at self.now place }
+        ensures inside { result < all_columns self.now }
+    {
+        self.basic[place as usize]
+    }
+
+    pub fn value(&self, col: u32) -> Frac
+        requires { col < all_columns self.now }
+        ensures { result ≡ value_at self.now col }
+    {
+        self.value[col as usize]
+    }
+
+    /// The reduced cost.
+    pub fn reduced(&self, col: u32) -> Frac
+        requires { col < all_columns self.now }
+        ensures { result ≡ reduced_at self.now col }
+    {
+        self.reduced[col as usize]
+    }
+
+    pub fn status(&self, col: u32) -> Status
+        requires { col < all_columns self.now }
+        ensures { result ≡ status_at self.now col }
+    {
+        self.status[col as usize]
+    }
+
+    pub fn lower(&self, col: u32) -> Option<Frac>
+        requires { col < all_columns self.now }
+        ensures { result ≡ lower_at self.now col }
+    {
+        self.lower[col as usize]
+    }
+
+    pub fn upper(&self, col: u32) -> Option<Frac>
+        requires { col < all_columns self.now }
+        ensures { result ≡ upper_at self.now col }
+    {
+        self.upper[col as usize]
+    }
+}

@@ -1,0 +1,105 @@
+-- What a cold solve ends with is true.
+use Rattle.std.proofs.Common.{◌≡◌, ⊎_elim, ℕ, ◌+◌, ◌*◌, ◌^◌, ◌≤◌, List, Option, None, Result, Ok, Err, refl, sym, ap, ◌∙◌, subst, arith}
+use Rattle.spec_exact.specs.Fraction.{ℚ}
+use Rattle.spec_exact.specs.declared.past.Past.{Past}
+use Rattle.spec_model.specs.Model.{Model, width, height}
+use Rattle.spec_check.specs.declared.certificate.Certificate.{Certificate}
+use Rattle.spec_check.specs.declared.certificate.Certificate.TheVariants as certificate
+use Rattle.spec_check.specs.declared.certificate.Known.{Known}
+use Rattle.spec_check.specs.Certificate.{IsFor, shown, Holds}
+use Rattle.spec_check.specs.Run.{Agrees, check_run}
+use Rattle.spec_check.proofs.RunAgrees.{run_agrees}
+use Rattle.spec_check.proofs.RunComplete.{run_complete}
+use Rattle.spec_check.proofs.RunSound.{run_sound}
+use Rattle.spec_check.proofs.Sound.{checks_hold}
+use Rattle.spec_pivot.specs.declared.status.Status.{Status}
+use Rattle.spec_simplex.specs.declared.ends.FormFault.{FormFault}
+use Rattle.spec_simplex.specs.declared.ends.FormFault.TheVariants as fault
+use Rattle.spec_simplex.specs.declared.ends.Stop.{Stop as Spending}
+use Rattle.spec_simplex.specs.declared.ends.Stop.TheVariants as stop
+use Rattle.spec_simplex.specs.Form.{Form, form_of}
+use Rattle.spec_simplex.specs.Phases.{PhasesEnd, phases_run}
+use Rattle.spec_cold.specs.declared.outcome.Cold.TheVariants as outcome
+use Rattle.spec_cold.specs.Begins.{IsProper}
+use Rattle.spec_cold.specs.Cold.{ColdEnd, certificate_of, basis_of, pivots_of, checked, answered, after_phases, after_form, cold}
+use Rattle.spec_cold.specs.Accepted.{IsAccepted}
+use Rattle.spec_cold.proofs.Formed.{form_is, formed_proper, clash_is}
+use Rattle.spec_cold.proofs.Phases.{Shows, phases_show, phases_enough}
+
+pub form_proper : (limit : Option ℕ) (m : Model) (f : Form) → form_of limit m ≡ Ok f → IsProper f
+form_proper limit m f e = let o = form_is limit m f e in subst IsProper o.2 (formed_proper m o.0 o.1)
+
+accepted : (limit : Option ℕ) (m : Model) (c : Certificate (List ℚ)) → Shows m c → IsAccepted limit m c
+accepted limit m c s = record {
+  fits = s.for;
+  holds = s.checks;
+  accepted = run_complete m c s.checks;
+  limited = subst (λ o. Agrees (check_run limit m c) o) (run_complete m c s.checks) (run_agrees limit m c);
+}
+
+pub end_accepted : (limit : Option ℕ) (budget : ℕ) (m : Model) (f : Form) (e : PhasesEnd) → form_of limit m ≡ Ok f → phases_run limit budget f ≡ Ok e → IsAccepted limit m (certificate_of e)
+end_accepted limit budget m f e p q =
+    let o = form_is limit m f p in
+    accepted limit m (certificate_of e) (phases_show limit m o.0 o.1 budget e (ap (phases_run limit budget) o.2 ∙ q))
+
+pub clash_accepted : (limit : Option ℕ) (m : Model) (j : ℕ) → form_of limit m ≡ Err (fault.Clash j) → IsAccepted limit m (certificate.Clash j)
+clash_accepted limit m j e = let c = clash_is limit m j e in accepted limit m (certificate.Clash j) (record { for = c.inside; checks = c })
+
+-- ---- by what the checker says
+pub record IsTrueEnd (limit : Option ℕ) (m : Model) (answer : Known ℚ) (c : Certificate (List ℚ)) : Type 0 where
+  pub accepted : IsAccepted limit m c
+  pub checks : check_run limit m c ≡ Ok answer
+
+module _ (limit : Option ℕ) (budget : ℕ) (m : Model) (P : ColdEnd → Type 0)
+    (ended : (answer : Known ℚ) (c : Certificate (List ℚ)) (basis : Option (List Status)) (pivots : ℕ) → IsTrueEnd limit m answer c → P (outcome.Ended answer c basis pivots))
+    (past : (p : Past ℚ) → P (outcome.Past p))
+    (spent : (f : Form) → form_of limit m ≡ Ok f → phases_run limit budget f ≡ Err stop.Spent → P outcome.Spent) where
+  by_check : (c : Certificate (List ℚ)) (basis : Option (List Status)) (pivots : ℕ) → IsAccepted limit m c → P (answered limit m c basis pivots)
+  unfolding Agrees
+  by_check c basis pivots a =
+      ⊎_elim
+      (λ e. subst (λ o. P (checked c basis pivots o)) (sym e) (ended (shown m c) c basis pivots (record { accepted = a; checks = e })))
+      (λ p. subst (λ o. P (checked c basis pivots o)) (sym p.1) (past p.0))
+      a.limited
+
+  pub by_end : P (cold limit budget m)
+  unfolding cold
+  by_end = with_form (form_of limit m) refl
+    where
+      with_phases : (f : Form) → form_of limit m ≡ Ok f → (o : Result PhasesEnd (Spending ℚ)) → phases_run limit budget f ≡ o → P (after_phases limit m o)
+      with_phases f p (Ok e) q = by_check (certificate_of e) (basis_of e) (pivots_of e) (end_accepted limit budget m f e p q)
+      with_phases f p (Err (stop.Past v)) q = past v
+      with_phases f p (Err stop.Spent) q = spent f p q
+
+      with_form : (o : Result Form (FormFault ℚ)) → form_of limit m ≡ o → P (after_form limit budget m o)
+      with_form (Ok f) p = with_phases f p (phases_run limit budget f) refl
+      with_form (Err (fault.Clash j)) p = by_check (certificate.Clash j) None 0 (clash_accepted limit m j p)
+      with_form (Err (fault.Past v)) p = past v
+
+-- ---- the laws
+pub ended_is_true : (limit : Option ℕ) (budget : ℕ) (m : Model) (answer : Known ℚ) (c : Certificate (List ℚ)) (basis : Option (List Status)) (pivots : ℕ) → cold limit budget m ≡ outcome.Ended answer c basis pivots
+    → Holds m answer × (check_run limit m c ≡ Ok answer)
+ended_is_true limit budget m answer c basis pivots =
+    by_end limit budget m (λ e. e ≡ outcome.Ended answer c basis pivots → Holds m answer × (check_run limit m c ≡ Ok answer))
+    (λ a d basis' pivots' t e.
+    let same_answer : a ≡ answer = cc in
+    let same_certificate : d ≡ c = cc in
+    let checks : check_run limit m c ≡ Ok answer = ap (check_run limit m) (sym same_certificate) ∙ t.checks ∙ ap Ok same_answer in
+    let r = run_sound limit m c answer (subst (IsFor m) same_certificate t.accepted.fits) checks in
+    (subst (Holds m) (sym r.1) (checks_hold m c r.0), checks))
+    (λ p e. let z : ◌≡◌ {A = ColdEnd} (outcome.Past p) (outcome.Ended answer c basis pivots) = e in cc)
+    (λ f p q e. let z : ◌≡◌ {A = ColdEnd} outcome.Spent (outcome.Ended answer c basis pivots) = e in cc)
+
+pub spent_is_spent : (limit : Option ℕ) (budget : ℕ) (m : Model) → cold limit budget m ≡ outcome.Spent → (f : Form) × (form_of limit m ≡ Ok f) × (phases_run limit budget f ≡ Err stop.Spent)
+spent_is_spent limit budget m =
+    by_end limit budget m (λ e. e ≡ outcome.Spent → (f : Form) × (form_of limit m ≡ Ok f) × (phases_run limit budget f ≡ Err stop.Spent))
+    (λ a d basis pivots t e. let z : ◌≡◌ {A = ColdEnd} (outcome.Ended a d basis pivots) outcome.Spent = e in cc)
+    (λ p e. let z : ◌≡◌ {A = ColdEnd} (outcome.Past p) outcome.Spent = e in cc)
+    (λ f p q e. (f, p, q))
+
+pub enough : (limit : Option ℕ) (budget : ℕ) (m : Model) → 2 * 3 ^ (width m + 2 * height m) ≤ budget → ¬ (cold limit budget m ≡ outcome.Spent)
+enough limit budget m h e =
+    let s = spent_is_spent limit budget m e in
+    let o = form_is limit m s.0 s.1 in
+    let z : width m + 2 * height m ≡ width m + height m + height m = omega arith in
+    phases_enough limit m o.0 o.1 budget (subst (λ k. 2 * 3 ^ k ≤ budget) z h) (ap (phases_run limit budget) o.2 ∙ s.2)

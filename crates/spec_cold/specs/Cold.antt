@@ -1,0 +1,105 @@
+-- The cold solve of a model, at a limit and within a budget: its form, both phases, and the check of what they ended with.
+use Rattle.std.specs.Prelude.{ℕ, zero, suc, ◌+◌, List, Option, Some, None, Result, Ok, Err, Bool, true, false, nat_le, nat_eq, ◌&&◌, if◌then◌else◌}
+use Rattle.spec_exact.specs.Fraction.{ℚ, 0ℚ, 1ℚ, neg_ℚ}
+use Rattle.spec_model.specs.Model.{Model}
+use Rattle.spec_check.specs.declared.certificate.Certificate.{Certificate}
+use Rattle.spec_check.specs.declared.certificate.Certificate.TheVariants as certificate
+use Rattle.spec_check.specs.declared.certificate.Known.{Known}
+use Rattle.spec_check.specs.declared.certificate.Stop.{Stop}
+use Rattle.spec_check.specs.declared.certificate.Stop.TheVariants as check
+use Rattle.spec_check.specs.Run.{check_run}
+use Rattle.spec_pivot.specs.declared.status.Status.{Status}
+use Rattle.spec_pivot.specs.declared.status.Status.TheVariants.{Basic, AtLower, AtUpper, AtZero}
+use Rattle.spec_simplex.specs.declared.ends.FormFault.{FormFault}
+use Rattle.spec_simplex.specs.declared.ends.FormFault.TheVariants as fault
+use Rattle.spec_simplex.specs.declared.ends.PrimalEnd.{PrimalEnd}
+use Rattle.spec_simplex.specs.declared.ends.PrimalEnd.TheVariants.{Optimal, Unbounded}
+use Rattle.spec_simplex.specs.declared.ends.Stop.{Stop as Spending}
+use Rattle.spec_simplex.specs.declared.ends.Stop.TheVariants as stop
+use Rattle.spec_simplex.specs.Run.{made}
+use Rattle.spec_simplex.specs.Form.{Form, form_of}
+use Rattle.spec_simplex.specs.Tableau.{Tableau, form_columns, basic_at, entry_at, value_at, reduced_at, status_at}
+use Rattle.spec_simplex.specs.Step.{directed}
+use Rattle.spec_simplex.specs.Phases.{PhasesEnd, Infeasible, Finished, phases_run}
+use Rattle.spec_cold.specs.declared.outcome.Cold.{Cold}
+use Rattle.spec_cold.specs.declared.outcome.Cold.TheVariants as outcome
+
+abbrev pub ColdEnd : Type 0
+ColdEnd = Cold ℚ (List ℚ) (List Status)
+
+-- ---- certificates of ends
+-- the values of the model's columns
+abbrev pub point : Tableau → List ℚ
+point t = made t.cols (value_at t)
+
+-- the reduced costs of the rows' logicals
+abbrev pub multipliers : Tableau → List ℚ
+multipliers t = made t.rows (λ i. reduced_at t (t.cols + i))
+
+-- how column k moves while column j enters and rises or falls by 1: by the last of the first m positions at which it is basic
+abbrev pub moves_below : Tableau → ℕ → Bool → ℕ → ℕ → ℚ
+moves_below t j up k zero = if nat_eq k j then directed up 1ℚ else 0ℚ
+moves_below t j up k (suc m) = if nat_eq (basic_at t m) k then neg_ℚ (directed up (entry_at t m j)) else moves_below t j up k m
+
+abbrev pub moves_by : Tableau → ℕ → Bool → ℕ → ℚ
+moves_by t j up k = moves_below t j up k t.rows
+
+-- the same of the model's columns
+abbrev pub direction : Tableau → ℕ → Bool → List ℚ
+direction t j up = made t.cols (moves_by t j up)
+
+abbrev pub certificate_at : Tableau → PrimalEnd → Certificate (List ℚ)
+certificate_at t Optimal = certificate.Optimal (point t) (multipliers t)
+certificate_at t (Unbounded j up) = certificate.Unbounded (point t) (direction t j up)
+
+abbrev pub certificate_of : PhasesEnd → Certificate (List ℚ)
+certificate_of (Infeasible t used) = certificate.Infeasible (multipliers t)
+certificate_of (Finished e) = certificate_at e.tableau e.end
+
+-- ---- the basis of an optimal end
+abbrev pub is_basic : Status → Bool
+is_basic Basic = true
+is_basic AtLower = false
+is_basic AtUpper = false
+is_basic AtZero = false
+
+-- a logical whose row's artificial is basic counts as basic in its place
+abbrev pub basis_status : Tableau → ℕ → Status
+basis_status t k = if nat_le t.cols k && is_basic (status_at t (k + t.rows)) then Basic else status_at t k
+
+-- the statuses of the model's columns and of the rows' logicals
+abbrev pub basis_at : Tableau → PrimalEnd → Option (List Status)
+basis_at t Optimal = Some (made (form_columns t) (basis_status t))
+basis_at t (Unbounded j up) = None
+
+abbrev pub basis_of : PhasesEnd → Option (List Status)
+basis_of (Infeasible t used) = None
+basis_of (Finished e) = basis_at e.tableau e.end
+
+abbrev pub pivots_of : PhasesEnd → ℕ
+pivots_of (Infeasible t used) = used
+pivots_of (Finished e) = e.used
+
+-- ---- the certificate is checked, at the same limit
+-- A certificate of an end is always accepted, or an operation is refused: so the last case never comes.
+abbrev pub checked : Certificate (List ℚ) → Option (List Status) → ℕ → Result (Known ℚ) (Stop ℚ) → ColdEnd
+checked certificate basis pivots (Ok answer) = outcome.Ended answer certificate basis pivots
+checked certificate basis pivots (Err (check.Past p)) = outcome.Past p
+checked certificate basis pivots (Err (check.No n)) = outcome.Spent
+
+abbrev pub answered : Option ℕ → Model → Certificate (List ℚ) → Option (List Status) → ℕ → ColdEnd
+answered limit m certificate basis pivots = checked certificate basis pivots (check_run limit m certificate)
+
+-- ---- the whole solve
+abbrev pub after_phases : Option ℕ → Model → Result PhasesEnd (Spending ℚ) → ColdEnd
+after_phases limit m (Ok e) = answered limit m (certificate_of e) (basis_of e) (pivots_of e)
+after_phases limit m (Err (stop.Past p)) = outcome.Past p
+after_phases limit m (Err stop.Spent) = outcome.Spent
+
+abbrev pub after_form : Option ℕ → ℕ → Model → Result Form (FormFault ℚ) → ColdEnd
+after_form limit budget m (Ok f) = after_phases limit m (phases_run limit budget f)
+after_form limit budget m (Err (fault.Clash j)) = answered limit m (certificate.Clash j) None 0
+after_form limit budget m (Err (fault.Past p)) = outcome.Past p
+
+unfoldable pub cold : Option ℕ → ℕ → Model → ColdEnd
+cold limit budget m = after_form limit budget m (form_of limit m)

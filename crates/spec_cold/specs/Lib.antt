@@ -1,0 +1,4 @@
+pub mod Accepted
+pub mod Begins
+pub mod Cold
+pub mod Tables

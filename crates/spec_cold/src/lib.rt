@@ -1,0 +1,107 @@
+//! The cold solve of a model: its definition, and the law that what it ends with is true.
+//!
+//! | Word | What it is | Where |
+//! |---|---|---|
+//! | `Cold` | how a cold solve ends | src/outcome |
+//! | `cold` | the cold solve of a model, at a limit and within a budget | specs/Cold |
+//! | `certificate_of`, `basis_of` | the certificate and the basis of what both phases end with | specs/Cold |
+//! | `IsAccepted`, `IsAnswered` | what is promised of a certificate and of an answer | specs/Accepted |
+//! | `table_of`, `bounds_of` | a tableau of lists, by the numbers of positions and columns | specs/Tables |
+//! | `IsTableauOf` | a tableau of these rows, costs and bounds, with each value within its bounds | specs/Tables |
+//! | `IsMeant` | what a choice of the run means for a tableau | specs/Tables |
+//! | `form_rows`, `IsProper`, `Begins` | a form's equations, and the tableau that it begins with | specs/Begins |
+//!
+//! The functions here have the laws as their contracts. Each law holds at every limit: a run at a limit that gives a result
+//! gives the exact one.
+//!
+//! The run on lists is that of `spec_simplex`, the steps on functions of an index are those of `spec_pivot`, and the
+//! certificates and their checker those of `spec_check`.
+#![tactic(auto)]
+
+mod outcome;
+
+ghost use Rattle.std.specs.Prelude.{◌≡◌, ◌⊎◌, ◌+◌, ◌*◌, ◌^◌, ◌≤◌, ℕ, List, length, Option, None, Ok, Err, false};
+ghost use Rattle.spec_exact.specs.Fraction.{ℚ};
+ghost use Rattle.spec_exact.specs.declared.past.Past.{Past};
+ghost use Rattle.spec_model.specs.Model.{Model, width, height};
+ghost use Rattle.spec_check.specs.declared.certificate.Certificate.{Certificate};
+ghost use Rattle.spec_check.specs.declared.certificate.Certificate.TheVariants as certificate;
+ghost use Rattle.spec_check.specs.declared.certificate.Known.{Known};
+ghost use Rattle.spec_check.specs.Certificate.{Holds};
+ghost use Rattle.spec_check.specs.Run.{check_run};
+ghost use Rattle.spec_pivot.specs.declared.status.Status.{Status};
+ghost use Rattle.spec_pivot.specs.Tableau.{Matrix};
+ghost use Rattle.spec_pivot.specs.Simplex.{Bounds};
+ghost use Rattle.spec_simplex.specs.declared.ends.Choice.{Choice};
+ghost use Rattle.spec_simplex.specs.declared.ends.FormFault.TheVariants as fault;
+ghost use Rattle.spec_simplex.specs.declared.ends.Stop.TheVariants as stop;
+ghost use Rattle.spec_simplex.specs.Form.{Form, form_of};
+ghost use Rattle.spec_simplex.specs.Tableau.{Tableau};
+ghost use Rattle.spec_simplex.specs.Start.{cost_at, start_of};
+ghost use Rattle.spec_simplex.specs.Step.{choice_run};
+ghost use Rattle.spec_simplex.specs.Phases.{PhasesEnd, is_stuck, phase_two_run, phases_run};
+ghost use Rattle.spec_cold.specs.declared.outcome.Cold.TheVariants as outcome;
+ghost use Rattle.spec_cold.specs.Tables.{bounds_of, IsTableauOf, IsMeant};
+ghost use Rattle.spec_cold.specs.Begins.{IsProper, Begins};
+ghost use Rattle.spec_cold.specs.Cold.{cold, certificate_of};
+ghost use Rattle.spec_cold.specs.Accepted.{IsAccepted, IsAnswered};
+
+pub use outcome::Cold;
+
+/// A choice of the run means what the rule of the least index says: its flips and pivots are steps by the rule to tableaus
+/// of the same rows, costs and bounds; where it ends, no column is eligible, or the one that enters is never stopped.
+pub fn steps_mean_pivots()
+    ensures { (limit : Option ℕ) (m n : ℕ) (f : Matrix) (cost : ℕ → ℚ) (b : Bounds) (t : Tableau) (choice : Choice ℚ) →
+        IsTableauOf m n f cost b t → choice_run limit t ≡ Ok choice → IsMeant m n f cost b limit t choice }
+{}
+
+/// The form of a model begins with a tableau of the form's equations, with each value within its bounds.
+pub fn starts_are_tableaus()
+    ensures forms { (limit : Option ℕ) (m : Model) (f : Form) → form_of limit m ≡ Ok f → IsProper f }
+    ensures starts { (limit : Option ℕ) (f : Form) (t : Tableau) → IsProper f → start_of limit f ≡ Ok t → Begins f t }
+{}
+
+/// Where phase one leaves no artificial that is not 0, phase two begins with a tableau of the same rows and of its own
+/// costs, with each value within its bounds.
+pub fn phase_two_goes_on()
+    ensures { (limit : Option ℕ) (form : Form) (m n : ℕ) (f : Matrix) (cost : ℕ → ℚ) (b : Bounds) (t u : Tableau) →
+        IsTableauOf m n f cost b t → is_stuck t ≡ false → length form.cost ≤ n + m + m → phase_two_run limit form t ≡ Ok u →
+        IsTableauOf m n f (cost_at form.cost) (bounds_of u) u }
+{}
+
+/// The certificate of what both phases end with, or of a clash, is accepted without a limit, and at a limit unless an
+/// operation is refused.
+pub fn ends_are_accepted()
+    ensures phases { (limit : Option ℕ) (budget : ℕ) (m : Model) (f : Form) (e : PhasesEnd) →
+        form_of limit m ≡ Ok f → phases_run limit budget f ≡ Ok e → IsAccepted limit m (certificate_of e) }
+    ensures clash { (limit : Option ℕ) (m : Model) (j : ℕ) →
+        form_of limit m ≡ Err (fault.Clash j) → IsAccepted limit m (certificate.Clash j) }
+{}
+
+/// What a cold solve ends with is true, and the checker accepts its certificate. It is spent only where the phases are.
+pub fn cold_ends_true()
+    ensures ended { (limit : Option ℕ) (budget : ℕ) (m : Model) (answer : Known ℚ) (cert : Certificate (List ℚ)) (basis : Option (List Status)) (pivots : ℕ) →
+        cold limit budget m ≡ outcome.Ended answer cert basis pivots → Holds m answer × (check_run limit m cert ≡ Ok answer) }
+    ensures spent { (limit : Option ℕ) (budget : ℕ) (m : Model) →
+        cold limit budget m ≡ outcome.Spent → (f : Form) × (form_of limit m ≡ Ok f) × (phases_run limit budget f ≡ Err stop.Spent) }
+{}
+
+/// Each phase has fewer steps than there are ways to give each of its columns one of three statuses, so twice as many are
+/// enough for both (Bland, New finite pivoting rules for the simplex method).
+pub fn a_stated_budget_is_enough()
+    ensures { (limit : Option ℕ) (budget : ℕ) (m : Model) →
+        2 * 3 ^ (width m + 2 * height m) ≤ budget → ¬ (cold limit budget m ≡ outcome.Spent) }
+{}
+
+/// At a limit a cold solve is the one without a limit, or an operation is refused. Without a limit none is.
+pub fn cold_limits_only_refuse()
+    ensures same { (limit : Option ℕ) (budget : ℕ) (m : Model) →
+        (cold limit budget m ≡ cold None budget m) ⊎ ((p : Past ℚ) × (cold limit budget m ≡ outcome.Past p)) }
+    ensures exact { (budget : ℕ) (m : Model) (p : Past ℚ) → ¬ (cold None budget m ≡ outcome.Past p) }
+{}
+
+/// So each model is decided: it has an optimal value, or no feasible point, or points that get better without end, and the
+/// cold solve without a limit says which.
+pub fn every_model_is_decided()
+    ensures { (budget : ℕ) (m : Model) → 2 * 3 ^ (width m + 2 * height m) ≤ budget → IsAnswered budget m }
+{}

@@ -1,0 +1,14 @@
+pub mod Best
+pub mod Bland
+pub mod Count
+pub mod Cycle
+pub mod Instance
+pub mod Kept
+pub mod Pivot
+pub mod Ratio
+pub mod Ray
+pub mod Same
+pub mod Stays
+pub mod Steps
+pub mod Unique
+pub mod Values

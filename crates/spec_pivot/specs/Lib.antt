@@ -1,0 +1,3 @@
+pub mod Tableau
+pub mod Simplex
+pub mod Ratio

@@ -1,0 +1,82 @@
+-- Runs over places in order, step by step: one more place, and a refusal at a place, which stays so at the places after it.
+use Rattle.std.proofs.Common.{◌≡◌, ℕ, zero, suc, ◌+◌, ◌-◌, ◌<◌, List, [], ◌∷◌, ◌++◌, length, get_or, Result, Ok, Err, ⊎_elim, refl, sym, subst, ap, ◌∙◌, arith}
+use Rattle.std.proofs.lemmas.Bool.{cases_eq}
+use Rattle.std.proofs.lemmas.List.{length-append}
+use Rattle.std.proofs.lemmas.List.Elements.{All-nil, All-push}
+use Rattle.std.specs.Prelude.{All}
+use Rattle.std.proofs.Math.ListN.{get_or-append}
+use Rattle.std.proofs.Math.Seq.{get_or-append_seam}
+use Rattle.spec_exact.specs.Fraction.{ℚ}
+use Rattle.spec_exact.specs.declared.past.Past.{Past}
+use Rattle.spec_simplex.specs.Run.{Run, ◌>>=◌, steps, list_run, made}
+
+next_is : (k : ℕ) → k + 1 ≡ suc k
+next_is k = omega arith
+
+up_to : (k n : ℕ) → k < n → suc k + (n - suc k) ≡ n
+up_to k n h = omega arith
+
+-- ---- steps
+steps_stay : {A E : Type 0} (n d : ℕ) (f : ℕ → A → Result A E) (a : A) (e : E) → steps n f a ≡ Err e → steps (n + d) f a ≡ Err e
+steps_stay n zero f a e h = (let z : n + 0 ≡ n = omega arith in ap (λ k. steps k f a) z) ∙ h
+steps_stay n (suc d) f a e h = (let z : n + suc d ≡ suc (n + d) = omega arith in ap (λ k. steps k f a) z) ∙ ap (λ o. o >>= λ b. f (n + d) b) (steps_stay n d f a e h)
+
+-- one more step
+pub steps_more : {A E : Type 0} (k : ℕ) (f : ℕ → A → Result A E) (a b c : A) → steps k f a ≡ Ok b → f k b ≡ Ok c → steps (k + 1) f a ≡ Ok c
+steps_more k f a b c h g = ap (λ i. steps i f a) (next_is k) ∙ ap (λ o. o >>= λ b. f k b) h ∙ g
+
+-- a stop at step k stops all n
+pub steps_stop : {A E : Type 0} (k n : ℕ) (f : ℕ → A → Result A E) (a b : A) (e : E) → k < n → steps k f a ≡ Ok b → f k b ≡ Err e → steps n f a ≡ Err e
+steps_stop k n f a b e p h g =
+    subst (λ i. steps i f a ≡ Err e) (up_to k n p) (steps_stay (suc k) (n - suc k) f a e (ap (λ o. o >>= λ b. f k b) h ∙ g))
+
+-- ---- lists
+list_stays : {A : Type 0} (n d : ℕ) (f : ℕ → Run A) (e : Past ℚ) → list_run n f ≡ Err e → list_run (n + d) f ≡ Err e
+list_stays n zero f e h = (let z : n + 0 ≡ n = omega arith in ap (λ k. list_run k f) z) ∙ h
+list_stays n (suc d) f e h =
+    (let z : n + suc d ≡ suc (n + d) = omega arith in ap (λ k. list_run k f) z)
+    ∙ ap (λ o. o >>= λ xs. f (n + d) >>= λ x. Ok (xs ++ x ∷ [])) (list_stays n d f e h)
+
+-- one more item
+pub list_more : {A : Type 0} (k : ℕ) (f : ℕ → Run A) (xs : List A) (x : A) → list_run k f ≡ Ok xs → f k ≡ Ok x → list_run (k + 1) f ≡ Ok (xs ++ x ∷ [])
+list_more k f xs x h g =
+    ap (λ i. list_run i f) (next_is k) ∙ ap (λ o. o >>= λ xs. f k >>= λ x. Ok (xs ++ x ∷ [])) h ∙ ap (λ o. o >>= λ x. Ok (xs ++ x ∷ [])) g
+
+-- a refusal of item k stops the list of n
+pub list_stops : {A : Type 0} (k n : ℕ) (f : ℕ → Run A) (xs : List A) (e : Past ℚ) → k < n → list_run k f ≡ Ok xs → f k ≡ Err e → list_run n f ≡ Err e
+list_stops k n f xs e p h g =
+    subst (λ i. list_run i f ≡ Err e) (up_to k n p)
+    (list_stays (suc k) (n - suc k) f e (ap (λ o. o >>= λ xs. f k >>= λ x. Ok (xs ++ x ∷ [])) h ∙ ap (λ o. o >>= λ x. Ok (xs ++ x ∷ [])) g))
+
+-- ---- lists without operations
+pub length-made : {A : Type 0} (n : ℕ) (f : ℕ → A) → length (made n f) ≡ n
+length-made zero f = refl
+length-made (suc n) f = omega (arith, length-append (made n f) (f n ∷ []), length-made n f)
+
+-- one more item
+pub made_more : {A : Type 0} (k : ℕ) (f : ℕ → A) (xs : List A) → xs ≡ made k f → xs ++ f k ∷ [] ≡ made (k + 1) f
+made_more k f xs h = ap (λ ys. ys ++ f k ∷ []) h ∙ ap (λ i. made i f) (sym (next_is k))
+
+pub length-list_run : {A : Type 0} (n : ℕ) (f : ℕ → Run A) (xs : List A) → list_run n f ≡ Ok xs → length xs ≡ n
+length-list_run zero f xs e = let g : xs ≡ [] = cc in ap length g
+length-list_run {A} (suc n) f xs e = by (list_run n f) (f n) e (λ ys h. length-list_run n f ys h)
+  where
+    by : (o : Run (List A)) (p : Run A) → (o >>= λ ys. p >>= λ x. Ok (ys ++ x ∷ [])) ≡ Ok xs → ((ys : List A) → o ≡ Ok ys → length ys ≡ n) → length xs ≡ suc n
+    by (Ok ys) (Ok x) e h = let g : xs ≡ ys ++ x ∷ [] = cc in omega (arith, ap length g, length-append ys (x ∷ []), h ys refl)
+    by (Ok ys) (Err p) e h = cc
+    by (Err p) o e h = cc
+
+pub get_or-made : {A : Type 0} (n : ℕ) (f : ℕ → A) (i : ℕ) (d : A) → i < n → get_or (made n f) i d ≡ f i
+get_or-made zero f i d h = absurd (omega arith)
+get_or-made {A} (suc n) f i d h = ⊎_elim at_end (λ ne. before (get_or-made n f i d) (omega (arith, ne))) (cases_eq i n)
+  where
+    at_end : i ≡ n → get_or (made n f ++ f n ∷ []) i d ≡ f i
+    at_end e =
+        ap (λ k. get_or (made n f ++ f n ∷ []) k d) (e ∙ sym (length-made n f)) ∙ get_or-append_seam (made n f) (f n) [] d ∙ ap f (sym e)
+
+    before : (i < n → get_or (made n f) i d ≡ f i) → i < n → get_or (made n f ++ f n ∷ []) i d ≡ f i
+    before g l = get_or-append (made n f) (f n ∷ []) d i (omega (arith, l, length-made n f)) ∙ g l
+
+pub All-made : {A : Type 0} (P : A → Type 0) (n : ℕ) (f : ℕ → A) → ((i : ℕ) → i < n → P (f i)) → All P (made n f)
+All-made P zero f h = All-nil P
+All-made P (suc n) f h = All-push P (made n f) (f n) (All-made P n f (λ i l. h i (omega arith))) (h n (omega arith))

@@ -1,0 +1,88 @@
+-- A tableau: for each position a basic column and a row, for each column its value, its reduced cost, its status and its
+-- bounds.
+--
+-- The columns are those of the form and then an artificial for each row. A row t of the tableau says that the sum of
+-- t_k x_k over all columns is 0; it has 1 at its own basic column and 0 at those of the other positions.
+use Rattle.std.specs.Prelude.{◌≡◌, ℕ, ◌+◌, ◌<◌, ◌≤◌, List, [], length, get_or, Option, Some, None, Bool, false, nat_le, All}
+use Rattle.spec_exact.specs.Fraction.{ℚ, 0ℚ, eq_ℚ}
+use Rattle.spec_model.specs.Kept.{row_limit, column_limit}
+use Rattle.spec_pivot.specs.declared.status.Status.{Status}
+use Rattle.spec_pivot.specs.declared.status.Status.TheVariants.{Basic, AtLower, AtUpper, AtZero}
+
+pub record Tableau : Type 0 where
+  pub rows : ℕ
+  pub cols : ℕ  -- the structural ones
+  pub entries : List (List ℚ)  -- of each position, a row over all columns
+  pub basic : List ℕ  -- of each position, its column
+  pub value : List ℚ  -- of each column, as all that follows
+  pub reduced : List ℚ
+  pub status : List Status
+  pub lower : List (Option ℚ)
+  pub upper : List (Option ℚ)
+
+-- how many columns the form has
+abbrev pub form_columns : Tableau → ℕ
+form_columns t = t.cols + t.rows
+
+-- how many columns there are: structural, logical and artificial ones
+abbrev pub all_columns : Tableau → ℕ
+all_columns t = t.cols + t.rows + t.rows
+
+abbrev pub is_artificial : Tableau → ℕ → Bool
+is_artificial t k = nat_le (form_columns t) k
+
+-- ---- by the numbers of positions and columns
+abbrev pub at_place : List (List ℚ) → ℕ → ℕ → ℚ
+at_place rows i k = get_or (get_or rows i []) k 0ℚ
+
+abbrev pub entry_at : Tableau → ℕ → ℕ → ℚ
+entry_at t i k = at_place t.entries i k
+
+abbrev pub basic_at : Tableau → ℕ → ℕ
+basic_at t i = get_or t.basic i 0
+
+abbrev pub value_at : Tableau → ℕ → ℚ
+value_at t k = get_or t.value k 0ℚ
+
+abbrev pub reduced_at : Tableau → ℕ → ℚ
+reduced_at t k = get_or t.reduced k 0ℚ
+
+abbrev pub status_at : Tableau → ℕ → Status
+status_at t k = get_or t.status k Basic
+
+abbrev pub lower_at : Tableau → ℕ → Option ℚ
+lower_at t k = get_or t.lower k None
+
+abbrev pub upper_at : Tableau → ℕ → Option ℚ
+upper_at t k = get_or t.upper k None
+
+-- both bounds are there, and equal
+abbrev pub is_fixed : Option ℚ → Option ℚ → Bool
+is_fixed None upper = false
+is_fixed (Some l) None = false
+is_fixed (Some l) (Some u) = eq_ℚ l u
+
+abbrev pub or_zero : Option ℚ → ℚ
+or_zero None = 0ℚ
+or_zero (Some v) = v
+
+-- where a column of this status stands, between these bounds
+abbrev pub stand : Status → Option ℚ → Option ℚ → ℚ
+stand Basic lower upper = 0ℚ
+stand AtLower lower upper = or_zero lower
+stand AtUpper lower upper = or_zero upper
+stand AtZero lower upper = 0ℚ
+
+-- as many of each as there are positions and columns, which are at most as many as a model has
+pub record IsTableauShape (t : Tableau) : Type 0 where
+  pub few_rows : t.rows ≤ row_limit
+  pub few_columns : t.cols ≤ column_limit
+  pub all_rows : length t.entries ≡ t.rows
+  pub whole_rows : All (λ row. length row ≡ all_columns t) t.entries
+  pub all_basic : length t.basic ≡ t.rows
+  pub in_range : All (λ k. k < all_columns t) t.basic
+  pub all_values : length t.value ≡ all_columns t
+  pub all_reduced : length t.reduced ≡ all_columns t
+  pub all_statuses : length t.status ≡ all_columns t
+  pub all_lower : length t.lower ≡ all_columns t
+  pub all_upper : length t.upper ≡ all_columns t

@@ -1,0 +1,88 @@
+// How steps of the simplex method end and what each of them does, over the type F of numbers.
+ghost use Rattle.std.specs.Prelude.{◌≡◌};
+ghost use Rattle.spec_simplex.specs.declared.ends.Stop.TheVariants as stop;
+
+use spec_exact::Past;
+use spec_pivot::Status;
+use std::fmt::Debug;
+
+/// Why a model has no form.
+#[derive(Clone, Copy, Debug, PartialEq, Eq)]
+pub enum FormFault<F: Debug> {
+    /// The first column whose lower bound is greater than its upper one.
+    Clash(u32),
+    /// The operation that is past the limit.
+    Past(Past<F>),
+}
+
+/// How a row begins, by its sum where each structural column stands at its first place.
+#[derive(Clone, Copy, Debug, PartialEq, Eq)]
+pub enum RowStart<F> {
+    /// The sum is within the row's limits.
+    Within(F),
+    /// The sum is so much below the lower limit.
+    Below(F),
+    /// The sum is so much above the upper limit.
+    Above(F),
+}
+
+/// A column that enters, and whether its value rises.
+#[derive(Clone, Copy, Debug, PartialEq, Eq)]
+pub struct Entering {
+    pub col: u32,
+    pub up: bool,
+}
+
+/// The least ratio so far, and the column that it stops.
+#[derive(Clone, Copy, Debug, PartialEq, Eq)]
+pub struct Best<F> {
+    pub ratio: F,
+    pub col: u32,
+    /// The column's position, which the entering column itself has none of.
+    pub place: Option<u32>,
+    /// The bound that the column goes to.
+    pub to: Status,
+}
+
+/// How a run of the primal method ends.
+#[derive(Clone, Copy, Debug, PartialEq, Eq)]
+pub enum PrimalEnd {
+    /// No column may enter.
+    Optimal,
+    /// Nothing stops this column, which rises or falls.
+    Unbounded { col: u32, up: bool },
+}
+
+/// What a step does.
+#[derive(Clone, Copy, Debug, PartialEq, Eq)]
+pub enum Choice<F> {
+    End(PrimalEnd),
+    /// The column goes to its other bound.
+    Flip {
+        col: u32,
+    },
+    /// The column moves by `theta` and takes the position, whose column leaves to the bound `to`.
+    Pivot {
+        place: u32,
+        col: u32,
+        theta: F,
+        to: Status,
+    },
+}
+
+/// Why a run does not end by itself.
+#[derive(Clone, Copy, Debug, PartialEq, Eq)]
+pub enum Stop<F: Debug> {
+    /// The operation that is past the limit.
+    Past(Past<F>),
+    /// As many pivots and flips were made as the budget has.
+    Spent,
+}
+
+impl<F: Debug> From<Past<F>> for Stop<F> {
+    ghost from_gives = { λ p e. e ≡ stop.Past p };
+
+    fn from(p: Past<F>) -> Self {
+        Stop::Past(p)
+    }
+}
