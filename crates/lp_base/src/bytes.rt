@@ -167,6 +167,12 @@ impl Texts {
     {
         self.items[index].as_slice()
     }
+
+    pub fn as_slice(&self) -> &[Bytes]
+        ensures { result.now ≡ self.now }
+    {
+        &self.items
+    }
 }
 
 /// Whether two texts have the same bytes.

@@ -1,6 +1,6 @@
 // Lists that contracts see as plain lists: of fractions, and of the entries of a column.
 ghost use Rattle.std.specs.Prelude.{◌≡◌, ◌==◌, ◌<◌, ◌≤◌, [], ◌∷◌, ◌++◌, length, replicate, slice_get, slice_set, OnOk, OnErr, IfOk};
-ghost use Rattle.std.specs.List.{insert};
+ghost use Rattle.std.specs.List.{insert, remove};
 ghost use Rattle.spec_exact.specs.Fraction.{0ℚ};
 
 use crate::frac::Frac;
@@ -189,5 +189,21 @@ impl Entries {
     {
         self.items.insert(place, (row, value))?;
         Ok(())
+    }
+
+    /// Puts an entry in place of the one at `place`.
+    pub fn set(&mut self, place: usize, row: u32, value: Frac)
+        requires { place < length self.old }
+        ensures { self.new ≡ slice_set self.old place (row, value) }
+    {
+        self.items[place] = (row, value);
+    }
+
+    /// Takes the entry at `place` out and moves those behind it down by one.
+    pub fn remove(&mut self, place: usize)
+        requires { place < length self.old }
+        ensures { self.new ≡ remove self.old place }
+    {
+        self.items.remove(place);
     }
 }

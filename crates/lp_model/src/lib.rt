@@ -5,9 +5,19 @@
 //! | `Model` | a model that may be kept; to contracts a record of plain data, `spec_model`'s `Model` |
 //! | `Row`, `Column` | its parts, with names and numbers as the code holds them |
 //! | `Sense`, `Kind` | whether the objective is to be least or greatest; the kinds of rows |
+//! | `put_entry` | puts a coefficient among the entries of a column |
+//! | `is_name`, `is_row_name`, `is_model_name` | whether a text may be a name |
+//!
+//! A model is read by the methods of src/model and changed by those of src/changes, which keep it in order.
 #![tactic(auto)]
 
+mod changes;
+mod entries;
 mod model;
+mod names;
+mod narrow;
 
+pub use entries::put_entry;
 pub use model::{Column, Model, Row};
+pub use names::{is_model_name, is_name, is_row_name};
 pub use spec_model::{Kind, Sense};

@@ -18,12 +18,12 @@ pub type Column = spec_model::Column<Name, Frac, Entries>;
 /// A linear program. It has at most 256 rows and 512 columns, with distinct names.
 #[derive(Drop)]
 pub struct Model {
-    name: Name,
-    sense: Sense,
-    objective: Name,
-    offset: Frac,
-    rows: Vec<Row>,
-    columns: Vec<Column>,
+    pub(crate) name: Name,
+    pub(crate) sense: Sense,
+    pub(crate) objective: Name,
+    pub(crate) offset: Frac,
+    pub(crate) rows: Vec<Row>,
+    pub(crate) columns: Vec<Column>,
 }
 
 impl std::marker::Model for Model {

@@ -19,7 +19,6 @@ mod columns;
 mod draft;
 mod fault;
 mod finish;
-mod names;
 mod reader;
 mod row_list;
 mod rows;

@@ -9,12 +9,11 @@ ghost use Rattle.mps_read.specs.Parts.{put_row};
 
 use crate::draft::Draft;
 use crate::fault::Fault;
-use crate::names::is_row_name;
 use crate::row_list::make_row;
 use crate::shapes::has_shape;
 use crate::words::row_type_of;
 use lp_base::Name;
-use lp_model::Kind;
+use lp_model::{Kind, is_row_name};
 use mps_card::Fields;
 use spec_mps::{Code, RowType, Section, Style};
 use std::alloc::{AllocError, Global};

@@ -7,9 +7,9 @@ ghost use Rattle.mps_read.specs.Draft.{state_of};
 
 use crate::draft::Draft;
 use crate::fault::{Fault, Went};
-use crate::names::is_model_name;
 use crate::words::section_of;
 use lp_base::Name;
+use lp_model::is_model_name;
 use mps_card::Fields;
 use spec_mps::{Code, Section, Seen};
 use std::alloc::{AllocError, Global};

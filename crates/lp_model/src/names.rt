@@ -1,4 +1,4 @@
-// Names that may be kept.
+// Names that a model may have.
 ghost use Rattle.std.specs.Prelude.{◌≡◌};
 ghost use Rattle.std.specs.List.{list_all};
 ghost use Rattle.spec_model.specs.Kept as told;
@@ -19,22 +19,25 @@ fn are_printable(text: &[u8]) -> bool
     text.iter().all(|b| is_printable(*b))
 }
 
+/// Whether this may be the name of a column.
 #[tactic(auto, unfolding(spec_model::specs::Kept::is_name))]
-pub(crate) fn is_name(name: &[u8]) -> bool
+pub fn is_name(name: &[u8]) -> bool
     ensures { result ≡ told.is_name name.now }
 {
     !name.is_empty() && name.len() <= MAX_NAME && are_printable(name)
 }
 
+/// Whether this may be the name of a row or of the objective.
 #[tactic(auto, unfolding(spec_model::specs::Kept::is_row_name))]
-pub(crate) fn is_row_name(name: &[u8]) -> bool
+pub fn is_row_name(name: &[u8]) -> bool
     ensures { result ≡ told.is_row_name name.now }
 {
     is_name(name) && !are_same(name, b"'MARKER'")
 }
 
+/// Whether this may be the name of a model.
 #[tactic(auto, unfolding(spec_model::specs::Kept::is_model_name))]
-pub(crate) fn is_model_name(name: &[u8]) -> bool
+pub fn is_model_name(name: &[u8]) -> bool
     ensures { result ≡ told.is_model_name name.now }
 {
     name.len() <= MAX_NAME && are_printable(name)

@@ -1,0 +1,40 @@
+// The entries of a new column.
+ghost use Rattle.std.specs.Prelude.{◌≡◌, [], All, IfOk};
+ghost use Rattle.spec_exact.specs.Narrow.{IsNarrow};
+ghost use Rattle.spec_model.specs.Model.{height};
+ghost use Rattle.spec_model.specs.Kept.{AreEntries};
+ghost use Rattle.spec_edit.specs.Edited as told;
+ghost use Rattle.lp_edit.specs.Answer.{Gives};
+
+use crate::edit::{EditError, EditFault, Pairs};
+use lp_base::{Name, are_same};
+use lp_frac::{Entries, Frac};
+use lp_model::{Model, put_entry};
+use std::alloc::Global;
+
+// Whether one of the pairs has this name.
+fn is_given(name: &[u8], pairs: &[(Name, Frac)]) -> bool
+    ensures { result ≡ told.is_given name.now pairs.now }
+{
+    pairs.iter().any(|p| are_same(p.0.as_slice(), name))
+}
+
+/// The entries of the pairs of a new column.
+pub(crate) fn entries_of(alloc: Global, model: &Model, pairs: Pairs) -> Result<Entries, EditError>
+    ensures answer { Gives (told.entries_of model.now [] pairs []) result }
+    ensures kept { IfOk result (AreEntries (height model.now)) }
+    ensures narrow { IfOk result (All (λ e. IsNarrow e.1)) }
+{
+    let mut entries = Entries::new(alloc);
+    for place in 0..pairs.len() {
+        let (name, value) = &pairs.as_slice()[place];
+        let Some(row) = model.row_of(name.as_slice()) else {
+            return Err(EditFault::UnknownName(pairs.into_name(place)).into());
+        };
+        if is_given(name.as_slice(), &pairs.as_slice()[..place]) {
+            return Err(EditFault::Repeated(pairs.into_name(place)).into());
+        }
+        put_entry(&mut entries, row, *value)?;
+    }
+    Ok(entries)
+}

@@ -1,0 +1,190 @@
+// Edits that are applied.
+ghost use Rattle.std.specs.Prelude.{◌≡◌, ◌<◌, true, false, IfOk};
+ghost use Rattle.spec_model.specs.Model.{width, height};
+ghost use Rattle.spec_edit.specs.Changes as changes;
+ghost use Rattle.spec_edit.specs.Edited as told;
+ghost use Rattle.lp_edit.specs.Answer.{Applies, Leaves};
+ghost use Rattle.lp_edit.specs.Named.{at_row, at_column, at_entry};
+
+use crate::column::entries_of;
+use crate::edit::{Bounds, Edit, EditError, EditFault, Pairs};
+use lp_base::{Name, are_same};
+use lp_frac::{Frac, neg, zero};
+use lp_model::{Column, Model, Row, is_name, is_row_name};
+use spec_edit::Which;
+use std::alloc::Global;
+
+const MAX_ROWS: u32 = 256;
+
+const MAX_COLUMNS: u32 = 512;
+
+fn row_named(model: &Model, name: Name) -> Result<u32, EditFault>
+    ensures value { result ≡ told.row_named model.now name }
+    ensures inside { IfOk result (λ i. i < height model.now) }
+{
+    match model.row_of(name.as_slice()) {
+        Some(i) => Ok(i),
+        None => Err(EditFault::UnknownName(name)),
+    }
+}
+
+fn column_named(model: &Model, name: Name) -> Result<u32, EditFault>
+    ensures value { result ≡ told.column_named model.now name }
+    ensures inside { IfOk result (λ j. j < width model.now) }
+{
+    match model.col_of(name.as_slice()) {
+        Some(j) => Ok(j),
+        None => Err(EditFault::UnknownName(name)),
+    }
+}
+
+fn is_row_taken(model: &Model, name: &[u8]) -> bool
+    ensures { result ≡ told.is_row_taken model.now name.now }
+{
+    are_same(model.objective().as_slice(), name) || model.row_of(name).is_some()
+}
+
+#[tactic(auto, unfolding(spec_edit::specs::Edited::new_row))]
+fn add_row(model: &mut Model, row: Row) -> Result<(), EditError>
+    ensures { Leaves (told.new_row model.old row) true model.old model.new result }
+{
+    if !is_row_name(row.name.as_slice()) {
+        return Err(EditFault::BadName.into());
+    }
+    if is_row_taken(model, row.name.as_slice()) {
+        return Err(EditFault::Taken(row.name).into());
+    }
+    if model.rows() >= MAX_ROWS {
+        return Err(EditFault::Limit(Which::Rows, MAX_ROWS).into());
+    }
+    model.push_row(row)?;
+    Ok(())
+}
+
+fn delete_row(model: &mut Model, name: Name) -> Result<(), EditError>
+    ensures { Leaves (at_row model.old name (changes.without_row model.old)) false model.old model.new result }
+{
+    let i = row_named(model, name)?;
+    model.remove_row(i);
+    Ok(())
+}
+
+#[tactic(auto, unfolding(spec_edit::specs::Edited::new_column))]
+fn add_column(
+    alloc: Global,
+    model: &mut Model,
+    name: Name,
+    cost: Frac,
+    pairs: Pairs,
+) -> Result<(), EditError>
+    ensures { Leaves (told.new_column model.old name cost pairs) true model.old model.new result }
+{
+    if !is_name(name.as_slice()) {
+        return Err(EditFault::BadName.into());
+    }
+    if model.col_of(name.as_slice()).is_some() {
+        return Err(EditFault::Taken(name).into());
+    }
+    if model.cols() >= MAX_COLUMNS {
+        return Err(EditFault::Limit(Which::Columns, MAX_COLUMNS).into());
+    }
+    let entries = entries_of(alloc, model, pairs)?;
+    model.push_col(Column {
+        name,
+        cost,
+        lower: Some(zero()),
+        upper: None,
+        entries,
+    })?;
+    Ok(())
+}
+
+fn delete_column(model: &mut Model, name: Name) -> Result<(), EditError>
+    ensures { Leaves (at_column model.old name (changes.without_column model.old)) false model.old model.new result }
+{
+    let j = column_named(model, name)?;
+    model.remove_col(j);
+    Ok(())
+}
+
+fn set_cost(model: &mut Model, name: Name, value: Frac) -> Result<(), EditError>
+    ensures { Leaves (at_column model.old name (λ j. changes.with_cost model.old j value)) false model.old model.new result }
+{
+    let j = column_named(model, name)?;
+    model.set_cost(j, value);
+    Ok(())
+}
+
+fn set_coefficient(model: &mut Model, row: Name, column: Name, value: Frac) -> Result<(), EditError>
+    ensures { Leaves (at_entry model.old row column (λ i j. changes.with_coefficient model.old i j value)) true model.old model.new result }
+{
+    let i = row_named(model, row)?;
+    let j = column_named(model, column)?;
+    model.set_entry(i, j, value)?;
+    Ok(())
+}
+
+// The objective's right side is the negative of its offset.
+#[tactic(auto, unfolding(spec_edit::specs::Edited::with_right_side))]
+fn set_right_side(model: &mut Model, name: Name, value: Frac) -> Result<(), EditError>
+    ensures { Leaves (told.with_right_side model.old name value) false model.old model.new result }
+{
+    if are_same(model.objective().as_slice(), name.as_slice()) {
+        model.set_offset(neg(value));
+        return Ok(());
+    }
+    let i = row_named(model, name)?;
+    model.set_rhs(i, value);
+    Ok(())
+}
+
+fn set_range(model: &mut Model, name: Name, range: Option<Frac>) -> Result<(), EditError>
+    ensures { Leaves (at_row model.old name (λ i. changes.with_range model.old i range)) false model.old model.new result }
+{
+    let i = row_named(model, name)?;
+    model.set_range(i, range);
+    Ok(())
+}
+
+fn set_bounds(model: &mut Model, name: Name, bounds: Bounds) -> Result<(), EditError>
+    ensures { Leaves (at_column model.old name (λ j. changes.with_bounds model.old j bounds)) false model.old model.new result }
+{
+    let j = column_named(model, name)?;
+    model.set_bounds(j, bounds.lower(), bounds.upper());
+    Ok(())
+}
+
+/// Applies an edit. One that is refused leaves the model as it was, and so does one for which there is no memory.
+#[tactic(auto, unfolding(spec_edit::specs::Edited::edited))]
+pub fn apply(alloc: Global, model: &mut Model, edit: Edit) -> Result<(), EditError>
+    ensures { Applies model.old edit model.new result }
+{
+    match edit {
+        Edit::AddRow {
+            name,
+            kind,
+            rhs,
+            range,
+        } => add_row(
+            model,
+            Row {
+                name,
+                kind,
+                rhs,
+                range,
+            },
+        ),
+        Edit::DelRow(name) => delete_row(model, name),
+        Edit::AddCol { name, cost, pairs } => add_column(alloc, model, name, cost, pairs),
+        Edit::DelCol(name) => delete_column(model, name),
+        Edit::SetCost(name, value) => set_cost(model, name, value),
+        Edit::SetCoef { row, column, value } => set_coefficient(model, row, column, value),
+        Edit::SetRhs(name, value) => set_right_side(model, name, value),
+        Edit::SetRange(name, range) => set_range(model, name, range),
+        Edit::SetBound { column, bounds } => set_bounds(model, column, bounds),
+        Edit::SetSense(sense) => {
+            model.set_sense(sense);
+            Ok(())
+        }
+    }
+}

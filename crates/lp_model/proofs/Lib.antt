@@ -1,0 +1,5 @@
+pub mod Splits
+pub mod Places
+pub mod Lowered
+pub mod Columns
+pub mod Kept

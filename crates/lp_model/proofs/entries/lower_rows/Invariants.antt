@@ -1,0 +1,5 @@
+use Rattle.lp_model.proofs.Lowered.{AreLowered}
+use Rattle.lp_model.proofs.entries.lower_rows.Given as goal
+
+abbrev pub invariant-loop-at : goal.invariant-loop-at
+invariant-loop-at l = AreLowered l.place l.at l.initial.entries l.entries

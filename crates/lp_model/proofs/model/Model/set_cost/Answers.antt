@@ -1,0 +1,9 @@
+use Rattle.std.proofs.Common.{◌<◌, subst, sym}
+use Rattle.spec_model.specs.Model.{width}
+use Rattle.lp_model.proofs.Kept.{cost_here}
+use Rattle.lp_model.proofs.model.Model.set_cost.Goals as goal
+
+pub invariant_of-self : goal.invariant_of-self
+invariant_of-self c =
+    cost_here _ c.args.j c.index_mut.result.now c.index_mut.ensures.value (subst (λ m. c.args.j < width m) (sym c.self.view_is) c.requires)
+    c.args.v c.narrow.result c.narrow.ensures.value c.self.invariant c.narrow.ensures.narrow

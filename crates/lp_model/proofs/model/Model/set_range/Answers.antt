@@ -1,0 +1,9 @@
+use Rattle.std.proofs.Common.{◌<◌, subst, sym}
+use Rattle.spec_model.specs.Model.{height}
+use Rattle.lp_model.proofs.Kept.{range_here}
+use Rattle.lp_model.proofs.model.Model.set_range.Goals as goal
+
+pub invariant_of-self : goal.invariant_of-self
+invariant_of-self c =
+    range_here _ c.args.i c.index_mut.result.now c.index_mut.ensures.value (subst (λ m. c.args.i < height m) (sym c.self.view_is) c.requires)
+    c.args.range c.narrow_if.result c.narrow_if.ensures.value c.self.invariant c.narrow_if.ensures.narrow

@@ -1,0 +1,24 @@
+-- Where the entry of a row stands among those of a column, or belongs.
+use Rattle.std.specs.Prelude.{ℕ, ◌≡◌, ◌<◌, ◌≤◌, ◌+◌, List, length, take, drop, All, Result, Ok, Err}
+use Rattle.std.specs.List.{HoldsAt}
+use Rattle.spec_exact.specs.Fraction.{ℚ}
+
+-- the entries before a row, and those behind it
+pub record IsSplit (row : ℕ) (front back : List (ℕ × ℚ)) : Type 0 where
+  pub before : All (λ e. e.0 < row) front
+  pub behind : All (λ e. row < e.0) back
+
+-- the row's entry stands at k
+pub record StandsAt (row k : ℕ) (entries : List (ℕ × ℚ)) : Type 0 where
+  pub inside : k < length entries
+  pub here : HoldsAt (λ e. e.0 ≡ row) entries k
+  pub split : IsSplit row (take k entries) (drop (k + 1) entries)
+
+-- the row has no entry, and it would stand at k
+pub record BelongsAt (row k : ℕ) (entries : List (ℕ × ℚ)) : Type 0 where
+  pub inside : k ≤ length entries
+  pub split : IsSplit row (take k entries) (drop k entries)
+
+abbrev pub IsPlace : ℕ → List (ℕ × ℚ) → Result ℕ ℕ → Type 0
+IsPlace row entries (Ok k) = StandsAt row k entries
+IsPlace row entries (Err k) = BelongsAt row k entries

@@ -1,0 +1,241 @@
+-- Changes of a model that is kept leave one that may be kept.
+use Rattle.std.proofs.Common.{◌≡◌, ◌≢◌, ℕ, suc, ◌+◌, ◌-◌, ◌<◌, ◌≤◌, false, Option, List, [], ◌∷◌, ◌++◌, length, map, set, All, IfSome, IsTrue, refl, sym, ap, subst, arith, length-append}
+use Rattle.std.specs.List.{AllPairs, remove}
+use Rattle.std.proofs.lemmas.List.{map-append, length-set, length-map}
+use Rattle.std.proofs.lemmas.List.Edits.{length-remove}
+use Rattle.std.proofs.lemmas.List.Elements.{All-map, All-push, All-set, All-weaker}
+use Rattle.std.proofs.lemmas.List.Quantifiers.{all_pairs_push, all_pairs_remove}
+use Rattle.spec_exact.specs.Fraction.{ℚ}
+use Rattle.spec_exact.specs.Narrow.{IsNarrow}
+use Rattle.spec_model.specs.declared.parts.Sense.{Sense}
+use Rattle.spec_model.specs.Model.{Model, Name, Limits, ExactRow, ExactColumn, no_row, no_column, width, height, row, column}
+use Rattle.spec_model.specs.Kept.{IsModel, IsKeptColumn, IsNarrowRow, IsNarrowColumn, is_row_name, row_limit, column_limit, row_names, column_names}
+use Rattle.spec_edit.specs.Changes.{with_row, with_column, changed_row, changed_column, without_entry, with_entry, without_row, without_column, with_cost, with_coefficient, with_bounds, with_rhs, with_range, with_offset, with_sense}
+use Rattle.spec_edit.specs.Edited.{IsKeptBound, is_row_taken, is_column_taken}
+use Rattle.spec_edit.proofs.ListLemmas.{All-remove, map-remove, map-map_unseen}
+pub use Rattle.spec_edit.proofs.EntryLemmas.{with_entry-kept, with_entry-narrow, without_entry-kept, without_entry-narrow}
+use Rattle.spec_edit.proofs.NameLemmas.{row_names-changed, column_names-changed, row_new, column_new}
+
+abbrev name_of_row : ExactRow → Name
+name_of_row r = r.name
+
+abbrev name_of_column : ExactColumn → Name
+name_of_column c = c.name
+
+abbrev Distinct : List Name → Type 0
+Distinct = AllPairs (λ x y. x ≢ y)
+
+-- ---- one more row or column
+
+-- more rows do no harm to a column
+higher : (n m : ℕ) → n ≤ m → (c : ExactColumn) → IsKeptColumn n c → IsKeptColumn m c
+higher n m l c k =
+    record {
+      name = k.name;
+      lower = k.lower;
+      upper = k.upper;
+      entries =
+          record {
+            inside = All-weaker (λ e. e.0 < n) (λ e. e.0 < m) (λ e f. omega arith) c.entries k.entries.inside;
+            ascending = k.entries.ascending;
+            not_zero = k.entries.not_zero;
+          };
+    }
+
+pub with_row-kept : (m : Model) (r : ExactRow) → IsModel m → height m < row_limit → IsTrue (is_row_name r.name) → is_row_taken m r.name ≡ false → IsNarrowRow r → IsModel (with_row m r)
+with_row-kept m r k few named new narrow =
+    let one_more : length (m.rows ++ r ∷ []) ≡ length m.rows + 1 = length-append m.rows (r ∷ []) in
+    record {
+      few_rows = omega arith;
+      few_columns = k.few_columns;
+      name = k.name;
+      objective = k.objective;
+      rows = All-push (λ (r : ExactRow). IsTrue (is_row_name r.name)) m.rows r k.rows named;
+      columns = All-weaker (IsKeptColumn (length m.rows)) (IsKeptColumn (length (m.rows ++ r ∷ []))) (higher _ _ (omega arith)) m.columns k.columns;
+      rows_distinct =
+          subst Distinct (ap (λ names. m.objective ∷ names) (sym (map-append name_of_row m.rows (r ∷ []))))
+          (all_pairs_push (λ x y. x ≢ y) (m.objective ∷ row_names m) r.name k.rows_distinct (row_new m r.name new));
+      columns_distinct = k.columns_distinct;
+      offset = k.offset;
+      narrow_rows = All-push IsNarrowRow m.rows r k.narrow_rows narrow;
+      narrow_columns = k.narrow_columns;
+    }
+
+pub with_column-kept : (m : Model) (c : ExactColumn) → IsModel m → width m < column_limit → is_column_taken m c.name ≡ false → IsKeptColumn (height m) c → IsNarrowColumn c → IsModel (with_column m c)
+with_column-kept m c k few new kept narrow =
+    let one_more : length (m.columns ++ c ∷ []) ≡ length m.columns + 1 = length-append m.columns (c ∷ []) in
+    record {
+      few_rows = k.few_rows;
+      few_columns = omega arith;
+      name = k.name;
+      objective = k.objective;
+      rows = k.rows;
+      columns = All-push (IsKeptColumn (length m.rows)) m.columns c k.columns kept;
+      rows_distinct = k.rows_distinct;
+      columns_distinct =
+          subst Distinct (sym (map-append name_of_column m.columns (c ∷ [])))
+          (all_pairs_push (λ x y. x ≢ y) (column_names m) c.name k.columns_distinct (column_new m c.name new));
+      offset = k.offset;
+      narrow_rows = k.narrow_rows;
+      narrow_columns = All-push IsNarrowColumn m.columns c k.narrow_columns narrow;
+    }
+
+-- ---- one row or column less
+
+-- a column without row i
+abbrev pub lowered : ℕ → ExactColumn → ExactColumn
+lowered i c = record c { entries = without_entry i c.entries }
+
+lowered-kept : (n i : ℕ) → i < n → (c : ExactColumn) → IsKeptColumn n c → IsKeptColumn (n - 1) (lowered i c)
+lowered-kept n i l c k = record { name = k.name; lower = k.lower; upper = k.upper; entries = without_entry-kept n i c.entries k.entries l }
+
+lowered-narrow : (i : ℕ) (c : ExactColumn) → IsNarrowColumn c → IsNarrowColumn (lowered i c)
+lowered-narrow i c k = record { cost = k.cost; lower = k.lower; upper = k.upper; entries = without_entry-narrow i c.entries k.entries }
+
+pub without_row-kept : (m : Model) (i : ℕ) → IsModel m → i < height m → IsModel (without_row m i)
+without_row-kept m i k l =
+    let one_less : length (remove m.rows i) + 1 ≡ length m.rows = length-remove m.rows i l in
+    let height_is : length m.rows - 1 ≡ length (remove m.rows i) = omega arith in
+    record {
+      few_rows = omega arith;
+      few_columns = omega (arith, length-map m.columns (lowered i), k.few_columns);
+      name = k.name;
+      objective = k.objective;
+      rows = All-remove (λ (r : ExactRow). IsTrue (is_row_name r.name)) m.rows i k.rows;
+      columns =
+          subst (λ n. All (IsKeptColumn n) (map (lowered i) m.columns)) height_is
+          (All-map (IsKeptColumn (length m.rows - 1)) (lowered i) m.columns
+          (All-weaker (IsKeptColumn (length m.rows)) (λ c. IsKeptColumn (length m.rows - 1) (lowered i c)) (lowered-kept (length m.rows) i l) m.columns k.columns));
+      rows_distinct =
+          subst Distinct (ap (λ names. m.objective ∷ names) (sym (map-remove name_of_row m.rows i)))
+          (all_pairs_remove (λ x y. x ≢ y) (m.objective ∷ row_names m) (suc i) (omega (arith, length-map m.rows name_of_row)) k.rows_distinct);
+      columns_distinct = subst Distinct (sym (map-map_unseen name_of_column (lowered i) (λ c. refl) m.columns)) k.columns_distinct;
+      offset = k.offset;
+      narrow_rows = All-remove IsNarrowRow m.rows i k.narrow_rows;
+      narrow_columns = All-map IsNarrowColumn (lowered i) m.columns (All-weaker IsNarrowColumn (λ c. IsNarrowColumn (lowered i c)) (lowered-narrow i) m.columns k.narrow_columns);
+    }
+
+pub without_column-kept : (m : Model) (j : ℕ) → IsModel m → j < width m → IsModel (without_column m j)
+without_column-kept m j k l =
+    let one_less : length (remove m.columns j) + 1 ≡ length m.columns = length-remove m.columns j l in
+    record {
+      few_rows = k.few_rows;
+      few_columns = omega arith;
+      name = k.name;
+      objective = k.objective;
+      rows = k.rows;
+      columns = All-remove (IsKeptColumn (length m.rows)) m.columns j k.columns;
+      rows_distinct = k.rows_distinct;
+      columns_distinct =
+          subst Distinct (sym (map-remove name_of_column m.columns j))
+          (all_pairs_remove (λ x y. x ≢ y) (column_names m) j (omega (arith, length-map m.columns name_of_column)) k.columns_distinct);
+      offset = k.offset;
+      narrow_rows = k.narrow_rows;
+      narrow_columns = All-remove IsNarrowColumn m.columns j k.narrow_columns;
+    }
+
+-- ---- a row or a column that is changed
+
+pub changed_row-kept : (m : Model) (i : ℕ) (change : ExactRow → ExactRow) → IsModel m → i < height m → (change (row m i)).name ≡ (row m i).name → IsNarrowRow (change (row m i)) → IsModel (changed_row change m i)
+changed_row-kept m i change k l named narrow =
+    let long : length (set m.rows i (change (row m i))) ≡ length m.rows = length-set m.rows i (change (row m i)) in
+    record {
+      few_rows = omega (arith, k.few_rows);
+      few_columns = k.few_columns;
+      name = k.name;
+      objective = k.objective;
+      rows = All-set (λ (r : ExactRow). IsTrue (is_row_name r.name)) m.rows i (change (row m i)) (subst (λ name. IsTrue (is_row_name name)) (sym named) (k.rows i no_row l)) k.rows;
+      columns = subst (λ n. All (IsKeptColumn n) m.columns) (sym long) k.columns;
+      rows_distinct = subst (λ names. Distinct (m.objective ∷ names)) (sym (row_names-changed m i change l named)) k.rows_distinct;
+      columns_distinct = k.columns_distinct;
+      offset = k.offset;
+      narrow_rows = All-set IsNarrowRow m.rows i (change (row m i)) narrow k.narrow_rows;
+      narrow_columns = k.narrow_columns;
+    }
+
+pub changed_column-kept : (m : Model) (j : ℕ) (change : ExactColumn → ExactColumn) → IsModel m → j < width m → (change (column m j)).name ≡ (column m j).name → IsKeptColumn (height m) (change (column m j)) → IsNarrowColumn (change (column m j)) → IsModel (changed_column change m j)
+changed_column-kept m j change k l named kept narrow =
+    let long : length (set m.columns j (change (column m j))) ≡ length m.columns = length-set m.columns j (change (column m j)) in
+    record {
+      few_rows = k.few_rows;
+      few_columns = omega (arith, k.few_columns);
+      name = k.name;
+      objective = k.objective;
+      rows = k.rows;
+      columns = All-set (IsKeptColumn (length m.rows)) m.columns j (change (column m j)) kept k.columns;
+      rows_distinct = k.rows_distinct;
+      columns_distinct = subst Distinct (sym (column_names-changed m j change l named)) k.columns_distinct;
+      offset = k.offset;
+      narrow_rows = k.narrow_rows;
+      narrow_columns = All-set IsNarrowColumn m.columns j (change (column m j)) narrow k.narrow_columns;
+    }
+
+-- ---- costs, coefficients and bounds
+
+pub with_cost-kept : (m : Model) (j : ℕ) (v : ℚ) → IsModel m → j < width m → IsNarrow v → IsModel (with_cost m j v)
+with_cost-kept m j v k l narrow =
+    let c = k.columns j no_column l in
+    let n = k.narrow_columns j no_column l in
+    changed_column-kept m j (λ (c : ExactColumn). record c { cost = v }) k l refl
+    (record { name = c.name; lower = c.lower; upper = c.upper; entries = c.entries })
+    (record { cost = narrow; lower = n.lower; upper = n.upper; entries = n.entries })
+
+pub with_coefficient-kept : (m : Model) (i j : ℕ) (v : ℚ) → IsModel m → i < height m → j < width m → IsNarrow v → IsModel (with_coefficient m i j v)
+with_coefficient-kept m i j v k p q narrow =
+    let c = k.columns j no_column q in
+    let n = k.narrow_columns j no_column q in
+    changed_column-kept m j (λ (c : ExactColumn). record c { entries = with_entry i v c.entries }) k q refl
+    (record { name = c.name; lower = c.lower; upper = c.upper; entries = with_entry-kept (height m) i v (column m j).entries c.entries p })
+    (record { cost = n.cost; lower = n.lower; upper = n.upper; entries = with_entry-narrow i v (column m j).entries n.entries narrow })
+
+pub with_bounds-kept : (m : Model) (j : ℕ) (l : Limits) → IsModel m → j < width m → IsKeptBound l.lower → IsKeptBound l.upper → IsModel (with_bounds m j l)
+with_bounds-kept m j l k q lower upper =
+    let c = k.columns j no_column q in
+    let n = k.narrow_columns j no_column q in
+    changed_column-kept m j (λ (c : ExactColumn). record c { lower = l.lower; upper = l.upper }) k q refl
+    (record { name = c.name; lower = lower.0; upper = upper.0; entries = c.entries })
+    (record { cost = n.cost; lower = lower.1; upper = upper.1; entries = n.entries })
+
+-- ---- right sides, ranges, the offset and the sense
+
+pub with_rhs-kept : (m : Model) (i : ℕ) (v : ℚ) → IsModel m → i < height m → IsNarrow v → IsModel (with_rhs m i v)
+with_rhs-kept m i v k l narrow =
+    changed_row-kept m i (λ (r : ExactRow). record r { rhs = v }) k l refl
+    (record { rhs = narrow; range = (k.narrow_rows i no_row l).range })
+
+pub with_range-kept : (m : Model) (i : ℕ) (range : Option ℚ) → IsModel m → i < height m → IfSome range IsNarrow → IsModel (with_range m i range)
+with_range-kept m i range k l narrow =
+    changed_row-kept m i (λ (r : ExactRow). record r { range = range }) k l refl
+    (record { rhs = (k.narrow_rows i no_row l).rhs; range = narrow })
+
+pub with_offset-kept : (m : Model) (v : ℚ) → IsModel m → IsNarrow v → IsModel (with_offset m v)
+with_offset-kept m v k narrow =
+    record {
+      few_rows = k.few_rows;
+      few_columns = k.few_columns;
+      name = k.name;
+      objective = k.objective;
+      rows = k.rows;
+      columns = k.columns;
+      rows_distinct = k.rows_distinct;
+      columns_distinct = k.columns_distinct;
+      offset = narrow;
+      narrow_rows = k.narrow_rows;
+      narrow_columns = k.narrow_columns;
+    }
+
+pub with_sense-kept : (m : Model) (sense : Sense) → IsModel m → IsModel (with_sense m sense)
+with_sense-kept m sense k =
+    record {
+      few_rows = k.few_rows;
+      few_columns = k.few_columns;
+      name = k.name;
+      objective = k.objective;
+      rows = k.rows;
+      columns = k.columns;
+      rows_distinct = k.rows_distinct;
+      columns_distinct = k.columns_distinct;
+      offset = k.offset;
+      narrow_rows = k.narrow_rows;
+      narrow_columns = k.narrow_columns;
+    }

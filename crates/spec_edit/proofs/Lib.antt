@@ -1,0 +1,11 @@
+pub mod ListLemmas
+pub mod EntryLemmas
+pub mod NameLemmas
+pub mod Keeping
+pub mod Steps
+pub mod NewColumns
+pub mod EditsKeep
+pub mod EditNames
+pub mod Coefficients
+pub mod Meanings
+pub mod PairsGiven

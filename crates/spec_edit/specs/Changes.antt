@@ -1,0 +1,69 @@
+-- Changes of a model, by the numbers of its rows and columns. What is not named stays.
+use Rattle.std.specs.Prelude.{ℕ, ◌-◌, ◌==◌, not, Option, List, [], ◌∷◌, ◌++◌, map, nat_lt, slice_set, if◌then◌else◌}
+use Rattle.std.specs.List.{filter, remove}
+use Rattle.spec_exact.specs.Fraction.{ℚ, 0ℚ, eq_ℚ}
+use Rattle.spec_model.specs.declared.parts.Sense.{Sense}
+use Rattle.spec_model.specs.Model.{Model, Limits, ExactRow, ExactColumn, row, column}
+
+-- ---- rows and columns
+
+-- one more goes last
+abbrev pub with_row : Model → ExactRow → Model
+with_row m r = record m { rows = m.rows ++ r ∷ [] }
+
+abbrev pub with_column : Model → ExactColumn → Model
+with_column m c = record m { columns = m.columns ++ c ∷ [] }
+
+-- the one with a number is changed so
+abbrev pub changed_row : (ExactRow → ExactRow) → Model → ℕ → Model
+changed_row change m i = record m { rows = slice_set m.rows i (change (row m i)) }
+
+abbrev pub changed_column : (ExactColumn → ExactColumn) → Model → ℕ → Model
+changed_column change m j = record m { columns = slice_set m.columns j (change (column m j)) }
+
+-- ---- entries of a column, which stand in the order of their rows
+
+-- an entry, unless it is 0
+abbrev pub entry_if : ℕ → ℚ → List (ℕ × ℚ)
+entry_if i v = if eq_ℚ v 0ℚ then [] else (i, v) ∷ []
+
+-- v stands in row i from then on
+unfoldable pub with_entry : ℕ → ℚ → List (ℕ × ℚ) → List (ℕ × ℚ)
+with_entry i v entries = filter (λ e. nat_lt e.0 i) entries ++ entry_if i v ++ filter (λ e. nat_lt i e.0) entries
+
+-- the number of a row once row i is gone
+abbrev pub renumbered : ℕ → ℕ → ℕ
+renumbered i k = if nat_lt i k then k - 1 else k
+
+-- row i is gone
+unfoldable pub without_entry : ℕ → List (ℕ × ℚ) → List (ℕ × ℚ)
+without_entry i entries = map (λ e. (renumbered i e.0, e.1)) (filter (λ e. not (e.0 == i)) entries)
+
+-- ---- changes
+
+abbrev pub without_row : Model → ℕ → Model
+without_row m i = record m { rows = remove m.rows i; columns = map (λ (c : ExactColumn). record c { entries = without_entry i c.entries }) m.columns }
+
+abbrev pub without_column : Model → ℕ → Model
+without_column m j = record m { columns = remove m.columns j }
+
+abbrev pub with_cost : Model → ℕ → ℚ → Model
+with_cost m j v = changed_column (λ (c : ExactColumn). record c { cost = v }) m j
+
+abbrev pub with_coefficient : Model → ℕ → ℕ → ℚ → Model
+with_coefficient m i j v = changed_column (λ (c : ExactColumn). record c { entries = with_entry i v c.entries }) m j
+
+abbrev pub with_bounds : Model → ℕ → Limits → Model
+with_bounds m j l = changed_column (λ (c : ExactColumn). record c { lower = l.lower; upper = l.upper }) m j
+
+abbrev pub with_rhs : Model → ℕ → ℚ → Model
+with_rhs m i v = changed_row (λ (r : ExactRow). record r { rhs = v }) m i
+
+abbrev pub with_range : Model → ℕ → Option ℚ → Model
+with_range m i range = changed_row (λ (r : ExactRow). record r { range = range }) m i
+
+abbrev pub with_offset : Model → ℚ → Model
+with_offset m v = record m { offset = v }
+
+abbrev pub with_sense : Model → Sense → Model
+with_sense m sense = record m { sense = sense }

@@ -1,0 +1,47 @@
+//! Edits of a model: what each leaves, and why one is refused.
+//!
+//! Edit, EditFault, Which                    an edit, and why it is refused: src/edit
+//! with_row, without_row, with_coefficient   changes by the numbers of rows and columns: specs/Changes
+//! edited                                    the model after an edit, or the fault: specs/Edited
+//! IsKeptEdit, takes_memory                  what an edit may hold, and whether it takes memory: specs/Edited
+//! IsWithCoefficient, IsWithoutRow           what changes mean: specs/Meaning
+//! KeepsNames                                what other edits leave: specs/Meaning
+//!
+//! The functions here have the laws as their contracts.
+#![tactic(auto)]
+
+mod edit;
+
+ghost use Rattle.std.specs.Prelude.{◌≡◌, ◌<◌, ℕ, false, Ok};
+ghost use Rattle.spec_exact.specs.Fraction.{ℚ, 0ℚ};
+ghost use Rattle.spec_model.specs.Kept.{IsModel};
+ghost use Rattle.spec_model.specs.Model.{Model, Name, ExactRow, width, height, row, coefficient};
+ghost use Rattle.spec_edit.specs.Changes.{with_row};
+ghost use Rattle.spec_edit.specs.Edited.{ExactEdit, IsKeptEdit, Pairs, edited, new_column};
+ghost use Rattle.spec_edit.specs.Meaning.{IsWithCoefficient, IsWithoutRow, IsWithoutColumn, IsWithPairs, adds_or_removes, KeepsNames};
+
+pub use edit::{Edit, EditFault, Which};
+
+/// An edit leaves a model that may be kept.
+pub fn edits_keep_models()
+    ensures { (m n : Model) (e : ExactEdit) → IsModel m → IsKeptEdit e → edited m e ≡ Ok n → IsModel n }
+{}
+
+/// What changes of a model mean, by the numbers of rows and columns.
+pub fn changes_have_their_meaning()
+    ensures coefficient { (m : Model) (i j : ℕ) (v : ℚ) → j < width m → IsWithCoefficient m i j v }
+    ensures without_row { (m : Model) (i : ℕ) → i < height m → IsWithoutRow m i }
+    ensures without_column { (m : Model) (j : ℕ) → j < width m → IsWithoutColumn m j }
+    ensures new_row { (m : Model) (r : ExactRow) → row (with_row m r) (height m) ≡ r }
+    ensures new_coefficients { (m : Model) (r : ExactRow) (j : ℕ) → IsModel m → coefficient (with_row m r) (height m) j ≡ 0ℚ }
+{}
+
+/// A new column has in each row the number that its pairs give to the row's name, and 0 in the others.
+pub fn new_columns_have_their_pairs()
+    ensures { (m n : Model) (name : Name) (cost : ℚ) (pairs : Pairs) → IsModel m → new_column m name cost pairs ≡ Ok n → IsWithPairs m n pairs }
+{}
+
+/// The names of the objective, the rows and the columns change only where a row or a column comes or goes.
+pub fn other_edits_keep_names()
+    ensures { (m n : Model) (e : ExactEdit) → adds_or_removes e ≡ false → edited m e ≡ Ok n → KeepsNames m n }
+{}
