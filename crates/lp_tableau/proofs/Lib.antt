@@ -5,4 +5,5 @@ pub mod Moved
 pub mod Pivots
 pub mod Priced
 pub mod Rows
+pub mod Same
 pub mod Turned

@@ -4,6 +4,7 @@
 //! |---|---|
 //! | `Tableau`, `start_cold` | a tableau; the one that a form begins with |
 //! | `Tableau::pivot`, `flip`, `phase_two` | the changes, each exact or refused as `spec_simplex` has it |
+//! | `Tableau::wants_phase_one`, `is_stuck` | what the phases ask: a basic artificial, and one that is not 0 |
 //! | `PrimalEnd`, `Stop` | how a run of steps ends, and why it does not |
 //! | `ColdStop` | why a form has no start |
 //!
@@ -14,6 +15,7 @@
 mod ends;
 mod grid;
 mod moves;
+mod phases;
 mod pivot;
 mod price;
 mod start;

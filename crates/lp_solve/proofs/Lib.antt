@@ -1,0 +1,3 @@
+pub mod BothPhases
+pub mod Runs
+pub mod Solved

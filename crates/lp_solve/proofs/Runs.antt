@@ -1,0 +1,109 @@
+-- What steps up to an end leave as it is, and where they end.
+use Rattle.std.proofs.Common.{◌≡◌, ℕ, zero, suc, ◌+◌, ◌<◌, Option, Some, None, Result, Ok, Err, refl, subst, ◌∙◌}
+use Rattle.spec_exact.specs.Fraction.{ℚ}
+use Rattle.spec_pivot.specs.declared.status.Status.{Status}
+use Rattle.spec_simplex.specs.declared.ends.Entering.{Entering}
+use Rattle.spec_simplex.specs.declared.ends.Best.{Best}
+use Rattle.spec_simplex.specs.declared.ends.PrimalEnd.{PrimalEnd}
+use Rattle.spec_simplex.specs.declared.ends.PrimalEnd.TheVariants.{Optimal, Unbounded}
+use Rattle.spec_simplex.specs.declared.ends.Choice.{Choice}
+use Rattle.spec_simplex.specs.declared.ends.Choice.TheVariants.{End, Flip, Pivot}
+use Rattle.spec_simplex.specs.declared.ends.Stop.{Stop}
+use Rattle.spec_simplex.specs.declared.ends.Stop.TheVariants as stop
+use Rattle.spec_simplex.specs.Run.{refused_as, difference_run}
+use Rattle.spec_simplex.specs.Tableau.{Tableau, all_columns, lower_at, upper_at, status_at, or_zero}
+use Rattle.spec_simplex.specs.Step.{directed, other_bound, entering, best_run, choice_at, choice_by, choice_of, choice_run, moved_run, flip_way, flipped, flip_run, shifted_run, turned_run, repriced_run, turned, exchanged, pivot_run}
+use Rattle.spec_simplex.specs.Phases.{Ended, end_or_spent, end_or_next, run_from}
+use Rattle.spec_cold.proofs.Runs.{then_ok, refused_ok}
+use Rattle.lp_primal.proofs.Enters.{MayEnter, may_enter}
+use Rattle.lp_solve.specs.Ends.{IsInside}
+
+-- as many positions and columns
+pub record IsAsLarge (t u : Tableau) : Type 0 where
+  pub rows : u.rows ≡ t.rows
+  pub cols : u.cols ≡ t.cols
+
+as_large : (t : Tableau) → IsAsLarge t t
+as_large t = record { rows = refl; cols = refl }
+
+by_way_of : (t u v : Tableau) → IsAsLarge t u → IsAsLarge u v → IsAsLarge t v
+by_way_of t u v p q = record { rows = q.rows ∙ p.rows; cols = q.cols ∙ p.cols }
+
+module _ (limit : Option ℕ) where
+  -- ---- one step
+  flip_keeps : (t u : Tableau) (j : ℕ) → flip_run limit t j ≡ Ok u → IsAsLarge t u
+  unfolding flip_run
+  flip_keeps t u j h =
+      let a = then_ok (difference_run limit (or_zero (upper_at t j)) (or_zero (lower_at t j))) _ u h in
+      let b = then_ok (moved_run limit t j (directed (flip_way (status_at t j)) a.0) None) _ u a.2 in
+      let z : flipped t j (other_bound (flip_way (status_at t j))) b.0 ≡ u = cc in
+      subst (IsAsLarge t) z (record { rows = refl; cols = refl })
+
+  pivot_keeps : (t u : Tableau) (p j : ℕ) (theta : ℚ) (to : Status) → pivot_run limit t p j theta to ≡ Ok u → IsAsLarge t u
+  unfolding pivot_run
+  pivot_keeps t u p j theta to h =
+      let a = then_ok (moved_run limit t j theta (Some p)) _ u h in
+      let b = then_ok (shifted_run limit a.0 j theta) _ u a.2 in
+      let c = then_ok (turned_run limit t.rows (all_columns t) t.entries p j) _ u b.2 in
+      let d = then_ok (repriced_run limit (all_columns t) t.reduced c.0 p j) _ u c.2 in
+      let z : exchanged (turned t b.0 c.0 d.0) p j to ≡ u = cc in
+      subst (IsAsLarge t) z (record { rows = refl; cols = refl })
+
+  -- ---- the column that is never stopped
+  is_no_end : (t : Tableau) (e : Entering) (x : Best ℚ) (place : Option ℕ) (end : PrimalEnd) → choice_at e x place ≡ End end → IsInside t (Some end)
+  is_no_end t e x None end h = let z : ◌≡◌ {A = Choice ℚ} (Flip e.col) (End end) = h in cc
+  is_no_end t e x (Some i) end h = let z : ◌≡◌ {A = Choice ℚ} (Pivot i e.col (directed e.up x.ratio) x.to) (End end) = h in cc
+
+  by_best : (t : Tableau) (e : Entering) (best : Option (Best ℚ)) (end : PrimalEnd) → e.col < all_columns t → choice_by e best ≡ End end → IsInside t (Some end)
+  by_best t e None end l h = let z : Unbounded e.col e.up ≡ end = cc in subst (λ end. IsInside t (Some end)) z l
+  by_best t e (Some x) end l h = is_no_end t e x x.place end h
+
+  by_entering : (t : Tableau) (o : Option Entering) (end : PrimalEnd) → entering t ≡ o → choice_of limit t o ≡ Ok (End end) → IsInside t (Some end)
+  by_entering t None end h g = let z : Optimal ≡ end = cc in subst (λ end. IsInside t (Some end)) z tt
+  by_entering t (Some e) end h g =
+      let b = then_ok (best_run limit t e) (λ best. Ok (choice_by e best)) (End end) g in
+      let z : choice_by e b.0 ≡ End end = cc in
+      let m : MayEnter t (all_columns t) e = may_enter t e h in
+      by_best t e b.0 end m.inside z
+
+  end_inside : (t : Tableau) (end : PrimalEnd) → choice_run limit t ≡ Ok (End end) → IsInside t (Some end)
+  unfolding choice_run
+  end_inside t end h = by_entering t (entering t) end refl h
+
+  -- ---- the run
+  pub record IsEnd (t : Tableau) (e : Ended) : Type 0 where
+    pub large : IsAsLarge t e.tableau
+    pub inside : IsInside e.tableau (Some e.end)
+
+  on_from : (t u : Tableau) (e : Ended) → IsAsLarge t u → IsEnd u e → IsEnd t e
+  on_from t u e p q = record { large = by_way_of t u e.tableau p q.large; inside = q.inside }
+
+  ends_at : (t : Tableau) (used : ℕ) (e : Ended) (end : PrimalEnd) → choice_run limit t ≡ Ok (End end) → record { end = end; tableau = t; used = used } ≡ e → IsEnd t e
+  ends_at t used e end c z = subst (IsEnd t) z (record { large = as_large t; inside = end_inside t end c })
+
+  ends_here : (t : Tableau) (used : ℕ) (e : Ended) (choice : Choice ℚ) → choice_run limit t ≡ Ok choice → end_or_spent t used choice ≡ Ok e → IsEnd t e
+  ends_here t used e (End end) c h = ends_at t used e end c (let z : ◌≡◌ {A = Ended} (record { end = end; tableau = t; used = used }) e = cc in z)
+  ends_here t used e (Flip j) c h = let z : ◌≡◌ {A = Result Ended (Stop ℚ)} (Err stop.Spent) (Ok e) = h in cc
+  ends_here t used e (Pivot p j theta to) c h = let z : ◌≡◌ {A = Result Ended (Stop ℚ)} (Err stop.Spent) (Ok e) = h in cc
+
+  pub run_ends : (left used : ℕ) (t : Tableau) (e : Ended) → run_from limit left used t ≡ Ok e → IsEnd t e
+  unfolding run_from
+  run_ends zero used t e h =
+      let o = then_ok (refused_as stop.Past (choice_run limit t)) (end_or_spent t used) e h in
+      ends_here t used e o.0 (refused_ok stop.Past (choice_run limit t) o.0 o.1) o.2
+  run_ends (suc left) used t e h =
+      let o = then_ok (refused_as stop.Past (choice_run limit t)) (end_or_next limit t used (λ u. run_from limit left (used + 1) u)) e h in
+      go o.0 (refused_ok stop.Past (choice_run limit t) o.0 o.1) o.2 (λ u g. run_ends left (used + 1) u e g)
+    where
+      go : (choice : Choice ℚ) → choice_run limit t ≡ Ok choice → end_or_next limit t used (λ u. run_from limit left (used + 1) u) choice ≡ Ok e
+          → ((u : Tableau) → run_from limit left (used + 1) u ≡ Ok e → IsEnd u e) → IsEnd t e
+      go (End end) c h more = ends_here t used e (End end) c h
+      go (Flip j) c h more =
+          let o = then_ok (refused_as stop.Past (flip_run limit t j)) (λ u. run_from limit left (used + 1) u) e h in
+          on_from t o.0 e (flip_keeps t o.0 j (refused_ok stop.Past (flip_run limit t j) o.0 o.1)) (more o.0 o.2)
+      go (Pivot p j theta to) c h more =
+          let o = then_ok (refused_as stop.Past (pivot_run limit t p j theta to)) (λ u. run_from limit left (used + 1) u) e h in
+          on_from t o.0 e (pivot_keeps t o.0 p j theta to (refused_ok stop.Past (pivot_run limit t p j theta to) o.0 o.1)) (more o.0 o.2)
+
+  pub run_inside : (left used : ℕ) (t : Tableau) (end : PrimalEnd) (u : Tableau) (after : ℕ) → run_from limit left used t ≡ Ok (record { end = end; tableau = u; used = after }) → IsInside u (Some end)
+  run_inside left used t end u after h = let e : IsEnd t (record { end = end; tableau = u; used = after }) = run_ends left used t (record { end = end; tableau = u; used = after }) h in e.inside

@@ -1,0 +1,49 @@
+-- The cold solve by its form, and certificates that fit their model.
+use Rattle.std.proofs.Common.{◌≡◌, ℕ, ◌<◌, Option, Result, Ok, Err, sym, subst, ap}
+use Rattle.spec_exact.specs.Fraction.{ℚ}
+use Rattle.spec_exact.specs.declared.past.Past.{Past}
+use Rattle.spec_model.specs.Model.{Model, width}
+use Rattle.spec_check.specs.declared.certificate.Certificate.TheVariants as certificate
+use Rattle.spec_check.specs.Certificate.{IsFor}
+use Rattle.spec_simplex.specs.declared.ends.FormFault.{FormFault}
+use Rattle.spec_simplex.specs.declared.ends.FormFault.TheVariants as fault
+use Rattle.spec_simplex.specs.Form.{Form, form_of}
+use Rattle.spec_simplex.specs.Run.{Run}
+use Rattle.spec_simplex.specs.Start.{start_of}
+use Rattle.spec_simplex.specs.Phases.{PhasesEnd, phases_run}
+use Rattle.spec_cold.specs.declared.outcome.Cold.TheVariants as outcome
+use Rattle.spec_cold.specs.Accepted.{IsAccepted}
+use Rattle.spec_cold.specs.Cold.{ColdEnd, certificate_of, after_phases, after_form, cold}
+use Rattle.spec_cold.proofs.Solved.{end_accepted, clash_accepted}
+use Rattle.lp_standard.specs.Answer.{IsFaultOf}
+use Rattle.lp_standard.specs.declared.fault.FormStop.{FormStop}
+use Rattle.lp_standard.specs.declared.fault.FormStop.TheVariants as form
+use Rattle.lp_tableau.specs.Answer.{Stops}
+use Rattle.lp_tableau.specs.declared.ends.ColdStop.{ColdStop}
+use Rattle.lp_tableau.specs.declared.ends.ColdStop.TheVariants as start
+use Rattle.lp_solve.proofs.BothPhases.{start_refused}
+
+-- ---- stops as the code has them
+pub start_stop : {A : Type 0} (run : Run A) (s : ColdStop) (p : Past ℚ) → s ≡ start.Past p → Stops run s → run ≡ Err p
+start_stop run s p e h = subst (Stops run) e h
+
+pub form_stop : {A : Type 0} (run : Result A (FormFault ℚ)) (s : FormStop) (p : Past ℚ) → s ≡ form.Past p → IsFaultOf run s → run ≡ Err (fault.Past p)
+form_stop run s p e h = subst (IsFaultOf run) e h
+
+pub form_clash : {A : Type 0} (run : Result A (FormFault ℚ)) (s : FormStop) (j : ℕ) → s ≡ form.Clash j → IsFaultOf run s → run ≡ Err (fault.Clash j)
+form_clash run s j e h = subst (IsFaultOf run) e h
+
+-- ---- the solve
+module _ (limit : Option ℕ) (budget : ℕ) (m : Model) where
+  pub cold_is : (o : Result Form (FormFault ℚ)) → form_of limit m ≡ o → after_form limit budget m o ≡ cold limit budget m
+  unfolding cold
+  cold_is o h = ap (after_form limit budget m) (sym h)
+
+  pub refused_from : (f : Form) (p : Past ℚ) → start_of limit f ≡ Err p → ◌≡◌ {A = ColdEnd} (outcome.Past p) (after_phases limit m (phases_run limit budget f))
+  refused_from f p h = ap (after_phases limit m) (sym (start_refused limit budget f p h))
+
+  pub end_fits : (f : Form) (e : PhasesEnd) → form_of limit m ≡ Ok f → phases_run limit budget f ≡ Ok e → IsFor m (certificate_of e)
+  end_fits f e h g = let a : IsAccepted limit m (certificate_of e) = end_accepted limit budget m f e h g in a.fits
+
+  pub clash_fits : (j : ℕ) → form_of limit m ≡ Err (fault.Clash j) → j < width m
+  clash_fits j h = let a : IsAccepted limit m (certificate.Clash j) = clash_accepted limit m j h in a.fits

@@ -1,0 +1,27 @@
+-- How both phases ended, as the code keeps it.
+use Rattle.std.specs.Prelude.{◌≡◌, ◌<◌, ℕ, Option, Some, None, Result, Ok, Err}
+use Rattle.spec_exact.specs.Fraction.{ℚ}
+use Rattle.spec_simplex.specs.declared.ends.PrimalEnd.{PrimalEnd}
+use Rattle.spec_simplex.specs.declared.ends.PrimalEnd.TheVariants.{Optimal, Unbounded}
+use Rattle.spec_simplex.specs.declared.ends.Stop.{Stop}
+use Rattle.spec_simplex.specs.Tableau.{Tableau, all_columns}
+use Rattle.spec_simplex.specs.Phases.{PhasesEnd, Infeasible, Finished}
+use Rattle.lp_solve.specs.declared.phases.Ended.{Ended}
+
+abbrev pub end_by : Tableau → ℕ → Option PrimalEnd → PhasesEnd
+end_by t used None = Infeasible t used
+end_by t used (Some end) = Finished (record { end = end; tableau = t; used = used })
+
+abbrev pub end_of : Ended → PhasesEnd
+end_of e = end_by e.tab e.used e.end
+
+-- both phases end so, or stop so
+abbrev pub Ends : Result PhasesEnd (Stop ℚ) → Result Ended (Stop ℚ) → Type 0
+Ends answer (Ok e) = answer ≡ Ok (end_of e)
+Ends answer (Err stop) = answer ≡ Err stop
+
+-- a column that is never stopped is one of the tableau's
+abbrev pub IsInside : Tableau → Option PrimalEnd → Type 0
+IsInside t None = Unit {0}
+IsInside t (Some Optimal) = Unit {0}
+IsInside t (Some (Unbounded j up)) = j < all_columns t

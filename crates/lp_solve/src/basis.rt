@@ -1,0 +1,60 @@
+// The bases of ends.
+ghost use Rattle.std.specs.Prelude.{◌≡◌, ◌<◌, ◌++◌, ◌∷◌, [], IfOk, OnOk};
+ghost use Rattle.spec_simplex.specs.Run.{made};
+ghost use Rattle.spec_simplex.specs.Tableau.{form_columns};
+ghost use Rattle.spec_cold.specs.Cold as told;
+ghost use Rattle.lp_solve.specs.Ends.{end_of};
+
+use crate::phases::Ended;
+use lp_form::{Basis, Status};
+use lp_tableau::{PrimalEnd, Tableau};
+use std::alloc::{AllocError, Global};
+
+fn is_basic(status: Status) -> bool
+    ensures { result ≡ told.is_basic status }
+{
+    match status {
+        Status::Basic => true,
+        Status::AtLower | Status::AtUpper | Status::AtZero => false,
+    }
+}
+
+// The status of column `k`. A logical whose row's artificial is basic counts as basic in its place.
+fn basis_status(tab: &Tableau, k: u32) -> Status
+    requires { k < form_columns tab.now }
+    ensures { result ≡ told.basis_status tab.now k }
+{
+    if tab.cols() <= k && is_basic(tab.status(k + tab.rows())) {
+        Status::Basic
+    } else {
+        tab.status(k)
+    }
+}
+
+fn push_status(statuses: &mut Vec<Status>, status: Status) -> Result<(), AllocError>
+    ensures { OnOk result (statuses.new.items ≡ statuses.old.items ++ status ∷ []) }
+{
+    statuses.push(status)?;
+    Ok(())
+}
+
+// The statuses of the model's columns and of the rows' logicals.
+fn statuses(alloc: Global, tab: &Tableau) -> Result<Basis, AllocError>
+    ensures { IfOk result (λ b. b ≡ made (form_columns tab.now) (told.basis_status tab.now)) }
+{
+    let mut statuses = Vec::new(alloc);
+    for k in 0..tab.cols() + tab.rows() {
+        push_status(&mut statuses, basis_status(tab, k))?;
+    }
+    Ok(Basis::from_vec(statuses))
+}
+
+// The basis of what both phases ended with, which an optimal end has.
+pub(crate) fn basis(alloc: Global, ended: &Ended) -> Result<Option<Basis>, AllocError>
+    ensures { IfOk result (λ b. b ≡ told.basis_of (end_of ended.now)) }
+{
+    match ended.end {
+        Some(PrimalEnd::Optimal) => Ok(Some(statuses(alloc, &ended.tab)?)),
+        None | Some(PrimalEnd::Unbounded { .. }) => Ok(None),
+    }
+}

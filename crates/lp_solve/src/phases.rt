@@ -1,0 +1,56 @@
+// Both phases.
+ghost use Rattle.std.specs.Prelude.{◌≡◌, IfOk, Ok, Some};
+ghost use Rattle.spec_simplex.specs.Start.{start_of};
+ghost use Rattle.spec_simplex.specs.Phases as plain;
+ghost use Rattle.lp_frac.specs.Narrow.{largest};
+ghost use Rattle.lp_primal.specs.Answer.{Runs};
+ghost use Rattle.lp_solve.specs.Ends.{Ends, IsInside};
+
+use lp_form::Form;
+use lp_primal::run;
+use lp_tableau::{PrimalEnd, Stop, Tableau};
+
+/// How both phases ended: the last tableau, and the count of pivots and flips.
+#[derive(Drop)]
+pub(crate) struct Ended {
+    pub(crate) tab: Tableau,
+    pub(crate) used: u64,
+    /// That of phase two. There is none where phase one leaves an artificial that is not 0.
+    pub(crate) end: Option<PrimalEnd>,
+}
+
+// Phase one, where it is wanted.
+fn phase_one(tab: &mut Tableau, used: &mut u64, budget: u64) -> Result<PrimalEnd, Stop>
+    requires { used.old ≡ 0 }
+    ensures { Runs (plain.phase_one (Some largest) budget tab.old) tab.new used.new result }
+{
+    if tab.wants_phase_one() {
+        run(tab, used, budget)
+    } else {
+        Ok(PrimalEnd::Optimal)
+    }
+}
+
+/// Both phases from the tableau that the form begins with. They share the budget.
+pub(crate) fn phases(mut tab: Tableau, form: &Form, budget: u64) -> Result<Ended, Stop>
+    requires { start_of (Some largest) form.now ≡ Ok tab }
+    ensures answer { Ends (plain.phases_run (Some largest) budget form.now) result }
+    ensures inside { IfOk result (λ e. IsInside e.tab e.end) }
+{
+    let mut used = 0;
+    phase_one(&mut tab, &mut used, budget)?;
+    if tab.is_stuck() {
+        return Ok(Ended {
+            tab,
+            used,
+            end: None,
+        });
+    }
+    tab.phase_two(form)?;
+    let end = run(&mut tab, &mut used, budget)?;
+    Ok(Ended {
+        tab,
+        used,
+        end: Some(end),
+    })
+}
