@@ -1,3 +1,11 @@
 -- Lemmas.
 pub mod Fed
 pub mod FedCertificate
+pub mod AskTurns
+pub mod EditWordLemmas
+pub mod SmallBounds
+pub mod Stops
+pub mod PairsLeft
+pub mod NewColumn
+pub mod NumberLemmas
+pub mod LineLists

@@ -1,1 +1,4 @@
 pub mod Advance
+pub mod EditWords
+pub mod Gives
+pub mod Takes

@@ -1,17 +1,27 @@
 // What sessions are asked and reply, with the models, names and numbers of the code.
-use lp_base::{Bytes, Name};
+use lp_base::{Bytes, Name, Texts};
 use lp_check::RawCertificate;
+use lp_edit::Edit;
 use lp_frac::Frac;
 use lp_model::Model;
 
+/// What a line between two commands is.
+pub type Command = spec_server::Command<Edit>;
+
+/// A command of one line.
+pub type Plain = spec_server::Plain<Edit>;
+
 /// What a session is asked.
-pub type Ask = spec_server::Ask<Model, RawCertificate>;
+pub type Ask = spec_server::Ask<Model, RawCertificate, Edit>;
 
 /// An ask with the number of its session.
 pub type Asked = spec_server::Asked<Ask>;
 
+/// What a solve answers.
+pub type Answer = spec_server::Answer<Frac>;
+
 /// What a session replies.
-pub type Reply = spec_server::Reply<Name, Frac, Bytes>;
+pub type Reply = spec_server::Reply<Name, Frac, Bytes, Texts>;
 
 /// Why a session refuses.
 pub type Refusal = spec_server::Refusal<Name, Bytes>;

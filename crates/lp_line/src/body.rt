@@ -7,7 +7,7 @@ use std::marker::Model;
 
 /// The lines of a body.
 #[derive(Drop)]
-pub struct Body {
+pub(crate) struct Body {
     lines: Vec<Line>,
 }
 
@@ -21,7 +21,7 @@ impl Model for Body {
 }
 
 impl Body {
-    pub fn new(alloc: Global) -> Self
+    pub(crate) fn new(alloc: Global) -> Self
         ensures { result ≡ [] }
     {
         Body {
@@ -29,14 +29,14 @@ impl Body {
         }
     }
 
-    pub fn push(&mut self, line: Line) -> Result<(), AllocError>
+    pub(crate) fn push(&mut self, line: Line) -> Result<(), AllocError>
         ensures { OnOk result (self.new ≡ self.old ++ line ∷ []) }
     {
         self.lines.push(line)?;
         Ok(())
     }
 
-    pub fn as_slice(&self) -> &[Line]
+    pub(crate) fn as_slice(&self) -> &[Line]
         ensures { result.now ≡ self.now }
     {
         &self.lines

@@ -1,17 +1,122 @@
-// The command lines of a script, and the last lines of bodies.
-ghost use Rattle.std.specs.Prelude.{◌≡◌, ◌≤◌, ◌<◌, List, [], ◌∷◌, ℕ, length, drop, IfOk, IsTrue};
+// The lines between two commands.
+ghost use Rattle.std.specs.Prelude.{◌≡◌, IfOk};
 ghost use Rattle.spec_text.specs.declared.line.Line.TheVariants as line;
-ghost use Rattle.spec_mps.specs.Cards as cards;
-ghost use Rattle.spec_server.specs.Script as script;
+ghost use Rattle.spec_server.specs.declared.command.Command.TheVariants as command;
+ghost use Rattle.spec_server.specs.Command.{style_of, budget_of};
+ghost use Rattle.spec_server.specs.Command as told;
+ghost use Rattle.spec_server.specs.EditCommand.{edit_by};
 
-use lp_base::{Line, Texts, are_same, is_blank, words};
-use lp_check::is_end;
-use spec_mps::Style;
-use spec_server::Command;
+use crate::asks::{Command, Plain};
+use crate::edits::{EditStop, edit_by};
+use crate::words::{budget_of, command_word_of, session_of, style_of};
+use lp_base::{Bytes, Line, words};
+use spec_server::{CommandWord, EditWord, LineFault};
 use std::alloc::{AllocError, Global};
 
+fn bad(session: u32, fault: LineFault) -> Command
+    ensures { result ≡ command.Bad session fault }
+{
+    Command::Bad { session, fault }
+}
+
+fn plain(session: u32, plain: Plain) -> Command
+    ensures { result ≡ command.Plain session plain }
+{
+    Command::Plain { session, plain }
+}
+
+fn load(session: u32, form: &[u8]) -> Command
+    ensures { result ≡ told.load_in session (style_of form.now) }
+{
+    match style_of(form) {
+        Some(style) => Command::Load { session, style },
+        None => bad(session, LineFault::Word),
+    }
+}
+
+fn write(session: u32, form: &[u8]) -> Command
+    ensures { result ≡ told.write_in session (style_of form.now) }
+{
+    match style_of(form) {
+        Some(style) => plain(session, Plain::Write(style)),
+        None => bad(session, LineFault::Word),
+    }
+}
+
+fn budget(session: u32, count: &[u8]) -> Command
+    ensures { result ≡ told.budget_in session (budget_of count.now) }
+{
+    match budget_of(count) {
+        Some(budget) => plain(session, Plain::Budget(budget)),
+        None => bad(session, LineFault::Number),
+    }
+}
+
+fn change(
+    alloc: Global,
+    session: u32,
+    which: EditWord,
+    words: &[Bytes],
+) -> Result<Command, AllocError>
+    ensures { IfOk result (λ command. command ≡ told.change_in session (edit_by which words.now)) }
+{
+    match edit_by(alloc, which, words) {
+        Ok(edit) => Ok(plain(session, Plain::Change(edit))),
+        Err(EditStop::Fault(fault)) => Ok(bad(session, fault)),
+        Err(EditStop::NoMemory) => Err(AllocError),
+    }
+}
+
+// The command of a session, by its command word and the words behind it.
+fn command_with(
+    alloc: Global,
+    session: u32,
+    word: CommandWord,
+    words: &[Bytes],
+) -> Result<Command, AllocError>
+    ensures { IfOk result (λ command. command ≡ told.command_with session word words.now) }
+{
+    match (word, words) {
+        (CommandWord::Load, [form]) => Ok(load(session, form.as_slice())),
+        (CommandWord::Write, [form]) => Ok(write(session, form.as_slice())),
+        (CommandWord::Solve, []) => Ok(plain(session, Plain::Solve)),
+        (CommandWord::Cert, []) => Ok(plain(session, Plain::Cert)),
+        (CommandWord::How, []) => Ok(plain(session, Plain::How)),
+        (CommandWord::Budget, [count]) => Ok(budget(session, count.as_slice())),
+        (CommandWord::Check, []) => Ok(Command::Check(session)),
+        (CommandWord::Quit, []) => Ok(plain(session, Plain::Quit)),
+        (CommandWord::Edit(which), words) => change(alloc, session, which, words),
+        _ => Ok(bad(session, LineFault::Word)),
+    }
+}
+
+// The command of a session, by its words.
+fn command_by(alloc: Global, session: u32, words: &[Bytes]) -> Result<Command, AllocError>
+    ensures { IfOk result (λ command. command ≡ told.command_by session words.now) }
+{
+    let [first, behind @ ..] = words else {
+        return Ok(bad(session, LineFault::Word));
+    };
+    match command_word_of(first.as_slice()) {
+        Some(word) => command_with(alloc, session, word, behind),
+        None => Ok(bad(session, LineFault::Word)),
+    }
+}
+
+fn command_by_words(alloc: Global, words: &[Bytes]) -> Result<Command, AllocError>
+    ensures { IfOk result (λ command. command ≡ told.command_by_words words.now) }
+{
+    let [first, behind @ ..] = words else {
+        return Ok(Command::Skip);
+    };
+    match session_of(first.as_slice()) {
+        Some(session) => command_by(alloc, session, behind),
+        None => Ok(bad(0, LineFault::Word)),
+    }
+}
+
 fn begins_with_hash(text: &[u8]) -> bool
-    ensures { result ≡ script.begins_with_hash text.now }
+    ensures { result ≡ told.begins_with_hash text.now }
 {
     match text {
         [first, ..] => *first == b'#',
@@ -19,163 +124,25 @@ fn begins_with_hash(text: &[u8]) -> bool
     }
 }
 
-fn begins_with_blank(text: &[u8]) -> bool
-    ensures { result ≡ cards.begins_with_blank text.now }
-{
-    match text {
-        [first, ..] => is_blank(*first),
-        [] => true,
-    }
-}
-
-/// The number of a session, 1 to 64.
-#[tactic(auto, unfolding(spec_server::specs::Script::session_of))]
-fn session_of(word: &[u8]) -> Option<u32>
-    ensures { result ≡ script.session_of word.now }
-{
-    match word {
-        [digit] => one_digit(*digit),
-        [tens, ones] => two_digits(*tens, *ones),
-        _ => None,
-    }
-}
-
-#[tactic(auto, unfolding(spec_server::specs::Script::session_of))]
-fn one_digit(digit: u8) -> Option<u32>
-    ensures { result ≡ script.session_of (digit ∷ []) }
-{
-    if b'1' <= digit && digit <= b'9' {
-        Some(u32::from(digit - b'0'))
-    } else {
-        None
-    }
-}
-
-#[tactic(auto, unfolding(spec_server::specs::Script::session_of))]
-fn two_digits(tens: u8, ones: u8) -> Option<u32>
-    ensures { result ≡ script.session_of (tens ∷ ones ∷ []) }
-{
-    if tens < b'1' || b'9' < tens || ones < b'0' || b'9' < ones {
-        return None;
-    }
-    let number = u32::from(tens - b'0') * 10 + u32::from(ones - b'0');
-    if number <= 64 { Some(number) } else { None }
-}
-
-#[tactic(auto, unfolding(spec_server::specs::Script::style_of))]
-fn style_of(word: &[u8]) -> Option<Style>
-    ensures { result ≡ script.style_of word.now }
-{
-    if are_same(word, b"FREE") {
-        Some(Style::Free)
-    } else if are_same(word, b"FIXED") {
-        Some(Style::Fixed)
-    } else {
-        None
-    }
-}
-
-// A command whose second word is a form.
-fn command_in(session: u32, word: &[u8], form: Option<Style>) -> Command
-    ensures { result ≡ script.command_in session word.now form }
-{
-    let Some(style) = form else {
-        return Command::Other(session);
-    };
-    if are_same(word, b"LOAD") {
-        Command::Load { session, style }
-    } else if are_same(word, b"WRITE") {
-        Command::Write { session, style }
-    } else {
-        Command::Other(session)
-    }
-}
-
-fn lone_command(session: u32, word: &[u8]) -> Command
-    ensures { result ≡ script.command_by session (word.now ∷ []) }
-{
-    if are_same(word, b"CHECK") {
-        Command::Check(session)
-    } else {
-        Command::Other(session)
-    }
-}
-
-// The command of a session, by the words behind its number.
-fn command_by(session: u32, words: &Texts) -> Command
-    requires { 1 ≤ length words.now }
-    ensures { result ≡ script.command_by session (drop 1 words.now) }
-{
-    match words.len() {
-        2 => lone_command(session, words.at(1)),
-        3 => command_in(session, words.at(1), style_of(words.at(2))),
-        _ => Command::Other(session),
-    }
-}
-
-fn command_by_words(words: &Texts) -> Command
-    ensures { result ≡ script.command_by_words words.now }
-{
-    if words.is_empty() {
-        return Command::Skip;
-    }
-    match session_of(words.at(0)) {
-        Some(session) => command_by(session, words),
-        None => Command::Other(0),
-    }
-}
-
-#[tactic(auto, unfolding(spec_server::specs::Script::command_of))]
+#[tactic(auto, unfolding(spec_server::specs::Command::command_of))]
 fn text_command(alloc: Global, text: &[u8]) -> Result<Command, AllocError>
-    ensures { IfOk result (λ command. command ≡ script.command_of (line.Text text.now)) }
+    ensures { IfOk result (λ command. command ≡ told.command_of (line.Text text.now)) }
 {
     if begins_with_hash(text) {
         return Ok(Command::Skip);
     }
     let words = words(alloc, text)?;
-    Ok(command_by_words(&words))
+    command_by_words(alloc, words.as_slice())
 }
 
 /// What a line between two commands is.
-#[tactic(auto, unfolding(spec_server::specs::Script::command_of))]
-pub fn command_of(alloc: Global, next: &Line) -> Result<Command, AllocError>
-    ensures { IfOk result (λ command. command ≡ script.command_of next.now) }
+#[tactic(auto, unfolding(spec_server::specs::Command::command_of))]
+pub fn read(alloc: Global, line: &Line) -> Result<Command, AllocError>
+    ensures { IfOk result (λ command. command ≡ told.command_of line.now) }
 {
-    match next {
+    match line {
         Line::Text(text) => text_command(alloc, text.as_slice()),
-        Line::Long(_) | Line::End | Line::Over => Ok(Command::Other(0)),
-    }
-}
-
-fn begins_with_word(words: &Texts, word: &[u8]) -> bool
-    ensures { result ≡ script.begins_with_word word.now words.now }
-{
-    !words.is_empty() && are_same(words.at(0), word)
-}
-
-/// Whether a line is the last one of a text of a model.
-#[tactic(auto, unfolding(spec_server::specs::Script::ends_text))]
-pub fn ends_text(alloc: Global, next: &Line) -> Result<bool, AllocError>
-    ensures { IfOk result (λ ends. ends ≡ script.ends_text next.now) }
-{
-    match next {
-        Line::Text(text) => if begins_with_blank(text.as_slice()) {
-            Ok(false)
-        } else {
-            let words = words(alloc, text.as_slice())?;
-            Ok(begins_with_word(&words, b"ENDATA"))
-        },
-        Line::Long(_) | Line::End | Line::Over => Ok(false),
-    }
-}
-
-/// Whether a line is the last one of a certificate.
-#[tactic(auto, unfolding(spec_server::specs::Script::ends_certificate))]
-pub fn ends_certificate(alloc: Global, next: &Line) -> Result<bool, AllocError>
-    ensures { IfOk result (λ ends. ends ≡ script.ends_certificate next.now) }
-{
-    match next {
-        Line::Text(text) => Ok(is_end(&words(alloc, text.as_slice())?)),
-        Line::Long(_) | Line::End | Line::Over => Ok(false),
+        Line::Long(_) => Ok(bad(0, LineFault::Long)),
+        Line::End | Line::Over => Ok(Command::Skip),
     }
 }

@@ -1,17 +1,30 @@
 //! The protocol of scripts: their lines are read as asks, and replies are written as lines.
 //!
-//! ScriptReader     is fed the lines of a script and answers its asks: src/reader
-//! print            writes a reply: src/printing
-//! print_said       writes the line of what the command `check` says: src/printing
+//! Ask Asked Reply  what sessions are asked and reply, with the types of the code: src/asks
+//! read Command     what a line between two commands is: src/command, and the edits: src/edits
+//! take Taken       reads the lines of the next ask: src/taking, specs/Takes
+//! print            writes a session's reply: src/printing
+//! print_said       writes a reply without a session: src/printing
+//! print_lines      writes lines: src/printing
 #![tactic(auto)]
 
+mod answers;
 mod asks;
 mod body;
 mod command;
+mod edits;
+mod ends;
 mod printing;
 mod reader;
+mod refusals;
+mod taking;
+#[cfg(test)]
+mod tests;
 mod text;
+mod words;
 
-pub use asks::{Ask, Asked, Refusal, Reply};
-pub use printing::{print, print_said};
-pub use reader::ScriptReader;
+pub use asks::{Answer, Ask, Asked, Command, Plain, Refusal, Reply};
+pub use command::read;
+pub use printing::{print, print_lines, print_said};
+pub use spec_server::{How, LineFault, Publication};
+pub use taking::{Taken, take};

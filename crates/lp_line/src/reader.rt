@@ -3,13 +3,14 @@ ghost use Rattle.std.specs.Prelude.{◌≡◌, List, [], ◌∷◌, ◌++◌, �
 ghost use Rattle.spec_server.specs.declared.pending.Pending.TheVariants as pending;
 ghost use Rattle.lp_line.specs.Advance.{Advances};
 
-use crate::asks::{Ask, Asked};
+use crate::asks::{Ask, Asked, Command};
 use crate::body::Body;
-use crate::command::{command_of, ends_certificate, ends_text};
+use crate::command::read;
+use crate::ends::{ends_certificate, ends_text};
 use crate::text::{read_certificate, read_text};
 use lp_base::Line;
 use spec_mps::Style;
-use spec_server::{Command, Pending};
+use spec_server::Pending;
 use std::alloc::{AllocError, Global};
 use std::{marker, mem};
 
@@ -20,7 +21,7 @@ type Advance = (Pending<Body>, Option<Asked>);
 fn command_line(alloc: Global, next: &Line) -> Result<Advance, AllocError>
     ensures { IfOk result (Advances pending.Between next.now) }
 {
-    match command_of(alloc, next)? {
+    match read(alloc, next)? {
         Command::Skip => Ok((Pending::Between, None)),
         Command::Load { session, style } => Ok((
             Pending::Text {
@@ -37,18 +38,18 @@ fn command_line(alloc: Global, next: &Line) -> Result<Advance, AllocError>
             },
             None,
         )),
-        Command::Write { session, style } => Ok((
+        Command::Plain { session, plain } => Ok((
             Pending::Between,
             Some(Asked {
                 session,
-                ask: Ask::Write(style),
+                ask: Ask::Plain(plain),
             }),
         )),
-        Command::Other(session) => Ok((
+        Command::Bad { session, fault } => Ok((
             Pending::Between,
             Some(Asked {
                 session,
-                ask: Ask::NotBuilt,
+                ask: Ask::Bad(fault),
             }),
         )),
     }
@@ -114,7 +115,7 @@ fn advance(alloc: Global, state: Pending<Body>, next: Line) -> Result<Advance, A
 
 /// Reads a script as it is fed its lines, one by one.
 #[derive(Drop)]
-pub struct ScriptReader {
+pub(crate) struct ScriptReader {
     alloc: Global,
     pending: Pending<Body>,
 }
@@ -130,7 +131,7 @@ impl marker::Model for ScriptReader {
 }
 
 impl ScriptReader {
-    pub fn new(alloc: Global) -> Self
+    pub(crate) fn new(alloc: Global) -> Self
         ensures { result ≡ pending.Between }
     {
         ScriptReader {
@@ -141,7 +142,7 @@ impl ScriptReader {
 
     /// Takes the next line, and answers the ask that it completes, if it completes one. After want of memory the reader
     /// has lost the body that it was in.
-    pub fn feed(&mut self, next: Line) -> Result<Option<Asked>, AllocError>
+    pub(crate) fn feed(&mut self, next: Line) -> Result<Option<Asked>, AllocError>
         ensures { IfOk result (λ asked. Advances self.old next (self.new, asked)) }
     {
         let state = mem::replace(&mut self.pending, Pending::Between);
@@ -151,7 +152,7 @@ impl ScriptReader {
     }
 
     /// Whether no command waits for more of its body.
-    pub fn is_between(&self) -> bool
+    pub(crate) fn is_between(&self) -> bool
         ensures { IsTrue result ↔ (self.now ≡ pending.Between) }
     {
         match &self.pending {

@@ -14,7 +14,7 @@ use std::alloc::{AllocError, Global};
 
 /// What the lines of a text ask: to hold the model that they spell, or to refuse them. More lines than a `u32` counts are
 /// refused as want of memory.
-pub fn read_text(alloc: Global, style: Style, lines: &[Line]) -> Result<Ask, AllocError>
+pub(crate) fn read_text(alloc: Global, style: Style, lines: &[Line]) -> Result<Ask, AllocError>
     ensures { IfOk result (λ ask. ask ≡ ask_of_verdict (judge style start 1 lines.now)) }
 {
     let mut reader = Reader::new(alloc, style);
@@ -38,7 +38,7 @@ pub fn read_text(alloc: Global, style: Style, lines: &[Line]) -> Result<Ask, All
 
 /// What the lines of a certificate ask: to check it, or to refuse them. More lines than a `u32` counts are refused as want of
 /// memory.
-pub fn read_certificate(alloc: Global, lines: &[Line]) -> Result<Ask, AllocError>
+pub(crate) fn read_certificate(alloc: Global, lines: &[Line]) -> Result<Ask, AllocError>
     ensures { IfOk result (λ ask. ask ≡ ask_of_judgement (certificate.judge None 1 lines.now)) }
 {
     let mut reader = CertReader::new();

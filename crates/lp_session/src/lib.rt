@@ -1,9 +1,15 @@
-//! One session: it holds a model, and replies to what it is asked.
+//! One session: it holds a model, solves it, and replies to what it is asked.
 //!
-//! Session        steps as the one-session machine: src/session
-//! verdict_on     what is said of a certificate for a model: src/session
+//! Session, LastAnswer           steps as the one-session machine, and what it keeps of a solve: src/session
+//! solved_within                 what a solve of a model ends with, within a budget: src/solved
+//! answer_of, certificate_lines  the answer of what a solve ended with, and the lines of its certificate: src/solved
+//! verdict_on                    what is said of a certificate for a model: src/verdict
 #![tactic(auto)]
 
 mod session;
+mod solved;
+mod verdict;
 
-pub use session::{Session, verdict_on};
+pub use session::{LastAnswer, OPENING_BUDGET, Session};
+pub use solved::{answer_of, certificate_lines, solved_within};
+pub use verdict::verdict_on;

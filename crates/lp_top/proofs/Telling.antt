@@ -1,19 +1,19 @@
 -- What the top call tells.
-use Rattle.std.proofs.Common.{◌≡◌, ◌⊎◌, ℕ, List, Option, Some, None, Result, Ok, Err, arith, refl, sym, ◌∙◌, inl, inr, subst}
+use Rattle.std.proofs.Common.{◌≡◌, ◌⊎◌, ℕ, List, Option, Some, Ok, Err, arith, refl, sym, inl, inr, subst}
 use Rattle.std.proofs.KnownBytes.{Appends-nil}
-use Rattle.spec_mps.specs.declared.style.Style.{Style}
+use Rattle.spec_text.specs.declared.line.Line.{Line}
 use Rattle.spec_server.specs.declared.command_line.CommandLine.{CommandLine}
-use Rattle.spec_server.specs.declared.command_line.CommandLine.TheVariants.{Run, Check}
+use Rattle.spec_server.specs.declared.command_line.CommandLine.TheVariants.{Run}
 use Rattle.spec_server.specs.declared.asks.Reply.TheVariants as reply
 use Rattle.spec_server.specs.Machine.{ExactReply}
 use Rattle.spec_server.specs.CheckOut.{check_code}
+use Rattle.spec_server.specs.SolveOut.{TextSaid, solve_code}
 use Rattle.lp_top.specs.declared.run.Stop.{Stop}
 use Rattle.lp_top.specs.declared.run.Stop.TheVariants as stops
-use Rattle.lp_top.specs.declared.status.Status.{Status}
-use Rattle.lp_top.specs.Check.{Says, HearsSo, ChecksSo, TellsOfCheck}
+use Rattle.lp_top.specs.Hearing.{HearsSo, Says, SaysSo, TellsOf}
 use Rattle.lp_top.specs.Run.{Moves, EndsSo}
 use Rattle.lp_top.specs.Stop.{code_behind}
-use Rattle.lp_top.specs.Top.{Tells, IsStatus, Does}
+use Rattle.lp_top.specs.Top.{Tells, IsReadingStatus, IsStatus, Does}
 
 -- ---- a script
 
@@ -41,34 +41,43 @@ module _ {before after taken now : Option (List ℕ)} where
   pub run_stopped : (stop : Stop) (code : ℕ) → code ≡ code_behind stop → ((moves : Moves before after taken now) × EndsSo moves (Err stop)) → (moves : Moves before after taken now) × Tells code moves
   run_stopped stop code e m = (m.0, subst (λ n. Tells n m.0) (sym e) (told_stop m.0 stop m.1))
 
--- ---- a certificate behind the text of its model
+-- ---- the commands that read a text
 
-code_of_reply : (replied : ExactReply) → (check_code replied ≡ 0) ⊎ (check_code replied ≡ 9)
-code_of_reply (reply.Loaded rows columns) = inl refl
-code_of_reply (reply.Written text) = inl refl
-code_of_reply (reply.Checked what) = inl refl
-code_of_reply reply.Memory = inl refl
-code_of_reply (reply.Refused why) = inr refl
+pub check_codes : (replied : ExactReply) → (check_code replied ≡ 0) ⊎ (check_code replied ≡ 9)
+check_codes (reply.Loaded rows columns) = inl refl
+check_codes (reply.Written text) = inl refl
+check_codes reply.Done = inl refl
+check_codes (reply.Answered what) = inl refl
+check_codes (reply.Certified lines) = inl refl
+check_codes (reply.Found how pivots publication) = inl refl
+check_codes (reply.Checked what) = inl refl
+check_codes reply.Bye = inl refl
+check_codes reply.Memory = inl refl
+check_codes (reply.Refused why) = inr refl
 
-check_code_of : (style : Style) (code : ℕ) → (code ≡ 0) ⊎ (code ≡ 9) → IsStatus (Some (Check style)) code
-check_code_of style code (inl e) = inl e
-check_code_of style code (inr e) = inr (inr (inr (inr (inr e))))
+pub solve_codes : (what : TextSaid) → (solve_code what ≡ 0) ⊎ (solve_code what ≡ 9)
+solve_codes (Ok m) = inl refl
+solve_codes (Err fault) = inr refl
+
+done_code : (code : ℕ) → (code ≡ 0) ⊎ (code ≡ 9) → IsReadingStatus code
+done_code code (inl e) = inl e
+done_code code (inr e) = inr (inr (inr (inr (inr e))))
 
 not_done : (n : ℕ) → ¬ (n ≡ 0) → ¬ (n ≡ 9) → (n ≡ 0) ⊎ (n ≡ 9) → ⊥
 not_done n a b (inl e) = a e
 not_done n a b (inr e) = b e
 
-module _ (style : Style) (before after taken now : Option (List ℕ)) where
-  two_codes : (code : ℕ) → Says style before after taken now code → (code ≡ 0) ⊎ (code ≡ 9)
-  two_codes code s = subst (λ n. (n ≡ 0) ⊎ (n ≡ 9)) (sym s.status) (code_of_reply s.replied)
+module _ {R : Type 0} (said : List (Line (List ℕ)) → Option R) (Out : R → List ℕ → Type 0) (code_of : R → ℕ) (codes : (what : R) → (code_of what ≡ 0) ⊎ (code_of what ≡ 9)) (before after taken now : Option (List ℕ)) where
+  two_codes : (code : ℕ) → Says said Out code_of before after taken now code → (code ≡ 0) ⊎ (code ≡ 9)
+  two_codes code s = subst (λ n. (n ≡ 0) ⊎ (n ≡ 9)) (sym s.status) (codes s.what)
 
-  pub said_code : (code : ℕ) → Says style before after taken now code → IsStatus (Some (Check style)) code
-  said_code code s = check_code_of style code (two_codes code s)
+  pub said_code : (code : ℕ) → Says said Out code_of before after taken now code → IsReadingStatus code
+  said_code code s = done_code code (two_codes code s)
 
-  pub said_done : (code : ℕ) → Says style before after taken now code → TellsOfCheck style before after taken now code
+  pub said_done : (code : ℕ) → Says said Out code_of before after taken now code → TellsOf said Out code_of before after taken now code
   said_done code s = by (two_codes code s)
     where
-      by : (code ≡ 0) ⊎ (code ≡ 9) → TellsOfCheck style before after taken now code
+      by : (code ≡ 0) ⊎ (code ≡ 9) → TellsOf said Out code_of before after taken now code
       by (inl z) = record {
         done = λ e. s;
         fault = λ e. absurd (omega (arith, z, e));
@@ -84,7 +93,7 @@ module _ (style : Style) (before after taken now : Option (List ℕ)) where
         over = λ e. absurd (omega (arith, z, e));
       }
 
-  stop_told : (stop : Stop) → ChecksSo style before after taken now (Err stop) → TellsOfCheck style before after taken now (code_behind stop)
+  stop_told : (stop : Stop) → SaysSo said Out code_of before after taken now (Err stop) → TellsOf said Out code_of before after taken now (code_behind stop)
   stop_told stops.Read h = record {
     done = λ e. absurd (not_done 3 (λ z. omega (arith, z)) (λ z. omega (arith, z)) e);
     fault = λ e. h;
@@ -115,26 +124,26 @@ module _ (style : Style) (before after taken now : Option (List ℕ)) where
     over = λ e. h;
   }
 
-  stop_code : (stop : Stop) → ChecksSo style before after taken now (Err stop) → IsStatus (Some (Check style)) (code_behind stop)
+  stop_code : (stop : Stop) → SaysSo said Out code_of before after taken now (Err stop) → IsReadingStatus (code_behind stop)
   stop_code stops.Read h = inr (inl refl)
   stop_code stops.Write h = inr (inr (inl refl))
   stop_code stops.NoMemory h = inr (inr (inr (inl refl)))
   stop_code stops.Cut h = absurd h
   stop_code stops.Over h = inr (inr (inr (inr (inl refl))))
 
-  pub check_stopped : (stop : Stop) (code : ℕ) → code ≡ code_behind stop → ChecksSo style before after taken now (Err stop) → TellsOfCheck style before after taken now code
-  check_stopped stop code e h = subst (λ n. TellsOfCheck style before after taken now n) (sym e) (stop_told stop h)
+  pub reading_stopped : (stop : Stop) (code : ℕ) → code ≡ code_behind stop → SaysSo said Out code_of before after taken now (Err stop) → TellsOf said Out code_of before after taken now code
+  reading_stopped stop code e h = subst (λ n. TellsOf said Out code_of before after taken now n) (sym e) (stop_told stop h)
 
-  pub check_codes : (stop : Stop) (code : ℕ) → code ≡ code_behind stop → ChecksSo style before after taken now (Err stop) → IsStatus (Some (Check style)) code
-  check_codes stop code e h = subst (λ n. IsStatus (Some (Check style)) n) (sym e) (stop_code stop h)
+  pub reading_codes : (stop : Stop) (code : ℕ) → code ≡ code_behind stop → SaysSo said Out code_of before after taken now (Err stop) → IsReadingStatus code
+  reading_codes stop code e h = subst IsReadingStatus (sym e) (stop_code stop h)
 
 -- where nothing is said, nothing is written
-pub writes_nothing : (style : Style) (before after taken : Option (List ℕ)) (stop : Stop) → HearsSo style before after (Err stop) → ChecksSo style before after taken taken (Err stop)
-writes_nothing style before after taken stops.Read h = (h, Appends-nil taken)
-writes_nothing style before after taken stops.Over h = (h, Appends-nil taken)
-writes_nothing style before after taken stops.NoMemory h = (h, Appends-nil taken)
-writes_nothing style before after taken stops.Write h = absurd h
-writes_nothing style before after taken stops.Cut h = absurd h
+pub writes_nothing : {R : Type 0} (said : List (Line (List ℕ)) → Option R) (Out : R → List ℕ → Type 0) (code_of : R → ℕ) (before after taken : Option (List ℕ)) (stop : Stop) → HearsSo said before after (Err stop) → SaysSo said Out code_of before after taken taken (Err stop)
+writes_nothing said Out code_of before after taken stops.Read h = (h, Appends-nil taken)
+writes_nothing said Out code_of before after taken stops.Over h = (h, Appends-nil taken)
+writes_nothing said Out code_of before after taken stops.NoMemory h = (h, Appends-nil taken)
+writes_nothing said Out code_of before after taken stops.Write h = absurd h
+writes_nothing said Out code_of before after taken stops.Cut h = absurd h
 
 -- by the command
 pub does_as : (asked is : Option CommandLine) (before after taken now : Option (List ℕ)) (code : ℕ) → asked ≡ is → Does is before after taken now code → Does asked before after taken now code

@@ -2,5 +2,8 @@ pub mod Answer
 pub mod Run
 pub mod Stop
 pub mod Top
+pub mod Hearing
 pub mod Check
+pub mod Solve
 pub mod Stage
+pub mod Text

@@ -2,9 +2,7 @@
 use Rattle.std.specs.Prelude.{ℕ, ◌≡◌, ◌⊎◌, List, map, Option, Result, Ok, Err}
 use Rattle.std.specs.Io.KnownBytes.{Consumes, Appends, IsAtEnd}
 use Rattle.spec_text.specs.Lines.{IsPrefixOf}
-use Rattle.spec_text.specs.declared.line.Line.{Line}
 use Rattle.spec_server.specs.declared.asks.Asked.{Asked}
-use Rattle.spec_server.specs.declared.pending.Pending.{Pending}
 use Rattle.spec_server.specs.Machine.{ExactAsk, Exchange, asked_in, RunFits}
 use Rattle.spec_server.specs.Script.{Script, Ending, Ended, Cut, ending_by, script_of, ended_asks_of}
 use Rattle.spec_server.specs.Script as script
@@ -57,8 +55,3 @@ EndsSo moves (Err stops.NoMemory) = Unit {0}
 
 abbrev pub Runs : Option (List ℕ) → Option (List ℕ) → Option (List ℕ) → Option (List ℕ) → Result (Unit {0}) Stop → Type 0
 Runs left_before left_after taken_before taken_after result = (moves : Moves left_before left_after taken_before taken_after) × EndsSo moves result
-
--- between two commands, or inside a body
-abbrev pub EndsAs : Pending (List (Line (List ℕ))) → Result (Unit {0}) Stop → Type 0
-EndsAs pending (Ok u) = ending_by pending ≡ Ended
-EndsAs pending (Err stop) = (stop ≡ stops.Cut) × (ending_by pending ≡ Cut)

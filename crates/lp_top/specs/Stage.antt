@@ -1,20 +1,26 @@
 -- Where the reading of `check` stands, as the definitions have it.
-use Rattle.std.specs.Prelude.{ℕ}
+use Rattle.std.specs.Prelude.{ℕ, Option, List}
+use Rattle.spec_text.specs.declared.line.Line.{Line}
+use Rattle.spec_server.specs.Machine.{ExactReply}
 use Rattle.spec_server.specs.CheckOut as told
-use Rattle.lp_top.specs.declared.check_reader.Stage.{Stage}
-use Rattle.lp_top.specs.declared.check_reader.Stage.TheVariants as stage
-use Rattle.lp_top.specs.declared.check_reader.Step.{Step}
-use Rattle.lp_top.specs.declared.check_reader.Step.TheVariants as step
+use Rattle.lp_top.specs.declared.check_reader.CheckStage.{CheckStage}
+use Rattle.lp_top.specs.declared.check_reader.CheckStage.TheVariants as stage
+use Rattle.lp_top.specs.declared.hearing.Step.{Step}
+use Rattle.lp_top.specs.declared.hearing.Step.TheVariants as step
 
-abbrev pub stage_of : Stage → told.Stage
+abbrev pub stage_of : CheckStage → told.Stage
 stage_of (stage.Text reader) = told.InText reader.style reader.state reader.lines
 stage_of (stage.Certificate model reader) = told.InCertificate model reader.raw reader.lines
 
-abbrev pub step_of : Step → told.Step
+abbrev pub step_of : Step CheckStage ExactReply → told.Step told.Stage ExactReply
 step_of (step.On next) = told.On (stage_of next)
 step_of (step.Says reply) = told.Says reply
 
 -- how many lines were read of the text, or of the certificate
-abbrev pub count_of : Stage → ℕ
+abbrev pub count_of : CheckStage → ℕ
 count_of (stage.Text reader) = reader.lines
 count_of (stage.Certificate model reader) = reader.lines
+
+-- what lines say behind it
+abbrev pub said_behind : CheckStage → List (Line (List ℕ)) → Option ExactReply
+said_behind stage lines = told.said_from (stage_of stage) lines

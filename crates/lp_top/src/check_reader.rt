@@ -1,11 +1,10 @@
 // A text of a model and a certificate behind it, read line by line.
-ghost use Rattle.std.specs.Prelude.{◌≡◌, ◌<◌, ◌-◌, ◌^◌, IfOk};
-ghost use Rattle.spec_check.specs.Settle.{certificate_for};
+ghost use Rattle.std.specs.Prelude.{◌≡◌, ◌<◌, ◌-◌, ◌^◌, IfOk, refl};
 ghost use Rattle.spec_server.specs.CheckOut.{check_step};
 ghost use Rattle.spec_server.specs.CheckOut as told;
-ghost use Rattle.spec_server.specs.Machine as machine;
-ghost use Rattle.lp_top.specs.Stage.{stage_of, step_of, count_of};
+ghost use Rattle.lp_top.specs.Stage.{step_of, count_of, said_behind};
 
+use crate::hearing::{Stage, Step};
 use lp_base::Line;
 use lp_check::{CertFeed, CertReader};
 use lp_line::{Refusal, Reply};
@@ -16,29 +15,43 @@ use std::alloc::{AllocError, Global};
 
 /// In the text of a model, or in the certificate behind it.
 #[derive(Drop)]
-pub(crate) enum Stage {
+pub(crate) enum CheckStage {
     Text(Reader),
     Certificate { model: Model, reader: CertReader },
 }
 
-/// What a line leads to.
-#[derive(Drop)]
-pub(crate) enum Step {
-    /// The next line is read.
-    On(Stage),
-    /// This is said.
-    Says(Reply),
+impl Stage for CheckStage {
+    type Said = Reply;
+
+    ghost said = { said_behind };
+
+    ghost count = { count_of };
+
+    ghost silent = { λ _. refl };
+
+    fn advance(self, alloc: Global, line: &Line) -> Result<Step<CheckStage, Reply>, AllocError> {
+        match self {
+            CheckStage::Text(reader) => text_line(alloc, reader, line),
+            CheckStage::Certificate { model, reader } => {
+                certificate_line(alloc, model, reader, line)
+            }
+        }
+    }
 }
 
 // A line of the text.
 #[tactic(auto, unfolding(spec_server::specs::CheckOut::check_step))]
-fn text_line(alloc: Global, mut reader: Reader, line: &Line) -> Result<Step, AllocError>
+fn text_line(
+    alloc: Global,
+    mut reader: Reader,
+    line: &Line,
+) -> Result<Step<CheckStage, Reply>, AllocError>
     requires { reader.lines < 2 ^ 32 - 1 }
     ensures { IfOk result (λ step. step_of step ≡ check_step (told.InText reader.style reader.state reader.lines) line.now) }
 {
     match reader.feed(alloc, line) {
-        Feed::More => Ok(Step::On(Stage::Text(reader))),
-        Feed::Done(model) => Ok(Step::On(Stage::Certificate {
+        Feed::More => Ok(Step::On(CheckStage::Text(reader))),
+        Feed::Done(model) => Ok(Step::On(CheckStage::Certificate {
             model,
             reader: CertReader::new(),
         })),
@@ -54,25 +67,14 @@ fn certificate_line(
     model: Model,
     mut reader: CertReader,
     line: &Line,
-) -> Result<Step, AllocError>
+) -> Result<Step<CheckStage, Reply>, AllocError>
     requires { reader.lines < 2 ^ 32 - 1 }
     ensures { IfOk result (λ step. step_of step ≡ check_step (told.InCertificate model reader.raw reader.lines) line.now) }
 {
     match reader.feed(alloc, line) {
-        CertFeed::More => Ok(Step::On(Stage::Certificate { model, reader })),
+        CertFeed::More => Ok(Step::On(CheckStage::Certificate { model, reader })),
         CertFeed::Done(raw) => Ok(Step::Says(verdict_on(alloc, &model, &raw)?)),
         CertFeed::Refused(unfit) => Ok(Step::Says(Reply::Refused(Refusal::Unfit(unfit)))),
         CertFeed::NoMemory => Err(AllocError),
-    }
-}
-
-/// Takes the next line.
-pub(crate) fn advance(alloc: Global, stage: Stage, line: &Line) -> Result<Step, AllocError>
-    requires { count_of stage < 2 ^ 32 - 1 }
-    ensures { IfOk result (λ step. step_of step ≡ check_step (stage_of stage) line.now) }
-{
-    match stage {
-        Stage::Text(reader) => text_line(alloc, reader, line),
-        Stage::Certificate { model, reader } => certificate_line(alloc, model, reader, line),
     }
 }

@@ -18,6 +18,19 @@ fn form_of(word: &[u8]) -> Option<Style>
     None
 }
 
+// The command that reads a text in this form.
+fn reading_of(word: &[u8], style: Style) -> Option<CommandLine>
+    ensures { result ≡ told.reading_of word.now style }
+{
+    if are_same(word, b"solve") {
+        return Some(CommandLine::Solve(style));
+    }
+    if are_same(word, b"check") {
+        return Some(CommandLine::Check(style));
+    }
+    None
+}
+
 // What a command line of one word asks.
 #[tactic(auto, unfolding(spec_server::specs::CommandLine::command_line_of))]
 fn lone_word(word: &[u8]) -> Option<CommandLine>
@@ -26,10 +39,7 @@ fn lone_word(word: &[u8]) -> Option<CommandLine>
     if are_same(word, b"run") {
         return Some(CommandLine::Run);
     }
-    if are_same(word, b"check") {
-        return Some(CommandLine::Check(Style::Free));
-    }
-    None
+    reading_of(word, Style::Free)
 }
 
 // What a command line of a command with one option asks.
@@ -37,13 +47,10 @@ fn lone_word(word: &[u8]) -> Option<CommandLine>
 fn with_option(word: &[u8], option: &[u8], form: &[u8]) -> Option<CommandLine>
     ensures { result ≡ told.command_line_of (word.now ∷ option.now ∷ form.now ∷ []) }
 {
-    if !are_same(word, b"check") || !are_same(option, b"--form") {
+    if !are_same(option, b"--form") {
         return None;
     }
-    match form_of(form) {
-        Some(style) => Some(CommandLine::Check(style)),
-        None => None,
-    }
+    reading_of(word, form_of(form)?)
 }
 
 /// What the words ask, if they are a command line.

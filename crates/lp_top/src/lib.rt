@@ -3,15 +3,18 @@
 //! lpd_top     runs a command line over a source and a sink: here
 //! Status      how that ended: src/status
 //!
-//! What it reads and writes is told by specs/Top, specs/Run and specs/Check, in the words of the server's definitions.
+//! What it reads and writes is told by specs/Top, specs/Run, specs/Solve and specs/Check, in the words of the server's
+//! definitions.
 #![tactic(auto)]
 
 mod answer;
 mod check;
 mod check_reader;
 mod command_line;
+mod hearing;
 mod run;
 mod sessions;
+mod solve;
 mod status;
 #[cfg(test)]
 mod tests;
@@ -36,8 +39,8 @@ pub fn lpd_top<S: Source, K: Sink>(
     out: &mut K,
 ) -> Status
     // For some bytes that were read and written: of a script, what was written is the output of a run in which each session
-    // replies as if it were alone, whole or in part as the status says; of a certificate behind the text of its model, what
-    // was written is what is said of it.
+    // replies as if it were alone, whole or in part as the status says; of the text of a model, what was written is what a
+    // solve of it ends with; and of a certificate behind a text, what is said of it.
     ensures output { Does (command_line_of (map string_bytes words.now)) (S.left src.old) (S.left src.new) (K.taken out.old) (K.taken out.new) result.code }
     ensures codes { IsStatus (command_line_of (map string_bytes words.now)) result.code }
 
@@ -52,6 +55,10 @@ pub fn lpd_top<S: Source, K: Sink>(
         None => Status::BAD_COMMAND_LINE,
         Some(CommandLine::Run) => match run::run(alloc, src, out) {
             Ok(()) => Status::DONE,
+            Err(stop) => status_behind(stop),
+        },
+        Some(CommandLine::Solve(style)) => match solve::solve(alloc, style, src, out) {
+            Ok(status) => status,
             Err(stop) => status_behind(stop),
         },
         Some(CommandLine::Check(style)) => match check::check(alloc, style, src, out) {

@@ -2,12 +2,12 @@
 ghost use Rattle.std.specs.Prelude.{◌≡◌, ◌≤◌, IsErrOf};
 ghost use Rattle.lp_base.specs.Causes.{Rose};
 ghost use Rattle.lp_top.specs.declared.run.Stop.TheVariants.{Read, Write, NoMemory};
-ghost use Rattle.lp_top.specs.Run.{Runs, EndsAs};
+ghost use Rattle.lp_top.specs.Run.{Runs};
 
-use crate::answer::respond;
+use crate::answer::answer;
 use crate::sessions::Sessions;
-use lp_base::{Line, LineStop, Lines, Sink, Source, WriteFault};
-use lp_line::ScriptReader;
+use lp_base::{LineStop, Lines, Sink, Source, WriteFault};
+use lp_line::{Taken, take};
 use std::alloc::{AllocError, Global};
 
 /// Why a run stops before its script has ended between two commands.
@@ -56,24 +56,13 @@ pub fn run<S: Source, K: Sink>(alloc: Global, src: &mut S, out: &mut K) -> Resul
     ensures write { IsErrOf result Stop.Write → Rose (K.write_faults out.old) (K.write_faults out.new) }
 {
     let mut lines = Lines::new(alloc)?;
-    let mut reader = ScriptReader::new(alloc);
     let mut sessions = Sessions::new(alloc)?;
     loop {
-        match lines.next(src)? {
-            Line::End => return end_of(&reader),
-            Line::Over => return Err(Stop::Over),
-            line => respond(alloc, &mut reader, &mut sessions, line, out)?,
+        match take(alloc, &mut lines, src)? {
+            Taken::Ask(asked) => answer(alloc, &mut sessions, asked, out)?,
+            Taken::End => return Ok(()),
+            Taken::Cut => return Err(Stop::Cut),
+            Taken::Over => return Err(Stop::Over),
         }
-    }
-}
-
-// How the run of a script ends, at the end of its input.
-fn end_of(reader: &ScriptReader) -> Result<(), Stop>
-    ensures { EndsAs reader.now result }
-{
-    if reader.is_between() {
-        Ok(())
-    } else {
-        Err(Stop::Cut)
     }
 }

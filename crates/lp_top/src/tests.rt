@@ -6,7 +6,7 @@ use std::test::Fail;
 const SCRIPT: &str =
     "# a model and its certificate\n1 LOAD FREE\nNAME a\nROWS\n N cost\n G R1\nCOLUMNS\n x cost 1 R1 1\nRHS\n R1 1\nENDATA\r\n\t1  CHECK\nOPTIMAL\nx x 1\ny R1 1\nEND\n\n2 CHECK\nOPTIMAL\nEND\n1 SOLVE";
 
-const REPLIES: &str = "1 LOADED 1 1\n1 YES OPTIMAL 1\n2 ERR 4 NOMODEL\n1 ERR 15 NOTBUILT\n";
+const REPLIES: &str = "1 LOADED 1 1\n1 YES OPTIMAL 1\n2 ERR 4 NOMODEL\n1 OPTIMAL 1\n";
 
 // A source of these bytes in pieces of this size, whose reads fail where they are listed.
 fn source(alloc: Global, text: &str, size: usize, fails: &[u64]) -> Result<MemSource, AllocError> {
@@ -45,6 +45,24 @@ fn a_script_in_pieces(rt: HostRuntime) -> Result<(), Fail> {
     Ok(())
 }
 
+const SOLVES: &str =
+    "1 LOAD FREE\nNAME a\nROWS\n N cost\n G R1\nCOLUMNS\n x cost 1 R1 1\nRHS\n R1 1\nENDATA\n1 SOLVE\n1 CERT\n1 HOW\n1 WRITE FREE\n1 CHECK\nOPTIMAL\nx x 1\ny R1 1\nEND\n1 QUIT\n";
+
+const SOLVED: &str =
+    "1 LOADED 1 1\n1 OPTIMAL 1\n1 CERT 4\nOPTIMAL\nx x 1\ny R1 1\nEND\n1 HOW COLD PIVOTS 1 NONE\n1 TEXT 10\nNAME a\nROWS\n N cost\n G R1\nCOLUMNS\n x cost 1\n x R1 1\nRHS\n RHS R1 1\nENDATA\n1 YES OPTIMAL 1\n1 BYE\n";
+
+#[test]
+fn ample_memory_is_enough(rt: HostRuntime) -> Result<(), Fail> {
+    let alloc = rt.alloc();
+    let words = words(alloc, &["run"])?;
+    let mut src = source(alloc, SOLVES, 4096, &[])?;
+    let mut out = MemSink::new(alloc, Vec::new(alloc));
+    let status = lpd_top(alloc, &words, &mut src, &mut out);
+    assert_eq!(rt; status, Status::DONE);
+    assert_eq!(rt; out.written(), SOLVED.as_bytes());
+    Ok(())
+}
+
 #[test]
 fn scripts_and_their_output(rt: HostRuntime) -> Result<(), Fail> {
     let alloc = rt.alloc();
@@ -52,11 +70,11 @@ fn scripts_and_their_output(rt: HostRuntime) -> Result<(), Fail> {
     for (script, status, output) in [
         ("", 0, ""),
         ("1 LOAD FREE\nNAME z\n", 6, ""),
-        ("1 JUMP\n1 CHECK\nOPTIMAL", 6, "1 ERR 15 NOTBUILT\n"),
+        ("1 ADDROW r L 1\n1 CHECK\nOPTIMAL", 6, "1 ERR 4 NOMODEL\n"),
         (
-            "65 CHECK\n01 CHECK\nx\n 64\n",
+            "65 CHECK\n01 CHECK\nx\n 64\n1 BUDGET 0\n",
             0,
-            "0 ERR 15 NOTBUILT\n0 ERR 15 NOTBUILT\n0 ERR 15 NOTBUILT\n64 ERR 15 NOTBUILT\n",
+            "0 ERR 1 WORD\n0 ERR 1 WORD\n0 ERR 1 WORD\n64 ERR 1 WORD\n1 ERR 2 NUMBER\n",
         ),
         ("3 LOAD FREE\nNAME a b\nENDATA\n", 0, "3 ERR 8 MPS 2 M1\n"),
         (
@@ -77,7 +95,7 @@ fn scripts_and_their_output(rt: HostRuntime) -> Result<(), Fail> {
 const TEXT: &str = "NAME a\nROWS\n N cost\n G R1\nCOLUMNS\n x cost 1 R1 1\nRHS\n R1 1\nENDATA\n";
 
 #[test]
-fn certificates_behind_texts(rt: HostRuntime) -> Result<(), Fail> {
+fn texts_and_certificates_behind_them(rt: HostRuntime) -> Result<(), Fail> {
     let alloc = rt.alloc();
     for (all, behind, status, output) in [
         (
@@ -101,6 +119,13 @@ fn certificates_behind_texts(rt: HostRuntime) -> Result<(), Fail> {
         (&["check"], "OPTIMAL\nx q 1\nEND\n", 9, "ERR 5 NAME q\n"),
         (&["check"], "OPTIMAL\nx x 1\n", 9, "ERR 14 CERT 3\n"),
         (&["check", "--form"], "OPTIMAL\nEND\n", 2, ""),
+        (
+            &["solve"],
+            "what stands behind the text",
+            0,
+            "OPTIMAL 1\nOPTIMAL\nx x 1\ny R1 1\nEND\n",
+        ),
+        (&["solve", "--form", "fixed"], "", 9, "ERR 8 MPS 3 M3\n"),
     ] {
         let words = words(alloc, all)?;
         let text = format!(in alloc; "{TEXT}{behind}")?;
@@ -131,6 +156,19 @@ fn faults_in_mid_stream(rt: HostRuntime) -> Result<(), Fail> {
     let status = lpd_top(alloc, &words, &mut src, &mut out);
     assert_eq!(rt; status, Status::WRITE);
     assert_eq!(rt; out.written(), b"1 LOADED 1 1\n".as_slice());
+    Ok(())
+}
+
+#[test]
+fn faults_of_a_solve(rt: HostRuntime) -> Result<(), Fail> {
+    let alloc = rt.alloc();
+    let words = words(alloc, &["solve"])?;
+    for (read_fails, write_fails, status) in [(2, 2, Status::READ), (9, 1, Status::WRITE)] {
+        let mut src = source(alloc, TEXT, 40, &[read_fails])?;
+        let mut out = MemSink::new(alloc, vec![in alloc; write_fails]?);
+        assert_eq!(rt; lpd_top(alloc, &words, &mut src, &mut out), status);
+        assert!(rt; out.written().is_empty());
+    }
     Ok(())
 }
 

@@ -5,7 +5,8 @@ use Rattle.spec_text.specs.declared.line.Line.TheVariants.{End}
 use Rattle.spec_mps.specs.Steps as text
 use Rattle.spec_check.specs.Text as certificate
 use Rattle.spec_server.specs.Machine.{ExactReply}
-use Rattle.spec_server.specs.CheckOut.{Stage, InText, InCertificate, On, Says, check_step, follow, said_from}
+use Rattle.spec_server.specs.Said.{On, Says, follow}
+use Rattle.spec_server.specs.CheckOut.{Stage, InText, InCertificate, check_step, said_from}
 
 -- these lines lead from one stage to another
 abbrev pub Comes : Stage → List (Line (List ℕ)) → Stage → Type 0

@@ -1,5 +1,20 @@
 -- Lemmas.
+pub mod NarrowRuns
+pub mod NarrowSteps
+pub mod NarrowStart
+pub mod NarrowCold
+pub mod Dues
+pub mod HandedBack
+pub mod LastFits
 pub mod RunLemmas
+pub mod KeptEdits
 pub mod ScriptLemmas
+pub mod ScriptKept
 pub mod Truth
 pub mod CheckLemmas
+pub mod ColdAnswers
+pub mod TextEnds
+pub mod WrittenEnds
+pub mod PlainLines
+pub mod WrittenChecks
+pub mod Sessions

@@ -1,10 +1,12 @@
 -- Runs of the one-session machine, one after another, and side by side.
-use Rattle.std.proofs.Common.{◌≡◌, ℕ, Bool, true, false, List, [], ◌∷◌, ◌++◌, cond, map, refl, ap, subst, inl, nat_eq, eqb-true}
+use Rattle.std.proofs.Common.{◌≡◌, ℕ, suc, Bool, true, false, List, [], ◌∷◌, ◌++◌, cond, map, refl, ap, ◌∙◌, subst, inl, nat_eq, eqb-true, arith}
+use Rattle.std.specs.List.{filter}
 use Rattle.std.proofs.lemmas.List.Elements.{filter-append}
 use Rattle.std.proofs.lemmas.Grind.{flat_map-append}
 use Rattle.spec_server.specs.declared.asks.Asked.{Asked}
-use Rattle.spec_server.specs.Machine.{ExactAsk, State, reply_to, state_after, AloneStep, Exchange, asked_in, AloneRun, of_session}
+use Rattle.spec_server.specs.Machine.{ExactAsk, IsKeptAsk, AreKept, State, is_memory, AloneStep, Exchange, asked_in, AloneRun, of_session}
 use Rattle.spec_server.specs.Output.{reply_lines, script_out}
+use Rattle.spec_server.proofs.Dues.{reply_to, state_after, IsKeptState, does_due, after_kept, ample_reply}
 
 -- a run goes on with another
 pub AloneRun-append : (a b c : State) (xs ys : List Exchange) → AloneRun a xs b → AloneRun b ys c → AloneRun a (xs ++ ys) c
@@ -40,8 +42,8 @@ asked_in-answered states [] = refl
 asked_in-answered states (a ∷ asks) = ap (λ zs. a ∷ zs) (asked_in-answered (updated states a.session (state_after (states a.session) a.ask)) asks)
 
 -- each step may be taken
-pub good_step : (state : State) (asked : ExactAsk) → AloneStep state asked [] (reply_to state asked) (state_after state asked)
-good_step state asked = record { no_reads = refl; answer = inl (refl, refl) }
+pub good_step : (state : State) (asked : ExactAsk) → IsKeptState state → AloneStep state asked [] (reply_to state asked) (state_after state asked)
+good_step state asked h = record { no_reads = refl; answer = inl (does_due state asked h) }
 
 -- a step of one session, and what its other sessions and it do afterwards
 pub runs_on : (states : ℕ → State) (x : Exchange) (next : State) (xs : List Exchange) → AloneStep (states x.session) x.ask x.reads x.reply next →
@@ -56,13 +58,37 @@ runs_on states x next xs step more session = by (nat_eq x.session session) refl 
         (run.0, (next, subst (λ (s : ℕ). AloneStep (states s) x.ask x.reads x.reply next) same step, run.1))
     by false e run = run
 
-pub answered_runs : (states : ℕ → State) (asks : List (Asked ExactAsk)) (session : ℕ) → (last : State) × AloneRun (states session) (of_session session (answered states asks)) last
-answered_runs states [] session = (states session, refl)
-answered_runs states (a ∷ asks) session =
+-- each session holds a model that may be kept, or none
+abbrev pub AllKept : (ℕ → State) → Type 0
+AllKept states = (session : ℕ) → IsKeptState (states session)
+
+updated_kept : (states : ℕ → State) (session : ℕ) (next : State) → AllKept states → IsKeptState next → AllKept (updated states session next)
+updated_kept states session next h k other = by (nat_eq session other)
+  where
+    by : (t : Bool) → IsKeptState (cond t next (states other))
+    by true = k
+    by false = h other
+
+pub answered_runs : (states : ℕ → State) (asks : List (Asked ExactAsk)) → AllKept states → AreKept asks
+    → (session : ℕ) → (last : State) × AloneRun (states session) (of_session session (answered states asks)) last
+answered_runs states [] h k session = (states session, refl)
+answered_runs states (a ∷ asks) h k session =
+    let next : State = state_after (states a.session) a.ask in
+    let first : IsKeptAsk a.ask = k 0 a (omega arith) in
     runs_on states
     (record { session = a.session; ask = a.ask; reads = []; reply = reply_to (states a.session) a.ask })
-    (state_after (states a.session) a.ask)
-    (answered (updated states a.session (state_after (states a.session) a.ask)) asks)
-    (good_step (states a.session) a.ask)
-    (answered_runs (updated states a.session (state_after (states a.session) a.ask)) asks)
+    next
+    (answered (updated states a.session next) asks)
+    (good_step (states a.session) a.ask (h a.session))
+    (answered_runs (updated states a.session next) asks
+    (updated_kept states a.session next h (after_kept (states a.session) a.ask (h a.session) first)) (λ i d l. k (suc i) d (omega arith)))
     session
+
+-- none of them wants memory
+pub ample_answers : (states : ℕ → State) (asks : List (Asked ExactAsk)) → filter (λ x. is_memory x.reply) (answered states asks) ≡ []
+ample_answers states [] = refl
+ample_answers states (a ∷ asks) =
+    let rest : List Exchange = answered (updated states a.session (state_after (states a.session) a.ask)) asks in
+    let first : Exchange = record { session = a.session; ask = a.ask; reads = []; reply = reply_to (states a.session) a.ask } in
+    ap (λ t. cond t (first ∷ filter (λ x. is_memory x.reply) rest) (filter (λ x. is_memory x.reply) rest)) (ample_reply (states a.session) a.ask)
+    ∙ ample_answers (updated states a.session (state_after (states a.session) a.ask)) asks

@@ -1,5 +1,5 @@
--- What is said of a certificate with a yes is true.
-use Rattle.std.proofs.Common.{◌≡◌, List, Option, Some, None, Ok, Err, refl, sym, subst, inl, inr, ◌⊎◌}
+-- What is said of a certificate with a yes, and what a solve answers, is true.
+use Rattle.std.proofs.Common.{◌≡◌, ℕ, List, Option, Some, None, Ok, Err, refl, sym, subst, inl, inr, ◌⊎◌}
 use Rattle.spec_exact.specs.Fraction.{ℚ}
 use Rattle.spec_model.specs.Model.{Model}
 use Rattle.spec_check.specs.declared.certificate.Certificate.{Certificate}
@@ -12,12 +12,20 @@ use Rattle.spec_check.specs.Certificate.{Holds}
 use Rattle.spec_check.specs.Text.{ExactRaw}
 use Rattle.spec_check.specs.Settle.{Settled, certificate_for}
 use Rattle.spec_check.specs.Run.{Run, check_run, verdict_of}
+use Rattle.spec_pivot.specs.declared.status.Status.{Status}
+use Rattle.spec_cold.specs.declared.outcome.Cold.TheVariants as outcome
+use Rattle.spec_cold.specs.Cold.{ColdEnd}
 use Rattle.spec_check.proofs.Fits.{settled_fits}
 use Rattle.spec_check.proofs.RunSound.{run_sound}
 use Rattle.spec_check.proofs.Sound.{checks_hold}
 use Rattle.spec_server.specs.declared.asks.Ask.TheVariants as ask
 use Rattle.spec_server.specs.declared.asks.Reply.TheVariants as reply
-use Rattle.spec_server.specs.Machine.{State, Read, ExactReply, number_limit, verdict_on, check_reply, AloneStep}
+use Rattle.spec_server.specs.declared.asks.Refusal.TheVariants as refusal
+use Rattle.spec_server.specs.declared.answer.Answer.{Answer}
+use Rattle.spec_server.specs.declared.answer.Answer.TheVariants as answer
+use Rattle.spec_server.specs.declared.command.Plain.TheVariants as plain
+use Rattle.spec_server.specs.Answers.{number_limit, MayAnswer}
+use Rattle.spec_server.specs.Machine.{State, Read, ExactReply, verdict_on, check_reply, solve_due, answer_of, Does, WantsMemory, AloneStep}
 
 said_yes : (run : Run (Known ℚ)) (said : Known ℚ) → verdict_of run ≡ verdict.Yes said → run ≡ Ok said
 said_yes (Ok other) said e = cc
@@ -46,9 +54,48 @@ reply_true (Some m) said raw e = (m, refl, verdict_true m said raw (certificate_
 no_memory : (said : Known ℚ) → yes_to said ≡ reply.Memory → ⊥
 no_memory said e = cc
 
-answer_true : (old new : State) (raw : ExactRaw) (said : Known ℚ) → ((yes_to said ≡ check_reply old.model raw) × (new ≡ old)) ⊎ ((yes_to said ≡ reply.Memory) × (new ≡ old)) → (m : Model) × (old.model ≡ Some m) × Holds m said
+answer_true : (old new : State) (raw : ExactRaw) (said : Known ℚ) → ((yes_to said ≡ check_reply old.model raw) × (new ≡ old)) ⊎ WantsMemory old (ask.Checked raw) (yes_to said) new → (m : Model) × (old.model ≡ Some m) × Holds m said
 answer_true old new raw said (inl h) = reply_true old.model said raw h.0
-answer_true old new raw said (inr h) = absurd (no_memory said h.0)
+answer_true old new raw said (inr h) = absurd (no_memory said h.memory)
 
 pub accepted_is_true : (old new : State) (raw : ExactRaw) (reads : List Read) (said : Known ℚ) → AloneStep old (ask.Checked raw) reads (yes_to said) new → (m : Model) × (old.model ≡ Some m) × Holds m said
 accepted_is_true old new raw reads said s = answer_true old new raw said s.answer
+
+-- ---- solves
+
+-- the reply that answers what is known
+abbrev known_to : Known ℚ → ExactReply
+known_to said = reply.Answered (answer.Known said)
+
+answers_same : (a b : Answer ℚ) → ◌≡◌ {A = ExactReply} (reply.Answered a) (reply.Answered b) → a ≡ b
+answers_same a b e = cc
+
+knowns_same : (a b : Known ℚ) → ◌≡◌ {A = Answer ℚ} (answer.Known a) (answer.Known b) → a ≡ b
+knowns_same a b e = cc
+
+pub ended_true : (m : Model) (budget : ℕ) (known : Known ℚ) (cert : Certificate (List ℚ)) (basis : Option (List Status)) (pivots : ℕ) → MayAnswer m budget (outcome.Ended known cert basis pivots) → Holds m known
+ended_true m budget known cert basis pivots h =
+    let sound = run_sound (Some number_limit) m cert known h.0 h.2 in
+    subst (Holds m) (sym sound.1) (checks_hold m cert sound.0)
+
+solved_true : (m : Model) (budget : ℕ) (solved : ColdEnd) (said : Known ℚ) → MayAnswer m budget solved → answer.Known said ≡ answer_of budget solved → Holds m said
+solved_true m budget (outcome.Ended known cert basis pivots) said h e = subst (Holds m) (sym (knowns_same said known e)) (ended_true m budget known cert basis pivots h)
+solved_true m budget (outcome.Past p) said h e = cc
+solved_true m budget outcome.Spent said h e = cc
+
+refused_unknown : (said : Known ℚ) → known_to said ≡ reply.Refused refusal.NoModel → ⊥
+refused_unknown said e = cc
+
+no_memory_known : (said : Known ℚ) → known_to said ≡ reply.Memory → ⊥
+no_memory_known said e = cc
+
+due_true : (old new : State) (held : Option Model) (said : Known ℚ) → Does old (solve_due old held) (known_to said) new → (m : Model) × (held ≡ Some m) × Holds m said
+due_true old new None said h = absurd (refused_unknown said h.0)
+due_true old new (Some m) said h = (m, refl, solved_true m old.budget h.solved said h.is_solved.may_answer (answers_same _ _ h.answer))
+
+solve_true : (old new : State) (said : Known ℚ) → Does old (solve_due old old.model) (known_to said) new ⊎ WantsMemory old (ask.Plain plain.Solve) (known_to said) new → (m : Model) × (old.model ≡ Some m) × Holds m said
+solve_true old new said (inl h) = due_true old new old.model said h
+solve_true old new said (inr h) = absurd (no_memory_known said h.memory)
+
+pub answered_is_true : (old new : State) (reads : List Read) (said : Known ℚ) → AloneStep old (ask.Plain plain.Solve) reads (known_to said) new → (m : Model) × (old.model ≡ Some m) × Holds m said
+answered_is_true old new reads said s = solve_true old new said s.answer

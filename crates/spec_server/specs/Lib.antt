@@ -1,5 +1,12 @@
+pub mod Answers
 pub mod Machine
+pub mod HandedBack
+pub mod LastFits
 pub mod Output
+pub mod Command
+pub mod EditCommand
 pub mod Script
+pub mod Said
 pub mod CheckOut
+pub mod SolveOut
 pub mod CommandLine

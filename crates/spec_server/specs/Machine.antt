@@ -1,41 +1,82 @@
--- The one-session machine: a session that holds its model alone.
-use Rattle.std.specs.Prelude.{ℕ, ◌≡◌, ◌⊎◌, ◌==◌, Option, Some, None, Ok, Err, List, [], ◌∷◌, length}
+-- The one-session machine: a session that holds its model, its budget and its last answer alone.
+use Rattle.std.specs.Prelude.{ℕ, ◌≡◌, ◌⊎◌, ◌==◌, Bool, true, false, Option, Some, None, Ok, Err, List, [], ◌∷◌, length, All}
 use Rattle.std.specs.List.{filter}
 use Rattle.spec_exact.specs.Fraction.{ℚ}
 use Rattle.spec_model.specs.Model.{Model, Name}
+use Rattle.spec_model.specs.Kept.{IsModel}
 use Rattle.spec_check.specs.declared.certificate.Certificate.{Certificate}
 use Rattle.spec_check.specs.declared.certificate.SettleFault.{SettleFault}
 use Rattle.spec_check.specs.declared.certificate.SettleFault.TheVariants as settle
 use Rattle.spec_check.specs.Text.{ExactRaw}
+use Rattle.spec_check.specs.TextWritten.{certificate_lines}
 use Rattle.spec_check.specs.Settle.{Settled, certificate_for}
 use Rattle.spec_check.specs.Run.{check_run, verdict_of}
 use Rattle.spec_mps.specs.declared.style.Style.{Style}
 use Rattle.spec_mps.specs.declared.style.Style.TheVariants as style
 use Rattle.spec_mps.specs.Written.{free, fixed, too_wide}
+use Rattle.spec_edit.specs.declared.edit.EditFault.{EditFault}
+use Rattle.spec_edit.specs.declared.edit.EditFault.TheVariants as edit
+use Rattle.spec_edit.specs.Edited.{ExactEdit, OrFault, edited}
+use Rattle.spec_edit.specs.Edited as edits
+use Rattle.spec_pivot.specs.declared.status.Status.{Status}
+use Rattle.spec_cold.specs.declared.outcome.Cold.TheVariants as outcome
+use Rattle.spec_cold.specs.Cold.{ColdEnd}
+use Rattle.spec_server.specs.declared.answer.Answer.{Answer}
+use Rattle.spec_server.specs.declared.answer.Answer.TheVariants as answer
+use Rattle.spec_server.specs.declared.answer.How.TheVariants as how
+use Rattle.spec_server.specs.declared.answer.Publication.TheVariants as publication
+use Rattle.spec_server.specs.declared.answer.LastAnswer.{LastAnswer}
 use Rattle.spec_server.specs.declared.asks.Ask.{Ask}
 use Rattle.spec_server.specs.declared.asks.Ask.TheVariants as ask
 use Rattle.spec_server.specs.declared.asks.Asked.{Asked}
 use Rattle.spec_server.specs.declared.asks.Reply.{Reply}
 use Rattle.spec_server.specs.declared.asks.Reply.TheVariants as reply
 use Rattle.spec_server.specs.declared.asks.Refusal.TheVariants as refusal
+use Rattle.spec_server.specs.declared.command.Plain.{Plain}
+use Rattle.spec_server.specs.declared.command.Plain.TheVariants as plain
+use Rattle.spec_server.specs.Answers.{number_limit, IsSolved}
 
--- an ask and a reply of exact numbers
+-- an ask, a reply and a last answer of exact numbers
 abbrev pub ExactAsk : Type 0
-ExactAsk = Ask Model ExactRaw
+ExactAsk = Ask Model ExactRaw ExactEdit
 
 abbrev pub ExactReply : Type 0
-ExactReply = Reply Name ℚ (List ℕ)
+ExactReply = Reply Name ℚ (List ℕ) (List (List ℕ))
+
+abbrev pub ExactLastAnswer : Type 0
+ExactLastAnswer = LastAnswer ℚ (List ℚ) (List Status)
+
+-- a model that is to be held is one that may be kept, and an edit has numbers that may be
+abbrev pub IsKeptPlain : Plain ExactEdit → Type 0
+IsKeptPlain (plain.Change e) = edits.IsKeptEdit e
+IsKeptPlain asked = Unit {0}
+
+abbrev pub IsKeptAsk : ExactAsk → Type 0
+IsKeptAsk (ask.Loaded m) = IsModel m
+IsKeptAsk (ask.Plain asked) = IsKeptPlain asked
+IsKeptAsk asked = Unit {0}
+
+abbrev pub AreKept : List (Asked ExactAsk) → Type 0
+AreKept asks = All (λ a. IsKeptAsk a.ask) asks
 
 -- what a session holds
 pub record State : Type 0 where
   pub model : Option Model
+  pub budget : ℕ
+  pub last : Option ExactLastAnswer
+
+abbrev pub opening_budget : ℕ
+opening_budget = 10000
 
 abbrev pub opening : State
-opening = record { model = None }
+opening = record { model = None; budget = opening_budget; last = None }
 
--- the limit of the numbers that the server holds, 2 ^ 127 - 1
-abbrev pub number_limit : ℕ
-number_limit = 170141183460469231731687303715884105727
+-- ---- replies
+
+-- want of memory
+abbrev pub is_memory : ExactReply → Bool
+is_memory reply.Memory = true
+is_memory replied = false
 
 -- the name that does not fit
 abbrev pub settle_reply : SettleFault Name → ExactReply
@@ -64,31 +105,120 @@ abbrev pub write_reply : Option Model → Style → ExactReply
 write_reply None form = reply.Refused refusal.NoModel
 write_reply (Some m) form = text_reply m form
 
--- the reply with memory enough
-abbrev pub reply_to : State → ExactAsk → ExactReply
-reply_to state (ask.Loaded m) = reply.Loaded (length m.rows) (length m.columns)
-reply_to state (ask.Misspelled fault) = reply.Refused (refusal.Misspelled fault)
-reply_to state (ask.Write form) = write_reply state.model form
-reply_to state (ask.Checked raw) = check_reply state.model raw
-reply_to state (ask.Unfit line) = reply.Refused (refusal.Unfit line)
-reply_to state ask.NotBuilt = reply.Refused refusal.NotBuilt
+-- the answer of a solve within a budget
+abbrev pub answer_of : ℕ → ColdEnd → Answer ℚ
+answer_of budget (outcome.Ended known certificate basis pivots) = answer.Known known
+answer_of budget (outcome.Past p) = answer.Past p
+answer_of budget outcome.Spent = answer.Spent budget
 
--- the state after it
-abbrev pub state_after : State → ExactAsk → State
-state_after state (ask.Loaded m) = record state { model = Some m }
-state_after state (ask.Misspelled fault) = state
-state_after state (ask.Write form) = state
-state_after state (ask.Checked raw) = state
-state_after state (ask.Unfit line) = state
-state_after state ask.NotBuilt = state
+-- the lines of its certificate; none where it knows nothing of the model
+abbrev pub lines_of_solved : Model → ColdEnd → List (List ℕ)
+lines_of_solved m (outcome.Ended known certificate basis pivots) = certificate_lines m certificate
+lines_of_solved m (outcome.Past p) = []
+lines_of_solved m outcome.Spent = []
+
+abbrev pub pivots_of_solved : ColdEnd → Option ℕ
+pivots_of_solved (outcome.Ended known certificate basis pivots) = Some pivots
+pivots_of_solved (outcome.Past p) = None
+pivots_of_solved outcome.Spent = None
+
+abbrev pub cert_reply : Option Model → Option ExactLastAnswer → ExactReply
+cert_reply (Some m) (Some last) = reply.Certified (lines_of_solved m last.solved)
+cert_reply model last = reply.Refused refusal.NoAnswer
+
+abbrev pub how_reply : Option ExactLastAnswer → ExactReply
+how_reply None = reply.Refused refusal.NoAnswer
+how_reply (Some last) = reply.Found last.how (pivots_of_solved last.solved) last.publication
+
+-- ---- what is due to an ask
+
+-- with memory enough: this reply, and this state from then on; or a solve of this model
+pub data Due : Type 0 where
+  Replies : (replied : ExactReply) → (next : State) → Due
+  Solves : (model : Model) → Due
+
+abbrev pub solve_due : State → Option Model → Due
+solve_due state None = Replies (reply.Refused refusal.NoModel) state
+solve_due state (Some m) = Solves m
+
+-- why an edit is refused
+abbrev pub edit_refusal : EditFault Name → ExactReply
+edit_refusal (edit.UnknownName name) = reply.Refused (refusal.Name name)
+edit_refusal (edit.Taken name) = reply.Refused (refusal.Taken name)
+edit_refusal (edit.Limit which count) = reply.Refused (refusal.Limit which count)
+edit_refusal edit.BadName = reply.Refused refusal.BadName
+edit_refusal (edit.Repeated name) = reply.Refused (refusal.Repeated name)
+
+-- an edit that is done forgets the last answer, and a refused one forgets nothing
+abbrev pub edit_due : State → OrFault Model → Due
+edit_due state (Ok m) = Replies reply.Done (record state { model = Some m; last = None })
+edit_due state (Err why) = Replies (edit_refusal why) state
+
+abbrev pub change_due : State → Option Model → ExactEdit → Due
+change_due state None e = Replies (reply.Refused refusal.NoModel) state
+change_due state (Some m) e = edit_due state (edited m e)
+
+abbrev pub plain_due : State → Plain ExactEdit → Due
+plain_due state (plain.Write form) = Replies (write_reply state.model form) state
+plain_due state plain.Solve = solve_due state state.model
+plain_due state plain.Cert = Replies (cert_reply state.model state.last) state
+plain_due state plain.How = Replies (how_reply state.last) state
+plain_due state (plain.Budget n) = Replies reply.Done (record state { budget = n })
+plain_due state plain.Quit = Replies reply.Bye opening
+plain_due state (plain.Change e) = change_due state state.model e
+
+abbrev pub due : State → ExactAsk → Due
+due state (ask.Plain asked) = plain_due state asked
+due state (ask.Loaded m) = Replies (reply.Loaded (length m.rows) (length m.columns)) (record state { model = Some m; last = None })
+due state (ask.Misspelled fault) = Replies (reply.Refused (refusal.Misspelled fault)) state
+due state (ask.Checked raw) = Replies (check_reply state.model raw) state
+due state (ask.Unfit line) = Replies (reply.Refused (refusal.Unfit line)) state
+due state (ask.Bad fault) = Replies (reply.Refused (refusal.Bad fault)) state
+
+-- the state with what a solve ended with; nothing was handed to it, and nothing is given to other sessions
+abbrev pub with_solved : State → ColdEnd → State
+with_solved state solved = record state { last = Some (record { solved = solved; how = how.Cold; publication = publication.Nothing }) }
+
+-- a solve replies its answer, and the session keeps it
+pub record SolveStep (old : State) (m : Model) (replied : ExactReply) (new : State) : Type 0 where
+  pub solved : ColdEnd
+  pub is_solved : IsSolved m old.budget solved
+  pub answer : replied ≡ reply.Answered (answer_of old.budget solved)
+  pub kept : new ≡ with_solved old solved
+
+abbrev pub Does : State → Due → ExactReply → State → Type 0
+Does old (Replies stated next) replied new = (replied ≡ stated) × (new ≡ next)
+Does old (Solves m) replied new = SolveStep old m replied new
+
+-- ---- steps and runs
+
+-- whether memory may be wanting for the reply: where lines are made, a certificate is put to a model, a row, a column or an entry
+-- comes, or a model is solved
+abbrev pub plain_takes_memory : Plain ExactEdit → Bool
+plain_takes_memory (plain.Write form) = true
+plain_takes_memory plain.Solve = true
+plain_takes_memory plain.Cert = true
+plain_takes_memory (plain.Change e) = edits.takes_memory e
+plain_takes_memory asked = false
+
+abbrev pub takes_memory : ExactAsk → Bool
+takes_memory (ask.Plain asked) = plain_takes_memory asked
+takes_memory (ask.Checked raw) = true
+takes_memory asked = false
+
+-- memory is wanting, and the state stays
+pub record WantsMemory (old : State) (asked : ExactAsk) (replied : ExactReply) (new : State) : Type 0 where
+  pub may_want : takes_memory asked ≡ true
+  pub memory : replied ≡ reply.Memory
+  pub stays : new ≡ old
 
 -- what a session reads of what sessions share: nothing yet
 pub data Read : Type 0 where
 
--- One step: nothing is read, and the reply is the one with memory enough; or memory is wanting, and the state stays.
+-- One step: nothing is read, and the session does what is due; or memory is wanting.
 pub record AloneStep (old : State) (asked : ExactAsk) (reads : List Read) (replied : ExactReply) (new : State) : Type 0 where
   pub no_reads : reads ≡ []
-  pub answer : ((replied ≡ reply_to old asked) × (new ≡ state_after old asked)) ⊎ ((replied ≡ reply.Memory) × (new ≡ old))
+  pub answer : Does old (due old asked) replied new ⊎ WantsMemory old asked replied new
 
 -- an ask of a session, what it read, and its reply
 pub record Exchange : Type 0 where

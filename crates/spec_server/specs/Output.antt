@@ -1,5 +1,6 @@
--- What is written of replies: a line each, which begins with the number of the session, and the text of a model behind it.
-use Rattle.std.specs.Prelude.{ℕ, ◌==◌, ◌++◌, List, [], ◌∷◌, length, codes, decimal}
+-- What is written of replies: a line each, which begins with the number of the session, and the text of a model or the lines of a
+-- certificate behind it.
+use Rattle.std.specs.Prelude.{ℕ, ◌==◌, ◌++◌, Option, Some, None, List, [], ◌∷◌, length, codes, decimal}
 use Rattle.std.specs.List.{filter, flat_map}
 use Rattle.spec_exact.specs.Fraction.{ℚ}
 use Rattle.spec_exact.specs.declared.past.Op.{Op}
@@ -13,6 +14,16 @@ use Rattle.spec_check.specs.declared.certificate.Known.{Known}
 use Rattle.spec_check.specs.declared.certificate.Known.TheVariants as known
 use Rattle.spec_check.specs.declared.certificate.Verdict.{Verdict}
 use Rattle.spec_check.specs.declared.certificate.Verdict.TheVariants as verdict
+use Rattle.spec_edit.specs.declared.edit.Which.{Which}
+use Rattle.spec_edit.specs.declared.edit.Which.TheVariants.{Rows, Columns}
+use Rattle.spec_server.specs.declared.answer.Answer.{Answer}
+use Rattle.spec_server.specs.declared.answer.Answer.TheVariants as answer
+use Rattle.spec_server.specs.declared.answer.How.{How}
+use Rattle.spec_server.specs.declared.answer.How.TheVariants.{Cold}
+use Rattle.spec_server.specs.declared.answer.Publication.{Publication}
+use Rattle.spec_server.specs.declared.answer.Publication.TheVariants.{Nothing}
+use Rattle.spec_server.specs.declared.command.LineFault.{LineFault}
+use Rattle.spec_server.specs.declared.command.LineFault.TheVariants as fault
 use Rattle.spec_server.specs.declared.asks.Reply.TheVariants as reply
 use Rattle.spec_server.specs.declared.asks.Refusal.{Refusal}
 use Rattle.spec_server.specs.declared.asks.Refusal.TheVariants as refusal
@@ -43,6 +54,29 @@ verdict_text (verdict.Yes what) = codes "YES " ++ known_text what
 verdict_text (verdict.No n) = codes "NO " ++ decimal n
 verdict_text (verdict.Past p) = past_text p
 
+abbrev pub answer_text : Answer ℚ → List ℕ
+answer_text (answer.Known what) = known_text what
+answer_text (answer.Past p) = past_text p
+answer_text (answer.Spent budget) = codes "SPENT " ++ decimal budget
+
+-- how an answer was found, its pivots and flips, and what was given of it to other sessions
+abbrev pub how_text : How → List ℕ
+how_text Cold = codes "COLD"
+
+abbrev pub pivots_text : Option ℕ → List ℕ
+pivots_text None = codes "-"
+pivots_text (Some n) = decimal n
+
+abbrev pub publication_text : Publication → List ℕ
+publication_text Nothing = codes "NONE"
+
+-- why a line is no command
+abbrev pub line_fault_text : LineFault → List ℕ
+line_fault_text fault.Word = codes "1 WORD"
+line_fault_text fault.Number = codes "2 NUMBER"
+line_fault_text fault.Wide = codes "3 WIDE"
+line_fault_text fault.Long = codes "11 LONG"
+
 -- the line of a text that is wrong, and the number of what is wrong with it
 unfoldable pub fault_text : MpsFault → List ℕ
 fault_text fault = codes "MPS " ++ decimal fault.line ++ codes " M" ++ decimal (code_number fault.code)
@@ -55,14 +89,22 @@ item_text item = codes "FIXEDWIDE " ++ item
 unfoldable pub repeated_text : List ℕ → List ℕ
 repeated_text name = codes "REPEATED " ++ name
 
+abbrev pub which_text : Which → List ℕ
+which_text Rows = codes "ROWS"
+which_text Columns = codes "COLUMNS"
+
 abbrev pub refusal_text : Refusal Name (List ℕ) → List ℕ
+refusal_text (refusal.Bad why) = line_fault_text why
 refusal_text refusal.NoModel = codes "4 NOMODEL"
 refusal_text (refusal.Name name) = codes "5 NAME " ++ name
+refusal_text (refusal.Taken name) = codes "6 TAKEN " ++ name
+refusal_text (refusal.Limit which count) = codes "7 LIMIT " ++ which_text which ++ codes " " ++ decimal count
+refusal_text refusal.BadName = codes "13 BADNAME"
+refusal_text refusal.NoAnswer = codes "9 NOANSWER"
 refusal_text (refusal.Repeated name) = codes "12 " ++ repeated_text name
 refusal_text (refusal.Misspelled fault) = codes "8 " ++ fault_text fault
 refusal_text (refusal.Unfit line) = codes "14 CERT " ++ decimal line
 refusal_text (refusal.FixedWide item) = codes "10 " ++ item_text item
-refusal_text refusal.NotBuilt = codes "15 NOTBUILT"
 
 -- each line ends in a line feed
 unfoldable pub count_of_lines : List ℕ → ℕ
@@ -71,15 +113,29 @@ count_of_lines text = length (filter (λ b. b == 10) text)
 unfoldable pub reply_text : ExactReply → List ℕ
 reply_text (reply.Loaded rows columns) = codes "LOADED " ++ decimal rows ++ codes " " ++ decimal columns
 reply_text (reply.Written text) = codes "TEXT " ++ decimal (count_of_lines text)
+reply_text reply.Done = codes "OK"
+reply_text (reply.Answered what) = answer_text what
+reply_text (reply.Certified lines) = codes "CERT " ++ decimal (length lines)
+reply_text (reply.Found how pivots publication) = codes "HOW " ++ how_text how ++ codes " PIVOTS " ++ pivots_text pivots ++ codes " " ++ publication_text publication
 reply_text (reply.Checked what) = verdict_text what
+reply_text reply.Bye = codes "BYE"
 reply_text reply.Memory = codes "MEMORY"
 reply_text (reply.Refused why) = codes "ERR " ++ refusal_text why
 
--- the lines of the text of a model stand behind its reply
+-- lines, each with a line feed behind it
+unfoldable pub ended_lines : List (List ℕ) → List ℕ
+ended_lines lines = flat_map (λ line. line ++ 10 ∷ []) lines
+
+-- the lines of the text of a model, and those of a certificate, stand behind the reply
 abbrev pub lines_behind : ExactReply → List ℕ
 lines_behind (reply.Loaded rows columns) = []
 lines_behind (reply.Written text) = text
+lines_behind reply.Done = []
+lines_behind (reply.Answered what) = []
+lines_behind (reply.Certified lines) = ended_lines lines
+lines_behind (reply.Found how pivots publication) = []
 lines_behind (reply.Checked what) = []
+lines_behind reply.Bye = []
 lines_behind reply.Memory = []
 lines_behind (reply.Refused why) = []
 

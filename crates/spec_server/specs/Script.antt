@@ -1,76 +1,21 @@
 -- What a script asks.
-use Rattle.std.specs.Prelude.{ℕ, ◌==◌, ◌&&◌, Bool, false, not, Option, Some, None, List, [], ◌∷◌, ◌++◌, length, take, nat_lt, nat_le, codes, if◌then◌else◌}
-use Rattle.std.specs.List.{list_all}
+use Rattle.std.specs.Prelude.{ℕ, ◌&&◌, Bool, false, not, None, List, [], ◌∷◌, ◌++◌, length, take, nat_le, codes, if◌then◌else◌}
 use Rattle.spec_text.specs.declared.line.Line.{Line}
 use Rattle.spec_text.specs.declared.line.Line.TheVariants as line
 use Rattle.spec_text.specs.Lines.{lines_of, ended_lines_of, input_limit}
 use Rattle.spec_text.specs.Words.{same, words_of}
 use Rattle.spec_mps.specs.Cards.{begins_with_blank}
-use Rattle.spec_mps.specs.NumberText.{spelled_from}
-use Rattle.spec_mps.specs.declared.style.Style.{Style}
-use Rattle.spec_mps.specs.declared.style.Style.TheVariants as style
 use Rattle.spec_mps.specs.Reader.{start}
 use Rattle.spec_mps.specs.Steps.{Verdict, Spelled, Refused, judge}
 use Rattle.spec_check.specs.Text.{is_end}
 use Rattle.spec_check.specs.Text as certificate
 use Rattle.spec_server.specs.declared.asks.Ask.TheVariants as ask
 use Rattle.spec_server.specs.declared.asks.Asked.{Asked}
-use Rattle.spec_server.specs.declared.command.Command.{Command}
-use Rattle.spec_server.specs.declared.command.Command.TheVariants.{Skip, Load, Write, Check, Other}
+use Rattle.spec_server.specs.declared.command.Command.TheVariants.{Skip, Load, Check, Plain, Bad}
 use Rattle.spec_server.specs.declared.pending.Pending.{Pending}
 use Rattle.spec_server.specs.declared.pending.Pending.TheVariants.{Between, Text, Certificate}
+use Rattle.spec_server.specs.Command.{ExactCommand, command_of}
 use Rattle.spec_server.specs.Machine.{ExactAsk}
-
--- ---- command lines
-
-abbrev pub is_digit : ℕ → Bool
-is_digit b = nat_le 48 b && nat_le b 57
-
-abbrev pub begins_with_zero : List ℕ → Bool
-begins_with_zero [] = false
-begins_with_zero (b ∷ bs) = b == 48
-
--- a session's number: 1 to 64, without a zero in front
-unfoldable pub session_of : List ℕ → Option ℕ
-session_of word =
-    if nat_lt 0 (length word) && nat_le (length word) 2 && list_all is_digit word && not (begins_with_zero word) && nat_le (spelled_from 0 word) 64
-    then Some (spelled_from 0 word) else None
-
--- the form that a word names
-unfoldable pub style_of : List ℕ → Option Style
-style_of word = if same word (codes "FREE") then Some style.Free else (if same word (codes "FIXED") then Some style.Fixed else None)
-
--- a command whose second word is a form
-abbrev pub command_in : ℕ → List ℕ → Option Style → Command
-command_in session word None = Other session
-command_in session word (Some form) =
-    if same word (codes "LOAD") then Load session form else (if same word (codes "WRITE") then Write session form else Other session)
-
--- the command of a session whose words these are
-abbrev pub command_by : ℕ → List (List ℕ) → Command
-command_by session [] = Other session
-command_by session (word ∷ []) = if same word (codes "CHECK") then Check session else Other session
-command_by session (word ∷ form ∷ []) = command_in session word (style_of form)
-command_by session (word ∷ form ∷ other ∷ more) = Other session
-
-abbrev pub command_for : Option ℕ → List (List ℕ) → Command
-command_for None words = Other 0
-command_for (Some session) words = command_by session words
-
-abbrev pub command_by_words : List (List ℕ) → Command
-command_by_words [] = Skip
-command_by_words (word ∷ words) = command_for (session_of word) words
-
-abbrev pub begins_with_hash : List ℕ → Bool
-begins_with_hash [] = false
-begins_with_hash (b ∷ bs) = b == 35
-
--- A line without words, and a comment, is skipped. A line that is too long is no command of any session.
-unfoldable pub command_of : Line (List ℕ) → Command
-command_of (line.Text bytes) = if begins_with_hash bytes then Skip else command_by_words (words_of bytes)
-command_of (line.Long len) = Other 0
-command_of line.End = Other 0
-command_of line.Over = Other 0
 
 -- ---- bodies
 
@@ -103,12 +48,12 @@ ask_of_judgement (certificate.Refused n) = ask.Unfit n
 -- ---- a script, line by line
 
 -- what a command begins
-abbrev pub begun : Command → Pending (List (Line (List ℕ)))
+abbrev pub begun : ExactCommand → Pending (List (Line (List ℕ)))
 begun Skip = Between
 begun (Load session form) = Text session form []
-begun (Write session form) = Between
 begun (Check session) = Certificate session []
-begun (Other session) = Between
+begun (Plain session asked) = Between
+begun (Bad session fault) = Between
 
 -- what is pending after a line
 abbrev pub pending_after_line : Pending (List (Line (List ℕ))) → Line (List ℕ) → Pending (List (Line (List ℕ)))
@@ -116,12 +61,12 @@ pending_after_line Between next = begun (command_of next)
 pending_after_line (Text session form body) next = if ends_text next then Between else Text session form (body ++ next ∷ [])
 pending_after_line (Certificate session body) next = if ends_certificate next then Between else Certificate session (body ++ next ∷ [])
 
-abbrev pub asks_of_command : Command → List (Asked ExactAsk)
+abbrev pub asks_of_command : ExactCommand → List (Asked ExactAsk)
 asks_of_command Skip = []
 asks_of_command (Load session form) = []
-asks_of_command (Write session form) = record { session = session; ask = ask.Write form } ∷ []
 asks_of_command (Check session) = []
-asks_of_command (Other session) = record { session = session; ask = ask.NotBuilt } ∷ []
+asks_of_command (Plain session asked) = record { session = session; ask = ask.Plain asked } ∷ []
+asks_of_command (Bad session fault) = record { session = session; ask = ask.Bad fault } ∷ []
 
 -- the ask that a line completes, if it completes one
 abbrev pub asks_of_line : Pending (List (Line (List ℕ))) → Line (List ℕ) → List (Asked ExactAsk)

@@ -1,24 +1,27 @@
-// What a session is asked and what it replies, over the type M of models, R of certificates as their texts have them, N of
-// names, F of numbers and T of texts.
+// What a session is asked and what it replies, over the type M of models, R of certificates as their texts have them, E of
+// edits, N of names, F of numbers, T of texts and L of lists of lines.
+use crate::answer::{Answer, How, Publication};
+use crate::command::{LineFault, Plain};
 use spec_check::Verdict;
-use spec_mps::{MpsFault, Style};
+use spec_edit::Which;
+use spec_mps::MpsFault;
 use std::fmt::Debug;
 
 /// What a session is asked.
 #[derive(Drop)]
-pub enum Ask<M, R> {
+pub enum Ask<M, R, E> {
+    /// What one line asks alone.
+    Plain(Plain<E>),
     /// To hold this model from now on.
     Loaded(M),
     /// To hold the model of a text that spells none.
     Misspelled(MpsFault),
-    /// To write its model.
-    Write(Style),
     /// To check a certificate against its model.
     Checked(R),
     /// To check a certificate whose text does not fit, from the line with this number on.
     Unfit(u32),
-    /// Something that is not built yet: a line that is no built command.
-    NotBuilt,
+    /// Nothing: the line is no command.
+    Bad(LineFault),
 }
 
 /// An ask, with the number of its session. Session 0 is asked where a line names no session.
@@ -30,12 +33,25 @@ pub struct Asked<A> {
 
 /// What a session replies.
 #[derive(Drop)]
-pub enum Reply<N, F: Debug, T> {
+pub enum Reply<N, F: Debug, T, L> {
     /// The number of rows and of columns.
     Loaded(u32, u32),
     /// The text of its model.
     Written(T),
+    /// What was asked is so from now on.
+    Done,
+    Answered(Answer<F>),
+    /// The lines of the last answer's certificate, if it has one.
+    Certified(L),
+    /// How the last answer was found. There are no pivots where it knows nothing of the model.
+    Found {
+        how: How,
+        pivots: Option<u64>,
+        publication: Publication,
+    },
     Checked(Verdict<F>),
+    /// The session begins anew.
+    Bye,
     /// Memory is wanting, and the session is as it was.
     Memory,
     Refused(Refusal<N, T>),
@@ -44,11 +60,21 @@ pub enum Reply<N, F: Debug, T> {
 /// Why a session refuses.
 #[derive(Drop)]
 pub enum Refusal<N, T> {
+    /// A line is no command.
+    Bad(LineFault),
     /// No model is loaded.
     NoModel,
     /// No row or column has the name.
     Name(N),
-    /// A certificate has the name twice, for one letter.
+    /// A row, the objective or a column has the new name already.
+    Taken(N),
+    /// So many rows or columns are there already.
+    Limit(Which, u32),
+    /// The new name is none that a row or a column may have.
+    BadName,
+    /// Nothing was solved since the model was loaded or edited.
+    NoAnswer,
+    /// A certificate has the name twice, for one letter; or a new column has the row twice.
     Repeated(N),
     /// A text spells no model.
     Misspelled(MpsFault),
@@ -56,5 +82,4 @@ pub enum Refusal<N, T> {
     Unfit(u32),
     /// Fixed form has no place for this name or number.
     FixedWide(T),
-    NotBuilt,
 }

@@ -1,17 +1,78 @@
-// The command lines of a script.
+// The command lines of a script, over the type E of edits.
 use spec_mps::Style;
 
-/// What a line between two commands is, with the number of its session.
+/// A command word.
 #[derive(Clone, Copy, Debug, PartialEq, Eq)]
-pub enum Command {
+pub enum CommandWord {
+    Load,
+    Write,
+    Solve,
+    Cert,
+    How,
+    Budget,
+    Check,
+    Quit,
+    Edit(EditWord),
+}
+
+/// The command word of an edit.
+#[derive(Clone, Copy, Debug, PartialEq, Eq)]
+pub enum EditWord {
+    AddRow,
+    DelRow,
+    AddCol,
+    DelCol,
+    SetCost,
+    SetCoef,
+    SetRhs,
+    SetRange,
+    SetBound,
+    Sense,
+}
+
+/// A command of one line.
+#[derive(Drop)]
+pub enum Plain<E> {
+    /// The session's model is asked for as a text.
+    Write(Style),
+    /// The session's model is to be solved.
+    Solve,
+    /// The certificate of the last answer is asked for.
+    Cert,
+    /// How the last answer was found is asked for.
+    How,
+    /// Each later solve is to make at most so many pivots and flips.
+    Budget(u32),
+    /// The session's model is to be edited.
+    Change(E),
+    /// The session is to begin anew.
+    Quit,
+}
+
+/// Why a line is no command.
+#[derive(Clone, Copy, Debug, PartialEq, Eq)]
+pub enum LineFault {
+    /// A word, or the count of words.
+    Word,
+    /// A word that is no number, or none of those that the command takes.
+    Number,
+    /// A number that is too wide.
+    Wide,
+    /// The line's length.
+    Long,
+}
+
+/// What a line between two commands is, with the number of its session.
+#[derive(Drop)]
+pub enum Command<E> {
     /// A line without words, or a comment.
     Skip,
     /// A text of a model follows.
     Load { session: u32, style: Style },
-    /// The session's model is asked for as a text.
-    Write { session: u32, style: Style },
     /// A certificate follows.
     Check(u32),
-    /// No built command.
-    Other(u32),
+    /// A command of this line alone.
+    Plain { session: u32, plain: Plain<E> },
+    /// No command.
+    Bad { session: u32, fault: LineFault },
 }

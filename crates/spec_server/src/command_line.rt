@@ -6,6 +6,8 @@ use spec_mps::Style;
 pub enum CommandLine {
     /// To run the script that the source gives.
     Run,
+    /// To solve the model whose text in this form the source gives.
+    Solve(Style),
     /// To check the certificate that the source gives behind the text of a model in this form.
     Check(Style),
 }

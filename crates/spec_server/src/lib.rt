@@ -1,35 +1,63 @@
 //! The server: what a script asks, what one session replies, and what is written of it.
 //!
 //! Ask, Reply, Refusal           what a session is asked, and what it replies: src/asks
-//! Command                       what a line between two commands is: src/command
+//! Answer, LastAnswer            what a solve answers, and what a session keeps of it: src/answer
+//! Command, command_of           what a line between two commands is: src/command, specs/Command
+//! edit_by                       the edit that a line's words ask for: specs/EditCommand
 //! CommandLine, command_line_of  what the words of a command line ask: src/command_line, specs/CommandLine
 //! Pending                       what the lines of a script have begun: src/pending
+//! MayAnswer, HowFits            what a solve may end with: specs/Answers
+//! LastFits                      what holds of the last answer that a session keeps: specs/LastFits
+//! IsAcceptedBack                that the certificate of an answer is accepted, handed back: specs/HandedBack
+//! AreKept                       asks whose models and edits may be kept: specs/Machine
 //! AloneStep, AloneRun           the one-session machine and its runs: specs/Machine
 //! RunFits                       the exchanges of many sessions, each on its own: specs/Machine
 //! script_of                     the asks of a script and how it ends, by its bytes: specs/Script
+//! IsSaid                        what a step from line to line says of an input: specs/Said
 //! said, check_line              what the command `check` says of its input, and the line that it writes: specs/CheckOut
+//! text_said, SolveOut           what the command `solve` reads, and what it writes of it: specs/SolveOut
 //! script_out                    what is written of the replies: specs/Output
 #![tactic(auto)]
 
-ghost use Rattle.std.specs.Prelude.{◌≡◌, List, map, Some};
+ghost use Rattle.std.specs.Prelude.{◌≡◌, ◌⊎◌, ℕ, List, [], ◌++◌, map, Option, Some, None, IfSome};
+ghost use Rattle.std.specs.List.{filter};
 ghost use Rattle.spec_exact.specs.Fraction.{ℚ};
 ghost use Rattle.spec_model.specs.Model.{Model};
+ghost use Rattle.spec_model.specs.Kept.{IsModel};
+ghost use Rattle.spec_mps.specs.declared.style.Style.TheVariants as form;
+ghost use Rattle.spec_mps.specs.Written.{free, fixed, too_wide};
+ghost use Rattle.spec_check.specs.declared.certificate.Certificate.{Certificate};
 ghost use Rattle.spec_check.specs.declared.certificate.Known.{Known};
 ghost use Rattle.spec_check.specs.declared.certificate.Verdict.TheVariants as verdict;
 ghost use Rattle.spec_check.specs.Certificate.{Holds};
 ghost use Rattle.spec_check.specs.Text.{ExactRaw};
+ghost use Rattle.spec_check.specs.TextWritten.{certificate_lines};
+ghost use Rattle.spec_pivot.specs.declared.status.Status.{Status};
+ghost use Rattle.spec_cold.specs.declared.outcome.Cold.TheVariants as outcome;
+ghost use Rattle.spec_cold.specs.Cold.{cold};
+ghost use Rattle.spec_server.specs.declared.answer.Answer.TheVariants as answer;
 ghost use Rattle.spec_server.specs.declared.asks.Ask.TheVariants as ask;
 ghost use Rattle.spec_server.specs.declared.asks.Asked.{Asked as asked_of};
 ghost use Rattle.spec_server.specs.declared.asks.Reply.TheVariants as reply;
-ghost use Rattle.spec_server.specs.Machine.{ExactAsk, State, Read, AloneStep, Exchange, asked_in, RunFits};
+ghost use Rattle.spec_server.specs.declared.command.Plain.TheVariants as plain;
+ghost use Rattle.spec_server.specs.Answers.{number_limit, MayAnswer};
+ghost use Rattle.spec_server.specs.HandedBack.{IsAcceptedBack};
+ghost use Rattle.spec_server.specs.LastFits.{LastFits};
+ghost use Rattle.spec_server.specs.Machine.{ExactAsk, ExactReply, ExactLastAnswer, IsKeptAsk, AreKept, is_memory, State, opening, Read, AloneStep, Exchange, asked_in, AloneRun, RunFits};
+ghost use Rattle.spec_server.specs.Script.{script_of};
+ghost use Rattle.spec_server.specs.Output.{ended_lines};
+ghost use Rattle.spec_server.specs.Said.{IsSaidEarly};
+ghost use Rattle.spec_server.specs.CheckOut.{said};
 
+mod answer;
 mod asks;
 mod command;
 mod command_line;
 mod pending;
 
+pub use answer::{Answer, How, LastAnswer, Publication};
 pub use asks::{Ask, Asked, Refusal, Reply};
-pub use command::Command;
+pub use command::{Command, CommandWord, EditWord, LineFault, Plain};
 pub use command_line::CommandLine;
 pub use pending::Pending;
 
@@ -40,7 +68,71 @@ pub fn accepted_certificates_are_true()
         (m : Model) × (old.model ≡ Some m) × Holds m known }
 {}
 
-/// Each list of asks has exchanges in which each session runs alone.
+/// What a session answers to a solve is true of the model that it holds.
+pub fn answers_are_true()
+    ensures { (old new : State) (reads : List Read) (known : Known ℚ) →
+        AloneStep old (ask.Plain plain.Solve) reads (reply.Answered (answer.Known known)) new →
+        (m : Model) × (old.model ≡ Some m) × Holds m known }
+{}
+
+/// A solve answers what the cold solve at the limit finds, or memory is wanting.
+pub fn solves_answer_as_the_cold_run()
+    ensures { (old new : State) (reads : List Read) (replied : ExactReply) (m : Model)
+        (known : Known ℚ) (cert : Certificate (List ℚ)) (basis : Option (List Status)) (pivots : ℕ) →
+        old.model ≡ Some m → cold (Some number_limit) old.budget m ≡ outcome.Ended known cert basis pivots →
+        AloneStep old (ask.Plain plain.Solve) reads replied new →
+        (replied ≡ reply.Answered (answer.Known known)) ⊎ (replied ≡ reply.Memory) }
+{}
+
+/// The last answer that a session keeps stays one that its model may have.
+pub fn last_answers_fit()
+    ensures opening { LastFits opening.model opening.last }
+    ensures steps { (old new : State) (asked : ExactAsk) (reads : List Read) (replied : ExactReply) →
+        AloneStep old asked reads replied new → LastFits old.model old.last → LastFits new.model new.last }
+{}
+
+/// A session whose asks have models and edits that may be kept holds no model but one that may be kept.
+pub fn sessions_keep_models()
+    ensures opening { IfSome opening.model IsModel }
+    ensures steps { (old new : State) (asked : ExactAsk) (reads : List Read) (replied : ExactReply) →
+        AloneStep old asked reads replied new → IsKeptAsk asked → IfSome old.model IsModel → IfSome new.model IsModel }
+{}
+
+/// Whatever a session was asked before, with models and edits that may be kept, as those of scripts are: its last answer stands
+/// up. What is known by it is true of the model that the session holds, and to the text of this model with the lines of the
+/// answer's certificate behind it the command `check` says yes, and that the same is known.
+pub fn last_answers_stand_up()
+    ensures { (xs : List Exchange) (state : State) (m : Model) (last : ExactLastAnswer)
+        (known : Known ℚ) (cert : Certificate (List ℚ)) (basis : Option (List Status)) (pivots : ℕ) →
+        AreKept (map asked_in xs) → AloneRun opening xs state →
+        state.model ≡ Some m → state.last ≡ Some last → last.solved ≡ outcome.Ended known cert basis pivots →
+        Holds m known × IsSaidEarly (said form.Free) (free m ++ ended_lines (certificate_lines m cert)) (reply.Checked (verdict.Yes known)) }
+{}
+
+/// The certificate of an answer is accepted where its lines are handed back to a session that holds the model.
+pub fn certificates_are_accepted_back()
+    ensures { (m : Model) (budget : ℕ) (known : Known ℚ) (cert : Certificate (List ℚ)) (basis : Option (List Status)) (pivots : ℕ) →
+        IsModel m → MayAnswer m budget (outcome.Ended known cert basis pivots) → IsAcceptedBack m known cert }
+{}
+
+/// Anyone can check an answer: to the text of its model with the lines of its certificate behind it the command `check` says
+/// yes, and that the same is known, whatever stands behind. It is so in both forms, where fixed form has room for the model.
+pub fn answers_check_against_the_written_text()
+    ensures free { (m : Model) (budget : ℕ) (known : Known ℚ) (cert : Certificate (List ℚ)) (basis : Option (List Status)) (pivots : ℕ) →
+        IsModel m → MayAnswer m budget (outcome.Ended known cert basis pivots) →
+        IsSaidEarly (said form.Free) (free m ++ ended_lines (certificate_lines m cert)) (reply.Checked (verdict.Yes known)) }
+    ensures fixed { (m : Model) (budget : ℕ) (known : Known ℚ) (cert : Certificate (List ℚ)) (basis : Option (List Status)) (pivots : ℕ) →
+        IsModel m → too_wide m ≡ None → MayAnswer m budget (outcome.Ended known cert basis pivots) →
+        IsSaidEarly (said form.Fixed) (fixed m ++ ended_lines (certificate_lines m cert)) (reply.Checked (verdict.Yes known)) }
+{}
+
+/// Each list of asks, whose models may be kept, has exchanges in which each session runs alone, with memory enough.
 pub fn asks_have_a_run()
-    ensures { (asks : List (asked_of ExactAsk)) → (xs : List Exchange) × (map asked_in xs ≡ asks) × RunFits xs }
+    ensures { (asks : List (asked_of ExactAsk)) → AreKept asks →
+        (xs : List Exchange) × (map asked_in xs ≡ asks) × RunFits xs × (filter (λ x. is_memory x.reply) xs ≡ []) }
+{}
+
+/// The models that a script's asks are to hold may be kept, and its edits have numbers and bounds that a kept model may have.
+pub fn scripts_ask_kept_models()
+    ensures { (bytes : List ℕ) → AreKept (script_of bytes).asks }
 {}

@@ -1,0 +1,12 @@
+-- What reading an edit answers, where it stops.
+use Rattle.std.proofs.Common.{◌≡◌, Result, Ok, Err, sym, subst, ap, ◌∙◌}
+use Rattle.std.proofs.lemmas.Result.{err_from_is_err_and}
+use Rattle.spec_server.specs.declared.command.LineFault.{LineFault}
+use Rattle.spec_server.specs.EditCommand.{Reads}
+use Rattle.lp_line.specs.declared.edits.EditStop.{EditStop}
+use Rattle.lp_line.specs.declared.edits.EditStop.TheVariants.{Fault, NoMemory}
+use Rattle.lp_line.specs.Gives.{Gives}
+
+-- at the fault of the words
+pub gives_fault : {A : Type 0} (answer : Reads A) (result : Result A EditStop) (stop : EditStop) (fault : LineFault) → result ≡ Err stop → stop ≡ Fault fault → answer ≡ Err fault → Gives answer result
+gives_fault answer result stop fault r s e = subst (Gives answer) (sym (r ∙ ap Err s)) e

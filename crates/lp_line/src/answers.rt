@@ -1,0 +1,134 @@
+// Answers, verdicts and how answers were found, as they are written.
+ghost use Rattle.std.specs.Prelude.{◌≡◌, ◌++◌, OnOk, decimal};
+ghost use Rattle.spec_server.specs.declared.asks.Reply.TheVariants as replies;
+ghost use Rattle.spec_server.specs.Output as output;
+
+use crate::asks::Answer;
+use lp_base::Bytes;
+use lp_check::{Known, Verdict};
+use lp_frac::{Op, Past};
+use spec_server::{How, Publication};
+use std::alloc::{AllocError, Global};
+
+/// Writes a number behind what is there.
+pub(crate) fn push_number(alloc: Global, number: u64, to: &mut Bytes) -> Result<(), AllocError>
+    ensures { OnOk result (to.new ≡ to.old ++ decimal number) }
+{
+    let digits = number.to_string(alloc)?;
+    to.extend(digits.as_bytes())
+}
+
+fn op_name(op: Op) -> &'static [u8]
+    ensures { result.now ≡ output.op_text op }
+{
+    match op {
+        Op::Add => b"ADD",
+        Op::Sub => b"SUB",
+        Op::Mul => b"MUL",
+        Op::Div => b"DIV",
+        Op::Cmp => b"CMP",
+    }
+}
+
+fn push_past(alloc: Global, past: &Past, to: &mut Bytes) -> Result<(), AllocError>
+    ensures { OnOk result (to.new ≡ to.old ++ output.past_text past.now) }
+{
+    to.extend(b"PAST ")?;
+    to.extend(op_name(past.op))?;
+    to.extend(b" ")?;
+    lp_numtext::write(alloc, past.a, to)?;
+    to.extend(b" ")?;
+    lp_numtext::write(alloc, past.b, to)
+}
+
+fn push_known(alloc: Global, known: &Known, to: &mut Bytes) -> Result<(), AllocError>
+    ensures { OnOk result (to.new ≡ to.old ++ output.known_text known.now) }
+{
+    match known {
+        Known::Optimal(value) => {
+            to.extend(b"OPTIMAL ")?;
+            lp_numtext::write(alloc, *value, to)
+        }
+        Known::Infeasible => to.extend(b"INFEASIBLE"),
+        Known::Unbounded => to.extend(b"UNBOUNDED"),
+    }
+}
+
+/// Writes a verdict behind what is there.
+pub(crate) fn push_verdict(
+    alloc: Global,
+    verdict: &Verdict,
+    to: &mut Bytes,
+) -> Result<(), AllocError>
+    ensures { OnOk result (to.new ≡ to.old ++ output.verdict_text verdict.now) }
+{
+    match verdict {
+        Verdict::Yes(known) => {
+            to.extend(b"YES ")?;
+            push_known(alloc, known, to)
+        }
+        Verdict::No(condition) => {
+            to.extend(b"NO ")?;
+            push_number(alloc, u64::from(*condition), to)
+        }
+        Verdict::Past(past) => push_past(alloc, past, to),
+    }
+}
+
+/// Writes an answer behind what is there.
+pub(crate) fn push_answer(alloc: Global, answer: &Answer, to: &mut Bytes) -> Result<(), AllocError>
+    ensures { OnOk result (to.new ≡ to.old ++ output.answer_text answer.now) }
+{
+    match answer {
+        Answer::Known(known) => push_known(alloc, known, to),
+        Answer::Past(past) => push_past(alloc, past, to),
+        Answer::Spent(budget) => {
+            to.extend(b"SPENT ")?;
+            push_number(alloc, *budget, to)
+        }
+    }
+}
+
+fn how_name(how: How) -> &'static [u8]
+    ensures { result.now ≡ output.how_text how }
+{
+    match how {
+        How::Cold => b"COLD",
+    }
+}
+
+fn publication_name(publication: Publication) -> &'static [u8]
+    ensures { result.now ≡ output.publication_text publication }
+{
+    match publication {
+        Publication::Nothing => b"NONE",
+    }
+}
+
+fn push_pivots(alloc: Global, pivots: Option<u64>, to: &mut Bytes) -> Result<(), AllocError>
+    ensures { OnOk result (to.new ≡ to.old ++ output.pivots_text pivots) }
+{
+    match pivots {
+        Some(pivots) => push_number(alloc, pivots, to),
+        None => to.extend(b"-"),
+    }
+}
+
+/// Writes how an answer was found behind what is there.
+#[tactic(auto, unfolding(spec_server::specs::Output::reply_text))]
+pub(crate) fn push_found(
+    alloc: Global,
+    how: How,
+    pivots: Option<u64>,
+    publication: Publication,
+    to: &mut Bytes,
+) -> Result<(), AllocError>
+    ensures { OnOk result (to.new ≡ to.old ++ output.reply_text (replies.Found how pivots publication)) }
+{
+    to.extend(b"HOW ")?;
+    to.extend(how_name(how))?;
+    to.extend(b" PIVOTS ")?;
+    push_pivots(alloc, pivots, to)?;
+    to.extend(b" ")?;
+    to.extend(publication_name(publication))
+}

@@ -1,0 +1,307 @@
+// The edits that command lines ask for.
+ghost use Rattle.std.specs.Prelude.{◌≡◌, IfOk, IfSome};
+ghost use Rattle.spec_model.specs.Kept.{IsBound};
+ghost use Rattle.spec_mps.specs.BoundText.{bound_of, bound_answer};
+ghost use Rattle.spec_server.specs.declared.command.EditWord.TheVariants as word;
+ghost use Rattle.spec_server.specs.EditCommand as told;
+ghost use Rattle.lp_line.specs.Gives.{Gives};
+ghost use Rattle.lp_line.specs.declared.edits.EditStop.TheVariants.{Fault, NoMemory};
+
+use lp_base::{Bytes, Name, are_same};
+use lp_edit::{Bounds, Edit, Pairs};
+use lp_frac::Frac;
+use lp_model::{Kind, Sense};
+use lp_numtext::{BoundValue, NumFault, read_bound};
+use spec_server::{EditWord, LineFault};
+use std::alloc::{AllocError, Global};
+
+/// Why a line is not read as an edit.
+#[derive(Clone, Copy)]
+pub(crate) enum EditStop {
+    Fault(LineFault),
+    NoMemory,
+}
+
+impl From<LineFault> for EditStop {
+    ghost from_gives = { λ fault stop. stop ≡ Fault fault };
+
+    fn from(fault: LineFault) -> Self {
+        EditStop::Fault(fault)
+    }
+}
+
+impl From<AllocError> for EditStop {
+    ghost from_gives = { λ _ stop. stop ≡ NoMemory };
+
+    fn from(_: AllocError) -> Self {
+        EditStop::NoMemory
+    }
+}
+
+fn number_fault(fault: NumFault) -> LineFault
+    ensures { result ≡ told.number_fault fault }
+{
+    match fault {
+        NumFault::Shape => LineFault::Number,
+        NumFault::Wide => LineFault::Wide,
+    }
+}
+
+#[tactic(auto, unfolding(spec_server::specs::EditCommand::number_in))]
+fn number_in(word: &Bytes) -> Result<Frac, LineFault>
+    ensures { result ≡ told.number_in word.now }
+{
+    match lp_numtext::read(word.as_slice()) {
+        Ok(value) => Ok(value),
+        Err(fault) => Err(number_fault(fault)),
+    }
+}
+
+#[tactic(auto, unfolding(spec_server::specs::EditCommand::kind_in))]
+fn kind_in(word: &Bytes) -> Result<Kind, LineFault>
+    ensures { result ≡ told.kind_in word.now }
+{
+    let word = word.as_slice();
+    if are_same(word, b"L") {
+        return Ok(Kind::L);
+    }
+    if are_same(word, b"G") {
+        return Ok(Kind::G);
+    }
+    if are_same(word, b"E") {
+        return Ok(Kind::E);
+    }
+    Err(LineFault::Word)
+}
+
+#[tactic(auto, unfolding(spec_server::specs::EditCommand::sense_in))]
+fn sense_in(word: &Bytes) -> Result<Sense, LineFault>
+    ensures { result ≡ told.sense_in word.now }
+{
+    let word = word.as_slice();
+    if are_same(word, b"MIN") {
+        return Ok(Sense::Min);
+    }
+    if are_same(word, b"MAX") {
+        return Ok(Sense::Max);
+    }
+    Err(LineFault::Word)
+}
+
+#[tactic(auto, unfolding(spec_server::specs::EditCommand::range_in))]
+fn range_in(word: &Bytes) -> Result<Option<Frac>, LineFault>
+    ensures { result ≡ told.range_in word.now }
+{
+    if are_same(word.as_slice(), b"NONE") {
+        return Ok(None);
+    }
+    Ok(Some(number_in(word)?))
+}
+
+fn bound_in(word: &Bytes) -> Result<BoundValue<Frac>, LineFault>
+    ensures { result ≡ told.as_read (bound_answer (bound_of word.now)) }
+{
+    match read_bound(word.as_slice()) {
+        Ok(bound) => Ok(bound),
+        Err(fault) => Err(number_fault(fault)),
+    }
+}
+
+#[tactic(auto, using(crate::proofs::SmallBounds::small_bound), unfolding(spec_server::specs::EditCommand::lower_in))]
+fn lower_in(word: &Bytes) -> Result<Option<Frac>, LineFault>
+    ensures value { result ≡ told.lower_in word.now }
+    ensures small { IfOk result IsBound }
+{
+    match bound_in(word)? {
+        BoundValue::Finite(lower) => Ok(Some(lower)),
+        BoundValue::MinusInf => Ok(None),
+        BoundValue::PlusInf => Err(LineFault::Number),
+    }
+}
+
+#[tactic(auto, using(crate::proofs::SmallBounds::small_bound), unfolding(spec_server::specs::EditCommand::upper_in))]
+fn upper_in(word: &Bytes) -> Result<Option<Frac>, LineFault>
+    ensures value { result ≡ told.upper_in word.now }
+    ensures small { IfOk result IsBound }
+{
+    match bound_in(word)? {
+        BoundValue::Finite(upper) => Ok(Some(upper)),
+        BoundValue::PlusInf => Ok(None),
+        BoundValue::MinusInf => Err(LineFault::Number),
+    }
+}
+
+fn name_in(alloc: Global, word: &Bytes) -> Result<Name, AllocError>
+    ensures { IfOk result (λ name. name ≡ word.now) }
+{
+    Name::from_slice(alloc, word.as_slice())
+}
+
+// The names of rows, each with the number behind it. The words are as many of these as of those.
+fn pairs_in(alloc: Global, words: &[Bytes]) -> Result<Pairs, EditStop>
+    ensures { IfSome (told.two_by_two words.now) (λ pairs. Gives (told.numbers_in pairs) result) }
+{
+    let mut pairs = Pairs::new(alloc);
+    let mut left = words;
+    while let [name, value, others @ ..] = left {
+        let value = number_in(value)?;
+        pairs.push(name_in(alloc, name)?, value)?;
+        left = others;
+    }
+    Ok(pairs)
+}
+
+#[tactic(auto, unfolding(spec_server::specs::EditCommand::edit_by))]
+fn add_row(alloc: Global, words: &[Bytes]) -> Result<Edit, EditStop>
+    ensures { Gives (told.edit_by word.AddRow words.now) result }
+{
+    let (name, kind, rhs, range) = match words {
+        [name, kind, rhs] => (name, kind, rhs, None),
+        [name, kind, rhs, range] => (name, kind, rhs, Some(range)),
+        _ => return Err(LineFault::Word.into()),
+    };
+    let kind = kind_in(kind)?;
+    let rhs = number_in(rhs)?;
+    let range = match range {
+        Some(range) => Some(number_in(range)?),
+        None => None,
+    };
+    let name = name_in(alloc, name)?;
+    Ok(Edit::AddRow {
+        name,
+        kind,
+        rhs,
+        range,
+    })
+}
+
+#[tactic(auto, unfolding(spec_server::specs::EditCommand::edit_by))]
+fn delete_row(alloc: Global, words: &[Bytes]) -> Result<Edit, EditStop>
+    ensures { Gives (told.edit_by word.DelRow words.now) result }
+{
+    let [name] = words else {
+        return Err(LineFault::Word.into());
+    };
+    Ok(Edit::DelRow(name_in(alloc, name)?))
+}
+
+// The words of a new column are counted before its numbers are read.
+fn column_in(alloc: Global, name: &Bytes, cost: &Bytes, pairs: &[Bytes]) -> Result<Edit, EditStop>
+    ensures { Gives (told.column_in name.now cost.now (told.two_by_two pairs.now)) result }
+{
+    if pairs.len() % 2 != 0 {
+        return Err(LineFault::Word.into());
+    }
+    let cost = number_in(cost)?;
+    let pairs = pairs_in(alloc, pairs)?;
+    let name = name_in(alloc, name)?;
+    Ok(Edit::AddCol { name, cost, pairs })
+}
+
+#[tactic(auto, unfolding(spec_server::specs::EditCommand::edit_by))]
+fn add_column(alloc: Global, words: &[Bytes]) -> Result<Edit, EditStop>
+    ensures { Gives (told.edit_by word.AddCol words.now) result }
+{
+    match words {
+        [name, cost, pairs @ ..] => column_in(alloc, name, cost, pairs),
+        _ => Err(LineFault::Word.into()),
+    }
+}
+
+#[tactic(auto, unfolding(spec_server::specs::EditCommand::edit_by))]
+fn delete_column(alloc: Global, words: &[Bytes]) -> Result<Edit, EditStop>
+    ensures { Gives (told.edit_by word.DelCol words.now) result }
+{
+    let [name] = words else {
+        return Err(LineFault::Word.into());
+    };
+    Ok(Edit::DelCol(name_in(alloc, name)?))
+}
+
+#[tactic(auto, unfolding(spec_server::specs::EditCommand::edit_by))]
+fn set_cost(alloc: Global, words: &[Bytes]) -> Result<Edit, EditStop>
+    ensures { Gives (told.edit_by word.SetCost words.now) result }
+{
+    let [name, value] = words else {
+        return Err(LineFault::Word.into());
+    };
+    let value = number_in(value)?;
+    Ok(Edit::SetCost(name_in(alloc, name)?, value))
+}
+
+#[tactic(auto, unfolding(spec_server::specs::EditCommand::edit_by))]
+fn set_coefficient(alloc: Global, words: &[Bytes]) -> Result<Edit, EditStop>
+    ensures { Gives (told.edit_by word.SetCoef words.now) result }
+{
+    let [row, column, value] = words else {
+        return Err(LineFault::Word.into());
+    };
+    let value = number_in(value)?;
+    let row = name_in(alloc, row)?;
+    let column = name_in(alloc, column)?;
+    Ok(Edit::SetCoef { row, column, value })
+}
+
+#[tactic(auto, unfolding(spec_server::specs::EditCommand::edit_by))]
+fn set_right_side(alloc: Global, words: &[Bytes]) -> Result<Edit, EditStop>
+    ensures { Gives (told.edit_by word.SetRhs words.now) result }
+{
+    let [name, value] = words else {
+        return Err(LineFault::Word.into());
+    };
+    let value = number_in(value)?;
+    Ok(Edit::SetRhs(name_in(alloc, name)?, value))
+}
+
+#[tactic(auto, unfolding(spec_server::specs::EditCommand::edit_by))]
+fn set_range(alloc: Global, words: &[Bytes]) -> Result<Edit, EditStop>
+    ensures { Gives (told.edit_by word.SetRange words.now) result }
+{
+    let [name, range] = words else {
+        return Err(LineFault::Word.into());
+    };
+    let range = range_in(range)?;
+    Ok(Edit::SetRange(name_in(alloc, name)?, range))
+}
+
+#[tactic(auto, unfolding(spec_server::specs::EditCommand::edit_by))]
+fn set_bounds(alloc: Global, words: &[Bytes]) -> Result<Edit, EditStop>
+    ensures { Gives (told.edit_by word.SetBound words.now) result }
+{
+    let [column, lower, upper] = words else {
+        return Err(LineFault::Word.into());
+    };
+    let lower = lower_in(lower)?;
+    let upper = upper_in(upper)?;
+    let column = name_in(alloc, column)?;
+    let bounds = Bounds::new(lower, upper);
+    Ok(Edit::SetBound { column, bounds })
+}
+
+#[tactic(auto, unfolding(spec_server::specs::EditCommand::edit_by))]
+fn set_sense(words: &[Bytes]) -> Result<Edit, EditStop>
+    ensures { Gives (told.edit_by word.Sense words.now) result }
+{
+    let [sense] = words else {
+        return Err(LineFault::Word.into());
+    };
+    Ok(Edit::SetSense(sense_in(sense)?))
+}
+
+/// The edit that the words behind a command word ask for. Their count comes first, and then the words from left to right.
+pub(crate) fn edit_by(alloc: Global, which: EditWord, words: &[Bytes]) -> Result<Edit, EditStop>
+    ensures { Gives (told.edit_by which words.now) result }
+{
+    match which {
+        EditWord::AddRow => add_row(alloc, words),
+        EditWord::DelRow => delete_row(alloc, words),
+        EditWord::AddCol => add_column(alloc, words),
+        EditWord::DelCol => delete_column(alloc, words),
+        EditWord::SetCost => set_cost(alloc, words),
+        EditWord::SetCoef => set_coefficient(alloc, words),
+        EditWord::SetRhs => set_right_side(alloc, words),
+        EditWord::SetRange => set_range(alloc, words),
+        EditWord::SetBound => set_bounds(alloc, words),
+        EditWord::Sense => set_sense(words),
+    }
+}

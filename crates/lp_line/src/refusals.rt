@@ -1,0 +1,133 @@
+// Refusals as they are written.
+ghost use Rattle.std.specs.Prelude.{◌≡◌, ◌++◌, OnOk};
+ghost use Rattle.spec_mps.specs.Checks as checks;
+ghost use Rattle.spec_server.specs.Output as output;
+
+use crate::answers::push_number;
+use crate::asks::Refusal;
+use lp_base::Bytes;
+use lp_edit::Which;
+use spec_mps::{Code, MpsFault};
+use spec_server::LineFault;
+use std::alloc::{AllocError, Global};
+
+fn line_fault_name(fault: LineFault) -> &'static [u8]
+    ensures { result.now ≡ output.line_fault_text fault }
+{
+    match fault {
+        LineFault::Word => b"1 WORD",
+        LineFault::Number => b"2 NUMBER",
+        LineFault::Wide => b"3 WIDE",
+        LineFault::Long => b"11 LONG",
+    }
+}
+
+// The number of what is wrong with a text.
+fn code_number(code: Code) -> u64
+    ensures { result ≡ checks.code_number code }
+{
+    match code {
+        Code::SectionOrder => 1,
+        Code::UnknownSection => 2,
+        Code::CardShape => 3,
+        Code::RowType => 4,
+        Code::RowTaken => 5,
+        Code::UnknownRow => 6,
+        Code::ColumnTaken => 7,
+        Code::EntryRepeated => 8,
+        Code::NumberShape => 9,
+        Code::NumberWide => 10,
+        Code::BoundKind => 11,
+        Code::Integer => 12,
+        Code::SemiContinuous => 13,
+        Code::UnknownColumn => 14,
+        Code::NoObjective => 15,
+        Code::Limit => 16,
+        Code::Name => 17,
+        Code::RangeOnObjective => 18,
+        Code::Cut => 19,
+    }
+}
+
+#[tactic(auto, unfolding(spec_server::specs::Output::fault_text))]
+fn push_fault(alloc: Global, fault: MpsFault, to: &mut Bytes) -> Result<(), AllocError>
+    ensures { OnOk result (to.new ≡ to.old ++ output.fault_text fault) }
+{
+    to.extend(b"MPS ")?;
+    push_number(alloc, u64::from(fault.line), to)?;
+    to.extend(b" M")?;
+    push_number(alloc, code_number(fault.code), to)
+}
+
+// What is too wide for fixed form.
+#[tactic(auto, unfolding(spec_server::specs::Output::item_text))]
+fn push_item(item: &Bytes, to: &mut Bytes) -> Result<(), AllocError>
+    ensures { OnOk result (to.new ≡ to.old ++ output.item_text item.now) }
+{
+    to.extend(b"FIXEDWIDE ")?;
+    to.extend(item.as_slice())
+}
+
+// A name that stands twice.
+#[tactic(auto, unfolding(spec_server::specs::Output::repeated_text))]
+fn push_repeated(name: &[u8], to: &mut Bytes) -> Result<(), AllocError>
+    ensures { OnOk result (to.new ≡ to.old ++ output.repeated_text name.now) }
+{
+    to.extend(b"REPEATED ")?;
+    to.extend(name)
+}
+
+fn which_name(which: Which) -> &'static [u8]
+    ensures { result.now ≡ output.which_text which }
+{
+    match which {
+        Which::Rows => b"ROWS",
+        Which::Columns => b"COLUMNS",
+    }
+}
+
+/// Writes a refusal behind what is there.
+pub(crate) fn push_refusal(
+    alloc: Global,
+    refusal: &Refusal,
+    to: &mut Bytes,
+) -> Result<(), AllocError>
+    ensures { OnOk result (to.new ≡ to.old ++ output.refusal_text refusal.now) }
+{
+    match refusal {
+        Refusal::Bad(fault) => to.extend(line_fault_name(*fault)),
+        Refusal::NoModel => to.extend(b"4 NOMODEL"),
+        Refusal::Name(name) => {
+            to.extend(b"5 NAME ")?;
+            to.extend(name.as_slice())
+        }
+        Refusal::Taken(name) => {
+            to.extend(b"6 TAKEN ")?;
+            to.extend(name.as_slice())
+        }
+        Refusal::Limit(which, count) => {
+            to.extend(b"7 LIMIT ")?;
+            to.extend(which_name(*which))?;
+            to.extend(b" ")?;
+            push_number(alloc, u64::from(*count), to)
+        }
+        Refusal::BadName => to.extend(b"13 BADNAME"),
+        Refusal::NoAnswer => to.extend(b"9 NOANSWER"),
+        Refusal::Repeated(name) => {
+            to.extend(b"12 ")?;
+            push_repeated(name.as_slice(), to)
+        }
+        Refusal::Misspelled(fault) => {
+            to.extend(b"8 ")?;
+            push_fault(alloc, *fault, to)
+        }
+        Refusal::Unfit(line) => {
+            to.extend(b"14 CERT ")?;
+            push_number(alloc, u64::from(*line), to)
+        }
+        Refusal::FixedWide(item) => {
+            to.extend(b"10 ")?;
+            push_item(item, to)
+        }
+    }
+}

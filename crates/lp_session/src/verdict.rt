@@ -1,0 +1,25 @@
+// What is said of certificates.
+ghost use Rattle.std.specs.Prelude.{◌≡◌, IfOk};
+ghost use Rattle.spec_check.specs.Settle.{certificate_for};
+ghost use Rattle.spec_server.specs.Machine as machine;
+
+use lp_check::{RawCertificate, SettleError, SettleFault, check, settle};
+use lp_line::{Refusal, Reply};
+use lp_model::Model;
+use std::alloc::{AllocError, Global};
+
+/// What is said of a certificate for a model.
+pub fn verdict_on(alloc: Global, model: &Model, raw: &RawCertificate) -> Result<Reply, AllocError>
+    ensures { IfOk result (λ reply. reply ≡ machine.verdict_on model.now (certificate_for model.now raw.now)) }
+{
+    match settle(alloc, model, raw) {
+        Ok(certificate) => Ok(Reply::Checked(check(model, &certificate))),
+        Err(SettleError::Fault(SettleFault::UnknownName(name))) => {
+            Ok(Reply::Refused(Refusal::Name(name)))
+        }
+        Err(SettleError::Fault(SettleFault::Repeated(name))) => {
+            Ok(Reply::Refused(Refusal::Repeated(name)))
+        }
+        Err(SettleError::NoMemory) => Err(AllocError),
+    }
+}

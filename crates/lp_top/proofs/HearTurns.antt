@@ -1,0 +1,146 @@
+-- The reading of an input of which something is said, line by line, and what it is where it stops.
+use Rattle.std.proofs.Common.{◌≡◌, ◌≢◌, ℕ, ◌-◌, ◌^◌, ◌≤◌, ◌<◌, List, [], ◌∷◌, ◌++◌, length, Option, Some, None, Result, Ok, Err, Bool, true, false, arith, ap, sym, ◌∙◌, append_assoc, append-nil, length-append, refl, inl, inr, subst, ⊎_elim}
+use Rattle.std.proofs.KnownBytes.{Consumes-nil, Consumes-trans}
+use Rattle.spec_text.specs.Lines.{lines_of}
+use Rattle.spec_text.specs.declared.line.Line.{Line}
+use Rattle.spec_text.specs.declared.line.Line.TheVariants.{End, Over}
+use Rattle.spec_text.specs.declared.line.Line.TheVariants as line
+use Rattle.spec_server.specs.Said.{IsSaid}
+use Rattle.lp_base.specs.Reading.Value.{Reading, at_start}
+use Rattle.lp_base.specs.Reading.{GivesNext}
+use Rattle.lp_base.specs.Taking.{Tells, TakesLines, ReadsLines, StopsWith}
+use Rattle.lp_base.proofs.TakingLemmas.{reads_start, reads_line, reads_until, stops_at_end, stops_over, stops_with, given_line}
+use Rattle.lp_base.specs.declared.lines.LineStop.{LineStop}
+use Rattle.lp_base.specs.declared.lines.LineStop.TheVariants as line_stops
+use Rattle.lp_top.specs.declared.hearing.Step.TheVariants as step
+use Rattle.lp_top.specs.declared.run.Stop.{Stop}
+use Rattle.lp_top.specs.declared.run.Stop.TheVariants as stops
+use Rattle.lp_top.specs.Hearing.{Leads, Hears, HearsTooMuch, Reads, HearsSo}
+use Rattle.lp_top.specs.Stop.{stop_of}
+
+-- a line takes a byte at least
+takes_more : {before after : Option (List ℕ)} {old new : Reading} (line : Line (List ℕ)) → GivesNext before after old new (Ok line) → line ≢ End → line ≢ Over → (old.given < new.given) × (new.given ≤ 2 ^ 26)
+takes_more {before} {after} {old} {new} line g no_end no_over =
+    let given = given_line before after old g.bytes new line no_end no_over g.gives in (
+      ⊎_elim
+          (λ e. omega (arith, given.count, ap length e.0.cut, length-append e.0.raw (10 ∷ new.ahead)))
+          (λ l. omega (arith, given.count, ap length l.0.all, l.0.some))
+          given.taken,
+      given.bound,
+    )
+
+append_one : {A : Type 0} (xs : List A) (x : A) (more : List A) → (xs ++ x ∷ []) ++ more ≡ xs ++ x ∷ more
+append_one xs x more = append_assoc xs (x ∷ []) more
+
+-- the lines that were read lead from the first stage to this one
+pub record Turn {T R : Type 0} (said : T → List (Line (List ℕ)) → Option R) (count : T → ℕ) (first : T) (before now : Option (List ℕ)) (reading : Reading) (at : T) : Type 0 where
+  pub lines : List (Line (List ℕ))
+  pub reads : ReadsLines before now at_start reading lines
+  pub comes : (more : List (Line (List ℕ))) → said first (lines ++ more) ≡ said at more
+  pub few : count at ≤ reading.given
+  pub within : reading.given ≤ 2 ^ 26
+
+module _ {T R : Type 0} {said : T → List (Line (List ℕ)) → Option R} {count : T → ℕ} {first : T} where
+  pub started : (left : Option (List ℕ)) (reading : Reading) → reading ≡ at_start → count first ≡ 0 → Turn said count first left left reading first
+  started left reading is_start none =
+      let empty : reading.given ≡ 0 = ap (λ (r : Reading). r.given) is_start in
+      record {
+        lines = [];
+        reads = reads_start left reading is_start;
+        comes = λ more. refl;
+        few = omega (arith, none);
+        within = omega (arith, empty);
+      }
+
+  pub in_range : {before now : Option (List ℕ)} {reading : Reading} {at : T} → Turn said count first before now reading at → count at < 2 ^ 32 - 1
+  in_range t = omega (arith, t.few, t.within)
+
+  module _ {before now : Option (List ℕ)} {reading : Reading} {at : T} (t : Turn said count first before now reading at) (after : Option (List ℕ)) where
+    -- one more line was read
+    pub on_line : (new : Reading) (line : Line (List ℕ)) → GivesNext now after reading new (Ok line) → line ≢ Over → (next : T) → Leads said count at line (step.On next) → Turn said count first before after new next
+    on_line new line g no_over next leads =
+        let more = takes_more line g leads.2 no_over in
+        record {
+          lines = t.lines ++ line ∷ [];
+          reads = reads_line line t.reads g leads.2 no_over;
+          comes = λ behind. ap (said first) (append_one t.lines line behind) ∙ t.comes (line ∷ behind) ∙ leads.0 behind;
+          few = omega (arith, leads.1, t.few, more.0);
+          within = more.1;
+        }
+
+    pub goes_down : (new : Reading) (line : Line (List ℕ)) → GivesNext now after reading new (Ok line) → line ≢ Over → (next : T) → Leads said count at line (step.On next) → (reading.given < new.given) × (new.given ≤ 2 ^ 26)
+    goes_down new line g no_over next leads = takes_more line g leads.2 no_over
+
+    -- something is said at a line
+    said_at : (new : Reading) (line : Line (List ℕ)) → ReadsLines before after at_start new (t.lines ++ line ∷ []) → (what : R) → Leads said count at line (step.Says what) → Hears (said first) before after what
+    said_at new line r what leads = ⊎_elim (λ u. record { read = r.bytes; consumed = r.moved; is_said = by u new.ended u.told }) (λ s. absurd (let z : false ≡ true = s.ended in cc)) r.taken
+      where
+        lines : List (Line (List ℕ))
+        lines = t.lines ++ line ∷ []
+
+        says : (more : List (Line (List ℕ))) → said first (lines ++ more) ≡ Some what
+        says more = ap (said first) (append_one t.lines line more) ∙ t.comes (line ∷ more) ∙ leads more
+
+        by : (u : TakesLines after at_start r.bytes new lines) (ended : Bool) → Tells ended after u.raw new.ahead lines → IsSaid (said first) after r.bytes what
+        by u true whole =
+            let same : r.bytes ≡ u.raw = u.cut ∙ ap (λ xs. u.raw ++ xs) whole.none ∙ append-nil u.raw in
+            inr (record { all = ap (λ ls. said first (ls ++ End ∷ [])) (ap lines_of same ∙ whole.all) ∙ says (End ∷ []); at_end = whole.at_end })
+        by u false begins = inl (λ more.
+            ap (λ bs. said first (lines_of bs)) (ap (λ bs. bs ++ more) u.cut ∙ append_assoc u.raw new.ahead more)
+            ∙ ap (said first) (begins.all (new.ahead ++ more))
+            ∙ says (lines_of (new.ahead ++ more)))
+
+    -- and at the end
+    said_at_end : (new : Reading) → GivesNext now after reading new (Ok End) → (what : R) → Leads said count at End (step.Says what) → Hears (said first) before after what
+    said_at_end new g what leads =
+        let all = stops_at_end (reads_until t.reads g) in
+        record {
+          read = all.read;
+          consumed = all.moved;
+          is_said = inr (record { all = ap (λ ls. said first (ls ++ End ∷ [])) all.all ∙ t.comes (End ∷ []) ∙ leads []; at_end = all.at_end });
+        }
+
+    pub says_so : (new : Reading) (line : Line (List ℕ)) → GivesNext now after reading new (Ok line) → line ≢ Over → (what : R) → Leads said count at line (step.Says what) → Hears (said first) before after what
+    says_so new (line.Text bytes) g no_over what leads = said_at new (line.Text bytes) (reads_line (line.Text bytes) t.reads g (λ h. cc) no_over) what leads
+    says_so new (line.Long len) g no_over what leads = said_at new (line.Long len) (reads_line (line.Long len) t.reads g (λ h. cc) no_over) what leads
+    says_so new line.End g no_over what leads = said_at_end new g what leads
+    says_so new line.Over g no_over what leads = absurd (no_over refl)
+
+    -- nothing was said by the lines so far
+    undecided : said at [] ≡ None → said first t.lines ≡ None
+    undecided silent = ap (said first) (sym (append-nil t.lines)) ∙ t.comes [] ∙ silent
+
+    pub stopped : said at [] ≡ None → (new : Reading) (stop : LineStop) → GivesNext now after reading new (Err stop) → HearsSo (said first) before after (Err (stop_of stop))
+    stopped silent new stop g = by stop (stops_with stop (reads_until t.reads g))
+      where
+        by : (stop : LineStop) → StopsWith stop before after t.lines → HearsSo (said first) before after (Err (stop_of stop))
+        by line_stops.Read r = record { read = r.read; consumed = r.moved; undecided = ap (said first) r.ended ∙ undecided silent }
+        by line_stops.NoMemory r = record { read = r.front.read; consumed = r.front.moved }
+
+    pub too_long : said at [] ≡ None → (new : Reading) → GivesNext now after reading new (Ok Over) → HearsTooMuch (said first) before after
+    too_long silent new g =
+        let over = stops_over (reads_until t.reads g) in
+        record { nothing = record { read = over.front.read; consumed = over.front.moved; undecided = ap (said first) over.front.ended ∙ undecided silent }; over = over.past }
+
+    pub reads_some : (result : Result (Line (List ℕ)) LineStop) (new : Reading) → GivesNext now after reading new result → Reads before after
+    reads_some result new g = record { read = t.reads.bytes ++ g.bytes; consumed = Consumes-trans before now after t.reads.bytes g.bytes t.reads.moved g.moved }
+
+pub reads_nothing : (left : Option (List ℕ)) → Reads left left
+reads_nothing left = record { read = []; consumed = Consumes-nil left }
+
+-- the same result
+pub hears_as : {R : Type 0} (said : List (Line (List ℕ)) → Option R) (before after : Option (List ℕ)) (result other : Result R Stop) → result ≡ other → HearsSo said before after other → HearsSo said before after result
+hears_as said before after result other e h = subst (λ r. HearsSo said before after r) (sym e) h
+
+-- want of memory, and what is said, are no fault of the source
+pub memory_no_fault : {R P : Type 0} (result : Result R Stop) → result ≡ Err stops.NoMemory → result ≡ Err stops.Read → P
+memory_no_fault {R} result e h = absurd (differ (sym e ∙ h))
+  where
+    differ : ◌≡◌ {A = Result R Stop} (Err stops.NoMemory) (Err stops.Read) → ⊥
+    differ e = cc
+
+pub said_no_fault : {R P : Type 0} (what : R) → ◌≡◌ {A = Result R Stop} (Ok what) (Err stops.Read) → P
+said_no_fault {R} what e = absurd (differ e)
+  where
+    differ : ◌≡◌ {A = Result R Stop} (Ok what) (Err stops.Read) → ⊥
+    differ e = cc

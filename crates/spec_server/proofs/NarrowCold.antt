@@ -1,0 +1,183 @@
+-- The certificate of a cold solve at the limit of the server, of a model whose numbers are of at most 127 bits, has such numbers.
+use Rattle.std.proofs.Common.{◌≡◌, ◌+◌, ◌-◌, ℕ, zero, suc, Bool, true, false, cond, Option, Some, None, Result, Ok, Err, List, nat_eq, refl, subst}
+use Rattle.std.specs.Prelude.{All}
+use Rattle.std.proofs.lemmas.List.Elements.{All-set}
+use Rattle.spec_exact.specs.Fraction.{ℚ, 0ℚ, 1ℚ, neg_ℚ}
+use Rattle.spec_exact.specs.Narrow.{IsNarrow}
+use Rattle.spec_model.specs.Model.{Model}
+use Rattle.spec_model.specs.Kept.{IsModel}
+use Rattle.spec_check.specs.declared.certificate.Certificate.{Certificate}
+use Rattle.spec_check.specs.declared.certificate.Certificate.TheVariants as certificate
+use Rattle.spec_check.specs.declared.certificate.Known.{Known}
+use Rattle.spec_check.specs.declared.certificate.Stop.{Stop}
+use Rattle.spec_check.specs.declared.certificate.Stop.TheVariants as check
+use Rattle.spec_check.specs.Certificate.{IsNarrowCertificate}
+use Rattle.spec_check.specs.Run.{check_run}
+use Rattle.spec_mps.proofs.NarrowNumbers.{zero_narrow, neg_narrow}
+use Rattle.spec_pivot.specs.declared.status.Status.{Status}
+use Rattle.spec_simplex.specs.declared.ends.Choice.{Choice}
+use Rattle.spec_simplex.specs.declared.ends.Choice.TheVariants.{End, Flip, Pivot}
+use Rattle.spec_simplex.specs.declared.ends.FormFault.{FormFault}
+use Rattle.spec_simplex.specs.declared.ends.FormFault.TheVariants as fault
+use Rattle.spec_simplex.specs.declared.ends.PrimalEnd.{PrimalEnd}
+use Rattle.spec_simplex.specs.declared.ends.PrimalEnd.TheVariants.{Optimal, Unbounded}
+use Rattle.spec_simplex.specs.declared.ends.Stop.{Stop as Spending}
+use Rattle.spec_simplex.specs.declared.ends.Stop.TheVariants as stop
+use Rattle.spec_simplex.specs.Run.{refused_as}
+use Rattle.spec_simplex.specs.Form.{Form, form_of}
+use Rattle.spec_simplex.specs.Tableau.{Tableau, form_columns, basic_at, entry_at, value_at, reduced_at}
+use Rattle.spec_simplex.specs.Start.{priced_run, with_reduced, start_of}
+use Rattle.spec_simplex.specs.Step.{directed, choice_run, flip_run, pivot_run}
+use Rattle.spec_simplex.specs.Phases.{Ended, end_or_spent, end_or_next, run_from, fixed_at_zero, without_artificials, phase_two_run, wants_phase_one, is_stuck, phase_one, phase_two, PhasesEnd, Infeasible, Finished, phases_run}
+use Rattle.spec_simplex.proofs.Stops.{All-made}
+use Rattle.spec_cold.specs.declared.outcome.Cold.TheVariants as outcome
+use Rattle.spec_cold.specs.Cold.{ColdEnd, point, multipliers, moves_below, moves_by, certificate_at, certificate_of, basis_of, pivots_of, checked, after_phases, after_form, cold}
+use Rattle.spec_cold.proofs.Runs.{then_ok, refused_ok}
+use Rattle.spec_server.specs.Answers.{number_limit}
+use Rattle.spec_server.proofs.NarrowSteps.{NarrowBound, AreNarrow, number_at, place_narrow, flip_narrow, pivot_narrow}
+use Rattle.spec_server.proofs.NarrowStart.{IsNarrowForm, one_narrow, form_narrow, start_narrow, priced_narrow}
+
+-- ---- steps up to an end
+
+spent_narrow : (t : Tableau) (used : ℕ) (choice : Choice ℚ) (e : Ended) → end_or_spent t used choice ≡ Ok e → AreNarrow t → AreNarrow e.tableau
+spent_narrow t used (End end) e h n =
+    let same : ◌≡◌ {A = Ended} (record { end = end; tableau = t; used = used }) e = cc in
+    subst (λ (e : Ended). AreNarrow e.tableau) same n
+spent_narrow t used (Flip j) e h n = cc
+spent_narrow t used (Pivot p j theta to) e h n = cc
+
+next_narrow : (t : Tableau) (used : ℕ) (next : Tableau → Result Ended (Spending ℚ)) (choice : Choice ℚ) (e : Ended) → end_or_next (Some number_limit) t used next choice ≡ Ok e → AreNarrow t
+    → ((u : Tableau) → next u ≡ Ok e → AreNarrow u → AreNarrow e.tableau) → AreNarrow e.tableau
+next_narrow t used next (End end) e h n k =
+    let same : ◌≡◌ {A = Ended} (record { end = end; tableau = t; used = used }) e = cc in
+    subst (λ (e : Ended). AreNarrow e.tableau) same n
+next_narrow t used next (Flip j) e h n k =
+    let o = then_ok (refused_as stop.Past (flip_run (Some number_limit) t j)) next e h in
+    k o.0 o.2 (flip_narrow t o.0 j (refused_ok stop.Past (flip_run (Some number_limit) t j) o.0 o.1) n)
+next_narrow t used next (Pivot p j theta to) e h n k =
+    let o = then_ok (refused_as stop.Past (pivot_run (Some number_limit) t p j theta to)) next e h in
+    k o.0 o.2 (pivot_narrow t o.0 p j theta to (refused_ok stop.Past (pivot_run (Some number_limit) t p j theta to) o.0 o.1) n)
+
+run_narrow : (left used : ℕ) (t : Tableau) (e : Ended) → run_from (Some number_limit) left used t ≡ Ok e → AreNarrow t → AreNarrow e.tableau
+unfolding run_from
+run_narrow zero used t e h n =
+    let o = then_ok (refused_as stop.Past (choice_run (Some number_limit) t)) (end_or_spent t used) e h in
+    spent_narrow t used o.0 e o.2 n
+run_narrow (suc left) used t e h n =
+    let next : Tableau → Result Ended (Spending ℚ) = λ u. run_from (Some number_limit) left (used + 1) u in
+    let o = then_ok (refused_as stop.Past (choice_run (Some number_limit) t)) (end_or_next (Some number_limit) t used next) e h in
+    next_narrow t used next o.0 e o.2 n (λ u q k. run_narrow left (used + 1) u e q k)
+
+-- ---- both phases
+
+fixed_narrow : (n m : ℕ) (bounds : List (Option ℚ)) → All NarrowBound bounds → All NarrowBound (fixed_at_zero n m bounds)
+fixed_narrow n zero bounds h = h
+fixed_narrow n (suc m) bounds h = All-set NarrowBound (fixed_at_zero n m bounds) (n + m) (Some 0ℚ) zero_narrow (fixed_narrow n m bounds h)
+
+two_narrow : (f : Form) (t u : Tableau) → phase_two_run (Some number_limit) f t ≡ Ok u → IsNarrowForm f → AreNarrow t → AreNarrow u
+unfolding phase_two_run
+two_narrow f t u h k n =
+    let o = then_ok (priced_run (Some number_limit) (without_artificials t) f.cost) _ u h in
+    let e : with_reduced (without_artificials t) o.0 ≡ u = cc in
+    subst AreNarrow e
+    (record {
+      entries = n.entries;
+      value = n.value;
+      reduced = priced_narrow (without_artificials t) f.cost o.0 o.1 k.cost;
+      lower = fixed_narrow (form_columns t) t.rows t.lower n.lower;
+      upper = fixed_narrow (form_columns t) t.rows t.upper n.upper;
+    })
+
+abbrev NarrowEnd : PhasesEnd → Type 0
+NarrowEnd (Infeasible t used) = AreNarrow t
+NarrowEnd (Finished e) = AreNarrow e.tableau
+
+one_phase_narrow : (budget : ℕ) (t : Tableau) (e : Ended) → phase_one (Some number_limit) budget t ≡ Ok e → AreNarrow t → AreNarrow e.tableau
+one_phase_narrow budget t e h n = by (wants_phase_one t) h
+  where
+    by : (c : Bool) → cond c (run_from (Some number_limit) budget 0 t) (Ok (record { end = Optimal; tableau = t; used = 0 })) ≡ Ok e → AreNarrow e.tableau
+    by true q = run_narrow budget 0 t e q n
+    by false q =
+        let same : ◌≡◌ {A = Ended} (record { end = Optimal; tableau = t; used = 0 }) e = cc in
+        subst (λ (e : Ended). AreNarrow e.tableau) same n
+
+two_phases_narrow : (budget : ℕ) (f : Form) (one : Ended) (e : PhasesEnd) → phase_two (Some number_limit) budget f one ≡ Ok e → IsNarrowForm f → AreNarrow one.tableau → NarrowEnd e
+two_phases_narrow budget f one e h k n =
+    let o = then_ok (refused_as stop.Past (phase_two_run (Some number_limit) f one.tableau)) _ e h in
+    let p = then_ok (run_from (Some number_limit) (budget - one.used) one.used o.0) (λ two. Ok (Finished two)) e o.2 in
+    let same : Finished p.0 ≡ e = cc in
+    subst NarrowEnd same
+    (run_narrow (budget - one.used) one.used o.0 p.0 p.1 (two_narrow f one.tableau o.0 (refused_ok stop.Past (phase_two_run (Some number_limit) f one.tableau) o.0 o.1) k n))
+
+phases_narrow : (budget : ℕ) (f : Form) (e : PhasesEnd) → phases_run (Some number_limit) budget f ≡ Ok e → IsNarrowForm f → NarrowEnd e
+unfolding phases_run
+phases_narrow budget f e h k =
+    let o = then_ok (refused_as stop.Past (start_of (Some number_limit) f)) _ e h in
+    let p = then_ok (phase_one (Some number_limit) budget o.0) _ e o.2 in
+    let start : AreNarrow o.0 = start_narrow f o.0 (refused_ok stop.Past (start_of (Some number_limit) f) o.0 o.1) k in
+    by (is_stuck p.0.tableau) p.0 p.2 (one_phase_narrow budget o.0 p.0 p.1 start)
+  where
+    by : (c : Bool) (one : Ended) → cond c (Ok (Infeasible one.tableau one.used)) (phase_two (Some number_limit) budget f one) ≡ Ok e → AreNarrow one.tableau → NarrowEnd e
+    by true one q n = let same : Infeasible one.tableau one.used ≡ e = cc in subst NarrowEnd same n
+    by false one q n = two_phases_narrow budget f one e q k n
+
+-- ---- certificates
+
+directed_narrow : (up : Bool) (v : ℚ) → IsNarrow v → IsNarrow (directed up v)
+directed_narrow true v h = h
+directed_narrow false v h = neg_narrow v h
+
+moves_narrow : (t : Tableau) (j : ℕ) (up : Bool) (k m : ℕ) → AreNarrow t → IsNarrow (moves_below t j up k m)
+moves_narrow t j up k zero n = by (nat_eq k j)
+  where
+    by : (c : Bool) → IsNarrow (cond c (directed up 1ℚ) 0ℚ)
+    by true = directed_narrow up 1ℚ one_narrow
+    by false = zero_narrow
+moves_narrow t j up k (suc m) n = by (nat_eq (basic_at t m) k) (moves_narrow t j up k m n)
+  where
+    by : (c : Bool) → IsNarrow (moves_below t j up k m) → IsNarrow (cond c (neg_ℚ (directed up (entry_at t m j))) (moves_below t j up k m))
+    by true h = neg_narrow (directed up (entry_at t m j)) (directed_narrow up (entry_at t m j) (place_narrow t.entries n.entries m j))
+    by false h = h
+
+point_narrow : (t : Tableau) → AreNarrow t → All IsNarrow (point t)
+point_narrow t n = All-made IsNarrow t.cols (value_at t) (λ k l. number_at t.value n.value k)
+
+multipliers_narrow : (t : Tableau) → AreNarrow t → All IsNarrow (multipliers t)
+multipliers_narrow t n = All-made IsNarrow t.rows (λ i. reduced_at t (t.cols + i)) (λ i l. number_at t.reduced n.reduced (t.cols + i))
+
+end_narrow : (t : Tableau) (end : PrimalEnd) → AreNarrow t → IsNarrowCertificate (certificate_at t end)
+end_narrow t Optimal n = (point_narrow t n, multipliers_narrow t n)
+end_narrow t (Unbounded j up) n = (point_narrow t n, All-made IsNarrow t.cols (moves_by t j up) (λ k l. moves_narrow t j up k t.rows n))
+
+certificate_narrow : (e : PhasesEnd) → NarrowEnd e → IsNarrowCertificate (certificate_of e)
+certificate_narrow (Infeasible t used) n = multipliers_narrow t n
+certificate_narrow (Finished e) n = end_narrow e.tableau e.end n
+
+-- ---- the whole solve
+
+module _ (known : Known ℚ) (cert : Certificate (List ℚ)) (basis : Option (List Status)) (pivots : ℕ) where
+  abbrev IsThisEnd : ColdEnd → Type 0
+  IsThisEnd o = o ≡ outcome.Ended known cert basis pivots
+
+  by_check : (c : Certificate (List ℚ)) (b : Option (List Status)) (n : ℕ) (run : Result (Known ℚ) (Stop ℚ)) → IsThisEnd (checked c b n run) → IsNarrowCertificate c → IsNarrowCertificate cert
+  by_check c b n (Ok a) e h =
+      let z : ◌≡◌ {A = ColdEnd} (outcome.Ended a c b n) (outcome.Ended known cert basis pivots) = e in
+      let same : c ≡ cert = cc in
+      subst IsNarrowCertificate same h
+  by_check c b n (Err (check.Past p)) e h = let z : ◌≡◌ {A = ColdEnd} (outcome.Past p) (outcome.Ended known cert basis pivots) = e in cc
+  by_check c b n (Err (check.No k)) e h = let z : ◌≡◌ {A = ColdEnd} outcome.Spent (outcome.Ended known cert basis pivots) = e in cc
+
+  by_phases : (m : Model) (o : Result PhasesEnd (Spending ℚ)) → IsThisEnd (after_phases (Some number_limit) m o) → ((p : PhasesEnd) → o ≡ Ok p → NarrowEnd p) → IsNarrowCertificate cert
+  by_phases m (Ok p) e h = by_check (certificate_of p) (basis_of p) (pivots_of p) (check_run (Some number_limit) m (certificate_of p)) e (certificate_narrow p (h p refl))
+  by_phases m (Err (stop.Past p)) e h = let z : ◌≡◌ {A = ColdEnd} (outcome.Past p) (outcome.Ended known cert basis pivots) = e in cc
+  by_phases m (Err stop.Spent) e h = let z : ◌≡◌ {A = ColdEnd} outcome.Spent (outcome.Ended known cert basis pivots) = e in cc
+
+  by_form : (budget : ℕ) (m : Model) (o : Result Form (FormFault ℚ)) → IsThisEnd (after_form (Some number_limit) budget m o) → ((f : Form) → o ≡ Ok f → IsNarrowForm f) → IsNarrowCertificate cert
+  by_form budget m (Ok f) e h = by_phases m (phases_run (Some number_limit) budget f) e (λ p q. phases_narrow budget f p q (h f refl))
+  by_form budget m (Err (fault.Clash j)) e h = by_check (certificate.Clash j) None 0 (check_run (Some number_limit) m (certificate.Clash j)) e tt
+  by_form budget m (Err (fault.Past p)) e h = let z : ◌≡◌ {A = ColdEnd} (outcome.Past p) (outcome.Ended known cert basis pivots) = e in cc
+
+  pub cold_narrow : (budget : ℕ) (m : Model) → IsModel m → cold (Some number_limit) budget m ≡ outcome.Ended known cert basis pivots → IsNarrowCertificate cert
+  unfolding cold
+  cold_narrow budget m kept e =
+      by_form budget m (form_of (Some number_limit) m) e (λ f q. form_narrow m f q (record { rows = kept.narrow_rows; columns = kept.narrow_columns }))

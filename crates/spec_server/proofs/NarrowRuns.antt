@@ -1,0 +1,108 @@
+-- At the limit of the server operations give fractions of at most 127 bits, and so do runs of them.
+use Rattle.std.proofs.Common.{◌≡◌, ◌≤◌, ◌<◌, ◌/◌, ℕ, zero, suc, ◌&&◌, Bool, true, false, cond, Option, Some, None, Ok, List, get_or, ℤ, pos, int_div, unsigned_abs, refl, sym, subst, arith}
+use Rattle.std.specs.Prelude.{All}
+use Rattle.std.proofs.Math.Nat.{div-le_self}
+use Rattle.std.proofs.lemmas.Bool.{and_parts}
+use borrow.Author.Tests.{leb-true}
+use Rattle.spec_exact.specs.Fraction.{ℚ, over, neg_ℚ, inverse}
+use Rattle.spec_exact.specs.Gcd.{gcd}
+use Rattle.spec_exact.specs.Quotients.{abs-int_div}
+use Rattle.spec_exact.specs.Limit.{fits, left_num, right_num, whole_sum, sum_common, sum_num, sum_den, sum_fits, product_num, product_den, product_fits, add, sub, mul, div}
+use Rattle.spec_exact.specs.Narrow.{IsNarrow}
+use Rattle.spec_exact.specs.Answer.{told}
+use Rattle.spec_exact.specs.declared.past.Op.{Op}
+use Rattle.spec_exact.specs.declared.past.Op.TheVariants.{Add, Sub, Div}
+use Rattle.spec_mps.proofs.NarrowNumbers.{zero_narrow}
+use Rattle.spec_simplex.specs.Run.{Run, sum_run, difference_run, product_run, quotient_run, plus_product, less_product, list_run}
+use Rattle.spec_cold.proofs.Runs.{then_ok, list_ok}
+use Rattle.spec_server.specs.Answers.{number_limit}
+
+-- ---- one operation
+
+-- an exact quotient's size is no greater
+divided : (z : ℤ) (g : ℕ) → unsigned_abs z ≤ number_limit → unsigned_abs (int_div z (pos g)) ≤ number_limit
+divided z g h =
+    let size : unsigned_abs (int_div z (pos g)) ≡ unsigned_abs z / g = abs-int_div z g in
+    let less : unsigned_abs z / g ≤ unsigned_abs z = div-le_self (unsigned_abs z) g in
+    subst (λ k. k ≤ number_limit) (sym size) (omega arith)
+
+-- lowest terms are no wider
+over_narrow : (n : ℤ) (d : ℕ) → unsigned_abs n ≤ number_limit → d ≤ number_limit → IsNarrow (over n d)
+unfolding over
+over_narrow n zero h k = zero_narrow
+over_narrow n (suc d) h k =
+    let low : suc d / gcd (unsigned_abs n) (suc d) ≤ suc d = div-le_self (suc d) (gcd (unsigned_abs n) (suc d)) in
+    record { top = divided n (gcd (unsigned_abs n) (suc d)) h; bottom = omega arith }
+
+some_if : (t : Bool) (x y : ℚ) → cond t (Some x) None ≡ Some y → (t ≡ true) × (x ≡ y)
+some_if true x y e = (refl, cc)
+some_if false x y e = cc
+
+-- the third and the fourth of four tests
+last_two : (a b c d : Bool) → a && b && c && d ≡ true → (c ≡ true) × (d ≡ true)
+last_two true true true true e = (refl, refl)
+last_two true true true false e = cc
+last_two true true false d e = cc
+last_two true false c d e = cc
+last_two false b c d e = cc
+
+add_narrow : (v w x : ℚ) → add (Some number_limit) v w ≡ Some x → IsNarrow x
+unfolding add
+add_narrow v w x e =
+    let s = some_if (sum_fits (Some number_limit) v.num v.den w.num w.den) _ x e in
+    let t =
+    last_two (fits (Some number_limit) (unsigned_abs (left_num v.num v.den w.num w.den))) (fits (Some number_limit) (unsigned_abs (right_num v.num v.den w.num w.den)))
+    (fits (Some number_limit) (unsigned_abs (whole_sum v.num v.den w.num w.den))) (fits (Some number_limit) (sum_den v.num v.den w.num w.den)) s.0 in
+    subst IsNarrow s.1
+    (over_narrow (sum_num v.num v.den w.num w.den) (sum_den v.num v.den w.num w.den)
+    (divided (whole_sum v.num v.den w.num w.den) (sum_common v.num v.den w.num w.den) (leb-true (unsigned_abs (whole_sum v.num v.den w.num w.den)) number_limit t.0))
+    (leb-true (sum_den v.num v.den w.num w.den) number_limit t.1))
+
+mul_narrow : (v w x : ℚ) → mul (Some number_limit) v w ≡ Some x → IsNarrow x
+unfolding mul
+mul_narrow v w x e =
+    let s = some_if (product_fits (Some number_limit) v.num v.den w.num w.den) _ x e in
+    let t = and_parts (fits (Some number_limit) (unsigned_abs (product_num v.num v.den w.num w.den))) (fits (Some number_limit) (product_den v.num v.den w.num w.den)) s.0 in
+    subst IsNarrow s.1
+    (over_narrow (product_num v.num v.den w.num w.den) (product_den v.num v.den w.num w.den)
+    (leb-true (unsigned_abs (product_num v.num v.den w.num w.den)) number_limit t.0) (leb-true (product_den v.num v.den w.num w.den) number_limit t.1))
+
+sub_narrow : (v w x : ℚ) → sub (Some number_limit) v w ≡ Some x → IsNarrow x
+unfolding sub
+sub_narrow v w x e = add_narrow v (neg_ℚ w) x e
+
+div_narrow : (v w x : ℚ) → div (Some number_limit) v w ≡ Some x → IsNarrow x
+unfolding div
+div_narrow v w x e = mul_narrow v (inverse w) x e
+
+told_ok : (op : Op) (v w : ℚ) (o : Option ℚ) (x : ℚ) → told op v w o ≡ Ok x → o ≡ Some x
+told_ok op v w (Some y) x h = cc
+told_ok op v w None x h = cc
+
+-- ---- runs
+
+pub sum_narrow : (v w x : ℚ) → sum_run (Some number_limit) v w ≡ Ok x → IsNarrow x
+sum_narrow v w x h = add_narrow v w x (told_ok Add v w (add (Some number_limit) v w) x h)
+
+pub difference_narrow : (v w x : ℚ) → difference_run (Some number_limit) v w ≡ Ok x → IsNarrow x
+difference_narrow v w x h = sub_narrow v w x (told_ok Sub v w (sub (Some number_limit) v w) x h)
+
+pub quotient_narrow : (v w x : ℚ) → quotient_run (Some number_limit) v w ≡ Ok x → IsNarrow x
+quotient_narrow v w x h = div_narrow v w x (told_ok Div v w (div (Some number_limit) v w) x h)
+
+pub plus_narrow : (v w s x : ℚ) → plus_product (Some number_limit) v w s ≡ Ok x → IsNarrow x
+plus_narrow v w s x h =
+    let p = then_ok (product_run (Some number_limit) v w) (λ p. sum_run (Some number_limit) s p) x h in
+    sum_narrow s p.0 x p.2
+
+pub less_narrow : (v w s x : ℚ) → less_product (Some number_limit) v w s ≡ Ok x → IsNarrow x
+less_narrow v w s x h =
+    let p = then_ok (product_run (Some number_limit) v w) (λ p. difference_run (Some number_limit) s p) x h in
+    difference_narrow s p.0 x p.2
+
+-- what holds of each item that is given holds of the list
+pub all_given : {A : Type 0} (P : A → Type 0) (n : ℕ) (f : ℕ → Run A) (xs : List A) → list_run n f ≡ Ok xs → ((i : ℕ) (x : A) → i < n → f i ≡ Ok x → P x) → All P xs
+all_given P n f xs h k = λ i d l.
+    let o = list_ok n f d xs h in
+    let inside : i < n = omega (arith, l, o.all) in
+    k i (get_or xs i d) inside (o.each i inside)

@@ -1,0 +1,168 @@
+-- The lines of a written certificate are short, and of spaces and printed bytes; and what the lines of a text of such lines are.
+use Rattle.std.proofs.Common.{◌≡◌, ◌≢◌, ℕ, zero, suc, ◌≤◌, ◌<◌, Bool, true, false, cond, None, List, [], ◌∷◌, ◌++◌, length, map, refl, ap, ◌∙◌, append_assoc, length-append, arith}
+use Rattle.std.specs.Prelude.{codes, nat_le, All}
+use Rattle.std.specs.List.{flat_map, list_all}
+use Rattle.std.proofs.lemmas.Bool.{and_parts}
+use Rattle.std.proofs.lemmas.List.Elements.{All-nil, All-cons, All-append}
+use Rattle.std.proofs.lemmas.List.Folds.{list_all-append}
+use borrow.Author.Tests.{leb-true}
+use Rattle.spec_text.specs.declared.line.Line.TheVariants.{Text}
+use Rattle.spec_text.specs.Lines.{line_of, lines_of}
+use Rattle.spec_text.proofs.LineLemmas.{lines_of_line, line_short}
+use Rattle.spec_exact.specs.Fraction.{ℚ, 0ℚ, eq_ℚ}
+use Rattle.spec_exact.specs.Narrow.{IsNarrow}
+use Rattle.spec_model.specs.declared.parts.Sense.TheVariants.{Min}
+use Rattle.spec_model.specs.Model.{Model, Name, ExactColumn, no_row, no_column, width, height, row, column, part}
+use Rattle.spec_model.specs.Kept.{IsModel, IsKeptColumn, IsNarrowRow, IsNarrowColumn, is_name, is_row_name, is_model_name}
+use Rattle.spec_mps.specs.NumberWritten.{number_text}
+use Rattle.spec_mps.specs.Written.{cards_of, rows_cards, columns_cards, section_card}
+use Rattle.spec_mps.proofs.NarrowNumbers.{zero_narrow}
+use Rattle.spec_mps.proofs.WrittenSteps.{IsPlainLine}
+use Rattle.spec_mps.proofs.WrittenShort.{IsShort, cards_short}
+use Rattle.spec_mps.proofs.WrittenWords.{is_plain, stripped_plain}
+use Rattle.spec_check.specs.declared.certificate.Letter.{Letter}
+use Rattle.spec_check.specs.declared.certificate.Letter.TheVariants.{X, Y, R}
+use Rattle.spec_check.specs.declared.certificate.Certificate.{Certificate}
+use Rattle.spec_check.specs.declared.certificate.Certificate.TheVariants.{Optimal, Infeasible, Clash, Unbounded}
+use Rattle.spec_check.specs.Certificate.{IsFor, IsNarrowCertificate}
+use Rattle.spec_check.specs.TextWritten.{letter_text, part_text, part_lines, lines_below, column_lines, row_lines, kind_text, all_part_lines, certificate_lines}
+
+-- ---- lines one behind the other
+
+no_feed : (line : List ℕ) → list_all is_plain line ≡ true → All (λ b. b ≢ 10) line
+no_feed [] h = All-nil (λ b. b ≢ 10)
+no_feed (b ∷ line) h =
+    let p = and_parts (is_plain b) (list_all is_plain line) h in
+    let q = and_parts (nat_le 32 b) (nat_le b 126) p.0 in
+    let low : 32 ≤ b = leb-true 32 b q.0 in
+    All-cons (λ x. x ≢ 10) b line (λ e. omega arith) (no_feed line p.1)
+
+one_line : (line more : List ℕ) → IsPlainLine line → lines_of ((line ++ 10 ∷ []) ++ more) ≡ Text line ∷ lines_of more
+one_line line more h =
+    ap lines_of (append_assoc line (10 ∷ []) more) ∙ lines_of_line line more (no_feed line h.plain)
+    ∙ ap (λ l. l ∷ lines_of more) (ap line_of (stripped_plain line h.plain) ∙ line_short line h.short)
+
+-- lines that end, whatever stands behind them
+pub lines_behind : {X : Type 0} (f : X → List ℕ) (xs : List X) (more : List ℕ) → All (λ x. IsPlainLine (f x)) xs
+    → lines_of (flat_map (λ x. f x ++ 10 ∷ []) xs ++ more) ≡ map (λ x. Text (f x)) xs ++ lines_of more
+lines_behind f [] more h = refl
+lines_behind {X} f (x ∷ xs) more h =
+    let rest : List ℕ = flat_map (λ x. f x ++ 10 ∷ []) xs in
+    ap lines_of (append_assoc (f x ++ 10 ∷ []) rest more)
+    ∙ one_line (f x) (rest ++ more) (h 0 x (omega arith))
+    ∙ ap (λ ls. Text (f x) ∷ ls) (lines_behind f xs more (λ k d l. h (suc k) d (omega arith)))
+
+-- ---- names and numbers
+
+-- a model with this column and cost alone
+abbrev with_cost : Name → ℚ → Model
+with_cost name v =
+    record { name = []; sense = Min; objective = codes "N"; offset = 0ℚ; rows = []; columns = record { name = name; cost = v; lower = None; upper = None; entries = [] } ∷ [] }
+
+cost_kept : (name : Name) (v : ℚ) → is_name name ≡ true → IsNarrow v → IsModel (with_cost name v)
+unfolding is_name is_row_name is_model_name
+cost_kept name v h n =
+    let c : ExactColumn = record { name = name; cost = v; lower = None; upper = None; entries = [] } in
+    record {
+      few_rows = omega arith;
+      few_columns = omega arith;
+      name = refl;
+      objective = refl;
+      rows = λ k d l. absurd (omega arith);
+      columns = All-cons (IsKeptColumn 0) c []
+          (record { name = h; lower = tt; upper = tt; entries = record { inside = λ k d l. absurd (omega arith); ascending = λ i k d p l. absurd (omega arith); not_zero = λ k d l. absurd (omega arith) } })
+          (All-nil (IsKeptColumn 0));
+      rows_distinct = λ i k d p l. absurd (omega arith);
+      columns_distinct = λ i k d p l. absurd (omega arith);
+      offset = zero_narrow;
+      narrow_rows = All-nil IsNarrowRow;
+      narrow_columns = All-cons IsNarrowColumn c [] (record { cost = n; lower = tt; upper = tt; entries = λ k d l. absurd (omega arith) }) (All-nil IsNarrowColumn);
+    }
+
+record AreShort (name : Name) (v : ℚ) : Type 0 where
+  short_name : IsShort name
+  short_number : IsShort (number_text v)
+
+-- they are short in the text of that model
+both_short : (name : Name) (v : ℚ) → is_name name ≡ true → IsNarrow v → AreShort name v
+unfolding cards_of rows_cards columns_cards
+both_short name v h n =
+    let card = cards_short (with_cost name v) (cost_kept name v h n) 4 (section_card []) (omega arith) in
+    record { short_name = card.0.0; short_number = card.0.1.1.0 }
+
+-- ---- a part
+
+plain_both : (a b : List ℕ) → list_all is_plain a ≡ true → list_all is_plain b ≡ true → list_all is_plain (a ++ b) ≡ true
+plain_both a b h k = list_all-append is_plain a b ∙ rw (h, k) refl
+
+letter_short : (letter : Letter) → IsShort (letter_text letter)
+letter_short X = record { fits = omega arith; plain = refl }
+letter_short Y = record { fits = omega arith; plain = refl }
+letter_short R = record { fits = omega arith; plain = refl }
+
+words_plain : (a b c : List ℕ) → IsShort a → IsShort b → IsShort c → IsPlainLine (a ++ 32 ∷ (b ++ 32 ∷ c))
+words_plain a b c h k l =
+    let p = length-append a (32 ∷ (b ++ 32 ∷ c)) in
+    let q = length-append b (32 ∷ c) in
+    let x = h.fits in
+    let y = k.fits in
+    let z = l.fits in
+    record { short = omega arith; plain = plain_both a (32 ∷ (b ++ 32 ∷ c)) h.plain (plain_both b (32 ∷ c) k.plain l.plain) }
+
+part_plain : (letter : Letter) (name : Name) (v : ℚ) → is_name name ≡ true → IsNarrow v → All IsPlainLine (part_lines letter name v)
+part_plain letter name v h n = by (eq_ℚ v 0ℚ)
+  where
+    by : (t : Bool) → All IsPlainLine (cond t [] (part_text letter name v ∷ []))
+    by true = All-nil IsPlainLine
+    by false =
+        let s = both_short name v h n in
+        All-cons IsPlainLine (part_text letter name v) [] (words_plain (letter_text letter) name (number_text v) (letter_short letter) s.short_name s.short_number) (All-nil IsPlainLine)
+
+below_plain : (letter : Letter) (names : ℕ → Name) (values : List ℚ) (n : ℕ) → ((k : ℕ) → k < n → is_name (names k) ≡ true) → ((k : ℕ) → k < n → IsNarrow (part values k))
+    → All IsPlainLine (lines_below letter names values n)
+below_plain letter names values zero h k = All-nil IsPlainLine
+below_plain letter names values (suc n) h k =
+    All-append IsPlainLine (lines_below letter names values n) (part_lines letter (names n) (part values n))
+    (below_plain letter names values n (λ i p. h i (omega arith)) (λ i p. k i (omega arith)))
+    (part_plain letter (names n) (part values n) (h n (omega arith)) (k n (omega arith)))
+
+-- ---- a certificate
+
+module _ (m : Model) (kept : IsModel m) where
+  column_named : (j : ℕ) → j < width m → is_name (column m j).name ≡ true
+  column_named j l = (kept.columns j no_column l).name
+
+  row_named : (i : ℕ) → i < height m → is_name (row m i).name ≡ true
+  unfolding is_row_name
+  row_named i l = (and_parts (is_name (row m i).name) _ (kept.rows i no_row l)).0
+
+  columns_plain : (letter : Letter) (xs : List ℚ) → length xs ≡ width m → All IsNarrow xs → All IsPlainLine (column_lines m letter xs)
+  columns_plain letter xs e h = below_plain letter (λ j. (column m j).name) xs (width m) column_named (λ k l. h k 0ℚ (omega (arith, l, e)))
+
+  rows_plain : (letter : Letter) (xs : List ℚ) → length xs ≡ height m → All IsNarrow xs → All IsPlainLine (row_lines m letter xs)
+  rows_plain letter xs e h = below_plain letter (λ i. (row m i).name) xs (height m) row_named (λ k l. h k 0ℚ (omega (arith, l, e)))
+
+  parts_plain : (cert : Certificate (List ℚ)) → IsFor m cert → IsNarrowCertificate cert → All IsPlainLine (all_part_lines m cert)
+  parts_plain (Optimal x y) f n = All-append IsPlainLine (column_lines m X x) (row_lines m Y y) (columns_plain X x f.0 n.0) (rows_plain Y y f.1 n.1)
+  parts_plain (Infeasible y) f n = rows_plain Y y f n
+  parts_plain (Unbounded x r) f n = All-append IsPlainLine (column_lines m X x) (column_lines m R r) (columns_plain X x f.0 n.0) (columns_plain R r f.1 n.1)
+  parts_plain (Clash j) f n = All-nil IsPlainLine
+
+  clash_plain : (name : Name) → IsShort name → IsPlainLine (codes "CLASH" ++ 32 ∷ name)
+  clash_plain name h =
+      let p = length-append (codes "CLASH") (32 ∷ name) in
+      let x = h.fits in
+      record { short = omega arith; plain = plain_both (codes "CLASH") (32 ∷ name) refl h.plain }
+
+  kind_plain : (cert : Certificate (List ℚ)) → IsFor m cert → IsPlainLine (kind_text m cert)
+  kind_plain (Optimal x y) f = record { short = omega arith; plain = refl }
+  kind_plain (Infeasible y) f = record { short = omega arith; plain = refl }
+  kind_plain (Unbounded x r) f = record { short = omega arith; plain = refl }
+  kind_plain (Clash j) f = clash_plain (column m j).name (both_short (column m j).name 0ℚ (column_named j f) zero_narrow).short_name
+
+  pub certificate_plain : (cert : Certificate (List ℚ)) → IsFor m cert → IsNarrowCertificate cert → All IsPlainLine (certificate_lines m cert)
+  unfolding certificate_lines
+  certificate_plain cert f n =
+      All-append IsPlainLine (kind_text m cert ∷ all_part_lines m cert) (codes "END" ∷ [])
+      (All-cons IsPlainLine (kind_text m cert) (all_part_lines m cert) (kind_plain cert f) (parts_plain cert f n))
+      (All-cons IsPlainLine (codes "END") [] (record { short = omega arith; plain = refl }) (All-nil IsPlainLine))

@@ -1,0 +1,5 @@
+use Rattle.spec_server.proofs.ScriptKept.{script_kept}
+use Rattle.spec_server.proofs.scripts_ask_kept_models.Goals as goal
+
+pub returns : goal.returns
+returns c = script_kept

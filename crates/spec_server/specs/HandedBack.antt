@@ -1,0 +1,19 @@
+-- That the certificate of an answer is accepted, where its lines are handed back.
+use Rattle.std.specs.Prelude.{ℕ, ◌≡◌, Some, List, ◌++◌, map}
+use Rattle.spec_text.specs.declared.line.Line.{Line}
+use Rattle.spec_text.specs.declared.line.Line.TheVariants.{Text}
+use Rattle.spec_exact.specs.Fraction.{ℚ}
+use Rattle.spec_model.specs.Model.{Model}
+use Rattle.spec_check.specs.declared.certificate.Certificate.{Certificate}
+use Rattle.spec_check.specs.declared.certificate.Known.{Known}
+use Rattle.spec_check.specs.declared.certificate.Verdict.TheVariants.{Yes}
+use Rattle.spec_check.specs.Text.{ExactRaw, Spells}
+use Rattle.spec_check.specs.TextWritten.{certificate_lines}
+use Rattle.spec_server.specs.declared.asks.Reply.TheVariants as reply
+use Rattle.spec_server.specs.Machine.{check_reply}
+
+-- the lines, with more lines behind them, spell a certificate to which a session with this model says yes
+pub record IsAcceptedBack (m : Model) (known : Known ℚ) (cert : Certificate (List ℚ)) : Type 0 where
+  pub raw : ExactRaw
+  pub spelled : (more : List (Line (List ℕ))) → Spells (map Text (certificate_lines m cert) ++ more) raw
+  pub accepted : check_reply (Some m) raw ≡ reply.Checked (Yes known)

@@ -1,0 +1,38 @@
+// What a solve answers, over the type F of numbers, L of lists of numbers and B of bases.
+use spec_check::Known;
+use spec_cold::Cold;
+use spec_exact::Past;
+use std::fmt::Debug;
+
+/// What a solve answers.
+#[derive(Clone, Copy, Debug, PartialEq, Eq)]
+pub enum Answer<F: Debug> {
+    /// What is known of the model, by a certificate.
+    Known(Known<F>),
+    /// The operation that is past the limit.
+    Past(Past<F>),
+    /// This budget was not enough.
+    Spent(u64),
+}
+
+/// How an answer was found.
+#[derive(Clone, Copy, Debug, PartialEq, Eq)]
+pub enum How {
+    /// From the start that each model has.
+    Cold,
+}
+
+/// What was given to other sessions of an answer.
+#[derive(Clone, Copy, Debug, PartialEq, Eq)]
+pub enum Publication {
+    Nothing,
+}
+
+/// The last answer of a session.
+#[derive(Drop)]
+pub struct LastAnswer<F: Debug, L, B> {
+    /// What the solve ended with.
+    pub solved: Cold<F, L, B>,
+    pub how: How,
+    pub publication: Publication,
+}
