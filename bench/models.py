@@ -1,0 +1,115 @@
+#!/usr/bin/env python3
+"""Solves the models of a folder, has each answer checked, and writes a table of the answers and refusals.
+
+    models.py FOLDER [--program PROGRAM] [--optima FILE] [--seconds N] [--write PAGE]
+
+Each NAME.mps is solved in a session with the largest budget. A certificate goes back to `lpd check` and to
+tools/check_certificate.py behind the model's text, and both are to say yes to the answer. A text that is refused in both
+forms stands in the table with its fault. FILE has a line 'NAME outcome optimum form' for each model, its words parted by
+tabs, with which the answer is compared. A refusal is shown with its operation and operands, and with the pivots and flips
+that were made before it: the least budget that is not spent. It prints what is wrong, and with --write puts the table in
+place of what stands between the two marks of PAGE.
+"""
+import argparse
+import pathlib
+import subprocess
+import sys
+from fractions import Fraction
+
+from page import write
+
+TOP = pathlib.Path(__file__).resolve().parent.parent
+CHECKER = [sys.executable, str(TOP / "tools/check_certificate.py")]
+BEGIN, END = "<!-- measured by bench/models.py -->", "<!-- end of the models -->"
+LARGEST = 1_000_000
+
+
+def output(command, data, seconds):
+    return subprocess.run(command, input=data, capture_output=True, timeout=seconds).stdout.decode("latin-1")
+
+
+def session(options, form, data, *commands):
+    """What a session replies that has loaded the text."""
+    script = f"1 LOAD {form.upper()}\n".encode() + data + "".join(f"1 {c}\n" for c in commands).encode()
+    return output(options.program + ["run"], script, options.seconds).split("\n")[:-1]
+
+
+def loaded(options, data, forms):
+    """The form in which the text is read, with the numbers of rows and columns; or why it is not read in any."""
+    for form in forms:
+        reply = session(options, form, data)[0][2:]
+        if reply.startswith("LOADED"):
+            return form, *map(int, reply.split()[1:])
+    return reply
+
+
+def pivots_before(options, form, data):
+    """The least budget that is not spent before the refusal."""
+    low, high = 0, LARGEST
+    while low < high:
+        middle = (low + high) // 2
+        spent = middle == 0 or "SPENT" in session(options, form, data, f"BUDGET {middle}", "SOLVE")[2]
+        low, high = (middle + 1, high) if spent else (low, middle)
+    return low
+
+
+def checks(options, form, data, answer, certificate):
+    """Who does not say yes to the certificate."""
+    text = data + "\n".join(certificate + [""]).encode("latin-1")
+    for checker in [options.program + ["check"], CHECKER]:
+        said = output(checker + ["--form", form], text, options.seconds).strip()
+        if said != "YES " + answer:
+            yield f"{' '.join(checker)}: {said}"
+
+
+def row_of(options, path, expected, faults):
+    data = path.read_bytes().rstrip(b"\n") + b"\n"
+    forms = {"free": ["free"], "fixed": ["fixed"]}.get(expected[2] if expected else "", ["free", "fixed"])
+    read = loaded(options, data, forms)
+    if isinstance(read, str):
+        return f"| {path.stem} | | | `{read}` | |"
+    form, rows, columns = read
+    replies = session(options, form, data, f"BUDGET {LARGEST}", "SOLVE", "HOW", "CERT")
+    answer, how, certificate = replies[2][2:], replies[3].split(), replies[5:]
+    words = answer.split()
+    if words[0] == "PAST":
+        pivots = pivots_before(options, form, data)
+        return f"| {path.stem} | {rows} | {columns} | `{answer}` | {pivots} |"
+    if words[0] == "SPENT":
+        return f"| {path.stem} | {rows} | {columns} | `{answer}` | |"
+    faults += [f"{path.stem}: {fault}" for fault in checks(options, form, data, answer, certificate)]
+    if expected and (words[0].lower() != expected[0] or words[0] == "OPTIMAL" and Fraction(words[1]) != Fraction(expected[1])):
+        faults.append(f"{path.stem}: answers {answer}, where {' '.join(expected)} is expected")
+    return f"| {path.stem} | {rows} | {columns} | `{answer}` | {how[4]} |"
+
+
+def optima(path):
+    lines = [line.split("\t") for line in path.read_text().split("\n")[1:] if line]
+    return {name: rest for name, *rest in lines}
+
+
+def main():
+    options = argparse.ArgumentParser(description=__doc__, formatter_class=argparse.RawDescriptionHelpFormatter)
+    options.add_argument("folder", type=pathlib.Path)
+    options.add_argument("--program", default=str(TOP / "crates/lpd/out/lpd"))
+    options.add_argument("--optima", type=pathlib.Path)
+    options.add_argument("--seconds", type=int, default=600)
+    options.add_argument("--write", type=pathlib.Path)
+    options = options.parse_args()
+    options.program = options.program.split()
+    expected = optima(options.optima) if options.optima else {}
+    faults = []
+    lines = ["| Model | Rows | Columns | Answer | Pivots and flips |", "|---|---|---|---|---|"]
+    for path in sorted(options.folder.glob("*.mps")):
+        lines.append(row_of(options, path, expected.get(path.stem), faults))
+        print(lines[-1], flush=True)
+    if options.write:
+        write(options.write, BEGIN, END, lines)
+    for fault in faults:
+        print(fault, file=sys.stderr)
+    print(f"{len(lines) - 2} models, {len(faults)} faults")
+    return 1 if faults else 0
+
+
+if __name__ == "__main__":
+    sys.exit(main())
