@@ -2,11 +2,14 @@ pub mod Best
 pub mod Bland
 pub mod Count
 pub mod Cycle
+pub mod Fixed
 pub mod Instance
+pub mod Moves
 pub mod Kept
 pub mod Pivot
 pub mod Ratio
 pub mod Ray
+pub mod Rows
 pub mod Same
 pub mod Stays
 pub mod Steps

@@ -181,7 +181,7 @@ reaches a v r n = ap (λ x. v +ℚ x) (*ℚ_assoc (a -ℚ v) (inverse r) r ∙ a
     back_ : (v a : ℚ) → v +ℚ (a -ℚ v) *ℚ 1ℚ ≡ a
     back_ v a = simp ring
 
-reaches_down : (a v s : ℚ) → ¬ (s ≡ 0ℚ) → v -ℚ ((v -ℚ a) *ℚ inverse s) *ℚ s ≡ a
+pub reaches_down : (a v s : ℚ) → ¬ (s ≡ 0ℚ) → v -ℚ ((v -ℚ a) *ℚ inverse s) *ℚ s ≡ a
 reaches_down a v s n = ap (λ x. v -ℚ x) (*ℚ_assoc (v -ℚ a) (inverse s) s ∙ ap (λ x. (v -ℚ a) *ℚ x) (*ℚ_comm (inverse s) s ∙ *ℚ_inverse s n)) ∙ back_ v a
   where
     back_ : (v a : ℚ) → v -ℚ (v -ℚ a) *ℚ 1ℚ ≡ a

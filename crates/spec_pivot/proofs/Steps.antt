@@ -42,7 +42,7 @@ ranges j (Some l) (Some u) x e =
     record { bottom = l; top = u; at_bottom = refl; at_top = refl; length = ap (λ (x : Best). x.ratio) (sym z); position = ap (λ (x : Best). x.position) (sym z) }
 
 -- a move of a column through its whole range
-whole_range : (l u v : ℚ) (low high : Option ℚ) (way : Way) (s : Status) → low ≡ Some l → high ≡ Some u → CanMove way s → Stands s low high v
+pub whole_range : (l u v : ℚ) (low high : Option ℚ) (way : Way) (s : Status) → low ≡ Some l → high ≡ Some u → CanMove way s → Stands s low high v
     → Stands (bound_ahead way) low high (v +ℚ (u -ℚ l) *ℚ sign way)
 whole_range l u v low high Up AtLower p q c st =
     let e : Some l ≡ Some v = sym p ∙ st in let z : l ≡ v = cc in

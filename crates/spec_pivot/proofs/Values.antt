@@ -13,7 +13,7 @@ use Rattle.spec_pivot.specs.declared.status.Way.{Way}
 use Rattle.spec_pivot.specs.declared.status.Way.TheVariants.{Up, Down}
 use Rattle.spec_pivot.specs.Simplex.{sign, Bounds, Improves, Stands, Table, ray, IsTableau, moved, Enters, SameStatuses}
 use Rattle.spec_pivot.proofs.Pivot.{by_eq, delta_same, delta_other, sum_below-delta}
-use Rattle.spec_pivot.proofs.Unique.{apart}
+use Rattle.spec_pivot.proofs.Rows as rows
 use Rattle.spec_pivot.proofs.Ray.{ray_at, ray_still, cost_ray}
 use Rattle.spec_pivot.proofs.Kept.{outside, j_outside, cost_moved}
 
@@ -46,18 +46,7 @@ module _ (m n : ℕ) (f : Matrix) (cost : ℕ → ℚ) (b : Bounds) (t : Table) 
 
   -- a row at numbers that are 0 off the basic columns
   row_at : (z : ℕ → ℚ) → ((k : ℕ) → k < n → ¬ (t.status k ≡ Basic) → z k ≡ 0ℚ) → (r : ℕ) → r < m → sum_below n (λ k. t.entry r k *ℚ z k) ≡ z (t.basic r)
-  row_at z o r h = sum_below_same n _ (λ k. delta (t.basic r) k *ℚ z k) term ∙ sum_below-delta n (t.basic r) z (g.in_range r h)
-    where
-      term : (k : ℕ) → k < n → t.entry r k *ℚ z k ≡ delta (t.basic r) k *ℚ z k
-      term k p =
-          by_basic (t.status k)
-          (λ e. let w = g.placed k p e in
-          by_eq r w.0
-          (λ q. subst (λ k. t.entry r k *ℚ z k ≡ delta (t.basic r) k *ℚ z k) (ap t.basic q ∙ w.2)
-          (ap (λ a. a *ℚ z (t.basic r)) (g.units r r h h ∙ delta_same r ∙ sym (delta_same (t.basic r)))))
-          (λ q. ap (λ a. a *ℚ z k) (ap (t.entry r) (sym w.2) ∙ g.units w.0 r w.1 h ∙ delta_other w.0 r (λ y. q (sym y))
-          ∙ sym (delta_other (t.basic r) k (λ y. q (apart m t.entry t.basic g.units r w.0 h w.1 (y ∙ sym w.2)))))))
-          (λ e. ap (λ a. t.entry r k *ℚ a) (o k p e) ∙ *ℚ_zero _ ∙ sym (ap (λ a. delta (t.basic r) k *ℚ a) (o k p e) ∙ *ℚ_zero _))
+  row_at z o = rows.row_at m n t.entry t.basic g.units g.in_range z (λ k p none. o k p (λ e. let w = g.placed k p e in none w.0 w.1 w.2))
 
   pub same_values : (u : Table) → IsTableau m n f cost b u → SameStatuses n t u → (k : ℕ) → k < n → t.value k ≡ u.value k
   same_values u q same k h =

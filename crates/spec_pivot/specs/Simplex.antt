@@ -150,6 +150,22 @@ after_flip m t way j theta to =
       status = status_set t.status j to;
     }
 
+-- a pivot of any method: column j is not basic, its entry at position p is not 0, and the move takes the column at p to where `to` says
+pub record Exchanges (m n : ℕ) (b : Bounds) (t : Table) (way : Way) (j p : ℕ) (theta : ℚ) (to : Status) : Type 0 where
+  pub in_range : j < n
+  pub nonbasic : ¬ (t.status j ≡ Basic)
+  pub position : p < m
+  pub entry : ¬ (t.entry p j ≡ 0ℚ)
+  pub to_nonbasic : ¬ (to ≡ Basic)
+  pub lands : Stands to (b.lower (t.basic p)) (b.upper (t.basic p)) (moved m t way j theta (t.basic p))
+
+-- a flip of any method: column j is not basic, and the move takes it to where `to` says
+pub record Crosses (m n : ℕ) (b : Bounds) (t : Table) (way : Way) (j : ℕ) (theta : ℚ) (to : Status) : Type 0 where
+  pub in_range : j < n
+  pub nonbasic : ¬ (t.status j ≡ Basic)
+  pub to_nonbasic : ¬ (to ≡ Basic)
+  pub lands : Stands to (b.lower j) (b.upper j) (moved m t way j theta j)
+
 -- a pivot by the rule of the least index: of the columns that the move brings to a bound, the least leaves
 pub record Pivots (m n : ℕ) (b : Bounds) (t : Table) (way : Way) (j p : ℕ) (theta : ℚ) (to : Status) : Type 0 where
   pub enters : Enters n b t way j

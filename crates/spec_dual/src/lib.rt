@@ -1,0 +1,93 @@
+//! Steps of the dual simplex method with bounds on the variables, over functions of an index: definitions, and the laws that
+//! they meet. There are no lists here, no model, and no limit on numbers.
+//!
+//! A reader has to believe the definitions in `specs/` and those of `spec_pivot`; each law is the contract of a function
+//! below, which does nothing.
+//!
+//! | Word | What it is | Where |
+//! |---|---|---|
+//! | `Suits`, `IsDualFeasible` | the sign that a status wants of a reduced cost; each column has it | specs/Dual |
+//! | `IsPast`, `Leaves` | a value is past a bound; the basic column that leaves to it | specs/Dual |
+//! | `Helps`, `IsCandidate`, `ratio`, `IsCheapest` | which columns may enter; the ratio test | specs/Dual |
+//! | `shift`, `after_dual` | how far the entering column moves; the tableau after the step | specs/Dual |
+//! | `IsSolution`, `Refutes` | values that solve the rows within the bounds; a row that shows that there are none | specs/Dual |
+//! | `IsComplementary` | complementary slackness of a column | specs/Dual |
+//!
+//! The dual method begins with a tableau whose reduced costs have their signs and some of whose values are outside their
+//! bounds, and keeps the former until none of the latter is left. With bounds on the variables it is that of Chvátal,
+//! Linear Programming (1983), chapters 8 and 10.
+#![tactic(auto)]
+
+ghost use Rattle.std.specs.Prelude.{◌≡◌, ◌≢◌, ◌<◌, ℕ};
+ghost use Rattle.spec_exact.specs.Fraction.{ℚ, ◌*ℚ◌, ◌≤ℚ◌};
+ghost use Rattle.spec_exact.specs.Sums.{sum_below};
+ghost use Rattle.spec_pivot.specs.declared.status.Status.{Status};
+ghost use Rattle.spec_pivot.specs.declared.status.Status.TheVariants.{Basic};
+ghost use Rattle.spec_pivot.specs.declared.status.Way.{Way};
+ghost use Rattle.spec_pivot.specs.Tableau.{Matrix};
+ghost use Rattle.spec_pivot.specs.Simplex.{Bounds, Table, IsFixed, IsInside, IsTableau, IsWithin, IsEligible, Crosses, moved, after_flip};
+ghost use Rattle.spec_dual.specs.Dual.{Suits, IsDualFeasible, IsOrdered, Leaves, row_of, IsCandidate, IsCheapest, shift, after_dual, IsSolution, Refutes, IsComplementary};
+
+/// A dual step leaves a tableau of the same rows, costs and bounds, in which the column that leaves is at the bound that it
+/// had passed; and a flip does (Chvátal, Linear Programming, chapters 8 and 10).
+pub fn dual_steps_keep_tableaus()
+    ensures pivot { (m n : ℕ) (f : Matrix) (cost : ℕ → ℚ) (b : Bounds) (t : Table)
+        (way : Way) (p j : ℕ) (c : ℚ) →
+        IsTableau m n f cost b t → Leaves m b t way p c → j < n → IsCandidate b t way p j →
+        IsTableau m n f cost b (after_dual m t way p j c) }
+    ensures lands { (m n : ℕ) (f : Matrix) (cost : ℕ → ℚ) (b : Bounds) (t : Table)
+        (way : Way) (p j : ℕ) (c : ℚ) →
+        IsTableau m n f cost b t → Leaves m b t way p c → j < n → IsCandidate b t way p j →
+        (after_dual m t way p j c).value (t.basic p) ≡ c }
+    ensures flip { (m n : ℕ) (f : Matrix) (cost : ℕ → ℚ) (b : Bounds) (t : Table)
+        (way : Way) (j : ℕ) (theta : ℚ) (to : Status) →
+        IsTableau m n f cost b t → Crosses m n b t way j theta to →
+        IsTableau m n f cost b (after_flip m t way j theta to) }
+{}
+
+/// Where the candidate with the least ratio enters, each reduced cost keeps the sign that its status wants. A flip gives one
+/// column another status (Chvátal, Linear Programming, chapter 10).
+pub fn dual_ratio_test()
+    ensures pivot { (m n : ℕ) (f : Matrix) (cost : ℕ → ℚ) (b : Bounds) (t : Table)
+        (way : Way) (p j : ℕ) (c : ℚ) →
+        IsTableau m n f cost b t → IsDualFeasible n b t → Leaves m b t way p c → IsCheapest n b t way p j →
+        IsDualFeasible n b (after_dual m t way p j c) }
+    ensures flip { (m n : ℕ) (b : Bounds) (t : Table) (way : Way) (j : ℕ) (theta : ℚ) (to : Status) →
+        Suits to (t.reduced j) →
+        ((k : ℕ) → k < n → k ≢ j → ¬ (IsFixed b k) → Suits (t.status k) (t.reduced k)) →
+        IsDualFeasible n b (after_flip m t way j theta to) }
+{}
+
+/// Where no column may enter, the leaving column's row and the bounds at which it stops make more than 0; and where some row
+/// and bounds do, no values solve the rows within the bounds (Farkas' lemma).
+pub fn stuck_rows_refute()
+    ensures row { (m n : ℕ) (f : Matrix) (cost : ℕ → ℚ) (b : Bounds) (t : Table)
+        (way : Way) (p : ℕ) (c : ℚ) →
+        IsTableau m n f cost b t → Leaves m b t way p c → ((k : ℕ) → k < n → ¬ (IsCandidate b t way p k)) →
+        (w : ℕ → ℚ) × Refutes m n f b (row_of t way p) w }
+    ensures none { (m n : ℕ) (f : Matrix) (b : Bounds) (a w : ℕ → ℚ) → Refutes m n f b a w →
+        (x : ℕ → ℚ) → ¬ (IsSolution m n f b x) }
+{}
+
+/// Where no basic value is outside its bounds, none is; and where the reduced costs have their signs, no column is eligible
+/// for the primal method, values and reduced costs are complementary, and no solution costs less
+/// (Chvátal, Linear Programming, chapters 5 and 8).
+pub fn dual_ends_are_optimal()
+    ensures within { (m n : ℕ) (f : Matrix) (cost : ℕ → ℚ) (b : Bounds) (t : Table) →
+        IsTableau m n f cost b t → IsOrdered n b →
+        ((k : ℕ) → k < n → t.status k ≡ Basic → IsInside (b.lower k) (b.upper k) (t.value k)) → IsWithin n b t }
+    ensures eligible { (n : ℕ) (b : Bounds) (t : Table) → IsDualFeasible n b t →
+        (way : Way) (k : ℕ) → k < n → ¬ (IsEligible b t way k) }
+    ensures complementary { (m n : ℕ) (f : Matrix) (cost : ℕ → ℚ) (b : Bounds) (t : Table) →
+        IsTableau m n f cost b t → IsDualFeasible n b t → (k : ℕ) → k < n → IsComplementary b t k }
+    ensures least { (m n : ℕ) (f : Matrix) (cost : ℕ → ℚ) (b : Bounds) (t : Table) →
+        IsTableau m n f cost b t → IsDualFeasible n b t → (x : ℕ → ℚ) → IsSolution m n f b x →
+        sum_below n (λ k. cost k *ℚ t.value k) ≤ℚ sum_below n (λ k. cost k *ℚ x k) }
+{}
+
+/// There is a dual step by the ratio test, and a row that refutes, so that the laws do not hold of nothing.
+pub fn some_dual_step_exists()
+    ensures step { (m n : ℕ) × (f : Matrix) × (cost : ℕ → ℚ) × (b : Bounds) × (t : Table) × (way : Way) × (p j : ℕ) × (c : ℚ) ×
+        IsTableau m n f cost b t × IsDualFeasible n b t × Leaves m b t way p c × IsCheapest n b t way p j }
+    ensures row { (m n : ℕ) × (f : Matrix) × (b : Bounds) × (a w : ℕ → ℚ) × Refutes m n f b a w }
+{}
