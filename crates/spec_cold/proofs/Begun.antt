@@ -39,7 +39,7 @@ one_is i r v = by (nat_eq i r)
     by true = sym (*ℚ_one v)
     by false = sym (*ℚ_zero v)
 
-sign_square : (s : RowStart ℚ) → logical_sign s *ℚ logical_sign s ≡ 1ℚ
+pub sign_square : (s : RowStart ℚ) → logical_sign s *ℚ logical_sign s ≡ 1ℚ
 sign_square (Within v) = *ℚ_one 1ℚ
 sign_square (Below gap) = minus
   where

@@ -3,17 +3,17 @@ use Rattle.std.proofs.Common.{◌≡◌, ℕ, zero, suc, ◌+◌, ◌<◌, ◌�
 use Rattle.std.proofs.lemmas.List.{length-replicate, get_or_append_left, get_or-append-add, get_or-replicate, get_or-map}
 use Rattle.spec_exact.specs.Fraction.{ℚ, ◌+ℚ◌, ◌-ℚ◌, ◌*ℚ◌, neg_ℚ, 0ℚ, ◌≤ℚ◌, ◌<ℚ◌, lt_ℚ}
 use Rattle.spec_exact.specs.Sums.{sum_below}
-use Rattle.spec_exact.proofs.Field.{+ℚ_zero, +ℚ_comm, *ℚ_zero, *ℚ_assoc}
+use Rattle.spec_exact.proofs.Field.{+ℚ_zero, +ℚ_comm, *ℚ_zero}
 use Rattle.spec_exact.proofs.Order.{≤ℚ_refl, ≤ℚ_antisym, clash_ℚ, lt_if, le_if_not}
 use Rattle.spec_exact.proofs.Ruleset.{ring, zero-+ℚ, zero-*ℚ, one-*ℚ, neg-zero}
 use Rattle.spec_exact.proofs.Strict.{<ℚ-≤ℚ_trans, +ℚ_strict, +ℚ_mono₂, neg_strict, by_sign}
-use Rattle.spec_exact.proofs.Sums.{sum_below_none, sum_below_same, *ℚ-sum_below, sum_below-*ℚ, sum_below_swap, sum_below-sub, neg-sum_below}
+use Rattle.spec_exact.proofs.Sums.{sum_below_none, sum_below_same, neg-sum_below}
 use Rattle.spec_model.specs.Model.{bounds, Model, Limits, width, height, limits, coefficient, part}
 use Rattle.spec_check.specs.Checks.{priced, IsTight, HasLimit, or_zero, asked, turned_limits, rows_ask, columns_give, ChecksInfeasible}
 use Rattle.spec_pivot.specs.declared.status.Way.{Way}
-use Rattle.spec_pivot.specs.Tableau.{Matrix}
 use Rattle.spec_pivot.specs.Simplex.{Bounds, Table, IsInside, IsWithin, IsEligible, IsTableau, ray}
 use Rattle.spec_pivot.specs.Ratio.{GoesOn}
+use Rattle.spec_pivot.proofs.Fixed.{costs_agree}
 use Rattle.spec_pivot.proofs.Pivot.{by_eq}
 use Rattle.spec_pivot.proofs.Values.{by_basic, zero_at_basic}
 use Rattle.spec_simplex.specs.declared.ends.RowStart.{RowStart}
@@ -28,16 +28,16 @@ use Rattle.spec_cold.proofs.EndTight.{HasBounds, tight_structural, tight_logical
 use Rattle.spec_cold.proofs.EndRay.{allowed, falls}
 
 -- ---- multipliers and the limits at which values stand
-tight_turned : (l : Limits) (d p v : ℚ) → d ≡ neg_ℚ p → IsTight l d v → IsTight (turned_limits l) p v
+pub tight_turned : (l : Limits) (d p v : ℚ) → d ≡ neg_ℚ p → IsTight l d v → IsTight (turned_limits l) p v
 tight_turned l d p v e t = record {
   above = λ h. t.below (subst₂ ◌<ℚ◌ (sym e) neg-zero (neg_strict 0ℚ p h));
   below = λ h. t.above (subst₂ ◌<ℚ◌ neg-zero (sym e) (neg_strict p 0ℚ h));
 }
 
-has_limit : (l : Limits) (d v : ℚ) → IsTight l d v → HasLimit l d
+pub has_limit : (l : Limits) (d v : ℚ) → IsTight l d v → HasLimit l d
 has_limit l d v t = record { above = λ h. (v, t.above h); below = λ h. (v, t.below h) }
 
-asked_is : (l : Limits) (d v : ℚ) → IsTight l d v → d *ℚ asked l d ≡ d *ℚ v
+pub asked_is : (l : Limits) (d v : ℚ) → IsTight l d v → d *ℚ asked l d ≡ d *ℚ v
 asked_is l d v t = by (lt_ℚ 0ℚ d) (lt_ℚ d 0ℚ) refl refl
   where
     by : (a b : Bool) → lt_ℚ 0ℚ d ≡ a → lt_ℚ d 0ℚ ≡ b → d *ℚ cond a (or_zero l.lower) (cond b (or_zero l.upper) 0ℚ) ≡ d *ℚ v
@@ -59,24 +59,6 @@ sum_positive (suc n) f h r p k =
     by_eq r n
     (λ e. subst (λ z. 0ℚ <ℚ z) (+ℚ_comm (f n) (sum_below n f)) (positive_sum (f n) (sum_below n f) (subst (λ i. 0ℚ <ℚ f i) e k) (sum_least n f (λ i q. h i (omega (arith, q))))))
     (λ o. positive_sum (sum_below n f) (f n) (sum_positive n f (λ i q. h i (omega (arith, q))) r (omega (arith, p, o)) k) (h n (omega arith)))
-
--- costs and reduced costs have one sum at a point that solves the rows
-costs_agree : (m n : ℕ) (f : Matrix) (c d z w : ℕ → ℚ) → ((k : ℕ) → d k ≡ c k -ℚ sum_below m (λ r. w r *ℚ f r k)) → ((r : ℕ) → r < m → sum_below n (λ k. f r k *ℚ z k) ≡ 0ℚ) → sum_below n (λ k. d k *ℚ z k) ≡ sum_below n (λ k. c k *ℚ z k)
-costs_agree m n f c d z w e solved =
-    sum_below_same n _ (λ k. c k *ℚ z k -ℚ sum_below m (λ r. w r *ℚ (f r k *ℚ z k))) (λ k _.
-    ap (λ a. a *ℚ z k) (e k) ∙ open_ (c k) (sum_below m (λ r. w r *ℚ f r k)) (z k)
-    ∙ ap (λ a. c k *ℚ z k -ℚ a) (sum_below-*ℚ m _ (z k) ∙ sum_below_same m _ _ (λ r _. *ℚ_assoc (w r) (f r k) (z k))))
-    ∙ sum_below-sub n _ _
-    ∙ ap (λ a. sum_below n (λ k. c k *ℚ z k) -ℚ a)
-    (sym (sum_below_swap m n (λ r k. w r *ℚ (f r k *ℚ z k)))
-    ∙ sum_below_none m _ (λ r p. sym (*ℚ-sum_below (w r) n (λ k. f r k *ℚ z k)) ∙ ap (λ a. w r *ℚ a) (solved r p) ∙ *ℚ_zero (w r)))
-    ∙ less_none _
-  where
-    open_ : (c s r : ℚ) → (c -ℚ s) *ℚ r ≡ c *ℚ r -ℚ s *ℚ r
-    open_ c s r = simp ring
-
-    less_none : (a : ℚ) → a -ℚ 0ℚ ≡ a
-    less_none a = simp ring
 
 -- ---- artificials of phase one
 top_of : (s : RowStart ℚ) → (artificial_upper s ≡ None) ⊎ (artificial_upper s ≡ Some 0ℚ)

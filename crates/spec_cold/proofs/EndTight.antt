@@ -1,9 +1,9 @@
 -- Where no column is eligible, a reduced cost stands at the bound of its sign; and sums over the columns of a form.
-use Rattle.std.proofs.Common.{◌≡◌, ℕ, ◌+◌, ◌<◌, ◌⊎◌, List, Option, Some, None, false, IfSome, refl, sym, ap, ap₂, ◌∙◌, subst, subst₂, arith, inl, inr, ⊎_elim}
+use Rattle.std.proofs.Common.{◌≡◌, ℕ, ◌+◌, ◌<◌, List, Option, Some, false, IfSome, refl, sym, ap, ap₂, ◌∙◌, subst, subst₂, arith, ⊎_elim}
 use Rattle.spec_exact.specs.Fraction.{ℚ, ◌+ℚ◌, ◌-ℚ◌, ◌*ℚ◌, neg_ℚ, 0ℚ, 1ℚ, ◌≤ℚ◌, ◌<ℚ◌}
 use Rattle.spec_exact.specs.Sums.{sum_below}
 use Rattle.spec_exact.proofs.Field.{+ℚ_zero, *ℚ_comm, *ℚ_zero}
-use Rattle.spec_exact.proofs.Order.{≤ℚ_antisym, by_le}
+use Rattle.spec_exact.proofs.Order.{≤ℚ_antisym}
 use Rattle.spec_exact.proofs.Ruleset.{ring, zero-+ℚ}
 use Rattle.spec_exact.proofs.Strict.{<ℚ_irrefl}
 use Rattle.spec_exact.proofs.Sums.{sum_below_none, sum_below_same, *ℚ-sum_below}
@@ -16,6 +16,7 @@ use Rattle.spec_pivot.specs.declared.status.Way.{Way}
 use Rattle.spec_pivot.specs.declared.status.Way.TheVariants.{Up, Down}
 use Rattle.spec_pivot.specs.Tableau.{delta}
 use Rattle.spec_pivot.specs.Simplex.{Bounds, Table, IsFixed, Stands, CanMove, IsInside, IsWithin, IsEligible, IsTableau}
+use Rattle.spec_pivot.proofs.Fixed.{fixed_or_not}
 use Rattle.spec_pivot.proofs.Pivot.{sum_below-delta}
 use Rattle.spec_pivot.proofs.Values.{zero_at_basic}
 use Rattle.spec_simplex.specs.declared.ends.RowStart.{RowStart}
@@ -25,20 +26,6 @@ use Rattle.spec_cold.proofs.Columns.{sum_by_kind}
 use Rattle.spec_cold.proofs.Equations.{row_structural, row_logical}
 use Rattle.spec_cold.proofs.Formed.{Limited, entry_is, lower_structural, upper_structural, lower_logical, upper_logical}
 use Rattle.spec_cold.proofs.Begun.{delta_sym}
-
--- whether both bounds are there and equal
-fixed_or_not : (b : Bounds) (k : ℕ) → (IsFixed b k) ⊎ ¬ (IsFixed b k)
-fixed_or_not b k = go (b.lower k) (b.upper k) refl refl
-  where
-    go : (l u : Option ℚ) → b.lower k ≡ l → b.upper k ≡ u → (IsFixed b k) ⊎ ¬ (IsFixed b k)
-    go None u p q = inr (λ f. let e : None ≡ Some f.0 = sym p ∙ f.1 in cc)
-    go (Some v) None p q = inr (λ f. let e : None ≡ Some f.0 = sym q ∙ f.2 in cc)
-    go (Some v) (Some w) p q =
-        by_le v w
-        (λ h. by_le w v
-        (λ g. inl (v, p, q ∙ ap Some (≤ℚ_antisym w v g h)))
-        (λ g. inr (λ f. let e : Some v ≡ Some f.0 = sym p ∙ f.1 in let d : Some w ≡ Some f.0 = sym q ∙ f.2 in let z : v ≡ w = cc in <ℚ_irrefl w (subst (λ v. v <ℚ w) z g))))
-        (λ g. inr (λ f. let e : Some v ≡ Some f.0 = sym p ∙ f.1 in let d : Some w ≡ Some f.0 = sym q ∙ f.2 in let z : v ≡ w = cc in <ℚ_irrefl w (subst (λ v. w <ℚ v) z g)))
 
 abbrev pub limits_at : Bounds → ℕ → Limits
 limits_at b k = record { lower = b.lower k; upper = b.upper k }

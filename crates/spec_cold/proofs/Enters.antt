@@ -18,12 +18,12 @@ use Rattle.spec_cold.proofs.Lists.{by_lt}
 use Rattle.spec_cold.proofs.Pivots.{enters_before}
 
 -- ---- fixed columns
-fixed_means : (l u : Option ℚ) → is_fixed l u ≡ true → (v : ℚ) × (l ≡ Some v) × (u ≡ Some v)
+pub fixed_means : (l u : Option ℚ) → is_fixed l u ≡ true → (v : ℚ) × (l ≡ Some v) × (u ≡ Some v)
 fixed_means None u e = let z : false ≡ true = e in cc
 fixed_means (Some l) None e = let z : false ≡ true = e in cc
 fixed_means (Some l) (Some u) e = (l, refl, ap Some (sym (eq_if l u e)))
 
-fixed_test : (l u : Option ℚ) (v : ℚ) → l ≡ Some v → u ≡ Some v → is_fixed l u ≡ true
+pub fixed_test : (l u : Option ℚ) (v : ℚ) → l ≡ Some v → u ≡ Some v → is_fixed l u ≡ true
 fixed_test l u v p q = ap₂ is_fixed p q ∙ eq_test v v refl
 
 -- ---- the test of a status and a reduced cost

@@ -6,8 +6,9 @@ use Rattle.spec_exact.proofs.Ruleset.{ring}
 use Rattle.spec_pivot.specs.declared.status.Status.{Status}
 use Rattle.spec_pivot.specs.declared.status.Status.TheVariants.{Basic}
 use Rattle.spec_pivot.specs.Tableau.{Matrix}
-use Rattle.spec_pivot.specs.Simplex.{Bounds, IsTableau, sign, moved, status_set, after_flip, Flips}
+use Rattle.spec_pivot.specs.Simplex.{Bounds, IsTableau, sign, moved, status_set, after_flip, Crosses}
 use Rattle.spec_pivot.proofs.Pivot.{by_eq}
+use Rattle.spec_pivot.proofs.Kept.{outside}
 use Rattle.spec_simplex.specs.Run.{Run, ◌>>=◌, difference_run}
 use Rattle.spec_simplex.specs.Tableau.{Tableau, form_columns, all_columns, value_at, status_at, lower_at, upper_at, or_zero, stand}
 use Rattle.spec_simplex.specs.Step.{directed, other_bound, moved_run, flip_way, flipped, flip_run}
@@ -29,15 +30,15 @@ directed_is false v = down v
     down v = simp ring
 
 module _ (limit : Option ℕ) (t : Tableau) (w : IsWhole t) (f : Matrix) (cost : ℕ → ℚ) (b : Bounds) (g : IsTableau t.rows (all_columns t) f cost b (table_of t)) (keeps : KeepsBounds b t)
-    (up : Bool) (j : ℕ) (ratio : ℚ) (v : Flips t.rows (all_columns t) b (table_of t) (way up) j ratio (other_bound up)) where
+    (up : Bool) (j : ℕ) (ratio : ℚ) (v : Crosses t.rows (all_columns t) b (table_of t) (way up) j ratio (other_bound up)) (open_ : b.barred j ≡ false) where
   abbrev to : Status
   to = other_bound up
 
   j_in : j < all_columns t
-  j_in = v.enters.in_range
+  j_in = v.in_range
 
   j_before : j < form_columns t
-  j_before = enters_before b t j keeps v.enters.eligible.may_enter.0
+  j_before = enters_before b t j keeps open_
 
   module _ (theta : ℚ) (same : theta ≡ sign (way up) *ℚ ratio) (values : List ℚ) (values_ok : moved_run limit t j theta None ≡ Ok values) where
     abbrev u : Tableau
@@ -66,7 +67,7 @@ module _ (limit : Option ℕ) (t : Tableau) (w : IsWhole t) (f : Matrix) (cost :
         ∙ ap₂ (stand to) (keeps.lower j j_in) (keeps.upper j j_before)
         ∙ stand_is to (b.lower j) (b.upper j) (moved t.rows (table_of t) (way up) j ratio j) v.to_nonbasic v.lands))
         (λ o. get_or-set_other values j k (stand to (lower_at t j) (upper_at t j)) 0ℚ o
-        ∙ moved_ray limit t w f cost b g j theta None values values_ok (way up) v.enters ratio same k o (λ r l s. let z : false ≡ true = s in cc))
+        ∙ moved_ray limit t w f cost b g j theta None values values_ok (way up) (outside t.rows (all_columns t) f cost b (table_of t) g j v.nonbasic) ratio same k o (λ r l s. let z : false ≡ true = s in cc))
 
     status_is : (k : ℕ) → status_at u k ≡ status_set (status_at t) j to k
     status_is k = set_reads t.status j to Basic (omega (arith, w.all_statuses, j_in)) k

@@ -23,6 +23,7 @@ pub mod EndRay
 pub mod EndUnbounded
 pub mod EndInfeasible
 pub mod Directions
+pub mod Shown
 pub mod Phases
 pub mod Solved
 pub mod Refusals

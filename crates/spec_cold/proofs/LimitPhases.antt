@@ -25,7 +25,7 @@ use Rattle.spec_cold.proofs.Refusals.{Agrees, as_it_is, agrees_ok, agrees_err, a
 use Rattle.spec_cold.proofs.LimitStart.{form_agrees, priced_agrees, start_agrees, choice_agrees, flip_agrees, pivot_agrees}
 use Rattle.spec_cold.proofs.Solved.{end_accepted, clash_accepted, enough, ended_is_true}
 
-spent_agrees : {A : Type 0} → Agrees {A = A} stop.Past (Err stop.Spent) (Err stop.Spent)
+pub spent_agrees : {A : Type 0} → Agrees {A = A} stop.Past (Err stop.Spent) (Err stop.Spent)
 spent_agrees = agrees_err stop.Past stop.Spent (λ p e. let z : ◌≡◌ {A = Stop ℚ} stop.Spent (stop.Past p) = e in cc)
 
 module _ (limit : Option ℕ) where
@@ -39,14 +39,14 @@ module _ (limit : Option ℕ) where
   next_agrees t used f g h (Flip j) = agrees_then stop.Past _ _ f g (agrees_as stop.Past _ _ (flip_agrees limit t j)) h
   next_agrees t used f g h (Pivot p j theta to) = agrees_then stop.Past _ _ f g (agrees_as stop.Past _ _ (pivot_agrees limit t p j theta to)) h
 
-  run_agrees : (left used : ℕ) (t : Tableau) → Agrees stop.Past (run_from limit left used t) (run_from None left used t)
+  pub run_agrees : (left used : ℕ) (t : Tableau) → Agrees stop.Past (run_from limit left used t) (run_from None left used t)
   unfolding run_from
   run_agrees zero used t = agrees_then stop.Past _ _ (end_or_spent t used) (end_or_spent t used) (agrees_as stop.Past _ _ (choice_agrees limit t)) (end_agrees t used)
   run_agrees (suc left) used t =
       agrees_then stop.Past _ _ (end_or_next limit t used (λ u. run_from limit left (used + 1) u)) (end_or_next None t used (λ u. run_from None left (used + 1) u)) (agrees_as stop.Past _ _ (choice_agrees limit t))
       (next_agrees t used (λ u. run_from limit left (used + 1) u) (λ u. run_from None left (used + 1) u) (λ u. run_agrees left (used + 1) u))
 
-  two_agrees : (f : Form) (t : Tableau) → Agrees as_it_is (phase_two_run limit f t) (phase_two_run None f t)
+  pub two_agrees : (f : Form) (t : Tableau) → Agrees as_it_is (phase_two_run limit f t) (phase_two_run None f t)
   unfolding phase_two_run
   two_agrees f t = agrees_then as_it_is _ _ _ _ (priced_agrees limit (without_artificials t) f.cost) (λ reduced. agrees_ok as_it_is _)
 

@@ -74,7 +74,7 @@ module _ (limit : Option ℕ) where
   start_by_agrees u v None = also _ _ _ _ (above_agrees u v) (λ gap. ok _)
   start_by_agrees u v (Some gap) = ok _
 
-  row_start_agrees : (f : Form) (i : ℕ) → Agrees as_it_is (row_start limit f i) (row_start None f i)
+  pub row_start_agrees : (f : Form) (i : ℕ) → Agrees as_it_is (row_start limit f i) (row_start None f i)
   row_start_agrees f i =
       also _ _ _ _ (agrees_steps as_it_is f.cols _ _ 0ℚ (λ j s. agrees_plus limit (form_entry f i j) (first_value f j) s)) (λ v.
       also _ _ _ _ (below_agrees (form_lower f (f.cols + i)) v) (λ gap. start_by_agrees (form_upper f (f.cols + i)) v gap))
@@ -120,7 +120,7 @@ module _ (limit : Option ℕ) where
   best_with_agrees : (t : Tableau) (e : Entering) (i : ℕ) (best : Option (Best ℚ)) → Agrees as_it_is (best_with limit t e i best) (best_with None t e i best)
   best_with_agrees t e i best = also _ _ _ _ (gap_agrees e.up (entry_at t i e.col) (lower_at t (basic_at t i)) (upper_at t (basic_at t i)) (value_at t (basic_at t i))) (λ gap. with_gap_agrees i (basic_at t i) (entry_at t i e.col) best gap)
 
-  best_agrees : (t : Tableau) (e : Entering) → Agrees as_it_is (best_run limit t e) (best_run None t e)
+  pub best_agrees : (t : Tableau) (e : Entering) → Agrees as_it_is (best_run limit t e) (best_run None t e)
   best_agrees t e = also _ _ _ _ (range_agrees e _ _) (λ best. agrees_steps as_it_is t.rows (best_with limit t e) (best_with None t e) best (best_with_agrees t e))
 
   choice_of_agrees : (t : Tableau) (e : Option Entering) → Agrees as_it_is (choice_of limit t e) (choice_of None t e)
@@ -134,7 +134,7 @@ module _ (limit : Option ℕ) where
   moved_at_agrees : (t : Tableau) (j : ℕ) (theta : ℚ) (i : ℕ) (values : List ℚ) → Agrees as_it_is (moved_at limit t j theta i values) (moved_at None t j theta i values)
   moved_at_agrees t j theta i values = also _ _ _ _ (agrees_less limit _ theta _) (λ v. ok _)
 
-  moved_agrees : (t : Tableau) (j : ℕ) (theta : ℚ) (but : Option ℕ) → Agrees as_it_is (moved_run limit t j theta but) (moved_run None t j theta but)
+  pub moved_agrees : (t : Tableau) (j : ℕ) (theta : ℚ) (but : Option ℕ) → Agrees as_it_is (moved_run limit t j theta but) (moved_run None t j theta but)
   unfolding moved_run
   moved_agrees t j theta but = agrees_steps as_it_is t.rows _ _ t.value (λ i values. agrees_if as_it_is (is_place but i) _ _ _ _ (ok values) (moved_at_agrees t j theta i values))
 
@@ -150,7 +150,7 @@ module _ (limit : Option ℕ) where
   unfolding cleared_run
   cleared_agrees n p j i rows = also _ _ _ _ (agrees_list n _ _ (λ k. agrees_less limit _ _ _)) (λ row. ok _)
 
-  turned_agrees : (m n : ℕ) (rows : List (List ℚ)) (p j : ℕ) → Agrees as_it_is (turned_run limit m n rows p j) (turned_run None m n rows p j)
+  pub turned_agrees : (m n : ℕ) (rows : List (List ℚ)) (p j : ℕ) → Agrees as_it_is (turned_run limit m n rows p j) (turned_run None m n rows p j)
   unfolding turned_run
   turned_agrees m n rows p j =
       also _ _ _ _ (scaled_agrees n rows p j) (λ scaled. agrees_steps as_it_is m _ _ scaled (λ i rows. agrees_if as_it_is (nat_eq i p) _ _ _ _ (ok rows) (cleared_agrees n p j i rows)))
@@ -159,7 +159,7 @@ module _ (limit : Option ℕ) where
   unfolding repriced_run
   repriced_agrees n reduced rows p j = agrees_list n _ _ (λ k. agrees_less limit _ _ _)
 
-  shifted_agrees : (values : List ℚ) (j : ℕ) (theta : ℚ) → Agrees as_it_is (shifted_run limit values j theta) (shifted_run None values j theta)
+  pub shifted_agrees : (values : List ℚ) (j : ℕ) (theta : ℚ) → Agrees as_it_is (shifted_run limit values j theta) (shifted_run None values j theta)
   unfolding shifted_run
   shifted_agrees values j theta = also _ _ _ _ (agrees_sum limit _ theta) (λ v. ok _)
 

@@ -5,10 +5,10 @@ use Rattle.spec_exact.specs.Fraction.{ℚ, 0ℚ, ◌+ℚ◌, ◌-ℚ◌, ◌*ℚ
 use Rattle.spec_exact.proofs.Ruleset.{ring}
 use Rattle.spec_pivot.specs.declared.status.Way.{Way}
 use Rattle.spec_pivot.specs.Tableau.{Matrix}
-use Rattle.spec_pivot.specs.Simplex.{Bounds, Table, IsTableau, Enters, sign, moved}
+use Rattle.spec_pivot.specs.Simplex.{Bounds, Table, IsTableau, sign, moved}
 use Rattle.spec_pivot.proofs.Pivot.{by_eq}
 use Rattle.spec_pivot.proofs.Unique.{apart}
-use Rattle.spec_pivot.proofs.Kept.{outside, j_outside}
+use Rattle.spec_pivot.proofs.Kept.{outside}
 use Rattle.spec_pivot.proofs.Ray.{ray_basic, ray_still}
 use Rattle.spec_pivot.proofs.Values.{by_basic}
 use Rattle.spec_simplex.specs.Run.{less_product}
@@ -79,17 +79,17 @@ module _ (limit : Option ℕ) (t : Tableau) (w : IsWhole t) (f : Matrix) (cost :
       pub moved_others : (k : ℕ) → ((r : ℕ) → r < t.rows → is_place but r ≡ false → basic_at t r ≢ k) → get_or values k 0ℚ ≡ value_at t k
       moved_others k o = moved_all.others k (λ r q l s. o r l s)
 
-      -- where the column enters, these are the values along the ray
-      module _ (way : Way) (e : Enters (all_columns t) b (table_of t) way j) (ratio : ℚ) (same : theta ≡ sign way *ℚ ratio) where
+      -- where the column is not basic, these are the values along the ray
+      module _ (way : Way) (j_off : (r : ℕ) → r < t.rows → ¬ (basic_at t r ≡ j)) (ratio : ℚ) (same : theta ≡ sign way *ℚ ratio) where
         pub moved_own : get_or values j 0ℚ ≡ value_at t j
-        moved_own = moved_others j (λ r q s. j_outside t.rows (all_columns t) f cost b (table_of t) g way j e r q)
+        moved_own = moved_others j (λ r q s. j_off r q)
 
         pub moved_ray : (k : ℕ) → k ≢ j → ((r : ℕ) → r < t.rows → is_place but r ≡ true → basic_at t r ≢ k) → get_or values k 0ℚ ≡ moved t.rows (table_of t) way j ratio k
         moved_ray k k_other but_not =
             ⊎_elim
             (λ p. go (is_place but p.0) p.0 refl p.1 p.2)
             (λ none. moved_others k (λ r q s. none r q)
-            ∙ sym (ap (λ a. value_at t k +ℚ ratio *ℚ a) (ray_still t.rows (table_of t) g.units way j (j_outside t.rows (all_columns t) f cost b (table_of t) g way j e) k (λ z. k_other (sym z)) none) ∙ still (value_at t k) ratio))
+            ∙ sym (ap (λ a. value_at t k +ℚ ratio *ℚ a) (ray_still t.rows (table_of t) g.units way j j_off k (λ z. k_other (sym z)) none) ∙ still (value_at t k) ratio))
             (at_position t.rows (all_columns t) f cost b (table_of t) g k)
           where
             still : (v s : ℚ) → v +ℚ s *ℚ 0ℚ ≡ v
@@ -103,4 +103,4 @@ module _ (limit : Option ℕ) (t : Tableau) (w : IsWhole t) (f : Matrix) (cost :
             go false r c q z = subst (λ k. get_or values k 0ℚ ≡ moved t.rows (table_of t) way j ratio k) z
                 (moved_all.placed r q q c ∙ ap (λ a. value_at t (basic_at t r) -ℚ entry_at t r j *ℚ a) same
                 ∙ along (value_at t (basic_at t r)) (entry_at t r j) (sign way) ratio
-                ∙ sym (ap (λ a. value_at t (basic_at t r) +ℚ ratio *ℚ a) (ray_basic t.rows (table_of t) g.units way j (j_outside t.rows (all_columns t) f cost b (table_of t) g way j e) r q)))
+                ∙ sym (ap (λ a. value_at t (basic_at t r) +ℚ ratio *ℚ a) (ray_basic t.rows (table_of t) g.units way j j_off r q)))

@@ -1,14 +1,11 @@
 -- What both phases end with is accepted, and a stated budget is enough for them.
-use Rattle.std.proofs.Common.{◌≡◌, ◌≢◌, ℕ, ◌+◌, ◌-◌, ◌*◌, ◌^◌, ◌<◌, ◌≤◌, List, length, Option, Some, Result, Ok, Err, Bool, true, false, not, ◌&&◌, cond, refl, sym, ap, ◌∙◌, subst, arith}
+use Rattle.std.proofs.Common.{◌≡◌, ◌≢◌, ℕ, ◌+◌, ◌-◌, ◌*◌, ◌^◌, ◌<◌, ◌≤◌, List, Option, Some, Result, Ok, Err, Bool, true, false, not, ◌&&◌, cond, refl, sym, ap, ◌∙◌, subst, arith}
 use Rattle.std.proofs.lemmas.Bool.{leb-true}
 use Rattle.std.proofs.lemmas.List.Folds.{list_any_at}
 use Rattle.spec_exact.specs.Fraction.{ℚ, 0ℚ, eq_ℚ}
 use Rattle.spec_exact.proofs.Same.{eq_test}
-use Rattle.spec_model.specs.Model.{Model, width, height, part}
-use Rattle.spec_check.specs.declared.certificate.Certificate.{Certificate}
+use Rattle.spec_model.specs.Model.{Model, width, height}
 use Rattle.spec_check.specs.declared.certificate.Certificate.TheVariants as certificate
-use Rattle.spec_check.specs.Certificate.{IsFor}
-use Rattle.spec_check.specs.Checks.{Checks}
 use Rattle.spec_pivot.specs.declared.status.Way.{Way}
 use Rattle.spec_pivot.specs.declared.status.Way.TheVariants.{Up}
 use Rattle.spec_pivot.specs.declared.status.Status.TheVariants.{Basic}
@@ -17,58 +14,32 @@ use Rattle.spec_pivot.specs.Simplex as kind
 use Rattle.spec_simplex.specs.declared.ends.PrimalEnd.{PrimalEnd}
 use Rattle.spec_simplex.specs.declared.ends.PrimalEnd.TheVariants.{Optimal, Unbounded}
 use Rattle.spec_simplex.specs.declared.ends.Choice.TheVariants.{End}
+use Rattle.spec_simplex.specs.declared.ends.RowStart.{RowStart}
 use Rattle.spec_simplex.specs.declared.ends.Stop.{Stop}
 use Rattle.spec_simplex.specs.declared.ends.Stop.TheVariants as stop
 use Rattle.spec_simplex.specs.Form.{Form, formed}
 use Rattle.spec_simplex.specs.Run.{◌>>=◌, refused_as}
 use Rattle.spec_simplex.specs.Start.{cost_at, first_costs, start_of}
-use Rattle.spec_simplex.specs.Tableau.{Tableau, form_columns, is_artificial, basic_at, value_at, reduced_at, lower_at, upper_at}
+use Rattle.spec_simplex.specs.Tableau.{Tableau, form_columns, is_artificial, basic_at, value_at, lower_at, upper_at}
 use Rattle.spec_simplex.specs.Phases.{Ended, wants_phase_one, is_stuck, phase_one, phase_two, phase_two_run, run_from, PhasesEnd, Infeasible, Finished, phases_run}
-use Rattle.spec_simplex.proofs.Stops.{length-made}
 use Rattle.spec_cold.specs.Tables.{way, table_of, bounds_of, IsTableauOf, IsMeant}
 use Rattle.spec_cold.specs.Begins.{form_rows}
-use Rattle.spec_cold.specs.Cold.{point, multipliers, moves_by, moves_below, direction, certificate_at, certificate_of}
-use Rattle.spec_cold.proofs.Runs.{then_ok, refused_ok, get_or-made}
+use Rattle.spec_cold.specs.Cold.{multipliers, certificate_at, certificate_of}
+use Rattle.spec_cold.proofs.Runs.{then_ok, refused_ok}
 use Rattle.spec_cold.proofs.Walks.{IsEnd, run_ends, run_spent, few, stand_still, never_spent, ThenErr, first, second, then_err}
 use Rattle.spec_cold.proofs.Begun.{Started, start_is_tableau}
 use Rattle.spec_cold.proofs.PhaseTwo.{IsSecond, second_phase, some_of}
 use Rattle.spec_cold.proofs.Formed.{Limited, cost_length, formed_proper}
 use Rattle.spec_cold.proofs.EndTight.{HasBounds}
-use Rattle.spec_cold.proofs.EndOptimal.{optimal_checks}
-use Rattle.spec_cold.proofs.EndUnbounded.{unbounded_checks}
 use Rattle.spec_cold.proofs.EndInfeasible.{never_goes_on, infeasible_checks}
-use Rattle.spec_cold.proofs.Directions.{moves_are}
+use Rattle.spec_cold.proofs.Shown.{Shows, multipliers_length, multiplier_at, primal_shows}
 
 some_label : Label
 some_label = record { kind = kind.Flip; way = Up; column = 0; position = 0; theta = 0ℚ; to = Basic }
 
-pub record Shows (m : Model) (c : Certificate (List ℚ)) : Type 0 where
-  pub for : IsFor m c
-  pub checks : Checks m c
-
 both_true : (a c : Bool) → a && c ≡ true → (a ≡ true) × (c ≡ true)
 both_true true c h = (refl, h)
 both_true false c h = let z : false ≡ true = h in cc
-
--- ---- the lists of a certificate
-module _ (m n : ℕ) (f : ℕ → ℕ → ℚ) (cost : ℕ → ℚ) (b : Bounds) (t : Tableau) (s : IsTableauOf m n f cost b t) where
-  point_length : length (point t) ≡ n
-  point_length = length-made t.cols (value_at t) ∙ s.cols
-
-  point_at : (j : ℕ) → j < n → part (point t) j ≡ value_at t j
-  point_at j l = get_or-made t.cols (value_at t) 0ℚ j (omega (arith, l, s.cols))
-
-  multipliers_length : length (multipliers t) ≡ m
-  multipliers_length = length-made t.rows (λ i. reduced_at t (t.cols + i)) ∙ s.rows
-
-  multiplier_at : (i : ℕ) → i < m → part (multipliers t) i ≡ reduced_at t (n + i)
-  multiplier_at i l = get_or-made t.rows (λ i. reduced_at t (t.cols + i)) 0ℚ i (omega (arith, l, s.rows)) ∙ ap (λ n. reduced_at t (n + i)) s.cols
-
-  direction_length : (j : ℕ) (up : Bool) → length (direction t j up) ≡ n
-  direction_length j up = length-made t.cols (moves_by t j up) ∙ s.cols
-
-  direction_at : (j : ℕ) (up : Bool) (k : ℕ) → k < n → part (direction t j up) k ≡ moves_below t j up k m
-  direction_at j up k l = get_or-made t.cols (moves_by t j up) 0ℚ k (omega (arith, l, s.cols)) ∙ ap (moves_below t j up k) s.rows
 
 module _ (limit : Option ℕ) (m : Model) (ls : List (Option ℚ × Option ℚ)) (h : Limited m ls) where
   abbrev f : Form
@@ -178,26 +149,7 @@ module _ (limit : Option ℕ) (m : Model) (ls : List (Option ℚ × Option ℚ))
       second_fixed i l = two.zero (w + r + i) (omega arith) (omega (arith, l))
 
       end_shows : (e : Ended) (used : ℕ) → IsEnd limit r w F (cost_at f.cost) (bounds_of u) u used e → Shows m (certificate_at e.tableau e.end)
-      end_shows e used d = by e.end d.end
-        where
-          v : Tableau
-          v = e.tableau
-
-          by : (end : PrimalEnd) → IsMeant r w F (cost_at f.cost) (bounds_of u) limit e.tableau (End end) → Shows m (certificate_at e.tableau end)
-          by Optimal none = record {
-            for = (point_length r w F (cost_at f.cost) (bounds_of u) e.tableau d.after, multipliers_length r w F (cost_at f.cost) (bounds_of u) e.tableau d.after);
-            checks =
-                optimal_checks m ls h s.starts (bounds_of u) second_bounds second_fixed (table_of e.tableau) d.after.tableau d.after.within (point e.tableau)
-                (point_length r w F (cost_at f.cost) (bounds_of u) e.tableau d.after) (point_at r w F (cost_at f.cost) (bounds_of u) e.tableau d.after)
-                (multipliers e.tableau) (multiplier_at r w F (cost_at f.cost) (bounds_of u) e.tableau d.after) none;
-          }
-          by (Unbounded j up) g = record {
-            for = (point_length r w F (cost_at f.cost) (bounds_of u) e.tableau d.after, direction_length r w F (cost_at f.cost) (bounds_of u) e.tableau d.after j up);
-            checks =
-                unbounded_checks m ls h s.starts (bounds_of u) second_bounds second_fixed (table_of e.tableau) d.after.tableau d.after.within (way up) j g (point e.tableau) (direction e.tableau j up)
-                (point_length r w F (cost_at f.cost) (bounds_of u) e.tableau d.after) (point_at r w F (cost_at f.cost) (bounds_of u) e.tableau d.after)
-                (λ k l. direction_at r w F (cost_at f.cost) (bounds_of u) e.tableau d.after j up k l ∙ moves_are r (w + r + r) F (cost_at f.cost) (bounds_of u) e.tableau j up d.after.tableau g.enters k);
-          }
+      end_shows e used d = primal_shows m ls h s.starts (bounds_of u) second_bounds second_fixed limit e d.after d.end
 
   -- ---- both phases
   pub phases_show : (budget : ℕ) (end : PhasesEnd) → phases_run limit budget f ≡ Ok end → Shows m (certificate_of end)
@@ -218,6 +170,39 @@ module _ (limit : Option ℕ) (m : Model) (ls : List (Option ℚ × Option ℚ))
           let z : Finished c.0 ≡ end = cc in
           let d = run_ends limit r w (F t s) (cost_at f.cost) (bounds_of a.0) some_label (budget - one.used) one.used a.0 c.0 (two t s one o e a.0 p).tableau c.1 in
           subst (λ end. Shows m (certificate_of end)) z (end_shows t s one o e a.0 p c.0 one.used d)
+
+  -- the tableau that phase two ends with
+  pub record FinishedOn (e : Ended) : Type 0 where
+    pub starts : List (RowStart ℚ)
+    pub bounds : Bounds
+    pub bounded : HasBounds (formed m ls) bounds
+    pub after : IsTableauOf (height m) (width m) (form_rows (formed m ls) starts) (cost_at (formed m ls).cost) bounds e.tableau
+
+  abbrev pub EndsOn : PhasesEnd → Type 0
+  EndsOn (Infeasible t used) = Unit {0}
+  EndsOn (Finished e) = FinishedOn e
+
+  finish_on : (t : Tableau) (s : Started f t) (one : Ended) → IsFirst t s one → is_stuck one.tableau ≡ false → (budget : ℕ) (end : PhasesEnd) → phase_two limit budget f one ≡ Ok end → EndsOn end
+  finish_on t s one o p budget end ok =
+      let a = then_ok (refused_as stop.Past (phase_two_run limit f one.tableau)) _ end ok in
+      let q = refused_ok stop.Past (phase_two_run limit f one.tableau) a.0 a.1 in
+      let c = then_ok (run_from limit (budget - one.used) one.used a.0) _ end a.2 in
+      let z : Finished c.0 ≡ end = cc in
+      let d = run_ends limit r w (F t s) (cost_at f.cost) (bounds_of a.0) some_label (budget - one.used) one.used a.0 c.0 (two t s one o p a.0 q).tableau c.1 in
+      subst EndsOn z (record { starts = s.starts; bounds = bounds_of a.0; bounded = second_bounds t s one o p a.0 q; after = d.after })
+
+  pub phases_finish : (budget : ℕ) (end : PhasesEnd) → phases_run limit budget f ≡ Ok end → EndsOn end
+  unfolding phases_run
+  phases_finish budget end ok =
+      let a = then_ok (refused_as stop.Past (start_of limit f)) _ end ok in
+      let s : Started f a.0 = start_is_tableau limit f a.0 (formed_proper m ls h) (refused_ok stop.Past (start_of limit f) a.0 a.1) in
+      let c = then_ok (phase_one limit budget a.0) _ end a.2 in
+      let one : IsFirst a.0 s c.0 = first_ends a.0 s budget c.0 c.1 in
+      by a.0 s c.0 one (is_stuck c.0.tableau) refl c.2
+    where
+      by : (t : Tableau) (s : Started f t) (one : Ended) → IsFirst t s one → (c : Bool) → is_stuck one.tableau ≡ c → cond c (Ok (Infeasible one.tableau one.used)) (phase_two limit budget f one) ≡ Ok end → EndsOn end
+      by t s one o true p ok = let z : Infeasible one.tableau one.used ≡ end = cc in subst EndsOn z tt
+      by t s one o false p ok = finish_on t s one o p budget end ok
 
   -- ---- a budget that is enough
   enough_first : (t : Tableau) (s : Started f t) (budget : ℕ) → 3 ^ (w + r + r) ≤ budget → phase_one limit budget t ≢ Err stop.Spent

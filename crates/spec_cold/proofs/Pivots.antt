@@ -8,9 +8,9 @@ use Rattle.spec_pivot.specs.declared.status.Status.{Status}
 use Rattle.spec_pivot.specs.declared.status.Status.TheVariants.{Basic}
 use Rattle.spec_pivot.specs.declared.status.Way.{Way}
 use Rattle.spec_pivot.specs.Tableau.{Matrix, pivot_row}
-use Rattle.spec_pivot.specs.Simplex.{Bounds, Table, IsTableau, sign, moved, status_set, after_pivot, Pivots}
+use Rattle.spec_pivot.specs.Simplex.{Bounds, Table, IsTableau, sign, moved, status_set, after_pivot, Exchanges}
 use Rattle.spec_pivot.proofs.Pivot.{by_eq, pivot_row_zero}
-use Rattle.spec_pivot.proofs.Kept.{j_outside}
+use Rattle.spec_pivot.proofs.Kept.{outside}
 use Rattle.spec_pivot.proofs.Ray.{ray_at}
 use Rattle.spec_simplex.specs.Run.{sum_run, less_product}
 use Rattle.spec_simplex.specs.Tableau.{Tableau, form_columns, all_columns, is_artificial, at_place, basic_at, entry_at, value_at, reduced_at, status_at, lower_at, upper_at, stand}
@@ -45,21 +45,24 @@ unfolding repriced_run
 repriced_is limit n reduced rows p j out h = list_ok n (λ k. less_product limit (get_or reduced j 0ℚ) (at_place rows p k) (get_or reduced k 0ℚ)) 0ℚ out h
 
 module _ (limit : Option ℕ) (t : Tableau) (w : IsWhole t) (f : Matrix) (cost : ℕ → ℚ) (b : Bounds) (g : IsTableau t.rows (all_columns t) f cost b (table_of t)) (keeps : KeepsBounds b t)
-    (way : Way) (j p : ℕ) (ratio : ℚ) (to : Status) (v : Pivots t.rows (all_columns t) b (table_of t) way j p ratio to) where
+    (way : Way) (j p : ℕ) (ratio : ℚ) (to : Status) (v : Exchanges t.rows (all_columns t) b (table_of t) way j p ratio to) (open_ : b.barred j ≡ false) where
   abbrev q : ℕ
   q = basic_at t p
 
   j_in : j < all_columns t
-  j_in = v.enters.in_range
+  j_in = v.in_range
 
   j_before : j < form_columns t
-  j_before = enters_before b t j keeps v.enters.eligible.may_enter.0
+  j_before = enters_before b t j keeps open_
 
   q_in : q < all_columns t
   q_in = g.in_range p v.position
 
+  j_off : (r : ℕ) → r < t.rows → ¬ (basic_at t r ≡ j)
+  j_off = outside t.rows (all_columns t) f cost b (table_of t) g j v.nonbasic
+
   q_other : q ≢ j
-  q_other = j_outside t.rows (all_columns t) f cost b (table_of t) g way j v.enters p v.position
+  q_other = j_off p v.position
 
   q_basic : status_at t q ≡ Basic
   q_basic = g.marked p v.position
@@ -118,11 +121,11 @@ module _ (limit : Option ℕ) (t : Tableau) (w : IsWhole t) (f : Matrix) (cost :
         ∙ by_eq k j
         (λ e. subst (λ k. get_or (set values j x) k 0ℚ ≡ moved t.rows (table_of t) way j ratio k) (sym e)
         (get_or-set_same values j x 0ℚ (omega (arith, values_length, j_in)) ∙ sum_ok limit (get_or values j 0ℚ) (sign way *ℚ ratio) x x_ok
-        ∙ ap (λ a. a +ℚ sign way *ℚ ratio) (moved_own limit t w f cost b g j (sign way *ℚ ratio) (Some p) values values_ok way v.enters ratio refl)
+        ∙ ap (λ a. a +ℚ sign way *ℚ ratio) (moved_own limit t w f cost b g j (sign way *ℚ ratio) (Some p) values values_ok way j_off ratio refl)
         ∙ turn (value_at t j) (sign way) ratio
-        ∙ sym (ap (λ a. value_at t j +ℚ ratio *ℚ a) (ray_at t.rows (table_of t) g.units way j (j_outside t.rows (all_columns t) f cost b (table_of t) g way j v.enters)))))
+        ∙ sym (ap (λ a. value_at t j +ℚ ratio *ℚ a) (ray_at t.rows (table_of t) g.units way j j_off))))
         (λ o. get_or-set_other values j k x 0ℚ o
-        ∙ moved_ray limit t w f cost b g j (sign way *ℚ ratio) (Some p) values values_ok way v.enters ratio refl k o (λ r l s e. d (sym e ∙ ap (basic_at t) (eqb-true r p s)))))
+        ∙ moved_ray limit t w f cost b g j (sign way *ℚ ratio) (Some p) values values_ok way j_off ratio refl k o (λ r l s e. d (sym e ∙ ap (basic_at t) (eqb-true r p s)))))
       where
         turn : (v s r : ℚ) → v +ℚ s *ℚ r ≡ v +ℚ r *ℚ s
         turn v s r = simp ring

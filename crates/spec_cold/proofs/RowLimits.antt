@@ -11,7 +11,7 @@ use Rattle.spec_simplex.specs.Run.{Run, sum_run, difference_run}
 use Rattle.spec_simplex.specs.Form.{equation_limits, limits_run}
 use Rattle.spec_simplex.specs.Form as form
 use Rattle.spec_cold.proofs.Runs.{then_ok, sum_ok, difference_ok}
-use Rattle.spec_cold.proofs.Tests.{abs_above, abs_below}
+use Rattle.spec_exact.proofs.Sizes.{abs_above, abs_below}
 
 -- a pair that has these limits
 pub record AreLimits (l : Limits) (p : Option ℚ × Option ℚ) : Type 0 where

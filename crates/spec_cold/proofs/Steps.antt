@@ -9,6 +9,7 @@ use Rattle.spec_pivot.specs.Simplex as kind
 use Rattle.spec_pivot.specs.Ratio.{best_of, bound_ahead}
 use Rattle.spec_pivot.proofs.Best.{best_has_room, none_goes_on}
 use Rattle.spec_pivot.proofs.Cycle.{step_kept}
+use Rattle.spec_pivot.proofs.Kept.{flip_crosses, pivot_exchanges}
 use Rattle.spec_pivot.proofs.Stays.{stays_within}
 use Rattle.spec_pivot.proofs.Steps.{best_pivots, best_flips}
 use Rattle.spec_simplex.specs.declared.ends.Entering.{Entering}
@@ -25,7 +26,7 @@ use Rattle.spec_cold.proofs.Pivots.{Leaves, pivot_leaves}
 use Rattle.spec_cold.proofs.Flips.{directed_is, flip_leaves}
 use Rattle.spec_cold.proofs.Tests.{plain, IsRange, no_best, a_best, best_range, best_ahead}
 
-ahead_is : (up : Bool) → bound_ahead (way up) ≡ other_bound up
+pub ahead_is : (up : Bool) → bound_ahead (way up) ≡ other_bound up
 ahead_is true = refl
 ahead_is false = refl
 
@@ -64,7 +65,8 @@ module _ (limit : Option ℕ) (t : Tableau) (w : IsWhole t) (f : Matrix) (cost :
         (best_pivots t.rows (all_columns t) f cost b (table_of t) (way e.up) e.col g within enters (plain x) best p at) in
         steps_to u (after_pivot t.rows (table_of t) (way e.up) e.col p x.ratio x.to)
         (record { kind = kind.Pivot; way = way e.up; column = e.col; position = p; theta = x.ratio; to = x.to })
-        (pivot_leaves limit t w f cost b g keeps (way e.up) e.col p x.ratio x.to v u (subst (λ theta. pivot_run limit t p e.col theta x.to ≡ Ok u) (directed_is e.up x.ratio) h))
+        (pivot_leaves limit t w f cost b g keeps (way e.up) e.col p x.ratio x.to
+        (pivot_exchanges t.rows (all_columns t) f cost b (table_of t) g (way e.up) e.col p x.ratio x.to v) enters.eligible.may_enter.0 u (subst (λ theta. pivot_run limit t p e.col theta x.to ≡ Ok u) (directed_is e.up x.ratio) h))
         (v, refl)
         (stays_within t.rows (all_columns t) f cost b (table_of t) (way e.up) e.col x.ratio g within enters
         (best_has_room t.rows (all_columns t) f cost b (table_of t) (way e.up) e.col g within enters (plain x) best))
@@ -78,7 +80,8 @@ module _ (limit : Option ℕ) (t : Tableau) (w : IsWhole t) (f : Matrix) (cost :
         (best_flips t.rows (all_columns t) f cost b (table_of t) (way e.up) e.col g within enters (plain x) best at) in
         steps_to u (after_flip t.rows (table_of t) (way e.up) e.col x.ratio (other_bound e.up))
         (record { kind = kind.Flip; way = way e.up; column = e.col; position = 0; theta = x.ratio; to = other_bound e.up })
-        (flip_leaves limit t w f cost b g keeps e.up e.col x.ratio v u
+        (flip_leaves limit t w f cost b g keeps e.up e.col x.ratio
+        (flip_crosses t.rows (all_columns t) f cost b (table_of t) g (way e.up) e.col enters x.ratio (other_bound e.up) v) enters.eligible.may_enter.0 u
         (way_is (status_at t e.col) e.up (b.lower e.col) (b.upper e.col) _ own.bottom.0 (sym (keeps.lower e.col enters.in_range) ∙ own.bottom.1) enters.eligible.status (g.stands e.col enters.in_range))
         own.ratio h)
         (v, refl)

@@ -1,15 +1,13 @@
 -- The ratio test of the run is that of the table.
-use Rattle.std.proofs.Common.{◌≡◌, ℕ, suc, ◌<◌, ℤ, pos, ◌*ℤ◌, ◌<ℤ◌, ◌≤ℤ◌, int_lt, Option, Some, None, Ok, Bool, true, false, cond, nat_lt, option_map, refl, sym, ap, ap₂, ◌∙◌, subst, arith}
-use Rattle.std.proofs.lemmas.Int.{ints}
+use Rattle.std.proofs.Common.{◌≡◌, ℕ, suc, ◌<◌, Option, Some, None, Ok, Bool, true, false, cond, nat_lt, option_map, refl, sym, ap, ap₂, ◌∙◌, subst}
 use Rattle.std.specs.declared.cmp.Ordering.{Ordering}
 use Rattle.std.specs.declared.cmp.Ordering.TheVariants.{Less, Equal, Greater}
-use borrow.Author.Differences.{at_most_in, below_in, lt-true, lt-false}
-use Rattle.spec_exact.specs.Fraction.{ℚ, 0ℚ, ◌-ℚ◌, ◌*ℚ◌, neg_ℚ, abs_ℚ, inverse, whole, lt_ℚ, ◌<ℚ◌, ◌≤ℚ◌}
+use Rattle.spec_exact.specs.Fraction.{ℚ, 0ℚ, ◌-ℚ◌, ◌*ℚ◌, neg_ℚ, abs_ℚ, inverse, lt_ℚ, ◌<ℚ◌, ◌≤ℚ◌}
 use Rattle.spec_exact.specs.Limit.{order}
 use Rattle.spec_exact.proofs.Compare.{order_less, order_equal, order_greater}
-use Rattle.spec_exact.proofs.Order.{from_num, ≤ℚ_antisym, ≤ℚ_refl, <ℚ-le, clash_ℚ, lt_if, le_if_not, lt_test, not_lt_test}
+use Rattle.spec_exact.proofs.Order.{≤ℚ_antisym, ≤ℚ_refl, <ℚ-le, lt_if, le_if_not, lt_test, not_lt_test}
 use Rattle.spec_exact.proofs.Ruleset.{neg-neg, neg-zero}
-use Rattle.spec_exact.proofs.Strict.{neg_strict}
+use Rattle.spec_exact.proofs.Sizes.{abs_above, abs_below, below_turned, above_turned, turned_back, turned_down}
 use Rattle.spec_pivot.specs.declared.status.Status.{Status}
 use Rattle.spec_pivot.specs.declared.status.Status.TheVariants.{AtLower, AtUpper}
 use Rattle.spec_pivot.specs.Tableau.{Matrix}
@@ -29,42 +27,6 @@ use Rattle.spec_cold.proofs.Pivots.{enters_before}
 use Rattle.spec_cold.proofs.Flips.{directed_is}
 
 -- ---- magnitudes
-num_positive : (x : ℚ) → int_lt x.num (pos 0) ≡ false → 0ℚ ≤ℚ x
-num_positive x e = from_num x (at_most_in _ _ (lt-false x.num (pos 0) e))
-
-num_negative : (x : ℚ) → int_lt x.num (pos 0) ≡ true → x ≤ℚ 0ℚ
-unfolding whole
-num_negative x e = record { at_most = by x.num x.den (below_in _ _ (lt-true x.num (pos 0) e)) }
-  where
-    by : (n : ℤ) (d : ℕ) → n <ℤ pos 0 → (n *ℤ pos 1) ≤ℤ (pos 0 *ℤ pos d)
-    by n d h = omega (arith, ints)
-
-pub abs_above : (x : ℚ) → 0ℚ ≤ℚ x → abs_ℚ x ≡ x
-abs_above x h = by (int_lt x.num (pos 0)) refl
-  where
-    by : (t : Bool) → int_lt x.num (pos 0) ≡ t → cond t (neg_ℚ x) x ≡ x
-    by true e = let z : x ≡ 0ℚ = ≤ℚ_antisym x 0ℚ (num_negative x e) h in ap neg_ℚ z ∙ neg-zero ∙ sym z
-    by false e = refl
-
-pub abs_below : (x : ℚ) → x <ℚ 0ℚ → abs_ℚ x ≡ neg_ℚ x
-abs_below x h = by (int_lt x.num (pos 0)) refl
-  where
-    by : (t : Bool) → int_lt x.num (pos 0) ≡ t → cond t (neg_ℚ x) x ≡ neg_ℚ x
-    by true e = refl
-    by false e = clash_ℚ x 0ℚ h (num_positive x e)
-
-below_turned : (x : ℚ) → x <ℚ 0ℚ → 0ℚ <ℚ neg_ℚ x
-below_turned x h = subst (λ a. a <ℚ neg_ℚ x) neg-zero (neg_strict x 0ℚ h)
-
-above_turned : (x : ℚ) → 0ℚ <ℚ x → neg_ℚ x <ℚ 0ℚ
-above_turned x h = subst (λ a. neg_ℚ x <ℚ a) neg-zero (neg_strict 0ℚ x h)
-
-turned_back : (x : ℚ) → neg_ℚ x <ℚ 0ℚ → 0ℚ <ℚ x
-turned_back x h = subst (λ a. 0ℚ <ℚ a) (neg-neg x) (below_turned (neg_ℚ x) h)
-
-turned_down : (x : ℚ) → 0ℚ <ℚ neg_ℚ x → x <ℚ 0ℚ
-turned_down x h = subst (λ a. a <ℚ 0ℚ) (neg-neg x) (above_turned (neg_ℚ x) h)
-
 -- the magnitude of an entry, by the way of the column
 abs_falling : (up : Bool) (a : ℚ) → directed up a <ℚ 0ℚ → abs_ℚ a ≡ neg_ℚ (directed up a)
 abs_falling true a h = abs_below a h

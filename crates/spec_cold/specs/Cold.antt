@@ -9,7 +9,7 @@ use Rattle.spec_check.specs.declared.certificate.Stop.{Stop}
 use Rattle.spec_check.specs.declared.certificate.Stop.TheVariants as check
 use Rattle.spec_check.specs.Run.{check_run}
 use Rattle.spec_pivot.specs.declared.status.Status.{Status}
-use Rattle.spec_pivot.specs.declared.status.Status.TheVariants.{Basic, AtLower, AtUpper, AtZero}
+use Rattle.spec_pivot.specs.declared.status.Status.TheVariants.{Basic}
 use Rattle.spec_simplex.specs.declared.ends.FormFault.{FormFault}
 use Rattle.spec_simplex.specs.declared.ends.FormFault.TheVariants as fault
 use Rattle.spec_simplex.specs.declared.ends.PrimalEnd.{PrimalEnd}
@@ -18,7 +18,7 @@ use Rattle.spec_simplex.specs.declared.ends.Stop.{Stop as Spending}
 use Rattle.spec_simplex.specs.declared.ends.Stop.TheVariants as stop
 use Rattle.spec_simplex.specs.Run.{made}
 use Rattle.spec_simplex.specs.Form.{Form, form_of}
-use Rattle.spec_simplex.specs.Tableau.{Tableau, form_columns, basic_at, entry_at, value_at, reduced_at, status_at}
+use Rattle.spec_simplex.specs.Tableau.{Tableau, form_columns, basic_at, entry_at, value_at, reduced_at, status_at, is_basic}
 use Rattle.spec_simplex.specs.Step.{directed}
 use Rattle.spec_simplex.specs.Phases.{PhasesEnd, Infeasible, Finished, phases_run}
 use Rattle.spec_cold.specs.declared.outcome.Cold.{Cold}
@@ -57,12 +57,6 @@ certificate_of (Infeasible t used) = certificate.Infeasible (multipliers t)
 certificate_of (Finished e) = certificate_at e.tableau e.end
 
 -- ---- the basis of an optimal end
-abbrev pub is_basic : Status → Bool
-is_basic Basic = true
-is_basic AtLower = false
-is_basic AtUpper = false
-is_basic AtZero = false
-
 -- a logical whose row's artificial is basic counts as basic in its place
 abbrev pub basis_status : Tableau → ℕ → Status
 basis_status t k = if nat_le t.cols k && is_basic (status_at t (k + t.rows)) then Basic else status_at t k

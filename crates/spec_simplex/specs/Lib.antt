@@ -4,3 +4,6 @@ pub mod Run
 pub mod Start
 pub mod Step
 pub mod Tableau
+pub mod Eliminate
+pub mod Fit
+pub mod Dual

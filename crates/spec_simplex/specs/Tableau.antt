@@ -3,7 +3,7 @@
 --
 -- The columns are those of the form and then an artificial for each row. A row t of the tableau says that the sum of
 -- t_k x_k over all columns is 0; it has 1 at its own basic column and 0 at those of the other positions.
-use Rattle.std.specs.Prelude.{◌≡◌, ℕ, ◌+◌, ◌<◌, ◌≤◌, List, [], length, get_or, Option, Some, None, Bool, false, nat_le, All}
+use Rattle.std.specs.Prelude.{◌≡◌, ℕ, ◌+◌, ◌<◌, ◌≤◌, List, [], length, get_or, Option, Some, None, Bool, true, false, nat_le, All}
 use Rattle.spec_exact.specs.Fraction.{ℚ, 0ℚ, eq_ℚ}
 use Rattle.spec_model.specs.Kept.{row_limit, column_limit}
 use Rattle.spec_pivot.specs.declared.status.Status.{Status}
@@ -55,6 +55,12 @@ lower_at t k = get_or t.lower k None
 
 abbrev pub upper_at : Tableau → ℕ → Option ℚ
 upper_at t k = get_or t.upper k None
+
+abbrev pub is_basic : Status → Bool
+is_basic Basic = true
+is_basic AtLower = false
+is_basic AtUpper = false
+is_basic AtZero = false
 
 -- both bounds are there, and equal
 abbrev pub is_fixed : Option ℚ → Option ℚ → Bool

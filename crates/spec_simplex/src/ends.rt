@@ -86,3 +86,66 @@ impl<F: Debug> From<Past<F>> for Stop<F> {
         Stop::Past(p)
     }
 }
+
+/// Why a basis has no tableau.
+#[derive(Clone, Copy, Debug, PartialEq, Eq)]
+pub enum StartStop<F: Debug> {
+    /// A basic column depends on those before it.
+    Singular,
+    /// The operation that is past the limit.
+    Past(Past<F>),
+}
+
+/// The method that a tableau is fit for.
+#[derive(Clone, Copy, Debug, PartialEq, Eq)]
+pub enum Fit {
+    /// Each value is within its bounds.
+    Primal,
+    /// Each reduced cost has the sign that it needs, or gets it when the column goes to its other bound.
+    Dual,
+    Unfit,
+}
+
+/// A basic column that is outside its bounds, below the lower one or above the upper one.
+#[derive(Clone, Copy, Debug, PartialEq, Eq)]
+pub struct Leaving {
+    pub col: u32,
+    pub below: bool,
+}
+
+/// The least ratio so far, and its column.
+#[derive(Clone, Copy, Debug, PartialEq, Eq)]
+pub struct Cheapest<F> {
+    pub ratio: F,
+    pub col: u32,
+}
+
+/// How a run of the dual method ends.
+#[derive(Clone, Copy, Debug, PartialEq, Eq)]
+pub enum DualEnd {
+    /// Each value is within its bounds.
+    Optimal,
+    /// The column at this position is outside its bounds, and no column can bring it back.
+    Infeasible { place: u32, below: bool },
+}
+
+/// What a dual step does.
+#[derive(Clone, Copy, Debug, PartialEq, Eq)]
+pub enum DualChoice {
+    End(DualEnd),
+    /// The column takes the position, whose column leaves to the bound `to`.
+    Pivot { place: u32, col: u32, to: Status },
+}
+
+/// Why a warm start does not end with an answer.
+#[derive(Clone, Copy, Debug, PartialEq, Eq)]
+pub enum WarmStop<F: Debug> {
+    /// The basis has no tableau.
+    Singular,
+    /// Its tableau is fit for neither method.
+    Unfit,
+    /// The operation that is past the limit.
+    Past(Past<F>),
+    /// As many pivots and flips were made as the budget has.
+    Spent,
+}

@@ -1,0 +1,92 @@
+-- Which method the tableau of a basis is fit for, at a limit.
+use Rattle.std.specs.Prelude.{ℕ, zero, suc, Option, Some, None, Ok, Bool, true, false, not, ◌&&◌, ◌||◌, option_map, if◌then◌else◌}
+use Rattle.std.specs.declared.cmp.Ordering.{Ordering}
+use Rattle.std.specs.declared.cmp.Ordering.TheVariants.{Less, Equal, Greater}
+use Rattle.spec_exact.specs.Fraction.{ℚ, 0ℚ, eq_ℚ, lt_ℚ}
+use Rattle.spec_pivot.specs.declared.status.Status.{Status}
+use Rattle.spec_pivot.specs.declared.status.Status.TheVariants.{Basic, AtLower, AtUpper, AtZero}
+use Rattle.spec_simplex.specs.Run.{Run, ◌>>=◌, order_run, steps}
+use Rattle.spec_simplex.specs.Tableau.{Tableau, all_columns, value_at, reduced_at, status_at, lower_at, upper_at, is_fixed}
+use Rattle.spec_simplex.specs.Tableau.{is_basic}
+use Rattle.spec_simplex.specs.declared.ends.Fit.{Fit}
+use Rattle.spec_simplex.specs.declared.ends.Fit.TheVariants.{Primal, Dual, Unfit}
+use Rattle.spec_simplex.specs.declared.ends.Leaving.{Leaving}
+
+-- ---- the first basic column that is outside its bounds
+abbrev pub is_less : Ordering → Bool
+is_less Less = true
+is_less Equal = false
+is_less Greater = false
+
+abbrev pub is_greater : Ordering → Bool
+is_greater Less = false
+is_greater Equal = false
+is_greater Greater = true
+
+abbrev pub below_lower : Option ℕ → Option ℚ → ℚ → Run Bool
+below_lower limit None v = Ok false
+below_lower limit (Some l) v = order_run limit v l >>= λ o. Ok (is_less o)
+
+abbrev pub above_upper : Option ℕ → Option ℚ → ℚ → Run Bool
+above_upper limit None v = Ok false
+above_upper limit (Some u) v = order_run limit v u >>= λ o. Ok (is_greater o)
+
+-- a value that is below the lower bound is not compared with the upper one
+abbrev pub outside_by : Option ℕ → Option ℚ → ℚ → Bool → Run (Option Bool)
+outside_by limit upper v true = Ok (Some true)
+outside_by limit upper v false = above_upper limit upper v >>= λ above. Ok (if above then Some false else None)
+
+-- whether v is below the lower bound or above the upper one, if it is either
+abbrev pub outside_run : Option ℕ → Option ℚ → Option ℚ → ℚ → Run (Option Bool)
+outside_run limit lower upper v = below_lower limit lower v >>= outside_by limit upper v
+
+abbrev pub leaving_at : Option ℕ → Tableau → ℕ → Run (Option Leaving)
+leaving_at limit t k =
+    outside_run limit (lower_at t k) (upper_at t k) (value_at t k) >>= λ side. Ok (option_map (λ below. record { col = k; below = below }) side)
+
+-- nothing is compared after the first that is outside
+abbrev pub leaving_with : Option ℕ → Tableau → ℕ → Option Leaving → Run (Option Leaving)
+leaving_with limit t k (Some x) = Ok (Some x)
+leaving_with limit t k None = if is_basic (status_at t k) then leaving_at limit t k else Ok None
+
+abbrev pub leaving_run : Option ℕ → Tableau → Run (Option Leaving)
+leaving_run limit t = steps (all_columns t) (leaving_with limit t) None
+
+-- ---- reduced costs
+-- a column of this status and reduced cost needs its other bound
+abbrev pub needs_flip : Status → ℚ → Bool
+needs_flip Basic d = false
+needs_flip AtLower d = lt_ℚ d 0ℚ
+needs_flip AtUpper d = lt_ℚ 0ℚ d
+needs_flip AtZero d = false
+
+abbrev pub is_there : Option ℚ → Bool
+is_there None = false
+is_there (Some v) = true
+
+-- it has that bound; a column without bounds needs the reduced cost 0
+abbrev pub meets_need : Status → ℚ → Option ℚ → Option ℚ → Bool
+meets_need Basic d lower upper = true
+meets_need AtLower d lower upper = not (lt_ℚ d 0ℚ) || is_there upper
+meets_need AtUpper d lower upper = not (lt_ℚ 0ℚ d) || is_there lower
+meets_need AtZero d lower upper = eq_ℚ d 0ℚ
+
+-- a fixed column needs nothing
+abbrev pub needs_flip_at : Tableau → ℕ → Bool
+needs_flip_at t k = not (is_fixed (lower_at t k) (upper_at t k)) && needs_flip (status_at t k) (reduced_at t k)
+
+abbrev pub meets_need_at : Tableau → ℕ → Bool
+meets_need_at t k = is_fixed (lower_at t k) (upper_at t k) || meets_need (status_at t k) (reduced_at t k) (lower_at t k) (upper_at t k)
+
+-- each of the first n columns meets its need
+abbrev pub all_meet : Tableau → ℕ → Bool
+all_meet t zero = true
+all_meet t (suc n) = all_meet t n && meets_need_at t n
+
+-- ---- the fit
+abbrev pub fit_by : Tableau → Option Leaving → Fit
+fit_by t None = Primal
+fit_by t (Some x) = if all_meet t (all_columns t) then Dual else Unfit
+
+unfoldable pub fit_run : Option ℕ → Tableau → Run Fit
+fit_run limit t = leaving_run limit t >>= λ x. Ok (fit_by t x)
