@@ -1,0 +1,70 @@
+-- What holds of the tableau of a basis and of those that the dual method makes of it, and what a choice of that method means.
+use Rattle.std.specs.Prelude.{◌≡◌, ◌≢◌, ℕ, List, ◌+◌, ◌<◌, ◌≤◌, [], Some, Bool}
+use Rattle.spec_exact.specs.Fraction.{ℚ, 0ℚ, 1ℚ, ◌*ℚ◌}
+use Rattle.spec_exact.specs.Sums.{sum_below}
+use Rattle.spec_pivot.specs.declared.status.Status.{Status}
+use Rattle.spec_pivot.specs.declared.status.Status.TheVariants.{Basic}
+use Rattle.spec_pivot.specs.Tableau.{Matrix}
+use Rattle.spec_pivot.specs.Simplex.{Bounds, IsInside, IsTableau}
+use Rattle.spec_simplex.specs.Form.{Form, form_lower, form_upper}
+use Rattle.spec_simplex.specs.Start.{cost_at}
+use Rattle.spec_simplex.specs.Tableau.{Tableau, value_at, status_at, lower_at, upper_at}
+use Rattle.spec_cold.specs.Tables.{way, table_of, bounds_of, IsWhole, KeepsBounds}
+use Rattle.spec_cold.specs.Begins.{form_rows}
+use Rattle.spec_dual.specs.Dual.{IsDualFeasible, Leaves, IsCandidate, IsCheapest}
+use Rattle.spec_simplex.specs.declared.ends.DualEnd.TheVariants.{Optimal, Infeasible}
+use Rattle.spec_simplex.specs.declared.ends.DualChoice.{DualChoice}
+use Rattle.spec_simplex.specs.declared.ends.DualChoice.TheVariants.{End, Pivot}
+use Rattle.spec_simplex.specs.Dual.{passed_bound}
+use Rattle.spec_simplex.specs.Eliminate.{basis_at}
+
+-- a tableau of m positions, n columns of the model and these rows, costs and bounds, in which artificials are fixed at 0; its
+-- basic values may be outside their bounds
+pub record IsBased (m n : ℕ) (f : Matrix) (cost : ℕ → ℚ) (b : Bounds) (t : Tableau) : Type 0 where
+  pub rows : t.rows ≡ m
+  pub cols : t.cols ≡ n
+  pub whole : IsWhole t
+  pub tableau : IsTableau m (n + m + m) f cost b (table_of t)
+  pub bounds : KeepsBounds b t
+  pub top : (k : ℕ) → n + m ≤ k → k < n + m + m → b.upper k ≡ Some 0ℚ
+
+-- and each reduced cost has the sign that its status wants
+pub record IsReady (m n : ℕ) (f : Matrix) (cost : ℕ → ℚ) (b : Bounds) (t : Tableau) : Type 0 where
+  pub based : IsBased m n f cost b t
+  pub feasible : IsDualFeasible (n + m + m) b (table_of t)
+
+-- the equations of a form, in which each artificial has the sign of its logical
+abbrev pub equations : Form → Matrix
+equations f = form_rows f []
+
+-- a tableau of the form's equations, costs and bounds
+pub record BeginsFrom (f : Form) (t : Tableau) : Type 0 where
+  pub based : IsBased f.rows f.cols (equations f) (cost_at f.cost) (bounds_of t) t
+  pub lower : (k : ℕ) → k < f.cols + f.rows → lower_at t k ≡ form_lower f k
+  pub upper : (k : ℕ) → k < f.cols + f.rows → upper_at t k ≡ form_upper f k
+
+-- numbers that solve the equations: 1 in the basic column j, and 0 but there and in the basic columns before it
+pub record IsDependent (f : Form) (basis : List Status) (j : ℕ) (x : ℕ → ℚ) : Type 0 where
+  pub inside : j < f.cols + f.rows
+  pub basic : basis_at basis j ≡ Basic
+  pub own : x j ≡ 1ℚ
+  pub others : (k : ℕ) → k ≢ j → ¬ ((k < j) × (basis_at basis k ≡ Basic)) → x k ≡ 0ℚ
+  pub solves : (i : ℕ) → i < f.rows → sum_below (f.cols + f.rows + f.rows) (λ k. equations f i k *ℚ x k) ≡ 0ℚ
+
+-- the column at position p is past its bound, and no column can bring it back
+pub record IsStuck (m n : ℕ) (b : Bounds) (t : Tableau) (p : ℕ) (below : Bool) : Type 0 where
+  pub bound : ℚ
+  pub leaves : Leaves m b (table_of t) (way below) p bound
+  pub none : (k : ℕ) → k < n + m + m → ¬ (IsCandidate b (table_of t) (way below) p k)
+
+-- the column at position p is past its bound, and of those that can bring it back column j has the least ratio
+pub record IsDualStep (m n : ℕ) (b : Bounds) (t : Tableau) (p j : ℕ) (below : Bool) : Type 0 where
+  pub bound : ℚ
+  pub leaves : Leaves m b (table_of t) (way below) p bound
+  pub cheapest : IsCheapest (n + m + m) b (table_of t) (way below) p j
+
+-- no basic column is outside its bounds; or one is, and stays there, or comes back by a pivot
+abbrev pub IsDualMeant : ℕ → ℕ → Bounds → Tableau → DualChoice → Type 0
+IsDualMeant m n b t (End Optimal) = (k : ℕ) → k < n + m + m → status_at t k ≡ Basic → IsInside (b.lower k) (b.upper k) (value_at t k)
+IsDualMeant m n b t (End (Infeasible p below)) = IsStuck m n b t p below
+IsDualMeant m n b t (Pivot p j to) = (below : Bool) × IsDualStep m n b t p j below × (to ≡ passed_bound below)
