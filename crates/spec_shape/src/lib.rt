@@ -1,0 +1,53 @@
+//! Words in which the shape of a form, and a basis of it, are handed on: their definitions, and laws.
+//!
+//! | Word | What it is | Where |
+//! |---|---|---|
+//! | `shape_of` | 25 words with the numbers of a form's rows and columns, and which bounds each column has | specs/Words |
+//! | `packed` | these, and 24 words with the status of each column | specs/Words |
+//! | `IsWellFormed` | what holds of 49 words that have a basis | specs/Words |
+//! | `unpacked` | the basis in words | specs/Words |
+//!
+//! The functions here have the laws as their contracts.
+#![tactic(auto)]
+
+ghost use Rattle.std.specs.Prelude.{◌≡◌, ◌+◌, ◌<◌, ◌^◌, ℕ, List, length, take, All};
+ghost use Rattle.spec_pivot.specs.declared.status.Status.{Status};
+ghost use Rattle.spec_simplex.specs.Form.{Form, IsForm};
+ghost use Rattle.spec_simplex.specs.Eliminate.{IsBasisOf};
+ghost use Rattle.spec_shape.specs.Words.{shape_of, packed, unpacked, IsWellFormed, SameShape, places, rows_of, cols_of, bounds_at, form_code, basis_code, code_at};
+
+/// The words of a basis give it back.
+pub fn words_give_the_basis()
+    ensures { (f : Form) (basis : List Status) → IsForm f → length basis ≡ f.cols + f.rows → unpacked (packed f basis) ≡ basis }
+{}
+
+/// They begin with the form's shape, and are well formed where the basis is one of the form.
+pub fn packed_words_are_well_formed()
+    ensures front { (f : Form) (basis : List Status) → take 25 (packed f basis) ≡ shape_of f }
+    ensures formed { (f : Form) (basis : List Status) → IsForm f → IsBasisOf f basis → IsWellFormed (packed f basis) }
+{}
+
+/// Well-formed words that begin with a form's shape have one of its bases, whoever packed them.
+pub fn words_of_one_shape_fit()
+    ensures { (f : Form) (words : List ℕ) → IsForm f → IsWellFormed words → take 25 words ≡ shape_of f → IsBasisOf f (unpacked words) }
+{}
+
+/// And they are the words of that basis: so a basis has its words, and no others.
+pub fn bases_have_one_list_of_words()
+    ensures { (f : Form) (words : List ℕ) → IsForm f → IsWellFormed words → take 25 words ≡ shape_of f → All (λ w. w < 2 ^ 64) words →
+        packed f (unpacked words) ≡ words }
+{}
+
+/// Two forms of one shape have the same bases.
+pub fn one_shape_takes_the_same_bases()
+    ensures { (f g : Form) → IsForm f → IsForm g → SameShape f g → (basis : List Status) → IsBasisOf f basis → IsBasisOf g basis }
+{}
+
+/// The numbers of rows and columns, and the bits of each column, stand where they are read.
+pub fn bits_stand_at_their_columns()
+    ensures rows { (f : Form) (basis : List Status) → IsForm f → rows_of (packed f basis) ≡ f.rows }
+    ensures columns { (f : Form) (basis : List Status) → IsForm f → cols_of (packed f basis) ≡ f.cols }
+    ensures sizes { (f : Form) (basis : List Status) → IsForm f → All (λ w. w < 2 ^ 64) (packed f basis) }
+    ensures bounds { (f : Form) (basis : List Status) (c : ℕ) → c < places → bounds_at (packed f basis) c ≡ form_code f c }
+    ensures statuses { (f : Form) (basis : List Status) (c : ℕ) → c < places → code_at 25 (packed f basis) c ≡ basis_code basis c }
+{}
