@@ -42,17 +42,38 @@ fn odd_common(a: u64, b: u64) -> u64
     x
 }
 
-fn short_common(a: u64, b: u64) -> u64
+// The greatest common divisor, where neither number is 0.
+fn twos_common(a: u64, b: u64) -> u64
+    requires a_positive { 0 < a }
+    requires b_positive { 0 < b }
     ensures { result ≡ gcd a b }
 {
-    if a == 0 {
-        return b;
-    }
+    let twos = a.trailing_zeros().min(b.trailing_zeros());
+    odd_common(odd_part(a), b) << twos
+}
+
+// The greatest common divisor, after one remainder by the second number, which is not the larger.
+fn stepped_common(a: u64, b: u64) -> u64
+    ensures { result ≡ gcd a b }
+{
     if b == 0 {
         return a;
     }
-    let twos = a.trailing_zeros().min(b.trailing_zeros());
-    odd_common(odd_part(a), b) << twos
+    let rest = a % b;
+    if rest == 0 {
+        return b;
+    }
+    twos_common(b, rest)
+}
+
+// The greatest common divisor of short numbers.
+fn short_common(a: u64, b: u64) -> u64
+    ensures { result ≡ gcd a b }
+{
+    if a < b {
+        return stepped_common(b, a);
+    }
+    stepped_common(a, b)
 }
 
 // The greatest common divisor, where the second number is short.
@@ -112,7 +133,7 @@ fn long_common(a: u128, b: u128) -> u128
     long_odd_common(long_odd_part(a), b) << twos
 }
 
-fn any_common(a: u128, b: u128) -> u128
+fn any_short_common(a: u64, b: u64) -> u64
     ensures { result ≡ gcd a b }
 {
     if a == 1 {
@@ -121,13 +142,32 @@ fn any_common(a: u128, b: u128) -> u128
     if b == 1 {
         return 1;
     }
+    short_common(a, b)
+}
+
+fn any_common(a: u128, b: u128) -> u128
+    ensures { result ≡ gcd a b }
+{
     if b <= SHORT {
+        if a <= SHORT {
+            return any_short_common(a as u64, b as u64) as u128;
+        }
         return half_common(a, b);
     }
     if a <= SHORT {
         return half_common(b, a);
     }
     long_common(a, b)
+}
+
+// The greatest common divisor of short numbers.
+#[inline(never)]
+pub(crate) fn common_of_short(a: u64, b: u64) -> u64
+    ensures value { result ≡ gcd a b }
+    ensures positive { 0 < b → 0 < result }
+    ensures small { 0 < b → result ≤ b }
+{
+    any_short_common(a, b)
 }
 
 // The greatest common divisor.

@@ -10,6 +10,8 @@
 //! | `Frac`, `Frac::new`, `zero`, `one` | a fraction; one of two whole numbers; 0 and 1 |
 //! | `add` `sub` `mul` `div` `cmp` | the operations that can be refused |
 //! | `neg` `abs` `sign` `num` `den` `is_zero` `are_same` | the ones that never are |
+//! | `less_product` | a product taken off a number, as the product and then the difference |
+//! | `within` `all_within` | that the parts of a fraction, or of all of a list, are within the limit |
 //! | `dot` | a sum of products, place by place |
 //! | `Past`, `Op` | a refusal, and the operation that it names |
 //! | `FracFault` | why two whole numbers make no fraction |
@@ -20,6 +22,7 @@
 
 mod divisors;
 mod frac;
+mod less;
 mod limited;
 mod lists;
 mod operations;
@@ -30,7 +33,8 @@ mod reduced;
 mod tests;
 
 pub use frac::{Frac, FracFault, LARGEST, Op, Past};
+pub use less::less_product;
 pub use lists::{Entries, Fracs};
 pub use operations::{add, cmp, div, mul, sub};
 pub use products::dot;
-pub use readers::{abs, are_same, den, is_zero, neg, num, one, sign, zero};
+pub use readers::{abs, all_within, are_same, den, is_zero, neg, num, one, sign, within, zero};

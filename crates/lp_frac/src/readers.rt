@@ -1,7 +1,8 @@
 // Operations that are never refused: the parts, the sign, the negative and the magnitude.
-ghost use Rattle.std.specs.Prelude.{◌≡◌, ◌≢◌, ◌≤◌, unsigned_abs, pos, IsTrue, ◌↔◌};
+ghost use Rattle.std.specs.Prelude.{◌≡◌, ◌≢◌, ◌≤◌, unsigned_abs, pos, IsTrue, ◌↔◌, All};
 ghost use Rattle.spec_exact.specs.Fraction.{neg_ℚ, abs_ℚ, 0ℚ, 1ℚ, inverse};
 ghost use Rattle.spec_exact.specs.Limit.{sign as sign_of};
+ghost use Rattle.spec_exact.specs.Laws.{IsWithin};
 ghost use Rattle.lp_frac.specs.Narrow.{largest};
 
 use crate::frac::Frac;
@@ -35,6 +36,22 @@ pub fn is_zero(v: Frac) -> bool
     ensures { IsTrue result ↔ (v ≡ 0ℚ) }
 {
     has_top_zero(v)
+}
+
+/// Both parts of a fraction are within the limit. It does nothing: proofs call it for this fact.
+pub fn within(v: Frac)
+    ensures { IsWithin largest v }
+{
+    let (_, _) = (v.top(), v.bottom());
+}
+
+/// The same of each fraction of a list.
+pub fn all_within(vs: &[Frac])
+    ensures { All (IsWithin largest) vs.now }
+{
+    for v in vs {
+        within(*v);
+    }
 }
 
 /// The negative.
