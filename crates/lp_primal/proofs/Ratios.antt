@@ -30,10 +30,10 @@ told_ok : {A : Type 0} (op : Op) (v w : ℚ) (o : Option A) (a : A) → told op 
 told_ok op v w (Some b) a h = cc
 told_ok op v w None a h = cc
 
-difference_ok : (limit : Option ℕ) (v w x : ℚ) → difference_run limit v w ≡ Ok x → x ≡ v -ℚ w
+pub difference_ok : (limit : Option ℕ) (v w x : ℚ) → difference_run limit v w ≡ Ok x → x ≡ v -ℚ w
 difference_ok limit v w x h = sub_gives limit v w x (told_ok Sub v w (sub limit v w) x h)
 
-quotient_ok : (limit : Option ℕ) (v w x : ℚ) → w ≢ 0ℚ → quotient_run limit v w ≡ Ok x → x *ℚ w ≡ v
+pub quotient_ok : (limit : Option ℕ) (v w x : ℚ) → w ≢ 0ℚ → quotient_run limit v w ≡ Ok x → x *ℚ w ≡ v
 quotient_ok limit v w x n h = div_exact limit v w x n (told_ok Div v w (div limit v w) x h)
 
 -- ---- magnitudes
@@ -58,7 +58,7 @@ abs_rising : (up : Bool) (a : ℚ) → 0ℚ <ℚ directed up a → abs_ℚ a ≡
 abs_rising true a h = abs_above a h
 abs_rising false a h = abs_below a (turned_down a h)
 
-directed_zero : (up : Bool) (a : ℚ) → a ≡ 0ℚ → directed up a ≡ 0ℚ
+pub directed_zero : (up : Bool) (a : ℚ) → a ≡ 0ℚ → directed up a ≡ 0ℚ
 directed_zero true a e = e
 directed_zero false a e = ap neg_ℚ e ∙ neg-zero
 
@@ -66,7 +66,7 @@ directed_times : (up : Bool) (r a : ℚ) → directed up r *ℚ a ≡ r *ℚ dir
 directed_times true r a = refl
 directed_times false r a = neg-*ℚ r a ∙ sym (*ℚ-neg r a)
 
-abs_not_zero : (a : ℚ) → a ≢ 0ℚ → abs_ℚ a ≢ 0ℚ
+pub abs_not_zero : (a : ℚ) → a ≢ 0ℚ → abs_ℚ a ≢ 0ℚ
 abs_not_zero a n = by (int_lt a.num (pos 0))
   where
     by : (b : Bool) → cond b (neg_ℚ a) a ≢ 0ℚ

@@ -10,12 +10,12 @@ use Rattle.spec_pivot.specs.declared.status.Status.{Status}
 use Rattle.spec_pivot.specs.declared.status.Status.TheVariants.{Basic, AtLower, AtUpper, AtZero}
 use Rattle.spec_simplex.specs.Step.{directed, rise_run, fall_run, gap_run, way_by}
 
-abbrev is_less : Ordering → Bool
+abbrev pub is_less : Ordering → Bool
 is_less Less = true
 is_less Equal = false
 is_less Greater = false
 
-abbrev is_greater : Ordering → Bool
+abbrev pub is_greater : Ordering → Bool
 is_greater Less = false
 is_greater Equal = false
 is_greater Greater = true
@@ -46,10 +46,10 @@ unfolding lt_ℚ whole
 positive_is v = ap₂ int_lt (by_ring (pos v.den ∷ []) (lit (pos 0)) (lit (pos 0) ⊗ v0) refl) (by_ring (v.num ∷ []) v0 (v0 ⊗ lit (pos 1)) refl)
 
 -- by the sign, whether it is below and above 0
-below_zero : (v : ℚ) (o : Ordering) → o ≡ sign v → lt_ℚ v 0ℚ ≡ is_less o
+pub below_zero : (v : ℚ) (o : Ordering) → o ≡ sign v → lt_ℚ v 0ℚ ≡ is_less o
 below_zero v o e = sym (ap is_less e ∙ less_is v.num ∙ negative_is v)
 
-above_zero : (v : ℚ) (o : Ordering) → o ≡ sign v → lt_ℚ 0ℚ v ≡ is_greater o
+pub above_zero : (v : ℚ) (o : Ordering) → o ≡ sign v → lt_ℚ 0ℚ v ≡ is_greater o
 above_zero v o e = sym (ap is_greater e ∙ greater_is v.num ∙ positive_is v)
 
 -- one of three, by the sign

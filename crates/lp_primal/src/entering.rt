@@ -10,8 +10,8 @@ use lp_tableau::Tableau;
 use spec_simplex::Entering;
 use std::cmp::Ordering;
 
-// Both bounds are there, and equal.
-fn is_fixed(lower: Option<Frac>, upper: Option<Frac>) -> bool
+/// Whether both bounds are there, and equal.
+pub fn is_fixed(lower: Option<Frac>, upper: Option<Frac>) -> bool
     ensures { result ≡ is_fixed_of lower upper }
 {
     match (lower, upper) {
@@ -20,8 +20,8 @@ fn is_fixed(lower: Option<Frac>, upper: Option<Frac>) -> bool
     }
 }
 
-// Whether a column of this status and reduced cost rises or falls, if it may enter.
-fn way(status: Status, reduced: Frac) -> Option<bool>
+/// Whether a column of this status and reduced cost rises or falls, if it may enter.
+pub fn way(status: Status, reduced: Frac) -> Option<bool>
     ensures { result ≡ way_by status reduced }
 {
     match sign(reduced) {
@@ -42,10 +42,13 @@ fn column_way(tab: &Tableau, k: u32) -> Option<bool>
     requires { k < all_columns tab.now }
     ensures { result ≡ way_at tab.now k }
 {
+    let Some(up) = way(tab.status(k), tab.reduced(k)) else {
+        return None;
+    };
     if is_fixed(tab.lower(k), tab.upper(k)) {
         return None;
     }
-    way(tab.status(k), tab.reduced(k))
+    Some(up)
 }
 
 // The least column that may enter.

@@ -2,7 +2,7 @@
 //!
 //! `run` takes steps until no column may enter, nothing stops the column that enters, an operation is
 //! past 127 bits, or the budget is spent, exactly as spec_simplex's `run_from` has it. It takes no
-//! memory.
+//! memory. The tests of one column, `is_fixed`, `way` and `directed`, serve the dual method too.
 #![tactic(auto)]
 
 mod choice;
@@ -12,4 +12,6 @@ mod steps;
 #[cfg(test)]
 mod tests;
 
+pub use entering::{is_fixed, way};
+pub use ratio::directed;
 pub use steps::run;

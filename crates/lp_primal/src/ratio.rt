@@ -14,8 +14,8 @@ use std::cmp::Ordering;
 // The least ratio so far.
 pub(crate) type Best = spec_simplex::Best<Frac>;
 
-// `v`, or its negative where the entering column falls.
-pub(crate) fn directed(up: bool, v: Frac) -> Frac
+/// `v`, or its negative where `up` is false.
+pub fn directed(up: bool, v: Frac) -> Frac
     ensures { result ≡ step.directed up v }
 {
     if up { v } else { neg(v) }

@@ -1,18 +1,24 @@
 -- The tableau that a form begins with, from its parts.
-use Rattle.std.proofs.Common.{◌≡◌, ℕ, zero, suc, ◌+◌, ◌*◌, ◌<◌, ◌≤◌, List, [], ◌∷◌, ◌++◌, length, take, drop, map, replicate, Option, Some, Ok, Err, Bool, true, false, cond, refl, sym, subst₂, ap, ap₂, ◌∙◌, arith}
+use Rattle.std.proofs.Common.{◌≡◌, ℕ, zero, suc, ◌+◌, ◌-◌, ◌*◌, ◌<◌, ◌≤◌, List, [], ◌∷◌, ◌++◌, length, take, drop, map, replicate, Option, Some, Ok, Err, Bool, true, false, cond, refl, sym, subst, subst₂, ap, ap₂, ◌∙◌, arith, append_assoc, ⊎_elim, nat_eq, ne_eqb}
 use Rattle.std.proofs.Math.Nat.{zero-mul, suc-mul}
 use Rattle.std.proofs.Math.Seq.{take-length}
-use Rattle.std.proofs.lemmas.List.{length-append, length-drop, length-map, length-replicate, take-append-le, drop-append-le}
-use Rattle.spec_exact.specs.Fraction.{ℚ, 0ℚ}
+use Rattle.std.specs.Prelude.{All}
+use Rattle.std.proofs.lemmas.Bool.{cases_eq, eq-eqb, le-ltb, lt-ltb}
+use Rattle.std.proofs.lemmas.List.{get_or-map, length-append, length-drop, length-map, length-replicate, take-append-le, drop-append-le}
+use Rattle.spec_exact.specs.Fraction.{ℚ, 0ℚ, 1ℚ}
+use Rattle.spec_exact.proofs.Ruleset.{neg-neg, neg-zero}
 use Rattle.spec_exact.specs.declared.past.Past.{Past}
 use Rattle.spec_pivot.specs.declared.status.Status.{Status}
 use Rattle.spec_simplex.specs.declared.ends.RowStart.{RowStart}
+use Rattle.spec_simplex.specs.declared.ends.RowStart.TheVariants.{Within, Below, Above}
 use Rattle.spec_simplex.specs.Run.{Run, ◌>>=◌, list_run, made}
-use Rattle.spec_simplex.specs.Form.{Form, IsForm}
+use Rattle.spec_simplex.specs.Form.{Form, IsForm, form_entry}
 use Rattle.spec_simplex.specs.Tableau.{Tableau, IsTableauShape}
-use Rattle.spec_simplex.specs.Start.{row_start, first_costs, priced_run, with_reduced, start_of, begun, start_row, start_basic, start_entry, start_value, start_status, start_at, is_wanting, artificial_upper}
-use Rattle.spec_simplex.proofs.Stops.{length-made, All-made}
+use Rattle.spec_simplex.specs.Start.{row_start, first_costs, priced_run, with_reduced, start_of, begun, start_row, start_basic, start_entry, start_value, start_status, start_at, is_wanting, artificial_upper, one_at, logical_sign, structural_entry}
+use Rattle.spec_simplex.proofs.Stops.{length-made, All-made, get_or-made}
 use Rattle.lp_tableau.specs.Grid.{rows_of, flat, IsBlock}
+use Rattle.lp_tableau.specs.Begun.{is_below, start_front}
+use Rattle.lp_tableau.specs.Twins.{signed, twin, with_twins, twinned, IsTwinned}
 use Rattle.lp_tableau.specs.Answer.{Stops}
 use Rattle.lp_tableau.specs.declared.ends.ColdStop.{ColdStop}
 use Rattle.lp_tableau.specs.declared.ends.ColdStop.TheVariants as cold
@@ -48,12 +54,15 @@ basic_inside : (f : Form) (i : ℕ) (b : Bool) → i < f.rows → cond b (f.cols
 basic_inside f i true h = omega arith
 basic_inside f i false h = omega arith
 
-pub block_is : (f : Form) (starts : List (RowStart ℚ)) (xs : List ℚ) → IsForm f → xs ≡ flat f.rows (start_row f starts) → IsBlock f.rows (width_of f) xs
+length-start_front : (f : Form) (starts : List (RowStart ℚ)) (i : ℕ) → length (start_front f starts i) ≡ f.cols + f.rows
+length-start_front f starts i = length-made (f.cols + f.rows) (start_entry f (start_at starts i) i)
+
+block_is : (f : Form) (starts : List (RowStart ℚ)) (xs : List ℚ) → IsForm f → xs ≡ flat f.rows (start_front f starts) → IsBlock f.rows (f.cols + f.rows) xs
 block_is f starts xs g e =
     record {
       few_rows = g.few_rows;
       few_columns = omega (arith, g.few_rows, g.few_columns);
-      size = ap length e ∙ length-flat (width_of f) f.rows (start_row f starts) (length-start_row f starts);
+      size = ap length e ∙ length-flat (f.cols + f.rows) f.rows (start_front f starts) (length-start_front f starts);
     }
 
 pub begun_shape : (f : Form) (starts : List (RowStart ℚ)) → IsForm f → length starts ≡ f.rows → IsTableauShape (begun f starts)
@@ -72,15 +81,116 @@ begun_shape f starts g e =
       all_upper = omega (arith, length-append f.upper (map artificial_upper starts), length-map starts artificial_upper, g.all_upper, e);
     }
 
--- the rows of the block are those of the tableau
-module _ (f : Form) (starts : List (RowStart ℚ)) (w m : ℕ) (xs : List ℚ) (a : w ≡ width_of f) (b : m ≡ f.rows) (e : xs ≡ flat f.rows (start_row f starts)) where
-  pub grid_is : rows_of w m xs ≡ made f.rows (start_row f starts)
+-- ---- the rows of the block, with their twins, are those of the tableau
+module _ (f : Form) (starts : List (RowStart ℚ)) (w m : ℕ) (xs : List ℚ) (a : w ≡ f.cols + f.rows) (b : m ≡ f.rows) (e : xs ≡ flat f.rows (start_front f starts)) where
+  pub grid_is : rows_of w m xs ≡ made f.rows (start_front f starts)
   grid_is =
-      ap₂ (λ n m. rows_of n m xs) a b ∙ ap (rows_of (width_of f) f.rows) e
-      ∙ rows_of-flat (width_of f) f.rows (start_row f starts) (length-start_row f starts)
+      ap₂ (λ n m. rows_of n m xs) a b ∙ ap (rows_of (f.cols + f.rows) f.rows) e
+      ∙ rows_of-flat (f.cols + f.rows) f.rows (start_front f starts) (length-start_front f starts)
 
   pub grid_block : IsForm f → IsBlock m w xs
   grid_block g = subst₂ (λ n k. IsBlock n k xs) (sym b) (sym a) (block_is f starts xs g e)
+
+made_same : {A : Type 0} (n : ℕ) (f g : ℕ → A) → ((i : ℕ) → i < n → f i ≡ g i) → made n f ≡ made n g
+made_same zero f g h = refl
+made_same (suc n) f g h = ap₂ (λ xs x. xs ++ x ∷ []) (made_same n f g (λ i l. h i (omega (arith, l)))) (h n (omega arith))
+
+append_none : (xs : List ℚ) → xs ++ [] ≡ xs
+append_none [] = refl
+append_none (x ∷ xs) = ap (λ ys. x ∷ ys) (append_none xs)
+
+made_parts : (n m : ℕ) (f : ℕ → ℚ) → made (n + m) f ≡ made n f ++ made m (λ r. f (n + r))
+made_parts n zero f = (let z : n + 0 ≡ n = omega arith in ap (λ k. made k f) z) ∙ sym (append_none (made n f))
+made_parts n (suc m) f =
+    (let z : n + suc m ≡ suc (n + m) = omega arith in ap (λ k. made k f) z)
+    ∙ ap (λ xs. xs ++ f (n + m) ∷ []) (made_parts n m f)
+    ∙ append_assoc (made n f) (made m (λ r. f (n + r))) (f (n + m) ∷ [])
+
+twinned_push : (c : ℕ) (turned : List Bool) (rows : List (List ℚ)) (row : List ℚ) → twinned c turned (rows ++ row ∷ []) ≡ twinned c turned rows ++ with_twins c turned row ∷ []
+twinned_push c turned [] row = refl
+twinned_push c turned (x ∷ rows) row = ap (λ ys. with_twins c turned x ∷ ys) (twinned_push c turned rows row)
+
+twinned_made : (c : ℕ) (turned : List Bool) (m : ℕ) (f : ℕ → List ℚ) → twinned c turned (made m f) ≡ made m (λ i. with_twins c turned (f i))
+twinned_made c turned zero f = refl
+twinned_made c turned (suc m) f = twinned_push c turned (made m f) (f m) ∙ ap (λ xs. xs ++ with_twins c turned (f m) ∷ []) (twinned_made c turned m f)
+
+-- a logical and its artificial
+sign_is : (s : RowStart ℚ) → signed (is_below s) (logical_sign s) ≡ 1ℚ
+sign_is (Within v) = refl
+sign_is (Below gap) = neg-neg 1ℚ
+sign_is (Above gap) = refl
+
+zero_is : (b : Bool) → signed b 0ℚ ≡ 0ℚ
+zero_is true = neg-zero
+zero_is false = refl
+
+one_is : (starts : List (RowStart ℚ)) (i r : ℕ) → signed (is_below (start_at starts r)) (one_at i r (logical_sign (start_at starts i))) ≡ one_at i r 1ℚ
+one_is starts i r = ⊎_elim same other (cases_eq i r)
+  where
+    same : i ≡ r → signed (is_below (start_at starts r)) (one_at i r (logical_sign (start_at starts i))) ≡ one_at i r 1ℚ
+    same e =
+        let t : nat_eq i r ≡ true = eq-eqb i r e in
+        ap (λ b. signed (is_below (start_at starts r)) (cond b (logical_sign (start_at starts i)) 0ℚ)) t
+        ∙ ap (λ k. signed (is_below (start_at starts k)) (logical_sign (start_at starts i))) (sym e)
+        ∙ sign_is (start_at starts i)
+        ∙ sym (ap (λ b. cond b 1ℚ 0ℚ) t)
+
+    other : (i ≡ r → ⊥) → signed (is_below (start_at starts r)) (one_at i r (logical_sign (start_at starts i))) ≡ one_at i r 1ℚ
+    other n =
+        let t : nat_eq i r ≡ false = ne_eqb i r n in
+        ap (λ b. signed (is_below (start_at starts r)) (cond b (logical_sign (start_at starts i)) 0ℚ)) t
+        ∙ zero_is (is_below (start_at starts r))
+        ∙ sym (ap (λ b. cond b 1ℚ 0ℚ) t)
+
+module _ (f : Form) (starts : List (RowStart ℚ)) (l : length starts ≡ f.rows) (i : ℕ) where
+  abbrev start : RowStart ℚ
+  start = start_at starts i
+
+  logical_is : (r : ℕ) → r < f.rows → start_entry f start i (f.cols + r) ≡ one_at i r (logical_sign start)
+  logical_is r h =
+      let z : (f.cols + r) - f.cols ≡ r = omega arith in
+      ap₂ (λ b d. cond b (structural_entry start (form_entry f i (f.cols + r))) (cond d (one_at i (f.cols + r - f.cols) (logical_sign start)) (one_at i (f.cols + r - (f.cols + f.rows)) 1ℚ)))
+      (le-ltb (f.cols + r) f.cols (omega arith)) (lt-ltb (f.cols + r) (f.cols + f.rows) (omega (arith, h)))
+      ∙ ap (λ k. one_at i k (logical_sign start)) z
+
+  artificial_is : (r : ℕ) → start_entry f start i (f.cols + f.rows + r) ≡ one_at i r 1ℚ
+  artificial_is r =
+      let z : (f.cols + f.rows + r) - (f.cols + f.rows) ≡ r = omega arith in
+      ap₂ (λ b d. cond b (structural_entry start (form_entry f i (f.cols + f.rows + r))) (cond d (one_at i (f.cols + f.rows + r - f.cols) (logical_sign start)) (one_at i (f.cols + f.rows + r - (f.cols + f.rows)) 1ℚ)))
+      (le-ltb (f.cols + f.rows + r) f.cols (omega arith)) (le-ltb (f.cols + f.rows + r) (f.cols + f.rows) (omega arith))
+      ∙ ap (λ k. one_at i k 1ℚ) z
+
+  twin_is : (r : ℕ) → r < f.rows → twin f.cols (map is_below starts) (start_front f starts i) r ≡ start_entry f start i (f.cols + f.rows + r)
+  twin_is r h =
+      ap₂ signed (get_or-map is_below starts r (Within 0ℚ) false (omega (arith, h, l))) (get_or-made (f.cols + f.rows) (start_entry f start i) (f.cols + r) 0ℚ (omega (arith, h)) ∙ logical_is r h)
+      ∙ one_is starts i r ∙ sym (artificial_is r)
+
+  front_twins : with_twins f.cols (map is_below starts) (start_front f starts i) ≡ start_row f starts i
+  front_twins =
+      ap (λ xs. start_front f starts i ++ xs)
+      (ap (λ n. made n (twin f.cols (map is_below starts) (start_front f starts i))) (length-map starts is_below ∙ l)
+      ∙ made_same f.rows (twin f.cols (map is_below starts) (start_front f starts i)) (λ r. start_entry f start i (f.cols + f.rows + r)) twin_is)
+      ∙ sym (made_parts (f.cols + f.rows) f.rows (start_entry f start i))
+
+pub twins_are : (f : Form) (starts : List (RowStart ℚ)) (c : ℕ) (turned : List Bool) (grid : List (List ℚ)) → length starts ≡ f.rows → c ≡ f.cols → turned ≡ map is_below starts → grid ≡ made f.rows (start_front f starts) →
+    twinned c turned grid ≡ made f.rows (start_row f starts)
+twins_are f starts c turned grid l ec et eg =
+    ap₂ (λ k t. twinned k t grid) ec et ∙ ap (twinned f.cols (map is_below starts)) eg
+    ∙ twinned_made f.cols (map is_below starts) f.rows (start_front f starts)
+    ∙ made_same f.rows (λ i. with_twins f.cols (map is_below starts) (start_front f starts i)) (start_row f starts) (λ i h. front_twins f starts l i)
+
+pub is_twinned : (f : Form) (starts : List (RowStart ℚ)) (c m : ℕ) (turned : List Bool) (grid : List (List ℚ)) → IsForm f → length starts ≡ f.rows → c ≡ f.cols → m ≡ f.rows → turned ≡ map is_below starts → grid ≡ made f.rows (start_front f starts) →
+    IsTwinned c m turned grid
+is_twinned f starts c m turned grid g l ec em et eg =
+    record {
+      few_rows = omega (arith, em, g.few_rows);
+      few_columns = omega (arith, ec, g.few_columns);
+      twins = ap length et ∙ length-map starts is_below ∙ l ∙ sym em;
+      grid = record {
+        height = ap length eg ∙ length-made f.rows (start_front f starts) ∙ sym em;
+        width = subst (All (λ row. length row ≡ c + m)) (sym eg) (All-made (λ row. length row ≡ c + m) f.rows (start_front f starts) (λ i h. length-start_front f starts i ∙ sym (ap₂ (λ x y. x + y) ec em)));
+      };
+    }
 
 pub begun_is : (f : Form) (starts : List (RowStart ℚ)) (rows cols : ℕ) (entries : List (List ℚ)) (basic : List ℕ) (value reduced : List ℚ) (status : List Status) (lower upper : List (Option ℚ))
     → rows ≡ f.rows → cols ≡ f.cols → entries ≡ made f.rows (start_row f starts) → basic ≡ made f.rows (start_basic f starts)

@@ -6,4 +6,9 @@ pub mod Pivots
 pub mod Priced
 pub mod Rows
 pub mod Same
+pub mod Signs
+pub mod Spots
 pub mod Turned
+pub mod TwinRows
+pub mod Based
+pub mod Solving

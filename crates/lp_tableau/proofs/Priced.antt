@@ -1,15 +1,19 @@
 -- Reduced costs, and the change to phase two.
-use Rattle.std.proofs.Common.{◌≡◌, ℕ, List, Option, Ok, Err, Result, sym, subst, ap, ◌∙◌}
+use Rattle.std.proofs.Common.{◌≡◌, ℕ, ◌+◌, List, Option, Some, Ok, Err, Result, sym, subst, ap, ◌∙◌}
 use Rattle.std.specs.Prelude.{⊤}
-use Rattle.spec_exact.specs.Fraction.{ℚ}
+use Rattle.spec_exact.specs.Fraction.{ℚ, 0ℚ}
+use Rattle.spec_exact.specs.Laws.{IsWithin}
 use Rattle.spec_exact.specs.declared.past.Past.{Past}
-use Rattle.spec_simplex.specs.Run.{◌>>=◌}
+use Rattle.spec_simplex.specs.Run.{Run, ◌>>=◌, steps, less_product}
+use Rattle.spec_simplex.proofs.Stops.{steps_more}
+use Rattle.lp_frac.specs.Narrow.{largest}
 use Rattle.spec_simplex.specs.Form.{Form}
-use Rattle.spec_simplex.specs.Tableau.{Tableau}
-use Rattle.spec_simplex.specs.Start.{reduced_run, priced_run, with_reduced}
+use Rattle.spec_simplex.specs.Tableau.{Tableau, basic_at, entry_at}
+use Rattle.spec_simplex.specs.Start.{cost_at, reduced_run, priced_run, with_reduced}
 use Rattle.spec_simplex.specs.Phases.{without_artificials, phase_two_run}
 use Rattle.lp_tableau.specs.Answer.{Gives}
 use Rattle.lp_tableau.proofs.Pivots.{RepricedFrom}
+use Rattle.lp_tableau.proofs.Spots.{less_no_times}
 
 -- reduced costs do not read those that stand already
 pub reduced_same : (limit : Option ℕ) (t u : Tableau) (costs : List ℚ) (k : ℕ) → RepricedFrom t u → reduced_run limit u costs k ≡ reduced_run limit t costs k
@@ -28,3 +32,12 @@ phase_two_gives limit f t u x costs (Ok v) e g h k =
 phase_two_gives limit f t u x costs (Err p) e g h k =
     let priced : priced_run limit (without_artificials t) f.cost ≡ Err p = subst (λ w. priced_run limit w f.cost ≡ Err p) e (subst (λ c. priced_run limit u c ≡ Err p) g h) in
     ap (λ o. o >>= λ reduced. Ok (with_reduced (without_artificials t) reduced)) priced
+
+-- a basic column of no cost is passed over
+abbrev pub less_basic : Tableau → List ℚ → ℕ → ℕ → ℚ → Run ℚ
+less_basic t costs k i d = less_product (Some largest) (cost_at costs (basic_at t i)) (entry_at t i k) d
+
+pub free_passed : (t : Tableau) (costs : List ℚ) (k i : ℕ) (d : ℚ) → steps i (less_basic t costs k) (cost_at costs k) ≡ Ok d → cost_at costs (basic_at t i) ≡ 0ℚ → IsWithin largest (entry_at t i k) → IsWithin largest d →
+    steps (i + 1) (less_basic t costs k) (cost_at costs k) ≡ Ok d
+free_passed t costs k i d h e v w =
+    steps_more i (less_basic t costs k) (cost_at costs k) d d h (less_no_times largest (cost_at costs (basic_at t i)) (entry_at t i k) d e v w)

@@ -1,6 +1,9 @@
 -- Rows that are kept one after the other.
-use Rattle.std.specs.Prelude.{◌≡◌, ℕ, ◌*◌, ◌≤◌, zero, suc, List, [], ◌∷◌, ◌++◌, length, take, drop, All}
-use Rattle.spec_exact.specs.Fraction.{ℚ}
+use Rattle.std.specs.Prelude.{◌≡◌, ℕ, ◌+◌, ◌*◌, ◌<◌, ◌≤◌, zero, suc, List, [], ◌∷◌, ◌++◌, length, take, drop, get_or, All}
+use Rattle.spec_exact.specs.Fraction.{ℚ, 0ℚ}
+use Rattle.spec_exact.specs.Laws.{IsWithin}
+use Rattle.spec_simplex.specs.Tableau.{at_place}
+use Rattle.lp_frac.specs.Narrow.{largest}
 
 -- the first m rows of width n
 abbrev pub rows_of : ℕ → ℕ → List ℚ → List (List ℚ)
@@ -22,3 +25,32 @@ pub record IsBlock (m n : ℕ) (items : List ℚ) : Type 0 where
 pub record IsGrid (m n : ℕ) (rows : List (List ℚ)) : Type 0 where
   pub height : length rows ≡ m
   pub width : All (λ row. length row ≡ n) rows
+
+-- a block whose fractions are within the limit
+pub record IsHeld (m n : ℕ) (items : List ℚ) : Type 0 where
+  pub block : IsBlock m n items
+  pub narrow : All (IsWithin largest) items
+
+-- rows whose fractions are within the limit
+pub record IsNarrowGrid (rows : List (List ℚ)) : Type 0 where
+  pub each : (i k : ℕ) → IsWithin largest (at_place rows i k)
+
+-- ---- the columns in which a row is not 0
+-- the row is 0 from column a up to column b
+abbrev pub ZeroFrom : List ℚ → ℕ → ℕ → Type 0
+ZeroFrom row a b = (k : ℕ) → a ≤ k → k < b → get_or row k 0ℚ ≡ 0ℚ
+
+-- k is the next column from a on at which the row may not be 0, and one of n
+pub record IsNext (row : List ℚ) (a k n : ℕ) : Type 0 where
+  pub from : a ≤ k
+  pub inside : k < n
+  pub before : ZeroFrom row a k
+
+-- from column a up to column n, the row is 0 but in these columns, which rise
+abbrev pub Covers : List ℚ → ℕ → ℕ → List ℕ → Type 0
+Covers row a n [] = ZeroFrom row a n
+Covers row a n (k ∷ ks) = IsNext row a k n × Covers row (k + 1) n ks
+
+-- the row is 0 but in these columns, which rise
+pub record IsListed (row : List ℚ) (n : ℕ) (spots : List ℕ) : Type 0 where
+  pub covers : Covers row 0 n spots

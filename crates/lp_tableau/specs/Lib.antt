@@ -1,2 +1,5 @@
 pub mod Answer
 pub mod Grid
+pub mod Twins
+pub mod Begun
+pub mod Based

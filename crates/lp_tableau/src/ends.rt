@@ -1,5 +1,6 @@
 // How runs of steps end.
 ghost use Rattle.std.specs.Prelude.{◌≡◌};
+ghost use Rattle.lp_tableau.specs.declared.ends.BasisStop.TheVariants as based;
 ghost use Rattle.lp_tableau.specs.declared.ends.ColdStop.TheVariants as cold;
 
 use lp_frac::{Frac, Past};
@@ -30,5 +31,31 @@ impl From<AllocError> for ColdStop {
 
     fn from(_: AllocError) -> Self {
         ColdStop::NoMemory
+    }
+}
+
+/// Why a basis has no tableau.
+#[derive(Clone, Copy, Debug, PartialEq, Eq)]
+pub enum BasisStop {
+    /// A basic column depends on those before it.
+    Singular,
+    /// The operation that is past 127 bits.
+    Past(Past),
+    NoMemory,
+}
+
+impl From<Past> for BasisStop {
+    ghost from_gives = { λ p e. e ≡ based.Past p };
+
+    fn from(p: Past) -> Self {
+        BasisStop::Past(p)
+    }
+}
+
+impl From<AllocError> for BasisStop {
+    ghost from_gives = { λ _ e. e ≡ based.NoMemory };
+
+    fn from(_: AllocError) -> Self {
+        BasisStop::NoMemory
     }
 }

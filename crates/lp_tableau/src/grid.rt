@@ -1,9 +1,9 @@
 // Rows of fractions of one width, kept one after the other in one block.
 ghost use Rattle.std.specs.Prelude.{◌≡◌, ◌<◌, [], length, get_or, slice_set};
 ghost use Rattle.spec_simplex.specs.Tableau.{at_place};
-ghost use Rattle.lp_tableau.specs.Grid.{IsBlock, rows_of};
+ghost use Rattle.lp_tableau.specs.Grid.{IsBlock, IsNarrowGrid, rows_of};
 
-use lp_frac::Frac;
+use lp_frac::{Frac, all_within, within};
 use std::marker::Model;
 
 #[derive(Drop)]
@@ -16,13 +16,13 @@ pub(crate) struct Grid {
 impl Model for Grid {
     ghost use Rattle.std.specs.Prelude.{List};
     ghost use Rattle.spec_exact.specs.Fraction.{ℚ};
-    ghost use Rattle.lp_tableau.specs.Grid.{IsBlock, rows_of};
+    ghost use Rattle.lp_tableau.specs.Grid.{IsHeld, rows_of};
 
     ghost Value = { List (List ℚ) };
 
     ghost view = { λ g. rows_of g.width g.height g.block.items };
 
-    ghost invariant = { λ g. IsBlock g.height g.width g.block.items };
+    ghost invariant = { λ g. IsHeld g.height g.width g.block.items };
 }
 
 impl Grid {
@@ -30,6 +30,7 @@ impl Grid {
         requires { IsBlock height width block.items }
         ensures { result ≡ rows_of width height block.items }
     {
+        all_within(&block);
         Grid {
             height,
             width,
@@ -51,6 +52,14 @@ impl Grid {
         requires column { k < length (get_or self.old i []) }
         ensures { self.new ≡ slice_set self.old i (slice_set (get_or self.old i []) k value) }
     {
+        within(value);
         self.block[i * self.width + k] = value;
+    }
+
+    // That all fractions are within the limit. It does nothing.
+    pub(crate) fn narrow(&self)
+        ensures { IsNarrowGrid self.now }
+    {
+        let _ = &self.block;
     }
 }

@@ -3,27 +3,34 @@
 //! | Item | What it is |
 //! |---|---|
 //! | `Tableau`, `start_cold` | a tableau; the one that a form begins with |
+//! | `start_from` | the tableau of a basis |
 //! | `Tableau::pivot`, `flip`, `phase_two` | the changes, each exact or refused as `spec_simplex` has it |
 //! | `Tableau::wants_phase_one`, `is_stuck` | what the phases ask: a basic artificial, and one that is not 0 |
 //! | `PrimalEnd`, `Stop` | how a run of steps ends, and why it does not |
-//! | `ColdStop` | why a form has no start |
+//! | `ColdStop`, `BasisStop` | why a form has no start, and a basis no tableau |
 //!
-//! Rows are kept one after the other in one block, which never grows. Contracts see a tableau as the
-//! record of spec_simplex's specs/Tableau.
+//! Rows are kept one after the other in one block, which never grows, and without the artificial columns: each is its
+//! row's logical or the negative of it all through. Contracts see a tableau as the record of spec_simplex's
+//! specs/Tableau, with all columns.
 #![tactic(auto)]
 
+mod basis;
+mod elimination;
 mod ends;
 mod grid;
 mod moves;
 mod phases;
 mod pivot;
 mod price;
+mod solve;
 mod start;
 mod steps;
 mod tableau;
 #[cfg(test)]
 mod tests;
+mod twins;
 
-pub use ends::{ColdStop, PrimalEnd, Stop};
+pub use basis::start_from;
+pub use ends::{BasisStop, ColdStop, PrimalEnd, Stop};
 pub use start::start_cold;
 pub use tableau::Tableau;

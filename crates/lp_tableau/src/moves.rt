@@ -8,7 +8,7 @@ ghost use Rattle.lp_tableau.specs.Answer.{Gives};
 use crate::steps::{less_product, or_zero, stand};
 use crate::tableau::Tableau;
 use lp_form::Status;
-use lp_frac::{Frac, Past, neg, sub};
+use lp_frac::{Frac, Past, is_zero, neg, sub, within};
 
 // `v`, or its negative where the entering column falls.
 fn directed(up: bool, v: Frac) -> Frac
@@ -51,7 +51,13 @@ impl Tableau {
         ensures rest { self.new ≡ record self.old { value = self.new.value } }
     {
         let k = self.basic(i) as usize;
-        let value = less_product(self.entry(i, col), theta, self.value[k])?;
+        let entry = self.entry(i, col);
+        within(theta);
+        within(self.value[k]);
+        if is_zero(entry) {
+            return Ok(());
+        }
+        let value = less_product(entry, theta, self.value[k])?;
         self.value[k] = value;
         Ok(())
     }

@@ -1,77 +1,20 @@
 // Pivots.
 ghost use Rattle.std.specs.Prelude.{◌≡◌, ◌≢◌, ◌<◌, Some, length};
 ghost use Rattle.spec_exact.specs.Fraction.{0ℚ};
-ghost use Rattle.spec_simplex.specs.Tableau.{all_columns, at_place, entry_at};
-ghost use Rattle.spec_simplex.specs.Step.{CanPivot, scaled_run, cleared_run, turned_run, repriced_run, shifted_run, exchanged, pivot_run};
+ghost use Rattle.spec_simplex.specs.Tableau.{all_columns, entry_at};
+ghost use Rattle.spec_simplex.specs.Step.{CanPivot, turned_run, repriced_run, shifted_run, exchanged, pivot_run};
 ghost use Rattle.lp_frac.specs.Narrow.{largest};
 ghost use Rattle.lp_tableau.specs.Answer.{Gives};
 ghost use Rattle.lp_tableau.specs.Grid.{IsGrid};
 
-use crate::grid::Grid;
 use crate::steps::{less_product, stand};
 use crate::tableau::Tableau;
+use crate::twins::Twins;
 use lp_form::Status;
-use lp_frac::{Frac, Past, add, div, zero};
-
-// Row `p` over its entry in column `j`.
-fn scale(grid: &mut Grid, height: u32, width: u32, p: u32, j: u32) -> Result<(), Past>
-    requires shape { IsGrid height width grid.old }
-    requires place { p < height }
-    requires column { j < width }
-    requires entry { at_place grid.old p j ≢ 0ℚ }
-    ensures rows { Gives (scaled_run (Some largest) width grid.old p j) grid.new result }
-    ensures shape { IsGrid height width grid.new }
-{
-    let by = grid.at(p as usize, j as usize);
-    for k in 0..width {
-        let entry = div(grid.at(p as usize, k as usize), by)?;
-        grid.set(p as usize, k as usize, entry);
-    }
-    Ok(())
-}
-
-// Row `i` less row `p`, as often as makes its entry in column `j` 0.
-fn clear(grid: &mut Grid, height: u32, width: u32, p: u32, j: u32, i: u32) -> Result<(), Past>
-    requires shape { IsGrid height width grid.old }
-    requires place { p < height }
-    requires column { j < width }
-    requires row { i < height }
-    requires other { i ≢ p }
-    ensures rows { Gives (cleared_run (Some largest) width p j i grid.old) grid.new result }
-    ensures shape { IsGrid height width grid.new }
-{
-    let times = grid.at(i as usize, j as usize);
-    for k in 0..width {
-        let entry = less_product(
-            times,
-            grid.at(p as usize, k as usize),
-            grid.at(i as usize, k as usize),
-        )?;
-        grid.set(i as usize, k as usize, entry);
-    }
-    Ok(())
-}
-
-// All rows, so that column `j` has 1 in row `p` and 0 in the others.
-fn turn(grid: &mut Grid, height: u32, width: u32, p: u32, j: u32) -> Result<(), Past>
-    requires shape { IsGrid height width grid.old }
-    requires place { p < height }
-    requires column { j < width }
-    requires entry { at_place grid.old p j ≢ 0ℚ }
-    ensures rows { Gives (turned_run (Some largest) height width grid.old p j) grid.new result }
-    ensures shape { IsGrid height width grid.new }
-{
-    scale(grid, height, width, p, j)?;
-    for i in 0..height {
-        if i != p {
-            clear(grid, height, width, p, j, i)?;
-        }
-    }
-    Ok(())
-}
+use lp_frac::{Frac, Past, add, is_zero, within, zero};
 
 // The reduced costs less row `p`, as often as makes that of column `j` 0.
-fn reprice(reduced: &mut [Frac], grid: &Grid, height: u32, p: u32, j: u32) -> Result<(), Past>
+fn reprice(reduced: &mut [Frac], grid: &Twins, height: u32, p: u32, j: u32) -> Result<(), Past>
     requires shape { IsGrid height (length reduced.old) grid.now }
     requires place { p < height }
     requires column { j < length reduced.old }
@@ -79,8 +22,14 @@ fn reprice(reduced: &mut [Frac], grid: &Grid, height: u32, p: u32, j: u32) -> Re
     ensures len { length reduced.new ≡ length reduced.old }
 {
     let times = reduced[j as usize];
+    within(times);
     for k in 0..reduced.len() {
-        reduced[k] = less_product(times, grid.at(p as usize, k), reduced[k])?;
+        let (entry, cost) = (grid.at(p as usize, k), reduced[k]);
+        within(cost);
+        if is_zero(entry) {
+            continue;
+        }
+        reduced[k] = less_product(times, entry, cost)?;
     }
     Ok(())
 }
@@ -106,7 +55,7 @@ impl Tableau {
         ensures rest { self.new ≡ record self.old { entries = self.new.entries } }
     {
         let (rows, width) = (self.rows(), self.width());
-        turn(&mut self.grid, rows, width, place, col)
+        self.grid.turn(rows, width, place, col)
     }
 
     fn reprice(&mut self, place: u32, col: u32) -> Result<(), Past>

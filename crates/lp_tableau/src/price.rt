@@ -10,7 +10,7 @@ ghost use Rattle.lp_tableau.specs.Answer.{Gives};
 use crate::steps::less_product;
 use crate::tableau::Tableau;
 use lp_form::Form;
-use lp_frac::{Frac, Past, zero};
+use lp_frac::{Frac, Past, is_zero, within, zero};
 
 // The cost of column `k`, 0 where none stands.
 fn cost_at(costs: &[Frac], k: u32) -> Frac
@@ -30,7 +30,14 @@ impl Tableau {
     {
         let mut rest = cost_at(costs, k);
         for i in 0..self.rows() {
-            rest = less_product(cost_at(costs, self.basic(i)), self.entry(i, k), rest)?;
+            let cost = cost_at(costs, self.basic(i));
+            let entry = self.entry(i, k);
+            within(entry);
+            within(rest);
+            if is_zero(cost) {
+                continue;
+            }
+            rest = less_product(cost, entry, rest)?;
         }
         Ok(rest)
     }

@@ -7,11 +7,13 @@ ghost use Rattle.spec_simplex.specs.Start as plain;
 ghost use Rattle.lp_frac.specs.Narrow.{largest};
 ghost use Rattle.lp_tableau.specs.Answer.{Stops};
 ghost use Rattle.lp_tableau.specs.Grid.{flat};
+ghost use Rattle.lp_tableau.specs.Begun.{is_below, start_front};
 
 use crate::ends::ColdStop;
 use crate::grid::Grid;
 use crate::steps::{or_zero, plus_product, stand};
 use crate::tableau::Tableau;
+use crate::twins::Twins;
 use lp_form::{Form, Status};
 use lp_frac::{Frac, Past, cmp, neg, one, sub, zero};
 use std::alloc::{AllocError, Global};
@@ -251,7 +253,15 @@ fn status(form: &Form, starts: &[RowStart], k: u32) -> Status
     }
 }
 
-fn width(form: &Form) -> u32
+// How many columns a row is kept over: all but the artificial ones.
+fn front(form: &Form) -> u32
+    ensures value { result ≡ form.now.cols + form.now.rows }
+    ensures bound { result ≤ 768 }
+{
+    form.cols() + form.rows()
+}
+
+pub(crate) fn width(form: &Form) -> u32
     ensures value { result ≡ form.now.cols + form.now.rows + form.now.rows }
     ensures bound { result ≤ 1024 }
 {
@@ -266,9 +276,9 @@ fn push_row(
 ) -> Result<(), AllocError>
     requires row { i < form.now.rows }
     requires starts { length starts.now ≡ form.now.rows }
-    ensures { OnOk result (block.new.items ≡ block.old.items ++ plain.start_row form.now starts.now i) }
+    ensures { OnOk result (block.new.items ≡ block.old.items ++ start_front form.now starts.now i) }
 {
-    for k in 0..width(form) {
+    for k in 0..front(form) {
         block.push(entry(form, starts, i, k))?;
     }
     Ok(())
@@ -276,13 +286,44 @@ fn push_row(
 
 fn block(alloc: Global, form: &Form, starts: &[RowStart]) -> Result<Vec<Frac>, AllocError>
     requires { length starts.now ≡ form.now.rows }
-    ensures { IfOk result (λ v. v.items ≡ flat form.now.rows (plain.start_row form.now starts.now)) }
+    ensures { IfOk result (λ v. v.items ≡ flat form.now.rows (start_front form.now starts.now)) }
 {
-    let mut block = Vec::with_capacity(alloc, form.rows() as usize * width(form) as usize)?;
+    let mut block = Vec::with_capacity(alloc, form.rows() as usize * front(form) as usize)?;
     for i in 0..form.rows() {
         push_row(&mut block, form, starts, i)?;
     }
     Ok(block)
+}
+
+fn is_negative(start: RowStart) -> bool
+    ensures { result ≡ is_below start }
+{
+    match start {
+        RowStart::Below(_) => true,
+        RowStart::Within(_) | RowStart::Above(_) => false,
+    }
+}
+
+// Whether the artificials are the negatives of the logicals.
+fn turns(alloc: Global, starts: &[RowStart]) -> Result<Vec<bool>, AllocError>
+    ensures { IfOk result (λ v. v.items ≡ map is_below starts.now) }
+{
+    let mut turns = Vec::new(alloc);
+    for start in starts {
+        turns.push(is_negative(*start))?;
+    }
+    Ok(turns)
+}
+
+// The rows of the tableau.
+pub(crate) fn rows(alloc: Global, form: &Form, starts: &[RowStart]) -> Result<Twins, AllocError>
+    requires { length starts.now ≡ form.now.rows }
+    ensures { IfOk result (λ rows. rows ≡ made form.now.rows (plain.start_row form.now starts.now)) }
+{
+    let (first, others) = (form.cols(), form.rows());
+    let block = block(alloc, form, starts)?;
+    let grid = Grid::from_block(others as usize, front(form) as usize, block);
+    Ok(Twins::from_grid(first, others, grid, turns(alloc, starts)?))
 }
 
 fn basics(alloc: Global, form: &Form, starts: &[RowStart]) -> Result<Vec<u32>, AllocError>
@@ -318,7 +359,7 @@ fn statuses(alloc: Global, form: &Form, starts: &[RowStart]) -> Result<Vec<Statu
     Ok(statuses)
 }
 
-fn lowers(alloc: Global, form: &Form) -> Result<Vec<Option<Frac>>, AllocError>
+pub(crate) fn lowers(alloc: Global, form: &Form) -> Result<Vec<Option<Frac>>, AllocError>
     ensures { IfOk result (λ v. v.items ≡ form.now.lower ++ replicate form.now.rows (Some 0ℚ)) }
 {
     let mut lowers = Vec::from_slice(alloc, form.lowers())?;
@@ -338,7 +379,7 @@ fn uppers(alloc: Global, form: &Form, starts: &[RowStart]) -> Result<Vec<Option<
     Ok(uppers)
 }
 
-fn zeros(alloc: Global, n: usize) -> Result<Vec<Frac>, AllocError>
+pub(crate) fn zeros(alloc: Global, n: usize) -> Result<Vec<Frac>, AllocError>
     ensures { IfOk result (λ v. v.items ≡ replicate n 0ℚ) }
 {
     let zeros = Vec::from_elem(alloc, zero(), n)?;
@@ -361,12 +402,11 @@ fn begun(alloc: Global, form: &Form, starts: &[RowStart]) -> Result<Tableau, All
     requires { length starts.now ≡ form.now.rows }
     ensures { IfOk result (λ t. t ≡ plain.begun form.now starts.now) }
 {
-    let (rows, width) = (form.rows(), width(form) as usize);
-    let grid = Grid::from_block(rows as usize, width, block(alloc, form, starts)?);
+    let (height, width) = (form.rows(), width(form) as usize);
     Ok(Tableau {
-        rows,
+        rows: height,
         cols: form.cols(),
-        grid,
+        grid: rows(alloc, form, starts)?,
         basic: basics(alloc, form, starts)?,
         value: values(alloc, form, starts)?,
         reduced: zeros(alloc, width)?,

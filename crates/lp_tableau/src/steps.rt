@@ -6,7 +6,7 @@ ghost use Rattle.spec_simplex.specs.Tableau.{or_zero as or_zero_of, stand as sta
 ghost use Rattle.lp_frac.specs.Narrow.{largest};
 
 use lp_form::Status;
-use lp_frac::{Frac, Past, add, mul, sub, zero};
+use lp_frac::{Frac, Past, add, mul, zero};
 
 // `v * w` onto `s`.
 pub(crate) fn plus_product(v: Frac, w: Frac, s: Frac) -> Result<Frac, Past>
@@ -20,8 +20,7 @@ pub(crate) fn plus_product(v: Frac, w: Frac, s: Frac) -> Result<Frac, Past>
 pub(crate) fn less_product(v: Frac, w: Frac, s: Frac) -> Result<Frac, Past>
     ensures { result ≡ run.less_product (Some largest) v w s }
 {
-    let product = mul(v, w)?;
-    sub(s, product)
+    lp_frac::less_product(v, w, s)
 }
 
 pub(crate) fn or_zero(bound: Option<Frac>) -> Frac

@@ -2,7 +2,7 @@
 ghost use Rattle.std.specs.Prelude.{◌≡◌, ◌<◌, ◌≤◌};
 ghost use Rattle.spec_simplex.specs.Tableau.{IsTableauShape, all_columns, entry_at, basic_at, value_at, reduced_at, status_at, lower_at, upper_at};
 
-use crate::grid::Grid;
+use crate::twins::Twins;
 use lp_form::Status;
 use lp_frac::Frac;
 use std::marker::Model;
@@ -15,7 +15,7 @@ use std::marker::Model;
 pub struct Tableau {
     pub(crate) rows: u32,
     pub(crate) cols: u32,
-    pub(crate) grid: Grid,
+    pub(crate) grid: Twins,
     pub(crate) basic: Vec<u32>,
     pub(crate) value: Vec<Frac>,
     pub(crate) reduced: Vec<Frac>,

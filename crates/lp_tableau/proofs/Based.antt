@@ -1,0 +1,166 @@
+-- The tableau of a basis, from its parts.
+use Rattle.std.proofs.Common.{◌≡◌, ℕ, zero, suc, ◌+◌, ◌<◌, List, ◌++◌, [], ◌∷◌, length, take, get_or, replicate, IfSome, Option, Some, None, Result, Ok, Err, false, cond, refl, sym, ap, ap₂, ◌∙◌, arith}
+use Rattle.std.specs.Prelude.{slice_set}
+use Rattle.std.proofs.Math.Seq.{take-append_seam}
+use Rattle.std.proofs.lemmas.List.{length-append, length-replicate}
+use Rattle.std.proofs.lemmas.List.Elements.{All-get_or}
+use Rattle.spec_exact.specs.Fraction.{ℚ, 0ℚ}
+use Rattle.spec_exact.specs.declared.past.Past.{Past}
+use Rattle.spec_pivot.specs.declared.status.Status.{Status}
+use Rattle.spec_pivot.specs.declared.status.Status.TheVariants.{AtLower}
+use Rattle.spec_simplex.specs.declared.ends.RowStart.{RowStart}
+use Rattle.spec_simplex.specs.declared.ends.RowStart.TheVariants.{Within}
+use Rattle.spec_simplex.specs.Form.{Form, IsForm}
+use Rattle.spec_simplex.specs.Run.{Run, ◌>>=◌, refused_as, less_product, steps, made}
+use Rattle.spec_simplex.specs.Start.{start_entry, start_at, start_row, priced_run, with_reduced}
+use Rattle.spec_simplex.specs.Tableau.{Tableau, IsTableauShape, all_columns, entry_at, basic_at, value_at, status_at}
+use Rattle.spec_simplex.proofs.Stops.{steps_stop, length-made, All-made}
+use Rattle.spec_simplex.specs.Tableau.{is_basic}
+use Rattle.spec_simplex.specs.declared.ends.StartStop.{StartStop}
+use Rattle.spec_simplex.specs.declared.ends.StartStop.TheVariants as start
+use Rattle.spec_simplex.specs.Eliminate.{Elimination, equation, or_first, basis_status, basis_lower, basis_upper, basis_value, with_basis, eliminate_run, position_run, valued_run, with_values, filled_run, start_from}
+use Rattle.lp_tableau.specs.declared.ends.BasisStop.{BasisStop}
+use Rattle.lp_tableau.specs.declared.ends.BasisStop.TheVariants as stop
+use Rattle.lp_tableau.specs.Grid.{IsGrid}
+use Rattle.lp_tableau.specs.Based.{AreInside, StopsAt, stand_in}
+
+-- ---- the equations are rows that begin within their limits
+made_same : {A : Type 0} (n : ℕ) (f g : ℕ → A) → ((i : ℕ) → f i ≡ g i) → made n f ≡ made n g
+made_same zero f g h = refl
+made_same (suc n) f g h = ap₂ (λ xs x. xs ++ x ∷ []) (made_same n f g h) (h n)
+
+all_within : (m i : ℕ) → get_or (replicate m (Within 0ℚ)) i (Within 0ℚ) ≡ Within 0ℚ
+all_within zero i = refl
+all_within (suc m) zero = refl
+all_within (suc m) (suc i) = all_within m i
+
+pub equations_are : (f : Form) (m : ℕ) (starts : List (RowStart ℚ)) → starts ≡ replicate m (Within 0ℚ) → made f.rows (start_row f starts) ≡ made f.rows (equation f)
+equations_are f m starts e =
+    made_same f.rows (start_row f starts) (equation f)
+    (λ i. ap (λ s. made (f.cols + f.rows + f.rows) (start_entry f s i)) (ap (λ starts. start_at starts i) e ∙ all_within m i))
+
+-- ---- the parts
+abbrev width_of : Form → ℕ
+width_of f = f.cols + f.rows + f.rows
+
+more_by : {A : Type 0} (xs : List A) (n m : ℕ) (x : A) → length xs ≡ n → length (xs ++ replicate m x) ≡ n + m
+more_by xs n m x e = omega (arith, length-append xs (replicate m x), length-replicate m x, e)
+
+module _ (f : Form) (basis : List Status) (e : Elimination) (kept : IsForm f) (all : length basis ≡ f.cols + f.rows) (places : length e.basic ≡ f.rows) where
+  pub statuses_length : length (basis_status f basis) ≡ width_of f
+  statuses_length = more_by basis (f.cols + f.rows) f.rows AtLower all
+
+  pub lowers_length : length (basis_lower f) ≡ width_of f
+  lowers_length = more_by f.lower (f.cols + f.rows) f.rows (Some 0ℚ) kept.all_lower
+
+  pub uppers_length : length (basis_upper f) ≡ width_of f
+  uppers_length = more_by f.upper (f.cols + f.rows) f.rows (Some 0ℚ) kept.all_upper
+
+  first_inside : (o : Option ℕ) → 0 < width_of f → IfSome o (λ k. k < width_of f) → or_first o < width_of f
+  first_inside None l h = l
+  first_inside (Some k) l h = h
+
+  pub based_shape : IsGrid f.rows (width_of f) e.rows → AreInside (width_of f) e.basic → IsTableauShape (with_basis f basis e)
+  based_shape g inside = record {
+    few_rows = kept.few_rows;
+    few_columns = kept.few_columns;
+    all_rows = g.height;
+    whole_rows = g.width;
+    all_basic = length-made f.rows (λ i. or_first (get_or e.basic i None));
+    in_range = All-made (λ k. k < width_of f) f.rows (λ i. or_first (get_or e.basic i None))
+        (λ i l. first_inside (get_or e.basic i None) (omega (arith, l)) (All-get_or (λ (o : Option ℕ). IfSome o (λ k. k < width_of f)) e.basic i None (omega (arith, l, places)) inside));
+    all_values = length-made (width_of f) (basis_value f basis);
+    all_reduced = length-replicate (width_of f) 0ℚ;
+    all_statuses = statuses_length;
+    all_lower = lowers_length;
+    all_upper = uppers_length;
+  }
+
+  values_are : (status : List Status) (lower upper : List (Option ℚ)) (value : List ℚ) → status ≡ basis_status f basis → lower ≡ basis_lower f → upper ≡ basis_upper f
+      → value ≡ made (length status) (stand_in status lower upper) → value ≡ made (width_of f) (basis_value f basis)
+  values_are status lower upper value s l u v =
+      v ∙ ap₂ (λ n g. made n g) (ap length s ∙ statuses_length) (ap (λ status. stand_in status lower upper) s ∙ ap₂ (λ lower upper. stand_in (basis_status f basis) lower upper) l u)
+
+  abbrev table : ℕ → ℕ → List ℕ → List ℚ → List ℚ → List Status → List (Option ℚ) → List (Option ℚ) → Tableau
+  table rows cols basic value reduced status lower upper = record { rows = rows; cols = cols; entries = e.rows; basic = basic; value = value; reduced = reduced; status = status; lower = lower; upper = upper }
+
+  pub based_is : (rows cols : ℕ) (basic : List ℕ) (value reduced : List ℚ) (status : List Status) (lower upper : List (Option ℚ))
+      → rows ≡ f.rows → cols ≡ f.cols → basic ≡ made (length e.basic) (λ i. or_first (get_or e.basic i None)) → value ≡ made (length status) (stand_in status lower upper) → reduced ≡ replicate (width_of f) 0ℚ
+      → status ≡ basis_status f basis → lower ≡ basis_lower f → upper ≡ basis_upper f → table rows cols basic value reduced status lower upper ≡ with_basis f basis e
+  based_is rows cols basic value reduced status lower upper r c b v d s l u =
+      let w = values_are status lower upper value s l u v in
+      let a = b ∙ ap (λ n. made n (λ i. or_first (get_or e.basic i None))) places in
+      rw (r, c, a, w, d, s, l, u) refl
+
+-- ---- the values of the basic columns
+module _ (limit : Option ℕ) (t : Tableau) where
+  abbrev part : ℕ → ℕ → ℚ → Run ℚ
+  part i k v = cond (is_basic (status_at t k)) (Ok v) (less_product limit (entry_at t i k) (value_at t k) v)
+
+  pub position_stops : (i k : ℕ) (v : ℚ) (e : Past ℚ) → k < all_columns t → steps k (part i) 0ℚ ≡ Ok v → is_basic (status_at t k) ≡ false
+      → less_product limit (entry_at t i k) (value_at t k) v ≡ Err e → position_run limit t i ≡ Err e
+  position_stops i k v e l s n h =
+      steps_stop k (all_columns t) (part i) 0ℚ v e l s (ap (λ b. cond b (Ok v) (less_product limit (entry_at t i k) (value_at t k) v)) n ∙ h)
+
+  abbrev fill_at : ℕ → List ℚ → Run (List ℚ)
+  fill_at i values = position_run limit t i >>= λ v. Ok (slice_set values (basic_at t i) v)
+
+  pub values_refused : (i : ℕ) (values : List ℚ) (e : Past ℚ) → i < t.rows → steps i fill_at t.value ≡ Ok values → position_run limit t i ≡ Err e → valued_run limit t ≡ Err e
+  unfolding valued_run
+  values_refused i values e l s h = steps_stop i t.rows fill_at t.value values e l s (ap (λ o. o >>= λ v. Ok (slice_set values (basic_at t i) v)) h)
+
+  pub values_filled : (i : ℕ) (values : List ℚ) → i ≡ t.rows → steps i fill_at t.value ≡ Ok values → valued_run limit t ≡ Ok values
+  unfolding valued_run
+  values_filled i values e s = ap (λ n. steps n fill_at t.value) (sym e) ∙ s
+
+-- ---- the whole
+-- a list that was lent whole, and what is behind it
+pub written_back : (n : ℕ) (new front rest now : List (Option ℕ)) (m : ℕ) → now ≡ take n (new ++ rest) → front ≡ replicate m None → length front ≡ n → length new ≡ m → now ≡ new
+written_back n new front rest now m e f l k =
+    let z : n ≡ length new = omega (arith, l, ap length f, length-replicate {A = Option ℕ} m None, k) in
+    e ∙ ap (λ i. take i (new ++ rest)) z ∙ take-append_seam new rest
+
+module _ (limit : Option ℕ) (f : Form) (basis : List Status) where
+  abbrev after_rows : Result Elimination (StartStop ℚ) → Result Tableau (StartStop ℚ)
+  after_rows o = o >>= λ e. refused_as start.Past (filled_run limit f (with_basis f basis e))
+
+  pub rows_stop : (s : BasisStop) → StopsAt (eliminate_run limit f basis) s → StopsAt (start_from limit f basis) s
+  unfolding start_from
+  rows_stop stop.Singular h = ap after_rows h
+  rows_stop (stop.Past p) h = ap after_rows h
+  rows_stop stop.NoMemory h = tt
+
+  module _ (e : Elimination) (t : Tableau) (r : eliminate_run limit f basis ≡ Ok e) (b : t ≡ with_basis f basis e) where
+    from_rows : start_from limit f basis ≡ refused_as start.Past (filled_run limit f t)
+    unfolding start_from
+    from_rows = ap after_rows r ∙ ap (λ t. refused_as start.Past (filled_run limit f t)) (sym b)
+
+    abbrev after_values : Run (List ℚ) → Run Tableau
+    after_values o = o >>= λ values. priced_run limit t f.cost >>= λ reduced. Ok (with_reduced (with_values t values) reduced)
+
+    by_values : (o : Run (List ℚ)) (s : BasisStop) → valued_run limit t ≡ o → StopsAt (refused_as start.Past o) s → StopsAt (start_from limit f basis) s
+    by_values (Ok values) stop.Singular g h = let z : ◌≡◌ {A = Result (List ℚ) (StartStop ℚ)} (Ok values) (Err start.Singular) = h in cc
+    by_values (Ok values) (stop.Past p) g h = let z : ◌≡◌ {A = Result (List ℚ) (StartStop ℚ)} (Ok values) (Err (start.Past p)) = h in cc
+    by_values (Err x) stop.Singular g h = let z : ◌≡◌ {A = Result (List ℚ) (StartStop ℚ)} (Err (start.Past x)) (Err start.Singular) = h in cc
+    by_values (Err x) (stop.Past p) g h =
+        let z : ◌≡◌ {A = Result Tableau (StartStop ℚ)} (Err (start.Past x)) (Err (start.Past p)) = (let y : ◌≡◌ {A = Result (List ℚ) (StartStop ℚ)} (Err (start.Past x)) (Err (start.Past p)) = h in cc) in
+        from_rows ∙ ap (λ o. refused_as start.Past (after_values o)) g ∙ z
+    by_values o stop.NoMemory g h = tt
+
+    pub values_stop : (s : BasisStop) → StopsAt (refused_as start.Past (valued_run limit t)) s → StopsAt (start_from limit f basis) s
+    values_stop s h = by_values (valued_run limit t) s refl h
+
+    module _ (values costs : List ℚ) (v : valued_run limit t ≡ Ok values) (c : costs ≡ f.cost) where
+      from_values : start_from limit f basis ≡ refused_as start.Past (priced_run limit t costs >>= λ reduced. Ok (with_reduced (with_values t values) reduced))
+      from_values =
+          from_rows ∙ ap (λ o. refused_as start.Past (after_values o)) v
+          ∙ ap (λ costs. refused_as start.Past (priced_run limit t costs >>= λ reduced. Ok (with_reduced (with_values t values) reduced))) (sym c)
+
+      abbrev last : Run (List ℚ) → Result Tableau (StartStop ℚ)
+      last o = refused_as start.Past (o >>= λ reduced. Ok (with_reduced (with_values t values) reduced))
+
+      pub price_stop : (p : Past ℚ) → priced_run limit t costs ≡ Err p → start_from limit f basis ≡ Err (start.Past p)
+      price_stop p h = from_values ∙ ap last h
+
+      pub based : (x u : Tableau) → priced_run limit t costs ≡ Ok x.reduced → x ≡ with_reduced t x.reduced → u ≡ with_values x values → start_from limit f basis ≡ Ok u
+      based x u h k w = from_values ∙ ap last h ∙ ap Ok (sym (w ∙ ap (λ x. with_values x values) k))

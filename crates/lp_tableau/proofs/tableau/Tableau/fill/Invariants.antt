@@ -1,0 +1,12 @@
+-- The loop over the positions.
+use Rattle.std.proofs.Common.{◌≡◌, Some, Ok}
+use Rattle.std.specs.Prelude.{slice_set}
+use Rattle.spec_simplex.specs.Run.{◌>>=◌, steps}
+use Rattle.spec_simplex.specs.Tableau.{basic_at}
+use Rattle.spec_simplex.specs.Eliminate.{position_run}
+use Rattle.lp_frac.specs.Narrow.{largest}
+use Rattle.lp_tableau.proofs.tableau.Tableau.fill.Given as goal
+
+-- the positions so far have their values
+abbrev pub invariant-loop-i : goal.invariant-loop-i
+invariant-loop-i l = steps l.i (λ i values. position_run (Some largest) l.self i >>= λ v. Ok (slice_set values (basic_at l.self i) v)) l.self.value ≡ Ok l.values

@@ -1,0 +1,35 @@
+-- The tableau of a basis: what its parts answer, by the definitions at the limit of 127 bits.
+use Rattle.std.specs.Prelude.{◌≡◌, ◌≢◌, ⊤, ℕ, ◌<◌, List, get_or, Option, None, IfSome, All, Result, Ok, Err}
+use Rattle.spec_exact.specs.Fraction.{ℚ, 0ℚ}
+use Rattle.spec_pivot.specs.declared.status.Status.{Status}
+use Rattle.spec_pivot.specs.declared.status.Status.TheVariants.{Basic}
+use Rattle.spec_simplex.specs.Tableau.{at_place, stand}
+use Rattle.spec_simplex.specs.declared.ends.StartStop.{StartStop}
+use Rattle.spec_simplex.specs.declared.ends.StartStop.TheVariants as start
+use Rattle.spec_simplex.specs.Eliminate.{Elimination}
+use Rattle.lp_tableau.specs.declared.ends.BasisStop.{BasisStop}
+use Rattle.lp_tableau.specs.declared.ends.BasisStop.TheVariants as stop
+
+-- the run stops so, or memory was wanting
+abbrev pub StopsAt : {A : Type 0} → Result A (StartStop ℚ) → BasisStop → Type 0
+StopsAt run stop.Singular = run ≡ Err start.Singular
+StopsAt run (stop.Past p) = run ≡ Err (start.Past p)
+StopsAt run stop.NoMemory = ⊤
+
+-- the elimination gives these rows and columns, or stops so
+abbrev pub Solves : Result Elimination (StartStop ℚ) → List (List ℚ) → List (Option ℕ) → Result ⊤ BasisStop → Type 0
+Solves run rows basic (Ok u) = run ≡ Ok (record { rows = rows; basic = basic })
+Solves run rows basic (Err s) = StopsAt run s
+
+-- position p is one of m, and its entry in column j is not 0
+pub record IsOpenAt (m : ℕ) (rows : List (List ℚ)) (j p : ℕ) : Type 0 where
+  pub inside : p < m
+  pub entry : at_place rows p j ≢ 0ℚ
+
+-- each column that has a position is one of n
+abbrev pub AreInside : ℕ → List (Option ℕ) → Type 0
+AreInside n basic = All (λ o. IfSome o (λ k. k < n)) basic
+
+-- where column k stands, by lists of statuses and bounds
+abbrev pub stand_in : List Status → List (Option ℚ) → List (Option ℚ) → ℕ → ℚ
+stand_in status lower upper k = stand (get_or status k Basic) (get_or lower k None) (get_or upper k None)

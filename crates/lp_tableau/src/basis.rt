@@ -1,0 +1,196 @@
+// The tableau of a basis.
+ghost use Rattle.std.specs.Prelude.{◌≡◌, ◌<◌, ◌+◌, ◌++◌, IfOk, IfErr, Ok, Some, None, length, get_or, replicate};
+ghost use Rattle.spec_exact.specs.Fraction.{0ℚ};
+ghost use Rattle.spec_pivot.specs.declared.status.Status.TheVariants.{AtLower};
+ghost use Rattle.spec_simplex.specs.Run.{made, refused_as};
+ghost use Rattle.spec_simplex.specs.Tableau.{all_columns};
+ghost use Rattle.spec_simplex.specs.declared.ends.StartStop.TheVariants as start;
+ghost use Rattle.spec_simplex.specs.Eliminate as warm;
+ghost use Rattle.lp_frac.specs.Narrow.{largest};
+ghost use Rattle.lp_tableau.specs.Answer.{Gives};
+ghost use Rattle.lp_tableau.specs.Grid.{IsGrid};
+ghost use Rattle.lp_tableau.specs.Based.{AreInside, StopsAt, stand_in};
+
+use crate::ends::BasisStop;
+use crate::solve::{eliminate, is_basic};
+use crate::start::{lowers, rows, width, zeros};
+use crate::steps::{less_product, stand};
+use crate::tableau::Tableau;
+use crate::twins::Twins;
+use lp_form::{Basis, Form, Status};
+use lp_frac::{Frac, Past, zero};
+use std::alloc::{AllocError, Global};
+
+// The form's equations, in which each artificial has the sign of its logical.
+fn equations(alloc: Global, form: &Form) -> Result<Twins, AllocError>
+    ensures { IfOk result (λ rows. rows ≡ (warm.unsolved form.now).rows) }
+{
+    let starts = Vec::from_elem(
+        alloc,
+        spec_simplex::RowStart::Within(zero()),
+        form.rows() as usize,
+    )?;
+    rows(alloc, form, &starts)
+}
+
+fn no_columns(alloc: Global, form: &Form) -> Result<Vec<Option<u32>>, AllocError>
+    ensures { IfOk result (λ v. v.items ≡ (warm.unsolved form.now).basic) }
+{
+    let none = Vec::from_elem(alloc, None, form.rows() as usize)?;
+    Ok(none)
+}
+
+fn or_first(column: Option<u32>) -> u32
+    ensures { result ≡ warm.or_first column }
+{
+    match column {
+        Some(k) => k,
+        None => 0,
+    }
+}
+
+// The column of each position.
+fn columns(alloc: Global, basic: &[Option<u32>]) -> Result<Vec<u32>, AllocError>
+    ensures { IfOk result (λ v. v.items ≡ made (length basic.now) (λ i. warm.or_first (get_or basic.now i None))) }
+{
+    let mut columns = Vec::new(alloc);
+    for i in 0..basic.len() {
+        columns.push(or_first(basic[i]))?;
+    }
+    Ok(columns)
+}
+
+fn statuses(alloc: Global, form: &Form, basis: &Basis) -> Result<Vec<Status>, AllocError>
+    ensures { IfOk result (λ v. v.items ≡ warm.basis_status form.now basis.now) }
+{
+    let mut statuses = Vec::from_slice(alloc, basis.as_slice())?;
+    for _ in 0..form.rows() {
+        statuses.push(Status::AtLower)?;
+    }
+    Ok(statuses)
+}
+
+fn uppers(alloc: Global, form: &Form) -> Result<Vec<Option<Frac>>, AllocError>
+    ensures { IfOk result (λ v. v.items ≡ warm.basis_upper form.now) }
+{
+    let mut uppers = Vec::from_slice(alloc, form.uppers())?;
+    for _ in 0..form.rows() {
+        uppers.push(Some(zero()))?;
+    }
+    Ok(uppers)
+}
+
+// Where each column stands that is not basic.
+fn values(
+    alloc: Global,
+    status: &[Status],
+    lower: &[Option<Frac>],
+    upper: &[Option<Frac>],
+) -> Result<Vec<Frac>, AllocError>
+    requires lower { length lower.now ≡ length status.now }
+    requires upper { length upper.now ≡ length status.now }
+    ensures { IfOk result (λ v. v.items ≡ made (length status.now) (stand_in status.now lower.now upper.now)) }
+{
+    let mut values = Vec::new(alloc);
+    for k in 0..status.len() {
+        values.push(stand(status[k], lower[k], upper[k]))?;
+    }
+    Ok(values)
+}
+
+// The tableau of these rows without the values of basic columns and without reduced costs.
+fn begun(
+    alloc: Global,
+    form: &Form,
+    basis: &Basis,
+    grid: Twins,
+    basic: &[Option<u32>],
+) -> Result<Tableau, AllocError>
+    requires statuses { length basis.now ≡ form.now.cols + form.now.rows }
+    requires shape { IsGrid form.now.rows (form.now.cols + form.now.rows + form.now.rows) grid }
+    requires places { length basic.now ≡ form.now.rows }
+    requires inside { AreInside (form.now.cols + form.now.rows + form.now.rows) basic.now }
+    ensures { IfOk result (λ t. t ≡ warm.with_basis form.now basis.now (record { rows = grid; basic = basic.now })) }
+{
+    let (height, cols) = (form.rows(), form.cols());
+    let status = statuses(alloc, form, basis)?;
+    let (lower, upper) = (lowers(alloc, form)?, uppers(alloc, form)?);
+    let value = values(alloc, &status, &lower, &upper)?;
+    Ok(Tableau {
+        rows: height,
+        cols,
+        grid,
+        basic: columns(alloc, basic)?,
+        value,
+        reduced: zeros(alloc, width(form) as usize)?,
+        status,
+        lower,
+        upper,
+    })
+}
+
+impl Tableau {
+    // The value of the basic column at position `i`.
+    fn position(&self, i: u32) -> Result<Frac, Past>
+        requires { i < self.now.rows }
+        ensures { result ≡ warm.position_run (Some largest) self.now i }
+    {
+        let mut value = zero();
+        for k in 0..self.width() {
+            if !is_basic(self.status(k)) {
+                value = less_product(self.entry(i, k), self.value(k), value)?;
+            }
+        }
+        Ok(value)
+    }
+
+    // The values of all columns, where `values` begins as what the tableau has.
+    fn fill(&self, values: &mut [Frac]) -> Result<(), Past>
+        requires begun { values.old ≡ self.now.value }
+        requires len { length values.old ≡ all_columns self.now }
+        ensures filled { Gives (warm.valued_run (Some largest) self.now) values.new result }
+        ensures len { length values.new ≡ length values.old }
+    {
+        for i in 0..self.rows() {
+            let value = self.position(i)?;
+            values[self.basic(i) as usize] = value;
+        }
+        Ok(())
+    }
+
+    // The same in a list of its own.
+    fn valued(&self, alloc: Global) -> Result<Vec<Frac>, BasisStop>
+        ensures ok { IfOk result (λ v. warm.valued_run (Some largest) self.now ≡ Ok v.items) }
+        ensures len { IfOk result (λ v. length v.items ≡ all_columns self.now) }
+        ensures err { IfErr result (StopsAt (refused_as start.Past (warm.valued_run (Some largest) self.now))) }
+    {
+        let mut values = Vec::from_slice(alloc, &self.value)?;
+        self.fill(&mut values)?;
+        Ok(values)
+    }
+
+    fn set_values(&mut self, values: Vec<Frac>)
+        requires { length values.items ≡ all_columns self.old }
+        ensures { self.new ≡ warm.with_values self.old values.items }
+    {
+        self.value = values;
+    }
+}
+
+/// The tableau of a basis: the form's equations solved for the basic columns, one after the other, each
+/// in the least position that is left and where its entry is not 0; then the values of these columns and
+/// the reduced costs for the form's costs. A basis is singular where a column has no such position.
+pub fn start_from(alloc: Global, form: &Form, basis: &Basis) -> Result<Tableau, BasisStop>
+    requires { length basis.now ≡ form.now.cols + form.now.rows }
+    ensures ok { IfOk result (λ t. warm.start_from (Some largest) form.now basis.now ≡ Ok t) }
+    ensures err { IfErr result (StopsAt (warm.start_from (Some largest) form.now basis.now)) }
+{
+    let mut grid = equations(alloc, form)?;
+    let mut basic = no_columns(alloc, form)?;
+    eliminate(&mut grid, &mut basic, form, basis)?;
+    let mut tab = begun(alloc, form, basis, grid, &basic)?;
+    let values = tab.valued(alloc)?;
+    tab.price(form.costs())?;
+    tab.set_values(values);
+    Ok(tab)
+}

@@ -1,0 +1,192 @@
+// The rows of a pivot, without the columns that are twins of others.
+ghost use Rattle.std.specs.Prelude.{◌≡◌, ◌≢◌, ◌<◌, ◌≤◌, ◌+◌, [], Some, length, get_or, take};
+ghost use Rattle.spec_exact.specs.Fraction.{0ℚ};
+ghost use Rattle.spec_simplex.specs.Tableau.{at_place};
+ghost use Rattle.spec_simplex.specs.Step.{scaled_run, cleared_run, turned_run};
+ghost use Rattle.lp_frac.specs.Narrow.{largest};
+ghost use Rattle.lp_tableau.specs.Answer.{Gives};
+ghost use Rattle.lp_tableau.specs.Grid.{IsGrid, IsListed};
+ghost use Rattle.lp_tableau.specs.Twins.{signed as signed_of, twinned, scaled_by, cleared_by};
+
+use crate::grid::Grid;
+use crate::steps::less_product;
+use lp_frac::{Frac, Past, div, is_zero, neg, within};
+
+// `v`, or its negative.
+fn signed(is_turned: bool, v: Frac) -> Frac
+    ensures { result ≡ signed_of is_turned v }
+{
+    if is_turned { neg(v) } else { v }
+}
+
+// What stands in row `i` at column `k`, which may be a twin.
+pub(crate) fn item(
+    grid: &Grid,
+    first: u32,
+    others: u32,
+    turned: &[bool],
+    i: usize,
+    k: usize,
+) -> Frac
+    requires shape { IsGrid others (first + others) grid.now }
+    requires few { first + others ≤ 1024 }
+    requires twins { length turned.now ≡ others }
+    requires row { i < others }
+    requires column { k < first + others + others }
+    ensures { result ≡ at_place (twinned first turned.now grid.now) i k }
+{
+    let width = (first + others) as usize;
+    if k < width {
+        return grid.at(i, k);
+    }
+    let r = k - width;
+    signed(turned[r], grid.at(i, first as usize + r))
+}
+
+// Row `p` over a number.
+fn scale(grid: &mut Grid, height: u32, width: u32, p: u32, by: Frac) -> Result<(), Past>
+    requires shape { IsGrid height width grid.old }
+    requires place { p < height }
+    requires divisor { by ≢ 0ℚ }
+    ensures rows { Gives (scaled_by (Some largest) width grid.old p by) grid.new result }
+    ensures shape { IsGrid height width grid.new }
+{
+    for k in 0..width {
+        let entry = div(grid.at(p as usize, k as usize), by)?;
+        grid.set(p as usize, k as usize, entry);
+    }
+    Ok(())
+}
+
+// Lists the columns in which row `p` is not 0 at the front of `spots`; how many they are.
+fn list(spots: &mut [u32], grid: &Grid, height: u32, width: u32, p: u32) -> usize
+    requires shape { IsGrid height width grid.now }
+    requires place { p < height }
+    requires room { width ≤ length spots.old }
+    ensures inside { result ≤ length spots.new }
+    ensures listed { IsListed (get_or grid.now p []) width (take result spots.new) }
+{
+    let mut count = 0;
+    for k in 0..width {
+        if is_zero(grid.at(p as usize, k as usize)) {
+            continue;
+        }
+        spots[count] = k;
+        count += 1;
+    }
+    count
+}
+
+// Row `i` less row `p`, so many times. Row `p` is 0 but in the columns of `spots`.
+fn clear(
+    grid: &mut Grid,
+    height: u32,
+    width: u32,
+    p: u32,
+    times: Frac,
+    i: u32,
+    spots: &[u32],
+) -> Result<(), Past>
+    requires shape { IsGrid height width grid.old }
+    requires place { p < height }
+    requires row { i < height }
+    requires other { i ≢ p }
+    requires listed { IsListed (get_or grid.old p []) width spots.now }
+    ensures rows { Gives (cleared_by (Some largest) width p times i grid.old) grid.new result }
+    ensures shape { IsGrid height width grid.new }
+    ensures rest { get_or grid.new p [] ≡ get_or grid.old p [] }
+{
+    grid.narrow();
+    within(times);
+    if is_zero(times) {
+        return Ok(());
+    }
+    for spot in spots {
+        let k = *spot;
+        let entry = less_product(
+            times,
+            grid.at(p as usize, k as usize),
+            grid.at(i as usize, k as usize),
+        )?;
+        grid.set(i as usize, k as usize, entry);
+    }
+    Ok(())
+}
+
+// Row `p` over its entry in column `j`.
+fn scale_twins(
+    grid: &mut Grid,
+    first: u32,
+    others: u32,
+    turned: &[bool],
+    p: u32,
+    j: u32,
+) -> Result<(), Past>
+    requires shape { IsGrid others (first + others) grid.old }
+    requires few { first + others ≤ 1024 }
+    requires twins { length turned.now ≡ others }
+    requires place { p < others }
+    requires column { j < first + others + others }
+    requires entry { at_place (twinned first turned.now grid.old) p j ≢ 0ℚ }
+    ensures rows { Gives (scaled_run (Some largest) (first + others + others) (twinned first turned.now grid.old) p j) (twinned first turned.now grid.new) result }
+    ensures shape { IsGrid others (first + others) grid.new }
+{
+    let by = item(grid, first, others, turned, p as usize, j as usize);
+    scale(grid, others, first + others, p, by)
+}
+
+// Row `i` less row `p`, as often as makes its entry in column `j` 0.
+fn clear_twins(
+    grid: &mut Grid,
+    first: u32,
+    others: u32,
+    turned: &[bool],
+    p: u32,
+    j: u32,
+    i: u32,
+    spots: &[u32],
+) -> Result<(), Past>
+    requires shape { IsGrid others (first + others) grid.old }
+    requires few { first + others ≤ 1024 }
+    requires twins { length turned.now ≡ others }
+    requires place { p < others }
+    requires column { j < first + others + others }
+    requires row { i < others }
+    requires other { i ≢ p }
+    requires listed { IsListed (get_or grid.old p []) (first + others) spots.now }
+    ensures rows { Gives (cleared_run (Some largest) (first + others + others) p j i (twinned first turned.now grid.old)) (twinned first turned.now grid.new) result }
+    ensures shape { IsGrid others (first + others) grid.new }
+    ensures rest { get_or grid.new p [] ≡ get_or grid.old p [] }
+{
+    let times = item(grid, first, others, turned, i as usize, j as usize);
+    clear(grid, others, first + others, p, times, i, spots)
+}
+
+// All rows, so that column `j` has 1 in row `p` and 0 in the others.
+pub(crate) fn turn(
+    grid: &mut Grid,
+    first: u32,
+    others: u32,
+    turned: &[bool],
+    p: u32,
+    j: u32,
+) -> Result<(), Past>
+    requires shape { IsGrid others (first + others) grid.old }
+    requires few { first + others ≤ 1024 }
+    requires twins { length turned.now ≡ others }
+    requires place { p < others }
+    requires column { j < first + others + others }
+    requires entry { at_place (twinned first turned.now grid.old) p j ≢ 0ℚ }
+    ensures rows { Gives (turned_run (Some largest) others (first + others + others) (twinned first turned.now grid.old) p j) (twinned first turned.now grid.new) result }
+    ensures shape { IsGrid others (first + others) grid.new }
+{
+    scale_twins(grid, first, others, turned, p, j)?;
+    let mut spots = [0; 1024];
+    let count = list(&mut spots, grid, others, first + others, p);
+    for i in 0..others {
+        if i != p {
+            clear_twins(grid, first, others, turned, p, j, i, &spots[..count])?;
+        }
+    }
+    Ok(())
+}

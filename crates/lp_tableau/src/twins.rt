@@ -1,0 +1,72 @@
+// The rows of a tableau without its artificial columns, each of which is its row's logical, or its
+// negative, all through: an operation on the one gives, up to the sign, what it gives on the other.
+ghost use Rattle.std.specs.Prelude.{◌≡◌, ◌≢◌, ◌<◌, ◌≤◌, ◌+◌, [], Some, length, get_or};
+ghost use Rattle.spec_exact.specs.Fraction.{0ℚ};
+ghost use Rattle.spec_simplex.specs.Tableau.{at_place};
+ghost use Rattle.spec_simplex.specs.Step.{turned_run};
+ghost use Rattle.lp_frac.specs.Narrow.{largest};
+ghost use Rattle.lp_tableau.specs.Answer.{Gives};
+ghost use Rattle.lp_tableau.specs.Grid.{IsGrid};
+ghost use Rattle.lp_tableau.specs.Twins.{IsTwinned, twinned};
+
+use crate::elimination::{item, turn};
+use crate::grid::Grid;
+use lp_frac::{Frac, Past};
+use std::marker::Model;
+
+#[derive(Drop)]
+pub(crate) struct Twins {
+    // How many columns have no twin, and how many have one.
+    first: u32,
+    others: u32,
+    grid: Grid,
+    // Whether the twin is the negative.
+    turned: Vec<bool>,
+}
+
+impl Model for Twins {
+    ghost use Rattle.std.specs.Prelude.{List};
+    ghost use Rattle.spec_exact.specs.Fraction.{ℚ};
+    ghost use Rattle.lp_tableau.specs.Twins.{IsTwinned, twinned};
+
+    ghost Value = { List (List ℚ) };
+
+    ghost view = { λ t. twinned t.first t.turned.items t.grid };
+
+    ghost invariant = { λ t. IsTwinned t.first t.others t.turned.items t.grid };
+}
+
+impl Twins {
+    pub(crate) fn from_grid(first: u32, others: u32, grid: Grid, turned: Vec<bool>) -> Twins
+        requires { IsTwinned first others turned.items grid }
+        ensures { result ≡ twinned first turned.items grid }
+    {
+        Twins {
+            first,
+            others,
+            grid,
+            turned,
+        }
+    }
+
+    // What stands in row `i` at column `k`.
+    pub(crate) fn at(&self, i: usize, k: usize) -> Frac
+        requires row { i < length self.now }
+        requires column { k < length (get_or self.now i []) }
+        ensures { result ≡ at_place self.now i k }
+    {
+        item(&self.grid, self.first, self.others, &self.turned, i, k)
+    }
+
+    // All rows, so that column `j` has 1 in row `p` and 0 in the others.
+    pub(crate) fn turn(&mut self, height: u32, width: u32, p: u32, j: u32) -> Result<(), Past>
+        requires shape { IsGrid height width self.old }
+        requires place { p < height }
+        requires column { j < width }
+        requires entry { at_place self.old p j ≢ 0ℚ }
+        ensures rows { Gives (turned_run (Some largest) height width self.old p j) self.new result }
+        ensures shape { IsGrid height width self.new }
+    {
+        turn(&mut self.grid, self.first, self.others, &self.turned, p, j)
+    }
+}
