@@ -1,0 +1,30 @@
+-- A refused choice, an end, a spent budget, a refused pivot, and the next step.
+use Rattle.std.proofs.Common.{sym, ap, ◌∙◌, subst, Some, Ok, arith}
+use Rattle.std.proofs.lemmas.Result.{err_from_is_err_and}
+use Rattle.lp_frac.specs.Narrow.{largest}
+use Rattle.lp_dual.specs.Starts.{CanTake}
+use Rattle.lp_dual.proofs.Seats.{pivot_seated}
+use Rattle.lp_dual.proofs.Walk.{run_refused, run_ends, run_spent, step_refused, step_done}
+use Rattle.lp_dual.proofs.steps.steps.Goals as goal
+
+pub returns-in_err-end : goal.returns-in_err-end
+returns-in_err-end c =
+    let p = err_from_is_err_and c.from_residual.result c.from_residual.ensures.1 in
+    rw (p.1, p.2) (c.loop-end.invariant.0 ∙ run_refused (Some largest) _ _ _ _ (sym c.in_err-end.ensures.value))
+
+pub returns-in-End : goal.returns-in-End
+returns-in-End c = c.loop-end.invariant.0 ∙ run_ends (Some largest) _ _ _ _ (sym c.in_ok-end.ensures.value ∙ ap Ok c.in-End.is)
+
+pub returns-then-used-budget : goal.returns-then-used-budget
+returns-then-used-budget c = c.loop-end.invariant.0 ∙ run_spent (Some largest) _ _ _ _ _ _ (sym c.in_ok-end.ensures.value ∙ ap Ok c.in-Pivot.is) (omega (arith, c.if-used-budget.true))
+
+pub returns-in_err-pivot-in-Pivot : goal.returns-in_err-pivot-in-Pivot
+returns-in_err-pivot-in-Pivot c =
+    let p = err_from_is_err_and c.from_residual-in_err-pivot-in-Pivot.result c.from_residual-in_err-pivot-in-Pivot.ensures.1 in
+    rw (p.1, p.2) (c.loop-end.invariant.0 ∙ step_refused (Some largest) _ _ _ _ _ _ (sym c.in_ok-end.ensures.value ∙ ap Ok c.in-Pivot.is) c.if-used-budget.false _ c.in_err-pivot-in-Pivot.ensures)
+
+pub loop-end-preserved : goal.loop-end-preserved
+loop-end-preserved c = (
+  c.loop-end.invariant.0 ∙ step_done (Some largest) _ _ _ _ _ _ (sym c.in_ok-end.ensures.value ∙ ap Ok c.in-Pivot.is) c.if-used-budget.false _ c.in_ok-pivot-in-Pivot.ensures,
+  pivot_seated (Some largest) c.loop-end.tab _ _ _ _ c.loop-end.invariant.1 (subst (CanTake c.loop-end.tab) c.in-Pivot.is c.in_ok-end.ensures.possible) c.in_ok-pivot-in-Pivot.ensures,
+)

@@ -1,0 +1,38 @@
+// Flips that give each reduced cost the sign that it needs.
+ghost use Rattle.std.specs.Prelude.{◌≡◌, OnOk, Some};
+ghost use Rattle.spec_simplex.specs.Step.{CanFlip};
+ghost use Rattle.spec_simplex.specs.Dual as dual;
+ghost use Rattle.lp_frac.specs.Narrow.{largest};
+ghost use Rattle.lp_dual.specs.Starts.{IsDualStart, IsSeated};
+ghost use Rattle.lp_dual.specs.Answer.{Reaches};
+
+use crate::needs::needs_flip_at;
+use lp_tableau::{Stop, Tableau};
+
+// Column `k` goes to its other bound, if the budget has a flip left.
+fn flip_next(tab: &mut Tableau, used: &mut u64, budget: u64, k: u32) -> Result<(), Stop>
+    requires { CanFlip tab.old k }
+    ensures { Reaches (dual.flip_next (Some largest) budget k (record { tableau = tab.old; used = used.old })) tab.new used.new result }
+{
+    if *used >= budget {
+        return Err(Stop::Spent);
+    }
+    tab.flip(k)?;
+    *used += 1;
+    Ok(())
+}
+
+// Each column that needs its other bound goes there, in order.
+pub(crate) fn flips(tab: &mut Tableau, used: &mut u64, budget: u64) -> Result<(), Stop>
+    requires none_used { used.old ≡ 0 }
+    requires ready { IsDualStart tab.old }
+    ensures flips { Reaches (dual.flips_run (Some largest) budget tab.old) tab.new used.new result }
+    ensures seated { OnOk result (IsSeated tab.new) }
+{
+    for k in 0..tab.width() {
+        if needs_flip_at(tab, k) {
+            flip_next(tab, used, budget, k)?;
+        }
+    }
+    Ok(())
+}

@@ -1,0 +1,109 @@
+// Which basic column is outside its bounds.
+ghost use Rattle.std.specs.Prelude.{◌≡◌, ◌<◌, Some};
+ghost use Rattle.spec_simplex.specs.Tableau.{all_columns};
+ghost use Rattle.spec_simplex.specs.Tableau.{is_basic as is_basic_of};
+ghost use Rattle.spec_simplex.specs.Fit as fit;
+ghost use Rattle.lp_frac.specs.Narrow.{largest};
+
+use lp_form::Status;
+use lp_frac::{Frac, Past, cmp};
+use lp_tableau::Tableau;
+use spec_simplex::Leaving;
+use std::cmp::Ordering;
+
+pub(crate) fn is_basic(status: Status) -> bool
+    ensures { result ≡ is_basic_of status }
+{
+    match status {
+        Status::Basic => true,
+        Status::AtLower | Status::AtUpper | Status::AtZero => false,
+    }
+}
+
+fn is_less(order: Ordering) -> bool
+    ensures { result ≡ fit.is_less order }
+{
+    match order {
+        Ordering::Less => true,
+        Ordering::Equal | Ordering::Greater => false,
+    }
+}
+
+fn is_greater(order: Ordering) -> bool
+    ensures { result ≡ fit.is_greater order }
+{
+    match order {
+        Ordering::Greater => true,
+        Ordering::Less | Ordering::Equal => false,
+    }
+}
+
+// Whether `v` is below the bound.
+fn below_lower(bound: Option<Frac>, v: Frac) -> Result<bool, Past>
+    ensures { result ≡ fit.below_lower (Some largest) bound v }
+{
+    match bound {
+        None => Ok(false),
+        Some(l) => Ok(is_less(cmp(v, l)?)),
+    }
+}
+
+// Whether `v` is above the bound.
+fn above_upper(bound: Option<Frac>, v: Frac) -> Result<bool, Past>
+    ensures { result ≡ fit.above_upper (Some largest) bound v }
+{
+    match bound {
+        None => Ok(false),
+        Some(u) => Ok(is_greater(cmp(v, u)?)),
+    }
+}
+
+// Whether `v` is below the lower bound or above the upper one, if it is either.
+fn outside(lower: Option<Frac>, upper: Option<Frac>, v: Frac) -> Result<Option<bool>, Past>
+    ensures { result ≡ fit.outside_run (Some largest) lower upper v }
+{
+    if below_lower(lower, v)? {
+        return Ok(Some(true));
+    }
+    if above_upper(upper, v)? {
+        return Ok(Some(false));
+    }
+    Ok(None)
+}
+
+// Column `col`, if it is outside its bounds.
+fn leaving_at(tab: &Tableau, col: u32) -> Result<Option<Leaving>, Past>
+    requires { col < all_columns tab.now }
+    ensures { result ≡ fit.leaving_at (Some largest) tab.now col }
+{
+    match outside(tab.lower(col), tab.upper(col), tab.value(col))? {
+        Some(below) => Ok(Some(Leaving { col, below })),
+        None => Ok(None),
+    }
+}
+
+// The first so far, with column `col`. Nothing is compared after the first.
+fn leaving_with(tab: &Tableau, col: u32, first: Option<Leaving>) -> Result<Option<Leaving>, Past>
+    requires { col < all_columns tab.now }
+    ensures { result ≡ fit.leaving_with (Some largest) tab.now col first }
+{
+    if let Some(first) = first {
+        return Ok(Some(first));
+    }
+    if is_basic(tab.status(col)) {
+        leaving_at(tab, col)
+    } else {
+        Ok(None)
+    }
+}
+
+// The first basic column that is outside its bounds, if one is.
+pub(crate) fn leaving(tab: &Tableau) -> Result<Option<Leaving>, Past>
+    ensures { result ≡ fit.leaving_run (Some largest) tab.now }
+{
+    let mut first = None;
+    for col in 0..tab.width() {
+        first = leaving_with(tab, col, first)?;
+    }
+    Ok(first)
+}

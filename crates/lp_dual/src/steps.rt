@@ -1,0 +1,82 @@
+// The flips, and then steps up to an end.
+ghost use Rattle.std.specs.Prelude.{◌≡◌, ◌-◌, Some};
+ghost use Rattle.spec_simplex.specs.Dual as dual;
+ghost use Rattle.spec_simplex.specs.Tableau.{or_zero as or_zero_of, stand as stand_of};
+ghost use Rattle.lp_frac.specs.Narrow.{largest};
+ghost use Rattle.lp_tableau.specs.Answer.{Gives};
+ghost use Rattle.lp_dual.specs.Starts.{IsDualStart, IsSeated, CanEnter};
+ghost use Rattle.lp_dual.specs.Answer.{DualRuns};
+
+use crate::choice::choice;
+use crate::flips::flips;
+use lp_form::Status;
+use lp_frac::{Frac, Past, div, sub, zero};
+use lp_tableau::{Stop, Tableau};
+use spec_simplex::{DualChoice, DualEnd};
+
+fn or_zero(bound: Option<Frac>) -> Frac
+    ensures { result ≡ or_zero_of bound }
+{
+    match bound {
+        Some(v) => v,
+        None => zero(),
+    }
+}
+
+// Where a column of this status stands, between these bounds.
+fn stand(status: Status, lower: Option<Frac>, upper: Option<Frac>) -> Frac
+    ensures { result ≡ stand_of status lower upper }
+{
+    match status {
+        Status::AtLower => or_zero(lower),
+        Status::AtUpper => or_zero(upper),
+        Status::Basic | Status::AtZero => zero(),
+    }
+}
+
+// Column `col` moves by what brings the one at the position to its bound `to`, and takes the position.
+#[tactic(auto, unfolding(spec_simplex::specs::Dual::dual_pivot_run))]
+fn pivot(tab: &mut Tableau, place: u32, col: u32, to: Status) -> Result<(), Past>
+    requires { CanEnter tab.old place col to }
+    ensures { Gives (dual.dual_pivot_run (Some largest) tab.old place col to) tab.new result }
+{
+    let out = tab.basic(place);
+    let gap = sub(tab.value(out), stand(to, tab.lower(out), tab.upper(out)))?;
+    let theta = div(gap, tab.entry(place, col))?;
+    tab.pivot(place, col, theta, to)
+}
+
+// Steps up to an end.
+fn steps(tab: &mut Tableau, used: &mut u64, budget: u64) -> Result<DualEnd, Stop>
+    requires { IsSeated tab.old }
+    ensures { DualRuns (dual.dual_from (Some largest) (budget - used.old) used.old tab.old) tab.new used.new result }
+{
+    loop {
+        match choice(tab)? {
+            DualChoice::End(end) => return Ok(end),
+            DualChoice::Pivot { place, col, to } => {
+                if *used >= budget {
+                    return Err(Stop::Spent);
+                }
+                pivot(tab, place, col, to)?;
+                *used += 1;
+            }
+        }
+    }
+}
+
+/// Gives each reduced cost the sign that it needs by flips, and then takes dual steps until each value
+/// is within its bounds (`Optimal`), one is not and no column can bring it back (`Infeasible`), an
+/// operation is past 127 bits (`Past`), or `budget` flips and pivots were made (`Spent`). `used` counts
+/// them. After `Past` the tableau is spent.
+///
+/// `IsDualStart` holds of the tableau of a basis that is fit for the dual method.
+#[tactic(auto, unfolding(spec_simplex::specs::Dual::dual_run))]
+pub fn run(tab: &mut Tableau, used: &mut u64, budget: u64) -> Result<DualEnd, Stop>
+    requires none_used { used.old ≡ 0 }
+    requires ready { IsDualStart tab.old }
+    ensures { DualRuns (dual.dual_run (Some largest) budget tab.old) tab.new used.new result }
+{
+    flips(tab, used, budget)?;
+    steps(tab, used, budget)
+}
