@@ -1,10 +1,9 @@
 -- The command words of edits among the others.
-use Rattle.std.proofs.Common.{◌≡◌, ℕ, List, [], ◌∷◌, map, Bool, true, false, cond, Option, Some, None, option_map, codes, refl, ap, sym, ◌∙◌}
+use Rattle.std.proofs.Common.{◌≡◌, ℕ, List, [], ◌∷◌, map, Bool, true, false, cond, Some, option_map, codes, refl}
 use Rattle.spec_text.specs.Words.{same}
 use Rattle.spec_mps.specs.Shapes.{look_up}
 use Rattle.spec_server.specs.declared.command.CommandWord.{CommandWord}
 use Rattle.spec_server.specs.declared.command.CommandWord.TheVariants.{Edit}
-use Rattle.spec_server.specs.declared.command.EditWord.{EditWord}
 use Rattle.spec_server.specs.Command.{command_word_of}
 use Rattle.lp_line.specs.EditWords.{edit_words, edit_word_of}
 

@@ -1,5 +1,5 @@
 -- The pairs of a new column, as far as they were read.
-use Rattle.std.proofs.Common.{◌≡◌, ◌≤◌, ◌<◌, ℕ, ◌-◌, List, [], ◌∷◌, ◌++◌, Option, Some, None, option_map, Result, Ok, Err, length, take, drop, slice_index_or, refl, ap, sym, ◌∙◌, subst, append_assoc, append-nil, arith}
+use Rattle.std.proofs.Common.{◌≡◌, ◌≤◌, ◌<◌, ℕ, ◌-◌, List, [], ◌∷◌, ◌++◌, Option, Some, None, option_map, Ok, Err, length, take, drop, slice_index_or, refl, ap, sym, ◌∙◌, subst, append_assoc, append-nil, arith}
 use Rattle.std.specs.Prelude.{IfSome}
 use Rattle.std.proofs.lemmas.List.{take_all}
 use Rattle.std.proofs.lemmas.Option.{IfSome_then}
@@ -18,13 +18,6 @@ pub record PairsLeft (all : Words) (left : List (List ℕ)) (pairs : Pairs) : Ty
   pub rest : Words
   pub paired : two_by_two left ≡ Some rest
   pub numbers : numbers_in all ≡ (numbers_in rest >>= λ more. Ok (pairs ++ more))
-
-none_so_far : (answer : Reads Pairs) → answer ≡ (answer >>= λ more. Ok ([] ++ more))
-none_so_far (Ok pairs) = refl
-none_so_far (Err why) = refl
-
-pub all_left : (words : List (List ℕ)) (all : Words) → two_by_two words ≡ Some all → PairsLeft all words []
-all_left words all e = record { rest = all; paired = e; numbers = none_so_far (numbers_in all) }
 
 -- ---- the first two words
 

@@ -1,5 +1,5 @@
 -- Finite bounds of a line are small.
-use Rattle.std.proofs.Common.{◌≡◌, ℕ, List, Ok, Err, refl, ap, sym, ◌∙◌}
+use Rattle.std.proofs.Common.{◌≡◌, ℕ, List, Ok, refl, ap, ◌∙◌}
 use Rattle.spec_exact.specs.Fraction.{ℚ, abs_ℚ, ◌<ℚ◌}
 use Rattle.spec_mps.specs.declared.number.BoundValue.TheVariants as value
 use Rattle.spec_mps.specs.BoundText.{BoundReading, Finite, PlusInf, MinusInf, Shape, Wide, infinite, bound_of, bound_answer}

@@ -1,10 +1,9 @@
 -- What reading an edit answers, where it stops.
-use Rattle.std.proofs.Common.{◌≡◌, Result, Ok, Err, sym, subst, ap, ◌∙◌}
-use Rattle.std.proofs.lemmas.Result.{err_from_is_err_and}
+use Rattle.std.proofs.Common.{◌≡◌, Result, Err, sym, subst, ap, ◌∙◌}
 use Rattle.spec_server.specs.declared.command.LineFault.{LineFault}
 use Rattle.spec_server.specs.EditCommand.{Reads}
 use Rattle.lp_line.specs.declared.edits.EditStop.{EditStop}
-use Rattle.lp_line.specs.declared.edits.EditStop.TheVariants.{Fault, NoMemory}
+use Rattle.lp_line.specs.declared.edits.EditStop.TheVariants.{Fault}
 use Rattle.lp_line.specs.Gives.{Gives}
 
 -- at the fault of the words

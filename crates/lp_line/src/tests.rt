@@ -1,5 +1,8 @@
-use crate::{Answer, Ask, How, LineFault, Plain, Publication, Refusal, Reply, Taken, print, take};
-use lp_base::{Bytes, Lines, MemSource, Name, Texts};
+use crate::{
+    Answer, Ask, Command, How, LineFault, Plain, Publication, Refusal, Reply, Taken, print, read,
+    take,
+};
+use lp_base::{Bytes, Line, Lines, MemSource, Name, Texts};
 use lp_check::{Known, Verdict};
 use lp_edit::{Edit, Which};
 use lp_frac::{Frac, Op, Past, num};
@@ -156,6 +159,17 @@ fn edits_with_their_numbers(rt: HostRuntime) -> Result<(), Fail> {
     ] {
         assert_eq!(rt; next(alloc, &mut lines, &mut src)?, (9, what, number));
     }
+    Ok(())
+}
+
+#[test]
+fn a_line_alone(rt: HostRuntime) -> Result<(), Fail> {
+    let alloc = rt.alloc();
+    let line = Line::Text(Bytes::from_slice(alloc, b"9 SENSE MAX")?);
+    let Command::Plain { session, plain } = read(alloc, &line)? else {
+        return Ok(assert!(rt; false));
+    };
+    assert_eq!(rt; (session, told(&Ask::Plain(plain))), (9, ("max", 0)));
     Ok(())
 }
 

@@ -1,5 +1,5 @@
 -- The pairs so far.
-use Rattle.std.proofs.Common.{ℕ, length}
+use Rattle.std.proofs.Common.{length}
 use Rattle.std.specs.Prelude.{IfSome}
 use Rattle.spec_server.specs.EditCommand.{two_by_two}
 use Rattle.lp_line.proofs.PairsLeft.{PairsLeft}
