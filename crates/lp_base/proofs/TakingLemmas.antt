@@ -14,13 +14,13 @@ use Rattle.spec_text.specs.Lines.{line_of, lines_of, ended_lines_of, input_limit
 use Rattle.spec_text.specs.declared.line.Line.{Line}
 use Rattle.spec_text.specs.declared.line.Line.TheVariants.{Text, Long, End, Over}
 use Rattle.spec_text.proofs.LineLemmas.{lines_of_none, lines_of_line, lines_of_last, ended_lines_of_line, ended_lines_of_last}
-use Rattle.lp_base.specs.Reading.Value.{Reading, at_start}
-use Rattle.lp_base.specs.Reading.{HasEnded, GivesLine, GivesEnd, IsOver, IsBrokenOff, Gives, GivesNext}
-use Rattle.lp_base.specs.Taking.{BeginsWith, IsWhole, Tells, TakesLines, StaysEnded, ReadsLines, ReadsUntil, ReadsAll, ReadsFront, ReadsPart, ReadsPast, StopsWith}
+use Rattle.lp_base.specs.LinesState.{LinesState, at_start}
+use Rattle.lp_base.specs.NextLine.{HasEnded, GivesLine, GivesEnd, IsOver, IsBrokenOff, IsGivenUp, AnswersWith, GivesNext}
+use Rattle.lp_base.specs.Taking.{BeginsWith, IsWhole, Tells, TakesLines, StaysEnded, ReadsLines, ReadsUntil, ReadsAll, ReadsFront, ReadsLittleMore, ReadsToFault, ReadsPart, ReadsPast, StopsWith}
 use Rattle.lp_base.specs.declared.lines.LineStop.{LineStop}
 use Rattle.lp_base.specs.declared.lines.LineStop.TheVariants.{Read, NoMemory}
 use Rattle.lp_base.proofs.KeptLemmas.{take-append}
-use Rattle.lp_base.proofs.SoFar.{reading_is}
+use Rattle.lp_base.proofs.SoFar.{state_is}
 
 -- ---- what a text begins with
 begins_with_none : BeginsWith [] []
@@ -72,22 +72,23 @@ tells_begun true after raw ahead lines live t = cc
 tells_begun false after raw ahead lines live t = t
 
 -- where the input has not ended, more lines may follow
-begun : {after : Option (List ℕ)} {old new : Reading} {bytes : List ℕ} {lines : List (Line (List ℕ))} (t : TakesLines after old bytes new lines) → new.ended ≡ false → BeginsWith t.raw lines
+begun : {after : Option (List ℕ)} {old new : LinesState} {bytes : List ℕ} {lines : List (Line (List ℕ))} (t : TakesLines after old bytes new lines) → new.ended ≡ false → BeginsWith t.raw lines
 begun {after} {old} {new} {bytes} {lines} t live = tells_begun new.ended after t.raw new.ahead lines live t.told
 
 -- none, where the input has not ended
-pub takes_none : (after : Option (List ℕ)) (reading : Reading) → reading.ended ≡ false → TakesLines after reading [] reading []
-takes_none after reading live = record {
+pub takes_none : (after : Option (List ℕ)) (state : LinesState) → state.ended ≡ false → TakesLines after state [] state []
+takes_none after state live = record {
   live = live;
   raw = [];
-  cut = append-nil reading.ahead;
+  cut = append-nil state.ahead;
   count = omega arith;
   bound = λ b. b;
-  told = subst (λ (b : Bool). Tells b after [] reading.ahead []) (sym live) begins_with_none;
+  near = λ n. n;
+  told = subst (λ (b : Bool). Tells b after [] state.ahead []) (sym live) begins_with_none;
 }
 
 -- one line
-pub takes_line : {after : Option (List ℕ)} {old : Reading} {bytes : List ℕ} {new : Reading} {line : Line (List ℕ)} → GivesLine after old bytes new line → TakesLines after old bytes new (line ∷ [])
+pub takes_line : {after : Option (List ℕ)} {old : LinesState} {bytes : List ℕ} {new : LinesState} {line : Line (List ℕ)} → GivesLine after old bytes new line → TakesLines after old bytes new (line ∷ [])
 takes_line {after} {old} {bytes} {new} {line} g =
     ⊎_elim
     (λ e.
@@ -99,6 +100,7 @@ takes_line {after} {old} {bytes} {new} {line} g =
       cut = cut;
       count = omega (arith, g.count, ap length cut, length-append raw new.ahead);
       bound = λ b. g.bound;
+      near = λ n. g.near;
       told = subst (λ (b : Bool). Tells b after raw new.ahead (line ∷ [])) (sym e.1) (begins_with_line e.0.raw line e.0.plain e.0.is);
     })
     (λ l.
@@ -114,6 +116,7 @@ takes_line {after} {old} {bytes} {new} {line} g =
       cut = sym (ap (λ xs. raw ++ xs) l.0.all ∙ append-nil raw);
       count = omega (arith, g.count, ap length l.0.all);
       bound = λ b. g.bound;
+      near = λ n. g.near;
       told = subst (λ (b : Bool). Tells b after raw new.ahead (line ∷ [])) (sym l.1) whole;
     })
     g.taken
@@ -123,7 +126,7 @@ Tells-append true after raw more ahead lines others b t = record { all = b.all m
 Tells-append false after raw more ahead lines others b t = BeginsWith-append b t
 
 -- more lines
-pub TakesLines-append : {mid after : Option (List ℕ)} {first old new : Reading} {bytes more : List ℕ} {lines others : List (Line (List ℕ))} → TakesLines mid first bytes old lines → TakesLines after old more new others → TakesLines after first (bytes ++ more) new (lines ++ others)
+pub TakesLines-append : {mid after : Option (List ℕ)} {first old new : LinesState} {bytes more : List ℕ} {lines others : List (Line (List ℕ))} → TakesLines mid first bytes old lines → TakesLines after old more new others → TakesLines after first (bytes ++ more) new (lines ++ others)
 TakesLines-append {mid} {after} {first} {old} {new} {bytes} {more} {lines} {others} t u =
     record {
       live = t.live;
@@ -135,20 +138,21 @@ TakesLines-append {mid} {after} {first} {old} {new} {bytes} {more} {lines} {othe
           ∙ sym (append_assoc t.raw u.raw new.ahead);
       count = omega (arith, t.count, u.count, length-append t.raw u.raw);
       bound = λ b. u.bound (t.bound b);
+      near = λ n. u.near (t.near n);
       told = Tells-append new.ended after t.raw u.raw new.ahead lines others (begun t u.live) u.told;
     }
 
-tells_end : (ended : Bool) (mid after : Option (List ℕ)) (old : Reading) (raw before ahead : List ℕ) (lines : List (Line (List ℕ))) → ended ≡ old.ended → ahead ≡ [] → HasEnded old mid after → Tells ended mid raw before lines → IsWhole after raw ahead lines
+tells_end : (ended : Bool) (mid after : Option (List ℕ)) (old : LinesState) (raw before ahead : List ℕ) (lines : List (Line (List ℕ))) → ended ≡ old.ended → ahead ≡ [] → HasEnded old mid after → Tells ended mid raw before lines → IsWhole after raw ahead lines
 tells_end true mid after old raw before ahead lines same none (inl h) t = record { all = t.all; none = none; at_end = subst IsAtEnd (sym h.1) t.at_end }
 tells_end true mid after old raw before ahead lines same none (inr h) t = absurd (let e = h.0 in cc)
 tells_end false mid after old raw before ahead lines same none (inl h) t = absurd (let e = h.0 in cc)
 tells_end false mid after old raw before ahead lines same none (inr h) t = record { all = begins_whole t; none = none; at_end = h.1 }
 
 -- the end
-pub takes_end : {mid after : Option (List ℕ)} {first old new : Reading} {bytes more : List ℕ} {lines : List (Line (List ℕ))} → TakesLines mid first bytes old lines → GivesEnd mid after old more new → TakesLines after first (bytes ++ more) new lines
+pub takes_end : {mid after : Option (List ℕ)} {first old new : LinesState} {bytes more : List ℕ} {lines : List (Line (List ℕ))} → TakesLines mid first bytes old lines → GivesEnd mid after old more new → TakesLines after first (bytes ++ more) new lines
 takes_end {mid} {after} {first} {old} {new} {bytes} {more} {lines} t g =
     let stands : new ≡ record { ahead = []; given = old.given; ended = true } = g.stands in
-    let none : new.ahead ≡ [] = ap (λ (r : Reading). r.ahead) stands in
+    let none : new.ahead ≡ [] = ap (λ (r : LinesState). r.ahead) stands in
     record {
       live = t.live;
       raw = t.raw;
@@ -156,9 +160,10 @@ takes_end {mid} {after} {first} {old} {new} {bytes} {more} {lines} t g =
           ∙ ap (λ xs. xs ++ more) t.cut
           ∙ append_assoc t.raw old.ahead more
           ∙ ap (λ xs. t.raw ++ xs) (g.none ∙ sym none);
-      count = ap (λ (r : Reading). r.given) stands ∙ t.count;
-      bound = λ b. omega (arith, ap (λ (r : Reading). r.given) stands, g.bound);
-      told = subst (λ (b : Bool). Tells b after t.raw new.ahead lines) (sym (ap (λ (r : Reading). r.ended) stands)) (tells_end old.ended mid after old t.raw old.ahead new.ahead lines refl none g.ended t.told);
+      count = ap (λ (r : LinesState). r.given) stands ∙ t.count;
+      bound = λ b. omega (arith, ap (λ (r : LinesState). r.given) stands, g.bound);
+      near = λ n. omega (arith, ap length none);
+      told = subst (λ (b : Bool). Tells b after t.raw new.ahead lines) (sym (ap (λ (r : LinesState). r.ended) stands)) (tells_end old.ended mid after old t.raw old.ahead new.ahead lines refl none g.ended t.told);
     }
 
 -- ---- where a reader stops that began at the start of its input
@@ -167,28 +172,28 @@ tells_whole true after raw ahead lines e t = t
 tells_whole false after raw ahead lines e t = cc
 
 -- no more lines were taken than may be read
-raw_within : {after : Option (List ℕ)} {new : Reading} {read : List ℕ} {lines : List (Line (List ℕ))} (t : TakesLines after at_start read new lines) → length t.raw ≤ 2 ^ 26
+raw_within : {after : Option (List ℕ)} {new : LinesState} {read : List ℕ} {lines : List (Line (List ℕ))} (t : TakesLines after at_start read new lines) → length t.raw ≤ 2 ^ 26
 raw_within t = let bound = t.bound (omega arith) in omega (arith, t.count)
 
 -- all bytes that were read, from the start on
-read_so_far : {mid : Option (List ℕ)} {old : Reading} {read : List ℕ} {lines : List (Line (List ℕ))} (t : TakesLines mid at_start read old lines) (bytes : List ℕ) → read ++ bytes ≡ t.raw ++ (old.ahead ++ bytes)
+read_so_far : {mid : Option (List ℕ)} {old : LinesState} {read : List ℕ} {lines : List (Line (List ℕ))} (t : TakesLines mid at_start read old lines) (bytes : List ℕ) → read ++ bytes ≡ t.raw ++ (old.ahead ++ bytes)
 read_so_far {old = old} t bytes = ap (λ xs. xs ++ bytes) t.cut ∙ append_assoc t.raw old.ahead bytes
 
 -- at the end, these are all the lines
-pub told_all : {after : Option (List ℕ)} {new : Reading} {read : List ℕ} {lines : List (Line (List ℕ))} → TakesLines after at_start read new lines → new.ended ≡ true → (lines_of read ≡ lines) × (length read ≤ 2 ^ 26) × IsAtEnd after
+pub told_all : {after : Option (List ℕ)} {new : LinesState} {read : List ℕ} {lines : List (Line (List ℕ))} → TakesLines after at_start read new lines → new.ended ≡ true → (lines_of read ≡ lines) × (length read ≤ 2 ^ 26) × IsAtEnd after
 told_all {after} {new} {read} {lines} t ended =
     let whole = tells_whole new.ended after t.raw new.ahead lines ended t.told in
     let same : read ≡ t.raw = t.cut ∙ ap (λ xs. t.raw ++ xs) whole.none ∙ append-nil t.raw in
     (ap lines_of same ∙ whole.all, omega (arith, raw_within t, ap length same), whole.at_end)
 
 -- where the source fails, all lines that end were taken
-pub told_at_fault : {mid : Option (List ℕ)} {old new : Reading} {read bytes : List ℕ} {lines : List (Line (List ℕ))} → TakesLines mid at_start read old lines → IsBrokenOff old bytes new → ended_lines_of (take input_limit (read ++ bytes)) ≡ lines
+pub told_at_fault : {mid : Option (List ℕ)} {old new : LinesState} {read bytes : List ℕ} {lines : List (Line (List ℕ))} → TakesLines mid at_start read old lines → IsBrokenOff old bytes new → ended_lines_of (take input_limit (read ++ bytes)) ≡ lines
 told_at_fault {mid} {old} {new} {read} {bytes} {lines} t broken =
     ap (λ (xs : List ℕ). ended_lines_of (take input_limit xs)) (read_so_far t bytes)
     ∙ plain_front input_limit (old.ahead ++ bytes) (begun t broken.live) (raw_within t) broken.plain
 
 -- past the limit, all lines that end within it were taken
-pub told_over : {mid : Option (List ℕ)} {old : Reading} {read bytes : List ℕ} {lines : List (Line (List ℕ))} → TakesLines mid at_start read old lines → IsOver old bytes → (ended_lines_of (take input_limit (read ++ bytes)) ≡ lines) × (2 ^ 26 < length (read ++ bytes))
+pub told_over : {mid : Option (List ℕ)} {old : LinesState} {read bytes : List ℕ} {lines : List (Line (List ℕ))} → TakesLines mid at_start read old lines → IsOver old bytes → (ended_lines_of (take input_limit (read ++ bytes)) ≡ lines) × (2 ^ 26 < length (read ++ bytes))
 told_over {mid} {old} {read} {bytes} {lines} t over =
     let same : read ++ bytes ≡ t.raw ++ (over.raw ++ over.rest) = read_so_far t bytes ∙ ap (λ xs. t.raw ++ xs) over.cut in (
       ap (λ (xs : List ℕ). ended_lines_of (take input_limit xs)) same
@@ -196,8 +201,55 @@ told_over {mid} {old} {read} {bytes} {lines} t over =
       omega (arith, ap length same, length-append t.raw (over.raw ++ over.rest), length-append over.raw over.rest, t.count, over.len, over.more),
     )
 
+-- ---- how much more was read
+more_at_fault : {mid : Option (List ℕ)} {old new : LinesState} {read bytes : List ℕ} {lines : List (Line (List ℕ))} → TakesLines mid at_start read old lines → IsBrokenOff old bytes new → ReadsLittleMore (read ++ bytes) lines
+more_at_fault {old = old} {bytes = bytes} t broken = record {
+  raw = t.raw;
+  part = old.ahead ++ bytes;
+  ahead = [];
+  cut = read_so_far t bytes ∙ ap (λ xs. t.raw ++ xs) (sym (append-nil (old.ahead ++ bytes)));
+  taken = begins_whole (begun t broken.live);
+  plain = broken.plain;
+  near = omega arith;
+}
+
+more_at_over : {mid : Option (List ℕ)} {old : LinesState} {read bytes : List ℕ} {lines : List (Line (List ℕ))} → TakesLines mid at_start read old lines → IsOver old bytes → ReadsLittleMore (read ++ bytes) lines
+more_at_over {bytes = bytes} t over = record {
+  raw = t.raw;
+  part = over.raw;
+  ahead = over.rest;
+  cut = read_so_far t bytes ∙ ap (λ xs. t.raw ++ xs) over.cut;
+  taken = begins_whole (begun t over.live);
+  plain = over.plain;
+  near = over.near;
+}
+
+more_at_want : {mid : Option (List ℕ)} {old : LinesState} {read bytes : List ℕ} {lines : List (Line (List ℕ))} → TakesLines mid at_start read old lines → IsGivenUp old bytes → ReadsLittleMore (read ++ bytes) lines
+more_at_want {bytes = bytes} t given_up = record {
+  raw = t.raw;
+  part = given_up.raw;
+  ahead = given_up.rest;
+  cut = read_so_far t bytes ∙ ap (λ xs. t.raw ++ xs) given_up.cut;
+  taken = begins_whole (begun t given_up.live);
+  plain = given_up.plain;
+  near = given_up.near;
+}
+
+more_now : {after : Option (List ℕ)} {new : LinesState} {read : List ℕ} {lines : List (Line (List ℕ))} → TakesLines after at_start read new lines → new.ended ≡ false → ReadsLittleMore read lines
+more_now {new = new} t live =
+    let ahead : length new.ahead < 4096 = t.near (omega arith) in
+    record {
+      raw = t.raw;
+      part = [];
+      ahead = new.ahead;
+      cut = t.cut;
+      taken = begins_whole (begun t live);
+      plain = All-nil (λ b. b ≢ 10);
+      near = omega arith;
+    }
+
 -- wherever else it stops, the lines that were taken come first
-pub told_in_part : {mid : Option (List ℕ)} {old : Reading} {read : List ℕ} {lines : List (Line (List ℕ))} → TakesLines mid at_start read old lines → old.ended ≡ false → (bytes : List ℕ) → (more : List (Line (List ℕ))) × (ended_lines_of (take input_limit (read ++ bytes)) ≡ lines ++ more)
+pub told_in_part : {mid : Option (List ℕ)} {old : LinesState} {read : List ℕ} {lines : List (Line (List ℕ))} → TakesLines mid at_start read old lines → old.ended ≡ false → (bytes : List ℕ) → (more : List (Line (List ℕ))) × (ended_lines_of (take input_limit (read ++ bytes)) ≡ lines ++ more)
 told_in_part {mid} {old} {read} {lines} t live bytes = (
   ended_lines_of (take (input_limit - length t.raw) (old.ahead ++ bytes)),
   ap (λ (xs : List ℕ). ended_lines_of (take input_limit xs)) (read_so_far t bytes)
@@ -205,40 +257,40 @@ told_in_part {mid} {old} {read} {lines} t live bytes = (
 )
 
 -- after a call, the lines that were taken come first, or are all
-pub told_now : {after : Option (List ℕ)} {new : Reading} {read : List ℕ} {lines : List (Line (List ℕ))} → TakesLines after at_start read new lines → ((more : List (Line (List ℕ))) × (ended_lines_of (take input_limit read) ≡ lines ++ more)) ⊎ ((lines_of read ≡ lines) × (length read ≤ 2 ^ 26) × IsAtEnd after)
+pub told_now : {after : Option (List ℕ)} {new : LinesState} {read : List ℕ} {lines : List (Line (List ℕ))} → TakesLines after at_start read new lines → ((more : List (Line (List ℕ))) × (ended_lines_of (take input_limit read) ≡ lines ++ more) × ReadsLittleMore read lines) ⊎ ((lines_of read ≡ lines) × (length read ≤ 2 ^ 26) × IsAtEnd after)
 told_now {after} {new} {read} {lines} t = by new.ended refl
   where
-    by : (ended : Bool) → new.ended ≡ ended → ((more : List (Line (List ℕ))) × (ended_lines_of (take input_limit read) ≡ lines ++ more)) ⊎ ((lines_of read ≡ lines) × (length read ≤ 2 ^ 26) × IsAtEnd after)
+    by : (ended : Bool) → new.ended ≡ ended → ((more : List (Line (List ℕ))) × (ended_lines_of (take input_limit read) ≡ lines ++ more) × ReadsLittleMore read lines) ⊎ ((lines_of read ≡ lines) × (length read ≤ 2 ^ 26) × IsAtEnd after)
     by true is = inr (told_all t is)
-    by false is = let part = told_in_part t is [] in inl (part.0, ap (λ (xs : List ℕ). ended_lines_of (take input_limit xs)) (sym (append-nil read)) ∙ part.1)
+    by false is = let part = told_in_part t is [] in inl (part.0, ap (λ (xs : List ℕ). ended_lines_of (take input_limit xs)) (sym (append-nil read)) ∙ part.1, more_now t is)
 
 -- ---- the same, with what was consumed of the source
 -- an answer by its name
-pub gives_as : {before after : Option (List ℕ)} {old new : Reading} {line : Line (List ℕ)} (is : Line (List ℕ)) → line ≡ is → GivesNext before after old new (Ok line) → GivesNext before after old new (Ok is)
+pub gives_as : {before after : Option (List ℕ)} {old new : LinesState} {line : Line (List ℕ)} (is : Line (List ℕ)) → line ≡ is → GivesNext before after old new (Ok line) → GivesNext before after old new (Ok is)
 gives_as {before} {after} {old} {new} is same g = subst (λ (l : Line (List ℕ)). GivesNext before after old new (Ok l)) same g
 
 -- a line that is given is no end
-pub given_line : (before after : Option (List ℕ)) (old : Reading) (bytes : List ℕ) (new : Reading) (line : Line (List ℕ)) → line ≢ End → line ≢ Over → Gives before after old bytes new (Ok line) → GivesLine after old bytes new line
+pub given_line : (before after : Option (List ℕ)) (old : LinesState) (bytes : List ℕ) (new : LinesState) (line : Line (List ℕ)) → line ≢ End → line ≢ Over → AnswersWith before after old bytes new (Ok line) → GivesLine after old bytes new line
 given_line before after old bytes new (Text text) no_end no_over g = g
 given_line before after old bytes new (Long len) no_end no_over g = g
 given_line before after old bytes new End no_end no_over g = absurd (no_end refl)
 given_line before after old bytes new Over no_end no_over g = absurd (no_over refl)
 
 -- nothing was read
-pub reads_none : (left : Option (List ℕ)) (reading : Reading) → ReadsLines left left reading reading []
-reads_none left reading = by reading.ended refl
+pub reads_none : (left : Option (List ℕ)) (state : LinesState) → ReadsLines left left state state []
+reads_none left state = by state.ended refl
   where
-    by : (ended : Bool) → reading.ended ≡ ended → ReadsLines left left reading reading []
+    by : (ended : Bool) → state.ended ≡ ended → ReadsLines left left state state []
     by true is = record { bytes = []; moved = Consumes-nil left; taken = inr (record { ended = is; unread = refl; left = refl; stays = refl; none = refl }) }
-    by false is = record { bytes = []; moved = Consumes-nil left; taken = inl (takes_none left reading is) }
+    by false is = record { bytes = []; moved = Consumes-nil left; taken = inl (takes_none left state is) }
 
-pub reads_start : (left : Option (List ℕ)) (reading : Reading) → reading ≡ at_start → ReadsLines left left at_start reading []
-reads_start left reading is = subst (λ (r : Reading). ReadsLines left left at_start r []) (sym is) (reads_none left at_start)
+pub reads_start : (left : Option (List ℕ)) (state : LinesState) → state ≡ at_start → ReadsLines left left at_start state []
+reads_start left state is = subst (λ (r : LinesState). ReadsLines left left at_start r []) (sym is) (reads_none left at_start)
 
 -- an end that stays
-same_taken : {mid after : Option (List ℕ)} {first old new : Reading} {bytes more : List ℕ} {lines others : List (Line (List ℕ))} → TakesLines mid first bytes old lines → StaysEnded mid after old more new others → TakesLines after first (bytes ++ more) new (lines ++ others)
+same_taken : {mid after : Option (List ℕ)} {first old new : LinesState} {bytes more : List ℕ} {lines others : List (Line (List ℕ))} → TakesLines mid first bytes old lines → StaysEnded mid after old more new others → TakesLines after first (bytes ++ more) new (lines ++ others)
 same_taken {mid} {after} {first} {old} {new} {bytes} {more} {lines} {others} t u =
-    subst (λ (r : Reading). TakesLines after first (bytes ++ more) r (lines ++ others)) (sym u.stays)
+    subst (λ (r : LinesState). TakesLines after first (bytes ++ more) r (lines ++ others)) (sym u.stays)
     (subst (λ (left : Option (List ℕ)). TakesLines left first (bytes ++ more) old (lines ++ others)) (sym u.left)
     (subst (λ (ls : List (Line (List ℕ))). TakesLines mid first (bytes ++ more) old ls) (sym (ap (λ ls. lines ++ ls) u.none ∙ append-nil lines))
     (subst (λ (bs : List ℕ). TakesLines mid first bs old lines) (sym (ap (λ xs. bytes ++ xs) u.unread ∙ append-nil bytes)) t)))
@@ -246,14 +298,14 @@ same_taken {mid} {after} {first} {old} {new} {bytes} {more} {lines} {others} t u
 both_none : {A : Type 0} {xs ys : List A} → xs ≡ [] → ys ≡ [] → xs ++ ys ≡ []
 both_none {ys = ys} e f = ap (λ zs. zs ++ ys) e ∙ f
 
-ended_still : {old new : Reading} → old.ended ≡ true → new ≡ old → new.ended ≡ true
-ended_still is same = ap (λ (r : Reading). r.ended) same ∙ is
+ended_still : {old new : LinesState} → old.ended ≡ true → new ≡ old → new.ended ≡ true
+ended_still is same = ap (λ (r : LinesState). r.ended) same ∙ is
 
 true_is_not_false : {b : Bool} → b ≡ true → b ≡ false → ⊥
 true_is_not_false t f = cc
 
 -- more lines were read
-pub ReadsLines-append : {before mid after : Option (List ℕ)} {first old new : Reading} {lines others : List (Line (List ℕ))} → ReadsLines before mid first old lines → ReadsLines mid after old new others → ReadsLines before after first new (lines ++ others)
+pub ReadsLines-append : {before mid after : Option (List ℕ)} {first old new : LinesState} {lines others : List (Line (List ℕ))} → ReadsLines before mid first old lines → ReadsLines mid after old new others → ReadsLines before after first new (lines ++ others)
 ReadsLines-append {before} {mid} {after} {first} {old} {new} {lines} {others} r s = record {
   bytes = r.bytes ++ s.bytes;
   moved = Consumes-trans before mid after r.bytes s.bytes r.moved s.moved;
@@ -268,19 +320,19 @@ ReadsLines-append {before} {mid} {after} {first} {old} {new} {lines} {others} r 
     by (inr t) (inr u) = inr (record { ended = t.ended; unread = both_none t.unread u.unread; left = u.left ∙ t.left; stays = u.stays ∙ t.stays; none = both_none t.none u.none })
 
 -- one more line was read
-pub reads_line : {before mid after : Option (List ℕ)} {first old new : Reading} {lines : List (Line (List ℕ))} (line : Line (List ℕ)) → ReadsLines before mid first old lines → GivesNext mid after old new (Ok line) → line ≢ End → line ≢ Over → ReadsLines before after first new (lines ++ line ∷ [])
+pub reads_line : {before mid after : Option (List ℕ)} {first old new : LinesState} {lines : List (Line (List ℕ))} (line : Line (List ℕ)) → ReadsLines before mid first old lines → GivesNext mid after old new (Ok line) → line ≢ End → line ≢ Over → ReadsLines before after first new (lines ++ line ∷ [])
 reads_line {mid = mid} {after = after} {old = old} {new = new} line r g no_end no_over =
     let given = given_line mid after old g.bytes new line no_end no_over g.gives in
     ReadsLines-append r (record { bytes = g.bytes; moved = g.moved; taken = inl (takes_line given) })
 
-pub reads_text : {before mid after : Option (List ℕ)} {first old new : Reading} {lines : List (Line (List ℕ))} {line : Line (List ℕ)} (text : List ℕ) → ReadsLines before mid first old lines → GivesNext mid after old new (Ok line) → line ≡ Text text → ReadsLines before after first new (lines ++ Text text ∷ [])
+pub reads_text : {before mid after : Option (List ℕ)} {first old new : LinesState} {lines : List (Line (List ℕ))} {line : Line (List ℕ)} (text : List ℕ) → ReadsLines before mid first old lines → GivesNext mid after old new (Ok line) → line ≡ Text text → ReadsLines before after first new (lines ++ Text text ∷ [])
 reads_text text r g is = reads_line (Text text) r (gives_as (Text text) is g) (λ e. cc) (λ e. cc)
 
-pub reads_long : {before mid after : Option (List ℕ)} {first old new : Reading} {lines : List (Line (List ℕ))} {line : Line (List ℕ)} (len : ℕ) → ReadsLines before mid first old lines → GivesNext mid after old new (Ok line) → line ≡ Long len → ReadsLines before after first new (lines ++ Long len ∷ [])
+pub reads_long : {before mid after : Option (List ℕ)} {first old new : LinesState} {lines : List (Line (List ℕ))} {line : Line (List ℕ)} (len : ℕ) → ReadsLines before mid first old lines → GivesNext mid after old new (Ok line) → line ≡ Long len → ReadsLines before after first new (lines ++ Long len ∷ [])
 reads_long len r g is = reads_line (Long len) r (gives_as (Long len) is g) (λ e. cc) (λ e. cc)
 
 -- the end is told again
-stays_left : {mid after : Option (List ℕ)} (old : Reading) → old.ended ≡ true → HasEnded old mid after → after ≡ mid
+stays_left : {mid after : Option (List ℕ)} (old : LinesState) → old.ended ≡ true → HasEnded old mid after → after ≡ mid
 stays_left old is (inl h) = h.1
 stays_left old is (inr h) = absurd (true_is_not_false is h.0)
 
@@ -288,7 +340,7 @@ front_none : {A : Type 0} (xs ys : List A) → xs ++ ys ≡ [] → (xs ≡ []) �
 front_none [] ys e = (refl, e)
 front_none (x ∷ xs) ys e = absurd (let h = e in cc)
 
-ends_again : {before mid after : Option (List ℕ)} {first old new : Reading} {bytes more : List ℕ} {lines : List (Line (List ℕ))} → StaysEnded before mid first bytes old lines → GivesEnd mid after old more new → StaysEnded before after first (bytes ++ more) new lines
+ends_again : {before mid after : Option (List ℕ)} {first old new : LinesState} {bytes more : List ℕ} {lines : List (Line (List ℕ))} → StaysEnded before mid first bytes old lines → GivesEnd mid after old more new → StaysEnded before after first (bytes ++ more) new lines
 ends_again {old = old} {more = more} t g =
     let none = front_none old.ahead more g.none in
     let ended = ended_still t.ended t.stays in
@@ -296,31 +348,31 @@ ends_again {old = old} {more = more} t g =
       ended = t.ended;
       unread = both_none t.unread none.1;
       left = stays_left old ended g.ended ∙ t.left;
-      stays = g.stands ∙ sym (reading_is old [] old.given true none.0 refl ended) ∙ t.stays;
+      stays = g.stands ∙ sym (state_is old [] old.given true none.0 refl ended) ∙ t.stays;
       none = t.none;
     }
 
 -- the end was read
-pub reads_end : {before mid after : Option (List ℕ)} {first old new : Reading} {lines : List (Line (List ℕ))} → ReadsLines before mid first old lines → GivesNext mid after old new (Ok End) → ReadsLines before after first new lines × (new.ended ≡ true)
+pub reads_end : {before mid after : Option (List ℕ)} {first old new : LinesState} {lines : List (Line (List ℕ))} → ReadsLines before mid first old lines → GivesNext mid after old new (Ok End) → ReadsLines before after first new lines × (new.ended ≡ true)
 reads_end {before} {mid} {after} {first} {old} {new} {lines} r g = (
   record {
     bytes = r.bytes ++ g.bytes;
     moved = Consumes-trans before mid after r.bytes g.bytes r.moved g.moved;
     taken = ⊎_elim (λ t. inl (takes_end t g.gives)) (λ t. inr (ends_again t g.gives)) r.taken;
   },
-  ap (λ (x : Reading). x.ended) g.gives.stands,
+  ap (λ (x : LinesState). x.ended) g.gives.stands,
 )
 
 -- lines and a last answer
-pub reads_until : {before mid after : Option (List ℕ)} {first old new : Reading} {lines : List (Line (List ℕ))} {result : Result (Line (List ℕ)) LineStop} → ReadsLines before mid first old lines → GivesNext mid after old new result → ReadsUntil before after first lines result
+pub reads_until : {before mid after : Option (List ℕ)} {first old new : LinesState} {lines : List (Line (List ℕ))} {result : Result (Line (List ℕ)) LineStop} → ReadsLines before mid first old lines → GivesNext mid after old new result → ReadsUntil before after first lines result
 reads_until {mid = mid} {old = old} {new = new} r g = record { mid = mid; old = old; new = new; reads = r; gives = g }
 
-pub ReadsUntil-append : {before mid after : Option (List ℕ)} {first old : Reading} {lines others : List (Line (List ℕ))} {result : Result (Line (List ℕ)) LineStop} → ReadsLines before mid first old lines → ReadsUntil mid after old others result → ReadsUntil before after first (lines ++ others) result
+pub ReadsUntil-append : {before mid after : Option (List ℕ)} {first old : LinesState} {lines others : List (Line (List ℕ))} {result : Result (Line (List ℕ)) LineStop} → ReadsLines before mid first old lines → ReadsUntil mid after old others result → ReadsUntil before after first (lines ++ others) result
 ReadsUntil-append r u = record { mid = u.mid; old = u.old; new = u.new; reads = ReadsLines-append r u.reads; gives = u.gives }
 
 -- ---- where a reader stops that began at the start of its input
 -- a reader that began there had not ended
-from_start : {before after : Option (List ℕ)} {bytes : List ℕ} {new : Reading} {lines : List (Line (List ℕ))} → TakesLines after at_start bytes new lines ⊎ StaysEnded before after at_start bytes new lines → TakesLines after at_start bytes new lines
+from_start : {before after : Option (List ℕ)} {bytes : List ℕ} {new : LinesState} {lines : List (Line (List ℕ))} → TakesLines after at_start bytes new lines ⊎ StaysEnded before after at_start bytes new lines → TakesLines after at_start bytes new lines
 from_start (inl t) = t
 from_start (inr s) = absurd (true_is_not_false s.ended refl)
 
@@ -342,17 +394,21 @@ stops_over {before} {after} u =
         ended = told.0;
       };
       past = told.1;
+      near = more_at_over (from_start u.reads.taken) u.gives.gives;
     }
 
 -- an error came
 pub stops_with : {before after : Option (List ℕ)} {lines : List (Line (List ℕ))} (stop : LineStop) → ReadsUntil before after at_start lines (Err stop) → StopsWith stop before after lines
 stops_with {before} {after} Read u = record {
-  read = u.reads.bytes ++ u.gives.bytes;
-  moved = Consumes-trans before u.mid after u.reads.bytes u.gives.bytes u.reads.moved u.gives.moved;
-  ended = told_at_fault (from_start u.reads.taken) u.gives.gives;
+  front = record {
+    read = u.reads.bytes ++ u.gives.bytes;
+    moved = Consumes-trans before u.mid after u.reads.bytes u.gives.bytes u.reads.moved u.gives.moved;
+    ended = told_at_fault (from_start u.reads.taken) u.gives.gives;
+  };
+  near = more_at_fault (from_start u.reads.taken) u.gives.gives;
 }
 stops_with {before} {after} NoMemory u =
-    let part = told_in_part (from_start u.reads.taken) u.gives.gives u.gives.bytes in
+    let part = told_in_part (from_start u.reads.taken) u.gives.gives.live u.gives.bytes in
     record {
       more = part.0;
       front = record {
@@ -360,12 +416,13 @@ stops_with {before} {after} NoMemory u =
         moved = Consumes-trans before u.mid after u.reads.bytes u.gives.bytes u.reads.moved u.gives.moved;
         ended = part.1;
       };
+      near = more_at_want (from_start u.reads.taken) u.gives.gives;
     }
 
 -- a caller stops after a line
-pub stops_now : {before after : Option (List ℕ)} {new : Reading} {lines : List (Line (List ℕ))} → ReadsLines before after at_start new lines → ReadsPart before after lines ⊎ ReadsAll before after lines
+pub stops_now : {before after : Option (List ℕ)} {new : LinesState} {lines : List (Line (List ℕ))} → ReadsLines before after at_start new lines → ReadsPart before after lines ⊎ ReadsAll before after lines
 stops_now r = ⊎_elim
-    (λ part. inl (record { more = part.0; front = record { read = r.bytes; moved = r.moved; ended = part.1 } }))
+    (λ part. inl (record { more = part.0; front = record { read = r.bytes; moved = r.moved; ended = part.1 }; near = part.2 }))
     (λ all. inr (record { read = r.bytes; moved = r.moved; all = all.0; bound = all.1; at_end = all.2 }))
     (told_now (from_start r.taken))
 
@@ -374,8 +431,12 @@ pub stops_before : (left : Option (List ℕ)) → ReadsFront left left []
 stops_before left = record { read = []; moved = Consumes-nil left; ended = ended_lines_of_last [] (All-nil (λ b. b ≢ 10)) }
 
 -- all of the lines are some of them
-pub front_in_part : {before after : Option (List ℕ)} {lines : List (Line (List ℕ))} → ReadsFront before after lines → ReadsPart before after lines
-front_in_part {before} {after} {lines} f = record { more = []; front = subst (ReadsFront before after) (sym (append-nil lines)) f }
+pub front_in_part : {before after : Option (List ℕ)} {lines : List (Line (List ℕ))} → ReadsToFault before after lines → ReadsPart before after lines
+front_in_part {before} {after} {lines} f = record {
+  more = [];
+  front = record { read = f.front.read; moved = f.front.moved; ended = f.front.ended ∙ sym (append-nil lines) };
+  near = f.near;
+}
 
 pub stop_in_part : {before after : Option (List ℕ)} {lines : List (Line (List ℕ))} (stop : LineStop) → StopsWith stop before after lines → ReadsPart before after lines
 stop_in_part Read s = front_in_part s

@@ -2,7 +2,8 @@
 pub mod Beside
 pub mod Buffer
 pub mod Causes
+pub mod LinesState
 pub mod Memory
+pub mod NextLine
 pub mod Pieces
-pub mod Reading
 pub mod Taking

@@ -1,12 +1,16 @@
 -- What the source and the sink in memory show.
 use Rattle.std.specs.Prelude.{ℕ, List}
-use Rattle.lp_base.specs.Pieces.{bytes_left}
+use Rattle.lp_base.specs.Pieces.{pieces_left, bytes_of}
 use Rattle.lp_base.specs.declared.memory.MemSource.{MemSource}
 use Rattle.lp_base.specs.declared.memory.MemSink.{MemSink}
 
+-- the pieces still to come, none of which is empty; the first one may be the rest of a piece
+abbrev pub unread_pieces : MemSource → List (List ℕ)
+unread_pieces s = pieces_left s.piece s.from s.pieces
+
 -- the bytes still to come
 abbrev pub unread : MemSource → List ℕ
-unread s = bytes_left s.piece s.from s.pieces
+unread s = bytes_of (unread_pieces s)
 
 -- the number of the next read, from 1; past the end of its type it stays
 abbrev pub next_read : MemSource → ℕ

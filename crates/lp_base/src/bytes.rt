@@ -26,7 +26,7 @@ impl Bytes {
         }
     }
 
-    pub fn from_vec(items: Vec<u8>) -> Self
+    pub(crate) fn from_vec(items: Vec<u8>) -> Self
         ensures { result ≡ items.items }
     {
         Bytes { items }
@@ -72,12 +72,6 @@ impl Bytes {
         self.items.extend_from_slice(bytes)?;
         Ok(())
     }
-
-    pub fn copy(&self, alloc: Global) -> Result<Self, AllocError>
-        ensures { IfOk result (λ copy. copy ≡ self.now) }
-    {
-        Bytes::from_slice(alloc, &self.items)
-    }
 }
 
 /// A name, which is compared byte by byte.
@@ -110,13 +104,6 @@ impl Name {
         ensures { IfOk result (λ copy. copy ≡ self.now) }
     {
         Name::from_slice(alloc, self.text.as_slice())
-    }
-
-    /// Whether this is the name.
-    pub fn is(&self, text: &[u8]) -> bool
-        ensures { IsTrue result ↔ (self.now ≡ text.now) }
-    {
-        are_same(self.text.as_slice(), text)
     }
 }
 

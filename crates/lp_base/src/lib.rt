@@ -9,6 +9,7 @@
 //! Rose HasCause        a fault was counted: specs/Causes
 //! ReadsLines           the lines that several calls took, and of which bytes: specs/Taking
 //! ReadsAll ReadsFront  what was read in all, where a reader stops: specs/Taking
+//! ReadsLittleMore      how little was read beyond the lines that were taken: specs/Taking
 #![tactic(auto)]
 
 mod bytes;
@@ -19,8 +20,7 @@ mod part;
 mod word;
 
 pub use bytes::{Bytes, Name, Texts, are_same};
-pub use lines::{Line, LineStop, Lines, MAX_INPUT};
+pub use lines::{Line, LineStop, Lines};
 pub use memory::{MemSink, MemSource};
 pub use outside::{Failed, Sink, Source, WriteFault, send};
-pub use part::MAX_LINE;
 pub use word::{is_blank, words};

@@ -4,8 +4,8 @@ ghost use Rattle.std.specs.List.{Contains};
 ghost use Rattle.lp_base.specs.declared.lines.LineStop.TheVariants.{Read, NoMemory};
 ghost use Rattle.spec_text.specs.declared.line.Line.TheVariants.{End};
 ghost use Rattle.lp_base.specs.Causes.{Rose, HasCause};
-ghost use Rattle.lp_base.specs.Reading.{ReadsOn, GivesNext, TakesRun};
-ghost use Rattle.lp_base.specs.Reading.Value.{at_start};
+ghost use Rattle.lp_base.specs.NextLine.{ReadsOn, GivesNext, TakesRun};
+ghost use Rattle.lp_base.specs.LinesState.{at_start};
 
 use crate::part::Part;
 use crate::{Bytes, Failed, Source};
@@ -15,9 +15,10 @@ use thiserror::Error;
 
 const LINE_FEED: u8 = b'\n';
 
-/// The most bytes of an input whose lines are given.
-pub const MAX_INPUT: u64 = 1 << 26;
+// The most bytes of an input whose lines are given.
+const MAX_INPUT: u64 = 1 << 26;
 
+// The most bytes that are read ahead.
 const BUFFER_LEN: usize = 4_096;
 
 /// A line, or what stands in its place at the end of the input.
@@ -61,13 +62,13 @@ pub struct Lines {
 }
 
 impl Model for Lines {
-    ghost use Rattle.lp_base.specs.Reading.Value.{Reading};
+    ghost use Rattle.lp_base.specs.LinesState.{LinesState};
 
-    ghost Value = { Reading };
+    ghost Value = { LinesState };
 
-    ghost use Rattle.lp_base.specs.Buffer.{IsBuffer, reading_of};
+    ghost use Rattle.lp_base.specs.Buffer.{IsBuffer, state_of};
 
-    ghost view = { reading_of };
+    ghost view = { state_of };
 
     ghost invariant = { IsBuffer };
 }
@@ -88,6 +89,7 @@ impl Lines {
     }
 
     /// The next line. After `Over` or an `Err` no further line is promised; after `End` only `End` comes.
+    /// Nothing is read in vain: beyond a line that is given, or the part of one, at most a buffer of 4,096 bytes is.
     pub fn next<S: Source>(&mut self, source: &mut S) -> Result<Line, LineStop>
         ensures line { GivesNext (S.left source.old) (S.left source.new) self.old self.new result }
         ensures ended { self.old.ended ≡ true → (result ≡ Ok End) × (S.left source.new ≡ S.left source.old) }
@@ -124,6 +126,7 @@ impl Lines {
         ensures moved { ReadsOn (S.left source.old) (S.left source.new) self.old self.new result }
         ensures ended { self.old.ended ≡ true → (result ≡ Ok false) × (S.left source.new ≡ S.left source.old) }
         ensures held { 0 < length self.old.ahead → (S.left source.new ≡ S.left source.old) × (S.read_faults source.new ≡ S.read_faults source.old) }
+        ensures near { length self.new.ahead ≤ 4096 }
         ensures cause { HasCause (S.read_faults source.old) (S.read_faults source.new) result }
         ensures beside { S.beside_reads source.new ≡ S.beside_reads source.old }
     {

@@ -5,8 +5,8 @@ ghost use Rattle.std.specs.Io.{ReadsAtMost, WritesAtMost};
 ghost use Rattle.std.specs.Io.KnownBytes.{ReadConsumes, WriteAppends};
 ghost use Rattle.lp_base.specs.Beside.{no_sink, no_source};
 ghost use Rattle.lp_base.specs.Causes.{Rose, HasCause};
-ghost use Rattle.lp_base.specs.Memory.{unread, next_read, failing_reads, source_faults, bytes_taken, next_write, failing_writes, sink_faults};
-ghost use Rattle.lp_base.specs.Pieces.{bytes_left};
+ghost use Rattle.lp_base.specs.Memory.{unread, unread_pieces, next_read, failing_reads, source_faults, bytes_taken, next_write, failing_writes, sink_faults};
+ghost use Rattle.lp_base.specs.Pieces.{filled, pieces_left, bytes_of, first_given, left_behind};
 
 use crate::{Failed, Sink, Source, Texts};
 use std::alloc::Global;
@@ -71,7 +71,8 @@ pub struct MemSource {
 
 impl MemSource {
     pub fn new(pieces: Texts, fails: Vec<u64>) -> Self
-        ensures left { unread result ≡ bytes_left 0 0 pieces }
+        ensures pieces { unread_pieces result ≡ filled pieces }
+        ensures left { unread result ≡ bytes_of pieces }
         ensures next { next_read result ≡ 1 }
         ensures fails { failing_reads result ≡ fails.items }
         ensures faults { source_faults result ≡ 0 }
@@ -88,6 +89,8 @@ impl MemSource {
     fn give(&mut self, buf: &mut [u8]) -> usize
         ensures bound { result ≤ length buf.new }
         ensures len { length buf.new ≡ length buf.old }
+        ensures first { take result buf.new ≡ first_given (length buf.old) (unread_pieces self.old) }
+        ensures behind { unread_pieces self.new ≡ left_behind (length buf.old) (unread_pieces self.old) }
         ensures bytes { unread self.old ≡ take result buf.new ++ unread self.new }
         ensures end { result ≡ 0 → 0 < length buf.new → unread self.new ≡ [] }
         ensures calls { self.new.calls ≡ self.old.calls }
@@ -118,7 +121,7 @@ fn copy_front(bytes: &[u8], buf: &mut [u8]) -> usize
 }
 
 impl Source for MemSource {
-    ghost left = { λ s. Some (bytes_left s.piece s.from s.pieces) };
+    ghost left = { λ s. Some (bytes_of (pieces_left s.piece s.from s.pieces)) };
 
     ghost read_faults = { λ s. s.calls.faults };
 
@@ -127,6 +130,9 @@ impl Source for MemSource {
     fn read(&mut self, buf: &mut [u8]) -> Result<usize, Failed>
         ensures bound { ReadsAtMost result buf.new }
         ensures bytes { ReadConsumes (Some (unread self.old)) (Some (unread self.new)) result buf.new }
+        ensures first { IfOk result (λ n. take n buf.new ≡ first_given (length buf.old) (unread_pieces self.old)) }
+        ensures behind { OnOk result (unread_pieces self.new ≡ left_behind (length buf.old) (unread_pieces self.old)) }
+        ensures kept { OnErr result (unread_pieces self.new ≡ unread_pieces self.old) }
         ensures cause { HasCause (source_faults self.old) (source_faults self.new) result }
         ensures next { next_read self.new ≡ min (next_read self.old + 1) (2 ^ 64 - 1) }
         ensures fails { failing_reads self.new ≡ failing_reads self.old }

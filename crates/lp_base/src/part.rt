@@ -3,15 +3,15 @@ ghost use Rattle.std.specs.Prelude.{◌≡◌, ℕ, ◌+◌, ◌^◌, ◌<◌, �
 ghost use Rattle.std.specs.Str.Lines.{strip_carriage_return};
 ghost use Rattle.spec_text.specs.Lines.{line_of};
 ghost use Rattle.spec_text.specs.declared.line.Line.TheVariants.{End};
-ghost use Rattle.lp_base.specs.Reading.{IsKept};
+ghost use Rattle.lp_base.specs.NextLine.{IsKept};
 
 use crate::{Bytes, Line};
 use std::alloc::{AllocError, Global};
 
 const CARRIAGE_RETURN: u8 = b'\r';
 
-/// The most bytes of a line that is kept.
-pub const MAX_LINE: u64 = 16_384;
+// The most bytes of a line that is kept.
+const MAX_LINE: u64 = 16_384;
 
 /// Its first bytes, one more than a line may have, its length and its last byte.
 #[derive(Drop)]

@@ -1,20 +1,20 @@
 // The words of a line.
 ghost use Rattle.std.specs.Prelude.{◌≡◌, IfOk};
-ghost use Rattle.spec_text.specs.Words as told;
+ghost use Rattle.spec_text.specs.Words as text;
 
 use crate::{Bytes, Texts};
 use std::alloc::{AllocError, Global};
 
 /// Whether a byte stands between words: a space or a tab.
 pub fn is_blank(b: u8) -> bool
-    ensures { result ≡ told.is_blank b }
+    ensures { result ≡ text.is_blank b }
 {
     b == b' ' || b == b'\t'
 }
 
 /// The words of a line, in order.
 pub fn words(alloc: Global, line: &[u8]) -> Result<Texts, AllocError>
-    ensures { IfOk result (λ words. words ≡ told.words_of line.now) }
+    ensures { IfOk result (λ words. words ≡ text.words_of line.now) }
 {
     let mut words = Texts::new(alloc);
     for word in line.split(|b| is_blank(*b)) {

@@ -2,7 +2,7 @@
 ghost use Rattle.std.specs.Prelude.{◌≡◌, IfOk, codes};
 
 use crate::*;
-use lp_base::{Bytes, Name};
+use lp_base::Name;
 use lp_frac::{Entries, Frac, Fracs, dot, num, one, zero};
 use lp_model::{Column, Kind, Model, Row, Sense};
 use std::alloc::{AllocError, Global};
@@ -302,9 +302,6 @@ fn rows_up_to_the_limit(rt: HostRuntime) -> Result<(), Fail> {
 #[test]
 fn copies_and_products(rt: HostRuntime) -> Result<(), Fail> {
     let alloc = rt.alloc();
-    let bytes = Bytes::from_slice(alloc, b"x 1")?;
-    assert_eq!(rt; bytes.copy(alloc)?.as_slice(), b"x 1".as_slice());
-
     let (two, three) = (whole(2)?, whole(3)?);
     let mut list = Fracs::new(alloc);
     list.push(two)?;

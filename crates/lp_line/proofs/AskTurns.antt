@@ -12,8 +12,8 @@ use Rattle.spec_server.specs.Machine.{ExactAsk}
 use Rattle.spec_server.specs.Command.{ExactCommand, command_of}
 use Rattle.spec_server.specs.Script.{ending_by, begun, asks_of_command, asks_of_line, pending_after_line, asks_from, pending_after, ends_text, ends_certificate}
 use Rattle.spec_server.proofs.ScriptLemmas.{asks_from-append, pending_after-append, asked_session}
-use Rattle.lp_base.specs.Reading.Value.{Reading}
-use Rattle.lp_base.specs.Reading.{GivesNext}
+use Rattle.lp_base.specs.LinesState.{LinesState}
+use Rattle.lp_base.specs.NextLine.{GivesNext}
 use Rattle.lp_base.specs.Taking.{ReadsLines}
 use Rattle.lp_base.proofs.TakingLemmas.{reads_none, reads_line, reads_until, given_line}
 use Rattle.lp_base.specs.declared.lines.LineStop.{LineStop}
@@ -47,31 +47,31 @@ line_done (Certificate session body) next asked e = body_done (ends_certificate 
 -- ---- turns of the loop
 
 -- these lines were read, which complete no ask
-pub record Turn (before now : Option (List ℕ)) (old reading : Reading) (pending : Begun) : Type 0 where
+pub record Turn (before now : Option (List ℕ)) (old reading : LinesState) (pending : Begun) : Type 0 where
   pub passed : List (Line (List ℕ))
   pub reads : ReadsLines before now old reading passed
   pub given : AreGiven passed
   pub asks : asks_from Between passed ≡ []
   pub pends : pending ≡ pending_after Between passed
 
-pub begins : (left : Option (List ℕ)) (reading : Reading) (pending : Begun) → pending ≡ Between → Turn left left reading reading pending
+pub begins : (left : Option (List ℕ)) (reading : LinesState) (pending : Begun) → pending ≡ Between → Turn left left reading reading pending
 begins left reading pending is = record { passed = []; reads = reads_none left reading; given = All-nil _; asks = refl; pends = is }
 
 one_more : (passed : List (Line (List ℕ))) (next : Line (List ℕ)) → AreGiven passed → next ≢ line.End → next ≢ line.Over → AreGiven (passed ++ next ∷ [])
 one_more passed next given no_end no_over = let now : (next ≢ line.End) × (next ≢ line.Over) = (no_end, no_over) in All-push (λ (l : Line (List ℕ)). (l ≢ line.End) × (l ≢ line.Over)) passed next given now
 
 -- the asks of the lines with one more
-asks_more : {before now : Option (List ℕ)} {old reading : Reading} {pending : Begun} (t : Turn before now old reading pending) (next : Line (List ℕ)) → asks_from Between (t.passed ++ next ∷ []) ≡ asks_of_line pending next
+asks_more : {before now : Option (List ℕ)} {old reading : LinesState} {pending : Begun} (t : Turn before now old reading pending) (next : Line (List ℕ)) → asks_from Between (t.passed ++ next ∷ []) ≡ asks_of_line pending next
 asks_more {pending = pending} t next =
     asks_from-append Between t.passed (next ∷ [])
     ∙ ap (λ zs. zs ++ (asks_of_line (pending_after Between t.passed) next ++ [])) t.asks
     ∙ append-nil (asks_of_line (pending_after Between t.passed) next)
     ∙ ap (λ (p : Begun). asks_of_line p next) (sym t.pends)
 
-pending_more : {before now : Option (List ℕ)} {old reading : Reading} {pending : Begun} (t : Turn before now old reading pending) (next : Line (List ℕ)) → pending_after Between (t.passed ++ next ∷ []) ≡ pending_after_line pending next
+pending_more : {before now : Option (List ℕ)} {old reading : LinesState} {pending : Begun} (t : Turn before now old reading pending) (next : Line (List ℕ)) → pending_after Between (t.passed ++ next ∷ []) ≡ pending_after_line pending next
 pending_more t next = pending_after-append Between t.passed (next ∷ []) ∙ ap (λ (p : Begun). pending_after_line p next) (sym t.pends)
 
-module _ {before now : Option (List ℕ)} (after : Option (List ℕ)) {old reading : Reading} {pending : Begun} (t : Turn before now old reading pending) (new : Reading) where
+module _ {before now : Option (List ℕ)} (after : Option (List ℕ)) {old reading : LinesState} {pending : Begun} (t : Turn before now old reading pending) (new : LinesState) where
   -- a line came that completes no ask
   pub goes_on : (next : Line (List ℕ)) → GivesNext now after reading new (Ok next) → next ≢ line.End → next ≢ line.Over → (new_pending : Begun) (answer : Option (Asked ExactAsk)) → Advances pending next (new_pending, answer) → answer ≡ None → Turn before after old new new_pending
   goes_on next g no_end no_over new_pending answer a is = record {
@@ -124,7 +124,7 @@ module _ {before now : Option (List ℕ)} (after : Option (List ℕ)) {old readi
   stopped stop.NoMemory g = record { passed = t.passed; reads = inr (reads_until t.reads g) }
 
 -- a line takes a byte at least
-pub takes_more : {before after : Option (List ℕ)} {old new : Reading} (next : Line (List ℕ)) → GivesNext before after old new (Ok next) → next ≢ line.End → next ≢ line.Over → (old.given < new.given) × (new.given ≤ 2 ^ 26)
+pub takes_more : {before after : Option (List ℕ)} {old new : LinesState} (next : Line (List ℕ)) → GivesNext before after old new (Ok next) → next ≢ line.End → next ≢ line.Over → (old.given < new.given) × (new.given ≤ 2 ^ 26)
 takes_more {before} {after} {old} {new} next g no_end no_over =
     let given = given_line before after old g.bytes new next no_end no_over g.gives in (
       ⊎_elim
@@ -135,5 +135,5 @@ takes_more {before} {after} {old} {new} next g no_end no_over =
     )
 
 -- the same result
-pub takes_as : (before after : Option (List ℕ)) (old new : Reading) (result other : Result Taken LineStop) → result ≡ other → TakesNext before after old new other → TakesNext before after old new result
+pub takes_as : (before after : Option (List ℕ)) (old new : LinesState) (result other : Result Taken LineStop) → result ≡ other → TakesNext before after old new other → TakesNext before after old new result
 takes_as before after old new result other same t = subst (λ (r : Result Taken LineStop). TakesNext before after old new r) (sym same) t

@@ -7,7 +7,7 @@ use Rattle.spec_server.specs.declared.pending.Pending.{Pending}
 use Rattle.spec_server.specs.declared.pending.Pending.TheVariants.{Between}
 use Rattle.spec_server.specs.Machine.{ExactAsk}
 use Rattle.spec_server.specs.Script.{Ending, Ended, Cut, ending_by, asks_from, pending_after}
-use Rattle.lp_base.specs.Reading.Value.{Reading}
+use Rattle.lp_base.specs.LinesState.{LinesState}
 use Rattle.lp_base.specs.Taking.{ReadsLines, ReadsUntil}
 use Rattle.lp_base.specs.declared.lines.LineStop.{LineStop}
 use Rattle.lp_base.specs.declared.lines.LineStop.TheVariants as stop
@@ -19,7 +19,7 @@ abbrev pub AreGiven : List (Line (List ℕ)) → Type 0
 AreGiven lines = All (λ next. (next ≢ line.End) × (next ≢ line.Over)) lines
 
 -- these lines were read, and the last of them completes this ask, the only one
-pub record TakesAsk (before after : Option (List ℕ)) (old new : Reading) (asked : Asked ExactAsk) : Type 0 where
+pub record TakesAsk (before after : Option (List ℕ)) (old new : LinesState) (asked : Asked ExactAsk) : Type 0 where
   pub passed : List (Line (List ℕ))
   pub reads : ReadsLines before after old new passed
   pub given : AreGiven passed
@@ -32,23 +32,23 @@ pub record TakesAsk (before after : Option (List ℕ)) (old new : Reading) (aske
   pub numbered : asked.session ≤ 64
 
 -- these lines were read, which complete no ask, and then this came
-pub record TakesNone (before after : Option (List ℕ)) (old : Reading) (result : Result (Line (List ℕ)) LineStop) : Type 0 where
+pub record TakesNone (before after : Option (List ℕ)) (old : LinesState) (result : Result (Line (List ℕ)) LineStop) : Type 0 where
   pub passed : List (Line (List ℕ))
   pub reads : ReadsUntil before after old passed result
   pub given : AreGiven passed
   pub asks : asks_from Between passed ≡ []
 
 -- the input ended behind them, which is this end of a script
-pub record TakesEnd (before after : Option (List ℕ)) (old : Reading) (ending : Ending) : Type 0 where
+pub record TakesEnd (before after : Option (List ℕ)) (old : LinesState) (ending : Ending) : Type 0 where
   pub none : TakesNone before after old (Ok line.End)
   pub ends : ending_by (pending_after Between none.passed) ≡ ending
 
 -- memory was wanting behind these lines, or for what the last of them completes
-pub record TakesPart (before after : Option (List ℕ)) (old new : Reading) : Type 0 where
+pub record TakesPart (before after : Option (List ℕ)) (old new : LinesState) : Type 0 where
   pub passed : List (Line (List ℕ))
   pub reads : ReadsLines before after old new passed ⊎ ReadsUntil before after old passed (Err stop.NoMemory)
 
-abbrev pub TakesNext : Option (List ℕ) → Option (List ℕ) → Reading → Reading → Result Taken LineStop → Type 0
+abbrev pub TakesNext : Option (List ℕ) → Option (List ℕ) → LinesState → LinesState → Result Taken LineStop → Type 0
 TakesNext before after old new (Ok (taken.Ask asked)) = TakesAsk before after old new asked
 TakesNext before after old new (Ok taken.End) = TakesEnd before after old Ended
 TakesNext before after old new (Ok taken.Cut) = TakesEnd before after old Cut
@@ -57,7 +57,7 @@ TakesNext before after old new (Err stop.Read) = TakesNone before after old (Err
 TakesNext before after old new (Err stop.NoMemory) = TakesPart before after old new
 
 -- an ask takes a byte at least
-abbrev pub TakesMore : Reading → Reading → Result Taken LineStop → Type 0
+abbrev pub TakesMore : LinesState → LinesState → Result Taken LineStop → Type 0
 TakesMore old new (Ok (taken.Ask asked)) = (old.given < new.given) × (new.given ≤ 2 ^ 26)
 TakesMore old new (Ok taken.End) = Unit {0}
 TakesMore old new (Ok taken.Cut) = Unit {0}

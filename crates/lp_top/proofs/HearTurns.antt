@@ -6,8 +6,8 @@ use Rattle.spec_text.specs.declared.line.Line.{Line}
 use Rattle.spec_text.specs.declared.line.Line.TheVariants.{End, Over}
 use Rattle.spec_text.specs.declared.line.Line.TheVariants as line
 use Rattle.spec_server.specs.Said.{IsSaid}
-use Rattle.lp_base.specs.Reading.Value.{Reading, at_start}
-use Rattle.lp_base.specs.Reading.{GivesNext}
+use Rattle.lp_base.specs.LinesState.{LinesState, at_start}
+use Rattle.lp_base.specs.NextLine.{GivesNext}
 use Rattle.lp_base.specs.Taking.{Tells, TakesLines, ReadsLines, StopsWith}
 use Rattle.lp_base.proofs.TakingLemmas.{reads_start, reads_line, reads_until, stops_at_end, stops_over, stops_with, given_line}
 use Rattle.lp_base.specs.declared.lines.LineStop.{LineStop}
@@ -19,7 +19,7 @@ use Rattle.lp_top.specs.Hearing.{Leads, Hears, HearsTooMuch, Reads, HearsSo}
 use Rattle.lp_top.specs.Stop.{stop_of}
 
 -- a line takes a byte at least
-takes_more : {before after : Option (List ℕ)} {old new : Reading} (line : Line (List ℕ)) → GivesNext before after old new (Ok line) → line ≢ End → line ≢ Over → (old.given < new.given) × (new.given ≤ 2 ^ 26)
+takes_more : {before after : Option (List ℕ)} {old new : LinesState} (line : Line (List ℕ)) → GivesNext before after old new (Ok line) → line ≢ End → line ≢ Over → (old.given < new.given) × (new.given ≤ 2 ^ 26)
 takes_more {before} {after} {old} {new} line g no_end no_over =
     let given = given_line before after old g.bytes new line no_end no_over g.gives in (
       ⊎_elim
@@ -33,7 +33,7 @@ append_one : {A : Type 0} (xs : List A) (x : A) (more : List A) → (xs ++ x ∷
 append_one xs x more = append_assoc xs (x ∷ []) more
 
 -- the lines that were read lead from the first stage to this one
-pub record Turn {T R : Type 0} (said : T → List (Line (List ℕ)) → Option R) (count : T → ℕ) (first : T) (before now : Option (List ℕ)) (reading : Reading) (at : T) : Type 0 where
+pub record Turn {T R : Type 0} (said : T → List (Line (List ℕ)) → Option R) (count : T → ℕ) (first : T) (before now : Option (List ℕ)) (reading : LinesState) (at : T) : Type 0 where
   pub lines : List (Line (List ℕ))
   pub reads : ReadsLines before now at_start reading lines
   pub comes : (more : List (Line (List ℕ))) → said first (lines ++ more) ≡ said at more
@@ -41,9 +41,9 @@ pub record Turn {T R : Type 0} (said : T → List (Line (List ℕ)) → Option R
   pub within : reading.given ≤ 2 ^ 26
 
 module _ {T R : Type 0} {said : T → List (Line (List ℕ)) → Option R} {count : T → ℕ} {first : T} where
-  pub started : (left : Option (List ℕ)) (reading : Reading) → reading ≡ at_start → count first ≡ 0 → Turn said count first left left reading first
+  pub started : (left : Option (List ℕ)) (reading : LinesState) → reading ≡ at_start → count first ≡ 0 → Turn said count first left left reading first
   started left reading is_start none =
-      let empty : reading.given ≡ 0 = ap (λ (r : Reading). r.given) is_start in
+      let empty : reading.given ≡ 0 = ap (λ (r : LinesState). r.given) is_start in
       record {
         lines = [];
         reads = reads_start left reading is_start;
@@ -52,12 +52,12 @@ module _ {T R : Type 0} {said : T → List (Line (List ℕ)) → Option R} {coun
         within = omega (arith, empty);
       }
 
-  pub in_range : {before now : Option (List ℕ)} {reading : Reading} {at : T} → Turn said count first before now reading at → count at < 2 ^ 32 - 1
+  pub in_range : {before now : Option (List ℕ)} {reading : LinesState} {at : T} → Turn said count first before now reading at → count at < 2 ^ 32 - 1
   in_range t = omega (arith, t.few, t.within)
 
-  module _ {before now : Option (List ℕ)} {reading : Reading} {at : T} (t : Turn said count first before now reading at) (after : Option (List ℕ)) where
+  module _ {before now : Option (List ℕ)} {reading : LinesState} {at : T} (t : Turn said count first before now reading at) (after : Option (List ℕ)) where
     -- one more line was read
-    pub on_line : (new : Reading) (line : Line (List ℕ)) → GivesNext now after reading new (Ok line) → line ≢ Over → (next : T) → Leads said count at line (step.On next) → Turn said count first before after new next
+    pub on_line : (new : LinesState) (line : Line (List ℕ)) → GivesNext now after reading new (Ok line) → line ≢ Over → (next : T) → Leads said count at line (step.On next) → Turn said count first before after new next
     on_line new line g no_over next leads =
         let more = takes_more line g leads.2 no_over in
         record {
@@ -68,11 +68,11 @@ module _ {T R : Type 0} {said : T → List (Line (List ℕ)) → Option R} {coun
           within = more.1;
         }
 
-    pub goes_down : (new : Reading) (line : Line (List ℕ)) → GivesNext now after reading new (Ok line) → line ≢ Over → (next : T) → Leads said count at line (step.On next) → (reading.given < new.given) × (new.given ≤ 2 ^ 26)
+    pub goes_down : (new : LinesState) (line : Line (List ℕ)) → GivesNext now after reading new (Ok line) → line ≢ Over → (next : T) → Leads said count at line (step.On next) → (reading.given < new.given) × (new.given ≤ 2 ^ 26)
     goes_down new line g no_over next leads = takes_more line g leads.2 no_over
 
     -- something is said at a line
-    said_at : (new : Reading) (line : Line (List ℕ)) → ReadsLines before after at_start new (t.lines ++ line ∷ []) → (what : R) → Leads said count at line (step.Says what) → Hears (said first) before after what
+    said_at : (new : LinesState) (line : Line (List ℕ)) → ReadsLines before after at_start new (t.lines ++ line ∷ []) → (what : R) → Leads said count at line (step.Says what) → Hears (said first) before after what
     said_at new line r what leads = ⊎_elim (λ u. record { read = r.bytes; consumed = r.moved; is_said = by u new.ended u.told }) (λ s. absurd (let z : false ≡ true = s.ended in cc)) r.taken
       where
         lines : List (Line (List ℕ))
@@ -91,7 +91,7 @@ module _ {T R : Type 0} {said : T → List (Line (List ℕ)) → Option R} {coun
             ∙ says (lines_of (new.ahead ++ more)))
 
     -- and at the end
-    said_at_end : (new : Reading) → GivesNext now after reading new (Ok End) → (what : R) → Leads said count at End (step.Says what) → Hears (said first) before after what
+    said_at_end : (new : LinesState) → GivesNext now after reading new (Ok End) → (what : R) → Leads said count at End (step.Says what) → Hears (said first) before after what
     said_at_end new g what leads =
         let all = stops_at_end (reads_until t.reads g) in
         record {
@@ -100,7 +100,7 @@ module _ {T R : Type 0} {said : T → List (Line (List ℕ)) → Option R} {coun
           is_said = inr (record { all = ap (λ ls. said first (ls ++ End ∷ [])) all.all ∙ t.comes (End ∷ []) ∙ leads []; at_end = all.at_end });
         }
 
-    pub says_so : (new : Reading) (line : Line (List ℕ)) → GivesNext now after reading new (Ok line) → line ≢ Over → (what : R) → Leads said count at line (step.Says what) → Hears (said first) before after what
+    pub says_so : (new : LinesState) (line : Line (List ℕ)) → GivesNext now after reading new (Ok line) → line ≢ Over → (what : R) → Leads said count at line (step.Says what) → Hears (said first) before after what
     says_so new (line.Text bytes) g no_over what leads = said_at new (line.Text bytes) (reads_line (line.Text bytes) t.reads g (λ h. cc) no_over) what leads
     says_so new (line.Long len) g no_over what leads = said_at new (line.Long len) (reads_line (line.Long len) t.reads g (λ h. cc) no_over) what leads
     says_so new line.End g no_over what leads = said_at_end new g what leads
@@ -110,19 +110,19 @@ module _ {T R : Type 0} {said : T → List (Line (List ℕ)) → Option R} {coun
     undecided : said at [] ≡ None → said first t.lines ≡ None
     undecided silent = ap (said first) (sym (append-nil t.lines)) ∙ t.comes [] ∙ silent
 
-    pub stopped : said at [] ≡ None → (new : Reading) (stop : LineStop) → GivesNext now after reading new (Err stop) → HearsSo (said first) before after (Err (stop_of stop))
+    pub stopped : said at [] ≡ None → (new : LinesState) (stop : LineStop) → GivesNext now after reading new (Err stop) → HearsSo (said first) before after (Err (stop_of stop))
     stopped silent new stop g = by stop (stops_with stop (reads_until t.reads g))
       where
         by : (stop : LineStop) → StopsWith stop before after t.lines → HearsSo (said first) before after (Err (stop_of stop))
-        by line_stops.Read r = record { read = r.read; consumed = r.moved; undecided = ap (said first) r.ended ∙ undecided silent }
+        by line_stops.Read r = record { read = r.front.read; consumed = r.front.moved; undecided = ap (said first) r.front.ended ∙ undecided silent }
         by line_stops.NoMemory r = record { read = r.front.read; consumed = r.front.moved }
 
-    pub too_long : said at [] ≡ None → (new : Reading) → GivesNext now after reading new (Ok Over) → HearsTooMuch (said first) before after
+    pub too_long : said at [] ≡ None → (new : LinesState) → GivesNext now after reading new (Ok Over) → HearsTooMuch (said first) before after
     too_long silent new g =
         let over = stops_over (reads_until t.reads g) in
         record { nothing = record { read = over.front.read; consumed = over.front.moved; undecided = ap (said first) over.front.ended ∙ undecided silent }; over = over.past }
 
-    pub reads_some : (result : Result (Line (List ℕ)) LineStop) (new : Reading) → GivesNext now after reading new result → Reads before after
+    pub reads_some : (result : Result (Line (List ℕ)) LineStop) (new : LinesState) → GivesNext now after reading new result → Reads before after
     reads_some result new g = record { read = t.reads.bytes ++ g.bytes; consumed = Consumes-trans before now after t.reads.bytes g.bytes t.reads.moved g.moved }
 
 pub reads_nothing : (left : Option (List ℕ)) → Reads left left

@@ -16,7 +16,7 @@ use Rattle.spec_server.specs.Script as script
 use Rattle.spec_server.specs.Output.{script_out}
 use Rattle.spec_server.proofs.RunLemmas.{AloneRun-append, of_session-append, script_out-append, asked_in-append, updated}
 use Rattle.spec_server.proofs.ScriptLemmas.{asks_from-append, pending_after-append}
-use Rattle.lp_base.specs.Reading.Value.{Reading, at_start}
+use Rattle.lp_base.specs.LinesState.{LinesState, at_start}
 use Rattle.lp_base.specs.Taking.{ReadsLines, ReadsAll, ReadsFront, ReadsPart}
 use Rattle.lp_base.proofs.TakingLemmas.{reads_start, ReadsLines-append, ReadsUntil-append, stops_at_end, stops_over, stops_with, stops_now}
 use Rattle.lp_base.specs.declared.lines.LineStop.{LineStop}
@@ -120,7 +120,7 @@ ended_asks read = refl
 
 -- ---- turns of the loop
 
-pub record Turn (left_before left_now taken_before taken_now : Option (List ℕ)) (reading : Reading) (sessions : List State) : Type 0 where
+pub record Turn (left_before left_now taken_before taken_now : Option (List ℕ)) (reading : LinesState) (sessions : List State) : Type 0 where
   pub lines : List (Line (List ℕ))
   pub reads : ReadsLines left_before left_now at_start reading lines
   pub between : pending_after Between lines ≡ Between
@@ -134,7 +134,7 @@ state-replicate (suc n) zero = refl
 state-replicate (suc n) (suc session) = state-replicate n session
 
 -- at the start
-pub start : (left taken : Option (List ℕ)) (reading : Reading) (sessions : List State) → reading ≡ at_start → sessions ≡ replicate 65 opening → Turn left left taken taken reading sessions
+pub start : (left taken : Option (List ℕ)) (reading : LinesState) (sessions : List State) → reading ≡ at_start → sessions ≡ replicate 65 opening → Turn left left taken taken reading sessions
 start left taken reading sessions is_start are_opening = record {
   lines = [];
   reads = reads_start left reading is_start;
@@ -145,8 +145,8 @@ start left taken reading sessions is_start are_opening = record {
 }
 
 -- one more ask was answered
-pub turn_on : {left_before left_now taken_before taken_now : Option (List ℕ)} (left_after taken_after : Option (List ℕ)) {reading : Reading} {sessions : List State} →
-    Turn left_before left_now taken_before taken_now reading sessions → (new_reading : Reading) (asked : Asked ExactAsk) → TakesAsk left_now left_after reading new_reading asked →
+pub turn_on : {left_before left_now taken_before taken_now : Option (List ℕ)} (left_after taken_after : Option (List ℕ)) {reading : LinesState} {sessions : List State} →
+    Turn left_before left_now taken_before taken_now reading sessions → (new_reading : LinesState) (asked : Asked ExactAsk) → TakesAsk left_now left_after reading new_reading asked →
     (new_sessions : List State) → Answers taken_now taken_after sessions new_sessions asked →
     Turn left_before left_after taken_before taken_after new_reading new_sessions
 turn_on {left_before} {left_now} {taken_before} {taken_now} left_after taken_after {reading} {sessions} t new_reading asked k new_sessions a =
@@ -246,15 +246,15 @@ moves_all exchanges lines states so appended all ending ends =
       record { ends = record { script = is; whole = refl }; at_end = all.at_end },
     )
 
-module _ {left_before left_now taken_before taken_now : Option (List ℕ)} (left_after : Option (List ℕ)) {reading : Reading} {sessions : List State} (t : Turn left_before left_now taken_before taken_now reading sessions) where
+module _ {left_before left_now taken_before taken_now : Option (List ℕ)} (left_after : Option (List ℕ)) {reading : LinesState} {sessions : List State} (t : Turn left_before left_now taken_before taken_now reading sessions) where
   -- lines came that complete no ask
   none_more : (more : List (Line (List ℕ))) → asks_from Between more ≡ [] → IsSoFar t.exchanges (t.lines ++ more) (state_at sessions)
   none_more more none = so_far_none t.exchanges t.lines more (state_at sessions) t.so_far t.between none
 
   -- no further ask came
-  pub stopped : (new : Reading) (stop : LineStop) → TakesNext left_now left_after reading new (Err stop) → (moves : Moves left_before left_after taken_before taken_now) × EndsSo moves (Err (stop_of stop))
+  pub stopped : (new : LinesState) (stop : LineStop) → TakesNext left_now left_after reading new (Err stop) → (moves : Moves left_before left_after taken_before taken_now) × EndsSo moves (Err (stop_of stop))
   stopped new line_stops.Read k =
-      let m = moves_broken_off t.exchanges (t.lines ++ k.passed) (state_at sessions) (none_more k.passed k.asks) t.written (stops_with line_stops.Read (ReadsUntil-append t.reads k.reads)) in
+      let m = moves_broken_off t.exchanges (t.lines ++ k.passed) (state_at sessions) (none_more k.passed k.asks) t.written (stops_with line_stops.Read (ReadsUntil-append t.reads k.reads)).front in
       (m.0, m.1.0)
   stopped new line_stops.NoMemory k = (
     moves_in_part t.exchanges t.lines k.passed (state_at sessions) t.so_far (script_out t.exchanges) t.written (whole_front t.exchanges)
@@ -279,7 +279,7 @@ module _ {left_before left_now taken_before taken_now : Option (List ℕ)} (left
       (m.0, record { script = past; whole = m.1.0.whole })
 
   -- an ask came, and was answered in part
-  pub in_answer : (taken_after : Option (List ℕ)) (new : Reading) (asked : Asked ExactAsk) → TakesAsk left_now left_after reading new asked → AnswersInPart taken_now taken_after sessions asked → Moves left_before left_after taken_before taken_after
+  pub in_answer : (taken_after : Option (List ℕ)) (new : LinesState) (asked : Asked ExactAsk) → TakesAsk left_now left_after reading new asked → AnswersInPart taken_now taken_after sessions asked → Moves left_before left_after taken_before taken_after
   in_answer taken_after new asked k a =
       let others : List Exchange = exchange_of asked a.reply ∷ [] in
       let lines : List (Line (List ℕ)) = t.lines ++ k.passed in
@@ -295,7 +295,7 @@ module _ {left_before left_now taken_before taken_now : Option (List ℕ)} (left
       (subst (λ (ls : List (Line (List ℕ))). ReadsPart left_before left_after ls ⊎ ReadsAll left_before left_after ls) (sym (append-nil lines)) (stops_now (ReadsLines-append t.reads k.reads)))
 
 -- the same of what was taken
-pub takes_as : (before after : Option (List ℕ)) (old new : Reading) (taken is : Taken) → taken ≡ is → TakesNext before after old new (Ok taken) → TakesNext before after old new (Ok is)
+pub takes_as : (before after : Option (List ℕ)) (old new : LinesState) (taken is : Taken) → taken ≡ is → TakesNext before after old new (Ok taken) → TakesNext before after old new (Ok is)
 takes_as before after old new taken is same k = subst (λ (t : Taken). TakesNext before after old new (Ok t)) same k
 
 -- a stop by want of memory or by a fault of the sink asks for nothing else

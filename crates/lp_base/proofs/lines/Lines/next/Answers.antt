@@ -18,7 +18,7 @@ returns-then-is_full-clause-line g c =
     let more = c.in_ok-has_more.ensures.moved in
     let some = has_some _ _ _ _ _ c.if-branch.true more.4 in
     let s = SoFar-read c.loop-line.invariant.read more.0 more.1 more.2 more.3 (some.2 ∙ sym some.1) in
-    gives_over s some.2 (c.if-is_full.ensures.full.0 refl) some.0
+    gives_over s some.2 (c.if-is_full.ensures.full.0 refl) some.0 c.has_more.ensures.near
 
 pub returns-then-is_full-clause-held : goal.returns-then-is_full-clause-held
 returns-then-is_full-clause-held g c = λ has. stays (c.loop-line.invariant.held has) (c.has_more.ensures.held (still_ahead c.loop-line.invariant.read has))
@@ -29,7 +29,7 @@ returns-in_err-take_run-clause-line g c =
     let some = has_some _ _ _ _ _ c.if-branch.true more.4 in
     let s = SoFar-read c.loop-line.invariant.read more.0 more.1 more.2 more.3 (some.2 ∙ sym some.1) in
     let p = err_from_is_err_and c.from_residual-in_err-take_run.result c.from_residual-in_err-take_run.ensures.1 in
-    gives_err c.from_residual-in_err-take_run.result p.0 p.1 p.2 (gives_no_memory c.take_run.new.self s some.2)
+    gives_err c.from_residual-in_err-take_run.result p.0 p.1 p.2 (gives_no_memory c.take_run.new.self s some.2 c.has_more.ensures.near)
 
 pub returns-in_err-take_run-clause-held : goal.returns-in_err-take_run-clause-held
 returns-in_err-take_run-clause-held g c = λ has. stays (c.loop-line.invariant.held has) (c.has_more.ensures.held (still_ahead c.loop-line.invariant.read has))
@@ -39,7 +39,7 @@ returns-then-branch-2-clause-line g c =
     let more = c.in_ok-has_more.ensures.moved in
     let some = has_some _ _ _ _ _ c.if-branch.true more.4 in
     let s = SoFar-read c.loop-line.invariant.read more.0 more.1 more.2 more.3 (some.2 ∙ sym some.1) in
-    gives_ended s (run_with true c.in_ok-take_run.ensures c.if-branch-2.true) some.2 c.ended_line.result c.ended_line.ensures
+    gives_ended s (run_with true c.in_ok-take_run.ensures c.if-branch-2.true) some.2 c.has_more.ensures.near c.ended_line.result c.ended_line.ensures
 
 pub returns-then-branch-2-clause-held : goal.returns-then-branch-2-clause-held
 returns-then-branch-2-clause-held g c = λ has. stays (c.loop-line.invariant.held has) (c.has_more.ensures.held (still_ahead c.loop-line.invariant.read has))

@@ -1,17 +1,36 @@
 -- The piece that is read next, cut where there is room.
-use Rattle.std.proofs.Common.{◌≡◌, ◌<◌, ◌++◌, ◌-◌, ◌+◌, List, ℕ, take, drop, arith, length, sym, ◌∙◌, ap, length-drop}
-use Rattle.lp_base.specs.Pieces.{bytes_left}
-use Rattle.lp_base.proofs.PieceLemmas.{next_piece, of_piece, rest_of}
+use Rattle.std.proofs.Common.{◌≡◌, ◌<◌, ◌-◌, List, ℕ, take, drop, arith, length, sym, ◌∙◌, ap, length-drop}
+use Rattle.lp_base.specs.Pieces.{bytes_of, first_given, left_behind}
+use Rattle.lp_base.proofs.PieceLemmas.{next_piece, no_pieces, taken_first, left_then, given_bytes, take_least, rest_of}
 use Rattle.lp_base.proofs.memory.MemSource.give.Goals as goal
 
-pub returns-then-self-piece-clause-bytes : goal.returns-then-self-piece-clause-bytes
-returns-then-self-piece-clause-bytes c =
+pub returns-then-self-piece-clause-first : goal.returns-then-self-piece-clause-first
+returns-then-self-piece-clause-first c =
     let s = c.loop-self.self in
+    let room = length c.args.buf.now in
     let n = c.copy_front-count.result in
     let bytes = c.at-piece.result.now in
-    let same = rest_of s.from bytes in
-    let copied = c.copy_front-count.ensures.copied in
-    sym c.loop-self.invariant.left ∙ (of_piece s.pieces s.piece s.from n bytes c.at-piece.ensures ∙ ap (λ xs. xs ++ bytes_left s.piece (s.from + n) s.pieces) (sym (copied ∙ ap (λ (xs : List ℕ). take n xs) same)))
+    let front : take (length bytes - s.from) (drop s.from bytes) ≡ drop s.from bytes = rest_of s.from bytes in
+    let count = c.copy_front-count.ensures.count in
+    c.copy_front-count.ensures.copied
+    ∙ ap (λ (xs : List ℕ). take n xs) front
+    ∙ take_least room n (drop s.from bytes) (omega (arith, count, ap length front))
+    ∙ sym (taken_first s.pieces s.piece s.from room bytes c.at-piece.ensures (omega arith))
+    ∙ ap (first_given room) c.loop-self.invariant.left
+
+pub returns-then-self-piece-clause-behind : goal.returns-then-self-piece-clause-behind
+returns-then-self-piece-clause-behind c =
+    let s = c.loop-self.self in
+    let room = length c.args.buf.now in
+    let n = c.copy_front-count.result in
+    let bytes = c.at-piece.result.now in
+    let len : length (take (length bytes - s.from) (drop s.from bytes)) ≡ length bytes - s.from = ap length (rest_of s.from bytes) ∙ length-drop s.from bytes in
+    let count = c.copy_front-count.ensures.count in
+    left_then s.pieces s.piece s.from room n bytes c.at-piece.ensures (omega arith) (omega (arith, count, len))
+    ∙ ap (left_behind room) c.loop-self.invariant.left
+
+pub returns-then-self-piece-clause-bytes : goal.returns-then-self-piece-clause-bytes
+returns-then-self-piece-clause-bytes c = given_bytes (length c.args.buf.now) _ _ _ (returns-then-self-piece-clause-first c) (returns-then-self-piece-clause-behind c)
 
 pub returns-then-self-piece-clause-end : goal.returns-then-self-piece-clause-end
 returns-then-self-piece-clause-end c =
@@ -20,6 +39,25 @@ returns-then-self-piece-clause-end c =
     let some : 0 < length bytes - s.from = omega arith in
     let len : length (take (length bytes - s.from) (drop s.from bytes)) ≡ length bytes - s.from = ap length (rest_of s.from bytes) ∙ length-drop s.from bytes in
     λ zero room. absurd (omega (arith, c.copy_front-count.ensures.count, c.copy_front-count.ensures.len, len))
+
+pub returns-clause-first : goal.returns-clause-first
+returns-clause-first c =
+    let s = c.loop-self.self in
+    sym (ap (first_given (length c.args.buf.now)) (sym c.loop-self.invariant.left ∙ no_pieces s.pieces s.piece s.from (omega arith)))
+
+pub returns-clause-behind : goal.returns-clause-behind
+returns-clause-behind c =
+    let s = c.loop-self.self in
+    let none = no_pieces s.pieces s.piece s.from (omega arith) in
+    none ∙ sym (ap (left_behind (length c.args.buf.now)) (sym c.loop-self.invariant.left ∙ none))
+
+pub returns-clause-bytes : goal.returns-clause-bytes
+returns-clause-bytes c = given_bytes (length c.args.buf.now) _ _ _ (returns-clause-first c) (returns-clause-behind c)
+
+pub returns-clause-end : goal.returns-clause-end
+returns-clause-end c =
+    let s = c.loop-self.self in
+    λ zero room. ap bytes_of (no_pieces s.pieces s.piece s.from (omega arith))
 
 pub loop-self-preserved : goal.loop-self-preserved
 loop-self-preserved c =

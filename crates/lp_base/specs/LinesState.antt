@@ -2,11 +2,11 @@
 use Rattle.std.specs.Prelude.{ℕ, List, [], Bool, false}
 
 -- the bytes that were read and not given yet, how many were given, and whether the input has ended
-pub record Reading : Type 0 where
+pub record LinesState : Type 0 where
   pub ahead : List ℕ
   pub given : ℕ
   pub ended : Bool
 
 -- nothing was read
-abbrev pub at_start : Reading
+abbrev pub at_start : LinesState
 at_start = record { ahead = []; given = 0; ended = false }

@@ -1,12 +1,11 @@
 -- What a reader of lines gives.
-pub mod Value
 use Rattle.std.specs.Prelude.{ℕ, ◌≡◌, ◌≢◌, ◌≤◌, ◌<◌, ◌+◌, ◌-◌, ◌^◌, ◌⊎◌, List, [], ◌∷◌, ◌++◌, All, length, take, slice_index, Option, Result, Ok, Err, Bool, true, false}
 use Rattle.std.specs.Io.KnownBytes.{Consumes, IsAtEnd, Keeps}
 use Rattle.std.specs.Str.Lines.{strip_carriage_return}
 use Rattle.spec_text.specs.Lines.{line_of, line_limit}
 use Rattle.spec_text.specs.declared.line.Line.{Line}
 use Rattle.spec_text.specs.declared.line.Line.TheVariants.{Text, Long, End, Over}
-use Rattle.lp_base.specs.Reading.Value.{Reading}
+use Rattle.lp_base.specs.LinesState.{LinesState}
 use Rattle.lp_base.specs.declared.outside.Failed.{Failed}
 use Rattle.lp_base.specs.declared.lines.LineStop.{LineStop}
 use Rattle.lp_base.specs.declared.lines.LineStop.TheVariants.{Read, NoMemory}
@@ -24,7 +23,7 @@ behind true after = 10 ∷ after
 behind false after = after
 
 -- bytes with no line feed are moved from the front to the part, and the line feed behind them, where one was found, is taken
-pub record TakesRun (old new : Reading) (before after : Part) (found : Bool) : Type 0 where
+pub record TakesRun (old new : LinesState) (before after : Part) (found : Bool) : Type 0 where
   pub run : List ℕ
   pub plain : All (λ b. b ≢ 10) run
   pub cut : old.ahead ≡ run ++ behind found new.ahead
@@ -35,16 +34,16 @@ pub record TakesRun (old new : Reading) (before after : Part) (found : Bool) : T
   pub kept : (raw : List ℕ) → IsKept before raw → IsKept after (raw ++ run)
 
 -- the input had ended before, and nothing was read, or nothing is left now
-abbrev pub HasEnded : Reading → Option (List ℕ) → Option (List ℕ) → Type 0
+abbrev pub HasEnded : LinesState → Option (List ℕ) → Option (List ℕ) → Type 0
 HasEnded old before after = ((old.ended ≡ true) × (after ≡ before)) ⊎ ((old.ended ≡ false) × IsAtEnd after)
 
 -- Some bytes are ahead, or the input has ended.
-abbrev pub HasMore : Bool → Reading → Reading → Option (List ℕ) → Option (List ℕ) → Type 0
+abbrev pub HasMore : Bool → LinesState → LinesState → Option (List ℕ) → Option (List ℕ) → Type 0
 HasMore true old new before after = (0 < length new.ahead) × (old.ended ≡ false) × (new.ended ≡ false)
 HasMore false old new before after = (new.ahead ≡ []) × (new.ended ≡ true) × HasEnded old before after
 
 -- Bytes were read, unless some are ahead. Where none are now, the input has ended.
-abbrev pub ReadsOn : Option (List ℕ) → Option (List ℕ) → Reading → Reading → Result Bool Failed → Type 0
+abbrev pub ReadsOn : Option (List ℕ) → Option (List ℕ) → LinesState → LinesState → Result Bool Failed → Type 0
 ReadsOn before after old new (Ok more) = (bytes : List ℕ) × Consumes before after bytes × (new.ahead ≡ old.ahead ++ bytes) × (new.given ≡ old.given) × HasMore more old new before after
 ReadsOn before after old new (Err e) = Keeps before after × (old.ahead ≡ []) × (old.ended ≡ false) × (new ≡ old)
 
@@ -62,22 +61,23 @@ pub record TakesLast (before after : List ℕ) (line : Line (List ℕ)) : Type 0
   pub all : after ≡ []
   pub is : line ≡ line_of before
 
--- the line, with what was read in the call
-pub record GivesLine (after : Option (List ℕ)) (old : Reading) (bytes : List ℕ) (new : Reading) (line : Line (List ℕ)) : Type 0 where
+-- the line, with what was read in the call, of which less than a buffer is not the line's
+pub record GivesLine (after : Option (List ℕ)) (old : LinesState) (bytes : List ℕ) (new : LinesState) (line : Line (List ℕ)) : Type 0 where
   pub live : old.ended ≡ false
   pub taken : (TakesEnded (old.ahead ++ bytes) new.ahead line × (new.ended ≡ false)) ⊎ (TakesLast (old.ahead ++ bytes) new.ahead line × (new.ended ≡ true) × IsAtEnd after)
   pub count : new.given + length new.ahead ≡ old.given + length (old.ahead ++ bytes)
   pub bound : new.given ≤ 2 ^ 26
+  pub near : length new.ahead < 4096
 
 -- no byte is left
-pub record GivesEnd (before after : Option (List ℕ)) (old : Reading) (bytes : List ℕ) (new : Reading) : Type 0 where
+pub record GivesEnd (before after : Option (List ℕ)) (old : LinesState) (bytes : List ℕ) (new : LinesState) : Type 0 where
   pub none : old.ahead ++ bytes ≡ []
   pub stands : new ≡ record { ahead = []; given = old.given; ended = true }
   pub bound : old.given ≤ 2 ^ 26
   pub ended : HasEnded old before after
 
--- no line ends within the first 2 ^ 26 bytes, and there are more
-pub record IsOver (old : Reading) (bytes : List ℕ) : Type 0 where
+-- no line ends within the first 2 ^ 26 bytes, and there are more, of which no more than a buffer was read
+pub record IsOver (old : LinesState) (bytes : List ℕ) : Type 0 where
   pub live : old.ended ≡ false
   pub raw : List ℕ
   pub rest : List ℕ
@@ -85,25 +85,35 @@ pub record IsOver (old : Reading) (bytes : List ℕ) : Type 0 where
   pub cut : old.ahead ++ bytes ≡ raw ++ rest
   pub len : old.given + length raw ≡ 2 ^ 26
   pub more : 0 < length rest
+  pub near : length rest ≤ 4096
 
 -- the source failed in a line, of which all bytes so far are given up
-pub record IsBrokenOff (old : Reading) (bytes : List ℕ) (new : Reading) : Type 0 where
+pub record IsBrokenOff (old : LinesState) (bytes : List ℕ) (new : LinesState) : Type 0 where
   pub live : old.ended ≡ false
   pub plain : All (λ b. b ≢ 10) (old.ahead ++ bytes)
   pub stands : new ≡ record { ahead = []; given = old.given + length (old.ahead ++ bytes); ended = false }
   pub bound : old.given + length (old.ahead ++ bytes) ≤ 2 ^ 26
 
+-- memory is wanting in a line, which has not ended in the bytes that were read before the last buffer
+pub record IsGivenUp (old : LinesState) (bytes : List ℕ) : Type 0 where
+  pub live : old.ended ≡ false
+  pub raw : List ℕ
+  pub rest : List ℕ
+  pub plain : All (λ b. b ≢ 10) raw
+  pub cut : old.ahead ++ bytes ≡ raw ++ rest
+  pub near : length rest ≤ 4096
+
 -- the answer, with the bytes that were read in the call
-abbrev pub Gives : Option (List ℕ) → Option (List ℕ) → Reading → List ℕ → Reading → Result (Line (List ℕ)) LineStop → Type 0
-Gives before after old bytes new (Ok (Text text)) = GivesLine after old bytes new (Text text)
-Gives before after old bytes new (Ok (Long len)) = GivesLine after old bytes new (Long len)
-Gives before after old bytes new (Ok End) = GivesEnd before after old bytes new
-Gives before after old bytes new (Ok Over) = IsOver old bytes
-Gives before after old bytes new (Err Read) = IsBrokenOff old bytes new
-Gives before after old bytes new (Err NoMemory) = old.ended ≡ false
+abbrev pub AnswersWith : Option (List ℕ) → Option (List ℕ) → LinesState → List ℕ → LinesState → Result (Line (List ℕ)) LineStop → Type 0
+AnswersWith before after old bytes new (Ok (Text text)) = GivesLine after old bytes new (Text text)
+AnswersWith before after old bytes new (Ok (Long len)) = GivesLine after old bytes new (Long len)
+AnswersWith before after old bytes new (Ok End) = GivesEnd before after old bytes new
+AnswersWith before after old bytes new (Ok Over) = IsOver old bytes
+AnswersWith before after old bytes new (Err Read) = IsBrokenOff old bytes new
+AnswersWith before after old bytes new (Err NoMemory) = IsGivenUp old bytes
 
 -- some bytes were read, and the answer is told of them
-pub record GivesNext (before after : Option (List ℕ)) (old new : Reading) (result : Result (Line (List ℕ)) LineStop) : Type 0 where
+pub record GivesNext (before after : Option (List ℕ)) (old new : LinesState) (result : Result (Line (List ℕ)) LineStop) : Type 0 where
   pub bytes : List ℕ
   pub moved : Consumes before after bytes
-  pub gives : Gives before after old bytes new result
+  pub gives : AnswersWith before after old bytes new result
