@@ -1,6 +1,6 @@
 // The two bits of a column.
 ghost use Rattle.std.specs.Prelude.{◌≡◌, ◌+◌, ◌<◌, ◌/◌};
-ghost use Rattle.spec_cold.specs.Cold as cold;
+ghost use Rattle.spec_simplex.specs.Tableau as tableau;
 ghost use Rattle.spec_shape.specs.Words as plain;
 
 use lp_form::{Basis, Form, Status};
@@ -103,7 +103,7 @@ pub fn suits(status: Status, bounds: u64) -> bool
 
 /// Whether the column is basic.
 pub fn is_basic(status: Status) -> bool
-    ensures { result ≡ cold.is_basic status }
+    ensures { result ≡ tableau.is_basic status }
 {
     match status {
         Status::Basic => true,

@@ -1,0 +1,127 @@
+-- What the calls of a board promise.
+use Rattle.std.specs.Prelude.{◌≡◌, ◌≢◌, ℕ, ◌+◌, ◌<◌, ◌≤◌, List, [], ◌∷◌, ◌++◌, length, take, slice_index}
+use Rattle.atomic_table.specs.declared.shared.Seat.{Seat}
+use Rattle.basis_board.specs.declared.seats.View.{View}
+use Rattle.basis_board.specs.declared.seats.Read.{Read}
+use Rattle.basis_board.specs.declared.seats.Read.TheVariants.{Count, Open, See, Lost}
+use Rattle.basis_board.specs.declared.board.Put.{Put}
+use Rattle.basis_board.specs.declared.board.Put.TheVariants.{Published, Full, Raced}
+use Rattle.basis_board.specs.declared.board.Look.{Look}
+use Rattle.basis_board.specs.declared.board.Look.TheVariants.{Found, NoneReady}
+use Rattle.spec_shape.specs.Words.{IsWellFormed}
+use Rattle.basis_board.specs.Board.{Each, IsAtMost, noted, seeing, publishing, met}
+use Rattle.basis_board.specs.Rule.{OwnsBelow, Consistent}
+
+abbrev pub known : Seat ℕ View → View
+known s = s.me.0
+
+abbrev pub IsSameSeat : Seat ℕ View → Seat ℕ View → Type 0
+IsSameSeat s t = (t.table_id ≡ s.table_id) × (t.id ≡ s.id) × (t.me.1 ≡ s.me.1)
+
+-- what a read of the count tells
+pub record CountTells (v : View) (n : ℕ) : Type 0 where
+  pub within : n ≤ v.places
+  pub seen : Each (λ p. p.0 < n) v.seen
+  pub reads : Each (IsAtMost n) v.reads
+  pub whole : v.share ≡ 64 → OwnsBelow v n
+
+pub record IsPublished (v : View) (xs : List ℕ) (k : ℕ) (w : View) : Type 0 where
+  pub view : w ≡ publishing v k xs
+  pub inside : k < v.places
+  pub tells : CountTells v k
+
+pub record IsFull (v : View) (c : ℕ) (w : View) : Type 0 where
+  pub view : w ≡ noted v (Count c)
+  pub all : c ≡ v.places
+  pub tells : CountTells v c
+
+pub record IsRaced (v : View) (e : ℕ) (w : View) : Type 0 where
+  pub count : ℕ
+  pub view : w ≡ noted (noted v (Count count)) (Lost e)
+  pub grown : count < e
+  pub tells : CountTells v count
+  pub tells_then : CountTells v e
+  pub not_whole : v.share ≢ 64
+
+abbrev pub Puts : View → List ℕ → Put → View → Type 0
+Puts v xs (Published k) w = IsPublished v xs k w
+Puts v xs (Full c) w = IsFull v c w
+Puts v xs (Raced e) w = IsRaced v e w
+
+-- what was seen of place k before has the same first words
+abbrev pub AgreesWith : ℕ → List ℕ → ℕ × List ℕ → Type 0
+AgreesWith k xs p = p.0 ≡ k → (i : ℕ) → i < length xs → i < length p.1 → slice_index p.1 i ≡ slice_index xs i
+
+-- what a pass knows of the board after a meeting
+pub record Meets (v w u : View) : Type 0 where
+  pub view : u ≡ met v w
+  pub whole : u.share ≡ 64 → (n : ℕ) × OwnsBelow u n × CountTells u n
+
+-- the place k was read, and is not done or has another shape
+pub data PassesBy (shape : List ℕ) (k : ℕ) (v w : View) : Type 0 where
+  undone : Each (λ p. p.0 ≢ k) v.seen → w ≡ noted v (Open k) → PassesBy shape k v w
+  other : (xs : List ℕ) → length xs ≡ 25 → xs ≢ shape → Each (AgreesWith k xs) v.seen → w ≡ seeing v k xs → PassesBy shape k v w
+
+-- the place k was read as done, with these words and this shape
+pub record Finds (shape : List ℕ) (k : ℕ) (xs : List ℕ) (v w : View) : Type 0 where
+  pub view : w ≡ seeing v k xs
+  pub shape_is : take 25 xs ≡ shape
+  pub formed : IsWellFormed xs
+  pub agrees : Each (AgreesWith k xs) v.seen
+
+-- the first i words of place k were read into words, and agree with what was seen before
+pub record IsReading (k i : ℕ) (words : List ℕ) (v w : View) : Type 0 where
+  pub long : length words ≡ 49
+  pub view : w ≡ seeing v k (take i words)
+  pub consistent : Consistent w
+  pub agrees : Each (AgreesWith k (take i words)) v.seen
+
+-- the same of the rest of a place whose shape is known
+pub record IsReadingRest (shape : List ℕ) (k i : ℕ) (words : List ℕ) (v w : View) : Type 0 where
+  pub read : IsReading k i words v w
+  pub late : 25 ≤ i
+  pub shape_is : take 25 words ≡ shape
+  pub formed : i ≡ 49 → IsWellFormed words
+
+-- a read of place k that found it not done, or of another shape
+abbrev pub SeesOther : List ℕ → ℕ → Read → Type 0
+SeesOther shape k (Open j) = j ≡ k
+SeesOther shape k (See j xs) = (j ≡ k) × (length xs ≡ 25) × (xs ≢ shape)
+SeesOther shape k r = ⊥
+
+-- the places from k up to c were read so, from the last one down. The newest read stands first
+abbrev pub Passed : List ℕ → ℕ → ℕ → List Read → Type 0
+Passed shape c k [] = k ≡ c
+Passed shape c k (r ∷ rs) = SeesOther shape k r × Passed shape c (k + 1) rs
+
+abbrev pub HasShape : List ℕ → ℕ × List ℕ → Type 0
+HasShape shape p = (25 ≤ length p.1) × (take 25 p.1 ≡ shape)
+
+abbrev pub looked : View → ℕ → List Read → List (ℕ × List ℕ) → View
+looked v c added more = record v { seen = more ++ v.seen; reads = added ++ Count c ∷ v.reads }
+
+-- a place that was read as not done had not been seen
+abbrev pub OpenUnseen : List (ℕ × List ℕ) → Read → Type 0
+OpenUnseen seen (Open k) = Each (λ p. p.0 ≢ k) seen
+OpenUnseen seen r = Unit {0}
+
+-- a look that read the count as c and has come down to place k
+pub record IsDownTo (shape : List ℕ) (c k : ℕ) (v w : View) : Type 0 where
+  pub added : List Read
+  pub more : List (ℕ × List ℕ)
+  pub view : w ≡ looked v c added more
+  pub passed : Passed shape c k added
+  pub unseen : Each (OpenUnseen v.seen) added
+  pub none_above : Each (λ p. k ≤ p.0 → ¬ HasShape shape p) v.seen
+  pub tells : CountTells v c
+
+-- place k was found, and nothing newer was seen of this shape
+pub record IsFound (shape : List ℕ) (v : View) (k : ℕ) (xs : List ℕ) (w : View) : Type 0 where
+  pub count : ℕ
+  pub before : View
+  pub down : IsDownTo shape count (k + 1) v before
+  pub finds : Finds shape k xs before w
+
+abbrev pub Looks : List ℕ → View → Look → View → Type 0
+Looks shape v (Found k xs) w = IsFound shape v k xs w
+Looks shape v (NoneReady c) w = IsDownTo shape c 0 v w

@@ -1,0 +1,156 @@
+-- The rule of the board, and what each step tells.
+use Rattle.std.specs.Prelude.{◌≡◌, ◌≢◌, ℕ, ◌+◌, ◌*◌, ◌-◌, ◌/◌, ◌%◌, ◌<◌, ◌≤◌, List, [], ◌∷◌, ◌++◌, length, slice_index, Option, Some, None}
+use mathlib.Core.Option.{some}
+use lib.ListN.{get_elem?}
+use Rattle.atomic_table.specs.Table.{State, Me, Step}
+use Rattle.basis_board.specs.declared.seats.View.{View}
+use Rattle.basis_board.specs.declared.seats.Read.{Read}
+use Rattle.basis_board.specs.declared.seats.Read.TheVariants.{Count, Open, See, Lost, Done}
+use Rattle.spec_shape.specs.Words.{IsWellFormed}
+use Rattle.basis_board.specs.Board.{Each, Has, total, times, count, done, Shows, holding, owning, share_of, spent, noted, claiming, writing, finished, opening_place, reading, head_words, IsAtMost}
+
+abbrev pub HeldFits : List ℕ → Option (ℕ × List ℕ) → Type 0
+HeldFits ws None = Unit {0}
+HeldFits ws (Some p) = Shows ws p.0 p.1
+
+-- place p.0 is done, and begins with these words
+abbrev pub SeenFits : List ℕ → ℕ × List ℕ → Type 0
+SeenFits ws p = (done ws p.0 ≡ 1) × Shows ws p.0 p.1
+
+-- the view has seen all words of place k
+abbrev pub OwnFits : List (ℕ × List ℕ) → ℕ → Type 0
+OwnFits seen k = (xs : List ℕ) × Has seen (k, xs) × (length xs ≡ 49)
+
+abbrev pub ReadFits : List ℕ → Read → Type 0
+ReadFits ws (Count c) = c ≤ count ws
+ReadFits ws (Lost c) = c ≤ count ws
+ReadFits ws (See k xs) = SeenFits ws (k, xs)
+ReadFits ws (Done k xs) = SeenFits ws (k, xs)
+ReadFits ws r = Unit {0}
+
+-- two lists agree as far as both go
+abbrev pub Agree : ℕ × List ℕ → ℕ × List ℕ → Type 0
+Agree p q = p.0 ≡ q.0 → (i : ℕ) → i < length p.1 → i < length q.1 → slice_index p.1 i ≡ slice_index q.1 i
+
+-- the places of the publications, the first one first
+abbrev pub published_places : List Read → List ℕ
+published_places [] = []
+published_places (Done k xs ∷ rs) = published_places rs ++ k ∷ []
+published_places (r ∷ rs) = published_places rs
+
+-- what was read or written of the place has been seen, and perhaps more of it
+abbrev pub StandsIn : List (ℕ × List ℕ) → Read → Type 0
+StandsIn seen (See k xs) = (ys : List ℕ) × Has seen (k, ys) × (length xs ≤ length ys)
+StandsIn seen (Done k xs) = (ys : List ℕ) × Has seen (k, ys) × (length xs ≤ length ys)
+StandsIn seen r = Unit {0}
+
+-- what holds of a view whatever the words are
+pub record Neat (v : View) : Type 0 where
+  pub published : v.own ≡ published_places v.reads
+  pub stands : Each (StandsIn v.seen) v.reads
+
+-- what the rule says of one view
+pub record Fits (places : ℕ) (ws : List ℕ) (v : View) : Type 0 where
+  pub on_board : 0 < v.share → v.places ≡ places
+  pub is_spent : v.share ≡ 0 → v ≡ spent
+  pub held : HeldFits ws v.held
+  pub seen : Each (SeenFits ws) v.seen
+  pub own : Each (OwnFits v.seen) v.own
+  pub reads : Each (ReadFits ws) v.reads
+  pub neat : Neat v
+
+-- what the rule says of one place
+pub record PlaceFits (ws : List ℕ) (views : List View) (k : ℕ) : Type 0 where
+  pub claimed : k < count ws → total (holding k) views + done ws k ≡ 1
+  pub free : count ws ≤ k → total (holding k) views + done ws k ≡ 0
+  pub owned : total (owning k) views ≡ done ws k
+  pub formed : done ws k ≡ 1 → (xs : List ℕ) × Shows ws k xs × IsWellFormed xs
+
+-- the rule
+pub record Kept (places : ℕ) (s : State ℕ View) : Type 0 where
+  pub wide : length s.words ≡ 50 * places + 1
+  pub bounded : count s.words ≤ places
+  pub each_place : (k : ℕ) → PlaceFits s.words s.views k
+  pub each_seat : (j : ℕ) (v : View) → get_elem? s.views j ≡ some v → Fits places s.words v
+  pub shares : total share_of s.views ≡ 64
+
+abbrev pub ReadAgrees : List (ℕ × List ℕ) → Read → Type 0
+ReadAgrees seen (See k xs) = Each (Agree (k, xs)) seen
+ReadAgrees seen (Done k xs) = Each (Agree (k, xs)) seen
+ReadAgrees seen r = Unit {0}
+
+-- what the rule says of a view by itself, whatever the words are now
+pub record Consistent (v : View) : Type 0 where
+  pub neat : Neat v
+  pub agree : Each (λ p. Each (Agree p) v.seen) v.seen
+  pub reads_agree : Each (ReadAgrees v.seen) v.reads
+  pub formed : Each (λ p. length p.1 ≡ 49 → IsWellFormed p.1) v.seen
+  pub own : Each (OwnFits v.seen) v.own
+  pub once : (k : ℕ) → times k v.own ≤ 1
+
+-- while a view is whole, it owns the places below n and no others
+abbrev pub OwnsBelow : View → ℕ → Type 0
+OwnsBelow v n = (k : ℕ) → (k < n → times k v.own ≡ 1) × (n ≤ k → times k v.own ≡ 0)
+
+-- a load of the count
+pub record Counted (v : View) (n : ℕ) (w : View) : Type 0 where
+  pub view : w ≡ noted v (Count n)
+  pub within : n ≤ v.places
+  pub seen : Each (λ p. p.0 < n) v.seen
+  pub reads : Each (IsAtMost n) v.reads
+  pub whole : v.share ≡ 64 → OwnsBelow v n
+
+-- a compare-exchange of the count from c
+pub record Claimed (c : ℕ) (v : View) (n : ℕ) (w : View) : Type 0 where
+  pub won : n ≡ c → w ≡ claiming v c
+  pub lost : n ≢ c → (w ≡ noted v (Lost n)) × (c < n)
+  pub within : n ≤ v.places
+  pub seen : Each (λ p. p.0 < n) v.seen
+  pub reads : Each (IsAtMost n) v.reads
+  pub whole : v.share ≡ 64 → OwnsBelow v n
+
+abbrev pub counted : Step ℕ → Me ℕ View → ℕ → Me ℕ View → Type 0
+counted st m n m' = Counted m.0 n m'.0 × (m'.1 ≡ m.1) × Consistent m'.0
+
+abbrev pub claimed : Step ℕ → Me ℕ View → ℕ → Me ℕ View → Type 0
+claimed st m n m' = Claimed st.first m.0 n m'.0 × (m'.1 ≡ m.1) × Consistent m'.0
+
+abbrev pub wrote : Step ℕ → Me ℕ View → ℕ → Me ℕ View → Type 0
+wrote st m n m' = (m'.0 ≡ writing m.0 n) × (m'.1 ≡ m.1)
+
+abbrev pub published : Step ℕ → Me ℕ View → ℕ → Me ℕ View → Type 0
+published st m n m' = (m'.0 ≡ finished m.0.held m.0) × (m'.1 ≡ m.1) × Consistent m'.0
+
+-- a load of the done word of place k
+pub record Saw (k : ℕ) (v : View) (n : ℕ) (w : View) : Type 0 where
+  pub bit : n ≤ 1
+  pub yes : n ≡ 1 → w ≡ opening_place v k
+  pub not_done : n ≡ 0 → w ≡ noted v (Open k)
+  pub known : Each (λ p. p.0 ≡ k → n ≡ 1) v.seen
+
+-- p begins with n at m, as far as it goes
+abbrev pub HasAt : ℕ → ℕ → ℕ → ℕ × List ℕ → Type 0
+HasAt k m n p = p.0 ≡ k → m < length p.1 → slice_index p.1 m ≡ n
+
+-- a load of the payload word m of place k
+pub record WordRead (k m : ℕ) (v : View) (n : ℕ) (w : View) : Type 0 where
+  pub view : w ≡ reading v n
+  pub known : Each (HasAt k m n) v.seen
+  pub formed : length (head_words w.seen) ≡ 49 → IsWellFormed (head_words w.seen)
+
+-- the load of word 0 after a join
+pub record Learned (v : View) (n : ℕ) (w : View) : Type 0 where
+  pub view : w ≡ v
+  pub within : n ≤ v.places
+  pub seen : Each (λ p. p.0 < n) v.seen
+  pub reads : Each (IsAtMost n) v.reads
+  pub whole : v.share ≡ 64 → OwnsBelow v n
+
+abbrev pub saw : Step ℕ → Me ℕ View → ℕ → Me ℕ View → Type 0
+saw st m n m' = Saw (st.word / 50 - 1) m.0 n m'.0 × (m'.1 ≡ m.1) × Consistent m'.0
+
+abbrev pub word_read : Step ℕ → Me ℕ View → ℕ → Me ℕ View → Type 0
+word_read st m n m' = WordRead ((st.word - 1) / 50) ((st.word - 1) % 50) m.0 n m'.0 × (m'.1 ≡ m.1) × Consistent m'.0
+
+abbrev pub learned : Step ℕ → Me ℕ View → ℕ → Me ℕ View → Type 0
+learned st m n m' = Learned m.0 n m'.0 × (m'.1 ≡ m.1) × Consistent m'.0

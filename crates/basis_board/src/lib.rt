@@ -1,0 +1,29 @@
+//! A board of places on which threads publish bases, without a lock, a wait or a loop around a shared word.
+//!
+//! | Item | What it is | Where |
+//! |---|---|---|
+//! | `Board` | a fixed number of places, each of which takes one basis and keeps it | src/board |
+//! | `Pass` | the right to look at a board and to publish on it, with what was seen so far | src/seats |
+//! | `Look`, `Put` | what a look found, and what a publication came to | src/board |
+//! | `View`, `Read` | what contracts see of a pass: what it has seen, published and read | src/seats |
+//! | `Looks`, `Puts`, `Meets` | what the calls promise | specs/Calls |
+//! | `Kept` | the rule of the board's words, which each atomic step keeps | specs/Rule |
+//! | `board_of` | the places that the board's words spell | specs/Places |
+//!
+//! Every place that a pass has read as done shows it, and every other pass, the same well-formed words for good, whatever other
+//! threads do. Nothing is claimed of which of two publications wins a place, or when.
+//!
+//! Word 0 of the board's table is the number of claimed places. Place k has its 49 words in words 50 k + 1 to 50 k + 49 and its
+//! done word, 0 or 1, in word 50 k + 50. Every access is one atomic step on one word.
+#![tactic(auto)]
+
+mod board;
+mod laws;
+mod seats;
+mod steps;
+#[cfg(test)]
+mod tests;
+
+pub use board::{Board, Look, Put};
+pub use laws::{meaning, seen_words_stay, steps_are_events, whole_passes_own_all};
+pub use seats::{Pass, Read, View};

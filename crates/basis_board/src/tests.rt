@@ -1,0 +1,101 @@
+// Passes of one board, on one thread and on two.
+ghost use Rattle.std.specs.Prelude.{◌≡◌};
+ghost use Rattle.spec_shape.specs.Words.{IsWellFormed};
+
+use crate::{Board, Look, Pass, Put};
+use lp_shape::well_formed;
+use std::sync::atomic::{AtomicU64, Ordering};
+use std::test::Fail;
+use std::thread;
+
+// The words of a basis: one row with a lower limit alone, whose logical is at it, and one basic column with a lower bound alone.
+fn words() -> [u64; 49] {
+    let mut words = [0u64; 49];
+    words[0] = 65537;
+    words[1] = 5;
+    words[25] = 4;
+    words
+}
+
+fn shape() -> [u64; 25] {
+    let mut shape = [0u64; 25];
+    shape[0] = 65537;
+    shape[1] = 5;
+    shape
+}
+
+#[test]
+fn two_passes_of_one_thread(rt: HostRuntime) -> Result<(), Fail> {
+    let (board, mut pass) = Board::new(rt.alloc(), 2)?;
+    let (words, shape) = (words(), shape());
+    if !well_formed(&words) {
+        return Ok(assert!(rt; false));
+    }
+    let mut other = board.split(&mut pass);
+    assert!(rt; board.look(&mut other, &shape) == Look::NoneReady(0));
+    assert!(rt; board.publish(&mut pass, &words) == Put::Published(0));
+    assert!(rt; board.look(&mut other, &shape) == Look::Found(0, words));
+    assert!(rt; board.look(&mut other, &[0; 25]) == Look::NoneReady(1));
+    assert!(rt; board.publish(&mut other, &words) == Put::Published(1));
+    assert!(rt; board.publish(&mut other, &words) == Put::Full(2));
+    let mut both = board.meet(pass, other);
+    assert!(rt; board.look(&mut both, &shape) == Look::Found(1, words));
+    Ok(())
+}
+
+// The most turns that the second thread waits for the flag.
+const TURNS: u32 = 100_000_000;
+
+fn first(board: &Board, mut pass: Pass, words: &[u64; 49], flag: &AtomicU64) -> (Pass, Put)
+    requires board { pass.board ≡ board.now.table.shared.table_id }
+    requires formed { IsWellFormed words.now }
+    ensures { result.0.board ≡ pass.board }
+{
+    let put = board.publish(&mut pass, words);
+    flag.store(1, Ordering::SeqCst);
+    (pass, put)
+}
+
+fn second(
+    board: &Board,
+    mut pass: Pass,
+    words: &[u64; 49],
+    flag: &AtomicU64,
+) -> (Pass, Look, Put, Put)
+    requires board { pass.board ≡ board.now.table.shared.table_id }
+    requires formed { IsWellFormed words.now }
+    ensures { result.0.board ≡ pass.board }
+{
+    for _ in 0..TURNS {
+        if flag.load(Ordering::SeqCst) == 1 {
+            break;
+        }
+        thread::yield_now();
+    }
+    let look = board.look(&mut pass, &shape());
+    let put = board.publish(&mut pass, words);
+    let full = board.publish(&mut pass, words);
+    (pass, look, put, full)
+}
+
+#[test]
+fn one_thread_finds_what_another_published(rt: HostRuntime) -> Result<(), Fail> {
+    let (board, mut pass) = Board::new(rt.alloc(), 2)?;
+    let words = words();
+    if !well_formed(&words) {
+        return Ok(assert!(rt; false));
+    }
+    let other = board.split(&mut pass);
+    let flag = AtomicU64::new(0);
+    let (mine, theirs) = thread::join(
+        &rt,
+        || first(&board, pass, &words, &flag),
+        || second(&board, other, &words, &flag),
+    );
+    assert!(rt; mine.1 == Put::Published(0));
+    assert!(rt; theirs.1 == Look::Found(0, words));
+    assert!(rt; theirs.2 == Put::Published(1) && theirs.3 == Put::Full(2));
+    let mut both = board.meet(mine.0, theirs.0);
+    assert!(rt; board.look(&mut both, &shape()) == Look::Found(1, words));
+    Ok(())
+}
