@@ -3,7 +3,7 @@ ghost use Rattle.std.specs.Prelude.{◌≡◌, IfOk, codes};
 
 use crate::*;
 use lp_base::Name;
-use lp_frac::{Entries, Frac, Fracs, dot, num, one, zero};
+use lp_frac::{Frac, num, one, zero};
 use lp_model::{Column, Kind, Model, Row, Sense};
 use std::alloc::{AllocError, Global};
 use std::process::Abort;
@@ -296,24 +296,5 @@ fn rows_up_to_the_limit(rt: HostRuntime) -> Result<(), Fail> {
         let shown = crowded(&rt, alloc, text)?;
         assert_eq!(rt; shown.as_str(), want);
     }
-    Ok(())
-}
-
-#[test]
-fn copies_and_products(rt: HostRuntime) -> Result<(), Fail> {
-    let alloc = rt.alloc();
-    let (two, three) = (whole(2)?, whole(3)?);
-    let mut list = Fracs::new(alloc);
-    list.push(two)?;
-    list.push(three)?;
-    assert_eq!(rt; list.copy(alloc)?.as_slice(), [two, three].as_slice());
-    assert_eq!(rt;
-        dot(list.as_slice(), [one(), three].as_slice()),
-        Ok(whole(11)?)
-    );
-
-    let mut entries = Entries::new(alloc);
-    entries.push(7, two)?;
-    assert_eq!(rt; entries.copy(alloc)?.as_slice(), [(7, two)].as_slice());
     Ok(())
 }

@@ -12,7 +12,6 @@
 //! | `neg` `abs` `sign` `num` `den` `is_zero` `are_same` | the ones that never are |
 //! | `less_product` | a product taken off a number, as the product and then the difference |
 //! | `within` `all_within` | that the parts of a fraction, or of all of a list, are within the limit |
-//! | `dot` | a sum of products, place by place |
 //! | `Past`, `Op` | a refusal, and the operation that it names |
 //! | `FracFault` | why two whole numbers make no fraction |
 //! | `Fracs`, `Entries` | lists of fractions and of a column's entries, plain lists to contracts |
@@ -25,10 +24,12 @@ mod frac;
 mod less;
 mod limited;
 mod lists;
+mod lowest;
 mod operations;
-mod products;
 mod readers;
 mod reduced;
+mod short;
+mod small;
 #[cfg(test)]
 mod tests;
 
@@ -36,5 +37,4 @@ pub use frac::{Frac, FracFault, LARGEST, Op, Past};
 pub use less::less_product;
 pub use lists::{Entries, Fracs};
 pub use operations::{add, cmp, div, mul, sub};
-pub use products::dot;
 pub use readers::{abs, all_within, are_same, den, is_zero, neg, num, one, sign, within, zero};

@@ -51,14 +51,6 @@ impl Fracs {
         Fracs { items }
     }
 
-    /// An equal list of its own.
-    pub fn copy(&self, alloc: Global) -> Result<Self, AllocError>
-        ensures { IfOk result (λ v. v ≡ self.now) }
-    {
-        let items = Vec::from_slice(alloc, &self.items)?;
-        Ok(Fracs { items })
-    }
-
     pub fn as_slice(&self) -> &[Frac]
         ensures { result.now ≡ self.now }
     {
@@ -136,14 +128,6 @@ impl Entries {
         ensures { result ≡ items.items }
     {
         Entries { items }
-    }
-
-    /// An equal list of its own.
-    pub fn copy(&self, alloc: Global) -> Result<Self, AllocError>
-        ensures { IfOk result (λ v. v ≡ self.now) }
-    {
-        let items = Vec::from_slice(alloc, &self.items)?;
-        Ok(Entries { items })
     }
 
     pub fn as_slice(&self) -> &[(u32, Frac)]

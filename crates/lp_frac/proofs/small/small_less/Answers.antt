@@ -2,8 +2,8 @@
 use Rattle.std.proofs.Common.{rules, SFits, to_z-of_z}
 use Rattle.std.proofs.lemmas.Option.{IfSome_then}
 use mir.Syntax.{w32, w64}
-use Rattle.lp_frac.proofs.Short.{less_small}
-use Rattle.lp_frac.proofs.less.small_less.Goals as goal
+use Rattle.lp_frac.proofs.Exact.{less_small}
+use Rattle.lp_frac.proofs.small.small_less.Goals as goal
 
 pub returns : goal.returns
 returns c =

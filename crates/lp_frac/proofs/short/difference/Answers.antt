@@ -1,8 +1,8 @@
 -- By the same denominator.
 use Rattle.std.proofs.Common.{SFits, to_z-of_z, ◌∙◌}
 use mir.Syntax.{w64}
-use Rattle.lp_frac.proofs.Short.{scaled_same}
-use Rattle.lp_frac.proofs.less.difference.Goals as goal
+use Rattle.lp_frac.proofs.Exact.{scaled_same}
+use Rattle.lp_frac.proofs.short.difference.Goals as goal
 
 pub returns : goal.returns
 returns c =

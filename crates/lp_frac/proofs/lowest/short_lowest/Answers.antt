@@ -2,8 +2,8 @@
 use Rattle.std.proofs.Common.{◌≡◌, ℤ, pos, SFits, to_z, to_z-of_z, sym, ap, ◌∙◌}
 use mir.Syntax.{w64}
 use Rattle.spec_exact.specs.Fraction.{over}
-use Rattle.lp_frac.proofs.Short.{nothing_over}
-use Rattle.lp_frac.proofs.less.short_lowest.Goals as goal
+use Rattle.lp_frac.proofs.Exact.{nothing_over}
+use Rattle.lp_frac.proofs.lowest.short_lowest.Goals as goal
 
 pub returns-then-num-eq0 : goal.returns-then-num-eq0
 returns-then-num-eq0 c =

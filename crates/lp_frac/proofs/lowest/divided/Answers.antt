@@ -3,8 +3,8 @@ use Rattle.std.proofs.Common.{rules, SFits, ℤ, to_z-of_z, ap, ◌∙◌}
 use mir.Syntax.{w64, w128}
 use Rattle.spec_exact.specs.Gcd.{gcd}
 use Rattle.spec_exact.specs.Fraction.{over}
-use Rattle.lp_frac.proofs.Short.{IsLowest, in_lowest}
-use Rattle.lp_frac.proofs.less.divided.Goals as goal
+use Rattle.lp_frac.proofs.Exact.{IsLowest, in_lowest}
+use Rattle.lp_frac.proofs.lowest.divided.Goals as goal
 
 is_lowest : (c : goal.After-short_part_den) → IsLowest c.args.num c.args.den c.short_part.result c.short_part_den.result
 is_lowest c =

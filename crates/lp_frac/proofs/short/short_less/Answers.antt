@@ -1,8 +1,8 @@
 -- By the parts.
 use Rattle.std.proofs.Common.{rules, SFits, to_z-of_z}
 use mir.Syntax.{w64}
-use Rattle.lp_frac.proofs.Short.{less_short}
-use Rattle.lp_frac.proofs.less.short_less.Goals as goal
+use Rattle.lp_frac.proofs.Exact.{less_short}
+use Rattle.lp_frac.proofs.short.short_less.Goals as goal
 
 pub returns-in-Some-short_product : goal.returns-in-Some-short_product
 returns-in-Some-short_product c =

@@ -1,0 +1,147 @@
+// A product taken off a number, where the parts of all three and of the product have 64 bits.
+ghost use Rattle.std.specs.Prelude.{◌≡◌, ◌<◌, ◌≤◌, ◌*◌, Some, IfSome, Ok, ◌*ℤ◌, ◌-ℤ◌, pos, unsigned_abs};
+ghost use Rattle.spec_exact.specs.Fraction.{over};
+ghost use Rattle.lp_frac.specs.Narrow.{largest};
+ghost use Rattle.lp_frac.specs.Less.{IsShort, IsShortProduct, IsNumerator, IsDenominator, less_product_of};
+
+use crate::frac::Frac;
+use crate::lowest::{lowest, scales, short_lowest};
+
+// The largest whole number of 64 bits and a sign.
+const LONGEST: u64 = i64::MAX as u64;
+
+// The parts, where they have 64 bits.
+fn short(v: Frac) -> Option<(i64, u64)>
+    ensures { IfSome result (λ parts. IsShort parts.0 parts.1 v) }
+{
+    let den = v.bottom();
+    if den > LONGEST as u128 {
+        return None;
+    }
+    match i64::try_from(v.top()) {
+        Ok(num) => Some((num, den as u64)),
+        Err(_) => None,
+    }
+}
+
+// b d, where it has 63 bits
+fn short_den(b: u64, d: u64) -> Option<u64>
+    ensures { IfSome result (λ k. IsDenominator k b d) }
+{
+    match b.checked_mul(d) {
+        Some(k) => { if k <= LONGEST { Some(k) } else { None } }
+        None => None,
+    }
+}
+
+// n = a c and k = b d, where they have 64 bits
+fn short_product(v: Frac, w: Frac) -> Option<(i64, u64)>
+    ensures { IfSome result (λ parts. IsShortProduct parts.0 parts.1 v w) }
+{
+    let Some((a, b)) = short(v) else {
+        return None;
+    };
+    let Some((c, d)) = short(w) else {
+        return None;
+    };
+    let Some(k) = short_den(b, d) else {
+        return None;
+    };
+    match a.checked_mul(c) {
+        Some(n) => Some((n, k)),
+        None => None,
+    }
+}
+
+// e p, where it has 64 bits
+fn scaled(e: i64, p: u64) -> Option<i64>
+    requires { p ≤ 9223372036854775807 }
+    ensures { IfSome result (λ x. x ≡ e *ℤ pos p) }
+{
+    e.checked_mul(p as i64)
+}
+
+// e p - n q, where it and its terms have 64 bits
+fn short_num(e: i64, p: u64, n: i64, q: u64) -> Option<i64>
+    requires p_size { p ≤ 9223372036854775807 }
+    requires q_size { q ≤ 9223372036854775807 }
+    ensures { IfSome result (λ x. IsNumerator x e p n q) }
+{
+    match (scaled(e, p), scaled(n, q)) {
+        (Some(x), Some(y)) => match x.checked_sub(y) {
+            Some(num) => { if num == i64::MIN { None } else { Some(num) } }
+            None => None,
+        },
+        _ => None,
+    }
+}
+
+// e p
+fn long_scaled(e: i64, p: u64) -> i128
+    requires { p ≤ 9223372036854775807 }
+    ensures value { result ≡ e *ℤ pos p }
+    ensures size { unsigned_abs result ≤ 85070591730234615856620279821087277056 }
+{
+    e as i128 * p as i128
+}
+
+// e p - n q
+fn long_num(e: i64, p: u64, n: i64, q: u64) -> i128
+    requires p_size { p ≤ 9223372036854775807 }
+    requires q_size { q ≤ 9223372036854775807 }
+    ensures value { result ≡ e *ℤ pos p -ℤ n *ℤ pos q }
+    ensures size { unsigned_abs result ≤ largest }
+{
+    long_scaled(e, p) - long_scaled(n, q)
+}
+
+// p f
+fn long_den(p: u64, f: u64) -> u128
+    requires p_size { p ≤ 9223372036854775807 }
+    requires f_size { f ≤ 9223372036854775807 }
+    ensures value { result ≡ p * f }
+    ensures size { result ≤ largest }
+{
+    p as u128 * f as u128
+}
+
+// e/f - n/k = (e p - n q) / (p f), where p f = q k
+fn difference_on(e: i64, f: u64, n: i64, p: u64, q: u64) -> Frac
+    requires f_positive { 0 < f }
+    requires f_size { f ≤ 9223372036854775807 }
+    requires p_positive { 0 < p }
+    requires p_size { p ≤ 9223372036854775807 }
+    requires q_size { q ≤ 9223372036854775807 }
+    ensures { result ≡ over (e *ℤ pos p -ℤ n *ℤ pos q) (p * f) }
+{
+    match (short_num(e, p, n, q), short_den(p, f)) {
+        (Some(num), Some(den)) => short_lowest(num, den),
+        _ => lowest(long_num(e, p, n, q), long_den(p, f)),
+    }
+}
+
+// e/f - n/k
+fn difference(e: i64, f: u64, n: i64, k: u64) -> Frac
+    requires f_positive { 0 < f }
+    requires f_size { f ≤ 9223372036854775807 }
+    requires k_positive { 0 < k }
+    requires k_size { k ≤ 9223372036854775807 }
+    ensures { result ≡ over (e *ℤ pos k -ℤ n *ℤ pos f) (k * f) }
+{
+    let (p, q) = scales(k, f);
+    difference_on(e, f, n, p, q)
+}
+
+// `s` less `v * w`, where all parts and those of the product have 64 bits.
+// e/f - (a/b) (c/d) = e/f - n/k, n = a c, k = b d
+pub(crate) fn short_less(v: Frac, w: Frac, s: Frac) -> Option<Frac>
+    ensures { IfSome result (λ x. less_product_of (Some largest) v w s ≡ Ok x) }
+{
+    let Some((e, f)) = short(s) else {
+        return None;
+    };
+    match short_product(v, w) {
+        Some((n, k)) => Some(difference(e, f, n, k)),
+        None => None,
+    }
+}
