@@ -133,6 +133,7 @@ fn long_common(a: u128, b: u128) -> u128
     long_odd_common(long_odd_part(a), b) << twos
 }
 
+// The greatest common divisor of short numbers, at once where one of them is 1.
 fn any_short_common(a: u64, b: u64) -> u64
     ensures { result ≡ gcd a b }
 {
@@ -145,6 +146,7 @@ fn any_short_common(a: u64, b: u64) -> u64
     short_common(a, b)
 }
 
+// The greatest common divisor, by the sizes of the numbers.
 fn any_common(a: u128, b: u128) -> u128
     ensures { result ≡ gcd a b }
 {

@@ -107,3 +107,42 @@ fn whole_numbers_make_fractions(rt: HostRuntime) -> Result<(), Fail> {
     }
     Ok(())
 }
+
+// 5/6 - 1/2 * 1/3 = 2/3, and so on; a refusal names the product or the difference.
+#[test]
+fn products_are_taken_off(rt: HostRuntime) -> Result<(), Fail> {
+    let short = 1 << 62;
+    for (a, b, c, d, e, f, num, den) in [
+        (1, 2, 1, 3, 5, 6, 2, 3),
+        (-7, 1, 3, 1, -21, 1, 0, 1),
+        (short, 1, 1, short, 1, 3, -2, 3),
+        (short, 3, 4, 5, M, 15, M - short * 4, 15),
+        (M, 2, 2, M, M, 1, M - 1, 1),
+    ] {
+        let (v, w, s) = (Frac::new(a, b)?, Frac::new(c, d)?, Frac::new(e, f)?);
+        assert_eq!(rt;
+            less_product(v, w, s),
+            Ok(Frac::new(num, den)?),
+            "{e}/{f} less {a}/{b} times {c}/{d}"
+        );
+    }
+    let (most, two, third) = (Frac::new(M, 1)?, Frac::new(2, 1)?, Frac::new(1, 3)?);
+    let minus_two = neg(two);
+    assert_eq!(rt;
+        less_product(most, two, third),
+        Err(Past {
+            op: Op::Mul,
+            a: most,
+            b: two
+        })
+    );
+    assert_eq!(rt;
+        less_product(minus_two, one(), most),
+        Err(Past {
+            op: Op::Sub,
+            a: most,
+            b: minus_two
+        })
+    );
+    Ok(())
+}
