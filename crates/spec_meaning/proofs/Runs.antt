@@ -1,0 +1,339 @@
+-- What holds of each state and the cards so far, holds of the last one and all cards of the text.
+use Rattle.std.proofs.Common.{◌≡◌, ℕ, ◌+◌, Bool, true, false, not, ◌&&◌, Option, Some, None, Ok, Err, List, [], ◌∷◌, ◌++◌, refl, sym, ap, ◌∙◌, subst, subst₂, option_map, is_none, is_some}
+use Rattle.std.specs.List.{find}
+use Rattle.spec_text.specs.declared.line.Line.{Line}
+use Rattle.spec_model.specs.Model.{Model, Name}
+use Rattle.spec_model.specs.Kept.{is_model_name}
+use Rattle.spec_mps.specs.declared.fault.Code.TheVariants as code
+use Rattle.spec_mps.specs.declared.style.Style.{Style}
+use Rattle.spec_mps.specs.declared.section.Section.{Section}
+use Rattle.spec_mps.specs.declared.section.Section.TheVariants as section
+use Rattle.spec_mps.specs.declared.section.Seen.{Seen}
+use Rattle.spec_mps.specs.Cards.{is_skipped, begins_with_blank}
+use Rattle.spec_mps.specs.Fields.{Fields, word_fields, text_at}
+use Rattle.spec_mps.specs.Shapes.{section_of, sense_of}
+use Rattle.spec_mps.specs.Reader.{State, start}
+use Rattle.spec_mps.specs.Steps.{take_sense, has_begun, with_section, may_follow, begun, sense_beside, headed, Progress, More, Done, Outcome, more, model_by, finished, begin, section_card, data_card, step, Spelled, settled, judge, Spells}
+use Rattle.spec_mps.proofs.Steps.{both, negated}
+use Rattle.spec_mps.proofs.CheckSteps.{step_ok, must_ok, need_ok, same_ok}
+use Rattle.spec_meaning.specs.TextCards.{Lines, bytes_of, is_heading, begins, lines_up_to_end, lines_in, fields_in, cards_in, title_of}
+use Rattle.spec_meaning.proofs.Frames.{Leads, card_leads}
+use Rattle.spec_meaning.proofs.SoFar.{before, behind, before_is, behind_is, is_section, SoFar, nothing, with_card, or_else, with_title, cards_to_come, title_to_come, cards_of, whole, skipped_plain, data_plain, title_plain, cards_skip, cards_data}
+use Rattle.spec_meaning.proofs.Headings.{IsHeading, heading_is, cards_begin, title_begin, cards_end, title_end}
+use Rattle.spec_meaning.proofs.Order.{IsOrdered, start_ordered, one_more, begun_ordered, LineDid, Skipped, Data, Heading, step_did}
+
+-- ---- a property of the cards so far and the state
+
+pub record IsKept (style : Style) (Inv : SoFar → State → Type 0) : Type 0 where
+  pub at_start : Inv nothing start
+  pub at_heading : (c : SoFar) (s t : State) (part : Section) (words : Fields) → IsOrdered s.part s.seen → has_begun s.seen part ≡ false → headed (begun s part) part (text_at 2 words) ≡ Ok t → Inv c s → Inv (with_title part words c) t
+  pub at_card : (c : SoFar) (s t : State) (part : Section) (fields : Fields) → IsOrdered s.part s.seen → s.part ≡ Some part → data_card style (Some part) s fields ≡ Ok t → Inv c s → Inv (with_card part fields c) t
+
+-- the model is made of a state of which the property holds with these cards
+pub record Ends (Inv : SoFar → State → Type 0) (c : SoFar) (m : Model) : Type 0 where
+  pub last : State
+  pub objective : Name
+  pub holds : Inv c last
+  pub objective_is : last.objective ≡ Some objective
+  pub model_is : model_by last objective ≡ m
+
+-- ---- parts of a state that a step leaves or sets
+
+pub stays : (part : Section) (s t : State) → Leads part s t → (t.part ≡ s.part) × (t.seen ≡ s.seen)
+stays section.Name s t h = (ap (λ (u : State). u.part) h, ap (λ (u : State). u.seen) h)
+stays section.Sense s t h = (ap (λ (u : State). u.part) h, ap (λ (u : State). u.seen) h)
+stays section.Rows s t h = (ap (λ (u : State). u.part) h, ap (λ (u : State). u.seen) h)
+stays section.Columns s t h = (ap (λ (u : State). u.part) h, ap (λ (u : State). u.seen) h)
+stays section.RightSides s t h = (ap (λ (u : State). u.part) h, ap (λ (u : State). u.seen) h)
+stays section.Ranges s t h = (ap (λ (u : State). u.part) h, ap (λ (u : State). u.seen) h)
+stays section.Bounds s t h = (ap (λ (u : State). u.part) h, ap (λ (u : State). u.seen) h)
+stays section.End s t h = (ap (λ (u : State). u.part) h, ap (λ (u : State). u.seen) h)
+
+-- but for the name and the sense
+abbrev pub untitled : State → State
+untitled s = record s { name = []; sense = None }
+
+took : (s : State) (word : List ℕ) (t : State) → take_sense s word ≡ Ok t → untitled t ≡ untitled s
+unfolding take_sense
+took s word t h =
+    let a = need_ok (sense_of word) code.CardShape _ t h in
+    let b = must_ok (is_none s.sense) code.CardShape _ t a.2 in
+    subst (λ u. untitled u ≡ untitled s) (same_ok _ t b.1) refl
+
+took_beside : (s : State) (word : List ℕ) (t : State) → sense_beside s word ≡ Ok t → untitled t ≡ untitled s
+took_beside s [] t h = subst (λ u. untitled u ≡ untitled s) (same_ok s t h) refl
+took_beside s (b ∷ bs) t h = took s (b ∷ bs) t h
+
+pub headed_leads : (s : State) (part : Section) (word : List ℕ) (t : State) → headed s part word ≡ Ok t → untitled t ≡ untitled s
+headed_leads s section.Name word t h =
+    let a = must_ok (is_model_name word) code.Name _ t h in
+    subst (λ u. untitled u ≡ untitled s) (same_ok _ t a.1) refl
+headed_leads s section.Sense word t h = took_beside s word t h
+headed_leads s section.Columns word t h = let a = must_ok (is_some s.objective) code.NoObjective _ t h in subst (λ u. untitled u ≡ untitled s) (same_ok s t a.1) refl
+headed_leads s part word t h = subst (λ u. untitled u ≡ untitled s) (same_ok s t h) refl
+
+-- ---- all cards, line by line
+
+whole_skip : (c : SoFar) (style : Style) (here : Option Section) (seen : Seen) (l : Line (List ℕ)) (lines : Lines) → is_skipped (bytes_of l) ≡ true → whole c style here seen lines ≡ whole c style here seen (l ∷ lines)
+whole_skip c style here seen l lines h =
+    let card = λ (b : Bool) (q : Section). sym (cards_skip style here b q l lines h) in
+    let title = λ (b : Bool) (q : Section). sym (title_plain b q l lines (skipped_plain l h)) in
+    λ i.
+    record {
+      name_title = or_else c.name_title (title seen.name section.Name i);
+      sense_title = or_else c.sense_title (title seen.sense section.Sense i);
+      senses = c.senses ++ card seen.sense section.Sense i;
+      rows = c.rows ++ card seen.rows section.Rows i;
+      columns = c.columns ++ card seen.columns section.Columns i;
+      right_sides = c.right_sides ++ card seen.right_sides section.RightSides i;
+      ranges = c.ranges ++ card seen.ranges section.Ranges i;
+      bounds = c.bounds ++ card seen.bounds section.Bounds i;
+    }
+
+whole_data : (c : SoFar) (style : Style) (here : Section) (seen : Seen) (l : Line (List ℕ)) (lines : Lines) → is_skipped (bytes_of l) ≡ false → begins_with_blank (bytes_of l) ≡ true → whole (with_card here (fields_in style here (bytes_of l)) c) style (Some here) seen lines ≡ whole c style (Some here) seen (l ∷ lines)
+whole_data c style here seen l lines h b =
+    let card = λ (begun : Bool) (q : Section) (cards : List Fields). sym (cards_data style here begun q l lines cards h b) in
+    let title = λ (begun : Bool) (q : Section). sym (title_plain begun q l lines (data_plain l h b)) in
+    λ i.
+    record {
+      name_title = or_else c.name_title (title seen.name section.Name i);
+      sense_title = or_else c.sense_title (title seen.sense section.Sense i);
+      senses = card seen.sense section.Sense c.senses i;
+      rows = card seen.rows section.Rows c.rows i;
+      columns = card seen.columns section.Columns c.columns i;
+      right_sides = card seen.right_sides section.RightSides c.right_sides i;
+      ranges = card seen.ranges section.Ranges c.ranges i;
+      bounds = card seen.bounds section.Bounds c.bounds i;
+    }
+
+begun_now : (part q : Section) (seen : Bool) (b : Bool) → is_section (Some part) q ≡ b → (b ≡ true → seen ≡ false) → is_section (Some part) q ≡ true → seen ≡ false
+begun_now part q seen b e f h = f (sym e ∙ h)
+
+-- none of what a section begins with has begun
+record IsNew (part : Section) (seen : Seen) : Type 0 where
+  name : is_section (Some part) section.Name ≡ true → seen.name ≡ false
+  sense : is_section (Some part) section.Sense ≡ true → seen.sense ≡ false
+  rows : is_section (Some part) section.Rows ≡ true → seen.rows ≡ false
+  columns : is_section (Some part) section.Columns ≡ true → seen.columns ≡ false
+  right_sides : is_section (Some part) section.RightSides ≡ true → seen.right_sides ≡ false
+  ranges : is_section (Some part) section.Ranges ≡ true → seen.ranges ≡ false
+  bounds : is_section (Some part) section.Bounds ≡ true → seen.bounds ≡ false
+
+never : {A : Type 0} → false ≡ true → A
+never h = absurd (cc)
+
+is_new : (part : Section) (seen : Seen) → has_begun seen part ≡ false → IsNew part seen
+is_new section.Name seen h = record { name = λ e. h; sense = never; rows = never; columns = never; right_sides = never; ranges = never; bounds = never }
+is_new section.Sense seen h = record { name = never; sense = λ e. h; rows = never; columns = never; right_sides = never; ranges = never; bounds = never }
+is_new section.Rows seen h = record { name = never; sense = never; rows = λ e. h; columns = never; right_sides = never; ranges = never; bounds = never }
+is_new section.Columns seen h = record { name = never; sense = never; rows = never; columns = λ e. h; right_sides = never; ranges = never; bounds = never }
+is_new section.RightSides seen h = record { name = never; sense = never; rows = never; columns = never; right_sides = λ e. h; ranges = never; bounds = never }
+is_new section.Ranges seen h = record { name = never; sense = never; rows = never; columns = never; right_sides = never; ranges = λ e. h; bounds = never }
+is_new section.Bounds seen h = record { name = never; sense = never; rows = never; columns = never; right_sides = never; ranges = never; bounds = λ e. h }
+is_new section.End seen h = record { name = never; sense = never; rows = never; columns = never; right_sides = never; ranges = never; bounds = never }
+
+whole_heading : (c : SoFar) (style : Style) (here : Option Section) (part : Section) (seen : Seen) (l : Line (List ℕ)) (lines : Lines) → IsHeading l part → is_section (Some part) section.End ≡ false → has_begun seen part ≡ false → IsOrdered here seen → whole (with_title part (word_fields (bytes_of l)) c) style (Some part) (with_section seen part) lines ≡ whole c style here seen (l ∷ lines)
+whole_heading c style here part seen l lines h e new o =
+    let n = is_new part seen new in
+    ap (λ later. whole (with_title part (word_fields (bytes_of l)) c) style (Some part) later lines) (one_more seen part)
+    ∙ λ i.
+    record {
+      name_title = sym (title_begin seen.name part section.Name l lines c.name_title h e n.name) i;
+      sense_title = sym (title_begin seen.sense part section.Sense l lines c.sense_title h e n.sense) i;
+      senses = c.senses ++ sym (cards_begin style here seen.sense part section.Sense l lines h e o.told.senses n.sense) i;
+      rows = c.rows ++ sym (cards_begin style here seen.rows part section.Rows l lines h e o.told.rows n.rows) i;
+      columns = c.columns ++ sym (cards_begin style here seen.columns part section.Columns l lines h e o.told.columns n.columns) i;
+      right_sides = c.right_sides ++ sym (cards_begin style here seen.right_sides part section.RightSides l lines h e o.told.right_sides n.right_sides) i;
+      ranges = c.ranges ++ sym (cards_begin style here seen.ranges part section.Ranges l lines h e o.told.ranges n.ranges) i;
+      bounds = c.bounds ++ sym (cards_begin style here seen.bounds part section.Bounds l lines h e o.told.bounds n.bounds) i;
+    }
+
+whole_end : (c : SoFar) (style : Style) (here : Option Section) (seen : Seen) (l : Line (List ℕ)) (lines : Lines) → IsHeading l section.End → c ≡ whole c style here seen (l ∷ lines)
+whole_end c style here seen l lines h =
+    λ i.
+    record {
+      name_title = sym (title_end seen.name section.Name l lines c.name_title h) i;
+      sense_title = sym (title_end seen.sense section.Sense l lines c.sense_title h) i;
+      senses = sym (cards_end style here seen.sense section.Sense l lines c.senses h) i;
+      rows = sym (cards_end style here seen.rows section.Rows l lines c.rows h) i;
+      columns = sym (cards_end style here seen.columns section.Columns l lines c.columns h) i;
+      right_sides = sym (cards_end style here seen.right_sides section.RightSides l lines c.right_sides h) i;
+      ranges = sym (cards_end style here seen.ranges section.Ranges l lines c.ranges h) i;
+      bounds = sym (cards_end style here seen.bounds section.Bounds l lines c.bounds h) i;
+    }
+
+-- ---- one line
+
+same_model : (m o : Model) → Spelled m ≡ Spelled o → m ≡ o
+same_model m o h = cc
+
+same_more : (s t : State) → More s ≡ More t → s ≡ t
+same_more s t h = cc
+
+-- what a line that begins a section did
+record HeadingDid (s : State) (words : Fields) (part : Section) (p : Progress) : Type 0 where
+  part_is : section_of (text_at 1 words) ≡ Some part
+  may : may_follow s.seen part ≡ true
+  new : has_begun s.seen part ≡ false
+  did : begin s part (text_at 2 words) ≡ Ok p
+
+heading_did : (s : State) (words : Fields) (p : Progress) → section_card s words ≡ Ok p → (part : Section) × HeadingDid s words part p
+unfolding section_card
+heading_did s words p h =
+    let a = need_ok (section_of (text_at 1 words)) code.UnknownSection _ p h in
+    let b = must_ok (may_follow s.seen a.0 && not (has_begun s.seen a.0)) code.SectionOrder _ p a.2 in
+    let c = both (may_follow s.seen a.0) (not (has_begun s.seen a.0)) b.0 in
+    (a.0, record { part_is = a.1; may = c.0; new = negated _ c.1; did = b.1 })
+
+-- it is ENDATA, or another section
+data Begun (s : State) (part : Section) (word : List ℕ) (p : Progress) : Type 0 where
+  Ended : (part_is : part ≡ section.End) → (did : finished s ≡ Ok p) → Begun s part word p
+  Began : (other : is_section (Some part) section.End ≡ false) → (next : State) → (did : headed (begun s part) part word ≡ Ok next) → (goes : More next ≡ p) → Begun s part word p
+
+begins_by : (s : State) (part : Section) (word : List ℕ) (p : Progress) → is_section (Some part) section.End ≡ false → more (headed (begun s part) part word) ≡ Ok p → Begun s part word p
+begins_by s part word p e h =
+    let a = step_ok (headed (begun s part) part word) (λ t. Ok (More t)) p h in
+    Began e a.0 a.1 (same_ok (More a.0) p a.2)
+
+begin_did : (s : State) (part : Section) (word : List ℕ) (p : Progress) → begin s part word ≡ Ok p → Begun s part word p
+begin_did s section.End word p h = Ended refl h
+begin_did s section.Name word p h = begins_by s section.Name word p refl h
+begin_did s section.Sense word p h = begins_by s section.Sense word p refl h
+begin_did s section.Rows word p h = begins_by s section.Rows word p refl h
+begin_did s section.Columns word p h = begins_by s section.Columns word p refl h
+begin_did s section.RightSides word p h = begins_by s section.RightSides word p refl h
+begin_did s section.Ranges word p h = begins_by s section.Ranges word p refl h
+begin_did s section.Bounds word p h = begins_by s section.Bounds word p refl h
+
+-- ---- the lines behind a state
+
+finished_did : (s : State) (p : Progress) → finished s ≡ Ok p → (objective : Name) × (s.objective ≡ Some objective) × (Done (model_by s objective) ≡ p)
+unfolding finished
+finished_did s p h =
+    let a = need_ok s.objective code.NoObjective _ p h in
+    (a.0, a.1, same_ok (Done (model_by s a.0)) p a.2)
+
+same_done : (m o : Model) → Done m ≡ Done o → m ≡ o
+same_done m o h = cc
+
+module _ (style : Style) (Inv : SoFar → State → Type 0) (kept : IsKept style Inv) where
+  -- with the property, the lines behind a state lead to the model
+  abbrev Leads_on : Lines → Model → State → Type 0
+  Leads_on lines m s = (d : SoFar) → IsOrdered s.part s.seen → Inv d s → Ends Inv (whole d style s.part s.seen lines) m
+
+  line_goes : (c : SoFar) (s t : State) (l : Line (List ℕ)) (lines : Lines) (m : Model) → LineDid style s (bytes_of l) (More t) → IsOrdered s.part s.seen → Inv c s → Leads_on lines m t → Ends Inv (whole c style s.part s.seen (l ∷ lines)) m
+  line_goes c s t l lines m (Skipped skipped same) o k f =
+      subst (λ w. Ends Inv w m) (whole_skip c style s.part s.seen l lines skipped) (subst (Leads_on lines m) (sym (same_more s t same)) f c o k)
+  line_goes c s t l lines m (Data not_skipped blank d) o k f =
+      let st = stays d.part s d.next (card_leads style d.part s _ d.next d.did) in
+      let g = subst (Leads_on lines m) (sym (same_more d.next t d.goes)) f in
+      let ends = g _ (subst₂ IsOrdered (sym st.0) (sym st.1) o) (kept.at_card c s d.next d.part (fields_in style d.part (bytes_of l)) o d.here d.did k) in
+      let to = (λ i. whole (with_card d.part (fields_in style d.part (bytes_of l)) c) style (st.0 i) (st.1 i) lines)
+      ∙ ap (λ here. whole (with_card d.part (fields_in style d.part (bytes_of l)) c) style here s.seen lines) d.here
+      ∙ whole_data c style d.part s.seen l lines not_skipped blank
+      ∙ ap (λ here. whole c style here s.seen (l ∷ lines)) (sym d.here) in
+      subst (λ w. Ends Inv w m) to ends
+  line_goes c s t l lines m (Heading not_skipped filled did) o k f =
+      let h = heading_did s (word_fields (bytes_of l)) (More t) did in
+      go h.0 h.1 (begin_did s h.0 (text_at 2 (word_fields (bytes_of l))) (More t) h.1.did)
+    where
+      go : (part : Section) → HeadingDid s (word_fields (bytes_of l)) part (More t) → Begun s part (text_at 2 (word_fields (bytes_of l))) (More t) → Ends Inv (whole c style s.part s.seen (l ∷ lines)) m
+      go part h (Ended part_is did) = let a = finished_did s (More t) did in absurd (never_more a.2)
+        where
+          never_more : {m : Model} → Done m ≡ More t → ⊥
+          never_more e = cc
+      go part h (Began other next did goes) =
+          let u = headed_leads (begun s part) part (text_at 2 (word_fields (bytes_of l))) next did in
+          let here : next.part ≡ Some part = ap (λ (x : State). x.part) u in
+          let seen : next.seen ≡ with_section s.seen part = ap (λ (x : State). x.seen) u in
+          let g = subst (Leads_on lines m) (sym (same_more next t goes)) f in
+          let ordered = begun_ordered s.part part s.seen h.may h.new other o in
+          let ends = g _ (subst₂ IsOrdered (sym here) (sym seen) ordered) (kept.at_heading c s next part (word_fields (bytes_of l)) o h.new did k) in
+          let to = (λ i. whole (with_title part (word_fields (bytes_of l)) c) style (here i) (seen i) lines)
+          ∙ whole_heading c style s.part part s.seen l lines (heading_is l part not_skipped filled h.part_is) other h.new o in
+          subst (λ w. Ends Inv w m) to ends
+
+  line_ends : (c : SoFar) (s : State) (l : Line (List ℕ)) (lines : Lines) (m d : Model) → LineDid style s (bytes_of l) (Done d) → d ≡ m → Inv c s → Ends Inv (whole c style s.part s.seen (l ∷ lines)) m
+  line_ends c s l lines m d (Skipped skipped same) e k = absurd (cc)
+  line_ends c s l lines m d (Data not_skipped blank did) e k = absurd (never_done did.goes)
+    where
+      never_done : More did.next ≡ Done d → ⊥
+      never_done e = cc
+  line_ends c s l lines m d (Heading not_skipped filled did) e k =
+      let h = heading_did s (word_fields (bytes_of l)) (Done d) did in
+      go h.0 h.1 (begin_did s h.0 (text_at 2 (word_fields (bytes_of l))) (Done d) h.1.did)
+    where
+      go : (part : Section) → HeadingDid s (word_fields (bytes_of l)) part (Done d) → Begun s part (text_at 2 (word_fields (bytes_of l))) (Done d) → Ends Inv (whole c style s.part s.seen (l ∷ lines)) m
+      go part h (Ended part_is did) =
+          let a = finished_did s (Done d) did in
+          let heading = heading_is l section.End not_skipped filled (h.part_is ∙ ap (λ p. Some p) part_is) in
+          record {
+            last = s;
+            objective = a.0;
+            holds = subst (λ w. Inv w s) (whole_end c style s.part s.seen l lines heading) k;
+            objective_is = a.1;
+            model_is = same_done _ d a.2 ∙ e;
+          }
+      go part h (Began other next did goes) = absurd (never_done goes)
+        where
+          never_done : More next ≡ Done d → ⊥
+          never_done e = cc
+
+  settled_ends : (c : SoFar) (s : State) (l : Line (List ℕ)) (lines : Lines) (n : ℕ) (m : Model) (out : Outcome) → step style s l ≡ out → settled n (λ t. judge style t (n + 1) lines) out ≡ Spelled m → IsOrdered s.part s.seen → Inv c s → ((t : State) → judge style t (n + 1) lines ≡ Spelled m → Leads_on lines m t) → Ends Inv (whole c style s.part s.seen (l ∷ lines)) m
+  settled_ends c s l lines n m (Ok (More t)) e h o k f = line_goes c s t l lines m (step_did style s l (More t) e) o k (f t h)
+  settled_ends c s l lines n m (Ok (Done d)) e h o k f = line_ends c s l lines m d (step_did style s l (Done d) e) (same_model d m h) k
+  settled_ends c s l lines n m (Err fault) e h o k f = absurd (cc)
+
+  judged_ends : (lines : Lines) (s : State) (n : ℕ) (m : Model) → judge style s n lines ≡ Spelled m → Leads_on lines m s
+  judged_ends [] s n m h c o k = absurd (cc)
+  judged_ends (l ∷ lines) s n m h c o k =
+      settled_ends c s l lines n m (step style s l) refl h o k (λ t e. judged_ends lines t (n + 1) m e)
+
+  pub spelled_ends : (lines : Lines) (m : Model) → Spells style lines m → Ends Inv (whole nothing style start.part start.seen lines) m
+  spelled_ends lines m h = judged_ends lines start 1 m h nothing start_ordered kept.at_start
+
+-- ---- the cards of a whole text
+
+-- by the definitions of a text
+abbrev pub all_of : Style → Lines → SoFar
+all_of style lines =
+    record {
+      name_title = title_of section.Name lines;
+      sense_title = title_of section.Sense lines;
+      senses = cards_in style section.Sense lines;
+      rows = cards_in style section.Rows lines;
+      columns = cards_in style section.Columns lines;
+      right_sides = cards_in style section.RightSides lines;
+      ranges = cards_in style section.Ranges lines;
+      bounds = cards_in style section.Bounds lines;
+    }
+
+all_cards : (style : Style) (part : Section) (lines : Lines) → cards_to_come style None false part lines ≡ cards_in style part lines
+unfolding cards_to_come cards_in lines_in lines_up_to_end
+all_cards style part lines =
+    ap (λ ls. cards_of style part ls)
+    (ap (λ ls. before is_heading (behind (begins part) ls)) (sym (before_is (begins section.End) lines))
+    ∙ ap (λ ls. before is_heading ls) (sym (behind_is (begins part) (lines_up_to_end lines)))
+    ∙ sym (before_is is_heading _))
+
+all_titles : (part : Section) (lines : Lines) → title_to_come false part lines ≡ title_of part lines
+unfolding title_to_come title_of lines_up_to_end
+all_titles part lines = ap (λ ls. option_map (λ l. word_fields (bytes_of l)) (find (begins part) ls)) (sym (before_is (begins section.End) lines))
+
+pub whole_is : (style : Style) (lines : Lines) → whole nothing style start.part start.seen lines ≡ all_of style lines
+whole_is style lines =
+    λ i.
+    record {
+      name_title = all_titles section.Name lines i;
+      sense_title = all_titles section.Sense lines i;
+      senses = all_cards style section.Sense lines i;
+      rows = all_cards style section.Rows lines i;
+      columns = all_cards style section.Columns lines i;
+      right_sides = all_cards style section.RightSides lines i;
+      ranges = all_cards style section.Ranges lines i;
+      bounds = all_cards style section.Bounds lines i;
+    }
+
+-- What is kept holds of the state that the model is made of, with the cards of the text.
+pub spelled_by : (style : Style) (Inv : SoFar → State → Type 0) → IsKept style Inv → (lines : Lines) (m : Model) → Spells style lines m → Ends Inv (all_of style lines) m
+spelled_by style Inv kept lines m h = subst (λ c. Ends Inv c m) (whole_is style lines) (spelled_ends style Inv kept lines m h)

@@ -1,0 +1,219 @@
+-- The cards of a text so far, and those that are still to come.
+use Rattle.std.proofs.Common.{◌≡◌, ℕ, ◌+◌, Bool, true, false, not, ◌&&◌, cond, eqb, eqb→eq, Option, Some, None, option_map, List, [], ◌∷◌, ◌++◌, map, take, drop, refl, sym, ap, ◌∙◌, subst, append_assoc, add-one, add_comm, T}
+use Rattle.std.specs.List.{filter, find, before_first, after_first, position_or_len}
+use Rattle.spec_text.specs.Words.{same}
+use Rattle.spec_text.specs.declared.line.Line.{Line}
+use Rattle.spec_mps.specs.declared.style.Style.{Style}
+use Rattle.spec_mps.specs.declared.style.Style.TheVariants.{Free, Fixed}
+use Rattle.spec_mps.specs.declared.section.Section.{Section}
+use Rattle.spec_mps.specs.declared.section.Section.TheVariants as section
+use Rattle.spec_mps.specs.declared.section.Seen.{Seen}
+use Rattle.spec_mps.specs.Cards.{is_skipped, begins_with_blank}
+use Rattle.spec_mps.specs.Fields.{Fields, word_fields, column_fields, text_at}
+use Rattle.spec_meaning.specs.TextCards.{Lines, bytes_of, section_word, is_heading, begins, fields_in}
+
+-- ---- the elements before and behind the first that passes a test
+
+abbrev pub before : {A : Type 0} → (A → Bool) → List A → List A
+before test [] = []
+before test (x ∷ xs) = cond (test x) [] (x ∷ before test xs)
+
+abbrev pub behind : {A : Type 0} → (A → Bool) → List A → List A
+behind test [] = []
+behind test (x ∷ xs) = cond (test x) xs (behind test xs)
+
+take_more : {A : Type 0} (b : Bool) (n : ℕ) (x : A) (xs ys : List A) → take n xs ≡ ys → take (cond (not b) (1 + n) 0) (x ∷ xs) ≡ cond b [] (x ∷ ys)
+take_more true n x xs ys h = refl
+take_more false n x xs ys h = rw (add_comm 1 n, add-one n) (ap (λ zs. x ∷ zs) h)
+
+drop_more : {A : Type 0} (b : Bool) (n : ℕ) (x : A) (xs ys : List A) → drop (n + 1) xs ≡ ys → drop (cond (not b) (1 + n) 0 + 1) (x ∷ xs) ≡ cond b xs ys
+drop_more true n x xs ys h = refl
+drop_more false n x xs ys h = rw (add_comm 1 n, add-one (n + 1)) h
+
+pub before_is : {A : Type 0} (test : A → Bool) (xs : List A) → before_first test xs ≡ before test xs
+before_is test [] = refl
+before_is test (x ∷ xs) = take_more (test x) (position_or_len test xs) x xs (before test xs) (before_is test xs)
+
+pub behind_is : {A : Type 0} (test : A → Bool) (xs : List A) → after_first test xs ≡ behind test xs
+behind_is test [] = refl
+behind_is test (x ∷ xs) = drop_more (test x) (position_or_len test xs) x xs (behind test xs) (behind_is test xs)
+
+-- ---- sections by their numbers
+
+abbrev pub section_number : Section → ℕ
+section_number section.Name = 0
+section_number section.Sense = 1
+section_number section.Rows = 2
+section_number section.Columns = 3
+section_number section.RightSides = 4
+section_number section.Ranges = 5
+section_number section.Bounds = 6
+section_number section.End = 7
+
+abbrev pub is_section : Option Section → Section → Bool
+is_section None part = false
+is_section (Some here) part = eqb (section_number here) (section_number part)
+
+abbrev fields_by : Style → Bool → List ℕ → Fields
+fields_by Free sense bytes = word_fields bytes
+fields_by Fixed true bytes = word_fields bytes
+fields_by Fixed false bytes = column_fields bytes
+
+fields_as : (style : Style) (part : Section) (bytes : List ℕ) → fields_in style part bytes ≡ fields_by style (eqb (section_number part) 1) bytes
+fields_as Free part bytes = refl
+fields_as Fixed section.Sense bytes = refl
+fields_as Fixed part bytes = refl
+
+fields_same : (style : Style) (p q : Section) (bytes : List ℕ) → is_section (Some p) q ≡ true → fields_in style p bytes ≡ fields_in style q bytes
+fields_same style p q bytes h =
+    fields_as style p bytes
+    ∙ ap (λ n. fields_by style (eqb n 1) bytes) (eqb→eq (section_number p) (section_number q) (subst T (sym h) tt))
+    ∙ sym (fields_as style q bytes)
+
+-- ---- the cards so far
+
+pub record SoFar : Type 0 where
+  pub name_title : Option Fields
+  pub sense_title : Option Fields
+  pub senses : List Fields
+  pub rows : List Fields
+  pub columns : List Fields
+  pub right_sides : List Fields
+  pub ranges : List Fields
+  pub bounds : List Fields
+
+abbrev pub nothing : SoFar
+nothing = record { name_title = None; sense_title = None; senses = []; rows = []; columns = []; right_sides = []; ranges = []; bounds = [] }
+
+abbrev pub pushed : Bool → List Fields → Fields → List Fields
+pushed true cards fields = cards ++ fields ∷ []
+pushed false cards fields = cards
+
+abbrev pub with_card : Section → Fields → SoFar → SoFar
+with_card part fields c =
+    record c {
+      senses = pushed (is_section (Some part) section.Sense) c.senses fields;
+      rows = pushed (is_section (Some part) section.Rows) c.rows fields;
+      columns = pushed (is_section (Some part) section.Columns) c.columns fields;
+      right_sides = pushed (is_section (Some part) section.RightSides) c.right_sides fields;
+      ranges = pushed (is_section (Some part) section.Ranges) c.ranges fields;
+      bounds = pushed (is_section (Some part) section.Bounds) c.bounds fields;
+    }
+
+abbrev pub or_else : Option Fields → Option Fields → Option Fields
+or_else None o = o
+or_else (Some fields) o = Some fields
+
+abbrev pub titled : Bool → Option Fields → Fields → Option Fields
+titled true o fields = or_else o (Some fields)
+titled false o fields = o
+
+abbrev pub with_title : Section → Fields → SoFar → SoFar
+with_title part fields c =
+    record c {
+      name_title = titled (is_section (Some part) section.Name) c.name_title fields;
+      sense_title = titled (is_section (Some part) section.Sense) c.sense_title fields;
+    }
+
+-- ---- those to come
+
+-- the lines of a section that is here, that is over, or that is to come
+abbrev pub lines_by : Bool → Bool → Section → Lines → Lines
+lines_by true seen part lines = before is_heading lines
+lines_by false true part lines = []
+lines_by false false part lines = before is_heading (behind (begins part) lines)
+
+abbrev pub cards_of : Style → Section → Lines → List Fields
+cards_of style part lines = map (λ l. fields_in style part (bytes_of l)) (filter (λ l. not (is_skipped (bytes_of l))) lines)
+
+unfoldable pub cards_to_come : Style → Option Section → Bool → Section → Lines → List Fields
+cards_to_come style here seen part lines = cards_of style part (lines_by (is_section here part) seen part (before (begins section.End) lines))
+
+abbrev pub title_by : Bool → Section → Lines → Option Fields
+title_by true part lines = None
+title_by false part lines = option_map (λ l. word_fields (bytes_of l)) (find (begins part) lines)
+
+unfoldable pub title_to_come : Bool → Section → Lines → Option Fields
+title_to_come seen part lines = title_by seen part (before (begins section.End) lines)
+
+-- all cards, where these are so far
+abbrev pub whole : SoFar → Style → Option Section → Seen → Lines → SoFar
+whole c style here seen lines =
+    record {
+      name_title = or_else c.name_title (title_to_come seen.name section.Name lines);
+      sense_title = or_else c.sense_title (title_to_come seen.sense section.Sense lines);
+      senses = c.senses ++ cards_to_come style here seen.sense section.Sense lines;
+      rows = c.rows ++ cards_to_come style here seen.rows section.Rows lines;
+      columns = c.columns ++ cards_to_come style here seen.columns section.Columns lines;
+      right_sides = c.right_sides ++ cards_to_come style here seen.right_sides section.RightSides lines;
+      ranges = c.ranges ++ cards_to_come style here seen.ranges section.Ranges lines;
+      bounds = c.bounds ++ cards_to_come style here seen.bounds section.Bounds lines;
+    }
+
+-- ---- a line that is no heading
+
+-- what the tests say of a line
+pub record IsPlain (l : Line (List ℕ)) : Type 0 where
+  pub heading : is_heading l ≡ false
+  pub begins_none : (part : Section) → begins part l ≡ false
+
+plain : (l : Line (List ℕ)) (s b : Bool) → is_skipped (bytes_of l) ≡ s → begins_with_blank (bytes_of l) ≡ b → not s && not b ≡ false → IsPlain l
+plain l s b e f h =
+    let g : is_heading l ≡ false = (λ i. not (e i) && not (f i)) ∙ h in
+    record { heading = g; begins_none = λ part. ap (λ t. t && same (text_at 1 (word_fields (bytes_of l))) (section_word part)) g }
+
+pub skipped_plain : (l : Line (List ℕ)) → is_skipped (bytes_of l) ≡ true → IsPlain l
+skipped_plain l h = plain l true (begins_with_blank (bytes_of l)) h refl refl
+
+pub data_plain : (l : Line (List ℕ)) → is_skipped (bytes_of l) ≡ false → begins_with_blank (bytes_of l) ≡ true → IsPlain l
+data_plain l h b = plain l false true h b refl
+
+abbrev on_line : Style → Section → Line (List ℕ) → Bool → List Fields → List Fields
+on_line style part l counts cards = cond counts (fields_in style part (bytes_of l) ∷ cards) cards
+
+-- where its section is here, it counts unless it is skipped
+cards_plain : (style : Style) (part : Section) (at seen : Bool) (l : Line (List ℕ)) (lines : Lines) → IsPlain l → cards_of style part (lines_by at seen part (before (begins section.End) (l ∷ lines))) ≡ on_line style part l (at && not (is_skipped (bytes_of l))) (cards_of style part (lines_by at seen part (before (begins section.End) lines)))
+cards_plain style part true seen l lines p =
+    ap (λ b. cards_of style part (before is_heading (cond b [] (l ∷ before (begins section.End) lines)))) (p.begins_none section.End)
+    ∙ ap (λ b. cards_of style part (cond b [] (l ∷ before is_heading (before (begins section.End) lines)))) p.heading
+    ∙ go (not (is_skipped (bytes_of l)))
+  where
+    rest : Lines
+    rest = filter (λ l. not (is_skipped (bytes_of l))) (before is_heading (before (begins section.End) lines))
+
+    go : (b : Bool) → map (λ l. fields_in style part (bytes_of l)) (cond b (l ∷ rest) rest) ≡ on_line style part l b (map (λ l. fields_in style part (bytes_of l)) rest)
+    go true = refl
+    go false = refl
+cards_plain style part false true l lines p = refl
+cards_plain style part false false l lines p =
+    ap (λ b. cards_of style part (before is_heading (behind (begins part) (cond b [] (l ∷ before (begins section.End) lines))))) (p.begins_none section.End)
+    ∙ ap (λ b. cards_of style part (before is_heading (cond b (before (begins section.End) lines) (behind (begins part) (before (begins section.End) lines))))) (p.begins_none part)
+
+pub title_plain : (seen : Bool) (part : Section) (l : Line (List ℕ)) (lines : Lines) → IsPlain l → title_to_come seen part (l ∷ lines) ≡ title_to_come seen part lines
+unfolding title_to_come
+title_plain true part l lines p = refl
+title_plain false part l lines p =
+    ap (λ b. option_map (λ l. word_fields (bytes_of l)) (find (begins part) (cond b [] (l ∷ before (begins section.End) lines)))) (p.begins_none section.End)
+    ∙ ap (λ b. option_map (λ l. word_fields (bytes_of l)) (cond b (Some l) (find (begins part) (before (begins section.End) lines)))) (p.begins_none part)
+
+pub cards_skip : (style : Style) (here : Option Section) (seen : Bool) (part : Section) (l : Line (List ℕ)) (lines : Lines) → is_skipped (bytes_of l) ≡ true → cards_to_come style here seen part (l ∷ lines) ≡ cards_to_come style here seen part lines
+unfolding cards_to_come
+cards_skip style here seen part l lines h =
+    cards_plain style part (is_section here part) seen l lines (skipped_plain l h)
+    ∙ ap (λ b. on_line style part l b (cards_of style part (lines_by (is_section here part) seen part (before (begins section.End) lines)))) (none (is_section here part) (is_skipped (bytes_of l)) h)
+  where
+    none : (at skipped : Bool) → skipped ≡ true → at && not skipped ≡ false
+    none true skipped e = ap not e
+    none false skipped e = refl
+
+pub cards_data : (style : Style) (here : Section) (seen : Bool) (part : Section) (l : Line (List ℕ)) (lines : Lines) (cards : List Fields) → is_skipped (bytes_of l) ≡ false → begins_with_blank (bytes_of l) ≡ true → cards ++ cards_to_come style (Some here) seen part (l ∷ lines) ≡ pushed (is_section (Some here) part) cards (fields_in style here (bytes_of l)) ++ cards_to_come style (Some here) seen part lines
+unfolding cards_to_come
+cards_data style here seen part l lines cards h b =
+    ap (λ more. cards ++ more)
+    (cards_plain style part (is_section (Some here) part) seen l lines (data_plain l h b)
+    ∙ ap (λ c. on_line style part l (is_section (Some here) part && not c) (cards_of style part (lines_by (is_section (Some here) part) seen part (before (begins section.End) lines)))) h)
+    ∙ go (is_section (Some here) part) (fields_same style here part (bytes_of l)) (cards_of style part (lines_by (is_section (Some here) part) seen part (before (begins section.End) lines)))
+  where
+    go : (at : Bool) → (at ≡ true → fields_in style here (bytes_of l) ≡ fields_in style part (bytes_of l)) → (more : List Fields) → cards ++ on_line style part l (at && true) more ≡ pushed at cards (fields_in style here (bytes_of l)) ++ more
+    go true f more = ap (λ fields. cards ++ fields ∷ more) (sym (f refl)) ∙ sym (append_assoc cards (fields_in style here (bytes_of l) ∷ []) more)
+    go false f more = refl

@@ -1,0 +1,2 @@
+pub mod RowCards
+pub mod TextCards

@@ -1,0 +1,62 @@
+-- What stands in a text, section by section, up to ENDATA.
+use Rattle.std.specs.Prelude.{ℕ, ◌&&◌, Bool, not, Option, option_map, List, [], map, codes}
+use Rattle.std.specs.List.{filter, find, before_first, after_first}
+use Rattle.spec_text.specs.Words.{same}
+use Rattle.spec_text.specs.declared.line.Line.{Line}
+use Rattle.spec_text.specs.declared.line.Line.TheVariants.{Text, Long, End, Over}
+use Rattle.spec_mps.specs.declared.style.Style.{Style}
+use Rattle.spec_mps.specs.declared.style.Style.TheVariants.{Free, Fixed}
+use Rattle.spec_mps.specs.declared.section.Section.{Section}
+use Rattle.spec_mps.specs.declared.section.Section.TheVariants as section
+use Rattle.spec_mps.specs.Cards.{is_skipped, begins_with_blank}
+use Rattle.spec_mps.specs.Fields.{Fields, word_fields, column_fields, text_at}
+
+abbrev pub Lines : Type 0
+Lines = List (Line (List ℕ))
+
+-- a line's bytes
+abbrev pub bytes_of : Line (List ℕ) → List ℕ
+bytes_of (Text bytes) = bytes
+bytes_of (Long length) = []
+bytes_of End = []
+bytes_of Over = []
+
+-- the word that begins a section
+abbrev pub section_word : Section → List ℕ
+section_word section.Name = codes "NAME"
+section_word section.Sense = codes "OBJSENSE"
+section_word section.Rows = codes "ROWS"
+section_word section.Columns = codes "COLUMNS"
+section_word section.RightSides = codes "RHS"
+section_word section.Ranges = codes "RANGES"
+section_word section.Bounds = codes "BOUNDS"
+section_word section.End = codes "ENDATA"
+
+-- neither a comment nor blank, and something stands in column 1
+abbrev pub is_heading : Line (List ℕ) → Bool
+is_heading line = not (is_skipped (bytes_of line)) && not (begins_with_blank (bytes_of line))
+
+abbrev pub begins : Section → Line (List ℕ) → Bool
+begins part line = is_heading line && same (text_at 1 (word_fields (bytes_of line))) (section_word part)
+
+unfoldable pub lines_up_to_end : Lines → Lines
+lines_up_to_end lines = before_first (begins section.End) lines
+
+-- the lines between the one that begins the section and the next that begins one
+unfoldable pub lines_in : Section → Lines → Lines
+lines_in part lines = before_first is_heading (after_first (begins part) (lines_up_to_end lines))
+
+-- a data card; under OBJSENSE its fields are words in both forms
+abbrev pub fields_in : Style → Section → List ℕ → Fields
+fields_in Free part bytes = word_fields bytes
+fields_in Fixed section.Sense bytes = word_fields bytes
+fields_in Fixed part bytes = column_fields bytes
+
+-- the data cards of a section, in order
+unfoldable pub cards_in : Style → Section → Lines → List Fields
+cards_in style part lines =
+    map (λ line. fields_in style part (bytes_of line)) (filter (λ line. not (is_skipped (bytes_of line))) (lines_in part lines))
+
+-- the words of the line that begins a section, if one does
+unfoldable pub title_of : Section → Lines → Option Fields
+title_of part lines = option_map (λ line. word_fields (bytes_of line)) (find (begins part) (lines_up_to_end lines))

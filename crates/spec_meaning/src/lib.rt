@@ -1,0 +1,34 @@
+//! What the text of a model means, in the words of linear programs: laws on every text that spells a model.
+//!
+//! cards_in                             the data cards of a section, up to ENDATA: specs/TextCards
+//! title_of                             the words of the line that begins a section: specs/TextCards
+//! unlimited_rows, limited_rows         the rows of type N, and the others with their kinds: specs/RowCards
+//! sense_words, IsSenseOf               the words that say a sense, and the sense: specs/RowCards
+//!
+//! The laws know nothing of how a text is read: they speak of its cards, whose fields `spec_mps` tells apart.
+#![tactic(auto)]
+
+ghost use Rattle.std.specs.Prelude.{◌≡◌, List, ◌∷◌, map};
+ghost use Rattle.spec_model.specs.Model.{Model, Name};
+ghost use Rattle.spec_mps.specs.declared.section.Section.TheVariants as section;
+ghost use Rattle.spec_mps.specs.declared.style.Style.{Style};
+ghost use Rattle.spec_mps.specs.Steps.{Spells};
+ghost use Rattle.spec_meaning.specs.TextCards.{Lines, cards_in, title_of};
+ghost use Rattle.spec_meaning.specs.RowCards.{second_word, sense_words, IsSenseOf, unlimited_rows, limited_rows};
+
+/// The name stands beside NAME, and the sense is what OBJSENSE says, MIN where nothing says one.
+pub fn titles_are_names_and_senses()
+    ensures name { (style : Style) (lines : Lines) (m : Model) → Spells style lines m →
+        m.name ≡ second_word (title_of section.Name lines) }
+    ensures sense { (style : Style) (lines : Lines) (m : Model) → Spells style lines m →
+        IsSenseOf (sense_words (title_of section.Sense lines) (cards_in style section.Sense lines)) m.sense }
+{}
+
+/// The objective is the first row of type N, and further ones are dropped. The rows are those of the other types, in
+/// the order of their cards.
+pub fn row_cards_are_rows()
+    ensures objective { (style : Style) (lines : Lines) (m : Model) → Spells style lines m →
+        (dropped : List Name) × (unlimited_rows (cards_in style section.Rows lines) ≡ m.objective ∷ dropped) }
+    ensures rows { (style : Style) (lines : Lines) (m : Model) → Spells style lines m →
+        map (λ r. (r.kind, r.name)) m.rows ≡ limited_rows (cards_in style section.Rows lines) }
+{}
