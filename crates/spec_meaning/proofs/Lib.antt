@@ -6,3 +6,6 @@ pub mod Runs
 pub mod RowViews
 pub mod RowsKept
 pub mod TitlesKept
+pub mod PairsKept
+pub mod SetsKept
+pub mod SidesKept

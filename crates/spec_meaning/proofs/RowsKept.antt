@@ -3,11 +3,12 @@ use Rattle.std.proofs.Common.{◌≡◌, ℕ, ◌<◌, ◌≤◌, Bool, true, fa
 use borrow.Author.Tests.{ltb-true, ltb-false}
 use Rattle.std.specs.List.{cons_option}
 use Rattle.std.specs.Option.{option_to_list}
+use Rattle.std.proofs.Math.ListN.{get_or-map}
 use Rattle.std.proofs.Math.Seq.{get_or-append_seam}
 use Rattle.std.proofs.lemmas.List.{map-append, get_or_append_left}
 use Rattle.std.proofs.lemmas.List.Elements.{filter_map-append}
 use Rattle.spec_model.specs.declared.parts.Kind.{Kind}
-use Rattle.spec_model.specs.Model.{Model, Name, ExactRow}
+use Rattle.spec_model.specs.Model.{Model, Name, ExactRow, no_row}
 use Rattle.spec_mps.specs.declared.row_type.RowType.{RowType}
 use Rattle.spec_mps.specs.declared.row_type.RowType.TheVariants.{Unlimited, Limited}
 use Rattle.spec_mps.specs.declared.section.Section.{Section}
@@ -26,7 +27,7 @@ use Rattle.spec_meaning.proofs.Frames.{card_leads, rows_did}
 use Rattle.spec_meaning.proofs.SoFar.{SoFar, with_card}
 use Rattle.spec_meaning.proofs.Order.{not_both}
 use Rattle.spec_meaning.proofs.Runs.{IsKept, spelled_by}
-use Rattle.spec_meaning.proofs.RowViews.{RowView, labels, row_view, rows_stay, rows_stay_headed, place_in, place_by_view, no_label, IsPlaced, placed_objective, placed_dropped, placed_row, placed_new}
+use Rattle.spec_meaning.proofs.RowViews.{RowView, labels, many_labels, row_view, rows_stay, rows_stay_headed, place_in, place_by_view, no_label, IsPlaced, placed_objective, placed_dropped, placed_row, placed_new}
 
 -- what the cards say is what a state has
 pub record RowsSay (cards : List Fields) (v : RowView) : Type 0 where
@@ -131,3 +132,9 @@ unfolding model_by
 objective_said style lines m h =
     let e = spelled_by style _ (rows_kept style) lines m h in
     (e.last.dropped, e.holds.unlimited_are ∙ ap (λ o. option_to_list o ++ e.last.dropped) e.objective_is ∙ ap (λ (o : Model). o.objective ∷ e.last.dropped) e.model_is)
+
+-- a row's name stands for it
+pub row_place : (s : State) (i : ℕ) → IsPlaced (row_view s) → i < length s.rows → place_in (row_view s) (get_or s.rows i no_row).name ≡ Some (Kept (Row i))
+row_place s i p l =
+    ap (λ (x : Kind × Name). place_in (row_view s) x.1) (sym (get_or-map (λ (r : ExactRow). (r.kind, r.name)) s.rows i no_row))
+    ∙ p.place i (omega (arith, many_labels s.rows))

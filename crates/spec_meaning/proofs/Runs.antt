@@ -29,6 +29,15 @@ pub record IsKept (style : Style) (Inv : SoFar → State → Type 0) : Type 0 wh
   pub at_heading : (c : SoFar) (s t : State) (part : Section) (words : Fields) → IsOrdered s.part s.seen → has_begun s.seen part ≡ false → headed (begun s part) part (text_at 2 words) ≡ Ok t → Inv c s → Inv (with_title part words c) t
   pub at_card : (c : SoFar) (s t : State) (part : Section) (fields : Fields) → IsOrdered s.part s.seen → s.part ≡ Some part → data_card style (Some part) s fields ≡ Ok t → Inv c s → Inv (with_card part fields c) t
 
+-- two properties together
+pub both_kept : (style : Style) (P Q : SoFar → State → Type 0) → IsKept style P → IsKept style Q → IsKept style (λ c s. P c s × Q c s)
+both_kept style P Q p q =
+    record {
+      at_start = (p.at_start, q.at_start);
+      at_heading = λ c s t part words o new h k. (p.at_heading c s t part words o new h k.0, q.at_heading c s t part words o new h k.1);
+      at_card = λ c s t part fields o here h k. (p.at_card c s t part fields o here h k.0, q.at_card c s t part fields o here h k.1);
+    }
+
 -- the model is made of a state of which the property holds with these cards
 pub record Ends (Inv : SoFar → State → Type 0) (c : SoFar) (m : Model) : Type 0 where
   pub last : State

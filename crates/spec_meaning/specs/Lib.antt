@@ -1,2 +1,3 @@
+pub mod NumberCards
 pub mod RowCards
 pub mod TextCards

@@ -4,16 +4,20 @@
 //! title_of                             the words of the line that begins a section: specs/TextCards
 //! unlimited_rows, limited_rows         the rows of type N, and the others with their kinds: specs/RowCards
 //! sense_words, IsSenseOf               the words that say a sense, and the sense: specs/RowCards
+//! used_pairs                           the pairs of RHS or RANGES in the set that is used: specs/NumberCards
+//! texts_for, IsTheNumber               the texts beside a name, and the number of the only one: specs/NumberCards
 //!
 //! The laws know nothing of how a text is read: they speak of its cards, whose fields `spec_mps` tells apart.
 #![tactic(auto)]
 
-ghost use Rattle.std.specs.Prelude.{◌≡◌, List, ◌∷◌, map};
-ghost use Rattle.spec_model.specs.Model.{Model, Name};
+ghost use Rattle.std.specs.Prelude.{◌≡◌, ◌<◌, ℕ, List, ◌∷◌, map};
+ghost use Rattle.spec_exact.specs.Fraction.{neg_ℚ};
+ghost use Rattle.spec_model.specs.Model.{Model, Name, row, height};
 ghost use Rattle.spec_mps.specs.declared.section.Section.TheVariants as section;
 ghost use Rattle.spec_mps.specs.declared.style.Style.{Style};
 ghost use Rattle.spec_mps.specs.Steps.{Spells};
 ghost use Rattle.spec_meaning.specs.TextCards.{Lines, cards_in, title_of};
+ghost use Rattle.spec_meaning.specs.NumberCards.{texts_for, used_pairs, IsTheNumber};
 ghost use Rattle.spec_meaning.specs.RowCards.{second_word, sense_words, IsSenseOf, unlimited_rows, limited_rows};
 
 /// The name stands beside NAME, and the sense is what OBJSENSE says, MIN where nothing says one.
@@ -31,4 +35,13 @@ pub fn row_cards_are_rows()
         (dropped : List Name) × (unlimited_rows (cards_in style section.Rows lines) ≡ m.objective ∷ dropped) }
     ensures rows { (style : Style) (lines : Lines) (m : Model) → Spells style lines m →
         map (λ r. (r.kind, r.name)) m.rows ≡ limited_rows (cards_in style section.Rows lines) }
+{}
+
+/// The right side of a row is the number beside its name in the set that RHS names first, and 0 where there is none. That
+/// of the objective is the offset negated.
+pub fn rhs_cards_are_right_sides()
+    ensures rows { (style : Style) (lines : Lines) (m : Model) → Spells style lines m → (i : ℕ) → i < height m →
+        IsTheNumber (texts_for (row m i).name (used_pairs (cards_in style section.RightSides lines))) (row m i).rhs }
+    ensures objective { (style : Style) (lines : Lines) (m : Model) → Spells style lines m →
+        IsTheNumber (texts_for m.objective (used_pairs (cards_in style section.RightSides lines))) (neg_ℚ m.offset) }
 {}

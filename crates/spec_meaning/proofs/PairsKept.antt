@@ -1,0 +1,147 @@
+-- Numbers that pairs give to rows, one after another.
+use Rattle.std.proofs.Common.{◌≡◌, ℕ, Bool, true, false, ◌||◌, cond, eqb→eq, eq-eqb, Some, Ok, List, [], ◌∷◌, ◌++◌, map, refl, sym, ap, ◌∙◌, subst, subst₂, append-nil, T}
+use Rattle.std.specs.List.{filter}
+use Rattle.std.proofs.lemmas.List.{map-append}
+use Rattle.std.proofs.lemmas.List.Elements.{filter-append}
+use Rattle.spec_text.specs.Words.{same}
+use Rattle.spec_text.proofs.WordLemmas.{same_true, same-refl}
+use Rattle.spec_exact.specs.Fraction.{ℚ}
+use Rattle.spec_model.specs.Model.{Name}
+use Rattle.spec_mps.specs.declared.target.Target.{Target}
+use Rattle.spec_mps.specs.declared.target.Target.TheVariants.{Objective, Row}
+use Rattle.spec_mps.specs.declared.target.Place.{Place}
+use Rattle.spec_mps.specs.declared.target.Place.TheVariants.{Kept, Dropped}
+use Rattle.spec_mps.specs.NumberText.{NumberReading, Is, Shape, Wide, number_of, answer}
+use Rattle.spec_mps.specs.Checks.{coded}
+use Rattle.spec_mps.specs.Reader.{State, number_in, same_target, is_among}
+use Rattle.spec_mps.proofs.CheckSteps.{same_ok, same_some}
+use Rattle.spec_meaning.specs.NumberCards.{Pairs, texts_for}
+use Rattle.spec_meaning.proofs.RowViews.{RowView, row_view, place_in, one_name, one_target}
+
+-- ---- numbers
+
+number_read : (reading : NumberReading) (v : ℚ) → coded (answer reading) ≡ Ok v → reading ≡ Is v
+number_read (Is q) v h = ap (λ x. Is x) (same_ok q v h)
+number_read Shape v h = absurd (cc)
+number_read Wide v h = absurd (cc)
+
+pub number_is : (text : List ℕ) (v : ℚ) → number_in text ≡ Ok v → number_of text ≡ Is v
+unfolding number_in
+number_is text v h = number_read (number_of text) v h
+
+-- ---- texts beside a name
+
+one_or_none : (b : Bool) (pair : List ℕ × List ℕ) → map (λ (p : List ℕ × List ℕ). p.1) (cond b (pair ∷ []) []) ≡ cond b (pair.1 ∷ []) []
+one_or_none true pair = refl
+one_or_none false pair = refl
+
+pub texts_push : (name : Name) (pairs : Pairs) (pair : List ℕ × List ℕ) → texts_for name (pairs ++ pair ∷ []) ≡ texts_for name pairs ++ cond (same pair.0 name) (pair.1 ∷ []) []
+unfolding texts_for
+texts_push name pairs pair =
+    ap (map (λ (p : List ℕ × List ℕ). p.1)) (filter-append (λ (p : List ℕ × List ℕ). same p.0 name) pairs (pair ∷ []))
+    ∙ map-append (λ (p : List ℕ × List ℕ). p.1) (filter (λ p. same p.0 name) pairs) (cond (same pair.0 name) (pair ∷ []) [])
+    ∙ ap (λ more. texts_for name pairs ++ more) (one_or_none (same pair.0 name) pair)
+
+pub texts_none : (name : Name) → texts_for name [] ≡ []
+unfolding texts_for
+texts_none name = refl
+
+texts_same : (name : Name) (pairs : Pairs) (pair : List ℕ × List ℕ) → same pair.0 name ≡ false → texts_for name (pairs ++ pair ∷ []) ≡ texts_for name pairs
+texts_same name pairs pair h = texts_push name pairs pair ∙ ap (λ b. texts_for name pairs ++ cond b (pair.1 ∷ []) []) h ∙ append-nil (texts_for name pairs)
+
+texts_one : (name : Name) (pairs : Pairs) (pair : List ℕ × List ℕ) → same pair.0 name ≡ true → texts_for name pairs ≡ [] → texts_for name (pairs ++ pair ∷ []) ≡ pair.1 ∷ []
+texts_one name pairs pair h e = texts_push name pairs pair ∙ (λ i. e i ++ cond (h i) (pair.1 ∷ []) [])
+
+-- ---- targets
+
+same_target_true : (t u : Target) → same_target t u ≡ true → t ≡ u
+same_target_true Objective Objective h = refl
+same_target_true Objective (Row j) h = absurd (cc)
+same_target_true (Row i) Objective h = absurd (cc)
+same_target_true (Row i) (Row j) h = ap (λ k. Row k) (eqb→eq i j (subst T (sym h) tt))
+
+same_target_itself : (t : Target) → same_target t t ≡ true
+same_target_itself Objective = refl
+same_target_itself (Row i) = eq-eqb i i refl
+
+-- ---- one pair
+
+-- what a number at a place did to the values of targets
+pub data Put (V : Type 0) (value_of : State → Target → V) (u : State) (place : Place) (v : V) (w : State) : Type 0 where
+  PutNowhere : (place_is : place ≡ Dropped) → (same : u ≡ w) → Put V value_of u place v w
+  PutAt : (x : Target) → (place_is : place ≡ Kept x) → (new : is_among x u.paired ≡ false) → (paired : w.paired ≡ x ∷ u.paired) → (set : w.set ≡ u.set) → (view : row_view w ≡ row_view u) → (here : value_of w x ≡ v) → (elsewhere : (t : Target) → same_target t x ≡ false → value_of w t ≡ value_of u t) → Put V value_of u place v w
+
+-- the values of targets are what these pairs say
+pub record Tells (V : Type 0) (value_of : State → Target → V) (IsNumber : List (List ℕ) → V → Type 0) (view : RowView) (pairs : Pairs) (u : State) : Type 0 where
+  pub view_is : row_view u ≡ view
+  pub numbers : (name : Name) (t : Target) → place_in view name ≡ Some (Kept t) → IsNumber (texts_for name pairs) (value_of u t)
+  pub unpaired : (name : Name) (t : Target) → place_in view name ≡ Some (Kept t) → is_among t u.paired ≡ false → texts_for name pairs ≡ []
+
+pub put_set : (V : Type 0) (value_of : State → Target → V) (u : State) (place : Place) (v : V) (w : State) → Put V value_of u place v w → w.set ≡ u.set
+put_set V value_of u place v w (PutNowhere e same) = ap (λ (x : State). x.set) (sym same)
+put_set V value_of u place v w (PutAt x e new paired set same_view here elsewhere) = set
+
+not_false : {A : Type 0} (b : Bool) → b ≡ true → b ≡ false → A
+not_false true h k = absurd (cc)
+not_false false h k = absurd (cc)
+
+or_false : (a b : Bool) → (a || b) ≡ false → (a ≡ false) × (b ≡ false)
+or_false true b h = absurd (cc)
+or_false false b h = (refl, h)
+
+same_dropped : (t : Target) → Dropped ≡ Kept t → ⊥
+same_dropped t h = cc
+
+same_kept : (t u : Target) → Kept t ≡ Kept u → t ≡ u
+same_kept t u h = cc
+
+module _ {V : Type 0} {value_of : State → Target → V} {IsNumber : List (List ℕ) → V → Type 0} (view : RowView) (pairs : Pairs) (u w : State) (pair : List ℕ × List ℕ) (place : Place) (v : V) (at : place_in view pair.0 ≡ Some place) (one : IsNumber (pair.1 ∷ []) v) (k : Tells V value_of IsNumber view pairs u) where
+  -- a name of another target than the pair's
+  other_name : (name : Name) (t x : Target) → place ≡ Kept x → place_in view name ≡ Some (Kept t) → same_target t x ≡ false → same pair.0 name ≡ false
+  other_name name t x e h ne = by (same pair.0 name) refl
+    where
+      by : (b : Bool) → same pair.0 name ≡ b → b ≡ false
+      by true f =
+          let p : place_in view name ≡ Some (Kept x) = ap (place_in view) (sym (same_true pair.0 name f)) ∙ at ∙ ap (λ y. Some y) e in
+          let same : t ≡ x = one_target view name t x h p in
+          not_false (same_target t x) (ap (λ y. same_target t y) (sym same) ∙ same_target_itself t) ne
+      by false f = refl
+
+  -- the pair's own name
+  own_name : (name : Name) (t x : Target) → place ≡ Kept x → place_in view name ≡ Some (Kept t) → t ≡ x → same pair.0 name ≡ true
+  own_name name t x e h same_t =
+      let p : place_in view pair.0 ≡ Some (Kept t) = at ∙ ap (λ y. Some y) (e ∙ ap (λ y. Kept y) (sym same_t)) in
+      ap (λ n. same n name) (one_name view pair.0 name t p h) ∙ same-refl name
+
+  at_target : (x : Target) → place ≡ Kept x → is_among x u.paired ≡ false → w.paired ≡ x ∷ u.paired → row_view w ≡ row_view u → value_of w x ≡ v → ((t : Target) → same_target t x ≡ false → value_of w t ≡ value_of u t) → Tells V value_of IsNumber view (pairs ++ pair ∷ []) w
+  at_target x e new paired same_view here elsewhere =
+      record {
+        view_is = same_view ∙ k.view_is;
+        numbers = λ name t h. by name t h (same_target t x) refl;
+        unpaired = λ name t h free.
+            let f = or_false (same_target t x) (is_among t u.paired) (ap (is_among t) (sym paired) ∙ free) in
+            texts_same name pairs pair (other_name name t x e h f.0) ∙ k.unpaired name t h f.1;
+      }
+    where
+      by : (name : Name) (t : Target) → place_in view name ≡ Some (Kept t) → (b : Bool) → same_target t x ≡ b → IsNumber (texts_for name (pairs ++ pair ∷ [])) (value_of w t)
+      by name t h true f =
+          let same_t : t ≡ x = same_target_true t x f in
+          let none : texts_for name pairs ≡ [] = k.unpaired name t h (ap (λ y. is_among y u.paired) same_t ∙ new) in
+          subst₂ IsNumber (sym (texts_one name pairs pair (own_name name t x e h same_t) none)) (sym (ap (value_of w) same_t ∙ here)) one
+      by name t h false f = subst₂ IsNumber (sym (texts_same name pairs pair (other_name name t x e h f))) (sym (elsewhere t f)) (k.numbers name t h)
+
+  nowhere : place ≡ Dropped → Tells V value_of IsNumber view (pairs ++ pair ∷ []) u
+  nowhere e =
+      record {
+        view_is = k.view_is;
+        numbers = λ name t h. subst (λ texts. IsNumber texts (value_of u t)) (sym (texts_same name pairs pair (differs name t h (same pair.0 name) refl))) (k.numbers name t h);
+        unpaired = λ name t h free. texts_same name pairs pair (differs name t h (same pair.0 name) refl) ∙ k.unpaired name t h free;
+      }
+    where
+      differs : (name : Name) (t : Target) → place_in view name ≡ Some (Kept t) → (b : Bool) → same pair.0 name ≡ b → b ≡ false
+      differs name t h true f = absurd (same_dropped t (same_some Dropped (Kept t) (sym (ap (λ y. Some y) e) ∙ sym at ∙ ap (place_in view) (same_true pair.0 name f) ∙ h)))
+      differs name t h false f = refl
+
+  pub tells_push : Put V value_of u place v w → Tells V value_of IsNumber view (pairs ++ pair ∷ []) w
+  tells_push (PutNowhere e same) = subst (Tells V value_of IsNumber view (pairs ++ pair ∷ [])) same (nowhere e)
+  tells_push (PutAt x e new paired set same_view here elsewhere) = at_target x e new paired same_view here elsewhere

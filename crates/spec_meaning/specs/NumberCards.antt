@@ -1,0 +1,49 @@
+-- The numbers that cards give: pairs of a row's name and a number, and the sets that they belong to.
+use Rattle.std.specs.Prelude.{ℕ, ◌≡◌, Option, Some, None, List, [], ◌∷◌, map}
+use Rattle.std.specs.List.{filter, flat_map}
+use Rattle.spec_text.specs.Words.{same}
+use Rattle.spec_exact.specs.Fraction.{ℚ, 0ℚ}
+use Rattle.spec_model.specs.Model.{Name}
+use Rattle.spec_mps.specs.NumberText.{Is, number_of}
+use Rattle.spec_mps.specs.Fields.{Fields, texts_of}
+use Rattle.spec_mps.specs.Sides.{SetAndPairs, same_set}
+
+-- names and the texts of numbers
+abbrev pub Pairs : Type 0
+Pairs = List (List ℕ × List ℕ)
+
+-- the texts beside a name
+unfoldable pub texts_for : Name → Pairs → List (List ℕ)
+texts_for name pairs = map (λ pair. pair.1) (filter (λ pair. same pair.0 name) pairs)
+
+-- the number of the one text, and 0 where there is none
+abbrev pub IsTheNumber : List (List ℕ) → ℚ → Type 0
+IsTheNumber [] q = q ≡ 0ℚ
+IsTheNumber (text ∷ []) q = number_of text ≡ Is q
+IsTheNumber (text ∷ other ∷ more) q = ⊥
+
+-- the number of the one text, if there is one
+abbrev pub IsTheRange : List (List ℕ) → Option ℚ → Type 0
+IsTheRange [] range = range ≡ None
+IsTheRange (text ∷ []) range = (q : ℚ) × (range ≡ Some q) × (number_of text ≡ Is q)
+IsTheRange (text ∷ other ∷ more) range = ⊥
+
+-- ---- RHS and RANGES: a set, which may be absent, and one pair or two
+
+abbrev pub side_of : List (List ℕ) → SetAndPairs
+side_of (row ∷ value ∷ []) = record { set = None; pairs = (row, value) ∷ [] }
+side_of (set ∷ row ∷ value ∷ []) = record { set = Some set; pairs = (row, value) ∷ [] }
+side_of (row ∷ value ∷ other ∷ second ∷ []) = record { set = None; pairs = (row, value) ∷ (other, second) ∷ [] }
+side_of (set ∷ row ∷ value ∷ other ∷ second ∷ []) = record { set = Some set; pairs = (row, value) ∷ (other, second) ∷ [] }
+side_of texts = record { set = None; pairs = [] }
+
+abbrev pub set_on : Fields → Option Name
+set_on card = (side_of (texts_of card)).set
+
+abbrev pub pairs_on : Fields → Pairs
+pairs_on card = (side_of (texts_of card)).pairs
+
+-- the pairs of the set that the first card names; cards of other sets count for nothing
+unfoldable pub used_pairs : List Fields → Pairs
+used_pairs [] = []
+used_pairs (first ∷ cards) = flat_map pairs_on (filter (λ card. same_set (set_on first) (set_on card)) (first ∷ cards))
