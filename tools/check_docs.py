@@ -1,0 +1,52 @@
+#!/usr/bin/env python3
+"""Checks that what the documents name is there.
+
+    check_docs.py
+
+Each path in backquotes in README.md and docs/*.md has to exist, each link has to lead to a file, and each name in
+backquotes in docs/READING.md and docs/PROOFS.md has to be a crate or stand in the sources of one. It prints what is
+missing; the status is 1 where something is.
+"""
+import re
+import sys
+from pathlib import Path
+
+TOP = Path(__file__).resolve().parent.parent
+PATH = re.compile(r"(?:crates|docs|examples|tools|bench)/[\w./-]*")
+NAME = re.compile(r"[A-Za-z]\w*(?:[:-]+\w+)*")
+# What a build makes.
+MADE = {"crates/lpd/out/lpd"}
+
+
+def sources():
+    files = [path for end in ("rt", "antt") for path in (TOP / "crates").rglob(f"*.{end}") if "out" not in path.parts]
+    return "\n".join(path.read_text(encoding="utf-8") for path in files)
+
+
+def missing_in(document, names):
+    """What the document names and is not there, by the names that there are."""
+    text = re.sub(r"```.*?```", "", document.read_text(encoding="utf-8"), flags=re.S)
+    for link in re.findall(r"\]\(([^)#:]+)\)", text):
+        if not (document.parent / link).exists():
+            yield link
+    for quoted in re.findall(r"`([^`\n]+)`", text):
+        if PATH.fullmatch(quoted):
+            if quoted not in MADE and not (TOP / quoted).exists():
+                yield quoted
+        elif names and NAME.fullmatch(quoted):
+            if not all(part in names for part in quoted.split("::")):
+                yield quoted
+
+
+def main():
+    names = set(re.findall(r"[\w◌-]+", sources())) | {path.name for path in (TOP / "crates").iterdir()}
+    named = {TOP / "docs" / "READING.md", TOP / "docs" / "PROOFS.md"}
+    documents = [TOP / "README.md", *sorted((TOP / "docs").glob("*.md"))]
+    missing = [(document, what) for document in documents for what in missing_in(document, names if document in named else None)]
+    for document, what in missing:
+        print(f"{document.relative_to(TOP)}: there is no {what}")
+    return 1 if missing else 0
+
+
+if __name__ == "__main__":
+    sys.exit(main())
