@@ -1,5 +1,5 @@
 // Forms and their readers.
-ghost use Rattle.std.specs.Prelude.{◌≡◌, ◌<◌, ◌≤◌, ◌+◌};
+ghost use Rattle.std.specs.Prelude.{◌≡◌, ◌<◌, ◌≤◌, ◌+◌, [], get_or};
 ghost use Rattle.spec_model.specs.Model.{entry_of};
 ghost use Rattle.spec_simplex.specs.Form.{IsForm, form_entry, form_lower, form_upper};
 
@@ -117,6 +117,14 @@ impl Form {
         ensures { result ≡ form_entry self.now i j }
     {
         entry_at(self.entries.at(j as usize).as_slice(), i)
+    }
+
+    /// The entries of structural column `j`: rows, each with its coefficient.
+    pub fn entries(&self, j: u32) -> &[(u32, Frac)]
+        requires { j < self.now.cols }
+        ensures { result.now ≡ get_or self.now.entries j [] }
+    {
+        self.entries.at(j as usize).as_slice()
     }
 
     /// The lower bound of structural or logical column `k`.
