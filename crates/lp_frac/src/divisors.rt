@@ -2,8 +2,8 @@
 //
 // Numbers of 64 bits take steps of 64 bits. Where one of the two is longer, one remainder makes
 // it short; where both are, they take steps of 128 bits until one is short.
-ghost use Rattle.std.specs.Prelude.{◌≡◌, ◌<◌, ◌≤◌, ◌%◌, ◌/◌, ◌^◌, ℕ};
-ghost use Rattle.std.specs.Int.{trailing_zeros, w64, w128};
+ghost use Rattle.std.specs.Prelude.{◌≡◌, ◌≢◌, ◌<◌, ◌≤◌, ◌%◌, ◌/◌, ◌^◌, ℕ};
+ghost use Rattle.std.specs.Int.{abs_diff, trailing_zeros, w64, w128};
 ghost use Rattle.spec_exact.specs.Gcd.{gcd};
 
 // The largest number of 64 bits.
@@ -20,24 +20,34 @@ fn odd_part(n: u64) -> u64
     n >> n.trailing_zeros()
 }
 
-// The greatest common divisor, where the first number is odd.
+// The difference of two odd numbers, without its factors 2. It has as many whichever is the larger, so
+// that their count waits for no comparison.
+fn odd_gap(x: u64, y: u64) -> u64
+    requires x_odd { x % 2 ≡ 1 }
+    requires y_odd { y % 2 ≡ 1 }
+    requires other { x ≢ y }
+    ensures odd { result % 2 ≡ 1 }
+    ensures size { result ≤ abs_diff x y }
+    ensures common { (a : ℕ) → a % 2 ≡ 1 → gcd a result ≡ gcd a (abs_diff x y) }
+{
+    x.abs_diff(y) >> x.wrapping_sub(y).trailing_zeros()
+}
+
+// The greatest common divisor of odd numbers.
 fn odd_common(a: u64, b: u64) -> u64
-    requires { a % 2 ≡ 1 }
+    requires a_odd { a % 2 ≡ 1 }
+    requires b_odd { b % 2 ≡ 1 }
     ensures { result ≡ gcd a b }
 {
     let mut x = a;
     let mut y = b;
-    while y != 0 {
+    while x != y {
         if x == 1 {
             return 1;
         }
-        let z = odd_part(y);
-        if z < x {
-            y = x - z;
-            x = z;
-        } else {
-            y = z - x;
-        }
+        let gap = odd_gap(x, y);
+        x = x.min(y);
+        y = gap;
     }
     x
 }
@@ -49,15 +59,20 @@ fn twos_common(a: u64, b: u64) -> u64
     ensures { result ≡ gcd a b }
 {
     let twos = a.trailing_zeros().min(b.trailing_zeros());
-    odd_common(odd_part(a), b) << twos
+    odd_common(odd_part(a), odd_part(b)) << twos
 }
 
-// The greatest common divisor, after one remainder by the second number, which is not the larger.
+// The greatest common divisor, after one remainder by the second number, which is not the larger, where
+// that is shorter by more than 7 bits.
 fn stepped_common(a: u64, b: u64) -> u64
+    requires { b ≤ a }
     ensures { result ≡ gcd a b }
 {
     if b == 0 {
         return a;
+    }
+    if b.leading_zeros() <= a.leading_zeros() + 7 {
+        return twos_common(b, a);
     }
     let rest = a % b;
     if rest == 0 {
