@@ -9,3 +9,4 @@ pub mod TitlesKept
 pub mod PairsKept
 pub mod SetsKept
 pub mod SidesKept
+pub mod RangesKept

@@ -5,19 +5,19 @@
 //! unlimited_rows, limited_rows         the rows of type N, and the others with their kinds: specs/RowCards
 //! sense_words, IsSenseOf               the words that say a sense, and the sense: specs/RowCards
 //! used_pairs                           the pairs of RHS or RANGES in the set that is used: specs/NumberCards
-//! texts_for, IsTheNumber               the texts beside a name, and the number of the only one: specs/NumberCards
+//! texts_for, IsTheNumber, IsTheRange   the texts beside a name, and the number of the only one: specs/NumberCards
 //!
 //! The laws know nothing of how a text is read: they speak of its cards, whose fields `spec_mps` tells apart.
 #![tactic(auto)]
 
-ghost use Rattle.std.specs.Prelude.{◌≡◌, ◌<◌, ℕ, List, ◌∷◌, map};
+ghost use Rattle.std.specs.Prelude.{◌≡◌, ◌<◌, ℕ, List, [], ◌∷◌, map};
 ghost use Rattle.spec_exact.specs.Fraction.{neg_ℚ};
 ghost use Rattle.spec_model.specs.Model.{Model, Name, row, height};
 ghost use Rattle.spec_mps.specs.declared.section.Section.TheVariants as section;
 ghost use Rattle.spec_mps.specs.declared.style.Style.{Style};
 ghost use Rattle.spec_mps.specs.Steps.{Spells};
 ghost use Rattle.spec_meaning.specs.TextCards.{Lines, cards_in, title_of};
-ghost use Rattle.spec_meaning.specs.NumberCards.{texts_for, used_pairs, IsTheNumber};
+ghost use Rattle.spec_meaning.specs.NumberCards.{texts_for, used_pairs, IsTheNumber, IsTheRange};
 ghost use Rattle.spec_meaning.specs.RowCards.{second_word, sense_words, IsSenseOf, unlimited_rows, limited_rows};
 
 /// The name stands beside NAME, and the sense is what OBJSENSE says, MIN where nothing says one.
@@ -44,4 +44,13 @@ pub fn rhs_cards_are_right_sides()
         IsTheNumber (texts_for (row m i).name (used_pairs (cards_in style section.RightSides lines))) (row m i).rhs }
     ensures objective { (style : Style) (lines : Lines) (m : Model) → Spells style lines m →
         IsTheNumber (texts_for m.objective (used_pairs (cards_in style section.RightSides lines))) (neg_ℚ m.offset) }
+{}
+
+/// The range of a row is the number beside its name in the set that RANGES names first, if there is one. The objective
+/// stands in no such pair.
+pub fn ranges_cards_are_ranges()
+    ensures rows { (style : Style) (lines : Lines) (m : Model) → Spells style lines m → (i : ℕ) → i < height m →
+        IsTheRange (texts_for (row m i).name (used_pairs (cards_in style section.Ranges lines))) (row m i).range }
+    ensures objective { (style : Style) (lines : Lines) (m : Model) → Spells style lines m →
+        texts_for m.objective (used_pairs (cards_in style section.Ranges lines)) ≡ [] }
 {}
