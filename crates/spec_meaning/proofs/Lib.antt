@@ -10,3 +10,6 @@ pub mod PairsKept
 pub mod SetsKept
 pub mod SidesKept
 pub mod RangesKept
+pub mod ColumnLemmas
+pub mod ColumnsKept
+pub mod ColumnsSaid

@@ -1,3 +1,4 @@
+pub mod ColumnCards
 pub mod NumberCards
 pub mod RowCards
 pub mod TextCards

@@ -4,6 +4,8 @@
 //! title_of                             the words of the line that begins a section: specs/TextCards
 //! unlimited_rows, limited_rows         the rows of type N, and the others with their kinds: specs/RowCards
 //! sense_words, IsSenseOf               the words that say a sense, and the sense: specs/RowCards
+//! named_columns                        the columns that cards name, in the order of their first mention: specs/ColumnCards
+//! pairs_of_column                      the pairs on the cards of a column: specs/ColumnCards
 //! used_pairs                           the pairs of RHS or RANGES in the set that is used: specs/NumberCards
 //! texts_for, IsTheNumber, IsTheRange   the texts beside a name, and the number of the only one: specs/NumberCards
 //!
@@ -12,11 +14,12 @@
 
 ghost use Rattle.std.specs.Prelude.{◌≡◌, ◌<◌, ℕ, List, [], ◌∷◌, map};
 ghost use Rattle.spec_exact.specs.Fraction.{neg_ℚ};
-ghost use Rattle.spec_model.specs.Model.{Model, Name, row, height};
+ghost use Rattle.spec_model.specs.Model.{Model, Name, row, column, height, width, cost, coefficient};
 ghost use Rattle.spec_mps.specs.declared.section.Section.TheVariants as section;
 ghost use Rattle.spec_mps.specs.declared.style.Style.{Style};
 ghost use Rattle.spec_mps.specs.Steps.{Spells};
 ghost use Rattle.spec_meaning.specs.TextCards.{Lines, cards_in, title_of};
+ghost use Rattle.spec_meaning.specs.ColumnCards.{named_columns, pairs_of_column};
 ghost use Rattle.spec_meaning.specs.NumberCards.{texts_for, used_pairs, IsTheNumber, IsTheRange};
 ghost use Rattle.spec_meaning.specs.RowCards.{second_word, sense_words, IsSenseOf, unlimited_rows, limited_rows};
 
@@ -35,6 +38,20 @@ pub fn row_cards_are_rows()
         (dropped : List Name) × (unlimited_rows (cards_in style section.Rows lines) ≡ m.objective ∷ dropped) }
     ensures rows { (style : Style) (lines : Lines) (m : Model) → Spells style lines m →
         map (λ r. (r.kind, r.name)) m.rows ≡ limited_rows (cards_in style section.Rows lines) }
+{}
+
+/// The columns are those that COLUMNS names, in the order of their first mention. A coefficient is the number of the one
+/// pair that names the column and the row, and 0 where there is none; and so is a cost, with the objective for the row.
+pub fn columns_cards_are_columns()
+    ensures order { (style : Style) (lines : Lines) (m : Model) → Spells style lines m →
+        map (λ c. c.name) m.columns ≡ named_columns (cards_in style section.Columns lines) }
+    ensures coefficients { (style : Style) (lines : Lines) (m : Model) → Spells style lines m →
+        (i j : ℕ) → i < height m → j < width m →
+        IsTheNumber (texts_for (row m i).name (pairs_of_column (column m j).name (cards_in style section.Columns lines)))
+        (coefficient m i j) }
+    ensures costs { (style : Style) (lines : Lines) (m : Model) → Spells style lines m → (j : ℕ) → j < width m →
+        IsTheNumber (texts_for m.objective (pairs_of_column (column m j).name (cards_in style section.Columns lines)))
+        (cost m j) }
 {}
 
 /// The right side of a row is the number beside its name in the set that RHS names first, and 0 where there is none. That
