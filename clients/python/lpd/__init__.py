@@ -1,0 +1,79 @@
+"""lpd in Python: sessions over the program, its replies as values, and a checker of certificates of its own.
+
+    import lpd
+
+    with lpd.Session() as session:
+        session.load(open("diet.mps").read())
+        print(session.solve())
+        print(session.certificate())
+
+The program decides: this package talks to it, and says in words what it refuses. Numbers are exact, as
+fractions.Fraction. It needs nothing but Python's standard library.
+"""
+from .certificate import check
+from .errors import (
+    BadCommand,
+    BadName,
+    BadNumber,
+    CertificateFault,
+    LimitReached,
+    LineTooLong,
+    LpdError,
+    NameRepeated,
+    NameTaken,
+    NoAnswer,
+    NoModel,
+    NumberTooWide,
+    OutOfMemory,
+    ProgramEnded,
+    ProgramMissing,
+    Refused,
+    TextFault,
+    TooWideForFixed,
+    Unexpected,
+    UnknownName,
+)
+from .model import Model, read_model
+from .program import Program, run
+from .replies import Accepted, Answer, Found, Infeasible, Loaded, Optimal, Past, Rejected, Spent, Unbounded, Verdict
+from .session import Session
+
+__all__ = [
+    "Accepted",
+    "Answer",
+    "BadCommand",
+    "BadName",
+    "BadNumber",
+    "CertificateFault",
+    "Found",
+    "Infeasible",
+    "LimitReached",
+    "LineTooLong",
+    "Loaded",
+    "LpdError",
+    "Model",
+    "NameRepeated",
+    "NameTaken",
+    "NoAnswer",
+    "NoModel",
+    "NumberTooWide",
+    "Optimal",
+    "OutOfMemory",
+    "Past",
+    "Program",
+    "ProgramEnded",
+    "ProgramMissing",
+    "Refused",
+    "Rejected",
+    "Session",
+    "Spent",
+    "TextFault",
+    "TooWideForFixed",
+    "Unbounded",
+    "Unexpected",
+    "UnknownName",
+    "Verdict",
+    "check",
+    "read_model",
+    "run",
+]

@@ -1,0 +1,211 @@
+"""What goes wrong, as exceptions that say in words what was expected, what stood there, and what to do."""
+from __future__ import annotations
+
+from typing import Dict, NamedTuple, Optional, Sequence, Type
+
+
+class LpdError(Exception):
+    """Whatever goes wrong in this package."""
+
+
+class ProgramMissing(LpdError):
+    """There is no program to talk to."""
+
+
+class ProgramEnded(LpdError):
+    """The program ended before it replied."""
+
+    def __init__(self, status: Optional[int], complaint: str) -> None:
+        self.status, self.complaint = status, complaint
+        said = f" It said: {complaint}" if complaint else ""
+        super().__init__(f"lpd ended with status {status} before it replied: {STATUSES.get(status, 'a status of its own')}.{said}")
+
+
+class OutOfMemory(LpdError):
+    """Memory ran out in a command, and the session is as it was."""
+
+    def __init__(self) -> None:
+        super().__init__("lpd ran out of memory in this command; the session is as it was before it")
+
+
+class Unexpected(LpdError):
+    """The program replied something that the protocol does not have here."""
+
+
+class Refused(LpdError):
+    """A command, a text or a certificate is refused. `reply` is the line of the protocol, from ERR on."""
+
+    code = 0
+    hint = ""
+
+    def __init__(self, reply: str, words: str) -> None:
+        self.reply = reply
+        super().__init__(f"{words}. {self.hint}" if self.hint else words)
+
+
+class BadCommand(Refused):
+    code = 1
+    hint = "docs/PROTOCOL.md lists the commands with their words."
+
+
+class BadNumber(Refused):
+    code = 2
+    hint = "Numbers are decimals as -1.5e3 or quotients as 2/3; a budget is digits from 1 to 1000000."
+
+
+class NumberTooWide(Refused):
+    code = 3
+    hint = "Numerator and denominator are at most 2^127 - 1."
+
+
+class NoModel(Refused):
+    code = 4
+    hint = "Load a model first."
+
+
+class UnknownName(Refused):
+    code = 5
+    hint = "Names are those of the model's rows or columns, byte by byte."
+
+    def __init__(self, reply: str, words: str, name: str) -> None:
+        self.name = name
+        super().__init__(reply, words)
+
+
+class NameTaken(UnknownName):
+    code = 6
+    hint = "Rows and the objective share their names, and columns theirs: choose another, or delete the old one first."
+
+
+class LimitReached(Refused):
+    code = 7
+    hint = "Models have at most 256 rows and 512 columns."
+
+
+class TextFault(Refused):
+    """A text spells no model. `line` is its first wrong line, and `fault` the number of what is wrong with it."""
+
+    code = 8
+
+    def __init__(self, line: int, fault: int, text: Optional[str] = None) -> None:
+        self.line, self.fault, self.text = line, fault, text
+        what, self.hint = FAULTS[fault]
+        stood = "" if text is None else f": {text.strip()[:120]!r}"
+        super().__init__(f"ERR 8 MPS {line} M{fault}", f"line {line} of the model's text: {what} (fault {fault}){stood}")
+
+
+class NoAnswer(Refused):
+    code = 9
+    hint = "Solve the model again: loading and editing discard the answer."
+
+
+class TooWideForFixed(Refused):
+    code = 10
+    hint = "Fixed form has 8 bytes for a name and 12 for a number: write free form."
+
+    def __init__(self, reply: str, words: str, item: str) -> None:
+        self.item = item
+        super().__init__(reply, words)
+
+
+class LineTooLong(Refused):
+    code = 11
+    hint = "A line has at most 16384 bytes."
+
+
+class NameRepeated(UnknownName):
+    code = 12
+    hint = "Give each name once."
+
+
+class BadName(Refused):
+    code = 13
+    hint = "A name is 1 to 64 bytes from ! to ~, and no row is named 'MARKER'."
+
+
+class CertificateFault(Refused):
+    """A text spells no certificate. `line` is the first that does not fit."""
+
+    code = 14
+    hint = (
+        "The first line is OPTIMAL, INFEASIBLE, UNBOUNDED or CLASH and a column; then come lines of a letter, a name and a number "
+        "(x and y for OPTIMAL, y for INFEASIBLE, x and r for UNBOUNDED); the last line is END. Blank lines and comments do not fit."
+    )
+
+    def __init__(self, line: int, text: Optional[str] = None) -> None:
+        self.line, self.text = line, text
+        stood = "" if text is None else f": {text.strip()[:120]!r}"
+        super().__init__(f"ERR 14 CERT {line}", f"line {line} of the certificate does not fit{stood}")
+
+
+class FaultWords(NamedTuple):
+    what: str
+    hint: str
+
+
+ORDER = "Sections come as NAME, OBJSENSE, ROWS, COLUMNS, RHS, RANGES, BOUNDS, ENDATA, each at most once."
+ADJACENT = "The cards of a column are adjacent."
+FAULTS: Dict[int, FaultWords] = {
+    1: FaultWords("this section may not come here", ORDER),
+    2: FaultWords("unknown section", ORDER + " A line that begins in column 1 is a section."),
+    3: FaultWords("wrong shape of a card", "docs/FORMATS.md has the fields of each section's cards, in free and in fixed form."),
+    4: FaultWords("unknown type of a row", "Types are N, L, G and E."),
+    5: FaultWords("this row is there already", "Each row is named once, and no row is named as the objective is."),
+    6: FaultWords("unknown row", "Each row that a card names has to stand in ROWS."),
+    7: FaultWords("this column is there already", ADJACENT),
+    8: FaultWords("this row has a number here already", "A column has one number for each row, and a set one right side and one range."),
+    9: FaultWords("not a number", "Numbers are decimals as -1.5e3 or quotients as 2/3."),
+    10: FaultWords("this number does not fit 127 bits", "Numerator and denominator are at most 2^127 - 1."),
+    11: FaultWords("unknown kind of a bound, or an infinite value that it does not take", "Kinds are UP, LO, FX, FR, MI and PL."),
+    12: FaultWords("integer columns", "lpd solves linear programs: take the markers and the kinds BV, LI and UI out to solve the relaxation."),
+    13: FaultWords("semi-continuous columns", "lpd solves linear programs: give the column a plain bound."),
+    14: FaultWords("unknown column", "Each column that BOUNDS names has to stand in COLUMNS."),
+    15: FaultWords("there is no objective", "ROWS needs a row of type N before COLUMNS."),
+    16: FaultWords("too many rows or columns, or too long a line", "A model has at most 256 rows and 512 columns, and a line 16384 bytes."),
+    17: FaultWords("this is no name", "A name is 1 to 64 bytes from ! to ~, and no row is named 'MARKER'."),
+    18: FaultWords("a range of the objective", "The objective has no range: take the card out."),
+    19: FaultWords("the text ends before ENDATA", "ENDATA, from column 1 on, is the last line of a text."),
+}
+STATUSES: Dict[Optional[int], str] = {
+    0: "its input ended",
+    2: "it was started with words that it does not know",
+    3: "a read of its input failed",
+    4: "a write of its output failed",
+    5: "memory ran out",
+    6: "its input ended inside a text or a certificate",
+    8: "its input has more than 2^26 bytes",
+}
+
+
+def refusal(words: Sequence[str], line: str, body: Sequence[str] = ()) -> LpdError:
+    """The exception for a reply of these words, from ERR on, to a command with this line and body."""
+    reply, code, last = " ".join(words), words[1], words[-1]
+
+    def stood(number: int) -> Optional[str]:
+        return body[number - 1] if number <= len(body) else None
+
+    if code == "8":
+        return TextFault(int(words[3]), int(last[1:]), stood(int(words[3])))
+    if code == "14":
+        return CertificateFault(int(last), stood(int(last)))
+    named: Dict[str, Type[UnknownName]] = {"5": UnknownName, "6": NameTaken, "12": NameRepeated}
+    if code in named:
+        what = {"5": "there is no row or column", "6": "there is already a row or column", "12": "this name comes twice:"}[code]
+        return named[code](reply, f"{what} {last!r}, in {line!r}", last)
+    if code == "10":
+        return TooWideForFixed(reply, f"{last!r} is too wide for fixed form", last)
+    plain: Dict[str, Type[Refused]] = {"1": BadCommand, "2": BadNumber, "3": NumberTooWide, "4": NoModel, "7": LimitReached, "9": NoAnswer}
+    plain.update({"11": LineTooLong, "13": BadName})
+    what = {
+        "1": "lpd does not know this command, or its words are not of it",
+        "2": "a word is not a number that the command takes",
+        "3": "a number does not fit 127 bits",
+        "4": "the session holds no model",
+        "7": f"the model already has {last} {words[-2].lower()}" if code == "7" else "",
+        "9": "there is no answer",
+        "11": "the line is too long",
+        "13": "this is no name for a row or a column",
+    }
+    if code in plain:
+        return plain[code](reply, f"{what[code]}, in {line[:200]!r}")
+    return Unexpected(f"lpd replied {reply!r} to {line!r}")

@@ -1,0 +1,110 @@
+"""The program `lpd run` as a process that replies as lines come."""
+from __future__ import annotations
+
+import os
+import shutil
+import subprocess
+import tempfile
+from pathlib import Path
+from types import TracebackType
+from typing import IO, List, Optional, Sequence, Type
+
+from .errors import ProgramEnded, ProgramMissing, Unexpected
+
+REPOSITORY = Path(__file__).resolve().parents[3]
+SESSIONS = 64
+
+
+def find_program() -> str:
+    """The program that $LPD names, or that this repository has built, or that is on the path as lpd."""
+    named, built = os.environ.get("LPD"), REPOSITORY / "crates" / "lpd" / "out" / "lpd"
+    found = named or (str(built) if os.access(built, os.X_OK) else shutil.which("lpd"))
+    if not found:
+        raise ProgramMissing("there is no program lpd: build it with ./lpd build, or name it in the environment variable LPD")
+    return found
+
+
+class Program:
+    """A running `lpd run`, which holds up to 64 sessions. As a context manager it ends the program."""
+
+    def __init__(self, path: Optional[str] = None) -> None:
+        self.path = path or find_program()
+        self.complaints = tempfile.TemporaryFile()
+        try:
+            self.process = subprocess.Popen([self.path, "run"], stdin=subprocess.PIPE, stdout=subprocess.PIPE, stderr=self.complaints)
+        except OSError as error:
+            self.complaints.close()
+            raise ProgramMissing(f"{self.path} does not start: {error.strerror}") from None
+        self.free = list(range(SESSIONS, 0, -1))
+
+    def __enter__(self) -> Program:
+        return self
+
+    def __exit__(self, kind: Optional[Type[BaseException]], error: Optional[BaseException], trace: Optional[TracebackType]) -> None:
+        self.close()
+
+    def take_number(self) -> int:
+        """The number of a session that nobody has."""
+        if not self.free:
+            raise ValueError(f"the program has {SESSIONS} sessions, and all are in use: close one")
+        return self.free.pop()
+
+    def give_back(self, number: int) -> None:
+        self.free.append(number)
+
+    def ask(self, lines: Sequence[str]) -> List[str]:
+        """Sends the lines of one command, and returns those of its reply."""
+        source, sink = self.pipes()
+        try:
+            source.write("".join(f"{line}\n" for line in lines).encode("latin-1"))
+            source.flush()
+        except (BrokenPipeError, ValueError):
+            raise self.ended() from None
+        first = self.line_of(sink)
+        words = first.split(" ")
+        count = int(words[2]) if len(words) == 3 and words[1] in ("TEXT", "CERT") and words[2].isdigit() else 0
+        return [first] + [self.line_of(sink) for _ in range(count)]
+
+    def close(self) -> None:
+        """Ends the input of the program, and waits for its end."""
+        source, sink = self.pipes()
+        if not source.closed:
+            try:
+                source.close()
+            except BrokenPipeError:
+                pass
+            self.process.wait()
+            sink.close()
+            self.complaints.close()
+
+    def pipes(self) -> "tuple[IO[bytes], IO[bytes]]":
+        if self.process.stdin is None or self.process.stdout is None:
+            raise Unexpected("the program has no pipes")
+        return self.process.stdin, self.process.stdout
+
+    def line_of(self, sink: IO[bytes]) -> str:
+        line = sink.readline()
+        if not line.endswith(b"\n"):
+            raise self.ended()
+        return line[:-1].decode("latin-1")
+
+    def ended(self) -> ProgramEnded:
+        """Why there is no reply. The program has ended, or it is ended here."""
+        try:
+            status: Optional[int] = self.process.wait(timeout=5)
+        except subprocess.TimeoutExpired:
+            self.process.kill()
+            status = self.process.wait()
+        said = b""
+        if not self.complaints.closed:
+            self.complaints.seek(0)
+            said = self.complaints.read()
+        return ProgramEnded(status, said.decode("latin-1").strip())
+
+
+def run(script: str, path: Optional[str] = None) -> str:
+    """The output of a whole script. A status other than 0 raises ProgramEnded."""
+    done = subprocess.run([path or find_program(), "run"], input=script.encode("latin-1"), capture_output=True)
+    if done.returncode:
+        raise ProgramEnded(done.returncode, done.stderr.decode("latin-1").strip())
+    return done.stdout.decode("latin-1")

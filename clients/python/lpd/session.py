@@ -1,0 +1,201 @@
+"""A session of the program: a model, its edits, its answers and their certificates."""
+from __future__ import annotations
+
+from fractions import Fraction
+from types import TracebackType
+from typing import List, Mapping, Optional, Sequence, Type, Union
+
+from .errors import OutOfMemory, Unexpected, refusal
+from .model import lines_of, read_lines, words_of
+from .number_text import parse, shown
+from .program import Program
+from .replies import Accepted, Answer, Found, Infeasible, Known, Loaded, Optimal, Past, Rejected, Spent, Unbounded, Verdict
+
+# What may be given as a number: an int, a fraction, or its text, as "0.1". A float is not, since it is seldom what it looks like.
+Numeric = Union[int, Fraction, str]
+
+
+def number_word(value: Numeric) -> str:
+    if isinstance(value, float):
+        raise TypeError(f"{value!r} is a float: give the number as a text or a Fraction, so that it is exact")
+    return value if isinstance(value, str) else shown(Fraction(value))
+
+
+def value_of(text: str) -> Fraction:
+    return parse(text).value
+
+
+def known_of(words: Sequence[str]) -> Optional[Known]:
+    if len(words) == 2 and words[0] == "OPTIMAL":
+        return Optimal(value_of(words[1]))
+    if list(words) == ["INFEASIBLE"]:
+        return Infeasible()
+    return Unbounded() if list(words) == ["UNBOUNDED"] else None
+
+
+def past_of(words: Sequence[str]) -> Optional[Past]:
+    return Past(words[1], value_of(words[2]), value_of(words[3])) if len(words) == 4 and words[0] == "PAST" else None
+
+
+class Session:
+    """One session. Without a program it starts one of its own, which ends with it. Use it as a context manager, or close it."""
+
+    def __init__(self, program: Optional[Program] = None) -> None:
+        self.owns_program = program is None
+        self.program = program or Program()
+        self.number = self.program.take_number()
+        self.is_open = True
+
+    def __enter__(self) -> Session:
+        return self
+
+    def __exit__(self, kind: Optional[Type[BaseException]], error: Optional[BaseException], trace: Optional[TracebackType]) -> None:
+        if self.owns_program:
+            self.is_open = False
+            self.program.close()
+        elif error is None:
+            self.close()
+
+    def close(self) -> None:
+        """Resets the session and gives its number back; ends a program of its own."""
+        if self.is_open:
+            self.is_open = False
+            self.expect("BYE", ["QUIT"])
+            self.program.give_back(self.number)
+            if self.owns_program:
+                self.program.close()
+
+    # ---- models
+
+    def load(self, text: str, fixed: bool = False) -> Loaded:
+        """Holds the model that a text spells, from its first line to ENDATA."""
+        body = body_of(text, fixed)
+        words = self.ask(["LOAD", "FIXED" if fixed else "FREE"], body)
+        if len(words) != 3 or words[0] != "LOADED":
+            raise unexpected(words)
+        return Loaded(int(words[1]), int(words[2]))
+
+    def write(self, fixed: bool = False) -> str:
+        """The text of the model."""
+        return "".join(f"{line}\n" for line in self.lines("TEXT", ["WRITE", "FIXED" if fixed else "FREE"]))
+
+    def add_row(self, name: str, kind: str, rhs: Numeric, range: Optional[Numeric] = None) -> None:
+        self.edit("ADDROW", name, kind, number_word(rhs), *([] if range is None else [number_word(range)]))
+
+    def delete_row(self, name: str) -> None:
+        self.edit("DELROW", name)
+
+    def add_column(self, name: str, cost: Numeric, entries: Optional[Mapping[str, Numeric]] = None) -> None:
+        pairs = [word for row, value in (entries or {}).items() for word in (row, number_word(value))]
+        self.edit("ADDCOL", name, number_word(cost), *pairs)
+
+    def delete_column(self, name: str) -> None:
+        self.edit("DELCOL", name)
+
+    def set_cost(self, column: str, value: Numeric) -> None:
+        self.edit("SETCOST", column, number_word(value))
+
+    def set_coefficient(self, row: str, column: str, value: Numeric) -> None:
+        self.edit("SETCOEF", row, column, number_word(value))
+
+    def set_rhs(self, row: str, value: Numeric) -> None:
+        self.edit("SETRHS", row, number_word(value))
+
+    def set_range(self, row: str, value: Optional[Numeric]) -> None:
+        self.edit("SETRANGE", row, "NONE" if value is None else number_word(value))
+
+    def set_bounds(self, column: str, lower: Optional[Numeric], upper: Optional[Numeric]) -> None:
+        """Sets both bounds; None is no bound."""
+        self.edit("SETBOUND", column, "-inf" if lower is None else number_word(lower), "inf" if upper is None else number_word(upper))
+
+    def set_sense(self, maximize: bool) -> None:
+        self.edit("SENSE", "MAX" if maximize else "MIN")
+
+    # ---- answers
+
+    def budget(self, pivots: int) -> None:
+        """Each later solve makes at most so many pivots and flips."""
+        self.edit("BUDGET", str(pivots))
+
+    def solve(self) -> Answer:
+        words = self.ask(["SOLVE"])
+        spent = Spent(int(words[1])) if len(words) == 2 and words[0] == "SPENT" else None
+        answer = known_of(words) or past_of(words) or spent
+        if answer is None:
+            raise unexpected(words)
+        return answer
+
+    def certificate(self) -> List[str]:
+        """The lines of the last answer's certificate; none behind Past and Spent."""
+        return self.lines("CERT", ["CERT"])
+
+    def how(self) -> Found:
+        words = self.ask(["HOW"])
+        if len(words) < 5 or words[0] != "HOW" or words[2] != "PIVOTS":
+            raise unexpected(words)
+        return Found(words[1], None if words[3] == "-" else int(words[3]), " ".join(words[4:]))
+
+    def check(self, certificate: Union[str, Sequence[str]]) -> Verdict:
+        """The verdict of the proved checker on a certificate for the model."""
+        lines = lines_of(certificate) if isinstance(certificate, str) else list(certificate)
+        end = next((n for n, line in enumerate(lines, 1) if words_of(line) == ["END"]), None)
+        words = self.ask(["CHECK"], lines + ["END"] if end is None else lines[:end])
+        verdict: Optional[Verdict] = past_of(words)
+        if words[0] == "YES":
+            known = known_of(words[1:])
+            verdict = None if known is None else Accepted(known)
+        elif words[0] == "NO" and len(words) == 2:
+            verdict = Rejected(int(words[1]))
+        if verdict is None:
+            raise unexpected(words)
+        return verdict
+
+    # ---- commands
+
+    def edit(self, *words: str) -> None:
+        self.expect("OK", words)
+
+    def expect(self, reply: str, words: Sequence[str]) -> None:
+        found = self.ask(words)
+        if found != [reply]:
+            raise unexpected(found)
+
+    def ask(self, words: Sequence[str], body: Sequence[str] = ()) -> List[str]:
+        """The words of a reply of one line."""
+        return self.replied(words, body)[0].split(" ")[1:]
+
+    def lines(self, kind: str, words: Sequence[str]) -> List[str]:
+        """The lines behind a reply of this kind."""
+        replied = self.replied(words, ())
+        if replied[0].split(" ")[1] != kind:
+            raise unexpected(replied[0].split(" ")[1:])
+        return replied[1:]
+
+    def replied(self, words: Sequence[str], body: Sequence[str]) -> List[str]:
+        for word in words:
+            if not word or any(c in " \t\r\n" for c in word):
+                raise ValueError(f"{word!r} is no word of a command: words are not empty, and have no blanks")
+        line = " ".join([str(self.number), *words])
+        replied = self.program.ask([line, *body])
+        first = replied[0].split(" ")
+        if first[0] != str(self.number):
+            raise Unexpected(f"lpd replied {replied[0]!r} to {line!r}, which is another session's")
+        if first[1] == "MEMORY":
+            raise OutOfMemory()
+        if first[1] == "ERR":
+            raise refusal(first[1:], line, body)
+        return replied
+
+
+def body_of(text: str, fixed: bool) -> List[str]:
+    """The lines of a text up to ENDATA, which ends the body of LOAD. A text without one has a fault, which is raised here."""
+    lines = lines_of(text)
+    for n, line in enumerate(lines, 1):
+        if line[:1] not in (" ", "\t") and words_of(line)[:1] == ["ENDATA"]:
+            return lines[:n]
+    read_lines(lines, fixed)
+    raise Unexpected("a text without ENDATA was read as a model")
+
+
+def unexpected(words: Sequence[str]) -> Unexpected:
+    return Unexpected(f"lpd replied {' '.join(words)!r}, which is no reply to this command")

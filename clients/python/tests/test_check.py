@@ -1,0 +1,104 @@
+"""The checker: the examples' certificates, each condition, each fault of a text, and numbers of any width."""
+import re
+import unittest
+from fractions import Fraction
+from pathlib import Path
+
+import lpd
+from lpd.number_text import number, shown
+from lpd.report import conflict, report
+
+EXAMPLES = Path(__file__).resolve().parents[3] / "examples"
+LEAST = "ROWS\n N cost\n G R1\nCOLUMNS\n a cost 1 R1 1\n b cost 2 R1 1\nRHS\n cost -3 R1 1\nENDATA\n"
+
+
+class Checks(unittest.TestCase):
+    def test_examples(self) -> None:
+        for path in sorted(EXAMPLES.glob("*.mps")):
+            with self.subTest(path.name):
+                self.assertEqual(f"{lpd.check(path.read_text())}\n", path.with_suffix(".said").read_text())
+
+    def test_solved_models(self) -> None:
+        for path in sorted((EXAMPLES / "models").glob("*.mps")):
+            answer, _, certificate = path.with_suffix(".solved").read_text().partition("\n")
+            with self.subTest(path.name):
+                self.assertEqual(str(lpd.check(path.read_text(), certificate, fixed=".fixed." in path.name)), f"YES {answer}")
+
+    def test_conditions(self) -> None:
+        cases = {
+            "OPTIMAL\nx a 1\ny R1 1\nEND\n": "YES OPTIMAL 4",
+            "OPTIMAL\nx a -1\nx b 2\nEND\n": "NO 1: column a is -1, and has to be at least 0",
+            "OPTIMAL\ny R1 1\nEND\n": "NO 2: the sum of row R1 is 0, and has to be at least 1",
+            "OPTIMAL\nx b 1\ny R1 1\nEND\n": "NO 3: column b has the reduced cost 1, so it has to be at its lower bound, and is 1",
+            "OPTIMAL\nx a 2\ny R1 1\nEND\n": "NO 4: row R1 has the multiplier 1, so its sum has to be at its lower limit, and is 2",
+            "INFEASIBLE\ny R1 -1\nEND\n": "NO 1: row R1 has the multiplier -1 and no upper limit",
+            "INFEASIBLE\ny R1 1\nEND\n": "NO 2: column a has the sum 1 and no upper bound",
+            "INFEASIBLE\nEND\n": "NO 3: the rows require 0, and the bounds allow 0, which is not less",
+            "UNBOUNDED\nx a 1\nr b -1\nEND\n": "NO 3: the ray moves column b by -1, towards a bound: it is at least 0",
+            "UNBOUNDED\nx a 1\nr b 1\nEND\n": "NO 5: the ray changes the objective by 2, which is not better",
+            "CLASH a\nEND\n": "NO 1: column a is at least 0, and that is no clash",
+        }
+        for certificate, expected in cases.items():
+            with self.subTest(certificate):
+                verdict = lpd.check(LEAST, certificate)
+                self.assertEqual(f"{verdict}: {verdict.why}" if isinstance(verdict, lpd.Rejected) else str(verdict), expected)
+
+    def test_certificates_that_do_not_fit(self) -> None:
+        cases = {
+            "OPTIMAL\nx c 1\nEND\n": "ERR 5 NAME c",
+            "OPTIMAL\nx a 1\nx a 1\nEND\n": "ERR 12 REPEATED a",
+            "OPTIMAL\n\nEND\n": "ERR 14 CERT 2",
+            "OPTIMAL\nx a 1\n": "ERR 14 CERT 3",
+            "OPTIMAL\nx a 1e99\nEND\n": "ERR 14 CERT 2",
+        }
+        for certificate, reply in cases.items():
+            with self.subTest(certificate), self.assertRaises(lpd.Refused) as raised:
+                lpd.check(LEAST, certificate)
+            self.assertEqual(raised.exception.reply, reply)
+
+    def test_faults_of_texts(self) -> None:
+        script = (EXAMPLES / "texts.lpd").read_text()
+        output = re.findall(r"^\d+ (LOADED .*|ERR 8 .*)$", (EXAMPLES / "texts.out").read_text(), re.M)
+        texts = re.findall(r"^\d+ LOAD (FREE|FIXED)\n(.*?^ENDATA\n)", script, re.M | re.S)
+        self.assertEqual(len(texts), len(output))
+        for (form, text), expected in zip(texts, output):
+            with self.subTest(expected):
+                try:
+                    model = lpd.read_model(text, fixed=form == "FIXED")
+                    said = f"LOADED {len(model.rows)} {len(model.columns)}"
+                except lpd.TextFault as fault:
+                    said = fault.reply
+                self.assertEqual(said, expected)
+
+    def test_wide_numbers(self) -> None:
+        text = LEAST.replace("R1 1\nENDATA", f"R1 {10**60}\nENDATA")
+        certificate = f"OPTIMAL\nx a {10**60}\ny R1 1\nEND\n"
+        with self.assertRaises(lpd.TextFault):
+            lpd.check(text, certificate)
+        self.assertEqual(lpd.check(text, certificate, wide=True), lpd.Accepted(lpd.Optimal(Fraction(10**60 + 3))))
+
+    def test_numbers_as_texts(self) -> None:
+        for text in ("0", "-1.5", "1/3", "0.000000000000000001", "-2/7", "170141183460469231731687303715884105727"):
+            self.assertEqual(shown(number(text)), text)
+        self.assertEqual(number("+.5e+2"), 50)
+        self.assertEqual(number("1" * 5000, wide=True), int("1" * 4000) * 10**1000 + int("1" * 1000))
+        self.assertEqual(shown(Fraction(10**9000)), "1" + "0" * 9000)
+
+
+class Reports(unittest.TestCase):
+    def test_prices(self) -> None:
+        model = lpd.read_model(LEAST)
+        found = report(model, ["OPTIMAL", "x a 1", "y R1 1", "END"])
+        self.assertEqual([(c.name, c.value, c.reduced_cost) for c in found.columns], [("a", 1, 0), ("b", 0, 1)])
+        self.assertEqual([(r.name, r.activity, r.slack, r.price) for r in found.rows], [("R1", 1, 0, 1)])
+
+    def test_prices_of_a_maximum(self) -> None:
+        text = "OBJSENSE MAX\nROWS\n N gain\n L R1\nCOLUMNS\n x gain 2 R1 1\nRHS\n R1 3\nENDATA\n"
+        certificate = ["OPTIMAL", "x x 3", "y R1 -2", "END"]
+        self.assertEqual(str(lpd.check(text, "\n".join(certificate) + "\n")), "YES OPTIMAL 6")
+        self.assertEqual(report(lpd.read_model(text), certificate).rows[0].price, 2)
+
+    def test_a_conflict_in_words(self) -> None:
+        text = "ROWS\n N cost\n L R1\n G R2\nCOLUMNS\n x R1 1 R2 1\nRHS\n R1 1 R2 2\nENDATA\n"
+        words = conflict(lpd.read_model(text), ["INFEASIBLE", "y R1 -1", "y R2 1", "END"])
+        self.assertEqual(words, "These rows contradict each other: -1 times R1 + 1 times R2 requires at least 1, and the bounds of the columns allow at most 0.")

@@ -1,0 +1,84 @@
+"""Sessions and the command over the program itself, where it is built."""
+import contextlib
+import io
+import json
+import unittest
+from fractions import Fraction
+from pathlib import Path
+
+import lpd
+from lpd.__main__ import main
+from lpd.program import find_program
+
+MODELS = Path(__file__).resolve().parents[3] / "examples" / "models"
+
+try:
+    PROGRAM = find_program()
+except lpd.ProgramMissing:
+    PROGRAM = ""
+
+
+@unittest.skipUnless(PROGRAM, "the program is not built")
+class WithTheProgram(unittest.TestCase):
+    def test_each_command(self) -> None:
+        with lpd.Program() as program, lpd.Session(program) as session, lpd.Session(program) as other:
+            self.assertEqual(session.load((MODELS / "diet.mps").read_text()), lpd.Loaded(3, 6))
+            self.assertEqual(session.solve(), lpd.Optimal(Fraction(185, 2)))
+            certificate = session.certificate()
+            self.assertEqual(session.check(certificate), lpd.Accepted(lpd.Optimal(Fraction(185, 2))))
+            self.assertEqual(str(lpd.check(session.write(), "\n".join(certificate) + "\n")), "YES OPTIMAL 92.5")
+            session.add_row("vitamins", "G", "0.5", 2)
+            session.add_column("bread", 2, {"vitamins": 1, "energy": Fraction(1, 3)})
+            session.set_coefficient("vitamins", "milk", "1/4")
+            session.set_cost("bread", 3)
+            session.set_rhs("energy", 1900)
+            session.set_range("protein", 100)
+            session.set_range("protein", None)
+            session.set_bounds("bread", 0, 5)
+            session.delete_column("pork")
+            session.delete_row("calcium")
+            session.set_sense(maximize=True)
+            session.budget(1)
+            self.assertIsInstance(session.solve(), lpd.Spent)
+            session.budget(10000)
+            self.assertIsInstance(session.solve(), lpd.Optimal)
+            with self.assertRaises(lpd.NoModel):
+                other.solve()
+            with self.assertRaises(lpd.NameTaken):
+                session.add_column("bread", 1)
+
+    def test_sixty_four_sessions(self) -> None:
+        with lpd.Program() as program:
+            sessions = [lpd.Session(program) for _ in range(64)]
+            with self.assertRaises(ValueError):
+                lpd.Session(program)
+            sessions[7].close()
+            self.assertEqual(lpd.Session(program).number, 8)
+
+    def test_a_script(self) -> None:
+        self.assertEqual(lpd.run("1 SOLVE\n"), "1 ERR 4 NOMODEL\n")
+        with self.assertRaises(lpd.ProgramEnded) as raised:
+            lpd.run("1 CHECK\nOPTIMAL\n")
+        self.assertEqual(raised.exception.status, 6)
+
+    def command(self, *words: str) -> "tuple[int, str]":
+        output = io.StringIO()
+        with contextlib.redirect_stdout(output), contextlib.redirect_stderr(output):
+            status = main(list(words))
+        return status, output.getvalue()
+
+    def test_the_command_solve(self) -> None:
+        for name, expected in {"diet": 0, "orders": 10, "currency": 11}.items():
+            self.assertEqual(self.command("solve", str(MODELS / f"{name}.mps"))[0], expected)
+        status, output = self.command("solve", str(MODELS / "diet.mps"), "--json", "--max")
+        self.assertEqual((status, json.loads(output)["value"]), (0, "260"))
+        status, output = self.command("solve", str(MODELS / "diet.mps"), "--budget", "1")
+        self.assertEqual((status, output.splitlines()[0]), (13, "SPENT 1"))
+        status, output = self.command("solve", str(MODELS / "diet.solved"))
+        self.assertEqual((status, output.splitlines()[0]), (9, "ERR 8 MPS 1 M2"))
+
+    def test_the_command_check(self) -> None:
+        example = MODELS.parent / "optimal.mps"
+        self.assertEqual(self.command("check", str(example)), (0, "YES OPTIMAL 4\n"))
+        self.assertEqual(self.command("check", str(example), "--claim", "4.5")[0], 1)
+        self.assertEqual(self.command("check", str(MODELS.parent / "no-contradiction.mps"))[0], 1)

@@ -1,0 +1,101 @@
+"""Each reply and each error of a session, against replies that are stored."""
+import os
+import tempfile
+import unittest
+from fractions import Fraction
+from pathlib import Path
+
+import lpd
+
+REPLAYING = str(Path(__file__).with_name("replaying.py"))
+TEXT = "ROWS\n N cost\n G R1\nCOLUMNS\n x cost 1 R1 1\nRHS\n R1 1\nENDATA\n"
+
+
+class Replayed(unittest.TestCase):
+    def session(self, *replies: str) -> lpd.Session:
+        file = tempfile.NamedTemporaryFile("w", suffix=".replies", delete=False, encoding="latin-1")
+        with file:
+            file.write("".join(f"{reply}\n" for reply in replies))
+        self.addCleanup(os.unlink, file.name)
+        os.environ["REPLIES"] = file.name
+        program = lpd.Program(REPLAYING)
+        self.addCleanup(program.close)
+        return lpd.Session(program)
+
+    def test_answers(self) -> None:
+        session = self.session("1 OPTIMAL -2/3", "1 INFEASIBLE", "1 UNBOUNDED", "1 PAST ADD 0.5 1/3", "1 SPENT 7")
+        expected = [lpd.Optimal(Fraction(-2, 3)), lpd.Infeasible(), lpd.Unbounded(), lpd.Past("ADD", Fraction(1, 2), Fraction(1, 3)), lpd.Spent(7)]
+        self.assertEqual([session.solve() for _ in expected], expected)
+
+    def test_verdicts(self) -> None:
+        session = self.session("1 YES OPTIMAL 1", "1 YES INFEASIBLE", "1 YES UNBOUNDED", "1 NO 3", "1 PAST MUL 1 2")
+        expected = [lpd.Accepted(lpd.Optimal(Fraction(1))), lpd.Accepted(lpd.Infeasible()), lpd.Accepted(lpd.Unbounded()), lpd.Rejected(3), lpd.Past("MUL", Fraction(1), Fraction(2))]
+        self.assertEqual([session.check("OPTIMAL\nx x 1\n") for _ in expected], expected)
+
+    def test_other_replies(self) -> None:
+        session = self.session("1 LOADED 1 2", "1 OK", "1 CERT 2", "CLASH x", "END", "1 CERT 0", "1 HOW COLD PIVOTS 3 NONE", "1 HOW COLD PIVOTS - NONE", "1 TEXT 1", "ENDATA", "1 BYE")
+        self.assertEqual(session.load(TEXT), lpd.Loaded(1, 2))
+        session.set_bounds("x", None, Fraction(1, 2))
+        self.assertEqual(session.certificate(), ["CLASH x", "END"])
+        self.assertEqual(session.certificate(), [])
+        self.assertEqual(session.how(), lpd.Found("COLD", 3, "NONE"))
+        self.assertEqual(session.how(), lpd.Found("COLD", None, "NONE"))
+        self.assertEqual(session.write(), "ENDATA\n")
+        session.close()
+
+    def test_errors(self) -> None:
+        cases = [
+            ("1 ERR 1 WORD", lpd.BadCommand, "does not know"),
+            ("1 ERR 2 NUMBER", lpd.BadNumber, "not a number"),
+            ("1 ERR 3 WIDE", lpd.NumberTooWide, "127 bits"),
+            ("1 ERR 4 NOMODEL", lpd.NoModel, "holds no model"),
+            ("1 ERR 5 NAME R9", lpd.UnknownName, "'R9'"),
+            ("1 ERR 6 TAKEN R1", lpd.NameTaken, "'R1'"),
+            ("1 ERR 7 LIMIT ROWS 256", lpd.LimitReached, "256 rows"),
+            ("1 ERR 8 MPS 3 M5", lpd.TextFault, "line 3 of the model's text: this row is there already (fault 5): 'G R1'"),
+            ("1 ERR 9 NOANSWER", lpd.NoAnswer, "no answer"),
+            ("1 ERR 10 FIXEDWIDE ninebytes", lpd.TooWideForFixed, "ninebytes"),
+            ("1 ERR 11 LONG", lpd.LineTooLong, "too long"),
+            ("1 ERR 12 REPEATED R1", lpd.NameRepeated, "'R1'"),
+            ("1 ERR 13 BADNAME", lpd.BadName, "no name"),
+            ("1 ERR 14 CERT 2", lpd.CertificateFault, "line 2 of the certificate"),
+            ("1 MEMORY", lpd.OutOfMemory, "out of memory"),
+            ("1 ERR 99 NEW", lpd.Unexpected, "ERR 99 NEW"),
+            ("1 FINE", lpd.Unexpected, "FINE"),
+            ("2 LOADED 1 1", lpd.Unexpected, "another session's"),
+        ]
+        for reply, kind, words in cases:
+            with self.subTest(reply), self.assertRaises(kind) as raised:
+                self.session(reply).load(TEXT)
+            self.assertIn(words, str(raised.exception))
+            if isinstance(raised.exception, lpd.Refused):
+                self.assertEqual(f"1 {raised.exception.reply}", reply)
+
+    def test_faults_of_texts_have_words(self) -> None:
+        for fault in range(1, 20):
+            with self.subTest(fault), self.assertRaises(lpd.TextFault) as raised:
+                self.session(f"1 ERR 8 MPS 2 M{fault}").load(TEXT)
+            self.assertEqual(raised.exception.fault, fault)
+
+    def test_an_end_in_mid_command(self) -> None:
+        session = self.session("1 LOADED 1 1", "EXIT 5")
+        session.load(TEXT)
+        with self.assertRaises(lpd.ProgramEnded) as raised:
+            session.solve()
+        self.assertEqual((raised.exception.status, raised.exception.complaint), (5, "lpd: out of order"))
+        with self.assertRaises(lpd.ProgramEnded):
+            session.solve()
+
+    def test_words_that_are_no_words(self) -> None:
+        session = self.session("1 OK")
+        for name in ("", "two words", "a\nb"):
+            with self.assertRaises(ValueError):
+                session.delete_row(name)
+        with self.assertRaises(TypeError):
+            session.set_cost("x", 0.1)  # type: ignore[arg-type]
+        with self.assertRaises(lpd.TextFault):
+            session.load("ROWS\n N cost\n")
+
+    def test_a_program_that_is_not_there(self) -> None:
+        with self.assertRaises(lpd.ProgramMissing):
+            lpd.Program("/nowhere/lpd")
