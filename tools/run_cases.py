@@ -3,12 +3,11 @@
 
     run_cases.py TABLE PROGRAM [WORD ..]
 
-A case begins with a line '== NAME: WORDS', where WORDS are those of the command line, and has the lines of its input
-behind a line '-- in' and those of its output behind '-- out'. A line '-- status N' behind them gives the status, if it is
-not 0. In the input a line '%repeat N TEXT' stands for TEXT N times on one line, '%pad N TEXT' for TEXT with blanks behind
-it up to N bytes, and '%cut' as the last line takes away the line feed before it. Blank lines at the end of an output do
-not count, and lines that begin with '#' before a case's '-- in' are comments. It prints what differs, and at last
-'N passed, N failed'.
+A case begins with a line '== NAME: WORDS', where WORDS are those of the command line. The lines of its input follow a line
+'-- in', and those of its output a line '-- out'. A line '-- status N' after them gives the status, if it is not 0. In the
+input a line '%repeat N TEXT' stands for TEXT N times on one line, '%pad N TEXT' for TEXT with blanks up to N bytes, and
+'%cut' as the last line removes the line feed before it. Blank lines at the end of an output do not count, and lines that
+begin with '#' before a case's '-- in' are comments. It prints what differs, and at last 'N passed, N failed'.
 """
 import subprocess
 import sys

@@ -195,7 +195,7 @@ def check_lines(model: Model, lines: Sequence[str], wide: bool = False) -> Union
 
 
 def check(text: str, certificate: Optional[str] = None, fixed: bool = False, wide: bool = False) -> Union[Accepted, Rejected]:
-    """The verdict on a certificate for the model that a text spells. Without a certificate it stands behind ENDATA in the text.
+    """The verdict on a certificate for the model that a text spells. Without a certificate it comes after ENDATA in the text.
 
     It is the check of `lpd check` in plain Python. Sums are of any width, and with wide the numbers in the texts too. A text
     that spells no model, and a certificate that does not fit, raise what `errors` has for them.

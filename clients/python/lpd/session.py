@@ -126,7 +126,7 @@ class Session:
         return answer
 
     def certificate(self) -> List[str]:
-        """The lines of the last answer's certificate; none behind Past and Spent."""
+        """The lines of the last answer's certificate; none after Past and Spent."""
         return self.lines("CERT", ["CERT"])
 
     def how(self) -> Found:
@@ -165,7 +165,7 @@ class Session:
         return self.replied(words, body)[0].split(" ")[1:]
 
     def lines(self, kind: str, words: Sequence[str]) -> List[str]:
-        """The lines behind a reply of this kind."""
+        """The lines after a reply of this kind."""
         replied = self.replied(words, ())
         if replied[0].split(" ")[1] != kind:
             raise unexpected(replied[0].split(" ")[1:])

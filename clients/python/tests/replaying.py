@@ -1,7 +1,7 @@
 #!/usr/bin/env python3
 """Stands in for the program in tests: replies what the file in $REPLIES says, a reply for each command that it reads.
 
-A reply is a line, with the lines behind TEXT and CERT. The line EXIT N ends it at once with that status.
+A reply is a line, followed by the lines of TEXT and CERT. The line EXIT N ends the program at once with that status.
 """
 import os
 import sys
