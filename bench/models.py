@@ -4,40 +4,33 @@
     models.py FOLDER [--program PROGRAM] [--optima FILE] [--seconds N] [--write PAGE]
 
 Each NAME.mps is solved in a session with the largest budget. A certificate goes back to `lpd check` and to
-tools/check_certificate.py behind the model's text, and both are to say yes to the answer. A text that is refused in both
-forms stands in the table with its fault. FILE has a line 'NAME outcome optimum form' for each model, its words parted by
-tabs, with which the answer is compared. A refusal is shown with its operation and operands, and with the pivots and flips
-that were made before it: the least budget that is not spent. It prints what is wrong, and with --write puts the table in
-place of what stands between the two marks of PAGE.
+tools/check_certificate.py behind the model's text, and both are to say yes to the answer. A text that is refused in
+both forms stands in the table with its fault. FILE has a line 'NAME outcome optimum form' for each model, its words
+parted by tabs, with which the answer is compared. A refusal is shown with its operation and operands, and with the
+pivots and flips that were made before it: the least budget that is not spent. It prints what is wrong, and with --write
+puts the table in place of what stands between the two marks of PAGE.
 """
 import argparse
 import pathlib
-import subprocess
 import sys
 from fractions import Fraction
 
 from page import write
+from solvers import CHECKER, LARGEST, PROGRAM, run, session, texts_of
 
-TOP = pathlib.Path(__file__).resolve().parent.parent
-CHECKER = [sys.executable, str(TOP / "tools/check_certificate.py")]
 BEGIN, END = "<!-- measured by bench/models.py -->", "<!-- end of the models -->"
-LARGEST = 1_000_000
 
 
-def output(command, data, seconds):
-    return subprocess.run(command, input=data, capture_output=True, timeout=seconds).stdout.decode("latin-1")
-
-
-def session(options, form, data, *commands):
-    """What a session replies that has loaded the text."""
-    script = f"1 LOAD {form.upper()}\n".encode() + data + "".join(f"1 {c}\n" for c in commands).encode()
-    return output(options.program + ["run"], script, options.seconds).split("\n")[:-1]
+def ask(options, form, data, *commands):
+    """What a session replies that has loaded the text; that it has no end in time, instead of each reply."""
+    said = session(options.program, form, data, commands, options.seconds)[0]
+    return ["1 TIME"] * (len(commands) + 1) if said is None else said
 
 
 def loaded(options, data, forms):
     """The form in which the text is read, with the numbers of rows and columns; or why it is not read in any."""
     for form in forms:
-        reply = session(options, form, data)[0][2:]
+        reply = ask(options, form, data)[0][2:]
         if reply.startswith("LOADED"):
             return form, *map(int, reply.split()[1:])
     return reply
@@ -48,7 +41,7 @@ def pivots_before(options, form, data):
     low, high = 0, LARGEST
     while low < high:
         middle = (low + high) // 2
-        spent = middle == 0 or "SPENT" in session(options, form, data, f"BUDGET {middle}", "SOLVE")[2]
+        spent = middle == 0 or "SPENT" in ask(options, form, data, f"BUDGET {middle}", "SOLVE")[2]
         low, high = (middle + 1, high) if spent else (low, middle)
     return low
 
@@ -57,30 +50,30 @@ def checks(options, form, data, answer, certificate):
     """Who does not say yes to the certificate."""
     text = data + "\n".join(certificate + [""]).encode("latin-1")
     for checker in [options.program + ["check"], CHECKER]:
-        said = output(checker + ["--form", form], text, options.seconds).strip()
-        if said != "YES " + answer:
+        said = run(checker + ["--form", form], text, options.seconds)[0]
+        if (said or "TIME").strip() != "YES " + answer:
             yield f"{' '.join(checker)}: {said}"
 
 
-def row_of(options, path, expected, faults):
-    data = path.read_bytes().rstrip(b"\n") + b"\n"
+def row_of(options, name, data, expected, faults):
     forms = {"free": ["free"], "fixed": ["fixed"]}.get(expected[2] if expected else "", ["free", "fixed"])
     read = loaded(options, data, forms)
     if isinstance(read, str):
-        return f"| {path.stem} | | | `{read}` | |"
+        return f"| {name} | | | `{read}` | |"
     form, rows, columns = read
-    replies = session(options, form, data, f"BUDGET {LARGEST}", "SOLVE", "HOW", "CERT")
+    replies = ask(options, form, data, f"BUDGET {LARGEST}", "SOLVE", "HOW", "CERT")
     answer, how, certificate = replies[2][2:], replies[3].split(), replies[5:]
     words = answer.split()
     if words[0] == "PAST":
         pivots = pivots_before(options, form, data)
-        return f"| {path.stem} | {rows} | {columns} | `{answer}` | {pivots} |"
-    if words[0] == "SPENT":
-        return f"| {path.stem} | {rows} | {columns} | `{answer}` | |"
-    faults += [f"{path.stem}: {fault}" for fault in checks(options, form, data, answer, certificate)]
-    if expected and (words[0].lower() != expected[0] or words[0] == "OPTIMAL" and Fraction(words[1]) != Fraction(expected[1])):
-        faults.append(f"{path.stem}: answers {answer}, where {' '.join(expected)} is expected")
-    return f"| {path.stem} | {rows} | {columns} | `{answer}` | {how[4]} |"
+        return f"| {name} | {rows} | {columns} | `{answer}` | {pivots} |"
+    if words[0] in ("SPENT", "TIME"):
+        return f"| {name} | {rows} | {columns} | `{answer}` | |"
+    faults += [f"{name}: {fault}" for fault in checks(options, form, data, answer, certificate)]
+    is_other = expected and words[0].lower() != expected[0]
+    if is_other or expected and words[0] == "OPTIMAL" and Fraction(words[1]) != Fraction(expected[1]):
+        faults.append(f"{name}: answers {answer}, where {' '.join(expected)} is expected")
+    return f"| {name} | {rows} | {columns} | `{answer}` | {how[4]} |"
 
 
 def optima(path):
@@ -91,7 +84,7 @@ def optima(path):
 def main():
     options = argparse.ArgumentParser(description=__doc__, formatter_class=argparse.RawDescriptionHelpFormatter)
     options.add_argument("folder", type=pathlib.Path)
-    options.add_argument("--program", default=str(TOP / "crates/lpd/out/lpd"))
+    options.add_argument("--program", default=PROGRAM)
     options.add_argument("--optima", type=pathlib.Path)
     options.add_argument("--seconds", type=int, default=600)
     options.add_argument("--write", type=pathlib.Path)
@@ -100,8 +93,8 @@ def main():
     expected = optima(options.optima) if options.optima else {}
     faults = []
     lines = ["| Model | Rows | Columns | Answer | Pivots and flips |", "|---|---|---|---|---|"]
-    for path in sorted(options.folder.glob("*.mps")):
-        lines.append(row_of(options, path, expected.get(path.stem), faults))
+    for name, data in texts_of(options.folder):
+        lines.append(row_of(options, name, data, expected.get(name), faults))
         print(lines[-1], flush=True)
     if options.write:
         write(options.write, BEGIN, END, lines)
