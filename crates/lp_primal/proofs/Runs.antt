@@ -1,5 +1,5 @@
 -- A run of steps by its first step.
-use Rattle.std.proofs.Common.{◌≡◌, ℕ, zero, suc, ◌+◌, ◌-◌, ◌<◌, Option, Result, Ok, Err, refl, ap, ◌∙◌, arith}
+use Rattle.std.proofs.Common.{◌≡◌, ℕ, zero, suc, ◌+◌, ◌-◌, ◌<◌, ◌≤◌, Some, Option, Result, Ok, Err, refl, ap, ◌∙◌, arith}
 use Rattle.spec_exact.specs.Fraction.{ℚ}
 use Rattle.spec_exact.specs.declared.past.Past.{Past}
 use Rattle.spec_simplex.specs.declared.ends.PrimalEnd.{PrimalEnd}
@@ -10,6 +10,8 @@ use Rattle.spec_simplex.specs.declared.ends.Stop.TheVariants as stop
 use Rattle.spec_simplex.specs.Run.{◌>>=◌, refused_as}
 use Rattle.spec_simplex.specs.Tableau.{Tableau}
 use Rattle.spec_simplex.specs.Step.{choice_run}
+use Rattle.lp_frac.specs.Narrow.{largest}
+use Rattle.lp_primal.specs.Answer.{Steps, StopsAt, StopsAfter}
 use Rattle.spec_simplex.specs.Phases.{Ended, done_run, end_or_spent, end_or_next, run_from}
 
 -- a step that is no end
@@ -61,3 +63,36 @@ module _ (limit : Option ℕ) where
   step_done budget used t u choice h n l g =
       ap (λ left. run_from limit left used t) (one_left budget used l) ∙ goes_on (budget - (used + 1)) used t choice h n
       ∙ ap (λ o. refused_as stop.Past o >>= λ u. run_from limit (budget - (used + 1)) (used + 1) u) g
+
+-- ---- how many steps are made
+-- up to u, where `now` are counted, and `used` before them
+pub record IsUnderWay (budget used : ℕ) (t : Tableau) (now : ℕ) (u : Tableau) : Type 0 where
+  pub count : ℕ
+  pub counted : now ≡ used + count
+  pub few : count ≤ budget - used
+  pub steps : Steps count t u
+
+pub sets_out : (budget used : ℕ) (t : Tableau) → IsUnderWay budget used t used t
+sets_out budget used t = record { count = 0; counted = omega arith; few = omega arith; steps = refl }
+
+module _ (budget used : ℕ) (t : Tableau) (now : ℕ) (u : Tableau) (w : IsUnderWay budget used t now u) where
+  pub one_made : (v : Tableau) (choice : Choice ℚ) → choice_run (Some largest) u ≡ Ok choice → GoesOn choice → now < budget → done_run (Some largest) u choice ≡ Ok v → IsUnderWay budget used t (now + 1) v
+  one_made v choice h n l g =
+      record {
+        count = suc w.count;
+        counted = omega (arith, w.counted);
+        few = omega (arith, w.counted, l);
+        steps = (u, w.steps, record { choice = choice; chosen = h; no_end = n; done = g });
+      }
+
+  stops_after : (stop : Stop ℚ) → StopsAt budget now u stop → StopsAfter budget used t now stop
+  stops_after stop h = record { count = w.count; last = u; counted = w.counted; few = w.few; steps = w.steps; stops = h }
+
+  pub choice_stops : (p : Past ℚ) → choice_run (Some largest) u ≡ Err p → StopsAfter budget used t now (stop.Past p)
+  choice_stops p h = stops_after (stop.Past p) (ap (λ o. o >>= done_run (Some largest) u) h)
+
+  pub step_stops : (choice : Choice ℚ) (p : Past ℚ) → choice_run (Some largest) u ≡ Ok choice → done_run (Some largest) u choice ≡ Err p → StopsAfter budget used t now (stop.Past p)
+  step_stops choice p h g = stops_after (stop.Past p) (ap (λ o. o >>= done_run (Some largest) u) h ∙ g)
+
+  pub budget_stops : budget ≤ now → StopsAfter budget used t now stop.Spent
+  budget_stops h = stops_after stop.Spent h

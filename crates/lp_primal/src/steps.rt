@@ -1,10 +1,10 @@
 // Steps up to an end.
-ghost use Rattle.std.specs.Prelude.{◌≡◌, ◌<◌, ◌≤◌, ◌-◌, Some};
+ghost use Rattle.std.specs.Prelude.{◌≡◌, ◌<◌, ◌≤◌, ◌-◌, IfErr, Some};
 ghost use Rattle.spec_simplex.specs.Step.{CanMake};
 ghost use Rattle.spec_simplex.specs.Phases.{done_run, run_from};
 ghost use Rattle.lp_frac.specs.Narrow.{largest};
 ghost use Rattle.lp_tableau.specs.Answer.{Gives};
-ghost use Rattle.lp_primal.specs.Answer.{Runs};
+ghost use Rattle.lp_primal.specs.Answer.{Runs, StopsAfter};
 
 use crate::choice::{Choice, choice};
 use lp_frac::Past;
@@ -29,9 +29,10 @@ fn make(tab: &mut Tableau, choice: Choice) -> Result<(), Past>
 
 /// Takes steps until no column may enter (`Optimal`), nothing stops the column that enters
 /// (`Unbounded`), an operation is past 127 bits (`Past`), or `budget` pivots and flips were made
-/// (`Spent`). `used` counts them. After `Past` the tableau is spent.
+/// (`Spent`). `used` counts them, whether they end or stop. After `Past` the tableau is spent.
 pub fn run(tab: &mut Tableau, used: &mut u64, budget: u64) -> Result<PrimalEnd, Stop>
-    ensures { Runs (run_from (Some largest) (budget - used.old) used.old tab.old) tab.new used.new result }
+    ensures ended { Runs (run_from (Some largest) (budget - used.old) used.old tab.old) tab.new used.new result }
+    ensures stopped { IfErr result (StopsAfter budget used.old tab.old used.new) }
 {
     loop {
         let next = choice(tab)?;

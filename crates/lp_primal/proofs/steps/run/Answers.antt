@@ -1,24 +1,44 @@
 -- A refused choice, an end, a spent budget, a refused step, and the next step.
-use Rattle.std.proofs.Common.{sym, ap, ◌∙◌, Ok, arith}
+use Rattle.std.proofs.Common.{refl, sym, ap, ◌∙◌, Ok, arith}
 use Rattle.std.proofs.lemmas.Result.{err_from_is_err_and}
-use Rattle.lp_primal.proofs.Runs.{run_refused, run_ends, run_spent, step_refused, step_done}
+use Rattle.lp_primal.proofs.Runs.{run_refused, run_ends, run_spent, step_refused, step_done, sets_out, one_made, choice_stops, step_stops, budget_stops}
 use Rattle.lp_primal.proofs.steps.run.Goals as goal
 
-pub returns-in_err-next : goal.returns-in_err-next
-returns-in_err-next c =
+pub loop-next-init : goal.loop-next-init
+loop-next-init c = record { same = refl; way = sets_out _ _ _ }
+
+pub returns-in_err-next-clause-ended : goal.returns-in_err-next-clause-ended
+returns-in_err-next-clause-ended c =
     let p = err_from_is_err_and c.from_residual.result c.from_residual.ensures.1 in
-    rw (p.1, p.2) (c.loop-next.invariant ∙ run_refused _ _ _ _ _ (sym c.in_err-next.ensures.value))
+    rw (p.1, p.2) (c.loop-next.invariant.same ∙ run_refused _ _ _ _ _ (sym c.in_err-next.ensures.value))
 
-pub returns-in-End : goal.returns-in-End
-returns-in-End c = c.loop-next.invariant ∙ run_ends _ _ _ _ _ (sym c.in_ok-next.ensures.value ∙ ap Ok c.in-End.is)
+pub returns-in_err-next-clause-stopped : goal.returns-in_err-next-clause-stopped
+returns-in_err-next-clause-stopped c =
+    let p = err_from_is_err_and c.from_residual.result c.from_residual.ensures.1 in
+    rw (p.1, p.2) (choice_stops _ _ _ _ _ c.loop-next.invariant.way _ (sym c.in_err-next.ensures.value))
 
-pub returns-then-used-budget : goal.returns-then-used-budget
-returns-then-used-budget c = c.loop-next.invariant ∙ run_spent _ _ _ _ _ (sym c.in_ok-next.ensures.value) c.in_default.not-End (omega (arith, c.if-used-budget.true))
+pub returns-in-End-clause-ended : goal.returns-in-End-clause-ended
+returns-in-End-clause-ended c = c.loop-next.invariant.same ∙ run_ends _ _ _ _ _ (sym c.in_ok-next.ensures.value ∙ ap Ok c.in-End.is)
 
-pub returns-in_err-make : goal.returns-in_err-make
-returns-in_err-make c =
+pub returns-then-used-budget-clause-ended : goal.returns-then-used-budget-clause-ended
+returns-then-used-budget-clause-ended c =
+    c.loop-next.invariant.same ∙ run_spent _ _ _ _ _ (sym c.in_ok-next.ensures.value) c.in_default.not-End (omega (arith, c.if-used-budget.true))
+
+pub returns-then-used-budget-clause-stopped : goal.returns-then-used-budget-clause-stopped
+returns-then-used-budget-clause-stopped c = budget_stops _ _ _ _ _ c.loop-next.invariant.way c.if-used-budget.true
+
+pub returns-in_err-make-clause-ended : goal.returns-in_err-make-clause-ended
+returns-in_err-make-clause-ended c =
     let p = err_from_is_err_and c.from_residual-in_err-make.result c.from_residual-in_err-make.ensures.1 in
-    rw (p.1, p.2) (c.loop-next.invariant ∙ step_refused _ _ _ _ _ _ (sym c.in_ok-next.ensures.value) c.in_default.not-End c.if-used-budget.false c.in_err-make.ensures)
+    rw (p.1, p.2) (c.loop-next.invariant.same ∙ step_refused _ _ _ _ _ _ (sym c.in_ok-next.ensures.value) c.in_default.not-End c.if-used-budget.false c.in_err-make.ensures)
+
+pub returns-in_err-make-clause-stopped : goal.returns-in_err-make-clause-stopped
+returns-in_err-make-clause-stopped c =
+    let p = err_from_is_err_and c.from_residual-in_err-make.result c.from_residual-in_err-make.ensures.1 in
+    rw (p.1, p.2) (step_stops _ _ _ _ _ c.loop-next.invariant.way _ _ (sym c.in_ok-next.ensures.value) c.in_err-make.ensures)
 
 pub loop-next-preserved : goal.loop-next-preserved
-loop-next-preserved c = c.loop-next.invariant ∙ step_done _ _ _ _ _ _ (sym c.in_ok-next.ensures.value) c.in_default.not-End c.if-used-budget.false c.in_ok-make.ensures
+loop-next-preserved c = record {
+  same = c.loop-next.invariant.same ∙ step_done _ _ _ _ _ _ (sym c.in_ok-next.ensures.value) c.in_default.not-End c.if-used-budget.false c.in_ok-make.ensures;
+  way = one_made _ _ _ _ _ c.loop-next.invariant.way _ _ (sym c.in_ok-next.ensures.value) c.in_default.not-End c.if-used-budget.false c.in_ok-make.ensures;
+}

@@ -28,11 +28,11 @@ returns-in_err-phase_two-clause-answer c =
 pub returns-in_err-end-clause-answer : goal.returns-in_err-end-clause-answer
 returns-in_err-end-clause-answer c =
     let p = err_from_is_err_and c.from_residual-in_err-end.result c.from_residual-in_err-end.ensures.1 in
-    rw (p.1, p.2) (second_stops _ _ _ _ c.requires _ _ _ c.in_ok-phase_one.ensures (sym c.is_stuck.ensures ∙ c.if-is_stuck.false) _ c.in_ok-phase_two.ensures _ c.in_err-end.ensures)
+    rw (p.1, p.2) (second_stops _ _ _ _ c.requires _ _ _ c.in_ok-phase_one.ensures (sym c.is_stuck.ensures ∙ c.if-is_stuck.false) _ c.in_ok-phase_two.ensures _ c.in_err-end.ensures.ended)
 
 pub returns-clause-answer : goal.returns-clause-answer
 returns-clause-answer c =
-    is_finished _ _ _ _ c.requires _ _ _ c.in_ok-phase_one.ensures (sym c.is_stuck.ensures ∙ c.if-is_stuck.false) _ c.in_ok-phase_two.ensures _ c.in_ok-end.ensures
+    is_finished _ _ _ _ c.requires _ _ _ c.in_ok-phase_one.ensures (sym c.is_stuck.ensures ∙ c.if-is_stuck.false) _ c.in_ok-phase_two.ensures _ c.in_ok-end.ensures.ended
 
 pub returns-clause-inside : goal.returns-clause-inside
-returns-clause-inside c = run_inside _ _ _ _ _ _ _ c.in_ok-end.ensures
+returns-clause-inside c = run_inside _ _ _ _ _ _ _ c.in_ok-end.ensures.ended
