@@ -133,7 +133,7 @@ columns_at_heading cards s t part word h k =
       last = subst (λ o. IfSome o (IsOpenSaid (row_view t) cards t.columns t.paired)) (sym closed) tt;
     }
 
-columns_kept : (style : Style) → IsKept style (λ c s. ColumnsSay c.columns s)
+pub columns_kept : (style : Style) → IsKept style (λ c s. ColumnsSay c.columns s)
 columns_kept style =
     record {
       at_start = record {

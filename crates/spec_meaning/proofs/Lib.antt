@@ -13,3 +13,7 @@ pub mod RangesKept
 pub mod ColumnLemmas
 pub mod ColumnsKept
 pub mod ColumnsSaid
+pub mod BoundTextsRead
+pub mod BoundEffects
+pub mod BoundsKept
+pub mod BoundsSaid

@@ -90,11 +90,11 @@ abbrev pub first_set : List Fields → Option (Option Name)
 first_set [] = None
 first_set (card ∷ cards) = Some (set_on card)
 
-same_set_itself : (set : Option Name) → same_set set set ≡ true
+pub same_set_itself : (set : Option Name) → same_set set set ≡ true
 same_set_itself None = refl
 same_set_itself (Some name) = same-refl name
 
-same_set_true : (a b : Option Name) → same_set a b ≡ true → a ≡ b
+pub same_set_true : (a b : Option Name) → same_set a b ≡ true → a ≡ b
 same_set_true None None h = refl
 same_set_true None (Some b) h = absurd (cc)
 same_set_true (Some a) None h = absurd (cc)

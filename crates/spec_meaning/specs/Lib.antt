@@ -1,3 +1,4 @@
+pub mod BoundCards
 pub mod ColumnCards
 pub mod NumberCards
 pub mod RowCards

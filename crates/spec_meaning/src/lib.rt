@@ -8,6 +8,8 @@
 //! pairs_of_column                      the pairs on the cards of a column: specs/ColumnCards
 //! used_pairs                           the pairs of RHS or RANGES in the set that is used: specs/NumberCards
 //! texts_for, IsTheNumber, IsTheRange   the texts beside a name, and the number of the only one: specs/NumberCards
+//! bounds_of_column                     the cards of a column in the set that BOUNDS uses: specs/BoundCards
+//! lower_of, upper_of                   the bounds that cards make together: specs/BoundCards
 //!
 //! The laws know nothing of how a text is read: they speak of its cards, whose fields `spec_mps` tells apart.
 #![tactic(auto)]
@@ -19,6 +21,7 @@ ghost use Rattle.spec_mps.specs.declared.section.Section.TheVariants as section;
 ghost use Rattle.spec_mps.specs.declared.style.Style.{Style};
 ghost use Rattle.spec_mps.specs.Steps.{Spells};
 ghost use Rattle.spec_meaning.specs.TextCards.{Lines, cards_in, title_of};
+ghost use Rattle.spec_meaning.specs.BoundCards.{bounds_of_column, lower_of, upper_of};
 ghost use Rattle.spec_meaning.specs.ColumnCards.{named_columns, pairs_of_column};
 ghost use Rattle.spec_meaning.specs.NumberCards.{texts_for, used_pairs, IsTheNumber, IsTheRange};
 ghost use Rattle.spec_meaning.specs.RowCards.{second_word, sense_words, IsSenseOf, unlimited_rows, limited_rows};
@@ -70,4 +73,14 @@ pub fn ranges_cards_are_ranges()
         IsTheRange (texts_for (row m i).name (used_pairs (cards_in style section.Ranges lines))) (row m i).range }
     ensures objective { (style : Style) (lines : Lines) (m : Model) → Spells style lines m →
         texts_for m.objective (used_pairs (cards_in style section.Ranges lines)) ≡ [] }
+{}
+
+/// The bounds of a column are what its cards in the set that BOUNDS names first make of 0 and none: the last card that
+/// sets a bound wins, and a negative upper bound takes away a lower bound that no card sets.
+pub fn bounds_cards_are_bounds()
+    ensures { (style : Style) (lines : Lines) (m : Model) → Spells style lines m → (j : ℕ) → j < width m →
+        ((column m j).lower
+        ≡ lower_of style (bounds_of_column style (column m j).name (cards_in style section.Bounds lines)))
+        × ((column m j).upper
+        ≡ upper_of style (bounds_of_column style (column m j).name (cards_in style section.Bounds lines))) }
 {}
