@@ -17,3 +17,4 @@ pub mod BoundTextsRead
 pub mod BoundEffects
 pub mod BoundsKept
 pub mod BoundsSaid
+pub mod RowLimits

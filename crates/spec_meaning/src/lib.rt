@@ -14,9 +14,11 @@
 //! The laws know nothing of how a text is read: they speak of its cards, whose fields `spec_mps` tells apart.
 #![tactic(auto)]
 
-ghost use Rattle.std.specs.Prelude.{◌≡◌, ◌<◌, ℕ, List, [], ◌∷◌, map};
-ghost use Rattle.spec_exact.specs.Fraction.{neg_ℚ};
-ghost use Rattle.spec_model.specs.Model.{Model, Name, row, column, height, width, cost, coefficient};
+ghost use Rattle.std.specs.Prelude.{◌≡◌, ◌<◌, ◌↔◌, ℕ, Some, None, List, [], ◌∷◌, map};
+ghost use Rattle.spec_exact.specs.Fraction.{ℚ, 0ℚ, ◌+ℚ◌, ◌-ℚ◌, ◌≤ℚ◌, ◌<ℚ◌, abs_ℚ, neg_ℚ};
+ghost use Rattle.spec_model.specs.declared.parts.Kind.TheVariants as kind;
+ghost use Rattle.spec_model.specs.Model.{Model, Name, ExactRow, limits_of, row, column, height, width, cost, coefficient};
+ghost use Rattle.spec_model.specs.Truth.{IsBetween};
 ghost use Rattle.spec_mps.specs.declared.section.Section.TheVariants as section;
 ghost use Rattle.spec_mps.specs.declared.style.Style.{Style};
 ghost use Rattle.spec_mps.specs.Steps.{Spells};
@@ -83,4 +85,19 @@ pub fn bounds_cards_are_bounds()
         ≡ lower_of style (bounds_of_column style (column m j).name (cards_in style section.Bounds lines)))
         × ((column m j).upper
         ≡ upper_of style (bounds_of_column style (column m j).name (cards_in style section.Bounds lines))) }
+{}
+
+/// What the sum of a row may be, by its kind, its right side and its range.
+pub fn rows_have_limits()
+    ensures at_most { (r : ExactRow) (v : ℚ) → r.kind ≡ kind.L → r.range ≡ None → IsBetween (limits_of r) v ↔ (v ≤ℚ r.rhs) }
+    ensures at_most_from { (r : ExactRow) (range v : ℚ) → r.kind ≡ kind.L → r.range ≡ Some range →
+        IsBetween (limits_of r) v ↔ (((r.rhs -ℚ abs_ℚ range) ≤ℚ v) × (v ≤ℚ r.rhs)) }
+    ensures at_least { (r : ExactRow) (v : ℚ) → r.kind ≡ kind.G → r.range ≡ None → IsBetween (limits_of r) v ↔ (r.rhs ≤ℚ v) }
+    ensures at_least_to { (r : ExactRow) (range v : ℚ) → r.kind ≡ kind.G → r.range ≡ Some range →
+        IsBetween (limits_of r) v ↔ ((r.rhs ≤ℚ v) × (v ≤ℚ (r.rhs +ℚ abs_ℚ range))) }
+    ensures equal { (r : ExactRow) (v : ℚ) → r.kind ≡ kind.E → r.range ≡ None → IsBetween (limits_of r) v ↔ (v ≡ r.rhs) }
+    ensures equal_up_to { (r : ExactRow) (range v : ℚ) → r.kind ≡ kind.E → r.range ≡ Some range → 0ℚ ≤ℚ range →
+        IsBetween (limits_of r) v ↔ ((r.rhs ≤ℚ v) × (v ≤ℚ (r.rhs +ℚ range))) }
+    ensures equal_down_to { (r : ExactRow) (range v : ℚ) → r.kind ≡ kind.E → r.range ≡ Some range → range <ℚ 0ℚ →
+        IsBetween (limits_of r) v ↔ (((r.rhs +ℚ range) ≤ℚ v) × (v ≤ℚ r.rhs)) }
 {}
