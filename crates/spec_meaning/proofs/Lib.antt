@@ -18,3 +18,4 @@ pub mod BoundEffects
 pub mod BoundsKept
 pub mod BoundsSaid
 pub mod RowLimits
+pub mod OneMeaning

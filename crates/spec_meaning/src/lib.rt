@@ -10,6 +10,7 @@
 //! texts_for, IsTheNumber, IsTheRange   the texts beside a name, and the number of the only one: specs/NumberCards
 //! bounds_of_column                     the cards of a column in the set that BOUNDS uses: specs/BoundCards
 //! lower_of, upper_of                   the bounds that cards make together: specs/BoundCards
+//! Means                                all of this: specs/Meaning
 //!
 //! The laws know nothing of how a text is read: they speak of its cards, whose fields `spec_mps` tells apart.
 #![tactic(auto)]
@@ -18,6 +19,7 @@ ghost use Rattle.std.specs.Prelude.{◌≡◌, ◌<◌, ◌↔◌, ℕ, Some, No
 ghost use Rattle.spec_exact.specs.Fraction.{ℚ, 0ℚ, ◌+ℚ◌, ◌-ℚ◌, ◌≤ℚ◌, ◌<ℚ◌, abs_ℚ, neg_ℚ};
 ghost use Rattle.spec_model.specs.declared.parts.Kind.TheVariants as kind;
 ghost use Rattle.spec_model.specs.Model.{Model, Name, ExactRow, limits_of, row, column, height, width, cost, coefficient};
+ghost use Rattle.spec_model.specs.Kept.{IsModel};
 ghost use Rattle.spec_model.specs.Truth.{IsBetween};
 ghost use Rattle.spec_mps.specs.declared.section.Section.TheVariants as section;
 ghost use Rattle.spec_mps.specs.declared.style.Style.{Style};
@@ -25,6 +27,7 @@ ghost use Rattle.spec_mps.specs.Steps.{Spells};
 ghost use Rattle.spec_meaning.specs.TextCards.{Lines, cards_in, title_of};
 ghost use Rattle.spec_meaning.specs.BoundCards.{bounds_of_column, lower_of, upper_of};
 ghost use Rattle.spec_meaning.specs.ColumnCards.{named_columns, pairs_of_column};
+ghost use Rattle.spec_meaning.specs.Meaning.{Means};
 ghost use Rattle.spec_meaning.specs.NumberCards.{texts_for, used_pairs, IsTheNumber, IsTheRange};
 ghost use Rattle.spec_meaning.specs.RowCards.{second_word, sense_words, IsSenseOf, unlimited_rows, limited_rows};
 
@@ -100,4 +103,11 @@ pub fn rows_have_limits()
         IsBetween (limits_of r) v ↔ ((r.rhs ≤ℚ v) × (v ≤ℚ (r.rhs +ℚ range))) }
     ensures equal_down_to { (r : ExactRow) (range v : ℚ) → r.kind ≡ kind.E → r.range ≡ Some range → range <ℚ 0ℚ →
         IsBetween (limits_of r) v ↔ (((r.rhs +ℚ range) ≤ℚ v) × (v ≤ℚ r.rhs)) }
+{}
+
+/// A text means the model that it spells, and no other model that may be kept: the laws above leave nothing open.
+pub fn texts_have_one_meaning()
+    ensures meant { (style : Style) (lines : Lines) (m : Model) → Spells style lines m → Means style lines m }
+    ensures one { (style : Style) (lines : Lines) (m o : Model) → Means style lines m → Means style lines o →
+        IsModel m → IsModel o → m ≡ o }
 {}
