@@ -16,7 +16,7 @@ use Rattle.spec_text.specs.declared.line.Line.TheVariants.{Text, Long, End, Over
 use Rattle.spec_text.proofs.LineLemmas.{lines_of_none, lines_of_line, lines_of_last, ended_lines_of_line, ended_lines_of_last}
 use Rattle.lp_base.specs.LinesState.{LinesState, at_start}
 use Rattle.lp_base.specs.NextLine.{HasEnded, GivesLine, GivesEnd, IsOver, IsBrokenOff, IsGivenUp, AnswersWith, GivesNext}
-use Rattle.lp_base.specs.Taking.{BeginsWith, IsWhole, Tells, TakesLines, StaysEnded, ReadsLines, ReadsUntil, ReadsAll, ReadsFront, ReadsLittleMore, ReadsToFault, ReadsPart, ReadsPast, StopsWith}
+use Rattle.lp_base.specs.Taking.{BeginsWith, IsWhole, Tells, TakesLines, StaysEnded, ReadsLines, ReadsUntil, ReadsAll, ReadsLittleMore, ReadsPart, ReadsPast, StopsWith}
 use Rattle.lp_base.specs.declared.lines.LineStop.{LineStop}
 use Rattle.lp_base.specs.declared.lines.LineStop.TheVariants.{Read, NoMemory}
 use Rattle.lp_base.proofs.KeptLemmas.{take-append}
@@ -325,12 +325,6 @@ reads_line {mid = mid} {after = after} {old = old} {new = new} line r g no_end n
     let given = given_line mid after old g.bytes new line no_end no_over g.gives in
     ReadsLines-append r (record { bytes = g.bytes; moved = g.moved; taken = inl (takes_line given) })
 
-pub reads_text : {before mid after : Option (List ℕ)} {first old new : LinesState} {lines : List (Line (List ℕ))} {line : Line (List ℕ)} (text : List ℕ) → ReadsLines before mid first old lines → GivesNext mid after old new (Ok line) → line ≡ Text text → ReadsLines before after first new (lines ++ Text text ∷ [])
-reads_text text r g is = reads_line (Text text) r (gives_as (Text text) is g) (λ e. cc) (λ e. cc)
-
-pub reads_long : {before mid after : Option (List ℕ)} {first old new : LinesState} {lines : List (Line (List ℕ))} {line : Line (List ℕ)} (len : ℕ) → ReadsLines before mid first old lines → GivesNext mid after old new (Ok line) → line ≡ Long len → ReadsLines before after first new (lines ++ Long len ∷ [])
-reads_long len r g is = reads_line (Long len) r (gives_as (Long len) is g) (λ e. cc) (λ e. cc)
-
 -- the end is told again
 stays_left : {mid after : Option (List ℕ)} (old : LinesState) → old.ended ≡ true → HasEnded old mid after → after ≡ mid
 stays_left old is (inl h) = h.1
@@ -425,19 +419,3 @@ stops_now r = ⊎_elim
     (λ part. inl (record { more = part.0; front = record { read = r.bytes; moved = r.moved; ended = part.1 }; near = part.2 }))
     (λ all. inr (record { read = r.bytes; moved = r.moved; all = all.0; bound = all.1; at_end = all.2 }))
     (told_now (from_start r.taken))
-
--- a caller stops before it reads
-pub stops_before : (left : Option (List ℕ)) → ReadsFront left left []
-stops_before left = record { read = []; moved = Consumes-nil left; ended = ended_lines_of_last [] (All-nil (λ b. b ≢ 10)) }
-
--- all of the lines are some of them
-pub front_in_part : {before after : Option (List ℕ)} {lines : List (Line (List ℕ))} → ReadsToFault before after lines → ReadsPart before after lines
-front_in_part {before} {after} {lines} f = record {
-  more = [];
-  front = record { read = f.front.read; moved = f.front.moved; ended = f.front.ended ∙ sym (append-nil lines) };
-  near = f.near;
-}
-
-pub stop_in_part : {before after : Option (List ℕ)} {lines : List (Line (List ℕ))} (stop : LineStop) → StopsWith stop before after lines → ReadsPart before after lines
-stop_in_part Read s = front_in_part s
-stop_in_part NoMemory s = s

@@ -3,6 +3,7 @@ ghost use Rattle.std.specs.Prelude.{◌≡◌, ◌↔◌, ℕ, ◌<◌, List, []
 ghost use Rattle.spec_text.specs.Words.{same};
 
 use std::alloc::{AllocError, Global};
+use std::fmt;
 use std::marker::Model;
 
 /// A list of bytes.
@@ -74,6 +75,17 @@ impl Bytes {
     }
 }
 
+/// The text in quotes, each byte as the character of its number.
+impl fmt::Debug for Bytes {
+    fn fmt<W: fmt::Write>(&self, f: &mut fmt::Formatter<W>) -> fmt::Result {
+        f.write_char('"')?;
+        for byte in self.as_slice() {
+            f.write_char(char::from(*byte))?;
+        }
+        f.write_char('"')
+    }
+}
+
 /// A name, which is compared byte by byte.
 #[derive(Drop)]
 pub struct Name {
@@ -104,6 +116,12 @@ impl Name {
         ensures { IfOk result (λ copy. copy ≡ self.now) }
     {
         Name::from_slice(alloc, self.text.as_slice())
+    }
+}
+
+impl fmt::Debug for Name {
+    fn fmt<W: fmt::Write>(&self, f: &mut fmt::Formatter<W>) -> fmt::Result {
+        write!(f, "{:?}", self.text)
     }
 }
 
