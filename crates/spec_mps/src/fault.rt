@@ -60,7 +60,8 @@ impl From<NumFault> for Code {
 }
 
 /// The first line of a text that is wrong, counted from 1, and what is wrong with it.
-#[derive(Clone, Copy, Debug, PartialEq, Eq)]
+#[derive(Clone, Copy, Debug, PartialEq, Eq, Error)]
+#[error("line {line}: {code}")]
 pub struct MpsFault {
     pub line: u32,
     pub code: Code,
