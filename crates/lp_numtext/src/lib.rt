@@ -3,7 +3,8 @@
 //!
 //! read            the fraction that a text is: src/reading
 //! read_bound      the bound that a text is: src/bounds
-//! write           the text of a fraction: src/writing
+//! number_text     the text of a fraction: src/writing
+//! write           the same, behind other text: src/writing
 //!
 //! The contracts cite the rule of the text in spec_mps: number_of (specs/NumberText), bound_of (specs/BoundText) and
 //! number_text (specs/NumberWritten). Its laws, such as that what is written is read again, are spec_mps's.
@@ -22,4 +23,4 @@ mod writing;
 pub use bounds::read_bound;
 pub use reading::read;
 pub use spec_mps::{BoundValue, NumFault};
-pub use writing::write;
+pub use writing::{number_text, write};

@@ -1,5 +1,5 @@
 // Fractions as text.
-ghost use Rattle.std.specs.Prelude.{◌≡◌, ◌<◌, ◌≤◌, ◌++◌, decimal, OnOk, IfSome};
+ghost use Rattle.std.specs.Prelude.{◌≡◌, ◌<◌, ◌≤◌, ◌++◌, decimal, OnOk, OnErr, IfOk, IfSome};
 ghost use Rattle.spec_mps.specs.NumberWritten as told;
 
 use crate::width::product;
@@ -77,13 +77,29 @@ fn write_size(alloc: Global, n: u128, den: u128, to: &mut Bytes) -> Result<(), A
     write_quotient(alloc, n, den, to)
 }
 
-/// Appends the text of the number, which `read` reads as that number. After an error `to` may end with a part of it.
+/// The text of the number, which `read` reads as that number.
 #[tactic(auto, unfolding(spec_mps::specs::NumberWritten::number_text))]
-pub fn write(alloc: Global, v: Frac, to: &mut Bytes) -> Result<(), AllocError>
-    ensures { OnOk result (to.new ≡ to.old ++ told.number_text v) }
+pub fn number_text(alloc: Global, v: Frac) -> Result<Bytes, AllocError>
+    ensures { IfOk result (λ text. text ≡ told.number_text v) }
 {
+    let mut text = Bytes::new(alloc);
     if num(v) < 0 {
-        to.push(b'-')?;
+        text.push(b'-')?;
     }
-    write_size(alloc, num(v).unsigned_abs(), den(v).unsigned_abs(), to)
+    write_size(
+        alloc,
+        num(v).unsigned_abs(),
+        den(v).unsigned_abs(),
+        &mut text,
+    )?;
+    Ok(text)
+}
+
+/// Appends the text of the number. After an error `to` is as it was.
+pub fn write(alloc: Global, v: Frac, to: &mut Bytes) -> Result<(), AllocError>
+    ensures ok { OnOk result (to.new ≡ to.old ++ told.number_text v) }
+    ensures err { OnErr result (to.new ≡ to.old) }
+{
+    let text = number_text(alloc, v)?;
+    to.extend(text.as_slice())
 }
