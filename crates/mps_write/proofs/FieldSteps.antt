@@ -6,7 +6,7 @@ use Rattle.std.proofs.lemmas.List.Folds.{find-append}
 use Rattle.spec_mps.specs.declared.style.Style.{Style}
 use Rattle.spec_mps.specs.declared.style.Style.TheVariants.{Free, Fixed}
 use Rattle.spec_mps.specs.Fields.{Field, Fields}
-use Rattle.spec_mps.specs.Written.{Head, Data, with_fields, padded}
+use Rattle.spec_mps.specs.Written.{Data, with_fields, padded}
 use Rattle.mps_write.specs.declared.fault.WriteFault.{WriteFault}
 use Rattle.mps_write.specs.declared.fault.WriteFault.TheVariants.{TooWide, NoMemory}
 use Rattle.mps_write.specs.declared.line.Field as code
@@ -82,7 +82,3 @@ card_done style fs start line ended shown text next puts empty end same put =
       narrow = wide_card style fs ∙ puts.0;
       text = put ∙ ap (λ t. text ++ t) (same ∙ end ∙ ap (λ l. l ++ 10 ∷ []) (puts.1 ∙ ap (λ l. with_fields style l fs) empty) ∙ sym (append-nil (with_fields style [] fs ++ 10 ∷ [])));
     }
-
-pub narrow_head : (style : Style) (start : List ℕ) (fs : Fields) → wide_in style (Head start fs ∷ []) ≡ None
-narrow_head Free start fs = refl
-narrow_head Fixed start fs = refl

@@ -3,13 +3,15 @@ ghost use Rattle.std.specs.Prelude.{◌≡◌};
 
 use lp_base::Bytes;
 use std::alloc::AllocError;
+use thiserror::Error;
 
 /// Why a model is not written.
-#[derive(Drop)]
+#[derive(Debug, Drop, Error)]
 pub enum WriteFault {
     /// The first name or number that has no room in a field of fixed form.
+    #[error("expected a text that its field of fixed form has room for, but found {0:?}")]
     TooWide(Bytes),
-    /// There is no memory.
+    #[error("out of memory")]
     NoMemory,
 }
 

@@ -12,7 +12,7 @@ use crate::signs::{is_equal, is_up_from_zero, is_zero};
 use lp_base::Bytes;
 use lp_frac::{Frac, neg};
 use lp_model::{Kind, Model};
-use lp_numtext::write;
+use lp_numtext::number_text;
 use std::alloc::{AllocError, Global};
 
 /// The word of a kind of rows.
@@ -24,14 +24,6 @@ fn kind_word(kind: Kind) -> &'static [u8]
         Kind::G => b"G",
         Kind::E => b"E",
     }
-}
-
-fn number_text(alloc: Global, value: Frac) -> Result<Bytes, AllocError>
-    ensures { IfOk result (λ text. text ≡ written.number_text value) }
-{
-    let mut text = Bytes::new(alloc);
-    write(alloc, value, &mut text)?;
-    Ok(text)
 }
 
 fn field(number: u32, text: &[u8]) -> Field<&[u8]>
