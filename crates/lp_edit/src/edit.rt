@@ -7,6 +7,7 @@ use lp_base::Name;
 use lp_frac::Frac;
 use std::alloc::{AllocError, Global};
 use std::marker::Model;
+use thiserror::Error;
 
 /// An edit of a model.
 pub type Edit = spec_edit::Edit<Name, Frac, Pairs, Bounds>;
@@ -15,9 +16,11 @@ pub type Edit = spec_edit::Edit<Name, Frac, Pairs, Bounds>;
 pub type EditFault = spec_edit::EditFault<Name>;
 
 /// Why an edit is not applied.
-#[derive(Drop)]
+#[derive(Debug, Drop, Error)]
 pub enum EditError {
+    #[error("{0}")]
     Fault(EditFault),
+    #[error("out of memory")]
     NoMemory,
 }
 
