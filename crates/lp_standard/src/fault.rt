@@ -4,16 +4,20 @@ ghost use Rattle.lp_standard.specs.declared.fault.FormStop.TheVariants as stop;
 
 use lp_frac::{Frac, Past};
 use std::alloc::AllocError;
+use thiserror::Error;
 
 type FormFault = spec_simplex::FormFault<Frac>;
 
 /// Why a model has no form.
-#[derive(Clone, Copy, Debug, PartialEq, Eq)]
+#[derive(Clone, Copy, Debug, PartialEq, Eq, Error)]
 pub enum FormStop {
     /// The first column whose lower bound is greater than its upper one.
+    #[error("expected bounds with a number between them, but those of column {0} clash")]
     Clash(u32),
     /// The operation that is past 127 bits.
+    #[error("{0}")]
     Past(Past),
+    #[error("out of memory")]
     NoMemory,
 }
 

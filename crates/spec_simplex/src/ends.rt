@@ -5,13 +5,16 @@ ghost use Rattle.spec_simplex.specs.declared.ends.Stop.TheVariants as stop;
 use spec_exact::Past;
 use spec_pivot::Status;
 use std::fmt::Debug;
+use thiserror::Error;
 
 /// Why a model has no form.
-#[derive(Clone, Copy, Debug, PartialEq, Eq)]
+#[derive(Clone, Copy, Debug, PartialEq, Eq, Error)]
 pub enum FormFault<F: Debug> {
     /// The first column whose lower bound is greater than its upper one.
+    #[error("expected bounds with a number between them, but those of column {0} clash")]
     Clash(u32),
     /// The operation that is past the limit.
+    #[error("{0}")]
     Past(Past<F>),
 }
 
