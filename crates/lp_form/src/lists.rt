@@ -1,5 +1,5 @@
 // Lists that contracts see as plain lists: of optional fractions, and of the entries of columns.
-ghost use Rattle.std.specs.Prelude.{◌≡◌, ◌==◌, ◌<◌, [], ◌∷◌, ◌++◌, length, get_or, None, OnOk, OnErr, IfOk};
+ghost use Rattle.std.specs.Prelude.{◌≡◌, ◌==◌, ◌<◌, [], ◌∷◌, ◌++◌, length, get_or, None, OnOk, OnErr};
 
 use lp_frac::{Entries, Frac};
 use std::alloc::{AllocError, Global};
@@ -38,14 +38,6 @@ impl Bounds {
         ensures { result ≡ items.items }
     {
         Bounds { items }
-    }
-
-    /// An equal list of its own.
-    pub fn copy(&self, alloc: Global) -> Result<Self, AllocError>
-        ensures { IfOk result (λ v. v ≡ self.now) }
-    {
-        let items = Vec::from_slice(alloc, &self.items)?;
-        Ok(Bounds { items })
     }
 
     pub fn as_slice(&self) -> &[Option<Frac>]
@@ -111,12 +103,6 @@ impl Columns {
         Columns {
             items: Vec::new(alloc),
         }
-    }
-
-    pub fn from_vec(items: Vec<Entries>) -> Self
-        ensures { result ≡ items.items }
-    {
-        Columns { items }
     }
 
     pub fn len(&self) -> usize
