@@ -36,7 +36,8 @@ fn else_wide_less(v: Frac, w: Frac, s: Frac) -> Result<Frac, Past>
 }
 
 /// `s` less `v * w`. Refused at the product or else at the difference, with that operation and its
-/// operands.
+/// operands. Its result is not copied, since it is inlined.
+#[inline(always)]
 pub fn less_product(v: Frac, w: Frac, s: Frac) -> Result<Frac, Past>
     ensures { result ≡ less_product_of (Some largest) v w s }
 {

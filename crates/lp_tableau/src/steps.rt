@@ -17,6 +17,7 @@ pub(crate) fn plus_product(v: Frac, w: Frac, s: Frac) -> Result<Frac, Past>
 }
 
 // `v * w` off `s`.
+#[inline(always)]
 pub(crate) fn less_product(v: Frac, w: Frac, s: Frac) -> Result<Frac, Past>
     ensures { result ≡ run.less_product (Some largest) v w s }
 {
