@@ -1,6 +1,7 @@
 // Forms and their readers.
 ghost use Rattle.std.specs.Prelude.{◌≡◌, ◌<◌, ◌≤◌, ◌+◌, [], get_or};
 ghost use Rattle.spec_model.specs.Model.{entry_of};
+ghost use Rattle.spec_model.specs.Kept.{AreEntries};
 ghost use Rattle.spec_simplex.specs.Form.{IsForm, form_entry, form_lower, form_upper};
 
 use crate::lists::{Bounds, Columns};
@@ -122,7 +123,8 @@ impl Form {
     /// The entries of structural column `j`: rows, each with its coefficient.
     pub fn entries(&self, j: u32) -> &[(u32, Frac)]
         requires { j < self.now.cols }
-        ensures { result.now ≡ get_or self.now.entries j [] }
+        ensures value { result.now ≡ get_or self.now.entries j [] }
+        ensures kept { AreEntries self.now.rows result.now }
     {
         self.entries.at(j as usize).as_slice()
     }

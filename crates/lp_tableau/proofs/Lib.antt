@@ -12,3 +12,4 @@ pub mod Turned
 pub mod TwinRows
 pub mod Based
 pub mod Solving
+pub mod Columns

@@ -1,11 +1,13 @@
 -- The rows that a tableau begins with, without the artificial columns.
-use Rattle.std.specs.Prelude.{ℕ, ◌+◌, List, Bool, true, false}
-use Rattle.spec_exact.specs.Fraction.{ℚ}
+use Rattle.std.specs.Prelude.{◌≡◌, ℕ, ◌+◌, ◌<◌, ◌≤◌, List, Bool, true, false}
+use Rattle.spec_exact.specs.Fraction.{ℚ, 0ℚ}
 use Rattle.spec_simplex.specs.declared.ends.RowStart.{RowStart}
 use Rattle.spec_simplex.specs.declared.ends.RowStart.TheVariants.{Within, Below, Above}
 use Rattle.spec_simplex.specs.Run.{made}
-use Rattle.spec_simplex.specs.Form.{Form}
+use Rattle.spec_simplex.specs.Form.{Form, form_entry}
+use Rattle.spec_simplex.specs.Tableau.{at_place}
 use Rattle.spec_simplex.specs.Start.{start_entry, start_at}
+use Rattle.lp_tableau.specs.Grid.{IsGrid}
 
 -- whether the artificial is the negative of the logical
 abbrev pub is_below : RowStart ℚ → Bool
@@ -15,3 +17,9 @@ is_below (Above gap) = false
 
 abbrev pub start_front : Form → List (RowStart ℚ) → ℕ → List ℚ
 start_front f starts i = made (f.cols + f.rows) (start_entry f (start_at starts i) i)
+
+-- the rows have the coefficients of the first n columns, and 0 behind those
+pub record HoldsColumns (f : Form) (n : ℕ) (rows : List (List ℚ)) : Type 0 where
+  pub shape : IsGrid f.rows f.cols rows
+  pub done : (i k : ℕ) → i < f.rows → k < n → at_place rows i k ≡ form_entry f i k
+  pub rest : (i k : ℕ) → i < f.rows → n ≤ k → k < f.cols → at_place rows i k ≡ 0ℚ

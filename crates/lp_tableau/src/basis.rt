@@ -11,6 +11,7 @@ ghost use Rattle.lp_tableau.specs.Answer.{Gives};
 ghost use Rattle.lp_tableau.specs.Grid.{IsGrid};
 ghost use Rattle.lp_tableau.specs.Based.{AreInside, StopsAt, stand_in};
 
+use crate::coefficients::coefficients;
 use crate::ends::BasisStop;
 use crate::solve::{eliminate, is_basic};
 use crate::start::{lowers, rows, width, zeros};
@@ -30,7 +31,7 @@ fn equations(alloc: Global, form: &Form) -> Result<Twins, AllocError>
         spec_simplex::RowStart::Within(zero()),
         form.rows() as usize,
     )?;
-    rows(alloc, form, &starts)
+    rows(alloc, form, &coefficients(alloc, form)?, &starts)
 }
 
 fn no_columns(alloc: Global, form: &Form) -> Result<Vec<Option<u32>>, AllocError>

@@ -15,6 +15,7 @@
 #![tactic(auto)]
 
 mod basis;
+mod coefficients;
 mod elimination;
 mod ends;
 mod grid;

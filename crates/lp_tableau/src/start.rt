@@ -7,8 +7,9 @@ ghost use Rattle.spec_simplex.specs.Start as plain;
 ghost use Rattle.lp_frac.specs.Narrow.{largest};
 ghost use Rattle.lp_tableau.specs.Answer.{Stops};
 ghost use Rattle.lp_tableau.specs.Grid.{flat};
-ghost use Rattle.lp_tableau.specs.Begun.{is_below, start_front};
+ghost use Rattle.lp_tableau.specs.Begun.{HoldsColumns, is_below, start_front};
 
+use crate::coefficients::coefficients;
 use crate::ends::ColdStop;
 use crate::grid::Grid;
 use crate::steps::{or_zero, plus_product, stand};
@@ -42,13 +43,15 @@ fn first_value(form: &Form, j: u32) -> Frac
 }
 
 // The sum of row `i` there.
-fn row_sum(form: &Form, i: u32) -> Result<Frac, Past>
-    requires { i < form.now.rows }
+fn row_sum(form: &Form, coefficients: &Grid, i: u32) -> Result<Frac, Past>
+    requires held { HoldsColumns form.now form.now.cols coefficients.now }
+    requires row { i < form.now.rows }
     ensures { result ≡ plain.row_sum (Some largest) form.now i }
 {
     let mut sum = zero();
     for j in 0..form.cols() {
-        sum = plus_product(form.entry(i, j), first_value(form, j), sum)?;
+        let coefficient = coefficients.at(i as usize, j as usize);
+        sum = plus_product(coefficient, first_value(form, j), sum)?;
     }
     Ok(sum)
 }
@@ -79,11 +82,12 @@ fn above(bound: Option<Frac>, v: Frac) -> Result<Option<Frac>, Past>
     }
 }
 
-fn row_start(form: &Form, i: u32) -> Result<RowStart, Past>
-    requires { i < form.now.rows }
+fn row_start(form: &Form, coefficients: &Grid, i: u32) -> Result<RowStart, Past>
+    requires held { HoldsColumns form.now form.now.cols coefficients.now }
+    requires row { i < form.now.rows }
     ensures { result ≡ plain.row_start (Some largest) form.now i }
 {
-    let v = row_sum(form, i)?;
+    let v = row_sum(form, coefficients, i)?;
     let logical = form.logical(i);
     if let Some(gap) = below(form.lower(logical), v)? {
         return Ok(RowStart::Below(gap));
@@ -102,13 +106,14 @@ fn push_start(starts: &mut Vec<RowStart>, start: RowStart) -> Result<(), AllocEr
 }
 
 // How all rows begin, in order.
-fn row_starts(alloc: Global, form: &Form) -> Result<Vec<RowStart>, ColdStop>
+fn row_starts(alloc: Global, form: &Form, coefficients: &Grid) -> Result<Vec<RowStart>, ColdStop>
+    requires { HoldsColumns form.now form.now.cols coefficients.now }
     ensures ok { IfOk result (λ v. list_run form.now.rows (plain.row_start (Some largest) form.now) ≡ Ok v.items) }
     ensures err { IfErr result (Stops (list_run form.now.rows (plain.row_start (Some largest) form.now))) }
 {
     let mut starts = Vec::new(alloc);
     for i in 0..form.rows() {
-        push_start(&mut starts, row_start(form, i)?)?;
+        push_start(&mut starts, row_start(form, coefficients, i)?)?;
     }
     Ok(starts)
 }
@@ -194,7 +199,8 @@ fn one_at(i: u32, r: u32, v: Frac) -> Frac
 }
 
 // What stands in row `i` at column `k`.
-fn entry(form: &Form, starts: &[RowStart], i: u32, k: u32) -> Frac
+fn entry(form: &Form, coefficients: &Grid, starts: &[RowStart], i: u32, k: u32) -> Frac
+    requires held { HoldsColumns form.now form.now.cols coefficients.now }
     requires row { i < form.now.rows }
     requires column { k < form.now.cols + form.now.rows + form.now.rows }
     requires starts { length starts.now ≡ form.now.rows }
@@ -203,7 +209,7 @@ fn entry(form: &Form, starts: &[RowStart], i: u32, k: u32) -> Frac
     let start = starts[i as usize];
     let (cols, both) = (form.cols(), form.cols() + form.rows());
     if k < cols {
-        structural_entry(start, form.entry(i, k))
+        structural_entry(start, coefficients.at(i as usize, k as usize))
     } else if k < both {
         one_at(i, k - cols, logical_sign(start))
     } else {
@@ -271,26 +277,34 @@ pub(crate) fn width(form: &Form) -> u32
 fn push_row(
     block: &mut Vec<Frac>,
     form: &Form,
+    coefficients: &Grid,
     starts: &[RowStart],
     i: u32,
 ) -> Result<(), AllocError>
+    requires held { HoldsColumns form.now form.now.cols coefficients.now }
     requires row { i < form.now.rows }
     requires starts { length starts.now ≡ form.now.rows }
     ensures { OnOk result (block.new.items ≡ block.old.items ++ start_front form.now starts.now i) }
 {
     for k in 0..front(form) {
-        block.push(entry(form, starts, i, k))?;
+        block.push(entry(form, coefficients, starts, i, k))?;
     }
     Ok(())
 }
 
-fn block(alloc: Global, form: &Form, starts: &[RowStart]) -> Result<Vec<Frac>, AllocError>
-    requires { length starts.now ≡ form.now.rows }
+fn block(
+    alloc: Global,
+    form: &Form,
+    coefficients: &Grid,
+    starts: &[RowStart],
+) -> Result<Vec<Frac>, AllocError>
+    requires held { HoldsColumns form.now form.now.cols coefficients.now }
+    requires starts { length starts.now ≡ form.now.rows }
     ensures { IfOk result (λ v. v.items ≡ flat form.now.rows (start_front form.now starts.now)) }
 {
     let mut block = Vec::with_capacity(alloc, form.rows() as usize * front(form) as usize)?;
     for i in 0..form.rows() {
-        push_row(&mut block, form, starts, i)?;
+        push_row(&mut block, form, coefficients, starts, i)?;
     }
     Ok(block)
 }
@@ -316,12 +330,18 @@ fn turns(alloc: Global, starts: &[RowStart]) -> Result<Vec<bool>, AllocError>
 }
 
 // The rows of the tableau.
-pub(crate) fn rows(alloc: Global, form: &Form, starts: &[RowStart]) -> Result<Twins, AllocError>
-    requires { length starts.now ≡ form.now.rows }
+pub(crate) fn rows(
+    alloc: Global,
+    form: &Form,
+    coefficients: &Grid,
+    starts: &[RowStart],
+) -> Result<Twins, AllocError>
+    requires held { HoldsColumns form.now form.now.cols coefficients.now }
+    requires starts { length starts.now ≡ form.now.rows }
     ensures { IfOk result (λ rows. rows ≡ made form.now.rows (plain.start_row form.now starts.now)) }
 {
     let (first, others) = (form.cols(), form.rows());
-    let block = block(alloc, form, starts)?;
+    let block = block(alloc, form, coefficients, starts)?;
     let grid = Grid::from_block(others as usize, front(form) as usize, block);
     Ok(Twins::from_grid(first, others, grid, turns(alloc, starts)?))
 }
@@ -398,15 +418,21 @@ fn first_costs(alloc: Global, form: &Form, starts: &[RowStart]) -> Result<Vec<Fr
 }
 
 // The tableau without reduced costs.
-fn begun(alloc: Global, form: &Form, starts: &[RowStart]) -> Result<Tableau, AllocError>
-    requires { length starts.now ≡ form.now.rows }
+fn begun(
+    alloc: Global,
+    form: &Form,
+    coefficients: &Grid,
+    starts: &[RowStart],
+) -> Result<Tableau, AllocError>
+    requires held { HoldsColumns form.now form.now.cols coefficients.now }
+    requires starts { length starts.now ≡ form.now.rows }
     ensures { IfOk result (λ t. t ≡ plain.begun form.now starts.now) }
 {
     let (height, width) = (form.rows(), width(form) as usize);
     Ok(Tableau {
         rows: height,
         cols: form.cols(),
-        grid: rows(alloc, form, starts)?,
+        grid: rows(alloc, form, coefficients, starts)?,
         basic: basics(alloc, form, starts)?,
         value: values(alloc, form, starts)?,
         reduced: zeros(alloc, width)?,
@@ -425,8 +451,9 @@ pub fn start_cold(alloc: Global, form: &Form) -> Result<Tableau, ColdStop>
     ensures ok { IfOk result (λ t. plain.start_of (Some largest) form.now ≡ Ok t) }
     ensures err { IfErr result (Stops (plain.start_of (Some largest) form.now)) }
 {
-    let starts = row_starts(alloc, form)?;
-    let mut tableau = begun(alloc, form, &starts)?;
+    let coefficients = coefficients(alloc, form)?;
+    let starts = row_starts(alloc, form, &coefficients)?;
+    let mut tableau = begun(alloc, form, &coefficients, &starts)?;
     let costs = first_costs(alloc, form, &starts)?;
     tableau.price(&costs)?;
     Ok(tableau)

@@ -8,11 +8,11 @@ use Rattle.lp_tableau.proofs.start.start_cold.Goals as goal
 
 pub returns-in_err-starts-clause-err : goal.returns-in_err-starts-clause-err
 returns-in_err-starts-clause-err c =
-    let p = err_from_is_err_and c.from_residual.result c.from_residual.ensures.1 in
+    let p = err_from_is_err_and c.from_residual-in_err-starts.result c.from_residual-in_err-starts.ensures.1 in
     rw (p.1, p.2) (rows_stop _ _ _ c.in_err-starts.ensures.err)
 
-pub begun-requires : goal.begun-requires
-begun-requires c = ap length c.deref.ensures.value ∙ length-list_run _ _ _ c.in_ok-starts.ensures.ok
+pub begun-requires-clause-starts : goal.begun-requires-clause-starts
+begun-requires-clause-starts c = ap length c.deref.ensures.value ∙ length-list_run _ _ _ c.in_ok-starts.ensures.ok
 
 pub returns-in_err-price-clause-err : goal.returns-in_err-price-clause-err
 returns-in_err-price-clause-err c =
