@@ -13,7 +13,7 @@ use Rattle.spec_mps.specs.Checks.{Check}
 use Rattle.spec_mps.specs.Shapes.{look_up, bound_kind_of, bound_shapes, has_shape}
 use Rattle.spec_mps.specs.Bounds.{BoundTexts, takes_value, is_read, bound_texts_by, bound_texts}
 use Rattle.spec_mps.proofs.CheckSteps.{need_ok, same_ok, same_some}
-use Rattle.spec_meaning.specs.BoundCards.{kind_of, bound_texts_on}
+use Rattle.spec_meaning.specs.BoundCards.{kind_of, has_value, bound_texts_on}
 
 -- ---- the kind
 
@@ -139,9 +139,17 @@ read_by_shape Fixed Fr texts = (of_two _ (λ a b h. texts_same _ texts h), (of_t
 read_by_shape Fixed Mi texts = (of_two _ (λ a b h. texts_same _ texts h), (of_three _ (λ a b c h. texts_same _ texts h), (of_three _ (λ a b c h. texts_same _ texts h), (of_four _ (λ a b c d h. texts_same _ texts h), tt))))
 read_by_shape Fixed Pl texts = (of_two _ (λ a b h. texts_same _ texts h), (of_three _ (λ a b c h. texts_same _ texts h), (of_three _ (λ a b c h. texts_same _ texts h), (of_four _ (λ a b c d h. texts_same _ texts h), tt))))
 
-pub texts_are : (style : Style) (kind : BoundKind) (fields : Fields) (texts : BoundTexts) → bound_texts style kind fields ≡ Ok texts → bound_texts_on style (takes_value kind) fields ≡ texts
+valued_as : (kind : BoundKind) → has_value kind ≡ takes_value kind
+valued_as Up = refl
+valued_as Lo = refl
+valued_as Fx = refl
+valued_as Fr = refl
+valued_as Mi = refl
+valued_as Pl = refl
+
+pub texts_are : (style : Style) (kind : BoundKind) (fields : Fields) (texts : BoundTexts) → bound_texts style kind fields ≡ Ok texts → bound_texts_on style (has_value kind) fields ≡ texts
 unfolding bound_texts has_shape
-texts_are style kind fields texts h = go (list_any (same (numbers_of fields)) (bound_shapes style kind)) refl h
+texts_are style kind fields texts h = ap (λ valued. bound_texts_on style valued fields) (valued_as kind) ∙ go (list_any (same (numbers_of fields)) (bound_shapes style kind)) refl h
   where
     go : (b : Bool) → list_any (same (numbers_of fields)) (bound_shapes style kind) ≡ b → cond b (bound_texts_by (takes_value kind) (texts_of (filter (λ f. is_read kind f.number) fields))) (Err code.CardShape) ≡ Ok texts → bound_texts_on style (takes_value kind) fields ≡ texts
     go true e k = any_shape (IsRead style kind texts) fields (bound_shapes style kind) (read_by_shape style kind texts) e k

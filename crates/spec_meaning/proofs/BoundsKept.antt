@@ -13,14 +13,15 @@ use Rattle.spec_mps.specs.declared.section.Section.TheVariants as section
 use Rattle.spec_mps.specs.declared.style.Style.{Style}
 use Rattle.spec_mps.specs.Fields.{Fields, text_at}
 use Rattle.spec_mps.specs.Reader.{State, columns_with, whole_columns}
-use Rattle.spec_mps.specs.Sides.{same_set, is_used, changed_at}
+use Rattle.spec_mps.specs.Sides.{is_used, changed_at}
 use Rattle.spec_mps.specs.Bounds.{BoundCard, BoundTexts, bounded, sets_lower, with_bound, bounds_card}
 use Rattle.spec_mps.proofs.CheckSteps.{same_some}
+use Rattle.spec_meaning.specs.NumberCards.{is_same_set}
 use Rattle.spec_meaning.specs.BoundCards.{kind_of, bound_by, bound_on, used_bounds, bounds_of_column}
 use Rattle.spec_meaning.proofs.Frames.{changed_unseen, BoundDid, UsedBound, SkippedBound, BoundsDid, bounds_did, bounded_name}
 use Rattle.spec_meaning.proofs.SoFar.{is_section}
 use Rattle.spec_meaning.proofs.Order.{not_both}
-use Rattle.spec_meaning.proofs.SetsKept.{same_set_itself, same_set_true}
+use Rattle.spec_meaning.proofs.SetsKept.{same_set_itself, same_set_true, same_as}
 use Rattle.spec_meaning.proofs.BoundTextsRead.{kind_is, texts_are}
 use Rattle.spec_meaning.proofs.BoundEffects.{Effects, effects, IsBounded, bounded_push, none_bounded}
 
@@ -35,8 +36,10 @@ first_bound style (card ∷ cards) = Some (set_of style card)
 
 used_push : (style : Style) (cards : List Fields) (card : Fields) → used_bounds style (cards ++ card ∷ []) ≡ used_bounds style cards ++ cond (is_used (first_bound style cards) (set_of style card)) (card ∷ []) []
 unfolding used_bounds
-used_push style [] card = ap (λ b. cond b (card ∷ []) []) (same_set_itself (set_of style card))
-used_push style (first ∷ cards) card = filter-append (λ other. same_set (set_of style first) (set_of style other)) (first ∷ cards) (card ∷ [])
+used_push style [] card = ap (λ b. cond b (card ∷ []) []) (same_as (set_of style card) (set_of style card) ∙ same_set_itself (set_of style card))
+used_push style (first ∷ cards) card =
+    filter-append (λ other. is_same_set (set_of style first) (set_of style other)) (first ∷ cards) (card ∷ [])
+    ∙ ap (λ b. used_bounds style (first ∷ cards) ++ cond b (card ∷ []) []) (same_as (set_of style first) (set_of style card))
 
 first_used : (style : Style) (cards : List Fields) (card : Fields) → is_used (first_bound style cards) (set_of style card) ≡ true → first_bound style (cards ++ card ∷ []) ≡ Some (set_of style card)
 first_used style [] card h = refl

@@ -1,5 +1,5 @@
 -- A text has one meaning.
-use Rattle.std.proofs.Common.{◌≡◌, ◌≢◌, ℕ, suc, ◌<◌, ◌≤◌, Bool, true, false, cond, ltb, eqb, eqb→eq, eq-eqb, Option, Some, List, [], ◌∷◌, length, map, refl, sym, ap, ◌∙◌, subst, subst₂, get_or, arith, All, T, le_refl}
+use Rattle.std.proofs.Common.{◌≡◌, ◌≢◌, ℕ, suc, ◌<◌, ◌≤◌, Bool, true, false, cond, ltb, eqb, eqb→eq, eq-eqb, Option, Some, List, [], ◌∷◌, length, map, refl, sym, ap, ◌∙◌, subst, subst₂, get_or, arith, All, T, le_refl, codes, inl, inr}
 use borrow.Author.Tests.{ltb-true, ltb-false}
 use Rattle.std.specs.List.{AllPairs}
 use Rattle.std.proofs.lemmas.List.{ext_get_or, length-map}
@@ -7,20 +7,23 @@ use Rattle.std.proofs.Math.ListN.{get_or-map}
 use Rattle.spec_exact.specs.Fraction.{ℚ, 0ℚ, neg_ℚ}
 use Rattle.spec_exact.proofs.Ruleset.{neg-neg}
 use Rattle.spec_model.specs.declared.parts.Kind.{Kind}
+use Rattle.spec_text.specs.Words.{same}
+use Rattle.spec_text.proofs.WordLemmas.{same-refl}
 use Rattle.spec_model.specs.declared.parts.Sense.{Sense}
+use Rattle.spec_model.specs.declared.parts.Sense.TheVariants.{Min, Max}
 use Rattle.spec_model.specs.Model.{Model, Name, ExactRow, ExactColumn, no_row, no_column, row, column, height, width, entry_of}
 use Rattle.spec_model.specs.Kept.{AreEntries, IsModel}
 use Rattle.spec_mps.specs.declared.style.Style.{Style}
 use Rattle.spec_mps.specs.NumberText.{Is}
 use Rattle.spec_mps.specs.Steps.{Spells}
-use Rattle.spec_mps.proofs.CheckSteps.{same_some}
 use Rattle.spec_mps.specs.declared.section.Section.TheVariants as section
 use Rattle.spec_meaning.specs.TextCards.{Lines, cards_in}
-use Rattle.spec_meaning.specs.RowCards.{IsSenseOf}
+use Rattle.spec_meaning.specs.RowCards.{IsSenseWord, IsSenseOf}
 use Rattle.spec_meaning.specs.NumberCards.{texts_for, used_pairs, IsTheNumber, IsTheRange}
 use Rattle.spec_meaning.specs.ColumnCards.{pairs_of_column}
 use Rattle.spec_meaning.specs.BoundCards.{bounds_of_column, lower_of, upper_of}
 use Rattle.spec_meaning.specs.Meaning.{Means}
+use Rattle.spec_meaning.proofs.Order.{not_both}
 use Rattle.spec_meaning.proofs.TitlesKept.{name_said, sense_said}
 use Rattle.spec_meaning.proofs.RowsKept.{rows_said, objective_said}
 use Rattle.spec_meaning.proofs.ColumnsSaid.{columns_named, coefficient_said, cost_said}
@@ -61,9 +64,25 @@ one_range [] p q h k = h ∙ sym k
 one_range (text ∷ []) p q h k = h.1 ∙ ap (λ x. Some x) (same_number h.0 k.0 (sym h.2 ∙ k.2)) ∙ sym k.1
 one_range (text ∷ other ∷ more) p q h k = absurd h
 
+-- a word of one sense is none of the other
+words_differ : (word a b : List ℕ) → same a b ≡ false → word ≡ a → word ≡ b → ⊥
+words_differ word a b n h k = not_both (same a b) (ap (same a) (sym (sym h ∙ k)) ∙ same-refl a) n
+
+not_max : (word : List ℕ) → IsSenseWord Min word → IsSenseWord Max word → ⊥
+not_max word (inl h) (inl k) = words_differ word (codes "MIN") (codes "MAX") refl h k
+not_max word (inl h) (inr k) = words_differ word (codes "MIN") (codes "MAXIMIZE") refl h k
+not_max word (inr h) (inl k) = words_differ word (codes "MINIMIZE") (codes "MAX") refl h k
+not_max word (inr h) (inr k) = words_differ word (codes "MINIMIZE") (codes "MAXIMIZE") refl h k
+
+one_word : (s t : Sense) (word : List ℕ) → IsSenseWord s word → IsSenseWord t word → s ≡ t
+one_word Min Min word h k = refl
+one_word Min Max word h k = absurd (not_max word h k)
+one_word Max Min word h k = absurd (not_max word k h)
+one_word Max Max word h k = refl
+
 one_sense : (words : List (List ℕ)) (s t : Sense) → IsSenseOf words s → IsSenseOf words t → s ≡ t
 one_sense [] s t h k = h ∙ sym k
-one_sense (word ∷ []) s t h k = same_some s t (sym h ∙ k)
+one_sense (word ∷ []) s t h k = one_word s t word h k
 one_sense (word ∷ other ∷ more) s t h k = absurd h
 
 same_head : (a b : Name) (xs ys : List Name) → a ∷ xs ≡ b ∷ ys → a ≡ b

@@ -17,7 +17,7 @@ use Rattle.spec_mps.specs.Fields.{Fields, numbers_of, texts_of}
 use Rattle.spec_mps.specs.Shapes.{has_shape, shapes_of, shaped}
 use Rattle.spec_mps.specs.Reader.{State, is_among}
 use Rattle.spec_mps.specs.Sides.{set_and_pairs, same_set, is_used}
-use Rattle.spec_meaning.specs.NumberCards.{texts_for, side_of, set_on, pairs_on, used_pairs}
+use Rattle.spec_meaning.specs.NumberCards.{is_same_set, texts_for, side_of, set_on, pairs_on, used_pairs}
 use Rattle.spec_meaning.proofs.SoFar.{is_section}
 use Rattle.spec_meaning.proofs.RowViews.{row_view, place_in}
 use Rattle.spec_meaning.proofs.PairsKept.{texts_none, Tells}
@@ -100,6 +100,12 @@ same_set_true None (Some b) h = absurd (cc)
 same_set_true (Some a) None h = absurd (cc)
 same_set_true (Some a) (Some b) h = ap (λ n. Some n) (same_true a b h)
 
+pub same_as : (a b : Option Name) → is_same_set a b ≡ same_set a b
+same_as None None = refl
+same_as None (Some b) = refl
+same_as (Some a) None = refl
+same_as (Some a) (Some b) = refl
+
 flat_append : (xs ys : List Fields) → flat_map pairs_on (xs ++ ys) ≡ flat_map pairs_on xs ++ flat_map pairs_on ys
 flat_append [] ys = refl
 flat_append (x ∷ xs) ys = ap (λ more. pairs_on x ++ more) (flat_append xs ys) ∙ sym (append_assoc (pairs_on x) (flat_map pairs_on xs) (flat_map pairs_on ys))
@@ -111,11 +117,12 @@ flat_one false card = refl
 pub used_push : (cards : List Fields) (card : Fields) → used_pairs (cards ++ card ∷ []) ≡ used_pairs cards ++ cond (is_used (first_set cards) (set_on card)) (pairs_on card) []
 unfolding used_pairs
 used_push [] card =
-    ap (λ b. flat_map pairs_on (cond b (card ∷ []) [])) (same_set_itself (set_on card)) ∙ append-nil (pairs_on card)
+    ap (λ b. flat_map pairs_on (cond b (card ∷ []) [])) (same_as (set_on card) (set_on card) ∙ same_set_itself (set_on card)) ∙ append-nil (pairs_on card)
 used_push (first ∷ cards) card =
-    ap (flat_map pairs_on) (filter-append (λ other. same_set (set_on first) (set_on other)) (first ∷ cards) (card ∷ []))
-    ∙ flat_append (filter (λ other. same_set (set_on first) (set_on other)) (first ∷ cards)) (cond (same_set (set_on first) (set_on card)) (card ∷ []) [])
-    ∙ ap (λ more. used_pairs (first ∷ cards) ++ more) (flat_one (same_set (set_on first) (set_on card)) card)
+    ap (flat_map pairs_on) (filter-append (λ other. is_same_set (set_on first) (set_on other)) (first ∷ cards) (card ∷ []))
+    ∙ flat_append (filter (λ other. is_same_set (set_on first) (set_on other)) (first ∷ cards)) (cond (is_same_set (set_on first) (set_on card)) (card ∷ []) [])
+    ∙ ap (λ more. used_pairs (first ∷ cards) ++ more) (flat_one (is_same_set (set_on first) (set_on card)) card)
+    ∙ ap (λ b. used_pairs (first ∷ cards) ++ cond b (pairs_on card) []) (same_as (set_on first) (set_on card))
 
 first_used : (cards : List Fields) (card : Fields) → is_used (first_set cards) (set_on card) ≡ true → first_set (cards ++ card ∷ []) ≡ Some (set_on card)
 first_used [] card h = refl

@@ -1,9 +1,11 @@
 -- The name and the sense are what NAME and OBJSENSE say.
-use Rattle.std.proofs.Common.{◌≡◌, ℕ, Bool, true, false, Option, Some, None, is_none, is_some, Ok, List, [], ◌∷◌, ◌++◌, map, refl, sym, ap, ◌∙◌, subst, subst₂, append_assoc}
+use Rattle.std.proofs.Common.{cond, ◌≡◌, ℕ, Bool, true, false, Option, Some, None, is_none, is_some, Ok, List, [], ◌∷◌, ◌++◌, map, refl, sym, ap, ◌∙◌, subst, subst₂, append_assoc, codes, inl, inr}
 use Rattle.std.specs.List.{filter}
 use Rattle.std.proofs.lemmas.List.{map-append}
-use Rattle.spec_text.specs.Words.{has_bytes}
+use Rattle.spec_text.specs.Words.{same, has_bytes}
+use Rattle.spec_text.proofs.WordLemmas.{same_true}
 use Rattle.spec_model.specs.declared.parts.Sense.{Sense}
+use Rattle.spec_model.specs.declared.parts.Sense.TheVariants.{Min, Max}
 use Rattle.spec_model.specs.Model.{Model, Name}
 use Rattle.spec_model.specs.Kept.{is_model_name}
 use Rattle.spec_mps.specs.declared.fault.Code.TheVariants as code
@@ -12,12 +14,12 @@ use Rattle.spec_mps.specs.declared.section.Section.TheVariants as section
 use Rattle.spec_mps.specs.declared.section.Seen.{Seen}
 use Rattle.spec_mps.specs.declared.style.Style.{Style}
 use Rattle.spec_mps.specs.Fields.{Fields, text_at}
-use Rattle.spec_mps.specs.Shapes.{sense_of, shaped}
+use Rattle.spec_mps.specs.Shapes.{look_up, sense_of, shaped}
 use Rattle.spec_mps.specs.Reader.{State}
 use Rattle.spec_mps.specs.Steps.{take_sense, sense_card, has_begun, with_section, begun, sense_beside, headed, data_card, sense_or_min, model_by, Spells}
 use Rattle.spec_mps.proofs.Steps.{none_if}
-use Rattle.spec_mps.proofs.CheckSteps.{step_ok, must_ok, need_ok, same_ok}
-use Rattle.spec_meaning.specs.RowCards.{second_word, sense_words, IsSenseOf}
+use Rattle.spec_mps.proofs.CheckSteps.{step_ok, must_ok, need_ok, same_ok, same_some}
+use Rattle.spec_meaning.specs.RowCards.{second_word, sense_words, IsSenseWord, IsSenseOf}
 use Rattle.spec_meaning.specs.TextCards.{Lines, cards_in, title_of}
 use Rattle.spec_meaning.proofs.Frames.{Leads, card_leads}
 use Rattle.spec_meaning.proofs.SoFar.{is_section, SoFar, with_card, or_else, with_title}
@@ -174,9 +176,29 @@ sense_kept style =
       at_card = λ c s t part card o here h k. sense_at_card style c s t part card o here h k;
     }
 
+-- the words of the two senses
+abbrev AllSay : List (List ℕ × Sense) → Type 0
+AllSay [] = Unit {0}
+AllSay (x ∷ xs) = IsSenseWord x.1 x.0 × AllSay xs
+
+looked_up : (word : List ℕ) (sense : Sense) (table : List (List ℕ × Sense)) → AllSay table → look_up word table ≡ Some sense → IsSenseWord sense word
+looked_up word sense [] a h = absurd (cc)
+looked_up word sense (x ∷ xs) a h = go (same word x.0) refl (looked_up word sense xs a.1) h
+  where
+    go : (b : Bool) → same word x.0 ≡ b → (look_up word xs ≡ Some sense → IsSenseWord sense word) → cond b (Some x.1) (look_up word xs) ≡ Some sense → IsSenseWord sense word
+    go true e f k = subst₂ IsSenseWord (same_some x.1 sense k) (sym (same_true word x.0 e)) a.0
+    go false e f k = f k
+
+abbrev senses : List (List ℕ × Sense)
+senses = (codes "MIN", Min) ∷ (codes "MINIMIZE", Min) ∷ (codes "MAX", Max) ∷ (codes "MAXIMIZE", Max) ∷ []
+
+sense_word : (word : List ℕ) (sense : Sense) → sense_of word ≡ Some sense → IsSenseWord sense word
+unfolding sense_of
+sense_word word sense h = looked_up word sense senses (inl refl, (inr refl, (inl refl, (inr refl, tt)))) h
+
 sense_of_words : (words : List (List ℕ)) (sense : Option Sense) → SenseIs words sense → IsSenseOf words (sense_or_min sense)
 sense_of_words [] sense k = ap sense_or_min k
-sense_of_words (word ∷ []) sense k = k.1 ∙ ap (λ o. Some (sense_or_min o)) (sym k.2)
+sense_of_words (word ∷ []) sense k = sense_word word (sense_or_min sense) (k.1 ∙ ap (λ o. Some (sense_or_min o)) (sym k.2))
 sense_of_words (word ∷ other ∷ more) sense k = absurd k
 
 pub sense_said : (style : Style) (lines : Lines) (m : Model) → Spells style lines m → IsSenseOf (sense_words (title_of section.Sense lines) (cards_in style section.Sense lines)) m.sense

@@ -11,8 +11,8 @@ use Rattle.spec_mps.specs.declared.style.Style.TheVariants.{Free, Fixed}
 use Rattle.spec_mps.specs.BoundText.{BoundReading, Finite, PlusInf, MinusInf, bound_of}
 use Rattle.spec_mps.specs.Fields.{Fields, text_at, texts_of}
 use Rattle.spec_mps.specs.Shapes.{look_up}
-use Rattle.spec_mps.specs.Sides.{same_set}
-use Rattle.spec_mps.specs.Bounds.{BoundTexts, takes_value}
+use Rattle.spec_mps.specs.Bounds.{BoundTexts}
+use Rattle.spec_meaning.specs.NumberCards.{is_same_set}
 
 -- ---- the kind in field 1, then a set, which may be absent, a column, and a value where the kind takes one
 
@@ -27,6 +27,13 @@ kind_of word =
     ∷ (codes "PL", Pl)
     ∷ [])
 
+-- FR, MI and PL take no value
+abbrev pub has_value : BoundKind → Bool
+has_value Up = true
+has_value Lo = true
+has_value Fx = true
+has_value kind = false
+
 -- what stands in a field, if it is there
 abbrev pub field_at : ℕ → Fields → Option (List ℕ)
 field_at n fields = option_map (λ f. f.text) (find (λ f. f.number == n) fields)
@@ -37,19 +44,19 @@ free_bound true (kind ∷ column ∷ value ∷ []) = record { set = None; column
 free_bound true (kind ∷ set ∷ column ∷ value ∷ []) = record { set = Some set; column = column; value = value }
 free_bound false (kind ∷ column ∷ []) = record { set = None; column = column; value = [] }
 free_bound false (kind ∷ set ∷ column ∷ []) = record { set = Some set; column = column; value = [] }
-free_bound has_value words = record { set = None; column = []; value = [] }
+free_bound valued words = record { set = None; column = []; value = [] }
 
 -- the fields 2, 3 and 4
 abbrev pub fixed_bound : Bool → Fields → BoundTexts
-fixed_bound has_value card = record { set = field_at 2 card; column = text_at 3 card; value = if has_value then text_at 4 card else [] }
+fixed_bound valued card = record { set = field_at 2 card; column = text_at 3 card; value = if valued then text_at 4 card else [] }
 
 abbrev pub bound_texts_on : Style → Bool → Fields → BoundTexts
-bound_texts_on Free has_value card = free_bound has_value (texts_of card)
-bound_texts_on Fixed has_value card = fixed_bound has_value card
+bound_texts_on Free valued card = free_bound valued (texts_of card)
+bound_texts_on Fixed valued card = fixed_bound valued card
 
 abbrev pub bound_by : Style → Option BoundKind → Fields → BoundTexts
 bound_by style None card = record { set = None; column = []; value = [] }
-bound_by style (Some kind) card = bound_texts_on style (takes_value kind) card
+bound_by style (Some kind) card = bound_texts_on style (has_value kind) card
 
 unfoldable pub bound_on : Style → Fields → BoundTexts
 bound_on style card = bound_by style (kind_of (text_at 1 card)) card
@@ -57,7 +64,7 @@ bound_on style card = bound_by style (kind_of (text_at 1 card)) card
 -- the cards of the set that the first card names, and of these the cards of a column
 unfoldable pub used_bounds : Style → List Fields → List Fields
 used_bounds style [] = []
-used_bounds style (first ∷ cards) = filter (λ card. same_set (bound_on style first).set (bound_on style card).set) (first ∷ cards)
+used_bounds style (first ∷ cards) = filter (λ card. is_same_set (bound_on style first).set (bound_on style card).set) (first ∷ cards)
 
 unfoldable pub bounds_of_column : Style → Name → List Fields → List Fields
 bounds_of_column style name cards = filter (λ card. same (bound_on style card).column name) (used_bounds style cards)

@@ -1,12 +1,12 @@
 -- The numbers that cards give: pairs of a row's name and a number, and the sets that they belong to.
-use Rattle.std.specs.Prelude.{ℕ, ◌≡◌, Option, Some, None, List, [], ◌∷◌, map}
+use Rattle.std.specs.Prelude.{ℕ, ◌≡◌, Bool, true, false, Option, Some, None, List, [], ◌∷◌, map}
 use Rattle.std.specs.List.{filter, flat_map}
 use Rattle.spec_text.specs.Words.{same}
 use Rattle.spec_exact.specs.Fraction.{ℚ, 0ℚ}
 use Rattle.spec_model.specs.Model.{Name}
 use Rattle.spec_mps.specs.NumberText.{Is, number_of}
 use Rattle.spec_mps.specs.Fields.{Fields, texts_of}
-use Rattle.spec_mps.specs.Sides.{SetAndPairs, same_set}
+use Rattle.spec_mps.specs.Sides.{SetAndPairs}
 
 -- names and the texts of numbers
 abbrev pub Pairs : Type 0
@@ -43,7 +43,13 @@ set_on card = (side_of (texts_of card)).set
 abbrev pub pairs_on : Fields → Pairs
 pairs_on card = (side_of (texts_of card)).pairs
 
+-- the same name, or none on both
+abbrev pub is_same_set : Option Name → Option Name → Bool
+is_same_set None None = true
+is_same_set (Some a) (Some b) = same a b
+is_same_set a b = false
+
 -- the pairs of the set that the first card names; cards of other sets count for nothing
 unfoldable pub used_pairs : List Fields → Pairs
 used_pairs [] = []
-used_pairs (first ∷ cards) = flat_map pairs_on (filter (λ card. same_set (set_on first) (set_on card)) (first ∷ cards))
+used_pairs (first ∷ cards) = flat_map pairs_on (filter (λ card. is_same_set (set_on first) (set_on card)) (first ∷ cards))
