@@ -11,12 +11,15 @@ use lp_frac::{Frac, Fracs};
 use lp_model::Model;
 use spec_check::Letter;
 use std::alloc::{AllocError, Global};
+use thiserror::Error;
 
 /// Why there is no certificate of the model.
-#[derive(Drop)]
+#[derive(Debug, Drop, Error)]
 pub enum SettleError {
     /// A name does not fit.
+    #[error("{0}")]
     Fault(SettleFault),
+    #[error("out of memory")]
     NoMemory,
 }
 

@@ -4,6 +4,7 @@ ghost use Rattle.spec_check.specs.declared.certificate.Stop.TheVariants as stop;
 
 use spec_exact::Past;
 use std::fmt::Debug;
+use thiserror::Error;
 
 /// What a part of a certificate is a number of: a column's value, a row's multiplier, or a column's part in a ray.
 #[derive(Clone, Copy, Debug, PartialEq, Eq)]
@@ -39,11 +40,13 @@ pub struct RawCertificate<N, P> {
 }
 
 /// Which name of a certificate does not fit a model.
-#[derive(Drop)]
-pub enum SettleFault<N> {
+#[derive(Debug, Drop, Error)]
+pub enum SettleFault<N: Debug> {
     /// No column, or no row, has this name.
+    #[error("expected the name of a column or a row of the model, but found {0:?}")]
     UnknownName(N),
     /// An earlier part has this name too, for the same letter.
+    #[error("expected each name once for a letter, but found {0:?} twice")]
     Repeated(N),
 }
 
