@@ -9,12 +9,9 @@ use Rattle.spec_exact.specs.Narrow.{IsNarrow}
 use Rattle.spec_mps.proofs.NarrowNumbers.{zero_narrow}
 use Rattle.spec_pivot.specs.declared.status.Status.{Status}
 use Rattle.spec_pivot.specs.declared.status.Status.TheVariants.{Basic, AtLower, AtUpper, AtZero}
-use Rattle.spec_simplex.specs.declared.ends.Choice.{Choice}
-use Rattle.spec_simplex.specs.declared.ends.Choice.TheVariants.{End, Flip, Pivot}
 use Rattle.spec_simplex.specs.Run.{Run, difference_run, list_run, less_product, quotient_run, sum_run}
 use Rattle.spec_simplex.specs.Tableau.{Tableau, all_columns, at_place, entry_at, basic_at, status_at, lower_at, upper_at, is_artificial, or_zero, stand}
 use Rattle.spec_simplex.specs.Step.{directed, other_bound, is_place, moved_at, moved_run, flip_way, flipped, flip_run, scaled_run, cleared_run, turned_run, repriced_run, leave_bound, exchanged, turned, shifted_run, pivot_run}
-use Rattle.spec_simplex.specs.Phases.{done_run}
 use Rattle.spec_cold.proofs.Runs.{then_ok, steps_ok}
 use Rattle.spec_server.specs.Answers.{number_limit}
 use Rattle.spec_server.proofs.NarrowRuns.{sum_narrow, quotient_narrow, less_narrow, all_given}
@@ -168,9 +165,3 @@ pivot_narrow t u p j theta to h n =
     last values rows reduced k h =
         let e : exchanged (turned t values rows reduced) p j to ≡ u = cc in
         subst AreNarrow e (exchanged_narrow (turned t values rows reduced) p j to k)
-
--- whatever a step does
-pub done_narrow : (t u : Tableau) (choice : Choice ℚ) → done_run (Some number_limit) t choice ≡ Ok u → AreNarrow t → AreNarrow u
-done_narrow t u (End end) h n = let e : t ≡ u = cc in subst AreNarrow e n
-done_narrow t u (Flip j) h n = flip_narrow t u j h n
-done_narrow t u (Pivot p j theta to) h n = pivot_narrow t u p j theta to h n
