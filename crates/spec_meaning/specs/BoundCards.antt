@@ -48,7 +48,8 @@ free_bound valued words = record { set = None; column = []; value = [] }
 
 -- the fields 2, 3 and 4
 abbrev pub fixed_bound : Bool → Fields → BoundTexts
-fixed_bound valued card = record { set = field_at 2 card; column = text_at 3 card; value = if valued then text_at 4 card else [] }
+fixed_bound valued card =
+    record { set = field_at 2 card; column = text_at 3 card; value = if valued then text_at 4 card else [] }
 
 abbrev pub bound_texts_on : Style → Bool → Fields → BoundTexts
 bound_texts_on Free valued card = free_bound valued (texts_of card)
@@ -112,4 +113,5 @@ upper_of style cards = last_or None (filter_map (upper_on style) cards)
 
 -- without a card that sets it, it is 0, or absent where an upper bound is below 0
 unfoldable pub lower_of : Style → List Fields → Option ℚ
-lower_of style cards = last_or (if list_any (has_negative_upper style) cards then None else Some 0ℚ) (filter_map (lower_on style) cards)
+lower_of style cards =
+    last_or (if list_any (has_negative_upper style) cards then None else Some 0ℚ) (filter_map (lower_on style) cards)

@@ -12,7 +12,8 @@ pub record ColumnTexts : Type 0 where
 
 abbrev pub column_of : List (List ℕ) → ColumnTexts
 column_of (column ∷ row ∷ value ∷ []) = record { column = column; pairs = (row, value) ∷ [] }
-column_of (column ∷ row ∷ value ∷ other ∷ second ∷ []) = record { column = column; pairs = (row, value) ∷ (other, second) ∷ [] }
+column_of (column ∷ row ∷ value ∷ other ∷ second ∷ []) =
+    record { column = column; pairs = (row, value) ∷ (other, second) ∷ [] }
 column_of texts = record { column = []; pairs = [] }
 
 abbrev pub column_on : Fields → Name

@@ -14,13 +14,28 @@ use Rattle.spec_meaning.specs.BoundCards.{bounds_of_column, lower_of, upper_of}
 pub record Means (style : Style) (lines : Lines) (m : Model) : Type 0 where
   pub name : m.name ≡ second_word (title_of section.Name lines)
   pub sense : IsSenseOf (sense_words (title_of section.Sense lines) (cards_in style section.Sense lines)) m.sense
-  pub objective : (dropped : List Name) × (unlimited_rows (cards_in style section.Rows lines) ≡ m.objective ∷ dropped)
+  pub objective :
+      (dropped : List Name) × (unlimited_rows (cards_in style section.Rows lines) ≡ m.objective ∷ dropped)
   pub rows : map (λ r. (r.kind, r.name)) m.rows ≡ limited_rows (cards_in style section.Rows lines)
   pub columns : map (λ c. c.name) m.columns ≡ named_columns (cards_in style section.Columns lines)
-  pub coefficients : (i j : ℕ) → i < height m → j < width m → IsTheNumber (texts_for (row m i).name (pairs_of_column (column m j).name (cards_in style section.Columns lines))) (coefficient m i j)
-  pub costs : (j : ℕ) → j < width m → IsTheNumber (texts_for m.objective (pairs_of_column (column m j).name (cards_in style section.Columns lines))) (cost m j)
-  pub right_sides : (i : ℕ) → i < height m → IsTheNumber (texts_for (row m i).name (used_pairs (cards_in style section.RightSides lines))) (row m i).rhs
-  pub offset : IsTheNumber (texts_for m.objective (used_pairs (cards_in style section.RightSides lines))) (neg_ℚ m.offset)
-  pub ranges : (i : ℕ) → i < height m → IsTheRange (texts_for (row m i).name (used_pairs (cards_in style section.Ranges lines))) (row m i).range
-  pub lower : (j : ℕ) → j < width m → (column m j).lower ≡ lower_of style (bounds_of_column style (column m j).name (cards_in style section.Bounds lines))
-  pub upper : (j : ℕ) → j < width m → (column m j).upper ≡ upper_of style (bounds_of_column style (column m j).name (cards_in style section.Bounds lines))
+  pub coefficients : (i j : ℕ) → i < height m → j < width m →
+      IsTheNumber (texts_for (row m i).name (pairs_of_column (column m j).name (cards_in style section.Columns lines)))
+      (coefficient m i j)
+  pub costs : (j : ℕ) → j < width m →
+      IsTheNumber (texts_for m.objective (pairs_of_column (column m j).name (cards_in style section.Columns lines)))
+      (cost m j)
+  pub right_sides : (i : ℕ) → i < height m →
+      IsTheNumber (texts_for (row m i).name (used_pairs (cards_in style section.RightSides lines)))
+      (row m i).rhs
+  pub offset :
+      IsTheNumber (texts_for m.objective (used_pairs (cards_in style section.RightSides lines)))
+      (neg_ℚ m.offset)
+  pub ranges : (i : ℕ) → i < height m →
+      IsTheRange (texts_for (row m i).name (used_pairs (cards_in style section.Ranges lines)))
+      (row m i).range
+  pub lower : (j : ℕ) → j < width m →
+      (column m j).lower
+      ≡ lower_of style (bounds_of_column style (column m j).name (cards_in style section.Bounds lines))
+  pub upper : (j : ℕ) → j < width m →
+      (column m j).upper
+      ≡ upper_of style (bounds_of_column style (column m j).name (cards_in style section.Bounds lines))

@@ -34,7 +34,8 @@ abbrev pub side_of : List (List ℕ) → SetAndPairs
 side_of (row ∷ value ∷ []) = record { set = None; pairs = (row, value) ∷ [] }
 side_of (set ∷ row ∷ value ∷ []) = record { set = Some set; pairs = (row, value) ∷ [] }
 side_of (row ∷ value ∷ other ∷ second ∷ []) = record { set = None; pairs = (row, value) ∷ (other, second) ∷ [] }
-side_of (set ∷ row ∷ value ∷ other ∷ second ∷ []) = record { set = Some set; pairs = (row, value) ∷ (other, second) ∷ [] }
+side_of (set ∷ row ∷ value ∷ other ∷ second ∷ []) =
+    record { set = Some set; pairs = (row, value) ∷ (other, second) ∷ [] }
 side_of texts = record { set = None; pairs = [] }
 
 abbrev pub set_on : Fields → Option Name

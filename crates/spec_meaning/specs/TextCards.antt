@@ -55,7 +55,8 @@ fields_in Fixed part bytes = column_fields bytes
 -- the data cards of a section, in order
 unfoldable pub cards_in : Style → Section → Lines → List Fields
 cards_in style part lines =
-    map (λ line. fields_in style part (bytes_of line)) (filter (λ line. not (is_skipped (bytes_of line))) (lines_in part lines))
+    map (λ line. fields_in style part (bytes_of line))
+    (filter (λ line. not (is_skipped (bytes_of line))) (lines_in part lines))
 
 -- the words of the line that begins a section, if one does
 unfoldable pub title_of : Section → Lines → Option Fields

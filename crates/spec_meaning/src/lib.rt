@@ -4,7 +4,7 @@
 //! title_of                             the words of the line that begins a section: specs/TextCards
 //! unlimited_rows, limited_rows         the rows of type N, and the others with their kinds: specs/RowCards
 //! sense_words, IsSenseOf               the words that say a sense, and the sense: specs/RowCards
-//! named_columns                        the columns that cards name, in the order of their first mention: specs/ColumnCards
+//! named_columns                        the columns that cards name, by their first mention: specs/ColumnCards
 //! pairs_of_column                      the pairs on the cards of a column: specs/ColumnCards
 //! used_pairs                           the pairs of RHS or RANGES in the set that is used: specs/NumberCards
 //! texts_for, IsTheNumber, IsTheRange   the texts beside a name, and the number of the only one: specs/NumberCards
@@ -18,7 +18,8 @@
 ghost use Rattle.std.specs.Prelude.{◌≡◌, ◌<◌, ◌↔◌, ℕ, Some, None, List, [], ◌∷◌, map};
 ghost use Rattle.spec_exact.specs.Fraction.{ℚ, 0ℚ, ◌+ℚ◌, ◌-ℚ◌, ◌≤ℚ◌, ◌<ℚ◌, abs_ℚ, neg_ℚ};
 ghost use Rattle.spec_model.specs.declared.parts.Kind.TheVariants as kind;
-ghost use Rattle.spec_model.specs.Model.{Model, Name, ExactRow, limits_of, row, column, height, width, cost, coefficient};
+ghost use Rattle.spec_model.specs.Model.{Model, Name, ExactRow, limits_of};
+ghost use Rattle.spec_model.specs.Model.{row, column, height, width, cost, coefficient};
 ghost use Rattle.spec_model.specs.Kept.{IsModel};
 ghost use Rattle.spec_model.specs.Truth.{IsBetween};
 ghost use Rattle.spec_mps.specs.declared.section.Section.TheVariants as section;
@@ -41,29 +42,31 @@ pub fn titles_are_names_and_senses()
 
 /// The objective is the first row of type N, and further ones are dropped. The rows are those of the other types, in
 /// the order of their cards.
-pub fn row_cards_are_rows()
+pub fn rows_cards_are_rows()
     ensures objective { (style : Style) (lines : Lines) (m : Model) → Spells style lines m →
         (dropped : List Name) × (unlimited_rows (cards_in style section.Rows lines) ≡ m.objective ∷ dropped) }
     ensures rows { (style : Style) (lines : Lines) (m : Model) → Spells style lines m →
         map (λ r. (r.kind, r.name)) m.rows ≡ limited_rows (cards_in style section.Rows lines) }
 {}
 
-/// The columns are those that COLUMNS names, in the order of their first mention. A coefficient is the number of the one
-/// pair that names the column and the row, and 0 where there is none; and so is a cost, with the objective for the row.
+/// The columns are those that COLUMNS names, in the order of their first mention. A coefficient is the number of the
+/// one pair that names the column and the row, and 0 where there is none; and so is a cost, with the objective for the
+/// row.
 pub fn columns_cards_are_columns()
     ensures order { (style : Style) (lines : Lines) (m : Model) → Spells style lines m →
         map (λ c. c.name) m.columns ≡ named_columns (cards_in style section.Columns lines) }
     ensures coefficients { (style : Style) (lines : Lines) (m : Model) → Spells style lines m →
         (i j : ℕ) → i < height m → j < width m →
-        IsTheNumber (texts_for (row m i).name (pairs_of_column (column m j).name (cards_in style section.Columns lines)))
+        IsTheNumber
+        (texts_for (row m i).name (pairs_of_column (column m j).name (cards_in style section.Columns lines)))
         (coefficient m i j) }
     ensures costs { (style : Style) (lines : Lines) (m : Model) → Spells style lines m → (j : ℕ) → j < width m →
         IsTheNumber (texts_for m.objective (pairs_of_column (column m j).name (cards_in style section.Columns lines)))
         (cost m j) }
 {}
 
-/// The right side of a row is the number beside its name in the set that RHS names first, and 0 where there is none. That
-/// of the objective is the offset negated.
+/// The right side of a row is the number beside its name in the set that RHS names first, and 0 where there is none.
+/// That of the objective is the offset negated.
 pub fn rhs_cards_are_right_sides()
     ensures rows { (style : Style) (lines : Lines) (m : Model) → Spells style lines m → (i : ℕ) → i < height m →
         IsTheNumber (texts_for (row m i).name (used_pairs (cards_in style section.RightSides lines))) (row m i).rhs }
@@ -92,13 +95,16 @@ pub fn bounds_cards_are_bounds()
 
 /// What the sum of a row may be, by its kind, its right side and its range.
 pub fn rows_have_limits()
-    ensures at_most { (r : ExactRow) (v : ℚ) → r.kind ≡ kind.L → r.range ≡ None → IsBetween (limits_of r) v ↔ (v ≤ℚ r.rhs) }
+    ensures at_most { (r : ExactRow) (v : ℚ) → r.kind ≡ kind.L → r.range ≡ None →
+        IsBetween (limits_of r) v ↔ (v ≤ℚ r.rhs) }
     ensures at_most_from { (r : ExactRow) (range v : ℚ) → r.kind ≡ kind.L → r.range ≡ Some range →
         IsBetween (limits_of r) v ↔ (((r.rhs -ℚ abs_ℚ range) ≤ℚ v) × (v ≤ℚ r.rhs)) }
-    ensures at_least { (r : ExactRow) (v : ℚ) → r.kind ≡ kind.G → r.range ≡ None → IsBetween (limits_of r) v ↔ (r.rhs ≤ℚ v) }
+    ensures at_least { (r : ExactRow) (v : ℚ) → r.kind ≡ kind.G → r.range ≡ None →
+        IsBetween (limits_of r) v ↔ (r.rhs ≤ℚ v) }
     ensures at_least_to { (r : ExactRow) (range v : ℚ) → r.kind ≡ kind.G → r.range ≡ Some range →
         IsBetween (limits_of r) v ↔ ((r.rhs ≤ℚ v) × (v ≤ℚ (r.rhs +ℚ abs_ℚ range))) }
-    ensures equal { (r : ExactRow) (v : ℚ) → r.kind ≡ kind.E → r.range ≡ None → IsBetween (limits_of r) v ↔ (v ≡ r.rhs) }
+    ensures equal { (r : ExactRow) (v : ℚ) → r.kind ≡ kind.E → r.range ≡ None →
+        IsBetween (limits_of r) v ↔ (v ≡ r.rhs) }
     ensures equal_up_to { (r : ExactRow) (range v : ℚ) → r.kind ≡ kind.E → r.range ≡ Some range → 0ℚ ≤ℚ range →
         IsBetween (limits_of r) v ↔ ((r.rhs ≤ℚ v) × (v ≤ℚ (r.rhs +ℚ range))) }
     ensures equal_down_to { (r : ExactRow) (range v : ℚ) → r.kind ≡ kind.E → r.range ≡ Some range → range <ℚ 0ℚ →

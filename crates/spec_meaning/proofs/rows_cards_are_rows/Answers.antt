@@ -1,6 +1,6 @@
 use Rattle.std.proofs.Common.{sym}
 use Rattle.spec_meaning.proofs.RowsKept.{rows_said, objective_said}
-use Rattle.spec_meaning.proofs.row_cards_are_rows.Goals as goal
+use Rattle.spec_meaning.proofs.rows_cards_are_rows.Goals as goal
 
 pub returns-clause-objective : goal.returns-clause-objective
 returns-clause-objective c = objective_said
