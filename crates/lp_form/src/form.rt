@@ -24,9 +24,9 @@ pub struct Form {
 }
 
 impl Model for Form {
-    ghost use Rattle.spec_simplex.specs.Form as plain;
+    ghost use Rattle.spec_simplex.specs.Form as forms;
 
-    ghost Value = { plain.Form };
+    ghost Value = { forms.Form };
 
     ghost view = { λ f. record {
       rows = f.rows;
@@ -37,7 +37,7 @@ impl Model for Form {
       cost = f.cost;
     } };
 
-    ghost invariant = { λ f. plain.IsForm (record {
+    ghost invariant = { λ f. forms.IsForm (record {
       rows = f.rows;
       cols = f.cols;
       entries = f.entries;

@@ -1,7 +1,7 @@
 // The limits of a row, with one operation where it has a range, and bounds that clash.
 ghost use Rattle.std.specs.Prelude.{◌≡◌, Some};
 ghost use Rattle.spec_exact.specs.Fraction.{lt_ℚ, 0ℚ};
-ghost use Rattle.spec_simplex.specs.Form as plain;
+ghost use Rattle.spec_simplex.specs.Form as forms;
 ghost use Rattle.lp_frac.specs.Narrow.{largest};
 
 use lp_frac::{Frac, Past, abs, add, cmp, sign, sub};
@@ -21,7 +21,7 @@ fn is_negative(v: Frac) -> bool
 
 // The least and the most that the sum of an equation with a range may be.
 fn around(rhs: Frac, range: Frac) -> Result<(Option<Frac>, Option<Frac>), Past>
-    ensures { result ≡ plain.equation_limits (Some largest) rhs range }
+    ensures { result ≡ forms.equation_limits (Some largest) rhs range }
 {
     let other = add(rhs, range)?;
     if is_negative(range) {
@@ -33,7 +33,7 @@ fn around(rhs: Frac, range: Frac) -> Result<(Option<Frac>, Option<Frac>), Past>
 
 // The least and the most that the row's sum may be.
 pub(crate) fn limits(row: &Row) -> Result<(Option<Frac>, Option<Frac>), Past>
-    ensures { result ≡ plain.limits_run (Some largest) row.now }
+    ensures { result ≡ forms.limits_run (Some largest) row.now }
 {
     match (row.kind, row.range) {
         (Kind::L, None) => Ok((None, Some(row.rhs))),
@@ -47,7 +47,7 @@ pub(crate) fn limits(row: &Row) -> Result<(Option<Frac>, Option<Frac>), Past>
 
 // Whether the bounds of column `j` clash.
 pub(crate) fn clash(j: u32, lower: Option<Frac>, upper: Option<Frac>) -> Result<(), FormFault>
-    ensures { result ≡ plain.bounds_clash (Some largest) j lower upper }
+    ensures { result ≡ forms.bounds_clash (Some largest) j lower upper }
 {
     match (lower, upper) {
         (Some(lower), Some(upper)) => match cmp(lower, upper) {

@@ -4,7 +4,7 @@ ghost use Rattle.spec_exact.specs.Fraction.{0ℚ};
 ghost use Rattle.spec_model.specs.Model.{width, height, row};
 ghost use Rattle.spec_model.specs.Kept.{AreEntries};
 ghost use Rattle.spec_simplex.specs.Run.{list_run, steps};
-ghost use Rattle.spec_simplex.specs.Form as plain;
+ghost use Rattle.spec_simplex.specs.Form as forms;
 ghost use Rattle.lp_frac.specs.Narrow.{largest};
 ghost use Rattle.lp_standard.specs.Answer.{IsFaultOf, IsStopOf};
 
@@ -29,8 +29,8 @@ fn push_limits(all: &mut Vec<Limits>, limits: Limits) -> Result<(), AllocError>
 
 // The limits of all rows, the lower and the upper one of each.
 fn all_limits(alloc: Global, model: &Model) -> Result<Vec<Limits>, FormStop>
-    ensures ok { IfOk result (λ v. list_run (height model.now) (λ i. plain.limits_run (Some largest) (row model.now i)) ≡ Ok v.items) }
-    ensures err { IfErr result (IsStopOf (list_run (height model.now) (λ i. plain.limits_run (Some largest) (row model.now i)))) }
+    ensures ok { IfOk result (λ v. list_run (height model.now) (λ i. forms.limits_run (Some largest) (row model.now i)) ≡ Ok v.items) }
+    ensures err { IfErr result (IsStopOf (list_run (height model.now) (λ i. forms.limits_run (Some largest) (row model.now i)))) }
 {
     let mut all = Vec::new(alloc);
     for i in 0..model.rows() {
@@ -41,7 +41,7 @@ fn all_limits(alloc: Global, model: &Model) -> Result<Vec<Limits>, FormStop>
 
 // The first column whose bounds clash, if there is one.
 fn first_clash(model: &Model) -> Result<(), FormFault>
-    ensures { result ≡ steps (width model.now) (λ j _. plain.column_clash (Some largest) model.now j) tt }
+    ensures { result ≡ steps (width model.now) (λ j _. forms.column_clash (Some largest) model.now j) tt }
 {
     for j in 0..model.cols() {
         let column = model.col(j);
@@ -93,7 +93,7 @@ fn uppers(alloc: Global, model: &Model, limits: &[Limits]) -> Result<Bounds, All
 
 // The cost to be made least.
 fn least_cost(sense: Sense, cost: Frac) -> Frac
-    ensures { result ≡ plain.least_cost sense cost }
+    ensures { result ≡ forms.least_cost sense cost }
 {
     match sense {
         Sense::Min => cost,
@@ -103,7 +103,7 @@ fn least_cost(sense: Sense, cost: Frac) -> Frac
 
 // The costs of all columns, and then 0 for each row.
 fn costs(alloc: Global, model: &Model) -> Result<Fracs, AllocError>
-    ensures { IfOk result (λ v. v ≡ map (λ c. plain.least_cost model.now.sense c.cost) model.now.columns ++ replicate (height model.now) 0ℚ) }
+    ensures { IfOk result (λ v. v ≡ map (λ c. forms.least_cost model.now.sense c.cost) model.now.columns ++ replicate (height model.now) 0ℚ) }
 {
     let mut costs = Fracs::new(alloc);
     for j in 0..model.cols() {
@@ -119,8 +119,8 @@ fn costs(alloc: Global, model: &Model) -> Result<Fracs, AllocError>
 /// taken first, in order, then the bounds of the columns are compared, in order; the first refused
 /// operation, or the first clash, is why there is none.
 pub fn form(alloc: Global, model: &Model) -> Result<Form, FormStop>
-    ensures ok { IfOk result (λ f. plain.form_of (Some largest) model.now ≡ Ok f) }
-    ensures err { IfErr result (IsFaultOf (plain.form_of (Some largest) model.now)) }
+    ensures ok { IfOk result (λ f. forms.form_of (Some largest) model.now ≡ Ok f) }
+    ensures err { IfErr result (IsFaultOf (forms.form_of (Some largest) model.now)) }
 {
     let limits = all_limits(alloc, model)?;
     first_clash(model)?;

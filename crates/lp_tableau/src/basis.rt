@@ -5,7 +5,7 @@ ghost use Rattle.spec_pivot.specs.declared.status.Status.TheVariants.{AtLower};
 ghost use Rattle.spec_simplex.specs.Run.{made, refused_as};
 ghost use Rattle.spec_simplex.specs.Tableau.{all_columns};
 ghost use Rattle.spec_simplex.specs.declared.ends.StartStop.TheVariants as start;
-ghost use Rattle.spec_simplex.specs.Eliminate as warm;
+ghost use Rattle.spec_simplex.specs.Eliminate as elimination;
 ghost use Rattle.lp_frac.specs.Narrow.{largest};
 ghost use Rattle.lp_tableau.specs.Answer.{Gives};
 ghost use Rattle.lp_tableau.specs.Grid.{IsGrid};
@@ -24,7 +24,7 @@ use std::alloc::{AllocError, Global};
 
 // The form's equations, in which each artificial has the sign of its logical.
 fn equations(alloc: Global, form: &Form) -> Result<Twins, AllocError>
-    ensures { IfOk result (λ rows. rows ≡ (warm.unsolved form.now).rows) }
+    ensures { IfOk result (λ rows. rows ≡ (elimination.unsolved form.now).rows) }
 {
     let starts = Vec::from_elem(
         alloc,
@@ -35,14 +35,14 @@ fn equations(alloc: Global, form: &Form) -> Result<Twins, AllocError>
 }
 
 fn no_columns(alloc: Global, form: &Form) -> Result<Vec<Option<u32>>, AllocError>
-    ensures { IfOk result (λ v. v.items ≡ (warm.unsolved form.now).basic) }
+    ensures { IfOk result (λ v. v.items ≡ (elimination.unsolved form.now).basic) }
 {
     let none = Vec::from_elem(alloc, None, form.rows() as usize)?;
     Ok(none)
 }
 
 fn or_first(column: Option<u32>) -> u32
-    ensures { result ≡ warm.or_first column }
+    ensures { result ≡ elimination.or_first column }
 {
     match column {
         Some(k) => k,
@@ -52,7 +52,7 @@ fn or_first(column: Option<u32>) -> u32
 
 // The column of each position.
 fn columns(alloc: Global, basic: &[Option<u32>]) -> Result<Vec<u32>, AllocError>
-    ensures { IfOk result (λ v. v.items ≡ made (length basic.now) (λ i. warm.or_first (get_or basic.now i None))) }
+    ensures { IfOk result (λ v. v.items ≡ made (length basic.now) (λ i. elimination.or_first (get_or basic.now i None))) }
 {
     let mut columns = Vec::new(alloc);
     for i in 0..basic.len() {
@@ -62,7 +62,7 @@ fn columns(alloc: Global, basic: &[Option<u32>]) -> Result<Vec<u32>, AllocError>
 }
 
 fn statuses(alloc: Global, form: &Form, basis: &Basis) -> Result<Vec<Status>, AllocError>
-    ensures { IfOk result (λ v. v.items ≡ warm.basis_status form.now basis.now) }
+    ensures { IfOk result (λ v. v.items ≡ elimination.basis_status form.now basis.now) }
 {
     let mut statuses = Vec::from_slice(alloc, basis.as_slice())?;
     for _ in 0..form.rows() {
@@ -72,7 +72,7 @@ fn statuses(alloc: Global, form: &Form, basis: &Basis) -> Result<Vec<Status>, Al
 }
 
 fn uppers(alloc: Global, form: &Form) -> Result<Vec<Option<Frac>>, AllocError>
-    ensures { IfOk result (λ v. v.items ≡ warm.basis_upper form.now) }
+    ensures { IfOk result (λ v. v.items ≡ elimination.basis_upper form.now) }
 {
     let mut uppers = Vec::from_slice(alloc, form.uppers())?;
     for _ in 0..form.rows() {
@@ -111,7 +111,7 @@ fn begun(
     requires shape { IsGrid form.now.rows (form.now.cols + form.now.rows + form.now.rows) grid }
     requires places { length basic.now ≡ form.now.rows }
     requires inside { AreInside (form.now.cols + form.now.rows + form.now.rows) basic.now }
-    ensures { IfOk result (λ t. t ≡ warm.with_basis form.now basis.now (record { rows = grid; basic = basic.now })) }
+    ensures { IfOk result (λ t. t ≡ elimination.with_basis form.now basis.now (record { rows = grid; basic = basic.now })) }
 {
     let (height, cols) = (form.rows(), form.cols());
     let status = statuses(alloc, form, basis)?;
@@ -134,7 +134,7 @@ impl Tableau {
     // The value of the basic column at position `i`.
     fn position(&self, i: u32) -> Result<Frac, Past>
         requires { i < self.now.rows }
-        ensures { result ≡ warm.position_run (Some largest) self.now i }
+        ensures { result ≡ elimination.position_run (Some largest) self.now i }
     {
         let mut value = zero();
         for k in 0..self.width() {
@@ -149,7 +149,7 @@ impl Tableau {
     fn fill(&self, values: &mut [Frac]) -> Result<(), Past>
         requires begun { values.old ≡ self.now.value }
         requires len { length values.old ≡ all_columns self.now }
-        ensures filled { Gives (warm.valued_run (Some largest) self.now) values.new result }
+        ensures filled { Gives (elimination.valued_run (Some largest) self.now) values.new result }
         ensures len { length values.new ≡ length values.old }
     {
         for i in 0..self.rows() {
@@ -161,9 +161,9 @@ impl Tableau {
 
     // The same in a list of its own.
     fn valued(&self, alloc: Global) -> Result<Vec<Frac>, BasisStop>
-        ensures ok { IfOk result (λ v. warm.valued_run (Some largest) self.now ≡ Ok v.items) }
+        ensures ok { IfOk result (λ v. elimination.valued_run (Some largest) self.now ≡ Ok v.items) }
         ensures len { IfOk result (λ v. length v.items ≡ all_columns self.now) }
-        ensures err { IfErr result (StopsAt (refused_as start.Past (warm.valued_run (Some largest) self.now))) }
+        ensures err { IfErr result (StopsAt (refused_as start.Past (elimination.valued_run (Some largest) self.now))) }
     {
         let mut values = Vec::from_slice(alloc, &self.value)?;
         self.fill(&mut values)?;
@@ -172,7 +172,7 @@ impl Tableau {
 
     fn set_values(&mut self, values: Vec<Frac>)
         requires { length values.items ≡ all_columns self.old }
-        ensures { self.new ≡ warm.with_values self.old values.items }
+        ensures { self.new ≡ elimination.with_values self.old values.items }
     {
         self.value = values;
     }
@@ -183,8 +183,8 @@ impl Tableau {
 /// the reduced costs for the form's costs. A basis is singular where a column has no such position.
 pub fn start_from(alloc: Global, form: &Form, basis: &Basis) -> Result<Tableau, BasisStop>
     requires { length basis.now ≡ form.now.cols + form.now.rows }
-    ensures ok { IfOk result (λ t. warm.start_from (Some largest) form.now basis.now ≡ Ok t) }
-    ensures err { IfErr result (StopsAt (warm.start_from (Some largest) form.now basis.now)) }
+    ensures ok { IfOk result (λ t. elimination.start_from (Some largest) form.now basis.now ≡ Ok t) }
+    ensures err { IfErr result (StopsAt (elimination.start_from (Some largest) form.now basis.now)) }
 {
     let mut grid = equations(alloc, form)?;
     let mut basic = no_columns(alloc, form)?;

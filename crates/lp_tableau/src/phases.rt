@@ -1,7 +1,7 @@
 // What the phases ask of a tableau.
 ghost use Rattle.std.specs.Prelude.{◌≡◌, not, ◌&&◌};
 ghost use Rattle.spec_exact.specs.Fraction.{0ℚ, eq_ℚ};
-ghost use Rattle.spec_simplex.specs.Tableau as plain;
+ghost use Rattle.spec_simplex.specs.Tableau as tableaus;
 ghost use Rattle.spec_simplex.specs.Phases as phases;
 
 use crate::tableau::Tableau;
@@ -9,14 +9,14 @@ use lp_frac::{Frac, are_same, zero};
 
 impl Tableau {
     fn is_artificial(&self, k: u32) -> bool
-        ensures { result ≡ plain.is_artificial self.now k }
+        ensures { result ≡ tableaus.is_artificial self.now k }
     {
         self.cols() + self.rows() <= k
     }
 
     // The column's value, 0 where none stands.
     fn value_or_zero(&self, k: u32) -> Frac
-        ensures { result ≡ plain.value_at self.now k }
+        ensures { result ≡ tableaus.value_at self.now k }
     {
         match self.value.get(k as usize) {
             Some(value) => *value,
@@ -25,14 +25,14 @@ impl Tableau {
     }
 
     fn is_at_zero(&self, k: u32) -> bool
-        ensures { result ≡ eq_ℚ (plain.value_at self.now k) 0ℚ }
+        ensures { result ≡ eq_ℚ (tableaus.value_at self.now k) 0ℚ }
     {
         are_same(self.value_or_zero(k), zero())
     }
 
     // Whether column `k` is an artificial that is not 0.
     fn is_wanting(&self, k: u32) -> bool
-        ensures { result ≡ (plain.is_artificial self.now k && not (eq_ℚ (plain.value_at self.now k) 0ℚ)) }
+        ensures { result ≡ (tableaus.is_artificial self.now k && not (eq_ℚ (tableaus.value_at self.now k) 0ℚ)) }
     {
         self.is_artificial(k) && !self.is_at_zero(k)
     }

@@ -3,7 +3,7 @@ ghost use Rattle.std.specs.Prelude.{◌≡◌, ◌≢◌, ◌<◌, ◌+◌, IfSo
 ghost use Rattle.spec_exact.specs.Fraction.{0ℚ, eq_ℚ};
 ghost use Rattle.spec_simplex.specs.Tableau.{at_place};
 ghost use Rattle.spec_simplex.specs.Tableau.{is_basic as is_basic_of};
-ghost use Rattle.spec_simplex.specs.Eliminate as warm;
+ghost use Rattle.spec_simplex.specs.Eliminate as elimination;
 ghost use Rattle.lp_frac.specs.Narrow.{largest};
 ghost use Rattle.lp_tableau.specs.Grid.{IsGrid};
 ghost use Rattle.lp_tableau.specs.Based.{IsOpenAt, AreInside, Solves};
@@ -24,7 +24,7 @@ pub(crate) fn is_basic(status: Status) -> bool
 }
 
 fn has_none(column: Option<u32>) -> bool
-    ensures { result ≡ warm.has_none column }
+    ensures { result ≡ elimination.has_none column }
 {
     match column {
         None => true,
@@ -44,7 +44,7 @@ fn is_open(grid: &Twins, basic: &[Option<u32>], form: &Form, j: u32, i: u32) -> 
     requires places { length basic.now ≡ form.now.rows }
     requires column { j < form.now.cols + form.now.rows + form.now.rows }
     requires place { i < form.now.rows }
-    ensures { result ≡ warm.is_open (record { rows = grid.now; basic = basic.now }) j i }
+    ensures { result ≡ elimination.is_open (record { rows = grid.now; basic = basic.now }) j i }
 {
     has_none(basic[i as usize]) && !is_zero(grid.at(i as usize, j as usize))
 }
@@ -54,7 +54,7 @@ fn open(grid: &Twins, basic: &[Option<u32>], form: &Form, j: u32) -> Option<u32>
     requires shape { IsGrid form.now.rows (form.now.cols + form.now.rows + form.now.rows) grid.now }
     requires places { length basic.now ≡ form.now.rows }
     requires column { j < form.now.cols + form.now.rows + form.now.rows }
-    ensures least { result ≡ warm.open_below (record { rows = grid.now; basic = basic.now }) j form.now.rows }
+    ensures least { result ≡ elimination.open_below (record { rows = grid.now; basic = basic.now }) j form.now.rows }
     ensures open { IfSome result (IsOpenAt form.now.rows grid.now j) }
 {
     for i in 0..form.rows() {
@@ -71,7 +71,7 @@ fn solve(grid: &mut Twins, basic: &mut [Option<u32>], form: &Form, j: u32) -> Re
     requires places { length basic.old ≡ form.now.rows }
     requires inside { AreInside (form.now.cols + form.now.rows + form.now.rows) basic.old }
     requires column { j < form.now.cols + form.now.rows + form.now.rows }
-    ensures solved { Solves (warm.solved_run (Some largest) form.now (record { rows = grid.old; basic = basic.old }) j) grid.new basic.new result }
+    ensures solved { Solves (elimination.solved_run (Some largest) form.now (record { rows = grid.old; basic = basic.old }) j) grid.new basic.new result }
     ensures shape { IsGrid form.now.rows (form.now.cols + form.now.rows + form.now.rows) grid.new }
     ensures places { length basic.new ≡ form.now.rows }
     ensures inside { AreInside (form.now.cols + form.now.rows + form.now.rows) basic.new }
@@ -87,7 +87,7 @@ fn solve(grid: &mut Twins, basic: &mut [Option<u32>], form: &Form, j: u32) -> Re
 // Whether column `j` is basic.
 fn is_basic_at(basis: &Basis, j: u32) -> bool
     requires { j < length basis.now }
-    ensures { result ≡ is_basic_of (warm.basis_at basis.now j) }
+    ensures { result ≡ is_basic_of (elimination.basis_at basis.now j) }
 {
     is_basic(basis.at(j as usize))
 }
@@ -99,10 +99,10 @@ pub(crate) fn eliminate(
     form: &Form,
     basis: &Basis,
 ) -> Result<(), BasisStop>
-    requires rows { grid.old ≡ (warm.unsolved form.now).rows }
-    requires places { basic.old ≡ (warm.unsolved form.now).basic }
+    requires rows { grid.old ≡ (elimination.unsolved form.now).rows }
+    requires places { basic.old ≡ (elimination.unsolved form.now).basic }
     requires statuses { length basis.now ≡ form.now.cols + form.now.rows }
-    ensures solved { Solves (warm.eliminate_run (Some largest) form.now basis.now) grid.new basic.new result }
+    ensures solved { Solves (elimination.eliminate_run (Some largest) form.now basis.now) grid.new basic.new result }
     ensures shape { IsGrid form.now.rows (form.now.cols + form.now.rows + form.now.rows) grid.new }
     ensures places { length basic.new ≡ form.now.rows }
     ensures inside { AreInside (form.now.cols + form.now.rows + form.now.rows) basic.new }

@@ -3,7 +3,7 @@ ghost use Rattle.std.specs.Prelude.{◌≡◌, ◌<◌, ◌≤◌, ◌+◌, ◌+
 ghost use Rattle.spec_exact.specs.Fraction.{0ℚ};
 ghost use Rattle.spec_simplex.specs.Run.{list_run, made};
 ghost use Rattle.spec_simplex.specs.Form.{form_lower, form_upper};
-ghost use Rattle.spec_simplex.specs.Start as plain;
+ghost use Rattle.spec_simplex.specs.Start as starting;
 ghost use Rattle.lp_frac.specs.Narrow.{largest};
 ghost use Rattle.lp_tableau.specs.Answer.{Stops};
 ghost use Rattle.lp_tableau.specs.Grid.{flat};
@@ -25,7 +25,7 @@ type RowStart = spec_simplex::RowStart<Frac>;
 
 fn first_status(form: &Form, j: u32) -> Status
     requires { j < form.now.cols }
-    ensures { result ≡ plain.first_status (form_lower form.now j) (form_upper form.now j) }
+    ensures { result ≡ starting.first_status (form_lower form.now j) (form_upper form.now j) }
 {
     match (form.lower(j), form.upper(j)) {
         (Some(_), _) => Status::AtLower,
@@ -37,7 +37,7 @@ fn first_status(form: &Form, j: u32) -> Status
 // Where structural column `j` begins.
 fn first_value(form: &Form, j: u32) -> Frac
     requires { j < form.now.cols }
-    ensures { result ≡ plain.first_value form.now j }
+    ensures { result ≡ starting.first_value form.now j }
 {
     stand(first_status(form, j), form.lower(j), form.upper(j))
 }
@@ -46,7 +46,7 @@ fn first_value(form: &Form, j: u32) -> Frac
 fn row_sum(form: &Form, coefficients: &Grid, i: u32) -> Result<Frac, Past>
     requires held { HoldsColumns form.now form.now.cols coefficients.now }
     requires row { i < form.now.rows }
-    ensures { result ≡ plain.row_sum (Some largest) form.now i }
+    ensures { result ≡ starting.row_sum (Some largest) form.now i }
 {
     let mut sum = zero();
     for j in 0..form.cols() {
@@ -58,7 +58,7 @@ fn row_sum(form: &Form, coefficients: &Grid, i: u32) -> Result<Frac, Past>
 
 // How much `v` is below the bound, if it is.
 fn below(bound: Option<Frac>, v: Frac) -> Result<Option<Frac>, Past>
-    ensures { result ≡ plain.below_run (Some largest) bound v }
+    ensures { result ≡ starting.below_run (Some largest) bound v }
 {
     match bound {
         None => Ok(None),
@@ -71,7 +71,7 @@ fn below(bound: Option<Frac>, v: Frac) -> Result<Option<Frac>, Past>
 
 // How much `v` is above the bound, if it is.
 fn above(bound: Option<Frac>, v: Frac) -> Result<Option<Frac>, Past>
-    ensures { result ≡ plain.above_run (Some largest) bound v }
+    ensures { result ≡ starting.above_run (Some largest) bound v }
 {
     match bound {
         None => Ok(None),
@@ -85,7 +85,7 @@ fn above(bound: Option<Frac>, v: Frac) -> Result<Option<Frac>, Past>
 fn row_start(form: &Form, coefficients: &Grid, i: u32) -> Result<RowStart, Past>
     requires held { HoldsColumns form.now form.now.cols coefficients.now }
     requires row { i < form.now.rows }
-    ensures { result ≡ plain.row_start (Some largest) form.now i }
+    ensures { result ≡ starting.row_start (Some largest) form.now i }
 {
     let v = row_sum(form, coefficients, i)?;
     let logical = form.logical(i);
@@ -108,8 +108,8 @@ fn push_start(starts: &mut Vec<RowStart>, start: RowStart) -> Result<(), AllocEr
 // How all rows begin, in order.
 fn row_starts(alloc: Global, form: &Form, coefficients: &Grid) -> Result<Vec<RowStart>, ColdStop>
     requires { HoldsColumns form.now form.now.cols coefficients.now }
-    ensures ok { IfOk result (λ v. list_run form.now.rows (plain.row_start (Some largest) form.now) ≡ Ok v.items) }
-    ensures err { IfErr result (Stops (list_run form.now.rows (plain.row_start (Some largest) form.now))) }
+    ensures ok { IfOk result (λ v. list_run form.now.rows (starting.row_start (Some largest) form.now) ≡ Ok v.items) }
+    ensures err { IfErr result (Stops (list_run form.now.rows (starting.row_start (Some largest) form.now))) }
 {
     let mut starts = Vec::new(alloc);
     for i in 0..form.rows() {
@@ -119,7 +119,7 @@ fn row_starts(alloc: Global, form: &Form, coefficients: &Grid) -> Result<Vec<Row
 }
 
 fn logical_value(start: RowStart, lower: Option<Frac>, upper: Option<Frac>) -> Frac
-    ensures { result ≡ plain.logical_value start lower upper }
+    ensures { result ≡ starting.logical_value start lower upper }
 {
     match start {
         RowStart::Within(v) => v,
@@ -129,7 +129,7 @@ fn logical_value(start: RowStart, lower: Option<Frac>, upper: Option<Frac>) -> F
 }
 
 fn logical_status(start: RowStart) -> Status
-    ensures { result ≡ plain.logical_status start }
+    ensures { result ≡ starting.logical_status start }
 {
     match start {
         RowStart::Within(_) => Status::Basic,
@@ -139,7 +139,7 @@ fn logical_status(start: RowStart) -> Status
 }
 
 fn artificial_status(start: RowStart) -> Status
-    ensures { result ≡ plain.artificial_status start }
+    ensures { result ≡ starting.artificial_status start }
 {
     match start {
         RowStart::Within(_) => Status::AtLower,
@@ -148,7 +148,7 @@ fn artificial_status(start: RowStart) -> Status
 }
 
 fn artificial_value(start: RowStart) -> Frac
-    ensures { result ≡ plain.artificial_value start }
+    ensures { result ≡ starting.artificial_value start }
 {
     match start {
         RowStart::Within(_) => zero(),
@@ -157,7 +157,7 @@ fn artificial_value(start: RowStart) -> Frac
 }
 
 fn artificial_upper(start: RowStart) -> Option<Frac>
-    ensures { result ≡ plain.artificial_upper start }
+    ensures { result ≡ starting.artificial_upper start }
 {
     match start {
         RowStart::Within(_) => Some(zero()),
@@ -166,7 +166,7 @@ fn artificial_upper(start: RowStart) -> Option<Frac>
 }
 
 fn artificial_cost(start: RowStart) -> Frac
-    ensures { result ≡ plain.first_cost start }
+    ensures { result ≡ starting.first_cost start }
 {
     match start {
         RowStart::Within(_) => zero(),
@@ -175,7 +175,7 @@ fn artificial_cost(start: RowStart) -> Frac
 }
 
 fn logical_sign(start: RowStart) -> Frac
-    ensures { result ≡ plain.logical_sign start }
+    ensures { result ≡ starting.logical_sign start }
 {
     match start {
         RowStart::Below(_) => neg(one()),
@@ -184,7 +184,7 @@ fn logical_sign(start: RowStart) -> Frac
 }
 
 fn structural_entry(start: RowStart, coefficient: Frac) -> Frac
-    ensures { result ≡ plain.structural_entry start coefficient }
+    ensures { result ≡ starting.structural_entry start coefficient }
 {
     match start {
         RowStart::Below(_) => coefficient,
@@ -193,7 +193,7 @@ fn structural_entry(start: RowStart, coefficient: Frac) -> Frac
 }
 
 fn one_at(i: u32, r: u32, v: Frac) -> Frac
-    ensures { result ≡ plain.one_at i r v }
+    ensures { result ≡ starting.one_at i r v }
 {
     if i == r { v } else { zero() }
 }
@@ -204,7 +204,7 @@ fn entry(form: &Form, coefficients: &Grid, starts: &[RowStart], i: u32, k: u32) 
     requires row { i < form.now.rows }
     requires column { k < form.now.cols + form.now.rows + form.now.rows }
     requires starts { length starts.now ≡ form.now.rows }
-    ensures { result ≡ plain.start_entry form.now (plain.start_at starts.now i) i k }
+    ensures { result ≡ starting.start_entry form.now (starting.start_at starts.now i) i k }
 {
     let start = starts[i as usize];
     let (cols, both) = (form.cols(), form.cols() + form.rows());
@@ -220,7 +220,7 @@ fn entry(form: &Form, coefficients: &Grid, starts: &[RowStart], i: u32, k: u32) 
 fn basic(form: &Form, starts: &[RowStart], i: u32) -> u32
     requires row { i < form.now.rows }
     requires starts { length starts.now ≡ form.now.rows }
-    ensures value { result ≡ plain.start_basic form.now starts.now i }
+    ensures value { result ≡ starting.start_basic form.now starts.now i }
 {
     let (cols, rows) = (form.cols(), form.rows());
     match starts[i as usize] {
@@ -232,7 +232,7 @@ fn basic(form: &Form, starts: &[RowStart], i: u32) -> u32
 fn value(form: &Form, starts: &[RowStart], k: u32) -> Frac
     requires column { k < form.now.cols + form.now.rows + form.now.rows }
     requires starts { length starts.now ≡ form.now.rows }
-    ensures { result ≡ plain.start_value form.now starts.now k }
+    ensures { result ≡ starting.start_value form.now starts.now k }
 {
     let (cols, both) = (form.cols(), form.cols() + form.rows());
     if k < cols {
@@ -247,7 +247,7 @@ fn value(form: &Form, starts: &[RowStart], k: u32) -> Frac
 fn status(form: &Form, starts: &[RowStart], k: u32) -> Status
     requires column { k < form.now.cols + form.now.rows + form.now.rows }
     requires starts { length starts.now ≡ form.now.rows }
-    ensures { result ≡ plain.start_status form.now starts.now k }
+    ensures { result ≡ starting.start_status form.now starts.now k }
 {
     let (cols, both) = (form.cols(), form.cols() + form.rows());
     if k < cols {
@@ -338,7 +338,7 @@ pub(crate) fn rows(
 ) -> Result<Twins, AllocError>
     requires held { HoldsColumns form.now form.now.cols coefficients.now }
     requires starts { length starts.now ≡ form.now.rows }
-    ensures { IfOk result (λ rows. rows ≡ made form.now.rows (plain.start_row form.now starts.now)) }
+    ensures { IfOk result (λ rows. rows ≡ made form.now.rows (starting.start_row form.now starts.now)) }
 {
     let (first, others) = (form.cols(), form.rows());
     let block = block(alloc, form, coefficients, starts)?;
@@ -348,7 +348,7 @@ pub(crate) fn rows(
 
 fn basics(alloc: Global, form: &Form, starts: &[RowStart]) -> Result<Vec<u32>, AllocError>
     requires { length starts.now ≡ form.now.rows }
-    ensures { IfOk result (λ v. v.items ≡ made form.now.rows (plain.start_basic form.now starts.now)) }
+    ensures { IfOk result (λ v. v.items ≡ made form.now.rows (starting.start_basic form.now starts.now)) }
 {
     let mut basics = Vec::new(alloc);
     for i in 0..form.rows() {
@@ -359,7 +359,7 @@ fn basics(alloc: Global, form: &Form, starts: &[RowStart]) -> Result<Vec<u32>, A
 
 fn values(alloc: Global, form: &Form, starts: &[RowStart]) -> Result<Vec<Frac>, AllocError>
     requires { length starts.now ≡ form.now.rows }
-    ensures { IfOk result (λ v. v.items ≡ made (form.now.cols + form.now.rows + form.now.rows) (plain.start_value form.now starts.now)) }
+    ensures { IfOk result (λ v. v.items ≡ made (form.now.cols + form.now.rows + form.now.rows) (starting.start_value form.now starts.now)) }
 {
     let mut values = Vec::new(alloc);
     for k in 0..width(form) {
@@ -370,7 +370,7 @@ fn values(alloc: Global, form: &Form, starts: &[RowStart]) -> Result<Vec<Frac>, 
 
 fn statuses(alloc: Global, form: &Form, starts: &[RowStart]) -> Result<Vec<Status>, AllocError>
     requires { length starts.now ≡ form.now.rows }
-    ensures { IfOk result (λ v. v.items ≡ made (form.now.cols + form.now.rows + form.now.rows) (plain.start_status form.now starts.now)) }
+    ensures { IfOk result (λ v. v.items ≡ made (form.now.cols + form.now.rows + form.now.rows) (starting.start_status form.now starts.now)) }
 {
     let mut statuses = Vec::new(alloc);
     for k in 0..width(form) {
@@ -390,7 +390,7 @@ pub(crate) fn lowers(alloc: Global, form: &Form) -> Result<Vec<Option<Frac>>, Al
 }
 
 fn uppers(alloc: Global, form: &Form, starts: &[RowStart]) -> Result<Vec<Option<Frac>>, AllocError>
-    ensures { IfOk result (λ v. v.items ≡ form.now.upper ++ map plain.artificial_upper starts.now) }
+    ensures { IfOk result (λ v. v.items ≡ form.now.upper ++ map starting.artificial_upper starts.now) }
 {
     let mut uppers = Vec::from_slice(alloc, form.uppers())?;
     for start in starts {
@@ -408,7 +408,7 @@ pub(crate) fn zeros(alloc: Global, n: usize) -> Result<Vec<Frac>, AllocError>
 
 // The costs of phase one.
 fn first_costs(alloc: Global, form: &Form, starts: &[RowStart]) -> Result<Vec<Frac>, AllocError>
-    ensures { IfOk result (λ v. v.items ≡ plain.first_costs form.now starts.now) }
+    ensures { IfOk result (λ v. v.items ≡ starting.first_costs form.now starts.now) }
 {
     let mut costs = zeros(alloc, (form.cols() + form.rows()) as usize)?;
     for start in starts {
@@ -426,7 +426,7 @@ fn begun(
 ) -> Result<Tableau, AllocError>
     requires held { HoldsColumns form.now form.now.cols coefficients.now }
     requires starts { length starts.now ≡ form.now.rows }
-    ensures { IfOk result (λ t. t ≡ plain.begun form.now starts.now) }
+    ensures { IfOk result (λ t. t ≡ starting.begun form.now starts.now) }
 {
     let (height, width) = (form.rows(), width(form) as usize);
     Ok(Tableau {
@@ -448,8 +448,8 @@ fn begun(
 /// the logical is basic where its row's sum is then within the row's limits; else the logical stands
 /// at the limit that is missed, and the row's artificial is basic with what is wanting.
 pub fn start_cold(alloc: Global, form: &Form) -> Result<Tableau, ColdStop>
-    ensures ok { IfOk result (λ t. plain.start_of (Some largest) form.now ≡ Ok t) }
-    ensures err { IfErr result (Stops (plain.start_of (Some largest) form.now)) }
+    ensures ok { IfOk result (λ t. starting.start_of (Some largest) form.now ≡ Ok t) }
+    ensures err { IfErr result (Stops (starting.start_of (Some largest) form.now)) }
 {
     let coefficients = coefficients(alloc, form)?;
     let starts = row_starts(alloc, form, &coefficients)?;

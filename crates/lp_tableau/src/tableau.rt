@@ -25,9 +25,9 @@ pub struct Tableau {
 }
 
 impl Model for Tableau {
-    ghost use Rattle.spec_simplex.specs.Tableau as plain;
+    ghost use Rattle.spec_simplex.specs.Tableau as tableaus;
 
-    ghost Value = { plain.Tableau };
+    ghost Value = { tableaus.Tableau };
 
     ghost view = { λ t. record {
       rows = t.rows;
@@ -41,7 +41,7 @@ impl Model for Tableau {
       upper = t.upper.items;
     } };
 
-    ghost invariant = { λ t. plain.IsTableauShape (record {
+    ghost invariant = { λ t. tableaus.IsTableauShape (record {
       rows = t.rows;
       cols = t.cols;
       entries = t.grid;

@@ -1,5 +1,5 @@
 -- The loop over the entries, from the last to the first.
-use Rattle.std.proofs.Common.{[], drop, get_or}
+use Rattle.std.proofs.Common.{drop}
 use Rattle.lp_tableau.proofs.Columns.{HoldsPart}
 use Rattle.lp_tableau.proofs.coefficients.put_column.Given as goal
 
