@@ -6,15 +6,18 @@ ghost use Rattle.lp_tableau.specs.declared.ends.ColdStop.TheVariants as cold;
 use lp_frac::{Frac, Past};
 pub use spec_simplex::PrimalEnd;
 use std::alloc::AllocError;
+use thiserror::Error;
 
 /// Why a run does not end by itself.
 pub type Stop = spec_simplex::Stop<Frac>;
 
 /// Why a form has no start.
-#[derive(Clone, Copy, Debug, PartialEq, Eq)]
+#[derive(Clone, Copy, Debug, PartialEq, Eq, Error)]
 pub enum ColdStop {
     /// The operation that is past 127 bits.
+    #[error("{0}")]
     Past(Past),
+    #[error("out of memory")]
     NoMemory,
 }
 
@@ -35,12 +38,15 @@ impl From<AllocError> for ColdStop {
 }
 
 /// Why a basis has no tableau.
-#[derive(Clone, Copy, Debug, PartialEq, Eq)]
+#[derive(Clone, Copy, Debug, PartialEq, Eq, Error)]
 pub enum BasisStop {
     /// A basic column depends on those before it.
+    #[error("expected independent basic columns, but one depends on those before it")]
     Singular,
     /// The operation that is past 127 bits.
+    #[error("{0}")]
     Past(Past),
+    #[error("out of memory")]
     NoMemory,
 }
 
