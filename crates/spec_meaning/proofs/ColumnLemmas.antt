@@ -63,10 +63,6 @@ pairs_push name cards card =
     ∙ flat_map-append numbers_on (filter (λ other. same (column_on other) name) cards) (cond (same (column_on card) name) (card ∷ []) [])
     ∙ ap (λ more. pairs_of_column name cards ++ more) (flat_one (same (column_on card) name) card)
 
-pub pairs_none : (name : Name) → pairs_of_column name [] ≡ []
-unfolding pairs_of_column
-pairs_none name = refl
-
 -- ---- names in the order of their first mention
 
 abbrev pub is_named : Name → List Fields → Bool

@@ -1,5 +1,5 @@
 -- Lines that begin sections, and the order of these.
-use Rattle.std.proofs.Common.{◌≡◌, ℕ, Bool, true, false, not, ◌&&◌, ◌||◌, cond, Option, Some, None, option_map, List, [], ◌∷◌, ◌++◌, refl, ap, ◌∙◌, append-nil, codes}
+use Rattle.std.proofs.Common.{sym, ◌≡◌, ℕ, Bool, true, false, not, ◌&&◌, ◌||◌, cond, Option, Some, None, option_map, List, [], ◌∷◌, ◌++◌, refl, ap, ◌∙◌, append-nil, codes}
 use Rattle.std.specs.List.{find}
 use Rattle.spec_text.specs.Words.{same}
 use Rattle.spec_text.proofs.WordLemmas.{same_true}
@@ -79,34 +79,22 @@ heading_is l part e f h =
           ∙ words_differ part q;
     }
 
-abbrev rest_of : Section → Lines → Lines
-rest_of part lines = before (begins section.End) lines
-
 -- not ENDATA
 goes_on : (l : Line (List ℕ)) (part : Section) (lines : Lines) → IsHeading l part → is_section (Some part) section.End ≡ false → before (begins section.End) (l ∷ lines) ≡ l ∷ before (begins section.End) lines
 goes_on l part lines h e = ap (λ b. cond b [] (l ∷ before (begins section.End) lines)) (h.begins_one section.End ∙ e)
+
+never : true ≡ false → ⊥
+never k = cc
 
 cards_heading : (style : Style) (at seen now : Bool) (part q : Section) (l : Line (List ℕ)) (lines : Lines) → IsHeading l part → is_section (Some part) section.End ≡ false → is_section (Some part) q ≡ now → (at ≡ true → seen ≡ true) → (now ≡ true → seen ≡ false) → cards_of style q (lines_by at seen q (before (begins section.End) (l ∷ lines))) ≡ cards_of style q (lines_by now (now || seen) q (before (begins section.End) lines))
 cards_heading style at seen now part q l lines h e n told new =
     ap (λ ls. cards_of style q (lines_by at seen q ls)) (goes_on l part lines h e) ∙ go at seen now n told new
   where
-    X : Lines
-    X = before (begins section.End) lines
-
     go : (at seen now : Bool) → is_section (Some part) q ≡ now → (at ≡ true → seen ≡ true) → (now ≡ true → seen ≡ false) → cards_of style q (lines_by at seen q (l ∷ before (begins section.End) lines)) ≡ cards_of style q (lines_by now (now || seen) q (before (begins section.End) lines))
-    go true true true n told new = absurd (not_both (new refl))
-      where
-        not_both : true ≡ false → ⊥
-        not_both k = cc
+    go true true true n told new = absurd (never (new refl))
     go true true false n told new = ap (λ b. cards_of style q (cond b [] (l ∷ before is_heading (before (begins section.End) lines)))) h.heading
-    go true false now n told new = absurd (not_both (told refl))
-      where
-        not_both : false ≡ true → ⊥
-        not_both k = cc
-    go false true true n told new = absurd (not_both (new refl))
-      where
-        not_both : true ≡ false → ⊥
-        not_both k = cc
+    go true false now n told new = absurd (never (sym (told refl)))
+    go false true true n told new = absurd (never (new refl))
     go false true false n told new = refl
     go false false true n told new = ap (λ b. cards_of style q (before is_heading (cond b (before (begins section.End) lines) (behind (begins q) (before (begins section.End) lines))))) (h.begins_one q ∙ n)
     go false false false n told new = ap (λ b. cards_of style q (before is_heading (cond b (before (begins section.End) lines) (behind (begins q) (before (begins section.End) lines))))) (h.begins_one q ∙ n)
@@ -124,10 +112,7 @@ title_heading seen now part q l lines o h e n new =
     known (Some fields) = refl
 
     go : (seen now : Bool) → is_section (Some part) q ≡ now → (now ≡ true → seen ≡ false) → or_else o (title_by seen q (l ∷ before (begins section.End) lines)) ≡ or_else (titled now o (word_fields (bytes_of l))) (title_by (now || seen) q (before (begins section.End) lines))
-    go true true n new = absurd (not_both (new refl))
-      where
-        not_both : true ≡ false → ⊥
-        not_both k = cc
+    go true true n new = absurd (never (new refl))
     go true false n new = refl
     go false true n new = ap (λ b. or_else o (option_map (λ l. word_fields (bytes_of l)) (cond b (Some l) (find (begins q) (before (begins section.End) lines))))) (h.begins_one q ∙ n) ∙ known o
     go false false n new = ap (λ b. or_else o (option_map (λ l. word_fields (bytes_of l)) (cond b (Some l) (find (begins q) (before (begins section.End) lines))))) (h.begins_one q ∙ n)

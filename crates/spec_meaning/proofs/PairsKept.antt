@@ -16,6 +16,7 @@ use Rattle.spec_mps.specs.Checks.{coded}
 use Rattle.spec_mps.specs.Reader.{State, number_in, same_target, is_among}
 use Rattle.spec_mps.proofs.CheckSteps.{same_ok, same_some}
 use Rattle.spec_meaning.specs.NumberCards.{Pairs, texts_for}
+use Rattle.spec_meaning.proofs.Order.{not_both}
 use Rattle.spec_meaning.proofs.RowViews.{RowView, row_view, place_in, one_name, one_target}
 
 -- ---- numbers
@@ -81,10 +82,6 @@ pub put_set : (V : Type 0) (value_of : State → Target → V) (u : State) (plac
 put_set V value_of u place v w (PutNowhere e same) = ap (λ (x : State). x.set) (sym same)
 put_set V value_of u place v w (PutAt x e new paired set same_view here elsewhere) = set
 
-not_false : {A : Type 0} (b : Bool) → b ≡ true → b ≡ false → A
-not_false true h k = absurd (cc)
-not_false false h k = absurd (cc)
-
 or_false : (a b : Bool) → (a || b) ≡ false → (a ≡ false) × (b ≡ false)
 or_false true b h = absurd (cc)
 or_false false b h = (refl, h)
@@ -104,7 +101,7 @@ module _ {V : Type 0} {value_of : State → Target → V} {IsNumber : List (List
       by true f =
           let p : place_in view name ≡ Some (Kept x) = ap (place_in view) (sym (same_true pair.0 name f)) ∙ at ∙ ap (λ y. Some y) e in
           let same : t ≡ x = one_target view name t x h p in
-          not_false (same_target t x) (ap (λ y. same_target t y) (sym same) ∙ same_target_itself t) ne
+          not_both (same_target t x) (ap (λ y. same_target t y) (sym same) ∙ same_target_itself t) ne
       by false f = refl
 
   -- the pair's own name

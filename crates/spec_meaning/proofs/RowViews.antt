@@ -73,9 +73,6 @@ first_label : (name : Name) (rows : List ExactRow) → position_or_len (λ r. sa
 first_label name [] = refl
 first_label name (r ∷ rows) = ap (λ n. cond (not (same r.name name)) (1 + n) 0) (first_label name rows)
 
-label : ExactRow → Kind × Name
-label r = (r.kind, r.name)
-
 pub many_labels : (rows : List ExactRow) → length (labels rows) ≡ length rows
 many_labels [] = refl
 many_labels (r ∷ rows) = ap suc (many_labels rows)
@@ -85,9 +82,6 @@ unfolding place_of
 place_by_view s name =
     λ i. cond (is_objective s.objective name) (Some (Kept Objective))
     (cond (list_any (same name) s.dropped) (Some Dropped) (row_at (cond (ltb (first_label name s.rows i) (sym (many_labels s.rows) i)) (Some (first_label name s.rows i)) None)))
-
-pub same_places : (s t : State) (name : Name) → row_view t ≡ row_view s → place_of t name ≡ place_of s name
-same_places s t name h = place_by_view t name ∙ ap (λ v. place_in v name) h ∙ sym (place_by_view s name)
 
 -- ---- the name of a target
 

@@ -78,9 +78,6 @@ row_push cards card s (Limited kind) e free k =
     })
 row_push cards card s Unlimited e free k = go (is_none s.objective) refl
   where
-    name : Name
-    name = text_at 2 card
-
     go : (b : Bool) → is_none s.objective ≡ b → RowsSay (cards ++ card ∷ []) (row_view (cond b (record s { objective = Some (text_at 2 card) }) (record s { dropped = s.dropped ++ text_at 2 card ∷ [] })))
     go true h =
         let none : s.objective ≡ None = none_if s.objective h in

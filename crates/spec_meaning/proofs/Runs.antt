@@ -115,9 +115,6 @@ whole_data c style here seen l lines h b =
       bounds = card seen.bounds section.Bounds c.bounds i;
     }
 
-begun_now : (part q : Section) (seen : Bool) (b : Bool) → is_section (Some part) q ≡ b → (b ≡ true → seen ≡ false) → is_section (Some part) q ≡ true → seen ≡ false
-begun_now part q seen b e f h = f (sym e ∙ h)
-
 -- none of what a section begins with has begun
 record IsNew (part : Section) (seen : Seen) : Type 0 where
   name : is_section (Some part) section.Name ≡ true → seen.name ≡ false

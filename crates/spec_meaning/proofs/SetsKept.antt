@@ -19,6 +19,7 @@ use Rattle.spec_mps.specs.Reader.{State, is_among}
 use Rattle.spec_mps.specs.Sides.{set_and_pairs, same_set, is_used}
 use Rattle.spec_meaning.specs.NumberCards.{is_same_set, texts_for, side_of, set_on, pairs_on, used_pairs}
 use Rattle.spec_meaning.proofs.SoFar.{is_section}
+use Rattle.spec_meaning.proofs.Order.{not_both}
 use Rattle.spec_meaning.proofs.RowViews.{row_view, place_in}
 use Rattle.spec_meaning.proofs.PairsKept.{texts_none, Tells}
 
@@ -149,20 +150,13 @@ pub record Says (V : Type 0) (value_of : State → Target → V) (IsNumber : Lis
   pub during : is_section s.part part ≡ true → IsDuring cards s
 
 module _ {V : Type 0} (value_of : State → Target → V) (IsNumber : List (List ℕ) → V → Type 0) (part : Section) (seen_of : Seen → Bool) (cards : List Fields) (s t : State) (k : Says V value_of IsNumber part seen_of cards s) where
-  not_here : {A : Type 0} → is_section t.part part ≡ false → is_section t.part part ≡ true → A
-  not_here h g = by (is_section t.part part) h g
-    where
-      by : {A : Type 0} (b : Bool) → b ≡ false → b ≡ true → A
-      by true h g = absurd (cc)
-      by false h g = absurd (cc)
-
   -- where neither the rows nor the values change
   pub says_same : seen_of t.seen ≡ seen_of s.seen → row_view t ≡ row_view s → ((x : Target) → value_of t x ≡ value_of s x) → is_section t.part part ≡ false → Says V value_of IsNumber part seen_of cards t
   says_same seen view value away =
       record {
         none = λ h. let n = k.none (sym seen ∙ h) in (n.0, λ x. subst (IsNumber []) (sym (value x)) (n.1 x));
         numbers = λ name x h. subst (IsNumber (texts_for name (used_pairs cards))) (sym (value x)) (k.numbers name x (ap (λ v. place_in v name) (sym view) ∙ h));
-        during = λ h. not_here away h;
+        during = λ h. not_both (is_section t.part part) h away;
       }
 
   -- before the section
@@ -172,7 +166,7 @@ module _ {V : Type 0} (value_of : State → Target → V) (IsNumber : List (List
       record {
         none = λ h. (n.0, value);
         numbers = λ name x h. subst (λ texts. IsNumber texts (value_of t x)) (sym (ap (λ c. texts_for name (used_pairs c)) n.0 ∙ ap (texts_for name) used_none ∙ texts_none name)) (value x);
-        during = λ h. not_here away h;
+        during = λ h. not_both (is_section t.part part) h away;
       }
 
   -- as it begins
@@ -181,31 +175,23 @@ module _ {V : Type 0} (value_of : State → Target → V) (IsNumber : List (List
       let n = k.none new in
       let nothing = λ (name : Name). ap (λ c. texts_for name (used_pairs c)) n.0 ∙ ap (texts_for name) used_none ∙ texts_none name in
       record {
-        none = λ h. by (seen_of t.seen) seen h;
+        none = λ h. not_both (seen_of t.seen) seen h;
         numbers = λ name x h. subst₂ IsNumber (sym (nothing name)) (sym (value x)) (n.1 x);
         during = λ h. record { set = set ∙ ap first_set (sym n.0); unpaired = λ name x g free. nothing name };
       }
-    where
-      by : {A : Type 0} (b : Bool) → b ≡ true → b ≡ false → A
-      by true h g = absurd (cc)
-      by false h g = absurd (cc)
 
   -- a card of the set that is used
   pub says_used : (card : Fields) → seen_of t.seen ≡ true → is_used (first_set cards) (set_on card) ≡ true → t.set ≡ Some (set_on card) → Tells V value_of IsNumber (row_view s) (used_pairs cards ++ pairs_on card) t → Says V value_of IsNumber part seen_of (cards ++ card ∷ []) t
   says_used card seen used set tells =
       let pairs : used_pairs (cards ++ card ∷ []) ≡ used_pairs cards ++ pairs_on card = used_push cards card ∙ ap (λ b. used_pairs cards ++ cond b (pairs_on card) []) used in
       record {
-        none = λ h. by (seen_of t.seen) seen h;
+        none = λ h. not_both (seen_of t.seen) seen h;
         numbers = λ name x h. subst (λ ps. IsNumber (texts_for name ps) (value_of t x)) (sym pairs) (tells.numbers name x (ap (λ v. place_in v name) (sym tells.view_is) ∙ h));
         during = λ h. record {
           set = set ∙ sym (first_used cards card used);
           unpaired = λ name x g free. ap (texts_for name) pairs ∙ tells.unpaired name x (ap (λ v. place_in v name) (sym tells.view_is) ∙ g) free;
         };
       }
-    where
-      by : {A : Type 0} (b : Bool) → b ≡ true → b ≡ false → A
-      by true h g = absurd (cc)
-      by false h g = absurd (cc)
 
 -- a card of another set
 pub says_skipped : {V : Type 0} (value_of : State → Target → V) (IsNumber : List (List ℕ) → V → Type 0) (part : Section) (seen_of : Seen → Bool) (cards : List Fields) (s : State) (card : Fields) → seen_of s.seen ≡ true → is_section s.part part ≡ true → is_used (first_set cards) (set_on card) ≡ false → Says V value_of IsNumber part seen_of cards s → Says V value_of IsNumber part seen_of (cards ++ card ∷ []) s
@@ -213,11 +199,7 @@ says_skipped {V} value_of IsNumber part seen_of cards s card seen here skipped k
     let pairs : used_pairs (cards ++ card ∷ []) ≡ used_pairs cards = used_push cards card ∙ ap (λ b. used_pairs cards ++ cond b (pairs_on card) []) skipped ∙ append-nil (used_pairs cards) in
     let d = k.during here in
     record {
-      none = λ h. by (seen_of s.seen) seen h;
+      none = λ h. not_both (seen_of s.seen) seen h;
       numbers = λ name x h. subst (λ ps. IsNumber (texts_for name ps) (value_of s x)) (sym pairs) (k.numbers name x h);
       during = λ h. record { set = d.set ∙ sym (first_skipped cards card skipped); unpaired = λ name x g free. ap (texts_for name) pairs ∙ d.unpaired name x g free };
     }
-  where
-    by : {A : Type 0} (b : Bool) → b ≡ true → b ≡ false → A
-    by true h g = absurd (cc)
-    by false h g = absurd (cc)
