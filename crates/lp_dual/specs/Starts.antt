@@ -5,6 +5,8 @@ use Rattle.spec_pivot.specs.declared.status.Status.{Status}
 use Rattle.spec_pivot.specs.declared.status.Status.TheVariants.{Basic}
 use Rattle.spec_simplex.specs.Tableau.{Tableau, all_columns, entry_at, basic_at, status_at, lower_at, upper_at}
 use Rattle.spec_simplex.specs.Step.{NamesBound, CanFlip}
+use Rattle.spec_simplex.specs.declared.ends.DualEnd.{DualEnd}
+use Rattle.spec_simplex.specs.declared.ends.DualEnd.TheVariants.{Optimal, Infeasible}
 use Rattle.spec_simplex.specs.declared.ends.DualChoice.{DualChoice}
 use Rattle.spec_simplex.specs.declared.ends.DualChoice.TheVariants.{End, Pivot}
 use Rattle.spec_simplex.specs.Fit.{needs_flip_at}
@@ -34,7 +36,12 @@ pub record CanEnter (t : Tableau) (p j : ℕ) (to : Status) : Type 0 where
   pub entry : entry_at t p j ≢ 0ℚ
   pub bound : (v : ℚ) × NamesBound to (lower_at t (basic_at t p)) (upper_at t (basic_at t p)) v
 
+-- the position of a column that cannot come back is one of the tableau's
+abbrev pub IsPlace : Tableau → DualEnd → Type 0
+IsPlace t Optimal = Unit {0}
+IsPlace t (Infeasible p below) = p < t.rows
+
 -- what a choice asks for may be done
 abbrev pub CanTake : Tableau → DualChoice → Type 0
-CanTake t (End end) = Unit {0}
+CanTake t (End end) = IsPlace t end
 CanTake t (Pivot p j to) = CanEnter t p j to

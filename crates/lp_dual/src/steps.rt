@@ -1,10 +1,10 @@
 // The flips, and then steps up to an end.
-ghost use Rattle.std.specs.Prelude.{◌≡◌, ◌-◌, Some};
+ghost use Rattle.std.specs.Prelude.{◌≡◌, ◌-◌, IfOk, Some};
 ghost use Rattle.spec_simplex.specs.Dual as dual;
 ghost use Rattle.spec_simplex.specs.Tableau.{or_zero as or_zero_of, stand as stand_of};
 ghost use Rattle.lp_frac.specs.Narrow.{largest};
 ghost use Rattle.lp_tableau.specs.Answer.{Gives};
-ghost use Rattle.lp_dual.specs.Starts.{IsDualStart, IsSeated, CanEnter};
+ghost use Rattle.lp_dual.specs.Starts.{IsDualStart, IsSeated, CanEnter, IsPlace};
 ghost use Rattle.lp_dual.specs.Answer.{DualRuns};
 
 use crate::choice::choice;
@@ -49,7 +49,8 @@ fn pivot(tab: &mut Tableau, place: u32, col: u32, to: Status) -> Result<(), Past
 // Steps up to an end.
 fn steps(tab: &mut Tableau, used: &mut u64, budget: u64) -> Result<DualEnd, Stop>
     requires { IsSeated tab.old }
-    ensures { DualRuns (dual.dual_from (Some largest) (budget - used.old) used.old tab.old) tab.new used.new result }
+    ensures runs { DualRuns (dual.dual_from (Some largest) (budget - used.old) used.old tab.old) tab.new used.new result }
+    ensures inside { IfOk result (IsPlace tab.new) }
 {
     loop {
         match choice(tab)? {
@@ -75,7 +76,8 @@ fn steps(tab: &mut Tableau, used: &mut u64, budget: u64) -> Result<DualEnd, Stop
 pub fn run(tab: &mut Tableau, used: &mut u64, budget: u64) -> Result<DualEnd, Stop>
     requires none_used { used.old ≡ 0 }
     requires ready { IsDualStart tab.old }
-    ensures { DualRuns (dual.dual_run (Some largest) budget tab.old) tab.new used.new result }
+    ensures runs { DualRuns (dual.dual_run (Some largest) budget tab.old) tab.new used.new result }
+    ensures inside { IfOk result (IsPlace tab.new) }
 {
     flips(tab, used, budget)?;
     steps(tab, used, budget)

@@ -1,6 +1,5 @@
 -- What the cold solve ends with is one of the ends that a solve may have.
-use Rattle.std.proofs.Common.{◌≡◌, ◌⊎◌, ℕ, List, Option, Some, None, Result, Ok, Err, inl, inr, sym, ◌∙◌, ap}
-use Rattle.std.specs.Prelude.{IfOk}
+use Rattle.std.proofs.Common.{◌≡◌, ◌⊎◌, ℕ, List, Option, Some, None, inl, inr, sym, ◌∙◌, ap}
 use Rattle.spec_exact.specs.Fraction.{ℚ}
 use Rattle.spec_exact.specs.declared.past.Past.{Past as Refused}
 use Rattle.spec_model.specs.Model.{Model}
@@ -11,6 +10,7 @@ use Rattle.spec_cold.specs.declared.outcome.Cold.TheVariants.{Ended, Past, Spent
 use Rattle.spec_cold.specs.Cold.{ColdEnd, cold}
 use Rattle.spec_cold.proofs.Solved.{ended_is_true}
 use Rattle.spec_cold.proofs.LimitPhases.{cold_same}
+use Rattle.spec_warm.specs.Solve.{SolveEnd, solve}
 use Rattle.spec_server.specs.Answers.{number_limit, IsSolved}
 use Rattle.lp_solve.specs.Fit.{IsFit}
 
@@ -33,6 +33,7 @@ end_is_solved m budget (Ended known c basis pivots) e fit = record {
 end_is_solved m budget (Past p) e fit = record { may_answer = sym e; how_fits = tt }
 end_is_solved m budget Spent e fit = record { may_answer = sym e; how_fits = tt }
 
-pub is_solved : {E : Type 0} (m : Model) (budget given : ℕ) (result : Result ColdEnd E) → given ≡ budget → IfOk result (λ solved. solved ≡ cold (Some number_limit) given m) → IfOk result (IsFit m) → IfOk result (IsSolved m budget)
-is_solved m budget given (Ok solved) same e fit = end_is_solved m budget solved (e ∙ ap (λ n. cold (Some number_limit) n m) same) fit
-is_solved m budget given (Err why) same e fit = tt
+-- with nothing handed
+pub is_solved : (m : Model) (budget given : ℕ) (s : SolveEnd) → given ≡ budget → s ≡ solve (Some number_limit) given m None → IsFit m s.end → IsSolved m budget s.end
+unfolding solve
+is_solved m budget given s same e fit = end_is_solved m budget s.end (ap (λ (s : SolveEnd). s.end) e ∙ ap (λ n. cold (Some number_limit) n m) same) fit

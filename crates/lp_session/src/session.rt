@@ -13,7 +13,7 @@ use lp_form::Basis;
 use lp_frac::{Frac, Fracs};
 use lp_line::{Ask, Refusal, Reply};
 use lp_model::Model;
-use lp_solve::Solved;
+use lp_solve::End;
 use mps_write::{WriteFault, fixed, free};
 use spec_mps::Style;
 use spec_server::{How, Plain, Publication};
@@ -194,12 +194,12 @@ fn refusal_of(fault: EditFault) -> Refusal
     }
 }
 
-fn pivots_of(solved: &Solved) -> Option<u64>
+fn pivots_of(solved: &End) -> Option<u64>
     ensures { result ≡ machine.pivots_of_solved solved.now }
 {
     match solved {
-        Solved::Ended { pivots, .. } => Some(*pivots),
-        Solved::Past(_) | Solved::Spent => None,
+        End::Ended { pivots, .. } => Some(*pivots),
+        End::Past(_) | End::Spent => None,
     }
 }
 

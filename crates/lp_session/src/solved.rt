@@ -7,35 +7,36 @@ use lp_base::Texts;
 use lp_check::cert_text;
 use lp_frac::Frac;
 use lp_model::Model;
-use lp_solve::{Solved, solve};
+use lp_solve::{End, solve};
 use spec_server::Answer;
 use std::alloc::{AllocError, Global};
 
 /// What a solve of a model ends with, within a budget of pivots and flips.
-pub fn solved_within(alloc: Global, model: &Model, budget: u32) -> Result<Solved, AllocError>
+pub fn solved_within(alloc: Global, model: &Model, budget: u32) -> Result<End, AllocError>
     ensures { IfOk result (λ solved. IsSolved model.now budget solved) }
 {
-    solve(alloc, model, u64::from(budget))
+    let solved = solve(alloc, model, u64::from(budget), None)?;
+    Ok(solved.end)
 }
 
 /// What is answered of a solve within a budget.
-pub fn answer_of(budget: u32, solved: &Solved) -> Answer<Frac>
+pub fn answer_of(budget: u32, solved: &End) -> Answer<Frac>
     ensures { result ≡ machine.answer_of budget solved.now }
 {
     match solved {
-        Solved::Ended { answer, .. } => Answer::Known(*answer),
-        Solved::Past(past) => Answer::Past(*past),
-        Solved::Spent => Answer::Spent(u64::from(budget)),
+        End::Ended { answer, .. } => Answer::Known(*answer),
+        End::Past(past) => Answer::Past(*past),
+        End::Spent => Answer::Spent(u64::from(budget)),
     }
 }
 
 /// The lines of the certificate of a solve. There are none where it knows nothing of the model.
-pub fn certificate_lines(alloc: Global, model: &Model, solved: &Solved) -> Result<Texts, AllocError>
+pub fn certificate_lines(alloc: Global, model: &Model, solved: &End) -> Result<Texts, AllocError>
     requires { (budget : ℕ) × MayAnswer model.now budget solved.now }
     ensures { IfOk result (λ lines. lines ≡ machine.lines_of_solved model.now solved.now) }
 {
     match solved {
-        Solved::Ended { certificate, .. } => cert_text(alloc, model, certificate),
-        Solved::Past(_) | Solved::Spent => Ok(Texts::new(alloc)),
+        End::Ended { certificate, .. } => cert_text(alloc, model, certificate),
+        End::Past(_) | End::Spent => Ok(Texts::new(alloc)),
     }
 }

@@ -1,3 +1,4 @@
 pub mod BothPhases
 pub mod Runs
 pub mod Solved
+pub mod WarmRuns

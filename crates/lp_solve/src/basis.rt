@@ -1,17 +1,17 @@
 // The bases of ends.
 ghost use Rattle.std.specs.Prelude.{◌≡◌, ◌<◌, ◌++◌, ◌∷◌, [], IfOk, OnOk};
 ghost use Rattle.spec_simplex.specs.Run.{made};
-ghost use Rattle.spec_simplex.specs.Tableau.{form_columns};
+ghost use Rattle.spec_simplex.specs.Tableau.{form_columns, is_basic as basic_of};
 ghost use Rattle.spec_cold.specs.Cold as told;
-ghost use Rattle.lp_solve.specs.Ends.{end_of};
+ghost use Rattle.spec_warm.specs.Warm as warmed;
 
-use crate::phases::Ended;
+use lp_dual::DualEnd;
 use lp_form::{Basis, Status};
 use lp_tableau::{PrimalEnd, Tableau};
 use std::alloc::{AllocError, Global};
 
 fn is_basic(status: Status) -> bool
-    ensures { result ≡ told.is_basic status }
+    ensures { result ≡ basic_of status }
 {
     match status {
         Status::Basic => true,
@@ -49,12 +49,30 @@ fn statuses(alloc: Global, tab: &Tableau) -> Result<Basis, AllocError>
     Ok(Basis::from_vec(statuses))
 }
 
-// The basis of what both phases ended with, which an optimal end has.
-pub(crate) fn basis(alloc: Global, ended: &Ended) -> Result<Option<Basis>, AllocError>
-    ensures { IfOk result (λ b. b ≡ told.basis_of (end_of ended.now)) }
+// The basis of an end by the primal method, which an optimal one has.
+pub(crate) fn basis_at(
+    alloc: Global,
+    tab: &Tableau,
+    end: PrimalEnd,
+) -> Result<Option<Basis>, AllocError>
+    ensures { IfOk result (λ b. b ≡ told.basis_at tab.now end) }
 {
-    match ended.end {
-        Some(PrimalEnd::Optimal) => Ok(Some(statuses(alloc, &ended.tab)?)),
-        None | Some(PrimalEnd::Unbounded { .. }) => Ok(None),
+    match end {
+        PrimalEnd::Optimal => Ok(Some(statuses(alloc, tab)?)),
+        PrimalEnd::Unbounded { .. } => Ok(None),
+    }
+}
+
+// The basis of an end by the dual method.
+pub(crate) fn dual_basis(
+    alloc: Global,
+    tab: &Tableau,
+    end: DualEnd,
+) -> Result<Option<Basis>, AllocError>
+    ensures { IfOk result (λ b. b ≡ warmed.dual_basis tab.now end) }
+{
+    match end {
+        DualEnd::Optimal => Ok(Some(statuses(alloc, tab)?)),
+        DualEnd::Infeasible { .. } => Ok(None),
     }
 }

@@ -1,14 +1,17 @@
 // The certificates of ends.
-ghost use Rattle.std.specs.Prelude.{◌≡◌, ◌<◌, [], ◌∷◌, ◌++◌, All, IfOk, OnOk};
+ghost use Rattle.std.specs.Prelude.{◌≡◌, ◌<◌, [], ◌∷◌, ◌++◌, All, IfOk, OnOk, Some};
 ghost use Rattle.spec_exact.specs.Narrow.{IsNarrow};
+ghost use Rattle.spec_check.specs.declared.certificate.Certificate.TheVariants as certificates;
 ghost use Rattle.spec_check.specs.Certificate.{IsNarrowCertificate};
 ghost use Rattle.spec_simplex.specs.Tableau.{all_columns};
 ghost use Rattle.spec_simplex.specs.Step.{directed as directed_of};
 ghost use Rattle.spec_cold.specs.Cold as told;
-ghost use Rattle.lp_solve.specs.Ends.{end_of, IsInside};
+ghost use Rattle.spec_warm.specs.Warm as warmed;
+ghost use Rattle.lp_dual.specs.Starts.{IsPlace};
+ghost use Rattle.lp_solve.specs.Ends.{IsInside};
 
-use crate::phases::Ended;
 use lp_check::Certificate;
+use lp_dual::DualEnd;
 use lp_frac::{Frac, Fracs, LARGEST, den, neg, num, one, zero};
 use lp_tableau::{PrimalEnd, Tableau};
 use std::alloc::{AllocError, Global};
@@ -82,24 +85,73 @@ fn direction(alloc: Global, tab: &Tableau, j: u32, up: bool) -> Result<Fracs, Al
     Ok(direction)
 }
 
-// The certificate of what both phases ended with.
-pub(crate) fn certificate(alloc: Global, ended: &Ended) -> Result<Certificate, AllocError>
-    requires { IsInside ended.now.tab ended.now.end }
-    ensures value { IfOk result (λ c. c ≡ told.certificate_of (end_of ended.now)) }
+// The entries of a position's row in the rows' logicals, or their negatives where its column is above its upper bound.
+fn row_multipliers(
+    alloc: Global,
+    tab: &Tableau,
+    place: u32,
+    below: bool,
+) -> Result<Fracs, AllocError>
+    requires { place < tab.now.rows }
+    ensures value { IfOk result (λ y. y ≡ warmed.row_multipliers tab.now place below) }
+    ensures narrow { IfOk result (All IsNarrow) }
+{
+    let mut multipliers = Fracs::new(alloc);
+    for i in 0..tab.rows() {
+        push(
+            &mut multipliers,
+            directed(below, tab.entry(place, tab.cols() + i)),
+        )?;
+    }
+    Ok(multipliers)
+}
+
+// The certificate that no point is feasible, by the reduced costs.
+pub(crate) fn infeasible(alloc: Global, tab: &Tableau) -> Result<Certificate, AllocError>
+    ensures value { IfOk result (λ c. c ≡ certificates.Infeasible (told.multipliers tab.now)) }
     ensures narrow { IfOk result IsNarrowCertificate }
 {
-    let tab = &ended.tab;
-    match ended.end {
-        None => Ok(Certificate::Infeasible {
-            y: multipliers(alloc, tab)?,
-        }),
-        Some(PrimalEnd::Optimal) => Ok(Certificate::Optimal {
+    Ok(Certificate::Infeasible {
+        y: multipliers(alloc, tab)?,
+    })
+}
+
+// The certificate of an end by the primal method.
+pub(crate) fn certificate_at(
+    alloc: Global,
+    tab: &Tableau,
+    end: PrimalEnd,
+) -> Result<Certificate, AllocError>
+    requires { IsInside tab.now (Some end) }
+    ensures value { IfOk result (λ c. c ≡ told.certificate_at tab.now end) }
+    ensures narrow { IfOk result IsNarrowCertificate }
+{
+    match end {
+        PrimalEnd::Optimal => Ok(Certificate::Optimal {
             x: point(alloc, tab)?,
             y: multipliers(alloc, tab)?,
         }),
-        Some(PrimalEnd::Unbounded { col, up }) => Ok(Certificate::Unbounded {
+        PrimalEnd::Unbounded { col, up } => Ok(Certificate::Unbounded {
             x: point(alloc, tab)?,
             r: direction(alloc, tab, col, up)?,
+        }),
+    }
+}
+
+// The certificate of an end by the dual method.
+pub(crate) fn dual_certificate(
+    alloc: Global,
+    tab: &Tableau,
+    end: DualEnd,
+) -> Result<Certificate, AllocError>
+    requires { IsPlace tab.now end }
+    ensures value { IfOk result (λ c. c ≡ warmed.dual_certificate tab.now end) }
+    ensures narrow { IfOk result IsNarrowCertificate }
+{
+    match end {
+        DualEnd::Optimal => certificate_at(alloc, tab, PrimalEnd::Optimal),
+        DualEnd::Infeasible { place, below } => Ok(Certificate::Infeasible {
+            y: row_multipliers(alloc, tab, place, below)?,
         }),
     }
 }

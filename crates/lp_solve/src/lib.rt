@@ -1,21 +1,29 @@
-//! The cold solve of a model.
+//! The solve of a model, cold or from a basis that is handed to it.
 //!
 //! `solve` gives the answer, the certificate that the checker accepted for it, the basis of an optimum and the count of
-//! pivots; or the first operation that is past 127 bits, or that the budget is spent; exactly as spec_cold's `cold` has it.
+//! pivots; or the first operation that is past 127 bits, or that the budget is spent; and how it came to that; exactly as
+//! spec_warm's `solve` has it. A basis never costs an answer: where the start from it stops, the cold solve has the whole
+//! budget.
 //!
 //! | Word | What it is | Where |
 //! |---|---|---|
-//! | `Solved` | how a cold solve ends | src/cold |
+//! | `solve`, `Solved` | the solve of a model, and how it ends | src/solving |
+//! | `End`, `from_form` | what a solve ends with, and the cold solve from a form | src/cold |
+//! | `from_basis` | the warm start from a basis | src/warm |
+//! | `Ended` | how both phases of a cold solve ended | src/phases |
+//! | `certificate_at`, `basis_at` | the certificate and the basis of an end | src/certificate, src/basis |
 //! | `IsFit` | what holds of the certificate of an answer | specs/Fit |
-//! | `Ended` | how both phases ended | src/phases |
-//! | `certificate`, `basis` | the certificate and the basis of that end | src/certificate, src/basis |
 #![tactic(auto)]
 
 mod basis;
 mod certificate;
 mod cold;
 mod phases;
+mod solving;
 #[cfg(test)]
 mod tests;
+mod warm;
 
-pub use cold::{Solved, solve};
+pub use cold::End;
+pub use solving::{Solved, solve};
+pub use spec_warm::{Fall, Route};

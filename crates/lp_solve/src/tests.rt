@@ -90,10 +90,10 @@ fn read(rt: &impl Abort, alloc: Global, text: &[&[u8]]) -> Result<Model, Fail> {
 
 // The answer, if the budget is enough for one.
 fn answer(alloc: Global, model: &Model, budget: u64) -> Result<Option<Known>, AllocError> {
-    let solved = solve(alloc, model, budget)?;
-    match &solved {
-        Solved::Ended { answer, .. } => Ok(Some(*answer)),
-        Solved::Past(_) | Solved::Spent => Ok(None),
+    let solved = solve(alloc, model, budget, None)?;
+    match &solved.end {
+        End::Ended { answer, .. } => Ok(Some(*answer)),
+        End::Past(_) | End::Spent => Ok(None),
     }
 }
 

@@ -15,6 +15,6 @@ pub mod EndRefuted
 pub mod Members
 pub mod Bases
 pub mod Warmed
-pub mod Solved
+pub mod TrueEnds
 pub mod LimitSteps
 pub mod LimitWarm

@@ -29,7 +29,7 @@ use Rattle.spec_simplex.specs.declared.ends.WarmStop.{WarmStop}
 use Rattle.spec_simplex.specs.declared.ends.WarmStop.TheVariants as fall
 use Rattle.spec_warm.specs.Warm.{stopped_as, start_stop, run_stop, WarmEnd, ByPrimal, ByDual, run_by, warm_run, WarmResult, warm_certificate, warm_basis, warm_pivots, checked, answered, after_run, after_form, warm, IsBasisFor}
 use Rattle.spec_warm.proofs.LimitSteps.{from_agrees, fit_agrees, dual_agrees}
-use Rattle.spec_warm.proofs.Solved.{run_accepted}
+use Rattle.spec_warm.proofs.TrueEnds.{run_accepted}
 
 -- ---- stops of one kind as those of another
 module _ {D E : Type 0} (kind : D → E) (first : Past ℚ → D) (second : Past ℚ → E) (same : (p : Past ℚ) → kind (first p) ≡ second p) (back : (d : D) (p : Past ℚ) → kind d ≡ second p → d ≡ first p) where

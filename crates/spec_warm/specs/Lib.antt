@@ -1,2 +1,3 @@
 pub mod Based
 pub mod Warm
+pub mod Solve

@@ -1,6 +1,7 @@
-// How a warm start ends, over the types F of numbers, L of lists of numbers and B of bases.
+// How a warm start and a solve end, over the types F of numbers, L of lists of numbers and B of bases.
 
 use spec_check::{Certificate, Known};
+use spec_cold::Cold;
 use spec_simplex::WarmStop;
 use std::fmt::Debug;
 
@@ -16,4 +17,35 @@ pub enum Warm<F: Debug, L, B> {
         pivots: u64,
     },
     Stopped(WarmStop<F>),
+}
+
+/// Why a solve gave a warm start up.
+#[derive(Clone, Copy, Debug, PartialEq, Eq)]
+pub enum Fall {
+    /// The basis has no tableau.
+    Singular,
+    /// Its tableau is fit for neither method.
+    Unfit,
+    /// An operation was past the limit.
+    Past,
+    /// The budget was spent.
+    Spent,
+}
+
+/// From where a solve found what it ended with.
+#[derive(Clone, Copy, Debug, PartialEq, Eq)]
+pub enum Route {
+    /// From the start that each model has: no basis was handed.
+    Cold,
+    /// From the basis that was handed.
+    Warm,
+    /// From the start that each model has, with the whole budget again, since the warm start stopped.
+    Fell(Fall),
+}
+
+/// How a solve ends, of which a basis may be handed.
+#[derive(Drop)]
+pub struct Solved<F: Debug, L, B> {
+    pub end: Cold<F, L, B>,
+    pub route: Route,
 }

@@ -4,6 +4,8 @@
 //! |---|---|---|
 //! | `Warm` | how a warm start ends | src/ends |
 //! | `warm_run`, `warm_certificate`, `warm` | the run from a basis; its certificate; the whole, with the check | specs/Warm |
+//! | `Solved`, `Route`, `Fall` | how a solve ends, from where it found that, and why it gave a warm start up | src/ends |
+//! | `solve` | the solve of a model, of which a basis may be handed | specs/Solve |
 //! | `IsBased`, `IsReady`, `BeginsFrom` | what holds of the tableau of a basis, before and after the flips | specs/Based |
 //! | `IsDependent` | a basic column depends on those before it | specs/Based |
 //! | `IsStuck`, `IsDualStep`, `IsDualMeant` | what a choice of the dual method means for a tableau | specs/Based |
@@ -48,7 +50,7 @@ ghost use Rattle.spec_simplex.specs.Dual.{Reached, passed_bound, flips_run, dual
 ghost use Rattle.spec_warm.specs.Based.{IsBased, IsReady, BeginsFrom, IsDependent, IsDualStep, IsDualMeant};
 ghost use Rattle.spec_warm.specs.Warm.{WarmEnd, warm_run, warm_certificate, warm_basis, warm, IsBasisFor};
 
-pub use ends::Warm;
+pub use ends::{Fall, Route, Solved, Warm};
 
 /// The tableau of a basis is one of the form's equations, costs and bounds.
 pub fn bases_begin_tableaus()

@@ -1,4 +1,4 @@
-use Rattle.spec_warm.proofs.Solved.{run_left, phases_left}
+use Rattle.spec_warm.proofs.TrueEnds.{run_left, phases_left}
 use Rattle.spec_warm.proofs.ends_leave_bases.Goals as goal
 
 pub returns : goal.returns

@@ -1,4 +1,4 @@
-use Rattle.spec_warm.proofs.Solved.{run_accepted}
+use Rattle.spec_warm.proofs.TrueEnds.{run_accepted}
 use Rattle.spec_warm.proofs.warm_ends_are_accepted.Goals as goal
 
 pub returns : goal.returns

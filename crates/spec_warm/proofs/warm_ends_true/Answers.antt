@@ -1,4 +1,4 @@
-use Rattle.spec_warm.proofs.Solved.{ended_is_true, stopped_is_stopped}
+use Rattle.spec_warm.proofs.TrueEnds.{ended_is_true, stopped_is_stopped}
 use Rattle.spec_warm.proofs.warm_ends_true.Goals as goal
 
 pub returns : goal.returns

@@ -7,19 +7,22 @@ use Rattle.lp_dual.proofs.Seats.{pivot_seated}
 use Rattle.lp_dual.proofs.Walk.{run_refused, run_ends, run_spent, step_refused, step_done}
 use Rattle.lp_dual.proofs.steps.steps.Goals as goal
 
-pub returns-in_err-end : goal.returns-in_err-end
-returns-in_err-end c =
+pub returns-in_err-end-clause-runs : goal.returns-in_err-end-clause-runs
+returns-in_err-end-clause-runs c =
     let p = err_from_is_err_and c.from_residual.result c.from_residual.ensures.1 in
     rw (p.1, p.2) (c.loop-end.invariant.0 ∙ run_refused (Some largest) _ _ _ _ (sym c.in_err-end.ensures.value))
 
-pub returns-in-End : goal.returns-in-End
-returns-in-End c = c.loop-end.invariant.0 ∙ run_ends (Some largest) _ _ _ _ (sym c.in_ok-end.ensures.value ∙ ap Ok c.in-End.is)
+pub returns-in-End-clause-runs : goal.returns-in-End-clause-runs
+returns-in-End-clause-runs c = c.loop-end.invariant.0 ∙ run_ends (Some largest) _ _ _ _ (sym c.in_ok-end.ensures.value ∙ ap Ok c.in-End.is)
 
-pub returns-then-used-budget : goal.returns-then-used-budget
-returns-then-used-budget c = c.loop-end.invariant.0 ∙ run_spent (Some largest) _ _ _ _ _ _ (sym c.in_ok-end.ensures.value ∙ ap Ok c.in-Pivot.is) (omega (arith, c.if-used-budget.true))
+pub returns-in-End-clause-inside : goal.returns-in-End-clause-inside
+returns-in-End-clause-inside c = subst (CanTake c.loop-end.tab) c.in-End.is c.in_ok-end.ensures.possible
 
-pub returns-in_err-pivot-in-Pivot : goal.returns-in_err-pivot-in-Pivot
-returns-in_err-pivot-in-Pivot c =
+pub returns-then-used-budget-clause-runs : goal.returns-then-used-budget-clause-runs
+returns-then-used-budget-clause-runs c = c.loop-end.invariant.0 ∙ run_spent (Some largest) _ _ _ _ _ _ (sym c.in_ok-end.ensures.value ∙ ap Ok c.in-Pivot.is) (omega (arith, c.if-used-budget.true))
+
+pub returns-in_err-pivot-in-Pivot-clause-runs : goal.returns-in_err-pivot-in-Pivot-clause-runs
+returns-in_err-pivot-in-Pivot-clause-runs c =
     let p = err_from_is_err_and c.from_residual-in_err-pivot-in-Pivot.result c.from_residual-in_err-pivot-in-Pivot.ensures.1 in
     rw (p.1, p.2) (c.loop-end.invariant.0 ∙ step_refused (Some largest) _ _ _ _ _ _ (sym c.in_ok-end.ensures.value ∙ ap Ok c.in-Pivot.is) c.if-used-budget.false _ c.in_err-pivot-in-Pivot.ensures)
 

@@ -1,0 +1,135 @@
+-- The warm start part by part, from the tableau of a basis.
+use Rattle.std.proofs.Common.{◌≡◌, ℕ, ◌+◌, ◌≤◌, List, length, Option, Some, None, IfSome, option_map, Result, Ok, Err, refl, ap, sym, subst, ◌∙◌, arith}
+use Rattle.spec_exact.specs.Fraction.{ℚ}
+use Rattle.spec_exact.specs.declared.past.Past.{Past}
+use Rattle.spec_model.specs.Model.{Model}
+use Rattle.spec_check.specs.declared.certificate.Certificate.{Certificate}
+use Rattle.spec_check.specs.declared.certificate.Known.{Known}
+use Rattle.spec_check.specs.Certificate.{IsFor}
+use Rattle.spec_pivot.specs.declared.status.Status.{Status}
+use Rattle.spec_simplex.specs.declared.ends.Fit.{Fit}
+use Rattle.spec_simplex.specs.declared.ends.Fit.TheVariants as fit
+use Rattle.spec_simplex.specs.declared.ends.FormFault.{FormFault}
+use Rattle.spec_simplex.specs.declared.ends.StartStop.{StartStop}
+use Rattle.spec_simplex.specs.declared.ends.StartStop.TheVariants as begun
+use Rattle.spec_simplex.specs.declared.ends.Stop.{Stop}
+use Rattle.spec_simplex.specs.declared.ends.WarmStop.{WarmStop}
+use Rattle.spec_simplex.specs.declared.ends.WarmStop.TheVariants as fall
+use Rattle.spec_simplex.specs.Run.{◌>>=◌, refused_as}
+use Rattle.spec_simplex.specs.Form.{Form, form_of}
+use Rattle.spec_simplex.specs.Tableau.{Tableau}
+use Rattle.spec_simplex.specs.Phases.{Ended, run_from}
+use Rattle.spec_simplex.specs.Eliminate.{start_from}
+use Rattle.spec_simplex.specs.Fit.{fit_run}
+use Rattle.spec_simplex.specs.Dual.{DualEnded, dual_run}
+use Rattle.spec_cold.specs.declared.outcome.Cold.TheVariants as cold
+use Rattle.spec_cold.specs.Accepted.{IsAccepted}
+use Rattle.spec_cold.specs.Cold as colds
+use Rattle.spec_cold.proofs.Formed.{form_is, cost_length}
+use Rattle.spec_cold.proofs.Solved.{form_proper}
+use Rattle.spec_warm.specs.declared.ends.Route.TheVariants as route
+use Rattle.spec_warm.specs.declared.ends.Warm.TheVariants as warm
+use Rattle.spec_warm.specs.Based.{BeginsFrom}
+use Rattle.spec_warm.specs.Warm.{WarmResult, ByPrimal, ByDual, stopped_as, start_stop, run_stop, run_by, warm_run, warm_certificate, dual_certificate, after_form, warm as warm_start}
+use Rattle.spec_warm.specs.Solve.{SolveEnd, HasBasis, fall_of, solved_by, solve}
+use Rattle.spec_warm.proofs.Started.{start_begins_from}
+use Rattle.spec_warm.proofs.TrueEnds.{run_accepted}
+use Rattle.lp_frac.specs.Narrow.{largest}
+use Rattle.lp_tableau.specs.Based.{StopsAt}
+use Rattle.lp_tableau.specs.declared.ends.BasisStop.{BasisStop}
+use Rattle.lp_tableau.specs.declared.ends.BasisStop.TheVariants as stop
+use Rattle.lp_dual.specs.Starts.{IsDualStart}
+use Rattle.lp_dual.proofs.Fitted.{can_start}
+use Rattle.lp_solve.specs.Begun.{IsBegun}
+use Rattle.lp_solve.proofs.Solved.{cold_is}
+
+-- ---- stops as the code has them
+pub is_singular : {A : Type 0} (run : Result A (StartStop ℚ)) (s : BasisStop) → s ≡ stop.Singular → StopsAt run s → run ≡ Err begun.Singular
+is_singular run s e h = subst (StopsAt run) e h
+
+pub is_past : {A : Type 0} (run : Result A (StartStop ℚ)) (s : BasisStop) (p : Past ℚ) → s ≡ stop.Past p → StopsAt run s → run ≡ Err (begun.Past p)
+is_past run s p e h = subst (StopsAt run) e h
+
+module _ (limit : Option ℕ) (budget : ℕ) where
+  -- ---- each method
+  pub primal_stops : (t : Tableau) (s : Stop ℚ) → run_from limit budget 0 t ≡ Err s → run_by limit budget t fit.Primal ≡ Err (run_stop s)
+  primal_stops t s h = ap (λ o. stopped_as run_stop o >>= λ e. Ok (ByPrimal e)) h
+
+  pub primal_ends : (t : Tableau) (e : Ended) → run_from limit budget 0 t ≡ Ok e → run_by limit budget t fit.Primal ≡ Ok (ByPrimal e)
+  primal_ends t e h = ap (λ o. stopped_as run_stop o >>= λ e. Ok (ByPrimal e)) h
+
+  pub dual_stops : (t : Tableau) (s : Stop ℚ) → dual_run limit budget t ≡ Err s → run_by limit budget t fit.Dual ≡ Err (run_stop s)
+  dual_stops t s h = ap (λ o. stopped_as run_stop o >>= λ e. Ok (ByDual e)) h
+
+  pub dual_ends : (t : Tableau) (e : DualEnded) → dual_run limit budget t ≡ Ok e → run_by limit budget t fit.Dual ≡ Ok (ByDual e)
+  dual_ends t e h = ap (λ o. stopped_as run_stop o >>= λ e. Ok (ByDual e)) h
+
+  -- ---- the run
+  pub start_stops : (f : Form) (basis : List Status) (s : StartStop ℚ) → start_from limit f basis ≡ Err s → warm_run limit budget f basis ≡ Err (start_stop s)
+  unfolding warm_run
+  start_stops f basis s h = ap (λ o. stopped_as start_stop o >>= λ t. refused_as fall.Past (fit_run limit t) >>= λ fit. run_by limit budget t fit) h
+
+  module _ (f : Form) (basis : List Status) (t : Tableau) (starts : start_from limit f basis ≡ Ok t) where
+    from_start : warm_run limit budget f basis ≡ (refused_as fall.Past (fit_run limit t) >>= λ fit. run_by limit budget t fit)
+    unfolding warm_run
+    from_start = ap (λ o. stopped_as start_stop o >>= λ t. refused_as fall.Past (fit_run limit t) >>= λ fit. run_by limit budget t fit) starts
+
+    pub fit_refused : (p : Past ℚ) → fit_run limit t ≡ Err p → warm_run limit budget f basis ≡ Err (fall.Past p)
+    fit_refused p h = from_start ∙ ap (λ o. refused_as fall.Past o >>= λ fit. run_by limit budget t fit) h
+
+    pub runs_by : (kind : Fit) → fit_run limit t ≡ Ok kind → warm_run limit budget f basis ≡ run_by limit budget t kind
+    runs_by kind h = from_start ∙ ap (λ o. refused_as fall.Past o >>= λ fit. run_by limit budget t fit) h
+
+  -- ---- the whole
+  module _ (m : Model) (f : Form) (basis : List Status) (formed : form_of limit m ≡ Ok f) where
+    warm_is : after_form limit budget m basis (Ok f) ≡ warm_start limit budget m basis
+    unfolding warm_start
+    warm_is = ap (after_form limit budget m basis) (sym formed)
+
+    pub ends_warm : (answer : Known ℚ) (c : Certificate (List ℚ)) (left : Option (List Status)) (pivots : ℕ) (w : WarmResult) → w ≡ warm.Ended answer c left pivots → w ≡ after_form limit budget m basis (Ok f)
+        → ◌≡◌ {A = SolveEnd} (record { end = cold.Ended answer c left pivots; route = route.Warm }) (solve limit budget m (Some basis))
+    unfolding solve
+    ends_warm answer c left pivots w e h = ap (solved_by (colds.cold limit budget m)) (sym e ∙ h ∙ warm_is)
+
+    pub falls : (s : WarmStop ℚ) (w : WarmResult) (end : colds.ColdEnd) → w ≡ warm.Stopped s → w ≡ after_form limit budget m basis (Ok f) → end ≡ colds.after_form limit budget m (Ok f)
+        → ◌≡◌ {A = SolveEnd} (record { end = end; route = route.Fell (fall_of s) }) (solve limit budget m (Some basis))
+    unfolding solve
+    falls s w end e h g =
+        ap (λ (end : colds.ColdEnd). solved_by end (warm.Stopped s)) (g ∙ cold_is limit budget m (Ok f) formed)
+        ∙ ap (solved_by (colds.cold limit budget m)) (sym e ∙ h ∙ warm_is)
+
+-- ---- where nothing is handed
+pub nothing_handed : {B : Type 0} (limit : Option ℕ) (m : Model) (view : B → List Status) (handed : Option B) (why : FormFault ℚ) → form_of limit m ≡ Err why
+    → IfSome handed (λ basis. HasBasis limit m (view basis)) → handed ≡ None
+nothing_handed limit m view None why h fits = refl
+nothing_handed limit m view (Some basis) why h fits = let z : ◌≡◌ {A = Result Form (FormFault ℚ)} (Ok fits.0) (Err why) = sym fits.1 ∙ h in cc
+
+pub solves_cold : {B : Type 0} (limit : Option ℕ) (budget : ℕ) (m : Model) (view : B → List Status) (handed : Option B) (end : colds.ColdEnd) → handed ≡ None → end ≡ colds.cold limit budget m
+    → ◌≡◌ {A = SolveEnd} (record { end = end; route = route.Cold }) (solve limit budget m (option_map view handed))
+unfolding solve
+solves_cold limit budget m view handed end e h =
+    subst (λ handed. ◌≡◌ {A = SolveEnd} (record { end = end; route = route.Cold }) (solve limit budget m (option_map view handed))) (sym e)
+    (ap (λ (end : colds.ColdEnd). record { end = end; route = route.Cold }) h)
+
+-- ---- what is known of the tableau of a basis
+form_costs : (limit : Option ℕ) (m : Model) (f : Form) → form_of limit m ≡ Ok f → length f.cost ≤ f.cols + f.rows + f.rows
+form_costs limit m f e = let o = form_is limit m f e in subst (λ (f : Form). length f.cost ≤ f.cols + f.rows + f.rows) o.2 (omega (arith, cost_length m o.0 o.1))
+
+module _ (m : Model) (t : Tableau) (kind : Fit) (k : IsBegun m t kind) where
+  pub can_run : kind ≡ fit.Dual → IsDualStart t
+  can_run e =
+      let s : BeginsFrom k.form t = start_begins_from (Some largest) k.form k.basis t (form_proper (Some largest) m k.form k.formed) k.fits (form_costs (Some largest) m k.form k.formed) k.starts in
+      can_start (Some largest) _ _ _ _ _ t s.based (k.fit ∙ ap Ok e)
+
+  runs : (budget : ℕ) → warm_run (Some largest) budget k.form k.basis ≡ run_by (Some largest) budget t kind
+  runs budget = runs_by (Some largest) budget k.form k.basis t k.starts kind k.fit
+
+pub primal_fits : (budget : ℕ) (m : Model) (t : Tableau) (e : Ended) → IsBegun m t fit.Primal → run_from (Some largest) budget 0 t ≡ Ok e → IsFor m (colds.certificate_at e.tableau e.end)
+primal_fits budget m t e k h =
+    let a : IsAccepted (Some largest) m (warm_certificate (ByPrimal e)) = run_accepted (Some largest) budget m k.form k.basis (ByPrimal e) k.formed k.fits (runs m t fit.Primal k budget ∙ primal_ends (Some largest) budget t e h) in
+    a.fits
+
+pub dual_fits : (budget : ℕ) (m : Model) (t : Tableau) (e : DualEnded) → IsBegun m t fit.Dual → dual_run (Some largest) budget t ≡ Ok e → IsFor m (dual_certificate e.tableau e.end)
+dual_fits budget m t e k h =
+    let a : IsAccepted (Some largest) m (warm_certificate (ByDual e)) = run_accepted (Some largest) budget m k.form k.basis (ByDual e) k.formed k.fits (runs m t fit.Dual k budget ∙ dual_ends (Some largest) budget t e h) in
+    a.fits

@@ -1,0 +1,104 @@
+// The solve of a model, of which a basis may be handed.
+ghost use Rattle.std.specs.Prelude.{◌≡◌, IfOk, IfSome, Ok, Some, option_map};
+ghost use Rattle.spec_simplex.specs.Eliminate.{IsBasisOf};
+ghost use Rattle.spec_simplex.specs.Form.{form_of};
+ghost use Rattle.spec_warm.specs.declared.ends.Route.TheVariants as route;
+ghost use Rattle.spec_warm.specs.Solve as told;
+ghost use Rattle.lp_frac.specs.Narrow.{largest};
+ghost use Rattle.lp_solve.specs.Fit.{IsFit};
+
+use crate::cold::{End, answered, from_form};
+use crate::warm::{Warm, from_basis};
+use lp_check::Certificate;
+use lp_form::{Basis, Form};
+use lp_frac::{Frac, Fracs};
+use lp_model::Model;
+use lp_standard::{FormStop, form};
+use spec_warm::{Fall, Route};
+use std::alloc::{AllocError, Global};
+
+type WarmStop = spec_simplex::WarmStop<Frac>;
+
+/// How a solve ends.
+pub type Solved = spec_warm::Solved<Frac, Fracs, Basis>;
+
+// Why the warm start was given up.
+fn fall(stop: WarmStop) -> Fall
+    ensures { result ≡ told.fall_of stop }
+{
+    match stop {
+        WarmStop::Singular => Fall::Singular,
+        WarmStop::Unfit => Fall::Unfit,
+        WarmStop::Past(_) => Fall::Past,
+        WarmStop::Spent => Fall::Spent,
+    }
+}
+
+// From the basis, and where that stops cold.
+fn warm_first(
+    alloc: Global,
+    budget: u64,
+    model: &Model,
+    form: &Form,
+    basis: &Basis,
+) -> Result<Solved, AllocError>
+    requires formed { form_of (Some largest) model.now ≡ Ok form.now }
+    requires fits { IsBasisOf form.now basis.now }
+    ensures answer { IfOk result (λ s. s ≡ told.solve (Some largest) budget model.now (Some basis.now)) }
+    ensures narrow { IfOk result (λ s. IsFit model.now s.end) }
+{
+    match from_basis(alloc, budget, model, form, basis)? {
+        Warm::Ended {
+            answer,
+            certificate,
+            basis,
+            pivots,
+        } => Ok(Solved {
+            end: End::Ended {
+                answer,
+                certificate,
+                basis,
+                pivots,
+            },
+            route: Route::Warm,
+        }),
+        Warm::Stopped(stop) => Ok(Solved {
+            end: from_form(alloc, budget, model, form)?,
+            route: Route::Fell(fall(stop)),
+        }),
+    }
+}
+
+// From the start that each model has.
+fn cold(end: End) -> Solved
+    ensures { result ≡ record { end = end; route = route.Cold } }
+{
+    Solved {
+        end,
+        route: Route::Cold,
+    }
+}
+
+/// Solves the model within a budget of pivots and flips, and has the certificate of the end checked: from the basis that
+/// is handed to it, if one is, by the method that this is fit for; and where nothing is handed, or the start from the
+/// basis stops, from the start that each model has, with the whole budget.
+pub fn solve(
+    alloc: Global,
+    model: &Model,
+    budget: u64,
+    handed: Option<&Basis>,
+) -> Result<Solved, AllocError>
+    requires { IfSome handed (λ basis. told.HasBasis (Some largest) model.now basis.now) }
+    ensures answer { IfOk result (λ s. s ≡ told.solve (Some largest) budget model.now (option_map (λ basis. basis.now) handed.entry)) }
+    ensures narrow { IfOk result (λ s. IsFit model.now s.end) }
+{
+    match form(alloc, model) {
+        Ok(form) => match handed {
+            Some(basis) => warm_first(alloc, budget, model, &form, basis),
+            None => Ok(cold(from_form(alloc, budget, model, &form)?)),
+        },
+        Err(FormStop::Clash(j)) => Ok(cold(answered(model, Certificate::Clash(j), None, 0))),
+        Err(FormStop::Past(past)) => Ok(cold(End::Past(past))),
+        Err(FormStop::NoMemory) => Err(AllocError),
+    }
+}

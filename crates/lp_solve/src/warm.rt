@@ -1,0 +1,120 @@
+// The warm start of a model from a basis of its form.
+ghost use Rattle.std.specs.Prelude.{◌≡◌, IfOk, Ok, Some};
+ghost use Rattle.spec_check.specs.Certificate.{IsFor, IsNarrowCertificate};
+ghost use Rattle.spec_simplex.specs.declared.ends.Fit.TheVariants as fitted;
+ghost use Rattle.spec_simplex.specs.Eliminate.{IsBasisOf};
+ghost use Rattle.spec_simplex.specs.Form.{form_of};
+ghost use Rattle.spec_warm.specs.Warm as told;
+ghost use Rattle.lp_frac.specs.Narrow.{largest};
+ghost use Rattle.lp_solve.specs.Begun.{IsBegun};
+ghost use Rattle.lp_solve.specs.Fit.{IsWarmFit};
+
+use crate::basis::{basis_at, dual_basis};
+use crate::certificate::{certificate_at, dual_certificate};
+use lp_check::{Certificate, Verdict, check};
+use lp_dual::{Fit, fit};
+use lp_form::{Basis, Form};
+use lp_frac::{Frac, Fracs};
+use lp_model::Model;
+use lp_tableau::{BasisStop, Stop, Tableau, start_from};
+use std::alloc::{AllocError, Global};
+
+type WarmStop = spec_simplex::WarmStop<Frac>;
+
+/// How a warm start ends.
+pub(crate) type Warm = spec_warm::Warm<Frac, Fracs, Basis>;
+
+// A stop of the run as one of the warm start.
+fn run_stop(stop: Stop) -> WarmStop
+    ensures { result ≡ told.run_stop stop }
+{
+    match stop {
+        Stop::Past(past) => WarmStop::Past(past),
+        Stop::Spent => WarmStop::Spent,
+    }
+}
+
+// The certificate with what the checker says of it. It never says no.
+fn answered(model: &Model, certificate: Certificate, basis: Option<Basis>, pivots: u64) -> Warm
+    requires fits { IsFor model.now certificate }
+    requires narrow { IsNarrowCertificate certificate }
+    ensures answer { result ≡ told.answered (Some largest) model.now certificate basis pivots }
+    ensures narrow { IsWarmFit model.now result }
+{
+    match check(model, &certificate) {
+        Verdict::Yes(answer) => Warm::Ended {
+            answer,
+            certificate,
+            basis,
+            pivots,
+        },
+        Verdict::Past(past) => Warm::Stopped(WarmStop::Past(past)),
+        Verdict::No(_) => Warm::Stopped(WarmStop::Spent),
+    }
+}
+
+// The primal method from a tableau that is fit for it.
+fn by_primal(
+    alloc: Global,
+    budget: u64,
+    model: &Model,
+    mut tab: Tableau,
+) -> Result<Warm, AllocError>
+    requires { IsBegun model.now tab fitted.Primal }
+    ensures answer { IfOk result (λ w. w ≡ told.after_run (Some largest) model.now (told.run_by (Some largest) budget tab fitted.Primal)) }
+    ensures narrow { IfOk result (IsWarmFit model.now) }
+{
+    let mut used = 0;
+    match lp_primal::run(&mut tab, &mut used, budget) {
+        Ok(end) => {
+            let certificate = certificate_at(alloc, &tab, end)?;
+            let basis = basis_at(alloc, &tab, end)?;
+            Ok(answered(model, certificate, basis, used))
+        }
+        Err(stop) => Ok(Warm::Stopped(run_stop(stop))),
+    }
+}
+
+// The dual method from a tableau that is fit for it.
+fn by_dual(alloc: Global, budget: u64, model: &Model, mut tab: Tableau) -> Result<Warm, AllocError>
+    requires { IsBegun model.now tab fitted.Dual }
+    ensures answer { IfOk result (λ w. w ≡ told.after_run (Some largest) model.now (told.run_by (Some largest) budget tab fitted.Dual)) }
+    ensures narrow { IfOk result (IsWarmFit model.now) }
+{
+    let mut used = 0;
+    match lp_dual::run(&mut tab, &mut used, budget) {
+        Ok(end) => {
+            let certificate = dual_certificate(alloc, &tab, end)?;
+            let basis = dual_basis(alloc, &tab, end)?;
+            Ok(answered(model, certificate, basis, used))
+        }
+        Err(stop) => Ok(Warm::Stopped(run_stop(stop))),
+    }
+}
+
+/// The tableau of the basis, the method that it is fit for, and the check of the certificate that this ended with.
+pub(crate) fn from_basis(
+    alloc: Global,
+    budget: u64,
+    model: &Model,
+    form: &Form,
+    basis: &Basis,
+) -> Result<Warm, AllocError>
+    requires formed { form_of (Some largest) model.now ≡ Ok form.now }
+    requires fits { IsBasisOf form.now basis.now }
+    ensures answer { IfOk result (λ w. w ≡ told.after_form (Some largest) budget model.now basis.now (Ok form.now)) }
+    ensures narrow { IfOk result (IsWarmFit model.now) }
+{
+    let tab = match start_from(alloc, form, basis) {
+        Ok(tab) => tab,
+        Err(BasisStop::Singular) => return Ok(Warm::Stopped(WarmStop::Singular)),
+        Err(BasisStop::Past(past)) => return Ok(Warm::Stopped(WarmStop::Past(past))),
+        Err(BasisStop::NoMemory) => return Err(AllocError),
+    };
+    match fit(&tab) {
+        Ok(Fit::Primal) => by_primal(alloc, budget, model, tab),
+        Ok(Fit::Dual) => by_dual(alloc, budget, model, tab),
+        Ok(Fit::Unfit) => Ok(Warm::Stopped(WarmStop::Unfit)),
+        Err(past) => Ok(Warm::Stopped(WarmStop::Past(past))),
+    }
+}
