@@ -21,7 +21,8 @@ use Rattle.lp_base.specs.declared.lines.LineStop.TheVariants as stop
 use Rattle.lp_line.specs.declared.taking.Taken.{Taken}
 use Rattle.lp_line.specs.declared.taking.Taken.TheVariants as taken
 use Rattle.lp_line.specs.Advance.{Advances}
-use Rattle.lp_line.specs.Takes.{AreGiven, TakesAsk, TakesNone, TakesPart, TakesNext, EndsAs}
+use Rattle.lp_line.specs.Hearing.{AreGiven, TakesPart}
+use Rattle.lp_line.specs.Takes.{TakesAsk, TakesNone, TakesNext, EndsAs}
 
 abbrev pub Begun : Type 0
 Begun = Pending (List (Line (List ℕ)))

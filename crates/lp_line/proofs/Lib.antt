@@ -2,6 +2,8 @@
 pub mod Fed
 pub mod FedCertificate
 pub mod AskTurns
+pub mod HearTurns
+pub mod StageLines
 pub mod EditWordLemmas
 pub mod SmallBounds
 pub mod Stops

@@ -1,5 +1,5 @@
 -- What `take` reads of a script.
-use Rattle.std.specs.Prelude.{ℕ, ◌≡◌, ◌≢◌, ◌≤◌, ◌<◌, ◌^◌, ◌⊎◌, List, [], ◌∷◌, ◌++◌, All, Option, Result, Ok, Err}
+use Rattle.std.specs.Prelude.{ℕ, ◌≡◌, ◌≤◌, ◌<◌, ◌^◌, List, [], ◌∷◌, ◌++◌, Option, Result, Ok, Err}
 use Rattle.spec_text.specs.declared.line.Line.{Line}
 use Rattle.spec_text.specs.declared.line.Line.TheVariants as line
 use Rattle.spec_server.specs.declared.asks.Asked.{Asked}
@@ -11,12 +11,9 @@ use Rattle.lp_base.specs.LinesState.{LinesState}
 use Rattle.lp_base.specs.Taking.{ReadsLines, ReadsUntil}
 use Rattle.lp_base.specs.declared.lines.LineStop.{LineStop}
 use Rattle.lp_base.specs.declared.lines.LineStop.TheVariants as stop
+use Rattle.lp_line.specs.Hearing.{AreGiven, TakesPart}
 use Rattle.lp_line.specs.declared.taking.Taken.{Taken}
 use Rattle.lp_line.specs.declared.taking.Taken.TheVariants as taken
-
--- lines that were given, none of which stands for the end of an input
-abbrev pub AreGiven : List (Line (List ℕ)) → Type 0
-AreGiven lines = All (λ next. (next ≢ line.End) × (next ≢ line.Over)) lines
 
 -- these lines were read, and the last of them completes this ask, the only one
 pub record TakesAsk (before after : Option (List ℕ)) (old new : LinesState) (asked : Asked ExactAsk) : Type 0 where
@@ -42,11 +39,6 @@ pub record TakesNone (before after : Option (List ℕ)) (old : LinesState) (resu
 pub record TakesEnd (before after : Option (List ℕ)) (old : LinesState) (ending : Ending) : Type 0 where
   pub none : TakesNone before after old (Ok line.End)
   pub ends : ending_by (pending_after Between none.passed) ≡ ending
-
--- memory was wanting behind these lines, or for what the last of them completes
-pub record TakesPart (before after : Option (List ℕ)) (old new : LinesState) : Type 0 where
-  pub passed : List (Line (List ℕ))
-  pub reads : ReadsLines before after old new passed ⊎ ReadsUntil before after old passed (Err stop.NoMemory)
 
 abbrev pub TakesNext : Option (List ℕ) → Option (List ℕ) → LinesState → LinesState → Result Taken LineStop → Type 0
 TakesNext before after old new (Ok (taken.Ask asked)) = TakesAsk before after old new asked

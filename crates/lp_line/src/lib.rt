@@ -2,6 +2,8 @@
 //!
 //! Ask Asked Reply  what sessions are asked and reply, with the types of the code: src/asks
 //! read Command     what a line between two commands is: src/command, and the edits: src/edits
+//! hear Stage Heard  reads lines up to the one at which something is said, as texts and certificates are: src/hearing,
+//!                  src/stages, specs/Hearing
 //! take Taken       reads the lines of the next ask: src/taking, specs/Takes
 //! print            writes a session's reply: src/printing
 //! print_said       writes a reply without a session: src/printing
@@ -14,9 +16,11 @@ mod body;
 mod command;
 mod edits;
 mod ends;
+mod hearing;
 mod printing;
 mod reader;
 mod refusals;
+mod stages;
 mod taking;
 #[cfg(test)]
 mod tests;
@@ -25,6 +29,8 @@ mod words;
 
 pub use asks::{Answer, Ask, Asked, Command, Plain, Refusal, Reply};
 pub use command::read;
+pub use hearing::{Heard, Stage, Step, hear};
 pub use printing::{print, print_lines, print_said};
 pub use spec_server::{How, LineFault, Publication};
+pub use stages::{CertificateSaid, TextSaid};
 pub use taking::{Taken, take};

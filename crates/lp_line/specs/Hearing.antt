@@ -1,0 +1,72 @@
+-- Lines that are taken one by one, up to the one at which something is said.
+use Rattle.std.specs.Prelude.{ℕ, ◌≢◌, ◌≤◌, ◌<◌, ◌+◌, ◌^◌, ◌⊎◌, List, [], ◌∷◌, ◌++◌, All, Option, Some, None, Result, Ok, Err}
+use Rattle.spec_text.specs.declared.line.Line.{Line}
+use Rattle.spec_text.specs.declared.line.Line.TheVariants as line
+use Rattle.lp_base.specs.LinesState.{LinesState}
+use Rattle.lp_base.specs.Taking.{ReadsLines, ReadsUntil}
+use Rattle.lp_base.specs.declared.lines.LineStop.{LineStop}
+use Rattle.lp_base.specs.declared.lines.LineStop.TheVariants as stop
+use Rattle.lp_line.specs.declared.hearing.Step.{Step}
+use Rattle.lp_line.specs.declared.hearing.Step.TheVariants as step
+use Rattle.lp_line.specs.declared.hearing.Heard.{Heard}
+use Rattle.lp_line.specs.declared.hearing.Heard.TheVariants as heard
+
+-- ---- one line
+
+-- The next stage is one line further, and behind the line lines say what they say behind the next stage. No stage follows the end of
+-- the input.
+pub record LeadsOn {T R : Type 0} (Say : T → List (Line (List ℕ)) → Option R → Type 0) (count : T → ℕ) (stage : T) (here : Line (List ℕ)) (next : T) : Type 0 where
+  pub behind : (more : List (Line (List ℕ))) (answer : Option R) → Say next more answer → Say stage (here ∷ more) answer
+  pub counts : count next ≤ count stage + 1
+  pub no_end : here ≢ line.End
+
+-- a line leads to the next stage, or something is said at it, whatever follows
+abbrev pub Leads : {T R : Type 0} → (T → List (Line (List ℕ)) → Option R → Type 0) → (T → ℕ) → T → Line (List ℕ) →
+    Step T R → Type 0
+Leads Say count stage here (step.On next) = LeadsOn Say count stage here next
+Leads Say count stage here (step.Says what) = (more : List (Line (List ℕ))) → Say stage (here ∷ more) (Some what)
+
+-- ---- many lines
+
+-- a line that was given does not stand for the end of an input
+abbrev pub IsGiven : Line (List ℕ) → Type 0
+IsGiven next = (next ≢ line.End) × (next ≢ line.Over)
+
+abbrev pub AreGiven : List (Line (List ℕ)) → Type 0
+AreGiven lines = All IsGiven lines
+
+-- these lines were read, and the last of them is the first at which something is said
+pub record HearsAt {R : Type 0} (Say : List (Line (List ℕ)) → Option R → Type 0) (before after : Option (List ℕ)) (old new : LinesState) (what : R) : Type 0 where
+  pub earlier : List (Line (List ℕ))
+  pub last : Line (List ℕ)
+  pub reads : ReadsLines before after old new (earlier ++ last ∷ [])
+  pub given : AreGiven earlier
+  pub last_given : IsGiven last
+  pub silent : Say earlier None
+  pub says : (more : List (Line (List ℕ))) → Say (earlier ++ last ∷ more) (Some what)
+  pub grows : old.given < new.given
+  pub bound : new.given ≤ 2 ^ 26
+
+-- these lines were read, which say nothing, and then this came
+pub record HearsUntil {R : Type 0} (Say : List (Line (List ℕ)) → Option R → Type 0) (before after : Option (List ℕ)) (old : LinesState) (result : Result (Line (List ℕ)) LineStop) : Type 0 where
+  pub passed : List (Line (List ℕ))
+  pub reads : ReadsUntil before after old passed result
+  pub given : AreGiven passed
+  pub silent : Say passed None
+
+-- the input ended behind them, and this is said at its end
+pub record HearsAtEnd {R : Type 0} (Say : List (Line (List ℕ)) → Option R → Type 0) (before after : Option (List ℕ)) (old : LinesState) (what : R) : Type 0 where
+  pub until : HearsUntil Say before after old (Ok line.End)
+  pub says : Say (until.passed ++ line.End ∷ []) (Some what)
+
+-- memory was wanting behind these lines, or for what the last of them leads to
+pub record TakesPart (before after : Option (List ℕ)) (old new : LinesState) : Type 0 where
+  pub passed : List (Line (List ℕ))
+  pub reads : ReadsLines before after old new passed ⊎ ReadsUntil before after old passed (Err stop.NoMemory)
+
+abbrev pub HearsNext : {R : Type 0} → (List (Line (List ℕ)) → Option R → Type 0) → Option (List ℕ) → Option (List ℕ) →
+    LinesState → LinesState → Result (Heard R) LineStop → Type 0
+HearsNext Say before after old new (Ok (heard.Says what)) = HearsAt Say before after old new what ⊎ HearsAtEnd Say before after old what
+HearsNext Say before after old new (Ok heard.Over) = HearsUntil Say before after old (Ok line.Over)
+HearsNext Say before after old new (Err stop.Read) = HearsUntil Say before after old (Err stop.Read)
+HearsNext Say before after old new (Err stop.NoMemory) = TakesPart before after old new

@@ -1,0 +1,30 @@
+-- What the lines of a text and of a certificate say.
+use Rattle.std.specs.Prelude.{ℕ, ◌≡◌, ◌+◌, Option, Some, Result, Ok, Err, List}
+use Rattle.spec_text.specs.declared.line.Line.{Line}
+use Rattle.spec_check.specs.declared.progress.Progress.TheVariants as progress
+use Rattle.spec_check.specs.Text as certificate
+use Rattle.spec_server.specs.Said.{Step, On, Says, said_by}
+use Rattle.spec_server.specs.SolveOut.{TextSaid, text_step}
+use Rattle.mps_read.specs.Reading as text
+use Rattle.lp_check.specs.Reading.{Reading}
+
+-- behind a reader of a text
+abbrev pub TextSays : text.Reading → List (Line (List ℕ)) → Option TextSaid → Type 0
+TextSays reader lines answer = said_by (text_step reader.style) (record { state = reader.state; lines = reader.lines }) lines ≡ answer
+
+-- the certificate that a text spells, or the first line that does not fit
+abbrev pub CertificateSaid : Type 0
+CertificateSaid = Result certificate.ExactRaw ℕ
+
+-- where line n leads
+abbrev pub behind_line : ℕ → certificate.Outcome → Step Reading CertificateSaid
+behind_line n (progress.More raw) = On (record { raw = Some raw; lines = n })
+behind_line n (progress.Done raw) = Says (Ok raw)
+behind_line n progress.Unfit = Says (Err n)
+
+unfoldable pub certificate_step : Reading → Line (List ℕ) → Step Reading CertificateSaid
+certificate_step reader line = behind_line (reader.lines + 1) (certificate.step reader.raw line)
+
+-- behind a reader of a certificate
+abbrev pub CertificateSays : Reading → List (Line (List ℕ)) → Option CertificateSaid → Type 0
+CertificateSays reader lines answer = said_by certificate_step reader lines ≡ answer

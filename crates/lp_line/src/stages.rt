@@ -1,0 +1,62 @@
+// The readers of texts and of certificates, as stages.
+ghost use Rattle.std.specs.Prelude.{refl};
+
+use crate::hearing::{Stage, Step};
+use lp_base::Line;
+use lp_check::{CertFeed, CertReader, RawCertificate};
+use lp_model::Model;
+use mps_read::{Feed, Reader};
+use spec_mps::MpsFault;
+use std::alloc::{AllocError, Global};
+
+/// The model that a text spells, or its first wrong line and the fault.
+pub type TextSaid = Result<Model, MpsFault>;
+
+/// The certificate that a text spells, or the number of the first line that does not fit.
+pub type CertificateSaid = Result<RawCertificate, u32>;
+
+impl Stage for Reader {
+    type Said = TextSaid;
+
+    ghost use Rattle.lp_line.specs.Stages.{TextSays};
+
+    ghost says = { TextSays };
+
+    ghost count = { λ reader. reader.lines };
+
+    ghost silent = { λ _. refl };
+
+    fn advance(mut self, alloc: Global, line: &Line) -> Result<Step<Reader, TextSaid>, AllocError> {
+        match self.feed(alloc, line) {
+            Feed::More => Ok(Step::On(self)),
+            Feed::Done(model) => Ok(Step::Says(Ok(model))),
+            Feed::Refused(fault) => Ok(Step::Says(Err(fault))),
+            Feed::NoMemory => Err(AllocError),
+        }
+    }
+}
+
+impl Stage for CertReader {
+    type Said = CertificateSaid;
+
+    ghost use Rattle.lp_line.specs.Stages.{CertificateSays};
+
+    ghost says = { CertificateSays };
+
+    ghost count = { λ reader. reader.lines };
+
+    ghost silent = { λ _. refl };
+
+    fn advance(
+        mut self,
+        alloc: Global,
+        line: &Line,
+    ) -> Result<Step<CertReader, CertificateSaid>, AllocError> {
+        match self.feed(alloc, line) {
+            CertFeed::More => Ok(Step::On(self)),
+            CertFeed::Done(raw) => Ok(Step::Says(Ok(raw))),
+            CertFeed::Refused(unfit) => Ok(Step::Says(Err(unfit))),
+            CertFeed::NoMemory => Err(AllocError),
+        }
+    }
+}
