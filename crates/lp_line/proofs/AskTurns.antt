@@ -1,140 +1,240 @@
--- The lines up to the one that completes an ask.
-use Rattle.std.proofs.Common.{◌≡◌, ◌≢◌, ℕ, ◌≤◌, ◌<◌, ◌^◌, List, [], ◌∷◌, ◌++◌, length, Option, Some, None, Result, Ok, Err, Bool, true, false, cond, arith, ap, sym, ◌∙◌, append-nil, length-append, refl, inl, inr, ⊎_elim, subst}
-use Rattle.std.specs.Option.{option_to_list}
-use Rattle.std.proofs.lemmas.List.Elements.{All-nil, All-push}
+-- The asks that lines complete, by what they say.
+use Rattle.std.proofs.Common.{◌≡◌, ◌≢◌, ℕ, ◌≤◌, ◌<◌, ◌^◌, List, [], ◌∷◌, ◌++◌, Option, Some, None, Result, Ok, Err, Bool, true, false, cond, ap, sym, ◌∙◌, append-nil, refl, inl, inr, subst}
+use Rattle.std.proofs.lemmas.List.Elements.{All-head, All-tail, All-push}
 use Rattle.spec_text.specs.declared.line.Line.{Line}
 use Rattle.spec_text.specs.declared.line.Line.TheVariants as line
+use Rattle.spec_edit.specs.Edited.{ExactEdit}
+use Rattle.spec_server.specs.declared.addressing.Addressed.{Addressed}
+use Rattle.spec_server.specs.declared.addressing.Addressing.{Addressing}
 use Rattle.spec_server.specs.declared.asks.Asked.{Asked}
 use Rattle.spec_server.specs.declared.command.Command.TheVariants as command
-use Rattle.spec_server.specs.declared.pending.Pending.{Pending}
-use Rattle.spec_server.specs.declared.pending.Pending.TheVariants.{Between, Text, Certificate}
+use Rattle.spec_server.specs.Addressing.{addressed_in}
+use Rattle.spec_server.specs.Command.{ExactCommand}
 use Rattle.spec_server.specs.Machine.{ExactAsk}
-use Rattle.spec_server.specs.Command.{ExactCommand, command_of}
-use Rattle.spec_server.specs.Script.{ending_by, begun, asks_of_command, asks_of_line, pending_after_line, asks_from, pending_after, ends_text, ends_certificate}
+use Rattle.spec_server.specs.Said.{Step, On, Says, follow, said_by}
+use Rattle.spec_server.specs.Script.{Pending, Between, Text, Certificate, Ending, Ended, Cut, Over, ending_by, ends_text, ends_certificate}
+use Rattle.spec_server.specs.Script.{begun, begun_by, asks_of_command, asks_by, asks_of_line, pending_after_line, asks_from, pending_after}
 use Rattle.spec_server.proofs.ScriptLemmas.{asks_from-append, pending_after-append, asked_session}
 use Rattle.lp_base.specs.LinesState.{LinesState}
-use Rattle.lp_base.specs.NextLine.{GivesNext}
-use Rattle.lp_base.specs.Taking.{ReadsLines}
-use Rattle.lp_base.proofs.TakingLemmas.{reads_none, reads_line, reads_until, given_line}
 use Rattle.lp_base.specs.declared.lines.LineStop.{LineStop}
 use Rattle.lp_base.specs.declared.lines.LineStop.TheVariants as stop
+use Rattle.lp_line.specs.declared.hearing.Heard.{Heard}
+use Rattle.lp_line.specs.declared.hearing.Heard.TheVariants as heard
+use Rattle.lp_line.specs.declared.script.ScriptStage.TheVariants as stage
 use Rattle.lp_line.specs.declared.taking.Taken.{Taken}
 use Rattle.lp_line.specs.declared.taking.Taken.TheVariants as taken
-use Rattle.lp_line.specs.Advance.{Advances}
-use Rattle.lp_line.specs.Hearing.{AreGiven, TakesPart}
-use Rattle.lp_line.specs.Takes.{TakesAsk, TakesNone, TakesNext, EndsAs}
+use Rattle.lp_line.specs.Hearing.{IsGiven, AreGiven, HearsAt, HearsUntil, HearsAtEnd, HearsNext}
+use Rattle.lp_line.specs.Script.{taken_at, behind_asks, script_step, ScriptSays}
+use Rattle.lp_line.specs.Takes.{TakesNone, TakesNext, TakesMore}
+use Rattle.lp_line.proofs.ScriptTurns.{behind_step}
 
-abbrev pub Begun : Type 0
-Begun = Pending (List (Line (List ℕ)))
+abbrev Asks : Type 0
+Asks = List (Asked ExactAsk)
 
--- ---- an ask leaves nothing begun
+-- ---- a line completes one ask at most, which leaves nothing begun
 
-command_done : (c : ExactCommand) (asked : Asked ExactAsk) → asks_of_command c ≡ asked ∷ [] → begun c ≡ Between
-command_done command.Skip asked e = absurd (let h = e in cc)
-command_done (command.Load session form) asked e = absurd (let h = e in cc)
-command_done (command.Check session) asked e = absurd (let h = e in cc)
-command_done (command.Plain session plain) asked e = refl
-command_done (command.Bad session fault) asked e = refl
+one_alone : (a b : Asked ExactAsk) (rest : Asks) → ◌≡◌ {A = Asks} (a ∷ []) (b ∷ rest) → rest ≡ []
+one_alone a b rest e = sym (tail e)
+  where
+    tail : ◌≡◌ {A = Asks} (a ∷ []) (b ∷ rest) → ◌≡◌ {A = Asks} [] rest
+    tail e = cc
 
-body_done : (ends : Bool) (completed asked : Asked ExactAsk) (more : Begun) → ◌≡◌ {A = List (Asked ExactAsk)} (cond ends (completed ∷ []) []) (asked ∷ []) → ◌≡◌ {A = Begun} (cond ends Between more) Between
-body_done true completed asked more e = refl
-body_done false completed asked more e = absurd (let h = e in cc)
+none_some : {P : Type 0} (b : Asked ExactAsk) (rest : Asks) → ◌≡◌ {A = Asks} [] (b ∷ rest) → P
+none_some {P} b rest e = absurd (differ e)
+  where
+    differ : ◌≡◌ {A = Asks} [] (b ∷ rest) → ⊥
+    differ e = cc
 
-line_done : (pending : Begun) (next : Line (List ℕ)) (asked : Asked ExactAsk) → asks_of_line pending next ≡ asked ∷ [] → pending_after_line pending next ≡ Between
-line_done Between next asked e = command_done (command_of next) asked e
-line_done (Text session form body) next asked e = body_done (ends_text next) _ asked _ e
-line_done (Certificate session body) next asked e = body_done (ends_certificate next) _ asked _ e
+record IsDone (rest : Asks) (after : Pending) : Type 0 where
+  alone : rest ≡ []
+  between : after ≡ Between
 
--- ---- turns of the loop
+command_done : (session : ℕ) (c : ExactCommand) (asked : Asked ExactAsk) (rest : Asks) →
+    asks_of_command session c ≡ asked ∷ rest → IsDone rest (begun session c)
+command_done session (command.Load form) asked rest e = none_some asked rest e
+command_done session command.Check asked rest e = none_some asked rest e
+command_done session (command.Plain plain) asked rest e = record { alone = one_alone _ asked rest e; between = refl }
+command_done session (command.Bad fault) asked rest e = record { alone = one_alone _ asked rest e; between = refl }
 
--- these lines were read, which complete no ask
-pub record Turn (before now : Option (List ℕ)) (old reading : LinesState) (pending : Begun) : Type 0 where
-  pub passed : List (Line (List ℕ))
-  pub reads : ReadsLines before now old reading passed
-  pub given : AreGiven passed
-  pub asks : asks_from Between passed ≡ []
-  pub pends : pending ≡ pending_after Between passed
+addressed_done : (found : Option (Addressed ExactEdit)) (asked : Asked ExactAsk) (rest : Asks) →
+    asks_by found ≡ asked ∷ rest → IsDone rest (begun_by found)
+addressed_done None asked rest e = none_some asked rest e
+addressed_done (Some addressed) asked rest e = command_done addressed.session addressed.command asked rest e
 
-pub begins : (left : Option (List ℕ)) (reading : LinesState) (pending : Begun) → pending ≡ Between → Turn left left reading reading pending
-begins left reading pending is = record { passed = []; reads = reads_none left reading; given = All-nil _; asks = refl; pends = is }
+body_done : (ends : Bool) (completed asked : Asked ExactAsk) (rest : Asks) (more : Pending) →
+    ◌≡◌ {A = Asks} (cond ends (completed ∷ []) []) (asked ∷ rest) → IsDone rest (cond ends Between more)
+body_done true completed asked rest more e = record { alone = one_alone completed asked rest e; between = refl }
+body_done false completed asked rest more e = none_some asked rest e
 
-one_more : (passed : List (Line (List ℕ))) (next : Line (List ℕ)) → AreGiven passed → next ≢ line.End → next ≢ line.Over → AreGiven (passed ++ next ∷ [])
-one_more passed next given no_end no_over = let now : (next ≢ line.End) × (next ≢ line.Over) = (no_end, no_over) in All-push (λ (l : Line (List ℕ)). (l ≢ line.End) × (l ≢ line.Over)) passed next given now
+line_done : (addressing : Addressing) (pending : Pending) (next : Line (List ℕ)) (asked : Asked ExactAsk) (rest : Asks) →
+    asks_of_line addressing pending next ≡ asked ∷ rest → IsDone rest (pending_after_line addressing pending next)
+line_done addressing Between next asked rest e = addressed_done (addressed_in addressing next) asked rest e
+line_done addressing (Text session form body) next asked rest e = body_done (ends_text next) _ asked rest _ e
+line_done addressing (Certificate session body) next asked rest e = body_done (ends_certificate next) _ asked rest _ e
 
--- the asks of the lines with one more
-asks_more : {before now : Option (List ℕ)} {old reading : LinesState} {pending : Begun} (t : Turn before now old reading pending) (next : Line (List ℕ)) → asks_from Between (t.passed ++ next ∷ []) ≡ asks_of_line pending next
-asks_more {pending = pending} t next =
-    asks_from-append Between t.passed (next ∷ [])
-    ∙ ap (λ zs. zs ++ (asks_of_line (pending_after Between t.passed) next ++ [])) t.asks
-    ∙ append-nil (asks_of_line (pending_after Between t.passed) next)
-    ∙ ap (λ (p : Begun). asks_of_line p next) (sym t.pends)
+-- ---- what lines say
 
-pending_more : {before now : Option (List ℕ)} {old reading : LinesState} {pending : Begun} (t : Turn before now old reading pending) (next : Line (List ℕ)) → pending_after Between (t.passed ++ next ∷ []) ≡ pending_after_line pending next
-pending_more t next = pending_after-append Between t.passed (next ∷ []) ∙ ap (λ (p : Begun). pending_after_line p next) (sym t.pends)
+unsaid : {R P : Type 0} (what : R) → ◌≡◌ {A = Option R} (Some what) None → P
+unsaid {R} what e = absurd (differ e)
+  where
+    differ : ◌≡◌ {A = Option R} (Some what) None → ⊥
+    differ e = cc
 
-module _ {before now : Option (List ℕ)} (after : Option (List ℕ)) {old reading : LinesState} {pending : Begun} (t : Turn before now old reading pending) (new : LinesState) where
-  -- a line came that completes no ask
-  pub goes_on : (next : Line (List ℕ)) → GivesNext now after reading new (Ok next) → next ≢ line.End → next ≢ line.Over → (new_pending : Begun) (answer : Option (Asked ExactAsk)) → Advances pending next (new_pending, answer) → answer ≡ None → Turn before after old new new_pending
-  goes_on next g no_end no_over new_pending answer a is = record {
-    passed = t.passed ++ next ∷ [];
-    reads = reads_line next t.reads g no_end no_over;
-    given = one_more t.passed next t.given no_end no_over;
-    asks = asks_more t next ∙ sym a.asked ∙ ap option_to_list is;
-    pends = a.pending ∙ sym (pending_more t next);
+same_said : {R : Type 0} (a b : R) → ◌≡◌ {A = Option R} (Some a) (Some b) → a ≡ b
+same_said a b e = cc
+
+-- lines that say nothing complete no ask
+record SayNothing (addressing : Addressing) (pending : Pending) (lines : List (Line (List ℕ))) : Type 0 where
+  no_asks : asks_from addressing pending lines ≡ []
+  behind : (more : List (Line (List ℕ))) →
+      said_by (script_step addressing) pending (lines ++ more) ≡ said_by (script_step addressing) (pending_after addressing pending lines) more
+
+silent_lines : (addressing : Addressing) (pending : Pending) (lines : List (Line (List ℕ))) → AreGiven lines →
+    said_by (script_step addressing) pending lines ≡ None → SayNothing addressing pending lines
+silent_lines addressing pending [] given e = record { no_asks = refl; behind = λ more. refl }
+silent_lines addressing pending (here ∷ lines) given e =
+    by (asks_of_line addressing pending here) refl (silent_lines addressing (pending_after_line addressing pending here) lines (All-tail (λ (l : Line (List ℕ)). IsGiven l) here lines given))
+  where
+    no_end : here ≢ line.End
+    no_end = (All-head (λ (l : Line (List ℕ)). IsGiven l) here lines given).0
+    by : (asks : Asks) → asks_of_line addressing pending here ≡ asks
+        → (said_by (script_step addressing) (pending_after_line addressing pending here) lines ≡ None → SayNothing addressing (pending_after_line addressing pending here) lines)
+        → SayNothing addressing pending (here ∷ lines)
+    by [] is rest =
+        let later = rest (sym (behind_step addressing pending here lines [] no_end is) ∙ e) in
+        record {
+          no_asks = ap (λ (zs : Asks). zs ++ asks_from addressing (pending_after_line addressing pending here) lines) is ∙ later.no_asks;
+          behind = λ more. behind_step addressing pending here (lines ++ more) [] no_end is ∙ later.behind more;
+        }
+    by (asked ∷ asks) is rest = unsaid (taken.Ask asked) (sym (behind_step addressing pending here lines (asked ∷ asks) no_end is) ∙ e)
+
+-- what one line says is an ask
+record SaysAsk (addressing : Addressing) (pending : Pending) (here : Line (List ℕ)) (what : Taken) : Type 0 where
+  asked : Asked ExactAsk
+  is_said : what ≡ taken.Ask asked
+  asks : asks_of_line addressing pending here ≡ asked ∷ []
+  between : pending_after_line addressing pending here ≡ Between
+
+says_ask : (addressing : Addressing) (pending : Pending) (here : Line (List ℕ)) (what : Taken) → here ≢ line.End →
+    said_by (script_step addressing) pending (here ∷ []) ≡ Some what → SaysAsk addressing pending here what
+says_ask addressing pending here what no_end e = by (asks_of_line addressing pending here) refl
+  where
+    by : (asks : Asks) → asks_of_line addressing pending here ≡ asks → SaysAsk addressing pending here what
+    by [] is = unsaid what (sym e ∙ behind_step addressing pending here [] [] no_end is)
+    by (asked ∷ rest) is =
+        let done = line_done addressing pending here asked rest is in
+        record {
+          asked = asked;
+          is_said = same_said what (taken.Ask asked) (sym e ∙ behind_step addressing pending here [] (asked ∷ rest) no_end is);
+          asks = is ∙ ap (λ (zs : Asks). asked ∷ zs) done.alone;
+          between = done.between;
+        }
+
+at_end : (addressing : Addressing) (pending : Pending) →
+    said_by (script_step addressing) pending (line.End ∷ []) ≡ Some (taken_at (ending_by pending))
+unfolding script_step
+at_end addressing pending = refl
+
+-- ---- what was taken
+
+abbrev Say : Addressing → List (Line (List ℕ)) → Option Taken → Type 0
+Say addressing lines answer = ScriptSays (stage.Between addressing) lines answer
+
+module _ (addressing : Addressing) (before after : Option (List ℕ)) (old new : LinesState) where
+  -- the last line completes an ask
+  takes_ask : (what : Taken) → HearsAt (Say addressing) before after old new what →
+      TakesNext addressing before after old new (Ok what)
+  takes_ask what h =
+      let s = silent_lines addressing Between h.earlier h.given (h.silent addressing Between refl) in
+      let pending : Pending = pending_after addressing Between h.earlier in
+      let a = says_ask addressing pending h.last what h.last_given.0 (sym (s.behind (h.last ∷ [])) ∙ h.says [] addressing Between refl) in
+      subst (λ (w : Taken). TakesNext addressing before after old new (Ok w)) (sym a.is_said)
+      (record {
+        passed = h.earlier ++ h.last ∷ [];
+        reads = h.reads;
+        given = All-push (λ (l : Line (List ℕ)). IsGiven l) h.earlier h.last h.given h.last_given;
+        asks = asks_from-append addressing Between h.earlier (h.last ∷ [])
+            ∙ ap (λ (zs : Asks). zs ++ (asks_of_line addressing pending h.last ++ [])) s.no_asks
+            ∙ append-nil (asks_of_line addressing pending h.last)
+            ∙ a.asks;
+        earlier = h.earlier;
+        last = h.last;
+        ends = refl;
+        none_earlier = s.no_asks;
+        between = pending_after-append addressing Between h.earlier (h.last ∷ []) ∙ a.between;
+        numbered = asked_session addressing h.earlier h.last a.asked a.asks;
+      })
+
+  none : (result : Result (Line (List ℕ)) LineStop) → HearsUntil (Say addressing) before after old result →
+      TakesNone addressing before after old result
+  none result h = record {
+    passed = h.passed;
+    reads = h.reads;
+    given = h.given;
+    asks = (silent_lines addressing Between h.passed h.given (h.silent addressing Between refl)).no_asks;
   }
 
-  -- a line came that completes this ask
-  pub completes : (next : Line (List ℕ)) → GivesNext now after reading new (Ok next) → next ≢ line.End → next ≢ line.Over → (new_pending : Begun) (answer : Option (Asked ExactAsk)) (asked : Asked ExactAsk) → Advances pending next (new_pending, answer) → answer ≡ Some asked → TakesAsk before after old new asked
-  completes next g no_end no_over new_pending answer asked a is =
-      let done : asks_of_line pending next ≡ asked ∷ [] = sym a.asked ∙ ap option_to_list is in
-      record {
-        passed = t.passed ++ next ∷ [];
-        reads = reads_line next t.reads g no_end no_over;
-        given = one_more t.passed next t.given no_end no_over;
-        asks = asks_more t next ∙ done;
-        earlier = t.passed;
-        last = next;
-        ends = refl;
-        none_earlier = t.asks;
-        between = pending_more t next ∙ line_done pending next asked done;
-        numbered = asked_session t.passed next asked (ap (λ (p : Begun). asks_of_line p next) (sym t.pends) ∙ done);
-      }
-
-  -- memory was wanting for what a line completes
-  pub wants : (next : Line (List ℕ)) → GivesNext now after reading new (Ok next) → next ≢ line.End → next ≢ line.Over → TakesPart before after old new
-  wants next g no_end no_over = record { passed = t.passed ++ next ∷ []; reads = inl (reads_line next t.reads g no_end no_over) }
-
-  none : (result : Result (Line (List ℕ)) LineStop) → GivesNext now after reading new result → TakesNone before after old result
-  none result g = record { passed = t.passed; reads = reads_until t.reads g; given = t.given; asks = t.asks }
-
-  -- the input has ended
-  pub ends : GivesNext now after reading new (Ok line.End) → (ended : Taken) → EndsAs pending ended → TakesNext before after old new (Ok ended)
+  end_taken : (h : HearsUntil (Say addressing) before after old (Ok line.End)) (pending : Pending) →
+      ending_by (pending_after addressing Between h.passed) ≡ ending_by pending → TakesNext addressing before after old new (Ok (taken_at (ending_by pending)))
   unfolding none
-  ends g taken.End e = record { none = none (Ok line.End) g; ends = ap ending_by (sym t.pends) ∙ e }
-  ends g taken.Cut e = record { none = none (Ok line.End) g; ends = ap ending_by (sym t.pends) ∙ e }
-  ends g taken.Over e = absurd e
-  ends g (taken.Ask asked) e = absurd e
+  end_taken h Between e = record { none = none (Ok line.End) h; ends = e }
+  end_taken h (Text session form body) e = record { none = none (Ok line.End) h; ends = e }
+  end_taken h (Certificate session body) e = record { none = none (Ok line.End) h; ends = e }
 
-  -- the input is longer than may be read
-  pub too_long : GivesNext now after reading new (Ok line.Over) → TakesNext before after old new (Ok taken.Over)
-  too_long g = none (Ok line.Over) g
+  said_at_end : (what : Taken) (h : HearsAtEnd (Say addressing) before after old what) →
+      what ≡ taken_at (ending_by (pending_after addressing Between h.until.passed))
+  said_at_end what h =
+      let s = silent_lines addressing Between h.until.passed h.until.given (h.until.silent addressing Between refl) in
+      same_said what _
+      (sym (h.says addressing Between refl) ∙ s.behind (line.End ∷ []) ∙ at_end addressing (pending_after addressing Between h.until.passed))
 
-  -- no line came
-  pub stopped : (why : LineStop) → GivesNext now after reading new (Err why) → TakesNext before after old new (Err why)
-  stopped stop.Read g = none (Err stop.Read) g
-  stopped stop.NoMemory g = record { passed = t.passed; reads = inr (reads_until t.reads g) }
+  takes_end : (what : Taken) → HearsAtEnd (Say addressing) before after old what →
+      TakesNext addressing before after old new (Ok what)
+  takes_end what h =
+      subst (λ (w : Taken). TakesNext addressing before after old new (Ok w)) (sym (said_at_end what h))
+      (end_taken h.until (pending_after addressing Between h.until.passed) refl)
 
--- a line takes a byte at least
-pub takes_more : {before after : Option (List ℕ)} {old new : LinesState} (next : Line (List ℕ)) → GivesNext before after old new (Ok next) → next ≢ line.End → next ≢ line.Over → (old.given < new.given) × (new.given ≤ 2 ^ 26)
-takes_more {before} {after} {old} {new} next g no_end no_over =
-    let given = given_line before after old g.bytes new next no_end no_over g.gives in (
-      ⊎_elim
-          (λ e. omega (arith, given.count, ap length e.0.cut, length-append e.0.raw (10 ∷ new.ahead)))
-          (λ l. omega (arith, given.count, ap length l.0.all, l.0.some))
-          given.taken,
-      given.bound,
-    )
+  takes_said : (what : Taken) → HearsNext (Say addressing) before after old new (Ok (heard.Says what)) →
+      TakesNext addressing before after old new (Ok what)
+  takes_said what (inl h) = takes_ask what h
+  takes_said what (inr h) = takes_end what h
 
--- the same result
-pub takes_as : (before after : Option (List ℕ)) (old new : LinesState) (result other : Result Taken LineStop) → result ≡ other → TakesNext before after old new other → TakesNext before after old new result
-takes_as before after old new result other same t = subst (λ (r : Result Taken LineStop). TakesNext before after old new r) (sym same) t
+  pub takes : (found : Heard Taken) (what : Taken) → found ≡ heard.Says what →
+      HearsNext (Say addressing) before after old new (Ok found) → TakesNext addressing before after old new (Ok what)
+  takes found what is h =
+      takes_said what (subst (λ (f : Heard Taken). HearsNext (Say addressing) before after old new (Ok f)) is h)
+
+  pub too_long : (found : Heard Taken) → found ≡ heard.Over → HearsNext (Say addressing) before after old new (Ok found) →
+      TakesNext addressing before after old new (Ok taken.Over)
+  too_long found is h =
+      none (Ok line.Over) (subst (λ (f : Heard Taken). HearsNext (Say addressing) before after old new (Ok f)) is h)
+
+  stopped_by : (why : LineStop) → HearsNext (Say addressing) before after old new (Err why) →
+      TakesNext addressing before after old new (Err why)
+  stopped_by stop.Read h = none (Err stop.Read) h
+  stopped_by stop.NoMemory h = h
+
+  pub stopped : (result : Result Taken LineStop) (why : LineStop) → result ≡ Err why →
+      HearsNext (Say addressing) before after old new (Err why) → TakesNext addressing before after old new result
+  stopped result why is h =
+      subst (λ (r : Result Taken LineStop). TakesNext addressing before after old new r) (sym is) (stopped_by why h)
+
+  more_at : (what : Taken) → (old.given < new.given) × (new.given ≤ 2 ^ 26) → TakesMore old new (Ok what)
+  more_at (taken.Ask asked) more = more
+  more_at taken.End more = tt
+  more_at taken.Cut more = tt
+  more_at taken.Over more = tt
+
+  more_at_end : (ending : Ending) → TakesMore old new (Ok (taken_at ending))
+  more_at_end Ended = tt
+  more_at_end Cut = tt
+  more_at_end Over = tt
+
+  more_said : (what : Taken) → HearsNext (Say addressing) before after old new (Ok (heard.Says what)) → TakesMore old new (Ok what)
+  more_said what (inl h) = more_at what (h.grows, h.bound)
+  more_said what (inr h) = subst (λ (w : Taken). TakesMore old new (Ok w)) (sym (said_at_end what h)) (more_at_end _)
+
+  pub takes_more : (found : Heard Taken) (what : Taken) → found ≡ heard.Says what →
+      HearsNext (Say addressing) before after old new (Ok found) → TakesMore old new (Ok what)
+  takes_more found what is h =
+      more_said what (subst (λ (f : Heard Taken). HearsNext (Say addressing) before after old new (Ok f)) is h)

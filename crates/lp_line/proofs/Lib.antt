@@ -1,9 +1,8 @@
 -- Lemmas.
-pub mod Fed
-pub mod FedCertificate
-pub mod AskTurns
 pub mod HearTurns
 pub mod StageLines
+pub mod ScriptTurns
+pub mod AskTurns
 pub mod EditWordLemmas
 pub mod SmallBounds
 pub mod Stops

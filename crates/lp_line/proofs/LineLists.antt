@@ -10,7 +10,8 @@ one_more : (at : ℕ) → at + 1 ≡ suc at
 one_more at = omega arith
 
 -- a line more
-pub ended_lines_more : (lines : List (List ℕ)) (at : ℕ) (line : List ℕ) → slice_get lines at ≡ Some line → ended_lines (take (at + 1) lines) ≡ ended_lines (take at lines) ++ (line ++ 10 ∷ [])
+pub ended_lines_more : (lines : List (List ℕ)) (at : ℕ) (line : List ℕ) → slice_get lines at ≡ Some line →
+    ended_lines (take (at + 1) lines) ≡ ended_lines (take at lines) ++ (line ++ 10 ∷ [])
 unfolding ended_lines
 ended_lines_more lines at line e =
     let ended : List ℕ → List ℕ = λ l. l ++ 10 ∷ [] in

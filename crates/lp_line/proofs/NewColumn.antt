@@ -29,12 +29,14 @@ two_by_two-even (name ∷ value ∷ words) even =
     let rest = two_by_two-even words (omega arith) in
     ((name, value) ∷ rest.0, ap (option_map (λ pairs. (name, value) ∷ pairs)) rest.1)
 
-pub odd_column : (name cost : List ℕ) (words : List (List ℕ)) → length words % 2 ≢ 0 → column_in name cost (two_by_two words) ≡ Err fault.Word
+pub odd_column : (name cost : List ℕ) (words : List (List ℕ)) → length words % 2 ≢ 0 →
+    column_in name cost (two_by_two words) ≡ Err fault.Word
 odd_column name cost words odd = ap (column_in name cost) (two_by_two-odd words odd)
 
 module _ (name cost : List ℕ) (words : List (List ℕ)) (even : length words % 2 ≡ 0) where
   -- the cost is read
-  cost_read : (answer : Reads ℚ) → number_in cost ≡ answer → column_in name cost (two_by_two words) ≡ (answer >>= λ c. numbers_in (two_by_two-even words even).0 >>= λ ps. Ok (AddCol name c ps))
+  cost_read : (answer : Reads ℚ) → number_in cost ≡ answer →
+      column_in name cost (two_by_two words) ≡ (answer >>= λ c. numbers_in (two_by_two-even words even).0 >>= λ ps. Ok (AddCol name c ps))
   cost_read answer e =
       let pairs = two_by_two-even words even in
       ap (column_in name cost) pairs.1 ∙ ap (λ (a : Reads ℚ). a >>= λ c. numbers_in pairs.0 >>= λ ps. Ok (AddCol name c ps)) e
@@ -43,23 +45,27 @@ module _ (name cost : List ℕ) (words : List (List ℕ)) (even : length words %
   pub cost_fault : (why : LineFault) → number_in cost ≡ Err why → column_in name cost (two_by_two words) ≡ Err why
   cost_fault why e = cost_read (Err why) e
 
-  pairs_read : (v : ℚ) → number_in cost ≡ Ok v → (result : Result Pairs EditStop) → IfSome (two_by_two words) (λ pairs. Gives (numbers_in pairs) result) →
+  pairs_read : (v : ℚ) → number_in cost ≡ Ok v → (result : Result Pairs EditStop) →
+      IfSome (two_by_two words) (λ pairs. Gives (numbers_in pairs) result) →
       (answer : Reads Pairs) × (Gives answer result) × (column_in name cost (two_by_two words) ≡ (answer >>= λ ps. Ok (AddCol name v ps)))
   pairs_read v e result g =
       let pairs = two_by_two-even words even in
       (numbers_in pairs.0, subst (λ (o : Option Words). IfSome o (λ ps. Gives (numbers_in ps) result)) pairs.1 g, cost_read (Ok v) e)
 
   -- a pair's number is none
-  pub pairs_fault : (v : ℚ) → number_in cost ≡ Ok v → (stop : EditStop) (result : Result ExactEdit EditStop) → result ≡ Err stop →
+  pub pairs_fault : (v : ℚ) → number_in cost ≡ Ok v → (stop : EditStop) (result : Result ExactEdit EditStop) →
+      result ≡ Err stop →
       IfSome (two_by_two words) (λ pairs. Gives (numbers_in pairs) (Err stop)) → Gives (column_in name cost (two_by_two words)) result
   pairs_fault v e stop result is g = subst (Gives (column_in name cost (two_by_two words))) (sym is) (by stop (pairs_read v e (Err stop) g))
     where
-      by : (stop : EditStop) → (answer : Reads Pairs) × (Gives answer (Err stop)) × (column_in name cost (two_by_two words) ≡ (answer >>= λ ps. Ok (AddCol name v ps))) → Gives (column_in name cost (two_by_two words)) (Err stop)
+      by : (stop : EditStop) →
+          (answer : Reads Pairs) × (Gives answer (Err stop)) × (column_in name cost (two_by_two words) ≡ (answer >>= λ ps. Ok (AddCol name v ps))) → Gives (column_in name cost (two_by_two words)) (Err stop)
       by (Fault why) (answer, g, e) = e ∙ ap (λ (a : Reads Pairs). a >>= λ ps. Ok (AddCol name v ps)) g
       by NoMemory (answer, g, e) = tt
 
   -- all is read
-  pub column_read : (v : ℚ) → Ok v ≡ number_in cost → (pairs : Pairs) → IfSome (two_by_two words) (λ ps. Gives (numbers_in ps) (Ok pairs)) → (same : List ℕ) → same ≡ name →
+  pub column_read : (v : ℚ) → Ok v ≡ number_in cost → (pairs : Pairs) →
+      IfSome (two_by_two words) (λ ps. Gives (numbers_in ps) (Ok pairs)) → (same : List ℕ) → same ≡ name →
       column_in name cost (two_by_two words) ≡ Ok (AddCol same v pairs)
   column_read v e pairs g same is =
       let read = pairs_read v (sym e) (Ok pairs) g in

@@ -21,7 +21,9 @@ spelled_no_less n [] = omega arith
 spelled_no_less n (b ∷ bs) = omega (arith, spelled_no_less (n * 10 + (b - 48)) bs)
 
 -- the digits up to this one spell more than the last number
-pub too_large : (last digits : ℕ) (text : List ℕ) (at number : ℕ) → spelled_from 0 text ≡ spelled_from number (drop at text) → at < length text → last < number * 10 + (get_or text at 0 - 48) → None ≡ number_to last digits text
+pub too_large : (last digits : ℕ) (text : List ℕ) (at number : ℕ) →
+    spelled_from 0 text ≡ spelled_from number (drop at text) → at < length text →
+    last < number * 10 + (get_or text at 0 - 48) → None ≡ number_to last digits text
 too_large last digits text at number spelled h past =
     let more : spelled_from 0 text ≡ spelled_from (number * 10 + (get_or text at 0 - 48)) (drop (suc at) text) = spelled ∙ ap (spelled_from number) (drop-cons text at 0 h) in
     last_fails (nat_lt 0 (length text)) (nat_le (length text) digits) (list_all is_digit text) (not (begins_with_zero text)) _ (spelled_from 0 text)

@@ -22,20 +22,25 @@ pub record PairsLeft (all : Words) (left : List (List ℕ)) (pairs : Pairs) : Ty
 -- ---- the first two words
 
 -- the words behind the first two
-behind : (name value : List ℕ) (others : List (List ℕ)) (rest : Words) → two_by_two (name ∷ value ∷ others) ≡ Some rest → (more : Words) × (two_by_two others ≡ Some more) × (rest ≡ (name, value) ∷ more)
+behind : (name value : List ℕ) (others : List (List ℕ)) (rest : Words) →
+    two_by_two (name ∷ value ∷ others) ≡ Some rest →
+    (more : Words) × (two_by_two others ≡ Some more) × (rest ≡ (name, value) ∷ more)
 unfolding two_by_two
 behind name value others rest e = by (two_by_two others) refl e
   where
-    by : (o : Option Words) → two_by_two others ≡ o → option_map (λ pairs. (name, value) ∷ pairs) o ≡ Some rest → (more : Words) × (two_by_two others ≡ Some more) × (rest ≡ (name, value) ∷ more)
+    by : (o : Option Words) → two_by_two others ≡ o → option_map (λ pairs. (name, value) ∷ pairs) o ≡ Some rest →
+        (more : Words) × (two_by_two others ≡ Some more) × (rest ≡ (name, value) ∷ more)
     by None is e = absurd (let h = e in cc)
     by (Some more) is e = (more, is, let same : rest ≡ (name, value) ∷ more = cc in same)
 
-one_more : (answer : Reads Pairs) (pairs : Pairs) (p : Name × ℚ) → ((answer >>= λ rest. Ok (p ∷ rest)) >>= λ more. Ok (pairs ++ more)) ≡ (answer >>= λ more. Ok ((pairs ++ p ∷ []) ++ more))
+one_more : (answer : Reads Pairs) (pairs : Pairs) (p : Name × ℚ) →
+    ((answer >>= λ rest. Ok (p ∷ rest)) >>= λ more. Ok (pairs ++ more)) ≡ (answer >>= λ more. Ok ((pairs ++ p ∷ []) ++ more))
 one_more (Ok rest) pairs p = ap Ok (sym (append_assoc pairs (p ∷ []) rest))
 one_more (Err why) pairs p = refl
 
 module _ {all : Words} {name value : List ℕ} {others : List (List ℕ)} {pairs : Pairs} (left : PairsLeft all (name ∷ value ∷ others) pairs) where
-  numbers_behind : (more : Words) → left.rest ≡ (name, value) ∷ more → (answer : Reads ℚ) → number_in value ≡ answer → numbers_in all ≡ ((answer >>= λ v. numbers_in more >>= λ rest. Ok ((name, v) ∷ rest)) >>= λ more. Ok (pairs ++ more))
+  numbers_behind : (more : Words) → left.rest ≡ (name, value) ∷ more → (answer : Reads ℚ) → number_in value ≡ answer →
+      numbers_in all ≡ ((answer >>= λ v. numbers_in more >>= λ rest. Ok ((name, v) ∷ rest)) >>= λ more. Ok (pairs ++ more))
   unfolding numbers_in
   numbers_behind more is answer e =
       left.numbers ∙ ap (λ (w : Words). numbers_in w >>= λ more. Ok (pairs ++ more)) is
@@ -53,7 +58,8 @@ module _ {all : Words} {name value : List ℕ} {others : List (List ℕ)} {pairs
 
 -- ---- a list that has two words at least
 
-two_first : (words : List (List ℕ)) (name value : List ℕ) → 2 ≤ length words → name ≡ slice_index_or words 0 name → value ≡ slice_index_or words 1 value → words ≡ name ∷ value ∷ take (length words - 2) (drop 2 words)
+two_first : (words : List (List ℕ)) (name value : List ℕ) → 2 ≤ length words → name ≡ slice_index_or words 0 name →
+    value ≡ slice_index_or words 1 value → words ≡ name ∷ value ∷ take (length words - 2) (drop 2 words)
 two_first [] name value l n v = absurd (omega arith)
 two_first (first ∷ []) name value l n v = absurd (omega arith)
 two_first (first ∷ second ∷ others) name value l n v =
@@ -65,7 +71,8 @@ module _ (words : List (List ℕ)) (all : Words) (pairs : Pairs) (left : PairsLe
   two_left = subst (λ (ws : List (List ℕ)). PairsLeft all ws pairs) (two_first words name value two n v) left
 
   -- the number behind the first name that is left was read
-  first_read : (v : ℚ) → number_in value ≡ Ok v → PairsLeft all (take (length words - 2) (drop 2 words)) (pairs ++ (name, v) ∷ [])
+  first_read : (v : ℚ) → number_in value ≡ Ok v →
+      PairsLeft all (take (length words - 2) (drop 2 words)) (pairs ++ (name, v) ∷ [])
   first_read v e = pair_read two_left v e
 
   -- or it is none
@@ -84,7 +91,8 @@ one_read whole words pairs new name value row v left two n w e same is =
     (first_read words all pairs here name value two n w v e))
 
 -- no two words are left
-pub none_left : (all : Words) (left : List (List ℕ)) (pairs : Pairs) → PairsLeft all left pairs → length left < 2 → numbers_in all ≡ Ok pairs
+pub none_left : (all : Words) (left : List (List ℕ)) (pairs : Pairs) → PairsLeft all left pairs → length left < 2 →
+    numbers_in all ≡ Ok pairs
 unfolding two_by_two numbers_in
 none_left all [] pairs p l =
     let nothing : p.rest ≡ [] = let h = p.paired in cc in

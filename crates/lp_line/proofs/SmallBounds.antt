@@ -7,7 +7,8 @@ use Rattle.spec_mps.proofs.BoundLemmas.{bound_is_within, abs_from_within}
 use Rattle.spec_server.specs.EditCommand.{as_read}
 
 -- a finite bound is less than 10 ^ 20 from 0
-pub small_bound : (text : List ℕ) (q : ℚ) → Ok (value.Finite q) ≡ as_read (bound_answer (bound_of text)) → abs_ℚ q <ℚ infinite
+pub small_bound : (text : List ℕ) (q : ℚ) → Ok (value.Finite q) ≡ as_read (bound_answer (bound_of text)) →
+    abs_ℚ q <ℚ infinite
 small_bound text q e = by (bound_of text) refl e
   where
     by : (r : BoundReading) → bound_of text ≡ r → Ok (value.Finite q) ≡ as_read (bound_answer r) → abs_ℚ q <ℚ infinite

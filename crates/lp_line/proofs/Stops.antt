@@ -7,5 +7,6 @@ use Rattle.lp_line.specs.declared.edits.EditStop.TheVariants.{Fault}
 use Rattle.lp_line.specs.Gives.{Gives}
 
 -- at the fault of the words
-pub gives_fault : {A : Type 0} (answer : Reads A) (result : Result A EditStop) (stop : EditStop) (fault : LineFault) → result ≡ Err stop → stop ≡ Fault fault → answer ≡ Err fault → Gives answer result
+pub gives_fault : {A : Type 0} (answer : Reads A) (result : Result A EditStop) (stop : EditStop) (fault : LineFault) →
+    result ≡ Err stop → stop ≡ Fault fault → answer ≡ Err fault → Gives answer result
 gives_fault answer result stop fault r s e = subst (Gives answer) (sym (r ∙ ap Err s)) e

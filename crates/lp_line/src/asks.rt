@@ -5,8 +5,11 @@ use lp_edit::Edit;
 use lp_frac::Frac;
 use lp_model::Model;
 
-/// What a line between two commands is.
+/// What the words of a line ask.
 pub type Command = spec_server::Command<Edit>;
+
+/// A command with the number of its session.
+pub type Addressed = spec_server::Addressed<Edit>;
 
 /// A command of one line.
 pub type Plain = spec_server::Plain<Edit>;

@@ -1,44 +1,72 @@
-// The body of a command, as far as it was read.
-ghost use Rattle.std.specs.Prelude.{◌≡◌, List, [], ◌∷◌, ◌++◌, ℕ, OnOk};
+// The body of a command, line by line.
+ghost use Rattle.std.specs.Prelude.{◌<◌, ◌-◌, ◌^◌, [], ◌∷◌, Some, IfOk};
+ghost use Rattle.spec_text.specs.declared.line.Line.TheVariants as line;
+ghost use Rattle.lp_line.specs.Body.{BodySays, PassesTo, count_in};
+ghost use Rattle.lp_line.specs.declared.body.Body.TheVariants as body;
 
+use crate::hearing::{Stage, Step};
 use lp_base::Line;
 use std::alloc::{AllocError, Global};
-use std::marker::Model;
 
-/// The lines of a body.
+/// A body as far as it was read: in a stage of type `T`, or behind the line at which this was said of it. The lines behind that one
+/// are passed over.
 #[derive(Drop)]
-pub(crate) struct Body {
-    lines: Vec<Line>,
+pub enum Body<T, R> {
+    Reading(T),
+    Read(R),
 }
 
-impl Model for Body {
-    ghost use Rattle.std.specs.Prelude.{List, ℕ};
-    ghost use Rattle.spec_text.specs.declared.line.Line.{Line};
-
-    ghost Value = { List (Line (List ℕ)) };
-
-    ghost view = { λ b. b.lines.items };
+// A line of a body of which nothing was said.
+fn read_on<T: Stage>(
+    alloc: Global,
+    stage: T,
+    line: &Line,
+) -> Result<Body<T, T::Said>, AllocError>
+    requires { T.count stage < 2 ^ 32 - 1 }
+    ensures { IfOk result (PassesTo T.says T.count (body.Reading stage) line.now) }
+{
+    match stage.advance(alloc, line)? {
+        Step::On(next) => Ok(Body::Reading(next)),
+        Step::Says(said) => Ok(Body::Read(said)),
+    }
 }
 
-impl Body {
-    pub(crate) fn new(alloc: Global) -> Self
-        ensures { result ≡ [] }
-    {
-        Body {
-            lines: Vec::new(alloc),
-        }
+/// Takes the next line of a body.
+pub(crate) fn pass<T: Stage>(
+    alloc: Global,
+    body: Body<T, T::Said>,
+    line: &Line,
+) -> Result<Body<T, T::Said>, AllocError>
+    requires { count_in T.count body < 2 ^ 32 - 1 }
+    ensures { IfOk result (PassesTo T.says T.count body line.now) }
+{
+    match body {
+        Body::Reading(stage) => read_on(alloc, stage, line),
+        Body::Read(said) => Ok(Body::Read(said)),
     }
+}
 
-    pub(crate) fn push(&mut self, line: Line) -> Result<(), AllocError>
-        ensures { OnOk result (self.new ≡ self.old ++ line ∷ []) }
-    {
-        self.lines.push(line)?;
-        Ok(())
+// What is said where the lines end at a stage.
+fn said_at_end<T: Stage>(alloc: Global, stage: T) -> Result<T::Said, AllocError>
+    requires { T.count stage < 2 ^ 32 - 1 }
+    ensures { IfOk result (λ said. T.says stage (line.End ∷ []) (Some said)) }
+{
+    match stage.advance(alloc, &Line::End)? {
+        Step::On(_) => unreachable!(),
+        Step::Says(said) => Ok(said),
     }
+}
 
-    pub(crate) fn as_slice(&self) -> &[Line]
-        ensures { result.now ≡ self.now }
-    {
-        &self.lines
+/// What is said of a body that has no more lines.
+pub(crate) fn close<T: Stage>(
+    alloc: Global,
+    body: Body<T, T::Said>,
+) -> Result<T::Said, AllocError>
+    requires { count_in T.count body < 2 ^ 32 - 1 }
+    ensures { IfOk result (λ said. BodySays T.says body (line.End ∷ []) (Some said)) }
+{
+    match body {
+        Body::Reading(stage) => said_at_end(alloc, stage),
+        Body::Read(said) => Ok(said),
     }
 }

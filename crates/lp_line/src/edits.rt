@@ -3,7 +3,7 @@ ghost use Rattle.std.specs.Prelude.{◌≡◌, IfOk, IfSome};
 ghost use Rattle.spec_model.specs.Kept.{IsBound};
 ghost use Rattle.spec_mps.specs.BoundText.{bound_of, bound_answer};
 ghost use Rattle.spec_server.specs.declared.command.EditWord.TheVariants as word;
-ghost use Rattle.spec_server.specs.EditCommand as told;
+ghost use Rattle.spec_server.specs.EditCommand as edit_command;
 ghost use Rattle.lp_line.specs.Gives.{Gives};
 ghost use Rattle.lp_line.specs.declared.edits.EditStop.TheVariants.{Fault, NoMemory};
 
@@ -39,7 +39,7 @@ impl From<AllocError> for EditStop {
 }
 
 fn number_fault(fault: NumFault) -> LineFault
-    ensures { result ≡ told.number_fault fault }
+    ensures { result ≡ edit_command.number_fault fault }
 {
     match fault {
         NumFault::Shape => LineFault::Number,
@@ -49,7 +49,7 @@ fn number_fault(fault: NumFault) -> LineFault
 
 #[tactic(auto, unfolding(spec_server::specs::EditCommand::number_in))]
 fn number_in(word: &Bytes) -> Result<Frac, LineFault>
-    ensures { result ≡ told.number_in word.now }
+    ensures { result ≡ edit_command.number_in word.now }
 {
     match lp_numtext::read(word.as_slice()) {
         Ok(value) => Ok(value),
@@ -59,7 +59,7 @@ fn number_in(word: &Bytes) -> Result<Frac, LineFault>
 
 #[tactic(auto, unfolding(spec_server::specs::EditCommand::kind_in))]
 fn kind_in(word: &Bytes) -> Result<Kind, LineFault>
-    ensures { result ≡ told.kind_in word.now }
+    ensures { result ≡ edit_command.kind_in word.now }
 {
     let word = word.as_slice();
     if are_same(word, b"L") {
@@ -76,7 +76,7 @@ fn kind_in(word: &Bytes) -> Result<Kind, LineFault>
 
 #[tactic(auto, unfolding(spec_server::specs::EditCommand::sense_in))]
 fn sense_in(word: &Bytes) -> Result<Sense, LineFault>
-    ensures { result ≡ told.sense_in word.now }
+    ensures { result ≡ edit_command.sense_in word.now }
 {
     let word = word.as_slice();
     if are_same(word, b"MIN") {
@@ -90,7 +90,7 @@ fn sense_in(word: &Bytes) -> Result<Sense, LineFault>
 
 #[tactic(auto, unfolding(spec_server::specs::EditCommand::range_in))]
 fn range_in(word: &Bytes) -> Result<Option<Frac>, LineFault>
-    ensures { result ≡ told.range_in word.now }
+    ensures { result ≡ edit_command.range_in word.now }
 {
     if are_same(word.as_slice(), b"NONE") {
         return Ok(None);
@@ -99,7 +99,7 @@ fn range_in(word: &Bytes) -> Result<Option<Frac>, LineFault>
 }
 
 fn bound_in(word: &Bytes) -> Result<BoundValue<Frac>, LineFault>
-    ensures { result ≡ told.as_read (bound_answer (bound_of word.now)) }
+    ensures { result ≡ edit_command.as_read (bound_answer (bound_of word.now)) }
 {
     match read_bound(word.as_slice()) {
         Ok(bound) => Ok(bound),
@@ -109,7 +109,7 @@ fn bound_in(word: &Bytes) -> Result<BoundValue<Frac>, LineFault>
 
 #[tactic(auto, using(crate::proofs::SmallBounds::small_bound), unfolding(spec_server::specs::EditCommand::lower_in))]
 fn lower_in(word: &Bytes) -> Result<Option<Frac>, LineFault>
-    ensures value { result ≡ told.lower_in word.now }
+    ensures value { result ≡ edit_command.lower_in word.now }
     ensures small { IfOk result IsBound }
 {
     match bound_in(word)? {
@@ -121,7 +121,7 @@ fn lower_in(word: &Bytes) -> Result<Option<Frac>, LineFault>
 
 #[tactic(auto, using(crate::proofs::SmallBounds::small_bound), unfolding(spec_server::specs::EditCommand::upper_in))]
 fn upper_in(word: &Bytes) -> Result<Option<Frac>, LineFault>
-    ensures value { result ≡ told.upper_in word.now }
+    ensures value { result ≡ edit_command.upper_in word.now }
     ensures small { IfOk result IsBound }
 {
     match bound_in(word)? {
@@ -139,7 +139,7 @@ fn name_in(alloc: Global, word: &Bytes) -> Result<Name, AllocError>
 
 // The names of rows, each with the number behind it. The words are as many of these as of those.
 fn pairs_in(alloc: Global, words: &[Bytes]) -> Result<Pairs, EditStop>
-    ensures { IfSome (told.two_by_two words.now) (λ pairs. Gives (told.numbers_in pairs) result) }
+    ensures { IfSome (edit_command.two_by_two words.now) (λ pairs. Gives (edit_command.numbers_in pairs) result) }
 {
     let mut pairs = Pairs::new(alloc);
     let mut left = words;
@@ -153,7 +153,7 @@ fn pairs_in(alloc: Global, words: &[Bytes]) -> Result<Pairs, EditStop>
 
 #[tactic(auto, unfolding(spec_server::specs::EditCommand::edit_by))]
 fn add_row(alloc: Global, words: &[Bytes]) -> Result<Edit, EditStop>
-    ensures { Gives (told.edit_by word.AddRow words.now) result }
+    ensures { Gives (edit_command.edit_by word.AddRow words.now) result }
 {
     let (name, kind, rhs, range) = match words {
         [name, kind, rhs] => (name, kind, rhs, None),
@@ -177,7 +177,7 @@ fn add_row(alloc: Global, words: &[Bytes]) -> Result<Edit, EditStop>
 
 #[tactic(auto, unfolding(spec_server::specs::EditCommand::edit_by))]
 fn delete_row(alloc: Global, words: &[Bytes]) -> Result<Edit, EditStop>
-    ensures { Gives (told.edit_by word.DelRow words.now) result }
+    ensures { Gives (edit_command.edit_by word.DelRow words.now) result }
 {
     let [name] = words else {
         return Err(LineFault::Word.into());
@@ -187,7 +187,7 @@ fn delete_row(alloc: Global, words: &[Bytes]) -> Result<Edit, EditStop>
 
 // The words of a new column are counted before its numbers are read.
 fn column_in(alloc: Global, name: &Bytes, cost: &Bytes, pairs: &[Bytes]) -> Result<Edit, EditStop>
-    ensures { Gives (told.column_in name.now cost.now (told.two_by_two pairs.now)) result }
+    ensures { Gives (edit_command.column_in name.now cost.now (edit_command.two_by_two pairs.now)) result }
 {
     if pairs.len() % 2 != 0 {
         return Err(LineFault::Word.into());
@@ -200,7 +200,7 @@ fn column_in(alloc: Global, name: &Bytes, cost: &Bytes, pairs: &[Bytes]) -> Resu
 
 #[tactic(auto, unfolding(spec_server::specs::EditCommand::edit_by))]
 fn add_column(alloc: Global, words: &[Bytes]) -> Result<Edit, EditStop>
-    ensures { Gives (told.edit_by word.AddCol words.now) result }
+    ensures { Gives (edit_command.edit_by word.AddCol words.now) result }
 {
     match words {
         [name, cost, pairs @ ..] => column_in(alloc, name, cost, pairs),
@@ -210,7 +210,7 @@ fn add_column(alloc: Global, words: &[Bytes]) -> Result<Edit, EditStop>
 
 #[tactic(auto, unfolding(spec_server::specs::EditCommand::edit_by))]
 fn delete_column(alloc: Global, words: &[Bytes]) -> Result<Edit, EditStop>
-    ensures { Gives (told.edit_by word.DelCol words.now) result }
+    ensures { Gives (edit_command.edit_by word.DelCol words.now) result }
 {
     let [name] = words else {
         return Err(LineFault::Word.into());
@@ -220,7 +220,7 @@ fn delete_column(alloc: Global, words: &[Bytes]) -> Result<Edit, EditStop>
 
 #[tactic(auto, unfolding(spec_server::specs::EditCommand::edit_by))]
 fn set_cost(alloc: Global, words: &[Bytes]) -> Result<Edit, EditStop>
-    ensures { Gives (told.edit_by word.SetCost words.now) result }
+    ensures { Gives (edit_command.edit_by word.SetCost words.now) result }
 {
     let [name, value] = words else {
         return Err(LineFault::Word.into());
@@ -231,7 +231,7 @@ fn set_cost(alloc: Global, words: &[Bytes]) -> Result<Edit, EditStop>
 
 #[tactic(auto, unfolding(spec_server::specs::EditCommand::edit_by))]
 fn set_coefficient(alloc: Global, words: &[Bytes]) -> Result<Edit, EditStop>
-    ensures { Gives (told.edit_by word.SetCoef words.now) result }
+    ensures { Gives (edit_command.edit_by word.SetCoef words.now) result }
 {
     let [row, column, value] = words else {
         return Err(LineFault::Word.into());
@@ -244,7 +244,7 @@ fn set_coefficient(alloc: Global, words: &[Bytes]) -> Result<Edit, EditStop>
 
 #[tactic(auto, unfolding(spec_server::specs::EditCommand::edit_by))]
 fn set_right_side(alloc: Global, words: &[Bytes]) -> Result<Edit, EditStop>
-    ensures { Gives (told.edit_by word.SetRhs words.now) result }
+    ensures { Gives (edit_command.edit_by word.SetRhs words.now) result }
 {
     let [name, value] = words else {
         return Err(LineFault::Word.into());
@@ -255,7 +255,7 @@ fn set_right_side(alloc: Global, words: &[Bytes]) -> Result<Edit, EditStop>
 
 #[tactic(auto, unfolding(spec_server::specs::EditCommand::edit_by))]
 fn set_range(alloc: Global, words: &[Bytes]) -> Result<Edit, EditStop>
-    ensures { Gives (told.edit_by word.SetRange words.now) result }
+    ensures { Gives (edit_command.edit_by word.SetRange words.now) result }
 {
     let [name, range] = words else {
         return Err(LineFault::Word.into());
@@ -266,7 +266,7 @@ fn set_range(alloc: Global, words: &[Bytes]) -> Result<Edit, EditStop>
 
 #[tactic(auto, unfolding(spec_server::specs::EditCommand::edit_by))]
 fn set_bounds(alloc: Global, words: &[Bytes]) -> Result<Edit, EditStop>
-    ensures { Gives (told.edit_by word.SetBound words.now) result }
+    ensures { Gives (edit_command.edit_by word.SetBound words.now) result }
 {
     let [column, lower, upper] = words else {
         return Err(LineFault::Word.into());
@@ -280,7 +280,7 @@ fn set_bounds(alloc: Global, words: &[Bytes]) -> Result<Edit, EditStop>
 
 #[tactic(auto, unfolding(spec_server::specs::EditCommand::edit_by))]
 fn set_sense(words: &[Bytes]) -> Result<Edit, EditStop>
-    ensures { Gives (told.edit_by word.Sense words.now) result }
+    ensures { Gives (edit_command.edit_by word.Sense words.now) result }
 {
     let [sense] = words else {
         return Err(LineFault::Word.into());
@@ -290,7 +290,7 @@ fn set_sense(words: &[Bytes]) -> Result<Edit, EditStop>
 
 /// The edit that the words behind a command word ask for. Their count comes first, and then the words from left to right.
 pub(crate) fn edit_by(alloc: Global, which: EditWord, words: &[Bytes]) -> Result<Edit, EditStop>
-    ensures { Gives (told.edit_by which words.now) result }
+    ensures { Gives (edit_command.edit_by which words.now) result }
 {
     match which {
         EditWord::AddRow => add_row(alloc, words),

@@ -1,7 +1,8 @@
-//! The protocol of scripts: their lines are read as asks, and replies are written as lines.
+//! The protocol of scripts: their lines are read as asks, and replies are written as lines. Lines name sessions, or are all
+//! those of one.
 //!
 //! Ask Asked Reply  what sessions are asked and reply, with the types of the code: src/asks
-//! read Command     what a line between two commands is: src/command, and the edits: src/edits
+//! read Addressed Command  what a line between two commands is: src/command, and the edits: src/edits
 //! hear Stage Heard  reads lines up to the one at which something is said, as texts and certificates are: src/hearing,
 //!                  src/stages, specs/Hearing
 //! take Taken       reads the lines of the next ask: src/taking, specs/Takes
@@ -18,19 +19,18 @@ mod edits;
 mod ends;
 mod hearing;
 mod printing;
-mod reader;
 mod refusals;
+mod script;
 mod stages;
 mod taking;
 #[cfg(test)]
 mod tests;
-mod text;
 mod words;
 
-pub use asks::{Answer, Ask, Asked, Command, Plain, Refusal, Reply};
+pub use asks::{Addressed, Answer, Ask, Asked, Command, Plain, Refusal, Reply};
 pub use command::read;
 pub use hearing::{Heard, Stage, Step, hear};
 pub use printing::{print, print_lines, print_said};
-pub use spec_server::{How, LineFault, Publication};
+pub use spec_server::{Addressing, How, LineFault, Publication};
 pub use stages::{CertificateSaid, TextSaid};
 pub use taking::{Taken, take};

@@ -1,5 +1,6 @@
 // Replies as they are written.
-ghost use Rattle.std.specs.Prelude.{◌≡◌, ◌++◌, OnOk};
+ghost use Rattle.std.specs.Prelude.{◌≡◌, ◌++◌, ◌∷◌, [], OnOk, OnErr};
+ghost use Rattle.spec_text.specs.Lines.{IsPrefixOf};
 ghost use Rattle.spec_server.specs.CheckOut.{check_line};
 ghost use Rattle.spec_server.specs.Output as output;
 
@@ -7,6 +8,7 @@ use crate::answers::{push_answer, push_found, push_number, push_verdict};
 use crate::asks::Reply;
 use crate::refusals::push_refusal;
 use lp_base::{Bytes, Texts};
+use spec_server::Addressing;
 use std::alloc::{AllocError, Global};
 
 // Each line ends in a line feed.
@@ -54,10 +56,19 @@ fn push_reply(alloc: Global, reply: &Reply, to: &mut Bytes) -> Result<(), AllocE
     }
 }
 
+// A reply's first line.
+fn push_line(alloc: Global, reply: &Reply, to: &mut Bytes) -> Result<(), AllocError>
+    ensures { OnOk result (to.new ≡ to.old ++ (output.reply_text reply.now ++ 10 ∷ [])) }
+{
+    push_reply(alloc, reply, to)?;
+    to.extend(b"\n")
+}
+
 /// Writes lines behind what is there, each with a line feed behind it. After an `Err` a part of them may stand there.
 #[tactic(auto, unfolding(spec_server::specs::Output::ended_lines))]
 pub fn print_lines(lines: &Texts, to: &mut Bytes) -> Result<(), AllocError>
-    ensures { OnOk result (to.new ≡ to.old ++ output.ended_lines lines.now) }
+    ensures ok { OnOk result (to.new ≡ to.old ++ output.ended_lines lines.now) }
+    ensures kept { IsPrefixOf to.old to.new }
 {
     for index in 0..lines.len() {
         to.extend(lines.at(index))?;
@@ -83,24 +94,63 @@ fn push_lines_behind(reply: &Reply, to: &mut Bytes) -> Result<(), AllocError>
     }
 }
 
-/// Writes the lines of a session's reply behind what is there. After an `Err` a part of it may stand there.
-#[tactic(auto, unfolding(spec_server::specs::Output::reply_lines))]
-pub fn print(alloc: Global, session: u32, reply: &Reply, to: &mut Bytes) -> Result<(), AllocError>
-    ensures { OnOk result (to.new ≡ to.old ++ output.reply_lines session reply.now) }
+// What stands in front of a reply.
+fn push_front(
+    alloc: Global,
+    addressing: Addressing,
+    session: u32,
+    to: &mut Bytes,
+) -> Result<(), AllocError>
+    ensures { OnOk result (to.new ≡ to.old ++ output.front_of addressing session) }
 {
-    push_number(alloc, u64::from(session), to)?;
-    to.extend(b" ")?;
+    match addressing {
+        Addressing::Numbered => {
+            push_number(alloc, u64::from(session), to)?;
+            to.extend(b" ")
+        }
+        Addressing::Alone => Ok(()),
+    }
+}
+
+#[tactic(auto, unfolding(spec_server::specs::Output::reply_lines))]
+fn push_reply_lines(
+    alloc: Global,
+    addressing: Addressing,
+    session: u32,
+    reply: &Reply,
+    to: &mut Bytes,
+) -> Result<(), AllocError>
+    ensures { OnOk result (to.new ≡ to.old ++ output.reply_lines addressing session reply.now) }
+{
+    push_front(alloc, addressing, session, to)?;
     push_reply(alloc, reply, to)?;
     to.extend(b"\n")?;
     push_lines_behind(reply, to)
 }
 
-/// Writes the line of what the commands `check` and `solve` say behind what is there. After an `Err` a part of it may stand
-/// there.
+/// Writes the lines of a session's reply behind what is there, all of them or none.
+pub fn print(
+    alloc: Global,
+    addressing: Addressing,
+    session: u32,
+    reply: &Reply,
+    to: &mut Bytes,
+) -> Result<(), AllocError>
+    ensures ok { OnOk result (to.new ≡ to.old ++ output.reply_lines addressing session reply.now) }
+    ensures err { OnErr result (to.new ≡ to.old) }
+{
+    let mut lines = Bytes::new(alloc);
+    push_reply_lines(alloc, addressing, session, reply, &mut lines)?;
+    to.extend(lines.as_slice())
+}
+
+/// Writes the line of what the commands `check` and `solve` say behind what is there, all of it or none.
 #[tactic(auto, unfolding(spec_server::specs::CheckOut::check_line))]
 pub fn print_said(alloc: Global, reply: &Reply, to: &mut Bytes) -> Result<(), AllocError>
-    ensures { OnOk result (to.new ≡ to.old ++ check_line reply.now) }
+    ensures ok { OnOk result (to.new ≡ to.old ++ check_line reply.now) }
+    ensures err { OnErr result (to.new ≡ to.old) }
 {
-    push_reply(alloc, reply, to)?;
-    to.extend(b"\n")
+    let mut line = Bytes::new(alloc);
+    push_line(alloc, reply, &mut line)?;
+    to.extend(line.as_slice())
 }

@@ -1,29 +1,36 @@
-// The asks of a script, one by one.
+// The asks of an input, one by one.
 ghost use Rattle.std.specs.Prelude.{◌≡◌, ◌≤◌, IsErrOf};
 ghost use Rattle.lp_base.specs.Causes.{Rose};
-ghost use Rattle.lp_line.specs.Takes.{EndsAs, TakesMore, TakesNext};
+ghost use Rattle.lp_line.specs.Takes.{TakesMore, TakesNext};
 
 use crate::asks::Asked;
-use crate::reader::ScriptReader;
-use lp_base::{Line, LineStop, Lines, Source};
+use crate::hearing::{Heard, hear};
+use crate::script::ScriptStage;
+use lp_base::{LineStop, Lines, Source};
+use spec_server::Addressing;
 use std::alloc::Global;
 
-/// What the next lines of a script are.
+/// What the next lines of an input are.
 #[derive(Drop)]
 pub enum Taken {
     /// They complete this ask.
     Ask(Asked),
-    /// The script has ended between two commands.
+    /// The input has ended between two commands.
     End,
-    /// The script has ended in a body.
+    /// The input has ended in a body.
     Cut,
-    /// The script is longer than may be read.
+    /// The input is longer than may be read.
     Over,
 }
 
 /// Reads the lines up to the one that completes the next ask.
-pub fn take<S: Source>(alloc: Global, lines: &mut Lines, source: &mut S) -> Result<Taken, LineStop>
-    ensures taken { TakesNext (S.left source.old) (S.left source.new) lines.old lines.new result }
+pub fn take<S: Source>(
+    alloc: Global,
+    addressing: Addressing,
+    lines: &mut Lines,
+    source: &mut S,
+) -> Result<Taken, LineStop>
+    ensures taken { TakesNext addressing (S.left source.old) (S.left source.new) lines.old lines.new result }
 
     // An ask takes a byte at least.
     ensures more { TakesMore lines.old lines.new result }
@@ -32,25 +39,8 @@ pub fn take<S: Source>(alloc: Global, lines: &mut Lines, source: &mut S) -> Resu
     ensures read { IsErrOf result LineStop.Read → Rose (S.read_faults source.old) (S.read_faults source.new) }
     ensures beside { S.beside_reads source.new ≡ S.beside_reads source.old }
 {
-    let mut reader = ScriptReader::new(alloc);
-    loop {
-        match lines.next(source)? {
-            Line::End => return Ok(end_of(&reader)),
-            Line::Over => return Ok(Taken::Over),
-            line => if let Some(asked) = reader.feed(line)? {
-                return Ok(Taken::Ask(asked));
-            },
-        }
-    }
-}
-
-// How a script ends, at the end of its input.
-fn end_of(reader: &ScriptReader) -> Taken
-    ensures { EndsAs reader.now result }
-{
-    if reader.is_between() {
-        Taken::End
-    } else {
-        Taken::Cut
+    match hear(alloc, ScriptStage::Between(addressing), lines, source)? {
+        Heard::Says(taken) => Ok(taken),
+        Heard::Over => Ok(Taken::Over),
     }
 }

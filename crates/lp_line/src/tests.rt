@@ -1,6 +1,6 @@
 use crate::{
-    Answer, Ask, Command, How, LineFault, Plain, Publication, Refusal, Reply, Taken, print, read,
-    take,
+    Addressed, Addressing, Answer, Ask, Command, How, LineFault, Plain, Publication, Refusal, Reply,
+    Taken, print, read, take,
 };
 use lp_base::{Bytes, Line, Lines, MemSource, Name, Texts};
 use lp_check::{Known, Verdict};
@@ -84,10 +84,11 @@ fn told(ask: &Ask) -> (&'static str, i128) {
 // The next ask with its session, or the end that comes.
 fn next(
     alloc: Global,
+    addressing: Addressing,
     lines: &mut Lines,
     src: &mut MemSource,
 ) -> Result<(u32, &'static str, i128), Fail> {
-    match take(alloc, lines, src)? {
+    match take(alloc, addressing, lines, src)? {
         Taken::Ask(asked) => {
             let (what, number) = told(&asked.ask);
             Ok((asked.session, what, number))
@@ -120,7 +121,7 @@ fn all_commands_in_pieces(rt: HostRuntime) -> Result<(), Fail> {
             (1, "number", 0),
             (0, "cut", 0),
         ] {
-            assert_eq!(rt; next(alloc, &mut lines, &mut src)?, expected);
+            assert_eq!(rt; next(alloc, Addressing::Numbered, &mut lines, &mut src)?, expected);
         }
     }
     Ok(())
@@ -157,8 +158,33 @@ fn edits_with_their_numbers(rt: HostRuntime) -> Result<(), Fail> {
         ("wide", 0),
         ("word", 0),
     ] {
-        assert_eq!(rt; next(alloc, &mut lines, &mut src)?, (9, what, number));
+        assert_eq!(rt; next(alloc, Addressing::Numbered, &mut lines, &mut src)?, (9, what, number));
     }
+    Ok(())
+}
+
+const UNNUMBERED: &str =
+    "LOAD FREE\nNAME a\nROWS\n N cost\n G R1\nCOLUMNS\n x cost 1 R1 1\nENDATA\n9 SOLVE\nSOLVE\n# none\n\nCHECK\nOPTIMAL\nz\nx x 1\nEND\nLOAD FREE\nROWS\nROWS\n N cost\nENDATA\nQUIT\n";
+
+#[test]
+fn lines_without_numbers(rt: HostRuntime) -> Result<(), Fail> {
+    let alloc = rt.alloc();
+    let mut src = source(alloc, UNNUMBERED, 5)?;
+    let mut lines = Lines::new(alloc)?;
+    for (what, number) in [
+        ("columns", 1),
+        ("word", 0),
+        ("solve", 0),
+        ("unfit", 2),
+        ("misspelled", 2),
+        ("quit", 0),
+        ("end", 0),
+    ] {
+        assert_eq!(rt; next(alloc, Addressing::Alone, &mut lines, &mut src)?, (0, what, number));
+    }
+    let mut printed = Bytes::new(alloc);
+    print(alloc, Addressing::Alone, 0, &Reply::Loaded(1, 2), &mut printed)?;
+    assert_eq!(rt; printed.as_slice(), b"LOADED 1 2\n".as_slice());
     Ok(())
 }
 
@@ -166,7 +192,7 @@ fn edits_with_their_numbers(rt: HostRuntime) -> Result<(), Fail> {
 fn a_line_alone(rt: HostRuntime) -> Result<(), Fail> {
     let alloc = rt.alloc();
     let line = Line::Text(Bytes::from_slice(alloc, b"9 SENSE MAX")?);
-    let Command::Plain { session, plain } = read(alloc, &line)? else {
+    let Some(Addressed { session, command: Command::Plain(plain) }) = read(alloc, Addressing::Numbered, &line)? else {
         return Ok(assert!(rt; false));
     };
     assert_eq!(rt; (session, told(&Ask::Plain(plain))), (9, ("max", 0)));
@@ -256,12 +282,12 @@ fn replies_and_refusals(rt: HostRuntime) -> Result<(), Fail> {
     let alloc = rt.alloc();
     let mut printed = Bytes::new(alloc);
     for reply in replies(alloc)? {
-        print(alloc, 7, &reply, &mut printed)?;
+        print(alloc, Addressing::Numbered, 7, &reply, &mut printed)?;
     }
     assert_eq!(rt; printed.as_slice(), REPLIES.as_bytes());
     let mut printed = Bytes::new(alloc);
     for refusal in refusals(alloc)? {
-        print(alloc, 0, &Reply::Refused(refusal), &mut printed)?;
+        print(alloc, Addressing::Numbered, 0, &Reply::Refused(refusal), &mut printed)?;
     }
     assert_eq!(rt; printed.as_slice(), REFUSALS.as_bytes());
     Ok(())

@@ -1,6 +1,6 @@
 // The words of command lines.
 ghost use Rattle.std.specs.Prelude.{◌≡◌, ◌≤◌};
-ghost use Rattle.spec_server.specs.Command as told;
+ghost use Rattle.spec_server.specs.Command as commands;
 ghost use Rattle.lp_line.specs.EditWords as edits;
 
 use lp_base::are_same;
@@ -8,13 +8,13 @@ use spec_mps::Style;
 use spec_server::{CommandWord, EditWord};
 
 fn is_digit(byte: u8) -> bool
-    ensures { result ≡ told.is_digit byte }
+    ensures { result ≡ commands.is_digit byte }
 {
     b'0' <= byte && byte <= b'9'
 }
 
 fn begins_with_zero(text: &[u8]) -> bool
-    ensures { result ≡ told.begins_with_zero text.now }
+    ensures { result ≡ commands.begins_with_zero text.now }
 {
     match text {
         [first, ..] => *first == b'0',
@@ -25,7 +25,7 @@ fn begins_with_zero(text: &[u8]) -> bool
 // A number from 1 to the last one, in at most so many digits.
 fn number_to(last: u32, digits: usize, text: &[u8]) -> Option<u32>
     requires { last ≤ 1000000 }
-    ensures { result ≡ told.number_to last digits text.now }
+    ensures { result ≡ commands.number_to last digits text.now }
 {
     if text.is_empty() || text.len() > digits || begins_with_zero(text) {
         return None;
@@ -46,7 +46,7 @@ fn number_to(last: u32, digits: usize, text: &[u8]) -> Option<u32>
 /// The number of a session, 1 to 64.
 #[tactic(auto, unfolding(spec_server::specs::Command::session_of))]
 pub(crate) fn session_of(word: &[u8]) -> Option<u32>
-    ensures { result ≡ told.session_of word.now }
+    ensures { result ≡ commands.session_of word.now }
 {
     number_to(64, 2, word)
 }
@@ -54,7 +54,7 @@ pub(crate) fn session_of(word: &[u8]) -> Option<u32>
 /// How many pivots and flips a budget has, 1 to 1,000,000.
 #[tactic(auto, unfolding(spec_server::specs::Command::budget_of))]
 pub(crate) fn budget_of(word: &[u8]) -> Option<u32>
-    ensures { result ≡ told.budget_of word.now }
+    ensures { result ≡ commands.budget_of word.now }
 {
     number_to(1_000_000, 7, word)
 }
@@ -62,7 +62,7 @@ pub(crate) fn budget_of(word: &[u8]) -> Option<u32>
 /// The form that a word names.
 #[tactic(auto, unfolding(spec_server::specs::Command::style_of))]
 pub(crate) fn style_of(word: &[u8]) -> Option<Style>
-    ensures { result ≡ told.style_of word.now }
+    ensures { result ≡ commands.style_of word.now }
 {
     if are_same(word, b"FREE") {
         return Some(Style::Free);
@@ -114,7 +114,7 @@ fn edit_word_of(word: &[u8]) -> Option<EditWord>
 /// The command word that a word is.
 #[tactic(auto, unfolding(spec_server::specs::Command::command_word_of))]
 pub(crate) fn command_word_of(word: &[u8]) -> Option<CommandWord>
-    ensures { result ≡ told.command_word_of word.now }
+    ensures { result ≡ commands.command_word_of word.now }
 {
     if are_same(word, b"LOAD") {
         return Some(CommandWord::Load);

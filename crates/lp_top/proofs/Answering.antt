@@ -1,5 +1,6 @@
 -- The exchange of one ask.
 use Rattle.std.proofs.Common.{◌≡◌, ◌≢◌, ℕ, [], ◌∷◌, Bool, true, false, nat_eq, ap, sym, ◌∙◌, append-nil, refl, subst, eqb-true, eq-eqb, cond}
+use Rattle.spec_server.specs.declared.addressing.Addressing.TheVariants.{Numbered}
 use Rattle.spec_server.specs.declared.asks.Asked.{Asked}
 use Rattle.spec_server.specs.Machine.{ExactAsk, ExactReply, State, AloneStep, Exchange, AloneRun, of_session}
 use Rattle.spec_server.specs.Output.{reply_lines, script_out}
@@ -29,5 +30,5 @@ one_run_to old asked reply state step session = by (nat_eq asked.session session
     by true e = (state, subst (λ (s : ℕ). AloneStep (old s) asked.ask [] reply state) (eqb-true asked.session session e) step, refl)
     by false e = refl
 
-pub one_line : (asked : Asked ExactAsk) (reply : ExactReply) → script_out (exchange_of asked reply ∷ []) ≡ reply_lines asked.session reply
-one_line asked reply = append-nil (reply_lines asked.session reply)
+pub one_line : (asked : Asked ExactAsk) (reply : ExactReply) → script_out (exchange_of asked reply ∷ []) ≡ reply_lines Numbered asked.session reply
+one_line asked reply = append-nil (reply_lines Numbered asked.session reply)

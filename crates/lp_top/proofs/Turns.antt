@@ -7,11 +7,10 @@ use Rattle.std.proofs.KnownBytes.{Appends-trans, Consumes-nil, Appends-nil}
 use Rattle.spec_text.specs.Lines.{lines_of, ended_lines_of, input_limit, IsPrefixOf}
 use Rattle.spec_text.specs.declared.line.Line.{Line}
 use Rattle.spec_text.specs.declared.line.Line.TheVariants.{Over}
+use Rattle.spec_server.specs.declared.addressing.Addressing.TheVariants.{Numbered}
 use Rattle.spec_server.specs.declared.asks.Asked.{Asked}
-use Rattle.spec_server.specs.declared.pending.Pending.{Pending}
-use Rattle.spec_server.specs.declared.pending.Pending.TheVariants.{Between}
 use Rattle.spec_server.specs.Machine.{ExactAsk, State, opening, Exchange, asked_in, AloneRun, of_session, RunFits}
-use Rattle.spec_server.specs.Script.{Script, Ending, asks_from, pending_after, ending_by, script_of, ended_asks_of}
+use Rattle.spec_server.specs.Script.{Pending, Between, Script, Ending, asks_from, pending_after, ending_by, script_of, ended_asks_of}
 use Rattle.spec_server.specs.Script as script
 use Rattle.spec_server.specs.Output.{script_out}
 use Rattle.spec_server.proofs.RunLemmas.{AloneRun-append, of_session-append, script_out-append, asked_in-append, updated}
@@ -35,26 +34,26 @@ use Rattle.lp_top.proofs.Answering.{exchange_of, one_run, one_run_to, one_line}
 
 -- these exchanges are those of the lines, and lead each session to its state
 pub record IsSoFar (exchanges : List Exchange) (lines : List (Line (List ℕ))) (states : ℕ → State) : Type 0 where
-  pub asks : map asked_in exchanges ≡ asks_from Between lines
+  pub asks : map asked_in exchanges ≡ asks_from Numbered Between lines
   pub runs : (session : ℕ) → AloneRun opening (of_session session exchanges) (states session)
 
 -- exchanges of these lines, in which each session runs alone, and which begin so
 pub record GoesOn (exchanges : List Exchange) (lines : List (Line (List ℕ))) : Type 0 where
   pub others : List Exchange
-  pub asks : map asked_in (exchanges ++ others) ≡ asks_from Between lines
+  pub asks : map asked_in (exchanges ++ others) ≡ asks_from Numbered Between lines
   pub runs : RunFits (exchanges ++ others)
 
 -- more lines may be answered
 goes_on : (exchanges : List Exchange) (lines more : List (Line (List ℕ))) (states : ℕ → State) → IsSoFar exchanges lines states → GoesOn exchanges (lines ++ more)
 goes_on exchanges lines more states so =
-    let asks : List (Asked ExactAsk) = asks_from (pending_after Between lines) more in
+    let asks : List (Asked ExactAsk) = asks_from Numbered (pending_after Numbered Between lines) more in
     let some : SomeExchanges states asks = some_exchanges states asks in
     record {
       others = some.exchanges;
       asks = asked_in-append exchanges some.exchanges
           ∙ ap (λ zs. map asked_in exchanges ++ zs) some.asked
           ∙ ap (λ zs. zs ++ asks) so.asks
-          ∙ sym (asks_from-append Between lines more);
+          ∙ sym (asks_from-append Numbered Between lines more);
       runs = λ session. let rest = some.runs session in (
         rest.0,
         subst (λ (xs : List Exchange). AloneRun opening xs rest.0) (sym (of_session-append session exchanges some.exchanges))
@@ -64,20 +63,20 @@ goes_on exchanges lines more states so =
 
 -- ---- lines behind those that end between two commands
 
-asks_more : (lines more : List (Line (List ℕ))) → pending_after Between lines ≡ Between → asks_from Between (lines ++ more) ≡ asks_from Between lines ++ asks_from Between more
-asks_more lines more between = asks_from-append Between lines more ∙ ap (λ (p : Pending (List (Line (List ℕ)))). asks_from Between lines ++ asks_from p more) between
+asks_more : (lines more : List (Line (List ℕ))) → pending_after Numbered Between lines ≡ Between → asks_from Numbered Between (lines ++ more) ≡ asks_from Numbered Between lines ++ asks_from Numbered Between more
+asks_more lines more between = asks_from-append Numbered Between lines more ∙ ap (λ (p : Pending). asks_from Numbered Between lines ++ asks_from Numbered p more) between
 
-pending_more : (lines more : List (Line (List ℕ))) → pending_after Between lines ≡ Between → pending_after Between (lines ++ more) ≡ pending_after Between more
-pending_more lines more between = pending_after-append Between lines more ∙ ap (λ (p : Pending (List (Line (List ℕ)))). pending_after p more) between
+pending_more : (lines more : List (Line (List ℕ))) → pending_after Numbered Between lines ≡ Between → pending_after Numbered Between (lines ++ more) ≡ pending_after Numbered Between more
+pending_more lines more between = pending_after-append Numbered Between lines more ∙ ap (λ (p : Pending). pending_after Numbered p more) between
 
 -- the exchanges with those of more lines
-so_far_more : (exchanges others : List Exchange) (lines more : List (Line (List ℕ))) (states new : ℕ → State) → IsSoFar exchanges lines states → pending_after Between lines ≡ Between →
-    map asked_in others ≡ asks_from Between more → ((session : ℕ) → AloneRun (states session) (of_session session others) (new session)) →
+so_far_more : (exchanges others : List Exchange) (lines more : List (Line (List ℕ))) (states new : ℕ → State) → IsSoFar exchanges lines states → pending_after Numbered Between lines ≡ Between →
+    map asked_in others ≡ asks_from Numbered Between more → ((session : ℕ) → AloneRun (states session) (of_session session others) (new session)) →
     IsSoFar (exchanges ++ others) (lines ++ more) new
 so_far_more exchanges others lines more states new so between asks runs = record {
   asks = asked_in-append exchanges others
       ∙ ap (λ zs. map asked_in exchanges ++ zs) asks
-      ∙ ap (λ zs. zs ++ asks_from Between more) so.asks
+      ∙ ap (λ zs. zs ++ asks_from Numbered Between more) so.asks
       ∙ sym (asks_more lines more between);
   runs = λ session.
       subst (λ (xs : List Exchange). AloneRun opening xs (new session)) (sym (of_session-append session exchanges others))
@@ -85,9 +84,9 @@ so_far_more exchanges others lines more states new so between asks runs = record
 }
 
 -- more lines that complete no ask
-so_far_none : (exchanges : List Exchange) (lines more : List (Line (List ℕ))) (states : ℕ → State) → IsSoFar exchanges lines states → pending_after Between lines ≡ Between → asks_from Between more ≡ [] → IsSoFar exchanges (lines ++ more) states
+so_far_none : (exchanges : List Exchange) (lines more : List (Line (List ℕ))) (states : ℕ → State) → IsSoFar exchanges lines states → pending_after Numbered Between lines ≡ Between → asks_from Numbered Between more ≡ [] → IsSoFar exchanges (lines ++ more) states
 so_far_none exchanges lines more states so between none = record {
-  asks = so.asks ∙ sym (append-nil (asks_from Between lines)) ∙ ap (λ zs. asks_from Between lines ++ zs) (sym none) ∙ sym (asks_more lines more between);
+  asks = so.asks ∙ sym (append-nil (asks_from Numbered Between lines)) ∙ ap (λ zs. asks_from Numbered Between lines ++ zs) (sym none) ∙ sym (asks_more lines more between);
   runs = so.runs;
 }
 
@@ -96,13 +95,13 @@ so_fits {exchanges} {lines} {states} so = λ session. (states session, so.runs s
 
 -- ---- scripts by their length
 
-script_within : (read : List ℕ) → length read ≤ 2 ^ 26 → script_of read ≡ record { asks = asks_from Between (lines_of read); ending = ending_by (pending_after Between (lines_of read)) }
+script_within : (read : List ℕ) → length read ≤ 2 ^ 26 → script_of read ≡ record { asks = asks_from Numbered Between (lines_of read); ending = ending_by (pending_after Numbered Between (lines_of read)) }
 unfolding script_of
 script_within read h = by (nat_le (length read) input_limit) (le-leb (length read) input_limit h)
   where
     by : (t : Bool) → t ≡ true → ◌≡◌ {A = Script}
-        (cond t (record { asks = asks_from Between (lines_of read); ending = ending_by (pending_after Between (lines_of read)) }) (record { asks = ended_asks_of read; ending = script.Over }))
-        (record { asks = asks_from Between (lines_of read); ending = ending_by (pending_after Between (lines_of read)) })
+        (cond t (record { asks = asks_from Numbered Between (lines_of read); ending = ending_by (pending_after Numbered Between (lines_of read)) }) (record { asks = ended_asks_of read; ending = script.Over }))
+        (record { asks = asks_from Numbered Between (lines_of read); ending = ending_by (pending_after Numbered Between (lines_of read)) })
     by t e = rw e refl
 
 script_past : (read : List ℕ) → 2 ^ 26 < length read → script_of read ≡ record { asks = ended_asks_of read; ending = script.Over }
@@ -110,11 +109,11 @@ unfolding script_of
 script_past read h = by (nat_le (length read) input_limit) (lt-leb (length read) input_limit h)
   where
     by : (t : Bool) → t ≡ false → ◌≡◌ {A = Script}
-        (cond t (record { asks = asks_from Between (lines_of read); ending = ending_by (pending_after Between (lines_of read)) }) (record { asks = ended_asks_of read; ending = script.Over }))
+        (cond t (record { asks = asks_from Numbered Between (lines_of read); ending = ending_by (pending_after Numbered Between (lines_of read)) }) (record { asks = ended_asks_of read; ending = script.Over }))
         (record { asks = ended_asks_of read; ending = script.Over })
     by t e = rw e refl
 
-ended_asks : (read : List ℕ) → ended_asks_of read ≡ asks_from Between (ended_lines_of (take input_limit read))
+ended_asks : (read : List ℕ) → ended_asks_of read ≡ asks_from Numbered Between (ended_lines_of (take input_limit read))
 unfolding ended_asks_of
 ended_asks read = refl
 
@@ -123,7 +122,7 @@ ended_asks read = refl
 pub record Turn (left_before left_now taken_before taken_now : Option (List ℕ)) (reading : LinesState) (sessions : List State) : Type 0 where
   pub lines : List (Line (List ℕ))
   pub reads : ReadsLines left_before left_now at_start reading lines
-  pub between : pending_after Between lines ≡ Between
+  pub between : pending_after Numbered Between lines ≡ Between
   pub exchanges : List Exchange
   pub so_far : IsSoFar exchanges lines (state_at sessions)
   pub written : Appends taken_before taken_now (script_out exchanges)
@@ -146,7 +145,7 @@ start left taken reading sessions is_start are_opening = record {
 
 -- one more ask was answered
 pub turn_on : {left_before left_now taken_before taken_now : Option (List ℕ)} (left_after taken_after : Option (List ℕ)) {reading : LinesState} {sessions : List State} →
-    Turn left_before left_now taken_before taken_now reading sessions → (new_reading : LinesState) (asked : Asked ExactAsk) → TakesAsk left_now left_after reading new_reading asked →
+    Turn left_before left_now taken_before taken_now reading sessions → (new_reading : LinesState) (asked : Asked ExactAsk) → TakesAsk Numbered left_now left_after reading new_reading asked →
     (new_sessions : List State) → Answers taken_now taken_after sessions new_sessions asked →
     Turn left_before left_after taken_before taken_after new_reading new_sessions
 turn_on {left_before} {left_now} {taken_before} {taken_now} left_after taken_after {reading} {sessions} t new_reading asked k new_sessions a =
@@ -184,7 +183,7 @@ moves_in_part exchanges lines more states so written appended front (inl part) =
       written = written;
       consumed = part.front.moved;
       appended = appended;
-      asks = inl (on.asks ∙ ap (asks_from Between) (sym (append_assoc lines more part.more)) ∙ ap (asks_from Between) (sym part.front.ended) ∙ sym (ended_asks part.front.read));
+      asks = inl (on.asks ∙ ap (asks_from Numbered Between) (sym (append_assoc lines more part.more)) ∙ ap (asks_from Numbered Between) (sym part.front.ended) ∙ sym (ended_asks part.front.read));
       runs = on.runs;
       front = front_of written exchanges on.others front;
     }
@@ -196,7 +195,7 @@ moves_in_part exchanges lines more states so written appended front (inr all) =
       written = written;
       consumed = all.moved;
       appended = appended;
-      asks = inr (on.asks ∙ ap (asks_from Between) (sym all.all) ∙ sym (ap (λ (s : Script). s.asks) (script_within all.read all.bound)), all.at_end);
+      asks = inr (on.asks ∙ ap (asks_from Numbered Between) (sym all.all) ∙ sym (ap (λ (s : Script). s.asks) (script_within all.read all.bound)), all.at_end);
       runs = on.runs;
       front = front_of written exchanges on.others front;
     }
@@ -209,7 +208,7 @@ moves_broken_off : {left_before left_after taken_before taken_after : Option (Li
     Appends taken_before taken_after (script_out exchanges) → (r : ReadsFront left_before left_after lines) →
     (moves : Moves left_before left_after taken_before taken_after) × (BreaksOff moves × (moves.read ≡ r.read))
 moves_broken_off exchanges lines states so appended r =
-    let asks : map asked_in exchanges ≡ ended_asks_of r.read = so.asks ∙ ap (asks_from Between) (sym r.ended) ∙ sym (ended_asks r.read) in (
+    let asks : map asked_in exchanges ≡ ended_asks_of r.read = so.asks ∙ ap (asks_from Numbered Between) (sym r.ended) ∙ sym (ended_asks r.read) in (
       record {
         read = r.read;
         exchanges = exchanges;
@@ -225,14 +224,14 @@ moves_broken_off exchanges lines states so appended r =
 
 -- all lines were read and answered
 moves_all : {left_before left_after taken_before taken_after : Option (List ℕ)} (exchanges : List Exchange) (lines : List (Line (List ℕ))) (states : ℕ → State) → IsSoFar exchanges lines states →
-    Appends taken_before taken_after (script_out exchanges) → ReadsAll left_before left_after lines → (ending : Ending) → ending_by (pending_after Between lines) ≡ ending →
+    Appends taken_before taken_after (script_out exchanges) → ReadsAll left_before left_after lines → (ending : Ending) → ending_by (pending_after Numbered Between lines) ≡ ending →
     (moves : Moves left_before left_after taken_before taken_after) × EndsInput moves ending
 moves_all exchanges lines states so appended all ending ends =
-    let asks : map asked_in exchanges ≡ asks_from Between (lines_of all.read) = so.asks ∙ ap (asks_from Between) (sym all.all) in
+    let asks : map asked_in exchanges ≡ asks_from Numbered Between (lines_of all.read) = so.asks ∙ ap (asks_from Numbered Between) (sym all.all) in
     let is : script_of all.read ≡ record { asks = map asked_in exchanges; ending = ending } =
     script_within all.read all.bound
-    ∙ ap (λ (zs : List (Asked ExactAsk)). record { asks = zs; ending = ending_by (pending_after Between (lines_of all.read)) }) (sym asks)
-    ∙ ap (λ (e : Ending). record { asks = map asked_in exchanges; ending = e }) (ap (λ (ls : List (Line (List ℕ))). ending_by (pending_after Between ls)) all.all ∙ ends) in (
+    ∙ ap (λ (zs : List (Asked ExactAsk)). record { asks = zs; ending = ending_by (pending_after Numbered Between (lines_of all.read)) }) (sym asks)
+    ∙ ap (λ (e : Ending). record { asks = map asked_in exchanges; ending = e }) (ap (λ (ls : List (Line (List ℕ))). ending_by (pending_after Numbered Between ls)) all.all ∙ ends) in (
       record {
         read = all.read;
         exchanges = exchanges;
@@ -248,11 +247,11 @@ moves_all exchanges lines states so appended all ending ends =
 
 module _ {left_before left_now taken_before taken_now : Option (List ℕ)} (left_after : Option (List ℕ)) {reading : LinesState} {sessions : List State} (t : Turn left_before left_now taken_before taken_now reading sessions) where
   -- lines came that complete no ask
-  none_more : (more : List (Line (List ℕ))) → asks_from Between more ≡ [] → IsSoFar t.exchanges (t.lines ++ more) (state_at sessions)
+  none_more : (more : List (Line (List ℕ))) → asks_from Numbered Between more ≡ [] → IsSoFar t.exchanges (t.lines ++ more) (state_at sessions)
   none_more more none = so_far_none t.exchanges t.lines more (state_at sessions) t.so_far t.between none
 
   -- no further ask came
-  pub stopped : (new : LinesState) (stop : LineStop) → TakesNext left_now left_after reading new (Err stop) → (moves : Moves left_before left_after taken_before taken_now) × EndsSo moves (Err (stop_of stop))
+  pub stopped : (new : LinesState) (stop : LineStop) → TakesNext Numbered left_now left_after reading new (Err stop) → (moves : Moves left_before left_after taken_before taken_now) × EndsSo moves (Err (stop_of stop))
   stopped new line_stops.Read k =
       let m = moves_broken_off t.exchanges (t.lines ++ k.passed) (state_at sessions) (none_more k.passed k.asks) t.written (stops_with line_stops.Read (ReadsUntil-append t.reads k.reads)).front in
       (m.0, m.1.0)
@@ -263,13 +262,13 @@ module _ {left_before left_now taken_before taken_now : Option (List ℕ)} (left
   )
 
   -- the input has ended
-  pub ended : (ending : Ending) → TakesEnd left_now left_after reading ending → (moves : Moves left_before left_after taken_before taken_now) × EndsInput moves ending
+  pub ended : (ending : Ending) → TakesEnd Numbered left_now left_after reading ending → (moves : Moves left_before left_after taken_before taken_now) × EndsInput moves ending
   ended ending k =
       moves_all t.exchanges (t.lines ++ k.none.passed) (state_at sessions) (none_more k.none.passed k.none.asks) t.written (stops_at_end (ReadsUntil-append t.reads k.none.reads))
       ending (ap ending_by (pending_more t.lines k.none.passed t.between) ∙ k.ends)
 
   -- the input is longer than may be read
-  pub too_long : TakesNone left_now left_after reading (Ok Over) → (moves : Moves left_before left_after taken_before taken_now) × EndsSo moves (Err stops.Over)
+  pub too_long : TakesNone Numbered left_now left_after reading (Ok Over) → (moves : Moves left_before left_after taken_before taken_now) × EndsSo moves (Err stops.Over)
   too_long k =
       let over = stops_over (ReadsUntil-append t.reads k.reads) in
       let m = moves_broken_off t.exchanges (t.lines ++ k.passed) (state_at sessions) (none_more k.passed k.asks) t.written over.front in
@@ -279,7 +278,7 @@ module _ {left_before left_now taken_before taken_now : Option (List ℕ)} (left
       (m.0, record { script = past; whole = m.1.0.whole })
 
   -- an ask came, and was answered in part
-  pub in_answer : (taken_after : Option (List ℕ)) (new : LinesState) (asked : Asked ExactAsk) → TakesAsk left_now left_after reading new asked → AnswersInPart taken_now taken_after sessions asked → Moves left_before left_after taken_before taken_after
+  pub in_answer : (taken_after : Option (List ℕ)) (new : LinesState) (asked : Asked ExactAsk) → TakesAsk Numbered left_now left_after reading new asked → AnswersInPart taken_now taken_after sessions asked → Moves left_before left_after taken_before taken_after
   in_answer taken_after new asked k a =
       let others : List Exchange = exchange_of asked a.reply ∷ [] in
       let lines : List (Line (List ℕ)) = t.lines ++ k.passed in
@@ -295,8 +294,8 @@ module _ {left_before left_now taken_before taken_now : Option (List ℕ)} (left
       (subst (λ (ls : List (Line (List ℕ))). ReadsPart left_before left_after ls ⊎ ReadsAll left_before left_after ls) (sym (append-nil lines)) (stops_now (ReadsLines-append t.reads k.reads)))
 
 -- the same of what was taken
-pub takes_as : (before after : Option (List ℕ)) (old new : LinesState) (taken is : Taken) → taken ≡ is → TakesNext before after old new (Ok taken) → TakesNext before after old new (Ok is)
-takes_as before after old new taken is same k = subst (λ (t : Taken). TakesNext before after old new (Ok t)) same k
+pub takes_as : (before after : Option (List ℕ)) (old new : LinesState) (taken is : Taken) → taken ≡ is → TakesNext Numbered before after old new (Ok taken) → TakesNext Numbered before after old new (Ok is)
+takes_as before after old new taken is same k = subst (λ (t : Taken). TakesNext Numbered before after old new (Ok t)) same k
 
 -- a stop by want of memory or by a fault of the sink asks for nothing else
 pub stops_so : {before after taken now : Option (List ℕ)} (moves : Moves before after taken now) (result : Result (Unit {0}) Stop) (stop : Stop) → result ≡ Err stop → (stop ≡ stops.Write) ⊎ (stop ≡ stops.NoMemory) → (m : Moves before after taken now) × EndsSo m result

@@ -2,6 +2,7 @@
 use Rattle.std.specs.Prelude.{ℕ, ◌≡◌, ◌≢◌, List, [], Option, slice_index_or}
 use Rattle.std.specs.Io.KnownBytes.{Appends}
 use Rattle.lp_base.specs.Beside.{Takes}
+use Rattle.spec_server.specs.declared.addressing.Addressing.TheVariants.{Numbered}
 use Rattle.spec_server.specs.declared.asks.Asked.{Asked}
 use Rattle.spec_server.specs.Machine.{ExactAsk, ExactReply, State, opening, AloneStep}
 use Rattle.spec_server.specs.Output.{reply_lines}
@@ -19,11 +20,11 @@ pub record Steps (old new : List State) (asked : Asked ExactAsk) (reply : ExactR
 pub record Answers (before after : Option (List ℕ)) (old new : List State) (asked : Asked ExactAsk) : Type 0 where
   pub reply : ExactReply
   pub steps : Steps old new asked reply
-  pub written : Appends before after (reply_lines asked.session reply)
+  pub written : Appends before after (reply_lines Numbered asked.session reply)
 
 -- a front of a reply was written
 pub record AnswersInPart (before after : Option (List ℕ)) (old : List State) (asked : Asked ExactAsk) : Type 0 where
   pub reply : ExactReply
   pub state : State
   pub step : AloneStep (state_at old asked.session) asked.ask [] reply state
-  pub written : Takes before after (reply_lines asked.session reply)
+  pub written : Takes before after (reply_lines Numbered asked.session reply)

@@ -6,7 +6,7 @@ ghost use Rattle.lp_top.specs.Answer.{Answers, AnswersInPart};
 use crate::run::Stop;
 use crate::sessions::Sessions;
 use lp_base::{Bytes, Sink, send};
-use lp_line::{Asked, print};
+use lp_line::{Addressing, Asked, print};
 use std::alloc::Global;
 
 /// Asks a session, and writes its reply.
@@ -26,7 +26,7 @@ pub(crate) fn answer<K: Sink>(
     let session = asked.session;
     let reply = sessions.step(alloc, asked);
     let mut line = Bytes::new(alloc);
-    print(alloc, session, &reply, &mut line)?;
+    print(alloc, Addressing::Numbered, session, &reply, &mut line)?;
     send(out, line.as_slice())?;
     Ok(())
 }

@@ -7,7 +7,7 @@ ghost use Rattle.lp_top.specs.Run.{Runs};
 use crate::answer::answer;
 use crate::sessions::Sessions;
 use lp_base::{LineStop, Lines, Sink, Source, WriteFault};
-use lp_line::{Taken, take};
+use lp_line::{Addressing, Taken, take};
 use std::alloc::{AllocError, Global};
 
 /// Why a run stops before its script has ended between two commands.
@@ -58,7 +58,7 @@ pub fn run<S: Source, K: Sink>(alloc: Global, src: &mut S, out: &mut K) -> Resul
     let mut lines = Lines::new(alloc)?;
     let mut sessions = Sessions::new(alloc)?;
     loop {
-        match take(alloc, &mut lines, src)? {
+        match take(alloc, Addressing::Numbered, &mut lines, src)? {
             Taken::Ask(asked) => answer(alloc, &mut sessions, asked, out)?,
             Taken::End => return Ok(()),
             Taken::Cut => return Err(Stop::Cut),

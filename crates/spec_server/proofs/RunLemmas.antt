@@ -5,6 +5,7 @@ use Rattle.std.proofs.lemmas.List.Elements.{filter-append}
 use Rattle.std.proofs.lemmas.Grind.{flat_map-append}
 use Rattle.spec_server.specs.declared.asks.Asked.{Asked}
 use Rattle.spec_server.specs.Machine.{ExactAsk, IsKeptAsk, AreKept, State, is_memory, AloneStep, Exchange, asked_in, AloneRun, of_session}
+use Rattle.spec_server.specs.declared.addressing.Addressing.TheVariants.{Numbered}
 use Rattle.spec_server.specs.Output.{reply_lines, script_out}
 use Rattle.spec_server.proofs.Dues.{reply_to, state_after, IsKeptState, does_due, after_kept, ample_reply}
 
@@ -18,7 +19,7 @@ pub of_session-append : (session : ℕ) (xs ys : List Exchange) → of_session s
 of_session-append session xs ys = filter-append (λ x. nat_eq x.session session) xs ys
 
 pub script_out-append : (xs ys : List Exchange) → script_out (xs ++ ys) ≡ script_out xs ++ script_out ys
-script_out-append xs ys = flat_map-append (λ x. reply_lines x.session x.reply) xs ys
+script_out-append xs ys = flat_map-append (λ x. reply_lines Numbered x.session x.reply) xs ys
 
 pub asked_in-append : (xs ys : List Exchange) → map asked_in (xs ++ ys) ≡ map asked_in xs ++ map asked_in ys
 asked_in-append [] ys = refl

@@ -8,43 +8,50 @@ use Rattle.spec_edit.specs.Edited.{ExactEdit, IsKeptEdit}
 use Rattle.spec_mps.specs.declared.style.Style.{Style}
 use Rattle.spec_mps.specs.NumberText.{spelled_from}
 use Rattle.spec_server.specs.declared.asks.Asked.{Asked}
-use Rattle.spec_server.specs.declared.command.Command.TheVariants.{Skip, Load, Check, Plain, Bad}
+use Rattle.spec_server.specs.declared.addressing.Addressed.{Addressed}
+use Rattle.spec_server.specs.declared.addressing.Addressing.{Addressing}
+use Rattle.spec_server.specs.declared.addressing.Addressing.TheVariants.{Numbered, Alone}
+use Rattle.spec_server.specs.declared.command.Command.TheVariants.{Load, Check, Plain, Bad}
 use Rattle.spec_server.specs.declared.command.CommandWord.{CommandWord}
 use Rattle.spec_server.specs.declared.command.CommandWord.TheVariants as command_word
-use Rattle.spec_server.specs.declared.pending.Pending.{Pending}
-use Rattle.spec_server.specs.declared.pending.Pending.TheVariants.{Between, Text, Certificate}
 use Rattle.spec_server.specs.Machine.{ExactAsk, IsKeptPlain}
 use Rattle.spec_server.specs.EditCommand.{Reads, edit_by}
-use Rattle.spec_server.specs.Command.{ExactCommand, is_digit, begins_with_zero, session_of, budget_of, style_of, command_word_of, load_in, write_in, budget_in, change_in, command_with, command_at, command_by, command_for, command_by_words, command_of, begins_with_hash}
-use Rattle.spec_server.specs.Script.{ends_text, ends_certificate, begun, pending_after_line, asks_of_command, asks_of_line, asks_from, pending_after}
+use Rattle.spec_server.specs.Command.{ExactCommand, is_digit, begins_with_zero, session_of, budget_of, style_of, command_word_of}
+use Rattle.spec_server.specs.Command.{load_by, write_by, budget_by, change_by, command_with, command_at, command_of}
+use Rattle.spec_server.specs.Addressing.{addressed_to, addressed_from, addressed_by, addressed_in, begins_with_hash}
+use Rattle.spec_server.specs.Script.{Pending, Between, Text, Certificate, ends_text, ends_certificate, begun, begun_by}
+use Rattle.spec_server.specs.Script.{pending_after_line, asks_of_command, asks_by, asks_of_line, asks_from, pending_after}
 use Rattle.spec_server.proofs.KeptEdits.{edit_kept}
 
-abbrev pub Reading : Type 0
-Reading = Pending (List (Line (List ℕ)))
+pub asks_from-append : (addressing : Addressing) (p : Pending) (ls ms : List (Line (List ℕ))) →
+    asks_from addressing p (ls ++ ms) ≡ asks_from addressing p ls ++ asks_from addressing (pending_after addressing p ls) ms
+asks_from-append addressing p [] ms = refl
+asks_from-append addressing p (l ∷ ls) ms =
+    let after : Pending = pending_after_line addressing p l in
+    ap (λ zs. asks_of_line addressing p l ++ zs) (asks_from-append addressing after ls ms)
+    ∙ sym (append_assoc (asks_of_line addressing p l) (asks_from addressing after ls) (asks_from addressing (pending_after addressing after ls) ms))
 
-pub asks_from-append : (p : Reading) (ls ms : List (Line (List ℕ))) → asks_from p (ls ++ ms) ≡ asks_from p ls ++ asks_from (pending_after p ls) ms
-asks_from-append p [] ms = refl
-asks_from-append p (l ∷ ls) ms =
-    ap (λ zs. asks_of_line p l ++ zs) (asks_from-append (pending_after_line p l) ls ms)
-    ∙ sym (append_assoc (asks_of_line p l) (asks_from (pending_after_line p l) ls) (asks_from (pending_after (pending_after_line p l) ls) ms))
-
-pub pending_after-append : (p : Reading) (ls ms : List (Line (List ℕ))) → pending_after p (ls ++ ms) ≡ pending_after (pending_after p ls) ms
-pending_after-append p [] ms = refl
-pending_after-append p (l ∷ ls) ms = pending_after-append (pending_after_line p l) ls ms
+pub pending_after-append : (addressing : Addressing) (p : Pending) (ls ms : List (Line (List ℕ))) →
+    pending_after addressing p (ls ++ ms) ≡ pending_after addressing (pending_after addressing p ls) ms
+pending_after-append addressing p [] ms = refl
+pending_after-append addressing p (l ∷ ls) ms = pending_after-append addressing (pending_after_line addressing p l) ls ms
 
 -- ---- sessions have the numbers 0 to 64, and edits have numbers that may be kept
 
-abbrev pub IsNumbered : Reading → Type 0
+abbrev pub IsNumbered : Pending → Type 0
 IsNumbered Between = Unit {0}
 IsNumbered (Text session form body) = session ≤ 64
 IsNumbered (Certificate session body) = session ≤ 64
 
 abbrev pub IsKeptCommand : ExactCommand → Type 0
-IsKeptCommand Skip = Unit {0}
-IsKeptCommand (Load session form) = session ≤ 64
-IsKeptCommand (Check session) = session ≤ 64
-IsKeptCommand (Plain session asked) = (session ≤ 64) × IsKeptPlain asked
-IsKeptCommand (Bad session fault) = session ≤ 64
+IsKeptCommand (Load form) = Unit {0}
+IsKeptCommand Check = Unit {0}
+IsKeptCommand (Plain asked) = IsKeptPlain asked
+IsKeptCommand (Bad fault) = Unit {0}
+
+abbrev pub IsKeptLine : Option (Addressed ExactEdit) → Type 0
+IsKeptLine None = Unit {0}
+IsKeptLine (Some addressed) = (addressed.session ≤ 64) × IsKeptCommand addressed.command
 
 last_test : (s t u v w : Bool) → s && t && u && v && w ≡ true → w ≡ true
 last_test true true true true w e = e
@@ -64,91 +71,103 @@ session_small word session e =
     subst (λ n. n ≤ 64) s.1
     (leb-true (spelled_from 0 word) 64 (last_test (nat_lt 0 (length word)) (nat_le (length word) 2) (list_all is_digit word) (not (begins_with_zero word)) (nat_le (spelled_from 0 word) 64) s.0))
 
-choice : (t : Bool) (a b : ExactCommand) → IsKeptCommand a → IsKeptCommand b → IsKeptCommand (cond t a b)
+load_kept : (form : Option Style) → IsKeptCommand (load_by form)
+load_kept None = tt
+load_kept (Some form) = tt
+
+write_kept : (form : Option Style) → IsKeptCommand (write_by form)
+write_kept None = tt
+write_kept (Some form) = tt
+
+budget_kept : (n : Option ℕ) → IsKeptCommand (budget_by n)
+budget_kept None = tt
+budget_kept (Some n) = tt
+
+change_kept : (read : Reads ExactEdit) → IfOk read IsKeptEdit → IsKeptCommand (change_by read)
+change_kept (Ok e) kept = kept
+change_kept (Err why) kept = tt
+
+-- a command word, and no word, one or more behind it
+command_with_kept : (which : CommandWord) (behind : List (List ℕ)) → IsKeptCommand (command_with which behind)
+command_with_kept command_word.Load [] = tt
+command_with_kept command_word.Load (form ∷ []) = load_kept (style_of form)
+command_with_kept command_word.Load (form ∷ other ∷ more) = tt
+command_with_kept command_word.Write [] = tt
+command_with_kept command_word.Write (form ∷ []) = write_kept (style_of form)
+command_with_kept command_word.Write (form ∷ other ∷ more) = tt
+command_with_kept command_word.Solve [] = tt
+command_with_kept command_word.Solve (other ∷ more) = tt
+command_with_kept command_word.Cert [] = tt
+command_with_kept command_word.Cert (other ∷ more) = tt
+command_with_kept command_word.How [] = tt
+command_with_kept command_word.How (other ∷ more) = tt
+command_with_kept command_word.Budget [] = tt
+command_with_kept command_word.Budget (n ∷ []) = budget_kept (budget_of n)
+command_with_kept command_word.Budget (n ∷ other ∷ more) = tt
+command_with_kept command_word.Check [] = tt
+command_with_kept command_word.Check (other ∷ more) = tt
+command_with_kept command_word.Quit [] = tt
+command_with_kept command_word.Quit (other ∷ more) = tt
+command_with_kept (command_word.Edit which) behind = change_kept (edit_by which behind) (edit_kept which behind)
+
+command_at_kept : (which : Option CommandWord) (behind : List (List ℕ)) → IsKeptCommand (command_at which behind)
+command_at_kept None behind = tt
+command_at_kept (Some which) behind = command_with_kept which behind
+
+command_kept : (words : List (List ℕ)) → IsKeptCommand (command_of words)
+command_kept [] = tt
+command_kept (word ∷ behind) = command_at_kept (command_word_of word) behind
+
+addressed_to_kept : (found : Option ℕ) (words : List (List ℕ)) → ((session : ℕ) → found ≡ Some session → session ≤ 64) →
+    IsKeptLine (Some (addressed_to found words))
+addressed_to_kept None words h = (omega arith, tt)
+addressed_to_kept (Some session) words h = (h session refl, command_kept words)
+
+addressed_from_kept : (addressing : Addressing) (word : List ℕ) (words : List (List ℕ)) →
+    IsKeptLine (Some (addressed_from addressing word words))
+addressed_from_kept Numbered word words = addressed_to_kept (session_of word) words (session_small word)
+addressed_from_kept Alone word words = (omega arith, command_kept (word ∷ words))
+
+words_kept : (addressing : Addressing) (words : List (List ℕ)) → IsKeptLine (addressed_by addressing words)
+words_kept addressing [] = tt
+words_kept addressing (word ∷ words) = addressed_from_kept addressing word words
+
+choice : (t : Bool) (a b : Option (Addressed ExactEdit)) → IsKeptLine a → IsKeptLine b → IsKeptLine (cond t a b)
 choice true a b h k = h
 choice false a b h k = k
 
-load_kept : (session : ℕ) (form : Option Style) → session ≤ 64 → IsKeptCommand (load_in session form)
-load_kept session None h = h
-load_kept session (Some form) h = h
+pub line_is_kept : (addressing : Addressing) (next : Line (List ℕ)) → IsKeptLine (addressed_in addressing next)
+unfolding addressed_in
+line_is_kept addressing (line.Text bytes) =
+    choice (begins_with_hash bytes) None (addressed_by addressing (words_of bytes)) tt (words_kept addressing (words_of bytes))
+line_is_kept addressing (line.Long len) = (omega arith, tt)
+line_is_kept addressing line.End = tt
+line_is_kept addressing line.Over = tt
 
-write_kept : (session : ℕ) (form : Option Style) → session ≤ 64 → IsKeptCommand (write_in session form)
-write_kept session None h = h
-write_kept session (Some form) h = (h, tt)
+begun_numbered : (session : ℕ) (c : ExactCommand) → session ≤ 64 → IsNumbered (begun session c)
+begun_numbered session (Load form) h = h
+begun_numbered session Check h = h
+begun_numbered session (Plain asked) h = tt
+begun_numbered session (Bad fault) h = tt
 
-budget_kept : (session : ℕ) (n : Option ℕ) → session ≤ 64 → IsKeptCommand (budget_in session n)
-budget_kept session None h = h
-budget_kept session (Some n) h = (h, tt)
+begun_by_numbered : (found : Option (Addressed ExactEdit)) → IsKeptLine found → IsNumbered (begun_by found)
+begun_by_numbered None h = tt
+begun_by_numbered (Some addressed) h = begun_numbered addressed.session addressed.command h.0
 
-change_kept : (session : ℕ) (read : Reads ExactEdit) → session ≤ 64 → IfOk read IsKeptEdit → IsKeptCommand (change_in session read)
-change_kept session (Ok e) h kept = (h, kept)
-change_kept session (Err why) h kept = h
-
--- a command word, and no word, one or more behind it
-command_with_kept : (session : ℕ) (which : CommandWord) (behind : List (List ℕ)) → session ≤ 64 → IsKeptCommand (command_with session which behind)
-command_with_kept session command_word.Load [] h = h
-command_with_kept session command_word.Load (form ∷ []) h = load_kept session (style_of form) h
-command_with_kept session command_word.Load (form ∷ other ∷ more) h = h
-command_with_kept session command_word.Write [] h = h
-command_with_kept session command_word.Write (form ∷ []) h = write_kept session (style_of form) h
-command_with_kept session command_word.Write (form ∷ other ∷ more) h = h
-command_with_kept session command_word.Solve [] h = (h, tt)
-command_with_kept session command_word.Solve (other ∷ more) h = h
-command_with_kept session command_word.Cert [] h = (h, tt)
-command_with_kept session command_word.Cert (other ∷ more) h = h
-command_with_kept session command_word.How [] h = (h, tt)
-command_with_kept session command_word.How (other ∷ more) h = h
-command_with_kept session command_word.Budget [] h = h
-command_with_kept session command_word.Budget (n ∷ []) h = budget_kept session (budget_of n) h
-command_with_kept session command_word.Budget (n ∷ other ∷ more) h = h
-command_with_kept session command_word.Check [] h = h
-command_with_kept session command_word.Check (other ∷ more) h = h
-command_with_kept session command_word.Quit [] h = (h, tt)
-command_with_kept session command_word.Quit (other ∷ more) h = h
-command_with_kept session (command_word.Edit which) behind h = change_kept session (edit_by which behind) h (edit_kept which behind)
-
-command_at_kept : (session : ℕ) (which : Option CommandWord) (behind : List (List ℕ)) → session ≤ 64 → IsKeptCommand (command_at session which behind)
-command_at_kept session None behind h = h
-command_at_kept session (Some which) behind h = command_with_kept session which behind h
-
-command_by_kept : (session : ℕ) (words : List (List ℕ)) → session ≤ 64 → IsKeptCommand (command_by session words)
-command_by_kept session [] h = h
-command_by_kept session (word ∷ behind) h = command_at_kept session (command_word_of word) behind h
-
-command_for_kept : (found : Option ℕ) (words : List (List ℕ)) → ((session : ℕ) → found ≡ Some session → session ≤ 64) → IsKeptCommand (command_for found words)
-command_for_kept None words h = omega arith
-command_for_kept (Some session) words h = command_by_kept session words (h session refl)
-
-words_kept : (words : List (List ℕ)) → IsKeptCommand (command_by_words words)
-words_kept [] = tt
-words_kept (word ∷ words) = command_for_kept (session_of word) words (session_small word)
-
-pub command_kept : (next : Line (List ℕ)) → IsKeptCommand (command_of next)
-unfolding command_of
-command_kept (line.Text bytes) = choice (begins_with_hash bytes) Skip (command_by_words (words_of bytes)) tt (words_kept (words_of bytes))
-command_kept (line.Long len) = omega arith
-command_kept line.End = tt
-command_kept line.Over = tt
-
-begun_numbered : (c : ExactCommand) → IsKeptCommand c → IsNumbered (begun c)
-begun_numbered Skip h = tt
-begun_numbered (Load session form) h = h
-begun_numbered (Check session) h = h
-begun_numbered (Plain session asked) h = tt
-begun_numbered (Bad session fault) h = tt
-
-pending_choice : (t : Bool) (a b : Reading) → IsNumbered a → IsNumbered b → IsNumbered (cond t a b)
+pending_choice : (t : Bool) (a b : Pending) → IsNumbered a → IsNumbered b → IsNumbered (cond t a b)
 pending_choice true a b h k = h
 pending_choice false a b h k = k
 
-line_numbered : (p : Reading) (next : Line (List ℕ)) → IsNumbered p → IsNumbered (pending_after_line p next)
-line_numbered Between next h = begun_numbered (command_of next) (command_kept next)
-line_numbered (Text session form body) next h = pending_choice (ends_text next) Between (Text session form (body ++ next ∷ [])) tt h
-line_numbered (Certificate session body) next h = pending_choice (ends_certificate next) Between (Certificate session (body ++ next ∷ [])) tt h
+line_numbered : (addressing : Addressing) (p : Pending) (next : Line (List ℕ)) → IsNumbered p →
+    IsNumbered (pending_after_line addressing p next)
+line_numbered addressing Between next h = begun_by_numbered (addressed_in addressing next) (line_is_kept addressing next)
+line_numbered addressing (Text session form body) next h = pending_choice (ends_text next) Between (Text session form (body ++ next ∷ [])) tt h
+line_numbered addressing (Certificate session body) next h = pending_choice (ends_certificate next) Between (Certificate session (body ++ next ∷ [])) tt h
 
-pending_numbered : (p : Reading) (lines : List (Line (List ℕ))) → IsNumbered p → IsNumbered (pending_after p lines)
-pending_numbered p [] h = h
-pending_numbered p (l ∷ ls) h = pending_numbered (pending_after_line p l) ls (line_numbered p l h)
+pending_numbered : (addressing : Addressing) (p : Pending) (lines : List (Line (List ℕ))) → IsNumbered p →
+    IsNumbered (pending_after addressing p lines)
+pending_numbered addressing p [] h = h
+pending_numbered addressing p (l ∷ ls) h = pending_numbered addressing (pending_after_line addressing p l) ls (line_numbered addressing p l h)
 
 first_asked : (a b : Asked ExactAsk) → ◌≡◌ {A = List (Asked ExactAsk)} (a ∷ []) (b ∷ []) → a ≡ b
 first_asked a b e = cc
@@ -156,22 +175,31 @@ first_asked a b e = cc
 none_asked : (a : Asked ExactAsk) → ◌≡◌ {A = List (Asked ExactAsk)} [] (a ∷ []) → ⊥
 none_asked a e = cc
 
-command_asked : (c : ExactCommand) (a : Asked ExactAsk) → IsKeptCommand c → asks_of_command c ≡ a ∷ [] → a.session ≤ 64
-command_asked Skip a h e = absurd (none_asked a e)
-command_asked (Load session form) a h e = absurd (none_asked a e)
-command_asked (Check session) a h e = absurd (none_asked a e)
-command_asked (Plain session asked) a h e = subst (λ (b : Asked ExactAsk). b.session ≤ 64) (first_asked _ a e) h.0
-command_asked (Bad session fault) a h e = subst (λ (b : Asked ExactAsk). b.session ≤ 64) (first_asked _ a e) h
+command_asked : (session : ℕ) (c : ExactCommand) (a : Asked ExactAsk) → session ≤ 64 →
+    asks_of_command session c ≡ a ∷ [] → a.session ≤ 64
+command_asked session (Load form) a h e = absurd (none_asked a e)
+command_asked session Check a h e = absurd (none_asked a e)
+command_asked session (Plain asked) a h e = subst (λ (b : Asked ExactAsk). b.session ≤ 64) (first_asked _ a e) h
+command_asked session (Bad fault) a h e = subst (λ (b : Asked ExactAsk). b.session ≤ 64) (first_asked _ a e) h
 
-body_asked : (t : Bool) (session : ℕ) (asked : ExactAsk) (a : Asked ExactAsk) → session ≤ 64 → ◌≡◌ {A = List (Asked ExactAsk)} (cond t (record { session = session; ask = asked } ∷ []) []) (a ∷ []) → a.session ≤ 64
+addressed_asked : (found : Option (Addressed ExactEdit)) (a : Asked ExactAsk) → IsKeptLine found →
+    asks_by found ≡ a ∷ [] → a.session ≤ 64
+addressed_asked None a h e = absurd (none_asked a e)
+addressed_asked (Some addressed) a h e = command_asked addressed.session addressed.command a h.0 e
+
+body_asked : (t : Bool) (session : ℕ) (asked : ExactAsk) (a : Asked ExactAsk) → session ≤ 64 →
+    ◌≡◌ {A = List (Asked ExactAsk)} (cond t (record { session = session; ask = asked } ∷ []) []) (a ∷ []) → a.session ≤ 64
 body_asked true session asked a h e = subst (λ (b : Asked ExactAsk). b.session ≤ 64) (first_asked _ a e) h
 body_asked false session asked a h e = absurd (none_asked a e)
 
-line_asked : (p : Reading) (next : Line (List ℕ)) (a : Asked ExactAsk) → IsNumbered p → asks_of_line p next ≡ a ∷ [] → a.session ≤ 64
-line_asked Between next a h e = command_asked (command_of next) a (command_kept next) e
-line_asked (Text session form body) next a h e = body_asked (ends_text next) session _ a h e
-line_asked (Certificate session body) next a h e = body_asked (ends_certificate next) session _ a h e
+line_asked : (addressing : Addressing) (p : Pending) (next : Line (List ℕ)) (a : Asked ExactAsk) → IsNumbered p →
+    asks_of_line addressing p next ≡ a ∷ [] → a.session ≤ 64
+line_asked addressing Between next a h e = addressed_asked (addressed_in addressing next) a (line_is_kept addressing next) e
+line_asked addressing (Text session form body) next a h e = body_asked (ends_text next) session _ a h e
+line_asked addressing (Certificate session body) next a h e = body_asked (ends_certificate next) session _ a h e
 
--- an ask of a script is one of session 0 to 64
-pub asked_session : (lines : List (Line (List ℕ))) (next : Line (List ℕ)) (a : Asked ExactAsk) → asks_of_line (pending_after Between lines) next ≡ a ∷ [] → a.session ≤ 64
-asked_session lines next a e = line_asked (pending_after Between lines) next a (pending_numbered Between lines tt) e
+-- an ask is one of session 0 to 64
+pub asked_session : (addressing : Addressing) (lines : List (Line (List ℕ))) (next : Line (List ℕ)) (a : Asked ExactAsk) →
+    asks_of_line addressing (pending_after addressing Between lines) next ≡ a ∷ [] → a.session ≤ 64
+asked_session addressing lines next a e =
+    line_asked addressing (pending_after addressing Between lines) next a (pending_numbered addressing Between lines tt) e

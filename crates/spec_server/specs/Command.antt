@@ -1,21 +1,18 @@
--- What a line between two commands is, by its words.
+-- What the words of a line ask, behind the number of its session.
 use Rattle.std.specs.Prelude.{ℕ, ◌==◌, ◌&&◌, Bool, false, not, Option, Some, None, Ok, Err, List, [], ◌∷◌, length, nat_lt, nat_le, codes, if◌then◌else◌}
 use Rattle.std.specs.List.{list_all}
-use Rattle.spec_text.specs.declared.line.Line.{Line}
-use Rattle.spec_text.specs.declared.line.Line.TheVariants as line
-use Rattle.spec_text.specs.Words.{words_of}
 use Rattle.spec_mps.specs.NumberText.{spelled_from}
 use Rattle.spec_mps.specs.Shapes.{look_up}
 use Rattle.spec_mps.specs.declared.style.Style.{Style}
 use Rattle.spec_mps.specs.declared.style.Style.TheVariants as style
 use Rattle.spec_edit.specs.Edited.{ExactEdit}
 use Rattle.spec_server.specs.declared.command.Command.{Command}
-use Rattle.spec_server.specs.declared.command.Command.TheVariants.{Skip, Load, Check, Plain, Bad}
+use Rattle.spec_server.specs.declared.command.Command.TheVariants.{Load, Check, Plain, Bad}
 use Rattle.spec_server.specs.declared.command.CommandWord.{CommandWord}
 use Rattle.spec_server.specs.declared.command.CommandWord.TheVariants as word
 use Rattle.spec_server.specs.declared.command.EditWord.TheVariants as edit
 use Rattle.spec_server.specs.declared.command.LineFault.TheVariants as fault
-use Rattle.spec_server.specs.declared.command.Plain.TheVariants as plain
+use Rattle.spec_server.specs.declared.command.Plain.TheVariants as plain_command
 use Rattle.spec_server.specs.EditCommand.{Reads, edit_by}
 
 -- a command with exact numbers
@@ -74,60 +71,39 @@ command_word_of text =
 
 -- ---- commands
 
-abbrev pub load_in : ℕ → Option Style → ExactCommand
-load_in session None = Bad session fault.Word
-load_in session (Some form) = Load session form
+abbrev pub load_by : Option Style → ExactCommand
+load_by None = Bad fault.Word
+load_by (Some form) = Load form
 
-abbrev pub write_in : ℕ → Option Style → ExactCommand
-write_in session None = Bad session fault.Word
-write_in session (Some form) = Plain session (plain.Write form)
+abbrev pub write_by : Option Style → ExactCommand
+write_by None = Bad fault.Word
+write_by (Some form) = Plain (plain_command.Write form)
 
-abbrev pub budget_in : ℕ → Option ℕ → ExactCommand
-budget_in session None = Bad session fault.Number
-budget_in session (Some n) = Plain session (plain.Budget n)
+abbrev pub budget_by : Option ℕ → ExactCommand
+budget_by None = Bad fault.Number
+budget_by (Some n) = Plain (plain_command.Budget n)
 
-abbrev pub change_in : ℕ → Reads ExactEdit → ExactCommand
-change_in session (Ok e) = Plain session (plain.Change e)
-change_in session (Err why) = Bad session why
+abbrev pub change_by : Reads ExactEdit → ExactCommand
+change_by (Ok e) = Plain (plain_command.Change e)
+change_by (Err why) = Bad why
 
--- a session's command, by its command word and the words behind it
-abbrev pub command_with : ℕ → CommandWord → List (List ℕ) → ExactCommand
-command_with session word.Load (form ∷ []) = load_in session (style_of form)
-command_with session word.Write (form ∷ []) = write_in session (style_of form)
-command_with session word.Solve [] = Plain session plain.Solve
-command_with session word.Cert [] = Plain session plain.Cert
-command_with session word.How [] = Plain session plain.How
-command_with session word.Budget (n ∷ []) = budget_in session (budget_of n)
-command_with session word.Check [] = Check session
-command_with session word.Quit [] = Plain session plain.Quit
-command_with session (word.Edit which) behind = change_in session (edit_by which behind)
-command_with session other behind = Bad session fault.Word
+-- by the command word and the words behind it
+abbrev pub command_with : CommandWord → List (List ℕ) → ExactCommand
+command_with word.Load (form ∷ []) = load_by (style_of form)
+command_with word.Write (form ∷ []) = write_by (style_of form)
+command_with word.Solve [] = Plain plain_command.Solve
+command_with word.Cert [] = Plain plain_command.Cert
+command_with word.How [] = Plain plain_command.How
+command_with word.Budget (n ∷ []) = budget_by (budget_of n)
+command_with word.Check [] = Check
+command_with word.Quit [] = Plain plain_command.Quit
+command_with (word.Edit which) behind = change_by (edit_by which behind)
+command_with other behind = Bad fault.Word
 
-abbrev pub command_at : ℕ → Option CommandWord → List (List ℕ) → ExactCommand
-command_at session None behind = Bad session fault.Word
-command_at session (Some which) behind = command_with session which behind
+abbrev pub command_at : Option CommandWord → List (List ℕ) → ExactCommand
+command_at None behind = Bad fault.Word
+command_at (Some which) behind = command_with which behind
 
--- the command of a session whose words these are
-abbrev pub command_by : ℕ → List (List ℕ) → ExactCommand
-command_by session [] = Bad session fault.Word
-command_by session (first ∷ behind) = command_at session (command_word_of first) behind
-
-abbrev pub command_for : Option ℕ → List (List ℕ) → ExactCommand
-command_for None words = Bad 0 fault.Word
-command_for (Some session) words = command_by session words
-
-abbrev pub command_by_words : List (List ℕ) → ExactCommand
-command_by_words [] = Skip
-command_by_words (first ∷ words) = command_for (session_of first) words
-
-abbrev pub begins_with_hash : List ℕ → Bool
-begins_with_hash [] = false
-begins_with_hash (b ∷ bs) = b == 35
-
--- A line without words, and a comment, is skipped. A line that is too long is no command of any session. The ends of the input
--- are no lines of a script.
-unfoldable pub command_of : Line (List ℕ) → ExactCommand
-command_of (line.Text bytes) = if begins_with_hash bytes then Skip else command_by_words (words_of bytes)
-command_of (line.Long len) = Bad 0 fault.Long
-command_of line.End = Skip
-command_of line.Over = Skip
+abbrev pub command_of : List (List ℕ) → ExactCommand
+command_of [] = Bad fault.Word
+command_of (first ∷ behind) = command_at (command_word_of first) behind

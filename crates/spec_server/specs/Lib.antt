@@ -4,6 +4,7 @@ pub mod HandedBack
 pub mod LastFits
 pub mod Output
 pub mod Command
+pub mod Addressing
 pub mod EditCommand
 pub mod Script
 pub mod Said

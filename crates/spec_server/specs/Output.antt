@@ -16,6 +16,8 @@ use Rattle.spec_check.specs.declared.certificate.Verdict.{Verdict}
 use Rattle.spec_check.specs.declared.certificate.Verdict.TheVariants as verdict
 use Rattle.spec_edit.specs.declared.edit.Which.{Which}
 use Rattle.spec_edit.specs.declared.edit.Which.TheVariants.{Rows, Columns}
+use Rattle.spec_server.specs.declared.addressing.Addressing.{Addressing}
+use Rattle.spec_server.specs.declared.addressing.Addressing.TheVariants.{Numbered, Alone}
 use Rattle.spec_server.specs.declared.answer.Answer.{Answer}
 use Rattle.spec_server.specs.declared.answer.Answer.TheVariants as answer
 use Rattle.spec_server.specs.declared.answer.How.{How}
@@ -116,7 +118,8 @@ reply_text (reply.Written text) = codes "TEXT " ++ decimal (count_of_lines text)
 reply_text reply.Done = codes "OK"
 reply_text (reply.Answered what) = answer_text what
 reply_text (reply.Certified lines) = codes "CERT " ++ decimal (length lines)
-reply_text (reply.Found how pivots publication) = codes "HOW " ++ how_text how ++ codes " PIVOTS " ++ pivots_text pivots ++ codes " " ++ publication_text publication
+reply_text (reply.Found how pivots publication) =
+    codes "HOW " ++ how_text how ++ codes " PIVOTS " ++ pivots_text pivots ++ codes " " ++ publication_text publication
 reply_text (reply.Checked what) = verdict_text what
 reply_text reply.Bye = codes "BYE"
 reply_text reply.Memory = codes "MEMORY"
@@ -139,10 +142,15 @@ lines_behind reply.Bye = []
 lines_behind reply.Memory = []
 lines_behind (reply.Refused why) = []
 
--- a reply's lines in the output of a script
-unfoldable pub reply_lines : ℕ → ExactReply → List ℕ
-reply_lines session replied = decimal session ++ codes " " ++ reply_text replied ++ 10 ∷ lines_behind replied
+-- the number of the session stands in front of a reply, where lines name sessions
+abbrev pub front_of : Addressing → ℕ → List ℕ
+front_of Numbered session = decimal session ++ codes " "
+front_of Alone session = []
+
+-- a reply's lines in the output
+unfoldable pub reply_lines : Addressing → ℕ → ExactReply → List ℕ
+reply_lines addressing session replied = front_of addressing session ++ reply_text replied ++ 10 ∷ lines_behind replied
 
 -- the output of a script
 abbrev pub script_out : List Exchange → List ℕ
-script_out xs = flat_map (λ x. reply_lines x.session x.reply) xs
+script_out xs = flat_map (λ x. reply_lines Numbered x.session x.reply) xs

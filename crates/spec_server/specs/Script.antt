@@ -1,20 +1,24 @@
 -- What a script asks.
-use Rattle.std.specs.Prelude.{ℕ, ◌&&◌, Bool, false, not, None, List, [], ◌∷◌, ◌++◌, length, take, nat_le, codes, if◌then◌else◌}
+use Rattle.std.specs.Prelude.{ℕ, ◌&&◌, Bool, false, not, Option, Some, None, List, [], ◌∷◌, ◌++◌, length, take, nat_le, codes, if◌then◌else◌}
 use Rattle.spec_text.specs.declared.line.Line.{Line}
 use Rattle.spec_text.specs.declared.line.Line.TheVariants as line
 use Rattle.spec_text.specs.Lines.{lines_of, ended_lines_of, input_limit}
 use Rattle.spec_text.specs.Words.{same, words_of}
+use Rattle.spec_edit.specs.Edited.{ExactEdit}
 use Rattle.spec_mps.specs.Cards.{begins_with_blank}
+use Rattle.spec_mps.specs.declared.style.Style.{Style}
 use Rattle.spec_mps.specs.Reader.{start}
 use Rattle.spec_mps.specs.Steps.{Verdict, Spelled, Refused, judge}
 use Rattle.spec_check.specs.Text.{is_end}
 use Rattle.spec_check.specs.Text as certificate
 use Rattle.spec_server.specs.declared.asks.Ask.TheVariants as ask
 use Rattle.spec_server.specs.declared.asks.Asked.{Asked}
-use Rattle.spec_server.specs.declared.command.Command.TheVariants.{Skip, Load, Check, Plain, Bad}
-use Rattle.spec_server.specs.declared.pending.Pending.{Pending}
-use Rattle.spec_server.specs.declared.pending.Pending.TheVariants.{Between, Text, Certificate}
-use Rattle.spec_server.specs.Command.{ExactCommand, command_of}
+use Rattle.spec_server.specs.declared.addressing.Addressed.{Addressed}
+use Rattle.spec_server.specs.declared.addressing.Addressing.{Addressing}
+use Rattle.spec_server.specs.declared.addressing.Addressing.TheVariants.{Numbered}
+use Rattle.spec_server.specs.declared.command.Command.TheVariants.{Load, Check, Plain, Bad}
+use Rattle.spec_server.specs.Addressing.{addressed_in}
+use Rattle.spec_server.specs.Command.{ExactCommand}
 use Rattle.spec_server.specs.Machine.{ExactAsk}
 
 -- ---- bodies
@@ -47,43 +51,56 @@ ask_of_judgement (certificate.Refused n) = ask.Unfit n
 
 -- ---- a script, line by line
 
+-- between two commands, or in the body of one, with the body's lines so far
+pub data Pending : Type 0 where
+  Between : Pending
+  Text : (session : ℕ) → (form : Style) → (body : List (Line (List ℕ))) → Pending
+  Certificate : (session : ℕ) → (body : List (Line (List ℕ))) → Pending
+
 -- what a command begins
-abbrev pub begun : ExactCommand → Pending (List (Line (List ℕ)))
-begun Skip = Between
-begun (Load session form) = Text session form []
-begun (Check session) = Certificate session []
-begun (Plain session asked) = Between
-begun (Bad session fault) = Between
+abbrev pub begun : ℕ → ExactCommand → Pending
+begun session (Load form) = Text session form []
+begun session Check = Certificate session []
+begun session (Plain asked) = Between
+begun session (Bad fault) = Between
+
+abbrev pub begun_by : Option (Addressed ExactEdit) → Pending
+begun_by None = Between
+begun_by (Some addressed) = begun addressed.session addressed.command
 
 -- what is pending after a line
-abbrev pub pending_after_line : Pending (List (Line (List ℕ))) → Line (List ℕ) → Pending (List (Line (List ℕ)))
-pending_after_line Between next = begun (command_of next)
-pending_after_line (Text session form body) next = if ends_text next then Between else Text session form (body ++ next ∷ [])
-pending_after_line (Certificate session body) next = if ends_certificate next then Between else Certificate session (body ++ next ∷ [])
+abbrev pub pending_after_line : Addressing → Pending → Line (List ℕ) → Pending
+pending_after_line addressing Between next = begun_by (addressed_in addressing next)
+pending_after_line addressing (Text session form body) next = if ends_text next then Between else Text session form (body ++ next ∷ [])
+pending_after_line addressing (Certificate session body) next = if ends_certificate next then Between else Certificate session (body ++ next ∷ [])
 
-abbrev pub asks_of_command : ExactCommand → List (Asked ExactAsk)
-asks_of_command Skip = []
-asks_of_command (Load session form) = []
-asks_of_command (Check session) = []
-asks_of_command (Plain session asked) = record { session = session; ask = ask.Plain asked } ∷ []
-asks_of_command (Bad session fault) = record { session = session; ask = ask.Bad fault } ∷ []
+abbrev pub asks_of_command : ℕ → ExactCommand → List (Asked ExactAsk)
+asks_of_command session (Load form) = []
+asks_of_command session Check = []
+asks_of_command session (Plain asked) = record { session = session; ask = ask.Plain asked } ∷ []
+asks_of_command session (Bad fault) = record { session = session; ask = ask.Bad fault } ∷ []
+
+abbrev pub asks_by : Option (Addressed ExactEdit) → List (Asked ExactAsk)
+asks_by None = []
+asks_by (Some addressed) = asks_of_command addressed.session addressed.command
 
 -- the ask that a line completes, if it completes one
-abbrev pub asks_of_line : Pending (List (Line (List ℕ))) → Line (List ℕ) → List (Asked ExactAsk)
-asks_of_line Between next = asks_of_command (command_of next)
-asks_of_line (Text session form body) next =
+abbrev pub asks_of_line : Addressing → Pending → Line (List ℕ) → List (Asked ExactAsk)
+asks_of_line addressing Between next = asks_by (addressed_in addressing next)
+asks_of_line addressing (Text session form body) next =
     if ends_text next then record { session = session; ask = ask_of_verdict (judge form start 1 (body ++ next ∷ [])) } ∷ [] else []
-asks_of_line (Certificate session body) next =
+asks_of_line addressing (Certificate session body) next =
     if ends_certificate next then record { session = session; ask = ask_of_judgement (certificate.judge None 1 (body ++ next ∷ [])) } ∷ [] else []
 
 -- the asks that these lines complete, and what is pending after them
-abbrev pub asks_from : Pending (List (Line (List ℕ))) → List (Line (List ℕ)) → List (Asked ExactAsk)
-asks_from pending [] = []
-asks_from pending (next ∷ lines) = asks_of_line pending next ++ asks_from (pending_after_line pending next) lines
+abbrev pub asks_from : Addressing → Pending → List (Line (List ℕ)) → List (Asked ExactAsk)
+asks_from addressing pending [] = []
+asks_from addressing pending (next ∷ lines) =
+    asks_of_line addressing pending next ++ asks_from addressing (pending_after_line addressing pending next) lines
 
-abbrev pub pending_after : Pending (List (Line (List ℕ))) → List (Line (List ℕ)) → Pending (List (Line (List ℕ)))
-pending_after pending [] = pending
-pending_after pending (next ∷ lines) = pending_after (pending_after_line pending next) lines
+abbrev pub pending_after : Addressing → Pending → List (Line (List ℕ)) → Pending
+pending_after addressing pending [] = pending
+pending_after addressing pending (next ∷ lines) = pending_after addressing (pending_after_line addressing pending next) lines
 
 -- ---- a whole script
 
@@ -93,7 +110,7 @@ pub data Ending : Type 0 where
   Cut : Ending
   Over : Ending
 
-abbrev pub ending_by : Pending (List (Line (List ℕ))) → Ending
+abbrev pub ending_by : Pending → Ending
 ending_by Between = Ended
 ending_by (Text session form body) = Cut
 ending_by (Certificate session body) = Cut
@@ -105,10 +122,13 @@ pub record Script : Type 0 where
 
 -- the asks of the lines that end among these bytes, as far as a script may be read
 unfoldable pub ended_asks_of : List ℕ → List (Asked ExactAsk)
-ended_asks_of bytes = asks_from Between (ended_lines_of (take input_limit bytes))
+ended_asks_of bytes = asks_from Numbered Between (ended_lines_of (take input_limit bytes))
 
 unfoldable pub script_of : List ℕ → Script
 script_of bytes =
     if nat_le (length bytes) input_limit
-    then record { asks = asks_from Between (lines_of bytes); ending = ending_by (pending_after Between (lines_of bytes)) }
+    then record {
+      asks = asks_from Numbered Between (lines_of bytes);
+      ending = ending_by (pending_after Numbered Between (lines_of bytes));
+    }
     else record { asks = ended_asks_of bytes; ending = Over }

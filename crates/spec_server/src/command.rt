@@ -62,17 +62,15 @@ pub enum LineFault {
     Long,
 }
 
-/// What a line between two commands is, with the number of its session.
+/// What the words of a line ask, behind the number of its session.
 #[derive(Drop)]
 pub enum Command<E> {
-    /// A line without words, or a comment.
-    Skip,
     /// A text of a model follows.
-    Load { session: u32, style: Style },
+    Load(Style),
     /// A certificate follows.
-    Check(u32),
+    Check,
     /// A command of this line alone.
-    Plain { session: u32, plain: Plain<E> },
+    Plain(Plain<E>),
     /// No command.
-    Bad { session: u32, fault: LineFault },
+    Bad(LineFault),
 }

@@ -2,10 +2,12 @@
 //!
 //! Ask, Reply, Refusal           what a session is asked, and what it replies: src/asks
 //! Answer, LastAnswer            what a solve answers, and what a session keeps of it: src/answer
-//! Command, command_of           what a line between two commands is: src/command, specs/Command
+//! Command, command_of           what the words of a line ask, behind the number of its session: src/command, specs/Command
+//! Addressing, addressed_in      whether lines name sessions, and what a line between two commands is: src/addressing,
+//!                               specs/Addressing
 //! edit_by                       the edit that a line's words ask for: specs/EditCommand
 //! CommandLine, command_line_of  what the words of a command line ask: src/command_line, specs/CommandLine
-//! Pending                       what the lines of a script have begun: src/pending
+//! Pending                       what the lines of a script have begun: specs/Script
 //! MayAnswer, HowFits            what a solve may end with: specs/Answers
 //! LastFits                      what holds of the last answer that a session keeps: specs/LastFits
 //! IsAcceptedBack                that the certificate of an answer is accepted, handed back: specs/HandedBack
@@ -49,17 +51,17 @@ ghost use Rattle.spec_server.specs.Output.{ended_lines};
 ghost use Rattle.spec_server.specs.Said.{IsSaidEarly};
 ghost use Rattle.spec_server.specs.CheckOut.{said};
 
+mod addressing;
 mod answer;
 mod asks;
 mod command;
 mod command_line;
-mod pending;
 
+pub use addressing::{Addressed, Addressing};
 pub use answer::{Answer, How, LastAnswer, Publication};
 pub use asks::{Ask, Asked, Refusal, Reply};
 pub use command::{Command, CommandWord, EditWord, LineFault, Plain};
 pub use command_line::CommandLine;
-pub use pending::Pending;
 
 /// What a session says of a certificate with a yes is true of the model that it holds.
 pub fn accepted_certificates_are_true()

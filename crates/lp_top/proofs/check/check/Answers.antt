@@ -12,9 +12,9 @@ pub returns-in_err-send-clause-output : goal.returns-in_err-send-clause-output
 returns-in_err-send-clause-output g c =
     let p = err_from_is_err_and c.from_residual-in_err-send.result c.from_residual-in_err-send.ensures.1 in
     rw (p.1, p.2)
-    (says_in_part c.args.style c.new.result c.new.ensures _ _ c.in_ok-reply.reply c.in_ok-reply.ensures.output c.new-line.result c.print_said.new.to c.as_slice.result.now c.new-line.ensures c.in_ok-print_said.ensures c.as_slice.ensures _ _ c.send.ensures.part)
+    (says_in_part c.args.style c.new.result c.new.ensures _ _ c.in_ok-reply.reply c.in_ok-reply.ensures.output c.new-line.result c.print_said.new.to c.as_slice.result.now c.new-line.ensures c.in_ok-print_said.ensures.ok c.as_slice.ensures _ _ c.send.ensures.part)
 
 pub returns-clause-output : goal.returns-clause-output
 returns-clause-output g c =
-    says c.args.style c.new.result c.new.ensures _ _ c.in_ok-reply.reply c.in_ok-reply.ensures.output c.new-line.result c.print_said.new.to c.as_slice.result.now c.new-line.ensures c.in_ok-print_said.ensures c.as_slice.ensures _ _
+    says c.args.style c.new.result c.new.ensures _ _ c.in_ok-reply.reply c.in_ok-reply.ensures.output c.new-line.result c.print_said.new.to c.as_slice.result.now c.new-line.ensures c.in_ok-print_said.ensures.ok c.as_slice.ensures _ _
     c.in_ok-send.ensures.ok c.status_of.result.code c.status_of.ensures

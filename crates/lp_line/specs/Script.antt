@@ -1,0 +1,107 @@
+-- Where the reading of a script stands, and what its lines say.
+use Rattle.std.specs.Prelude.{ℕ, ◌≡◌, ◌≤◌, ◌+◌, List, [], ◌∷◌, ◌++◌, Option, None, Ok, Err}
+use Rattle.spec_text.specs.declared.line.Line.{Line}
+use Rattle.spec_text.specs.declared.line.Line.TheVariants as line
+use Rattle.spec_mps.specs.declared.style.Style.{Style}
+use Rattle.spec_mps.specs.Reader.{start}
+use Rattle.spec_mps.specs.Steps as text
+use Rattle.spec_check.specs.Text as certificate
+use Rattle.spec_server.specs.declared.addressing.Addressing.{Addressing}
+use Rattle.spec_server.specs.declared.asks.Asked.{Asked}
+use Rattle.spec_server.specs.Machine.{ExactAsk}
+use Rattle.spec_server.specs.Command.{ExactCommand}
+use Rattle.spec_server.specs.Said.{Step, On, Says, said_by}
+use Rattle.spec_server.specs.SolveOut.{TextSaid, text_step}
+use Rattle.spec_server.specs.Script.{Pending, Between, Text, Certificate, Ending, Ended, Cut, Over, ending_by, begun, asks_of_command, pending_after_line, asks_of_line}
+use Rattle.lp_check.specs.Reading as certificate_reading
+use Rattle.mps_read.specs.Reading as text_reading
+use Rattle.lp_line.specs.declared.body.Body.{Body}
+use Rattle.lp_line.specs.declared.hearing.Step as code
+use Rattle.lp_line.specs.declared.hearing.Step.TheVariants as step
+use Rattle.lp_line.specs.declared.script.ScriptStage.{ScriptStage}
+use Rattle.lp_line.specs.declared.script.ScriptStage.TheVariants as stage
+use Rattle.lp_line.specs.declared.taking.Taken.{Taken}
+use Rattle.lp_line.specs.declared.taking.Taken.TheVariants as taken
+use Rattle.lp_line.specs.Body.{BodySays, count_in}
+use Rattle.lp_line.specs.Stages.{TextSays, CertificateSaid, certificate_step, CertificateSays}
+
+-- ---- the lines of a script, one by one, with all lines of a body
+
+abbrev pub taken_at : Ending → Taken
+taken_at Ended = taken.End
+taken_at Cut = taken.Cut
+taken_at Over = taken.Over
+
+-- behind the asks of a line
+abbrev pub behind_asks : List (Asked ExactAsk) → Pending → Step Pending Taken
+behind_asks [] next = On next
+behind_asks (asked ∷ more) next = Says (taken.Ask asked)
+
+unfoldable pub script_step : Addressing → Pending → Line (List ℕ) → Step Pending Taken
+script_step addressing pending (line.Text bytes) =
+    behind_asks (asks_of_line addressing pending (line.Text bytes)) (pending_after_line addressing pending (line.Text bytes))
+script_step addressing pending (line.Long len) =
+    behind_asks (asks_of_line addressing pending (line.Long len)) (pending_after_line addressing pending (line.Long len))
+script_step addressing pending line.End = Says (taken_at (ending_by pending))
+script_step addressing pending line.Over =
+    behind_asks (asks_of_line addressing pending line.Over) (pending_after_line addressing pending line.Over)
+
+-- ---- the same from what is held of a body
+
+-- a body that was read so far says of its further lines what all its lines say
+abbrev pub TextFits : Style → List (Line (List ℕ)) → Body text_reading.Reading TextSaid → Type 0
+TextFits form lines body =
+    (more : List (Line (List ℕ))) (answer : Option TextSaid) → BodySays TextSays body more answer →
+    said_by (text_step form) (record { state = start; lines = 0 }) (lines ++ more) ≡ answer
+
+abbrev pub CertificateFits : List (Line (List ℕ)) → Body certificate_reading.Reading CertificateSaid → Type 0
+CertificateFits lines body =
+    (more : List (Line (List ℕ))) (answer : Option CertificateSaid) → BodySays CertificateSays body more answer →
+    said_by certificate_step (record { raw = None; lines = 0 }) (lines ++ more) ≡ answer
+
+abbrev pub Fits : Addressing → Pending → ScriptStage → Type 0
+Fits addressing Between (stage.Between own) = own ≡ addressing
+Fits addressing (Text session form lines) (stage.Text own body) = (own ≡ session) × TextFits form lines body
+Fits addressing (Certificate session lines) (stage.Certificate own body) = (own ≡ session) × CertificateFits lines body
+Fits addressing pending other = ⊥
+
+-- what lines say of a script that stands there
+abbrev pub ScriptSays : ScriptStage → List (Line (List ℕ)) → Option Taken → Type 0
+ScriptSays here lines answer =
+    (addressing : Addressing) (pending : Pending) → Fits addressing pending here →
+        said_by (script_step addressing) pending lines ≡ answer
+
+-- how many lines the body has, with the line of its command
+abbrev pub lines_in : ScriptStage → ℕ
+lines_in (stage.Between addressing) = 0
+lines_in (stage.Text session body) = count_in (λ (reader : text_reading.Reading). reader.lines) body + 1
+lines_in (stage.Certificate session body) = count_in (λ (reader : certificate_reading.Reading). reader.lines) body + 1
+
+-- ---- parts of a step
+
+-- the end of a script that stands there
+abbrev pub IsEndOf : ScriptStage → Taken → Type 0
+IsEndOf here end = (addressing : Addressing) (pending : Pending) → Fits addressing pending here → taken_at (ending_by pending) ≡ end
+
+-- a body begins, of which nothing was read
+pub record BeginsBody (session : ℕ) (command : ExactCommand) (next : ScriptStage) : Type 0 where
+  pub none : asks_of_command session command ≡ []
+  pub fits : (addressing : Addressing) → Fits addressing (begun session command) next
+  pub counts : lines_in next ≤ 1
+
+-- or the command's ask is complete
+abbrev pub Asks : List (Asked ExactAsk) → Taken → Type 0
+Asks asks what = (asked : Asked ExactAsk) × (what ≡ taken.Ask asked) × (asks ≡ asked ∷ [])
+
+abbrev pub Begins : ℕ → ExactCommand → code.Step ScriptStage Taken → Type 0
+Begins session command (step.On next) = BeginsBody session command next
+Begins session command (step.Says what) = Asks (asks_of_command session command) what
+
+-- what verdicts and judgements say
+abbrev pub verdict_said : text.Verdict → TextSaid
+verdict_said (text.Spelled m) = Ok m
+verdict_said (text.Refused n code) = Err (record { line = n; code = code })
+
+abbrev pub judgement_said : certificate.Judgement → CertificateSaid
+judgement_said (certificate.Spelled raw) = Ok raw
+judgement_said (certificate.Refused n) = Err n

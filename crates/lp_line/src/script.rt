@@ -1,0 +1,187 @@
+// A script, line by line.
+ghost use Rattle.std.specs.Prelude.{◌≡◌, ◌≢◌, ◌<◌, ◌+◌, ◌-◌, ◌^◌, IfOk};
+ghost use Rattle.spec_text.specs.declared.line.Line.TheVariants.{End};
+ghost use Rattle.spec_server.specs.Script.{ask_of_verdict, ask_of_judgement};
+ghost use Rattle.spec_mps.specs.Steps.{Verdict};
+ghost use Rattle.spec_check.specs.Text.{Judgement};
+ghost use Rattle.lp_line.specs.Hearing.{Leads};
+ghost use Rattle.lp_line.specs.Script.{ScriptSays, lines_in, Begins, IsEndOf, verdict_said, judgement_said};
+ghost use Rattle.lp_line.specs.declared.hearing.Step.TheVariants as step;
+ghost use Rattle.lp_line.specs.declared.script.ScriptStage.TheVariants as stage;
+ghost use Rattle.lp_line.specs.declared.taking.Taken.TheVariants as taken;
+
+use crate::asks::{Addressed, Ask, Asked, Command};
+use crate::body::{Body, close, pass};
+use crate::command::read;
+use crate::ends::{ends_certificate, ends_text};
+use crate::hearing::{Stage, Step};
+use crate::stages::{CertificateSaid, TextSaid};
+use crate::taking::Taken;
+use lp_base::Line;
+use lp_check::CertReader;
+use mps_read::Reader;
+use spec_server::Addressing;
+use std::alloc::{AllocError, Global};
+
+/// Between two commands, or in the body of one.
+#[derive(Drop)]
+pub enum ScriptStage {
+    Between(Addressing),
+    Text {
+        session: u32,
+        body: Body<Reader, TextSaid>,
+    },
+    Certificate {
+        session: u32,
+        body: Body<CertReader, CertificateSaid>,
+    },
+}
+
+impl Stage for ScriptStage {
+    type Said = Taken;
+
+    ghost use Rattle.std.specs.Prelude.{refl};
+
+    ghost says = { ScriptSays };
+
+    ghost count = { lines_in };
+
+    ghost silent = { λ stage addressing pending fits. refl };
+
+    fn advance(
+        self,
+        alloc: Global,
+        line: &Line,
+    ) -> Result<Step<ScriptStage, Taken>, AllocError> {
+        match line {
+            Line::End => Ok(Step::Says(end_of(&self))),
+            Line::Text(_) | Line::Long(_) | Line::Over => line_in(alloc, self, line),
+        }
+    }
+}
+
+// How a script ends, at the end of its input.
+fn end_of(stage: &ScriptStage) -> Taken
+    ensures { IsEndOf stage.now result }
+{
+    match stage {
+        ScriptStage::Between(_) => Taken::End,
+        ScriptStage::Text { .. } | ScriptStage::Certificate { .. } => Taken::Cut,
+    }
+}
+
+fn line_in(
+    alloc: Global,
+    stage: ScriptStage,
+    line: &Line,
+) -> Result<Step<ScriptStage, Taken>, AllocError>
+    requires small { lines_in stage < 2 ^ 32 - 1 }
+    requires given { line.now ≢ End }
+    ensures { IfOk result (Leads ScriptSays lines_in stage line.now) }
+{
+    match stage {
+        ScriptStage::Between(addressing) => line_between(alloc, addressing, line),
+        ScriptStage::Text { session, body } => line_of_text(alloc, session, body, line),
+        ScriptStage::Certificate { session, body } => {
+            line_of_certificate(alloc, session, body, line)
+        }
+    }
+}
+
+// What a command asks, or the body that it begins.
+fn begin(alloc: Global, addressed: Addressed) -> Step<ScriptStage, Taken>
+    ensures { Begins addressed.session addressed.command result }
+{
+    let Addressed { session, command } = addressed;
+    match command {
+        Command::Load(style) => Step::On(ScriptStage::Text {
+            session,
+            body: Body::Reading(Reader::new(alloc, style)),
+        }),
+        Command::Check => Step::On(ScriptStage::Certificate {
+            session,
+            body: Body::Reading(CertReader::new()),
+        }),
+        Command::Plain(plain) => asked(session, Ask::Plain(plain)),
+        Command::Bad(fault) => asked(session, Ask::Bad(fault)),
+    }
+}
+
+fn asked(session: u32, ask: Ask) -> Step<ScriptStage, Taken>
+    ensures { result ≡ step.Says (taken.Ask (record { session = session; ask = ask })) }
+{
+    Step::Says(Taken::Ask(Asked { session, ask }))
+}
+
+// A line between two commands.
+fn line_between(
+    alloc: Global,
+    addressing: Addressing,
+    line: &Line,
+) -> Result<Step<ScriptStage, Taken>, AllocError>
+    requires { line.now ≢ End }
+    ensures { IfOk result (Leads ScriptSays lines_in (stage.Between addressing) line.now) }
+{
+    match read(alloc, addressing, line)? {
+        Some(addressed) => Ok(begin(alloc, addressed)),
+        None => Ok(Step::On(ScriptStage::Between(addressing))),
+    }
+}
+
+fn ask_of_text(said: TextSaid) -> Ask
+    ensures { (verdict : Verdict) → verdict_said verdict ≡ said → ask_of_verdict verdict ≡ result }
+{
+    match said {
+        Ok(model) => Ask::Loaded(model),
+        Err(fault) => Ask::Misspelled(fault),
+    }
+}
+
+fn ask_of_certificate(said: CertificateSaid) -> Ask
+    ensures { (judgement : Judgement) → judgement_said judgement ≡ said → ask_of_judgement judgement ≡ result }
+{
+    match said {
+        Ok(raw) => Ask::Checked(raw),
+        Err(unfit) => Ask::Unfit(unfit),
+    }
+}
+
+// A line in the text of a model.
+fn line_of_text(
+    alloc: Global,
+    session: u32,
+    body: Body<Reader, TextSaid>,
+    line: &Line,
+) -> Result<Step<ScriptStage, Taken>, AllocError>
+    requires small { lines_in (stage.Text session body) < 2 ^ 32 - 1 }
+    requires given { line.now ≢ End }
+    ensures { IfOk result (Leads ScriptSays lines_in (stage.Text session body) line.now) }
+{
+    let ends = ends_text(alloc, line)?;
+    let body = pass(alloc, body, line)?;
+    if !ends {
+        return Ok(Step::On(ScriptStage::Text { session, body }));
+    }
+    let said = close(alloc, body)?;
+    Ok(asked(session, ask_of_text(said)))
+}
+
+// A line in a certificate.
+fn line_of_certificate(
+    alloc: Global,
+    session: u32,
+    body: Body<CertReader, CertificateSaid>,
+    line: &Line,
+) -> Result<Step<ScriptStage, Taken>, AllocError>
+    requires small { lines_in (stage.Certificate session body) < 2 ^ 32 - 1 }
+    requires given { line.now ≢ End }
+    ensures { IfOk result (Leads ScriptSays lines_in (stage.Certificate session body) line.now) }
+{
+    let ends = ends_certificate(alloc, line)?;
+    let body = pass(alloc, body, line)?;
+    if !ends {
+        return Ok(Step::On(ScriptStage::Certificate { session, body }));
+    }
+    let said = close(alloc, body)?;
+    Ok(asked(session, ask_of_certificate(said)))
+}
