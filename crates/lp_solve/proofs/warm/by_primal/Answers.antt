@@ -9,14 +9,14 @@ use Rattle.lp_solve.proofs.WarmRuns.{primal_ends, primal_fits}
 use Rattle.lp_solve.proofs.warm.by_primal.Goals as goal
 
 pub certificate_at-requires : goal.certificate_at-requires
-certificate_at-requires c = run_inside _ _ _ _ _ _ _ c.in-Ok.ensures
+certificate_at-requires c = run_inside _ _ _ _ _ _ _ c.in-Ok.ensures.ended
 
 pub answered-requires-clause-fits : goal.answered-requires-clause-fits
 answered-requires-clause-fits c =
     subst (IsFor c.args.model.now) (sym (c.in_ok-certificate-in-Ok.ensures.value))
-    (primal_fits _ _ _ (record { end = c.in-Ok.end; tableau = c.run.new.tab; used = c.run.new.used }) c.requires (simp unary_clauses at c.in-Ok.ensures))
+    (primal_fits _ _ _ (record { end = c.in-Ok.end; tableau = c.run.new.tab; used = c.run.new.used }) c.requires (simp unary_clauses at c.in-Ok.ensures.ended))
 
 pub returns-in-Ok-clause-answer : goal.returns-in-Ok-clause-answer
 returns-in-Ok-clause-answer c =
     rw (c.in_ok-certificate-in-Ok.ensures.value, c.in_ok-basis-in-Ok.ensures) at c.answered.ensures.answer
-    ∙ ap (after_run (Some largest) c.args.model.now) (sym (primal_ends (Some largest) c.args.budget c.args.tab (record { end = c.in-Ok.end; tableau = c.run.new.tab; used = c.run.new.used }) (simp unary_clauses at c.in-Ok.ensures)))
+    ∙ ap (after_run (Some largest) c.args.model.now) (sym (primal_ends (Some largest) c.args.budget c.args.tab (record { end = c.in-Ok.end; tableau = c.run.new.tab; used = c.run.new.used }) (simp unary_clauses at c.in-Ok.ensures.ended)))
