@@ -1,0 +1,3 @@
+pub mod HeldThen
+pub mod TrueReplies
+pub mod TrueRuns

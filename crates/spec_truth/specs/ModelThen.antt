@@ -1,0 +1,45 @@
+-- The model that a session has, by what it was asked and what it replied.
+use Rattle.std.specs.Prelude.{ℕ, Option, Some, None, Ok, Err, List, [], ◌∷◌}
+use Rattle.spec_model.specs.Model.{Model}
+use Rattle.spec_edit.specs.Edited.{ExactEdit, OrFault, edited}
+use Rattle.spec_server.specs.declared.asks.Ask.TheVariants as ask
+use Rattle.spec_server.specs.declared.asks.Reply.TheVariants as reply
+use Rattle.spec_server.specs.declared.command.Plain.TheVariants as plain
+use Rattle.spec_server.specs.Machine.{ExactAsk, ExactReply, Exchange, of_session}
+
+-- what an edit makes of a model; none where there was none, or where the edit may not be made
+abbrev pub made : OrFault Model → Option Model
+made (Ok m) = Some m
+made (Err why) = None
+
+abbrev pub after_edit : Option Model → ExactEdit → Option Model
+after_edit None e = None
+after_edit (Some m) e = made (edited m e)
+
+-- Of the replies, OK alone to an edit, LOADED alone to LOAD and BYE alone to QUIT change the model.
+abbrev pub after_change : Option Model → ExactEdit → ExactReply → Option Model
+after_change held e reply.Done = after_edit held e
+after_change held e replied = held
+
+abbrev pub after_load : Option Model → Model → ExactReply → Option Model
+after_load held m (reply.Loaded rows columns) = Some m
+after_load held m replied = held
+
+abbrev pub after_quit : Option Model → ExactReply → Option Model
+after_quit held reply.Bye = None
+after_quit held replied = held
+
+-- the model behind an exchange, by that before it
+abbrev pub after_exchange : Option Model → ExactAsk → ExactReply → Option Model
+after_exchange held (ask.Loaded m) replied = after_load held m replied
+after_exchange held (ask.Plain (plain.Change e)) replied = after_change held e replied
+after_exchange held (ask.Plain plain.Quit) replied = after_quit held replied
+after_exchange held asked replied = held
+
+abbrev pub after_exchanges : Option Model → List Exchange → Option Model
+after_exchanges held [] = held
+after_exchanges held (x ∷ xs) = after_exchanges (after_exchange held x.ask x.reply) xs
+
+-- the model of a session behind these exchanges: none at first
+abbrev pub model_then : ℕ → List Exchange → Option Model
+model_then session xs = after_exchanges None (of_session session xs)
