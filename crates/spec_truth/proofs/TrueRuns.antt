@@ -1,4 +1,4 @@
--- In a run of sessions, what is answered, and what a yes to a certificate says, is true of the model that the session has then.
+-- In a run of sessions, what is answered, and what a yes to a certificate says, is shown of the model that the session has then.
 use Rattle.std.proofs.Common.{◌≡◌, ℕ, true, cond, List, [], ◌∷◌, ◌++◌, Some, refl, sym, ◌∙◌, ap, subst, nat_eq, eq-eqb}
 use Rattle.spec_exact.specs.Fraction.{ℚ}
 use Rattle.spec_model.specs.Model.{Model}
@@ -11,7 +11,8 @@ use Rattle.spec_server.specs.Machine.{ExactReply, State, opening, AloneStep, Exc
 use Rattle.spec_server.proofs.RunLemmas.{of_session-append}
 use Rattle.spec_truth.specs.ModelThen.{model_then}
 use Rattle.spec_truth.proofs.HeldThen.{holds_then}
-use Rattle.spec_truth.proofs.TrueReplies.{answer_true, yes_true}
+use Rattle.spec_truth.proofs.Shown.{IsShown, shown_holds}
+use Rattle.spec_truth.proofs.TrueReplies.{IsShownOfHeld, answer_is_shown, yes_is_shown}
 
 -- ---- the step of one exchange in a run
 
@@ -52,20 +53,27 @@ steps_then before behind x fits =
 
 -- ---- what it replies
 
-abbrev IsTrueThen : List Exchange → Exchange → Known ℚ → Type 0
-IsTrueThen before x known = (m : Model) × (model_then x.session before ≡ Some m) × Holds m known
+-- this is shown of the model that the session has then
+pub record IsShownThen (before : List Exchange) (x : Exchange) (what : Known ℚ) : Type 0 where
+  pub model : Model
+  pub is_held : model_then x.session before ≡ Some model
+  pub shown : IsShown model what
 
 with_reply : (before : List Exchange) (x : Exchange) (replied : ExactReply) (s : StepsThen before x) → x.reply ≡ replied → AloneStep s.old x.ask x.reads replied s.new
 with_reply before x replied s is = subst (λ (r : ExactReply). AloneStep s.old x.ask x.reads r s.new) is s.step
 
-pub answered_then : (before behind : List Exchange) (x : Exchange) (known : Known ℚ) → RunFits (before ++ x ∷ behind) → x.reply ≡ reply.Answered (answer.Known known) → IsTrueThen before x known
-answered_then before behind x known fits is =
-    let s = steps_then before behind x fits in
-    let t = answer_true s.old s.new x.ask x.reads known (with_reply before x (reply.Answered (answer.Known known)) s is) in
-    (t.0, sym s.held ∙ t.1, t.2)
+then_shown : (before : List Exchange) (x : Exchange) (what : Known ℚ) (s : StepsThen before x) → IsShownOfHeld s.old.model what → IsShownThen before x what
+then_shown before x what s h = record { model = h.model; is_held = sym s.held ∙ h.is_held; shown = h.shown }
 
-pub accepted_then : (before behind : List Exchange) (x : Exchange) (known : Known ℚ) → RunFits (before ++ x ∷ behind) → x.reply ≡ reply.Checked (verdict.Yes known) → IsTrueThen before x known
-accepted_then before behind x known fits is =
+pub answered_then : (before behind : List Exchange) (x : Exchange) (what : Known ℚ) → RunFits (before ++ x ∷ behind) → x.reply ≡ reply.Answered (answer.Known what) → IsShownThen before x what
+answered_then before behind x what fits is =
     let s = steps_then before behind x fits in
-    let t = yes_true s.old s.new x.ask x.reads known (with_reply before x (reply.Checked (verdict.Yes known)) s is) in
-    (t.0, sym s.held ∙ t.1, t.2)
+    then_shown before x what s (answer_is_shown s.old s.new x.ask x.reads what (with_reply before x (reply.Answered (answer.Known what)) s is))
+
+pub accepted_then : (before behind : List Exchange) (x : Exchange) (what : Known ℚ) → RunFits (before ++ x ∷ behind) → x.reply ≡ reply.Checked (verdict.Yes what) → IsShownThen before x what
+accepted_then before behind x what fits is =
+    let s = steps_then before behind x fits in
+    then_shown before x what s (yes_is_shown s.old s.new x.ask x.reads what (with_reply before x (reply.Checked (verdict.Yes what)) s is))
+
+pub true_then : (before : List Exchange) (x : Exchange) (what : Known ℚ) → IsShownThen before x what → (m : Model) × (model_then x.session before ≡ Some m) × Holds m what
+true_then before x what h = (h.model, h.is_held, shown_holds h.model what h.shown)

@@ -1,1 +1,2 @@
 pub mod ModelThen
+pub mod TrueAnswer

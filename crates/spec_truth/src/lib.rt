@@ -4,18 +4,29 @@
 //! |---|---|---|
 //! | `after_exchange` | what an ask with its reply makes of a session's model | specs/ModelThen |
 //! | `model_then` | the model of a session behind exchanges: that of its last LOAD, as edited since | specs/ModelThen |
+//! | `IsTrueOf` | what an answer says of a model: of OPTIMAL, INFEASIBLE and UNBOUNDED that it is so | specs/TrueAnswer |
 #![tactic(auto)]
 
-ghost use Rattle.std.specs.Prelude.{◌≡◌, ℕ, List, ◌∷◌, ◌++◌, Some};
+ghost use Rattle.std.specs.Prelude.{◌≡◌, ◌≢◌, ◌↔◌, ℕ, List, ◌∷◌, ◌++◌, All, codes, Some, None, Ok, Err};
+ghost use Rattle.spec_text.specs.declared.line.Line.{Line};
 ghost use Rattle.spec_exact.specs.Fraction.{ℚ};
 ghost use Rattle.spec_model.specs.Model.{Model};
 ghost use Rattle.spec_model.specs.Truth.{IsOptimal, IsInfeasible, IsUnbounded};
+ghost use Rattle.spec_mps.specs.declared.fault.Code.TheVariants as code;
+ghost use Rattle.spec_mps.specs.declared.fault.MpsFault.{MpsFault};
+ghost use Rattle.spec_mps.specs.declared.style.Style.{Style};
+ghost use Rattle.spec_mps.specs.NumberText.{Is, number_of};
+ghost use Rattle.spec_mps.specs.Steps.{Spells, Refuses};
 ghost use Rattle.spec_check.specs.declared.certificate.Known.TheVariants as known;
 ghost use Rattle.spec_check.specs.declared.certificate.Verdict.TheVariants as verdict;
+ghost use Rattle.spec_server.specs.declared.answer.Answer.{Answer};
 ghost use Rattle.spec_server.specs.declared.answer.Answer.TheVariants as answer;
 ghost use Rattle.spec_server.specs.declared.asks.Reply.TheVariants as reply;
 ghost use Rattle.spec_server.specs.Machine.{State, Exchange, opening, of_session, AloneRun, RunFits};
+ghost use Rattle.spec_server.specs.Output.{reply_text};
+ghost use Rattle.spec_server.specs.SolveOut.{TextSaid, text_said, SolveOut};
 ghost use Rattle.spec_truth.specs.ModelThen.{model_then};
+ghost use Rattle.spec_truth.specs.TrueAnswer.{IsTrueOf};
 
 /// A session holds the model that its asks and replies say.
 pub fn sessions_hold_the_model_then()
@@ -47,4 +58,33 @@ pub fn yes_is_true_of_the_model_then()
     ensures unbounded { (before behind : List Exchange) (x : Exchange) → RunFits (before ++ x ∷ behind) →
         x.reply ≡ reply.Checked (verdict.Yes known.Unbounded) →
         (m : Model) × (model_then x.session before ≡ Some m) × IsUnbounded m }
+{}
+
+/// What `solve` takes a text for is what the text spells, or the line and the fault that refuse it.
+pub fn solve_reads_what_texts_spell()
+    ensures spelled { (style : Style) (lines : List (Line (List ℕ))) (m : Model) →
+        text_said style lines ≡ Some (Ok m) ↔ Spells style lines m }
+    ensures refused { (style : Style) (lines : List (Line (List ℕ))) (fault : MpsFault) →
+        text_said style lines ≡ Some (Err fault) → Refuses style lines fault.line fault.code }
+    ensures cut { (style : Style) (lines : List (Line (List ℕ))) → text_said style lines ≡ None →
+        (n : ℕ) × Refuses style lines n code.Cut }
+{}
+
+/// What `solve` writes of a text that spells a model begins with the line of an answer, which is true of the model. The
+/// first line alone says it: behind the word OPTIMAL stands the text of the optimal value.
+pub fn solved_texts_have_true_answers()
+    ensures answer { (style : Style) (lines : List (Line (List ℕ))) (m : Model) (what : TextSaid) (written : List ℕ) →
+        text_said style lines ≡ Some what → SolveOut what written → Spells style lines m →
+        (answer : Answer ℚ) × (behind : List ℕ)
+        × (written ≡ reply_text (reply.Answered answer) ++ 10 ∷ behind) × IsTrueOf m answer }
+    ensures optimal { (style : Style) (lines : List (Line (List ℕ))) (m : Model) (what : TextSaid) (written : List ℕ) →
+        text_said style lines ≡ Some what → SolveOut what written → Spells style lines m →
+        (text behind : List ℕ) → All (λ b. b ≢ 10) text → written ≡ codes "OPTIMAL " ++ text ++ 10 ∷ behind →
+        (v : ℚ) × (number_of text ≡ Is v) × IsOptimal m v }
+    ensures infeasible { (style : Style) (lines : List (Line (List ℕ))) (m : Model) (what : TextSaid) (written : List ℕ) →
+        text_said style lines ≡ Some what → SolveOut what written → Spells style lines m →
+        (behind : List ℕ) → written ≡ codes "INFEASIBLE" ++ 10 ∷ behind → IsInfeasible m }
+    ensures unbounded { (style : Style) (lines : List (Line (List ℕ))) (m : Model) (what : TextSaid) (written : List ℕ) →
+        text_said style lines ≡ Some what → SolveOut what written → Spells style lines m →
+        (behind : List ℕ) → written ≡ codes "UNBOUNDED" ++ 10 ∷ behind → IsUnbounded m }
 {}

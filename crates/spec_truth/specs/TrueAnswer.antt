@@ -1,0 +1,15 @@
+-- What a solve's answer says of a model.
+use Rattle.spec_exact.specs.Fraction.{ℚ}
+use Rattle.spec_model.specs.Model.{Model}
+use Rattle.spec_model.specs.Truth.{IsOptimal, IsInfeasible, IsUnbounded}
+use Rattle.spec_check.specs.declared.certificate.Known.TheVariants as known
+use Rattle.spec_server.specs.declared.answer.Answer.{Answer}
+use Rattle.spec_server.specs.declared.answer.Answer.TheVariants as answer
+
+-- PAST and SPENT say nothing of it
+abbrev pub IsTrueOf : Model → Answer ℚ → Type 0
+IsTrueOf m (answer.Known (known.Optimal v)) = IsOptimal m v
+IsTrueOf m (answer.Known known.Infeasible) = IsInfeasible m
+IsTrueOf m (answer.Known known.Unbounded) = IsUnbounded m
+IsTrueOf m (answer.Past p) = Unit {0}
+IsTrueOf m (answer.Spent budget) = Unit {0}
