@@ -53,10 +53,10 @@ read_as v text x y h k e =
     let same : number_text v ≡ text = same_line (number_text v) text x y (number_no_feed v h) k e in
     ap number_of (sym same) ∙ read_written v h.top h.bottom
 
-abbrev first : List ℕ → ℕ
+abbrev pub first : List ℕ → ℕ
 first bytes = get_or bytes 0 0
 
-apart : (a b : ℕ) → nat_eq a b ≡ false → a ≡ b → ⊥
+pub apart : (a b : ℕ) → nat_eq a b ≡ false → a ≡ b → ⊥
 apart a b h e = let same : nat_eq a b ≡ true = eq-eqb a b e in let z : true ≡ false = sym same ∙ h in cc
 
 pub optimal_line : (m : Model) (a : Answer ℚ) (text x y : List ℕ) → IsShownBy m a → HasNoFeed text → answer_text a ++ 10 ∷ x ≡ codes "OPTIMAL " ++ text ++ 10 ∷ y →

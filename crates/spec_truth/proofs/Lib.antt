@@ -5,3 +5,5 @@ pub mod TrueRuns
 pub mod TextLemmas
 pub mod AnswerLines
 pub mod SolvedTexts
+pub mod CertifiedTexts
+pub mod YesLines

@@ -1,2 +1,3 @@
 pub mod ModelThen
 pub mod TrueAnswer
+pub mod Certified

@@ -5,9 +5,10 @@
 //! | `after_exchange` | what an ask with its reply makes of a session's model | specs/ModelThen |
 //! | `model_then` | the model of a session behind exchanges: that of its last LOAD, as edited since | specs/ModelThen |
 //! | `IsTrueOf` | what an answer says of a model: of OPTIMAL, INFEASIBLE and UNBOUNDED that it is so | specs/TrueAnswer |
+//! | `IsCertified` | that lines spell a model and a certificate behind it, and what is so of the model | specs/Certified |
 #![tactic(auto)]
 
-ghost use Rattle.std.specs.Prelude.{◌≡◌, ◌≢◌, ◌↔◌, ℕ, List, ◌∷◌, ◌++◌, All, codes, Some, None, Ok, Err};
+ghost use Rattle.std.specs.Prelude.{◌≡◌, ◌≢◌, ◌↔◌, ℕ, List, [], ◌∷◌, ◌++◌, All, codes, Some, None, Ok, Err};
 ghost use Rattle.spec_text.specs.declared.line.Line.{Line};
 ghost use Rattle.spec_exact.specs.Fraction.{ℚ};
 ghost use Rattle.spec_model.specs.Model.{Model};
@@ -22,9 +23,11 @@ ghost use Rattle.spec_check.specs.declared.certificate.Verdict.TheVariants as ve
 ghost use Rattle.spec_server.specs.declared.answer.Answer.{Answer};
 ghost use Rattle.spec_server.specs.declared.answer.Answer.TheVariants as answer;
 ghost use Rattle.spec_server.specs.declared.asks.Reply.TheVariants as reply;
-ghost use Rattle.spec_server.specs.Machine.{State, Exchange, opening, of_session, AloneRun, RunFits};
+ghost use Rattle.spec_server.specs.Machine.{ExactReply, State, Exchange, opening, of_session, AloneRun, RunFits};
 ghost use Rattle.spec_server.specs.Output.{reply_text};
+ghost use Rattle.spec_server.specs.CheckOut.{said, check_line};
 ghost use Rattle.spec_server.specs.SolveOut.{TextSaid, text_said, SolveOut};
+ghost use Rattle.spec_truth.specs.Certified.{IsCertified};
 ghost use Rattle.spec_truth.specs.ModelThen.{model_then};
 ghost use Rattle.spec_truth.specs.TrueAnswer.{IsTrueOf};
 
@@ -87,4 +90,25 @@ pub fn solved_texts_have_true_answers()
     ensures unbounded { (style : Style) (lines : List (Line (List ℕ))) (m : Model) (what : TextSaid) (written : List ℕ) →
         text_said style lines ≡ Some what → SolveOut what written → Spells style lines m →
         (behind : List ℕ) → written ≡ codes "UNBOUNDED" ++ 10 ∷ behind → IsUnbounded m }
+{}
+
+/// Where `check` says yes, the lines spell a model and, behind its text, a certificate, and what the yes says is true of
+/// the model. The line that is written alone says it.
+pub fn certified_texts_are_true()
+    ensures optimal { (style : Style) (lines : List (Line (List ℕ))) (v : ℚ) →
+        said style lines ≡ Some (reply.Checked (verdict.Yes (known.Optimal v))) →
+        IsCertified style lines (λ m. IsOptimal m v) }
+    ensures infeasible { (style : Style) (lines : List (Line (List ℕ))) →
+        said style lines ≡ Some (reply.Checked (verdict.Yes known.Infeasible)) → IsCertified style lines IsInfeasible }
+    ensures unbounded { (style : Style) (lines : List (Line (List ℕ))) →
+        said style lines ≡ Some (reply.Checked (verdict.Yes known.Unbounded)) → IsCertified style lines IsUnbounded }
+    ensures optimal_line { (style : Style) (lines : List (Line (List ℕ))) (what : ExactReply) (text : List ℕ) →
+        said style lines ≡ Some what → check_line what ≡ codes "YES OPTIMAL " ++ text ++ 10 ∷ [] →
+        (v : ℚ) × (number_of text ≡ Is v) × IsCertified style lines (λ m. IsOptimal m v) }
+    ensures infeasible_line { (style : Style) (lines : List (Line (List ℕ))) (what : ExactReply) →
+        said style lines ≡ Some what → check_line what ≡ codes "YES INFEASIBLE" ++ 10 ∷ [] →
+        IsCertified style lines IsInfeasible }
+    ensures unbounded_line { (style : Style) (lines : List (Line (List ℕ))) (what : ExactReply) →
+        said style lines ≡ Some what → check_line what ≡ codes "YES UNBOUNDED" ++ 10 ∷ [] →
+        IsCertified style lines IsUnbounded }
 {}

@@ -1,0 +1,22 @@
+-- Lines that spell a model and, behind it, a certificate.
+use Rattle.std.specs.Prelude.{ℕ, ◌≡◌, None, List, [], ◌∷◌, ◌++◌}
+use Rattle.spec_text.specs.declared.line.Line.{Line}
+use Rattle.spec_model.specs.Model.{Model}
+use Rattle.spec_mps.specs.declared.style.Style.{Style}
+use Rattle.spec_mps.specs.Steps as text
+use Rattle.spec_check.specs.Text as certificate
+use Rattle.spec_server.specs.SolveOut.{text_said}
+
+-- The lines up to one that is the first to end the text of a model, the lines of a certificate behind it, and what is so of
+-- the model.
+pub record IsCertified (style : Style) (lines : List (Line (List ℕ))) (IsSo : Model → Type 0) : Type 0 where
+  pub front : List (Line (List ℕ))
+  pub last : Line (List ℕ)
+  pub behind : List (Line (List ℕ))
+  pub cut : lines ≡ front ++ last ∷ behind
+  pub undecided : text_said style front ≡ None
+  pub model : Model
+  pub spelled : text.Spells style (front ++ last ∷ []) model
+  pub raw : certificate.ExactRaw
+  pub certified : certificate.Spells behind raw
+  pub is_so : IsSo model
