@@ -48,10 +48,13 @@ number_no_feed v h = printed_no_feed (number_text v) (number_word v h.top h.bott
 
 -- ---- what stands behind the first line's words
 
+pub read_back : (v : ℚ) → IsNarrow v → number_of (number_text v) ≡ Is v
+read_back v h = read_written v h.top h.bottom
+
 pub read_as : (v : ℚ) (text x y : List ℕ) → IsNarrow v → HasNoFeed text → number_text v ++ 10 ∷ x ≡ text ++ 10 ∷ y → number_of text ≡ Is v
 read_as v text x y h k e =
     let same : number_text v ≡ text = same_line (number_text v) text x y (number_no_feed v h) k e in
-    ap number_of (sym same) ∙ read_written v h.top h.bottom
+    ap number_of (sym same) ∙ read_back v h
 
 abbrev pub first : List ℕ → ℕ
 first bytes = get_or bytes 0 0

@@ -7,7 +7,6 @@ use Rattle.spec_mps.specs.declared.style.Style.{Style}
 use Rattle.spec_mps.specs.Reader.{State, start}
 use Rattle.spec_mps.specs.Steps as text
 use Rattle.spec_check.specs.declared.certificate.Known.{Known}
-use Rattle.spec_check.specs.declared.certificate.Verdict.TheVariants as verdict
 use Rattle.spec_check.specs.declared.progress.Progress.TheVariants as progress
 use Rattle.spec_check.specs.Certificate.{Holds}
 use Rattle.spec_check.specs.Settle.{certificate_for}
@@ -19,10 +18,8 @@ use Rattle.spec_server.specs.Said.{follow, said_by}
 use Rattle.spec_server.specs.CheckOut.{InText, InCertificate, behind_text, behind_certificate, check_step, said_from, said}
 use Rattle.spec_server.specs.SolveOut.{behind_line, text_step}
 use Rattle.spec_truth.specs.Certified.{IsCertified}
+use Rattle.spec_truth.proofs.ReplyLines.{yes_to}
 use Rattle.spec_truth.proofs.Shown.{IsShown, shown_holds, yes_shown}
-
-abbrev pub yes_to : Known ℚ → ExactReply
-yes_to what = reply.Checked (verdict.Yes what)
 
 -- ---- in the certificate
 

@@ -5,5 +5,8 @@ pub mod TrueRuns
 pub mod TextLemmas
 pub mod AnswerLines
 pub mod SolvedTexts
+pub mod ReplyLines
 pub mod CertifiedTexts
 pub mod YesLines
+pub mod PrintedRuns
+pub mod OwnTexts

@@ -1,7 +1,9 @@
--- What a solve's answer says of a model.
+-- What a solve's answer says of a model, and the width of its value.
 use Rattle.spec_exact.specs.Fraction.{ℚ}
+use Rattle.spec_exact.specs.Narrow.{IsNarrow}
 use Rattle.spec_model.specs.Model.{Model}
 use Rattle.spec_model.specs.Truth.{IsOptimal, IsInfeasible, IsUnbounded}
+use Rattle.spec_check.specs.declared.certificate.Known.{Known}
 use Rattle.spec_check.specs.declared.certificate.Known.TheVariants as known
 use Rattle.spec_server.specs.declared.answer.Answer.{Answer}
 use Rattle.spec_server.specs.declared.answer.Answer.TheVariants as answer
@@ -13,3 +15,9 @@ IsTrueOf m (answer.Known known.Infeasible) = IsInfeasible m
 IsTrueOf m (answer.Known known.Unbounded) = IsUnbounded m
 IsTrueOf m (answer.Past p) = Unit {0}
 IsTrueOf m (answer.Spent budget) = Unit {0}
+
+-- a value has a numerator and a denominator of at most 127 bits
+abbrev pub IsNarrowKnown : Known ℚ → Type 0
+IsNarrowKnown (known.Optimal v) = IsNarrow v
+IsNarrowKnown known.Infeasible = Unit {0}
+IsNarrowKnown known.Unbounded = Unit {0}

@@ -5,6 +5,7 @@
 //! | `after_exchange` | what an ask with its reply makes of a session's model | specs/ModelThen |
 //! | `model_then` | the model of a session behind exchanges: that of its last LOAD, as edited since | specs/ModelThen |
 //! | `IsTrueOf` | what an answer says of a model: of OPTIMAL, INFEASIBLE and UNBOUNDED that it is so | specs/TrueAnswer |
+//! | `IsNarrowKnown` | that a known value is of at most 127 bits | specs/TrueAnswer |
 //! | `IsCertified` | that lines spell a model and a certificate behind it, and what is so of the model | specs/Certified |
 #![tactic(auto)]
 
@@ -17,7 +18,9 @@ ghost use Rattle.spec_mps.specs.declared.fault.Code.TheVariants as code;
 ghost use Rattle.spec_mps.specs.declared.fault.MpsFault.{MpsFault};
 ghost use Rattle.spec_mps.specs.declared.style.Style.{Style};
 ghost use Rattle.spec_mps.specs.NumberText.{Is, number_of};
+ghost use Rattle.spec_mps.specs.NumberWritten.{number_text};
 ghost use Rattle.spec_mps.specs.Steps.{Spells, Refuses};
+ghost use Rattle.spec_check.specs.declared.certificate.Known.{Known};
 ghost use Rattle.spec_check.specs.declared.certificate.Known.TheVariants as known;
 ghost use Rattle.spec_check.specs.declared.certificate.Verdict.TheVariants as verdict;
 ghost use Rattle.spec_server.specs.declared.answer.Answer.{Answer};
@@ -29,7 +32,7 @@ ghost use Rattle.spec_server.specs.CheckOut.{said, check_line};
 ghost use Rattle.spec_server.specs.SolveOut.{TextSaid, text_said, SolveOut};
 ghost use Rattle.spec_truth.specs.Certified.{IsCertified};
 ghost use Rattle.spec_truth.specs.ModelThen.{model_then};
-ghost use Rattle.spec_truth.specs.TrueAnswer.{IsTrueOf};
+ghost use Rattle.spec_truth.specs.TrueAnswer.{IsTrueOf, IsNarrowKnown};
 
 /// A session holds the model that its asks and replies say.
 pub fn sessions_hold_the_model_then()
@@ -111,4 +114,45 @@ pub fn certified_texts_are_true()
     ensures unbounded_line { (style : Style) (lines : List (Line (List ℕ))) (what : ExactReply) →
         said style lines ≡ Some what → check_line what ≡ codes "YES UNBOUNDED" ++ 10 ∷ [] →
         IsCertified style lines IsUnbounded }
+{}
+
+/// In each run of sessions, the text of a reply alone says what is true of the model that the session has then: behind the
+/// word OPTIMAL stands the text of the optimal value.
+pub fn reply_texts_are_true_of_the_model_then()
+    ensures optimal { (before behind : List Exchange) (x : Exchange) (text : List ℕ) → RunFits (before ++ x ∷ behind) →
+        reply_text x.reply ≡ codes "OPTIMAL " ++ text →
+        (v : ℚ) × (number_of text ≡ Is v) × ((m : Model) × (model_then x.session before ≡ Some m) × IsOptimal m v) }
+    ensures infeasible { (before behind : List Exchange) (x : Exchange) → RunFits (before ++ x ∷ behind) →
+        reply_text x.reply ≡ codes "INFEASIBLE" →
+        (m : Model) × (model_then x.session before ≡ Some m) × IsInfeasible m }
+    ensures unbounded { (before behind : List Exchange) (x : Exchange) → RunFits (before ++ x ∷ behind) →
+        reply_text x.reply ≡ codes "UNBOUNDED" →
+        (m : Model) × (model_then x.session before ≡ Some m) × IsUnbounded m }
+    ensures yes_optimal { (before behind : List Exchange) (x : Exchange) (text : List ℕ) →
+        RunFits (before ++ x ∷ behind) → reply_text x.reply ≡ codes "YES OPTIMAL " ++ text →
+        (v : ℚ) × (number_of text ≡ Is v) × ((m : Model) × (model_then x.session before ≡ Some m) × IsOptimal m v) }
+    ensures yes_infeasible { (before behind : List Exchange) (x : Exchange) → RunFits (before ++ x ∷ behind) →
+        reply_text x.reply ≡ codes "YES INFEASIBLE" →
+        (m : Model) × (model_then x.session before ≡ Some m) × IsInfeasible m }
+    ensures yes_unbounded { (before behind : List Exchange) (x : Exchange) → RunFits (before ++ x ∷ behind) →
+        reply_text x.reply ≡ codes "YES UNBOUNDED" →
+        (m : Model) × (model_then x.session before ≡ Some m) × IsUnbounded m }
+{}
+
+/// What is known has a text of its own: different answers have different texts, as far as their values are of at most 127
+/// bits, and in each run of sessions they are.
+pub fn known_answers_have_their_own_texts()
+    ensures optimal { (v : ℚ) →
+        reply_text (reply.Answered (answer.Known (known.Optimal v))) ≡ codes "OPTIMAL " ++ number_text v }
+    ensures infeasible { reply_text (reply.Answered (answer.Known known.Infeasible)) ≡ codes "INFEASIBLE" }
+    ensures unbounded { reply_text (reply.Answered (answer.Known known.Unbounded)) ≡ codes "UNBOUNDED" }
+    ensures yes { (what : Known ℚ) →
+        reply_text (reply.Checked (verdict.Yes what)) ≡ codes "YES " ++ reply_text (reply.Answered (answer.Known what)) }
+    ensures different { (what other : Known ℚ) → IsNarrowKnown what → IsNarrowKnown other →
+        reply_text (reply.Answered (answer.Known what)) ≡ reply_text (reply.Answered (answer.Known other)) →
+        what ≡ other }
+    ensures answered { (before behind : List Exchange) (x : Exchange) (what : Known ℚ) → RunFits (before ++ x ∷ behind) →
+        x.reply ≡ reply.Answered (answer.Known what) → IsNarrowKnown what }
+    ensures accepted { (before behind : List Exchange) (x : Exchange) (what : Known ℚ) → RunFits (before ++ x ∷ behind) →
+        x.reply ≡ reply.Checked (verdict.Yes what) → IsNarrowKnown what }
 {}

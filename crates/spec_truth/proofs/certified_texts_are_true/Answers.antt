@@ -1,6 +1,6 @@
 use Rattle.spec_check.specs.declared.certificate.Known.TheVariants as known
 use Rattle.spec_truth.proofs.CertifiedTexts.{yes_holds}
-use Rattle.spec_truth.proofs.YesLines.{optimal_yes, infeasible_yes, unbounded_yes}
+use Rattle.spec_truth.proofs.YesLines.{optimal_line, infeasible_line, unbounded_line}
 use Rattle.spec_truth.proofs.certified_texts_are_true.Goals as goal
 
 pub returns : goal.returns
@@ -8,7 +8,7 @@ returns c = record {
   optimal = λ style lines v. yes_holds style lines (known.Optimal v);
   infeasible = λ style lines. yes_holds style lines known.Infeasible;
   unbounded = λ style lines. yes_holds style lines known.Unbounded;
-  optimal_line = optimal_yes;
-  infeasible_line = infeasible_yes;
-  unbounded_line = unbounded_yes;
+  optimal_line = optimal_line;
+  infeasible_line = infeasible_line;
+  unbounded_line = unbounded_line;
 }

@@ -1,0 +1,132 @@
+-- Which reply a line is the line of, where it says what is known of a model.
+use Rattle.std.proofs.Common.{◌≡◌, ℕ, ◌==◌, ◌&&◌, ◌||◌, Bool, true, false, List, ◌++◌, get_or, refl, sym, ◌∙◌, ap}
+use Rattle.std.specs.Prelude.{codes}
+use Rattle.spec_exact.specs.Fraction.{ℚ}
+use Rattle.spec_mps.specs.NumberWritten.{number_text}
+use Rattle.spec_check.specs.declared.certificate.Known.{Known}
+use Rattle.spec_check.specs.declared.certificate.Known.TheVariants as known
+use Rattle.spec_check.specs.declared.certificate.Verdict.TheVariants as verdict
+use Rattle.spec_server.specs.declared.answer.Answer.TheVariants as answer
+use Rattle.spec_server.specs.declared.asks.Reply.TheVariants as reply
+use Rattle.spec_server.specs.Machine.{ExactReply}
+use Rattle.spec_server.specs.Output.{known_text, reply_text}
+use Rattle.spec_truth.proofs.AnswerLines.{first, apart}
+
+abbrev pub answer_to : Known ℚ → ExactReply
+answer_to what = reply.Answered (answer.Known what)
+
+abbrev pub yes_to : Known ℚ → ExactReply
+yes_to what = reply.Checked (verdict.Yes what)
+
+-- ---- by their first bytes
+
+-- it begins as OPTIMAL, INFEASIBLE or UNBOUNDED
+abbrev looks_known : List ℕ → Bool
+looks_known bytes = (first bytes == 73) || (first bytes == 85) || ((first bytes == 79) && (get_or bytes 1 0 == 80))
+
+not_so : {P : Type 0} → false ≡ true → P
+not_so e = cc
+
+known_reply : (is : ExactReply) → looks_known (reply_text is) ≡ true → (what : Known ℚ) × (is ≡ answer_to what)
+unfolding reply_text
+known_reply (reply.Loaded rows columns) h = not_so h
+known_reply (reply.Written text) h = not_so h
+known_reply reply.Done h = not_so h
+known_reply (reply.Answered (answer.Known what)) h = (what, refl)
+known_reply (reply.Answered (answer.Past p)) h = not_so h
+known_reply (reply.Answered (answer.Spent budget)) h = not_so h
+known_reply (reply.Certified lines) h = not_so h
+known_reply (reply.Found how pivots publication) h = not_so h
+known_reply (reply.Checked (verdict.Yes what)) h = not_so h
+known_reply (reply.Checked (verdict.No n)) h = not_so h
+known_reply (reply.Checked (verdict.Past p)) h = not_so h
+known_reply reply.Bye h = not_so h
+known_reply reply.Memory h = not_so h
+known_reply (reply.Refused why) h = not_so h
+
+-- it begins as YES
+abbrev looks_yes : List ℕ → Bool
+looks_yes bytes = first bytes == 89
+
+yes_reply : (is : ExactReply) → looks_yes (reply_text is) ≡ true → (what : Known ℚ) × (is ≡ yes_to what)
+unfolding reply_text
+yes_reply (reply.Loaded rows columns) h = not_so h
+yes_reply (reply.Written text) h = not_so h
+yes_reply reply.Done h = not_so h
+yes_reply (reply.Answered (answer.Known (known.Optimal v))) h = not_so h
+yes_reply (reply.Answered (answer.Known known.Infeasible)) h = not_so h
+yes_reply (reply.Answered (answer.Known known.Unbounded)) h = not_so h
+yes_reply (reply.Answered (answer.Past p)) h = not_so h
+yes_reply (reply.Answered (answer.Spent budget)) h = not_so h
+yes_reply (reply.Certified lines) h = not_so h
+yes_reply (reply.Found how pivots publication) h = not_so h
+yes_reply (reply.Checked (verdict.Yes what)) h = (what, refl)
+yes_reply (reply.Checked (verdict.No n)) h = not_so h
+yes_reply (reply.Checked (verdict.Past p)) h = not_so h
+yes_reply reply.Bye h = not_so h
+yes_reply reply.Memory h = not_so h
+yes_reply (reply.Refused why) h = not_so h
+
+-- ---- what is known
+
+valued : (what : Known ℚ) (text : List ℕ) → known_text what ≡ codes "OPTIMAL " ++ text → (v : ℚ) × (what ≡ known.Optimal v) × (number_text v ≡ text)
+valued (known.Optimal v) text e = (v, refl, cc)
+valued known.Infeasible text e = absurd (apart 73 79 refl (ap first e))
+valued known.Unbounded text e = absurd (apart 85 79 refl (ap first e))
+
+infeasible : (what : Known ℚ) → known_text what ≡ codes "INFEASIBLE" → what ≡ known.Infeasible
+infeasible (known.Optimal v) e = absurd (apart 79 73 refl (ap first e))
+infeasible known.Infeasible e = refl
+infeasible known.Unbounded e = absurd (apart 85 73 refl (ap first e))
+
+unbounded : (what : Known ℚ) → known_text what ≡ codes "UNBOUNDED" → what ≡ known.Unbounded
+unbounded (known.Optimal v) e = absurd (apart 79 85 refl (ap first e))
+unbounded known.Infeasible e = absurd (apart 73 85 refl (ap first e))
+unbounded known.Unbounded e = refl
+
+-- ---- answers
+
+answer_text_is : (is : ExactReply) (what : Known ℚ) → is ≡ answer_to what → reply_text is ≡ known_text what
+unfolding reply_text
+answer_text_is is what e = ap reply_text e
+
+pub optimal_answer : (is : ExactReply) (text : List ℕ) → reply_text is ≡ codes "OPTIMAL " ++ text → (v : ℚ) × (is ≡ answer_to (known.Optimal v)) × (number_text v ≡ text)
+optimal_answer is text e =
+    let k = known_reply is (ap looks_known e) in
+    let d = valued k.0 text (sym (answer_text_is is k.0 k.1) ∙ e) in
+    (d.0, k.1 ∙ ap answer_to d.1, d.2)
+
+pub infeasible_answer : (is : ExactReply) → reply_text is ≡ codes "INFEASIBLE" → is ≡ answer_to known.Infeasible
+infeasible_answer is e =
+    let k = known_reply is (ap looks_known e) in
+    k.1 ∙ ap answer_to (infeasible k.0 (sym (answer_text_is is k.0 k.1) ∙ e))
+
+pub unbounded_answer : (is : ExactReply) → reply_text is ≡ codes "UNBOUNDED" → is ≡ answer_to known.Unbounded
+unbounded_answer is e =
+    let k = known_reply is (ap looks_known e) in
+    k.1 ∙ ap answer_to (unbounded k.0 (sym (answer_text_is is k.0 k.1) ∙ e))
+
+-- ---- a yes to a certificate
+
+yes_text_is : (is : ExactReply) (what : Known ℚ) → is ≡ yes_to what → reply_text is ≡ codes "YES " ++ known_text what
+unfolding reply_text
+yes_text_is is what e = ap reply_text e
+
+behind_yes : (a b : List ℕ) → codes "YES " ++ a ≡ codes "YES " ++ b → a ≡ b
+behind_yes a b e = cc
+
+pub optimal_yes : (is : ExactReply) (text : List ℕ) → reply_text is ≡ codes "YES OPTIMAL " ++ text → (v : ℚ) × (is ≡ yes_to (known.Optimal v)) × (number_text v ≡ text)
+optimal_yes is text e =
+    let k = yes_reply is (ap looks_yes e) in
+    let d = valued k.0 text (behind_yes (known_text k.0) (codes "OPTIMAL " ++ text) (sym (yes_text_is is k.0 k.1) ∙ e)) in
+    (d.0, k.1 ∙ ap yes_to d.1, d.2)
+
+pub infeasible_yes : (is : ExactReply) → reply_text is ≡ codes "YES INFEASIBLE" → is ≡ yes_to known.Infeasible
+infeasible_yes is e =
+    let k = yes_reply is (ap looks_yes e) in
+    k.1 ∙ ap yes_to (infeasible k.0 (behind_yes (known_text k.0) (codes "INFEASIBLE") (sym (yes_text_is is k.0 k.1) ∙ e)))
+
+pub unbounded_yes : (is : ExactReply) → reply_text is ≡ codes "YES UNBOUNDED" → is ≡ yes_to known.Unbounded
+unbounded_yes is e =
+    let k = yes_reply is (ap looks_yes e) in
+    k.1 ∙ ap yes_to (unbounded k.0 (behind_yes (known_text k.0) (codes "UNBOUNDED") (sym (yes_text_is is k.0 k.1) ∙ e)))
