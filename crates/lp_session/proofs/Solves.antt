@@ -29,9 +29,10 @@ end_is_solved : (m : Model) (budget : ℕ) (solved : ColdEnd) → solved ≡ col
 end_is_solved m budget (Ended known c basis pivots) e fit = record {
   may_answer = (fit.0, fit.1, (ended_is_true (Some number_limit) budget m known c basis pivots (sym e)).1);
   how_fits = without_limit budget m known c basis pivots (cold_same (Some number_limit) budget m) (sym e);
+  without_form = λ fault no_form. e;
 }
-end_is_solved m budget (Past p) e fit = record { may_answer = sym e; how_fits = tt }
-end_is_solved m budget Spent e fit = record { may_answer = sym e; how_fits = tt }
+end_is_solved m budget (Past p) e fit = record { may_answer = sym e; how_fits = tt; without_form = λ fault no_form. e }
+end_is_solved m budget Spent e fit = record { may_answer = sym e; how_fits = tt; without_form = λ fault no_form. e }
 
 -- with nothing handed
 pub is_solved : (m : Model) (budget given : ℕ) (s : SolveEnd) → given ≡ budget → s ≡ solve (Some number_limit) given m None → IsFit m s.end → IsSolved m budget s.end

@@ -56,9 +56,10 @@ solved_as m budget (outcome.Ended known c basis pivots) kept e = record {
     (ended_is_true (Some number_limit) budget m known c basis pivots e).1,
   );
   how_fits = cold_unlimited budget m known c basis pivots (cold_same (Some number_limit) budget m) e;
+  without_form = λ fault no_form. sym e;
 }
-solved_as m budget (outcome.Past p) kept e = record { may_answer = e; how_fits = tt }
-solved_as m budget outcome.Spent kept e = record { may_answer = e; how_fits = tt }
+solved_as m budget (outcome.Past p) kept e = record { may_answer = e; how_fits = tt; without_form = λ fault no_form. sym e }
+solved_as m budget outcome.Spent kept e = record { may_answer = e; how_fits = tt; without_form = λ fault no_form. sym e }
 
 pub cold_is_solved : (m : Model) (budget : ℕ) → IsModel m → IsSolved m budget (cold (Some number_limit) budget m)
 cold_is_solved m budget kept = solved_as m budget (cold (Some number_limit) budget m) kept refl

@@ -1,8 +1,11 @@
 -- What a solve may end with.
-use Rattle.std.specs.Prelude.{◌≡◌, ℕ, Some, None, Ok}
+use Rattle.std.specs.Prelude.{◌≡◌, ℕ, Some, None, Ok, Err}
+use Rattle.spec_exact.specs.Fraction.{ℚ}
 use Rattle.spec_model.specs.Model.{Model}
 use Rattle.spec_check.specs.Certificate.{IsFor, IsNarrowCertificate}
 use Rattle.spec_check.specs.Run.{check_run}
+use Rattle.spec_simplex.specs.declared.ends.FormFault.{FormFault}
+use Rattle.spec_simplex.specs.Form.{form_of}
 use Rattle.spec_cold.specs.declared.outcome.Cold.TheVariants.{Ended, Past, Spent}
 use Rattle.spec_cold.specs.Cold.{ColdEnd, cold}
 
@@ -26,7 +29,9 @@ HowFits m budget (Ended known certificate basis pivots) = cold None budget m ≡
 HowFits m budget (Past p) = Unit {0}
 HowFits m budget Spent = Unit {0}
 
--- what a solve of a model may end with, within a budget and with nothing handed
+-- What a solve of a model may end with, within a budget and with nothing handed. Where the model has no form at the limit,
+-- because bounds clash or an operation is refused, it is what the cold solve at the limit ends with: nothing else is tried.
 pub record IsSolved (m : Model) (budget : ℕ) (solved : ColdEnd) : Type 0 where
   pub may_answer : MayAnswer m budget solved
   pub how_fits : HowFits m budget solved
+  pub without_form : (fault : FormFault ℚ) → form_of (Some number_limit) m ≡ Err fault → solved ≡ cold (Some number_limit) budget m
