@@ -57,7 +57,7 @@ def matched(model: Model, certificate: Certificate) -> Dict[str, Values]:
         raise_unknown(certificate.column, "column")
     given: Dict[str, Values] = {"x": {}, "y": {}, "r": {}}
     for letter, name, value in certificate.parts:
-        if name not in (model.rows if letter == "y" else model.columns):
+        if not (name in model.rows if letter == "y" else name in model.columns):
             raise_unknown(name, "row" if letter == "y" else "column")
         if name in given[letter]:
             raise NameRepeated(f"ERR 12 REPEATED {name}", f"the certificate has two parts {letter} {name}", name)

@@ -196,7 +196,7 @@ def refusal(words: Sequence[str], line: str, body: Sequence[str] = ()) -> LpdErr
         return TooWideForFixed(reply, f"{last!r} is too wide for fixed form", last)
     plain: Dict[str, Type[Refused]] = {"1": BadCommand, "2": BadNumber, "3": NumberTooWide, "4": NoModel, "7": LimitReached, "9": NoAnswer}
     plain.update({"11": LineTooLong, "13": BadName})
-    what = {
+    whats = {
         "1": "lpd does not know this command, or its words are not of it",
         "2": "a word is not a number that the command takes",
         "3": "a number does not fit 127 bits",
@@ -207,5 +207,5 @@ def refusal(words: Sequence[str], line: str, body: Sequence[str] = ()) -> LpdErr
         "13": "this is no name for a row or a column",
     }
     if code in plain:
-        return plain[code](reply, f"{what[code]}, in {line[:200]!r}")
+        return plain[code](reply, f"{whats[code]}, in {line[:200]!r}")
     return Unexpected(f"lpd replied {reply!r} to {line!r}")

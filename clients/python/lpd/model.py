@@ -19,6 +19,7 @@ SENSES = {"MIN": 1, "MINIMIZE": 1, "MAX": -1, "MAXIMIZE": -1}
 FIELDS = [(2, 3), (5, 12), (15, 22), (25, 36), (40, 47), (50, 61)]
 GAPS = [1, 4, 13, 14, 23, 24, 37, 38, 39, 48, 49, 62]
 Value = TypeVar("Value")
+ZERO = Fraction(0)
 
 
 class Limits(NamedTuple):
@@ -62,14 +63,15 @@ class Model:
     offset: Fraction = Fraction(0)
     rows: Dict[str, Row] = field(default_factory=dict)
     columns: Dict[str, Column] = field(default_factory=dict)
+    skipped: List[int] = field(default_factory=list, compare=False)  # the lines of cards of other sets
 
     def activity(self, values: Mapping[str, Fraction], row: str) -> Fraction:
         """The sum of a row at the values of columns, which are 0 if absent."""
-        return sum((c.entries.get(row, 0) * values.get(name, 0) for name, c in self.columns.items()), Fraction(0))
+        return sum((c.entries.get(row, ZERO) * values.get(name, ZERO) for name, c in self.columns.items()), ZERO)
 
     def cost(self, values: Mapping[str, Fraction]) -> Fraction:
         """The sum of the costs at the values of columns, without the offset."""
-        return sum((c.cost * values.get(name, 0) for name, c in self.columns.items()), Fraction(0))
+        return sum((c.cost * values.get(name, ZERO) for name, c in self.columns.items()), ZERO)
 
     def reduced_cost(self, multipliers: Mapping[str, Fraction], column: str) -> Fraction:
         """e times the column's cost less its coefficients times the multipliers of their rows, with e as the sense."""
@@ -78,7 +80,7 @@ class Model:
 
     def priced(self, multipliers: Mapping[str, Fraction], column: str) -> Fraction:
         entries = self.columns[column].entries.items()
-        return sum((multipliers.get(row, 0) * entry for row, entry in entries), Fraction(0))
+        return sum((multipliers.get(row, ZERO) * entry for row, entry in entries), ZERO)
 
 
 # ---- lines
@@ -138,6 +140,7 @@ class Reader:
         self.bound: Callable[[str], Tuple[Optional[Fraction], int]] = lambda text: bound(text, wide)
         self.has_objective = self.has_sense = False
         self.dropped: Set[str] = set()
+        self.line = 0
         self.section: Optional[str] = None
         self.seen: List[str] = []
         self.column: Optional[str] = None  # that of the card before, in COLUMNS
@@ -147,6 +150,7 @@ class Reader:
 
     def feed(self, line: str) -> bool:
         """Takes a line, and says whether it is the last."""
+        self.line += 1
         must(len(line) <= LONGEST_LINE, 16)
         bare = line[:-1] if line[-1:] == "\r" else line
         if not bare.strip(" \t") or line[:1] == "*":
@@ -251,6 +255,8 @@ class Reader:
     def is_other_set(self, name: Optional[str]) -> bool:
         if self.set is None:
             self.set = (name,)
+        if self.set != (name,):
+            self.model.skipped.append(self.line)
         return self.set != (name,)
 
     def side_card(self, fields: Dict[int, str]) -> None:

@@ -1,14 +1,13 @@
 """Sessions and the command over the program itself, where it is built."""
-import contextlib
-import io
 import json
 import unittest
 from fractions import Fraction
 from pathlib import Path
 
 import lpd
-from lpd.__main__ import main
 from lpd.program import find_program
+
+from .commands import command
 
 MODELS = Path(__file__).resolve().parents[3] / "examples" / "models"
 
@@ -61,24 +60,18 @@ class WithTheProgram(unittest.TestCase):
             lpd.run("1 CHECK\nOPTIMAL\n")
         self.assertEqual(raised.exception.status, 6)
 
-    def command(self, *words: str) -> "tuple[int, str]":
-        output = io.StringIO()
-        with contextlib.redirect_stdout(output), contextlib.redirect_stderr(output):
-            status = main(list(words))
-        return status, output.getvalue()
-
     def test_the_command_solve(self) -> None:
         for name, expected in {"diet": 0, "orders": 10, "currency": 11}.items():
-            self.assertEqual(self.command("solve", str(MODELS / f"{name}.mps"))[0], expected)
-        status, output = self.command("solve", str(MODELS / "diet.mps"), "--json", "--max")
+            self.assertEqual(command("solve", str(MODELS / f"{name}.mps"))[0], expected)
+        status, output, _ = command("solve", str(MODELS / "diet.mps"), "--json", "--max")
         self.assertEqual((status, json.loads(output)["value"]), (0, "260"))
-        status, output = self.command("solve", str(MODELS / "diet.mps"), "--budget", "1")
+        status, output, _ = command("solve", str(MODELS / "diet.mps"), "--budget", "1")
         self.assertEqual((status, output.splitlines()[0]), (13, "SPENT 1"))
-        status, output = self.command("solve", str(MODELS / "diet.solved"))
-        self.assertEqual((status, output.splitlines()[0]), (9, "ERR 8 MPS 1 M2"))
+        status, _, complaints = command("solve", str(MODELS / "diet.solved"))
+        self.assertEqual((status, complaints.splitlines()[0]), (9, "ERR 8 MPS 1 M2"))
 
     def test_the_command_check(self) -> None:
         example = MODELS.parent / "optimal.mps"
-        self.assertEqual(self.command("check", str(example)), (0, "YES OPTIMAL 4\n"))
-        self.assertEqual(self.command("check", str(example), "--claim", "4.5")[0], 1)
-        self.assertEqual(self.command("check", str(MODELS.parent / "no-contradiction.mps"))[0], 1)
+        self.assertEqual(command("check", str(example))[:2], (0, "YES OPTIMAL 4\n"))
+        self.assertEqual(command("check", str(example), "--claim", "4.5")[0], 1)
+        self.assertEqual(command("check", str(MODELS.parent / "no-contradiction.mps"))[0], 1)

@@ -1,0 +1,554 @@
+"""Texts in other dialects of MPS into the profile of docs/FORMATS.md: exactly, by the text, and each change listed.
+
+A line that says the same in free form of the profile is kept as it is. What can be read in two ways is asked (`Question`) and
+not guessed, and what is no linear program is refused by name (`Unconvertible`).
+"""
+from __future__ import annotations
+
+import codecs
+from dataclasses import dataclass, field, replace
+from typing import Callable, Dict, Iterator, List, NamedTuple, Optional, Sequence, Set, Tuple
+
+from .errors import LpdError, TextFault
+from .model import FIELDS, GAPS, SECTIONS, SENSES, Model, is_name, lines_of, read_lines, words_of
+from .names import Renamed, renamed
+from .number_text import NotANumber, parse
+
+# Senses by their words, in upper case.
+SENSE_WORDS = {**{word: word for word in SENSES}, "MINIMISE": "MINIMIZE", "MAXIMISE": "MAXIMIZE"}
+WITHOUT_NUMBER = ("FR", "MI", "PL", "BV")
+WHOLE_KINDS = ("BV", "LI", "UI")
+SETS = ("RHS", "RANGES", "BOUNDS")
+# Sections of what is no linear program.
+FOREIGN = {
+    **dict.fromkeys(("SOS", "SOS1", "SOS2", "SETS"), "special ordered sets"),
+    **dict.fromkeys(("QSECTION", "QUADOBJ", "QMATRIX", "QCMATRIX", "CSECTION"), "quadratic terms or cones"),
+    **dict.fromkeys(("INDICATORS", "GENCONS", "PWLOBJ", "PWLNAM", "PWLCON"), "constraints that are not linear"),
+    **dict.fromkeys(("LAZYCONS", "USERCUTS"), "rows that hold only where a solver needs them"),
+}
+
+
+class Unconvertible(LpdError):
+    """The text has something that no linear program has, or names what is not there."""
+
+    def __init__(self, line: int, why: str) -> None:
+        self.line = line
+        super().__init__(f"line {line}: {why}")
+
+
+class Question(LpdError):
+    """The text can be read in two ways, so the reader has to say which. `option` is the argument that says it."""
+
+    def __init__(self, line: int, what: str, option: str, choices: Sequence[str]) -> None:
+        self.line, self.option = line, option
+        self.choices = tuple(choices)
+        super().__init__(f"line {line}: {what}")
+
+
+@dataclass(frozen=True)
+class Changes:
+    """A change, or a note, and the lines that it is of, counted as in the text before."""
+
+    what: str
+    lines: Tuple[int, ...]
+
+    def __str__(self) -> str:
+        runs: List[List[int]] = []
+        for line in self.lines:
+            if runs and line == runs[-1][1] + 1:
+                runs[-1][1] = line
+            else:
+                runs.append([line, line])
+        shown = [str(first) if first == last else f"{first}-{last}" for first, last in runs]
+        return f"line{'s' if len(self.lines) > 1 else ''} {', '.join(shown)}: {self.what}"
+
+
+@dataclass(frozen=True)
+class Converted:
+    """A text of the profile in free form, the model that it spells, what was changed on the way, and the names that were."""
+
+    text: str
+    model: Model
+    changes: List[Changes]
+    names: List[Renamed]
+
+
+@dataclass(frozen=True)
+class Options:
+    """How questions are answered: with `relax` whole-number columns lose that; `no_set` says whether a card without a set where
+    others have one is of the "same" set, or of its "own"; `no_bound` whether a whole-number column without bounds has the upper
+    bound "1" or "none"."""
+
+    relax: bool = False
+    no_set: Optional[str] = None
+    no_bound: Optional[str] = None
+
+
+@dataclass
+class Card:
+    """A line of the text by its fields. Cards of one section have the fields that the section has."""
+
+    line: int
+    text: str
+    section: str = ""  # empty for a line without words and for a comment
+    kind: str = ""  # of a row or a bound
+    set: Optional[str] = None
+    name: str = ""  # of a row, a column, or what a section card has behind its word
+    pairs: List[Tuple[str, str]] = field(default_factory=list)
+    number: Optional[str] = None
+    is_head: bool = False  # a section card
+
+    def words(self) -> List[str]:
+        flat = [word for pair in self.pairs for word in pair]
+        front = [self.kind, self.set, self.name] if self.section == "BOUNDS" else [self.kind, self.name, self.set]
+        return [word for word in front if word] + flat + ([] if self.number is None else [self.number])
+
+    def shown(self) -> str:
+        """The line of the profile: the text as it stands where that says the same, or else written anew."""
+        if not self.section:
+            return self.text
+        if self.is_head:
+            words = [self.section] + ([self.name] if self.name else [])
+            read = len(words) if self.section in ("NAME", "OBJSENSE") else 1
+            return self.text if words_of(self.text)[: max(read, 1)] == words else " ".join(words)
+        is_indented = self.text[:1] in (" ", "\t")
+        return self.text if is_indented and words_of(self.text) == self.words() else " " + " ".join(self.words())
+
+
+def is_number(text: str) -> bool:
+    try:
+        parse(text)
+    except NotANumber:
+        return text.lstrip("+-").lower() in ("inf", "infinity")
+    return True
+
+
+# ---- reading lines as cards
+
+
+class Decoded(NamedTuple):
+    """A text, and how its characters are bytes again."""
+
+    text: str
+    encoding: str
+    has_mark: bool
+
+
+def decoded(data: bytes) -> Decoded:
+    """The text without its byte-order mark. Bytes that are no UTF-8 are read as latin-1."""
+    for mark, encoding in ((codecs.BOM_UTF8, "utf-8"), (codecs.BOM_UTF16_LE, "utf-16-le"), (codecs.BOM_UTF16_BE, "utf-16-be")):
+        if data.startswith(mark):
+            return Decoded(data[len(mark) :].decode(encoding, "replace"), "utf-8", True)
+    try:
+        return Decoded(data.decode("utf-8"), "utf-8", False)
+    except UnicodeDecodeError:
+        return Decoded(data.decode("latin-1"), "latin-1", False)
+
+
+class Cards:
+    """Reads lines as cards, and lists what it changes."""
+
+    def __init__(self, lines: List[str], fixed: bool, options: Options) -> None:
+        self.lines, self.fixed, self.options = lines, fixed, options
+        self.cards: List[Card] = []
+        self.noted: Dict[str, List[int]] = {}
+        self.rows: Set[str] = set()
+        self.columns: Set[str] = set()
+        self.whole: Dict[str, int] = {}  # whole-number columns, and the line of each
+        self.sense: Optional[str] = None
+        self.objective: Optional[Card] = None
+        self.in_whole = False
+        self.names_of_text()
+
+    def note(self, line: int, what: str) -> None:
+        self.noted.setdefault(what, []).append(line)
+
+    def names_of_text(self) -> None:
+        """The names of rows and columns, which may begin with the sign of a comment."""
+        section = ""
+        for line in self.lines:
+            if line[:1] not in (" ", "\t", "*", ""):
+                section = words_of(line)[0].upper()
+            elif self.fixed:
+                self.add_name(section, [line[4:12].strip()] if line[4:12].strip() else [])
+            else:
+                words = words_of(line)
+                self.add_name(section, words[1:2] if section == "ROWS" else words[:1] if len(words) % 2 else [])
+
+    def add_name(self, section: str, found: List[str]) -> None:
+        if section in ("ROWS", "COLUMNS"):
+            (self.rows if section == "ROWS" else self.columns).update(found)
+
+    def read(self) -> None:
+        section = ""
+        for number, line in enumerate(self.lines, 1):
+            bare = line.rstrip("\r")
+            if not bare.strip(" \t") or line[:1] == "*":
+                self.cards.append(Card(number, line))
+                continue
+            if line[:1] not in (" ", "\t"):
+                section = self.head(number, bare, section)
+            elif section == "OBJSENSE":
+                self.sense_card(number, bare, words_of(self.without_comment(number, bare, section)))
+            elif section == "OBJNAME":
+                self.objective = Card(number, bare, "OBJNAME", name=words_of(bare)[0])
+            else:
+                self.data(number, bare, section)
+            if section == "ENDATA":
+                break
+
+    # ---- sections
+
+    def head(self, line: int, text: str, before: str) -> str:
+        words = words_of(text)
+        word = words[0].upper()
+        if word in SENSE_WORDS and before == "OBJSENSE":
+            self.note(line, f"{words[0]} under OBJSENSE begins in column 1")
+            self.sense_card(line, text, words)
+            return before
+        if word in FOREIGN:
+            raise Unconvertible(line, f"{words[0]}: {FOREIGN[word]}, which lpd has not")
+        if word not in SECTIONS and word != "OBJNAME":
+            raise TextFault(line, 2, text)
+        if words[0] != word:
+            self.note(line, "a section in lower case")
+        second = words[1] if len(words) > 1 else ""
+        if word == "OBJNAME":
+            if second:
+                self.objective = Card(line, text, "OBJNAME", name=second)
+            return word
+        name = second if word == "NAME" else self.sense_of(line, second) if word == "OBJSENSE" and second else ""
+        self.cards.append(Card(line, text, word, name=name, is_head=True))
+        return word
+
+    def sense_card(self, line: int, text: str, words: List[str]) -> None:
+        if len(words) != 1:
+            raise TextFault(line, 3, text)
+        self.cards.append(Card(line, text, "OBJSENSE", name=self.sense_of(line, words[0])))
+
+    def sense_of(self, line: int, word: str) -> str:
+        """The sense that a word is, in the profile's words."""
+        upper = word.upper()
+        if upper not in SENSE_WORDS or self.sense is not None:
+            raise TextFault(line, 3, self.lines[line - 1])
+        self.sense = SENSE_WORDS[upper]
+        if word != self.sense:
+            self.note(line, f"{word} is written as {self.sense}")
+        return self.sense
+
+    # ---- data cards
+
+    def without_comment(self, line: int, text: str, section: str) -> str:
+        """The card without a comment behind $."""
+        known = self.rows | self.columns
+        if self.fixed:
+            for first in (15, 40):
+                if text[first - 1 : first] == "$" and text[first - 1 : first + 7].strip() not in known:
+                    self.note(line, "a comment behind $ is taken out")
+                    return text[: first - 1]
+            return text
+        words, least = words_of(text), 2 if section in ("ROWS", "BOUNDS") else 1
+        for at, word in enumerate(words):
+            if word[0] == "$" and at >= least and word not in known:
+                self.note(line, "a comment behind $ is taken out")
+                return text[:1] + " ".join(words[:at])
+        return text
+
+    def data(self, line: int, text: str, section: str) -> None:
+        bare = self.without_comment(line, text, section)
+        if not bare.strip(" \t"):
+            return
+        make: Dict[str, Callable[[int, str, List[Optional[str]]], None]] = {
+            "ROWS": self.row_card,
+            "COLUMNS": self.column_card,
+            "RHS": self.side_card,
+            "RANGES": self.side_card,
+            "BOUNDS": self.bound_card,
+        }
+        if section not in make:
+            raise TextFault(line, 3, text)
+        self.section = section
+        make[section](line, text, self.fields(line, bare))
+
+    def fields(self, line: int, text: str) -> List[Optional[str]]:
+        """The fields of a data card: in free form its words, in fixed form the six fields, None where one is blank."""
+        if not self.fixed:
+            return list(words_of(text))
+        for data in (text, text.encode("utf-8", "replace").decode("latin-1")):
+            if all(data[c - 1 : c] in ("", " ") for c in GAPS) and "\t" not in data[:62]:
+                cut = [data[first - 1 : last].strip(" ") for first, last in FIELDS]
+                return [self.by_characters(part) or None for part in cut] if data is not text else [part or None for part in cut]
+        raise TextFault(line, 3, text)
+
+    @staticmethod
+    def by_characters(part: str) -> str:
+        return part.encode("latin-1").decode("utf-8", "replace")
+
+    def add(self, card: Card) -> None:
+        self.cards.append(card)
+
+    def row_card(self, line: int, text: str, fields: List[Optional[str]]) -> None:
+        kind, name = (fields + [None, None])[:2]
+        if kind is None or name is None or any(fields[2:]):
+            raise TextFault(line, 3, text)
+        if kind != kind.upper():
+            self.note(line, "a type in lower case")
+        self.add(Card(line, text, "ROWS", kind=kind.upper(), name=name))
+
+    def column_card(self, line: int, text: str, fields: List[Optional[str]]) -> None:
+        if self.fixed:
+            name, rest = fields[1], fields[2:]
+            marks = bool(fields[0])
+        else:
+            is_whole = len(fields) in (3, 5)
+            name, rest = (fields[0], fields[1:]) if is_whole else (None, fields)
+            marks = len(fields) not in (2, 3, 4, 5)
+        if "'MARKER'" in rest[:1]:
+            self.marker(line, [word for word in rest if word])
+            return
+        given = rest[: len(rest) - (2 if self.fixed and rest[2] is None and rest[3] is None else 0)]
+        if marks or len(given) not in (2, 4) or any(word is None for word in given):
+            raise TextFault(line, 3, text)
+        if not name:
+            name = next((card.name for card in reversed(self.cards) if card.section == "COLUMNS" and not card.is_head), None)
+            if name is None:
+                raise TextFault(line, 3, text)
+            self.note(line, "the column that the card leaves out is put in")
+        if self.in_whole:
+            self.whole.setdefault(name, line)
+        words = [word or "" for word in given]
+        self.add(Card(line, text, "COLUMNS", name=name, pairs=list(zip(words[::2], words[1::2]))))
+
+    def marker(self, line: int, words: List[str]) -> None:
+        if words[-1] not in ("'INTORG'", "'INTEND'"):
+            raise Unconvertible(line, f"{words[-1]}: special ordered sets, which lpd has not")
+        self.in_whole = words[-1] == "'INTORG'"
+        if self.options.relax:
+            self.note(line, "a marker of whole-number columns is taken out")
+
+    def side_card(self, line: int, text: str, fields: List[Optional[str]]) -> None:
+        if self.fixed:
+            name, rest = fields[1], fields[2:] if fields[4] or fields[5] else fields[2:4]
+            if fields[0]:
+                raise TextFault(line, 3, text)
+        else:
+            name, rest = (fields[0], fields[1:]) if len(fields) % 2 else (None, fields)
+        if len(rest) not in (2, 4) or any(word is None for word in rest):
+            raise TextFault(line, 3, text)
+        words = [word or "" for word in rest]
+        self.add(Card(line, text, self.section, set=name, pairs=list(zip(words[::2], words[1::2]))))
+
+    def bound_card(self, line: int, text: str, fields: List[Optional[str]]) -> None:
+        kind = (fields[0] or "").upper()
+        if fields[0] != kind:
+            self.note(line, "a kind in lower case")
+        if kind in ("SC", "SI"):
+            raise Unconvertible(line, f"{kind}: semi-continuous columns, which lpd has not")
+        if kind not in ("UP", "LO", "FX", "FR", "MI", "PL", *WHOLE_KINDS):
+            raise TextFault(line, 11, text)
+        if self.fixed:
+            name, column, number = fields[1], fields[2], None if kind in WITHOUT_NUMBER else fields[3]
+        else:
+            name, column, number = self.bound_words(line, text, kind, [word or "" for word in fields[1:]])
+        if column is None or (number is None) != (kind in WITHOUT_NUMBER):
+            raise TextFault(line, 3, text)
+        if kind in WHOLE_KINDS:
+            self.whole.setdefault(column, line)
+        self.add(Card(line, text, "BOUNDS", kind=kind, set=name, name=column, number=number))
+
+    def bound_words(self, line: int, text: str, kind: str, words: List[str]) -> "tuple[Optional[str], str, Optional[str]]":
+        """The set, the column and the number of a card of free form. A number behind a kind that needs none is dropped."""
+        if kind not in WITHOUT_NUMBER:
+            if len(words) not in (2, 3):
+                raise TextFault(line, 3, text)
+            return (words[0] if len(words) == 3 else None), words[-2], words[-1]
+        is_numbered = len(words) == 3
+        if len(words) == 2 and words[0] in self.columns and is_number(words[1]):
+            if words[1] in self.columns:
+                raise Unconvertible(line, f"{words[0]} and {words[1]} are both columns, so {kind} can be of either: take one word out")
+            is_numbered = True
+        if is_numbered:
+            if not is_number(words[-1]):
+                raise TextFault(line, 3, text)
+            self.note(line, f"a number behind {kind} is taken out")
+            words = words[:-1]
+        if len(words) not in (1, 2):
+            raise TextFault(line, 3, text)
+        return (words[0] if len(words) == 2 else None), words[-1], None
+
+
+# ---- changes over all cards
+
+
+class Converter:
+    def __init__(self, text: str, fixed: bool, options: Options) -> None:
+        self.read = Cards(lines_of(text), fixed, options)
+        self.returns = {number for number, line in enumerate(text.split("\n"), 1) if line.endswith("\r")}
+        self.options = options
+        self.names: List[Renamed] = []
+
+    def run(self) -> None:
+        self.read.read()
+        self.relax()
+        self.put_sense()
+        self.put_objective()
+        for section in SETS:
+            self.fill_sets(section)
+        self.rename()
+
+    def cards(self, section: str) -> Iterator[Card]:
+        return (card for card in self.read.cards if card.section == section and not card.is_head)
+
+    def put_sense(self) -> None:
+        """Puts OBJSENSE before ROWS."""
+        cards = self.read.cards
+        rows = next((n for n, card in enumerate(cards) if card.section == "ROWS"), len(cards))
+        late = [card for card in cards[rows:] if card.section == "OBJSENSE"]
+        for card in late:
+            self.read.note(card.line, "OBJSENSE is put before ROWS")
+            cards.remove(card)
+        cards[rows:rows] = late
+
+    def put_objective(self) -> None:
+        """Puts the row that OBJNAME names before all others, and takes OBJNAME out."""
+        named = self.read.objective
+        if named is None:
+            return
+        rows = [card for card in self.cards("ROWS") if card.kind == "N"]
+        found = next((card for card in rows if card.name == named.name), None)
+        if found is None:
+            raise Unconvertible(named.line, f"OBJNAME names {named.name}, which is no row of type N")
+        self.read.note(named.line, "OBJNAME is taken out")
+        if found is not rows[0]:
+            self.read.note(found.line, f"row {named.name} is put first, since OBJNAME names it")
+            self.read.cards.remove(found)
+            at = next(n for n, card in enumerate(self.read.cards) if card.section == "ROWS" and card.is_head)
+            self.read.cards.insert(at + 1, found)
+
+    def relax(self) -> None:
+        whole = self.read.whole
+        if whole and not self.options.relax:
+            listed = ", ".join(list(whole)[:6]) + (", .." if len(whole) > 6 else "")
+            raise Question(min(whole.values()), f"whole-number columns ({listed}): lpd solves linear programs", "relax", ["yes"])
+        bounded = {card.name for card in self.cards("BOUNDS")}
+        open_ones = [name for name in whole if name not in bounded]
+        if open_ones and self.options.no_bound is None:
+            what = f"the whole-number column {open_ones[0]} has no bounds: some programs give it the upper bound 1, and others none"
+            raise Question(whole[open_ones[0]], what, "no_bound", ["1", "none"])
+        self.read.cards = [relaxed for card in self.read.cards for relaxed in self.relaxed(card)]
+        if self.options.no_bound == "1":
+            self.bound_by_one(open_ones)
+
+    def relaxed(self, card: Card) -> List[Card]:
+        if card.section != "BOUNDS" or card.kind not in WHOLE_KINDS:
+            return [card]
+        if card.kind == "BV":
+            self.read.note(card.line, "BV is written as LO 0 and UP 1")
+            return [replace(card, kind=kind, number=number) for kind, number in (("LO", "0"), ("UP", "1"))]
+        self.read.note(card.line, f"{card.kind} is written as {'LO' if card.kind == 'LI' else 'UP'}")
+        return [replace(card, kind="LO" if card.kind == "LI" else "UP")]
+
+    def bound_by_one(self, names: List[str]) -> None:
+        """Gives columns the upper bound 1, with the set of the section's first card."""
+        if not names:
+            return
+        first = next(self.cards("BOUNDS"), None)
+        cards = self.read.cards
+        at = next((n for n, card in enumerate(cards) if card.section == "ENDATA"), len(cards))
+        head = next((n for n, card in enumerate(cards) if card.section == "BOUNDS" and card.is_head), None)
+        if head is None:
+            cards.insert(at, Card(self.read.whole[names[0]], "", "BOUNDS", is_head=True))
+            head = at
+        end = next((n for n, card in enumerate(cards) if n > head and card.is_head), len(cards))
+        for name in names:
+            line = self.read.whole[name]
+            self.read.note(line, "the upper bound 1 is put in")
+            cards.insert(end, Card(line, "", "BOUNDS", kind="UP", set=first.set if first else None, name=name, number="1"))
+            end += 1
+
+    def fill_sets(self, section: str) -> None:
+        """Says what cards without a set mean where others have one, and notes those of other sets, which are skipped."""
+        cards = list(self.cards(section))
+        named = [card for card in cards if card.set is not None]
+        unnamed = [card for card in cards if card.set is None]
+        if named and unnamed:
+            if self.options.no_set is None:
+                what = f"a card of {section} without a set, where line {named[0].line} has the set {named[0].set}"
+                raise Question(unnamed[0].line, what, "no_set", ["same", "own"])
+            if self.options.no_set == "same":
+                for card in unnamed:
+                    card.set = named[0].set
+                    self.read.note(card.line, f"the set {card.set} is put in")
+        used = cards[0].set if cards else None
+        for card in cards:
+            if card.set != used:
+                mine, others = (f"the set {name}" if name else "no set" for name in (card.set, used))
+                self.read.note(card.line, f"this card of {section} has {mine} and the first one {others}, so it is skipped")
+
+    def rename(self) -> None:
+        """Renames what is no name of the profile, everywhere."""
+        rows = [card.name for card in self.cards("ROWS")]
+        columns = [card.name for card in self.cards("COLUMNS")]
+        sets = [card.set for section in SETS for card in self.cards(section) if card.set]
+        of_rows = renamed(rows, lambda name: is_name(name, of_row=True))
+        of_columns = renamed(columns, is_name)
+        of_sets = renamed(sets, is_name)
+        for kind, table in (("row", of_rows), ("column", of_columns), ("set", of_sets)):
+            self.names += [Renamed(kind, old, new) for old, new in table.items()]
+        for card in self.read.cards:
+            of_name = of_rows if card.section == "ROWS" else of_columns
+            if card.section == "NAME" and card.name and not is_name(card.name):
+                new = next(iter(renamed([card.name], is_name).values()))
+                self.names.append(Renamed("model", card.name, new))
+                card.name = new
+            elif not card.is_head:
+                card.name = of_name.get(card.name, card.name)
+            card.set = of_sets.get(card.set, card.set) if card.set else None
+            card.pairs = [(of_rows.get(row, row), number) for row, number in card.pairs]
+
+    def converted(self, encoding: str, has_mark: bool) -> Converted:
+        """The text, in which characters stand for bytes, and the model that it spells."""
+        lines = [card.shown().encode(encoding, "replace").decode("latin-1") for card in self.read.cards]
+        numbers = [card.line for card in self.read.cards]
+        try:
+            model, _ = read_lines(lines)
+        except TextFault as fault:
+            number = numbers[fault.line - 1] if fault.line <= len(lines) else len(self.read.lines) + 1
+            raise TextFault(number, fault.fault, fault.text) from None
+        listed = {line for of_one in self.read.noted.values() for line in of_one}
+        if has_mark:
+            self.read.note(1, "a byte-order mark is taken out")
+        for card in self.read.cards:
+            if card.line in self.returns:
+                self.read.note(card.line, "carriage returns at the ends of lines are taken out")
+        for card in self.read.cards:
+            if card.line not in listed and card.shown() != self.read.lines[card.line - 1]:
+                self.read.note(card.line, "written in free form, with names of the profile")
+        changes = [Changes(what, tuple(sorted(set(of_one)))) for what, of_one in self.read.noted.items()]
+        changes.sort(key=lambda one: one.lines)
+        return Converted("".join(f"{line}\n" for line in lines), model, changes, self.names)
+
+
+def of_form(data: bytes, fixed: bool, options: Options) -> Converted:
+    text, encoding, has_mark = decoded(data)
+    converter = Converter(text, fixed, options)
+    converter.run()
+    return converter.converted(encoding, has_mark)
+
+
+def convert(data: bytes, form: Optional[str] = None, options: Options = Options()) -> Converted:
+    """The text in free form of the profile. Without a form both are tried; where both fit, they have to spell the same model."""
+    if form is not None:
+        return of_form(data, form == "fixed", options)
+    found: List[Converted] = []
+    errors: List[LpdError] = []
+    for fixed in (False, True):
+        try:
+            found.append(of_form(data, fixed, options))
+        except LpdError as error:
+            errors.append(error)
+    if len(found) == 2 and found[0].model != found[1].model:
+        raise Question(1, "the text spells one model in free form and another in fixed form", "form", ["free", "fixed"])
+    if found:
+        return found[0]
+    raise max(errors, key=lambda error: (not isinstance(error, TextFault), getattr(error, "line", 0)))

@@ -1,0 +1,35 @@
+"""Runs the commands of python3 -m lpd within a test."""
+import contextlib
+import io
+import sys
+from typing import NamedTuple
+from unittest import mock
+
+from lpd.__main__ import main
+
+
+class Said(NamedTuple):
+    status: int
+    output: str
+    complaints: str
+
+
+class Bytes(io.TextIOWrapper):
+    """Standard output, or input, whose bytes are kept."""
+
+    def __init__(self, data: bytes = b"") -> None:
+        super().__init__(io.BytesIO(data), encoding="latin-1", write_through=True)
+
+    def data(self) -> bytes:
+        self.flush()
+        return self.buffer.getvalue()  # type: ignore[attr-defined, no-any-return]
+
+
+def command(*words: str, stdin: bytes = b"") -> Said:
+    output, complaints = Bytes(), io.StringIO()
+    with mock.patch.object(sys, "stdin", Bytes(stdin)), contextlib.redirect_stdout(output), contextlib.redirect_stderr(complaints):
+        try:
+            status = main(list(words))
+        except SystemExit as ended:
+            status = int(ended.code or 0)
+    return Said(status, output.data().decode("latin-1"), complaints.getvalue())
