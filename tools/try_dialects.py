@@ -22,7 +22,7 @@ TOP = Path(__file__).resolve().parent.parent
 sys.path.insert(0, str(TOP / "clients" / "python"))
 
 # The package of this repository.
-from lpd.convert import convert  # noqa: E402
+from lpd.conversion import convert  # noqa: E402
 from lpd.dialects import DIALECTS, written  # noqa: E402
 from lpd.model import Column, Model, Row  # noqa: E402
 from lpd.number_text import shown  # noqa: E402

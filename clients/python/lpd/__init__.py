@@ -11,6 +11,8 @@ The program decides: this package talks to it, and says in words what it refuses
 fractions.Fraction. It needs nothing but Python's standard library.
 """
 from .certificate import check
+from .certifying import Certified, certify
+from .conversion import Converted, Options, Question, Unconvertible, convert
 from .errors import (
     BadCommand,
     BadName,
@@ -45,6 +47,8 @@ __all__ = [
     "BadName",
     "BadNumber",
     "CertificateFault",
+    "Certified",
+    "Converted",
     "Found",
     "Infeasible",
     "LimitReached",
@@ -58,11 +62,13 @@ __all__ = [
     "NoModel",
     "NumberTooWide",
     "Optimal",
+    "Options",
     "OutOfMemory",
     "Past",
     "Program",
     "ProgramEnded",
     "ProgramMissing",
+    "Question",
     "Refused",
     "Rejected",
     "Session",
@@ -70,10 +76,13 @@ __all__ = [
     "TextFault",
     "TooWideForFixed",
     "Unbounded",
+    "Unconvertible",
     "Unexpected",
     "UnknownName",
     "Verdict",
+    "certify",
     "check",
+    "convert",
     "read_model",
     "run",
 ]

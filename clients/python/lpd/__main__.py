@@ -1,4 +1,4 @@
-"""lpd for people: python3 -m lpd solve, check, or convert, each with --help.
+"""lpd for people: python3 -m lpd solve, check, convert, or certify, each with --help.
 
 Status: 0 an optimal value, accepted by both checkers (solve), an accepted certificate (check), a text (convert); 1 a certificate
 that is not accepted; 2 wrong words, or a question that words have to answer; 3 no program, or it ended; 9 a refused text,
@@ -11,9 +11,9 @@ import sys
 from typing import List, Optional
 
 from . import errors
-from .commands import check, convert, solve
+from .commands import certify, check, convert, solve
 from .commands.common import asked, tell
-from .convert import Question, Unconvertible
+from .conversion import Question, Unconvertible
 from .dialects import Inexact
 from .number_text import NotANumber
 
@@ -23,7 +23,7 @@ EPILOG = __doc__.partition("\n\n")[2] if __doc__ else None
 def parser() -> argparse.ArgumentParser:
     top = argparse.ArgumentParser(prog="python3 -m lpd", epilog=EPILOG, formatter_class=argparse.RawDescriptionHelpFormatter)
     commands = top.add_subparsers(dest="command", required=True)
-    for command in (solve, check, convert):
+    for command in (solve, check, convert, certify):
         command.add(commands)
     return top
 

@@ -10,13 +10,13 @@ from pathlib import Path
 from typing import Dict, List, Optional
 
 import lpd
-from lpd.convert import Converted, Options, Question, Unconvertible, convert
+from lpd.conversion import Converted, Options, Question, Unconvertible, convert
 from lpd.dialects import DIALECTS, PROFILE, Inexact, written
-from lpd.model import Column, Model, Row
+from lpd.model import Model
 from lpd.names import Renamed
-from lpd.program import find_program
 
 from .commands import command
+from .models import has_program, some_model
 
 MODELS = Path(__file__).resolve().parents[3] / "examples" / "models"
 PLAIN = "ROWS\n N cost\n G need\nCOLUMNS\n x cost 1 need 1\n y cost 2 need 1\nRHS\n RHS need 4\nBOUNDS\n UP BND x 3\nENDATA\n"
@@ -41,13 +41,6 @@ def fixed(*cards: str) -> str:
 
 
 FIXED = ("ROWS", "N|cost", "G|need", "COLUMNS", "|x|cost|1|need|1", "|y|cost|2|need|1", "RHS", "|RHS|need|4", "BOUNDS", "UP|BND|x|3", "ENDATA")
-
-
-def has_program() -> bool:
-    try:
-        return bool(find_program())
-    except lpd.ProgramMissing:
-        return False
 
 
 class IntoTheProfile(unittest.TestCase):
@@ -246,26 +239,6 @@ class Command(unittest.TestCase):
         self.assertIn("note: cards of other sets are skipped, as docs/FORMATS.md has it: line 11\n", said.complaints)
         said = command("solve", "-", "--show", "prices", "--decimals", "1", stdin=PLAIN.encode())
         self.assertEqual(said.output, "OPTIMAL 5\n\nrow   price\nneed  2 (2.0)\n\ncolumn  reduced cost\nx       -1 (-1.0)\n")
-
-
-def some_model(dice: random.Random) -> Model:
-    """A model with bounds, ranges and an offset of every kind, which other programs read exactly."""
-
-    def number() -> Fraction:
-        return Fraction(dice.randint(-12, 12), dice.choice([1, 1, 2, 4]))
-
-    def bound(least: Optional[Fraction]) -> Optional[Fraction]:
-        return dice.choice([None, (least or 0) + abs(number()), (least or 0) + Fraction(3)])
-
-    model = Model("made", dice.choice([1, -1]), "obj", number())
-    for i in range(dice.randint(1, 5)):
-        model.rows[f"{dice.choice('r-$+')}{i}"] = Row(dice.choice("LGE"), number(), dice.choice([None, None, number()]))
-    for j in range(dice.randint(1, 6)):
-        lower = dice.choice([Fraction(0), Fraction(0), None, number()])
-        entries = {row: value for row in model.rows for value in [number()] if value and dice.random() < 0.7}
-        model.columns[f"{dice.choice('x-$+')}{j}"] = Column(number(), lower, bound(lower), entries)
-    model.columns["-"] = Column(Fraction(1), Fraction(1), Fraction(2), {})
-    return model
 
 
 class ForOthers(unittest.TestCase):

@@ -7,7 +7,7 @@ from fractions import Fraction
 from pathlib import Path
 from typing import List, Optional, Sequence
 
-from ..convert import Converted, Options, Question, convert
+from ..conversion import Converted, Options, Question, convert
 from ..model import Model, read_model
 from ..number_text import rounded, shown
 from ..replies import Answer, Infeasible, Optimal, Past, Unbounded
@@ -69,9 +69,9 @@ def asked(question: Question) -> str:
     return f"{question}. Say which: {' or '.join(answers)}" if len(answers) > 1 else f"{question}. {option} solves without that"
 
 
-def converted(words: argparse.Namespace, data: bytes) -> Converted:
+def converted(words: argparse.Namespace, data: bytes, options: Optional[Options] = None) -> Converted:
     """The text in the profile. What was changed goes to standard error."""
-    found = convert(data, words.form, options_of(words))
+    found = convert(data, words.form, options or options_of(words))
     tell_changes(found)
     return found
 

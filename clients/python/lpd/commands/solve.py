@@ -7,7 +7,7 @@ from typing import Dict, List, Optional
 
 from .. import errors
 from ..certificate import check_lines
-from ..convert import Question, convert
+from ..conversion import Question, convert
 from ..model import Model, read_model
 from ..number_text import shown
 from ..replies import Accepted, Answer, Infeasible, Optimal, Past, Spent, Unbounded

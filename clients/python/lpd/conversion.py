@@ -77,11 +77,12 @@ class Converted:
 class Options:
     """How questions are answered: with `relax` whole-number columns lose that; `no_set` says whether a card without a set where
     others have one is of the "same" set, or of its "own"; `no_bound` whether a whole-number column without bounds has the upper
-    bound "1" or "none"."""
+    bound "1" or "none"; with `wide` numbers may have any width, which the profile does not allow."""
 
     relax: bool = False
     no_set: Optional[str] = None
     no_bound: Optional[str] = None
+    wide: bool = False
 
 
 @dataclass
@@ -511,7 +512,7 @@ class Converter:
         lines = [card.shown().encode(encoding, "replace").decode("latin-1") for card in self.read.cards]
         numbers = [card.line for card in self.read.cards]
         try:
-            model, _ = read_lines(lines)
+            model, _ = read_lines(lines, wide=self.options.wide)
         except TextFault as fault:
             number = numbers[fault.line - 1] if fault.line <= len(lines) else len(self.read.lines) + 1
             raise TextFault(number, fault.fault, fault.text) from None

@@ -1,0 +1,82 @@
+"""python3 -m lpd certify MODEL: another solver's answer, made exact, and how far off it was."""
+from __future__ import annotations
+
+import argparse
+import json
+import time
+from fractions import Fraction
+from typing import Dict, Optional
+
+from ..certifying import Certified, certify
+from ..conversion import Options
+from ..floating import SOLVERS
+from ..number_text import rounded, shown
+from ..replies import Optimal
+from .common import add_options, converted, lines_text, options_of, read, status_of, with_decimals
+from .convert import put
+
+PYTHON_ALONE = 14
+
+
+def add(commands: "argparse._SubParsersAction[argparse.ArgumentParser]") -> None:
+    certifies = commands.add_parser("certify", help="makes another solver's answer exact, with a certificate that is judged")
+    certifies.set_defaults(run=run)
+    certifies.add_argument("model", help="a file of MPS text, or - for standard input")
+    certifies.add_argument("--with", dest="solver", choices=list(SOLVERS), default="glpsol", help="the solver that is asked for a basis (glpsol)")
+    certifies.add_argument("--seconds", type=float, metavar="N", help="how long the solver may take; then the exact steps begin at no basis of its own")
+    certifies.add_argument("--form", choices=["free", "fixed"], help="the form of the text (the one that fits)")
+    add_options(certifies)
+    certifies.add_argument("--decimals", type=int, metavar="D", default=10, help="shows D decimals, rounded, beside fractions (10)")
+    certifies.add_argument("-o", "--output", metavar="FILE", help="where the certificate goes")
+    certifies.add_argument("--json", action="store_true")
+
+
+def small(value: Fraction) -> str:
+    """A difference in three digits."""
+    try:
+        return f"{float(value):.3g}"
+    except OverflowError:
+        return rounded(value, 0)
+
+
+def judge_of(found: Certified) -> str:
+    if found.narrow:
+        return "accepted by lpd check, and by the checker in Python"
+    return f"accepted by the checker in Python alone: {found.why}"
+
+
+def claim_of(found: Certified) -> str:
+    value = found.claim.value
+    return found.claim.said if value is None else f"{found.claim.said} {shown(value)}"
+
+
+def off_of(found: Certified) -> Optional[str]:
+    off = found.off()
+    return None if off is None else small(off)
+
+
+def as_json(found: Certified, solver: str, seconds: float) -> str:
+    told: Dict[str, object] = {"answer": str(found.known), "solver": solver, "said": claim_of(found), "off": off_of(found)}
+    told.update({"steps": found.steps, "accepted_by_lpd_check": found.narrow, "why": found.why, "seconds": round(seconds, 3)})
+    return json.dumps({**told, "certificate": found.certificate}, indent=2)
+
+
+def run(words: argparse.Namespace) -> int:
+    started = time.monotonic()
+    options = options_of(words)
+    text = converted(words, read(words.model), Options(options.relax, options.no_set, options.no_bound, wide=True)).text
+    found = certify(text, words.solver, words.seconds)
+    seconds = time.monotonic() - started
+    if words.output:
+        put(lines_text(found.certificate), words.output)
+    if words.json:
+        print(as_json(found, words.solver, seconds))
+    else:
+        exact = f"OPTIMAL {with_decimals(found.known.value, words.decimals)}" if isinstance(found.known, Optimal) else str(found.known)
+        print(f"{words.solver} says  {claim_of(found)}")
+        print(f"exactly      {exact}")
+        if found.off() is not None:
+            print(f"off by       {off_of(found)}, as {words.solver} prints its value")
+        print(f"exact steps  {found.steps}")
+        print(f"certificate  {judge_of(found)}")
+    return status_of(found.known) if found.narrow else PYTHON_ALONE

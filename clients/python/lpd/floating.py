@@ -1,0 +1,168 @@
+"""Other solvers, which are asked for a basis: what they say, and where they stopped."""
+from __future__ import annotations
+
+import re
+import shutil
+import subprocess
+import tempfile
+from dataclasses import dataclass, field
+from fractions import Fraction
+from pathlib import Path
+from typing import Callable, Dict, List, Optional, Tuple
+
+from .dialects import DIALECTS, with_names, written
+from .errors import LpdError
+from .exact import BASIC, LOWER, UPPER, Basis
+from .model import Model
+from .number_text import NotANumber, parse
+
+Parts = Dict[str, Fraction]
+
+
+class SolverMissing(LpdError):
+    """There is no such solver on the path."""
+
+
+@dataclass
+class Claim:
+    """What a solver says of a model: its words, its value, and either its basis or, of an exact one, x and y by names."""
+
+    said: str
+    value: Optional[Fraction] = None
+    basis: Optional[Basis] = None
+    parts: List[Tuple[str, Parts]] = field(default_factory=list)
+
+
+@dataclass(frozen=True)
+class Solver:
+    """A solver with the words that it is run with behind those that read the model, and how its files are read."""
+
+    name: str
+    arguments: Tuple[str, ...]
+    read: Callable[[str, Path], Claim]
+
+
+def content(path: Path) -> str:
+    return path.read_text(encoding="latin-1") if path.exists() else ""
+
+
+def value_in(pattern: str, text: str) -> Optional[Fraction]:
+    found = re.search(pattern, text)
+    try:
+        return None if found is None else parse(found[1]).value
+    except NotANumber:
+        return None
+
+
+def read_glpsol(said: str, folder: Path) -> Claim:
+    """A solution file: s bas ROWS COLUMNS PRIMAL DUAL VALUE, and i or j NUMBER STATUS VALUE PRICE."""
+    ends = {"ff": "OPTIMAL", **dict.fromkeys(("nu", "ni", "nf"), "INFEASIBLE"), "fn": "UNBOUNDED"}
+    statuses = {"b": BASIC, "u": UPPER}
+    basis, claim = Basis(), Claim("no solution file")
+    for line in content(folder / "solution").splitlines():
+        words = line.split()
+        if words[:2] == ["s", "bas"]:
+            claim = Claim(ends.get(words[4] + words[5], f"primal {words[4]}, dual {words[5]}"), basis=basis)
+            claim.value = parse(words[6]).value if claim.said == "OPTIMAL" else None
+        elif words[:1] == ["i"]:
+            basis.rows[f"R{int(words[1]) - 1}"] = statuses.get(words[2], LOWER)
+        elif words[:1] == ["j"]:
+            basis.columns[f"C{int(words[1]) - 1}"] = statuses.get(words[2], LOWER)
+    return claim
+
+
+def read_bas(text: str) -> Optional[Basis]:
+    """A basis in MPS: XU and XL exchange a column and a row, which is then at its upper or its lower limit."""
+    if not text:
+        return None
+    basis = Basis()
+    for line in text.splitlines():
+        words = line.split()
+        if line[:1] != " " or not words:
+            continue
+        if words[0] in ("XU", "XL"):
+            basis.columns[words[1]], basis.rows[words[2]] = BASIC, UPPER if words[0] == "XU" else LOWER
+        elif words[0] in ("UL", "LL"):
+            basis.columns[words[1]] = UPPER if words[0] == "UL" else LOWER
+        elif words[0] == "BS":
+            basis.columns[words[1]] = BASIC
+    return basis
+
+
+def read_coin(said: str, folder: Path) -> Claim:
+    basis = read_bas(content(folder / "basis"))
+    value = value_in(r"Optimal objective (\S+)", said)
+    if value is not None:
+        return Claim("OPTIMAL", value, basis)
+    is_infeasible = re.search("(?i)primal ?infeasible|problem is infeasible", said)
+    is_open = re.search("(?i)dual ?infeasible|unbounded", said)
+    return Claim("INFEASIBLE" if is_infeasible else "UNBOUNDED" if is_open else "no answer", None, basis)
+
+
+def read_esolver(said: str, folder: Path) -> Claim:
+    text = content(folder / "solution")
+    status = re.search(r"status\s*=?\s*(\w+)", text)
+    claim = Claim(status[1] if status else "no answer", value_in(r"Value = (\S+)", text), read_bas(content(folder / "basis")))
+    part: Optional[Parts] = None
+    heads: Dict[str, Optional[Parts]] = {"VARS:": {}, "PI:": {}, "REDUCED COST:": None, "SLACK:": None}
+    for line in text.splitlines():
+        if line.strip() in heads:
+            part = heads[line.strip()]
+        found = re.match(r"\s*(\w+) = (\S+)$", line)
+        if found and part is not None:
+            part[found[1]] = parse(found[2]).value
+    if claim.said == "OPTIMAL":
+        claim.parts = [("x", heads["VARS:"] or {}), ("y", heads["PI:"] or {})]
+    return claim
+
+
+SOLVERS = {
+    solver.name: solver
+    for solver in (
+        Solver("glpsol", ("--nopresol", "-w", "solution"), read_glpsol),
+        Solver("clp", ("-presolve", "off", "-primalsimplex", "-basisOut", "basis"), read_coin),
+        Solver("cbc", ("-presolve", "off", "-initialSolve", "-basisOut", "basis"), read_coin),
+        Solver("esolver", ("-O", "solution", "-b", "basis"), read_esolver),
+    )
+}
+
+
+def command_of(solver: Solver, command: List[str]) -> List[str]:
+    """The command, with the solver's arguments before the text for esolver, whose words come first, and else behind."""
+    return [command[0], *solver.arguments, *command[1:]] if solver.name == "esolver" else [*command, *solver.arguments]
+
+
+def renamed_back(claim: Claim, rows: Dict[str, str], columns: Dict[str, str], sense: int) -> Claim:
+    """The claim with the names of the model. Prices are those of the objective as it is: a certificate has e times them."""
+    basis = None
+    if claim.basis:
+        of_columns = {columns[name]: status for name, status in claim.basis.columns.items() if name in columns}
+        basis = Basis(of_columns, {rows[name]: status for name, status in claim.basis.rows.items() if name in rows})
+    parts: List[Tuple[str, Parts]] = []
+    for letter, values in claim.parts:
+        names, factor = (columns, 1) if letter == "x" else (rows, sense)
+        parts.append((letter, {names[name]: factor * value for name, value in values.items() if name in names}))
+    return Claim(claim.said, claim.value, basis, parts)
+
+
+def ask(name: str, model: Model, seconds: Optional[float] = None) -> Claim:
+    """What a solver says of the model, written with plain names and with numbers rounded where it reads no quotients."""
+    solver = SOLVERS[name]
+    if not shutil.which(name):
+        raise SolverMissing(f"{name} is not on the path")
+    rows = {row: f"R{i}" for i, row in enumerate(model.rows)}
+    columns = {column: f"C{j}" for j, column in enumerate(model.columns)}
+    plain = with_names(model, {**rows, model.objective: "OBJ"}, columns)
+    plain.name = "model"
+    with tempfile.TemporaryDirectory() as place:
+        folder = Path(place)
+        out = written(plain, DIALECTS[name], rounds=True, path="model.mps")
+        (folder / "model.mps").write_text(out.text)
+        try:
+            done = subprocess.run(command_of(solver, out.command), cwd=folder, capture_output=True, timeout=seconds, stdin=subprocess.DEVNULL)
+        except subprocess.TimeoutExpired:
+            return Claim(f"nothing within {seconds} seconds")
+        claim = solver.read((done.stdout + done.stderr).decode("latin-1"), folder)
+    if claim.value is not None and DIALECTS[name].offset_sign == 0:
+        claim.value += model.offset
+    return renamed_back(claim, {new: old for old, new in rows.items()}, {new: old for old, new in columns.items()}, model.sense)

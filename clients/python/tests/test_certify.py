@@ -1,0 +1,170 @@
+"""Exact elimination, exact steps from any basis, what solvers write, and certificates by each solver that is there.
+
+LPD_CORPUS may name a folder of models with a list optima.tsv of them, which are then certified too: a line for each with its
+name, its outcome and its optimum as a fraction, between tabs.
+"""
+import json
+import os
+import random
+import shutil
+import unittest
+from fractions import Fraction
+from pathlib import Path
+from typing import Dict
+
+import lpd
+from lpd.certificate import check_lines
+from lpd.certifying import certified, certify
+from lpd.conversion import Options, convert
+from lpd.dialects import PROFILE, written
+from lpd.exact import BASIC, LOWER, UPPER, Basis, Factors, Simplex, Vector
+from lpd.floating import SOLVERS, Claim, read_bas
+
+from .commands import command
+from .models import has_program, some_model
+
+MODELS = Path(__file__).resolve().parents[3] / "examples" / "models"
+WIDE = f"ROWS\n N cost\n G need\nCOLUMNS\n x cost 1 need 3\nRHS\n RHS need {10**50}\nENDATA\n"
+
+
+class Elimination(unittest.TestCase):
+    def test_solutions(self) -> None:
+        dice = random.Random(3)
+        for size in (1, 2, 5, 12):
+            for _ in range(20):
+                matrix: Dict[int, Vector] = {
+                    i: {j: Fraction(dice.randint(-4, 4)) for j in range(size) if dice.random() < 0.5 or i == j} for i in range(size)
+                }
+                matrix = {i: {j: value for j, value in row.items() if value} for i, row in matrix.items()}
+                factors = Factors(matrix)
+                rows, columns = [i for i, _ in factors.pivots], [j for _, j in factors.pivots]
+                self.assertEqual(sorted(rows + factors.left_rows), list(range(size)))
+                self.assertEqual(len(set(columns)), len(rows))
+                if factors.left_rows:
+                    continue
+                right = {i: Fraction(dice.randint(-9, 9)) for i in range(size)}
+                x, y = factors.solve(right), factors.solve_transposed(right)
+                for k in range(size):
+                    self.assertEqual(sum(value * x.get(j, 0) for j, value in matrix[k].items()), right[k])
+                    self.assertEqual(sum(row.get(k, 0) * y.get(i, 0) for i, row in matrix.items()), right[k])
+
+    def test_dependent_rows_are_left_over(self) -> None:
+        one = Fraction(1)
+        factors = Factors({0: {0: one, 1: one}, 1: {0: 2 * one, 1: 2 * one}})
+        self.assertEqual((len(factors.pivots), len(factors.left_rows), len(factors.left_columns)), (1, 1, 1))
+
+
+class ExactSteps(unittest.TestCase):
+    def test_any_basis_leads_to_a_certificate(self) -> None:
+        dice = random.Random(11)
+        counts: Dict[str, int] = {}
+        for _ in range(150):
+            model = some_model(dice)
+            verdicts = set()
+            for _ in range(3):
+                statuses = [BASIC, LOWER, UPPER]
+                basis = Basis({name: dice.choice(statuses) for name in model.columns}, {name: dice.choice(statuses) for name in model.rows})
+                verdicts.add(str(check_lines(model, Simplex(model, basis).run(), wide=True)))
+            self.assertEqual(len(verdicts), 1, verdicts)
+            said = verdicts.pop().split()
+            self.assertEqual(said[0], "YES")
+            counts[said[1]] = counts.get(said[1], 0) + 1
+        self.assertGreater(min(counts[kind] for kind in ("OPTIMAL", "INFEASIBLE", "UNBOUNDED")), 10)
+
+    def test_cycling(self) -> None:
+        text = (MODELS / "cycling.mps").read_text()
+        simplex = Simplex(lpd.read_model(text), Basis())
+        self.assertEqual(str(lpd.check(text, "\n".join(simplex.run()) + "\n")), "YES " + (MODELS / "cycling.solved").read_text().splitlines()[0])
+
+    def test_a_clash(self) -> None:
+        model = lpd.read_model("ROWS\n N c\nCOLUMNS\n x c 1\nBOUNDS\n LO B x 2\n UP B x 1\nENDATA\n")
+        self.assertEqual(Simplex(model, Basis()).run(), ["CLASH x", "END"])
+
+    def test_an_optimal_basis_takes_no_step(self) -> None:
+        model = lpd.read_model((MODELS / "diet.mps").read_text())
+        first = Simplex(model, Basis())
+        first.run()
+        names = list(model.columns)
+        again = Simplex(model, Basis(dict(zip(names, first.status)), dict(zip(model.rows, first.status[len(names) :]))))
+        self.assertEqual(again.run(), first.run())
+        self.assertEqual(again.steps, 0)
+
+
+class Claims(unittest.TestCase):
+    def test_a_basis_in_mps(self) -> None:
+        basis = read_bas("NAME m\n XL C0 R1\n XU C1 R0\n UL C2\n LL C3\nENDATA\n")
+        self.assertEqual(basis, Basis({"C0": BASIC, "C1": BASIC, "C2": UPPER, "C3": LOWER}, {"R1": LOWER, "R0": UPPER}))
+        self.assertIsNone(read_bas(""))
+
+    def test_wrong_claims_do_not_matter(self) -> None:
+        model = lpd.read_model((MODELS / "diet.mps").read_text())
+        wrong = Claim("OPTIMAL", Fraction(91), parts=[("x", {"milk": Fraction(9)}), ("y", {})])
+        known, _, steps = certified(model, wrong)
+        self.assertEqual(known, lpd.Optimal(Fraction(185, 2)))
+        self.assertGreater(steps, 0)
+
+
+@unittest.skipUnless(has_program(), "the program is not built")
+class BySolvers(unittest.TestCase):
+    def by(self, solver: str) -> None:
+        if not shutil.which(solver):
+            self.skipTest(f"{solver} is not on the path")
+        for path in sorted(MODELS.glob("*.mps")):
+            with self.subTest(path.name):
+                answer = path.with_suffix(".solved").read_text().splitlines()[0]
+                found = certify(convert(path.read_bytes()).text, solver)
+                self.assertEqual((str(found.known), found.narrow), (answer, True))
+                self.assertTrue(str(found.known).startswith(found.claim.said), found.claim.said)
+        found = certify(WIDE, solver)
+        self.assertEqual((found.known, found.narrow), (lpd.Optimal(Fraction(10**50, 3)), False))
+        self.assertIn("past 127 bits", found.why)
+        self.corpus(solver)
+
+    def corpus(self, solver: str) -> None:
+        folder = os.environ.get("LPD_CORPUS")
+        if not folder:
+            return
+        for line in (Path(folder) / "optima.tsv").read_text().splitlines()[1:]:
+            name, outcome, optimum = line.split("\t")[:3]
+            with self.subTest(name):
+                text = convert((Path(folder) / f"{name}.mps").read_bytes(), options=Options(wide=True)).text
+                known = certify(text, solver, seconds=60).known
+                self.assertEqual(str(known).split()[0], outcome.upper())
+                if isinstance(known, lpd.Optimal):
+                    self.assertEqual(known.value, Fraction(optimum))
+
+    def test_glpsol(self) -> None:
+        self.by("glpsol")
+
+    def test_clp(self) -> None:
+        self.by("clp")
+
+    def test_cbc(self) -> None:
+        self.by("cbc")
+
+    def test_esolver(self) -> None:
+        self.by("esolver")
+
+    def test_random_models(self) -> None:
+        solvers = [name for name in SOLVERS if shutil.which(name)]
+        if not solvers:
+            self.skipTest("there is no other solver on the path")
+        dice = random.Random(5)
+        for turn in range(40):
+            text = written(some_model(dice), PROFILE).text
+            with lpd.Session() as session:
+                session.load(text)
+                answer = session.solve()
+            self.assertEqual(certify(text, solvers[turn % len(solvers)]).known, answer)
+
+    def test_the_command(self) -> None:
+        solver = next((name for name in SOLVERS if shutil.which(name)), None)
+        if solver is None:
+            self.skipTest("there is no other solver on the path")
+        said = command("certify", str(MODELS / "diet.mps"), "--with", solver)
+        self.assertEqual(said.status, 0)
+        self.assertIn("exactly      OPTIMAL 92.5 (92.5000000000)\noff by       0,", said.output)
+        self.assertIn("certificate  accepted by lpd check, and by the checker in Python\n", said.output)
+        said = command("certify", "-", "--with", solver, "--json", stdin=WIDE.encode())
+        self.assertEqual((said.status, json.loads(said.output)["accepted_by_lpd_check"]), (14, False))
+        self.assertEqual(command("certify", str(MODELS / "orders.mps"), "--with", solver).status, 10)
