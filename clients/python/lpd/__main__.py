@@ -1,8 +1,9 @@
-"""lpd for people: python3 -m lpd solve, check, convert, or certify, each with --help.
+"""lpd for people: python3 -m lpd solve, check, convert, certify, or batch, each with --help.
 
-Status: 0 an optimal value, accepted by both checkers (solve), an accepted certificate (check), a text (convert); 1 a certificate
-that is not accepted; 2 wrong words, or a question that words have to answer; 3 no program, or it ended; 9 a refused text,
-certificate or name; 10 infeasible; 11 unbounded; 12 past 127 bits; 13 the budget is spent.
+Status: 0 an optimal value, accepted by both checkers (solve), an accepted certificate (check), a text (convert), or a table
+(batch); 1 a certificate that is not accepted; 2 wrong words, or a question that words have to answer; 3 no program, or it
+ended; 9 a refused text, certificate or name; 10 infeasible; 11 unbounded; 12 past 127 bits; 13 the budget is spent; 14 an
+answer whose certificate the checker in Python alone accepts, since a number passes 127 bits (certify).
 """
 from __future__ import annotations
 
@@ -11,7 +12,7 @@ import sys
 from typing import List, Optional
 
 from . import errors
-from .commands import certify, check, convert, solve
+from .commands import batch, certify, check, convert, solve
 from .commands.common import asked, tell
 from .conversion import Question, Unconvertible
 from .dialects import Inexact
@@ -23,7 +24,7 @@ EPILOG = __doc__.partition("\n\n")[2] if __doc__ else None
 def parser() -> argparse.ArgumentParser:
     top = argparse.ArgumentParser(prog="python3 -m lpd", epilog=EPILOG, formatter_class=argparse.RawDescriptionHelpFormatter)
     commands = top.add_subparsers(dest="command", required=True)
-    for command in (solve, check, convert, certify):
+    for command in (solve, check, convert, certify, batch):
         command.add(commands)
     return top
 
