@@ -22,8 +22,11 @@ PROGRAM = str(TOP / "crates/lpd/out/lpd")
 CHECKER = [sys.executable, str(TOP / "tools/check_certificate.py")]
 LARGEST = 1_000_000
 MADE = [(5, 5, 1), (8, 10, 2), (10, 10, 3), (12, 20, 4), (15, 15, 5), (20, 20, 6), (30, 30, 7), (40, 60, 8)]
-sys.path.insert(0, str(TOP / "tools"))
-import check_certificate as reader  # noqa: E402
+sys.path.insert(0, str(TOP / "clients" / "python"))
+
+from lpd.errors import TextFault  # noqa: E402  (the package of this repository)
+from lpd.model import read_model  # noqa: E402
+from lpd.number_text import shown  # noqa: E402
 
 # ---- models
 
@@ -33,11 +36,8 @@ class Model:
 
     def __init__(self, name, data, form):
         self.name, self.data, self.form = name, data, form
-        self.plain = reader.Model(form == "fixed")
-        for line in reader.lines_of(data):
-            if self.plain.feed(line):
-                break
-        self.sign = -1 if self.plain.sense == -1 else 1
+        self.plain = read_model(data.decode("latin-1"), fixed=form == "fixed")
+        self.sign = self.plain.sense
 
     def numbers(self):
         """Every number of the text that is written anew."""
@@ -48,20 +48,20 @@ class Model:
             yield from column.entries.values()
 
     def is_decimal(self):
-        return all("/" not in reader.shown(x) for x in self.numbers())
+        return all("/" not in shown(x) for x in self.numbers())
 
     def text(self):
         rows = {name: f"r{i}" for i, name in enumerate(self.plain.rows)}
         lines = ["NAME m", "ROWS", " N cost"]
-        lines += [f" {row.kind.decode()} {rows[name]}" for name, row in self.plain.rows.items()]
+        lines += [f" {row.kind} {rows[name]}" for name, row in self.plain.rows.items()]
         lines.append("COLUMNS")
         for j, column in enumerate(self.plain.columns.values()):
-            lines.append(f" x{j} cost {reader.shown(self.sign * column.cost)}")
-            lines += [f" x{j} {rows[name]} {reader.shown(v)}" for name, v in column.entries.items()]
+            lines.append(f" x{j} cost {shown(self.sign * column.cost)}")
+            lines += [f" x{j} {rows[name]} {shown(v)}" for name, v in column.entries.items()]
         lines.append("RHS")
-        lines += [f" RHS {rows[name]} {reader.shown(row.rhs)}" for name, row in self.plain.rows.items() if row.rhs]
+        lines += [f" RHS {rows[name]} {shown(row.rhs)}" for name, row in self.plain.rows.items() if row.rhs]
         ranged = [(name, row) for name, row in self.plain.rows.items() if row.range is not None]
-        lines += ["RANGES"] * bool(ranged) + [f" RNG {rows[name]} {reader.shown(row.range)}" for name, row in ranged]
+        lines += ["RANGES"] * bool(ranged) + [f" RNG {rows[name]} {shown(row.range)}" for name, row in ranged]
         lines.append("BOUNDS")
         for j, column in enumerate(self.plain.columns.values()):
             lines += [f" {kind} BND x{j}{value}" for kind, value in bounds(column.lower, column.upper)]
@@ -77,9 +77,9 @@ def bounds(lower, upper):
     if lower is None and upper is None:
         return [("FR", "")]
     if lower is not None and lower == upper:
-        return [("FX", " " + reader.shown(lower))]
-    cards = [("MI", "")] if lower is None else [("LO", " " + reader.shown(lower))] if lower else []
-    return cards + ([] if upper is None else [("UP", " " + reader.shown(upper))])
+        return [("FX", " " + shown(lower))]
+    cards = [("MI", "")] if lower is None else [("LO", " " + shown(lower))] if lower else []
+    return cards + ([] if upper is None else [("UP", " " + shown(upper))])
 
 
 def made(rows, columns, seed):
@@ -106,7 +106,7 @@ def models_of(folder):
             try:
                 yield Model(name, data, form)
                 break
-            except reader.Fault:
+            except TextFault:
                 continue
 
 
