@@ -165,20 +165,18 @@ class Cards:
         self.noted.setdefault(what, []).append(line)
 
     def names_of_text(self) -> None:
-        """The names of rows and columns, which may begin with the sign of a comment."""
+        """The names of rows and columns, which may begin with the sign of a comment. In free form a card of a column has its name
+        before that of a row."""
         section = ""
         for line in self.lines:
             if line[:1] not in (" ", "\t", "*", ""):
                 section = words_of(line)[0].upper()
-            elif self.fixed:
-                self.add_name(section, [line[4:12].strip()] if line[4:12].strip() else [])
-            else:
-                words = words_of(line)
-                self.add_name(section, words[1:2] if section == "ROWS" else words[:1] if len(words) % 2 else [])
-
-    def add_name(self, section: str, found: List[str]) -> None:
-        if section in ("ROWS", "COLUMNS"):
-            (self.rows if section == "ROWS" else self.columns).update(found)
+                continue
+            words = [line[4:12].strip(), line[14:22].strip()] if self.fixed else words_of(line)[1:2] if section == "ROWS" else words_of(line)
+            if section == "ROWS" and words:
+                self.rows.add(words[0])
+            elif section == "COLUMNS" and len(words) > 1 and words[1] in self.rows:
+                self.columns.add(words[0])
 
     def read(self) -> None:
         section = ""

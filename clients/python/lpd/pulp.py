@@ -19,7 +19,7 @@ from .certificate import check_lines, matched, read_certificate
 from .certifying import TOO_WIDE, certified
 from .dialects import PROFILE, written
 from .errors import LpdError, ProgramMissing, TextFault
-from .floating import SOLVERS, ask
+from .floating import CHOICES, ask
 from .model import Column, Model, Row, is_name, read_model
 from .names import LONGEST, plain
 from .program import find_program
@@ -106,15 +106,15 @@ def must_be_linear(problem: Any, relaxes: bool) -> None:
 
 
 class LPD(pulp.LpSolver):  # type: ignore[misc]
-    """The solver. `budget` is the most pivots; with `certify` another solver (glpsol, clp, cbc, esolver) is asked for a basis
-    where lpd itself has no answer within 127 bits or the budget; `mip=False` takes whole-number variables as real ones."""
+    """The solver. `budget` is the most pivots; with `certify` another solver (glpsol, clp, cbc, esolver, or none) is asked for a
+    basis where lpd itself has no answer within 127 bits or the budget; `mip=False` takes whole-number variables as real ones."""
 
     name = "LPD"
 
     def __init__(self, mip: bool = True, msg: bool = True, budget: Optional[int] = None, binary: bool = False, certify: Optional[str] = None) -> None:
         super().__init__(mip=mip, msg=msg)
-        if certify is not None and certify not in SOLVERS:
-            raise ValueError(f"certify is one of {', '.join(SOLVERS)}")
+        if certify is not None and certify not in CHOICES:
+            raise ValueError(f"certify is one of {', '.join(CHOICES)}")
         self.budget, self.binary, self.certify = budget, binary, certify
 
     def copy(self) -> LPD:

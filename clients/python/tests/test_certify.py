@@ -133,6 +133,11 @@ class BySolvers(unittest.TestCase):
                 if isinstance(known, lpd.Optimal):
                     self.assertEqual(known.value, Fraction(optimum))
 
+    def test_no_solver(self) -> None:
+        for path in sorted(MODELS.glob("*.mps")):
+            answer = path.with_suffix(".solved").read_text().splitlines()[0]
+            self.assertEqual(str(certify(convert(path.read_bytes()).text, "none").known), answer)
+
     def test_glpsol(self) -> None:
         self.by("glpsol")
 

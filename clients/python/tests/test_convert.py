@@ -194,6 +194,46 @@ class IntoTheProfile(unittest.TestCase):
         self.assertEqual((raised.exception.line, raised.exception.fault), (10, 9))
 
 
+def dialect_of(text: str, dice: random.Random) -> str:
+    """The text of a model in a dialect: the same model in other cards."""
+    lines, column, section = [], "", ""
+    objective = re.search(r"^ N (\S+)", text, re.M)
+    for line in text.splitlines():
+        words = line.split()
+        if line[:1] != " ":
+            section = words[0]
+            line = line.lower() if dice.random() < 0.5 and section != "NAME" else line
+            if section == "ROWS" and objective and dice.random() < 0.5:
+                lines += ["OBJNAME", f"  {objective[1]}", line, " N another"]
+                continue
+        elif section == "COLUMNS" and words[0] == column and dice.random() < 0.5:
+            line = " " + " ".join(words[1:])
+        elif section in ("ROWS", "BOUNDS") and dice.random() < 0.5:
+            line = f" {words[0].lower()} {' '.join(words[1:])}"
+        if section == "COLUMNS":
+            column = words[0]
+        if section == "BOUNDS" and words[0] in ("FR", "MI") and dice.random() < 0.5:
+            line += " 0"
+        if line[:1] == " " and section != "OBJSENSE" and dice.random() < 0.3:
+            line += dice.choice([" $", " $ more or less", " $0$"])
+        lines.append(line)
+    end = dice.choice(["\n", "\r\n"])
+    return dice.choice(["", "\ufeff"]) + "".join(line + end for line in lines)
+
+
+class Dialects(unittest.TestCase):
+    def test_random_models_in_dialects(self) -> None:
+        dice = random.Random(4)
+        for turn in range(200):
+            model = some_model(dice)
+            text = dialect_of(written(model, PROFILE).text, dice)
+            with self.subTest(turn):
+                found = convert(text.encode(), "free")
+                self.assertEqual(found.model, model)
+                again = convert(found.text.encode("latin-1"))
+                self.assertEqual((again.text, again.changes), (found.text, []))
+
+
 class Command(unittest.TestCase):
     def test_convert(self) -> None:
         with tempfile.TemporaryDirectory() as folder:

@@ -13,7 +13,7 @@ from ..certificate import check_lines
 from ..certifying import Certified, certify
 from ..conversion import Converted, Options, Question, convert
 from ..errors import LpdError, Refused, Unexpected
-from ..floating import SOLVERS
+from ..floating import CHOICES
 from ..number_text import shown
 from ..replies import Accepted, Answer, Optimal
 from ..session import Session
@@ -65,7 +65,7 @@ def add(commands: "argparse._SubParsersAction[argparse.ArgumentParser]") -> None
     batch.add_argument("--form", choices=["free", "fixed"], help="the form of all texts (for each the one that fits)")
     add_options(batch)
     batch.add_argument("--budget", type=int, metavar="N", help="makes at most N pivots and flips a model, up to 1000000 (10000)")
-    batch.add_argument("--with", dest="solver", choices=list(SOLVERS), help="certifies each model too, as the command certify does")
+    batch.add_argument("--with", dest="solver", choices=CHOICES, help="certifies each model too, as the command certify does")
     batch.add_argument("--seconds", type=float, metavar="N", help="how long the other solver may take for a model")
     output = batch.add_mutually_exclusive_group()
     output.add_argument("--json", action="store_true")

@@ -9,7 +9,7 @@ from typing import Dict, Optional
 
 from ..certifying import Certified, certify
 from ..conversion import Options
-from ..floating import SOLVERS
+from ..floating import CHOICES, NONE
 from ..number_text import rounded, shown
 from ..replies import Optimal
 from .common import add_options, converted, lines_text, options_of, read, status_of, with_decimals
@@ -22,7 +22,7 @@ def add(commands: "argparse._SubParsersAction[argparse.ArgumentParser]") -> None
     certifies = commands.add_parser("certify", help="makes another solver's answer exact, with a certificate that is judged")
     certifies.set_defaults(run=run)
     certifies.add_argument("model", help="a file of MPS text, or - for standard input")
-    certifies.add_argument("--with", dest="solver", choices=list(SOLVERS), default="glpsol", help="the solver that is asked for a basis (glpsol)")
+    certifies.add_argument("--with", dest="solver", choices=CHOICES, default="glpsol", help="the solver that is asked for a basis (glpsol), or none")
     certifies.add_argument("--seconds", type=float, metavar="N", help="how long the solver may take; then the exact steps begin at no basis of its own")
     certifies.add_argument("--form", choices=["free", "fixed"], help="the form of the text (the one that fits)")
     add_options(certifies)
@@ -73,7 +73,8 @@ def run(words: argparse.Namespace) -> int:
         print(as_json(found, words.solver, seconds))
     else:
         exact = f"OPTIMAL {with_decimals(found.known.value, words.decimals)}" if isinstance(found.known, Optimal) else str(found.known)
-        print(f"{words.solver} says  {claim_of(found)}")
+        if words.solver != NONE:
+            print(f"{words.solver + ' says':11}  {claim_of(found)}")
         print(f"exactly      {exact}")
         if found.off() is not None:
             print(f"off by       {off_of(found)}, as {words.solver} prints its value")
