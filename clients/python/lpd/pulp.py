@@ -15,7 +15,7 @@ from typing import Any, Dict, Iterable, List, Optional
 
 import pulp  # type: ignore[import]
 
-from .certificate import check_lines, matched, read_certificate
+from .certificate import matched, read_certificate
 from .certifying import TOO_WIDE, certified
 from .dialects import PROFILE, written
 from .errors import LpdError, ProgramMissing, TextFault
@@ -23,7 +23,7 @@ from .floating import CHOICES, ask
 from .model import Column, Model, Row, is_name, read_model
 from .names import LONGEST, plain
 from .program import find_program
-from .replies import Accepted, Answer, Infeasible, Optimal, Unbounded
+from .replies import Answer, Infeasible, Optimal, Unbounded
 from .report import report
 from .session import Session
 
@@ -35,8 +35,8 @@ class Exact:
     """What was found, in fractions, by PuLP's names. `text` is the model as lpd read it, and `certificate` the lines for it."""
 
     answer: Answer
-    text: str
     certificate: List[str]
+    text: str
     values: Dict[str, Fraction] = field(default_factory=dict)
     dj: Dict[str, Fraction] = field(default_factory=dict)
     pi: Dict[str, Fraction] = field(default_factory=dict)
@@ -151,7 +151,7 @@ class LPD(pulp.LpSolver):  # type: ignore[misc]
                 raise
         if self.certify and (exact is None or not exact.certificate):
             known, certificate, _ = certified(model, ask(self.certify, model))
-            return Exact(known, text, certificate, certified_with=self.certify)
+            return Exact(known, certificate, text, certified_with=self.certify)
         if exact is None:
             raise LpdError("there is no answer")
         return exact
@@ -161,11 +161,7 @@ class LPD(pulp.LpSolver):  # type: ignore[misc]
             session.load(text)
             if self.budget is not None:
                 session.budget(self.budget)
-            answer, certificate = session.solve(), session.certificate()
-            for verdict in (session.check(certificate), check_lines(model, certificate)) if certificate else ():
-                if verdict != Accepted(answer):  # type: ignore[arg-type]
-                    raise LpdError(f"a checker says {verdict} to the certificate of {answer}")
-        return Exact(answer, text, certificate)
+            return Exact(*session.solve_checked(model), text)
 
 
 def put_values(problem: Any, model: Model, exact: Exact) -> None:

@@ -3,10 +3,11 @@ from __future__ import annotations
 
 from fractions import Fraction
 from types import TracebackType
-from typing import List, Mapping, Optional, Sequence, Type, Union
+from typing import List, Mapping, Optional, Sequence, Tuple, Type, Union
 
+from .certificate import check_lines
 from .errors import OutOfMemory, Unexpected, refusal
-from .model import lines_of, read_lines, words_of
+from .model import Model, lines_of, read_lines, read_model, words_of
 from .number_text import parse, shown
 from .program import Program
 from .replies import Accepted, Answer, Found, Infeasible, Known, Loaded, Optimal, Past, Rejected, Spent, Unbounded, Verdict
@@ -124,6 +125,16 @@ class Session:
         if answer is None:
             raise unexpected(words)
         return answer
+
+    def solve_checked(self, model: Optional[Model] = None) -> Tuple[Answer, List[str]]:
+        """Solves, and has both checkers accept the certificate of what is answered: the program's, and the one in Python, for the
+        model as it is given here, or as the program writes it. Past and Spent have no certificate."""
+        answer, certificate = self.solve(), self.certificate()
+        if certificate:
+            for verdict in (self.check(certificate), check_lines(model or read_model(self.write()), certificate)):
+                if not isinstance(verdict, Accepted) or verdict.known != answer:
+                    raise Unexpected(f"a checker says {verdict} to the certificate of {answer}")
+        return answer, certificate
 
     def certificate(self) -> List[str]:
         """The lines of the last answer's certificate; none after Past and Spent."""

@@ -9,13 +9,12 @@ from dataclasses import dataclass
 from pathlib import Path
 from typing import Dict, List, Optional
 
-from ..certificate import check_lines
 from ..certifying import Certified, certify
 from ..conversion import Converted, Options, Question, convert
-from ..errors import LpdError, Refused, Unexpected
+from ..errors import LpdError, Refused
 from ..floating import CHOICES
 from ..number_text import shown
-from ..replies import Accepted, Answer, Optimal
+from ..replies import Optimal
 from ..session import Session
 from .certify import claim_of, off_of
 from .common import add_options, asked, csv_line, options_of, table, tell
@@ -79,13 +78,8 @@ def solved(result: Result, found: Converted, budget: Optional[int]) -> None:
         result.rows, result.columns = loaded.rows, loaded.columns
         if budget is not None:
             session.budget(budget)
-        answer: Answer = session.solve()
-        certificate = session.certificate()
+        answer, _ = session.solve_checked(found.model)
         result.pivots = session.how().pivots
-        if certificate:
-            for verdict in (session.check(certificate), check_lines(found.model, certificate)):
-                if verdict != Accepted(answer):  # type: ignore[arg-type]
-                    raise Unexpected(f"a checker says {verdict} to the certificate of {answer}")
     result.answer = str(answer).split(" ")[0]
     result.value = shown(answer.value) if isinstance(answer, Optimal) else " ".join(str(answer).split(" ")[1:])
 

@@ -74,10 +74,10 @@ def run(words: argparse.Namespace) -> int:
     else:
         exact = f"OPTIMAL {with_decimals(found.known.value, words.decimals)}" if isinstance(found.known, Optimal) else str(found.known)
         if words.solver != NONE:
-            print(f"{words.solver + ' says':11}  {claim_of(found)}")
-        print(f"exactly      {exact}")
+            print(f"{words.solver + ' says':14}{claim_of(found)}")
+        print(f"exactly       {exact}")
         if found.off() is not None:
-            print(f"off by       {off_of(found)}, as {words.solver} prints its value")
-        print(f"exact steps  {found.steps}")
-        print(f"certificate  {judge_of(found)}")
+            print(f"off by        {off_of(found)}, as {words.solver} prints its value")
+        print(f"exact steps   {found.steps}")
+        print(f"certificate   {judge_of(found)}")
     return status_of(found.known) if found.narrow else PYTHON_ALONE

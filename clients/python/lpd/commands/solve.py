@@ -6,11 +6,10 @@ import json
 from typing import Dict, List, Optional
 
 from .. import errors
-from ..certificate import check_lines
 from ..conversion import Question, convert
 from ..model import Model, read_model
 from ..number_text import shown
-from ..replies import Accepted, Answer, Infeasible, Optimal, Past, Spent, Unbounded
+from ..replies import Answer, Infeasible, Optimal, Past, Spent, Unbounded
 from ..report import Report, conflict, report
 from ..session import Session
 from .common import add_options, as_text, converted, csv_line, model_of, read, status_of, table, tell, with_decimals
@@ -83,13 +82,6 @@ def as_csv(answer: Answer, found: Optional[Report]) -> str:
     return "\n".join(csv_line(line) for line in lines)
 
 
-def must_be_accepted(session: Session, model: Model, answer: Answer, certificate: List[str]) -> None:
-    """Both checkers say of the certificate what was answered."""
-    for verdict in (session.check(certificate), check_lines(model, certificate)):
-        if verdict != Accepted(answer):  # type: ignore[arg-type]
-            raise errors.Unexpected(f"a checker says {verdict} to the certificate of {answer}")
-
-
 def can_be_converted(words: argparse.Namespace, data: bytes) -> bool:
     """Whether the text is of a dialect that convert reads, or asks about."""
     try:
@@ -122,10 +114,8 @@ def run(words: argparse.Namespace) -> int:
             session.set_sense(maximize=words.max)
         if words.budget is not None:
             session.budget(words.budget)
-        answer, certificate = session.solve(), session.certificate()
         model = read_model(session.write())
-        if certificate:
-            must_be_accepted(session, model, answer, certificate)
+        answer, certificate = session.solve_checked(model)
     found = report(model, certificate) if isinstance(answer, Optimal) else None
     if words.json or words.csv:
         print(as_json(answer, certificate, found) if words.json else as_csv(answer, found))
