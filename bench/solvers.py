@@ -13,7 +13,6 @@ import resource
 import shutil
 import subprocess
 import sys
-import tempfile
 from fractions import Fraction
 
 HERE = pathlib.Path(__file__).resolve().parent

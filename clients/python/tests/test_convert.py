@@ -7,7 +7,7 @@ import tempfile
 import unittest
 from fractions import Fraction
 from pathlib import Path
-from typing import Dict, List, Optional
+from typing import Dict, Optional
 
 import lpd
 from lpd.conversion import Converted, Options, Question, Unconvertible, convert
