@@ -159,6 +159,7 @@ class Cards:
         self.sense: Optional[str] = None
         self.objective: Optional[Card] = None
         self.in_whole = False
+        self.section = ""  # that of the data card which is read
         self.names_of_text()
 
     def note(self, line: int, what: str) -> None:
@@ -237,18 +238,20 @@ class Cards:
 
     # ---- data cards
 
+    def is_known(self, name: str) -> bool:
+        return name in self.rows or name in self.columns
+
     def without_comment(self, line: int, text: str, section: str) -> str:
         """The card without a comment behind $."""
-        known = self.rows | self.columns
         if self.fixed:
             for first in (15, 40):
-                if text[first - 1 : first] == "$" and text[first - 1 : first + 7].strip() not in known:
+                if text[first - 1 : first] == "$" and not self.is_known(text[first - 1 : first + 7].strip()):
                     self.note(line, "a comment behind $ is taken out")
                     return text[: first - 1]
             return text
         words, least = words_of(text), 2 if section in ("ROWS", "BOUNDS") else 1
         for at, word in enumerate(words):
-            if word[0] == "$" and at >= least and word not in known:
+            if word[0] == "$" and at >= least and not self.is_known(word):
                 self.note(line, "a comment behind $ is taken out")
                 return text[:1] + " ".join(words[:at])
         return text
@@ -270,21 +273,17 @@ class Cards:
         make[section](line, text, self.fields(line, bare))
 
     def fields(self, line: int, text: str) -> List[Optional[str]]:
-        """The fields of a data card: in free form its words, in fixed form the six fields, None where one is blank."""
+        """The fields of a data card: in free form its words, in fixed form the six fields, None where one is blank. The columns of
+        fixed form are counted in characters, or in bytes of UTF-8 if only these fit."""
         if not self.fixed:
             return list(words_of(text))
         for data in (text, text.encode("utf-8", "replace").decode("latin-1")):
             if all(data[c - 1 : c] in ("", " ") for c in GAPS) and "\t" not in data[:62]:
                 cut = [data[first - 1 : last].strip(" ") for first, last in FIELDS]
-                return [self.by_characters(part) or None for part in cut] if data is not text else [part or None for part in cut]
+                if data is not text:
+                    cut = [part.encode("latin-1").decode("utf-8", "replace") for part in cut]
+                return [part or None for part in cut]
         raise TextFault(line, 3, text)
-
-    @staticmethod
-    def by_characters(part: str) -> str:
-        return part.encode("latin-1").decode("utf-8", "replace")
-
-    def add(self, card: Card) -> None:
-        self.cards.append(card)
 
     def row_card(self, line: int, text: str, fields: List[Optional[str]]) -> None:
         kind, name = (fields + [None, None])[:2]
@@ -292,7 +291,7 @@ class Cards:
             raise TextFault(line, 3, text)
         if kind != kind.upper():
             self.note(line, "a type in lower case")
-        self.add(Card(line, text, "ROWS", kind=kind.upper(), name=name))
+        self.cards.append(Card(line, text, "ROWS", kind=kind.upper(), name=name))
 
     def column_card(self, line: int, text: str, fields: List[Optional[str]]) -> None:
         if self.fixed:
@@ -316,7 +315,7 @@ class Cards:
         if self.in_whole:
             self.whole.setdefault(name, line)
         words = [word or "" for word in given]
-        self.add(Card(line, text, "COLUMNS", name=name, pairs=list(zip(words[::2], words[1::2]))))
+        self.cards.append(Card(line, text, "COLUMNS", name=name, pairs=list(zip(words[::2], words[1::2]))))
 
     def marker(self, line: int, words: List[str]) -> None:
         if words[-1] not in ("'INTORG'", "'INTEND'"):
@@ -335,7 +334,7 @@ class Cards:
         if len(rest) not in (2, 4) or any(word is None for word in rest):
             raise TextFault(line, 3, text)
         words = [word or "" for word in rest]
-        self.add(Card(line, text, self.section, set=name, pairs=list(zip(words[::2], words[1::2]))))
+        self.cards.append(Card(line, text, self.section, set=name, pairs=list(zip(words[::2], words[1::2]))))
 
     def bound_card(self, line: int, text: str, fields: List[Optional[str]]) -> None:
         kind = (fields[0] or "").upper()
@@ -353,7 +352,7 @@ class Cards:
             raise TextFault(line, 3, text)
         if kind in WHOLE_KINDS:
             self.whole.setdefault(column, line)
-        self.add(Card(line, text, "BOUNDS", kind=kind, set=name, name=column, number=number))
+        self.cards.append(Card(line, text, "BOUNDS", kind=kind, set=name, name=column, number=number))
 
     def bound_words(self, line: int, text: str, kind: str, words: List[str]) -> "tuple[Optional[str], str, Optional[str]]":
         """The set, the column and the number of a card of free form. A number behind a kind that needs none is dropped."""
