@@ -1,5 +1,6 @@
 -- The lines of answers, and what a reader makes of them.
-use Rattle.std.proofs.Common.{◌≡◌, ◌≢◌, ◌≤◌, ℕ, true, false, List, [], ◌∷◌, ◌++◌, get_or, refl, sym, ◌∙◌, ap, nat_eq, eq-eqb, arith}
+use Rattle.std.proofs.Common.{◌≡◌, ◌≢◌, ◌≤◌, ℕ, true, false, List, [], ◌∷◌, ◌++◌, get_or, refl, sym, ◌∙◌, ap, nat_eq}
+use Rattle.std.proofs.Common.{eq-eqb, arith}
 use Rattle.std.specs.Prelude.{All, codes, nat_le}
 use Rattle.std.specs.List.{list_all}
 use Rattle.std.proofs.lemmas.List.Elements.{All-nil, All-cons, All-head, All-tail}
@@ -51,7 +52,8 @@ number_no_feed v h = printed_no_feed (number_text v) (number_word v h.top h.bott
 pub read_back : (v : ℚ) → IsNarrow v → number_of (number_text v) ≡ Is v
 read_back v h = read_written v h.top h.bottom
 
-pub read_as : (v : ℚ) (text x y : List ℕ) → IsNarrow v → HasNoFeed text → number_text v ++ 10 ∷ x ≡ text ++ 10 ∷ y → number_of text ≡ Is v
+pub read_as : (v : ℚ) (text x y : List ℕ) → IsNarrow v → HasNoFeed text → number_text v ++ 10 ∷ x ≡ text ++ 10 ∷ y →
+    number_of text ≡ Is v
 read_as v text x y h k e =
     let same : number_text v ≡ text = same_line (number_text v) text x y (number_no_feed v h) k e in
     ap number_of (sym same) ∙ read_back v h
@@ -62,7 +64,8 @@ first bytes = get_or bytes 0 0
 pub apart : (a b : ℕ) → nat_eq a b ≡ false → a ≡ b → ⊥
 apart a b h e = let same : nat_eq a b ≡ true = eq-eqb a b e in let z : true ≡ false = sym same ∙ h in cc
 
-pub optimal_line : (m : Model) (a : Answer ℚ) (text x y : List ℕ) → IsShownBy m a → HasNoFeed text → answer_text a ++ 10 ∷ x ≡ codes "OPTIMAL " ++ text ++ 10 ∷ y →
+pub optimal_line : (m : Model) (a : Answer ℚ) (text x y : List ℕ) → IsShownBy m a → HasNoFeed text →
+    answer_text a ++ 10 ∷ x ≡ codes "OPTIMAL " ++ text ++ 10 ∷ y →
     (v : ℚ) × (number_of text ≡ Is v) × IsOptimal m v
 optimal_line m (answer.Known (known.Optimal v)) text x y s k e =
     let more : number_text v ++ 10 ∷ x ≡ text ++ 10 ∷ y = cc in
@@ -72,14 +75,16 @@ optimal_line m (answer.Known known.Unbounded) text x y s k e = absurd (apart 85 
 optimal_line m (answer.Past p) text x y s k e = absurd (apart 80 79 refl (ap first e))
 optimal_line m (answer.Spent budget) text x y s k e = absurd (apart 83 79 refl (ap first e))
 
-pub infeasible_line : (m : Model) (a : Answer ℚ) (x y : List ℕ) → IsShownBy m a → answer_text a ++ 10 ∷ x ≡ codes "INFEASIBLE" ++ 10 ∷ y → IsInfeasible m
+pub infeasible_line : (m : Model) (a : Answer ℚ) (x y : List ℕ) → IsShownBy m a →
+    answer_text a ++ 10 ∷ x ≡ codes "INFEASIBLE" ++ 10 ∷ y → IsInfeasible m
 infeasible_line m (answer.Known (known.Optimal v)) x y s e = absurd (apart 79 73 refl (ap first e))
 infeasible_line m (answer.Known known.Infeasible) x y s e = shown_holds m known.Infeasible s
 infeasible_line m (answer.Known known.Unbounded) x y s e = absurd (apart 85 73 refl (ap first e))
 infeasible_line m (answer.Past p) x y s e = absurd (apart 80 73 refl (ap first e))
 infeasible_line m (answer.Spent budget) x y s e = absurd (apart 83 73 refl (ap first e))
 
-pub unbounded_line : (m : Model) (a : Answer ℚ) (x y : List ℕ) → IsShownBy m a → answer_text a ++ 10 ∷ x ≡ codes "UNBOUNDED" ++ 10 ∷ y → IsUnbounded m
+pub unbounded_line : (m : Model) (a : Answer ℚ) (x y : List ℕ) → IsShownBy m a →
+    answer_text a ++ 10 ∷ x ≡ codes "UNBOUNDED" ++ 10 ∷ y → IsUnbounded m
 unbounded_line m (answer.Known (known.Optimal v)) x y s e = absurd (apart 79 85 refl (ap first e))
 unbounded_line m (answer.Known known.Infeasible) x y s e = absurd (apart 73 85 refl (ap first e))
 unbounded_line m (answer.Known known.Unbounded) x y s e = shown_holds m known.Unbounded s

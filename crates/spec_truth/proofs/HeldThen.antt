@@ -7,38 +7,48 @@ use Rattle.spec_edit.specs.Edited.{ExactEdit, OrFault, edited}
 use Rattle.spec_server.specs.declared.asks.Ask.TheVariants as ask
 use Rattle.spec_server.specs.declared.asks.Reply.TheVariants as reply
 use Rattle.spec_server.specs.declared.command.Plain.TheVariants as plain
-use Rattle.spec_server.specs.Machine.{ExactAsk, ExactReply, State, Does, due, solve_due, edit_due, change_due, edit_refusal, opening, WantsMemory, Exchange, AloneRun, of_session}
+use Rattle.spec_server.specs.Machine.{ExactAsk, ExactReply, State, Does, due, solve_due, edit_due, change_due}
+use Rattle.spec_server.specs.Machine.{edit_refusal, opening, WantsMemory, Exchange, AloneRun, of_session}
 use Rattle.spec_truth.specs.ModelThen.{made, after_change, after_exchange, after_exchanges, model_then}
 
 -- ---- edits
 
-refused_edit : (held : Option Model) (e : ExactEdit) (why : EditFault Name) → after_change held e (edit_refusal why) ≡ held
+refused_edit : (held : Option Model) (e : ExactEdit) (why : EditFault Name) →
+    after_change held e (edit_refusal why) ≡ held
 refused_edit held e (fault.UnknownName name) = refl
 refused_edit held e (fault.Taken name) = refl
 refused_edit held e (fault.Limit which count) = refl
 refused_edit held e fault.BadName = refl
 refused_edit held e (fault.Repeated name) = refl
 
-edited_then : (old new : State) (m : Model) (e : ExactEdit) (replied : ExactReply) (r : OrFault Model) → old.model ≡ Some m → edited m e ≡ r →
+edited_then : (old new : State) (m : Model) (e : ExactEdit) (replied : ExactReply) (r : OrFault Model) →
+    old.model ≡ Some m → edited m e ≡ r →
     Does old (edit_due old r) replied new → new.model ≡ after_change (Some m) e replied
-edited_then old new m e replied (Ok n) held is d = ap (λ s. s.model) d.1 ∙ sym (ap (after_change (Some m) e) d.0 ∙ ap made is)
-edited_then old new m e replied (Err why) held is d = ap (λ s. s.model) d.1 ∙ held ∙ sym (ap (after_change (Some m) e) d.0 ∙ refused_edit (Some m) e why)
+edited_then old new m e replied (Ok n) held is d =
+    ap (λ s. s.model) d.1 ∙ sym (ap (after_change (Some m) e) d.0 ∙ ap made is)
+edited_then old new m e replied (Err why) held is d =
+    ap (λ s. s.model) d.1 ∙ held ∙ sym (ap (after_change (Some m) e) d.0 ∙ refused_edit (Some m) e why)
 
-change_then : (old new : State) (held : Option Model) (e : ExactEdit) (replied : ExactReply) → old.model ≡ held → Does old (change_due old held e) replied new → new.model ≡ after_change held e replied
+change_then : (old new : State) (held : Option Model) (e : ExactEdit) (replied : ExactReply) → old.model ≡ held →
+    Does old (change_due old held e) replied new → new.model ≡ after_change held e replied
 change_then old new None e replied is d = ap (λ s. s.model) d.1 ∙ is ∙ sym (ap (after_change None e) d.0)
 change_then old new (Some m) e replied is d = edited_then old new m e replied (edited m e) is refl d
 
-solve_then : (old new : State) (held : Option Model) (replied : ExactReply) → Does old (solve_due old held) replied new → new.model ≡ old.model
+solve_then : (old new : State) (held : Option Model) (replied : ExactReply) →
+    Does old (solve_due old held) replied new → new.model ≡ old.model
 solve_then old new None replied d = ap (λ s. s.model) d.1
 solve_then old new (Some m) replied d = ap (λ s. s.model) d.kept
 
 -- ---- what is due to an ask
 
-due_then : (old new : State) (asked : ExactAsk) (replied : ExactReply) → Does old (due old asked) replied new → new.model ≡ after_exchange old.model asked replied
+due_then : (old new : State) (asked : ExactAsk) (replied : ExactReply) → Does old (due old asked) replied new →
+    new.model ≡ after_exchange old.model asked replied
 due_then old new (ask.Plain plain.Solve) replied d = solve_then old new old.model replied d
-due_then old new (ask.Plain plain.Quit) replied d = ap (λ s. s.model) d.1 ∙ sym (ap (after_exchange old.model (ask.Plain plain.Quit)) d.0)
+due_then old new (ask.Plain plain.Quit) replied d =
+    ap (λ s. s.model) d.1 ∙ sym (ap (after_exchange old.model (ask.Plain plain.Quit)) d.0)
 due_then old new (ask.Plain (plain.Change e)) replied d = change_then old new old.model e replied refl d
-due_then old new (ask.Loaded m) replied d = ap (λ s. s.model) d.1 ∙ sym (ap (after_exchange old.model (ask.Loaded m)) d.0)
+due_then old new (ask.Loaded m) replied d =
+    ap (λ s. s.model) d.1 ∙ sym (ap (after_exchange old.model (ask.Loaded m)) d.0)
 due_then old new asked replied d = ap (λ s. s.model) d.1
 
 memory_then : (held : Option Model) (asked : ExactAsk) → after_exchange held asked reply.Memory ≡ held
@@ -47,18 +57,23 @@ memory_then held (ask.Plain plain.Quit) = refl
 memory_then held (ask.Loaded m) = refl
 memory_then held asked = refl
 
-answer_then : (old new : State) (asked : ExactAsk) (replied : ExactReply) → Does old (due old asked) replied new ⊎ WantsMemory old asked replied new → new.model ≡ after_exchange old.model asked replied
+answer_then : (old new : State) (asked : ExactAsk) (replied : ExactReply) →
+    Does old (due old asked) replied new ⊎ WantsMemory old asked replied new →
+    new.model ≡ after_exchange old.model asked replied
 answer_then old new asked replied (inl d) = due_then old new asked replied d
-answer_then old new asked replied (inr w) = ap (λ s. s.model) w.stays ∙ sym (ap (after_exchange old.model asked) w.memory ∙ memory_then old.model asked)
+answer_then old new asked replied (inr w) =
+    ap (λ s. s.model) w.stays ∙ sym (ap (after_exchange old.model asked) w.memory ∙ memory_then old.model asked)
 
 -- ---- runs
 
-pub run_then : (old new : State) (xs : List Exchange) (held : Option Model) → old.model ≡ held → AloneRun old xs new → new.model ≡ after_exchanges held xs
+pub run_then : (old new : State) (xs : List Exchange) (held : Option Model) → old.model ≡ held → AloneRun old xs new →
+    new.model ≡ after_exchanges held xs
 run_then old new [] held is run = ap (λ s. s.model) run ∙ is
 run_then old new (x ∷ xs) held is run =
     run_then run.0 new xs (after_exchange held x.ask x.reply)
     (answer_then old run.0 x.ask x.reply run.1.answer ∙ ap (λ h. after_exchange h x.ask x.reply) is)
     run.2
 
-pub holds_then : (session : ℕ) (xs : List Exchange) (last : State) → AloneRun opening (of_session session xs) last → last.model ≡ model_then session xs
+pub holds_then : (session : ℕ) (xs : List Exchange) (last : State) → AloneRun opening (of_session session xs) last →
+    last.model ≡ model_then session xs
 holds_then session xs last run = run_then opening last (of_session session xs) None refl run

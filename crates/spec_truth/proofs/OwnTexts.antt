@@ -21,7 +21,8 @@ same_value v w h k e =
     let same : v ≡ w = cc in
     ap known.Optimal same
 
-same_known : (what other : Known ℚ) → IsNarrowKnown what → IsNarrowKnown other → known_text what ≡ known_text other → what ≡ other
+same_known : (what other : Known ℚ) → IsNarrowKnown what → IsNarrowKnown other → known_text what ≡ known_text other →
+    what ≡ other
 same_known (known.Optimal v) (known.Optimal w) h k e = same_value v w h k cc
 same_known (known.Optimal v) known.Infeasible h k e = absurd (apart 79 73 refl (ap first e))
 same_known (known.Optimal v) known.Unbounded h k e = absurd (apart 79 85 refl (ap first e))
@@ -32,7 +33,8 @@ same_known known.Unbounded (known.Optimal w) h k e = absurd (apart 85 79 refl (a
 same_known known.Unbounded known.Infeasible h k e = absurd (apart 85 73 refl (ap first e))
 same_known known.Unbounded known.Unbounded h k e = refl
 
-pub different : (what other : Known ℚ) → IsNarrowKnown what → IsNarrowKnown other → reply_text (answer_to what) ≡ reply_text (answer_to other) → what ≡ other
+pub different : (what other : Known ℚ) → IsNarrowKnown what → IsNarrowKnown other →
+    reply_text (answer_to what) ≡ reply_text (answer_to other) → what ≡ other
 unfolding reply_text
 different what other h k e = same_known what other h k e
 
@@ -43,8 +45,12 @@ shown_narrow m (known.Optimal v) s = value_fits m v s
 shown_narrow m known.Infeasible s = tt
 shown_narrow m known.Unbounded s = tt
 
-pub answered_narrow : (before behind : List Exchange) (x : Exchange) (what : Known ℚ) → RunFits (before ++ x ∷ behind) → x.reply ≡ answer_to what → IsNarrowKnown what
-answered_narrow before behind x what fits is = let s = answered_then before behind x what fits is in shown_narrow s.model what s.shown
+pub answered_narrow : (before behind : List Exchange) (x : Exchange) (what : Known ℚ) → RunFits (before ++ x ∷ behind) →
+    x.reply ≡ answer_to what → IsNarrowKnown what
+answered_narrow before behind x what fits is =
+    let s = answered_then before behind x what fits is in shown_narrow s.model what s.shown
 
-pub accepted_narrow : (before behind : List Exchange) (x : Exchange) (what : Known ℚ) → RunFits (before ++ x ∷ behind) → x.reply ≡ yes_to what → IsNarrowKnown what
-accepted_narrow before behind x what fits is = let s = accepted_then before behind x what fits is in shown_narrow s.model what s.shown
+pub accepted_narrow : (before behind : List Exchange) (x : Exchange) (what : Known ℚ) → RunFits (before ++ x ∷ behind) →
+    x.reply ≡ yes_to what → IsNarrowKnown what
+accepted_narrow before behind x what fits is =
+    let s = accepted_then before behind x what fits is in shown_narrow s.model what s.shown

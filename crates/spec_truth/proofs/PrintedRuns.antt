@@ -21,27 +21,43 @@ IsSoThen before x IsSo = (m : Model) × (model_then x.session before ≡ Some m)
 abbrev IsValueThen : List Exchange → Exchange → List ℕ → Type 0
 IsValueThen before x text = (v : ℚ) × (number_of text ≡ Is v) × IsSoThen before x (λ m. IsOptimal m v)
 
-value_then : (before : List Exchange) (x : Exchange) (text : List ℕ) (v : ℚ) → number_text v ≡ text → IsShownThen before x (known.Optimal v) → IsValueThen before x text
-value_then before x text v same s = (v, ap number_of (sym same) ∙ read_back v (value_fits s.model v s.shown), true_then before x (known.Optimal v) s)
+value_then : (before : List Exchange) (x : Exchange) (text : List ℕ) (v : ℚ) → number_text v ≡ text →
+    IsShownThen before x (known.Optimal v) → IsValueThen before x text
+value_then before x text v same s =
+    (v, ap number_of (sym same) ∙ read_back v (value_fits s.model v s.shown), true_then before x (known.Optimal v) s)
 
-pub optimal_answer : (before behind : List Exchange) (x : Exchange) (text : List ℕ) → RunFits (before ++ x ∷ behind) → reply_text x.reply ≡ codes "OPTIMAL " ++ text → IsValueThen before x text
+pub optimal_answer : (before behind : List Exchange) (x : Exchange) (text : List ℕ) → RunFits (before ++ x ∷ behind) →
+    reply_text x.reply ≡ codes "OPTIMAL " ++ text → IsValueThen before x text
 optimal_answer before behind x text fits e =
     let y = reply_lines.optimal_answer x.reply text e in
     value_then before x text y.0 y.2 (answered_then before behind x (known.Optimal y.0) fits y.1)
 
-pub infeasible_answer : (before behind : List Exchange) (x : Exchange) → RunFits (before ++ x ∷ behind) → reply_text x.reply ≡ codes "INFEASIBLE" → IsSoThen before x IsInfeasible
-infeasible_answer before behind x fits e = true_then before x known.Infeasible (answered_then before behind x known.Infeasible fits (reply_lines.infeasible_answer x.reply e))
+pub infeasible_answer : (before behind : List Exchange) (x : Exchange) → RunFits (before ++ x ∷ behind) →
+    reply_text x.reply ≡ codes "INFEASIBLE" → IsSoThen before x IsInfeasible
+infeasible_answer before behind x fits e =
+    true_then before x known.Infeasible
+    (answered_then before behind x known.Infeasible fits (reply_lines.infeasible_answer x.reply e))
 
-pub unbounded_answer : (before behind : List Exchange) (x : Exchange) → RunFits (before ++ x ∷ behind) → reply_text x.reply ≡ codes "UNBOUNDED" → IsSoThen before x IsUnbounded
-unbounded_answer before behind x fits e = true_then before x known.Unbounded (answered_then before behind x known.Unbounded fits (reply_lines.unbounded_answer x.reply e))
+pub unbounded_answer : (before behind : List Exchange) (x : Exchange) → RunFits (before ++ x ∷ behind) →
+    reply_text x.reply ≡ codes "UNBOUNDED" → IsSoThen before x IsUnbounded
+unbounded_answer before behind x fits e =
+    true_then before x known.Unbounded
+    (answered_then before behind x known.Unbounded fits (reply_lines.unbounded_answer x.reply e))
 
-pub optimal_yes : (before behind : List Exchange) (x : Exchange) (text : List ℕ) → RunFits (before ++ x ∷ behind) → reply_text x.reply ≡ codes "YES OPTIMAL " ++ text → IsValueThen before x text
+pub optimal_yes : (before behind : List Exchange) (x : Exchange) (text : List ℕ) → RunFits (before ++ x ∷ behind) →
+    reply_text x.reply ≡ codes "YES OPTIMAL " ++ text → IsValueThen before x text
 optimal_yes before behind x text fits e =
     let y = reply_lines.optimal_yes x.reply text e in
     value_then before x text y.0 y.2 (accepted_then before behind x (known.Optimal y.0) fits y.1)
 
-pub infeasible_yes : (before behind : List Exchange) (x : Exchange) → RunFits (before ++ x ∷ behind) → reply_text x.reply ≡ codes "YES INFEASIBLE" → IsSoThen before x IsInfeasible
-infeasible_yes before behind x fits e = true_then before x known.Infeasible (accepted_then before behind x known.Infeasible fits (reply_lines.infeasible_yes x.reply e))
+pub infeasible_yes : (before behind : List Exchange) (x : Exchange) → RunFits (before ++ x ∷ behind) →
+    reply_text x.reply ≡ codes "YES INFEASIBLE" → IsSoThen before x IsInfeasible
+infeasible_yes before behind x fits e =
+    true_then before x known.Infeasible
+    (accepted_then before behind x known.Infeasible fits (reply_lines.infeasible_yes x.reply e))
 
-pub unbounded_yes : (before behind : List Exchange) (x : Exchange) → RunFits (before ++ x ∷ behind) → reply_text x.reply ≡ codes "YES UNBOUNDED" → IsSoThen before x IsUnbounded
-unbounded_yes before behind x fits e = true_then before x known.Unbounded (accepted_then before behind x known.Unbounded fits (reply_lines.unbounded_yes x.reply e))
+pub unbounded_yes : (before behind : List Exchange) (x : Exchange) → RunFits (before ++ x ∷ behind) →
+    reply_text x.reply ≡ codes "YES UNBOUNDED" → IsSoThen before x IsUnbounded
+unbounded_yes before behind x fits e =
+    true_then before x known.Unbounded
+    (accepted_then before behind x known.Unbounded fits (reply_lines.unbounded_yes x.reply e))

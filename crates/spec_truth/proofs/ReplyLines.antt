@@ -69,7 +69,8 @@ yes_reply (reply.Refused why) h = not_so h
 
 -- ---- what is known
 
-valued : (what : Known ℚ) (text : List ℕ) → known_text what ≡ codes "OPTIMAL " ++ text → (v : ℚ) × (what ≡ known.Optimal v) × (number_text v ≡ text)
+valued : (what : Known ℚ) (text : List ℕ) → known_text what ≡ codes "OPTIMAL " ++ text →
+    (v : ℚ) × (what ≡ known.Optimal v) × (number_text v ≡ text)
 valued (known.Optimal v) text e = (v, refl, cc)
 valued known.Infeasible text e = absurd (apart 73 79 refl (ap first e))
 valued known.Unbounded text e = absurd (apart 85 79 refl (ap first e))
@@ -90,7 +91,8 @@ answer_text_is : (is : ExactReply) (what : Known ℚ) → is ≡ answer_to what 
 unfolding reply_text
 answer_text_is is what e = ap reply_text e
 
-pub optimal_answer : (is : ExactReply) (text : List ℕ) → reply_text is ≡ codes "OPTIMAL " ++ text → (v : ℚ) × (is ≡ answer_to (known.Optimal v)) × (number_text v ≡ text)
+pub optimal_answer : (is : ExactReply) (text : List ℕ) → reply_text is ≡ codes "OPTIMAL " ++ text →
+    (v : ℚ) × (is ≡ answer_to (known.Optimal v)) × (number_text v ≡ text)
 optimal_answer is text e =
     let k = known_reply is (ap looks_known e) in
     let d = valued k.0 text (sym (answer_text_is is k.0 k.1) ∙ e) in
@@ -115,16 +117,19 @@ yes_text_is is what e = ap reply_text e
 behind_yes : (a b : List ℕ) → codes "YES " ++ a ≡ codes "YES " ++ b → a ≡ b
 behind_yes a b e = cc
 
-pub optimal_yes : (is : ExactReply) (text : List ℕ) → reply_text is ≡ codes "YES OPTIMAL " ++ text → (v : ℚ) × (is ≡ yes_to (known.Optimal v)) × (number_text v ≡ text)
+pub optimal_yes : (is : ExactReply) (text : List ℕ) → reply_text is ≡ codes "YES OPTIMAL " ++ text →
+    (v : ℚ) × (is ≡ yes_to (known.Optimal v)) × (number_text v ≡ text)
 optimal_yes is text e =
     let k = yes_reply is (ap looks_yes e) in
-    let d = valued k.0 text (behind_yes (known_text k.0) (codes "OPTIMAL " ++ text) (sym (yes_text_is is k.0 k.1) ∙ e)) in
+    let d =
+    valued k.0 text (behind_yes (known_text k.0) (codes "OPTIMAL " ++ text) (sym (yes_text_is is k.0 k.1) ∙ e)) in
     (d.0, k.1 ∙ ap yes_to d.1, d.2)
 
 pub infeasible_yes : (is : ExactReply) → reply_text is ≡ codes "YES INFEASIBLE" → is ≡ yes_to known.Infeasible
 infeasible_yes is e =
     let k = yes_reply is (ap looks_yes e) in
-    k.1 ∙ ap yes_to (infeasible k.0 (behind_yes (known_text k.0) (codes "INFEASIBLE") (sym (yes_text_is is k.0 k.1) ∙ e)))
+    k.1
+    ∙ ap yes_to (infeasible k.0 (behind_yes (known_text k.0) (codes "INFEASIBLE") (sym (yes_text_is is k.0 k.1) ∙ e)))
 
 pub unbounded_yes : (is : ExactReply) → reply_text is ≡ codes "YES UNBOUNDED" → is ≡ yes_to known.Unbounded
 unbounded_yes is e =

@@ -1,4 +1,5 @@
--- What the checker says yes to, at the limit of the server's numbers: it is true, and an optimal value is of at most 127 bits.
+-- What the checker says yes to, at the limit of the server's numbers, is true, and an optimal value is of at most 127
+-- bits.
 use Rattle.std.proofs.Common.{◌≡◌, ℕ, List, Some, Ok, Err, refl, sym, ap, subst}
 use Rattle.spec_exact.specs.Fraction.{ℚ}
 use Rattle.spec_exact.specs.Limit.{add}
@@ -15,7 +16,8 @@ use Rattle.spec_check.specs.declared.certificate.Stop.TheVariants as stop
 use Rattle.spec_check.specs.declared.certificate.Verdict.{Verdict}
 use Rattle.spec_check.specs.declared.certificate.Verdict.TheVariants as verdict
 use Rattle.spec_check.specs.Certificate.{IsFor, Holds}
-use Rattle.spec_check.specs.Run.{Run, step, each, columns_run, rows_run, column_tight_run, row_tight_run, cost_run, value_run, check_run, verdict_of}
+use Rattle.spec_check.specs.Run.{Run, step, each, columns_run, rows_run, column_tight_run, row_tight_run, cost_run}
+use Rattle.spec_check.specs.Run.{value_run, check_run, verdict_of}
 use Rattle.spec_check.specs.Settle.{Settled, certificate_for}
 use Rattle.spec_check.specs.Text.{ExactRaw}
 use Rattle.spec_check.proofs.Fits.{settled_fits}
@@ -52,13 +54,16 @@ added_narrow v w x h = sum_narrow v w x (ap (told Add v w) (step_ok Add v w (add
 
 value_narrow : (m : Model) (x : List ℚ) (v : ℚ) → value_run (Some number_limit) m x ≡ Ok v → IsNarrow v
 value_narrow m x v h =
-    let a = after_ok (cost_run (Some number_limit) m x) (λ s. step Add s m.offset (add (Some number_limit) s m.offset)) v h in
+    let a =
+    after_ok (cost_run (Some number_limit) m x) (λ s. step Add s m.offset (add (Some number_limit) s m.offset)) v
+    h in
     added_narrow a.0 m.offset v a.2
 
 same_value : (v w : ℚ) → ◌≡◌ {A = Known ℚ} (known.Optimal v) (known.Optimal w) → v ≡ w
 same_value v w e = cc
 
-optimal_narrow : (m : Model) (cert : Certificate (List ℚ)) (v : ℚ) → IsFor m cert → check_run (Some number_limit) m cert ≡ Ok (known.Optimal v) → IsNarrow v
+optimal_narrow : (m : Model) (cert : Certificate (List ℚ)) (v : ℚ) → IsFor m cert →
+    check_run (Some number_limit) m cert ≡ Ok (known.Optimal v) → IsNarrow v
 unfolding check_run
 optimal_narrow m (Optimal x y) v f h =
     let a = after_ok (columns_run (Some number_limit) m x) _ (known.Optimal v) h in
@@ -69,7 +74,8 @@ optimal_narrow m (Optimal x y) v f h =
     subst IsNarrow (same_value w.0 v (ok_same (known.Optimal w.0) (known.Optimal v) w.2)) (value_narrow m x w.0 w.1)
 optimal_narrow m (Infeasible y) v f h = let e = (infeasible_ok (Some number_limit) m y (known.Optimal v) h).1 in cc
 optimal_narrow m (Clash j) v f h = let e = (clash_ok (Some number_limit) m j (known.Optimal v) f h).1 in cc
-optimal_narrow m (Unbounded x r) v f h = let e = (unbounded_ok (Some number_limit) m x r (known.Optimal v) f.0 h).1 in cc
+optimal_narrow m (Unbounded x r) v f h =
+    let e = (unbounded_ok (Some number_limit) m x r (known.Optimal v) f.0 h).1 in cc
 
 pub value_fits : (m : Model) (v : ℚ) → IsShown m (known.Optimal v) → IsNarrow v
 value_fits m v s = optimal_narrow m s.cert v s.fits s.says
@@ -85,11 +91,18 @@ checked : (a b : Verdict ℚ) → ◌≡◌ {A = ExactReply} (reply.Checked a) (
 checked a b e = cc
 
 -- a yes to a certificate that is put to the model
-pub yes_shown : (m : Model) (raw : ExactRaw) (what : Known ℚ) → verdict_on m (certificate_for m raw) ≡ reply.Checked (verdict.Yes what) → IsShown m what
+pub yes_shown : (m : Model) (raw : ExactRaw) (what : Known ℚ) →
+    verdict_on m (certificate_for m raw) ≡ reply.Checked (verdict.Yes what) → IsShown m what
 yes_shown m raw what h = by (certificate_for m raw) refl h
   where
-    by : (r : Settled (Certificate (List ℚ))) → certificate_for m raw ≡ r → verdict_on m r ≡ reply.Checked (verdict.Yes what) → IsShown m what
-    by (Ok cert) is e = record { cert = cert; fits = settled_fits m raw cert is; says = said_yes (check_run (Some number_limit) m cert) what (checked _ _ e) }
+    by : (r : Settled (Certificate (List ℚ))) → certificate_for m raw ≡ r →
+        verdict_on m r ≡ reply.Checked (verdict.Yes what) → IsShown m what
+    by (Ok cert) is e =
+        record {
+          cert = cert;
+          fits = settled_fits m raw cert is;
+          says = said_yes (check_run (Some number_limit) m cert) what (checked _ _ e);
+        }
     by (Err (settle.UnknownName name)) is e = cc
     by (Err (settle.Repeated name)) is e = cc
 
@@ -99,7 +112,8 @@ IsShownBy m (answer.Known what) = IsShown m what
 IsShownBy m (answer.Past p) = Unit {0}
 IsShownBy m (answer.Spent budget) = Unit {0}
 
-pub answer_shown : (m : Model) (budget : ℕ) (solved : ColdEnd) → MayAnswer m budget solved → IsShownBy m (answer_of budget solved)
+pub answer_shown : (m : Model) (budget : ℕ) (solved : ColdEnd) → MayAnswer m budget solved →
+    IsShownBy m (answer_of budget solved)
 answer_shown m budget (outcome.Ended what cert basis pivots) h = record { cert = cert; fits = h.0; says = h.2 }
 answer_shown m budget (outcome.Past p) h = tt
 answer_shown m budget outcome.Spent h = tt

@@ -26,9 +26,11 @@ record IsAnswered (m : Model) (written : List ℕ) : Type 0 where
   line : written ≡ answer_text answer ++ 10 ∷ behind
   shown : IsShownBy m answer
 
-solved_begins : (m : Model) (solved : ColdEnd) → solved_lines m solved ≡ answer_text (answer_of opening_budget solved) ++ 10 ∷ ended_lines (lines_of_solved m solved)
+solved_begins : (m : Model) (solved : ColdEnd) →
+    solved_lines m solved ≡ answer_text (answer_of opening_budget solved) ++ 10 ∷ ended_lines (lines_of_solved m solved)
 unfolding solved_lines check_line reply_text
-solved_begins m solved = append_assoc (answer_text (answer_of opening_budget solved)) (10 ∷ []) (ended_lines (lines_of_solved m solved))
+solved_begins m solved =
+    append_assoc (answer_text (answer_of opening_budget solved)) (10 ∷ []) (ended_lines (lines_of_solved m solved))
 
 out_answered : (m : Model) (written : List ℕ) → SolveOut (Ok m) written → IsAnswered m written
 out_answered m written out =
@@ -66,8 +68,8 @@ optimal_begins style lines m what written is out spells text behind no_feed e =
     let r = answered style lines m what written is out spells in
     optimal_line m r.answer text r.behind behind r.shown no_feed (sym r.line ∙ e)
 
-pub infeasible_begins : (style : Style) (lines : List (Line (List ℕ))) (m : Model) (what : TextSaid) (written : List ℕ) →
-    text_said style lines ≡ Some what → SolveOut what written → Spells style lines m →
+pub infeasible_begins : (style : Style) (lines : List (Line (List ℕ))) (m : Model) (what : TextSaid)
+    (written : List ℕ) → text_said style lines ≡ Some what → SolveOut what written → Spells style lines m →
     (behind : List ℕ) → written ≡ codes "INFEASIBLE" ++ 10 ∷ behind → IsInfeasible m
 infeasible_begins style lines m what written is out spells behind e =
     let r = answered style lines m what written is out spells in

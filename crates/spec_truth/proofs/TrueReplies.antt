@@ -1,5 +1,6 @@
 -- A reply that answers, or says yes to a certificate, is shown of the model that the session holds, whatever was asked.
-use Rattle.std.proofs.Common.{◌≡◌, ℕ, suc, List, Option, Some, None, Ok, Err, refl, sym, ap, subst, ◌⊎◌, inl, inr, arith}
+use Rattle.std.proofs.Common.{◌≡◌, ℕ, suc, List, Option, Some, None, Ok, Err, refl, sym, ap, subst, ◌⊎◌, inl, inr}
+use Rattle.std.proofs.Common.{arith}
 use Rattle.spec_exact.specs.Fraction.{ℚ}
 use Rattle.spec_model.specs.Model.{Model, Name}
 use Rattle.spec_mps.specs.declared.style.Style.{Style}
@@ -20,7 +21,10 @@ use Rattle.spec_server.specs.declared.asks.Ask.TheVariants as ask
 use Rattle.spec_server.specs.declared.asks.Reply.TheVariants as reply
 use Rattle.spec_server.specs.declared.asks.Refusal.TheVariants as refusal
 use Rattle.spec_server.specs.declared.command.Plain.TheVariants as plain
-use Rattle.spec_server.specs.Machine.{ExactAsk, ExactReply, ExactLastAnswer, State, Read, verdict_on, check_reply, fixed_reply, write_reply, cert_reply, how_reply, Due, Replies, Solves, Does, answer_of, due, solve_due, edit_refusal, edit_due, change_due, WantsMemory, AloneStep}
+use Rattle.spec_server.specs.Machine.{ExactAsk, ExactReply, ExactLastAnswer, State, Read, verdict_on, check_reply}
+use Rattle.spec_server.specs.Machine.{fixed_reply, write_reply, cert_reply, how_reply, Due, Replies, Solves, Does}
+use Rattle.spec_server.specs.Machine.{answer_of, due, solve_due, edit_refusal, edit_due, change_due, WantsMemory}
+use Rattle.spec_server.specs.Machine.{AloneStep}
 use Rattle.spec_truth.proofs.Shown.{IsShown, IsShownBy, answer_shown, yes_shown}
 
 -- ---- which replies answer, and which speak of a certificate
@@ -82,12 +86,14 @@ solve_sort state None h = cc
 solve_sort state (Some m) h = cc
 
 -- a reply is of the sort that is due
-done_sort : (old new : State) (what : Due) (replied : ExactReply) → Does old what replied new → sort replied ≡ due_sort what
+done_sort : (old new : State) (what : Due) (replied : ExactReply) → Does old what replied new →
+    sort replied ≡ due_sort what
 done_sort old new (Replies stated next) replied d = ap sort d.0
 done_sort old new (Solves m) replied d = ap sort d.answer
 
 -- memory is not wanting for a reply of these sorts
-step_done : (old new : State) (asked : ExactAsk) (reads : List Read) (replied : ExactReply) (n : ℕ) → AloneStep old asked reads replied new → sort replied ≡ suc n → Does old (due old asked) replied new
+step_done : (old new : State) (asked : ExactAsk) (reads : List Read) (replied : ExactReply) (n : ℕ) →
+    AloneStep old asked reads replied new → sort replied ≡ suc n → Does old (due old asked) replied new
 step_done old new asked reads replied n s h = by s.answer
   where
     by : Does old (due old asked) replied new ⊎ WantsMemory old asked replied new → Does old (due old asked) replied new
@@ -104,33 +110,45 @@ pub record IsShownOfHeld (held : Option Model) (what : Known ℚ) : Type 0 where
 answers_same : (a b : Answer ℚ) → ◌≡◌ {A = ExactReply} (reply.Answered a) (reply.Answered b) → a ≡ b
 answers_same a b e = cc
 
-solve_shown : (old new : State) (held : Option Model) (what : Known ℚ) → Does old (solve_due old held) (reply.Answered (answer.Known what)) new → IsShownOfHeld held what
-solve_shown old new None what d = let e : ◌≡◌ {A = ExactReply} (reply.Answered (answer.Known what)) (reply.Refused refusal.NoModel) = d.0 in cc
+solve_shown : (old new : State) (held : Option Model) (what : Known ℚ) →
+    Does old (solve_due old held) (reply.Answered (answer.Known what)) new → IsShownOfHeld held what
+solve_shown old new None what d =
+    let e : ◌≡◌ {A = ExactReply} (reply.Answered (answer.Known what)) (reply.Refused refusal.NoModel) = d.0 in cc
 solve_shown old new (Some m) what d =
     let same : answer.Known what ≡ answer_of old.budget d.solved = answers_same _ _ d.answer in
-    record { model = m; is_held = refl; shown = subst (IsShownBy m) (sym same) (answer_shown m old.budget d.solved d.is_solved.may_answer) }
+    record {
+      model = m;
+      is_held = refl;
+      shown = subst (IsShownBy m) (sym same) (answer_shown m old.budget d.solved d.is_solved.may_answer);
+    }
 
-check_shown : (held : Option Model) (raw : ExactRaw) (what : Known ℚ) → reply.Checked (verdict.Yes what) ≡ check_reply held raw → IsShownOfHeld held what
+check_shown : (held : Option Model) (raw : ExactRaw) (what : Known ℚ) →
+    reply.Checked (verdict.Yes what) ≡ check_reply held raw → IsShownOfHeld held what
 check_shown None raw what e = cc
 check_shown (Some m) raw what e = record { model = m; is_held = refl; shown = yes_shown m raw what (sym e) }
 
 -- nothing but a solve answers
-answer_by : (old new : State) (asked : ExactAsk) (what : Known ℚ) → 1 ≡ due_sort (due old asked) → Does old (due old asked) (reply.Answered (answer.Known what)) new → IsShownOfHeld old.model what
+answer_by : (old new : State) (asked : ExactAsk) (what : Known ℚ) → 1 ≡ due_sort (due old asked) →
+    Does old (due old asked) (reply.Answered (answer.Known what)) new → IsShownOfHeld old.model what
 answer_by old new (ask.Plain plain.Solve) what h d = solve_shown old new old.model what d
-answer_by old new (ask.Plain (plain.Write form)) what h d = let e = write_sort old.model form in absurd (omega (arith, e))
+answer_by old new (ask.Plain (plain.Write form)) what h d =
+    let e = write_sort old.model form in absurd (omega (arith, e))
 answer_by old new (ask.Plain plain.Cert) what h d = let e = cert_sort old.model old.last in absurd (omega (arith, e))
 answer_by old new (ask.Plain plain.How) what h d = let e = how_sort old.last in absurd (omega (arith, e))
-answer_by old new (ask.Plain (plain.Change e)) what h d = let z = change_sort old old.model e in absurd (omega (arith, z))
+answer_by old new (ask.Plain (plain.Change e)) what h d =
+    let z = change_sort old old.model e in absurd (omega (arith, z))
 answer_by old new (ask.Checked raw) what h d = absurd (check_sort old.model raw (sym h))
 answer_by old new asked what h d = cc
 
-pub answer_is_shown : (old new : State) (asked : ExactAsk) (reads : List Read) (what : Known ℚ) → AloneStep old asked reads (reply.Answered (answer.Known what)) new → IsShownOfHeld old.model what
+pub answer_is_shown : (old new : State) (asked : ExactAsk) (reads : List Read) (what : Known ℚ) →
+    AloneStep old asked reads (reply.Answered (answer.Known what)) new → IsShownOfHeld old.model what
 answer_is_shown old new asked reads what s =
     let d = step_done old new asked reads (reply.Answered (answer.Known what)) 0 s refl in
     answer_by old new asked what (done_sort old new (due old asked) (reply.Answered (answer.Known what)) d) d
 
 -- nothing but a certificate is said yes to
-yes_by : (old new : State) (asked : ExactAsk) (what : Known ℚ) → 2 ≡ due_sort (due old asked) → Does old (due old asked) (reply.Checked (verdict.Yes what)) new → IsShownOfHeld old.model what
+yes_by : (old new : State) (asked : ExactAsk) (what : Known ℚ) → 2 ≡ due_sort (due old asked) →
+    Does old (due old asked) (reply.Checked (verdict.Yes what)) new → IsShownOfHeld old.model what
 yes_by old new (ask.Checked raw) what h d = check_shown old.model raw what d.0
 yes_by old new (ask.Plain plain.Solve) what h d = absurd (solve_sort old old.model (sym h))
 yes_by old new (ask.Plain (plain.Write form)) what h d = let e = write_sort old.model form in absurd (omega (arith, e))
@@ -139,7 +157,8 @@ yes_by old new (ask.Plain plain.How) what h d = let e = how_sort old.last in abs
 yes_by old new (ask.Plain (plain.Change e)) what h d = let z = change_sort old old.model e in absurd (omega (arith, z))
 yes_by old new asked what h d = cc
 
-pub yes_is_shown : (old new : State) (asked : ExactAsk) (reads : List Read) (what : Known ℚ) → AloneStep old asked reads (reply.Checked (verdict.Yes what)) new → IsShownOfHeld old.model what
+pub yes_is_shown : (old new : State) (asked : ExactAsk) (reads : List Read) (what : Known ℚ) →
+    AloneStep old asked reads (reply.Checked (verdict.Yes what)) new → IsShownOfHeld old.model what
 yes_is_shown old new asked reads what s =
     let d = step_done old new asked reads (reply.Checked (verdict.Yes what)) 1 s refl in
     yes_by old new asked what (done_sort old new (due old asked) (reply.Checked (verdict.Yes what)) d) d

@@ -1,4 +1,5 @@
--- In a run of sessions, what is answered, and what a yes to a certificate says, is shown of the model that the session has then.
+-- In a run of sessions, what is answered, and what a yes to a certificate says, is shown of the model that the session
+-- has then.
 use Rattle.std.proofs.Common.{◌≡◌, ℕ, true, cond, List, [], ◌∷◌, ◌++◌, Some, refl, sym, ◌∙◌, ap, subst, nat_eq, eq-eqb}
 use Rattle.spec_exact.specs.Fraction.{ℚ}
 use Rattle.spec_model.specs.Model.{Model}
@@ -48,8 +49,15 @@ steps_then before behind x fits =
     let run = fits s in
     let cut : of_session s (before ++ x ∷ behind) ≡ of_session s before ++ (x ∷ of_session s behind) =
     of_session-append s before (x ∷ behind) ∙ ap (λ ys. of_session s before ++ ys) (own_first x behind) in
-    let parts = split_run opening run.0 (of_session s before) (x ∷ of_session s behind) (subst (λ (ys : List Exchange). AloneRun opening ys run.0) cut run.1) in
-    record { old = parts.middle; new = parts.second.0; step = parts.second.1; held = holds_then s before parts.middle parts.first }
+    let parts =
+    split_run opening run.0 (of_session s before) (x ∷ of_session s behind)
+    (subst (λ (ys : List Exchange). AloneRun opening ys run.0) cut run.1) in
+    record {
+      old = parts.middle;
+      new = parts.second.0;
+      step = parts.second.1;
+      held = holds_then s before parts.middle parts.first;
+    }
 
 -- ---- what it replies
 
@@ -59,21 +67,28 @@ pub record IsShownThen (before : List Exchange) (x : Exchange) (what : Known ℚ
   pub is_held : model_then x.session before ≡ Some model
   pub shown : IsShown model what
 
-with_reply : (before : List Exchange) (x : Exchange) (replied : ExactReply) (s : StepsThen before x) → x.reply ≡ replied → AloneStep s.old x.ask x.reads replied s.new
+with_reply : (before : List Exchange) (x : Exchange) (replied : ExactReply) (s : StepsThen before x) →
+    x.reply ≡ replied → AloneStep s.old x.ask x.reads replied s.new
 with_reply before x replied s is = subst (λ (r : ExactReply). AloneStep s.old x.ask x.reads r s.new) is s.step
 
-then_shown : (before : List Exchange) (x : Exchange) (what : Known ℚ) (s : StepsThen before x) → IsShownOfHeld s.old.model what → IsShownThen before x what
+then_shown : (before : List Exchange) (x : Exchange) (what : Known ℚ) (s : StepsThen before x) →
+    IsShownOfHeld s.old.model what → IsShownThen before x what
 then_shown before x what s h = record { model = h.model; is_held = sym s.held ∙ h.is_held; shown = h.shown }
 
-pub answered_then : (before behind : List Exchange) (x : Exchange) (what : Known ℚ) → RunFits (before ++ x ∷ behind) → x.reply ≡ reply.Answered (answer.Known what) → IsShownThen before x what
+pub answered_then : (before behind : List Exchange) (x : Exchange) (what : Known ℚ) → RunFits (before ++ x ∷ behind) →
+    x.reply ≡ reply.Answered (answer.Known what) → IsShownThen before x what
 answered_then before behind x what fits is =
     let s = steps_then before behind x fits in
-    then_shown before x what s (answer_is_shown s.old s.new x.ask x.reads what (with_reply before x (reply.Answered (answer.Known what)) s is))
+    then_shown before x what s
+    (answer_is_shown s.old s.new x.ask x.reads what (with_reply before x (reply.Answered (answer.Known what)) s is))
 
-pub accepted_then : (before behind : List Exchange) (x : Exchange) (what : Known ℚ) → RunFits (before ++ x ∷ behind) → x.reply ≡ reply.Checked (verdict.Yes what) → IsShownThen before x what
+pub accepted_then : (before behind : List Exchange) (x : Exchange) (what : Known ℚ) → RunFits (before ++ x ∷ behind) →
+    x.reply ≡ reply.Checked (verdict.Yes what) → IsShownThen before x what
 accepted_then before behind x what fits is =
     let s = steps_then before behind x fits in
-    then_shown before x what s (yes_is_shown s.old s.new x.ask x.reads what (with_reply before x (reply.Checked (verdict.Yes what)) s is))
+    then_shown before x what s
+    (yes_is_shown s.old s.new x.ask x.reads what (with_reply before x (reply.Checked (verdict.Yes what)) s is))
 
-pub true_then : (before : List Exchange) (x : Exchange) (what : Known ℚ) → IsShownThen before x what → (m : Model) × (model_then x.session before ≡ Some m) × Holds m what
+pub true_then : (before : List Exchange) (x : Exchange) (what : Known ℚ) → IsShownThen before x what →
+    (m : Model) × (model_then x.session before ≡ Some m) × Holds m what
 true_then before x what h = (h.model, h.is_held, shown_holds h.model what h.shown)

@@ -32,22 +32,27 @@ line_of : (is : ExactReply) (text : List ℕ) → check_line is ≡ text ++ 10 �
 unfolding check_line
 line_of is text e = same_end (reply_text is) text e
 
-pub optimal_line : (style : Style) (lines : List (Line (List ℕ))) (is : ExactReply) (text : List ℕ) → said style lines ≡ Some is →
-    check_line is ≡ codes "YES OPTIMAL " ++ text ++ 10 ∷ [] → (v : ℚ) × (number_of text ≡ Is v) × IsCertified style lines (λ m. IsOptimal m v)
+pub optimal_line : (style : Style) (lines : List (Line (List ℕ))) (is : ExactReply) (text : List ℕ) →
+    said style lines ≡ Some is →
+    check_line is ≡ codes "YES OPTIMAL " ++ text ++ 10 ∷ [] → (v : ℚ) × (number_of text ≡ Is v) × IsCertified style
+    lines (λ m. IsOptimal m v)
 optimal_line style lines is text h e =
     let y = reply_lines.optimal_yes is text (line_of is (codes "YES OPTIMAL " ++ text) e) in
     let c = certified style lines (known.Optimal y.0) (h ∙ ap Some y.1) in (
       y.0,
       ap number_of (sym y.2) ∙ read_back y.0 (value_fits c.model y.0 c.is_so),
-      but_so style lines (λ m. IsShown m (known.Optimal y.0)) (λ m. IsOptimal m y.0) (λ m s. shown_holds m (known.Optimal y.0) s) c,
+      but_so style lines (λ m. IsShown m (known.Optimal y.0)) (λ m. IsOptimal m y.0)
+          (λ m s. shown_holds m (known.Optimal y.0) s) c,
     )
 
 pub infeasible_line : (style : Style) (lines : List (Line (List ℕ))) (is : ExactReply) → said style lines ≡ Some is →
     check_line is ≡ codes "YES INFEASIBLE" ++ 10 ∷ [] → IsCertified style lines IsInfeasible
 infeasible_line style lines is h e =
-    yes_holds style lines known.Infeasible (h ∙ ap Some (reply_lines.infeasible_yes is (line_of is (codes "YES INFEASIBLE") e)))
+    yes_holds style lines known.Infeasible
+    (h ∙ ap Some (reply_lines.infeasible_yes is (line_of is (codes "YES INFEASIBLE") e)))
 
 pub unbounded_line : (style : Style) (lines : List (Line (List ℕ))) (is : ExactReply) → said style lines ≡ Some is →
     check_line is ≡ codes "YES UNBOUNDED" ++ 10 ∷ [] → IsCertified style lines IsUnbounded
 unbounded_line style lines is h e =
-    yes_holds style lines known.Unbounded (h ∙ ap Some (reply_lines.unbounded_yes is (line_of is (codes "YES UNBOUNDED") e)))
+    yes_holds style lines known.Unbounded
+    (h ∙ ap Some (reply_lines.unbounded_yes is (line_of is (codes "YES UNBOUNDED") e)))

@@ -4,9 +4,9 @@
 //! |---|---|---|
 //! | `after_exchange` | what an ask with its reply makes of a session's model | specs/ModelThen |
 //! | `model_then` | the model of a session behind exchanges: that of its last LOAD, as edited since | specs/ModelThen |
-//! | `IsTrueOf` | what an answer says of a model: of OPTIMAL, INFEASIBLE and UNBOUNDED that it is so | specs/TrueAnswer |
+//! | `IsTrueOf` | that what an answer says of a model is so | specs/TrueAnswer |
 //! | `IsNarrowKnown` | that a known value is of at most 127 bits | specs/TrueAnswer |
-//! | `IsCertified` | that lines spell a model and a certificate behind it, and what is so of the model | specs/Certified |
+//! | `IsCertified` | lines of a model and a certificate behind it, and what is so of the model | specs/Certified |
 #![tactic(auto)]
 
 ghost use Rattle.std.specs.Prelude.{◌≡◌, ◌≢◌, ◌↔◌, ℕ, List, [], ◌∷◌, ◌++◌, All, codes, Some, None, Ok, Err};
@@ -87,16 +87,16 @@ pub fn solved_texts_have_true_answers()
         text_said style lines ≡ Some what → SolveOut what written → Spells style lines m →
         (text behind : List ℕ) → All (λ b. b ≢ 10) text → written ≡ codes "OPTIMAL " ++ text ++ 10 ∷ behind →
         (v : ℚ) × (number_of text ≡ Is v) × IsOptimal m v }
-    ensures infeasible { (style : Style) (lines : List (Line (List ℕ))) (m : Model) (what : TextSaid) (written : List ℕ) →
-        text_said style lines ≡ Some what → SolveOut what written → Spells style lines m →
+    ensures infeasible { (style : Style) (lines : List (Line (List ℕ))) (m : Model) (what : TextSaid)
+        (written : List ℕ) → text_said style lines ≡ Some what → SolveOut what written → Spells style lines m →
         (behind : List ℕ) → written ≡ codes "INFEASIBLE" ++ 10 ∷ behind → IsInfeasible m }
-    ensures unbounded { (style : Style) (lines : List (Line (List ℕ))) (m : Model) (what : TextSaid) (written : List ℕ) →
-        text_said style lines ≡ Some what → SolveOut what written → Spells style lines m →
+    ensures unbounded { (style : Style) (lines : List (Line (List ℕ))) (m : Model) (what : TextSaid)
+        (written : List ℕ) → text_said style lines ≡ Some what → SolveOut what written → Spells style lines m →
         (behind : List ℕ) → written ≡ codes "UNBOUNDED" ++ 10 ∷ behind → IsUnbounded m }
 {}
 
-/// Where `check` says yes, the lines spell a model and, behind its text, a certificate, and what the yes says is true of
-/// the model. The line that is written alone says it.
+/// Where `check` says yes, the lines spell a model and, behind its text, a certificate, and what the yes says is true
+/// of the model. The line that is written alone says it.
 pub fn certified_texts_are_true()
     ensures optimal { (style : Style) (lines : List (Line (List ℕ))) (v : ℚ) →
         said style lines ≡ Some (reply.Checked (verdict.Yes (known.Optimal v))) →
@@ -116,8 +116,8 @@ pub fn certified_texts_are_true()
         IsCertified style lines IsUnbounded }
 {}
 
-/// In each run of sessions, the text of a reply alone says what is true of the model that the session has then: behind the
-/// word OPTIMAL stands the text of the optimal value.
+/// In each run of sessions, the text of a reply alone says what is true of the model that the session has then: behind
+/// the word OPTIMAL stands the text of the optimal value.
 pub fn reply_texts_are_true_of_the_model_then()
     ensures optimal { (before behind : List Exchange) (x : Exchange) (text : List ℕ) → RunFits (before ++ x ∷ behind) →
         reply_text x.reply ≡ codes "OPTIMAL " ++ text →
@@ -139,20 +139,21 @@ pub fn reply_texts_are_true_of_the_model_then()
         (m : Model) × (model_then x.session before ≡ Some m) × IsUnbounded m }
 {}
 
-/// What is known has a text of its own: different answers have different texts, as far as their values are of at most 127
-/// bits, and in each run of sessions they are.
+/// What is known has a text of its own: different answers have different texts, as far as their values are of at most
+/// 127 bits, and in each run of sessions they are.
 pub fn known_answers_have_their_own_texts()
     ensures optimal { (v : ℚ) →
         reply_text (reply.Answered (answer.Known (known.Optimal v))) ≡ codes "OPTIMAL " ++ number_text v }
     ensures infeasible { reply_text (reply.Answered (answer.Known known.Infeasible)) ≡ codes "INFEASIBLE" }
     ensures unbounded { reply_text (reply.Answered (answer.Known known.Unbounded)) ≡ codes "UNBOUNDED" }
     ensures yes { (what : Known ℚ) →
-        reply_text (reply.Checked (verdict.Yes what)) ≡ codes "YES " ++ reply_text (reply.Answered (answer.Known what)) }
+        reply_text (reply.Checked (verdict.Yes what))
+        ≡ codes "YES " ++ reply_text (reply.Answered (answer.Known what)) }
     ensures different { (what other : Known ℚ) → IsNarrowKnown what → IsNarrowKnown other →
         reply_text (reply.Answered (answer.Known what)) ≡ reply_text (reply.Answered (answer.Known other)) →
         what ≡ other }
-    ensures answered { (before behind : List Exchange) (x : Exchange) (what : Known ℚ) → RunFits (before ++ x ∷ behind) →
-        x.reply ≡ reply.Answered (answer.Known what) → IsNarrowKnown what }
-    ensures accepted { (before behind : List Exchange) (x : Exchange) (what : Known ℚ) → RunFits (before ++ x ∷ behind) →
-        x.reply ≡ reply.Checked (verdict.Yes what) → IsNarrowKnown what }
+    ensures answered { (before behind : List Exchange) (x : Exchange) (what : Known ℚ) →
+        RunFits (before ++ x ∷ behind) → x.reply ≡ reply.Answered (answer.Known what) → IsNarrowKnown what }
+    ensures accepted { (before behind : List Exchange) (x : Exchange) (what : Known ℚ) →
+        RunFits (before ++ x ∷ behind) → x.reply ≡ reply.Checked (verdict.Yes what) → IsNarrowKnown what }
 {}

@@ -1,4 +1,5 @@
-use Rattle.spec_truth.proofs.PrintedRuns.{optimal_answer, infeasible_answer, unbounded_answer, optimal_yes, infeasible_yes, unbounded_yes}
+use Rattle.spec_truth.proofs.PrintedRuns.{optimal_answer, infeasible_answer, unbounded_answer, optimal_yes}
+use Rattle.spec_truth.proofs.PrintedRuns.{infeasible_yes, unbounded_yes}
 use Rattle.spec_truth.proofs.reply_texts_are_true_of_the_model_then.Goals as goal
 
 pub returns : goal.returns

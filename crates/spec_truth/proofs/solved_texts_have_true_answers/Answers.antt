@@ -2,4 +2,10 @@ use Rattle.spec_truth.proofs.SolvedTexts.{answer_begins, optimal_begins, infeasi
 use Rattle.spec_truth.proofs.solved_texts_have_true_answers.Goals as goal
 
 pub returns : goal.returns
-returns c = record { answer = answer_begins; optimal = optimal_begins; infeasible = infeasible_begins; unbounded = unbounded_begins }
+returns c =
+    record {
+      answer = answer_begins;
+      optimal = optimal_begins;
+      infeasible = infeasible_begins;
+      unbounded = unbounded_begins;
+    }
