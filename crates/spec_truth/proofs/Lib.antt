@@ -10,3 +10,4 @@ pub mod CertifiedTexts
 pub mod YesLines
 pub mod PrintedRuns
 pub mod OwnTexts
+pub mod LoadedLines

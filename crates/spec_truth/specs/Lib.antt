@@ -1,3 +1,4 @@
 pub mod ModelThen
 pub mod TrueAnswer
 pub mod Certified
+pub mod LoadedFrom

@@ -4,12 +4,15 @@
 //! |---|---|---|
 //! | `after_exchange` | what an ask with its reply makes of a session's model | specs/ModelThen |
 //! | `model_then` | the model of a session behind exchanges: that of its last LOAD, as edited since | specs/ModelThen |
+//! | `IsLoadedFrom` | the lines that spell a model that a session is to hold | specs/LoadedFrom |
 //! | `IsTrueOf` | that what an answer says of a model is so | specs/TrueAnswer |
 //! | `IsNarrowKnown` | that a known value is of at most 127 bits | specs/TrueAnswer |
 //! | `IsCertified` | lines of a model and a certificate behind it, and what is so of the model | specs/Certified |
 #![tactic(auto)]
 
-ghost use Rattle.std.specs.Prelude.{◌≡◌, ◌≢◌, ◌↔◌, ℕ, List, [], ◌∷◌, ◌++◌, All, codes, Some, None, Ok, Err};
+ghost use Rattle.std.specs.Prelude.{◌≡◌, ◌≢◌, ◌≤◌, ◌↔◌, ℕ, Some, None, Ok, Err};
+ghost use Rattle.std.specs.Prelude.{List, [], ◌∷◌, ◌++◌, length, take, All, codes};
+ghost use Rattle.spec_text.specs.Lines.{lines_of, ended_lines_of, input_limit};
 ghost use Rattle.spec_text.specs.declared.line.Line.{Line};
 ghost use Rattle.spec_exact.specs.Fraction.{ℚ};
 ghost use Rattle.spec_model.specs.Model.{Model};
@@ -23,14 +26,21 @@ ghost use Rattle.spec_mps.specs.Steps.{Spells, Refuses};
 ghost use Rattle.spec_check.specs.declared.certificate.Known.{Known};
 ghost use Rattle.spec_check.specs.declared.certificate.Known.TheVariants as known;
 ghost use Rattle.spec_check.specs.declared.certificate.Verdict.TheVariants as verdict;
+ghost use Rattle.spec_server.specs.declared.addressing.Addressing.{Addressing};
+ghost use Rattle.spec_server.specs.declared.addressing.Addressing.TheVariants.{Numbered};
 ghost use Rattle.spec_server.specs.declared.answer.Answer.{Answer};
 ghost use Rattle.spec_server.specs.declared.answer.Answer.TheVariants as answer;
+ghost use Rattle.spec_server.specs.declared.asks.Ask.TheVariants as ask;
+ghost use Rattle.spec_server.specs.declared.asks.Asked.{Asked as asked_of};
 ghost use Rattle.spec_server.specs.declared.asks.Reply.TheVariants as reply;
-ghost use Rattle.spec_server.specs.Machine.{ExactReply, State, Exchange, opening, of_session, AloneRun, RunFits};
+ghost use Rattle.spec_server.specs.Machine.{ExactAsk, ExactReply, Exchange};
+ghost use Rattle.spec_server.specs.Machine.{State, opening, of_session, AloneRun, RunFits};
+ghost use Rattle.spec_server.specs.Script.{Between, asks_from, ended_asks_of, script_of};
 ghost use Rattle.spec_server.specs.Output.{reply_text};
 ghost use Rattle.spec_server.specs.CheckOut.{said, check_line};
 ghost use Rattle.spec_server.specs.SolveOut.{TextSaid, text_said, SolveOut};
 ghost use Rattle.spec_truth.specs.Certified.{IsCertified};
+ghost use Rattle.spec_truth.specs.LoadedFrom.{IsLoadedFrom};
 ghost use Rattle.spec_truth.specs.ModelThen.{model_then};
 ghost use Rattle.spec_truth.specs.TrueAnswer.{IsTrueOf, IsNarrowKnown};
 
@@ -156,4 +166,21 @@ pub fn known_answers_have_their_own_texts()
         RunFits (before ++ x ∷ behind) → x.reply ≡ reply.Answered (answer.Known what) → IsNarrowKnown what }
     ensures accepted { (before behind : List Exchange) (x : Exchange) (what : Known ℚ) →
         RunFits (before ++ x ∷ behind) → x.reply ≡ reply.Checked (verdict.Yes what) → IsNarrowKnown what }
+{}
+
+/// A model that a script asks a session to hold is spelled by the lines behind a line with the command LOAD of the
+/// session: by lines of any input, and by those of the bytes that a run of `lpd` reads, up to their last line feed or to
+/// their end.
+pub fn loaded_models_are_spelled()
+    ensures lines { (addressing : Addressing) (lines : List (Line (List ℕ))) (before behind : List (asked_of ExactAsk))
+        (session : ℕ) (m : Model) →
+        asks_from addressing Between lines ≡ before ++ record { session = session; ask = ask.Loaded m } ∷ behind →
+        IsLoadedFrom addressing lines before session m }
+    ensures ended { (bytes : List ℕ) (before behind : List (asked_of ExactAsk)) (session : ℕ) (m : Model) →
+        ended_asks_of bytes ≡ before ++ record { session = session; ask = ask.Loaded m } ∷ behind →
+        IsLoadedFrom Numbered (ended_lines_of (take input_limit bytes)) before session m }
+    ensures whole { (bytes : List ℕ) (before behind : List (asked_of ExactAsk)) (session : ℕ) (m : Model) →
+        length bytes ≤ input_limit →
+        (script_of bytes).asks ≡ before ++ record { session = session; ask = ask.Loaded m } ∷ behind →
+        IsLoadedFrom Numbered (lines_of bytes) before session m }
 {}
