@@ -11,3 +11,4 @@ pub mod YesLines
 pub mod PrintedRuns
 pub mod OwnTexts
 pub mod LoadedLines
+pub mod MadeEdits

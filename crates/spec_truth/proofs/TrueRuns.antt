@@ -33,17 +33,17 @@ same_session : (n : ℕ) → nat_eq n n ≡ true
 same_session n = eq-eqb n n refl
 
 -- an exchange is the first of its session's in the list that it begins
-own_first : (x : Exchange) (xs : List Exchange) → of_session x.session (x ∷ xs) ≡ x ∷ of_session x.session xs
+pub own_first : (x : Exchange) (xs : List Exchange) → of_session x.session (x ∷ xs) ≡ x ∷ of_session x.session xs
 own_first x xs = ap (λ t. cond t (x ∷ of_session x.session xs) (of_session x.session xs)) (same_session x.session)
 
 -- the session holds this model as it is asked, and steps from there
-record StepsThen (before : List Exchange) (x : Exchange) : Type 0 where
-  old : State
-  new : State
-  step : AloneStep old x.ask x.reads x.reply new
-  held : old.model ≡ model_then x.session before
+pub record StepsThen (before : List Exchange) (x : Exchange) : Type 0 where
+  pub old : State
+  pub new : State
+  pub step : AloneStep old x.ask x.reads x.reply new
+  pub held : old.model ≡ model_then x.session before
 
-steps_then : (before behind : List Exchange) (x : Exchange) → RunFits (before ++ x ∷ behind) → StepsThen before x
+pub steps_then : (before behind : List Exchange) (x : Exchange) → RunFits (before ++ x ∷ behind) → StepsThen before x
 steps_then before behind x fits =
     let s : ℕ = x.session in
     let run = fits s in

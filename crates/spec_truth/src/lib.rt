@@ -23,6 +23,7 @@ ghost use Rattle.spec_mps.specs.declared.style.Style.{Style};
 ghost use Rattle.spec_mps.specs.NumberText.{Is, number_of};
 ghost use Rattle.spec_mps.specs.NumberWritten.{number_text};
 ghost use Rattle.spec_mps.specs.Steps.{Spells, Refuses};
+ghost use Rattle.spec_edit.specs.Edited.{ExactEdit, edited};
 ghost use Rattle.spec_check.specs.declared.certificate.Known.{Known};
 ghost use Rattle.spec_check.specs.declared.certificate.Known.TheVariants as known;
 ghost use Rattle.spec_check.specs.declared.certificate.Verdict.TheVariants as verdict;
@@ -33,6 +34,7 @@ ghost use Rattle.spec_server.specs.declared.answer.Answer.TheVariants as answer;
 ghost use Rattle.spec_server.specs.declared.asks.Ask.TheVariants as ask;
 ghost use Rattle.spec_server.specs.declared.asks.Asked.{Asked as asked_of};
 ghost use Rattle.spec_server.specs.declared.asks.Reply.TheVariants as reply;
+ghost use Rattle.spec_server.specs.declared.command.Plain.TheVariants as plain;
 ghost use Rattle.spec_server.specs.Machine.{ExactAsk, ExactReply, Exchange};
 ghost use Rattle.spec_server.specs.Machine.{State, opening, of_session, AloneRun, RunFits};
 ghost use Rattle.spec_server.specs.Script.{Between, asks_from, ended_asks_of, script_of};
@@ -48,6 +50,32 @@ ghost use Rattle.spec_truth.specs.TrueAnswer.{IsTrueOf, IsNarrowKnown};
 pub fn sessions_hold_the_model_then()
     ensures { (session : ℕ) (xs : List Exchange) (last : State) →
         AloneRun opening (of_session session xs) last → last.model ≡ model_then session xs }
+{}
+
+/// In each run of sessions, an edit that is answered OK makes of the model that the session has then the model that it
+/// has from then on.
+pub fn edits_answered_ok_are_made()
+    ensures { (before behind : List Exchange) (x : Exchange) (e : ExactEdit) → RunFits (before ++ x ∷ behind) →
+        x.ask ≡ ask.Plain (plain.Change e) → x.reply ≡ reply.Done →
+        (m : Model) × (n : Model) × (model_then x.session before ≡ Some m) × (edited m e ≡ Ok n)
+        × (model_then x.session (before ++ x ∷ []) ≡ Some n) }
+{}
+
+/// A model that a script asks a session to hold is spelled by the lines behind a line with the command LOAD of the
+/// session: by lines of any input, and by those of the bytes that a run of `lpd` reads, up to the last line feed or to
+/// the end.
+pub fn loaded_models_are_spelled()
+    ensures lines { (addressing : Addressing) (lines : List (Line (List ℕ))) (before behind : List (asked_of ExactAsk))
+        (session : ℕ) (m : Model) →
+        asks_from addressing Between lines ≡ before ++ record { session = session; ask = ask.Loaded m } ∷ behind →
+        IsLoadedFrom addressing lines before session m }
+    ensures ended { (bytes : List ℕ) (before behind : List (asked_of ExactAsk)) (session : ℕ) (m : Model) →
+        ended_asks_of bytes ≡ before ++ record { session = session; ask = ask.Loaded m } ∷ behind →
+        IsLoadedFrom Numbered (ended_lines_of (take input_limit bytes)) before session m }
+    ensures whole { (bytes : List ℕ) (before behind : List (asked_of ExactAsk)) (session : ℕ) (m : Model) →
+        length bytes ≤ input_limit →
+        (script_of bytes).asks ≡ before ++ record { session = session; ask = ask.Loaded m } ∷ behind →
+        IsLoadedFrom Numbered (lines_of bytes) before session m }
 {}
 
 /// In each run of sessions, an answer to a solve is true of the model that the session has then.
@@ -73,6 +101,29 @@ pub fn yes_is_true_of_the_model_then()
         (m : Model) × (model_then x.session before ≡ Some m) × IsInfeasible m }
     ensures unbounded { (before behind : List Exchange) (x : Exchange) → RunFits (before ++ x ∷ behind) →
         x.reply ≡ reply.Checked (verdict.Yes known.Unbounded) →
+        (m : Model) × (model_then x.session before ≡ Some m) × IsUnbounded m }
+{}
+
+/// In each run of sessions, the text of a reply alone says what is true of the model that the session has then: behind
+/// the word OPTIMAL stands the text of the optimal value.
+pub fn reply_texts_are_true_of_the_model_then()
+    ensures optimal { (before behind : List Exchange) (x : Exchange) (text : List ℕ) → RunFits (before ++ x ∷ behind) →
+        reply_text x.reply ≡ codes "OPTIMAL " ++ text →
+        (v : ℚ) × (number_of text ≡ Is v) × ((m : Model) × (model_then x.session before ≡ Some m) × IsOptimal m v) }
+    ensures infeasible { (before behind : List Exchange) (x : Exchange) → RunFits (before ++ x ∷ behind) →
+        reply_text x.reply ≡ codes "INFEASIBLE" →
+        (m : Model) × (model_then x.session before ≡ Some m) × IsInfeasible m }
+    ensures unbounded { (before behind : List Exchange) (x : Exchange) → RunFits (before ++ x ∷ behind) →
+        reply_text x.reply ≡ codes "UNBOUNDED" →
+        (m : Model) × (model_then x.session before ≡ Some m) × IsUnbounded m }
+    ensures yes_optimal { (before behind : List Exchange) (x : Exchange) (text : List ℕ) →
+        RunFits (before ++ x ∷ behind) → reply_text x.reply ≡ codes "YES OPTIMAL " ++ text →
+        (v : ℚ) × (number_of text ≡ Is v) × ((m : Model) × (model_then x.session before ≡ Some m) × IsOptimal m v) }
+    ensures yes_infeasible { (before behind : List Exchange) (x : Exchange) → RunFits (before ++ x ∷ behind) →
+        reply_text x.reply ≡ codes "YES INFEASIBLE" →
+        (m : Model) × (model_then x.session before ≡ Some m) × IsInfeasible m }
+    ensures yes_unbounded { (before behind : List Exchange) (x : Exchange) → RunFits (before ++ x ∷ behind) →
+        reply_text x.reply ≡ codes "YES UNBOUNDED" →
         (m : Model) × (model_then x.session before ≡ Some m) × IsUnbounded m }
 {}
 
@@ -126,29 +177,6 @@ pub fn certified_texts_are_true()
         IsCertified style lines IsUnbounded }
 {}
 
-/// In each run of sessions, the text of a reply alone says what is true of the model that the session has then: behind
-/// the word OPTIMAL stands the text of the optimal value.
-pub fn reply_texts_are_true_of_the_model_then()
-    ensures optimal { (before behind : List Exchange) (x : Exchange) (text : List ℕ) → RunFits (before ++ x ∷ behind) →
-        reply_text x.reply ≡ codes "OPTIMAL " ++ text →
-        (v : ℚ) × (number_of text ≡ Is v) × ((m : Model) × (model_then x.session before ≡ Some m) × IsOptimal m v) }
-    ensures infeasible { (before behind : List Exchange) (x : Exchange) → RunFits (before ++ x ∷ behind) →
-        reply_text x.reply ≡ codes "INFEASIBLE" →
-        (m : Model) × (model_then x.session before ≡ Some m) × IsInfeasible m }
-    ensures unbounded { (before behind : List Exchange) (x : Exchange) → RunFits (before ++ x ∷ behind) →
-        reply_text x.reply ≡ codes "UNBOUNDED" →
-        (m : Model) × (model_then x.session before ≡ Some m) × IsUnbounded m }
-    ensures yes_optimal { (before behind : List Exchange) (x : Exchange) (text : List ℕ) →
-        RunFits (before ++ x ∷ behind) → reply_text x.reply ≡ codes "YES OPTIMAL " ++ text →
-        (v : ℚ) × (number_of text ≡ Is v) × ((m : Model) × (model_then x.session before ≡ Some m) × IsOptimal m v) }
-    ensures yes_infeasible { (before behind : List Exchange) (x : Exchange) → RunFits (before ++ x ∷ behind) →
-        reply_text x.reply ≡ codes "YES INFEASIBLE" →
-        (m : Model) × (model_then x.session before ≡ Some m) × IsInfeasible m }
-    ensures yes_unbounded { (before behind : List Exchange) (x : Exchange) → RunFits (before ++ x ∷ behind) →
-        reply_text x.reply ≡ codes "YES UNBOUNDED" →
-        (m : Model) × (model_then x.session before ≡ Some m) × IsUnbounded m }
-{}
-
 /// What is known has a text of its own: different answers have different texts, as far as their values are of at most
 /// 127 bits, and in each run of sessions they are.
 pub fn known_answers_have_their_own_texts()
@@ -166,21 +194,4 @@ pub fn known_answers_have_their_own_texts()
         RunFits (before ++ x ∷ behind) → x.reply ≡ reply.Answered (answer.Known what) → IsNarrowKnown what }
     ensures accepted { (before behind : List Exchange) (x : Exchange) (what : Known ℚ) →
         RunFits (before ++ x ∷ behind) → x.reply ≡ reply.Checked (verdict.Yes what) → IsNarrowKnown what }
-{}
-
-/// A model that a script asks a session to hold is spelled by the lines behind a line with the command LOAD of the
-/// session: by lines of any input, and by those of the bytes that a run of `lpd` reads, up to their last line feed or to
-/// their end.
-pub fn loaded_models_are_spelled()
-    ensures lines { (addressing : Addressing) (lines : List (Line (List ℕ))) (before behind : List (asked_of ExactAsk))
-        (session : ℕ) (m : Model) →
-        asks_from addressing Between lines ≡ before ++ record { session = session; ask = ask.Loaded m } ∷ behind →
-        IsLoadedFrom addressing lines before session m }
-    ensures ended { (bytes : List ℕ) (before behind : List (asked_of ExactAsk)) (session : ℕ) (m : Model) →
-        ended_asks_of bytes ≡ before ++ record { session = session; ask = ask.Loaded m } ∷ behind →
-        IsLoadedFrom Numbered (ended_lines_of (take input_limit bytes)) before session m }
-    ensures whole { (bytes : List ℕ) (before behind : List (asked_of ExactAsk)) (session : ℕ) (m : Model) →
-        length bytes ≤ input_limit →
-        (script_of bytes).asks ≡ before ++ record { session = session; ask = ask.Loaded m } ∷ behind →
-        IsLoadedFrom Numbered (lines_of bytes) before session m }
 {}
