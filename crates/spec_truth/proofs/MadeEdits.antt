@@ -1,5 +1,5 @@
 -- An edit that is answered OK is made.
-use Rattle.std.proofs.Common.{◌≡◌, ℕ, List, [], ◌∷◌, ◌++◌, Option, Some, None, Ok, Err, refl, sym, ◌∙◌, ap, subst}
+use Rattle.std.proofs.Common.{◌≡◌, List, [], ◌∷◌, ◌++◌, Option, Some, None, Ok, Err, refl, sym, ◌∙◌, ap, subst}
 use Rattle.std.proofs.Common.{◌⊎◌, inl, inr}
 use Rattle.spec_model.specs.Model.{Model, Name}
 use Rattle.spec_edit.specs.declared.edit.EditFault.{EditFault}
@@ -13,7 +13,7 @@ use Rattle.spec_server.specs.Machine.{ExactAsk, ExactReply, State, Read, Does, e
 use Rattle.spec_server.specs.Machine.{WantsMemory, AloneStep, Exchange, of_session, RunFits}
 use Rattle.spec_server.proofs.RunLemmas.{of_session-append}
 use Rattle.spec_truth.specs.ModelThen.{made, after_exchange, after_exchanges, model_then}
-use Rattle.spec_truth.proofs.TrueRuns.{StepsThen, steps_then, own_first}
+use Rattle.spec_truth.proofs.TrueRuns.{steps_then, own_first}
 
 -- ---- the edit
 
@@ -72,8 +72,8 @@ pub edit_then : (before behind : List Exchange) (x : Exchange) (e : ExactEdit) �
 edit_then before behind x e fits asked replied =
     let s = steps_then before behind x fits in
     let step : AloneStep s.old (ask.Plain (plain.Change e)) x.reads reply.Done s.new =
-        subst (λ (r : ExactReply). AloneStep s.old (ask.Plain (plain.Change e)) x.reads r s.new) replied
-        (subst (λ (a : ExactAsk). AloneStep s.old a x.reads x.reply s.new) asked s.step) in
+    subst (λ (r : ExactReply). AloneStep s.old (ask.Plain (plain.Change e)) x.reads r s.new) replied
+    (subst (λ (a : ExactAsk). AloneStep s.old a x.reads x.reply s.new) asked s.step) in
     let made_then = step_made s.old s.new e x.reads step in
     let held : model_then x.session before ≡ Some made_then.before = sym s.held ∙ made_then.is_held in (
       made_then.before,
@@ -81,6 +81,6 @@ edit_then before behind x e fits asked replied =
       held,
       made_then.is_edited,
       then_after before x ∙ ap (λ a. after_exchange (model_then x.session before) a x.reply) asked
-      ∙ ap (λ r. after_exchange (model_then x.session before) (ask.Plain (plain.Change e)) r) replied
-      ∙ ap (λ h. after_exchange h (ask.Plain (plain.Change e)) reply.Done) held ∙ ap made made_then.is_edited,
+          ∙ ap (λ r. after_exchange (model_then x.session before) (ask.Plain (plain.Change e)) r) replied
+          ∙ ap (λ h. after_exchange h (ask.Plain (plain.Change e)) reply.Done) held ∙ ap made made_then.is_edited,
     )
