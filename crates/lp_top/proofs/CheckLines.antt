@@ -8,11 +8,11 @@ use Rattle.spec_mps.specs.Steps as text
 use Rattle.spec_check.specs.declared.progress.Progress.TheVariants as progress
 use Rattle.spec_check.specs.Text as certificate
 use Rattle.spec_server.specs.Machine.{ExactReply}
-use Rattle.spec_server.specs.CheckOut as told
+use Rattle.spec_server.specs.CheckOut as reading
 use Rattle.spec_server.specs.CheckOut.{check_step}
 use Rattle.spec_server.proofs.CheckLemmas.{end_says}
-use Rattle.lp_top.specs.declared.check_reader.CheckStage.{CheckStage}
-use Rattle.lp_top.specs.declared.check_reader.CheckStage.TheVariants as stage
+use Rattle.lp_top.specs.declared.check.CheckStage.{CheckStage}
+use Rattle.lp_top.specs.declared.check.CheckStage.TheVariants as stage
 use Rattle.lp_top.specs.declared.hearing.Step.{Step}
 use Rattle.lp_top.specs.declared.hearing.Step.TheVariants as step
 use Rattle.lp_top.specs.Hearing.{Leads}
@@ -20,44 +20,44 @@ use Rattle.lp_top.specs.Stage.{stage_of, step_of, count_of, said_behind}
 
 -- ---- a line counts for one
 
-abbrev lines_in : told.Stage → ℕ
-lines_in (told.InText style s n) = n
-lines_in (told.InCertificate m raw n) = n
+abbrev lines_in : reading.Stage → ℕ
+lines_in (reading.InText style s n) = n
+lines_in (reading.InCertificate m raw n) = n
 
-on_same : (a b : told.Stage) → ◌≡◌ {A = told.Step told.Stage ExactReply} (told.On a) (told.On b) → a ≡ b
+on_same : (a b : reading.Stage) → ◌≡◌ {A = reading.Step reading.Stage ExactReply} (reading.On a) (reading.On b) → a ≡ b
 on_same a b e = cc
 
-text_counts : (style : Style) (n : ℕ) (o : text.Outcome) (next : told.Stage) → told.behind_text style n o ≡ told.On next → lines_in next ≤ n
+text_counts : (style : Style) (n : ℕ) (o : text.Outcome) (next : reading.Stage) → reading.behind_text style n o ≡ reading.On next → lines_in next ≤ n
 text_counts style n (Ok (text.More s)) next e = subst (λ a. lines_in a ≤ n) (on_same _ next e) (omega arith)
 text_counts style n (Ok (text.Done m)) next e = subst (λ a. lines_in a ≤ n) (on_same _ next e) (omega arith)
 text_counts style n (Err code) next e = cc
 
-certificate_counts : (m : Model) (n : ℕ) (o : certificate.Outcome) (next : told.Stage) → told.behind_certificate m n o ≡ told.On next → lines_in next ≤ n
+certificate_counts : (m : Model) (n : ℕ) (o : certificate.Outcome) (next : reading.Stage) → reading.behind_certificate m n o ≡ reading.On next → lines_in next ≤ n
 certificate_counts m n (progress.More raw) next e = subst (λ a. lines_in a ≤ n) (on_same _ next e) (omega arith)
 certificate_counts m n (progress.Done raw) next e = cc
 certificate_counts m n progress.Unfit next e = cc
 
-step_counts : (at next : told.Stage) (line : Line (List ℕ)) → check_step at line ≡ told.On next → lines_in next ≤ lines_in at + 1
+step_counts : (at next : reading.Stage) (line : Line (List ℕ)) → check_step at line ≡ reading.On next → lines_in next ≤ lines_in at + 1
 unfolding check_step
-step_counts (told.InText style s n) next line e = text_counts style (n + 1) (text.step style s line) next e
-step_counts (told.InCertificate m raw n) next line e = certificate_counts m (n + 1) (certificate.step raw line) next e
+step_counts (reading.InText style s n) next line e = text_counts style (n + 1) (text.step style s line) next e
+step_counts (reading.InCertificate m raw n) next line e = certificate_counts m (n + 1) (certificate.step raw line) next e
 
 count_is : (at : CheckStage) → lines_in (stage_of at) ≡ count_of at
 count_is (stage.Text reader) = refl
 count_is (stage.Certificate model reader) = refl
 
-counted : (at next : CheckStage) (line : Line (List ℕ)) → check_step (stage_of at) line ≡ told.On (stage_of next) → count_of next ≤ count_of at + 1
+counted : (at next : CheckStage) (line : Line (List ℕ)) → check_step (stage_of at) line ≡ reading.On (stage_of next) → count_of next ≤ count_of at + 1
 counted at next line e = let h = step_counts (stage_of at) (stage_of next) line e in omega (arith, h, count_is at, count_is next)
 
 -- ---- what a step leads to is what the line leads to
 
 pub leads : (at : CheckStage) (line : Line (List ℕ)) (made : Step CheckStage ExactReply) → step_of made ≡ check_step (stage_of at) line → Leads said_behind count_of at line made
 leads at line (step.On next) e = (
-  λ more. ap (λ st. told.follow st (λ s. told.said_from s more)) (sym e),
+  λ more. ap (λ st. reading.follow st (λ s. reading.said_from s more)) (sym e),
   counted at next line (sym e),
   λ h. end_says (stage_of at) (stage_of next) (ap (check_step (stage_of at)) (sym h) ∙ sym e),
 )
-leads at line (step.Says reply) e = λ more. ap (λ st. told.follow st (λ s. told.said_from s more)) (sym e)
+leads at line (step.Says reply) e = λ more. ap (λ st. reading.follow st (λ s. reading.said_from s more)) (sym e)
 
 -- from the stage that self is
 pub leads_from : {E : Type 0} (self at : CheckStage) (line : Line (List ℕ)) (result : Result (Step CheckStage ExactReply) E) → self ≡ at →

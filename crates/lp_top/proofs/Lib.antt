@@ -5,6 +5,7 @@ pub mod HearTurns
 pub mod CheckLines
 pub mod TextLines
 pub mod Telling
-pub mod Checking
+pub mod Saying
+pub mod OptionLemmas
 pub mod Solving
 pub mod SomeAnswers

@@ -3,8 +3,6 @@ use Rattle.std.proofs.Common.{◌≡◌, ℕ, List, ◌++◌, Option, Result, Ok
 use Rattle.std.specs.Prelude.{OnOk}
 use Rattle.spec_exact.specs.Fraction.{ℚ}
 use Rattle.spec_model.specs.Model.{Model}
-use Rattle.spec_mps.specs.declared.style.Style.{Style}
-use Rattle.spec_mps.specs.Reader.{start}
 use Rattle.spec_cold.specs.Cold.{ColdEnd}
 use Rattle.spec_server.specs.declared.answer.Answer.{Answer}
 use Rattle.spec_server.specs.declared.asks.Reply.TheVariants as reply
@@ -12,14 +10,8 @@ use Rattle.spec_server.specs.Answers.{IsSolved}
 use Rattle.spec_server.specs.CheckOut.{check_line}
 use Rattle.spec_server.specs.Machine.{opening_budget, answer_of, lines_of_solved}
 use Rattle.spec_server.specs.Output.{ended_lines}
-use Rattle.spec_server.specs.SolveOut.{text_said, SolveOut, solved_lines, solve_code}
-use Rattle.mps_read.specs.Reading.{Reading}
-use Rattle.lp_top.specs.declared.run.Stop.{Stop}
-use Rattle.lp_top.specs.declared.status.Status.{Status}
-use Rattle.lp_top.specs.Hearing.{HearsSo, SaysSo}
-use Rattle.lp_top.specs.Solve.{Prints}
-use Rattle.lp_top.specs.Text.{said_behind}
-use Rattle.lp_top.proofs.Telling.{writes_nothing}
+use Rattle.spec_server.specs.SolveOut.{SolveOut, solved_lines}
+use Rattle.lp_top.specs.Hearing.{Prints}
 
 -- the answer's line, and the lines of the certificate behind it
 pub prints_solved : {T E : Type 0} (m : Model) (solved : ColdEnd) (answer : Answer ℚ) (lines : List (List ℕ)) (before between after : List ℕ) (result : Result T E) →
@@ -37,10 +29,3 @@ prints_solved m solved answer lines before between after (Ok u) is same are firs
           ∙ append_assoc before line (ended_lines (lines_of_solved m solved));
     }
 prints_solved m solved answer lines before between after (Err why) is same are first second = tt
-
--- where nothing is said, nothing is written
-pub says_nothing : (style : Style) (reader : Reading) → reader ≡ record { style = style; state = start; lines = 0 } → (before after : Option (List ℕ)) (stop : Stop) → HearsSo (said_behind reader) before after (Err stop) →
-    (taken : Option (List ℕ)) (result : Result Status Stop) (got : Stop) → result ≡ Err got → got ≡ stop → SaysSo (text_said style) SolveOut solve_code before after taken taken result
-says_nothing style reader is_start before after stop h taken result got is same =
-    let heard : HearsSo (text_said style) before after (Err stop) = subst (λ (r : Reading). HearsSo (said_behind r) before after (Err stop)) is_start h in
-    subst (λ (r : Result Status Stop). SaysSo (text_said style) SolveOut solve_code before after taken taken r) (sym (is ∙ ap Err same)) (writes_nothing (text_said style) SolveOut solve_code before after taken stop heard)

@@ -5,7 +5,7 @@ use Rattle.spec_edit.specs.Edited.{ExactEdit, OrFault, edited}
 use Rattle.spec_server.specs.declared.asks.Ask.TheVariants as ask
 use Rattle.spec_server.specs.declared.asks.Asked.{Asked}
 use Rattle.spec_server.specs.declared.asks.Reply.TheVariants as reply
-use Rattle.spec_server.specs.declared.command.Plain.TheVariants as plain
+use Rattle.spec_server.specs.declared.command.Plain.TheVariants as command
 use Rattle.spec_server.specs.Machine.{ExactAsk, ExactReply, State, Due, Replies, Solves, Does, due, edit_due, change_due, takes_memory, AloneStep, Exchange, asked_in, AloneRun, of_session}
 use Rattle.spec_server.proofs.RunLemmas.{updated, runs_on}
 
@@ -22,13 +22,13 @@ change_solves_nothing state m (Some n) e h = edit_solves_nothing state m (edited
 
 -- memory may be wanting for a solve
 solve_wants : (state : State) (asked : ExactAsk) (m : Model) → due state asked ≡ Solves m → takes_memory asked ≡ true
-solve_wants state (ask.Plain (plain.Write form)) m e = refl
-solve_wants state (ask.Plain plain.Solve) m e = refl
-solve_wants state (ask.Plain plain.Cert) m e = refl
-solve_wants state (ask.Plain plain.How) m e = absurd (no_solve _ _ m e)
-solve_wants state (ask.Plain (plain.Budget n)) m e = absurd (no_solve _ _ m e)
-solve_wants state (ask.Plain plain.Quit) m e = absurd (no_solve _ _ m e)
-solve_wants state (ask.Plain (plain.Change edit)) m e = absurd (change_solves_nothing state m state.model edit e)
+solve_wants state (ask.Plain (command.Write form)) m e = refl
+solve_wants state (ask.Plain command.Solve) m e = refl
+solve_wants state (ask.Plain command.Cert) m e = refl
+solve_wants state (ask.Plain command.How) m e = absurd (no_solve _ _ m e)
+solve_wants state (ask.Plain (command.Budget n)) m e = absurd (no_solve _ _ m e)
+solve_wants state (ask.Plain command.Quit) m e = absurd (no_solve _ _ m e)
+solve_wants state (ask.Plain (command.Change edit)) m e = absurd (change_solves_nothing state m state.model edit e)
 solve_wants state (ask.Loaded n) m e = absurd (no_solve _ _ m e)
 solve_wants state (ask.Misspelled fault) m e = absurd (no_solve _ _ m e)
 solve_wants state (ask.Checked raw) m e = refl

@@ -1,4 +1,4 @@
--- A script's run, ask by ask, and what it is where it stops.
+-- A script's run, ask by ask, and what it is where it halts.
 use Rattle.std.proofs.Common.{◌≡◌, ℕ, ◌^◌, ◌≤◌, ◌<◌, ◌⊎◌, zero, suc, take, List, [], ◌∷◌, ◌++◌, length, map, replicate, Result, Ok, Err, Bool, true, false, cond, nat_le, ap, sym, ◌∙◌, append_assoc, append-nil, refl, inl, inr, subst, ⊎_elim, Option, le-leb}
 use Rattle.std.specs.Prelude.{slice_index_or}
 use Rattle.std.proofs.lemmas.Bool.{lt-leb}
@@ -22,11 +22,12 @@ use Rattle.lp_base.specs.declared.lines.LineStop.{LineStop}
 use Rattle.lp_base.specs.declared.lines.LineStop.TheVariants as line_stops
 use Rattle.lp_line.specs.declared.taking.Taken.{Taken}
 use Rattle.lp_line.specs.Takes.{TakesAsk, TakesNone, TakesEnd, TakesNext}
-use Rattle.lp_top.specs.declared.run.Stop.{Stop}
-use Rattle.lp_top.specs.declared.run.Stop.TheVariants as stops
+use Rattle.lp_top.specs.declared.halt.Halt.{Halt}
+use Rattle.lp_top.specs.declared.halt.Halt.TheVariants as halts
 use Rattle.lp_top.specs.Answer.{state_at, Answers, AnswersInPart}
 use Rattle.lp_top.specs.Run.{Moves, EndsInput, BreaksOff, EndsSo}
-use Rattle.lp_top.specs.Stop.{stop_of}
+use Rattle.lp_top.specs.Halt.{halt_of}
+use Rattle.lp_top.specs.Streams.{Streams, streams}
 use Rattle.lp_top.proofs.SomeAnswers.{SomeExchanges, some_exchanges}
 use Rattle.lp_top.proofs.Answering.{exchange_of, one_run, one_run_to, one_line}
 
@@ -174,7 +175,7 @@ front_of written exchanges others front = (
 moves_in_part : {left_before left_after taken_before taken_after : Option (List ℕ)} (exchanges : List Exchange) (lines more : List (Line (List ℕ))) (states : ℕ → State) → IsSoFar exchanges lines states →
     (written : List ℕ) → Appends taken_before taken_after written → IsPrefixOf written (script_out exchanges) →
     ReadsPart left_before left_after (lines ++ more) ⊎ ReadsAll left_before left_after (lines ++ more) →
-    Moves left_before left_after taken_before taken_after
+    Moves (streams left_before left_after taken_before taken_after)
 moves_in_part exchanges lines more states so written appended front (inl part) =
     let on = goes_on exchanges lines (more ++ part.more) states so in
     record {
@@ -206,7 +207,7 @@ whole_front exchanges = ([], append-nil (script_out exchanges))
 -- the lines that end were read and answered
 moves_broken_off : {left_before left_after taken_before taken_after : Option (List ℕ)} (exchanges : List Exchange) (lines : List (Line (List ℕ))) (states : ℕ → State) → IsSoFar exchanges lines states →
     Appends taken_before taken_after (script_out exchanges) → (r : ReadsFront left_before left_after lines) →
-    (moves : Moves left_before left_after taken_before taken_after) × (BreaksOff moves × (moves.read ≡ r.read))
+    (moves : Moves (streams left_before left_after taken_before taken_after)) × (BreaksOff moves × (moves.read ≡ r.read))
 moves_broken_off exchanges lines states so appended r =
     let asks : map asked_in exchanges ≡ ended_asks_of r.read = so.asks ∙ ap (asks_from Numbered Between) (sym r.ended) ∙ sym (ended_asks r.read) in (
       record {
@@ -225,7 +226,7 @@ moves_broken_off exchanges lines states so appended r =
 -- all lines were read and answered
 moves_all : {left_before left_after taken_before taken_after : Option (List ℕ)} (exchanges : List Exchange) (lines : List (Line (List ℕ))) (states : ℕ → State) → IsSoFar exchanges lines states →
     Appends taken_before taken_after (script_out exchanges) → ReadsAll left_before left_after lines → (ending : Ending) → ending_by (pending_after Numbered Between lines) ≡ ending →
-    (moves : Moves left_before left_after taken_before taken_after) × EndsInput moves ending
+    (moves : Moves (streams left_before left_after taken_before taken_after)) × EndsInput moves ending
 moves_all exchanges lines states so appended all ending ends =
     let asks : map asked_in exchanges ≡ asks_from Numbered Between (lines_of all.read) = so.asks ∙ ap (asks_from Numbered Between) (sym all.all) in
     let is : script_of all.read ≡ record { asks = map asked_in exchanges; ending = ending } =
@@ -251,7 +252,7 @@ module _ {left_before left_now taken_before taken_now : Option (List ℕ)} (left
   none_more more none = so_far_none t.exchanges t.lines more (state_at sessions) t.so_far t.between none
 
   -- no further ask came
-  pub stopped : (new : LinesState) (stop : LineStop) → TakesNext Numbered left_now left_after reading new (Err stop) → (moves : Moves left_before left_after taken_before taken_now) × EndsSo moves (Err (stop_of stop))
+  pub stopped : (new : LinesState) (stop : LineStop) → TakesNext Numbered left_now left_after reading new (Err stop) → (moves : Moves (streams left_before left_after taken_before taken_now)) × EndsSo moves (Err (halt_of stop))
   stopped new line_stops.Read k =
       let m = moves_broken_off t.exchanges (t.lines ++ k.passed) (state_at sessions) (none_more k.passed k.asks) t.written (stops_with line_stops.Read (ReadsUntil-append t.reads k.reads)).front in
       (m.0, m.1.0)
@@ -262,13 +263,13 @@ module _ {left_before left_now taken_before taken_now : Option (List ℕ)} (left
   )
 
   -- the input has ended
-  pub ended : (ending : Ending) → TakesEnd Numbered left_now left_after reading ending → (moves : Moves left_before left_after taken_before taken_now) × EndsInput moves ending
+  pub ended : (ending : Ending) → TakesEnd Numbered left_now left_after reading ending → (moves : Moves (streams left_before left_after taken_before taken_now)) × EndsInput moves ending
   ended ending k =
       moves_all t.exchanges (t.lines ++ k.none.passed) (state_at sessions) (none_more k.none.passed k.none.asks) t.written (stops_at_end (ReadsUntil-append t.reads k.none.reads))
       ending (ap ending_by (pending_more t.lines k.none.passed t.between) ∙ k.ends)
 
   -- the input is longer than may be read
-  pub too_long : TakesNone Numbered left_now left_after reading (Ok Over) → (moves : Moves left_before left_after taken_before taken_now) × EndsSo moves (Err stops.Over)
+  pub too_long : TakesNone Numbered left_now left_after reading (Ok Over) → (moves : Moves (streams left_before left_after taken_before taken_now)) × EndsSo moves (Err halts.Over)
   too_long k =
       let over = stops_over (ReadsUntil-append t.reads k.reads) in
       let m = moves_broken_off t.exchanges (t.lines ++ k.passed) (state_at sessions) (none_more k.passed k.asks) t.written over.front in
@@ -278,7 +279,7 @@ module _ {left_before left_now taken_before taken_now : Option (List ℕ)} (left
       (m.0, record { script = past; whole = m.1.0.whole })
 
   -- an ask came, and was answered in part
-  pub in_answer : (taken_after : Option (List ℕ)) (new : LinesState) (asked : Asked ExactAsk) → TakesAsk Numbered left_now left_after reading new asked → AnswersInPart taken_now taken_after sessions asked → Moves left_before left_after taken_before taken_after
+  pub in_answer : (taken_after : Option (List ℕ)) (new : LinesState) (asked : Asked ExactAsk) → TakesAsk Numbered left_now left_after reading new asked → AnswersInPart taken_now taken_after sessions asked → Moves (streams left_before left_after taken_before taken_after)
   in_answer taken_after new asked k a =
       let others : List Exchange = exchange_of asked a.reply ∷ [] in
       let lines : List (Line (List ℕ)) = t.lines ++ k.passed in
@@ -298,11 +299,11 @@ pub takes_as : (before after : Option (List ℕ)) (old new : LinesState) (taken 
 takes_as before after old new taken is same k = subst (λ (t : Taken). TakesNext Numbered before after old new (Ok t)) same k
 
 -- a stop by want of memory or by a fault of the sink asks for nothing else
-pub stops_so : {before after taken now : Option (List ℕ)} (moves : Moves before after taken now) (result : Result (Unit {0}) Stop) (stop : Stop) → result ≡ Err stop → (stop ≡ stops.Write) ⊎ (stop ≡ stops.NoMemory) → (m : Moves before after taken now) × EndsSo m result
-stops_so {before} {after} {taken} {now} moves result stop is why = (moves, subst (λ (r : Result (Unit {0}) Stop). EndsSo moves r) (sym is) (⊎_elim (λ e. subst (λ (s : Stop). EndsSo moves (Err s)) (sym e) tt) (λ e. subst (λ (s : Stop). EndsSo moves (Err s)) (sym e) tt) why))
+pub stops_so : {s : Streams} (moves : Moves s) (result : Result (Unit {0}) Halt) (stop : Halt) → result ≡ Err stop → (stop ≡ halts.Write) ⊎ (stop ≡ halts.NoMemory) → (m : Moves s) × EndsSo m result
+stops_so {s} moves result stop is why = (moves, subst (λ (r : Result (Unit {0}) Halt). EndsSo moves r) (sym is) (⊎_elim (λ e. subst (λ (h : Halt). EndsSo moves (Err h)) (sym e) tt) (λ e. subst (λ (h : Halt). EndsSo moves (Err h)) (sym e) tt) why))
 
 -- nothing was read or written
-pub nothing : (left taken : Option (List ℕ)) → Moves left left taken taken
+pub nothing : (left taken : Option (List ℕ)) → Moves (streams left left taken taken)
 unfolding ended_lines_of
 nothing left taken = record {
   read = [];
@@ -316,5 +317,5 @@ nothing left taken = record {
 }
 
 -- the same result
-pub ends_as : {before after taken now : Option (List ℕ)} (result other : Result (Unit {0}) Stop) → result ≡ other → ((m : Moves before after taken now) × EndsSo m other) → (m : Moves before after taken now) × EndsSo m result
-ends_as {before} {after} {taken} {now} result other same m = (m.0, subst (λ (r : Result (Unit {0}) Stop). EndsSo m.0 r) (sym same) m.1)
+pub ends_as : {s : Streams} (result other : Result (Unit {0}) Halt) → result ≡ other → ((m : Moves s) × EndsSo m other) → (m : Moves s) × EndsSo m result
+ends_as {s} result other same m = (m.0, subst (λ (r : Result (Unit {0}) Halt). EndsSo m.0 r) (sym same) m.1)

@@ -1,16 +1,17 @@
 -- What is said of an input that is read line by line, and what is read and written of it.
-use Rattle.std.specs.Prelude.{ℕ, ◌≡◌, ◌≢◌, ◌≤◌, ◌<◌, ◌⊎◌, ◌+◌, List, [], ◌∷◌, length, Option, Some, Result, Ok, Err}
-use Rattle.std.specs.Io.KnownBytes.{Consumes, Appends}
-use Rattle.spec_text.specs.Lines.{input_limit}
+use Rattle.std.specs.Prelude.{ℕ, ◌≡◌, ◌≢◌, ◌≤◌, ◌<◌, ◌⊎◌, ◌+◌, List, [], ◌∷◌, ◌++◌, length, Option, Some, None, Result, Ok, Err}
+use Rattle.std.specs.Io.KnownBytes.{Consumes, Appends, IsAtEnd}
+use Rattle.spec_text.specs.Lines.{lines_of, input_limit}
 use Rattle.spec_text.specs.declared.line.Line.{Line}
 use Rattle.spec_text.specs.declared.line.Line.TheVariants.{End}
 use Rattle.spec_server.specs.Said.{IsSaid, IsUndecided}
 use Rattle.lp_base.specs.Beside.{Takes}
 use Rattle.lp_top.specs.declared.hearing.Step.{Step}
 use Rattle.lp_top.specs.declared.hearing.Step.TheVariants.{On, Says as SaysStep}
-use Rattle.lp_top.specs.declared.run.Stop.{Stop}
-use Rattle.lp_top.specs.declared.run.Stop.TheVariants as stops
-use Rattle.lp_top.specs.declared.status.Status.{Status}
+use Rattle.lp_top.specs.declared.halt.Halt.{Halt}
+use Rattle.lp_top.specs.declared.halt.Halt.TheVariants as halts
+use Rattle.lp_top.specs.declared.exit_status.ExitStatus.{ExitStatus}
+use Rattle.lp_top.specs.Streams.{Streams}
 
 -- ---- lines, one by one
 
@@ -22,11 +23,28 @@ Leads said count stage line (SaysStep what) = (more : List (Line (List ℕ))) �
 
 -- ---- what is read
 
--- these bytes were read, and this is said of them
+-- the most bytes that are read ahead
+abbrev pub buffer_len : ℕ
+buffer_len = 4096
+
+-- the bytes are those of lines of which the last one decides what is said, and less than a buffer behind them
+pub record StopsSoon {R : Type 0} (said : List (Line (List ℕ)) → Option R) (read : List ℕ) (what : R) : Type 0 where
+  pub lines : List (Line (List ℕ))
+  pub last : Line (List ℕ)
+  pub undecided : said lines ≡ None
+  pub decides : said (lines ++ last ∷ []) ≡ Some what
+  pub raw : List ℕ
+  pub ahead : List ℕ
+  pub cut : read ≡ raw ++ ahead
+  pub are_lines : lines_of raw ≡ lines ++ last ∷ []
+  pub few : length ahead < buffer_len
+
+-- these bytes were read, and this is said of them; and little was read behind the line that decides, unless the input has ended
 pub record Hears {R : Type 0} (said : List (Line (List ℕ)) → Option R) (before after : Option (List ℕ)) (what : R) : Type 0 where
   pub read : List ℕ
   pub consumed : Consumes before after read
   pub is_said : IsSaid said after read what
+  pub soon : StopsSoon said read what ⊎ IsAtEnd after
 
 -- nothing is said of the bytes that were read
 pub record HearsNothing {R : Type 0} (said : List (Line (List ℕ)) → Option R) (before after : Option (List ℕ)) : Type 0 where
@@ -34,57 +52,64 @@ pub record HearsNothing {R : Type 0} (said : List (Line (List ℕ)) → Option R
   pub consumed : Consumes before after read
   pub undecided : IsUndecided said read
 
--- there are more than may be read
+-- there are more than may be read, of which no more than a buffer was read
 pub record HearsTooMuch {R : Type 0} (said : List (Line (List ℕ)) → Option R) (before after : Option (List ℕ)) : Type 0 where
   pub nothing : HearsNothing said before after
   pub over : input_limit < length nothing.read
+  pub soon : length nothing.read ≤ input_limit + buffer_len
 
 pub record Reads (before after : Option (List ℕ)) : Type 0 where
   pub read : List ℕ
   pub consumed : Consumes before after read
 
-abbrev pub HearsSo : {R : Type 0} → (List (Line (List ℕ)) → Option R) → Option (List ℕ) → Option (List ℕ) → Result R Stop → Type 0
+abbrev pub HearsSo : {R : Type 0} → (List (Line (List ℕ)) → Option R) → Option (List ℕ) → Option (List ℕ) → Result R Halt → Type 0
 HearsSo said before after (Ok what) = Hears said before after what
-HearsSo said before after (Err stops.Read) = HearsNothing said before after
-HearsSo said before after (Err stops.Over) = HearsTooMuch said before after
-HearsSo said before after (Err stops.NoMemory) = Reads before after
-HearsSo said before after (Err stops.Write) = ⊥
-HearsSo said before after (Err stops.Cut) = ⊥
+HearsSo said before after (Err halts.Read) = HearsNothing said before after
+HearsSo said before after (Err halts.Over) = HearsTooMuch said before after
+HearsSo said before after (Err halts.NoMemory) = Reads before after
+HearsSo said before after (Err halts.Write) = ⊥
+HearsSo said before after (Err halts.Cut) = ⊥
 
 -- ---- what is written of what is said: an output that it may have, with its status
 
+-- an output of this kind was put behind what was there
+pub record Prints (Out : List ℕ → Type 0) (before after : List ℕ) : Type 0 where
+  pub output : List ℕ
+  pub is_output : Out output
+  pub behind : after ≡ before ++ output
+
 -- all of one was written
-pub record Says {R : Type 0} (said : List (Line (List ℕ)) → Option R) (Out : R → List ℕ → Type 0) (code_of : R → ℕ) (before after taken now : Option (List ℕ)) (code : ℕ) : Type 0 where
+pub record Says {R : Type 0} (said : List (Line (List ℕ)) → Option R) (Out : R → List ℕ → Type 0) (code_of : R → ℕ) (s : Streams) (code : ℕ) : Type 0 where
   pub what : R
-  pub hears : Hears said before after what
+  pub hears : Hears said s.left_before s.left_after what
   pub output : List ℕ
   pub is_output : Out what output
-  pub written : Appends taken now output
+  pub written : Appends s.taken_before s.taken_after output
   pub status : code ≡ code_of what
 
 -- a front of one was written
-pub record SaysInPart {R : Type 0} (said : List (Line (List ℕ)) → Option R) (Out : R → List ℕ → Type 0) (before after taken now : Option (List ℕ)) : Type 0 where
+pub record SaysInPart {R : Type 0} (said : List (Line (List ℕ)) → Option R) (Out : R → List ℕ → Type 0) (s : Streams) : Type 0 where
   pub what : R
-  pub hears : Hears said before after what
+  pub hears : Hears said s.left_before s.left_after what
   pub output : List ℕ
   pub is_output : Out what output
-  pub written : Takes taken now output
+  pub written : Takes s.taken_before s.taken_after output
 
-abbrev pub WritesNothing : Option (List ℕ) → Option (List ℕ) → Type 0
-WritesNothing taken now = Appends taken now []
+abbrev pub WritesNothing : Streams → Type 0
+WritesNothing s = Appends s.taken_before s.taken_after []
 
-abbrev pub SaysSo : {R : Type 0} → (List (Line (List ℕ)) → Option R) → (R → List ℕ → Type 0) → (R → ℕ) → Option (List ℕ) → Option (List ℕ) → Option (List ℕ) → Option (List ℕ) → Result Status Stop → Type 0
-SaysSo said Out code_of before after taken now (Ok status) = Says said Out code_of before after taken now status.code
-SaysSo said Out code_of before after taken now (Err stops.Read) = HearsNothing said before after × WritesNothing taken now
-SaysSo said Out code_of before after taken now (Err stops.Over) = HearsTooMuch said before after × WritesNothing taken now
-SaysSo said Out code_of before after taken now (Err stops.NoMemory) = Reads before after × WritesNothing taken now
-SaysSo said Out code_of before after taken now (Err stops.Write) = SaysInPart said Out before after taken now
-SaysSo said Out code_of before after taken now (Err stops.Cut) = ⊥
+abbrev pub SaysSo : {R : Type 0} → (List (Line (List ℕ)) → Option R) → (R → List ℕ → Type 0) → (R → ℕ) → Streams → Result ExitStatus Halt → Type 0
+SaysSo said Out code_of s (Ok status) = Says said Out code_of s status.code
+SaysSo said Out code_of s (Err halts.Read) = HearsNothing said s.left_before s.left_after × WritesNothing s
+SaysSo said Out code_of s (Err halts.Over) = HearsTooMuch said s.left_before s.left_after × WritesNothing s
+SaysSo said Out code_of s (Err halts.NoMemory) = Reads s.left_before s.left_after × WritesNothing s
+SaysSo said Out code_of s (Err halts.Write) = SaysInPart said Out s
+SaysSo said Out code_of s (Err halts.Cut) = ⊥
 
 -- what a status says of the bytes that were read and written
-pub record TellsOf {R : Type 0} (said : List (Line (List ℕ)) → Option R) (Out : R → List ℕ → Type 0) (code_of : R → ℕ) (before after taken now : Option (List ℕ)) (code : ℕ) : Type 0 where
-  pub done : (code ≡ 0) ⊎ (code ≡ 9) → Says said Out code_of before after taken now code
-  pub fault : code ≡ 3 → HearsNothing said before after × WritesNothing taken now
-  pub sink : code ≡ 4 → SaysInPart said Out before after taken now
-  pub memory : code ≡ 5 → Reads before after × WritesNothing taken now
-  pub over : code ≡ 8 → HearsTooMuch said before after × WritesNothing taken now
+pub record TellsOf {R : Type 0} (said : List (Line (List ℕ)) → Option R) (Out : R → List ℕ → Type 0) (code_of : R → ℕ) (s : Streams) (code : ℕ) : Type 0 where
+  pub done : (code ≡ 0) ⊎ (code ≡ 9) → Says said Out code_of s code
+  pub fault : code ≡ 3 → HearsNothing said s.left_before s.left_after × WritesNothing s
+  pub sink : code ≡ 4 → SaysInPart said Out s
+  pub memory : code ≡ 5 → Reads s.left_before s.left_after × WritesNothing s
+  pub over : code ≡ 8 → HearsTooMuch said s.left_before s.left_after × WritesNothing s

@@ -1,9 +1,10 @@
+pub mod Streams
 pub mod Answer
 pub mod Run
-pub mod Stop
+pub mod Halt
 pub mod Top
 pub mod Hearing
-pub mod Check
-pub mod Solve
 pub mod Stage
 pub mod Text
+pub mod TextCommands
+pub mod Words

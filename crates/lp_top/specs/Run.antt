@@ -7,8 +7,9 @@ use Rattle.spec_server.specs.Machine.{ExactAsk, Exchange, asked_in, RunFits}
 use Rattle.spec_server.specs.Script.{Script, Ending, Ended, Cut, ending_by, script_of, ended_asks_of}
 use Rattle.spec_server.specs.Script as script
 use Rattle.spec_server.specs.Output.{script_out}
-use Rattle.lp_top.specs.declared.run.Stop.{Stop}
-use Rattle.lp_top.specs.declared.run.Stop.TheVariants as stops
+use Rattle.lp_top.specs.declared.halt.Halt.{Halt}
+use Rattle.lp_top.specs.declared.halt.Halt.TheVariants as halts
+use Rattle.lp_top.specs.Streams.{Streams}
 
 -- these are the asks of the lines that end among the bytes; or all asks of the script, where the input has ended
 abbrev pub AreAsked : Option (List ℕ) → List ℕ → List (Asked ExactAsk) → Type 0
@@ -16,42 +17,42 @@ AreAsked after read asks = (asks ≡ ended_asks_of read) ⊎ ((asks ≡ (script_
 
 -- The bytes that were read, the exchanges of their asks, in which each session runs alone, and the bytes that were
 -- written, a front of the output of the exchanges.
-pub record Moves (left_before left_after taken_before taken_after : Option (List ℕ)) : Type 0 where
+pub record Moves (s : Streams) : Type 0 where
   pub read : List ℕ
   pub exchanges : List Exchange
   pub written : List ℕ
-  pub consumed : Consumes left_before left_after read
-  pub appended : Appends taken_before taken_after written
-  pub asks : AreAsked left_after read (map asked_in exchanges)
+  pub consumed : Consumes s.left_before s.left_after read
+  pub appended : Appends s.taken_before s.taken_after written
+  pub asks : AreAsked s.left_after read (map asked_in exchanges)
   pub runs : RunFits exchanges
   pub front : IsPrefixOf written (script_out exchanges)
 
 -- the whole output was written
-abbrev pub IsWhole : {before after taken now : Option (List ℕ)} → Moves before after taken now → Type 0
+abbrev pub IsWhole : {s : Streams} → Moves s → Type 0
 IsWhole moves = moves.written ≡ script_out moves.exchanges
 
 -- the bytes are a whole script with this end, the exchanges are those of its asks, and the whole output was written
-pub record EndsWith {before after taken now : Option (List ℕ)} (moves : Moves before after taken now) (ending : Ending) : Type 0 where
+pub record EndsWith {s : Streams} (moves : Moves s) (ending : Ending) : Type 0 where
   pub script : script_of moves.read ≡ record { asks = map asked_in moves.exchanges; ending = ending }
   pub whole : IsWhole moves
 
 -- nothing is left to be read
-pub record EndsInput {before after taken now : Option (List ℕ)} (moves : Moves before after taken now) (ending : Ending) : Type 0 where
+pub record EndsInput {s : Streams} (moves : Moves s) (ending : Ending) : Type 0 where
   pub ends : EndsWith moves ending
-  pub at_end : IsAtEnd after
+  pub at_end : IsAtEnd s.left_after
 
 -- the exchanges are those of the lines that end among the bytes, and the whole output was written
-pub record BreaksOff {before after taken now : Option (List ℕ)} (moves : Moves before after taken now) : Type 0 where
+pub record BreaksOff {s : Streams} (moves : Moves s) : Type 0 where
   pub asks : map asked_in moves.exchanges ≡ ended_asks_of moves.read
   pub whole : IsWhole moves
 
-abbrev pub EndsSo : {before after taken now : Option (List ℕ)} → Moves before after taken now → Result (Unit {0}) Stop → Type 0
+abbrev pub EndsSo : {s : Streams} → Moves s → Result (Unit {0}) Halt → Type 0
 EndsSo moves (Ok u) = EndsInput moves Ended
-EndsSo moves (Err stops.Cut) = EndsInput moves Cut
-EndsSo moves (Err stops.Over) = EndsWith moves script.Over
-EndsSo moves (Err stops.Read) = BreaksOff moves
-EndsSo moves (Err stops.Write) = Unit {0}
-EndsSo moves (Err stops.NoMemory) = Unit {0}
+EndsSo moves (Err halts.Cut) = EndsInput moves Cut
+EndsSo moves (Err halts.Over) = EndsWith moves script.Over
+EndsSo moves (Err halts.Read) = BreaksOff moves
+EndsSo moves (Err halts.Write) = Unit {0}
+EndsSo moves (Err halts.NoMemory) = Unit {0}
 
-abbrev pub Runs : Option (List ℕ) → Option (List ℕ) → Option (List ℕ) → Option (List ℕ) → Result (Unit {0}) Stop → Type 0
-Runs left_before left_after taken_before taken_after result = (moves : Moves left_before left_after taken_before taken_after) × EndsSo moves result
+abbrev pub Runs : Streams → Result (Unit {0}) Halt → Type 0
+Runs s result = (moves : Moves s) × EndsSo moves result

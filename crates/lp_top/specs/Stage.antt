@@ -2,19 +2,19 @@
 use Rattle.std.specs.Prelude.{ℕ, Option, List}
 use Rattle.spec_text.specs.declared.line.Line.{Line}
 use Rattle.spec_server.specs.Machine.{ExactReply}
-use Rattle.spec_server.specs.CheckOut as told
-use Rattle.lp_top.specs.declared.check_reader.CheckStage.{CheckStage}
-use Rattle.lp_top.specs.declared.check_reader.CheckStage.TheVariants as stage
+use Rattle.spec_server.specs.CheckOut as reading
+use Rattle.lp_top.specs.declared.check.CheckStage.{CheckStage}
+use Rattle.lp_top.specs.declared.check.CheckStage.TheVariants as stage
 use Rattle.lp_top.specs.declared.hearing.Step.{Step}
 use Rattle.lp_top.specs.declared.hearing.Step.TheVariants as step
 
-abbrev pub stage_of : CheckStage → told.Stage
-stage_of (stage.Text reader) = told.InText reader.style reader.state reader.lines
-stage_of (stage.Certificate model reader) = told.InCertificate model reader.raw reader.lines
+abbrev pub stage_of : CheckStage → reading.Stage
+stage_of (stage.Text reader) = reading.InText reader.style reader.state reader.lines
+stage_of (stage.Certificate model reader) = reading.InCertificate model reader.raw reader.lines
 
-abbrev pub step_of : Step CheckStage ExactReply → told.Step told.Stage ExactReply
-step_of (step.On next) = told.On (stage_of next)
-step_of (step.Says reply) = told.Says reply
+abbrev pub step_of : Step CheckStage ExactReply → reading.Step reading.Stage ExactReply
+step_of (step.On next) = reading.On (stage_of next)
+step_of (step.Says reply) = reading.Says reply
 
 -- how many lines were read of the text, or of the certificate
 abbrev pub count_of : CheckStage → ℕ
@@ -23,4 +23,4 @@ count_of (stage.Certificate model reader) = reader.lines
 
 -- what lines say behind it
 abbrev pub said_behind : CheckStage → List (Line (List ℕ)) → Option ExactReply
-said_behind stage lines = told.said_from (stage_of stage) lines
+said_behind stage lines = reading.said_from (stage_of stage) lines

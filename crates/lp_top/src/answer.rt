@@ -3,7 +3,7 @@ ghost use Rattle.std.specs.Prelude.{◌≡◌, ◌⊎◌, ◌≤◌, OnOk, IfErr
 ghost use Rattle.lp_base.specs.Causes.{Rose};
 ghost use Rattle.lp_top.specs.Answer.{Answers, AnswersInPart};
 
-use crate::run::Stop;
+use crate::halt::Halt;
 use crate::sessions::Sessions;
 use lp_base::{Bytes, Sink, send};
 use lp_line::{Addressing, Asked, print};
@@ -15,13 +15,13 @@ pub(crate) fn answer<K: Sink>(
     sessions: &mut Sessions,
     asked: Asked,
     out: &mut K,
-) -> Result<(), Stop>
+) -> Result<(), Halt>
     requires { asked.session ≤ 64 }
     ensures ok { OnOk result (Answers (K.taken out.old) (K.taken out.new) sessions.old sessions.new asked) }
     ensures part { AnswersInPart (K.taken out.old) (K.taken out.new) sessions.old asked }
-    ensures stops { IfErr result (λ stop. (stop ≡ Stop.Write) ⊎ (stop ≡ Stop.NoMemory)) }
+    ensures halts { IfErr result (λ halt. (halt ≡ Halt.Write) ⊎ (halt ≡ Halt.NoMemory)) }
     ensures later { K.write_faults out.old ≤ K.write_faults out.new }
-    ensures write { IsErrOf result Stop.Write → Rose (K.write_faults out.old) (K.write_faults out.new) }
+    ensures write { IsErrOf result Halt.Write → Rose (K.write_faults out.old) (K.write_faults out.new) }
 {
     let session = asked.session;
     let reply = sessions.step(alloc, asked);

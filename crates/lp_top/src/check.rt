@@ -1,24 +1,58 @@
-// The check of a certificate that the source gives behind the text of its model.
-ghost use Rattle.std.specs.Prelude.{◌≡◌, IsErrOf};
-ghost use Rattle.lp_base.specs.Causes.{Rose};
-ghost use Rattle.spec_server.specs.CheckOut.{check_code};
-ghost use Rattle.lp_top.specs.Check.{ChecksSo};
+// The check of a certificate that stands behind the text of its model.
+ghost use Rattle.std.specs.Prelude.{◌≡◌, ◌<◌, ◌-◌, ◌^◌, IfOk, refl};
+ghost use Rattle.spec_server.specs.CheckOut.{InText, InCertificate, check_step, check_code, CheckOut};
+ghost use Rattle.lp_top.specs.Stage.{step_of, count_of, said_behind};
 
-use crate::check_reader::CheckStage;
-use crate::hearing::hear;
-use crate::run::Stop;
-use crate::status::Status;
-use lp_base::{Bytes, Sink, Source, send};
-use lp_line::{Reply, print_said};
-use mps_read::Reader;
-use spec_mps::Style;
-use std::alloc::Global;
+use crate::exit_status::ExitStatus;
+use crate::hearing::{Stage, Step};
+use lp_base::{Bytes, Line};
+use lp_check::{CertFeed, CertReader};
+use lp_line::{Refusal, Reply, print_said};
+use lp_model::Model;
+use lp_session::verdict_on;
+use mps_read::{Feed, Reader};
+use std::alloc::{AllocError, Global};
 
-fn status_of(reply: &Reply) -> Status
+/// In the text of a model, or in the certificate behind it.
+#[derive(Drop)]
+pub(crate) enum CheckStage {
+    Text(Reader),
+    Certificate { model: Model, reader: CertReader },
+}
+
+impl Stage for CheckStage {
+    type Said = Reply;
+
+    ghost said = { said_behind };
+
+    ghost count = { count_of };
+
+    ghost may_write = { CheckOut };
+
+    ghost code = { check_code };
+
+    ghost silent = { λ _. refl };
+
+    fn advance(self, alloc: Global, line: &Line) -> Result<Step<CheckStage, Reply>, AllocError> {
+        match self {
+            CheckStage::Text(reader) => text_line(alloc, reader, line),
+            CheckStage::Certificate { model, reader } => {
+                certificate_line(alloc, model, reader, line)
+            }
+        }
+    }
+
+    fn print(alloc: Global, what: Reply, to: &mut Bytes) -> Result<ExitStatus, AllocError> {
+        print_said(alloc, &what, to)?;
+        Ok(status_of(&what))
+    }
+}
+
+fn status_of(reply: &Reply) -> ExitStatus
     ensures { result.code ≡ check_code reply.now }
 {
     match reply {
-        Reply::Refused(_) => Status::REFUSED,
+        Reply::Refused(_) => ExitStatus::REFUSED,
         Reply::Loaded(_, _)
         | Reply::Written(_)
         | Reply::Done
@@ -27,25 +61,46 @@ fn status_of(reply: &Reply) -> Status
         | Reply::Found { .. }
         | Reply::Checked(_)
         | Reply::Bye
-        | Reply::Memory => Status::DONE,
+        | Reply::Memory => ExitStatus::DONE,
     }
 }
 
-/// Reads a text and a certificate, and writes what is said of them.
-pub(crate) fn check<S: Source, K: Sink>(
+// A line of the text.
+#[tactic(auto, unfolding(spec_server::specs::CheckOut::check_step))]
+fn text_line(
     alloc: Global,
-    style: Style,
-    src: &mut S,
-    out: &mut K,
-) -> Result<Status, Stop>
-    ensures output { ChecksSo style (S.left src.old) (S.left src.new) (K.taken out.old) (K.taken out.new) result }
-    ensures read { IsErrOf result Stop.Read → Rose (S.read_faults src.old) (S.read_faults src.new) }
-    ensures write { IsErrOf result Stop.Write → Rose (K.write_faults out.old) (K.write_faults out.new) }
+    mut reader: Reader,
+    line: &Line,
+) -> Result<Step<CheckStage, Reply>, AllocError>
+    requires { reader.lines < 2 ^ 32 - 1 }
+    ensures { IfOk result (λ step. step_of step ≡ check_step (InText reader.style reader.state reader.lines) line.now) }
 {
-    let first = CheckStage::Text(Reader::new(alloc, style));
-    let reply = hear(alloc, first, src)?;
-    let mut line = Bytes::new(alloc);
-    print_said(alloc, &reply, &mut line)?;
-    send(out, line.as_slice())?;
-    Ok(status_of(&reply))
+    match reader.feed(alloc, line) {
+        Feed::More => Ok(Step::On(CheckStage::Text(reader))),
+        Feed::Done(model) => Ok(Step::On(CheckStage::Certificate {
+            model,
+            reader: CertReader::new(),
+        })),
+        Feed::Refused(fault) => Ok(Step::Says(Reply::Refused(Refusal::Misspelled(fault)))),
+        Feed::NoMemory => Err(AllocError),
+    }
+}
+
+// A line of the certificate.
+#[tactic(auto, unfolding(spec_server::specs::CheckOut::check_step))]
+fn certificate_line(
+    alloc: Global,
+    model: Model,
+    mut reader: CertReader,
+    line: &Line,
+) -> Result<Step<CheckStage, Reply>, AllocError>
+    requires { reader.lines < 2 ^ 32 - 1 }
+    ensures { IfOk result (λ step. step_of step ≡ check_step (InCertificate model reader.raw reader.lines) line.now) }
+{
+    match reader.feed(alloc, line) {
+        CertFeed::More => Ok(Step::On(CheckStage::Certificate { model, reader })),
+        CertFeed::Done(raw) => Ok(Step::Says(verdict_on(alloc, &model, &raw)?)),
+        CertFeed::Refused(unfit) => Ok(Step::Says(Reply::Refused(Refusal::Unfit(unfit)))),
+        CertFeed::NoMemory => Err(AllocError),
+    }
 }

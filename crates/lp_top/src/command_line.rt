@@ -1,13 +1,86 @@
 // The words of a command line.
-ghost use Rattle.std.specs.Prelude.{◌≡◌, [], ◌∷◌, map, string_bytes};
-ghost use Rattle.spec_server.specs.CommandLine as told;
+ghost use Rattle.std.specs.Prelude.{◌≡◌, List, [], map, length, is_some, option_copied, string_bytes, Some, None, MatchOption, IfSome, ◌<◌, ◌∷◌};
+ghost use Rattle.std.specs.List.{list_any};
+ghost use Rattle.spec_text.specs.Words.{same};
+ghost use Rattle.spec_server.specs.CommandLine.{run_row, text_row, asked_by};
+ghost use Rattle.spec_server.specs.CommandLine as command_lines;
+ghost use Rattle.lp_top.specs.Words.{bytes_of, value_in, are_in, IsGiven};
 
 use lp_base::are_same;
 use spec_mps::Style;
-use spec_server::CommandLine;
+use spec_server::{CommandLine, TextCommand};
+
+// What stands behind a command's word: plain words, and options, each a name and a value.
+#[derive(Clone, Copy)]
+struct Given<'a> {
+    plain: &'a [String],
+    options: &'a [String],
+}
+
+fn is_one_of(word: &[u8], names: &[&str]) -> bool
+    ensures { result ≡ list_any (λ name. same word.now name.now) names.now }
+{
+    names.iter().any(|name| are_same(word, name.as_bytes()))
+}
+
+// The first option and its value, and the words behind them.
+fn first_option(words: &[String]) -> Option<(&[u8], &[u8], &[String])>
+    ensures cut { MatchOption result (length words.now < 2) (λ p. map string_bytes words.now ≡ p.0.now ∷ p.1.now ∷ map string_bytes p.2.now) }
+    ensures fewer { IfSome result (λ p. length p.2.now < length words.now) }
+{
+    match words {
+        [option, value, behind @ ..] => Some((option.as_bytes(), value.as_bytes(), behind)),
+        _ => None,
+    }
+}
+
+// The value of an option, if its name is given.
+fn value_of<'a>(words: &'a [String], name: &[u8]) -> Option<&'a [u8]>
+    ensures { option_copied result ≡ value_in name.now (map string_bytes words.now) }
+{
+    let mut rest = words;
+    while let [option, value, more @ ..] = rest {
+        if are_same(name, option.as_bytes()) {
+            return Some(value.as_bytes());
+        }
+        rest = more;
+    }
+    None
+}
+
+// Whether the words are options with these names, none of them given twice.
+fn are_options(words: &[String], names: &[&str]) -> bool
+    ensures { result ≡ are_in (bytes_of names.now) (map string_bytes words.now) }
+{
+    let mut rest = words;
+    while let Some((option, _, more)) = first_option(rest) {
+        if !is_one_of(option, names) {
+            return false;
+        }
+        if value_of(more, option).is_some() {
+            return false;
+        }
+        rest = more;
+    }
+    rest.is_empty()
+}
+
+// The words as so many plain ones, and options with these names behind them.
+fn given_in<'a>(words: &'a [String], plain: usize, names: &[&str]) -> Option<Given<'a>>
+    ensures { IsGiven (command_lines.given_in plain (bytes_of names.now) (map string_bytes words.now)) result }
+{
+    if words.len() < plain {
+        return None;
+    }
+    let (plain, options) = words.split_at(plain);
+    if !are_options(options, names) {
+        return None;
+    }
+    Some(Given { plain, options })
+}
 
 fn form_of(word: &[u8]) -> Option<Style>
-    ensures { result ≡ told.form_of word.now }
+    ensures { result ≡ command_lines.form_of word.now }
 {
     if are_same(word, b"free") {
         return Some(Style::Free);
@@ -18,49 +91,43 @@ fn form_of(word: &[u8]) -> Option<Style>
     None
 }
 
-// The command that reads a text in this form.
-fn reading_of(word: &[u8], style: Style) -> Option<CommandLine>
-    ensures { result ≡ told.reading_of word.now style }
+// A script is run.
+fn run_line(words: &[String]) -> Option<CommandLine>
+    ensures { result ≡ asked_by (map string_bytes words.now) run_row }
 {
-    if are_same(word, b"solve") {
-        return Some(CommandLine::Solve(style));
-    }
-    if are_same(word, b"check") {
-        return Some(CommandLine::Check(style));
-    }
-    None
+    given_in(words, 0, &[])?;
+    Some(CommandLine::Run)
 }
 
-// What a command line of one word asks.
-#[tactic(auto, unfolding(spec_server::specs::CommandLine::command_line_of))]
-fn lone_word(word: &[u8]) -> Option<CommandLine>
-    ensures { result ≡ told.command_line_of (word.now ∷ []) }
+// A text is read, in free form unless another is given.
+fn text_line(command: TextCommand, words: &[String]) -> Option<CommandLine>
+    ensures { result ≡ asked_by (map string_bytes words.now) (text_row command) }
 {
-    if are_same(word, b"run") {
-        return Some(CommandLine::Run);
-    }
-    reading_of(word, Style::Free)
-}
-
-// What a command line of a command with one option asks.
-#[tactic(auto, unfolding(spec_server::specs::CommandLine::command_line_of))]
-fn with_option(word: &[u8], option: &[u8], form: &[u8]) -> Option<CommandLine>
-    ensures { result ≡ told.command_line_of (word.now ∷ option.now ∷ form.now ∷ []) }
-{
-    if !are_same(option, b"--form") {
-        return None;
-    }
-    reading_of(word, form_of(form)?)
+    let given = given_in(words, 0, &["--form"])?;
+    let style = match value_of(given.options, b"--form") {
+        Some(form) => form_of(form)?,
+        None => Style::Free,
+    };
+    Some(CommandLine::Read(command, style))
 }
 
 /// What the words ask, if they are a command line.
 #[tactic(auto, unfolding(spec_server::specs::CommandLine::command_line_of))]
 pub(crate) fn command_line_of(words: &[String]) -> Option<CommandLine>
-    ensures { result ≡ told.command_line_of (map string_bytes words.now) }
+    ensures { result ≡ command_lines.command_line_of (map string_bytes words.now) }
 {
-    match words {
-        [word] => lone_word(word.as_bytes()),
-        [word, option, form] => { with_option(word.as_bytes(), option.as_bytes(), form.as_bytes()) }
-        _ => None,
+    let [word, behind @ ..] = words else {
+        return None;
+    };
+    let word = word.as_bytes();
+    if are_same(word, b"run") {
+        return run_line(behind);
     }
+    if are_same(word, b"solve") {
+        return text_line(TextCommand::Solve, behind);
+    }
+    if are_same(word, b"check") {
+        return text_line(TextCommand::Check, behind);
+    }
+    None
 }

@@ -1,34 +1,35 @@
 //! The top call: all that the program does, from the words of its command line to its status.
 //!
 //! lpd_top     runs a command line over a source and a sink: here
-//! Status      how that ended: src/status
+//! ExitStatus  how that ended: src/exit_status
 //!
-//! What it reads and writes is told by specs/Top, specs/Run, specs/Solve and specs/Check, in the words of the server's
-//! definitions.
+//! What it reads and writes is told by specs/Top, of a script by specs/Run and of a text by specs/Hearing, in the words of the
+//! server's definitions.
 #![tactic(auto)]
 
 mod answer;
 mod check;
-mod check_reader;
 mod command_line;
+mod exit_status;
+mod halt;
 mod hearing;
 mod run;
 mod sessions;
 mod solve;
-mod status;
 #[cfg(test)]
 mod tests;
+mod text;
 
-ghost use Rattle.std.specs.Prelude.{◌≡◌, ◌↔◌, map, string_bytes, None};
+ghost use Rattle.std.specs.Prelude.{◌≡◌, ◌↔◌, map, string_bytes, Some, None};
 ghost use Rattle.lp_base.specs.Causes.{Rose};
 ghost use Rattle.spec_server.specs.CommandLine.{command_line_of};
-ghost use Rattle.lp_top.specs.Stop.{code_behind};
+ghost use Rattle.lp_top.specs.Streams.{streams};
 ghost use Rattle.lp_top.specs.Top.{Does, IsStatus};
 
-use crate::run::Stop;
+use crate::halt::Halt;
+pub use exit_status::ExitStatus;
 use lp_base::{Sink, Source};
 use spec_server::CommandLine;
-pub use status::Status;
 use std::alloc::Global;
 
 /// All that the program does. The words are those of the command line, without the program's own name.
@@ -37,11 +38,11 @@ pub fn lpd_top<S: Source, K: Sink>(
     words: &[String],
     src: &mut S,
     out: &mut K,
-) -> Status
+) -> ExitStatus
     // For some bytes that were read and written: of a script, what was written is the output of a run in which each session
-    // replies as if it were alone, whole or in part as the status says; of the text of a model, what was written is what a
-    // solve of it ends with; and of a certificate behind a text, what is said of it.
-    ensures output { Does (command_line_of (map string_bytes words.now)) (S.left src.old) (S.left src.new) (K.taken out.old) (K.taken out.new) result.code }
+    // replies as if it were alone, whole or in part as the status says; of the text of a model, what was written is what the
+    // command may write of what its lines say, as far as an input may be read.
+    ensures output { Does (command_line_of (map string_bytes words.now)) (streams (S.left src.old) (S.left src.new) (K.taken out.old) (K.taken out.new)) result.code }
     ensures codes { IsStatus (command_line_of (map string_bytes words.now)) result.code }
 
     // The words are at fault exactly where they are no command line.
@@ -52,31 +53,33 @@ pub fn lpd_top<S: Source, K: Sink>(
     ensures write { result.code ≡ 4 → Rose (K.write_faults out.old) (K.write_faults out.new) }
 {
     match command_line::command_line_of(words) {
-        None => Status::BAD_COMMAND_LINE,
-        Some(CommandLine::Run) => match run::run(alloc, src, out) {
-            Ok(()) => Status::DONE,
-            Err(stop) => status_behind(stop),
-        },
-        Some(CommandLine::Solve(style)) => match solve::solve(alloc, style, src, out) {
-            Ok(status) => status,
-            Err(stop) => status_behind(stop),
-        },
-        Some(CommandLine::Check(style)) => match check::check(alloc, style, src, out) {
-            Ok(status) => status,
-            Err(stop) => status_behind(stop),
-        },
+        None => ExitStatus::BAD_COMMAND_LINE,
+        Some(command) => obey(alloc, command, src, out),
     }
 }
 
-// The status behind what stopped a command.
-fn status_behind(stop: Stop) -> Status
-    ensures { result.code ≡ code_behind stop }
+// Does what a command line asks.
+fn obey<S: Source, K: Sink>(
+    alloc: Global,
+    command: CommandLine,
+    src: &mut S,
+    out: &mut K,
+) -> ExitStatus
+    ensures output { Does (Some command) (streams (S.left src.old) (S.left src.new) (K.taken out.old) (K.taken out.new)) result.code }
+    ensures codes { IsStatus (Some command) result.code }
+    ensures read { result.code ≡ 3 → Rose (S.read_faults src.old) (S.read_faults src.new) }
+    ensures write { result.code ≡ 4 → Rose (K.write_faults out.old) (K.write_faults out.new) }
 {
-    match stop {
-        Stop::Read => Status::READ,
-        Stop::Write => Status::WRITE,
-        Stop::NoMemory => Status::NO_MEMORY,
-        Stop::Cut => Status::CUT,
-        Stop::Over => Status::OVER,
+    match command {
+        CommandLine::Run => match run::run(alloc, src, out) {
+            Ok(()) => ExitStatus::DONE,
+            Err(halt) => ExitStatus::from(halt),
+        },
+        CommandLine::Read(command, style) => {
+            match text::read_text(alloc, command, style, src, out) {
+                Ok(status) => status,
+                Err(halt) => ExitStatus::from(halt),
+            }
+        }
     }
 }

@@ -3,23 +3,26 @@
 
 mod outside;
 
-use lp_top::{Status, lpd_top};
+use lp_top::{ExitStatus, lpd_top};
 use outside::{StdSink, StdSource};
 use std::alloc::Global;
+use std::io::ErrorKind;
 use std::process::ExitCode;
 use std::{env, io};
 
 fn main(rt: HostRuntime) -> ExitCode {
     let status = run(&rt, rt.alloc());
-    if status == Status::BAD_COMMAND_LINE {
+    if status == ExitStatus::BAD_COMMAND_LINE {
         let _ = eprintln!(rt; "lpd: bad command line");
     }
     ExitCode::from(status.code)
 }
 
-fn run(rt: &HostRuntime, alloc: Global) -> Status {
-    let Ok(words) = words_of(rt, alloc) else {
-        return Status::BAD_COMMAND_LINE;
+fn run(rt: &HostRuntime, alloc: Global) -> ExitStatus {
+    let words = match words_of(rt, alloc) {
+        Ok(words) => words,
+        Err(error) if error.kind() == ErrorKind::OutOfMemory => return ExitStatus::NO_MEMORY,
+        Err(_) => return ExitStatus::BAD_COMMAND_LINE,
     };
     let mut source = StdSource::new(rt.stdin());
     let mut sink = StdSink::new(rt.stdout());

@@ -16,5 +16,6 @@ pub mod ColdAnswers
 pub mod TextEnds
 pub mod WrittenEnds
 pub mod PlainLines
+pub mod WrittenLengths
 pub mod WrittenChecks
 pub mod Sessions

@@ -7,8 +7,8 @@ use Rattle.std.proofs.lemmas.List.Elements.{All-nil, All-cons, All-append}
 use Rattle.std.proofs.lemmas.List.Folds.{list_all-append}
 use borrow.Author.Tests.{leb-true}
 use Rattle.spec_text.specs.declared.line.Line.TheVariants.{Text}
-use Rattle.spec_text.specs.Lines.{line_of, lines_of}
-use Rattle.spec_text.proofs.LineLemmas.{lines_of_line, line_short}
+use Rattle.spec_text.specs.Lines.{line_of, ended_lines_of}
+use Rattle.spec_text.proofs.LineLemmas.{ended_lines_of_line, line_short}
 use Rattle.spec_exact.specs.Fraction.{ℚ, 0ℚ, eq_ℚ}
 use Rattle.spec_exact.specs.Narrow.{IsNarrow}
 use Rattle.spec_model.specs.declared.parts.Sense.TheVariants.{Min}
@@ -37,20 +37,20 @@ no_feed (b ∷ line) h =
     let low : 32 ≤ b = leb-true 32 b q.0 in
     All-cons (λ x. x ≢ 10) b line (λ e. omega arith) (no_feed line p.1)
 
-one_line : (line more : List ℕ) → IsPlainLine line → lines_of ((line ++ 10 ∷ []) ++ more) ≡ Text line ∷ lines_of more
+one_line : (line more : List ℕ) → IsPlainLine line → ended_lines_of ((line ++ 10 ∷ []) ++ more) ≡ Text line ∷ ended_lines_of more
 one_line line more h =
-    ap lines_of (append_assoc line (10 ∷ []) more) ∙ lines_of_line line more (no_feed line h.plain)
-    ∙ ap (λ l. l ∷ lines_of more) (ap line_of (stripped_plain line h.plain) ∙ line_short line h.short)
+    ap ended_lines_of (append_assoc line (10 ∷ []) more) ∙ ended_lines_of_line line more (no_feed line h.plain)
+    ∙ ap (λ l. l ∷ ended_lines_of more) (ap line_of (stripped_plain line h.plain) ∙ line_short line h.short)
 
 -- lines that end, whatever stands behind them
-pub lines_behind : {X : Type 0} (f : X → List ℕ) (xs : List X) (more : List ℕ) → All (λ x. IsPlainLine (f x)) xs
-    → lines_of (flat_map (λ x. f x ++ 10 ∷ []) xs ++ more) ≡ map (λ x. Text (f x)) xs ++ lines_of more
-lines_behind f [] more h = refl
-lines_behind {X} f (x ∷ xs) more h =
+pub ended_lines_behind : {X : Type 0} (f : X → List ℕ) (xs : List X) (more : List ℕ) → All (λ x. IsPlainLine (f x)) xs
+    → ended_lines_of (flat_map (λ x. f x ++ 10 ∷ []) xs ++ more) ≡ map (λ x. Text (f x)) xs ++ ended_lines_of more
+ended_lines_behind f [] more h = refl
+ended_lines_behind {X} f (x ∷ xs) more h =
     let rest : List ℕ = flat_map (λ x. f x ++ 10 ∷ []) xs in
-    ap lines_of (append_assoc (f x ++ 10 ∷ []) rest more)
+    ap ended_lines_of (append_assoc (f x ++ 10 ∷ []) rest more)
     ∙ one_line (f x) (rest ++ more) (h 0 x (omega arith))
-    ∙ ap (λ ls. Text (f x) ∷ ls) (lines_behind f xs more (λ k d l. h (suc k) d (omega arith)))
+    ∙ ap (λ ls. Text (f x) ∷ ls) (ended_lines_behind f xs more (λ k d l. h (suc k) d (omega arith)))
 
 -- ---- names and numbers
 
@@ -79,12 +79,12 @@ cost_kept name v h n =
       narrow_columns = All-cons IsNarrowColumn c [] (record { cost = n; lower = tt; upper = tt; entries = λ k d l. absurd (omega arith) }) (All-nil IsNarrowColumn);
     }
 
-record AreShort (name : Name) (v : ℚ) : Type 0 where
-  short_name : IsShort name
-  short_number : IsShort (number_text v)
+pub record AreShort (name : Name) (v : ℚ) : Type 0 where
+  pub short_name : IsShort name
+  pub short_number : IsShort (number_text v)
 
 -- they are short in the text of that model
-both_short : (name : Name) (v : ℚ) → is_name name ≡ true → IsNarrow v → AreShort name v
+pub both_short : (name : Name) (v : ℚ) → is_name name ≡ true → IsNarrow v → AreShort name v
 unfolding cards_of rows_cards columns_cards
 both_short name v h n =
     let card = cards_short (with_cost name v) (cost_kept name v h n) 4 (section_card []) (omega arith) in
@@ -129,10 +129,10 @@ below_plain letter names values (suc n) h k =
 -- ---- a certificate
 
 module _ (m : Model) (kept : IsModel m) where
-  column_named : (j : ℕ) → j < width m → is_name (column m j).name ≡ true
+  pub column_named : (j : ℕ) → j < width m → is_name (column m j).name ≡ true
   column_named j l = (kept.columns j no_column l).name
 
-  row_named : (i : ℕ) → i < height m → is_name (row m i).name ≡ true
+  pub row_named : (i : ℕ) → i < height m → is_name (row m i).name ≡ true
   unfolding is_row_name
   row_named i l = (and_parts (is_name (row m i).name) _ (kept.rows i no_row l)).0
 

@@ -1,11 +1,11 @@
 -- What the command `check` says of a model's written text with the certificate of an answer behind it.
-use Rattle.std.proofs.Common.{◌≡◌, ℕ, suc, ◌+◌, true, false, Option, Some, None, Ok, Err, List, [], ◌∷◌, ◌++◌, get_or, map, refl, sym, ap, ◌∙◌, append_assoc, arith}
+use Rattle.std.proofs.Common.{◌≡◌, ℕ, suc, ◌+◌, ◌-◌, ◌≤◌, true, false, Option, Some, None, Ok, Err, List, [], ◌∷◌, ◌++◌, get_or, length, take, map, refl, sym, ap, ◌∙◌, append_assoc, arith}
 use Rattle.std.specs.Prelude.{codes, All}
 use Rattle.std.proofs.lemmas.List.{map-append}
 use Rattle.std.proofs.lemmas.List.Elements.{All-map}
 use Rattle.spec_text.specs.declared.line.Line.{Line}
 use Rattle.spec_text.specs.declared.line.Line.TheVariants.{Text}
-use Rattle.spec_text.specs.Lines.{lines_of}
+use Rattle.spec_text.specs.Lines.{lines_of, ended_lines_of, input_limit}
 use Rattle.spec_exact.specs.Fraction.{ℚ}
 use Rattle.spec_model.specs.Model.{Model}
 use Rattle.spec_model.specs.Kept.{IsModel}
@@ -37,9 +37,10 @@ use Rattle.spec_server.specs.Output.{ended_lines}
 use Rattle.spec_server.specs.Said.{IsSaidEarly, follow}
 use Rattle.spec_server.specs.Script.{ends_text}
 use Rattle.spec_server.specs.CheckOut.{InText, InCertificate, behind_text, behind_certificate, check_step, said_from, said}
-use Rattle.spec_server.proofs.PlainLines.{lines_behind, certificate_plain}
+use Rattle.spec_server.proofs.PlainLines.{ended_lines_behind, certificate_plain}
 use Rattle.spec_server.proofs.TextEnds.{done_ends}
 use Rattle.spec_server.proofs.WrittenEnds.{inner_cards, inner_lines}
+use Rattle.spec_server.proofs.WrittenLengths.{take_behind, text_fits}
 
 -- ---- a text of which the last line alone ends it
 
@@ -105,26 +106,37 @@ module _ (style : Style) (m : Model) (kept : IsModel m) (spells : text.Spells st
   body_spells : text.judge style start (0 + 1) (body ++ Text (codes "ENDATA") ∷ []) ≡ text.Spelled m
   body_spells = ap (text.judge style start 1) (sym (has_its_lines style (cards_of m) plain_cards ∙ lines_split)) ∙ spells
 
-  whole_lines : (more : List ℕ) → lines_of ((cards_text style (cards_of m) ++ ended_lines (certificate_lines m cert)) ++ more)
-      ≡ body ++ Text (codes "ENDATA") ∷ (map Text (certificate_lines m cert) ++ lines_of more)
+  abbrev model : List ℕ
+  model = cards_text style (cards_of m)
+
+  abbrev behind : List ℕ
+  behind = ended_lines (certificate_lines m cert)
+
+  whole_lines : (more : List ℕ) → ended_lines_of ((model ++ behind) ++ more)
+      ≡ body ++ Text (codes "ENDATA") ∷ (map Text (certificate_lines m cert) ++ ended_lines_of more)
   unfolding ended_lines
   whole_lines more =
-      let model : List ℕ = cards_text style (cards_of m) in
-      let rest : List (Line (List ℕ)) = map Text (certificate_lines m cert) ++ lines_of more in
-      ap lines_of (append_assoc model (ended_lines (certificate_lines m cert)) more)
-      ∙ lines_behind (line_text style) (cards_of m) (ended_lines (certificate_lines m cert) ++ more) plain_cards
-      ∙ ap (λ ls. card_lines style (cards_of m) ++ ls) (lines_behind (λ line. line) (certificate_lines m cert) more (certificate_plain m kept cert h.0 h.1))
+      let rest : List (Line (List ℕ)) = map Text (certificate_lines m cert) ++ ended_lines_of more in
+      ap ended_lines_of (append_assoc model (ended_lines (certificate_lines m cert)) more)
+      ∙ ended_lines_behind (line_text style) (cards_of m) (ended_lines (certificate_lines m cert) ++ more) plain_cards
+      ∙ ap (λ ls. card_lines style (cards_of m) ++ ls) (ended_lines_behind (λ line. line) (certificate_lines m cert) more (certificate_plain m kept cert h.0 h.1))
       ∙ ap (λ ls. ls ++ rest) lines_split
       ∙ append_assoc body (Text (codes "ENDATA") ∷ []) rest
 
-  checks : IsSaidEarly (said style) (cards_text style (cards_of m) ++ ended_lines (certificate_lines m cert)) (reply.Checked (Yes known))
-  checks more =
+  -- what stands behind them within a limit
+  within : (limit : ℕ) (more : List ℕ) → length (model ++ behind) ≤ limit → said style (ended_lines_of (take limit ((model ++ behind) ++ more))) ≡ Some (reply.Checked (Yes known))
+  within limit more fits =
       let r = read_back m cert kept h.0 h.1 in
-      ap (said style) (whole_lines more)
-      ∙ text_leads style m body (Text (codes "ENDATA")) start 0 body_inner body_spells (map Text (certificate_lines m cert) ++ lines_of more)
-      ∙ certificate_said m (map Text (certificate_lines m cert) ++ lines_of more) None 0 r.raw (r.spelled (lines_of more))
+      let rest : List ℕ = take (limit - length (model ++ behind)) more in
+      ap (λ bs. said style (ended_lines_of bs)) (take_behind limit (model ++ behind) more fits)
+      ∙ ap (said style) (whole_lines rest)
+      ∙ text_leads style m body (Text (codes "ENDATA")) start 0 body_inner body_spells (map Text (certificate_lines m cert) ++ ended_lines_of rest)
+      ∙ certificate_said m (map Text (certificate_lines m cert) ++ ended_lines_of rest) None 0 r.raw (r.spelled (ended_lines_of rest))
       ∙ ap (λ settled. Some (verdict_on m settled)) r.settled
       ∙ ap (λ run. Some (reply.Checked (verdict_of run))) h.2
+
+  checks : IsSaidEarly (said style) (model ++ behind) (reply.Checked (Yes known))
+  checks more = within input_limit more (text_fits style m kept cert h.0 h.1)
 
 pub free_checks : (m : Model) (budget : ℕ) (known : Known ℚ) (cert : Certificate (List ℚ)) (basis : Option (List Status)) (pivots : ℕ) → IsModel m → MayAnswer m budget (Ended known cert basis pivots)
     → IsSaidEarly (said Free) (free m ++ ended_lines (certificate_lines m cert)) (reply.Checked (Yes known))

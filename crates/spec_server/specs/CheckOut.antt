@@ -1,6 +1,6 @@
 -- What the command `check` says of its input: the text of a model and, from the line behind it on, a certificate. Each line is
 -- a step from what was read before it, up to the line at which something is said.
-use Rattle.std.specs.Prelude.{ℕ, ◌+◌, Option, Some, None, Ok, Err, List, [], ◌∷◌, ◌++◌}
+use Rattle.std.specs.Prelude.{ℕ, ◌≡◌, ◌+◌, Option, Some, None, Ok, Err, List, [], ◌∷◌, ◌++◌}
 use Rattle.spec_text.specs.declared.line.Line.{Line}
 use Rattle.spec_model.specs.Model.{Model}
 use Rattle.spec_mps.specs.declared.style.Style.{Style}
@@ -47,6 +47,10 @@ said style lines = said_from (InText style start 0) lines
 -- the line that is written of it
 unfoldable pub check_line : ExactReply → List ℕ
 check_line replied = reply_text replied ++ 10 ∷ []
+
+-- it alone may be written
+abbrev pub CheckOut : ExactReply → List ℕ → Type 0
+CheckOut replied written = written ≡ check_line replied
 
 -- the status behind what is said
 abbrev pub check_code : ExactReply → ℕ

@@ -1,21 +1,93 @@
--- The command lines of the program.
-use Rattle.std.specs.Prelude.{ℕ, Option, Some, None, option_and_then, List, [], ◌∷◌, codes, if◌then◌else◌}
+-- The command lines of the program: the word of a command, its plain words, and behind them its options, each a name and a value,
+-- in any order and each at most once.
+use Rattle.std.specs.Prelude.{ℕ, ◌&&◌, Bool, true, false, not, Option, Some, None, option_map, option_and_then, List, [], ◌∷◌, length, map, take, drop, nat_le, codes, if◌then◌else◌}
+use Rattle.std.specs.List.{list_all, list_any}
 use Rattle.spec_text.specs.Words.{same}
 use Rattle.spec_mps.specs.declared.style.Style.{Style}
 use Rattle.spec_mps.specs.declared.style.Style.TheVariants.{Free, Fixed}
 use Rattle.spec_mps.specs.Shapes.{look_up}
 use Rattle.spec_server.specs.declared.command_line.CommandLine.{CommandLine}
-use Rattle.spec_server.specs.declared.command_line.CommandLine.TheVariants.{Run, Solve, Check}
+use Rattle.spec_server.specs.declared.command_line.CommandLine.TheVariants.{Run, Read}
+use Rattle.spec_server.specs.declared.command_line.TextCommand.{TextCommand}
+use Rattle.spec_server.specs.declared.command_line.TextCommand.TheVariants.{Solve, Check}
 
-abbrev pub form_of : List ℕ → Option Style
+abbrev pub Word : Type 0
+Word = List ℕ
+
+-- ---- options
+
+-- the options that are given: their names and their values
+abbrev pub Options : Type 0
+Options = List (Word × Word)
+
+abbrev pub OptionNames : Type 0
+OptionNames = List Word
+
+-- the words two by two; nothing where the last name has no value
+abbrev pub in_pairs : List Word → Option Options
+in_pairs [] = Some []
+in_pairs (name ∷ []) = None
+in_pairs (name ∷ value ∷ words) = option_map (λ pairs. (name, value) ∷ pairs) (in_pairs words)
+
+abbrev pub is_one_of : Word → OptionNames → Bool
+is_one_of name names = list_any (λ other. same name other) names
+
+abbrev pub are_distinct : OptionNames → Bool
+are_distinct [] = true
+are_distinct (name ∷ names) = not (is_one_of name names) && are_distinct names
+
+-- each has one of these names, and no two have the same
+abbrev pub are_options_of : OptionNames → Options → Bool
+are_options_of names options = list_all (λ option. is_one_of option.0 names) options && are_distinct (map (λ option. option.0) options)
+
+-- the options that the words give; nothing where they are no options with these names
+unfoldable pub options_in : OptionNames → List Word → Option Options
+options_in names words = option_and_then (λ options. if are_options_of names options then Some options else None) (in_pairs words)
+
+-- what is given behind a command's word
+pub record Given : Type 0 where
+  pub plain : List Word
+  pub options : Options
+
+-- so many plain words, and options with these names behind them
+unfoldable pub given_in : ℕ → OptionNames → List Word → Option Given
+given_in plain names words =
+    if nat_le plain (length words) then option_map (λ options. record { plain = take plain words; options = options }) (options_in names (drop plain words)) else None
+
+-- ---- the table of commands
+
+abbrev pub form_of : Word → Option Style
 form_of word = look_up word ((codes "free", Free) ∷ (codes "fixed", Fixed) ∷ [])
 
--- the commands that read a text, in this form
-abbrev pub reading_of : List ℕ → Style → Option CommandLine
-reading_of word form = look_up word ((codes "solve", Solve form) ∷ (codes "check", Check form) ∷ [])
+-- the form that a text is read in, if its word is one; the free one unless another is given
+abbrev pub form_given : Option Word → Option Style
+form_given None = Some Free
+form_given (Some word) = form_of word
 
--- what the words behind the program's name ask; a text is read in free form, unless another form is given
-unfoldable pub command_line_of : List (List ℕ) → Option CommandLine
-command_line_of (word ∷ []) = if same word (codes "run") then Some Run else reading_of word Free
-command_line_of (word ∷ option ∷ form ∷ []) = if same option (codes "--form") then option_and_then (reading_of word) (form_of form) else None
-command_line_of words = None
+-- a command: how many plain words it has, the names of its options, and what it asks with these
+pub record Row : Type 0 where
+  pub plain : ℕ
+  pub names : OptionNames
+  pub asks : Given → Option CommandLine
+
+abbrev pub run_row : Row
+run_row = record { plain = 0; names = []; asks = λ given. Some Run }
+
+abbrev pub text_row : TextCommand → Row
+text_row command = record {
+  plain = 0;
+  names = codes "--form" ∷ [];
+  asks = λ given. option_map (Read command) (form_given (look_up (codes "--form") given.options));
+}
+
+abbrev pub commands : List (Word × Row)
+commands = (codes "run", run_row) ∷ (codes "solve", text_row Solve) ∷ (codes "check", text_row Check) ∷ []
+
+-- what the words behind a command's word ask
+abbrev pub asked_by : List Word → Row → Option CommandLine
+asked_by words row = option_and_then row.asks (given_in row.plain row.names words)
+
+-- what the words behind the program's name ask
+unfoldable pub command_line_of : List Word → Option CommandLine
+command_line_of [] = None
+command_line_of (word ∷ words) = option_and_then (asked_by words) (look_up word commands)

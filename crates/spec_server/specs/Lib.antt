@@ -10,4 +10,5 @@ pub mod Script
 pub mod Said
 pub mod CheckOut
 pub mod SolveOut
+pub mod TextOut
 pub mod CommandLine

@@ -1,6 +1,6 @@
 -- What is said of an input that is read line by line, each line a step from what was read before it, up to the line at which
 -- something is said.
-use Rattle.std.specs.Prelude.{ℕ, ◌≡◌, ◌⊎◌, Option, Some, None, List, [], ◌∷◌, ◌++◌, take}
+use Rattle.std.specs.Prelude.{ℕ, ◌≡◌, ◌≤◌, ◌⊎◌, Option, Some, None, List, [], ◌∷◌, ◌++◌, length, take}
 use Rattle.std.specs.Io.KnownBytes.{IsAtEnd}
 use Rattle.spec_text.specs.declared.line.Line.{Line}
 use Rattle.spec_text.specs.declared.line.Line.TheVariants.{End}
@@ -22,13 +22,14 @@ said_by step stage (line ∷ lines) = follow (step stage line) (λ next. said_by
 
 -- ---- what is said of the bytes that were read, by what lines say
 
--- whatever follows these bytes
+-- whatever follows these bytes, by the lines that end as far as an input may be read
 abbrev pub IsSaidEarly : {R : Type 0} → (List (Line (List ℕ)) → Option R) → List ℕ → R → Type 0
-IsSaidEarly said read what = (more : List ℕ) → said (lines_of (read ++ more)) ≡ Some what
+IsSaidEarly said read what = (more : List ℕ) → said (ended_lines_of (take input_limit (read ++ more))) ≡ Some what
 
--- at the end of the input
+-- at the end of an input that is no longer than may be read
 pub record IsSaidAtEnd {R : Type 0} (said : List (Line (List ℕ)) → Option R) (after : Option (List ℕ)) (read : List ℕ) (what : R) : Type 0 where
   pub all : said (lines_of read ++ End ∷ []) ≡ Some what
+  pub within : length read ≤ input_limit
   pub at_end : IsAtEnd after
 
 abbrev pub IsSaid : {R : Type 0} → (List (Line (List ℕ)) → Option R) → Option (List ℕ) → List ℕ → R → Type 0

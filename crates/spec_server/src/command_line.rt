@@ -1,13 +1,20 @@
 // The command lines of the program.
 use spec_mps::Style;
 
+/// A command that reads the text of a model, and says something of it.
+#[derive(Clone, Copy, Debug, PartialEq, Eq)]
+pub enum TextCommand {
+    /// To solve the model.
+    Solve,
+    /// To check the certificate behind the text.
+    Check,
+}
+
 /// What the words of a command line ask.
 #[derive(Clone, Copy, Debug, PartialEq, Eq)]
 pub enum CommandLine {
     /// To run the script that the source gives.
     Run,
-    /// To solve the model whose text in this form the source gives.
-    Solve(Style),
-    /// To check the certificate that the source gives behind the text of a model in this form.
-    Check(Style),
+    /// To read the text in this form that the source gives.
+    Read(TextCommand, Style),
 }

@@ -18,6 +18,7 @@
 //! IsSaid                        what a step from line to line says of an input: specs/Said
 //! said, check_line              what the command `check` says of its input, and the line that it writes: specs/CheckOut
 //! text_said, SolveOut           what the command `solve` reads, and what it writes of it: specs/SolveOut
+//! said_of, MayWrite, code_of    the same for each command that reads a text, with its status: specs/TextOut
 //! script_out                    what is written of the replies: specs/Output
 #![tactic(auto)]
 
@@ -61,7 +62,7 @@ pub use addressing::{Addressed, Addressing};
 pub use answer::{Answer, How, LastAnswer, Publication};
 pub use asks::{Ask, Asked, Refusal, Reply};
 pub use command::{Command, CommandWord, EditWord, LineFault, Plain};
-pub use command_line::CommandLine;
+pub use command_line::{CommandLine, TextCommand};
 
 /// What a session says of a certificate with a yes is true of the model that it holds.
 pub fn accepted_certificates_are_true()

@@ -1,4 +1,4 @@
--- Where something is said, and where the reading stops.
+-- Where something is said, and where the reading halts.
 use Rattle.std.proofs.Common.{◌∙◌, ap, arith, Ok, Err, subst}
 use Rattle.std.proofs.lemmas.Result.{err_from_is_err_and}
 use Rattle.spec_text.specs.declared.line.Line.TheVariants.{Over}
@@ -28,7 +28,7 @@ returns-in_err-next-in_default g c =
 
 pub returns-in-Says : goal.returns-in-Says
 returns-in-Says g c = record {
-  output = says_so c.loop-lines.invariant.turn _ _ c.in_ok-line.line c.in_ok-line.ensures.line c.in_default.not-Over c.in-Says.said
+  output = says_so c.loop-lines.invariant.turn _ (g.met.T.Stage.silent c.loop-lines.stage) _ c.in_ok-line.line c.in_ok-line.ensures.line c.in_default.not-Over c.in-Says.said
       (subst (Leads g.T.Stage.said g.T.Stage.count c.loop-lines.stage c.in_ok-line.line) c.in-Says.is c.in_ok-next-in_default.ensures);
   read = said_no_fault c.in-Says.said;
 }

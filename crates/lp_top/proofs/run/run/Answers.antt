@@ -1,4 +1,4 @@
--- Where the run begins, goes on and stops.
+-- Where the run begins, goes on and halts.
 use Rattle.std.proofs.Common.{◌∙◌, ap, arith, inl, inr, ⊎_elim, Err}
 use Rattle.std.proofs.lemmas.Result.{err_from_is_err_and}
 use Rattle.spec_server.specs.Script.{Ended, Cut}
@@ -39,7 +39,7 @@ pub returns-in_err-answer-in-Ask-clause-output : goal.returns-in_err-answer-in-A
 returns-in_err-answer-in-Ask-clause-output g c =
     let p = err_from_is_err_and c.from_residual-in_err-answer-in-Ask.result c.from_residual-in_err-answer-in-Ask.ensures.1 in
     stops_so (in_answer _ c.loop-sessions.invariant.turn _ _ c.in-Ask.asked (takes_as _ _ _ _ _ (taken.Ask c.in-Ask.asked) c.in-Ask.is c.in_ok-asked.ensures.taken) c.answer.ensures.part) c.from_residual-in_err-answer-in-Ask.result p.0 p.1
-    (⊎_elim (λ e. inl (p.2 ∙ e)) (λ e. inr (p.2 ∙ e)) c.in_err-answer-in-Ask.ensures.stops)
+    (⊎_elim (λ e. inl (p.2 ∙ e)) (λ e. inr (p.2 ∙ e)) c.in_err-answer-in-Ask.ensures.halts)
 
 pub returns-in-End-clause-output : goal.returns-in-End-clause-output
 returns-in-End-clause-output g c = ended _ c.loop-sessions.invariant.turn Ended (takes_as _ _ _ _ _ taken.End c.in-End.is c.in_ok-asked.ensures.taken)

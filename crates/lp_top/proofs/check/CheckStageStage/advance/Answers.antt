@@ -1,6 +1,6 @@
-use Rattle.lp_top.specs.declared.check_reader.CheckStage.TheVariants as stage
+use Rattle.lp_top.specs.declared.check.CheckStage.TheVariants as stage
 use Rattle.lp_top.proofs.CheckLines.{leads_from}
-use Rattle.lp_top.proofs.check_reader.CheckStageStage.advance.Goals as goal
+use Rattle.lp_top.proofs.check.CheckStageStage.advance.Goals as goal
 
 pub returns-in-Text : goal.returns-in-Text
 returns-in-Text c = leads_from c.args.self (stage.Text c.in-Text.reader) c.args.line.now c.text_line.result c.in-Text.is c.text_line.ensures

@@ -1,0 +1,374 @@
+-- The text of a model that may be kept, with the lines of a certificate behind it, is no longer than an input may be.
+use Rattle.std.proofs.Common.{◌≡◌, ℕ, zero, suc, ◌+◌, ◌-◌, ◌*◌, ◌≤◌, ◌<◌, ◌==◌, ◌&&◌, Bool, true, false, cond, Option, Some, None, List, [], ◌∷◌, ◌++◌, length, take, drop, map, get_or, replicate, refl, sym, ap, ◌∙◌, length-append, append_assoc, append-nil, arith, inl, inr, ⊎_elim}
+use Rattle.std.specs.Prelude.{codes, All, AllPairs}
+use Rattle.std.specs.List.{flat_map, list_any}
+use Rattle.std.proofs.lemmas.List.{length-replicate}
+use Rattle.std.proofs.Math.Seq.{take-append-add}
+use Rattle.std.proofs.Math.Nat.{mul-le-mul}
+use Rattle.spec_exact.specs.Fraction.{ℚ, 0ℚ, eq_ℚ, neg_ℚ, lt_ℚ}
+use Rattle.spec_exact.specs.Narrow.{IsNarrow}
+use Rattle.spec_text.specs.Lines.{input_limit}
+use Rattle.spec_model.specs.declared.parts.Sense.{Sense}
+use Rattle.spec_model.specs.declared.parts.Sense.TheVariants.{Min, Max}
+use Rattle.spec_model.specs.Model.{Model, Name, ExactRow, ExactColumn, no_column, width, height, row, column, part}
+use Rattle.spec_model.specs.Kept.{IsModel, IsKeptColumn, AreEntries, is_name}
+use Rattle.spec_mps.specs.declared.style.Style.{Style}
+use Rattle.spec_mps.specs.declared.style.Style.TheVariants.{Free, Fixed}
+use Rattle.spec_mps.specs.Fields.{Field, Fields}
+use Rattle.spec_mps.specs.NumberWritten.{number_text}
+use Rattle.spec_mps.specs.Written.{WrittenCard, WrittenCards, Head, Data, cards_of, name_card, sense_cards, rows_cards, columns_cards, sides_cards, ranges_cards, bounds_cards, section_card, type_card, number_card, bound_card, unbound_card, row_card, column_cards, side_cards, range_cards, bound_cards, has_range, has_bounds, first_column, padded, with_fields, line_text, cards_text}
+use Rattle.spec_mps.proofs.WrittenShort.{IsShort, IsShortCard, cards_short}
+use Rattle.spec_mps.proofs.NarrowNumbers.{zero_narrow}
+use Rattle.spec_check.specs.declared.certificate.Letter.{Letter}
+use Rattle.spec_check.specs.declared.certificate.Letter.TheVariants.{X, Y, R}
+use Rattle.spec_check.specs.declared.certificate.Certificate.{Certificate}
+use Rattle.spec_check.specs.declared.certificate.Certificate.TheVariants.{Optimal, Infeasible, Clash, Unbounded}
+use Rattle.spec_check.specs.Certificate.{IsFor, IsNarrowCertificate}
+use Rattle.spec_check.specs.TextWritten.{letter_text, part_text, part_lines, lines_below, column_lines, row_lines, kind_text, all_part_lines, certificate_lines}
+use Rattle.spec_server.specs.Output.{ended_lines}
+use Rattle.spec_server.proofs.PlainLines.{both_short, column_named, row_named}
+
+-- a text that is no longer than the limit, with more behind it
+pub take_behind : (limit : ℕ) (xs more : List ℕ) → length xs ≤ limit → take limit (xs ++ more) ≡ xs ++ take (limit - length xs) more
+take_behind limit xs more h =
+    let all : limit ≡ length xs + (limit - length xs) = omega arith in
+    ap (λ (n : ℕ). take n (xs ++ more)) all ∙ take-append-add xs more (limit - length xs)
+
+-- ---- a line
+
+abbrev AllFit : Fields → Type 0
+AllFit [] = Unit {0}
+AllFit (f ∷ fs) = (length f.text ≤ 100) × AllFit fs
+
+first_small : (n : ℕ) → first_column n ≤ 50
+first_small n = by (n == 1) (n == 2) (n == 3) (n == 4) (n == 5)
+  where
+    by : (a b c d e : Bool) → cond a 2 (cond b 5 (cond c 15 (cond d 25 (cond e 40 50)))) ≤ 50
+    by true b c d e = omega arith
+    by false true c d e = omega arith
+    by false false true d e = omega arith
+    by false false false true e = omega arith
+    by false false false false true = omega arith
+    by false false false false false = omega arith
+
+blanks_len : (k : ℕ) (line : List ℕ) → length (line ++ replicate k 32) ≡ length line + k
+blanks_len k line = length-append line (replicate k 32) ∙ ap (λ m. length line + m) (length-replicate k 32)
+
+-- blanks up to a column add nothing to a line that goes past it
+blanks_fit : (column size : ℕ) (line : List ℕ) → column ≤ 50 → length line ≤ size → 49 ≤ size → length (line ++ replicate (column - 1 - length line) 32) ≤ size
+blanks_fit column size line c h w =
+    let e : length (line ++ replicate (column - 1 - length line) 32) ≡ length line + (column - 1 - length line) = blanks_len (column - 1 - length line) line in
+    omega arith
+
+padded_fits : (style : Style) (n size : ℕ) (line : List ℕ) → length line ≤ size → 49 ≤ size → length (padded style n line) ≤ size + 1
+padded_fits Free n size line h w = let a = length-append line (32 ∷ []) in omega arith
+padded_fits Fixed n size line h w = let b = blanks_fit (first_column n) size line (first_small n) h w in omega arith
+
+fields_fit : (style : Style) (size : ℕ) (line : List ℕ) (fs : Fields) → AllFit fs → length line ≤ size → 49 ≤ size → length (with_fields style line fs) ≤ size + 101 * length fs
+fields_fit style size line [] f h w = omega arith
+fields_fit style size line (x ∷ fs) f h w =
+    let p = padded_fits style x.number size line h w in
+    let a = length-append (padded style x.number line) x.text in
+    let t = f.0 in
+    let r = fields_fit style (size + 101) (padded style x.number line ++ x.text) fs f.1 (omega arith) (omega arith) in
+    omega arith
+
+ended_len : (line : List ℕ) → length (line ++ 10 ∷ []) ≡ length line + 1
+ended_len line = length-append line (10 ∷ [])
+
+-- the most bytes of a card's line
+abbrev weight : WrittenCard → ℕ
+weight (Head start fields) = 505
+weight (Data fields) = 454
+
+data_fits : (style : Style) (fs : Fields) → AllFit fs → length fs ≤ 4 → length (line_text style (Data fs) ++ 10 ∷ []) ≤ 454
+data_fits style fs f few =
+    let e = ended_len (with_fields style [] fs) in
+    let l = fields_fit style 49 [] fs f (omega arith) (omega arith) in
+    omega arith
+
+head_fits : (style : Style) (start : List ℕ) (fs : Fields) → length start ≤ 100 → AllFit fs → length fs ≤ 4 → length (line_text style (Head start fs) ++ 10 ∷ []) ≤ 505
+head_fits style start fs s f few =
+    let e = ended_len (with_fields style start fs) in
+    let l = fields_fit style 100 start fs f s (omega arith) in
+    omega arith
+
+card_fits : (style : Style) (card : WrittenCard) → IsShortCard card → length (line_text style card ++ 10 ∷ []) ≤ weight card
+card_fits style (Data []) h = data_fits style [] tt h.1
+card_fits style (Data (a ∷ [])) h = data_fits style (a ∷ []) (h.0.0.fits, tt) h.1
+card_fits style (Data (a ∷ b ∷ [])) h = data_fits style (a ∷ b ∷ []) (h.0.0.fits, (h.0.1.0.fits, tt)) h.1
+card_fits style (Data (a ∷ b ∷ c ∷ [])) h = data_fits style (a ∷ b ∷ c ∷ []) (h.0.0.fits, (h.0.1.0.fits, (h.0.1.1.0.fits, tt))) h.1
+card_fits style (Data (a ∷ b ∷ c ∷ d ∷ [])) h = data_fits style (a ∷ b ∷ c ∷ d ∷ []) (h.0.0.fits, (h.0.1.0.fits, (h.0.1.1.0.fits, (h.0.1.1.1.0.fits, tt)))) h.1
+card_fits style (Data (a ∷ b ∷ c ∷ d ∷ e ∷ fs)) h = absurd (let few = h.1 in omega arith)
+card_fits style (Head start []) h = head_fits style start [] h.0.fits tt h.2
+card_fits style (Head start (a ∷ [])) h = head_fits style start (a ∷ []) h.0.fits (h.1.0.fits, tt) h.2
+card_fits style (Head start (a ∷ b ∷ [])) h = head_fits style start (a ∷ b ∷ []) h.0.fits (h.1.0.fits, (h.1.1.0.fits, tt)) h.2
+card_fits style (Head start (a ∷ b ∷ c ∷ [])) h = head_fits style start (a ∷ b ∷ c ∷ []) h.0.fits (h.1.0.fits, (h.1.1.0.fits, (h.1.1.1.0.fits, tt))) h.2
+card_fits style (Head start (a ∷ b ∷ c ∷ d ∷ [])) h = head_fits style start (a ∷ b ∷ c ∷ d ∷ []) h.0.fits (h.1.0.fits, (h.1.1.0.fits, (h.1.1.1.0.fits, (h.1.1.1.1.0.fits, tt)))) h.2
+card_fits style (Head start (a ∷ b ∷ c ∷ d ∷ e ∷ fs)) h = absurd (let few = h.2 in omega arith)
+
+-- ---- cards
+
+abbrev weights : WrittenCards → ℕ
+weights [] = 0
+weights (card ∷ cards) = weight card + weights cards
+
+cards_fit : (style : Style) (cards : WrittenCards) → All IsShortCard cards → length (cards_text style cards) ≤ weights cards
+cards_fit style [] h = omega arith
+cards_fit style (card ∷ cards) h =
+    let a = length-append (line_text style card ++ 10 ∷ []) (cards_text style cards) in
+    let c = card_fits style card (h 0 card (omega arith)) in
+    let r = cards_fit style cards (λ k d l. h (suc k) d (omega arith)) in
+    omega arith
+
+weights-append : (xs ys : WrittenCards) → weights (xs ++ ys) ≡ weights xs + weights ys
+weights-append [] ys = omega arith
+weights-append (x ∷ xs) ys = let r = weights-append xs ys in omega arith
+
+weights-map : {A : Type 0} (f : A → WrittenCard) (bound : ℕ) (xs : List A) → ((x : A) → weight (f x) ≤ bound) → weights (map f xs) ≤ bound * length xs
+weights-map f bound [] h = omega arith
+weights-map f bound (x ∷ xs) h = let a = h x in let r = weights-map f bound xs h in omega arith
+
+weights-flat_map : {A : Type 0} (f : A → WrittenCards) (bound : ℕ) (xs : List A) → All (λ x. weights (f x) ≤ bound) xs → weights (flat_map f xs) ≤ bound * length xs
+weights-flat_map f bound [] h = omega arith
+weights-flat_map f bound (x ∷ xs) h =
+    let a = weights-append (f x) (flat_map f xs) in
+    let c = h 0 x (omega arith) in
+    let r = weights-flat_map f bound xs (λ k d l. h (suc k) d (omega arith)) in
+    omega arith
+
+-- rows that ascend from one on, below another, are few
+few_entries : (low n : ℕ) (entries : List (ℕ × ℚ)) → low ≤ n → All (λ e. low ≤ e.0) entries → All (λ e. e.0 < n) entries → AllPairs (λ d e. d.0 < e.0) entries → low + length entries ≤ n
+few_entries low n [] within from below ascend = omega arith
+few_entries low n (e ∷ entries) within from below ascend =
+    let f = from 0 e (omega arith) in
+    let b = below 0 e (omega arith) in
+    let r = few_entries (e.0 + 1) n entries (omega arith)
+        (λ k d l. let a = ascend 0 (suc k) d (omega arith) (omega arith) in omega arith)
+        (λ k d l. below (suc k) d (omega arith))
+        (λ i k d p l. ascend (suc i) (suc k) d (omega arith) (omega arith)) in
+    omega arith
+
+-- ---- the cards of a model
+
+name_weighs : (name : Name) → weights (name_card name ∷ []) ≤ 505
+name_weighs name = omega arith
+
+sense_weighs : (sense : Sense) → weights (sense_cards sense) ≤ 505
+sense_weighs Min = omega arith
+sense_weighs Max = omega arith
+
+rows_weigh : (m : Model) → weights (rows_cards m) ≤ 959 + 454 * length m.rows
+unfolding rows_cards
+rows_weigh m = let r = weights-map row_card 454 m.rows (λ r. omega arith) in omega arith
+
+column_weighs : (m : Model) (n : ℕ) (c : ExactColumn) → IsKeptColumn n c → weights (column_cards m c) ≤ 454 + 454 * n
+column_weighs m n c k =
+    let w = weights-map (λ (e : ℕ × ℚ). number_card c.name (row m e.0).name e.1) 454 c.entries (λ e. omega arith) in
+    let f = few_entries 0 n c.entries (omega arith) (λ k d l. omega arith) k.entries.inside k.entries.ascending in
+    omega arith
+
+columns_weigh : (m : Model) → IsModel m → weights (columns_cards m) ≤ 505 + (454 + 454 * length m.rows) * length m.columns
+unfolding columns_cards
+columns_weigh m kept =
+    let w = weights-flat_map (column_cards m) (454 + 454 * length m.rows) m.columns (λ k d l. column_weighs m (length m.rows) (get_or m.columns k d) (kept.columns k d l)) in
+    omega arith
+
+side_weighs : (name : Name) (v : ℚ) → weights (side_cards name v) ≤ 454
+side_weighs name v = by (eq_ℚ v 0ℚ)
+  where
+    by : (t : Bool) → weights (cond t [] (number_card (codes "RHS") name v ∷ [])) ≤ 454
+    by true = omega arith
+    by false = omega arith
+
+sides_weigh : (m : Model) → weights (sides_cards m) ≤ 959 + 454 * length m.rows
+unfolding sides_cards
+sides_weigh m =
+    let s = side_weighs m.objective (neg_ℚ m.offset) in
+    let a = weights-append (side_cards m.objective (neg_ℚ m.offset)) (flat_map (λ (r : ExactRow). side_cards r.name r.rhs) m.rows) in
+    let w = weights-flat_map (λ (r : ExactRow). side_cards r.name r.rhs) 454 m.rows (λ k d l. side_weighs (get_or m.rows k d).name (get_or m.rows k d).rhs) in
+    omega arith
+
+range_weighs : (name : Name) (o : Option ℚ) → weights (range_cards name o) ≤ 454
+range_weighs name None = omega arith
+range_weighs name (Some v) = omega arith
+
+ranges_weigh : (m : Model) → weights (ranges_cards m) ≤ 505 + 454 * length m.rows
+unfolding ranges_cards
+ranges_weigh m = by (list_any has_range m.rows)
+  where
+    by : (t : Bool) → weights (cond t (section_card (codes "RANGES") ∷ flat_map (λ (r : ExactRow). range_cards r.name r.range) m.rows) []) ≤ 505 + 454 * length m.rows
+    by true = let w = weights-flat_map (λ (r : ExactRow). range_cards r.name r.range) 454 m.rows (λ k d l. range_weighs (get_or m.rows k d).name (get_or m.rows k d).range) in omega arith
+    by false = omega arith
+
+bound_weighs : (name : Name) (lower upper : Option ℚ) → weights (bound_cards name lower upper) ≤ 908
+bound_weighs name None None = omega arith
+bound_weighs name None (Some u) = omega arith
+bound_weighs name (Some l) None = by (eq_ℚ l 0ℚ)
+  where
+    by : (t : Bool) → weights (cond t [] (bound_card (codes "LO") name l ∷ [])) ≤ 908
+    by true = omega arith
+    by false = omega arith
+bound_weighs name (Some l) (Some u) = by (eq_ℚ l u) (eq_ℚ l 0ℚ && lt_ℚ 0ℚ u)
+  where
+    by : (s t : Bool) → weights (cond s (bound_card (codes "FX") name l ∷ []) (cond t (bound_card (codes "UP") name u ∷ []) (bound_card (codes "LO") name l ∷ bound_card (codes "UP") name u ∷ []))) ≤ 908
+    by true t = omega arith
+    by false true = omega arith
+    by false false = omega arith
+
+bounds_weigh : (m : Model) → weights (bounds_cards m) ≤ 505 + 908 * length m.columns
+unfolding bounds_cards
+bounds_weigh m = by (list_any has_bounds m.columns)
+  where
+    by : (t : Bool) → weights (cond t (section_card (codes "BOUNDS") ∷ flat_map (λ (c : ExactColumn). bound_cards c.name c.lower c.upper) m.columns) []) ≤ 505 + 908 * length m.columns
+    by true =
+        let w = weights-flat_map (λ (c : ExactColumn). bound_cards c.name c.lower c.upper) 908 m.columns (λ k d l. bound_weighs (get_or m.columns k d).name (get_or m.columns k d).lower (get_or m.columns k d).upper) in
+        omega arith
+    by false = omega arith
+
+-- the columns of the largest model
+most : (rows columns : ℕ) → rows ≤ 256 → columns ≤ 512 → (454 + 454 * rows) * columns ≤ 59739136
+most rows columns r c =
+    let each : 454 + 454 * rows ≤ 116678 = omega arith in
+    mul-le-mul each c
+
+cards_weigh : (m : Model) → IsModel m → weights (cards_of m) ≤ 61000000
+unfolding cards_of
+cards_weigh m kept =
+    let start : WrittenCards = name_card m.name ∷ sense_cards m.sense in
+    let a = weights-append start (rows_cards m) in
+    let b = weights-append (start ++ rows_cards m) (columns_cards m) in
+    let c = weights-append (start ++ rows_cards m ++ columns_cards m) (sides_cards m) in
+    let d = weights-append (start ++ rows_cards m ++ columns_cards m ++ sides_cards m) (ranges_cards m) in
+    let e = weights-append (start ++ rows_cards m ++ columns_cards m ++ sides_cards m ++ ranges_cards m) (bounds_cards m) in
+    let f = weights-append (start ++ rows_cards m ++ columns_cards m ++ sides_cards m ++ ranges_cards m ++ bounds_cards m) (section_card (codes "ENDATA") ∷ []) in
+    let sense = sense_weighs m.sense in
+    let rows = rows_weigh m in
+    let columns = columns_weigh m kept in
+    let sides = sides_weigh m in
+    let ranges = ranges_weigh m in
+    let bounds = bounds_weigh m in
+    let few_rows = kept.few_rows in
+    let few_columns = kept.few_columns in
+    let largest = most (length m.rows) (length m.columns) kept.few_rows kept.few_columns in
+    omega arith
+
+model_fits : (style : Style) (m : Model) → IsModel m → length (cards_text style (cards_of m)) ≤ 61000000
+model_fits style m kept =
+    let w = cards_weigh m kept in
+    let f = cards_fit style (cards_of m) (cards_short m kept) in
+    omega arith
+
+-- ---- the lines of a certificate
+
+size : List (List ℕ) → ℕ
+size lines = length (ended_lines lines)
+
+size-append : (xs ys : List (List ℕ)) → size (xs ++ ys) ≡ size xs + size ys
+unfolding size ended_lines
+size-append [] ys = omega arith
+size-append (x ∷ xs) ys =
+    let a = length-append (x ++ 10 ∷ []) (ended_lines (xs ++ ys)) in
+    let b = length-append (x ++ 10 ∷ []) (ended_lines xs) in
+    let r = size-append xs ys in
+    omega arith
+
+size_one : (line : List ℕ) → size (line ∷ []) ≡ length line + 1
+unfolding size ended_lines
+size_one line =
+    let a = length-append (line ++ 10 ∷ []) [] in
+    let e = ended_len line in
+    omega arith
+
+size_none : size [] ≡ 0
+unfolding size ended_lines
+size_none = refl
+
+part_fits : (letter : Letter) (name : Name) (v : ℚ) → is_name name ≡ true → IsNarrow v → size (part_lines letter name v) ≤ 204
+part_fits letter name v h n = by (eq_ℚ v 0ℚ)
+  where
+    letter_len : (l : Letter) → length (letter_text l) ≡ 1
+    letter_len X = refl
+    letter_len Y = refl
+    letter_len R = refl
+
+    by : (t : Bool) → size (cond t [] (part_text letter name v ∷ [])) ≤ 204
+    by true = let z = size_none in omega arith
+    by false =
+        let s = both_short name v h n in
+        let x = s.short_name.fits in
+        let y = s.short_number.fits in
+        let l = letter_len letter in
+        let a = length-append (letter_text letter) (32 ∷ (name ++ 32 ∷ number_text v)) in
+        let b = length-append name (32 ∷ number_text v) in
+        let o = size_one (part_text letter name v) in
+        omega arith
+
+below_fit : (letter : Letter) (names : ℕ → Name) (values : List ℚ) (n : ℕ) → ((k : ℕ) → k < n → is_name (names k) ≡ true) → ((k : ℕ) → k < n → IsNarrow (part values k))
+    → size (lines_below letter names values n) ≤ 204 * n
+below_fit letter names values zero h k = let z = size_none in omega arith
+below_fit letter names values (suc n) h k =
+    let a = size-append (lines_below letter names values n) (part_lines letter (names n) (part values n)) in
+    let r = below_fit letter names values n (λ i p. h i (omega arith)) (λ i p. k i (omega arith)) in
+    let p = part_fits letter (names n) (part values n) (h n (omega arith)) (k n (omega arith)) in
+    omega arith
+
+module _ (m : Model) (kept : IsModel m) where
+  columns_fit : (letter : Letter) (xs : List ℚ) → length xs ≡ width m → All IsNarrow xs → size (column_lines m letter xs) ≤ 204 * width m
+  columns_fit letter xs e h = below_fit letter (λ j. (column m j).name) xs (width m) (column_named m kept) (λ k l. h k 0ℚ (omega (arith, l, e)))
+
+  rows_fit : (letter : Letter) (xs : List ℚ) → length xs ≡ height m → All IsNarrow xs → size (row_lines m letter xs) ≤ 204 * height m
+  rows_fit letter xs e h = below_fit letter (λ i. (row m i).name) xs (height m) (row_named m kept) (λ k l. h k 0ℚ (omega (arith, l, e)))
+
+  wide : width m ≤ 512
+  wide = kept.few_columns
+
+  high : height m ≤ 256
+  high = kept.few_rows
+
+  parts_fit : (cert : Certificate (List ℚ)) → IsFor m cert → IsNarrowCertificate cert → size (all_part_lines m cert) ≤ 208896
+  parts_fit (Optimal x y) f n =
+      let a = size-append (column_lines m X x) (row_lines m Y y) in
+      let b = columns_fit X x f.0 n.0 in
+      let c = rows_fit Y y f.1 n.1 in
+      let w = wide in
+      let h = high in
+      omega arith
+  parts_fit (Infeasible y) f n = let c = rows_fit Y y f n in let h = high in omega arith
+  parts_fit (Unbounded x r) f n =
+      let a = size-append (column_lines m X x) (column_lines m R r) in
+      let b = columns_fit X x f.0 n.0 in
+      let c = columns_fit R r f.1 n.1 in
+      let w = wide in
+      omega arith
+  parts_fit (Clash j) f n = let z = size_none in omega arith
+
+  kind_fits : (cert : Certificate (List ℚ)) → IsFor m cert → length (kind_text m cert) ≤ 106
+  kind_fits (Optimal x y) f = omega arith
+  kind_fits (Infeasible y) f = omega arith
+  kind_fits (Unbounded x r) f = omega arith
+  kind_fits (Clash j) f =
+      let s = both_short (column m j).name 0ℚ (column_named m kept j f) zero_narrow in
+      let x = s.short_name.fits in
+      let a = length-append (codes "CLASH") (32 ∷ (column m j).name) in
+      omega arith
+
+  certificate_fits : (cert : Certificate (List ℚ)) → IsFor m cert → IsNarrowCertificate cert → size (certificate_lines m cert) ≤ 210000
+  unfolding certificate_lines
+  certificate_fits cert f n =
+      let a = size-append (kind_text m cert ∷ all_part_lines m cert) (codes "END" ∷ []) in
+      let b = size-append (kind_text m cert ∷ []) (all_part_lines m cert) in
+      let k = size_one (kind_text m cert) in
+      let kind = kind_fits cert f in
+      let parts = parts_fit cert f n in
+      let end = size_one (codes "END") in
+      omega arith
+
+pub text_fits : (style : Style) (m : Model) → IsModel m → (cert : Certificate (List ℚ)) → IsFor m cert → IsNarrowCertificate cert →
+    length (cards_text style (cards_of m) ++ ended_lines (certificate_lines m cert)) ≤ input_limit
+unfolding size
+text_fits style m kept cert f n =
+    let a = length-append (cards_text style (cards_of m)) (ended_lines (certificate_lines m cert)) in
+    let t = model_fits style m kept in
+    let c = certificate_fits m kept cert f n in
+    omega arith
