@@ -8,6 +8,8 @@
 
 mod session;
 mod solved;
+#[cfg(test)]
+mod tests;
 mod verdict;
 
 pub use session::{LastAnswer, OPENING_BUDGET, Session};
