@@ -1,25 +1,18 @@
 -- What the top call tells.
-use Rattle.std.proofs.Common.{◌≡◌, ◌⊎◌, ℕ, List, Option, Some, Ok, Err, arith, refl, sym, inl, inr, subst}
+use Rattle.std.proofs.Common.{◌≡◌, ◌⊎◌, ℕ, List, Option, Some, Ok, Err, arith, sym, inl, inr, subst}
 use Rattle.spec_text.specs.declared.line.Line.{Line}
 use Rattle.spec_server.specs.declared.command_line.CommandLine.{CommandLine}
-use Rattle.spec_server.specs.declared.command_line.CommandLine.TheVariants.{Run, Read}
 use Rattle.spec_server.specs.declared.command_line.TextCommand.{TextCommand}
-use Rattle.spec_server.specs.declared.command_line.TextCommand.TheVariants.{Solve, Check}
-use Rattle.spec_server.specs.declared.asks.Reply.TheVariants as reply
-use Rattle.spec_server.specs.Machine.{ExactReply}
-use Rattle.spec_server.specs.CheckOut.{check_code}
-use Rattle.spec_server.specs.SolveOut.{TextSaid, solve_code}
-use Rattle.spec_server.specs.TextOut.{SaidBy, said_of, MayWrite, code_of}
+use Rattle.spec_server.specs.TextOut.{said_of, MayWrite, code_of}
 use Rattle.spec_mps.specs.declared.style.Style.{Style}
 use Rattle.lp_top.specs.declared.halt.Halt.{Halt}
 use Rattle.lp_top.specs.declared.halt.Halt.TheVariants as halts
-use Rattle.lp_top.specs.declared.exit_status.ExitStatus.{ExitStatus}
-use Rattle.lp_top.specs.Hearing.{Says, SaysSo, TellsOf}
+use Rattle.lp_top.specs.Hearing.{SaysSo, TellsOf}
 use Rattle.lp_top.specs.Run.{Moves, EndsSo}
 use Rattle.lp_top.specs.Halt.{code_behind}
 use Rattle.lp_top.specs.Streams.{Streams}
 use Rattle.lp_top.specs.TextCommands.{ReadsText, TellsOfText}
-use Rattle.lp_top.specs.Top.{Tells, IsStatus, Does}
+use Rattle.lp_top.specs.Top.{Tells, Does}
 
 -- ---- a script
 

@@ -1,5 +1,5 @@
 -- What the top call reads and writes, by its status.
-use Rattle.std.specs.Prelude.{ℕ, ◌≡◌, ◌⊎◌, List, [], Option, Some, None}
+use Rattle.std.specs.Prelude.{ℕ, ◌≡◌, ◌⊎◌, [], Option, Some, None}
 use Rattle.std.specs.Io.KnownBytes.{Consumes, Appends}
 use Rattle.spec_server.specs.declared.command_line.CommandLine.{CommandLine}
 use Rattle.spec_server.specs.declared.command_line.CommandLine.TheVariants.{Run, Read}

@@ -58,7 +58,8 @@ fn ample_memory_is_enough(rt: HostRuntime) -> Result<(), Fail> {
         let text = format!(in alloc; "{input}{behind}")?;
         let mut src = source(alloc, &text, 4096, &[])?;
         let mut out = MemSink::new(alloc, Vec::new(alloc));
-        assert_eq!(rt; lpd_top(alloc, &words, &mut src, &mut out), ExitStatus::DONE, "{command}");
+        let status = lpd_top(alloc, &words, &mut src, &mut out);
+        assert_eq!(rt; status, ExitStatus::DONE);
     }
     Ok(())
 }

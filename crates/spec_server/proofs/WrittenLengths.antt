@@ -1,5 +1,5 @@
 -- The text of a model that may be kept, with the lines of a certificate behind it, is no longer than an input may be.
-use Rattle.std.proofs.Common.{◌≡◌, ℕ, zero, suc, ◌+◌, ◌-◌, ◌*◌, ◌≤◌, ◌<◌, ◌==◌, ◌&&◌, Bool, true, false, cond, Option, Some, None, List, [], ◌∷◌, ◌++◌, length, take, drop, map, get_or, replicate, refl, sym, ap, ◌∙◌, length-append, append_assoc, append-nil, arith, inl, inr, ⊎_elim}
+use Rattle.std.proofs.Common.{◌≡◌, ℕ, zero, suc, ◌+◌, ◌-◌, ◌*◌, ◌≤◌, ◌<◌, ◌==◌, ◌&&◌, Bool, true, false, cond, Option, Some, None, List, [], ◌∷◌, ◌++◌, length, take, map, get_or, replicate, refl, ap, ◌∙◌, length-append, arith}
 use Rattle.std.specs.Prelude.{codes, All, AllPairs}
 use Rattle.std.specs.List.{flat_map, list_any}
 use Rattle.std.proofs.lemmas.List.{length-replicate}
@@ -10,14 +10,14 @@ use Rattle.spec_exact.specs.Narrow.{IsNarrow}
 use Rattle.spec_text.specs.Lines.{input_limit}
 use Rattle.spec_model.specs.declared.parts.Sense.{Sense}
 use Rattle.spec_model.specs.declared.parts.Sense.TheVariants.{Min, Max}
-use Rattle.spec_model.specs.Model.{Model, Name, ExactRow, ExactColumn, no_column, width, height, row, column, part}
-use Rattle.spec_model.specs.Kept.{IsModel, IsKeptColumn, AreEntries, is_name}
+use Rattle.spec_model.specs.Model.{Model, Name, ExactRow, ExactColumn, width, height, row, column, part}
+use Rattle.spec_model.specs.Kept.{IsModel, IsKeptColumn, is_name}
 use Rattle.spec_mps.specs.declared.style.Style.{Style}
 use Rattle.spec_mps.specs.declared.style.Style.TheVariants.{Free, Fixed}
-use Rattle.spec_mps.specs.Fields.{Field, Fields}
+use Rattle.spec_mps.specs.Fields.{Fields}
 use Rattle.spec_mps.specs.NumberWritten.{number_text}
-use Rattle.spec_mps.specs.Written.{WrittenCard, WrittenCards, Head, Data, cards_of, name_card, sense_cards, rows_cards, columns_cards, sides_cards, ranges_cards, bounds_cards, section_card, type_card, number_card, bound_card, unbound_card, row_card, column_cards, side_cards, range_cards, bound_cards, has_range, has_bounds, first_column, padded, with_fields, line_text, cards_text}
-use Rattle.spec_mps.proofs.WrittenShort.{IsShort, IsShortCard, cards_short}
+use Rattle.spec_mps.specs.Written.{WrittenCard, WrittenCards, Head, Data, cards_of, name_card, sense_cards, rows_cards, columns_cards, sides_cards, ranges_cards, bounds_cards, section_card, number_card, bound_card, row_card, column_cards, side_cards, range_cards, bound_cards, has_range, has_bounds, first_column, padded, with_fields, line_text, cards_text}
+use Rattle.spec_mps.proofs.WrittenShort.{IsShortCard, cards_short}
 use Rattle.spec_mps.proofs.NarrowNumbers.{zero_narrow}
 use Rattle.spec_check.specs.declared.certificate.Letter.{Letter}
 use Rattle.spec_check.specs.declared.certificate.Letter.TheVariants.{X, Y, R}
@@ -144,9 +144,9 @@ few_entries low n (e ∷ entries) within from below ascend =
     let f = from 0 e (omega arith) in
     let b = below 0 e (omega arith) in
     let r = few_entries (e.0 + 1) n entries (omega arith)
-        (λ k d l. let a = ascend 0 (suc k) d (omega arith) (omega arith) in omega arith)
-        (λ k d l. below (suc k) d (omega arith))
-        (λ i k d p l. ascend (suc i) (suc k) d (omega arith) (omega arith)) in
+    (λ k d l. let a = ascend 0 (suc k) d (omega arith) (omega arith) in omega arith)
+    (λ k d l. below (suc k) d (omega arith))
+    (λ i k d p l. ascend (suc i) (suc k) d (omega arith) (omega arith)) in
     omega arith
 
 -- ---- the cards of a model

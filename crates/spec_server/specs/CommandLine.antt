@@ -1,6 +1,6 @@
 -- The command lines of the program: the word of a command, its plain words, and behind them its options, each a name and a value,
 -- in any order and each at most once.
-use Rattle.std.specs.Prelude.{ℕ, ◌&&◌, Bool, true, false, not, Option, Some, None, option_map, option_and_then, List, [], ◌∷◌, length, map, take, drop, nat_le, codes, if◌then◌else◌}
+use Rattle.std.specs.Prelude.{ℕ, ◌&&◌, Bool, true, not, Option, Some, None, option_map, option_and_then, List, [], ◌∷◌, length, map, take, drop, nat_le, codes, if◌then◌else◌}
 use Rattle.std.specs.List.{list_all, list_any}
 use Rattle.spec_text.specs.Words.{same}
 use Rattle.spec_mps.specs.declared.style.Style.{Style}
