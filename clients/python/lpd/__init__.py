@@ -18,8 +18,12 @@ from .errors import (
     BadName,
     BadNumber,
     CertificateFault,
+    ConnectFailed,
     LimitReached,
     LineTooLong,
+    LinkClosed,
+    LinkFailed,
+    LinkTimeout,
     LpdError,
     NameRepeated,
     NameTaken,
@@ -35,10 +39,11 @@ from .errors import (
     Unexpected,
     UnknownName,
 )
+from .link import Link
 from .model import Model, read_model
 from .program import Program, run
 from .replies import Accepted, Answer, Found, Infeasible, Loaded, Optimal, Past, Rejected, Spent, Unbounded, Verdict
-from .session import Session
+from .session import Session, connect
 
 __all__ = [
     "Accepted",
@@ -48,11 +53,16 @@ __all__ = [
     "BadNumber",
     "CertificateFault",
     "Certified",
+    "ConnectFailed",
     "Converted",
     "Found",
     "Infeasible",
     "LimitReached",
     "LineTooLong",
+    "Link",
+    "LinkClosed",
+    "LinkFailed",
+    "LinkTimeout",
     "Loaded",
     "LpdError",
     "Model",
@@ -82,6 +92,7 @@ __all__ = [
     "Verdict",
     "certify",
     "check",
+    "connect",
     "convert",
     "read_model",
     "run",

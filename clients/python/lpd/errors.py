@@ -21,6 +21,22 @@ class ProgramEnded(LpdError):
         super().__init__(f"lpd ended with status {status} before it replied: {STATUSES.get(status, 'a status of its own')}.{said}")
 
 
+class LinkFailed(LpdError):
+    """A link to a server failed. It is closed."""
+
+
+class ConnectFailed(LinkFailed):
+    """There is no server at the address, or it does not answer."""
+
+
+class LinkClosed(LinkFailed):
+    """The link was closed before the whole reply came."""
+
+
+class LinkTimeout(LinkFailed):
+    """The whole reply did not come in the time that it may take."""
+
+
 class OutOfMemory(LpdError):
     """Memory ran out in a command, and the session is as it was."""
 
@@ -179,6 +195,17 @@ STATUSES: Dict[Optional[int], str] = {
 
 def refusal(words: Sequence[str], line: str, body: Sequence[str] = ()) -> LpdError:
     """The exception for a reply of these words, from ERR on, to a command with this line and body."""
+    try:
+        return refusal_of(words, line, body)
+    except (IndexError, KeyError, ValueError):
+        return no_reply(words, line)
+
+
+def no_reply(words: Sequence[str], line: str) -> Unexpected:
+    return Unexpected(f"lpd replied {' '.join(words)[:200]!r} to {line[:200]!r}, which is no reply to this command")
+
+
+def refusal_of(words: Sequence[str], line: str, body: Sequence[str]) -> LpdError:
     reply, code, last = " ".join(words), words[1], words[-1]
 
     def stood(number: int) -> Optional[str]:
@@ -208,4 +235,4 @@ def refusal(words: Sequence[str], line: str, body: Sequence[str] = ()) -> LpdErr
     }
     if code in plain:
         return plain[code](reply, f"{whats[code]}, in {line[:200]!r}")
-    return Unexpected(f"lpd replied {reply!r} to {line!r}")
+    return no_reply(words, line)

@@ -43,27 +43,31 @@ class Program:
     def __exit__(self, kind: Optional[Type[BaseException]], error: Optional[BaseException], trace: Optional[TracebackType]) -> None:
         self.close()
 
-    def take_number(self) -> int:
-        """The number of a session that nobody has."""
+    def begin_session(self) -> List[str]:
+        """The number of a session that nobody has, which stands in front of its commands and replies."""
         if not self.free:
             raise ValueError(f"the program has {SESSIONS} sessions, and all are in use: close one")
-        return self.free.pop()
+        return [str(self.free.pop())]
 
-    def give_back(self, number: int) -> None:
-        self.free.append(number)
+    def end_session(self, front: Sequence[str]) -> None:
+        self.free += [int(number) for number in front]
 
-    def ask(self, lines: Sequence[str]) -> List[str]:
-        """Sends the lines of one command, and returns those of its reply."""
-        source, sink = self.pipes()
+    def send(self, lines: Sequence[str]) -> None:
+        """Sends the lines of one command."""
+        source, _ = self.pipes()
         try:
             source.write("".join(f"{line}\n" for line in lines).encode("latin-1"))
             source.flush()
         except (BrokenPipeError, ValueError):
             raise self.ended() from None
-        first = self.line_of(sink)
-        words = first.split(" ")
-        count = int(words[2]) if len(words) == 3 and words[1] in ("TEXT", "CERT") and words[2].isdigit() else 0
-        return [first] + [self.line_of(sink) for _ in range(count)]
+
+    def line(self) -> str:
+        """The next line of the reply."""
+        _, sink = self.pipes()
+        line = sink.readline()
+        if not line.endswith(b"\n"):
+            raise self.ended()
+        return line[:-1].decode("latin-1")
 
     def close(self) -> None:
         """Ends the input of the program, and waits for its end."""
@@ -81,12 +85,6 @@ class Program:
         if self.process.stdin is None or self.process.stdout is None:
             raise Unexpected("the program has no pipes")
         return self.process.stdin, self.process.stdout
-
-    def line_of(self, sink: IO[bytes]) -> str:
-        line = sink.readline()
-        if not line.endswith(b"\n"):
-            raise self.ended()
-        return line[:-1].decode("latin-1")
 
     def ended(self) -> ProgramEnded:
         """Why there is no reply. The program has ended, or it is ended here."""

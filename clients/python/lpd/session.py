@@ -1,19 +1,21 @@
-"""A session of the program: a model, its edits, its answers and their certificates."""
+"""A session of the program, or of a server: a model, its edits, its answers and their certificates."""
 from __future__ import annotations
 
 from fractions import Fraction
 from types import TracebackType
-from typing import List, Mapping, Optional, Sequence, Tuple, Type, Union
+from typing import List, Mapping, Optional, Protocol, Sequence, Tuple, Type, Union
 
 from .certificate import check_lines
-from .errors import OutOfMemory, Unexpected, refusal
+from .errors import OutOfMemory, Unexpected, no_reply, refusal
+from .link import TIMEOUT, Link
 from .model import Model, lines_of, read_lines, read_model, words_of
-from .number_text import parse, shown
+from .number_text import NotANumber, parse, shown
 from .program import Program
 from .replies import Accepted, Answer, Found, Infeasible, Known, Loaded, Optimal, Past, Rejected, Spent, Unbounded, Verdict
 
 # What may be given as a number: an int, a fraction, or its text, as "0.1". A float is not, since it is seldom what it looks like.
 Numeric = Union[int, Fraction, str]
+MOST_DIGITS = 9  # of a count in a reply
 
 
 def number_word(value: Numeric) -> str:
@@ -23,7 +25,17 @@ def number_word(value: Numeric) -> str:
 
 
 def value_of(text: str) -> Fraction:
-    return parse(text).value
+    """A number of a reply."""
+    try:
+        return parse(text).value
+    except NotANumber:
+        raise Unexpected(f"lpd replied {text[:200]!r} where a number stands") from None
+
+
+def count_of(text: str) -> int:
+    if not (text.isascii() and text.isdigit() and len(text) <= MOST_DIGITS):
+        raise Unexpected(f"lpd replied {text[:200]!r} where a count stands")
+    return int(text)
 
 
 def known_of(words: Sequence[str]) -> Optional[Known]:
@@ -38,33 +50,55 @@ def past_of(words: Sequence[str]) -> Optional[Past]:
     return Past(words[1], value_of(words[2]), value_of(words[3])) if len(words) == 4 and words[0] == "PAST" else None
 
 
-class Session:
-    """One session. Without a program it starts one of its own, which ends with it. Use it as a context manager, or close it."""
+class Transport(Protocol):
+    """What sessions talk over: a Program, or a Link."""
 
-    def __init__(self, program: Optional[Program] = None) -> None:
-        self.owns_program = program is None
-        self.program = program or Program()
-        self.number = self.program.take_number()
+    def begin_session(self) -> List[str]:
+        """The words that stand in front of each command of a new session, and of each reply to it."""
+
+    def end_session(self, front: Sequence[str]) -> None:
+        """The session with these words has ended."""
+
+    def send(self, lines: Sequence[str]) -> None:
+        """Sends the lines of one command."""
+
+    def line(self) -> str:
+        """The next line of the reply."""
+
+    def close(self) -> None:
+        """Ends all sessions."""
+
+
+class Session:
+    """One session. Without a transport it starts a program of its own. A transport that it owns ends with it. Use it as
+    a context manager, or close it."""
+
+    def __init__(self, transport: Optional[Transport] = None, owns_transport: bool = False) -> None:
+        self.owns_transport = owns_transport or transport is None
+        self.transport = transport or Program()
+        self.front = self.transport.begin_session()
         self.is_open = True
 
     def __enter__(self) -> Session:
         return self
 
     def __exit__(self, kind: Optional[Type[BaseException]], error: Optional[BaseException], trace: Optional[TracebackType]) -> None:
-        if self.owns_program:
+        if self.owns_transport:
             self.is_open = False
-            self.program.close()
+            self.transport.close()
         elif error is None:
             self.close()
 
     def close(self) -> None:
-        """Resets the session and gives its number back; ends a program of its own."""
+        """Resets the session, whose number is free again; ends a program of its own, or a link."""
         if self.is_open:
             self.is_open = False
-            self.expect("BYE", ["QUIT"])
-            self.program.give_back(self.number)
-            if self.owns_program:
-                self.program.close()
+            try:
+                self.expect("BYE", ["QUIT"])
+                self.transport.end_session(self.front)
+            finally:
+                if self.owns_transport:
+                    self.transport.close()
 
     # ---- models
 
@@ -74,7 +108,7 @@ class Session:
         words = self.ask(["LOAD", "FIXED" if fixed else "FREE"], body)
         if len(words) != 3 or words[0] != "LOADED":
             raise unexpected(words)
-        return Loaded(int(words[1]), int(words[2]))
+        return Loaded(count_of(words[1]), count_of(words[2]))
 
     def write(self, fixed: bool = False) -> str:
         """The text of the model."""
@@ -120,7 +154,7 @@ class Session:
 
     def solve(self) -> Answer:
         words = self.ask(["SOLVE"])
-        spent = Spent(int(words[1])) if len(words) == 2 and words[0] == "SPENT" else None
+        spent = Spent(count_of(words[1])) if len(words) == 2 and words[0] == "SPENT" else None
         answer = known_of(words) or past_of(words) or spent
         if answer is None:
             raise unexpected(words)
@@ -144,7 +178,7 @@ class Session:
         words = self.ask(["HOW"])
         if len(words) < 5 or words[0] != "HOW" or words[2] != "PIVOTS":
             raise unexpected(words)
-        return Found(words[1], None if words[3] == "-" else int(words[3]), " ".join(words[4:]))
+        return Found(words[1], None if words[3] == "-" else count_of(words[3]), " ".join(words[4:]))
 
     def check(self, certificate: Union[str, Sequence[str]]) -> Verdict:
         """The verdict of the proved checker on a certificate for the model."""
@@ -156,7 +190,7 @@ class Session:
             known = known_of(words[1:])
             verdict = None if known is None else Accepted(known)
         elif words[0] == "NO" and len(words) == 2:
-            verdict = Rejected(int(words[1]))
+            verdict = Rejected(count_of(words[1]))
         if verdict is None:
             raise unexpected(words)
         return verdict
@@ -173,29 +207,35 @@ class Session:
 
     def ask(self, words: Sequence[str], body: Sequence[str] = ()) -> List[str]:
         """The words of a reply of one line."""
-        return self.replied(words, body)[0].split(" ")[1:]
-
-    def lines(self, kind: str, words: Sequence[str]) -> List[str]:
-        """The lines after a reply of this kind."""
-        replied = self.replied(words, ())
-        if replied[0].split(" ")[1] != kind:
-            raise unexpected(replied[0].split(" ")[1:])
-        return replied[1:]
-
-    def replied(self, words: Sequence[str], body: Sequence[str]) -> List[str]:
         for word in words:
             if not word or any(c in " \t\r\n" for c in word):
                 raise ValueError(f"{word!r} is no word of a command: words are not empty, and have no blanks")
-        line = " ".join([str(self.number), *words])
-        replied = self.program.ask([line, *body])
-        first = replied[0].split(" ")
-        if first[0] != str(self.number):
-            raise Unexpected(f"lpd replied {replied[0]!r} to {line!r}, which is another session's")
-        if first[1] == "MEMORY":
+        line = " ".join([*self.front, *words])
+        self.transport.send([line, *body])
+        reply = self.transport.line()
+        front, replied = reply.split(" ")[: len(self.front)], reply.split(" ")[len(self.front) :]
+        if front != self.front:
+            raise Unexpected(f"lpd replied {reply[:200]!r} to {line!r}, which is another session's")
+        if not replied:
+            raise no_reply(replied, line)
+        if replied == ["MEMORY"]:
             raise OutOfMemory()
-        if first[1] == "ERR":
-            raise refusal(first[1:], line, body)
+        if replied[0] == "ERR":
+            raise refusal(replied, line, body)
         return replied
+
+    def lines(self, kind: str, words: Sequence[str]) -> List[str]:
+        """The lines after a reply of this kind."""
+        replied = self.ask(words)
+        if len(replied) != 2 or replied[0] != kind:
+            raise unexpected(replied)
+        return [self.transport.line() for _ in range(count_of(replied[1]))]
+
+
+def connect(host: str, port: int, timeout: float = TIMEOUT) -> Session:
+    """A session of the server at this address, over a link that ends with it. Connecting, and each reply, may take
+    `timeout` seconds."""
+    return Session(Link(host, port, timeout), owns_transport=True)
 
 
 def body_of(text: str, fixed: bool) -> List[str]:
@@ -209,4 +249,4 @@ def body_of(text: str, fixed: bool) -> List[str]:
 
 
 def unexpected(words: Sequence[str]) -> Unexpected:
-    return Unexpected(f"lpd replied {' '.join(words)!r}, which is no reply to this command")
+    return Unexpected(f"lpd replied {' '.join(words)[:200]!r}, which is no reply to this command")

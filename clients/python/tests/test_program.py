@@ -52,7 +52,7 @@ class WithTheProgram(unittest.TestCase):
             with self.assertRaises(ValueError):
                 lpd.Session(program)
             sessions[7].close()
-            self.assertEqual(lpd.Session(program).number, 8)
+            self.assertEqual(lpd.Session(program).front, ["8"])
 
     def test_a_script(self) -> None:
         self.assertEqual(lpd.run("1 SOLVE\n"), "1 ERR 4 NOMODEL\n")

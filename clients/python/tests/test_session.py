@@ -62,7 +62,6 @@ class Replayed(unittest.TestCase):
             ("1 MEMORY", lpd.OutOfMemory, "out of memory"),
             ("1 ERR 99 NEW", lpd.Unexpected, "ERR 99 NEW"),
             ("1 FINE", lpd.Unexpected, "FINE"),
-            ("2 LOADED 1 1", lpd.Unexpected, "another session's"),
         ]
         for reply, kind, words in cases:
             with self.subTest(reply), self.assertRaises(kind) as raised:
@@ -76,6 +75,22 @@ class Replayed(unittest.TestCase):
             with self.subTest(fault), self.assertRaises(lpd.TextFault) as raised:
                 self.session(f"1 ERR 8 MPS 2 M{fault}").load(TEXT)
             self.assertEqual(raised.exception.fault, fault)
+
+    def test_what_is_no_reply(self) -> None:
+        faulty = ("1 ERR", "1 ERR 8 MPS x M1", "1 ERR 8 MPS 1 M99")
+        for reply in ("1", "1 ", "1 LOADED", "1 LOADED a 1", "1 OPTIMAL 1", *faulty):
+            with self.subTest(reply), self.assertRaises(lpd.Unexpected):
+                self.session(reply).load(TEXT)
+        for reply in ("1 OPTIMAL", "1 OPTIMAL x", "1 SPENT x", "1 PAST ADD 1", "1 LOADED 1 1"):
+            with self.subTest(reply), self.assertRaises(lpd.Unexpected):
+                self.session(reply).solve()
+        for reply in ("1 CERT", "1 CERT x", "1 CERT 9999999999", "1 OK"):
+            with self.subTest(reply), self.assertRaises(lpd.Unexpected):
+                self.session(reply).certificate()
+
+    def test_the_reply_of_another_session(self) -> None:
+        with self.assertRaisesRegex(lpd.Unexpected, "another session's"):
+            self.session("2 OPTIMAL 1").solve()
 
     def test_an_end_in_mid_command(self) -> None:
         session = self.session("1 LOADED 1 1", "EXIT 5")

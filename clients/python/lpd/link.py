@@ -1,0 +1,111 @@
+"""A TCP link, which holds one session: commands and replies as in docs/PROTOCOL.md, without a session's number."""
+from __future__ import annotations
+
+import socket
+import time
+from collections import deque
+from typing import Deque, List, Optional, Sequence
+
+from .errors import ConnectFailed, LinkClosed, LinkFailed, LinkTimeout
+
+# No line of a reply, and no reply, is longer in bytes: a peer that sends more is no server of this protocol.
+LONGEST_LINE = 2**16
+LONGEST_REPLY = 2**26
+PIECE = 2**16
+TIMEOUT = 60.0
+
+
+class Link:
+    """A link to the server at this address. Connecting, and each reply from its command to its last byte, may take
+    `timeout` seconds. After a fault the link is closed, since what would come next is not the next command's reply."""
+
+    def __init__(self, host: str, port: int, timeout: float = TIMEOUT) -> None:
+        self.peer, self.timeout = f"{host}:{port}", timeout
+        self.is_taken = False
+        self.lines: Deque[bytes] = deque()
+        self.rest = b""
+        self.received = 0
+        self.deadline = 0.0
+        try:
+            self.socket: Optional[socket.socket] = socket.create_connection((host, port), timeout)
+            self.socket.setsockopt(socket.IPPROTO_TCP, socket.TCP_NODELAY, 1)
+        except socket.timeout:
+            raise ConnectFailed(f"{self.peer} does not answer within {timeout} seconds") from None
+        except OSError as error:
+            raise ConnectFailed(f"there is no link to {self.peer}: {error.strerror or error}") from None
+
+    def begin_session(self) -> List[str]:
+        """No words stand in front of a command."""
+        if self.is_taken:
+            raise ValueError("a link has one session: connect once more for another")
+        self.is_taken = True
+        return []
+
+    def end_session(self, front: Sequence[str]) -> None:
+        self.close()
+
+    def send(self, lines: Sequence[str]) -> None:
+        """Sends the lines of one command."""
+        if self.lines or self.rest:
+            sent = (self.lines or [self.rest])[0][:120]
+            raise self.failed(LinkFailed(f"{self.peer} sent {sent!r} when nothing was asked"))
+        self.deadline, self.received = time.monotonic() + self.timeout, 0
+        link = self.within()
+        try:
+            link.sendall("".join(f"{line}\n" for line in lines).encode("latin-1"))
+        except socket.timeout:
+            raise self.late() from None
+        except OSError as error:
+            raise self.ended(error) from None
+
+    def line(self) -> str:
+        """The next line of the reply."""
+        while not self.lines:
+            data = self.receive()
+            self.received += len(data)
+            *lines, self.rest = (self.rest + data).split(b"\n")
+            self.lines.extend(lines)
+            if len(self.rest) > LONGEST_LINE or self.received > LONGEST_REPLY:
+                raise self.failed(LinkFailed(f"{self.peer} sends without an end, which is no reply"))
+        return self.lines.popleft().decode("latin-1")
+
+    def close(self) -> None:
+        if self.socket is not None:
+            self.socket.close()
+            self.socket = None
+
+    def receive(self) -> bytes:
+        link = self.within()
+        try:
+            data = link.recv(PIECE)
+        except socket.timeout:
+            raise self.late() from None
+        except OSError as error:
+            raise self.ended(error) from None
+        if not data:
+            raise self.ended()
+        return data
+
+    def within(self) -> socket.socket:
+        """The socket, which waits for what is left of the time."""
+        if self.socket is None:
+            raise LinkClosed(f"the link to {self.peer} is closed")
+        left = self.deadline - time.monotonic()
+        if left <= 0:
+            raise self.late()
+        self.socket.settimeout(left)
+        return self.socket
+
+    def late(self) -> LinkFailed:
+        return self.failed(LinkTimeout(f"{self.peer} sent no whole reply within {self.timeout} seconds"))
+
+    def ended(self, error: Optional[OSError] = None) -> LinkFailed:
+        why = f": {error.strerror}" if error and error.strerror else ""
+        return self.failed(LinkClosed(f"{self.peer} closed the link before it replied{why}"))
+
+    def failed(self, fault: LinkFailed) -> LinkFailed:
+        """The fault, after which the link is closed and has nothing more to read."""
+        self.close()
+        self.lines.clear()
+        self.rest = b""
+        return fault
