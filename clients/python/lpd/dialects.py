@@ -55,6 +55,7 @@ DIALECTS = {
         Dialect("clp", free_mark=" FREE", maximize="-maximize", misreads=is_sign),
         Dialect("cbc", free_mark=" FREE", maximize="-maximize", misreads=is_sign),
         Dialect("esolver", offset_sign=0, reads_quotients=True),
+        Dialect("highs"),  # as HiGHS is documented; it was never tried
     )
 }
 

@@ -116,6 +116,34 @@ def read_esolver(said: str, folder: Path) -> Claim:
     return claim
 
 
+def read_highs_basis(text: str) -> Optional[Basis]:
+    """HiGHS's basis file, or the end of its solution file: for each column, and then for each row, a status, in version 2
+    behind its name. Without names they are numbered as the model has them."""
+    part = re.search(r"^Valid\s+# Columns \d+\s+([^#]*)# Rows \d+\s+([^#]*)", text, re.M)
+    if part is None:
+        return None
+    statuses = {"1": BASIC, "2": UPPER}  # 0 is at the lower limit, 3 a free one at 0, 4 not basic
+
+    def named(letter: str, words: List[str]) -> Dict[str, str]:
+        if words and not words[0].isdigit():
+            return {name: statuses.get(status, LOWER) for name, status in zip(words[::2], words[1::2])}
+        return {f"{letter}{n}": statuses.get(status, LOWER) for n, status in enumerate(words)}
+
+    return Basis(named("C", part[1].split()), named("R", part[2].split()))
+
+
+def read_highs(said: str, folder: Path) -> Claim:
+    """A solution file in the raw style: the status under Model status, Objective VALUE, and the basis at its end."""
+    text = content(folder / "solution")
+    status = re.search(r"^Model status\s+(\S.*)", text, re.M)
+    claim = Claim(status[1].strip() if status else "no solution file", basis=read_highs_basis(text))
+    if claim.said in ("Optimal", "Infeasible", "Unbounded"):
+        claim.said = claim.said.upper()
+    if claim.said == "OPTIMAL":
+        claim.value = value_in(r"(?m)^Objective (\S+)", text)
+    return claim
+
+
 NONE = "none"  # no solver: the exact steps begin where the sums of all rows are basic
 SOLVERS = {
     solver.name: solver
@@ -124,6 +152,8 @@ SOLVERS = {
         Solver("clp", ("-presolve", "off", "-primalsimplex", "-basisOut", "basis"), read_coin),
         Solver("cbc", ("-presolve", "off", "-initialSolve", "-basisOut", "basis"), read_coin),
         Solver("esolver", ("-O", "solution", "-b", "basis"), read_esolver),
+        # As HiGHS is documented; it was never run.
+        Solver("highs", ("--presolve", "off", "--solver", "simplex", "--solution_file", "solution"), read_highs),
     )
 }
 

@@ -106,8 +106,9 @@ def must_be_linear(problem: Any, relaxes: bool) -> None:
 
 
 class LPD(pulp.LpSolver):  # type: ignore[misc]
-    """The solver. `budget` is the most pivots; with `certify` another solver (glpsol, clp, cbc, esolver, or none) is asked for a
-    basis where lpd itself has no answer within 127 bits or the budget; `mip=False` takes whole-number variables as real ones."""
+    """The solver. `budget` is the most pivots; with `certify` another solver (glpsol, clp, cbc, esolver, highs, or none) is
+    asked for a basis where lpd itself has no answer within 127 bits or the budget; `mip=False` takes whole-number variables
+    as real ones."""
 
     name = "LPD"
 

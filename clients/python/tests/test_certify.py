@@ -7,10 +7,12 @@ import json
 import os
 import random
 import shutil
+import tempfile
 import unittest
 from fractions import Fraction
 from pathlib import Path
 from typing import Dict
+from unittest import mock
 
 import lpd
 from lpd.certificate import check_lines
@@ -18,12 +20,14 @@ from lpd.certifying import certified, certify
 from lpd.conversion import Options, convert
 from lpd.dialects import PROFILE, written
 from lpd.exact import BASIC, LOWER, UPPER, Basis, Factors, Simplex, Vector
-from lpd.floating import SOLVERS, Claim, read_bas
+from lpd.floating import SOLVERS, Claim, SolverMissing, ask, read_bas, read_highs, read_highs_basis
 
 from .commands import command
 from .models import has_program, some_model
 
 MODELS = Path(__file__).resolve().parents[3] / "examples" / "models"
+# What HiGHS is expected to write of diet.mps with plain names. It is written by hand.
+HIGHS = Path(__file__).with_name("highs.solution")
 WIDE = f"ROWS\n N cost\n G need\nCOLUMNS\n x cost 1 need 3\nRHS\n RHS need {10**50}\nENDATA\n"
 
 
@@ -96,6 +100,39 @@ class Claims(unittest.TestCase):
         self.assertEqual(basis, Basis({"C0": BASIC, "C1": BASIC, "C2": UPPER, "C3": LOWER}, {"R1": LOWER, "R0": UPPER}))
         self.assertIsNone(read_bas(""))
 
+    def test_the_basis_of_highs(self) -> None:
+        columns, rows = {"C0": UPPER, "C1": LOWER, "C2": LOWER, "C3": BASIC}, {"R0": LOWER, "R1": BASIC}
+        first = "HiGHS v1\nValid\n# Columns 4\n2 0 3 1 \n# Rows 2\n0 1 \n"
+        second = "HiGHS_basis_file v2\nValid\n# Columns 4\nC0 2\nC1 0\nC2 3\nC3 1\n# Rows 2\nR0 0\nR1 1\n"
+        for text in (first, second):
+            self.assertEqual(read_highs_basis(text), Basis(columns, rows))
+        for text in ("", "HiGHS v1\nNone\n", "Valid\n"):
+            self.assertIsNone(read_highs_basis(text))
+
+    def test_the_solution_of_highs(self) -> None:
+        cases = {
+            "Optimal": ("OPTIMAL", Fraction(185, 2)),
+            "Infeasible": ("INFEASIBLE", None),
+            "Unbounded": ("UNBOUNDED", None),
+            "Time limit reached": ("Time limit reached", None),
+        }
+        columns = dict(zip(["C0", "C1", "C2", "C3", "C4", "C5"], [UPPER, LOWER, LOWER, BASIC, UPPER, LOWER]))
+        with tempfile.TemporaryDirectory() as place:
+            self.assertEqual(read_highs("", Path(place)), Claim("no solution file"))
+            for status, (said, value) in cases.items():
+                (Path(place) / "solution").write_text(HIGHS.read_text().replace("Optimal", status))
+                basis = Basis(columns, {"R0": LOWER, "R1": BASIC, "R2": BASIC})
+                self.assertEqual(read_highs("", Path(place)), Claim(said, value, basis))
+
+    def test_a_solver_that_is_not_there(self) -> None:
+        model = lpd.read_model((MODELS / "diet.mps").read_text())
+        with tempfile.TemporaryDirectory() as place, mock.patch.dict(os.environ, {"PATH": place}):
+            for solver in SOLVERS:
+                with self.assertRaisesRegex(SolverMissing, f"^{solver} is not on the path$"):
+                    ask(solver, model)
+            said = command("certify", str(MODELS / "diet.mps"), "--with", "highs")
+        self.assertEqual((said.status, said.complaints), (3, "lpd: highs is not on the path\n"))
+
     def test_wrong_claims_do_not_matter(self) -> None:
         model = lpd.read_model((MODELS / "diet.mps").read_text())
         wrong = Claim("OPTIMAL", Fraction(91), parts=[("x", {"milk": Fraction(9)}), ("y", {})])
@@ -149,6 +186,20 @@ class BySolvers(unittest.TestCase):
 
     def test_esolver(self) -> None:
         self.by("esolver")
+
+    def test_highs(self) -> None:
+        self.by("highs")
+
+    def test_what_stands_in_for_highs(self) -> None:
+        with tempfile.TemporaryDirectory() as place:
+            program = Path(place) / "highs"
+            words = "model.mps --presolve off --solver simplex --solution_file solution"
+            program.write_text(f'#!/bin/sh\n[ "$*" = "{words}" ] && /bin/cp "{HIGHS}" solution\n')
+            program.chmod(0o755)
+            with mock.patch.dict(os.environ, {"PATH": place}):
+                found = certify((MODELS / "diet.mps").read_text(), "highs")
+        self.assertEqual((found.claim.said, found.claim.value), ("OPTIMAL", Fraction(185, 2)))
+        self.assertEqual((found.known, found.steps, found.narrow), (lpd.Optimal(Fraction(185, 2)), 0, True))
 
     def test_random_models(self) -> None:
         solvers = [name for name in SOLVERS if shutil.which(name)]
