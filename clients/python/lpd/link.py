@@ -17,7 +17,8 @@ TIMEOUT = 60.0
 
 class Link:
     """A link to the server at this address. Connecting, and each reply from its command to its last byte, may take
-    `timeout` seconds. After a fault the link is closed, since what would come next is not the next command's reply."""
+    `timeout` seconds; how long a host's name is looked up is the system's matter. After a fault the link is closed, since
+    what would come next is not the next command's reply."""
 
     def __init__(self, host: str, port: int, timeout: float = TIMEOUT) -> None:
         self.peer, self.timeout = f"{host}:{port}", timeout
@@ -44,15 +45,15 @@ class Link:
     def end_session(self, front: Sequence[str]) -> None:
         self.close()
 
-    def send(self, lines: Sequence[str]) -> None:
+    def send(self, command: bytes) -> None:
         """Sends the lines of one command."""
-        if self.lines or self.rest:
-            sent = (self.lines or [self.rest])[0][:120]
-            raise self.failed(LinkFailed(f"{self.peer} sent {sent!r} when nothing was asked"))
+        unasked = self.unasked()
+        if unasked:
+            raise self.failed(LinkFailed(f"{self.peer} sent {unasked[:120]!r} when nothing was asked"))
         self.deadline, self.received = time.monotonic() + self.timeout, 0
         link = self.within()
         try:
-            link.sendall("".join(f"{line}\n" for line in lines).encode("latin-1"))
+            link.sendall(command)
         except socket.timeout:
             raise self.late() from None
         except OSError as error:
@@ -73,6 +74,16 @@ class Link:
         if self.socket is not None:
             self.socket.close()
             self.socket = None
+
+    def unasked(self) -> bytes:
+        """What came since the end of the last reply. It would be taken for the reply to the next command."""
+        if self.socket is not None and not self.lines and not self.rest:
+            self.socket.settimeout(0)
+            try:
+                self.rest = self.socket.recv(PIECE)
+            except OSError:
+                pass  # nothing came, or the link has ended, as the next step will find
+        return b"\n".join([*self.lines, self.rest])
 
     def receive(self) -> bytes:
         link = self.within()

@@ -52,11 +52,11 @@ class Program:
     def end_session(self, front: Sequence[str]) -> None:
         self.free += [int(number) for number in front]
 
-    def send(self, lines: Sequence[str]) -> None:
+    def send(self, command: bytes) -> None:
         """Sends the lines of one command."""
         source, _ = self.pipes()
         try:
-            source.write("".join(f"{line}\n" for line in lines).encode("latin-1"))
+            source.write(command)
             source.flush()
         except (BrokenPipeError, ValueError):
             raise self.ended() from None

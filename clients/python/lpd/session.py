@@ -59,7 +59,7 @@ class Transport(Protocol):
     def end_session(self, front: Sequence[str]) -> None:
         """The session with these words has ended."""
 
-    def send(self, lines: Sequence[str]) -> None:
+    def send(self, command: bytes) -> None:
         """Sends the lines of one command."""
 
     def line(self) -> str:
@@ -211,7 +211,7 @@ class Session:
             if not word or any(c in " \t\r\n" for c in word):
                 raise ValueError(f"{word!r} is no word of a command: words are not empty, and have no blanks")
         line = " ".join([*self.front, *words])
-        self.transport.send([line, *body])
+        self.transport.send(encoded([line, *body]))
         reply = self.transport.line()
         front, replied = reply.split(" ")[: len(self.front)], reply.split(" ")[len(self.front) :]
         if front != self.front:
@@ -230,6 +230,15 @@ class Session:
         if len(replied) != 2 or replied[0] != kind:
             raise unexpected(replied)
         return [self.transport.line() for _ in range(count_of(replied[1]))]
+
+
+def encoded(lines: Sequence[str]) -> bytes:
+    """The lines as bytes, one for each character."""
+    text = "".join(f"{line}\n" for line in lines)
+    try:
+        return text.encode("latin-1")
+    except UnicodeEncodeError as error:
+        raise ValueError(f"{text[error.start]!r} is no byte: read a file of another encoding as latin-1") from None
 
 
 def connect(host: str, port: int, timeout: float = TIMEOUT) -> Session:

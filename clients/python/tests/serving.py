@@ -5,10 +5,11 @@ from typing import Callable, Iterator, List
 
 from lpd.model import words_of
 from lpd.program import Program
+from lpd.session import encoded
 
 HOST = "127.0.0.1"
 SECONDS = 20.0
-Serve = Callable[[socket.socket], None]
+Serve = Callable[[socket.socket], object]
 
 
 class Server(threading.Thread):
@@ -59,11 +60,11 @@ def by_program(link: socket.socket) -> None:
     """Replies what a program does, to which each command goes with the number 1 in front."""
     with Program() as program:
         for command in commands(link):
-            program.send([f"1 {command[0]}", *command[1:]])
+            program.send(encoded([f"1 {command[0]}", *command[1:]]))
             reply = [program.line()[2:]]
             words = reply[0].split(" ")
             reply += [program.line() for _ in range(int(words[1]) if words[0] in ("TEXT", "CERT") else 0)]
-            link.sendall("".join(f"{line}\n" for line in reply).encode("latin-1"))
+            link.sendall(encoded(reply))
             if words == ["BYE"]:
                 return
 

@@ -1,5 +1,7 @@
 """Sessions over links: the replies of test_session without numbers, bad peers, and the program behind a server."""
+import select
 import socket
+import threading
 import time
 import unittest
 from fractions import Fraction
@@ -77,6 +79,7 @@ class BadPeers(Linked):
 
     def test_a_reset(self) -> None:
         def serve(link: socket.socket) -> None:
+            by_bytes(b"")(link)
             link.setsockopt(socket.SOL_SOCKET, socket.SO_LINGER, b"\1\0\0\0\0\0\0\0")
 
         session = self.link(serve)
@@ -106,9 +109,11 @@ class BadPeers(Linked):
         self.assertLess(time.monotonic() - started, 3)
 
     def test_a_peer_that_does_not_read(self) -> None:
-        session = self.link(lambda link: time.sleep(2), 0.5)
+        is_over = threading.Event()
+        session = self.link(lambda link: not is_over.wait(10), 0.5)
         with self.assertRaises(lpd.LinkTimeout):
             session.load(f"* {'x' * 10_000}\n" * 3000 + test_session.TEXT)
+        is_over.set()
 
     def test_no_end_of_a_line_or_a_reply(self) -> None:
         def serve(link: socket.socket) -> None:
@@ -124,6 +129,19 @@ class BadPeers(Linked):
         session = self.link(by_bytes(b"OPTIMAL 1\nOPTIMAL 2\n", stays=True))
         self.assertEqual(session.solve(), lpd.Optimal(Fraction(1)))
         with self.assertRaisesRegex(lpd.LinkFailed, "when nothing was asked"):
+            session.solve()
+
+    def test_a_second_reply_that_comes_later(self) -> None:
+        def serve(link: socket.socket) -> None:
+            by_bytes(b"OPTIMAL 1\n")(link)
+            time.sleep(0.1)
+            link.sendall(b"OPTIMAL 2\n")
+            link.recv(1)
+
+        session = self.link(serve)
+        self.assertEqual(session.solve(), lpd.Optimal(Fraction(1)))
+        select.select([session.transport.socket], [], [], 10)
+        with self.assertRaisesRegex(lpd.LinkFailed, r"sent b'OPTIMAL 2\\n' when nothing was asked"):
             session.solve()
 
     def test_a_link_has_one_session(self) -> None:

@@ -106,10 +106,13 @@ class Replayed(unittest.TestCase):
         for name in ("", "two words", "a\nb"):
             with self.assertRaises(ValueError):
                 session.delete_row(name)
+        with self.assertRaisesRegex(ValueError, "'\u0142' is no byte"):
+            session.load(f"* \u0142\n{TEXT}")
         with self.assertRaises(TypeError):
             session.set_cost("x", 0.1)  # type: ignore[arg-type]
         with self.assertRaises(lpd.TextFault):
             session.load("ROWS\n N cost\n")
+        session.delete_row("R1")
 
     def test_a_program_that_is_not_there(self) -> None:
         with self.assertRaises(lpd.ProgramMissing):
