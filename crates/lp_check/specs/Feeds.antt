@@ -4,10 +4,10 @@ use Rattle.spec_check.specs.declared.progress.Progress.TheVariants as progress
 use Rattle.spec_check.specs.Text.{ExactRaw, Outcome}
 use Rattle.lp_check.specs.declared.reader.CertFeed.{CertFeed}
 use Rattle.lp_check.specs.declared.reader.CertFeed.TheVariants as feed
-use Rattle.lp_check.specs.Reading.{Reading}
+use Rattle.lp_check.specs.CertificateRead.{CertificateRead}
 
 -- the text goes on behind line n
-pub record GoesOn (outcome : Outcome) (n : ℕ) (new : Reading) : Type 0 where
+pub record GoesOn (outcome : Outcome) (n : ℕ) (new : CertificateRead) : Type 0 where
   pub raw : ExactRaw
   pub state : outcome ≡ progress.More raw
   pub kept : new ≡ record { raw = Some raw; lines = n }
@@ -18,7 +18,7 @@ pub record IsUnfit (outcome : Outcome) (n line : ℕ) : Type 0 where
   pub number : line ≡ n
 
 -- the answer at line n of what its step leads to; want of memory says nothing
-abbrev pub Feeds : Outcome → ℕ → Reading → CertFeed → Type 0
+abbrev pub Feeds : Outcome → ℕ → CertificateRead → CertFeed → Type 0
 Feeds outcome n new feed.More = GoesOn outcome n new
 Feeds outcome n new (feed.Done raw) = outcome ≡ progress.Done raw
 Feeds outcome n new (feed.Refused line) = IsUnfit outcome n line

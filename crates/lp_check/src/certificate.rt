@@ -16,7 +16,7 @@ pub type Known = spec_check::Known<Frac>;
 pub type Verdict = spec_check::Verdict<Frac>;
 
 // Why a certificate shows nothing.
-pub(crate) type Stop = spec_check::Stop<Frac>;
+pub(crate) type CheckStop = spec_check::CheckStop<Frac>;
 
 /// One number of a certificate, for the column or the row with a name.
 pub type Part = spec_check::Part<Name, Frac>;

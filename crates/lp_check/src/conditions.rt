@@ -5,7 +5,7 @@ ghost use Rattle.spec_check.specs.Certificate.{IsFor};
 ghost use Rattle.spec_check.specs.Run as run;
 ghost use Rattle.lp_frac.specs.Narrow.{largest};
 
-use crate::certificate::{Certificate, Known, Stop, Verdict};
+use crate::certificate::{Certificate, Known, CheckStop, Verdict};
 use crate::farkas::{clash, infeasible};
 use crate::multipliers::{columns_tight, rows_tight};
 use crate::point::{columns_within, rows_within, value};
@@ -14,7 +14,7 @@ use lp_frac::Fracs;
 use lp_model::Model;
 
 // What a certificate of an optimum shows.
-fn optimal(model: &Model, x: &Fracs, y: &Fracs) -> Result<Known, Stop>
+fn optimal(model: &Model, x: &Fracs, y: &Fracs) -> Result<Known, CheckStop>
     requires point { length x.now ≡ width model.now }
     requires multipliers { length y.now ≡ height model.now }
     ensures { result ≡ run.optimal_run (Some largest) model.now x.now y.now }
@@ -27,7 +27,7 @@ fn optimal(model: &Model, x: &Fracs, y: &Fracs) -> Result<Known, Stop>
 }
 
 // What a certificate of a ray shows.
-fn unbounded(model: &Model, x: &Fracs, r: &Fracs) -> Result<Known, Stop>
+fn unbounded(model: &Model, x: &Fracs, r: &Fracs) -> Result<Known, CheckStop>
     requires point { length x.now ≡ width model.now }
     requires ray { length r.now ≡ width model.now }
     ensures { result ≡ run.unbounded_run (Some largest) model.now x.now r.now }
@@ -42,7 +42,7 @@ fn unbounded(model: &Model, x: &Fracs, r: &Fracs) -> Result<Known, Stop>
 
 // What the certificate shows, or why it shows nothing.
 #[tactic(auto, unfolding(spec_check::specs::Run::check_run))]
-fn accepted(model: &Model, cert: &Certificate) -> Result<Known, Stop>
+fn accepted(model: &Model, cert: &Certificate) -> Result<Known, CheckStop>
     requires { IsFor model.now cert.now }
     ensures { result ≡ run.check_run (Some largest) model.now cert.now }
 {
@@ -72,7 +72,7 @@ pub fn check(model: &Model, cert: &Certificate) -> Verdict
 {
     match accepted(model, cert) {
         Ok(known) => Verdict::Yes(known),
-        Err(Stop::No(n)) => Verdict::No(n),
-        Err(Stop::Past(past)) => Verdict::Past(past),
+        Err(CheckStop::No(n)) => Verdict::No(n),
+        Err(CheckStop::Past(past)) => Verdict::Past(past),
     }
 }

@@ -5,24 +5,24 @@ ghost use Rattle.spec_model.specs.Model.{width, height};
 ghost use Rattle.spec_check.specs.Run as run;
 ghost use Rattle.lp_frac.specs.Narrow.{largest};
 
-use crate::certificate::{Known, Stop};
+use crate::certificate::{Known, CheckStop};
 use crate::limits::{lower_limit, upper_limit};
 use crate::steps::{is_greater, is_less, is_negative, is_positive, need, part, plus_product};
 use lp_frac::{Frac, Fracs, cmp, zero};
 use lp_model::Model;
 
 // `d` times a limit that condition `n` asks for, onto `s`.
-fn weighed_at(n: u32, d: Frac, limit: Option<Frac>, s: Frac) -> Result<Frac, Stop>
+fn weighed_at(n: u32, d: Frac, limit: Option<Frac>, s: Frac) -> Result<Frac, CheckStop>
     ensures { result ≡ run.weighed_at n (Some largest) d limit s }
 {
     match limit {
-        None => Err(Stop::No(n)),
+        None => Err(CheckStop::No(n)),
         Some(k) => plus_product(d, k, s),
     }
 }
 
 // What row `i` asks for with its multiplier, onto `sum`.
-fn row_asks(model: &Model, y: &Fracs, i: u32, sum: Frac) -> Result<Frac, Stop>
+fn row_asks(model: &Model, y: &Fracs, i: u32, sum: Frac) -> Result<Frac, CheckStop>
     requires inside { i < height model.now }
     requires multipliers { length y.now ≡ height model.now }
     ensures { result ≡ run.row_asks_run (Some largest) model.now y.now i sum }
@@ -38,7 +38,7 @@ fn row_asks(model: &Model, y: &Fracs, i: u32, sum: Frac) -> Result<Frac, Stop>
 }
 
 // Condition 1: what all rows ask for.
-fn rows_ask(model: &Model, y: &Fracs) -> Result<Frac, Stop>
+fn rows_ask(model: &Model, y: &Fracs) -> Result<Frac, CheckStop>
     requires { length y.now ≡ height model.now }
     ensures { result ≡ run.rows_ask_run (Some largest) model.now y.now }
 {
@@ -50,7 +50,7 @@ fn rows_ask(model: &Model, y: &Fracs) -> Result<Frac, Stop>
 }
 
 // The multipliers' part in column `j`.
-fn priced(model: &Model, y: &Fracs, j: u32) -> Result<Frac, Stop>
+fn priced(model: &Model, y: &Fracs, j: u32) -> Result<Frac, CheckStop>
     requires inside { j < width model.now }
     requires multipliers { length y.now ≡ height model.now }
     ensures { result ≡ run.priced_run (Some largest) model.now y.now j }
@@ -63,7 +63,7 @@ fn priced(model: &Model, y: &Fracs, j: u32) -> Result<Frac, Stop>
 }
 
 // The most that column `j` gives, onto `sum`.
-fn column_gives(model: &Model, y: &Fracs, j: u32, sum: Frac) -> Result<Frac, Stop>
+fn column_gives(model: &Model, y: &Fracs, j: u32, sum: Frac) -> Result<Frac, CheckStop>
     requires inside { j < width model.now }
     requires multipliers { length y.now ≡ height model.now }
     ensures { result ≡ run.column_gives_run (Some largest) model.now y.now j sum }
@@ -80,7 +80,7 @@ fn column_gives(model: &Model, y: &Fracs, j: u32, sum: Frac) -> Result<Frac, Sto
 }
 
 // Condition 2: the most that all columns give.
-fn columns_give(model: &Model, y: &Fracs) -> Result<Frac, Stop>
+fn columns_give(model: &Model, y: &Fracs) -> Result<Frac, CheckStop>
     requires { length y.now ≡ height model.now }
     ensures { result ≡ run.columns_give_run (Some largest) model.now y.now }
 {
@@ -92,7 +92,7 @@ fn columns_give(model: &Model, y: &Fracs) -> Result<Frac, Stop>
 }
 
 // What multipliers show with which the columns give less than the rows ask for.
-pub(crate) fn infeasible(model: &Model, y: &Fracs) -> Result<Known, Stop>
+pub(crate) fn infeasible(model: &Model, y: &Fracs) -> Result<Known, CheckStop>
     requires { length y.now ≡ height model.now }
     ensures { result ≡ run.infeasible_run (Some largest) model.now y.now }
 {
@@ -103,17 +103,17 @@ pub(crate) fn infeasible(model: &Model, y: &Fracs) -> Result<Known, Stop>
 }
 
 // Condition 1: both bounds are there, and the lower one is above the upper one.
-fn crossed(lower: Option<Frac>, upper: Option<Frac>) -> Result<(), Stop>
+fn crossed(lower: Option<Frac>, upper: Option<Frac>) -> Result<(), CheckStop>
     ensures { result ≡ run.crossed_run (Some largest) lower upper }
 {
     match (lower, upper) {
         (Some(lower), Some(upper)) => need(1, is_greater(cmp(lower, upper)?)),
-        _ => Err(Stop::No(1)),
+        _ => Err(CheckStop::No(1)),
     }
 }
 
 // What a column shows whose bounds clash.
-pub(crate) fn clash(model: &Model, j: u32) -> Result<Known, Stop>
+pub(crate) fn clash(model: &Model, j: u32) -> Result<Known, CheckStop>
     requires { j < width model.now }
     ensures { result ≡ run.clash_run (Some largest) model.now j }
 {

@@ -3,13 +3,13 @@ ghost use Rattle.std.specs.Prelude.{◌≡◌, Some};
 ghost use Rattle.spec_check.specs.Run as run;
 ghost use Rattle.lp_frac.specs.Narrow.{largest};
 
-use crate::certificate::Stop;
+use crate::certificate::CheckStop;
 use crate::steps::is_negative;
 use lp_frac::{Frac, abs, add, sub};
 use lp_model::{Kind, Row};
 
 // The least that the row's sum may be, if there is one.
-pub(crate) fn lower_limit(row: &Row) -> Result<Option<Frac>, Stop>
+pub(crate) fn lower_limit(row: &Row) -> Result<Option<Frac>, CheckStop>
     ensures { result ≡ run.lower_run (Some largest) row.now }
 {
     let limit = match (row.kind, row.range) {
@@ -22,7 +22,7 @@ pub(crate) fn lower_limit(row: &Row) -> Result<Option<Frac>, Stop>
 }
 
 // The most that the row's sum may be, if there is one.
-pub(crate) fn upper_limit(row: &Row) -> Result<Option<Frac>, Stop>
+pub(crate) fn upper_limit(row: &Row) -> Result<Option<Frac>, CheckStop>
     ensures { result ≡ run.upper_run (Some largest) row.now }
 {
     let limit = match (row.kind, row.range) {

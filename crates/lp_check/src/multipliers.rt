@@ -5,7 +5,7 @@ ghost use Rattle.spec_check.specs.Checks.{signed as signed_by};
 ghost use Rattle.spec_check.specs.Run as run;
 ghost use Rattle.lp_frac.specs.Narrow.{largest};
 
-use crate::certificate::Stop;
+use crate::certificate::CheckStop;
 use crate::limits::{lower_limit, upper_limit};
 use crate::point::activity;
 use crate::steps::{is_negative, is_positive, less_product, need, part, stands_at};
@@ -23,7 +23,7 @@ pub(crate) fn signed(sense: Sense, cost: Frac) -> Frac
 }
 
 // What is left of the cost of column `j` without the multipliers' part.
-fn reduced(model: &Model, y: &Fracs, j: u32) -> Result<Frac, Stop>
+fn reduced(model: &Model, y: &Fracs, j: u32) -> Result<Frac, CheckStop>
     requires inside { j < width model.now }
     requires multipliers { length y.now ≡ height model.now }
     ensures { result ≡ run.reduced_run (Some largest) model.now y.now j }
@@ -49,7 +49,7 @@ fn is_tight(column: &Column, reduced: Frac, value: Frac) -> bool
 }
 
 // Condition 3 at column `j`.
-fn column_tight(model: &Model, x: &Fracs, y: &Fracs, j: u32) -> Result<(), Stop>
+fn column_tight(model: &Model, x: &Fracs, y: &Fracs, j: u32) -> Result<(), CheckStop>
     requires inside { j < width model.now }
     requires point { length x.now ≡ width model.now }
     requires multipliers { length y.now ≡ height model.now }
@@ -60,7 +60,7 @@ fn column_tight(model: &Model, x: &Fracs, y: &Fracs, j: u32) -> Result<(), Stop>
 }
 
 // Each column's value stands at the bound that its reduced cost asks for.
-pub(crate) fn columns_tight(model: &Model, x: &Fracs, y: &Fracs) -> Result<(), Stop>
+pub(crate) fn columns_tight(model: &Model, x: &Fracs, y: &Fracs) -> Result<(), CheckStop>
     requires point { length x.now ≡ width model.now }
     requires multipliers { length y.now ≡ height model.now }
     ensures { result ≡ run.each (width model.now) (run.column_tight_run (Some largest) model.now x.now y.now) }
@@ -72,7 +72,7 @@ pub(crate) fn columns_tight(model: &Model, x: &Fracs, y: &Fracs) -> Result<(), S
 }
 
 // Condition 4 at row `i`. The row's sum and limit are taken again.
-fn row_tight(model: &Model, x: &Fracs, y: &Fracs, i: u32) -> Result<(), Stop>
+fn row_tight(model: &Model, x: &Fracs, y: &Fracs, i: u32) -> Result<(), CheckStop>
     requires inside { i < height model.now }
     requires point { length x.now ≡ width model.now }
     requires multipliers { length y.now ≡ height model.now }
@@ -91,7 +91,7 @@ fn row_tight(model: &Model, x: &Fracs, y: &Fracs, i: u32) -> Result<(), Stop>
 }
 
 // Each row's sum stands at the limit that its multiplier asks for.
-pub(crate) fn rows_tight(model: &Model, x: &Fracs, y: &Fracs) -> Result<(), Stop>
+pub(crate) fn rows_tight(model: &Model, x: &Fracs, y: &Fracs) -> Result<(), CheckStop>
     requires point { length x.now ≡ width model.now }
     requires multipliers { length y.now ≡ height model.now }
     ensures { result ≡ run.each (height model.now) (run.row_tight_run (Some largest) model.now x.now y.now) }

@@ -4,14 +4,14 @@ ghost use Rattle.spec_model.specs.Model.{width, height};
 ghost use Rattle.spec_check.specs.Run as run;
 ghost use Rattle.lp_frac.specs.Narrow.{largest};
 
-use crate::certificate::Stop;
+use crate::certificate::CheckStop;
 use crate::limits::{lower_limit, upper_limit};
 use crate::steps::{at_least, at_most, part, plus_product};
 use lp_frac::{Frac, Fracs, add, zero};
 use lp_model::Model;
 
 // The value of column `j` is within the column's bounds.
-fn column_within(model: &Model, x: &Fracs, j: u32) -> Result<(), Stop>
+fn column_within(model: &Model, x: &Fracs, j: u32) -> Result<(), CheckStop>
     requires inside { j < width model.now }
     requires point { length x.now ≡ width model.now }
     ensures { result ≡ run.column_within_run (Some largest) model.now x.now j }
@@ -23,7 +23,7 @@ fn column_within(model: &Model, x: &Fracs, j: u32) -> Result<(), Stop>
 }
 
 // Each column's value is within its bounds.
-pub(crate) fn columns_within(model: &Model, x: &Fracs) -> Result<(), Stop>
+pub(crate) fn columns_within(model: &Model, x: &Fracs) -> Result<(), CheckStop>
     requires { length x.now ≡ width model.now }
     ensures { result ≡ run.columns_run (Some largest) model.now x.now }
 {
@@ -34,7 +34,7 @@ pub(crate) fn columns_within(model: &Model, x: &Fracs) -> Result<(), Stop>
 }
 
 // The sum of row `i`.
-pub(crate) fn activity(model: &Model, x: &Fracs, i: u32) -> Result<Frac, Stop>
+pub(crate) fn activity(model: &Model, x: &Fracs, i: u32) -> Result<Frac, CheckStop>
     requires inside { i < height model.now }
     requires point { length x.now ≡ width model.now }
     ensures { result ≡ run.activity_run (Some largest) model.now x.now i }
@@ -47,7 +47,7 @@ pub(crate) fn activity(model: &Model, x: &Fracs, i: u32) -> Result<Frac, Stop>
 }
 
 // The sum of row `i` is within the row's limits.
-fn row_within(model: &Model, x: &Fracs, i: u32) -> Result<(), Stop>
+fn row_within(model: &Model, x: &Fracs, i: u32) -> Result<(), CheckStop>
     requires inside { i < height model.now }
     requires point { length x.now ≡ width model.now }
     ensures { result ≡ run.row_within_run (Some largest) model.now x.now i }
@@ -59,7 +59,7 @@ fn row_within(model: &Model, x: &Fracs, i: u32) -> Result<(), Stop>
 }
 
 // Each row's sum is within the row's limits.
-pub(crate) fn rows_within(model: &Model, x: &Fracs) -> Result<(), Stop>
+pub(crate) fn rows_within(model: &Model, x: &Fracs) -> Result<(), CheckStop>
     requires { length x.now ≡ width model.now }
     ensures { result ≡ run.rows_run (Some largest) model.now x.now }
 {
@@ -70,7 +70,7 @@ pub(crate) fn rows_within(model: &Model, x: &Fracs) -> Result<(), Stop>
 }
 
 // The sum of the costs.
-pub(crate) fn cost(model: &Model, x: &Fracs) -> Result<Frac, Stop>
+pub(crate) fn cost(model: &Model, x: &Fracs) -> Result<Frac, CheckStop>
     requires { length x.now ≡ width model.now }
     ensures { result ≡ run.cost_run (Some largest) model.now x.now }
 {
@@ -82,7 +82,7 @@ pub(crate) fn cost(model: &Model, x: &Fracs) -> Result<Frac, Stop>
 }
 
 // What the objective is at the point.
-pub(crate) fn value(model: &Model, x: &Fracs) -> Result<Frac, Stop>
+pub(crate) fn value(model: &Model, x: &Fracs) -> Result<Frac, CheckStop>
     requires { length x.now ≡ width model.now }
     ensures { result ≡ run.value_run (Some largest) model.now x.now }
 {

@@ -4,7 +4,7 @@ ghost use Rattle.spec_model.specs.Model.{width, height};
 ghost use Rattle.spec_check.specs.Run as run;
 ghost use Rattle.lp_frac.specs.Narrow.{largest};
 
-use crate::certificate::Stop;
+use crate::certificate::CheckStop;
 use crate::limits::{lower_limit, upper_limit};
 use crate::multipliers::signed;
 use crate::point::{activity, cost};
@@ -33,7 +33,7 @@ fn not_above(limit: Option<Frac>, r: Frac) -> bool
 }
 
 // Condition 3 at column `j`.
-fn column_allows(model: &Model, r: &Fracs, j: u32) -> Result<(), Stop>
+fn column_allows(model: &Model, r: &Fracs, j: u32) -> Result<(), CheckStop>
     requires inside { j < width model.now }
     requires ray { length r.now ≡ width model.now }
     ensures { result ≡ run.column_allows_run model.now r.now j }
@@ -45,7 +45,7 @@ fn column_allows(model: &Model, r: &Fracs, j: u32) -> Result<(), Stop>
 }
 
 // Each column's bounds allow the ray.
-pub(crate) fn columns_allow(model: &Model, r: &Fracs) -> Result<(), Stop>
+pub(crate) fn columns_allow(model: &Model, r: &Fracs) -> Result<(), CheckStop>
     requires { length r.now ≡ width model.now }
     ensures { result ≡ run.each (width model.now) (run.column_allows_run model.now r.now) }
 {
@@ -56,7 +56,7 @@ pub(crate) fn columns_allow(model: &Model, r: &Fracs) -> Result<(), Stop>
 }
 
 // Condition 4 at row `i`.
-fn row_allows(model: &Model, r: &Fracs, i: u32) -> Result<(), Stop>
+fn row_allows(model: &Model, r: &Fracs, i: u32) -> Result<(), CheckStop>
     requires inside { i < height model.now }
     requires ray { length r.now ≡ width model.now }
     ensures { result ≡ run.row_allows_run (Some largest) model.now r.now i }
@@ -68,7 +68,7 @@ fn row_allows(model: &Model, r: &Fracs, i: u32) -> Result<(), Stop>
 }
 
 // Each row's limits allow the ray.
-pub(crate) fn rows_allow(model: &Model, r: &Fracs) -> Result<(), Stop>
+pub(crate) fn rows_allow(model: &Model, r: &Fracs) -> Result<(), CheckStop>
     requires { length r.now ≡ width model.now }
     ensures { result ≡ run.each (height model.now) (run.row_allows_run (Some largest) model.now r.now) }
 {
@@ -79,7 +79,7 @@ pub(crate) fn rows_allow(model: &Model, r: &Fracs) -> Result<(), Stop>
 }
 
 // Condition 5: the objective gets better along the ray.
-pub(crate) fn better(model: &Model, r: &Fracs) -> Result<(), Stop>
+pub(crate) fn better(model: &Model, r: &Fracs) -> Result<(), CheckStop>
     requires { length r.now ≡ width model.now }
     ensures { result ≡ run.better_run (Some largest) model.now r.now }
 {

@@ -31,9 +31,9 @@ pub struct CertReader {
 }
 
 impl Model for CertReader {
-    ghost use Rattle.lp_check.specs.Reading.{Reading};
+    ghost use Rattle.lp_check.specs.CertificateRead.{CertificateRead};
 
-    ghost Value = { Reading };
+    ghost Value = { CertificateRead };
 
     ghost view = { λ r. record { raw = r.raw; lines = r.lines } };
 }

@@ -5,7 +5,7 @@ ghost use Rattle.spec_model.specs.Model.{part as part_of};
 ghost use Rattle.spec_check.specs.Run as run;
 ghost use Rattle.lp_frac.specs.Narrow.{largest};
 
-use crate::certificate::Stop;
+use crate::certificate::CheckStop;
 use lp_frac::{Frac, Fracs, add, are_same, cmp, mul, sign, sub};
 use std::cmp::Ordering;
 
@@ -36,7 +36,7 @@ pub(crate) fn is_positive(v: Frac) -> bool
 }
 
 // `v * w` onto `s`.
-pub(crate) fn plus_product(v: Frac, w: Frac, s: Frac) -> Result<Frac, Stop>
+pub(crate) fn plus_product(v: Frac, w: Frac, s: Frac) -> Result<Frac, CheckStop>
     ensures { result ≡ run.plus_product (Some largest) v w s }
 {
     let product = mul(v, w)?;
@@ -45,7 +45,7 @@ pub(crate) fn plus_product(v: Frac, w: Frac, s: Frac) -> Result<Frac, Stop>
 }
 
 // `v * w` off `s`.
-pub(crate) fn less_product(v: Frac, w: Frac, s: Frac) -> Result<Frac, Stop>
+pub(crate) fn less_product(v: Frac, w: Frac, s: Frac) -> Result<Frac, CheckStop>
     ensures { result ≡ run.less_product (Some largest) v w s }
 {
     let product = mul(v, w)?;
@@ -54,36 +54,36 @@ pub(crate) fn less_product(v: Frac, w: Frac, s: Frac) -> Result<Frac, Stop>
 }
 
 // Condition `n`: `v` is at least the limit, if there is one.
-pub(crate) fn at_least(n: u32, limit: Option<Frac>, v: Frac) -> Result<(), Stop>
+pub(crate) fn at_least(n: u32, limit: Option<Frac>, v: Frac) -> Result<(), CheckStop>
     ensures { result ≡ run.at_least n (Some largest) limit v }
 {
     match limit {
         None => Ok(()),
         Some(k) => match cmp(v, k)? {
-            Ordering::Less => Err(Stop::No(n)),
+            Ordering::Less => Err(CheckStop::No(n)),
             Ordering::Equal | Ordering::Greater => Ok(()),
         },
     }
 }
 
 // Condition `n`: `v` is at most the limit, if there is one.
-pub(crate) fn at_most(n: u32, limit: Option<Frac>, v: Frac) -> Result<(), Stop>
+pub(crate) fn at_most(n: u32, limit: Option<Frac>, v: Frac) -> Result<(), CheckStop>
     ensures { result ≡ run.at_most n (Some largest) limit v }
 {
     match limit {
         None => Ok(()),
         Some(k) => match cmp(v, k)? {
             Ordering::Less | Ordering::Equal => Ok(()),
-            Ordering::Greater => Err(Stop::No(n)),
+            Ordering::Greater => Err(CheckStop::No(n)),
         },
     }
 }
 
 // Condition `n` asks that the test holds.
-pub(crate) fn need(n: u32, holds: bool) -> Result<(), Stop>
+pub(crate) fn need(n: u32, holds: bool) -> Result<(), CheckStop>
     ensures { result ≡ run.need n holds }
 {
-    if holds { Ok(()) } else { Err(Stop::No(n)) }
+    if holds { Ok(()) } else { Err(CheckStop::No(n)) }
 }
 
 // The limit is there, and `v` stands at it.

@@ -4,8 +4,8 @@ use Rattle.std.proofs.lemmas.List.{get_or-set_same, get_or-set_other, length-set
 use Rattle.spec_exact.specs.Fraction.{ℚ}
 use Rattle.spec_pivot.specs.declared.status.Status.{Status}
 use Rattle.spec_pivot.specs.declared.status.Status.TheVariants.{Basic, AtLower, AtUpper}
-use Rattle.spec_simplex.specs.declared.ends.Stop.{Stop}
-use Rattle.spec_simplex.specs.declared.ends.Stop.TheVariants as stop
+use Rattle.spec_simplex.specs.declared.ends.RunStop.{RunStop}
+use Rattle.spec_simplex.specs.declared.ends.RunStop.TheVariants as stop
 use Rattle.spec_simplex.specs.Run.{refused_as, steps}
 use Rattle.spec_simplex.specs.Step.{other_bound, flip_way, flip_run, flipped, CanFlip}
 use Rattle.spec_simplex.specs.Tableau.{Tableau, all_columns, reduced_at, status_at, lower_at, upper_at, is_fixed}
@@ -45,7 +45,7 @@ module _ (t : Tableau) (s : IsSeated t) (j : ℕ) (inside : j < all_columns t) (
   can_other k n c = record { column = c.column; nonbasic = λ e. c.nonbasic (sym (status_other k n) ∙ e); lower = c.lower; upper = c.upper }
 
 -- ---- all of them
-abbrev flip_at : Option ℕ → ℕ → ℕ → Reached → Result Reached (Stop ℚ)
+abbrev flip_at : Option ℕ → ℕ → ℕ → Reached → Result Reached (RunStop ℚ)
 flip_at limit budget k r = cond (needs_flip_at r.tableau k) (flip_next limit budget k r) (Ok r)
 
 abbrev begun : Tableau → Reached
@@ -70,10 +70,10 @@ module _ (limit : Option ℕ) (budget : ℕ) (first : Tableau) where
     late = λ j l. v.late j (omega (arith, l));
   }
 
-  needed : (k : ℕ) (r : Reached) (o : Result Reached (Stop ℚ)) → needs_flip_at r.tableau k ≡ true → flip_next limit budget k r ≡ o → flip_at limit budget k r ≡ o
+  needed : (k : ℕ) (r : Reached) (o : Result Reached (RunStop ℚ)) → needs_flip_at r.tableau k ≡ true → flip_next limit budget k r ≡ o → flip_at limit budget k r ≡ o
   needed k r o e h = ap (λ b. cond b (flip_next limit budget k r) (Ok r)) e ∙ h
 
-  pub flips_stop : (k : ℕ) (r : Reached) (s : Stop ℚ) → Flipping limit budget first k r → k < all_columns first → needs_flip_at r.tableau k ≡ true → flip_next limit budget k r ≡ Err s → flips_run limit budget first ≡ Err s
+  pub flips_stop : (k : ℕ) (r : Reached) (s : RunStop ℚ) → Flipping limit budget first k r → k < all_columns first → needs_flip_at r.tableau k ≡ true → flip_next limit budget k r ≡ Err s → flips_run limit budget first ≡ Err s
   unfolding flips_run
   flips_stop k r s v l e h = steps_stop k (all_columns first) (flip_at limit budget) (begun first) r s l v.so_far (needed k r (Err s) e h)
 
@@ -99,7 +99,7 @@ module _ (limit : Option ℕ) (budget : ℕ) (first : Tableau) where
         inside = omega (arith, l, v.columns)
 
     by_spent : (c : Bool) (q : Reached) → flip_by limit k r c ≡ Ok q → (u : Tableau) × (flip_run limit r.tableau k ≡ Ok u) × (one_more r u ≡ q)
-    by_spent true q h = let z : ◌≡◌ {A = Result Reached (Stop ℚ)} (Err stop.Spent) (Ok q) = h in cc
+    by_spent true q h = let z : ◌≡◌ {A = Result Reached (RunStop ℚ)} (Err stop.Spent) (Ok q) = h in cc
     by_spent false q h =
         let o = then_ok (refused_as stop.Past (flip_run limit r.tableau k)) (λ u. Ok (one_more r u)) q h in
         let z : one_more r o.0 ≡ q = cc in

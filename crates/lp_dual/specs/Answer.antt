@@ -1,17 +1,17 @@
 -- What the flips and the whole run answer, by the definitions at the limit of 127 bits.
 use Rattle.std.specs.Prelude.{◌≡◌, ℕ, ⊤, Result, Ok, Err}
 use Rattle.spec_exact.specs.Fraction.{ℚ}
-use Rattle.spec_simplex.specs.declared.ends.Stop.{Stop}
+use Rattle.spec_simplex.specs.declared.ends.RunStop.{RunStop}
 use Rattle.spec_simplex.specs.Tableau.{Tableau}
 use Rattle.spec_simplex.specs.declared.ends.DualEnd.{DualEnd}
 use Rattle.spec_simplex.specs.Dual.{Reached, DualEnded}
 
 -- flips lead to this tableau and this count, or stop so
-abbrev pub Reaches : Result Reached (Stop ℚ) → Tableau → ℕ → Result ⊤ (Stop ℚ) → Type 0
+abbrev pub Reaches : Result Reached (RunStop ℚ) → Tableau → ℕ → Result ⊤ (RunStop ℚ) → Type 0
 Reaches answer t used (Ok u) = answer ≡ Ok (record { tableau = t; used = used })
 Reaches answer t used (Err stop) = answer ≡ Err stop
 
 -- the run ends so, with this tableau and this count, or stops so
-abbrev pub DualRuns : Result DualEnded (Stop ℚ) → Tableau → ℕ → Result DualEnd (Stop ℚ) → Type 0
+abbrev pub DualRuns : Result DualEnded (RunStop ℚ) → Tableau → ℕ → Result DualEnd (RunStop ℚ) → Type 0
 DualRuns answer t used (Ok end) = answer ≡ Ok (record { end = end; tableau = t; used = used })
 DualRuns answer t used (Err stop) = answer ≡ Err stop

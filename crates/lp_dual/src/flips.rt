@@ -7,15 +7,15 @@ ghost use Rattle.lp_dual.specs.Starts.{IsDualStart, IsSeated};
 ghost use Rattle.lp_dual.specs.Answer.{Reaches};
 
 use crate::needs::needs_flip_at;
-use lp_tableau::{Stop, Tableau};
+use lp_tableau::{RunStop, Tableau};
 
 // Column `k` goes to its other bound, if the budget has a flip left.
-fn flip_next(tab: &mut Tableau, used: &mut u64, budget: u64, k: u32) -> Result<(), Stop>
+fn flip_next(tab: &mut Tableau, used: &mut u64, budget: u64, k: u32) -> Result<(), RunStop>
     requires { CanFlip tab.old k }
     ensures { Reaches (dual.flip_next (Some largest) budget k (record { tableau = tab.old; used = used.old })) tab.new used.new result }
 {
     if *used >= budget {
-        return Err(Stop::Spent);
+        return Err(RunStop::Spent);
     }
     tab.flip(k)?;
     *used += 1;
@@ -23,7 +23,7 @@ fn flip_next(tab: &mut Tableau, used: &mut u64, budget: u64, k: u32) -> Result<(
 }
 
 // Each column that needs its other bound goes there, in order.
-pub(crate) fn flips(tab: &mut Tableau, used: &mut u64, budget: u64) -> Result<(), Stop>
+pub(crate) fn flips(tab: &mut Tableau, used: &mut u64, budget: u64) -> Result<(), RunStop>
     requires none_used { used.old ≡ 0 }
     requires ready { IsDualStart tab.old }
     ensures flips { Reaches (dual.flips_run (Some largest) budget tab.old) tab.new used.new result }

@@ -3,7 +3,7 @@ ghost use Rattle.std.specs.Prelude.{◌≡◌, ◌-◌, IfOk, Some};
 ghost use Rattle.spec_simplex.specs.Dual as dual;
 ghost use Rattle.spec_simplex.specs.Tableau.{or_zero as or_zero_of, stand as stand_of};
 ghost use Rattle.lp_frac.specs.Narrow.{largest};
-ghost use Rattle.lp_tableau.specs.Answer.{Gives};
+ghost use Rattle.lp_tableau.specs.Answer.{GivesRun};
 ghost use Rattle.lp_dual.specs.Starts.{IsDualStart, IsSeated, CanEnter, IsPlace};
 ghost use Rattle.lp_dual.specs.Answer.{DualRuns};
 
@@ -11,7 +11,7 @@ use crate::choice::choice;
 use crate::flips::flips;
 use lp_form::Status;
 use lp_frac::{Frac, Past, div, sub, zero};
-use lp_tableau::{Stop, Tableau};
+use lp_tableau::{RunStop, Tableau};
 use spec_simplex::{DualChoice, DualEnd};
 
 fn or_zero(bound: Option<Frac>) -> Frac
@@ -38,7 +38,7 @@ fn stand(status: Status, lower: Option<Frac>, upper: Option<Frac>) -> Frac
 #[tactic(auto, unfolding(spec_simplex::specs::Dual::dual_pivot_run))]
 fn pivot(tab: &mut Tableau, place: u32, col: u32, to: Status) -> Result<(), Past>
     requires { CanEnter tab.old place col to }
-    ensures { Gives (dual.dual_pivot_run (Some largest) tab.old place col to) tab.new result }
+    ensures { GivesRun (dual.dual_pivot_run (Some largest) tab.old place col to) tab.new result }
 {
     let out = tab.basic(place);
     let gap = sub(tab.value(out), stand(to, tab.lower(out), tab.upper(out)))?;
@@ -47,7 +47,7 @@ fn pivot(tab: &mut Tableau, place: u32, col: u32, to: Status) -> Result<(), Past
 }
 
 // Steps up to an end.
-fn steps(tab: &mut Tableau, used: &mut u64, budget: u64) -> Result<DualEnd, Stop>
+fn steps(tab: &mut Tableau, used: &mut u64, budget: u64) -> Result<DualEnd, RunStop>
     requires { IsSeated tab.old }
     ensures runs { DualRuns (dual.dual_from (Some largest) (budget - used.old) used.old tab.old) tab.new used.new result }
     ensures inside { IfOk result (IsPlace tab.new) }
@@ -57,7 +57,7 @@ fn steps(tab: &mut Tableau, used: &mut u64, budget: u64) -> Result<DualEnd, Stop
             DualChoice::End(end) => return Ok(end),
             DualChoice::Pivot { place, col, to } => {
                 if *used >= budget {
-                    return Err(Stop::Spent);
+                    return Err(RunStop::Spent);
                 }
                 pivot(tab, place, col, to)?;
                 *used += 1;
@@ -66,14 +66,14 @@ fn steps(tab: &mut Tableau, used: &mut u64, budget: u64) -> Result<DualEnd, Stop
     }
 }
 
-/// Gives each reduced cost the sign that it needs by flips, and then takes dual steps until each value
+/// GivesRun each reduced cost the sign that it needs by flips, and then takes dual steps until each value
 /// is within its bounds (`Optimal`), one is not and no column can bring it back (`Infeasible`), an
 /// operation is past 127 bits (`Past`), or `budget` flips and pivots were made (`Spent`). `used` counts
 /// them. After `Past` the tableau is spent.
 ///
 /// `IsDualStart` holds of the tableau of a basis that is fit for the dual method.
 #[tactic(auto, unfolding(spec_simplex::specs::Dual::dual_run))]
-pub fn run(tab: &mut Tableau, used: &mut u64, budget: u64) -> Result<DualEnd, Stop>
+pub fn run(tab: &mut Tableau, used: &mut u64, budget: u64) -> Result<DualEnd, RunStop>
     requires none_used { used.old ≡ 0 }
     requires ready { IsDualStart tab.old }
     ensures runs { DualRuns (dual.dual_run (Some largest) budget tab.old) tab.new used.new result }

@@ -7,7 +7,7 @@ use crate::choice::place;
 use crate::leaving::is_basic;
 use crate::needs::needs_flip_at;
 use crate::*;
-use lp_form::{Basis, Bounds, Columns, Form, Status};
+use lp_form::{Basis, BoundList, Columns, Form, Status};
 use lp_frac::{Entries, Frac, Fracs, one, zero};
 use lp_tableau::{BasisStop, Tableau, start_from};
 use std::alloc::{AllocError, Global};
@@ -27,8 +27,8 @@ fn small(alloc: Global, top: Option<Frac>) -> Result<Form, Fail> {
         1,
         1,
         columns,
-        Bounds::from_vec(lower),
-        Bounds::from_vec(upper),
+        BoundList::from_vec(lower),
+        BoundList::from_vec(upper),
         costs,
     ))
 }

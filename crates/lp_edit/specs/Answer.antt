@@ -17,7 +17,7 @@ abbrev pub Applies : Model → ExactEdit → Model → Result ⊤ EditError → 
 Applies m edit n result = Leaves (edited m edit) (takes_memory edit) m n result
 
 -- the answer itself, or its fault; that there is no memory says nothing of it
-abbrev pub Gives : {A : Type 0} → OrFault A → Result A EditError → Type 0
-Gives answer (Ok a) = answer ≡ Ok a
-Gives answer (Err (Fault fault)) = answer ≡ Err fault
-Gives answer (Err NoMemory) = Unit {0}
+abbrev pub GivesEdited : {A : Type 0} → OrFault A → Result A EditError → Type 0
+GivesEdited answer (Ok a) = answer ≡ Ok a
+GivesEdited answer (Err (Fault fault)) = answer ≡ Err fault
+GivesEdited answer (Err NoMemory) = Unit {0}

@@ -4,7 +4,7 @@ ghost use Rattle.spec_exact.specs.Narrow.{IsNarrow};
 ghost use Rattle.spec_model.specs.Model.{height};
 ghost use Rattle.spec_model.specs.Kept.{AreEntries};
 ghost use Rattle.spec_edit.specs.Edited as told;
-ghost use Rattle.lp_edit.specs.Answer.{Gives};
+ghost use Rattle.lp_edit.specs.Answer.{GivesEdited};
 
 use crate::edit::{EditError, EditFault, Pairs};
 use lp_base::{Name, are_same};
@@ -21,7 +21,7 @@ fn is_given(name: &[u8], pairs: &[(Name, Frac)]) -> bool
 
 /// The entries of the pairs of a new column.
 pub(crate) fn entries_of(alloc: Global, model: &Model, pairs: Pairs) -> Result<Entries, EditError>
-    ensures answer { Gives (told.entries_of model.now [] pairs []) result }
+    ensures answer { GivesEdited (told.entries_of model.now [] pairs []) result }
     ensures kept { IfOk result (AreEntries (height model.now)) }
     ensures narrow { IfOk result (All (λ e. IsNarrow e.1)) }
 {

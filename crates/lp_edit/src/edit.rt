@@ -10,7 +10,7 @@ use std::marker::Model;
 use thiserror::Error;
 
 /// An edit of a model.
-pub type Edit = spec_edit::Edit<Name, Frac, Pairs, Bounds>;
+pub type Edit = spec_edit::Edit<Name, Frac, Pairs, ColumnBounds>;
 
 /// Why an edit is refused.
 pub type EditFault = spec_edit::EditFault<Name>;
@@ -103,12 +103,12 @@ impl Pairs {
 
 /// The bounds of a column. Each is less than 10^20 from 0, or is not there.
 #[derive(Drop)]
-pub struct Bounds {
+pub struct ColumnBounds {
     lower: Option<Frac>,
     upper: Option<Frac>,
 }
 
-impl Model for Bounds {
+impl Model for ColumnBounds {
     ghost use Rattle.spec_model.specs.Model.{Limits};
     ghost use Rattle.spec_model.specs.Kept.{IsBound};
 
@@ -119,13 +119,13 @@ impl Model for Bounds {
     ghost invariant = { λ b. IsBound b.lower × IsBound b.upper };
 }
 
-impl Bounds {
+impl ColumnBounds {
     pub fn new(lower: Option<Frac>, upper: Option<Frac>) -> Self
         requires lower { IsBound lower }
         requires upper { IsBound upper }
         ensures { result ≡ record { lower = lower; upper = upper } }
     {
-        Bounds { lower, upper }
+        ColumnBounds { lower, upper }
     }
 
     pub fn lower(&self) -> Option<Frac>

@@ -7,7 +7,7 @@ ghost use Rattle.lp_edit.specs.Answer.{Applies, Leaves};
 ghost use Rattle.lp_edit.specs.Named.{at_row, at_column, at_entry};
 
 use crate::column::entries_of;
-use crate::edit::{Bounds, Edit, EditError, EditFault, Pairs};
+use crate::edit::{ColumnBounds, Edit, EditError, EditFault, Pairs};
 use lp_base::{Name, are_same};
 use lp_frac::{Frac, neg, zero};
 use lp_model::{Column, Model, Row, is_name, is_row_name};
@@ -146,7 +146,7 @@ fn set_range(model: &mut Model, name: Name, range: Option<Frac>) -> Result<(), E
     Ok(())
 }
 
-fn set_bounds(model: &mut Model, name: Name, bounds: Bounds) -> Result<(), EditError>
+fn set_bounds(model: &mut Model, name: Name, bounds: ColumnBounds) -> Result<(), EditError>
     ensures { Leaves (at_column model.old name (λ j. changes.with_bounds model.old j bounds)) false model.old model.new result }
 {
     let j = column_named(model, name)?;

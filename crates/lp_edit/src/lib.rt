@@ -4,7 +4,7 @@
 //! |---|---|
 //! | `apply` | changes a model by an edit, or refuses the edit and leaves the model |
 //! | `Edit` | an edit, whose rows and columns are named |
-//! | `Pairs`, `Bounds` | the numbers of a new column, and the bounds of a column |
+//! | `Pairs`, `ColumnBounds` | the numbers of a new column, and the bounds of a column |
 //! | `EditError`, `EditFault`, `Which` | why an edit is not applied |
 //!
 //! What an edit leaves, and which fault it has, is `edited` of `spec_edit`.
@@ -16,6 +16,6 @@ mod edits;
 #[cfg(test)]
 mod tests;
 
-pub use edit::{Bounds, Edit, EditError, EditFault, Pairs};
+pub use edit::{ColumnBounds, Edit, EditError, EditFault, Pairs};
 pub use edits::apply;
 pub use spec_edit::Which;

@@ -182,7 +182,7 @@ fn column_edit(alloc: Global, place: usize) -> Result<Edit, Fail> {
         },
         _ => Edit::SetBound {
             column: name(alloc, "x")?,
-            bounds: Bounds::new(None, Some(one())),
+            bounds: ColumnBounds::new(None, Some(one())),
         },
     })
 }

@@ -4,7 +4,7 @@ ghost use Rattle.spec_model.specs.Model.{entry_of};
 ghost use Rattle.spec_model.specs.Kept.{AreEntries};
 ghost use Rattle.spec_simplex.specs.Form.{IsForm, form_entry, form_lower, form_upper};
 
-use crate::lists::{Bounds, Columns};
+use crate::lists::{BoundList, Columns};
 use lp_frac::{Frac, Fracs, zero};
 use std::marker::Model;
 
@@ -18,8 +18,8 @@ pub struct Form {
     rows: u32,
     cols: u32,
     entries: Columns,
-    lower: Bounds,
-    upper: Bounds,
+    lower: BoundList,
+    upper: BoundList,
     cost: Fracs,
 }
 
@@ -54,8 +54,8 @@ impl Form {
         rows: u32,
         cols: u32,
         entries: Columns,
-        lower: Bounds,
-        upper: Bounds,
+        lower: BoundList,
+        upper: BoundList,
         cost: Fracs,
     ) -> Form
         requires { IsForm (record {

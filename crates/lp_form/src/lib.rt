@@ -3,7 +3,7 @@
 //! | Item | What it is |
 //! |---|---|
 //! | `Form` | columns with bounds and costs to be made least, the rows' sums among them |
-//! | `Bounds`, `Columns` | lists of optional fractions and of columns' entries, plain lists to contracts |
+//! | `BoundList`, `Columns` | lists of optional fractions and of columns' entries, plain lists to contracts |
 //! | `Basis`, `Status` | how each structural and logical column stands |
 //!
 //! Contracts see a form as the record of spec_simplex's specs/Form.
@@ -15,5 +15,5 @@ mod lists;
 
 pub use basis::Basis;
 pub use form::Form;
-pub use lists::{Bounds, Columns};
+pub use lists::{BoundList, Columns};
 pub use spec_pivot::Status;

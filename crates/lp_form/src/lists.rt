@@ -7,11 +7,11 @@ use std::marker::Model;
 
 /// A list of bounds, each of which may be absent.
 #[derive(Drop)]
-pub struct Bounds {
+pub struct BoundList {
     items: Vec<Option<Frac>>,
 }
 
-impl Model for Bounds {
+impl Model for BoundList {
     ghost use Rattle.std.specs.Prelude.{List, Option};
     ghost use Rattle.std.specs.Coded.{coded_list, coded_option};
     ghost use Rattle.spec_exact.specs.Fraction.{ℚ};
@@ -24,12 +24,12 @@ impl Model for Bounds {
     ghost view = { λ b. b.items.items };
 }
 
-impl Bounds {
+impl BoundList {
     /// The empty list. It takes no memory until something is put in.
     pub fn new(alloc: Global) -> Self
         ensures { result ≡ [] }
     {
-        Bounds {
+        BoundList {
             items: Vec::new(alloc),
         }
     }
@@ -37,7 +37,7 @@ impl Bounds {
     pub fn from_vec(items: Vec<Option<Frac>>) -> Self
         ensures { result ≡ items.items }
     {
-        Bounds { items }
+        BoundList { items }
     }
 
     pub fn as_slice(&self) -> &[Option<Frac>]

@@ -10,7 +10,7 @@ use Rattle.spec_server.specs.declared.command.LineFault.TheVariants as fault
 use Rattle.spec_server.specs.EditCommand.{Reads, ◌>>=◌, number_in, two_by_two, numbers_in, column_in}
 use Rattle.lp_line.specs.declared.edits.EditStop.{EditStop}
 use Rattle.lp_line.specs.declared.edits.EditStop.TheVariants.{Fault, NoMemory}
-use Rattle.lp_line.specs.Gives.{Gives}
+use Rattle.lp_line.specs.GivesWords.{GivesWords}
 use Rattle.lp_line.proofs.PairsLeft.{Words}
 
 -- of an odd number of words one is left over
@@ -46,26 +46,26 @@ module _ (name cost : List ℕ) (words : List (List ℕ)) (even : length words %
   cost_fault why e = cost_read (Err why) e
 
   pairs_read : (v : ℚ) → number_in cost ≡ Ok v → (result : Result Pairs EditStop) →
-      IfSome (two_by_two words) (λ pairs. Gives (numbers_in pairs) result) →
-      (answer : Reads Pairs) × (Gives answer result) × (column_in name cost (two_by_two words) ≡ (answer >>= λ ps. Ok (AddCol name v ps)))
+      IfSome (two_by_two words) (λ pairs. GivesWords (numbers_in pairs) result) →
+      (answer : Reads Pairs) × (GivesWords answer result) × (column_in name cost (two_by_two words) ≡ (answer >>= λ ps. Ok (AddCol name v ps)))
   pairs_read v e result g =
       let pairs = two_by_two-even words even in
-      (numbers_in pairs.0, subst (λ (o : Option Words). IfSome o (λ ps. Gives (numbers_in ps) result)) pairs.1 g, cost_read (Ok v) e)
+      (numbers_in pairs.0, subst (λ (o : Option Words). IfSome o (λ ps. GivesWords (numbers_in ps) result)) pairs.1 g, cost_read (Ok v) e)
 
   -- a pair's number is none
   pub pairs_fault : (v : ℚ) → number_in cost ≡ Ok v → (stop : EditStop) (result : Result ExactEdit EditStop) →
       result ≡ Err stop →
-      IfSome (two_by_two words) (λ pairs. Gives (numbers_in pairs) (Err stop)) → Gives (column_in name cost (two_by_two words)) result
-  pairs_fault v e stop result is g = subst (Gives (column_in name cost (two_by_two words))) (sym is) (by stop (pairs_read v e (Err stop) g))
+      IfSome (two_by_two words) (λ pairs. GivesWords (numbers_in pairs) (Err stop)) → GivesWords (column_in name cost (two_by_two words)) result
+  pairs_fault v e stop result is g = subst (GivesWords (column_in name cost (two_by_two words))) (sym is) (by stop (pairs_read v e (Err stop) g))
     where
       by : (stop : EditStop) →
-          (answer : Reads Pairs) × (Gives answer (Err stop)) × (column_in name cost (two_by_two words) ≡ (answer >>= λ ps. Ok (AddCol name v ps))) → Gives (column_in name cost (two_by_two words)) (Err stop)
+          (answer : Reads Pairs) × (GivesWords answer (Err stop)) × (column_in name cost (two_by_two words) ≡ (answer >>= λ ps. Ok (AddCol name v ps))) → GivesWords (column_in name cost (two_by_two words)) (Err stop)
       by (Fault why) (answer, g, e) = e ∙ ap (λ (a : Reads Pairs). a >>= λ ps. Ok (AddCol name v ps)) g
       by NoMemory (answer, g, e) = tt
 
   -- all is read
   pub column_read : (v : ℚ) → Ok v ≡ number_in cost → (pairs : Pairs) →
-      IfSome (two_by_two words) (λ ps. Gives (numbers_in ps) (Ok pairs)) → (same : List ℕ) → same ≡ name →
+      IfSome (two_by_two words) (λ ps. GivesWords (numbers_in ps) (Ok pairs)) → (same : List ℕ) → same ≡ name →
       column_in name cost (two_by_two words) ≡ Ok (AddCol same v pairs)
   column_read v e pairs g same is =
       let read = pairs_read v (sym e) (Ok pairs) g in

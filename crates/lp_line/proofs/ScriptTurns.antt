@@ -19,8 +19,8 @@ use Rattle.spec_server.specs.Said.{Step, On, Says, follow, said_by}
 use Rattle.spec_server.specs.SolveOut.{TextSaid, behind_line, text_step}
 use Rattle.spec_server.specs.Script.{Pending, Between, Text, Certificate, ends_text, ends_certificate, ask_of_verdict, ask_of_judgement}
 use Rattle.spec_server.specs.Script.{begun, begun_by, asks_of_command, asks_by, pending_after_line, asks_of_line}
-use Rattle.mps_read.specs.Reading.{Reading}
-use Rattle.lp_check.specs.Reading as certificate_reading
+use Rattle.mps_read.specs.TextRead.{TextRead}
+use Rattle.lp_check.specs.CertificateRead as certificate_reading
 use Rattle.lp_line.specs.declared.body.Body.{Body}
 use Rattle.lp_line.specs.declared.body.Body.TheVariants as body
 use Rattle.lp_line.specs.declared.hearing.Step as code
@@ -79,37 +79,37 @@ certificate_judged raw n (here ∷ lines) = by (certificate.step raw here) (λ t
 
 -- ---- what is held of a body fits its lines
 
-abbrev lines_read : Reading → ℕ
+abbrev lines_read : TextRead → ℕ
 lines_read reader = reader.lines
 
-abbrev lines_of_certificate : certificate_reading.Reading → ℕ
+abbrev lines_of_certificate : certificate_reading.CertificateRead → ℕ
 lines_of_certificate reader = reader.lines
 
-pub text_begins : (form : Style) (reader : Reading) → reader ≡ record { style = form; state = start; lines = 0 } →
+pub text_begins : (form : Style) (reader : TextRead) → reader ≡ record { style = form; state = start; lines = 0 } →
     TextFits form [] (body.Reading reader)
-text_begins form reader is = subst (λ (r : Reading). TextFits form [] (body.Reading r)) (sym is) (λ more answer h. h)
+text_begins form reader is = subst (λ (r : TextRead). TextFits form [] (body.Reading r)) (sym is) (λ more answer h. h)
 
-text_passes : (form : Style) (lines : List (Line (List ℕ))) (held next : Body Reading TextSaid) (here : Line (List ℕ)) →
+text_passes : (form : Style) (lines : List (Line (List ℕ))) (held next : Body TextRead TextSaid) (here : Line (List ℕ)) →
     TextFits form lines held → PassesTo TextSays lines_read held here next → TextFits form (lines ++ here ∷ []) next
 text_passes form lines held next here fits p = λ more answer h.
     ap (said_by (text_step form) (record { state = start; lines = 0 })) (append_assoc lines (here ∷ []) more)
     ∙ fits (here ∷ more) answer (p.behind more answer h)
 
-text_closes : (form : Style) (lines : List (Line (List ℕ))) (held : Body Reading TextSaid) (what : TextSaid) →
+text_closes : (form : Style) (lines : List (Line (List ℕ))) (held : Body TextRead TextSaid) (what : TextSaid) →
     TextFits form lines held → BodySays TextSays held (line.End ∷ []) (Some what) → verdict_said (text.judge form start 1 lines) ≡ what
 text_closes form lines held what fits h = same_said _ what (sym (text_judged form start 0 lines) ∙ fits (line.End ∷ []) (Some what) h)
 
-pub certificate_begins : (reader : certificate_reading.Reading) → reader ≡ record { raw = None; lines = 0 } →
+pub certificate_begins : (reader : certificate_reading.CertificateRead) → reader ≡ record { raw = None; lines = 0 } →
     CertificateFits [] (body.Reading reader)
-certificate_begins reader is = subst (λ (r : certificate_reading.Reading). CertificateFits [] (body.Reading r)) (sym is) (λ more answer h. h)
+certificate_begins reader is = subst (λ (r : certificate_reading.CertificateRead). CertificateFits [] (body.Reading r)) (sym is) (λ more answer h. h)
 
-certificate_passes : (lines : List (Line (List ℕ))) (held next : Body certificate_reading.Reading CertificateSaid) (here : Line (List ℕ)) →
+certificate_passes : (lines : List (Line (List ℕ))) (held next : Body certificate_reading.CertificateRead CertificateSaid) (here : Line (List ℕ)) →
     CertificateFits lines held → PassesTo CertificateSays lines_of_certificate held here next → CertificateFits (lines ++ here ∷ []) next
 certificate_passes lines held next here fits p = λ more answer h.
     ap (said_by certificate_step (record { raw = None; lines = 0 })) (append_assoc lines (here ∷ []) more)
     ∙ fits (here ∷ more) answer (p.behind more answer h)
 
-certificate_closes : (lines : List (Line (List ℕ))) (held : Body certificate_reading.Reading CertificateSaid) (what : CertificateSaid) →
+certificate_closes : (lines : List (Line (List ℕ))) (held : Body certificate_reading.CertificateRead CertificateSaid) (what : CertificateSaid) →
     CertificateFits lines held → BodySays CertificateSays held (line.End ∷ []) (Some what) → judgement_said (certificate.judge None 1 lines) ≡ what
 certificate_closes lines held what fits h = same_said _ what (sym (certificate_judged None 0 lines) ∙ fits (line.End ∷ []) (Some what) h)
 
@@ -192,7 +192,7 @@ commands own here addressed (step.Says what) no_end e b =
 
 -- ---- a line in the text of a model
 
-fit_text : (P : Addressing → Pending → Type 0) (own : ℕ) (held : Body Reading TextSaid) →
+fit_text : (P : Addressing → Pending → Type 0) (own : ℕ) (held : Body TextRead TextSaid) →
     ((addressing : Addressing) (form : Style) (lines : List (Line (List ℕ))) → TextFits form lines held →
         P addressing (Text own form lines)) →
     (addressing : Addressing) (pending : Pending) → Fits addressing pending (stage.Text own held) → P addressing pending
@@ -200,7 +200,7 @@ fit_text P own held h addressing Between f = absurd f
 fit_text P own held h addressing (Text session form lines) f = subst (λ (s : ℕ). P addressing (Text s form lines)) f.0 (h addressing form lines f.1)
 fit_text P own held h addressing (Certificate session lines) f = absurd f
 
-pub text_goes_on : (own : ℕ) (held next : Body Reading TextSaid) (here : Line (List ℕ)) → here ≢ line.End →
+pub text_goes_on : (own : ℕ) (held next : Body TextRead TextSaid) (here : Line (List ℕ)) → here ≢ line.End →
     false ≡ ends_text here →
     PassesTo TextSays lines_read held here next → Leads ScriptSays lines_in (stage.Text own held) here (step.On (stage.Text own next))
 text_goes_on own held next here no_end e p = leads_on (stage.Text own held) (stage.Text own next) here no_end
@@ -215,7 +215,7 @@ text_goes_on own held next here no_end e p = leads_on (stage.Text own held) (sta
     })
     (omega (arith, p.counts))
 
-pub text_ends : (own : ℕ) (held next : Body Reading TextSaid) (here : Line (List ℕ)) (said : TextSaid) (ask : ExactAsk) (what : Taken) → here ≢ line.End →
+pub text_ends : (own : ℕ) (held next : Body TextRead TextSaid) (here : Line (List ℕ)) (said : TextSaid) (ask : ExactAsk) (what : Taken) → here ≢ line.End →
     true ≡ ends_text here → PassesTo TextSays lines_read held here next → BodySays TextSays next (line.End ∷ []) (Some said) →
     ((verdict : text.Verdict) → verdict_said verdict ≡ said → ask_of_verdict verdict ≡ ask) →
     what ≡ taken.Ask (record { session = own; ask = ask }) → Leads ScriptSays lines_in (stage.Text own held) here (step.Says what)
@@ -231,7 +231,7 @@ text_ends own held next here said ask what no_end e p closed asks is =
 -- ---- a line in a certificate
 
 fit_certificate : (P : Addressing → Pending →
-    Type 0) (own : ℕ) (held : Body certificate_reading.Reading CertificateSaid) →
+    Type 0) (own : ℕ) (held : Body certificate_reading.CertificateRead CertificateSaid) →
     ((addressing : Addressing) (lines : List (Line (List ℕ))) → CertificateFits lines held →
         P addressing (Certificate own lines)) →
     (addressing : Addressing) (pending : Pending) → Fits addressing pending (stage.Certificate own held) →
@@ -240,7 +240,7 @@ fit_certificate P own held h addressing Between f = absurd f
 fit_certificate P own held h addressing (Text session form lines) f = absurd f
 fit_certificate P own held h addressing (Certificate session lines) f = subst (λ (s : ℕ). P addressing (Certificate s lines)) f.0 (h addressing lines f.1)
 
-pub certificate_goes_on : (own : ℕ) (held next : Body certificate_reading.Reading CertificateSaid) (here : Line (List ℕ)) → here ≢ line.End →
+pub certificate_goes_on : (own : ℕ) (held next : Body certificate_reading.CertificateRead CertificateSaid) (here : Line (List ℕ)) → here ≢ line.End →
     false ≡ ends_certificate here → PassesTo CertificateSays lines_of_certificate held here next →
     Leads ScriptSays lines_in (stage.Certificate own held) here (step.On (stage.Certificate own next))
 certificate_goes_on own held next here no_end e p = leads_on (stage.Certificate own held) (stage.Certificate own next) here no_end
@@ -255,7 +255,7 @@ certificate_goes_on own held next here no_end e p = leads_on (stage.Certificate 
     })
     (omega (arith, p.counts))
 
-pub certificate_ends : (own : ℕ) (held next : Body certificate_reading.Reading CertificateSaid) (here : Line (List ℕ)) (said : CertificateSaid) (ask : ExactAsk)
+pub certificate_ends : (own : ℕ) (held next : Body certificate_reading.CertificateRead CertificateSaid) (here : Line (List ℕ)) (said : CertificateSaid) (ask : ExactAsk)
     (what : Taken) → here ≢ line.End → true ≡ ends_certificate here →
         PassesTo CertificateSays lines_of_certificate held here next →
     BodySays CertificateSays next (line.End ∷ []) (Some said) →

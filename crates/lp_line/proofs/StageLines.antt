@@ -12,15 +12,15 @@ use Rattle.spec_check.specs.Text as certificate
 use Rattle.spec_server.specs.Said.{follow, said_by}
 use Rattle.spec_server.specs.SolveOut.{behind_line, text_step}
 use Rattle.mps_read.specs.Feeds as feeds
-use Rattle.mps_read.specs.Reading.{Reading}
+use Rattle.mps_read.specs.TextRead.{TextRead}
 use Rattle.lp_check.specs.Feeds as certificate_feeds
-use Rattle.lp_check.specs.Reading as certificate_reading
+use Rattle.lp_check.specs.CertificateRead as certificate_reading
 use Rattle.lp_line.specs.declared.hearing.Step.TheVariants.{On, Says}
 use Rattle.lp_line.specs.Hearing.{Leads}
 use Rattle.lp_line.specs.Stages.{TextSays, CertificateSaid, certificate_step, CertificateSays}
 use Rattle.lp_line.specs.Stages as stages
 
-abbrev lines_read : Reading → ℕ
+abbrev lines_read : TextRead → ℕ
 lines_read reader = reader.lines
 
 -- ---- a text
@@ -36,7 +36,7 @@ at_same style form state n m more e d =
     ap (λ (s : Style). said_by (text_step s) (record { state = state; lines = n }) more) e
     ∙ ap (λ (k : ℕ). said_by (text_step form) (record { state = state; lines = k }) more) d
 
-by_outcome : (old : Reading) (line : Line (List ℕ)) (more : List (Line (List ℕ))) (outcome : text.Outcome) →
+by_outcome : (old : TextRead) (line : Line (List ℕ)) (more : List (Line (List ℕ))) (outcome : text.Outcome) →
     text.step old.style old.state line ≡ outcome →
     said_by (text_step old.style) (record { state = old.state; lines = old.lines }) (line ∷ more)
     ≡ follow (behind_line (old.lines + 1) outcome) (λ next. said_by (text_step old.style) next more)
@@ -44,7 +44,7 @@ unfolding text_step
 by_outcome old line more outcome e =
     ap (λ (o : text.Outcome). follow (behind_line (old.lines + 1) o) (λ next. said_by (text_step old.style) next more)) e
 
-pub text_goes_on : (old new : Reading) (line : Line (List ℕ)) →
+pub text_goes_on : (old new : TextRead) (line : Line (List ℕ)) →
     feeds.GoesOn (text.step old.style old.state line) old.style (old.lines + 1) new → Leads TextSays lines_read old line (On new)
 text_goes_on old new line g = record {
   behind = λ more answer h.
@@ -54,12 +54,12 @@ text_goes_on old new line g = record {
   no_end = λ h. no_text_behind_end old.style old.state new.state (ap (text.step old.style old.state) (sym h) ∙ g.state);
 }
 
-pub text_spells : (old : Reading) (line : Line (List ℕ)) (m : Model) →
+pub text_spells : (old : TextRead) (line : Line (List ℕ)) (m : Model) →
     text.step old.style old.state line ≡ Ok (text.Done m) →
     Leads TextSays lines_read old line (Says (Ok m))
 text_spells old line m e = λ more. by_outcome old line more (Ok (text.Done m)) e
 
-pub text_is_wrong : (old : Reading) (line : Line (List ℕ)) (fault : MpsFault) →
+pub text_is_wrong : (old : TextRead) (line : Line (List ℕ)) (fault : MpsFault) →
     feeds.IsRefused (text.step old.style old.state line) (old.lines + 1) fault → Leads TextSays lines_read old line (Says (Err fault))
 text_is_wrong old line fault r = λ more.
     by_outcome old line more (Err fault.code) r.code
@@ -67,7 +67,7 @@ text_is_wrong old line fault r = λ more.
 
 -- ---- a certificate
 
-abbrev lines_of_certificate : certificate_reading.Reading → ℕ
+abbrev lines_of_certificate : certificate_reading.CertificateRead → ℕ
 lines_of_certificate reader = reader.lines
 
 no_certificate_behind_end : (raw : Option certificate.ExactRaw) (next : certificate.ExactRaw) →
@@ -75,28 +75,28 @@ no_certificate_behind_end : (raw : Option certificate.ExactRaw) (next : certific
 unfolding certificate.step
 no_certificate_behind_end raw next e = cc
 
-by_judgement : (old : certificate_reading.Reading) (line : Line (List ℕ)) (more : List (Line (List ℕ))) (outcome : certificate.Outcome) →
+by_judgement : (old : certificate_reading.CertificateRead) (line : Line (List ℕ)) (more : List (Line (List ℕ))) (outcome : certificate.Outcome) →
     certificate.step old.raw line ≡ outcome →
     said_by certificate_step old (line ∷ more) ≡ follow (stages.behind_line (old.lines + 1) outcome) (λ next. said_by certificate_step next more)
 unfolding certificate_step
 by_judgement old line more outcome e =
     ap (λ (o : certificate.Outcome). follow (stages.behind_line (old.lines + 1) o) (λ next. said_by certificate_step next more)) e
 
-pub certificate_goes_on : (old new : certificate_reading.Reading) (line : Line (List ℕ)) →
+pub certificate_goes_on : (old new : certificate_reading.CertificateRead) (line : Line (List ℕ)) →
     certificate_feeds.GoesOn (certificate.step old.raw line) (old.lines + 1) new → Leads CertificateSays lines_of_certificate old line (On new)
 certificate_goes_on old new line g = record {
   behind = λ more answer h.
       by_judgement old line more (progress.More g.raw) g.state
-      ∙ ap (λ (reader : certificate_reading.Reading). said_by certificate_step reader more) (sym g.kept) ∙ h;
-  counts = omega (arith, ap (λ (reader : certificate_reading.Reading). reader.lines) g.kept);
+      ∙ ap (λ (reader : certificate_reading.CertificateRead). said_by certificate_step reader more) (sym g.kept) ∙ h;
+  counts = omega (arith, ap (λ (reader : certificate_reading.CertificateRead). reader.lines) g.kept);
   no_end = λ h. no_certificate_behind_end old.raw g.raw (ap (certificate.step old.raw) (sym h) ∙ g.state);
 }
 
-pub certificate_spells : (old : certificate_reading.Reading) (line : Line (List ℕ)) (raw : certificate.ExactRaw) →
+pub certificate_spells : (old : certificate_reading.CertificateRead) (line : Line (List ℕ)) (raw : certificate.ExactRaw) →
     certificate.step old.raw line ≡ progress.Done raw → Leads CertificateSays lines_of_certificate old line (Says (Ok raw))
 certificate_spells old line raw e = λ more. by_judgement old line more (progress.Done raw) e
 
-pub certificate_is_unfit : (old : certificate_reading.Reading) (line : Line (List ℕ)) (n : ℕ) →
+pub certificate_is_unfit : (old : certificate_reading.CertificateRead) (line : Line (List ℕ)) (n : ℕ) →
     certificate_feeds.IsUnfit (certificate.step old.raw line) (old.lines + 1) n → Leads CertificateSays lines_of_certificate old line (Says (Err n))
 certificate_is_unfit old line n u = λ more.
     by_judgement old line more progress.Unfit u.state ∙ ap (λ (k : ℕ). Some (Err k)) (sym u.number)

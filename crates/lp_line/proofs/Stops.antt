@@ -4,9 +4,9 @@ use Rattle.spec_server.specs.declared.command.LineFault.{LineFault}
 use Rattle.spec_server.specs.EditCommand.{Reads}
 use Rattle.lp_line.specs.declared.edits.EditStop.{EditStop}
 use Rattle.lp_line.specs.declared.edits.EditStop.TheVariants.{Fault}
-use Rattle.lp_line.specs.Gives.{Gives}
+use Rattle.lp_line.specs.GivesWords.{GivesWords}
 
 -- at the fault of the words
 pub gives_fault : {A : Type 0} (answer : Reads A) (result : Result A EditStop) (stop : EditStop) (fault : LineFault) →
-    result ≡ Err stop → stop ≡ Fault fault → answer ≡ Err fault → Gives answer result
-gives_fault answer result stop fault r s e = subst (Gives answer) (sym (r ∙ ap Err s)) e
+    result ≡ Err stop → stop ≡ Fault fault → answer ≡ Err fault → GivesWords answer result
+gives_fault answer result stop fault r s e = subst (GivesWords answer) (sym (r ∙ ap Err s)) e

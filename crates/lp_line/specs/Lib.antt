@@ -1,6 +1,6 @@
 pub mod Body
 pub mod EditWords
-pub mod Gives
+pub mod GivesWords
 pub mod Hearing
 pub mod Script
 pub mod Stages

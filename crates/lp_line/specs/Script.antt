@@ -13,8 +13,8 @@ use Rattle.spec_server.specs.Command.{ExactCommand}
 use Rattle.spec_server.specs.Said.{Step, On, Says, said_by}
 use Rattle.spec_server.specs.SolveOut.{TextSaid, text_step}
 use Rattle.spec_server.specs.Script.{Pending, Between, Text, Certificate, Ending, Ended, Cut, Over, ending_by, begun, asks_of_command, pending_after_line, asks_of_line}
-use Rattle.lp_check.specs.Reading as certificate_reading
-use Rattle.mps_read.specs.Reading as text_reading
+use Rattle.lp_check.specs.CertificateRead as certificate_reading
+use Rattle.mps_read.specs.TextRead as text_reading
 use Rattle.lp_line.specs.declared.body.Body.{Body}
 use Rattle.lp_line.specs.declared.hearing.Step as code
 use Rattle.lp_line.specs.declared.hearing.Step.TheVariants as step
@@ -49,12 +49,12 @@ script_step addressing pending line.Over =
 -- ---- the same from what is held of a body
 
 -- a body that was read so far says of its further lines what all its lines say
-abbrev pub TextFits : Style → List (Line (List ℕ)) → Body text_reading.Reading TextSaid → Type 0
+abbrev pub TextFits : Style → List (Line (List ℕ)) → Body text_reading.TextRead TextSaid → Type 0
 TextFits form lines body =
     (more : List (Line (List ℕ))) (answer : Option TextSaid) → BodySays TextSays body more answer →
     said_by (text_step form) (record { state = start; lines = 0 }) (lines ++ more) ≡ answer
 
-abbrev pub CertificateFits : List (Line (List ℕ)) → Body certificate_reading.Reading CertificateSaid → Type 0
+abbrev pub CertificateFits : List (Line (List ℕ)) → Body certificate_reading.CertificateRead CertificateSaid → Type 0
 CertificateFits lines body =
     (more : List (Line (List ℕ))) (answer : Option CertificateSaid) → BodySays CertificateSays body more answer →
     said_by certificate_step (record { raw = None; lines = 0 }) (lines ++ more) ≡ answer
@@ -74,8 +74,8 @@ ScriptSays here lines answer =
 -- how many lines the body has, with the line of its command
 abbrev pub lines_in : ScriptStage → ℕ
 lines_in (stage.Between addressing) = 0
-lines_in (stage.Text session body) = count_in (λ (reader : text_reading.Reading). reader.lines) body + 1
-lines_in (stage.Certificate session body) = count_in (λ (reader : certificate_reading.Reading). reader.lines) body + 1
+lines_in (stage.Text session body) = count_in (λ (reader : text_reading.TextRead). reader.lines) body + 1
+lines_in (stage.Certificate session body) = count_in (λ (reader : certificate_reading.CertificateRead). reader.lines) body + 1
 
 -- ---- parts of a step
 

@@ -5,11 +5,11 @@ use Rattle.spec_check.specs.declared.progress.Progress.TheVariants as progress
 use Rattle.spec_check.specs.Text as certificate
 use Rattle.spec_server.specs.Said.{Step, On, Says, said_by}
 use Rattle.spec_server.specs.SolveOut.{TextSaid, text_step}
-use Rattle.mps_read.specs.Reading as text
-use Rattle.lp_check.specs.Reading.{Reading}
+use Rattle.mps_read.specs.TextRead as text
+use Rattle.lp_check.specs.CertificateRead.{CertificateRead}
 
 -- behind a reader of a text
-abbrev pub TextSays : text.Reading → List (Line (List ℕ)) → Option TextSaid → Type 0
+abbrev pub TextSays : text.TextRead → List (Line (List ℕ)) → Option TextSaid → Type 0
 TextSays reader lines answer = said_by (text_step reader.style) (record { state = reader.state; lines = reader.lines }) lines ≡ answer
 
 -- the certificate that a text spells, or the first line that does not fit
@@ -17,14 +17,14 @@ abbrev pub CertificateSaid : Type 0
 CertificateSaid = Result certificate.ExactRaw ℕ
 
 -- where line n leads
-abbrev pub behind_line : ℕ → certificate.Outcome → Step Reading CertificateSaid
+abbrev pub behind_line : ℕ → certificate.Outcome → Step CertificateRead CertificateSaid
 behind_line n (progress.More raw) = On (record { raw = Some raw; lines = n })
 behind_line n (progress.Done raw) = Says (Ok raw)
 behind_line n progress.Unfit = Says (Err n)
 
-unfoldable pub certificate_step : Reading → Line (List ℕ) → Step Reading CertificateSaid
+unfoldable pub certificate_step : CertificateRead → Line (List ℕ) → Step CertificateRead CertificateSaid
 certificate_step reader line = behind_line (reader.lines + 1) (certificate.step reader.raw line)
 
 -- behind a reader of a certificate
-abbrev pub CertificateSays : Reading → List (Line (List ℕ)) → Option CertificateSaid → Type 0
+abbrev pub CertificateSays : CertificateRead → List (Line (List ℕ)) → Option CertificateSaid → Type 0
 CertificateSays reader lines answer = said_by certificate_step reader lines ≡ answer

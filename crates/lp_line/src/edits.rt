@@ -4,11 +4,11 @@ ghost use Rattle.spec_model.specs.Kept.{IsBound};
 ghost use Rattle.spec_mps.specs.BoundText.{bound_of, bound_answer};
 ghost use Rattle.spec_server.specs.declared.command.EditWord.TheVariants as word;
 ghost use Rattle.spec_server.specs.EditCommand as edit_command;
-ghost use Rattle.lp_line.specs.Gives.{Gives};
+ghost use Rattle.lp_line.specs.GivesWords.{GivesWords};
 ghost use Rattle.lp_line.specs.declared.edits.EditStop.TheVariants.{Fault, NoMemory};
 
 use lp_base::{Bytes, Name, are_same};
-use lp_edit::{Bounds, Edit, Pairs};
+use lp_edit::{ColumnBounds, Edit, Pairs};
 use lp_frac::Frac;
 use lp_model::{Kind, Sense};
 use lp_numtext::{BoundValue, NumFault, read_bound};
@@ -139,7 +139,7 @@ fn name_in(alloc: Global, word: &Bytes) -> Result<Name, AllocError>
 
 // The names of rows, each with the number behind it. The words are as many of these as of those.
 fn pairs_in(alloc: Global, words: &[Bytes]) -> Result<Pairs, EditStop>
-    ensures { IfSome (edit_command.two_by_two words.now) (λ pairs. Gives (edit_command.numbers_in pairs) result) }
+    ensures { IfSome (edit_command.two_by_two words.now) (λ pairs. GivesWords (edit_command.numbers_in pairs) result) }
 {
     let mut pairs = Pairs::new(alloc);
     let mut left = words;
@@ -153,7 +153,7 @@ fn pairs_in(alloc: Global, words: &[Bytes]) -> Result<Pairs, EditStop>
 
 #[tactic(auto, unfolding(spec_server::specs::EditCommand::edit_by))]
 fn add_row(alloc: Global, words: &[Bytes]) -> Result<Edit, EditStop>
-    ensures { Gives (edit_command.edit_by word.AddRow words.now) result }
+    ensures { GivesWords (edit_command.edit_by word.AddRow words.now) result }
 {
     let (name, kind, rhs, range) = match words {
         [name, kind, rhs] => (name, kind, rhs, None),
@@ -177,7 +177,7 @@ fn add_row(alloc: Global, words: &[Bytes]) -> Result<Edit, EditStop>
 
 #[tactic(auto, unfolding(spec_server::specs::EditCommand::edit_by))]
 fn delete_row(alloc: Global, words: &[Bytes]) -> Result<Edit, EditStop>
-    ensures { Gives (edit_command.edit_by word.DelRow words.now) result }
+    ensures { GivesWords (edit_command.edit_by word.DelRow words.now) result }
 {
     let [name] = words else {
         return Err(LineFault::Word.into());
@@ -187,7 +187,7 @@ fn delete_row(alloc: Global, words: &[Bytes]) -> Result<Edit, EditStop>
 
 // The words of a new column are counted before its numbers are read.
 fn column_in(alloc: Global, name: &Bytes, cost: &Bytes, pairs: &[Bytes]) -> Result<Edit, EditStop>
-    ensures { Gives (edit_command.column_in name.now cost.now (edit_command.two_by_two pairs.now)) result }
+    ensures { GivesWords (edit_command.column_in name.now cost.now (edit_command.two_by_two pairs.now)) result }
 {
     if pairs.len() % 2 != 0 {
         return Err(LineFault::Word.into());
@@ -200,7 +200,7 @@ fn column_in(alloc: Global, name: &Bytes, cost: &Bytes, pairs: &[Bytes]) -> Resu
 
 #[tactic(auto, unfolding(spec_server::specs::EditCommand::edit_by))]
 fn add_column(alloc: Global, words: &[Bytes]) -> Result<Edit, EditStop>
-    ensures { Gives (edit_command.edit_by word.AddCol words.now) result }
+    ensures { GivesWords (edit_command.edit_by word.AddCol words.now) result }
 {
     match words {
         [name, cost, pairs @ ..] => column_in(alloc, name, cost, pairs),
@@ -210,7 +210,7 @@ fn add_column(alloc: Global, words: &[Bytes]) -> Result<Edit, EditStop>
 
 #[tactic(auto, unfolding(spec_server::specs::EditCommand::edit_by))]
 fn delete_column(alloc: Global, words: &[Bytes]) -> Result<Edit, EditStop>
-    ensures { Gives (edit_command.edit_by word.DelCol words.now) result }
+    ensures { GivesWords (edit_command.edit_by word.DelCol words.now) result }
 {
     let [name] = words else {
         return Err(LineFault::Word.into());
@@ -220,7 +220,7 @@ fn delete_column(alloc: Global, words: &[Bytes]) -> Result<Edit, EditStop>
 
 #[tactic(auto, unfolding(spec_server::specs::EditCommand::edit_by))]
 fn set_cost(alloc: Global, words: &[Bytes]) -> Result<Edit, EditStop>
-    ensures { Gives (edit_command.edit_by word.SetCost words.now) result }
+    ensures { GivesWords (edit_command.edit_by word.SetCost words.now) result }
 {
     let [name, value] = words else {
         return Err(LineFault::Word.into());
@@ -231,7 +231,7 @@ fn set_cost(alloc: Global, words: &[Bytes]) -> Result<Edit, EditStop>
 
 #[tactic(auto, unfolding(spec_server::specs::EditCommand::edit_by))]
 fn set_coefficient(alloc: Global, words: &[Bytes]) -> Result<Edit, EditStop>
-    ensures { Gives (edit_command.edit_by word.SetCoef words.now) result }
+    ensures { GivesWords (edit_command.edit_by word.SetCoef words.now) result }
 {
     let [row, column, value] = words else {
         return Err(LineFault::Word.into());
@@ -244,7 +244,7 @@ fn set_coefficient(alloc: Global, words: &[Bytes]) -> Result<Edit, EditStop>
 
 #[tactic(auto, unfolding(spec_server::specs::EditCommand::edit_by))]
 fn set_right_side(alloc: Global, words: &[Bytes]) -> Result<Edit, EditStop>
-    ensures { Gives (edit_command.edit_by word.SetRhs words.now) result }
+    ensures { GivesWords (edit_command.edit_by word.SetRhs words.now) result }
 {
     let [name, value] = words else {
         return Err(LineFault::Word.into());
@@ -255,7 +255,7 @@ fn set_right_side(alloc: Global, words: &[Bytes]) -> Result<Edit, EditStop>
 
 #[tactic(auto, unfolding(spec_server::specs::EditCommand::edit_by))]
 fn set_range(alloc: Global, words: &[Bytes]) -> Result<Edit, EditStop>
-    ensures { Gives (edit_command.edit_by word.SetRange words.now) result }
+    ensures { GivesWords (edit_command.edit_by word.SetRange words.now) result }
 {
     let [name, range] = words else {
         return Err(LineFault::Word.into());
@@ -266,7 +266,7 @@ fn set_range(alloc: Global, words: &[Bytes]) -> Result<Edit, EditStop>
 
 #[tactic(auto, unfolding(spec_server::specs::EditCommand::edit_by))]
 fn set_bounds(alloc: Global, words: &[Bytes]) -> Result<Edit, EditStop>
-    ensures { Gives (edit_command.edit_by word.SetBound words.now) result }
+    ensures { GivesWords (edit_command.edit_by word.SetBound words.now) result }
 {
     let [column, lower, upper] = words else {
         return Err(LineFault::Word.into());
@@ -274,13 +274,13 @@ fn set_bounds(alloc: Global, words: &[Bytes]) -> Result<Edit, EditStop>
     let lower = lower_in(lower)?;
     let upper = upper_in(upper)?;
     let column = name_in(alloc, column)?;
-    let bounds = Bounds::new(lower, upper);
+    let bounds = ColumnBounds::new(lower, upper);
     Ok(Edit::SetBound { column, bounds })
 }
 
 #[tactic(auto, unfolding(spec_server::specs::EditCommand::edit_by))]
 fn set_sense(words: &[Bytes]) -> Result<Edit, EditStop>
-    ensures { Gives (edit_command.edit_by word.Sense words.now) result }
+    ensures { GivesWords (edit_command.edit_by word.Sense words.now) result }
 {
     let [sense] = words else {
         return Err(LineFault::Word.into());
@@ -290,7 +290,7 @@ fn set_sense(words: &[Bytes]) -> Result<Edit, EditStop>
 
 /// The edit that the words behind a command word ask for. Their count comes first, and then the words from left to right.
 pub(crate) fn edit_by(alloc: Global, which: EditWord, words: &[Bytes]) -> Result<Edit, EditStop>
-    ensures { Gives (edit_command.edit_by which words.now) result }
+    ensures { GivesWords (edit_command.edit_by which words.now) result }
 {
     match which {
         EditWord::AddRow => add_row(alloc, words),

@@ -5,14 +5,14 @@ use Rattle.spec_exact.specs.declared.past.Past.{Past}
 use Rattle.spec_simplex.specs.declared.ends.PrimalEnd.{PrimalEnd}
 use Rattle.spec_simplex.specs.declared.ends.Choice.{Choice}
 use Rattle.spec_simplex.specs.declared.ends.Choice.TheVariants.{End, Flip, Pivot}
-use Rattle.spec_simplex.specs.declared.ends.Stop.{Stop}
-use Rattle.spec_simplex.specs.declared.ends.Stop.TheVariants as stop
+use Rattle.spec_simplex.specs.declared.ends.RunStop.{RunStop}
+use Rattle.spec_simplex.specs.declared.ends.RunStop.TheVariants as stop
 use Rattle.spec_simplex.specs.Run.{◌>>=◌, refused_as}
 use Rattle.spec_simplex.specs.Tableau.{Tableau}
 use Rattle.spec_simplex.specs.Step.{choice_run}
 use Rattle.lp_frac.specs.Narrow.{largest}
 use Rattle.lp_primal.specs.Answer.{Steps, StopsAt, StopsAfter}
-use Rattle.spec_simplex.specs.Phases.{Ended, done_run, end_or_spent, end_or_next, run_from}
+use Rattle.spec_simplex.specs.Phases.{PrimalEnded, done_run, end_or_spent, end_or_next, run_from}
 
 -- a step that is no end
 abbrev pub GoesOn : Choice ℚ → Type 0
@@ -39,7 +39,7 @@ module _ (limit : Option ℕ) where
   run_spent zero used t choice h n e = ap (λ o. refused_as stop.Past o >>= end_or_spent t used) h ∙ spent_at t used choice n
   run_spent (suc left) used t choice h n e = absurd (let z : ⊥ = omega (arith, e) in z)
 
-  next_at : (t : Tableau) (used : ℕ) (next : Tableau → Result Ended (Stop ℚ)) (choice : Choice ℚ) → GoesOn choice → end_or_next limit t used next choice ≡ (refused_as stop.Past (done_run limit t choice) >>= next)
+  next_at : (t : Tableau) (used : ℕ) (next : Tableau → Result PrimalEnded (RunStop ℚ)) (choice : Choice ℚ) → GoesOn choice → end_or_next limit t used next choice ≡ (refused_as stop.Past (done_run limit t choice) >>= next)
   next_at t used next (End end) n = absurd (n end refl)
   next_at t used next (Flip j) n = refl
   next_at t used next (Pivot p j theta to) n = refl
@@ -85,7 +85,7 @@ module _ (budget used : ℕ) (t : Tableau) (now : ℕ) (u : Tableau) (w : IsUnde
         steps = (u, w.steps, record { choice = choice; chosen = h; no_end = n; done = g });
       }
 
-  stops_after : (stop : Stop ℚ) → StopsAt budget now u stop → StopsAfter budget used t now stop
+  stops_after : (stop : RunStop ℚ) → StopsAt budget now u stop → StopsAfter budget used t now stop
   stops_after stop h = record { count = w.count; last = u; counted = w.counted; few = w.few; steps = w.steps; stops = h }
 
   pub choice_stops : (p : Past ℚ) → choice_run (Some largest) u ≡ Err p → StopsAfter budget used t now (stop.Past p)

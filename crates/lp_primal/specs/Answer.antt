@@ -4,16 +4,16 @@ use Rattle.spec_exact.specs.Fraction.{ℚ}
 use Rattle.spec_simplex.specs.declared.ends.PrimalEnd.{PrimalEnd}
 use Rattle.spec_simplex.specs.declared.ends.Choice.{Choice}
 use Rattle.spec_simplex.specs.declared.ends.Choice.TheVariants.{End}
-use Rattle.spec_simplex.specs.declared.ends.Stop.{Stop}
-use Rattle.spec_simplex.specs.declared.ends.Stop.TheVariants.{Past, Spent}
+use Rattle.spec_simplex.specs.declared.ends.RunStop.{RunStop}
+use Rattle.spec_simplex.specs.declared.ends.RunStop.TheVariants.{Past, Spent}
 use Rattle.spec_simplex.specs.Run.{◌>>=◌}
 use Rattle.spec_simplex.specs.Tableau.{Tableau}
 use Rattle.spec_simplex.specs.Step.{choice_run}
-use Rattle.spec_simplex.specs.Phases.{Ended, done_run}
+use Rattle.spec_simplex.specs.Phases.{PrimalEnded, done_run}
 use Rattle.lp_frac.specs.Narrow.{largest}
 
 -- the steps end so, with this tableau and this count, or stop so
-abbrev pub Runs : Result Ended (Stop ℚ) → Tableau → ℕ → Result PrimalEnd (Stop ℚ) → Type 0
+abbrev pub Runs : Result PrimalEnded (RunStop ℚ) → Tableau → ℕ → Result PrimalEnd (RunStop ℚ) → Type 0
 Runs answer t used (Ok end) = answer ≡ Ok (record { end = end; tableau = t; used = used })
 Runs answer t used (Err stop) = answer ≡ Err stop
 
@@ -32,12 +32,12 @@ Steps (suc n) t u = (v : Tableau) × Steps n t v × IsStep v u
 
 -- why no step is made from t, where `now` are counted: an operation is refused in its choice or in the step itself, or
 -- none is left of the budget
-abbrev pub StopsAt : ℕ → ℕ → Tableau → Stop ℚ → Type 0
+abbrev pub StopsAt : ℕ → ℕ → Tableau → RunStop ℚ → Type 0
 StopsAt budget now t (Past p) = (choice_run (Some largest) t >>= done_run (Some largest) t) ≡ Err p
 StopsAt budget now t Spent = budget ≤ now
 
 -- from t, before which `used` are counted, steps are made up to this stop, each is counted, and they are within the budget
-pub record StopsAfter (budget used : ℕ) (t : Tableau) (now : ℕ) (stop : Stop ℚ) : Type 0 where
+pub record StopsAfter (budget used : ℕ) (t : Tableau) (now : ℕ) (stop : RunStop ℚ) : Type 0 where
   pub count : ℕ
   pub last : Tableau
   pub counted : now ≡ used + count

@@ -3,17 +3,17 @@ ghost use Rattle.std.specs.Prelude.{◌≡◌, ◌<◌, ◌≤◌, ◌-◌, IfEr
 ghost use Rattle.spec_simplex.specs.Step.{CanMake};
 ghost use Rattle.spec_simplex.specs.Phases.{done_run, run_from};
 ghost use Rattle.lp_frac.specs.Narrow.{largest};
-ghost use Rattle.lp_tableau.specs.Answer.{Gives};
+ghost use Rattle.lp_tableau.specs.Answer.{GivesRun};
 ghost use Rattle.lp_primal.specs.Answer.{Runs, StopsAfter};
 
 use crate::choice::{Choice, choice};
 use lp_frac::Past;
-use lp_tableau::{PrimalEnd, Stop, Tableau};
+use lp_tableau::{PrimalEnd, RunStop, Tableau};
 
 // The flip or the pivot; an end changes nothing.
 fn make(tab: &mut Tableau, choice: Choice) -> Result<(), Past>
     requires { CanMake tab.old choice }
-    ensures { Gives (done_run (Some largest) tab.old choice) tab.new result }
+    ensures { GivesRun (done_run (Some largest) tab.old choice) tab.new result }
 {
     match choice {
         Choice::End(_) => Ok(()),
@@ -30,7 +30,7 @@ fn make(tab: &mut Tableau, choice: Choice) -> Result<(), Past>
 /// Takes steps until no column may enter (`Optimal`), nothing stops the column that enters
 /// (`Unbounded`), an operation is past 127 bits (`Past`), or `budget` pivots and flips were made
 /// (`Spent`). `used` counts them, whether they end or stop. After `Past` the tableau is spent.
-pub fn run(tab: &mut Tableau, used: &mut u64, budget: u64) -> Result<PrimalEnd, Stop>
+pub fn run(tab: &mut Tableau, used: &mut u64, budget: u64) -> Result<PrimalEnd, RunStop>
     ensures ended { Runs (run_from (Some largest) (budget - used.old) used.old tab.old) tab.new used.new result }
     ensures stopped { IfErr result (StopsAfter budget used.old tab.old used.new) }
 {
@@ -40,7 +40,7 @@ pub fn run(tab: &mut Tableau, used: &mut u64, budget: u64) -> Result<PrimalEnd, 
             return Ok(end);
         }
         if *used >= budget {
-            return Err(Stop::Spent);
+            return Err(RunStop::Spent);
         }
         make(tab, next)?;
         *used += 1;

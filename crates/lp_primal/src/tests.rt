@@ -4,9 +4,9 @@ ghost use Rattle.spec_model.specs.Kept.{AreEntries};
 ghost use Rattle.spec_simplex.specs.Phases.{is_stuck};
 
 use crate::*;
-use lp_form::{Bounds, Columns, Form};
+use lp_form::{BoundList, Columns, Form};
 use lp_frac::{Entries, Frac, Fracs, is_zero, one, zero};
-use lp_tableau::{ColdStop, PrimalEnd, Stop, Tableau, start_cold};
+use lp_tableau::{ColdStop, PrimalEnd, RunStop, Tableau, start_cold};
 use std::alloc::{AllocError, Global};
 use std::process::Abort;
 use std::test::Fail;
@@ -49,8 +49,8 @@ fn cycling(rt: &impl Abort, alloc: Global) -> Result<Form, Fail> {
     let entries = columns(alloc, &[[1, 1, 2], [-11, -3, 0], [-5, -1, 0], [18, 2, 0]])?;
     let none = None;
     let low = Some(zero());
-    let lower = Bounds::from_vec(vec![in alloc; low, low, low, low, none, none, none]?);
-    let upper = Bounds::from_vec(vec![in alloc; none, none, none, none, low, low, Some(one())]?);
+    let lower = BoundList::from_vec(vec![in alloc; low, low, low, low, none, none, none]?);
+    let upper = BoundList::from_vec(vec![in alloc; none, none, none, none, low, low, Some(one())]?);
     let cost = costs(alloc)?;
     assert!(rt; entries.len() == 4 && lower.len() == 7 && upper.len() == 7 && cost.len() == 7);
     Ok(Form::new(3, 4, entries, lower, upper, cost))
@@ -99,7 +99,7 @@ fn budgets_are_kept(rt: HostRuntime) -> Result<(), Fail> {
     for budget in [0, 1] {
         let mut tab = begun(&rt, rt.alloc())?;
         let mut used = 0;
-        assert_eq!(rt; run(&mut tab, &mut used, budget), Err(Stop::Spent));
+        assert_eq!(rt; run(&mut tab, &mut used, budget), Err(RunStop::Spent));
         assert_eq!(rt; used, budget);
     }
     Ok(())

@@ -2,7 +2,7 @@
 ghost use Rattle.std.specs.Prelude.{◌≡◌, IfOk};
 
 use crate::*;
-use lp_form::{Basis, Bounds, Columns, Form, Status};
+use lp_form::{Basis, BoundList, Columns, Form, Status};
 use lp_frac::{Entries, Fracs, one, zero};
 use std::alloc::Global;
 use std::test::Fail;
@@ -22,8 +22,8 @@ fn small(alloc: Global) -> Result<Form, Fail>
         1,
         1,
         columns,
-        Bounds::from_vec(lower),
-        Bounds::from_vec(upper),
+        BoundList::from_vec(lower),
+        BoundList::from_vec(upper),
         Fracs::from_vec(costs),
     ))
 }

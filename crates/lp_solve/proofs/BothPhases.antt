@@ -4,13 +4,13 @@ use Rattle.spec_exact.specs.Fraction.{ℚ}
 use Rattle.spec_exact.specs.declared.past.Past.{Past}
 use Rattle.spec_simplex.specs.declared.ends.PrimalEnd.{PrimalEnd}
 use Rattle.spec_simplex.specs.declared.ends.PrimalEnd.TheVariants.{Optimal}
-use Rattle.spec_simplex.specs.declared.ends.Stop.{Stop}
-use Rattle.spec_simplex.specs.declared.ends.Stop.TheVariants as stop
+use Rattle.spec_simplex.specs.declared.ends.RunStop.{RunStop}
+use Rattle.spec_simplex.specs.declared.ends.RunStop.TheVariants as stop
 use Rattle.spec_simplex.specs.Form.{Form}
 use Rattle.spec_simplex.specs.Run.{◌>>=◌, refused_as, list_run}
 use Rattle.spec_simplex.specs.Tableau.{Tableau}
 use Rattle.spec_simplex.specs.Start.{row_start, begun, first_costs, priced_run, with_reduced, start_of}
-use Rattle.spec_simplex.specs.Phases.{Ended, PhasesEnd, Infeasible, Finished, wants_phase_one, is_stuck, phase_one, phase_two, phase_two_run, run_from, phases_run}
+use Rattle.spec_simplex.specs.Phases.{PrimalEnded, PhasesEnd, Infeasible, Finished, wants_phase_one, is_stuck, phase_one, phase_two, phase_two_run, run_from, phases_run}
 use Rattle.spec_cold.proofs.Runs.{then_ok}
 use Rattle.lp_solve.proofs.Runs.{IsAsLarge, IsEnd, run_ends}
 
@@ -21,7 +21,7 @@ module _ (limit : Option ℕ) (budget : ℕ) (f : Form) where
       ap (λ o. refused_as stop.Past o >>= λ t. phase_one limit budget t >>= λ one. cond (is_stuck one.tableau) (Ok (Infeasible one.tableau one.used)) (phase_two limit budget f one)) h
 
   module _ (t : Tableau) (start : start_of limit f ≡ Ok t) where
-    abbrev after_one : Ended → Result PhasesEnd (Stop ℚ)
+    abbrev after_one : PrimalEnded → Result PhasesEnd (RunStop ℚ)
     after_one one = cond (is_stuck one.tableau) (Ok (Infeasible one.tableau one.used)) (phase_two limit budget f one)
 
     from_start : phases_run limit budget f ≡ (phase_one limit budget t >>= after_one)
@@ -37,20 +37,20 @@ module _ (limit : Option ℕ) (budget : ℕ) (f : Form) where
         let z : with_reduced (begun f o.0) p.0 ≡ t = cc in
         subst (λ t. (t.rows ≡ f.rows) × (t.cols ≡ f.cols)) z (refl, refl)
 
-    first_keeps : (one : Ended) → phase_one limit budget t ≡ Ok one → IsAsLarge t one.tableau
+    first_keeps : (one : PrimalEnded) → phase_one limit budget t ≡ Ok one → IsAsLarge t one.tableau
     first_keeps one ok = by (wants_phase_one t) ok
       where
         by : (c : Bool) → cond c (run_from limit budget 0 t) (Ok (record { end = Optimal; tableau = t; used = 0 })) ≡ Ok one → IsAsLarge t one.tableau
         by true ok = let e : IsEnd limit t one = run_ends limit budget 0 t one ok in e.large
         by false ok =
-            let z : ◌≡◌ {A = Ended} (record { end = Optimal; tableau = t; used = 0 }) one = cc in
-            subst (λ (one : Ended). IsAsLarge t one.tableau) z (record { rows = refl; cols = refl })
+            let z : ◌≡◌ {A = PrimalEnded} (record { end = Optimal; tableau = t; used = 0 }) one = cc in
+            subst (λ (one : PrimalEnded). IsAsLarge t one.tableau) z (record { rows = refl; cols = refl })
 
-    pub first_stops : (s : Stop ℚ) → phase_one limit budget t ≡ Err s → phases_run limit budget f ≡ Err s
+    pub first_stops : (s : RunStop ℚ) → phase_one limit budget t ≡ Err s → phases_run limit budget f ≡ Err s
     first_stops s h = from_start ∙ ap (λ o. o >>= after_one) h
 
     module _ (end : PrimalEnd) (u : Tableau) (used : ℕ) (first : phase_one limit budget t ≡ Ok (record { end = end; tableau = u; used = used })) where
-      abbrev one : Ended
+      abbrev one : PrimalEnded
       one = record { end = end; tableau = u; used = used }
 
       pub same_rows : f.rows ≡ u.rows
@@ -76,8 +76,8 @@ module _ (limit : Option ℕ) (budget : ℕ) (f : Form) where
           from_second : phases_run limit budget f ≡ (run_from limit (budget - used) used v >>= λ two. Ok (Finished two))
           from_second = goes_on ∙ ap (λ o. refused_as stop.Past o >>= λ t. run_from limit (budget - used) used t >>= λ two. Ok (Finished two)) second
 
-          pub second_stops : (s : Stop ℚ) → run_from limit (budget - used) used v ≡ Err s → phases_run limit budget f ≡ Err s
+          pub second_stops : (s : RunStop ℚ) → run_from limit (budget - used) used v ≡ Err s → phases_run limit budget f ≡ Err s
           second_stops s h = from_second ∙ ap (λ o. o >>= λ two. Ok (Finished two)) h
 
-          pub is_finished : (two : Ended) → run_from limit (budget - used) used v ≡ Ok two → phases_run limit budget f ≡ Ok (Finished two)
+          pub is_finished : (two : PrimalEnded) → run_from limit (budget - used) used v ≡ Ok two → phases_run limit budget f ≡ Ok (Finished two)
           is_finished two h = from_second ∙ ap (λ o. o >>= λ two. Ok (Finished two)) h

@@ -8,12 +8,12 @@ use Rattle.spec_simplex.specs.declared.ends.PrimalEnd.{PrimalEnd}
 use Rattle.spec_simplex.specs.declared.ends.PrimalEnd.TheVariants.{Optimal, Unbounded}
 use Rattle.spec_simplex.specs.declared.ends.Choice.{Choice}
 use Rattle.spec_simplex.specs.declared.ends.Choice.TheVariants.{End, Flip, Pivot}
-use Rattle.spec_simplex.specs.declared.ends.Stop.{Stop}
-use Rattle.spec_simplex.specs.declared.ends.Stop.TheVariants as stop
+use Rattle.spec_simplex.specs.declared.ends.RunStop.{RunStop}
+use Rattle.spec_simplex.specs.declared.ends.RunStop.TheVariants as stop
 use Rattle.spec_simplex.specs.Run.{refused_as, difference_run}
 use Rattle.spec_simplex.specs.Tableau.{Tableau, all_columns, lower_at, upper_at, status_at, or_zero}
 use Rattle.spec_simplex.specs.Step.{directed, other_bound, entering, best_run, choice_at, choice_by, choice_of, choice_run, moved_run, flip_way, flipped, flip_run, shifted_run, turned_run, repriced_run, turned, exchanged, pivot_run}
-use Rattle.spec_simplex.specs.Phases.{Ended, end_or_spent, end_or_next, run_from}
+use Rattle.spec_simplex.specs.Phases.{PrimalEnded, end_or_spent, end_or_next, run_from}
 use Rattle.spec_cold.proofs.Runs.{then_ok, refused_ok}
 use Rattle.lp_primal.proofs.Enters.{MayEnter, may_enter}
 use Rattle.lp_solve.specs.Ends.{IsInside}
@@ -71,22 +71,22 @@ module _ (limit : Option ℕ) where
   end_inside t end h = by_entering t (entering t) end refl h
 
   -- ---- the run
-  pub record IsEnd (t : Tableau) (e : Ended) : Type 0 where
+  pub record IsEnd (t : Tableau) (e : PrimalEnded) : Type 0 where
     pub large : IsAsLarge t e.tableau
     pub inside : IsInside e.tableau (Some e.end)
 
-  on_from : (t u : Tableau) (e : Ended) → IsAsLarge t u → IsEnd u e → IsEnd t e
+  on_from : (t u : Tableau) (e : PrimalEnded) → IsAsLarge t u → IsEnd u e → IsEnd t e
   on_from t u e p q = record { large = by_way_of t u e.tableau p q.large; inside = q.inside }
 
-  ends_at : (t : Tableau) (used : ℕ) (e : Ended) (end : PrimalEnd) → choice_run limit t ≡ Ok (End end) → record { end = end; tableau = t; used = used } ≡ e → IsEnd t e
+  ends_at : (t : Tableau) (used : ℕ) (e : PrimalEnded) (end : PrimalEnd) → choice_run limit t ≡ Ok (End end) → record { end = end; tableau = t; used = used } ≡ e → IsEnd t e
   ends_at t used e end c z = subst (IsEnd t) z (record { large = as_large t; inside = end_inside t end c })
 
-  ends_here : (t : Tableau) (used : ℕ) (e : Ended) (choice : Choice ℚ) → choice_run limit t ≡ Ok choice → end_or_spent t used choice ≡ Ok e → IsEnd t e
-  ends_here t used e (End end) c h = ends_at t used e end c (let z : ◌≡◌ {A = Ended} (record { end = end; tableau = t; used = used }) e = cc in z)
-  ends_here t used e (Flip j) c h = let z : ◌≡◌ {A = Result Ended (Stop ℚ)} (Err stop.Spent) (Ok e) = h in cc
-  ends_here t used e (Pivot p j theta to) c h = let z : ◌≡◌ {A = Result Ended (Stop ℚ)} (Err stop.Spent) (Ok e) = h in cc
+  ends_here : (t : Tableau) (used : ℕ) (e : PrimalEnded) (choice : Choice ℚ) → choice_run limit t ≡ Ok choice → end_or_spent t used choice ≡ Ok e → IsEnd t e
+  ends_here t used e (End end) c h = ends_at t used e end c (let z : ◌≡◌ {A = PrimalEnded} (record { end = end; tableau = t; used = used }) e = cc in z)
+  ends_here t used e (Flip j) c h = let z : ◌≡◌ {A = Result PrimalEnded (RunStop ℚ)} (Err stop.Spent) (Ok e) = h in cc
+  ends_here t used e (Pivot p j theta to) c h = let z : ◌≡◌ {A = Result PrimalEnded (RunStop ℚ)} (Err stop.Spent) (Ok e) = h in cc
 
-  pub run_ends : (left used : ℕ) (t : Tableau) (e : Ended) → run_from limit left used t ≡ Ok e → IsEnd t e
+  pub run_ends : (left used : ℕ) (t : Tableau) (e : PrimalEnded) → run_from limit left used t ≡ Ok e → IsEnd t e
   unfolding run_from
   run_ends zero used t e h =
       let o = then_ok (refused_as stop.Past (choice_run limit t)) (end_or_spent t used) e h in

@@ -12,13 +12,13 @@ use Rattle.spec_simplex.specs.declared.ends.Fit.TheVariants as fit
 use Rattle.spec_simplex.specs.declared.ends.FormFault.{FormFault}
 use Rattle.spec_simplex.specs.declared.ends.StartStop.{StartStop}
 use Rattle.spec_simplex.specs.declared.ends.StartStop.TheVariants as begun
-use Rattle.spec_simplex.specs.declared.ends.Stop.{Stop}
+use Rattle.spec_simplex.specs.declared.ends.RunStop.{RunStop}
 use Rattle.spec_simplex.specs.declared.ends.WarmStop.{WarmStop}
 use Rattle.spec_simplex.specs.declared.ends.WarmStop.TheVariants as fall
 use Rattle.spec_simplex.specs.Run.{◌>>=◌, refused_as}
 use Rattle.spec_simplex.specs.Form.{Form, form_of}
 use Rattle.spec_simplex.specs.Tableau.{Tableau}
-use Rattle.spec_simplex.specs.Phases.{Ended, run_from}
+use Rattle.spec_simplex.specs.Phases.{PrimalEnded, run_from}
 use Rattle.spec_simplex.specs.Eliminate.{start_from}
 use Rattle.spec_simplex.specs.Fit.{fit_run}
 use Rattle.spec_simplex.specs.Dual.{DualEnded, dual_run}
@@ -52,13 +52,13 @@ is_past run s p e h = subst (StopsAt run) e h
 
 module _ (limit : Option ℕ) (budget : ℕ) where
   -- ---- each method
-  pub primal_stops : (t : Tableau) (s : Stop ℚ) → run_from limit budget 0 t ≡ Err s → run_by limit budget t fit.Primal ≡ Err (run_stop s)
+  pub primal_stops : (t : Tableau) (s : RunStop ℚ) → run_from limit budget 0 t ≡ Err s → run_by limit budget t fit.Primal ≡ Err (run_stop s)
   primal_stops t s h = ap (λ o. stopped_as run_stop o >>= λ e. Ok (ByPrimal e)) h
 
-  pub primal_ends : (t : Tableau) (e : Ended) → run_from limit budget 0 t ≡ Ok e → run_by limit budget t fit.Primal ≡ Ok (ByPrimal e)
+  pub primal_ends : (t : Tableau) (e : PrimalEnded) → run_from limit budget 0 t ≡ Ok e → run_by limit budget t fit.Primal ≡ Ok (ByPrimal e)
   primal_ends t e h = ap (λ o. stopped_as run_stop o >>= λ e. Ok (ByPrimal e)) h
 
-  pub dual_stops : (t : Tableau) (s : Stop ℚ) → dual_run limit budget t ≡ Err s → run_by limit budget t fit.Dual ≡ Err (run_stop s)
+  pub dual_stops : (t : Tableau) (s : RunStop ℚ) → dual_run limit budget t ≡ Err s → run_by limit budget t fit.Dual ≡ Err (run_stop s)
   dual_stops t s h = ap (λ o. stopped_as run_stop o >>= λ e. Ok (ByDual e)) h
 
   pub dual_ends : (t : Tableau) (e : DualEnded) → dual_run limit budget t ≡ Ok e → run_by limit budget t fit.Dual ≡ Ok (ByDual e)
@@ -124,7 +124,7 @@ module _ (m : Model) (t : Tableau) (kind : Fit) (k : IsBegun m t kind) where
   runs : (budget : ℕ) → warm_run (Some largest) budget k.form k.basis ≡ run_by (Some largest) budget t kind
   runs budget = runs_by (Some largest) budget k.form k.basis t k.starts kind k.fit
 
-pub primal_fits : (budget : ℕ) (m : Model) (t : Tableau) (e : Ended) → IsBegun m t fit.Primal → run_from (Some largest) budget 0 t ≡ Ok e → IsFor m (colds.certificate_at e.tableau e.end)
+pub primal_fits : (budget : ℕ) (m : Model) (t : Tableau) (e : PrimalEnded) → IsBegun m t fit.Primal → run_from (Some largest) budget 0 t ≡ Ok e → IsFor m (colds.certificate_at e.tableau e.end)
 primal_fits budget m t e k h =
     let a : IsAccepted (Some largest) m (warm_certificate (ByPrimal e)) = run_accepted (Some largest) budget m k.form k.basis (ByPrimal e) k.formed k.fits (runs m t fit.Primal k budget ∙ primal_ends (Some largest) budget t e h) in
     a.fits

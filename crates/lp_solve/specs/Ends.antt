@@ -3,7 +3,7 @@ use Rattle.std.specs.Prelude.{◌≡◌, ◌<◌, ℕ, Option, Some, None, Resul
 use Rattle.spec_exact.specs.Fraction.{ℚ}
 use Rattle.spec_simplex.specs.declared.ends.PrimalEnd.{PrimalEnd}
 use Rattle.spec_simplex.specs.declared.ends.PrimalEnd.TheVariants.{Optimal, Unbounded}
-use Rattle.spec_simplex.specs.declared.ends.Stop.{Stop}
+use Rattle.spec_simplex.specs.declared.ends.RunStop.{RunStop}
 use Rattle.spec_simplex.specs.Tableau.{Tableau, all_columns}
 use Rattle.spec_simplex.specs.Phases.{PhasesEnd, Infeasible, Finished}
 use Rattle.lp_solve.specs.declared.phases.Ended.{Ended}
@@ -16,7 +16,7 @@ abbrev pub end_of : Ended → PhasesEnd
 end_of e = end_by e.tab e.used e.end
 
 -- both phases end so, or stop so
-abbrev pub Ends : Result PhasesEnd (Stop ℚ) → Result Ended (Stop ℚ) → Type 0
+abbrev pub Ends : Result PhasesEnd (RunStop ℚ) → Result Ended (RunStop ℚ) → Type 0
 Ends answer (Ok e) = answer ≡ Ok (end_of e)
 Ends answer (Err stop) = answer ≡ Err stop
 

@@ -14,7 +14,7 @@ use lp_check::{Certificate, Verdict, check};
 use lp_form::{Basis, Form};
 use lp_frac::{Frac, Fracs};
 use lp_model::Model;
-use lp_tableau::{ColdStop, Stop, start_cold};
+use lp_tableau::{ColdStop, RunStop, start_cold};
 use std::alloc::{AllocError, Global};
 
 /// What a solve ends with: an answer (`Ended`), the first operation that is past 127 bits (`Past`), or that the budget
@@ -97,7 +97,7 @@ pub(crate) fn from_form(
     };
     match phases(tab, form, budget) {
         Ok(ended) => finished(alloc, model, &ended),
-        Err(Stop::Past(past)) => Ok(End::Past(past)),
-        Err(Stop::Spent) => Ok(End::Spent),
+        Err(RunStop::Past(past)) => Ok(End::Past(past)),
+        Err(RunStop::Spent) => Ok(End::Spent),
     }
 }

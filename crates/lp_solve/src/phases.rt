@@ -8,7 +8,7 @@ ghost use Rattle.lp_solve.specs.Ends.{Ends, IsInside};
 
 use lp_form::Form;
 use lp_primal::run;
-use lp_tableau::{PrimalEnd, Stop, Tableau};
+use lp_tableau::{PrimalEnd, RunStop, Tableau};
 
 /// How both phases ended: the last tableau, and the count of pivots and flips.
 #[derive(Drop)]
@@ -20,7 +20,7 @@ pub(crate) struct Ended {
 }
 
 // Phase one, where it is wanted.
-fn phase_one(tab: &mut Tableau, used: &mut u64, budget: u64) -> Result<PrimalEnd, Stop>
+fn phase_one(tab: &mut Tableau, used: &mut u64, budget: u64) -> Result<PrimalEnd, RunStop>
     requires { used.old ≡ 0 }
     ensures { Runs (plain.phase_one (Some largest) budget tab.old) tab.new used.new result }
 {
@@ -32,7 +32,7 @@ fn phase_one(tab: &mut Tableau, used: &mut u64, budget: u64) -> Result<PrimalEnd
 }
 
 /// Both phases from the tableau that the form begins with. They share the budget.
-pub(crate) fn phases(mut tab: Tableau, form: &Form, budget: u64) -> Result<Ended, Stop>
+pub(crate) fn phases(mut tab: Tableau, form: &Form, budget: u64) -> Result<Ended, RunStop>
     requires { start_of (Some largest) form.now ≡ Ok tab }
     ensures answer { Ends (plain.phases_run (Some largest) budget form.now) result }
     ensures inside { IfOk result (λ e. IsInside e.tab e.end) }

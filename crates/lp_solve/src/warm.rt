@@ -16,7 +16,7 @@ use lp_dual::{Fit, fit};
 use lp_form::{Basis, Form};
 use lp_frac::{Frac, Fracs};
 use lp_model::Model;
-use lp_tableau::{BasisStop, Stop, Tableau, start_from};
+use lp_tableau::{BasisStop, RunStop, Tableau, start_from};
 use std::alloc::{AllocError, Global};
 
 type WarmStop = spec_simplex::WarmStop<Frac>;
@@ -25,12 +25,12 @@ type WarmStop = spec_simplex::WarmStop<Frac>;
 pub(crate) type Warm = spec_warm::Warm<Frac, Fracs, Basis>;
 
 // A stop of the run as one of the warm start.
-fn run_stop(stop: Stop) -> WarmStop
+fn run_stop(stop: RunStop) -> WarmStop
     ensures { result ≡ told.run_stop stop }
 {
     match stop {
-        Stop::Past(past) => WarmStop::Past(past),
-        Stop::Spent => WarmStop::Spent,
+        RunStop::Past(past) => WarmStop::Past(past),
+        RunStop::Spent => WarmStop::Spent,
     }
 }
 

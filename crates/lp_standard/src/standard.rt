@@ -10,7 +10,7 @@ ghost use Rattle.lp_standard.specs.Answer.{IsFaultOf, IsStopOf};
 
 use crate::fault::FormStop;
 use crate::limits::{clash, limits};
-use lp_form::{Bounds, Columns, Form};
+use lp_form::{BoundList, Columns, Form};
 use lp_frac::{Entries, Frac, Fracs, neg, zero};
 use lp_model::{Model, Sense};
 use std::alloc::{AllocError, Global};
@@ -64,10 +64,10 @@ fn entries(alloc: Global, model: &Model) -> Result<Columns, AllocError>
 }
 
 // The lower bounds of all columns, and then the lower limits of all rows.
-fn lowers(alloc: Global, model: &Model, limits: &[Limits]) -> Result<Bounds, AllocError>
+fn lowers(alloc: Global, model: &Model, limits: &[Limits]) -> Result<BoundList, AllocError>
     ensures { IfOk result (λ v. v ≡ map (λ c. c.lower) model.now.columns ++ map (λ l. l.0) limits.now) }
 {
-    let mut lowers = Bounds::new(alloc);
+    let mut lowers = BoundList::new(alloc);
     for j in 0..model.cols() {
         lowers.push(model.col(j).lower)?;
     }
@@ -78,10 +78,10 @@ fn lowers(alloc: Global, model: &Model, limits: &[Limits]) -> Result<Bounds, All
 }
 
 // The upper bounds of all columns, and then the upper limits of all rows.
-fn uppers(alloc: Global, model: &Model, limits: &[Limits]) -> Result<Bounds, AllocError>
+fn uppers(alloc: Global, model: &Model, limits: &[Limits]) -> Result<BoundList, AllocError>
     ensures { IfOk result (λ v. v ≡ map (λ c. c.upper) model.now.columns ++ map (λ l. l.1) limits.now) }
 {
-    let mut uppers = Bounds::new(alloc);
+    let mut uppers = BoundList::new(alloc);
     for j in 0..model.cols() {
         uppers.push(model.col(j).upper)?;
     }

@@ -11,7 +11,7 @@ use Rattle.spec_simplex.specs.Form.{Form}
 use Rattle.spec_simplex.specs.Tableau.{Tableau, basic_at, entry_at}
 use Rattle.spec_simplex.specs.Start.{cost_at, reduced_run, priced_run, with_reduced}
 use Rattle.spec_simplex.specs.Phases.{without_artificials, phase_two_run}
-use Rattle.lp_tableau.specs.Answer.{Gives}
+use Rattle.lp_tableau.specs.Answer.{GivesRun}
 use Rattle.lp_tableau.proofs.Pivots.{RepricedFrom}
 use Rattle.lp_tableau.proofs.Spots.{less_no_times}
 
@@ -24,7 +24,7 @@ repriced_again t u v xs e h =
     let d : xs ≡ v.reduced = sym (ap (λ w. w.reduced) h) in
     h ∙ ap (λ w. with_reduced w xs) e ∙ ap (with_reduced t) d
 
-pub phase_two_gives : (limit : Option ℕ) (f : Form) (t u x : Tableau) (costs : List ℚ) (r : Result ⊤ (Past ℚ)) → u ≡ without_artificials t → costs ≡ f.cost → Gives (priced_run limit u costs) x.reduced r → RepricedFrom u x → Gives (phase_two_run limit f t) x r
+pub phase_two_gives : (limit : Option ℕ) (f : Form) (t u x : Tableau) (costs : List ℚ) (r : Result ⊤ (Past ℚ)) → u ≡ without_artificials t → costs ≡ f.cost → GivesRun (priced_run limit u costs) x.reduced r → RepricedFrom u x → GivesRun (phase_two_run limit f t) x r
 unfolding phase_two_run
 phase_two_gives limit f t u x costs (Ok v) e g h k =
     let priced : priced_run limit (without_artificials t) f.cost ≡ Ok x.reduced = subst (λ w. priced_run limit w f.cost ≡ Ok x.reduced) e (subst (λ c. priced_run limit u c ≡ Ok x.reduced) g h) in

@@ -12,7 +12,7 @@ use Rattle.spec_simplex.specs.Run.{Run, ◌>>=◌, list_run, made, quotient_run,
 use Rattle.spec_simplex.specs.Tableau.{at_place}
 use Rattle.spec_simplex.specs.Step.{scaled_run, cleared_run, turned_run}
 use Rattle.spec_simplex.proofs.Stops.{list_more, length-list_run, length-made, get_or-made}
-use Rattle.lp_tableau.specs.Answer.{Gives}
+use Rattle.lp_tableau.specs.Answer.{GivesRun}
 use Rattle.lp_tableau.specs.Grid.{IsGrid}
 use Rattle.lp_tableau.specs.Twins.{IsTwinned, signed, twin, with_twins, twinned, scaled_by, cleared_by}
 use Rattle.lp_tableau.proofs.Done.{grid_row}
@@ -108,12 +108,12 @@ module _ (c m : ℕ) (turned : List Bool) (t : length turned ≡ m) (f f' : ℕ 
   twins_refused : (e : Past ℚ) → list_run (c + m) f ≡ Err e → list_run (c + m + m) f' ≡ Err e
   twins_refused e h = list_err (c + m) m f' e (list_same (c + m) f f' low ∙ h)
 
-  twins_given : (rows : List (List ℚ)) (p : ℕ) (new : List (List ℚ)) (r : Result ⊤ (Past ℚ)) → Gives (list_run (c + m) f >>= λ row. Ok (set rows p row)) new r →
-      Gives (list_run (c + m + m) f' >>= λ row. Ok (set (twinned c turned rows) p row)) (twinned c turned new) r
+  twins_given : (rows : List (List ℚ)) (p : ℕ) (new : List (List ℚ)) (r : Result ⊤ (Past ℚ)) → GivesRun (list_run (c + m) f >>= λ row. Ok (set rows p row)) new r →
+      GivesRun (list_run (c + m + m) f' >>= λ row. Ok (set (twinned c turned rows) p row)) (twinned c turned new) r
   twins_given rows p new r g = by (list_run (c + m) f) refl r g
     where
-      by : (o : Run (List ℚ)) → list_run (c + m) f ≡ o → (r : Result ⊤ (Past ℚ)) → Gives (o >>= λ row. Ok (set rows p row)) new r →
-          Gives (list_run (c + m + m) f' >>= λ row. Ok (set (twinned c turned rows) p row)) (twinned c turned new) r
+      by : (o : Run (List ℚ)) → list_run (c + m) f ≡ o → (r : Result ⊤ (Past ℚ)) → GivesRun (o >>= λ row. Ok (set rows p row)) new r →
+          GivesRun (list_run (c + m + m) f' >>= λ row. Ok (set (twinned c turned rows) p row)) (twinned c turned new) r
       by (Ok row) e (Ok u) g =
           let s : set rows p row ≡ new = cc in
           ap (λ o. o >>= λ row. Ok (set (twinned c turned rows) p row)) (twins_made row e)
@@ -126,7 +126,7 @@ module _ (c m : ℕ) (turned : List Bool) (t : length turned ≡ m) (f f' : ℕ 
 
 module _ (limit : Option ℕ) (c m : ℕ) (turned : List Bool) (rows : List (List ℚ)) (t : length turned ≡ m) (g : IsGrid m (c + m) rows) where
   pub scaled_twins : (p j : ℕ) (by : ℚ) (new : List (List ℚ)) (r : Result ⊤ (Past ℚ)) → p < m → by ≡ at_place (twinned c turned rows) p j →
-      Gives (scaled_by limit (c + m) rows p by) new r → Gives (scaled_run limit (c + m + m) (twinned c turned rows) p j) (twinned c turned new) r
+      GivesRun (scaled_by limit (c + m) rows p by) new r → GivesRun (scaled_run limit (c + m + m) (twinned c turned rows) p j) (twinned c turned new) r
   unfolding scaled_by scaled_run
   scaled_twins p j by new r h e w =
       twins_given c m turned t (λ k. quotient_run limit (at_place rows p k) by) (λ k. quotient_run limit (at_place (twinned c turned rows) p k) (at_place (twinned c turned rows) p j))
@@ -135,7 +135,7 @@ module _ (limit : Option ℕ) (c m : ℕ) (turned : List Bool) (rows : List (Lis
       rows p new r w
 
   pub cleared_twins : (p j i : ℕ) (times : ℚ) (new : List (List ℚ)) (r : Result ⊤ (Past ℚ)) → p < m → i < m → times ≡ at_place (twinned c turned rows) i j →
-      Gives (cleared_by limit (c + m) p times i rows) new r → Gives (cleared_run limit (c + m + m) p j i (twinned c turned rows)) (twinned c turned new) r
+      GivesRun (cleared_by limit (c + m) p times i rows) new r → GivesRun (cleared_run limit (c + m + m) p j i (twinned c turned rows)) (twinned c turned new) r
   unfolding cleared_by cleared_run
   cleared_twins p j i times new r h l e w =
       twins_given c m turned t (λ k. less_product limit times (at_place rows p k) (at_place rows i k))
@@ -178,9 +178,9 @@ module _ (c m : ℕ) (turned : List Bool) (grid rows : List (List ℚ)) (e : twi
     pub width_is : (p : ℕ) → p < height → width ≡ c + m + m
     width_is p h = sym (grid_row height width rows p g h) ∙ row_wide p (omega (arith, h, height_is))
 
-    pub turned_same : (limit : Option ℕ) (p j : ℕ) (new : List (List ℚ)) (r : Result ⊤ (Past ℚ)) → p < height → Gives (turned_run limit m (c + m + m) (twinned c turned grid) p j) new r → Gives (turned_run limit height width rows p j) new r
+    pub turned_same : (limit : Option ℕ) (p j : ℕ) (new : List (List ℚ)) (r : Result ⊤ (Past ℚ)) → p < height → GivesRun (turned_run limit m (c + m + m) (twinned c turned grid) p j) new r → GivesRun (turned_run limit height width rows p j) new r
     turned_same limit p j new r h w =
-        subst (λ run. Gives run new r)
+        subst (λ run. GivesRun run new r)
         (ap₂ (λ a b. turned_run limit a b (twinned c turned grid) p j) (sym height_is) (sym (width_is p h)) ∙ ap (λ xs. turned_run limit height width xs p j) e) w
 
     pub grid_after : (new : List (List ℚ)) (p : ℕ) → p < height → IsGrid m (c + m) new → IsGrid height width (twinned c turned new)

@@ -7,9 +7,9 @@ use Rattle.lp_tableau.specs.declared.ends.ColdStop.{ColdStop}
 use Rattle.lp_tableau.specs.declared.ends.ColdStop.TheVariants as cold
 
 -- the run gives x, or it is refused with the answer
-abbrev pub Gives : {A : Type 0} → Run A → A → Result ⊤ (Past ℚ) → Type 0
-Gives run x (Ok u) = run ≡ Ok x
-Gives run x (Err p) = run ≡ Err p
+abbrev pub GivesRun : {A : Type 0} → Run A → A → Result ⊤ (Past ℚ) → Type 0
+GivesRun run x (Ok u) = run ≡ Ok x
+GivesRun run x (Err p) = run ≡ Err p
 
 -- the run is refused with this stop, or memory was wanting
 abbrev pub Stops : {A : Type 0} → Run A → ColdStop → Type 0

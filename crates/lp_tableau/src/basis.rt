@@ -7,7 +7,7 @@ ghost use Rattle.spec_simplex.specs.Tableau.{all_columns};
 ghost use Rattle.spec_simplex.specs.declared.ends.StartStop.TheVariants as start;
 ghost use Rattle.spec_simplex.specs.Eliminate as elimination;
 ghost use Rattle.lp_frac.specs.Narrow.{largest};
-ghost use Rattle.lp_tableau.specs.Answer.{Gives};
+ghost use Rattle.lp_tableau.specs.Answer.{GivesRun};
 ghost use Rattle.lp_tableau.specs.Grid.{IsGrid};
 ghost use Rattle.lp_tableau.specs.Based.{AreInside, StopsAt, stand_in};
 
@@ -149,7 +149,7 @@ impl Tableau {
     fn fill(&self, values: &mut [Frac]) -> Result<(), Past>
         requires begun { values.old ≡ self.now.value }
         requires len { length values.old ≡ all_columns self.now }
-        ensures filled { Gives (elimination.valued_run (Some largest) self.now) values.new result }
+        ensures filled { GivesRun (elimination.valued_run (Some largest) self.now) values.new result }
         ensures len { length values.new ≡ length values.old }
     {
         for i in 0..self.rows() {

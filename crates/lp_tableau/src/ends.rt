@@ -9,7 +9,7 @@ use std::alloc::AllocError;
 use thiserror::Error;
 
 /// Why a run does not end by itself.
-pub type Stop = spec_simplex::Stop<Frac>;
+pub type RunStop = spec_simplex::RunStop<Frac>;
 
 /// Why a form has no start.
 #[derive(Clone, Copy, Debug, PartialEq, Eq, Error)]

@@ -6,7 +6,7 @@
 //! | `start_from` | the tableau of a basis |
 //! | `Tableau::pivot`, `flip`, `phase_two` | the changes, each exact or refused as `spec_simplex` has it |
 //! | `Tableau::wants_phase_one`, `is_stuck` | what the phases ask: a basic artificial, and one that is not 0 |
-//! | `PrimalEnd`, `Stop` | how a run of steps ends, and why it does not |
+//! | `PrimalEnd`, `RunStop` | how a run of steps ends, and why it does not |
 //! | `ColdStop`, `BasisStop` | why a form has no start, and a basis no tableau |
 //!
 //! Rows are kept one after the other in one block, which never grows, and without the artificial columns: each is its
@@ -32,6 +32,6 @@ mod tests;
 mod twins;
 
 pub use basis::start_from;
-pub use ends::{BasisStop, ColdStop, PrimalEnd, Stop};
+pub use ends::{BasisStop, ColdStop, PrimalEnd, RunStop};
 pub use start::start_cold;
 pub use tableau::Tableau;

@@ -5,7 +5,7 @@ ghost use Rattle.spec_simplex.specs.Tableau.{all_columns};
 ghost use Rattle.spec_simplex.specs.Start.{cost_at as cost_of, reduced_run, priced_run};
 ghost use Rattle.spec_simplex.specs.Phases.{is_stuck, without_artificials, phase_two_run};
 ghost use Rattle.lp_frac.specs.Narrow.{largest};
-ghost use Rattle.lp_tableau.specs.Answer.{Gives};
+ghost use Rattle.lp_tableau.specs.Answer.{GivesRun};
 
 use crate::steps::less_product;
 use crate::tableau::Tableau;
@@ -51,7 +51,7 @@ impl Tableau {
 
     // The reduced costs of all columns for these costs.
     pub(crate) fn price(&mut self, costs: &[Frac]) -> Result<(), Past>
-        ensures priced { Gives (priced_run (Some largest) self.old costs.now) self.new.reduced result }
+        ensures priced { GivesRun (priced_run (Some largest) self.old costs.now) self.new.reduced result }
         ensures rest { self.new ≡ record self.old { reduced = self.new.reduced } }
     {
         for k in 0..self.width() {
@@ -89,7 +89,7 @@ impl Tableau {
         requires same_rows { form.now.rows ≡ self.old.rows }
         requires same_cols { form.now.cols ≡ self.old.cols }
         requires at_zero { is_stuck self.old ≡ false }
-        ensures { Gives (phase_two_run (Some largest) form.now self.old) self.new result }
+        ensures { GivesRun (phase_two_run (Some largest) form.now self.old) self.new result }
     {
         self.fix_artificials();
         self.price(form.costs())

@@ -2,7 +2,7 @@
 ghost use Rattle.std.specs.Prelude.{◌≡◌};
 
 use crate::*;
-use lp_form::{Bounds, Columns, Form};
+use lp_form::{BoundList, Columns, Form};
 use lp_frac::{Entries, Frac, Fracs, are_same, neg, one};
 use std::alloc::Global;
 use std::process::Abort;
@@ -22,8 +22,8 @@ fn small(alloc: Global) -> Result<Form, Fail> {
         3,
         1,
         columns,
-        Bounds::from_vec(lower),
-        Bounds::from_vec(upper),
+        BoundList::from_vec(lower),
+        BoundList::from_vec(upper),
         costs,
     ))
 }

@@ -10,7 +10,7 @@ use Rattle.spec_server.specs.declared.command_line.TextCommand.TheVariants.{Solv
 use Rattle.spec_server.specs.CheckOut.{CheckOut, check_code}
 use Rattle.spec_server.specs.SolveOut.{SolveOut, solve_code}
 use Rattle.lp_base.specs.Beside.{Takes}
-use Rattle.mps_read.specs.Reading.{Reading}
+use Rattle.mps_read.specs.TextRead.{TextRead}
 use Rattle.lp_top.specs.declared.check.CheckStage.TheVariants as stage
 use Rattle.lp_top.specs.declared.exit_status.ExitStatus.{ExitStatus}
 use Rattle.lp_top.specs.declared.halt.Halt.{Halt}
@@ -48,10 +48,10 @@ module _ {R : Type 0} (said : List (Line (List ℕ)) → Option R) (Out : R → 
 reads_as : (command is : TextCommand) (style : Style) (s : Streams) (result : Result ExitStatus Halt) → command ≡ is → ReadsText is style s result → ReadsText command style s result
 reads_as command is style s result e h = subst (λ (asked : TextCommand). ReadsText asked style s result) (sym e) h
 
-pub solve_reads : (command : TextCommand) (style : Style) (reader : Reading) → command ≡ Solve → reader ≡ record { style = style; state = start; lines = 0 } → (s : Streams) (result : Result ExitStatus Halt) →
+pub solve_reads : (command : TextCommand) (style : Style) (reader : TextRead) → command ≡ Solve → reader ≡ record { style = style; state = start; lines = 0 } → (s : Streams) (result : Result ExitStatus Halt) →
     SaysSo (text.said_behind reader) SolveOut solve_code s result → ReadsText command style s result
-solve_reads command style reader asked is s result h = reads_as command Solve style s result asked (subst (λ (r : Reading). SaysSo (text.said_behind r) SolveOut solve_code s result) is h)
+solve_reads command style reader asked is s result h = reads_as command Solve style s result asked (subst (λ (r : TextRead). SaysSo (text.said_behind r) SolveOut solve_code s result) is h)
 
-pub check_reads : (command : TextCommand) (style : Style) (reader : Reading) → command ≡ Check → reader ≡ record { style = style; state = start; lines = 0 } → (s : Streams) (result : Result ExitStatus Halt) →
+pub check_reads : (command : TextCommand) (style : Style) (reader : TextRead) → command ≡ Check → reader ≡ record { style = style; state = start; lines = 0 } → (s : Streams) (result : Result ExitStatus Halt) →
     SaysSo (check_stage.said_behind (stage.Text reader)) CheckOut check_code s result → ReadsText command style s result
-check_reads command style reader asked is s result h = reads_as command Check style s result asked (subst (λ (r : Reading). SaysSo (check_stage.said_behind (stage.Text r)) CheckOut check_code s result) is h)
+check_reads command style reader asked is s result h = reads_as command Check style s result asked (subst (λ (r : TextRead). SaysSo (check_stage.said_behind (stage.Text r)) CheckOut check_code s result) is h)

@@ -7,7 +7,7 @@ use Rattle.mps_card.specs.declared.fault.CardFault.{CardFault}
 use Rattle.mps_card.specs.declared.fault.CardFault.TheVariants.{Misplaced, NoMemory}
 
 -- the card, or the column that is at fault; want of memory says nothing
-abbrev pub Gives : Result (Card Fields) CardFault → CardReading → Type 0
-Gives (Ok card) reading = reading ≡ Is card
-Gives (Err (Misplaced column)) reading = reading ≡ told.Misplaced column
-Gives (Err NoMemory) reading = Unit {0}
+abbrev pub GivesCard : Result (Card Fields) CardFault → CardReading → Type 0
+GivesCard (Ok card) reading = reading ≡ Is card
+GivesCard (Err (Misplaced column)) reading = reading ≡ told.Misplaced column
+GivesCard (Err NoMemory) reading = Unit {0}

@@ -4,7 +4,7 @@
 //! Fields            the fields of a card: src/fields
 //! free fixed        the card of a line, in free and in fixed form: src/cards
 //! CardFault         why a line has no card: src/fault
-//! Gives             what the two answer: specs/Answer
+//! GivesCard             what the two answer: specs/Answer
 #![tactic(auto)]
 
 mod cards;

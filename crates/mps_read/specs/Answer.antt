@@ -22,9 +22,9 @@ Fails check (fault.Code code) = check ≡ Err code
 Fails check fault.NoMemory = Unit {0}
 
 -- the step leads to this state, or fails
-abbrev pub Gives : Check State → State → Result ⊤ Fault → Type 0
-Gives check state (Ok done) = check ≡ Ok state
-Gives check state (Err fault) = Fails check fault
+abbrev pub GivesState : Check State → State → Result ⊤ Fault → Type 0
+GivesState check state (Ok done) = check ≡ Ok state
+GivesState check state (Err fault) = Fails check fault
 
 -- the line leads to this state, or to the end of the text in it, or fails
 abbrev pub Goes : Outcome → State → Result Went Fault → Type 0

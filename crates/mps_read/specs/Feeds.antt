@@ -6,10 +6,10 @@ use Rattle.spec_mps.specs.Steps.{Outcome}
 use Rattle.spec_mps.specs.Steps as told
 use Rattle.mps_read.specs.declared.reader.Feed.{Feed}
 use Rattle.mps_read.specs.declared.reader.Feed.TheVariants as feed
-use Rattle.mps_read.specs.Reading.{Reading}
+use Rattle.mps_read.specs.TextRead.{TextRead}
 
 -- the text goes on behind line n
-pub record GoesOn (outcome : Outcome) (form : Style) (n : ℕ) (new : Reading) : Type 0 where
+pub record GoesOn (outcome : Outcome) (form : Style) (n : ℕ) (new : TextRead) : Type 0 where
   pub state : outcome ≡ Ok (told.More new.state)
   pub style : new.style ≡ form
   pub lines : new.lines ≡ n
@@ -20,7 +20,7 @@ pub record IsRefused (outcome : Outcome) (n : ℕ) (fault : MpsFault) : Type 0 w
   pub code : outcome ≡ Err fault.code
 
 -- the answer at line n of what its step leads to; want of memory says nothing
-abbrev pub Feeds : Outcome → Style → ℕ → Reading → Feed → Type 0
+abbrev pub Feeds : Outcome → Style → ℕ → TextRead → Feed → Type 0
 Feeds outcome style n new feed.More = GoesOn outcome style n new
 Feeds outcome style n new (feed.Done m) = outcome ≡ Ok (told.Done m)
 Feeds outcome style n new (feed.Refused fault) = IsRefused outcome n fault

@@ -6,5 +6,5 @@ pub mod Feeds
 pub mod Finished
 pub mod Leads
 pub mod Parts
-pub mod Reading
+pub mod TextRead
 pub mod Sets

@@ -6,7 +6,7 @@ ghost use Rattle.spec_text.specs.Words.{same};
 ghost use Rattle.spec_mps.specs.Fields.{texts_of};
 ghost use Rattle.spec_mps.specs.Bounds as told;
 ghost use Rattle.spec_mps.specs.Sides.{changed_at};
-ghost use Rattle.mps_read.specs.Answer.{Gives};
+ghost use Rattle.mps_read.specs.Answer.{GivesState};
 ghost use Rattle.mps_read.specs.BoundSeen.{bound_seen, texts_seen, texts_made};
 ghost use Rattle.mps_read.specs.BoundSeen as seen;
 ghost use Rattle.mps_read.specs.Draft.{state_of};
@@ -135,7 +135,7 @@ impl Draft {
         style: Style,
         fields: &Fields,
     ) -> Result<(), Fault>
-        ensures { Gives (told.bounds_card style (state_of self.old) fields.now) (state_of self.new) result }
+        ensures { GivesState (told.bounds_card style (state_of self.old) fields.now) (state_of self.new) result }
     {
         let kind = bound_kind_of(fields.text_at(1))?;
         let texts = bound_texts(style, kind, fields.as_slice())?;
@@ -147,7 +147,7 @@ impl Draft {
 
     #[tactic(auto, unfolding(spec_mps::specs::Bounds::use_bound))]
     fn use_bound(&mut self, alloc: Global, kind: BoundKind, texts: BoundTexts) -> Result<(), Fault>
-        ensures { Gives (told.use_bound (state_of self.old) kind (texts_seen texts.entry)) (state_of self.new) result }
+        ensures { GivesState (told.use_bound (state_of self.old) kind (texts_seen texts.entry)) (state_of self.new) result }
     {
         let Some(place) = column_named(&self.columns, texts.column) else {
             return Err(Fault::Code(Code::UnknownColumn));

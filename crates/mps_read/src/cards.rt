@@ -1,7 +1,7 @@
 // The cards of lines, by the section that they stand in.
 ghost use Rattle.mps_card.specs.Answer as card;
 ghost use Rattle.spec_mps.specs.Steps as told;
-ghost use Rattle.mps_read.specs.Answer.{Gives, Goes};
+ghost use Rattle.mps_read.specs.Answer.{GivesState, Goes};
 ghost use Rattle.mps_read.specs.Draft.{state_of};
 
 use crate::draft::Draft;
@@ -18,7 +18,7 @@ fn read_card(
     part: Option<Section>,
     bytes: &[u8],
 ) -> Result<Card, CardFault>
-    ensures { card.Gives result (told.reading_of style part bytes.now) }
+    ensures { card.GivesCard result (told.reading_of style part bytes.now) }
 {
     match (style, part) {
         (Style::Free, _) | (Style::Fixed, Some(Section::Sense)) => free(alloc, bytes),
@@ -28,7 +28,7 @@ fn read_card(
 
 impl Draft {
     fn data_card(&mut self, alloc: Global, style: Style, fields: &Fields) -> Result<(), Fault>
-        ensures { Gives (told.data_card style (state_of self.old).part (state_of self.old) fields.now) (state_of self.new) result }
+        ensures { GivesState (told.data_card style (state_of self.old).part (state_of self.old) fields.now) (state_of self.new) result }
     {
         match self.part {
             None | Some(Section::Name | Section::End) => Err(Fault::Code(Code::CardShape)),

@@ -5,7 +5,7 @@ ghost use Rattle.spec_text.specs.Words.{same};
 ghost use Rattle.spec_mps.specs.declared.target.Place.TheVariants as place;
 ghost use Rattle.spec_mps.specs.Fields.{texts_of};
 ghost use Rattle.spec_mps.specs.Reader as told;
-ghost use Rattle.mps_read.specs.Answer.{Gives};
+ghost use Rattle.mps_read.specs.Answer.{GivesState};
 ghost use Rattle.mps_read.specs.Draft.{state_of};
 
 use crate::column::{make_column, put_number};
@@ -45,7 +45,7 @@ impl Draft {
         style: Style,
         fields: &Fields,
     ) -> Result<(), Fault>
-        ensures { Gives (told.columns_card style (state_of self.old) fields.now) (state_of self.new) result }
+        ensures { GivesState (told.columns_card style (state_of self.old) fields.now) (state_of self.new) result }
     {
         if are_same(fields.text_at(marker_field(style)), b"'MARKER'") {
             return Err(Fault::Code(Code::Integer));
@@ -58,7 +58,7 @@ impl Draft {
 
     // A column's name, and pairs of a row's name and a number.
     fn column_by(&mut self, alloc: Global, fields: &[Field]) -> Result<(), Fault>
-        ensures { Gives (told.column_by (state_of self.old) (texts_of fields.now)) (state_of self.new) result }
+        ensures { GivesState (told.column_by (state_of self.old) (texts_of fields.now)) (state_of self.new) result }
     {
         let Some((name, pairs)) = fields.split_first() else {
             return Err(Fault::Code(Code::CardShape));
@@ -92,7 +92,7 @@ impl Draft {
     // Cards of this column are read, or of none that is there already.
     #[tactic(auto, unfolding(spec_mps::specs::Reader::opened))]
     fn open(&mut self, alloc: Global, name: &[u8]) -> Result<(), Fault>
-        ensures { Gives (told.opened (state_of self.old) name.now) (state_of self.new) result }
+        ensures { GivesState (told.opened (state_of self.old) name.now) (state_of self.new) result }
     {
         if self.is_open(name) {
             return Ok(());
@@ -122,7 +122,7 @@ impl Draft {
     }
 
     fn column_pairs(&mut self, fields: &[Field]) -> Result<(), Fault>
-        ensures { Gives (told.column_pairs (state_of self.old) (told.pairs_of (texts_of fields.now))) (state_of self.new) result }
+        ensures { GivesState (told.column_pairs (state_of self.old) (told.pairs_of (texts_of fields.now))) (state_of self.new) result }
     {
         let mut fields = fields;
         while let [row, value, more @ ..] = fields {
@@ -134,7 +134,7 @@ impl Draft {
 
     #[tactic(auto, unfolding(spec_mps::specs::Reader::column_pair, spec_mps::specs::Reader::enter))]
     fn column_pair(&mut self, name: &[u8], text: &[u8]) -> Result<(), Fault>
-        ensures { Gives (told.column_pair (state_of self.old) name.now text.now) (state_of self.new) result }
+        ensures { GivesState (told.column_pair (state_of self.old) name.now text.now) (state_of self.new) result }
     {
         let Some(place) = self.place_of(name) else {
             return Err(Fault::Code(Code::UnknownRow));
@@ -149,7 +149,7 @@ impl Draft {
     // A number of the column that is read, at a target that had none.
     #[tactic(auto, unfolding(spec_mps::specs::Reader::enter))]
     fn enter(&mut self, target: Target, value: Frac) -> Result<(), Fault>
-        ensures { Gives (told.enter (state_of self.old) (place.Kept target) value) (state_of self.new) result }
+        ensures { GivesState (told.enter (state_of self.old) (place.Kept target) value) (state_of self.new) result }
     {
         if self.paired.has(target) {
             return Err(Fault::Code(Code::EntryRepeated));

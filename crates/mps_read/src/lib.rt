@@ -3,7 +3,7 @@
 //! Reader                    a text that is read; `new` begins it, and `feed` takes its next line: src/reader
 //! Feed                      what a line is answered: src/reader
 //! Style, MpsFault, Code     the two forms, and a line that is wrong, as spec_mps has them
-//! Reading                   a reader to contracts: its form, what was read, and the lines so far: specs/Reading
+//! TextRead                   a reader to contracts: its form, what was read, and the lines so far: specs/TextRead
 //! Feeds                     that an answer is the one of the step of a line: specs/Feeds
 //! Leads                     that lines lead from one state to another: specs/Leads
 //!

@@ -4,7 +4,7 @@ ghost use Rattle.spec_mps.specs.declared.style.Style.{Style};
 ghost use Rattle.spec_mps.specs.Reader.{start};
 ghost use Rattle.spec_mps.specs.Steps.{Outcome, step};
 ghost use Rattle.mps_read.specs.Answer.{Fails};
-ghost use Rattle.mps_read.specs.Reading.{Reading};
+ghost use Rattle.mps_read.specs.TextRead.{TextRead};
 ghost use Rattle.mps_read.specs.Feeds.{Feeds};
 
 use crate::draft::Draft;
@@ -39,9 +39,9 @@ pub struct Reader {
 impl marker::Model for Reader {
     ghost use Rattle.mps_read.specs.Draft.{state_of};
     ghost use Rattle.mps_read.specs.Leads.{IsReached};
-    ghost use Rattle.mps_read.specs.Reading.{Reading};
+    ghost use Rattle.mps_read.specs.TextRead.{TextRead};
 
-    ghost Value = { Reading };
+    ghost Value = { TextRead };
 
     ghost view = { λ r. record { style = r.style; state = state_of r.draft; lines = r.lines } };
 
@@ -49,7 +49,7 @@ impl marker::Model for Reader {
 }
 
 fn refused(fault: Fault, line: u32) -> Feed
-    ensures { (outcome : Outcome) (style : Style) (new : Reading) → Fails outcome fault → Feeds outcome style line new result }
+    ensures { (outcome : Outcome) (style : Style) (new : TextRead) → Fails outcome fault → Feeds outcome style line new result }
 {
     match fault {
         Fault::Code(code) => Feed::Refused(MpsFault { line, code }),

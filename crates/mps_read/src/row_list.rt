@@ -75,14 +75,14 @@ impl Rows {
         }
     }
 
-    /// Gives the row at a place this right side. Past the end there is none.
+    /// GivesState the row at a place this right side. Past the end there is none.
     pub(crate) fn set_rhs(&mut self, at: u32, value: Frac)
         ensures { self.new ≡ changed_at at (λ r. record r { rhs = value }) self.old }
     {
         set_rhs_in(&mut self.items, at as usize, value);
     }
 
-    /// Gives the row at a place this range. Past the end there is none.
+    /// GivesState the row at a place this range. Past the end there is none.
     pub(crate) fn set_range(&mut self, at: u32, value: Frac)
         ensures { self.new ≡ changed_at at (λ r. record r { range = Some value }) self.old }
     {

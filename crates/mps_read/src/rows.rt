@@ -3,7 +3,7 @@ ghost use Rattle.std.specs.Prelude.{◌≡◌, ◌+◌, ◌++◌, ◌∷◌, [],
 ghost use Rattle.spec_model.specs.Kept.{row_limit};
 ghost use Rattle.spec_mps.specs.declared.row_type.RowType.TheVariants as row_type;
 ghost use Rattle.spec_mps.specs.Reader as told;
-ghost use Rattle.mps_read.specs.Answer.{Gives};
+ghost use Rattle.mps_read.specs.Answer.{GivesState};
 ghost use Rattle.mps_read.specs.Draft.{state_of};
 ghost use Rattle.mps_read.specs.Parts.{put_row};
 
@@ -28,7 +28,7 @@ impl Draft {
         style: Style,
         fields: &Fields,
     ) -> Result<(), Fault>
-        ensures { Gives (told.rows_card style (state_of self.old) fields.now) (state_of self.new) result }
+        ensures { GivesState (told.rows_card style (state_of self.old) fields.now) (state_of self.new) result }
     {
         if !has_shape(style, Section::Rows, fields.as_slice()) {
             return Err(Fault::Code(Code::CardShape));
@@ -41,7 +41,7 @@ impl Draft {
 
     #[tactic(auto, unfolding(spec_mps::specs::Reader::add_row))]
     fn add_row(&mut self, alloc: Global, row_type: RowType, name: &[u8]) -> Result<(), Fault>
-        ensures { Gives (told.add_row (state_of self.old) row_type name.now) (state_of self.new) result }
+        ensures { GivesState (told.add_row (state_of self.old) row_type name.now) (state_of self.new) result }
     {
         if !is_row_name(name) {
             return Err(Fault::Code(Code::Name));
@@ -64,7 +64,7 @@ impl Draft {
     }
 
     fn add_unlimited(&mut self, alloc: Global, name: &[u8]) -> Result<(), Fault>
-        ensures { Gives (put_row (state_of self.old) row_type.Unlimited name.now) (state_of self.new) result }
+        ensures { GivesState (put_row (state_of self.old) row_type.Unlimited name.now) (state_of self.new) result }
     {
         if self.objective.is_none() {
             self.objective = Some(Name::from_slice(alloc, name)?);
@@ -85,7 +85,7 @@ impl Draft {
     }
 
     fn add_limited(&mut self, alloc: Global, kind: Kind, name: &[u8]) -> Result<(), Fault>
-        ensures { Gives (put_row (state_of self.old) (row_type.Limited kind) name.now) (state_of self.new) result }
+        ensures { GivesState (put_row (state_of self.old) (row_type.Limited kind) name.now) (state_of self.new) result }
     {
         if !self.has_room() {
             return Err(Fault::Code(Code::Limit));

@@ -2,7 +2,7 @@
 ghost use Rattle.std.specs.Prelude.{◌≡◌, ◌&&◌, not, OnOk, None, Some};
 ghost use Rattle.spec_mps.specs.declared.section.Section.TheVariants as part;
 ghost use Rattle.spec_mps.specs.Steps as told;
-ghost use Rattle.mps_read.specs.Answer.{Gives, Goes};
+ghost use Rattle.mps_read.specs.Answer.{GivesState, Goes};
 ghost use Rattle.mps_read.specs.Draft.{state_of};
 
 use crate::draft::Draft;
@@ -102,7 +102,7 @@ impl Draft {
 
     // What a section's card says by its second word, which has no bytes where there is none.
     fn head(&mut self, alloc: Global, part: Section, word: &[u8]) -> Result<(), Fault>
-        ensures { Gives (told.headed (state_of self.old) part word.now) (state_of self.new) result }
+        ensures { GivesState (told.headed (state_of self.old) part word.now) (state_of self.new) result }
     {
         match part {
             Section::Name => self.take_name(alloc, word),
@@ -122,7 +122,7 @@ impl Draft {
     }
 
     fn take_name(&mut self, alloc: Global, word: &[u8]) -> Result<(), Fault>
-        ensures { Gives (told.headed (state_of self.old) part.Name word.now) (state_of self.new) result }
+        ensures { GivesState (told.headed (state_of self.old) part.Name word.now) (state_of self.new) result }
     {
         if !is_model_name(word) {
             return Err(Fault::Code(Code::Name));

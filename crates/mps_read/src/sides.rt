@@ -5,7 +5,7 @@ ghost use Rattle.spec_mps.specs.declared.target.Place.TheVariants as place;
 ghost use Rattle.spec_mps.specs.Fields.{texts_of};
 ghost use Rattle.spec_mps.specs.Reader as told;
 ghost use Rattle.spec_mps.specs.Sides as side;
-ghost use Rattle.mps_read.specs.Answer.{Gives};
+ghost use Rattle.mps_read.specs.Answer.{GivesState};
 ghost use Rattle.mps_read.specs.Draft.{state_of};
 ghost use Rattle.mps_read.specs.Sets.{card_seen};
 
@@ -26,7 +26,7 @@ impl Draft {
         style: Style,
         fields: &Fields,
     ) -> Result<(), Fault>
-        ensures { Gives (side.rhs_card style (state_of self.old) fields.now) (state_of self.new) result }
+        ensures { GivesState (side.rhs_card style (state_of self.old) fields.now) (state_of self.new) result }
     {
         if !has_shape(style, Section::RightSides, fields.as_slice()) {
             return Err(Fault::Code(Code::CardShape));
@@ -36,7 +36,7 @@ impl Draft {
 
     #[tactic(auto, unfolding(spec_mps::specs::Sides::rhs_by))]
     fn rhs_by(&mut self, alloc: Global, card: SetAndPairs) -> Result<(), Fault>
-        ensures { Gives (side.rhs_by (state_of self.old) (card_seen card.entry)) (state_of self.new) result }
+        ensures { GivesState (side.rhs_by (state_of self.old) (card_seen card.entry)) (state_of self.new) result }
     {
         if !is_used(&self.set, card.set) {
             return Ok(());
@@ -46,7 +46,7 @@ impl Draft {
     }
 
     fn side_pairs(&mut self, fields: &[Field]) -> Result<(), Fault>
-        ensures { Gives (side.side_pairs (state_of self.old) (told.pairs_of (texts_of fields.now))) (state_of self.new) result }
+        ensures { GivesState (side.side_pairs (state_of self.old) (told.pairs_of (texts_of fields.now))) (state_of self.new) result }
     {
         let mut fields = fields;
         while let [row, value, more @ ..] = fields {
@@ -58,7 +58,7 @@ impl Draft {
 
     #[tactic(auto, unfolding(spec_mps::specs::Sides::side_pair, spec_mps::specs::Sides::put_side))]
     fn side_pair(&mut self, name: &[u8], text: &[u8]) -> Result<(), Fault>
-        ensures { Gives (side.side_pair (state_of self.old) name.now text.now) (state_of self.new) result }
+        ensures { GivesState (side.side_pair (state_of self.old) name.now text.now) (state_of self.new) result }
     {
         let Some(place) = self.place_of(name) else {
             return Err(Fault::Code(Code::UnknownRow));
@@ -72,7 +72,7 @@ impl Draft {
 
     #[tactic(auto, unfolding(spec_mps::specs::Sides::put_side))]
     fn put_side(&mut self, target: Target, value: Frac) -> Result<(), Fault>
-        ensures { Gives (side.put_side (state_of self.old) (place.Kept target) value) (state_of self.new) result }
+        ensures { GivesState (side.put_side (state_of self.old) (place.Kept target) value) (state_of self.new) result }
     {
         if self.paired.has(target) {
             return Err(Fault::Code(Code::EntryRepeated));
@@ -98,7 +98,7 @@ impl Draft {
         style: Style,
         fields: &Fields,
     ) -> Result<(), Fault>
-        ensures { Gives (side.ranges_card style (state_of self.old) fields.now) (state_of self.new) result }
+        ensures { GivesState (side.ranges_card style (state_of self.old) fields.now) (state_of self.new) result }
     {
         if !has_shape(style, Section::Ranges, fields.as_slice()) {
             return Err(Fault::Code(Code::CardShape));
@@ -108,7 +108,7 @@ impl Draft {
 
     #[tactic(auto, unfolding(spec_mps::specs::Sides::ranges_by))]
     fn ranges_by(&mut self, alloc: Global, card: SetAndPairs) -> Result<(), Fault>
-        ensures { Gives (side.ranges_by (state_of self.old) (card_seen card.entry)) (state_of self.new) result }
+        ensures { GivesState (side.ranges_by (state_of self.old) (card_seen card.entry)) (state_of self.new) result }
     {
         if !is_used(&self.set, card.set) {
             return Ok(());
@@ -118,7 +118,7 @@ impl Draft {
     }
 
     fn range_pairs(&mut self, fields: &[Field]) -> Result<(), Fault>
-        ensures { Gives (side.range_pairs (state_of self.old) (told.pairs_of (texts_of fields.now))) (state_of self.new) result }
+        ensures { GivesState (side.range_pairs (state_of self.old) (told.pairs_of (texts_of fields.now))) (state_of self.new) result }
     {
         let mut fields = fields;
         while let [row, value, more @ ..] = fields {
@@ -130,7 +130,7 @@ impl Draft {
 
     #[tactic(auto, unfolding(spec_mps::specs::Sides::range_pair, spec_mps::specs::Sides::put_range))]
     fn range_pair(&mut self, name: &[u8], text: &[u8]) -> Result<(), Fault>
-        ensures { Gives (side.range_pair (state_of self.old) name.now text.now) (state_of self.new) result }
+        ensures { GivesState (side.range_pair (state_of self.old) name.now text.now) (state_of self.new) result }
     {
         let Some(place) = self.place_of(name) else {
             return Err(Fault::Code(Code::UnknownRow));
@@ -145,7 +145,7 @@ impl Draft {
 
     #[tactic(auto, unfolding(spec_mps::specs::Sides::put_range))]
     fn put_range(&mut self, row: u32, value: Frac) -> Result<(), Fault>
-        ensures { Gives (side.put_range (state_of self.old) (Some row) value) (state_of self.new) result }
+        ensures { GivesState (side.put_range (state_of self.old) (Some row) value) (state_of self.new) result }
     {
         if self.paired.has(Target::Row(row)) {
             return Err(Fault::Code(Code::EntryRepeated));

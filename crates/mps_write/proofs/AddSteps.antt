@@ -13,7 +13,7 @@ use Rattle.spec_mps.specs.Fields.{Field}
 use Rattle.spec_mps.specs.Written.{cards_of, name_card, sense_cards, rows_cards, columns_cards, sides_cards, ranges_cards, bounds_cards, section_card, fixed, too_wide, WrittenCards, cards_text, line_text, is_wide, data_fields}
 use Rattle.mps_write.specs.declared.fault.WriteFault.{WriteFault}
 use Rattle.mps_write.specs.declared.fault.WriteFault.TheVariants.{TooWide, NoMemory}
-use Rattle.mps_write.specs.Adds.{Adds, IsAdded, Names, wide_in, Gives, IsFixed, front_cards, back_cards}
+use Rattle.mps_write.specs.Adds.{Adds, IsAdded, Names, wide_in, GivesText, IsFixed, front_cards, back_cards}
 
 -- the first of two lists that has a wide field has the first wide one
 pub first_none : (x y : Option Field) → option_map (λ f. f.text) x ≡ None → option_map (λ f. f.text) (option_or x y) ≡ option_map (λ f. f.text) y
@@ -94,7 +94,7 @@ all_cards_of m =
 
 -- ---- whole texts
 
-pub fixed_given : (m : Model) (result : Result (List ℕ) WriteFault) → Gives Fixed (cards_of m) result → IsFixed m result
+pub fixed_given : (m : Model) (result : Result (List ℕ) WriteFault) → GivesText Fixed (cards_of m) result → IsFixed m result
 unfolding fixed too_wide
 fixed_given m (Ok text) h = h
 fixed_given m (Err fault) h = h

@@ -56,9 +56,9 @@ abbrev pub back_cards : Model → WrittenCards
 back_cards m = sides_cards m ++ ranges_cards m ++ bounds_cards m ++ section_card (codes "ENDATA") ∷ []
 
 -- the lines of the cards, or the first item that has no room
-abbrev pub Gives : Style → WrittenCards → Result (List ℕ) WriteFault → Type 0
-Gives style cards (Ok text) = (wide_in style cards ≡ None) × (text ≡ cards_text style cards)
-Gives style cards (Err fault) = Names (wide_in style cards) fault
+abbrev pub GivesText : Style → WrittenCards → Result (List ℕ) WriteFault → Type 0
+GivesText style cards (Ok text) = (wide_in style cards ≡ None) × (text ≡ cards_text style cards)
+GivesText style cards (Err fault) = Names (wide_in style cards) fault
 
 -- the text of a model in fixed form, where all items have room, or else the first that has none
 abbrev pub IsFixed : Model → Result (List ℕ) WriteFault → Type 0

@@ -1,7 +1,7 @@
 // Whole texts.
 ghost use Rattle.std.specs.Prelude.{◌≡◌, ◌∷◌, IfOk};
 ghost use Rattle.spec_mps.specs.Written as told;
-ghost use Rattle.mps_write.specs.Adds.{Adds, Gives, IsFixed, front_cards, back_cards};
+ghost use Rattle.mps_write.specs.Adds.{Adds, GivesText, IsFixed, front_cards, back_cards};
 
 use crate::fault::WriteFault;
 use crate::line::Writer;
@@ -56,7 +56,7 @@ impl Writer {
 }
 
 fn text_of(alloc: Global, style: Style, model: &Model) -> Result<Bytes, WriteFault>
-    ensures { Gives style (told.cards_of model.now) result }
+    ensures { GivesText style (told.cards_of model.now) result }
 {
     let mut text = Bytes::new(alloc);
     Writer { alloc, style }.cards(model, &mut text)?;

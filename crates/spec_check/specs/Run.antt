@@ -14,15 +14,15 @@ use Rattle.spec_check.specs.declared.certificate.Certificate.{Certificate}
 use Rattle.spec_check.specs.declared.certificate.Certificate.TheVariants.{Optimal, Infeasible, Clash, Unbounded}
 use Rattle.spec_check.specs.declared.certificate.Known.{Known}
 use Rattle.spec_check.specs.declared.certificate.Known.TheVariants as known
-use Rattle.spec_check.specs.declared.certificate.Stop.{Stop}
-use Rattle.spec_check.specs.declared.certificate.Stop.TheVariants as stop
+use Rattle.spec_check.specs.declared.certificate.CheckStop.{CheckStop}
+use Rattle.spec_check.specs.declared.certificate.CheckStop.TheVariants as stop
 use Rattle.spec_check.specs.declared.certificate.Verdict.{Verdict}
 use Rattle.spec_check.specs.declared.certificate.Verdict.TheVariants as verdict
 use Rattle.spec_check.specs.Checks.{signed, turned_limits}
 
 -- a result; or the number of the condition that fails; or the operation that is refused
 abbrev pub Run : Type 0 → Type 0
-Run A = Result A (Stop ℚ)
+Run A = Result A (CheckStop ℚ)
 
 -- go on with a result
 infixl 1 ◌>>=◌

@@ -1,6 +1,6 @@
 // Certificates and verdicts, over the type N of names, F of numbers, L of lists of numbers and P of lists of parts.
 ghost use Rattle.std.specs.Prelude.{◌≡◌};
-ghost use Rattle.spec_check.specs.declared.certificate.Stop.TheVariants as stop;
+ghost use Rattle.spec_check.specs.declared.certificate.CheckStop.TheVariants as stop;
 
 use spec_exact::Past;
 use std::fmt::Debug;
@@ -74,18 +74,18 @@ pub enum Known<F> {
 
 /// Why a certificate shows nothing.
 #[derive(Clone, Copy, Debug, PartialEq, Eq)]
-pub enum Stop<F: Debug> {
+pub enum CheckStop<F: Debug> {
     /// The number of the condition that fails.
     No(u32),
     /// The operation that is past the limit.
     Past(Past<F>),
 }
 
-impl<F: Debug> From<Past<F>> for Stop<F> {
+impl<F: Debug> From<Past<F>> for CheckStop<F> {
     ghost from_gives = { λ p e. e ≡ stop.Past p };
 
     fn from(p: Past<F>) -> Self {
-        Stop::Past(p)
+        CheckStop::Past(p)
     }
 }
 

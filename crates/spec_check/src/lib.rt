@@ -35,7 +35,7 @@ ghost use Rattle.spec_check.specs.Settle.{certificate_for};
 ghost use Rattle.spec_check.specs.TextRead.{IsReadBack};
 
 pub use certificate::{
-    Certificate, CertificateKind, Known, Letter, Part, RawCertificate, SettleFault, Stop, Verdict,
+    Certificate, CertificateKind, Known, Letter, Part, RawCertificate, SettleFault, CheckStop, Verdict,
 };
 pub use progress::Progress;
 

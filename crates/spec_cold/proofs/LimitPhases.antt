@@ -13,11 +13,11 @@ use Rattle.spec_simplex.specs.declared.ends.Choice.TheVariants.{End, Flip, Pivot
 use Rattle.spec_simplex.specs.declared.ends.FormFault.{FormFault}
 use Rattle.spec_simplex.specs.declared.ends.FormFault.TheVariants as fault
 use Rattle.spec_simplex.specs.declared.ends.PrimalEnd.TheVariants.{Optimal}
-use Rattle.spec_simplex.specs.declared.ends.Stop.{Stop}
-use Rattle.spec_simplex.specs.declared.ends.Stop.TheVariants as stop
+use Rattle.spec_simplex.specs.declared.ends.RunStop.{RunStop}
+use Rattle.spec_simplex.specs.declared.ends.RunStop.TheVariants as stop
 use Rattle.spec_simplex.specs.Form.{Form, form_of}
 use Rattle.spec_simplex.specs.Tableau.{Tableau}
-use Rattle.spec_simplex.specs.Phases.{Ended, end_or_spent, end_or_next, run_from, without_artificials, phase_two_run, wants_phase_one, is_stuck, phase_two, PhasesEnd, Infeasible, Finished, phases_run}
+use Rattle.spec_simplex.specs.Phases.{PrimalEnded, end_or_spent, end_or_next, run_from, without_artificials, phase_two_run, wants_phase_one, is_stuck, phase_two, PhasesEnd, Infeasible, Finished, phases_run}
 use Rattle.spec_cold.specs.declared.outcome.Cold.TheVariants as outcome
 use Rattle.spec_cold.specs.Cold.{ColdEnd, certificate_of, basis_of, pivots_of, checked, answered, after_phases, after_form, cold}
 use Rattle.spec_cold.specs.Accepted.{IsAccepted, IsAnswered}
@@ -26,7 +26,7 @@ use Rattle.spec_cold.proofs.LimitStart.{form_agrees, priced_agrees, start_agrees
 use Rattle.spec_cold.proofs.Solved.{end_accepted, clash_accepted, enough, ended_is_true}
 
 pub spent_agrees : {A : Type 0} → Agrees {A = A} stop.Past (Err stop.Spent) (Err stop.Spent)
-spent_agrees = agrees_err stop.Past stop.Spent (λ p e. let z : ◌≡◌ {A = Stop ℚ} stop.Spent (stop.Past p) = e in cc)
+spent_agrees = agrees_err stop.Past stop.Spent (λ p e. let z : ◌≡◌ {A = RunStop ℚ} stop.Spent (stop.Past p) = e in cc)
 
 module _ (limit : Option ℕ) where
   end_agrees : (t : Tableau) (used : ℕ) (c : Choice ℚ) → Agrees stop.Past (end_or_spent t used c) (end_or_spent t used c)
@@ -34,7 +34,7 @@ module _ (limit : Option ℕ) where
   end_agrees t used (Flip j) = spent_agrees
   end_agrees t used (Pivot p j theta to) = spent_agrees
 
-  next_agrees : (t : Tableau) (used : ℕ) (f g : Tableau → Result Ended (Stop ℚ)) → ((u : Tableau) → Agrees stop.Past (f u) (g u)) → (c : Choice ℚ) → Agrees stop.Past (end_or_next limit t used f c) (end_or_next None t used g c)
+  next_agrees : (t : Tableau) (used : ℕ) (f g : Tableau → Result PrimalEnded (RunStop ℚ)) → ((u : Tableau) → Agrees stop.Past (f u) (g u)) → (c : Choice ℚ) → Agrees stop.Past (end_or_next limit t used f c) (end_or_next None t used g c)
   next_agrees t used f g h (End end) = agrees_ok stop.Past (record { end = end; tableau = t; used = used })
   next_agrees t used f g h (Flip j) = agrees_then stop.Past _ _ f g (agrees_as stop.Past _ _ (flip_agrees limit t j)) h
   next_agrees t used f g h (Pivot p j theta to) = agrees_then stop.Past _ _ f g (agrees_as stop.Past _ _ (pivot_agrees limit t p j theta to)) h
@@ -50,7 +50,7 @@ module _ (limit : Option ℕ) where
   unfolding phase_two_run
   two_agrees f t = agrees_then as_it_is _ _ _ _ (priced_agrees limit (without_artificials t) f.cost) (λ reduced. agrees_ok as_it_is _)
 
-  phase_two_agrees : (budget : ℕ) (f : Form) (one : Ended) → Agrees stop.Past (phase_two limit budget f one) (phase_two None budget f one)
+  phase_two_agrees : (budget : ℕ) (f : Form) (one : PrimalEnded) → Agrees stop.Past (phase_two limit budget f one) (phase_two None budget f one)
   phase_two_agrees budget f one =
       agrees_then stop.Past _ _ _ _ (agrees_as stop.Past _ _ (two_agrees f one.tableau)) (λ t.
       agrees_then stop.Past _ _ _ _ (run_agrees (budget - one.used) one.used t) (λ two. agrees_ok stop.Past (Finished two)))
@@ -78,7 +78,7 @@ module _ (limit : Option ℕ) (budget : ℕ) (m : Model) where
   phases_same : (f : Form) → form_of limit m ≡ Ok f → Same (after_phases limit m (phases_run limit budget f)) (after_phases None m (phases_run None budget f))
   phases_same f e = by (phases_run limit budget f) (phases_run None budget f) refl (phases_agree limit budget f).same
     where
-      by : (o u : Result PhasesEnd (Stop ℚ)) → phases_run limit budget f ≡ o → (o ≡ u) ⊎ ((p : Past ℚ) × (o ≡ Err (stop.Past p))) → Same (after_phases limit m o) (after_phases None m u)
+      by : (o u : Result PhasesEnd (RunStop ℚ)) → phases_run limit budget f ≡ o → (o ≡ u) ⊎ ((p : Past ℚ) × (o ≡ Err (stop.Past p))) → Same (after_phases limit m o) (after_phases None m u)
       by o u q (inr p) = inr (p.0, ap (after_phases limit m) p.1)
       by (Ok end) u q (inl z) =
           subst (λ u. Same (after_phases limit m (Ok end)) (after_phases None m u)) z
@@ -105,7 +105,7 @@ pub never_past : (budget : ℕ) (m : Model) (p : Past ℚ) → ¬ (cold None bud
 unfolding cold
 never_past budget m p = by (form_of None m) refl (form_agrees None m).exact
   where
-    with_phases : (f : Form) → form_of None m ≡ Ok f → (o : Result PhasesEnd (Stop ℚ)) → phases_run None budget f ≡ o → ((p : Past ℚ) → o ≢ Err (stop.Past p)) → ¬ (after_phases None m o ≡ outcome.Past p)
+    with_phases : (f : Form) → form_of None m ≡ Ok f → (o : Result PhasesEnd (RunStop ℚ)) → phases_run None budget f ≡ o → ((p : Past ℚ) → o ≢ Err (stop.Past p)) → ¬ (after_phases None m o ≡ outcome.Past p)
     with_phases f e (Ok end) q n = checked_never_past m (certificate_of end) (basis_of end) (pivots_of end) (end_accepted None budget m f end e q) p
     with_phases f e (Err (stop.Past v)) q n = absurd (n v refl)
     with_phases f e (Err stop.Spent) q n = λ z. let y : ◌≡◌ {A = ColdEnd} outcome.Spent (outcome.Past p) = z in cc

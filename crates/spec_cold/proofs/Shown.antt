@@ -13,7 +13,7 @@ use Rattle.spec_simplex.specs.declared.ends.RowStart.{RowStart}
 use Rattle.spec_simplex.specs.Form.{formed}
 use Rattle.spec_simplex.specs.Start.{cost_at}
 use Rattle.spec_simplex.specs.Tableau.{Tableau, value_at, reduced_at}
-use Rattle.spec_simplex.specs.Phases.{Ended}
+use Rattle.spec_simplex.specs.Phases.{PrimalEnded}
 use Rattle.spec_simplex.proofs.Stops.{length-made}
 use Rattle.spec_cold.specs.Tables.{way, table_of, IsTableauOf, IsMeant}
 use Rattle.spec_cold.specs.Begins.{form_rows}
@@ -63,7 +63,7 @@ module _ (m : Model) (ls : List (Option ℚ × Option ℚ)) (h : Limited m ls) (
   abbrev costs : ℕ → ℚ
   costs = cost_at (formed m ls).cost
 
-  pub primal_shows : (limit : Option ℕ) (e : Ended) → IsTableauOf r w F costs b e.tableau → IsMeant r w F costs b limit e.tableau (End e.end) → Shows m (certificate_at e.tableau e.end)
+  pub primal_shows : (limit : Option ℕ) (e : PrimalEnded) → IsTableauOf r w F costs b e.tableau → IsMeant r w F costs b limit e.tableau (End e.end) → Shows m (certificate_at e.tableau e.end)
   primal_shows limit e after = by e.end
     where
       by : (end : PrimalEnd) → IsMeant r w F costs b limit e.tableau (End end) → Shows m (certificate_at e.tableau end)

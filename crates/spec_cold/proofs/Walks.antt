@@ -7,12 +7,12 @@ use Rattle.spec_pivot.specs.Simplex.{Bounds, Table, IsTableau, Label, IsStep}
 use Rattle.spec_pivot.proofs.Count.{bounded}
 use Rattle.spec_simplex.specs.declared.ends.Choice.{Choice}
 use Rattle.spec_simplex.specs.declared.ends.Choice.TheVariants.{End, Flip, Pivot}
-use Rattle.spec_simplex.specs.declared.ends.Stop.{Stop}
-use Rattle.spec_simplex.specs.declared.ends.Stop.TheVariants as stop
+use Rattle.spec_simplex.specs.declared.ends.RunStop.{RunStop}
+use Rattle.spec_simplex.specs.declared.ends.RunStop.TheVariants as stop
 use Rattle.spec_simplex.specs.Run.{Run, ◌>>=◌, refused_as}
 use Rattle.spec_simplex.specs.Tableau.{Tableau}
 use Rattle.spec_simplex.specs.Step.{choice_run, flip_run, pivot_run}
-use Rattle.spec_simplex.specs.Phases.{Ended, end_or_spent, end_or_next, run_from}
+use Rattle.spec_simplex.specs.Phases.{PrimalEnded, end_or_spent, end_or_next, run_from}
 use Rattle.spec_cold.specs.Tables.{table_of, IsTableauOf, StepsTo, IsMeant}
 use Rattle.spec_cold.proofs.Runs.{then_ok, refused_ok}
 use Rattle.spec_cold.proofs.Steps.{choice_is_meant}
@@ -28,8 +28,8 @@ then_err (Err d) f e h = first (let z : d ≡ e = cc in ap Err z)
 
 -- an operation that is refused is not a spent budget
 pub never_spent : {A : Type 0} (o : Run A) → ¬ (refused_as stop.Past o ≡ Err stop.Spent)
-never_spent {A} (Ok a) h = let z : ◌≡◌ {A = Result A (Stop ℚ)} (Ok a) (Err stop.Spent) = h in cc
-never_spent {A} (Err p) h = let z : ◌≡◌ {A = Result A (Stop ℚ)} (Err (stop.Past p)) (Err stop.Spent) = h in let y : stop.Past p ≡ stop.Spent = cc in cc
+never_spent {A} (Ok a) h = let z : ◌≡◌ {A = Result A (RunStop ℚ)} (Ok a) (Err stop.Spent) = h in cc
+never_spent {A} (Err p) h = let z : ◌≡◌ {A = Result A (RunStop ℚ)} (Err (stop.Past p)) (Err stop.Spent) = h in let y : stop.Past p ≡ stop.Spent = cc in cc
 
 -- ---- steps, one after the other
 pub record Walk (m n : ℕ) (b : Bounds) (t : Tableau) (length : ℕ) : Type 0 where
@@ -63,7 +63,7 @@ few m n f cost b t length s w =
     bounded m (n + m + m) f cost b w.tables w.labels length (record { first = subst (IsTableau m (n + m + m) f cost b) (sym w.first) s.tableau; steps = w.steps })
 
 -- ---- the run
-pub record IsEnd (limit : Option ℕ) (m n : ℕ) (f : Matrix) (cost : ℕ → ℚ) (b : Bounds) (t : Tableau) (used : ℕ) (e : Ended) : Type 0 where
+pub record IsEnd (limit : Option ℕ) (m n : ℕ) (f : Matrix) (cost : ℕ → ℚ) (b : Bounds) (t : Tableau) (used : ℕ) (e : PrimalEnded) : Type 0 where
   pub after : IsTableauOf m n f cost b e.tableau
   pub end : IsMeant m n f cost b limit e.tableau (End e.end)
   pub length : ℕ
@@ -71,17 +71,17 @@ pub record IsEnd (limit : Option ℕ) (m n : ℕ) (f : Matrix) (cost : ℕ → �
   pub walk : Walk m n b t length
 
 module _ (limit : Option ℕ) (m n : ℕ) (f : Matrix) (cost : ℕ → ℚ) (b : Bounds) (l : Label) where
-  ends_here : (t : Tableau) (used : ℕ) (e : Ended) (choice : Choice ℚ) → IsTableauOf m n f cost b t → choice_run limit t ≡ Ok choice → end_or_spent t used choice ≡ Ok e → IsEnd limit m n f cost b t used e
+  ends_here : (t : Tableau) (used : ℕ) (e : PrimalEnded) (choice : Choice ℚ) → IsTableauOf m n f cost b t → choice_run limit t ≡ Ok choice → end_or_spent t used choice ≡ Ok e → IsEnd limit m n f cost b t used e
   ends_here t used e (End end) s c h =
-      let z : ◌≡◌ {A = Ended} (record { end = end; tableau = t; used = used }) e = cc in
+      let z : ◌≡◌ {A = PrimalEnded} (record { end = end; tableau = t; used = used }) e = cc in
       subst (IsEnd limit m n f cost b t used) z (record { after = s; end = choice_is_meant limit m n f cost b t (End end) s c; length = 0; count = omega arith; walk = stand_still m n b t l })
-  ends_here t used e (Flip j) s c h = let z : ◌≡◌ {A = Result Ended (Stop ℚ)} (Err stop.Spent) (Ok e) = h in cc
-  ends_here t used e (Pivot p j theta to) s c h = let z : ◌≡◌ {A = Result Ended (Stop ℚ)} (Err stop.Spent) (Ok e) = h in cc
+  ends_here t used e (Flip j) s c h = let z : ◌≡◌ {A = Result PrimalEnded (RunStop ℚ)} (Err stop.Spent) (Ok e) = h in cc
+  ends_here t used e (Pivot p j theta to) s c h = let z : ◌≡◌ {A = Result PrimalEnded (RunStop ℚ)} (Err stop.Spent) (Ok e) = h in cc
 
-  on_from : (t u : Tableau) (used : ℕ) (e : Ended) → StepsTo m n f cost b t u → IsEnd limit m n f cost b u (used + 1) e → IsEnd limit m n f cost b t used e
+  on_from : (t u : Tableau) (used : ℕ) (e : PrimalEnded) → StepsTo m n f cost b t u → IsEnd limit m n f cost b u (used + 1) e → IsEnd limit m n f cost b t used e
   on_from t u used e step r = record { after = r.after; end = r.end; length = suc r.length; count = omega (arith, r.count); walk = step_first m n b t u r.length step.label step.step r.walk }
 
-  pub run_ends : (left used : ℕ) (t : Tableau) (e : Ended) → IsTableauOf m n f cost b t → run_from limit left used t ≡ Ok e → IsEnd limit m n f cost b t used e
+  pub run_ends : (left used : ℕ) (t : Tableau) (e : PrimalEnded) → IsTableauOf m n f cost b t → run_from limit left used t ≡ Ok e → IsEnd limit m n f cost b t used e
   unfolding run_from
   run_ends zero used t e s h =
       let o = then_ok (refused_as stop.Past (choice_run limit t)) (end_or_spent t used) e h in
@@ -117,7 +117,7 @@ module _ (limit : Option ℕ) (m n : ℕ) (f : Matrix) (cost : ℕ → ℚ) (b :
 
       go : (choice : Choice ℚ) → choice_run limit t ≡ Ok choice → end_or_next limit t used (λ u. run_from limit left (used + 1) u) choice ≡ Err stop.Spent
           → ((u : Tableau) → IsTableauOf m n f cost b u → run_from limit left (used + 1) u ≡ Err stop.Spent → Walk m n b u left) → Walk m n b t (suc left)
-      go (End end) c h more = let z : ◌≡◌ {A = Result Ended (Stop ℚ)} (Ok (record { end = end; tableau = t; used = used })) (Err stop.Spent) = h in cc
+      go (End end) c h more = let z : ◌≡◌ {A = Result PrimalEnded (RunStop ℚ)} (Ok (record { end = end; tableau = t; used = used })) (Err stop.Spent) = h in cc
       go (Flip j) c h more =
           made (flip_run limit t j) (choice_is_meant limit m n f cost b t (Flip j) s c)
           (then_err (refused_as stop.Past (flip_run limit t j)) (λ u. run_from limit left (used + 1) u) stop.Spent h) more

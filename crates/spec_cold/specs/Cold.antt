@@ -5,8 +5,8 @@ use Rattle.spec_model.specs.Model.{Model}
 use Rattle.spec_check.specs.declared.certificate.Certificate.{Certificate}
 use Rattle.spec_check.specs.declared.certificate.Certificate.TheVariants as certificate
 use Rattle.spec_check.specs.declared.certificate.Known.{Known}
-use Rattle.spec_check.specs.declared.certificate.Stop.{Stop}
-use Rattle.spec_check.specs.declared.certificate.Stop.TheVariants as check
+use Rattle.spec_check.specs.declared.certificate.CheckStop.{CheckStop}
+use Rattle.spec_check.specs.declared.certificate.CheckStop.TheVariants as check
 use Rattle.spec_check.specs.Run.{check_run}
 use Rattle.spec_pivot.specs.declared.status.Status.{Status}
 use Rattle.spec_pivot.specs.declared.status.Status.TheVariants.{Basic}
@@ -14,8 +14,8 @@ use Rattle.spec_simplex.specs.declared.ends.FormFault.{FormFault}
 use Rattle.spec_simplex.specs.declared.ends.FormFault.TheVariants as fault
 use Rattle.spec_simplex.specs.declared.ends.PrimalEnd.{PrimalEnd}
 use Rattle.spec_simplex.specs.declared.ends.PrimalEnd.TheVariants.{Optimal, Unbounded}
-use Rattle.spec_simplex.specs.declared.ends.Stop.{Stop as Spending}
-use Rattle.spec_simplex.specs.declared.ends.Stop.TheVariants as stop
+use Rattle.spec_simplex.specs.declared.ends.RunStop.{RunStop as Spending}
+use Rattle.spec_simplex.specs.declared.ends.RunStop.TheVariants as stop
 use Rattle.spec_simplex.specs.Run.{made}
 use Rattle.spec_simplex.specs.Form.{Form, form_of}
 use Rattle.spec_simplex.specs.Tableau.{Tableau, form_columns, basic_at, entry_at, value_at, reduced_at, status_at, is_basic}
@@ -76,7 +76,7 @@ pivots_of (Finished e) = e.used
 
 -- ---- the certificate is checked, at the same limit
 -- A certificate of an end is always accepted, or an operation is refused: so the last case never comes.
-abbrev pub checked : Certificate (List ℚ) → Option (List Status) → ℕ → Result (Known ℚ) (Stop ℚ) → ColdEnd
+abbrev pub checked : Certificate (List ℚ) → Option (List Status) → ℕ → Result (Known ℚ) (CheckStop ℚ) → ColdEnd
 checked certificate basis pivots (Ok answer) = outcome.Ended answer certificate basis pivots
 checked certificate basis pivots (Err (check.Past p)) = outcome.Past p
 checked certificate basis pivots (Err (check.No n)) = outcome.Spent

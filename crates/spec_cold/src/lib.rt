@@ -34,7 +34,7 @@ ghost use Rattle.spec_pivot.specs.Tableau.{Matrix};
 ghost use Rattle.spec_pivot.specs.Simplex.{Bounds};
 ghost use Rattle.spec_simplex.specs.declared.ends.Choice.{Choice};
 ghost use Rattle.spec_simplex.specs.declared.ends.FormFault.TheVariants as fault;
-ghost use Rattle.spec_simplex.specs.declared.ends.Stop.TheVariants as stop;
+ghost use Rattle.spec_simplex.specs.declared.ends.RunStop.TheVariants as stop;
 ghost use Rattle.spec_simplex.specs.Form.{Form, form_of};
 ghost use Rattle.spec_simplex.specs.Tableau.{Tableau};
 ghost use Rattle.spec_simplex.specs.Start.{cost_at, start_of};

@@ -9,8 +9,8 @@ use Rattle.spec_model.specs.Kept.{IsModel}
 use Rattle.spec_check.specs.declared.certificate.Certificate.{Certificate}
 use Rattle.spec_check.specs.declared.certificate.Certificate.TheVariants as certificate
 use Rattle.spec_check.specs.declared.certificate.Known.{Known}
-use Rattle.spec_check.specs.declared.certificate.Stop.{Stop}
-use Rattle.spec_check.specs.declared.certificate.Stop.TheVariants as check
+use Rattle.spec_check.specs.declared.certificate.CheckStop.{CheckStop}
+use Rattle.spec_check.specs.declared.certificate.CheckStop.TheVariants as check
 use Rattle.spec_check.specs.Certificate.{IsNarrowCertificate}
 use Rattle.spec_check.specs.Run.{check_run}
 use Rattle.spec_mps.proofs.NarrowNumbers.{zero_narrow, neg_narrow}
@@ -21,14 +21,14 @@ use Rattle.spec_simplex.specs.declared.ends.FormFault.{FormFault}
 use Rattle.spec_simplex.specs.declared.ends.FormFault.TheVariants as fault
 use Rattle.spec_simplex.specs.declared.ends.PrimalEnd.{PrimalEnd}
 use Rattle.spec_simplex.specs.declared.ends.PrimalEnd.TheVariants.{Optimal, Unbounded}
-use Rattle.spec_simplex.specs.declared.ends.Stop.{Stop as Spending}
-use Rattle.spec_simplex.specs.declared.ends.Stop.TheVariants as stop
+use Rattle.spec_simplex.specs.declared.ends.RunStop.{RunStop as Spending}
+use Rattle.spec_simplex.specs.declared.ends.RunStop.TheVariants as stop
 use Rattle.spec_simplex.specs.Run.{refused_as}
 use Rattle.spec_simplex.specs.Form.{Form, form_of}
 use Rattle.spec_simplex.specs.Tableau.{Tableau, form_columns, basic_at, entry_at, value_at, reduced_at}
 use Rattle.spec_simplex.specs.Start.{priced_run, with_reduced, start_of}
 use Rattle.spec_simplex.specs.Step.{directed, choice_run, flip_run, pivot_run}
-use Rattle.spec_simplex.specs.Phases.{Ended, end_or_spent, end_or_next, run_from, fixed_at_zero, without_artificials, phase_two_run, wants_phase_one, is_stuck, phase_one, phase_two, PhasesEnd, Infeasible, Finished, phases_run}
+use Rattle.spec_simplex.specs.Phases.{PrimalEnded, end_or_spent, end_or_next, run_from, fixed_at_zero, without_artificials, phase_two_run, wants_phase_one, is_stuck, phase_one, phase_two, PhasesEnd, Infeasible, Finished, phases_run}
 use Rattle.spec_simplex.proofs.Stops.{All-made}
 use Rattle.spec_cold.specs.declared.outcome.Cold.TheVariants as outcome
 use Rattle.spec_cold.specs.Cold.{ColdEnd, point, multipliers, moves_below, moves_by, certificate_at, certificate_of, basis_of, pivots_of, checked, after_phases, after_form, cold}
@@ -39,18 +39,18 @@ use Rattle.spec_server.proofs.NarrowStart.{IsNarrowForm, one_narrow, form_narrow
 
 -- ---- steps up to an end
 
-spent_narrow : (t : Tableau) (used : ℕ) (choice : Choice ℚ) (e : Ended) → end_or_spent t used choice ≡ Ok e → AreNarrow t → AreNarrow e.tableau
+spent_narrow : (t : Tableau) (used : ℕ) (choice : Choice ℚ) (e : PrimalEnded) → end_or_spent t used choice ≡ Ok e → AreNarrow t → AreNarrow e.tableau
 spent_narrow t used (End end) e h n =
-    let same : ◌≡◌ {A = Ended} (record { end = end; tableau = t; used = used }) e = cc in
-    subst (λ (e : Ended). AreNarrow e.tableau) same n
+    let same : ◌≡◌ {A = PrimalEnded} (record { end = end; tableau = t; used = used }) e = cc in
+    subst (λ (e : PrimalEnded). AreNarrow e.tableau) same n
 spent_narrow t used (Flip j) e h n = cc
 spent_narrow t used (Pivot p j theta to) e h n = cc
 
-next_narrow : (t : Tableau) (used : ℕ) (next : Tableau → Result Ended (Spending ℚ)) (choice : Choice ℚ) (e : Ended) → end_or_next (Some number_limit) t used next choice ≡ Ok e → AreNarrow t
+next_narrow : (t : Tableau) (used : ℕ) (next : Tableau → Result PrimalEnded (Spending ℚ)) (choice : Choice ℚ) (e : PrimalEnded) → end_or_next (Some number_limit) t used next choice ≡ Ok e → AreNarrow t
     → ((u : Tableau) → next u ≡ Ok e → AreNarrow u → AreNarrow e.tableau) → AreNarrow e.tableau
 next_narrow t used next (End end) e h n k =
-    let same : ◌≡◌ {A = Ended} (record { end = end; tableau = t; used = used }) e = cc in
-    subst (λ (e : Ended). AreNarrow e.tableau) same n
+    let same : ◌≡◌ {A = PrimalEnded} (record { end = end; tableau = t; used = used }) e = cc in
+    subst (λ (e : PrimalEnded). AreNarrow e.tableau) same n
 next_narrow t used next (Flip j) e h n k =
     let o = then_ok (refused_as stop.Past (flip_run (Some number_limit) t j)) next e h in
     k o.0 o.2 (flip_narrow t o.0 j (refused_ok stop.Past (flip_run (Some number_limit) t j) o.0 o.1) n)
@@ -58,13 +58,13 @@ next_narrow t used next (Pivot p j theta to) e h n k =
     let o = then_ok (refused_as stop.Past (pivot_run (Some number_limit) t p j theta to)) next e h in
     k o.0 o.2 (pivot_narrow t o.0 p j theta to (refused_ok stop.Past (pivot_run (Some number_limit) t p j theta to) o.0 o.1) n)
 
-run_narrow : (left used : ℕ) (t : Tableau) (e : Ended) → run_from (Some number_limit) left used t ≡ Ok e → AreNarrow t → AreNarrow e.tableau
+run_narrow : (left used : ℕ) (t : Tableau) (e : PrimalEnded) → run_from (Some number_limit) left used t ≡ Ok e → AreNarrow t → AreNarrow e.tableau
 unfolding run_from
 run_narrow zero used t e h n =
     let o = then_ok (refused_as stop.Past (choice_run (Some number_limit) t)) (end_or_spent t used) e h in
     spent_narrow t used o.0 e o.2 n
 run_narrow (suc left) used t e h n =
-    let next : Tableau → Result Ended (Spending ℚ) = λ u. run_from (Some number_limit) left (used + 1) u in
+    let next : Tableau → Result PrimalEnded (Spending ℚ) = λ u. run_from (Some number_limit) left (used + 1) u in
     let o = then_ok (refused_as stop.Past (choice_run (Some number_limit) t)) (end_or_next (Some number_limit) t used next) e h in
     next_narrow t used next o.0 e o.2 n (λ u q k. run_narrow left (used + 1) u e q k)
 
@@ -92,16 +92,16 @@ abbrev NarrowEnd : PhasesEnd → Type 0
 NarrowEnd (Infeasible t used) = AreNarrow t
 NarrowEnd (Finished e) = AreNarrow e.tableau
 
-one_phase_narrow : (budget : ℕ) (t : Tableau) (e : Ended) → phase_one (Some number_limit) budget t ≡ Ok e → AreNarrow t → AreNarrow e.tableau
+one_phase_narrow : (budget : ℕ) (t : Tableau) (e : PrimalEnded) → phase_one (Some number_limit) budget t ≡ Ok e → AreNarrow t → AreNarrow e.tableau
 one_phase_narrow budget t e h n = by (wants_phase_one t) h
   where
     by : (c : Bool) → cond c (run_from (Some number_limit) budget 0 t) (Ok (record { end = Optimal; tableau = t; used = 0 })) ≡ Ok e → AreNarrow e.tableau
     by true q = run_narrow budget 0 t e q n
     by false q =
-        let same : ◌≡◌ {A = Ended} (record { end = Optimal; tableau = t; used = 0 }) e = cc in
-        subst (λ (e : Ended). AreNarrow e.tableau) same n
+        let same : ◌≡◌ {A = PrimalEnded} (record { end = Optimal; tableau = t; used = 0 }) e = cc in
+        subst (λ (e : PrimalEnded). AreNarrow e.tableau) same n
 
-two_phases_narrow : (budget : ℕ) (f : Form) (one : Ended) (e : PhasesEnd) → phase_two (Some number_limit) budget f one ≡ Ok e → IsNarrowForm f → AreNarrow one.tableau → NarrowEnd e
+two_phases_narrow : (budget : ℕ) (f : Form) (one : PrimalEnded) (e : PhasesEnd) → phase_two (Some number_limit) budget f one ≡ Ok e → IsNarrowForm f → AreNarrow one.tableau → NarrowEnd e
 two_phases_narrow budget f one e h k n =
     let o = then_ok (refused_as stop.Past (phase_two_run (Some number_limit) f one.tableau)) _ e h in
     let p = then_ok (run_from (Some number_limit) (budget - one.used) one.used o.0) (λ two. Ok (Finished two)) e o.2 in
@@ -117,7 +117,7 @@ phases_narrow budget f e h k =
     let start : AreNarrow o.0 = start_narrow f o.0 (refused_ok stop.Past (start_of (Some number_limit) f) o.0 o.1) k in
     by (is_stuck p.0.tableau) p.0 p.2 (one_phase_narrow budget o.0 p.0 p.1 start)
   where
-    by : (c : Bool) (one : Ended) → cond c (Ok (Infeasible one.tableau one.used)) (phase_two (Some number_limit) budget f one) ≡ Ok e → AreNarrow one.tableau → NarrowEnd e
+    by : (c : Bool) (one : PrimalEnded) → cond c (Ok (Infeasible one.tableau one.used)) (phase_two (Some number_limit) budget f one) ≡ Ok e → AreNarrow one.tableau → NarrowEnd e
     by true one q n = let same : Infeasible one.tableau one.used ≡ e = cc in subst NarrowEnd same n
     by false one q n = two_phases_narrow budget f one e q k n
 
@@ -159,7 +159,7 @@ module _ (known : Known ℚ) (cert : Certificate (List ℚ)) (basis : Option (Li
   abbrev IsThisEnd : ColdEnd → Type 0
   IsThisEnd o = o ≡ outcome.Ended known cert basis pivots
 
-  by_check : (c : Certificate (List ℚ)) (b : Option (List Status)) (n : ℕ) (run : Result (Known ℚ) (Stop ℚ)) → IsThisEnd (checked c b n run) → IsNarrowCertificate c → IsNarrowCertificate cert
+  by_check : (c : Certificate (List ℚ)) (b : Option (List Status)) (n : ℕ) (run : Result (Known ℚ) (CheckStop ℚ)) → IsThisEnd (checked c b n run) → IsNarrowCertificate c → IsNarrowCertificate cert
   by_check c b n (Ok a) e h =
       let z : ◌≡◌ {A = ColdEnd} (outcome.Ended a c b n) (outcome.Ended known cert basis pivots) = e in
       let same : c ≡ cert = cc in

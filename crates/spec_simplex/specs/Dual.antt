@@ -6,8 +6,8 @@ use Rattle.std.specs.declared.cmp.Ordering.TheVariants.{Less, Equal, Greater}
 use Rattle.spec_exact.specs.Fraction.{ℚ, abs_ℚ}
 use Rattle.spec_pivot.specs.declared.status.Status.{Status}
 use Rattle.spec_pivot.specs.declared.status.Status.TheVariants.{AtLower, AtUpper}
-use Rattle.spec_simplex.specs.declared.ends.Stop.{Stop}
-use Rattle.spec_simplex.specs.declared.ends.Stop.TheVariants as stop
+use Rattle.spec_simplex.specs.declared.ends.RunStop.{RunStop}
+use Rattle.spec_simplex.specs.declared.ends.RunStop.TheVariants as stop
 use Rattle.spec_simplex.specs.Run.{Run, ◌>>=◌, refused_as, difference_run, quotient_run, order_run, steps}
 use Rattle.spec_simplex.specs.Step.{directed, way_by, flip_run, pivot_run}
 use Rattle.spec_simplex.specs.Tableau.{Tableau, all_columns, entry_at, basic_at, value_at, reduced_at, status_at, lower_at, upper_at, is_fixed, stand}
@@ -28,16 +28,16 @@ pub record Reached : Type 0 where
 abbrev pub one_more : Reached → Tableau → Reached
 one_more r u = record { tableau = u; used = r.used + 1 }
 
-abbrev pub flip_by : Option ℕ → ℕ → Reached → Bool → Result Reached (Stop ℚ)
+abbrev pub flip_by : Option ℕ → ℕ → Reached → Bool → Result Reached (RunStop ℚ)
 flip_by limit k r true = Err stop.Spent
 flip_by limit k r false = refused_as stop.Past (flip_run limit r.tableau k) >>= λ u. Ok (one_more r u)
 
 -- the budget is looked at before a flip takes its first operation
-abbrev pub flip_next : Option ℕ → ℕ → ℕ → Reached → Result Reached (Stop ℚ)
+abbrev pub flip_next : Option ℕ → ℕ → ℕ → Reached → Result Reached (RunStop ℚ)
 flip_next limit budget k r = flip_by limit k r (nat_le budget r.used)
 
 -- Each column that needs its other bound goes there, in order. A flip changes the need of no other column.
-unfoldable pub flips_run : Option ℕ → ℕ → Tableau → Result Reached (Stop ℚ)
+unfoldable pub flips_run : Option ℕ → ℕ → Tableau → Result Reached (RunStop ℚ)
 flips_run limit budget t =
     steps (all_columns t) (λ k r. if needs_flip_at r.tableau k then flip_next limit budget k r else Ok r) (record { tableau = t; used = 0 })
 
@@ -113,21 +113,21 @@ pub record DualEnded : Type 0 where
   pub used : ℕ
 
 -- at an end, or where none is left of the budget
-abbrev pub dual_end_or_spent : Tableau → ℕ → DualChoice → Result DualEnded (Stop ℚ)
+abbrev pub dual_end_or_spent : Tableau → ℕ → DualChoice → Result DualEnded (RunStop ℚ)
 dual_end_or_spent t used (End end) = Ok (record { end = end; tableau = t; used = used })
 dual_end_or_spent t used (Pivot p j to) = Err stop.Spent
 
 -- at an end, or on with the next tableau
-abbrev pub dual_end_or_next : Option ℕ → Tableau → ℕ → (Tableau → Result DualEnded (Stop ℚ)) → DualChoice → Result DualEnded (Stop ℚ)
+abbrev pub dual_end_or_next : Option ℕ → Tableau → ℕ → (Tableau → Result DualEnded (RunStop ℚ)) → DualChoice → Result DualEnded (RunStop ℚ)
 dual_end_or_next limit t used next (End end) = Ok (record { end = end; tableau = t; used = used })
 dual_end_or_next limit t used next (Pivot p j to) = refused_as stop.Past (dual_pivot_run limit t p j to) >>= next
 
 -- steps from a tableau before which `used` flips and pivots were made, and at most `left` more
-unfoldable pub dual_from : Option ℕ → ℕ → ℕ → Tableau → Result DualEnded (Stop ℚ)
+unfoldable pub dual_from : Option ℕ → ℕ → ℕ → Tableau → Result DualEnded (RunStop ℚ)
 dual_from limit zero used t = refused_as stop.Past (dual_choice_run limit t) >>= dual_end_or_spent t used
 dual_from limit (suc left) used t =
     refused_as stop.Past (dual_choice_run limit t) >>= dual_end_or_next limit t used (λ u. dual_from limit left (used + 1) u)
 
 -- the flips, and then the steps
-unfoldable pub dual_run : Option ℕ → ℕ → Tableau → Result DualEnded (Stop ℚ)
+unfoldable pub dual_run : Option ℕ → ℕ → Tableau → Result DualEnded (RunStop ℚ)
 dual_run limit budget t = flips_run limit budget t >>= λ r. dual_from limit (budget - r.used) r.used r.tableau

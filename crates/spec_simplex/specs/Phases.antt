@@ -7,8 +7,8 @@ use Rattle.spec_simplex.specs.declared.ends.PrimalEnd.{PrimalEnd}
 use Rattle.spec_simplex.specs.declared.ends.PrimalEnd.TheVariants.{Optimal}
 use Rattle.spec_simplex.specs.declared.ends.Choice.{Choice}
 use Rattle.spec_simplex.specs.declared.ends.Choice.TheVariants.{End, Flip, Pivot}
-use Rattle.spec_simplex.specs.declared.ends.Stop.{Stop}
-use Rattle.spec_simplex.specs.declared.ends.Stop.TheVariants as stop
+use Rattle.spec_simplex.specs.declared.ends.RunStop.{RunStop}
+use Rattle.spec_simplex.specs.declared.ends.RunStop.TheVariants as stop
 use Rattle.spec_simplex.specs.Run.{Run, ◌>>=◌, refused_as}
 use Rattle.spec_simplex.specs.Tableau.{Tableau, form_columns, is_artificial, value_at}
 use Rattle.spec_simplex.specs.Start.{priced_run, with_reduced, start_of}
@@ -16,7 +16,7 @@ use Rattle.spec_simplex.specs.Step.{choice_run, flip_run, pivot_run}
 
 -- ---- steps up to an end
 -- how steps ended, with the last tableau and the count of pivots and flips
-pub record Ended : Type 0 where
+pub record PrimalEnded : Type 0 where
   pub end : PrimalEnd
   pub tableau : Tableau
   pub used : ℕ
@@ -28,19 +28,19 @@ done_run limit t (Flip j) = flip_run limit t j
 done_run limit t (Pivot p j theta to) = pivot_run limit t p j theta to
 
 -- at an end, or where none is left of the budget
-abbrev pub end_or_spent : Tableau → ℕ → Choice ℚ → Result Ended (Stop ℚ)
+abbrev pub end_or_spent : Tableau → ℕ → Choice ℚ → Result PrimalEnded (RunStop ℚ)
 end_or_spent t used (End end) = Ok (record { end = end; tableau = t; used = used })
 end_or_spent t used (Flip j) = Err stop.Spent
 end_or_spent t used (Pivot p j theta to) = Err stop.Spent
 
 -- at an end, or on with the next tableau
-abbrev pub end_or_next : Option ℕ → Tableau → ℕ → (Tableau → Result Ended (Stop ℚ)) → Choice ℚ → Result Ended (Stop ℚ)
+abbrev pub end_or_next : Option ℕ → Tableau → ℕ → (Tableau → Result PrimalEnded (RunStop ℚ)) → Choice ℚ → Result PrimalEnded (RunStop ℚ)
 end_or_next limit t used next (End end) = Ok (record { end = end; tableau = t; used = used })
 end_or_next limit t used next (Flip j) = refused_as stop.Past (flip_run limit t j) >>= next
 end_or_next limit t used next (Pivot p j theta to) = refused_as stop.Past (pivot_run limit t p j theta to) >>= next
 
 -- steps from a tableau before which `used` were made, and at most `left` more
-unfoldable pub run_from : Option ℕ → ℕ → ℕ → Tableau → Result Ended (Stop ℚ)
+unfoldable pub run_from : Option ℕ → ℕ → ℕ → Tableau → Result PrimalEnded (RunStop ℚ)
 run_from limit zero used t = refused_as stop.Past (choice_run limit t) >>= end_or_spent t used
 run_from limit (suc left) used t =
     refused_as stop.Past (choice_run limit t) >>= end_or_next limit t used (λ u. run_from limit left (used + 1) u)
@@ -68,21 +68,21 @@ abbrev pub is_stuck : Tableau → Bool
 is_stuck t = list_any (λ k. is_artificial t k && not (eq_ℚ (value_at t k) 0ℚ)) t.basic
 
 -- phase one, where it is wanted
-abbrev pub phase_one : Option ℕ → ℕ → Tableau → Result Ended (Stop ℚ)
+abbrev pub phase_one : Option ℕ → ℕ → Tableau → Result PrimalEnded (RunStop ℚ)
 phase_one limit budget t = if wants_phase_one t then run_from limit budget 0 t else Ok (record { end = Optimal; tableau = t; used = 0 })
 
 -- how both phases ended: no point is feasible, or phase two's end
 pub data PhasesEnd : Type 0 where
   Infeasible : Tableau → ℕ → PhasesEnd
-  Finished : Ended → PhasesEnd
+  Finished : PrimalEnded → PhasesEnd
 
-abbrev pub phase_two : Option ℕ → ℕ → Form → Ended → Result PhasesEnd (Stop ℚ)
+abbrev pub phase_two : Option ℕ → ℕ → Form → PrimalEnded → Result PhasesEnd (RunStop ℚ)
 phase_two limit budget f one =
     refused_as stop.Past (phase_two_run limit f one.tableau) >>= λ t.
     run_from limit (budget - one.used) one.used t >>= λ two. Ok (Finished two)
 
 -- both phases share the budget
-unfoldable pub phases_run : Option ℕ → ℕ → Form → Result PhasesEnd (Stop ℚ)
+unfoldable pub phases_run : Option ℕ → ℕ → Form → Result PhasesEnd (RunStop ℚ)
 phases_run limit budget f =
     refused_as stop.Past (start_of limit f) >>= λ t.
     phase_one limit budget t >>= λ one.

@@ -1,6 +1,6 @@
 // How steps of the simplex method end and what each of them does, over the type F of numbers.
 ghost use Rattle.std.specs.Prelude.{◌≡◌};
-ghost use Rattle.spec_simplex.specs.declared.ends.Stop.TheVariants as stop;
+ghost use Rattle.spec_simplex.specs.declared.ends.RunStop.TheVariants as stop;
 
 use spec_exact::Past;
 use spec_pivot::Status;
@@ -75,18 +75,18 @@ pub enum Choice<F> {
 
 /// Why a run does not end by itself.
 #[derive(Clone, Copy, Debug, PartialEq, Eq)]
-pub enum Stop<F: Debug> {
+pub enum RunStop<F: Debug> {
     /// The operation that is past the limit.
     Past(Past<F>),
     /// As many pivots and flips were made as the budget has.
     Spent,
 }
 
-impl<F: Debug> From<Past<F>> for Stop<F> {
+impl<F: Debug> From<Past<F>> for RunStop<F> {
     ghost from_gives = { λ p e. e ≡ stop.Past p };
 
     fn from(p: Past<F>) -> Self {
-        Stop::Past(p)
+        RunStop::Past(p)
     }
 }
 

@@ -1,7 +1,7 @@
 //! The simplex method with bounded variables, by Bland's rule, in exact fractions: definitions and laws.
 //!
 //! FormFault, RowStart, Entering, Best    plain types: src/ends
-//! Choice, PrimalEnd, Stop, StartStop
+//! Choice, PrimalEnd, RunStop, StartStop
 //! Fit, Leaving, Cheapest, DualEnd
 //! DualChoice, WarmStop
 //! form_of                                a model's form, its clash or the first refused operation: specs/Form
@@ -24,5 +24,5 @@ mod ends;
 
 pub use ends::{
     Best, Cheapest, Choice, DualChoice, DualEnd, Entering, Fit, FormFault, Leaving, PrimalEnd,
-    RowStart, StartStop, Stop, WarmStop,
+    RowStart, StartStop, RunStop, WarmStop,
 };

@@ -12,7 +12,7 @@ use Rattle.spec_check.specs.declared.certificate.Certificate.TheVariants.{Optima
 use Rattle.spec_check.specs.declared.certificate.Known.{Known}
 use Rattle.spec_check.specs.declared.certificate.Known.TheVariants as known
 use Rattle.spec_check.specs.declared.certificate.SettleFault.TheVariants as settle
-use Rattle.spec_check.specs.declared.certificate.Stop.TheVariants as stop
+use Rattle.spec_check.specs.declared.certificate.CheckStop.TheVariants as stop
 use Rattle.spec_check.specs.declared.certificate.Verdict.{Verdict}
 use Rattle.spec_check.specs.declared.certificate.Verdict.TheVariants as verdict
 use Rattle.spec_check.specs.Certificate.{IsFor, Holds}

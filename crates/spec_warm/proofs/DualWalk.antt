@@ -3,8 +3,8 @@ use Rattle.std.proofs.Common.{◌≡◌, ℕ, zero, suc, ◌+◌, Option, Result
 use Rattle.spec_exact.specs.Fraction.{ℚ}
 use Rattle.spec_pivot.specs.Tableau.{Matrix}
 use Rattle.spec_pivot.specs.Simplex.{Bounds}
-use Rattle.spec_simplex.specs.declared.ends.Stop.{Stop}
-use Rattle.spec_simplex.specs.declared.ends.Stop.TheVariants as stop
+use Rattle.spec_simplex.specs.declared.ends.RunStop.{RunStop}
+use Rattle.spec_simplex.specs.declared.ends.RunStop.TheVariants as stop
 use Rattle.spec_simplex.specs.Run.{refused_as}
 use Rattle.spec_simplex.specs.Tableau.{Tableau}
 use Rattle.spec_cold.specs.Tables.{way, table_of}
@@ -50,9 +50,9 @@ module _ (limit : Option ℕ) (m n : ℕ) (f : Matrix) (cost : ℕ → ℚ) (b :
   ends_here t used e (End end) s c h =
       let z : ◌≡◌ {A = DualEnded} (record { end = end; tableau = t; used = used }) e = cc in
       subst IsDualEnd z (record { after = s; end = ready_meant t (End end) s c })
-  ends_here t used e (Pivot p j to) s c h = let z : ◌≡◌ {A = Result DualEnded (Stop ℚ)} (Err stop.Spent) (Ok e) = h in cc
+  ends_here t used e (Pivot p j to) s c h = let z : ◌≡◌ {A = Result DualEnded (RunStop ℚ)} (Err stop.Spent) (Ok e) = h in cc
 
-  goes_on : (t : Tableau) (used : ℕ) (e : DualEnded) (next : Tableau → Result DualEnded (Stop ℚ)) (choice : DualChoice) → IsReady m n f cost b t → dual_choice_run limit t ≡ Ok choice → dual_end_or_next limit t used next choice ≡ Ok e
+  goes_on : (t : Tableau) (used : ℕ) (e : DualEnded) (next : Tableau → Result DualEnded (RunStop ℚ)) (choice : DualChoice) → IsReady m n f cost b t → dual_choice_run limit t ≡ Ok choice → dual_end_or_next limit t used next choice ≡ Ok e
       → ((u : Tableau) → IsReady m n f cost b u → next u ≡ Ok e → IsDualEnd e) → IsDualEnd e
   goes_on t used e next (End end) s c h more = ends_here t used e (End end) s c h
   goes_on t used e next (Pivot p j to) s c h more =

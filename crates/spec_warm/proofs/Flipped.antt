@@ -12,8 +12,8 @@ use Rattle.spec_pivot.proofs.Moves.{outside, flip_kept}
 use Rattle.spec_pivot.proofs.Pivot.{by_eq}
 use Rattle.spec_pivot.proofs.Ray.{ray_at}
 use Rattle.spec_pivot.proofs.Steps.{whole_range}
-use Rattle.spec_simplex.specs.declared.ends.Stop.{Stop}
-use Rattle.spec_simplex.specs.declared.ends.Stop.TheVariants as stop
+use Rattle.spec_simplex.specs.declared.ends.RunStop.{RunStop}
+use Rattle.spec_simplex.specs.declared.ends.RunStop.TheVariants as stop
 use Rattle.spec_simplex.specs.Run.{refused_as, difference_run, steps}
 use Rattle.spec_simplex.specs.Step.{directed, other_bound, moved_run, flip_way, flipped, flip_run}
 use Rattle.spec_simplex.specs.Tableau.{Tableau, all_columns, value_at, reduced_at, status_at, lower_at, upper_at, or_zero, is_fixed}
@@ -183,7 +183,7 @@ module _ (limit : Option ℕ) (budget m n : ℕ) (f : Matrix) (cost : ℕ → �
           goes w.0 (not_fixed_is f cost b r.tableau s i inside c) w.1
 
   next : (i : ℕ) (x y : Reached) → i < n + m + m → Flipping i x → needs_flip_at x.tableau i ≡ true → (c : Bool) → flip_by limit i x c ≡ Ok y → Flipping (suc i) y
-  next i x y i_in v e true h = let z : ◌≡◌ {A = Result Reached (Stop ℚ)} (Err stop.Spent) (Ok y) = h in cc
+  next i x y i_in v e true h = let z : ◌≡◌ {A = Result Reached (RunStop ℚ)} (Err stop.Spent) (Ok y) = h in cc
   next i x y i_in v e false h =
       let o = then_ok (refused_as stop.Past (flip_run limit x.tableau i)) (λ u. Ok (one_more x u)) y h in
       let z : one_more x o.0 ≡ y = cc in

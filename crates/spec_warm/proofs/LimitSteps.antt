@@ -2,8 +2,8 @@
 use Rattle.std.proofs.Common.{◌≡◌, ℕ, zero, suc, ◌+◌, ◌-◌, List, Option, Some, None, Result, Ok, Err, Bool, true, false, nat_le}
 use Rattle.spec_exact.specs.Fraction.{ℚ, 0ℚ, abs_ℚ}
 use Rattle.spec_pivot.specs.declared.status.Status.{Status}
-use Rattle.spec_simplex.specs.declared.ends.Stop.{Stop}
-use Rattle.spec_simplex.specs.declared.ends.Stop.TheVariants as stop
+use Rattle.spec_simplex.specs.declared.ends.RunStop.{RunStop}
+use Rattle.spec_simplex.specs.declared.ends.RunStop.TheVariants as stop
 use Rattle.spec_simplex.specs.Form.{Form}
 use Rattle.spec_simplex.specs.Run.{Run, ◌>>=◌}
 use Rattle.spec_simplex.specs.Tableau.{Tableau, all_columns, basic_at, entry_at, value_at, reduced_at, status_at, lower_at, upper_at, stand}
@@ -30,7 +30,7 @@ singular_agrees : {A : Type 0} → Agrees {A = A} start.Past (Err start.Singular
 singular_agrees = agrees_err start.Past start.Singular (λ p e. let z : ◌≡◌ {A = StartStop ℚ} start.Singular (start.Past p) = e in cc)
 
 spent_agrees : {A : Type 0} → Agrees {A = A} stop.Past (Err stop.Spent) (Err stop.Spent)
-spent_agrees = agrees_err stop.Past stop.Spent (λ p e. let z : ◌≡◌ {A = Stop ℚ} stop.Spent (stop.Past p) = e in cc)
+spent_agrees = agrees_err stop.Past stop.Spent (λ p e. let z : ◌≡◌ {A = RunStop ℚ} stop.Spent (stop.Past p) = e in cc)
 
 module _ (limit : Option ℕ) where
   -- ---- the tableau of a basis
@@ -134,7 +134,7 @@ module _ (limit : Option ℕ) where
   end_agrees t used (End end) = agrees_ok stop.Past (record { end = end; tableau = t; used = used })
   end_agrees t used (Pivot p j to) = spent_agrees
 
-  next_agrees : (t : Tableau) (used : ℕ) (f g : Tableau → Result DualEnded (Stop ℚ)) → ((u : Tableau) → Agrees stop.Past (f u) (g u)) → (c : DualChoice) → Agrees stop.Past (dual_end_or_next limit t used f c) (dual_end_or_next None t used g c)
+  next_agrees : (t : Tableau) (used : ℕ) (f g : Tableau → Result DualEnded (RunStop ℚ)) → ((u : Tableau) → Agrees stop.Past (f u) (g u)) → (c : DualChoice) → Agrees stop.Past (dual_end_or_next limit t used f c) (dual_end_or_next None t used g c)
   next_agrees t used f g h (End end) = agrees_ok stop.Past (record { end = end; tableau = t; used = used })
   next_agrees t used f g h (Pivot p j to) = agrees_then stop.Past _ _ f g (agrees_as stop.Past _ _ (step_agrees t p j to)) h
 

@@ -11,8 +11,8 @@ use Rattle.spec_check.specs.Run as check
 use Rattle.spec_pivot.specs.declared.status.Status.{Status}
 use Rattle.spec_simplex.specs.declared.ends.FormFault.{FormFault}
 use Rattle.spec_simplex.specs.declared.ends.FormFault.TheVariants as fault
-use Rattle.spec_simplex.specs.declared.ends.Stop.{Stop}
-use Rattle.spec_simplex.specs.declared.ends.Stop.TheVariants as stop
+use Rattle.spec_simplex.specs.declared.ends.RunStop.{RunStop}
+use Rattle.spec_simplex.specs.declared.ends.RunStop.TheVariants as stop
 use Rattle.spec_simplex.specs.Form.{Form, form_of}
 use Rattle.spec_simplex.specs.Tableau.{Tableau}
 use Rattle.spec_cold.specs.Accepted.{IsAccepted}
@@ -47,7 +47,7 @@ start_back : (d : StartStop ℚ) (p : Past ℚ) → start_stop d ≡ fall.Past p
 start_back start.Singular p e = let z : ◌≡◌ {A = WarmStop ℚ} fall.Singular (fall.Past p) = e in cc
 start_back (start.Past q) p e = let z : ◌≡◌ {A = WarmStop ℚ} (fall.Past q) (fall.Past p) = e in let y : q ≡ p = cc in ap start.Past y
 
-run_back : (d : Stop ℚ) (p : Past ℚ) → run_stop d ≡ fall.Past p → d ≡ stop.Past p
+run_back : (d : RunStop ℚ) (p : Past ℚ) → run_stop d ≡ fall.Past p → d ≡ stop.Past p
 run_back stop.Spent p e = let z : ◌≡◌ {A = WarmStop ℚ} fall.Spent (fall.Past p) = e in cc
 run_back (stop.Past q) p e = let z : ◌≡◌ {A = WarmStop ℚ} (fall.Past q) (fall.Past p) = e in let y : q ≡ p = cc in ap stop.Past y
 

@@ -16,7 +16,7 @@ use Rattle.spec_simplex.specs.Run.{refused_as, made}
 use Rattle.spec_simplex.specs.Start.{cost_at}
 use Rattle.spec_simplex.specs.Step.{directed}
 use Rattle.spec_simplex.specs.Tableau.{Tableau, form_columns, all_columns, entry_at, value_at, status_at, lower_at, upper_at}
-use Rattle.spec_simplex.specs.Phases.{Ended, run_from}
+use Rattle.spec_simplex.specs.Phases.{PrimalEnded, run_from}
 use Rattle.spec_simplex.proofs.Stops.{length-made}
 use Rattle.spec_cold.specs.Tables.{way, table_of, bounds_of, IsTableauOf}
 use Rattle.spec_cold.specs.Cold as cold
@@ -141,7 +141,7 @@ module _ (limit : Option ℕ) (m : Model) (ls : List (Option ℚ × Option ℚ))
       let g : IsDualEnd limit r w F costs (bounds_of t) e = dual_ends limit r w F costs (bounds_of t) (budget - o.0.used) o.0.used o.0.tableau e d o.2 in
       record { shows = dual_shows e.tableau e.end g.after g.end; based = g.after.based }
 
-  by_primal : (budget : ℕ) (e : Ended) → ((k : ℕ) → k < all_columns t → status_at t k ≡ Basic → IsInside (lower_at t k) (upper_at t k) (value_at t k)) → run_from limit budget 0 t ≡ Ok e → IsEndOf (ByPrimal e)
+  by_primal : (budget : ℕ) (e : PrimalEnded) → ((k : ℕ) → k < all_columns t → status_at t k ≡ Basic → IsInside (lower_at t k) (upper_at t k) (value_at t k)) → run_from limit budget 0 t ≡ Ok e → IsEndOf (ByPrimal e)
   by_primal budget e inside ok =
       let d = run_ends limit r w F costs (bounds_of t) some_label budget 0 t e (whole t s.based (λ k l. inside k (omega (arith, l, s.based.rows, s.based.cols)))) ok in
       record {
@@ -149,7 +149,7 @@ module _ (limit : Option ℕ) (m : Model) (ls : List (Option ℚ × Option ℚ))
         based = record { rows = d.after.rows; cols = d.after.cols; whole = d.after.whole; tableau = d.after.tableau; bounds = d.after.bounds; top = s.based.top };
       }
 
-  primal_end : (budget : ℕ) (o : Ended) (e : WarmEnd) → ByPrimal o ≡ e → FitIs t fit.Primal → run_from limit budget 0 t ≡ Ok o → IsEndOf e
+  primal_end : (budget : ℕ) (o : PrimalEnded) (e : WarmEnd) → ByPrimal o ≡ e → FitIs t fit.Primal → run_from limit budget 0 t ≡ Ok o → IsEndOf e
   primal_end budget o e z inside ok = subst IsEndOf z (by_primal budget o inside ok)
 
   dual_end : (budget : ℕ) (o : DualEnded) (e : WarmEnd) → ByDual o ≡ e → FitIs t fit.Dual → dual_run limit budget t ≡ Ok o → IsEndOf e

@@ -6,20 +6,20 @@ use Rattle.spec_model.specs.Model.{Model}
 use Rattle.spec_check.specs.declared.certificate.Certificate.{Certificate}
 use Rattle.spec_check.specs.declared.certificate.Certificate.TheVariants as certificate
 use Rattle.spec_check.specs.declared.certificate.Known.{Known}
-use Rattle.spec_check.specs.declared.certificate.Stop.{Stop as Refusal}
-use Rattle.spec_check.specs.declared.certificate.Stop.TheVariants as check
+use Rattle.spec_check.specs.declared.certificate.CheckStop.{CheckStop as Refusal}
+use Rattle.spec_check.specs.declared.certificate.CheckStop.TheVariants as check
 use Rattle.spec_check.specs.Run.{check_run}
 use Rattle.spec_pivot.specs.declared.status.Status.{Status}
 use Rattle.spec_simplex.specs.declared.ends.FormFault.{FormFault}
 use Rattle.spec_simplex.specs.declared.ends.FormFault.TheVariants as fault
 use Rattle.spec_simplex.specs.declared.ends.PrimalEnd.TheVariants as primal
-use Rattle.spec_simplex.specs.declared.ends.Stop.{Stop}
-use Rattle.spec_simplex.specs.declared.ends.Stop.TheVariants as stop
+use Rattle.spec_simplex.specs.declared.ends.RunStop.{RunStop}
+use Rattle.spec_simplex.specs.declared.ends.RunStop.TheVariants as stop
 use Rattle.spec_simplex.specs.Run.{◌>>=◌, refused_as, made}
 use Rattle.spec_simplex.specs.Form.{Form, form_of}
 use Rattle.spec_simplex.specs.Step.{directed}
 use Rattle.spec_simplex.specs.Tableau.{Tableau, entry_at}
-use Rattle.spec_simplex.specs.Phases.{Ended, run_from}
+use Rattle.spec_simplex.specs.Phases.{PrimalEnded, run_from}
 use Rattle.spec_cold.specs.Cold.{point, multipliers, certificate_at, basis_at}
 use Rattle.spec_simplex.specs.declared.ends.DualEnd.{DualEnd}
 use Rattle.spec_simplex.specs.declared.ends.DualEnd.TheVariants.{Optimal, Infeasible}
@@ -44,14 +44,14 @@ abbrev pub start_stop : StartStop ℚ → WarmStop ℚ
 start_stop start.Singular = fall.Singular
 start_stop (start.Past p) = fall.Past p
 
-abbrev pub run_stop : Stop ℚ → WarmStop ℚ
+abbrev pub run_stop : RunStop ℚ → WarmStop ℚ
 run_stop (stop.Past p) = fall.Past p
 run_stop stop.Spent = fall.Spent
 
 -- ---- the run
 -- how it ended: by the primal or by the dual method
 pub data WarmEnd : Type 0 where
-  ByPrimal : Ended → WarmEnd
+  ByPrimal : PrimalEnded → WarmEnd
   ByDual : DualEnded → WarmEnd
 
 abbrev pub run_by : Option ℕ → ℕ → Tableau → Fit → Result WarmEnd (WarmStop ℚ)

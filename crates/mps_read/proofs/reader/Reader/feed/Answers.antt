@@ -3,7 +3,7 @@ use Rattle.spec_mps.specs.Steps.{More, step}
 use Rattle.mps_read.specs.Answer.{Fails}
 use Rattle.mps_read.specs.Draft.{state_of}
 use Rattle.mps_read.specs.Leads.{IsReached}
-use Rattle.mps_read.specs.Reading.{Reading}
+use Rattle.mps_read.specs.TextRead.{TextRead}
 use Rattle.mps_read.proofs.Feeding.{refusal}
 use Rattle.mps_read.proofs.Runs.{start_reached, more_reached}
 use Rattle.mps_read.proofs.reader.Reader.feed.Goals as goal
@@ -24,6 +24,6 @@ invariant_of-self-in-Err c =
 
 pub returns-in-Err : goal.returns-in-Err
 returns-in-Err c =
-    let v : Reading = record { style = c.self.inside.style; state = state_of c.self.inside.draft; lines = c.self.inside.lines } in
+    let v : TextRead = record { style = c.self.inside.style; state = state_of c.self.inside.draft; lines = c.self.inside.lines } in
     refusal v _ _ c.args.line.now c.in-Err.fault c.refused.result c.self.view_is c.refused.ensures
     (subst (λ d. Fails (step c.self.inside.style (state_of d) c.args.line.now) c.in-Err.fault) c.replace-draft.ensures.value c.in-Err.ensures)

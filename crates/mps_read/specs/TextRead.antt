@@ -4,7 +4,7 @@ use Rattle.spec_mps.specs.declared.style.Style.{Style}
 use Rattle.spec_mps.specs.Reader.{State}
 
 -- what was read so far, and of how many lines
-pub record Reading : Type 0 where
+pub record TextRead : Type 0 where
   pub style : Style
   pub state : State
   pub lines : ℕ

@@ -5,7 +5,7 @@ use Rattle.lp_line.specs.declared.edits.EditStop.{EditStop}
 use Rattle.lp_line.specs.declared.edits.EditStop.TheVariants.{Fault, NoMemory}
 
 -- what words are, or why they are nothing; that there is no memory says nothing of them
-abbrev pub Gives : {A : Type 0} → Reads A → Result A EditStop → Type 0
-Gives answer (Ok x) = answer ≡ Ok x
-Gives answer (Err (Fault fault)) = answer ≡ Err fault
-Gives answer (Err NoMemory) = Unit {0}
+abbrev pub GivesWords : {A : Type 0} → Reads A → Result A EditStop → Type 0
+GivesWords answer (Ok x) = answer ≡ Ok x
+GivesWords answer (Err (Fault fault)) = answer ≡ Err fault
+GivesWords answer (Err NoMemory) = Unit {0}
