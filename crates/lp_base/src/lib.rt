@@ -1,15 +1,17 @@
 //! The outside: where bytes come from and go to, counting faults, and the lines of what is read.
 //!
-//! Source Sink          where bytes come from, and where they go: src/outside
-//! send                 writes all of a piece: src/outside
-//! MemSource MemSink    both in memory, which fail at the calls that are listed: src/memory
-//! Lines Line           the lines of a source, one by one: src/lines
-//! Bytes Name Texts     lists of bytes, and a list of them: src/bytes
-//! words                the words of a line: src/word
-//! Rose HasCause        a fault was counted: specs/Causes
-//! ReadsLines           the lines that several calls took, and of which bytes: specs/Taking
-//! ReadsAll ReadsFront  what was read in all, where a reader stops: specs/Taking
-//! ReadsLittleMore      how little was read beyond the lines that were taken: specs/Taking
+//! | Item | What it is | Where |
+//! |---|---|---|
+//! | `Source`, `Sink` | where bytes come from, and where they go | src/outside |
+//! | `send` | writes all of a piece | src/outside |
+//! | `MemSource`, `MemSink` | both in memory, which fail at the calls that are listed | src/memory |
+//! | `Lines`, `Line` | the lines of a source, one by one | src/lines |
+//! | `Bytes`, `Name`, `Texts` | lists of bytes, and a list of them | src/bytes |
+//! | `words` | the words of a line | src/word |
+//! | `Rose`, `HasCause` | a fault was counted | specs/Causes |
+//! | `ReadsLines` | the lines that several calls took, and of which bytes | specs/Taking |
+//! | `ReadsAll`, `ReadsFront` | what was read in all, where a reader stops | specs/Taking |
+//! | `ReadsLittleMore` | how little was read beyond the lines that were taken | specs/Taking |
 #![tactic(auto)]
 
 mod bytes;

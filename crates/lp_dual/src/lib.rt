@@ -1,11 +1,11 @@
 //! The dual simplex method on a tableau of 127 bits, and which method a tableau is fit for.
 //!
-//! | Item | What it is |
-//! |---|---|
-//! | `fit` | the method that a tableau is fit for |
-//! | `run` | flips that give each reduced cost its sign, and then dual steps up to an end |
-//! | `Fit`, `DualEnd` | what they answer |
-//! | `fit_tableaus_can_run` | that what is fit for the dual method may be run by it |
+//! | Item | What it is | Where |
+//! |---|---|---|
+//! | `fit` | the method that a tableau is fit for | src/needs |
+//! | `run` | flips that give each reduced cost its sign, and then dual steps up to an end | src/steps |
+//! | `Fit`, `DualEnd` | what they answer | `spec_simplex`, `spec_simplex` |
+//! | `fit_tableaus_can_run` | that what is fit for the dual method may be run by it | here |
 //!
 //! Each is exactly spec_simplex's `fit_run` or `dual_run`, up to the operation that is past 127 bits and
 //! the budget that is spent. They take no memory.

@@ -1,11 +1,11 @@
 //! Edits of a model: rows and columns that come or go, and numbers that change.
 //!
-//! | Item | What it is |
-//! |---|---|
-//! | `apply` | changes a model by an edit, or refuses the edit and leaves the model |
-//! | `Edit` | an edit, whose rows and columns are named |
-//! | `Pairs`, `ColumnBounds` | the numbers of a new column, and the bounds of a column |
-//! | `EditError`, `EditFault`, `Which` | why an edit is not applied |
+//! | Item | What it is | Where |
+//! |---|---|---|
+//! | `apply` | changes a model by an edit, or refuses the edit and leaves the model | src/edits |
+//! | `Edit` | an edit, whose rows and columns are named | src/edit |
+//! | `Pairs`, `ColumnBounds` | the numbers of a new column, and the bounds of a column | src/edit |
+//! | `EditError`, `EditFault`, `Which` | why an edit is not applied | src/edit, `spec_edit` |
 //!
 //! What an edit leaves, and which fault it has, is `edited` of `spec_edit`.
 #![tactic(auto)]

@@ -1,10 +1,10 @@
 //! The form of a linear program as the simplex method takes it, and bases.
 //!
-//! | Item | What it is |
-//! |---|---|
-//! | `Form` | columns with bounds and costs to be made least, the rows' sums among them |
-//! | `BoundList`, `Columns` | lists of optional fractions and of columns' entries, plain lists to contracts |
-//! | `Basis`, `Status` | how each structural and logical column stands |
+//! | Item | What it is | Where |
+//! |---|---|---|
+//! | `Form` | columns with bounds and costs to be made least, the rows' sums among them | src/form |
+//! | `BoundList`, `Columns` | lists of optional fractions and of columns' entries, plain lists to contracts | src/lists |
+//! | `Basis`, `Status` | how each structural and logical column stands | src/basis, `spec_pivot` |
 //!
 //! Contracts see a form as the record of spec_simplex's specs/Form.
 #![tactic(auto)]

@@ -5,16 +5,16 @@
 //! Its contract is one equation with the definition of `spec_exact` at that limit, for both
 //! outcomes. Nothing is rounded, and nothing here takes memory but the lists.
 //!
-//! | Item | What it is |
-//! |---|---|
-//! | `Frac`, `Frac::new`, `zero`, `one` | a fraction; one of two whole numbers; 0 and 1 |
-//! | `add` `sub` `mul` `div` `cmp` | the operations that can be refused |
-//! | `neg` `abs` `sign` `num` `den` `is_zero` `are_same` | the ones that never are |
-//! | `less_product` | a product taken off a number, as the product and then the difference |
-//! | `within` `all_within` | that the parts of a fraction, or of all of a list, are within the limit |
-//! | `Past`, `Op` | a refusal, and the operation that it names |
-//! | `FracFault` | why two whole numbers make no fraction |
-//! | `Fracs`, `Entries` | lists of fractions and of a column's entries, plain lists to contracts |
+//! | Item | What it is | Where |
+//! |---|---|---|
+//! | `Frac`, `Frac::new`, `zero`, `one` | a fraction; one of two whole numbers; 0 and 1 | src/frac, src/lists, src/readers |
+//! | `add` `sub` `mul` `div` `cmp` | the operations that can be refused | src/operations |
+//! | `neg` `abs` `sign` `num` `den` `is_zero` `are_same` | the ones that never are | src/readers |
+//! | `less_product` | a product taken off a number, as the product and then the difference | src/less |
+//! | `within` `all_within` | that the parts of a fraction, or of all of a list, are within the limit | src/readers |
+//! | `Past`, `Op` | a refusal, and the operation that it names | src/frac |
+//! | `FracFault` | why two whole numbers make no fraction | src/frac |
+//! | `Fracs`, `Entries` | lists of fractions and of a column's entries, plain lists to contracts | src/lists |
 //!
 //! Contracts above cite `largest` of specs/Narrow and the operations of spec_exact's specs/Limit.
 #![tactic(auto)]

@@ -1,14 +1,18 @@
 //! The protocol of scripts: their lines are read as asks, and replies are written as lines. Lines name sessions, or are all
 //! those of one.
 //!
-//! Ask Asked Reply  what sessions are asked and reply, with the types of the code: src/asks
-//! read Addressed Command  what a line between two commands is: src/command, and the edits: src/edits
-//! hear Stage Heard  reads lines up to the one at which something is said, as texts and certificates are: src/hearing,
+//! | Item | What it is | Where |
+//! |---|---|---|
+//! | `Ask`, `Asked`, `Reply` | what sessions are asked and reply, with the types of the code | src/asks |
+//! | `read`, `Addressed`, `Command` | what a line between two commands is: src/command, and the edits | src/edits |
+//! | `hear`, `Stage`, `Heard` | reads lines up to the one at which something is said, as texts and certificates are | src/hearing, |
 //!                  src/stages, specs/Hearing
-//! take Taken       reads the lines of the next ask: src/taking, specs/Takes
-//! print            writes a session's reply: src/printing
-//! print_said       writes a reply without a session: src/printing
-//! print_lines      writes lines: src/printing
+//! | Item | What it is | Where |
+//! |---|---|---|
+//! | `take`, `Taken` | reads the lines of the next ask | src/taking, specs/Takes |
+//! | `print` | writes a session's reply | src/printing |
+//! | `print_said` | writes a reply without a session | src/printing |
+//! | `print_lines` | writes lines | src/printing |
 #![tactic(auto)]
 
 mod answers;

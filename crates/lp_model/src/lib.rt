@@ -1,12 +1,12 @@
 //! Models: linear programs whose numbers are fractions of at most 127 bits.
 //!
-//! | Item | What it is |
-//! |---|---|
-//! | `Model` | a model that may be kept; to contracts a record of plain data, `spec_model`'s `Model` |
-//! | `Row`, `Column` | its parts, with names and numbers as the code holds them |
-//! | `Sense`, `Kind` | whether the objective is to be least or greatest; the kinds of rows |
-//! | `put_entry` | puts a coefficient among the entries of a column |
-//! | `is_name`, `is_row_name`, `is_model_name` | whether a text may be a name |
+//! | Item | What it is | Where |
+//! |---|---|---|
+//! | `Model` | a model that may be kept; to contracts a record of plain data, `spec_model`'s `Model` | src/model |
+//! | `Row`, `Column` | its parts, with names and numbers as the code holds them | src/model |
+//! | `Sense`, `Kind` | whether the objective is to be least or greatest; the kinds of rows | `spec_model`, `spec_model` |
+//! | `put_entry` | puts a coefficient among the entries of a column | src/entries |
+//! | `is_name`, `is_row_name`, `is_model_name` | whether a text may be a name | src/names |
 //!
 //! A model is read by the methods of src/model and changed by those of src/changes, which keep it in order.
 #![tactic(auto)]

@@ -5,7 +5,7 @@
 //! spec_warm's `solve` has it. A basis never costs an answer: where the start from it stops, the cold solve has the whole
 //! budget.
 //!
-//! | Word | What it is | Where |
+//! | Item | What it is | Where |
 //! |---|---|---|
 //! | `solve`, `Solved` | the solve of a model, and how it ends | src/solving |
 //! | `End`, `from_form` | what a solve ends with, and the cold solve from a form | src/cold |

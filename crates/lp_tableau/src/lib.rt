@@ -1,13 +1,13 @@
 //! Tableaus of 127 bits: the start from a form, and the pivots, flips and phases on them.
 //!
-//! | Item | What it is |
-//! |---|---|
-//! | `Tableau`, `start_cold` | a tableau; the one that a form begins with |
-//! | `start_from` | the tableau of a basis |
-//! | `Tableau::pivot`, `flip`, `phase_two` | the changes, each exact or refused as `spec_simplex` has it |
-//! | `Tableau::wants_phase_one`, `is_stuck` | what the phases ask: a basic artificial, and one that is not 0 |
-//! | `PrimalEnd`, `RunStop` | how a run of steps ends, and why it does not |
-//! | `ColdStop`, `BasisStop` | why a form has no start, and a basis no tableau |
+//! | Item | What it is | Where |
+//! |---|---|---|
+//! | `Tableau`, `start_cold` | a tableau; the one that a form begins with | src/tableau, src/start |
+//! | `start_from` | the tableau of a basis | src/basis |
+//! | `Tableau::pivot`, `flip`, `phase_two` | the changes, each exact or refused as `spec_simplex` has it | src/pivot, src/moves, src/price |
+//! | `Tableau::wants_phase_one`, `is_stuck` | what the phases ask: a basic artificial, and one that is not 0 | src/phases |
+//! | `PrimalEnd`, `RunStop` | how a run of steps ends, and why it does not | src/ends |
+//! | `ColdStop`, `BasisStop` | why a form has no start, and a basis no tableau | src/ends |
 //!
 //! Rows are kept one after the other in one block, which never grows, and without the artificial columns: each is its
 //! row's logical or the negative of it all through. Contracts see a tableau as the record of spec_simplex's

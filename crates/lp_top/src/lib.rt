@@ -1,7 +1,9 @@
 //! The top call: all that the program does, from the words of its command line to its status.
 //!
-//! lpd_top     runs a command line over a source and a sink: here
-//! ExitStatus  how that ended: src/exit_status
+//! | Item | What it is | Where |
+//! |---|---|---|
+//! | `lpd_top` | runs a command line over a source and a sink | here |
+//! | `ExitStatus` | how that ended | src/exit_status |
 //!
 //! What it reads and writes is told by specs/Top, of a script by specs/Run and of a text by specs/Hearing, in the words of the
 //! server's definitions.

@@ -1,10 +1,12 @@
 //! The cards of a text of a model, one line at a time.
 //!
-//! Card Field        a card, and one of its fields: src/fields
-//! Fields            the fields of a card: src/fields
-//! free fixed        the card of a line, in free and in fixed form: src/cards
-//! CardFault         why a line has no card: src/fault
-//! GivesCard             what the two answer: specs/Answer
+//! | Item | What it is | Where |
+//! |---|---|---|
+//! | `Card`, `Field` | a card, and one of its fields | src/fields |
+//! | `Fields` | the fields of a card | src/fields |
+//! | `free`, `fixed` | the card of a line, in free and in fixed form | src/cards |
+//! | `CardFault` | why a line has no card | src/fault |
+//! | `GivesCard` | what the two answer | specs/Answer |
 #![tactic(auto)]
 
 mod cards;

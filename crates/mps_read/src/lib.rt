@@ -1,11 +1,13 @@
 //! The reader of texts of models, in free and in fixed form, line by line.
 //!
-//! Reader                    a text that is read; `new` begins it, and `feed` takes its next line: src/reader
-//! Feed                      what a line is answered: src/reader
-//! Style, MpsFault, Code     the two forms, and a line that is wrong, as spec_mps has them
-//! TextRead                   a reader to contracts: its form, what was read, and the lines so far: specs/TextRead
-//! Feeds                     that an answer is the one of the step of a line: specs/Feeds
-//! Leads                     that lines lead from one state to another: specs/Leads
+//! | Item | What it is | Where |
+//! |---|---|---|
+//! | `Reader` | a text that is read; `new` begins it, and `feed` takes its next line | src/reader |
+//! | `Feed` | what a line is answered | src/reader |
+//! | `Style`, `MpsFault`, `Code` | the two forms, and a line that is wrong, as spec_mps has them |  |
+//! | `TextRead` | a reader to contracts: its form, what was read, and the lines so far | specs/TextRead |
+//! | `Feeds` | that an answer is the one of the step of a line | specs/Feeds |
+//! | `Leads` | that lines lead from one state to another | specs/Leads |
 //!
 //! The rule of each line is the step of spec_mps; each section has a file of its own here. Rows and columns are found by
 //! their names in lists, of which a model has at most 256 and 512.

@@ -1,8 +1,10 @@
 //! Models as text, in both forms. A reader of the same form reads the text as the same model.
 //!
-//! free, fixed          the text of a model in free and in fixed form: src/text
-//! WriteFault           why there is no text: src/fault
-//! Adds, IsAdded        what adding cards to a text says: specs/Adds
+//! | Item | What it is | Where |
+//! |---|---|---|
+//! | `free`, `fixed` | the text of a model in free and in fixed form | src/text |
+//! | `WriteFault` | why there is no text | src/fault |
+//! | `Adds`, `IsAdded` | what adding cards to a text says | specs/Adds |
 //!
 //! The cards and lines of a text, which the contracts cite, are in spec_mps: specs/Written.
 #![tactic(auto)]

@@ -1,14 +1,16 @@
 //! Certificates, the conditions under which one is accepted, and that what an accepted one shows is true.
 //!
-//! Certificate, Known, Verdict             what is handed in, and what is said of it: src/certificate
-//! RawCertificate, Part, SettleFault       a certificate as its text has it, and why it is not one of a model: src/certificate
-//! shown, Holds                            what a certificate would show: specs/Certificate
-//! Checks                                  the conditions, in no order: specs/Checks
-//! check_run                               the same in the checker's order, under a limit: specs/Run
-//! Progress, step                          what a line of a certificate's text leads to: src/progress, specs/Text
-//! Spells, Refuses                         what a text of a certificate is: specs/Text
-//! certificate_for                         a certificate's parts put to a model's rows and columns: specs/Settle
-//! certificate_lines                       the text that a certificate is written as: specs/TextWritten
+//! | Item | What it is | Where |
+//! |---|---|---|
+//! | `Certificate`, `Known`, `Verdict` | what is handed in, and what is said of it | src/certificate |
+//! | `RawCertificate`, `Part`, `SettleFault` | a certificate as its text has it, and why it is not one of a model | src/certificate |
+//! | `shown`, `Holds` | what a certificate would show | specs/Certificate |
+//! | `Checks` | the conditions, in no order | specs/Checks |
+//! | `check_run` | the same in the checker's order, under a limit | specs/Run |
+//! | `Progress`, `step` | what a line of a certificate's text leads to | src/progress, specs/Text |
+//! | `Spells`, `Refuses` | what a text of a certificate is | specs/Text |
+//! | `certificate_for` | a certificate's parts put to a model's rows and columns | specs/Settle |
+//! | `certificate_lines` | the text that a certificate is written as | specs/TextWritten |
 //!
 //! The functions here have the laws as their contracts.
 //!

@@ -1,6 +1,6 @@
 //! The cold solve of a model: its definition, and the law that what it ends with is true.
 //!
-//! | Word | What it is | Where |
+//! | Item | What it is | Where |
 //! |---|---|---|
 //! | `Cold` | how a cold solve ends | src/outcome |
 //! | `cold` | the cold solve of a model, at a limit and within a budget | specs/Cold |

@@ -4,7 +4,7 @@
 //! A reader has to believe the definitions in `specs/` and those of `spec_pivot`; each law is the contract of a function
 //! below, which does nothing.
 //!
-//! | Word | What it is | Where |
+//! | Item | What it is | Where |
 //! |---|---|---|
 //! | `Suits`, `IsDualFeasible` | the sign that a status wants of a reduced cost; each column has it | specs/Dual |
 //! | `IsPast`, `Leaves` | a value is past a bound; the basic column that leaves to it | specs/Dual |

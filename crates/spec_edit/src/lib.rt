@@ -1,11 +1,13 @@
 //! Edits of a model: what each leaves, and why one is refused.
 //!
-//! Edit, EditFault, Which                    an edit, and why it is refused: src/edit
-//! with_row, without_row, with_coefficient   changes by the numbers of rows and columns: specs/Changes
-//! edited                                    the model after an edit, or the fault: specs/Edited
-//! IsKeptEdit, takes_memory                  what an edit may hold, and whether it takes memory: specs/Edited
-//! IsWithCoefficient, IsWithoutRow           what changes mean: specs/Meaning
-//! KeepsNames                                what other edits leave: specs/Meaning
+//! | Item | What it is | Where |
+//! |---|---|---|
+//! | `Edit`, `EditFault`, `Which` | an edit, and why it is refused | src/edit |
+//! | `with_row`, `without_row`, `with_coefficient` | changes by the numbers of rows and columns | specs/Changes |
+//! | `edited` | the model after an edit, or the fault | specs/Edited |
+//! | `IsKeptEdit`, `takes_memory` | what an edit may hold, and whether it takes memory | specs/Edited |
+//! | `IsWithCoefficient`, `IsWithoutRow` | what changes mean | specs/Meaning |
+//! | `KeepsNames` | what other edits leave | specs/Meaning |
 //!
 //! The functions here have the laws as their contracts.
 #![tactic(auto)]

@@ -1,16 +1,18 @@
 //! What the text of a model means, in the words of linear programs: laws on every text that spells a model.
 //!
-//! cards_in                             the data cards of a section, up to ENDATA: specs/TextCards
-//! title_of                             the words of the line that begins a section: specs/TextCards
-//! unlimited_rows, limited_rows         the rows of type N, and the others with their kinds: specs/RowCards
-//! sense_words, IsSenseOf               the words that say a sense, and the sense: specs/RowCards
-//! named_columns                        the columns that cards name, by their first mention: specs/ColumnCards
-//! pairs_of_column                      the pairs on the cards of a column: specs/ColumnCards
-//! used_pairs                           the pairs of RHS or RANGES in the set that is used: specs/NumberCards
-//! texts_for, IsTheNumber, IsTheRange   the texts beside a name, and the number of the only one: specs/NumberCards
-//! bounds_of_column                     the cards of a column in the set that BOUNDS uses: specs/BoundCards
-//! lower_of, upper_of                   the bounds that cards make together: specs/BoundCards
-//! Means                                all of this: specs/Meaning
+//! | Item | What it is | Where |
+//! |---|---|---|
+//! | `cards_in` | the data cards of a section, up to ENDATA | specs/TextCards |
+//! | `title_of` | the words of the line that begins a section | specs/TextCards |
+//! | `unlimited_rows`, `limited_rows` | the rows of type N, and the others with their kinds | specs/RowCards |
+//! | `sense_words`, `IsSenseOf` | the words that say a sense, and the sense | specs/RowCards |
+//! | `named_columns` | the columns that cards name, by their first mention | specs/ColumnCards |
+//! | `pairs_of_column` | the pairs on the cards of a column | specs/ColumnCards |
+//! | `used_pairs` | the pairs of RHS or RANGES in the set that is used | specs/NumberCards |
+//! | `texts_for`, `IsTheNumber`, `IsTheRange` | the texts beside a name, and the number of the only one | specs/NumberCards |
+//! | `bounds_of_column` | the cards of a column in the set that BOUNDS uses | specs/BoundCards |
+//! | `lower_of`, `upper_of` | the bounds that cards make together | specs/BoundCards |
+//! | `Means` | all of this | specs/Meaning |
 //!
 //! The laws know nothing of how a text is read: they speak of its cards, whose fields `spec_mps` tells apart.
 #![tactic(auto)]

@@ -1,11 +1,13 @@
 //! Linear programs as plain data, and what is true of them.
 //!
-//! Sense, Kind, Row, Column               the parts of a model, over any names and numbers: src/parts
-//! Model, limits_of                       a model, and a row's limits: specs/Model
-//! coefficient, activity, value_of        by the numbers of rows and columns: specs/Model
-//! IsModel                                what holds of each model that is kept: specs/Kept
-//! IsFeasible, IsBetter                   points: specs/Truth
-//! IsOptimal, IsInfeasible, IsUnbounded   the three truths: specs/Truth
+//! | Item | What it is | Where |
+//! |---|---|---|
+//! | `Sense`, `Kind`, `Row`, `Column` | the parts of a model, over any names and numbers | src/parts |
+//! | `Model`, `limits_of` | a model, and a row's limits | specs/Model |
+//! | `coefficient`, `activity`, `value_of` | by the numbers of rows and columns | specs/Model |
+//! | `IsModel` | what holds of each model that is kept | specs/Kept |
+//! | `IsFeasible`, `IsBetter` | points | specs/Truth |
+//! | `IsOptimal`, `IsInfeasible`, `IsUnbounded` | the three truths | specs/Truth |
 //!
 //! The model is that of Chvátal, Linear Programming (1983), chapters 1 and 8: bounds on the variables, limits on the
 //! rows, and an objective that is to be least or greatest.

@@ -1,21 +1,23 @@
 //! Texts of models: lines, cards, and the model that they spell.
 //!
-//! Style                                the two forms of texts: src/style
-//! Section, RowType, BoundKind          the words of the format: src/section, src/row_type, src/bound_kind
-//! Target, Place                        what a coefficient or a right side belongs to: src/target
-//! Code, MpsFault                       what is wrong with a text, and in which line: src/fault
-//! NumFault, BoundValue                 why a text is no number, and what it is as a bound: src/number
-//! parts_of, number_of                  the parts of a number's text, and the number: specs/NumberText
-//! bound_of                             the bound that a text is: specs/BoundText
-//! number_text, IsWord                  the text that a fraction is written as, which is one word: specs/NumberWritten
-//! Card                                 the kinds of lines: src/card
-//! Field, free_fields, fixed_fields     fields, and the card of a line in free and in fixed form: specs/Fields
-//! rows_card, columns_card              what a card of ROWS and of COLUMNS does: specs/Reader
-//! rhs_card, ranges_card                what a card of RHS and of RANGES does: specs/Sides
-//! bounds_card                          what a card of BOUNDS does: specs/Bounds
-//! cards_of, free, fixed, too_wide      the cards and the text that a model is written as: specs/Written
-//! step, Spells, Refuses                the step of a line, and what a whole text is: specs/Steps
-//! is_skipped                           the lines that count for nothing: specs/Cards
+//! | Item | What it is | Where |
+//! |---|---|---|
+//! | `Style` | the two forms of texts | src/style |
+//! | `Section`, `RowType`, `BoundKind` | the words of the format | src/section, src/row_type, src/bound_kind |
+//! | `Target`, `Place` | what a coefficient or a right side belongs to | src/target |
+//! | `Code`, `MpsFault` | what is wrong with a text, and in which line | src/fault |
+//! | `NumFault`, `BoundValue` | why a text is no number, and what it is as a bound | src/number |
+//! | `parts_of`, `number_of` | the parts of a number's text, and the number | specs/NumberText |
+//! | `bound_of` | the bound that a text is | specs/BoundText |
+//! | `number_text`, `IsWord` | the text that a fraction is written as, which is one word | specs/NumberWritten |
+//! | `Card` | the kinds of lines | src/card |
+//! | `Field`, `free_fields`, `fixed_fields` | fields, and the card of a line in free and in fixed form | specs/Fields |
+//! | `rows_card`, `columns_card` | what a card of ROWS and of COLUMNS does | specs/Reader |
+//! | `rhs_card`, `ranges_card` | what a card of RHS and of RANGES does | specs/Sides |
+//! | `bounds_card` | what a card of BOUNDS does | specs/Bounds |
+//! | `cards_of`, `free`, `fixed`, `too_wide` | the cards and the text that a model is written as | specs/Written |
+//! | `step`, `Spells`, `Refuses` | the step of a line, and what a whole text is | specs/Steps |
+//! | `is_skipped` | the lines that count for nothing | specs/Cards |
 //!
 //! The format is MPS (IBM Mathematical Programming System Extended, Program Reference Manual, 1971, and the free form of
 //! later readers): docs/FORMATS.md.

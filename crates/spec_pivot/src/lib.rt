@@ -3,7 +3,7 @@
 //!
 //! A reader has to believe the definitions in `specs/`; each law is the contract of a function below, which does nothing.
 //!
-//! | Word | What it is | Where |
+//! | Item | What it is | Where |
 //! |---|---|---|
 //! | `Status`, `Way` | where a column stands; which way the entering column moves | src/status |
 //! | `Matrix`, `pivoted`, `entered` | rows of fractions; the rows and the basic columns after a pivot | specs/Tableau |

@@ -1,25 +1,29 @@
 //! The server: what a script asks, what one session replies, and what is written of it.
 //!
-//! Ask, Reply, Refusal           what a session is asked, and what it replies: src/asks
-//! Answer, LastAnswer            what a solve answers, and what a session keeps of it: src/answer
-//! Command, command_of           what the words of a line ask, behind the number of its session: src/command, specs/Command
-//! Addressing, addressed_in      whether lines name sessions, and what a line between two commands is: src/addressing,
+//! | Item | What it is | Where |
+//! |---|---|---|
+//! | `Ask`, `Reply`, `Refusal` | what a session is asked, and what it replies | src/asks |
+//! | `Answer`, `LastAnswer` | what a solve answers, and what a session keeps of it | src/answer |
+//! | `Command`, `command_of` | what the words of a line ask, behind the number of its session | src/command, specs/Command |
+//! | `Addressing`, `addressed_in` | whether lines name sessions, and what a line between two commands is | src/addressing, |
 //!                               specs/Addressing
-//! edit_by                       the edit that a line's words ask for: specs/EditCommand
-//! CommandLine, command_line_of  what the words of a command line ask: src/command_line, specs/CommandLine
-//! Pending                       what the lines of a script have begun: specs/Script
-//! MayAnswer, HowFits            what a solve may end with: specs/Answers
-//! LastFits                      what holds of the last answer that a session keeps: specs/LastFits
-//! IsAcceptedBack                that the certificate of an answer is accepted, handed back: specs/HandedBack
-//! AreKept                       asks whose models and edits may be kept: specs/Machine
-//! AloneStep, AloneRun           the one-session machine and its runs: specs/Machine
-//! RunFits                       the exchanges of many sessions, each on its own: specs/Machine
-//! script_of                     the asks of a script and how it ends, by its bytes: specs/Script
-//! IsSaid                        what a step from line to line says of an input: specs/Said
-//! said, check_line              what the command `check` says of its input, and the line that it writes: specs/CheckOut
-//! text_said, SolveOut           what the command `solve` reads, and what it writes of it: specs/SolveOut
-//! said_of, MayWrite, code_of    the same for each command that reads a text, with its status: specs/TextOut
-//! script_out                    what is written of the replies: specs/Output
+//! | Item | What it is | Where |
+//! |---|---|---|
+//! | `edit_by` | the edit that a line's words ask for | specs/EditCommand |
+//! | `CommandLine`, `command_line_of` | what the words of a command line ask | src/command_line, specs/CommandLine |
+//! | `Pending` | what the lines of a script have begun | specs/Script |
+//! | `MayAnswer`, `HowFits` | what a solve may end with | specs/Answers |
+//! | `LastFits` | what holds of the last answer that a session keeps | specs/LastFits |
+//! | `IsAcceptedBack` | that the certificate of an answer is accepted, handed back | specs/HandedBack |
+//! | `AreKept` | asks whose models and edits may be kept | specs/Machine |
+//! | `AloneStep`, `AloneRun` | the one-session machine and its runs | specs/Machine |
+//! | `RunFits` | the exchanges of many sessions, each on its own | specs/Machine |
+//! | `script_of` | the asks of a script and how it ends, by its bytes | specs/Script |
+//! | `IsSaid` | what a step from line to line says of an input | specs/Said |
+//! | `said`, `check_line` | what the command `check` says of its input, and the line that it writes | specs/CheckOut |
+//! | `text_said`, `SolveOut` | what the command `solve` reads, and what it writes of it | specs/SolveOut |
+//! | `said_of`, `MayWrite`, `code_of` | the same for each command that reads a text, with its status | specs/TextOut |
+//! | `script_out` | what is written of the replies | specs/Output |
 #![tactic(auto)]
 
 ghost use Rattle.std.specs.Prelude.{◌≡◌, ◌⊎◌, ℕ, List, [], ◌++◌, map, Option, Some, None, IfSome};

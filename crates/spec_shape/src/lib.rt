@@ -1,6 +1,6 @@
 //! Words in which the shape of a form, and a basis of it, are handed on: their definitions, and laws.
 //!
-//! | Word | What it is | Where |
+//! | Item | What it is | Where |
 //! |---|---|---|
 //! | `shape_of` | 25 words with the numbers of a form's rows and columns, and which bounds each column has | specs/Words |
 //! | `packed` | these, and 24 words with the status of each column | specs/Words |

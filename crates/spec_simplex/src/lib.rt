@@ -1,18 +1,17 @@
 //! The simplex method with bounded variables, by Bland's rule, in exact fractions: definitions and laws.
 //!
-//! FormFault, RowStart, Entering, Best    plain types: src/ends
-//! Choice, PrimalEnd, RunStop, StartStop
-//! Fit, Leaving, Cheapest, DualEnd
-//! DualChoice, WarmStop
-//! form_of                                a model's form, its clash or the first refused operation: specs/Form
-//! Tableau                                a whole tableau: specs/Tableau
-//! start_of                               the tableau that a form begins with: specs/Start
-//! choice_run, flip_run, pivot_run        one step: specs/Step
-//! run_from, phase_two_run, phases_run    steps up to an end, within a budget; both phases: specs/Phases
-//! IsBasisOf, eliminate_run, start_from   a basis of a form, and the tableau of one: specs/Eliminate
-//! leaving_run, fit_run                   the method that a tableau is fit for: specs/Fit
-//! flips_run, dual_choice_run             what comes before the dual method, and one of its steps: specs/Dual
-//! dual_pivot_run, dual_from, dual_run    dual steps up to an end; the flips and then the steps: specs/Dual
+//! | Item | What it is | Where |
+//! |---|---|---|
+//! | `FormFault`, `RowStart`, `Entering`, `Best`, `Choice`, `PrimalEnd`, `RunStop`, `StartStop`, `Fit`, `Leaving`, `Cheapest`, `DualEnd`, `DualChoice`, `WarmStop` | plain types | src/ends |
+//! | `form_of` | a model's form, its clash or the first refused operation | specs/Form |
+//! | `Tableau` | a whole tableau | specs/Tableau |
+//! | `start_of` | the tableau that a form begins with | specs/Start |
+//! | `choice_run`, `flip_run`, `pivot_run` | one step | specs/Step |
+//! | `run_from`, `phase_two_run`, `phases_run` | steps up to an end, within a budget; both phases | specs/Phases |
+//! | `IsBasisOf`, `eliminate_run`, `start_from` | a basis of a form, and the tableau of one | specs/Eliminate |
+//! | `leaving_run`, `fit_run` | the method that a tableau is fit for | specs/Fit |
+//! | `flips_run`, `dual_choice_run` | what comes before the dual method, and one of its steps | specs/Dual |
+//! | `dual_pivot_run`, `dual_from`, `dual_run` | dual steps up to an end; the flips and then the steps | specs/Dual |
 //!
 //! All of them take a limit: `Some m` refuses numbers past m, `None` refuses nothing.
 //!

@@ -1,9 +1,11 @@
 //! Texts: their lines, and the words of a line.
 //!
-//! Line                 a line, or what stands in its place at the end of an input: src/line
-//! lines_of             the lines of a whole text: specs/Lines
-//! ended_lines_of       those that a line feed ends: specs/Lines
-//! words_of             the words of a line: specs/Words
+//! | Item | What it is | Where |
+//! |---|---|---|
+//! | `Line` | a line, or what stands in its place at the end of an input | src/line |
+//! | `lines_of` | the lines of a whole text | specs/Lines |
+//! | `ended_lines_of` | those that a line feed ends | specs/Lines |
+//! | `words_of` | the words of a line | specs/Words |
 #![tactic(auto)]
 
 mod line;

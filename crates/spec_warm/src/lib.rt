@@ -1,6 +1,6 @@
 //! The warm start of a model from a basis: its definition, and the law that what it ends with is true.
 //!
-//! | Word | What it is | Where |
+//! | Item | What it is | Where |
 //! |---|---|---|
 //! | `Warm` | how a warm start ends | src/ends |
 //! | `warm_run`, `warm_certificate`, `warm` | the run from a basis; its certificate; the whole, with the check | specs/Warm |
