@@ -21,7 +21,8 @@ module _ (m n : ℕ) (f : Matrix) (cost : ℕ → ℚ) (b : Bounds) (t : Table) 
   next = after_dual m t way p j c
 
   rate_least : 0ℚ ≤ℚ ratio t p j
-  rate_least = ratio_least (t.reduced j) (t.entry p j) (entry_nonzero m n f cost b t g way p j c l e.in_range e.candidate)
+  rate_least =
+      ratio_least (t.reduced j) (t.entry p j) (entry_nonzero m n f cost b t g way p j c l e.in_range e.candidate)
 
   -- the reduced costs change by the ratio times the row
   reduced_is : (k : ℕ) → next.reduced k ≡ t.reduced k +ℚ ratio t p j *ℚ row_of t way p k

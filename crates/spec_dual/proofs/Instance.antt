@@ -34,7 +34,8 @@ status zero = AtLower
 status (suc k) = Basic
 
 abbrev pub opening : Table
-opening = record { entry = f; basic = λ i. 1; value = λ k. 0ℚ; reduced = λ k. cost k -ℚ sum_below 1 (λ r. 0ℚ *ℚ f r k); status = status }
+opening =
+    record { entry = f; basic = λ i. 1; value = λ k. 0ℚ; reduced = λ k. cost k -ℚ sum_below 1 (λ r. 0ℚ *ℚ f r k); status = status }
 
 only_zero : (i : ℕ) → i < 1 → i ≡ 0
 only_zero i h = omega arith
@@ -73,7 +74,8 @@ leaves = record { position = omega arith; past = (refl, zero-lt-one) }
 pub cheapest : IsCheapest 2 b opening Up 0 0
 cheapest = record {
   in_range = omega arith;
-  candidate = record { not_fixed = λ x. let e : None ≡ Some x.0 = x.2 in cc; helps = subst (λ a. a <ℚ 0ℚ) (sym entry_is) below };
+  candidate =
+      record { not_fixed = λ x. let e : None ≡ Some x.0 = x.2 in cc; helps = subst (λ a. a <ℚ 0ℚ) (sym entry_is) below };
   least = λ k h c. only k h c;
 }
   where

@@ -16,7 +16,7 @@ use Rattle.spec_pivot.proofs.Values.{by_basic, zero_at_basic}
 use Rattle.spec_dual.specs.Dual.{Suits, IsDualFeasible, IsOrdered, IsSolution, IsComplementary}
 use Rattle.spec_dual.proofs.Refuted.{fixed_lower, fixed_upper, term_least}
 
--- ---- a column with the sign that its status wants is not eligible
+-- ---- a column with the sign that belongs to its status is not eligible
 not_improving : (way : Way) (s : Status) (d : ℚ) → Suits s d → CanMove way s → Improves way d → ⊥
 not_improving Up Basic d f c i = c
 not_improving Up AtLower d f c i = clash_ℚ d 0ℚ i f
@@ -27,15 +27,18 @@ not_improving Down AtLower d f c i = c
 not_improving Down AtUpper d f c i = clash_ℚ 0ℚ d i f
 not_improving Down AtZero d f c i = <ℚ_irrefl 0ℚ (subst (λ a. 0ℚ <ℚ a) f i)
 
-pub none_eligible : (n : ℕ) (b : Bounds) (t : Table) → IsDualFeasible n b t → (way : Way) (k : ℕ) → k < n → ¬ (IsEligible b t way k)
-none_eligible n b t feasible way k h e = not_improving way (t.status k) (t.reduced k) (feasible k h e.may_enter.1) e.status e.improves
+pub none_eligible : (n : ℕ) (b : Bounds) (t : Table) → IsDualFeasible n b t → (way : Way) (k : ℕ) → k < n →
+    ¬ (IsEligible b t way k)
+none_eligible n b t feasible way k h e =
+    not_improving way (t.status k) (t.reduced k) (feasible k h e.may_enter.1) e.status e.improves
 
 -- ---- values that are not basic are within their bounds
 if_some : (P : ℚ → Type 0) (x : Option ℚ) → ((a : ℚ) → x ≡ Some a → P a) → IfSome x P
 if_some P None k = tt
 if_some P (Some a) k = k a refl
 
-stands_inside : (s : Status) (l u : Option ℚ) (v : ℚ) → ((a c : ℚ) → l ≡ Some a → u ≡ Some c → a ≤ℚ c) → ¬ (s ≡ Basic) → Stands s l u v → IsInside l u v
+stands_inside : (s : Status) (l u : Option ℚ) (v : ℚ) → ((a c : ℚ) → l ≡ Some a → u ≡ Some c → a ≤ℚ c) → ¬ (s ≡ Basic) →
+    Stands s l u v → IsInside l u v
 stands_inside Basic l u v o n h = absurd (n refl)
 stands_inside AtLower l u v o n h = record {
   lower = subst (λ x. IfSome x (λ k. k ≤ℚ v)) (sym h) (≤ℚ_refl v);
@@ -93,7 +96,8 @@ module _ (m n : ℕ) (f : Matrix) (cost : ℕ → ℚ) (b : Bounds) (t : Table) 
       below AtZero e free a = absurd (<ℚ_irrefl 0ℚ (subst (λ x. x <ℚ 0ℚ) (suits AtZero e free) a))
 
   -- so no values that solve the rows within the bounds cost less
-  pub least_cost : (x : ℕ → ℚ) → IsSolution m n f b x → sum_below n (λ k. cost k *ℚ t.value k) ≤ℚ sum_below n (λ k. cost k *ℚ x k)
+  pub least_cost : (x : ℕ → ℚ) → IsSolution m n f b x →
+      sum_below n (λ k. cost k *ℚ t.value k) ≤ℚ sum_below n (λ k. cost k *ℚ x k)
   least_cost x s =
       subst₂ ◌≤ℚ◌
       (costs_agree m n f cost t.reduced t.value g.costs.weights g.costs.less g.solves)

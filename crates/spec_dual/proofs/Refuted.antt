@@ -20,13 +20,15 @@ use Rattle.spec_pivot.proofs.Values.{combined}
 use Rattle.spec_dual.specs.Dual.{Helps, IsPast, Leaves, row_of, IsCandidate, IsSolution, Refutes}
 
 -- ---- a value that stands fixed stands at both bounds
-pub fixed_lower : (l u : Option ℚ) (s : Status) (v x : ℚ) → l ≡ Some x → u ≡ Some x → ¬ (s ≡ Basic) → Stands s l u v → l ≡ Some v
+pub fixed_lower : (l u : Option ℚ) (s : Status) (v x : ℚ) → l ≡ Some x → u ≡ Some x → ¬ (s ≡ Basic) → Stands s l u v →
+    l ≡ Some v
 fixed_lower l u Basic v x p q n h = absurd (n refl)
 fixed_lower l u AtLower v x p q n h = h
 fixed_lower l u AtUpper v x p q n h = p ∙ sym q ∙ h
 fixed_lower l u AtZero v x p q n h = let z : None ≡ Some x = sym h.0 ∙ p in cc
 
-pub fixed_upper : (l u : Option ℚ) (s : Status) (v x : ℚ) → l ≡ Some x → u ≡ Some x → ¬ (s ≡ Basic) → Stands s l u v → u ≡ Some v
+pub fixed_upper : (l u : Option ℚ) (s : Status) (v x : ℚ) → l ≡ Some x → u ≡ Some x → ¬ (s ≡ Basic) → Stands s l u v →
+    u ≡ Some v
 fixed_upper l u Basic v x p q n h = absurd (n refl)
 fixed_upper l u AtLower v x p q n h = q ∙ sym p ∙ h
 fixed_upper l u AtUpper v x p q n h = h
@@ -88,8 +90,10 @@ module _ (m n : ℕ) (f : Matrix) (cost : ℕ → ℚ) (b : Bounds) (t : Table) 
       go : (s : Status) → t.status k ≡ s → ¬ (IsFixed b k) → b.lower k ≡ Some (t.value k)
       go Basic e free = absurd (nonbasic e)
       go AtLower e free = subst (λ s. Stands s (b.lower k) (b.upper k) (t.value k)) e (g.stands k h)
-      go AtUpper e free = absurd (none k h (record { not_fixed = free; helps = subst (λ s. Helps s (row k)) (sym e) a }))
-      go AtZero e free = absurd (none k h (record { not_fixed = free; helps = subst (λ s. Helps s (row k)) (sym e) (λ z. <ℚ_irrefl 0ℚ (subst (λ x. 0ℚ <ℚ x) z a)) }))
+      go AtUpper e free =
+          absurd (none k h (record { not_fixed = free; helps = subst (λ s. Helps s (row k)) (sym e) a }))
+      go AtZero e free =
+          absurd (none k h (record { not_fixed = free; helps = subst (λ s. Helps s (row k)) (sym e) (λ z. <ℚ_irrefl 0ℚ (subst (λ x. 0ℚ <ℚ x) z a)) }))
 
   other_below : (k : ℕ) → k < n → k ≢ t.basic p → row k <ℚ 0ℚ → b.upper k ≡ Some (t.value k)
   other_below k h o a =
@@ -104,8 +108,10 @@ module _ (m n : ℕ) (f : Matrix) (cost : ℕ → ℚ) (b : Bounds) (t : Table) 
       go : (s : Status) → t.status k ≡ s → ¬ (IsFixed b k) → b.upper k ≡ Some (t.value k)
       go Basic e free = absurd (nonbasic e)
       go AtUpper e free = subst (λ s. Stands s (b.lower k) (b.upper k) (t.value k)) e (g.stands k h)
-      go AtLower e free = absurd (none k h (record { not_fixed = free; helps = subst (λ s. Helps s (row k)) (sym e) a }))
-      go AtZero e free = absurd (none k h (record { not_fixed = free; helps = subst (λ s. Helps s (row k)) (sym e) (λ z. <ℚ_irrefl 0ℚ (subst (λ x. x <ℚ 0ℚ) z a)) }))
+      go AtLower e free =
+          absurd (none k h (record { not_fixed = free; helps = subst (λ s. Helps s (row k)) (sym e) a }))
+      go AtZero e free =
+          absurd (none k h (record { not_fixed = free; helps = subst (λ s. Helps s (row k)) (sym e) (λ z. <ℚ_irrefl 0ℚ (subst (λ x. x <ℚ 0ℚ) z a)) }))
 
   -- ---- the sum: 0 at the tableau's values, and more at the bounds
   at_values : sum_below n (λ k. row k *ℚ t.value k) ≡ 0ℚ
@@ -172,7 +178,8 @@ module _ (m n : ℕ) (f : Matrix) (cost : ℕ → ℚ) (b : Bounds) (t : Table) 
 
 -- ---- what such a row shows
 -- each term is least at the bound that its sign asks for
-pub term_least : (l u : Option ℚ) (a w x : ℚ) → (0ℚ <ℚ a → l ≡ Some w) → (a <ℚ 0ℚ → u ≡ Some w) → IfSome l (λ k. k ≤ℚ x) → IfSome u (λ k. x ≤ℚ k) → (a *ℚ w) ≤ℚ (a *ℚ x)
+pub term_least : (l u : Option ℚ) (a w x : ℚ) → (0ℚ <ℚ a → l ≡ Some w) → (a <ℚ 0ℚ → u ≡ Some w) →
+    IfSome l (λ k. k ≤ℚ x) → IfSome u (λ k. x ≤ℚ k) → (a *ℚ w) ≤ℚ (a *ℚ x)
 term_least l u a w x up down low high =
     by_sign a
     (λ p. *ℚ_mono w x a (<ℚ-le 0ℚ a p) (subst (λ o. IfSome o (λ k. k ≤ℚ x)) (up p) low))
@@ -188,7 +195,8 @@ solved_row m n f a w x is solves =
     ∙ sym (sum_below_swap m n (λ r k. w r *ℚ (f r k *ℚ x k)))
     ∙ sum_below_none m _ (λ r p. sym (*ℚ-sum_below (w r) n (λ k. f r k *ℚ x k)) ∙ ap (λ a. w r *ℚ a) (solves r p) ∙ *ℚ_zero (w r))
 
-pub refuted : (m n : ℕ) (f : Matrix) (b : Bounds) (a w : ℕ → ℚ) → Refutes m n f b a w → (x : ℕ → ℚ) → ¬ (IsSolution m n f b x)
+pub refuted : (m n : ℕ) (f : Matrix) (b : Bounds) (a w : ℕ → ℚ) → Refutes m n f b a w → (x : ℕ → ℚ) →
+    ¬ (IsSolution m n f b x)
 refuted m n f b a w r x s =
     clash_ℚ 0ℚ (sum_below n (λ k. a k *ℚ w k)) r.positive
     (subst (λ z. sum_below n (λ k. a k *ℚ w k) ≤ℚ z) (solved_row m n f a r.weights x r.combined s.solves)

@@ -30,7 +30,8 @@ down_is e = simp ring
 -- the size of an entry, by the way of the row
 pub size_below : (way : Way) (e : ℚ) → (sign way *ℚ e) <ℚ 0ℚ → abs_ℚ e ≡ neg_ℚ (sign way *ℚ e)
 size_below Up e h = abs_below e (subst (λ a. a <ℚ 0ℚ) (up_is e) h) ∙ ap neg_ℚ (sym (up_is e))
-size_below Down e h = abs_above e (<ℚ-le 0ℚ e (turned_back e (subst (λ a. a <ℚ 0ℚ) (down_is e) h))) ∙ sym (ap neg_ℚ (down_is e) ∙ neg-neg e)
+size_below Down e h =
+    abs_above e (<ℚ-le 0ℚ e (turned_back e (subst (λ a. a <ℚ 0ℚ) (down_is e) h))) ∙ sym (ap neg_ℚ (down_is e) ∙ neg-neg e)
 
 pub size_above : (way : Way) (e : ℚ) → 0ℚ <ℚ (sign way *ℚ e) → abs_ℚ e ≡ sign way *ℚ e
 size_above Up e h = abs_above e (<ℚ-le 0ℚ e (subst (λ a. 0ℚ <ℚ a) (up_is e) h)) ∙ sym (up_is e)
@@ -57,7 +58,8 @@ IsRatio AtZero d a r = r ≡ 0ℚ
 divided : (x y : ℚ) → ¬ (y ≡ 0ℚ) → (x *ℚ inverse y) *ℚ y ≡ x
 divided x y n = *ℚ_assoc x (inverse y) y ∙ ap (λ a. x *ℚ a) (*ℚ_comm (inverse y) y ∙ *ℚ_inverse y n) ∙ *ℚ_one x
 
-pub ratio_is : (s : Status) (way : Way) (d e : ℚ) → Suits s d → Helps s (sign way *ℚ e) → IsRatio s d (sign way *ℚ e) (abs_ℚ d *ℚ inverse (abs_ℚ e))
+pub ratio_is : (s : Status) (way : Way) (d e : ℚ) → Suits s d → Helps s (sign way *ℚ e) →
+    IsRatio s d (sign way *ℚ e) (abs_ℚ d *ℚ inverse (abs_ℚ e))
 ratio_is Basic way d e f h = tt
 ratio_is AtLower way d e f h =
     ap (λ a. (abs_ℚ d *ℚ inverse (abs_ℚ e)) *ℚ a) (sym (size_below way e h))
@@ -69,7 +71,8 @@ ratio_is AtZero way d e f h =
     ap (λ a. a *ℚ inverse (abs_ℚ e)) (ap abs_ℚ f ∙ abs_above 0ℚ (≤ℚ_refl 0ℚ)) ∙ zero-*ℚ (inverse (abs_ℚ e))
 
 pub ratio_least : (d e : ℚ) → ¬ (e ≡ 0ℚ) → 0ℚ ≤ℚ (abs_ℚ d *ℚ inverse (abs_ℚ e))
-ratio_least d e n = *ℚ-nonneg (abs_ℚ d) (inverse (abs_ℚ e)) (abs_least d) (<ℚ-le 0ℚ (inverse (abs_ℚ e)) (inv_pos (abs_ℚ e) (abs_positive e n)))
+ratio_least d e n =
+    *ℚ-nonneg (abs_ℚ d) (inverse (abs_ℚ e)) (abs_least d) (<ℚ-le 0ℚ (inverse (abs_ℚ e)) (inv_pos (abs_ℚ e) (abs_positive e n)))
 
 -- the reduced cost of a candidate, by its ratio
 pub by_ratio : (s : Status) (d a r : ℚ) → Suits s d → Helps s a → IsRatio s d a r → d ≡ neg_ℚ (r *ℚ a)
@@ -117,7 +120,8 @@ less_at_upper d a q r h e l =
     none : (d : ℚ) → d +ℚ neg_ℚ d ≡ 0ℚ
     none d = simp ring
 
-pub suits_after : (s : Status) (d a q r : ℚ) → 0ℚ ≤ℚ r → Suits s d → (Helps s a → IsRatio s d a q × (r ≤ℚ q)) → Suits s (d +ℚ r *ℚ a)
+pub suits_after : (s : Status) (d a q r : ℚ) → 0ℚ ≤ℚ r → Suits s d → (Helps s a → IsRatio s d a q × (r ≤ℚ q)) →
+    Suits s (d +ℚ r *ℚ a)
 suits_after Basic d a q r h f k = tt
 suits_after AtLower d a q r h f k =
     by_sign a

@@ -10,7 +10,7 @@ use Rattle.spec_pivot.specs.Tableau.{Matrix}
 use Rattle.spec_pivot.specs.Simplex.{Bounds, IsFixed, IsInside, Table, sign, after_pivot}
 
 -- ---- reduced costs
--- the sign that a status wants of a reduced cost: no move of the column may lower the cost
+-- the sign of a reduced cost that belongs to a status: no move of the column may lower the cost
 abbrev pub Suits : Status → ℚ → Type 0
 Suits Basic d = Unit {0}
 Suits AtLower d = 0ℚ ≤ℚ d

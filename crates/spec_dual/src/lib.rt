@@ -6,7 +6,7 @@
 //!
 //! | Item | What it is | Where |
 //! |---|---|---|
-//! | `Suits`, `IsDualFeasible` | the sign that a status wants of a reduced cost; each column has it | specs/Dual |
+//! | `Suits`, `IsDualFeasible` | the sign of a reduced cost that belongs to a status; each column has it | specs/Dual |
 //! | `IsPast`, `Leaves` | a value is past a bound; the basic column that leaves to it | specs/Dual |
 //! | `Helps`, `IsCandidate`, `ratio`, `IsCheapest` | which columns may enter; the ratio test | specs/Dual |
 //! | `shift`, `after_dual` | how far the entering column moves; the tableau after the step | specs/Dual |
@@ -45,7 +45,7 @@ pub fn dual_steps_keep_tableaus()
         IsTableau m n f cost b (after_flip m t way j theta to) }
 {}
 
-/// Where the candidate with the least ratio enters, each reduced cost keeps the sign that its status wants. A flip gives one
+/// Where the candidate with the least ratio enters, each reduced cost keeps the sign that belongs to its status. A flip gives one
 /// column another status (Chvátal, Linear Programming, chapter 10).
 pub fn dual_ratio_test()
     ensures pivot { (m n : ℕ) (f : Matrix) (cost : ℕ → ℚ) (b : Bounds) (t : Table)

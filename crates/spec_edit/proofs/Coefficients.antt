@@ -15,25 +15,29 @@ use Rattle.spec_edit.proofs.EntryLemmas.{filtered_below, filtered_above, entry_i
 
 pub none_at : (k : ℕ) (es : List (ℕ × ℚ)) → All (λ e. e.0 ≢ k) es → entry_of es k ≡ 0ℚ
 none_at k [] h = refl
-none_at k (e ∷ es) h = rw (ne_eqb e.0 k (All-head (λ e. e.0 ≢ k) e es h)) (none_at k es (All-tail (λ e. e.0 ≢ k) e es h))
+none_at k (e ∷ es) h =
+    rw (ne_eqb e.0 k (All-head (λ e. e.0 ≢ k) e es h)) (none_at k es (All-tail (λ e. e.0 ≢ k) e es h))
 
 behind_others : (k : ℕ) (xs ys : List (ℕ × ℚ)) → All (λ e. e.0 ≢ k) xs → entry_of (xs ++ ys) k ≡ entry_of ys k
 behind_others k [] ys h = refl
-behind_others k (e ∷ xs) ys h = rw (ne_eqb e.0 k (All-head (λ e. e.0 ≢ k) e xs h)) (behind_others k xs ys (All-tail (λ e. e.0 ≢ k) e xs h))
+behind_others k (e ∷ xs) ys h =
+    rw (ne_eqb e.0 k (All-head (λ e. e.0 ≢ k) e xs h)) (behind_others k xs ys (All-tail (λ e. e.0 ≢ k) e xs h))
 
 before_others : (k : ℕ) (xs ys : List (ℕ × ℚ)) → All (λ e. e.0 ≢ k) ys → entry_of (xs ++ ys) k ≡ entry_of xs k
 before_others k [] ys h = none_at k ys h
 before_others k (e ∷ xs) ys h = ap (cond (eqb e.0 k) e.1) (before_others k xs ys h)
 
 -- a filter by rows keeps what stands at a row that passes
-passes_at : (p : ℕ → Bool) (k : ℕ) → p k ≡ true → (es : List (ℕ × ℚ)) → entry_of (filter (λ e. p e.0) es) k ≡ entry_of es k
+passes_at : (p : ℕ → Bool) (k : ℕ) → p k ≡ true → (es : List (ℕ × ℚ)) →
+    entry_of (filter (λ e. p e.0) es) k ≡ entry_of es k
 passes_at p k h [] = refl
 passes_at p k h (e ∷ es) = by (p e.0) refl (passes_at p k h es)
   where
     other : p e.0 ≡ false → e.0 ≢ k
     other f q = let g : p e.0 ≡ true = ap p q ∙ h in cc
 
-    by : (t : Bool) → p e.0 ≡ t → entry_of (filter (λ e. p e.0) es) k ≡ entry_of es k → entry_of (cond t (e ∷ filter (λ e. p e.0) es) (filter (λ e. p e.0) es)) k ≡ cond (eqb e.0 k) e.1 (entry_of es k)
+    by : (t : Bool) → p e.0 ≡ t → entry_of (filter (λ e. p e.0) es) k ≡ entry_of es k →
+        entry_of (cond t (e ∷ filter (λ e. p e.0) es) (filter (λ e. p e.0) es)) k ≡ cond (eqb e.0 k) e.1 (entry_of es k)
     by true f rest = ap (cond (eqb e.0 k) e.1) rest
     by false f rest = rw (ne_eqb e.0 k (other f)) rest
 
@@ -46,7 +50,8 @@ entry_if-own i v = by (eq_ℚ v 0ℚ) refl
     by true e = sym (eq_if v 0ℚ e)
     by false e = rw (eq-eqb i i refl) refl
 
-pub entry_of-with_entry : (i : ℕ) (v : ℚ) (es : List (ℕ × ℚ)) (k : ℕ) → entry_of (with_entry i v es) k ≡ cond (eqb k i) v (entry_of es k)
+pub entry_of-with_entry : (i : ℕ) (v : ℚ) (es : List (ℕ × ℚ)) (k : ℕ) →
+    entry_of (with_entry i v es) k ≡ cond (eqb k i) v (entry_of es k)
 unfolding with_entry
 entry_of-with_entry i v es k = ⊎_elim at (⊎_elim lower higher) (cases_order k i)
   where
@@ -111,12 +116,19 @@ renumbered-skipping : (i a k : ℕ) → a ≢ i → eqb (renumbered i a) k ≡ e
 renumbered-skipping i a k n = by (ltb i a) (ltb k i) refl refl
   where
     by : (s t : Bool) → ltb i a ≡ s → ltb k i ≡ t → eqb (cond s (a - 1) a) k ≡ eqb a (cond t k (k + 1))
-    by true true e f = let l : i < a = ltb-true i a e in let m : k < i = ltb-true k i f in same_tests (a - 1) k a k (λ q. omega arith) (λ q. omega arith)
-    by true false e f = let l : i < a = ltb-true i a e in let m : i ≤ k = ltb-false k i f in same_tests (a - 1) k a (k + 1) (λ q. omega arith) (λ q. omega arith)
+    by true true e f =
+        let l : i < a = ltb-true i a e in let m : k < i = ltb-true k i f in
+        same_tests (a - 1) k a k (λ q. omega arith) (λ q. omega arith)
+    by true false e f =
+        let l : i < a = ltb-true i a e in let m : i ≤ k = ltb-false k i f in
+        same_tests (a - 1) k a (k + 1) (λ q. omega arith) (λ q. omega arith)
     by false true e f = refl
-    by false false e f = let l : a ≤ i = ltb-false i a e in let m : i ≤ k = ltb-false k i f in same_tests a k a (k + 1) (λ q. absurd (omega arith)) (λ q. absurd (omega arith))
+    by false false e f =
+        let l : a ≤ i = ltb-false i a e in let m : i ≤ k = ltb-false k i f in
+        same_tests a k a (k + 1) (λ q. absurd (omega arith)) (λ q. absurd (omega arith))
 
-pub entry_of-without_entry : (i : ℕ) (es : List (ℕ × ℚ)) (k : ℕ) → entry_of (without_entry i es) k ≡ entry_of es (skipping i k)
+pub entry_of-without_entry : (i : ℕ) (es : List (ℕ × ℚ)) (k : ℕ) →
+    entry_of (without_entry i es) k ≡ entry_of es (skipping i k)
 unfolding without_entry
 entry_of-without_entry i [] k = refl
 entry_of-without_entry i (e ∷ es) k = by (eqb e.0 i) refl (entry_of-without_entry i es k)
@@ -127,6 +139,8 @@ entry_of-without_entry i (e ∷ es) k = by (eqb e.0 i) refl (entry_of-without_en
     moved : ℕ × ℚ → ℕ × ℚ
     moved e = (renumbered i e.0, e.1)
 
-    by : (t : Bool) → eqb e.0 i ≡ t → entry_of (map moved others) k ≡ entry_of es (skipping i k) → entry_of (map moved (cond (not t) (e ∷ others) others)) k ≡ cond (eqb e.0 (skipping i k)) e.1 (entry_of es (skipping i k))
-    by true f rest = rw (ne_eqb e.0 (skipping i k) (subst (λ a. a ≢ skipping i k) (sym (eqb-true e.0 i f)) (skipping-other i k))) rest
+    by : (t : Bool) → eqb e.0 i ≡ t → entry_of (map moved others) k ≡ entry_of es (skipping i k) →
+        entry_of (map moved (cond (not t) (e ∷ others) others)) k ≡ cond (eqb e.0 (skipping i k)) e.1 (entry_of es (skipping i k))
+    by true f rest =
+        rw (ne_eqb e.0 (skipping i k) (subst (λ a. a ≢ skipping i k) (sym (eqb-true e.0 i f)) (skipping-other i k))) rest
     by false f rest = rw (renumbered-skipping i e.0 k (eqb-false e.0 i f), rest) refl

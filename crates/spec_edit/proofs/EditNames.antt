@@ -9,10 +9,12 @@ use Rattle.spec_edit.specs.Meaning.{adds_or_removes, KeepsNames}
 use Rattle.spec_edit.proofs.NameLemmas.{row_names-changed, column_names-changed}
 use Rattle.spec_edit.proofs.Steps.{same_ok, at_row, at_column, at_entry, right_side-ok}
 
-at_a_row : (m : Model) (i : ℕ) (change : ExactRow → ExactRow) → i < height m → (change (row m i)).name ≡ (row m i).name → KeepsNames m (changed_row change m i)
+at_a_row : (m : Model) (i : ℕ) (change : ExactRow → ExactRow) → i < height m →
+    (change (row m i)).name ≡ (row m i).name → KeepsNames m (changed_row change m i)
 at_a_row m i change l e = record { objective = refl; rows = row_names-changed m i change l e; columns = refl }
 
-at_a_column : (m : Model) (j : ℕ) (change : ExactColumn → ExactColumn) → j < width m → (change (column m j)).name ≡ (column m j).name → KeepsNames m (changed_column change m j)
+at_a_column : (m : Model) (j : ℕ) (change : ExactColumn → ExactColumn) → j < width m →
+    (change (column m j)).name ≡ (column m j).name → KeepsNames m (changed_column change m j)
 at_a_column m j change l e = record { objective = refl; rows = refl; columns = column_names-changed m j change l e }
 
 right_side-names : (m n : Model) (name : Name) (v : ℚ) → with_right_side m name v ≡ Ok n → KeepsNames m n
@@ -41,4 +43,5 @@ edited-names m n (SetRange name range) other h =
 edited-names m n (SetBound name bounds) other h =
     let s = at_column m n name (λ j. with_bounds m j bounds) h in
     subst (KeepsNames m) s.model (at_a_column m s.place (λ (c : ExactColumn). record c { lower = bounds.lower; upper = bounds.upper }) s.inside refl)
-edited-names m n (SetSense sense) other h = subst (KeepsNames m) (same_ok (with_sense m sense) n h) (record { objective = refl; rows = refl; columns = refl })
+edited-names m n (SetSense sense) other h =
+    subst (KeepsNames m) (same_ok (with_sense m sense) n h) (record { objective = refl; rows = refl; columns = refl })

@@ -27,7 +27,8 @@ neg_narrow : (q : ℚ) → IsNarrow q → IsNarrow (neg_ℚ q)
 unfolding neg_ℚ
 neg_narrow q h = record { top = subst (λ k. k ≤ widest) (sym (abs-neg_ℤ q.num)) h.top; bottom = h.bottom }
 
-right_side-kept : (m n : Model) (name : Name) (v : ℚ) → IsModel m → IsNarrow v → with_right_side m name v ≡ Ok n → IsModel n
+right_side-kept : (m n : Model) (name : Name) (v : ℚ) → IsModel m → IsNarrow v → with_right_side m name v ≡ Ok n →
+    IsModel n
 right_side-kept m n name v k narrow h =
     ⊎_elim
     (λ e. subst IsModel e (with_offset-kept m (neg_ℚ v) k (neg_narrow v narrow)))
@@ -42,15 +43,19 @@ edited-kept m n (DelRow name) k may h =
     let s = at_row m n name (λ i. without_row m i) h in subst IsModel s.model (without_row-kept m s.place k s.inside)
 edited-kept m n (AddCol name cost pairs) k may h = new_column-kept m n name cost pairs k may.0 may.1 h
 edited-kept m n (DelCol name) k may h =
-    let s = at_column m n name (λ j. without_column m j) h in subst IsModel s.model (without_column-kept m s.place k s.inside)
+    let s = at_column m n name (λ j. without_column m j) h in
+    subst IsModel s.model (without_column-kept m s.place k s.inside)
 edited-kept m n (SetCost name v) k may h =
-    let s = at_column m n name (λ j. with_cost m j v) h in subst IsModel s.model (with_cost-kept m s.place v k s.inside may)
+    let s = at_column m n name (λ j. with_cost m j v) h in
+    subst IsModel s.model (with_cost-kept m s.place v k s.inside may)
 edited-kept m n (SetCoef row column v) k may h =
     let s = at_entry m n row column (λ i j. with_coefficient m i j v) h in
     subst IsModel s.model (with_coefficient-kept m s.row s.column v k s.row_inside s.column_inside may)
 edited-kept m n (SetRhs name v) k may h = right_side-kept m n name v k may h
 edited-kept m n (SetRange name range) k may h =
-    let s = at_row m n name (λ i. with_range m i range) h in subst IsModel s.model (with_range-kept m s.place range k s.inside may)
+    let s = at_row m n name (λ i. with_range m i range) h in
+    subst IsModel s.model (with_range-kept m s.place range k s.inside may)
 edited-kept m n (SetBound name bounds) k may h =
-    let s = at_column m n name (λ j. with_bounds m j bounds) h in subst IsModel s.model (with_bounds-kept m s.place bounds k s.inside may.0 may.1)
+    let s = at_column m n name (λ j. with_bounds m j bounds) h in
+    subst IsModel s.model (with_bounds-kept m s.place bounds k s.inside may.0 may.1)
 edited-kept m n (SetSense sense) k may h = subst IsModel (same_ok (with_sense m sense) n h) (with_sense-kept m sense k)

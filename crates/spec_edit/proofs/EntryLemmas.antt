@@ -13,7 +13,8 @@ use Rattle.spec_edit.specs.Changes.{entry_if, with_entry, renumbered, without_en
 use Rattle.spec_edit.proofs.ListLemmas.{AllPairs-weaker, AllPairs-map, AllPairs-append}
 
 -- entries below a row, and then such from it on
-joined : (n i : ℕ) (xs ys : List (ℕ × ℚ)) → AreEntries n xs → AreEntries n ys → All (λ e. e.0 < i) xs → All (λ e. i ≤ e.0) ys → AreEntries n (xs ++ ys)
+joined : (n i : ℕ) (xs ys : List (ℕ × ℚ)) → AreEntries n xs → AreEntries n ys → All (λ e. e.0 < i) xs →
+    All (λ e. i ≤ e.0) ys → AreEntries n (xs ++ ys)
 joined n i xs ys h k below above =
     record {
       inside = All-append (λ e. e.0 < n) xs ys h.inside k.inside;
@@ -37,10 +38,12 @@ differs : (v w : ℚ) → eq_ℚ v w ≡ false → v ≢ w
 differs v w e g = let h : eq_ℚ v w ≡ true = eq_test v w g in cc
 
 pub filtered_below : (i : ℕ) (es : List (ℕ × ℚ)) → All (λ e. e.0 < i) (filter (λ e. ltb e.0 i) es)
-filtered_below i es = All-weaker (λ e. ltb e.0 i ≡ true) (λ e. e.0 < i) (λ e t. ltb-true e.0 i t) (filter (λ e. ltb e.0 i) es) (filter_passes (λ e. ltb e.0 i) es)
+filtered_below i es =
+    All-weaker (λ e. ltb e.0 i ≡ true) (λ e. e.0 < i) (λ e t. ltb-true e.0 i t) (filter (λ e. ltb e.0 i) es) (filter_passes (λ e. ltb e.0 i) es)
 
 pub filtered_above : (i : ℕ) (es : List (ℕ × ℚ)) → All (λ e. i < e.0) (filter (λ e. ltb i e.0) es)
-filtered_above i es = All-weaker (λ e. ltb i e.0 ≡ true) (λ e. i < e.0) (λ e t. ltb-true i e.0 t) (filter (λ e. ltb i e.0) es) (filter_passes (λ e. ltb i e.0) es)
+filtered_above i es =
+    All-weaker (λ e. ltb i e.0 ≡ true) (λ e. i < e.0) (λ e t. ltb-true i e.0 t) (filter (λ e. ltb i e.0) es) (filter_passes (λ e. ltb i e.0) es)
 
 pub entry_if-row : (i : ℕ) (v : ℚ) → All (λ e. e.0 ≡ i) (entry_if i v)
 entry_if-row i v = by (eq_ℚ v 0ℚ)
@@ -53,7 +56,8 @@ entry_if-kept : (n i : ℕ) (v : ℚ) → i < n → AreEntries n (entry_if i v)
 entry_if-kept n i v l = by (eq_ℚ v 0ℚ) refl
   where
     by : (t : Bool) → eq_ℚ v 0ℚ ≡ t → AreEntries n (cond t [] ((i, v) ∷ []))
-    by true e = record { inside = All-nil (λ e. e.0 < n); ascending = λ i j d l k. absurd (omega arith); not_zero = All-nil (λ e. e.1 ≢ 0ℚ) }
+    by true e =
+        record { inside = All-nil (λ e. e.0 < n); ascending = λ i j d l k. absurd (omega arith); not_zero = All-nil (λ e. e.1 ≢ 0ℚ) }
     by false e =
         record {
           inside = All-cons (λ e. e.0 < n) (i, v) [] l (All-nil (λ e. e.0 < n));
@@ -86,7 +90,8 @@ entry_if-narrow i v h = by (eq_ℚ v 0ℚ)
     by true = All-nil (λ e. IsNarrow e.1)
     by false = All-cons (λ e. IsNarrow e.1) (i, v) [] h (All-nil (λ e. IsNarrow e.1))
 
-pub with_entry-narrow : (i : ℕ) (v : ℚ) (es : List (ℕ × ℚ)) → All (λ e. IsNarrow e.1) es → IsNarrow v → All (λ e. IsNarrow e.1) (with_entry i v es)
+pub with_entry-narrow : (i : ℕ) (v : ℚ) (es : List (ℕ × ℚ)) → All (λ e. IsNarrow e.1) es → IsNarrow v →
+    All (λ e. IsNarrow e.1) (with_entry i v es)
 unfolding with_entry
 with_entry-narrow i v es h k =
     All-append (λ e. IsNarrow e.1) (filter (λ e. ltb e.0 i) es ++ entry_if i v) (filter (λ e. ltb i e.0) es)
@@ -111,11 +116,13 @@ renumbered-mono i j k p q l = by (ltb i j) (ltb i k) refl refl
     by false true e f = let g : j ≤ i = ltb-false i j e in let h : i < k = ltb-true i k f in omega arith
     by false false e f = l
 
-pub without_entry-kept : (n i : ℕ) (es : List (ℕ × ℚ)) → AreEntries n es → i < n → AreEntries (n - 1) (without_entry i es)
+pub without_entry-kept : (n i : ℕ) (es : List (ℕ × ℚ)) → AreEntries n es → i < n →
+    AreEntries (n - 1) (without_entry i es)
 unfolding without_entry
 without_entry-kept n i es h l =
     record {
-      inside = All-map (λ (e : ℕ × ℚ). e.0 < n - 1) moved others (λ k d m. renumbered-< n i _ (kept.inside k d m) (apart k d m) l);
+      inside =
+          All-map (λ (e : ℕ × ℚ). e.0 < n - 1) moved others (λ k d m. renumbered-< n i _ (kept.inside k d m) (apart k d m) l);
       ascending =
           AllPairs-map (λ (d e : ℕ × ℚ). d.0 < e.0) moved others
           (AllPairs-weaker (λ e. e.0 ≢ i) (λ d e. d.0 < e.0) (λ d e. renumbered i d.0 < renumbered i e.0) (λ d e p q m. renumbered-mono i d.0 e.0 p q m) others apart kept.ascending);
@@ -136,7 +143,8 @@ without_entry-kept n i es h l =
         All-weaker (λ e. not (eqb e.0 i) ≡ true) (λ e. e.0 ≢ i) (λ e t. eqb-false e.0 i (not-true (eqb e.0 i) t)) others
         (filter_passes (λ e. not (eqb e.0 i)) es)
 
-pub without_entry-narrow : (i : ℕ) (es : List (ℕ × ℚ)) → All (λ e. IsNarrow e.1) es → All (λ e. IsNarrow e.1) (without_entry i es)
+pub without_entry-narrow : (i : ℕ) (es : List (ℕ × ℚ)) → All (λ e. IsNarrow e.1) es →
+    All (λ e. IsNarrow e.1) (without_entry i es)
 unfolding without_entry
 without_entry-narrow i es h =
     All-map (λ (e : ℕ × ℚ). IsNarrow e.1) (λ e. (renumbered i e.0, e.1)) (filter (λ e. not (eqb e.0 i)) es)

@@ -42,7 +42,8 @@ higher n m l c k =
           };
     }
 
-pub with_row-kept : (m : Model) (r : ExactRow) → IsModel m → height m < row_limit → IsTrue (is_row_name r.name) → is_row_taken m r.name ≡ false → IsNarrowRow r → IsModel (with_row m r)
+pub with_row-kept : (m : Model) (r : ExactRow) → IsModel m → height m < row_limit → IsTrue (is_row_name r.name) →
+    is_row_taken m r.name ≡ false → IsNarrowRow r → IsModel (with_row m r)
 with_row-kept m r k few named new narrow =
     let one_more : length (m.rows ++ r ∷ []) ≡ length m.rows + 1 = length-append m.rows (r ∷ []) in
     record {
@@ -51,7 +52,8 @@ with_row-kept m r k few named new narrow =
       name = k.name;
       objective = k.objective;
       rows = All-push (λ (r : ExactRow). IsTrue (is_row_name r.name)) m.rows r k.rows named;
-      columns = All-weaker (IsKeptColumn (length m.rows)) (IsKeptColumn (length (m.rows ++ r ∷ []))) (higher _ _ (omega arith)) m.columns k.columns;
+      columns =
+          All-weaker (IsKeptColumn (length m.rows)) (IsKeptColumn (length (m.rows ++ r ∷ []))) (higher _ _ (omega arith)) m.columns k.columns;
       rows_distinct =
           subst Distinct (ap (λ names. m.objective ∷ names) (sym (map-append name_of_row m.rows (r ∷ []))))
           (all_pairs_push (λ x y. x ≢ y) (m.objective ∷ row_names m) r.name k.rows_distinct (row_new m r.name new));
@@ -61,7 +63,8 @@ with_row-kept m r k few named new narrow =
       narrow_columns = k.narrow_columns;
     }
 
-pub with_column-kept : (m : Model) (c : ExactColumn) → IsModel m → width m < column_limit → is_column_taken m c.name ≡ false → IsKeptColumn (height m) c → IsNarrowColumn c → IsModel (with_column m c)
+pub with_column-kept : (m : Model) (c : ExactColumn) → IsModel m → width m < column_limit →
+    is_column_taken m c.name ≡ false → IsKeptColumn (height m) c → IsNarrowColumn c → IsModel (with_column m c)
 with_column-kept m c k few new kept narrow =
     let one_more : length (m.columns ++ c ∷ []) ≡ length m.columns + 1 = length-append m.columns (c ∷ []) in
     record {
@@ -87,10 +90,12 @@ abbrev pub lowered : ℕ → ExactColumn → ExactColumn
 lowered i c = record c { entries = without_entry i c.entries }
 
 lowered-kept : (n i : ℕ) → i < n → (c : ExactColumn) → IsKeptColumn n c → IsKeptColumn (n - 1) (lowered i c)
-lowered-kept n i l c k = record { name = k.name; lower = k.lower; upper = k.upper; entries = without_entry-kept n i c.entries k.entries l }
+lowered-kept n i l c k =
+    record { name = k.name; lower = k.lower; upper = k.upper; entries = without_entry-kept n i c.entries k.entries l }
 
 lowered-narrow : (i : ℕ) (c : ExactColumn) → IsNarrowColumn c → IsNarrowColumn (lowered i c)
-lowered-narrow i c k = record { cost = k.cost; lower = k.lower; upper = k.upper; entries = without_entry-narrow i c.entries k.entries }
+lowered-narrow i c k =
+    record { cost = k.cost; lower = k.lower; upper = k.upper; entries = without_entry-narrow i c.entries k.entries }
 
 pub without_row-kept : (m : Model) (i : ℕ) → IsModel m → i < height m → IsModel (without_row m i)
 without_row-kept m i k l =
@@ -109,10 +114,12 @@ without_row-kept m i k l =
       rows_distinct =
           subst Distinct (ap (λ names. m.objective ∷ names) (sym (map-remove name_of_row m.rows i)))
           (all_pairs_remove (λ x y. x ≢ y) (m.objective ∷ row_names m) (suc i) (omega (arith, length-map m.rows name_of_row)) k.rows_distinct);
-      columns_distinct = subst Distinct (sym (map-map_unseen name_of_column (lowered i) (λ c. refl) m.columns)) k.columns_distinct;
+      columns_distinct =
+          subst Distinct (sym (map-map_unseen name_of_column (lowered i) (λ c. refl) m.columns)) k.columns_distinct;
       offset = k.offset;
       narrow_rows = All-remove IsNarrowRow m.rows i k.narrow_rows;
-      narrow_columns = All-map IsNarrowColumn (lowered i) m.columns (All-weaker IsNarrowColumn (λ c. IsNarrowColumn (lowered i c)) (lowered-narrow i) m.columns k.narrow_columns);
+      narrow_columns =
+          All-map IsNarrowColumn (lowered i) m.columns (All-weaker IsNarrowColumn (λ c. IsNarrowColumn (lowered i c)) (lowered-narrow i) m.columns k.narrow_columns);
     }
 
 pub without_column-kept : (m : Model) (j : ℕ) → IsModel m → j < width m → IsModel (without_column m j)
@@ -136,7 +143,8 @@ without_column-kept m j k l =
 
 -- ---- a row or a column that is changed
 
-pub changed_row-kept : (m : Model) (i : ℕ) (change : ExactRow → ExactRow) → IsModel m → i < height m → (change (row m i)).name ≡ (row m i).name → IsNarrowRow (change (row m i)) → IsModel (changed_row change m i)
+pub changed_row-kept : (m : Model) (i : ℕ) (change : ExactRow → ExactRow) → IsModel m → i < height m →
+    (change (row m i)).name ≡ (row m i).name → IsNarrowRow (change (row m i)) → IsModel (changed_row change m i)
 changed_row-kept m i change k l named narrow =
     let long : length (set m.rows i (change (row m i))) ≡ length m.rows = length-set m.rows i (change (row m i)) in
     record {
@@ -144,16 +152,20 @@ changed_row-kept m i change k l named narrow =
       few_columns = k.few_columns;
       name = k.name;
       objective = k.objective;
-      rows = All-set (λ (r : ExactRow). IsTrue (is_row_name r.name)) m.rows i (change (row m i)) (subst (λ name. IsTrue (is_row_name name)) (sym named) (k.rows i no_row l)) k.rows;
+      rows =
+          All-set (λ (r : ExactRow). IsTrue (is_row_name r.name)) m.rows i (change (row m i)) (subst (λ name. IsTrue (is_row_name name)) (sym named) (k.rows i no_row l)) k.rows;
       columns = subst (λ n. All (IsKeptColumn n) m.columns) (sym long) k.columns;
-      rows_distinct = subst (λ names. Distinct (m.objective ∷ names)) (sym (row_names-changed m i change l named)) k.rows_distinct;
+      rows_distinct =
+          subst (λ names. Distinct (m.objective ∷ names)) (sym (row_names-changed m i change l named)) k.rows_distinct;
       columns_distinct = k.columns_distinct;
       offset = k.offset;
       narrow_rows = All-set IsNarrowRow m.rows i (change (row m i)) narrow k.narrow_rows;
       narrow_columns = k.narrow_columns;
     }
 
-pub changed_column-kept : (m : Model) (j : ℕ) (change : ExactColumn → ExactColumn) → IsModel m → j < width m → (change (column m j)).name ≡ (column m j).name → IsKeptColumn (height m) (change (column m j)) → IsNarrowColumn (change (column m j)) → IsModel (changed_column change m j)
+pub changed_column-kept : (m : Model) (j : ℕ) (change : ExactColumn → ExactColumn) → IsModel m → j < width m →
+    (change (column m j)).name ≡ (column m j).name → IsKeptColumn (height m) (change (column m j)) →
+    IsNarrowColumn (change (column m j)) → IsModel (changed_column change m j)
 changed_column-kept m j change k l named kept narrow =
     let long : length (set m.columns j (change (column m j))) ≡ length m.columns = length-set m.columns j (change (column m j)) in
     record {
@@ -180,7 +192,8 @@ with_cost-kept m j v k l narrow =
     (record { name = c.name; lower = c.lower; upper = c.upper; entries = c.entries })
     (record { cost = narrow; lower = n.lower; upper = n.upper; entries = n.entries })
 
-pub with_coefficient-kept : (m : Model) (i j : ℕ) (v : ℚ) → IsModel m → i < height m → j < width m → IsNarrow v → IsModel (with_coefficient m i j v)
+pub with_coefficient-kept : (m : Model) (i j : ℕ) (v : ℚ) → IsModel m → i < height m → j < width m → IsNarrow v →
+    IsModel (with_coefficient m i j v)
 with_coefficient-kept m i j v k p q narrow =
     let c = k.columns j no_column q in
     let n = k.narrow_columns j no_column q in
@@ -188,7 +201,8 @@ with_coefficient-kept m i j v k p q narrow =
     (record { name = c.name; lower = c.lower; upper = c.upper; entries = with_entry-kept (height m) i v (column m j).entries c.entries p })
     (record { cost = n.cost; lower = n.lower; upper = n.upper; entries = with_entry-narrow i v (column m j).entries n.entries narrow })
 
-pub with_bounds-kept : (m : Model) (j : ℕ) (l : Limits) → IsModel m → j < width m → IsKeptBound l.lower → IsKeptBound l.upper → IsModel (with_bounds m j l)
+pub with_bounds-kept : (m : Model) (j : ℕ) (l : Limits) → IsModel m → j < width m → IsKeptBound l.lower →
+    IsKeptBound l.upper → IsModel (with_bounds m j l)
 with_bounds-kept m j l k q lower upper =
     let c = k.columns j no_column q in
     let n = k.narrow_columns j no_column q in
@@ -203,7 +217,8 @@ with_rhs-kept m i v k l narrow =
     changed_row-kept m i (λ (r : ExactRow). record r { rhs = v }) k l refl
     (record { rhs = narrow; range = (k.narrow_rows i no_row l).range })
 
-pub with_range-kept : (m : Model) (i : ℕ) (range : Option ℚ) → IsModel m → i < height m → IfSome range IsNarrow → IsModel (with_range m i range)
+pub with_range-kept : (m : Model) (i : ℕ) (range : Option ℚ) → IsModel m → i < height m → IfSome range IsNarrow →
+    IsModel (with_range m i range)
 with_range-kept m i range k l narrow =
     changed_row-kept m i (λ (r : ExactRow). record r { range = range }) k l refl
     (record { rhs = (k.narrow_rows i no_row l).rhs; range = narrow })

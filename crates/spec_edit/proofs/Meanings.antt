@@ -30,7 +30,8 @@ with_coefficient-means m i j v l a b = by (eqb b j) refl
     changed : ExactColumn
     changed = record (column m j) { entries = with_entry i v (column m j).entries }
 
-    by : (t : Bool) → eqb b j ≡ t → entry_of (get_or (set m.columns j changed) b no_column).entries a ≡ cond (eqb a i && eqb b j) v (coefficient m a b)
+    by : (t : Bool) → eqb b j ≡ t →
+        entry_of (get_or (set m.columns j changed) b no_column).entries a ≡ cond (eqb a i && eqb b j) v (coefficient m a b)
     by true e =
         ap (λ k. entry_of (get_or (set m.columns j changed) k no_column).entries a) (eqb-true b j e)
         ∙ ap (λ (c : ExactColumn). entry_of c.entries a) (get_or-set_same m.columns j changed no_column l)
@@ -58,7 +59,8 @@ without_row-means m i l =
     record {
       height = sym (length-remove m.rows i l);
       rows = λ a. others m i a l;
-      coefficients = λ a j. ap (λ (c : ExactColumn). entry_of c.entries a) (column-lowered m i j) ∙ entry_of-without_entry i (column m j).entries a;
+      coefficients =
+          λ a j. ap (λ (c : ExactColumn). entry_of c.entries a) (column-lowered m i j) ∙ entry_of-without_entry i (column m j).entries a;
     }
 
 pub new_coefficient : (m : Model) (r : ExactRow) (j : ℕ) → IsModel m → coefficient (with_row m r) (height m) j ≡ 0ℚ

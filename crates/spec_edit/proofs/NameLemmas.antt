@@ -19,17 +19,21 @@ use Rattle.spec_edit.proofs.ListLemmas.{map-set_unseen}
 position-None : {X : Type 0} (p : X → Bool) (xs : List X) → is_some (position p xs) ≡ false → All (λ x. p x ≡ false) xs
 position-None p xs h = λ k d l. fails_before_first p xs k d (by (ltb (position_or_len p xs) (length xs)) refl h k l)
   where
-    by : (t : Bool) → ltb (position_or_len p xs) (length xs) ≡ t → is_some (cond t (Some (position_or_len p xs)) None) ≡ false → (k : ℕ) → k < length xs → k < position_or_len p xs
+    by : (t : Bool) → ltb (position_or_len p xs) (length xs) ≡ t →
+        is_some (cond t (Some (position_or_len p xs)) None) ≡ false → (k : ℕ) → k < length xs → k < position_or_len p xs
     by true e f k l = absurd (cc)
     by false e f k l = let g : length xs ≤ position_or_len p xs = ltb-false _ _ e in omega arith
 
 -- ---- names after a change
 
-pub row_names-changed : (m : Model) (i : ℕ) (change : ExactRow → ExactRow) → i < height m → (change (row m i)).name ≡ (row m i).name → row_names (changed_row change m i) ≡ row_names m
+pub row_names-changed : (m : Model) (i : ℕ) (change : ExactRow → ExactRow) → i < height m →
+    (change (row m i)).name ≡ (row m i).name → row_names (changed_row change m i) ≡ row_names m
 row_names-changed m i change l e = map-set_unseen (λ (r : ExactRow). r.name) m.rows i no_row (change (row m i)) l e
 
-pub column_names-changed : (m : Model) (j : ℕ) (change : ExactColumn → ExactColumn) → j < width m → (change (column m j)).name ≡ (column m j).name → column_names (changed_column change m j) ≡ column_names m
-column_names-changed m j change l e = map-set_unseen (λ (c : ExactColumn). c.name) m.columns j no_column (change (column m j)) l e
+pub column_names-changed : (m : Model) (j : ℕ) (change : ExactColumn → ExactColumn) → j < width m →
+    (change (column m j)).name ≡ (column m j).name → column_names (changed_column change m j) ≡ column_names m
+column_names-changed m j change l e =
+    map-set_unseen (λ (c : ExactColumn). c.name) m.columns j no_column (change (column m j)) l e
 
 -- ---- names that are taken
 
@@ -55,7 +59,8 @@ row_known m name i h =
     let p = position-Some (λ (r : ExactRow). same r.name name) m.rows i no_row h in
     (p.0, same_true (row m i).name name p.1)
 
-pub column_known : (m : Model) (name : Name) (j : ℕ) → column_place m name ≡ Some j → (j < width m) × ((column m j).name ≡ name)
+pub column_known : (m : Model) (name : Name) (j : ℕ) → column_place m name ≡ Some j →
+    (j < width m) × ((column m j).name ≡ name)
 unfolding column_place
 column_known m name j h =
     let p = position-Some (λ (c : ExactColumn). same c.name name) m.columns j no_column h in

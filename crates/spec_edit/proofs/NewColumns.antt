@@ -23,19 +23,23 @@ pub record PutsPair (m : Model) (before : Pairs) (p : Name × ℚ) (pairs : Pair
   pub first : is_given p.0 before ≡ false
   pub rest : entries_of m (before ++ p ∷ []) pairs (with_entry place p.1 es) ≡ Ok out
 
-pub puts_pair : (m : Model) (before : Pairs) (p : Name × ℚ) (pairs : Pairs) (es out : List (ℕ × ℚ)) → entries_of m before (p ∷ pairs) es ≡ Ok out → PutsPair m before p pairs es out
+pub puts_pair : (m : Model) (before : Pairs) (p : Name × ℚ) (pairs : Pairs) (es out : List (ℕ × ℚ)) →
+    entries_of m before (p ∷ pairs) es ≡ Ok out → PutsPair m before p pairs es out
 puts_pair m before p pairs es out h =
     let a = step_ok (row_named m p.0) _ out h in
     let b = test_ok (is_given p.0 before) _ _ out a.2 in
     record { place = a.0; names = known_ok (row_place m p.0) p.0 a.0 a.1; first = b.0; rest = b.1 }
 
-pub entries_of-kept : (m : Model) (before pairs : Pairs) (es out : List (ℕ × ℚ)) → entries_of m before pairs es ≡ Ok out → AreEntries (height m) es → AreEntries (height m) out
+pub entries_of-kept : (m : Model) (before pairs : Pairs) (es out : List (ℕ × ℚ)) →
+    entries_of m before pairs es ≡ Ok out → AreEntries (height m) es → AreEntries (height m) out
 entries_of-kept m before [] es out h k = subst (AreEntries (height m)) (same_ok es out h) k
 entries_of-kept m before (p ∷ pairs) es out h k =
     let s = puts_pair m before p pairs es out h in
     entries_of-kept m (before ++ p ∷ []) pairs (with_entry s.place p.1 es) out s.rest (with_entry-kept (height m) s.place p.1 es k (row_known m p.0 s.place s.names).0)
 
-pub entries_of-narrow : (m : Model) (before pairs : Pairs) (es out : List (ℕ × ℚ)) → entries_of m before pairs es ≡ Ok out → All (λ e. IsNarrow e.1) es → All (λ p. IsNarrow p.1) pairs → All (λ e. IsNarrow e.1) out
+pub entries_of-narrow : (m : Model) (before pairs : Pairs) (es out : List (ℕ × ℚ)) →
+    entries_of m before pairs es ≡ Ok out → All (λ e. IsNarrow e.1) es → All (λ p. IsNarrow p.1) pairs →
+    All (λ e. IsNarrow e.1) out
 entries_of-narrow m before [] es out h k narrow = subst (All (λ (e : ℕ × ℚ). IsNarrow e.1)) (same_ok es out h) k
 entries_of-narrow m before (p ∷ pairs) es out h k narrow =
     let s = puts_pair m before p pairs es out h in
@@ -54,12 +58,15 @@ unfolding whole
 zero_narrow = record { top = omega arith; bottom = omega arith }
 
 no_entries : (n : ℕ) → AreEntries n []
-no_entries n = record { inside = All-nil (λ e. e.0 < n); ascending = λ i j d l k. absurd (omega arith); not_zero = λ k d l. absurd (omega arith) }
+no_entries n =
+    record { inside = All-nil (λ e. e.0 < n); ascending = λ i j d l k. absurd (omega arith); not_zero = λ k d l. absurd (omega arith) }
 
-pub column_of-kept : (n : ℕ) (name : Name) (cost : ℚ) (es : List (ℕ × ℚ)) → IsTrue (is_name name) → AreEntries n es → IsKeptColumn n (column_of name cost es)
+pub column_of-kept : (n : ℕ) (name : Name) (cost : ℚ) (es : List (ℕ × ℚ)) → IsTrue (is_name name) → AreEntries n es →
+    IsKeptColumn n (column_of name cost es)
 column_of-kept n name cost es named k = record { name = named; lower = zero_bound; upper = tt; entries = k }
 
-pub column_of-narrow : (name : Name) (cost : ℚ) (es : List (ℕ × ℚ)) → IsNarrow cost → All (λ e. IsNarrow e.1) es → IsNarrowColumn (column_of name cost es)
+pub column_of-narrow : (name : Name) (cost : ℚ) (es : List (ℕ × ℚ)) → IsNarrow cost → All (λ e. IsNarrow e.1) es →
+    IsNarrowColumn (column_of name cost es)
 column_of-narrow name cost es c k = record { cost = c; lower = zero_narrow; upper = tt; entries = k }
 
 -- what was found on the way to the model with a new column
@@ -71,7 +78,8 @@ pub record NewColumn (m n : Model) (name : Name) (cost : ℚ) (pairs : Pairs) : 
   pub given : entries_of m [] pairs [] ≡ Ok entries
   pub model : with_column m (column_of name cost entries) ≡ n
 
-pub new_column-ok : (m n : Model) (name : Name) (cost : ℚ) (pairs : Pairs) → new_column m name cost pairs ≡ Ok n → NewColumn m n name cost pairs
+pub new_column-ok : (m n : Model) (name : Name) (cost : ℚ) (pairs : Pairs) → new_column m name cost pairs ≡ Ok n →
+    NewColumn m n name cost pairs
 unfolding new_column
 new_column-ok m n name cost pairs h =
     let a = test_ok (not (is_name name)) _ _ n h in
@@ -87,7 +95,8 @@ new_column-ok m n name cost pairs h =
       model = same_ok _ n d.2;
     }
 
-pub new_column-kept : (m n : Model) (name : Name) (cost : ℚ) (pairs : Pairs) → IsModel m → IsNarrow cost → All (λ p. IsNarrow p.1) pairs → new_column m name cost pairs ≡ Ok n → IsModel n
+pub new_column-kept : (m n : Model) (name : Name) (cost : ℚ) (pairs : Pairs) → IsModel m → IsNarrow cost →
+    All (λ p. IsNarrow p.1) pairs → new_column m name cost pairs ≡ Ok n → IsModel n
 new_column-kept m n name cost pairs k c narrow h =
     let s = new_column-ok m n name cost pairs h in
     subst IsModel s.model

@@ -28,14 +28,17 @@ given_or-zero name (p ∷ pairs) = ap (cond (same p.0 name) p.1) (given_or-zero 
 -- ---- names of pairs
 
 given_more : (name : Name) (before more : Pairs) → is_given name before ≡ true → is_given name (before ++ more) ≡ true
-given_more name before more h = list_any-append (λ (p : Name × ℚ). same p.0 name) before more ∙ or_left (is_given name before) (is_given name more) h
+given_more name before more h =
+    list_any-append (λ (p : Name × ℚ). same p.0 name) before more ∙ or_left (is_given name before) (is_given name more) h
 
-given_last : (name : Name) (before : Pairs) (p : Name × ℚ) → same p.0 name ≡ true → is_given name (before ++ p ∷ []) ≡ true
+given_last : (name : Name) (before : Pairs) (p : Name × ℚ) → same p.0 name ≡ true →
+    is_given name (before ++ p ∷ []) ≡ true
 given_last name before p h =
     list_any-append (λ (p : Name × ℚ). same p.0 name) before (p ∷ []) ∙ or_right (is_given name before) (is_given name (p ∷ [])) (or_left (same p.0 name) false h)
 
 -- what was given before is not given once more
-not_again : (m : Model) (name : Name) (d : ℚ) (before pairs : Pairs) (es out : List (ℕ × ℚ)) → is_given name before ≡ true → entries_of m before pairs es ≡ Ok out → given_or d name pairs ≡ d
+not_again : (m : Model) (name : Name) (d : ℚ) (before pairs : Pairs) (es out : List (ℕ × ℚ)) →
+    is_given name before ≡ true → entries_of m before pairs es ≡ Ok out → given_or d name pairs ≡ d
 not_again m name d before [] es out g h = refl
 not_again m name d before (p ∷ pairs) es out g h =
     let s = puts_pair m before p pairs es out h in
@@ -50,7 +53,9 @@ not_again m name d before (p ∷ pairs) es out g h =
 
 -- ---- the entries
 
-pairs_stand : (m : Model) → IsModel m → (before pairs : Pairs) (es out : List (ℕ × ℚ)) → entries_of m before pairs es ≡ Ok out → (i : ℕ) → i < height m → entry_of out i ≡ given_or (entry_of es i) (row m i).name pairs
+pairs_stand : (m : Model) → IsModel m → (before pairs : Pairs) (es out : List (ℕ × ℚ)) →
+    entries_of m before pairs es ≡ Ok out → (i : ℕ) → i < height m →
+    entry_of out i ≡ given_or (entry_of es i) (row m i).name pairs
 pairs_stand m k before [] es out h i l = ap (λ es. entry_of es i) (sym (same_ok es out h))
 pairs_stand m k before (p ∷ pairs) es out h i l =
     let s = puts_pair m before p pairs es out h in
@@ -60,9 +65,11 @@ pairs_stand m k before (p ∷ pairs) es out h i l =
     rest ∙ ap (λ d. given_or d (row m i).name pairs) put ∙ ⊎_elim (here s.place known.1 s.rest) (there s.place known) (cases_eq i s.place)
   where
     IsPut : ℕ → Type 0
-    IsPut place = given_or (cond (eqb i place) p.1 (entry_of es i)) (row m i).name pairs ≡ cond (same p.0 (row m i).name) p.1 (given_or (entry_of es i) (row m i).name pairs)
+    IsPut place =
+        given_or (cond (eqb i place) p.1 (entry_of es i)) (row m i).name pairs ≡ cond (same p.0 (row m i).name) p.1 (given_or (entry_of es i) (row m i).name pairs)
 
-    here : (place : ℕ) → (row m place).name ≡ p.0 → entries_of m (before ++ p ∷ []) pairs (with_entry place p.1 es) ≡ Ok out → i ≡ place → IsPut place
+    here : (place : ℕ) → (row m place).name ≡ p.0 →
+        entries_of m (before ++ p ∷ []) pairs (with_entry place p.1 es) ≡ Ok out → i ≡ place → IsPut place
     here place named rest e =
         let own : same p.0 (row m i).name ≡ true = ap (same p.0) (ap (λ a. (row m a).name) e ∙ named) ∙ same-refl p.0 in
         let once = not_again m (row m i).name p.1 (before ++ p ∷ []) pairs (with_entry place p.1 es) out (given_last (row m i).name before p own) rest in
@@ -75,7 +82,8 @@ pairs_stand m k before (p ∷ pairs) es out h i l =
 
 -- ---- the column
 
-pub column-with_pairs : (m n : Model) (name : Name) (cost : ℚ) (pairs : Pairs) → IsModel m → new_column m name cost pairs ≡ Ok n → IsWithPairs m n pairs
+pub column-with_pairs : (m n : Model) (name : Name) (cost : ℚ) (pairs : Pairs) → IsModel m →
+    new_column m name cost pairs ≡ Ok n → IsWithPairs m n pairs
 column-with_pairs m n name cost pairs k h =
     let s = new_column-ok m n name cost pairs h in
     let c = column_of name cost s.entries in

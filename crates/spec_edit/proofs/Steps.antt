@@ -10,12 +10,14 @@ use Rattle.spec_edit.specs.Edited.{OrFault, ◌>>=◌, known, row_named, column_
 use Rattle.spec_edit.proofs.NameLemmas.{row_known, column_known}
 
 -- a step that goes on had a value
-pub step_ok : {A B : Type 0} (o : OrFault A) (f : A → OrFault B) (b : B) → (o >>= f) ≡ Ok b → (a : A) × (o ≡ Ok a) × (f a ≡ Ok b)
+pub step_ok : {A B : Type 0} (o : OrFault A) (f : A → OrFault B) (b : B) → (o >>= f) ≡ Ok b →
+    (a : A) × (o ≡ Ok a) × (f a ≡ Ok b)
 step_ok (Ok a) f b h = (a, refl, h)
 step_ok (Err fault) f b h = cc
 
 -- a test for a fault that lets go on fails
-pub test_ok : {A : Type 0} (t : Bool) (fault : EditFault Name) (o : OrFault A) (a : A) → cond t (Err fault) o ≡ Ok a → (t ≡ false) × (o ≡ Ok a)
+pub test_ok : {A : Type 0} (t : Bool) (fault : EditFault Name) (o : OrFault A) (a : A) → cond t (Err fault) o ≡ Ok a →
+    (t ≡ false) × (o ≡ Ok a)
 test_ok true fault o a h = cc
 test_ok false fault o a h = (refl, h)
 
@@ -39,12 +41,14 @@ pub record AtColumn (m n : Model) (change : ℕ → Model) : Type 0 where
   pub inside : place < width m
   pub model : change place ≡ n
 
-pub at_row : (m n : Model) (name : Name) (change : ℕ → Model) → (row_named m name >>= λ i. Ok (change i)) ≡ Ok n → AtRow m n change
+pub at_row : (m n : Model) (name : Name) (change : ℕ → Model) → (row_named m name >>= λ i. Ok (change i)) ≡ Ok n →
+    AtRow m n change
 at_row m n name change h =
     let a = step_ok (row_named m name) _ n h in
     record { place = a.0; inside = (row_known m name a.0 (known_ok (row_place m name) name a.0 a.1)).0; model = same_ok (change a.0) n a.2 }
 
-pub at_column : (m n : Model) (name : Name) (change : ℕ → Model) → (column_named m name >>= λ j. Ok (change j)) ≡ Ok n → AtColumn m n change
+pub at_column : (m n : Model) (name : Name) (change : ℕ → Model) → (column_named m name >>= λ j. Ok (change j)) ≡ Ok n →
+    AtColumn m n change
 at_column m n name change h =
     let a = step_ok (column_named m name) _ n h in
     record { place = a.0; inside = (column_known m name a.0 (known_ok (column_place m name) name a.0 a.1)).0; model = same_ok (change a.0) n a.2 }
@@ -56,7 +60,8 @@ pub record AtEntry (m n : Model) (change : ℕ → ℕ → Model) : Type 0 where
   pub column_inside : column < width m
   pub model : change row column ≡ n
 
-pub at_entry : (m n : Model) (row column : Name) (change : ℕ → ℕ → Model) → (row_named m row >>= λ i. column_named m column >>= λ j. Ok (change i j)) ≡ Ok n → AtEntry m n change
+pub at_entry : (m n : Model) (row column : Name) (change : ℕ → ℕ → Model) →
+    (row_named m row >>= λ i. column_named m column >>= λ j. Ok (change i j)) ≡ Ok n → AtEntry m n change
 at_entry m n row column change h =
     let a = step_ok (row_named m row) _ n h in
     let s = at_column m n column (change a.0) a.2 in
@@ -69,10 +74,12 @@ at_entry m n row column change h =
     }
 
 -- the objective's right side, or that of a row
-pub right_side-ok : (m n : Model) (name : Name) (v : ℚ) → with_right_side m name v ≡ Ok n → (with_offset m (neg_ℚ v) ≡ n) ⊎ AtRow m n (λ i. with_rhs m i v)
+pub right_side-ok : (m n : Model) (name : Name) (v : ℚ) → with_right_side m name v ≡ Ok n →
+    (with_offset m (neg_ℚ v) ≡ n) ⊎ AtRow m n (λ i. with_rhs m i v)
 unfolding with_right_side
 right_side-ok m n name v h = by (same m.objective name) h
   where
-    by : (t : Bool) → cond t (Ok (with_offset m (neg_ℚ v))) (row_named m name >>= λ i. Ok (with_rhs m i v)) ≡ Ok n → (with_offset m (neg_ℚ v) ≡ n) ⊎ AtRow m n (λ i. with_rhs m i v)
+    by : (t : Bool) → cond t (Ok (with_offset m (neg_ℚ v))) (row_named m name >>= λ i. Ok (with_rhs m i v)) ≡ Ok n →
+        (with_offset m (neg_ℚ v) ≡ n) ⊎ AtRow m n (λ i. with_rhs m i v)
     by true e = inl (same_ok (with_offset m (neg_ℚ v)) n e)
     by false e = inr (at_row m n name (λ i. with_rhs m i v) e)

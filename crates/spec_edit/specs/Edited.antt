@@ -116,7 +116,7 @@ IsKeptEdit (SetRange name range) = IfSome range IsNarrow
 IsKeptEdit (SetBound name bounds) = IsKeptBound bounds.lower × IsKeptBound bounds.upper
 IsKeptEdit (SetSense sense) = Unit {0}
 
--- whether memory may be wanting for an edit: where a row, a column or an entry comes
+-- whether memory may run out for an edit: where a row, a column or an entry is added
 abbrev pub takes_memory : ExactEdit → Bool
 takes_memory (AddRow name kind rhs range) = true
 takes_memory (AddCol name cost pairs) = true

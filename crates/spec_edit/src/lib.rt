@@ -43,7 +43,7 @@ pub fn new_columns_have_their_pairs()
     ensures { (m n : Model) (name : Name) (cost : ℚ) (pairs : Pairs) → IsModel m → new_column m name cost pairs ≡ Ok n → IsWithPairs m n pairs }
 {}
 
-/// The names of the objective, the rows and the columns change only where a row or a column comes or goes.
+/// The names of the objective, the rows and the columns change only where a row or a column is added or removed.
 pub fn other_edits_keep_names()
     ensures { (m n : Model) (e : ExactEdit) → adds_or_removes e ≡ false → edited m e ≡ Ok n → KeepsNames m n }
 {}

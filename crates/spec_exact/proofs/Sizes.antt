@@ -45,7 +45,8 @@ turned_down x h = subst (λ a. a <ℚ 0ℚ) (neg-neg x) (above_turned (neg_ℚ x
 
 -- a magnitude is not below 0, and 0 only of 0
 pub abs_at_most : (x : ℚ) → x ≤ℚ 0ℚ → abs_ℚ x ≡ neg_ℚ x
-abs_at_most x h = by_sign x (λ p. clash_ℚ 0ℚ x p h) (abs_below x) (λ e. abs_above x (subst (λ a. 0ℚ ≤ℚ a) (sym e) (≤ℚ_refl 0ℚ)) ∙ e ∙ sym neg-zero ∙ ap neg_ℚ (sym e))
+abs_at_most x h =
+    by_sign x (λ p. clash_ℚ 0ℚ x p h) (abs_below x) (λ e. abs_above x (subst (λ a. 0ℚ ≤ℚ a) (sym e) (≤ℚ_refl 0ℚ)) ∙ e ∙ sym neg-zero ∙ ap neg_ℚ (sym e))
 
 pub abs_least : (x : ℚ) → 0ℚ ≤ℚ abs_ℚ x
 abs_least x =

@@ -10,13 +10,15 @@ use Rattle.spec_pivot.specs.Ratio.{room, room_at, Best, range_of, best_of, HasRo
 use Rattle.spec_pivot.proofs.Ratio.{no_more, none_before, none_first, found, scan_first, scan_least, neg_above}
 
 -- ---- no room is below 0 where the value is within its bounds
-upper_least : (o : Option ℚ) (v r q : ℚ) → 0ℚ <ℚ r → IfSome o (λ k. v ≤ℚ k) → option_map (λ u. (u -ℚ v) *ℚ inverse r) o ≡ Some q → 0ℚ ≤ℚ q
+upper_least : (o : Option ℚ) (v r q : ℚ) → 0ℚ <ℚ r → IfSome o (λ k. v ≤ℚ k) →
+    option_map (λ u. (u -ℚ v) *ℚ inverse r) o ≡ Some q → 0ℚ ≤ℚ q
 upper_least None v r q p i e = cc
 upper_least (Some u) v r q p i e =
     let z : (u -ℚ v) *ℚ inverse r ≡ q = cc in
     subst (λ a. 0ℚ ≤ℚ a) z (*ℚ-nonneg (u -ℚ v) (inverse r) (≤ℚ-difference v u i) (<ℚ-le 0ℚ (inverse r) (inv_pos r p)))
 
-lower_least : (o : Option ℚ) (v r q : ℚ) → r <ℚ 0ℚ → IfSome o (λ k. k ≤ℚ v) → option_map (λ l. (v -ℚ l) *ℚ inverse (neg_ℚ r)) o ≡ Some q → 0ℚ ≤ℚ q
+lower_least : (o : Option ℚ) (v r q : ℚ) → r <ℚ 0ℚ → IfSome o (λ k. k ≤ℚ v) →
+    option_map (λ l. (v -ℚ l) *ℚ inverse (neg_ℚ r)) o ≡ Some q → 0ℚ ≤ℚ q
 lower_least None v r q p i e = cc
 lower_least (Some l) v r q p i e =
     let z : (v -ℚ l) *ℚ inverse (neg_ℚ r) ≡ q = cc in
@@ -60,7 +62,8 @@ module _ (m n : ℕ) (f : Matrix) (cost : ℕ → ℚ) (b : Bounds) (t : Table) 
         (λ a. range_least j (b.lower j) (b.upper j) (t.value j) x (within j e.in_range) a)
         (λ a. let i : ℕ = a.0 in let at = a.1 in room_least b (t.basic i) (t.value (t.basic i)) (ray m t way j (t.basic i)) x.ratio (within (t.basic i) (g.in_range i at.in_range)) at.ratio)
         (found rooms t.basic range m x h);
-    own = λ l u p q. scan_first rooms t.basic range m x (record { ratio = u -ℚ l; column = j; position = None }) (ap (λ o. range_of j o (b.upper j)) p ∙ ap (λ o. range_of j (Some l) o) q) h;
+    own =
+        λ l u p q. scan_first rooms t.basic range m x (record { ratio = u -ℚ l; column = j; position = None }) (ap (λ o. range_of j o (b.upper j)) p ∙ ap (λ o. range_of j (Some l) o) q) h;
     others = λ i p q k. no_more x q (t.basic i) (scan_least rooms t.basic range m x h i p q k);
   }
 

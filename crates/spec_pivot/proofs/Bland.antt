@@ -41,25 +41,29 @@ negative_product a b h f g =
     (λ e. clash_ℚ _ _ h (subst (λ x. 0ℚ ≤ℚ x) (sym (ap (λ y. y *ℚ b) e ∙ zero-*ℚ b)) (≤ℚ_refl 0ℚ)))
 
 -- what is known of a column that can move and does not stand fixed
-rise_under_upper : (b : Bounds) (k : ℕ) (v : ℚ) (s : Status) → ¬ (IsFixed b k) → Stands s (b.lower k) (b.upper k) v → CanMove Up s → b.upper k ≡ Some v → ⊥
+rise_under_upper : (b : Bounds) (k : ℕ) (v : ℚ) (s : Status) → ¬ (IsFixed b k) → Stands s (b.lower k) (b.upper k) v →
+    CanMove Up s → b.upper k ≡ Some v → ⊥
 rise_under_upper b k v Basic n st c e = c
 rise_under_upper b k v AtLower n st c e = n (v, st, e)
 rise_under_upper b k v AtUpper n st c e = c
 rise_under_upper b k v AtZero n st c e = let z : None ≡ Some v = sym st.1 ∙ e in cc
 
-fall_over_lower : (b : Bounds) (k : ℕ) (v : ℚ) (s : Status) → ¬ (IsFixed b k) → Stands s (b.lower k) (b.upper k) v → CanMove Down s → b.lower k ≡ Some v → ⊥
+fall_over_lower : (b : Bounds) (k : ℕ) (v : ℚ) (s : Status) → ¬ (IsFixed b k) → Stands s (b.lower k) (b.upper k) v →
+    CanMove Down s → b.lower k ≡ Some v → ⊥
 fall_over_lower b k v Basic n st c e = c
 fall_over_lower b k v AtLower n st c e = c
 fall_over_lower b k v AtUpper n st c e = n (v, e, st)
 fall_over_lower b k v AtZero n st c e = let z : None ≡ Some v = sym st.0 ∙ e in cc
 
-by_status : {P : Type 0} (s : Status) → (s ≡ Basic → P) → (¬ (s ≡ Basic) → CanMove Up s → P) → (¬ (s ≡ Basic) → (s ≡ AtUpper) → P) → P
+by_status : {P : Type 0} (s : Status) → (s ≡ Basic → P) → (¬ (s ≡ Basic) → CanMove Up s → P) →
+    (¬ (s ≡ Basic) → (s ≡ AtUpper) → P) → P
 by_status Basic f g h = f refl
 by_status AtLower f g h = g (λ e. cc) tt
 by_status AtUpper f g h = h (λ e. cc) refl
 by_status AtZero f g h = g (λ e. cc) tt
 
-by_status_down : {P : Type 0} (s : Status) → (s ≡ Basic → P) → (¬ (s ≡ Basic) → CanMove Down s → P) → (¬ (s ≡ Basic) → (s ≡ AtLower) → P) → P
+by_status_down : {P : Type 0} (s : Status) → (s ≡ Basic → P) → (¬ (s ≡ Basic) → CanMove Down s → P) →
+    (¬ (s ≡ Basic) → (s ≡ AtLower) → P) → P
 by_status_down Basic f g h = f refl
 by_status_down AtLower f g h = h (λ e. cc) refl
 by_status_down AtUpper f g h = g (λ e. cc) tt
@@ -169,9 +173,12 @@ module _ (n : ℕ) (b : Bounds) (x d e : ℕ → ℚ) (s u : ℕ → Status) (r 
         where
           go : (v : Status) → s k ≡ v → d k *ℚ r k ≡ 0ℚ
           go Basic q = ap (λ a. a *ℚ r k) (D.zero_at_basic k h q) ∙ zero-*ℚ (r k)
-          go AtLower q = ap (λ a. d k *ℚ a) (D.still k h (λ z. let w : AtLower ≡ Basic = sym q ∙ z in cc) (λ z. o (sym z))) ∙ *ℚ_zero (d k)
-          go AtUpper q = ap (λ a. d k *ℚ a) (D.still k h (λ z. let w : AtUpper ≡ Basic = sym q ∙ z in cc) (λ z. o (sym z))) ∙ *ℚ_zero (d k)
-          go AtZero q = ap (λ a. d k *ℚ a) (D.still k h (λ z. let w : AtZero ≡ Basic = sym q ∙ z in cc) (λ z. o (sym z))) ∙ *ℚ_zero (d k)
+          go AtLower q =
+              ap (λ a. d k *ℚ a) (D.still k h (λ z. let w : AtLower ≡ Basic = sym q ∙ z in cc) (λ z. o (sym z))) ∙ *ℚ_zero (d k)
+          go AtUpper q =
+              ap (λ a. d k *ℚ a) (D.still k h (λ z. let w : AtUpper ≡ Basic = sym q ∙ z in cc) (λ z. o (sym z))) ∙ *ℚ_zero (d k)
+          go AtZero q =
+              ap (λ a. d k *ℚ a) (D.still k h (λ z. let w : AtZero ≡ Basic = sym q ∙ z in cc) (λ z. o (sym z))) ∙ *ℚ_zero (d k)
 
       part : (k : ℕ) → k < n → d k *ℚ r k ≡ delta j k *ℚ (d k *ℚ r k)
       part k h =

@@ -34,7 +34,8 @@ unfolding closed
 closed_less v k n p q r = grind (arith, nat_tests)
 
 -- more places than values
-pigeons : (len n : ℕ) (c : ℕ → ℕ) → ((i : ℕ) → i < len → c i < n) → n < len → (i j : ℕ) × (i < j) × (j < len) × (c i ≡ c j)
+pigeons : (len n : ℕ) (c : ℕ → ℕ) → ((i : ℕ) → i < len → c i < n) → n < len →
+    (i j : ℕ) × (i < j) × (j < len) × (c i ≡ c j)
 pigeons zero n c h p = absurd (let k : ⊥ = omega arith in k)
 pigeons (suc len) zero c h p = absurd (let q : c len < 0 = h len (omega arith) in let k : ⊥ = omega arith in k)
 pigeons (suc len) (suc n) c h p =
@@ -94,7 +95,8 @@ same_digit AtUpper AtZero l h v w p q e = absurd (let z : ⊥ = omega arith in z
 same_digit AtZero Basic l h v w p q e = absurd (let z : ⊥ = omega arith in z)
 same_digit AtZero AtUpper l h v w p q e = absurd (let z : ⊥ = omega arith in z)
 
-pub bounded : (m n : ℕ) (f : Matrix) (cost : ℕ → ℚ) (b : Bounds) (t : ℕ → Table) (l : ℕ → Label) (len : ℕ) → IsRun m n f cost b t l len → len < 3 ^ n
+pub bounded : (m n : ℕ) (f : Matrix) (cost : ℕ → ℚ) (b : Bounds) (t : ℕ → Table) (l : ℕ → Label) (len : ℕ) →
+    IsRun m n f cost b t l len → len < 3 ^ n
 bounded m n f cost b t l len run =
     ⊎_elim (λ lt. lt)
     (λ le. absurd (twice (pigeons (suc len) (3 ^ n) (λ i. code n (t i).status) (λ i _. code_less n (t i).status) (omega arith))))
@@ -109,7 +111,8 @@ bounded m n f cost b t l len run =
         no_cycle m n f cost b (λ a. t (i + a)) (λ a. l (i + a)) (j - i)
         (record {
           first = subst (λ a. IsTableau m n f cost b (t a)) (sym e₀) (good m n f cost b t l len run i (omega arith));
-          steps = λ a h. let q : suc (i + a) ≡ i + suc a = omega arith in subst (λ c. IsStep m n b (l (i + a)) (t (i + a)) (t c)) q (run.steps (i + a) (omega arith));
+          steps =
+              λ a h. let q : suc (i + a) ≡ i + suc a = omega arith in subst (λ c. IsStep m n b (l (i + a)) (t (i + a)) (t c)) q (run.steps (i + a) (omega arith));
         })
         (omega arith)
         (λ k h. subst (λ a. (t (i + 0)).status k ≡ (t a).status k) (sym e) (subst (λ a. (t a).status k ≡ (t j).status k) (sym e₀)

@@ -33,8 +33,10 @@ module _ (m n : ℕ) (f : Matrix) (cost : ℕ → ℚ) (b : Bounds) where
   step_kept l t u g s = go l.kind s
     where
       go : (k : StepKind) → StepOf k m n b l t u → IsTableau m n f cost b u
-      go Pivot s = subst (IsTableau m n f cost b) (sym s.1) (pivot_kept m n f cost b t g l.way l.column l.position l.theta l.to s.0)
-      go Flip s = subst (IsTableau m n f cost b) (sym s.1) (flip_kept m n f cost b t g l.way l.column s.0.enters l.theta l.to s.0.to_nonbasic s.0.lands)
+      go Pivot s =
+          subst (IsTableau m n f cost b) (sym s.1) (pivot_kept m n f cost b t g l.way l.column l.position l.theta l.to s.0)
+      go Flip s =
+          subst (IsTableau m n f cost b) (sym s.1) (flip_kept m n f cost b t g l.way l.column s.0.enters l.theta l.to s.0.to_nonbasic s.0.lands)
 
   -- a pivot by nothing
   record Still (l : Label) (t u : Table) : Type 0 where
@@ -43,7 +45,8 @@ module _ (m n : ℕ) (f : Matrix) (cost : ℕ → ℚ) (b : Bounds) where
     none : l.theta ≡ 0ℚ
 
   -- a step is a pivot by nothing, or the cost falls
-  still_or_less : (l : Label) (t u : Table) → IsTableau m n f cost b t → IsStep m n b l t u → Still l t u ⊎ (cost_at u <ℚ cost_at t)
+  still_or_less : (l : Label) (t u : Table) → IsTableau m n f cost b t → IsStep m n b l t u →
+      Still l t u ⊎ (cost_at u <ℚ cost_at t)
   unfolding cost_at
   still_or_less l t u g s = go l.kind s
     where
@@ -75,7 +78,8 @@ module _ (m n : ℕ) (f : Matrix) (cost : ℕ → ℚ) (b : Bounds) where
         nothing a d = simp ring
 
     falls_along : (i d : ℕ) → i + d ≤ len → cost_at (t (i + d)) ≤ℚ cost_at (t i)
-    falls_along i zero h = let e : i + zero ≡ i = omega arith in subst (λ j. cost_at (t j) ≤ℚ cost_at (t i)) (sym e) (≤ℚ_refl _)
+    falls_along i zero h =
+        let e : i + zero ≡ i = omega arith in subst (λ j. cost_at (t j) ≤ℚ cost_at (t i)) (sym e) (≤ℚ_refl _)
     falls_along i (suc d) h =
         let e : i + suc d ≡ suc (i + d) = omega arith in
         subst (λ j. cost_at (t j) ≤ℚ cost_at (t i)) (sym e) (≤ℚ_trans _ _ _ (no_rise (i + d) (omega arith)) (falls_along i d (omega arith)))
@@ -94,10 +98,14 @@ module _ (m n : ℕ) (f : Matrix) (cost : ℕ → ℚ) (b : Bounds) where
           (still_or_less (l i) (t i) (t (suc i)) (good i (omega arith)) (run.steps i h))
         where
           first : cost_at (t i) ≤ℚ cost_at (t 0)
-          first = let e : 0 + i ≡ i = omega arith in subst (λ j. cost_at (t j) ≤ℚ cost_at (t 0)) e (falls_along 0 i (omega arith))
+          first =
+              let e : 0 + i ≡ i = omega arith in
+              subst (λ j. cost_at (t j) ≤ℚ cost_at (t 0)) e (falls_along 0 i (omega arith))
 
           rest : cost_at (t len) ≤ℚ cost_at (t (suc i))
-          rest = let e : suc i + (len - suc i) ≡ len = omega arith in subst (λ j. cost_at (t j) ≤ℚ cost_at (t (suc i))) e (falls_along (suc i) (len - suc i) (omega arith))
+          rest =
+              let e : suc i + (len - suc i) ≡ len = omega arith in
+              subst (λ j. cost_at (t j) ≤ℚ cost_at (t (suc i))) e (falls_along (suc i) (len - suc i) (omega arith))
 
       same_value : (i : ℕ) → i ≤ len → (k : ℕ) → (t i).value k ≡ (t 0).value k
       same_value zero h k = refl
@@ -146,8 +154,10 @@ module _ (m n : ℕ) (f : Matrix) (cost : ℕ → ℚ) (b : Bounds) where
           go Down c e = subst (CanMove Down) e c
 
       -- between two moments at which it is basic once, a column leaves or enters
-      leaves : (k i d : ℕ) → i + d ≤ len → (t i).status k ≡ Basic → ¬ ((t (i + d)).status k ≡ Basic) → (a : ℕ) × (a < len) × (left a ≡ k)
-      leaves k i zero h p q = absurd (q (let e : i + zero ≡ i = omega arith in subst (λ j. (t j).status k ≡ Basic) (sym e) p))
+      leaves : (k i d : ℕ) → i + d ≤ len → (t i).status k ≡ Basic → ¬ ((t (i + d)).status k ≡ Basic) →
+          (a : ℕ) × (a < len) × (left a ≡ k)
+      leaves k i zero h p q =
+          absurd (q (let e : i + zero ≡ i = omega arith in subst (λ j. (t j).status k ≡ Basic) (sym e) p))
       leaves k i (suc d) h p q =
           let e : i + suc d ≡ suc (i + d) = omega arith in
           by_basic ((t (i + d)).status k)
@@ -159,7 +169,8 @@ module _ (m n : ℕ) (f : Matrix) (cost : ℕ → ℚ) (b : Bounds) where
           (λ y. status_same (i + d) (omega arith) k y z ∙ s))))))
           (λ s. leaves k i d (omega arith) p s)
 
-      enters : (k i d : ℕ) → i + d ≤ len → ¬ ((t i).status k ≡ Basic) → (t (i + d)).status k ≡ Basic → (a : ℕ) × (a < len) × (col a ≡ k)
+      enters : (k i d : ℕ) → i + d ≤ len → ¬ ((t i).status k ≡ Basic) → (t (i + d)).status k ≡ Basic →
+          (a : ℕ) × (a < len) × (col a ≡ k)
       enters k i zero h p q = absurd (p (let e : i + zero ≡ i = omega arith in subst (λ j. (t j).status k ≡ Basic) e q))
       enters k i (suc d) h p q =
           let e : i + suc d ≡ suc (i + d) = omega arith in
@@ -172,8 +183,9 @@ module _ (m n : ℕ) (f : Matrix) (cost : ℕ → ℚ) (b : Bounds) where
           (λ y. absurd (status_gone (i + d) (omega arith) (subst (λ k. (t (suc (i + d))).status k ≡ Basic) y after)))
           (λ y. absurd (s (sym (status_same (i + d) (omega arith) k z y) ∙ after)))))
 
-      -- the same, from one step to another, round the end if need be
-      leaves_to : (k i j : ℕ) → k < n → i ≤ len → j ≤ len → (t i).status k ≡ Basic → ¬ ((t j).status k ≡ Basic) → (a : ℕ) × (a < len) × (left a ≡ k)
+      -- the same, from one step to another, past the end and from the start again if need be
+      leaves_to : (k i j : ℕ) → k < n → i ≤ len → j ≤ len → (t i).status k ≡ Basic → ¬ ((t j).status k ≡ Basic) →
+          (a : ℕ) × (a < len) × (left a ≡ k)
       leaves_to k i j kn h g p q =
           ⊎_elim
           (λ lt. by_basic ((t len).status k)
@@ -182,7 +194,8 @@ module _ (m n : ℕ) (f : Matrix) (cost : ℕ → ℚ) (b : Bounds) where
           (λ le. let e : i + (j - i) ≡ j = omega arith in leaves k i (j - i) (omega arith) p (subst (λ a. ¬ ((t a).status k ≡ Basic)) (sym e) q))
           (cases_lt j i)
 
-      enters_to : (k i j : ℕ) → k < n → i ≤ len → j ≤ len → ¬ ((t i).status k ≡ Basic) → (t j).status k ≡ Basic → (a : ℕ) × (a < len) × (col a ≡ k)
+      enters_to : (k i j : ℕ) → k < n → i ≤ len → j ≤ len → ¬ ((t i).status k ≡ Basic) → (t j).status k ≡ Basic →
+          (a : ℕ) × (a < len) × (col a ≡ k)
       enters_to k i j kn h g p q =
           ⊎_elim
           (λ lt. by_basic ((t len).status k)
@@ -194,7 +207,8 @@ module _ (m n : ℕ) (f : Matrix) (cost : ℕ → ℚ) (b : Bounds) where
       -- the step at which the greatest column enters
       greatest : (c : ℕ) → 0 < c → c ≤ len → (i : ℕ) × (i < c) × ((a : ℕ) → a < c → col a ≤ col i)
       greatest zero h g = absurd (let z : ⊥ = omega arith in z)
-      greatest (suc zero) h g = (0, omega arith, λ a p. let e : a ≡ 0 = omega arith in subst (λ a. col a ≤ col 0) (sym e) (let z : col 0 ≤ col 0 = omega arith in z))
+      greatest (suc zero) h g =
+          (0, omega arith, λ a p. let e : a ≡ 0 = omega arith in subst (λ a. col a ≤ col 0) (sym e) (let z : col 0 ≤ col 0 = omega arith in z))
       greatest (suc (suc c)) h g =
           let r = greatest (suc c) (omega arith) (omega arith) in
           ⊎_elim
@@ -219,7 +233,8 @@ module _ (m n : ℕ) (f : Matrix) (cost : ℕ → ℚ) (b : Bounds) where
           record {
             g_in = s.rule.enters.in_range;
             zero_at_basic = zero_at_basic m n f cost b (t i) g;
-            stands = λ k p. subst (λ v. Stands ((t i).status k) (b.lower k) (b.upper k) v) (same_value i (omega arith) k) (g.stands k p);
+            stands =
+                λ k p. subst (λ v. Stands ((t i).status k) (b.lower k) (b.upper k) v) (same_value i (omega arith) k) (g.stands k p);
             may_enter = s.rule.enters.eligible.may_enter;
             rises = λ p. up (l i).way s.rule.enters.eligible.status s.rule.enters.eligible.improves p;
             falls = λ p. down (l i).way s.rule.enters.eligible.status s.rule.enters.eligible.improves p;
@@ -252,12 +267,15 @@ module _ (m n : ℕ) (f : Matrix) (cost : ℕ → ℚ) (b : Bounds) where
             zero_at_basic = zero_at_basic m n f cost b (t i) g;
             still = λ k p q z.
                 ray_still m (t i) g.units (l i).way (l i).column (j_outside m n f cost b (t i) g (l i).way (l i).column s.rule.enters) k (λ e. z (sym e)) (outside m n f cost b (t i) g k q);
-            stands = λ k p. subst (λ v. Stands ((t i).status k) (b.lower k) (b.upper k) v) (same_value i (omega arith) k) (g.stands k p);
+            stands =
+                λ k p. subst (λ v. Stands ((t i).status k) (b.lower k) (b.upper k) v) (same_value i (omega arith) k) (g.stands k p);
             may_enter = s.rule.enters.eligible.may_enter;
             rises = λ p. up (l i).way s.rule.enters.eligible.status (subst (λ a. 0ℚ <ℚ a) at p);
             falls = λ p. down (l i).way s.rule.enters.eligible.status (subst (λ a. a <ℚ 0ℚ) at p);
-            better = subst (λ a. ((t i).reduced (l i).column *ℚ a) <ℚ 0ℚ) (sym at) (better m n f cost b (t i) g (l i).way (l i).column s.rule.enters);
-            blocked = subst (λ v. IsBlocked b ((t i).basic (l i).position) v (ray m (t i) (l i).way (l i).column ((t i).basic (l i).position))) (here _) s.rule.blocked;
+            better =
+                subst (λ a. ((t i).reduced (l i).column *ℚ a) <ℚ 0ℚ) (sym at) (better m n f cost b (t i) g (l i).way (l i).column s.rule.enters);
+            blocked =
+                subst (λ v. IsBlocked b ((t i).basic (l i).position) v (ray m (t i) (l i).way (l i).column ((t i).basic (l i).position))) (here _) s.rule.blocked;
             least = λ k p q z.
                 let w = g.placed k (omega (arith, g.in_range (l i).position s.rule.position)) q in
                 s.rule.least w.0 w.1 (omega (arith, w.2))
@@ -275,11 +293,13 @@ module _ (m n : ℕ) (f : Matrix) (cost : ℕ → ℚ) (b : Bounds) where
           up Up c p = c
           up Down c p = clash_ℚ _ _ p (<ℚ-le _ _ below)
 
-          down : (w : Way) → CanMove w ((t i).status (l i).column) → sign w <ℚ 0ℚ → CanMove Down ((t i).status (l i).column)
+          down : (w : Way) → CanMove w ((t i).status (l i).column) → sign w <ℚ 0ℚ →
+              CanMove Down ((t i).status (l i).column)
           down Up c p = clash_ℚ _ _ p (<ℚ-le _ _ zero-lt-one)
           down Down c p = c
 
-      one_sum : (i a : ℕ) → i < len → a < len → sum_below n (λ k. (t i).reduced k *ℚ ray_of i k) ≡ sum_below n (λ k. (t a).reduced k *ℚ ray_of i k)
+      one_sum : (i a : ℕ) → i < len → a < len →
+          sum_below n (λ k. (t i).reduced k *ℚ ray_of i k) ≡ sum_below n (λ k. (t a).reduced k *ℚ ray_of i k)
       unfolding ray_of
       one_sum i a h p =
           let s = still i h in let g = good i (omega arith) in let q = good a (omega arith) in
@@ -310,7 +330,8 @@ module _ (m n : ℕ) (f : Matrix) (cost : ℕ → ℚ) (b : Bounds) where
           r.2)
           (one_sum away.0 r.0 away.1 r.1)
         where
-          by_entry : (k g : ℕ) → ((a : ℕ) × (a < len) × (col a ≡ k)) → ((a : ℕ) → a < len → col a ≤ g) → (k < g ⊎ k ≡ g) × MayEnter b k
+          by_entry : (k g : ℕ) → ((a : ℕ) × (a < len) × (col a ≡ k)) → ((a : ℕ) → a < len → col a ≤ g) →
+              (k < g ⊎ k ≡ g) × MayEnter b k
           by_entry k g a most = (
             let q : col a.0 ≤ g = most a.0 a.1 in let z : k ≤ g = omega (arith, a.2) in
                 ⊎_elim (λ lt. inl lt) (λ ge. inr (omega arith)) (cases_lt k g),

@@ -25,7 +25,9 @@ fixed_or_not b k = go (b.lower k) (b.upper k) refl refl
         (λ g. inr (λ f. let e : Some v ≡ Some f.0 = sym p ∙ f.1 in let d : Some w ≡ Some f.0 = sym q ∙ f.2 in let z : v ≡ w = cc in <ℚ_irrefl w (subst (λ v. w <ℚ v) z g)))
 
 -- costs and reduced costs have one sum at a point that solves the rows
-pub costs_agree : (m n : ℕ) (f : Matrix) (c d z w : ℕ → ℚ) → ((k : ℕ) → d k ≡ c k -ℚ sum_below m (λ r. w r *ℚ f r k)) → ((r : ℕ) → r < m → sum_below n (λ k. f r k *ℚ z k) ≡ 0ℚ) → sum_below n (λ k. d k *ℚ z k) ≡ sum_below n (λ k. c k *ℚ z k)
+pub costs_agree : (m n : ℕ) (f : Matrix) (c d z w : ℕ → ℚ) → ((k : ℕ) → d k ≡ c k -ℚ sum_below m (λ r. w r *ℚ f r k)) →
+    ((r : ℕ) → r < m → sum_below n (λ k. f r k *ℚ z k) ≡ 0ℚ) →
+    sum_below n (λ k. d k *ℚ z k) ≡ sum_below n (λ k. c k *ℚ z k)
 costs_agree m n f c d z w e solved =
     sum_below_same n _ (λ k. c k *ℚ z k -ℚ sum_below m (λ r. w r *ℚ (f r k *ℚ z k))) (λ k _.
     ap (λ a. a *ℚ z k) (e k) ∙ open_ (c k) (sum_below m (λ r. w r *ℚ f r k)) (z k)

@@ -27,7 +27,8 @@ status zero = AtLower
 status (suc k) = Basic
 
 abbrev opening : Table
-opening = record { entry = f; basic = λ i. 1; value = λ k. 0ℚ; reduced = λ k. cost k -ℚ sum_below 1 (λ r. 0ℚ *ℚ f r k); status = status }
+opening =
+    record { entry = f; basic = λ i. 1; value = λ k. 0ℚ; reduced = λ k. cost k -ℚ sum_below 1 (λ r. 0ℚ *ℚ f r k); status = status }
 
 abbrev pub tables : ℕ → Table
 tables zero = opening
@@ -67,7 +68,8 @@ pivots : Pivots 1 2 b opening Up 0 0 0ℚ AtLower
 pivots = record {
   enters = record {
     in_range = omega arith;
-    eligible = record { may_enter = (refl, λ x. let e : None ≡ Some x.0 = x.2 in cc); status = tt; improves = subst (λ a. a <ℚ 0ℚ) (sym cheaper) below };
+    eligible =
+        record { may_enter = (refl, λ x. let e : None ≡ Some x.0 = x.2 in cc); status = tt; improves = subst (λ a. a <ℚ 0ℚ) (sym cheaper) below };
     least = λ k w h. absurd (let z : ⊥ = omega arith in z);
   };
   position = omega arith;

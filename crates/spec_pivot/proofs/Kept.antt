@@ -29,7 +29,8 @@ module _ (m n : ℕ) (f : Matrix) (cost : ℕ → ℚ) (b : Bounds) (t : Table) 
     pub j_outside : (i : ℕ) → i < m → ¬ (t.basic i ≡ j)
     j_outside = outside j enters_nonbasic
 
-    pub cost_moved : (theta : ℚ) → sum_below n (λ k. cost k *ℚ moved m t way j theta k) ≡ sum_below n (λ k. cost k *ℚ t.value k) +ℚ theta *ℚ sum_below n (λ k. cost k *ℚ ray m t way j k)
+    pub cost_moved : (theta : ℚ) →
+        sum_below n (λ k. cost k *ℚ moved m t way j theta k) ≡ sum_below n (λ k. cost k *ℚ t.value k) +ℚ theta *ℚ sum_below n (λ k. cost k *ℚ ray m t way j k)
     cost_moved = any.cost_moved m n f cost b t g way j e.in_range enters_nonbasic
 
     pub flip_kept : (theta : ℚ) (to : Status) → ¬ (to ≡ Basic) → Stands to (b.lower j) (b.upper j) (moved m t way j theta j)
@@ -37,7 +38,8 @@ module _ (m n : ℕ) (f : Matrix) (cost : ℕ → ℚ) (b : Bounds) (t : Table) 
     flip_kept = any.flip_kept m n f cost b t g way j e.in_range enters_nonbasic
 
     pub flip_crosses : (theta : ℚ) (to : Status) → Flips m n b t way j theta to → Crosses m n b t way j theta to
-    flip_crosses theta to v = record { in_range = e.in_range; nonbasic = enters_nonbasic; to_nonbasic = v.to_nonbasic; lands = v.lands }
+    flip_crosses theta to v =
+        record { in_range = e.in_range; nonbasic = enters_nonbasic; to_nonbasic = v.to_nonbasic; lands = v.lands }
 
   -- ---- a pivot
   module _ (way : Way) (j p : ℕ) (theta : ℚ) (to : Status) (v : Pivots m n b t way j p theta to) where
@@ -45,7 +47,8 @@ module _ (m n : ℕ) (f : Matrix) (cost : ℕ → ℚ) (b : Bounds) (t : Table) 
     entry_not_zero e = go v.blocked
       where
         none : ray m t way j (t.basic p) ≡ 0ℚ
-        none = ray_basic m t g.units way j (j_outside way j v.enters) p v.position ∙ ap (λ a. neg_ℚ (sign way *ℚ a)) e ∙ ap neg_ℚ (*ℚ_zero (sign way)) ∙ neg-zero
+        none =
+            ray_basic m t g.units way j (j_outside way j v.enters) p v.position ∙ ap (λ a. neg_ℚ (sign way *ℚ a)) e ∙ ap neg_ℚ (*ℚ_zero (sign way)) ∙ neg-zero
 
         go : IsBlocked b (t.basic p) (moved m t way j theta (t.basic p)) (ray m t way j (t.basic p)) → ⊥
         go (inl h) = <ℚ_irrefl 0ℚ (subst (λ a. 0ℚ <ℚ a) none h.0)

@@ -45,7 +45,8 @@ module _ (m n : ℕ) (f : Matrix) (cost : ℕ → ℚ) (b : Bounds) (t : Table) 
         spread a v s r = simp ring
 
     -- what a move costs
-    pub cost_moved : (theta : ℚ) → cost_of (moved m t way j theta) ≡ cost_of t.value +ℚ theta *ℚ sum_below n (λ k. cost k *ℚ ray m t way j k)
+    pub cost_moved : (theta : ℚ) →
+        cost_of (moved m t way j theta) ≡ cost_of t.value +ℚ theta *ℚ sum_below n (λ k. cost k *ℚ ray m t way j k)
     cost_moved theta =
         sum_below_same n _ (λ k. cost k *ℚ t.value k +ℚ theta *ℚ (cost k *ℚ ray m t way j k)) (λ k _. spread (cost k) (t.value k) theta (ray m t way j k))
         ∙ sum_below-+ℚ n _ _ ∙ ap (λ a. cost_of t.value +ℚ a) (sym (*ℚ-sum_below theta n _))
@@ -61,14 +62,18 @@ module _ (m n : ℕ) (f : Matrix) (cost : ℕ → ℚ) (b : Bounds) (t : Table) 
         none v s = simp ring
 
     -- where a column stood, it stands after a move of another
-    standing : (theta : ℚ) (k : ℕ) → k < n → k ≢ j → Stands (t.status k) (b.lower k) (b.upper k) (moved m t way j theta k)
+    standing : (theta : ℚ) (k : ℕ) → k < n → k ≢ j →
+        Stands (t.status k) (b.lower k) (b.upper k) (moved m t way j theta k)
     standing theta k h z = go (t.status k) refl
       where
         go : (s : Status) → t.status k ≡ s → Stands (t.status k) (b.lower k) (b.upper k) (moved m t way j theta k)
         go Basic q = subst (λ s. Stands s (b.lower k) (b.upper k) (moved m t way j theta k)) (sym q) tt
-        go AtLower q = subst (λ v. Stands (t.status k) (b.lower k) (b.upper k) v) (sym (stays theta k (λ w. let y : AtLower ≡ Basic = sym q ∙ w in cc) z)) (g.stands k h)
-        go AtUpper q = subst (λ v. Stands (t.status k) (b.lower k) (b.upper k) v) (sym (stays theta k (λ w. let y : AtUpper ≡ Basic = sym q ∙ w in cc) z)) (g.stands k h)
-        go AtZero q = subst (λ v. Stands (t.status k) (b.lower k) (b.upper k) v) (sym (stays theta k (λ w. let y : AtZero ≡ Basic = sym q ∙ w in cc) z)) (g.stands k h)
+        go AtLower q =
+            subst (λ v. Stands (t.status k) (b.lower k) (b.upper k) v) (sym (stays theta k (λ w. let y : AtLower ≡ Basic = sym q ∙ w in cc) z)) (g.stands k h)
+        go AtUpper q =
+            subst (λ v. Stands (t.status k) (b.lower k) (b.upper k) v) (sym (stays theta k (λ w. let y : AtUpper ≡ Basic = sym q ∙ w in cc) z)) (g.stands k h)
+        go AtZero q =
+            subst (λ v. Stands (t.status k) (b.lower k) (b.upper k) v) (sym (stays theta k (λ w. let y : AtZero ≡ Basic = sym q ∙ w in cc) z)) (g.stands k h)
 
     pub flip_kept : (theta : ℚ) (to : Status) → ¬ (to ≡ Basic) → Stands to (b.lower j) (b.upper j) (moved m t way j theta j)
         → IsTableau m n f cost b (after_flip m t way j theta to)
@@ -132,7 +137,8 @@ module _ (m n : ℕ) (f : Matrix) (cost : ℕ → ℚ) (b : Bounds) (t : Table) 
     status_j = set_at (status_set t.status (t.basic p) to) j Basic
 
     pub status_left : next.status (t.basic p) ≡ to
-    status_left = set_off (status_set t.status (t.basic p) to) j Basic (t.basic p) (λ e. j_outside way j v.in_range v.nonbasic p v.position e) ∙ set_at t.status (t.basic p) to
+    status_left =
+        set_off (status_set t.status (t.basic p) to) j Basic (t.basic p) (λ e. j_outside way j v.in_range v.nonbasic p v.position e) ∙ set_at t.status (t.basic p) to
 
     pub status_other : (k : ℕ) → k ≢ j → k ≢ t.basic p → next.status k ≡ t.status k
     status_other k y z = set_off (status_set t.status (t.basic p) to) j Basic k y ∙ set_off t.status (t.basic p) to k z

@@ -96,9 +96,11 @@ forth_row t p j i k =
     second a b c q = simp ring
 
 divided : (a b : ℚ) → ¬ (b ≡ 0ℚ) → b *ℚ (a *ℚ inverse b) ≡ a
-divided a b n = ap (λ x. b *ℚ x) (*ℚ_comm a (inverse b)) ∙ sym (*ℚ_assoc b (inverse b) a) ∙ ap (λ x. x *ℚ a) (*ℚ_inverse b n) ∙ one-*ℚ a
+divided a b n =
+    ap (λ x. b *ℚ x) (*ℚ_comm a (inverse b)) ∙ sym (*ℚ_assoc b (inverse b) a) ∙ ap (λ x. x *ℚ a) (*ℚ_inverse b n) ∙ one-*ℚ a
 
-back_row : (t : Matrix) (p j i k : ℕ) → ¬ (t p j ≡ 0ℚ) → t i k ≡ own p i *ℚ pivoted t p j i k +ℚ t i j *ℚ pivoted t p j p k
+back_row : (t : Matrix) (p j i k : ℕ) → ¬ (t p j ≡ 0ℚ) →
+    t i k ≡ own p i *ℚ pivoted t p j i k +ℚ t i j *ℚ pivoted t p j p k
 unfolding own
 back_row t p j i k n =
     by_eq i p
@@ -154,7 +156,8 @@ entered_at basic p j = rw (eq-eqb p p refl)
 pub entered_off : (basic : ℕ → ℕ) (p j i : ℕ) → i ≢ p → entered basic p j i ≡ basic i
 entered_off basic p j i o = rw (ne_eqb i p o)
 
-pub units : (m : ℕ) (t : Matrix) (basic : ℕ → ℕ) (p j : ℕ) → p < m → ¬ (t p j ≡ 0ℚ) → IsUnit m t basic → IsUnit m (pivoted t p j) (entered basic p j)
+pub units : (m : ℕ) (t : Matrix) (basic : ℕ → ℕ) (p j : ℕ) → p < m → ¬ (t p j ≡ 0ℚ) → IsUnit m t basic →
+    IsUnit m (pivoted t p j) (entered basic p j)
 units m t basic p j h n u i r hi hr =
     by_eq i p
     (λ o. subst (λ i. pivoted t p j r (entered basic p j i) ≡ delta i r) (sym o)

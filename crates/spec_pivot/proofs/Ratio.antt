@@ -13,21 +13,25 @@ use Rattle.spec_pivot.proofs.Pivot.{by_eq}
 pub won : (q : ℚ) (k : ℕ) (y : Best) → is_better q k (Some y) ≡ true → (q <ℚ y.ratio) ⊎ ((q ≡ y.ratio) × (k < y.column))
 won q k y e = go (lt_ℚ q y.ratio) (lt_ℚ y.ratio q) (nat_lt k y.column) refl refl refl e
   where
-    go : (a c d : Bool) → lt_ℚ q y.ratio ≡ a → lt_ℚ y.ratio q ≡ c → nat_lt k y.column ≡ d → a || (not c && d) ≡ true → (q <ℚ y.ratio) ⊎ ((q ≡ y.ratio) × (k < y.column))
+    go : (a c d : Bool) → lt_ℚ q y.ratio ≡ a → lt_ℚ y.ratio q ≡ c → nat_lt k y.column ≡ d → a || (not c && d) ≡ true →
+        (q <ℚ y.ratio) ⊎ ((q ≡ y.ratio) × (k < y.column))
     go true c d p r s e = inl (lt_if q y.ratio p)
     go false true d p r s e = cc
-    go false false true p r s e = inr (≤ℚ_antisym q y.ratio (le_if_not y.ratio q r) (le_if_not q y.ratio p), ltb-true k y.column s)
+    go false false true p r s e =
+        inr (≤ℚ_antisym q y.ratio (le_if_not y.ratio q r) (le_if_not q y.ratio p), ltb-true k y.column s)
     go false false false p r s e = cc
 
 lost : (q : ℚ) (k : ℕ) (y : Best) → is_better q k (Some y) ≡ false → NoWorse y q k
 unfolding NoWorse
 lost q k y e = go (lt_ℚ q y.ratio) (lt_ℚ y.ratio q) (nat_lt k y.column) refl refl refl e
   where
-    go : (a c d : Bool) → lt_ℚ q y.ratio ≡ a → lt_ℚ y.ratio q ≡ c → nat_lt k y.column ≡ d → a || (not c && d) ≡ false → (y.ratio <ℚ q) ⊎ ((y.ratio ≡ q) × (y.column ≤ k))
+    go : (a c d : Bool) → lt_ℚ q y.ratio ≡ a → lt_ℚ y.ratio q ≡ c → nat_lt k y.column ≡ d → a || (not c && d) ≡ false →
+        (y.ratio <ℚ q) ⊎ ((y.ratio ≡ q) × (y.column ≤ k))
     go true c d p r s e = cc
     go false true d p r s e = inl (lt_if y.ratio q r)
     go false false true p r s e = cc
-    go false false false p r s e = inr (≤ℚ_antisym y.ratio q (le_if_not q y.ratio p) (le_if_not y.ratio q r), ltb-false k y.column s)
+    go false false false p r s e =
+        inr (≤ℚ_antisym y.ratio q (le_if_not q y.ratio p) (le_if_not y.ratio q r), ltb-false k y.column s)
 
 better_still : (q : ℚ) (k : ℕ) (i : Option ℕ) (y : Best) (p : ℚ) (c : ℕ) → is_better q k (Some y) ≡ true → NoWorse y p c
     → NoWorse (record { ratio = q; column = k; position = i }) p c
@@ -68,7 +72,8 @@ module _ (r : ℕ → Option ℚ) (c : ℕ → ℕ) (s : Option Best) where
   none_before zero e i h = absurd (let z : ⊥ = omega arith in z)
   none_before (suc m) e i h = go (r m) refl e (none_before m)
     where
-      go : (o : Option ℚ) → r m ≡ o → take_room m (c m) o (scan m r c s) ≡ None → (scan m r c s ≡ None → (i : ℕ) → i < m → r i ≡ None) → r i ≡ None
+      go : (o : Option ℚ) → r m ≡ o → take_room m (c m) o (scan m r c s) ≡ None →
+          (scan m r c s ≡ None → (i : ℕ) → i < m → r i ≡ None) → r i ≡ None
       go None p e ih = by_eq i m (λ z. ap r z ∙ p) (λ z. ih e i (omega arith))
       go (Some q) p e ih = absurd (never_none q (c m) m (scan m r c s) e)
 
@@ -92,7 +97,8 @@ module _ (r : ℕ → Option ℚ) (c : ℕ → ℕ) (s : Option Best) where
           (λ a. let at = a.1 in inr (a.0, record { in_range = omega (arith, at.in_range); ratio = at.ratio; column = at.column; position = at.position }))
           w
 
-      here : (q : ℚ) → r m ≡ Some q → record { ratio = q; column = c m; position = Some m } ≡ x → (s ≡ Some x) ⊎ ((p : ℕ) × IsFoundAt r c (suc m) x p)
+      here : (q : ℚ) → r m ≡ Some q → record { ratio = q; column = c m; position = Some m } ≡ x →
+          (s ≡ Some x) ⊎ ((p : ℕ) × IsFoundAt r c (suc m) x p)
       here q g w =
           inr (
             m,
@@ -111,7 +117,8 @@ module _ (r : ℕ → Option ℚ) (c : ℕ → ℕ) (s : Option Best) where
       go (Some q) g None w h ih = here q g cc
       go (Some q) g (Some y) w h ih = pick (is_better q (c m) (Some y)) h
         where
-          pick : (t : Bool) → cond t (Some (record { ratio = q; column = c m; position = Some m })) (Some y) ≡ Some x → (s ≡ Some x) ⊎ ((p : ℕ) × IsFoundAt r c (suc m) x p)
+          pick : (t : Bool) → cond t (Some (record { ratio = q; column = c m; position = Some m })) (Some y) ≡ Some x →
+              (s ≡ Some x) ⊎ ((p : ℕ) × IsFoundAt r c (suc m) x p)
           pick true h = here q g cc
           pick false h = later (ih (w ∙ h))
 
@@ -123,12 +130,15 @@ module _ (r : ℕ → Option ℚ) (c : ℕ → ℕ) (s : Option Best) where
       same x y e = let z : x ≡ y = cc in subst (λ (z : Best). z.ratio ≤ℚ y.ratio) (sym z) (≤ℚ_refl y.ratio)
   scan_first (suc m) x y f e = go (r m) (scan m r c s) refl e (λ z k. scan_first m z y f k)
     where
-      go : (o : Option ℚ) (u : Option Best) → scan m r c s ≡ u → take_room m (c m) o u ≡ Some x → ((z : Best) → scan m r c s ≡ Some z → z.ratio ≤ℚ y.ratio) → x.ratio ≤ℚ y.ratio
+      go : (o : Option ℚ) (u : Option Best) → scan m r c s ≡ u → take_room m (c m) o u ≡ Some x →
+          ((z : Best) → scan m r c s ≡ Some z → z.ratio ≤ℚ y.ratio) → x.ratio ≤ℚ y.ratio
       go None u w h ih = ih x (w ∙ h)
       go (Some q) None w h ih = let z : Some y ≡ None = sym f ∙ none_first m w in cc
       go (Some q) (Some z) w h ih = pick (is_better q (c m) (Some z)) refl h
         where
-          pick : (t : Bool) → is_better q (c m) (Some z) ≡ t → cond t (Some (record { ratio = q; column = c m; position = Some m })) (Some z) ≡ Some x → x.ratio ≤ℚ y.ratio
+          pick : (t : Bool) → is_better q (c m) (Some z) ≡ t →
+              cond t (Some (record { ratio = q; column = c m; position = Some m })) (Some z) ≡ Some x →
+              x.ratio ≤ℚ y.ratio
           pick true p h =
               let same : ◌≡◌ {A = Best} (record { ratio = q; column = c m; position = Some m }) x = cc in
               let less : q ≤ℚ z.ratio = ⊎_elim (λ a. <ℚ-le q z.ratio a) (λ a. subst (λ b. q ≤ℚ b) a.0 (≤ℚ_refl q)) (won q (c m) z p) in
@@ -136,7 +146,8 @@ module _ (r : ℕ → Option ℚ) (c : ℕ → ℕ) (s : Option Best) where
           pick false p h = let same : z ≡ x = cc in subst (λ (b : Best). b.ratio ≤ℚ y.ratio) same (ih z w)
 
   -- the best is no worse than the room of any position
-  pub scan_least : (m : ℕ) (x : Best) → scan m r c s ≡ Some x → (i : ℕ) → i < m → (q : ℚ) → r i ≡ Some q → NoWorse x q (c i)
+  pub scan_least : (m : ℕ) (x : Best) → scan m r c s ≡ Some x → (i : ℕ) → i < m → (q : ℚ) → r i ≡ Some q →
+      NoWorse x q (c i)
   unfolding NoWorse
   scan_least zero x e i h q f = absurd (let z : ⊥ = omega arith in z)
   scan_least (suc m) x e i h q f = go (r m) refl (scan m r c s) refl e (λ y z j k p w. scan_least m y z j k p w)
@@ -162,7 +173,9 @@ module _ (r : ℕ → Option ℚ) (c : ℕ → ℕ) (s : Option Best) where
           (λ a. let v : None ≡ Some q = sym (none_before m z i (omega arith)) ∙ f in cc)
       go (Some p) g (Some y) z e ih = pick (is_better p (c m) (Some y)) refl e
         where
-          pick : (b : Bool) → is_better p (c m) (Some y) ≡ b → cond b (Some (record { ratio = p; column = c m; position = Some m })) (Some y) ≡ Some x → NoWorse x q (c i)
+          pick : (b : Bool) → is_better p (c m) (Some y) ≡ b →
+              cond b (Some (record { ratio = p; column = c m; position = Some m })) (Some y) ≡ Some x →
+              NoWorse x q (c i)
           pick true b e =
               let w : record { ratio = p; column = c m; position = Some m } ≡ x = cc in
               by_eq i m
@@ -211,13 +224,15 @@ blocked_room b k v q r (inr h) =
     (ap Some (measured_down q v r (not-zero_from_lt (neg_ℚ r) (neg_above r h.0))))
 
 -- and back
-room_up : (o : Option ℚ) (v q r : ℚ) → 0ℚ <ℚ r → option_map (λ u. (u -ℚ v) *ℚ inverse r) o ≡ Some q → o ≡ Some (v +ℚ q *ℚ r)
+room_up : (o : Option ℚ) (v q r : ℚ) → 0ℚ <ℚ r → option_map (λ u. (u -ℚ v) *ℚ inverse r) o ≡ Some q →
+    o ≡ Some (v +ℚ q *ℚ r)
 room_up None v q r p e = cc
 room_up (Some u) v q r p e =
     let z : (u -ℚ v) *ℚ inverse r ≡ q = cc in
     ap Some (sym (reaches u v r (not-zero_from_lt r p)) ∙ ap (λ x. v +ℚ x *ℚ r) z)
 
-room_down : (o : Option ℚ) (v q r : ℚ) → r <ℚ 0ℚ → option_map (λ l. (v -ℚ l) *ℚ inverse (neg_ℚ r)) o ≡ Some q → o ≡ Some (v +ℚ q *ℚ r)
+room_down : (o : Option ℚ) (v q r : ℚ) → r <ℚ 0ℚ → option_map (λ l. (v -ℚ l) *ℚ inverse (neg_ℚ r)) o ≡ Some q →
+    o ≡ Some (v +ℚ q *ℚ r)
 room_down None v q r p e = cc
 room_down (Some l) v q r p e =
     let z : (v -ℚ l) *ℚ inverse (neg_ℚ r) ≡ q = cc in

@@ -12,7 +12,8 @@ use Rattle.spec_pivot.proofs.Pivot.{by_eq, delta_same, delta_other, sum_below-de
 use Rattle.spec_pivot.proofs.Unique.{apart}
 
 delta_sym : (i r : ℕ) → delta i r ≡ delta r i
-delta_sym i r = by_eq i r (λ e. subst (λ r. delta i r ≡ delta r i) e refl) (λ n. delta_other i r n ∙ sym (delta_other r i (λ e. n (sym e))))
+delta_sym i r =
+    by_eq i r (λ e. subst (λ r. delta i r ≡ delta r i) e refl) (λ n. delta_other i r n ∙ sym (delta_other r i (λ e. n (sym e))))
 
 module _ (m : ℕ) (t : Table) (units : IsUnit m t.entry t.basic) (way : Way) (j : ℕ) (outside : (i : ℕ) → i < m → ¬ (t.basic i ≡ j)) where
   -- the part of the basic columns
@@ -21,7 +22,8 @@ module _ (m : ℕ) (t : Table) (units : IsUnit m t.entry t.basic) (way : Way) (j
 
   part_outside : (k : ℕ) → ((i : ℕ) → i < m → ¬ (t.basic i ≡ k)) → part k ≡ 0ℚ
   unfolding part
-  part_outside k n = sum_below_none m _ (λ i h. ap (λ a. a *ℚ t.entry i j) (delta_other (t.basic i) k (n i h)) ∙ zero-*ℚ _)
+  part_outside k n =
+      sum_below_none m _ (λ i h. ap (λ a. a *ℚ t.entry i j) (delta_other (t.basic i) k (n i h)) ∙ zero-*ℚ _)
 
   part_basic : (r : ℕ) → r < m → part (t.basic r) ≡ t.entry r j
   unfolding part

@@ -9,7 +9,8 @@ use Rattle.spec_pivot.proofs.Pivot.{by_eq, delta_same, delta_other, sum_below-de
 use Rattle.spec_pivot.proofs.Unique.{apart}
 
 -- a column stands at one of the m positions, or at none
-pub at_position : (m : ℕ) (basic : ℕ → ℕ) (k : ℕ) → ((r : ℕ) × (r < m) × (basic r ≡ k)) ⊎ ((r : ℕ) → r < m → basic r ≢ k)
+pub at_position : (m : ℕ) (basic : ℕ → ℕ) (k : ℕ) →
+    ((r : ℕ) × (r < m) × (basic r ≡ k)) ⊎ ((r : ℕ) → r < m → basic r ≢ k)
 at_position zero basic k = inr (λ r h. absurd (let z : ⊥ = omega (arith, h) in z))
 at_position (suc m) basic k =
     by_eq (basic m) k

@@ -17,7 +17,8 @@ use Rattle.spec_pivot.proofs.Ratio.{no_later, IsFoundAt, found, scan_least, bloc
 use Rattle.spec_pivot.proofs.Best.{best_has_room}
 
 -- a column that is blocked stands at the bound ahead
-ahead_stands : (b : Bounds) (k : ℕ) (v r : ℚ) → IsBlocked b k v r → Stands (bound_ahead (way_of r)) (b.lower k) (b.upper k) v
+ahead_stands : (b : Bounds) (k : ℕ) (v r : ℚ) → IsBlocked b k v r →
+    Stands (bound_ahead (way_of r)) (b.lower k) (b.upper k) v
 ahead_stands b k v r (inl h) = rw (lt_test 0ℚ r h.0) h.1
 ahead_stands b k v r (inr h) = rw (not_lt_test 0ℚ r (<ℚ-le r 0ℚ h.0)) h.1
 
@@ -64,14 +65,16 @@ whole_range l u v low high Down Basic p q c st = absurd c
 whole_range l u v low high Down AtLower p q c st = absurd c
 
 -- a column that is not fixed has a range above 0
-range_above : (b : Bounds) (k : ℕ) (v l u : ℚ) → ¬ (IsFixed b k) → IsInside (b.lower k) (b.upper k) v → b.lower k ≡ Some l → b.upper k ≡ Some u → 0ℚ <ℚ (u -ℚ l)
+range_above : (b : Bounds) (k : ℕ) (v l u : ℚ) → ¬ (IsFixed b k) → IsInside (b.lower k) (b.upper k) v →
+    b.lower k ≡ Some l → b.upper k ≡ Some u → 0ℚ <ℚ (u -ℚ l)
 range_above b k v l u n i p q =
     by_le u l
     (λ h. absurd (n (l, p, q ∙ ap Some (≤ℚ_antisym u l h below))))
     (λ h. subst (λ a. a <ℚ (u -ℚ l)) (none l) (+ℚ_strict l u (neg_ℚ l) h))
   where
     below : l ≤ℚ u
-    below = ≤ℚ_trans l v u (subst (λ o. IfSome o (λ c. c ≤ℚ v)) p i.lower) (subst (λ o. IfSome o (λ c. v ≤ℚ c)) q i.upper)
+    below =
+        ≤ℚ_trans l v u (subst (λ o. IfSome o (λ c. c ≤ℚ v)) p i.lower) (subst (λ o. IfSome o (λ c. v ≤ℚ c)) q i.upper)
 
     none : (a : ℚ) → a -ℚ a ≡ 0ℚ
     none a = simp ring
@@ -83,7 +86,8 @@ module _ (m n : ℕ) (f : Matrix) (cost : ℕ → ℚ) (b : Bounds) (t : Table) 
   abbrev range : Option Best
   range = range_of j (b.lower j) (b.upper j)
 
-  pub best_pivots : (p : ℕ) → x.position ≡ Some p → Pivots m n b t way j p x.ratio (bound_ahead (way_of (ray m t way j (t.basic p))))
+  pub best_pivots : (p : ℕ) → x.position ≡ Some p →
+      Pivots m n b t way j p x.ratio (bound_ahead (way_of (ray m t way j (t.basic p))))
   best_pivots p h = record {
     enters = e;
     position = there.in_range;

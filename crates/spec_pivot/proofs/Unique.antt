@@ -13,8 +13,10 @@ one-not-zero : ¬ (1ℚ ≡ 0ℚ)
 one-not-zero e = <ℚ_irrefl 0ℚ (subst (λ a. 0ℚ <ℚ a) e zero-lt-one)
 
 -- the weights of a combination of unit rows stand in the basic columns
-pub weight : (m : ℕ) (t : Matrix) (b : ℕ → ℕ) → IsUnit m t b → (w : ℕ → ℚ) (s : ℕ) → s < m → sum_below m (λ r. w r *ℚ t r (b s)) ≡ w s
-weight m t b u w s h = sum_below_same m _ _ (λ r p. ap (λ x. w r *ℚ x) (u s r h p) ∙ *ℚ_comm (w r) (delta s r)) ∙ sum_below-delta m s w h
+pub weight : (m : ℕ) (t : Matrix) (b : ℕ → ℕ) → IsUnit m t b → (w : ℕ → ℚ) (s : ℕ) → s < m →
+    sum_below m (λ r. w r *ℚ t r (b s)) ≡ w s
+weight m t b u w s h =
+    sum_below_same m _ _ (λ r p. ap (λ x. w r *ℚ x) (u s r h p) ∙ *ℚ_comm (w r) (delta s r)) ∙ sum_below-delta m s w h
 
 -- basic columns at two places differ
 pub apart : (m : ℕ) (t : Matrix) (b : ℕ → ℕ) → IsUnit m t b → (r s : ℕ) → r < m → s < m → b r ≡ b s → r ≡ s
@@ -67,7 +69,8 @@ same_reduced_costs m f t b u sp cost d e v w dk ek db eb k =
         factor w v f = simp ring
 
     none : (s : ℕ) → s < m → weight_of s ≡ 0ℚ
-    none s h = sym (weight m t b u weight_of s h) ∙ sym (combo (b s)) ∙ ap₂ (λ a c. a -ℚ c) (db s h) (eb s h) ∙ +ℚ_neg 0ℚ
+    none s h =
+        sym (weight m t b u weight_of s h) ∙ sym (combo (b s)) ∙ ap₂ (λ a c. a -ℚ c) (db s h) (eb s h) ∙ +ℚ_neg 0ℚ
 
     apart_by : (a c : ℚ) → a -ℚ c ≡ 0ℚ → a ≡ c
     apart_by a c e = sym (again a c) ∙ ap (λ x. x +ℚ c) e ∙ zero-+ℚ c

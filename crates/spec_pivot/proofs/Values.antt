@@ -45,10 +45,13 @@ module _ (m n : ℕ) (f : Matrix) (cost : ℕ → ℚ) (b : Bounds) (t : Table) 
   zero_at_basic k h e = let p = g.placed k h e in ap t.reduced (sym p.2) ∙ g.costs.at_basic p.0 p.1
 
   -- a row at numbers that are 0 off the basic columns
-  row_at : (z : ℕ → ℚ) → ((k : ℕ) → k < n → ¬ (t.status k ≡ Basic) → z k ≡ 0ℚ) → (r : ℕ) → r < m → sum_below n (λ k. t.entry r k *ℚ z k) ≡ z (t.basic r)
-  row_at z o = rows.row_at m n t.entry t.basic g.units g.in_range z (λ k p none. o k p (λ e. let w = g.placed k p e in none w.0 w.1 w.2))
+  row_at : (z : ℕ → ℚ) → ((k : ℕ) → k < n → ¬ (t.status k ≡ Basic) → z k ≡ 0ℚ) → (r : ℕ) → r < m →
+      sum_below n (λ k. t.entry r k *ℚ z k) ≡ z (t.basic r)
+  row_at z o =
+      rows.row_at m n t.entry t.basic g.units g.in_range z (λ k p none. o k p (λ e. let w = g.placed k p e in none w.0 w.1 w.2))
 
-  pub same_values : (u : Table) → IsTableau m n f cost b u → SameStatuses n t u → (k : ℕ) → k < n → t.value k ≡ u.value k
+  pub same_values : (u : Table) → IsTableau m n f cost b u → SameStatuses n t u → (k : ℕ) → k < n →
+      t.value k ≡ u.value k
   same_values u q same k h =
       by_basic (t.status k)
       (λ e. let w = g.placed k h e in
@@ -112,7 +115,8 @@ module _ (m n : ℕ) (f : Matrix) (cost : ℕ → ℚ) (b : Bounds) (t : Table) 
             minus : (d : ℚ) → neg_ℚ d ≡ d *ℚ neg_ℚ 1ℚ
             minus d = simp ring
 
-    pub cost_along : (theta : ℚ) → sum_below n (λ k. cost k *ℚ moved m t way j theta k) ≡ sum_below n (λ k. cost k *ℚ t.value k) +ℚ theta *ℚ (t.reduced j *ℚ sign way)
+    pub cost_along : (theta : ℚ) →
+        sum_below n (λ k. cost k *ℚ moved m t way j theta k) ≡ sum_below n (λ k. cost k *ℚ t.value k) +ℚ theta *ℚ (t.reduced j *ℚ sign way)
     cost_along theta = cost_moved m n f cost b t g way j e theta
         ∙ ap (λ a. sum_below n (λ k. cost k *ℚ t.value k) +ℚ theta *ℚ a)
         (sym (cost_ray m t g.units way j (j_outside m n f cost b t g way j e) n e.in_range g.in_range f cost t.reduced g.back g.costs.weights g.costs.less) ∙ ray_cost)

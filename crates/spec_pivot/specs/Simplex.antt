@@ -121,7 +121,8 @@ IsBlocked b k v r = ((0ℚ <ℚ r) × (b.upper k ≡ Some v)) ⊎ ((r <ℚ 0ℚ)
 
 -- the same of the column at position i, after a move by theta
 abbrev pub IsBlockedAt : ℕ → Bounds → Table → Way → ℕ → ℚ → ℕ → Type 0
-IsBlockedAt m b t way j theta i = IsBlocked b (t.basic i) (moved m t way j theta (t.basic i)) (ray m t way j (t.basic i))
+IsBlockedAt m b t way j theta i =
+    IsBlocked b (t.basic i) (moved m t way j theta (t.basic i)) (ray m t way j (t.basic i))
 
 -- ---- steps
 -- the statuses with v for column k
@@ -197,7 +198,8 @@ pub record Label : Type 0 where
   pub to : Status
 
 abbrev pub StepOf : StepKind → ℕ → ℕ → Bounds → Label → Table → Table → Type 0
-StepOf Pivot m n b l t u = Pivots m n b t l.way l.column l.position l.theta l.to × (u ≡ after_pivot m t l.way l.column l.position l.theta l.to)
+StepOf Pivot m n b l t u =
+    Pivots m n b t l.way l.column l.position l.theta l.to × (u ≡ after_pivot m t l.way l.column l.position l.theta l.to)
 StepOf Flip m n b l t u = Flips m n b t l.way l.column l.theta l.to × (u ≡ after_flip m t l.way l.column l.theta l.to)
 
 -- a step with this label leads from t to u

@@ -1,4 +1,4 @@
--- The lines of a text, taken off its front one by one.
+-- The lines of a text, taken from its start one by one.
 use Rattle.std.proofs.Common.{◌≡◌, ℕ, Bool, true, false, List, [], ◌∷◌, ◌++◌, All, ◌≢◌, eqb, refl, ap, ◌∙◌, cond, rules, tests, arith, map, length, ◌<◌, ◌≤◌, ◌⊎◌, inl, inr, ⊎_elim}
 use Rattle.std.specs.List.{slice_split, onto_first}
 use Rattle.std.specs.Str.Lines.{lines, lines_of_parts, strip_carriage_return}
@@ -13,7 +13,8 @@ is_lf : ℕ → Bool
 is_lf b = eqb b 10
 
 -- there is always a first part
-parts_more : (x : List ℕ) (parts : List (List ℕ)) → (y : List ℕ) (more : List (List ℕ)) → parts ≡ y ∷ more → lines_of_parts (x ∷ parts) ≡ strip_carriage_return x ∷ lines_of_parts parts
+parts_more : (x : List ℕ) (parts : List (List ℕ)) → (y : List ℕ) (more : List (List ℕ)) → parts ≡ y ∷ more →
+    lines_of_parts (x ∷ parts) ≡ strip_carriage_return x ∷ lines_of_parts parts
 parts_more x [] y more h = cc
 parts_more x (z ∷ zs) y more h = refl
 
@@ -23,10 +24,12 @@ onto_some b (p ∷ ps) = (b ∷ p, ps, refl)
 
 split_some : (p : ℕ → Bool) (bs : List ℕ) → (y : List ℕ) × (more : List (List ℕ)) × (slice_split p bs ≡ y ∷ more)
 split_some p [] = ([], [], refl)
-split_some p (b ∷ bs) = elim (p b) as (λ t. (y : List ℕ) × (more : List (List ℕ)) × (cond t ([] ∷ slice_split p bs) (onto_first b (slice_split p bs)) ≡ y ∷ more)) [ true ↦ ([], slice_split p bs, refl) | false ↦ onto_some b (slice_split p bs) ]
+split_some p (b ∷ bs) =
+    elim (p b) as (λ t. (y : List ℕ) × (more : List (List ℕ)) × (cond t ([] ∷ slice_split p bs) (onto_first b (slice_split p bs)) ≡ y ∷ more)) [ true ↦ ([], slice_split p bs, refl) | false ↦ onto_some b (slice_split p bs) ]
 
 -- a line that ends is the first one, less its carriage return
-pub lines_first : (line more : List ℕ) → All (λ b. eqb b 10 ≡ false) line → lines (line ++ 10 ∷ more) ≡ strip_carriage_return line ∷ lines more
+pub lines_first : (line more : List ℕ) → All (λ b. eqb b 10 ≡ false) line →
+    lines (line ++ 10 ∷ more) ≡ strip_carriage_return line ∷ lines more
 lines_first line more h =
     let s = split_some (λ b. eqb b 10) more in
     ap lines_of_parts (slice_split_at (λ b. eqb b 10) line 10 more h refl) ∙ parts_more line (slice_split (λ b. eqb b 10) more) s.0 s.1 s.2
@@ -35,7 +38,8 @@ tests_false : (line : List ℕ) → All (λ b. b ≢ 10) line → All (λ b. eqb
 tests_false line h = All-weaker (λ b. b ≢ 10) (λ b. eqb b 10 ≡ false) (λ b n. search (rules, tests)) line h
 
 -- the first line stands before the others
-pub lines_of_line : (line more : List ℕ) → All (λ b. b ≢ 10) line → lines_of (line ++ 10 ∷ more) ≡ line_of (strip_carriage_return line) ∷ lines_of more
+pub lines_of_line : (line more : List ℕ) → All (λ b. b ≢ 10) line →
+    lines_of (line ++ 10 ∷ more) ≡ line_of (strip_carriage_return line) ∷ lines_of more
 unfolding lines_of
 lines_of_line line more h = ap (λ ls. map line_of ls) (lines_first line more (tests_false line h))
 
@@ -61,12 +65,14 @@ pub line_long : (bytes : List ℕ) → 16384 < length bytes → line_of bytes �
 unfolding line_of
 line_long bytes h = grind (arith, nat_tests)
 
--- the parts before the last one, where there is another part behind
-parts_before : (x : List ℕ) (parts : List (List ℕ)) (y : List ℕ) (more : List (List ℕ)) → parts ≡ y ∷ more → all_but_last (x ∷ parts) ≡ x ∷ all_but_last parts
+-- the parts before the last one, where there is another part after
+parts_before : (x : List ℕ) (parts : List (List ℕ)) (y : List ℕ) (more : List (List ℕ)) → parts ≡ y ∷ more →
+    all_but_last (x ∷ parts) ≡ x ∷ all_but_last parts
 parts_before x [] y more h = cc
 parts_before x (z ∷ zs) y more h = refl
 
-pub ended_lines_of_line : (line more : List ℕ) → All (λ b. b ≢ 10) line → ended_lines_of (line ++ 10 ∷ more) ≡ line_of (strip_carriage_return line) ∷ ended_lines_of more
+pub ended_lines_of_line : (line more : List ℕ) → All (λ b. b ≢ 10) line →
+    ended_lines_of (line ++ 10 ∷ more) ≡ line_of (strip_carriage_return line) ∷ ended_lines_of more
 unfolding ended_lines_of
 ended_lines_of_line line more h =
     let s = split_some (λ b. eqb b 10) more in

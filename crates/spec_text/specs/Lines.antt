@@ -17,7 +17,7 @@ input_limit = 67108864
 unfoldable pub line_of : List ℕ → Line (List ℕ)
 line_of bytes = if nat_lt line_limit (length bytes) then Long (length bytes) else Text bytes
 
--- A line ends at a line feed, and loses one carriage return before it. What stands behind the last line feed is a
+-- A line ends at a line feed, and loses one carriage return before it. What follows the last line feed is a
 -- line, unless it is empty; it keeps a carriage return at its end.
 unfoldable pub lines_of : List ℕ → List (Line (List ℕ))
 lines_of input = map line_of (lines input)
@@ -29,8 +29,9 @@ all_but_last (x ∷ y ∷ more) = x ∷ all_but_last (y ∷ more)
 
 -- the lines that a line feed ends
 unfoldable pub ended_lines_of : List ℕ → List (Line (List ℕ))
-ended_lines_of input = map (λ line. line_of (strip_carriage_return line)) (all_but_last (slice_split (λ b. b == 10) input))
+ended_lines_of input =
+    map (λ line. line_of (strip_carriage_return line)) (all_but_last (slice_split (λ b. b == 10) input))
 
--- some bytes come behind a list
+-- some bytes come after a list
 abbrev pub IsPrefixOf : List ℕ → List ℕ → Type 0
 IsPrefixOf xs ys = (rest : List ℕ) × (xs ++ rest ≡ ys)

@@ -16,8 +16,8 @@ ghost use Rattle.spec_text.specs.Lines.{line_of, lines_of, ended_lines_of};
 
 pub use line::Line;
 
-/// The lines of a text, from its front: what a line feed ends is a line, whatever follows it; other bytes
-/// behind the last line feed are the last line.
+/// The lines of a text, from its start: what a line feed ends is a line, whatever follows it; other bytes
+/// after the last line feed are the last line.
 pub fn lines_from_the_front()
     ensures none { lines_of [] ≡ [] }
     ensures ended { (line more : List ℕ) → All (λ b. b ≢ 10) line →
@@ -25,7 +25,7 @@ pub fn lines_from_the_front()
     ensures last { (line : List ℕ) → All (λ b. b ≢ 10) line → 0 < length line → lines_of line ≡ line_of line ∷ [] }
 {}
 
-/// The ended lines are the same, less what stands behind the last line feed.
+/// The ended lines are the same, less what follows the last line feed.
 pub fn ended_lines_from_the_front()
     ensures ended { (line more : List ℕ) → All (λ b. b ≢ 10) line →
         ended_lines_of (line ++ 10 ∷ more) ≡ line_of (strip_carriage_return line) ∷ ended_lines_of more }

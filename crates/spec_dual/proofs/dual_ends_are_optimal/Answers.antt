@@ -2,4 +2,5 @@ use Rattle.spec_dual.proofs.Optimal.{within_where_basic, none_eligible, compleme
 use Rattle.spec_dual.proofs.dual_ends_are_optimal.Goals as goal
 
 pub returns : goal.returns
-returns c = record { within = within_where_basic; eligible = none_eligible; complementary = complementary; least = least_cost }
+returns c =
+    record { within = within_where_basic; eligible = none_eligible; complementary = complementary; least = least_cost }
