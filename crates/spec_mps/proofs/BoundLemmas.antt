@@ -46,7 +46,8 @@ within_from_abs limit q h = by (int_lt q.num (pos 0)) refl h
     by false e h =
         let n = num_positive q e in
         record {
-          above = <ℚ-≤ℚ_trans (neg_ℚ limit) (neg_ℚ q) q (neg_strict _ _ h) (≤ℚ_trans (neg_ℚ q) 0ℚ q (positive_turned q n) n);
+          above =
+              <ℚ-≤ℚ_trans (neg_ℚ limit) (neg_ℚ q) q (neg_strict _ _ h) (≤ℚ_trans (neg_ℚ q) 0ℚ q (positive_turned q n) n);
           below = h;
         }
 
@@ -60,7 +61,8 @@ abs_from_within limit q w = by (int_lt q.num (pos 0))
 -- ---- texts
 
 -- what is a number has parts of this value
-number_value : (o : Option NumberParts) (q : ℚ) → number_by o ≡ Is q → (p : NumberParts) × (o ≡ Some p) × (value_of p ≡ q)
+number_value : (o : Option NumberParts) (q : ℚ) → number_by o ≡ Is q →
+    (p : NumberParts) × (o ≡ Some p) × (value_of p ≡ q)
 unfolding number_by
 number_value None q e = cc
 number_value (Some p) q e = (p, refl, by (is_narrow p) e)

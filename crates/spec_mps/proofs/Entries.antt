@@ -30,32 +30,42 @@ among_more t u paired h = by (same_target t u) (is_among t paired) h
     by true b e = refl
     by false b e = e
 
-entry_more : (n low : ℕ) (u : Target) (paired : List Target) (e : ℕ × ℚ) → IsEntry n low paired e → IsEntry n low (u ∷ paired) e
-entry_more n low u paired e h = record { above = h.above; inside = h.inside; not_zero = h.not_zero; known = among_more (target.Row e.0) u paired h.known }
+entry_more : (n low : ℕ) (u : Target) (paired : List Target) (e : ℕ × ℚ) → IsEntry n low paired e →
+    IsEntry n low (u ∷ paired) e
+entry_more n low u paired e h =
+    record { above = h.above; inside = h.inside; not_zero = h.not_zero; known = among_more (target.Row e.0) u paired h.known }
 
-pub climbs_more : (n low : ℕ) (u : Target) (paired : List Target) (es : List (ℕ × ℚ)) → Climbs n low paired es → Climbs n low (u ∷ paired) es
+pub climbs_more : (n low : ℕ) (u : Target) (paired : List Target) (es : List (ℕ × ℚ)) → Climbs n low paired es →
+    Climbs n low (u ∷ paired) es
 climbs_more n low u paired [] h = tt
 climbs_more n low u paired (e ∷ es) h = (entry_more n low u paired e h.0, climbs_more n (suc e.0) u paired es h.1)
 
-entry_higher : (n m low : ℕ) (paired : List Target) (e : ℕ × ℚ) → n ≤ m → IsEntry n low paired e → IsEntry m low paired e
-entry_higher n m low paired e l h = record { above = h.above; inside = omega arith; not_zero = h.not_zero; known = h.known }
+entry_higher : (n m low : ℕ) (paired : List Target) (e : ℕ × ℚ) → n ≤ m → IsEntry n low paired e →
+    IsEntry m low paired e
+entry_higher n m low paired e l h =
+    record { above = h.above; inside = omega arith; not_zero = h.not_zero; known = h.known }
 
 -- more rows do no harm
-pub climbs_higher : (n m low : ℕ) (paired : List Target) (es : List (ℕ × ℚ)) → n ≤ m → Climbs n low paired es → Climbs m low paired es
+pub climbs_higher : (n m low : ℕ) (paired : List Target) (es : List (ℕ × ℚ)) → n ≤ m → Climbs n low paired es →
+    Climbs m low paired es
 climbs_higher n m low paired [] l h = tt
-climbs_higher n m low paired (e ∷ es) l h = (entry_higher n m low paired e l h.0, climbs_higher n m (suc e.0) paired es l h.1)
+climbs_higher n m low paired (e ∷ es) l h =
+    (entry_higher n m low paired e l h.0, climbs_higher n m (suc e.0) paired es l h.1)
 
 itself : (i : ℕ) (paired : List Target) → is_among (target.Row i) (target.Row i ∷ paired) ≡ true
 itself i paired = rw (eq-eqb i i refl) refl
 
 -- a row that has no number is that of no entry
-apart : (i j : ℕ) (paired : List Target) → is_among (target.Row i) paired ≡ false → is_among (target.Row j) paired ≡ true → i ≢ j
+apart : (i j : ℕ) (paired : List Target) → is_among (target.Row i) paired ≡ false →
+    is_among (target.Row j) paired ≡ true → i ≢ j
 apart i j paired p q e =
     let f : is_among (target.Row j) paired ≡ false = ap (λ k. is_among (target.Row k) paired) (sym e) ∙ p in
     cc
 
 -- an entry that is put at its place
-pub climbs_put : (n low i : ℕ) (v : ℚ) (paired : List Target) (es : List (ℕ × ℚ)) → low ≤ i → i < n → v ≢ 0ℚ → is_among (target.Row i) paired ≡ false → Climbs n low paired es → Climbs n low (target.Row i ∷ paired) (put_entry i v es)
+pub climbs_put : (n low i : ℕ) (v : ℚ) (paired : List Target) (es : List (ℕ × ℚ)) → low ≤ i → i < n → v ≢ 0ℚ →
+    is_among (target.Row i) paired ≡ false → Climbs n low paired es →
+    Climbs n low (target.Row i ∷ paired) (put_entry i v es)
 climbs_put n low i v paired [] l k z p h = (record { above = l; inside = k; not_zero = z; known = itself i paired }, tt)
 climbs_put n low i v paired (e ∷ es) l k z p h = go (ltb i e.0) refl (λ m. climbs_put n (suc e.0) i v paired es m k z p h.1)
   where
@@ -63,9 +73,11 @@ climbs_put n low i v paired (e ∷ es) l k z p h = go (ltb i e.0) refl (λ m. cl
     here = record { above = l; inside = k; not_zero = z; known = itself i paired }
 
     later : i < e.0 → IsEntry n (suc i) (target.Row i ∷ paired) e
-    later m = record { above = omega arith; inside = h.0.inside; not_zero = h.0.not_zero; known = among_more (target.Row e.0) (target.Row i) paired h.0.known }
+    later m =
+        record { above = omega arith; inside = h.0.inside; not_zero = h.0.not_zero; known = among_more (target.Row e.0) (target.Row i) paired h.0.known }
 
-    go : (t : Bool) → ltb i e.0 ≡ t → (suc e.0 ≤ i → Climbs n (suc e.0) (target.Row i ∷ paired) (put_entry i v es)) → Climbs n low (target.Row i ∷ paired) (cond t ((i, v) ∷ e ∷ es) (e ∷ put_entry i v es))
+    go : (t : Bool) → ltb i e.0 ≡ t → (suc e.0 ≤ i → Climbs n (suc e.0) (target.Row i ∷ paired) (put_entry i v es)) →
+        Climbs n low (target.Row i ∷ paired) (cond t ((i, v) ∷ e ∷ es) (e ∷ put_entry i v es))
     go true t rest = (here, (later (ltb-true i e.0 t), climbs_more n (suc e.0) (target.Row i) paired es h.1))
     go false t rest =
         let ne : i ≢ e.0 = apart i e.0 paired p h.0.known in
@@ -78,9 +90,11 @@ inside_all n low paired (e ∷ es) h = All-cons (λ e. e.0 < n) e es h.0.inside 
 
 not_zero_all : (n low : ℕ) (paired : List Target) (es : List (ℕ × ℚ)) → Climbs n low paired es → All (λ e. e.1 ≢ 0ℚ) es
 not_zero_all n low paired [] h = All-nil (λ e. e.1 ≢ 0ℚ)
-not_zero_all n low paired (e ∷ es) h = All-cons (λ e. e.1 ≢ 0ℚ) e es h.0.not_zero (not_zero_all n (suc e.0) paired es h.1)
+not_zero_all n low paired (e ∷ es) h =
+    All-cons (λ e. e.1 ≢ 0ℚ) e es h.0.not_zero (not_zero_all n (suc e.0) paired es h.1)
 
-above_all : (n low m : ℕ) (paired : List Target) (es : List (ℕ × ℚ)) → m < low → Climbs n low paired es → All (λ e. m < e.0) es
+above_all : (n low m : ℕ) (paired : List Target) (es : List (ℕ × ℚ)) → m < low → Climbs n low paired es →
+    All (λ e. m < e.0) es
 above_all n low m paired [] l h = All-nil (λ e. m < e.0)
 above_all n low m paired (e ∷ es) l h = All-cons (λ e. m < e.0) e es (by h.0.above) (above_all n (suc e.0) m paired es (by2 h.0.above) h.1)
   where
@@ -90,9 +104,11 @@ above_all n low m paired (e ∷ es) l h = All-cons (λ e. m < e.0) e es (by h.0.
     by2 : low ≤ e.0 → m < suc e.0
     by2 k = omega arith
 
-ascending_all : (n low : ℕ) (paired : List Target) (es : List (ℕ × ℚ)) → Climbs n low paired es → AllPairs (λ d e. d.0 < e.0) es
+ascending_all : (n low : ℕ) (paired : List Target) (es : List (ℕ × ℚ)) → Climbs n low paired es →
+    AllPairs (λ d e. d.0 < e.0) es
 ascending_all n low paired [] h = λ i j d l k. absurd (omega arith)
-ascending_all n low paired (e ∷ es) h = AllPairs-cons (λ d e. d.0 < e.0) e es (above_all n (suc e.0) e.0 paired es (omega arith) h.1) (ascending_all n (suc e.0) paired es h.1)
+ascending_all n low paired (e ∷ es) h =
+    AllPairs-cons (λ d e. d.0 < e.0) e es (above_all n (suc e.0) e.0 paired es (omega arith) h.1) (ascending_all n (suc e.0) paired es h.1)
 
 pub climbs_entries : (n low : ℕ) (paired : List Target) (es : List (ℕ × ℚ)) → Climbs n low paired es → AreEntries n es
 climbs_entries n low paired es h =

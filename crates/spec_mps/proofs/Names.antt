@@ -17,7 +17,9 @@ none_pass p (x ∷ xs) h =
     let n = neither (p x) (list_any p xs) h in
     All-cons (λ x. p x ≡ false) x xs n.0 (none_pass p xs n.1)
 
-no_place : (n l : ℕ) (t : Bool) → cond (ltb (cond (not t) (1 + n) 0) (suc l)) (Some (cond (not t) (1 + n) 0)) None ≡ None → (t ≡ false) × (cond (ltb n l) (Some n) None ≡ None)
+no_place : (n l : ℕ) (t : Bool) →
+    cond (ltb (cond (not t) (1 + n) 0) (suc l)) (Some (cond (not t) (1 + n) 0)) None ≡ None →
+    (t ≡ false) × (cond (ltb n l) (Some n) None ≡ None)
 no_place n l true h = grind (arith, nat_tests)
 no_place n l false h = grind (arith, nat_tests)
 
@@ -33,5 +35,7 @@ pub same_false : (xs ys : List ℕ) → same xs ys ≡ false → xs ≢ ys
 same_false xs ys h e = let t : same xs ys ≡ true = (same_is_equal xs ys).1 e in cc
 
 -- none of the names is this one
-pub others : {X : Type 0} (f : X → List ℕ) (name : List ℕ) (xs : List X) → All (λ x. same (f x) name ≡ false) xs → All (λ n. n ≢ name) (map f xs)
-others f name xs h = All-map (λ n. n ≢ name) f xs (All-weaker (λ x. same (f x) name ≡ false) (λ x. f x ≢ name) (λ x e. same_false (f x) name e) xs h)
+pub others : {X : Type 0} (f : X → List ℕ) (name : List ℕ) (xs : List X) → All (λ x. same (f x) name ≡ false) xs →
+    All (λ n. n ≢ name) (map f xs)
+others f name xs h =
+    All-map (λ n. n ≢ name) f xs (All-weaker (λ x. same (f x) name ≡ false) (λ x. f x ≢ name) (λ x e. same_false (f x) name e) xs h)

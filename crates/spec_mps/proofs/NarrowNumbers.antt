@@ -51,7 +51,8 @@ value_narrow : (p : NumberParts) → is_narrow p ≡ true → IsNarrow (value_of
 unfolding is_narrow value_of
 value_narrow (Decimal negative zero (pos e)) h = subst IsNarrow (sym (zero_value negative (pos e))) zero_narrow
 value_narrow (Decimal negative zero (negsuc e)) h = subst IsNarrow (sym (zero_value negative (negsuc e))) zero_narrow
-value_narrow (Decimal negative (suc s) (pos e)) h = whole_narrow (signed negative (suc s * 10 ^ e)) (signed_narrow negative (suc s * 10 ^ e) h)
+value_narrow (Decimal negative (suc s) (pos e)) h =
+    whole_narrow (signed negative (suc s * 10 ^ e)) (signed_narrow negative (suc s * 10 ^ e) h)
 value_narrow (Decimal negative (suc s) (negsuc e)) h =
     let p = both (nat_le (suc s) widest) (nat_le (10 ^ suc e) widest) h in
     over_narrow (signed negative (suc s)) (10 ^ suc e) (signed_narrow negative (suc s) p.0) (leb-true (10 ^ suc e) widest p.1)
@@ -91,7 +92,9 @@ bound_narrow text q e = by (parts_of text) e
     by_word true false e = absurd (cc)
     by_word false n e = absurd (cc)
 
-    by_tests : (p : NumberParts) (s t : Bool) → ◌≡◌ {A = BoundReading} (cond s PlusInf (cond t MinusInf (as_bound (number_by (Some p))))) (Finite q) → IsNarrow q
+    by_tests : (p : NumberParts) (s t : Bool) →
+        ◌≡◌ {A = BoundReading} (cond s PlusInf (cond t MinusInf (as_bound (number_by (Some p))))) (Finite q) →
+        IsNarrow q
     by_tests p true t e = absurd (cc)
     by_tests p false true e = absurd (cc)
     by_tests p false false e = parts_narrow (Some p) q (finite_is (number_by (Some p)) q e)

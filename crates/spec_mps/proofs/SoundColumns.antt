@@ -34,7 +34,8 @@ pub record SoundColumns (n : ℕ) (columns : List ExactColumn) (column : Option 
   pub last : IfSome column (IsOpen n paired)
 
 pub no_columns : SoundColumns 0 [] None []
-no_columns = record { few = omega arith; distinct = λ i j d l k. absurd (omega arith); each = All-nil (IsKeptColumn 0); last = tt }
+no_columns =
+    record { few = omega arith; distinct = λ i j d l k. absurd (omega arith); each = All-nil (IsKeptColumn 0); last = tt }
 
 -- ---- more rows, and more numbers
 
@@ -51,11 +52,14 @@ kept_higher n m l c k =
       };
     }
 
-open_higher : (n m : ℕ) (paired : List Target) (column : Option ExactColumn) → n ≤ m → IfSome column (IsOpen n paired) → IfSome column (IsOpen m paired)
+open_higher : (n m : ℕ) (paired : List Target) (column : Option ExactColumn) → n ≤ m → IfSome column (IsOpen n paired) →
+    IfSome column (IsOpen m paired)
 open_higher n m paired None l h = h
-open_higher n m paired (Some c) l h = record { name = h.name; lower = h.lower; upper = h.upper; entries = climbs_higher n m 0 paired c.entries l h.entries }
+open_higher n m paired (Some c) l h =
+    record { name = h.name; lower = h.lower; upper = h.upper; entries = climbs_higher n m 0 paired c.entries l h.entries }
 
-pub more_rows : (n m : ℕ) (columns : List ExactColumn) (column : Option ExactColumn) (paired : List Target) → n ≤ m → SoundColumns n columns column paired → SoundColumns m columns column paired
+pub more_rows : (n m : ℕ) (columns : List ExactColumn) (column : Option ExactColumn) (paired : List Target) → n ≤ m →
+    SoundColumns n columns column paired → SoundColumns m columns column paired
 more_rows n m columns column paired l s =
     record {
       few = s.few;
@@ -64,23 +68,29 @@ more_rows n m columns column paired l s =
       last = open_higher n m paired column l s.last;
     }
 
-open_more : (n : ℕ) (t : Target) (paired : List Target) (column : Option ExactColumn) → IfSome column (IsOpen n paired) → IfSome column (IsOpen n (t ∷ paired))
+open_more : (n : ℕ) (t : Target) (paired : List Target) (column : Option ExactColumn) →
+    IfSome column (IsOpen n paired) → IfSome column (IsOpen n (t ∷ paired))
 open_more n t paired None h = h
-open_more n t paired (Some c) h = record { name = h.name; lower = h.lower; upper = h.upper; entries = climbs_more n 0 t paired c.entries h.entries }
+open_more n t paired (Some c) h =
+    record { name = h.name; lower = h.lower; upper = h.upper; entries = climbs_more n 0 t paired c.entries h.entries }
 
-pub more_paired : (n : ℕ) (t : Target) (columns : List ExactColumn) (column : Option ExactColumn) (paired : List Target) → SoundColumns n columns column paired → SoundColumns n columns column (t ∷ paired)
-more_paired n t columns column paired s = record { few = s.few; distinct = s.distinct; each = s.each; last = open_more n t paired column s.last }
+pub more_paired : (n : ℕ) (t : Target) (columns : List ExactColumn) (column : Option ExactColumn) (paired : List Target) →
+    SoundColumns n columns column paired → SoundColumns n columns column (t ∷ paired)
+more_paired n t columns column paired s =
+    record { few = s.few; distinct = s.distinct; each = s.each; last = open_more n t paired column s.last }
 
 -- ---- a new column
 
 -- the column that was read is whole
-pub close_column : (n : ℕ) (paired : List Target) (columns : List ExactColumn) (column : Option ExactColumn) → All (IsKeptColumn n) columns → IfSome column (IsOpen n paired) → All (IsKeptColumn n) (columns_with columns column)
+pub close_column : (n : ℕ) (paired : List Target) (columns : List ExactColumn) (column : Option ExactColumn) →
+    All (IsKeptColumn n) columns → IfSome column (IsOpen n paired) → All (IsKeptColumn n) (columns_with columns column)
 close_column n paired columns None h k = h
 close_column n paired columns (Some c) h k =
     All-push (IsKeptColumn n) columns c h
     (record { name = k.name; lower = k.lower; upper = k.upper; entries = climbs_entries n 0 paired c.entries k.entries })
 
-pub closed : (n : ℕ) (columns : List ExactColumn) (column : Option ExactColumn) (paired : List Target) → SoundColumns n columns column paired → SoundColumns n (columns_with columns column) None []
+pub closed : (n : ℕ) (columns : List ExactColumn) (column : Option ExactColumn) (paired : List Target) →
+    SoundColumns n columns column paired → SoundColumns n (columns_with columns column) None []
 closed n columns column paired s =
     record { few = s.few; distinct = s.distinct; each = close_column n paired columns column s.each s.last; last = tt }
 
@@ -88,14 +98,19 @@ zero_bound : IsBound (Some 0ℚ)
 unfolding whole
 zero_bound = record { below = omega (arith, ints) }
 
-named_new : (columns : List ExactColumn) (name : Name) → column_names (columns ++ new_column name ∷ []) ≡ column_names columns ++ name ∷ []
+named_new : (columns : List ExactColumn) (name : Name) →
+    column_names (columns ++ new_column name ∷ []) ≡ column_names columns ++ name ∷ []
 named_new columns name = map-append (λ (c : ExactColumn). c.name) columns (new_column name ∷ [])
 
-pub with_new : (n : ℕ) (columns : List ExactColumn) (new : Name) → is_name new ≡ true → All (λ x. x ≢ new) (column_names columns) → length columns < 512 → SoundColumns n columns None [] → SoundColumns n columns (Some (new_column new)) []
+pub with_new : (n : ℕ) (columns : List ExactColumn) (new : Name) → is_name new ≡ true →
+    All (λ x. x ≢ new) (column_names columns) → length columns < 512 → SoundColumns n columns None [] →
+    SoundColumns n columns (Some (new_column new)) []
 with_new n columns new t f few s =
     record {
-      few = omega (arith, length-map (columns ++ new_column new ∷ []) (λ (c : ExactColumn). c.name), length-append columns (new_column new ∷ []));
-      distinct = subst (AllPairs (λ x y. x ≢ y)) (sym (named_new columns new)) (all_pairs_push (λ x y. x ≢ y) (column_names columns) new s.distinct f);
+      few =
+          omega (arith, length-map (columns ++ new_column new ∷ []) (λ (c : ExactColumn). c.name), length-append columns (new_column new ∷ []));
+      distinct =
+          subst (AllPairs (λ x y. x ≢ y)) (sym (named_new columns new)) (all_pairs_push (λ x y. x ≢ y) (column_names columns) new s.distinct f);
       each = s.each;
       last = record { name = t; lower = zero_bound; upper = tt; entries = tt };
     }
@@ -115,7 +130,8 @@ number_name c (Row i) v = go (eq_ℚ v 0ℚ)
     go true = refl
     go false = refl
 
-number_open : (n : ℕ) (paired : List Target) (c : ExactColumn) (t : Target) (v : ℚ) → IsInside n t → is_among t paired ≡ false → IsOpen n paired c → IsOpen n (t ∷ paired) (with_number c t v)
+number_open : (n : ℕ) (paired : List Target) (c : ExactColumn) (t : Target) (v : ℚ) → IsInside n t →
+    is_among t paired ≡ false → IsOpen n paired c → IsOpen n (t ∷ paired) (with_number c t v)
 number_open n paired c Objective v i f o =
     record { name = o.name; lower = o.lower; upper = o.upper; entries = climbs_more n 0 Objective paired c.entries o.entries }
 number_open n paired c (Row i) v k f o = go (eq_ℚ v 0ℚ) refl
@@ -123,8 +139,10 @@ number_open n paired c (Row i) v k f o = go (eq_ℚ v 0ℚ) refl
     differs : eq_ℚ v 0ℚ ≡ false → v ≢ 0ℚ
     differs e g = let h : eq_ℚ v 0ℚ ≡ true = eq_test v 0ℚ g in cc
 
-    go : (b : Bool) → eq_ℚ v 0ℚ ≡ b → IsOpen n (Row i ∷ paired) (cond b c (record c { entries = put_entry i v c.entries }))
-    go true e = record { name = o.name; lower = o.lower; upper = o.upper; entries = climbs_more n 0 (Row i) paired c.entries o.entries }
+    go : (b : Bool) → eq_ℚ v 0ℚ ≡ b →
+        IsOpen n (Row i ∷ paired) (cond b c (record c { entries = put_entry i v c.entries }))
+    go true e =
+        record { name = o.name; lower = o.lower; upper = o.upper; entries = climbs_more n 0 (Row i) paired c.entries o.entries }
     go false e =
         record {
           name = o.name;
@@ -133,18 +151,23 @@ number_open n paired c (Row i) v k f o = go (eq_ℚ v 0ℚ) refl
           entries = climbs_put n 0 i v paired c.entries (omega arith) k (differs e) f o.entries;
         }
 
-number_names : (columns : List ExactColumn) (column : Option ExactColumn) (t : Target) (v : ℚ) → column_names (columns_with columns (option_map (λ c. with_number c t v) column)) ≡ column_names (columns_with columns column)
+number_names : (columns : List ExactColumn) (column : Option ExactColumn) (t : Target) (v : ℚ) →
+    column_names (columns_with columns (option_map (λ c. with_number c t v) column)) ≡ column_names (columns_with columns column)
 number_names columns None t v = refl
 number_names columns (Some c) t v =
     map-append (λ (c : ExactColumn). c.name) columns (with_number c t v ∷ [])
     ∙ ap (λ name. column_names columns ++ name ∷ []) (number_name c t v)
     ∙ sym (map-append (λ (c : ExactColumn). c.name) columns (c ∷ []))
 
-number_last : (n : ℕ) (paired : List Target) (column : Option ExactColumn) (t : Target) (v : ℚ) → IsInside n t → is_among t paired ≡ false → IfSome column (IsOpen n paired) → IfSome (option_map (λ c. with_number c t v) column) (IsOpen n (t ∷ paired))
+number_last : (n : ℕ) (paired : List Target) (column : Option ExactColumn) (t : Target) (v : ℚ) → IsInside n t →
+    is_among t paired ≡ false → IfSome column (IsOpen n paired) →
+    IfSome (option_map (λ c. with_number c t v) column) (IsOpen n (t ∷ paired))
 number_last n paired None t v i f o = tt
 number_last n paired (Some c) t v i f o = number_open n paired c t v i f o
 
-pub with_pair : (n : ℕ) (columns : List ExactColumn) (column : Option ExactColumn) (paired : List Target) (t : Target) (v : ℚ) → IsInside n t → is_among t paired ≡ false → SoundColumns n columns column paired → SoundColumns n columns (option_map (λ c. with_number c t v) column) (t ∷ paired)
+pub with_pair : (n : ℕ) (columns : List ExactColumn) (column : Option ExactColumn) (paired : List Target) (t : Target) (v : ℚ) →
+    IsInside n t → is_among t paired ≡ false → SoundColumns n columns column paired →
+    SoundColumns n columns (option_map (λ c. with_number c t v) column) (t ∷ paired)
 with_pair n columns column paired t v i f s =
     let e = number_names columns column t v in
     record {
@@ -171,35 +194,44 @@ bounded_name lowered (SetsUpper u) c = go (is_negative u && not lowered)
 bounded_name lowered (SetsLower l) c = refl
 bounded_name lowered (SetsBoth l u) c = refl
 
-bounded_kept : (n : ℕ) (lowered : Bool) (card : BoundCard) (c : ExactColumn) → IsSmall card → IsKeptColumn n c → IsKeptColumn n (bounded lowered card c)
+bounded_kept : (n : ℕ) (lowered : Bool) (card : BoundCard) (c : ExactColumn) → IsSmall card → IsKeptColumn n c →
+    IsKeptColumn n (bounded lowered card c)
 bounded_kept n lowered (SetsUpper u) c small k = go (is_negative u && not lowered)
   where
     go : (b : Bool) → IsKeptColumn n (cond b (record c { lower = None; upper = u }) (record c { upper = u }))
     go true = record { name = k.name; lower = tt; upper = small; entries = k.entries }
     go false = record { name = k.name; lower = k.lower; upper = small; entries = k.entries }
-bounded_kept n lowered (SetsLower l) c small k = record { name = k.name; lower = small; upper = k.upper; entries = k.entries }
-bounded_kept n lowered (SetsBoth l u) c small k = record { name = k.name; lower = small.0; upper = small.1; entries = k.entries }
+bounded_kept n lowered (SetsLower l) c small k =
+    record { name = k.name; lower = small; upper = k.upper; entries = k.entries }
+bounded_kept n lowered (SetsBoth l u) c small k =
+    record { name = k.name; lower = small.0; upper = small.1; entries = k.entries }
 
-changed_names : (place : ℕ) (lowered : Bool) (card : BoundCard) (columns : List ExactColumn) → column_names (changed_at place (bounded lowered card) columns) ≡ column_names columns
+changed_names : (place : ℕ) (lowered : Bool) (card : BoundCard) (columns : List ExactColumn) →
+    column_names (changed_at place (bounded lowered card) columns) ≡ column_names columns
 changed_names place lowered card [] = refl
 changed_names zero lowered card (c ∷ cs) = ap (λ name. name ∷ column_names cs) (bounded_name lowered card c)
 changed_names (suc place) lowered card (c ∷ cs) = ap (λ names. c.name ∷ names) (changed_names place lowered card cs)
 
-changed_kept : (n place : ℕ) (lowered : Bool) (card : BoundCard) (columns : List ExactColumn) → IsSmall card → All (IsKeptColumn n) columns → All (IsKeptColumn n) (changed_at place (bounded lowered card) columns)
+changed_kept : (n place : ℕ) (lowered : Bool) (card : BoundCard) (columns : List ExactColumn) → IsSmall card →
+    All (IsKeptColumn n) columns → All (IsKeptColumn n) (changed_at place (bounded lowered card) columns)
 changed_kept n place lowered card [] small h = h
 changed_kept n zero lowered card (c ∷ cs) small h =
     All-cons (IsKeptColumn n) (bounded lowered card c) cs (bounded_kept n lowered card c small (All-head (IsKeptColumn n) c cs h)) (All-tail (IsKeptColumn n) c cs h)
 changed_kept n (suc place) lowered card (c ∷ cs) small h =
     All-cons (IsKeptColumn n) c (changed_at place (bounded lowered card) cs) (All-head (IsKeptColumn n) c cs h) (changed_kept n place lowered card cs small (All-tail (IsKeptColumn n) c cs h))
 
-names_with : (columns others : List ExactColumn) (column : Option ExactColumn) → column_names columns ≡ column_names others → column_names (columns_with columns column) ≡ column_names (columns_with others column)
+names_with : (columns others : List ExactColumn) (column : Option ExactColumn) →
+    column_names columns ≡ column_names others →
+    column_names (columns_with columns column) ≡ column_names (columns_with others column)
 names_with columns others None e = e
 names_with columns others (Some c) e =
     map-append (λ (c : ExactColumn). c.name) columns (c ∷ [])
     ∙ ap (λ names. names ++ c.name ∷ []) e
     ∙ sym (map-append (λ (c : ExactColumn). c.name) others (c ∷ []))
 
-pub with_bounds : (n place : ℕ) (lowered : Bool) (card : BoundCard) (columns : List ExactColumn) (column : Option ExactColumn) (paired : List Target) → IsSmall card → SoundColumns n columns column paired → SoundColumns n (changed_at place (bounded lowered card) columns) column paired
+pub with_bounds : (n place : ℕ) (lowered : Bool) (card : BoundCard) (columns : List ExactColumn) (column : Option ExactColumn) (paired : List Target) →
+    IsSmall card → SoundColumns n columns column paired →
+    SoundColumns n (changed_at place (bounded lowered card) columns) column paired
 with_bounds n place lowered card columns column paired small s =
     let e = names_with (changed_at place (bounded lowered card) columns) columns column (changed_names place lowered card columns) in
     record {

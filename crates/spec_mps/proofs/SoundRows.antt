@@ -27,21 +27,26 @@ no_rows =
       distinct = λ i j d l k. absurd (omega arith);
     }
 
-pub with_name : (name : Name) (objective : Option Name) (rows : List Name) (new : Name) → is_model_name new ≡ true → SoundRows name objective rows → SoundRows new objective rows
+pub with_name : (name : Name) (objective : Option Name) (rows : List Name) (new : Name) → is_model_name new ≡ true →
+    SoundRows name objective rows → SoundRows new objective rows
 with_name name objective rows new t s =
     record { few = s.few; model_name = t; objective_name = s.objective_name; each_name = s.each_name; distinct = s.distinct }
 
-pub with_objective : (name : Name) (rows : List Name) (new : Name) → is_row_name new ≡ true → All (λ n. n ≢ new) rows → SoundRows name None rows → SoundRows name (Some new) rows
+pub with_objective : (name : Name) (rows : List Name) (new : Name) → is_row_name new ≡ true → All (λ n. n ≢ new) rows →
+    SoundRows name None rows → SoundRows name (Some new) rows
 with_objective name rows new t f s =
     record {
       few = s.few;
       model_name = s.model_name;
       objective_name = t;
       each_name = s.each_name;
-      distinct = AllPairs-cons (λ x y. x ≢ y) new rows (All-weaker (λ n. n ≢ new) (λ n. new ≢ n) (λ n g e. g (sym e)) rows f) s.distinct;
+      distinct =
+          AllPairs-cons (λ x y. x ≢ y) new rows (All-weaker (λ n. n ≢ new) (λ n. new ≢ n) (λ n g e. g (sym e)) rows f) s.distinct;
     }
 
-pub push_row : (name : Name) (objective : Option Name) (rows : List Name) (new : Name) → is_row_name new ≡ true → length rows < 256 → All (λ n. n ≢ new) (option_to_list objective ++ rows) → SoundRows name objective rows → SoundRows name objective (rows ++ new ∷ [])
+pub push_row : (name : Name) (objective : Option Name) (rows : List Name) (new : Name) → is_row_name new ≡ true →
+    length rows < 256 → All (λ n. n ≢ new) (option_to_list objective ++ rows) → SoundRows name objective rows →
+    SoundRows name objective (rows ++ new ∷ [])
 push_row name objective rows new t few f s =
     let longer : length (rows ++ new ∷ []) ≡ length rows + 1 = length-append rows (new ∷ []) in
     record {
@@ -49,5 +54,6 @@ push_row name objective rows new t few f s =
       model_name = s.model_name;
       objective_name = s.objective_name;
       each_name = All-push (λ n. IsTrue (is_row_name n)) rows new s.each_name t;
-      distinct = subst (AllPairs (λ x y. x ≢ y)) (append_assoc (option_to_list objective) rows (new ∷ [])) (all_pairs_push (λ x y. x ≢ y) (option_to_list objective ++ rows) new s.distinct f);
+      distinct =
+          subst (AllPairs (λ x y. x ≢ y)) (append_assoc (option_to_list objective) rows (new ∷ [])) (all_pairs_push (λ x y. x ≢ y) (option_to_list objective ++ rows) new s.distinct f);
     }

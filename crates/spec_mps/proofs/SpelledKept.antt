@@ -38,10 +38,12 @@ take_sense_sound s text t h so =
     subst IsSoFar (same_ok _ t b.1)
     (record {
       sound = record { rows = so.sound.rows; columns = so.sound.columns };
-      narrow = record { offset = so.narrow.offset; rows = so.narrow.rows; columns = so.narrow.columns; column = so.narrow.column };
+      narrow =
+          record { offset = so.narrow.offset; rows = so.narrow.rows; columns = so.narrow.columns; column = so.narrow.column };
     })
 
-sense_card_sound : (style : Style) (s : State) (fields : Fields) (t : State) → sense_card style s fields ≡ Ok t → IsSoFar s → IsSoFar t
+sense_card_sound : (style : Style) (s : State) (fields : Fields) (t : State) → sense_card style s fields ≡ Ok t →
+    IsSoFar s → IsSoFar t
 unfolding sense_card
 sense_card_sound style s fields t h so =
     let a = step_ok (shaped style section.Sense fields) _ t h in
@@ -50,31 +52,38 @@ sense_card_sound style s fields t h so =
 begun_sound : (s : State) (part : Section) → IsSoFar s → IsSoFar (begun s part)
 begun_sound s part so =
     record {
-      sound = record { rows = so.sound.rows; columns = closed (length (row_names s.rows)) s.columns s.column s.paired so.sound.columns };
-      narrow = record { offset = so.narrow.offset; rows = so.narrow.rows; columns = whole_narrow s.columns s.column so.narrow.columns so.narrow.column; column = tt };
+      sound =
+          record { rows = so.sound.rows; columns = closed (length (row_names s.rows)) s.columns s.column s.paired so.sound.columns };
+      narrow =
+          record { offset = so.narrow.offset; rows = so.narrow.rows; columns = whole_narrow s.columns s.column so.narrow.columns so.narrow.column; column = tt };
     }
 
 sense_beside_sound : (s : State) (word : List ℕ) (t : State) → sense_beside s word ≡ Ok t → IsSoFar s → IsSoFar t
 sense_beside_sound s [] t h so = subst IsSoFar (same_ok s t h) so
 sense_beside_sound s (b ∷ bs) t h so = take_sense_sound s (b ∷ bs) t h so
 
-headed_sound : (s : State) (part : Section) (word : List ℕ) (t : State) → headed s part word ≡ Ok t → IsSoFar s → IsSoFar t
+headed_sound : (s : State) (part : Section) (word : List ℕ) (t : State) → headed s part word ≡ Ok t → IsSoFar s →
+    IsSoFar t
 headed_sound s section.Name word t h so =
     let a = must_ok (is_model_name word) code.Name _ t h in
     subst IsSoFar (same_ok _ t a.1)
     (record {
-      sound = record { rows = with_name s.name s.objective (row_names s.rows) word a.0 so.sound.rows; columns = so.sound.columns };
-      narrow = record { offset = so.narrow.offset; rows = so.narrow.rows; columns = so.narrow.columns; column = so.narrow.column };
+      sound =
+          record { rows = with_name s.name s.objective (row_names s.rows) word a.0 so.sound.rows; columns = so.sound.columns };
+      narrow =
+          record { offset = so.narrow.offset; rows = so.narrow.rows; columns = so.narrow.columns; column = so.narrow.column };
     })
 headed_sound s section.Sense word t h so = sense_beside_sound s word t h so
-headed_sound s section.Columns word t h so = let a = must_ok (is_some s.objective) code.NoObjective _ t h in subst IsSoFar (same_ok s t a.1) so
+headed_sound s section.Columns word t h so =
+    let a = must_ok (is_some s.objective) code.NoObjective _ t h in subst IsSoFar (same_ok s t a.1) so
 headed_sound s part word t h so = subst IsSoFar (same_ok s t h) so
 
 -- ---- the model
 
 All-unmap : {X Y : Type 0} (P : X → Type 0) (f : Y → X) (ys : List Y) → All P (map f ys) → All (λ y. P (f y)) ys
 All-unmap P f [] h = All-nil (λ y. P (f y))
-All-unmap P f (y ∷ ys) h = All-cons (λ y. P (f y)) y ys (All-head P (f y) (map f ys) h) (All-unmap P f ys (All-tail P (f y) (map f ys) h))
+All-unmap P f (y ∷ ys) h =
+    All-cons (λ y. P (f y)) y ys (All-head P (f y) (map f ys) h) (All-unmap P f ys (All-tail P (f y) (map f ys) h))
 
 model_kept : (s : State) (objective : Name) → s.objective ≡ Some objective → IsSoFar s → IsModel (model_by s objective)
 unfolding model_by
@@ -88,7 +97,8 @@ model_kept s objective e so =
       name = r.model_name;
       objective = r.objective_name;
       rows = All-unmap (λ n. IsTrue (is_row_name n)) (λ (r : ExactRow). r.name) s.rows r.each_name;
-      columns = subst (λ n. All (IsKeptColumn n) (whole_columns s)) size (close_column (length (row_names s.rows)) s.paired s.columns s.column c.each c.last);
+      columns =
+          subst (λ n. All (IsKeptColumn n) (whole_columns s)) size (close_column (length (row_names s.rows)) s.paired s.columns s.column c.each c.last);
       rows_distinct = r.distinct;
       columns_distinct = c.distinct;
       offset = so.narrow.offset;
@@ -102,7 +112,8 @@ abbrev IsSoundProgress : Progress → Type 0
 IsSoundProgress (More s) = IsSoFar s
 IsSoundProgress (Done m) = IsModel m
 
-more_sound : (check : Check State) (p : Progress) → more check ≡ Ok p → ((t : State) → check ≡ Ok t → IsSoFar t) → IsSoundProgress p
+more_sound : (check : Check State) (p : Progress) → more check ≡ Ok p → ((t : State) → check ≡ Ok t → IsSoFar t) →
+    IsSoundProgress p
 more_sound check p h f =
     let a = step_ok check (λ s. Ok (More s)) p h in
     subst IsSoundProgress (same_ok (More a.0) p a.2) (f a.0 a.1)
@@ -113,36 +124,48 @@ finished_sound s p h so =
     let a = need_ok s.objective code.NoObjective _ p h in
     subst IsSoundProgress (same_ok (Done (model_by s a.0)) p a.2) (model_kept s a.0 a.1 so)
 
-begin_sound : (s : State) (part : Section) (word : List ℕ) (p : Progress) → begin s part word ≡ Ok p → IsSoFar s → IsSoundProgress p
+begin_sound : (s : State) (part : Section) (word : List ℕ) (p : Progress) → begin s part word ≡ Ok p → IsSoFar s →
+    IsSoundProgress p
 begin_sound s section.End word p h so = finished_sound s p h so
-begin_sound s part word p h so = more_sound _ p h (λ t k. headed_sound (begun s part) part word t k (begun_sound s part so))
+begin_sound s part word p h so =
+    more_sound _ p h (λ t k. headed_sound (begun s part) part word t k (begun_sound s part so))
 
-section_card_sound : (s : State) (fields : Fields) (p : Progress) → section_card s fields ≡ Ok p → IsSoFar s → IsSoundProgress p
+section_card_sound : (s : State) (fields : Fields) (p : Progress) → section_card s fields ≡ Ok p → IsSoFar s →
+    IsSoundProgress p
 unfolding section_card
 section_card_sound s fields p h so =
     let a = need_ok (section_of (text_at 1 fields)) code.UnknownSection _ p h in
     let b = must_ok (may_follow s.seen a.0 && not (has_begun s.seen a.0)) code.SectionOrder _ p a.2 in
     begin_sound s a.0 (text_at 2 fields) p b.1 so
 
-data_card_sound : (style : Style) (part : Option Section) (s : State) (fields : Fields) (t : State) → data_card style part s fields ≡ Ok t → IsSoFar s → IsSoFar t
+data_card_sound : (style : Style) (part : Option Section) (s : State) (fields : Fields) (t : State) →
+    data_card style part s fields ≡ Ok t → IsSoFar s → IsSoFar t
 data_card_sound style (Some section.Sense) s fields t h so = sense_card_sound style s fields t h so
-data_card_sound style (Some section.Rows) s fields t h so = record { sound = rows_card_sound style s fields t h so.sound; narrow = rows_card_narrow style s fields t h so.narrow }
-data_card_sound style (Some section.Columns) s fields t h so = record { sound = columns_card_sound style s fields t h so.sound; narrow = columns_card_narrow style s fields t h so.narrow }
-data_card_sound style (Some section.RightSides) s fields t h so = record { sound = rhs_card_sound style s fields t h so.sound; narrow = rhs_card_narrow style s fields t h so.narrow }
-data_card_sound style (Some section.Ranges) s fields t h so = record { sound = ranges_card_sound style s fields t h so.sound; narrow = ranges_card_narrow style s fields t h so.narrow }
-data_card_sound style (Some section.Bounds) s fields t h so = record { sound = bounds_card_sound style s fields t h so.sound; narrow = bounds_card_narrow style s fields t h so.narrow }
+data_card_sound style (Some section.Rows) s fields t h so =
+    record { sound = rows_card_sound style s fields t h so.sound; narrow = rows_card_narrow style s fields t h so.narrow }
+data_card_sound style (Some section.Columns) s fields t h so =
+    record { sound = columns_card_sound style s fields t h so.sound; narrow = columns_card_narrow style s fields t h so.narrow }
+data_card_sound style (Some section.RightSides) s fields t h so =
+    record { sound = rhs_card_sound style s fields t h so.sound; narrow = rhs_card_narrow style s fields t h so.narrow }
+data_card_sound style (Some section.Ranges) s fields t h so =
+    record { sound = ranges_card_sound style s fields t h so.sound; narrow = ranges_card_narrow style s fields t h so.narrow }
+data_card_sound style (Some section.Bounds) s fields t h so =
+    record { sound = bounds_card_sound style s fields t h so.sound; narrow = bounds_card_narrow style s fields t h so.narrow }
 data_card_sound style part s fields t h so = absurd (cc)
 
-card_sound : (style : Style) (s : State) (c : Card Fields) (p : Progress) → on_card style s c ≡ Ok p → IsSoFar s → IsSoundProgress p
+card_sound : (style : Style) (s : State) (c : Card Fields) (p : Progress) → on_card style s c ≡ Ok p → IsSoFar s →
+    IsSoundProgress p
 card_sound style s card.Skip p h so = subst IsSoundProgress (same_ok (More s) p h) so
 card_sound style s (card.Section fields) p h so = section_card_sound s fields p h so
 card_sound style s (card.Given fields) p h so = more_sound _ p h (λ t k. data_card_sound style s.part s fields t k so)
 
-reading_sound : (style : Style) (s : State) (reading : CardReading) (p : Progress) → on_reading style s reading ≡ Ok p → IsSoFar s → IsSoundProgress p
+reading_sound : (style : Style) (s : State) (reading : CardReading) (p : Progress) → on_reading style s reading ≡ Ok p →
+    IsSoFar s → IsSoundProgress p
 reading_sound style s (Is c) p h so = card_sound style s c p h so
 reading_sound style s (Misplaced column) p h so = absurd (cc)
 
-step_sound : (style : Style) (s : State) (l : Line (List ℕ)) (p : Progress) → step style s l ≡ Ok p → IsSoFar s → IsSoundProgress p
+step_sound : (style : Style) (s : State) (l : Line (List ℕ)) (p : Progress) → step style s l ≡ Ok p → IsSoFar s →
+    IsSoundProgress p
 unfolding step
 step_sound style s (line.Text bytes) p h so = reading_sound style s (reading_of style s.part bytes) p h so
 step_sound style s (line.Long len) p h so = absurd (cc)
@@ -157,12 +180,15 @@ start_sound = record { sound = record { rows = no_rows; columns = no_columns }; 
 same_spelled : (m o : Model) → Spelled m ≡ Spelled o → m ≡ o
 same_spelled m o h = cc
 
-settled_kept : (n : ℕ) (next : State → Verdict) (o : Outcome) (m : Model) → settled n next o ≡ Spelled m → ((p : Progress) → o ≡ Ok p → IsSoundProgress p) → ((t : State) → next t ≡ Spelled m → IsSoFar t → IsModel m) → IsModel m
+settled_kept : (n : ℕ) (next : State → Verdict) (o : Outcome) (m : Model) → settled n next o ≡ Spelled m →
+    ((p : Progress) → o ≡ Ok p → IsSoundProgress p) → ((t : State) → next t ≡ Spelled m → IsSoFar t → IsModel m) →
+    IsModel m
 settled_kept n next (Ok (More t)) m h f g = g t h (f (More t) refl)
 settled_kept n next (Ok (Done d)) m h f g = subst IsModel (same_spelled d m h) (f (Done d) refl)
 settled_kept n next (Err fault) m h f g = absurd (cc)
 
-judged_kept : (style : Style) (lines : List (Line (List ℕ))) (s : State) (n : ℕ) (m : Model) → judge style s n lines ≡ Spelled m → IsSoFar s → IsModel m
+judged_kept : (style : Style) (lines : List (Line (List ℕ))) (s : State) (n : ℕ) (m : Model) →
+    judge style s n lines ≡ Spelled m → IsSoFar s → IsModel m
 judged_kept style [] s n m h so = absurd (cc)
 judged_kept style (l ∷ lines) s n m h so =
     settled_kept n (λ t. judge style t (n + 1) lines) (step style s l) m h (λ p k. step_sound style s l p k so) (λ t k. judged_kept style lines t (n + 1) m k)

@@ -22,14 +22,16 @@ or_parts : (s t : Bool) → s || t ≡ false → (s ≡ false) × (t ≡ false)
 or_parts true t e = cc
 or_parts false t e = (refl, e)
 
--- the place of the first that passes is behind all that do not
-pub position_past : (test : ℕ → Bool) (front rest : List ℕ) → list_any test front ≡ false → position_or_len test (front ++ rest) ≡ length front + position_or_len test rest
+-- the place of the first that passes is after all that do not
+pub position_past : (test : ℕ → Bool) (front rest : List ℕ) → list_any test front ≡ false →
+    position_or_len test (front ++ rest) ≡ length front + position_or_len test rest
 position_past test [] rest h = omega arith
 position_past test (b ∷ front) rest h =
     let p = or_parts (test b) (list_any test front) h in
     rw (p.0, position_past test front rest p.1) (omega arith)
 
-position_whole : (test : ℕ → Bool) (text : List ℕ) → list_any test text ≡ false → position_or_len test text ≡ length text
+position_whole : (test : ℕ → Bool) (text : List ℕ) → list_any test text ≡ false →
+    position_or_len test text ≡ length text
 position_whole test [] h = refl
 position_whole test (b ∷ text) h =
     let p = or_parts (test b) (list_any test text) h in
@@ -44,7 +46,8 @@ whole test text h =
       behind = rw h refl;
     }
 
-pub split : (test : ℕ → Bool) (front : List ℕ) (b : ℕ) (back : List ℕ) → list_any test front ≡ false → test b ≡ true → IsSplit test (front ++ b ∷ back) front back
+pub split : (test : ℕ → Bool) (front : List ℕ) (b : ℕ) (back : List ℕ) → list_any test front ≡ false → test b ≡ true →
+    IsSplit test (front ++ b ∷ back) front back
 split test front b back h t =
     let here : position_or_len test (b ∷ back) ≡ 0 = rw t refl in
     let e : position_or_len test (front ++ b ∷ back) ≡ length front = position_past test front (b ∷ back) h ∙ omega arith in

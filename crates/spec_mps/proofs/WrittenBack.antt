@@ -23,7 +23,8 @@ pub cards_are_read_back : (style : Style) → AreReadBack style
 cards_are_read_back Free =
     record {
       types = λ k a hk ha. record { read = free_card_read (field_at 1 k) (field_at 2 a ∷ []) (hk.word, (ha.word, tt)) };
-      numbers = λ a b c ha hb hc. record { read = free_card_read (field_at 2 a) (field_at 3 b ∷ field_at 4 c ∷ []) (ha.word, (hb.word, (hc.word, tt))) };
+      numbers =
+          λ a b c ha hb hc. record { read = free_card_read (field_at 2 a) (field_at 3 b ∷ field_at 4 c ∷ []) (ha.word, (hb.word, (hc.word, tt))) };
       bounds =
           λ k b c hk hb hc. record { read = free_card_read (field_at 1 k) (field_at 2 (codes "BND") ∷ field_at 3 b ∷ field_at 4 c ∷ []) (hk.word, (bound_set, (hb.word, (hc.word, tt)))) };
       without_number = λ k b hk hb. record { read = free_card_read (field_at 1 k) (field_at 2 (codes "BND") ∷ field_at 3 b ∷ []) (hk.word, (bound_set, (hb.word, tt))) };
@@ -31,7 +32,8 @@ cards_are_read_back Free =
 cards_are_read_back Fixed =
     record {
       types = λ k a hk ha. record { read = type_card_read k a (in_cell 2 2 k none_1 hk) (in_cell 5 8 a none_2 ha) };
-      numbers = λ a b c ha hb hc. record { read = number_card_read a b c (in_cell 5 8 a none_2 ha) (in_cell 15 8 b none_3 hb) (in_cell 25 12 c none_4 hc) };
+      numbers =
+          λ a b c ha hb hc. record { read = number_card_read a b c (in_cell 5 8 a none_2 ha) (in_cell 15 8 b none_3 hb) (in_cell 25 12 c none_4 hc) };
       bounds =
           λ k b c hk hb hc.
           record { read = bound_card_read k (codes "BND") b c (in_cell 2 2 k none_1 hk) set_cell (in_cell 15 8 b none_3 hb) (in_cell 25 12 c none_4 hc) };

@@ -100,28 +100,35 @@ pub record IsBoundNumber (q : ℚ) : Type 0 where
 
 bound_reads : (q : ℚ) → IsBoundNumber q → bound_in (number_text q) ≡ Ok (value.Finite q)
 unfolding bound_in
-bound_reads q h = ap (λ r. coded (bound_answer r)) (number_is_bound (number_text q) q (read_written q h.narrow.top h.narrow.bottom) (within_from_abs infinite q h.small))
+bound_reads q h =
+    ap (λ r. coded (bound_answer r)) (number_is_bound (number_text q) q (read_written q h.narrow.top h.narrow.bottom) (within_from_abs infinite q h.small))
 
 -- a kind with a value, and what its card does
 record IsValueKind (word : List ℕ) (kind : BoundKind) (says : ℚ → BoundCard) : Type 0 where
   pub item : (style : Style) → IsItem style 2 word
-  pub known : (style : Style) (name : Name) (q : ℚ) → bound_kind_of (text_at 1 (read_as style (number_fields word name q))) ≡ Ok kind
-  pub shape : (style : Style) (name : Name) (q : ℚ) → bound_texts style kind (read_as style (number_fields word name q)) ≡ Ok (record { set = Some (codes "BND"); column = name; value = number_text q })
+  pub known : (style : Style) (name : Name) (q : ℚ) →
+      bound_kind_of (text_at 1 (read_as style (number_fields word name q))) ≡ Ok kind
+  pub shape : (style : Style) (name : Name) (q : ℚ) →
+      bound_texts style kind (read_as style (number_fields word name q)) ≡ Ok (record { set = Some (codes "BND"); column = name; value = number_text q })
   pub is : (q : ℚ) → IsBoundNumber q → card_of kind (number_text q) ≡ Ok (says q)
 
 -- a kind without one
 record IsNameKind (word : List ℕ) (kind : BoundKind) (says : BoundCard) : Type 0 where
   pub item : (style : Style) → IsItem style 2 word
-  pub known : (style : Style) (name : Name) → bound_kind_of (text_at 1 (read_as style (name_fields word name))) ≡ Ok kind
-  pub shape : (style : Style) (name : Name) → bound_texts style kind (read_as style (name_fields word name)) ≡ Ok (record { set = Some (codes "BND"); column = name; value = [] })
+  pub known : (style : Style) (name : Name) →
+      bound_kind_of (text_at 1 (read_as style (name_fields word name))) ≡ Ok kind
+  pub shape : (style : Style) (name : Name) →
+      bound_texts style kind (read_as style (name_fields word name)) ≡ Ok (record { set = Some (codes "BND"); column = name; value = [] })
   pub is : card_of kind [] ≡ Ok says
 
-up_known : (style : Style) (name : Name) (q : ℚ) → bound_kind_of (text_at 1 (read_as style (number_fields (codes "UP") name q))) ≡ Ok Up
+up_known : (style : Style) (name : Name) (q : ℚ) →
+    bound_kind_of (text_at 1 (read_as style (number_fields (codes "UP") name q))) ≡ Ok Up
 unfolding bound_kind_of
 up_known Free name q = refl
 up_known Fixed name q = refl
 
-up_shape : (style : Style) (name : Name) (q : ℚ) → bound_texts style Up (read_as style (number_fields (codes "UP") name q)) ≡ Ok (record { set = Some (codes "BND"); column = name; value = number_text q })
+up_shape : (style : Style) (name : Name) (q : ℚ) →
+    bound_texts style Up (read_as style (number_fields (codes "UP") name q)) ≡ Ok (record { set = Some (codes "BND"); column = name; value = number_text q })
 unfolding bound_texts has_shape
 up_shape Free name q = refl
 up_shape Fixed name q = refl
@@ -131,14 +138,17 @@ unfolding card_of
 up_is q h = ap (λ r. r >>= upper_card) (bound_reads q h)
 
 up_kind : IsValueKind (codes "UP") Up (λ q. SetsUpper (Some q))
-up_kind = record { item = λ style. kind_item style 85 80 (record { some = refl; printable = refl }); known = up_known; shape = up_shape; is = up_is }
+up_kind =
+    record { item = λ style. kind_item style 85 80 (record { some = refl; printable = refl }); known = up_known; shape = up_shape; is = up_is }
 
-lo_known : (style : Style) (name : Name) (q : ℚ) → bound_kind_of (text_at 1 (read_as style (number_fields (codes "LO") name q))) ≡ Ok Lo
+lo_known : (style : Style) (name : Name) (q : ℚ) →
+    bound_kind_of (text_at 1 (read_as style (number_fields (codes "LO") name q))) ≡ Ok Lo
 unfolding bound_kind_of
 lo_known Free name q = refl
 lo_known Fixed name q = refl
 
-lo_shape : (style : Style) (name : Name) (q : ℚ) → bound_texts style Lo (read_as style (number_fields (codes "LO") name q)) ≡ Ok (record { set = Some (codes "BND"); column = name; value = number_text q })
+lo_shape : (style : Style) (name : Name) (q : ℚ) →
+    bound_texts style Lo (read_as style (number_fields (codes "LO") name q)) ≡ Ok (record { set = Some (codes "BND"); column = name; value = number_text q })
 unfolding bound_texts has_shape
 lo_shape Free name q = refl
 lo_shape Fixed name q = refl
@@ -148,14 +158,17 @@ unfolding card_of
 lo_is q h = ap (λ r. r >>= lower_card) (bound_reads q h)
 
 lo_kind : IsValueKind (codes "LO") Lo (λ q. SetsLower (Some q))
-lo_kind = record { item = λ style. kind_item style 76 79 (record { some = refl; printable = refl }); known = lo_known; shape = lo_shape; is = lo_is }
+lo_kind =
+    record { item = λ style. kind_item style 76 79 (record { some = refl; printable = refl }); known = lo_known; shape = lo_shape; is = lo_is }
 
-fx_known : (style : Style) (name : Name) (q : ℚ) → bound_kind_of (text_at 1 (read_as style (number_fields (codes "FX") name q))) ≡ Ok Fx
+fx_known : (style : Style) (name : Name) (q : ℚ) →
+    bound_kind_of (text_at 1 (read_as style (number_fields (codes "FX") name q))) ≡ Ok Fx
 unfolding bound_kind_of
 fx_known Free name q = refl
 fx_known Fixed name q = refl
 
-fx_shape : (style : Style) (name : Name) (q : ℚ) → bound_texts style Fx (read_as style (number_fields (codes "FX") name q)) ≡ Ok (record { set = Some (codes "BND"); column = name; value = number_text q })
+fx_shape : (style : Style) (name : Name) (q : ℚ) →
+    bound_texts style Fx (read_as style (number_fields (codes "FX") name q)) ≡ Ok (record { set = Some (codes "BND"); column = name; value = number_text q })
 unfolding bound_texts has_shape
 fx_shape Free name q = refl
 fx_shape Fixed name q = refl
@@ -165,14 +178,17 @@ unfolding card_of
 fx_is q h = ap (λ r. r >>= both_card) (bound_reads q h)
 
 fx_kind : IsValueKind (codes "FX") Fx (λ q. SetsBoth (Some q) (Some q))
-fx_kind = record { item = λ style. kind_item style 70 88 (record { some = refl; printable = refl }); known = fx_known; shape = fx_shape; is = fx_is }
+fx_kind =
+    record { item = λ style. kind_item style 70 88 (record { some = refl; printable = refl }); known = fx_known; shape = fx_shape; is = fx_is }
 
-fr_known : (style : Style) (name : Name) → bound_kind_of (text_at 1 (read_as style (name_fields (codes "FR") name))) ≡ Ok Fr
+fr_known : (style : Style) (name : Name) →
+    bound_kind_of (text_at 1 (read_as style (name_fields (codes "FR") name))) ≡ Ok Fr
 unfolding bound_kind_of
 fr_known Free name = refl
 fr_known Fixed name = refl
 
-fr_shape : (style : Style) (name : Name) → bound_texts style Fr (read_as style (name_fields (codes "FR") name)) ≡ Ok (record { set = Some (codes "BND"); column = name; value = [] })
+fr_shape : (style : Style) (name : Name) →
+    bound_texts style Fr (read_as style (name_fields (codes "FR") name)) ≡ Ok (record { set = Some (codes "BND"); column = name; value = [] })
 unfolding bound_texts has_shape
 fr_shape Free name = refl
 fr_shape Fixed name = refl
@@ -182,14 +198,17 @@ unfolding card_of
 fr_is = refl
 
 fr_kind : IsNameKind (codes "FR") Fr (SetsBoth None None)
-fr_kind = record { item = λ style. kind_item style 70 82 (record { some = refl; printable = refl }); known = fr_known; shape = fr_shape; is = fr_is }
+fr_kind =
+    record { item = λ style. kind_item style 70 82 (record { some = refl; printable = refl }); known = fr_known; shape = fr_shape; is = fr_is }
 
-mi_known : (style : Style) (name : Name) → bound_kind_of (text_at 1 (read_as style (name_fields (codes "MI") name))) ≡ Ok Mi
+mi_known : (style : Style) (name : Name) →
+    bound_kind_of (text_at 1 (read_as style (name_fields (codes "MI") name))) ≡ Ok Mi
 unfolding bound_kind_of
 mi_known Free name = refl
 mi_known Fixed name = refl
 
-mi_shape : (style : Style) (name : Name) → bound_texts style Mi (read_as style (name_fields (codes "MI") name)) ≡ Ok (record { set = Some (codes "BND"); column = name; value = [] })
+mi_shape : (style : Style) (name : Name) →
+    bound_texts style Mi (read_as style (name_fields (codes "MI") name)) ≡ Ok (record { set = Some (codes "BND"); column = name; value = [] })
 unfolding bound_texts has_shape
 mi_shape Free name = refl
 mi_shape Fixed name = refl
@@ -199,11 +218,13 @@ unfolding card_of
 mi_is = refl
 
 mi_kind : IsNameKind (codes "MI") Mi (SetsLower None)
-mi_kind = record { item = λ style. kind_item style 77 73 (record { some = refl; printable = refl }); known = mi_known; shape = mi_shape; is = mi_is }
+mi_kind =
+    record { item = λ style. kind_item style 77 73 (record { some = refl; printable = refl }); known = mi_known; shape = mi_shape; is = mi_is }
 
 -- ---- a card that is read where the column is
 
-abbrev pub spot : State → List ExactColumn → ExactColumn → List ExactColumn → List Bool → Bool → List Bool → Option (Option Name) → State
+abbrev pub spot : State → List ExactColumn → ExactColumn → List ExactColumn → List Bool → Bool → List Bool →
+    Option (Option Name) → State
 spot s done c more before b after set = bounding s (done ++ c ∷ more) (before ++ b ∷ after) set
 
 set_there : (s : State) (done : List ExactColumn) (c d : ExactColumn) (more : List ExactColumn) (before : List Bool) (b : Bool) (after : List Bool) (card : BoundCard) → length before ≡ length done → bounded b card c ≡ d
@@ -229,7 +250,8 @@ name_goes style s done c d more before b after set word kind says e place used k
 
 -- ---- room
 
-value_room : (style : Style) (word : List ℕ) (name : Name) (q : ℚ) → RoomFor style (bound_card word name q ∷ []) → HasRoom style 8 name × HasRoom style 12 (number_text q)
+value_room : (style : Style) (word : List ℕ) (name : Name) (q : ℚ) → RoomFor style (bound_card word name q ∷ []) →
+    HasRoom style 8 name × HasRoom style 12 (number_text q)
 value_room Free word name q h = (tt, tt)
 value_room Fixed word name q h =
     let a = field_narrow (field_at 1 word) (field_at 2 (codes "BND") ∷ field_at 3 name ∷ field_at 4 (number_text q) ∷ []) h in
@@ -238,7 +260,8 @@ value_room Fixed word name q h =
     let d = field_narrow (field_at 4 (number_text q)) [] c.1 in
     (ltb-false 8 (length name) c.0, ltb-false 12 (length (number_text q)) d.0)
 
-name_room : (style : Style) (word : List ℕ) (name : Name) → RoomFor style (unbound_card word name ∷ []) → HasRoom style 8 name
+name_room : (style : Style) (word : List ℕ) (name : Name) → RoomFor style (unbound_card word name ∷ []) →
+    HasRoom style 8 name
 name_room Free word name h = tt
 name_room Fixed word name h =
     let a = field_narrow (field_at 1 word) (field_at 2 (codes "BND") ∷ field_at 3 name ∷ []) h in
@@ -249,7 +272,8 @@ name_room Fixed word name h =
 -- ---- the cards of one column
 
 -- from the usual bounds to those of the column, whatever was lowered
-abbrev pub IsBounded : Style → State → List ExactColumn → ExactColumn → List ExactColumn → List Bool → List Bool → Option (Option Name) → WrittenCards → Type 0
+abbrev pub IsBounded : Style → State → List ExactColumn → ExactColumn → List ExactColumn → List Bool → List Bool →
+    Option (Option Name) → WrittenCards → Type 0
 IsBounded style s done c more before after set cards =
     (b : Bool) × (q : Option (Option Name)) × Goes style (spot s done (bare_column c) more before false after set) cards (spot s done c more before b after q) × (is_used q (Some (codes "BND")) ≡ true)
 
@@ -268,7 +292,8 @@ not_below u h = not_lt_test u 0ℚ (by (≤ℚ_total 0ℚ u))
     by (inl k) = k
     by (inr k) = absurd (not_from_lt 0ℚ u (lt_if 0ℚ u h) k)
 
-upper_positive : (c : ExactColumn) (u : ℚ) → lt_ℚ 0ℚ u ≡ true → bounded false (SetsUpper (Some u)) c ≡ record c { upper = Some u }
+upper_positive : (c : ExactColumn) (u : ℚ) → lt_ℚ 0ℚ u ≡ true →
+    bounded false (SetsUpper (Some u)) c ≡ record c { upper = Some u }
 upper_positive c u h = rw (not_below u h) refl
 
 pub column_bounded : (style : Style) (s : State) (done : List ExactColumn) (c : ExactColumn) (more : List ExactColumn) (before after : List Bool) (set : Option (Option Name)) → s.part ≡ Some section.Bounds → AreBefore c.name done before
@@ -297,7 +322,8 @@ column_bounded style s done c more before after set e place used word None (Some
     )
 column_bounded style s done c more before after set e place used word (Some l) None hl hu room = by (eq_ℚ l 0ℚ) refl room
   where
-    by : (t : Bool) → eq_ℚ l 0ℚ ≡ t → RoomFor style (cond t [] (bound_card (codes "LO") c.name l ∷ [])) → IsBounded style s done (record c { lower = Some l; upper = None }) more before after set (cond t [] (bound_card (codes "LO") c.name l ∷ []))
+    by : (t : Bool) → eq_ℚ l 0ℚ ≡ t → RoomFor style (cond t [] (bound_card (codes "LO") c.name l ∷ [])) →
+        IsBounded style s done (record c { lower = Some l; upper = None }) more before after set (cond t [] (bound_card (codes "LO") c.name l ∷ []))
     by true z room =
         let same : bare_column c ≡ record c { lower = Some l; upper = None } = ap (λ x. record c { lower = Some x; upper = None }) (sym (eq_if l 0ℚ z)) in (
           false,
@@ -320,7 +346,9 @@ column_bounded style s done c more before after set e place used word (Some l) (
     lows : WrittenCards
     lows = bound_card (codes "LO") c.name l ∷ bound_card (codes "UP") c.name u ∷ []
 
-    two : (t : Bool) → eq_ℚ l 0ℚ && lt_ℚ 0ℚ u ≡ t → RoomFor style (cond t (bound_card (codes "UP") c.name u ∷ []) lows) → IsBounded style s done whole more before after set (cond t (bound_card (codes "UP") c.name u ∷ []) lows)
+    two : (t : Bool) → eq_ℚ l 0ℚ && lt_ℚ 0ℚ u ≡ t →
+        RoomFor style (cond t (bound_card (codes "UP") c.name u ∷ []) lows) →
+        IsBounded style s done whole more before after set (cond t (bound_card (codes "UP") c.name u ∷ []) lows)
     two true z room =
         let p = both (eq_ℚ l 0ℚ) (lt_ℚ 0ℚ u) z in
         let r = value_room style (codes "UP") c.name u room in

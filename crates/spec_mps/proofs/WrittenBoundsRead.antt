@@ -38,17 +38,19 @@ bound_number : (o : Option ℚ) → IsBound o → IfSome o IsNarrow → IfSome o
 bound_number None h k = tt
 bound_number (Some q) h k = record { narrow = k; small = h }
 
--- the columns behind some others get their bounds
+-- the columns after some others get their bounds
 abbrev AreBounded : Style → State → List ExactColumn → List ExactColumn → List Bool → Option (Option Name) → Type 0
 AreBounded style s done rest before set =
     (bs : List Bool) × (q : Option (Option Name)) × Goes style (bounding s (done ++ map bare_column rest) (before ++ map (λ c. false) rest) set) (bounds_of rest) (bounding s (done ++ rest) bs q)
 
-names_next : (done : List ExactColumn) (c : ExactColumn) → column_names done ++ c.name ∷ [] ≡ column_names (done ++ c ∷ [])
+names_next : (done : List ExactColumn) (c : ExactColumn) →
+    column_names done ++ c.name ∷ [] ≡ column_names (done ++ c ∷ [])
 names_next done c = sym (map-append (λ x. x.name) done (c ∷ []))
 
 bounds_go : (style : Style) (height : ℕ) (s : State) (done rest : List ExactColumn) (before : List Bool) (set : Option (Option Name)) → s.part ≡ Some section.Bounds → All (IsKeptColumn height) rest → All IsNarrowColumn rest
     → AreFresh (column_names done) (column_names rest) → length before ≡ length done → is_used set (Some (codes "BND")) ≡ true → RoomFor style (bounds_of rest) → AreBounded style s done rest before set
-bounds_go style height s done [] before set e kept narrow fresh alike used room = (before ++ [], set, goes_none style (bounding s (done ++ []) (before ++ []) set))
+bounds_go style height s done [] before set e kept narrow fresh alike used room =
+    (before ++ [], set, goes_none style (bounding s (done ++ []) (before ++ []) set))
 bounds_go style height s done (c ∷ rest) before set e kept narrow fresh alike used room =
     let k : IsKeptColumn height c = kept 0 c (omega arith) in
     let n : IsNarrowColumn c = narrow 0 c (omega arith) in
@@ -75,7 +77,8 @@ bounds_go style height s done (c ∷ rest) before set e kept narrow fresh alike 
 
 -- ---- the section, which is there where bounds are not the usual ones
 
-usual_is : (c : ExactColumn) (lower upper : Option ℚ) → is_usual lower upper ≡ true → bare_column c ≡ record c { lower = lower; upper = upper }
+usual_is : (c : ExactColumn) (lower upper : Option ℚ) → is_usual lower upper ≡ true →
+    bare_column c ≡ record c { lower = lower; upper = upper }
 usual_is c None upper h = cc
 usual_is c (Some l) None h = ap (λ x. record c { lower = Some x; upper = None }) (sym (eq_if l 0ℚ h))
 usual_is c (Some l) (Some u) h = cc
@@ -90,7 +93,8 @@ none_bounded (c ∷ columns) h =
     let p = or_parts (has_bounds c) (list_any has_bounds columns) h in
     ap (λ x. x ∷ map bare_column columns) (usual_is c c.lower c.upper (not_false (is_usual c.lower c.upper) p.0)) ∙ ap (λ l. c ∷ l) (none_bounded columns p.1)
 
-pub bounds_are_read : (style : Style) (m : Model) → IsModel m → RoomFor style (bounds_cards m) → (s : State) → HasNoBounds s m → (t : State) × Goes style s (bounds_cards m) t × IsWhole t m
+pub bounds_are_read : (style : Style) (m : Model) → IsModel m → RoomFor style (bounds_cards m) → (s : State) →
+    HasNoBounds s m → (t : State) × Goes style s (bounds_cards m) t × IsWhole t m
 unfolding bounds_cards
 bounds_are_read style m kept room s h = by (list_any has_bounds m.columns) refl
   where
@@ -101,7 +105,8 @@ bounds_are_read style m kept room s h = by (list_any has_bounds m.columns) refl
     none_open = rw h.known.none_open h.unbounded.columns
 
     go : RoomFor style (bounds_of m.columns) → AreBounded style one [] m.columns [] None
-    go r = bounds_go style (length m.rows) one [] m.columns [] None refl kept.columns kept.narrow_columns (fresh [] (column_names m.columns) (λ i d a. refl) kept.columns_distinct) refl refl r
+    go r =
+        bounds_go style (length m.rows) one [] m.columns [] None refl kept.columns kept.narrow_columns (fresh [] (column_names m.columns) (λ i d a. refl) kept.columns_distinct) refl refl r
 
     here : (bs : List Bool) (q : Option (Option Name)) → Goes style (bounding one (map bare_column m.columns) (map (λ c. false) m.columns) None) (bounds_of m.columns) (bounding one m.columns bs q)
         → Goes style one (bounds_of m.columns) (bounding one m.columns bs q)
@@ -109,7 +114,8 @@ bounds_are_read style m kept room s h = by (list_any has_bounds m.columns) refl
         subst (λ ls. Goes style (bounding one one.columns ls None) (bounds_of m.columns) (bounding one m.columns bs q)) (sym h.unbounded.none_lowered)
         (subst (λ cs. Goes style (bounding one cs (map (λ c. false) m.columns) None) (bounds_of m.columns) (bounding one m.columns bs q)) (sym none_open) g)
 
-    by : (t : Bool) → list_any has_bounds m.columns ≡ t → (u : State) × Goes style s (cond t (section_card (codes "BOUNDS") ∷ bounds_of m.columns) []) u × IsWhole u m
+    by : (t : Bool) → list_any has_bounds m.columns ≡ t →
+        (u : State) × Goes style s (cond t (section_card (codes "BOUNDS") ∷ bounds_of m.columns) []) u × IsWhole u m
     by true z =
         let there : RoomFor style (section_card (codes "BOUNDS") ∷ bounds_of m.columns) = subst (λ t. RoomFor style (cond t (section_card (codes "BOUNDS") ∷ bounds_of m.columns) [])) z room in
         let g = go (room_back style (section_card (codes "BOUNDS") ∷ []) (bounds_of m.columns) there) in
@@ -138,6 +144,7 @@ is_model : (s : State) (m : Model) → IsWhole s m → model_by s m.objective �
 unfolding model_by
 is_model s m h = let k = h.known in rw (k.name, k.sense, h.offset, h.rows, k.none_open, h.columns) refl
 
-pub end_step : (style : Style) (s : State) (m : Model) → IsWhole s m → step style s (Text (codes "ENDATA")) ≡ Ok (Done m)
+pub end_step : (style : Style) (s : State) (m : Model) → IsWhole s m →
+    step style s (Text (codes "ENDATA")) ≡ Ok (Done m)
 unfolding on_section section_of free_fields fixed_fields is_skipped word_fields words_of finished model_by
 end_step style s m h = heading_step style s (codes "ENDATA") refl refl ∙ rw (h.known.may_follow, h.known.objective) (ap (λ x. Ok (Done x)) (is_model s m h))

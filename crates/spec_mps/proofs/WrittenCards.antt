@@ -30,9 +30,11 @@ pub record IsReadBack (style : Style) (fields : Fields) : Type 0 where
 
 -- all four kinds of data cards
 pub record AreReadBack (style : Style) : Type 0 where
-  pub types : (type name : List ℕ) → IsItem style 2 type → IsItem style 8 name → IsReadBack style (field_at 1 type ∷ field_at 2 name ∷ [])
+  pub types : (type name : List ℕ) → IsItem style 2 type → IsItem style 8 name →
+      IsReadBack style (field_at 1 type ∷ field_at 2 name ∷ [])
   pub numbers : (group name number : List ℕ) → IsItem style 8 group → IsItem style 8 name → IsItem style 12 number
       → IsReadBack style (field_at 2 group ∷ field_at 3 name ∷ field_at 4 number ∷ [])
   pub bounds : (kind name number : List ℕ) → IsItem style 2 kind → IsItem style 8 name → IsItem style 12 number
       → IsReadBack style (field_at 1 kind ∷ field_at 2 (codes "BND") ∷ field_at 3 name ∷ field_at 4 number ∷ [])
-  pub without_number : (kind name : List ℕ) → IsItem style 2 kind → IsItem style 8 name → IsReadBack style (field_at 1 kind ∷ field_at 2 (codes "BND") ∷ field_at 3 name ∷ [])
+  pub without_number : (kind name : List ℕ) → IsItem style 2 kind → IsItem style 8 name →
+      IsReadBack style (field_at 1 kind ∷ field_at 2 (codes "BND") ∷ field_at 3 name ∷ [])

@@ -31,11 +31,13 @@ use Rattle.spec_mps.proofs.WrittenPlaces.{number_is_in}
 
 read_number : (style : Style) (part : Option Section) (group name : Name) (value : ℚ) → part ≡ Some section.Columns → IsItem style 8 group → IsItem style 8 name → IsItem style 12 (number_text value)
     → reading_of style part (line_text style (number_card group name value)) ≡ Is (Given (read_as style (number_fields group name (number_text value))))
-read_number Free part group name value e h k l = ((cards_are_read_back Free).numbers group name (number_text value) h k l).read
+read_number Free part group name value e h k l =
+    ((cards_are_read_back Free).numbers group name (number_text value) h k l).read
 read_number Fixed part group name value e h k l =
     ap (λ p. reading_of Fixed p (line_text Fixed (number_card group name value))) e ∙ ((cards_are_read_back Fixed).numbers group name (number_text value) h k l).read
 
-has_number_shape : (style : Style) (group name text : List ℕ) → shaped style section.Columns (read_as style (number_fields group name text)) ≡ Ok (group ∷ name ∷ text ∷ [])
+has_number_shape : (style : Style) (group name text : List ℕ) →
+    shaped style section.Columns (read_as style (number_fields group name text)) ≡ Ok (group ∷ name ∷ text ∷ [])
 unfolding shaped has_shape
 has_number_shape Free group name text = refl
 has_number_shape Fixed group name text = refl
@@ -48,10 +50,13 @@ no_marker name h = negated (same name (codes "'MARKER'")) (both (is_name name) (
 columns_read : (style : Style) (s t u : State) (group name text : List ℕ) → is_name group ≡ true → is_row_name name ≡ true → opened s group ≡ Ok t → column_pair t name text ≡ Ok u
     → columns_card style s (read_as style (number_fields group name text)) ≡ Ok u
 unfolding columns_card
-columns_read Free s t u group name text g n o p = rw (no_marker name n, has_number_shape Free group name text, g, o, p) refl
-columns_read Fixed s t u group name text g n o p = rw (no_marker name n, has_number_shape Fixed group name text, g, o, p) refl
+columns_read Free s t u group name text g n o p =
+    rw (no_marker name n, has_number_shape Free group name text, g, o, p) refl
+columns_read Fixed s t u group name text g n o p =
+    rw (no_marker name n, has_number_shape Fixed group name text, g, o, p) refl
 
-pair_read : (s u : State) (name : Name) (value : ℚ) (t : Target) → place_of s name ≡ Some (Kept t) → IsNarrow value → enter s (Kept t) value ≡ Ok u → column_pair s name (number_text value) ≡ Ok u
+pair_read : (s u : State) (name : Name) (value : ℚ) (t : Target) → place_of s name ≡ Some (Kept t) → IsNarrow value →
+    enter s (Kept t) value ≡ Ok u → column_pair s name (number_text value) ≡ Ok u
 unfolding column_pair
 pair_read s u name value t p n e = rw (p, number_is_in value n, e) refl
 

@@ -45,7 +45,8 @@ front_kept b bs h = rw h refl
 
 trimmed : (w : List ℕ) (n : ℕ) → IsPrinted w → without_end (without_front (w ++ blanks n)) ≡ w
 trimmed [] n h = ap without_end (front_blank n)
-trimmed (b ∷ w) n h = ap without_end (front_kept b (w ++ blanks n) (no_space b (both (is_printable b) (list_all is_printable w) h).0)) ∙ end_printed (b ∷ w) n h
+trimmed (b ∷ w) n h =
+    ap without_end (front_kept b (w ++ blanks n) (no_space b (both (is_printable b) (list_all is_printable w) h).0)) ∙ end_printed (b ∷ w) n h
 
 -- ---- what stands between two columns
 
@@ -54,14 +55,16 @@ take_blanks zero n rest h = refl
 take_blanks (suc k) zero rest h = absurd (omega arith)
 take_blanks (suc k) (suc n) rest h = ap (λ l. 32 ∷ l) (take_blanks k n rest (omega arith))
 
--- up to so many bytes of a text with blanks behind it
-reach : (w rest : List ℕ) (n k size : ℕ) → size ≡ length w + k → k ≤ n → take size (w ++ (blanks n ++ rest)) ≡ w ++ blanks k
+-- up to this many bytes of a text with trailing blanks
+reach : (w rest : List ℕ) (n k size : ℕ) → size ≡ length w + k → k ≤ n →
+    take size (w ++ (blanks n ++ rest)) ≡ w ++ blanks k
 reach [] rest n k size e h = ap (λ t. take t (blanks n ++ rest)) (omega arith) ∙ take_blanks k n rest h
 reach (b ∷ w) rest n k zero e h = absurd (omega arith)
 reach (b ∷ w) rest n k (suc size) e h = ap (λ l. b ∷ l) (reach w rest n k size (omega arith) h)
 
--- the bytes behind a front
-window : (front cell : List ℕ) (size total : ℕ) → total ≡ length front + size → drop (length front) (take total (front ++ cell)) ≡ take size cell
+-- the bytes after a prefix
+window : (front cell : List ℕ) (size total : ℕ) → total ≡ length front + size →
+    drop (length front) (take total (front ++ cell)) ≡ take size cell
 window [] cell size total e = ap (λ t. take t cell) (omega arith)
 window (b ∷ front) cell size zero e = absurd (omega arith)
 window (b ∷ front) cell size (suc total) e = window front cell size total (omega arith)
@@ -71,7 +74,7 @@ short zero l = omega arith
 short (suc n) [] = omega arith
 short (suc n) (b ∷ l) = let h = short n l in omega arith
 
--- a text in its columns, with blanks behind it
+-- a text in its columns, with blanks after it
 pub column_read : (front w rest : List ℕ) (n first last size : ℕ) → IsPrinted w → length front + 1 ≡ first → length front + size ≡ last → length w ≤ size → size ≤ length w + n
     → in_columns first last (front ++ (w ++ (blanks n ++ rest))) ≡ w
 unfolding in_columns
@@ -90,7 +93,7 @@ column_last front w first last size h a b fits =
     ap (λ d. drop d (take last (front ++ w))) (omega arith) ∙ window front w size last (omega arith) ∙ take_all size w fits ∙ sym (append-nil w) in
     ap (λ l. without_end (without_front l)) e ∙ trimmed w 0 h
 
--- nothing stands behind a line
+-- nothing follows a line
 pub column_past : (line : List ℕ) (first last : ℕ) → length line < first → in_columns first last line ≡ []
 unfolding in_columns
 column_past line first last h =
@@ -110,9 +113,11 @@ never true true = refl
 never true false = refl
 never false t = refl
 
-pub placed_blanks : (column n : ℕ) (rest : List ℕ) → misplaced_from column (blanks n ++ rest) ≡ misplaced_from (column + n) rest
+pub placed_blanks : (column n : ℕ) (rest : List ℕ) →
+    misplaced_from column (blanks n ++ rest) ≡ misplaced_from (column + n) rest
 placed_blanks column zero rest = ap (λ k. misplaced_from k rest) (omega arith)
-placed_blanks column (suc n) rest = rw (never (nat_le column 62) (is_beside column)) (placed_blanks (column + 1) n rest ∙ ap (λ k. misplaced_from k rest) (omega arith))
+placed_blanks column (suc n) rest =
+    rw (never (nat_le column 62) (is_beside column)) (placed_blanks (column + 1) n rest ∙ ap (λ k. misplaced_from k rest) (omega arith))
 
 -- columns of fields alone
 abbrev pub HasNoneBeside : ℕ → ℕ → Type 0
@@ -125,7 +130,8 @@ never_beside false = refl
 text_byte : (column b : ℕ) → is_printable b ≡ true → is_beside column ≡ false → is_misplaced column b ≡ false
 text_byte column b h none = rw (no_tab b h, none) (never_beside (nat_le column 62))
 
-pub placed_text : (column size : ℕ) (w rest : List ℕ) → IsPrinted w → length w ≤ size → HasNoneBeside column size → misplaced_from column (w ++ rest) ≡ misplaced_from (column + length w) rest
+pub placed_text : (column size : ℕ) (w rest : List ℕ) → IsPrinted w → length w ≤ size → HasNoneBeside column size →
+    misplaced_from column (w ++ rest) ≡ misplaced_from (column + length w) rest
 placed_text column size [] rest h fits none = ap (λ k. misplaced_from k rest) (omega arith)
 placed_text column zero (b ∷ w) rest h fits none = absurd (omega arith)
 placed_text column (suc size) (b ∷ w) rest h fits none =

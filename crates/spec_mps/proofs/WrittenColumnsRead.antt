@@ -1,4 +1,4 @@
--- The whole section COLUMNS of a written text, and the heading behind it.
+-- The whole section COLUMNS of a written text, and the heading after it.
 use Rattle.std.proofs.Common.{◌≡◌, ◌≢◌, ℕ, suc, ◌+◌, ◌<◌, ◌≤◌, ◌||◌, Bool, true, false, Option, Some, None, Ok, List, [], ◌∷◌, ◌++◌, length, map, refl, sym, ap, ◌∙◌, subst, subst₂, append_assoc, length-append, arith}
 use Rattle.std.specs.Prelude.{codes}
 use Rattle.std.specs.List.{All, list_any, flat_map}
@@ -29,7 +29,7 @@ use Rattle.spec_mps.proofs.WrittenEntries.{Ascend, entries_ascend, AreBelow, Are
 
 -- ---- states in COLUMNS
 
--- behind the rows of a model
+-- after the rows of a model
 record IsWithin (m : Model) (s : State) : Type 0 where
   part : s.part ≡ Some section.Columns
   rows : HasRowsOf m s
@@ -39,8 +39,10 @@ record IsWithin (m : Model) (s : State) : Type 0 where
 abbrev at : State → List ExactColumn → Option ExactColumn → List Bool → List Target → State
 at s columns column lowered paired = record s { columns = columns; column = column; lowered = lowered; paired = paired }
 
-rows_at : (m : Model) (s : State) (columns : List ExactColumn) (column : Option ExactColumn) (lowered : List Bool) (paired : List Target) → HasRowsOf m s → HasRowsOf m (at s columns column lowered paired)
-rows_at m s columns column lowered paired h = record { objective = h.objective; none_dropped = h.none_dropped; rows = h.rows }
+rows_at : (m : Model) (s : State) (columns : List ExactColumn) (column : Option ExactColumn) (lowered : List Bool) (paired : List Target) →
+    HasRowsOf m s → HasRowsOf m (at s columns column lowered paired)
+rows_at m s columns column lowered paired h =
+    record { objective = h.objective; none_dropped = h.none_dropped; rows = h.rows }
 
 -- ---- the entries of a column
 
@@ -130,7 +132,8 @@ column_goes style m s c columns column lowered paired kept within k n closed abs
 abbrev names_of_columns : List ExactColumn → List Name
 names_of_columns columns = map (λ c. c.name) columns
 
-any_named : (columns : List ExactColumn) (name : Name) → list_any (λ c. same c.name name) columns ≡ list_any (λ n. same n name) (names_of_columns columns)
+any_named : (columns : List ExactColumn) (name : Name) →
+    list_any (λ c. same c.name name) columns ≡ list_any (λ n. same n name) (names_of_columns columns)
 any_named [] name = refl
 any_named (c ∷ columns) name = ap (λ t. same c.name name || t) (any_named columns name)
 
@@ -138,7 +141,8 @@ last_part : (s t : Bool) → s || t ≡ false → t ≡ false
 last_part true t e = cc
 last_part false t e = e
 
-not_open : (columns : List ExactColumn) (column : Option ExactColumn) (name : Name) → list_any (λ c. same c.name name) (columns_with columns column) ≡ false → is_open column name ≡ false
+not_open : (columns : List ExactColumn) (column : Option ExactColumn) (name : Name) →
+    list_any (λ c. same c.name name) (columns_with columns column) ≡ false → is_open column name ≡ false
 not_open columns None name h = refl
 not_open columns (Some c) name h =
     by (same c.name name) (last_part (list_any (λ d. same d.name name) columns) (same c.name name || false) (sym (list_any-append (λ d. same d.name name) columns (c ∷ [])) ∙ h))

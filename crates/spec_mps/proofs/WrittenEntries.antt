@@ -23,7 +23,8 @@ abbrev pub Ascend : ℕ → ℕ → List (ℕ × ℚ) → Type 0
 Ascend n low [] = Unit {0}
 Ascend n low (e ∷ es) = IsNext n low e × Ascend n (suc e.0) es
 
-ascend_from : (n low : ℕ) (es : List (ℕ × ℚ)) → All (λ e. low ≤ e.0) es → All (λ e. e.0 < n) es → AllPairs (λ d e. d.0 < e.0) es → All (λ e. e.1 ≢ 0ℚ) es → All (λ e. IsNarrow e.1) es → Ascend n low es
+ascend_from : (n low : ℕ) (es : List (ℕ × ℚ)) → All (λ e. low ≤ e.0) es → All (λ e. e.0 < n) es →
+    AllPairs (λ d e. d.0 < e.0) es → All (λ e. e.1 ≢ 0ℚ) es → All (λ e. IsNarrow e.1) es → Ascend n low es
 ascend_from n low [] above inside ascending not_zero narrow = tt
 ascend_from n low (e ∷ es) above inside ascending not_zero narrow = (
   record {
@@ -39,7 +40,7 @@ ascend_from n low (e ∷ es) above inside ascending not_zero narrow = (
 pub entries_ascend : (n : ℕ) (es : List (ℕ × ℚ)) → AreEntries n es → All (λ e. IsNarrow e.1) es → Ascend n 0 es
 entries_ascend n es h narrow = ascend_from n 0 es (λ i d l. omega arith) h.inside h.ascending h.not_zero narrow
 
--- ---- behind smaller ones
+-- ---- after smaller ones
 
 -- the entries stand at rows below this one
 abbrev pub AreBelow : ℕ → List (ℕ × ℚ) → Type 0
@@ -93,5 +94,7 @@ differs v h = by (eq_ℚ v 0ℚ) refl
     by false e = e
 
 -- one more entry
-pub entry_put : (c : ExactColumn) (es : List (ℕ × ℚ)) (e : ℕ × ℚ) → e.1 ≢ 0ℚ → AreBelow e.0 es → with_number (record c { entries = es }) (Row e.0) e.1 ≡ record c { entries = es ++ e ∷ [] }
-entry_put c es e z h = rw (differs e.1 z) (ap (λ (l : List (ℕ × ℚ)). record c { entries = l }) (put_behind e.0 e.1 es h))
+pub entry_put : (c : ExactColumn) (es : List (ℕ × ℚ)) (e : ℕ × ℚ) → e.1 ≢ 0ℚ → AreBelow e.0 es →
+    with_number (record c { entries = es }) (Row e.0) e.1 ≡ record c { entries = es ++ e ∷ [] }
+entry_put c es e z h =
+    rw (differs e.1 z) (ap (λ (l : List (ℕ × ℚ)). record c { entries = l }) (put_behind e.0 e.1 es h))

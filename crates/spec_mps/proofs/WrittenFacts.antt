@@ -1,4 +1,4 @@
--- What is known before each section behind COLUMNS of a written text, and at its end.
+-- What is known before each section after COLUMNS of a written text, and at its end.
 use Rattle.std.proofs.Common.{◌≡◌, true, false, Some, None, [], map}
 use Rattle.spec_exact.specs.Fraction.{0ℚ}
 use Rattle.spec_model.specs.Model.{Model, ExactRow}
@@ -26,7 +26,7 @@ pub record IsUnbounded (s : State) (m : Model) : Type 0 where
   pub columns : s.columns ≡ map bare_column m.columns
   pub none_lowered : s.lowered ≡ map (λ c. false) m.columns
 
--- behind the heading RHS
+-- after the heading RHS
 pub record HasNoSides (s : State) (m : Model) : Type 0 where
   pub known : HasStart s m
   pub unbounded : IsUnbounded s m

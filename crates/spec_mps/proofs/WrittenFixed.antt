@@ -18,11 +18,13 @@ use Rattle.spec_mps.proofs.WrittenColumns.{IsPrinted, blanks, HasNoneBeside, col
 
 -- ---- lines that grow at their end
 
-pub within : (first last : ℕ) (line more : List ℕ) → last ≤ length line → in_columns first last (line ++ more) ≡ in_columns first last line
+pub within : (first last : ℕ) (line more : List ℕ) → last ≤ length line →
+    in_columns first last (line ++ more) ≡ in_columns first last line
 unfolding in_columns
 within first last line more h = rw (take-append-le last line more h) refl
 
-pub within_fields : (first last : ℕ) (line : List ℕ) (fs : Fields) → last ≤ length line → in_columns first last (with_fields Fixed line fs) ≡ in_columns first last line
+pub within_fields : (first last : ℕ) (line : List ℕ) (fs : Fields) → last ≤ length line →
+    in_columns first last (with_fields Fixed line fs) ≡ in_columns first last line
 within_fields first last line [] h = refl
 within_fields first last line (f ∷ fs) h =
     let n : ℕ = first_column f.number - 1 - length line in
@@ -30,13 +32,13 @@ within_fields first last line (f ∷ fs) h =
     let b = length-append (line ++ blanks n) f.text in
     within_fields first last ((line ++ blanks n) ++ f.text) fs (omega arith) ∙ within first last (line ++ blanks n) f.text (omega arith) ∙ within first last line (blanks n) h
 
--- a text with blanks behind it, in its columns
+-- a text with blanks after it, in its columns
 pub cell_read : (front w : List ℕ) (n first last size : ℕ) → IsPrinted w → length front + 1 ≡ first → length front + size ≡ last → length w ≤ size → size ≤ length w + n
     → in_columns first last ((front ++ w) ++ blanks n) ≡ w
 cell_read front w n first last size h a b fits far =
     ap (in_columns first last) (append_assoc front w (blanks n) ∙ ap (λ l. front ++ (w ++ l)) (sym (append-nil (blanks n)))) ∙ column_read front w [] n first last size h a b fits far
 
--- no byte of a line is misplaced, whatever stands behind it
+-- no byte of a line is misplaced, whatever follows it
 abbrev pub IsPlaced : List ℕ → Type 0
 IsPlaced line = (rest : List ℕ) → misplaced_from 1 (line ++ rest) ≡ misplaced_from (length line + 1) rest
 
@@ -49,7 +51,8 @@ blanks_placed line n h rest =
     let b : length (blanks n) ≡ n = length-replicate n 32 in
     ap (misplaced_from 1) (append_assoc line (blanks n) rest) ∙ h (blanks n ++ rest) ∙ placed_blanks (length line + 1) n rest ∙ ap (λ k. misplaced_from k rest) (omega arith)
 
-text_placed : (line w : List ℕ) (column size : ℕ) → IsPlaced line → length line + 1 ≡ column → IsPrinted w → length w ≤ size → HasNoneBeside column size → IsPlaced (line ++ w)
+text_placed : (line w : List ℕ) (column size : ℕ) → IsPlaced line → length line + 1 ≡ column → IsPrinted w →
+    length w ≤ size → HasNoneBeside column size → IsPlaced (line ++ w)
 text_placed line w column size h e p fits none rest =
     let a = length-append line w in
     ap (misplaced_from 1) (append_assoc line w rest) ∙ h (w ++ rest) ∙ ap (λ k. misplaced_from k (w ++ rest)) e ∙ placed_text column size w rest p fits none ∙ ap (λ k. misplaced_from k rest) (omega arith)
@@ -144,7 +147,8 @@ plain_blanks : (n : ℕ) → list_all is_plain (blanks n) ≡ true
 plain_blanks zero = refl
 plain_blanks (suc n) = plain_blanks n
 
-plain_more : (line more : List ℕ) → list_all is_plain line ≡ true → list_all is_plain more ≡ true → list_all is_plain (line ++ more) ≡ true
+plain_more : (line more : List ℕ) → list_all is_plain line ≡ true → list_all is_plain more ≡ true →
+    list_all is_plain (line ++ more) ≡ true
 plain_more line more h k = list_all-append is_plain line more ∙ rw (h, k) refl
 
 -- a line without misplaced bytes is read by its columns
@@ -159,13 +163,13 @@ a_field n (b ∷ w) h = refl
 
 -- ---- lines of cells
 
--- so many bytes, in which no byte is misplaced
+-- this many bytes, of which none is misplaced
 pub record IsFront (line : List ℕ) (size : ℕ) : Type 0 where
   pub long : length line ≡ size
   pub plain : list_all is_plain line ≡ true
   pub placed : IsPlaced line
 
--- a text behind a line, with blanks up to so many bytes
+-- a text after a line, with blanks up to this many bytes
 abbrev pub cell : ℕ → List ℕ → List ℕ → List ℕ
 cell next line w = (line ++ w) ++ blanks (next - length (line ++ w))
 
@@ -174,7 +178,8 @@ pub record IsCell (column size : ℕ) (w : List ℕ) : Type 0 where
   pub fits : length w ≤ size
   pub none : HasNoneBeside column size
 
-pub cell_front : (line w : List ℕ) (at column size next : ℕ) → IsFront line at → at + 1 ≡ column → IsCell column size w → at + size ≤ next → IsFront (cell next line w) next
+pub cell_front : (line w : List ℕ) (at column size next : ℕ) → IsFront line at → at + 1 ≡ column →
+    IsCell column size w → at + size ≤ next → IsFront (cell next line w) next
 cell_front line w at column size next h e c room =
     let a : length (line ++ w) ≡ length line + length w = length-append line w in
     let n : ℕ = next - length (line ++ w) in
@@ -184,31 +189,36 @@ cell_front line w at column size next h e c room =
     let f = c.fits in
     record {
       long = omega arith;
-      plain = plain_more (line ++ w) (blanks n) (plain_more line w h.plain (plain_text w c.word.printable)) (plain_blanks n);
-      placed = blanks_placed (line ++ w) n (text_placed line w column size h.placed (ap (λ k. k + 1) h.long ∙ e) c.word.printable c.fits c.none);
+      plain =
+          plain_more (line ++ w) (blanks n) (plain_more line w h.plain (plain_text w c.word.printable)) (plain_blanks n);
+      placed =
+          blanks_placed (line ++ w) n (text_placed line w column size h.placed (ap (λ k. k + 1) h.long ∙ e) c.word.printable c.fits c.none);
     }
 
 -- what stands in the cell, and all that stood before it
-pub cell_is : (line w : List ℕ) (at column last size next : ℕ) → IsFront line at → at + 1 ≡ column → at + size ≡ last → IsCell column size w → at + size ≤ next → in_columns column last (cell next line w) ≡ w
+pub cell_is : (line w : List ℕ) (at column last size next : ℕ) → IsFront line at → at + 1 ≡ column → at + size ≡ last →
+    IsCell column size w → at + size ≤ next → in_columns column last (cell next line w) ≡ w
 cell_is line w at column last size next h e f c room =
     let a : length (line ++ w) ≡ length line + length w = length-append line w in
     let l = h.long in
     let fits = c.fits in
     cell_read line w (next - length (line ++ w)) column last size c.word.printable (omega arith) (omega arith) c.fits (omega arith)
 
-pub cell_keeps : (line w : List ℕ) (first last next : ℕ) → last ≤ length line → in_columns first last (cell next line w) ≡ in_columns first last line
+pub cell_keeps : (line w : List ℕ) (first last next : ℕ) → last ≤ length line →
+    in_columns first last (cell next line w) ≡ in_columns first last line
 cell_keeps line w first last next h =
     let a : length (line ++ w) ≡ length line + length w = length-append line w in
     within first last (line ++ w) (blanks (next - length (line ++ w))) (omega arith) ∙ within first last line w h
 
--- a last text behind a line
+-- a last text after a line
 pub record IsEnded (line : List ℕ) (limit : ℕ) : Type 0 where
   pub short : length line ≤ limit
   pub plain : list_all is_plain line ≡ true
   pub word : list_all is_blank line ≡ false
   pub placed : misplaced_from 1 line ≡ None
 
-pub ended : (line w : List ℕ) (at column size limit : ℕ) → IsFront line at → at + 1 ≡ column → IsCell column size w → at + size ≡ limit → IsEnded (line ++ w) limit
+pub ended : (line w : List ℕ) (at column size limit : ℕ) → IsFront line at → at + 1 ≡ column → IsCell column size w →
+    at + size ≡ limit → IsEnded (line ++ w) limit
 ended line w at column size limit h e c room =
     let a : length (line ++ w) ≡ length line + length w = length-append line w in
     let l = h.long in
@@ -217,10 +227,12 @@ ended line w at column size limit h e c room =
       short = omega arith;
       plain = plain_more line w h.plain (plain_text w c.word.printable);
       word = with_word line w c.word;
-      placed = whole_placed (line ++ w) (text_placed line w column size h.placed (ap (λ k. k + 1) h.long ∙ e) c.word.printable c.fits c.none);
+      placed =
+          whole_placed (line ++ w) (text_placed line w column size h.placed (ap (λ k. k + 1) h.long ∙ e) c.word.printable c.fits c.none);
     }
 
-pub last_is : (line w : List ℕ) (at column last size : ℕ) → IsFront line at → at + 1 ≡ column → at + size ≡ last → IsCell column size w → in_columns column last (line ++ w) ≡ w
+pub last_is : (line w : List ℕ) (at column last size : ℕ) → IsFront line at → at + 1 ≡ column → at + size ≡ last →
+    IsCell column size w → in_columns column last (line ++ w) ≡ w
 last_is line w at column last size h e f c =
     let l = h.long in
     column_last line w column last size c.word.printable (omega arith) (omega arith) c.fits

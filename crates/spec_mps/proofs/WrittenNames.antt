@@ -44,10 +44,12 @@ differs a b h = by (same a b) refl
     by true e = absurd (h ((same_is_equal a b).0 e))
     by false e = e
 
-pub absent_next : (name : Name) (seen : List Name) (last : Name) → IsAbsent name seen → last ≢ name → IsAbsent name (seen ++ last ∷ [])
+pub absent_next : (name : Name) (seen : List Name) (last : Name) → IsAbsent name seen → last ≢ name →
+    IsAbsent name (seen ++ last ∷ [])
 absent_next name seen last h k = list_any-append (λ n. same n name) seen (last ∷ []) ∙ rw (h, differs last name k) refl
 
-pub fresh : (seen names : List Name) → All (λ n. IsAbsent n seen) names → AllPairs (λ x y. x ≢ y) names → AreFresh seen names
+pub fresh : (seen names : List Name) → All (λ n. IsAbsent n seen) names → AllPairs (λ x y. x ≢ y) names →
+    AreFresh seen names
 fresh seen [] h k = tt
 fresh seen (name ∷ names) h k = (
   h 0 name (omega arith),
@@ -55,16 +57,19 @@ fresh seen (name ∷ names) h k = (
       (λ i j d a b. k (suc i) (suc j) d (omega arith) (omega arith)),
 )
 
-pub fresh_names : (first : Name) (names : List Name) → AllPairs (λ x y. x ≢ y) (first ∷ names) → AreFresh (first ∷ []) names
+pub fresh_names : (first : Name) (names : List Name) → AllPairs (λ x y. x ≢ y) (first ∷ names) →
+    AreFresh (first ∷ []) names
 fresh_names first names k = (fresh [] (first ∷ names) (λ i d a. refl) k).1
 
 -- ---- room in fixed form
 
-cond_none : (t : Bool) (f : Field) (o : Option Field) → option_map (λ g. g.text) (cond t (Some f) o) ≡ None → (t ≡ false) × (option_map (λ g. g.text) o ≡ None)
+cond_none : (t : Bool) (f : Field) (o : Option Field) → option_map (λ g. g.text) (cond t (Some f) o) ≡ None →
+    (t ≡ false) × (option_map (λ g. g.text) o ≡ None)
 cond_none true f o h = cc
 cond_none false f o h = (refl, h)
 
-pub field_narrow : (f : Field) (fs : Fields) → option_map (λ g. g.text) (find is_wide (f ∷ fs)) ≡ None → (is_wide f ≡ false) × (option_map (λ g. g.text) (find is_wide fs) ≡ None)
+pub field_narrow : (f : Field) (fs : Fields) → option_map (λ g. g.text) (find is_wide (f ∷ fs)) ≡ None →
+    (is_wide f ≡ false) × (option_map (λ g. g.text) (find is_wide fs) ≡ None)
 field_narrow f fs h = cond_none (is_wide f) f (find is_wide fs) h
 
 front_none : (x y : Option Field) → option_map (λ g. g.text) (option_or x y) ≡ None → option_map (λ g. g.text) x ≡ None
@@ -75,14 +80,18 @@ back_none : (x y : Option Field) → option_map (λ g. g.text) (option_or x y) �
 back_none None y h = h
 back_none (Some f) y h = cc
 
-in_both : (cs ds : WrittenCards) → first_wide (cs ++ ds) ≡ option_map (λ g. g.text) (option_or (find is_wide (flat_map data_fields cs)) (find is_wide (flat_map data_fields ds)))
-in_both cs ds = ap (option_map (λ g. g.text)) (ap (find is_wide) (flat_map-append data_fields cs ds) ∙ find-append is_wide (flat_map data_fields cs) (flat_map data_fields ds))
+in_both : (cs ds : WrittenCards) →
+    first_wide (cs ++ ds) ≡ option_map (λ g. g.text) (option_or (find is_wide (flat_map data_fields cs)) (find is_wide (flat_map data_fields ds)))
+in_both cs ds =
+    ap (option_map (λ g. g.text)) (ap (find is_wide) (flat_map-append data_fields cs ds) ∙ find-append is_wide (flat_map data_fields cs) (flat_map data_fields ds))
 
 pub front_narrow : (cs ds : WrittenCards) → first_wide (cs ++ ds) ≡ None → first_wide cs ≡ None
-front_narrow cs ds h = front_none (find is_wide (flat_map data_fields cs)) (find is_wide (flat_map data_fields ds)) (sym (in_both cs ds) ∙ h)
+front_narrow cs ds h =
+    front_none (find is_wide (flat_map data_fields cs)) (find is_wide (flat_map data_fields ds)) (sym (in_both cs ds) ∙ h)
 
 pub back_narrow : (cs ds : WrittenCards) → first_wide (cs ++ ds) ≡ None → first_wide ds ≡ None
-back_narrow cs ds h = back_none (find is_wide (flat_map data_fields cs)) (find is_wide (flat_map data_fields ds)) (sym (in_both cs ds) ∙ h)
+back_narrow cs ds h =
+    back_none (find is_wide (flat_map data_fields cs)) (find is_wide (flat_map data_fields ds)) (sym (in_both cs ds) ∙ h)
 
 -- ---- rows
 
@@ -90,7 +99,8 @@ abbrev pub RoomForRows : Style → List ExactRow → Type 0
 RoomForRows Free rows = Unit {0}
 RoomForRows Fixed rows = first_wide (map row_card rows) ≡ None
 
-pub rows_known : (style : Style) (rows : List ExactRow) → All (λ r. IsTrue (is_row_name r.name)) rows → RoomForRows style rows → AreRows style rows
+pub rows_known : (style : Style) (rows : List ExactRow) → All (λ r. IsTrue (is_row_name r.name)) rows →
+    RoomForRows style rows → AreRows style rows
 rows_known style [] h room = tt
 rows_known Free (r ∷ rows) h room =
     let name : is_row_name r.name ≡ true = h 0 r (omega arith) in

@@ -15,23 +15,29 @@ use Rattle.spec_mps.proofs.Steps.{both}
 use Rattle.spec_mps.proofs.DigitLemmas.{digit_is, spelled_decimal, last_are_digits}
 
 printed_digit : (b : ℕ) → is_ascii_digit b ≡ true → is_printable b ≡ true
-printed_digit b h = let p = digit_is b h in let low = p.low in let high = p.high in rw (le-leb 33 b (omega arith), le-leb b 126 (omega arith)) refl
+printed_digit b h =
+    let p = digit_is b h in let low = p.low in let high = p.high in
+    rw (le-leb 33 b (omega arith), le-leb b 126 (omega arith)) refl
 
 printed : (ds : List ℕ) → list_all is_ascii_digit ds ≡ true → list_all is_printable ds ≡ true
 printed [] h = refl
-printed (d ∷ ds) h = let p = both (is_ascii_digit d) (list_all is_ascii_digit ds) h in rw (printed_digit d p.0, printed ds p.1) refl
+printed (d ∷ ds) h =
+    let p = both (is_ascii_digit d) (list_all is_ascii_digit ds) h in rw (printed_digit d p.0, printed ds p.1) refl
 
 has_some : (ds : List ℕ) → 0 < length ds → has_bytes ds ≡ true
 has_some [] h = absurd (omega arith)
 has_some (d ∷ ds) h = refl
 
 decimal_word : (n : ℕ) → n ≤ widest → IsWord (decimal n)
-decimal_word n h = let s = spelled_decimal n h in record { some = has_some (decimal n) s.some; printable = printed (decimal n) s.digits }
+decimal_word n h =
+    let s = spelled_decimal n h in
+    record { some = has_some (decimal n) s.some; printable = printed (decimal n) s.digits }
 
--- more that is printed behind a word
+-- more that is printed after a word
 longer : (w more : List ℕ) → IsWord w → list_all is_printable more ≡ true → IsWord (w ++ more)
 longer [] more h k = cc
-longer (b ∷ w) more h k = record { some = refl; printable = list_all-append is_printable (b ∷ w) more ∙ rw (h.printable, k) refl }
+longer (b ∷ w) more h k =
+    record { some = refl; printable = list_all-append is_printable (b ∷ w) more ∙ rw (h.printable, k) refl }
 
 quotient_word : (n den : ℕ) → n ≤ widest → den ≤ widest → IsWord (quotient_text n den)
 unfolding quotient_text
@@ -48,7 +54,8 @@ unfolding placed
 placed_word n den None h k = quotient_word n den h k
 placed_word n den (Some d) h k = by (nat_le (n * (10 ^ d / den)) widest) refl
   where
-    by : (t : Bool) → nat_le (n * (10 ^ d / den)) widest ≡ t → IsWord (cond t (pointed d (n * (10 ^ d / den))) (quotient_text n den))
+    by : (t : Bool) → nat_le (n * (10 ^ d / den)) widest ≡ t →
+        IsWord (cond t (pointed d (n * (10 ^ d / den))) (quotient_text n den))
     by true e = pointed_word d (n * (10 ^ d / den)) (leb-true (n * (10 ^ d / den)) widest e)
     by false e = quotient_word n den h k
 

@@ -36,7 +36,8 @@ has_numbers section.Ranges = true
 has_numbers section.Bounds = true
 has_numbers section.End = false
 
-reading_is : (style : Style) (part : Section) (line : List ℕ) → has_numbers part ≡ true → reading_of style (Some part) line ≡ reading_in style line
+reading_is : (style : Style) (part : Section) (line : List ℕ) → has_numbers part ≡ true →
+    reading_of style (Some part) line ≡ reading_in style line
 reading_is Free part line h = refl
 reading_is Fixed section.Name line h = cc
 reading_is Fixed section.Sense line h = cc
@@ -55,7 +56,8 @@ given_step style s part line fields e h k =
 
 -- ---- numbers
 
-pub number_item : (style : Style) (q : ℚ) → IsNarrow q → HasRoom style 12 (number_text q) → IsItem style 12 (number_text q)
+pub number_item : (style : Style) (q : ℚ) → IsNarrow q → HasRoom style 12 (number_text q) →
+    IsItem style 12 (number_text q)
 number_item style q h room = record { word = number_word q h.top h.bottom; room = room }
 
 -- a card that says a number of a row: its name and the number have room, and are read as they are
@@ -64,7 +66,8 @@ pub record IsNumberCard (style : Style) (name : Name) (q : ℚ) : Type 0 where
   pub number : IsItem style 12 (number_text q)
   pub reads : number_in (number_text q) ≡ Ok q
 
-pub number_card_of : (style : Style) (group name : Name) (q : ℚ) → IsWord name → IsNarrow q → RoomFor style (number_card group name q ∷ []) → IsNumberCard style name q
+pub number_card_of : (style : Style) (group name : Name) (q : ℚ) → IsWord name → IsNarrow q →
+    RoomFor style (number_card group name q ∷ []) → IsNumberCard style name q
 number_card_of style group name q word h room =
     let r = card_room style group name q [] room in
     record { row = record { word = word; room = r.name }; number = number_item style q h r.number; reads = number_is_in q h }

@@ -39,22 +39,26 @@ not_same a b h = by (same a b) refl
     by false e = e
 
 -- names of rows, by their places
-names_differ : (rows : List ExactRow) (first : Name) (i : ℕ) → AllPairs (λ x y. x ≢ y) (first ∷ names_of rows) → i < length rows → first ≢ (get_or rows i no_row).name
+names_differ : (rows : List ExactRow) (first : Name) (i : ℕ) → AllPairs (λ x y. x ≢ y) (first ∷ names_of rows) →
+    i < length rows → first ≢ (get_or rows i no_row).name
 names_differ rows first i h l e =
     h 0 (suc i) [] (omega arith) (omega (arith, length-map rows (λ (r : ExactRow). r.name)))
     (e ∙ sym (get_or-map (λ (r : ExactRow). r.name) rows i no_row))
 
-tail_pairs : (first : Name) (names : List Name) → AllPairs (λ x y. x ≢ y) (first ∷ names) → AllPairs (λ x y. x ≢ y) names
+tail_pairs : (first : Name) (names : List Name) → AllPairs (λ x y. x ≢ y) (first ∷ names) →
+    AllPairs (λ x y. x ≢ y) names
 tail_pairs first names h = λ i j d a b. h (suc i) (suc j) d (omega arith) (omega arith)
 
-passed : (rows : List ExactRow) (i : ℕ) → AllPairs (λ x y. x ≢ y) (names_of rows) → i < length rows → position_or_len (λ r. same r.name (get_or rows i no_row).name) (map bare_row rows) ≡ i
+passed : (rows : List ExactRow) (i : ℕ) → AllPairs (λ x y. x ≢ y) (names_of rows) → i < length rows →
+    position_or_len (λ r. same r.name (get_or rows i no_row).name) (map bare_row rows) ≡ i
 passed [] i h l = absurd (omega arith)
 passed (r ∷ rows) zero h l = rw (same_itself r.name) refl
 passed (r ∷ rows) (suc i) h l =
     let less : i < length rows = omega arith in
     rw (not_same r.name (get_or rows i no_row).name (names_differ rows r.name i h less), passed rows i (tail_pairs r.name (names_of rows) h) less) (omega arith)
 
-position_of : (rows : List ExactRow) (i : ℕ) → AllPairs (λ x y. x ≢ y) (names_of rows) → i < length rows → position (λ r. same r.name (get_or rows i no_row).name) (map bare_row rows) ≡ Some i
+position_of : (rows : List ExactRow) (i : ℕ) → AllPairs (λ x y. x ≢ y) (names_of rows) → i < length rows →
+    position (λ r. same r.name (get_or rows i no_row).name) (map bare_row rows) ≡ Some i
 position_of rows i h l = rw (passed rows i h l, length-map rows bare_row, lt-ltb i (length rows) l) refl
 
 -- ---- what names stand for
@@ -69,7 +73,8 @@ pub objective_place : (m : Model) (s : State) → HasRowsOf m s → place_of s m
 unfolding place_of
 objective_place m s h = rw (h.objective, same_itself m.objective) refl
 
-pub row_place : (m : Model) (s : State) (i : ℕ) → IsModel m → HasRowsOf m s → i < length m.rows → place_of s (row m i).name ≡ Some (Kept (Row i))
+pub row_place : (m : Model) (s : State) (i : ℕ) → IsModel m → HasRowsOf m s → i < length m.rows →
+    place_of s (row m i).name ≡ Some (Kept (Row i))
 unfolding place_of
 row_place m s i kept h l =
     rw (h.objective, not_same m.objective (row m i).name (names_differ m.rows m.objective i kept.rows_distinct l), h.none_dropped, h.rows, position_of m.rows i (tail_pairs m.objective (names_of m.rows) kept.rows_distinct) l) refl

@@ -33,7 +33,8 @@ use Rattle.spec_mps.proofs.WrittenSides.{IsUnpaired, unpaired_next, unpaired_lat
 
 -- ---- one card
 
-range_shape : (style : Style) (name : Name) (text : List ℕ) → shaped style section.Ranges (read_as style (number_fields (codes "RNG") name text)) ≡ Ok (codes "RNG" ∷ name ∷ text ∷ [])
+range_shape : (style : Style) (name : Name) (text : List ℕ) →
+    shaped style section.Ranges (read_as style (number_fields (codes "RNG") name text)) ≡ Ok (codes "RNG" ∷ name ∷ text ∷ [])
 unfolding shaped has_shape
 range_shape Free name text = refl
 range_shape Fixed name text = refl
@@ -45,7 +46,8 @@ group_item Fixed = record { word = record { some = refl; printable = refl }; roo
 range_card_read : (style : Style) (s t : State) (name : Name) (text : List ℕ) (i : ℕ) (v : ℚ) → is_used s.set (Some (codes "RNG")) ≡ true → place_of (record s { set = Some (Some (codes "RNG")) }) name ≡ Some (Kept (Row i)) → number_in text ≡ Ok v
     → put_range (record s { set = Some (Some (codes "RNG")) }) (Some i) v ≡ Ok t → ranges_card style s (read_as style (number_fields (codes "RNG") name text)) ≡ Ok t
 unfolding ranges_card ranges_by set_and_pairs range_pair
-range_card_read style s t name text i v used there reads put = rw (range_shape style name text, used, there, reads, put) refl
+range_card_read style s t name text i v used there reads put =
+    rw (range_shape style name text, used, there, reads, put) refl
 
 range_goes : (style : Style) (s t : State) (name : Name) (v : ℚ) (i : ℕ) → s.part ≡ Some section.Ranges → IsNumberCard style name v → is_used s.set (Some (codes "RNG")) ≡ true
     → place_of (record s { set = Some (Some (codes "RNG")) }) name ≡ Some (Kept (Row i)) → put_range (record s { set = Some (Some (codes "RNG")) }) (Some i) v ≡ Ok t → Goes style s (number_card (codes "RNG") name v ∷ []) t
@@ -57,7 +59,8 @@ range_goes style s t name v i e card used there put =
 
 -- ---- the rows
 
-range_put : (s : State) (n : ℕ) (v : ℚ) → is_among (Row n) s.paired ≡ false → put_range s (Some n) v ≡ Ok (record s { rows = changed_at n (λ r. record r { range = Some v }) s.rows; paired = Row n ∷ s.paired })
+range_put : (s : State) (n : ℕ) (v : ℚ) → is_among (Row n) s.paired ≡ false →
+    put_range s (Some n) v ≡ Ok (record s { rows = changed_at n (λ r. record r { range = Some v }) s.rows; paired = Row n ∷ s.paired })
 unfolding put_range
 range_put s n v h = rw h refl
 
@@ -81,13 +84,15 @@ one_range style s objective done r v more paired set e o d card absent unpaired 
     range_goes style before (record s { rows = done ++ record r { range = Some v } ∷ more; paired = Row (length done) ∷ paired; set = Some (Some (codes "RNG")) }) r.name v (length done) e card used there
     (put ∙ ap (λ rows. Ok (record s { rows = rows; paired = Row (length done) ∷ paired; set = Some (Some (codes "RNG")) })) changed)
 
-names_next : (objective : Name) (rows : List ExactRow) (r : ExactRow) → (objective ∷ names_of rows) ++ r.name ∷ [] ≡ objective ∷ names_of (rows ++ r ∷ [])
+names_next : (objective : Name) (rows : List ExactRow) (r : ExactRow) →
+    (objective ∷ names_of rows) ++ r.name ∷ [] ≡ objective ∷ names_of (rows ++ r ∷ [])
 names_next objective rows r = ap (λ l. objective ∷ l) (sym (map-append (λ q. q.name) rows (r ∷ [])))
 
 ranges_go : (style : Style) (s : State) (objective : Name) (done rest : List ExactRow) (paired : List Target) (set : Option (Option Name)) → s.part ≡ Some section.Ranges → s.objective ≡ Some objective → s.dropped ≡ [] → AreRanges style rest
     → AreFresh (objective ∷ names_of done) (names_of rest) → IsUnpaired (length done) paired → is_used set (Some (codes "RNG")) ≡ true
     → Sides style s (done ++ map rangeless rest) (ranges_of rest) (done ++ rest) paired set
-ranges_go style s objective done [] paired set e o d known fresh unpaired used = (paired, set, goes_none style (record s { rows = done ++ []; paired = paired; set = set }))
+ranges_go style s objective done [] paired set e o d known fresh unpaired used =
+    (paired, set, goes_none style (record s { rows = done ++ []; paired = paired; set = set }))
 ranges_go style s objective done (r ∷ rest) paired set e o d known fresh unpaired used =
     by (λ p q h k. on p q (ranges_go style s objective next rest p q e o d known.1 fresh_next (subst (λ n. IsUnpaired n p) (sym longer) h) k)) r.range refl
   where
@@ -100,7 +105,9 @@ ranges_go style s objective done (r ∷ rest) paired set e o d known fresh unpai
     fresh_next : AreFresh (objective ∷ names_of next) (names_of rest)
     fresh_next = subst (λ seen. AreFresh seen (names_of rest)) (names_next objective done r) fresh.1
 
-    on : (p : List Target) (q : Option (Option Name)) → Sides style s (next ++ map rangeless rest) (ranges_of rest) (next ++ rest) p q → Sides style s (done ++ r ∷ map rangeless rest) (ranges_of rest) (done ++ r ∷ rest) p q
+    on : (p : List Target) (q : Option (Option Name)) →
+        Sides style s (next ++ map rangeless rest) (ranges_of rest) (next ++ rest) p q →
+        Sides style s (done ++ r ∷ map rangeless rest) (ranges_of rest) (done ++ r ∷ rest) p q
     on p q rec =
         let a = append_assoc done (r ∷ []) (map rangeless rest) in
         let b = append_assoc done (r ∷ []) rest in
@@ -128,7 +135,8 @@ ranges_go style s objective done (r ∷ rest) paired set e o d known fresh unpai
 
 -- ---- the section, which is there where a row has a range
 
-ranges_known : (style : Style) (rows : List ExactRow) → All (λ r. IsTrue (is_row_name r.name)) rows → All IsNarrowRow rows → RoomFor style (ranges_of rows) → AreRanges style rows
+ranges_known : (style : Style) (rows : List ExactRow) → All (λ r. IsTrue (is_row_name r.name)) rows →
+    All IsNarrowRow rows → RoomFor style (ranges_of rows) → AreRanges style rows
 ranges_known style [] names narrow room = tt
 ranges_known style (r ∷ rows) names narrow room = (card, ranges_known style rows (λ i d a. names (suc i) d (omega arith)) (λ i d a. narrow (suc i) d (omega arith)) (room_back style (range_cards r.name r.range) (ranges_of rows) room))
   where
@@ -148,7 +156,8 @@ none_ranged (r ∷ rows) h =
     absent None e = refl
     absent (Some v) e = cc
 
-pub ranges_are_read : (style : Style) (m : Model) → IsModel m → RoomFor style (ranges_cards m) → (s : State) → HasNoRanges s m → (t : State) × Goes style s (ranges_cards m) t × HasNoBounds t m
+pub ranges_are_read : (style : Style) (m : Model) → IsModel m → RoomFor style (ranges_cards m) → (s : State) →
+    HasNoRanges s m → (t : State) × Goes style s (ranges_cards m) t × HasNoBounds t m
 unfolding ranges_cards
 ranges_are_read style m kept room s h = by (list_any has_range m.rows) refl
   where
@@ -159,7 +168,8 @@ ranges_are_read style m kept room s h = by (list_any has_range m.rows) refl
     ranged r =
         ranges_go style one m.objective [] m.rows [] None refl h.known.objective h.known.none_dropped (ranges_known style m.rows kept.rows kept.narrow_rows r) (fresh_names m.objective (names_of m.rows) kept.rows_distinct) (λ i k. refl) refl
 
-    by : (t : Bool) → list_any has_range m.rows ≡ t → (u : State) × Goes style s (cond t (section_card (codes "RANGES") ∷ ranges_of m.rows) []) u × HasNoBounds u m
+    by : (t : Bool) → list_any has_range m.rows ≡ t →
+        (u : State) × Goes style s (cond t (section_card (codes "RANGES") ∷ ranges_of m.rows) []) u × HasNoBounds u m
     by true z =
         let there : RoomFor style (section_card (codes "RANGES") ∷ ranges_of m.rows) = subst (λ t. RoomFor style (cond t (section_card (codes "RANGES") ∷ ranges_of m.rows) [])) z room in
         let go = subst (λ rows. Sides style one rows (ranges_of m.rows) m.rows [] None) (sym h.rows) (ranged (room_back style (section_card (codes "RANGES") ∷ []) (ranges_of m.rows) there)) in
@@ -172,7 +182,8 @@ ranges_are_read style m kept room s h = by (list_any has_range m.rows) refl
           record {
             known =
                 record { name = k.name; sense = k.sense; objective = k.objective; none_dropped = k.none_dropped; may_follow = k.may_follow; none_open = refl };
-            unbounded = record { no_bounds = u.no_bounds; columns = rw k.none_open u.columns; none_lowered = u.none_lowered };
+            unbounded =
+                record { no_bounds = u.no_bounds; columns = rw k.none_open u.columns; none_lowered = u.none_lowered };
             offset = h.offset;
             rows = refl;
           },

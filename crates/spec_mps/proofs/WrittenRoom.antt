@@ -18,14 +18,15 @@ abbrev pub RoomFor : Style → WrittenCards → Type 0
 RoomFor Free cards = Unit {0}
 RoomFor Fixed cards = first_wide cards ≡ None
 
--- a card and those behind it
+-- a card and those after it
 pub record HasRooms (style : Style) (column place : Name) (value : ℚ) (cards : WrittenCards) : Type 0 where
   pub group : HasRoom style 8 column
   pub name : HasRoom style 8 place
   pub number : HasRoom style 12 (number_text value)
   pub rest : RoomFor style cards
 
-pub card_room : (style : Style) (group name : Name) (value : ℚ) (cards : WrittenCards) → RoomFor style (number_card group name value ∷ cards) → HasRooms style group name value cards
+pub card_room : (style : Style) (group name : Name) (value : ℚ) (cards : WrittenCards) →
+    RoomFor style (number_card group name value ∷ cards) → HasRooms style group name value cards
 card_room Free group name value cards h = record { group = tt; name = tt; number = tt; rest = tt }
 card_room Fixed group name value cards h =
     let rest = flat_map data_fields cards in

@@ -27,16 +27,19 @@ use Rattle.spec_mps.proofs.WrittenBack.{cards_are_read_back}
 
 -- ---- cards one after another
 
-pub goes_one : (style : Style) (s t : State) (card : WrittenCard) → step style s (Text (line_text style card)) ≡ Ok (More t) → Goes style s (card ∷ []) t
+pub goes_one : (style : Style) (s t : State) (card : WrittenCard) →
+    step style s (Text (line_text style card)) ≡ Ok (More t) → Goes style s (card ∷ []) t
 goes_one style s t card h = record { goes = λ n rest. ap (settled n (λ u. judge style u (n + 1) rest)) h }
 
 pub goes_none : (style : Style) (s : State) → Goes style s [] s
 goes_none style s = record { goes = λ n rest. ap (λ k. judge style s k rest) (omega arith) }
 
-pub goes_then : (style : Style) (s t u : State) (card : WrittenCard) (cards : WrittenCards) → Goes style s (card ∷ []) t → Goes style t cards u → Goes style s (card ∷ cards) u
+pub goes_then : (style : Style) (s t u : State) (card : WrittenCard) (cards : WrittenCards) →
+    Goes style s (card ∷ []) t → Goes style t cards u → Goes style s (card ∷ cards) u
 goes_then style s t u card cards h k =
     record {
-      goes = λ n rest. h.goes n (card_lines style cards ++ rest) ∙ k.goes (n + 1) rest ∙ ap (λ i. judge style u i rest) (omega arith);
+      goes =
+          λ n rest. h.goes n (card_lines style cards ++ rest) ∙ k.goes (n + 1) rest ∙ ap (λ i. judge style u i rest) (omega arith);
     }
 
 -- ---- one row
@@ -47,14 +50,17 @@ type_fields type name = field_at 1 type ∷ field_at 2 name ∷ []
 read_type : (style : Style) (part : Option Section) (type : List ℕ) (name : Name) → part ≡ Some section.Rows → IsItem style 2 type → IsItem style 8 name
     → reading_of style part (line_text style (type_card type name)) ≡ Is (Given (type_fields type name))
 read_type Free part type name e h k = ((cards_are_read_back Free).types type name h k).read
-read_type Fixed part type name e h k = ap (λ p. reading_of Fixed p (line_text Fixed (type_card type name))) e ∙ ((cards_are_read_back Fixed).types type name h k).read
+read_type Fixed part type name e h k =
+    ap (λ p. reading_of Fixed p (line_text Fixed (type_card type name))) e ∙ ((cards_are_read_back Fixed).types type name h k).read
 
-has_type_shape : (style : Style) (type : List ℕ) (name : Name) → shaped style section.Rows (type_fields type name) ≡ Ok (type ∷ name ∷ [])
+has_type_shape : (style : Style) (type : List ℕ) (name : Name) →
+    shaped style section.Rows (type_fields type name) ≡ Ok (type ∷ name ∷ [])
 unfolding shaped has_shape
 has_type_shape Free type name = refl
 has_type_shape Fixed type name = refl
 
-type_read : (style : Style) (s t : State) (type : List ℕ) (name : Name) (kind : RowType) → row_type_of type ≡ Some kind → add_row s kind name ≡ Ok t → rows_card style s (type_fields type name) ≡ Ok t
+type_read : (style : Style) (s t : State) (type : List ℕ) (name : Name) (kind : RowType) →
+    row_type_of type ≡ Some kind → add_row s kind name ≡ Ok t → rows_card style s (type_fields type name) ≡ Ok t
 unfolding rows_card
 type_read style s t type name kind known added = rw (has_type_shape style type name, known, added) refl
 
@@ -91,7 +97,8 @@ row_goes style s r e item name free few =
 
 -- ---- the objective
 
-pub objective_added : (s : State) (name : Name) → s.objective ≡ None → is_row_name name ≡ true → place_of s name ≡ None → add_row s Unlimited name ≡ Ok (record s { objective = Some name })
+pub objective_added : (s : State) (name : Name) → s.objective ≡ None → is_row_name name ≡ true →
+    place_of s name ≡ None → add_row s Unlimited name ≡ Ok (record s { objective = Some name })
 unfolding add_row
 objective_added s name none h k = rw (h, k, none) refl
 
@@ -113,16 +120,19 @@ pub or_parts : (s t : Bool) → s || t ≡ false → (s ≡ false) × (t ≡ fal
 or_parts true t e = cc
 or_parts false t e = (refl, e)
 
-pub all_past : (rows : List ExactRow) (name : Name) → IsAbsent name (names_of rows) → position_or_len (λ r. same r.name name) rows ≡ length rows
+pub all_past : (rows : List ExactRow) (name : Name) → IsAbsent name (names_of rows) →
+    position_or_len (λ r. same r.name name) rows ≡ length rows
 all_past [] name h = refl
 all_past (r ∷ rows) name h =
     let p = or_parts (same r.name name) (list_any (λ n. same n name) (names_of rows)) h in
     rw (p.0, all_past rows name p.1) (omega arith)
 
-position_absent : (rows : List ExactRow) (name : Name) → IsAbsent name (names_of rows) → position (λ r. same r.name name) rows ≡ None
+position_absent : (rows : List ExactRow) (name : Name) → IsAbsent name (names_of rows) →
+    position (λ r. same r.name name) rows ≡ None
 position_absent rows name h = rw (all_past rows name h, le-ltb (length rows) (length rows) (omega arith)) refl
 
-place_absent : (s : State) (objective name : Name) → s.objective ≡ Some objective → s.dropped ≡ [] → IsAbsent name (objective ∷ names_of s.rows) → place_of s name ≡ None
+place_absent : (s : State) (objective name : Name) → s.objective ≡ Some objective → s.dropped ≡ [] →
+    IsAbsent name (objective ∷ names_of s.rows) → place_of s name ≡ None
 unfolding place_of
 place_absent s objective name e d h =
     let p = or_parts (same objective name) (list_any (λ n. same n name) (names_of s.rows)) h in
@@ -133,7 +143,8 @@ abbrev pub AreRows : Style → List ExactRow → Type 0
 AreRows style [] = Unit {0}
 AreRows style (r ∷ rows) = IsItem style 8 r.name × (is_row_name r.name ≡ true) × AreRows style rows
 
-names_next : (objective : Name) (rows : List ExactRow) (r : ExactRow) → (objective ∷ names_of rows) ++ r.name ∷ [] ≡ objective ∷ names_of (rows ++ bare_row r ∷ [])
+names_next : (objective : Name) (rows : List ExactRow) (r : ExactRow) →
+    (objective ∷ names_of rows) ++ r.name ∷ [] ≡ objective ∷ names_of (rows ++ bare_row r ∷ [])
 names_next objective rows r = ap (λ l. objective ∷ l) (sym (map-append (λ q. q.name) rows (bare_row r ∷ [])))
 
 pub rows_go : (style : Style) (s : State) (objective : Name) (rows : List ExactRow) → s.part ≡ Some section.Rows → s.objective ≡ Some objective → s.dropped ≡ [] → AreRows style rows

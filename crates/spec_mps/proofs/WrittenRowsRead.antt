@@ -31,7 +31,8 @@ rows_narrow m h =
     back_narrow start (rows_cards m) e
 
 -- the objective's card has room, and so have those of the rows
-room_of : (style : Style) (m : Model) → is_row_name m.objective ≡ true → Fits style m → IsItem style 8 m.objective × RoomForRows style m.rows
+room_of : (style : Style) (m : Model) → is_row_name m.objective ≡ true → Fits style m →
+    IsItem style 8 m.objective × RoomForRows style m.rows
 unfolding rows_cards
 room_of Free m h fits = (record { word = row_name_word m.objective h; room = tt }, tt)
 room_of Fixed m h fits =

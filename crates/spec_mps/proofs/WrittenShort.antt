@@ -54,14 +54,18 @@ column_small n = by (n == 1) (n == 2) (n == 3) (n == 4) (n == 5)
 blanks_len : (k : ℕ) (line : List ℕ) → length (line ++ replicate k 32) ≡ length line + k
 blanks_len k line = length-append line (replicate k 32) ∙ ap (λ m. length line + m) (length-replicate k 32)
 
-up_to : (column : ℕ) (line : List ℕ) → column ≤ 50 → length (line ++ replicate (column - 1 - length line) 32) ≤ length line + 50
-up_to column line h = let e : length (line ++ replicate (column - 1 - length line) 32) ≡ length line + (column - 1 - length line) = blanks_len (column - 1 - length line) line in omega arith
+up_to : (column : ℕ) (line : List ℕ) → column ≤ 50 →
+    length (line ++ replicate (column - 1 - length line) 32) ≤ length line + 50
+up_to column line h =
+    let e : length (line ++ replicate (column - 1 - length line) 32) ≡ length line + (column - 1 - length line) = blanks_len (column - 1 - length line) line in
+    omega arith
 
 padded_fits : (style : Style) (n : ℕ) (line : List ℕ) → length (padded style n line) ≤ length line + 50
 padded_fits Free n line = let a = length-append line (32 ∷ []) in omega arith
 padded_fits Fixed n line = up_to (first_column n) line (column_small n)
 
-line_fits : (style : Style) (line : List ℕ) (fs : Fields) → AreShort fs → length (with_fields style line fs) ≤ length line + 150 * length fs
+line_fits : (style : Style) (line : List ℕ) (fs : Fields) → AreShort fs →
+    length (with_fields style line fs) ≤ length line + 150 * length fs
 line_fits style line [] h = omega arith
 line_fits style line (f ∷ fs) h =
     let p = padded_fits style f.number line in
@@ -70,20 +74,25 @@ line_fits style line (f ∷ fs) h =
     let r = line_fits style (padded style f.number line ++ f.text) fs h.1 in
     omega arith
 
-plain_both : (a b : List ℕ) → list_all is_plain a ≡ true → list_all is_plain b ≡ true → list_all is_plain (a ++ b) ≡ true
+plain_both : (a b : List ℕ) → list_all is_plain a ≡ true → list_all is_plain b ≡ true →
+    list_all is_plain (a ++ b) ≡ true
 plain_both a b h k = list_all-append is_plain a b ∙ rw (h, k) refl
 
 plain_blanks : (n : ℕ) → list_all is_plain (replicate n 32) ≡ true
 plain_blanks zero = refl
 plain_blanks (suc n) = plain_blanks n
 
-plain_padded : (style : Style) (n : ℕ) (line : List ℕ) → list_all is_plain line ≡ true → list_all is_plain (padded style n line) ≡ true
+plain_padded : (style : Style) (n : ℕ) (line : List ℕ) → list_all is_plain line ≡ true →
+    list_all is_plain (padded style n line) ≡ true
 plain_padded Free n line h = plain_both line (32 ∷ []) h refl
-plain_padded Fixed n line h = plain_both line (replicate (first_column n - 1 - length line) 32) h (plain_blanks (first_column n - 1 - length line))
+plain_padded Fixed n line h =
+    plain_both line (replicate (first_column n - 1 - length line) 32) h (plain_blanks (first_column n - 1 - length line))
 
-line_plain : (style : Style) (line : List ℕ) (fs : Fields) → list_all is_plain line ≡ true → AreShort fs → list_all is_plain (with_fields style line fs) ≡ true
+line_plain : (style : Style) (line : List ℕ) (fs : Fields) → list_all is_plain line ≡ true → AreShort fs →
+    list_all is_plain (with_fields style line fs) ≡ true
 line_plain style line [] h k = h
-line_plain style line (f ∷ fs) h k = line_plain style (padded style f.number line ++ f.text) fs (plain_both (padded style f.number line) f.text (plain_padded style f.number line h) k.0.plain) k.1
+line_plain style line (f ∷ fs) h k =
+    line_plain style (padded style f.number line ++ f.text) fs (plain_both (padded style f.number line) f.text (plain_padded style f.number line h) k.0.plain) k.1
 
 -- a card with a few short fields
 abbrev pub IsShortCard : WrittenCard → Type 0
@@ -144,12 +153,14 @@ pointed_fits d n h k =
     let c = length-last d n in
     omega arith
 
-placed_fits : (n den : ℕ) (o : Option ℕ) → n ≤ widest → den ≤ widest → ((d : ℕ) → o ≡ Some d → d < 19) → length (placed n den o) ≤ 79
+placed_fits : (n den : ℕ) (o : Option ℕ) → n ≤ widest → den ≤ widest → ((d : ℕ) → o ≡ Some d → d < 19) →
+    length (placed n den o) ≤ 79
 unfolding placed
 placed_fits n den None h k few = quotient_fits n den h k
 placed_fits n den (Some d) h k few = by (nat_le (n * (10 ^ d / den)) widest) refl
   where
-    by : (t : Bool) → nat_le (n * (10 ^ d / den)) widest ≡ t → length (cond t (pointed d (n * (10 ^ d / den))) (quotient_text n den)) ≤ 79
+    by : (t : Bool) → nat_le (n * (10 ^ d / den)) widest ≡ t →
+        length (cond t (pointed d (n * (10 ^ d / den))) (quotient_text n den)) ≤ 79
     by true e = pointed_fits d (n * (10 ^ d / den)) (leb-true (n * (10 ^ d / den)) widest e) (few d refl)
     by false e = quotient_fits n den h k
 
@@ -189,16 +200,20 @@ one_short card h = All-cons IsShortCard card [] h (All-nil IsShortCard)
 two_short : (a b : WrittenCard) → IsShortCard a → IsShortCard b → AreShortCards (a ∷ b ∷ [])
 two_short a b h k = All-cons IsShortCard a (b ∷ []) h (one_short b k)
 
-all_short : {X : Type 0} (f : X → WrittenCards) (xs : List X) → All (λ x. AreShortCards (f x)) xs → AreShortCards (flat_map f xs)
+all_short : {X : Type 0} (f : X → WrittenCards) (xs : List X) → All (λ x. AreShortCards (f x)) xs →
+    AreShortCards (flat_map f xs)
 all_short f [] h = All-nil IsShortCard
-all_short f (x ∷ xs) h = All-append IsShortCard (f x) (flat_map f xs) (h 0 x (omega arith)) (all_short f xs (λ i d a. h (suc i) d (omega arith)))
+all_short f (x ∷ xs) h =
+    All-append IsShortCard (f x) (flat_map f xs) (h 0 x (omega arith)) (all_short f xs (λ i d a. h (suc i) d (omega arith)))
 
-number_card_short : (group name : Name) (q : ℚ) → IsShort group → IsShort name → IsNarrow q → IsShortCard (number_card group name q)
+number_card_short : (group name : Name) (q : ℚ) → IsShort group → IsShort name → IsNarrow q →
+    IsShortCard (number_card group name q)
 number_card_short group name q g h k = ((g, (h, (number_short q k, tt))), omega arith)
 
 name_card_short : (name : Name) → is_model_name name ≡ true → IsShortCard (name_card name)
 name_card_short [] h = (record { fits = omega arith; plain = refl }, tt, omega arith)
-name_card_short (b ∷ bs) h = (record { fits = omega arith; plain = refl }, (model_name_short (b ∷ bs) h, tt), omega arith)
+name_card_short (b ∷ bs) h =
+    (record { fits = omega arith; plain = refl }, (model_name_short (b ∷ bs) h, tt), omega arith)
 
 sense_short : (sense : Sense) → AreShortCards (sense_cards sense)
 sense_short Min = All-nil IsShortCard
@@ -216,7 +231,8 @@ rows_short m kept =
     (All-cons IsShortCard (type_card (codes "N") m.objective) (map row_card m.rows) ((record { fits = omega arith; plain = refl }, (row_name_short m.objective kept.objective, tt)), omega arith)
     (All-map IsShortCard row_card m.rows (λ i d a. ((kind_short (get_or m.rows i d).kind, (row_name_short (get_or m.rows i d).name (kept.rows i d a), tt)), omega arith))))
 
-column_short : (m : Model) (c : ExactColumn) → IsModel m → IsKeptColumn (length m.rows) c → IsNarrowColumn c → AreShortCards (column_cards m c)
+column_short : (m : Model) (c : ExactColumn) → IsModel m → IsKeptColumn (length m.rows) c → IsNarrowColumn c →
+    AreShortCards (column_cards m c)
 column_short m c kept k n =
     All-cons IsShortCard (number_card c.name m.objective c.cost) (map (λ e. number_card c.name (row m e.0).name e.1) c.entries) (number_card_short c.name m.objective c.cost (name_short c.name k.name) (row_name_short m.objective kept.objective) n.cost)
     (All-map IsShortCard (λ e. number_card c.name (row m e.0).name e.1) c.entries (λ i d a.
@@ -251,14 +267,17 @@ ranges_short : (m : Model) → IsModel m → AreShortCards (ranges_cards m)
 unfolding ranges_cards
 ranges_short m kept = by (list_any has_range m.rows)
   where
-    by : (t : Bool) → AreShortCards (cond t (section_card (codes "RANGES") ∷ flat_map (λ r. range_cards r.name r.range) m.rows) [])
+    by : (t : Bool) →
+        AreShortCards (cond t (section_card (codes "RANGES") ∷ flat_map (λ r. range_cards r.name r.range) m.rows) [])
     by true =
         All-cons IsShortCard (section_card (codes "RANGES")) (flat_map (λ r. range_cards r.name r.range) m.rows) (record { fits = omega arith; plain = refl }, tt, omega arith)
         (all_short (λ r. range_cards r.name r.range) m.rows (λ i d a. range_short (get_or m.rows i d).name (get_or m.rows i d).range (row_name_short (get_or m.rows i d).name (kept.rows i d a)) (kept.narrow_rows i d a).range))
     by false = All-nil IsShortCard
 
-value_short : (kind : List ℕ) (name : Name) (q : ℚ) → IsShort kind → IsShort name → IsNarrow q → IsShortCard (bound_card kind name q)
-value_short kind name q g h k = ((g, (record { fits = omega arith; plain = refl }, (h, (number_short q k, tt)))), omega arith)
+value_short : (kind : List ℕ) (name : Name) (q : ℚ) → IsShort kind → IsShort name → IsNarrow q →
+    IsShortCard (bound_card kind name q)
+value_short kind name q g h k =
+    ((g, (record { fits = omega arith; plain = refl }, (h, (number_short q k, tt)))), omega arith)
 
 unbound_short : (kind : List ℕ) (name : Name) → IsShort kind → IsShort name → IsShortCard (unbound_card kind name)
 unbound_short kind name g h = ((g, (record { fits = omega arith; plain = refl }, (h, tt))), omega arith)
@@ -266,7 +285,8 @@ unbound_short kind name g h = ((g, (record { fits = omega arith; plain = refl },
 two_bytes : (a b : ℕ) → is_plain a && (is_plain b && true) ≡ true → IsShort (a ∷ b ∷ [])
 two_bytes a b h = record { fits = omega arith; plain = h }
 
-bound_short : (name : Name) (lower upper : Option ℚ) → IsShort name → IfSome lower IsNarrow → IfSome upper IsNarrow → AreShortCards (bound_cards name lower upper)
+bound_short : (name : Name) (lower upper : Option ℚ) → IsShort name → IfSome lower IsNarrow → IfSome upper IsNarrow →
+    AreShortCards (bound_cards name lower upper)
 bound_short name None None h l u = one_short (unbound_card (codes "FR") name) (unbound_short (codes "FR") name (two_bytes 70 82 refl) h)
 bound_short name None (Some u) h k n =
     two_short (unbound_card (codes "MI") name) (bound_card (codes "UP") name u) (unbound_short (codes "MI") name (two_bytes 77 73 refl) h) (value_short (codes "UP") name u (two_bytes 85 80 refl) h n)
@@ -280,7 +300,8 @@ bound_short name (Some l) (Some u) h k n = by (eq_ℚ l u) (eq_ℚ l 0ℚ && lt_
     up : IsShortCard (bound_card (codes "UP") name u)
     up = value_short (codes "UP") name u (two_bytes 85 80 refl) h n
 
-    by : (s t : Bool) → AreShortCards (cond s (bound_card (codes "FX") name l ∷ []) (cond t (bound_card (codes "UP") name u ∷ []) (bound_card (codes "LO") name l ∷ bound_card (codes "UP") name u ∷ [])))
+    by : (s t : Bool) →
+        AreShortCards (cond s (bound_card (codes "FX") name l ∷ []) (cond t (bound_card (codes "UP") name u ∷ []) (bound_card (codes "LO") name l ∷ bound_card (codes "UP") name u ∷ [])))
     by true t = one_short (bound_card (codes "FX") name l) (value_short (codes "FX") name l (two_bytes 70 88 refl) h k)
     by false true = one_short (bound_card (codes "UP") name u) up
     by false false = two_short (bound_card (codes "LO") name l) (bound_card (codes "UP") name u) (value_short (codes "LO") name l (two_bytes 76 79 refl) h k) up
@@ -289,7 +310,8 @@ bounds_short : (m : Model) → IsModel m → AreShortCards (bounds_cards m)
 unfolding bounds_cards
 bounds_short m kept = by (list_any has_bounds m.columns)
   where
-    by : (t : Bool) → AreShortCards (cond t (section_card (codes "BOUNDS") ∷ flat_map (λ c. bound_cards c.name c.lower c.upper) m.columns) [])
+    by : (t : Bool) →
+        AreShortCards (cond t (section_card (codes "BOUNDS") ∷ flat_map (λ c. bound_cards c.name c.lower c.upper) m.columns) [])
     by true =
         All-cons IsShortCard (section_card (codes "BOUNDS")) (flat_map (λ c. bound_cards c.name c.lower c.upper) m.columns) (record { fits = omega arith; plain = refl }, tt, omega arith)
         (all_short (λ c. bound_cards c.name c.lower c.upper) m.columns (λ i d a.

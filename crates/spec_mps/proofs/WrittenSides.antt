@@ -32,7 +32,8 @@ use Rattle.spec_mps.proofs.WrittenFacts.{rangeless}
 
 -- ---- one card
 
-side_shape : (style : Style) (name : Name) (text : List ℕ) → shaped style section.RightSides (read_as style (number_fields (codes "RHS") name text)) ≡ Ok (codes "RHS" ∷ name ∷ text ∷ [])
+side_shape : (style : Style) (name : Name) (text : List ℕ) →
+    shaped style section.RightSides (read_as style (number_fields (codes "RHS") name text)) ≡ Ok (codes "RHS" ∷ name ∷ text ∷ [])
 unfolding shaped has_shape
 side_shape Free name text = refl
 side_shape Fixed name text = refl
@@ -44,7 +45,8 @@ group_item Fixed = record { word = record { some = refl; printable = refl }; roo
 side_card_read : (style : Style) (s t : State) (name : Name) (text : List ℕ) (place : Place) (b : ℚ) → is_used s.set (Some (codes "RHS")) ≡ true → place_of (record s { set = Some (Some (codes "RHS")) }) name ≡ Some place → number_in text ≡ Ok b
     → put_side (record s { set = Some (Some (codes "RHS")) }) place b ≡ Ok t → rhs_card style s (read_as style (number_fields (codes "RHS") name text)) ≡ Ok t
 unfolding rhs_card rhs_by set_and_pairs side_pair
-side_card_read style s t name text place b used there reads put = rw (side_shape style name text, used, there, reads, put) refl
+side_card_read style s t name text place b used there reads put =
+    rw (side_shape style name text, used, there, reads, put) refl
 
 pub side_goes : (style : Style) (s t : State) (name : Name) (b : ℚ) (place : Place) → s.part ≡ Some section.RightSides → IsNumberCard style name b → is_used s.set (Some (codes "RHS")) ≡ true
     → place_of (record s { set = Some (Some (codes "RHS")) }) name ≡ Some place → put_side (record s { set = Some (Some (codes "RHS")) }) place b ≡ Ok t → Goes style s (number_card (codes "RHS") name b ∷ []) t
@@ -73,14 +75,16 @@ place_of_row s objective done r more o d e h =
     let p = or_parts (same objective r.name) (list_any (λ n. same n r.name) (names_of done)) h in
     rw (o, p.0, d, e, place_behind (λ q. q.name) r.name done r more p.1 refl) refl
 
-pub place_of_objective : (s : State) (objective : Name) → s.objective ≡ Some objective → place_of s objective ≡ Some (Kept Objective)
+pub place_of_objective : (s : State) (objective : Name) → s.objective ≡ Some objective →
+    place_of s objective ≡ Some (Kept Objective)
 unfolding place_of
 place_of_objective s objective o = rw (o, same_itself objective) refl
 
 -- ---- the rows
 
 -- the row's right side is put where it is
-side_put : (s : State) (n : ℕ) (b : ℚ) → is_among (Row n) s.paired ≡ false → put_side s (Kept (Row n)) b ≡ Ok (record s { rows = changed_at n (λ r. record r { rhs = b }) s.rows; paired = Row n ∷ s.paired })
+side_put : (s : State) (n : ℕ) (b : ℚ) → is_among (Row n) s.paired ≡ false →
+    put_side s (Kept (Row n)) b ≡ Ok (record s { rows = changed_at n (λ r. record r { rhs = b }) s.rows; paired = Row n ∷ s.paired })
 unfolding put_side
 side_put s n b h = rw h refl
 
@@ -89,8 +93,9 @@ abbrev pub AreSides : Style → List ExactRow → Type 0
 AreSides style [] = Unit {0}
 AreSides style (r ∷ rows) = (eq_ℚ r.rhs 0ℚ ≡ false → IsNumberCard style r.name r.rhs) × AreSides style rows
 
--- from some rows to others, whatever has a number behind the cards
-abbrev pub Sides : Style → State → List ExactRow → WrittenCards → List ExactRow → List Target → Option (Option Name) → Type 0
+-- from some rows to others, whatever has a number after the cards
+abbrev pub Sides : Style → State → List ExactRow → WrittenCards → List ExactRow → List Target → Option (Option Name) →
+    Type 0
 Sides style s before cards after paired set =
     (p : List Target) × (q : Option (Option Name)) × Goes style (record s { rows = before; paired = paired; set = set }) cards (record s { rows = after; paired = p; set = q })
 
@@ -112,13 +117,15 @@ one_side style s objective done r more paired set e o d card absent unpaired use
 zero_side : (r : ExactRow) → eq_ℚ r.rhs 0ℚ ≡ true → bare_row r ≡ rangeless r
 zero_side r e = ap (λ b. record (bare_row r) { rhs = b }) (sym (eq_if r.rhs 0ℚ e))
 
-pub names_next : (objective : Name) (rows : List ExactRow) (r : ExactRow) → (objective ∷ names_of rows) ++ r.name ∷ [] ≡ objective ∷ names_of (rows ++ rangeless r ∷ [])
+pub names_next : (objective : Name) (rows : List ExactRow) (r : ExactRow) →
+    (objective ∷ names_of rows) ++ r.name ∷ [] ≡ objective ∷ names_of (rows ++ rangeless r ∷ [])
 names_next objective rows r = ap (λ l. objective ∷ l) (sym (map-append (λ q. q.name) rows (rangeless r ∷ [])))
 
 pub sides_go : (style : Style) (s : State) (objective : Name) (done rest : List ExactRow) (paired : List Target) (set : Option (Option Name)) → s.part ≡ Some section.RightSides → s.objective ≡ Some objective → s.dropped ≡ [] → AreSides style rest
     → AreFresh (objective ∷ names_of done) (names_of rest) → IsUnpaired (length done) paired → is_used set (Some (codes "RHS")) ≡ true
     → Sides style s (done ++ map bare_row rest) (sides_of rest) (done ++ map rangeless rest) paired set
-sides_go style s objective done [] paired set e o d known fresh unpaired used = (paired, set, goes_none style (record s { rows = done ++ []; paired = paired; set = set }))
+sides_go style s objective done [] paired set e o d known fresh unpaired used =
+    (paired, set, goes_none style (record s { rows = done ++ []; paired = paired; set = set }))
 sides_go style s objective done (r ∷ rest) paired set e o d known fresh unpaired used =
     by (λ p q h k. on p q (sides_go style s objective next rest p q e o d known.1 fresh_next (subst (λ n. IsUnpaired n p) (sym longer) h) k)) (eq_ℚ r.rhs 0ℚ) refl
   where
@@ -131,7 +138,9 @@ sides_go style s objective done (r ∷ rest) paired set e o d known fresh unpair
     fresh_next : AreFresh (objective ∷ names_of next) (names_of rest)
     fresh_next = subst (λ seen. AreFresh seen (names_of rest)) (names_next objective done r) fresh.1
 
-    on : (p : List Target) (q : Option (Option Name)) → Sides style s (next ++ map bare_row rest) (sides_of rest) (next ++ map rangeless rest) p q → Sides style s (done ++ rangeless r ∷ map bare_row rest) (sides_of rest) (done ++ rangeless r ∷ map rangeless rest) p q
+    on : (p : List Target) (q : Option (Option Name)) →
+        Sides style s (next ++ map bare_row rest) (sides_of rest) (next ++ map rangeless rest) p q →
+        Sides style s (done ++ rangeless r ∷ map bare_row rest) (sides_of rest) (done ++ rangeless r ∷ map rangeless rest) p q
     on p q rec =
         let a = append_assoc done (rangeless r ∷ []) (map bare_row rest) in
         let b = append_assoc done (rangeless r ∷ []) (map rangeless rest) in

@@ -1,4 +1,4 @@
--- The whole section RHS of a written text, behind its heading.
+-- The whole section RHS of a written text, after its heading.
 use Rattle.std.proofs.Common.{◌≡◌, zero, suc, ◌≤◌, Bool, true, false, cond, Some, Ok, List, [], ◌∷◌, ◌++◌, map, ℤ, pos, negsuc, refl, sym, ap, ◌∙◌, subst, arith}
 use Rattle.std.specs.Prelude.{codes, IsTrue, unsigned_abs, neg_ℤ}
 use Rattle.std.specs.List.{All}
@@ -25,7 +25,8 @@ use Rattle.spec_mps.proofs.WrittenSides.{AreSides, IsUnpaired, Sides, sides_of, 
 
 -- ---- the rows
 
-sides_known : (style : Style) (rows : List ExactRow) → All (λ r. IsTrue (is_row_name r.name)) rows → All IsNarrowRow rows → RoomFor style (sides_of rows) → AreSides style rows
+sides_known : (style : Style) (rows : List ExactRow) → All (λ r. IsTrue (is_row_name r.name)) rows →
+    All IsNarrowRow rows → RoomFor style (sides_of rows) → AreSides style rows
 sides_known style [] names narrow room = tt
 sides_known style (r ∷ rows) names narrow room = (card, sides_known style rows (λ i d a. names (suc i) d (omega arith)) (λ i d a. narrow (suc i) d (omega arith)) (room_back style (side_cards r.name r.rhs) (sides_of rows) room))
   where
@@ -47,7 +48,8 @@ record HasOffset (s : State) (m : Model) : Type 0 where
   pub unpaired : IsUnpaired 0 s.paired
   pub used : is_used s.set (Some (codes "RHS")) ≡ true
 
-rows_sided : (style : Style) (m : Model) → IsModel m → RoomFor style (sides_of m.rows) → (s : State) → HasOffset s m → (t : State) × Goes style s (sides_of m.rows) t × HasNoRanges t m
+rows_sided : (style : Style) (m : Model) → IsModel m → RoomFor style (sides_of m.rows) → (s : State) → HasOffset s m →
+    (t : State) × Goes style s (sides_of m.rows) t × HasNoRanges t m
 rows_sided style m kept room s h =
     let known = sides_known style m.rows kept.rows kept.narrow_rows room in
     let go : Sides style s (map bare_row m.rows) (sides_of m.rows) (map rangeless m.rows) s.paired s.set =
@@ -79,7 +81,8 @@ pub neg_narrow : (q : ℚ) → IsNarrow q → IsNarrow (neg_ℚ q)
 unfolding neg_ℚ
 neg_narrow q h = record { top = subst (λ n. n ≤ widest) (sym (abs_neg q.num)) h.top; bottom = h.bottom }
 
-offset_put : (s : State) (b : ℚ) → s.paired ≡ [] → put_side s (Kept Objective) b ≡ Ok (record s { offset = neg_ℚ b; paired = Objective ∷ s.paired })
+offset_put : (s : State) (b : ℚ) → s.paired ≡ [] →
+    put_side s (Kept Objective) b ≡ Ok (record s { offset = neg_ℚ b; paired = Objective ∷ s.paired })
 unfolding put_side
 offset_put s b h = rw h refl
 
@@ -118,7 +121,8 @@ sides_are_read style m kept room s h = by (eq_ℚ (neg_ℚ m.offset) 0ℚ) refl
           used = refl;
         }
 
-    card : eq_ℚ (neg_ℚ m.offset) 0ℚ ≡ false → Goes style s (number_card (codes "RHS") m.objective (neg_ℚ m.offset) ∷ []) one
+    card : eq_ℚ (neg_ℚ m.offset) 0ℚ ≡ false →
+        Goes style s (number_card (codes "RHS") m.objective (neg_ℚ m.offset) ∷ []) one
     card z =
         let here : RoomFor style (side_cards m.objective (neg_ℚ m.offset)) = room_front style (side_cards m.objective (neg_ℚ m.offset)) (sides_of m.rows) room in
         let is : IsNumberCard style m.objective (neg_ℚ m.offset) =

@@ -27,27 +27,33 @@ use Rattle.spec_mps.proofs.WrittenRows.{goes_one, goes_then}
 name_word : IsWord (codes "NAME")
 name_word = record { some = refl; printable = refl }
 
-named_words : (style : Style) (b : ℕ) (bs : List ℕ) → IsWord (b ∷ bs) → words_of (line_text style (name_card (b ∷ bs))) ≡ codes "NAME" ∷ (b ∷ bs) ∷ []
+named_words : (style : Style) (b : ℕ) (bs : List ℕ) → IsWord (b ∷ bs) →
+    words_of (line_text style (name_card (b ∷ bs))) ≡ codes "NAME" ∷ (b ∷ bs) ∷ []
 unfolding words_of
 named_words Free b bs h = parts_word_then (codes "NAME") (b ∷ bs) name_word ∙ ap (λ ws. codes "NAME" ∷ ws) (parts_word (b ∷ bs) h)
 named_words Fixed b bs h =
     parts_word_then (codes "NAME") (32 ∷ 32 ∷ 32 ∷ 32 ∷ 32 ∷ 32 ∷ 32 ∷ 32 ∷ 32 ∷ b ∷ bs) name_word ∙ ap (λ ws. codes "NAME" ∷ ws) (parts_word (b ∷ bs) h)
 
-plain_name : (style : Style) (b : ℕ) (bs : List ℕ) → IsWord (b ∷ bs) → list_all is_plain (line_text style (name_card (b ∷ bs))) ≡ true
+plain_name : (style : Style) (b : ℕ) (bs : List ℕ) → IsWord (b ∷ bs) →
+    list_all is_plain (line_text style (name_card (b ∷ bs))) ≡ true
 plain_name Free b bs h = plain_text (b ∷ bs) h.printable
 plain_name Fixed b bs h = plain_text (b ∷ bs) h.printable
 
-named_read : (style : Style) (b : ℕ) (bs : List ℕ) → IsWord (b ∷ bs) → reading_of style None (line_text style (name_card (b ∷ bs))) ≡ Is (Heading (field_at 1 (codes "NAME") ∷ field_at 2 (b ∷ bs) ∷ []))
+named_read : (style : Style) (b : ℕ) (bs : List ℕ) → IsWord (b ∷ bs) →
+    reading_of style None (line_text style (name_card (b ∷ bs))) ≡ Is (Heading (field_at 1 (codes "NAME") ∷ field_at 2 (b ∷ bs) ∷ []))
 unfolding free_fields fixed_fields is_skipped word_fields
-named_read Free b bs h = rw (stripped_plain (line_text Free (name_card (b ∷ bs))) (plain_name Free b bs h), named_words Free b bs h) refl
-named_read Fixed b bs h = rw (stripped_plain (line_text Fixed (name_card (b ∷ bs))) (plain_name Fixed b bs h), named_words Fixed b bs h) refl
+named_read Free b bs h =
+    rw (stripped_plain (line_text Free (name_card (b ∷ bs))) (plain_name Free b bs h), named_words Free b bs h) refl
+named_read Fixed b bs h =
+    rw (stripped_plain (line_text Fixed (name_card (b ∷ bs))) (plain_name Fixed b bs h), named_words Fixed b bs h) refl
 
 unnamed_read : (style : Style) → reading_of style None (codes "NAME") ≡ Is (Heading (field_at 1 (codes "NAME") ∷ []))
 unfolding free_fields fixed_fields is_skipped word_fields words_of
 unnamed_read Free = refl
 unnamed_read Fixed = refl
 
-name_step : (style : Style) (name : Name) → is_model_name name ≡ true → step style start (Text (line_text style (name_card name))) ≡ Ok (More (named name))
+name_step : (style : Style) (name : Name) → is_model_name name ≡ true →
+    step style start (Text (line_text style (name_card name))) ≡ Ok (More (named name))
 unfolding step section_card section_of is_model_name
 name_step Free [] h = ap (on_reading Free start) (unnamed_read Free)
 name_step Fixed [] h = ap (on_reading Fixed start) (unnamed_read Fixed)
@@ -55,12 +61,14 @@ name_step style (b ∷ bs) h =
     let word : IsWord (b ∷ bs) = record { some = refl; printable = (both (nat_le (length (b ∷ bs)) 64) (list_all is_printable (b ∷ bs)) h).1 } in
     ap (on_reading style start) (named_read style b bs word) ∙ rw h refl
 
-sense_read : (style : Style) → reading_of style (Some section.Name) (codes "OBJSENSE MAX") ≡ Is (Heading (field_at 1 (codes "OBJSENSE") ∷ field_at 2 (codes "MAX") ∷ []))
+sense_read : (style : Style) →
+    reading_of style (Some section.Name) (codes "OBJSENSE MAX") ≡ Is (Heading (field_at 1 (codes "OBJSENSE") ∷ field_at 2 (codes "MAX") ∷ []))
 unfolding free_fields fixed_fields is_skipped word_fields words_of
 sense_read Free = refl
 sense_read Fixed = refl
 
-sense_step : (style : Style) (name : Name) → step style (named name) (Text (codes "OBJSENSE MAX")) ≡ Ok (More (with_start_of name Max))
+sense_step : (style : Style) (name : Name) →
+    step style (named name) (Text (codes "OBJSENSE MAX")) ≡ Ok (More (with_start_of name Max))
 unfolding step section_card section_of sense_of take_sense
 sense_step style name = ap (on_reading style (named name)) (sense_read style)
 

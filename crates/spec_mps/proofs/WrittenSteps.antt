@@ -20,7 +20,8 @@ card_lines style cards = map (λ card. Text (line_text style card)) cards
 
 -- whatever follows the cards
 pub record Goes (style : Style) (before : State) (cards : WrittenCards) (after : State) : Type 0 where
-  pub goes : (n : ℕ) (more : List (Line (List ℕ))) → judge style before n (card_lines style cards ++ more) ≡ judge style after (n + length cards) more
+  pub goes : (n : ℕ) (more : List (Line (List ℕ))) →
+      judge style before n (card_lines style cards ++ more) ≡ judge style after (n + length cards) more
 
 -- a row without its right side and range
 abbrev pub bare_row : ExactRow → ExactRow
@@ -31,7 +32,7 @@ abbrev pub Fits : Style → Model → Type 0
 Fits Free m = Unit {0}
 Fits Fixed m = too_wide m ≡ None
 
--- the state behind the cards of ROWS, where there was no row before them
+-- the state after the cards of ROWS, where there was no row before them
 abbrev pub with_rows_of : State → Model → State
 with_rows_of s m = record (begun s section.Rows) { objective = Some m.objective; rows = map bare_row m.rows }
 
@@ -45,7 +46,7 @@ pub record HasNoRows (s : State) : Type 0 where
 abbrev pub RowsAreRead : Style → Model → Type 0
 RowsAreRead style m = (s : State) → HasNoRows s → Goes style s (rows_cards m) (with_rows_of s m)
 
--- the states behind the name, and behind the sense, which is not written where it is the usual one
+-- the states after the name, and after the sense, which is not written where it is the usual one
 abbrev pub named : Name → State
 named name = record (begun start section.Name) { name = name }
 
@@ -64,7 +65,8 @@ pub record IsPlainLine (line : List ℕ) : Type 0 where
 
 -- A text of cards has the cards' lines.
 abbrev pub HasItsLines : Style → WrittenCards → Type 0
-HasItsLines style cards = All (λ card. IsPlainLine (line_text style card)) cards → lines_of (cards_text style cards) ≡ card_lines style cards
+HasItsLines style cards =
+    All (λ card. IsPlainLine (line_text style card)) cards → lines_of (cards_text style cards) ≡ card_lines style cards
 
 -- ---- COLUMNS, up to the heading of RHS, which makes the last column whole
 
@@ -84,7 +86,8 @@ pub record HasNoColumns (s : State) (m : Model) : Type 0 where
   pub none_lowered : s.lowered ≡ []
 
 abbrev pub with_columns_of : State → Model → State
-with_columns_of s m = record (begun (begun s section.Columns) section.RightSides) { columns = map bare_column m.columns; lowered = map (λ c. false) m.columns }
+with_columns_of s m =
+    record (begun (begun s section.Columns) section.RightSides) { columns = map bare_column m.columns; lowered = map (λ c. false) m.columns }
 
 abbrev pub ColumnsAreRead : Style → Model → Type 0
 ColumnsAreRead style m = (s : State) → HasNoColumns s m → Goes style s (columns_cards m ++ section_card (codes "RHS") ∷ []) (with_columns_of s m)

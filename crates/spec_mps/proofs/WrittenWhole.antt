@@ -40,10 +40,12 @@ columns_then m Min =
 columns_then m Max =
     record { rows_are_read = refl; no_section = refl; no_sides = refl; objective = refl; none_dropped = refl; rows = refl; no_column = refl; none_open = refl; none_lowered = refl }
 
-sides_then : (m : Model) (sense : Sense) → sense ≡ m.sense → HasNoSides (with_columns_of (with_rows_of (with_start_of m.name sense) m) m) m
+sides_then : (m : Model) (sense : Sense) → sense ≡ m.sense →
+    HasNoSides (with_columns_of (with_rows_of (with_start_of m.name sense) m) m) m
 sides_then m Min e =
     record {
-      known = record { name = refl; sense = e; objective = refl; none_dropped = refl; may_follow = refl; none_open = refl };
+      known =
+          record { name = refl; sense = e; objective = refl; none_dropped = refl; may_follow = refl; none_open = refl };
       unbounded = record { no_bounds = refl; columns = refl; none_lowered = refl };
       part = refl;
       no_ranges = refl;
@@ -54,7 +56,8 @@ sides_then m Min e =
     }
 sides_then m Max e =
     record {
-      known = record { name = refl; sense = e; objective = refl; none_dropped = refl; may_follow = refl; none_open = refl };
+      known =
+          record { name = refl; sense = e; objective = refl; none_dropped = refl; may_follow = refl; none_open = refl };
       unbounded = record { no_bounds = refl; columns = refl; none_lowered = refl };
       part = refl;
       no_ranges = refl;
@@ -94,12 +97,14 @@ room_of style m fits =
     record {
       sides = room_back style (start ++ rows_cards m ++ columns_cards m) (sides_cards m) c;
       ranges = room_back style (start ++ rows_cards m ++ columns_cards m ++ sides_cards m) (ranges_cards m) b;
-      bounds = room_back style (start ++ rows_cards m ++ columns_cards m ++ sides_cards m ++ ranges_cards m) (bounds_cards m) a;
+      bounds =
+          room_back style (start ++ rows_cards m ++ columns_cards m ++ sides_cards m ++ ranges_cards m) (bounds_cards m) a;
     }
 
 -- the cards before ENDATA
 abbrev body : Model → WrittenCards
-body m = (name_card m.name ∷ sense_cards m.sense) ++ rows_cards m ++ columns_cards m ++ sides_cards m ++ ranges_cards m ++ bounds_cards m
+body m =
+    (name_card m.name ∷ sense_cards m.sense) ++ rows_cards m ++ columns_cards m ++ sides_cards m ++ ranges_cards m ++ bounds_cards m
 
 sides_goes : (style : Style) (m : Model) → IsModel m → Fits style m → ColumnsAreRead style m
     → (t : State) × Goes style start ((name_card m.name ∷ sense_cards m.sense) ++ rows_cards m ++ columns_cards m ++ sides_cards m) t × HasNoRanges t m
@@ -118,7 +123,8 @@ sides_goes style m kept fits columns_are_read =
     let to_sides = goes_append style start c right.0 ((first ++ rows_cards m) ++ (columns_cards m ++ heading)) (sides m) to_columns right.1 in
     (right.0, subst (λ cards. Goes style start cards right.0) (regroup (first ++ rows_cards m) (columns_cards m) heading (sides m)) to_sides, right.2)
 
-body_goes : (style : Style) (m : Model) → IsModel m → Fits style m → ColumnsAreRead style m → (t : State) × Goes style start (body m) t × IsWhole t m
+body_goes : (style : Style) (m : Model) → IsModel m → Fits style m → ColumnsAreRead style m →
+    (t : State) × Goes style start (body m) t × IsWhole t m
 body_goes style m kept fits columns_are_read =
     let first : WrittenCards = (name_card m.name ∷ sense_cards m.sense) ++ rows_cards m ++ columns_cards m ++ sides_cards m in
     let a = sides_goes style m kept fits columns_are_read in
@@ -127,7 +133,8 @@ body_goes style m kept fits columns_are_read =
     let to_ranges = goes_append style start a.0 b.0 first (ranges_cards m) a.1 b.1 in
     (c.0, goes_append style start b.0 c.0 (first ++ ranges_cards m) (bounds_cards m) to_ranges c.1, c.2)
 
-cards_spell : (style : Style) (m : Model) → IsModel m → Fits style m → ColumnsAreRead style m → judge style start 1 (card_lines style (cards_of m)) ≡ Spelled m
+cards_spell : (style : Style) (m : Model) → IsModel m → Fits style m → ColumnsAreRead style m →
+    judge style start 1 (card_lines style (cards_of m)) ≡ Spelled m
 unfolding cards_of
 cards_spell style m kept fits columns_are_read =
     let g = body_goes style m kept fits columns_are_read in
@@ -136,7 +143,8 @@ cards_spell style m kept fits columns_are_read =
 
 -- ---- the text
 
-text_spells : (style : Style) (m : Model) → IsModel m → Fits style m → ColumnsAreRead style m → Spells style (lines_of (cards_text style (cards_of m))) m
+text_spells : (style : Style) (m : Model) → IsModel m → Fits style m → ColumnsAreRead style m →
+    Spells style (lines_of (cards_text style (cards_of m))) m
 text_spells style m kept fits columns_are_read =
     ap (judge style start 1) (has_its_lines style (cards_of m) (λ i d a. plain_line style (get_or (cards_of m) i d) (cards_short m kept i d a))) ∙ cards_spell style m kept fits columns_are_read
 
@@ -144,12 +152,14 @@ pub free_spells : (m : Model) → IsModel m → ColumnsAreRead Free m → Spells
 unfolding free
 free_spells m kept columns_are_read = text_spells Free m kept tt columns_are_read
 
-pub fixed_spells : (m : Model) → IsModel m → too_wide m ≡ None → ColumnsAreRead Fixed m → Spells Fixed (lines_of (fixed m)) m
+pub fixed_spells : (m : Model) → IsModel m → too_wide m ≡ None → ColumnsAreRead Fixed m →
+    Spells Fixed (lines_of (fixed m)) m
 unfolding fixed
 fixed_spells m kept narrow columns_are_read = text_spells Fixed m kept narrow columns_are_read
 
 -- a text of a model is one of no other
-pub no_other : (style : Style) (lines : List (Line (List ℕ))) (m n : Model) → Spells style lines m → (Spells style lines n ↔ (n ≡ m))
+pub no_other : (style : Style) (lines : List (Line (List ℕ))) (m n : Model) → Spells style lines m →
+    (Spells style lines n ↔ (n ≡ m))
 no_other style lines m n h = (same (judge style start 1 lines) h, λ e. subst (λ x. Spells style lines x) (sym e) h)
   where
     same : (v : Verdict) → v ≡ Spelled m → v ≡ Spelled n → n ≡ m

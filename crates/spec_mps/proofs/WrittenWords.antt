@@ -43,7 +43,8 @@ pub parts_word : (w : List ℕ) → IsWord w → parts w ≡ w ∷ []
 parts_word w h = ap (filter has_bytes) (slice_split_none is_blank w (no_blanks w h.printable)) ∙ rw h.some refl
 
 pub parts_word_then : (w rest : List ℕ) → IsWord w → parts (w ++ 32 ∷ rest) ≡ w ∷ parts rest
-parts_word_then w rest h = ap (filter has_bytes) (slice_split_at is_blank w 32 rest (no_blanks w h.printable) refl) ∙ rw h.some refl
+parts_word_then w rest h =
+    ap (filter has_bytes) (slice_split_at is_blank w 32 rest (no_blanks w h.printable) refl) ∙ rw h.some refl
 
 -- a blank before each word
 abbrev pub joined : List (List ℕ) → List ℕ
@@ -85,11 +86,13 @@ plain_of b h =
 
 pub plain_text : (w : List ℕ) → list_all is_printable w ≡ true → list_all is_plain w ≡ true
 plain_text [] h = refl
-plain_text (b ∷ w) h = let p = both (is_printable b) (list_all is_printable w) h in rw (plain_of b p.0, plain_text w p.1) refl
+plain_text (b ∷ w) h =
+    let p = both (is_printable b) (list_all is_printable w) h in rw (plain_of b p.0, plain_text w p.1) refl
 
 plain_joined : (ws : List (List ℕ)) → AreWords ws → list_all is_plain (joined ws) ≡ true
 plain_joined [] h = refl
-plain_joined (w ∷ ws) h = rw (list_all-append is_plain w (joined ws), plain_text w h.0.printable, plain_joined ws h.1) refl
+plain_joined (w ∷ ws) h =
+    rw (list_all-append is_plain w (joined ws), plain_text w h.0.printable, plain_joined ws h.1) refl
 
 not_skipped : (w : List ℕ) (ws : List (List ℕ)) → AreWords (w ∷ ws) → is_skipped (joined (w ∷ ws)) ≡ false
 unfolding is_skipped

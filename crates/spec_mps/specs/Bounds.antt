@@ -58,7 +58,8 @@ is_negative (Some u) = lt_ℚ u 0ℚ
 
 -- A negative upper bound takes away the lower bound, where no card has set that.
 abbrev pub bounded : Bool → BoundCard → ExactColumn → ExactColumn
-bounded lowered (SetsUpper u) c = if is_negative u && not lowered then record c { lower = None; upper = u } else record c { upper = u }
+bounded lowered (SetsUpper u) c =
+    if is_negative u && not lowered then record c { lower = None; upper = u } else record c { upper = u }
 bounded lowered (SetsLower l) c = record c { lower = l }
 bounded lowered (SetsBoth l u) c = record c { lower = l; upper = u }
 
@@ -90,7 +91,7 @@ takes_value Fr = false
 takes_value Mi = false
 takes_value Pl = false
 
--- the texts behind the kind; of a kind that takes no value, field 4 is not read
+-- the texts after the kind; of a kind that takes no value, field 4 is not read
 abbrev pub bound_texts_by : Bool → List (List ℕ) → Check BoundTexts
 bound_texts_by true (column ∷ value ∷ []) = Ok (record { set = None; column = column; value = value })
 bound_texts_by true (set ∷ column ∷ value ∷ []) = Ok (record { set = Some set; column = column; value = value })

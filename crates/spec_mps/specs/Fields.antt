@@ -53,7 +53,7 @@ misplaced_from column (b ∷ bs) = if is_misplaced column b then Some column els
 abbrev pub is_space : ℕ → Bool
 is_space b = b == 32
 
--- without the spaces at the front, and at the end
+-- without leading and trailing spaces
 abbrev pub without_front : List ℕ → List ℕ
 without_front [] = []
 without_front (b ∷ bs) = if is_space b then without_front bs else b ∷ bs

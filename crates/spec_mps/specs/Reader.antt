@@ -44,7 +44,8 @@ abbrev pub start : State
 start =
     record {
       part = None;
-      seen = record { name = false; sense = false; rows = false; columns = false; right_sides = false; ranges = false; bounds = false };
+      seen =
+          record { name = false; sense = false; rows = false; columns = false; right_sides = false; ranges = false; bounds = false };
       name = [];
       sense = None;
       objective = None;
@@ -97,7 +98,8 @@ is_first s Unlimited = is_none s.objective
 is_first s (Limited kind) = false
 
 abbrev pub with_row : State → RowType → Name → State
-with_row s Unlimited name = if is_none s.objective then record s { objective = Some name } else record s { dropped = s.dropped ++ name ∷ [] }
+with_row s Unlimited name =
+    if is_none s.objective then record s { objective = Some name } else record s { dropped = s.dropped ++ name ∷ [] }
 with_row s (Limited kind) name = record s { rows = s.rows ++ new_row kind name ∷ [] }
 
 -- rows that are dropped count too

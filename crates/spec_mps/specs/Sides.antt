@@ -82,7 +82,7 @@ rhs_card style s fields = do
   texts ← shaped style section.RightSides fields
   rhs_by s (set_and_pairs texts)
 
--- ---- RANGES: the same, and the objective, which comes behind the row, has none
+-- ---- RANGES: the same, and the objective, which comes after the row, has none
 
 -- a row that may have a range, `None` for one that is dropped
 abbrev pub ranged_row : Place → Check (Option ℕ)

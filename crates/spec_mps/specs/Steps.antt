@@ -55,7 +55,7 @@ with_section seen section.Ranges = record seen { ranges = true }
 with_section seen section.Bounds = record seen { bounds = true }
 with_section seen section.End = seen
 
--- NAME and OBJSENSE stand before ROWS, and RHS, RANGES, BOUNDS and ENDATA behind COLUMNS
+-- NAME and OBJSENSE stand before ROWS, and RHS, RANGES, BOUNDS and ENDATA after COLUMNS
 abbrev pub may_follow : Seen → Section → Bool
 may_follow seen section.Name = not seen.rows
 may_follow seen section.Sense = not seen.rows
@@ -68,7 +68,8 @@ may_follow seen section.End = seen.columns
 
 -- as a section begins, the last column is whole, no row has a number in it, and there is no set
 abbrev pub begun : State → Section → State
-begun s part = record s { part = Some part; seen = with_section s.seen part; columns = whole_columns s; column = None; paired = []; set = None }
+begun s part =
+    record s { part = Some part; seen = with_section s.seen part; columns = whole_columns s; column = None; paired = []; set = None }
 
 abbrev pub sense_beside : State → List ℕ → Check State
 sense_beside s [] = Ok s
@@ -158,7 +159,7 @@ settled n next (Ok (More s)) = next s
 settled n next (Ok (Done m)) = Spelled m
 settled n next (Err code) = Refused n code
 
--- The first of the lines is line n. Where they end too early, the line that would come next is at fault.
+-- The first of the lines is line n. Where they end too early, the line that would come next is wrong.
 abbrev pub judge : Style → State → ℕ → List (Line (List ℕ)) → Verdict
 judge style s n [] = Refused n code.Cut
 judge style s n (line ∷ lines) = settled n (λ t. judge style t (n + 1) lines) (step style s line)
@@ -177,4 +178,5 @@ pub record IsJudged (style : Style) (lines : List (Line (List ℕ))) : Type 0 wh
   pub one_model : (m o : Model) → Spells style lines m → Spells style lines o → m ≡ o
   pub not_both : (m : Model) (n : ℕ) (fault : Code) → Spells style lines m → ¬ (Refuses style lines n fault)
   pub one_line : (n k : ℕ) (fault other : Code) → Refuses style lines n fault → Refuses style lines k other → n ≡ k
-  pub one_fault : (n k : ℕ) (fault other : Code) → Refuses style lines n fault → Refuses style lines k other → fault ≡ other
+  pub one_fault : (n k : ℕ) (fault other : Code) → Refuses style lines n fault → Refuses style lines k other →
+      fault ≡ other

@@ -14,7 +14,7 @@ use Rattle.spec_mps.specs.NumberWritten.{number_text}
 
 -- ---- cards
 
--- a section card, by what begins it and the fields behind that, or a data card; fields have the numbers of fixed form
+-- a section card, by what begins it and the fields after that, or a data card; fields have the numbers of fixed form
 pub data WrittenCard : Type 0 where
   Head : (start : List ℕ) → (fields : Fields) → WrittenCard
   Data : (fields : Fields) → WrittenCard
@@ -43,7 +43,7 @@ bound_card kind name value = Data (field_at 1 kind ∷ field_at 2 (codes "BND") 
 abbrev pub unbound_card : List ℕ → Name → WrittenCard
 unbound_card kind name = Data (field_at 1 kind ∷ field_at 2 (codes "BND") ∷ field_at 3 name ∷ [])
 
--- NAME, and behind it the model's name, if it has one, where field 3 stands in fixed form
+-- NAME, and after it the model's name, if it has one, where field 3 stands in fixed form
 abbrev pub name_card : Name → WrittenCard
 name_card name = Head (codes "NAME") (field_of 3 name)
 
@@ -121,12 +121,13 @@ cards_of m =
 
 -- the column of fixed form in which a field begins, and the most bytes that it holds
 abbrev pub first_column : ℕ → ℕ
-first_column n = if n == 1 then 2 else (if n == 2 then 5 else (if n == 3 then 15 else (if n == 4 then 25 else (if n == 5 then 40 else 50))))
+first_column n =
+    if n == 1 then 2 else (if n == 2 then 5 else (if n == 3 then 15 else (if n == 4 then 25 else (if n == 5 then 40 else 50))))
 
 abbrev pub field_width : ℕ → ℕ
 field_width n = if n == 1 then 2 else (if n == 4 || n == 6 then 12 else 8)
 
--- a line with one blank behind it, or with blanks up to the field's first column
+-- a line with one blank after it, or with blanks up to the field's first column
 abbrev pub padded : Style → ℕ → List ℕ → List ℕ
 padded Free n line = line ++ 32 ∷ []
 padded Fixed n line = line ++ replicate (first_column n - 1 - length line) 32
@@ -139,7 +140,7 @@ abbrev pub line_text : Style → WrittenCard → List ℕ
 line_text style (Head start fields) = with_fields style start fields
 line_text style (Data fields) = with_fields style [] fields
 
--- a line feed behind each line
+-- a line feed after each line
 abbrev pub cards_text : Style → WrittenCards → List ℕ
 cards_text style cards = flat_map (λ card. line_text style card ++ 10 ∷ []) cards
 

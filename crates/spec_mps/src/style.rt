@@ -1,6 +1,6 @@
 // The two forms of texts.
 
-/// How the fields of a line are told apart.
+/// How the fields of a line are separated.
 #[derive(Clone, Copy, Debug, PartialEq, Eq)]
 pub enum Style {
     /// By spaces and tabs.

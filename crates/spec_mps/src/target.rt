@@ -11,6 +11,6 @@ pub enum Target {
 #[derive(Clone, Copy, Debug, PartialEq, Eq)]
 pub enum Place {
     Kept(Target),
-    /// A row of type N behind the objective, whose numbers count for nothing.
+    /// A row of type N after the objective, whose numbers are ignored.
     Dropped,
 }
