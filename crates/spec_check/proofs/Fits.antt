@@ -19,7 +19,8 @@ use Rattle.spec_check.specs.Text.{ExactPart, ExactRaw, ExactKind}
 use Rattle.spec_check.specs.Settle.{Settled, ◌>>=◌, known, place_of, with_value, is_given, blank, put, put_all, certificate_for}
 
 -- what an answer came from
-after_ok : {A B : Type 0} (o : Settled A) (next : A → Settled B) (b : B) → (o >>= next) ≡ Ok b → (a : A) × (o ≡ Ok a) × (next a ≡ Ok b)
+after_ok : {A B : Type 0} (o : Settled A) (next : A → Settled B) (b : B) → (o >>= next) ≡ Ok b →
+    (a : A) × (o ≡ Ok a) × (next a ≡ Ok b)
 after_ok (Ok a) next b e = (a, refl, e)
 after_ok (Err fault) next b e = cc
 
@@ -41,7 +42,8 @@ column_inside : (m : Model) (name : Name) (j : ℕ) → column_place m name ≡ 
 unfolding column_place
 column_inside m name j e = below (prefix_len (λ (c : ExactColumn). not (same c.name name)) m.columns) (width m) j e
 
-with_value_fits : (m : Model) (letter : Letter) (k : ℕ) (v : ℚ) (cert : Certificate (List ℚ)) → IsFor m cert → IsFor m (with_value letter k v cert)
+with_value_fits : (m : Model) (letter : Letter) (k : ℕ) (v : ℚ) (cert : Certificate (List ℚ)) → IsFor m cert →
+    IsFor m (with_value letter k v cert)
 with_value_fits m X k v (Optimal x y) f = (length-set x k v ∙ f.0, f.1)
 with_value_fits m Y k v (Optimal x y) f = (f.0, length-set y k v ∙ f.1)
 with_value_fits m R k v (Optimal x y) f = f
@@ -55,17 +57,22 @@ with_value_fits m X k v (Unbounded x r) f = (length-set x k v ∙ f.0, f.1)
 with_value_fits m Y k v (Unbounded x r) f = f
 with_value_fits m R k v (Unbounded x r) f = (f.0, length-set r k v ∙ f.1)
 
-put_fits : (m : Model) (before : List ExactPart) (p : ExactPart) (cert next : Certificate (List ℚ)) → IsFor m cert → put m before p cert ≡ Ok next → IsFor m next
+put_fits : (m : Model) (before : List ExactPart) (p : ExactPart) (cert next : Certificate (List ℚ)) → IsFor m cert →
+    put m before p cert ≡ Ok next → IsFor m next
 unfolding put
 put_fits m before p cert next f e =
     let a = after_ok (known (place_of m p.letter p.name) p.name) (λ k. cond (is_given p.letter p.name before) (Err (Repeated p.name)) (Ok (with_value p.letter k p.value cert))) next e in
     by (is_given p.letter p.name before) a.0 a.2
   where
-    by : (t : Bool) (k : ℕ) → ◌≡◌ {A = Settled (Certificate (List ℚ))} (cond t (Err (Repeated p.name)) (Ok (with_value p.letter k p.value cert))) (Ok next) → IsFor m next
+    by : (t : Bool) (k : ℕ) →
+        ◌≡◌ {A = Settled (Certificate (List ℚ))} (cond t (Err (Repeated p.name)) (Ok (with_value p.letter k p.value cert))) (Ok next) →
+        IsFor m next
     by true k h = cc
-    by false k h = subst (IsFor m) (ok_same (with_value p.letter k p.value cert) next h) (with_value_fits m p.letter k p.value cert f)
+    by false k h =
+        subst (IsFor m) (ok_same (with_value p.letter k p.value cert) next h) (with_value_fits m p.letter k p.value cert f)
 
-all_fit : (m : Model) (before parts : List ExactPart) (cert last : Certificate (List ℚ)) → IsFor m cert → put_all m before parts cert ≡ Ok last → IsFor m last
+all_fit : (m : Model) (before parts : List ExactPart) (cert last : Certificate (List ℚ)) → IsFor m cert →
+    put_all m before parts cert ≡ Ok last → IsFor m last
 all_fit m before [] cert last f e = subst (IsFor m) (ok_same cert last e) f
 all_fit m before (p ∷ parts) cert last f e =
     let a = after_ok (put m before p cert) (λ next. put_all m (before ++ p ∷ []) parts next) last e in
@@ -73,14 +80,17 @@ all_fit m before (p ∷ parts) cert last f e =
 
 blank_fits : (m : Model) (k : ExactKind) (cert : Certificate (List ℚ)) → blank m k ≡ Ok cert → IsFor m cert
 unfolding blank
-blank_fits m kind.Optimal cert e = subst (IsFor m) (ok_same _ cert e) (length-replicate (width m) 0ℚ, length-replicate (height m) 0ℚ)
+blank_fits m kind.Optimal cert e =
+    subst (IsFor m) (ok_same _ cert e) (length-replicate (width m) 0ℚ, length-replicate (height m) 0ℚ)
 blank_fits m kind.Infeasible cert e = subst (IsFor m) (ok_same _ cert e) (length-replicate (height m) 0ℚ)
-blank_fits m kind.Unbounded cert e = subst (IsFor m) (ok_same _ cert e) (length-replicate (width m) 0ℚ, length-replicate (width m) 0ℚ)
+blank_fits m kind.Unbounded cert e =
+    subst (IsFor m) (ok_same _ cert e) (length-replicate (width m) 0ℚ, length-replicate (width m) 0ℚ)
 blank_fits m (kind.Clash name) cert e =
     let a = after_ok (known (column_place m name) name) (λ j. Ok (Clash j)) cert e in
     subst (IsFor m) (ok_same (Clash a.0) cert a.2) (column_inside m name a.0 (known_ok (column_place m name) name a.0 a.1))
 
-pub settled_fits : (m : Model) (raw : ExactRaw) (cert : Certificate (List ℚ)) → certificate_for m raw ≡ Ok cert → IsFor m cert
+pub settled_fits : (m : Model) (raw : ExactRaw) (cert : Certificate (List ℚ)) → certificate_for m raw ≡ Ok cert →
+    IsFor m cert
 unfolding certificate_for
 settled_fits m raw cert e =
     let a = after_ok (blank m raw.kind) (λ first. put_all m [] raw.parts first) cert e in

@@ -14,7 +14,8 @@ use Rattle.spec_check.specs.Checks.{priced, asked, or_zero, HasLimit, turned_lim
 use Rattle.spec_check.specs.Run.{Run, ◌>>=◌, step, need, lower_run, upper_run, is_less, is_greater, weighed_at, weighed, row_asks_run, priced_run, column_gives_run, rows_ask_run, columns_give_run, infeasible_run, crossed_run, clash_run}
 use Rattle.spec_check.proofs.StepsComplete.{then_ok, need_true, from_all, plus_all, sum_all, lower_all, upper_all, ordered}
 
-weighed_at_all : (n : ℕ) (d : ℚ) (o : Option ℚ) (b s : ℚ) → o ≡ Some b → weighed_at n None d o s ≡ Ok (s +ℚ d *ℚ or_zero o)
+weighed_at_all : (n : ℕ) (d : ℚ) (o : Option ℚ) (b s : ℚ) → o ≡ Some b →
+    weighed_at n None d o s ≡ Ok (s +ℚ d *ℚ or_zero o)
 weighed_at_all n d o b s e = subst (λ z. weighed_at n None d z s ≡ Ok (s +ℚ d *ℚ or_zero z)) (sym e) (plus_all d b s)
 
 nothing : (s d : ℚ) → ◌≡◌ {A = Run ℚ} (Ok s) (Ok (s +ℚ d *ℚ 0ℚ))
@@ -29,7 +30,8 @@ weighed_all n l d s h = by (lt_ℚ 0ℚ d) (lt_ℚ d 0ℚ) refl refl
     by false true p q = let w = h.below (lt_if d 0ℚ q) in weighed_at_all n d l.upper w.0 s w.1
     by false false p q = nothing s d
 
-row_all : (m : Model) (y : List ℚ) (i : ℕ) (s : ℚ) → HasLimit (limits m i) (part y i) → row_asks_run None m y i s ≡ Ok (s +ℚ part y i *ℚ asked (limits m i) (part y i))
+row_all : (m : Model) (y : List ℚ) (i : ℕ) (s : ℚ) → HasLimit (limits m i) (part y i) →
+    row_asks_run None m y i s ≡ Ok (s +ℚ part y i *ℚ asked (limits m i) (part y i))
 row_all m y i s h = by (lt_ℚ 0ℚ d) (lt_ℚ d 0ℚ) refl refl
   where
     d : ℚ
@@ -44,7 +46,8 @@ row_all m y i s h = by (lt_ℚ 0ℚ d) (lt_ℚ d 0ℚ) refl refl
     high : Run ℚ
     high = upper_run None (row m i) >>= λ u. weighed_at 1 None (part y i) u s
 
-    by : (a b : Bool) → lt_ℚ 0ℚ d ≡ a → lt_ℚ d 0ℚ ≡ b → cond a low (cond b high (Ok s)) ≡ Ok (s +ℚ d *ℚ cond a (or_zero l.lower) (cond b (or_zero l.upper) 0ℚ))
+    by : (a b : Bool) → lt_ℚ 0ℚ d ≡ a → lt_ℚ d 0ℚ ≡ b →
+        cond a low (cond b high (Ok s)) ≡ Ok (s +ℚ d *ℚ cond a (or_zero l.lower) (cond b (or_zero l.upper) 0ℚ))
     by true b p q =
         let w = h.above (lt_if 0ℚ d p) in
         then_ok (lower_run None (row m i)) (limits m i).lower (λ l. weighed_at 1 None (part y i) l s) _ (lower_all (row m i)) (weighed_at_all 1 d l.lower w.0 s w.1)

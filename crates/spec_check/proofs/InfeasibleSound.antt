@@ -20,7 +20,8 @@ pub record Weighed (l : Limits) (d s u : ℚ) : Type 0 where
   pub there : HasLimit l d
   pub sum : u ≡ s +ℚ d *ℚ asked l d
 
-weighed_at_ok : (n : ℕ) (limit : Option ℕ) (d : ℚ) (o : Option ℚ) (s u : ℚ) → weighed_at n limit d o s ≡ Ok u → (b : ℚ) × (o ≡ Some b) × (u ≡ s +ℚ d *ℚ b)
+weighed_at_ok : (n : ℕ) (limit : Option ℕ) (d : ℚ) (o : Option ℚ) (s u : ℚ) → weighed_at n limit d o s ≡ Ok u →
+    (b : ℚ) × (o ≡ Some b) × (u ≡ s +ℚ d *ℚ b)
 weighed_at_ok n limit d None s u e = cc
 weighed_at_ok n limit d (Some b) s u e = (b, refl, plus_ok limit d b s u e)
 
@@ -44,7 +45,8 @@ none_weighed l d s u p q h = record {
 }
 
 -- the limit that a row's multiplier asks for
-row_ok : (limit : Option ℕ) (m : Model) (y : List ℚ) (i : ℕ) (s u : ℚ) → row_asks_run limit m y i s ≡ Ok u → Weighed (limits m i) (part y i) s u
+row_ok : (limit : Option ℕ) (m : Model) (y : List ℚ) (i : ℕ) (s u : ℚ) → row_asks_run limit m y i s ≡ Ok u →
+    Weighed (limits m i) (part y i) s u
 row_ok limit m y i s u e = by (lt_ℚ 0ℚ d) (lt_ℚ d 0ℚ) refl refl e
   where
     d : ℚ
@@ -56,7 +58,8 @@ row_ok limit m y i s u e = by (lt_ℚ 0ℚ d) (lt_ℚ d 0ℚ) refl refl e
     high : Run ℚ
     high = upper_run limit (row m i) >>= λ h. weighed_at 1 limit (part y i) h s
 
-    by : (a b : Bool) → lt_ℚ 0ℚ d ≡ a → lt_ℚ d 0ℚ ≡ b → cond a low (cond b high (Ok s)) ≡ Ok u → Weighed (limits m i) d s u
+    by : (a b : Bool) → lt_ℚ 0ℚ d ≡ a → lt_ℚ d 0ℚ ≡ b → cond a low (cond b high (Ok s)) ≡ Ok u →
+        Weighed (limits m i) d s u
     by true b p q h =
         let a = after_ok (lower_run limit (row m i)) (λ l. weighed_at 1 limit (part y i) l s) u h in
         let w = weighed_at_ok 1 limit d a.0 s u a.2 in
@@ -70,12 +73,16 @@ row_ok limit m y i s u e = by (lt_ℚ 0ℚ d) (lt_ℚ d 0ℚ) refl refl e
 weighed_ok : (n : ℕ) (limit : Option ℕ) (l : Limits) (d s u : ℚ) → weighed n limit l d s ≡ Ok u → Weighed l d s u
 weighed_ok n limit l d s u e = by (lt_ℚ 0ℚ d) (lt_ℚ d 0ℚ) refl refl e
   where
-    by : (a b : Bool) → lt_ℚ 0ℚ d ≡ a → lt_ℚ d 0ℚ ≡ b → cond a (weighed_at n limit d l.lower s) (cond b (weighed_at n limit d l.upper s) (Ok s)) ≡ Ok u → Weighed l d s u
+    by : (a b : Bool) → lt_ℚ 0ℚ d ≡ a → lt_ℚ d 0ℚ ≡ b →
+        cond a (weighed_at n limit d l.lower s) (cond b (weighed_at n limit d l.upper s) (Ok s)) ≡ Ok u →
+        Weighed l d s u
     by true b p q h = let w = weighed_at_ok n limit d l.lower s u h in above_weighed l d s u w.0 (lt_if 0ℚ d p) w.1 w.2
-    by false true p q h = let w = weighed_at_ok n limit d l.upper s u h in below_weighed l d s u w.0 (lt_if d 0ℚ q) w.1 w.2
+    by false true p q h =
+        let w = weighed_at_ok n limit d l.upper s u h in below_weighed l d s u w.0 (lt_if d 0ℚ q) w.1 w.2
     by false false p q h = none_weighed l d s u p q (ok_same s u h)
 
-column_ok : (limit : Option ℕ) (m : Model) (y : List ℚ) (j : ℕ) (s u : ℚ) → column_gives_run limit m y j s ≡ Ok u → Weighed (turned_limits (bounds m j)) (priced m y j) s u
+column_ok : (limit : Option ℕ) (m : Model) (y : List ℚ) (j : ℕ) (s u : ℚ) → column_gives_run limit m y j s ≡ Ok u →
+    Weighed (turned_limits (bounds m j)) (priced m y j) s u
 column_ok limit m y j s u e =
     let a = after_ok (priced_run limit m y j) (λ g. weighed 2 limit (turned_limits (bounds m j)) g s) u e in
     subst (λ g. Weighed (turned_limits (bounds m j)) g s u) (products_ok limit (height m) (λ i. part y i) (λ i. coefficient m i j) a.0 a.1)
@@ -89,7 +96,8 @@ total_ok n f l d h v e = (
   sum_ok 0ℚ n f (λ k. d k *ℚ asked (l k) (d k)) (λ k s u _ q. (h k s u q).sum) v e ∙ zero-+ℚ _,
 )
 
-pub infeasible_ok : (limit : Option ℕ) (m : Model) (y : List ℚ) (said : Known ℚ) → infeasible_run limit m y ≡ Ok said → ChecksInfeasible m y × (said ≡ known.Infeasible)
+pub infeasible_ok : (limit : Option ℕ) (m : Model) (y : List ℚ) (said : Known ℚ) → infeasible_run limit m y ≡ Ok said →
+    ChecksInfeasible m y × (said ≡ known.Infeasible)
 infeasible_ok limit m y said e =
     let a = after_ok (rows_ask_run limit m y) _ said e in
     let b = after_ok (columns_give_run limit m y) _ said a.2 in
@@ -100,17 +108,20 @@ infeasible_ok limit m y said e =
       record {
         rows = rows.0;
         columns = columns.0;
-        less = subst (λ z. z <ℚ rows_ask m y) columns.1 (subst (λ z. b.0 <ℚ z) rows.1 (less_from c.0 b.0 a.0 (compared limit b.0 a.0 c.0 c.1) (need_ok 3 (is_less c.0) d.0 d.1)));
+        less =
+            subst (λ z. z <ℚ rows_ask m y) columns.1 (subst (λ z. b.0 <ℚ z) rows.1 (less_from c.0 b.0 a.0 (compared limit b.0 a.0 c.0 c.1) (need_ok 3 (is_less c.0) d.0 d.1)));
       },
       sym (ok_same known.Infeasible said d.2),
     )
 
-pub clash_ok : (limit : Option ℕ) (m : Model) (j : ℕ) (said : Known ℚ) → j < width m → clash_run limit m j ≡ Ok said → ChecksClash m j × (said ≡ known.Infeasible)
+pub clash_ok : (limit : Option ℕ) (m : Model) (j : ℕ) (said : Known ℚ) → j < width m → clash_run limit m j ≡ Ok said →
+    ChecksClash m j × (said ≡ known.Infeasible)
 clash_ok limit m j said p e =
     let a = after_ok (crossed_run limit (bounds m j).lower (bounds m j).upper) (λ _. Ok known.Infeasible) said e in
     (by (bounds m j).lower (bounds m j).upper refl refl a.0 a.1, sym (ok_same known.Infeasible said a.2))
   where
-    by : (l u : Option ℚ) → (bounds m j).lower ≡ l → (bounds m j).upper ≡ u → (t : ⊤) → crossed_run limit l u ≡ Ok t → ChecksClash m j
+    by : (l u : Option ℚ) → (bounds m j).lower ≡ l → (bounds m j).upper ≡ u → (t : ⊤) → crossed_run limit l u ≡ Ok t →
+        ChecksClash m j
     by None u f g t h = cc
     by (Some l) None f g t h = cc
     by (Some l) (Some u) f g t h =

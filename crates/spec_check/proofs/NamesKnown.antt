@@ -13,7 +13,8 @@ use Rattle.spec_check.specs.declared.certificate.Letter.{Letter}
 use Rattle.spec_check.specs.declared.certificate.Letter.TheVariants.{X, Y, R}
 use Rattle.spec_check.specs.Settle.{place_of}
 
-prefix_at : {A : Type 0} (q : A → Bool) (xs : List A) (d : A) (j : ℕ) → j < length xs → ((i : ℕ) → i < j → q (get_or xs i d) ≡ true) → q (get_or xs j d) ≡ false → prefix_len q xs ≡ j
+prefix_at : {A : Type 0} (q : A → Bool) (xs : List A) (d : A) (j : ℕ) → j < length xs →
+    ((i : ℕ) → i < j → q (get_or xs i d) ≡ true) → q (get_or xs j d) ≡ false → prefix_len q xs ≡ j
 prefix_at q [] d j h f g = absurd (omega arith)
 prefix_at q (x ∷ xs) d zero h f g = ap (λ b. cond b (1 + prefix_len q xs) 0) g
 prefix_at q (x ∷ xs) d (suc j) h f g =
@@ -21,7 +22,8 @@ prefix_at q (x ∷ xs) d (suc j) h f g =
     let e : 1 + j ≡ suc j = omega arith in
     ap (λ b. cond b (1 + prefix_len q xs) 0) (f 0 (omega arith)) ∙ ap (λ n. 1 + n) rest ∙ e
 
-pub position_at : {A : Type 0} (p : A → Bool) (xs : List A) (d : A) (j : ℕ) → j < length xs → ((i : ℕ) → i < j → p (get_or xs i d) ≡ false) → p (get_or xs j d) ≡ true → position p xs ≡ Some j
+pub position_at : {A : Type 0} (p : A → Bool) (xs : List A) (d : A) (j : ℕ) → j < length xs →
+    ((i : ℕ) → i < j → p (get_or xs i d) ≡ false) → p (get_or xs j d) ≡ true → position p xs ≡ Some j
 position_at p xs d j h f g =
     let e : prefix_len (λ x. not (p x)) xs ≡ j = prefix_at (λ x. not (p x)) xs d j h (λ i k. ap not (f i k)) (ap not g) in
     ap (λ n. cond (ltb n (length xs)) (Some n) None) e ∙ rw (lt-ltb j (length xs) h) refl
@@ -45,7 +47,8 @@ column_name m j = (column m j).name
 abbrev pub row_name : Model → ℕ → Name
 row_name m i = (row m i).name
 
-columns_differ : (m : Model) → IsModel m → (i k : ℕ) → i < k → k < width m → same (column_name m i) (column_name m k) ≡ false
+columns_differ : (m : Model) → IsModel m → (i k : ℕ) → i < k → k < width m →
+    same (column_name m i) (column_name m k) ≡ false
 columns_differ m h i k p q =
     let long : length (column_names m) ≡ width m = length-map m.columns (λ (c : ExactColumn). c.name) in
     let a : get_or (column_names m) i [] ≡ column_name m i = get_or-map (λ (c : ExactColumn). c.name) m.columns i no_column [] (omega arith) in
@@ -64,11 +67,13 @@ same-self a = (same_is_equal a a).1 refl
 
 pub column_at : (m : Model) → IsModel m → (j : ℕ) → j < width m → column_place m (column_name m j) ≡ Some j
 unfolding column_place
-column_at m h j p = position_at (λ (c : ExactColumn). same c.name (column_name m j)) m.columns no_column j p (λ i k. columns_differ m h i j k p) (same-self (column_name m j))
+column_at m h j p =
+    position_at (λ (c : ExactColumn). same c.name (column_name m j)) m.columns no_column j p (λ i k. columns_differ m h i j k p) (same-self (column_name m j))
 
 row_at : (m : Model) → IsModel m → (i : ℕ) → i < height m → row_place m (row_name m i) ≡ Some i
 unfolding row_place
-row_at m h i p = position_at (λ (r : ExactRow). same r.name (row_name m i)) m.rows no_row i p (λ k q. rows_differ m h k i q p) (same-self (row_name m i))
+row_at m h i p =
+    position_at (λ (r : ExactRow). same r.name (row_name m i)) m.rows no_row i p (λ k q. rows_differ m h k i q p) (same-self (row_name m i))
 
 pub column_word : (m : Model) → IsModel m → (j : ℕ) → j < width m → IsWord (column_name m j)
 column_word m h j p = name_word (column_name m j) (h.columns j no_column p).name
@@ -80,4 +85,5 @@ pub rays_named : (m : Model) → IsModel m → AreNames m R (width m) (column_na
 rays_named m h = record { words = column_word m h; places = column_at m h; distinct = columns_differ m h }
 
 pub rows_named : (m : Model) → IsModel m → AreNames m Y (height m) (row_name m)
-rows_named m h = record { words = λ i p. row_name_word (row_name m i) (h.rows i no_row p); places = row_at m h; distinct = rows_differ m h }
+rows_named m h =
+    record { words = λ i p. row_name_word (row_name m i) (h.rows i no_row p); places = row_at m h; distinct = rows_differ m h }

@@ -19,7 +19,8 @@ reduced_all m y j =
     (λ i u p. less_all (part y i) (coefficient m i j) u)
     ∙ ap (λ s. Ok (signed m.sense (cost m j) +ℚ s)) (sym (neg-sum_below (height m) (λ i. part y i *ℚ coefficient m i j)))
 
-column_tight_all : (m : Model) (x y : List ℚ) (j : ℕ) → IsTight (bounds m j) (reduced m y j) (part x j) → column_tight_run None m x y j ≡ Ok tt
+column_tight_all : (m : Model) (x y : List ℚ) (j : ℕ) → IsTight (bounds m j) (reduced m y j) (part x j) →
+    column_tight_run None m x y j ≡ Ok tt
 column_tight_all m x y j t =
     then_ok (reduced_run None m y j) (reduced m y j) (λ d. need 3 (is_tight (bounds m j) d (part x j))) tt (reduced_all m y j)
     (need_true 3 _ (tight_test (bounds m j) (reduced m y j) (part x j) t))
@@ -30,7 +31,8 @@ stands_all m x i run o e s =
     then_ok (activity_run None m x i) (activity m x i) _ tt (activity_all m x i)
     (then_ok run o (λ l. need 4 (stands_at l (activity m x i))) tt e (need_true 4 _ (stands_test o (activity m x i) s)))
 
-row_tight_all : (m : Model) (x y : List ℚ) (i : ℕ) → IsTight (limits m i) (part y i) (activity m x i) → row_tight_run None m x y i ≡ Ok tt
+row_tight_all : (m : Model) (x y : List ℚ) (i : ℕ) → IsTight (limits m i) (part y i) (activity m x i) →
+    row_tight_run None m x y i ≡ Ok tt
 row_tight_all m x y i t = by (lt_ℚ 0ℚ d) (lt_ℚ d 0ℚ) refl refl
   where
     d : ℚ
@@ -43,8 +45,10 @@ row_tight_all m x y i t = by (lt_ℚ 0ℚ d) (lt_ℚ d 0ℚ) refl refl
     high = activity_run None m x i >>= λ v. upper_run None (row m i) >>= λ u. need 4 (stands_at u v)
 
     by : (a b : Bool) → lt_ℚ 0ℚ d ≡ a → lt_ℚ d 0ℚ ≡ b → cond a low (cond b high (Ok tt)) ≡ Ok tt
-    by true b p q = stands_all m x i (lower_run None (row m i)) (limits m i).lower (lower_all (row m i)) (t.above (lt_if 0ℚ d p))
-    by false true p q = stands_all m x i (upper_run None (row m i)) (limits m i).upper (upper_all (row m i)) (t.below (lt_if d 0ℚ q))
+    by true b p q =
+        stands_all m x i (lower_run None (row m i)) (limits m i).lower (lower_all (row m i)) (t.above (lt_if 0ℚ d p))
+    by false true p q =
+        stands_all m x i (upper_run None (row m i)) (limits m i).upper (upper_all (row m i)) (t.below (lt_if d 0ℚ q))
     by false false p q = refl
 
 -- ---- the value
@@ -53,7 +57,8 @@ value_all m x =
     then_ok (cost_run None m x) (cost_of m x) (λ s. step Add s m.offset (add None s m.offset)) (value_of m x) (sum_all (width m) (cost m) (λ j. part x j))
     (added (cost_of m x) m.offset)
 
-pub optimal_all : (m : Model) (x y : List ℚ) → ChecksOptimal m x y → optimal_run None m x y ≡ Ok (known.Optimal (value_of m x))
+pub optimal_all : (m : Model) (x y : List ℚ) → ChecksOptimal m x y →
+    optimal_run None m x y ≡ Ok (known.Optimal (value_of m x))
 optimal_all m x y h =
     let v = known.Optimal (value_of m x) in
     then_ok (columns_run None m x) tt _ v (columns_all m x h.feasible)

@@ -14,13 +14,15 @@ use Rattle.spec_check.specs.Run.{Run, ◌>>=◌, step, need, each, less_product,
 use Rattle.spec_check.proofs.StepsSound.{after_ok, need_ok, ok_same, each_ok, sum_ok, less_ok, products_ok, added, lower_ok, upper_ok, stands_from, tight_from, activity_ok, feasible_ok}
 
 -- ---- complementary multipliers
-reduced_ok : (limit : Option ℕ) (m : Model) (y : List ℚ) (j : ℕ) (d : ℚ) → reduced_run limit m y j ≡ Ok d → d ≡ reduced m y j
+reduced_ok : (limit : Option ℕ) (m : Model) (y : List ℚ) (j : ℕ) (d : ℚ) → reduced_run limit m y j ≡ Ok d →
+    d ≡ reduced m y j
 reduced_ok limit m y j d e =
     sum_ok (signed m.sense (cost m j)) (height m) (λ i d. less_product limit (part y i) (coefficient m i j) d) (λ i. neg_ℚ (part y i *ℚ coefficient m i j))
     (λ k u w p h. less_ok limit (part y k) (coefficient m k j) u w h) d e
     ∙ ap (λ s. signed m.sense (cost m j) +ℚ s) (sym (neg-sum_below (height m) (λ i. part y i *ℚ coefficient m i j)))
 
-column_tight_ok : (limit : Option ℕ) (m : Model) (x y : List ℚ) (j : ℕ) → column_tight_run limit m x y j ≡ Ok tt → IsTight (bounds m j) (reduced m y j) (part x j)
+column_tight_ok : (limit : Option ℕ) (m : Model) (x y : List ℚ) (j : ℕ) → column_tight_run limit m x y j ≡ Ok tt →
+    IsTight (bounds m j) (reduced m y j) (part x j)
 column_tight_ok limit m x y j e =
     let a = after_ok (reduced_run limit m y j) (λ d. need 3 (is_tight (bounds m j) d (part x j))) tt e in
     subst (λ d. IsTight (bounds m j) d (part x j)) (reduced_ok limit m y j a.0 a.1) (tight_from (bounds m j) a.0 (part x j) (need_ok 3 _ tt a.2))
@@ -33,7 +35,8 @@ stands_ok limit m x i run o g e =
     let b = after_ok run (λ l. need 4 (stands_at l a.0)) tt a.2 in
     sym (g b.0 b.1) ∙ stands_from b.0 a.0 (need_ok 4 _ tt b.2) ∙ ap Some (activity_ok limit m x i a.0 a.1)
 
-row_tight_ok : (limit : Option ℕ) (m : Model) (x y : List ℚ) (i : ℕ) → row_tight_run limit m x y i ≡ Ok tt → IsTight (limits m i) (part y i) (activity m x i)
+row_tight_ok : (limit : Option ℕ) (m : Model) (x y : List ℚ) (i : ℕ) → row_tight_run limit m x y i ≡ Ok tt →
+    IsTight (limits m i) (part y i) (activity m x i)
 row_tight_ok limit m x y i e = by (lt_ℚ 0ℚ d) (lt_ℚ d 0ℚ) refl refl e
   where
     d : ℚ
@@ -45,7 +48,8 @@ row_tight_ok limit m x y i e = by (lt_ℚ 0ℚ d) (lt_ℚ d 0ℚ) refl refl e
     high : Run ⊤
     high = activity_run limit m x i >>= λ v. upper_run limit (row m i) >>= λ u. need 4 (stands_at u v)
 
-    by : (a b : Bool) → lt_ℚ 0ℚ d ≡ a → lt_ℚ d 0ℚ ≡ b → cond a low (cond b high (Ok tt)) ≡ Ok tt → IsTight (limits m i) d (activity m x i)
+    by : (a b : Bool) → lt_ℚ 0ℚ d ≡ a → lt_ℚ d 0ℚ ≡ b → cond a low (cond b high (Ok tt)) ≡ Ok tt →
+        IsTight (limits m i) d (activity m x i)
     by true b p q h = record {
       above = λ _. stands_ok limit m x i (lower_run limit (row m i)) (limits m i).lower (lower_ok limit (row m i)) h;
       below = λ k. absurd (clash_ℚ 0ℚ d (lt_if 0ℚ d p) (<ℚ-le d 0ℚ k));
@@ -54,7 +58,8 @@ row_tight_ok limit m x y i e = by (lt_ℚ 0ℚ d) (lt_ℚ d 0ℚ) refl refl e
       above = λ k. absurd (clash_ℚ 0ℚ d k (le_if_not 0ℚ d p));
       below = λ _. stands_ok limit m x i (upper_run limit (row m i)) (limits m i).upper (upper_ok limit (row m i)) h;
     }
-    by false false p q h = record { above = λ k. absurd (clash_ℚ 0ℚ d k (le_if_not 0ℚ d p)); below = λ k. absurd (clash_ℚ d 0ℚ k (le_if_not d 0ℚ q)) }
+    by false false p q h =
+        record { above = λ k. absurd (clash_ℚ 0ℚ d k (le_if_not 0ℚ d p)); below = λ k. absurd (clash_ℚ d 0ℚ k (le_if_not d 0ℚ q)) }
 
 -- ---- the value
 value_ok : (limit : Option ℕ) (m : Model) (x : List ℚ) (v : ℚ) → value_run limit m x ≡ Ok v → v ≡ value_of m x
@@ -62,7 +67,8 @@ value_ok limit m x v e =
     let a = after_ok (cost_run limit m x) (λ s. step Add s m.offset (add limit s m.offset)) v e in
     added limit a.0 m.offset v a.2 ∙ ap (λ z. z +ℚ m.offset) (products_ok limit (width m) (cost m) (λ j. part x j) a.0 a.1)
 
-pub optimal_ok : (limit : Option ℕ) (m : Model) (x y : List ℚ) (said : Known ℚ) → length x ≡ width m → optimal_run limit m x y ≡ Ok said → ChecksOptimal m x y × (said ≡ known.Optimal (value_of m x))
+pub optimal_ok : (limit : Option ℕ) (m : Model) (x y : List ℚ) (said : Known ℚ) → length x ≡ width m →
+    optimal_run limit m x y ≡ Ok said → ChecksOptimal m x y × (said ≡ known.Optimal (value_of m x))
 optimal_ok limit m x y said n e =
     let a = after_ok (columns_run limit m x) _ said e in
     let b = after_ok (rows_run limit m x) _ said a.2 in

@@ -14,9 +14,10 @@ use Rattle.spec_check.specs.Settle.{Settled, ◌>>=◌, zeros, with_value, same_
 use Rattle.spec_check.proofs.TextSteps.{the_part, part_if, parts_below}
 use Rattle.spec_check.proofs.NamesKnown.{AreNames}
 
--- ---- parts one behind another
+-- ---- parts one after another
 
-pub put_more : (m : Model) (before ps qs : List ExactPart) (cert : Certificate (List ℚ)) → put_all m before (ps ++ qs) cert ≡ (put_all m before ps cert >>= λ next. put_all m (before ++ ps) qs next)
+pub put_more : (m : Model) (before ps qs : List ExactPart) (cert : Certificate (List ℚ)) →
+    put_all m before (ps ++ qs) cert ≡ (put_all m before ps cert >>= λ next. put_all m (before ++ ps) qs next)
 put_more m before [] qs cert = ap (λ b. put_all m b qs cert) (sym (append-nil before))
 put_more m before (p ∷ ps) qs cert = by (put m before p cert) (put_more m (before ++ p ∷ []) ps qs)
   where
@@ -24,7 +25,8 @@ put_more m before (p ∷ ps) qs cert = by (put m before p cert) (put_more m (bef
         → ((next : Certificate (List ℚ)) → put_all m (before ++ p ∷ []) (ps ++ qs) next ≡ (put_all m (before ++ p ∷ []) ps next >>= λ last. put_all m ((before ++ p ∷ []) ++ ps) qs last))
         → (o >>= λ next. put_all m (before ++ p ∷ []) (ps ++ qs) next) ≡ ((o >>= λ next. put_all m (before ++ p ∷ []) ps next) >>= λ last. put_all m (before ++ p ∷ ps) qs last)
     by (Err fault) h = refl
-    by (Ok next) h = h next ∙ ap (λ b. put_all m (before ++ p ∷ []) ps next >>= λ last. put_all m b qs last) (append_assoc before (p ∷ []) ps)
+    by (Ok next) h =
+        h next ∙ ap (λ b. put_all m (before ++ p ∷ []) ps next >>= λ last. put_all m b qs last) (append_assoc before (p ∷ []) ps)
 
 -- ---- no part of a letter, and no part with a name
 
@@ -35,20 +37,23 @@ IsFree letter parts = (name : Name) → is_given letter name parts ≡ false
 pub free_at_first : (letter : Letter) → IsFree letter []
 free_at_first letter name = refl
 
-none_of : (letter other : Letter) (name own : Name) (v : ℚ) → same_letter other letter ≡ false → is_given letter name (part_if other own v) ≡ false
+none_of : (letter other : Letter) (name own : Name) (v : ℚ) → same_letter other letter ≡ false →
+    is_given letter name (part_if other own v) ≡ false
 none_of letter other name own v h = by (eq_ℚ v 0ℚ)
   where
     by : (t : Bool) → is_given letter name (cond t [] (the_part other own v ∷ [])) ≡ false
     by true = refl
     by false = ap (λ b. b && same own name || false) h
 
-pub free_behind : (letter other : Letter) (names : ℕ → Name) (values : List ℚ) (n : ℕ) → same_letter other letter ≡ false → IsFree letter (parts_below other names values n)
+pub free_behind : (letter other : Letter) (names : ℕ → Name) (values : List ℚ) (n : ℕ) →
+    same_letter other letter ≡ false → IsFree letter (parts_below other names values n)
 free_behind letter other names values zero h name = refl
 free_behind letter other names values (suc n) h name =
     list_any-append (λ p. same_letter p.letter letter && same p.name name) (parts_below other names values n) (part_if other (names n) (part values n))
     ∙ ap₂ (λ (s t : Bool). s || t) (free_behind letter other names values n h name) (none_of letter other name (names n) (part values n) h)
 
-not_named : (letter : Letter) (name own : Name) (v : ℚ) → same own name ≡ false → is_given letter name (part_if letter own v) ≡ false
+not_named : (letter : Letter) (name own : Name) (v : ℚ) → same own name ≡ false →
+    is_given letter name (part_if letter own v) ≡ false
 not_named letter name own v h = by (eq_ℚ v 0ℚ)
   where
     off : (t : Bool) → t && false || false ≡ false
@@ -66,7 +71,8 @@ module _ (m : Model) (letter : Letter) (w : ℕ) (names : ℕ → Name) (known_n
       list_any-append (λ q. same_letter q.letter letter && same q.name (names k)) (parts_below letter names values n) (part_if letter (names n) (part values n))
       ∙ ap₂ (λ (s t : Bool). s || t) (not_given_below n k (omega (arith, h)) p) (not_named letter (names k) (names n) (part values n) (known_names.distinct n k (omega (arith, h)) p))
 
-  not_given : (before : List ExactPart) (k : ℕ) → IsFree letter before → k < w → is_given letter (names k) (before ++ parts_below letter names values k) ≡ false
+  not_given : (before : List ExactPart) (k : ℕ) → IsFree letter before → k < w →
+      is_given letter (names k) (before ++ parts_below letter names values k) ≡ false
   not_given before k f p =
       list_any-append (λ q. same_letter q.letter letter && same q.name (names k)) before (parts_below letter names values k)
       ∙ ap₂ (λ (s t : Bool). s || t) (f (names k)) (not_given_below k k (omega arith) p)
@@ -111,15 +117,19 @@ module _ (m : Model) (letter : Letter) (w : ℕ) (names : ℕ → Name) (known_n
 
   -- a list of the certificate is filled by parts with the letter
   module _ (fill : List ℚ → Certificate (List ℚ)) (fills : (z : List ℚ) (k : ℕ) (v : ℚ) → with_value letter k v (fill z) ≡ fill (slice_set z k v)) (before : List ExactPart) (free : IsFree letter before) where
-    put_one : (n : ℕ) → n < w → put_all m (before ++ parts_below letter names values n) (part_if letter (names n) (part values n)) (fill (front n)) ≡ Ok (fill (front (suc n)))
+    put_one : (n : ℕ) → n < w →
+        put_all m (before ++ parts_below letter names values n) (part_if letter (names n) (part values n)) (fill (front n)) ≡ Ok (fill (front (suc n)))
     unfolding put
     put_one n h = by (eq_ℚ (part values n) 0ℚ) refl
       where
-        by : (t : Bool) → eq_ℚ (part values n) 0ℚ ≡ t → put_all m (before ++ parts_below letter names values n) (cond t [] (the_part letter (names n) (part values n) ∷ [])) (fill (front n)) ≡ Ok (fill (front (suc n)))
+        by : (t : Bool) → eq_ℚ (part values n) 0ℚ ≡ t →
+            put_all m (before ++ parts_below letter names values n) (cond t [] (the_part letter (names n) (part values n) ∷ [])) (fill (front n)) ≡ Ok (fill (front (suc n)))
         by true e = ap (λ z. Ok (fill z)) (front_same n h (eq_if (part values n) 0ℚ e))
-        by false e = rw (known_names.places n h, not_given before n free h, fills (front n) n (part values n), front_set n h) refl
+        by false e =
+            rw (known_names.places n h, not_given before n free h, fills (front n) n (part values n), front_set n h) refl
 
-    put_below : (n : ℕ) → n ≤ w → put_all m before (parts_below letter names values n) (fill (front 0)) ≡ Ok (fill (front n))
+    put_below : (n : ℕ) → n ≤ w →
+        put_all m before (parts_below letter names values n) (fill (front 0)) ≡ Ok (fill (front n))
     put_below zero h = refl
     put_below (suc n) h =
         put_more m before (parts_below letter names values n) (part_if letter (names n) (part values n)) (fill (front 0))

@@ -1,4 +1,4 @@
--- Along a ray feasible points get better without end.
+-- Along a ray feasible points get better without limit.
 use Rattle.std.proofs.Common.{◌≡◌, ℕ, zero, suc, pos, ◌<◌, List, [], ◌∷◌, length, Option, Some, None, IfSome, refl, sym, ap, ◌∙◌, subst, subst₂, arith}
 use Rattle.spec_exact.specs.Fraction.{whole, ℚ, ◌+ℚ◌, ◌-ℚ◌, ◌*ℚ◌, neg_ℚ, 0ℚ, 1ℚ, ◌≤ℚ◌, ◌<ℚ◌, inverse, floor}
 use Rattle.spec_exact.specs.Sums.{sum_below}
@@ -27,22 +27,28 @@ part-made zero f j h = absurd (let k : ⊥ = omega arith in k)
 part-made (suc n) f zero h = refl
 part-made (suc n) f (suc j) h = part-made n (λ i. f (suc i)) j (omega arith)
 
-ray_sum : (n : ℕ) (a x r : ℕ → ℚ) (t : ℚ) → sum_below n (λ j. a j *ℚ (x j +ℚ t *ℚ r j)) ≡ sum_below n (λ j. a j *ℚ x j) +ℚ t *ℚ sum_below n (λ j. a j *ℚ r j)
+ray_sum : (n : ℕ) (a x r : ℕ → ℚ) (t : ℚ) →
+    sum_below n (λ j. a j *ℚ (x j +ℚ t *ℚ r j)) ≡ sum_below n (λ j. a j *ℚ x j) +ℚ t *ℚ sum_below n (λ j. a j *ℚ r j)
 ray_sum n a x r t =
     sum_below_same n _ (λ j. a j *ℚ x j +ℚ t *ℚ (a j *ℚ r j)) (λ j _. simp ring)
     ∙ sum_below-+ℚ n (λ j. a j *ℚ x j) (λ j. t *ℚ (a j *ℚ r j))
     ∙ ap (λ s. sum_below n (λ j. a j *ℚ x j) +ℚ s) (sym (*ℚ-sum_below t n (λ j. a j *ℚ r j)))
 
-lower_along : (o : Option ℚ) (v r t : ℚ) → 0ℚ ≤ℚ t → IfSome o (λ k. k ≤ℚ v) → IfSome o (λ _. 0ℚ ≤ℚ r) → IfSome o (λ k. k ≤ℚ (v +ℚ t *ℚ r))
+lower_along : (o : Option ℚ) (v r t : ℚ) → 0ℚ ≤ℚ t → IfSome o (λ k. k ≤ℚ v) → IfSome o (λ _. 0ℚ ≤ℚ r) →
+    IfSome o (λ k. k ≤ℚ (v +ℚ t *ℚ r))
 lower_along None v r t p h g = tt
-lower_along (Some k) v r t p h g = subst (λ a. a ≤ℚ (v +ℚ t *ℚ r)) (+ℚ_zero k) (+ℚ_mono₂ k v 0ℚ (t *ℚ r) h (subst (λ a. a ≤ℚ (t *ℚ r)) (*ℚ_zero t) (*ℚ_mono 0ℚ r t p g)))
+lower_along (Some k) v r t p h g =
+    subst (λ a. a ≤ℚ (v +ℚ t *ℚ r)) (+ℚ_zero k) (+ℚ_mono₂ k v 0ℚ (t *ℚ r) h (subst (λ a. a ≤ℚ (t *ℚ r)) (*ℚ_zero t) (*ℚ_mono 0ℚ r t p g)))
 
-upper_along : (o : Option ℚ) (v r t : ℚ) → 0ℚ ≤ℚ t → IfSome o (λ k. v ≤ℚ k) → IfSome o (λ _. r ≤ℚ 0ℚ) → IfSome o (λ k. (v +ℚ t *ℚ r) ≤ℚ k)
+upper_along : (o : Option ℚ) (v r t : ℚ) → 0ℚ ≤ℚ t → IfSome o (λ k. v ≤ℚ k) → IfSome o (λ _. r ≤ℚ 0ℚ) →
+    IfSome o (λ k. (v +ℚ t *ℚ r) ≤ℚ k)
 upper_along None v r t p h g = tt
-upper_along (Some k) v r t p h g = subst (λ a. (v +ℚ t *ℚ r) ≤ℚ a) (+ℚ_zero k) (+ℚ_mono₂ v k (t *ℚ r) 0ℚ h (subst (λ a. (t *ℚ r) ≤ℚ a) (*ℚ_zero t) (*ℚ_mono r 0ℚ t p g)))
+upper_along (Some k) v r t p h g =
+    subst (λ a. (v +ℚ t *ℚ r) ≤ℚ a) (+ℚ_zero k) (+ℚ_mono₂ v k (t *ℚ r) 0ℚ h (subst (λ a. (t *ℚ r) ≤ℚ a) (*ℚ_zero t) (*ℚ_mono r 0ℚ t p g)))
 
 along : (l : Limits) (v r t w : ℚ) → 0ℚ ≤ℚ t → IsBetween l v → Allows l r → w ≡ v +ℚ t *ℚ r → IsBetween l w
-along l v r t w p b a e = subst (IsBetween l) (sym e) (record { lower = lower_along l.lower v r t p b.lower a.lower; upper = upper_along l.upper v r t p b.upper a.upper })
+along l v r t w p b a e =
+    subst (IsBetween l) (sym e) (record { lower = lower_along l.lower v r t p b.lower a.lower; upper = upper_along l.upper v r t p b.upper a.upper })
 
 -- a step so long that v + t * s is below w
 abbrev step : ℚ → ℚ → ℚ → ℚ
@@ -59,7 +65,8 @@ far_enough v s w h =
     subst₂ ◌<ℚ◌ (moved v s w t) (moved₂ s w t) (+ℚ_strict _ _ (w +ℚ t *ℚ s) k)
   where
     cancelled : (d a : ℚ) → ¬ (d ≡ 0ℚ) → d *ℚ (a *ℚ inverse d) ≡ a
-    cancelled d a n = ap (λ b. d *ℚ b) (*ℚ_comm a (inverse d)) ∙ sym (*ℚ_assoc d (inverse d) a) ∙ ap (λ b. b *ℚ a) (*ℚ_inverse d n) ∙ *ℚ_comm 1ℚ a ∙ *ℚ_one a
+    cancelled d a n =
+        ap (λ b. d *ℚ b) (*ℚ_comm a (inverse d)) ∙ sym (*ℚ_assoc d (inverse d) a) ∙ ap (λ b. b *ℚ a) (*ℚ_inverse d n) ∙ *ℚ_comm 1ℚ a ∙ *ℚ_one a
 
     moved : (v s w t : ℚ) → (v -ℚ w) +ℚ (w +ℚ t *ℚ s) ≡ v +ℚ t *ℚ s
     moved v s w t = simp ring
@@ -92,8 +99,10 @@ unbounded_holds m x r h k =
       z,
       record {
         one_each = length-made n point;
-        columns = λ j p. along (bounds m j) (part x j) (part r j) t (part z j) good.1 (h.feasible.columns j p) (h.columns j p) (part-made n point j p);
-        rows = λ i p. along (limits m i) (activity m x i) (activity m r i) t (activity m z i) good.1 (h.feasible.rows i p) (h.rows i p) (sums (coefficient m i));
+        columns =
+            λ j p. along (bounds m j) (part x j) (part r j) t (part z j) good.1 (h.feasible.columns j p) (h.columns j p) (part-made n point j p);
+        rows =
+            λ i p. along (limits m i) (activity m x i) (activity m r i) t (activity m z i) good.1 (h.feasible.rows i p) (h.rows i p) (sums (coefficient m i));
       },
       subst (λ a. IsBetter m.sense a (whole k)) (sym (ap (λ a. a +ℚ m.offset) (sums c) ∙ last (sum_below n (λ j. c j *ℚ part x j)) (t *ℚ sum_below n (λ j. c j *ℚ part r j)) m.offset)) good.2,
     )

@@ -58,7 +58,8 @@ clash_words : (name : List ℕ) → IsWord name → words_of (codes "CLASH" ++ 3
 unfolding words_of
 clash_words name h = parts_word_then (codes "CLASH") name (record { some = refl; printable = refl }) ∙ ap (λ ws. codes "CLASH" ∷ ws) (parts_word name h)
 
-clash_step : (name : List ℕ) → IsWord name → step None (Text (codes "CLASH" ++ 32 ∷ name)) ≡ More (raw_of (kind.Clash name) [])
+clash_step : (name : List ℕ) → IsWord name →
+    step None (Text (codes "CLASH" ++ 32 ∷ name)) ≡ More (raw_of (kind.Clash name) [])
 unfolding step kind_of
 clash_step name h = ap (step_by_words None) (clash_words name h)
 
@@ -71,7 +72,7 @@ whole m cert raw l more =
     (sym (ap (λ ls. ls ++ more) (map-append Text (kind_text m cert ∷ all_part_lines m cert) (codes "END" ∷ [])) ∙ append_assoc (map Text (kind_text m cert ∷ all_part_lines m cert)) (Text (codes "END") ∷ []) more))
     (ends (map Text (kind_text m cert ∷ all_part_lines m cert)) more (Text (codes "END")) (Some raw) raw l (end_step raw))
 
--- two letters, one behind the other
+-- two letters, one after the other
 two_lead : (raw : ExactRaw) (a b : Letter) (names others : ℕ → List ℕ) (xs ys : List ℚ) (n k : ℕ) → takes raw.kind a ≡ true → takes raw.kind b ≡ true
     → ((i : ℕ) → i < n → IsWord (names i)) → ((i : ℕ) → i < n → IsNarrow (part xs i)) → ((i : ℕ) → i < k → IsWord (others i)) → ((i : ℕ) → i < k → IsNarrow (part ys i))
     → Leads (Some raw) (map Text (lines_below a names xs n ++ lines_below b others ys k)) (Some (with_parts (with_parts raw (parts_below a names xs n)) (parts_below b others ys k)))
@@ -85,7 +86,8 @@ narrow_at xs n e h k p = h k 0ℚ (omega (arith, e, p))
 
 -- ---- the four kinds
 
-optimal_back : (m : Model) (x y : List ℚ) → IsModel m → IsFor m (Optimal x y) → IsNarrowCertificate (Optimal x y) → IsReadBack m (Optimal x y)
+optimal_back : (m : Model) (x y : List ℚ) → IsModel m → IsFor m (Optimal x y) → IsNarrowCertificate (Optimal x y) →
+    IsReadBack m (Optimal x y)
 unfolding blank certificate_for
 optimal_back m x y h f n =
     let start : ExactRaw = raw_of kind.Optimal [] in
@@ -106,7 +108,8 @@ optimal_back m x y h f n =
           ∙ filled m Y (height m) (row_name m) (rows_named m h) y f.1 (λ z. Optimal x z) (λ z k v. refl) xs (free_behind Y X (column_name m) x (width m) refl);
     }
 
-infeasible_back : (m : Model) (y : List ℚ) → IsModel m → IsFor m (Infeasible y) → IsNarrowCertificate (Infeasible y) → IsReadBack m (Infeasible y)
+infeasible_back : (m : Model) (y : List ℚ) → IsModel m → IsFor m (Infeasible y) → IsNarrowCertificate (Infeasible y) →
+    IsReadBack m (Infeasible y)
 unfolding blank certificate_for
 infeasible_back m y h f n =
     let start : ExactRaw = raw_of kind.Infeasible [] in
@@ -116,10 +119,12 @@ infeasible_back m y h f n =
       raw = raw;
       spelled = whole m (Infeasible y) raw
           (start, infeasible_step, parts_lead start Y (row_name m) y (height m) refl (rows_named m h).words (narrow_at y (height m) f n));
-      settled = filled m Y (height m) (row_name m) (rows_named m h) y f (λ z. Infeasible z) (λ z k v. refl) [] (free_at_first Y);
+      settled =
+          filled m Y (height m) (row_name m) (rows_named m h) y f (λ z. Infeasible z) (λ z k v. refl) [] (free_at_first Y);
     }
 
-unbounded_back : (m : Model) (x r : List ℚ) → IsModel m → IsFor m (Unbounded x r) → IsNarrowCertificate (Unbounded x r) → IsReadBack m (Unbounded x r)
+unbounded_back : (m : Model) (x r : List ℚ) → IsModel m → IsFor m (Unbounded x r) →
+    IsNarrowCertificate (Unbounded x r) → IsReadBack m (Unbounded x r)
 unfolding blank certificate_for
 unbounded_back m x r h f n =
     let start : ExactRaw = raw_of kind.Unbounded [] in
@@ -150,7 +155,8 @@ clash_back m j h f =
       settled = rw (column_at m h j f) refl;
     }
 
-pub read_back : (m : Model) (cert : Certificate (List ℚ)) → IsModel m → IsFor m cert → IsNarrowCertificate cert → IsReadBack m cert
+pub read_back : (m : Model) (cert : Certificate (List ℚ)) → IsModel m → IsFor m cert → IsNarrowCertificate cert →
+    IsReadBack m cert
 read_back m (Optimal x y) h f n = optimal_back m x y h f n
 read_back m (Infeasible y) h f n = infeasible_back m y h f n
 read_back m (Unbounded x r) h f n = unbounded_back m x r h f n

@@ -24,7 +24,8 @@ unfolding Agrees
 goes_on (Ok a) f g h = h a
 goes_on (Err e) f g h = inl refl
 
-after_agrees : {A B : Type 0} (o u : Run A) (f g : A → Run B) → Agrees o u → ((a : A) → Agrees (f a) (g a)) → Agrees (o >>= f) (u >>= g)
+after_agrees : {A B : Type 0} (o u : Run A) (f g : A → Run B) → Agrees o u → ((a : A) → Agrees (f a) (g a)) →
+    Agrees (o >>= f) (u >>= g)
 unfolding Agrees
 after_agrees o u f g h k =
     ⊎_elim
@@ -32,7 +33,8 @@ after_agrees o u f g h k =
     (λ p. inr (p.0, ap (λ z. z >>= f) p.1))
     h
 
-step_agrees : {A : Type 0} (op : Op) (v w : ℚ) (a b : Option A) (y : A) → ((x : A) → a ≡ Some x → x ≡ y) → b ≡ Some y → Agrees (step op v w a) (step op v w b)
+step_agrees : {A : Type 0} (op : Op) (v w : ℚ) (a b : Option A) (y : A) → ((x : A) → a ≡ Some x → x ≡ y) → b ≡ Some y →
+    Agrees (step op v w a) (step op v w b)
 unfolding Agrees
 step_agrees op v w (Some x) b y g u = inl (ap (λ z. step op v w z) (ap Some (g x refl) ∙ sym u))
 step_agrees op v w None b y g u = inr (record { op = op; a = v; b = w }, refl)
@@ -45,22 +47,28 @@ each_agrees : (n : ℕ) (f g : ℕ → Run ⊤) → ((i : ℕ) → Agrees (f i) 
 each_agrees zero f g h = same (Ok tt)
 each_agrees (suc n) f g h = after_agrees (each n f) (each n g) (λ _. f n) (λ _. g n) (each_agrees n f g h) (λ _. h n)
 
-each_from_agrees : (s : ℚ) (n : ℕ) (f g : ℕ → ℚ → Run ℚ) → ((i : ℕ) (u : ℚ) → Agrees (f i u) (g i u)) → Agrees (each_from s n f) (each_from s n g)
+each_from_agrees : (s : ℚ) (n : ℕ) (f g : ℕ → ℚ → Run ℚ) → ((i : ℕ) (u : ℚ) → Agrees (f i u) (g i u)) →
+    Agrees (each_from s n f) (each_from s n g)
 each_from_agrees s zero f g h = same (Ok s)
-each_from_agrees s (suc n) f g h = after_agrees (each_from s n f) (each_from s n g) (λ u. f n u) (λ u. g n u) (each_from_agrees s n f g h) (λ u. h n u)
+each_from_agrees s (suc n) f g h =
+    after_agrees (each_from s n f) (each_from s n g) (λ u. f n u) (λ u. g n u) (each_from_agrees s n f g h) (λ u. h n u)
 
 module _ (limit : Option ℕ) where
   add_agrees : (v w : ℚ) → Agrees (step Add v w (add limit v w)) (step Add v w (add None v w))
-  add_agrees v w = step_agrees Add v w (add limit v w) (add None v w) (v +ℚ w) (λ x e. add_gives limit v w x e) (add_unlimited v w)
+  add_agrees v w =
+      step_agrees Add v w (add limit v w) (add None v w) (v +ℚ w) (λ x e. add_gives limit v w x e) (add_unlimited v w)
 
   sub_agrees : (v w : ℚ) → Agrees (step Sub v w (sub limit v w)) (step Sub v w (sub None v w))
-  sub_agrees v w = step_agrees Sub v w (sub limit v w) (sub None v w) (v -ℚ w) (λ x e. sub_gives limit v w x e) (sub_unlimited v w)
+  sub_agrees v w =
+      step_agrees Sub v w (sub limit v w) (sub None v w) (v -ℚ w) (λ x e. sub_gives limit v w x e) (sub_unlimited v w)
 
   mul_agrees : (v w : ℚ) → Agrees (step Mul v w (mul limit v w)) (step Mul v w (mul None v w))
-  mul_agrees v w = step_agrees Mul v w (mul limit v w) (mul None v w) (v *ℚ w) (λ x e. mul_gives limit v w x e) (mul_unlimited v w)
+  mul_agrees v w =
+      step_agrees Mul v w (mul limit v w) (mul None v w) (v *ℚ w) (λ x e. mul_gives limit v w x e) (mul_unlimited v w)
 
   compare_agrees : (v w : ℚ) → Agrees (step Cmp v w (compare limit v w)) (step Cmp v w (compare None v w))
-  compare_agrees v w = step_agrees Cmp v w (compare limit v w) (compare None v w) (order v w) (λ x e. compare_gives limit v w x e) (compare_unlimited v w)
+  compare_agrees v w =
+      step_agrees Cmp v w (compare limit v w) (compare None v w) (order v w) (λ x e. compare_gives limit v w x e) (compare_unlimited v w)
 
   plus_agrees : (v w s : ℚ) → Agrees (plus_product limit v w s) (plus_product None v w s)
   plus_agrees v w s = after_agrees _ _ _ _ (mul_agrees v w) (λ p. add_agrees s p)
@@ -104,8 +112,10 @@ module _ (limit : Option ℕ) where
   most_agrees n (Some k) v = after_agrees _ _ _ _ (compare_agrees v k) (λ o. same _)
 
   -- a feasible point
-  column_within_agrees : (m : Model) (x : List ℚ) (j : ℕ) → Agrees (column_within_run limit m x j) (column_within_run None m x j)
-  column_within_agrees m x j = after_agrees _ _ _ _ (least_agrees 1 (bounds m j).lower (part x j)) (λ _. most_agrees 1 (bounds m j).upper (part x j))
+  column_within_agrees : (m : Model) (x : List ℚ) (j : ℕ) →
+      Agrees (column_within_run limit m x j) (column_within_run None m x j)
+  column_within_agrees m x j =
+      after_agrees _ _ _ _ (least_agrees 1 (bounds m j).lower (part x j)) (λ _. most_agrees 1 (bounds m j).upper (part x j))
 
   activity_agrees : (m : Model) (z : List ℚ) (i : ℕ) → Agrees (activity_run limit m z i) (activity_run None m z i)
   activity_agrees m z i = sum_agrees (width m) (λ j. coefficient m i j) (λ j. part z j)
@@ -118,12 +128,15 @@ module _ (limit : Option ℕ) where
 
   -- complementary multipliers
   reduced_agrees : (m : Model) (y : List ℚ) (j : ℕ) → Agrees (reduced_run limit m y j) (reduced_run None m y j)
-  reduced_agrees m y j = each_from_agrees (signed m.sense (cost m j)) (height m) _ _ (λ i d. less_agrees (part y i) (coefficient m i j) d)
+  reduced_agrees m y j =
+      each_from_agrees (signed m.sense (cost m j)) (height m) _ _ (λ i d. less_agrees (part y i) (coefficient m i j) d)
 
-  column_tight_agrees : (m : Model) (x y : List ℚ) (j : ℕ) → Agrees (column_tight_run limit m x y j) (column_tight_run None m x y j)
+  column_tight_agrees : (m : Model) (x y : List ℚ) (j : ℕ) →
+      Agrees (column_tight_run limit m x y j) (column_tight_run None m x y j)
   column_tight_agrees m x y j = after_agrees _ _ _ _ (reduced_agrees m y j) (λ d. same _)
 
-  row_tight_agrees : (m : Model) (x y : List ℚ) (i : ℕ) → Agrees (row_tight_run limit m x y i) (row_tight_run None m x y i)
+  row_tight_agrees : (m : Model) (x y : List ℚ) (i : ℕ) →
+      Agrees (row_tight_run limit m x y i) (row_tight_run None m x y i)
   row_tight_agrees m x y i =
       choice_agrees (lt_ℚ 0ℚ (part y i)) _ _ _ _
       (after_agrees _ _ _ _ (activity_agrees m x i) (λ v. after_agrees _ _ _ _ (lower_agrees (row m i)) (λ l. same _)))
@@ -142,12 +155,14 @@ module _ (limit : Option ℕ) where
       after_agrees _ _ _ _ (each_agrees (height m) _ _ (row_tight_agrees m x y)) (λ _.
       after_agrees _ _ _ _ (value_agrees m x) (λ v. same _)))))
 
-  -- rows that no point meets together
-  weighed_at_agrees : (n : ℕ) (d : ℚ) (o : Option ℚ) (s : ℚ) → Agrees (weighed_at n limit d o s) (weighed_at n None d o s)
+  -- rows that no point satisfies together
+  weighed_at_agrees : (n : ℕ) (d : ℚ) (o : Option ℚ) (s : ℚ) →
+      Agrees (weighed_at n limit d o s) (weighed_at n None d o s)
   weighed_at_agrees n d None s = same _
   weighed_at_agrees n d (Some b) s = plus_agrees d b s
 
-  row_asks_agrees : (m : Model) (y : List ℚ) (i : ℕ) (s : ℚ) → Agrees (row_asks_run limit m y i s) (row_asks_run None m y i s)
+  row_asks_agrees : (m : Model) (y : List ℚ) (i : ℕ) (s : ℚ) →
+      Agrees (row_asks_run limit m y i s) (row_asks_run None m y i s)
   row_asks_agrees m y i s =
       choice_agrees (lt_ℚ 0ℚ (part y i)) _ _ _ _
       (after_agrees _ _ _ _ (lower_agrees (row m i)) (λ l. weighed_at_agrees 1 (part y i) l s))
@@ -163,8 +178,10 @@ module _ (limit : Option ℕ) where
   priced_agrees : (m : Model) (y : List ℚ) (j : ℕ) → Agrees (priced_run limit m y j) (priced_run None m y j)
   priced_agrees m y j = sum_agrees (height m) (λ i. part y i) (λ i. coefficient m i j)
 
-  column_gives_agrees : (m : Model) (y : List ℚ) (j : ℕ) (s : ℚ) → Agrees (column_gives_run limit m y j s) (column_gives_run None m y j s)
-  column_gives_agrees m y j s = after_agrees _ _ _ _ (priced_agrees m y j) (λ g. weighed_agrees 2 (turned_limits (bounds m j)) g s)
+  column_gives_agrees : (m : Model) (y : List ℚ) (j : ℕ) (s : ℚ) →
+      Agrees (column_gives_run limit m y j s) (column_gives_run None m y j s)
+  column_gives_agrees m y j s =
+      after_agrees _ _ _ _ (priced_agrees m y j) (λ g. weighed_agrees 2 (turned_limits (bounds m j)) g s)
 
   infeasible_agrees : (m : Model) (y : List ℚ) → Agrees (infeasible_run limit m y) (infeasible_run None m y)
   infeasible_agrees m y =

@@ -12,7 +12,8 @@ use Rattle.spec_check.proofs.OptimalSound.{optimal_ok}
 use Rattle.spec_check.proofs.InfeasibleSound.{infeasible_ok, clash_ok}
 use Rattle.spec_check.proofs.UnboundedSound.{unbounded_ok}
 
-pub run_sound : (limit : Option ℕ) (m : Model) (cert : Certificate (List ℚ)) (said : Known ℚ) → IsFor m cert → check_run limit m cert ≡ Ok said → Checks m cert × (said ≡ shown m cert)
+pub run_sound : (limit : Option ℕ) (m : Model) (cert : Certificate (List ℚ)) (said : Known ℚ) → IsFor m cert →
+    check_run limit m cert ≡ Ok said → Checks m cert × (said ≡ shown m cert)
 unfolding check_run
 run_sound limit m (Optimal x y) said f e = optimal_ok limit m x y said f.0 e
 run_sound limit m (Infeasible y) said f e = infeasible_ok limit m y said e

@@ -29,7 +29,8 @@ module _ (m : Model) where
   abbrev above_of : ℕ → Option ℚ
   above_of j = (bounds m j).upper
 
-  feasible_for : (z : List ℚ) → IsFeasible m z → Feasible (width m) (height m) (coefficient m) below_of above_of (λ i. (limits m i).lower) (λ i. (limits m i).upper) (part z)
+  feasible_for : (z : List ℚ) → IsFeasible m z →
+      Feasible (width m) (height m) (coefficient m) below_of above_of (λ i. (limits m i).lower) (λ i. (limits m i).upper) (part z)
   feasible_for z f = record {
     columns = λ j h. between (bounds m j) (part z j) (f.columns j h);
     rows = λ i h. between (limits m i) (activity m z i) (f.rows i h);
@@ -48,9 +49,11 @@ signed_sum : (s : Sense) (a b : ℚ) → signed s (a +ℚ b) ≡ signed s a +ℚ
 signed_sum Min a b = refl
 signed_sum Max a b = simp ring
 
-pub signed-sum_below : (s : Sense) (n : ℕ) (c z : ℕ → ℚ) → sum_below n (λ j. signed s (c j) *ℚ z j) ≡ signed s (sum_below n (λ j. c j *ℚ z j))
+pub signed-sum_below : (s : Sense) (n : ℕ) (c z : ℕ → ℚ) →
+    sum_below n (λ j. signed s (c j) *ℚ z j) ≡ signed s (sum_below n (λ j. c j *ℚ z j))
 signed-sum_below s zero c z = sym (signed_zero s)
-signed-sum_below s (suc n) c z = subst₂ (λ a b. a +ℚ b ≡ signed s (sum_below n (λ j. c j *ℚ z j) +ℚ c n *ℚ z n)) (sym (signed-sum_below s n c z)) (sym (signed_product s (c n) (z n))) (sym (signed_sum s _ _))
+signed-sum_below s (suc n) c z =
+    subst₂ (λ a b. a +ℚ b ≡ signed s (sum_below n (λ j. c j *ℚ z j) +ℚ c n *ℚ z n)) (sym (signed-sum_below s n c z)) (sym (signed_product s (c n) (z n))) (sym (signed_sum s _ _))
 
 not_better : (s : Sense) (v w off : ℚ) → signed s v ≤ℚ signed s w → ¬ (IsBetter s (w +ℚ off) (v +ℚ off))
 not_better Min v w off h b = clash_ℚ _ _ b (+ℚ_mono v w off h)

@@ -19,7 +19,8 @@ use Rattle.spec_model.specs.Truth.{IsBetween, IsFeasible}
 use Rattle.spec_check.specs.Checks.{IsTight}
 use Rattle.spec_check.specs.Run.{Run, ◌>>=◌, step, need, each, each_from, plus_product, less_product, sum_run, some_run, lower_by_run, upper_by_run, lower_run, upper_run, is_less, is_greater, at_least, at_most, stands_at, is_tight, column_within_run, columns_run, activity_run, row_within_run, rows_run}
 
-pub then_ok : {A B : Type 0} (o : Run A) (a : A) (next : A → Run B) (b : B) → o ≡ Ok a → next a ≡ Ok b → (o >>= next) ≡ Ok b
+pub then_ok : {A B : Type 0} (o : Run A) (a : A) (next : A → Run B) (b : B) → o ≡ Ok a → next a ≡ Ok b →
+    (o >>= next) ≡ Ok b
 then_ok o a next b e f = ap (λ z. z >>= next) e ∙ f
 
 pub comes : {A : Type 0} (op : Op) (v w : ℚ) (o : Option A) (x : A) → o ≡ Some x → step op v w o ≡ Ok x
@@ -31,9 +32,11 @@ need_true n false e = cc
 
 pub each_all : (n : ℕ) (f : ℕ → Run ⊤) → ((i : ℕ) → i < n → f i ≡ Ok tt) → each n f ≡ Ok tt
 each_all zero f h = refl
-each_all (suc n) f h = then_ok (each n f) tt (λ _. f n) tt (each_all n f (λ i p. h i (omega (arith, p)))) (h n (omega arith))
+each_all (suc n) f h =
+    then_ok (each n f) tt (λ _. f n) tt (each_all n f (λ i p. h i (omega (arith, p)))) (h n (omega arith))
 
-pub from_all : (s : ℚ) (n : ℕ) (f : ℕ → ℚ → Run ℚ) (t : ℕ → ℚ) → ((k : ℕ) (u : ℚ) → k < n → f k u ≡ Ok (u +ℚ t k)) → each_from s n f ≡ Ok (s +ℚ sum_below n t)
+pub from_all : (s : ℚ) (n : ℕ) (f : ℕ → ℚ → Run ℚ) (t : ℕ → ℚ) → ((k : ℕ) (u : ℚ) → k < n → f k u ≡ Ok (u +ℚ t k)) →
+    each_from s n f ≡ Ok (s +ℚ sum_below n t)
 from_all s zero f t h = ap Ok (sym (+ℚ_zero s))
 from_all s (suc n) f t h =
     then_ok (each_from s n f) (s +ℚ sum_below n t) (λ u. f n u) (s +ℚ sum_below (suc n) t) (from_all s n f t (λ k u p. h k u (omega (arith, p))))
@@ -49,13 +52,16 @@ pub multiplied : (v w : ℚ) → step Mul v w (mul None v w) ≡ Ok (v *ℚ w)
 multiplied v w = comes Mul v w (mul None v w) (v *ℚ w) (mul_unlimited v w)
 
 pub plus_all : (v w s : ℚ) → plus_product None v w s ≡ Ok (s +ℚ v *ℚ w)
-plus_all v w s = then_ok (step Mul v w (mul None v w)) (v *ℚ w) (λ p. step Add s p (add None s p)) (s +ℚ v *ℚ w) (multiplied v w) (added s (v *ℚ w))
+plus_all v w s =
+    then_ok (step Mul v w (mul None v w)) (v *ℚ w) (λ p. step Add s p (add None s p)) (s +ℚ v *ℚ w) (multiplied v w) (added s (v *ℚ w))
 
 pub less_all : (v w s : ℚ) → less_product None v w s ≡ Ok (s -ℚ v *ℚ w)
-less_all v w s = then_ok (step Mul v w (mul None v w)) (v *ℚ w) (λ p. step Sub s p (sub None s p)) (s -ℚ v *ℚ w) (multiplied v w) (taken s (v *ℚ w))
+less_all v w s =
+    then_ok (step Mul v w (mul None v w)) (v *ℚ w) (λ p. step Sub s p (sub None s p)) (s -ℚ v *ℚ w) (multiplied v w) (taken s (v *ℚ w))
 
 pub sum_all : (n : ℕ) (f g : ℕ → ℚ) → sum_run None n f g ≡ Ok (sum_below n (λ k. f k *ℚ g k))
-sum_all n f g = from_all 0ℚ n (λ k s. plus_product None (f k) (g k) s) (λ k. f k *ℚ g k) (λ k u p. plus_all (f k) (g k) u) ∙ ap Ok (zero-+ℚ _)
+sum_all n f g =
+    from_all 0ℚ n (λ k s. plus_product None (f k) (g k) s) (λ k. f k *ℚ g k) (λ k u p. plus_all (f k) (g k) u) ∙ ap Ok (zero-+ℚ _)
 
 -- ---- a row's limits
 pub some_all : (run : Run ℚ) (v : ℚ) → run ≡ Ok v → some_run run ≡ Ok (Some v)
@@ -69,7 +75,8 @@ lower_by_all G b (Some r) = refl
 lower_by_all E b None = refl
 lower_by_all E b (Some r) = by (lt_ℚ r 0ℚ)
   where
-    by : (t : Bool) → cond t (some_run (step Add b r (add None b r))) (Ok (Some b)) ≡ Ok (cond t (from_to (b +ℚ r) b) (from_to b (b +ℚ r))).lower
+    by : (t : Bool) →
+        cond t (some_run (step Add b r (add None b r))) (Ok (Some b)) ≡ Ok (cond t (from_to (b +ℚ r) b) (from_to b (b +ℚ r))).lower
     by true = some_all _ (b +ℚ r) (added b r)
     by false = refl
 
@@ -81,7 +88,8 @@ upper_by_all G b (Some r) = some_all _ (b +ℚ abs_ℚ r) (added b (abs_ℚ r))
 upper_by_all E b None = refl
 upper_by_all E b (Some r) = by (lt_ℚ r 0ℚ)
   where
-    by : (t : Bool) → cond t (Ok (Some b)) (some_run (step Add b r (add None b r))) ≡ Ok (cond t (from_to (b +ℚ r) b) (from_to b (b +ℚ r))).upper
+    by : (t : Bool) →
+        cond t (Ok (Some b)) (some_run (step Add b r (add None b r))) ≡ Ok (cond t (from_to (b +ℚ r) b) (from_to b (b +ℚ r))).upper
     by true = refl
     by false = some_all _ (b +ℚ r) (added b r)
 
@@ -121,13 +129,15 @@ stands_test o v e = ap (λ z. stands_at z v) e ∙ eq_test v v refl
 pub tight_test : (l : Limits) (d v : ℚ) → IsTight l d v → is_tight l d v ≡ true
 tight_test l d v t = by (lt_ℚ 0ℚ d) (lt_ℚ d 0ℚ) refl refl
   where
-    by : (a b : Bool) → lt_ℚ 0ℚ d ≡ a → lt_ℚ d 0ℚ ≡ b → cond a (stands_at l.lower v) (cond b (stands_at l.upper v) true) ≡ true
+    by : (a b : Bool) → lt_ℚ 0ℚ d ≡ a → lt_ℚ d 0ℚ ≡ b →
+        cond a (stands_at l.lower v) (cond b (stands_at l.upper v) true) ≡ true
     by true b p q = stands_test l.lower v (t.above (lt_if 0ℚ d p))
     by false true p q = stands_test l.upper v (t.below (lt_if d 0ℚ q))
     by false false p q = refl
 
 -- ---- a feasible point
-pub column_within_all : (m : Model) (x : List ℚ) (j : ℕ) → IsBetween (bounds m j) (part x j) → column_within_run None m x j ≡ Ok tt
+pub column_within_all : (m : Model) (x : List ℚ) (j : ℕ) → IsBetween (bounds m j) (part x j) →
+    column_within_run None m x j ≡ Ok tt
 column_within_all m x j b =
     then_ok (at_least 1 None (bounds m j).lower (part x j)) tt (λ _. at_most 1 None (bounds m j).upper (part x j)) tt
     (least_all 1 (bounds m j).lower (part x j) b.lower) (most_all 1 (bounds m j).upper (part x j) b.upper)
@@ -138,7 +148,8 @@ columns_all m x f = each_all (width m) (column_within_run None m x) (λ j p. col
 pub activity_all : (m : Model) (z : List ℚ) (i : ℕ) → activity_run None m z i ≡ Ok (activity m z i)
 activity_all m z i = sum_all (width m) (λ j. coefficient m i j) (λ j. part z j)
 
-pub row_within_all : (m : Model) (x : List ℚ) (i : ℕ) → IsBetween (limits m i) (activity m x i) → row_within_run None m x i ≡ Ok tt
+pub row_within_all : (m : Model) (x : List ℚ) (i : ℕ) → IsBetween (limits m i) (activity m x i) →
+    row_within_run None m x i ≡ Ok tt
 row_within_all m x i b =
     then_ok (activity_run None m x i) (activity m x i) _ tt (activity_all m x i)
     (then_ok (lower_run None (row m i)) (limits m i).lower _ tt (lower_all (row m i))

@@ -21,7 +21,8 @@ use Rattle.spec_check.specs.Checks.{IsTight}
 use Rattle.spec_check.specs.Run.{Run, ◌>>=◌, step, need, each, each_from, plus_product, less_product, sum_run, some_run, lower_by_run, upper_by_run, lower_run, upper_run, is_less, is_greater, at_least, at_most, stands_at, is_tight, column_within_run, columns_run, activity_run, row_within_run, rows_run}
 
 -- ---- what a yes came from
-pub after_ok : {A B : Type 0} (o : Run A) (next : A → Run B) (b : B) → (o >>= next) ≡ Ok b → (a : A) × (o ≡ Ok a) × (next a ≡ Ok b)
+pub after_ok : {A B : Type 0} (o : Run A) (next : A → Run B) (b : B) → (o >>= next) ≡ Ok b →
+    (a : A) × (o ≡ Ok a) × (next a ≡ Ok b)
 after_ok (Ok a) next b e = (a, refl, e)
 after_ok (Err s) next b e = cc
 
@@ -47,14 +48,17 @@ each_ok (suc n) f u e i h =
     last i n h (λ k. each_ok n f a.0 a.1 i k) (λ k. subst (λ j. f j ≡ Ok tt) (sym k) a.2)
 
 -- each one adds its term
-pub sum_ok : (s : ℚ) (n : ℕ) (f : ℕ → ℚ → Run ℚ) (t : ℕ → ℚ) → ((k : ℕ) (u v : ℚ) → k < n → f k u ≡ Ok v → v ≡ u +ℚ t k) → (v : ℚ) → each_from s n f ≡ Ok v → v ≡ s +ℚ sum_below n t
+pub sum_ok : (s : ℚ) (n : ℕ) (f : ℕ → ℚ → Run ℚ) (t : ℕ → ℚ) →
+    ((k : ℕ) (u v : ℚ) → k < n → f k u ≡ Ok v → v ≡ u +ℚ t k) → (v : ℚ) → each_from s n f ≡ Ok v →
+    v ≡ s +ℚ sum_below n t
 sum_ok s zero f t h v e = sym (ok_same s v e) ∙ sym (+ℚ_zero s)
 sum_ok s (suc n) f t h v e =
     let a = after_ok (each_from s n f) (λ u. f n u) v e in
     h n a.0 v (omega arith) a.2 ∙ ap (λ u. u +ℚ t n) (sum_ok s n f t (λ k u w p. h k u w (omega (arith, p))) a.0 a.1) ∙ +ℚ_assoc s (sum_below n t) (t n)
 
 -- each one was reached
-pub some_ok_at : (s : ℚ) (n : ℕ) (f : ℕ → ℚ → Run ℚ) (v : ℚ) → each_from s n f ≡ Ok v → (k : ℕ) → k < n → (u : ℚ) × (w : ℚ) × (f k u ≡ Ok w)
+pub some_ok_at : (s : ℚ) (n : ℕ) (f : ℕ → ℚ → Run ℚ) (v : ℚ) → each_from s n f ≡ Ok v → (k : ℕ) → k < n →
+    (u : ℚ) × (w : ℚ) × (f k u ≡ Ok w)
 some_ok_at s zero f v e k h = absurd (let z : ⊥ = omega (arith, h) in z)
 some_ok_at s (suc n) f v e k h =
     let a = after_ok (each_from s n f) (λ u. f n u) v e in
@@ -70,7 +74,8 @@ less_ok limit v w s u e =
     let a = after_ok (step Mul v w (mul limit v w)) (λ p. step Sub s p (sub limit s p)) u e in
     sub_gives limit s a.0 u (step_ok Sub s a.0 (sub limit s a.0) u a.2) ∙ ap (λ p. s -ℚ p) (mul_gives limit v w a.0 (step_ok Mul v w (mul limit v w) a.0 a.1))
 
-pub products_ok : (limit : Option ℕ) (n : ℕ) (f g : ℕ → ℚ) (v : ℚ) → sum_run limit n f g ≡ Ok v → v ≡ sum_below n (λ k. f k *ℚ g k)
+pub products_ok : (limit : Option ℕ) (n : ℕ) (f g : ℕ → ℚ) (v : ℚ) → sum_run limit n f g ≡ Ok v →
+    v ≡ sum_below n (λ k. f k *ℚ g k)
 products_ok limit n f g v e =
     sum_ok 0ℚ n (λ k s. plus_product limit (f k) (g k) s) (λ k. f k *ℚ g k) (λ k u w p h. plus_ok limit (f k) (g k) u w h) v e ∙ zero-+ℚ _
 
@@ -86,27 +91,33 @@ added limit v w x e = add_gives limit v w x (step_ok Add v w (add limit v w) x e
 pub taken : (limit : Option ℕ) (v w x : ℚ) → step Sub v w (sub limit v w) ≡ Ok x → x ≡ v -ℚ w
 taken limit v w x e = sub_gives limit v w x (step_ok Sub v w (sub limit v w) x e)
 
-pub lower_by_ok : (limit : Option ℕ) (k : Kind) (b : ℚ) (o : Option ℚ) (l : Option ℚ) → lower_by_run limit k b o ≡ Ok l → l ≡ (limits_by k b o).lower
+pub lower_by_ok : (limit : Option ℕ) (k : Kind) (b : ℚ) (o : Option ℚ) (l : Option ℚ) →
+    lower_by_run limit k b o ≡ Ok l → l ≡ (limits_by k b o).lower
 lower_by_ok limit L b None l e = sym (ok_same _ l e)
-lower_by_ok limit L b (Some r) l e = some_ok (step Sub b (abs_ℚ r) (sub limit b (abs_ℚ r))) (b -ℚ abs_ℚ r) (taken limit b (abs_ℚ r)) l e
+lower_by_ok limit L b (Some r) l e =
+    some_ok (step Sub b (abs_ℚ r) (sub limit b (abs_ℚ r))) (b -ℚ abs_ℚ r) (taken limit b (abs_ℚ r)) l e
 lower_by_ok limit G b None l e = sym (ok_same _ l e)
 lower_by_ok limit G b (Some r) l e = sym (ok_same _ l e)
 lower_by_ok limit E b None l e = sym (ok_same _ l e)
 lower_by_ok limit E b (Some r) l e = by (lt_ℚ r 0ℚ) e
   where
-    by : (t : Bool) → cond t (some_run (step Add b r (add limit b r))) (Ok (Some b)) ≡ Ok l → l ≡ (cond t (from_to (b +ℚ r) b) (from_to b (b +ℚ r))).lower
+    by : (t : Bool) → cond t (some_run (step Add b r (add limit b r))) (Ok (Some b)) ≡ Ok l →
+        l ≡ (cond t (from_to (b +ℚ r) b) (from_to b (b +ℚ r))).lower
     by true h = some_ok (step Add b r (add limit b r)) (b +ℚ r) (added limit b r) l h
     by false h = sym (ok_same _ l h)
 
-pub upper_by_ok : (limit : Option ℕ) (k : Kind) (b : ℚ) (o : Option ℚ) (l : Option ℚ) → upper_by_run limit k b o ≡ Ok l → l ≡ (limits_by k b o).upper
+pub upper_by_ok : (limit : Option ℕ) (k : Kind) (b : ℚ) (o : Option ℚ) (l : Option ℚ) →
+    upper_by_run limit k b o ≡ Ok l → l ≡ (limits_by k b o).upper
 upper_by_ok limit L b None l e = sym (ok_same _ l e)
 upper_by_ok limit L b (Some r) l e = sym (ok_same _ l e)
 upper_by_ok limit G b None l e = sym (ok_same _ l e)
-upper_by_ok limit G b (Some r) l e = some_ok (step Add b (abs_ℚ r) (add limit b (abs_ℚ r))) (b +ℚ abs_ℚ r) (added limit b (abs_ℚ r)) l e
+upper_by_ok limit G b (Some r) l e =
+    some_ok (step Add b (abs_ℚ r) (add limit b (abs_ℚ r))) (b +ℚ abs_ℚ r) (added limit b (abs_ℚ r)) l e
 upper_by_ok limit E b None l e = sym (ok_same _ l e)
 upper_by_ok limit E b (Some r) l e = by (lt_ℚ r 0ℚ) e
   where
-    by : (t : Bool) → cond t (Ok (Some b)) (some_run (step Add b r (add limit b r))) ≡ Ok l → l ≡ (cond t (from_to (b +ℚ r) b) (from_to b (b +ℚ r))).upper
+    by : (t : Bool) → cond t (Ok (Some b)) (some_run (step Add b r (add limit b r))) ≡ Ok l →
+        l ≡ (cond t (from_to (b +ℚ r) b) (from_to b (b +ℚ r))).upper
     by true h = sym (ok_same _ l h)
     by false h = some_ok (step Add b r (add limit b r)) (b +ℚ r) (added limit b r) l h
 
@@ -140,13 +151,15 @@ greater_from Greater v k e t = (order_greater v k).0 (sym e)
 pub compared : (limit : Option ℕ) (v k : ℚ) (o : Ordering) → step Cmp v k (compare limit v k) ≡ Ok o → o ≡ order v k
 compared limit v k o e = compare_gives limit v k o (step_ok Cmp v k (compare limit v k) o e)
 
-pub at_least_ok : (n : ℕ) (limit : Option ℕ) (o : Option ℚ) (v : ℚ) (u : ⊤) → at_least n limit o v ≡ Ok u → IfSome o (λ k. k ≤ℚ v)
+pub at_least_ok : (n : ℕ) (limit : Option ℕ) (o : Option ℚ) (v : ℚ) (u : ⊤) → at_least n limit o v ≡ Ok u →
+    IfSome o (λ k. k ≤ℚ v)
 at_least_ok n limit None v u e = tt
 at_least_ok n limit (Some k) v u e =
     let a = after_ok (step Cmp v k (compare limit v k)) (λ o. need n (not (is_less o))) u e in
     least_from a.0 v k (compared limit v k a.0 a.1) (need_ok n (not (is_less a.0)) u a.2)
 
-pub at_most_ok : (n : ℕ) (limit : Option ℕ) (o : Option ℚ) (v : ℚ) (u : ⊤) → at_most n limit o v ≡ Ok u → IfSome o (λ k. v ≤ℚ k)
+pub at_most_ok : (n : ℕ) (limit : Option ℕ) (o : Option ℚ) (v : ℚ) (u : ⊤) → at_most n limit o v ≡ Ok u →
+    IfSome o (λ k. v ≤ℚ k)
 at_most_ok n limit None v u e = tt
 at_most_ok n limit (Some k) v u e =
     let a = after_ok (step Cmp v k (compare limit v k)) (λ o. need n (not (is_greater o))) u e in
@@ -163,15 +176,18 @@ tight_from l d v e = record {
 }
 
 -- ---- a feasible point
-pub column_within_ok : (limit : Option ℕ) (m : Model) (x : List ℚ) (j : ℕ) → column_within_run limit m x j ≡ Ok tt → IsBetween (bounds m j) (part x j)
+pub column_within_ok : (limit : Option ℕ) (m : Model) (x : List ℚ) (j : ℕ) → column_within_run limit m x j ≡ Ok tt →
+    IsBetween (bounds m j) (part x j)
 column_within_ok limit m x j e =
     let a = after_ok (at_least 1 limit (bounds m j).lower (part x j)) (λ _. at_most 1 limit (bounds m j).upper (part x j)) tt e in
     record { lower = at_least_ok 1 limit (bounds m j).lower (part x j) a.0 a.1; upper = at_most_ok 1 limit (bounds m j).upper (part x j) tt a.2 }
 
-pub activity_ok : (limit : Option ℕ) (m : Model) (z : List ℚ) (i : ℕ) (v : ℚ) → activity_run limit m z i ≡ Ok v → v ≡ activity m z i
+pub activity_ok : (limit : Option ℕ) (m : Model) (z : List ℚ) (i : ℕ) (v : ℚ) → activity_run limit m z i ≡ Ok v →
+    v ≡ activity m z i
 activity_ok limit m z i v e = products_ok limit (width m) (λ j. coefficient m i j) (λ j. part z j) v e
 
-pub row_within_ok : (limit : Option ℕ) (m : Model) (x : List ℚ) (i : ℕ) → row_within_run limit m x i ≡ Ok tt → IsBetween (limits m i) (activity m x i)
+pub row_within_ok : (limit : Option ℕ) (m : Model) (x : List ℚ) (i : ℕ) → row_within_run limit m x i ≡ Ok tt →
+    IsBetween (limits m i) (activity m x i)
 row_within_ok limit m x i e =
     let a = after_ok (activity_run limit m x i) _ tt e in
     let b = after_ok (lower_run limit (row m i)) _ tt a.2 in
@@ -179,11 +195,14 @@ row_within_ok limit m x i e =
     let d = after_ok (upper_run limit (row m i)) (λ u. at_most 2 limit u a.0) tt c.2 in
     subst (λ v. IsBetween (limits m i) v) (activity_ok limit m x i a.0 a.1)
     (record {
-      lower = subst (λ l. IfSome l (λ k. k ≤ℚ a.0)) (lower_ok limit (row m i) b.0 b.1) (at_least_ok 2 limit b.0 a.0 c.0 c.1);
-      upper = subst (λ u. IfSome u (λ k. a.0 ≤ℚ k)) (upper_ok limit (row m i) d.0 d.1) (at_most_ok 2 limit d.0 a.0 tt d.2);
+      lower =
+          subst (λ l. IfSome l (λ k. k ≤ℚ a.0)) (lower_ok limit (row m i) b.0 b.1) (at_least_ok 2 limit b.0 a.0 c.0 c.1);
+      upper =
+          subst (λ u. IfSome u (λ k. a.0 ≤ℚ k)) (upper_ok limit (row m i) d.0 d.1) (at_most_ok 2 limit d.0 a.0 tt d.2);
     })
 
-pub feasible_ok : (limit : Option ℕ) (m : Model) (x : List ℚ) (a b : ⊤) → length x ≡ width m → columns_run limit m x ≡ Ok a → rows_run limit m x ≡ Ok b → IsFeasible m x
+pub feasible_ok : (limit : Option ℕ) (m : Model) (x : List ℚ) (a b : ⊤) → length x ≡ width m →
+    columns_run limit m x ≡ Ok a → rows_run limit m x ≡ Ok b → IsFeasible m x
 feasible_ok limit m x a b n e f = record {
   one_each = n;
   columns = λ j p. column_within_ok limit m x j (each_ok (width m) (column_within_run limit m x) a e j p);

@@ -20,24 +20,30 @@ use Rattle.spec_check.specs.TextWritten.{letter_text, part_text, part_lines, lin
 
 -- ---- runs of lines
 
-pub goes_on : (s t u : Option ExactRaw) (xs ys : List (Line (List ℕ))) → Leads s xs t → Leads t ys u → Leads s (xs ++ ys) u
+pub goes_on : (s t u : Option ExactRaw) (xs ys : List (Line (List ℕ))) → Leads s xs t → Leads t ys u →
+    Leads s (xs ++ ys) u
 goes_on s t u [] ys l k = subst (λ v. Leads v ys u) (sym l) k
 goes_on s t u (x ∷ xs) ys l k = (l.0, l.1, goes_on (Some l.0) t u xs ys l.2 k)
 
--- the lines behind a run decide
-joined : (s t : Option ExactRaw) (n : ℕ) (xs more : List (Line (List ℕ))) → Leads s xs t → judge s n (xs ++ more) ≡ judge t (n + length xs) more
+-- the lines after a run decide
+joined : (s t : Option ExactRaw) (n : ℕ) (xs more : List (Line (List ℕ))) → Leads s xs t →
+    judge s n (xs ++ more) ≡ judge t (n + length xs) more
 joined s t n [] more l = let e : n ≡ n + 0 = omega arith in ap (λ u. judge u n more) l ∙ ap (λ k. judge t k more) e
 joined s t n (x ∷ xs) more l =
     let e : n + 1 + length xs ≡ n + length (x ∷ xs) = omega arith in
     ap (settled n (λ raw. judge (Some raw) (n + 1) (xs ++ more))) l.1 ∙ joined (Some l.0) t (n + 1) xs more l.2 ∙ ap (λ k. judge t k more) e
 
-pub one_more : (s t : Option ExactRaw) (u : ExactRaw) (xs : List (Line (List ℕ))) (x : Line (List ℕ)) → Leads s xs t → step t x ≡ More u → Leads s (xs ++ x ∷ []) (Some u)
+pub one_more : (s t : Option ExactRaw) (u : ExactRaw) (xs : List (Line (List ℕ))) (x : Line (List ℕ)) → Leads s xs t →
+    step t x ≡ More u → Leads s (xs ++ x ∷ []) (Some u)
 one_more s t u xs x l h = goes_on s t (Some u) xs (x ∷ []) l (u, h, refl)
 
-pub ends : (xs more : List (Line (List ℕ))) (x : Line (List ℕ)) (s : Option ExactRaw) (raw : ExactRaw) → Leads None xs s → step s x ≡ Done raw → Spells (xs ++ x ∷ more) raw
-ends xs more x s raw l h = joined None s 1 xs (x ∷ more) l ∙ ap (settled (1 + length xs) (λ raw. judge (Some raw) (1 + length xs + 1) more)) h
+pub ends : (xs more : List (Line (List ℕ))) (x : Line (List ℕ)) (s : Option ExactRaw) (raw : ExactRaw) →
+    Leads None xs s → step s x ≡ Done raw → Spells (xs ++ x ∷ more) raw
+ends xs more x s raw l h =
+    joined None s 1 xs (x ∷ more) l ∙ ap (settled (1 + length xs) (λ raw. judge (Some raw) (1 + length xs + 1) more)) h
 
-pub refuses : (xs more : List (Line (List ℕ))) (x : Line (List ℕ)) (s : Option ExactRaw) → Leads None xs s → step s x ≡ Unfit → Refuses (xs ++ x ∷ more) (length xs + 1)
+pub refuses : (xs more : List (Line (List ℕ))) (x : Line (List ℕ)) (s : Option ExactRaw) → Leads None xs s →
+    step s x ≡ Unfit → Refuses (xs ++ x ∷ more) (length xs + 1)
 refuses xs more x s l h =
     let e : 1 + length xs ≡ length xs + 1 = omega arith in
     joined None s 1 xs (x ∷ more) l ∙ ap (settled (1 + length xs) (λ raw. judge (Some raw) (1 + length xs + 1) more)) h ∙ ap Refused e
@@ -60,7 +66,8 @@ letter_known X = refl
 letter_known Y = refl
 letter_known R = refl
 
-part_words : (letter : Letter) (name : Name) (v : ℚ) → IsWord name → IsWord (number_text v) → words_of (part_text letter name v) ≡ letter_text letter ∷ name ∷ number_text v ∷ []
+part_words : (letter : Letter) (name : Name) (v : ℚ) → IsWord name → IsWord (number_text v) →
+    words_of (part_text letter name v) ≡ letter_text letter ∷ name ∷ number_text v ∷ []
 unfolding words_of
 part_words letter name v h k =
     parts_word_then (letter_text letter) (name ++ 32 ∷ number_text v) (letter_word letter)
@@ -72,13 +79,15 @@ with_parts raw parts = record raw { parts = raw.parts ++ parts }
 abbrev pub the_part : Letter → Name → ℚ → ExactPart
 the_part letter name v = record { letter = letter; name = name; value = v }
 
-known : (raw : ExactRaw) (letter : Letter) (name : Name) (v : ℚ) → takes raw.kind letter ≡ true → IsNarrow v → lettered raw.kind (letter_of (letter_text letter)) name (number_text v) ≡ Some (the_part letter name v)
+known : (raw : ExactRaw) (letter : Letter) (name : Name) (v : ℚ) → takes raw.kind letter ≡ true → IsNarrow v →
+    lettered raw.kind (letter_of (letter_text letter)) name (number_text v) ≡ Some (the_part letter name v)
 known raw letter name v t n =
     ap (λ o. lettered raw.kind o name (number_text v)) (letter_known letter)
     ∙ ap (λ b. cond b (valued letter name (number_of (number_text v))) None) t
     ∙ ap (valued letter name) (read_written v n.top n.bottom)
 
-pub part_step : (raw : ExactRaw) (letter : Letter) (name : Name) (v : ℚ) → takes raw.kind letter ≡ true → IsWord name → IsNarrow v → step (Some raw) (Text (part_text letter name v)) ≡ More (with_parts raw (the_part letter name v ∷ []))
+pub part_step : (raw : ExactRaw) (letter : Letter) (name : Name) (v : ℚ) → takes raw.kind letter ≡ true → IsWord name →
+    IsNarrow v → step (Some raw) (Text (part_text letter name v)) ≡ More (with_parts raw (the_part letter name v ∷ []))
 unfolding step part_of is_end
 part_step raw letter name v t h n =
     ap (step_by_words (Some raw)) (part_words letter name v h (number_word v n.top n.bottom))
@@ -93,10 +102,12 @@ abbrev pub parts_below : Letter → (ℕ → Name) → List ℚ → ℕ → List
 parts_below letter names values zero = []
 parts_below letter names values (suc n) = parts_below letter names values n ++ part_if letter (names n) (part values n)
 
-part_leads : (raw : ExactRaw) (letter : Letter) (name : Name) (v : ℚ) → takes raw.kind letter ≡ true → IsWord name → IsNarrow v → Leads (Some raw) (map Text (part_lines letter name v)) (Some (with_parts raw (part_if letter name v)))
+part_leads : (raw : ExactRaw) (letter : Letter) (name : Name) (v : ℚ) → takes raw.kind letter ≡ true → IsWord name →
+    IsNarrow v → Leads (Some raw) (map Text (part_lines letter name v)) (Some (with_parts raw (part_if letter name v)))
 part_leads raw letter name v t h n = by (eq_ℚ v 0ℚ)
   where
-    by : (b : Bool) → Leads (Some raw) (map Text (cond b [] (part_text letter name v ∷ []))) (Some (with_parts raw (cond b [] (the_part letter name v ∷ []))))
+    by : (b : Bool) →
+        Leads (Some raw) (map Text (cond b [] (part_text letter name v ∷ []))) (Some (with_parts raw (cond b [] (the_part letter name v ∷ []))))
     by true = ap (λ ps. Some (record raw { parts = ps })) (sym (append-nil raw.parts))
     by false = (with_parts raw (the_part letter name v ∷ []), part_step raw letter name v t h n, refl)
 

@@ -21,7 +21,8 @@ column_allows_all m r j a =
     then_ok (need 3 (not_below (bounds m j).lower (part r j))) tt (λ _. need 3 (not_above (bounds m j).upper (part r j))) tt
     (need_true 3 _ (below_test (bounds m j).lower (part r j) a.lower)) (need_true 3 _ (above_test (bounds m j).upper (part r j) a.upper))
 
-row_allows_all : (m : Model) (r : List ℚ) (i : ℕ) → Allows (limits m i) (activity m r i) → row_allows_run None m r i ≡ Ok tt
+row_allows_all : (m : Model) (r : List ℚ) (i : ℕ) → Allows (limits m i) (activity m r i) →
+    row_allows_run None m r i ≡ Ok tt
 row_allows_all m r i a =
     then_ok (activity_run None m r i) (activity m r i) _ tt (activity_all m r i)
     (then_ok (lower_run None (row m i)) (limits m i).lower _ tt (lower_all (row m i))

@@ -27,7 +27,8 @@ column_allows_ok m r j e =
     let a = after_ok (need 3 (not_below (bounds m j).lower (part r j))) (λ _. need 3 (not_above (bounds m j).upper (part r j))) tt e in
     record { lower = below_from (bounds m j).lower (part r j) (need_ok 3 _ a.0 a.1); upper = above_from (bounds m j).upper (part r j) (need_ok 3 _ tt a.2) }
 
-row_allows_ok : (limit : Option ℕ) (m : Model) (r : List ℚ) (i : ℕ) → row_allows_run limit m r i ≡ Ok tt → Allows (limits m i) (activity m r i)
+row_allows_ok : (limit : Option ℕ) (m : Model) (r : List ℚ) (i : ℕ) → row_allows_run limit m r i ≡ Ok tt →
+    Allows (limits m i) (activity m r i)
 row_allows_ok limit m r i e =
     let a = after_ok (activity_run limit m r i) _ tt e in
     let b = after_ok (lower_run limit (row m i)) _ tt a.2 in
@@ -35,16 +36,20 @@ row_allows_ok limit m r i e =
     let d = after_ok (upper_run limit (row m i)) (λ u. need 4 (not_above u a.0)) tt c.2 in
     subst (Allows (limits m i)) (activity_ok limit m r i a.0 a.1)
     (record {
-      lower = subst (λ l. IfSome l (λ _. 0ℚ ≤ℚ a.0)) (lower_ok limit (row m i) b.0 b.1) (below_from b.0 a.0 (need_ok 4 _ c.0 c.1));
-      upper = subst (λ u. IfSome u (λ _. a.0 ≤ℚ 0ℚ)) (upper_ok limit (row m i) d.0 d.1) (above_from d.0 a.0 (need_ok 4 _ tt d.2));
+      lower =
+          subst (λ l. IfSome l (λ _. 0ℚ ≤ℚ a.0)) (lower_ok limit (row m i) b.0 b.1) (below_from b.0 a.0 (need_ok 4 _ c.0 c.1));
+      upper =
+          subst (λ u. IfSome u (λ _. a.0 ≤ℚ 0ℚ)) (upper_ok limit (row m i) d.0 d.1) (above_from d.0 a.0 (need_ok 4 _ tt d.2));
     })
 
-better_ok : (limit : Option ℕ) (m : Model) (r : List ℚ) (t : ⊤) → better_run limit m r ≡ Ok t → signed m.sense (cost_of m r) <ℚ 0ℚ
+better_ok : (limit : Option ℕ) (m : Model) (r : List ℚ) (t : ⊤) → better_run limit m r ≡ Ok t →
+    signed m.sense (cost_of m r) <ℚ 0ℚ
 better_ok limit m r t e =
     let a = after_ok (cost_run limit m r) (λ s. need 5 (lt_ℚ (signed m.sense s) 0ℚ)) t e in
     subst (λ z. signed m.sense z <ℚ 0ℚ) (products_ok limit (width m) (cost m) (λ j. part r j) a.0 a.1) (lt_if (signed m.sense a.0) 0ℚ (need_ok 5 _ t a.2))
 
-pub unbounded_ok : (limit : Option ℕ) (m : Model) (x r : List ℚ) (said : Known ℚ) → length x ≡ width m → unbounded_run limit m x r ≡ Ok said → ChecksUnbounded m x r × (said ≡ known.Unbounded)
+pub unbounded_ok : (limit : Option ℕ) (m : Model) (x r : List ℚ) (said : Known ℚ) → length x ≡ width m →
+    unbounded_run limit m x r ≡ Ok said → ChecksUnbounded m x r × (said ≡ known.Unbounded)
 unbounded_ok limit m x r said n e =
     let a = after_ok (columns_run limit m x) _ said e in
     let b = after_ok (rows_run limit m x) _ said a.2 in

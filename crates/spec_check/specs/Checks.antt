@@ -35,7 +35,7 @@ pub record ChecksOptimal (m : Model) (x y : List ℚ) : Type 0 where
   pub columns : (j : ℕ) → j < width m → IsTight (bounds m j) (reduced m y j) (part x j)
   pub rows : (i : ℕ) → i < height m → IsTight (limits m i) (part y i) (activity m x i)
 
--- ---- rows that no point meets together
+-- ---- rows that no point satisfies together
 
 -- a multiplier d above 0 has the lower limit, one below 0 the upper
 pub record HasLimit (l : Limits) (d : ℚ) : Type 0 where
@@ -76,7 +76,7 @@ pub record ChecksClash (m : Model) (j : ℕ) : Type 0 where
   pub upper : (bounds m j).upper ≡ Some high
   pub crossed : high <ℚ low
 
--- ---- a ray along which feasible points get better without end
+-- ---- a ray along which feasible points get better without limit
 
 -- limits that a value may move by r from for good
 pub record Allows (l : Limits) (r : ℚ) : Type 0 where

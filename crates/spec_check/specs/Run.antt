@@ -114,7 +114,8 @@ is_tight l d v = cond (lt_ℚ 0ℚ d) (stands_at l.lower v) (cond (lt_ℚ d 0ℚ
 
 -- ---- a feasible point: conditions 1 and 2
 abbrev pub column_within_run : Option ℕ → Model → List ℚ → ℕ → Run ⊤
-column_within_run limit m x j = at_least 1 limit (bounds m j).lower (part x j) >>= λ _. at_most 1 limit (bounds m j).upper (part x j)
+column_within_run limit m x j =
+    at_least 1 limit (bounds m j).lower (part x j) >>= λ _. at_most 1 limit (bounds m j).upper (part x j)
 
 abbrev pub columns_run : Option ℕ → Model → List ℚ → Run ⊤
 columns_run limit m x = each (width m) (column_within_run limit m x)
@@ -133,7 +134,8 @@ rows_run limit m x = each (height m) (row_within_run limit m x)
 
 -- ---- complementary multipliers: conditions 3 and 4
 abbrev pub reduced_run : Option ℕ → Model → List ℚ → ℕ → Run ℚ
-reduced_run limit m y j = each_from (signed m.sense (cost m j)) (height m) (λ i d. less_product limit (part y i) (coefficient m i j) d)
+reduced_run limit m y j =
+    each_from (signed m.sense (cost m j)) (height m) (λ i d. less_product limit (part y i) (coefficient m i j) d)
 
 abbrev pub column_tight_run : Option ℕ → Model → List ℚ → List ℚ → ℕ → Run ⊤
 column_tight_run limit m x y j = reduced_run limit m y j >>= λ d. need 3 (is_tight (bounds m j) d (part x j))
@@ -157,7 +159,7 @@ optimal_run limit m x y =
     each (width m) (column_tight_run limit m x y) >>= λ _. each (height m) (row_tight_run limit m x y) >>= λ _.
     value_run limit m x >>= λ v. Ok (known.Optimal v)
 
--- ---- rows that no point meets together
+-- ---- rows that no point satisfies together
 
 -- d times a limit that condition n asks for, onto s
 abbrev pub weighed_at : ℕ → Option ℕ → ℚ → Option ℚ → ℚ → Run ℚ
@@ -171,7 +173,8 @@ row_asks_run limit m y i s =
     (cond (lt_ℚ (part y i) 0ℚ) (upper_run limit (row m i) >>= λ u. weighed_at 1 limit (part y i) u s) (Ok s))
 
 abbrev pub weighed : ℕ → Option ℕ → Limits → ℚ → ℚ → Run ℚ
-weighed n limit l d s = cond (lt_ℚ 0ℚ d) (weighed_at n limit d l.lower s) (cond (lt_ℚ d 0ℚ) (weighed_at n limit d l.upper s) (Ok s))
+weighed n limit l d s =
+    cond (lt_ℚ 0ℚ d) (weighed_at n limit d l.lower s) (cond (lt_ℚ d 0ℚ) (weighed_at n limit d l.upper s) (Ok s))
 
 abbrev pub priced_run : Option ℕ → Model → List ℚ → ℕ → Run ℚ
 priced_run limit m y j = sum_run limit (height m) (λ i. part y i) (λ i. coefficient m i j)
@@ -201,7 +204,7 @@ crossed_run limit (Some l) (Some u) = step Cmp l u (compare limit l u) >>= λ o.
 abbrev pub clash_run : Option ℕ → Model → ℕ → Run (Known ℚ)
 clash_run limit m j = crossed_run limit (bounds m j).lower (bounds m j).upper >>= λ _. Ok known.Infeasible
 
--- ---- a ray: conditions 3 to 5, behind those of a feasible point
+-- ---- a ray: conditions 3 to 5, after those of a feasible point
 
 -- a lower limit asks that r is at least 0, an upper one that it is at most 0
 abbrev pub not_below : Option ℚ → ℚ → Bool
@@ -213,7 +216,8 @@ not_above None r = true
 not_above (Some k) r = not (lt_ℚ 0ℚ r)
 
 abbrev pub column_allows_run : Model → List ℚ → ℕ → Run ⊤
-column_allows_run m r j = need 3 (not_below (bounds m j).lower (part r j)) >>= λ _. need 3 (not_above (bounds m j).upper (part r j))
+column_allows_run m r j =
+    need 3 (not_below (bounds m j).lower (part r j)) >>= λ _. need 3 (not_above (bounds m j).upper (part r j))
 
 -- The limits are those of condition 2, taken again.
 abbrev pub row_allows_run : Option ℕ → Model → List ℚ → ℕ → Run ⊤

@@ -62,7 +62,7 @@ same_letter a b = false
 abbrev pub is_given : Letter → Name → List ExactPart → Bool
 is_given letter name parts = list_any (λ p. same_letter p.letter letter && same p.name name) parts
 
--- one part, behind those before it
+-- one part, after those before it
 unfoldable pub put : Model → List ExactPart → ExactPart → Certificate (List ℚ) → Settled (Certificate (List ℚ))
 put m before p cert =
     known (place_of m p.letter p.name) p.name >>= λ k.

@@ -1,5 +1,5 @@
 -- The text of a certificate. Its first line says the kind: OPTIMAL, INFEASIBLE, UNBOUNDED, or CLASH and a column's name. Each
--- line behind it is a part: a letter that the kind takes, a name and a number. The last line is END. Each line is a step from
+-- line after it is a part: a letter that the kind takes, a name and a number. The last line is END. Each line is a step from
 -- what was read before it.
 use Rattle.std.specs.Prelude.{ℕ, ◌+◌, ◌≡◌, ◌⊎◌, Bool, true, false, Option, Some, None, List, [], ◌∷◌, ◌++◌, codes, if◌then◌else◌}
 use Rattle.spec_text.specs.declared.line.Line.{Line}
@@ -69,7 +69,7 @@ unfoldable pub is_end : List (List ℕ) → Bool
 is_end (word ∷ []) = same word (codes "END")
 is_end words = false
 
--- the text goes on behind a line, or ends with it, or the line does not fit
+-- the text continues after a line, or ends with it, or the line does not fit
 abbrev pub Outcome : Type 0
 Outcome = Progress ExactRaw
 
@@ -81,7 +81,7 @@ abbrev pub with_part : ExactRaw → Option ExactPart → Outcome
 with_part raw None = Unfit
 with_part raw (Some p) = More (record raw { parts = raw.parts ++ p ∷ [] })
 
--- by the words of a line, behind nothing or behind a kind and its parts so far
+-- by the words of a line, after nothing or after a kind and its parts so far
 abbrev pub step_by_words : Option ExactRaw → List (List ℕ) → Outcome
 step_by_words None words = opened (kind_of words)
 step_by_words (Some raw) words = if is_end words then Done raw else with_part raw (part_of raw.kind words)

@@ -9,7 +9,7 @@ use Rattle.spec_check.specs.Text.{ExactRaw, Spells}
 use Rattle.spec_check.specs.Settle.{certificate_for}
 use Rattle.spec_check.specs.TextWritten.{certificate_lines}
 
--- the lines of the written text, with more lines behind them, spell parts that are this certificate of the model
+-- the lines of the written text, with more lines after them, spell parts that are this certificate of the model
 pub record IsReadBack (m : Model) (cert : Certificate (List ℚ)) : Type 0 where
   pub raw : ExactRaw
   pub spelled : (more : List (Line (List ℕ))) → Spells (map Text (certificate_lines m cert) ++ more) raw

@@ -24,7 +24,8 @@ part_lines letter name v = if eq_ℚ v 0ℚ then [] else part_text letter name v
 -- the lines of the first n columns, or rows
 abbrev pub lines_below : Letter → (ℕ → Name) → List ℚ → ℕ → List (List ℕ)
 lines_below letter names values zero = []
-lines_below letter names values (suc n) = lines_below letter names values n ++ part_lines letter (names n) (part values n)
+lines_below letter names values (suc n) =
+    lines_below letter names values n ++ part_lines letter (names n) (part values n)
 
 abbrev pub column_lines : Model → Letter → List ℚ → List (List ℕ)
 column_lines m letter values = lines_below letter (λ j. (column m j).name) values (width m)

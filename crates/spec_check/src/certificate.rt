@@ -50,7 +50,7 @@ pub enum SettleFault<N: Debug> {
     Repeated(N),
 }
 
-/// What is handed in to show something of a model.
+/// What is given to show something of a model.
 #[derive(Drop)]
 pub enum Certificate<L> {
     /// A value for each column, and a multiplier for each row.

@@ -2,7 +2,7 @@
 //!
 //! | Item | What it is | Where |
 //! |---|---|---|
-//! | `Certificate`, `Known`, `Verdict` | what is handed in, and what is said of it | src/certificate |
+//! | `Certificate`, `Known`, `Verdict` | what is given, and what is said of it | src/certificate |
 //! | `RawCertificate`, `Part`, `SettleFault` | a certificate as its text has it, and why it is not one of a model | src/certificate |
 //! | `shown`, `Holds` | what a certificate would show | specs/Certificate |
 //! | `Checks` | the conditions, in no order | specs/Checks |
@@ -15,7 +15,7 @@
 //! The functions here have the laws as their contracts.
 //!
 //! Optimality is shown by complementary slackness with bounds (Chvátal, Linear Programming, chapters 5 and 8), that no
-//! point is feasible by Farkas' lemma, and that points get better without end by a ray.
+//! point is feasible by Farkas' lemma, and that points get better without limit by a ray.
 #![tactic(auto)]
 
 mod certificate;
@@ -37,7 +37,8 @@ ghost use Rattle.spec_check.specs.Settle.{certificate_for};
 ghost use Rattle.spec_check.specs.TextRead.{IsReadBack};
 
 pub use certificate::{
-    Certificate, CertificateKind, Known, Letter, Part, RawCertificate, SettleFault, CheckStop, Verdict,
+    Certificate, CertificateKind, CheckStop, Known, Letter, Part, RawCertificate, SettleFault,
+    Verdict,
 };
 pub use progress::Progress;
 
@@ -73,7 +74,7 @@ pub fn written_certificates_are_read()
     ensures { (m : Model) (cert : Certificate (List ℚ)) → IsModel m → IsFor m cert → IsNarrowCertificate cert → IsReadBack m cert }
 {}
 
-/// The steps of a text's lines, one by one, are the judgement of the text. Behind lines that lead on, a line leads further,
+/// The steps of a text's lines, one by one, are the judgement of the text. After lines that lead on, a line leads further,
 /// or ends the text, which spells that certificate whatever follows, or does not fit, and refuses the text there. Where no
 /// line follows, the line that would come next does not fit.
 pub fn certificate_steps_are_the_judgement()

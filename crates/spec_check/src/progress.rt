@@ -3,7 +3,7 @@
 /// What a line of a certificate's text leads to.
 #[derive(Drop)]
 pub enum Progress<R> {
-    /// The text goes on.
+    /// The text continues.
     More(R),
     /// The text ends, and spells this.
     Done(R),

@@ -17,16 +17,20 @@ up_to : (k n : ℕ) → k < n → suc k + (n - suc k) ≡ n
 up_to k n h = omega arith
 
 -- ---- steps
-steps_stay : {A E : Type 0} (n d : ℕ) (f : ℕ → A → Result A E) (a : A) (e : E) → steps n f a ≡ Err e → steps (n + d) f a ≡ Err e
+steps_stay : {A E : Type 0} (n d : ℕ) (f : ℕ → A → Result A E) (a : A) (e : E) → steps n f a ≡ Err e →
+    steps (n + d) f a ≡ Err e
 steps_stay n zero f a e h = (let z : n + 0 ≡ n = omega arith in ap (λ k. steps k f a) z) ∙ h
-steps_stay n (suc d) f a e h = (let z : n + suc d ≡ suc (n + d) = omega arith in ap (λ k. steps k f a) z) ∙ ap (λ o. o >>= λ b. f (n + d) b) (steps_stay n d f a e h)
+steps_stay n (suc d) f a e h =
+    (let z : n + suc d ≡ suc (n + d) = omega arith in ap (λ k. steps k f a) z) ∙ ap (λ o. o >>= λ b. f (n + d) b) (steps_stay n d f a e h)
 
 -- one more step
-pub steps_more : {A E : Type 0} (k : ℕ) (f : ℕ → A → Result A E) (a b c : A) → steps k f a ≡ Ok b → f k b ≡ Ok c → steps (k + 1) f a ≡ Ok c
+pub steps_more : {A E : Type 0} (k : ℕ) (f : ℕ → A → Result A E) (a b c : A) → steps k f a ≡ Ok b → f k b ≡ Ok c →
+    steps (k + 1) f a ≡ Ok c
 steps_more k f a b c h g = ap (λ i. steps i f a) (next_is k) ∙ ap (λ o. o >>= λ b. f k b) h ∙ g
 
 -- a stop at step k stops all n
-pub steps_stop : {A E : Type 0} (k n : ℕ) (f : ℕ → A → Result A E) (a b : A) (e : E) → k < n → steps k f a ≡ Ok b → f k b ≡ Err e → steps n f a ≡ Err e
+pub steps_stop : {A E : Type 0} (k n : ℕ) (f : ℕ → A → Result A E) (a b : A) (e : E) → k < n → steps k f a ≡ Ok b →
+    f k b ≡ Err e → steps n f a ≡ Err e
 steps_stop k n f a b e p h g =
     subst (λ i. steps i f a ≡ Err e) (up_to k n p) (steps_stay (suc k) (n - suc k) f a e (ap (λ o. o >>= λ b. f k b) h ∙ g))
 
@@ -38,12 +42,14 @@ list_stays n (suc d) f e h =
     ∙ ap (λ o. o >>= λ xs. f (n + d) >>= λ x. Ok (xs ++ x ∷ [])) (list_stays n d f e h)
 
 -- one more item
-pub list_more : {A : Type 0} (k : ℕ) (f : ℕ → Run A) (xs : List A) (x : A) → list_run k f ≡ Ok xs → f k ≡ Ok x → list_run (k + 1) f ≡ Ok (xs ++ x ∷ [])
+pub list_more : {A : Type 0} (k : ℕ) (f : ℕ → Run A) (xs : List A) (x : A) → list_run k f ≡ Ok xs → f k ≡ Ok x →
+    list_run (k + 1) f ≡ Ok (xs ++ x ∷ [])
 list_more k f xs x h g =
     ap (λ i. list_run i f) (next_is k) ∙ ap (λ o. o >>= λ xs. f k >>= λ x. Ok (xs ++ x ∷ [])) h ∙ ap (λ o. o >>= λ x. Ok (xs ++ x ∷ [])) g
 
 -- a refusal of item k stops the list of n
-pub list_stops : {A : Type 0} (k n : ℕ) (f : ℕ → Run A) (xs : List A) (e : Past ℚ) → k < n → list_run k f ≡ Ok xs → f k ≡ Err e → list_run n f ≡ Err e
+pub list_stops : {A : Type 0} (k n : ℕ) (f : ℕ → Run A) (xs : List A) (e : Past ℚ) → k < n → list_run k f ≡ Ok xs →
+    f k ≡ Err e → list_run n f ≡ Err e
 list_stops k n f xs e p h g =
     subst (λ i. list_run i f ≡ Err e) (up_to k n p)
     (list_stays (suc k) (n - suc k) f e (ap (λ o. o >>= λ xs. f k >>= λ x. Ok (xs ++ x ∷ [])) h ∙ ap (λ o. o >>= λ x. Ok (xs ++ x ∷ [])) g))
@@ -61,8 +67,10 @@ pub length-list_run : {A : Type 0} (n : ℕ) (f : ℕ → Run A) (xs : List A) �
 length-list_run zero f xs e = let g : xs ≡ [] = cc in ap length g
 length-list_run {A} (suc n) f xs e = by (list_run n f) (f n) e (λ ys h. length-list_run n f ys h)
   where
-    by : (o : Run (List A)) (p : Run A) → (o >>= λ ys. p >>= λ x. Ok (ys ++ x ∷ [])) ≡ Ok xs → ((ys : List A) → o ≡ Ok ys → length ys ≡ n) → length xs ≡ suc n
-    by (Ok ys) (Ok x) e h = let g : xs ≡ ys ++ x ∷ [] = cc in omega (arith, ap length g, length-append ys (x ∷ []), h ys refl)
+    by : (o : Run (List A)) (p : Run A) → (o >>= λ ys. p >>= λ x. Ok (ys ++ x ∷ [])) ≡ Ok xs →
+        ((ys : List A) → o ≡ Ok ys → length ys ≡ n) → length xs ≡ suc n
+    by (Ok ys) (Ok x) e h =
+        let g : xs ≡ ys ++ x ∷ [] = cc in omega (arith, ap length g, length-append ys (x ∷ []), h ys refl)
     by (Ok ys) (Err p) e h = cc
     by (Err p) o e h = cc
 

@@ -53,7 +53,8 @@ place_of t k = place_below t k t.rows
 -- Whether column k rises or falls as it enters, if it may: the column at position p, which is below its lower bound or above
 -- its upper one, then comes back. A basic and a fixed column never enter.
 abbrev pub dual_way_at : Tableau → ℕ → Bool → ℕ → Option Bool
-dual_way_at t p below k = if is_fixed (lower_at t k) (upper_at t k) then None else way_by (status_at t k) (directed below (entry_at t p k))
+dual_way_at t p below k =
+    if is_fixed (lower_at t k) (upper_at t k) then None else way_by (status_at t k) (directed below (entry_at t p k))
 
 -- of equal ratios the first stays
 abbrev pub cheaper_by : Cheapest ℚ → Cheapest ℚ → Ordering → Cheapest ℚ
@@ -118,7 +119,8 @@ dual_end_or_spent t used (End end) = Ok (record { end = end; tableau = t; used =
 dual_end_or_spent t used (Pivot p j to) = Err stop.Spent
 
 -- at an end, or on with the next tableau
-abbrev pub dual_end_or_next : Option ℕ → Tableau → ℕ → (Tableau → Result DualEnded (RunStop ℚ)) → DualChoice → Result DualEnded (RunStop ℚ)
+abbrev pub dual_end_or_next : Option ℕ → Tableau → ℕ → (Tableau → Result DualEnded (RunStop ℚ)) → DualChoice →
+    Result DualEnded (RunStop ℚ)
 dual_end_or_next limit t used next (End end) = Ok (record { end = end; tableau = t; used = used })
 dual_end_or_next limit t used next (Pivot p j to) = refused_as stop.Past (dual_pivot_run limit t p j to) >>= next
 

@@ -100,7 +100,8 @@ abbrev pub basis_upper : Form → List (Option ℚ)
 basis_upper f = f.upper ++ replicate f.rows (Some 0ℚ)
 
 abbrev pub basis_value : Form → List Status → ℕ → ℚ
-basis_value f basis k = stand (get_or (basis_status f basis) k Basic) (get_or (basis_lower f) k None) (get_or (basis_upper f) k None)
+basis_value f basis k =
+    stand (get_or (basis_status f basis) k Basic) (get_or (basis_lower f) k None) (get_or (basis_upper f) k None)
 
 abbrev pub with_basis : Form → List Status → Elimination → Tableau
 with_basis f basis e =
@@ -123,7 +124,8 @@ position_run limit t i =
     steps (all_columns t) (λ k v. if is_basic (status_at t k) then Ok v else less_product limit (entry_at t i k) (value_at t k) v) 0ℚ
 
 unfoldable pub valued_run : Option ℕ → Tableau → Run (List ℚ)
-valued_run limit t = steps t.rows (λ i values. position_run limit t i >>= λ v. Ok (slice_set values (basic_at t i) v)) t.value
+valued_run limit t =
+    steps t.rows (λ i values. position_run limit t i >>= λ v. Ok (slice_set values (basic_at t i) v)) t.value
 
 abbrev pub with_values : Tableau → List ℚ → Tableau
 with_values t values = record t { value = values }
@@ -136,4 +138,5 @@ filled_run limit f t =
     Ok (with_reduced (with_values t values) reduced)
 
 unfoldable pub start_from : Option ℕ → Form → List Status → Result Tableau (StartStop ℚ)
-start_from limit f basis = eliminate_run limit f basis >>= λ e. refused_as stop.Past (filled_run limit f (with_basis f basis e))
+start_from limit f basis =
+    eliminate_run limit f basis >>= λ e. refused_as stop.Past (filled_run limit f (with_basis f basis e))

@@ -76,7 +76,8 @@ abbrev pub needs_flip_at : Tableau → ℕ → Bool
 needs_flip_at t k = not (is_fixed (lower_at t k) (upper_at t k)) && needs_flip (status_at t k) (reduced_at t k)
 
 abbrev pub meets_need_at : Tableau → ℕ → Bool
-meets_need_at t k = is_fixed (lower_at t k) (upper_at t k) || meets_need (status_at t k) (reduced_at t k) (lower_at t k) (upper_at t k)
+meets_need_at t k =
+    is_fixed (lower_at t k) (upper_at t k) || meets_need (status_at t k) (reduced_at t k) (lower_at t k) (upper_at t k)
 
 -- each of the first n columns meets its need
 abbrev pub all_meet : Tableau → ℕ → Bool

@@ -34,7 +34,8 @@ end_or_spent t used (Flip j) = Err stop.Spent
 end_or_spent t used (Pivot p j theta to) = Err stop.Spent
 
 -- at an end, or on with the next tableau
-abbrev pub end_or_next : Option ℕ → Tableau → ℕ → (Tableau → Result PrimalEnded (RunStop ℚ)) → Choice ℚ → Result PrimalEnded (RunStop ℚ)
+abbrev pub end_or_next : Option ℕ → Tableau → ℕ → (Tableau → Result PrimalEnded (RunStop ℚ)) → Choice ℚ →
+    Result PrimalEnded (RunStop ℚ)
 end_or_next limit t used next (End end) = Ok (record { end = end; tableau = t; used = used })
 end_or_next limit t used next (Flip j) = refused_as stop.Past (flip_run limit t j) >>= next
 end_or_next limit t used next (Pivot p j theta to) = refused_as stop.Past (pivot_run limit t p j theta to) >>= next
@@ -56,7 +57,8 @@ without_artificials t =
     record t { lower = fixed_at_zero (form_columns t) t.rows t.lower; upper = fixed_at_zero (form_columns t) t.rows t.upper }
 
 unfoldable pub phase_two_run : Option ℕ → Form → Tableau → Run Tableau
-phase_two_run limit f t = priced_run limit (without_artificials t) f.cost >>= λ reduced. Ok (with_reduced (without_artificials t) reduced)
+phase_two_run limit f t =
+    priced_run limit (without_artificials t) f.cost >>= λ reduced. Ok (with_reduced (without_artificials t) reduced)
 
 -- ---- the two phases
 -- some artificial is basic
@@ -69,7 +71,8 @@ is_stuck t = list_any (λ k. is_artificial t k && not (eq_ℚ (value_at t k) 0�
 
 -- phase one, where it is wanted
 abbrev pub phase_one : Option ℕ → ℕ → Tableau → Result PrimalEnded (RunStop ℚ)
-phase_one limit budget t = if wants_phase_one t then run_from limit budget 0 t else Ok (record { end = Optimal; tableau = t; used = 0 })
+phase_one limit budget t =
+    if wants_phase_one t then run_from limit budget 0 t else Ok (record { end = Optimal; tableau = t; used = 0 })
 
 -- how both phases ended: no point is feasible, or phase two's end
 pub data PhasesEnd : Type 0 where

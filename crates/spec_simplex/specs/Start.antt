@@ -1,5 +1,5 @@
 -- The tableau that a form begins with, at a limit: each structural column stands at a bound, and a row's logical is basic
--- where its sum is then within the row's limits; else its artificial is, with what is wanting.
+-- where its sum is then within the row's limits; else its artificial is, with the missing amount as its value.
 use Rattle.std.specs.Prelude.{ℕ, ◌+◌, ◌-◌, List, ◌++◌, map, replicate, get_or, Option, Some, None, Ok, Bool, true, false, nat_lt, nat_eq, if◌then◌else◌}
 use Rattle.std.specs.declared.cmp.Ordering.{Ordering}
 use Rattle.std.specs.declared.cmp.Ordering.TheVariants.{Less, Equal, Greater}
@@ -113,7 +113,8 @@ abbrev pub one_at : ℕ → ℕ → ℚ → ℚ
 one_at i r v = if nat_eq i r then v else 0ℚ
 
 abbrev pub start_entry : Form → RowStart ℚ → ℕ → ℕ → ℚ
-start_entry f s i k = by_column f k (structural_entry s (form_entry f i k)) (λ r. one_at i r (logical_sign s)) (λ r. one_at i r 1ℚ)
+start_entry f s i k =
+    by_column f k (structural_entry s (form_entry f i k)) (λ r. one_at i r (logical_sign s)) (λ r. one_at i r 1ℚ)
 
 abbrev pub start_basic : Form → List (RowStart ℚ) → ℕ → ℕ
 start_basic f starts i = if is_wanting (start_at starts i) then f.cols + f.rows + i else f.cols + i

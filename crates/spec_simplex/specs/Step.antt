@@ -89,7 +89,8 @@ best_with limit t e i best =
     with_gap limit i (basic_at t i) (entry_at t i e.col) best gap
 
 abbrev pub best_run : Option ℕ → Tableau → Entering → Run (Option (Best ℚ))
-best_run limit t e = range_run limit e (lower_at t e.col) (upper_at t e.col) >>= λ best. steps t.rows (best_with limit t e) best
+best_run limit t e =
+    range_run limit e (lower_at t e.col) (upper_at t e.col) >>= λ best. steps t.rows (best_with limit t e) best
 
 -- ---- what the step does
 abbrev pub choice_at : Entering → Best ℚ → Option ℕ → Choice ℚ
@@ -117,7 +118,8 @@ moved_at limit t j theta i values =
     less_product limit (entry_at t i j) theta (get_or values (basic_at t i) 0ℚ) >>= λ v. Ok (slice_set values (basic_at t i) v)
 
 unfoldable pub moved_run : Option ℕ → Tableau → ℕ → ℚ → Option ℕ → Run (List ℚ)
-moved_run limit t j theta but = steps t.rows (λ i values. if is_place but i then Ok values else moved_at limit t j theta i values) t.value
+moved_run limit t j theta but =
+    steps t.rows (λ i values. if is_place but i then Ok values else moved_at limit t j theta i values) t.value
 
 -- ---- a flip: column j goes to its other bound
 abbrev pub flip_way : Status → Bool

@@ -23,5 +23,5 @@ mod ends;
 
 pub use ends::{
     Best, Cheapest, Choice, DualChoice, DualEnd, Entering, Fit, FormFault, Leaving, PrimalEnd,
-    RowStart, StartStop, RunStop, WarmStop,
+    RowStart, RunStop, StartStop, WarmStop,
 };
