@@ -30,7 +30,8 @@ use Rattle.spec_cold.proofs.Priced.{priced_length, priced_agrees}
 use Rattle.spec_cold.proofs.RowStarts.{first_sum, RowBegins, within, below, above, start_is}
 
 pub delta_sym : (i r : ℕ) → delta i r ≡ delta r i
-delta_sym i r = by_eq i r (λ e. subst (λ r. delta i r ≡ delta r i) e refl) (λ n. delta_other i r n ∙ sym (delta_other r i (λ e. n (sym e))))
+delta_sym i r =
+    by_eq i r (λ e. subst (λ r. delta i r ≡ delta r i) e refl) (λ n. delta_other i r n ∙ sym (delta_other r i (λ e. n (sym e))))
 
 one_is : (i r : ℕ) (v : ℚ) → one_at i r v ≡ v *ℚ delta i r
 one_is i r v = by (nat_eq i r)
@@ -69,7 +70,8 @@ first_stands (Some l) u = refl
 first_stands None (Some u) = refl
 first_stands None None = (refl, refl, refl)
 
-first_inside : (l u : Option ℚ) → ((a c : ℚ) → l ≡ Some a → u ≡ Some c → a ≤ℚ c) → IsInside l u (stand (first_status l u) l u)
+first_inside : (l u : Option ℚ) → ((a c : ℚ) → l ≡ Some a → u ≡ Some c → a ≤ℚ c) →
+    IsInside l u (stand (first_status l u) l u)
 first_inside (Some l) None h = record { lower = ≤ℚ_refl l; upper = tt }
 first_inside (Some l) (Some u) h = record { lower = ≤ℚ_refl l; upper = h l u refl refl }
 first_inside None (Some u) h = record { lower = tt; upper = ≤ℚ_refl u }
@@ -79,13 +81,16 @@ if_some : (P : ℚ → Type 0) (o : Option ℚ) → ((a : ℚ) → o ≡ Some a 
 if_some P None h = tt
 if_some P (Some a) h = h a refl
 
-logical_stands : (l u : Option ℚ) (v : ℚ) (s : RowStart ℚ) → RowBegins l u v s → Stands (logical_status s) l u (logical_value s l u)
+logical_stands : (l u : Option ℚ) (v : ℚ) (s : RowStart ℚ) → RowBegins l u v s →
+    Stands (logical_status s) l u (logical_value s l u)
 logical_stands l u v (Within x) (within p q) = tt
 logical_stands l u v (Below g) (below a e h) = e ∙ ap Some (sym (ap or_zero e))
 logical_stands l u v (Above g) (above a e h) = e ∙ ap Some (sym (ap or_zero e))
 
-logical_inside : (l u : Option ℚ) (v : ℚ) (s : RowStart ℚ) → ((a c : ℚ) → l ≡ Some a → u ≡ Some c → a ≤ℚ c) → RowBegins l u v s → IsInside l u (logical_value s l u)
-logical_inside l u v (Within x) o (within p q) = record { lower = if_some (λ a. a ≤ℚ v) l p; upper = if_some (λ a. v ≤ℚ a) u q }
+logical_inside : (l u : Option ℚ) (v : ℚ) (s : RowStart ℚ) → ((a c : ℚ) → l ≡ Some a → u ≡ Some c → a ≤ℚ c) →
+    RowBegins l u v s → IsInside l u (logical_value s l u)
+logical_inside l u v (Within x) o (within p q) =
+    record { lower = if_some (λ a. a ≤ℚ v) l p; upper = if_some (λ a. v ≤ℚ a) u q }
 logical_inside l u v (Below g) o (below a e h) = record {
   lower = if_some (λ a. a ≤ℚ or_zero l) l (λ c z. subst (λ o. c ≤ℚ or_zero o) (sym z) (≤ℚ_refl c));
   upper = if_some (λ a. or_zero l ≤ℚ a) u (λ c z. subst (λ o. or_zero o ≤ℚ c) (sym e) (o a c e z));
@@ -100,13 +105,15 @@ artificial_stands (Within v) = refl
 artificial_stands (Below g) = tt
 artificial_stands (Above g) = tt
 
-artificial_inside : (l u : Option ℚ) (v : ℚ) (s : RowStart ℚ) → RowBegins l u v s → IsInside (Some 0ℚ) (artificial_upper s) (artificial_value s)
+artificial_inside : (l u : Option ℚ) (v : ℚ) (s : RowStart ℚ) → RowBegins l u v s →
+    IsInside (Some 0ℚ) (artificial_upper s) (artificial_value s)
 artificial_inside l u v (Within x) (within p q) = record { lower = ≤ℚ_refl 0ℚ; upper = ≤ℚ_refl 0ℚ }
 artificial_inside l u v (Below g) (below a e h) = record { lower = ≤ℚ-difference v a (<ℚ-le v a h); upper = tt }
 artificial_inside l u v (Above g) (above a e h) = record { lower = ≤ℚ-difference a v (<ℚ-le a v h); upper = tt }
 
 -- the row's sum, its logical and its artificial with the sign
-row_solved : (l u : Option ℚ) (v : ℚ) (s : RowStart ℚ) → RowBegins l u v s → (neg_ℚ v +ℚ logical_value s l u) +ℚ logical_sign s *ℚ artificial_value s ≡ 0ℚ
+row_solved : (l u : Option ℚ) (v : ℚ) (s : RowStart ℚ) → RowBegins l u v s →
+    (neg_ℚ v +ℚ logical_value s l u) +ℚ logical_sign s *ℚ artificial_value s ≡ 0ℚ
 row_solved l u v (Within x) (within p q) = none v
   where
     none : (v : ℚ) → (neg_ℚ v +ℚ v) +ℚ 1ℚ *ℚ 0ℚ ≡ 0ℚ
@@ -160,7 +167,8 @@ module _ (f : Form) (proper : IsProper f) (starts : List (RowStart ℚ)) (all : 
   lower_before k h = get_or_append_left f.lower (replicate f.rows (Some 0ℚ)) None k (omega (arith, h, proper.all_lower))
 
   upper_before : (k : ℕ) → k < f.cols + f.rows → upper_at t k ≡ form_upper f k
-  upper_before k h = get_or_append_left f.upper (map artificial_upper starts) None k (omega (arith, h, proper.all_upper))
+  upper_before k h =
+      get_or_append_left f.upper (map artificial_upper starts) None k (omega (arith, h, proper.all_upper))
 
   lower_after : (r : ℕ) → r < f.rows → lower_at t (f.cols + f.rows + r) ≡ Some 0ℚ
   lower_after r h =
@@ -174,13 +182,16 @@ module _ (f : Form) (proper : IsProper f) (starts : List (RowStart ℚ)) (all : 
 
   -- ---- the rows
   start_structural : (i k : ℕ) → k < f.cols → start_entry f (s i) i k ≡ structural_entry (s i) (form_entry f i k)
-  start_structural i k = structural_at f (structural_entry (s i) (form_entry f i k)) (λ r. one_at i r (sign_at i)) (λ r. one_at i r 1ℚ) k
+  start_structural i k =
+      structural_at f (structural_entry (s i) (form_entry f i k)) (λ r. one_at i r (sign_at i)) (λ r. one_at i r 1ℚ) k
 
   start_logical : (i r : ℕ) → r < f.rows → start_entry f (s i) i (f.cols + r) ≡ one_at i r (sign_at i)
-  start_logical i r = logical_at f (structural_entry (s i) (form_entry f i (f.cols + r))) (λ r. one_at i r (sign_at i)) (λ r. one_at i r 1ℚ) r
+  start_logical i r =
+      logical_at f (structural_entry (s i) (form_entry f i (f.cols + r))) (λ r. one_at i r (sign_at i)) (λ r. one_at i r 1ℚ) r
 
   start_artificial : (i r : ℕ) → start_entry f (s i) i (f.cols + f.rows + r) ≡ one_at i r 1ℚ
-  start_artificial i r = artificial_at f (structural_entry (s i) (form_entry f i (f.cols + f.rows + r))) (λ r. one_at i r (sign_at i)) (λ r. one_at i r 1ℚ) r
+  start_artificial i r =
+      artificial_at f (structural_entry (s i) (form_entry f i (f.cols + f.rows + r))) (λ r. one_at i r (sign_at i)) (λ r. one_at i r 1ℚ) r
 
   signed : (i k : ℕ) → i < f.rows → start_entry f (s i) i k ≡ sign_at i *ℚ F i k
   signed i k h =
@@ -200,14 +211,17 @@ module _ (f : Form) (proper : IsProper f) (starts : List (RowStart ℚ)) (all : 
       (λ l. entry_is i k h l ∙ signed i k h)
       (λ l. entry_past i k h l ∙ sym (ap (λ a. sign_at i *ℚ a) (row_past f starts i k h l) ∙ *ℚ_zero _))
 
-  diagonal : (i : ℕ) → i < f.rows → (g : ℕ → ℚ) → sum_below f.rows (λ r. (delta i r *ℚ sign_at i) *ℚ g r) ≡ sign_at i *ℚ g i
-  diagonal i h g = sum_below_same f.rows _ (λ r. delta i r *ℚ (sign_at i *ℚ g r)) (λ r _. *ℚ_assoc (delta i r) (sign_at i) (g r)) ∙ sum_below-delta f.rows i (λ r. sign_at i *ℚ g r) h
+  diagonal : (i : ℕ) → i < f.rows → (g : ℕ → ℚ) →
+      sum_below f.rows (λ r. (delta i r *ℚ sign_at i) *ℚ g r) ≡ sign_at i *ℚ g i
+  diagonal i h g =
+      sum_below_same f.rows _ (λ r. delta i r *ℚ (sign_at i *ℚ g r)) (λ r _. *ℚ_assoc (delta i r) (sign_at i) (g r)) ∙ sum_below-delta f.rows i (λ r. sign_at i *ℚ g r) h
 
   forth : Spans f.rows (entry_at t) F
   forth = (λ i r. delta i r *ℚ sign_at i, λ i k h. entry_sign i k h ∙ sym (diagonal i h (λ r. F r k)))
 
   back : Spans f.rows F (entry_at t)
-  back = (λ i r. delta i r *ℚ sign_at i, λ i k h. sym (diagonal i h (λ r. entry_at t r k) ∙ ap (λ a. sign_at i *ℚ a) (entry_sign i k h) ∙ twice (sign_at i) (F i k) (sign_square (s i))))
+  back =
+      (λ i r. delta i r *ℚ sign_at i, λ i k h. sym (diagonal i h (λ r. entry_at t r k) ∙ ap (λ a. sign_at i *ℚ a) (entry_sign i k h) ∙ twice (sign_at i) (F i k) (sign_square (s i))))
 
   -- ---- the basic columns
   logical_in : (i : ℕ) → i < f.rows → f.cols + i < n
@@ -216,11 +230,13 @@ module _ (f : Form) (proper : IsProper f) (starts : List (RowStart ℚ)) (all : 
   artificial_in : (i : ℕ) → i < f.rows → f.cols + f.rows + i < n
   artificial_in i h = omega (arith, h)
 
-  -- by whether the row wants its artificial
-  by_wanting : (P : ℕ → Type 0) (i : ℕ) → i < f.rows → (is_wanting (s i) ≡ true → P (f.cols + f.rows + i)) → (is_wanting (s i) ≡ false → P (f.cols + i)) → P (basic_at t i)
+  -- by whether the row needs its artificial
+  by_wanting : (P : ℕ → Type 0) (i : ℕ) → i < f.rows → (is_wanting (s i) ≡ true → P (f.cols + f.rows + i)) →
+      (is_wanting (s i) ≡ false → P (f.cols + i)) → P (basic_at t i)
   by_wanting P i h first second = subst P (sym (basic_is i h)) (go (is_wanting (s i)) first second)
     where
-      go : (c : Bool) → (c ≡ true → P (f.cols + f.rows + i)) → (c ≡ false → P (f.cols + i)) → P (cond c (f.cols + f.rows + i) (f.cols + i))
+      go : (c : Bool) → (c ≡ true → P (f.cols + f.rows + i)) → (c ≡ false → P (f.cols + i)) →
+          P (cond c (f.cols + f.rows + i) (f.cols + i))
       go true first second = first refl
       go false first second = second refl
 
@@ -261,7 +277,8 @@ module _ (f : Form) (proper : IsProper f) (starts : List (RowStart ℚ)) (all : 
       value_is k (omega (arith, h))
       ∙ structural_at f (first_value f k) (λ r. logical_value (s r) (form_lower f k) (form_upper f k)) (λ r. artificial_value (s r)) k h
 
-  value_logical : (r : ℕ) → r < f.rows → value_at t (f.cols + r) ≡ logical_value (s r) (form_lower f (f.cols + r)) (form_upper f (f.cols + r))
+  value_logical : (r : ℕ) → r < f.rows →
+      value_at t (f.cols + r) ≡ logical_value (s r) (form_lower f (f.cols + r)) (form_upper f (f.cols + r))
   value_logical r h =
       value_is (f.cols + r) (logical_in r h)
       ∙ logical_at f (first_value f (f.cols + r)) (λ i. logical_value (s i) (form_lower f (f.cols + r)) (form_upper f (f.cols + r))) (λ r. artificial_value (s r)) r h
@@ -298,8 +315,10 @@ module _ (f : Form) (proper : IsProper f) (starts : List (RowStart ℚ)) (all : 
       (λ e. status_logical i h ∙ not_wanting_basic (s i) e)
 
   -- an index below all columns, by its kind
-  by_column_kind : (P : ℕ → Type 0) (k : ℕ) → k < n → (k < f.cols → P k) → ((r : ℕ) → r < f.rows → P (f.cols + r)) → ((r : ℕ) → r < f.rows → P (f.cols + f.rows + r)) → P k
-  by_column_kind P k h a c d = by_kind f.cols f.rows k a (λ r l e. subst P (sym e) (c r l)) (λ r e. subst P (sym e) (d r (omega (arith, h, e))))
+  by_column_kind : (P : ℕ → Type 0) (k : ℕ) → k < n → (k < f.cols → P k) → ((r : ℕ) → r < f.rows → P (f.cols + r)) →
+      ((r : ℕ) → r < f.rows → P (f.cols + f.rows + r)) → P k
+  by_column_kind P k h a c d =
+      by_kind f.cols f.rows k a (λ r l e. subst P (sym e) (c r l)) (λ r e. subst P (sym e) (d r (omega (arith, h, e))))
 
   placed : (k : ℕ) → k < n → status_at t k ≡ Basic → (i : ℕ) × (i < f.rows) × (basic_at t i ≡ k)
   placed k h =
@@ -312,7 +331,8 @@ module _ (f : Form) (proper : IsProper f) (starts : List (RowStart ℚ)) (all : 
   abbrev StandsAt : ℕ → Type 0
   StandsAt k = Stands (status_at t k) (lower_at t k) (upper_at t k) (value_at t k)
 
-  stands_by : (k : ℕ) (x : Status) (l u : Option ℚ) (v : ℚ) → status_at t k ≡ x → lower_at t k ≡ l → upper_at t k ≡ u → value_at t k ≡ v → Stands x l u v → StandsAt k
+  stands_by : (k : ℕ) (x : Status) (l u : Option ℚ) (v : ℚ) → status_at t k ≡ x → lower_at t k ≡ l → upper_at t k ≡ u →
+      value_at t k ≡ v → Stands x l u v → StandsAt k
   stands_by k x l u v a c d e h =
       subst (λ x. Stands x (lower_at t k) (upper_at t k) (value_at t k)) (sym a)
       (subst (λ l. Stands x l (upper_at t k) (value_at t k)) (sym c) (subst (λ u. Stands x l u (value_at t k)) (sym d) (subst (Stands x l u) (sym e) h)))
@@ -331,8 +351,10 @@ module _ (f : Form) (proper : IsProper f) (starts : List (RowStart ℚ)) (all : 
   abbrev InsideAt : ℕ → Type 0
   InsideAt k = IsInside (lower_at t k) (upper_at t k) (value_at t k)
 
-  inside_by : (k : ℕ) (l u : Option ℚ) (v : ℚ) → lower_at t k ≡ l → upper_at t k ≡ u → value_at t k ≡ v → IsInside l u v → InsideAt k
-  inside_by k l u v c d e h = subst (λ l. IsInside l (upper_at t k) (value_at t k)) (sym c) (subst (λ u. IsInside l u (value_at t k)) (sym d) (subst (IsInside l u) (sym e) h))
+  inside_by : (k : ℕ) (l u : Option ℚ) (v : ℚ) → lower_at t k ≡ l → upper_at t k ≡ u → value_at t k ≡ v →
+      IsInside l u v → InsideAt k
+  inside_by k l u v c d e h =
+      subst (λ l. IsInside l (upper_at t k) (value_at t k)) (sym c) (subst (λ u. IsInside l u (value_at t k)) (sym d) (subst (IsInside l u) (sym e) h))
 
   inside : (k : ℕ) → k < n → InsideAt k
   inside k h =
@@ -386,8 +408,10 @@ module _ (f : Form) (proper : IsProper f) (starts : List (RowStart ℚ)) (all : 
     all_values = length-made n (start_value f starts);
     all_reduced = reduced_length;
     all_statuses = length-made n (start_status f starts);
-    all_lower = length-append f.lower (replicate f.rows (Some 0ℚ)) ∙ ap₂ ◌+◌ proper.all_lower (length-replicate f.rows (Some 0ℚ));
-    all_upper = length-append f.upper (map artificial_upper starts) ∙ ap₂ ◌+◌ proper.all_upper (length-map starts artificial_upper ∙ all);
+    all_lower =
+        length-append f.lower (replicate f.rows (Some 0ℚ)) ∙ ap₂ ◌+◌ proper.all_lower (length-replicate f.rows (Some 0ℚ));
+    all_upper =
+        length-append f.upper (map artificial_upper starts) ∙ ap₂ ◌+◌ proper.all_upper (length-map starts artificial_upper ∙ all);
   }
 
   fixed_upper : (r : RowStart ℚ) → ¬ (artificial_status r ≡ Basic) → artificial_upper r ≡ Some 0ℚ
@@ -408,7 +432,8 @@ module _ (f : Form) (proper : IsProper f) (starts : List (RowStart ℚ)) (all : 
     barred = λ k l. le-leb (f.cols + f.rows) k l;
     zero = λ k l h.
         let r : ℕ = k - (f.cols + f.rows) in
-        let e : k ≡ f.cols + f.rows + r = omega (arith, l) in subst (λ k. lower_at t k ≡ Some 0ℚ) (sym e) (lower_after r (omega (arith, l, h)));
+        let e : k ≡ f.cols + f.rows + r = omega (arith, l) in
+        subst (λ k. lower_at t k ≡ Some 0ℚ) (sym e) (lower_after r (omega (arith, l, h)));
     top = λ k l h.
         let r : ℕ = k - (f.cols + f.rows) in
         let e : k ≡ f.cols + f.rows + r = omega (arith, l) in
@@ -421,23 +446,27 @@ module _ (f : Form) (proper : IsProper f) (starts : List (RowStart ℚ)) (all : 
         subst (λ k. upper_at t k ≡ Some 0ℚ) (sym e) (upper_after r r_in ∙ fixed_upper (s r) (λ z. b (ap (status_at t) e ∙ status_artificial r r_in ∙ z)));
   }
 
-  tableau_of : (cost : ℕ → ℚ) → length reduced ≡ n → AgreesWith f.rows F (basic_at t) cost (reduced_at t) → IsTableauOf f.rows f.cols F cost (bounds_of t) t
+  tableau_of : (cost : ℕ → ℚ) → length reduced ≡ n → AgreesWith f.rows F (basic_at t) cost (reduced_at t) →
+      IsTableauOf f.rows f.cols F cost (bounds_of t) t
   tableau_of cost reduced_length costs = record {
     rows = refl;
     cols = refl;
     whole = whole reduced_length;
-    tableau = record { in_range = in_range; forth = forth; back = back; units = units; costs = costs; marked = marked; placed = placed; stands = stands; solves = solves };
+    tableau =
+        record { in_range = in_range; forth = forth; back = back; units = units; costs = costs; marked = marked; placed = placed; stands = stands; solves = solves };
     within = inside;
     bounds = keeps;
   }
 
-  pub begun_is : (limit : Option ℕ) → priced_run limit (begun f starts) (first_costs f starts) ≡ Ok reduced → IsTableauOf f.rows f.cols F (cost_at (first_costs f starts)) (bounds_of t) t
+  pub begun_is : (limit : Option ℕ) → priced_run limit (begun f starts) (first_costs f starts) ≡ Ok reduced →
+      IsTableauOf f.rows f.cols F (cost_at (first_costs f starts)) (bounds_of t) t
   begun_is limit h =
       tableau_of (cost_at (first_costs f starts)) (priced_length limit (begun f starts) (first_costs f starts) reduced h)
       (priced_agrees limit (begun f starts) (first_costs f starts) reduced h few entry_past F forth units in_range)
     where
       few : length (first_costs f starts) ≤ f.cols + f.rows + f.rows
-      few = omega (arith, length-append (replicate (f.cols + f.rows) 0ℚ) (map first_cost starts), length-replicate (f.cols + f.rows) 0ℚ, length-map starts first_cost, all)
+      few =
+          omega (arith, length-append (replicate (f.cols + f.rows) 0ℚ) (map first_cost starts), length-replicate (f.cols + f.rows) 0ℚ, length-map starts first_cost, all)
 
 -- what is known of the start
 pub record Started (f : Form) (t : Tableau) : Type 0 where
@@ -446,7 +475,8 @@ pub record Started (f : Form) (t : Tableau) : Type 0 where
   pub all : length starts ≡ f.rows
   pub lower : (k : ℕ) → k < f.cols + f.rows → lower_at t k ≡ form_lower f k
   pub upper : (k : ℕ) → k < f.cols + f.rows → upper_at t k ≡ form_upper f k
-  pub artificial : (r : ℕ) → r < f.rows → (lower_at t (f.cols + f.rows + r) ≡ Some 0ℚ) × (upper_at t (f.cols + f.rows + r) ≡ artificial_upper (start_at starts r))
+  pub artificial : (r : ℕ) → r < f.rows →
+      (lower_at t (f.cols + f.rows + r) ≡ Some 0ℚ) × (upper_at t (f.cols + f.rows + r) ≡ artificial_upper (start_at starts r))
 
 pub start_is_tableau : (limit : Option ℕ) (f : Form) (t : Tableau) → IsProper f → start_of limit f ≡ Ok t → Started f t
 unfolding start_of
@@ -462,8 +492,10 @@ start_is_tableau limit f t proper h =
       all = l.all;
       lower = lower_before f proper o.0 l.all begins p.0;
       upper = upper_before f proper o.0 l.all begins p.0;
-      artificial = λ r h. (lower_after f proper o.0 l.all begins p.0 r h, upper_after f proper o.0 l.all begins p.0 r h);
+      artificial =
+          λ r h. (lower_after f proper o.0 l.all begins p.0 r h, upper_after f proper o.0 l.all begins p.0 r h);
     })
 
 pub start_begins : (limit : Option ℕ) (f : Form) (t : Tableau) → IsProper f → start_of limit f ≡ Ok t → Begins f t
-start_begins limit f t proper h = let s : Started f t = start_is_tableau limit f t proper h in record { starts = s.starts; tableau = s.tableau }
+start_begins limit f t proper h =
+    let s : Started f t = start_is_tableau limit f t proper h in record { starts = s.starts; tableau = s.tableau }

@@ -21,7 +21,8 @@ module _ {A : Type 0} (f : Form) (s : A) (l a : ℕ → A) where
       (let e : f.cols + f.rows + i - (f.cols + f.rows) ≡ i = omega arith in ap a e)
 
 -- each column is of one kind
-pub by_kind : {P : Type 0} (n m k : ℕ) → (k < n → P) → ((i : ℕ) → i < m → k ≡ n + i → P) → ((i : ℕ) → k ≡ n + m + i → P) → P
+pub by_kind : {P : Type 0} (n m k : ℕ) → (k < n → P) → ((i : ℕ) → i < m → k ≡ n + i → P) →
+    ((i : ℕ) → k ≡ n + m + i → P) → P
 by_kind n m k f g h =
     by_lt k n f
     (λ a. by_lt k (n + m) (λ b. g (k - n) (omega (arith, a, b)) (omega (arith, a, b))) (λ b. h (k - (n + m)) (omega (arith, a, b))))
@@ -29,8 +30,11 @@ by_kind n m k f g h =
 -- a sum in two parts
 sum_below_split : (a b : ℕ) (f : ℕ → ℚ) → sum_below (a + b) f ≡ sum_below a f +ℚ sum_below b (λ i. f (a + i))
 sum_below_split a zero f = (let e : a + 0 ≡ a = omega arith in ap (λ k. sum_below k f) e) ∙ sym (+ℚ_zero _)
-sum_below_split a (suc b) f = (let e : a + suc b ≡ suc (a + b) = omega arith in ap (λ k. sum_below k f) e) ∙ ap (λ s. s +ℚ f (a + b)) (sum_below_split a b f) ∙ +ℚ_assoc _ _ _
+sum_below_split a (suc b) f =
+    (let e : a + suc b ≡ suc (a + b) = omega arith in ap (λ k. sum_below k f) e) ∙ ap (λ s. s +ℚ f (a + b)) (sum_below_split a b f) ∙ +ℚ_assoc _ _ _
 
 -- a sum over the structural, the logical and the artificial columns
-pub sum_by_kind : (n m : ℕ) (f : ℕ → ℚ) → sum_below (n + m + m) f ≡ (sum_below n f +ℚ sum_below m (λ i. f (n + i))) +ℚ sum_below m (λ i. f (n + m + i))
-sum_by_kind n m f = sum_below_split (n + m) m f ∙ ap (λ a. a +ℚ sum_below m (λ i. f (n + m + i))) (sum_below_split n m f)
+pub sum_by_kind : (n m : ℕ) (f : ℕ → ℚ) →
+    sum_below (n + m + m) f ≡ (sum_below n f +ℚ sum_below m (λ i. f (n + i))) +ℚ sum_below m (λ i. f (n + m + i))
+sum_by_kind n m f =
+    sum_below_split (n + m) m f ∙ ap (λ a. a +ℚ sum_below m (λ i. f (n + m + i))) (sum_below_split n m f)

@@ -14,11 +14,14 @@ use Rattle.spec_cold.specs.Cold.{moves_below}
 use Rattle.spec_cold.proofs.Moved.{at_position}
 use Rattle.spec_cold.proofs.Flips.{directed_is}
 
-moves_none : (t : Tableau) (j : ℕ) (up : Bool) (k m : ℕ) → ((r : ℕ) → r < m → basic_at t r ≢ k) → moves_below t j up k m ≡ cond (nat_eq k j) (directed up 1ℚ) 0ℚ
+moves_none : (t : Tableau) (j : ℕ) (up : Bool) (k m : ℕ) → ((r : ℕ) → r < m → basic_at t r ≢ k) →
+    moves_below t j up k m ≡ cond (nat_eq k j) (directed up 1ℚ) 0ℚ
 moves_none t j up k zero h = refl
-moves_none t j up k (suc m) h = rw (ne_eqb (basic_at t m) k (h m (omega arith))) (moves_none t j up k m (λ r l. h r (omega (arith, l))))
+moves_none t j up k (suc m) h =
+    rw (ne_eqb (basic_at t m) k (h m (omega arith))) (moves_none t j up k m (λ r l. h r (omega (arith, l))))
 
-moves_basic : (t : Tableau) (j : ℕ) (up : Bool) (k m r : ℕ) → r < m → basic_at t r ≡ k → ((s : ℕ) → s < m → basic_at t s ≡ k → s ≡ r) → moves_below t j up k m ≡ neg_ℚ (directed up (entry_at t r j))
+moves_basic : (t : Tableau) (j : ℕ) (up : Bool) (k m r : ℕ) → r < m → basic_at t r ≡ k →
+    ((s : ℕ) → s < m → basic_at t s ≡ k → s ≡ r) → moves_below t j up k m ≡ neg_ℚ (directed up (entry_at t r j))
 moves_basic t j up k zero r l e u = absurd (let z : ⊥ = omega (arith, l) in z)
 moves_basic t j up k (suc m) r l e u =
     by_eq m r
@@ -29,7 +32,9 @@ one_way : (up : Bool) → directed up 1ℚ ≡ sign (way up)
 one_way true = refl
 one_way false = refl
 
-pub moves_are : (m n : ℕ) (f : Matrix) (cost : ℕ → ℚ) (b : Bounds) (t : Tableau) (j : ℕ) (up : Bool) → IsTableau m n f cost b (table_of t) → Enters n b (table_of t) (way up) j → (k : ℕ) → moves_below t j up k m ≡ ray m (table_of t) (way up) j k
+pub moves_are : (m n : ℕ) (f : Matrix) (cost : ℕ → ℚ) (b : Bounds) (t : Tableau) (j : ℕ) (up : Bool) →
+    IsTableau m n f cost b (table_of t) → Enters n b (table_of t) (way up) j → (k : ℕ) →
+    moves_below t j up k m ≡ ray m (table_of t) (way up) j k
 moves_are m n f cost b t j up g e k =
     ⊎_elim
     (λ p. moves_basic t j up k m p.0 p.1 p.2 (λ s q z. apart m (entry_at t) (basic_at t) g.units s p.0 q p.1 (z ∙ sym p.2))

@@ -1,4 +1,4 @@
--- Phase one never goes on without end, and where it ends and an artificial is not 0, no point meets all rows.
+-- Phase one is never unbounded, and where it ends and an artificial is not 0, no point satisfies all rows.
 use Rattle.std.proofs.Common.{◌≡◌, ℕ, zero, suc, ◌+◌, ◌<◌, ◌⊎◌, List, length, get_or, map, replicate, Option, Some, None, IfSome, Bool, true, false, cond, refl, sym, ap, ap₂, ◌∙◌, subst, subst₂, arith, inl, inr}
 use Rattle.std.proofs.lemmas.List.{length-replicate, get_or_append_left, get_or-append-add, get_or-replicate, get_or-map}
 use Rattle.spec_exact.specs.Fraction.{ℚ, ◌+ℚ◌, ◌-ℚ◌, ◌*ℚ◌, neg_ℚ, 0ℚ, ◌≤ℚ◌, ◌<ℚ◌, lt_ℚ}
@@ -40,18 +40,23 @@ has_limit l d v t = record { above = λ h. (v, t.above h); below = λ h. (v, t.b
 pub asked_is : (l : Limits) (d v : ℚ) → IsTight l d v → d *ℚ asked l d ≡ d *ℚ v
 asked_is l d v t = by (lt_ℚ 0ℚ d) (lt_ℚ d 0ℚ) refl refl
   where
-    by : (a b : Bool) → lt_ℚ 0ℚ d ≡ a → lt_ℚ d 0ℚ ≡ b → d *ℚ cond a (or_zero l.lower) (cond b (or_zero l.upper) 0ℚ) ≡ d *ℚ v
+    by : (a b : Bool) → lt_ℚ 0ℚ d ≡ a → lt_ℚ d 0ℚ ≡ b →
+        d *ℚ cond a (or_zero l.lower) (cond b (or_zero l.upper) 0ℚ) ≡ d *ℚ v
     by true b p q = ap (λ o. d *ℚ or_zero o) (t.above (lt_if 0ℚ d p))
     by false true p q = ap (λ o. d *ℚ or_zero o) (t.below (lt_if d 0ℚ q))
-    by false false p q = let e : d ≡ 0ℚ = ≤ℚ_antisym d 0ℚ (le_if_not 0ℚ d p) (le_if_not d 0ℚ q) in ap (λ z. z *ℚ 0ℚ) e ∙ zero-*ℚ 0ℚ ∙ sym (ap (λ z. z *ℚ v) e ∙ zero-*ℚ v)
+    by false false p q =
+        let e : d ≡ 0ℚ = ≤ℚ_antisym d 0ℚ (le_if_not 0ℚ d p) (le_if_not d 0ℚ q) in
+        ap (λ z. z *ℚ 0ℚ) e ∙ zero-*ℚ 0ℚ ∙ sym (ap (λ z. z *ℚ v) e ∙ zero-*ℚ v)
 
 -- ---- sums
 sum_least : (n : ℕ) (f : ℕ → ℚ) → ((i : ℕ) → i < n → 0ℚ ≤ℚ f i) → 0ℚ ≤ℚ sum_below n f
 sum_least zero f h = ≤ℚ_refl 0ℚ
-sum_least (suc n) f h = subst (λ a. a ≤ℚ sum_below (suc n) f) (+ℚ_zero 0ℚ) (+ℚ_mono₂ 0ℚ (sum_below n f) 0ℚ (f n) (sum_least n f (λ i p. h i (omega (arith, p)))) (h n (omega arith)))
+sum_least (suc n) f h =
+    subst (λ a. a ≤ℚ sum_below (suc n) f) (+ℚ_zero 0ℚ) (+ℚ_mono₂ 0ℚ (sum_below n f) 0ℚ (f n) (sum_least n f (λ i p. h i (omega (arith, p)))) (h n (omega arith)))
 
 positive_sum : (a b : ℚ) → 0ℚ <ℚ a → 0ℚ ≤ℚ b → 0ℚ <ℚ (a +ℚ b)
-positive_sum a b h k = <ℚ-≤ℚ_trans 0ℚ a (a +ℚ b) h (subst (λ z. z ≤ℚ (a +ℚ b)) (+ℚ_zero a) (+ℚ_mono₂ a a 0ℚ b (≤ℚ_refl a) k))
+positive_sum a b h k =
+    <ℚ-≤ℚ_trans 0ℚ a (a +ℚ b) h (subst (λ z. z ≤ℚ (a +ℚ b)) (+ℚ_zero a) (+ℚ_mono₂ a a 0ℚ b (≤ℚ_refl a) k))
 
 sum_positive : (n : ℕ) (f : ℕ → ℚ) → ((i : ℕ) → i < n → 0ℚ ≤ℚ f i) → (r : ℕ) → r < n → 0ℚ <ℚ f r → 0ℚ <ℚ sum_below n f
 sum_positive zero f h r p k = absurd (let z : ⊥ = omega (arith, p) in z)
@@ -74,7 +79,8 @@ cost_least (Above g) a h = subst (λ z. 0ℚ ≤ℚ z) (sym (one-*ℚ a)) h
 positive : (a : ℚ) → 0ℚ ≤ℚ a → ¬ (a ≡ 0ℚ) → 0ℚ <ℚ a
 positive a h n = by_sign a (λ p. p) (λ p. clash_ℚ a 0ℚ p h) (λ e. absurd (n e))
 
-cost_positive : (s : RowStart ℚ) (a : ℚ) → IsInside (Some 0ℚ) (artificial_upper s) a → ¬ (a ≡ 0ℚ) → 0ℚ <ℚ (first_cost s *ℚ a)
+cost_positive : (s : RowStart ℚ) (a : ℚ) → IsInside (Some 0ℚ) (artificial_upper s) a → ¬ (a ≡ 0ℚ) →
+    0ℚ <ℚ (first_cost s *ℚ a)
 cost_positive (Within v) a i n = absurd (n (≤ℚ_antisym a 0ℚ i.upper i.lower))
 cost_positive (Below g) a i n = subst (λ z. 0ℚ <ℚ z) (sym (one-*ℚ a)) (positive a i.lower n)
 cost_positive (Above g) a i n = subst (λ z. 0ℚ <ℚ z) (sym (one-*ℚ a)) (positive a i.lower n)
@@ -98,7 +104,8 @@ module _ (m : Model) (ls : List (Option ℚ × Option ℚ)) (h : Limited m ls) (
   costs = cost_at (first_costs (formed m ls) starts)
 
   cost_before : (k : ℕ) → k < w + r → costs k ≡ 0ℚ
-  cost_before k p = get_or_append_left (replicate (w + r) 0ℚ) (map first_cost starts) 0ℚ k (omega (arith, p, length-replicate (w + r) 0ℚ)) ∙ get_or-replicate (w + r) k 0ℚ 0ℚ p
+  cost_before k p =
+      get_or_append_left (replicate (w + r) 0ℚ) (map first_cost starts) 0ℚ k (omega (arith, p, length-replicate (w + r) 0ℚ)) ∙ get_or-replicate (w + r) k 0ℚ 0ℚ p
 
   cost_after : (i : ℕ) → i < r → costs (w + r + i) ≡ first_cost (start_at starts i)
   cost_after i p =
@@ -106,7 +113,8 @@ module _ (m : Model) (ls : List (Option ℚ × Option ℚ)) (h : Limited m ls) (
       ∙ get_or-map first_cost starts i (Within 0ℚ) 0ℚ (omega (arith, p, all))
 
   -- what the costs sum up to at numbers z
-  costs_sum : (z : ℕ → ℚ) → sum_below n (λ k. costs k *ℚ z k) ≡ sum_below r (λ i. first_cost (start_at starts i) *ℚ z (w + r + i))
+  costs_sum : (z : ℕ → ℚ) →
+      sum_below n (λ k. costs k *ℚ z k) ≡ sum_below r (λ i. first_cost (start_at starts i) *ℚ z (w + r + i))
   costs_sum z =
       sum_by_kind w r (λ k. costs k *ℚ z k)
       ∙ ap₂ ◌+ℚ◌
@@ -123,7 +131,8 @@ module _ (m : Model) (ls : List (Option ℚ × Option ℚ)) (h : Limited m ls) (
       (subst (λ a. 0ℚ ≤ℚ a) (sym (costs_sum (ray r t way j))) (sum_least r _ (λ i p. cost_least (start_at starts i) (ray r t way j (w + r + i)) (rises i p))))
     where
       rises : (i : ℕ) → i < r → 0ℚ ≤ℚ ray r t way j (w + r + i)
-      rises i p = subst (λ o. IfSome o (λ _. 0ℚ ≤ℚ ray r t way j (w + r + i))) (artificial i p).0 (allowed r n F costs b t g way j e (w + r + i) (omega (arith, p))).lower
+      rises i p =
+          subst (λ o. IfSome o (λ _. 0ℚ ≤ℚ ray r t way j (w + r + i))) (artificial i p).0 (allowed r n F costs b t g way j e (w + r + i) (omega (arith, p))).lower
 
   module _ (within : IsWithin (width m + height m + height m) b t) (none : (way : Way) (k : ℕ) → k < width m + height m + height m → ¬ (IsEligible b t way k))
       (y : List ℚ) (y_at : (i : ℕ) → i < height m → part y i ≡ t.reduced (width m + i)) (r0 : ℕ) (r0_in : r0 < height m) (not_zero : ¬ (t.value (width m + height m + r0) ≡ 0ℚ)) where
@@ -134,10 +143,12 @@ module _ (m : Model) (ls : List (Option ℚ × Option ℚ)) (h : Limited m ls) (
     v = t.value
 
     row_tight : (i : ℕ) → i < r → IsTight (limits m i) (part y i) (v (w + i))
-    row_tight i p = subst (λ a. IsTight (limits m i) a (v (w + i))) (sym (y_at i p)) (tight_logical m ls h starts b bs t within costs g none i p)
+    row_tight i p =
+        subst (λ a. IsTight (limits m i) a (v (w + i))) (sym (y_at i p)) (tight_logical m ls h starts b bs t within costs g none i p)
 
     multiplier : (i : ℕ) → i < r → part y i ≡ neg_ℚ (g.costs.weights i)
-    multiplier i p = y_at i p ∙ weight_at m ls h starts costs d g.costs.weights g.costs.less i p (cost_before (w + i) (omega (arith, p)))
+    multiplier i p =
+        y_at i p ∙ weight_at m ls h starts costs d g.costs.weights g.costs.less i p (cost_before (w + i) (omega (arith, p)))
 
     priced_at : (j : ℕ) → j < w → d j ≡ neg_ℚ (priced m y j)
     priced_at j p =
@@ -146,7 +157,8 @@ module _ (m : Model) (ls : List (Option ℚ × Option ℚ)) (h : Limited m ls) (
         ∙ zero-+ℚ _
 
     column_tight : (j : ℕ) → j < w → IsTight (turned_limits (bounds m j)) (priced m y j) (v j)
-    column_tight j p = tight_turned (bounds m j) (d j) (priced m y j) (v j) (priced_at j p) (tight_structural m ls h starts b bs t within costs g none j p)
+    column_tight j p =
+        tight_turned (bounds m j) (d j) (priced m y j) (v j) (priced_at j p) (tight_structural m ls h starts b bs t within costs g none j p)
 
     A : ℚ
     A = sum_below w (λ j. d j *ℚ v j)
@@ -160,7 +172,8 @@ module _ (m : Model) (ls : List (Option ℚ × Option ℚ)) (h : Limited m ls) (
 
     asks_is : rows_ask m y ≡ B
     unfolding B
-    asks_is = sum_below_same r _ _ (λ i p. asked_is (limits m i) (part y i) (v (w + i)) (row_tight i p) ∙ ap (λ a. a *ℚ v (w + i)) (y_at i p))
+    asks_is =
+        sum_below_same r _ _ (λ i p. asked_is (limits m i) (part y i) (v (w + i)) (row_tight i p) ∙ ap (λ a. a *ℚ v (w + i)) (y_at i p))
 
     gives_is : columns_give m y ≡ neg_ℚ A
     unfolding A
@@ -192,7 +205,8 @@ module _ (m : Model) (ls : List (Option ℚ × Option ℚ)) (h : Limited m ls) (
         ∙ costs_sum v
 
     inside_at : (i : ℕ) → i < r → IsInside (Some 0ℚ) (artificial_upper (start_at starts i)) (v (w + r + i))
-    inside_at i p = subst₂ (λ l u. IsInside l u (v (w + r + i))) (artificial i p).0 (artificial i p).1 (within (w + r + i) (omega (arith, p)))
+    inside_at i p =
+        subst₂ (λ l u. IsInside l u (v (w + r + i))) (artificial i p).0 (artificial i p).1 (within (w + r + i) (omega (arith, p)))
 
     above_zero : 0ℚ <ℚ U
     unfolding U

@@ -16,7 +16,8 @@ use Rattle.spec_cold.proofs.Formed.{Limited, cost_structural, cost_other}
 use Rattle.spec_cold.proofs.EndTight.{HasBounds, within_structural, within_logical, tight_structural, tight_logical, weight_at, column_at, logical_is_row}
 
 pub zero_inside : (l u : Option ℚ) (v : ℚ) → l ≡ Some 0ℚ → u ≡ Some 0ℚ → IsInside l u v → v ≡ 0ℚ
-zero_inside l u v p q i = ≤ℚ_antisym v 0ℚ (subst (λ o. IfSome o (λ k. v ≤ℚ k)) q i.upper) (subst (λ o. IfSome o (λ k. k ≤ℚ v)) p i.lower)
+zero_inside l u v p q i =
+    ≤ℚ_antisym v 0ℚ (subst (λ o. IfSome o (λ k. v ≤ℚ k)) q i.upper) (subst (λ o. IfSome o (λ k. k ≤ℚ v)) p i.lower)
 
 module _ (m : Model) (ls : List (Option ℚ × Option ℚ)) (h : Limited m ls) (starts : List (RowStart ℚ)) (b : Bounds) (bs : HasBounds (formed m ls) b)
     (fixed : (i : ℕ) → i < height m → (b.lower (width m + height m + i) ≡ Some 0ℚ) × (b.upper (width m + height m + i) ≡ Some 0ℚ))
@@ -34,8 +35,10 @@ module _ (m : Model) (ls : List (Option ℚ × Option ℚ)) (h : Limited m ls) (
     pub point_feasible : IsFeasible m x
     point_feasible = record {
       one_each = x_length;
-      columns = λ j p. subst (IsBetween (bounds m j)) (sym (x_at j p)) (within_structural m ls h starts b bs t within j p);
-      rows = λ i p. subst (IsBetween (limits m i)) (sym (row_value i p)) (within_logical m ls h starts b bs t within i p);
+      columns =
+          λ j p. subst (IsBetween (bounds m j)) (sym (x_at j p)) (within_structural m ls h starts b bs t within j p);
+      rows =
+          λ i p. subst (IsBetween (limits m i)) (sym (row_value i p)) (within_logical m ls h starts b bs t within i p);
     }
 
     module _ (y : List ℚ) (y_at : (i : ℕ) → i < height m → part y i ≡ t.reduced (width m + i)) (none : (way : Way) (k : ℕ) → k < width m + height m + height m → ¬ (IsEligible b t way k)) where
@@ -43,7 +46,8 @@ module _ (m : Model) (ls : List (Option ℚ × Option ℚ)) (h : Limited m ls) (
       costs = cost_at (formed m ls).cost
 
       multiplier : (i : ℕ) → i < height m → part y i ≡ neg_ℚ (g.costs.weights i)
-      multiplier i p = y_at i p ∙ weight_at m ls h starts (cost_at (formed m ls).cost) t.reduced g.costs.weights g.costs.less i p (cost_other m ls h i)
+      multiplier i p =
+          y_at i p ∙ weight_at m ls h starts (cost_at (formed m ls).cost) t.reduced g.costs.weights g.costs.less i p (cost_other m ls h i)
 
       reduced_at : (j : ℕ) → j < width m → t.reduced j ≡ reduced m y j
       reduced_at j p =
@@ -53,6 +57,8 @@ module _ (m : Model) (ls : List (Option ℚ × Option ℚ)) (h : Limited m ls) (
       pub optimal_checks : ChecksOptimal m x y
       optimal_checks = record {
         feasible = point_feasible;
-        columns = λ j p. subst₂ (IsTight (bounds m j)) (reduced_at j p) (sym (x_at j p)) (tight_structural m ls h starts b bs t within (cost_at (formed m ls).cost) g none j p);
-        rows = λ i p. subst₂ (IsTight (limits m i)) (sym (y_at i p)) (sym (row_value i p)) (tight_logical m ls h starts b bs t within (cost_at (formed m ls).cost) g none i p);
+        columns =
+            λ j p. subst₂ (IsTight (bounds m j)) (reduced_at j p) (sym (x_at j p)) (tight_structural m ls h starts b bs t within (cost_at (formed m ls).cost) g none j p);
+        rows =
+            λ i p. subst₂ (IsTight (limits m i)) (sym (y_at i p)) (sym (row_value i p)) (tight_logical m ls h starts b bs t within (cost_at (formed m ls).cost) g none i p);
       }

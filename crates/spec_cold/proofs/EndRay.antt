@@ -35,7 +35,9 @@ map_none f (Some k) e = cc
 room_none : (b : Bounds) (k : ℕ) (v r : ℚ) → room b k v r ≡ None → Allows (limits_at b k) r
 room_none b k v r e = by (lt_ℚ 0ℚ r) (lt_ℚ r 0ℚ) refl refl e
   where
-    by : (s t : Bool) → lt_ℚ 0ℚ r ≡ s → lt_ℚ r 0ℚ ≡ t → cond s (option_map (λ u. (u -ℚ v) *ℚ inverse r) (b.upper k)) (cond t (option_map (λ l. (v -ℚ l) *ℚ inverse (neg_ℚ r)) (b.lower k)) None) ≡ None → Allows (limits_at b k) r
+    by : (s t : Bool) → lt_ℚ 0ℚ r ≡ s → lt_ℚ r 0ℚ ≡ t →
+        cond s (option_map (λ u. (u -ℚ v) *ℚ inverse r) (b.upper k)) (cond t (option_map (λ l. (v -ℚ l) *ℚ inverse (neg_ℚ r)) (b.lower k)) None) ≡ None →
+        Allows (limits_at b k) r
     by true t p q h = record {
       lower = if_all (λ _. 0ℚ ≤ℚ r) (b.lower k) (λ _. <ℚ-le 0ℚ r (lt_if 0ℚ r p));
       upper = if_none (λ _. r ≤ℚ 0ℚ) (b.upper k) (map_none _ (b.upper k) h);
@@ -50,23 +52,27 @@ room_none b k v r e = by (lt_ℚ 0ℚ r) (lt_ℚ r 0ℚ) refl refl e
     }
 
 still_allowed : (l : Limits) (r : ℚ) → r ≡ 0ℚ → Allows l r
-still_allowed l r e = subst (Allows l) (sym e) (record { lower = if_all (λ _. 0ℚ ≤ℚ 0ℚ) l.lower (λ _. ≤ℚ_refl 0ℚ); upper = if_all (λ _. 0ℚ ≤ℚ 0ℚ) l.upper (λ _. ≤ℚ_refl 0ℚ) })
+still_allowed l r e =
+    subst (Allows l) (sym e) (record { lower = if_all (λ _. 0ℚ ≤ℚ 0ℚ) l.lower (λ _. ≤ℚ_refl 0ℚ); upper = if_all (λ _. 0ℚ ≤ℚ 0ℚ) l.upper (λ _. ≤ℚ_refl 0ℚ) })
 
 below-zero : neg_ℚ 1ℚ <ℚ 0ℚ
 below-zero = subst (λ a. neg_ℚ 1ℚ <ℚ a) neg-zero (neg_strict 0ℚ 1ℚ zero-lt-one)
 
 -- the entering column itself
-own_allowed : (l u : Option ℚ) (v : ℚ) (way : Way) (s : Status) → CanMove way s → Stands s l u v → (l ≡ None) ⊎ (u ≡ None) → Allows (record { lower = l; upper = u }) (sign way)
+own_allowed : (l u : Option ℚ) (v : ℚ) (way : Way) (s : Status) → CanMove way s → Stands s l u v →
+    (l ≡ None) ⊎ (u ≡ None) → Allows (record { lower = l; upper = u }) (sign way)
 own_allowed l u v Up AtLower c s o = record {
   lower = if_all (λ _. 0ℚ ≤ℚ 1ℚ) l (λ _. <ℚ-le 0ℚ 1ℚ zero-lt-one);
   upper = if_none (λ _. 1ℚ ≤ℚ 0ℚ) u (⊎_elim (λ n. let z : Some v ≡ None = sym s ∙ n in cc) (λ n. n) o);
 }
-own_allowed l u v Up AtZero c s o = record { lower = if_all (λ _. 0ℚ ≤ℚ 1ℚ) l (λ _. <ℚ-le 0ℚ 1ℚ zero-lt-one); upper = if_none (λ _. 1ℚ ≤ℚ 0ℚ) u s.1 }
+own_allowed l u v Up AtZero c s o =
+    record { lower = if_all (λ _. 0ℚ ≤ℚ 1ℚ) l (λ _. <ℚ-le 0ℚ 1ℚ zero-lt-one); upper = if_none (λ _. 1ℚ ≤ℚ 0ℚ) u s.1 }
 own_allowed l u v Down AtUpper c s o = record {
   lower = if_none (λ _. 0ℚ ≤ℚ neg_ℚ 1ℚ) l (⊎_elim (λ n. n) (λ n. let z : Some v ≡ None = sym s ∙ n in cc) o);
   upper = if_all (λ _. neg_ℚ 1ℚ ≤ℚ 0ℚ) u (λ _. <ℚ-le _ _ below-zero);
 }
-own_allowed l u v Down AtZero c s o = record { lower = if_none (λ _. 0ℚ ≤ℚ neg_ℚ 1ℚ) l s.0; upper = if_all (λ _. neg_ℚ 1ℚ ≤ℚ 0ℚ) u (λ _. <ℚ-le _ _ below-zero) }
+own_allowed l u v Down AtZero c s o =
+    record { lower = if_none (λ _. 0ℚ ≤ℚ neg_ℚ 1ℚ) l s.0; upper = if_all (λ _. neg_ℚ 1ℚ ≤ℚ 0ℚ) u (λ _. <ℚ-le _ _ below-zero) }
 own_allowed l u v Up Basic c s o = absurd c
 own_allowed l u v Up AtUpper c s o = absurd c
 own_allowed l u v Down Basic c s o = absurd c

@@ -47,8 +47,10 @@ module _ (b : Bounds) (t : Table) (k : ℕ) (stands : Stands (t.status k) (b.low
       go : (s : Status) → t.status k ≡ s → ¬ (IsFixed b k) → b.lower k ≡ Some (t.value k)
       go Basic e n = absurd (<ℚ_irrefl 0ℚ (subst (λ a. 0ℚ <ℚ a) (basic e) h))
       go AtLower e n = subst (λ s. Stands s (b.lower k) (b.upper k) (t.value k)) e stands
-      go AtUpper e n = absurd (none Down (record { may_enter = (open_, n); status = subst (CanMove Down) (sym e) tt; improves = h }))
-      go AtZero e n = absurd (none Down (record { may_enter = (open_, n); status = subst (CanMove Down) (sym e) tt; improves = h }))
+      go AtUpper e n =
+          absurd (none Down (record { may_enter = (open_, n); status = subst (CanMove Down) (sym e) tt; improves = h }))
+      go AtZero e n =
+          absurd (none Down (record { may_enter = (open_, n); status = subst (CanMove Down) (sym e) tt; improves = h }))
 
   below : t.reduced k <ℚ 0ℚ → b.upper k ≡ Some (t.value k)
   below h =
@@ -60,8 +62,10 @@ module _ (b : Bounds) (t : Table) (k : ℕ) (stands : Stands (t.status k) (b.low
       go : (s : Status) → t.status k ≡ s → ¬ (IsFixed b k) → b.upper k ≡ Some (t.value k)
       go Basic e n = absurd (<ℚ_irrefl 0ℚ (subst (λ a. a <ℚ 0ℚ) (basic e) h))
       go AtUpper e n = subst (λ s. Stands s (b.lower k) (b.upper k) (t.value k)) e stands
-      go AtLower e n = absurd (none Up (record { may_enter = (open_, n); status = subst (CanMove Up) (sym e) tt; improves = h }))
-      go AtZero e n = absurd (none Up (record { may_enter = (open_, n); status = subst (CanMove Up) (sym e) tt; improves = h }))
+      go AtLower e n =
+          absurd (none Up (record { may_enter = (open_, n); status = subst (CanMove Up) (sym e) tt; improves = h }))
+      go AtZero e n =
+          absurd (none Up (record { may_enter = (open_, n); status = subst (CanMove Up) (sym e) tt; improves = h }))
 
   tight : IsTight (limits_at b k) (t.reduced k) (t.value k)
   tight = record { above = above; below = below }
@@ -87,20 +91,25 @@ module _ (m : Model) (ls : List (Option ℚ × Option ℚ)) (h : Limited m ls) (
 
   module _ (b : Bounds) (bs : HasBounds f b) where
     pub bounds_structural : (P : Limits → Type 0) (j : ℕ) → j < w → P (limits_at b j) → P (bounds m j)
-    bounds_structural P j l = subst₂ (λ x y. P (record { lower = x; upper = y })) (bs.lower j (omega (arith, l)) ∙ lower_structural m ls h j l) (bs.upper j (omega (arith, l)) ∙ upper_structural m ls h j l)
+    bounds_structural P j l =
+        subst₂ (λ x y. P (record { lower = x; upper = y })) (bs.lower j (omega (arith, l)) ∙ lower_structural m ls h j l) (bs.upper j (omega (arith, l)) ∙ upper_structural m ls h j l)
 
     pub bounds_logical : (P : Limits → Type 0) (i : ℕ) → i < r → P (limits_at b (w + i)) → P (limits m i)
-    bounds_logical P i l = subst₂ (λ x y. P (record { lower = x; upper = y })) (bs.lower (w + i) (omega (arith, l)) ∙ lower_logical m ls h i l) (bs.upper (w + i) (omega (arith, l)) ∙ upper_logical m ls h i l)
+    bounds_logical P i l =
+        subst₂ (λ x y. P (record { lower = x; upper = y })) (bs.lower (w + i) (omega (arith, l)) ∙ lower_logical m ls h i l) (bs.upper (w + i) (omega (arith, l)) ∙ upper_logical m ls h i l)
 
-    between_at : (t : Table) (k : ℕ) → IsInside (b.lower k) (b.upper k) (t.value k) → IsBetween (limits_at b k) (t.value k)
+    between_at : (t : Table) (k : ℕ) → IsInside (b.lower k) (b.upper k) (t.value k) →
+        IsBetween (limits_at b k) (t.value k)
     between_at t k i = record { lower = i.lower; upper = i.upper }
 
     module _ (t : Table) (within : IsWithin (w + r + r) b t) where
       pub within_structural : (j : ℕ) → j < w → IsBetween (bounds m j) (t.value j)
-      within_structural j l = bounds_structural (λ x. IsBetween x (t.value j)) j l (between_at t j (within j (omega (arith, l))))
+      within_structural j l =
+          bounds_structural (λ x. IsBetween x (t.value j)) j l (between_at t j (within j (omega (arith, l))))
 
       pub within_logical : (i : ℕ) → i < r → IsBetween (limits m i) (t.value (w + i))
-      within_logical i l = bounds_logical (λ x. IsBetween x (t.value (w + i))) i l (between_at t (w + i) (within (w + i) (omega (arith, l))))
+      within_logical i l =
+          bounds_logical (λ x. IsBetween x (t.value (w + i))) i l (between_at t (w + i) (within (w + i) (omega (arith, l))))
 
       module _ (cost : ℕ → ℚ) (g : IsTableau r (w + r + r) F cost b t) (none : (way : Way) (k : ℕ) → k < w + r + r → ¬ (IsEligible b t way k)) where
         tight_at : (k : ℕ) → k < w + r → IsTight (limits_at b k) (t.reduced k) (t.value k)
@@ -109,10 +118,12 @@ module _ (m : Model) (ls : List (Option ℚ × Option ℚ)) (h : Limited m ls) (
             tight b t k (g.stands k q) (within k q) (zero_at_basic r (w + r + r) F cost b t g k q) (bs.entering k l) (λ way. none way k q)
 
         pub tight_structural : (j : ℕ) → j < w → IsTight (bounds m j) (t.reduced j) (t.value j)
-        tight_structural j l = bounds_structural (λ x. IsTight x (t.reduced j) (t.value j)) j l (tight_at j (omega (arith, l)))
+        tight_structural j l =
+            bounds_structural (λ x. IsTight x (t.reduced j) (t.value j)) j l (tight_at j (omega (arith, l)))
 
         pub tight_logical : (i : ℕ) → i < r → IsTight (limits m i) (t.reduced (w + i)) (t.value (w + i))
-        tight_logical i l = bounds_logical (λ x. IsTight x (t.reduced (w + i)) (t.value (w + i))) i l (tight_at (w + i) (omega (arith, l)))
+        tight_logical i l =
+            bounds_logical (λ x. IsTight x (t.reduced (w + i)) (t.value (w + i))) i l (tight_at (w + i) (omega (arith, l)))
 
   -- the multipliers are the weights of the reduced costs, negated
   module _ (cost d weights : ℕ → ℚ) (less : (k : ℕ) → d k ≡ cost k -ℚ sum_below r (λ i. weights i *ℚ F i k)) where
@@ -130,7 +141,8 @@ module _ (m : Model) (ls : List (Option ℚ × Option ℚ)) (h : Limited m ls) (
         swap_sign w a = simp ring
 
   -- where the equations are solved and artificials are 0, the logical of a row is its sum
-  pub logical_is_row : (z : ℕ → ℚ) → ((i : ℕ) → i < r → z (w + r + i) ≡ 0ℚ) → (i : ℕ) → i < r → sum_below (w + r + r) (λ k. F i k *ℚ z k) ≡ 0ℚ → sum_below w (λ j. coefficient m i j *ℚ z j) ≡ z (w + i)
+  pub logical_is_row : (z : ℕ → ℚ) → ((i : ℕ) → i < r → z (w + r + i) ≡ 0ℚ) → (i : ℕ) → i < r →
+      sum_below (w + r + r) (λ k. F i k *ℚ z k) ≡ 0ℚ → sum_below w (λ j. coefficient m i j *ℚ z j) ≡ z (w + i)
   logical_is_row z none i p solves =
       from_sum (sum_below w (λ j. coefficient m i j *ℚ z j)) (z (w + i))
       (sym (sum_by_kind w r (λ k. F i k *ℚ z k)

@@ -1,4 +1,4 @@
--- An unbounded end of phase two shows that points get better without end.
+-- An unbounded end of phase two shows that points get better without limit.
 use Rattle.std.proofs.Common.{◌≡◌, ℕ, ◌+◌, ◌<◌, List, length, Option, Some, sym, ap, ap₂, ◌∙◌, subst, subst₂, arith}
 use Rattle.spec_exact.specs.Fraction.{ℚ, ◌+ℚ◌, ◌*ℚ◌, 0ℚ, ◌<ℚ◌}
 use Rattle.spec_exact.specs.Sums.{sum_below}
@@ -24,7 +24,8 @@ use Rattle.spec_cold.proofs.EndTight.{HasBounds, bounds_structural, bounds_logic
 use Rattle.spec_cold.proofs.EndOptimal.{point_feasible}
 use Rattle.spec_cold.proofs.EndRay.{allowed, falls}
 
-zero_allowed : (l u : Option ℚ) (r : ℚ) → l ≡ Some 0ℚ → u ≡ Some 0ℚ → Allows (record { lower = l; upper = u }) r → r ≡ 0ℚ
+zero_allowed : (l u : Option ℚ) (r : ℚ) → l ≡ Some 0ℚ → u ≡ Some 0ℚ → Allows (record { lower = l; upper = u }) r →
+    r ≡ 0ℚ
 zero_allowed l u r p q a =
     let z : Allows (record { lower = Some 0ℚ; upper = Some 0ℚ }) r = subst₂ (λ l u. Allows (record { lower = l; upper = u }) r) p q a in
     ≤ℚ_antisym r 0ℚ z.upper z.lower
@@ -70,12 +71,15 @@ module _ (m : Model) (ls : List (Option ℚ × Option ℚ)) (h : Limited m ls) (
       ∙ ap (λ a. a +ℚ 0ℚ) (+ℚ_zero _) ∙ +ℚ_zero _
     where
       artificial_cost : (i : ℕ) → costs (width m + height m + i) ≡ 0ℚ
-      artificial_cost i = (let e : width m + height m + i ≡ width m + (height m + i) = omega arith in ap (cost_at (formed m ls).cost) e) ∙ cost_other m ls h (height m + i)
+      artificial_cost i =
+          (let e : width m + height m + i ≡ width m + (height m + i) = omega arith in ap (cost_at (formed m ls).cost) e) ∙ cost_other m ls h (height m + i)
 
   pub unbounded_checks : ChecksUnbounded m x y
   unbounded_checks = record {
     feasible = point_feasible m ls h starts b bs fixed t g within x x_length x_at;
-    columns = λ k p. subst (Allows (bounds m k)) (sym (y_at k p)) (bounds_structural m ls h starts b bs (λ l. Allows l (z k)) k p (allowed_at k (omega (arith, p))));
-    rows = λ i p. subst (Allows (limits m i)) (sym (row_ray i p)) (bounds_logical m ls h starts b bs (λ l. Allows l (z (width m + i))) i p (allowed_at (width m + i) (omega (arith, p))));
+    columns =
+        λ k p. subst (Allows (bounds m k)) (sym (y_at k p)) (bounds_structural m ls h starts b bs (λ l. Allows l (z k)) k p (allowed_at k (omega (arith, p))));
+    rows =
+        λ i p. subst (Allows (limits m i)) (sym (row_ray i p)) (bounds_logical m ls h starts b bs (λ l. Allows l (z (width m + i))) i p (allowed_at (width m + i) (omega (arith, p))));
     better = subst (λ a. a <ℚ 0ℚ) cost_is (falls (height m) n F costs b t g way j e);
   }

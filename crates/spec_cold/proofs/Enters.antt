@@ -50,18 +50,27 @@ way_by_some Basic d up e = let z : None ≡ Some up = e in cc
 way_by_some AtLower d up e = by (lt_ℚ d 0ℚ) refl e
   where
     by : (t : Bool) → lt_ℚ d 0ℚ ≡ t → cond t (Some true) None ≡ Some up → Goes (way up) AtLower d
-    by true t e = let z : true ≡ up = cc in subst (λ up. Goes (way up) AtLower d) z (record { status = tt; improves = lt_if d 0ℚ t })
+    by true t e =
+        let z : true ≡ up = cc in
+        subst (λ up. Goes (way up) AtLower d) z (record { status = tt; improves = lt_if d 0ℚ t })
     by false t e = let z : None ≡ Some up = e in cc
 way_by_some AtUpper d up e = by (lt_ℚ 0ℚ d) refl e
   where
     by : (t : Bool) → lt_ℚ 0ℚ d ≡ t → cond t (Some false) None ≡ Some up → Goes (way up) AtUpper d
-    by true t e = let z : false ≡ up = cc in subst (λ up. Goes (way up) AtUpper d) z (record { status = tt; improves = lt_if 0ℚ d t })
+    by true t e =
+        let z : false ≡ up = cc in
+        subst (λ up. Goes (way up) AtUpper d) z (record { status = tt; improves = lt_if 0ℚ d t })
     by false t e = let z : None ≡ Some up = e in cc
 way_by_some AtZero d up e = by (lt_ℚ d 0ℚ) (lt_ℚ 0ℚ d) refl refl e
   where
-    by : (t s : Bool) → lt_ℚ d 0ℚ ≡ t → lt_ℚ 0ℚ d ≡ s → cond t (Some true) (cond s (Some false) None) ≡ Some up → Goes (way up) AtZero d
-    by true s t _ e = let z : true ≡ up = cc in subst (λ up. Goes (way up) AtZero d) z (record { status = tt; improves = lt_if d 0ℚ t })
-    by false true t s e = let z : false ≡ up = cc in subst (λ up. Goes (way up) AtZero d) z (record { status = tt; improves = lt_if 0ℚ d s })
+    by : (t s : Bool) → lt_ℚ d 0ℚ ≡ t → lt_ℚ 0ℚ d ≡ s → cond t (Some true) (cond s (Some false) None) ≡ Some up →
+        Goes (way up) AtZero d
+    by true s t _ e =
+        let z : true ≡ up = cc in
+        subst (λ up. Goes (way up) AtZero d) z (record { status = tt; improves = lt_if d 0ℚ t })
+    by false true t s e =
+        let z : false ≡ up = cc in
+        subst (λ up. Goes (way up) AtZero d) z (record { status = tt; improves = lt_if 0ℚ d s })
     by false false t s e = let z : None ≡ Some up = e in cc
 
 -- ---- a column of a tableau
@@ -73,7 +82,9 @@ module _ (b : Bounds) (t : Tableau) (keeps : KeepsBounds b t) where
       (v.0, sym (keeps.lower k l') ∙ v.1, sym (keeps.upper k l) ∙ v.2)
 
   not_fixed_at : (k : ℕ) → k < form_columns t → IsFixed b k → is_fixed (lower_at t k) (upper_at t k) ≡ true
-  not_fixed_at k l v = let l' : k < all_columns t = omega (arith, l) in fixed_test (lower_at t k) (upper_at t k) v.0 (keeps.lower k l' ∙ v.1) (keeps.upper k l ∙ v.2)
+  not_fixed_at k l v =
+      let l' : k < all_columns t = omega (arith, l) in
+      fixed_test (lower_at t k) (upper_at t k) v.0 (keeps.lower k l' ∙ v.1) (keeps.upper k l ∙ v.2)
 
   pub none_at : (k : ℕ) → way_at t k ≡ None → (w : Way) → ¬ (IsEligible b (table_of t) w k)
   none_at k e w el = by (is_fixed (lower_at t k) (upper_at t k)) refl e
@@ -81,14 +92,16 @@ module _ (b : Bounds) (t : Tableau) (keeps : KeepsBounds b t) where
       before : k < form_columns t
       before = enters_before b t k keeps el.may_enter.0
 
-      by : (c : Bool) → is_fixed (lower_at t k) (upper_at t k) ≡ c → cond c None (way_by (status_at t k) (reduced_at t k)) ≡ None → ⊥
+      by : (c : Bool) → is_fixed (lower_at t k) (upper_at t k) ≡ c →
+          cond c None (way_by (status_at t k) (reduced_at t k)) ≡ None → ⊥
       by true c e = el.may_enter.1 (fixed_at k before c)
       by false c e = way_by_none (status_at t k) (reduced_at t k) w e el.status el.improves
 
   eligible_at : (k : ℕ) (up : Bool) → k < all_columns t → way_at t k ≡ Some up → IsEligible b (table_of t) (way up) k
   eligible_at k up k_in e = by (is_fixed (lower_at t k) (upper_at t k)) refl e
     where
-      by : (c : Bool) → is_fixed (lower_at t k) (upper_at t k) ≡ c → cond c None (way_by (status_at t k) (reduced_at t k)) ≡ Some up → IsEligible b (table_of t) (way up) k
+      by : (c : Bool) → is_fixed (lower_at t k) (upper_at t k) ≡ c →
+          cond c None (way_by (status_at t k) (reduced_at t k)) ≡ Some up → IsEligible b (table_of t) (way up) k
       by true c e = let z : None ≡ Some up = e in cc
       by false c e =
           let goes : Goes (way up) (status_at t k) (reduced_at t k) = way_by_some (status_at t k) (reduced_at t k) up e in
@@ -112,16 +125,19 @@ module _ (b : Bounds) (t : Tableau) (keeps : KeepsBounds b t) where
   none_below zero h k l = absurd (let z : ⊥ = omega (arith, l) in z)
   none_below (suc n) h k l = by (entering_below t n) (way_at t n) refl h (λ p z. none_below n p k (omega (arith, l, z)))
     where
-      by : (e : Option Entering) (w : Option Bool) → way_at t n ≡ w → or_enters e n w ≡ None → (e ≡ None → k ≢ n → way_at t k ≡ None) → way_at t k ≡ None
+      by : (e : Option Entering) (w : Option Bool) → way_at t n ≡ w → or_enters e n w ≡ None →
+          (e ≡ None → k ≢ n → way_at t k ≡ None) → way_at t k ≡ None
       by (Some e) w q h before = let z : Some e ≡ None = h in cc
-      by None (Some up) q h before = let z : ◌≡◌ {A = Option Entering} (Some (record { col = n; up = up })) None = h in cc
+      by None (Some up) q h before =
+          let z : ◌≡◌ {A = Option Entering} (Some (record { col = n; up = up })) None = h in cc
       by None None q h before = by_eq k n (λ z. ap (way_at t) z ∙ q) (before refl)
 
   some_below : (n : ℕ) (x : Entering) → entering_below t n ≡ Some x → EntersBelow n x
   some_below zero x h = let z : None ≡ Some x = h in cc
   some_below (suc n) x h = by (entering_below t n) (way_at t n) refl refl h (λ p. some_below n x p)
     where
-      by : (e : Option Entering) (w : Option Bool) → entering_below t n ≡ e → way_at t n ≡ w → or_enters e n w ≡ Some x → (entering_below t n ≡ Some x → EntersBelow n x) → EntersBelow (suc n) x
+      by : (e : Option Entering) (w : Option Bool) → entering_below t n ≡ e → way_at t n ≡ w →
+          or_enters e n w ≡ Some x → (entering_below t n ≡ Some x → EntersBelow n x) → EntersBelow (suc n) x
       by (Some e) w p q h before =
           let z : Some e ≡ Some x = h in
           let there : EntersBelow n x = before (p ∙ z) in

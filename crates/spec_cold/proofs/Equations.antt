@@ -12,13 +12,17 @@ use Rattle.spec_cold.proofs.Columns.{structural_at, logical_at, artificial_at}
 
 module _ (f : Form) (starts : List (RowStart ℚ)) where
   pub row_structural : (i k : ℕ) → k < f.cols → form_rows f starts i k ≡ neg_ℚ (form_entry f i k)
-  row_structural i k = structural_at f (neg_ℚ (form_entry f i k)) (λ r. delta i r) (λ r. logical_sign (start_at starts i) *ℚ delta i r) k
+  row_structural i k =
+      structural_at f (neg_ℚ (form_entry f i k)) (λ r. delta i r) (λ r. logical_sign (start_at starts i) *ℚ delta i r) k
 
   pub row_logical : (i r : ℕ) → r < f.rows → form_rows f starts i (f.cols + r) ≡ delta i r
-  row_logical i r = logical_at f (neg_ℚ (form_entry f i (f.cols + r))) (λ r. delta i r) (λ r. logical_sign (start_at starts i) *ℚ delta i r) r
+  row_logical i r =
+      logical_at f (neg_ℚ (form_entry f i (f.cols + r))) (λ r. delta i r) (λ r. logical_sign (start_at starts i) *ℚ delta i r) r
 
-  pub row_artificial : (i r : ℕ) → form_rows f starts i (f.cols + f.rows + r) ≡ logical_sign (start_at starts i) *ℚ delta i r
-  row_artificial i r = artificial_at f (neg_ℚ (form_entry f i (f.cols + f.rows + r))) (λ r. delta i r) (λ r. logical_sign (start_at starts i) *ℚ delta i r) r
+  pub row_artificial : (i r : ℕ) →
+      form_rows f starts i (f.cols + f.rows + r) ≡ logical_sign (start_at starts i) *ℚ delta i r
+  row_artificial i r =
+      artificial_at f (neg_ℚ (form_entry f i (f.cols + f.rows + r))) (λ r. delta i r) (λ r. logical_sign (start_at starts i) *ℚ delta i r) r
 
   pub row_past : (i k : ℕ) → i < f.rows → f.cols + f.rows + f.rows ≤ k → form_rows f starts i k ≡ 0ℚ
   row_past i k h l =

@@ -73,7 +73,8 @@ module _ (limit : Option ℕ) (t : Tableau) (w : IsWhole t) (f : Matrix) (cost :
     status_is k = set_reads t.status j to Basic (omega (arith, w.all_statuses, j_in)) k
 
     table_is : table_of u ≡ after_flip t.rows (table_of t) (way up) j ratio to
-    table_is = same_table (table_of u) (after_flip t.rows (table_of t) (way up) j ratio to) (λ i k. refl) (λ i. refl) value_is (λ k. refl) status_is
+    table_is =
+        same_table (table_of u) (after_flip t.rows (table_of t) (way up) j ratio to) (λ i k. refl) (λ i. refl) value_is (λ k. refl) status_is
 
     status_other : (k : ℕ) → k ≢ j → status_at u k ≡ status_at t k
     status_other k d = status_is k ∙ rw (ne_eqb k j d) refl

@@ -39,7 +39,8 @@ module _ (m : Model) (ls : List (Option ℚ × Option ℚ)) (h : Limited m ls) w
   f = formed m ls
 
   pub entry_is : (i j : ℕ) → form_entry f i j ≡ coefficient m i j
-  entry_is i j = ap (λ es. Rattle.spec_model.specs.Model.entry_of es i) (get_or-map (λ (c : ExactColumn). c.entries) m.columns j no_column)
+  entry_is i j =
+      ap (λ es. Rattle.spec_model.specs.Model.entry_of es i) (get_or-map (λ (c : ExactColumn). c.entries) m.columns j no_column)
 
   pub lower_structural : (j : ℕ) → j < width m → form_lower f j ≡ (bounds m j).lower
   lower_structural j l =
@@ -78,7 +79,8 @@ module _ (m : Model) (ls : List (Option ℚ × Option ℚ)) (h : Limited m ls) w
       ∙ get_or-map (λ (c : ExactColumn). least_cost m.sense c.cost) m.columns j no_column ∙ least_is m.sense (cost m j)
 
   pub cost_length : length f.cost ≡ width m + height m
-  cost_length = length-append (map (λ (c : ExactColumn). least_cost m.sense c.cost) m.columns) (replicate (height m) 0ℚ) ∙ ap₂ ◌+◌ (length-map m.columns (λ (c : ExactColumn). least_cost m.sense c.cost)) (length-replicate (height m) 0ℚ)
+  cost_length =
+      length-append (map (λ (c : ExactColumn). least_cost m.sense c.cost) m.columns) (replicate (height m) 0ℚ) ∙ ap₂ ◌+◌ (length-map m.columns (λ (c : ExactColumn). least_cost m.sense c.cost)) (length-replicate (height m) 0ℚ)
 
   pub cost_other : (i : ℕ) → form_cost f (width m + i) ≡ 0ℚ
   cost_other i =
@@ -90,8 +92,10 @@ module _ (m : Model) (ls : List (Option ℚ × Option ℚ)) (h : Limited m ls) w
 
   pub formed_proper : IsProper f
   formed_proper = record {
-    all_lower = length-append (map (λ (c : ExactColumn). c.lower) m.columns) (map (λ (p : Pair). p.0) ls) ∙ ap₂ ◌+◌ (length-map m.columns (λ (c : ExactColumn). c.lower)) (length-map ls (λ (p : Pair). p.0) ∙ h.all);
-    all_upper = length-append (map (λ (c : ExactColumn). c.upper) m.columns) (map (λ (p : Pair). p.1) ls) ∙ ap₂ ◌+◌ (length-map m.columns (λ (c : ExactColumn). c.upper)) (length-map ls (λ (p : Pair). p.1) ∙ h.all);
+    all_lower =
+        length-append (map (λ (c : ExactColumn). c.lower) m.columns) (map (λ (p : Pair). p.0) ls) ∙ ap₂ ◌+◌ (length-map m.columns (λ (c : ExactColumn). c.lower)) (length-map ls (λ (p : Pair). p.0) ∙ h.all);
+    all_upper =
+        length-append (map (λ (c : ExactColumn). c.upper) m.columns) (map (λ (p : Pair). p.1) ls) ∙ ap₂ ◌+◌ (length-map m.columns (λ (c : ExactColumn). c.upper)) (length-map ls (λ (p : Pair). p.1) ∙ h.all);
     ordered = λ k l u k_in p q.
         by_lt k (width m)
         (λ z. h.ordered k l u z (sym (lower_structural k z) ∙ p) (sym (upper_structural k z) ∙ q))
@@ -102,7 +106,8 @@ module _ (m : Model) (ls : List (Option ℚ × Option ℚ)) (h : Limited m ls) w
   }
 
 -- ---- the run
-clash_free : (limit : Option ℕ) (j : ℕ) (l u : Option ℚ) → bounds_clash limit j l u ≡ Ok tt → (a c : ℚ) → l ≡ Some a → u ≡ Some c → a ≤ℚ c
+clash_free : (limit : Option ℕ) (j : ℕ) (l u : Option ℚ) → bounds_clash limit j l u ≡ Ok tt → (a c : ℚ) → l ≡ Some a →
+    u ≡ Some c → a ≤ℚ c
 clash_free limit j None u h a c p q = let z : None ≡ Some a = p in cc
 clash_free limit j (Some l) None h a c p q = let z : None ≡ Some c = q in cc
 clash_free limit j (Some l) (Some u) h a c p q =
@@ -119,7 +124,8 @@ clash_free limit j (Some l) (Some u) h a c p q =
 unit_is : (x : Unit {0}) → x ≡ tt
 unit_is x = refl
 
-pub form_is : (limit : Option ℕ) (m : Model) (f : Form) → form_of limit m ≡ Ok f → (ls : List (Option ℚ × Option ℚ)) × Limited m ls × (formed m ls ≡ f)
+pub form_is : (limit : Option ℕ) (m : Model) (f : Form) → form_of limit m ≡ Ok f →
+    (ls : List (Option ℚ × Option ℚ)) × Limited m ls × (formed m ls ≡ f)
 unfolding form_of
 form_is limit m f h =
     let o = then_ok (refused_as fault.Past (list_run (height m) (λ i. limits_run limit (row m i)))) (λ ls. steps (width m) (λ j _. column_clash limit m j) tt >>= λ _. Ok (formed m ls)) f h in
@@ -139,26 +145,34 @@ form_is limit m f h =
     )
 
 -- ---- a clash
-then_err : {A B E : Type 0} (o : Result A E) (f : A → Result B E) (e : E) → (o >>= f) ≡ Err e → (o ≢ Err e) → (a : A) × (o ≡ Ok a) × (f a ≡ Err e)
+then_err : {A B E : Type 0} (o : Result A E) (f : A → Result B E) (e : E) → (o >>= f) ≡ Err e → (o ≢ Err e) →
+    (a : A) × (o ≡ Ok a) × (f a ≡ Err e)
 then_err (Ok a) f e h n = (a, refl, h)
 then_err (Err d) f e h n = absurd (n (let z : d ≡ e = cc in ap Err z))
 
 never_clash : {A : Type 0} (j : ℕ) (o : Run A) → refused_as fault.Past o ≢ Err (fault.Clash j)
 never_clash {A} j (Ok a) h = let z : ◌≡◌ {A = Result A (FormFault ℚ)} (Ok a) (Err (fault.Clash j)) = h in cc
-never_clash {A} j (Err p) h = let z : ◌≡◌ {A = Result A (FormFault ℚ)} (Err (fault.Past p)) (Err (fault.Clash j)) = h in let y : ◌≡◌ {A = FormFault ℚ} (fault.Past p) (fault.Clash j) = cc in cc
+never_clash {A} j (Err p) h =
+    let z : ◌≡◌ {A = Result A (FormFault ℚ)} (Err (fault.Past p)) (Err (fault.Clash j)) = h in
+    let y : ◌≡◌ {A = FormFault ℚ} (fault.Past p) (fault.Clash j) = cc in cc
 
-steps_err : {A E : Type 0} (n : ℕ) (f : ℕ → A → Result A E) (a : A) (e : E) → steps n f a ≡ Err e → (i : ℕ) × (i < n) × (x : A) × (f i x ≡ Err e)
+steps_err : {A E : Type 0} (n : ℕ) (f : ℕ → A → Result A E) (a : A) (e : E) → steps n f a ≡ Err e →
+    (i : ℕ) × (i < n) × (x : A) × (f i x ≡ Err e)
 steps_err {A} {E} zero f a e h = let z : ◌≡◌ {A = Result A E} (Ok a) (Err e) = h in cc
 steps_err {A} {E} (suc n) f a e h = by (steps n f a) refl h (λ h. steps_err n f a e h)
   where
-    by : (o : Result A E) → steps n f a ≡ o → (o >>= λ b. f n b) ≡ Err e → (steps n f a ≡ Err e → (i : ℕ) × (i < n) × (x : A) × (f i x ≡ Err e)) → (i : ℕ) × (i < suc n) × (x : A) × (f i x ≡ Err e)
+    by : (o : Result A E) → steps n f a ≡ o → (o >>= λ b. f n b) ≡ Err e →
+        (steps n f a ≡ Err e → (i : ℕ) × (i < n) × (x : A) × (f i x ≡ Err e)) →
+        (i : ℕ) × (i < suc n) × (x : A) × (f i x ≡ Err e)
     by (Ok x) p h more = (n, omega arith, x, h)
     by (Err d) p h more = let o = more (p ∙ h) in (o.0, omega (arith, o.1), o.2, o.3)
 
-clash_at : (limit : Option ℕ) (m : Model) (i j : ℕ) → i < width m → column_clash limit m i ≡ Err (fault.Clash j) → ChecksClash m j
+clash_at : (limit : Option ℕ) (m : Model) (i j : ℕ) → i < width m → column_clash limit m i ≡ Err (fault.Clash j) →
+    ChecksClash m j
 clash_at limit m i j i_in h = by (column m i).lower (column m i).upper refl refl h
   where
-    by : (l u : Option ℚ) → (bounds m i).lower ≡ l → (bounds m i).upper ≡ u → bounds_clash limit i l u ≡ Err (fault.Clash j) → ChecksClash m j
+    by : (l u : Option ℚ) → (bounds m i).lower ≡ l → (bounds m i).upper ≡ u →
+        bounds_clash limit i l u ≡ Err (fault.Clash j) → ChecksClash m j
     by None u p q h = let z : ◌≡◌ {A = Result (Unit {0}) (FormFault ℚ)} (Ok tt) (Err (fault.Clash j)) = h in cc
     by (Some l) None p q h = let z : ◌≡◌ {A = Result (Unit {0}) (FormFault ℚ)} (Ok tt) (Err (fault.Clash j)) = h in cc
     by (Some l) (Some u) p q h =
@@ -180,7 +194,9 @@ clash_is limit m j h =
     (never_clash j (list_run (height m) (λ i. limits_run limit (row m i)))) in
     by o.0 (steps (width m) (λ j _. column_clash limit m j) tt) refl o.2
   where
-    by : (ls : List Pair) (s : Result (Unit {0}) (FormFault ℚ)) → steps (width m) (λ j _. column_clash limit m j) tt ≡ s → (s >>= λ _. Ok (formed m ls)) ≡ Err (fault.Clash j) → ChecksClash m j
+    by : (ls : List Pair) (s : Result (Unit {0}) (FormFault ℚ)) →
+        steps (width m) (λ j _. column_clash limit m j) tt ≡ s → (s >>= λ _. Ok (formed m ls)) ≡ Err (fault.Clash j) →
+        ChecksClash m j
     by ls (Ok x) p h = let z : ◌≡◌ {A = Result Form (FormFault ℚ)} (Ok (formed m ls)) (Err (fault.Clash j)) = h in cc
     by ls (Err d) p h =
         let y : d ≡ fault.Clash j = cc in

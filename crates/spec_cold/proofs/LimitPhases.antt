@@ -29,28 +29,36 @@ pub spent_agrees : {A : Type 0} → Agrees {A = A} stop.Past (Err stop.Spent) (E
 spent_agrees = agrees_err stop.Past stop.Spent (λ p e. let z : ◌≡◌ {A = RunStop ℚ} stop.Spent (stop.Past p) = e in cc)
 
 module _ (limit : Option ℕ) where
-  end_agrees : (t : Tableau) (used : ℕ) (c : Choice ℚ) → Agrees stop.Past (end_or_spent t used c) (end_or_spent t used c)
+  end_agrees : (t : Tableau) (used : ℕ) (c : Choice ℚ) →
+      Agrees stop.Past (end_or_spent t used c) (end_or_spent t used c)
   end_agrees t used (End end) = agrees_ok stop.Past (record { end = end; tableau = t; used = used })
   end_agrees t used (Flip j) = spent_agrees
   end_agrees t used (Pivot p j theta to) = spent_agrees
 
-  next_agrees : (t : Tableau) (used : ℕ) (f g : Tableau → Result PrimalEnded (RunStop ℚ)) → ((u : Tableau) → Agrees stop.Past (f u) (g u)) → (c : Choice ℚ) → Agrees stop.Past (end_or_next limit t used f c) (end_or_next None t used g c)
+  next_agrees : (t : Tableau) (used : ℕ) (f g : Tableau → Result PrimalEnded (RunStop ℚ)) →
+      ((u : Tableau) → Agrees stop.Past (f u) (g u)) → (c : Choice ℚ) →
+      Agrees stop.Past (end_or_next limit t used f c) (end_or_next None t used g c)
   next_agrees t used f g h (End end) = agrees_ok stop.Past (record { end = end; tableau = t; used = used })
   next_agrees t used f g h (Flip j) = agrees_then stop.Past _ _ f g (agrees_as stop.Past _ _ (flip_agrees limit t j)) h
-  next_agrees t used f g h (Pivot p j theta to) = agrees_then stop.Past _ _ f g (agrees_as stop.Past _ _ (pivot_agrees limit t p j theta to)) h
+  next_agrees t used f g h (Pivot p j theta to) =
+      agrees_then stop.Past _ _ f g (agrees_as stop.Past _ _ (pivot_agrees limit t p j theta to)) h
 
-  pub run_agrees : (left used : ℕ) (t : Tableau) → Agrees stop.Past (run_from limit left used t) (run_from None left used t)
+  pub run_agrees : (left used : ℕ) (t : Tableau) →
+      Agrees stop.Past (run_from limit left used t) (run_from None left used t)
   unfolding run_from
-  run_agrees zero used t = agrees_then stop.Past _ _ (end_or_spent t used) (end_or_spent t used) (agrees_as stop.Past _ _ (choice_agrees limit t)) (end_agrees t used)
+  run_agrees zero used t =
+      agrees_then stop.Past _ _ (end_or_spent t used) (end_or_spent t used) (agrees_as stop.Past _ _ (choice_agrees limit t)) (end_agrees t used)
   run_agrees (suc left) used t =
       agrees_then stop.Past _ _ (end_or_next limit t used (λ u. run_from limit left (used + 1) u)) (end_or_next None t used (λ u. run_from None left (used + 1) u)) (agrees_as stop.Past _ _ (choice_agrees limit t))
       (next_agrees t used (λ u. run_from limit left (used + 1) u) (λ u. run_from None left (used + 1) u) (λ u. run_agrees left (used + 1) u))
 
   pub two_agrees : (f : Form) (t : Tableau) → Agrees as_it_is (phase_two_run limit f t) (phase_two_run None f t)
   unfolding phase_two_run
-  two_agrees f t = agrees_then as_it_is _ _ _ _ (priced_agrees limit (without_artificials t) f.cost) (λ reduced. agrees_ok as_it_is _)
+  two_agrees f t =
+      agrees_then as_it_is _ _ _ _ (priced_agrees limit (without_artificials t) f.cost) (λ reduced. agrees_ok as_it_is _)
 
-  phase_two_agrees : (budget : ℕ) (f : Form) (one : PrimalEnded) → Agrees stop.Past (phase_two limit budget f one) (phase_two None budget f one)
+  phase_two_agrees : (budget : ℕ) (f : Form) (one : PrimalEnded) →
+      Agrees stop.Past (phase_two limit budget f one) (phase_two None budget f one)
   phase_two_agrees budget f one =
       agrees_then stop.Past _ _ _ _ (agrees_as stop.Past _ _ (two_agrees f one.tableau)) (λ t.
       agrees_then stop.Past _ _ _ _ (run_agrees (budget - one.used) one.used t) (λ two. agrees_ok stop.Past (Finished two)))
@@ -67,7 +75,8 @@ module _ (limit : Option ℕ) (budget : ℕ) (m : Model) where
   abbrev Same : ColdEnd → ColdEnd → Type 0
   Same o u = (o ≡ u) ⊎ ((p : Past ℚ) × (o ≡ outcome.Past p))
 
-  answers_agree : (c : Certificate (List ℚ)) (basis : Option (List Status)) (pivots : ℕ) → IsAccepted limit m c → Same (answered limit m c basis pivots) (answered None m c basis pivots)
+  answers_agree : (c : Certificate (List ℚ)) (basis : Option (List Status)) (pivots : ℕ) → IsAccepted limit m c →
+      Same (answered limit m c basis pivots) (answered None m c basis pivots)
   unfolding check.Agrees
   answers_agree c basis pivots a =
       ⊎_elim
@@ -75,10 +84,12 @@ module _ (limit : Option ℕ) (budget : ℕ) (m : Model) where
       (λ p. inr (p.0, ap (checked c basis pivots) p.1))
       a.limited
 
-  phases_same : (f : Form) → form_of limit m ≡ Ok f → Same (after_phases limit m (phases_run limit budget f)) (after_phases None m (phases_run None budget f))
+  phases_same : (f : Form) → form_of limit m ≡ Ok f →
+      Same (after_phases limit m (phases_run limit budget f)) (after_phases None m (phases_run None budget f))
   phases_same f e = by (phases_run limit budget f) (phases_run None budget f) refl (phases_agree limit budget f).same
     where
-      by : (o u : Result PhasesEnd (RunStop ℚ)) → phases_run limit budget f ≡ o → (o ≡ u) ⊎ ((p : Past ℚ) × (o ≡ Err (stop.Past p))) → Same (after_phases limit m o) (after_phases None m u)
+      by : (o u : Result PhasesEnd (RunStop ℚ)) → phases_run limit budget f ≡ o →
+          (o ≡ u) ⊎ ((p : Past ℚ) × (o ≡ Err (stop.Past p))) → Same (after_phases limit m o) (after_phases None m u)
       by o u q (inr p) = inr (p.0, ap (after_phases limit m) p.1)
       by (Ok end) u q (inl z) =
           subst (λ u. Same (after_phases limit m (Ok end)) (after_phases None m u)) z
@@ -90,27 +101,37 @@ module _ (limit : Option ℕ) (budget : ℕ) (m : Model) where
   unfolding cold
   cold_same = by (form_of limit m) (form_of None m) refl (form_agrees limit m).same
     where
-      by : (o u : Result Form (FormFault ℚ)) → form_of limit m ≡ o → (o ≡ u) ⊎ ((p : Past ℚ) × (o ≡ Err (fault.Past p))) → Same (after_form limit budget m o) (after_form None budget m u)
+      by : (o u : Result Form (FormFault ℚ)) → form_of limit m ≡ o →
+          (o ≡ u) ⊎ ((p : Past ℚ) × (o ≡ Err (fault.Past p))) →
+          Same (after_form limit budget m o) (after_form None budget m u)
       by o u q (inr p) = inr (p.0, ap (after_form limit budget m) p.1)
-      by (Ok f) u q (inl z) = subst (λ u. Same (after_form limit budget m (Ok f)) (after_form None budget m u)) z (phases_same f q)
+      by (Ok f) u q (inl z) =
+          subst (λ u. Same (after_form limit budget m (Ok f)) (after_form None budget m u)) z (phases_same f q)
       by (Err (fault.Clash j)) u q (inl z) =
           subst (λ u. Same (after_form limit budget m (Err (fault.Clash j))) (after_form None budget m u)) z (answers_agree _ None 0 (clash_accepted limit m j q))
       by (Err (fault.Past p)) u q (inl z) = inr (p, refl)
 
 -- ---- without a limit
-checked_never_past : (m : Model) (c : Certificate (List ℚ)) (basis : Option (List Status)) (pivots : ℕ) → IsAccepted None m c → (p : Past ℚ) → ¬ (answered None m c basis pivots ≡ outcome.Past p)
-checked_never_past m c basis pivots a p e = let z : ◌≡◌ {A = ColdEnd} (outcome.Ended (shown m c) c basis pivots) (outcome.Past p) = sym (ap (checked c basis pivots) a.accepted) ∙ e in cc
+checked_never_past : (m : Model) (c : Certificate (List ℚ)) (basis : Option (List Status)) (pivots : ℕ) →
+    IsAccepted None m c → (p : Past ℚ) → ¬ (answered None m c basis pivots ≡ outcome.Past p)
+checked_never_past m c basis pivots a p e =
+    let z : ◌≡◌ {A = ColdEnd} (outcome.Ended (shown m c) c basis pivots) (outcome.Past p) = sym (ap (checked c basis pivots) a.accepted) ∙ e in
+    cc
 
 pub never_past : (budget : ℕ) (m : Model) (p : Past ℚ) → ¬ (cold None budget m ≡ outcome.Past p)
 unfolding cold
 never_past budget m p = by (form_of None m) refl (form_agrees None m).exact
   where
-    with_phases : (f : Form) → form_of None m ≡ Ok f → (o : Result PhasesEnd (RunStop ℚ)) → phases_run None budget f ≡ o → ((p : Past ℚ) → o ≢ Err (stop.Past p)) → ¬ (after_phases None m o ≡ outcome.Past p)
-    with_phases f e (Ok end) q n = checked_never_past m (certificate_of end) (basis_of end) (pivots_of end) (end_accepted None budget m f end e q) p
+    with_phases : (f : Form) → form_of None m ≡ Ok f → (o : Result PhasesEnd (RunStop ℚ)) →
+        phases_run None budget f ≡ o → ((p : Past ℚ) → o ≢ Err (stop.Past p)) →
+        ¬ (after_phases None m o ≡ outcome.Past p)
+    with_phases f e (Ok end) q n =
+        checked_never_past m (certificate_of end) (basis_of end) (pivots_of end) (end_accepted None budget m f end e q) p
     with_phases f e (Err (stop.Past v)) q n = absurd (n v refl)
     with_phases f e (Err stop.Spent) q n = λ z. let y : ◌≡◌ {A = ColdEnd} outcome.Spent (outcome.Past p) = z in cc
 
-    by : (o : Result Form (FormFault ℚ)) → form_of None m ≡ o → ((p : Past ℚ) → o ≢ Err (fault.Past p)) → ¬ (after_form None budget m o ≡ outcome.Past p)
+    by : (o : Result Form (FormFault ℚ)) → form_of None m ≡ o → ((p : Past ℚ) → o ≢ Err (fault.Past p)) →
+        ¬ (after_form None budget m o ≡ outcome.Past p)
     by (Ok f) e n = with_phases f e (phases_run None budget f) refl (phases_agree None budget f).exact
     by (Err (fault.Clash j)) e n = checked_never_past m _ None 0 (clash_accepted None m j e) p
     by (Err (fault.Past v)) e n = absurd (n v refl)

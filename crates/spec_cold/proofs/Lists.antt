@@ -9,7 +9,8 @@ use Rattle.spec_simplex.specs.Tableau.{at_place}
 pub by_lt : {P : Type 0} (i n : ℕ) → (i < n → P) → (n ≤ i → P) → P
 by_lt i n f g = ⊎_elim f g (cases_lt i n)
 
-pub set_reads : {A : Type 0} (xs : List A) (i : ℕ) (v d : A) → i < length xs → (k : ℕ) → get_or (set xs i v) k d ≡ cond (nat_eq k i) v (get_or xs k d)
+pub set_reads : {A : Type 0} (xs : List A) (i : ℕ) (v d : A) → i < length xs → (k : ℕ) →
+    get_or (set xs i v) k d ≡ cond (nat_eq k i) v (get_or xs k d)
 set_reads xs i v d h k =
     by_eq k i
     (λ e. rw (eq-eqb k i e) (ap (λ k. get_or (set xs i v) k d) e ∙ get_or-set_same xs i v d h))

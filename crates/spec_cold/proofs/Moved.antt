@@ -19,7 +19,8 @@ use Rattle.spec_cold.proofs.Runs.{then_ok, less_ok, steps_ok}
 use Rattle.spec_cold.proofs.Lists.{by_lt}
 
 -- a column is basic at a position, or at none
-pub at_position : (m n : ℕ) (f : Matrix) (cost : ℕ → ℚ) (b : Bounds) (t : Table) → IsTableau m n f cost b t → (k : ℕ) → ((r : ℕ) × (r < m) × (t.basic r ≡ k)) ⊎ ((r : ℕ) → r < m → t.basic r ≢ k)
+pub at_position : (m n : ℕ) (f : Matrix) (cost : ℕ → ℚ) (b : Bounds) (t : Table) → IsTableau m n f cost b t → (k : ℕ) →
+    ((r : ℕ) × (r < m) × (t.basic r ≡ k)) ⊎ ((r : ℕ) → r < m → t.basic r ≢ k)
 at_position m n f cost b t g k =
     by_lt k n
     (λ h. by_basic (t.status k) (λ s. inl (g.placed k h s)) (λ s. inr (outside m n f cost b t g k s)))
@@ -33,10 +34,13 @@ module _ (limit : Option ℕ) (t : Tableau) (w : IsWhole t) (f : Matrix) (cost :
     -- after the positions below i
     record Moved (i : ℕ) (values : List ℚ) : Type 0 where
       all : length values ≡ all_columns t
-      placed : (r : ℕ) → r < i → r < t.rows → is_place but r ≡ false → get_or values (basic_at t r) 0ℚ ≡ value_at t (basic_at t r) -ℚ entry_at t r j *ℚ theta
-      others : (k : ℕ) → ((r : ℕ) → r < i → r < t.rows → is_place but r ≡ false → basic_at t r ≢ k) → get_or values k 0ℚ ≡ value_at t k
+      placed : (r : ℕ) → r < i → r < t.rows → is_place but r ≡ false →
+          get_or values (basic_at t r) 0ℚ ≡ value_at t (basic_at t r) -ℚ entry_at t r j *ℚ theta
+      others : (k : ℕ) → ((r : ℕ) → r < i → r < t.rows → is_place but r ≡ false → basic_at t r ≢ k) →
+          get_or values k 0ℚ ≡ value_at t k
 
-    moved_step : (i : ℕ) (x y : List ℚ) → i < t.rows → Moved i x → cond (is_place but i) (Ok x) (moved_at limit t j theta i x) ≡ Ok y → Moved (suc i) y
+    moved_step : (i : ℕ) (x y : List ℚ) → i < t.rows → Moved i x →
+        cond (is_place but i) (Ok x) (moved_at limit t j theta i x) ≡ Ok y → Moved (suc i) y
     moved_step i x y i_in v h = go (is_place but i) refl h
       where
         no_more : {P : Type 0} (r : ℕ) → r < suc i → (r < i → P) → (r ≡ i → P) → P
@@ -47,7 +51,8 @@ module _ (limit : Option ℕ) (t : Tableau) (w : IsWhole t) (f : Matrix) (cost :
             let e : x ≡ y = cc in
             subst (Moved (suc i)) e (record {
               all = v.all;
-              placed = λ r q l s. no_more r q (λ q. v.placed r q l s) (λ z. let c' : is_place but r ≡ true = ap (is_place but) z ∙ c in let y : true ≡ false = sym c' ∙ s in cc);
+              placed =
+                  λ r q l s. no_more r q (λ q. v.placed r q l s) (λ z. let c' : is_place but r ≡ true = ap (is_place but) z ∙ c in let y : true ≡ false = sym c' ∙ s in cc);
               others = λ k o. v.others k (λ r q l s. o r (omega (arith, q)) l s);
             })
         go false c h =
@@ -76,7 +81,8 @@ module _ (limit : Option ℕ) (t : Tableau) (w : IsWhole t) (f : Matrix) (cost :
       pub moved_length : length values ≡ all_columns t
       moved_length = moved_all.all
 
-      pub moved_others : (k : ℕ) → ((r : ℕ) → r < t.rows → is_place but r ≡ false → basic_at t r ≢ k) → get_or values k 0ℚ ≡ value_at t k
+      pub moved_others : (k : ℕ) → ((r : ℕ) → r < t.rows → is_place but r ≡ false → basic_at t r ≢ k) →
+          get_or values k 0ℚ ≡ value_at t k
       moved_others k o = moved_all.others k (λ r q l s. o r l s)
 
       -- where the column is not basic, these are the values along the ray
@@ -84,7 +90,8 @@ module _ (limit : Option ℕ) (t : Tableau) (w : IsWhole t) (f : Matrix) (cost :
         pub moved_own : get_or values j 0ℚ ≡ value_at t j
         moved_own = moved_others j (λ r q s. j_off r q)
 
-        pub moved_ray : (k : ℕ) → k ≢ j → ((r : ℕ) → r < t.rows → is_place but r ≡ true → basic_at t r ≢ k) → get_or values k 0ℚ ≡ moved t.rows (table_of t) way j ratio k
+        pub moved_ray : (k : ℕ) → k ≢ j → ((r : ℕ) → r < t.rows → is_place but r ≡ true → basic_at t r ≢ k) →
+            get_or values k 0ℚ ≡ moved t.rows (table_of t) way j ratio k
         moved_ray k k_other but_not =
             ⊎_elim
             (λ p. go (is_place but p.0) p.0 refl p.1 p.2)
@@ -98,7 +105,8 @@ module _ (limit : Option ℕ) (t : Tableau) (w : IsWhole t) (f : Matrix) (cost :
             along : (v a s r : ℚ) → v -ℚ a *ℚ (s *ℚ r) ≡ v +ℚ r *ℚ neg_ℚ (s *ℚ a)
             along v a s r = simp ring
 
-            go : (c : Bool) (r : ℕ) → is_place but r ≡ c → r < t.rows → basic_at t r ≡ k → get_or values k 0ℚ ≡ moved t.rows (table_of t) way j ratio k
+            go : (c : Bool) (r : ℕ) → is_place but r ≡ c → r < t.rows → basic_at t r ≡ k →
+                get_or values k 0ℚ ≡ moved t.rows (table_of t) way j ratio k
             go true r c q z = absurd (but_not r q c z)
             go false r c q z = subst (λ k. get_or values k 0ℚ ≡ moved t.rows (table_of t) way j ratio k) z
                 (moved_all.placed r q q c ∙ ap (λ a. value_at t (basic_at t r) -ℚ entry_at t r j *ℚ a) same

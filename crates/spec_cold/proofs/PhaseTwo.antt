@@ -23,7 +23,8 @@ use Rattle.spec_cold.proofs.Lists.{by_lt, past_row}
 use Rattle.spec_cold.proofs.Priced.{priced_length, priced_agrees}
 
 -- ---- where nothing is stuck, each artificial is 0
-none_of : {A : Type 0} (p : A → Bool) (xs : List A) → list_any p xs ≡ false → (i : ℕ) (d : A) → i < length xs → p (get_or xs i d) ≡ false
+none_of : {A : Type 0} (p : A → Bool) (xs : List A) → list_any p xs ≡ false → (i : ℕ) (d : A) → i < length xs →
+    p (get_or xs i d) ≡ false
 none_of p xs h i d l = by (p (get_or xs i d)) refl
   where
     by : (c : Bool) → p (get_or xs i d) ≡ c → p (get_or xs i d) ≡ false
@@ -31,18 +32,23 @@ none_of p xs h i d l = by (p (get_or xs i d)) refl
     by false e = e
 
 -- where some item passes, there is one by its index
-pub some_of : {A : Type 0} (p : A → Bool) (xs : List A) (d : A) → list_any p xs ≡ true → (i : ℕ) × (i < length xs) × (p (get_or xs i d) ≡ true)
+pub some_of : {A : Type 0} (p : A → Bool) (xs : List A) (d : A) → list_any p xs ≡ true →
+    (i : ℕ) × (i < length xs) × (p (get_or xs i d) ≡ true)
 some_of p [] d h = let z : false ≡ true = h in cc
 some_of p (x ∷ xs) d h = by (p x) refl h (λ h. some_of p xs d h)
   where
-    by : (c : Bool) → p x ≡ c → c || list_any p xs ≡ true → (list_any p xs ≡ true → (i : ℕ) × (i < length xs) × (p (get_or xs i d) ≡ true)) → (i : ℕ) × (i < length (x ∷ xs)) × (p (get_or (x ∷ xs) i d) ≡ true)
+    by : (c : Bool) → p x ≡ c → c || list_any p xs ≡ true →
+        (list_any p xs ≡ true → (i : ℕ) × (i < length xs) × (p (get_or xs i d) ≡ true)) →
+        (i : ℕ) × (i < length (x ∷ xs)) × (p (get_or (x ∷ xs) i d) ≡ true)
     by true e h more = (0, omega arith, e)
     by false e h more = let o = more h in (suc o.0, omega (arith, o.1), o.2)
 
-pub stands_zero : (s : Status) (l u : Option ℚ) (v : ℚ) → l ≡ Some 0ℚ → (u ≡ None) ⊎ (u ≡ Some 0ℚ) → ¬ (s ≡ Basic) → Stands s l u v → v ≡ 0ℚ
+pub stands_zero : (s : Status) (l u : Option ℚ) (v : ℚ) → l ≡ Some 0ℚ → (u ≡ None) ⊎ (u ≡ Some 0ℚ) → ¬ (s ≡ Basic) →
+    Stands s l u v → v ≡ 0ℚ
 stands_zero Basic l u v a b n s = absurd (n refl)
 stands_zero AtLower l u v a b n s = let e : Some 0ℚ ≡ Some v = sym a ∙ s in cc
-stands_zero AtUpper l u v a b n s = ⊎_elim (λ z. let e : None ≡ Some v = sym z ∙ s in cc) (λ z. let e : Some 0ℚ ≡ Some v = sym z ∙ s in cc) b
+stands_zero AtUpper l u v a b n s =
+    ⊎_elim (λ z. let e : None ≡ Some v = sym z ∙ s in cc) (λ z. let e : Some 0ℚ ≡ Some v = sym z ∙ s in cc) b
 stands_zero AtZero l u v a b n s = s.2
 
 -- ---- bounds that are set to 0
@@ -50,12 +56,14 @@ zeroed_length : (n m : ℕ) (bounds : List (Option ℚ)) → length (fixed_at_ze
 zeroed_length n zero bounds = refl
 zeroed_length n (suc m) bounds = length-set (fixed_at_zero n m bounds) (n + m) (Some 0ℚ) ∙ zeroed_length n m bounds
 
-zeroed_before : (n m : ℕ) (bounds : List (Option ℚ)) (k : ℕ) → k < n → get_or (fixed_at_zero n m bounds) k None ≡ get_or bounds k None
+zeroed_before : (n m : ℕ) (bounds : List (Option ℚ)) (k : ℕ) → k < n →
+    get_or (fixed_at_zero n m bounds) k None ≡ get_or bounds k None
 zeroed_before n zero bounds k h = refl
 zeroed_before n (suc m) bounds k h =
     get_or-set_other (fixed_at_zero n m bounds) (n + m) k (Some 0ℚ) None (λ e. let z : ⊥ = omega (arith, h, e) in z) ∙ zeroed_before n m bounds k h
 
-zeroed_after : (n m : ℕ) (bounds : List (Option ℚ)) → n + m ≤ length bounds → (k : ℕ) → n ≤ k → k < n + m → get_or (fixed_at_zero n m bounds) k None ≡ Some 0ℚ
+zeroed_after : (n m : ℕ) (bounds : List (Option ℚ)) → n + m ≤ length bounds → (k : ℕ) → n ≤ k → k < n + m →
+    get_or (fixed_at_zero n m bounds) k None ≡ Some 0ℚ
 zeroed_after n zero bounds all k h l = absurd (let z : ⊥ = omega (arith, h, l) in z)
 zeroed_after n (suc m) bounds all k h l =
     by_eq k (n + m)
@@ -82,7 +90,8 @@ module _ (m n : ℕ) (f : Matrix) (cost : ℕ → ℚ) (b : Bounds) (t : Tableau
       (none_of (λ k. is_artificial t k && not (eq_ℚ (value_at t k) 0ℚ)) t.basic h p.0 0 (omega (arith, p.1, s.whole.all_basic, s.rows)))))
       (λ e. stands_zero (status_at t k) (b.lower k) (b.upper k) (value_at t k) (s.bounds.zero k (after_all k l) (in_all k l')) (s.bounds.top k (after_all k l) (in_all k l')) e (s.tableau.stands k l'))
     where
-      zero : (k : ℕ) (d : Bool) → is_artificial t k ≡ true → eq_ℚ (value_at t k) 0ℚ ≡ d → is_artificial t k && not (eq_ℚ (value_at t k) 0ℚ) ≡ false → value_at t k ≡ 0ℚ
+      zero : (k : ℕ) (d : Bool) → is_artificial t k ≡ true → eq_ℚ (value_at t k) 0ℚ ≡ d →
+          is_artificial t k && not (eq_ℚ (value_at t k) 0ℚ) ≡ false → value_at t k ≡ 0ℚ
       zero k true a e h = eq_if (value_at t k) 0ℚ e
       zero k false a e h = let z : true ≡ false = sym (ap₂ (λ a d. a && not d) a e) ∙ h in cc
 
@@ -91,13 +100,16 @@ module _ (m n : ℕ) (f : Matrix) (cost : ℕ → ℚ) (b : Bounds) (t : Tableau
     abbrev u : Tableau
     u = with_reduced (without_artificials t) reduced
 
-    read_before : (bounds : List (Option ℚ)) → length bounds ≡ all_columns t → (k : ℕ) → k < form_columns t → get_or (fixed_at_zero (form_columns t) t.rows bounds) k None ≡ get_or bounds k None
+    read_before : (bounds : List (Option ℚ)) → length bounds ≡ all_columns t → (k : ℕ) → k < form_columns t →
+        get_or (fixed_at_zero (form_columns t) t.rows bounds) k None ≡ get_or bounds k None
     read_before bounds h k l = zeroed_before (form_columns t) t.rows bounds k l
 
-    read_after : (bounds : List (Option ℚ)) → length bounds ≡ all_columns t → (k : ℕ) → form_columns t ≤ k → k < all_columns t → get_or (fixed_at_zero (form_columns t) t.rows bounds) k None ≡ Some 0ℚ
+    read_after : (bounds : List (Option ℚ)) → length bounds ≡ all_columns t → (k : ℕ) → form_columns t ≤ k →
+        k < all_columns t → get_or (fixed_at_zero (form_columns t) t.rows bounds) k None ≡ Some 0ℚ
     read_after bounds h k l l' = zeroed_after (form_columns t) t.rows bounds (omega (arith, h)) k l l'
 
-    read_length : (bounds : List (Option ℚ)) → length bounds ≡ all_columns t → length (fixed_at_zero (form_columns t) t.rows bounds) ≡ all_columns t
+    read_length : (bounds : List (Option ℚ)) → length bounds ≡ all_columns t →
+        length (fixed_at_zero (form_columns t) t.rows bounds) ≡ all_columns t
     read_length bounds h = zeroed_length (form_columns t) t.rows bounds ∙ h
 
     lower_same : (k : ℕ) → k < form_columns t → lower_at u k ≡ b.lower k
@@ -107,7 +119,8 @@ module _ (m n : ℕ) (f : Matrix) (cost : ℕ → ℚ) (b : Bounds) (t : Tableau
     upper_same k l = read_before t.upper s.whole.all_upper k l ∙ s.bounds.upper k l
 
     module _ (zero : (k : ℕ) → n + m ≤ k → k < n + m + m → value_at t k ≡ 0ℚ) (reduced_length : length reduced ≡ all_columns t) (costs : ℕ → ℚ) (agrees : AgreesWith m f (basic_at t) costs (reduced_at u)) where
-      zero_stands : (x : Status) (l r : Option ℚ) (v : ℚ) → l ≡ Some 0ℚ → v ≡ 0ℚ → Stands x l r v → Stands x (Some 0ℚ) (Some 0ℚ) v
+      zero_stands : (x : Status) (l r : Option ℚ) (v : ℚ) → l ≡ Some 0ℚ → v ≡ 0ℚ → Stands x l r v →
+          Stands x (Some 0ℚ) (Some 0ℚ) v
       zero_stands Basic l r v e z h = tt
       zero_stands AtLower l r v e z h = ap Some (sym z)
       zero_stands AtUpper l r v e z h = ap Some (sym z)
@@ -187,5 +200,6 @@ second_phase limit form m n f cost b t u s free few h =
           (λ i l. in_all m n f cost b t s (basic_at t i) (s.tableau.in_range i (omega (arith, l, s.rows))))));
       lower = λ k l. lower_same m n f cost b t s o.0 k (before_all m n f cost b t s k l);
       upper = λ k l. upper_same m n f cost b t s o.0 k (before_all m n f cost b t s k l);
-      zero = λ k l q. (read_after m n f cost b t s o.0 t.lower s.whole.all_lower k (after_all m n f cost b t s k l) (in_all m n f cost b t s k q), read_after m n f cost b t s o.0 t.upper s.whole.all_upper k (after_all m n f cost b t s k l) (in_all m n f cost b t s k q));
+      zero =
+          λ k l q. (read_after m n f cost b t s o.0 t.lower s.whole.all_lower k (after_all m n f cost b t s k l) (in_all m n f cost b t s k q), read_after m n f cost b t s o.0 t.upper s.whole.all_upper k (after_all m n f cost b t s k l) (in_all m n f cost b t s k q));
     })

@@ -60,12 +60,14 @@ module _ (limit : Option ℕ) (m : Model) (ls : List (Option ℚ × Option ℚ))
     first_cost_at = cost_at (first_costs f s.starts)
 
     first_bounds : HasBounds f (bounds_of t)
-    first_bounds = record { lower = s.lower; upper = s.upper; entering = λ k l. s.tableau.bounds.entering k (omega (arith, l, s.tableau.rows, s.tableau.cols)) }
+    first_bounds =
+        record { lower = s.lower; upper = s.upper; entering = λ k l. s.tableau.bounds.entering k (omega (arith, l, s.tableau.rows, s.tableau.cols)) }
 
     -- what is known of phase one's end
     record IsFirst (one : PrimalEnded) : Type 0 where
       after : IsTableauOf r w F first_cost_at (bounds_of t) one.tableau
-      none : wants_phase_one t ≡ true → (way : Way) (k : ℕ) → k < w + r + r → ¬ (IsEligible (bounds_of t) (table_of one.tableau) way k)
+      none : wants_phase_one t ≡ true → (way : Way) (k : ℕ) → k < w + r + r →
+          ¬ (IsEligible (bounds_of t) (table_of one.tableau) way k)
       not_wanted : wants_phase_one t ≡ false → is_stuck one.tableau ≡ false
       few_used : one.used < 3 ^ (w + r + r)
 
@@ -76,22 +78,27 @@ module _ (limit : Option ℕ) (m : Model) (ls : List (Option ℚ × Option ℚ))
         by false p = p
         by true p =
             let o = some_of (λ k. is_artificial t k && not (eq_ℚ (value_at t k) 0ℚ)) t.basic 0 p in
-            let z : true ≡ false = sym (list_any_at (λ k. is_artificial t k) t.basic o.0 0 o.1 (both_true (is_artificial t (basic_at t o.0)) (not (eq_ℚ (value_at t (basic_at t o.0)) 0ℚ)) o.2).0) ∙ e in cc
+            let z : true ≡ false = sym (list_any_at (λ k. is_artificial t k) t.basic o.0 0 o.1 (both_true (is_artificial t (basic_at t o.0)) (not (eq_ℚ (value_at t (basic_at t o.0)) 0ℚ)) o.2).0) ∙ e in
+            cc
 
     first_ends : (budget : ℕ) (one : PrimalEnded) → phase_one limit budget t ≡ Ok one → IsFirst one
     first_ends budget one ok = by (wants_phase_one t) refl ok
       where
-        by : (c : Bool) → wants_phase_one t ≡ c → cond c (run_from limit budget 0 t) (Ok (record { end = Optimal; tableau = t; used = 0 })) ≡ Ok one → IsFirst one
+        by : (c : Bool) → wants_phase_one t ≡ c →
+            cond c (run_from limit budget 0 t) (Ok (record { end = Optimal; tableau = t; used = 0 })) ≡ Ok one →
+            IsFirst one
         by true e ok =
             let o : IsEnd limit r w F first_cost_at (bounds_of t) t 0 one = run_ends limit r w F first_cost_at (bounds_of t) some_label budget 0 t one s.tableau ok in
             record {
               after = o.after;
               none = λ _. none one.end o.end;
               not_wanted = λ z. let y : true ≡ false = sym e ∙ z in cc;
-              few_used = (let q : o.length < 3 ^ (w + r + r) = few r w F first_cost_at (bounds_of t) t o.length s.tableau o.walk in let z : one.used ≡ o.length = o.count ∙ (let y : 0 + o.length ≡ o.length = omega arith in y) in subst (λ k. k < 3 ^ (w + r + r)) (sym z) q);
+              few_used =
+                  (let q : o.length < 3 ^ (w + r + r) = few r w F first_cost_at (bounds_of t) t o.length s.tableau o.walk in let z : one.used ≡ o.length = o.count ∙ (let y : 0 + o.length ≡ o.length = omega arith in y) in subst (λ k. k < 3 ^ (w + r + r)) (sym z) q);
             }
           where
-            none : (end : PrimalEnd) → IsMeant r w F first_cost_at (bounds_of t) limit one.tableau (End end) → (way : Way) (k : ℕ) → k < w + r + r → ¬ (IsEligible (bounds_of t) (table_of one.tableau) way k)
+            none : (end : PrimalEnd) → IsMeant r w F first_cost_at (bounds_of t) limit one.tableau (End end) →
+                (way : Way) (k : ℕ) → k < w + r + r → ¬ (IsEligible (bounds_of t) (table_of one.tableau) way k)
             none Optimal m = m
             none (Unbounded j up) g =
                 absurd (never_goes_on m ls h s.starts s.all (bounds_of t) first_bounds s.artificial (table_of one.tableau)
@@ -102,7 +109,8 @@ module _ (limit : Option ℕ) (m : Model) (ls : List (Option ℚ × Option ℚ))
               after = s.tableau;
               none = λ y. let x : false ≡ true = sym e ∙ y in cc;
               not_wanted = λ _. never_stuck e;
-              few_used = few r w F first_cost_at (bounds_of t) t 0 s.tableau (stand_still r w (bounds_of t) t some_label);
+              few_used =
+                  few r w F first_cost_at (bounds_of t) t 0 s.tableau (stand_still r w (bounds_of t) t some_label);
             })
 
     wanted_where_stuck : (one : PrimalEnded) → IsFirst one → is_stuck one.tableau ≡ true → wants_phase_one t ≡ true
@@ -113,7 +121,8 @@ module _ (limit : Option ℕ) (m : Model) (ls : List (Option ℚ × Option ℚ))
         by false e = let z : true ≡ false = sym p ∙ o.not_wanted e in cc
 
     -- an artificial that is not 0
-    stuck_shows : (one : PrimalEnded) → IsFirst one → is_stuck one.tableau ≡ true → Shows m (certificate.Infeasible (multipliers one.tableau))
+    stuck_shows : (one : PrimalEnded) → IsFirst one → is_stuck one.tableau ≡ true →
+        Shows m (certificate.Infeasible (multipliers one.tableau))
     stuck_shows one o p =
         let u : Tableau = one.tableau in
         let at = some_of (λ k. is_artificial u k && not (eq_ℚ (value_at u k) 0ℚ)) u.basic 0 p in
@@ -136,7 +145,8 @@ module _ (limit : Option ℕ) (m : Model) (ls : List (Option ℚ × Option ℚ))
     -- ---- phase two
     module _ (one : PrimalEnded) (o : IsFirst one) (free : is_stuck one.tableau ≡ false) (u : Tableau) (ok : phase_two_run limit f one.tableau ≡ Ok u) where
       two : IsSecond r w F f.cost (bounds_of t) u
-      two = second_phase limit f r w F first_cost_at (bounds_of t) one.tableau u o.after free (omega (arith, cost_length m ls h)) ok
+      two =
+          second_phase limit f r w F first_cost_at (bounds_of t) one.tableau u o.after free (omega (arith, cost_length m ls h)) ok
 
       second_bounds : HasBounds f (bounds_of u)
       second_bounds = record {
@@ -148,7 +158,8 @@ module _ (limit : Option ℕ) (m : Model) (ls : List (Option ℚ × Option ℚ))
       second_fixed : (i : ℕ) → i < r → (lower_at u (w + r + i) ≡ Some 0ℚ) × (upper_at u (w + r + i) ≡ Some 0ℚ)
       second_fixed i l = two.zero (w + r + i) (omega arith) (omega (arith, l))
 
-      end_shows : (e : PrimalEnded) (used : ℕ) → IsEnd limit r w F (cost_at f.cost) (bounds_of u) u used e → Shows m (certificate_at e.tableau e.end)
+      end_shows : (e : PrimalEnded) (used : ℕ) → IsEnd limit r w F (cost_at f.cost) (bounds_of u) u used e →
+          Shows m (certificate_at e.tableau e.end)
       end_shows e used d = primal_shows m ls h s.starts (bounds_of u) second_bounds second_fixed limit e d.after d.end
 
   -- ---- both phases
@@ -161,8 +172,13 @@ module _ (limit : Option ℕ) (m : Model) (ls : List (Option ℚ × Option ℚ))
       let one : IsFirst a.0 s c.0 = first_ends a.0 s budget c.0 c.1 in
       by a.0 s c.0 one (is_stuck c.0.tableau) refl c.2
     where
-      by : (t : Tableau) (s : Started f t) (one : PrimalEnded) → IsFirst t s one → (c : Bool) → is_stuck one.tableau ≡ c → cond c (Ok (Infeasible one.tableau one.used)) (phase_two limit budget f one) ≡ Ok end → Shows m (certificate_of end)
-      by t s one o true e ok = let z : Infeasible one.tableau one.used ≡ end = cc in subst (λ end. Shows m (certificate_of end)) z (stuck_shows t s one o e)
+      by : (t : Tableau) (s : Started f t) (one : PrimalEnded) → IsFirst t s one → (c : Bool) →
+          is_stuck one.tableau ≡ c →
+          cond c (Ok (Infeasible one.tableau one.used)) (phase_two limit budget f one) ≡ Ok end →
+          Shows m (certificate_of end)
+      by t s one o true e ok =
+          let z : Infeasible one.tableau one.used ≡ end = cc in
+          subst (λ end. Shows m (certificate_of end)) z (stuck_shows t s one o e)
       by t s one o false e ok =
           let a = then_ok (refused_as stop.Past (phase_two_run limit f one.tableau)) _ end ok in
           let p = refused_ok stop.Past (phase_two_run limit f one.tableau) a.0 a.1 in
@@ -182,7 +198,8 @@ module _ (limit : Option ℕ) (m : Model) (ls : List (Option ℚ × Option ℚ))
   EndsOn (Infeasible t used) = Unit {0}
   EndsOn (Finished e) = FinishedOn e
 
-  finish_on : (t : Tableau) (s : Started f t) (one : PrimalEnded) → IsFirst t s one → is_stuck one.tableau ≡ false → (budget : ℕ) (end : PhasesEnd) → phase_two limit budget f one ≡ Ok end → EndsOn end
+  finish_on : (t : Tableau) (s : Started f t) (one : PrimalEnded) → IsFirst t s one → is_stuck one.tableau ≡ false →
+      (budget : ℕ) (end : PhasesEnd) → phase_two limit budget f one ≡ Ok end → EndsOn end
   finish_on t s one o p budget end ok =
       let a = then_ok (refused_as stop.Past (phase_two_run limit f one.tableau)) _ end ok in
       let q = refused_ok stop.Past (phase_two_run limit f one.tableau) a.0 a.1 in
@@ -200,24 +217,32 @@ module _ (limit : Option ℕ) (m : Model) (ls : List (Option ℚ × Option ℚ))
       let one : IsFirst a.0 s c.0 = first_ends a.0 s budget c.0 c.1 in
       by a.0 s c.0 one (is_stuck c.0.tableau) refl c.2
     where
-      by : (t : Tableau) (s : Started f t) (one : PrimalEnded) → IsFirst t s one → (c : Bool) → is_stuck one.tableau ≡ c → cond c (Ok (Infeasible one.tableau one.used)) (phase_two limit budget f one) ≡ Ok end → EndsOn end
+      by : (t : Tableau) (s : Started f t) (one : PrimalEnded) → IsFirst t s one → (c : Bool) →
+          is_stuck one.tableau ≡ c →
+          cond c (Ok (Infeasible one.tableau one.used)) (phase_two limit budget f one) ≡ Ok end → EndsOn end
       by t s one o true p ok = let z : Infeasible one.tableau one.used ≡ end = cc in subst EndsOn z tt
       by t s one o false p ok = finish_on t s one o p budget end ok
 
   -- ---- a budget that is enough
-  enough_first : (t : Tableau) (s : Started f t) (budget : ℕ) → 3 ^ (w + r + r) ≤ budget → phase_one limit budget t ≢ Err stop.Spent
+  enough_first : (t : Tableau) (s : Started f t) (budget : ℕ) → 3 ^ (w + r + r) ≤ budget →
+      phase_one limit budget t ≢ Err stop.Spent
   enough_first t s budget enough ok = by (wants_phase_one t) ok
     where
-      by : (c : Bool) → cond c (run_from limit budget 0 t) (Ok (record { end = Optimal; tableau = t; used = 0 })) ≡ Err stop.Spent → ⊥
+      by : (c : Bool) →
+          cond c (run_from limit budget 0 t) (Ok (record { end = Optimal; tableau = t; used = 0 })) ≡ Err stop.Spent → ⊥
       by true ok =
           let q : budget < 3 ^ (w + r + r) = few r w (F t s) (first_cost_at t s) (bounds_of t) t budget s.tableau (run_spent limit r w (F t s) (first_cost_at t s) (bounds_of t) some_label budget 0 t s.tableau ok) in
           omega (arith, q, enough)
-      by false ok = let z : ◌≡◌ {A = Result PrimalEnded (RunStop ℚ)} (Ok (record { end = Optimal; tableau = t; used = 0 })) (Err stop.Spent) = ok in cc
+      by false ok =
+          let z : ◌≡◌ {A = Result PrimalEnded (RunStop ℚ)} (Ok (record { end = Optimal; tableau = t; used = 0 })) (Err stop.Spent) = ok in
+          cc
 
-  enough_second : (t : Tableau) (s : Started f t) (one : PrimalEnded) → IsFirst t s one → is_stuck one.tableau ≡ false → (budget : ℕ) → 2 * 3 ^ (w + r + r) ≤ budget → phase_two limit budget f one ≢ Err stop.Spent
+  enough_second : (t : Tableau) (s : Started f t) (one : PrimalEnded) → IsFirst t s one → is_stuck one.tableau ≡ false →
+      (budget : ℕ) → 2 * 3 ^ (w + r + r) ≤ budget → phase_two limit budget f one ≢ Err stop.Spent
   enough_second t s one o free budget enough ok = by (then_err (refused_as stop.Past (phase_two_run limit f one.tableau)) _ stop.Spent ok)
     where
-      go : (u : Tableau) → phase_two_run limit f one.tableau ≡ Ok u → (run_from limit (budget - one.used) one.used u >>= λ two. Ok (Finished two)) ≡ Err stop.Spent → ⊥
+      go : (u : Tableau) → phase_two_run limit f one.tableau ≡ Ok u →
+          (run_from limit (budget - one.used) one.used u >>= λ two. Ok (Finished two)) ≡ Err stop.Spent → ⊥
       go u p ok = finish (then_err (run_from limit (budget - one.used) one.used u) (λ two. Ok (Finished two)) stop.Spent ok)
         where
           finish : ThenErr (run_from limit (budget - one.used) one.used u) (λ two. Ok (Finished two)) stop.Spent → ⊥
@@ -227,9 +252,11 @@ module _ (limit : Option ℕ) (m : Model) (ls : List (Option ℚ × Option ℚ))
               few r w (F t s) (cost_at f.cost) (bounds_of u) u (budget - one.used) z.tableau (run_spent limit r w (F t s) (cost_at f.cost) (bounds_of u) some_label (budget - one.used) one.used u z.tableau e) in
               let x : one.used < 3 ^ (w + r + r) = o.few_used in
               omega (arith, q, x, enough)
-          finish (second e p ok) = let z : ◌≡◌ {A = Result PhasesEnd (RunStop ℚ)} (Ok (Finished e)) (Err stop.Spent) = ok in cc
+          finish (second e p ok) =
+              let z : ◌≡◌ {A = Result PhasesEnd (RunStop ℚ)} (Ok (Finished e)) (Err stop.Spent) = ok in cc
 
-      by : ThenErr (refused_as stop.Past (phase_two_run limit f one.tableau)) (λ u. run_from limit (budget - one.used) one.used u >>= λ two. Ok (Finished two)) stop.Spent → ⊥
+      by : ThenErr (refused_as stop.Past (phase_two_run limit f one.tableau)) (λ u. run_from limit (budget - one.used) one.used u >>= λ two. Ok (Finished two)) stop.Spent →
+          ⊥
       by (first e) = never_spent (phase_two_run limit f one.tableau) e
       by (second u e ok) = go u (refused_ok stop.Past (phase_two_run limit f one.tableau) u e) ok
 
@@ -237,15 +264,22 @@ module _ (limit : Option ℕ) (m : Model) (ls : List (Option ℚ × Option ℚ))
   unfolding phases_run
   phases_enough budget enough ok = begin (then_err (refused_as stop.Past (start_of limit f)) _ stop.Spent ok)
     where
-      ends : (t : Tableau) (s : Started f t) (one : PrimalEnded) → IsFirst t s one → (c : Bool) → is_stuck one.tableau ≡ c → cond c (Ok (Infeasible one.tableau one.used)) (phase_two limit budget f one) ≡ Err stop.Spent → ⊥
-      ends t s one o true e ok = let z : ◌≡◌ {A = Result PhasesEnd (RunStop ℚ)} (Ok (Infeasible one.tableau one.used)) (Err stop.Spent) = ok in cc
+      ends : (t : Tableau) (s : Started f t) (one : PrimalEnded) → IsFirst t s one → (c : Bool) →
+          is_stuck one.tableau ≡ c →
+          cond c (Ok (Infeasible one.tableau one.used)) (phase_two limit budget f one) ≡ Err stop.Spent → ⊥
+      ends t s one o true e ok =
+          let z : ◌≡◌ {A = Result PhasesEnd (RunStop ℚ)} (Ok (Infeasible one.tableau one.used)) (Err stop.Spent) = ok in
+          cc
       ends t s one o false e ok = enough_second t s one o e budget enough ok
 
-      goes : (t : Tableau) → Started f t → ThenErr (phase_one limit budget t) (λ one. cond (is_stuck one.tableau) (Ok (Infeasible one.tableau one.used)) (phase_two limit budget f one)) stop.Spent → ⊥
+      goes : (t : Tableau) → Started f t →
+          ThenErr (phase_one limit budget t) (λ one. cond (is_stuck one.tableau) (Ok (Infeasible one.tableau one.used)) (phase_two limit budget f one)) stop.Spent →
+          ⊥
       goes t s (first e) = enough_first t s budget (omega (arith, enough)) e
       goes t s (second one e ok) = ends t s one (first_ends t s budget one e) (is_stuck one.tableau) refl ok
 
-      begin : ThenErr (refused_as stop.Past (start_of limit f)) (λ t. phase_one limit budget t >>= λ one. cond (is_stuck one.tableau) (Ok (Infeasible one.tableau one.used)) (phase_two limit budget f one)) stop.Spent → ⊥
+      begin : ThenErr (refused_as stop.Past (start_of limit f)) (λ t. phase_one limit budget t >>= λ one. cond (is_stuck one.tableau) (Ok (Infeasible one.tableau one.used)) (phase_two limit budget f one)) stop.Spent →
+          ⊥
       begin (first e) = never_spent (start_of limit f) e
       begin (second t e ok) =
           goes t (start_is_tableau limit f t (formed_proper m ls h) (refused_ok stop.Past (start_of limit f) t e))

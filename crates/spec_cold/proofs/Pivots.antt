@@ -36,13 +36,15 @@ by_test false f g = g refl
 
 -- a column that enters is no artificial
 pub enters_before : (b : Bounds) (t : Tableau) (k : ℕ) → KeepsBounds b t → b.barred k ≡ false → k < form_columns t
-enters_before b t k keeps h = by_lt k (form_columns t) (λ l. l) (λ l. let e : true ≡ false = sym (keeps.barred k l) ∙ h in cc)
+enters_before b t k keeps h =
+    by_lt k (form_columns t) (λ l. l) (λ l. let e : true ≡ false = sym (keeps.barred k l) ∙ h in cc)
 
 -- the costs that a pivot leaves
 repriced_is : (limit : Option ℕ) (n : ℕ) (reduced : List ℚ) (rows : List (List ℚ)) (p j : ℕ) (out : List ℚ) → repriced_run limit n reduced rows p j ≡ Ok out
     → IsListOf n (λ k. less_product limit (get_or reduced j 0ℚ) (at_place rows p k) (get_or reduced k 0ℚ)) 0ℚ out
 unfolding repriced_run
-repriced_is limit n reduced rows p j out h = list_ok n (λ k. less_product limit (get_or reduced j 0ℚ) (at_place rows p k) (get_or reduced k 0ℚ)) 0ℚ out h
+repriced_is limit n reduced rows p j out h =
+    list_ok n (λ k. less_product limit (get_or reduced j 0ℚ) (at_place rows p k) (get_or reduced k 0ℚ)) 0ℚ out h
 
 module _ (limit : Option ℕ) (t : Tableau) (w : IsWhole t) (f : Matrix) (cost : ℕ → ℚ) (b : Bounds) (g : IsTableau t.rows (all_columns t) f cost b (table_of t)) (keeps : KeepsBounds b t)
     (way : Way) (j p : ℕ) (ratio : ℚ) (to : Status) (v : Exchanges t.rows (all_columns t) b (table_of t) way j p ratio to) (open_ : b.barred j ≡ false) where
@@ -85,25 +87,30 @@ module _ (limit : Option ℕ) (t : Tableau) (w : IsWhole t) (f : Matrix) (cost :
         by true = length-set bounds q (Some 0ℚ)
         by false = refl
 
-    leave_other : (bounds : List (Option ℚ)) (k : ℕ) → k ≢ q → get_or (leave_bound t q bounds) k None ≡ get_or bounds k None
+    leave_other : (bounds : List (Option ℚ)) (k : ℕ) → k ≢ q →
+        get_or (leave_bound t q bounds) k None ≡ get_or bounds k None
     leave_other bounds k d = by (is_artificial t q)
       where
         by : (c : Bool) → get_or (cond c (set bounds q (Some 0ℚ)) bounds) k None ≡ get_or bounds k None
         by true = get_or-set_other bounds q k (Some 0ℚ) None d
         by false = refl
 
-    leave_same : (bounds : List (Option ℚ)) → q < length bounds → form_columns t ≤ q → get_or (leave_bound t q bounds) q None ≡ Some 0ℚ
+    leave_same : (bounds : List (Option ℚ)) → q < length bounds → form_columns t ≤ q →
+        get_or (leave_bound t q bounds) q None ≡ Some 0ℚ
     leave_same bounds h l = rw (le-leb (form_columns t) q l) (get_or-set_same bounds q (Some 0ℚ) None h)
 
-    leave_before : (bounds : List (Option ℚ)) → q < form_columns t → get_or (leave_bound t q bounds) q None ≡ get_or bounds q None
+    leave_before : (bounds : List (Option ℚ)) → q < form_columns t →
+        get_or (leave_bound t q bounds) q None ≡ get_or bounds q None
     leave_before bounds l = rw (lt-leb (form_columns t) q l) refl
 
     u_whole : IsWhole u
     u_whole = record {
       all_rows = turned_rows limit t.rows (all_columns t) t.entries w.all_rows w.whole_rows p j v.position rows rows_ok;
-      whole_rows = turned_whole limit t.rows (all_columns t) t.entries w.all_rows w.whole_rows p j v.position rows rows_ok;
+      whole_rows =
+          turned_whole limit t.rows (all_columns t) t.entries w.all_rows w.whole_rows p j v.position rows rows_ok;
       all_basic = length-set t.basic p j ∙ w.all_basic;
-      all_values = length-set (set values j x) q (stand to (lower_at t q) (upper_at t q)) ∙ length-set values j x ∙ values_length;
+      all_values =
+          length-set (set values j x) q (stand to (lower_at t q) (upper_at t q)) ∙ length-set values j x ∙ values_length;
       all_reduced = reduced_list.all;
       all_statuses = length-set (set t.status q to) j Basic ∙ length-set t.status q to ∙ w.all_statuses;
       all_lower = leave_length t.lower ∙ w.all_lower;
@@ -155,7 +162,8 @@ module _ (limit : Option ℕ) (t : Tableau) (w : IsWhole t) (f : Matrix) (cost :
         value_is reduced_is status_is
 
     -- where a column stands afterwards
-    by_status : {P : Type 0} (k : ℕ) → (k ≡ j → P) → (k ≡ q → status_at u k ≡ to → P) → (k ≢ q → status_at u k ≡ status_at t k → P) → P
+    by_status : {P : Type 0} (k : ℕ) → (k ≡ j → P) → (k ≡ q → status_at u k ≡ to → P) →
+        (k ≢ q → status_at u k ≡ status_at t k → P) → P
     by_status {P} k f h i = by_eq k j f (λ o. by_eq k q (λ e. h e (status_is k ∙ off o ∙ rw (eq-eqb k q e) refl)) (λ d. i d (status_is k ∙ off o ∙ rw (ne_eqb k q d) refl)))
       where
         off : k ≢ j → status_set (status_set (status_at t) q to) j Basic k ≡ status_set (status_at t) q to k
@@ -186,7 +194,8 @@ module _ (limit : Option ℕ) (t : Tableau) (w : IsWhole t) (f : Matrix) (cost :
     leaves : Leaves b t u (after_pivot t.rows (table_of t) way j p ratio to)
     leaves = record { rows = refl; cols = refl; whole = u_whole; table = table_is; bounds = u_bounds }
 
-  pub pivot_leaves : (u : Tableau) → pivot_run limit t p j (sign way *ℚ ratio) to ≡ Ok u → Leaves b t u (after_pivot t.rows (table_of t) way j p ratio to)
+  pub pivot_leaves : (u : Tableau) → pivot_run limit t p j (sign way *ℚ ratio) to ≡ Ok u →
+      Leaves b t u (after_pivot t.rows (table_of t) way j p ratio to)
   unfolding pivot_run shifted_run
   pivot_leaves u h =
       let a = then_ok (moved_run limit t j (sign way *ℚ ratio) (Some p)) _ u h in

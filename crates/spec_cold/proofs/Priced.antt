@@ -23,7 +23,8 @@ module _ (limit : Option ℕ) (t : Tableau) (costs reduced : List ℚ) (ok : pri
   pub priced_length : length reduced ≡ all_columns t
   priced_length = list.all
 
-  less_rows : (k : ℕ) → k < all_columns t → get_or reduced k 0ℚ ≡ cost_at costs k -ℚ sum_below t.rows (λ i. cost_at costs (basic_at t i) *ℚ entry_at t i k)
+  less_rows : (k : ℕ) → k < all_columns t →
+      get_or reduced k 0ℚ ≡ cost_at costs k -ℚ sum_below t.rows (λ i. cost_at costs (basic_at t i) *ℚ entry_at t i k)
   less_rows k h =
       steps_ok (λ i d. d ≡ cost_at costs k -ℚ sum_below i (λ i. cost_at costs (basic_at t i) *ℚ entry_at t i k)) t.rows
       (λ i d. less_product limit (cost_at costs (basic_at t i)) (entry_at t i k) d) (cost_at costs k) (get_or reduced k 0ℚ) (list.each k h)
@@ -37,7 +38,8 @@ module _ (limit : Option ℕ) (t : Tableau) (costs reduced : List ℚ) (ok : pri
       more c s p = simp ring
 
   module _ (few : length costs ≤ all_columns t) (past : (i k : ℕ) → i < t.rows → all_columns t ≤ k → entry_at t i k ≡ 0ℚ) where
-    less_all : (k : ℕ) → get_or reduced k 0ℚ ≡ cost_at costs k -ℚ sum_below t.rows (λ i. cost_at costs (basic_at t i) *ℚ entry_at t i k)
+    less_all : (k : ℕ) →
+        get_or reduced k 0ℚ ≡ cost_at costs k -ℚ sum_below t.rows (λ i. cost_at costs (basic_at t i) *ℚ entry_at t i k)
     less_all k =
         by_lt k (all_columns t) (less_rows k)
         (λ h. get_or_past reduced k 0ℚ (omega (arith, priced_length, h))
@@ -52,5 +54,6 @@ module _ (limit : Option ℕ) (t : Tableau) (costs reduced : List ℚ) (ok : pri
           (sum_below_same t.rows _ _ (λ i l. ap (λ a. cost_at costs (basic_at t i) *ℚ a) (sp.1 i k l))
           ∙ exchange t.rows t.rows (λ i. cost_at costs (basic_at t i)) (λ r. f r k) sp.0
           ∙ sum_below_same t.rows _ _ (λ r _. *ℚ_comm (f r k) _));
-      at_basic = λ i h. less_all (basic_at t i) ∙ ap (λ s. cost_at costs (basic_at t i) -ℚ s) (weight t.rows (entry_at t) (basic_at t) units (λ i. cost_at costs (basic_at t i)) i h) ∙ +ℚ_neg _;
+      at_basic =
+          λ i h. less_all (basic_at t i) ∙ ap (λ s. cost_at costs (basic_at t i) -ℚ s) (weight t.rows (entry_at t) (basic_at t) units (λ i. cost_at costs (basic_at t i)) i h) ∙ +ℚ_neg _;
     }

@@ -21,27 +21,40 @@ pub record AreLimits (l : Limits) (p : Option ℚ × Option ℚ) : Type 0 where
 abbrev Pair : Type 0
 Pair = Option ℚ × Option ℚ
 
-limits_by_ok : (limit : Option _) (k : Kind) (b : ℚ) (r : Option ℚ) (p : Pair) → form.limits_by limit k b r ≡ Ok p → AreLimits (limits_by k b r) p
-limits_by_ok limit L b None p h = let z : ◌≡◌ {A = Pair} (None, Some b) p = cc in subst (AreLimits (limits_by L b None)) z (record { lower = refl; upper = refl })
+limits_by_ok : (limit : Option _) (k : Kind) (b : ℚ) (r : Option ℚ) (p : Pair) → form.limits_by limit k b r ≡ Ok p →
+    AreLimits (limits_by k b r) p
+limits_by_ok limit L b None p h =
+    let z : ◌≡◌ {A = Pair} (None, Some b) p = cc in
+    subst (AreLimits (limits_by L b None)) z (record { lower = refl; upper = refl })
 limits_by_ok limit L b (Some r) p h =
     let o = then_ok (difference_run limit b (abs_ℚ r)) (λ a. Ok (Some a, Some b)) p h in
     let z : ◌≡◌ {A = Pair} (Some o.0, Some b) p = cc in
     subst (AreLimits (limits_by L b (Some r))) z (record { lower = ap Some (difference_ok limit b (abs_ℚ r) o.0 o.1); upper = refl })
-limits_by_ok limit G b None p h = let z : ◌≡◌ {A = Pair} (Some b, None) p = cc in subst (AreLimits (limits_by G b None)) z (record { lower = refl; upper = refl })
+limits_by_ok limit G b None p h =
+    let z : ◌≡◌ {A = Pair} (Some b, None) p = cc in
+    subst (AreLimits (limits_by G b None)) z (record { lower = refl; upper = refl })
 limits_by_ok limit G b (Some r) p h =
     let o = then_ok (sum_run limit b (abs_ℚ r)) (λ c. Ok (Some b, Some c)) p h in
     let z : ◌≡◌ {A = Pair} (Some b, Some o.0) p = cc in
     subst (AreLimits (limits_by G b (Some r))) z (record { lower = refl; upper = ap Some (sum_ok limit b (abs_ℚ r) o.0 o.1) })
-limits_by_ok limit E b None p h = let z : ◌≡◌ {A = Pair} (Some b, Some b) p = cc in subst (AreLimits (limits_by E b None)) z (record { lower = refl; upper = refl })
+limits_by_ok limit E b None p h =
+    let z : ◌≡◌ {A = Pair} (Some b, Some b) p = cc in
+    subst (AreLimits (limits_by E b None)) z (record { lower = refl; upper = refl })
 limits_by_ok limit E b (Some r) p h =
     let o = then_ok (sum_run limit b r) (λ c. Ok (cond (lt_ℚ r 0ℚ) (Some c, Some b) (Some b, Some c))) p h in
     go (lt_ℚ r 0ℚ) o.0 (sum_ok limit b r o.0 o.1) o.2
   where
-    go : (c : Bool) (x : ℚ) → x ≡ b +ℚ r → ◌≡◌ {A = Run Pair} (Ok (cond c (Some x, Some b) (Some b, Some x))) (Ok p) → AreLimits (cond c (from_to (b +ℚ r) b) (from_to b (b +ℚ r))) p
-    go true x e h = let z : ◌≡◌ {A = Pair} (Some x, Some b) p = cc in subst (AreLimits (from_to (b +ℚ r) b)) z (record { lower = ap Some e; upper = refl })
-    go false x e h = let z : ◌≡◌ {A = Pair} (Some b, Some x) p = cc in subst (AreLimits (from_to b (b +ℚ r))) z (record { lower = refl; upper = ap Some e })
+    go : (c : Bool) (x : ℚ) → x ≡ b +ℚ r → ◌≡◌ {A = Run Pair} (Ok (cond c (Some x, Some b) (Some b, Some x))) (Ok p) →
+        AreLimits (cond c (from_to (b +ℚ r) b) (from_to b (b +ℚ r))) p
+    go true x e h =
+        let z : ◌≡◌ {A = Pair} (Some x, Some b) p = cc in
+        subst (AreLimits (from_to (b +ℚ r) b)) z (record { lower = ap Some e; upper = refl })
+    go false x e h =
+        let z : ◌≡◌ {A = Pair} (Some b, Some x) p = cc in
+        subst (AreLimits (from_to b (b +ℚ r))) z (record { lower = refl; upper = ap Some e })
 
-pub limits_ok : (limit : Option _) (r : ExactRow) (p : Option ℚ × Option ℚ) → limits_run limit r ≡ Ok p → AreLimits (limits_of r) p
+pub limits_ok : (limit : Option _) (r : ExactRow) (p : Option ℚ × Option ℚ) → limits_run limit r ≡ Ok p →
+    AreLimits (limits_of r) p
 limits_ok limit r p h = limits_by_ok limit r.kind r.rhs r.range p h
 
 -- ---- a lower limit is not above the upper one

@@ -39,7 +39,8 @@ data BelowGap (l : Option ℚ) (v : ℚ) : Option ℚ → Type 0 where
   some : (a : ℚ) → l ≡ Some a → v <ℚ a → BelowGap l v (Some (a -ℚ v))
 
 below_is : (limit : Option ℕ) (l : Option ℚ) (v : ℚ) (gap : Option ℚ) → below_run limit l v ≡ Ok gap → BelowGap l v gap
-below_is limit None v gap h = let e : None ≡ gap = cc in subst (BelowGap None v) e (none (λ a z. let y : None ≡ Some a = z in cc))
+below_is limit None v gap h =
+    let e : None ≡ gap = cc in subst (BelowGap None v) e (none (λ a z. let y : None ≡ Some a = z in cc))
 below_is limit (Some l) v gap h =
     let o = then_ok (order_run limit v l) (λ o. below_by limit l v o) gap h in
     go o.0 (order_ok limit v l o.0 o.1) o.2
@@ -52,15 +53,20 @@ below_is limit (Some l) v gap h =
         let p = then_ok (difference_run limit l v) (λ gap. Ok (Some gap)) gap h in
         let z : Some p.0 ≡ gap = cc in
         subst (BelowGap (Some l) v) (ap Some (sym (difference_ok limit l v p.0 p.1)) ∙ z) (some l refl ((order_less v l).0 (sym e)))
-    go Equal e h = let z : None ≡ gap = cc in subst (BelowGap (Some l) v) z (none (λ a y. subst (λ a. a ≤ℚ v) (same a y) (not_less v l Equal e (λ k. cc))))
-    go Greater e h = let z : None ≡ gap = cc in subst (BelowGap (Some l) v) z (none (λ a y. subst (λ a. a ≤ℚ v) (same a y) (not_less v l Greater e (λ k. cc))))
+    go Equal e h =
+        let z : None ≡ gap = cc in
+        subst (BelowGap (Some l) v) z (none (λ a y. subst (λ a. a ≤ℚ v) (same a y) (not_less v l Equal e (λ k. cc))))
+    go Greater e h =
+        let z : None ≡ gap = cc in
+        subst (BelowGap (Some l) v) z (none (λ a y. subst (λ a. a ≤ℚ v) (same a y) (not_less v l Greater e (λ k. cc))))
 
 data AboveGap (u : Option ℚ) (v : ℚ) : Option ℚ → Type 0 where
   none_above : ((a : ℚ) → u ≡ Some a → v ≤ℚ a) → AboveGap u v None
   some_above : (a : ℚ) → u ≡ Some a → a <ℚ v → AboveGap u v (Some (v -ℚ a))
 
 above_is : (limit : Option ℕ) (u : Option ℚ) (v : ℚ) (gap : Option ℚ) → above_run limit u v ≡ Ok gap → AboveGap u v gap
-above_is limit None v gap h = let e : None ≡ gap = cc in subst (AboveGap None v) e (none_above (λ a z. let y : None ≡ Some a = z in cc))
+above_is limit None v gap h =
+    let e : None ≡ gap = cc in subst (AboveGap None v) e (none_above (λ a z. let y : None ≡ Some a = z in cc))
 above_is limit (Some u) v gap h =
     let o = then_ok (order_run limit v u) (λ o. above_by limit u v o) gap h in
     go o.0 (order_ok limit v u o.0 o.1) o.2
@@ -73,15 +79,20 @@ above_is limit (Some u) v gap h =
         let p = then_ok (difference_run limit v u) (λ gap. Ok (Some gap)) gap h in
         let z : Some p.0 ≡ gap = cc in
         subst (AboveGap (Some u) v) (ap Some (sym (difference_ok limit v u p.0 p.1)) ∙ z) (some_above u refl ((order_greater v u).0 (sym e)))
-    go Equal e h = let z : None ≡ gap = cc in subst (AboveGap (Some u) v) z (none_above (λ a y. subst (λ a. v ≤ℚ a) (same a y) (not_greater v u Equal e (λ k. cc))))
-    go Less e h = let z : None ≡ gap = cc in subst (AboveGap (Some u) v) z (none_above (λ a y. subst (λ a. v ≤ℚ a) (same a y) (not_greater v u Less e (λ k. cc))))
+    go Equal e h =
+        let z : None ≡ gap = cc in
+        subst (AboveGap (Some u) v) z (none_above (λ a y. subst (λ a. v ≤ℚ a) (same a y) (not_greater v u Equal e (λ k. cc))))
+    go Less e h =
+        let z : None ≡ gap = cc in
+        subst (AboveGap (Some u) v) z (none_above (λ a y. subst (λ a. v ≤ℚ a) (same a y) (not_greater v u Less e (λ k. cc))))
 
 sum_is : (limit : Option ℕ) (f : Form) (i : ℕ) (v : ℚ) → row_sum limit f i ≡ Ok v → v ≡ first_sum f i
 sum_is limit f i v h =
     steps_ok (λ n s. s ≡ sum_below n (λ j. form_entry f i j *ℚ first_value f j)) f.cols (λ j s. plus_product limit (form_entry f i j) (first_value f j) s) 0ℚ v h refl
     (λ j x y l was is. plus_ok limit (form_entry f i j) (first_value f j) x y is ∙ ap (λ s. s +ℚ form_entry f i j *ℚ first_value f j) was)
 
-start_by : (limit : Option ℕ) (l u : Option ℚ) (v : ℚ) (gap : Option ℚ) (s : RowStart ℚ) → BelowGap l v gap → row_start_by limit u v gap ≡ Ok s → RowBegins l u v s
+start_by : (limit : Option ℕ) (l u : Option ℚ) (v : ℚ) (gap : Option ℚ) (s : RowStart ℚ) → BelowGap l v gap →
+    row_start_by limit u v gap ≡ Ok s → RowBegins l u v s
 start_by limit l u v None s (none low) h =
     let o = then_ok (above_run limit u v) (λ gap. Ok (within_or_above v gap)) s h in
     let z : within_or_above v o.0 ≡ s = cc in
@@ -90,9 +101,11 @@ start_by limit l u v None s (none low) h =
     go : (gap : Option ℚ) → AboveGap u v gap → RowBegins l u v (within_or_above v gap)
     go None (none_above high) = within low high
     go (Some g) (some_above a e h) = above a e h
-start_by limit l u v (Some g) s (some a e lt) h = let z : Below (a -ℚ v) ≡ s = cc in subst (RowBegins l u v) z (below a e lt)
+start_by limit l u v (Some g) s (some a e lt) h =
+    let z : Below (a -ℚ v) ≡ s = cc in subst (RowBegins l u v) z (below a e lt)
 
-pub start_is : (limit : Option ℕ) (f : Form) (i : ℕ) (s : RowStart ℚ) → row_start limit f i ≡ Ok s → RowBegins (form_lower f (f.cols + i)) (form_upper f (f.cols + i)) (first_sum f i) s
+pub start_is : (limit : Option ℕ) (f : Form) (i : ℕ) (s : RowStart ℚ) → row_start limit f i ≡ Ok s →
+    RowBegins (form_lower f (f.cols + i)) (form_upper f (f.cols + i)) (first_sum f i) s
 start_is limit f i s h =
     let o = then_ok (row_sum limit f i) (λ v. below_run limit (form_lower f (f.cols + i)) v >>= λ gap. row_start_by limit (form_upper f (f.cols + i)) v gap) s h in
     let p = then_ok (below_run limit (form_lower f (f.cols + i)) o.0) (λ gap. row_start_by limit (form_upper f (f.cols + i)) o.0 gap) s o.2 in

@@ -18,7 +18,8 @@ use Rattle.spec_simplex.specs.Run.{Run, ◌>>=◌, refused_as, sum_run, differen
 use Rattle.spec_simplex.proofs.Stops.{length-made}
 
 -- ---- one after the other
-pub then_ok : {A B E : Type 0} (o : Result A E) (f : A → Result B E) (b : B) → (o >>= f) ≡ Ok b → (a : A) × (o ≡ Ok a) × (f a ≡ Ok b)
+pub then_ok : {A B E : Type 0} (o : Result A E) (f : A → Result B E) (b : B) → (o >>= f) ≡ Ok b →
+    (a : A) × (o ≡ Ok a) × (f a ≡ Ok b)
 then_ok (Ok a) f b h = (a, refl, h)
 then_ok (Err e) f b h = cc
 
@@ -70,7 +71,9 @@ pub record IsListOf {A : Type 0} (n : ℕ) (f : ℕ → Run A) (d : A) (xs : Lis
   pub each : (i : ℕ) → i < n → f i ≡ Ok (get_or xs i d)
 
 pub list_ok : {A : Type 0} (n : ℕ) (f : ℕ → Run A) (d : A) (xs : List A) → list_run n f ≡ Ok xs → IsListOf n f d xs
-list_ok {A} zero f d xs h = let e : ◌≡◌ {A = List A} [] xs = cc in subst (λ ys. IsListOf 0 f d ys) e (record { all = refl; each = λ i l. absurd (let z : ⊥ = omega (arith, l) in z) })
+list_ok {A} zero f d xs h =
+    let e : ◌≡◌ {A = List A} [] xs = cc in
+    subst (λ ys. IsListOf 0 f d ys) e (record { all = refl; each = λ i l. absurd (let z : ⊥ = omega (arith, l) in z) })
 list_ok {A} (suc n) f d xs h =
     let o = then_ok (list_run n f) (λ ys. f n >>= λ x. Ok (ys ++ x ∷ [])) xs h in
     let p = then_ok (f n) (λ x. Ok (o.0 ++ x ∷ [])) xs o.2 in

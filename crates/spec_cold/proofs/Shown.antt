@@ -41,13 +41,15 @@ module _ (m n : ℕ) (f : ℕ → ℕ → ℚ) (cost : ℕ → ℚ) (b : Bounds)
   multipliers_length = length-made t.rows (λ i. reduced_at t (t.cols + i)) ∙ s.rows
 
   pub multiplier_at : (i : ℕ) → i < m → part (multipliers t) i ≡ reduced_at t (n + i)
-  multiplier_at i l = get_or-made t.rows (λ i. reduced_at t (t.cols + i)) 0ℚ i (omega (arith, l, s.rows)) ∙ ap (λ n. reduced_at t (n + i)) s.cols
+  multiplier_at i l =
+      get_or-made t.rows (λ i. reduced_at t (t.cols + i)) 0ℚ i (omega (arith, l, s.rows)) ∙ ap (λ n. reduced_at t (n + i)) s.cols
 
   pub direction_length : (j : ℕ) (up : Bool) → length (direction t j up) ≡ n
   direction_length j up = length-made t.cols (moves_by t j up) ∙ s.cols
 
   pub direction_at : (j : ℕ) (up : Bool) (k : ℕ) → k < n → part (direction t j up) k ≡ moves_below t j up k m
-  direction_at j up k l = get_or-made t.cols (moves_by t j up) 0ℚ k (omega (arith, l, s.cols)) ∙ ap (moves_below t j up k) s.rows
+  direction_at j up k l =
+      get_or-made t.cols (moves_by t j up) 0ℚ k (omega (arith, l, s.cols)) ∙ ap (moves_below t j up k) s.rows
 
 module _ (m : Model) (ls : List (Option ℚ × Option ℚ)) (h : Limited m ls) (starts : List (RowStart ℚ)) (b : Bounds) (bs : HasBounds (formed m ls) b)
     (fixed : (i : ℕ) → i < height m → (b.lower (width m + height m + i) ≡ Some 0ℚ) × (b.upper (width m + height m + i) ≡ Some 0ℚ)) where
@@ -63,7 +65,8 @@ module _ (m : Model) (ls : List (Option ℚ × Option ℚ)) (h : Limited m ls) (
   abbrev costs : ℕ → ℚ
   costs = cost_at (formed m ls).cost
 
-  pub primal_shows : (limit : Option ℕ) (e : PrimalEnded) → IsTableauOf r w F costs b e.tableau → IsMeant r w F costs b limit e.tableau (End e.end) → Shows m (certificate_at e.tableau e.end)
+  pub primal_shows : (limit : Option ℕ) (e : PrimalEnded) → IsTableauOf r w F costs b e.tableau →
+      IsMeant r w F costs b limit e.tableau (End e.end) → Shows m (certificate_at e.tableau e.end)
   primal_shows limit e after = by e.end
     where
       by : (end : PrimalEnd) → IsMeant r w F costs b limit e.tableau (End end) → Shows m (certificate_at e.tableau end)

@@ -38,13 +38,16 @@ accepted limit m c s = record {
   limited = subst (λ o. Agrees (check_run limit m c) o) (run_complete m c s.checks) (run_agrees limit m c);
 }
 
-pub end_accepted : (limit : Option ℕ) (budget : ℕ) (m : Model) (f : Form) (e : PhasesEnd) → form_of limit m ≡ Ok f → phases_run limit budget f ≡ Ok e → IsAccepted limit m (certificate_of e)
+pub end_accepted : (limit : Option ℕ) (budget : ℕ) (m : Model) (f : Form) (e : PhasesEnd) → form_of limit m ≡ Ok f →
+    phases_run limit budget f ≡ Ok e → IsAccepted limit m (certificate_of e)
 end_accepted limit budget m f e p q =
     let o = form_is limit m f p in
     accepted limit m (certificate_of e) (phases_show limit m o.0 o.1 budget e (ap (phases_run limit budget) o.2 ∙ q))
 
-pub clash_accepted : (limit : Option ℕ) (m : Model) (j : ℕ) → form_of limit m ≡ Err (fault.Clash j) → IsAccepted limit m (certificate.Clash j)
-clash_accepted limit m j e = let c = clash_is limit m j e in accepted limit m (certificate.Clash j) (record { for = c.inside; checks = c })
+pub clash_accepted : (limit : Option ℕ) (m : Model) (j : ℕ) → form_of limit m ≡ Err (fault.Clash j) →
+    IsAccepted limit m (certificate.Clash j)
+clash_accepted limit m j e =
+    let c = clash_is limit m j e in accepted limit m (certificate.Clash j) (record { for = c.inside; checks = c })
 
 -- ---- by what the checker says
 pub record IsTrueEnd (limit : Option ℕ) (m : Model) (answer : Known ℚ) (c : Certificate (List ℚ)) : Type 0 where
@@ -55,7 +58,8 @@ module _ (limit : Option ℕ) (budget : ℕ) (m : Model) (P : ColdEnd → Type 0
     (ended : (answer : Known ℚ) (c : Certificate (List ℚ)) (basis : Option (List Status)) (pivots : ℕ) → IsTrueEnd limit m answer c → P (outcome.Ended answer c basis pivots))
     (past : (p : Past ℚ) → P (outcome.Past p))
     (spent : (f : Form) → form_of limit m ≡ Ok f → phases_run limit budget f ≡ Err stop.Spent → P outcome.Spent) where
-  by_check : (c : Certificate (List ℚ)) (basis : Option (List Status)) (pivots : ℕ) → IsAccepted limit m c → P (answered limit m c basis pivots)
+  by_check : (c : Certificate (List ℚ)) (basis : Option (List Status)) (pivots : ℕ) → IsAccepted limit m c →
+      P (answered limit m c basis pivots)
   unfolding Agrees
   by_check c basis pivots a =
       ⊎_elim
@@ -67,8 +71,10 @@ module _ (limit : Option ℕ) (budget : ℕ) (m : Model) (P : ColdEnd → Type 0
   unfolding cold
   by_end = with_form (form_of limit m) refl
     where
-      with_phases : (f : Form) → form_of limit m ≡ Ok f → (o : Result PhasesEnd (Spending ℚ)) → phases_run limit budget f ≡ o → P (after_phases limit m o)
-      with_phases f p (Ok e) q = by_check (certificate_of e) (basis_of e) (pivots_of e) (end_accepted limit budget m f e p q)
+      with_phases : (f : Form) → form_of limit m ≡ Ok f → (o : Result PhasesEnd (Spending ℚ)) →
+          phases_run limit budget f ≡ o → P (after_phases limit m o)
+      with_phases f p (Ok e) q =
+          by_check (certificate_of e) (basis_of e) (pivots_of e) (end_accepted limit budget m f e p q)
       with_phases f p (Err (stop.Past v)) q = past v
       with_phases f p (Err stop.Spent) q = spent f p q
 
@@ -91,14 +97,16 @@ ended_is_true limit budget m answer c basis pivots =
     (λ p e. let z : ◌≡◌ {A = ColdEnd} (outcome.Past p) (outcome.Ended answer c basis pivots) = e in cc)
     (λ f p q e. let z : ◌≡◌ {A = ColdEnd} outcome.Spent (outcome.Ended answer c basis pivots) = e in cc)
 
-pub spent_is_spent : (limit : Option ℕ) (budget : ℕ) (m : Model) → cold limit budget m ≡ outcome.Spent → (f : Form) × (form_of limit m ≡ Ok f) × (phases_run limit budget f ≡ Err stop.Spent)
+pub spent_is_spent : (limit : Option ℕ) (budget : ℕ) (m : Model) → cold limit budget m ≡ outcome.Spent →
+    (f : Form) × (form_of limit m ≡ Ok f) × (phases_run limit budget f ≡ Err stop.Spent)
 spent_is_spent limit budget m =
     by_end limit budget m (λ e. e ≡ outcome.Spent → (f : Form) × (form_of limit m ≡ Ok f) × (phases_run limit budget f ≡ Err stop.Spent))
     (λ a d basis pivots t e. let z : ◌≡◌ {A = ColdEnd} (outcome.Ended a d basis pivots) outcome.Spent = e in cc)
     (λ p e. let z : ◌≡◌ {A = ColdEnd} (outcome.Past p) outcome.Spent = e in cc)
     (λ f p q e. (f, p, q))
 
-pub enough : (limit : Option ℕ) (budget : ℕ) (m : Model) → 2 * 3 ^ (width m + 2 * height m) ≤ budget → ¬ (cold limit budget m ≡ outcome.Spent)
+pub enough : (limit : Option ℕ) (budget : ℕ) (m : Model) → 2 * 3 ^ (width m + 2 * height m) ≤ budget →
+    ¬ (cold limit budget m ≡ outcome.Spent)
 enough limit budget m h e =
     let s = spent_is_spent limit budget m e in
     let o = form_is limit m s.0 s.1 in

@@ -31,7 +31,8 @@ ahead_is true = refl
 ahead_is false = refl
 
 -- a column with a lower bound flips the way that it enters
-way_is : (s : Status) (up : Bool) (l u : Option ℚ) (v low : ℚ) → l ≡ Some low → CanMove (way up) s → Stands s l u v → flip_way s ≡ up
+way_is : (s : Status) (up : Bool) (l u : Option ℚ) (v low : ℚ) → l ≡ Some low → CanMove (way up) s → Stands s l u v →
+    flip_way s ≡ up
 way_is Basic true l u v low e c s = absurd c
 way_is Basic false l u v low e c s = absurd c
 way_is AtLower true l u v low e c s = refl
@@ -42,7 +43,8 @@ way_is AtZero up l u v low e c s = let z : None ≡ Some low = sym s.0 ∙ e in 
 
 module _ (limit : Option ℕ) (t : Tableau) (w : IsWhole t) (f : Matrix) (cost : ℕ → ℚ) (b : Bounds) (g : IsTableau t.rows (all_columns t) f cost b (table_of t)) (within : IsWithin (all_columns t) b (table_of t)) (keeps : KeepsBounds b t) where
   -- what a step by the rule leaves
-  steps_to : (u : Tableau) (v : Table) (l : Label) → Leaves b t u v → IsStep t.rows (all_columns t) b l (table_of t) v → IsWithin (all_columns t) b v → StepsTo t.rows t.cols f cost b t u
+  steps_to : (u : Tableau) (v : Table) (l : Label) → Leaves b t u v → IsStep t.rows (all_columns t) b l (table_of t) v →
+      IsWithin (all_columns t) b v → StepsTo t.rows t.cols f cost b t u
   steps_to u v l left step inside = record {
     label = l;
     step = subst (IsStep t.rows (all_columns t) b l (table_of t)) (sym left.table) step;
@@ -50,14 +52,16 @@ module _ (limit : Option ℕ) (t : Tableau) (w : IsWhole t) (f : Matrix) (cost :
       rows = left.rows;
       cols = left.cols;
       whole = left.whole;
-      tableau = subst (IsTableau t.rows (all_columns t) f cost b) (sym left.table) (step_kept t.rows (all_columns t) f cost b l (table_of t) v g step);
+      tableau =
+          subst (IsTableau t.rows (all_columns t) f cost b) (sym left.table) (step_kept t.rows (all_columns t) f cost b l (table_of t) v g step);
       within = subst (IsWithin (all_columns t) b) (sym left.table) inside;
       bounds = left.bounds;
     };
   }
 
   module _ (e : Entering) (enters : Enters (all_columns t) b (table_of t) (way e.up) e.col) where
-    pivots_to : (x : Best ℚ) → best_run limit t e ≡ Ok (Some x) → (p : ℕ) → x.place ≡ Some p → (u : Tableau) → pivot_run limit t p e.col (directed e.up x.ratio) x.to ≡ Ok u → StepsTo t.rows t.cols f cost b t u
+    pivots_to : (x : Best ℚ) → best_run limit t e ≡ Ok (Some x) → (p : ℕ) → x.place ≡ Some p → (u : Tableau) →
+        pivot_run limit t p e.col (directed e.up x.ratio) x.to ≡ Ok u → StepsTo t.rows t.cols f cost b t u
     pivots_to x found p at u h =
         let best : best_of t.rows b (table_of t) (way e.up) e.col ≡ Some (plain x) = a_best limit t w f cost b g keeps e enters x found in
         let v : Pivots t.rows (all_columns t) b (table_of t) (way e.up) e.col p x.ratio x.to =
@@ -71,7 +75,8 @@ module _ (limit : Option ℕ) (t : Tableau) (w : IsWhole t) (f : Matrix) (cost :
         (stays_within t.rows (all_columns t) f cost b (table_of t) (way e.up) e.col x.ratio g within enters
         (best_has_room t.rows (all_columns t) f cost b (table_of t) (way e.up) e.col g within enters (plain x) best))
 
-    flips_to : (x : Best ℚ) → best_run limit t e ≡ Ok (Some x) → x.place ≡ None → (u : Tableau) → flip_run limit t e.col ≡ Ok u → StepsTo t.rows t.cols f cost b t u
+    flips_to : (x : Best ℚ) → best_run limit t e ≡ Ok (Some x) → x.place ≡ None → (u : Tableau) →
+        flip_run limit t e.col ≡ Ok u → StepsTo t.rows t.cols f cost b t u
     flips_to x found at u h =
         let best : best_of t.rows b (table_of t) (way e.up) e.col ≡ Some (plain x) = a_best limit t w f cost b g keeps e enters x found in
         let own : IsRange t e x = best_range limit t w f cost b g keeps e enters x found at in
@@ -88,8 +93,10 @@ module _ (limit : Option ℕ) (t : Tableau) (w : IsWhole t) (f : Matrix) (cost :
         (stays_within t.rows (all_columns t) f cost b (table_of t) (way e.up) e.col x.ratio g within enters
         (best_has_room t.rows (all_columns t) f cost b (table_of t) (way e.up) e.col g within enters (plain x) best))
 
-    with_best : (best : Option (Best ℚ)) → best_run limit t e ≡ Ok best → IsMeant t.rows t.cols f cost b limit t (choice_by e best)
-    with_best None h = none_goes_on t.rows (all_columns t) f cost b (table_of t) (way e.up) e.col g within enters (no_best limit t w f cost b g keeps e enters h)
+    with_best : (best : Option (Best ℚ)) → best_run limit t e ≡ Ok best →
+        IsMeant t.rows t.cols f cost b limit t (choice_by e best)
+    with_best None h =
+        none_goes_on t.rows (all_columns t) f cost b (table_of t) (way e.up) e.col g within enters (no_best limit t w f cost b g keeps e enters h)
     with_best (Some x) h = by x.place refl
       where
         by : (place : Option ℕ) → x.place ≡ place → IsMeant t.rows t.cols f cost b limit t (choice_at e x place)
@@ -100,14 +107,18 @@ module _ (limit : Option ℕ) (t : Tableau) (w : IsWhole t) (f : Matrix) (cost :
   unfolding choice_run
   chosen choice h = by (entering t) refl h
     where
-      by : (o : Option Entering) → entering t ≡ o → choice_of limit t o ≡ Ok choice → IsMeant t.rows t.cols f cost b limit t choice
-      by None e h = let z : End Optimal ≡ choice = cc in subst (IsMeant t.rows t.cols f cost b limit t) z (no_entering b t keeps e)
+      by : (o : Option Entering) → entering t ≡ o → choice_of limit t o ≡ Ok choice →
+          IsMeant t.rows t.cols f cost b limit t choice
+      by None e h =
+          let z : End Optimal ≡ choice = cc in
+          subst (IsMeant t.rows t.cols f cost b limit t) z (no_entering b t keeps e)
       by (Some x) e h =
           let o = then_ok (best_run limit t x) (λ best. Ok (choice_by x best)) choice h in
           let z : choice_by x o.0 ≡ choice = cc in
           subst (IsMeant t.rows t.cols f cost b limit t) z (with_best x (an_entering b t keeps x e) o.0 o.1)
 
-pub choice_is_meant : (limit : Option ℕ) (m n : ℕ) (f : Matrix) (cost : ℕ → ℚ) (b : Bounds) (t : Tableau) (choice : Choice ℚ) → IsTableauOf m n f cost b t → choice_run limit t ≡ Ok choice → IsMeant m n f cost b limit t choice
+pub choice_is_meant : (limit : Option ℕ) (m n : ℕ) (f : Matrix) (cost : ℕ → ℚ) (b : Bounds) (t : Tableau) (choice : Choice ℚ) →
+    IsTableauOf m n f cost b t → choice_run limit t ≡ Ok choice → IsMeant m n f cost b limit t choice
 choice_is_meant limit m n f cost b t choice s h =
     subst₂ (λ m n. IsMeant m n f cost b limit t choice) s.rows s.cols
     (chosen limit t s.whole f cost b

@@ -38,17 +38,21 @@ abs_rising false a h = abs_below a (turned_down a h)
 
 -- ---- the room of a position
 abbrev room_by : Option ℚ → Option ℚ → ℚ → ℚ → Option ℚ
-room_by l u v r = cond (lt_ℚ 0ℚ r) (option_map (λ u. (u -ℚ v) *ℚ inverse r) u) (cond (lt_ℚ r 0ℚ) (option_map (λ l. (v -ℚ l) *ℚ inverse (neg_ℚ r)) l) None)
+room_by l u v r =
+    cond (lt_ℚ 0ℚ r) (option_map (λ u. (u -ℚ v) *ℚ inverse r) u) (cond (lt_ℚ r 0ℚ) (option_map (λ l. (v -ℚ l) *ℚ inverse (neg_ℚ r)) l) None)
 
 abbrev IsRoom : Option ℚ → Option ℚ → ℚ → ℚ → ℚ → Option (ℚ × Status) → Type 0
 IsRoom l u v r a None = room_by l u v r ≡ None
 IsRoom l u v r a (Some (gap, to)) = (room_by l u v r ≡ Some (gap *ℚ inverse (abs_ℚ a))) × (to ≡ bound_ahead (way_of r))
 
-gap_is : (limit : Option ℕ) (up : Bool) (a : ℚ) (l u : Option ℚ) (v r : ℚ) → r ≡ neg_ℚ (directed up a) → (gap : Option (ℚ × Status)) → gap_run limit up a l u v ≡ Ok gap → IsRoom l u v r a gap
+gap_is : (limit : Option ℕ) (up : Bool) (a : ℚ) (l u : Option ℚ) (v r : ℚ) → r ≡ neg_ℚ (directed up a) →
+    (gap : Option (ℚ × Status)) → gap_run limit up a l u v ≡ Ok gap → IsRoom l u v r a gap
 gap_is limit up a l u v r r_is gap h = by (lt_ℚ (directed up a) 0ℚ) (lt_ℚ 0ℚ (directed up a)) refl refl h
   where
     rise : directed up a <ℚ 0ℚ → (o : Option ℚ) → rise_run limit o v ≡ Ok gap → IsRoom l o v r a gap
-    rise d None h = let e : None ≡ gap = cc in subst (IsRoom l None v r a) e (rw (lt_test 0ℚ r (subst (λ r. 0ℚ <ℚ r) (sym r_is) (below_turned (directed up a) d))) refl)
+    rise d None h =
+        let e : None ≡ gap = cc in
+        subst (IsRoom l None v r a) e (rw (lt_test 0ℚ r (subst (λ r. 0ℚ <ℚ r) (sym r_is) (below_turned (directed up a) d))) refl)
     rise d (Some x) h =
         let o = then_ok (difference_run limit x v) (λ gap. Ok (Some (gap, AtUpper))) gap h in
         let above : 0ℚ <ℚ r = subst (λ r. 0ℚ <ℚ r) (sym r_is) (below_turned (directed up a) d) in
@@ -68,7 +72,8 @@ gap_is limit up a l u v r r_is gap h = by (lt_ℚ (directed up a) 0ℚ) (lt_ℚ 
         subst (IsRoom (Some x) u v r a) e
         (rw (not_lt_test 0ℚ r (<ℚ-le r 0ℚ below), lt_test r 0ℚ below) (ap Some (ap₂ (λ g r. g *ℚ inverse r) (sym (difference_ok limit v x o.0 o.1)) (ap neg_ℚ r_is ∙ neg-neg (directed up a) ∙ sym (abs_rising up a d)))), rw (not_lt_test 0ℚ r (<ℚ-le r 0ℚ below)) refl)
 
-    by : (c d : Bool) → lt_ℚ (directed up a) 0ℚ ≡ c → lt_ℚ 0ℚ (directed up a) ≡ d → cond c (rise_run limit u v) (cond d (fall_run limit l v) (Ok None)) ≡ Ok gap → IsRoom l u v r a gap
+    by : (c d : Bool) → lt_ℚ (directed up a) 0ℚ ≡ c → lt_ℚ 0ℚ (directed up a) ≡ d →
+        cond c (rise_run limit u v) (cond d (fall_run limit l v) (Ok None)) ≡ Ok gap → IsRoom l u v r a gap
     by true d c e h = rise (lt_if (directed up a) 0ℚ c) u h
     by false true c d h = fall (lt_if 0ℚ (directed up a) d) l h
     by false false c d h =
@@ -81,7 +86,8 @@ gap_is limit up a l u v r r_is gap h = by (lt_ℚ (directed up a) 0ℚ) (lt_ℚ 
 abbrev pub plain : Best ℚ → test.Best
 plain x = record { ratio = x.ratio; column = x.col; position = x.place }
 
-better_is : (new x : Best ℚ) (o : Ordering) → o ≡ order new.ratio x.ratio → plain (better_by new x o) ≡ cond (is_better new.ratio new.col (Some (plain x))) (plain new) (plain x)
+better_is : (new x : Best ℚ) (o : Ordering) → o ≡ order new.ratio x.ratio →
+    plain (better_by new x o) ≡ cond (is_better new.ratio new.col (Some (plain x))) (plain new) (plain x)
 better_is new x Less e = rw (lt_test new.ratio x.ratio ((order_less new.ratio x.ratio).0 (sym e))) refl
 better_is new x Equal e =
     let same : new.ratio ≡ x.ratio = (order_equal new.ratio x.ratio).0 (sym e) in
@@ -124,9 +130,15 @@ module _ (limit : Option ℕ) (t : Tableau) (w : IsWhole t) (f : Matrix) (cost :
     same : option_map plain best ≡ scan i (room_at t.rows b (table_of t) (way e.up) e.col) (basic_at t) (range_of e.col (b.lower e.col) (b.upper e.col))
     aims : (x : Best ℚ) → best ≡ Some x → Aims x
 
-  range_is : (l u : Option ℚ) → lower_at t e.col ≡ l → upper_at t e.col ≡ u → (best : Option (Best ℚ)) → range_run limit e l u ≡ Ok best → (option_map plain best ≡ range_of e.col l u) × ((x : Best ℚ) → best ≡ Some x → Aims x)
-  range_is None u p q best h = let z : None ≡ best = cc in subst (λ best. (option_map plain best ≡ None) × ((x : Best ℚ) → best ≡ Some x → Aims x)) z (refl, λ x y. let k : None ≡ Some x = y in cc)
-  range_is (Some l) None p q best h = let z : None ≡ best = cc in subst (λ best. (option_map plain best ≡ None) × ((x : Best ℚ) → best ≡ Some x → Aims x)) z (refl, λ x y. let k : None ≡ Some x = y in cc)
+  range_is : (l u : Option ℚ) → lower_at t e.col ≡ l → upper_at t e.col ≡ u → (best : Option (Best ℚ)) →
+      range_run limit e l u ≡ Ok best →
+      (option_map plain best ≡ range_of e.col l u) × ((x : Best ℚ) → best ≡ Some x → Aims x)
+  range_is None u p q best h =
+      let z : None ≡ best = cc in
+      subst (λ best. (option_map plain best ≡ None) × ((x : Best ℚ) → best ≡ Some x → Aims x)) z (refl, λ x y. let k : None ≡ Some x = y in cc)
+  range_is (Some l) None p q best h =
+      let z : None ≡ best = cc in
+      subst (λ best. (option_map plain best ≡ None) × ((x : Best ℚ) → best ≡ Some x → Aims x)) z (refl, λ x y. let k : None ≡ Some x = y in cc)
   range_is (Some l) (Some u) p q best h =
       let o = then_ok (difference_run limit u l) _ best h in
       let made : Best ℚ = record { ratio = o.0; col = e.col; place = None; to = other_bound e.up } in
@@ -135,7 +147,8 @@ module _ (limit : Option ℕ) (t : Tableau) (w : IsWhole t) (f : Matrix) (cost :
       subst (λ best. (option_map plain best ≡ range_of e.col (Some l) (Some u)) × ((x : Best ℚ) → best ≡ Some x → Aims x)) z (
         (ap (λ r. Some (plain (record { ratio = r; col = e.col; place = None; to = other_bound e.up }))) length),
         λ x y. let k : made ≡ x = cc in subst Aims k (record {
-          flip = λ _. record { to = refl; col = refl; ratio = length ∙ ap₂ (λ u l. or_zero u -ℚ or_zero l) (sym q) (sym p); bottom = (l, p) };
+          flip =
+              λ _. record { to = refl; col = refl; ratio = length ∙ ap₂ (λ u l. or_zero u -ℚ or_zero l) (sym q) (sym p); bottom = (l, p) };
           pivot = λ i y. let k : None ≡ Some i = y in cc;
         }),
       )
@@ -143,13 +156,15 @@ module _ (limit : Option ℕ) (t : Tableau) (w : IsWhole t) (f : Matrix) (cost :
   pub e_before : e.col < form_columns t
   e_before = enters_before b t e.col keeps enters.eligible.may_enter.0
 
-  found_range : (best : Option (Best ℚ)) → range_run limit e (lower_at t e.col) (upper_at t e.col) ≡ Ok best → Found 0 best
+  found_range : (best : Option (Best ℚ)) → range_run limit e (lower_at t e.col) (upper_at t e.col) ≡ Ok best →
+      Found 0 best
   found_range best h =
       let r = range_is (lower_at t e.col) (upper_at t e.col) refl refl best h in
       record { same = r.0 ∙ ap₂ (range_of e.col) (keeps.lower e.col enters.in_range) (keeps.upper e.col e_before); aims = r.1 }
 
   -- one more position
-  found_step : (i : ℕ) (best next : Option (Best ℚ)) → i < t.rows → Found i best → best_with limit t e i best ≡ Ok next → Found (suc i) next
+  found_step : (i : ℕ) (best next : Option (Best ℚ)) → i < t.rows → Found i best →
+      best_with limit t e i best ≡ Ok next → Found (suc i) next
   found_step i best next i_in was h = with_one o.0 o.2 there
     where
       k : ℕ
@@ -162,16 +177,20 @@ module _ (limit : Option ℕ) (t : Tableau) (w : IsWhole t) (f : Matrix) (cost :
       r = ray t.rows (table_of t) (way e.up) e.col (basic_at t i)
 
       before : Option test.Best
-      before = scan i (room_at t.rows b (table_of t) (way e.up) e.col) (basic_at t) (range_of e.col (b.lower e.col) (b.upper e.col))
+      before =
+          scan i (room_at t.rows b (table_of t) (way e.up) e.col) (basic_at t) (range_of e.col (b.lower e.col) (b.upper e.col))
 
       o : (gap : Option (ℚ × Status)) × (gap_run limit e.up (entry_at t i e.col) (lower_at t (basic_at t i)) (upper_at t (basic_at t i)) (value_at t (basic_at t i)) ≡ Ok gap) × (with_gap limit i (basic_at t i) (entry_at t i e.col) best gap ≡ Ok next)
-      o = then_ok (gap_run limit e.up (entry_at t i e.col) (lower_at t (basic_at t i)) (upper_at t (basic_at t i)) (value_at t (basic_at t i))) (λ gap. with_gap limit i (basic_at t i) (entry_at t i e.col) best gap) next h
+      o =
+          then_ok (gap_run limit e.up (entry_at t i e.col) (lower_at t (basic_at t i)) (upper_at t (basic_at t i)) (value_at t (basic_at t i))) (λ gap. with_gap limit i (basic_at t i) (entry_at t i e.col) best gap) next h
 
       r_is : ray t.rows (table_of t) (way e.up) e.col (basic_at t i) ≡ neg_ℚ (directed e.up (entry_at t i e.col))
-      r_is = ray_basic t.rows (table_of t) g.units (way e.up) e.col (j_outside t.rows (all_columns t) f cost b (table_of t) g (way e.up) e.col enters) i i_in ∙ ap neg_ℚ (sym (directed_is e.up (entry_at t i e.col)))
+      r_is =
+          ray_basic t.rows (table_of t) g.units (way e.up) e.col (j_outside t.rows (all_columns t) f cost b (table_of t) g (way e.up) e.col enters) i i_in ∙ ap neg_ℚ (sym (directed_is e.up (entry_at t i e.col)))
 
       there : IsRoom (lower_at t (basic_at t i)) (upper_at t (basic_at t i)) (value_at t (basic_at t i)) (ray t.rows (table_of t) (way e.up) e.col (basic_at t i)) (entry_at t i e.col) o.0
-      there = gap_is limit e.up (entry_at t i e.col) (lower_at t (basic_at t i)) (upper_at t (basic_at t i)) (value_at t (basic_at t i)) (ray t.rows (table_of t) (way e.up) e.col (basic_at t i)) r_is o.0 o.1
+      there =
+          gap_is limit e.up (entry_at t i e.col) (lower_at t (basic_at t i)) (upper_at t (basic_at t i)) (value_at t (basic_at t i)) (ray t.rows (table_of t) (way e.up) e.col (basic_at t i)) r_is o.0 o.1
 
       room_same : room_at t.rows b (table_of t) (way e.up) e.col i ≡ room_by (lower_at t (basic_at t i)) (upper_at t (basic_at t i)) (value_at t (basic_at t i)) (ray t.rows (table_of t) (way e.up) e.col (basic_at t i))
       room_same =
@@ -182,7 +201,8 @@ module _ (limit : Option ℕ) (t : Tableau) (w : IsWhole t) (f : Matrix) (cost :
       newer q to = record { ratio = q; col = basic_at t i; place = Some i; to = to }
 
       new_aims : (q : ℚ) (to : Status) → to ≡ ahead i → Aims (newer q to)
-      new_aims q to z = record { flip = λ y. let k : Some i ≡ None = y in cc; pivot = λ p y. z ∙ (let k : i ≡ p = cc in ap ahead k) }
+      new_aims q to z =
+          record { flip = λ y. let k : Some i ≡ None = y in cc; pivot = λ p y. z ∙ (let k : i ≡ p = cc in ap ahead k) }
 
       with_best : (q : ℚ) (to : Status) → to ≡ ahead i → (best : Option (Best ℚ)) → option_map plain best ≡ before → ((x : Best ℚ) → best ≡ Some x → Aims x) → better_run limit (newer q to) best ≡ Ok next
           → room_at t.rows b (table_of t) (way e.up) e.col i ≡ Some q → Found (suc i) next
@@ -196,8 +216,10 @@ module _ (limit : Option ℕ) (t : Tableau) (w : IsWhole t) (f : Matrix) (cost :
           let c = then_ok (order_run limit q x.ratio) (λ o. Ok (Some (better_by (newer q to) x o))) next h in
           let y : Some (better_by (newer q to) x c.0) ≡ next = cc in
           subst (Found (suc i)) y (record {
-            same = ap Some (better_is (newer q to) x c.0 (order_ok limit q x.ratio c.0 c.1)) ∙ spread (is_better q (basic_at t i) (Some (plain x))) (plain (newer q to)) (plain x) ∙ sym (ap₂ (take_room i (basic_at t i)) room_is (sym same));
-            aims = λ v y. let k : better_by (newer q to) x c.0 ≡ v = cc in subst Aims k (one_of Aims (newer q to) x c.0 (new_aims q to z) (aims x refl));
+            same =
+                ap Some (better_is (newer q to) x c.0 (order_ok limit q x.ratio c.0 c.1)) ∙ spread (is_better q (basic_at t i) (Some (plain x))) (plain (newer q to)) (plain x) ∙ sym (ap₂ (take_room i (basic_at t i)) room_is (sym same));
+            aims =
+                λ v y. let k : better_by (newer q to) x c.0 ≡ v = cc in subst Aims k (one_of Aims (newer q to) x c.0 (new_aims q to z) (aims x refl));
           })
         where
           spread : (c : Bool) (u v : test.Best) → Some (cond c u v) ≡ cond c (Some u) (Some v)
@@ -221,11 +243,13 @@ module _ (limit : Option ℕ) (t : Tableau) (w : IsWhole t) (f : Matrix) (cost :
   pub no_best : best_run limit t e ≡ Ok None → best_of t.rows b (table_of t) (way e.up) e.col ≡ None
   no_best h = sym (found_all None h).same
 
-  pub a_best : (x : Best ℚ) → best_run limit t e ≡ Ok (Some x) → best_of t.rows b (table_of t) (way e.up) e.col ≡ Some (plain x)
+  pub a_best : (x : Best ℚ) → best_run limit t e ≡ Ok (Some x) →
+      best_of t.rows b (table_of t) (way e.up) e.col ≡ Some (plain x)
   a_best x h = sym (found_all (Some x) h).same
 
   pub best_range : (x : Best ℚ) → best_run limit t e ≡ Ok (Some x) → x.place ≡ None → IsRange t e x
   best_range x h = ((found_all (Some x) h).aims x refl).flip
 
-  pub best_ahead : (x : Best ℚ) → best_run limit t e ≡ Ok (Some x) → (p : ℕ) → x.place ≡ Some p → x.to ≡ bound_ahead (way_of (ray t.rows (table_of t) (way e.up) e.col (basic_at t p)))
+  pub best_ahead : (x : Best ℚ) → best_run limit t e ≡ Ok (Some x) → (p : ℕ) → x.place ≡ Some p →
+      x.to ≡ bound_ahead (way_of (ray t.rows (table_of t) (way e.up) e.col (basic_at t p)))
   best_ahead x h = ((found_all (Some x) h).aims x refl).pivot

@@ -36,12 +36,14 @@ module _ (limit : Option ℕ) (m n : ℕ) (rows : List (List ℚ)) (all : length
         whole_out = λ r q. by_eq r p
             (λ e. ap (λ r. length (get_or (set rows p o.0) r [])) e ∙ ap length at_p ∙ l.all)
             (λ d. ap length (get_or-set_other rows p r o.0 [] d) ∙ whole r q);
-        own = λ k q. ap (λ row. get_or row k 0ℚ) at_p ∙ quotient_ok limit (at_place rows p k) (at_place rows p j) _ (l.each k q);
+        own =
+            λ k q. ap (λ row. get_or row k 0ℚ) at_p ∙ quotient_ok limit (at_place rows p k) (at_place rows p j) _ (l.each k q);
         before = λ r k z d q. absurd (let y : ⊥ = omega (arith, z) in y);
         behind = λ r z d. get_or-set_other rows p r o.0 [] d;
       })
 
-  step_is : (i : ℕ) (x y : List (List ℚ)) → i < m → Turned i x → cond (nat_eq i p) (Ok x) (cleared_run limit n p j i x) ≡ Ok y → Turned (suc i) y
+  step_is : (i : ℕ) (x y : List (List ℚ)) → i < m → Turned i x →
+      cond (nat_eq i p) (Ok x) (cleared_run limit n p j i x) ≡ Ok y → Turned (suc i) y
   unfolding cleared_run
   step_is i x y i_in t h = go (nat_eq i p) refl h
     where
@@ -75,7 +77,8 @@ module _ (limit : Option ℕ) (m n : ℕ) (rows : List (List ℚ)) (all : length
                 (ap (λ row. get_or row k 0ℚ) at_i ∙ less_ok limit (at_place x i j) (at_place x p k) (at_place x i k) (get_or o.0 k 0ℚ) (l.each k q')
                 ∙ ap₂ (λ row a. get_or row k 0ℚ -ℚ get_or row j 0ℚ *ℚ a) old (t.own k q') ∙ sym (pivoted_off E p j i k z)))
                 (λ e. ap (λ row. get_or row k 0ℚ) (get_or-set_other x i r o.0 [] e) ∙ t.before r k (omega (arith, q, e)) d q');
-            behind = λ r q d. get_or-set_other x i r o.0 [] (λ e. let y : ⊥ = omega (arith, q, e) in y) ∙ t.behind r (omega (arith, q)) d;
+            behind =
+                λ r q d. get_or-set_other x i r o.0 [] (λ e. let y : ⊥ = omega (arith, q, e) in y) ∙ t.behind r (omega (arith, q)) d;
           })
 
   module _ (out : List (List ℚ)) (ok : turned_run limit m n rows p j ≡ Ok out) where

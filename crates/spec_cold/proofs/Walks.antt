@@ -29,7 +29,9 @@ then_err (Err d) f e h = first (let z : d ≡ e = cc in ap Err z)
 -- an operation that is refused is not a spent budget
 pub never_spent : {A : Type 0} (o : Run A) → ¬ (refused_as stop.Past o ≡ Err stop.Spent)
 never_spent {A} (Ok a) h = let z : ◌≡◌ {A = Result A (RunStop ℚ)} (Ok a) (Err stop.Spent) = h in cc
-never_spent {A} (Err p) h = let z : ◌≡◌ {A = Result A (RunStop ℚ)} (Err (stop.Past p)) (Err stop.Spent) = h in let y : stop.Past p ≡ stop.Spent = cc in cc
+never_spent {A} (Err p) h =
+    let z : ◌≡◌ {A = Result A (RunStop ℚ)} (Err (stop.Past p)) (Err stop.Spent) = h in
+    let y : stop.Past p ≡ stop.Spent = cc in cc
 
 -- ---- steps, one after the other
 pub record Walk (m n : ℕ) (b : Bounds) (t : Tableau) (length : ℕ) : Type 0 where
@@ -43,9 +45,11 @@ before x f zero = x
 before x f (suc i) = f i
 
 pub stand_still : (m n : ℕ) (b : Bounds) (t : Tableau) (l : Label) → Walk m n b t 0
-stand_still m n b t l = record { tables = λ i. table_of t; labels = λ i. l; first = refl; steps = λ i h. absurd (let z : ⊥ = omega (arith, h) in z) }
+stand_still m n b t l =
+    record { tables = λ i. table_of t; labels = λ i. l; first = refl; steps = λ i h. absurd (let z : ⊥ = omega (arith, h) in z) }
 
-step_first : (m n : ℕ) (b : Bounds) (t u : Tableau) (length : ℕ) (l : Label) → IsStep m (n + m + m) b l (table_of t) (table_of u) → Walk m n b u length → Walk m n b t (suc length)
+step_first : (m n : ℕ) (b : Bounds) (t u : Tableau) (length : ℕ) (l : Label) →
+    IsStep m (n + m + m) b l (table_of t) (table_of u) → Walk m n b u length → Walk m n b t (suc length)
 unfolding before
 step_first m n b t u length l step w = record {
   tables = before (table_of t) w.tables;
@@ -54,11 +58,13 @@ step_first m n b t u length l step w = record {
   steps = go;
 }
   where
-    go : (i : ℕ) → i < suc length → IsStep m (n + m + m) b (before l w.labels i) (before (table_of t) w.tables i) (w.tables i)
+    go : (i : ℕ) → i < suc length →
+        IsStep m (n + m + m) b (before l w.labels i) (before (table_of t) w.tables i) (w.tables i)
     go zero h = subst (IsStep m (n + m + m) b l (table_of t)) (sym w.first) step
     go (suc i) h = w.steps i (omega (arith, h))
 
-pub few : (m n : ℕ) (f : Matrix) (cost : ℕ → ℚ) (b : Bounds) (t : Tableau) (length : ℕ) → IsTableauOf m n f cost b t → Walk m n b t length → length < 3 ^ (n + m + m)
+pub few : (m n : ℕ) (f : Matrix) (cost : ℕ → ℚ) (b : Bounds) (t : Tableau) (length : ℕ) → IsTableauOf m n f cost b t →
+    Walk m n b t length → length < 3 ^ (n + m + m)
 few m n f cost b t length s w =
     bounded m (n + m + m) f cost b w.tables w.labels length (record { first = subst (IsTableau m (n + m + m) f cost b) (sym w.first) s.tableau; steps = w.steps })
 
@@ -71,17 +77,22 @@ pub record IsEnd (limit : Option ℕ) (m n : ℕ) (f : Matrix) (cost : ℕ → �
   pub walk : Walk m n b t length
 
 module _ (limit : Option ℕ) (m n : ℕ) (f : Matrix) (cost : ℕ → ℚ) (b : Bounds) (l : Label) where
-  ends_here : (t : Tableau) (used : ℕ) (e : PrimalEnded) (choice : Choice ℚ) → IsTableauOf m n f cost b t → choice_run limit t ≡ Ok choice → end_or_spent t used choice ≡ Ok e → IsEnd limit m n f cost b t used e
+  ends_here : (t : Tableau) (used : ℕ) (e : PrimalEnded) (choice : Choice ℚ) → IsTableauOf m n f cost b t →
+      choice_run limit t ≡ Ok choice → end_or_spent t used choice ≡ Ok e → IsEnd limit m n f cost b t used e
   ends_here t used e (End end) s c h =
       let z : ◌≡◌ {A = PrimalEnded} (record { end = end; tableau = t; used = used }) e = cc in
       subst (IsEnd limit m n f cost b t used) z (record { after = s; end = choice_is_meant limit m n f cost b t (End end) s c; length = 0; count = omega arith; walk = stand_still m n b t l })
   ends_here t used e (Flip j) s c h = let z : ◌≡◌ {A = Result PrimalEnded (RunStop ℚ)} (Err stop.Spent) (Ok e) = h in cc
-  ends_here t used e (Pivot p j theta to) s c h = let z : ◌≡◌ {A = Result PrimalEnded (RunStop ℚ)} (Err stop.Spent) (Ok e) = h in cc
+  ends_here t used e (Pivot p j theta to) s c h =
+      let z : ◌≡◌ {A = Result PrimalEnded (RunStop ℚ)} (Err stop.Spent) (Ok e) = h in cc
 
-  on_from : (t u : Tableau) (used : ℕ) (e : PrimalEnded) → StepsTo m n f cost b t u → IsEnd limit m n f cost b u (used + 1) e → IsEnd limit m n f cost b t used e
-  on_from t u used e step r = record { after = r.after; end = r.end; length = suc r.length; count = omega (arith, r.count); walk = step_first m n b t u r.length step.label step.step r.walk }
+  on_from : (t u : Tableau) (used : ℕ) (e : PrimalEnded) → StepsTo m n f cost b t u →
+      IsEnd limit m n f cost b u (used + 1) e → IsEnd limit m n f cost b t used e
+  on_from t u used e step r =
+      record { after = r.after; end = r.end; length = suc r.length; count = omega (arith, r.count); walk = step_first m n b t u r.length step.label step.step r.walk }
 
-  pub run_ends : (left used : ℕ) (t : Tableau) (e : PrimalEnded) → IsTableauOf m n f cost b t → run_from limit left used t ≡ Ok e → IsEnd limit m n f cost b t used e
+  pub run_ends : (left used : ℕ) (t : Tableau) (e : PrimalEnded) → IsTableauOf m n f cost b t →
+      run_from limit left used t ≡ Ok e → IsEnd limit m n f cost b t used e
   unfolding run_from
   run_ends zero used t e s h =
       let o = then_ok (refused_as stop.Past (choice_run limit t)) (end_or_spent t used) e h in
@@ -103,7 +114,8 @@ module _ (limit : Option ℕ) (m n : ℕ) (f : Matrix) (cost : ℕ → ℚ) (b :
           on_from t o.0 used e step (more o.0 step.after o.2)
 
   -- where the budget is spent, as many steps were made as it has
-  pub run_spent : (left used : ℕ) (t : Tableau) → IsTableauOf m n f cost b t → run_from limit left used t ≡ Err stop.Spent → Walk m n b t left
+  pub run_spent : (left used : ℕ) (t : Tableau) → IsTableauOf m n f cost b t →
+      run_from limit left used t ≡ Err stop.Spent → Walk m n b t left
   unfolding run_from
   run_spent zero used t s h = stand_still m n b t l
   run_spent (suc left) used t s h = by (then_err (refused_as stop.Past (choice_run limit t)) (end_or_next limit t used (λ u. run_from limit left (used + 1) u)) stop.Spent h) (λ u q g. run_spent left (used + 1) u q g)
@@ -117,7 +129,9 @@ module _ (limit : Option ℕ) (m n : ℕ) (f : Matrix) (cost : ℕ → ℚ) (b :
 
       go : (choice : Choice ℚ) → choice_run limit t ≡ Ok choice → end_or_next limit t used (λ u. run_from limit left (used + 1) u) choice ≡ Err stop.Spent
           → ((u : Tableau) → IsTableauOf m n f cost b u → run_from limit left (used + 1) u ≡ Err stop.Spent → Walk m n b u left) → Walk m n b t (suc left)
-      go (End end) c h more = let z : ◌≡◌ {A = Result PrimalEnded (RunStop ℚ)} (Ok (record { end = end; tableau = t; used = used })) (Err stop.Spent) = h in cc
+      go (End end) c h more =
+          let z : ◌≡◌ {A = Result PrimalEnded (RunStop ℚ)} (Ok (record { end = end; tableau = t; used = used })) (Err stop.Spent) = h in
+          cc
       go (Flip j) c h more =
           made (flip_run limit t j) (choice_is_meant limit m n f cost b t (Flip j) s c)
           (then_err (refused_as stop.Past (flip_run limit t j)) (λ u. run_from limit left (used + 1) u) stop.Spent h) more

@@ -10,7 +10,8 @@ use Rattle.spec_cold.specs.Tables.{bounds_of, IsTableauOf}
 
 -- row r says that its logical, less the row's sum, and its artificial with a sign make 0
 abbrev pub form_rows : Form → List (RowStart ℚ) → Matrix
-form_rows f starts r k = by_column f k (neg_ℚ (form_entry f r k)) (λ i. delta r i) (λ i. logical_sign (start_at starts r) *ℚ delta r i)
+form_rows f starts r k =
+    by_column f k (neg_ℚ (form_entry f r k)) (λ i. delta r i) (λ i. logical_sign (start_at starts r) *ℚ delta r i)
 
 -- a bound or none of each column, and no lower one is above the upper one
 pub record IsProper (f : Form) : Type 0 where

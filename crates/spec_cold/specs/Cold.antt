@@ -39,7 +39,8 @@ multipliers t = made t.rows (λ i. reduced_at t (t.cols + i))
 -- how column k moves while column j enters and rises or falls by 1: by the last of the first m positions at which it is basic
 abbrev pub moves_below : Tableau → ℕ → Bool → ℕ → ℕ → ℚ
 moves_below t j up k zero = if nat_eq k j then directed up 1ℚ else 0ℚ
-moves_below t j up k (suc m) = if nat_eq (basic_at t m) k then neg_ℚ (directed up (entry_at t m j)) else moves_below t j up k m
+moves_below t j up k (suc m) =
+    if nat_eq (basic_at t m) k then neg_ℚ (directed up (entry_at t m j)) else moves_below t j up k m
 
 abbrev pub moves_by : Tableau → ℕ → Bool → ℕ → ℚ
 moves_by t j up k = moves_below t j up k t.rows

@@ -14,7 +14,8 @@ use Rattle.spec_simplex.specs.Tableau.{Tableau, form_columns, all_columns, is_ar
 use Rattle.spec_simplex.specs.Step.{flip_run, pivot_run}
 
 abbrev pub table_of : Tableau → Table
-table_of t = record { entry = entry_at t; basic = basic_at t; value = value_at t; reduced = reduced_at t; status = status_at t }
+table_of t =
+    record { entry = entry_at t; basic = basic_at t; value = value_at t; reduced = reduced_at t; status = status_at t }
 
 -- artificial columns never enter
 abbrev pub bounds_of : Tableau → Bounds
@@ -65,4 +66,5 @@ abbrev pub IsMeant : ℕ → ℕ → Matrix → (ℕ → ℚ) → Bounds → Opt
 IsMeant m n f cost b limit t (End Optimal) = (w : Way) (k : ℕ) → k < n + m + m → ¬ (IsEligible b (table_of t) w k)
 IsMeant m n f cost b limit t (End (Unbounded j up)) = GoesOn m (n + m + m) b (table_of t) (way up) j
 IsMeant m n f cost b limit t (Flip j) = (u : Tableau) → flip_run limit t j ≡ Ok u → StepsTo m n f cost b t u
-IsMeant m n f cost b limit t (Pivot p j theta to) = (u : Tableau) → pivot_run limit t p j theta to ≡ Ok u → StepsTo m n f cost b t u
+IsMeant m n f cost b limit t (Pivot p j theta to) =
+    (u : Tableau) → pivot_run limit t p j theta to ≡ Ok u → StepsTo m n f cost b t u
