@@ -12,9 +12,11 @@ use Rattle.spec_shape.proofs.Bases.{unpacked_length, unpacked_at, same_word}
 
 -- ---- words with the same bits are the same
 digit_after : (v k : ℕ) → v / 2 ^ (2 * suc k) % 4 ≡ v / 4 / 2 ^ (2 * k) % 4
-digit_after v k = ap (λ w. w % 4) ((let z : 2 * suc k ≡ 2 + 2 * k = omega arith in ap (λ i. v / 2 ^ i) z) ∙ sym (shr-shr v 2 (2 * k)))
+digit_after v k =
+    ap (λ w. w % 4) ((let z : 2 * suc k ≡ 2 + 2 * k = omega arith in ap (λ i. v / 2 ^ i) z) ∙ sym (shr-shr v 2 (2 * k)))
 
-same_digits : (n v w : ℕ) → v < 2 ^ (2 * n) → w < 2 ^ (2 * n) → ((k : ℕ) → k < n → v / 2 ^ (2 * k) % 4 ≡ w / 2 ^ (2 * k) % 4) → v ≡ w
+same_digits : (n v w : ℕ) → v < 2 ^ (2 * n) → w < 2 ^ (2 * n) →
+    ((k : ℕ) → k < n → v / 2 ^ (2 * k) % 4 ≡ w / 2 ^ (2 * k) % 4) → v ≡ w
 same_digits zero v w h l d = omega (arith, h, l)
 same_digits (suc n) v w h l d =
     let first : v / 1 % 4 ≡ w / 1 % 4 = d 0 (omega arith) in
@@ -41,7 +43,8 @@ module _ (f : Form) (is : IsForm f) (words : List ℕ) (same : take 25 words ≡
       outside l = basis_unused (unpacked words) c (omega (arith, l, unpacked_length words)) ∙ sym (well.rest c l h).1
 
   -- word w of the statuses, bit by bit
-  status_digit : (w k : ℕ) → w < 24 → k < 32 → get_or (packed f (unpacked words)) (25 + w) 0 / 2 ^ (2 * k) % 4 ≡ get_or words (25 + w) 0 / 2 ^ (2 * k) % 4
+  status_digit : (w k : ℕ) → w < 24 → k < 32 →
+      get_or (packed f (unpacked words)) (25 + w) 0 / 2 ^ (2 * k) % 4 ≡ get_or words (25 + w) 0 / 2 ^ (2 * k) % 4
   status_digit w k h l =
       sym (at (packed f (unpacked words))) ∙ basis_bits f (unpacked words) (32 * w + k) (omega (arith, h, l)) ∙ status_bits (32 * w + k) (omega (arith, h, l)) ∙ at words
     where

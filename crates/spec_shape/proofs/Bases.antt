@@ -73,7 +73,8 @@ module _ (f : Form) (is : IsForm f) where
     all = packed_length f basis;
     few_rows = omega (arith, packed_rows f basis is, is.few_rows);
     few_columns = omega (arith, packed_cols f basis is, is.few_columns);
-    count = ap₂ basics_below (unpacked_packed basis b.all) (packed_columns f basis is) ∙ b.count ∙ sym (packed_rows f basis is);
+    count =
+        ap₂ basics_below (unpacked_packed basis b.all) (packed_columns f basis is) ∙ b.count ∙ sym (packed_rows f basis is);
     suit = λ c h. let l : c < f.cols + f.rows = omega (arith, h, packed_columns f basis is) in
         ap₂ suits (packed_status basis b.all c l) (front_bits f basis c (omega (arith, l, few)))
         ∙ can_suits (basis_at basis c) (form_lower f c) (form_upper f c) (b.stand c l);
@@ -96,7 +97,8 @@ module _ (f : Form) (is : IsForm f) where
     same_columns = ap₂ ◌+◌ same_cols same_rows
 
     same_bounds : (c : ℕ) → c < places → bounds_at words c ≡ form_code f c
-    same_bounds c h = ap (λ w. w / 2 ^ (2 * (c % 32)) % 4) (same_word (1 + c / 32) (omega (arith, h))) ∙ shape_bits f c h
+    same_bounds c h =
+        ap (λ w. w / 2 ^ (2 * (c % 32)) % 4) (same_word (1 + c / 32) (omega (arith, h))) ∙ shape_bits f c h
 
     pub unpacked_fits : IsWellFormed words → IsBasisOf f (unpacked words)
     unpacked_fits w = record {
@@ -112,7 +114,8 @@ pub front_is : (f : Form) (basis : List Status) → take 25 (packed f basis) ≡
 unfolding packed
 front_is f basis = take_at (shape_of f) (words_of (basis_code basis)) 25 (shape_length f)
 
-pub same_bases : (f g : Form) → IsForm f → IsForm g → SameShape f g → (basis : List Status) → IsBasisOf f basis → IsBasisOf g basis
+pub same_bases : (f g : Form) → IsForm f → IsForm g → SameShape f g → (basis : List Status) → IsBasisOf f basis →
+    IsBasisOf g basis
 same_bases f g is that same basis b =
     subst (IsBasisOf g) (unpacked_packed f is basis b.all)
     (unpacked_fits g that (packed f basis) (front_is f basis ∙ same) (packed_fits f is basis b))

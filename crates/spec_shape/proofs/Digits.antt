@@ -12,7 +12,8 @@ module _ (code : ℕ → ℕ) (small : (c : ℕ) → code c < 4) where
   word_fits c zero = omega arith
   word_fits c (suc n) = omega (arith, next_power n, small c, word_fits (c + 1) n)
 
-  past_first : (c n k : ℕ) → (code c + 4 * word_from code (c + 1) n) / 2 ^ (2 * suc k) ≡ word_from code (c + 1) n / 2 ^ (2 * k)
+  past_first : (c n k : ℕ) →
+      (code c + 4 * word_from code (c + 1) n) / 2 ^ (2 * suc k) ≡ word_from code (c + 1) n / 2 ^ (2 * k)
   past_first c n k =
       (let z : 2 * suc k ≡ 2 + 2 * k = omega arith in ap (λ i. (code c + 4 * word_from code (c + 1) n) / 2 ^ i) z)
       ∙ sym (shr-shr (code c + 4 * word_from code (c + 1) n) 2 (2 * k))
@@ -21,6 +22,7 @@ module _ (code : ℕ → ℕ) (small : (c : ℕ) → code c < 4) where
   -- and of the column k after its first it has the bits
   pub digit_is : (c n k : ℕ) → k < n → word_from code c n / 2 ^ (2 * k) % 4 ≡ code (c + k)
   digit_is c zero k h = absurd (let z : ⊥ = omega (arith, h) in z)
-  digit_is c (suc n) zero h = (let z : (code c + 4 * word_from code (c + 1) n) / 1 % 4 ≡ code c = omega (arith, small c) in z) ∙ (let z : c ≡ c + 0 = omega arith in ap code z)
+  digit_is c (suc n) zero h =
+      (let z : (code c + 4 * word_from code (c + 1) n) / 1 % 4 ≡ code c = omega (arith, small c) in z) ∙ (let z : c ≡ c + 0 = omega arith in ap code z)
   digit_is c (suc n) (suc k) h =
       ap (λ w. w % 4) (past_first c n k) ∙ digit_is (c + 1) n k (omega (arith, h)) ∙ (let z : c + 1 + k ≡ c + suc k = omega arith in ap code z)

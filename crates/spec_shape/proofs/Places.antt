@@ -54,13 +54,17 @@ first_word f = refl
 
 pub shape_word : (f : Form) (w : ℕ) → w < 24 → get_or (shape_of f) (1 + w) 0 ≡ word_from (form_code f) (32 * w) 32
 unfolding shape_of
-shape_word f w h = (let z : 1 + w ≡ suc w = omega arith in ap (λ k. get_or (shape_of f) k 0) z) ∙ get_or-made 24 (λ w. word_from (form_code f) (32 * w) 32) w 0 h
+shape_word f w h =
+    (let z : 1 + w ≡ suc w = omega arith in ap (λ k. get_or (shape_of f) k 0) z) ∙ get_or-made 24 (λ w. word_from (form_code f) (32 * w) 32) w 0 h
 
-pub front_word : (f : Form) (basis : List Status) (w : ℕ) → w < 25 → get_or (packed f basis) w 0 ≡ get_or (shape_of f) w 0
+pub front_word : (f : Form) (basis : List Status) (w : ℕ) → w < 25 →
+    get_or (packed f basis) w 0 ≡ get_or (shape_of f) w 0
 unfolding packed
-front_word f basis w h = get_or_append_left (shape_of f) (words_of (basis_code basis)) 0 w (omega (arith, h, shape_length f))
+front_word f basis w h =
+    get_or_append_left (shape_of f) (words_of (basis_code basis)) 0 w (omega (arith, h, shape_length f))
 
-pub basis_word : (f : Form) (basis : List Status) (w : ℕ) → w < 24 → get_or (packed f basis) (25 + w) 0 ≡ word_from (basis_code basis) (32 * w) 32
+pub basis_word : (f : Form) (basis : List Status) (w : ℕ) → w < 24 →
+    get_or (packed f basis) (25 + w) 0 ≡ word_from (basis_code basis) (32 * w) 32
 unfolding packed
 basis_word f basis w h =
     get_or-append_right (shape_of f) (words_of (basis_code basis)) 25 (25 + w) 0 (shape_length f) (omega arith)
@@ -82,7 +86,8 @@ front_bits f basis c h =
     code_in (form_code f) (form_small f) 1 (packed f basis) c
     (front_word f basis (1 + c / 32) (omega (arith, h)) ∙ shape_word f (c / 32) (omega (arith, h)))
 
-pub basis_bits : (f : Form) (basis : List Status) (c : ℕ) → c < places → code_at 25 (packed f basis) c ≡ basis_code basis c
+pub basis_bits : (f : Form) (basis : List Status) (c : ℕ) → c < places →
+    code_at 25 (packed f basis) c ≡ basis_code basis c
 basis_bits f basis c h =
     code_in (basis_code basis) (basis_small basis) 25 (packed f basis) c (basis_word f basis (c / 32) (omega (arith, h)))
 
@@ -110,7 +115,8 @@ packed_columns f basis h = ap₂ ◌+◌ (packed_cols f basis h) (packed_rows f 
 
 -- ---- each word has 64 bits
 words_small : (code : ℕ → ℕ) → ((c : ℕ) → code c < 4) → All (λ w. w < 2 ^ 64) (words_of code)
-words_small code small = All-made (λ w. w < 2 ^ 64) 24 (λ w. word_from code (32 * w) 32) (λ w h. word_fits code small (32 * w) 32)
+words_small code small =
+    All-made (λ w. w < 2 ^ 64) 24 (λ w. word_from code (32 * w) 32) (λ w h. word_fits code small (32 * w) 32)
 
 shape_small : (f : Form) → IsForm f → All (λ w. w < 2 ^ 64) (shape_of f)
 unfolding shape_of
@@ -119,4 +125,5 @@ shape_small f h =
 
 pub packed_small : (f : Form) (basis : List Status) → IsForm f → All (λ w. w < 2 ^ 64) (packed f basis)
 unfolding packed
-packed_small f basis h = All-append (λ w. w < 2 ^ 64) (shape_of f) (words_of (basis_code basis)) (shape_small f h) (words_small (basis_code basis) (basis_small basis))
+packed_small f basis h =
+    All-append (λ w. w < 2 ^ 64) (shape_of f) (words_of (basis_code basis)) (shape_small f h) (words_small (basis_code basis) (basis_small basis))

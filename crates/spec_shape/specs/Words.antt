@@ -1,4 +1,4 @@
--- Words in which the shape of a form, and a basis of it, are handed on.
+-- Words in which the shape of a form, and a basis of it, are passed on.
 --
 -- Word 0 has the numbers of rows and columns. Words 1 to 24 have two bits for each structural and then each logical column,
 -- which say what bounds it has, and words 25 to 48 two bits for its status: those of column c stand at bit 2 * (c % 32) of

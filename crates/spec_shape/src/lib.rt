@@ -1,4 +1,4 @@
-//! Words in which the shape of a form, and a basis of it, are handed on: their definitions, and laws.
+//! Words in which the shape of a form, and a basis of it, are passed on: their definitions, and laws.
 //!
 //! | Item | What it is | Where |
 //! |---|---|---|

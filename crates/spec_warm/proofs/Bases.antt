@@ -59,12 +59,15 @@ module _ (f : Form) (starts : List (RowStart ℚ)) (cost : ℕ → ℚ) (b : Bou
       (λ s. let w = g.placed k h s in basic_test (status_at t k) s ∙ sym (member_test f.rows (basic_at t) k w.0 w.1 w.2))
       (λ s. nonbasic_test (status_at t k) s ∙ sym (none s (member f.rows (basic_at t) k) refl))
     where
-      none : ¬ (status_at t k ≡ Basic) → (c : Bool) → member f.rows (basic_at t) k ≡ c → member f.rows (basic_at t) k ≡ false
-      none s true e = let w = member_if f.rows (basic_at t) k e in absurd (s (ap (status_at t) (sym w.2) ∙ g.marked w.0 w.1))
+      none : ¬ (status_at t k ≡ Basic) → (c : Bool) → member f.rows (basic_at t) k ≡ c →
+          member f.rows (basic_at t) k ≡ false
+      none s true e =
+          let w = member_if f.rows (basic_at t) k e in absurd (s (ap (status_at t) (sym w.2) ∙ g.marked w.0 w.1))
       none s false e = e
 
   all_basics : count n basic ≡ f.rows
-  all_basics = count_same n basic (member f.rows (basic_at t)) basic_member ∙ count_members f.rows n (basic_at t) g.in_range (λ i r h l e. apart f.rows (entry_at t) (basic_at t) g.units i r h l e)
+  all_basics =
+      count_same n basic (member f.rows (basic_at t)) basic_member ∙ count_members f.rows n (basic_at t) g.in_range (λ i r h l e. apart f.rows (entry_at t) (basic_at t) g.units i r h l e)
 
   -- ---- a row's logical and its artificial are not both basic, since their columns are the same but for a sign
   logical_entry : (r i : ℕ) → r < f.rows → i < f.rows → entry_at t r (f.cols + i) ≡ g.forth.0 r i
@@ -73,7 +76,8 @@ module _ (f : Form) (starts : List (RowStart ℚ)) (cost : ℕ → ℚ) (b : Bou
       ∙ sum_below_same f.rows _ (λ s. delta i s *ℚ g.forth.0 r s) (λ s q. ap (λ a. g.forth.0 r s *ℚ a) (row_logical f starts s i l ∙ delta_sym s i) ∙ *ℚ_comm (g.forth.0 r s) (delta i s))
       ∙ sum_below-delta f.rows i (g.forth.0 r) l
 
-  artificial_entry : (r i : ℕ) → r < f.rows → i < f.rows → entry_at t r (f.cols + f.rows + i) ≡ logical_sign (start_at starts i) *ℚ g.forth.0 r i
+  artificial_entry : (r i : ℕ) → r < f.rows → i < f.rows →
+      entry_at t r (f.cols + f.rows + i) ≡ logical_sign (start_at starts i) *ℚ g.forth.0 r i
   artificial_entry r i h l =
       g.forth.1 r (f.cols + f.rows + i) h
       ∙ sum_below_same f.rows _ (λ s. delta i s *ℚ (logical_sign (start_at starts s) *ℚ g.forth.0 r s))
@@ -108,7 +112,8 @@ module _ (f : Form) (starts : List (RowStart ℚ)) (cost : ℕ → ℚ) (b : Bou
       ap is_basic (at_is k (omega (arith, h)))
       ∙ ap (λ c. is_basic (cond (c && is_basic (status_at t (k + t.rows))) Basic (status_at t k))) (lt-leb t.cols k (omega (arith, h, cols)))
 
-  logical_is : (i : ℕ) → i < f.rows → is_basic (basis_at basis (f.cols + i)) ≡ basic (f.cols + i) || basic (f.cols + f.rows + i)
+  logical_is : (i : ℕ) → i < f.rows →
+      is_basic (basis_at basis (f.cols + i)) ≡ basic (f.cols + i) || basic (f.cols + f.rows + i)
   logical_is i h =
       ap is_basic (at_is (f.cols + i) (omega (arith, h)))
       ∙ ap (λ c. is_basic (cond (c && is_basic (status_at t (f.cols + i + t.rows))) Basic (status_at t (f.cols + i)))) (le-leb t.cols (f.cols + i) (omega (arith, cols)))

@@ -10,10 +10,12 @@ use Rattle.spec_cold.proofs.Lists.{by_lt}
 use Rattle.spec_warm.specs.Based.{IsBased}
 
 -- with the counts of the tableau itself
-pub own_counts : (m n : ℕ) (f : Matrix) (cost : ℕ → ℚ) (b : Bounds) (t : Tableau) → IsBased m n f cost b t → IsBased t.rows t.cols f cost b t
+pub own_counts : (m n : ℕ) (f : Matrix) (cost : ℕ → ℚ) (b : Bounds) (t : Tableau) → IsBased m n f cost b t →
+    IsBased t.rows t.cols f cost b t
 own_counts m n f cost b t s = subst₂ (λ m n. IsBased m n f cost b t) (sym s.rows) (sym s.cols) s
 
-pub given_counts : (m n : ℕ) (f : Matrix) (cost : ℕ → ℚ) (b : Bounds) (t u : Tableau) → IsBased m n f cost b t → IsBased t.rows t.cols f cost b u → IsBased m n f cost b u
+pub given_counts : (m n : ℕ) (f : Matrix) (cost : ℕ → ℚ) (b : Bounds) (t u : Tableau) → IsBased m n f cost b t →
+    IsBased t.rows t.cols f cost b u → IsBased m n f cost b u
 given_counts m n f cost b t u s = subst₂ (λ m n. IsBased m n f cost b u) s.rows s.cols
 
 module _ (f : Matrix) (cost : ℕ → ℚ) (b : Bounds) (t : Tableau) (s : IsBased t.rows t.cols f cost b t) where
@@ -29,7 +31,9 @@ module _ (f : Matrix) (cost : ℕ → ℚ) (b : Bounds) (t : Tableau) (s : IsBas
       (λ e. s.bounds.fixed k l h e ∙ sym (s.top k l h)))
 
   pub fixed_is : (k : ℕ) → k < all_columns t → is_fixed (lower_at t k) (upper_at t k) ≡ true → IsFixed b k
-  fixed_is k h e = let v = fixed_means (lower_at t k) (upper_at t k) e in (v.0, sym (lower_same k h) ∙ v.1, sym (upper_same k h) ∙ v.2)
+  fixed_is k h e =
+      let v = fixed_means (lower_at t k) (upper_at t k) e in
+      (v.0, sym (lower_same k h) ∙ v.1, sym (upper_same k h) ∙ v.2)
 
   pub fixed_found : (k : ℕ) → k < all_columns t → IsFixed b k → is_fixed (lower_at t k) (upper_at t k) ≡ true
   fixed_found k h v = fixed_test (lower_at t k) (upper_at t k) v.0 (lower_same k h ∙ v.1) (upper_same k h ∙ v.2)

@@ -26,7 +26,8 @@ use Rattle.spec_simplex.specs.Dual.{place_below, dual_way_at, cheaper_by, cheape
 use Rattle.spec_warm.proofs.Bounded.{fixed_is, not_fixed_is}
 
 -- ---- the position of a basic column
-pub place_is : (t : Tableau) (k n r : ℕ) → r < n → basic_at t r ≡ k → (place_below t k n < n) × (basic_at t (place_below t k n) ≡ k)
+pub place_is : (t : Tableau) (k n r : ℕ) → r < n → basic_at t r ≡ k →
+    (place_below t k n < n) × (basic_at t (place_below t k n) ≡ k)
 place_is t k zero r h e = absurd (let z : ⊥ = omega (arith, h) in z)
 place_is t k (suc n) r h e = by (nat_eq (basic_at t n) k) refl (λ l. place_is t k n r l e)
   where
@@ -63,16 +64,21 @@ way_some AtUpper a up e = by (lt_ℚ 0ℚ a) refl e
     by false p e = let z : None ≡ Some up = e in cc
 way_some AtZero a up e = by (lt_ℚ a 0ℚ) (lt_ℚ 0ℚ a) refl refl e
   where
-    by : (c d : Bool) → lt_ℚ a 0ℚ ≡ c → lt_ℚ 0ℚ a ≡ d → cond c (Some true) (cond d (Some false) None) ≡ Some up → ¬ (a ≡ 0ℚ)
+    by : (c d : Bool) → lt_ℚ a 0ℚ ≡ c → lt_ℚ 0ℚ a ≡ d → cond c (Some true) (cond d (Some false) None) ≡ Some up →
+        ¬ (a ≡ 0ℚ)
     by true d p q e = not-zero_from_below a (lt_if a 0ℚ p)
     by false true p q e = not-zero_from_lt a (lt_if 0ℚ a q)
     by false false p q e = let z : None ≡ Some up = e in cc
 
 -- ---- the better of two
-kept_least : (new best : Cheapest ℚ) (o : Ordering) → o ≡ order new.ratio best.ratio → ((cheaper_by new best o).ratio ≤ℚ new.ratio) × ((cheaper_by new best o).ratio ≤ℚ best.ratio)
-kept_least new best Less e = (≤ℚ_refl new.ratio, <ℚ-le new.ratio best.ratio ((order_less new.ratio best.ratio).0 (sym e)))
-kept_least new best Equal e = (subst (λ a. best.ratio ≤ℚ a) (sym ((order_equal new.ratio best.ratio).0 (sym e))) (≤ℚ_refl best.ratio), ≤ℚ_refl best.ratio)
-kept_least new best Greater e = (<ℚ-le best.ratio new.ratio ((order_greater new.ratio best.ratio).0 (sym e)), ≤ℚ_refl best.ratio)
+kept_least : (new best : Cheapest ℚ) (o : Ordering) → o ≡ order new.ratio best.ratio →
+    ((cheaper_by new best o).ratio ≤ℚ new.ratio) × ((cheaper_by new best o).ratio ≤ℚ best.ratio)
+kept_least new best Less e =
+    (≤ℚ_refl new.ratio, <ℚ-le new.ratio best.ratio ((order_less new.ratio best.ratio).0 (sym e)))
+kept_least new best Equal e =
+    (subst (λ a. best.ratio ≤ℚ a) (sym ((order_equal new.ratio best.ratio).0 (sym e))) (≤ℚ_refl best.ratio), ≤ℚ_refl best.ratio)
+kept_least new best Greater e =
+    (<ℚ-le best.ratio new.ratio ((order_greater new.ratio best.ratio).0 (sym e)), ≤ℚ_refl best.ratio)
 
 one_of : (P : Cheapest ℚ → Type 0) (new best : Cheapest ℚ) (o : Ordering) → P new → P best → P (cheaper_by new best o)
 one_of P new best Less p q = p
@@ -90,16 +96,20 @@ module _ (limit : Option ℕ) (f : Matrix) (cost : ℕ → ℚ) (b : Bounds) (t 
   not_candidate : (k : ℕ) → k < all_columns t → dual_way_at t p below k ≡ None → ¬ (Candidate k)
   not_candidate k h e c = by (is_fixed (lower_at t k) (upper_at t k)) refl e
     where
-      by : (d : Bool) → is_fixed (lower_at t k) (upper_at t k) ≡ d → cond d None (way_by (status_at t k) (directed below (entry_at t p k))) ≡ None → ⊥
+      by : (d : Bool) → is_fixed (lower_at t k) (upper_at t k) ≡ d →
+          cond d None (way_by (status_at t k) (directed below (entry_at t p k))) ≡ None → ⊥
       by true d e = c.not_fixed (fixed_is f cost b t s k h d)
-      by false d e = way_none (status_at t k) (directed below (entry_at t p k)) e (subst (Helps (status_at t k)) (sym (row_is k)) c.helps)
+      by false d e =
+          way_none (status_at t k) (directed below (entry_at t p k)) e (subst (Helps (status_at t k)) (sym (row_is k)) c.helps)
 
   a_candidate : (k : ℕ) (up : Bool) → k < all_columns t → dual_way_at t p below k ≡ Some up → Candidate k
   a_candidate k up h e = by (is_fixed (lower_at t k) (upper_at t k)) refl e
     where
-      by : (d : Bool) → is_fixed (lower_at t k) (upper_at t k) ≡ d → cond d None (way_by (status_at t k) (directed below (entry_at t p k))) ≡ Some up → Candidate k
+      by : (d : Bool) → is_fixed (lower_at t k) (upper_at t k) ≡ d →
+          cond d None (way_by (status_at t k) (directed below (entry_at t p k))) ≡ Some up → Candidate k
       by true d e = let z : None ≡ Some up = e in cc
-      by false d e = record { not_fixed = not_fixed_is f cost b t s k h d; helps = subst (Helps (status_at t k)) (row_is k) (way_some (status_at t k) (directed below (entry_at t p k)) up e) }
+      by false d e =
+          record { not_fixed = not_fixed_is f cost b t s k h d; helps = subst (Helps (status_at t k)) (row_is k) (way_some (status_at t k) (directed below (entry_at t p k)) up e) }
 
   -- a candidate whose ratio is the least of those of the first n columns
   record IsLeast (n : ℕ) (x : Cheapest ℚ) : Type 0 where
@@ -112,14 +122,17 @@ module _ (limit : Option ℕ) (f : Matrix) (cost : ℕ → ℚ) (b : Bounds) (t 
   CheapestIs n None = (k : ℕ) → k < n → ¬ (Candidate k)
   CheapestIs n (Some x) = IsLeast n x
 
-  with_one : (k : ℕ) (q : ℚ) → k < all_columns t → Candidate k → q ≡ ratio (table_of t) p k → (best next : Option (Cheapest ℚ)) → CheapestIs k best → cheaper_run limit (record { ratio = q; col = k }) best ≡ Ok next → CheapestIs (suc k) next
+  with_one : (k : ℕ) (q : ℚ) → k < all_columns t → Candidate k → q ≡ ratio (table_of t) p k →
+      (best next : Option (Cheapest ℚ)) → CheapestIs k best →
+      cheaper_run limit (record { ratio = q; col = k }) best ≡ Ok next → CheapestIs (suc k) next
   with_one k q h c e None next was ok =
       let z : ◌≡◌ {A = Option (Cheapest ℚ)} (Some (record { ratio = q; col = k })) next = cc in
       subst (CheapestIs (suc k)) z (record {
         inside = h;
         candidate = c;
         ratio_at = e;
-        least = λ i l d. by_eq i k (λ y. subst (λ a. q ≤ℚ a) (e ∙ ap (ratio (table_of t) p) (sym y)) (≤ℚ_refl q)) (λ y. absurd (was i (omega (arith, l, y)) d));
+        least =
+            λ i l d. by_eq i k (λ y. subst (λ a. q ≤ℚ a) (e ∙ ap (ratio (table_of t) p) (sym y)) (≤ℚ_refl q)) (λ y. absurd (was i (omega (arith, l, y)) d));
       })
   with_one k q h c e (Some x) next was ok =
       let o = then_ok (order_run limit q x.ratio) (λ o. Ok (Some (cheaper_by (record { ratio = q; col = k }) x o))) next ok in
@@ -136,7 +149,8 @@ module _ (limit : Option ℕ) (f : Matrix) (cost : ℕ → ℚ) (b : Bounds) (t 
       })
 
   without_one : (k : ℕ) (best : Option (Cheapest ℚ)) → ¬ (Candidate k) → CheapestIs k best → CheapestIs (suc k) best
-  without_one k None n was = λ i l. by_eq i k (λ y. subst (λ i. ¬ (Candidate i)) (sym y) n) (λ y. was i (omega (arith, l, y)))
+  without_one k None n was =
+      λ i l. by_eq i k (λ y. subst (λ i. ¬ (Candidate i)) (sym y) n) (λ y. was i (omega (arith, l, y)))
   without_one k (Some x) n was = record {
     inside = was.inside;
     candidate = was.candidate;
@@ -144,22 +158,28 @@ module _ (limit : Option ℕ) (f : Matrix) (cost : ℕ → ℚ) (b : Bounds) (t 
     least = λ i l d. by_eq i k (λ y. absurd (n (subst Candidate y d))) (λ y. was.least i (omega (arith, l, y)) d);
   }
 
-  step : (k : ℕ) (best next : Option (Cheapest ℚ)) → k < all_columns t → CheapestIs k best → cheapest_with limit t p below k best ≡ Ok next → CheapestIs (suc k) next
+  step : (k : ℕ) (best next : Option (Cheapest ℚ)) → k < all_columns t → CheapestIs k best →
+      cheapest_with limit t p below k best ≡ Ok next → CheapestIs (suc k) next
   step k best next h was ok = by (dual_way_at t p below k) refl ok
     where
-      by : (o : Option Bool) → dual_way_at t p below k ≡ o → cheapest_by limit t p k best o ≡ Ok next → CheapestIs (suc k) next
-      by None e ok = let z : best ≡ next = cc in subst (CheapestIs (suc k)) z (without_one k best (not_candidate k h e) was)
+      by : (o : Option Bool) → dual_way_at t p below k ≡ o → cheapest_by limit t p k best o ≡ Ok next →
+          CheapestIs (suc k) next
+      by None e ok =
+          let z : best ≡ next = cc in subst (CheapestIs (suc k)) z (without_one k best (not_candidate k h e) was)
       by (Some up) e ok =
           let o = then_ok (quotient_run limit (abs_ℚ (reduced_at t k)) (abs_ℚ (entry_at t p k))) (λ ratio. cheaper_run limit (record { ratio = ratio; col = k }) best) next ok in
           with_one k o.0 h (a_candidate k up h e) (quotient_ok limit (abs_ℚ (reduced_at t k)) (abs_ℚ (entry_at t p k)) o.0 o.1) best next was o.2
 
   cheapest_is : (best : Option (Cheapest ℚ)) → cheapest_run limit t p below ≡ Ok best → CheapestIs (all_columns t) best
-  cheapest_is best ok = steps_ok CheapestIs (all_columns t) (cheapest_with limit t p below) None best ok (λ k l. absurd (let z : ⊥ = omega (arith, l) in z)) step
+  cheapest_is best ok =
+      steps_ok CheapestIs (all_columns t) (cheapest_with limit t p below) None best ok (λ k l. absurd (let z : ⊥ = omega (arith, l) in z)) step
 
-  pub none_cheapest : cheapest_run limit t p below ≡ Ok None → (k : ℕ) → k < all_columns t → ¬ (IsCandidate b (table_of t) (way below) p k)
+  pub none_cheapest : cheapest_run limit t p below ≡ Ok None → (k : ℕ) → k < all_columns t →
+      ¬ (IsCandidate b (table_of t) (way below) p k)
   none_cheapest ok = cheapest_is None ok
 
-  pub a_cheapest : (x : Cheapest ℚ) → cheapest_run limit t p below ≡ Ok (Some x) → IsCheapest (all_columns t) b (table_of t) (way below) p x.col
+  pub a_cheapest : (x : Cheapest ℚ) → cheapest_run limit t p below ≡ Ok (Some x) →
+      IsCheapest (all_columns t) b (table_of t) (way below) p x.col
   a_cheapest x ok =
       let there : IsLeast (all_columns t) x = cheapest_is (Some x) ok in
       record { in_range = there.inside; candidate = there.candidate; least = λ k l c. subst (λ a. a ≤ℚ ratio (table_of t) p k) there.ratio_at (there.least k l c) }

@@ -38,14 +38,16 @@ filled_most basic (suc n) = by (has_none (get_or basic n None)) (filled_most bas
     by false h = omega (arith, h)
 
 -- where all have one, each has
-pub filled_all : (basic : List (Option ℕ)) (n : ℕ) → filled basic n ≡ n → (i : ℕ) → i < n → has_none (get_or basic i None) ≡ false
+pub filled_all : (basic : List (Option ℕ)) (n : ℕ) → filled basic n ≡ n → (i : ℕ) → i < n →
+    has_none (get_or basic i None) ≡ false
 filled_all basic zero h i l = absurd (let z : ⊥ = omega (arith, l) in z)
 filled_all basic (suc n) h i l = by (has_none (get_or basic n None)) refl h (filled_all basic n)
   where
     by : (c : Bool) → has_none (get_or basic n None) ≡ c → filled basic n + cond c 0 1 ≡ suc n → (filled basic n ≡ n → (i : ℕ) → i < n → has_none (get_or basic i None) ≡ false)
         → has_none (get_or basic i None) ≡ false
     by true e h more = absurd (let z : ⊥ = omega (arith, h, filled_most basic n) in z)
-    by false e h more = by_eq i n (λ z. ap (λ i. has_none (get_or basic i None)) z ∙ e) (λ z. more (omega (arith, h)) i (omega (arith, l, z)))
+    by false e h more =
+        by_eq i n (λ z. ap (λ i. has_none (get_or basic i None)) z ∙ e) (λ z. more (omega (arith, h)) i (omega (arith, l, z)))
 
 filled_before : (basic : List (Option ℕ)) (p j n : ℕ) → n ≤ p → filled (set basic p (Some j)) n ≡ filled basic n
 filled_before basic p j zero h = refl
@@ -54,7 +56,8 @@ filled_before basic p j (suc n) h =
     (get_or-set_other basic p n (Some j) None (λ e. let z : ⊥ = omega (arith, h, e) in z))
 
 -- one more position
-pub filled_set : (basic : List (Option ℕ)) (p j n : ℕ) → p < n → p < length basic → has_none (get_or basic p None) ≡ true → filled (set basic p (Some j)) n ≡ filled basic n + 1
+pub filled_set : (basic : List (Option ℕ)) (p j n : ℕ) → p < n → p < length basic →
+    has_none (get_or basic p None) ≡ true → filled (set basic p (Some j)) n ≡ filled basic n + 1
 filled_set basic p j zero h l e = absurd (let z : ⊥ = omega (arith, h) in z)
 filled_set basic p j (suc n) h l e =
     by_eq p n

@@ -20,10 +20,13 @@ module _ (limit : Option ℕ) (m n : ℕ) (f : Matrix) (cost : ℕ → ℚ) (b :
   own_ready : (t : Tableau) → IsReady m n f cost b t → IsReady t.rows t.cols f cost b t
   own_ready t s = subst₂ (λ m n. IsReady m n f cost b t) (sym s.based.rows) (sym s.based.cols) s
 
-  pub ready_meant : (t : Tableau) (choice : DualChoice) → IsReady m n f cost b t → dual_choice_run limit t ≡ Ok choice → IsDualMeant m n b t choice
-  ready_meant t choice s h = subst₂ (λ m n. IsDualMeant m n b t choice) s.based.rows s.based.cols (choice_meant limit f cost b t (own_ready t s).based choice h)
+  pub ready_meant : (t : Tableau) (choice : DualChoice) → IsReady m n f cost b t → dual_choice_run limit t ≡ Ok choice →
+      IsDualMeant m n b t choice
+  ready_meant t choice s h =
+      subst₂ (λ m n. IsDualMeant m n b t choice) s.based.rows s.based.cols (choice_meant limit f cost b t (own_ready t s).based choice h)
 
-  pub ready_next : (t u : Tableau) (p j : ℕ) (below : Bool) → IsReady m n f cost b t → IsDualStep m n b t p j below → dual_pivot_run limit t p j (passed_bound below) ≡ Ok u → IsReady m n f cost b u
+  pub ready_next : (t u : Tableau) (p j : ℕ) (below : Bool) → IsReady m n f cost b t → IsDualStep m n b t p j below →
+      dual_pivot_run limit t p j (passed_bound below) ≡ Ok u → IsReady m n f cost b u
   ready_next t u p j below s d h =
       subst₂ (λ m n. IsReady m n f cost b u) s.based.rows s.based.cols
       (pivot_ready limit f cost b t (own_ready t s).based (own_ready t s).feasible p j below
@@ -38,7 +41,8 @@ module _ (limit : Option ℕ) (m n : ℕ) (f : Matrix) (cost : ℕ → ℚ) (b :
       own = record {
         bound = d.bound;
         leaves = subst (λ m. Leaves m b (table_of t) (way below) p d.bound) (sym s.based.rows) d.leaves;
-        cheapest = subst₂ (λ m n. IsCheapest (n + m + m) b (table_of t) (way below) p j) (sym s.based.rows) (sym s.based.cols) d.cheapest;
+        cheapest =
+            subst₂ (λ m n. IsCheapest (n + m + m) b (table_of t) (way below) p j) (sym s.based.rows) (sym s.based.cols) d.cheapest;
       }
 
   -- what is known of an end
@@ -46,11 +50,13 @@ module _ (limit : Option ℕ) (m n : ℕ) (f : Matrix) (cost : ℕ → ℚ) (b :
     pub after : IsReady m n f cost b e.tableau
     pub end : IsDualMeant m n b e.tableau (End e.end)
 
-  ends_here : (t : Tableau) (used : ℕ) (e : DualEnded) (choice : DualChoice) → IsReady m n f cost b t → dual_choice_run limit t ≡ Ok choice → dual_end_or_spent t used choice ≡ Ok e → IsDualEnd e
+  ends_here : (t : Tableau) (used : ℕ) (e : DualEnded) (choice : DualChoice) → IsReady m n f cost b t →
+      dual_choice_run limit t ≡ Ok choice → dual_end_or_spent t used choice ≡ Ok e → IsDualEnd e
   ends_here t used e (End end) s c h =
       let z : ◌≡◌ {A = DualEnded} (record { end = end; tableau = t; used = used }) e = cc in
       subst IsDualEnd z (record { after = s; end = ready_meant t (End end) s c })
-  ends_here t used e (Pivot p j to) s c h = let z : ◌≡◌ {A = Result DualEnded (RunStop ℚ)} (Err stop.Spent) (Ok e) = h in cc
+  ends_here t used e (Pivot p j to) s c h =
+      let z : ◌≡◌ {A = Result DualEnded (RunStop ℚ)} (Err stop.Spent) (Ok e) = h in cc
 
   goes_on : (t : Tableau) (used : ℕ) (e : DualEnded) (next : Tableau → Result DualEnded (RunStop ℚ)) (choice : DualChoice) → IsReady m n f cost b t → dual_choice_run limit t ≡ Ok choice → dual_end_or_next limit t used next choice ≡ Ok e
       → ((u : Tableau) → IsReady m n f cost b u → next u ≡ Ok e → IsDualEnd e) → IsDualEnd e
@@ -60,7 +66,8 @@ module _ (limit : Option ℕ) (m n : ℕ) (f : Matrix) (cost : ℕ → ℚ) (b :
       let d = ready_meant t (Pivot p j to) s c in
       more o.0 (ready_next t o.0 p j d.0 s d.1 (ap (dual_pivot_run limit t p j) (sym d.2) ∙ refused_ok stop.Past (dual_pivot_run limit t p j to) o.0 o.1)) o.2
 
-  pub dual_ends : (left used : ℕ) (t : Tableau) (e : DualEnded) → IsReady m n f cost b t → dual_from limit left used t ≡ Ok e → IsDualEnd e
+  pub dual_ends : (left used : ℕ) (t : Tableau) (e : DualEnded) → IsReady m n f cost b t →
+      dual_from limit left used t ≡ Ok e → IsDualEnd e
   unfolding dual_from
   dual_ends zero used t e s h =
       let o = then_ok (refused_as stop.Past (dual_choice_run limit t)) (dual_end_or_spent t used) e h in

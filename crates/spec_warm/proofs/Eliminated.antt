@@ -32,8 +32,10 @@ pub record IsOpen (e : Elimination) (j n p : ℕ) : Type 0 where
 open_means : (e : Elimination) (j n p : ℕ) → p < n → is_open e j p ≡ true → IsOpen e j n p
 open_means e j n p h o = by (has_none (get_or e.basic p None)) (eq_ℚ (at_place e.rows p j) 0ℚ) refl refl o
   where
-    by : (c d : Bool) → has_none (get_or e.basic p None) ≡ c → eq_ℚ (at_place e.rows p j) 0ℚ ≡ d → c && not d ≡ true → IsOpen e j n p
-    by true false c d o = record { position = h; free = c; entry = λ z. let y : false ≡ true = sym d ∙ eq_test (at_place e.rows p j) 0ℚ z in cc }
+    by : (c d : Bool) → has_none (get_or e.basic p None) ≡ c → eq_ℚ (at_place e.rows p j) 0ℚ ≡ d → c && not d ≡ true →
+        IsOpen e j n p
+    by true false c d o =
+        record { position = h; free = c; entry = λ z. let y : false ≡ true = sym d ∙ eq_test (at_place e.rows p j) 0ℚ z in cc }
     by true true c d o = let z : false ≡ true = o in cc
     by false d c y o = let z : false ≡ true = o in cc
 
@@ -41,11 +43,13 @@ pub open_is : (e : Elimination) (j n p : ℕ) → open_below e j n ≡ Some p �
 open_is e j zero p h = let z : None ≡ Some p = h in cc
 open_is e j (suc n) p h = by (open_below e j n) (is_open e j n) refl h (λ h. open_is e j n p h)
   where
-    by : (o : Option ℕ) (c : Bool) → is_open e j n ≡ c → or_place o n c ≡ Some p → (o ≡ Some p → IsOpen e j n p) → IsOpen e j (suc n) p
+    by : (o : Option ℕ) (c : Bool) → is_open e j n ≡ c → or_place o n c ≡ Some p → (o ≡ Some p → IsOpen e j n p) →
+        IsOpen e j (suc n) p
     by (Some x) c q h before =
         let there : IsOpen e j n p = before h in
         record { position = omega (arith, there.position); free = there.free; entry = there.entry }
-    by None true q h before = let z : n ≡ p = cc in subst (IsOpen e j (suc n)) z (open_means e j (suc n) n (omega arith) q)
+    by None true q h before =
+        let z : n ≡ p = cc in subst (IsOpen e j (suc n)) z (open_means e j (suc n) n (omega arith) q)
     by None false q h before = let z : None ≡ Some p = h in cc
 
 module _ (limit : Option ℕ) (f : Form) (basis : List Status) where
@@ -102,7 +106,8 @@ module _ (limit : Option ℕ) (f : Form) (basis : List Status) where
         (λ z. let y : false ≡ true = sym c ∙ basic_test (basis_at basis j) (ap (basis_at basis) (sym z) ∙ b) in cc)
         (λ z. s.placed k (omega (arith, h, z)) b);
     only = λ i k h z. let o = s.only i k h z in (omega (arith, o.0), o.1);
-    count = s.count ∙ sym (ap (λ c. basics_below basis j + cond c 1 0) c ∙ (let z : basics_below basis j + 0 ≡ basics_below basis j = omega arith in z));
+    count =
+        s.count ∙ sym (ap (λ c. basics_below basis j + cond c 1 0) c ∙ (let z : basics_below basis j + 0 ≡ basics_below basis j = omega arith in z));
   }
 
   -- ---- one that is
@@ -112,18 +117,21 @@ module _ (limit : Option ℕ) (f : Form) (basis : List Status) where
     next = record { rows = rows; basic = set e.basic p (Some j) }
 
     entries : at_place rows ≡ pivoted (at_place e.rows) p j
-    entries = fun_ext (λ i. fun_ext (λ k. turned_entry limit f.rows (f.cols + f.rows + f.rows) e.rows s.all_rows s.whole_rows p j o.position rows ok i k))
+    entries =
+        fun_ext (λ i. fun_ext (λ k. turned_entry limit f.rows (f.cols + f.rows + f.rows) e.rows s.all_rows s.whole_rows p j o.position rows ok i k))
 
     p_in : p < length e.basic
     p_in = omega (arith, o.position, s.all_basic)
 
-    by_place : {P : Type 0} (i k : ℕ) → get_or (set e.basic p (Some j)) i None ≡ Some k → (i ≡ p → k ≡ j → P) → (i ≢ p → get_or e.basic i None ≡ Some k → P) → P
+    by_place : {P : Type 0} (i k : ℕ) → get_or (set e.basic p (Some j)) i None ≡ Some k → (i ≡ p → k ≡ j → P) →
+        (i ≢ p → get_or e.basic i None ≡ Some k → P) → P
     by_place i k h f g =
         by_eq i p
         (λ z. f z (let y : Some j ≡ Some k = sym (get_or-set_same e.basic p (Some j) None p_in) ∙ ap (λ i. get_or (set e.basic p (Some j)) i None) (sym z) ∙ h in let x : k ≡ j = cc in x))
         (λ z. g z (sym (get_or-set_other e.basic p i (Some j) None z) ∙ h))
 
-    units_kept : (i k r : ℕ) → i < f.rows → r < f.rows → get_or (set e.basic p (Some j)) i None ≡ Some k → pivoted (at_place e.rows) p j r k ≡ delta i r
+    units_kept : (i k r : ℕ) → i < f.rows → r < f.rows → get_or (set e.basic p (Some j)) i None ≡ Some k →
+        pivoted (at_place e.rows) p j r k ≡ delta i r
     units_kept i k r h l e' =
         by_place i k e'
         (λ z y. subst₂ (λ i k. pivoted (at_place e.rows) p j r k ≡ delta i r) (sym z) (sym y) (new_unit (at_place e.rows) p j r o.entry))
@@ -131,11 +139,15 @@ module _ (limit : Option ℕ) (f : Form) (basis : List Status) where
 
     solved : Solving (suc j) next
     solved = record {
-      all_rows = turned_rows limit f.rows (f.cols + f.rows + f.rows) e.rows s.all_rows s.whole_rows p j o.position rows ok;
-      whole_rows = turned_whole limit f.rows (f.cols + f.rows + f.rows) e.rows s.all_rows s.whole_rows p j o.position rows ok;
+      all_rows =
+          turned_rows limit f.rows (f.cols + f.rows + f.rows) e.rows s.all_rows s.whole_rows p j o.position rows ok;
+      whole_rows =
+          turned_whole limit f.rows (f.cols + f.rows + f.rows) e.rows s.all_rows s.whole_rows p j o.position rows ok;
       all_basic = length-set e.basic p (Some j) ∙ s.all_basic;
-      forth = subst (λ t. Spans f.rows t (equations f)) (sym entries) (Spans_trans f.rows _ _ _ (forth f.rows (at_place e.rows) p j o.position) s.forth);
-      back = subst (λ t. Spans f.rows (equations f) t) (sym entries) (Spans_trans f.rows _ _ _ s.back (back f.rows (at_place e.rows) p j o.position o.entry));
+      forth =
+          subst (λ t. Spans f.rows t (equations f)) (sym entries) (Spans_trans f.rows _ _ _ (forth f.rows (at_place e.rows) p j o.position) s.forth);
+      back =
+          subst (λ t. Spans f.rows (equations f) t) (sym entries) (Spans_trans f.rows _ _ _ s.back (back f.rows (at_place e.rows) p j o.position o.entry));
       units = λ i k r h l y. ap (λ t. t r k) entries ∙ units_kept i k r h l y;
       placed = λ k h y. by_eq k j
           (λ z. (p, o.position, get_or-set_same e.basic p (Some j) None p_in ∙ ap Some (sym z)))
@@ -144,30 +156,38 @@ module _ (limit : Option ℕ) (f : Form) (basis : List Status) where
       only = λ i k h y. by_place i k y
           (λ z x. (omega (arith, x), ap (basis_at basis) x ∙ b))
           (λ z x. let w = s.only i k h x in (omega (arith, w.0), w.1));
-      count = filled_set e.basic p j f.rows o.position p_in o.free ∙ ap (λ c. c + 1) s.count ∙ sym (ap (λ c. basics_below basis j + cond c 1 0) (basic_test (basis_at basis j) b));
+      count =
+          filled_set e.basic p j f.rows o.position p_in o.free ∙ ap (λ c. c + 1) s.count ∙ sym (ap (λ c. basics_below basis j + cond c 1 0) (basic_test (basis_at basis j) b));
     }
 
   -- ---- the run
-  step : (j : ℕ) (e u : Elimination) → Solving j e → cond (is_basic (basis_at basis j)) (solved_run limit f e j) (Ok e) ≡ Ok u → Solving (suc j) u
+  step : (j : ℕ) (e u : Elimination) → Solving j e →
+      cond (is_basic (basis_at basis j)) (solved_run limit f e j) (Ok e) ≡ Ok u → Solving (suc j) u
   step j e u s h = by (is_basic (basis_at basis j)) refl h
     where
-      taken : (p : ℕ) → open_below e j f.rows ≡ Some p → basis_at basis j ≡ Basic → refused_as stop.Past (solved_at limit f e j p) ≡ Ok u → Solving (suc j) u
+      taken : (p : ℕ) → open_below e j f.rows ≡ Some p → basis_at basis j ≡ Basic →
+          refused_as stop.Past (solved_at limit f e j p) ≡ Ok u → Solving (suc j) u
       taken p o b h =
           let a = then_ok (turned_run limit f.rows (f.cols + f.rows + f.rows) e.rows p j) _ u (refused_ok stop.Past (solved_at limit f e j p) u h) in
           let z : ◌≡◌ {A = Elimination} (record { rows = a.0; basic = set e.basic p (Some j) }) u = cc in
           subst (Solving (suc j)) z (solved j e s b p (open_is e j f.rows p o) a.0 a.1)
 
-      place : (o : Option ℕ) → open_below e j f.rows ≡ o → basis_at basis j ≡ Basic → solved_by limit f e j o ≡ Ok u → Solving (suc j) u
+      place : (o : Option ℕ) → open_below e j f.rows ≡ o → basis_at basis j ≡ Basic → solved_by limit f e j o ≡ Ok u →
+          Solving (suc j) u
       place None o b h = let z : ◌≡◌ {A = Result Elimination (StartStop ℚ)} (Err stop.Singular) (Ok u) = h in cc
       place (Some p) o b h = taken p o b h
 
-      by : (c : Bool) → is_basic (basis_at basis j) ≡ c → cond c (solved_run limit f e j) (Ok e) ≡ Ok u → Solving (suc j) u
+      by : (c : Bool) → is_basic (basis_at basis j) ≡ c → cond c (solved_run limit f e j) (Ok e) ≡ Ok u →
+          Solving (suc j) u
       by true c h = place (open_below e j f.rows) refl (basic_if (basis_at basis j) c) h
       by false c h = let z : e ≡ u = cc in subst (Solving (suc j)) z (goes_by j e c s)
 
   -- after some of the columns
-  pub eliminated_below : (j : ℕ) (e : Elimination) → steps j (λ j e. cond (is_basic (basis_at basis j)) (solved_run limit f e j) (Ok e)) (unsolved f) ≡ Ok e → Solving j e
-  eliminated_below j e h = steps_ok Solving j (λ j e. cond (is_basic (basis_at basis j)) (solved_run limit f e j) (Ok e)) (unsolved f) e h begins (λ i x y l s k. step i x y s k)
+  pub eliminated_below : (j : ℕ) (e : Elimination) →
+      steps j (λ j e. cond (is_basic (basis_at basis j)) (solved_run limit f e j) (Ok e)) (unsolved f) ≡ Ok e →
+      Solving j e
+  eliminated_below j e h =
+      steps_ok Solving j (λ j e. cond (is_basic (basis_at basis j)) (solved_run limit f e j) (Ok e)) (unsolved f) e h begins (λ i x y l s k. step i x y s k)
 
   pub eliminated : (e : Elimination) → eliminate_run limit f basis ≡ Ok e → Solving (f.cols + f.rows) e
   unfolding eliminate_run

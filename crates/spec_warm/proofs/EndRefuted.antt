@@ -67,7 +67,8 @@ module _ (m : Model) (ls : List (Option ℚ × Option ℚ)) (h : Limited m ls) (
 
   asks_is : rows_ask m y ≡ B
   unfolding B
-  asks_is = sum_below_same r _ _ (λ i p. asked_is (limits m i) (part y i) (stops (w + i)) (row_tight i p) ∙ ap (λ d. d *ℚ stops (w + i)) (y_at i p))
+  asks_is =
+      sum_below_same r _ _ (λ i p. asked_is (limits m i) (part y i) (stops (w + i)) (row_tight i p) ∙ ap (λ d. d *ℚ stops (w + i)) (y_at i p))
 
   gives_is : columns_give m y ≡ neg_ℚ A
   unfolding A
@@ -94,7 +95,8 @@ module _ (m : Model) (ls : List (Option ℚ × Option ℚ)) (h : Limited m ls) (
 
   balance : sum_below (w + r + r) (λ k. a k *ℚ stops k) ≡ A +ℚ B
   unfolding A B
-  balance = sum_by_kind w r (λ k. a k *ℚ stops k) ∙ ap (λ z. (sum_below w (λ j. a j *ℚ stops j) +ℚ sum_below r (λ i. a (w + i) *ℚ stops (w + i))) +ℚ z) (sum_below_none r _ no_part) ∙ +ℚ_zero _
+  balance =
+      sum_by_kind w r (λ k. a k *ℚ stops k) ∙ ap (λ z. (sum_below w (λ j. a j *ℚ stops j) +ℚ sum_below r (λ i. a (w + i) *ℚ stops (w + i))) +ℚ z) (sum_below_none r _ no_part) ∙ +ℚ_zero _
 
   apart : (a c : ℚ) → 0ℚ <ℚ (a +ℚ c) → neg_ℚ a <ℚ c
   apart a c p = subst₂ ◌<ℚ◌ (zero-+ℚ (neg_ℚ a)) (close a c) (+ℚ_strict 0ℚ (a +ℚ c) (neg_ℚ a) p)

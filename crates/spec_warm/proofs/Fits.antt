@@ -61,7 +61,8 @@ abbrev OutsideIs : Option ℚ → Option ℚ → ℚ → Option Bool → Type 0
 OutsideIs l u v None = IsInside l u v
 OutsideIs l u v (Some below) = (c : ℚ) × IsPast (way below) l u v c
 
-outside_is : (limit : Option ℕ) (l u : Option ℚ) (v : ℚ) (side : Option Bool) → outside_run limit l u v ≡ Ok side → OutsideIs l u v side
+outside_is : (limit : Option ℕ) (l u : Option ℚ) (v : ℚ) (side : Option Bool) → outside_run limit l u v ≡ Ok side →
+    OutsideIs l u v side
 outside_is limit l u v side h =
     let o = then_ok (below_lower limit l v) (outside_by limit u v) side h in
     by o.0 (below_is limit l v o.0 o.1) o.2
@@ -94,12 +95,15 @@ LeavingIs t n None = (k : ℕ) → k < n → status_at t k ≡ Basic → IsInsid
 LeavingIs t n (Some x) = IsLeaving t n x
 
 module _ (limit : Option ℕ) (t : Tableau) where
-  here_is : (k : ℕ) (x : Option Leaving) → status_at t k ≡ Basic → LeavingIs t k None → leaving_at limit t k ≡ Ok x → LeavingIs t (suc k) x
+  here_is : (k : ℕ) (x : Option Leaving) → status_at t k ≡ Basic → LeavingIs t k None → leaving_at limit t k ≡ Ok x →
+      LeavingIs t (suc k) x
   here_is k x b before h =
       let o = then_ok (outside_run limit (lower_at t k) (upper_at t k) (value_at t k)) (λ side. Ok (option_map (λ below. record { col = k; below = below }) side)) x h in
       by o.0 (outside_is limit (lower_at t k) (upper_at t k) (value_at t k) o.0 o.1) o.2
     where
-      by : (side : Option Bool) → OutsideIs (lower_at t k) (upper_at t k) (value_at t k) side → ◌≡◌ {A = Run (Option Leaving)} (Ok (option_map (λ below. record { col = k; below = below }) side)) (Ok x) → LeavingIs t (suc k) x
+      by : (side : Option Bool) → OutsideIs (lower_at t k) (upper_at t k) (value_at t k) side →
+          ◌≡◌ {A = Run (Option Leaving)} (Ok (option_map (λ below. record { col = k; below = below }) side)) (Ok x) →
+          LeavingIs t (suc k) x
       by None i h =
           let z : None ≡ x = cc in
           subst (LeavingIs t (suc k)) z (λ j l e. by_eq j k (λ y. subst (InsideAt t) (sym y) i) (λ y. before j (omega (arith, l, y)) e))
@@ -107,13 +111,15 @@ module _ (limit : Option ℕ) (t : Tableau) where
           let z : ◌≡◌ {A = Option Leaving} (Some (record { col = k; below = below })) x = cc in
           subst (LeavingIs t (suc k)) z (record { inside = omega arith; basic = b; bound = i.0; past = i.1 })
 
-  leaving_step : (k : ℕ) (x y : Option Leaving) → k < all_columns t → LeavingIs t k x → leaving_with limit t k x ≡ Ok y → LeavingIs t (suc k) y
+  leaving_step : (k : ℕ) (x y : Option Leaving) → k < all_columns t → LeavingIs t k x →
+      leaving_with limit t k x ≡ Ok y → LeavingIs t (suc k) y
   leaving_step k (Some x) y l was h =
       let z : Some x ≡ y = cc in
       subst (LeavingIs t (suc k)) z (record { inside = omega (arith, was.inside); basic = was.basic; bound = was.bound; past = was.past })
   leaving_step k None y l was h = by (is_basic (status_at t k)) refl h
     where
-      by : (c : Bool) → is_basic (status_at t k) ≡ c → cond c (leaving_at limit t k) (Ok None) ≡ Ok y → LeavingIs t (suc k) y
+      by : (c : Bool) → is_basic (status_at t k) ≡ c → cond c (leaving_at limit t k) (Ok None) ≡ Ok y →
+          LeavingIs t (suc k) y
       by true c h = here_is k y (basic_if (status_at t k) c) was h
       by false c h =
           let z : None ≡ y = cc in
@@ -121,7 +127,8 @@ module _ (limit : Option ℕ) (t : Tableau) where
           (λ j q e. by_eq j k (λ z. let y : false ≡ true = sym c ∙ basic_test (status_at t k) (ap (status_at t) (sym z) ∙ e) in cc) (λ z. was j (omega (arith, q, z)) e))
 
   pub leaving_is : (x : Option Leaving) → leaving_run limit t ≡ Ok x → LeavingIs t (all_columns t) x
-  leaving_is x h = steps_ok (LeavingIs t) (all_columns t) (leaving_with limit t) None x h (λ k l. absurd (let z : ⊥ = omega (arith, l) in z)) leaving_step
+  leaving_is x h =
+      steps_ok (LeavingIs t) (all_columns t) (leaving_with limit t) None x h (λ k l. absurd (let z : ⊥ = omega (arith, l) in z)) leaving_step
 
 -- ---- needs of reduced costs
 two_true : (a c : Bool) → a && c ≡ true → (a ≡ true) × (c ≡ true)
@@ -143,7 +150,8 @@ met_suits AtZero d l u h n = eq_if d 0ℚ h
 
 -- ---- the fit
 abbrev pub FitIs : Tableau → Fit → Type 0
-FitIs t Primal = (k : ℕ) → k < all_columns t → status_at t k ≡ Basic → IsInside (lower_at t k) (upper_at t k) (value_at t k)
+FitIs t Primal =
+    (k : ℕ) → k < all_columns t → status_at t k ≡ Basic → IsInside (lower_at t k) (upper_at t k) (value_at t k)
 FitIs t Dual = (k : ℕ) → k < all_columns t → meets_need_at t k ≡ true
 FitIs t Unfit = Unit {0}
 

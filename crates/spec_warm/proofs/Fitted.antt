@@ -35,5 +35,7 @@ module _ (limit : Option ℕ) (m n : ℕ) (f : Matrix) (cost : ℕ → ℚ) (b :
           let q = fit_is limit t Primal h k (omega (arith, l, s.rows, s.cols)) e in
           subst₂ (λ low high. IsInside low high (value_at t k)) (lower_same f cost b t own k (omega (arith, l, s.rows, s.cols))) (upper_same f cost b t own k (omega (arith, l, s.rows, s.cols))) q
 
-  pub dual_fit : (budget : ℕ) (r : Reached) → fit_run limit t ≡ Ok Dual → flips_run limit budget t ≡ Ok r → IsReady m n f cost b r.tableau
-  dual_fit budget r h = flips_ready limit budget m n f cost b t r s (λ k l. fit_is limit t Dual h k (omega (arith, l, s.rows, s.cols)))
+  pub dual_fit : (budget : ℕ) (r : Reached) → fit_run limit t ≡ Ok Dual → flips_run limit budget t ≡ Ok r →
+      IsReady m n f cost b r.tableau
+  dual_fit budget r h =
+      flips_ready limit budget m n f cost b t r s (λ k l. fit_is limit t Dual h k (omega (arith, l, s.rows, s.cols)))

@@ -1,4 +1,4 @@
--- The flips give each reduced cost the sign that its status wants.
+-- The flips give each reduced cost the sign that belongs to its status.
 use Rattle.std.proofs.Common.{◌≡◌, ◌≢◌, ℕ, suc, ◌+◌, ◌<◌, ◌≤◌, List, Option, Some, None, Result, Ok, Err, Bool, true, false, not, ◌&&◌, ◌||◌, cond, nat_le, refl, sym, ap, ap₂, ◌∙◌, subst, subst₂, arith}
 use Rattle.std.proofs.lemmas.List.{get_or-set_same, get_or-set_other}
 use Rattle.spec_exact.specs.Fraction.{ℚ, 0ℚ, ◌+ℚ◌, ◌-ℚ◌, ◌*ℚ◌, lt_ℚ}
@@ -30,7 +30,7 @@ use Rattle.spec_warm.proofs.Bounded.{own_counts, given_counts, lower_same, upper
 use Rattle.spec_warm.proofs.Fits.{met_suits}
 
 -- ---- a column that needs its other bound
--- it is at one bound, has the other one, and its reduced cost has the sign that the other one wants
+-- it is at one bound, has the other one, and its reduced cost has the sign that belongs to the other one
 pub record IsWrong (s : Status) (d : ℚ) (l u : Option ℚ) (up : Bool) : Type 0 where
   pub can_move : CanMove (way up) s
   pub way_is : flip_way s ≡ up
@@ -46,7 +46,8 @@ either : (a c : Bool) → not a || c ≡ true → a ≡ true → c ≡ true
 either true c h e = h
 either false c h e = let z : false ≡ true = e in cc
 
-pub wrong : (s : Status) (d v : ℚ) (l u : Option ℚ) → Stands s l u v → meets_need s d l u ≡ true → needs_flip s d ≡ true → (up : Bool) × IsWrong s d l u up
+pub wrong : (s : Status) (d v : ℚ) (l u : Option ℚ) → Stands s l u v → meets_need s d l u ≡ true →
+    needs_flip s d ≡ true → (up : Bool) × IsWrong s d l u up
 wrong Basic d v l u st h n = let z : false ≡ true = n in cc
 wrong AtLower d v l u st h n =
     (true, record { can_move = tt; way_is = refl; low = (v, st); high = there_is u (either (lt_ℚ d 0ℚ) (is_there u) h n); suits = <ℚ-le d 0ℚ (lt_if d 0ℚ n) })
@@ -63,7 +64,8 @@ pub record IsFlip (t : Tableau) (j : ℕ) (to : Status) (u : Tableau) : Type 0 w
   pub values : List ℚ
   pub is : flipped t j to values ≡ u
 
-pub flip_shape : (limit : Option ℕ) (t u : Tableau) (j : ℕ) → flip_run limit t j ≡ Ok u → IsFlip t j (other_bound (flip_way (status_at t j))) u
+pub flip_shape : (limit : Option ℕ) (t u : Tableau) (j : ℕ) → flip_run limit t j ≡ Ok u →
+    IsFlip t j (other_bound (flip_way (status_at t j))) u
 unfolding flip_run
 flip_shape limit t u j h =
     let a = then_ok (difference_run limit (or_zero (upper_at t j)) (or_zero (lower_at t j))) _ u h in
@@ -110,7 +112,8 @@ module _ (limit : Option ℕ) (f : Matrix) (cost : ℕ → ℚ) (b : Bounds) (t 
   shape = subst (λ c. IsFlip t j (other_bound c) u) wrongly.way_is (flip_shape limit t u j ok)
 
   pub flip_status : status_at u j ≡ other_bound up
-  flip_status = ap (λ u. status_at u j) (sym shape.is) ∙ get_or-set_same t.status j (other_bound up) Basic (omega (arith, s.whole.all_statuses, j_in))
+  flip_status =
+      ap (λ u. status_at u j) (sym shape.is) ∙ get_or-set_same t.status j (other_bound up) Basic (omega (arith, s.whole.all_statuses, j_in))
 
   pub flip_other : (k : ℕ) → k ≢ j → status_at u k ≡ status_at t k
   flip_other k d = ap (λ u. status_at u k) (sym shape.is) ∙ get_or-set_other t.status j k (other_bound up) Basic d
@@ -128,7 +131,8 @@ module _ (limit : Option ℕ) (budget m n : ℕ) (f : Matrix) (cost : ℕ → �
   -- after the columns below i
   pub record Flipping (i : ℕ) (r : Reached) : Type 0 where
     pub based : IsBased m n f cost b r.tableau
-    pub early : (k : ℕ) → k < i → k < n + m + m → ¬ (IsFixed b k) → Suits (status_at r.tableau k) (reduced_at r.tableau k)
+    pub early : (k : ℕ) → k < i → k < n + m + m → ¬ (IsFixed b k) →
+        Suits (status_at r.tableau k) (reduced_at r.tableau k)
     pub late : (k : ℕ) → i ≤ k → k < n + m + m → meets_need_at r.tableau k ≡ true
 
   pass : (i : ℕ) (r : Reached) → i < n + m + m → Flipping i r → needs_flip_at r.tableau i ≡ false → Flipping (suc i) r
@@ -151,10 +155,13 @@ module _ (limit : Option ℕ) (budget m n : ℕ) (f : Matrix) (cost : ℕ → �
         where
           by : (c : Bool) → is_fixed (lower_at r.tableau i) (upper_at r.tableau i) ≡ c → not c && needs_flip (status_at r.tableau i) (reduced_at r.tableau i) ≡ false
               → c || meets_need (status_at r.tableau i) (reduced_at r.tableau i) (lower_at r.tableau i) (upper_at r.tableau i) ≡ true → Suits (status_at r.tableau i) (reduced_at r.tableau i)
-          by true c h g = absurd (free (fixed_is f cost b r.tableau s i (omega (arith, i_in, v.based.rows, v.based.cols)) c))
-          by false c h g = met_suits (status_at r.tableau i) (reduced_at r.tableau i) (lower_at r.tableau i) (upper_at r.tableau i) g h
+          by true c h g =
+              absurd (free (fixed_is f cost b r.tableau s i (omega (arith, i_in, v.based.rows, v.based.cols)) c))
+          by false c h g =
+              met_suits (status_at r.tableau i) (reduced_at r.tableau i) (lower_at r.tableau i) (upper_at r.tableau i) g h
 
-  flip : (i : ℕ) (r : Reached) (u : Tableau) → i < n + m + m → Flipping i r → needs_flip_at r.tableau i ≡ true → flip_run limit r.tableau i ≡ Ok u → Flipping (suc i) (one_more r u)
+  flip : (i : ℕ) (r : Reached) (u : Tableau) → i < n + m + m → Flipping i r → needs_flip_at r.tableau i ≡ true →
+      flip_run limit r.tableau i ≡ Ok u → Flipping (suc i) (one_more r u)
   flip i r u i_in v h ok = by (is_fixed (lower_at r.tableau i) (upper_at r.tableau i)) refl h (v.late i (omega arith) i_in)
     where
       s : IsBased r.tableau.rows r.tableau.cols f cost b r.tableau
@@ -163,15 +170,19 @@ module _ (limit : Option ℕ) (budget m n : ℕ) (f : Matrix) (cost : ℕ → �
       inside : i < all_columns r.tableau
       inside = omega (arith, i_in, v.based.rows, v.based.cols)
 
-      goes : (up : Bool) → ¬ (IsFixed b i) → IsWrong (status_at r.tableau i) (reduced_at r.tableau i) (lower_at r.tableau i) (upper_at r.tableau i) up → Flipping (suc i) (one_more r u)
+      goes : (up : Bool) → ¬ (IsFixed b i) →
+          IsWrong (status_at r.tableau i) (reduced_at r.tableau i) (lower_at r.tableau i) (upper_at r.tableau i) up →
+          Flipping (suc i) (one_more r u)
       goes up free w = record {
-        based = given_counts m n f cost b r.tableau u v.based (flip_based limit f cost b r.tableau s i inside free up w u ok);
+        based =
+            given_counts m n f cost b r.tableau u v.based (flip_based limit f cost b r.tableau s i inside free up w u ok);
         early = λ k l q loose. by_eq k i
             (λ z. subst (λ k. Suits (status_at u k) (reduced_at u k)) (sym z)
             (subst₂ Suits (sym (flip_status limit f cost b r.tableau s i inside free up w u ok)) (sym (flip_reduced limit f cost b r.tableau s i inside free up w u ok i)) w.suits))
             (λ z. subst₂ Suits (sym (flip_other limit f cost b r.tableau s i inside free up w u ok k z)) (sym (flip_reduced limit f cost b r.tableau s i inside free up w u ok k))
             (v.early k (omega (arith, l, z)) q loose));
-        late = λ k l q. flip_met limit f cost b r.tableau s i inside free up w u ok k (λ z. let y : ⊥ = omega (arith, l, z) in y) ∙ v.late k (omega (arith, l)) q;
+        late =
+            λ k l q. flip_met limit f cost b r.tableau s i inside free up w u ok k (λ z. let y : ⊥ = omega (arith, l, z) in y) ∙ v.late k (omega (arith, l)) q;
       }
 
       by : (c : Bool) → is_fixed (lower_at r.tableau i) (upper_at r.tableau i) ≡ c → not c && needs_flip (status_at r.tableau i) (reduced_at r.tableau i) ≡ true
@@ -182,21 +193,26 @@ module _ (limit : Option ℕ) (budget m n : ℕ) (f : Matrix) (cost : ℕ → �
           (subst₂ (λ l u. Stands (status_at r.tableau i) l u (value_at r.tableau i)) (sym (lower_same f cost b r.tableau s i inside)) (sym (upper_same f cost b r.tableau s i inside)) (s.tableau.stands i inside)) g h in
           goes w.0 (not_fixed_is f cost b r.tableau s i inside c) w.1
 
-  next : (i : ℕ) (x y : Reached) → i < n + m + m → Flipping i x → needs_flip_at x.tableau i ≡ true → (c : Bool) → flip_by limit i x c ≡ Ok y → Flipping (suc i) y
+  next : (i : ℕ) (x y : Reached) → i < n + m + m → Flipping i x → needs_flip_at x.tableau i ≡ true → (c : Bool) →
+      flip_by limit i x c ≡ Ok y → Flipping (suc i) y
   next i x y i_in v e true h = let z : ◌≡◌ {A = Result Reached (RunStop ℚ)} (Err stop.Spent) (Ok y) = h in cc
   next i x y i_in v e false h =
       let o = then_ok (refused_as stop.Past (flip_run limit x.tableau i)) (λ u. Ok (one_more x u)) y h in
       let z : one_more x o.0 ≡ y = cc in
       subst (Flipping (suc i)) z (flip i x o.0 i_in v e (refused_ok stop.Past (flip_run limit x.tableau i) o.0 o.1))
 
-  step : (i : ℕ) (x y : Reached) → i < n + m + m → Flipping i x → cond (needs_flip_at x.tableau i) (flip_next limit budget i x) (Ok x) ≡ Ok y → Flipping (suc i) y
+  step : (i : ℕ) (x y : Reached) → i < n + m + m → Flipping i x →
+      cond (needs_flip_at x.tableau i) (flip_next limit budget i x) (Ok x) ≡ Ok y → Flipping (suc i) y
   step i x y i_in v h = by (needs_flip_at x.tableau i) refl h
     where
-      by : (c : Bool) → needs_flip_at x.tableau i ≡ c → cond c (flip_next limit budget i x) (Ok x) ≡ Ok y → Flipping (suc i) y
+      by : (c : Bool) → needs_flip_at x.tableau i ≡ c → cond c (flip_next limit budget i x) (Ok x) ≡ Ok y →
+          Flipping (suc i) y
       by true e h = next i x y i_in v e (nat_le budget x.used) h
       by false e h = let z : x ≡ y = cc in subst (Flipping (suc i)) z (pass i x i_in v e)
 
-  pub flips_ready : (t : Tableau) (r : Reached) → IsBased m n f cost b t → ((k : ℕ) → k < n + m + m → meets_need_at t k ≡ true) → flips_run limit budget t ≡ Ok r → IsReady m n f cost b r.tableau
+  pub flips_ready : (t : Tableau) (r : Reached) → IsBased m n f cost b t →
+      ((k : ℕ) → k < n + m + m → meets_need_at t k ≡ true) → flips_run limit budget t ≡ Ok r →
+      IsReady m n f cost b r.tableau
   unfolding flips_run
   flips_ready t r s met h =
       let z : all_columns t ≡ n + m + m = omega (arith, s.rows, s.cols) in

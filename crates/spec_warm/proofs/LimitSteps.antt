@@ -23,22 +23,27 @@ use Rattle.spec_simplex.specs.Fit.{below_lower, above_upper, outside_by, outside
 ok : {A : Type 0} (a : A) → Agrees {A = A} as_it_is (Ok a) (Ok a)
 ok a = agrees_ok as_it_is a
 
-also : {A B : Type 0} (o u : Run A) (f g : A → Run B) → Agrees as_it_is o u → ((a : A) → Agrees as_it_is (f a) (g a)) → Agrees as_it_is (o >>= f) (u >>= g)
+also : {A B : Type 0} (o u : Run A) (f g : A → Run B) → Agrees as_it_is o u → ((a : A) → Agrees as_it_is (f a) (g a)) →
+    Agrees as_it_is (o >>= f) (u >>= g)
 also o u f g = agrees_then as_it_is o u f g
 
 singular_agrees : {A : Type 0} → Agrees {A = A} start.Past (Err start.Singular) (Err start.Singular)
-singular_agrees = agrees_err start.Past start.Singular (λ p e. let z : ◌≡◌ {A = StartStop ℚ} start.Singular (start.Past p) = e in cc)
+singular_agrees =
+    agrees_err start.Past start.Singular (λ p e. let z : ◌≡◌ {A = StartStop ℚ} start.Singular (start.Past p) = e in cc)
 
 spent_agrees : {A : Type 0} → Agrees {A = A} stop.Past (Err stop.Spent) (Err stop.Spent)
 spent_agrees = agrees_err stop.Past stop.Spent (λ p e. let z : ◌≡◌ {A = RunStop ℚ} stop.Spent (stop.Past p) = e in cc)
 
 module _ (limit : Option ℕ) where
   -- ---- the tableau of a basis
-  solved_agrees : (f : Form) (e : Elimination) (j : ℕ) (p : Option ℕ) → Agrees start.Past (solved_by limit f e j p) (solved_by None f e j p)
+  solved_agrees : (f : Form) (e : Elimination) (j : ℕ) (p : Option ℕ) →
+      Agrees start.Past (solved_by limit f e j p) (solved_by None f e j p)
   solved_agrees f e j None = singular_agrees
-  solved_agrees f e j (Some p) = agrees_as start.Past (solved_at limit f e j p) (solved_at None f e j p) (also _ _ _ _ (turned_agrees limit f.rows (f.cols + f.rows + f.rows) e.rows p j) (λ rows. ok _))
+  solved_agrees f e j (Some p) =
+      agrees_as start.Past (solved_at limit f e j p) (solved_at None f e j p) (also _ _ _ _ (turned_agrees limit f.rows (f.cols + f.rows + f.rows) e.rows p j) (λ rows. ok _))
 
-  eliminate_agrees : (f : Form) (basis : List Status) → Agrees start.Past (eliminate_run limit f basis) (eliminate_run None f basis)
+  eliminate_agrees : (f : Form) (basis : List Status) →
+      Agrees start.Past (eliminate_run limit f basis) (eliminate_run None f basis)
   unfolding eliminate_run
   eliminate_agrees f basis =
       agrees_steps start.Past (f.cols + f.rows) _ _ (unsolved f)
@@ -50,12 +55,15 @@ module _ (limit : Option ℕ) where
 
   valued_agrees : (t : Tableau) → Agrees as_it_is (valued_run limit t) (valued_run None t)
   unfolding valued_run
-  valued_agrees t = agrees_steps as_it_is t.rows _ _ t.value (λ i values. also _ _ _ _ (position_agrees t i) (λ v. ok _))
+  valued_agrees t =
+      agrees_steps as_it_is t.rows _ _ t.value (λ i values. also _ _ _ _ (position_agrees t i) (λ v. ok _))
 
   filled_agrees : (f : Form) (t : Tableau) → Agrees as_it_is (filled_run limit f t) (filled_run None f t)
-  filled_agrees f t = also _ _ _ _ (valued_agrees t) (λ values. also _ _ _ _ (priced_agrees limit t f.cost) (λ reduced. ok _))
+  filled_agrees f t =
+      also _ _ _ _ (valued_agrees t) (λ values. also _ _ _ _ (priced_agrees limit t f.cost) (λ reduced. ok _))
 
-  pub from_agrees : (f : Form) (basis : List Status) → Agrees start.Past (start_from limit f basis) (start_from None f basis)
+  pub from_agrees : (f : Form) (basis : List Status) →
+      Agrees start.Past (start_from limit f basis) (start_from None f basis)
   unfolding start_from
   from_agrees f basis =
       agrees_then start.Past (eliminate_run limit f basis) (eliminate_run None f basis) _ _ (eliminate_agrees f basis)
@@ -70,7 +78,8 @@ module _ (limit : Option ℕ) where
   above_agrees None v = ok _
   above_agrees (Some u) v = also _ _ _ _ (agrees_order limit v u) (λ o. ok _)
 
-  outside_by_agrees : (u : Option ℚ) (v : ℚ) (c : Bool) → Agrees as_it_is (outside_by limit u v c) (outside_by None u v c)
+  outside_by_agrees : (u : Option ℚ) (v : ℚ) (c : Bool) →
+      Agrees as_it_is (outside_by limit u v c) (outside_by None u v c)
   outside_by_agrees u v true = ok _
   outside_by_agrees u v false = also _ _ _ _ (above_agrees u v) (λ above. ok _)
 
@@ -80,12 +89,14 @@ module _ (limit : Option ℕ) where
   leaving_at_agrees : (t : Tableau) (k : ℕ) → Agrees as_it_is (leaving_at limit t k) (leaving_at None t k)
   leaving_at_agrees t k = also _ _ _ _ (outside_agrees (lower_at t k) (upper_at t k) (value_at t k)) (λ side. ok _)
 
-  leaving_with_agrees : (t : Tableau) (k : ℕ) (x : Option Leaving) → Agrees as_it_is (leaving_with limit t k x) (leaving_with None t k x)
+  leaving_with_agrees : (t : Tableau) (k : ℕ) (x : Option Leaving) →
+      Agrees as_it_is (leaving_with limit t k x) (leaving_with None t k x)
   leaving_with_agrees t k (Some x) = ok _
   leaving_with_agrees t k None = agrees_if as_it_is (is_basic (status_at t k)) _ _ _ _ (leaving_at_agrees t k) (ok None)
 
   leaving_agrees : (t : Tableau) → Agrees as_it_is (leaving_run limit t) (leaving_run None t)
-  leaving_agrees t = agrees_steps as_it_is (all_columns t) (leaving_with limit t) (leaving_with None t) None (leaving_with_agrees t)
+  leaving_agrees t =
+      agrees_steps as_it_is (all_columns t) (leaving_with limit t) (leaving_with None t) None (leaving_with_agrees t)
 
   pub fit_agrees : (t : Tableau) → Agrees as_it_is (fit_run limit t) (fit_run None t)
   unfolding fit_run
@@ -94,7 +105,8 @@ module _ (limit : Option ℕ) where
   -- ---- flips
   flip_by_agrees : (k : ℕ) (r : Reached) (c : Bool) → Agrees stop.Past (flip_by limit k r c) (flip_by None k r c)
   flip_by_agrees k r true = spent_agrees
-  flip_by_agrees k r false = agrees_then stop.Past _ _ _ _ (agrees_as stop.Past _ _ (flip_agrees limit r.tableau k)) (λ u. agrees_ok stop.Past _)
+  flip_by_agrees k r false =
+      agrees_then stop.Past _ _ _ _ (agrees_as stop.Past _ _ (flip_agrees limit r.tableau k)) (λ u. agrees_ok stop.Past _)
 
   flips_agree : (budget : ℕ) (t : Tableau) → Agrees stop.Past (flips_run limit budget t) (flips_run None budget t)
   unfolding flips_run
@@ -103,19 +115,24 @@ module _ (limit : Option ℕ) where
       (λ k r. agrees_if stop.Past (needs_flip_at r.tableau k) (flip_next limit budget k r) (Ok r) (flip_next None budget k r) (Ok r) (flip_by_agrees k r (nat_le budget r.used)) (agrees_ok stop.Past r))
 
   -- ---- one step
-  cheaper_agrees : (new : Cheapest ℚ) (best : Option (Cheapest ℚ)) → Agrees as_it_is (cheaper_run limit new best) (cheaper_run None new best)
+  cheaper_agrees : (new : Cheapest ℚ) (best : Option (Cheapest ℚ)) →
+      Agrees as_it_is (cheaper_run limit new best) (cheaper_run None new best)
   cheaper_agrees new None = ok _
   cheaper_agrees new (Some best) = also _ _ _ _ (agrees_order limit new.ratio best.ratio) (λ o. ok _)
 
-  cheapest_by_agrees : (t : Tableau) (p k : ℕ) (best : Option (Cheapest ℚ)) (w : Option Bool) → Agrees as_it_is (cheapest_by limit t p k best w) (cheapest_by None t p k best w)
+  cheapest_by_agrees : (t : Tableau) (p k : ℕ) (best : Option (Cheapest ℚ)) (w : Option Bool) →
+      Agrees as_it_is (cheapest_by limit t p k best w) (cheapest_by None t p k best w)
   cheapest_by_agrees t p k best None = ok _
-  cheapest_by_agrees t p k best (Some up) = also _ _ _ _ (agrees_quotient limit (abs_ℚ (reduced_at t k)) (abs_ℚ (entry_at t p k))) (λ ratio. cheaper_agrees _ best)
+  cheapest_by_agrees t p k best (Some up) =
+      also _ _ _ _ (agrees_quotient limit (abs_ℚ (reduced_at t k)) (abs_ℚ (entry_at t p k))) (λ ratio. cheaper_agrees _ best)
 
-  cheapest_agrees : (t : Tableau) (p : ℕ) (below : Bool) → Agrees as_it_is (cheapest_run limit t p below) (cheapest_run None t p below)
+  cheapest_agrees : (t : Tableau) (p : ℕ) (below : Bool) →
+      Agrees as_it_is (cheapest_run limit t p below) (cheapest_run None t p below)
   cheapest_agrees t p below =
       agrees_steps as_it_is (all_columns t) (cheapest_with limit t p below) (cheapest_with None t p below) None (λ k best. cheapest_by_agrees t p k best (dual_way_at t p below k))
 
-  choice_of_agrees : (t : Tableau) (x : Option Leaving) → Agrees as_it_is (dual_choice_of limit t x) (dual_choice_of None t x)
+  choice_of_agrees : (t : Tableau) (x : Option Leaving) →
+      Agrees as_it_is (dual_choice_of limit t x) (dual_choice_of None t x)
   choice_of_agrees t None = ok _
   choice_of_agrees t (Some x) = also _ _ _ _ (cheapest_agrees t (place_of t x.col) x.below) (λ best. ok _)
 
@@ -123,28 +140,36 @@ module _ (limit : Option ℕ) where
   unfolding dual_choice_run
   choice_agrees t = also _ _ _ _ (leaving_agrees t) (choice_of_agrees t)
 
-  step_agrees : (t : Tableau) (p j : ℕ) (to : Status) → Agrees as_it_is (dual_pivot_run limit t p j to) (dual_pivot_run None t p j to)
+  step_agrees : (t : Tableau) (p j : ℕ) (to : Status) →
+      Agrees as_it_is (dual_pivot_run limit t p j to) (dual_pivot_run None t p j to)
   unfolding dual_pivot_run
   step_agrees t p j to =
       also _ _ _ _ (agrees_difference limit (value_at t (basic_at t p)) (stand to (lower_at t (basic_at t p)) (upper_at t (basic_at t p)))) (λ gap.
       also _ _ _ _ (agrees_quotient limit gap (entry_at t p j)) (λ theta. pivot_agrees limit t p j theta to))
 
   -- ---- steps up to an end
-  end_agrees : (t : Tableau) (used : ℕ) (c : DualChoice) → Agrees stop.Past (dual_end_or_spent t used c) (dual_end_or_spent t used c)
+  end_agrees : (t : Tableau) (used : ℕ) (c : DualChoice) →
+      Agrees stop.Past (dual_end_or_spent t used c) (dual_end_or_spent t used c)
   end_agrees t used (End end) = agrees_ok stop.Past (record { end = end; tableau = t; used = used })
   end_agrees t used (Pivot p j to) = spent_agrees
 
-  next_agrees : (t : Tableau) (used : ℕ) (f g : Tableau → Result DualEnded (RunStop ℚ)) → ((u : Tableau) → Agrees stop.Past (f u) (g u)) → (c : DualChoice) → Agrees stop.Past (dual_end_or_next limit t used f c) (dual_end_or_next None t used g c)
+  next_agrees : (t : Tableau) (used : ℕ) (f g : Tableau → Result DualEnded (RunStop ℚ)) →
+      ((u : Tableau) → Agrees stop.Past (f u) (g u)) → (c : DualChoice) →
+      Agrees stop.Past (dual_end_or_next limit t used f c) (dual_end_or_next None t used g c)
   next_agrees t used f g h (End end) = agrees_ok stop.Past (record { end = end; tableau = t; used = used })
-  next_agrees t used f g h (Pivot p j to) = agrees_then stop.Past _ _ f g (agrees_as stop.Past _ _ (step_agrees t p j to)) h
+  next_agrees t used f g h (Pivot p j to) =
+      agrees_then stop.Past _ _ f g (agrees_as stop.Past _ _ (step_agrees t p j to)) h
 
-  dual_from_agrees : (left used : ℕ) (t : Tableau) → Agrees stop.Past (dual_from limit left used t) (dual_from None left used t)
+  dual_from_agrees : (left used : ℕ) (t : Tableau) →
+      Agrees stop.Past (dual_from limit left used t) (dual_from None left used t)
   unfolding dual_from
-  dual_from_agrees zero used t = agrees_then stop.Past _ _ (dual_end_or_spent t used) (dual_end_or_spent t used) (agrees_as stop.Past _ _ (choice_agrees t)) (end_agrees t used)
+  dual_from_agrees zero used t =
+      agrees_then stop.Past _ _ (dual_end_or_spent t used) (dual_end_or_spent t used) (agrees_as stop.Past _ _ (choice_agrees t)) (end_agrees t used)
   dual_from_agrees (suc left) used t =
       agrees_then stop.Past _ _ (dual_end_or_next limit t used (λ u. dual_from limit left (used + 1) u)) (dual_end_or_next None t used (λ u. dual_from None left (used + 1) u)) (agrees_as stop.Past _ _ (choice_agrees t))
       (next_agrees t used (λ u. dual_from limit left (used + 1) u) (λ u. dual_from None left (used + 1) u) (λ u. dual_from_agrees left (used + 1) u))
 
   pub dual_agrees : (budget : ℕ) (t : Tableau) → Agrees stop.Past (dual_run limit budget t) (dual_run None budget t)
   unfolding dual_run
-  dual_agrees budget t = agrees_then stop.Past (flips_run limit budget t) (flips_run None budget t) _ _ (flips_agree budget t) (λ r. dual_from_agrees (budget - r.used) r.used r.tableau)
+  dual_agrees budget t =
+      agrees_then stop.Past (flips_run limit budget t) (flips_run None budget t) _ _ (flips_agree budget t) (λ r. dual_from_agrees (budget - r.used) r.used r.tableau)

@@ -10,20 +10,24 @@ count (suc n) p = count n p + cond (p n) 1 0
 
 pub count_same : (n : ℕ) (p q : ℕ → Bool) → ((k : ℕ) → k < n → p k ≡ q k) → count n p ≡ count n q
 count_same zero p q h = refl
-count_same (suc n) p q h = ap₂ (λ c d. c + cond d 1 0) (count_same n p q (λ k l. h k (omega (arith, l)))) (h n (omega arith))
+count_same (suc n) p q h =
+    ap₂ (λ c d. c + cond d 1 0) (count_same n p q (λ k l. h k (omega (arith, l)))) (h n (omega arith))
 
 pub count_split : (a b : ℕ) (p : ℕ → Bool) → count (a + b) p ≡ count a p + count b (λ i. p (a + i))
-count_split a zero p = (let z : a + 0 ≡ a = omega arith in ap (λ k. count k p) z) ∙ (let z : count a p ≡ count a p + 0 = omega arith in z)
+count_split a zero p =
+    (let z : a + 0 ≡ a = omega arith in ap (λ k. count k p) z) ∙ (let z : count a p ≡ count a p + 0 = omega arith in z)
 count_split a (suc b) p =
     (let z : a + suc b ≡ suc (a + b) = omega arith in ap (λ k. count k p) z) ∙ ap (λ c. c + cond (p (a + b)) 1 0) (count_split a b p)
     ∙ (let z : count a p + count b (λ i. p (a + i)) + cond (p (a + b)) 1 0 ≡ count a p + (count b (λ i. p (a + i)) + cond (p (a + b)) 1 0) = omega arith in z)
 
 -- where no index passes both tests
-pub count_either : (n : ℕ) (p q : ℕ → Bool) → ((i : ℕ) → i < n → p i ≡ true → q i ≡ true → ⊥) → count n (λ i. p i || q i) ≡ count n p + count n q
+pub count_either : (n : ℕ) (p q : ℕ → Bool) → ((i : ℕ) → i < n → p i ≡ true → q i ≡ true → ⊥) →
+    count n (λ i. p i || q i) ≡ count n p + count n q
 count_either zero p q h = refl
 count_either (suc n) p q h = by (p n) (q n) refl refl (count_either n p q (λ i l. h i (omega (arith, l))))
   where
-    by : (c d : Bool) → p n ≡ c → q n ≡ d → count n (λ i. p i || q i) ≡ count n p + count n q → count n (λ i. p i || q i) + cond (c || d) 1 0 ≡ count n p + cond c 1 0 + (count n q + cond d 1 0)
+    by : (c d : Bool) → p n ≡ c → q n ≡ d → count n (λ i. p i || q i) ≡ count n p + count n q →
+        count n (λ i. p i || q i) + cond (c || d) 1 0 ≡ count n p + cond c 1 0 + (count n q + cond d 1 0)
     by true true e g more = absurd (h n (omega arith) e g)
     by true false e g more = omega (arith, more)
     by false true e g more = omega (arith, more)
@@ -50,7 +54,8 @@ pub member_if : (m : ℕ) (b : ℕ → ℕ) (k : ℕ) → member m b k ≡ true 
 member_if zero b k h = let z : false ≡ true = h in cc
 member_if (suc m) b k h = by (nat_eq k (b m)) refl h (member_if m b k)
   where
-    by : (c : Bool) → nat_eq k (b m) ≡ c → c || member m b k ≡ true → (member m b k ≡ true → (i : ℕ) × (i < m) × (b i ≡ k)) → (i : ℕ) × (i < suc m) × (b i ≡ k)
+    by : (c : Bool) → nat_eq k (b m) ≡ c → c || member m b k ≡ true →
+        (member m b k ≡ true → (i : ℕ) × (i < m) × (b i ≡ k)) → (i : ℕ) × (i < suc m) × (b i ≡ k)
     by true e h more = (m, omega arith, sym (eqb-true k (b m) e))
     by false e h more = let o = more h in (o.0, omega (arith, o.1), o.2)
 
@@ -66,7 +71,8 @@ member_test (suc m) b k i h e =
     or_true false = refl
 
 -- there are m of them, where they differ
-pub count_members : (m n : ℕ) (b : ℕ → ℕ) → ((i : ℕ) → i < m → b i < n) → ((i r : ℕ) → i < m → r < m → b i ≡ b r → i ≡ r) → count n (member m b) ≡ m
+pub count_members : (m n : ℕ) (b : ℕ → ℕ) → ((i : ℕ) → i < m → b i < n) →
+    ((i r : ℕ) → i < m → r < m → b i ≡ b r → i ≡ r) → count n (member m b) ≡ m
 count_members zero n b inside apart = none n
   where
     none : (n : ℕ) → count n (λ k. false) ≡ 0

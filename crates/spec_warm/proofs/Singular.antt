@@ -28,16 +28,19 @@ none_open : (e : Elimination) (j n : ℕ) → open_below e j n ≡ None → (i :
 none_open e j zero h i l = absurd (let z : ⊥ = omega (arith, l) in z)
 none_open e j (suc n) h i l = by (open_below e j n) (is_open e j n) refl h (none_open e j n)
   where
-    by : (o : Option ℕ) (c : Bool) → is_open e j n ≡ c → or_place o n c ≡ None → (o ≡ None → (i : ℕ) → i < n → is_open e j i ≡ false) → is_open e j i ≡ false
+    by : (o : Option ℕ) (c : Bool) → is_open e j n ≡ c → or_place o n c ≡ None →
+        (o ≡ None → (i : ℕ) → i < n → is_open e j i ≡ false) → is_open e j i ≡ false
     by (Some p) c q h more = let z : Some p ≡ None = h in cc
     by None true q h more = let z : Some n ≡ None = h in cc
     by None false q h more = by_eq i n (λ z. ap (is_open e j) z ∙ q) (λ z. more refl i (omega (arith, l, z)))
 
 -- a position that is not open has a column, or the entry 0
-closed : (e : Elimination) (j i : ℕ) → is_open e j i ≡ false → (has_none (get_or e.basic i None) ≡ false) ⊎ (at_place e.rows i j ≡ 0ℚ)
+closed : (e : Elimination) (j i : ℕ) → is_open e j i ≡ false →
+    (has_none (get_or e.basic i None) ≡ false) ⊎ (at_place e.rows i j ≡ 0ℚ)
 closed e j i h = by (has_none (get_or e.basic i None)) (eq_ℚ (at_place e.rows i j) 0ℚ) refl refl h
   where
-    by : (c d : Bool) → has_none (get_or e.basic i None) ≡ c → eq_ℚ (at_place e.rows i j) 0ℚ ≡ d → c && not d ≡ false → (has_none (get_or e.basic i None) ≡ false) ⊎ (at_place e.rows i j ≡ 0ℚ)
+    by : (c d : Bool) → has_none (get_or e.basic i None) ≡ c → eq_ℚ (at_place e.rows i j) 0ℚ ≡ d → c && not d ≡ false →
+        (has_none (get_or e.basic i None) ≡ false) ⊎ (at_place e.rows i j ≡ 0ℚ)
     by false d p q h = inl p
     by true true p q h = inr (eq_if (at_place e.rows i j) 0ℚ q)
     by true false p q h = let z : true ≡ false = h in cc
@@ -56,7 +59,9 @@ module _ (limit : Option ℕ) (f : Form) (basis : List Status) (j : ℕ) (j_in :
   column i = or_first (get_or e.basic i None)
 
   -- a position has a column before column j, or its entry there is 0
-  by_position : {P : Type 0} (i : ℕ) → i < m → ((column i < j) → basis_at basis (column i) ≡ Basic → get_or e.basic i None ≡ Some (column i) → P) → (E i j ≡ 0ℚ → P) → P
+  by_position : {P : Type 0} (i : ℕ) → i < m →
+      ((column i < j) → basis_at basis (column i) ≡ Basic → get_or e.basic i None ≡ Some (column i) → P) →
+      (E i j ≡ 0ℚ → P) → P
   by_position i h f g =
       ⊎_elim
       (λ p. let o = some_is (get_or e.basic i None) p in
@@ -69,7 +74,8 @@ module _ (limit : Option ℕ) (f : Form) (basis : List Status) (j : ℕ) (j_in :
   solution : ℕ → ℚ
   solution k = delta j k -ℚ sum_below m (λ i. delta (column i) k *ℚ E i j)
 
-  no_part : (k : ℕ) → ((i : ℕ) → i < m → column i < j → basis_at basis (column i) ≡ Basic → column i ≢ k) → sum_below m (λ i. delta (column i) k *ℚ E i j) ≡ 0ℚ
+  no_part : (k : ℕ) → ((i : ℕ) → i < m → column i < j → basis_at basis (column i) ≡ Basic → column i ≢ k) →
+      sum_below m (λ i. delta (column i) k *ℚ E i j) ≡ 0ℚ
   no_part k apart =
       sum_below_none m _ (λ i h. by_position i h
       (λ l p at. ap (λ a. a *ℚ E i j) (delta_other (column i) k (apart i h l p)) ∙ zero-*ℚ (E i j))
@@ -131,38 +137,50 @@ module _ (limit : Option ℕ) (f : Form) (basis : List Status) (j : ℕ) (j_in :
 
 -- ---- the run
 -- a stop is that of some step, and those before it gave results
-stops_at : {A E : Type 0} (n : ℕ) (f : ℕ → A → Result A E) (a : A) (e : E) → steps n f a ≡ Err e → (i : ℕ) × (i < n) × (x : A) × (steps i f a ≡ Ok x) × (f i x ≡ Err e)
+stops_at : {A E : Type 0} (n : ℕ) (f : ℕ → A → Result A E) (a : A) (e : E) → steps n f a ≡ Err e →
+    (i : ℕ) × (i < n) × (x : A) × (steps i f a ≡ Ok x) × (f i x ≡ Err e)
 stops_at {A} {E} zero f a e h = let z : ◌≡◌ {A = Result A E} (Ok a) (Err e) = h in cc
 stops_at {A} {E} (suc n) f a e h = by (steps n f a) refl h (λ h. stops_at n f a e h)
   where
-    by : (o : Result A E) → steps n f a ≡ o → (o >>= λ b. f n b) ≡ Err e → (steps n f a ≡ Err e → (i : ℕ) × (i < n) × (x : A) × (steps i f a ≡ Ok x) × (f i x ≡ Err e)) → (i : ℕ) × (i < suc n) × (x : A) × (steps i f a ≡ Ok x) × (f i x ≡ Err e)
+    by : (o : Result A E) → steps n f a ≡ o → (o >>= λ b. f n b) ≡ Err e →
+        (steps n f a ≡ Err e → (i : ℕ) × (i < n) × (x : A) × (steps i f a ≡ Ok x) × (f i x ≡ Err e)) →
+        (i : ℕ) × (i < suc n) × (x : A) × (steps i f a ≡ Ok x) × (f i x ≡ Err e)
     by (Ok x) p h more = (n, omega arith, x, p, h)
     by (Err d) p h more = let o = more (p ∙ h) in (o.0, omega (arith, o.1), o.2, o.3, o.4)
 
 -- an operation that is refused is not singular
 never_singular : {A : Type 0} (o : Run A) → ¬ (refused_as stop.Past o ≡ Err stop.Singular)
 never_singular {A} (Ok a) h = let z : ◌≡◌ {A = Result A (StartStop ℚ)} (Ok a) (Err stop.Singular) = h in cc
-never_singular {A} (Err p) h = let z : ◌≡◌ {A = Result A (StartStop ℚ)} (Err (stop.Past p)) (Err stop.Singular) = h in let y : stop.Past p ≡ stop.Singular = cc in cc
+never_singular {A} (Err p) h =
+    let z : ◌≡◌ {A = Result A (StartStop ℚ)} (Err (stop.Past p)) (Err stop.Singular) = h in
+    let y : stop.Past p ≡ stop.Singular = cc in cc
 
-no_place : (limit : Option ℕ) (f : Form) (e : Elimination) (j : ℕ) (o : Option ℕ) → solved_by limit f e j o ≡ Err stop.Singular → o ≡ None
+no_place : (limit : Option ℕ) (f : Form) (e : Elimination) (j : ℕ) (o : Option ℕ) →
+    solved_by limit f e j o ≡ Err stop.Singular → o ≡ None
 no_place limit f e j None h = refl
 no_place limit f e j (Some p) h = absurd (never_singular (solved_at limit f e j p) h)
 
-pub eliminate_singular : (limit : Option ℕ) (f : Form) (basis : List Status) → eliminate_run limit f basis ≡ Err stop.Singular → (j : ℕ) × (x : ℕ → ℚ) × IsDependent f basis j x
+pub eliminate_singular : (limit : Option ℕ) (f : Form) (basis : List Status) →
+    eliminate_run limit f basis ≡ Err stop.Singular → (j : ℕ) × (x : ℕ → ℚ) × IsDependent f basis j x
 unfolding eliminate_run
 eliminate_singular limit f basis h =
     let o = stops_at (f.cols + f.rows) (λ j e. cond (is_basic (basis_at basis j)) (solved_run limit f e j) (Ok e)) (unsolved f) stop.Singular h in
     by o.0 o.1 o.2 (eliminated_below limit f basis o.0 o.2 o.3) (is_basic (basis_at basis o.0)) refl o.4
   where
-    by : (j : ℕ) → j < f.cols + f.rows → (e : Elimination) → Solving limit f basis j e → (c : Bool) → is_basic (basis_at basis j) ≡ c → cond c (solved_run limit f e j) (Ok e) ≡ Err stop.Singular → (j : ℕ) × (x : ℕ → ℚ) × IsDependent f basis j x
+    by : (j : ℕ) → j < f.cols + f.rows → (e : Elimination) → Solving limit f basis j e → (c : Bool) →
+        is_basic (basis_at basis j) ≡ c → cond c (solved_run limit f e j) (Ok e) ≡ Err stop.Singular →
+        (j : ℕ) × (x : ℕ → ℚ) × IsDependent f basis j x
     by j l e s true c h =
         (j, solution limit f basis j l (basic_if (basis_at basis j) c) e s (no_place limit f e j (open_below e j f.rows) h), depends limit f basis j l (basic_if (basis_at basis j) c) e s (no_place limit f e j (open_below e j f.rows) h))
     by j l e s false c h = let z : ◌≡◌ {A = Result Elimination (StartStop ℚ)} (Ok e) (Err stop.Singular) = h in cc
 
-pub start_singular : (limit : Option ℕ) (f : Form) (basis : List Status) → start_from limit f basis ≡ Err stop.Singular → (j : ℕ) × (x : ℕ → ℚ) × IsDependent f basis j x
+pub start_singular : (limit : Option ℕ) (f : Form) (basis : List Status) →
+    start_from limit f basis ≡ Err stop.Singular → (j : ℕ) × (x : ℕ → ℚ) × IsDependent f basis j x
 unfolding start_from
 start_singular limit f basis h = by (eliminate_run limit f basis) refl h
   where
-    by : (o : Result Elimination (StartStop ℚ)) → eliminate_run limit f basis ≡ o → (o >>= λ e. refused_as stop.Past (filled_run limit f (with_basis f basis e))) ≡ Err stop.Singular → (j : ℕ) × (x : ℕ → ℚ) × IsDependent f basis j x
+    by : (o : Result Elimination (StartStop ℚ)) → eliminate_run limit f basis ≡ o →
+        (o >>= λ e. refused_as stop.Past (filled_run limit f (with_basis f basis e))) ≡ Err stop.Singular →
+        (j : ℕ) × (x : ℕ → ℚ) × IsDependent f basis j x
     by (Ok e) p h = absurd (never_singular (filled_run limit f (with_basis f basis e)) h)
     by (Err d) p h = let z : d ≡ stop.Singular = cc in eliminate_singular limit f basis (p ∙ ap Err z)

@@ -73,14 +73,18 @@ module _ (limit : Option ℕ) (f : Form) (proper : IsProper f) (basis : List Sta
   upper_before : (k : ℕ) → k < f.cols + f.rows → upper_at t k ≡ form_upper f k
   upper_before k h = get_or_append_left f.upper (replicate f.rows (Some 0ℚ)) None k (omega (arith, h, proper.all_upper))
 
-  bound_after : (bounds : List (Option ℚ)) → length bounds ≡ f.cols + f.rows → (r : ℕ) → r < f.rows → get_or (bounds ++ replicate f.rows (Some 0ℚ)) (f.cols + f.rows + r) None ≡ Some 0ℚ
+  bound_after : (bounds : List (Option ℚ)) → length bounds ≡ f.cols + f.rows → (r : ℕ) → r < f.rows →
+      get_or (bounds ++ replicate f.rows (Some 0ℚ)) (f.cols + f.rows + r) None ≡ Some 0ℚ
   bound_after bounds all r h =
       ap (λ k. get_or (bounds ++ replicate f.rows (Some 0ℚ)) (k + r) None) (sym all) ∙ get_or-append-add bounds (replicate f.rows (Some 0ℚ)) r None
       ∙ get_or-replicate f.rows r (Some 0ℚ) None h
 
   -- an artificial by the number of its row
-  by_artificial : (P : ℕ → Type 0) (k : ℕ) → f.cols + f.rows ≤ k → k < n → ((r : ℕ) → r < f.rows → P (f.cols + f.rows + r)) → P k
-  by_artificial P k h l g = let z : f.cols + f.rows + (k - (f.cols + f.rows)) ≡ k = omega (arith, h) in subst P z (g (k - (f.cols + f.rows)) (omega (arith, h, l)))
+  by_artificial : (P : ℕ → Type 0) (k : ℕ) → f.cols + f.rows ≤ k → k < n →
+      ((r : ℕ) → r < f.rows → P (f.cols + f.rows + r)) → P k
+  by_artificial P k h l g =
+      let z : f.cols + f.rows + (k - (f.cols + f.rows)) ≡ k = omega (arith, h) in
+      subst P z (g (k - (f.cols + f.rows)) (omega (arith, h, l)))
 
   lower_zero : (k : ℕ) → f.cols + f.rows ≤ k → k < n → lower_at t k ≡ Some 0ℚ
   lower_zero k h l = by_artificial (λ k. lower_at t k ≡ Some 0ℚ) k h l (bound_after f.lower proper.all_lower)
@@ -96,7 +100,9 @@ module _ (limit : Option ℕ) (f : Form) (proper : IsProper f) (basis : List Sta
   units i r h l = let a = at i h in ap (entry_at t r) a.is ∙ s.units i a.column r h l a.taken
 
   marked : (i : ℕ) → i < f.rows → status_at t (basic_at t i) ≡ Basic
-  marked i h = let a = at i h in status_before (basic_at t i) (basic_before i h) ∙ ap (basis_at basis) a.is ∙ (s.only i a.column h a.taken).1
+  marked i h =
+      let a = at i h in
+      status_before (basic_at t i) (basic_before i h) ∙ ap (basis_at basis) a.is ∙ (s.only i a.column h a.taken).1
 
   basic_inside : (k : ℕ) → k < n → status_at t k ≡ Basic → k < f.cols + f.rows
   basic_inside k h b = by_lt k (f.cols + f.rows) (λ l. l)
@@ -119,7 +125,8 @@ module _ (limit : Option ℕ) (f : Form) (proper : IsProper f) (basis : List Sta
       (λ l. at_bounds (basis_at basis k) (form_lower f k) (form_upper f k) (status_before k l) (lower_before k l) (upper_before k l) (fits.stand k l))
       (λ l. subst (λ s. CanStand s (lower_at t k) (upper_at t k)) (sym (by_artificial (λ k. status_at t k ≡ AtLower) k l h status_after)) (0ℚ, lower_zero k l h))
     where
-      at_bounds : (x : Status) (a c : Option ℚ) → status_at t k ≡ x → lower_at t k ≡ a → upper_at t k ≡ c → CanStand x a c → CanStand (status_at t k) (lower_at t k) (upper_at t k)
+      at_bounds : (x : Status) (a c : Option ℚ) → status_at t k ≡ x → lower_at t k ≡ a → upper_at t k ≡ c →
+          CanStand x a c → CanStand (status_at t k) (lower_at t k) (upper_at t k)
       at_bounds x a c p q r g =
           subst (λ x. CanStand x (lower_at t k) (upper_at t k)) (sym p) (subst (λ a. CanStand x a (upper_at t k)) (sym q) (subst (CanStand x a) (sym r) g))
 
@@ -144,9 +151,12 @@ module _ (limit : Option ℕ) (f : Form) (proper : IsProper f) (basis : List Sta
       all_basic = length-made f.rows (λ i. or_first (get_or e.basic i None));
       all_values = valued_length limit t all_values units in_range marked zero values values_ok;
       all_reduced = priced_length limit t f.cost reduced reduced_ok;
-      all_statuses = length-append basis (replicate f.rows AtLower) ∙ ap₂ ◌+◌ fits.all (length-replicate f.rows AtLower);
-      all_lower = length-append f.lower (replicate f.rows (Some 0ℚ)) ∙ ap₂ ◌+◌ proper.all_lower (length-replicate f.rows (Some 0ℚ));
-      all_upper = length-append f.upper (replicate f.rows (Some 0ℚ)) ∙ ap₂ ◌+◌ proper.all_upper (length-replicate f.rows (Some 0ℚ));
+      all_statuses =
+          length-append basis (replicate f.rows AtLower) ∙ ap₂ ◌+◌ fits.all (length-replicate f.rows AtLower);
+      all_lower =
+          length-append f.lower (replicate f.rows (Some 0ℚ)) ∙ ap₂ ◌+◌ proper.all_lower (length-replicate f.rows (Some 0ℚ));
+      all_upper =
+          length-append f.upper (replicate f.rows (Some 0ℚ)) ∙ ap₂ ◌+◌ proper.all_upper (length-replicate f.rows (Some 0ℚ));
     }
 
     keeps : KeepsBounds (bounds_of u) u
@@ -171,11 +181,13 @@ module _ (limit : Option ℕ) (f : Form) (proper : IsProper f) (basis : List Sta
         forth = s.forth;
         back = s.back;
         units = units;
-        costs = priced_agrees limit t f.cost reduced reduced_ok few (λ i k h l. past_row e.rows i k n (s.whole_rows i h) l) (equations f) s.forth units in_range;
+        costs =
+            priced_agrees limit t f.cost reduced reduced_ok few (λ i k h l. past_row e.rows i k n (s.whole_rows i h) l) (equations f) s.forth units in_range;
         marked = marked;
         placed = placed;
         stands = stands;
-        solves = combined f.rows n (equations f) (entry_at t) s.back (λ k. get_or values k 0ℚ) (valued_solves limit t all_values units in_range marked zero values values_ok);
+        solves =
+            combined f.rows n (equations f) (entry_at t) s.back (λ k. get_or values k 0ℚ) (valued_solves limit t all_values units in_range marked zero values values_ok);
       };
       bounds = keeps;
       top = upper_zero;
@@ -184,7 +196,8 @@ module _ (limit : Option ℕ) (f : Form) (proper : IsProper f) (basis : List Sta
     begins : BeginsFrom f u
     begins = record { based = based; lower = lower_before; upper = upper_before }
 
-pub start_begins_from : (limit : Option ℕ) (f : Form) (basis : List Status) (t : Tableau) → IsProper f → IsBasisOf f basis → length f.cost ≤ f.cols + f.rows + f.rows → start_from limit f basis ≡ Ok t → BeginsFrom f t
+pub start_begins_from : (limit : Option ℕ) (f : Form) (basis : List Status) (t : Tableau) → IsProper f →
+    IsBasisOf f basis → length f.cost ≤ f.cols + f.rows + f.rows → start_from limit f basis ≡ Ok t → BeginsFrom f t
 unfolding start_from
 start_begins_from limit f basis t proper fits few h =
     let a = then_ok (eliminate_run limit f basis) _ t h in

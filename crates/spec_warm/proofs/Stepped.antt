@@ -35,7 +35,8 @@ passed_is false = refl
 
 module _ (limit : Option ℕ) (f : Matrix) (cost : ℕ → ℚ) (b : Bounds) (t : Tableau) (s : IsBased t.rows t.cols f cost b t) where
   -- ---- the choice
-  leaves_at : (x : Leaving) (l : IsLeaving t (all_columns t) x) → Leaves t.rows b (table_of t) (way x.below) (place_of t x.col) l.bound
+  leaves_at : (x : Leaving) (l : IsLeaving t (all_columns t) x) →
+      Leaves t.rows b (table_of t) (way x.below) (place_of t x.col) l.bound
   leaves_at x l =
       let w = s.tableau.placed x.col l.inside l.basic in
       let at = place_is t x.col t.rows w.0 w.1 w.2 in
@@ -45,15 +46,19 @@ module _ (limit : Option ℕ) (f : Matrix) (cost : ℕ → ℚ) (b : Bounds) (t 
             (subst₂ (λ low high. IsPast (way x.below) low high (value_at t x.col) l.bound) (lower_same f cost b t s x.col l.inside) (upper_same f cost b t s x.col l.inside) l.past);
       }
 
-  leaving_meant : (x : Leaving) (choice : DualChoice) → IsLeaving t (all_columns t) x → dual_choice_at limit t (place_of t x.col) x.below ≡ Ok choice → IsDualMeant t.rows t.cols b t choice
+  leaving_meant : (x : Leaving) (choice : DualChoice) → IsLeaving t (all_columns t) x →
+      dual_choice_at limit t (place_of t x.col) x.below ≡ Ok choice → IsDualMeant t.rows t.cols b t choice
   leaving_meant x choice l h =
       let o = then_ok (cheapest_run limit t (place_of t x.col) x.below) (λ best. Ok (dual_choice_by (place_of t x.col) x.below best)) choice h in
       let z : dual_choice_by (place_of t x.col) x.below o.0 ≡ choice = cc in
       subst (IsDualMeant t.rows t.cols b t) z (by o.0 o.1)
     where
-      by : (best : Option (Cheapest ℚ)) → cheapest_run limit t (place_of t x.col) x.below ≡ Ok best → IsDualMeant t.rows t.cols b t (dual_choice_by (place_of t x.col) x.below best)
-      by None ok = record { bound = l.bound; leaves = leaves_at x l; none = none_cheapest limit f cost b t s (place_of t x.col) x.below ok }
-      by (Some y) ok = (x.below, record { bound = l.bound; leaves = leaves_at x l; cheapest = a_cheapest limit f cost b t s (place_of t x.col) x.below y ok }, refl)
+      by : (best : Option (Cheapest ℚ)) → cheapest_run limit t (place_of t x.col) x.below ≡ Ok best →
+          IsDualMeant t.rows t.cols b t (dual_choice_by (place_of t x.col) x.below best)
+      by None ok =
+          record { bound = l.bound; leaves = leaves_at x l; none = none_cheapest limit f cost b t s (place_of t x.col) x.below ok }
+      by (Some y) ok =
+          (x.below, record { bound = l.bound; leaves = leaves_at x l; cheapest = a_cheapest limit f cost b t s (place_of t x.col) x.below y ok }, refl)
 
   pub choice_meant : (choice : DualChoice) → dual_choice_run limit t ≡ Ok choice → IsDualMeant t.rows t.cols b t choice
   unfolding dual_choice_run
@@ -61,7 +66,8 @@ module _ (limit : Option ℕ) (f : Matrix) (cost : ℕ → ℚ) (b : Bounds) (t 
       let o = then_ok (leaving_run limit t) (dual_choice_of limit t) choice h in
       by o.0 (leaving_is limit t o.0 o.1) o.2
     where
-      by : (x : Option Leaving) → LeavingIs t (all_columns t) x → dual_choice_of limit t x ≡ Ok choice → IsDualMeant t.rows t.cols b t choice
+      by : (x : Option Leaving) → LeavingIs t (all_columns t) x → dual_choice_of limit t x ≡ Ok choice →
+          IsDualMeant t.rows t.cols b t choice
       by None inside h =
           let z : End Optimal ≡ choice = cc in
           subst (IsDualMeant t.rows t.cols b t) z
@@ -92,7 +98,8 @@ module _ (limit : Option ℕ) (f : Matrix) (cost : ℕ → ℚ) (b : Bounds) (t 
         quotient_ok limit gap (entry_at t p j) theta k
         ∙ ap (λ a. a *ℚ inverse (entry_at t p j)) (difference_ok limit (value_at t (basic_at t p)) (stand to (lower_at t (basic_at t p)) (upper_at t (basic_at t p))) gap h ∙ ap (λ a. value_at t (basic_at t p) -ℚ a) bound_is)
 
-    left : (u : Tableau) → dual_pivot_by limit t p j (basic_at t p) to ≡ Ok u → step.Leaves b t u (after_dual t.rows (table_of t) (way below) p j d.bound)
+    left : (u : Tableau) → dual_pivot_by limit t p j (basic_at t p) to ≡ Ok u →
+        step.Leaves b t u (after_dual t.rows (table_of t) (way below) p j d.bound)
     left u h =
         let a = then_ok (difference_run limit (value_at t (basic_at t p)) (stand to (lower_at t (basic_at t p)) (upper_at t (basic_at t p)))) _ u h in
         let c = then_ok (quotient_run limit a.0 (entry_at t p j)) _ u a.2 in
@@ -101,7 +108,8 @@ module _ (limit : Option ℕ) (f : Matrix) (cost : ℕ → ℚ) (b : Bounds) (t 
         (free_open f cost b t s j d.cheapest.in_range d.cheapest.candidate.not_fixed) u
         (subst (λ theta. pivot_run limit t p j theta to ≡ Ok u) (by_theta a.0 c.0 a.1 c.1 ∙ sym (one-*ℚ (shift (table_of t) p j d.bound))) c.2)
 
-    ready : (u : Tableau) → step.Leaves b t u (after_dual t.rows (table_of t) (way below) p j d.bound) → IsReady t.rows t.cols f cost b u
+    ready : (u : Tableau) → step.Leaves b t u (after_dual t.rows (table_of t) (way below) p j d.bound) →
+        IsReady t.rows t.cols f cost b u
     ready u l = record {
       based = record {
         rows = l.rows;
@@ -112,13 +120,18 @@ module _ (limit : Option ℕ) (f : Matrix) (cost : ℕ → ℚ) (b : Bounds) (t 
         bounds = l.bounds;
         top = s.top;
       };
-      feasible = subst (IsDualFeasible (all_columns t) b) (sym l.table) (feasible_kept t.rows (all_columns t) f cost b (table_of t) s.tableau feasible (way below) p j d.bound d.leaves d.cheapest);
+      feasible =
+          subst (IsDualFeasible (all_columns t) b) (sym l.table) (feasible_kept t.rows (all_columns t) f cost b (table_of t) s.tableau feasible (way below) p j d.bound d.leaves d.cheapest);
     }
 
-    pub pivot_ready : (u : Tableau) → dual_pivot_run limit t p j (passed_bound below) ≡ Ok u → IsReady t.rows t.cols f cost b u
+    pub pivot_ready : (u : Tableau) → dual_pivot_run limit t p j (passed_bound below) ≡ Ok u →
+        IsReady t.rows t.cols f cost b u
     unfolding dual_pivot_run
-    pivot_ready u h = ready u (left u (subst (λ to. dual_pivot_by limit t p j (basic_at t p) to ≡ Ok u) (passed_is below) h))
+    pivot_ready u h =
+        ready u (left u (subst (λ to. dual_pivot_by limit t p j (basic_at t p) to ≡ Ok u) (passed_is below) h))
 
-    pub pivot_table : (u : Tableau) → dual_pivot_run limit t p j (passed_bound below) ≡ Ok u → table_of u ≡ after_dual t.rows (table_of t) (way below) p j d.bound
+    pub pivot_table : (u : Tableau) → dual_pivot_run limit t p j (passed_bound below) ≡ Ok u →
+        table_of u ≡ after_dual t.rows (table_of t) (way below) p j d.bound
     unfolding dual_pivot_run
-    pivot_table u h = (left u (subst (λ to. dual_pivot_by limit t p j (basic_at t p) to ≡ Ok u) (passed_is below) h)).table
+    pivot_table u h =
+        (left u (subst (λ to. dual_pivot_by limit t p j (basic_at t p) to ≡ Ok u) (passed_is below) h)).table

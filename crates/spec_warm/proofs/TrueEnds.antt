@@ -48,7 +48,8 @@ run_left limit budget m f basis e left p fits q r =
     subst (λ f. IsBasisOf f left) o.2
     (warm_left limit m o.0 o.1 budget basis e (subst (λ f. IsBasisOf f basis) (sym o.2) fits) (ap (λ f. warm_run limit budget f basis) o.2 ∙ q) left r)
 
-pub phases_left : (limit : Option ℕ) (budget : ℕ) (m : Model) (f : Form) (e : PhasesEnd) (left : List Status) → form_of limit m ≡ Ok f → phases_run limit budget f ≡ Ok e → cold.basis_of e ≡ Some left → IsBasisOf f left
+pub phases_left : (limit : Option ℕ) (budget : ℕ) (m : Model) (f : Form) (e : PhasesEnd) (left : List Status) →
+    form_of limit m ≡ Ok f → phases_run limit budget f ≡ Ok e → cold.basis_of e ≡ Some left → IsBasisOf f left
 phases_left limit budget m f (Infeasible t used) left p q r = let z : None ≡ Some left = r in cc
 phases_left limit budget m f (Finished e) left p q r =
     let o = form_is limit m f p in
@@ -56,8 +57,10 @@ phases_left limit budget m f (Finished e) left p q r =
     subst (λ f. IsBasisOf f left) o.2
     (by e.end r (basis_fits (formed m o.0) d.starts (cost_at (formed m o.0).cost) d.bounds d.bounded e.tableau d.after.rows d.after.cols d.after.tableau))
   where
-    by : {f : Form} (end : PrimalEnd) → cold.basis_at e.tableau end ≡ Some left → IsBasisOf f (made (form_columns e.tableau) (cold.basis_status e.tableau)) → IsBasisOf f left
-    by primal.Optimal r h = let z : made (form_columns e.tableau) (cold.basis_status e.tableau) ≡ left = cc in subst (IsBasisOf _) z h
+    by : {f : Form} (end : PrimalEnd) → cold.basis_at e.tableau end ≡ Some left →
+        IsBasisOf f (made (form_columns e.tableau) (cold.basis_status e.tableau)) → IsBasisOf f left
+    by primal.Optimal r h =
+        let z : made (form_columns e.tableau) (cold.basis_status e.tableau) ≡ left = cc in subst (IsBasisOf _) z h
     by (primal.Unbounded j up) r h = let z : None ≡ Some left = r in cc
 
 -- ---- by what the checker says
@@ -65,7 +68,8 @@ module _ (limit : Option ℕ) (budget : ℕ) (m : Model) (basis : List Status) (
     (ended : (answer : Known ℚ) (c : Certificate (List ℚ)) (left : Option (List Status)) (pivots : ℕ) → IsTrueEnd limit m answer c → P (outcome.Ended answer c left pivots))
     (past : (p : Past ℚ) → P (outcome.Stopped (fall.Past p)))
     (stopped : (f : Form) (s : WarmStop ℚ) → form_of limit m ≡ Ok f → warm_run limit budget f basis ≡ Err s → P (outcome.Stopped s)) where
-  by_check : (c : Certificate (List ℚ)) (left : Option (List Status)) (pivots : ℕ) → IsAccepted limit m c → P (answered limit m c left pivots)
+  by_check : (c : Certificate (List ℚ)) (left : Option (List Status)) (pivots : ℕ) → IsAccepted limit m c →
+      P (answered limit m c left pivots)
   unfolding Agrees
   by_check c left pivots a =
       ⊎_elim
@@ -77,8 +81,10 @@ module _ (limit : Option ℕ) (budget : ℕ) (m : Model) (basis : List Status) (
   unfolding warm
   by_end = with_form (form_of limit m) refl
     where
-      with_run : (f : Form) → form_of limit m ≡ Ok f → (o : Result WarmEnd (WarmStop ℚ)) → warm_run limit budget f basis ≡ o → P (after_run limit m o)
-      with_run f p (Ok e) q = by_check (warm_certificate e) (warm_basis e) (warm_pivots e) (run_accepted limit budget m f basis e p (fits f p) q)
+      with_run : (f : Form) → form_of limit m ≡ Ok f → (o : Result WarmEnd (WarmStop ℚ)) →
+          warm_run limit budget f basis ≡ o → P (after_run limit m o)
+      with_run f p (Ok e) q =
+          by_check (warm_certificate e) (warm_basis e) (warm_pivots e) (run_accepted limit budget m f basis e p (fits f p) q)
       with_run f p (Err s) q = stopped f s p q
 
       with_form : (o : Result Form (FormFault ℚ)) → form_of limit m ≡ o → P (after_form limit budget m basis o)

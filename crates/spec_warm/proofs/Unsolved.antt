@@ -35,7 +35,8 @@ module _ (f : Form) where
       ∙ sym (row_artificial f [] i r ∙ ap (λ s. s *ℚ delta i r) (sign_one i) ∙ one-*ℚ (delta i r))))
 
   pub unsolved_length : (i : ℕ) → i < f.rows → length (get_or (unsolved f).rows i []) ≡ f.cols + f.rows + f.rows
-  unsolved_length i h = ap length (get_or-made f.rows (equation f) [] i h) ∙ length-made (f.cols + f.rows + f.rows) (start_entry f (Within 0ℚ) i)
+  unsolved_length i h =
+      ap length (get_or-made f.rows (equation f) [] i h) ∙ length-made (f.cols + f.rows + f.rows) (start_entry f (Within 0ℚ) i)
 
   unsolved_entry : (i k : ℕ) → i < f.rows → at_place (unsolved f).rows i k ≡ equations f i k
   unsolved_entry i k h =
@@ -48,4 +49,5 @@ module _ (f : Form) where
   unsolved_forth = (delta, λ i k h. unsolved_entry i k h ∙ sym (sum_below-delta f.rows i (λ r. equations f r k) h))
 
   pub unsolved_back : Spans f.rows (equations f) (at_place (unsolved f).rows)
-  unsolved_back = (delta, λ i k h. sym (unsolved_entry i k h) ∙ sym (sum_below-delta f.rows i (λ r. at_place (unsolved f).rows r k) h))
+  unsolved_back =
+      (delta, λ i k h. sym (unsolved_entry i k h) ∙ sym (sum_below-delta f.rows i (λ r. at_place (unsolved f).rows r k) h))

@@ -43,7 +43,9 @@ module _ (limit : Option ℕ) (t : Tableau) (all : length t.value ≡ all_column
           → y ≡ neg_ℚ (sum_below k (λ k. entry_at t i k *ℚ value_at t k) +ℚ entry_at t i k *ℚ value_at t k)
       step k x y k_in was is = by (is_basic (status_at t k)) refl is
         where
-          by : (c : Bool) → is_basic (status_at t k) ≡ c → cond c (Ok x) (less_product limit (entry_at t i k) (value_at t k) x) ≡ Ok y → y ≡ neg_ℚ (sum_below k (λ k. entry_at t i k *ℚ value_at t k) +ℚ entry_at t i k *ℚ value_at t k)
+          by : (c : Bool) → is_basic (status_at t k) ≡ c →
+              cond c (Ok x) (less_product limit (entry_at t i k) (value_at t k) x) ≡ Ok y →
+              y ≡ neg_ℚ (sum_below k (λ k. entry_at t i k *ℚ value_at t k) +ℚ entry_at t i k *ℚ value_at t k)
           by true c is =
               let z : x ≡ y = cc in
               sym z ∙ was ∙ none (sum_below k (λ k. entry_at t i k *ℚ value_at t k)) (entry_at t i k *ℚ value_at t k)
@@ -58,7 +60,8 @@ module _ (limit : Option ℕ) (t : Tableau) (all : length t.value ≡ all_column
     placed : (r : ℕ) → r < i → r < t.rows → get_or values (basic_at t r) 0ℚ ≡ neg_ℚ (rest r)
     others : (k : ℕ) → ((r : ℕ) → r < i → r < t.rows → basic_at t r ≢ k) → get_or values k 0ℚ ≡ value_at t k
 
-  step : (i : ℕ) (x y : List ℚ) → i < t.rows → Valued i x → (position_run limit t i >>= λ v. Ok (set x (basic_at t i) v)) ≡ Ok y → Valued (suc i) y
+  step : (i : ℕ) (x y : List ℚ) → i < t.rows → Valued i x →
+      (position_run limit t i >>= λ v. Ok (set x (basic_at t i) v)) ≡ Ok y → Valued (suc i) y
   step i x y i_in v h =
       let o = then_ok (position_run limit t i) (λ v. Ok (set x (basic_at t i) v)) y h in
       let z : set x (basic_at t i) o.0 ≡ y = cc in
@@ -68,7 +71,8 @@ module _ (limit : Option ℕ) (t : Tableau) (all : length t.value ≡ all_column
             (λ e. subst (λ r. get_or (set x (basic_at t i) o.0) (basic_at t r) 0ℚ ≡ neg_ℚ (rest r)) (sym e)
             (get_or-set_same x (basic_at t i) o.0 0ℚ (omega (arith, in_range i i_in, v.all_values)) ∙ position_is i o.0 o.1))
             (λ e. get_or-set_other x (basic_at t i) (basic_at t r) o.0 0ℚ (λ y. e (apart t.rows (entry_at t) (basic_at t) units r i l i_in y)) ∙ v.placed r (omega (arith, q, e)) l);
-        others = λ k q. get_or-set_other x (basic_at t i) k o.0 0ℚ (λ e. q i (omega arith) i_in (sym e)) ∙ v.others k (λ r p l. q r (omega (arith, p)) l);
+        others =
+            λ k q. get_or-set_other x (basic_at t i) k o.0 0ℚ (λ e. q i (omega arith) i_in (sym e)) ∙ v.others k (λ r p l. q r (omega (arith, p)) l);
       })
 
   module _ (values : List ℚ) (ok : valued_run limit t ≡ Ok values) where
@@ -85,7 +89,8 @@ module _ (limit : Option ℕ) (t : Tableau) (all : length t.value ≡ all_column
     pub valued_other : (k : ℕ) → ¬ (status_at t k ≡ Basic) → get_or values k 0ℚ ≡ value_at t k
     valued_other k n = valued.others k (λ r _ l e. n (ap (status_at t) (sym e) ∙ marked r l))
 
-    pub valued_solves : (r : ℕ) → r < t.rows → sum_below (all_columns t) (λ k. entry_at t r k *ℚ get_or values k 0ℚ) ≡ 0ℚ
+    pub valued_solves : (r : ℕ) → r < t.rows →
+        sum_below (all_columns t) (λ k. entry_at t r k *ℚ get_or values k 0ℚ) ≡ 0ℚ
     unfolding rest
     valued_solves r h =
         sum_below_same (all_columns t) _ (λ k. entry_at t r k *ℚ value_at t k +ℚ entry_at t r k *ℚ (get_or values k 0ℚ -ℚ value_at t k)) (λ k _. split (entry_at t r k) (get_or values k 0ℚ) (value_at t k))

@@ -78,13 +78,16 @@ module _ (limit : Option ℕ) (m : Model) (ls : List (Option ℚ × Option ℚ))
   costs = cost_at (formed m ls).cost
 
   bounded : HasBounds (formed m ls) (bounds_of t)
-  bounded = record { lower = s.lower; upper = s.upper; entering = λ k l. s.based.bounds.entering k (omega (arith, l, s.based.rows, s.based.cols)) }
+  bounded =
+      record { lower = s.lower; upper = s.upper; entering = λ k l. s.based.bounds.entering k (omega (arith, l, s.based.rows, s.based.cols)) }
 
   lower_zero : (k : ℕ) → w + r ≤ k → k < w + r + r → lower_at t k ≡ Some 0ℚ
-  lower_zero k l q = s.based.bounds.zero k (omega (arith, l, s.based.rows, s.based.cols)) (omega (arith, q, s.based.rows, s.based.cols))
+  lower_zero k l q =
+      s.based.bounds.zero k (omega (arith, l, s.based.rows, s.based.cols)) (omega (arith, q, s.based.rows, s.based.cols))
 
   fixed : (i : ℕ) → i < r → (lower_at t (w + r + i) ≡ Some 0ℚ) × (upper_at t (w + r + i) ≡ Some 0ℚ)
-  fixed i l = (lower_zero (w + r + i) (omega arith) (omega (arith, l)), s.based.top (w + r + i) (omega arith) (omega (arith, l)))
+  fixed i l =
+      (lower_zero (w + r + i) (omega arith) (omega (arith, l)), s.based.top (w + r + i) (omega arith) (omega (arith, l)))
 
   ordered : IsOrdered (w + r + r) (bounds_of t)
   ordered k l u k_in p q =
@@ -94,7 +97,9 @@ module _ (limit : Option ℕ) (m : Model) (ls : List (Option ℚ × Option ℚ))
       let x' : 0ℚ ≡ l = cc in let y' : 0ℚ ≡ u = cc in subst₂ ◌≤ℚ◌ x' y' (≤ℚ_refl 0ℚ))
 
   -- where each basic value is within its bounds, the tableau is one for the primal method
-  whole : (u : Tableau) → IsBased r w F costs (bounds_of t) u → ((k : ℕ) → k < w + r + r → status_at u k ≡ Basic → IsInside (lower_at t k) (upper_at t k) (value_at u k)) → IsTableauOf r w F costs (bounds_of t) u
+  whole : (u : Tableau) → IsBased r w F costs (bounds_of t) u →
+      ((k : ℕ) → k < w + r + r → status_at u k ≡ Basic → IsInside (lower_at t k) (upper_at t k) (value_at u k)) →
+      IsTableauOf r w F costs (bounds_of t) u
   whole u d inside = record {
     rows = d.rows;
     cols = d.cols;
@@ -105,7 +110,8 @@ module _ (limit : Option ℕ) (m : Model) (ls : List (Option ℚ × Option ℚ))
   }
 
   -- ---- the dual method
-  stuck_shows : (u : Tableau) (p : ℕ) (below : Bool) → IsReady r w F costs (bounds_of t) u → IsStuck r w (bounds_of t) u p below → Shows m (certificate.Infeasible (row_multipliers u p below))
+  stuck_shows : (u : Tableau) (p : ℕ) (below : Bool) → IsReady r w F costs (bounds_of t) u →
+      IsStuck r w (bounds_of t) u p below → Shows m (certificate.Infeasible (row_multipliers u p below))
   stuck_shows u p below d k = record {
     for = length-made u.rows (λ i. directed below (entry_at u p (u.cols + i))) ∙ d.based.rows;
     checks =
@@ -117,7 +123,8 @@ module _ (limit : Option ℕ) (m : Model) (ls : List (Option ℚ × Option ℚ))
         ∙ ap (λ n. directed below (entry_at u p (n + i))) d.based.cols ∙ directed_is below (entry_at u p (w + i)));
   }
 
-  dual_shows : (u : Tableau) (end : DualEnd) → IsReady r w F costs (bounds_of t) u → IsDualMeant r w (bounds_of t) u (End end) → Shows m (dual_certificate u end)
+  dual_shows : (u : Tableau) (end : DualEnd) → IsReady r w F costs (bounds_of t) u →
+      IsDualMeant r w (bounds_of t) u (End end) → Shows m (dual_certificate u end)
   dual_shows u Optimal d inside =
       primal_shows m ls h [] (bounds_of t) bounded fixed limit (record { end = primal.Optimal; tableau = u; used = 0 }) (whole u d.based inside)
       (none_eligible (w + r + r) (bounds_of t) (table_of u) d.feasible)
@@ -133,7 +140,8 @@ module _ (limit : Option ℕ) (m : Model) (ls : List (Option ℚ × Option ℚ))
     pub shows : Shows m (warm_certificate e)
     pub based : IsBased (height m) (width m) (equations (formed m ls)) (cost_at (formed m ls).cost) (bounds_of t) (end_tableau e)
 
-  by_dual : (budget : ℕ) (e : DualEnded) → ((k : ℕ) → k < all_columns t → meets_need_at t k ≡ true) → dual_run limit budget t ≡ Ok e → IsEndOf (ByDual e)
+  by_dual : (budget : ℕ) (e : DualEnded) → ((k : ℕ) → k < all_columns t → meets_need_at t k ≡ true) →
+      dual_run limit budget t ≡ Ok e → IsEndOf (ByDual e)
   unfolding dual_run
   by_dual budget e met ok =
       let o = then_ok (flips_run limit budget t) (λ r. dual_from limit (budget - r.used) r.used r.tableau) e ok in
@@ -141,18 +149,23 @@ module _ (limit : Option ℕ) (m : Model) (ls : List (Option ℚ × Option ℚ))
       let g : IsDualEnd limit r w F costs (bounds_of t) e = dual_ends limit r w F costs (bounds_of t) (budget - o.0.used) o.0.used o.0.tableau e d o.2 in
       record { shows = dual_shows e.tableau e.end g.after g.end; based = g.after.based }
 
-  by_primal : (budget : ℕ) (e : PrimalEnded) → ((k : ℕ) → k < all_columns t → status_at t k ≡ Basic → IsInside (lower_at t k) (upper_at t k) (value_at t k)) → run_from limit budget 0 t ≡ Ok e → IsEndOf (ByPrimal e)
+  by_primal : (budget : ℕ) (e : PrimalEnded) →
+      ((k : ℕ) → k < all_columns t → status_at t k ≡ Basic → IsInside (lower_at t k) (upper_at t k) (value_at t k)) →
+      run_from limit budget 0 t ≡ Ok e → IsEndOf (ByPrimal e)
   by_primal budget e inside ok =
       let d = run_ends limit r w F costs (bounds_of t) some_label budget 0 t e (whole t s.based (λ k l. inside k (omega (arith, l, s.based.rows, s.based.cols)))) ok in
       record {
         shows = primal_shows m ls h [] (bounds_of t) bounded fixed limit e d.after d.end;
-        based = record { rows = d.after.rows; cols = d.after.cols; whole = d.after.whole; tableau = d.after.tableau; bounds = d.after.bounds; top = s.based.top };
+        based =
+            record { rows = d.after.rows; cols = d.after.cols; whole = d.after.whole; tableau = d.after.tableau; bounds = d.after.bounds; top = s.based.top };
       }
 
-  primal_end : (budget : ℕ) (o : PrimalEnded) (e : WarmEnd) → ByPrimal o ≡ e → FitIs t fit.Primal → run_from limit budget 0 t ≡ Ok o → IsEndOf e
+  primal_end : (budget : ℕ) (o : PrimalEnded) (e : WarmEnd) → ByPrimal o ≡ e → FitIs t fit.Primal →
+      run_from limit budget 0 t ≡ Ok o → IsEndOf e
   primal_end budget o e z inside ok = subst IsEndOf z (by_primal budget o inside ok)
 
-  dual_end : (budget : ℕ) (o : DualEnded) (e : WarmEnd) → ByDual o ≡ e → FitIs t fit.Dual → dual_run limit budget t ≡ Ok o → IsEndOf e
+  dual_end : (budget : ℕ) (o : DualEnded) (e : WarmEnd) → ByDual o ≡ e → FitIs t fit.Dual →
+      dual_run limit budget t ≡ Ok o → IsEndOf e
   dual_end budget o e z met ok = subst IsEndOf z (by_dual budget o met ok)
 
   ends_primal : (budget : ℕ) (e : WarmEnd) → FitIs t fit.Primal → run_by limit budget t fit.Primal ≡ Ok e → IsEndOf e
@@ -169,15 +182,18 @@ module _ (limit : Option ℕ) (m : Model) (ls : List (Option ℚ × Option ℚ))
   ends_unfit budget e ok = let z : ◌≡◌ {A = Result WarmEnd (WarmStop ℚ)} (Err fall.Unfit) (Ok e) = ok in cc
 
   fit_ends : (budget : ℕ) (kind : Fit) (e : WarmEnd) → FitIs t kind → run_by limit budget t kind ≡ Ok e → IsEndOf e
-  fit_ends budget kind e = by_fit (λ kind. FitIs t kind → run_by limit budget t kind ≡ Ok e → IsEndOf e) (ends_primal budget e) (ends_dual budget e) (λ _. ends_unfit budget e) kind
+  fit_ends budget kind e =
+      by_fit (λ kind. FitIs t kind → run_by limit budget t kind ≡ Ok e → IsEndOf e) (ends_primal budget e) (ends_dual budget e) (λ _. ends_unfit budget e) kind
 
   -- ---- the basis of an end
-  fits_at : (u : Tableau) → IsBased r w F costs (bounds_of t) u → (left : List Status) → Some (made (form_columns u) (cold.basis_status u)) ≡ Some left → IsBasisOf (formed m ls) left
+  fits_at : (u : Tableau) → IsBased r w F costs (bounds_of t) u → (left : List Status) →
+      Some (made (form_columns u) (cold.basis_status u)) ≡ Some left → IsBasisOf (formed m ls) left
   fits_at u d left e =
       let z : made (form_columns u) (cold.basis_status u) ≡ left = cc in
       subst (IsBasisOf (formed m ls)) z (basis_fits (formed m ls) [] costs (bounds_of t) bounded u d.rows d.cols d.tableau)
 
-  pub basis_left : (e : WarmEnd) → IsEndOf e → (left : List Status) → warm_basis e ≡ Some left → IsBasisOf (formed m ls) left
+  pub basis_left : (e : WarmEnd) → IsEndOf e → (left : List Status) → warm_basis e ≡ Some left →
+      IsBasisOf (formed m ls) left
   basis_left (ByPrimal e) d left = by e.end
     where
       by : (end : PrimalEnd) → cold.basis_at e.tableau end ≡ Some left → IsBasisOf (formed m ls) left

@@ -28,7 +28,7 @@ pub record IsBased (m n : ℕ) (f : Matrix) (cost : ℕ → ℚ) (b : Bounds) (t
   pub bounds : KeepsBounds b t
   pub top : (k : ℕ) → n + m ≤ k → k < n + m + m → b.upper k ≡ Some 0ℚ
 
--- and each reduced cost has the sign that its status wants
+-- and each reduced cost has the sign that belongs to its status
 pub record IsReady (m n : ℕ) (f : Matrix) (cost : ℕ → ℚ) (b : Bounds) (t : Tableau) : Type 0 where
   pub based : IsBased m n f cost b t
   pub feasible : IsDualFeasible (n + m + m) b (table_of t)
@@ -65,6 +65,7 @@ pub record IsDualStep (m n : ℕ) (b : Bounds) (t : Tableau) (p j : ℕ) (below 
 
 -- no basic column is outside its bounds; or one is, and stays there, or comes back by a pivot
 abbrev pub IsDualMeant : ℕ → ℕ → Bounds → Tableau → DualChoice → Type 0
-IsDualMeant m n b t (End Optimal) = (k : ℕ) → k < n + m + m → status_at t k ≡ Basic → IsInside (b.lower k) (b.upper k) (value_at t k)
+IsDualMeant m n b t (End Optimal) =
+    (k : ℕ) → k < n + m + m → status_at t k ≡ Basic → IsInside (b.lower k) (b.upper k) (value_at t k)
 IsDualMeant m n b t (End (Infeasible p below)) = IsStuck m n b t p below
 IsDualMeant m n b t (Pivot p j to) = (below : Bool) × IsDualStep m n b t p j below × (to ≡ passed_bound below)

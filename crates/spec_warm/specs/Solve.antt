@@ -33,7 +33,8 @@ fall_of stop.Spent = fall.Spent
 
 -- by how the warm start ended, and how the cold solve ends
 abbrev pub solved_by : ColdEnd → WarmResult → SolveEnd
-solved_by other (warm.Ended answer certificate basis pivots) = record { end = cold.Ended answer certificate basis pivots; route = Warm }
+solved_by other (warm.Ended answer certificate basis pivots) =
+    record { end = cold.Ended answer certificate basis pivots; route = Warm }
 solved_by other (warm.Stopped stop) = record { end = other; route = Fell (fall_of stop) }
 
 unfoldable pub solve : Option ℕ → ℕ → Model → Option (List Status) → SolveEnd

@@ -2,4 +2,5 @@ use Rattle.spec_shape.proofs.Places.{packed_rows, packed_cols, packed_small, fro
 use Rattle.spec_shape.proofs.bits_stand_at_their_columns.Goals as goal
 
 pub returns : goal.returns
-returns c = record { rows = packed_rows; columns = packed_cols; sizes = packed_small; bounds = front_bits; statuses = basis_bits }
+returns c =
+    record { rows = packed_rows; columns = packed_cols; sizes = packed_small; bounds = front_bits; statuses = basis_bits }
