@@ -36,35 +36,47 @@ record Does (kind : BoundKind) (value : BoundReading) (does : BoundCard) : Type 
   lower : lower_by (Some kind) value ≡ lower_set does
   below : is_below_zero (Some kind) value ≡ drops does
 
-does_upper : (value : BoundReading) (does : BoundCard) → (coded (bound_answer value) >>= upper_card) ≡ Ok does → Does Up value does
-does_upper (Finite u) does h = subst (Does Up (Finite u)) (same_ok (SetsUpper (Some u)) does h) (record { upper = refl; lower = refl; below = refl })
-does_upper PlusInf does h = subst (Does Up PlusInf) (same_ok (SetsUpper None) does h) (record { upper = refl; lower = refl; below = refl })
+does_upper : (value : BoundReading) (does : BoundCard) → (coded (bound_answer value) >>= upper_card) ≡ Ok does →
+    Does Up value does
+does_upper (Finite u) does h =
+    subst (Does Up (Finite u)) (same_ok (SetsUpper (Some u)) does h) (record { upper = refl; lower = refl; below = refl })
+does_upper PlusInf does h =
+    subst (Does Up PlusInf) (same_ok (SetsUpper None) does h) (record { upper = refl; lower = refl; below = refl })
 does_upper MinusInf does h = absurd (cc)
 does_upper Shape does h = absurd (cc)
 does_upper Wide does h = absurd (cc)
 
-does_lower : (value : BoundReading) (does : BoundCard) → (coded (bound_answer value) >>= lower_card) ≡ Ok does → Does Lo value does
-does_lower (Finite l) does h = subst (Does Lo (Finite l)) (same_ok (SetsLower (Some l)) does h) (record { upper = refl; lower = refl; below = refl })
+does_lower : (value : BoundReading) (does : BoundCard) → (coded (bound_answer value) >>= lower_card) ≡ Ok does →
+    Does Lo value does
+does_lower (Finite l) does h =
+    subst (Does Lo (Finite l)) (same_ok (SetsLower (Some l)) does h) (record { upper = refl; lower = refl; below = refl })
 does_lower PlusInf does h = absurd (cc)
-does_lower MinusInf does h = subst (Does Lo MinusInf) (same_ok (SetsLower None) does h) (record { upper = refl; lower = refl; below = refl })
+does_lower MinusInf does h =
+    subst (Does Lo MinusInf) (same_ok (SetsLower None) does h) (record { upper = refl; lower = refl; below = refl })
 does_lower Shape does h = absurd (cc)
 does_lower Wide does h = absurd (cc)
 
-does_both : (value : BoundReading) (does : BoundCard) → (coded (bound_answer value) >>= both_card) ≡ Ok does → Does Fx value does
-does_both (Finite v) does h = subst (Does Fx (Finite v)) (same_ok (SetsBoth (Some v) (Some v)) does h) (record { upper = refl; lower = refl; below = refl })
+does_both : (value : BoundReading) (does : BoundCard) → (coded (bound_answer value) >>= both_card) ≡ Ok does →
+    Does Fx value does
+does_both (Finite v) does h =
+    subst (Does Fx (Finite v)) (same_ok (SetsBoth (Some v) (Some v)) does h) (record { upper = refl; lower = refl; below = refl })
 does_both PlusInf does h = absurd (cc)
 does_both MinusInf does h = absurd (cc)
 does_both Shape does h = absurd (cc)
 does_both Wide does h = absurd (cc)
 
-card_does : (kind : BoundKind) (text : List ℕ) (does : BoundCard) → bound_card kind text ≡ Ok does → Does kind (bound_of text) does
+card_does : (kind : BoundKind) (text : List ℕ) (does : BoundCard) → bound_card kind text ≡ Ok does →
+    Does kind (bound_of text) does
 unfolding bound_card bound_in
 card_does Up text does h = does_upper (bound_of text) does h
 card_does Lo text does h = does_lower (bound_of text) does h
 card_does Fx text does h = does_both (bound_of text) does h
-card_does Fr text does h = subst (Does Fr (bound_of text)) (same_ok (SetsBoth None None) does h) (record { upper = refl; lower = refl; below = refl })
-card_does Mi text does h = subst (Does Mi (bound_of text)) (same_ok (SetsLower None) does h) (record { upper = refl; lower = refl; below = refl })
-card_does Pl text does h = subst (Does Pl (bound_of text)) (same_ok (SetsUpper None) does h) (record { upper = refl; lower = refl; below = refl })
+card_does Fr text does h =
+    subst (Does Fr (bound_of text)) (same_ok (SetsBoth None None) does h) (record { upper = refl; lower = refl; below = refl })
+card_does Mi text does h =
+    subst (Does Mi (bound_of text)) (same_ok (SetsLower None) does h) (record { upper = refl; lower = refl; below = refl })
+card_does Pl text does h =
+    subst (Does Pl (bound_of text)) (same_ok (SetsUpper None) does h) (record { upper = refl; lower = refl; below = refl })
 
 -- the same of the card's fields
 pub record Effects (style : Style) (card : Fields) (does : BoundCard) : Type 0 where
@@ -72,7 +84,9 @@ pub record Effects (style : Style) (card : Fields) (does : BoundCard) : Type 0 w
   lower : lower_on style card ≡ lower_set does
   below : has_negative_upper style card ≡ drops does
 
-pub effects : (style : Style) (card : Fields) (kind : BoundKind) (text : List ℕ) (does : BoundCard) → kind_of (text_at 1 card) ≡ Some kind → (bound_on style card).value ≡ text → bound_card kind text ≡ Ok does → Effects style card does
+pub effects : (style : Style) (card : Fields) (kind : BoundKind) (text : List ℕ) (does : BoundCard) →
+    kind_of (text_at 1 card) ≡ Some kind → (bound_on style card).value ≡ text → bound_card kind text ≡ Ok does →
+    Effects style card does
 unfolding upper_on lower_on has_negative_upper
 effects style card kind text does k v h =
     let d = card_does kind text does h in
@@ -88,7 +102,8 @@ last_push : {A : Type 0} (first : A) (xs : List A) (y : A) → last_or first (xs
 last_push first [] y = refl
 last_push first (x ∷ xs) y = last_push x xs y
 
-any_push : (test : Fields → Bool) (cards : List Fields) (card : Fields) → list_any test (cards ++ card ∷ []) ≡ (list_any test cards || test card)
+any_push : (test : Fields → Bool) (cards : List Fields) (card : Fields) →
+    list_any test (cards ++ card ∷ []) ≡ (list_any test cards || test card)
 any_push test [] card = by (test card)
   where
     by : (b : Bool) → (b || false) ≡ b
@@ -104,13 +119,16 @@ abbrev or_kept : Option (Option ℚ) → Option ℚ → Option ℚ
 or_kept (Some bound) old = bound
 or_kept None old = old
 
-last_added : (first : Option ℚ) (xs : List (Option ℚ)) (o : Option (Option ℚ)) → last_or first (xs ++ cons_option o []) ≡ or_kept o (last_or first xs)
+last_added : (first : Option ℚ) (xs : List (Option ℚ)) (o : Option (Option ℚ)) →
+    last_or first (xs ++ cons_option o []) ≡ or_kept o (last_or first xs)
 last_added first xs None = ap (last_or first) (append-nil xs)
 last_added first xs (Some y) = last_push first xs y
 
-upper_push : (style : Style) (cards : List Fields) (card : Fields) → upper_of style (cards ++ card ∷ []) ≡ or_kept (upper_on style card) (upper_of style cards)
+upper_push : (style : Style) (cards : List Fields) (card : Fields) →
+    upper_of style (cards ++ card ∷ []) ≡ or_kept (upper_on style card) (upper_of style cards)
 unfolding upper_of
-upper_push style cards card = ap (last_or None) (filter_map-append (upper_on style) cards (card ∷ [])) ∙ last_added None (filter_map (upper_on style) cards) (upper_on style card)
+upper_push style cards card =
+    ap (last_or None) (filter_map-append (upper_on style) cards (card ∷ [])) ∙ last_added None (filter_map (upper_on style) cards) (upper_on style card)
 
 -- a card has set the lower bound
 abbrev pub is_lowered : Style → List Fields → Bool
@@ -119,31 +137,39 @@ is_lowered style cards = list_any (λ card. is_some (lower_on style card)) cards
 abbrev first_lower : Bool → Option ℚ
 first_lower negative = cond negative None (Some 0ℚ)
 
-lower_push : (style : Style) (cards : List Fields) (card : Fields) → lower_of style (cards ++ card ∷ []) ≡ or_kept (lower_on style card) (last_or (first_lower (list_any (has_negative_upper style) cards || has_negative_upper style card)) (filter_map (lower_on style) cards))
+lower_push : (style : Style) (cards : List Fields) (card : Fields) →
+    lower_of style (cards ++ card ∷ []) ≡ or_kept (lower_on style card) (last_or (first_lower (list_any (has_negative_upper style) cards || has_negative_upper style card)) (filter_map (lower_on style) cards))
 unfolding lower_of
 lower_push style cards card =
     (λ i. last_or (first_lower (any_push (has_negative_upper style) cards card i)) (filter_map-append (lower_on style) cards (card ∷ []) i))
     ∙ last_added _ (filter_map (lower_on style) cards) (lower_on style card)
 
 -- where a card has set it, what was first does not count
-set_before : (style : Style) (cards : List Fields) (a b : Option ℚ) → is_lowered style cards ≡ true → last_or a (filter_map (lower_on style) cards) ≡ last_or b (filter_map (lower_on style) cards)
+set_before : (style : Style) (cards : List Fields) (a b : Option ℚ) → is_lowered style cards ≡ true →
+    last_or a (filter_map (lower_on style) cards) ≡ last_or b (filter_map (lower_on style) cards)
 set_before style [] a b h = absurd (cc)
 set_before style (card ∷ cards) a b h = by (lower_on style card) h (set_before style cards a b)
   where
-    by : (o : Option (Option ℚ)) → (is_some o || is_lowered style cards) ≡ true → (is_lowered style cards ≡ true → last_or a (filter_map (lower_on style) cards) ≡ last_or b (filter_map (lower_on style) cards)) → last_or a (cons_option o (filter_map (lower_on style) cards)) ≡ last_or b (cons_option o (filter_map (lower_on style) cards))
+    by : (o : Option (Option ℚ)) → (is_some o || is_lowered style cards) ≡ true →
+        (is_lowered style cards ≡ true → last_or a (filter_map (lower_on style) cards) ≡ last_or b (filter_map (lower_on style) cards)) →
+        last_or a (cons_option o (filter_map (lower_on style) cards)) ≡ last_or b (cons_option o (filter_map (lower_on style) cards))
     by None k f = f k
     by (Some l) k f = refl
 
-unset_before : (style : Style) (cards : List Fields) → is_lowered style cards ≡ false → filter_map (lower_on style) cards ≡ []
+unset_before : (style : Style) (cards : List Fields) → is_lowered style cards ≡ false →
+    filter_map (lower_on style) cards ≡ []
 unset_before style [] h = refl
 unset_before style (card ∷ cards) h = by (lower_on style card) h (unset_before style cards)
   where
-    by : (o : Option (Option ℚ)) → (is_some o || is_lowered style cards) ≡ false → (is_lowered style cards ≡ false → filter_map (lower_on style) cards ≡ []) → cons_option o (filter_map (lower_on style) cards) ≡ []
+    by : (o : Option (Option ℚ)) → (is_some o || is_lowered style cards) ≡ false →
+        (is_lowered style cards ≡ false → filter_map (lower_on style) cards ≡ []) →
+        cons_option o (filter_map (lower_on style) cards) ≡ []
     by None k f = f k
     by (Some l) k f = absurd (cc)
 
 -- an upper bound takes the lower one away where it is below 0 and no card has set that
-lower_kept : (style : Style) (cards : List Fields) (negative : Bool) → last_or (first_lower (list_any (has_negative_upper style) cards || negative)) (filter_map (lower_on style) cards) ≡ cond (negative && not (is_lowered style cards)) None (lower_of style cards)
+lower_kept : (style : Style) (cards : List Fields) (negative : Bool) →
+    last_or (first_lower (list_any (has_negative_upper style) cards || negative)) (filter_map (lower_on style) cards) ≡ cond (negative && not (is_lowered style cards)) None (lower_of style cards)
 unfolding lower_of
 lower_kept style cards negative = by (is_lowered style cards) refl
   where
@@ -157,7 +183,8 @@ lower_kept style cards negative = by (is_lowered style cards) refl
     set true = refl
     set false = refl
 
-    by : (b : Bool) → is_lowered style cards ≡ b → last_or (first_lower (list_any (has_negative_upper style) cards || negative)) (filter_map (lower_on style) cards) ≡ cond (negative && not b) None (last_or (first_lower (list_any (has_negative_upper style) cards)) (filter_map (lower_on style) cards))
+    by : (b : Bool) → is_lowered style cards ≡ b →
+        last_or (first_lower (list_any (has_negative_upper style) cards || negative)) (filter_map (lower_on style) cards) ≡ cond (negative && not b) None (last_or (first_lower (list_any (has_negative_upper style) cards)) (filter_map (lower_on style) cards))
     by true e = set_before style cards _ _ e ∙ sym (set negative)
     by false e =
         ap (last_or _) (unset_before style cards e)
@@ -171,7 +198,9 @@ pub record IsBounded (style : Style) (cards : List Fields) (c : ExactColumn) (lo
   pub lower : c.lower ≡ lower_of style cards
   pub lowered_is : lowered ≡ is_lowered style cards
 
-pub bounded_push : (style : Style) (cards : List Fields) (card : Fields) (does : BoundCard) (c : ExactColumn) (lowered : Bool) → Effects style card does → IsBounded style cards c lowered → IsBounded style (cards ++ card ∷ []) (bounded lowered does c) (lowered || sets_lower does)
+pub bounded_push : (style : Style) (cards : List Fields) (card : Fields) (does : BoundCard) (c : ExactColumn) (lowered : Bool) →
+    Effects style card does → IsBounded style cards c lowered →
+    IsBounded style (cards ++ card ∷ []) (bounded lowered does c) (lowered || sets_lower does)
 bounded_push style cards card (SetsUpper u) c lowered e k = go (is_negative u && not lowered) refl
   where
     lower_is : lower_of style (cards ++ card ∷ []) ≡ cond (is_negative u && not lowered) None c.lower
@@ -185,22 +214,30 @@ bounded_push style cards card (SetsUpper u) c lowered e k = go (is_negative u &&
     upper_is = sym (upper_push style cards card ∙ ap (λ o. or_kept o (upper_of style cards)) e.upper)
 
     lowered_is : (lowered || false) ≡ is_lowered style (cards ++ card ∷ [])
-    lowered_is = ap (λ b. b || false) k.lowered_is ∙ ap (λ o. is_lowered style cards || is_some o) (sym e.lower) ∙ sym (any_push (λ card. is_some (lower_on style card)) cards card)
+    lowered_is =
+        ap (λ b. b || false) k.lowered_is ∙ ap (λ o. is_lowered style cards || is_some o) (sym e.lower) ∙ sym (any_push (λ card. is_some (lower_on style card)) cards card)
 
-    go : (b : Bool) → is_negative u && not lowered ≡ b → IsBounded style (cards ++ card ∷ []) (cond b (record c { lower = None; upper = u }) (record c { upper = u })) (lowered || false)
-    go true f = record { upper = upper_is; lower = sym (lower_is ∙ ap (λ b. cond b None c.lower) f); lowered_is = lowered_is }
-    go false f = record { upper = upper_is; lower = sym (lower_is ∙ ap (λ b. cond b None c.lower) f); lowered_is = lowered_is }
+    go : (b : Bool) → is_negative u && not lowered ≡ b →
+        IsBounded style (cards ++ card ∷ []) (cond b (record c { lower = None; upper = u }) (record c { upper = u })) (lowered || false)
+    go true f =
+        record { upper = upper_is; lower = sym (lower_is ∙ ap (λ b. cond b None c.lower) f); lowered_is = lowered_is }
+    go false f =
+        record { upper = upper_is; lower = sym (lower_is ∙ ap (λ b. cond b None c.lower) f); lowered_is = lowered_is }
 bounded_push style cards card (SetsLower l) c lowered e k =
     record {
       upper = k.upper ∙ sym (upper_push style cards card ∙ ap (λ o. or_kept o (upper_of style cards)) e.upper);
-      lower = sym (lower_push style cards card ∙ ap (λ o. or_kept o (last_or (first_lower (list_any (has_negative_upper style) cards || has_negative_upper style card)) (filter_map (lower_on style) cards))) e.lower);
-      lowered_is = ap (λ b. b || true) k.lowered_is ∙ ap (λ o. is_lowered style cards || is_some o) (sym e.lower) ∙ sym (any_push (λ card. is_some (lower_on style card)) cards card);
+      lower =
+          sym (lower_push style cards card ∙ ap (λ o. or_kept o (last_or (first_lower (list_any (has_negative_upper style) cards || has_negative_upper style card)) (filter_map (lower_on style) cards))) e.lower);
+      lowered_is =
+          ap (λ b. b || true) k.lowered_is ∙ ap (λ o. is_lowered style cards || is_some o) (sym e.lower) ∙ sym (any_push (λ card. is_some (lower_on style card)) cards card);
     }
 bounded_push style cards card (SetsBoth l u) c lowered e k =
     record {
       upper = sym (upper_push style cards card ∙ ap (λ o. or_kept o (upper_of style cards)) e.upper);
-      lower = sym (lower_push style cards card ∙ ap (λ o. or_kept o (last_or (first_lower (list_any (has_negative_upper style) cards || has_negative_upper style card)) (filter_map (lower_on style) cards))) e.lower);
-      lowered_is = ap (λ b. b || true) k.lowered_is ∙ ap (λ o. is_lowered style cards || is_some o) (sym e.lower) ∙ sym (any_push (λ card. is_some (lower_on style card)) cards card);
+      lower =
+          sym (lower_push style cards card ∙ ap (λ o. or_kept o (last_or (first_lower (list_any (has_negative_upper style) cards || has_negative_upper style card)) (filter_map (lower_on style) cards))) e.lower);
+      lowered_is =
+          ap (λ b. b || true) k.lowered_is ∙ ap (λ o. is_lowered style cards || is_some o) (sym e.lower) ∙ sym (any_push (λ card. is_some (lower_on style card)) cards card);
     }
 
 pub none_bounded : (style : Style) (c : ExactColumn) → c.lower ≡ Some 0ℚ → c.upper ≡ None → IsBounded style [] c false

@@ -30,15 +30,18 @@ abbrev AllSay : List (List ℕ × Check BoundKind) → Type 0
 AllSay [] = Unit {0}
 AllSay (x ∷ xs) = ((kind : BoundKind) → x.1 ≡ Ok kind → x.0 ≡ kind_word kind) × AllSay xs
 
-looked_up : (word : List ℕ) (kind : BoundKind) (found : Check BoundKind) (table : List (List ℕ × Check BoundKind)) → AllSay table → look_up word table ≡ Some found → found ≡ Ok kind → word ≡ kind_word kind
+looked_up : (word : List ℕ) (kind : BoundKind) (found : Check BoundKind) (table : List (List ℕ × Check BoundKind)) →
+    AllSay table → look_up word table ≡ Some found → found ≡ Ok kind → word ≡ kind_word kind
 looked_up word kind found [] a h e = absurd (cc)
 looked_up word kind found (x ∷ xs) a h e = go (same word x.0) refl (looked_up word kind found xs a.1) h
   where
-    go : (b : Bool) → same word x.0 ≡ b → (look_up word xs ≡ Some found → found ≡ Ok kind → word ≡ kind_word kind) → cond b (Some x.1) (look_up word xs) ≡ Some found → word ≡ kind_word kind
+    go : (b : Bool) → same word x.0 ≡ b → (look_up word xs ≡ Some found → found ≡ Ok kind → word ≡ kind_word kind) →
+        cond b (Some x.1) (look_up word xs) ≡ Some found → word ≡ kind_word kind
     go true f g k = same_true word x.0 f ∙ a.0 kind (same_some x.1 found k ∙ e)
     go false f g k = g k e
 
-word_of : (kind : BoundKind) (other : BoundKind) → (let r : Check BoundKind = Ok kind in r) ≡ Ok other → kind_word kind ≡ kind_word other
+word_of : (kind : BoundKind) (other : BoundKind) → (let r : Check BoundKind = Ok kind in r) ≡ Ok other →
+    kind_word kind ≡ kind_word other
 word_of kind other h = ap kind_word (same_ok kind other h)
 
 kinds : List (List ℕ × Check BoundKind)
@@ -90,29 +93,36 @@ many (f ∷ fields) = ap suc (many fields)
 
 abbrev AllShapes : (Fields → Type 0) → List (List ℕ) → Type 0
 AllShapes P [] = Unit {0}
-AllShapes P (shape ∷ shapes) = ((texts : List (List ℕ)) → length texts ≡ length shape → P (numbered shape texts)) × AllShapes P shapes
+AllShapes P (shape ∷ shapes) =
+    ((texts : List (List ℕ)) → length texts ≡ length shape → P (numbered shape texts)) × AllShapes P shapes
 
-any_shape : (P : Fields → Type 0) (fields : Fields) (shapes : List (List ℕ)) → AllShapes P shapes → list_any (same (numbers_of fields)) shapes ≡ true → P fields
+any_shape : (P : Fields → Type 0) (fields : Fields) (shapes : List (List ℕ)) → AllShapes P shapes →
+    list_any (same (numbers_of fields)) shapes ≡ true → P fields
 any_shape P fields [] a h = absurd (cc)
 any_shape P fields (shape ∷ shapes) a h = go (same (numbers_of fields) shape) refl (any_shape P fields shapes a.1) h
   where
-    go : (b : Bool) → same (numbers_of fields) shape ≡ b → (list_any (same (numbers_of fields)) shapes ≡ true → P fields) → (b || list_any (same (numbers_of fields)) shapes) ≡ true → P fields
+    go : (b : Bool) → same (numbers_of fields) shape ≡ b →
+        (list_any (same (numbers_of fields)) shapes ≡ true → P fields) →
+        (b || list_any (same (numbers_of fields)) shapes) ≡ true → P fields
     go true e f k =
         let numbers = same_true (numbers_of fields) shape e in
         subst P (sym (numbered_are fields ∙ ap (λ ns. numbered ns (texts_of fields)) numbers)) (a.0 (texts_of fields) (many fields ∙ ap length numbers))
     go false e f k = f k
 
-of_two : (Q : List (List ℕ) → Type 0) → ((a b : List ℕ) → Q (a ∷ b ∷ [])) → (texts : List (List ℕ)) → length texts ≡ 2 → Q texts
+of_two : (Q : List (List ℕ) → Type 0) → ((a b : List ℕ) → Q (a ∷ b ∷ [])) → (texts : List (List ℕ)) → length texts ≡ 2 →
+    Q texts
 of_two Q f [] h = absurd (omega arith)
 of_two Q f (a ∷ []) h = absurd (omega arith)
 of_two Q f (a ∷ b ∷ []) h = f a b
 of_two Q f (a ∷ b ∷ c ∷ more) h = absurd (omega arith)
 
-of_three : (Q : List (List ℕ) → Type 0) → ((a b c : List ℕ) → Q (a ∷ b ∷ c ∷ [])) → (texts : List (List ℕ)) → length texts ≡ 3 → Q texts
+of_three : (Q : List (List ℕ) → Type 0) → ((a b c : List ℕ) → Q (a ∷ b ∷ c ∷ [])) → (texts : List (List ℕ)) →
+    length texts ≡ 3 → Q texts
 of_three Q f [] h = absurd (omega arith)
 of_three Q f (a ∷ more) h = of_two (λ texts. Q (a ∷ texts)) (f a) more (omega arith)
 
-of_four : (Q : List (List ℕ) → Type 0) → ((a b c d : List ℕ) → Q (a ∷ b ∷ c ∷ d ∷ [])) → (texts : List (List ℕ)) → length texts ≡ 4 → Q texts
+of_four : (Q : List (List ℕ) → Type 0) → ((a b c d : List ℕ) → Q (a ∷ b ∷ c ∷ d ∷ [])) → (texts : List (List ℕ)) →
+    length texts ≡ 4 → Q texts
 of_four Q f [] h = absurd (omega arith)
 of_four Q f (a ∷ more) h = of_three (λ texts. Q (a ∷ texts)) (f a) more (omega arith)
 
@@ -120,24 +130,38 @@ of_four Q f (a ∷ more) h = of_three (λ texts. Q (a ∷ texts)) (f a) more (om
 
 -- what is read of such fields
 abbrev IsRead : Style → BoundKind → BoundTexts → Fields → Type 0
-IsRead style kind texts fields = bound_texts_by (takes_value kind) (texts_of (filter (λ f. is_read kind f.number) fields)) ≡ Ok texts → bound_texts_on style (takes_value kind) fields ≡ texts
+IsRead style kind texts fields =
+    bound_texts_by (takes_value kind) (texts_of (filter (λ f. is_read kind f.number) fields)) ≡ Ok texts → bound_texts_on style (takes_value kind) fields ≡ texts
 
 texts_same : (a b : BoundTexts) → (let r : Check BoundTexts = Ok a in r) ≡ Ok b → a ≡ b
 texts_same a b h = same_ok a b h
 
-read_by_shape : (style : Style) (kind : BoundKind) (texts : BoundTexts) → AllShapes (IsRead style kind texts) (bound_shapes style kind)
-read_by_shape Free Up texts = (of_three _ (λ a b c h. texts_same _ texts h), (of_four _ (λ a b c d h. texts_same _ texts h), tt))
-read_by_shape Free Lo texts = (of_three _ (λ a b c h. texts_same _ texts h), (of_four _ (λ a b c d h. texts_same _ texts h), tt))
-read_by_shape Free Fx texts = (of_three _ (λ a b c h. texts_same _ texts h), (of_four _ (λ a b c d h. texts_same _ texts h), tt))
-read_by_shape Free Fr texts = (of_two _ (λ a b h. texts_same _ texts h), (of_three _ (λ a b c h. texts_same _ texts h), tt))
-read_by_shape Free Mi texts = (of_two _ (λ a b h. texts_same _ texts h), (of_three _ (λ a b c h. texts_same _ texts h), tt))
-read_by_shape Free Pl texts = (of_two _ (λ a b h. texts_same _ texts h), (of_three _ (λ a b c h. texts_same _ texts h), tt))
-read_by_shape Fixed Up texts = (of_three _ (λ a b c h. texts_same _ texts h), (of_four _ (λ a b c d h. texts_same _ texts h), tt))
-read_by_shape Fixed Lo texts = (of_three _ (λ a b c h. texts_same _ texts h), (of_four _ (λ a b c d h. texts_same _ texts h), tt))
-read_by_shape Fixed Fx texts = (of_three _ (λ a b c h. texts_same _ texts h), (of_four _ (λ a b c d h. texts_same _ texts h), tt))
-read_by_shape Fixed Fr texts = (of_two _ (λ a b h. texts_same _ texts h), (of_three _ (λ a b c h. texts_same _ texts h), (of_three _ (λ a b c h. texts_same _ texts h), (of_four _ (λ a b c d h. texts_same _ texts h), tt))))
-read_by_shape Fixed Mi texts = (of_two _ (λ a b h. texts_same _ texts h), (of_three _ (λ a b c h. texts_same _ texts h), (of_three _ (λ a b c h. texts_same _ texts h), (of_four _ (λ a b c d h. texts_same _ texts h), tt))))
-read_by_shape Fixed Pl texts = (of_two _ (λ a b h. texts_same _ texts h), (of_three _ (λ a b c h. texts_same _ texts h), (of_three _ (λ a b c h. texts_same _ texts h), (of_four _ (λ a b c d h. texts_same _ texts h), tt))))
+read_by_shape : (style : Style) (kind : BoundKind) (texts : BoundTexts) →
+    AllShapes (IsRead style kind texts) (bound_shapes style kind)
+read_by_shape Free Up texts =
+    (of_three _ (λ a b c h. texts_same _ texts h), (of_four _ (λ a b c d h. texts_same _ texts h), tt))
+read_by_shape Free Lo texts =
+    (of_three _ (λ a b c h. texts_same _ texts h), (of_four _ (λ a b c d h. texts_same _ texts h), tt))
+read_by_shape Free Fx texts =
+    (of_three _ (λ a b c h. texts_same _ texts h), (of_four _ (λ a b c d h. texts_same _ texts h), tt))
+read_by_shape Free Fr texts =
+    (of_two _ (λ a b h. texts_same _ texts h), (of_three _ (λ a b c h. texts_same _ texts h), tt))
+read_by_shape Free Mi texts =
+    (of_two _ (λ a b h. texts_same _ texts h), (of_three _ (λ a b c h. texts_same _ texts h), tt))
+read_by_shape Free Pl texts =
+    (of_two _ (λ a b h. texts_same _ texts h), (of_three _ (λ a b c h. texts_same _ texts h), tt))
+read_by_shape Fixed Up texts =
+    (of_three _ (λ a b c h. texts_same _ texts h), (of_four _ (λ a b c d h. texts_same _ texts h), tt))
+read_by_shape Fixed Lo texts =
+    (of_three _ (λ a b c h. texts_same _ texts h), (of_four _ (λ a b c d h. texts_same _ texts h), tt))
+read_by_shape Fixed Fx texts =
+    (of_three _ (λ a b c h. texts_same _ texts h), (of_four _ (λ a b c d h. texts_same _ texts h), tt))
+read_by_shape Fixed Fr texts =
+    (of_two _ (λ a b h. texts_same _ texts h), (of_three _ (λ a b c h. texts_same _ texts h), (of_three _ (λ a b c h. texts_same _ texts h), (of_four _ (λ a b c d h. texts_same _ texts h), tt))))
+read_by_shape Fixed Mi texts =
+    (of_two _ (λ a b h. texts_same _ texts h), (of_three _ (λ a b c h. texts_same _ texts h), (of_three _ (λ a b c h. texts_same _ texts h), (of_four _ (λ a b c d h. texts_same _ texts h), tt))))
+read_by_shape Fixed Pl texts =
+    (of_two _ (λ a b h. texts_same _ texts h), (of_three _ (λ a b c h. texts_same _ texts h), (of_three _ (λ a b c h. texts_same _ texts h), (of_four _ (λ a b c d h. texts_same _ texts h), tt))))
 
 valued_as : (kind : BoundKind) → has_value kind ≡ takes_value kind
 valued_as Up = refl
@@ -147,10 +171,14 @@ valued_as Fr = refl
 valued_as Mi = refl
 valued_as Pl = refl
 
-pub texts_are : (style : Style) (kind : BoundKind) (fields : Fields) (texts : BoundTexts) → bound_texts style kind fields ≡ Ok texts → bound_texts_on style (has_value kind) fields ≡ texts
+pub texts_are : (style : Style) (kind : BoundKind) (fields : Fields) (texts : BoundTexts) →
+    bound_texts style kind fields ≡ Ok texts → bound_texts_on style (has_value kind) fields ≡ texts
 unfolding bound_texts has_shape
 texts_are style kind fields texts h = ap (λ valued. bound_texts_on style valued fields) (valued_as kind) ∙ go (list_any (same (numbers_of fields)) (bound_shapes style kind)) refl h
   where
-    go : (b : Bool) → list_any (same (numbers_of fields)) (bound_shapes style kind) ≡ b → cond b (bound_texts_by (takes_value kind) (texts_of (filter (λ f. is_read kind f.number) fields))) (Err code.CardShape) ≡ Ok texts → bound_texts_on style (takes_value kind) fields ≡ texts
-    go true e k = any_shape (IsRead style kind texts) fields (bound_shapes style kind) (read_by_shape style kind texts) e k
+    go : (b : Bool) → list_any (same (numbers_of fields)) (bound_shapes style kind) ≡ b →
+        cond b (bound_texts_by (takes_value kind) (texts_of (filter (λ f. is_read kind f.number) fields))) (Err code.CardShape) ≡ Ok texts →
+        bound_texts_on style (takes_value kind) fields ≡ texts
+    go true e k =
+        any_shape (IsRead style kind texts) fields (bound_shapes style kind) (read_by_shape style kind texts) e k
     go false e k = absurd (cc)

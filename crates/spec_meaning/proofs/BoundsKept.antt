@@ -34,29 +34,38 @@ abbrev pub first_bound : Style → List Fields → Option (Option Name)
 first_bound style [] = None
 first_bound style (card ∷ cards) = Some (set_of style card)
 
-used_push : (style : Style) (cards : List Fields) (card : Fields) → used_bounds style (cards ++ card ∷ []) ≡ used_bounds style cards ++ cond (is_used (first_bound style cards) (set_of style card)) (card ∷ []) []
+used_push : (style : Style) (cards : List Fields) (card : Fields) →
+    used_bounds style (cards ++ card ∷ []) ≡ used_bounds style cards ++ cond (is_used (first_bound style cards) (set_of style card)) (card ∷ []) []
 unfolding used_bounds
-used_push style [] card = ap (λ b. cond b (card ∷ []) []) (same_as (set_of style card) (set_of style card) ∙ same_set_itself (set_of style card))
+used_push style [] card =
+    ap (λ b. cond b (card ∷ []) []) (same_as (set_of style card) (set_of style card) ∙ same_set_itself (set_of style card))
 used_push style (first ∷ cards) card =
     filter-append (λ other. is_same_set (set_of style first) (set_of style other)) (first ∷ cards) (card ∷ [])
     ∙ ap (λ b. used_bounds style (first ∷ cards) ++ cond b (card ∷ []) []) (same_as (set_of style first) (set_of style card))
 
-first_used : (style : Style) (cards : List Fields) (card : Fields) → is_used (first_bound style cards) (set_of style card) ≡ true → first_bound style (cards ++ card ∷ []) ≡ Some (set_of style card)
+first_used : (style : Style) (cards : List Fields) (card : Fields) →
+    is_used (first_bound style cards) (set_of style card) ≡ true →
+    first_bound style (cards ++ card ∷ []) ≡ Some (set_of style card)
 first_used style [] card h = refl
-first_used style (first ∷ cards) card h = ap (λ set. Some set) (same_set_true (set_of style first) (set_of style card) h)
+first_used style (first ∷ cards) card h =
+    ap (λ set. Some set) (same_set_true (set_of style first) (set_of style card) h)
 
-first_skipped : (style : Style) (cards : List Fields) (card : Fields) → is_used (first_bound style cards) (set_of style card) ≡ false → first_bound style (cards ++ card ∷ []) ≡ first_bound style cards
+first_skipped : (style : Style) (cards : List Fields) (card : Fields) →
+    is_used (first_bound style cards) (set_of style card) ≡ false →
+    first_bound style (cards ++ card ∷ []) ≡ first_bound style cards
 first_skipped style [] card h = absurd (cc)
 first_skipped style (first ∷ cards) card h = refl
 
-cards_push : (style : Style) (name : Name) (cards : List Fields) (card : Fields) → bounds_of_column style name (cards ++ card ∷ []) ≡ bounds_of_column style name cards ++ cond (is_used (first_bound style cards) (set_of style card) && same (bound_on style card).column name) (card ∷ []) []
+cards_push : (style : Style) (name : Name) (cards : List Fields) (card : Fields) →
+    bounds_of_column style name (cards ++ card ∷ []) ≡ bounds_of_column style name cards ++ cond (is_used (first_bound style cards) (set_of style card) && same (bound_on style card).column name) (card ∷ []) []
 unfolding bounds_of_column
 cards_push style name cards card =
     ap (filter (λ other. same (bound_on style other).column name)) (used_push style cards card)
     ∙ filter-append (λ other. same (bound_on style other).column name) (used_bounds style cards) (cond (is_used (first_bound style cards) (set_of style card)) (card ∷ []) [])
     ∙ ap (λ more. bounds_of_column style name cards ++ more) (by (is_used (first_bound style cards) (set_of style card)))
   where
-    by : (b : Bool) → filter (λ other. same (bound_on style other).column name) (cond b (card ∷ []) []) ≡ cond (b && same (bound_on style card).column name) (card ∷ []) []
+    by : (b : Bool) →
+        filter (λ other. same (bound_on style other).column name) (cond b (card ∷ []) []) ≡ cond (b && same (bound_on style card).column name) (card ∷ []) []
     by true = refl
     by false = refl
 
@@ -74,7 +83,8 @@ column_place name columns = position (λ n. same n name) (column_names columns)
 
 -- each column, by its name's place
 pub record AreBounded (style : Style) (cards : List Fields) (columns : List ExactColumn) (lowered : List Bool) : Type 0 where
-  pub said : (name : Name) (j : ℕ) → column_place name columns ≡ Some j → IsBounded style (bounds_of_column style name cards) (get_or columns j no_column) (get_or lowered j false)
+  pub said : (name : Name) (j : ℕ) → column_place name columns ≡ Some j →
+      IsBounded style (bounds_of_column style name cards) (get_or columns j no_column) (get_or lowered j false)
   pub many : length lowered ≡ length columns
 
 -- columns that no card has bounded
@@ -88,7 +98,8 @@ pub record BoundsSay (style : Style) (cards : List Fields) (s : State) : Type 0 
   pub bounded : AreBounded style cards (whole_columns s) s.lowered
   pub during : is_section s.part section.Bounds ≡ true → s.set ≡ first_bound style cards
 
-pub new_bounded : (style : Style) (cards : List Fields) (columns : List ExactColumn) (lowered : List Bool) → cards ≡ [] → AreNew columns lowered → AreBounded style cards columns lowered
+pub new_bounded : (style : Style) (cards : List Fields) (columns : List ExactColumn) (lowered : List Bool) →
+    cards ≡ [] → AreNew columns lowered → AreBounded style cards columns lowered
 new_bounded style cards columns lowered e new =
     record {
       said = λ name j h.
@@ -105,12 +116,14 @@ changed_length i change [] = refl
 changed_length zero change (x ∷ xs) = refl
 changed_length (suc i) change (x ∷ xs) = ap suc (changed_length i change xs)
 
-changed_here : {A : Type 0} (i : ℕ) (change : A → A) (xs : List A) (d : A) → i < length xs → get_or (changed_at i change xs) i d ≡ change (get_or xs i d)
+changed_here : {A : Type 0} (i : ℕ) (change : A → A) (xs : List A) (d : A) → i < length xs →
+    get_or (changed_at i change xs) i d ≡ change (get_or xs i d)
 changed_here i change [] d h = absurd (omega arith)
 changed_here zero change (x ∷ xs) d h = refl
 changed_here (suc i) change (x ∷ xs) d h = changed_here i change xs d (omega arith)
 
-changed_there : {A : Type 0} (i j : ℕ) (change : A → A) (xs : List A) (d : A) → j ≢ i → get_or (changed_at i change xs) j d ≡ get_or xs j d
+changed_there : {A : Type 0} (i j : ℕ) (change : A → A) (xs : List A) (d : A) → j ≢ i →
+    get_or (changed_at i change xs) j d ≡ get_or xs j d
 changed_there i j change [] d h = refl
 changed_there zero zero change (x ∷ xs) d h = absurd (h refl)
 changed_there zero (suc j) change (x ∷ xs) d h = refl
@@ -119,7 +132,8 @@ changed_there (suc i) (suc j) change (x ∷ xs) d h = changed_there i j change x
 
 -- ---- places of names
 
-first_place : (name : Name) (columns : List ExactColumn) → position_or_len (λ c. same c.name name) columns ≡ position_or_len (λ n. same n name) (column_names columns)
+first_place : (name : Name) (columns : List ExactColumn) →
+    position_or_len (λ c. same c.name name) columns ≡ position_or_len (λ n. same n name) (column_names columns)
 first_place name [] = refl
 first_place name (c ∷ columns) = ap (λ n. cond (not (same c.name name)) (1 + n) 0) (first_place name columns)
 
@@ -127,10 +141,13 @@ many_names : (columns : List ExactColumn) → length (column_names columns) ≡ 
 many_names [] = refl
 many_names (c ∷ columns) = ap suc (many_names columns)
 
-place_by_names : (name : Name) (columns : List ExactColumn) → position (λ c. same c.name name) columns ≡ column_place name columns
-place_by_names name columns = λ i. cond (ltb (first_place name columns i) (sym (many_names columns) i)) (Some (first_place name columns i)) None
+place_by_names : (name : Name) (columns : List ExactColumn) →
+    position (λ c. same c.name name) columns ≡ column_place name columns
+place_by_names name columns =
+    λ i. cond (ltb (first_place name columns i) (sym (many_names columns) i)) (Some (first_place name columns i)) None
 
-place_named : (name : Name) (columns : List ExactColumn) (j : ℕ) → column_place name columns ≡ Some j → (j < length columns) × (get_or (column_names columns) j [] ≡ name)
+place_named : (name : Name) (columns : List ExactColumn) (j : ℕ) → column_place name columns ≡ Some j →
+    (j < length columns) × (get_or (column_names columns) j [] ≡ name)
 place_named name columns j h =
     let p = position-Some (λ n. same n name) (column_names columns) j [] h in
     (omega (arith, p.0, many_names columns), same_true _ name p.1)
@@ -145,9 +162,12 @@ module _ (style : Style) (cards : List Fields) (card : Fields) (columns : List E
   lower b = b || sets_lower does
 
   names_same : column_names (changed_at place change columns) ≡ column_names columns
-  names_same = changed_unseen (λ (c : ExactColumn). c.name) change place columns (bounded_name (get_or lowered place false) does)
+  names_same =
+      changed_unseen (λ (c : ExactColumn). c.name) change place columns (bounded_name (get_or lowered place false) does)
 
-  card_said : (name : Name) (j : ℕ) → column_place name columns ≡ Some j → (b : Bool) → same (bound_on style card).column name ≡ b → IsBounded style (bounds_of_column style name (cards ++ card ∷ [])) (get_or (changed_at place change columns) j no_column) (get_or (changed_at place lower lowered) j false)
+  card_said : (name : Name) (j : ℕ) → column_place name columns ≡ Some j → (b : Bool) →
+      same (bound_on style card).column name ≡ b →
+      IsBounded style (bounds_of_column style name (cards ++ card ∷ [])) (get_or (changed_at place change columns) j no_column) (get_or (changed_at place lower lowered) j false)
   card_said name j h true f =
       let same_name : (bound_on style card).column ≡ name = same_true (bound_on style card).column name f in
       let p : column_place name columns ≡ Some place = ap (λ n. column_place n columns) (sym same_name) ∙ at in
@@ -175,11 +195,14 @@ module _ (style : Style) (cards : List Fields) (card : Fields) (columns : List E
   pub card_bounded : AreBounded style (cards ++ card ∷ []) (changed_at place change columns) (changed_at place lower lowered)
   card_bounded =
       record {
-        said = λ name j h. card_said name j (ap (position (λ n. same n name)) (sym names_same) ∙ h) (same (bound_on style card).column name) refl;
+        said =
+            λ name j h. card_said name j (ap (position (λ n. same n name)) (sym names_same) ∙ h) (same (bound_on style card).column name) refl;
         many = changed_length place lower lowered ∙ k.many ∙ sym (changed_length place change columns);
       }
 
-other_bounded : (style : Style) (cards : List Fields) (card : Fields) (columns : List ExactColumn) (lowered : List Bool) → is_used (first_bound style cards) (set_of style card) ≡ false → AreBounded style cards columns lowered → AreBounded style (cards ++ card ∷ []) columns lowered
+other_bounded : (style : Style) (cards : List Fields) (card : Fields) (columns : List ExactColumn) (lowered : List Bool) →
+    is_used (first_bound style cards) (set_of style card) ≡ false → AreBounded style cards columns lowered →
+    AreBounded style (cards ++ card ∷ []) columns lowered
 other_bounded style cards card columns lowered skipped k =
     record {
       said = λ name j h.
@@ -190,13 +213,17 @@ other_bounded style cards card columns lowered skipped k =
     }
 
 -- the fields of a card are those that were read
-fields_read : (style : Style) (s : State) (card : Fields) (t : State) (d : BoundsDid style s card t) → (kind_of (text_at 1 card) ≡ Some d.kind) × (bound_on style card ≡ d.texts)
+fields_read : (style : Style) (s : State) (card : Fields) (t : State) (d : BoundsDid style s card t) →
+    (kind_of (text_at 1 card) ≡ Some d.kind) × (bound_on style card ≡ d.texts)
 unfolding bound_on
 fields_read style s card t d =
     let kind = kind_is (text_at 1 card) d.kind d.kind_is in
     (kind, ap (λ o. bound_by style o card) kind ∙ texts_are style d.kind card d.texts d.texts_are)
 
-card_says : (style : Style) (cards : List Fields) (card : Fields) (s t : State) (kind : BoundKind) (texts : BoundTexts) → t.seen.bounds ≡ true → is_section s.part section.Bounds ≡ true → s.column ≡ None → t.column ≡ s.column → kind_of (text_at 1 card) ≡ Some kind → bound_on style card ≡ texts → BoundDid s kind texts t → BoundsSay style cards s → BoundsSay style (cards ++ card ∷ []) t
+card_says : (style : Style) (cards : List Fields) (card : Fields) (s t : State) (kind : BoundKind) (texts : BoundTexts) →
+    t.seen.bounds ≡ true → is_section s.part section.Bounds ≡ true → s.column ≡ None → t.column ≡ s.column →
+    kind_of (text_at 1 card) ≡ Some kind → bound_on style card ≡ texts → BoundDid s kind texts t →
+    BoundsSay style cards s → BoundsSay style (cards ++ card ∷ []) t
 unfolding with_bound
 card_says style cards card s t kind texts seen here shut column k b (UsedBound place does used place_is card_is did) say =
     let set : set_of style card ≡ texts.set = ap (λ (x : BoundTexts). x.set) b in
@@ -207,19 +234,24 @@ card_says style cards card s t kind texts seen here shut column k b (UsedBound p
     let now = card_bounded style cards card s.columns s.lowered place does is at e before in
     record {
       none = λ f. not_both t.seen.bounds seen f;
-      bounded = subst (λ o. AreBounded style (cards ++ card ∷ []) (columns_with t.columns o) t.lowered) (sym (column ∙ shut)) (subst (λ (u : State). AreBounded style (cards ++ card ∷ []) u.columns u.lowered) did now);
-      during = λ f. sym (ap (λ (u : State). u.set) did) ∙ ap (λ o. Some o) (sym set) ∙ sym (first_used style cards card is);
+      bounded =
+          subst (λ o. AreBounded style (cards ++ card ∷ []) (columns_with t.columns o) t.lowered) (sym (column ∙ shut)) (subst (λ (u : State). AreBounded style (cards ++ card ∷ []) u.columns u.lowered) did now);
+      during =
+          λ f. sym (ap (λ (u : State). u.set) did) ∙ ap (λ o. Some o) (sym set) ∙ sym (first_used style cards card is);
     }
 card_says style cards card s t kind texts seen here shut column k b (SkippedBound other same) say =
     let set : set_of style card ≡ texts.set = ap (λ (x : BoundTexts). x.set) b in
     let is : is_used (first_bound style cards) (set_of style card) ≡ false = (λ i. is_used (sym (say.during here) i) (set i)) ∙ other in
     record {
       none = λ f. not_both t.seen.bounds seen f;
-      bounded = subst (λ (u : State). AreBounded style (cards ++ card ∷ []) (whole_columns u) u.lowered) same (other_bounded style cards card (whole_columns s) s.lowered is say.bounded);
+      bounded =
+          subst (λ (u : State). AreBounded style (cards ++ card ∷ []) (whole_columns u) u.lowered) same (other_bounded style cards card (whole_columns s) s.lowered is say.bounded);
       during = λ f. sym (ap (λ (u : State). u.set) same) ∙ say.during here ∙ sym (first_skipped style cards card is);
     }
 
-pub bounds_card_says : (style : Style) (cards : List Fields) (card : Fields) (s t : State) → t.seen.bounds ≡ true → is_section s.part section.Bounds ≡ true → s.column ≡ None → t.column ≡ s.column → bounds_card style s card ≡ Ok t → BoundsSay style cards s → BoundsSay style (cards ++ card ∷ []) t
+pub bounds_card_says : (style : Style) (cards : List Fields) (card : Fields) (s t : State) → t.seen.bounds ≡ true →
+    is_section s.part section.Bounds ≡ true → s.column ≡ None → t.column ≡ s.column → bounds_card style s card ≡ Ok t →
+    BoundsSay style cards s → BoundsSay style (cards ++ card ∷ []) t
 bounds_card_says style cards card s t seen here shut column h say =
     let d = bounds_did style s card t h in
     let f = fields_read style s card t d in

@@ -40,10 +40,12 @@ abbrev IsNew : ExactColumn → Type 0
 IsNew c = (c.lower ≡ Some 0ℚ) × (c.upper ≡ None)
 
 without_last : (columns : List ExactColumn) (c : ExactColumn) → All IsNew (columns ++ c ∷ []) → All IsNew columns
-without_last columns c h = λ i d l. subst IsNew (get_or_append_left columns (c ∷ []) d i l) (h i d (omega (arith, length-append columns (c ∷ []))))
+without_last columns c h =
+    λ i d l. subst IsNew (get_or_append_left columns (c ∷ []) d i l) (h i d (omega (arith, length-append columns (c ∷ []))))
 
 the_last : (columns : List ExactColumn) (c : ExactColumn) → All IsNew (columns ++ c ∷ []) → IsNew c
-the_last columns c h = subst IsNew (get_or-append_seam columns c [] c) (h (length columns) c (omega (arith, length-append columns (c ∷ []))))
+the_last columns c h =
+    subst IsNew (get_or-append_seam columns c [] c) (h (length columns) c (omega (arith, length-append columns (c ∷ []))))
 
 number_new : (c : ExactColumn) (x : Target) (v : ℚ) → IsNew c → IsNew (with_number c x v)
 number_new c Objective v h = h
@@ -53,15 +55,21 @@ number_new c (Row i) v h = by (eq_ℚ v 0ℚ)
     by true = h
     by false = h
 
-with_number_new : (columns : List ExactColumn) (column : Option ExactColumn) (x : Target) (v : ℚ) → All IsNew (columns_with columns column) → All IsNew (columns_with columns (option_map (λ c. with_number c x v) column))
+with_number_new : (columns : List ExactColumn) (column : Option ExactColumn) (x : Target) (v : ℚ) →
+    All IsNew (columns_with columns column) →
+    All IsNew (columns_with columns (option_map (λ c. with_number c x v) column))
 with_number_new columns None x v h = h
-with_number_new columns (Some c) x v h = All-push IsNew columns (with_number c x v) (without_last columns c h) (number_new c x v (the_last columns c h))
+with_number_new columns (Some c) x v h =
+    All-push IsNew columns (with_number c x v) (without_last columns c h) (number_new c x v (the_last columns c h))
 
-with_number_many : (columns : List ExactColumn) (column : Option ExactColumn) (x : Target) (v : ℚ) → length (columns_with columns (option_map (λ c. with_number c x v) column)) ≡ length (columns_with columns column)
+with_number_many : (columns : List ExactColumn) (column : Option ExactColumn) (x : Target) (v : ℚ) →
+    length (columns_with columns (option_map (λ c. with_number c x v) column)) ≡ length (columns_with columns column)
 with_number_many columns None x v = refl
-with_number_many columns (Some c) x v = length-append columns (with_number c x v ∷ []) ∙ sym (length-append columns (c ∷ []))
+with_number_many columns (Some c) x v =
+    length-append columns (with_number c x v ∷ []) ∙ sym (length-append columns (c ∷ []))
 
-enter_new : (s : State) (place : Place) (v : ℚ) (t : State) → enter s place v ≡ Ok t → AreNew (whole_columns s) s.lowered → AreNew (whole_columns t) t.lowered
+enter_new : (s : State) (place : Place) (v : ℚ) (t : State) → enter s place v ≡ Ok t →
+    AreNew (whole_columns s) s.lowered → AreNew (whole_columns t) t.lowered
 unfolding enter
 enter_new s Dropped v t h k = subst (λ (u : State). AreNew (whole_columns u) u.lowered) (same_ok s t h) k
 enter_new s (Kept x) v t h k =
@@ -69,23 +77,27 @@ enter_new s (Kept x) v t h k =
     subst (λ (u : State). AreNew (whole_columns u) u.lowered) (same_ok _ t a.1)
     (record { bounds = with_number_new s.columns s.column x v k.bounds; many = k.many ∙ sym (with_number_many s.columns s.column x v); unset = k.unset })
 
-unset_push : (lowered : List Bool) (j : ℕ) → ((i : ℕ) → get_or lowered i false ≡ false) → get_or (lowered ++ false ∷ []) j false ≡ false
+unset_push : (lowered : List Bool) (j : ℕ) → ((i : ℕ) → get_or lowered i false ≡ false) →
+    get_or (lowered ++ false ∷ []) j false ≡ false
 unset_push [] zero h = refl
 unset_push [] (suc j) h = h zero
 unset_push (b ∷ lowered) zero h = h zero
 unset_push (b ∷ lowered) (suc j) h = unset_push lowered j (λ i. h (suc i))
 
-opens_new : (s : State) (name : Name) (t : State) → Opens s name t → AreNew (whole_columns s) s.lowered → AreNew (whole_columns t) t.lowered
+opens_new : (s : State) (name : Name) (t : State) → Opens s name t → AreNew (whole_columns s) s.lowered →
+    AreNew (whole_columns t) t.lowered
 opens_new s name t (Same known same) k = subst (λ (u : State). AreNew (whole_columns u) u.lowered) same k
 opens_new s name t (New other free new) k =
     subst (λ (u : State). AreNew (whole_columns u) u.lowered) new
     (record {
       bounds = All-push IsNew (whole_columns s) (new_column name) k.bounds (refl, refl);
-      many = length-append s.lowered (false ∷ []) ∙ ap (λ n. n + 1) k.many ∙ sym (length-append (whole_columns s) (new_column name ∷ []));
+      many =
+          length-append s.lowered (false ∷ []) ∙ ap (λ n. n + 1) k.many ∙ sym (length-append (whole_columns s) (new_column name ∷ []));
       unset = λ j. unset_push s.lowered j k.unset;
     })
 
-columns_new : (style : Style) (s : State) (card : Fields) (t : State) → columns_card style s card ≡ Ok t → AreNew (whole_columns s) s.lowered → AreNew (whole_columns t) t.lowered
+columns_new : (style : Style) (s : State) (card : Fields) (t : State) → columns_card style s card ≡ Ok t →
+    AreNew (whole_columns s) s.lowered → AreNew (whole_columns t) t.lowered
 columns_new style s card t h k =
     let d = columns_did style s card t h in
     column_pairs_keep (λ done u. AreNew (whole_columns u) u.lowered) (λ done u pair place v w p e n. enter_new u place v w e n) (pairs_of d.more) [] d.between t d.pairs (opens_new s d.name d.between d.opens k)
@@ -97,17 +109,27 @@ record BoundsStay (s t : State) : Type 0 where
   column : t.column ≡ s.column
   lowered : t.lowered ≡ s.lowered
 
-bounds_stay : (part : Section) (s t : State) → is_section (Some part) section.Columns ≡ false → is_section (Some part) section.Bounds ≡ false → Leads part s t → BoundsStay s t
+bounds_stay : (part : Section) (s t : State) → is_section (Some part) section.Columns ≡ false →
+    is_section (Some part) section.Bounds ≡ false → Leads part s t → BoundsStay s t
 bounds_stay section.Columns s t e f h = absurd (cc)
 bounds_stay section.Bounds s t e f h = absurd (cc)
-bounds_stay section.Name s t e f h = record { columns = ap (λ (u : State). u.columns) h; column = ap (λ (u : State). u.column) h; lowered = ap (λ (u : State). u.lowered) h }
-bounds_stay section.Sense s t e f h = record { columns = ap (λ (u : State). u.columns) h; column = ap (λ (u : State). u.column) h; lowered = ap (λ (u : State). u.lowered) h }
-bounds_stay section.Rows s t e f h = record { columns = ap (λ (u : State). u.columns) h; column = ap (λ (u : State). u.column) h; lowered = ap (λ (u : State). u.lowered) h }
-bounds_stay section.RightSides s t e f h = record { columns = ap (λ (u : State). u.columns) h; column = ap (λ (u : State). u.column) h; lowered = ap (λ (u : State). u.lowered) h }
-bounds_stay section.Ranges s t e f h = record { columns = ap (λ (u : State). u.columns) h; column = ap (λ (u : State). u.column) h; lowered = ap (λ (u : State). u.lowered) h }
-bounds_stay section.End s t e f h = record { columns = ap (λ (u : State). u.columns) h; column = ap (λ (u : State). u.column) h; lowered = ap (λ (u : State). u.lowered) h }
+bounds_stay section.Name s t e f h =
+    record { columns = ap (λ (u : State). u.columns) h; column = ap (λ (u : State). u.column) h; lowered = ap (λ (u : State). u.lowered) h }
+bounds_stay section.Sense s t e f h =
+    record { columns = ap (λ (u : State). u.columns) h; column = ap (λ (u : State). u.column) h; lowered = ap (λ (u : State). u.lowered) h }
+bounds_stay section.Rows s t e f h =
+    record { columns = ap (λ (u : State). u.columns) h; column = ap (λ (u : State). u.column) h; lowered = ap (λ (u : State). u.lowered) h }
+bounds_stay section.RightSides s t e f h =
+    record { columns = ap (λ (u : State). u.columns) h; column = ap (λ (u : State). u.column) h; lowered = ap (λ (u : State). u.lowered) h }
+bounds_stay section.Ranges s t e f h =
+    record { columns = ap (λ (u : State). u.columns) h; column = ap (λ (u : State). u.column) h; lowered = ap (λ (u : State). u.lowered) h }
+bounds_stay section.End s t e f h =
+    record { columns = ap (λ (u : State). u.columns) h; column = ap (λ (u : State). u.column) h; lowered = ap (λ (u : State). u.lowered) h }
 
-bounds_same : (style : Style) (cards : List Fields) (s t : State) → (t.seen.bounds ≡ false → s.seen.bounds ≡ false) → whole_columns t ≡ whole_columns s → t.lowered ≡ s.lowered → (is_section t.part section.Bounds ≡ true → t.set ≡ first_bound style cards) → BoundsSay style cards s → BoundsSay style cards t
+bounds_same : (style : Style) (cards : List Fields) (s t : State) → (t.seen.bounds ≡ false → s.seen.bounds ≡ false) →
+    whole_columns t ≡ whole_columns s → t.lowered ≡ s.lowered →
+    (is_section t.part section.Bounds ≡ true → t.set ≡ first_bound style cards) → BoundsSay style cards s →
+    BoundsSay style cards t
 bounds_same style cards s t seen columns lowered during k =
     record {
       none = λ h. let n = k.none (seen h) in (n.0, subst₂ AreNew (sym columns) (sym lowered) n.1);
@@ -115,7 +137,9 @@ bounds_same style cards s t seen columns lowered during k =
       during = during;
     }
 
-bounds_at_card : (style : Style) (c : SoFar) (s t : State) (part : Section) (card : Fields) → IsOrdered s.part s.seen → s.part ≡ Some part → data_card style (Some part) s card ≡ Ok t → ColumnsSay c.columns s → BoundsSay style c.bounds s → BoundsSay style (with_card part card c).bounds t
+bounds_at_card : (style : Style) (c : SoFar) (s t : State) (part : Section) (card : Fields) → IsOrdered s.part s.seen →
+    s.part ≡ Some part → data_card style (Some part) s card ≡ Ok t → ColumnsSay c.columns s →
+    BoundsSay style c.bounds s → BoundsSay style (with_card part card c).bounds t
 bounds_at_card style c s t section.Bounds card o here h columns k =
     let leads = card_leads style section.Bounds s card t h in
     let st = stays section.Bounds s t leads in
@@ -141,10 +165,15 @@ bounds_at_card style c s t part card o here h columns k =
 
 -- ---- sections that begin
 
-whole_headed : (s : State) (part : Section) (word : List ℕ) (t : State) → headed (begun s part) part word ≡ Ok t → whole_columns t ≡ whole_columns s
-whole_headed s part word t h = let u = headed_leads (begun s part) part word t h in λ i. columns_with (ap (λ (x : State). x.columns) u i) (ap (λ (x : State). x.column) u i)
+whole_headed : (s : State) (part : Section) (word : List ℕ) (t : State) → headed (begun s part) part word ≡ Ok t →
+    whole_columns t ≡ whole_columns s
+whole_headed s part word t h =
+    let u = headed_leads (begun s part) part word t h in
+    λ i. columns_with (ap (λ (x : State). x.columns) u i) (ap (λ (x : State). x.column) u i)
 
-bounds_at_heading : (style : Style) (cards : List Fields) (s t : State) (part : Section) (word : List ℕ) → has_begun s.seen part ≡ false → headed (begun s part) part word ≡ Ok t → BoundsSay style cards s → BoundsSay style cards t
+bounds_at_heading : (style : Style) (cards : List Fields) (s t : State) (part : Section) (word : List ℕ) →
+    has_begun s.seen part ≡ false → headed (begun s part) part word ≡ Ok t → BoundsSay style cards s →
+    BoundsSay style cards t
 bounds_at_heading style cards s t section.Bounds word new h k =
     let u = headed_leads (begun s section.Bounds) section.Bounds word t h in
     bounds_same style cards s t (λ f. new) (whole_headed s section.Bounds word t h) (ap (λ (x : State). x.lowered) u) (λ f. ap (λ (x : State). x.set) u ∙ ap (first_bound style) (sym (k.none new).0)) k
@@ -159,9 +188,12 @@ none_new = record { bounds = All-nil IsNew; many = refl; unset = λ j. refl }
 bounds_kept : (style : Style) → IsKept style (λ c s. ColumnsSay c.columns s × BoundsSay style c.bounds s)
 bounds_kept style =
     record {
-      at_start = ((columns_kept style).at_start, record { none = λ h. (refl, none_new); bounded = new_bounded style [] [] [] refl none_new; during = λ h. absurd (cc) });
-      at_heading = λ c s t part words o new h k. ((columns_kept style).at_heading c s t part words o new h k.0, bounds_at_heading style c.bounds s t part (text_at 2 words) new h k.1);
-      at_card = λ c s t part card o here h k. ((columns_kept style).at_card c s t part card o here h k.0, bounds_at_card style c s t part card o here h k.0 k.1);
+      at_start =
+          ((columns_kept style).at_start, record { none = λ h. (refl, none_new); bounded = new_bounded style [] [] [] refl none_new; during = λ h. absurd (cc) });
+      at_heading =
+          λ c s t part words o new h k. ((columns_kept style).at_heading c s t part words o new h k.0, bounds_at_heading style c.bounds s t part (text_at 2 words) new h k.1);
+      at_card =
+          λ c s t part card o here h k. ((columns_kept style).at_card c s t part card o here h k.0, bounds_at_card style c s t part card o here h k.0 k.1);
     }
 
 -- ---- the model
@@ -170,7 +202,8 @@ differs : (name other : Name) → name ≢ other → (b : Bool) → same name ot
 differs name other h true e = absurd (h (same_true name other e))
 differs name other h false e = refl
 
-own_first : (names : List Name) (j : ℕ) → AllPairs (λ x y. x ≢ y) names → j < length names → position_or_len (λ n. same n (get_or names j [])) names ≡ j
+own_first : (names : List Name) (j : ℕ) → AllPairs (λ x y. x ≢ y) names → j < length names →
+    position_or_len (λ n. same n (get_or names j [])) names ≡ j
 own_first [] j h l = absurd (omega arith)
 own_first (x ∷ names) zero h l = ap (λ b. cond (not b) (1 + position_or_len (λ n. same n x) names) 0) (same-refl x)
 own_first (x ∷ names) (suc j) h l =
@@ -180,11 +213,13 @@ own_first (x ∷ names) (suc j) h l =
     ∙ ap (λ n. 1 + n) (own_first names j (λ i k d a b. h (suc i) (suc k) d (omega arith) (omega arith)) less)
     ∙ omega arith
 
-own_place : (names : List Name) (j : ℕ) → AllPairs (λ x y. x ≢ y) names → j < length names → position (λ n. same n (get_or names j [])) names ≡ Some j
+own_place : (names : List Name) (j : ℕ) → AllPairs (λ x y. x ≢ y) names → j < length names →
+    position (λ n. same n (get_or names j [])) names ≡ Some j
 own_place names j h l = rw (own_first names j h l, lt-ltb j (length names) l) refl
 
 -- the bounds of a column are those of its cards
-pub bounds_said : (style : Style) (lines : Lines) (m : Model) → Spells style lines m → (j : ℕ) → j < width m → ((column m j).lower ≡ lower_of style (bounds_of_column style (column m j).name (cards_in style section.Bounds lines))) × ((column m j).upper ≡ upper_of style (bounds_of_column style (column m j).name (cards_in style section.Bounds lines)))
+pub bounds_said : (style : Style) (lines : Lines) (m : Model) → Spells style lines m → (j : ℕ) → j < width m →
+    ((column m j).lower ≡ lower_of style (bounds_of_column style (column m j).name (cards_in style section.Bounds lines))) × ((column m j).upper ≡ upper_of style (bounds_of_column style (column m j).name (cards_in style section.Bounds lines)))
 unfolding model_by
 bounds_said style lines m h j l =
     let e = spelled_by style _ (bounds_kept style) lines m h in

@@ -44,7 +44,8 @@ open_number (Some c) t = number_at c t
 abbrev pub open_at : State → Target → ℚ
 open_at s t = open_number s.column t
 
-number_here : (c : ExactColumn) (x : Target) (v : ℚ) → AreNonZero c.entries → number_at c x ≡ 0ℚ → number_at (with_number c x v) x ≡ v
+number_here : (c : ExactColumn) (x : Target) (v : ℚ) → AreNonZero c.entries → number_at c x ≡ 0ℚ →
+    number_at (with_number c x v) x ≡ v
 number_here c Objective v z e = refl
 number_here c (Row i) v z e = by (eq_ℚ v 0ℚ) refl
   where
@@ -52,12 +53,14 @@ number_here c (Row i) v z e = by (eq_ℚ v 0ℚ) refl
     by true f = e ∙ sym (eq_if v 0ℚ f)
     by false f = put_here i v c.entries z e
 
-number_there : (c : ExactColumn) (x y : Target) (v : ℚ) → same_target y x ≡ false → number_at (with_number c x v) y ≡ number_at c y
+number_there : (c : ExactColumn) (x y : Target) (v : ℚ) → same_target y x ≡ false →
+    number_at (with_number c x v) y ≡ number_at c y
 number_there c Objective Objective v h = absurd (cc)
 number_there c Objective (Row j) v h = refl
 number_there c (Row i) y v h = by (eq_ℚ v 0ℚ) y h
   where
-    by : (b : Bool) (y : Target) → same_target y (Row i) ≡ false → number_at (cond b c (record c { entries = put_entry i v c.entries })) y ≡ number_at c y
+    by : (b : Bool) (y : Target) → same_target y (Row i) ≡ false →
+        number_at (cond b c (record c { entries = put_entry i v c.entries })) y ≡ number_at c y
     by true y h = refl
     by false Objective h = refl
     by false (Row j) h = put_there i j v c.entries (turned h)
@@ -87,12 +90,14 @@ number_non_zero c (Row i) v z = by (eq_ℚ v 0ℚ) refl
 -- ---- what the cards say of columns
 
 pub record IsSaid (view : RowView) (cards : List Fields) (c : ExactColumn) : Type 0 where
-  pub numbers : (name : Name) (t : Target) → place_in view name ≡ Some (Kept t) → IsTheNumber (texts_for name (pairs_of_column c.name cards)) (number_at c t)
+  pub numbers : (name : Name) (t : Target) → place_in view name ≡ Some (Kept t) →
+      IsTheNumber (texts_for name (pairs_of_column c.name cards)) (number_at c t)
 
 -- of the column that cards are read of
 pub record IsOpenSaid (view : RowView) (cards : List Fields) (columns : List ExactColumn) (paired : List Target) (c : ExactColumn) : Type 0 where
   pub said : IsSaid view cards c
-  pub unpaired : (name : Name) (t : Target) → place_in view name ≡ Some (Kept t) → is_among t paired ≡ false → texts_for name (pairs_of_column c.name cards) ≡ []
+  pub unpaired : (name : Name) (t : Target) → place_in view name ≡ Some (Kept t) → is_among t paired ≡ false →
+      texts_for name (pairs_of_column c.name cards) ≡ []
   pub non_zero : AreNonZero c.entries
   pub others : All (λ d. same d.name c.name ≡ false) columns
   pub known : is_named c.name cards ≡ true
@@ -114,17 +119,22 @@ record IsReading (view : RowView) (old : Pairs) (name : Name) (columns : List Ex
   name_is : column.name ≡ name
   non_zero : AreNonZero column.entries
 
-one_pair : (view : RowView) (old : Pairs) (name : Name) (columns : List ExactColumn) (done : Pairs) (s : State) (pair : List ℕ × List ℕ) (place : Place) (v : ℚ) (t : State) → frames.Pairs s pair place v → enter s place v ≡ Ok t → IsReading view old name columns done s → IsReading view old name columns (done ++ pair ∷ []) t
+one_pair : (view : RowView) (old : Pairs) (name : Name) (columns : List ExactColumn) (done : Pairs) (s : State) (pair : List ℕ × List ℕ) (place : Place) (v : ℚ) (t : State) →
+    frames.Pairs s pair place v → enter s place v ≡ Ok t → IsReading view old name columns done s →
+    IsReading view old name columns (done ++ pair ∷ []) t
 unfolding enter
 one_pair view old name columns done s pair place v t p h k = by place h at
   where
     at : place_in view pair.0 ≡ Some place
     at = ap (λ w. place_in w pair.0) (sym k.tells.view_is) ∙ sym (place_by_view s pair.0) ∙ p.place_is
 
-    push : (place : Place) (u : State) → place_in view pair.0 ≡ Some place → Put ℚ open_at s place v u → Tells ℚ open_at IsTheNumber view (old ++ (done ++ pair ∷ [])) u
-    push place u at put = subst (λ ps. Tells ℚ open_at IsTheNumber view ps u) (append_assoc old done (pair ∷ [])) (tells_push view (old ++ done) s u pair place v at (number_is pair.1 v p.number_is) k.tells put)
+    push : (place : Place) (u : State) → place_in view pair.0 ≡ Some place → Put ℚ open_at s place v u →
+        Tells ℚ open_at IsTheNumber view (old ++ (done ++ pair ∷ [])) u
+    push place u at put =
+        subst (λ ps. Tells ℚ open_at IsTheNumber view ps u) (append_assoc old done (pair ∷ [])) (tells_push view (old ++ done) s u pair place v at (number_is pair.1 v p.number_is) k.tells put)
 
-    by : (place : Place) → enter s place v ≡ Ok t → place_in view pair.0 ≡ Some place → IsReading view old name columns (done ++ pair ∷ []) t
+    by : (place : Place) → enter s place v ≡ Ok t → place_in view pair.0 ≡ Some place →
+        IsReading view old name columns (done ++ pair ∷ []) t
     by Dropped h at =
         subst (IsReading view old name columns (done ++ pair ∷ [])) (same_ok s t h)
         (record { columns_are = k.columns_are; tells = push Dropped s at (PutNowhere refl refl); column = k.column; column_is = k.column_is; name_is = k.name_is; non_zero = k.non_zero })
@@ -162,20 +172,27 @@ same_back a b h = by (same b a) refl
     by false e = refl
 
 -- a column that the card does not name
-said_push : (view : RowView) (cards : List Fields) (card : Fields) (c : ExactColumn) → same c.name (column_on card) ≡ false → IsSaid view cards c → IsSaid view (cards ++ card ∷ []) c
+said_push : (view : RowView) (cards : List Fields) (card : Fields) (c : ExactColumn) →
+    same c.name (column_on card) ≡ false → IsSaid view cards c → IsSaid view (cards ++ card ∷ []) c
 said_push view cards card c h k =
     let pairs : pairs_of_column c.name (cards ++ card ∷ []) ≡ pairs_of_column c.name cards =
     pairs_push c.name cards card ∙ ap (λ b. pairs_of_column c.name cards ++ cond b (numbers_on card) []) (same_back c.name (column_on card) h) ∙ append-nil (pairs_of_column c.name cards) in
     record { numbers = λ name t p. subst (λ ps. IsTheNumber (texts_for name ps) (number_at c t)) (sym pairs) (k.numbers name t p) }
 
-all_said_push : (view : RowView) (cards : List Fields) (card : Fields) (columns : List ExactColumn) → All (λ d. same d.name (column_on card) ≡ false) columns → All (IsSaid view cards) columns → All (IsSaid view (cards ++ card ∷ [])) columns
+all_said_push : (view : RowView) (cards : List Fields) (card : Fields) (columns : List ExactColumn) →
+    All (λ d. same d.name (column_on card) ≡ false) columns → All (IsSaid view cards) columns →
+    All (IsSaid view (cards ++ card ∷ [])) columns
 all_said_push view cards card columns h k = λ i d l. said_push view cards card (get_or columns i d) (h i d l) (k i d l)
 
-pub all_whole : (view : RowView) (cards : List Fields) (columns : List ExactColumn) (paired : List Target) (column : Option ExactColumn) → All (IsSaid view cards) columns → IfSome column (IsOpenSaid view cards columns paired) → All (IsSaid view cards) (columns_with columns column)
+pub all_whole : (view : RowView) (cards : List Fields) (columns : List ExactColumn) (paired : List Target) (column : Option ExactColumn) →
+    All (IsSaid view cards) columns → IfSome column (IsOpenSaid view cards columns paired) →
+    All (IsSaid view cards) (columns_with columns column)
 all_whole view cards columns paired None h k = h
 all_whole view cards columns paired (Some c) h k = All-push (IsSaid view cards) columns c h k.said
 
-opened_again : (cards : List Fields) (card : Fields) (s : State) (column : Option ExactColumn) → s.column ≡ column → is_open column (column_on card) ≡ true → IfSome column (IsOpenSaid (row_view s) cards s.columns s.paired) → ColumnsSay cards s → IsOpened (row_view s) cards card s
+opened_again : (cards : List Fields) (card : Fields) (s : State) (column : Option ExactColumn) → s.column ≡ column →
+    is_open column (column_on card) ≡ true → IfSome column (IsOpenSaid (row_view s) cards s.columns s.paired) →
+    ColumnsSay cards s → IsOpened (row_view s) cards card s
 opened_again cards card s None e same_name last k = absurd (cc)
 opened_again cards card s (Some c) e same_name last k =
     let name : c.name ≡ column_on card = same_true c.name (column_on card) same_name in
@@ -187,8 +204,10 @@ opened_again cards card s (Some c) e same_name last k =
         tells = subst (λ ps. Tells ℚ open_at IsTheNumber (row_view s) ps s) (sym (append-nil (pairs_of_column (column_on card) cards)))
             (record {
               view_is = refl;
-              numbers = λ n t p. subst₂ (λ m o. IsTheNumber (texts_for n (pairs_of_column m cards)) (open_number o t)) name (sym e) (last.said.numbers n t p);
-              unpaired = λ n t p free. ap (λ m. texts_for n (pairs_of_column m cards)) (sym name) ∙ last.unpaired n t p free;
+              numbers =
+                  λ n t p. subst₂ (λ m o. IsTheNumber (texts_for n (pairs_of_column m cards)) (open_number o t)) name (sym e) (last.said.numbers n t p);
+              unpaired =
+                  λ n t p free. ap (λ m. texts_for n (pairs_of_column m cards)) (sym name) ∙ last.unpaired n t p free;
             });
         column = c;
         column_is = e;
@@ -207,7 +226,9 @@ opened_again cards card s (Some c) e same_name last k =
       others = others;
     }
 
-opened_new : (cards : List Fields) (card : Fields) (s : State) → list_any (λ c. same c.name (column_on card)) (whole_columns s) ≡ false → ColumnsSay cards s → IsOpened (row_view s) cards card (record s { columns = whole_columns s; column = Some (new_column (column_on card)); lowered = s.lowered ++ false ∷ []; paired = [] })
+opened_new : (cards : List Fields) (card : Fields) (s : State) →
+    list_any (λ c. same c.name (column_on card)) (whole_columns s) ≡ false → ColumnsSay cards s →
+    IsOpened (row_view s) cards card (record s { columns = whole_columns s; column = Some (new_column (column_on card)); lowered = s.lowered ++ false ∷ []; paired = [] })
 opened_new cards card s free k =
     let others = none_pass (λ (c : ExactColumn). same c.name (column_on card)) (whole_columns s) free in
     let all_names = All-map (λ x. same x (column_on card) ≡ false) (λ (c : ExactColumn). c.name) (whole_columns s) others in
@@ -218,7 +239,8 @@ opened_new cards card s free k =
         columns_are = refl;
         tells = record {
           view_is = refl;
-          numbers = λ n t p. subst (λ texts. IsTheNumber texts (number_at (new_column (column_on card)) t)) (sym (nothing none n)) (zero_at t);
+          numbers =
+              λ n t p. subst (λ texts. IsTheNumber texts (number_at (new_column (column_on card)) t)) (sym (nothing none n)) (zero_at t);
           unpaired = λ n t p f. nothing none n;
         };
         column = new_column (column_on card);
@@ -226,8 +248,10 @@ opened_new cards card s free k =
         name_is = refl;
         non_zero = tt;
       };
-      names = ap (λ names. names ++ column_on card ∷ []) k.names ∙ ap (λ b. named_columns cards ++ cond b [] (column_on card ∷ [])) (sym new) ∙ sym (firsts_push cards card);
-      whole = all_said_push (row_view s) cards card (whole_columns s) others (all_whole (row_view s) cards s.columns s.paired s.column k.whole k.last);
+      names =
+          ap (λ names. names ++ column_on card ∷ []) k.names ∙ ap (λ b. named_columns cards ++ cond b [] (column_on card ∷ [])) (sym new) ∙ sym (firsts_push cards card);
+      whole =
+          all_said_push (row_view s) cards card (whole_columns s) others (all_whole (row_view s) cards s.columns s.paired s.column k.whole k.last);
       others = others;
     }
   where
@@ -235,23 +259,31 @@ opened_new cards card s free k =
     zero_at Objective = refl
     zero_at (Row i) = refl
 
-    nothing : pairs_of_column (column_on card) cards ≡ [] → (name : Name) → texts_for name (pairs_of_column (column_on card) cards ++ []) ≡ []
+    nothing : pairs_of_column (column_on card) cards ≡ [] → (name : Name) →
+        texts_for name (pairs_of_column (column_on card) cards ++ []) ≡ []
     nothing e name = ap (λ ps. texts_for name (ps ++ [])) e ∙ texts_none name
 
-opens : (cards : List Fields) (card : Fields) (s u : State) → Opens s (column_on card) u → ColumnsSay cards s → IsOpened (row_view s) cards card u
-opens cards card s u (Same known same) k = subst (IsOpened (row_view s) cards card) same (opened_again cards card s s.column refl known k.last k)
-opens cards card s u (New other free new) k = subst (IsOpened (row_view s) cards card) new (opened_new cards card s (negated _ free) k)
+opens : (cards : List Fields) (card : Fields) (s u : State) → Opens s (column_on card) u → ColumnsSay cards s →
+    IsOpened (row_view s) cards card u
+opens cards card s u (Same known same) k =
+    subst (IsOpened (row_view s) cards card) same (opened_again cards card s s.column refl known k.last k)
+opens cards card s u (New other free new) k =
+    subst (IsOpened (row_view s) cards card) new (opened_new cards card s (negated _ free) k)
 
 -- ---- a card of COLUMNS
 
-columns_read : (style : Style) (s : State) (card : Fields) (t : State) (name : Name) (more : List (List ℕ)) → columns_card style s card ≡ Ok t → texts_of card ≡ name ∷ more → IsColumn (texts_of card) name (pairs_of more)
+columns_read : (style : Style) (s : State) (card : Fields) (t : State) (name : Name) (more : List (List ℕ)) →
+    columns_card style s card ≡ Ok t → texts_of card ≡ name ∷ more → IsColumn (texts_of card) name (pairs_of more)
 unfolding columns_card
 columns_read style s card t name more h e =
     let a = must_ok (not (same (text_at (marker_field style) card) (codes "'MARKER'"))) code.Integer _ t h in
     let b = step_ok (shaped style section.Columns card) _ t a.1 in
     column_is style card b.0 name more b.1 e
 
-finish : (cards : List Fields) (card : Fields) (s u t : State) → t.seen.columns ≡ true → is_section t.part section.Columns ≡ true → IsOpened (row_view s) cards card u → IsReading (row_view s) (pairs_of_column (column_on card) cards) (column_on card) u.columns (numbers_on card) t → ColumnsSay (cards ++ card ∷ []) t
+finish : (cards : List Fields) (card : Fields) (s u t : State) → t.seen.columns ≡ true →
+    is_section t.part section.Columns ≡ true → IsOpened (row_view s) cards card u →
+    IsReading (row_view s) (pairs_of_column (column_on card) cards) (column_on card) u.columns (numbers_on card) t →
+    ColumnsSay (cards ++ card ∷ []) t
 finish cards card s u t seen here o r =
     let view : row_view s ≡ row_view t = sym r.tells.view_is in
     let name : column_on card ≡ r.column.name = sym r.name_is in
@@ -270,11 +302,14 @@ finish cards card s u t seen here o r =
       whole = subst₂ (λ v cs. All (IsSaid v (cards ++ card ∷ [])) cs) view columns o.whole;
       last = subst (λ o. IfSome o (IsOpenSaid (row_view t) (cards ++ card ∷ []) t.columns t.paired)) (sym r.column_is)
           (record {
-            said = record { numbers = λ n x p. subst₂ (λ ps o. IsTheNumber (texts_for n ps) (open_number o x)) all_pairs r.column_is (r.tells.numbers n x (ap (λ v. place_in v n) view ∙ p)) };
-            unpaired = λ n x p free. ap (texts_for n) (sym all_pairs) ∙ r.tells.unpaired n x (ap (λ v. place_in v n) view ∙ p) free;
+            said =
+                record { numbers = λ n x p. subst₂ (λ ps o. IsTheNumber (texts_for n ps) (open_number o x)) all_pairs r.column_is (r.tells.numbers n x (ap (λ v. place_in v n) view ∙ p)) };
+            unpaired =
+                λ n x p free. ap (texts_for n) (sym all_pairs) ∙ r.tells.unpaired n x (ap (λ v. place_in v n) view ∙ p) free;
             non_zero = r.non_zero;
             others = subst₂ (λ n cs. All (λ (d : ExactColumn). same d.name n ≡ false) cs) name columns o.others;
-            known = ap (λ n. is_named n (cards ++ card ∷ [])) (sym name) ∙ named_push (column_on card) cards card ∙ ap (λ b. is_named (column_on card) cards || b) (same-refl (column_on card)) ∙ or_true (is_named (column_on card) cards);
+            known =
+                ap (λ n. is_named n (cards ++ card ∷ [])) (sym name) ∙ named_push (column_on card) cards card ∙ ap (λ b. is_named (column_on card) cards || b) (same-refl (column_on card)) ∙ or_true (is_named (column_on card) cards);
           });
     }
   where
@@ -282,7 +317,9 @@ finish cards card s u t seen here o r =
     or_true true = refl
     or_true false = refl
 
-pub columns_card_says : (style : Style) (cards : List Fields) (card : Fields) (s t : State) → t.seen.columns ≡ true → is_section t.part section.Columns ≡ true → columns_card style s card ≡ Ok t → ColumnsSay cards s → ColumnsSay (cards ++ card ∷ []) t
+pub columns_card_says : (style : Style) (cards : List Fields) (card : Fields) (s t : State) → t.seen.columns ≡ true →
+    is_section t.part section.Columns ≡ true → columns_card style s card ≡ Ok t → ColumnsSay cards s →
+    ColumnsSay (cards ++ card ∷ []) t
 columns_card_says style cards card s t seen here h k =
     let d = columns_did style s card t h in
     let c = columns_read style s card t d.name d.more h d.texts_are in

@@ -29,20 +29,27 @@ none_mapped f [] h = refl
 none_mapped f (x ∷ xs) h = absurd (cc)
 
 -- columns that are the same but for their bounds
-names_beside : (columns : List ExactColumn) → map (λ (c : ExactColumn). c.name) (map without_bounds columns) ≡ map (λ (c : ExactColumn). c.name) columns
+names_beside : (columns : List ExactColumn) →
+    map (λ (c : ExactColumn). c.name) (map without_bounds columns) ≡ map (λ (c : ExactColumn). c.name) columns
 names_beside [] = refl
 names_beside (c ∷ columns) = ap (λ names. c.name ∷ names) (names_beside columns)
 
-said_beside : (view : RowView) (cards : List Fields) (columns : List ExactColumn) → All (IsSaid view cards) columns → All (IsSaid view cards) (map without_bounds columns)
-said_beside view cards columns h = All-map (IsSaid view cards) without_bounds columns (λ i d l. record { numbers = (h i d l).numbers })
+said_beside : (view : RowView) (cards : List Fields) (columns : List ExactColumn) → All (IsSaid view cards) columns →
+    All (IsSaid view cards) (map without_bounds columns)
+said_beside view cards columns h =
+    All-map (IsSaid view cards) without_bounds columns (λ i d l. record { numbers = (h i d l).numbers })
 
-said_within : (view : RowView) (cards : List Fields) (columns : List ExactColumn) → All (IsSaid view cards) (map without_bounds columns) → All (IsSaid view cards) columns
+said_within : (view : RowView) (cards : List Fields) (columns : List ExactColumn) →
+    All (IsSaid view cards) (map without_bounds columns) → All (IsSaid view cards) columns
 said_within view cards [] h = All-nil (IsSaid view cards)
 said_within view cards (c ∷ columns) h =
     let first = All-head (IsSaid view cards) (without_bounds c) (map without_bounds columns) h in
     All-cons (IsSaid view cards) c columns (record { numbers = first.numbers }) (said_within view cards columns (All-tail (IsSaid view cards) (without_bounds c) (map without_bounds columns) h))
 
-columns_same : (cards : List Fields) (s t : State) → t.seen.columns ≡ s.seen.columns → is_section t.part section.Columns ≡ false → s.column ≡ None → t.column ≡ s.column → map without_bounds t.columns ≡ map without_bounds s.columns → row_view t ≡ row_view s → ColumnsSay cards s → ColumnsSay cards t
+columns_same : (cards : List Fields) (s t : State) → t.seen.columns ≡ s.seen.columns →
+    is_section t.part section.Columns ≡ false → s.column ≡ None → t.column ≡ s.column →
+    map without_bounds t.columns ≡ map without_bounds s.columns → row_view t ≡ row_view s → ColumnsSay cards s →
+    ColumnsSay cards t
 columns_same cards s t seen away shut column columns view k =
     let closed : t.column ≡ None = column ∙ shut in
     record {
@@ -57,12 +64,14 @@ columns_same cards s t seen away shut column columns view k =
           ∙ names_beside s.columns
           ∙ ap (λ o. map (λ (c : ExactColumn). c.name) (columns_with s.columns o)) (sym shut)
           ∙ k.names;
-      whole = said_within (row_view t) cards t.columns (subst₂ (λ v cs. All (IsSaid v cards) cs) (sym view) (sym columns) (said_beside (row_view s) cards s.columns k.whole));
+      whole =
+          said_within (row_view t) cards t.columns (subst₂ (λ v cs. All (IsSaid v cards) cs) (sym view) (sym columns) (said_beside (row_view s) cards s.columns k.whole));
       last = subst (λ o. IfSome o (IsOpenSaid (row_view t) cards t.columns t.paired)) (sym closed) tt;
     }
 
 -- a card of ROWS, before all columns
-columns_before : (cards : List Fields) (s t : State) → s.seen.columns ≡ false → t.seen.columns ≡ s.seen.columns → t.columns ≡ s.columns → t.column ≡ s.column → ColumnsSay cards s → ColumnsSay cards t
+columns_before : (cards : List Fields) (s t : State) → s.seen.columns ≡ false → t.seen.columns ≡ s.seen.columns →
+    t.columns ≡ s.columns → t.column ≡ s.column → ColumnsSay cards s → ColumnsSay cards t
 columns_before cards s t new seen columns column k =
     let n = k.none new in
     let none : t.columns ≡ [] = columns ∙ n.1 in
@@ -80,17 +89,27 @@ record ColumnsStay (s t : State) : Type 0 where
   column : t.column ≡ s.column
   columns : map without_bounds t.columns ≡ map without_bounds s.columns
 
-columns_stay : (part : Section) (s t : State) → is_section (Some part) section.Columns ≡ false → Leads part s t → ColumnsStay s t
+columns_stay : (part : Section) (s t : State) → is_section (Some part) section.Columns ≡ false → Leads part s t →
+    ColumnsStay s t
 columns_stay section.Columns s t e h = absurd (cc)
-columns_stay section.Bounds s t e h = record { column = ap (λ (u : State). u.column) h; columns = ap (λ (u : State). u.columns) h }
-columns_stay section.Name s t e h = record { column = ap (λ (u : State). u.column) h; columns = ap (λ (u : State). map without_bounds u.columns) h }
-columns_stay section.Sense s t e h = record { column = ap (λ (u : State). u.column) h; columns = ap (λ (u : State). map without_bounds u.columns) h }
-columns_stay section.Rows s t e h = record { column = ap (λ (u : State). u.column) h; columns = ap (λ (u : State). map without_bounds u.columns) h }
-columns_stay section.RightSides s t e h = record { column = ap (λ (u : State). u.column) h; columns = ap (λ (u : State). map without_bounds u.columns) h }
-columns_stay section.Ranges s t e h = record { column = ap (λ (u : State). u.column) h; columns = ap (λ (u : State). map without_bounds u.columns) h }
-columns_stay section.End s t e h = record { column = ap (λ (u : State). u.column) h; columns = ap (λ (u : State). map without_bounds u.columns) h }
+columns_stay section.Bounds s t e h =
+    record { column = ap (λ (u : State). u.column) h; columns = ap (λ (u : State). u.columns) h }
+columns_stay section.Name s t e h =
+    record { column = ap (λ (u : State). u.column) h; columns = ap (λ (u : State). map without_bounds u.columns) h }
+columns_stay section.Sense s t e h =
+    record { column = ap (λ (u : State). u.column) h; columns = ap (λ (u : State). map without_bounds u.columns) h }
+columns_stay section.Rows s t e h =
+    record { column = ap (λ (u : State). u.column) h; columns = ap (λ (u : State). map without_bounds u.columns) h }
+columns_stay section.RightSides s t e h =
+    record { column = ap (λ (u : State). u.column) h; columns = ap (λ (u : State). map without_bounds u.columns) h }
+columns_stay section.Ranges s t e h =
+    record { column = ap (λ (u : State). u.column) h; columns = ap (λ (u : State). map without_bounds u.columns) h }
+columns_stay section.End s t e h =
+    record { column = ap (λ (u : State). u.column) h; columns = ap (λ (u : State). map without_bounds u.columns) h }
 
-columns_at_card : (style : Style) (c : SoFar) (s t : State) (part : Section) (card : Fields) → IsOrdered s.part s.seen → s.part ≡ Some part → data_card style (Some part) s card ≡ Ok t → ColumnsSay c.columns s → ColumnsSay (with_card part card c).columns t
+columns_at_card : (style : Style) (c : SoFar) (s t : State) (part : Section) (card : Fields) → IsOrdered s.part s.seen →
+    s.part ≡ Some part → data_card style (Some part) s card ≡ Ok t → ColumnsSay c.columns s →
+    ColumnsSay (with_card part card c).columns t
 columns_at_card style c s t section.Columns card o here h k =
     let st = stays section.Columns s t (card_leads style section.Columns s card t h) in
     let at : is_section s.part section.Columns ≡ true = ap (λ p. is_section p section.Columns) here in
@@ -118,7 +137,8 @@ seen_before section.Ranges seen h = h
 seen_before section.Bounds seen h = h
 seen_before section.End seen h = h
 
-columns_at_heading : (cards : List Fields) (s t : State) (part : Section) (word : List ℕ) → headed (begun s part) part word ≡ Ok t → ColumnsSay cards s → ColumnsSay cards t
+columns_at_heading : (cards : List Fields) (s t : State) (part : Section) (word : List ℕ) →
+    headed (begun s part) part word ≡ Ok t → ColumnsSay cards s → ColumnsSay cards t
 columns_at_heading cards s t part word h k =
     let u = headed_leads (begun s part) part word t h in
     let columns : t.columns ≡ whole_columns s = ap (λ (x : State). x.columns) u in
@@ -129,7 +149,8 @@ columns_at_heading cards s t part word h k =
           (n.0, columns ∙ (λ i. columns_with (n.1 i) (n.2 i)), closed);
       shut = λ f. closed;
       names = (λ i. map (λ (c : ExactColumn). c.name) (columns_with (columns i) (closed i))) ∙ k.names;
-      whole = subst₂ (λ v cs. All (IsSaid v cards) cs) (sym (rows_stay_headed s part word t h)) (sym columns) (all_whole (row_view s) cards s.columns s.paired s.column k.whole k.last);
+      whole =
+          subst₂ (λ v cs. All (IsSaid v cards) cs) (sym (rows_stay_headed s part word t h)) (sym columns) (all_whole (row_view s) cards s.columns s.paired s.column k.whole k.last);
       last = subst (λ o. IfSome o (IsOpenSaid (row_view t) cards t.columns t.paired)) (sym closed) tt;
     }
 
@@ -150,15 +171,19 @@ columns_kept style =
 -- ---- the model
 
 rows_and_columns : (style : Style) → IsKept style (λ c s. RowsSay c.rows (row_view s) × ColumnsSay c.columns s)
-rows_and_columns style = both_kept style (λ c s. RowsSay c.rows (row_view s)) (λ c s. ColumnsSay c.columns s) (rows_kept style) (columns_kept style)
+rows_and_columns style =
+    both_kept style (λ c s. RowsSay c.rows (row_view s)) (λ c s. ColumnsSay c.columns s) (rows_kept style) (columns_kept style)
 
-pub columns_named : (style : Style) (lines : Lines) (m : Model) → Spells style lines m → map (λ c. c.name) m.columns ≡ named_columns (cards_in style section.Columns lines)
+pub columns_named : (style : Style) (lines : Lines) (m : Model) → Spells style lines m →
+    map (λ c. c.name) m.columns ≡ named_columns (cards_in style section.Columns lines)
 unfolding model_by
 columns_named style lines m h =
     let e = spelled_by style _ (columns_kept style) lines m h in
     sym (ap (λ (o : Model). map (λ (c : ExactColumn). c.name) o.columns) e.model_is) ∙ e.holds.names
 
-pub coefficient_said : (style : Style) (lines : Lines) (m : Model) → Spells style lines m → (i j : ℕ) → i < height m → j < width m → IsTheNumber (texts_for (row m i).name (pairs_of_column (column m j).name (cards_in style section.Columns lines))) (coefficient m i j)
+pub coefficient_said : (style : Style) (lines : Lines) (m : Model) → Spells style lines m → (i j : ℕ) → i < height m →
+    j < width m →
+    IsTheNumber (texts_for (row m i).name (pairs_of_column (column m j).name (cards_in style section.Columns lines))) (coefficient m i j)
 unfolding model_by
 coefficient_said style lines m h =
     let e = spelled_by style _ (rows_and_columns style) lines m h in
@@ -167,7 +192,8 @@ coefficient_said style lines m h =
     subst (λ (m : Model). (i j : ℕ) → i < height m → j < width m → IsTheNumber (texts_for (row m i).name (pairs_of_column (column m j).name (cards_in style section.Columns lines))) (coefficient m i j)) e.model_is
     (λ i j l k. (all j no_column k).numbers (get_or e.last.rows i no_row).name (Row i) (row_place e.last i e.holds.0.placed l))
 
-pub cost_said : (style : Style) (lines : Lines) (m : Model) → Spells style lines m → (j : ℕ) → j < width m → IsTheNumber (texts_for m.objective (pairs_of_column (column m j).name (cards_in style section.Columns lines))) (cost m j)
+pub cost_said : (style : Style) (lines : Lines) (m : Model) → Spells style lines m → (j : ℕ) → j < width m →
+    IsTheNumber (texts_for m.objective (pairs_of_column (column m j).name (cards_in style section.Columns lines))) (cost m j)
 unfolding model_by
 cost_said style lines m h =
     let e = spelled_by style _ (rows_and_columns style) lines m h in

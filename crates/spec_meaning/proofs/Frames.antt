@@ -58,7 +58,8 @@ take_sense_leads s text t h =
     let b = must_ok (is_none s.sense) code.CardShape _ t a.2 in
     subst (Leads section.Sense s) (same_ok _ t b.1) refl
 
-sense_leads : (style : Style) (s : State) (fields : Fields) (t : State) → sense_card style s fields ≡ Ok t → Leads section.Sense s t
+sense_leads : (style : Style) (s : State) (fields : Fields) (t : State) → sense_card style s fields ≡ Ok t →
+    Leads section.Sense s t
 unfolding sense_card
 sense_leads style s fields t h =
     let a = step_ok (shaped style section.Sense fields) _ t h in
@@ -67,7 +68,8 @@ sense_leads style s fields t h =
 with_row_leads : (s : State) (type : RowType) (name : Name) → Leads section.Rows s (with_row s type name)
 with_row_leads s Unlimited name = go (is_none s.objective)
   where
-    go : (b : Bool) → Leads section.Rows s (cond b (record s { objective = Some name }) (record s { dropped = s.dropped ++ name ∷ [] }))
+    go : (b : Bool) →
+        Leads section.Rows s (cond b (record s { objective = Some name }) (record s { dropped = s.dropped ++ name ∷ [] }))
     go true = refl
     go false = refl
 with_row_leads s (Limited kind) name = refl
@@ -80,7 +82,8 @@ pub record RowsDid (s : State) (fields : Fields) (t : State) : Type 0 where
   pub free : is_none (place_of s (text_at 2 fields)) ≡ true
   pub new : with_row s type (text_at 2 fields) ≡ t
 
-add_row_did : (s : State) (type : RowType) (fields : Fields) (t : State) → row_type_of (text_at 1 fields) ≡ Some type → add_row s type (text_at 2 fields) ≡ Ok t → RowsDid s fields t
+add_row_did : (s : State) (type : RowType) (fields : Fields) (t : State) → row_type_of (text_at 1 fields) ≡ Some type →
+    add_row s type (text_at 2 fields) ≡ Ok t → RowsDid s fields t
 unfolding add_row
 add_row_did s type fields t e h =
     let name = text_at 2 fields in
@@ -89,21 +92,24 @@ add_row_did s type fields t e h =
     let c = must_ok (is_first s type || ltb (length s.rows + length s.dropped) 256) code.Limit _ t b.1 in
     record { type = type; type_is = e; name = a.0; free = b.0; new = same_ok _ t c.1 }
 
-pub rows_did : (style : Style) (s : State) (fields : Fields) (t : State) → rows_card style s fields ≡ Ok t → RowsDid s fields t
+pub rows_did : (style : Style) (s : State) (fields : Fields) (t : State) → rows_card style s fields ≡ Ok t →
+    RowsDid s fields t
 unfolding rows_card
 rows_did style s fields t h =
     let a = step_ok (shaped style section.Rows fields) _ t h in
     let b = need_ok (row_type_of (text_at 1 fields)) code.RowType _ t a.2 in
     add_row_did s b.0 fields t b.1 b.2
 
-rows_leads : (style : Style) (s : State) (fields : Fields) (t : State) → rows_card style s fields ≡ Ok t → Leads section.Rows s t
+rows_leads : (style : Style) (s : State) (fields : Fields) (t : State) → rows_card style s fields ≡ Ok t →
+    Leads section.Rows s t
 rows_leads style s fields t h =
     let d = rows_did style s fields t h in
     subst (Leads section.Rows s) d.new (with_row_leads s d.type (text_at 2 fields))
 
 -- ---- COLUMNS
 
-pub shaped_texts : (style : Style) (part : Section) (fields : Fields) (texts : List (List ℕ)) → shaped style part fields ≡ Ok texts → texts_of fields ≡ texts
+pub shaped_texts : (style : Style) (part : Section) (fields : Fields) (texts : List (List ℕ)) →
+    shaped style part fields ≡ Ok texts → texts_of fields ≡ texts
 unfolding shaped
 shaped_texts style part fields texts h = go (has_shape (shapes_of style part) fields) h
   where
@@ -114,13 +120,18 @@ shaped_texts style part fields texts h = go (has_shape (shapes_of style part) fi
 -- a new column, or the one that is read
 pub data Opens (s : State) (name : Name) (t : State) : Type 0 where
   Same : (known : is_open s.column name ≡ true) → (same : s ≡ t) → Opens s name t
-  New : (other : is_open s.column name ≡ false) → (free : not (list_any (λ c. same c.name name) (whole_columns s)) ≡ true) → (new : record s { columns = whole_columns s; column = Some (new_column name); lowered = s.lowered ++ false ∷ []; paired = [] } ≡ t) → Opens s name t
+  New : (other : is_open s.column name ≡ false) →
+      (free : not (list_any (λ c. same c.name name) (whole_columns s)) ≡ true) →
+      (new : record s { columns = whole_columns s; column = Some (new_column name); lowered = s.lowered ++ false ∷ []; paired = [] } ≡ t) →
+      Opens s name t
 
 pub opened_did : (s : State) (name : Name) (t : State) → opened s name ≡ Ok t → Opens s name t
 unfolding opened
 opened_did s name t h = go (is_open s.column name) refl h
   where
-    go : (b : Bool) → is_open s.column name ≡ b → cond b (Ok s) (must (not (list_any (λ c. same c.name name) (whole_columns s))) code.ColumnTaken >>= λ _. must (ltb (length (whole_columns s)) 512) code.Limit >>= λ _. Ok (record s { columns = whole_columns s; column = Some (new_column name); lowered = s.lowered ++ false ∷ []; paired = [] })) ≡ Ok t → Opens s name t
+    go : (b : Bool) → is_open s.column name ≡ b →
+        cond b (Ok s) (must (not (list_any (λ c. same c.name name) (whole_columns s))) code.ColumnTaken >>= λ _. must (ltb (length (whole_columns s)) 512) code.Limit >>= λ _. Ok (record s { columns = whole_columns s; column = Some (new_column name); lowered = s.lowered ++ false ∷ []; paired = [] })) ≡ Ok t →
+        Opens s name t
     go true e k = Same e (same_ok s t k)
     go false e k =
         let a = must_ok (not (list_any (λ c. same c.name name) (whole_columns s))) code.ColumnTaken _ t k in
@@ -133,7 +144,9 @@ pub record Pairs (s : State) (pair : List ℕ × List ℕ) (place : Place) (v : 
   pub number_is : number_in pair.1 ≡ Ok v
 
 -- what each pair keeps, all of them keep
-pub column_pairs_keep : (K : List (List ℕ × List ℕ) → State → Type 0) → ((done : List (List ℕ × List ℕ)) (s : State) (pair : List ℕ × List ℕ) (place : Place) (v : ℚ) (t : State) → Pairs s pair place v → enter s place v ≡ Ok t → K done s → K (done ++ pair ∷ []) t) → (pairs done : List (List ℕ × List ℕ)) (s t : State) → column_pairs s pairs ≡ Ok t → K done s → K (done ++ pairs) t
+pub column_pairs_keep : (K : List (List ℕ × List ℕ) → State → Type 0) →
+    ((done : List (List ℕ × List ℕ)) (s : State) (pair : List ℕ × List ℕ) (place : Place) (v : ℚ) (t : State) → Pairs s pair place v → enter s place v ≡ Ok t → K done s → K (done ++ pair ∷ []) t) →
+    (pairs done : List (List ℕ × List ℕ)) (s t : State) → column_pairs s pairs ≡ Ok t → K done s → K (done ++ pairs) t
 unfolding column_pair
 column_pairs_keep K f [] done s t h k = subst (λ l. K l t) (sym (append-nil done)) (subst (K done) (same_ok s t h) k)
 column_pairs_keep K f (pair ∷ pairs) done s t h k =
@@ -165,7 +178,8 @@ column_by_did s (name ∷ texts) t h =
     let b = step_ok (opened s name) _ t a.1 in
     record { name = name; more = texts; texts_are = refl; between = b.0; opens = opened_did s name b.0 b.1; pairs = b.2 }
 
-pub columns_did : (style : Style) (s : State) (fields : Fields) (t : State) → columns_card style s fields ≡ Ok t → ColumnsDid s (texts_of fields) t
+pub columns_did : (style : Style) (s : State) (fields : Fields) (t : State) → columns_card style s fields ≡ Ok t →
+    ColumnsDid s (texts_of fields) t
 unfolding columns_card
 columns_did style s fields t h =
     let a = must_ok (not (same (text_at (marker_field style) fields) (codes "'MARKER'"))) code.Integer _ t h in
@@ -176,7 +190,8 @@ opens_leads : (s : State) (name : Name) (t : State) → Opens s name t → Leads
 opens_leads s name t (Same known same) = subst (Leads section.Columns s) same refl
 opens_leads s name t (New other free new) = subst (Leads section.Columns s) new refl
 
-pub columns_leads : (style : Style) (s : State) (fields : Fields) (t : State) → columns_card style s fields ≡ Ok t → Leads section.Columns s t
+pub columns_leads : (style : Style) (s : State) (fields : Fields) (t : State) → columns_card style s fields ≡ Ok t →
+    Leads section.Columns s t
 columns_leads style s fields t h =
     let d = columns_did style s fields t h in
     column_pairs_keep (λ done u. Leads section.Columns s u) (λ done u pair place v w p e k. enter_leads u place v w e ∙ k) (pairs_of d.more) [] d.between t d.pairs (opens_leads s d.name d.between d.opens)
@@ -184,12 +199,15 @@ columns_leads style s fields t h =
 -- ---- RHS and RANGES
 
 -- a change that a view does not see
-pub changed_unseen : {A B : Type 0} (view : A → B) (change : A → A) (i : ℕ) (xs : List A) → ((x : A) → view (change x) ≡ view x) → map view (changed_at i change xs) ≡ map view xs
+pub changed_unseen : {A B : Type 0} (view : A → B) (change : A → A) (i : ℕ) (xs : List A) →
+    ((x : A) → view (change x) ≡ view x) → map view (changed_at i change xs) ≡ map view xs
 changed_unseen view change i [] h = refl
 changed_unseen view change zero (x ∷ xs) h = ap (λ y. y ∷ map view xs) (h x)
 changed_unseen view change (suc i) (x ∷ xs) h = ap (λ ys. view x ∷ ys) (changed_unseen view change i xs h)
 
-pub side_pairs_keep : (K : List (List ℕ × List ℕ) → State → Type 0) → ((done : List (List ℕ × List ℕ)) (s : State) (pair : List ℕ × List ℕ) (place : Place) (v : ℚ) (t : State) → Pairs s pair place v → put_side s place v ≡ Ok t → K done s → K (done ++ pair ∷ []) t) → (pairs done : List (List ℕ × List ℕ)) (s t : State) → side_pairs s pairs ≡ Ok t → K done s → K (done ++ pairs) t
+pub side_pairs_keep : (K : List (List ℕ × List ℕ) → State → Type 0) →
+    ((done : List (List ℕ × List ℕ)) (s : State) (pair : List ℕ × List ℕ) (place : Place) (v : ℚ) (t : State) → Pairs s pair place v → put_side s place v ≡ Ok t → K done s → K (done ++ pair ∷ []) t) →
+    (pairs done : List (List ℕ × List ℕ)) (s t : State) → side_pairs s pairs ≡ Ok t → K done s → K (done ++ pairs) t
 unfolding side_pair
 side_pairs_keep K f [] done s t h k = subst (λ l. K l t) (sym (append-nil done)) (subst (K done) (same_ok s t h) k)
 side_pairs_keep K f (pair ∷ pairs) done s t h k =
@@ -198,7 +216,8 @@ side_pairs_keep K f (pair ∷ pairs) done s t h k =
     let c = step_ok (number_in pair.1) _ a.0 b.2 in
     subst (λ l. K l t) (append_assoc done (pair ∷ []) pairs) (side_pairs_keep K f pairs (done ++ pair ∷ []) a.0 t a.2 (f done s pair b.0 c.0 a.0 (record { place_is = b.1; number_is = c.1 }) c.2 k))
 
-put_side_leads : (s : State) (place : Place) (v : ℚ) (t : State) → put_side s place v ≡ Ok t → Leads section.RightSides s t
+put_side_leads : (s : State) (place : Place) (v : ℚ) (t : State) → put_side s place v ≡ Ok t →
+    Leads section.RightSides s t
 unfolding put_side
 put_side_leads s Dropped v t h = subst (Leads section.RightSides s) (same_ok s t h) refl
 put_side_leads s (Kept Objective) v t h =
@@ -211,24 +230,30 @@ put_side_leads s (Kept (Row i)) v t h =
 
 -- a card of the set that is used, or of another one
 pub data SetDid (s : State) (card : SetAndPairs) (does : State → List (List ℕ × List ℕ) → Check State) (t : State) : Type 0 where
-  Used : (used : is_used s.set card.set ≡ true) → (did : does (record s { set = Some card.set }) card.pairs ≡ Ok t) → SetDid s card does t
+  Used : (used : is_used s.set card.set ≡ true) → (did : does (record s { set = Some card.set }) card.pairs ≡ Ok t) →
+      SetDid s card does t
   Skipped : (other : is_used s.set card.set ≡ false) → (same : s ≡ t) → SetDid s card does t
 
-set_did : (s : State) (card : SetAndPairs) (does : State → List (List ℕ × List ℕ) → Check State) (t : State) → cond (is_used s.set card.set) (does (record s { set = Some card.set }) card.pairs) (Ok s) ≡ Ok t → SetDid s card does t
+set_did : (s : State) (card : SetAndPairs) (does : State → List (List ℕ × List ℕ) → Check State) (t : State) →
+    cond (is_used s.set card.set) (does (record s { set = Some card.set }) card.pairs) (Ok s) ≡ Ok t →
+    SetDid s card does t
 set_did s card does t h = go (is_used s.set card.set) refl h
   where
-    go : (b : Bool) → is_used s.set card.set ≡ b → cond b (does (record s { set = Some card.set }) card.pairs) (Ok s) ≡ Ok t → SetDid s card does t
+    go : (b : Bool) → is_used s.set card.set ≡ b →
+        cond b (does (record s { set = Some card.set }) card.pairs) (Ok s) ≡ Ok t → SetDid s card does t
     go true e k = Used e k
     go false e k = Skipped e (same_ok s t k)
 
-pub rhs_did : (style : Style) (s : State) (fields : Fields) (t : State) → rhs_card style s fields ≡ Ok t → SetDid s (set_and_pairs (texts_of fields)) side_pairs t
+pub rhs_did : (style : Style) (s : State) (fields : Fields) (t : State) → rhs_card style s fields ≡ Ok t →
+    SetDid s (set_and_pairs (texts_of fields)) side_pairs t
 unfolding rhs_card rhs_by
 rhs_did style s fields t h =
     let a = step_ok (shaped style section.RightSides fields) _ t h in
     subst (λ x. SetDid s (set_and_pairs x) side_pairs t) (sym (shaped_texts style section.RightSides fields a.0 a.1)) (set_did s (set_and_pairs a.0) side_pairs t a.2)
 
 rhs_leads : (s : State) (card : SetAndPairs) (t : State) → SetDid s card side_pairs t → Leads section.RightSides s t
-rhs_leads s card t (Used used did) = side_pairs_keep (λ done u. Leads section.RightSides s u) (λ done u pair place v w p e k. put_side_leads u place v w e ∙ k) card.pairs [] _ t did refl
+rhs_leads s card t (Used used did) =
+    side_pairs_keep (λ done u. Leads section.RightSides s u) (λ done u pair place v w p e k. put_side_leads u place v w e ∙ k) card.pairs [] _ t did refl
 rhs_leads s card t (Skipped other same) = subst (Leads section.RightSides s) same refl
 
 -- a row of a range, none where it is dropped
@@ -237,7 +262,9 @@ pub record RangePairs (s : State) (pair : List ℕ × List ℕ) (place : Place) 
   pub row_is : ranged_row place ≡ Ok row
   pub number_is : number_in pair.1 ≡ Ok v
 
-pub range_pairs_keep : (K : List (List ℕ × List ℕ) → State → Type 0) → ((done : List (List ℕ × List ℕ)) (s : State) (pair : List ℕ × List ℕ) (place : Place) (row : Option ℕ) (v : ℚ) (t : State) → RangePairs s pair place row v → put_range s row v ≡ Ok t → K done s → K (done ++ pair ∷ []) t) → (pairs done : List (List ℕ × List ℕ)) (s t : State) → range_pairs s pairs ≡ Ok t → K done s → K (done ++ pairs) t
+pub range_pairs_keep : (K : List (List ℕ × List ℕ) → State → Type 0) →
+    ((done : List (List ℕ × List ℕ)) (s : State) (pair : List ℕ × List ℕ) (place : Place) (row : Option ℕ) (v : ℚ) (t : State) → RangePairs s pair place row v → put_range s row v ≡ Ok t → K done s → K (done ++ pair ∷ []) t) →
+    (pairs done : List (List ℕ × List ℕ)) (s t : State) → range_pairs s pairs ≡ Ok t → K done s → K (done ++ pairs) t
 unfolding range_pair
 range_pairs_keep K f [] done s t h k = subst (λ l. K l t) (sym (append-nil done)) (subst (K done) (same_ok s t h) k)
 range_pairs_keep K f (pair ∷ pairs) done s t h k =
@@ -255,21 +282,26 @@ put_range_leads s (Some i) v t h =
     subst (Leads section.Ranges s) (same_ok _ t a.1)
     (ap (λ (rows : List ExactRow). record s { rows = rows; paired = []; set = None }) (changed_unseen without_range (λ r. record r { range = Some v }) i s.rows (λ r. refl)))
 
-pub ranges_did : (style : Style) (s : State) (fields : Fields) (t : State) → ranges_card style s fields ≡ Ok t → SetDid s (set_and_pairs (texts_of fields)) range_pairs t
+pub ranges_did : (style : Style) (s : State) (fields : Fields) (t : State) → ranges_card style s fields ≡ Ok t →
+    SetDid s (set_and_pairs (texts_of fields)) range_pairs t
 unfolding ranges_card ranges_by
 ranges_did style s fields t h =
     let a = step_ok (shaped style section.Ranges fields) _ t h in
     subst (λ x. SetDid s (set_and_pairs x) range_pairs t) (sym (shaped_texts style section.Ranges fields a.0 a.1)) (set_did s (set_and_pairs a.0) range_pairs t a.2)
 
 ranges_leads : (s : State) (card : SetAndPairs) (t : State) → SetDid s card range_pairs t → Leads section.Ranges s t
-ranges_leads s card t (Used used did) = range_pairs_keep (λ done u. Leads section.Ranges s u) (λ done u pair place row v w p e k. put_range_leads u row v w e ∙ k) card.pairs [] _ t did refl
+ranges_leads s card t (Used used did) =
+    range_pairs_keep (λ done u. Leads section.Ranges s u) (λ done u pair place row v w p e k. put_range_leads u row v w e ∙ k) card.pairs [] _ t did refl
 ranges_leads s card t (Skipped other same) = subst (Leads section.Ranges s) same refl
 
 -- ---- BOUNDS
 
 -- what a card of BOUNDS did
 pub data BoundDid (s : State) (kind : BoundKind) (texts : BoundTexts) (t : State) : Type 0 where
-  UsedBound : (place : ℕ) → (card : BoundCard) → (used : is_used s.set texts.set ≡ true) → (place_is : position (λ c. same c.name texts.column) s.columns ≡ Some place) → (card_is : bound_card kind texts.value ≡ Ok card) → (did : with_bound (record s { set = Some texts.set }) place card ≡ t) → BoundDid s kind texts t
+  UsedBound : (place : ℕ) → (card : BoundCard) → (used : is_used s.set texts.set ≡ true) →
+      (place_is : position (λ c. same c.name texts.column) s.columns ≡ Some place) →
+      (card_is : bound_card kind texts.value ≡ Ok card) →
+      (did : with_bound (record s { set = Some texts.set }) place card ≡ t) → BoundDid s kind texts t
   SkippedBound : (other : is_used s.set texts.set ≡ false) → (same : s ≡ t) → BoundDid s kind texts t
 
 pub record BoundsDid (style : Style) (s : State) (fields : Fields) (t : State) : Type 0 where
@@ -279,24 +311,28 @@ pub record BoundsDid (style : Style) (s : State) (fields : Fields) (t : State) :
   pub texts_are : bound_texts style kind fields ≡ Ok texts
   pub did : BoundDid s kind texts t
 
-pub bounds_did : (style : Style) (s : State) (fields : Fields) (t : State) → bounds_card style s fields ≡ Ok t → BoundsDid style s fields t
+pub bounds_did : (style : Style) (s : State) (fields : Fields) (t : State) → bounds_card style s fields ≡ Ok t →
+    BoundsDid style s fields t
 unfolding bounds_card use_bound
 bounds_did style s fields t h =
     let a = step_ok (bound_kind_of (text_at 1 fields)) _ t h in
     let b = step_ok (bound_texts style a.0 fields) _ t a.2 in
     record { kind = a.0; texts = b.0; kind_is = a.1; texts_are = b.1; did = go a.0 b.0 (is_used s.set b.0.set) refl b.2 }
   where
-    go : (kind : BoundKind) (texts : BoundTexts) (b : Bool) → is_used s.set texts.set ≡ b → cond b (use_bound s kind texts) (Ok s) ≡ Ok t → BoundDid s kind texts t
+    go : (kind : BoundKind) (texts : BoundTexts) (b : Bool) → is_used s.set texts.set ≡ b →
+        cond b (use_bound s kind texts) (Ok s) ≡ Ok t → BoundDid s kind texts t
     go kind texts true e k =
         let c = need_ok (position (λ c. same c.name texts.column) s.columns) code.UnknownColumn _ t k in
         let d = step_ok (bound_card kind texts.value) _ t c.2 in
         UsedBound c.0 d.0 e c.1 d.1 (same_ok _ t d.2)
     go kind texts false e k = SkippedBound e (same_ok s t k)
 
-bounded_unseen : (lowered : Bool) (card : BoundCard) (c : ExactColumn) → without_bounds (bounded lowered card c) ≡ without_bounds c
+bounded_unseen : (lowered : Bool) (card : BoundCard) (c : ExactColumn) →
+    without_bounds (bounded lowered card c) ≡ without_bounds c
 bounded_unseen lowered (SetsUpper u) c = go (is_negative u && not lowered)
   where
-    go : (b : Bool) → without_bounds (cond b (record c { lower = None; upper = u }) (record c { upper = u })) ≡ without_bounds c
+    go : (b : Bool) →
+        without_bounds (cond b (record c { lower = None; upper = u }) (record c { upper = u })) ≡ without_bounds c
     go true = refl
     go false = refl
 bounded_unseen lowered (SetsLower l) c = refl
@@ -311,17 +347,21 @@ with_bound_leads s place card =
     ap (λ (columns : List ExactColumn). record s { columns = columns; lowered = []; set = None })
     (changed_unseen without_bounds (bounded (get_or s.lowered place false) card) place s.columns (bounded_unseen (get_or s.lowered place false) card))
 
-bound_leads : (s : State) (kind : BoundKind) (texts : BoundTexts) (t : State) → BoundDid s kind texts t → Leads section.Bounds s t
-bound_leads s kind texts t (UsedBound place card used place_is card_is did) = subst (Leads section.Bounds s) did (with_bound_leads (record s { set = Some texts.set }) place card)
+bound_leads : (s : State) (kind : BoundKind) (texts : BoundTexts) (t : State) → BoundDid s kind texts t →
+    Leads section.Bounds s t
+bound_leads s kind texts t (UsedBound place card used place_is card_is did) =
+    subst (Leads section.Bounds s) did (with_bound_leads (record s { set = Some texts.set }) place card)
 bound_leads s kind texts t (SkippedBound other same) = subst (Leads section.Bounds s) same refl
 
 -- ---- a data card of any section
 
-pub card_leads : (style : Style) (part : Section) (s : State) (fields : Fields) (t : State) → data_card style (Some part) s fields ≡ Ok t → Leads part s t
+pub card_leads : (style : Style) (part : Section) (s : State) (fields : Fields) (t : State) →
+    data_card style (Some part) s fields ≡ Ok t → Leads part s t
 card_leads style section.Sense s fields t h = sense_leads style s fields t h
 card_leads style section.Rows s fields t h = rows_leads style s fields t h
 card_leads style section.Columns s fields t h = columns_leads style s fields t h
 card_leads style section.RightSides s fields t h = rhs_leads s _ t (rhs_did style s fields t h)
 card_leads style section.Ranges s fields t h = ranges_leads s _ t (ranges_did style s fields t h)
-card_leads style section.Bounds s fields t h = let d = bounds_did style s fields t h in bound_leads s d.kind d.texts t d.did
+card_leads style section.Bounds s fields t h =
+    let d = bounds_did style s fields t h in bound_leads s d.kind d.texts t d.did
 card_leads style part s fields t h = absurd (cc)

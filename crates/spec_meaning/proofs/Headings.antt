@@ -20,11 +20,13 @@ abbrev AllSay : List (List ℕ × Section) → Type 0
 AllSay [] = Unit {0}
 AllSay (x ∷ xs) = (x.0 ≡ section_word x.1) × AllSay xs
 
-looked_up : (word : List ℕ) (part : Section) (table : List (List ℕ × Section)) → AllSay table → look_up word table ≡ Some part → word ≡ section_word part
+looked_up : (word : List ℕ) (part : Section) (table : List (List ℕ × Section)) → AllSay table →
+    look_up word table ≡ Some part → word ≡ section_word part
 looked_up word part [] a h = absurd (cc)
 looked_up word part (x ∷ xs) a h = go (same word x.0) refl (looked_up word part xs a.1) h
   where
-    go : (b : Bool) → same word x.0 ≡ b → (look_up word xs ≡ Some part → word ≡ section_word part) → cond b (Some x.1) (look_up word xs) ≡ Some part → word ≡ section_word part
+    go : (b : Bool) → same word x.0 ≡ b → (look_up word xs ≡ Some part → word ≡ section_word part) →
+        cond b (Some x.1) (look_up word xs) ≡ Some part → word ≡ section_word part
     go true e f k = same_true word x.0 e ∙ a.0 ∙ ap section_word (same_some x.1 part k)
     go false e f k = f k
 
@@ -68,7 +70,9 @@ pub record IsHeading (l : Line (List ℕ)) (part : Section) : Type 0 where
   pub heading : is_heading l ≡ true
   pub begins_one : (q : Section) → begins q l ≡ is_section (Some part) q
 
-pub heading_is : (l : Line (List ℕ)) (part : Section) → is_skipped (bytes_of l) ≡ false → begins_with_blank (bytes_of l) ≡ false → section_of (text_at 1 (word_fields (bytes_of l))) ≡ Some part → IsHeading l part
+pub heading_is : (l : Line (List ℕ)) (part : Section) → is_skipped (bytes_of l) ≡ false →
+    begins_with_blank (bytes_of l) ≡ false → section_of (text_at 1 (word_fields (bytes_of l))) ≡ Some part →
+    IsHeading l part
 heading_is l part e f h =
     let g : is_heading l ≡ true = λ i. not (e i) && not (f i) in
     record {
@@ -80,44 +84,67 @@ heading_is l part e f h =
     }
 
 -- not ENDATA
-goes_on : (l : Line (List ℕ)) (part : Section) (lines : Lines) → IsHeading l part → is_section (Some part) section.End ≡ false → before (begins section.End) (l ∷ lines) ≡ l ∷ before (begins section.End) lines
+goes_on : (l : Line (List ℕ)) (part : Section) (lines : Lines) → IsHeading l part →
+    is_section (Some part) section.End ≡ false →
+    before (begins section.End) (l ∷ lines) ≡ l ∷ before (begins section.End) lines
 goes_on l part lines h e = ap (λ b. cond b [] (l ∷ before (begins section.End) lines)) (h.begins_one section.End ∙ e)
 
 never : true ≡ false → ⊥
 never k = cc
 
-cards_heading : (style : Style) (at seen now : Bool) (part q : Section) (l : Line (List ℕ)) (lines : Lines) → IsHeading l part → is_section (Some part) section.End ≡ false → is_section (Some part) q ≡ now → (at ≡ true → seen ≡ true) → (now ≡ true → seen ≡ false) → cards_of style q (lines_by at seen q (before (begins section.End) (l ∷ lines))) ≡ cards_of style q (lines_by now (now || seen) q (before (begins section.End) lines))
+cards_heading : (style : Style) (at seen now : Bool) (part q : Section) (l : Line (List ℕ)) (lines : Lines) →
+    IsHeading l part → is_section (Some part) section.End ≡ false → is_section (Some part) q ≡ now →
+    (at ≡ true → seen ≡ true) → (now ≡ true → seen ≡ false) →
+    cards_of style q (lines_by at seen q (before (begins section.End) (l ∷ lines))) ≡ cards_of style q (lines_by now (now || seen) q (before (begins section.End) lines))
 cards_heading style at seen now part q l lines h e n told new =
     ap (λ ls. cards_of style q (lines_by at seen q ls)) (goes_on l part lines h e) ∙ go at seen now n told new
   where
-    go : (at seen now : Bool) → is_section (Some part) q ≡ now → (at ≡ true → seen ≡ true) → (now ≡ true → seen ≡ false) → cards_of style q (lines_by at seen q (l ∷ before (begins section.End) lines)) ≡ cards_of style q (lines_by now (now || seen) q (before (begins section.End) lines))
+    go : (at seen now : Bool) → is_section (Some part) q ≡ now → (at ≡ true → seen ≡ true) →
+        (now ≡ true → seen ≡ false) →
+        cards_of style q (lines_by at seen q (l ∷ before (begins section.End) lines)) ≡ cards_of style q (lines_by now (now || seen) q (before (begins section.End) lines))
     go true true true n told new = absurd (never (new refl))
-    go true true false n told new = ap (λ b. cards_of style q (cond b [] (l ∷ before is_heading (before (begins section.End) lines)))) h.heading
+    go true true false n told new =
+        ap (λ b. cards_of style q (cond b [] (l ∷ before is_heading (before (begins section.End) lines)))) h.heading
     go true false now n told new = absurd (never (sym (told refl)))
     go false true true n told new = absurd (never (new refl))
     go false true false n told new = refl
-    go false false true n told new = ap (λ b. cards_of style q (before is_heading (cond b (before (begins section.End) lines) (behind (begins q) (before (begins section.End) lines))))) (h.begins_one q ∙ n)
-    go false false false n told new = ap (λ b. cards_of style q (before is_heading (cond b (before (begins section.End) lines) (behind (begins q) (before (begins section.End) lines))))) (h.begins_one q ∙ n)
+    go false false true n told new =
+        ap (λ b. cards_of style q (before is_heading (cond b (before (begins section.End) lines) (behind (begins q) (before (begins section.End) lines))))) (h.begins_one q ∙ n)
+    go false false false n told new =
+        ap (λ b. cards_of style q (before is_heading (cond b (before (begins section.End) lines) (behind (begins q) (before (begins section.End) lines))))) (h.begins_one q ∙ n)
 
-pub cards_begin : (style : Style) (here : Option Section) (seen : Bool) (part q : Section) (l : Line (List ℕ)) (lines : Lines) → IsHeading l part → is_section (Some part) section.End ≡ false → (is_section here q ≡ true → seen ≡ true) → (is_section (Some part) q ≡ true → seen ≡ false) → cards_to_come style here seen q (l ∷ lines) ≡ cards_to_come style (Some part) (is_section (Some part) q || seen) q lines
+pub cards_begin : (style : Style) (here : Option Section) (seen : Bool) (part q : Section) (l : Line (List ℕ)) (lines : Lines) →
+    IsHeading l part → is_section (Some part) section.End ≡ false → (is_section here q ≡ true → seen ≡ true) →
+    (is_section (Some part) q ≡ true → seen ≡ false) →
+    cards_to_come style here seen q (l ∷ lines) ≡ cards_to_come style (Some part) (is_section (Some part) q || seen) q lines
 unfolding cards_to_come
-cards_begin style here seen part q l lines h e told new = cards_heading style (is_section here q) seen (is_section (Some part) q) part q l lines h e refl told new
+cards_begin style here seen part q l lines h e told new =
+    cards_heading style (is_section here q) seen (is_section (Some part) q) part q l lines h e refl told new
 
-title_heading : (seen now : Bool) (part q : Section) (l : Line (List ℕ)) (lines : Lines) (o : Option Fields) → IsHeading l part → is_section (Some part) section.End ≡ false → is_section (Some part) q ≡ now → (now ≡ true → seen ≡ false) → or_else o (title_by seen q (before (begins section.End) (l ∷ lines))) ≡ or_else (titled now o (word_fields (bytes_of l))) (title_by (now || seen) q (before (begins section.End) lines))
+title_heading : (seen now : Bool) (part q : Section) (l : Line (List ℕ)) (lines : Lines) (o : Option Fields) →
+    IsHeading l part → is_section (Some part) section.End ≡ false → is_section (Some part) q ≡ now →
+    (now ≡ true → seen ≡ false) →
+    or_else o (title_by seen q (before (begins section.End) (l ∷ lines))) ≡ or_else (titled now o (word_fields (bytes_of l))) (title_by (now || seen) q (before (begins section.End) lines))
 title_heading seen now part q l lines o h e n new =
     ap (λ ls. or_else o (title_by seen q ls)) (goes_on l part lines h e) ∙ go seen now n new
   where
-    known : (o : Option Fields) → or_else o (Some (word_fields (bytes_of l))) ≡ or_else (or_else o (Some (word_fields (bytes_of l)))) None
+    known : (o : Option Fields) →
+        or_else o (Some (word_fields (bytes_of l))) ≡ or_else (or_else o (Some (word_fields (bytes_of l)))) None
     known None = refl
     known (Some fields) = refl
 
-    go : (seen now : Bool) → is_section (Some part) q ≡ now → (now ≡ true → seen ≡ false) → or_else o (title_by seen q (l ∷ before (begins section.End) lines)) ≡ or_else (titled now o (word_fields (bytes_of l))) (title_by (now || seen) q (before (begins section.End) lines))
+    go : (seen now : Bool) → is_section (Some part) q ≡ now → (now ≡ true → seen ≡ false) →
+        or_else o (title_by seen q (l ∷ before (begins section.End) lines)) ≡ or_else (titled now o (word_fields (bytes_of l))) (title_by (now || seen) q (before (begins section.End) lines))
     go true true n new = absurd (never (new refl))
     go true false n new = refl
-    go false true n new = ap (λ b. or_else o (option_map (λ l. word_fields (bytes_of l)) (cond b (Some l) (find (begins q) (before (begins section.End) lines))))) (h.begins_one q ∙ n) ∙ known o
-    go false false n new = ap (λ b. or_else o (option_map (λ l. word_fields (bytes_of l)) (cond b (Some l) (find (begins q) (before (begins section.End) lines))))) (h.begins_one q ∙ n)
+    go false true n new =
+        ap (λ b. or_else o (option_map (λ l. word_fields (bytes_of l)) (cond b (Some l) (find (begins q) (before (begins section.End) lines))))) (h.begins_one q ∙ n) ∙ known o
+    go false false n new =
+        ap (λ b. or_else o (option_map (λ l. word_fields (bytes_of l)) (cond b (Some l) (find (begins q) (before (begins section.End) lines))))) (h.begins_one q ∙ n)
 
-pub title_begin : (seen : Bool) (part q : Section) (l : Line (List ℕ)) (lines : Lines) (o : Option Fields) → IsHeading l part → is_section (Some part) section.End ≡ false → (is_section (Some part) q ≡ true → seen ≡ false) → or_else o (title_to_come seen q (l ∷ lines)) ≡ or_else (titled (is_section (Some part) q) o (word_fields (bytes_of l))) (title_to_come (is_section (Some part) q || seen) q lines)
+pub title_begin : (seen : Bool) (part q : Section) (l : Line (List ℕ)) (lines : Lines) (o : Option Fields) →
+    IsHeading l part → is_section (Some part) section.End ≡ false → (is_section (Some part) q ≡ true → seen ≡ false) →
+    or_else o (title_to_come seen q (l ∷ lines)) ≡ or_else (titled (is_section (Some part) q) o (word_fields (bytes_of l))) (title_to_come (is_section (Some part) q || seen) q lines)
 unfolding title_to_come
 title_begin seen part q l lines o h e new = title_heading seen (is_section (Some part) q) part q l lines o h e refl new
 
@@ -126,7 +153,8 @@ title_begin seen part q l lines o h e new = title_heading seen (is_section (Some
 ends : (l : Line (List ℕ)) (lines : Lines) → IsHeading l section.End → before (begins section.End) (l ∷ lines) ≡ []
 ends l lines h = ap (λ b. cond b [] (l ∷ before (begins section.End) lines)) (h.begins_one section.End)
 
-pub cards_end : (style : Style) (here : Option Section) (seen : Bool) (q : Section) (l : Line (List ℕ)) (lines : Lines) (cards : List Fields) → IsHeading l section.End → cards ++ cards_to_come style here seen q (l ∷ lines) ≡ cards
+pub cards_end : (style : Style) (here : Option Section) (seen : Bool) (q : Section) (l : Line (List ℕ)) (lines : Lines) (cards : List Fields) →
+    IsHeading l section.End → cards ++ cards_to_come style here seen q (l ∷ lines) ≡ cards
 unfolding cards_to_come
 cards_end style here seen q l lines cards h =
     ap (λ ls. cards ++ cards_of style q (lines_by (is_section here q) seen q ls)) (ends l lines h)
@@ -138,7 +166,8 @@ cards_end style here seen q l lines cards h =
     none false true = refl
     none false false = refl
 
-pub title_end : (seen : Bool) (q : Section) (l : Line (List ℕ)) (lines : Lines) (o : Option Fields) → IsHeading l section.End → or_else o (title_to_come seen q (l ∷ lines)) ≡ o
+pub title_end : (seen : Bool) (q : Section) (l : Line (List ℕ)) (lines : Lines) (o : Option Fields) →
+    IsHeading l section.End → or_else o (title_to_come seen q (l ∷ lines)) ≡ o
 unfolding title_to_come
 title_end seen q l lines o h = ap (λ ls. or_else o (title_by seen q ls)) (ends l lines h) ∙ none seen o
   where

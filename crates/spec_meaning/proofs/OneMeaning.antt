@@ -95,7 +95,8 @@ abbrev Rise : ℕ → ℕ → List (ℕ × ℚ) → Type 0
 Rise n low [] = Unit {0}
 Rise n low (e ∷ es) = (low ≤ e.0) × (e.0 < n) × (e.1 ≢ 0ℚ) × Rise n (suc e.0) es
 
-rise_from : (n low : ℕ) (es : List (ℕ × ℚ)) → All (λ e. low ≤ e.0) es → All (λ e. e.0 < n) es → AllPairs (λ d e. d.0 < e.0) es → All (λ e. e.1 ≢ 0ℚ) es → Rise n low es
+rise_from : (n low : ℕ) (es : List (ℕ × ℚ)) → All (λ e. low ≤ e.0) es → All (λ e. e.0 < n) es →
+    AllPairs (λ d e. d.0 < e.0) es → All (λ e. e.1 ≢ 0ℚ) es → Rise n low es
 rise_from n low [] above inside ascending not_zero = tt
 rise_from n low (e ∷ es) above inside ascending not_zero = (
   above 0 e (omega arith),
@@ -123,7 +124,8 @@ first_here e es = ap (λ b. cond b e.1 (entry_of es e.0)) (eq-eqb e.0 e.0 refl)
 first_there : (e : ℕ × ℚ) (es : List (ℕ × ℚ)) (i : ℕ) → eqb e.0 i ≡ false → entry_of (e ∷ es) i ≡ entry_of es i
 first_there e es i h = ap (λ b. cond b e.1 (entry_of es i)) h
 
-one_list : (n low : ℕ) (es ds : List (ℕ × ℚ)) → Rise n low es → Rise n low ds → ((i : ℕ) → i < n → entry_of es i ≡ entry_of ds i) → es ≡ ds
+one_list : (n low : ℕ) (es ds : List (ℕ × ℚ)) → Rise n low es → Rise n low ds →
+    ((i : ℕ) → i < n → entry_of es i ≡ entry_of ds i) → es ≡ ds
 one_list n low [] [] h k same = refl
 one_list n low [] (d ∷ ds) h k same = absurd (k.2 (sym (first_here d ds) ∙ sym (same d.0 k.1)))
 one_list n low (e ∷ es) [] h k same = absurd (h.2 (sym (first_here e es) ∙ same e.0 h.1))
@@ -131,19 +133,24 @@ one_list n low (e ∷ es) (d ∷ ds) h k same = by (ltb e.0 d.0) refl (ltb d.0 e
   where
     -- where one begins below the other, that has 0 there
     lower_left : e.0 < d.0 → ⊥
-    lower_left l = h.2 (sym (first_here e es) ∙ same e.0 h.1 ∙ none_below n d.0 e.0 (d ∷ ds) l (le_refl d.0, k.1, k.2, k.3))
+    lower_left l =
+        h.2 (sym (first_here e es) ∙ same e.0 h.1 ∙ none_below n d.0 e.0 (d ∷ ds) l (le_refl d.0, k.1, k.2, k.3))
 
     lower_right : d.0 < e.0 → ⊥
-    lower_right l = k.2 (sym (first_here d ds) ∙ sym (same d.0 k.1) ∙ none_below n e.0 d.0 (e ∷ es) l (le_refl e.0, h.1, h.2, h.3))
+    lower_right l =
+        k.2 (sym (first_here d ds) ∙ sym (same d.0 k.1) ∙ none_below n e.0 d.0 (e ∷ es) l (le_refl e.0, h.1, h.2, h.3))
 
-    level : e.0 ≡ d.0 → ((m : ℕ) → Rise n m es → Rise n m ds → ((i : ℕ) → i < n → entry_of es i ≡ entry_of ds i) → es ≡ ds) → e ∷ es ≡ d ∷ ds
+    level : e.0 ≡ d.0 →
+        ((m : ℕ) → Rise n m es → Rise n m ds → ((i : ℕ) → i < n → entry_of es i ≡ entry_of ds i) → es ≡ ds) →
+        e ∷ es ≡ d ∷ ds
     level p f =
         let value : e.1 ≡ d.1 = sym (first_here e es) ∙ same e.0 h.1 ∙ ap (entry_of (d ∷ ds)) p ∙ first_here d ds in
         let behind : Rise n (suc e.0) ds = subst (λ x. Rise n (suc x) ds) (sym p) k.3 in
         let tails : es ≡ ds = f (suc e.0) h.3 behind (λ i l. by_place i l (eqb e.0 i) refl p behind) in
         λ i. (p i, value i) ∷ tails i
       where
-        by_place : (i : ℕ) → i < n → (b : Bool) → eqb e.0 i ≡ b → e.0 ≡ d.0 → Rise n (suc e.0) ds → entry_of es i ≡ entry_of ds i
+        by_place : (i : ℕ) → i < n → (b : Bool) → eqb e.0 i ≡ b → e.0 ≡ d.0 → Rise n (suc e.0) ds →
+            entry_of es i ≡ entry_of ds i
         by_place i l true f p behind =
             let here : e.0 ≡ i = eqb→eq e.0 i (subst T (sym f) tt) in
             let less : i < suc e.0 = omega arith in
@@ -151,7 +158,9 @@ one_list n low (e ∷ es) (d ∷ ds) h k same = by (ltb e.0 d.0) refl (ltb d.0 e
         by_place i l false f p behind =
             sym (first_there e es i f) ∙ same i l ∙ first_there d ds i (ap (λ x. eqb x i) (sym p) ∙ f)
 
-    by : (a : Bool) → ltb e.0 d.0 ≡ a → (b : Bool) → ltb d.0 e.0 ≡ b → ((m : ℕ) → Rise n m es → Rise n m ds → ((i : ℕ) → i < n → entry_of es i ≡ entry_of ds i) → es ≡ ds) → e ∷ es ≡ d ∷ ds
+    by : (a : Bool) → ltb e.0 d.0 ≡ a → (b : Bool) → ltb d.0 e.0 ≡ b →
+        ((m : ℕ) → Rise n m es → Rise n m ds → ((i : ℕ) → i < n → entry_of es i ≡ entry_of ds i) → es ≡ ds) →
+        e ∷ es ≡ d ∷ ds
     by true x b y f = absurd (lower_left (ltb-true e.0 d.0 x))
     by false x true y f = absurd (lower_right (ltb-true d.0 e.0 y))
     by false x false y f =
@@ -159,7 +168,8 @@ one_list n low (e ∷ es) (d ∷ ds) h k same = by (ltb e.0 d.0) refl (ltb d.0 e
         let ge : e.0 ≤ d.0 = ltb-false d.0 e.0 y in
         level (omega arith) f
 
-one_entries : (n : ℕ) (es ds : List (ℕ × ℚ)) → AreEntries n es → AreEntries n ds → ((i : ℕ) → i < n → entry_of es i ≡ entry_of ds i) → es ≡ ds
+one_entries : (n : ℕ) (es ds : List (ℕ × ℚ)) → AreEntries n es → AreEntries n ds →
+    ((i : ℕ) → i < n → entry_of es i ≡ entry_of ds i) → es ≡ ds
 one_entries n es ds h k same = one_list n 0 es ds (entries_rise n es h) (entries_rise n ds k) same
 
 -- ---- rows and columns
@@ -172,7 +182,8 @@ module _ (style : Style) (lines : Lines) (m o : Model) (h : Means style lines m)
   labels_same = h.rows ∙ sym k.rows
 
   heights : height m ≡ height o
-  heights = sym (length-map m.rows (λ (r : ExactRow). (let x : Kind × Name = (r.kind, r.name) in x))) ∙ ap length labels_same ∙ length-map o.rows (λ (r : ExactRow). (let x : Kind × Name = (r.kind, r.name) in x))
+  heights =
+      sym (length-map m.rows (λ (r : ExactRow). (let x : Kind × Name = (r.kind, r.name) in x))) ∙ ap length labels_same ∙ length-map o.rows (λ (r : ExactRow). (let x : Kind × Name = (r.kind, r.name) in x))
 
   label_at : (i : ℕ) → (let x : Kind × Name = ((row m i).kind, (row m i).name) in x) ≡ ((row o i).kind, (row o i).name)
   label_at i =
@@ -195,7 +206,8 @@ module _ (style : Style) (lines : Lines) (m o : Model) (h : Means style lines m)
   names_same = h.columns ∙ sym k.columns
 
   widths : width m ≡ width o
-  widths = sym (length-map m.columns (λ (c : ExactColumn). c.name)) ∙ ap length names_same ∙ length-map o.columns (λ (c : ExactColumn). c.name)
+  widths =
+      sym (length-map m.columns (λ (c : ExactColumn). c.name)) ∙ ap length names_same ∙ length-map o.columns (λ (c : ExactColumn). c.name)
 
   name_at : (j : ℕ) → (column m j).name ≡ (column o j).name
   name_at j =

@@ -42,14 +42,15 @@ pub record IsOrdered (here : Option Section) (seen : Seen) : Type 0 where
 pub start_ordered : IsOrdered start.part start.seen
 start_ordered =
     record {
-      told = record { senses = λ h. h; rows = λ h. h; columns = λ h. h; right_sides = λ h. h; ranges = λ h. h; bounds = λ h. h };
+      told =
+          record { senses = λ h. h; rows = λ h. h; columns = λ h. h; right_sides = λ h. h; ranges = λ h. h; bounds = λ h. h };
       columns_later = λ h. refl;
       ends_later = λ h. record { right_sides = refl; ranges = refl; bounds = refl };
       at_rows = λ h. refl;
       at_columns = λ h. record { right_sides = refl; ranges = refl; bounds = refl };
     }
 
--- the sections that have begun behind one more
+-- the sections that have begun after one more
 abbrev pub with_one : Seen → Section → Seen
 with_one seen part =
     record {
@@ -91,13 +92,19 @@ begun_told part seen =
       bounds = told_now _ seen.bounds;
     }
 
-ends_as : (seen later : Seen) → HasNoEnds seen → later.right_sides ≡ seen.right_sides → later.ranges ≡ seen.ranges → later.bounds ≡ seen.bounds → HasNoEnds later
+ends_as : (seen later : Seen) → HasNoEnds seen → later.right_sides ≡ seen.right_sides → later.ranges ≡ seen.ranges →
+    later.bounds ≡ seen.bounds → HasNoEnds later
 ends_as seen later h a b c = record { right_sides = a ∙ h.right_sides; ranges = b ∙ h.ranges; bounds = c ∙ h.bounds }
 
-pub begun_ordered : (here : Option Section) (part : Section) (seen : Seen) → may_follow seen part ≡ true → has_begun seen part ≡ false → is_section (Some part) section.End ≡ false → IsOrdered here seen → IsOrdered (Some part) (with_section seen part)
-begun_ordered here section.Name seen may new e o = record { told = begun_told section.Name seen; columns_later = o.columns_later; ends_later = λ h. ends_as seen _ (o.ends_later h) refl refl refl; at_rows = λ h. absurd (cc); at_columns = λ h. absurd (cc) }
-begun_ordered here section.Sense seen may new e o = record { told = begun_told section.Sense seen; columns_later = o.columns_later; ends_later = λ h. ends_as seen _ (o.ends_later h) refl refl refl; at_rows = λ h. absurd (cc); at_columns = λ h. absurd (cc) }
-begun_ordered here section.Rows seen may new e o = record { told = begun_told section.Rows seen; columns_later = λ h. absurd (cc); ends_later = λ h. ends_as seen _ (o.ends_later h) refl refl refl; at_rows = λ h. o.columns_later new; at_columns = λ h. absurd (cc) }
+pub begun_ordered : (here : Option Section) (part : Section) (seen : Seen) → may_follow seen part ≡ true →
+    has_begun seen part ≡ false → is_section (Some part) section.End ≡ false → IsOrdered here seen →
+    IsOrdered (Some part) (with_section seen part)
+begun_ordered here section.Name seen may new e o =
+    record { told = begun_told section.Name seen; columns_later = o.columns_later; ends_later = λ h. ends_as seen _ (o.ends_later h) refl refl refl; at_rows = λ h. absurd (cc); at_columns = λ h. absurd (cc) }
+begun_ordered here section.Sense seen may new e o =
+    record { told = begun_told section.Sense seen; columns_later = o.columns_later; ends_later = λ h. ends_as seen _ (o.ends_later h) refl refl refl; at_rows = λ h. absurd (cc); at_columns = λ h. absurd (cc) }
+begun_ordered here section.Rows seen may new e o =
+    record { told = begun_told section.Rows seen; columns_later = λ h. absurd (cc); ends_later = λ h. ends_as seen _ (o.ends_later h) refl refl refl; at_rows = λ h. o.columns_later new; at_columns = λ h. absurd (cc) }
 begun_ordered here section.Columns seen may new e o =
     record { told = begun_told section.Columns seen; columns_later = λ h. not_both seen.rows may h; ends_later = λ h. absurd (cc); at_rows = λ h. absurd (cc); at_columns = λ h. ends_as seen _ (o.ends_later new) refl refl refl }
 begun_ordered here section.RightSides seen may new e o =
@@ -119,41 +126,56 @@ pub record DataDid (style : Style) (s : State) (bytes : List ℕ) (p : Progress)
 
 pub data LineDid (style : Style) (s : State) (bytes : List ℕ) (p : Progress) : Type 0 where
   Skipped : (skipped : is_skipped bytes ≡ true) → (same : More s ≡ p) → LineDid style s bytes p
-  Data : (kept : is_skipped bytes ≡ false) → (blank : begins_with_blank bytes ≡ true) → (did : DataDid style s bytes p) → LineDid style s bytes p
-  Heading : (kept : is_skipped bytes ≡ false) → (filled : begins_with_blank bytes ≡ false) → (did : section_card s (word_fields bytes) ≡ Ok p) → LineDid style s bytes p
+  Data : (kept : is_skipped bytes ≡ false) → (blank : begins_with_blank bytes ≡ true) →
+      (did : DataDid style s bytes p) → LineDid style s bytes p
+  Heading : (kept : is_skipped bytes ≡ false) → (filled : begins_with_blank bytes ≡ false) →
+      (did : section_card s (word_fields bytes) ≡ Ok p) → LineDid style s bytes p
 
-line_by : (style : Style) (s : State) (bytes : List ℕ) (p : Progress) (given : CardReading) → on_reading style s (cond (is_skipped bytes) (Is card.Skip) (cond (begins_with_blank bytes) given (Is (card.Section (word_fields bytes))))) ≡ Ok p → (on_reading style s given ≡ Ok p → DataDid style s bytes p) → LineDid style s bytes p
+line_by : (style : Style) (s : State) (bytes : List ℕ) (p : Progress) (given : CardReading) →
+    on_reading style s (cond (is_skipped bytes) (Is card.Skip) (cond (begins_with_blank bytes) given (Is (card.Section (word_fields bytes))))) ≡ Ok p →
+    (on_reading style s given ≡ Ok p → DataDid style s bytes p) → LineDid style s bytes p
 line_by style s bytes p given h f = go (is_skipped bytes) (begins_with_blank bytes) refl refl h
   where
-    go : (skipped blank : Bool) → is_skipped bytes ≡ skipped → begins_with_blank bytes ≡ blank → on_reading style s (cond skipped (Is card.Skip) (cond blank given (Is (card.Section (word_fields bytes))))) ≡ Ok p → LineDid style s bytes p
+    go : (skipped blank : Bool) → is_skipped bytes ≡ skipped → begins_with_blank bytes ≡ blank →
+        on_reading style s (cond skipped (Is card.Skip) (cond blank given (Is (card.Section (word_fields bytes))))) ≡ Ok p →
+        LineDid style s bytes p
     go true blank e b k = Skipped e (same_ok (More s) p k)
     go false true e b k = Data e b (f k)
     go false false e b k = Heading e b k
 
-data_did : (style : Style) (s : State) (bytes : List ℕ) (p : Progress) (part : Section) → s.part ≡ Some part → more (data_card style s.part s (fields_in style part bytes)) ≡ Ok p → DataDid style s bytes p
+data_did : (style : Style) (s : State) (bytes : List ℕ) (p : Progress) (part : Section) → s.part ≡ Some part →
+    more (data_card style s.part s (fields_in style part bytes)) ≡ Ok p → DataDid style s bytes p
 data_did style s bytes p part e h =
     let a = step_ok (data_card style s.part s (fields_in style part bytes)) (λ t. Ok (More t)) p h in
     record { part = part; next = a.0; here = e; did = subst (λ here. data_card style here s (fields_in style part bytes) ≡ Ok a.0) e a.1; goes = same_ok (More a.0) p a.2 }
 
-no_data : (style : Style) (s : State) (bytes : List ℕ) (p : Progress) (fields : Fields) → s.part ≡ None → more (data_card style s.part s fields) ≡ Ok p → DataDid style s bytes p
+no_data : (style : Style) (s : State) (bytes : List ℕ) (p : Progress) (fields : Fields) → s.part ≡ None →
+    more (data_card style s.part s fields) ≡ Ok p → DataDid style s bytes p
 no_data style s bytes p fields e h =
     let a = step_ok (data_card style s.part s fields) (λ t. Ok (More t)) p h in
     let k : data_card style None s fields ≡ Ok a.0 = subst (λ here. data_card style here s fields ≡ Ok a.0) e a.1 in
     absurd (cc)
 
-placed_did : (style : Style) (s : State) (bytes : List ℕ) (p : Progress) (o : Option ℕ) (fields : Fields) → (more (data_card style s.part s fields) ≡ Ok p → DataDid style s bytes p) → on_reading style s (placed o fields) ≡ Ok p → DataDid style s bytes p
+placed_did : (style : Style) (s : State) (bytes : List ℕ) (p : Progress) (o : Option ℕ) (fields : Fields) →
+    (more (data_card style s.part s fields) ≡ Ok p → DataDid style s bytes p) →
+    on_reading style s (placed o fields) ≡ Ok p → DataDid style s bytes p
 placed_did style s bytes p None fields f h = f h
 placed_did style s bytes p (Some column) fields f h = absurd (cc)
 
-line_did : (style : Style) (here : Option Section) (s : State) (bytes : List ℕ) (p : Progress) → s.part ≡ here → on_reading style s (reading_of style here bytes) ≡ Ok p → LineDid style s bytes p
+line_did : (style : Style) (here : Option Section) (s : State) (bytes : List ℕ) (p : Progress) → s.part ≡ here →
+    on_reading style s (reading_of style here bytes) ≡ Ok p → LineDid style s bytes p
 unfolding free_fields fixed_fields
 line_did Free None s bytes p e h = line_by Free s bytes p _ h (no_data Free s bytes p (word_fields bytes) e)
 line_did Free (Some part) s bytes p e h = line_by Free s bytes p _ h (data_did Free s bytes p part e)
-line_did Fixed None s bytes p e h = line_by Fixed s bytes p _ h (placed_did Fixed s bytes p (misplaced_from 1 bytes) (column_fields bytes) (no_data Fixed s bytes p (column_fields bytes) e))
-line_did Fixed (Some section.Sense) s bytes p e h = line_by Fixed s bytes p _ h (data_did Fixed s bytes p section.Sense e)
-line_did Fixed (Some part) s bytes p e h = line_by Fixed s bytes p _ h (placed_did Fixed s bytes p (misplaced_from 1 bytes) (column_fields bytes) (data_did Fixed s bytes p part e))
+line_did Fixed None s bytes p e h =
+    line_by Fixed s bytes p _ h (placed_did Fixed s bytes p (misplaced_from 1 bytes) (column_fields bytes) (no_data Fixed s bytes p (column_fields bytes) e))
+line_did Fixed (Some section.Sense) s bytes p e h =
+    line_by Fixed s bytes p _ h (data_did Fixed s bytes p section.Sense e)
+line_did Fixed (Some part) s bytes p e h =
+    line_by Fixed s bytes p _ h (placed_did Fixed s bytes p (misplaced_from 1 bytes) (column_fields bytes) (data_did Fixed s bytes p part e))
 
-pub step_did : (style : Style) (s : State) (l : Line (List ℕ)) (p : Progress) → step style s l ≡ Ok p → LineDid style s (bytes_of l) p
+pub step_did : (style : Style) (s : State) (l : Line (List ℕ)) (p : Progress) → step style s l ≡ Ok p →
+    LineDid style s (bytes_of l) p
 unfolding step
 step_did style s (line.Text bytes) p h = line_did style s.part s bytes p refl h
 step_did style s (line.Long len) p h = absurd (cc)

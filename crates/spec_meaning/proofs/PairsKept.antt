@@ -32,11 +32,13 @@ number_is text v h = number_read (number_of text) v h
 
 -- ---- texts beside a name
 
-one_or_none : (b : Bool) (pair : List ℕ × List ℕ) → map (λ (p : List ℕ × List ℕ). p.1) (cond b (pair ∷ []) []) ≡ cond b (pair.1 ∷ []) []
+one_or_none : (b : Bool) (pair : List ℕ × List ℕ) →
+    map (λ (p : List ℕ × List ℕ). p.1) (cond b (pair ∷ []) []) ≡ cond b (pair.1 ∷ []) []
 one_or_none true pair = refl
 one_or_none false pair = refl
 
-pub texts_push : (name : Name) (pairs : Pairs) (pair : List ℕ × List ℕ) → texts_for name (pairs ++ pair ∷ []) ≡ texts_for name pairs ++ cond (same pair.0 name) (pair.1 ∷ []) []
+pub texts_push : (name : Name) (pairs : Pairs) (pair : List ℕ × List ℕ) →
+    texts_for name (pairs ++ pair ∷ []) ≡ texts_for name pairs ++ cond (same pair.0 name) (pair.1 ∷ []) []
 unfolding texts_for
 texts_push name pairs pair =
     ap (map (λ (p : List ℕ × List ℕ). p.1)) (filter-append (λ (p : List ℕ × List ℕ). same p.0 name) pairs (pair ∷ []))
@@ -47,10 +49,13 @@ pub texts_none : (name : Name) → texts_for name [] ≡ []
 unfolding texts_for
 texts_none name = refl
 
-texts_same : (name : Name) (pairs : Pairs) (pair : List ℕ × List ℕ) → same pair.0 name ≡ false → texts_for name (pairs ++ pair ∷ []) ≡ texts_for name pairs
-texts_same name pairs pair h = texts_push name pairs pair ∙ ap (λ b. texts_for name pairs ++ cond b (pair.1 ∷ []) []) h ∙ append-nil (texts_for name pairs)
+texts_same : (name : Name) (pairs : Pairs) (pair : List ℕ × List ℕ) → same pair.0 name ≡ false →
+    texts_for name (pairs ++ pair ∷ []) ≡ texts_for name pairs
+texts_same name pairs pair h =
+    texts_push name pairs pair ∙ ap (λ b. texts_for name pairs ++ cond b (pair.1 ∷ []) []) h ∙ append-nil (texts_for name pairs)
 
-texts_one : (name : Name) (pairs : Pairs) (pair : List ℕ × List ℕ) → same pair.0 name ≡ true → texts_for name pairs ≡ [] → texts_for name (pairs ++ pair ∷ []) ≡ pair.1 ∷ []
+texts_one : (name : Name) (pairs : Pairs) (pair : List ℕ × List ℕ) → same pair.0 name ≡ true →
+    texts_for name pairs ≡ [] → texts_for name (pairs ++ pair ∷ []) ≡ pair.1 ∷ []
 texts_one name pairs pair h e = texts_push name pairs pair ∙ (λ i. e i ++ cond (h i) (pair.1 ∷ []) [])
 
 -- ---- targets
@@ -70,15 +75,21 @@ same_target_itself (Row i) = eq-eqb i i refl
 -- what a number at a place did to the values of targets
 pub data Put (V : Type 0) (value_of : State → Target → V) (u : State) (place : Place) (v : V) (w : State) : Type 0 where
   PutNowhere : (place_is : place ≡ Dropped) → (same : u ≡ w) → Put V value_of u place v w
-  PutAt : (x : Target) → (place_is : place ≡ Kept x) → (new : is_among x u.paired ≡ false) → (paired : w.paired ≡ x ∷ u.paired) → (set : w.set ≡ u.set) → (view : row_view w ≡ row_view u) → (here : value_of w x ≡ v) → (elsewhere : (t : Target) → same_target t x ≡ false → value_of w t ≡ value_of u t) → Put V value_of u place v w
+  PutAt : (x : Target) → (place_is : place ≡ Kept x) → (new : is_among x u.paired ≡ false) →
+      (paired : w.paired ≡ x ∷ u.paired) → (set : w.set ≡ u.set) → (view : row_view w ≡ row_view u) →
+      (here : value_of w x ≡ v) → (elsewhere : (t : Target) → same_target t x ≡ false → value_of w t ≡ value_of u t) →
+      Put V value_of u place v w
 
 -- the values of targets are what these pairs say
 pub record Tells (V : Type 0) (value_of : State → Target → V) (IsNumber : List (List ℕ) → V → Type 0) (view : RowView) (pairs : Pairs) (u : State) : Type 0 where
   pub view_is : row_view u ≡ view
-  pub numbers : (name : Name) (t : Target) → place_in view name ≡ Some (Kept t) → IsNumber (texts_for name pairs) (value_of u t)
-  pub unpaired : (name : Name) (t : Target) → place_in view name ≡ Some (Kept t) → is_among t u.paired ≡ false → texts_for name pairs ≡ []
+  pub numbers : (name : Name) (t : Target) → place_in view name ≡ Some (Kept t) →
+      IsNumber (texts_for name pairs) (value_of u t)
+  pub unpaired : (name : Name) (t : Target) → place_in view name ≡ Some (Kept t) → is_among t u.paired ≡ false →
+      texts_for name pairs ≡ []
 
-pub put_set : (V : Type 0) (value_of : State → Target → V) (u : State) (place : Place) (v : V) (w : State) → Put V value_of u place v w → w.set ≡ u.set
+pub put_set : (V : Type 0) (value_of : State → Target → V) (u : State) (place : Place) (v : V) (w : State) →
+    Put V value_of u place v w → w.set ≡ u.set
 put_set V value_of u place v w (PutNowhere e same) = ap (λ (x : State). x.set) (sym same)
 put_set V value_of u place v w (PutAt x e new paired set same_view here elsewhere) = set
 
@@ -94,7 +105,8 @@ same_kept t u h = cc
 
 module _ {V : Type 0} {value_of : State → Target → V} {IsNumber : List (List ℕ) → V → Type 0} (view : RowView) (pairs : Pairs) (u w : State) (pair : List ℕ × List ℕ) (place : Place) (v : V) (at : place_in view pair.0 ≡ Some place) (one : IsNumber (pair.1 ∷ []) v) (k : Tells V value_of IsNumber view pairs u) where
   -- a name of another target than the pair's
-  other_name : (name : Name) (t x : Target) → place ≡ Kept x → place_in view name ≡ Some (Kept t) → same_target t x ≡ false → same pair.0 name ≡ false
+  other_name : (name : Name) (t x : Target) → place ≡ Kept x → place_in view name ≡ Some (Kept t) →
+      same_target t x ≡ false → same pair.0 name ≡ false
   other_name name t x e h ne = by (same pair.0 name) refl
     where
       by : (b : Bool) → same pair.0 name ≡ b → b ≡ false
@@ -105,12 +117,16 @@ module _ {V : Type 0} {value_of : State → Target → V} {IsNumber : List (List
       by false f = refl
 
   -- the pair's own name
-  own_name : (name : Name) (t x : Target) → place ≡ Kept x → place_in view name ≡ Some (Kept t) → t ≡ x → same pair.0 name ≡ true
+  own_name : (name : Name) (t x : Target) → place ≡ Kept x → place_in view name ≡ Some (Kept t) → t ≡ x →
+      same pair.0 name ≡ true
   own_name name t x e h same_t =
       let p : place_in view pair.0 ≡ Some (Kept t) = at ∙ ap (λ y. Some y) (e ∙ ap (λ y. Kept y) (sym same_t)) in
       ap (λ n. same n name) (one_name view pair.0 name t p h) ∙ same-refl name
 
-  at_target : (x : Target) → place ≡ Kept x → is_among x u.paired ≡ false → w.paired ≡ x ∷ u.paired → row_view w ≡ row_view u → value_of w x ≡ v → ((t : Target) → same_target t x ≡ false → value_of w t ≡ value_of u t) → Tells V value_of IsNumber view (pairs ++ pair ∷ []) w
+  at_target : (x : Target) → place ≡ Kept x → is_among x u.paired ≡ false → w.paired ≡ x ∷ u.paired →
+      row_view w ≡ row_view u → value_of w x ≡ v →
+      ((t : Target) → same_target t x ≡ false → value_of w t ≡ value_of u t) →
+      Tells V value_of IsNumber view (pairs ++ pair ∷ []) w
   at_target x e new paired same_view here elsewhere =
       record {
         view_is = same_view ∙ k.view_is;
@@ -120,23 +136,29 @@ module _ {V : Type 0} {value_of : State → Target → V} {IsNumber : List (List
             texts_same name pairs pair (other_name name t x e h f.0) ∙ k.unpaired name t h f.1;
       }
     where
-      by : (name : Name) (t : Target) → place_in view name ≡ Some (Kept t) → (b : Bool) → same_target t x ≡ b → IsNumber (texts_for name (pairs ++ pair ∷ [])) (value_of w t)
+      by : (name : Name) (t : Target) → place_in view name ≡ Some (Kept t) → (b : Bool) → same_target t x ≡ b →
+          IsNumber (texts_for name (pairs ++ pair ∷ [])) (value_of w t)
       by name t h true f =
           let same_t : t ≡ x = same_target_true t x f in
           let none : texts_for name pairs ≡ [] = k.unpaired name t h (ap (λ y. is_among y u.paired) same_t ∙ new) in
           subst₂ IsNumber (sym (texts_one name pairs pair (own_name name t x e h same_t) none)) (sym (ap (value_of w) same_t ∙ here)) one
-      by name t h false f = subst₂ IsNumber (sym (texts_same name pairs pair (other_name name t x e h f))) (sym (elsewhere t f)) (k.numbers name t h)
+      by name t h false f =
+          subst₂ IsNumber (sym (texts_same name pairs pair (other_name name t x e h f))) (sym (elsewhere t f)) (k.numbers name t h)
 
   nowhere : place ≡ Dropped → Tells V value_of IsNumber view (pairs ++ pair ∷ []) u
   nowhere e =
       record {
         view_is = k.view_is;
-        numbers = λ name t h. subst (λ texts. IsNumber texts (value_of u t)) (sym (texts_same name pairs pair (differs name t h (same pair.0 name) refl))) (k.numbers name t h);
-        unpaired = λ name t h free. texts_same name pairs pair (differs name t h (same pair.0 name) refl) ∙ k.unpaired name t h free;
+        numbers =
+            λ name t h. subst (λ texts. IsNumber texts (value_of u t)) (sym (texts_same name pairs pair (differs name t h (same pair.0 name) refl))) (k.numbers name t h);
+        unpaired =
+            λ name t h free. texts_same name pairs pair (differs name t h (same pair.0 name) refl) ∙ k.unpaired name t h free;
       }
     where
-      differs : (name : Name) (t : Target) → place_in view name ≡ Some (Kept t) → (b : Bool) → same pair.0 name ≡ b → b ≡ false
-      differs name t h true f = absurd (same_dropped t (same_some Dropped (Kept t) (sym (ap (λ y. Some y) e) ∙ sym at ∙ ap (place_in view) (same_true pair.0 name f) ∙ h)))
+      differs : (name : Name) (t : Target) → place_in view name ≡ Some (Kept t) → (b : Bool) → same pair.0 name ≡ b →
+          b ≡ false
+      differs name t h true f =
+          absurd (same_dropped t (same_some Dropped (Kept t) (sym (ap (λ y. Some y) e) ∙ sym at ∙ ap (place_in view) (same_true pair.0 name f) ∙ h)))
       differs name t h false f = refl
 
   pub tells_push : Put V value_of u place v w → Tells V value_of IsNumber view (pairs ++ pair ∷ []) w

@@ -8,10 +8,12 @@ use Rattle.spec_model.specs.Model.{ExactRow, Limits, up_to, from_on, from_to, li
 use Rattle.spec_model.specs.Truth.{IsBetween}
 
 -- the limits of this kind and range
-limits_are : (r : ExactRow) (kind : Kind) (range : Option ℚ) → r.kind ≡ kind → r.range ≡ range → limits_by kind r.rhs range ≡ limits_of r
+limits_are : (r : ExactRow) (kind : Kind) (range : Option ℚ) → r.kind ≡ kind → r.range ≡ range →
+    limits_by kind r.rhs range ≡ limits_of r
 limits_are r kind range k e = λ i. limits_by (sym k i) r.rhs (sym e i)
 
-by_limits : (r : ExactRow) (kind : Kind) (range : Option ℚ) (l : Limits) (v : ℚ) (A : Type 0) → r.kind ≡ kind → r.range ≡ range → l ≡ limits_by kind r.rhs range → (IsBetween l v ↔ A) → IsBetween (limits_of r) v ↔ A
+by_limits : (r : ExactRow) (kind : Kind) (range : Option ℚ) (l : Limits) (v : ℚ) (A : Type 0) → r.kind ≡ kind →
+    r.range ≡ range → l ≡ limits_by kind r.rhs range → (IsBetween l v ↔ A) → IsBetween (limits_of r) v ↔ A
 by_limits r kind range l v A k e h f = subst (λ x. IsBetween x v ↔ A) (h ∙ limits_are r kind range k e) f
 
 below : (b v : ℚ) → IsBetween (up_to b) v ↔ (v ≤ℚ b)
@@ -24,30 +26,35 @@ within : (a b v : ℚ) → IsBetween (from_to a b) v ↔ ((a ≤ℚ v) × (v ≤
 within a b v = (λ h. (h.lower, h.upper), λ h. record { lower = h.0; upper = h.1 })
 
 on : (b v : ℚ) → IsBetween (from_to b b) v ↔ (v ≡ b)
-on b v = (λ h. ≤ℚ_antisym v b h.upper h.lower, λ h. record { lower = subst (λ x. b ≤ℚ x) (sym h) (≤ℚ_refl b); upper = subst (λ x. x ≤ℚ b) (sym h) (≤ℚ_refl b) })
+on b v =
+    (λ h. ≤ℚ_antisym v b h.upper h.lower, λ h. record { lower = subst (λ x. b ≤ℚ x) (sym h) (≤ℚ_refl b); upper = subst (λ x. x ≤ℚ b) (sym h) (≤ℚ_refl b) })
 
 pub at_most : (r : ExactRow) (v : ℚ) → r.kind ≡ L → r.range ≡ None → IsBetween (limits_of r) v ↔ (v ≤ℚ r.rhs)
 at_most r v k e = by_limits r L None (up_to r.rhs) v _ k e refl (below r.rhs v)
 
-pub at_most_from : (r : ExactRow) (q v : ℚ) → r.kind ≡ L → r.range ≡ Some q → IsBetween (limits_of r) v ↔ (((r.rhs -ℚ abs_ℚ q) ≤ℚ v) × (v ≤ℚ r.rhs))
+pub at_most_from : (r : ExactRow) (q v : ℚ) → r.kind ≡ L → r.range ≡ Some q →
+    IsBetween (limits_of r) v ↔ (((r.rhs -ℚ abs_ℚ q) ≤ℚ v) × (v ≤ℚ r.rhs))
 at_most_from r q v k e = by_limits r L (Some q) (from_to (r.rhs -ℚ abs_ℚ q) r.rhs) v _ k e refl (within _ r.rhs v)
 
 pub at_least : (r : ExactRow) (v : ℚ) → r.kind ≡ G → r.range ≡ None → IsBetween (limits_of r) v ↔ (r.rhs ≤ℚ v)
 at_least r v k e = by_limits r G None (from_on r.rhs) v _ k e refl (above r.rhs v)
 
-pub at_least_to : (r : ExactRow) (q v : ℚ) → r.kind ≡ G → r.range ≡ Some q → IsBetween (limits_of r) v ↔ ((r.rhs ≤ℚ v) × (v ≤ℚ (r.rhs +ℚ abs_ℚ q)))
+pub at_least_to : (r : ExactRow) (q v : ℚ) → r.kind ≡ G → r.range ≡ Some q →
+    IsBetween (limits_of r) v ↔ ((r.rhs ≤ℚ v) × (v ≤ℚ (r.rhs +ℚ abs_ℚ q)))
 at_least_to r q v k e = by_limits r G (Some q) (from_to r.rhs (r.rhs +ℚ abs_ℚ q)) v _ k e refl (within r.rhs _ v)
 
 pub equal : (r : ExactRow) (v : ℚ) → r.kind ≡ E → r.range ≡ None → IsBetween (limits_of r) v ↔ (v ≡ r.rhs)
 equal r v k e = by_limits r E None (from_to r.rhs r.rhs) v _ k e refl (on r.rhs v)
 
-pub equal_up_to : (r : ExactRow) (q v : ℚ) → r.kind ≡ E → r.range ≡ Some q → 0ℚ ≤ℚ q → IsBetween (limits_of r) v ↔ ((r.rhs ≤ℚ v) × (v ≤ℚ (r.rhs +ℚ q)))
+pub equal_up_to : (r : ExactRow) (q v : ℚ) → r.kind ≡ E → r.range ≡ Some q → 0ℚ ≤ℚ q →
+    IsBetween (limits_of r) v ↔ ((r.rhs ≤ℚ v) × (v ≤ℚ (r.rhs +ℚ q)))
 equal_up_to r q v k e h =
     by_limits r E (Some q) (from_to r.rhs (r.rhs +ℚ q)) v _ k e
     (ap (λ b. cond b (from_to (r.rhs +ℚ q) r.rhs) (from_to r.rhs (r.rhs +ℚ q))) (sym (not_lt_test q 0ℚ h)))
     (within r.rhs _ v)
 
-pub equal_down_to : (r : ExactRow) (q v : ℚ) → r.kind ≡ E → r.range ≡ Some q → q <ℚ 0ℚ → IsBetween (limits_of r) v ↔ (((r.rhs +ℚ q) ≤ℚ v) × (v ≤ℚ r.rhs))
+pub equal_down_to : (r : ExactRow) (q v : ℚ) → r.kind ≡ E → r.range ≡ Some q → q <ℚ 0ℚ →
+    IsBetween (limits_of r) v ↔ (((r.rhs +ℚ q) ≤ℚ v) × (v ≤ℚ r.rhs))
 equal_down_to r q v k e h =
     by_limits r E (Some q) (from_to (r.rhs +ℚ q) r.rhs) v _ k e
     (ap (λ b. cond b (from_to (r.rhs +ℚ q) r.rhs) (from_to r.rhs (r.rhs +ℚ q))) (sym (lt_test q 0ℚ h)))

@@ -35,14 +35,18 @@ abbrev pub row_view : State → RowView
 row_view s = record { objective = s.objective; dropped = s.dropped; rows = labels s.rows }
 
 -- rows that are the same but for what a view does not see
-same_labels : (view : ExactRow → ExactRow) → ((r : ExactRow) → (view r).kind ≡ r.kind) → ((r : ExactRow) → (view r).name ≡ r.name) → (rows : List ExactRow) → labels (map view rows) ≡ labels rows
+same_labels : (view : ExactRow → ExactRow) → ((r : ExactRow) → (view r).kind ≡ r.kind) →
+    ((r : ExactRow) → (view r).name ≡ r.name) → (rows : List ExactRow) → labels (map view rows) ≡ labels rows
 same_labels view k n [] = refl
 same_labels view k n (r ∷ rows) = λ i. (k r i, n r i) ∷ same_labels view k n rows i
 
-viewed_labels : (view : ExactRow → ExactRow) → ((r : ExactRow) → (view r).kind ≡ r.kind) → ((r : ExactRow) → (view r).name ≡ r.name) → (xs ys : List ExactRow) → map view xs ≡ map view ys → labels xs ≡ labels ys
+viewed_labels : (view : ExactRow → ExactRow) → ((r : ExactRow) → (view r).kind ≡ r.kind) →
+    ((r : ExactRow) → (view r).name ≡ r.name) → (xs ys : List ExactRow) → map view xs ≡ map view ys →
+    labels xs ≡ labels ys
 viewed_labels view k n xs ys h = sym (same_labels view k n xs) ∙ ap labels h ∙ same_labels view k n ys
 
-pub rows_stay : (part : Section) (s t : State) → is_section (Some part) section.Rows ≡ false → Leads part s t → row_view t ≡ row_view s
+pub rows_stay : (part : Section) (s t : State) → is_section (Some part) section.Rows ≡ false → Leads part s t →
+    row_view t ≡ row_view s
 rows_stay section.Name s t e h = ap row_view h
 rows_stay section.Sense s t e h = ap row_view h
 rows_stay section.Rows s t e h = absurd (cc)
@@ -56,7 +60,8 @@ rows_stay section.Ranges s t e h =
 rows_stay section.Bounds s t e h = ap row_view h
 rows_stay section.End s t e h = ap row_view h
 
-pub rows_stay_headed : (s : State) (part : Section) (word : List ℕ) (t : State) → headed (begun s part) part word ≡ Ok t → row_view t ≡ row_view s
+pub rows_stay_headed : (s : State) (part : Section) (word : List ℕ) (t : State) →
+    headed (begun s part) part word ≡ Ok t → row_view t ≡ row_view s
 rows_stay_headed s part word t h = ap row_view (headed_leads (begun s part) part word t h)
 
 same_kept : (t u : Target) → Kept t ≡ Kept u → t ≡ u
@@ -69,7 +74,8 @@ place_in v name =
     cond (is_objective v.objective name) (Some (Kept Objective))
     (cond (list_any (same name) v.dropped) (Some Dropped) (row_at (position (λ r. same r.1 name) v.rows)))
 
-first_label : (name : Name) (rows : List ExactRow) → position_or_len (λ r. same r.name name) rows ≡ position_or_len (λ r. same r.1 name) (labels rows)
+first_label : (name : Name) (rows : List ExactRow) →
+    position_or_len (λ r. same r.name name) rows ≡ position_or_len (λ r. same r.1 name) (labels rows)
 first_label name [] = refl
 first_label name (r ∷ rows) = ap (λ n. cond (not (same r.name name)) (1 + n) 0) (first_label name rows)
 
@@ -100,13 +106,17 @@ objective_name : (o : Option Name) (name : Name) → is_objective o name ≡ tru
 objective_name None name h = absurd (cc)
 objective_name (Some objective) name h = ap (λ n. Some n) (same_true objective name h)
 
-pub place_name : (v : RowView) (name : Name) (t : Target) → place_in v name ≡ Some (Kept t) → (name_in v t ≡ Some name) × IsIn v t
+pub place_name : (v : RowView) (name : Name) (t : Target) → place_in v name ≡ Some (Kept t) →
+    (name_in v t ≡ Some name) × IsIn v t
 place_name v name t h = go (is_objective v.objective name) (list_any (same name) v.dropped) (position (λ r. same r.1 name) v.rows) refl refl h
   where
-    by_target : (u : Target) → Kept u ≡ Kept t → (name_in v u ≡ Some name) × IsIn v u → (name_in v t ≡ Some name) × IsIn v t
+    by_target : (u : Target) → Kept u ≡ Kept t → (name_in v u ≡ Some name) × IsIn v u →
+        (name_in v t ≡ Some name) × IsIn v t
     by_target u e k = subst (λ x. (name_in v x ≡ Some name) × IsIn v x) (same_kept u t e) k
 
-    go : (a b : Bool) (o : Option ℕ) → is_objective v.objective name ≡ a → position (λ r. same r.1 name) v.rows ≡ o → cond a (Some (Kept Objective)) (cond b (Some Dropped) (row_at o)) ≡ Some (Kept t) → (name_in v t ≡ Some name) × IsIn v t
+    go : (a b : Bool) (o : Option ℕ) → is_objective v.objective name ≡ a → position (λ r. same r.1 name) v.rows ≡ o →
+        cond a (Some (Kept Objective)) (cond b (Some Dropped) (row_at o)) ≡ Some (Kept t) →
+        (name_in v t ≡ Some name) × IsIn v t
     go true b o e f k = by_target Objective (same_some _ _ k) (objective_name v.objective name e, tt)
     go false true o e f k = absurd (cc)
     go false false None e f k = absurd (cc)
@@ -115,11 +125,13 @@ place_name v name t h = go (is_objective v.objective name) (list_any (same name)
         by_target (Row i) (same_some _ _ k) (ap (λ n. Some n) (same_true (get_or v.rows i no_label).1 name p.1), p.0)
 
 -- a target has one name
-pub one_name : (v : RowView) (a b : Name) (t : Target) → place_in v a ≡ Some (Kept t) → place_in v b ≡ Some (Kept t) → a ≡ b
+pub one_name : (v : RowView) (a b : Name) (t : Target) → place_in v a ≡ Some (Kept t) → place_in v b ≡ Some (Kept t) →
+    a ≡ b
 one_name v a b t h k = same_some a b (sym (place_name v a t h).0 ∙ (place_name v b t k).0)
 
 -- and a name has one target
-pub one_target : (v : RowView) (a : Name) (t u : Target) → place_in v a ≡ Some (Kept t) → place_in v a ≡ Some (Kept u) → t ≡ u
+pub one_target : (v : RowView) (a : Name) (t u : Target) → place_in v a ≡ Some (Kept t) → place_in v a ≡ Some (Kept u) →
+    t ≡ u
 one_target v a t u h k = same_kept t u (same_some (Kept t) (Kept u) (sym h ∙ k))
 
 pub objective_place : (v : RowView) (name : Name) → v.objective ≡ Some name → place_in v name ≡ Some (Kept Objective)
@@ -133,14 +145,16 @@ pub record IsPlaced (v : RowView) : Type 0 where
   pub place : (i : ℕ) → i < length v.rows → place_in v (get_or v.rows i no_label).1 ≡ Some (Kept (Row i))
 
 -- a name that stands for something is not a new one
-differs : (v : RowView) (new old : Name) (x : Place) → place_in v new ≡ None → place_in v old ≡ Some x → (b : Bool) → same new old ≡ b → b ≡ false
+differs : (v : RowView) (new old : Name) (x : Place) → place_in v new ≡ None → place_in v old ≡ Some x → (b : Bool) →
+    same new old ≡ b → b ≡ false
 differs v new old x h k true e = absurd (no_some (sym h ∙ ap (place_in v) (same_true new old e) ∙ k))
   where
     no_some : None ≡ Some x → ⊥
     no_some p = cc
 differs v new old x h k false e = refl
 
-differs_back : (v : RowView) (new old : Name) (x : Place) → place_in v new ≡ None → place_in v old ≡ Some x → (b : Bool) → same old new ≡ b → b ≡ false
+differs_back : (v : RowView) (new old : Name) (x : Place) → place_in v new ≡ None → place_in v old ≡ Some x →
+    (b : Bool) → same old new ≡ b → b ≡ false
 differs_back v new old x h k true e = absurd (no_some (sym h ∙ ap (place_in v) (sym (same_true old new e)) ∙ k))
   where
     no_some : None ≡ Some x → ⊥
@@ -148,7 +162,8 @@ differs_back v new old x h k true e = absurd (no_some (sym h ∙ ap (place_in v)
 differs_back v new old x h k false e = refl
 
 -- an objective, where there was none
-pub placed_objective : (v : RowView) (new old : Name) (t : Target) → v.objective ≡ None → place_in v new ≡ None → place_in v old ≡ Some (Kept t) → place_in (record v { objective = Some new }) old ≡ Some (Kept t)
+pub placed_objective : (v : RowView) (new old : Name) (t : Target) → v.objective ≡ None → place_in v new ≡ None →
+    place_in v old ≡ Some (Kept t) → place_in (record v { objective = Some new }) old ≡ Some (Kept t)
 placed_objective v new old t none h k =
     ap (λ b. cond b (Some (Kept Objective)) rest) (differs v new old (Kept t) h k (same new old) refl)
     ∙ ap (λ o. cond (is_objective o old) (Some (Kept Objective)) rest) (sym none)
@@ -162,61 +177,79 @@ any_push p [] y h = ap (λ b. b || false) h
 any_push p (x ∷ xs) y h = ap (λ b. p x || b) (any_push p xs y h)
 
 -- one more row that is dropped
-pub placed_dropped : (v : RowView) (new old : Name) (t : Target) → place_in v new ≡ None → place_in v old ≡ Some (Kept t) → place_in (record v { dropped = v.dropped ++ new ∷ [] }) old ≡ Some (Kept t)
+pub placed_dropped : (v : RowView) (new old : Name) (t : Target) → place_in v new ≡ None →
+    place_in v old ≡ Some (Kept t) → place_in (record v { dropped = v.dropped ++ new ∷ [] }) old ≡ Some (Kept t)
 placed_dropped v new old t h k =
     ap (λ b. cond (is_objective v.objective old) (Some (Kept Objective)) (cond b (Some Dropped) (row_at (position (λ r. same r.1 old) v.rows))))
     (any_push (same old) v.dropped new (differs_back v new old (Kept t) h k (same old new) refl))
     ∙ k
 
-first_more : {X : Type 0} (p : X → Bool) (xs ys : List X) → position_or_len p xs < length xs → position_or_len p (xs ++ ys) ≡ position_or_len p xs
+first_more : {X : Type 0} (p : X → Bool) (xs ys : List X) → position_or_len p xs < length xs →
+    position_or_len p (xs ++ ys) ≡ position_or_len p xs
 first_more p [] ys h = absurd (omega arith)
 first_more p (x ∷ xs) ys h = go (p x) (first_more p xs ys) h
   where
-    go : (b : Bool) → (position_or_len p xs < length xs → position_or_len p (xs ++ ys) ≡ position_or_len p xs) → cond (not b) (1 + position_or_len p xs) 0 < suc (length xs) → cond (not b) (1 + position_or_len p (xs ++ ys)) 0 ≡ cond (not b) (1 + position_or_len p xs) 0
+    go : (b : Bool) → (position_or_len p xs < length xs → position_or_len p (xs ++ ys) ≡ position_or_len p xs) →
+        cond (not b) (1 + position_or_len p xs) 0 < suc (length xs) →
+        cond (not b) (1 + position_or_len p (xs ++ ys)) 0 ≡ cond (not b) (1 + position_or_len p xs) 0
     go true f k = refl
     go false f k = ap (λ n. 1 + n) (f (omega arith))
 
-first_last : {X : Type 0} (p : X → Bool) (xs : List X) (y : X) → length xs ≤ position_or_len p xs → p y ≡ true → position_or_len p (xs ++ y ∷ []) ≡ length xs
+first_last : {X : Type 0} (p : X → Bool) (xs : List X) (y : X) → length xs ≤ position_or_len p xs → p y ≡ true →
+    position_or_len p (xs ++ y ∷ []) ≡ length xs
 first_last p [] y h e = ap (λ b. cond (not b) 1 0) e
 first_last p (x ∷ xs) y h e = go (p x) (λ k. first_last p xs y k e) h
   where
-    go : (b : Bool) → (length xs ≤ position_or_len p xs → position_or_len p (xs ++ y ∷ []) ≡ length xs) → suc (length xs) ≤ cond (not b) (1 + position_or_len p xs) 0 → cond (not b) (1 + position_or_len p (xs ++ y ∷ [])) 0 ≡ suc (length xs)
+    go : (b : Bool) → (length xs ≤ position_or_len p xs → position_or_len p (xs ++ y ∷ []) ≡ length xs) →
+        suc (length xs) ≤ cond (not b) (1 + position_or_len p xs) 0 →
+        cond (not b) (1 + position_or_len p (xs ++ y ∷ [])) 0 ≡ suc (length xs)
     go true f k = absurd (omega arith)
     go false f k = omega (arith, f (omega arith))
 
-pub position_more : {X : Type 0} (p : X → Bool) (xs : List X) (y : X) (i : ℕ) → position p xs ≡ Some i → position p (xs ++ y ∷ []) ≡ Some i
+pub position_more : {X : Type 0} (p : X → Bool) (xs : List X) (y : X) (i : ℕ) → position p xs ≡ Some i →
+    position p (xs ++ y ∷ []) ≡ Some i
 position_more p xs y i h = go (ltb (position_or_len p xs) (length xs)) refl h
   where
-    go : (b : Bool) → ltb (position_or_len p xs) (length xs) ≡ b → cond b (Some (position_or_len p xs)) None ≡ Some i → position p (xs ++ y ∷ []) ≡ Some i
+    go : (b : Bool) → ltb (position_or_len p xs) (length xs) ≡ b → cond b (Some (position_or_len p xs)) None ≡ Some i →
+        position p (xs ++ y ∷ []) ≡ Some i
     go true e k =
         let less : position_or_len p xs < length xs = ltb-true _ _ e in
         rw (first_more p xs (y ∷ []) less, lt-ltb (position_or_len p xs) (length (xs ++ y ∷ [])) (omega (arith, length-append xs (y ∷ [])))) k
     go false e k = absurd (cc)
 
-pub position_last : {X : Type 0} (p : X → Bool) (xs : List X) (y : X) → position p xs ≡ None → p y ≡ true → position p (xs ++ y ∷ []) ≡ Some (length xs)
+pub position_last : {X : Type 0} (p : X → Bool) (xs : List X) (y : X) → position p xs ≡ None → p y ≡ true →
+    position p (xs ++ y ∷ []) ≡ Some (length xs)
 position_last p xs y h e = go (ltb (position_or_len p xs) (length xs)) refl h
   where
-    go : (b : Bool) → ltb (position_or_len p xs) (length xs) ≡ b → cond b (Some (position_or_len p xs)) None ≡ None → position p (xs ++ y ∷ []) ≡ Some (length xs)
+    go : (b : Bool) → ltb (position_or_len p xs) (length xs) ≡ b → cond b (Some (position_or_len p xs)) None ≡ None →
+        position p (xs ++ y ∷ []) ≡ Some (length xs)
     go true f k = absurd (cc)
     go false f k =
         let most : length xs ≤ position_or_len p xs = ltb-false _ _ f in
         rw (first_last p xs y most e, lt-ltb (length xs) (length (xs ++ y ∷ [])) (omega (arith, length-append xs (y ∷ [])))) refl
 
 -- one more row
-pub placed_row : (v : RowView) (new : Kind × Name) (old : Name) (t : Target) → place_in v old ≡ Some (Kept t) → place_in (record v { rows = v.rows ++ new ∷ [] }) old ≡ Some (Kept t)
+pub placed_row : (v : RowView) (new : Kind × Name) (old : Name) (t : Target) → place_in v old ≡ Some (Kept t) →
+    place_in (record v { rows = v.rows ++ new ∷ [] }) old ≡ Some (Kept t)
 placed_row v new old t k = go (is_objective v.objective old) (list_any (same old) v.dropped) (position (λ r. same r.1 old) v.rows) refl k
   where
-    go : (a b : Bool) (o : Option ℕ) → position (λ r. same r.1 old) v.rows ≡ o → cond a (Some (Kept Objective)) (cond b (Some Dropped) (row_at o)) ≡ Some (Kept t) → cond a (Some (Kept Objective)) (cond b (Some Dropped) (row_at (position (λ r. same r.1 old) (v.rows ++ new ∷ [])))) ≡ Some (Kept t)
+    go : (a b : Bool) (o : Option ℕ) → position (λ r. same r.1 old) v.rows ≡ o →
+        cond a (Some (Kept Objective)) (cond b (Some Dropped) (row_at o)) ≡ Some (Kept t) →
+        cond a (Some (Kept Objective)) (cond b (Some Dropped) (row_at (position (λ r. same r.1 old) (v.rows ++ new ∷ [])))) ≡ Some (Kept t)
     go true b o e k = k
     go false true o e k = k
     go false false None e k = absurd (cc)
     go false false (Some i) e k = ap row_at (position_more (λ (r : Kind × Name). same r.1 old) v.rows new i e) ∙ k
 
-pub placed_new : (v : RowView) (kind : Kind) (new : Name) → place_in v new ≡ None → place_in (record v { rows = v.rows ++ (kind, new) ∷ [] }) new ≡ Some (Kept (Row (length v.rows)))
+pub placed_new : (v : RowView) (kind : Kind) (new : Name) → place_in v new ≡ None →
+    place_in (record v { rows = v.rows ++ (kind, new) ∷ [] }) new ≡ Some (Kept (Row (length v.rows)))
 placed_new v kind new h = go (is_objective v.objective new) (list_any (same new) v.dropped) (position (λ r. same r.1 new) v.rows) refl h
   where
-    go : (a b : Bool) (o : Option ℕ) → position (λ r. same r.1 new) v.rows ≡ o → cond a (Some (Kept Objective)) (cond b (Some Dropped) (row_at o)) ≡ None → cond a (Some (Kept Objective)) (cond b (Some Dropped) (row_at (position (λ r. same r.1 new) (v.rows ++ (kind, new) ∷ [])))) ≡ Some (Kept (Row (length v.rows)))
+    go : (a b : Bool) (o : Option ℕ) → position (λ r. same r.1 new) v.rows ≡ o →
+        cond a (Some (Kept Objective)) (cond b (Some Dropped) (row_at o)) ≡ None →
+        cond a (Some (Kept Objective)) (cond b (Some Dropped) (row_at (position (λ r. same r.1 new) (v.rows ++ (kind, new) ∷ [])))) ≡ Some (Kept (Row (length v.rows)))
     go true b o e k = absurd (cc)
     go false true o e k = absurd (cc)
     go false false (Some i) e k = absurd (cc)
-    go false false None e k = ap row_at (position_last (λ (r : Kind × Name). same r.1 new) v.rows (kind, new) e (same-refl new))
+    go false false None e k =
+        ap row_at (position_last (λ (r : Kind × Name). same r.1 new) v.rows (kind, new) e (same-refl new))

@@ -26,16 +26,22 @@ use Rattle.spec_meaning.proofs.Order.{IsOrdered, start_ordered, one_more, begun_
 
 pub record IsKept (style : Style) (Inv : SoFar → State → Type 0) : Type 0 where
   pub at_start : Inv nothing start
-  pub at_heading : (c : SoFar) (s t : State) (part : Section) (words : Fields) → IsOrdered s.part s.seen → has_begun s.seen part ≡ false → headed (begun s part) part (text_at 2 words) ≡ Ok t → Inv c s → Inv (with_title part words c) t
-  pub at_card : (c : SoFar) (s t : State) (part : Section) (fields : Fields) → IsOrdered s.part s.seen → s.part ≡ Some part → data_card style (Some part) s fields ≡ Ok t → Inv c s → Inv (with_card part fields c) t
+  pub at_heading : (c : SoFar) (s t : State) (part : Section) (words : Fields) → IsOrdered s.part s.seen →
+      has_begun s.seen part ≡ false → headed (begun s part) part (text_at 2 words) ≡ Ok t → Inv c s →
+      Inv (with_title part words c) t
+  pub at_card : (c : SoFar) (s t : State) (part : Section) (fields : Fields) → IsOrdered s.part s.seen →
+      s.part ≡ Some part → data_card style (Some part) s fields ≡ Ok t → Inv c s → Inv (with_card part fields c) t
 
 -- two properties together
-pub both_kept : (style : Style) (P Q : SoFar → State → Type 0) → IsKept style P → IsKept style Q → IsKept style (λ c s. P c s × Q c s)
+pub both_kept : (style : Style) (P Q : SoFar → State → Type 0) → IsKept style P → IsKept style Q →
+    IsKept style (λ c s. P c s × Q c s)
 both_kept style P Q p q =
     record {
       at_start = (p.at_start, q.at_start);
-      at_heading = λ c s t part words o new h k. (p.at_heading c s t part words o new h k.0, q.at_heading c s t part words o new h k.1);
-      at_card = λ c s t part fields o here h k. (p.at_card c s t part fields o here h k.0, q.at_card c s t part fields o here h k.1);
+      at_heading =
+          λ c s t part words o new h k. (p.at_heading c s t part words o new h k.0, q.at_heading c s t part words o new h k.1);
+      at_card =
+          λ c s t part fields o here h k. (p.at_card c s t part fields o here h k.0, q.at_card c s t part fields o here h k.1);
     }
 
 -- the model is made of a state of which the property holds with these cards
@@ -73,17 +79,21 @@ took_beside : (s : State) (word : List ℕ) (t : State) → sense_beside s word 
 took_beside s [] t h = subst (λ u. untitled u ≡ untitled s) (same_ok s t h) refl
 took_beside s (b ∷ bs) t h = took s (b ∷ bs) t h
 
-pub headed_leads : (s : State) (part : Section) (word : List ℕ) (t : State) → headed s part word ≡ Ok t → untitled t ≡ untitled s
+pub headed_leads : (s : State) (part : Section) (word : List ℕ) (t : State) → headed s part word ≡ Ok t →
+    untitled t ≡ untitled s
 headed_leads s section.Name word t h =
     let a = must_ok (is_model_name word) code.Name _ t h in
     subst (λ u. untitled u ≡ untitled s) (same_ok _ t a.1) refl
 headed_leads s section.Sense word t h = took_beside s word t h
-headed_leads s section.Columns word t h = let a = must_ok (is_some s.objective) code.NoObjective _ t h in subst (λ u. untitled u ≡ untitled s) (same_ok s t a.1) refl
+headed_leads s section.Columns word t h =
+    let a = must_ok (is_some s.objective) code.NoObjective _ t h in
+    subst (λ u. untitled u ≡ untitled s) (same_ok s t a.1) refl
 headed_leads s part word t h = subst (λ u. untitled u ≡ untitled s) (same_ok s t h) refl
 
 -- ---- all cards, line by line
 
-whole_skip : (c : SoFar) (style : Style) (here : Option Section) (seen : Seen) (l : Line (List ℕ)) (lines : Lines) → is_skipped (bytes_of l) ≡ true → whole c style here seen lines ≡ whole c style here seen (l ∷ lines)
+whole_skip : (c : SoFar) (style : Style) (here : Option Section) (seen : Seen) (l : Line (List ℕ)) (lines : Lines) →
+    is_skipped (bytes_of l) ≡ true → whole c style here seen lines ≡ whole c style here seen (l ∷ lines)
 whole_skip c style here seen l lines h =
     let card = λ (b : Bool) (q : Section). sym (cards_skip style here b q l lines h) in
     let title = λ (b : Bool) (q : Section). sym (title_plain b q l lines (skipped_plain l h)) in
@@ -99,7 +109,9 @@ whole_skip c style here seen l lines h =
       bounds = c.bounds ++ card seen.bounds section.Bounds i;
     }
 
-whole_data : (c : SoFar) (style : Style) (here : Section) (seen : Seen) (l : Line (List ℕ)) (lines : Lines) → is_skipped (bytes_of l) ≡ false → begins_with_blank (bytes_of l) ≡ true → whole (with_card here (fields_in style here (bytes_of l)) c) style (Some here) seen lines ≡ whole c style (Some here) seen (l ∷ lines)
+whole_data : (c : SoFar) (style : Style) (here : Section) (seen : Seen) (l : Line (List ℕ)) (lines : Lines) →
+    is_skipped (bytes_of l) ≡ false → begins_with_blank (bytes_of l) ≡ true →
+    whole (with_card here (fields_in style here (bytes_of l)) c) style (Some here) seen lines ≡ whole c style (Some here) seen (l ∷ lines)
 whole_data c style here seen l lines h b =
     let card = λ (begun : Bool) (q : Section) (cards : List Fields). sym (cards_data style here begun q l lines cards h b) in
     let title = λ (begun : Bool) (q : Section). sym (title_plain begun q l lines (data_plain l h b)) in
@@ -129,16 +141,26 @@ never : {A : Type 0} → false ≡ true → A
 never h = absurd (cc)
 
 is_new : (part : Section) (seen : Seen) → has_begun seen part ≡ false → IsNew part seen
-is_new section.Name seen h = record { name = λ e. h; sense = never; rows = never; columns = never; right_sides = never; ranges = never; bounds = never }
-is_new section.Sense seen h = record { name = never; sense = λ e. h; rows = never; columns = never; right_sides = never; ranges = never; bounds = never }
-is_new section.Rows seen h = record { name = never; sense = never; rows = λ e. h; columns = never; right_sides = never; ranges = never; bounds = never }
-is_new section.Columns seen h = record { name = never; sense = never; rows = never; columns = λ e. h; right_sides = never; ranges = never; bounds = never }
-is_new section.RightSides seen h = record { name = never; sense = never; rows = never; columns = never; right_sides = λ e. h; ranges = never; bounds = never }
-is_new section.Ranges seen h = record { name = never; sense = never; rows = never; columns = never; right_sides = never; ranges = λ e. h; bounds = never }
-is_new section.Bounds seen h = record { name = never; sense = never; rows = never; columns = never; right_sides = never; ranges = never; bounds = λ e. h }
-is_new section.End seen h = record { name = never; sense = never; rows = never; columns = never; right_sides = never; ranges = never; bounds = never }
+is_new section.Name seen h =
+    record { name = λ e. h; sense = never; rows = never; columns = never; right_sides = never; ranges = never; bounds = never }
+is_new section.Sense seen h =
+    record { name = never; sense = λ e. h; rows = never; columns = never; right_sides = never; ranges = never; bounds = never }
+is_new section.Rows seen h =
+    record { name = never; sense = never; rows = λ e. h; columns = never; right_sides = never; ranges = never; bounds = never }
+is_new section.Columns seen h =
+    record { name = never; sense = never; rows = never; columns = λ e. h; right_sides = never; ranges = never; bounds = never }
+is_new section.RightSides seen h =
+    record { name = never; sense = never; rows = never; columns = never; right_sides = λ e. h; ranges = never; bounds = never }
+is_new section.Ranges seen h =
+    record { name = never; sense = never; rows = never; columns = never; right_sides = never; ranges = λ e. h; bounds = never }
+is_new section.Bounds seen h =
+    record { name = never; sense = never; rows = never; columns = never; right_sides = never; ranges = never; bounds = λ e. h }
+is_new section.End seen h =
+    record { name = never; sense = never; rows = never; columns = never; right_sides = never; ranges = never; bounds = never }
 
-whole_heading : (c : SoFar) (style : Style) (here : Option Section) (part : Section) (seen : Seen) (l : Line (List ℕ)) (lines : Lines) → IsHeading l part → is_section (Some part) section.End ≡ false → has_begun seen part ≡ false → IsOrdered here seen → whole (with_title part (word_fields (bytes_of l)) c) style (Some part) (with_section seen part) lines ≡ whole c style here seen (l ∷ lines)
+whole_heading : (c : SoFar) (style : Style) (here : Option Section) (part : Section) (seen : Seen) (l : Line (List ℕ)) (lines : Lines) →
+    IsHeading l part → is_section (Some part) section.End ≡ false → has_begun seen part ≡ false → IsOrdered here seen →
+    whole (with_title part (word_fields (bytes_of l)) c) style (Some part) (with_section seen part) lines ≡ whole c style here seen (l ∷ lines)
 whole_heading c style here part seen l lines h e new o =
     let n = is_new part seen new in
     ap (λ later. whole (with_title part (word_fields (bytes_of l)) c) style (Some part) later lines) (one_more seen part)
@@ -146,15 +168,21 @@ whole_heading c style here part seen l lines h e new o =
     record {
       name_title = sym (title_begin seen.name part section.Name l lines c.name_title h e n.name) i;
       sense_title = sym (title_begin seen.sense part section.Sense l lines c.sense_title h e n.sense) i;
-      senses = c.senses ++ sym (cards_begin style here seen.sense part section.Sense l lines h e o.told.senses n.sense) i;
+      senses =
+          c.senses ++ sym (cards_begin style here seen.sense part section.Sense l lines h e o.told.senses n.sense) i;
       rows = c.rows ++ sym (cards_begin style here seen.rows part section.Rows l lines h e o.told.rows n.rows) i;
-      columns = c.columns ++ sym (cards_begin style here seen.columns part section.Columns l lines h e o.told.columns n.columns) i;
-      right_sides = c.right_sides ++ sym (cards_begin style here seen.right_sides part section.RightSides l lines h e o.told.right_sides n.right_sides) i;
-      ranges = c.ranges ++ sym (cards_begin style here seen.ranges part section.Ranges l lines h e o.told.ranges n.ranges) i;
-      bounds = c.bounds ++ sym (cards_begin style here seen.bounds part section.Bounds l lines h e o.told.bounds n.bounds) i;
+      columns =
+          c.columns ++ sym (cards_begin style here seen.columns part section.Columns l lines h e o.told.columns n.columns) i;
+      right_sides =
+          c.right_sides ++ sym (cards_begin style here seen.right_sides part section.RightSides l lines h e o.told.right_sides n.right_sides) i;
+      ranges =
+          c.ranges ++ sym (cards_begin style here seen.ranges part section.Ranges l lines h e o.told.ranges n.ranges) i;
+      bounds =
+          c.bounds ++ sym (cards_begin style here seen.bounds part section.Bounds l lines h e o.told.bounds n.bounds) i;
     }
 
-whole_end : (c : SoFar) (style : Style) (here : Option Section) (seen : Seen) (l : Line (List ℕ)) (lines : Lines) → IsHeading l section.End → c ≡ whole c style here seen (l ∷ lines)
+whole_end : (c : SoFar) (style : Style) (here : Option Section) (seen : Seen) (l : Line (List ℕ)) (lines : Lines) →
+    IsHeading l section.End → c ≡ whole c style here seen (l ∷ lines)
 whole_end c style here seen l lines h =
     λ i.
     record {
@@ -183,7 +211,8 @@ record HeadingDid (s : State) (words : Fields) (part : Section) (p : Progress) :
   new : has_begun s.seen part ≡ false
   did : begin s part (text_at 2 words) ≡ Ok p
 
-heading_did : (s : State) (words : Fields) (p : Progress) → section_card s words ≡ Ok p → (part : Section) × HeadingDid s words part p
+heading_did : (s : State) (words : Fields) (p : Progress) → section_card s words ≡ Ok p →
+    (part : Section) × HeadingDid s words part p
 unfolding section_card
 heading_did s words p h =
     let a = need_ok (section_of (text_at 1 words)) code.UnknownSection _ p h in
@@ -194,9 +223,11 @@ heading_did s words p h =
 -- it is ENDATA, or another section
 data Begun (s : State) (part : Section) (word : List ℕ) (p : Progress) : Type 0 where
   Ended : (part_is : part ≡ section.End) → (did : finished s ≡ Ok p) → Begun s part word p
-  Began : (other : is_section (Some part) section.End ≡ false) → (next : State) → (did : headed (begun s part) part word ≡ Ok next) → (goes : More next ≡ p) → Begun s part word p
+  Began : (other : is_section (Some part) section.End ≡ false) → (next : State) →
+      (did : headed (begun s part) part word ≡ Ok next) → (goes : More next ≡ p) → Begun s part word p
 
-begins_by : (s : State) (part : Section) (word : List ℕ) (p : Progress) → is_section (Some part) section.End ≡ false → more (headed (begun s part) part word) ≡ Ok p → Begun s part word p
+begins_by : (s : State) (part : Section) (word : List ℕ) (p : Progress) → is_section (Some part) section.End ≡ false →
+    more (headed (begun s part) part word) ≡ Ok p → Begun s part word p
 begins_by s part word p e h =
     let a = step_ok (headed (begun s part) part word) (λ t. Ok (More t)) p h in
     Began e a.0 a.1 (same_ok (More a.0) p a.2)
@@ -211,9 +242,10 @@ begin_did s section.RightSides word p h = begins_by s section.RightSides word p 
 begin_did s section.Ranges word p h = begins_by s section.Ranges word p refl h
 begin_did s section.Bounds word p h = begins_by s section.Bounds word p refl h
 
--- ---- the lines behind a state
+-- ---- the lines after a state
 
-finished_did : (s : State) (p : Progress) → finished s ≡ Ok p → (objective : Name) × (s.objective ≡ Some objective) × (Done (model_by s objective) ≡ p)
+finished_did : (s : State) (p : Progress) → finished s ≡ Ok p →
+    (objective : Name) × (s.objective ≡ Some objective) × (Done (model_by s objective) ≡ p)
 unfolding finished
 finished_did s p h =
     let a = need_ok s.objective code.NoObjective _ p h in
@@ -223,11 +255,13 @@ same_done : (m o : Model) → Done m ≡ Done o → m ≡ o
 same_done m o h = cc
 
 module _ (style : Style) (Inv : SoFar → State → Type 0) (kept : IsKept style Inv) where
-  -- with the property, the lines behind a state lead to the model
+  -- with the property, the lines after a state lead to the model
   abbrev Leads_on : Lines → Model → State → Type 0
   Leads_on lines m s = (d : SoFar) → IsOrdered s.part s.seen → Inv d s → Ends Inv (whole d style s.part s.seen lines) m
 
-  line_goes : (c : SoFar) (s t : State) (l : Line (List ℕ)) (lines : Lines) (m : Model) → LineDid style s (bytes_of l) (More t) → IsOrdered s.part s.seen → Inv c s → Leads_on lines m t → Ends Inv (whole c style s.part s.seen (l ∷ lines)) m
+  line_goes : (c : SoFar) (s t : State) (l : Line (List ℕ)) (lines : Lines) (m : Model) →
+      LineDid style s (bytes_of l) (More t) → IsOrdered s.part s.seen → Inv c s → Leads_on lines m t →
+      Ends Inv (whole c style s.part s.seen (l ∷ lines)) m
   line_goes c s t l lines m (Skipped skipped same) o k f =
       subst (λ w. Ends Inv w m) (whole_skip c style s.part s.seen l lines skipped) (subst (Leads_on lines m) (sym (same_more s t same)) f c o k)
   line_goes c s t l lines m (Data not_skipped blank d) o k f =
@@ -243,7 +277,9 @@ module _ (style : Style) (Inv : SoFar → State → Type 0) (kept : IsKept style
       let h = heading_did s (word_fields (bytes_of l)) (More t) did in
       go h.0 h.1 (begin_did s h.0 (text_at 2 (word_fields (bytes_of l))) (More t) h.1.did)
     where
-      go : (part : Section) → HeadingDid s (word_fields (bytes_of l)) part (More t) → Begun s part (text_at 2 (word_fields (bytes_of l))) (More t) → Ends Inv (whole c style s.part s.seen (l ∷ lines)) m
+      go : (part : Section) → HeadingDid s (word_fields (bytes_of l)) part (More t) →
+          Begun s part (text_at 2 (word_fields (bytes_of l))) (More t) →
+          Ends Inv (whole c style s.part s.seen (l ∷ lines)) m
       go part h (Ended part_is did) = let a = finished_did s (More t) did in absurd (never_more a.2)
         where
           never_more : {m : Model} → Done m ≡ More t → ⊥
@@ -259,7 +295,8 @@ module _ (style : Style) (Inv : SoFar → State → Type 0) (kept : IsKept style
           ∙ whole_heading c style s.part part s.seen l lines (heading_is l part not_skipped filled h.part_is) other h.new o in
           subst (λ w. Ends Inv w m) to ends
 
-  line_ends : (c : SoFar) (s : State) (l : Line (List ℕ)) (lines : Lines) (m d : Model) → LineDid style s (bytes_of l) (Done d) → d ≡ m → Inv c s → Ends Inv (whole c style s.part s.seen (l ∷ lines)) m
+  line_ends : (c : SoFar) (s : State) (l : Line (List ℕ)) (lines : Lines) (m d : Model) →
+      LineDid style s (bytes_of l) (Done d) → d ≡ m → Inv c s → Ends Inv (whole c style s.part s.seen (l ∷ lines)) m
   line_ends c s l lines m d (Skipped skipped same) e k = absurd (cc)
   line_ends c s l lines m d (Data not_skipped blank did) e k = absurd (never_done did.goes)
     where
@@ -269,7 +306,9 @@ module _ (style : Style) (Inv : SoFar → State → Type 0) (kept : IsKept style
       let h = heading_did s (word_fields (bytes_of l)) (Done d) did in
       go h.0 h.1 (begin_did s h.0 (text_at 2 (word_fields (bytes_of l))) (Done d) h.1.did)
     where
-      go : (part : Section) → HeadingDid s (word_fields (bytes_of l)) part (Done d) → Begun s part (text_at 2 (word_fields (bytes_of l))) (Done d) → Ends Inv (whole c style s.part s.seen (l ∷ lines)) m
+      go : (part : Section) → HeadingDid s (word_fields (bytes_of l)) part (Done d) →
+          Begun s part (text_at 2 (word_fields (bytes_of l))) (Done d) →
+          Ends Inv (whole c style s.part s.seen (l ∷ lines)) m
       go part h (Ended part_is did) =
           let a = finished_did s (Done d) did in
           let heading = heading_is l section.End not_skipped filled (h.part_is ∙ ap (λ p. Some p) part_is) in
@@ -285,9 +324,14 @@ module _ (style : Style) (Inv : SoFar → State → Type 0) (kept : IsKept style
           never_done : More next ≡ Done d → ⊥
           never_done e = cc
 
-  settled_ends : (c : SoFar) (s : State) (l : Line (List ℕ)) (lines : Lines) (n : ℕ) (m : Model) (out : Outcome) → step style s l ≡ out → settled n (λ t. judge style t (n + 1) lines) out ≡ Spelled m → IsOrdered s.part s.seen → Inv c s → ((t : State) → judge style t (n + 1) lines ≡ Spelled m → Leads_on lines m t) → Ends Inv (whole c style s.part s.seen (l ∷ lines)) m
-  settled_ends c s l lines n m (Ok (More t)) e h o k f = line_goes c s t l lines m (step_did style s l (More t) e) o k (f t h)
-  settled_ends c s l lines n m (Ok (Done d)) e h o k f = line_ends c s l lines m d (step_did style s l (Done d) e) (same_model d m h) k
+  settled_ends : (c : SoFar) (s : State) (l : Line (List ℕ)) (lines : Lines) (n : ℕ) (m : Model) (out : Outcome) →
+      step style s l ≡ out → settled n (λ t. judge style t (n + 1) lines) out ≡ Spelled m → IsOrdered s.part s.seen →
+      Inv c s → ((t : State) → judge style t (n + 1) lines ≡ Spelled m → Leads_on lines m t) →
+      Ends Inv (whole c style s.part s.seen (l ∷ lines)) m
+  settled_ends c s l lines n m (Ok (More t)) e h o k f =
+      line_goes c s t l lines m (step_did style s l (More t) e) o k (f t h)
+  settled_ends c s l lines n m (Ok (Done d)) e h o k f =
+      line_ends c s l lines m d (step_did style s l (Done d) e) (same_model d m h) k
   settled_ends c s l lines n m (Err fault) e h o k f = absurd (cc)
 
   judged_ends : (lines : Lines) (s : State) (n : ℕ) (m : Model) → judge style s n lines ≡ Spelled m → Leads_on lines m s
@@ -295,7 +339,8 @@ module _ (style : Style) (Inv : SoFar → State → Type 0) (kept : IsKept style
   judged_ends (l ∷ lines) s n m h c o k =
       settled_ends c s l lines n m (step style s l) refl h o k (λ t e. judged_ends lines t (n + 1) m e)
 
-  pub spelled_ends : (lines : Lines) (m : Model) → Spells style lines m → Ends Inv (whole nothing style start.part start.seen lines) m
+  pub spelled_ends : (lines : Lines) (m : Model) → Spells style lines m →
+      Ends Inv (whole nothing style start.part start.seen lines) m
   spelled_ends lines m h = judged_ends lines start 1 m h nothing start_ordered kept.at_start
 
 -- ---- the cards of a whole text
@@ -314,7 +359,8 @@ all_of style lines =
       bounds = cards_in style section.Bounds lines;
     }
 
-all_cards : (style : Style) (part : Section) (lines : Lines) → cards_to_come style None false part lines ≡ cards_in style part lines
+all_cards : (style : Style) (part : Section) (lines : Lines) →
+    cards_to_come style None false part lines ≡ cards_in style part lines
 unfolding cards_to_come cards_in lines_in lines_up_to_end
 all_cards style part lines =
     ap (λ ls. cards_of style part ls)
@@ -324,7 +370,8 @@ all_cards style part lines =
 
 all_titles : (part : Section) (lines : Lines) → title_to_come false part lines ≡ title_of part lines
 unfolding title_to_come title_of lines_up_to_end
-all_titles part lines = ap (λ ls. option_map (λ l. word_fields (bytes_of l)) (find (begins part) ls)) (sym (before_is (begins section.End) lines))
+all_titles part lines =
+    ap (λ ls. option_map (λ l. word_fields (bytes_of l)) (find (begins part) ls)) (sym (before_is (begins section.End) lines))
 
 pub whole_is : (style : Style) (lines : Lines) → whole nothing style start.part start.seen lines ≡ all_of style lines
 whole_is style lines =
@@ -341,5 +388,7 @@ whole_is style lines =
     }
 
 -- What is kept holds of the state that the model is made of, with the cards of the text.
-pub spelled_by : (style : Style) (Inv : SoFar → State → Type 0) → IsKept style Inv → (lines : Lines) (m : Model) → Spells style lines m → Ends Inv (all_of style lines) m
-spelled_by style Inv kept lines m h = subst (λ c. Ends Inv c m) (whole_is style lines) (spelled_ends style Inv kept lines m h)
+pub spelled_by : (style : Style) (Inv : SoFar → State → Type 0) → IsKept style Inv → (lines : Lines) (m : Model) →
+    Spells style lines m → Ends Inv (all_of style lines) m
+spelled_by style Inv kept lines m h =
+    subst (λ c. Ends Inv c m) (whole_is style lines) (spelled_ends style Inv kept lines m h)

@@ -25,7 +25,8 @@ use Rattle.spec_meaning.proofs.PairsKept.{texts_none, Tells}
 
 -- ---- the fields of a card
 
-pub has_its_shape : (style : Style) (part : Section) (fields : Fields) (texts : List (List ℕ)) → shaped style part fields ≡ Ok texts → has_shape (shapes_of style part) fields ≡ true
+pub has_its_shape : (style : Style) (part : Section) (fields : Fields) (texts : List (List ℕ)) →
+    shaped style part fields ≡ Ok texts → has_shape (shapes_of style part) fields ≡ true
 unfolding shaped
 has_its_shape style part fields texts h = go (has_shape (shapes_of style part) fields) h
   where
@@ -37,16 +38,19 @@ abbrev pub AllLengths : (ℕ → Type 0) → List (List ℕ) → Type 0
 AllLengths P [] = Unit {0}
 AllLengths P (x ∷ xs) = P (length x) × AllLengths P xs
 
-any_length : (P : ℕ → Type 0) (xs : List ℕ) (shapes : List (List ℕ)) → AllLengths P shapes → list_any (same xs) shapes ≡ true → P (length xs)
+any_length : (P : ℕ → Type 0) (xs : List ℕ) (shapes : List (List ℕ)) → AllLengths P shapes →
+    list_any (same xs) shapes ≡ true → P (length xs)
 any_length P xs [] a h = absurd (cc)
 any_length P xs (shape ∷ shapes) a h = go (same xs shape) refl (any_length P xs shapes a.1) h
   where
-    go : (b : Bool) → same xs shape ≡ b → (list_any (same xs) shapes ≡ true → P (length xs)) → (b || list_any (same xs) shapes) ≡ true → P (length xs)
+    go : (b : Bool) → same xs shape ≡ b → (list_any (same xs) shapes ≡ true → P (length xs)) →
+        (b || list_any (same xs) shapes) ≡ true → P (length xs)
     go true e f k = subst (λ ys. P (length ys)) (sym (same_true xs shape e)) a.0
     go false e f k = f k
 
 -- a card has as many texts as one of the shapes
-pub shape_length : (P : ℕ → Type 0) (shapes : List (List ℕ)) (fields : Fields) → AllLengths P shapes → has_shape shapes fields ≡ true → P (length (texts_of fields))
+pub shape_length : (P : ℕ → Type 0) (shapes : List (List ℕ)) (fields : Fields) → AllLengths P shapes →
+    has_shape shapes fields ≡ true → P (length (texts_of fields))
 unfolding has_shape
 shape_length P shapes fields a h =
     subst P (many fields) (any_length P (numbers_of fields) shapes a h)
@@ -71,19 +75,27 @@ side_by_count (a ∷ b ∷ c ∷ d ∷ e ∷ f ∷ more) h = absurd (omega (arit
 count : (n : ℕ) → 2 ≤ n → n ≤ 5 → IsSideCount n
 count n h k = (h, k)
 
-counts_side : (style : Style) (fields : Fields) → has_shape (shapes_of style section.RightSides) fields ≡ true → IsSideCount (length (texts_of fields))
-counts_side Free fields h = shape_length IsSideCount _ fields (count 2 (omega arith) (omega arith), (count 3 (omega arith) (omega arith), (count 4 (omega arith) (omega arith), (count 5 (omega arith) (omega arith), tt)))) h
-counts_side Fixed fields h = shape_length IsSideCount _ fields (count 2 (omega arith) (omega arith), (count 3 (omega arith) (omega arith), (count 4 (omega arith) (omega arith), (count 5 (omega arith) (omega arith), tt)))) h
+counts_side : (style : Style) (fields : Fields) → has_shape (shapes_of style section.RightSides) fields ≡ true →
+    IsSideCount (length (texts_of fields))
+counts_side Free fields h =
+    shape_length IsSideCount _ fields (count 2 (omega arith) (omega arith), (count 3 (omega arith) (omega arith), (count 4 (omega arith) (omega arith), (count 5 (omega arith) (omega arith), tt)))) h
+counts_side Fixed fields h =
+    shape_length IsSideCount _ fields (count 2 (omega arith) (omega arith), (count 3 (omega arith) (omega arith), (count 4 (omega arith) (omega arith), (count 5 (omega arith) (omega arith), tt)))) h
 
-counts_range : (style : Style) (fields : Fields) → has_shape (shapes_of style section.Ranges) fields ≡ true → IsSideCount (length (texts_of fields))
+counts_range : (style : Style) (fields : Fields) → has_shape (shapes_of style section.Ranges) fields ≡ true →
+    IsSideCount (length (texts_of fields))
 counts_range Free fields h = counts_side Free fields h
 counts_range Fixed fields h = counts_side Fixed fields h
 
-pub side_is : (style : Style) (fields : Fields) (texts : List (List ℕ)) → shaped style section.RightSides fields ≡ Ok texts → side_of (texts_of fields) ≡ set_and_pairs (texts_of fields)
-side_is style fields texts h = side_by_count (texts_of fields) (counts_side style fields (has_its_shape style section.RightSides fields texts h))
+pub side_is : (style : Style) (fields : Fields) (texts : List (List ℕ)) →
+    shaped style section.RightSides fields ≡ Ok texts → side_of (texts_of fields) ≡ set_and_pairs (texts_of fields)
+side_is style fields texts h =
+    side_by_count (texts_of fields) (counts_side style fields (has_its_shape style section.RightSides fields texts h))
 
-pub range_is : (style : Style) (fields : Fields) (texts : List (List ℕ)) → shaped style section.Ranges fields ≡ Ok texts → side_of (texts_of fields) ≡ set_and_pairs (texts_of fields)
-range_is style fields texts h = side_by_count (texts_of fields) (counts_range style fields (has_its_shape style section.Ranges fields texts h))
+pub range_is : (style : Style) (fields : Fields) (texts : List (List ℕ)) →
+    shaped style section.Ranges fields ≡ Ok texts → side_of (texts_of fields) ≡ set_and_pairs (texts_of fields)
+range_is style fields texts h =
+    side_by_count (texts_of fields) (counts_range style fields (has_its_shape style section.Ranges fields texts h))
 
 -- ---- the set of the first card
 
@@ -109,13 +121,15 @@ same_as (Some a) (Some b) = refl
 
 flat_append : (xs ys : List Fields) → flat_map pairs_on (xs ++ ys) ≡ flat_map pairs_on xs ++ flat_map pairs_on ys
 flat_append [] ys = refl
-flat_append (x ∷ xs) ys = ap (λ more. pairs_on x ++ more) (flat_append xs ys) ∙ sym (append_assoc (pairs_on x) (flat_map pairs_on xs) (flat_map pairs_on ys))
+flat_append (x ∷ xs) ys =
+    ap (λ more. pairs_on x ++ more) (flat_append xs ys) ∙ sym (append_assoc (pairs_on x) (flat_map pairs_on xs) (flat_map pairs_on ys))
 
 flat_one : (b : Bool) (card : Fields) → flat_map pairs_on (cond b (card ∷ []) []) ≡ cond b (pairs_on card) []
 flat_one true card = append-nil (pairs_on card)
 flat_one false card = refl
 
-pub used_push : (cards : List Fields) (card : Fields) → used_pairs (cards ++ card ∷ []) ≡ used_pairs cards ++ cond (is_used (first_set cards) (set_on card)) (pairs_on card) []
+pub used_push : (cards : List Fields) (card : Fields) →
+    used_pairs (cards ++ card ∷ []) ≡ used_pairs cards ++ cond (is_used (first_set cards) (set_on card)) (pairs_on card) []
 unfolding used_pairs
 used_push [] card =
     ap (λ b. flat_map pairs_on (cond b (card ∷ []) [])) (same_as (set_on card) (set_on card) ∙ same_set_itself (set_on card)) ∙ append-nil (pairs_on card)
@@ -125,11 +139,13 @@ used_push (first ∷ cards) card =
     ∙ ap (λ more. used_pairs (first ∷ cards) ++ more) (flat_one (is_same_set (set_on first) (set_on card)) card)
     ∙ ap (λ b. used_pairs (first ∷ cards) ++ cond b (pairs_on card) []) (same_as (set_on first) (set_on card))
 
-first_used : (cards : List Fields) (card : Fields) → is_used (first_set cards) (set_on card) ≡ true → first_set (cards ++ card ∷ []) ≡ Some (set_on card)
+first_used : (cards : List Fields) (card : Fields) → is_used (first_set cards) (set_on card) ≡ true →
+    first_set (cards ++ card ∷ []) ≡ Some (set_on card)
 first_used [] card h = refl
 first_used (first ∷ cards) card h = ap (λ set. Some set) (same_set_true (set_on first) (set_on card) h)
 
-first_skipped : (cards : List Fields) (card : Fields) → is_used (first_set cards) (set_on card) ≡ false → first_set (cards ++ card ∷ []) ≡ first_set cards
+first_skipped : (cards : List Fields) (card : Fields) → is_used (first_set cards) (set_on card) ≡ false →
+    first_set (cards ++ card ∷ []) ≡ first_set cards
 first_skipped [] card h = absurd (cc)
 first_skipped (first ∷ cards) card h = refl
 
@@ -142,35 +158,44 @@ used_none = refl
 -- while its cards are read
 pub record IsDuring (cards : List Fields) (s : State) : Type 0 where
   pub set : s.set ≡ first_set cards
-  pub unpaired : (name : Name) (t : Target) → place_in (row_view s) name ≡ Some (Kept t) → is_among t s.paired ≡ false → texts_for name (used_pairs cards) ≡ []
+  pub unpaired : (name : Name) (t : Target) → place_in (row_view s) name ≡ Some (Kept t) → is_among t s.paired ≡ false →
+      texts_for name (used_pairs cards) ≡ []
 
 pub record Says (V : Type 0) (value_of : State → Target → V) (IsNumber : List (List ℕ) → V → Type 0) (part : Section) (seen_of : Seen → Bool) (cards : List Fields) (s : State) : Type 0 where
   pub none : seen_of s.seen ≡ false → (cards ≡ []) × ((t : Target) → IsNumber [] (value_of s t))
-  pub numbers : (name : Name) (t : Target) → place_in (row_view s) name ≡ Some (Kept t) → IsNumber (texts_for name (used_pairs cards)) (value_of s t)
+  pub numbers : (name : Name) (t : Target) → place_in (row_view s) name ≡ Some (Kept t) →
+      IsNumber (texts_for name (used_pairs cards)) (value_of s t)
   pub during : is_section s.part part ≡ true → IsDuring cards s
 
 module _ {V : Type 0} (value_of : State → Target → V) (IsNumber : List (List ℕ) → V → Type 0) (part : Section) (seen_of : Seen → Bool) (cards : List Fields) (s t : State) (k : Says V value_of IsNumber part seen_of cards s) where
   -- where neither the rows nor the values change
-  pub says_same : seen_of t.seen ≡ seen_of s.seen → row_view t ≡ row_view s → ((x : Target) → value_of t x ≡ value_of s x) → is_section t.part part ≡ false → Says V value_of IsNumber part seen_of cards t
+  pub says_same : seen_of t.seen ≡ seen_of s.seen → row_view t ≡ row_view s →
+      ((x : Target) → value_of t x ≡ value_of s x) → is_section t.part part ≡ false →
+      Says V value_of IsNumber part seen_of cards t
   says_same seen view value away =
       record {
         none = λ h. let n = k.none (sym seen ∙ h) in (n.0, λ x. subst (IsNumber []) (sym (value x)) (n.1 x));
-        numbers = λ name x h. subst (IsNumber (texts_for name (used_pairs cards))) (sym (value x)) (k.numbers name x (ap (λ v. place_in v name) (sym view) ∙ h));
+        numbers =
+            λ name x h. subst (IsNumber (texts_for name (used_pairs cards))) (sym (value x)) (k.numbers name x (ap (λ v. place_in v name) (sym view) ∙ h));
         during = λ h. not_both (is_section t.part part) h away;
       }
 
   -- before the section
-  pub says_before : seen_of s.seen ≡ false → seen_of t.seen ≡ seen_of s.seen → ((x : Target) → IsNumber [] (value_of t x)) → is_section t.part part ≡ false → Says V value_of IsNumber part seen_of cards t
+  pub says_before : seen_of s.seen ≡ false → seen_of t.seen ≡ seen_of s.seen →
+      ((x : Target) → IsNumber [] (value_of t x)) → is_section t.part part ≡ false →
+      Says V value_of IsNumber part seen_of cards t
   says_before new seen value away =
       let n = k.none new in
       record {
         none = λ h. (n.0, value);
-        numbers = λ name x h. subst (λ texts. IsNumber texts (value_of t x)) (sym (ap (λ c. texts_for name (used_pairs c)) n.0 ∙ ap (texts_for name) used_none ∙ texts_none name)) (value x);
+        numbers =
+            λ name x h. subst (λ texts. IsNumber texts (value_of t x)) (sym (ap (λ c. texts_for name (used_pairs c)) n.0 ∙ ap (texts_for name) used_none ∙ texts_none name)) (value x);
         during = λ h. not_both (is_section t.part part) h away;
       }
 
   -- as it begins
-  pub says_begun : seen_of s.seen ≡ false → seen_of t.seen ≡ true → row_view t ≡ row_view s → ((x : Target) → value_of t x ≡ value_of s x) → t.set ≡ None → Says V value_of IsNumber part seen_of cards t
+  pub says_begun : seen_of s.seen ≡ false → seen_of t.seen ≡ true → row_view t ≡ row_view s →
+      ((x : Target) → value_of t x ≡ value_of s x) → t.set ≡ None → Says V value_of IsNumber part seen_of cards t
   says_begun new seen view value set =
       let n = k.none new in
       let nothing = λ (name : Name). ap (λ c. texts_for name (used_pairs c)) n.0 ∙ ap (texts_for name) used_none ∙ texts_none name in
@@ -181,25 +206,32 @@ module _ {V : Type 0} (value_of : State → Target → V) (IsNumber : List (List
       }
 
   -- a card of the set that is used
-  pub says_used : (card : Fields) → seen_of t.seen ≡ true → is_used (first_set cards) (set_on card) ≡ true → t.set ≡ Some (set_on card) → Tells V value_of IsNumber (row_view s) (used_pairs cards ++ pairs_on card) t → Says V value_of IsNumber part seen_of (cards ++ card ∷ []) t
+  pub says_used : (card : Fields) → seen_of t.seen ≡ true → is_used (first_set cards) (set_on card) ≡ true →
+      t.set ≡ Some (set_on card) → Tells V value_of IsNumber (row_view s) (used_pairs cards ++ pairs_on card) t →
+      Says V value_of IsNumber part seen_of (cards ++ card ∷ []) t
   says_used card seen used set tells =
       let pairs : used_pairs (cards ++ card ∷ []) ≡ used_pairs cards ++ pairs_on card = used_push cards card ∙ ap (λ b. used_pairs cards ++ cond b (pairs_on card) []) used in
       record {
         none = λ h. not_both (seen_of t.seen) seen h;
-        numbers = λ name x h. subst (λ ps. IsNumber (texts_for name ps) (value_of t x)) (sym pairs) (tells.numbers name x (ap (λ v. place_in v name) (sym tells.view_is) ∙ h));
+        numbers =
+            λ name x h. subst (λ ps. IsNumber (texts_for name ps) (value_of t x)) (sym pairs) (tells.numbers name x (ap (λ v. place_in v name) (sym tells.view_is) ∙ h));
         during = λ h. record {
           set = set ∙ sym (first_used cards card used);
-          unpaired = λ name x g free. ap (texts_for name) pairs ∙ tells.unpaired name x (ap (λ v. place_in v name) (sym tells.view_is) ∙ g) free;
+          unpaired =
+              λ name x g free. ap (texts_for name) pairs ∙ tells.unpaired name x (ap (λ v. place_in v name) (sym tells.view_is) ∙ g) free;
         };
       }
 
 -- a card of another set
-pub says_skipped : {V : Type 0} (value_of : State → Target → V) (IsNumber : List (List ℕ) → V → Type 0) (part : Section) (seen_of : Seen → Bool) (cards : List Fields) (s : State) (card : Fields) → seen_of s.seen ≡ true → is_section s.part part ≡ true → is_used (first_set cards) (set_on card) ≡ false → Says V value_of IsNumber part seen_of cards s → Says V value_of IsNumber part seen_of (cards ++ card ∷ []) s
+pub says_skipped : {V : Type 0} (value_of : State → Target → V) (IsNumber : List (List ℕ) → V → Type 0) (part : Section) (seen_of : Seen → Bool) (cards : List Fields) (s : State) (card : Fields) →
+    seen_of s.seen ≡ true → is_section s.part part ≡ true → is_used (first_set cards) (set_on card) ≡ false →
+    Says V value_of IsNumber part seen_of cards s → Says V value_of IsNumber part seen_of (cards ++ card ∷ []) s
 says_skipped {V} value_of IsNumber part seen_of cards s card seen here skipped k =
     let pairs : used_pairs (cards ++ card ∷ []) ≡ used_pairs cards = used_push cards card ∙ ap (λ b. used_pairs cards ++ cond b (pairs_on card) []) skipped ∙ append-nil (used_pairs cards) in
     let d = k.during here in
     record {
       none = λ h. not_both (seen_of s.seen) seen h;
       numbers = λ name x h. subst (λ ps. IsNumber (texts_for name ps) (value_of s x)) (sym pairs) (k.numbers name x h);
-      during = λ h. record { set = d.set ∙ sym (first_skipped cards card skipped); unpaired = λ name x g free. ap (texts_for name) pairs ∙ d.unpaired name x g free };
+      during =
+          λ h. record { set = d.set ∙ sym (first_skipped cards card skipped); unpaired = λ name x g free. ap (texts_for name) pairs ∙ d.unpaired name x g free };
     }

@@ -47,7 +47,8 @@ SidesSay cards s = Says ℚ side_at IsTheNumber section.RightSides seen_sides ca
 
 -- ---- one pair
 
-changed_here : (rows : List ExactRow) (i : ℕ) (v : ℚ) → i < length rows → (get_or (changed_at i (λ r. record r { rhs = v }) rows) i no_row).rhs ≡ v
+changed_here : (rows : List ExactRow) (i : ℕ) (v : ℚ) → i < length rows →
+    (get_or (changed_at i (λ r. record r { rhs = v }) rows) i no_row).rhs ≡ v
 changed_here [] i v h = absurd (omega arith)
 changed_here (r ∷ rows) zero v h = refl
 changed_here (r ∷ rows) (suc i) v h = changed_here rows i v (omega arith)
@@ -55,7 +56,8 @@ changed_here (r ∷ rows) (suc i) v h = changed_here rows i v (omega arith)
 pub apart : (i j : ℕ) → eqb i j ≡ false → i ≢ j
 apart i j h e = let k : eqb i j ≡ true = eq-eqb i j e in cc
 
-pub changed_there : (change : ExactRow → ExactRow) (rows : List ExactRow) (i j : ℕ) → j ≢ i → get_or (changed_at i change rows) j no_row ≡ get_or rows j no_row
+pub changed_there : (change : ExactRow → ExactRow) (rows : List ExactRow) (i j : ℕ) → j ≢ i →
+    get_or (changed_at i change rows) j no_row ≡ get_or rows j no_row
 changed_there change [] i j h = refl
 changed_there change (r ∷ rows) zero zero h = absurd (h refl)
 changed_there change (r ∷ rows) zero (suc j) h = refl
@@ -68,7 +70,8 @@ row_inside s name i h =
     let l : i < length (labels s.rows) = (place_name (row_view s) name (Row i) (sym (place_by_view s name) ∙ h)).1 in
     omega (arith, many_labels s.rows)
 
-side_put : (s : State) (name : Name) (place : Place) (v : ℚ) (t : State) → place_of s name ≡ Some place → put_side s place v ≡ Ok t → Put ℚ side_at s place v t
+side_put : (s : State) (name : Name) (place : Place) (v : ℚ) (t : State) → place_of s name ≡ Some place →
+    put_side s place v ≡ Ok t → Put ℚ side_at s place v t
 unfolding put_side
 side_put s name Dropped v t at h = PutNowhere refl (same_ok s t h)
 side_put s name (Kept Objective) v t at h =
@@ -76,7 +79,8 @@ side_put s name (Kept Objective) v t at h =
     subst (Put ℚ side_at s (Kept Objective) v) (same_ok _ t a.1)
     (PutAt Objective refl (negated _ a.0) refl refl refl (neg-neg v) (λ x ne. elsewhere x ne))
   where
-    elsewhere : (x : Target) → same_target x Objective ≡ false → side_at (record s { offset = neg_ℚ v; paired = Objective ∷ s.paired }) x ≡ side_at s x
+    elsewhere : (x : Target) → same_target x Objective ≡ false →
+        side_at (record s { offset = neg_ℚ v; paired = Objective ∷ s.paired }) x ≡ side_at s x
     elsewhere Objective ne = absurd (cc)
     elsewhere (Row i) ne = refl
 side_put s name (Kept (Row i)) v t at h =
@@ -85,9 +89,11 @@ side_put s name (Kept (Row i)) v t at h =
     subst (Put ℚ side_at s (Kept (Row i)) v) (same_ok _ t a.1)
     (PutAt (Row i) refl (negated _ a.0) refl refl view (changed_here s.rows i v (row_inside s name i at)) (λ x ne. elsewhere x ne))
   where
-    elsewhere : (x : Target) → same_target x (Row i) ≡ false → side_at (record s { rows = changed_at i (λ r. record r { rhs = v }) s.rows; paired = Row i ∷ s.paired }) x ≡ side_at s x
+    elsewhere : (x : Target) → same_target x (Row i) ≡ false →
+        side_at (record s { rows = changed_at i (λ r. record r { rhs = v }) s.rows; paired = Row i ∷ s.paired }) x ≡ side_at s x
     elsewhere Objective ne = refl
-    elsewhere (Row j) ne = ap (λ (r : ExactRow). r.rhs) (changed_there (λ r. record r { rhs = v }) s.rows i j (apart j i ne))
+    elsewhere (Row j) ne =
+        ap (λ (r : ExactRow). r.rhs) (changed_there (λ r. record r { rhs = v }) s.rows i j (apart j i ne))
 
 -- ---- a card of RHS
 
@@ -95,16 +101,22 @@ record Reads (view : RowView) (old : Pairs) (set : Option Name) (done : Pairs) (
   tells : Tells ℚ side_at IsTheNumber view (old ++ done) u
   set_is : u.set ≡ Some set
 
-one_pair : (view : RowView) (old : Pairs) (set : Option Name) (done : Pairs) (s : State) (pair : List ℕ × List ℕ) (place : Place) (v : ℚ) (t : State) → frames.Pairs s pair place v → put_side s place v ≡ Ok t → Reads view old set done s → Reads view old set (done ++ pair ∷ []) t
+one_pair : (view : RowView) (old : Pairs) (set : Option Name) (done : Pairs) (s : State) (pair : List ℕ × List ℕ) (place : Place) (v : ℚ) (t : State) →
+    frames.Pairs s pair place v → put_side s place v ≡ Ok t → Reads view old set done s →
+    Reads view old set (done ++ pair ∷ []) t
 one_pair view old set done s pair place v t p h k =
     let put = side_put s pair.0 place v t p.place_is h in
     let at : place_in view pair.0 ≡ Some place = ap (λ w. place_in w pair.0) (sym k.tells.view_is) ∙ sym (place_by_view s pair.0) ∙ p.place_is in
     record {
-      tells = subst (λ ps. Tells ℚ side_at IsTheNumber view ps t) (append_assoc old done (pair ∷ [])) (tells_push view (old ++ done) s t pair place v at (number_is pair.1 v p.number_is) k.tells put);
+      tells =
+          subst (λ ps. Tells ℚ side_at IsTheNumber view ps t) (append_assoc old done (pair ∷ [])) (tells_push view (old ++ done) s t pair place v at (number_is pair.1 v p.number_is) k.tells put);
       set_is = put_set ℚ side_at s place v t put ∙ k.set_is;
     }
 
-used_card : (cards : List Fields) (card : Fields) (s t : State) → seen_sides t.seen ≡ true → is_section s.part section.RightSides ≡ true → is_used s.set (set_on card) ≡ true → side_pairs (record s { set = Some (set_on card) }) (pairs_on card) ≡ Ok t → SidesSay cards s → SidesSay (cards ++ card ∷ []) t
+used_card : (cards : List Fields) (card : Fields) (s t : State) → seen_sides t.seen ≡ true →
+    is_section s.part section.RightSides ≡ true → is_used s.set (set_on card) ≡ true →
+    side_pairs (record s { set = Some (set_on card) }) (pairs_on card) ≡ Ok t → SidesSay cards s →
+    SidesSay (cards ++ card ∷ []) t
 used_card cards card s t seen here used did k =
     let d = k.during here in
     let first : Tells ℚ side_at IsTheNumber (row_view s) (used_pairs cards ++ []) (record s { set = Some (set_on card) }) =
@@ -113,30 +125,38 @@ used_card cards card s t seen here used did k =
     let r = side_pairs_keep (Reads (row_view s) (used_pairs cards) (set_on card)) (one_pair (row_view s) (used_pairs cards) (set_on card)) (pairs_on card) [] (record s { set = Some (set_on card) }) t did (record { tells = first; set_is = refl }) in
     says_used side_at IsTheNumber section.RightSides seen_sides cards s t k card seen (ap (λ o. is_used o (set_on card)) (sym d.set) ∙ used) r.set_is r.tells
 
-rhs_says : (style : Style) (cards : List Fields) (card : Fields) (s t : State) → s.seen.right_sides ≡ true → is_section s.part section.RightSides ≡ true → t.seen ≡ s.seen → SetDid s (side_of (texts_of card)) side_pairs t → SidesSay cards s → SidesSay (cards ++ card ∷ []) t
-rhs_says style cards card s t seen here same_seen (Used used did) k = used_card cards card s t (ap seen_sides same_seen ∙ seen) here used did k
+rhs_says : (style : Style) (cards : List Fields) (card : Fields) (s t : State) → s.seen.right_sides ≡ true →
+    is_section s.part section.RightSides ≡ true → t.seen ≡ s.seen → SetDid s (side_of (texts_of card)) side_pairs t →
+    SidesSay cards s → SidesSay (cards ++ card ∷ []) t
+rhs_says style cards card s t seen here same_seen (Used used did) k =
+    used_card cards card s t (ap seen_sides same_seen ∙ seen) here used did k
 rhs_says style cards card s t seen here same_seen (Skipped other same) k =
     subst (SidesSay (cards ++ card ∷ [])) same
     (says_skipped side_at IsTheNumber section.RightSides seen_sides cards s card seen here (ap (λ o. is_used o (set_on card)) (sym (k.during here).set) ∙ other) k)
 
-sides_read : (style : Style) (s : State) (card : Fields) (t : State) → rhs_card style s card ≡ Ok t → side_of (texts_of card) ≡ set_and_pairs (texts_of card)
+sides_read : (style : Style) (s : State) (card : Fields) (t : State) → rhs_card style s card ≡ Ok t →
+    side_of (texts_of card) ≡ set_and_pairs (texts_of card)
 unfolding rhs_card
 sides_read style s card t h = let a = step_ok (shaped style section.RightSides card) _ t h in side_is style card a.0 a.1
 
 -- ---- other cards
 
 -- a view of rows that has their right sides
-pub viewed_row : {A : Type 0} (f : ExactRow → A) (view : ExactRow → ExactRow) → view no_row ≡ no_row → ((r : ExactRow) → f (view r) ≡ f r) → (xs ys : List ExactRow) → map view xs ≡ map view ys → (i : ℕ) → f (get_or xs i no_row) ≡ f (get_or ys i no_row)
+pub viewed_row : {A : Type 0} (f : ExactRow → A) (view : ExactRow → ExactRow) → view no_row ≡ no_row →
+    ((r : ExactRow) → f (view r) ≡ f r) → (xs ys : List ExactRow) → map view xs ≡ map view ys → (i : ℕ) →
+    f (get_or xs i no_row) ≡ f (get_or ys i no_row)
 viewed_row f view n same xs ys h i =
     sym (same (get_or xs i no_row))
     ∙ ap f (sym (get_or-map view xs i no_row) ∙ (λ j. get_or (h j) i (view no_row)) ∙ get_or-map view ys i no_row)
     ∙ same (get_or ys i no_row)
 
-sides_stay : (part : Section) (s t : State) → is_section (Some part) section.Rows ≡ false → is_section (Some part) section.RightSides ≡ false → Leads part s t → (x : Target) → side_at t x ≡ side_at s x
+sides_stay : (part : Section) (s t : State) → is_section (Some part) section.Rows ≡ false →
+    is_section (Some part) section.RightSides ≡ false → Leads part s t → (x : Target) → side_at t x ≡ side_at s x
 sides_stay section.Rows s t e f h x = absurd (cc)
 sides_stay section.RightSides s t e f h x = absurd (cc)
 sides_stay section.Ranges s t e f h Objective = ap (λ (u : State). neg_ℚ u.offset) h
-sides_stay section.Ranges s t e f h (Row i) = viewed_row (λ (r : ExactRow). r.rhs) without_range refl (λ r. refl) t.rows s.rows (ap (λ (u : State). u.rows) h) i
+sides_stay section.Ranges s t e f h (Row i) =
+    viewed_row (λ (r : ExactRow). r.rhs) without_range refl (λ r. refl) t.rows s.rows (ap (λ (u : State). u.rows) h) i
 sides_stay section.Name s t e f h x = ap (λ (u : State). side_at u x) h
 sides_stay section.Sense s t e f h x = ap (λ (u : State). side_at u x) h
 sides_stay section.Columns s t e f h Objective = ap (λ (u : State). neg_ℚ u.offset) h
@@ -145,24 +165,30 @@ sides_stay section.Bounds s t e f h Objective = ap (λ (u : State). neg_ℚ u.of
 sides_stay section.Bounds s t e f h (Row i) = ap (λ (u : State). (get_or u.rows i no_row).rhs) h
 sides_stay section.End s t e f h x = ap (λ (u : State). side_at u x) h
 
-pub pushed_row : {A : Type 0} (f : ExactRow → A) (P : A → Type 0) (rows : List ExactRow) (new : ExactRow) (i : ℕ) → P (f new) → ((j : ℕ) → P (f (get_or rows j no_row))) → P (f (get_or (rows ++ new ∷ []) i no_row))
+pub pushed_row : {A : Type 0} (f : ExactRow → A) (P : A → Type 0) (rows : List ExactRow) (new : ExactRow) (i : ℕ) →
+    P (f new) → ((j : ℕ) → P (f (get_or rows j no_row))) → P (f (get_or (rows ++ new ∷ []) i no_row))
 pushed_row f P [] new zero p h = p
 pushed_row f P [] new (suc i) p h = h zero
 pushed_row f P (r ∷ rows) new zero p h = h zero
 pushed_row f P (r ∷ rows) new (suc i) p h = pushed_row f P rows new i p (λ j. h (suc j))
 
-with_row_sides : (s : State) (type : RowType) (name : Name) → ((x : Target) → side_at s x ≡ 0ℚ) → (x : Target) → side_at (with_row s type name) x ≡ 0ℚ
+with_row_sides : (s : State) (type : RowType) (name : Name) → ((x : Target) → side_at s x ≡ 0ℚ) → (x : Target) →
+    side_at (with_row s type name) x ≡ 0ℚ
 with_row_sides s Unlimited name h x = go (is_none s.objective) x
   where
-    go : (b : Bool) (x : Target) → side_at (cond b (record s { objective = Some name }) (record s { dropped = s.dropped ++ name ∷ [] })) x ≡ 0ℚ
+    go : (b : Bool) (x : Target) →
+        side_at (cond b (record s { objective = Some name }) (record s { dropped = s.dropped ++ name ∷ [] })) x ≡ 0ℚ
     go true Objective = h Objective
     go true (Row i) = h (Row i)
     go false Objective = h Objective
     go false (Row i) = h (Row i)
 with_row_sides s (Limited kind) name h Objective = h Objective
-with_row_sides s (Limited kind) name h (Row i) = pushed_row (λ (r : ExactRow). r.rhs) (λ q. q ≡ 0ℚ) s.rows (new_row kind name) i refl (λ j. h (Row j))
+with_row_sides s (Limited kind) name h (Row i) =
+    pushed_row (λ (r : ExactRow). r.rhs) (λ q. q ≡ 0ℚ) s.rows (new_row kind name) i refl (λ j. h (Row j))
 
-sides_at_card : (style : Style) (c : SoFar) (s t : State) (part : Section) (card : Fields) → IsOrdered s.part s.seen → s.part ≡ Some part → data_card style (Some part) s card ≡ Ok t → SidesSay c.right_sides s → SidesSay (with_card part card c).right_sides t
+sides_at_card : (style : Style) (c : SoFar) (s t : State) (part : Section) (card : Fields) → IsOrdered s.part s.seen →
+    s.part ≡ Some part → data_card style (Some part) s card ≡ Ok t → SidesSay c.right_sides s →
+    SidesSay (with_card part card c).right_sides t
 sides_at_card style c s t section.RightSides card o here h k =
     let at : is_section s.part section.RightSides ≡ true = ap (λ p. is_section p section.RightSides) here in
     let seen = (stays section.RightSides s t (card_leads style section.RightSides s card t h)).1 in
@@ -181,11 +207,15 @@ sides_at_card style c s t part card o here h k =
 
 -- ---- sections that begin
 
-sides_stay_headed : (s : State) (part : Section) (word : List ℕ) (t : State) → headed (begun s part) part word ≡ Ok t → (x : Target) → side_at t x ≡ side_at s x
-sides_stay_headed s part word t h Objective = ap (λ (u : State). neg_ℚ u.offset) (headed_leads (begun s part) part word t h)
-sides_stay_headed s part word t h (Row i) = ap (λ (u : State). (get_or u.rows i no_row).rhs) (headed_leads (begun s part) part word t h)
+sides_stay_headed : (s : State) (part : Section) (word : List ℕ) (t : State) → headed (begun s part) part word ≡ Ok t →
+    (x : Target) → side_at t x ≡ side_at s x
+sides_stay_headed s part word t h Objective =
+    ap (λ (u : State). neg_ℚ u.offset) (headed_leads (begun s part) part word t h)
+sides_stay_headed s part word t h (Row i) =
+    ap (λ (u : State). (get_or u.rows i no_row).rhs) (headed_leads (begun s part) part word t h)
 
-sides_at_heading : (cards : List Fields) (s t : State) (part : Section) (word : List ℕ) → has_begun s.seen part ≡ false → headed (begun s part) part word ≡ Ok t → SidesSay cards s → SidesSay cards t
+sides_at_heading : (cards : List Fields) (s t : State) (part : Section) (word : List ℕ) →
+    has_begun s.seen part ≡ false → headed (begun s part) part word ≡ Ok t → SidesSay cards s → SidesSay cards t
 sides_at_heading cards s t section.RightSides word new h k =
     let u = headed_leads (begun s section.RightSides) section.RightSides word t h in
     says_begun side_at IsTheNumber section.RightSides seen_sides cards s t k new (ap (λ (x : State). x.seen.right_sides) u) (rows_stay_headed s section.RightSides word t h) (sides_stay_headed s section.RightSides word t h) (ap (λ (x : State). x.set) u)
@@ -220,16 +250,19 @@ sides_kept style =
 
 -- with the names of rows
 rows_and_sides : (style : Style) → IsKept style (λ c s. RowsSay c.rows (row_view s) × SidesSay c.right_sides s)
-rows_and_sides style = both_kept style (λ c s. RowsSay c.rows (row_view s)) (λ c s. SidesSay c.right_sides s) (rows_kept style) (sides_kept style)
+rows_and_sides style =
+    both_kept style (λ c s. RowsSay c.rows (row_view s)) (λ c s. SidesSay c.right_sides s) (rows_kept style) (sides_kept style)
 
-pub right_side_said : (style : Style) (lines : Lines) (m : Model) → Spells style lines m → (i : ℕ) → i < height m → IsTheNumber (texts_for (row m i).name (used_pairs (cards_in style section.RightSides lines))) (row m i).rhs
+pub right_side_said : (style : Style) (lines : Lines) (m : Model) → Spells style lines m → (i : ℕ) → i < height m →
+    IsTheNumber (texts_for (row m i).name (used_pairs (cards_in style section.RightSides lines))) (row m i).rhs
 unfolding model_by
 right_side_said style lines m h =
     let e = spelled_by style _ (rows_and_sides style) lines m h in
     subst (λ (m : Model). (i : ℕ) → i < height m → IsTheNumber (texts_for (row m i).name (used_pairs (cards_in style section.RightSides lines))) (row m i).rhs) e.model_is
     (λ i l. e.holds.1.numbers (get_or e.last.rows i no_row).name (Row i) (row_place e.last i e.holds.0.placed l))
 
-pub offset_said : (style : Style) (lines : Lines) (m : Model) → Spells style lines m → IsTheNumber (texts_for m.objective (used_pairs (cards_in style section.RightSides lines))) (neg_ℚ m.offset)
+pub offset_said : (style : Style) (lines : Lines) (m : Model) → Spells style lines m →
+    IsTheNumber (texts_for m.objective (used_pairs (cards_in style section.RightSides lines))) (neg_ℚ m.offset)
 unfolding model_by
 offset_said style lines m h =
     let e = spelled_by style _ (rows_and_sides style) lines m h in

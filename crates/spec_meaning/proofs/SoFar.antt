@@ -12,7 +12,7 @@ use Rattle.spec_mps.specs.Cards.{is_skipped, begins_with_blank}
 use Rattle.spec_mps.specs.Fields.{Fields, word_fields, column_fields, text_at}
 use Rattle.spec_meaning.specs.TextCards.{Lines, bytes_of, section_word, is_heading, begins, fields_in}
 
--- ---- the elements before and behind the first that passes a test
+-- ---- the elements before and after the first that passes a test
 
 abbrev pub before : {A : Type 0} → (A → Bool) → List A → List A
 before test [] = []
@@ -22,11 +22,13 @@ abbrev pub behind : {A : Type 0} → (A → Bool) → List A → List A
 behind test [] = []
 behind test (x ∷ xs) = cond (test x) xs (behind test xs)
 
-take_more : {A : Type 0} (b : Bool) (n : ℕ) (x : A) (xs ys : List A) → take n xs ≡ ys → take (cond (not b) (1 + n) 0) (x ∷ xs) ≡ cond b [] (x ∷ ys)
+take_more : {A : Type 0} (b : Bool) (n : ℕ) (x : A) (xs ys : List A) → take n xs ≡ ys →
+    take (cond (not b) (1 + n) 0) (x ∷ xs) ≡ cond b [] (x ∷ ys)
 take_more true n x xs ys h = refl
 take_more false n x xs ys h = rw (add_comm 1 n, add-one n) (ap (λ zs. x ∷ zs) h)
 
-drop_more : {A : Type 0} (b : Bool) (n : ℕ) (x : A) (xs ys : List A) → drop (n + 1) xs ≡ ys → drop (cond (not b) (1 + n) 0 + 1) (x ∷ xs) ≡ cond b xs ys
+drop_more : {A : Type 0} (b : Bool) (n : ℕ) (x : A) (xs ys : List A) → drop (n + 1) xs ≡ ys →
+    drop (cond (not b) (1 + n) 0 + 1) (x ∷ xs) ≡ cond b xs ys
 drop_more true n x xs ys h = refl
 drop_more false n x xs ys h = rw (add_comm 1 n, add-one (n + 1)) h
 
@@ -59,12 +61,14 @@ fields_by Free sense bytes = word_fields bytes
 fields_by Fixed true bytes = word_fields bytes
 fields_by Fixed false bytes = column_fields bytes
 
-fields_as : (style : Style) (part : Section) (bytes : List ℕ) → fields_in style part bytes ≡ fields_by style (eqb (section_number part) 1) bytes
+fields_as : (style : Style) (part : Section) (bytes : List ℕ) →
+    fields_in style part bytes ≡ fields_by style (eqb (section_number part) 1) bytes
 fields_as Free part bytes = refl
 fields_as Fixed section.Sense bytes = refl
 fields_as Fixed part bytes = refl
 
-fields_same : (style : Style) (p q : Section) (bytes : List ℕ) → is_section (Some p) q ≡ true → fields_in style p bytes ≡ fields_in style q bytes
+fields_same : (style : Style) (p q : Section) (bytes : List ℕ) → is_section (Some p) q ≡ true →
+    fields_in style p bytes ≡ fields_in style q bytes
 fields_same style p q bytes h =
     fields_as style p bytes
     ∙ ap (λ n. fields_by style (eqb n 1) bytes) (eqb→eq (section_number p) (section_number q) (subst T (sym h) tt))
@@ -83,7 +87,8 @@ pub record SoFar : Type 0 where
   pub bounds : List Fields
 
 abbrev pub nothing : SoFar
-nothing = record { name_title = None; sense_title = None; senses = []; rows = []; columns = []; right_sides = []; ranges = []; bounds = [] }
+nothing =
+    record { name_title = None; sense_title = None; senses = []; rows = []; columns = []; right_sides = []; ranges = []; bounds = [] }
 
 abbrev pub pushed : Bool → List Fields → Fields → List Fields
 pushed true cards fields = cards ++ fields ∷ []
@@ -124,10 +129,12 @@ lines_by false true part lines = []
 lines_by false false part lines = before is_heading (behind (begins part) lines)
 
 abbrev pub cards_of : Style → Section → Lines → List Fields
-cards_of style part lines = map (λ l. fields_in style part (bytes_of l)) (filter (λ l. not (is_skipped (bytes_of l))) lines)
+cards_of style part lines =
+    map (λ l. fields_in style part (bytes_of l)) (filter (λ l. not (is_skipped (bytes_of l))) lines)
 
 unfoldable pub cards_to_come : Style → Option Section → Bool → Section → Lines → List Fields
-cards_to_come style here seen part lines = cards_of style part (lines_by (is_section here part) seen part (before (begins section.End) lines))
+cards_to_come style here seen part lines =
+    cards_of style part (lines_by (is_section here part) seen part (before (begins section.End) lines))
 
 abbrev pub title_by : Bool → Section → Lines → Option Fields
 title_by true part lines = None
@@ -157,7 +164,8 @@ pub record IsPlain (l : Line (List ℕ)) : Type 0 where
   pub heading : is_heading l ≡ false
   pub begins_none : (part : Section) → begins part l ≡ false
 
-plain : (l : Line (List ℕ)) (s b : Bool) → is_skipped (bytes_of l) ≡ s → begins_with_blank (bytes_of l) ≡ b → not s && not b ≡ false → IsPlain l
+plain : (l : Line (List ℕ)) (s b : Bool) → is_skipped (bytes_of l) ≡ s → begins_with_blank (bytes_of l) ≡ b →
+    not s && not b ≡ false → IsPlain l
 plain l s b e f h =
     let g : is_heading l ≡ false = (λ i. not (e i) && not (f i)) ∙ h in
     record { heading = g; begins_none = λ part. ap (λ t. t && same (text_at 1 (word_fields (bytes_of l))) (section_word part)) g }
@@ -165,14 +173,16 @@ plain l s b e f h =
 pub skipped_plain : (l : Line (List ℕ)) → is_skipped (bytes_of l) ≡ true → IsPlain l
 skipped_plain l h = plain l true (begins_with_blank (bytes_of l)) h refl refl
 
-pub data_plain : (l : Line (List ℕ)) → is_skipped (bytes_of l) ≡ false → begins_with_blank (bytes_of l) ≡ true → IsPlain l
+pub data_plain : (l : Line (List ℕ)) → is_skipped (bytes_of l) ≡ false → begins_with_blank (bytes_of l) ≡ true →
+    IsPlain l
 data_plain l h b = plain l false true h b refl
 
 abbrev on_line : Style → Section → Line (List ℕ) → Bool → List Fields → List Fields
 on_line style part l counts cards = cond counts (fields_in style part (bytes_of l) ∷ cards) cards
 
 -- where its section is here, it counts unless it is skipped
-cards_plain : (style : Style) (part : Section) (at seen : Bool) (l : Line (List ℕ)) (lines : Lines) → IsPlain l → cards_of style part (lines_by at seen part (before (begins section.End) (l ∷ lines))) ≡ on_line style part l (at && not (is_skipped (bytes_of l))) (cards_of style part (lines_by at seen part (before (begins section.End) lines)))
+cards_plain : (style : Style) (part : Section) (at seen : Bool) (l : Line (List ℕ)) (lines : Lines) → IsPlain l →
+    cards_of style part (lines_by at seen part (before (begins section.End) (l ∷ lines))) ≡ on_line style part l (at && not (is_skipped (bytes_of l))) (cards_of style part (lines_by at seen part (before (begins section.End) lines)))
 cards_plain style part true seen l lines p =
     ap (λ b. cards_of style part (before is_heading (cond b [] (l ∷ before (begins section.End) lines)))) (p.begins_none section.End)
     ∙ ap (λ b. cards_of style part (cond b [] (l ∷ before is_heading (before (begins section.End) lines)))) p.heading
@@ -181,7 +191,8 @@ cards_plain style part true seen l lines p =
     rest : Lines
     rest = filter (λ l. not (is_skipped (bytes_of l))) (before is_heading (before (begins section.End) lines))
 
-    go : (b : Bool) → map (λ l. fields_in style part (bytes_of l)) (cond b (l ∷ rest) rest) ≡ on_line style part l b (map (λ l. fields_in style part (bytes_of l)) rest)
+    go : (b : Bool) →
+        map (λ l. fields_in style part (bytes_of l)) (cond b (l ∷ rest) rest) ≡ on_line style part l b (map (λ l. fields_in style part (bytes_of l)) rest)
     go true = refl
     go false = refl
 cards_plain style part false true l lines p = refl
@@ -189,14 +200,17 @@ cards_plain style part false false l lines p =
     ap (λ b. cards_of style part (before is_heading (behind (begins part) (cond b [] (l ∷ before (begins section.End) lines))))) (p.begins_none section.End)
     ∙ ap (λ b. cards_of style part (before is_heading (cond b (before (begins section.End) lines) (behind (begins part) (before (begins section.End) lines))))) (p.begins_none part)
 
-pub title_plain : (seen : Bool) (part : Section) (l : Line (List ℕ)) (lines : Lines) → IsPlain l → title_to_come seen part (l ∷ lines) ≡ title_to_come seen part lines
+pub title_plain : (seen : Bool) (part : Section) (l : Line (List ℕ)) (lines : Lines) → IsPlain l →
+    title_to_come seen part (l ∷ lines) ≡ title_to_come seen part lines
 unfolding title_to_come
 title_plain true part l lines p = refl
 title_plain false part l lines p =
     ap (λ b. option_map (λ l. word_fields (bytes_of l)) (find (begins part) (cond b [] (l ∷ before (begins section.End) lines)))) (p.begins_none section.End)
     ∙ ap (λ b. option_map (λ l. word_fields (bytes_of l)) (cond b (Some l) (find (begins part) (before (begins section.End) lines)))) (p.begins_none part)
 
-pub cards_skip : (style : Style) (here : Option Section) (seen : Bool) (part : Section) (l : Line (List ℕ)) (lines : Lines) → is_skipped (bytes_of l) ≡ true → cards_to_come style here seen part (l ∷ lines) ≡ cards_to_come style here seen part lines
+pub cards_skip : (style : Style) (here : Option Section) (seen : Bool) (part : Section) (l : Line (List ℕ)) (lines : Lines) →
+    is_skipped (bytes_of l) ≡ true →
+    cards_to_come style here seen part (l ∷ lines) ≡ cards_to_come style here seen part lines
 unfolding cards_to_come
 cards_skip style here seen part l lines h =
     cards_plain style part (is_section here part) seen l lines (skipped_plain l h)
@@ -206,7 +220,9 @@ cards_skip style here seen part l lines h =
     none true skipped e = ap not e
     none false skipped e = refl
 
-pub cards_data : (style : Style) (here : Section) (seen : Bool) (part : Section) (l : Line (List ℕ)) (lines : Lines) (cards : List Fields) → is_skipped (bytes_of l) ≡ false → begins_with_blank (bytes_of l) ≡ true → cards ++ cards_to_come style (Some here) seen part (l ∷ lines) ≡ pushed (is_section (Some here) part) cards (fields_in style here (bytes_of l)) ++ cards_to_come style (Some here) seen part lines
+pub cards_data : (style : Style) (here : Section) (seen : Bool) (part : Section) (l : Line (List ℕ)) (lines : Lines) (cards : List Fields) →
+    is_skipped (bytes_of l) ≡ false → begins_with_blank (bytes_of l) ≡ true →
+    cards ++ cards_to_come style (Some here) seen part (l ∷ lines) ≡ pushed (is_section (Some here) part) cards (fields_in style here (bytes_of l)) ++ cards_to_come style (Some here) seen part lines
 unfolding cards_to_come
 cards_data style here seen part l lines cards h b =
     ap (λ more. cards ++ more)
@@ -214,6 +230,9 @@ cards_data style here seen part l lines cards h b =
     ∙ ap (λ c. on_line style part l (is_section (Some here) part && not c) (cards_of style part (lines_by (is_section (Some here) part) seen part (before (begins section.End) lines)))) h)
     ∙ go (is_section (Some here) part) (fields_same style here part (bytes_of l)) (cards_of style part (lines_by (is_section (Some here) part) seen part (before (begins section.End) lines)))
   where
-    go : (at : Bool) → (at ≡ true → fields_in style here (bytes_of l) ≡ fields_in style part (bytes_of l)) → (more : List Fields) → cards ++ on_line style part l (at && true) more ≡ pushed at cards (fields_in style here (bytes_of l)) ++ more
-    go true f more = ap (λ fields. cards ++ fields ∷ more) (sym (f refl)) ∙ sym (append_assoc cards (fields_in style here (bytes_of l) ∷ []) more)
+    go : (at : Bool) → (at ≡ true → fields_in style here (bytes_of l) ≡ fields_in style part (bytes_of l)) →
+        (more : List Fields) →
+        cards ++ on_line style part l (at && true) more ≡ pushed at cards (fields_in style here (bytes_of l)) ++ more
+    go true f more =
+        ap (λ fields. cards ++ fields ∷ more) (sym (f refl)) ∙ sym (append_assoc cards (fields_in style here (bytes_of l) ∷ []) more)
     go false f more = refl

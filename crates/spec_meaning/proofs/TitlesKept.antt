@@ -26,7 +26,8 @@ use Rattle.spec_meaning.proofs.SoFar.{is_section, SoFar, with_card, or_else, wit
 use Rattle.spec_meaning.proofs.Order.{IsOrdered, not_both}
 use Rattle.spec_meaning.proofs.Runs.{IsKept, spelled_by, stays, headed_leads}
 
-seen_stays : (s : State) (part : Section) (word : List ℕ) (t : State) → headed (begun s part) part word ≡ Ok t → t.seen ≡ with_section s.seen part
+seen_stays : (s : State) (part : Section) (word : List ℕ) (t : State) → headed (begun s part) part word ≡ Ok t →
+    t.seen ≡ with_section s.seen part
 seen_stays s part word t h = ap (λ (u : State). u.seen) (headed_leads (begun s part) part word t h)
 
 -- ---- NAME
@@ -46,25 +47,33 @@ took_name_beside : (s : State) (word : List ℕ) (t : State) → sense_beside s 
 took_name_beside s [] t h = sym (ap (λ (u : State). u.name) (same_ok s t h))
 took_name_beside s (b ∷ bs) t h = took_name s (b ∷ bs) t h
 
-name_stays : (s : State) (part : Section) (word : List ℕ) (t : State) → is_section (Some part) section.Name ≡ false → headed s part word ≡ Ok t → t.name ≡ s.name
+name_stays : (s : State) (part : Section) (word : List ℕ) (t : State) → is_section (Some part) section.Name ≡ false →
+    headed s part word ≡ Ok t → t.name ≡ s.name
 name_stays s section.Name word t e h = absurd (cc)
 name_stays s section.Sense word t e h = took_name_beside s word t h
-name_stays s section.Columns word t e h = let a = must_ok (is_some s.objective) code.NoObjective _ t h in sym (ap (λ (u : State). u.name) (same_ok s t a.1))
+name_stays s section.Columns word t e h =
+    let a = must_ok (is_some s.objective) code.NoObjective _ t h in sym (ap (λ (u : State). u.name) (same_ok s t a.1))
 name_stays s part word t e h = sym (ap (λ (u : State). u.name) (same_ok s t h))
 
 named : (s : State) (word : List ℕ) (t : State) → headed s section.Name word ≡ Ok t → t.name ≡ word
-named s word t h = let a = must_ok (is_model_name word) code.Name _ t h in sym (ap (λ (u : State). u.name) (same_ok _ t a.1))
+named s word t h =
+    let a = must_ok (is_model_name word) code.Name _ t h in sym (ap (λ (u : State). u.name) (same_ok _ t a.1))
 
-name_same : (title : Option Fields) (s t : State) → t.seen.name ≡ s.seen.name → t.name ≡ s.name → NameSays title s.seen.name s.name → NameSays title t.seen.name t.name
+name_same : (title : Option Fields) (s t : State) → t.seen.name ≡ s.seen.name → t.name ≡ s.name →
+    NameSays title s.seen.name s.name → NameSays title t.seen.name t.name
 name_same title s t e f k = record { none = λ h. k.none (sym e ∙ h); name_is = f ∙ k.name_is }
 
-name_at_heading : (c : SoFar) (s t : State) (part : Section) (words : Fields) → has_begun s.seen part ≡ false → headed (begun s part) part (text_at 2 words) ≡ Ok t → NameSays c.name_title s.seen.name s.name → NameSays (with_title part words c).name_title t.seen.name t.name
+name_at_heading : (c : SoFar) (s t : State) (part : Section) (words : Fields) → has_begun s.seen part ≡ false →
+    headed (begun s part) part (text_at 2 words) ≡ Ok t → NameSays c.name_title s.seen.name s.name →
+    NameSays (with_title part words c).name_title t.seen.name t.name
 name_at_heading c s t section.Name words new h k =
     let seen : t.seen.name ≡ true = ap (λ (x : Seen). x.name) (seen_stays s section.Name (text_at 2 words) t h) in
     subst (λ o. NameSays (or_else o (Some words)) t.seen.name t.name) (sym (k.none new))
     (record { none = λ f. not_both t.seen.name seen f; name_is = named (begun s section.Name) (text_at 2 words) t h })
-name_at_heading c s t section.Sense words new h k = name_same c.name_title s t (ap (λ (x : Seen). x.name) (seen_stays s section.Sense (text_at 2 words) t h)) (name_stays (begun s section.Sense) section.Sense (text_at 2 words) t refl h) k
-name_at_heading c s t part words new h k = name_same c.name_title s t (ap (λ (x : Seen). x.name) (seen_stays s part (text_at 2 words) t h)) (name_stays (begun s part) part (text_at 2 words) t refl h) k
+name_at_heading c s t section.Sense words new h k =
+    name_same c.name_title s t (ap (λ (x : Seen). x.name) (seen_stays s section.Sense (text_at 2 words) t h)) (name_stays (begun s section.Sense) section.Sense (text_at 2 words) t refl h) k
+name_at_heading c s t part words new h k =
+    name_same c.name_title s t (ap (λ (x : Seen). x.name) (seen_stays s part (text_at 2 words) t h)) (name_stays (begun s part) part (text_at 2 words) t refl h) k
 
 card_keeps_name : (part : Section) (s t : State) → Leads part s t → t.name ≡ s.name
 card_keeps_name section.Name s t h = ap (λ (u : State). u.name) h
@@ -75,10 +84,12 @@ name_kept style =
     record {
       at_start = record { none = λ h. refl; name_is = refl };
       at_heading = λ c s t part words o new h k. name_at_heading c s t part words new h k;
-      at_card = λ c s t part card o here h k. let leads = card_leads style part s card t h in name_same c.name_title s t (ap (λ (x : Seen). x.name) (stays part s t leads).1) (card_keeps_name part s t leads) k;
+      at_card =
+          λ c s t part card o here h k. let leads = card_leads style part s card t h in name_same c.name_title s t (ap (λ (x : Seen). x.name) (stays part s t leads).1) (card_keeps_name part s t leads) k;
     }
 
-pub name_said : (style : Style) (lines : Lines) (m : Model) → Spells style lines m → m.name ≡ second_word (title_of section.Name lines)
+pub name_said : (style : Style) (lines : Lines) (m : Model) → Spells style lines m →
+    m.name ≡ second_word (title_of section.Name lines)
 unfolding model_by
 name_said style lines m h =
     let e = spelled_by style _ (name_kept style) lines m h in
@@ -96,7 +107,8 @@ record SenseSays (title : Option Fields) (cards : List Fields) (begun : Bool) (s
   none : begun ≡ false → (title ≡ None) × (cards ≡ [])
   sense_is : SenseIs (sense_words title cards) sense
 
-took_sense : (s : State) (word : List ℕ) (t : State) → take_sense s word ≡ Ok t → (x : Sense) × (sense_of word ≡ Some x) × (s.sense ≡ None) × (t.sense ≡ Some x)
+took_sense : (s : State) (word : List ℕ) (t : State) → take_sense s word ≡ Ok t →
+    (x : Sense) × (sense_of word ≡ Some x) × (s.sense ≡ None) × (t.sense ≡ Some x)
 unfolding take_sense
 took_sense s word t h =
     let a = need_ok (sense_of word) code.CardShape _ t h in
@@ -112,13 +124,16 @@ unsaid (word ∷ []) sense e k = absurd (no_some (sym e ∙ k.2))
     no_some h = cc
 unsaid (word ∷ other ∷ more) sense e k = absurd k
 
-words_push : (title : Option Fields) (cards : List Fields) (card : Fields) → sense_words title (cards ++ card ∷ []) ≡ sense_words title cards ++ text_at 1 card ∷ []
+words_push : (title : Option Fields) (cards : List Fields) (card : Fields) →
+    sense_words title (cards ++ card ∷ []) ≡ sense_words title cards ++ text_at 1 card ∷ []
 unfolding sense_words
 words_push title cards card =
     ap (λ words. filter has_bytes (second_word title ∷ []) ++ words) (map-append (text_at 1) cards (card ∷ []))
     ∙ sym (append_assoc (filter has_bytes (second_word title ∷ [])) (map (text_at 1) cards) (text_at 1 card ∷ []))
 
-sense_card_says : (style : Style) (title : Option Fields) (cards : List Fields) (s t : State) (card : Fields) → sense_card style s card ≡ Ok t → SenseIs (sense_words title cards) s.sense → SenseIs (sense_words title (cards ++ card ∷ [])) t.sense
+sense_card_says : (style : Style) (title : Option Fields) (cards : List Fields) (s t : State) (card : Fields) →
+    sense_card style s card ≡ Ok t → SenseIs (sense_words title cards) s.sense →
+    SenseIs (sense_words title (cards ++ card ∷ [])) t.sense
 unfolding sense_card
 sense_card_says style title cards s t card h k =
     let a = step_ok (shaped style section.Sense card) _ t h in
@@ -126,10 +141,15 @@ sense_card_says style title cards s t card h k =
     subst (λ words. SenseIs words t.sense) (sym (words_push title cards card ∙ ap (λ words. words ++ text_at 1 card ∷ []) (unsaid (sense_words title cards) s.sense b.2 k)))
     (b.0, b.1, b.3)
 
-sense_same : (title : Option Fields) (cards : List Fields) (s t : State) → t.seen.sense ≡ s.seen.sense → t.sense ≡ s.sense → SenseSays title cards s.seen.sense s.sense → SenseSays title cards t.seen.sense t.sense
-sense_same title cards s t e f k = record { none = λ h. k.none (sym e ∙ h); sense_is = subst (SenseIs (sense_words title cards)) (sym f) k.sense_is }
+sense_same : (title : Option Fields) (cards : List Fields) (s t : State) → t.seen.sense ≡ s.seen.sense →
+    t.sense ≡ s.sense → SenseSays title cards s.seen.sense s.sense → SenseSays title cards t.seen.sense t.sense
+sense_same title cards s t e f k =
+    record { none = λ h. k.none (sym e ∙ h); sense_is = subst (SenseIs (sense_words title cards)) (sym f) k.sense_is }
 
-sense_at_card : (style : Style) (c : SoFar) (s t : State) (part : Section) (card : Fields) → IsOrdered s.part s.seen → s.part ≡ Some part → data_card style (Some part) s card ≡ Ok t → SenseSays c.sense_title c.senses s.seen.sense s.sense → SenseSays (with_card part card c).sense_title (with_card part card c).senses t.seen.sense t.sense
+sense_at_card : (style : Style) (c : SoFar) (s t : State) (part : Section) (card : Fields) → IsOrdered s.part s.seen →
+    s.part ≡ Some part → data_card style (Some part) s card ≡ Ok t →
+    SenseSays c.sense_title c.senses s.seen.sense s.sense →
+    SenseSays (with_card part card c).sense_title (with_card part card c).senses t.seen.sense t.sense
 sense_at_card style c s t section.Sense card o here h k =
     let seen : t.seen.sense ≡ true = ap (λ (x : Seen). x.sense) (stays section.Sense s t (card_leads style section.Sense s card t h)).1 ∙ o.told.senses (ap (λ p. is_section p section.Sense) here) in
     record { none = λ f. not_both t.seen.sense seen f; sense_is = sense_card_says style c.sense_title c.senses s t card h k.sense_is }
@@ -137,15 +157,20 @@ sense_at_card style c s t part card o here h k =
     let leads = card_leads style part s card t h in
     sense_same c.sense_title c.senses s t (ap (λ (x : Seen). x.sense) (stays part s t leads).1) (ap (λ (u : State). u.sense) leads) k
 
-sense_stays : (s : State) (part : Section) (word : List ℕ) (t : State) → is_section (Some part) section.Sense ≡ false → headed s part word ≡ Ok t → t.sense ≡ s.sense
-sense_stays s section.Name word t e h = let a = must_ok (is_model_name word) code.Name _ t h in sym (ap (λ (u : State). u.sense) (same_ok _ t a.1))
+sense_stays : (s : State) (part : Section) (word : List ℕ) (t : State) → is_section (Some part) section.Sense ≡ false →
+    headed s part word ≡ Ok t → t.sense ≡ s.sense
+sense_stays s section.Name word t e h =
+    let a = must_ok (is_model_name word) code.Name _ t h in sym (ap (λ (u : State). u.sense) (same_ok _ t a.1))
 sense_stays s section.Sense word t e h = absurd (cc)
-sense_stays s section.Columns word t e h = let a = must_ok (is_some s.objective) code.NoObjective _ t h in sym (ap (λ (u : State). u.sense) (same_ok s t a.1))
+sense_stays s section.Columns word t e h =
+    let a = must_ok (is_some s.objective) code.NoObjective _ t h in sym (ap (λ (u : State). u.sense) (same_ok s t a.1))
 sense_stays s part word t e h = sym (ap (λ (u : State). u.sense) (same_ok s t h))
 
-sense_beside_says : (s t : State) (words : Fields) (word : List ℕ) → word ≡ text_at 2 words → sense_beside s word ≡ Ok t → s.sense ≡ None → SenseIs (sense_words (Some words) []) t.sense
+sense_beside_says : (s t : State) (words : Fields) (word : List ℕ) → word ≡ text_at 2 words →
+    sense_beside s word ≡ Ok t → s.sense ≡ None → SenseIs (sense_words (Some words) []) t.sense
 unfolding sense_words
-sense_beside_says s t words [] e h none = subst (λ word. SenseIs (filter has_bytes (word ∷ []) ++ []) t.sense) e (sym (ap (λ (u : State). u.sense) (same_ok s t h)) ∙ none)
+sense_beside_says s t words [] e h none =
+    subst (λ word. SenseIs (filter has_bytes (word ∷ []) ++ []) t.sense) e (sym (ap (λ (u : State). u.sense) (same_ok s t h)) ∙ none)
 sense_beside_says s t words (b ∷ bs) e h none =
     let a = took_sense s (b ∷ bs) t h in
     subst (λ word. SenseIs (filter has_bytes (word ∷ []) ++ []) t.sense) e (a.0, a.1, a.3)
@@ -154,7 +179,9 @@ none_said : (sense : Option Sense) → SenseIs (sense_words None []) sense → s
 unfolding sense_words
 none_said sense k = k
 
-sense_at_heading : (c : SoFar) (s t : State) (part : Section) (words : Fields) → has_begun s.seen part ≡ false → headed (begun s part) part (text_at 2 words) ≡ Ok t → SenseSays c.sense_title c.senses s.seen.sense s.sense → SenseSays (with_title part words c).sense_title c.senses t.seen.sense t.sense
+sense_at_heading : (c : SoFar) (s t : State) (part : Section) (words : Fields) → has_begun s.seen part ≡ false →
+    headed (begun s part) part (text_at 2 words) ≡ Ok t → SenseSays c.sense_title c.senses s.seen.sense s.sense →
+    SenseSays (with_title part words c).sense_title c.senses t.seen.sense t.sense
 sense_at_heading c s t section.Sense words new h k =
     let seen : t.seen.sense ≡ true = ap (λ (x : Seen). x.sense) (seen_stays s section.Sense (text_at 2 words) t h) in
     let before = k.none new in
@@ -181,11 +208,13 @@ abbrev AllSay : List (List ℕ × Sense) → Type 0
 AllSay [] = Unit {0}
 AllSay (x ∷ xs) = IsSenseWord x.1 x.0 × AllSay xs
 
-looked_up : (word : List ℕ) (sense : Sense) (table : List (List ℕ × Sense)) → AllSay table → look_up word table ≡ Some sense → IsSenseWord sense word
+looked_up : (word : List ℕ) (sense : Sense) (table : List (List ℕ × Sense)) → AllSay table →
+    look_up word table ≡ Some sense → IsSenseWord sense word
 looked_up word sense [] a h = absurd (cc)
 looked_up word sense (x ∷ xs) a h = go (same word x.0) refl (looked_up word sense xs a.1) h
   where
-    go : (b : Bool) → same word x.0 ≡ b → (look_up word xs ≡ Some sense → IsSenseWord sense word) → cond b (Some x.1) (look_up word xs) ≡ Some sense → IsSenseWord sense word
+    go : (b : Bool) → same word x.0 ≡ b → (look_up word xs ≡ Some sense → IsSenseWord sense word) →
+        cond b (Some x.1) (look_up word xs) ≡ Some sense → IsSenseWord sense word
     go true e f k = subst₂ IsSenseWord (same_some x.1 sense k) (sym (same_true word x.0 e)) a.0
     go false e f k = f k
 
@@ -196,12 +225,15 @@ sense_word : (word : List ℕ) (sense : Sense) → sense_of word ≡ Some sense 
 unfolding sense_of
 sense_word word sense h = looked_up word sense senses (inl refl, (inr refl, (inl refl, (inr refl, tt)))) h
 
-sense_of_words : (words : List (List ℕ)) (sense : Option Sense) → SenseIs words sense → IsSenseOf words (sense_or_min sense)
+sense_of_words : (words : List (List ℕ)) (sense : Option Sense) → SenseIs words sense →
+    IsSenseOf words (sense_or_min sense)
 sense_of_words [] sense k = ap sense_or_min k
-sense_of_words (word ∷ []) sense k = sense_word word (sense_or_min sense) (k.1 ∙ ap (λ o. Some (sense_or_min o)) (sym k.2))
+sense_of_words (word ∷ []) sense k =
+    sense_word word (sense_or_min sense) (k.1 ∙ ap (λ o. Some (sense_or_min o)) (sym k.2))
 sense_of_words (word ∷ other ∷ more) sense k = absurd k
 
-pub sense_said : (style : Style) (lines : Lines) (m : Model) → Spells style lines m → IsSenseOf (sense_words (title_of section.Sense lines) (cards_in style section.Sense lines)) m.sense
+pub sense_said : (style : Style) (lines : Lines) (m : Model) → Spells style lines m →
+    IsSenseOf (sense_words (title_of section.Sense lines) (cards_in style section.Sense lines)) m.sense
 unfolding model_by
 sense_said style lines m h =
     let e = spelled_by style _ (sense_kept style) lines m h in

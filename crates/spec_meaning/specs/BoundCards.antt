@@ -65,7 +65,8 @@ bound_on style card = bound_by style (kind_of (text_at 1 card)) card
 -- the cards of the set that the first card names, and of these the cards of a column
 unfoldable pub used_bounds : Style → List Fields → List Fields
 used_bounds style [] = []
-used_bounds style (first ∷ cards) = filter (λ card. is_same_set (bound_on style first).set (bound_on style card).set) (first ∷ cards)
+used_bounds style (first ∷ cards) =
+    filter (λ card. is_same_set (bound_on style first).set (bound_on style card).set) (first ∷ cards)
 
 unfoldable pub bounds_of_column : Style → Name → List Fields → List Fields
 bounds_of_column style name cards = filter (λ card. same (bound_on style card).column name) (used_bounds style cards)

@@ -53,4 +53,5 @@ is_same_set a b = false
 -- the pairs of the set that the first card names; cards of other sets count for nothing
 unfoldable pub used_pairs : List Fields → Pairs
 used_pairs [] = []
-used_pairs (first ∷ cards) = flat_map pairs_on (filter (λ card. is_same_set (set_on first) (set_on card)) (first ∷ cards))
+used_pairs (first ∷ cards) =
+    flat_map pairs_on (filter (λ card. is_same_set (set_on first) (set_on card)) (first ∷ cards))

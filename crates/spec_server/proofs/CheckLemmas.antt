@@ -1,4 +1,4 @@
--- What lines say, some behind others.
+-- What lines say, some after others.
 use Rattle.std.proofs.Common.{◌≡◌}
 use Rattle.spec_text.specs.declared.line.Line.TheVariants.{End}
 use Rattle.spec_mps.specs.Steps as text

@@ -28,11 +28,13 @@ module _ (budget : ℕ) (m : Model) (known : Known ℚ) (cert : Certificate (Lis
   same_known : (other : Known ℚ) (c : Certificate (List ℚ)) (b : Option (List Status)) (n : ℕ) → cold None budget m ≡ outcome.Ended other c b n
       → (cold (Some number_limit) budget m ≡ cold None budget m) ⊎ ((p : Past ℚ) × (cold (Some number_limit) budget m ≡ outcome.Past p)) → other ≡ known
   same_known other c b n e (inl s) =
-      let z : ◌≡◌ {A = ColdEnd} (outcome.Ended other c b n) (outcome.Ended known cert basis pivots) = sym e ∙ sym s ∙ found in cc
+      let z : ◌≡◌ {A = ColdEnd} (outcome.Ended other c b n) (outcome.Ended known cert basis pivots) = sym e ∙ sym s ∙ found in
+      cc
   same_known other c b n e (inr p) = absurd (no_past p.0 p.1)
 
   answers_known : (solved : ColdEnd) → IsSolved m budget solved → answer_of budget solved ≡ answer.Known known
-  answers_known (outcome.Ended other c b n) s = ap answer.Known (same_known other c b n s.how_fits (cold_same (Some number_limit) budget m))
+  answers_known (outcome.Ended other c b n) s =
+      ap answer.Known (same_known other c b n s.how_fits (cold_same (Some number_limit) budget m))
   answers_known (outcome.Past p) s = absurd (no_past p s.may_answer)
   answers_known outcome.Spent s = absurd (no_spent s.may_answer)
 
@@ -48,4 +50,5 @@ answered_so old new m known cert basis pivots replied held found (inr h) = inr h
 pub solve_answers : (old new : State) (reads : List Read) (replied : ExactReply) (m : Model) (known : Known ℚ) (cert : Certificate (List ℚ)) (basis : Option (List Status)) (pivots : ℕ) → old.model ≡ Some m
     → cold (Some number_limit) old.budget m ≡ outcome.Ended known cert basis pivots → AloneStep old (ask.Plain plain.Solve) reads replied new
     → (replied ≡ reply.Answered (answer.Known known)) ⊎ (replied ≡ reply.Memory)
-solve_answers old new reads replied m known cert basis pivots held found s = answered_so old new m known cert basis pivots replied held found s.answer
+solve_answers old new reads replied m known cert basis pivots held found s =
+    answered_so old new m known cert basis pivots replied held found s.answer

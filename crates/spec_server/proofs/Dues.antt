@@ -32,14 +32,16 @@ use Rattle.spec_server.specs.Machine.{ExactAsk, ExactReply, ExactLastAnswer, IsK
 
 -- ---- the cold solve at the limit is a solve that is allowed
 
-cold_fits : (limit : Option ℕ) (budget : ℕ) (m : Model) (known : Known ℚ) (c : Certificate (List ℚ)) (basis : Option (List Status)) (pivots : ℕ) → cold limit budget m ≡ outcome.Ended known c basis pivots → IsFor m c
+cold_fits : (limit : Option ℕ) (budget : ℕ) (m : Model) (known : Known ℚ) (c : Certificate (List ℚ)) (basis : Option (List Status)) (pivots : ℕ) →
+    cold limit budget m ≡ outcome.Ended known c basis pivots → IsFor m c
 cold_fits limit budget m known c basis pivots =
     by_end limit budget m (λ e. e ≡ outcome.Ended known c basis pivots → IsFor m c)
     (λ a d basis' pivots' t e. let same : d ≡ c = cc in subst (IsFor m) same t.accepted.fits)
     (λ p e. let z : ◌≡◌ {A = ColdEnd} (outcome.Past p) (outcome.Ended known c basis pivots) = e in cc)
     (λ f p q e. let z : ◌≡◌ {A = ColdEnd} outcome.Spent (outcome.Ended known c basis pivots) = e in cc)
 
-past_is_no_end : (p : Past ℚ) (known : Known ℚ) (c : Certificate (List ℚ)) (basis : Option (List Status)) (pivots : ℕ) → ◌≡◌ {A = ColdEnd} (outcome.Past p) (outcome.Ended known c basis pivots) → ⊥
+past_is_no_end : (p : Past ℚ) (known : Known ℚ) (c : Certificate (List ℚ)) (basis : Option (List Status)) (pivots : ℕ) →
+    ◌≡◌ {A = ColdEnd} (outcome.Past p) (outcome.Ended known c basis pivots) → ⊥
 past_is_no_end p known c basis pivots e = cc
 
 cold_unlimited : (budget : ℕ) (m : Model) (known : Known ℚ) (c : Certificate (List ℚ)) (basis : Option (List Status)) (pivots : ℕ) →
@@ -48,7 +50,8 @@ cold_unlimited : (budget : ℕ) (m : Model) (known : Known ℚ) (c : Certificate
 cold_unlimited budget m known c basis pivots (inl h) e = sym h ∙ e
 cold_unlimited budget m known c basis pivots (inr h) e = absurd (past_is_no_end h.0 known c basis pivots (sym h.1 ∙ e))
 
-solved_as : (m : Model) (budget : ℕ) (solved : ColdEnd) → IsModel m → cold (Some number_limit) budget m ≡ solved → IsSolved m budget solved
+solved_as : (m : Model) (budget : ℕ) (solved : ColdEnd) → IsModel m → cold (Some number_limit) budget m ≡ solved →
+    IsSolved m budget solved
 solved_as m budget (outcome.Ended known c basis pivots) kept e = record {
   may_answer = (
     cold_fits (Some number_limit) budget m known c basis pivots e,
@@ -58,8 +61,10 @@ solved_as m budget (outcome.Ended known c basis pivots) kept e = record {
   how_fits = cold_unlimited budget m known c basis pivots (cold_same (Some number_limit) budget m) e;
   without_form = λ fault no_form. sym e;
 }
-solved_as m budget (outcome.Past p) kept e = record { may_answer = e; how_fits = tt; without_form = λ fault no_form. sym e }
-solved_as m budget outcome.Spent kept e = record { may_answer = e; how_fits = tt; without_form = λ fault no_form. sym e }
+solved_as m budget (outcome.Past p) kept e =
+    record { may_answer = e; how_fits = tt; without_form = λ fault no_form. sym e }
+solved_as m budget outcome.Spent kept e =
+    record { may_answer = e; how_fits = tt; without_form = λ fault no_form. sym e }
 
 pub cold_is_solved : (m : Model) (budget : ℕ) → IsModel m → IsSolved m budget (cold (Some number_limit) budget m)
 cold_is_solved m budget kept = solved_as m budget (cold (Some number_limit) budget m) kept refl
@@ -81,7 +86,8 @@ IsKeptDue (Solves m) = IsModel m
 
 does : (state : State) (what : Due) → IsKeptDue what → Does state what (due_reply state what) (due_next state what)
 does state (Replies replied next) h = (refl, refl)
-does state (Solves m) h = record { solved = cold (Some number_limit) state.budget m; is_solved = cold_is_solved m state.budget h; answer = refl; kept = refl }
+does state (Solves m) h =
+    record { solved = cold (Some number_limit) state.budget m; is_solved = cold_is_solved m state.budget h; answer = refl; kept = refl }
 
 abbrev pub IsKeptState : State → Type 0
 IsKeptState state = IfSome state.model IsModel
@@ -109,29 +115,34 @@ reply_to state asked = due_reply state (due state asked)
 abbrev pub state_after : State → ExactAsk → State
 state_after state asked = due_next state (due state asked)
 
-pub does_due : (state : State) (asked : ExactAsk) → IsKeptState state → Does state (due state asked) (reply_to state asked) (state_after state asked)
+pub does_due : (state : State) (asked : ExactAsk) → IsKeptState state →
+    Does state (due state asked) (reply_to state asked) (state_after state asked)
 does_due state asked h = does state (due state asked) (due_kept state asked h)
 
-after_solve : (state : State) (held : Option Model) → IsKeptState state → IsKeptState (due_next state (solve_due state held))
+after_solve : (state : State) (held : Option Model) → IsKeptState state →
+    IsKeptState (due_next state (solve_due state held))
 after_solve state None h = h
 after_solve state (Some m) h = h
 
-after_edit : (state : State) (r : OrFault Model) → IsKeptState state → ((m : Model) → r ≡ Ok m → IsModel m) → IsKeptState (due_next state (edit_due state r))
+after_edit : (state : State) (r : OrFault Model) → IsKeptState state → ((m : Model) → r ≡ Ok m → IsModel m) →
+    IsKeptState (due_next state (edit_due state r))
 after_edit state (Ok m) h go = go m refl
 after_edit state (Err why) h go = h
 
-after_change : (state : State) (held : Option Model) (e : ExactEdit) → IsKeptState state → IfSome held IsModel → IsKeptEdit e → IsKeptState (due_next state (change_due state held e))
+after_change : (state : State) (held : Option Model) (e : ExactEdit) → IsKeptState state → IfSome held IsModel →
+    IsKeptEdit e → IsKeptState (due_next state (change_due state held e))
 after_change state None e h kept may = h
 after_change state (Some m) e h kept may = after_edit state (edited m e) h (λ n is. edited-kept m n e kept may is)
 
-pub after_kept : (state : State) (asked : ExactAsk) → IsKeptState state → IsKeptAsk asked → IsKeptState (state_after state asked)
+pub after_kept : (state : State) (asked : ExactAsk) → IsKeptState state → IsKeptAsk asked →
+    IsKeptState (state_after state asked)
 after_kept state (ask.Plain plain.Solve) h k = after_solve state state.model h
 after_kept state (ask.Plain plain.Quit) h k = tt
 after_kept state (ask.Plain (plain.Change e)) h k = after_change state state.model e h h k
 after_kept state (ask.Loaded m) h k = k
 after_kept state asked h k = h
 
--- ---- no such reply wants memory
+-- ---- no such reply is MEMORY
 
 ample_verdict : (m : Model) (r : Settled (Certificate (List ℚ))) → is_memory (verdict_on m r) ≡ false
 ample_verdict m (Ok cert) = refl
@@ -178,7 +189,8 @@ ample_edit : (state : State) (r : OrFault Model) → is_memory (due_reply state 
 ample_edit state (Ok m) = refl
 ample_edit state (Err why) = ample_refusal why
 
-ample_change : (state : State) (held : Option Model) (e : ExactEdit) → is_memory (due_reply state (change_due state held e)) ≡ false
+ample_change : (state : State) (held : Option Model) (e : ExactEdit) →
+    is_memory (due_reply state (change_due state held e)) ≡ false
 ample_change state None e = refl
 ample_change state (Some m) e = ample_edit state (edited m e)
 

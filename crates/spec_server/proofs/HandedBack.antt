@@ -1,4 +1,4 @@
--- The certificate of an answer is accepted, where its lines are handed back.
+-- The certificate of an answer is accepted, if its lines are given back.
 use Rattle.std.proofs.Common.{ℕ, List, Option, ap, ◌∙◌}
 use Rattle.spec_exact.specs.Fraction.{ℚ}
 use Rattle.spec_model.specs.Model.{Model}

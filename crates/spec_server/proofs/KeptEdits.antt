@@ -20,12 +20,14 @@ use Rattle.spec_server.specs.declared.command.EditWord.TheVariants.{AddRow, DelR
 use Rattle.spec_server.specs.EditCommand.{Reads, ◌>>=◌, as_read, number_in, kind_in, sense_in, range_in, lower_by, lower_in, upper_by, upper_in, two_by_two, numbers_in, column_in, edit_by}
 
 -- what is read next, by what holds of the value that was read before
-then_kept : {A B : Type 0} (P : A → Type 0) (Q : B → Type 0) (read : Reads A) (next : A → Reads B) → IfOk read P → ((a : A) → P a → IfOk (next a) Q) → IfOk (read >>= next) Q
+then_kept : {A B : Type 0} (P : A → Type 0) (Q : B → Type 0) (read : Reads A) (next : A → Reads B) → IfOk read P →
+    ((a : A) → P a → IfOk (next a) Q) → IfOk (read >>= next) Q
 then_kept P Q (Ok a) next h go = go a h
 then_kept P Q (Err why) next h go = tt
 
 -- the same, where nothing is asked of that value
-any_kept : {A B : Type 0} (Q : B → Type 0) (read : Reads A) (next : A → Reads B) → ((a : A) → IfOk (next a) Q) → IfOk (read >>= next) Q
+any_kept : {A B : Type 0} (Q : B → Type 0) (read : Reads A) (next : A → Reads B) → ((a : A) → IfOk (next a) Q) →
+    IfOk (read >>= next) Q
 any_kept Q (Ok a) next go = go a
 any_kept Q (Err why) next go = tt
 
@@ -96,7 +98,8 @@ pairs_kept (p ∷ pairs) =
     then_kept AreKeptPairs AreKeptPairs (numbers_in pairs) _ (pairs_kept pairs) λ rest k.
     All-cons (λ (p : Name × ℚ). IsNarrow p.1) (p.0, v) rest h k
 
-column_kept : (name : Name) (cost : List ℕ) (pairs : Option (List (List ℕ × List ℕ))) → IfOk (column_in name cost pairs) IsKeptEdit
+column_kept : (name : Name) (cost : List ℕ) (pairs : Option (List (List ℕ × List ℕ))) →
+    IfOk (column_in name cost pairs) IsKeptEdit
 column_kept name cost None = tt
 column_kept name cost (Some pairs) =
     then_kept IsNarrow IsKeptEdit (number_in cost) _ (number_kept cost) λ c h.
@@ -117,7 +120,8 @@ edit_kept DelRow (name ∷ []) = tt
 edit_kept AddCol (name ∷ cost ∷ pairs) = column_kept name cost (two_by_two pairs)
 edit_kept DelCol (name ∷ []) = tt
 edit_kept SetCost (name ∷ value ∷ []) = then_kept IsNarrow IsKeptEdit (number_in value) _ (number_kept value) λ v h. h
-edit_kept SetCoef (row ∷ column ∷ value ∷ []) = then_kept IsNarrow IsKeptEdit (number_in value) _ (number_kept value) λ v h. h
+edit_kept SetCoef (row ∷ column ∷ value ∷ []) =
+    then_kept IsNarrow IsKeptEdit (number_in value) _ (number_kept value) λ v h. h
 edit_kept SetRhs (name ∷ value ∷ []) = then_kept IsNarrow IsKeptEdit (number_in value) _ (number_kept value) λ v h. h
 edit_kept SetRange (name ∷ value ∷ []) = then_kept IsKeptRange IsKeptEdit (range_in value) _ (range_kept value) λ r h. h
 edit_kept SetBound (name ∷ lower ∷ upper ∷ []) =

@@ -39,7 +39,8 @@ use Rattle.spec_server.proofs.NarrowStart.{IsNarrowForm, one_narrow, form_narrow
 
 -- ---- steps up to an end
 
-spent_narrow : (t : Tableau) (used : ℕ) (choice : Choice ℚ) (e : PrimalEnded) → end_or_spent t used choice ≡ Ok e → AreNarrow t → AreNarrow e.tableau
+spent_narrow : (t : Tableau) (used : ℕ) (choice : Choice ℚ) (e : PrimalEnded) → end_or_spent t used choice ≡ Ok e →
+    AreNarrow t → AreNarrow e.tableau
 spent_narrow t used (End end) e h n =
     let same : ◌≡◌ {A = PrimalEnded} (record { end = end; tableau = t; used = used }) e = cc in
     subst (λ (e : PrimalEnded). AreNarrow e.tableau) same n
@@ -58,7 +59,8 @@ next_narrow t used next (Pivot p j theta to) e h n k =
     let o = then_ok (refused_as stop.Past (pivot_run (Some number_limit) t p j theta to)) next e h in
     k o.0 o.2 (pivot_narrow t o.0 p j theta to (refused_ok stop.Past (pivot_run (Some number_limit) t p j theta to) o.0 o.1) n)
 
-run_narrow : (left used : ℕ) (t : Tableau) (e : PrimalEnded) → run_from (Some number_limit) left used t ≡ Ok e → AreNarrow t → AreNarrow e.tableau
+run_narrow : (left used : ℕ) (t : Tableau) (e : PrimalEnded) → run_from (Some number_limit) left used t ≡ Ok e →
+    AreNarrow t → AreNarrow e.tableau
 unfolding run_from
 run_narrow zero used t e h n =
     let o = then_ok (refused_as stop.Past (choice_run (Some number_limit) t)) (end_or_spent t used) e h in
@@ -70,11 +72,14 @@ run_narrow (suc left) used t e h n =
 
 -- ---- both phases
 
-fixed_narrow : (n m : ℕ) (bounds : List (Option ℚ)) → All NarrowBound bounds → All NarrowBound (fixed_at_zero n m bounds)
+fixed_narrow : (n m : ℕ) (bounds : List (Option ℚ)) → All NarrowBound bounds →
+    All NarrowBound (fixed_at_zero n m bounds)
 fixed_narrow n zero bounds h = h
-fixed_narrow n (suc m) bounds h = All-set NarrowBound (fixed_at_zero n m bounds) (n + m) (Some 0ℚ) zero_narrow (fixed_narrow n m bounds h)
+fixed_narrow n (suc m) bounds h =
+    All-set NarrowBound (fixed_at_zero n m bounds) (n + m) (Some 0ℚ) zero_narrow (fixed_narrow n m bounds h)
 
-two_narrow : (f : Form) (t u : Tableau) → phase_two_run (Some number_limit) f t ≡ Ok u → IsNarrowForm f → AreNarrow t → AreNarrow u
+two_narrow : (f : Form) (t u : Tableau) → phase_two_run (Some number_limit) f t ≡ Ok u → IsNarrowForm f → AreNarrow t →
+    AreNarrow u
 unfolding phase_two_run
 two_narrow f t u h k n =
     let o = then_ok (priced_run (Some number_limit) (without_artificials t) f.cost) _ u h in
@@ -92,16 +97,20 @@ abbrev NarrowEnd : PhasesEnd → Type 0
 NarrowEnd (Infeasible t used) = AreNarrow t
 NarrowEnd (Finished e) = AreNarrow e.tableau
 
-one_phase_narrow : (budget : ℕ) (t : Tableau) (e : PrimalEnded) → phase_one (Some number_limit) budget t ≡ Ok e → AreNarrow t → AreNarrow e.tableau
+one_phase_narrow : (budget : ℕ) (t : Tableau) (e : PrimalEnded) → phase_one (Some number_limit) budget t ≡ Ok e →
+    AreNarrow t → AreNarrow e.tableau
 one_phase_narrow budget t e h n = by (wants_phase_one t) h
   where
-    by : (c : Bool) → cond c (run_from (Some number_limit) budget 0 t) (Ok (record { end = Optimal; tableau = t; used = 0 })) ≡ Ok e → AreNarrow e.tableau
+    by : (c : Bool) →
+        cond c (run_from (Some number_limit) budget 0 t) (Ok (record { end = Optimal; tableau = t; used = 0 })) ≡ Ok e →
+        AreNarrow e.tableau
     by true q = run_narrow budget 0 t e q n
     by false q =
         let same : ◌≡◌ {A = PrimalEnded} (record { end = Optimal; tableau = t; used = 0 }) e = cc in
         subst (λ (e : PrimalEnded). AreNarrow e.tableau) same n
 
-two_phases_narrow : (budget : ℕ) (f : Form) (one : PrimalEnded) (e : PhasesEnd) → phase_two (Some number_limit) budget f one ≡ Ok e → IsNarrowForm f → AreNarrow one.tableau → NarrowEnd e
+two_phases_narrow : (budget : ℕ) (f : Form) (one : PrimalEnded) (e : PhasesEnd) →
+    phase_two (Some number_limit) budget f one ≡ Ok e → IsNarrowForm f → AreNarrow one.tableau → NarrowEnd e
 two_phases_narrow budget f one e h k n =
     let o = then_ok (refused_as stop.Past (phase_two_run (Some number_limit) f one.tableau)) _ e h in
     let p = then_ok (run_from (Some number_limit) (budget - one.used) one.used o.0) (λ two. Ok (Finished two)) e o.2 in
@@ -109,7 +118,8 @@ two_phases_narrow budget f one e h k n =
     subst NarrowEnd same
     (run_narrow (budget - one.used) one.used o.0 p.0 p.1 (two_narrow f one.tableau o.0 (refused_ok stop.Past (phase_two_run (Some number_limit) f one.tableau) o.0 o.1) k n))
 
-phases_narrow : (budget : ℕ) (f : Form) (e : PhasesEnd) → phases_run (Some number_limit) budget f ≡ Ok e → IsNarrowForm f → NarrowEnd e
+phases_narrow : (budget : ℕ) (f : Form) (e : PhasesEnd) → phases_run (Some number_limit) budget f ≡ Ok e →
+    IsNarrowForm f → NarrowEnd e
 unfolding phases_run
 phases_narrow budget f e h k =
     let o = then_ok (refused_as stop.Past (start_of (Some number_limit) f)) _ e h in
@@ -117,7 +127,9 @@ phases_narrow budget f e h k =
     let start : AreNarrow o.0 = start_narrow f o.0 (refused_ok stop.Past (start_of (Some number_limit) f) o.0 o.1) k in
     by (is_stuck p.0.tableau) p.0 p.2 (one_phase_narrow budget o.0 p.0 p.1 start)
   where
-    by : (c : Bool) (one : PrimalEnded) → cond c (Ok (Infeasible one.tableau one.used)) (phase_two (Some number_limit) budget f one) ≡ Ok e → AreNarrow one.tableau → NarrowEnd e
+    by : (c : Bool) (one : PrimalEnded) →
+        cond c (Ok (Infeasible one.tableau one.used)) (phase_two (Some number_limit) budget f one) ≡ Ok e →
+        AreNarrow one.tableau → NarrowEnd e
     by true one q n = let same : Infeasible one.tableau one.used ≡ e = cc in subst NarrowEnd same n
     by false one q n = two_phases_narrow budget f one e q k n
 
@@ -135,19 +147,23 @@ moves_narrow t j up k zero n = by (nat_eq k j)
     by false = zero_narrow
 moves_narrow t j up k (suc m) n = by (nat_eq (basic_at t m) k) (moves_narrow t j up k m n)
   where
-    by : (c : Bool) → IsNarrow (moves_below t j up k m) → IsNarrow (cond c (neg_ℚ (directed up (entry_at t m j))) (moves_below t j up k m))
-    by true h = neg_narrow (directed up (entry_at t m j)) (directed_narrow up (entry_at t m j) (place_narrow t.entries n.entries m j))
+    by : (c : Bool) → IsNarrow (moves_below t j up k m) →
+        IsNarrow (cond c (neg_ℚ (directed up (entry_at t m j))) (moves_below t j up k m))
+    by true h =
+        neg_narrow (directed up (entry_at t m j)) (directed_narrow up (entry_at t m j) (place_narrow t.entries n.entries m j))
     by false h = h
 
 point_narrow : (t : Tableau) → AreNarrow t → All IsNarrow (point t)
 point_narrow t n = All-made IsNarrow t.cols (value_at t) (λ k l. number_at t.value n.value k)
 
 multipliers_narrow : (t : Tableau) → AreNarrow t → All IsNarrow (multipliers t)
-multipliers_narrow t n = All-made IsNarrow t.rows (λ i. reduced_at t (t.cols + i)) (λ i l. number_at t.reduced n.reduced (t.cols + i))
+multipliers_narrow t n =
+    All-made IsNarrow t.rows (λ i. reduced_at t (t.cols + i)) (λ i l. number_at t.reduced n.reduced (t.cols + i))
 
 end_narrow : (t : Tableau) (end : PrimalEnd) → AreNarrow t → IsNarrowCertificate (certificate_at t end)
 end_narrow t Optimal n = (point_narrow t n, multipliers_narrow t n)
-end_narrow t (Unbounded j up) n = (point_narrow t n, All-made IsNarrow t.cols (moves_by t j up) (λ k l. moves_narrow t j up k t.rows n))
+end_narrow t (Unbounded j up) n =
+    (point_narrow t n, All-made IsNarrow t.cols (moves_by t j up) (λ k l. moves_narrow t j up k t.rows n))
 
 certificate_narrow : (e : PhasesEnd) → NarrowEnd e → IsNarrowCertificate (certificate_of e)
 certificate_narrow (Infeasible t used) n = multipliers_narrow t n
@@ -159,25 +175,38 @@ module _ (known : Known ℚ) (cert : Certificate (List ℚ)) (basis : Option (Li
   abbrev IsThisEnd : ColdEnd → Type 0
   IsThisEnd o = o ≡ outcome.Ended known cert basis pivots
 
-  by_check : (c : Certificate (List ℚ)) (b : Option (List Status)) (n : ℕ) (run : Result (Known ℚ) (CheckStop ℚ)) → IsThisEnd (checked c b n run) → IsNarrowCertificate c → IsNarrowCertificate cert
+  by_check : (c : Certificate (List ℚ)) (b : Option (List Status)) (n : ℕ) (run : Result (Known ℚ) (CheckStop ℚ)) →
+      IsThisEnd (checked c b n run) → IsNarrowCertificate c → IsNarrowCertificate cert
   by_check c b n (Ok a) e h =
       let z : ◌≡◌ {A = ColdEnd} (outcome.Ended a c b n) (outcome.Ended known cert basis pivots) = e in
       let same : c ≡ cert = cc in
       subst IsNarrowCertificate same h
-  by_check c b n (Err (check.Past p)) e h = let z : ◌≡◌ {A = ColdEnd} (outcome.Past p) (outcome.Ended known cert basis pivots) = e in cc
-  by_check c b n (Err (check.No k)) e h = let z : ◌≡◌ {A = ColdEnd} outcome.Spent (outcome.Ended known cert basis pivots) = e in cc
+  by_check c b n (Err (check.Past p)) e h =
+      let z : ◌≡◌ {A = ColdEnd} (outcome.Past p) (outcome.Ended known cert basis pivots) = e in cc
+  by_check c b n (Err (check.No k)) e h =
+      let z : ◌≡◌ {A = ColdEnd} outcome.Spent (outcome.Ended known cert basis pivots) = e in cc
 
-  by_phases : (m : Model) (o : Result PhasesEnd (Spending ℚ)) → IsThisEnd (after_phases (Some number_limit) m o) → ((p : PhasesEnd) → o ≡ Ok p → NarrowEnd p) → IsNarrowCertificate cert
-  by_phases m (Ok p) e h = by_check (certificate_of p) (basis_of p) (pivots_of p) (check_run (Some number_limit) m (certificate_of p)) e (certificate_narrow p (h p refl))
-  by_phases m (Err (stop.Past p)) e h = let z : ◌≡◌ {A = ColdEnd} (outcome.Past p) (outcome.Ended known cert basis pivots) = e in cc
-  by_phases m (Err stop.Spent) e h = let z : ◌≡◌ {A = ColdEnd} outcome.Spent (outcome.Ended known cert basis pivots) = e in cc
+  by_phases : (m : Model) (o : Result PhasesEnd (Spending ℚ)) → IsThisEnd (after_phases (Some number_limit) m o) →
+      ((p : PhasesEnd) → o ≡ Ok p → NarrowEnd p) → IsNarrowCertificate cert
+  by_phases m (Ok p) e h =
+      by_check (certificate_of p) (basis_of p) (pivots_of p) (check_run (Some number_limit) m (certificate_of p)) e (certificate_narrow p (h p refl))
+  by_phases m (Err (stop.Past p)) e h =
+      let z : ◌≡◌ {A = ColdEnd} (outcome.Past p) (outcome.Ended known cert basis pivots) = e in cc
+  by_phases m (Err stop.Spent) e h =
+      let z : ◌≡◌ {A = ColdEnd} outcome.Spent (outcome.Ended known cert basis pivots) = e in cc
 
-  by_form : (budget : ℕ) (m : Model) (o : Result Form (FormFault ℚ)) → IsThisEnd (after_form (Some number_limit) budget m o) → ((f : Form) → o ≡ Ok f → IsNarrowForm f) → IsNarrowCertificate cert
-  by_form budget m (Ok f) e h = by_phases m (phases_run (Some number_limit) budget f) e (λ p q. phases_narrow budget f p q (h f refl))
-  by_form budget m (Err (fault.Clash j)) e h = by_check (certificate.Clash j) None 0 (check_run (Some number_limit) m (certificate.Clash j)) e tt
-  by_form budget m (Err (fault.Past p)) e h = let z : ◌≡◌ {A = ColdEnd} (outcome.Past p) (outcome.Ended known cert basis pivots) = e in cc
+  by_form : (budget : ℕ) (m : Model) (o : Result Form (FormFault ℚ)) →
+      IsThisEnd (after_form (Some number_limit) budget m o) → ((f : Form) → o ≡ Ok f → IsNarrowForm f) →
+      IsNarrowCertificate cert
+  by_form budget m (Ok f) e h =
+      by_phases m (phases_run (Some number_limit) budget f) e (λ p q. phases_narrow budget f p q (h f refl))
+  by_form budget m (Err (fault.Clash j)) e h =
+      by_check (certificate.Clash j) None 0 (check_run (Some number_limit) m (certificate.Clash j)) e tt
+  by_form budget m (Err (fault.Past p)) e h =
+      let z : ◌≡◌ {A = ColdEnd} (outcome.Past p) (outcome.Ended known cert basis pivots) = e in cc
 
-  pub cold_narrow : (budget : ℕ) (m : Model) → IsModel m → cold (Some number_limit) budget m ≡ outcome.Ended known cert basis pivots → IsNarrowCertificate cert
+  pub cold_narrow : (budget : ℕ) (m : Model) → IsModel m →
+      cold (Some number_limit) budget m ≡ outcome.Ended known cert basis pivots → IsNarrowCertificate cert
   unfolding cold
   cold_narrow budget m kept e =
       by_form budget m (form_of (Some number_limit) m) e (λ f q. form_narrow m f q (record { rows = kept.narrow_rows; columns = kept.narrow_columns }))

@@ -101,7 +101,8 @@ less_narrow v w s x h =
     difference_narrow s p.0 x p.2
 
 -- what holds of each item that is given holds of the list
-pub all_given : {A : Type 0} (P : A → Type 0) (n : ℕ) (f : ℕ → Run A) (xs : List A) → list_run n f ≡ Ok xs → ((i : ℕ) (x : A) → i < n → f i ≡ Ok x → P x) → All P xs
+pub all_given : {A : Type 0} (P : A → Type 0) (n : ℕ) (f : ℕ → Run A) (xs : List A) → list_run n f ≡ Ok xs →
+    ((i : ℕ) (x : A) → i < n → f i ≡ Ok x → P x) → All P xs
 all_given P n f xs h k = λ i d l.
     let o = list_ok n f d xs h in
     let inside : i < n = omega (arith, l, o.all) in

@@ -59,7 +59,8 @@ equation_narrow b r p h n =
     by true c k = (k, n)
     by false c k = (n, k)
 
-limits_narrow : (kind : Kind) (b : ℚ) (range : Option ℚ) (p : Pair) → limits_by (Some number_limit) kind b range ≡ Ok p → IsNarrow b → NarrowPair p
+limits_narrow : (kind : Kind) (b : ℚ) (range : Option ℚ) (p : Pair) →
+    limits_by (Some number_limit) kind b range ≡ Ok p → IsNarrow b → NarrowPair p
 limits_narrow L b None p h n = let e : ◌≡◌ {A = Pair} (None, Some b) p = cc in subst NarrowPair e (tt, n)
 limits_narrow L b (Some r) p h n =
     let o = then_ok (difference_run (Some number_limit) b (abs_ℚ r)) (λ a. Ok (Some a, Some b)) p h in
@@ -79,7 +80,8 @@ least_narrow Max c h = neg_narrow c h
 
 formed_narrow : (m : Model) (ls : List Pair) → IsNarrowModel m → All NarrowPair ls → IsNarrowForm (formed m ls)
 formed_narrow m ls n h = record {
-  entries = All-map (All (λ e. IsNarrow e.1)) (λ (c : ExactColumn). c.entries) m.columns (λ k d l. (n.columns k d l).entries);
+  entries =
+      All-map (All (λ e. IsNarrow e.1)) (λ (c : ExactColumn). c.entries) m.columns (λ k d l. (n.columns k d l).entries);
   lower = All-append NarrowBound (map (λ (c : ExactColumn). c.lower) m.columns) (map (λ (p : Pair). p.0) ls)
       (All-map NarrowBound (λ (c : ExactColumn). c.lower) m.columns (λ k d l. (n.columns k d l).lower)) (All-map NarrowBound (λ (p : Pair). p.0) ls (λ k d l. (h k d l).0));
   upper = All-append NarrowBound (map (λ (c : ExactColumn). c.upper) m.columns) (map (λ (p : Pair). p.1) ls)
@@ -108,7 +110,8 @@ entry_narrow (e ∷ es) i h = by (nat_eq e.0 i) (entry_narrow es i (λ k d l. h 
     by false rest = rest
 
 form_entry_narrow : (f : Form) → IsNarrowForm f → (i j : ℕ) → IsNarrow (form_entry f i j)
-form_entry_narrow f n i j = entry_narrow (get_or f.entries j []) i (at (All (λ e. IsNarrow e.1)) f.entries [] n.entries (All-nil (λ (e : ℕ × ℚ). IsNarrow e.1)) j)
+form_entry_narrow f n i j =
+    entry_narrow (get_or f.entries j []) i (at (All (λ e. IsNarrow e.1)) f.entries [] n.entries (All-nil (λ (e : ℕ × ℚ). IsNarrow e.1)) j)
 
 -- ---- what rows begin with
 
@@ -122,7 +125,8 @@ sum_of_row f i v h =
     steps_ok (λ _ s. IsNarrow s) f.cols (λ j s. plus_product (Some number_limit) (form_entry f i j) (first_value f j) s) 0ℚ v h zero_narrow
     (λ j s t l k q. plus_narrow (form_entry f i j) (first_value f j) s t q)
 
-below_narrow : (lower : Option ℚ) (v : ℚ) (gap : Option ℚ) → below_run (Some number_limit) lower v ≡ Ok gap → NarrowBound gap
+below_narrow : (lower : Option ℚ) (v : ℚ) (gap : Option ℚ) → below_run (Some number_limit) lower v ≡ Ok gap →
+    NarrowBound gap
 below_narrow None v gap h = let e : None ≡ gap = cc in subst NarrowBound e tt
 below_narrow (Some l) v gap h =
     let o = then_ok (order_run (Some number_limit) v l) (λ o. below_by (Some number_limit) l v o) gap h in
@@ -136,7 +140,8 @@ below_narrow (Some l) v gap h =
     by Equal q = let e : None ≡ gap = cc in subst NarrowBound e tt
     by Greater q = let e : None ≡ gap = cc in subst NarrowBound e tt
 
-above_narrow : (upper : Option ℚ) (v : ℚ) (gap : Option ℚ) → above_run (Some number_limit) upper v ≡ Ok gap → NarrowBound gap
+above_narrow : (upper : Option ℚ) (v : ℚ) (gap : Option ℚ) → above_run (Some number_limit) upper v ≡ Ok gap →
+    NarrowBound gap
 above_narrow None v gap h = let e : None ≡ gap = cc in subst NarrowBound e tt
 above_narrow (Some u) v gap h =
     let o = then_ok (order_run (Some number_limit) v u) (λ o. above_by (Some number_limit) u v o) gap h in
@@ -150,7 +155,8 @@ above_narrow (Some u) v gap h =
         let e : Some g.0 ≡ gap = cc in
         subst NarrowBound e (difference_narrow v u g.0 g.1)
 
-start_by_narrow : (upper : Option ℚ) (v : ℚ) (gap : Option ℚ) (s : RowStart ℚ) → row_start_by (Some number_limit) upper v gap ≡ Ok s → IsNarrow v → NarrowBound gap → NarrowStart s
+start_by_narrow : (upper : Option ℚ) (v : ℚ) (gap : Option ℚ) (s : RowStart ℚ) →
+    row_start_by (Some number_limit) upper v gap ≡ Ok s → IsNarrow v → NarrowBound gap → NarrowStart s
 start_by_narrow upper v None s h n k =
     let o = then_ok (above_run (Some number_limit) upper v) (λ gap. Ok (within_or_above v gap)) s h in
     let e : within_or_above v o.0 ≡ s = cc in
@@ -169,7 +175,8 @@ row_start_narrow f i s h =
 
 -- ---- the tableau
 
-by_column_narrow : (f : Form) (k : ℕ) (s : ℚ) (l a : ℕ → ℚ) → IsNarrow s → ((r : ℕ) → IsNarrow (l r)) → ((r : ℕ) → IsNarrow (a r)) → IsNarrow (by_column f k s l a)
+by_column_narrow : (f : Form) (k : ℕ) (s : ℚ) (l a : ℕ → ℚ) → IsNarrow s → ((r : ℕ) → IsNarrow (l r)) →
+    ((r : ℕ) → IsNarrow (a r)) → IsNarrow (by_column f k s l a)
 by_column_narrow f k s l a p q r = by (nat_lt k f.cols) (nat_lt k (f.cols + f.rows))
   where
     by : (t u : Bool) → IsNarrow (cond t s (cond u (l (k - f.cols)) (a (k - (f.cols + f.rows)))))
@@ -194,7 +201,8 @@ sign_narrow (Within v) = one_narrow
 sign_narrow (Below gap) = neg_narrow 1ℚ one_narrow
 sign_narrow (Above gap) = one_narrow
 
-logical_narrow : (s : RowStart ℚ) (lower upper : Option ℚ) → NarrowStart s → NarrowBound lower → NarrowBound upper → IsNarrow (logical_value s lower upper)
+logical_narrow : (s : RowStart ℚ) (lower upper : Option ℚ) → NarrowStart s → NarrowBound lower → NarrowBound upper →
+    IsNarrow (logical_value s lower upper)
 logical_narrow (Within v) lower upper h k l = h
 logical_narrow (Below gap) lower upper h k l = or_zero_narrow lower k
 logical_narrow (Above gap) lower upper h k l = or_zero_narrow upper l
@@ -222,7 +230,8 @@ module _ (f : Form) (starts : List (RowStart ℚ)) (n : IsNarrowForm f) (h : All
   upper_narrow k = bound_at f.upper n.upper k
 
   first_narrow : (k : ℕ) → IsNarrow (first_value f k)
-  first_narrow k = stand_narrow (first_status (form_lower f k) (form_upper f k)) (form_lower f k) (form_upper f k) (lower_narrow k) (upper_narrow k)
+  first_narrow k =
+      stand_narrow (first_status (form_lower f k) (form_upper f k)) (form_lower f k) (form_upper f k) (lower_narrow k) (upper_narrow k)
 
   at_start : (r : ℕ) → NarrowStart (start_at starts r)
   at_start r = at NarrowStart starts (Within 0ℚ) h zero_narrow r
@@ -245,8 +254,10 @@ module _ (f : Form) (starts : List (RowStart ℚ)) (n : IsNarrowForm f) (h : All
         (λ i l. All-made IsNarrow (f.cols + f.rows + f.rows) (start_entry f (start_at starts i) i) (λ k q. start_entry_narrow i k));
     value = All-made IsNarrow (f.cols + f.rows + f.rows) (start_value f starts) (λ k l. start_value_narrow k);
     reduced = All-replicate IsNarrow (f.cols + f.rows + f.rows) 0ℚ zero_narrow;
-    lower = All-append NarrowBound f.lower (replicate f.rows (Some 0ℚ)) n.lower (All-replicate NarrowBound f.rows (Some 0ℚ) zero_narrow);
-    upper = All-append NarrowBound f.upper (map artificial_upper starts) n.upper (All-map NarrowBound artificial_upper starts (λ k d l. artificial_bound (get_or starts k d)));
+    lower =
+        All-append NarrowBound f.lower (replicate f.rows (Some 0ℚ)) n.lower (All-replicate NarrowBound f.rows (Some 0ℚ) zero_narrow);
+    upper =
+        All-append NarrowBound f.upper (map artificial_upper starts) n.upper (All-map NarrowBound artificial_upper starts (λ k d l. artificial_bound (get_or starts k d)));
   }
 
   first_costs_narrow : All IsNarrow (first_costs f starts)
@@ -255,7 +266,8 @@ module _ (f : Form) (starts : List (RowStart ℚ)) (n : IsNarrowForm f) (h : All
       (All-map IsNarrow first_cost starts (λ k d l. first_cost_narrow (get_or starts k d)))
 
 -- reduced costs
-pub priced_narrow : (t : Tableau) (costs reduced : List ℚ) → priced_run (Some number_limit) t costs ≡ Ok reduced → All IsNarrow costs → All IsNarrow reduced
+pub priced_narrow : (t : Tableau) (costs reduced : List ℚ) → priced_run (Some number_limit) t costs ≡ Ok reduced →
+    All IsNarrow costs → All IsNarrow reduced
 unfolding priced_run
 priced_narrow t costs reduced h n =
     all_given IsNarrow (all_columns t) (reduced_run (Some number_limit) t costs) reduced h

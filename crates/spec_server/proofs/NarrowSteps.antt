@@ -43,7 +43,8 @@ pub or_zero_narrow : (bound : Option ℚ) → NarrowBound bound → IsNarrow (or
 or_zero_narrow None h = zero_narrow
 or_zero_narrow (Some v) h = h
 
-pub stand_narrow : (status : Status) (lower upper : Option ℚ) → NarrowBound lower → NarrowBound upper → IsNarrow (stand status lower upper)
+pub stand_narrow : (status : Status) (lower upper : Option ℚ) → NarrowBound lower → NarrowBound upper →
+    IsNarrow (stand status lower upper)
 stand_narrow Basic lower upper h k = zero_narrow
 stand_narrow AtLower lower upper h k = or_zero_narrow lower h
 stand_narrow AtUpper lower upper h k = or_zero_narrow upper k
@@ -51,19 +52,22 @@ stand_narrow AtZero lower upper h k = zero_narrow
 
 -- ---- moving
 
-moved_at_narrow : (t : Tableau) (j : ℕ) (theta : ℚ) (i : ℕ) (xs ys : List ℚ) → moved_at (Some number_limit) t j theta i xs ≡ Ok ys → All IsNarrow xs → All IsNarrow ys
+moved_at_narrow : (t : Tableau) (j : ℕ) (theta : ℚ) (i : ℕ) (xs ys : List ℚ) →
+    moved_at (Some number_limit) t j theta i xs ≡ Ok ys → All IsNarrow xs → All IsNarrow ys
 moved_at_narrow t j theta i xs ys h n =
     let o = then_ok (less_product (Some number_limit) (entry_at t i j) theta (get_or xs (basic_at t i) 0ℚ)) (λ v. Ok (set xs (basic_at t i) v)) ys h in
     let e : set xs (basic_at t i) o.0 ≡ ys = cc in
     subst (All IsNarrow) e (All-set IsNarrow xs (basic_at t i) o.0 (less_narrow (entry_at t i j) theta (get_or xs (basic_at t i) 0ℚ) o.0 o.1) n)
 
-moved_narrow : (t : Tableau) (j : ℕ) (theta : ℚ) (but : Option ℕ) (values : List ℚ) → moved_run (Some number_limit) t j theta but ≡ Ok values → All IsNarrow t.value → All IsNarrow values
+moved_narrow : (t : Tableau) (j : ℕ) (theta : ℚ) (but : Option ℕ) (values : List ℚ) →
+    moved_run (Some number_limit) t j theta but ≡ Ok values → All IsNarrow t.value → All IsNarrow values
 unfolding moved_run
 moved_narrow t j theta but values h n =
     steps_ok (λ _ xs. All IsNarrow xs) t.rows (λ i xs. cond (is_place but i) (Ok xs) (moved_at (Some number_limit) t j theta i xs)) t.value values h n
     (λ i xs ys l p. by (is_place but i) i xs ys p)
   where
-    by : (c : Bool) (i : ℕ) (xs ys : List ℚ) → All IsNarrow xs → cond c (Ok xs) (moved_at (Some number_limit) t j theta i xs) ≡ Ok ys → All IsNarrow ys
+    by : (c : Bool) (i : ℕ) (xs ys : List ℚ) → All IsNarrow xs →
+        cond c (Ok xs) (moved_at (Some number_limit) t j theta i xs) ≡ Ok ys → All IsNarrow ys
     by true i xs ys n h = let e : xs ≡ ys = cc in subst (All IsNarrow) e n
     by false i xs ys n h = moved_at_narrow t j theta i xs ys h n
 
@@ -88,14 +92,16 @@ flip_narrow t u j h n =
 
 -- ---- a pivot
 
-scaled_narrow : (n : ℕ) (rows new : List (List ℚ)) (p j : ℕ) → scaled_run (Some number_limit) n rows p j ≡ Ok new → All (All IsNarrow) rows → All (All IsNarrow) new
+scaled_narrow : (n : ℕ) (rows new : List (List ℚ)) (p j : ℕ) → scaled_run (Some number_limit) n rows p j ≡ Ok new →
+    All (All IsNarrow) rows → All (All IsNarrow) new
 unfolding scaled_run
 scaled_narrow n rows new p j h k =
     let o = then_ok (list_run n (λ k. quotient_run (Some number_limit) (at_place rows p k) (at_place rows p j))) (λ row. Ok (set rows p row)) new h in
     let e : set rows p o.0 ≡ new = cc in
     subst (All (All IsNarrow)) e (All-set (All IsNarrow) rows p o.0 (all_given IsNarrow n _ o.0 o.1 (λ i x l q. quotient_narrow (at_place rows p i) (at_place rows p j) x q)) k)
 
-cleared_narrow : (n p j i : ℕ) (rows new : List (List ℚ)) → cleared_run (Some number_limit) n p j i rows ≡ Ok new → All (All IsNarrow) rows → All (All IsNarrow) new
+cleared_narrow : (n p j i : ℕ) (rows new : List (List ℚ)) → cleared_run (Some number_limit) n p j i rows ≡ Ok new →
+    All (All IsNarrow) rows → All (All IsNarrow) new
 unfolding cleared_run
 cleared_narrow n p j i rows new h k =
     let o = then_ok (list_run n (λ k. less_product (Some number_limit) (at_place rows i j) (at_place rows p k) (at_place rows i k))) (λ row. Ok (set rows i row)) new h in
@@ -103,7 +109,8 @@ cleared_narrow n p j i rows new h k =
     subst (All (All IsNarrow)) e
     (All-set (All IsNarrow) rows i o.0 (all_given IsNarrow n _ o.0 o.1 (λ k x l q. less_narrow (at_place rows i j) (at_place rows p k) (at_place rows i k) x q)) k)
 
-turned_narrow : (m n : ℕ) (rows new : List (List ℚ)) (p j : ℕ) → turned_run (Some number_limit) m n rows p j ≡ Ok new → All (All IsNarrow) rows → All (All IsNarrow) new
+turned_narrow : (m n : ℕ) (rows new : List (List ℚ)) (p j : ℕ) → turned_run (Some number_limit) m n rows p j ≡ Ok new →
+    All (All IsNarrow) rows → All (All IsNarrow) new
 unfolding turned_run
 turned_narrow m n rows new p j h k =
     let o = then_ok (scaled_run (Some number_limit) n rows p j) _ new h in
@@ -111,22 +118,27 @@ turned_narrow m n rows new p j h k =
     (scaled_narrow n rows o.0 p j o.1 k)
     (λ i xs ys l q. by (nat_eq i p) i xs ys q)
   where
-    by : (c : Bool) (i : ℕ) (xs ys : List (List ℚ)) → All (All IsNarrow) xs → cond c (Ok xs) (cleared_run (Some number_limit) n p j i xs) ≡ Ok ys → All (All IsNarrow) ys
+    by : (c : Bool) (i : ℕ) (xs ys : List (List ℚ)) → All (All IsNarrow) xs →
+        cond c (Ok xs) (cleared_run (Some number_limit) n p j i xs) ≡ Ok ys → All (All IsNarrow) ys
     by true i xs ys k h = let e : xs ≡ ys = cc in subst (All (All IsNarrow)) e k
     by false i xs ys k h = cleared_narrow n p j i xs ys h k
 
-repriced_narrow : (n : ℕ) (reduced : List ℚ) (rows : List (List ℚ)) (p j : ℕ) (new : List ℚ) → repriced_run (Some number_limit) n reduced rows p j ≡ Ok new → All IsNarrow new
+repriced_narrow : (n : ℕ) (reduced : List ℚ) (rows : List (List ℚ)) (p j : ℕ) (new : List ℚ) →
+    repriced_run (Some number_limit) n reduced rows p j ≡ Ok new → All IsNarrow new
 unfolding repriced_run
-repriced_narrow n reduced rows p j new h = all_given IsNarrow n _ new h (λ k x l q. less_narrow (get_or reduced j 0ℚ) (at_place rows p k) (get_or reduced k 0ℚ) x q)
+repriced_narrow n reduced rows p j new h =
+    all_given IsNarrow n _ new h (λ k x l q. less_narrow (get_or reduced j 0ℚ) (at_place rows p k) (get_or reduced k 0ℚ) x q)
 
-shifted_narrow : (values new : List ℚ) (j : ℕ) (theta : ℚ) → shifted_run (Some number_limit) values j theta ≡ Ok new → All IsNarrow values → All IsNarrow new
+shifted_narrow : (values new : List ℚ) (j : ℕ) (theta : ℚ) → shifted_run (Some number_limit) values j theta ≡ Ok new →
+    All IsNarrow values → All IsNarrow new
 unfolding shifted_run
 shifted_narrow values new j theta h n =
     let o = then_ok (sum_run (Some number_limit) (get_or values j 0ℚ) theta) (λ v. Ok (set values j v)) new h in
     let e : set values j o.0 ≡ new = cc in
     subst (All IsNarrow) e (All-set IsNarrow values j o.0 (sum_narrow (get_or values j 0ℚ) theta o.0 o.1) n)
 
-leave_narrow : (t : Tableau) (q : ℕ) (bounds : List (Option ℚ)) → All NarrowBound bounds → All NarrowBound (leave_bound t q bounds)
+leave_narrow : (t : Tableau) (q : ℕ) (bounds : List (Option ℚ)) → All NarrowBound bounds →
+    All NarrowBound (leave_bound t q bounds)
 leave_narrow t q bounds h = by (is_artificial t q)
   where
     by : (c : Bool) → All NarrowBound (cond c (set bounds q (Some 0ℚ)) bounds)
@@ -138,13 +150,15 @@ exchanged_narrow t p j to n =
     let q : ℕ = basic_at t p in
     record {
       entries = n.entries;
-      value = All-set IsNarrow t.value q (stand to (lower_at t q) (upper_at t q)) (stand_narrow to (lower_at t q) (upper_at t q) (bound_at t.lower n.lower q) (bound_at t.upper n.upper q)) n.value;
+      value =
+          All-set IsNarrow t.value q (stand to (lower_at t q) (upper_at t q)) (stand_narrow to (lower_at t q) (upper_at t q) (bound_at t.lower n.lower q) (bound_at t.upper n.upper q)) n.value;
       reduced = n.reduced;
       lower = leave_narrow t q t.lower n.lower;
       upper = leave_narrow t q t.upper n.upper;
     }
 
-pub pivot_narrow : (t u : Tableau) (p j : ℕ) (theta : ℚ) (to : Status) → pivot_run (Some number_limit) t p j theta to ≡ Ok u → AreNarrow t → AreNarrow u
+pub pivot_narrow : (t u : Tableau) (p j : ℕ) (theta : ℚ) (to : Status) →
+    pivot_run (Some number_limit) t p j theta to ≡ Ok u → AreNarrow t → AreNarrow u
 unfolding pivot_run
 pivot_narrow t u p j theta to h n =
     let a = then_ok (moved_run (Some number_limit) t j theta (Some p)) _ u h in
@@ -161,7 +175,8 @@ pivot_narrow t u p j theta to h n =
     })
     d.2
   where
-    last : (values : List ℚ) (rows : List (List ℚ)) (reduced : List ℚ) → AreNarrow (turned t values rows reduced) → ◌≡◌ {A = Run Tableau} (Ok (exchanged (turned t values rows reduced) p j to)) (Ok u) → AreNarrow u
+    last : (values : List ℚ) (rows : List (List ℚ)) (reduced : List ℚ) → AreNarrow (turned t values rows reduced) →
+        ◌≡◌ {A = Run Tableau} (Ok (exchanged (turned t values rows reduced) p j to)) (Ok u) → AreNarrow u
     last values rows reduced k h =
         let e : exchanged (turned t values rows reduced) p j to ≡ u = cc in
         subst AreNarrow e (exchanged_narrow (turned t values rows reduced) p j to k)

@@ -27,7 +27,7 @@ use Rattle.spec_check.specs.declared.certificate.Certificate.TheVariants.{Optima
 use Rattle.spec_check.specs.Certificate.{IsFor, IsNarrowCertificate}
 use Rattle.spec_check.specs.TextWritten.{letter_text, part_text, part_lines, lines_below, column_lines, row_lines, kind_text, all_part_lines, certificate_lines}
 
--- ---- lines one behind the other
+-- ---- lines one after the other
 
 no_feed : (line : List ℕ) → list_all is_plain line ≡ true → All (λ b. b ≢ 10) line
 no_feed [] h = All-nil (λ b. b ≢ 10)
@@ -37,12 +37,13 @@ no_feed (b ∷ line) h =
     let low : 32 ≤ b = leb-true 32 b q.0 in
     All-cons (λ x. x ≢ 10) b line (λ e. omega arith) (no_feed line p.1)
 
-one_line : (line more : List ℕ) → IsPlainLine line → ended_lines_of ((line ++ 10 ∷ []) ++ more) ≡ Text line ∷ ended_lines_of more
+one_line : (line more : List ℕ) → IsPlainLine line →
+    ended_lines_of ((line ++ 10 ∷ []) ++ more) ≡ Text line ∷ ended_lines_of more
 one_line line more h =
     ap ended_lines_of (append_assoc line (10 ∷ []) more) ∙ ended_lines_of_line line more (no_feed line h.plain)
     ∙ ap (λ l. l ∷ ended_lines_of more) (ap line_of (stripped_plain line h.plain) ∙ line_short line h.short)
 
--- lines that end, whatever stands behind them
+-- lines that end, whatever follows them
 pub ended_lines_behind : {X : Type 0} (f : X → List ℕ) (xs : List X) (more : List ℕ) → All (λ x. IsPlainLine (f x)) xs
     → ended_lines_of (flat_map (λ x. f x ++ 10 ∷ []) xs ++ more) ≡ map (λ x. Text (f x)) xs ++ ended_lines_of more
 ended_lines_behind f [] more h = refl
@@ -76,7 +77,8 @@ cost_kept name v h n =
       columns_distinct = λ i k d p l. absurd (omega arith);
       offset = zero_narrow;
       narrow_rows = All-nil IsNarrowRow;
-      narrow_columns = All-cons IsNarrowColumn c [] (record { cost = n; lower = tt; upper = tt; entries = λ k d l. absurd (omega arith) }) (All-nil IsNarrowColumn);
+      narrow_columns =
+          All-cons IsNarrowColumn c [] (record { cost = n; lower = tt; upper = tt; entries = λ k d l. absurd (omega arith) }) (All-nil IsNarrowColumn);
     }
 
 pub record AreShort (name : Name) (v : ℚ) : Type 0 where
@@ -92,7 +94,8 @@ both_short name v h n =
 
 -- ---- a part
 
-plain_both : (a b : List ℕ) → list_all is_plain a ≡ true → list_all is_plain b ≡ true → list_all is_plain (a ++ b) ≡ true
+plain_both : (a b : List ℕ) → list_all is_plain a ≡ true → list_all is_plain b ≡ true →
+    list_all is_plain (a ++ b) ≡ true
 plain_both a b h k = list_all-append is_plain a b ∙ rw (h, k) refl
 
 letter_short : (letter : Letter) → IsShort (letter_text letter)
@@ -109,7 +112,8 @@ words_plain a b c h k l =
     let z = l.fits in
     record { short = omega arith; plain = plain_both a (32 ∷ (b ++ 32 ∷ c)) h.plain (plain_both b (32 ∷ c) k.plain l.plain) }
 
-part_plain : (letter : Letter) (name : Name) (v : ℚ) → is_name name ≡ true → IsNarrow v → All IsPlainLine (part_lines letter name v)
+part_plain : (letter : Letter) (name : Name) (v : ℚ) → is_name name ≡ true → IsNarrow v →
+    All IsPlainLine (part_lines letter name v)
 part_plain letter name v h n = by (eq_ℚ v 0ℚ)
   where
     by : (t : Bool) → All IsPlainLine (cond t [] (part_text letter name v ∷ []))
@@ -136,16 +140,23 @@ module _ (m : Model) (kept : IsModel m) where
   unfolding is_row_name
   row_named i l = (and_parts (is_name (row m i).name) _ (kept.rows i no_row l)).0
 
-  columns_plain : (letter : Letter) (xs : List ℚ) → length xs ≡ width m → All IsNarrow xs → All IsPlainLine (column_lines m letter xs)
-  columns_plain letter xs e h = below_plain letter (λ j. (column m j).name) xs (width m) column_named (λ k l. h k 0ℚ (omega (arith, l, e)))
+  columns_plain : (letter : Letter) (xs : List ℚ) → length xs ≡ width m → All IsNarrow xs →
+      All IsPlainLine (column_lines m letter xs)
+  columns_plain letter xs e h =
+      below_plain letter (λ j. (column m j).name) xs (width m) column_named (λ k l. h k 0ℚ (omega (arith, l, e)))
 
-  rows_plain : (letter : Letter) (xs : List ℚ) → length xs ≡ height m → All IsNarrow xs → All IsPlainLine (row_lines m letter xs)
-  rows_plain letter xs e h = below_plain letter (λ i. (row m i).name) xs (height m) row_named (λ k l. h k 0ℚ (omega (arith, l, e)))
+  rows_plain : (letter : Letter) (xs : List ℚ) → length xs ≡ height m → All IsNarrow xs →
+      All IsPlainLine (row_lines m letter xs)
+  rows_plain letter xs e h =
+      below_plain letter (λ i. (row m i).name) xs (height m) row_named (λ k l. h k 0ℚ (omega (arith, l, e)))
 
-  parts_plain : (cert : Certificate (List ℚ)) → IsFor m cert → IsNarrowCertificate cert → All IsPlainLine (all_part_lines m cert)
-  parts_plain (Optimal x y) f n = All-append IsPlainLine (column_lines m X x) (row_lines m Y y) (columns_plain X x f.0 n.0) (rows_plain Y y f.1 n.1)
+  parts_plain : (cert : Certificate (List ℚ)) → IsFor m cert → IsNarrowCertificate cert →
+      All IsPlainLine (all_part_lines m cert)
+  parts_plain (Optimal x y) f n =
+      All-append IsPlainLine (column_lines m X x) (row_lines m Y y) (columns_plain X x f.0 n.0) (rows_plain Y y f.1 n.1)
   parts_plain (Infeasible y) f n = rows_plain Y y f n
-  parts_plain (Unbounded x r) f n = All-append IsPlainLine (column_lines m X x) (column_lines m R r) (columns_plain X x f.0 n.0) (columns_plain R r f.1 n.1)
+  parts_plain (Unbounded x r) f n =
+      All-append IsPlainLine (column_lines m X x) (column_lines m R r) (columns_plain X x f.0 n.0) (columns_plain R r f.1 n.1)
   parts_plain (Clash j) f n = All-nil IsPlainLine
 
   clash_plain : (name : Name) → IsShort name → IsPlainLine (codes "CLASH" ++ 32 ∷ name)
@@ -158,9 +169,11 @@ module _ (m : Model) (kept : IsModel m) where
   kind_plain (Optimal x y) f = record { short = omega arith; plain = refl }
   kind_plain (Infeasible y) f = record { short = omega arith; plain = refl }
   kind_plain (Unbounded x r) f = record { short = omega arith; plain = refl }
-  kind_plain (Clash j) f = clash_plain (column m j).name (both_short (column m j).name 0ℚ (column_named j f) zero_narrow).short_name
+  kind_plain (Clash j) f =
+      clash_plain (column m j).name (both_short (column m j).name 0ℚ (column_named j f) zero_narrow).short_name
 
-  pub certificate_plain : (cert : Certificate (List ℚ)) → IsFor m cert → IsNarrowCertificate cert → All IsPlainLine (certificate_lines m cert)
+  pub certificate_plain : (cert : Certificate (List ℚ)) → IsFor m cert → IsNarrowCertificate cert →
+      All IsPlainLine (certificate_lines m cert)
   unfolding certificate_lines
   certificate_plain cert f n =
       All-append IsPlainLine (kind_text m cert ∷ all_part_lines m cert) (codes "END" ∷ [])

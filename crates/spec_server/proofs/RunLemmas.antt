@@ -10,12 +10,14 @@ use Rattle.spec_server.specs.Output.{reply_lines, script_out}
 use Rattle.spec_server.proofs.Dues.{reply_to, state_after, IsKeptState, does_due, after_kept, ample_reply}
 
 -- a run goes on with another
-pub AloneRun-append : (a b c : State) (xs ys : List Exchange) → AloneRun a xs b → AloneRun b ys c → AloneRun a (xs ++ ys) c
+pub AloneRun-append : (a b c : State) (xs ys : List Exchange) → AloneRun a xs b → AloneRun b ys c →
+    AloneRun a (xs ++ ys) c
 AloneRun-append a b c [] ys r q = subst (λ (s : State). AloneRun s ys c) r q
 AloneRun-append a b c (x ∷ xs) ys r q = (r.0, r.1, AloneRun-append r.0 b c xs ys r.2 q)
 
 -- the exchanges of a session, one list after another
-pub of_session-append : (session : ℕ) (xs ys : List Exchange) → of_session session (xs ++ ys) ≡ of_session session xs ++ of_session session ys
+pub of_session-append : (session : ℕ) (xs ys : List Exchange) →
+    of_session session (xs ++ ys) ≡ of_session session xs ++ of_session session ys
 of_session-append session xs ys = filter-append (λ x. nat_eq x.session session) xs ys
 
 pub script_out-append : (xs ys : List Exchange) → script_out (xs ++ ys) ≡ script_out xs ++ script_out ys
@@ -40,10 +42,12 @@ answered states (a ∷ asks) =
 
 pub asked_in-answered : (states : ℕ → State) (asks : List (Asked ExactAsk)) → map asked_in (answered states asks) ≡ asks
 asked_in-answered states [] = refl
-asked_in-answered states (a ∷ asks) = ap (λ zs. a ∷ zs) (asked_in-answered (updated states a.session (state_after (states a.session) a.ask)) asks)
+asked_in-answered states (a ∷ asks) =
+    ap (λ zs. a ∷ zs) (asked_in-answered (updated states a.session (state_after (states a.session) a.ask)) asks)
 
 -- each step may be taken
-pub good_step : (state : State) (asked : ExactAsk) → IsKeptState state → AloneStep state asked [] (reply_to state asked) (state_after state asked)
+pub good_step : (state : State) (asked : ExactAsk) → IsKeptState state →
+    AloneStep state asked [] (reply_to state asked) (state_after state asked)
 good_step state asked h = record { no_reads = refl; answer = inl (does_due state asked h) }
 
 -- a step of one session, and what its other sessions and it do afterwards
@@ -63,7 +67,8 @@ runs_on states x next xs step more session = by (nat_eq x.session session) refl 
 abbrev pub AllKept : (ℕ → State) → Type 0
 AllKept states = (session : ℕ) → IsKeptState (states session)
 
-updated_kept : (states : ℕ → State) (session : ℕ) (next : State) → AllKept states → IsKeptState next → AllKept (updated states session next)
+updated_kept : (states : ℕ → State) (session : ℕ) (next : State) → AllKept states → IsKeptState next →
+    AllKept (updated states session next)
 updated_kept states session next h k other = by (nat_eq session other)
   where
     by : (t : Bool) → IsKeptState (cond t next (states other))
@@ -85,8 +90,9 @@ answered_runs states (a ∷ asks) h k session =
     (updated_kept states a.session next h (after_kept (states a.session) a.ask (h a.session) first)) (λ i d l. k (suc i) d (omega arith)))
     session
 
--- none of them wants memory
-pub ample_answers : (states : ℕ → State) (asks : List (Asked ExactAsk)) → filter (λ x. is_memory x.reply) (answered states asks) ≡ []
+-- none of them is MEMORY
+pub ample_answers : (states : ℕ → State) (asks : List (Asked ExactAsk)) →
+    filter (λ x. is_memory x.reply) (answered states asks) ≡ []
 ample_answers states [] = refl
 ample_answers states (a ∷ asks) =
     let rest : List Exchange = answered (updated states a.session (state_after (states a.session) a.ask)) asks in

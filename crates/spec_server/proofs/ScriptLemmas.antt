@@ -34,7 +34,8 @@ asks_from-append addressing p (l ∷ ls) ms =
 pub pending_after-append : (addressing : Addressing) (p : Pending) (ls ms : List (Line (List ℕ))) →
     pending_after addressing p (ls ++ ms) ≡ pending_after addressing (pending_after addressing p ls) ms
 pending_after-append addressing p [] ms = refl
-pending_after-append addressing p (l ∷ ls) ms = pending_after-append addressing (pending_after_line addressing p l) ls ms
+pending_after-append addressing p (l ∷ ls) ms =
+    pending_after-append addressing (pending_after_line addressing p l) ls ms
 
 -- ---- sessions have the numbers 0 to 64, and edits have numbers that may be kept
 
@@ -87,7 +88,7 @@ change_kept : (read : Reads ExactEdit) → IfOk read IsKeptEdit → IsKeptComman
 change_kept (Ok e) kept = kept
 change_kept (Err why) kept = tt
 
--- a command word, and no word, one or more behind it
+-- a command word, and no word, one or more after it
 command_with_kept : (which : CommandWord) (behind : List (List ℕ)) → IsKeptCommand (command_with which behind)
 command_with_kept command_word.Load [] = tt
 command_with_kept command_word.Load (form ∷ []) = load_kept (style_of form)
@@ -160,14 +161,18 @@ pending_choice false a b h k = k
 
 line_numbered : (addressing : Addressing) (p : Pending) (next : Line (List ℕ)) → IsNumbered p →
     IsNumbered (pending_after_line addressing p next)
-line_numbered addressing Between next h = begun_by_numbered (addressed_in addressing next) (line_is_kept addressing next)
-line_numbered addressing (Text session form body) next h = pending_choice (ends_text next) Between (Text session form (body ++ next ∷ [])) tt h
-line_numbered addressing (Certificate session body) next h = pending_choice (ends_certificate next) Between (Certificate session (body ++ next ∷ [])) tt h
+line_numbered addressing Between next h =
+    begun_by_numbered (addressed_in addressing next) (line_is_kept addressing next)
+line_numbered addressing (Text session form body) next h =
+    pending_choice (ends_text next) Between (Text session form (body ++ next ∷ [])) tt h
+line_numbered addressing (Certificate session body) next h =
+    pending_choice (ends_certificate next) Between (Certificate session (body ++ next ∷ [])) tt h
 
 pending_numbered : (addressing : Addressing) (p : Pending) (lines : List (Line (List ℕ))) → IsNumbered p →
     IsNumbered (pending_after addressing p lines)
 pending_numbered addressing p [] h = h
-pending_numbered addressing p (l ∷ ls) h = pending_numbered addressing (pending_after_line addressing p l) ls (line_numbered addressing p l h)
+pending_numbered addressing p (l ∷ ls) h =
+    pending_numbered addressing (pending_after_line addressing p l) ls (line_numbered addressing p l h)
 
 first_asked : (a b : Asked ExactAsk) → ◌≡◌ {A = List (Asked ExactAsk)} (a ∷ []) (b ∷ []) → a ≡ b
 first_asked a b e = cc
@@ -194,7 +199,8 @@ body_asked false session asked a h e = absurd (none_asked a e)
 
 line_asked : (addressing : Addressing) (p : Pending) (next : Line (List ℕ)) (a : Asked ExactAsk) → IsNumbered p →
     asks_of_line addressing p next ≡ a ∷ [] → a.session ≤ 64
-line_asked addressing Between next a h e = addressed_asked (addressed_in addressing next) a (line_is_kept addressing next) e
+line_asked addressing Between next a h e =
+    addressed_asked (addressed_in addressing next) a (line_is_kept addressing next) e
 line_asked addressing (Text session form body) next a h e = body_asked (ends_text next) session _ a h e
 line_asked addressing (Certificate session body) next a h e = body_asked (ends_certificate next) session _ a h e
 

@@ -1,4 +1,4 @@
--- What holds of a session whatever it was asked before: its model may be kept, and its last answer stands up to the check.
+-- What holds of a session whatever it was asked before: its model may be kept, and its last answer passes the check.
 use Rattle.std.proofs.Common.{◌≡◌, ℕ, List, [], ◌∷◌, ◌++◌, Option, Some, IfSome, map, sym, subst, ◌⊎◌, inl, inr}
 use Rattle.std.proofs.lemmas.List.Elements.{All-head, All-tail}
 use Rattle.spec_exact.specs.Fraction.{ℚ}
@@ -29,15 +29,19 @@ use Rattle.spec_server.proofs.WrittenChecks.{free_checks}
 -- ---- steps
 
 -- a session that does what is due holds the model of what is due, and that of a solve is the one before
-does_keep : (old new : State) (what : Due) (replied : ExactReply) → IsKeptState old → IsKeptState (due_next old what) → Does old what replied new → IsKeptState new
+does_keep : (old new : State) (what : Due) (replied : ExactReply) → IsKeptState old → IsKeptState (due_next old what) →
+    Does old what replied new → IsKeptState new
 does_keep old new (Replies stated next) replied h k d = subst IsKeptState (sym d.1) k
 does_keep old new (Solves m) replied h k d = subst IsKeptState (sym d.kept) h
 
-answer_keeps : (old new : State) (asked : ExactAsk) (replied : ExactReply) → IsKeptAsk asked → IsKeptState old → Does old (due old asked) replied new ⊎ WantsMemory old asked replied new → IsKeptState new
-answer_keeps old new asked replied may h (inl d) = does_keep old new (due old asked) replied h (after_kept old asked h may) d
+answer_keeps : (old new : State) (asked : ExactAsk) (replied : ExactReply) → IsKeptAsk asked → IsKeptState old →
+    Does old (due old asked) replied new ⊎ WantsMemory old asked replied new → IsKeptState new
+answer_keeps old new asked replied may h (inl d) =
+    does_keep old new (due old asked) replied h (after_kept old asked h may) d
 answer_keeps old new asked replied may h (inr w) = subst IsKeptState (sym w.stays) h
 
-pub step_keeps : (old new : State) (asked : ExactAsk) (reads : List Read) (replied : ExactReply) → AloneStep old asked reads replied new → IsKeptAsk asked → IsKeptState old → IsKeptState new
+pub step_keeps : (old new : State) (asked : ExactAsk) (reads : List Read) (replied : ExactReply) →
+    AloneStep old asked reads replied new → IsKeptAsk asked → IsKeptState old → IsKeptState new
 step_keeps old new asked reads replied s may h = answer_keeps old new asked replied may h s.answer
 
 -- ---- runs
@@ -46,7 +50,8 @@ record IsGood (state : State) : Type 0 where
   kept : IsKeptState state
   fits : LastFits state.model state.last
 
-run_good : (old new : State) (xs : List Exchange) → AreKept (map asked_in xs) → AloneRun old xs new → IsGood old → IsGood new
+run_good : (old new : State) (xs : List Exchange) → AreKept (map asked_in xs) → AloneRun old xs new → IsGood old →
+    IsGood new
 run_good old new [] may run good = subst IsGood (sym run) good
 run_good old new (x ∷ xs) may run good =
     let first : IsKeptAsk x.ask = All-head (λ (a : Asked ExactAsk). IsKeptAsk a.ask) (asked_in x) (map asked_in xs) may in
@@ -61,11 +66,13 @@ run_good old new (x ∷ xs) may run good =
 
 -- what is known by the last answer is true, and the command `check` says so
 abbrev StandsUp : Model → Known ℚ → Certificate (List ℚ) → Type 0
-StandsUp m known cert = Holds m known × IsSaidEarly (said Free) (free m ++ ended_lines (certificate_lines m cert)) (reply.Checked (Yes known))
+StandsUp m known cert =
+    Holds m known × IsSaidEarly (said Free) (free m ++ ended_lines (certificate_lines m cert)) (reply.Checked (Yes known))
 
 answer_stands : (m : Model) (budget : ℕ) (known : Known ℚ) (cert : Certificate (List ℚ)) (basis : Option (List Status)) (pivots : ℕ) →
     IsModel m → MayAnswer m budget (Ended known cert basis pivots) → StandsUp m known cert
-answer_stands m budget known cert basis pivots kept h = (ended_true m budget known cert basis pivots h, free_checks m budget known cert basis pivots kept h)
+answer_stands m budget known cert basis pivots kept h =
+    (ended_true m budget known cert basis pivots h, free_checks m budget known cert basis pivots kept h)
 
 pub last_stands : (xs : List Exchange) (state : State) (m : Model) (last : ExactLastAnswer) (known : Known ℚ) (cert : Certificate (List ℚ)) (basis : Option (List Status)) (pivots : ℕ) →
     AreKept (map asked_in xs) → AloneRun opening xs state → state.model ≡ Some m → state.last ≡ Some last → last.solved ≡ Ended known cert basis pivots → StandsUp m known cert

@@ -26,7 +26,8 @@ not_more : (check : Check State) (m : Model) → more check ≡ Ok (Done m) → 
 not_more (Ok s) m h = cc
 not_more (Err c) m h = cc
 
-begins_end : (s : State) (part : Section) (word : List ℕ) (m : Model) → begin s part word ≡ Ok (Done m) → part ≡ section.End
+begins_end : (s : State) (part : Section) (word : List ℕ) (m : Model) → begin s part word ≡ Ok (Done m) →
+    part ≡ section.End
 begins_end s section.End word m h = refl
 begins_end s part word m h = absurd (not_more (headed (begun s part) part word) m h)
 
@@ -36,18 +37,22 @@ record IsEndCard (reading : CardReading) : Type 0 where
   is : reading ≡ Is (card.Section fields)
   word : section_of (text_at 1 fields) ≡ Some section.End
 
-card_ends : (s : State) (fields : Fields) (m : Model) → section_card s fields ≡ Ok (Done m) → section_of (text_at 1 fields) ≡ Some section.End
+card_ends : (s : State) (fields : Fields) (m : Model) → section_card s fields ≡ Ok (Done m) →
+    section_of (text_at 1 fields) ≡ Some section.End
 unfolding section_card
 card_ends s fields m h =
     let a = need_ok (section_of (text_at 1 fields)) code.UnknownSection _ (Done m) h in
     let b = must_ok (may_follow s.seen a.0 && not (has_begun s.seen a.0)) code.SectionOrder _ (Done m) a.2 in
     a.1 ∙ ap Some (begins_end s a.0 (text_at 2 fields) m b.1)
 
-reading_ends : (style : Style) (s : State) (reading : CardReading) (m : Model) → on_reading style s reading ≡ Ok (Done m) → IsEndCard reading
+reading_ends : (style : Style) (s : State) (reading : CardReading) (m : Model) →
+    on_reading style s reading ≡ Ok (Done m) → IsEndCard reading
 reading_ends style s (Is card.Skip) m h = absurd (let z : ◌≡◌ {A = Outcome} (Ok (More s)) (Ok (Done m)) = h in cc)
-reading_ends style s (Is (card.Section fields)) m h = record { fields = fields; is = refl; word = card_ends s fields m h }
+reading_ends style s (Is (card.Section fields)) m h =
+    record { fields = fields; is = refl; word = card_ends s fields m h }
 reading_ends style s (Is (card.Given fields)) m h = absurd (not_more (data_card style s.part s fields) m h)
-reading_ends style s (Misplaced column) m h = absurd (let z : ◌≡◌ {A = Outcome} (Err code.CardShape) (Ok (Done m)) = h in cc)
+reading_ends style s (Misplaced column) m h =
+    absurd (let z : ◌≡◌ {A = Outcome} (Err code.CardShape) (Ok (Done m)) = h in cc)
 
 -- ---- what the line is
 
@@ -63,25 +68,32 @@ placed_given : (o : Option ℕ) (a b : Fields) → placed o a ≡ Is (card.Secti
 placed_given None a b e = cc
 placed_given (Some column) a b e = cc
 
-free_heading : (bytes : List ℕ) (fields : Fields) → free_fields bytes ≡ Is (card.Section fields) → IsHeading bytes fields
+free_heading : (bytes : List ℕ) (fields : Fields) → free_fields bytes ≡ Is (card.Section fields) →
+    IsHeading bytes fields
 unfolding free_fields
 free_heading bytes fields h = by (is_skipped bytes) (begins_with_blank bytes) refl h
   where
-    by : (s b : Bool) → begins_with_blank bytes ≡ b → cond s (Is card.Skip) (cond b (Is (card.Given (word_fields bytes))) (Is (card.Section (word_fields bytes)))) ≡ Is (card.Section fields) → IsHeading bytes fields
+    by : (s b : Bool) → begins_with_blank bytes ≡ b →
+        cond s (Is card.Skip) (cond b (Is (card.Given (word_fields bytes))) (Is (card.Section (word_fields bytes)))) ≡ Is (card.Section fields) →
+        IsHeading bytes fields
     by true b e h = cc
     by false true e h = absurd (not_given (word_fields bytes) fields h)
     by false false e h = record { first = e; words = cc }
 
-fixed_heading : (bytes : List ℕ) (fields : Fields) → fixed_fields bytes ≡ Is (card.Section fields) → IsHeading bytes fields
+fixed_heading : (bytes : List ℕ) (fields : Fields) → fixed_fields bytes ≡ Is (card.Section fields) →
+    IsHeading bytes fields
 unfolding fixed_fields
 fixed_heading bytes fields h = by (is_skipped bytes) (begins_with_blank bytes) refl h
   where
-    by : (s b : Bool) → begins_with_blank bytes ≡ b → cond s (Is card.Skip) (cond b (placed (misplaced_from 1 bytes) (column_fields bytes)) (Is (card.Section (word_fields bytes)))) ≡ Is (card.Section fields) → IsHeading bytes fields
+    by : (s b : Bool) → begins_with_blank bytes ≡ b →
+        cond s (Is card.Skip) (cond b (placed (misplaced_from 1 bytes) (column_fields bytes)) (Is (card.Section (word_fields bytes)))) ≡ Is (card.Section fields) →
+        IsHeading bytes fields
     by true b e h = cc
     by false true e h = absurd (placed_given (misplaced_from 1 bytes) (column_fields bytes) fields h)
     by false false e h = record { first = e; words = cc }
 
-heading : (style : Style) (part : Option Section) (bytes : List ℕ) (fields : Fields) → reading_of style part bytes ≡ Is (card.Section fields) → IsHeading bytes fields
+heading : (style : Style) (part : Option Section) (bytes : List ℕ) (fields : Fields) →
+    reading_of style part bytes ≡ Is (card.Section fields) → IsHeading bytes fields
 heading Free part bytes fields h = free_heading bytes fields h
 heading Fixed (Some section.Sense) bytes fields h = free_heading bytes fields h
 heading Fixed part bytes fields h = fixed_heading bytes fields h
@@ -107,15 +119,19 @@ is_endata word h =
     by false false false false false false false true h = refl
     by false false false false false false false false h = cc
 
-words_end : (ws : List (List ℕ)) → section_of (text_at 1 (numbered_from 1 ws)) ≡ Some section.End → begins_with_word (codes "ENDATA") ws ≡ true
+words_end : (ws : List (List ℕ)) → section_of (text_at 1 (numbered_from 1 ws)) ≡ Some section.End →
+    begins_with_word (codes "ENDATA") ws ≡ true
 words_end [] h = is_endata [] h
 words_end (w ∷ ws) h = is_endata w h
 
-line_ends : (bytes : List ℕ) (fields : Fields) → IsHeading bytes fields → section_of (text_at 1 fields) ≡ Some section.End → ends_text (line.Text bytes) ≡ true
+line_ends : (bytes : List ℕ) (fields : Fields) → IsHeading bytes fields →
+    section_of (text_at 1 fields) ≡ Some section.End → ends_text (line.Text bytes) ≡ true
 unfolding ends_text word_fields
-line_ends bytes fields h e = rw (h.first, words_end (words_of bytes) (ap (λ fs. section_of (text_at 1 fs)) h.words ∙ e)) refl
+line_ends bytes fields h e =
+    rw (h.first, words_end (words_of bytes) (ap (λ fs. section_of (text_at 1 fs)) h.words ∙ e)) refl
 
-pub done_ends : (style : Style) (s : State) (l : Line (List ℕ)) (m : Model) → step style s l ≡ Ok (Done m) → ends_text l ≡ true
+pub done_ends : (style : Style) (s : State) (l : Line (List ℕ)) (m : Model) → step style s l ≡ Ok (Done m) →
+    ends_text l ≡ true
 unfolding step
 done_ends style s (line.Text bytes) m h =
     let r = reading_ends style s (reading_of style s.part bytes) m h in

@@ -39,7 +39,8 @@ checked a b e = cc
 abbrev yes_to : Known ℚ → ExactReply
 yes_to said = reply.Checked (verdict.Yes said)
 
-verdict_true : (m : Model) (said : Known ℚ) (raw : ExactRaw) (r : Settled (Certificate (List ℚ))) → certificate_for m raw ≡ r → yes_to said ≡ verdict_on m r → Holds m said
+verdict_true : (m : Model) (said : Known ℚ) (raw : ExactRaw) (r : Settled (Certificate (List ℚ))) →
+    certificate_for m raw ≡ r → yes_to said ≡ verdict_on m r → Holds m said
 verdict_true m said raw (Ok cert) is e =
     let ran : check_run (Some number_limit) m cert ≡ Ok said = said_yes (check_run (Some number_limit) m cert) said (sym (checked _ _ e)) in
     let sound = run_sound (Some number_limit) m cert said (settled_fits m raw cert is) ran in
@@ -47,18 +48,22 @@ verdict_true m said raw (Ok cert) is e =
 verdict_true m said raw (Err (settle.UnknownName name)) is e = cc
 verdict_true m said raw (Err (settle.Repeated name)) is e = cc
 
-reply_true : (held : Option Model) (said : Known ℚ) (raw : ExactRaw) → yes_to said ≡ check_reply held raw → (m : Model) × (held ≡ Some m) × Holds m said
+reply_true : (held : Option Model) (said : Known ℚ) (raw : ExactRaw) → yes_to said ≡ check_reply held raw →
+    (m : Model) × (held ≡ Some m) × Holds m said
 reply_true None said raw e = cc
 reply_true (Some m) said raw e = (m, refl, verdict_true m said raw (certificate_for m raw) refl e)
 
 no_memory : (said : Known ℚ) → yes_to said ≡ reply.Memory → ⊥
 no_memory said e = cc
 
-answer_true : (old new : State) (raw : ExactRaw) (said : Known ℚ) → ((yes_to said ≡ check_reply old.model raw) × (new ≡ old)) ⊎ WantsMemory old (ask.Checked raw) (yes_to said) new → (m : Model) × (old.model ≡ Some m) × Holds m said
+answer_true : (old new : State) (raw : ExactRaw) (said : Known ℚ) →
+    ((yes_to said ≡ check_reply old.model raw) × (new ≡ old)) ⊎ WantsMemory old (ask.Checked raw) (yes_to said) new →
+    (m : Model) × (old.model ≡ Some m) × Holds m said
 answer_true old new raw said (inl h) = reply_true old.model said raw h.0
 answer_true old new raw said (inr h) = absurd (no_memory said h.memory)
 
-pub accepted_is_true : (old new : State) (raw : ExactRaw) (reads : List Read) (said : Known ℚ) → AloneStep old (ask.Checked raw) reads (yes_to said) new → (m : Model) × (old.model ≡ Some m) × Holds m said
+pub accepted_is_true : (old new : State) (raw : ExactRaw) (reads : List Read) (said : Known ℚ) →
+    AloneStep old (ask.Checked raw) reads (yes_to said) new → (m : Model) × (old.model ≡ Some m) × Holds m said
 accepted_is_true old new raw reads said s = answer_true old new raw said s.answer
 
 -- ---- solves
@@ -73,13 +78,16 @@ answers_same a b e = cc
 knowns_same : (a b : Known ℚ) → ◌≡◌ {A = Answer ℚ} (answer.Known a) (answer.Known b) → a ≡ b
 knowns_same a b e = cc
 
-pub ended_true : (m : Model) (budget : ℕ) (known : Known ℚ) (cert : Certificate (List ℚ)) (basis : Option (List Status)) (pivots : ℕ) → MayAnswer m budget (outcome.Ended known cert basis pivots) → Holds m known
+pub ended_true : (m : Model) (budget : ℕ) (known : Known ℚ) (cert : Certificate (List ℚ)) (basis : Option (List Status)) (pivots : ℕ) →
+    MayAnswer m budget (outcome.Ended known cert basis pivots) → Holds m known
 ended_true m budget known cert basis pivots h =
     let sound = run_sound (Some number_limit) m cert known h.0 h.2 in
     subst (Holds m) (sym sound.1) (checks_hold m cert sound.0)
 
-solved_true : (m : Model) (budget : ℕ) (solved : ColdEnd) (said : Known ℚ) → MayAnswer m budget solved → answer.Known said ≡ answer_of budget solved → Holds m said
-solved_true m budget (outcome.Ended known cert basis pivots) said h e = subst (Holds m) (sym (knowns_same said known e)) (ended_true m budget known cert basis pivots h)
+solved_true : (m : Model) (budget : ℕ) (solved : ColdEnd) (said : Known ℚ) → MayAnswer m budget solved →
+    answer.Known said ≡ answer_of budget solved → Holds m said
+solved_true m budget (outcome.Ended known cert basis pivots) said h e =
+    subst (Holds m) (sym (knowns_same said known e)) (ended_true m budget known cert basis pivots h)
 solved_true m budget (outcome.Past p) said h e = cc
 solved_true m budget outcome.Spent said h e = cc
 
@@ -89,13 +97,18 @@ refused_unknown said e = cc
 no_memory_known : (said : Known ℚ) → known_to said ≡ reply.Memory → ⊥
 no_memory_known said e = cc
 
-due_true : (old new : State) (held : Option Model) (said : Known ℚ) → Does old (solve_due old held) (known_to said) new → (m : Model) × (held ≡ Some m) × Holds m said
+due_true : (old new : State) (held : Option Model) (said : Known ℚ) →
+    Does old (solve_due old held) (known_to said) new → (m : Model) × (held ≡ Some m) × Holds m said
 due_true old new None said h = absurd (refused_unknown said h.0)
-due_true old new (Some m) said h = (m, refl, solved_true m old.budget h.solved said h.is_solved.may_answer (answers_same _ _ h.answer))
+due_true old new (Some m) said h =
+    (m, refl, solved_true m old.budget h.solved said h.is_solved.may_answer (answers_same _ _ h.answer))
 
-solve_true : (old new : State) (said : Known ℚ) → Does old (solve_due old old.model) (known_to said) new ⊎ WantsMemory old (ask.Plain plain.Solve) (known_to said) new → (m : Model) × (old.model ≡ Some m) × Holds m said
+solve_true : (old new : State) (said : Known ℚ) →
+    Does old (solve_due old old.model) (known_to said) new ⊎ WantsMemory old (ask.Plain plain.Solve) (known_to said) new →
+    (m : Model) × (old.model ≡ Some m) × Holds m said
 solve_true old new said (inl h) = due_true old new old.model said h
 solve_true old new said (inr h) = absurd (no_memory_known said h.memory)
 
-pub answered_is_true : (old new : State) (reads : List Read) (said : Known ℚ) → AloneStep old (ask.Plain plain.Solve) reads (known_to said) new → (m : Model) × (old.model ≡ Some m) × Holds m said
+pub answered_is_true : (old new : State) (reads : List Read) (said : Known ℚ) →
+    AloneStep old (ask.Plain plain.Solve) reads (known_to said) new → (m : Model) × (old.model ≡ Some m) × Holds m said
 answered_is_true old new reads said s = solve_true old new said s.answer

@@ -1,4 +1,4 @@
--- What the command `check` says of a model's written text with the certificate of an answer behind it.
+-- What the command `check` says of a model's written text with the certificate of an answer after it.
 use Rattle.std.proofs.Common.{◌≡◌, ℕ, suc, ◌+◌, ◌-◌, ◌≤◌, true, false, Option, Some, None, Ok, Err, List, [], ◌∷◌, ◌++◌, get_or, length, take, map, refl, sym, ap, ◌∙◌, append_assoc, arith}
 use Rattle.std.specs.Prelude.{codes, All}
 use Rattle.std.proofs.lemmas.List.{map-append}
@@ -44,7 +44,7 @@ use Rattle.spec_server.proofs.WrittenLengths.{take_behind, text_fits}
 
 -- ---- a text of which the last line alone ends it
 
--- behind it the certificate begins
+-- after it the certificate begins
 text_leads : (style : Style) (m : Model) (lines : List (Line (List ℕ))) (last : Line (List ℕ)) (s : State) (n : ℕ) → All (λ l. ends_text l ≡ false) lines
     → text.judge style s (n + 1) (lines ++ last ∷ []) ≡ text.Spelled m
     → (more : List (Line (List ℕ))) → said_from (InText style s n) (lines ++ last ∷ more) ≡ said_from (InCertificate m None 0) more
@@ -63,7 +63,8 @@ text_leads style m (l ∷ lines) last s n inner h more =
         → ((t : State) → text.judge style t (n + 1 + 1) (lines ++ last ∷ []) ≡ text.Spelled m → (more : List (Line (List ℕ))) → said_from (InText style t (n + 1)) (lines ++ last ∷ more) ≡ said_from (InCertificate m None 0) more)
         → follow (behind_text style (n + 1) o) (λ stage. said_from stage (lines ++ last ∷ more)) ≡ said_from (InCertificate m None 0) more
     by (Ok (text.More t)) q e go = go t e more
-    by (Ok (text.Done d)) q e go = absurd (let z : true ≡ false = sym (done_ends style s l d q) ∙ inner 0 l (omega arith) in cc)
+    by (Ok (text.Done d)) q e go =
+        absurd (let z : true ≡ false = sym (done_ends style s l d q) ∙ inner 0 l (omega arith) in cc)
     by (Err code) q e go = cc
 
 -- ---- a certificate's text
@@ -101,10 +102,12 @@ module _ (style : Style) (m : Model) (kept : IsModel m) (spells : text.Spells st
   lines_split = map-append (λ card. Text (line_text style card)) (inner_cards m) (section_card (codes "ENDATA") ∷ [])
 
   body_inner : All (λ l. ends_text l ≡ false) body
-  body_inner = All-map (λ (l : Line (List ℕ)). ends_text l ≡ false) (λ card. Text (line_text style card)) (inner_cards m) (inner_lines style m)
+  body_inner =
+      All-map (λ (l : Line (List ℕ)). ends_text l ≡ false) (λ card. Text (line_text style card)) (inner_cards m) (inner_lines style m)
 
   body_spells : text.judge style start (0 + 1) (body ++ Text (codes "ENDATA") ∷ []) ≡ text.Spelled m
-  body_spells = ap (text.judge style start 1) (sym (has_its_lines style (cards_of m) plain_cards ∙ lines_split)) ∙ spells
+  body_spells =
+      ap (text.judge style start 1) (sym (has_its_lines style (cards_of m) plain_cards ∙ lines_split)) ∙ spells
 
   abbrev model : List ℕ
   model = cards_text style (cards_of m)
@@ -123,8 +126,9 @@ module _ (style : Style) (m : Model) (kept : IsModel m) (spells : text.Spells st
       ∙ ap (λ ls. ls ++ rest) lines_split
       ∙ append_assoc body (Text (codes "ENDATA") ∷ []) rest
 
-  -- what stands behind them within a limit
-  within : (limit : ℕ) (more : List ℕ) → length (model ++ behind) ≤ limit → said style (ended_lines_of (take limit ((model ++ behind) ++ more))) ≡ Some (reply.Checked (Yes known))
+  -- what follows them within a limit
+  within : (limit : ℕ) (more : List ℕ) → length (model ++ behind) ≤ limit →
+      said style (ended_lines_of (take limit ((model ++ behind) ++ more))) ≡ Some (reply.Checked (Yes known))
   within limit more fits =
       let r = read_back m cert kept h.0 h.1 in
       let rest : List ℕ = take (limit - length (model ++ behind)) more in
@@ -141,9 +145,11 @@ module _ (style : Style) (m : Model) (kept : IsModel m) (spells : text.Spells st
 pub free_checks : (m : Model) (budget : ℕ) (known : Known ℚ) (cert : Certificate (List ℚ)) (basis : Option (List Status)) (pivots : ℕ) → IsModel m → MayAnswer m budget (Ended known cert basis pivots)
     → IsSaidEarly (said Free) (free m ++ ended_lines (certificate_lines m cert)) (reply.Checked (Yes known))
 unfolding free
-free_checks m budget known cert basis pivots kept h = checks Free m kept (free_spells m kept (columns_are_read Free m kept tt)) budget known cert basis pivots h
+free_checks m budget known cert basis pivots kept h =
+    checks Free m kept (free_spells m kept (columns_are_read Free m kept tt)) budget known cert basis pivots h
 
 pub fixed_checks : (m : Model) (budget : ℕ) (known : Known ℚ) (cert : Certificate (List ℚ)) (basis : Option (List Status)) (pivots : ℕ) → IsModel m → too_wide m ≡ None → MayAnswer m budget (Ended known cert basis pivots)
     → IsSaidEarly (said Fixed) (fixed m ++ ended_lines (certificate_lines m cert)) (reply.Checked (Yes known))
 unfolding fixed
-fixed_checks m budget known cert basis pivots kept fits h = checks Fixed m kept (fixed_spells m kept fits (columns_are_read Fixed m kept fits)) budget known cert basis pivots h
+fixed_checks m budget known cert basis pivots kept fits h =
+    checks Fixed m kept (fixed_spells m kept fits (columns_are_read Fixed m kept fits)) budget known cert basis pivots h

@@ -27,20 +27,24 @@ module _ (style : Style) where
 
   -- ---- data cards begin with a blank
 
-  keeps_first : (other : Style) (b : ℕ) (line : List ℕ) (fs : Fields) → begins_with_blank (with_fields other (b ∷ line) fs) ≡ is_blank b
+  keeps_first : (other : Style) (b : ℕ) (line : List ℕ) (fs : Fields) →
+      begins_with_blank (with_fields other (b ∷ line) fs) ≡ is_blank b
   keeps_first other b line [] = refl
   keeps_first Free b line (f ∷ fs) = keeps_first Free b ((line ++ 32 ∷ []) ++ f.text) fs
-  keeps_first Fixed b line (f ∷ fs) = keeps_first Fixed b ((line ++ replicate (first_column f.number - 1 - length (b ∷ line)) 32) ++ f.text) fs
+  keeps_first Fixed b line (f ∷ fs) =
+      keeps_first Fixed b ((line ++ replicate (first_column f.number - 1 - length (b ∷ line)) 32) ++ f.text) fs
 
   blank_line : (line : List ℕ) → begins_with_blank line ≡ true → ends_text (Text line) ≡ false
   unfolding ends_text
   blank_line line h = ap (λ b. not b && begins_with_word (codes "ENDATA") (words_of line)) h
 
-  first_inner : (other : Style) (w : List ℕ) (fs : Fields) → begins_with_blank (with_fields other [] (field_at 1 w ∷ fs)) ≡ true
+  first_inner : (other : Style) (w : List ℕ) (fs : Fields) →
+      begins_with_blank (with_fields other [] (field_at 1 w ∷ fs)) ≡ true
   first_inner Free w fs = keeps_first Free 32 w fs
   first_inner Fixed w fs = keeps_first Fixed 32 w fs
 
-  second_inner : (other : Style) (w : List ℕ) (fs : Fields) → begins_with_blank (with_fields other [] (field_at 2 w ∷ fs)) ≡ true
+  second_inner : (other : Style) (w : List ℕ) (fs : Fields) →
+      begins_with_blank (with_fields other [] (field_at 2 w ∷ fs)) ≡ true
   second_inner Free w fs = keeps_first Free 32 w fs
   second_inner Fixed w fs = keeps_first Fixed 32 (32 ∷ 32 ∷ 32 ∷ w) fs
 
@@ -151,7 +155,8 @@ module _ (style : Style) where
   unfolding ranges_cards
   ranges_all m = by (list_any has_range m.rows)
     where
-      by : (t : Bool) → AreInner (cond t (section_card (codes "RANGES") ∷ flat_map (λ (r : ExactRow). range_cards r.name r.range) m.rows) [])
+      by : (t : Bool) →
+          AreInner (cond t (section_card (codes "RANGES") ∷ flat_map (λ (r : ExactRow). range_cards r.name r.range) m.rows) [])
       by true =
           All-cons IsInner (section_card (codes "RANGES")) (flat_map (λ (r : ExactRow). range_cards r.name r.range) m.rows) ranges_inner
           (each (λ (r : ExactRow). range_cards r.name r.range) m.rows (λ r. range_all r.name r.range))
@@ -167,7 +172,8 @@ module _ (style : Style) where
       by false = one (bound_card (codes "LO") name l) (bound_inner (codes "LO") name l)
   bound_all name (Some l) (Some u) = by (eq_ℚ l u) (eq_ℚ l 0ℚ && lt_ℚ 0ℚ u)
     where
-      by : (s t : Bool) → AreInner (cond s (bound_card (codes "FX") name l ∷ []) (cond t (bound_card (codes "UP") name u ∷ []) (bound_card (codes "LO") name l ∷ bound_card (codes "UP") name u ∷ [])))
+      by : (s t : Bool) →
+          AreInner (cond s (bound_card (codes "FX") name l ∷ []) (cond t (bound_card (codes "UP") name u ∷ []) (bound_card (codes "LO") name l ∷ bound_card (codes "UP") name u ∷ [])))
       by true t = one (bound_card (codes "FX") name l) (bound_inner (codes "FX") name l)
       by false true = one (bound_card (codes "UP") name u) (bound_inner (codes "UP") name u)
       by false false = two (bound_card (codes "LO") name l) (bound_card (codes "UP") name u) (bound_inner (codes "LO") name l) (bound_inner (codes "UP") name u)
@@ -176,7 +182,8 @@ module _ (style : Style) where
   unfolding bounds_cards
   bounds_all m = by (list_any has_bounds m.columns)
     where
-      by : (t : Bool) → AreInner (cond t (section_card (codes "BOUNDS") ∷ flat_map (λ (c : ExactColumn). bound_cards c.name c.lower c.upper) m.columns) [])
+      by : (t : Bool) →
+          AreInner (cond t (section_card (codes "BOUNDS") ∷ flat_map (λ (c : ExactColumn). bound_cards c.name c.lower c.upper) m.columns) [])
       by true =
           All-cons IsInner (section_card (codes "BOUNDS")) (flat_map (λ (c : ExactColumn). bound_cards c.name c.lower c.upper) m.columns) bounds_inner
           (each (λ (c : ExactColumn). bound_cards c.name c.lower c.upper) m.columns (λ c. bound_all c.name c.lower c.upper))
@@ -184,9 +191,11 @@ module _ (style : Style) where
 
 -- the cards before ENDATA
 abbrev pub inner_cards : Model → WrittenCards
-inner_cards m = name_card m.name ∷ sense_cards m.sense ++ rows_cards m ++ columns_cards m ++ sides_cards m ++ ranges_cards m ++ bounds_cards m
+inner_cards m =
+    name_card m.name ∷ sense_cards m.sense ++ rows_cards m ++ columns_cards m ++ sides_cards m ++ ranges_cards m ++ bounds_cards m
 
-pub inner_lines : (style : Style) (m : Model) → All (λ card. ends_text (Text (line_text style card)) ≡ false) (inner_cards m)
+pub inner_lines : (style : Style) (m : Model) →
+    All (λ card. ends_text (Text (line_text style card)) ≡ false) (inner_cards m)
 inner_lines style m =
     let P : WrittenCard → Type 0 = λ card. ends_text (Text (line_text style card)) ≡ false in
     let start : WrittenCards = name_card m.name ∷ sense_cards m.sense in

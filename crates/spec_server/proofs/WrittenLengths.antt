@@ -1,4 +1,4 @@
--- The text of a model that may be kept, with the lines of a certificate behind it, is no longer than an input may be.
+-- The text of a model that may be kept, with the lines of a certificate after it, is no longer than an input may be.
 use Rattle.std.proofs.Common.{◌≡◌, ℕ, zero, suc, ◌+◌, ◌-◌, ◌*◌, ◌≤◌, ◌<◌, ◌==◌, ◌&&◌, Bool, true, false, cond, Option, Some, None, List, [], ◌∷◌, ◌++◌, length, take, map, get_or, replicate, refl, ap, ◌∙◌, length-append, arith}
 use Rattle.std.specs.Prelude.{codes, All, AllPairs}
 use Rattle.std.specs.List.{flat_map, list_any}
@@ -28,8 +28,9 @@ use Rattle.spec_check.specs.TextWritten.{letter_text, part_text, part_lines, lin
 use Rattle.spec_server.specs.Output.{ended_lines}
 use Rattle.spec_server.proofs.PlainLines.{both_short, column_named, row_named}
 
--- a text that is no longer than the limit, with more behind it
-pub take_behind : (limit : ℕ) (xs more : List ℕ) → length xs ≤ limit → take limit (xs ++ more) ≡ xs ++ take (limit - length xs) more
+-- a text that is no longer than the limit, with more after it
+pub take_behind : (limit : ℕ) (xs more : List ℕ) → length xs ≤ limit →
+    take limit (xs ++ more) ≡ xs ++ take (limit - length xs) more
 take_behind limit xs more h =
     let all : limit ≡ length xs + (limit - length xs) = omega arith in
     ap (λ (n : ℕ). take n (xs ++ more)) all ∙ take-append-add xs more (limit - length xs)
@@ -55,16 +56,19 @@ blanks_len : (k : ℕ) (line : List ℕ) → length (line ++ replicate k 32) ≡
 blanks_len k line = length-append line (replicate k 32) ∙ ap (λ m. length line + m) (length-replicate k 32)
 
 -- blanks up to a column add nothing to a line that goes past it
-blanks_fit : (column size : ℕ) (line : List ℕ) → column ≤ 50 → length line ≤ size → 49 ≤ size → length (line ++ replicate (column - 1 - length line) 32) ≤ size
+blanks_fit : (column size : ℕ) (line : List ℕ) → column ≤ 50 → length line ≤ size → 49 ≤ size →
+    length (line ++ replicate (column - 1 - length line) 32) ≤ size
 blanks_fit column size line c h w =
     let e : length (line ++ replicate (column - 1 - length line) 32) ≡ length line + (column - 1 - length line) = blanks_len (column - 1 - length line) line in
     omega arith
 
-padded_fits : (style : Style) (n size : ℕ) (line : List ℕ) → length line ≤ size → 49 ≤ size → length (padded style n line) ≤ size + 1
+padded_fits : (style : Style) (n size : ℕ) (line : List ℕ) → length line ≤ size → 49 ≤ size →
+    length (padded style n line) ≤ size + 1
 padded_fits Free n size line h w = let a = length-append line (32 ∷ []) in omega arith
 padded_fits Fixed n size line h w = let b = blanks_fit (first_column n) size line (first_small n) h w in omega arith
 
-fields_fit : (style : Style) (size : ℕ) (line : List ℕ) (fs : Fields) → AllFit fs → length line ≤ size → 49 ≤ size → length (with_fields style line fs) ≤ size + 101 * length fs
+fields_fit : (style : Style) (size : ℕ) (line : List ℕ) (fs : Fields) → AllFit fs → length line ≤ size → 49 ≤ size →
+    length (with_fields style line fs) ≤ size + 101 * length fs
 fields_fit style size line [] f h w = omega arith
 fields_fit style size line (x ∷ fs) f h w =
     let p = padded_fits style x.number size line h w in
@@ -81,30 +85,38 @@ abbrev weight : WrittenCard → ℕ
 weight (Head start fields) = 505
 weight (Data fields) = 454
 
-data_fits : (style : Style) (fs : Fields) → AllFit fs → length fs ≤ 4 → length (line_text style (Data fs) ++ 10 ∷ []) ≤ 454
+data_fits : (style : Style) (fs : Fields) → AllFit fs → length fs ≤ 4 →
+    length (line_text style (Data fs) ++ 10 ∷ []) ≤ 454
 data_fits style fs f few =
     let e = ended_len (with_fields style [] fs) in
     let l = fields_fit style 49 [] fs f (omega arith) (omega arith) in
     omega arith
 
-head_fits : (style : Style) (start : List ℕ) (fs : Fields) → length start ≤ 100 → AllFit fs → length fs ≤ 4 → length (line_text style (Head start fs) ++ 10 ∷ []) ≤ 505
+head_fits : (style : Style) (start : List ℕ) (fs : Fields) → length start ≤ 100 → AllFit fs → length fs ≤ 4 →
+    length (line_text style (Head start fs) ++ 10 ∷ []) ≤ 505
 head_fits style start fs s f few =
     let e = ended_len (with_fields style start fs) in
     let l = fields_fit style 100 start fs f s (omega arith) in
     omega arith
 
-card_fits : (style : Style) (card : WrittenCard) → IsShortCard card → length (line_text style card ++ 10 ∷ []) ≤ weight card
+card_fits : (style : Style) (card : WrittenCard) → IsShortCard card →
+    length (line_text style card ++ 10 ∷ []) ≤ weight card
 card_fits style (Data []) h = data_fits style [] tt h.1
 card_fits style (Data (a ∷ [])) h = data_fits style (a ∷ []) (h.0.0.fits, tt) h.1
 card_fits style (Data (a ∷ b ∷ [])) h = data_fits style (a ∷ b ∷ []) (h.0.0.fits, (h.0.1.0.fits, tt)) h.1
-card_fits style (Data (a ∷ b ∷ c ∷ [])) h = data_fits style (a ∷ b ∷ c ∷ []) (h.0.0.fits, (h.0.1.0.fits, (h.0.1.1.0.fits, tt))) h.1
-card_fits style (Data (a ∷ b ∷ c ∷ d ∷ [])) h = data_fits style (a ∷ b ∷ c ∷ d ∷ []) (h.0.0.fits, (h.0.1.0.fits, (h.0.1.1.0.fits, (h.0.1.1.1.0.fits, tt)))) h.1
+card_fits style (Data (a ∷ b ∷ c ∷ [])) h =
+    data_fits style (a ∷ b ∷ c ∷ []) (h.0.0.fits, (h.0.1.0.fits, (h.0.1.1.0.fits, tt))) h.1
+card_fits style (Data (a ∷ b ∷ c ∷ d ∷ [])) h =
+    data_fits style (a ∷ b ∷ c ∷ d ∷ []) (h.0.0.fits, (h.0.1.0.fits, (h.0.1.1.0.fits, (h.0.1.1.1.0.fits, tt)))) h.1
 card_fits style (Data (a ∷ b ∷ c ∷ d ∷ e ∷ fs)) h = absurd (let few = h.1 in omega arith)
 card_fits style (Head start []) h = head_fits style start [] h.0.fits tt h.2
 card_fits style (Head start (a ∷ [])) h = head_fits style start (a ∷ []) h.0.fits (h.1.0.fits, tt) h.2
-card_fits style (Head start (a ∷ b ∷ [])) h = head_fits style start (a ∷ b ∷ []) h.0.fits (h.1.0.fits, (h.1.1.0.fits, tt)) h.2
-card_fits style (Head start (a ∷ b ∷ c ∷ [])) h = head_fits style start (a ∷ b ∷ c ∷ []) h.0.fits (h.1.0.fits, (h.1.1.0.fits, (h.1.1.1.0.fits, tt))) h.2
-card_fits style (Head start (a ∷ b ∷ c ∷ d ∷ [])) h = head_fits style start (a ∷ b ∷ c ∷ d ∷ []) h.0.fits (h.1.0.fits, (h.1.1.0.fits, (h.1.1.1.0.fits, (h.1.1.1.1.0.fits, tt)))) h.2
+card_fits style (Head start (a ∷ b ∷ [])) h =
+    head_fits style start (a ∷ b ∷ []) h.0.fits (h.1.0.fits, (h.1.1.0.fits, tt)) h.2
+card_fits style (Head start (a ∷ b ∷ c ∷ [])) h =
+    head_fits style start (a ∷ b ∷ c ∷ []) h.0.fits (h.1.0.fits, (h.1.1.0.fits, (h.1.1.1.0.fits, tt))) h.2
+card_fits style (Head start (a ∷ b ∷ c ∷ d ∷ [])) h =
+    head_fits style start (a ∷ b ∷ c ∷ d ∷ []) h.0.fits (h.1.0.fits, (h.1.1.0.fits, (h.1.1.1.0.fits, (h.1.1.1.1.0.fits, tt)))) h.2
 card_fits style (Head start (a ∷ b ∷ c ∷ d ∷ e ∷ fs)) h = absurd (let few = h.2 in omega arith)
 
 -- ---- cards
@@ -113,7 +125,8 @@ abbrev weights : WrittenCards → ℕ
 weights [] = 0
 weights (card ∷ cards) = weight card + weights cards
 
-cards_fit : (style : Style) (cards : WrittenCards) → All IsShortCard cards → length (cards_text style cards) ≤ weights cards
+cards_fit : (style : Style) (cards : WrittenCards) → All IsShortCard cards →
+    length (cards_text style cards) ≤ weights cards
 cards_fit style [] h = omega arith
 cards_fit style (card ∷ cards) h =
     let a = length-append (line_text style card ++ 10 ∷ []) (cards_text style cards) in
@@ -125,11 +138,13 @@ weights-append : (xs ys : WrittenCards) → weights (xs ++ ys) ≡ weights xs + 
 weights-append [] ys = omega arith
 weights-append (x ∷ xs) ys = let r = weights-append xs ys in omega arith
 
-weights-map : {A : Type 0} (f : A → WrittenCard) (bound : ℕ) (xs : List A) → ((x : A) → weight (f x) ≤ bound) → weights (map f xs) ≤ bound * length xs
+weights-map : {A : Type 0} (f : A → WrittenCard) (bound : ℕ) (xs : List A) → ((x : A) → weight (f x) ≤ bound) →
+    weights (map f xs) ≤ bound * length xs
 weights-map f bound [] h = omega arith
 weights-map f bound (x ∷ xs) h = let a = h x in let r = weights-map f bound xs h in omega arith
 
-weights-flat_map : {A : Type 0} (f : A → WrittenCards) (bound : ℕ) (xs : List A) → All (λ x. weights (f x) ≤ bound) xs → weights (flat_map f xs) ≤ bound * length xs
+weights-flat_map : {A : Type 0} (f : A → WrittenCards) (bound : ℕ) (xs : List A) → All (λ x. weights (f x) ≤ bound) xs →
+    weights (flat_map f xs) ≤ bound * length xs
 weights-flat_map f bound [] h = omega arith
 weights-flat_map f bound (x ∷ xs) h =
     let a = weights-append (f x) (flat_map f xs) in
@@ -138,7 +153,8 @@ weights-flat_map f bound (x ∷ xs) h =
     omega arith
 
 -- rows that ascend from one on, below another, are few
-few_entries : (low n : ℕ) (entries : List (ℕ × ℚ)) → low ≤ n → All (λ e. low ≤ e.0) entries → All (λ e. e.0 < n) entries → AllPairs (λ d e. d.0 < e.0) entries → low + length entries ≤ n
+few_entries : (low n : ℕ) (entries : List (ℕ × ℚ)) → low ≤ n → All (λ e. low ≤ e.0) entries →
+    All (λ e. e.0 < n) entries → AllPairs (λ d e. d.0 < e.0) entries → low + length entries ≤ n
 few_entries low n [] within from below ascend = omega arith
 few_entries low n (e ∷ entries) within from below ascend =
     let f = from 0 e (omega arith) in
@@ -168,7 +184,8 @@ column_weighs m n c k =
     let f = few_entries 0 n c.entries (omega arith) (λ k d l. omega arith) k.entries.inside k.entries.ascending in
     omega arith
 
-columns_weigh : (m : Model) → IsModel m → weights (columns_cards m) ≤ 505 + (454 + 454 * length m.rows) * length m.columns
+columns_weigh : (m : Model) → IsModel m →
+    weights (columns_cards m) ≤ 505 + (454 + 454 * length m.rows) * length m.columns
 unfolding columns_cards
 columns_weigh m kept =
     let w = weights-flat_map (column_cards m) (454 + 454 * length m.rows) m.columns (λ k d l. column_weighs m (length m.rows) (get_or m.columns k d) (kept.columns k d l)) in
@@ -197,8 +214,11 @@ ranges_weigh : (m : Model) → weights (ranges_cards m) ≤ 505 + 454 * length m
 unfolding ranges_cards
 ranges_weigh m = by (list_any has_range m.rows)
   where
-    by : (t : Bool) → weights (cond t (section_card (codes "RANGES") ∷ flat_map (λ (r : ExactRow). range_cards r.name r.range) m.rows) []) ≤ 505 + 454 * length m.rows
-    by true = let w = weights-flat_map (λ (r : ExactRow). range_cards r.name r.range) 454 m.rows (λ k d l. range_weighs (get_or m.rows k d).name (get_or m.rows k d).range) in omega arith
+    by : (t : Bool) →
+        weights (cond t (section_card (codes "RANGES") ∷ flat_map (λ (r : ExactRow). range_cards r.name r.range) m.rows) []) ≤ 505 + 454 * length m.rows
+    by true =
+        let w = weights-flat_map (λ (r : ExactRow). range_cards r.name r.range) 454 m.rows (λ k d l. range_weighs (get_or m.rows k d).name (get_or m.rows k d).range) in
+        omega arith
     by false = omega arith
 
 bound_weighs : (name : Name) (lower upper : Option ℚ) → weights (bound_cards name lower upper) ≤ 908
@@ -211,7 +231,8 @@ bound_weighs name (Some l) None = by (eq_ℚ l 0ℚ)
     by false = omega arith
 bound_weighs name (Some l) (Some u) = by (eq_ℚ l u) (eq_ℚ l 0ℚ && lt_ℚ 0ℚ u)
   where
-    by : (s t : Bool) → weights (cond s (bound_card (codes "FX") name l ∷ []) (cond t (bound_card (codes "UP") name u ∷ []) (bound_card (codes "LO") name l ∷ bound_card (codes "UP") name u ∷ []))) ≤ 908
+    by : (s t : Bool) →
+        weights (cond s (bound_card (codes "FX") name l ∷ []) (cond t (bound_card (codes "UP") name u ∷ []) (bound_card (codes "LO") name l ∷ bound_card (codes "UP") name u ∷ []))) ≤ 908
     by true t = omega arith
     by false true = omega arith
     by false false = omega arith
@@ -220,7 +241,8 @@ bounds_weigh : (m : Model) → weights (bounds_cards m) ≤ 505 + 908 * length m
 unfolding bounds_cards
 bounds_weigh m = by (list_any has_bounds m.columns)
   where
-    by : (t : Bool) → weights (cond t (section_card (codes "BOUNDS") ∷ flat_map (λ (c : ExactColumn). bound_cards c.name c.lower c.upper) m.columns) []) ≤ 505 + 908 * length m.columns
+    by : (t : Bool) →
+        weights (cond t (section_card (codes "BOUNDS") ∷ flat_map (λ (c : ExactColumn). bound_cards c.name c.lower c.upper) m.columns) []) ≤ 505 + 908 * length m.columns
     by true =
         let w = weights-flat_map (λ (c : ExactColumn). bound_cards c.name c.lower c.upper) 908 m.columns (λ k d l. bound_weighs (get_or m.columns k d).name (get_or m.columns k d).lower (get_or m.columns k d).upper) in
         omega arith
@@ -284,7 +306,8 @@ size_none : size [] ≡ 0
 unfolding size ended_lines
 size_none = refl
 
-part_fits : (letter : Letter) (name : Name) (v : ℚ) → is_name name ≡ true → IsNarrow v → size (part_lines letter name v) ≤ 204
+part_fits : (letter : Letter) (name : Name) (v : ℚ) → is_name name ≡ true → IsNarrow v →
+    size (part_lines letter name v) ≤ 204
 part_fits letter name v h n = by (eq_ℚ v 0ℚ)
   where
     letter_len : (l : Letter) → length (letter_text l) ≡ 1
@@ -314,11 +337,15 @@ below_fit letter names values (suc n) h k =
     omega arith
 
 module _ (m : Model) (kept : IsModel m) where
-  columns_fit : (letter : Letter) (xs : List ℚ) → length xs ≡ width m → All IsNarrow xs → size (column_lines m letter xs) ≤ 204 * width m
-  columns_fit letter xs e h = below_fit letter (λ j. (column m j).name) xs (width m) (column_named m kept) (λ k l. h k 0ℚ (omega (arith, l, e)))
+  columns_fit : (letter : Letter) (xs : List ℚ) → length xs ≡ width m → All IsNarrow xs →
+      size (column_lines m letter xs) ≤ 204 * width m
+  columns_fit letter xs e h =
+      below_fit letter (λ j. (column m j).name) xs (width m) (column_named m kept) (λ k l. h k 0ℚ (omega (arith, l, e)))
 
-  rows_fit : (letter : Letter) (xs : List ℚ) → length xs ≡ height m → All IsNarrow xs → size (row_lines m letter xs) ≤ 204 * height m
-  rows_fit letter xs e h = below_fit letter (λ i. (row m i).name) xs (height m) (row_named m kept) (λ k l. h k 0ℚ (omega (arith, l, e)))
+  rows_fit : (letter : Letter) (xs : List ℚ) → length xs ≡ height m → All IsNarrow xs →
+      size (row_lines m letter xs) ≤ 204 * height m
+  rows_fit letter xs e h =
+      below_fit letter (λ i. (row m i).name) xs (height m) (row_named m kept) (λ k l. h k 0ℚ (omega (arith, l, e)))
 
   wide : width m ≤ 512
   wide = kept.few_columns
@@ -326,7 +353,8 @@ module _ (m : Model) (kept : IsModel m) where
   high : height m ≤ 256
   high = kept.few_rows
 
-  parts_fit : (cert : Certificate (List ℚ)) → IsFor m cert → IsNarrowCertificate cert → size (all_part_lines m cert) ≤ 208896
+  parts_fit : (cert : Certificate (List ℚ)) → IsFor m cert → IsNarrowCertificate cert →
+      size (all_part_lines m cert) ≤ 208896
   parts_fit (Optimal x y) f n =
       let a = size-append (column_lines m X x) (row_lines m Y y) in
       let b = columns_fit X x f.0 n.0 in
@@ -353,7 +381,8 @@ module _ (m : Model) (kept : IsModel m) where
       let a = length-append (codes "CLASH") (32 ∷ (column m j).name) in
       omega arith
 
-  certificate_fits : (cert : Certificate (List ℚ)) → IsFor m cert → IsNarrowCertificate cert → size (certificate_lines m cert) ≤ 210000
+  certificate_fits : (cert : Certificate (List ℚ)) → IsFor m cert → IsNarrowCertificate cert →
+      size (certificate_lines m cert) ≤ 210000
   unfolding certificate_lines
   certificate_fits cert f n =
       let a = size-append (kind_text m cert ∷ all_part_lines m cert) (codes "END" ∷ []) in

@@ -11,7 +11,7 @@ use Rattle.spec_server.specs.declared.command.Command.TheVariants.{Bad}
 use Rattle.spec_server.specs.declared.command.LineFault.TheVariants as fault
 use Rattle.spec_server.specs.Command.{session_of, command_of}
 
--- behind the number of a session, or behind a word that is none
+-- after the number of a session, or after a word that is none
 abbrev pub addressed_to : Option ℕ → List (List ℕ) → Addressed ExactEdit
 addressed_to None words = record { session = 0; command = Bad fault.Word }
 addressed_to (Some session) words = record { session = session; command = command_of words }
@@ -31,7 +31,8 @@ begins_with_hash (b ∷ bs) = b == 35
 
 -- A comment is skipped. A line that is too long is no command of any session. The ends of the input are no lines of a script.
 unfoldable pub addressed_in : Addressing → Line (List ℕ) → Option (Addressed ExactEdit)
-addressed_in addressing (line.Text bytes) = if begins_with_hash bytes then None else addressed_by addressing (words_of bytes)
+addressed_in addressing (line.Text bytes) =
+    if begins_with_hash bytes then None else addressed_by addressing (words_of bytes)
 addressed_in addressing (line.Long len) = Some (record { session = 0; command = Bad fault.Long })
 addressed_in addressing line.End = None
 addressed_in addressing line.Over = None

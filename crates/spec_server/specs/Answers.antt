@@ -22,16 +22,17 @@ MayAnswer m budget (Ended known certificate basis pivots) =
 MayAnswer m budget (Past p) = cold (Some number_limit) budget m ≡ Past p
 MayAnswer m budget Spent = cold (Some number_limit) budget m ≡ Spent
 
--- Where nothing was handed to a solve, what is known, its certificate, basis and pivots are those of the cold solve without a
+-- If a solve starts cold, what is known, its certificate, basis and pivots are those of the cold solve without a
 -- limit.
 abbrev pub HowFits : Model → ℕ → ColdEnd → Type 0
 HowFits m budget (Ended known certificate basis pivots) = cold None budget m ≡ Ended known certificate basis pivots
 HowFits m budget (Past p) = Unit {0}
 HowFits m budget Spent = Unit {0}
 
--- What a solve of a model may end with, within a budget and with nothing handed. Where the model has no form at the limit,
+-- What a solve of a model may end with, within a budget, if it starts cold. Where the model has no form at the limit,
 -- because bounds clash or an operation is refused, it is what the cold solve at the limit ends with: nothing else is tried.
 pub record IsSolved (m : Model) (budget : ℕ) (solved : ColdEnd) : Type 0 where
   pub may_answer : MayAnswer m budget solved
   pub how_fits : HowFits m budget solved
-  pub without_form : (fault : FormFault ℚ) → form_of (Some number_limit) m ≡ Err fault → solved ≡ cold (Some number_limit) budget m
+  pub without_form : (fault : FormFault ℚ) → form_of (Some number_limit) m ≡ Err fault →
+      solved ≡ cold (Some number_limit) budget m

@@ -1,4 +1,4 @@
--- What the command `check` says of its input: the text of a model and, from the line behind it on, a certificate. Each line is
+-- What the command `check` says of its input: the text of a model and, from the line after it on, a certificate. Each line is
 -- a step from what was read before it, up to the line at which something is said.
 use Rattle.std.specs.Prelude.{ℕ, ◌≡◌, ◌+◌, Option, Some, None, Ok, Err, List, [], ◌∷◌, ◌++◌}
 use Rattle.spec_text.specs.declared.line.Line.{Line}
@@ -16,7 +16,7 @@ use Rattle.spec_server.specs.Output.{reply_text}
 pub use Rattle.spec_server.specs.Said.{Step, On, Says, follow}
 use Rattle.spec_server.specs.Said.{said_by}
 
--- in the text of a model, or in the certificate behind it, with so many lines of it read
+-- in the text of a model, or in the certificate after it, and how many lines of it were read
 pub data Stage : Type 0 where
   InText : (style : Style) → (state : State) → (lines : ℕ) → Stage
   InCertificate : (model : Model) → (so_far : Option certificate.ExactRaw) → (lines : ℕ) → Stage
@@ -37,7 +37,7 @@ unfoldable pub check_step : Stage → Line (List ℕ) → Step Stage ExactReply
 check_step (InText style s n) line = behind_text style (n + 1) (text.step style s line)
 check_step (InCertificate m so_far n) line = behind_certificate m (n + 1) (certificate.step so_far line)
 
--- what lines say behind a stage; nothing where more are needed
+-- what lines say after a stage; nothing where more are needed
 abbrev pub said_from : Stage → List (Line (List ℕ)) → Option ExactReply
 said_from stage lines = said_by check_step stage lines
 
@@ -52,7 +52,7 @@ check_line replied = reply_text replied ++ 10 ∷ []
 abbrev pub CheckOut : ExactReply → List ℕ → Type 0
 CheckOut replied written = written ≡ check_line replied
 
--- the status behind what is said
+-- the status of what is said
 abbrev pub check_code : ExactReply → ℕ
 check_code (reply.Refused why) = 9
 check_code replied = 0

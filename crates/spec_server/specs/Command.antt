@@ -1,4 +1,4 @@
--- What the words of a line ask, behind the number of its session.
+-- What the words of a line ask, after the number of its session.
 use Rattle.std.specs.Prelude.{ℕ, ◌==◌, ◌&&◌, Bool, false, not, Option, Some, None, Ok, Err, List, [], ◌∷◌, length, nat_lt, nat_le, codes, if◌then◌else◌}
 use Rattle.std.specs.List.{list_all}
 use Rattle.spec_mps.specs.NumberText.{spelled_from}
@@ -28,7 +28,7 @@ abbrev pub begins_with_zero : List ℕ → Bool
 begins_with_zero [] = false
 begins_with_zero (b ∷ bs) = b == 48
 
--- a number from 1 to the last one, without a zero in front, in at most so many digits
+-- a number from 1 to the last one, with no leading zero, of at most this many digits
 abbrev pub number_to : ℕ → ℕ → List ℕ → Option ℕ
 number_to last digits text =
     if nat_lt 0 (length text) && nat_le (length text) digits && list_all is_digit text && not (begins_with_zero text) && nat_le (spelled_from 0 text) last
@@ -87,7 +87,7 @@ abbrev pub change_by : Reads ExactEdit → ExactCommand
 change_by (Ok e) = Plain (plain_command.Change e)
 change_by (Err why) = Bad why
 
--- by the command word and the words behind it
+-- by the command word and the words after it
 abbrev pub command_with : CommandWord → List (List ℕ) → ExactCommand
 command_with word.Load (form ∷ []) = load_by (style_of form)
 command_with word.Write (form ∷ []) = write_by (style_of form)

@@ -1,4 +1,4 @@
--- The command lines of the program: the word of a command, its plain words, and behind them its options, each a name and a value,
+-- The command lines of the program: the word of a command, its plain words, and after them its options, each a name and a value,
 -- in any order and each at most once.
 use Rattle.std.specs.Prelude.{ℕ, ◌&&◌, Bool, true, not, Option, Some, None, option_map, option_and_then, List, [], ◌∷◌, length, map, take, drop, nat_le, codes, if◌then◌else◌}
 use Rattle.std.specs.List.{list_all, list_any}
@@ -38,18 +38,20 @@ are_distinct (name ∷ names) = not (is_one_of name names) && are_distinct names
 
 -- each has one of these names, and no two have the same
 abbrev pub are_options_of : OptionNames → Options → Bool
-are_options_of names options = list_all (λ option. is_one_of option.0 names) options && are_distinct (map (λ option. option.0) options)
+are_options_of names options =
+    list_all (λ option. is_one_of option.0 names) options && are_distinct (map (λ option. option.0) options)
 
 -- the options that the words give; nothing where they are no options with these names
 unfoldable pub options_in : OptionNames → List Word → Option Options
-options_in names words = option_and_then (λ options. if are_options_of names options then Some options else None) (in_pairs words)
+options_in names words =
+    option_and_then (λ options. if are_options_of names options then Some options else None) (in_pairs words)
 
--- what is given behind a command's word
+-- what is given after a command's word
 pub record Given : Type 0 where
   pub plain : List Word
   pub options : Options
 
--- so many plain words, and options with these names behind them
+-- so many plain words, and options with these names after them
 unfoldable pub given_in : ℕ → OptionNames → List Word → Option Given
 given_in plain names words =
     if nat_le plain (length words) then option_map (λ options. record { plain = take plain words; options = options }) (options_in names (drop plain words)) else None
@@ -83,11 +85,11 @@ text_row command = record {
 abbrev pub commands : List (Word × Row)
 commands = (codes "run", run_row) ∷ (codes "solve", text_row Solve) ∷ (codes "check", text_row Check) ∷ []
 
--- what the words behind a command's word ask
+-- what the words after a command's word ask
 abbrev pub asked_by : List Word → Row → Option CommandLine
 asked_by words row = option_and_then row.asks (given_in row.plain row.names words)
 
--- what the words behind the program's name ask
+-- what the words after the program's name ask
 unfoldable pub command_line_of : List Word → Option CommandLine
 command_line_of [] = None
 command_line_of (word ∷ words) = option_and_then (asked_by words) (look_up word commands)

@@ -1,4 +1,4 @@
--- The edits of command lines, by the words behind the command word.
+-- The edits of command lines, by the words after the command word.
 use Rattle.std.specs.Prelude.{ℕ, Option, Some, None, option_map, Result, Ok, Err, List, [], ◌∷◌, codes, if◌then◌else◌}
 use Rattle.spec_text.specs.Words.{same}
 use Rattle.spec_exact.specs.Fraction.{ℚ}

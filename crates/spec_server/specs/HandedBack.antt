@@ -1,4 +1,4 @@
--- That the certificate of an answer is accepted, where its lines are handed back.
+-- That the certificate of an answer is accepted, if its lines are given back.
 use Rattle.std.specs.Prelude.{ℕ, ◌≡◌, Some, List, ◌++◌, map}
 use Rattle.spec_text.specs.declared.line.Line.{Line}
 use Rattle.spec_text.specs.declared.line.Line.TheVariants.{Text}
@@ -12,7 +12,7 @@ use Rattle.spec_check.specs.TextWritten.{certificate_lines}
 use Rattle.spec_server.specs.declared.asks.Reply.TheVariants as reply
 use Rattle.spec_server.specs.Machine.{check_reply}
 
--- the lines, with more lines behind them, spell a certificate to which a session with this model says yes
+-- the lines, with more lines after them, spell a certificate to which a session with this model says yes
 pub record IsAcceptedBack (m : Model) (known : Known ℚ) (cert : Certificate (List ℚ)) : Type 0 where
   pub raw : ExactRaw
   pub spelled : (more : List (Line (List ℕ))) → Spells (map Text (certificate_lines m cert) ++ more) raw

@@ -73,7 +73,7 @@ opening = record { model = None; budget = opening_budget; last = None }
 
 -- ---- replies
 
--- want of memory
+-- memory ran out
 abbrev pub is_memory : ExactReply → Bool
 is_memory reply.Memory = true
 is_memory replied = false
@@ -169,15 +169,17 @@ plain_due state (plain.Change e) = change_due state state.model e
 
 abbrev pub due : State → ExactAsk → Due
 due state (ask.Plain asked) = plain_due state asked
-due state (ask.Loaded m) = Replies (reply.Loaded (length m.rows) (length m.columns)) (record state { model = Some m; last = None })
+due state (ask.Loaded m) =
+    Replies (reply.Loaded (length m.rows) (length m.columns)) (record state { model = Some m; last = None })
 due state (ask.Misspelled fault) = Replies (reply.Refused (refusal.Misspelled fault)) state
 due state (ask.Checked raw) = Replies (check_reply state.model raw) state
 due state (ask.Unfit line) = Replies (reply.Refused (refusal.Unfit line)) state
 due state (ask.Bad fault) = Replies (reply.Refused (refusal.Bad fault)) state
 
--- the state with what a solve ended with; nothing was handed to it, and nothing is given to other sessions
+-- the state with what a solve ended with; it started cold, and passes nothing on to other sessions
 abbrev pub with_solved : State → ColdEnd → State
-with_solved state solved = record state { last = Some (record { solved = solved; how = how.Cold; publication = publication.Nothing }) }
+with_solved state solved =
+    record state { last = Some (record { solved = solved; how = how.Cold; publication = publication.Nothing }) }
 
 -- a solve replies its answer, and the session keeps it
 pub record SolveStep (old : State) (m : Model) (replied : ExactReply) (new : State) : Type 0 where
@@ -192,7 +194,7 @@ Does old (Solves m) replied new = SolveStep old m replied new
 
 -- ---- steps and runs
 
--- whether memory may be wanting for the reply: where lines are made, a certificate is put to a model, a row, a column or an entry
+-- whether memory may run out for the reply: where lines are made, a certificate is put to a model, a row, a column or an entry
 -- comes, or a model is solved
 abbrev pub plain_takes_memory : Plain ExactEdit → Bool
 plain_takes_memory (plain.Write form) = true
@@ -206,7 +208,7 @@ takes_memory (ask.Plain asked) = plain_takes_memory asked
 takes_memory (ask.Checked raw) = true
 takes_memory asked = false
 
--- memory is wanting, and the state stays
+-- memory runs out, and the state stays
 pub record WantsMemory (old : State) (asked : ExactAsk) (replied : ExactReply) (new : State) : Type 0 where
   pub may_want : takes_memory asked ≡ true
   pub memory : replied ≡ reply.Memory
@@ -215,7 +217,7 @@ pub record WantsMemory (old : State) (asked : ExactAsk) (replied : ExactReply) (
 -- what a session reads of what sessions share: nothing yet
 pub data Read : Type 0 where
 
--- One step: nothing is read, and the session does what is due; or memory is wanting.
+-- One step: nothing is read, and the session does what is due; or memory runs out.
 pub record AloneStep (old : State) (asked : ExactAsk) (reads : List Read) (replied : ExactReply) (new : State) : Type 0 where
   pub no_reads : reads ≡ []
   pub answer : Does old (due old asked) replied new ⊎ WantsMemory old asked replied new

@@ -1,5 +1,5 @@
 -- What is written of replies: a line each, which begins with the number of the session, and the text of a model or the lines of a
--- certificate behind it.
+-- certificate after it.
 use Rattle.std.specs.Prelude.{ℕ, ◌==◌, ◌++◌, Option, Some, None, List, [], ◌∷◌, length, codes, decimal}
 use Rattle.std.specs.List.{filter, flat_map}
 use Rattle.spec_exact.specs.Fraction.{ℚ}
@@ -125,11 +125,11 @@ reply_text reply.Bye = codes "BYE"
 reply_text reply.Memory = codes "MEMORY"
 reply_text (reply.Refused why) = codes "ERR " ++ refusal_text why
 
--- lines, each with a line feed behind it
+-- lines, each with a line feed after it
 unfoldable pub ended_lines : List (List ℕ) → List ℕ
 ended_lines lines = flat_map (λ line. line ++ 10 ∷ []) lines
 
--- the lines of the text of a model, and those of a certificate, stand behind the reply
+-- the lines of the text of a model, and those of a certificate, follow the reply
 abbrev pub lines_behind : ExactReply → List ℕ
 lines_behind (reply.Loaded rows columns) = []
 lines_behind (reply.Written text) = text

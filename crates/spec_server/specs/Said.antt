@@ -15,7 +15,7 @@ abbrev pub follow : {S R : Type 0} → Step S R → (S → Option R) → Option 
 follow (On stage) next = next stage
 follow (Says said) next = Some said
 
--- what lines say behind a stage; nothing where more are needed
+-- what lines say after a stage; nothing where more are needed
 abbrev pub said_by : {S R : Type 0} → (S → Line (List ℕ) → Step S R) → S → List (Line (List ℕ)) → Option R
 said_by step stage [] = None
 said_by step stage (line ∷ lines) = follow (step stage line) (λ next. said_by step next lines)

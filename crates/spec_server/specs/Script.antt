@@ -71,8 +71,10 @@ begun_by (Some addressed) = begun addressed.session addressed.command
 -- what is pending after a line
 abbrev pub pending_after_line : Addressing → Pending → Line (List ℕ) → Pending
 pending_after_line addressing Between next = begun_by (addressed_in addressing next)
-pending_after_line addressing (Text session form body) next = if ends_text next then Between else Text session form (body ++ next ∷ [])
-pending_after_line addressing (Certificate session body) next = if ends_certificate next then Between else Certificate session (body ++ next ∷ [])
+pending_after_line addressing (Text session form body) next =
+    if ends_text next then Between else Text session form (body ++ next ∷ [])
+pending_after_line addressing (Certificate session body) next =
+    if ends_certificate next then Between else Certificate session (body ++ next ∷ [])
 
 abbrev pub asks_of_command : ℕ → ExactCommand → List (Asked ExactAsk)
 asks_of_command session (Load form) = []
@@ -100,7 +102,8 @@ asks_from addressing pending (next ∷ lines) =
 
 abbrev pub pending_after : Addressing → Pending → List (Line (List ℕ)) → Pending
 pending_after addressing pending [] = pending
-pending_after addressing pending (next ∷ lines) = pending_after addressing (pending_after_line addressing pending next) lines
+pending_after addressing pending (next ∷ lines) =
+    pending_after addressing (pending_after_line addressing pending next) lines
 
 -- ---- a whole script
 

@@ -15,7 +15,7 @@ use Rattle.spec_server.specs.Output.{ended_lines}
 use Rattle.spec_server.specs.Said.{Step, On, Says, said_by}
 use Rattle.spec_server.specs.CheckOut.{check_line}
 
--- in the text of a model, with so many lines of it read
+-- in the text of a model, and how many lines of it were read
 pub record TextStage : Type 0 where
   pub state : State
   pub lines : ℕ
@@ -41,14 +41,15 @@ text_said style lines = said_by (text_step style) (record { state = start; lines
 
 -- the answer's line, and the lines of its certificate
 unfoldable pub solved_lines : Model → ColdEnd → List ℕ
-solved_lines m solved = check_line (reply.Answered (answer_of opening_budget solved)) ++ ended_lines (lines_of_solved m solved)
+solved_lines m solved =
+    check_line (reply.Answered (answer_of opening_budget solved)) ++ ended_lines (lines_of_solved m solved)
 
 -- what a solve of the model ends with, within the budget of a new session; or the line of the fault
 abbrev pub SolveOut : TextSaid → List ℕ → Type 0
 SolveOut (Ok m) written = (solved : ColdEnd) × IsSolved m opening_budget solved × (written ≡ solved_lines m solved)
 SolveOut (Err fault) written = written ≡ check_line (reply.Refused (refusal.Misspelled fault))
 
--- the status behind it
+-- the status of it
 abbrev pub solve_code : TextSaid → ℕ
 solve_code (Ok m) = 0
 solve_code (Err fault) = 9

@@ -23,7 +23,7 @@ abbrev pub MayWrite : (command : TextCommand) → SaidBy command → List ℕ �
 MayWrite Solve what written = SolveOut what written
 MayWrite Check what written = CheckOut what written
 
--- the status behind it
+-- the status of it
 abbrev pub code_of : (command : TextCommand) → SaidBy command → ℕ
 code_of Solve what = solve_code what
 code_of Check what = check_code what

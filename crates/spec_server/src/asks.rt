@@ -50,9 +50,9 @@ pub enum Reply<N, F: Debug, T, L> {
         publication: Publication,
     },
     Checked(Verdict<F>),
-    /// The session begins anew.
+    /// The session is reset.
     Bye,
-    /// Memory is wanting, and the session is as it was.
+    /// Memory ran out, and the session is as it was.
     Memory,
     Refused(Refusal<N, T>),
 }

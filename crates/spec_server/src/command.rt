@@ -41,11 +41,11 @@ pub enum Plain<E> {
     Cert,
     /// How the last answer was found is asked for.
     How,
-    /// Each later solve is to make at most so many pivots and flips.
+    /// Each later solve is to make at most this many pivots and flips.
     Budget(u32),
     /// The session's model is to be edited.
     Change(E),
-    /// The session is to begin anew.
+    /// The session is to be reset.
     Quit,
 }
 
@@ -62,7 +62,7 @@ pub enum LineFault {
     Long,
 }
 
-/// What the words of a line ask, behind the number of its session.
+/// What the words of a line ask, after the number of its session.
 #[derive(Drop)]
 pub enum Command<E> {
     /// A text of a model follows.

@@ -6,7 +6,7 @@ use spec_mps::Style;
 pub enum TextCommand {
     /// To solve the model.
     Solve,
-    /// To check the certificate behind the text.
+    /// To check the certificate after the text.
     Check,
 }
 

@@ -4,7 +4,7 @@
 //! |---|---|---|
 //! | `Ask`, `Reply`, `Refusal` | what a session is asked, and what it replies | src/asks |
 //! | `Answer`, `LastAnswer` | what a solve answers, and what a session keeps of it | src/answer |
-//! | `Command`, `command_of` | what the words of a line ask, behind the number of its session | src/command, specs/Command |
+//! | `Command`, `command_of` | what the words of a line ask, after the number of its session | src/command, specs/Command |
 //! | `Addressing`, `addressed_in` | whether lines name sessions, and what a line between two commands is | src/addressing, |
 //!                               specs/Addressing
 //! | Item | What it is | Where |
@@ -82,7 +82,7 @@ pub fn answers_are_true()
         (m : Model) × (old.model ≡ Some m) × Holds m known }
 {}
 
-/// A solve answers what the cold solve at the limit finds, or memory is wanting.
+/// A solve answers what the cold solve at the limit finds, or memory runs out.
 pub fn solves_answer_as_the_cold_run()
     ensures { (old new : State) (reads : List Read) (replied : ExactReply) (m : Model)
         (known : Known ℚ) (cert : Certificate (List ℚ)) (basis : Option (List Status)) (pivots : ℕ) →
@@ -107,7 +107,7 @@ pub fn sessions_keep_models()
 
 /// Whatever a session was asked before, with models and edits that may be kept, as those of scripts are: its last answer stands
 /// up. What is known by it is true of the model that the session holds, and to the text of this model with the lines of the
-/// answer's certificate behind it the command `check` says yes, and that the same is known.
+/// answer's certificate after it the command `check` says yes, and that the same is known.
 pub fn last_answers_stand_up()
     ensures { (xs : List Exchange) (state : State) (m : Model) (last : ExactLastAnswer)
         (known : Known ℚ) (cert : Certificate (List ℚ)) (basis : Option (List Status)) (pivots : ℕ) →
@@ -116,14 +116,14 @@ pub fn last_answers_stand_up()
         Holds m known × IsSaidEarly (said form.Free) (free m ++ ended_lines (certificate_lines m cert)) (reply.Checked (verdict.Yes known)) }
 {}
 
-/// The certificate of an answer is accepted where its lines are handed back to a session that holds the model.
+/// The certificate of an answer is accepted if its lines are given to a session that holds the model.
 pub fn certificates_are_accepted_back()
     ensures { (m : Model) (budget : ℕ) (known : Known ℚ) (cert : Certificate (List ℚ)) (basis : Option (List Status)) (pivots : ℕ) →
         IsModel m → MayAnswer m budget (outcome.Ended known cert basis pivots) → IsAcceptedBack m known cert }
 {}
 
-/// Anyone can check an answer: to the text of its model with the lines of its certificate behind it the command `check` says
-/// yes, and that the same is known, whatever stands behind. It is so in both forms, where fixed form has room for the model.
+/// Anyone can check an answer: to the text of its model with the lines of its certificate after it the command `check` says
+/// yes, and that the same is known, whatever follows. It is so in both forms, where fixed form has room for the model.
 pub fn answers_check_against_the_written_text()
     ensures free { (m : Model) (budget : ℕ) (known : Known ℚ) (cert : Certificate (List ℚ)) (basis : Option (List Status)) (pivots : ℕ) →
         IsModel m → MayAnswer m budget (outcome.Ended known cert basis pivots) →

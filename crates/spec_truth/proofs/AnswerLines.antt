@@ -47,7 +47,7 @@ printed_no_feed (b ∷ w) h =
 pub number_no_feed : (v : ℚ) → IsNarrow v → HasNoFeed (number_text v)
 number_no_feed v h = printed_no_feed (number_text v) (number_word v h.top h.bottom).printable
 
--- ---- what stands behind the first line's words
+-- ---- what follows the first line's words
 
 pub read_back : (v : ℚ) → IsNarrow v → number_of (number_text v) ≡ Is v
 read_back v h = read_written v h.top h.bottom

@@ -1,4 +1,4 @@
--- Where `check` says yes, its input spells a model and, behind it, a certificate that shows what the yes says.
+-- Where `check` says yes, its input spells a model and, after it, a certificate that shows what the yes says.
 use Rattle.std.proofs.Common.{◌≡◌, ℕ, ◌+◌, List, [], ◌∷◌, ◌++◌, Option, Some, None, Ok, Err, refl, ◌∙◌, ap}
 use Rattle.spec_text.specs.declared.line.Line.{Line}
 use Rattle.spec_exact.specs.Fraction.{ℚ}

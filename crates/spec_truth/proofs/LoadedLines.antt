@@ -1,4 +1,4 @@
--- A model that a script asks to hold is spelled by the lines behind a command LOAD.
+-- A model that a script asks to hold is spelled by the lines after a command LOAD.
 use Rattle.std.proofs.Common.{◌≡◌, ℕ, Bool, true, false, cond, List, [], ◌∷◌, ◌++◌, Option, Some, None, refl, sym, ◌∙◌}
 use Rattle.std.proofs.Common.{ap, ◌⊎◌, inl, inr, append_assoc, append-nil, ◌≤◌, length, take}
 use Rattle.std.specs.Prelude.{nat_le}

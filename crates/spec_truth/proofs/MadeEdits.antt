@@ -49,7 +49,7 @@ step_made old new e reads s = by s.answer
     by (inl d) = change_made old new old.model e d
     by (inr w) = let z : ◌≡◌ {A = ExactReply} reply.Done reply.Memory = w.memory in cc
 
--- ---- the model behind one more exchange
+-- ---- the model after one more exchange
 
 after_more : (held : Option Model) (xs : List Exchange) (x : Exchange) →
     after_exchanges held (xs ++ x ∷ []) ≡ after_exchange (after_exchanges held xs) x.ask x.reply

@@ -1,4 +1,4 @@
--- Lines that spell a model and, behind it, a certificate.
+-- Lines that spell a model and, after it, a certificate.
 use Rattle.std.specs.Prelude.{ℕ, ◌≡◌, None, List, [], ◌∷◌, ◌++◌}
 use Rattle.spec_text.specs.declared.line.Line.{Line}
 use Rattle.spec_model.specs.Model.{Model}
@@ -7,7 +7,7 @@ use Rattle.spec_mps.specs.Steps as text
 use Rattle.spec_check.specs.Text as certificate
 use Rattle.spec_server.specs.SolveOut.{text_said}
 
--- The lines up to the first one that ends the text of a model, the lines of a certificate behind it, and what is so of
+-- The lines up to the first one that ends the text of a model, the lines of a certificate after it, and what is so of
 -- the model.
 pub record IsCertified (style : Style) (lines : List (Line (List ℕ))) (IsSo : Model → Type 0) : Type 0 where
   pub front : List (Line (List ℕ))

@@ -11,7 +11,7 @@ use Rattle.spec_server.specs.Addressing.{addressed_in}
 use Rattle.spec_server.specs.Machine.{ExactAsk}
 use Rattle.spec_server.specs.Script.{Between, pending_after, asks_from}
 
--- The lines in front ask what was asked before. The next line is the command LOAD of the session, and the body behind
+-- The lines in front ask what was asked before. The next line is the command LOAD of the session, and the body after
 -- it spells the model.
 pub record IsLoadedFrom (addressing : Addressing) (lines : List (Line (List ℕ))) (before : List (Asked ExactAsk))
     (session : ℕ) (m : Model) : Type 0 where

@@ -29,7 +29,7 @@ abbrev pub after_quit : Option Model → ExactReply → Option Model
 after_quit held reply.Bye = None
 after_quit held replied = held
 
--- the model behind an exchange, by that before it
+-- the model after an exchange, by that before it
 abbrev pub after_exchange : Option Model → ExactAsk → ExactReply → Option Model
 after_exchange held (ask.Loaded m) replied = after_load held m replied
 after_exchange held (ask.Plain (plain.Change e)) replied = after_change held e replied
@@ -40,6 +40,6 @@ abbrev pub after_exchanges : Option Model → List Exchange → Option Model
 after_exchanges held [] = held
 after_exchanges held (x ∷ xs) = after_exchanges (after_exchange held x.ask x.reply) xs
 
--- the model of a session behind these exchanges: none at first
+-- the model of a session after these exchanges: none at first
 abbrev pub model_then : ℕ → List Exchange → Option Model
 model_then session xs = after_exchanges None (of_session session xs)

@@ -3,11 +3,11 @@
 //! | Item | What it is | Where |
 //! |---|---|---|
 //! | `after_exchange` | what an ask with its reply makes of a session's model | specs/ModelThen |
-//! | `model_then` | the model of a session behind exchanges: that of its last LOAD, as edited since | specs/ModelThen |
+//! | `model_then` | the model of a session after exchanges: that of its last LOAD, as edited since | specs/ModelThen |
 //! | `IsLoadedFrom` | the lines that spell a model that a session is to hold | specs/LoadedFrom |
 //! | `IsTrueOf` | that what an answer says of a model is so | specs/TrueAnswer |
 //! | `IsNarrowKnown` | that a known value is of at most 127 bits | specs/TrueAnswer |
-//! | `IsCertified` | lines of a model and a certificate behind it, and what is so of the model | specs/Certified |
+//! | `IsCertified` | lines of a model and a certificate after it, and what is so of the model | specs/Certified |
 #![tactic(auto)]
 
 ghost use Rattle.std.specs.Prelude.{◌≡◌, ◌≢◌, ◌≤◌, ◌↔◌, ℕ, Some, None, Ok, Err};
@@ -61,7 +61,7 @@ pub fn edits_answered_ok_are_made()
         × (model_then x.session (before ++ x ∷ []) ≡ Some n) }
 {}
 
-/// A model that a script asks a session to hold is spelled by the lines behind a line with the command LOAD of the
+/// A model that a script asks a session to hold is spelled by the lines after a line with the command LOAD of the
 /// session: by lines of any input, and by those of the bytes that a run of `lpd` reads, up to the last line feed or to
 /// the end.
 pub fn loaded_models_are_spelled()
@@ -104,7 +104,7 @@ pub fn yes_is_true_of_the_model_then()
         (m : Model) × (model_then x.session before ≡ Some m) × IsUnbounded m }
 {}
 
-/// In each run of sessions, the text of a reply alone says what is true of the model that the session has then: behind
+/// In each run of sessions, the text of a reply alone says what is true of the model that the session has then: after
 /// the word OPTIMAL stands the text of the optimal value.
 pub fn reply_texts_are_true_of_the_model_then()
     ensures optimal { (before behind : List Exchange) (x : Exchange) (text : List ℕ) → RunFits (before ++ x ∷ behind) →
@@ -138,7 +138,7 @@ pub fn solve_reads_what_texts_spell()
 {}
 
 /// What `solve` writes of a text that spells a model begins with the line of an answer, which is true of the model. The
-/// first line alone says it: behind the word OPTIMAL stands the text of the optimal value.
+/// first line alone says it: after the word OPTIMAL stands the text of the optimal value.
 pub fn solved_texts_have_true_answers()
     ensures answer { (style : Style) (lines : List (Line (List ℕ))) (m : Model) (what : TextSaid) (written : List ℕ) →
         text_said style lines ≡ Some what → SolveOut what written → Spells style lines m →
@@ -156,7 +156,7 @@ pub fn solved_texts_have_true_answers()
         (behind : List ℕ) → written ≡ codes "UNBOUNDED" ++ 10 ∷ behind → IsUnbounded m }
 {}
 
-/// Where `check` says yes, the lines spell a model and, behind its text, a certificate, and what the yes says is true
+/// Where `check` says yes, the lines spell a model and, after its text, a certificate, and what the yes says is true
 /// of the model. The line that is written alone says it.
 pub fn certified_texts_are_true()
     ensures optimal { (style : Style) (lines : List (Line (List ℕ))) (v : ℚ) →
