@@ -20,7 +20,8 @@ take-append k raw run = ⊎_elim
     (cases_lt k (length raw))
 
 -- a run is kept as far as there is room
-pub run_kept : (k len room count : ℕ) (kept new raw run : List ℕ) → kept ≡ take k raw → len ≡ length raw → room ≡ k - len → count ≡ min (length run) room → new ≡ kept ++ take count run → new ≡ take k (raw ++ run)
+pub run_kept : (k len room count : ℕ) (kept new raw run : List ℕ) → kept ≡ take k raw → len ≡ length raw →
+    room ≡ k - len → count ≡ min (length run) room → new ≡ kept ++ take count run → new ≡ take k (raw ++ run)
 run_kept k len room count kept new raw run is len_is room_is count_is new_is =
     let front : count ≡ min (k - length raw) (length run) = omega arith in
     new_is
@@ -29,19 +30,24 @@ run_kept k len room count kept new raw run is len_is room_is count_is new_is =
     ∙ ap (λ xs. take k raw ++ xs) (take_min (k - length raw) run)
     ∙ sym (take-append k raw run)
 
-at_last : (raw run : List ℕ) → 0 < length run → get_or (raw ++ run) (length (raw ++ run) - 1) 0 ≡ get_or run (length run - 1) 0
+at_last : (raw run : List ℕ) → 0 < length run →
+    get_or (raw ++ run) (length (raw ++ run) - 1) 0 ≡ get_or run (length run - 1) 0
 at_last raw run some =
     let place : length (raw ++ run) - 1 - length raw ≡ length run - 1 = omega (arith, length-append raw run) in
     get_or-append_right raw run (length raw) (length (raw ++ run) - 1) 0 refl (omega (arith, length-append raw run)) ∙ ap (λ n. get_or run n 0) place
 
-pub last_of_run : (raw run : List ℕ) (last : ℕ) → Some last ≡ slice_get run (length run - 1) → last ≡ slice_index (raw ++ run) (length (raw ++ run) - 1)
+pub last_of_run : (raw run : List ℕ) (last : ℕ) → Some last ≡ slice_get run (length run - 1) →
+    last ≡ slice_index (raw ++ run) (length (raw ++ run) - 1)
 last_of_run raw [] last is = cc
-last_of_run raw (b ∷ run) last is = sym (at_last raw (b ∷ run) (omega arith) ∙ get_or_from_slice_get (b ∷ run) (length (b ∷ run) - 1) last 0 (sym is))
+last_of_run raw (b ∷ run) last is =
+    sym (at_last raw (b ∷ run) (omega arith) ∙ get_or_from_slice_get (b ∷ run) (length (b ∷ run) - 1) last 0 (sym is))
 
-pub stripped : (raw : List ℕ) (last : ℕ) → last ≡ slice_index raw (length raw - 1) → last ≡ 13 → take (length raw - 1) raw ≡ strip_carriage_return raw
+pub stripped : (raw : List ℕ) (last : ℕ) → last ≡ slice_index raw (length raw - 1) → last ≡ 13 →
+    take (length raw - 1) raw ≡ strip_carriage_return raw
 stripped raw last is cr = grind (arith, nat_tests)
 
-pub not_stripped : (raw : List ℕ) (last : ℕ) → last ≡ slice_index raw (length raw - 1) → (last ≡ 13 → ⊥) → take (length raw) raw ≡ strip_carriage_return raw
+pub not_stripped : (raw : List ℕ) (last : ℕ) → last ≡ slice_index raw (length raw - 1) → (last ≡ 13 → ⊥) →
+    take (length raw) raw ≡ strip_carriage_return raw
 not_stripped raw last is other = grind (arith, nat_tests, common_steps)
 
 pub cut_kept : (kept raw : List ℕ) (n k : ℕ) → kept ≡ take k raw → n ≤ k → take n kept ≡ take n raw

@@ -1,15 +1,16 @@
--- A run of bytes with no line feed, at the front of what is ahead.
+-- A run of bytes with no line feed, at the start of what is ahead.
 use Rattle.std.proofs.Common.{◌≡◌, ◌≢◌, ℕ, ◌+◌, ◌-◌, ◌^◌, ◌<◌, ◌≤◌, List, ◌∷◌, ◌++◌, All, length, take, drop, min, get_or, slice_index, true, false, arith, ap, ap₂, sym, subst, ◌∙◌, length-take, length-drop, get_or-take}
 use Rattle.std.proofs.lemmas.List.{take-append-drop, take_min, drop_more, take-take}
 use Rattle.lp_base.specs.LinesState.{LinesState}
 use Rattle.lp_base.specs.NextLine.{IsKept, TakesRun}
 use Rattle.lp_base.specs.declared.part.Part.{Part}
 
--- what is left behind so many bytes
+-- what is left after this many bytes
 abbrev pub passed : LinesState → ℕ → LinesState
 passed old count = record { ahead = drop count old.ahead; given = old.given + count; ended = old.ended }
 
-cut_found : (room at : ℕ) (all : List ℕ) → at < length (take room all) → slice_index (take room all) at ≡ 10 → all ≡ take at (take room all) ++ 10 ∷ drop (at + 1) all
+cut_found : (room at : ℕ) (all : List ℕ) → at < length (take room all) → slice_index (take room all) at ≡ 10 →
+    all ≡ take at (take room all) ++ 10 ∷ drop (at + 1) all
 cut_found room at all within is =
     let inside : at < min room (length all) = omega (arith, length-take room all) in
     let byte : get_or all at 0 ≡ 10 = sym (get_or-take room all at 0 (omega arith)) ∙ is in
@@ -24,12 +25,16 @@ cut_plain room all =
     ∙ ap (λ (xs : List ℕ). xs ++ drop (length (take room all)) all) (ap (λ (n : ℕ). take n all) (length-take room all) ∙ take_min room all)
 
 -- what was passed over is taken from what is ahead
-passed_count : (old new : LinesState) (count : ℕ) → new ≡ passed old count → count ≤ length old.ahead → new.given + length new.ahead ≡ old.given + length old.ahead
+passed_count : (old new : LinesState) (count : ℕ) → new ≡ passed old count → count ≤ length old.ahead →
+    new.given + length new.ahead ≡ old.given + length old.ahead
 passed_count old new count moved within =
     omega (arith, ap (λ (r : LinesState). r.given) moved, ap (λ (r : LinesState). length r.ahead) moved, length-drop count old.ahead)
 
--- a line feed was found behind the run
-pub run_found : (old new : LinesState) (before after : Part) (ahead : List ℕ) (at : ℕ) → ahead ≡ take (2 ^ 26 - old.given) old.ahead → at < length ahead → slice_index ahead at ≡ 10 → All (λ b. b ≢ 10) (take at ahead) → new ≡ passed old (at + 1) → ((raw : List ℕ) → IsKept before raw → IsKept after (raw ++ take at ahead)) → TakesRun old new before after true
+-- a line feed was found after the run
+pub run_found : (old new : LinesState) (before after : Part) (ahead : List ℕ) (at : ℕ) →
+    ahead ≡ take (2 ^ 26 - old.given) old.ahead → at < length ahead → slice_index ahead at ≡ 10 →
+    All (λ b. b ≢ 10) (take at ahead) → new ≡ passed old (at + 1) →
+    ((raw : List ℕ) → IsKept before raw → IsKept after (raw ++ take at ahead)) → TakesRun old new before after true
 run_found old new before after ahead at is within found plain moved kept =
     let len : length ahead ≡ min (2 ^ 26 - old.given) (length old.ahead) = ap length is ∙ length-take (2 ^ 26 - old.given) old.ahead in
     let given : new.given ≡ old.given + (at + 1) = ap (λ (r : LinesState). r.given) moved in
@@ -47,7 +52,10 @@ run_found old new before after ahead at is within found plain moved kept =
     }
 
 -- there was none
-pub run_plain : (old new : LinesState) (before after : Part) (ahead : List ℕ) → ahead ≡ take (2 ^ 26 - old.given) old.ahead → 0 < length old.ahead → old.given < 2 ^ 26 → All (λ b. b ≢ 10) ahead → new ≡ passed old (length ahead) → ((raw : List ℕ) → IsKept before raw → IsKept after (raw ++ ahead)) → TakesRun old new before after false
+pub run_plain : (old new : LinesState) (before after : Part) (ahead : List ℕ) →
+    ahead ≡ take (2 ^ 26 - old.given) old.ahead → 0 < length old.ahead → old.given < 2 ^ 26 → All (λ b. b ≢ 10) ahead →
+    new ≡ passed old (length ahead) → ((raw : List ℕ) → IsKept before raw → IsKept after (raw ++ ahead)) →
+    TakesRun old new before after false
 run_plain old new before after ahead is some room plain moved kept =
     let len : length ahead ≡ min (2 ^ 26 - old.given) (length old.ahead) = ap length is ∙ length-take (2 ^ 26 - old.given) old.ahead in
     let given : new.given ≡ old.given + length ahead = ap (λ (r : LinesState). r.given) moved in

@@ -27,12 +27,15 @@ pub record SoFar (before after : Option (List ℕ)) (old new : LinesState) (part
   pub ended : new.ended ≡ old.ended
 
 -- more bytes come from the source
-pub SoFar-read : {before mid after : Option (List ℕ)} {old cur new : LinesState} {part : Part} → SoFar before mid old cur part → (more : List ℕ) → Consumes mid after more → new.ahead ≡ cur.ahead ++ more → new.given ≡ cur.given → new.ended ≡ cur.ended → SoFar before after old new part
+pub SoFar-read : {before mid after : Option (List ℕ)} {old cur new : LinesState} {part : Part} →
+    SoFar before mid old cur part → (more : List ℕ) → Consumes mid after more → new.ahead ≡ cur.ahead ++ more →
+    new.given ≡ cur.given → new.ended ≡ cur.ended → SoFar before after old new part
 SoFar-read {before} {mid} {after} {old} {cur} {new} {part} s more moved ahead given ended = record {
   bytes = s.bytes ++ more;
   raw = s.raw;
   moved = Consumes-trans before mid after s.bytes more s.moved moved;
-  cut = sym (append_assoc old.ahead s.bytes more) ∙ ap (λ xs. xs ++ more) s.cut ∙ append_assoc s.raw cur.ahead more ∙ ap (λ xs. s.raw ++ xs) (sym ahead);
+  cut =
+      sym (append_assoc old.ahead s.bytes more) ∙ ap (λ xs. xs ++ more) s.cut ∙ append_assoc s.raw cur.ahead more ∙ ap (λ xs. s.raw ++ xs) (sym ahead);
   plain = s.plain;
   kept = s.kept;
   given = given ∙ s.given;
@@ -40,7 +43,8 @@ SoFar-read {before} {mid} {after} {old} {cur} {new} {part} s more moved ahead gi
 }
 
 -- a run that ends no line is taken
-pub SoFar-run : {before after : Option (List ℕ)} {old cur new : LinesState} {part next : Part} → SoFar before after old cur part → TakesRun cur new part next false → SoFar before after old new next
+pub SoFar-run : {before after : Option (List ℕ)} {old cur new : LinesState} {part next : Part} →
+    SoFar before after old cur part → TakesRun cur new part next false → SoFar before after old new next
 SoFar-run {before} {after} {old} {cur} {new} s r = record {
   bytes = s.bytes;
   raw = s.raw ++ r.run;
@@ -53,14 +57,18 @@ SoFar-run {before} {after} {old} {cur} {new} s r = record {
 }
 
 -- a line is given
-gives_line : (before after : Option (List ℕ)) (old : LinesState) (bytes : List ℕ) (new : LinesState) (raw : List ℕ) (line : Line (List ℕ)) → line ≡ line_of raw → GivesLine after old bytes new line → AnswersWith before after old bytes new (Ok line)
+gives_line : (before after : Option (List ℕ)) (old : LinesState) (bytes : List ℕ) (new : LinesState) (raw : List ℕ) (line : Line (List ℕ)) →
+    line ≡ line_of raw → GivesLine after old bytes new line → AnswersWith before after old bytes new (Ok line)
 gives_line before after old bytes new raw (Text text) is g = g
 gives_line before after old bytes new raw (Long len) is g = g
 gives_line before after old bytes new raw End is g = let h = line_of_cases raw in absurd (⊎_elim (λ e. cc) (λ e. cc) h)
 gives_line before after old bytes new raw Over is g = let h = line_of_cases raw in absurd (⊎_elim (λ e. cc) (λ e. cc) h)
 
 -- the line that a line feed ends
-pub gives_ended : {before after : Option (List ℕ)} {old cur new : LinesState} {part next : Part} (s : SoFar before after old cur part) (r : TakesRun cur new part next true) → cur.ended ≡ false → length cur.ahead ≤ 4096 → (line : Line (List ℕ)) → ((raw : List ℕ) → IsKept next raw → line ≡ line_of (strip_carriage_return raw)) → GivesNext before after old new (Ok line)
+pub gives_ended : {before after : Option (List ℕ)} {old cur new : LinesState} {part next : Part} (s : SoFar before after old cur part) (r : TakesRun cur new part next true) →
+    cur.ended ≡ false → length cur.ahead ≤ 4096 → (line : Line (List ℕ)) →
+    ((raw : List ℕ) → IsKept next raw → line ≡ line_of (strip_carriage_return raw)) →
+    GivesNext before after old new (Ok line)
 gives_ended {before} {after} {old} {cur} {new} s r live near line is =
     let raw = s.raw ++ r.run in
     let cut : old.ahead ++ s.bytes ≡ raw ++ 10 ∷ new.ahead = s.cut ∙ ap (λ xs. s.raw ++ xs) r.cut ∙ sym (append_assoc s.raw r.run (10 ∷ new.ahead)) in
@@ -70,7 +78,8 @@ gives_ended {before} {after} {old} {cur} {new} s r live near line is =
       moved = s.moved;
       gives = gives_line before after old s.bytes new _ line line_is (record {
         live = sym s.ended ∙ live;
-        taken = inl (record { raw = raw; plain = All-append (λ b. b ≢ 10) s.raw r.run s.plain r.plain; cut = cut; is = line_is }, r.ended ∙ live);
+        taken =
+            inl (record { raw = raw; plain = All-append (λ b. b ≢ 10) s.raw r.run s.plain r.plain; cut = cut; is = line_is }, r.ended ∙ live);
         count = omega (arith, r.count, ap length s.cut, length-append s.raw cur.ahead, s.given);
         bound = r.bound;
         near = omega (arith, near, ap length r.cut, length-append r.run (10 ∷ new.ahead));
@@ -78,7 +87,9 @@ gives_ended {before} {after} {old} {cur} {new} s r live near line is =
     }
 
 -- no line ends within the first bytes
-pub gives_over : {before after : Option (List ℕ)} {old new : LinesState} {part : Part} → SoFar before after old new part → new.ended ≡ false → new.given ≡ 2 ^ 26 → 0 < length new.ahead → length new.ahead ≤ 4096 → GivesNext before after old new (Ok Over)
+pub gives_over : {before after : Option (List ℕ)} {old new : LinesState} {part : Part} →
+    SoFar before after old new part → new.ended ≡ false → new.given ≡ 2 ^ 26 → 0 < length new.ahead →
+    length new.ahead ≤ 4096 → GivesNext before after old new (Ok Over)
 gives_over {before} {after} {old} {new} s live full more near = record {
   bytes = s.bytes;
   moved = s.moved;
@@ -102,18 +113,22 @@ not_true : (b : Bool) → (b ≡ true → ⊥) → b ≡ false
 not_true true h = absurd (h refl)
 not_true false h = refl
 
-pub state_is : (r : LinesState) (ahead : List ℕ) (given : ℕ) (ended : Bool) → r.ahead ≡ ahead → r.given ≡ given → r.ended ≡ ended → r ≡ record { ahead = ahead; given = given; ended = ended }
+pub state_is : (r : LinesState) (ahead : List ℕ) (given : ℕ) (ended : Bool) → r.ahead ≡ ahead → r.given ≡ given →
+    r.ended ≡ ended → r ≡ record { ahead = ahead; given = given; ended = ended }
 state_is r ahead given ended a g e =
     ap (λ (x : List ℕ). let w : LinesState = record { ahead = x; given = r.given; ended = r.ended } in w) a
     ∙ ap (λ (x : ℕ). let w : LinesState = record { ahead = ahead; given = x; ended = r.ended } in w) g
     ∙ ap (λ (x : Bool). let w : LinesState = record { ahead = ahead; given = given; ended = x } in w) e
 
 -- where nothing is ahead, all bytes belong to the line
-all_raw : {before after : Option (List ℕ)} {old new : LinesState} {part : Part} (s : SoFar before after old new part) → new.ahead ≡ [] → old.ahead ++ s.bytes ≡ s.raw
+all_raw : {before after : Option (List ℕ)} {old new : LinesState} {part : Part} (s : SoFar before after old new part) →
+    new.ahead ≡ [] → old.ahead ++ s.bytes ≡ s.raw
 all_raw s none = s.cut ∙ ap (λ xs. s.raw ++ xs) none ∙ append-nil s.raw
 
 -- the source fails
-pub breaks_off : {before mid : Option (List ℕ)} (after : Option (List ℕ)) {old cur new : LinesState} {part : Part} → SoFar before mid old cur part → Keeps mid after → cur.ahead ≡ [] → cur.ended ≡ false → new ≡ cur → cur.given ≤ 2 ^ 26 → GivesNext before after old new (Err Read)
+pub breaks_off : {before mid : Option (List ℕ)} (after : Option (List ℕ)) {old cur new : LinesState} {part : Part} →
+    SoFar before mid old cur part → Keeps mid after → cur.ahead ≡ [] → cur.ended ≡ false → new ≡ cur →
+    cur.given ≤ 2 ^ 26 → GivesNext before after old new (Err Read)
 breaks_off {before} {mid} after {old} {cur} {new} s kept none live same bound =
     let all = all_raw s none in
     let given : cur.given ≡ old.given + length (old.ahead ++ s.bytes) = s.given ∙ ap (λ (xs : List ℕ). old.given + length xs) (sym all) in
@@ -129,11 +144,13 @@ breaks_off {before} {mid} after {old} {cur} {new} s kept none live same bound =
     }
 
 -- the input had ended before this call, or ends in it
-had_ended : {before mid : Option (List ℕ)} (after : Option (List ℕ)) (old cur : LinesState) → cur.ended ≡ old.ended → (old.ended ≡ true → mid ≡ before) → HasEnded cur mid after → HasEnded old before after
+had_ended : {before mid : Option (List ℕ)} (after : Option (List ℕ)) (old cur : LinesState) → cur.ended ≡ old.ended →
+    (old.ended ≡ true → mid ≡ before) → HasEnded cur mid after → HasEnded old before after
 had_ended after old cur same idle (inl h) = inl (sym same ∙ h.0, h.1 ∙ idle (sym same ∙ h.0))
 had_ended after old cur same idle (inr h) = inr (sym same ∙ h.0, h.1)
 
-at_end_now : {mid : Option (List ℕ)} (after : Option (List ℕ)) (cur : LinesState) → cur.ended ≡ false → HasEnded cur mid after → IsAtEnd after
+at_end_now : {mid : Option (List ℕ)} (after : Option (List ℕ)) (cur : LinesState) → cur.ended ≡ false →
+    HasEnded cur mid after → IsAtEnd after
 at_end_now after cur live (inl h) = absurd (let e = h.0 in cc)
 at_end_now after cur live (inr h) = h.1
 
@@ -185,7 +202,8 @@ gives_last {before} {mid} after {old} {cur} {new} {part} s more moved ahead give
     (cases_lt 0 (length s.raw))
 
 -- a line feed that was ahead is still ahead
-pub still_ahead : {before after : Option (List ℕ)} {old new : LinesState} {part : Part} → SoFar before after old new part → Contains old.ahead 10 → 0 < length new.ahead
+pub still_ahead : {before after : Option (List ℕ)} {old new : LinesState} {part : Part} →
+    SoFar before after old new part → Contains old.ahead 10 → 0 < length new.ahead
 still_ahead {old = old} {new = new} s has = ⊎_elim
     (λ some. some)
     (λ none.
@@ -194,32 +212,40 @@ still_ahead {old = old} {new = new} s has = ⊎_elim
     (cases_lt 0 (length new.ahead))
 
 -- how the answer tells of more bytes
-pub has_some : (more : Bool) (old new : LinesState) (before after : Option (List ℕ)) → more ≡ true → HasMore more old new before after → HasMore true old new before after
+pub has_some : (more : Bool) (old new : LinesState) (before after : Option (List ℕ)) → more ≡ true →
+    HasMore more old new before after → HasMore true old new before after
 has_some true old new before after e h = h
 has_some false old new before after e h = cc
 
-pub has_none : (more : Bool) (old new : LinesState) (before after : Option (List ℕ)) → more ≡ false → HasMore more old new before after → HasMore false old new before after
+pub has_none : (more : Bool) (old new : LinesState) (before after : Option (List ℕ)) → more ≡ false →
+    HasMore more old new before after → HasMore false old new before after
 has_none true old new before after e h = cc
 has_none false old new before after e h = h
 
--- memory is wanting
-pub gives_no_memory : {before after : Option (List ℕ)} {old cur : LinesState} {part : Part} (new : LinesState) → SoFar before after old cur part → cur.ended ≡ false → length cur.ahead ≤ 4096 → GivesNext before after old new (Err NoMemory)
+-- memory runs out
+pub gives_no_memory : {before after : Option (List ℕ)} {old cur : LinesState} {part : Part} (new : LinesState) →
+    SoFar before after old cur part → cur.ended ≡ false → length cur.ahead ≤ 4096 →
+    GivesNext before after old new (Err NoMemory)
 gives_no_memory {cur = cur} new s live near = record {
   bytes = s.bytes;
   moved = s.moved;
-  gives = record { live = sym s.ended ∙ live; raw = s.raw; rest = cur.ahead; plain = s.plain; cut = s.cut; near = near };
+  gives =
+      record { live = sym s.ended ∙ live; raw = s.raw; rest = cur.ahead; plain = s.plain; cut = s.cut; near = near };
 }
 
 -- an error by its name
-pub gives_err : {before after : Option (List ℕ)} {old new : LinesState} {stop : LineStop} (result : Result (Line (List ℕ)) LineStop) (e : LineStop) → result ≡ Err e → e ≡ stop → GivesNext before after old new (Err stop) → GivesNext before after old new result
-gives_err {before} {after} {old} {new} result e is same g = subst (GivesNext before after old new) (sym (is ∙ ap (λ (x : LineStop). Err x) same)) g
+pub gives_err : {before after : Option (List ℕ)} {old new : LinesState} {stop : LineStop} (result : Result (Line (List ℕ)) LineStop) (e : LineStop) →
+    result ≡ Err e → e ≡ stop → GivesNext before after old new (Err stop) → GivesNext before after old new result
+gives_err {before} {after} {old} {new} result e is same g =
+    subst (GivesNext before after old new) (sym (is ∙ ap (λ (x : LineStop). Err x) same)) g
 
 -- what stays in two steps
 pub stays : {A : Type 0} {a b c : A} {k m n : ℕ} → (b ≡ a) × (m ≡ k) → (c ≡ b) × (n ≡ m) → (c ≡ a) × (n ≡ k)
 stays p q = (q.0 ∙ p.0, q.1 ∙ p.1)
 
--- a run by what was found behind it
-pub run_with : {old new : LinesState} {before after : Part} {found : Bool} (is : Bool) → TakesRun old new before after found → found ≡ is → TakesRun old new before after is
+-- a run by what was found after it
+pub run_with : {old new : LinesState} {before after : Part} {found : Bool} (is : Bool) →
+    TakesRun old new before after found → found ≡ is → TakesRun old new before after is
 run_with {old} {new} {before} {after} is run same = subst (TakesRun old new before after) same run
 
 pub not_both : {b : Bool} → b ≡ false → b ≡ true → ⊥

@@ -26,38 +26,50 @@ use Rattle.lp_base.proofs.SoFar.{state_is}
 begins_with_none : BeginsWith [] []
 begins_with_none = record { all = λ more. refl; ended = λ more. refl }
 
-begins_with_line : (raw : List ℕ) (line : Line (List ℕ)) → All (λ b. b ≢ 10) raw → line ≡ line_of (strip_carriage_return raw) → BeginsWith (raw ++ 10 ∷ []) (line ∷ [])
+begins_with_line : (raw : List ℕ) (line : Line (List ℕ)) → All (λ b. b ≢ 10) raw →
+    line ≡ line_of (strip_carriage_return raw) → BeginsWith (raw ++ 10 ∷ []) (line ∷ [])
 begins_with_line raw line plain is = record {
-  all = λ more. ap lines_of (append_assoc raw (10 ∷ []) more) ∙ lines_of_line raw more plain ∙ ap (λ (l : Line (List ℕ)). l ∷ lines_of more) (sym is);
-  ended = λ more. ap ended_lines_of (append_assoc raw (10 ∷ []) more) ∙ ended_lines_of_line raw more plain ∙ ap (λ (l : Line (List ℕ)). l ∷ ended_lines_of more) (sym is);
+  all =
+      λ more. ap lines_of (append_assoc raw (10 ∷ []) more) ∙ lines_of_line raw more plain ∙ ap (λ (l : Line (List ℕ)). l ∷ lines_of more) (sym is);
+  ended =
+      λ more. ap ended_lines_of (append_assoc raw (10 ∷ []) more) ∙ ended_lines_of_line raw more plain ∙ ap (λ (l : Line (List ℕ)). l ∷ ended_lines_of more) (sym is);
 }
 
-BeginsWith-append : {raw : List ℕ} {lines : List (Line (List ℕ))} {more : List ℕ} {others : List (Line (List ℕ))} → BeginsWith raw lines → BeginsWith more others → BeginsWith (raw ++ more) (lines ++ others)
+BeginsWith-append : {raw : List ℕ} {lines : List (Line (List ℕ))} {more : List ℕ} {others : List (Line (List ℕ))} →
+    BeginsWith raw lines → BeginsWith more others → BeginsWith (raw ++ more) (lines ++ others)
 BeginsWith-append {raw} {lines} {more} {others} b d = record {
-  all = λ rest. ap lines_of (append_assoc raw more rest) ∙ b.all (more ++ rest) ∙ ap (λ ls. lines ++ ls) (d.all rest) ∙ sym (append_assoc lines others (lines_of rest));
-  ended = λ rest. ap ended_lines_of (append_assoc raw more rest) ∙ b.ended (more ++ rest) ∙ ap (λ ls. lines ++ ls) (d.ended rest) ∙ sym (append_assoc lines others (ended_lines_of rest));
+  all =
+      λ rest. ap lines_of (append_assoc raw more rest) ∙ b.all (more ++ rest) ∙ ap (λ ls. lines ++ ls) (d.all rest) ∙ sym (append_assoc lines others (lines_of rest));
+  ended =
+      λ rest. ap ended_lines_of (append_assoc raw more rest) ∙ b.ended (more ++ rest) ∙ ap (λ ls. lines ++ ls) (d.ended rest) ∙ sym (append_assoc lines others (ended_lines_of rest));
 }
 
 -- where nothing follows, these are all the lines
 begins_whole : {raw : List ℕ} {lines : List (Line (List ℕ))} → BeginsWith raw lines → lines_of raw ≡ lines
-begins_whole {raw} {lines} b = ap lines_of (sym (append-nil raw)) ∙ b.all [] ∙ ap (λ ls. lines ++ ls) lines_of_none ∙ append-nil lines
+begins_whole {raw} {lines} b =
+    ap lines_of (sym (append-nil raw)) ∙ b.all [] ∙ ap (λ ls. lines ++ ls) lines_of_none ∙ append-nil lines
 
--- the ended lines of a front of the text
-ended_front : {raw : List ℕ} {lines : List (Line (List ℕ))} (limit : ℕ) (rest : List ℕ) → BeginsWith raw lines → length raw ≤ limit → ended_lines_of (take limit (raw ++ rest)) ≡ lines ++ ended_lines_of (take (limit - length raw) rest)
+-- the ended lines of a prefix of the text
+ended_front : {raw : List ℕ} {lines : List (Line (List ℕ))} (limit : ℕ) (rest : List ℕ) → BeginsWith raw lines →
+    length raw ≤ limit →
+    ended_lines_of (take limit (raw ++ rest)) ≡ lines ++ ended_lines_of (take (limit - length raw) rest)
 ended_front {raw} {lines} limit rest b within =
     let short : take limit raw ≡ raw = take_all limit raw within in
     ap ended_lines_of (take-append limit raw rest ∙ ap (λ (xs : List ℕ). xs ++ take (limit - length raw) rest) short)
     ∙ b.ended (take (limit - length raw) rest)
 
 -- no line ends in the rest
-plain_front : {raw : List ℕ} {lines : List (Line (List ℕ))} (limit : ℕ) (rest : List ℕ) → BeginsWith raw lines → length raw ≤ limit → All (λ b. b ≢ 10) rest → ended_lines_of (take limit (raw ++ rest)) ≡ lines
+plain_front : {raw : List ℕ} {lines : List (Line (List ℕ))} (limit : ℕ) (rest : List ℕ) → BeginsWith raw lines →
+    length raw ≤ limit → All (λ b. b ≢ 10) rest → ended_lines_of (take limit (raw ++ rest)) ≡ lines
 plain_front {raw} {lines} limit rest b within plain =
     ended_front limit rest b within
     ∙ ap (λ ls. lines ++ ls) (ended_lines_of_last (take (limit - length raw) rest) (All-take (λ b. b ≢ 10) (limit - length raw) rest plain))
     ∙ append-nil lines
 
 -- no line ends in the rest as far as the limit
-plain_to_limit : {raw : List ℕ} {lines : List (Line (List ℕ))} (limit : ℕ) (front rest : List ℕ) → BeginsWith raw lines → length raw + length front ≡ limit → All (λ b. b ≢ 10) front → ended_lines_of (take limit (raw ++ (front ++ rest))) ≡ lines
+plain_to_limit : {raw : List ℕ} {lines : List (Line (List ℕ))} (limit : ℕ) (front rest : List ℕ) →
+    BeginsWith raw lines → length raw + length front ≡ limit → All (λ b. b ≢ 10) front →
+    ended_lines_of (take limit (raw ++ (front ++ rest))) ≡ lines
 plain_to_limit {raw} {lines} limit front rest b len plain =
     let room : limit - length raw ≡ length front = omega arith in
     let all : take (limit - length raw) (front ++ rest) ≡ front = ap (λ (n : ℕ). take n (front ++ rest)) room ∙ take-append_seam front rest in
@@ -67,16 +79,19 @@ plain_to_limit {raw} {lines} limit front rest b len plain =
     ∙ append-nil lines
 
 -- ---- lines, call by call
-tells_begun : (ended : Bool) (after : Option (List ℕ)) (raw ahead : List ℕ) (lines : List (Line (List ℕ))) → ended ≡ false → Tells ended after raw ahead lines → BeginsWith raw lines
+tells_begun : (ended : Bool) (after : Option (List ℕ)) (raw ahead : List ℕ) (lines : List (Line (List ℕ))) →
+    ended ≡ false → Tells ended after raw ahead lines → BeginsWith raw lines
 tells_begun true after raw ahead lines live t = cc
 tells_begun false after raw ahead lines live t = t
 
 -- where the input has not ended, more lines may follow
-begun : {after : Option (List ℕ)} {old new : LinesState} {bytes : List ℕ} {lines : List (Line (List ℕ))} (t : TakesLines after old bytes new lines) → new.ended ≡ false → BeginsWith t.raw lines
+begun : {after : Option (List ℕ)} {old new : LinesState} {bytes : List ℕ} {lines : List (Line (List ℕ))} (t : TakesLines after old bytes new lines) →
+    new.ended ≡ false → BeginsWith t.raw lines
 begun {after} {old} {new} {bytes} {lines} t live = tells_begun new.ended after t.raw new.ahead lines live t.told
 
 -- none, where the input has not ended
-pub takes_none : (after : Option (List ℕ)) (state : LinesState) → state.ended ≡ false → TakesLines after state [] state []
+pub takes_none : (after : Option (List ℕ)) (state : LinesState) → state.ended ≡ false →
+    TakesLines after state [] state []
 takes_none after state live = record {
   live = live;
   raw = [];
@@ -88,7 +103,8 @@ takes_none after state live = record {
 }
 
 -- one line
-pub takes_line : {after : Option (List ℕ)} {old : LinesState} {bytes : List ℕ} {new : LinesState} {line : Line (List ℕ)} → GivesLine after old bytes new line → TakesLines after old bytes new (line ∷ [])
+pub takes_line : {after : Option (List ℕ)} {old : LinesState} {bytes : List ℕ} {new : LinesState} {line : Line (List ℕ)} →
+    GivesLine after old bytes new line → TakesLines after old bytes new (line ∷ [])
 takes_line {after} {old} {bytes} {new} {line} g =
     ⊎_elim
     (λ e.
@@ -101,7 +117,8 @@ takes_line {after} {old} {bytes} {new} {line} g =
       count = omega (arith, g.count, ap length cut, length-append raw new.ahead);
       bound = λ b. g.bound;
       near = λ n. g.near;
-      told = subst (λ (b : Bool). Tells b after raw new.ahead (line ∷ [])) (sym e.1) (begins_with_line e.0.raw line e.0.plain e.0.is);
+      told =
+          subst (λ (b : Bool). Tells b after raw new.ahead (line ∷ [])) (sym e.1) (begins_with_line e.0.raw line e.0.plain e.0.is);
     })
     (λ l.
     let raw = old.ahead ++ bytes in
@@ -121,12 +138,16 @@ takes_line {after} {old} {bytes} {new} {line} g =
     })
     g.taken
 
-Tells-append : (ended : Bool) (after : Option (List ℕ)) (raw more ahead : List ℕ) (lines others : List (Line (List ℕ))) → BeginsWith raw lines → Tells ended after more ahead others → Tells ended after (raw ++ more) ahead (lines ++ others)
-Tells-append true after raw more ahead lines others b t = record { all = b.all more ∙ ap (λ ls. lines ++ ls) t.all; none = t.none; at_end = t.at_end }
+Tells-append : (ended : Bool) (after : Option (List ℕ)) (raw more ahead : List ℕ) (lines others : List (Line (List ℕ))) →
+    BeginsWith raw lines → Tells ended after more ahead others → Tells ended after (raw ++ more) ahead (lines ++ others)
+Tells-append true after raw more ahead lines others b t =
+    record { all = b.all more ∙ ap (λ ls. lines ++ ls) t.all; none = t.none; at_end = t.at_end }
 Tells-append false after raw more ahead lines others b t = BeginsWith-append b t
 
 -- more lines
-pub TakesLines-append : {mid after : Option (List ℕ)} {first old new : LinesState} {bytes more : List ℕ} {lines others : List (Line (List ℕ))} → TakesLines mid first bytes old lines → TakesLines after old more new others → TakesLines after first (bytes ++ more) new (lines ++ others)
+pub TakesLines-append : {mid after : Option (List ℕ)} {first old new : LinesState} {bytes more : List ℕ} {lines others : List (Line (List ℕ))} →
+    TakesLines mid first bytes old lines → TakesLines after old more new others →
+    TakesLines after first (bytes ++ more) new (lines ++ others)
 TakesLines-append {mid} {after} {first} {old} {new} {bytes} {more} {lines} {others} t u =
     record {
       live = t.live;
@@ -142,14 +163,20 @@ TakesLines-append {mid} {after} {first} {old} {new} {bytes} {more} {lines} {othe
       told = Tells-append new.ended after t.raw u.raw new.ahead lines others (begun t u.live) u.told;
     }
 
-tells_end : (ended : Bool) (mid after : Option (List ℕ)) (old : LinesState) (raw before ahead : List ℕ) (lines : List (Line (List ℕ))) → ended ≡ old.ended → ahead ≡ [] → HasEnded old mid after → Tells ended mid raw before lines → IsWhole after raw ahead lines
-tells_end true mid after old raw before ahead lines same none (inl h) t = record { all = t.all; none = none; at_end = subst IsAtEnd (sym h.1) t.at_end }
+tells_end : (ended : Bool) (mid after : Option (List ℕ)) (old : LinesState) (raw before ahead : List ℕ) (lines : List (Line (List ℕ))) →
+    ended ≡ old.ended → ahead ≡ [] → HasEnded old mid after → Tells ended mid raw before lines →
+    IsWhole after raw ahead lines
+tells_end true mid after old raw before ahead lines same none (inl h) t =
+    record { all = t.all; none = none; at_end = subst IsAtEnd (sym h.1) t.at_end }
 tells_end true mid after old raw before ahead lines same none (inr h) t = absurd (let e = h.0 in cc)
 tells_end false mid after old raw before ahead lines same none (inl h) t = absurd (let e = h.0 in cc)
-tells_end false mid after old raw before ahead lines same none (inr h) t = record { all = begins_whole t; none = none; at_end = h.1 }
+tells_end false mid after old raw before ahead lines same none (inr h) t =
+    record { all = begins_whole t; none = none; at_end = h.1 }
 
 -- the end
-pub takes_end : {mid after : Option (List ℕ)} {first old new : LinesState} {bytes more : List ℕ} {lines : List (Line (List ℕ))} → TakesLines mid first bytes old lines → GivesEnd mid after old more new → TakesLines after first (bytes ++ more) new lines
+pub takes_end : {mid after : Option (List ℕ)} {first old new : LinesState} {bytes more : List ℕ} {lines : List (Line (List ℕ))} →
+    TakesLines mid first bytes old lines → GivesEnd mid after old more new →
+    TakesLines after first (bytes ++ more) new lines
 takes_end {mid} {after} {first} {old} {new} {bytes} {more} {lines} t g =
     let stands : new ≡ record { ahead = []; given = old.given; ended = true } = g.stands in
     let none : new.ahead ≡ [] = ap (λ (r : LinesState). r.ahead) stands in
@@ -163,37 +190,47 @@ takes_end {mid} {after} {first} {old} {new} {bytes} {more} {lines} t g =
       count = ap (λ (r : LinesState). r.given) stands ∙ t.count;
       bound = λ b. omega (arith, ap (λ (r : LinesState). r.given) stands, g.bound);
       near = λ n. omega (arith, ap length none);
-      told = subst (λ (b : Bool). Tells b after t.raw new.ahead lines) (sym (ap (λ (r : LinesState). r.ended) stands)) (tells_end old.ended mid after old t.raw old.ahead new.ahead lines refl none g.ended t.told);
+      told =
+          subst (λ (b : Bool). Tells b after t.raw new.ahead lines) (sym (ap (λ (r : LinesState). r.ended) stands)) (tells_end old.ended mid after old t.raw old.ahead new.ahead lines refl none g.ended t.told);
     }
 
 -- ---- where a reader stops that began at the start of its input
-tells_whole : (ended : Bool) (after : Option (List ℕ)) (raw ahead : List ℕ) (lines : List (Line (List ℕ))) → ended ≡ true → Tells ended after raw ahead lines → IsWhole after raw ahead lines
+tells_whole : (ended : Bool) (after : Option (List ℕ)) (raw ahead : List ℕ) (lines : List (Line (List ℕ))) →
+    ended ≡ true → Tells ended after raw ahead lines → IsWhole after raw ahead lines
 tells_whole true after raw ahead lines e t = t
 tells_whole false after raw ahead lines e t = cc
 
 -- no more lines were taken than may be read
-raw_within : {after : Option (List ℕ)} {new : LinesState} {read : List ℕ} {lines : List (Line (List ℕ))} (t : TakesLines after at_start read new lines) → length t.raw ≤ 2 ^ 26
+raw_within : {after : Option (List ℕ)} {new : LinesState} {read : List ℕ} {lines : List (Line (List ℕ))} (t : TakesLines after at_start read new lines) →
+    length t.raw ≤ 2 ^ 26
 raw_within t = let bound = t.bound (omega arith) in omega (arith, t.count)
 
 -- all bytes that were read, from the start on
-read_so_far : {mid : Option (List ℕ)} {old : LinesState} {read : List ℕ} {lines : List (Line (List ℕ))} (t : TakesLines mid at_start read old lines) (bytes : List ℕ) → read ++ bytes ≡ t.raw ++ (old.ahead ++ bytes)
+read_so_far : {mid : Option (List ℕ)} {old : LinesState} {read : List ℕ} {lines : List (Line (List ℕ))} (t : TakesLines mid at_start read old lines) (bytes : List ℕ) →
+    read ++ bytes ≡ t.raw ++ (old.ahead ++ bytes)
 read_so_far {old = old} t bytes = ap (λ xs. xs ++ bytes) t.cut ∙ append_assoc t.raw old.ahead bytes
 
 -- at the end, these are all the lines
-pub told_all : {after : Option (List ℕ)} {new : LinesState} {read : List ℕ} {lines : List (Line (List ℕ))} → TakesLines after at_start read new lines → new.ended ≡ true → (lines_of read ≡ lines) × (length read ≤ 2 ^ 26) × IsAtEnd after
+pub told_all : {after : Option (List ℕ)} {new : LinesState} {read : List ℕ} {lines : List (Line (List ℕ))} →
+    TakesLines after at_start read new lines → new.ended ≡ true →
+    (lines_of read ≡ lines) × (length read ≤ 2 ^ 26) × IsAtEnd after
 told_all {after} {new} {read} {lines} t ended =
     let whole = tells_whole new.ended after t.raw new.ahead lines ended t.told in
     let same : read ≡ t.raw = t.cut ∙ ap (λ xs. t.raw ++ xs) whole.none ∙ append-nil t.raw in
     (ap lines_of same ∙ whole.all, omega (arith, raw_within t, ap length same), whole.at_end)
 
 -- where the source fails, all lines that end were taken
-pub told_at_fault : {mid : Option (List ℕ)} {old new : LinesState} {read bytes : List ℕ} {lines : List (Line (List ℕ))} → TakesLines mid at_start read old lines → IsBrokenOff old bytes new → ended_lines_of (take input_limit (read ++ bytes)) ≡ lines
+pub told_at_fault : {mid : Option (List ℕ)} {old new : LinesState} {read bytes : List ℕ} {lines : List (Line (List ℕ))} →
+    TakesLines mid at_start read old lines → IsBrokenOff old bytes new →
+    ended_lines_of (take input_limit (read ++ bytes)) ≡ lines
 told_at_fault {mid} {old} {new} {read} {bytes} {lines} t broken =
     ap (λ (xs : List ℕ). ended_lines_of (take input_limit xs)) (read_so_far t bytes)
     ∙ plain_front input_limit (old.ahead ++ bytes) (begun t broken.live) (raw_within t) broken.plain
 
 -- past the limit, all lines that end within it were taken
-pub told_over : {mid : Option (List ℕ)} {old : LinesState} {read bytes : List ℕ} {lines : List (Line (List ℕ))} → TakesLines mid at_start read old lines → IsOver old bytes → (ended_lines_of (take input_limit (read ++ bytes)) ≡ lines) × (2 ^ 26 < length (read ++ bytes))
+pub told_over : {mid : Option (List ℕ)} {old : LinesState} {read bytes : List ℕ} {lines : List (Line (List ℕ))} →
+    TakesLines mid at_start read old lines → IsOver old bytes →
+    (ended_lines_of (take input_limit (read ++ bytes)) ≡ lines) × (2 ^ 26 < length (read ++ bytes))
 told_over {mid} {old} {read} {bytes} {lines} t over =
     let same : read ++ bytes ≡ t.raw ++ (over.raw ++ over.rest) = read_so_far t bytes ∙ ap (λ xs. t.raw ++ xs) over.cut in (
       ap (λ (xs : List ℕ). ended_lines_of (take input_limit xs)) same
@@ -202,7 +239,8 @@ told_over {mid} {old} {read} {bytes} {lines} t over =
     )
 
 -- ---- how much more was read
-more_at_fault : {mid : Option (List ℕ)} {old new : LinesState} {read bytes : List ℕ} {lines : List (Line (List ℕ))} → TakesLines mid at_start read old lines → IsBrokenOff old bytes new → ReadsLittleMore (read ++ bytes) lines
+more_at_fault : {mid : Option (List ℕ)} {old new : LinesState} {read bytes : List ℕ} {lines : List (Line (List ℕ))} →
+    TakesLines mid at_start read old lines → IsBrokenOff old bytes new → ReadsLittleMore (read ++ bytes) lines
 more_at_fault {old = old} {bytes = bytes} t broken = record {
   raw = t.raw;
   part = old.ahead ++ bytes;
@@ -213,7 +251,8 @@ more_at_fault {old = old} {bytes = bytes} t broken = record {
   near = omega arith;
 }
 
-more_at_over : {mid : Option (List ℕ)} {old : LinesState} {read bytes : List ℕ} {lines : List (Line (List ℕ))} → TakesLines mid at_start read old lines → IsOver old bytes → ReadsLittleMore (read ++ bytes) lines
+more_at_over : {mid : Option (List ℕ)} {old : LinesState} {read bytes : List ℕ} {lines : List (Line (List ℕ))} →
+    TakesLines mid at_start read old lines → IsOver old bytes → ReadsLittleMore (read ++ bytes) lines
 more_at_over {bytes = bytes} t over = record {
   raw = t.raw;
   part = over.raw;
@@ -224,7 +263,8 @@ more_at_over {bytes = bytes} t over = record {
   near = over.near;
 }
 
-more_at_want : {mid : Option (List ℕ)} {old : LinesState} {read bytes : List ℕ} {lines : List (Line (List ℕ))} → TakesLines mid at_start read old lines → IsGivenUp old bytes → ReadsLittleMore (read ++ bytes) lines
+more_at_want : {mid : Option (List ℕ)} {old : LinesState} {read bytes : List ℕ} {lines : List (Line (List ℕ))} →
+    TakesLines mid at_start read old lines → IsGivenUp old bytes → ReadsLittleMore (read ++ bytes) lines
 more_at_want {bytes = bytes} t given_up = record {
   raw = t.raw;
   part = given_up.raw;
@@ -235,7 +275,8 @@ more_at_want {bytes = bytes} t given_up = record {
   near = given_up.near;
 }
 
-more_now : {after : Option (List ℕ)} {new : LinesState} {read : List ℕ} {lines : List (Line (List ℕ))} → TakesLines after at_start read new lines → new.ended ≡ false → ReadsLittleMore read lines
+more_now : {after : Option (List ℕ)} {new : LinesState} {read : List ℕ} {lines : List (Line (List ℕ))} →
+    TakesLines after at_start read new lines → new.ended ≡ false → ReadsLittleMore read lines
 more_now {new = new} t live =
     let ahead : length new.ahead < 4096 = t.near (omega arith) in
     record {
@@ -249,7 +290,9 @@ more_now {new = new} t live =
     }
 
 -- wherever else it stops, the lines that were taken come first
-pub told_in_part : {mid : Option (List ℕ)} {old : LinesState} {read : List ℕ} {lines : List (Line (List ℕ))} → TakesLines mid at_start read old lines → old.ended ≡ false → (bytes : List ℕ) → (more : List (Line (List ℕ))) × (ended_lines_of (take input_limit (read ++ bytes)) ≡ lines ++ more)
+pub told_in_part : {mid : Option (List ℕ)} {old : LinesState} {read : List ℕ} {lines : List (Line (List ℕ))} →
+    TakesLines mid at_start read old lines → old.ended ≡ false → (bytes : List ℕ) →
+    (more : List (Line (List ℕ))) × (ended_lines_of (take input_limit (read ++ bytes)) ≡ lines ++ more)
 told_in_part {mid} {old} {read} {lines} t live bytes = (
   ended_lines_of (take (input_limit - length t.raw) (old.ahead ++ bytes)),
   ap (λ (xs : List ℕ). ended_lines_of (take input_limit xs)) (read_so_far t bytes)
@@ -257,20 +300,28 @@ told_in_part {mid} {old} {read} {lines} t live bytes = (
 )
 
 -- after a call, the lines that were taken come first, or are all
-pub told_now : {after : Option (List ℕ)} {new : LinesState} {read : List ℕ} {lines : List (Line (List ℕ))} → TakesLines after at_start read new lines → ((more : List (Line (List ℕ))) × (ended_lines_of (take input_limit read) ≡ lines ++ more) × ReadsLittleMore read lines) ⊎ ((lines_of read ≡ lines) × (length read ≤ 2 ^ 26) × IsAtEnd after)
+pub told_now : {after : Option (List ℕ)} {new : LinesState} {read : List ℕ} {lines : List (Line (List ℕ))} →
+    TakesLines after at_start read new lines →
+    ((more : List (Line (List ℕ))) × (ended_lines_of (take input_limit read) ≡ lines ++ more) × ReadsLittleMore read lines) ⊎ ((lines_of read ≡ lines) × (length read ≤ 2 ^ 26) × IsAtEnd after)
 told_now {after} {new} {read} {lines} t = by new.ended refl
   where
-    by : (ended : Bool) → new.ended ≡ ended → ((more : List (Line (List ℕ))) × (ended_lines_of (take input_limit read) ≡ lines ++ more) × ReadsLittleMore read lines) ⊎ ((lines_of read ≡ lines) × (length read ≤ 2 ^ 26) × IsAtEnd after)
+    by : (ended : Bool) → new.ended ≡ ended →
+        ((more : List (Line (List ℕ))) × (ended_lines_of (take input_limit read) ≡ lines ++ more) × ReadsLittleMore read lines) ⊎ ((lines_of read ≡ lines) × (length read ≤ 2 ^ 26) × IsAtEnd after)
     by true is = inr (told_all t is)
-    by false is = let part = told_in_part t is [] in inl (part.0, ap (λ (xs : List ℕ). ended_lines_of (take input_limit xs)) (sym (append-nil read)) ∙ part.1, more_now t is)
+    by false is =
+        let part = told_in_part t is [] in
+        inl (part.0, ap (λ (xs : List ℕ). ended_lines_of (take input_limit xs)) (sym (append-nil read)) ∙ part.1, more_now t is)
 
 -- ---- the same, with what was consumed of the source
 -- an answer by its name
-pub gives_as : {before after : Option (List ℕ)} {old new : LinesState} {line : Line (List ℕ)} (is : Line (List ℕ)) → line ≡ is → GivesNext before after old new (Ok line) → GivesNext before after old new (Ok is)
-gives_as {before} {after} {old} {new} is same g = subst (λ (l : Line (List ℕ)). GivesNext before after old new (Ok l)) same g
+pub gives_as : {before after : Option (List ℕ)} {old new : LinesState} {line : Line (List ℕ)} (is : Line (List ℕ)) →
+    line ≡ is → GivesNext before after old new (Ok line) → GivesNext before after old new (Ok is)
+gives_as {before} {after} {old} {new} is same g =
+    subst (λ (l : Line (List ℕ)). GivesNext before after old new (Ok l)) same g
 
 -- a line that is given is no end
-pub given_line : (before after : Option (List ℕ)) (old : LinesState) (bytes : List ℕ) (new : LinesState) (line : Line (List ℕ)) → line ≢ End → line ≢ Over → AnswersWith before after old bytes new (Ok line) → GivesLine after old bytes new line
+pub given_line : (before after : Option (List ℕ)) (old : LinesState) (bytes : List ℕ) (new : LinesState) (line : Line (List ℕ)) →
+    line ≢ End → line ≢ Over → AnswersWith before after old bytes new (Ok line) → GivesLine after old bytes new line
 given_line before after old bytes new (Text text) no_end no_over g = g
 given_line before after old bytes new (Long len) no_end no_over g = g
 given_line before after old bytes new End no_end no_over g = absurd (no_end refl)
@@ -281,14 +332,19 @@ pub reads_none : (left : Option (List ℕ)) (state : LinesState) → ReadsLines 
 reads_none left state = by state.ended refl
   where
     by : (ended : Bool) → state.ended ≡ ended → ReadsLines left left state state []
-    by true is = record { bytes = []; moved = Consumes-nil left; taken = inr (record { ended = is; unread = refl; left = refl; stays = refl; none = refl }) }
+    by true is =
+        record { bytes = []; moved = Consumes-nil left; taken = inr (record { ended = is; unread = refl; left = refl; stays = refl; none = refl }) }
     by false is = record { bytes = []; moved = Consumes-nil left; taken = inl (takes_none left state is) }
 
-pub reads_start : (left : Option (List ℕ)) (state : LinesState) → state ≡ at_start → ReadsLines left left at_start state []
-reads_start left state is = subst (λ (r : LinesState). ReadsLines left left at_start r []) (sym is) (reads_none left at_start)
+pub reads_start : (left : Option (List ℕ)) (state : LinesState) → state ≡ at_start →
+    ReadsLines left left at_start state []
+reads_start left state is =
+    subst (λ (r : LinesState). ReadsLines left left at_start r []) (sym is) (reads_none left at_start)
 
 -- an end that stays
-same_taken : {mid after : Option (List ℕ)} {first old new : LinesState} {bytes more : List ℕ} {lines others : List (Line (List ℕ))} → TakesLines mid first bytes old lines → StaysEnded mid after old more new others → TakesLines after first (bytes ++ more) new (lines ++ others)
+same_taken : {mid after : Option (List ℕ)} {first old new : LinesState} {bytes more : List ℕ} {lines others : List (Line (List ℕ))} →
+    TakesLines mid first bytes old lines → StaysEnded mid after old more new others →
+    TakesLines after first (bytes ++ more) new (lines ++ others)
 same_taken {mid} {after} {first} {old} {new} {bytes} {more} {lines} {others} t u =
     subst (λ (r : LinesState). TakesLines after first (bytes ++ more) r (lines ++ others)) (sym u.stays)
     (subst (λ (left : Option (List ℕ)). TakesLines left first (bytes ++ more) old (lines ++ others)) (sym u.left)
@@ -305,7 +361,9 @@ true_is_not_false : {b : Bool} → b ≡ true → b ≡ false → ⊥
 true_is_not_false t f = cc
 
 -- more lines were read
-pub ReadsLines-append : {before mid after : Option (List ℕ)} {first old new : LinesState} {lines others : List (Line (List ℕ))} → ReadsLines before mid first old lines → ReadsLines mid after old new others → ReadsLines before after first new (lines ++ others)
+pub ReadsLines-append : {before mid after : Option (List ℕ)} {first old new : LinesState} {lines others : List (Line (List ℕ))} →
+    ReadsLines before mid first old lines → ReadsLines mid after old new others →
+    ReadsLines before after first new (lines ++ others)
 ReadsLines-append {before} {mid} {after} {first} {old} {new} {lines} {others} r s = record {
   bytes = r.bytes ++ s.bytes;
   moved = Consumes-trans before mid after r.bytes s.bytes r.moved s.moved;
@@ -317,15 +375,18 @@ ReadsLines-append {before} {mid} {after} {first} {old} {new} {lines} {others} r 
     by (inl t) (inl u) = inl (TakesLines-append t u)
     by (inl t) (inr u) = inl (same_taken t u)
     by (inr t) (inl u) = absurd (true_is_not_false (ended_still t.ended t.stays) u.live)
-    by (inr t) (inr u) = inr (record { ended = t.ended; unread = both_none t.unread u.unread; left = u.left ∙ t.left; stays = u.stays ∙ t.stays; none = both_none t.none u.none })
+    by (inr t) (inr u) =
+        inr (record { ended = t.ended; unread = both_none t.unread u.unread; left = u.left ∙ t.left; stays = u.stays ∙ t.stays; none = both_none t.none u.none })
 
 -- one more line was read
-pub reads_line : {before mid after : Option (List ℕ)} {first old new : LinesState} {lines : List (Line (List ℕ))} (line : Line (List ℕ)) → ReadsLines before mid first old lines → GivesNext mid after old new (Ok line) → line ≢ End → line ≢ Over → ReadsLines before after first new (lines ++ line ∷ [])
+pub reads_line : {before mid after : Option (List ℕ)} {first old new : LinesState} {lines : List (Line (List ℕ))} (line : Line (List ℕ)) →
+    ReadsLines before mid first old lines → GivesNext mid after old new (Ok line) → line ≢ End → line ≢ Over →
+    ReadsLines before after first new (lines ++ line ∷ [])
 reads_line {mid = mid} {after = after} {old = old} {new = new} line r g no_end no_over =
     let given = given_line mid after old g.bytes new line no_end no_over g.gives in
     ReadsLines-append r (record { bytes = g.bytes; moved = g.moved; taken = inl (takes_line given) })
 
--- the end is told again
+-- the end is reported again
 stays_left : {mid after : Option (List ℕ)} (old : LinesState) → old.ended ≡ true → HasEnded old mid after → after ≡ mid
 stays_left old is (inl h) = h.1
 stays_left old is (inr h) = absurd (true_is_not_false is h.0)
@@ -334,7 +395,9 @@ front_none : {A : Type 0} (xs ys : List A) → xs ++ ys ≡ [] → (xs ≡ []) �
 front_none [] ys e = (refl, e)
 front_none (x ∷ xs) ys e = absurd (let h = e in cc)
 
-ends_again : {before mid after : Option (List ℕ)} {first old new : LinesState} {bytes more : List ℕ} {lines : List (Line (List ℕ))} → StaysEnded before mid first bytes old lines → GivesEnd mid after old more new → StaysEnded before after first (bytes ++ more) new lines
+ends_again : {before mid after : Option (List ℕ)} {first old new : LinesState} {bytes more : List ℕ} {lines : List (Line (List ℕ))} →
+    StaysEnded before mid first bytes old lines → GivesEnd mid after old more new →
+    StaysEnded before after first (bytes ++ more) new lines
 ends_again {old = old} {more = more} t g =
     let none = front_none old.ahead more g.none in
     let ended = ended_still t.ended t.stays in
@@ -347,7 +410,9 @@ ends_again {old = old} {more = more} t g =
     }
 
 -- the end was read
-pub reads_end : {before mid after : Option (List ℕ)} {first old new : LinesState} {lines : List (Line (List ℕ))} → ReadsLines before mid first old lines → GivesNext mid after old new (Ok End) → ReadsLines before after first new lines × (new.ended ≡ true)
+pub reads_end : {before mid after : Option (List ℕ)} {first old new : LinesState} {lines : List (Line (List ℕ))} →
+    ReadsLines before mid first old lines → GivesNext mid after old new (Ok End) →
+    ReadsLines before after first new lines × (new.ended ≡ true)
 reads_end {before} {mid} {after} {first} {old} {new} {lines} r g = (
   record {
     bytes = r.bytes ++ g.bytes;
@@ -358,27 +423,36 @@ reads_end {before} {mid} {after} {first} {old} {new} {lines} r g = (
 )
 
 -- lines and a last answer
-pub reads_until : {before mid after : Option (List ℕ)} {first old new : LinesState} {lines : List (Line (List ℕ))} {result : Result (Line (List ℕ)) LineStop} → ReadsLines before mid first old lines → GivesNext mid after old new result → ReadsUntil before after first lines result
+pub reads_until : {before mid after : Option (List ℕ)} {first old new : LinesState} {lines : List (Line (List ℕ))} {result : Result (Line (List ℕ)) LineStop} →
+    ReadsLines before mid first old lines → GivesNext mid after old new result →
+    ReadsUntil before after first lines result
 reads_until {mid = mid} {old = old} {new = new} r g = record { mid = mid; old = old; new = new; reads = r; gives = g }
 
-pub ReadsUntil-append : {before mid after : Option (List ℕ)} {first old : LinesState} {lines others : List (Line (List ℕ))} {result : Result (Line (List ℕ)) LineStop} → ReadsLines before mid first old lines → ReadsUntil mid after old others result → ReadsUntil before after first (lines ++ others) result
-ReadsUntil-append r u = record { mid = u.mid; old = u.old; new = u.new; reads = ReadsLines-append r u.reads; gives = u.gives }
+pub ReadsUntil-append : {before mid after : Option (List ℕ)} {first old : LinesState} {lines others : List (Line (List ℕ))} {result : Result (Line (List ℕ)) LineStop} →
+    ReadsLines before mid first old lines → ReadsUntil mid after old others result →
+    ReadsUntil before after first (lines ++ others) result
+ReadsUntil-append r u =
+    record { mid = u.mid; old = u.old; new = u.new; reads = ReadsLines-append r u.reads; gives = u.gives }
 
 -- ---- where a reader stops that began at the start of its input
 -- a reader that began there had not ended
-from_start : {before after : Option (List ℕ)} {bytes : List ℕ} {new : LinesState} {lines : List (Line (List ℕ))} → TakesLines after at_start bytes new lines ⊎ StaysEnded before after at_start bytes new lines → TakesLines after at_start bytes new lines
+from_start : {before after : Option (List ℕ)} {bytes : List ℕ} {new : LinesState} {lines : List (Line (List ℕ))} →
+    TakesLines after at_start bytes new lines ⊎ StaysEnded before after at_start bytes new lines →
+    TakesLines after at_start bytes new lines
 from_start (inl t) = t
 from_start (inr s) = absurd (true_is_not_false s.ended refl)
 
 -- all lines were taken
-pub stops_at_end : {before after : Option (List ℕ)} {lines : List (Line (List ℕ))} → ReadsUntil before after at_start lines (Ok End) → ReadsAll before after lines
+pub stops_at_end : {before after : Option (List ℕ)} {lines : List (Line (List ℕ))} →
+    ReadsUntil before after at_start lines (Ok End) → ReadsAll before after lines
 stops_at_end u =
     let r = reads_end u.reads u.gives in
     let told = told_all (from_start r.0.taken) r.1 in
     record { read = r.0.bytes; moved = r.0.moved; all = told.0; bound = told.1; at_end = told.2 }
 
 -- the lines that end within the limit were taken, and there are more bytes
-pub stops_over : {before after : Option (List ℕ)} {lines : List (Line (List ℕ))} → ReadsUntil before after at_start lines (Ok Over) → ReadsPast before after lines
+pub stops_over : {before after : Option (List ℕ)} {lines : List (Line (List ℕ))} →
+    ReadsUntil before after at_start lines (Ok Over) → ReadsPast before after lines
 stops_over {before} {after} u =
     let told = told_over (from_start u.reads.taken) u.gives.gives in
     record {
@@ -392,7 +466,8 @@ stops_over {before} {after} u =
     }
 
 -- an error came
-pub stops_with : {before after : Option (List ℕ)} {lines : List (Line (List ℕ))} (stop : LineStop) → ReadsUntil before after at_start lines (Err stop) → StopsWith stop before after lines
+pub stops_with : {before after : Option (List ℕ)} {lines : List (Line (List ℕ))} (stop : LineStop) →
+    ReadsUntil before after at_start lines (Err stop) → StopsWith stop before after lines
 stops_with {before} {after} Read u = record {
   front = record {
     read = u.reads.bytes ++ u.gives.bytes;
@@ -414,7 +489,8 @@ stops_with {before} {after} NoMemory u =
     }
 
 -- a caller stops after a line
-pub stops_now : {before after : Option (List ℕ)} {new : LinesState} {lines : List (Line (List ℕ))} → ReadsLines before after at_start new lines → ReadsPart before after lines ⊎ ReadsAll before after lines
+pub stops_now : {before after : Option (List ℕ)} {new : LinesState} {lines : List (Line (List ℕ))} →
+    ReadsLines before after at_start new lines → ReadsPart before after lines ⊎ ReadsAll before after lines
 stops_now r = ⊎_elim
     (λ part. inl (record { more = part.0; front = record { read = r.bytes; moved = r.moved; ended = part.1 }; near = part.2 }))
     (λ all. inr (record { read = r.bytes; moved = r.moved; all = all.0; bound = all.1; at_end = all.2 }))

@@ -1,14 +1,14 @@
--- What is told of a source and of a sink.
+-- What is known of a source and of a sink.
 use Rattle.std.specs.Prelude.{ℕ, List, Option, None}
 use Rattle.std.specs.Io.KnownBytes.{Appends}
 use Rattle.spec_text.specs.Lines.{IsPrefixOf}
 
--- what a sink took, where it is told, and how often it failed
+-- what a sink took, where it is known, and how often it failed
 pub record SinkState : Type 0 where
   pub taken : Option (List ℕ)
   pub write_faults : ℕ
 
--- what is left of a source, where it is told, and how often it failed
+-- what is left of a source, where it is known, and how often it failed
 pub record SourceState : Type 0 where
   pub left : Option (List ℕ)
   pub read_faults : ℕ
@@ -20,7 +20,7 @@ no_sink = record { taken = None; write_faults = 0 }
 abbrev pub no_source : SourceState
 no_source = record { left = None; read_faults = 0 }
 
--- some bytes from the front of the piece were taken
+-- some bytes from the start of the piece were taken
 pub record Takes (before after : Option (List ℕ)) (piece : List ℕ) : Type 0 where
   pub bytes : List ℕ
   pub front : IsPrefixOf bytes piece

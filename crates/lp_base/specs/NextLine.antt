@@ -17,12 +17,12 @@ pub record IsKept (part : Part) (raw : List ℕ) : Type 0 where
   pub len : part.len ≡ length raw
   pub last : part.last ≡ slice_index raw (length raw - 1)
 
--- what stands behind a run of bytes: a line feed, where one was found
+-- what follows a run of bytes: a line feed, where one was found
 abbrev pub behind : Bool → List ℕ → List ℕ
 behind true after = 10 ∷ after
 behind false after = after
 
--- bytes with no line feed are moved from the front to the part, and the line feed behind them, where one was found, is taken
+-- bytes with no line feed are moved from the start to the part, and the line feed after them, where one was found, is taken
 pub record TakesRun (old new : LinesState) (before after : Part) (found : Bool) : Type 0 where
   pub run : List ℕ
   pub plain : All (λ b. b ≢ 10) run
@@ -44,10 +44,11 @@ HasMore false old new before after = (new.ahead ≡ []) × (new.ended ≡ true) 
 
 -- Bytes were read, unless some are ahead. Where none are now, the input has ended.
 abbrev pub ReadsOn : Option (List ℕ) → Option (List ℕ) → LinesState → LinesState → Result Bool Failed → Type 0
-ReadsOn before after old new (Ok more) = (bytes : List ℕ) × Consumes before after bytes × (new.ahead ≡ old.ahead ++ bytes) × (new.given ≡ old.given) × HasMore more old new before after
+ReadsOn before after old new (Ok more) =
+    (bytes : List ℕ) × Consumes before after bytes × (new.ahead ≡ old.ahead ++ bytes) × (new.given ≡ old.given) × HasMore more old new before after
 ReadsOn before after old new (Err e) = Keeps before after × (old.ahead ≡ []) × (old.ended ≡ false) × (new ≡ old)
 
--- the bytes up to a line feed are taken from the front, and it
+-- the bytes up to a line feed are taken from the start, and the line feed
 pub record TakesEnded (before after : List ℕ) (line : Line (List ℕ)) : Type 0 where
   pub raw : List ℕ
   pub plain : All (λ b. b ≢ 10) raw
@@ -104,7 +105,8 @@ pub record IsGivenUp (old : LinesState) (bytes : List ℕ) : Type 0 where
   pub near : length rest ≤ 4096
 
 -- the answer, with the bytes that were read in the call
-abbrev pub AnswersWith : Option (List ℕ) → Option (List ℕ) → LinesState → List ℕ → LinesState → Result (Line (List ℕ)) LineStop → Type 0
+abbrev pub AnswersWith : Option (List ℕ) → Option (List ℕ) → LinesState → List ℕ → LinesState →
+    Result (Line (List ℕ)) LineStop → Type 0
 AnswersWith before after old bytes new (Ok (Text text)) = GivesLine after old bytes new (Text text)
 AnswersWith before after old bytes new (Ok (Long len)) = GivesLine after old bytes new (Long len)
 AnswersWith before after old bytes new (Ok End) = GivesEnd before after old bytes new
@@ -112,7 +114,7 @@ AnswersWith before after old bytes new (Ok Over) = IsOver old bytes
 AnswersWith before after old bytes new (Err Read) = IsBrokenOff old bytes new
 AnswersWith before after old bytes new (Err NoMemory) = IsGivenUp old bytes
 
--- some bytes were read, and the answer is told of them
+-- some bytes were read, and the answer is about them
 pub record GivesNext (before after : Option (List ℕ)) (old new : LinesState) (result : Result (Line (List ℕ)) LineStop) : Type 0 where
   pub bytes : List ℕ
   pub moved : Consumes before after bytes

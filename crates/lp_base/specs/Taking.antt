@@ -70,7 +70,7 @@ pub record ReadsFront (before after : Option (List ℕ)) (lines : List (Line (Li
   pub moved : Consumes before after read
   pub ended : ended_lines_of (take input_limit read) ≡ lines
 
--- beyond the bytes of these lines, a part of the next one was read, and no more than a buffer behind it
+-- beyond the bytes of these lines, a part of the next one was read, and no more than a buffer after it
 pub record ReadsLittleMore (read : List ℕ) (lines : List (Line (List ℕ))) : Type 0 where
   pub raw : List ℕ
   pub part : List ℕ
@@ -97,7 +97,7 @@ pub record ReadsPast (before after : Option (List ℕ)) (lines : List (Line (Lis
   pub past : 2 ^ 26 < length front.read
   pub near : ReadsLittleMore front.read lines
 
--- where a source fails, all lines that end were taken; where memory is wanting, there may be more
+-- where a source fails, all lines that end were taken; where memory runs out, there may be more
 abbrev pub StopsWith : LineStop → Option (List ℕ) → Option (List ℕ) → List (Line (List ℕ)) → Type 0
 StopsWith Read before after lines = ReadsToFault before after lines
 StopsWith NoMemory before after lines = ReadsPart before after lines

@@ -152,7 +152,7 @@ impl Lines {
         &self.buffer[self.from..to]
     }
 
-    // Passes over so many of the bytes ahead.
+    // Skips this many of the bytes ahead.
     fn pass(&mut self, count: usize)
         requires some { count ≤ length self.old.ahead }
         requires room { self.old.given + count ≤ 2 ^ 26 }

@@ -109,7 +109,7 @@ impl MemSource {
     }
 }
 
-// Copies from the front of the bytes as far as there is room, and says how many.
+// Copies from the start of the bytes as far as there is room, and says how many.
 fn copy_front(bytes: &[u8], buf: &mut [u8]) -> usize
     ensures count { result ≡ min (length bytes.now) (length buf.old) }
     ensures len { length buf.new ≡ length buf.old }
@@ -143,7 +143,7 @@ impl Source for MemSource {
     }
 }
 
-/// Keeps what is written to it. The writes whose number is listed fail; another one may fail for want of memory.
+/// Keeps what is written to it. The writes whose number is listed fail; another one may fail because memory runs out.
 #[derive(Drop)]
 pub struct MemSink {
     bytes: Vec<u8>,

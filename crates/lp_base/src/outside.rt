@@ -14,7 +14,7 @@ pub struct Failed;
 
 /// Where bytes come from.
 pub trait Source {
-    /// The bytes still to come, where they are told.
+    /// The bytes still to come, where they are known.
     ghost left: { Self → Option (List ℕ) };
 
     /// How often it has failed. It never falls.
@@ -23,7 +23,7 @@ pub trait Source {
     /// What stands beside it on the same object, which a read leaves.
     ghost beside_reads: { Self → SinkState };
 
-    /// Moves bytes from the front of what is left. None, with room for some, is the end.
+    /// Moves bytes from the start of what is left. None, with room for some, is the end.
     fn read(&mut self, buf: &mut [u8]) -> Result<usize, Failed>
         ensures bound { ReadsAtMost result buf.new }
         ensures bytes { ReadConsumes (left self.old) (left self.new) result buf.new }
@@ -33,7 +33,7 @@ pub trait Source {
 
 /// Where bytes go.
 pub trait Sink {
-    /// The bytes that it took, where they are told.
+    /// The bytes that it took, where they are known.
     ghost taken: { Self → Option (List ℕ) };
 
     /// How often it has failed. It never falls.
@@ -42,7 +42,7 @@ pub trait Sink {
     /// What stands beside it on the same object, which a write leaves.
     ghost beside_writes: { Self → SourceState };
 
-    /// Takes some bytes from the front of the piece.
+    /// Takes some bytes from the start of the piece.
     fn write(&mut self, piece: &[u8]) -> Result<usize, Failed>
         ensures bound { WritesAtMost result piece.now }
         ensures some { IfOk result (λ n. 0 < length piece.now → 0 < n) }

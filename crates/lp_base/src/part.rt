@@ -46,7 +46,7 @@ impl Part {
         Ok(())
     }
 
-    /// The line, which has no line feed behind it.
+    /// The line, which has no line feed after it.
     pub fn last_line(self) -> Line
         ensures some { (raw : List ℕ) → IsKept self raw → 0 < length raw → result ≡ line_of raw }
         ensures none { IsKept self [] → result ≡ End }
@@ -58,7 +58,7 @@ impl Part {
         self.cut(len)
     }
 
-    /// The line, which has a line feed behind it.
+    /// The line, which has a line feed after it.
     pub fn ended_line(self) -> Line
         ensures { (raw : List ℕ) → IsKept self raw → result ≡ line_of (strip_carriage_return raw) }
     {

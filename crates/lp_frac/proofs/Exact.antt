@@ -22,14 +22,16 @@ test n k h g = le-leb n largest (le_trans h g)
 two_pass : (s t : Bool) (x : ℚ) → s ≡ true → t ≡ true → (if s && t then Some x else None) ≡ Some x
 two_pass s t x e f = rw (e, f) refl
 
-four_pass : (s t u w : Bool) (x : ℚ) → s ≡ true → t ≡ true → u ≡ true → w ≡ true → (if s && t && u && w then Some x else None) ≡ Some x
+four_pass : (s t u w : Bool) (x : ℚ) → s ≡ true → t ≡ true → u ≡ true → w ≡ true →
+    (if s && t && u && w then Some x else None) ≡ Some x
 four_pass s t u w x e f g h = rw (e, f, g, h) refl
 
 -- ---- a product
 part_le : (a : ℤ) (g : ℕ) → unsigned_abs (int_div a (pos g)) ≤ unsigned_abs a
 part_le a g = subst (λ k. k ≤ unsigned_abs a) (sym (abs-int_div a g)) (div-le_self (unsigned_abs a) g)
 
-pub mul_fits : (v w : ℚ) → unsigned_abs v.num * unsigned_abs w.num ≤ largest → v.den * w.den ≤ largest → mul (Some largest) v w ≡ Some (v *ℚ w)
+pub mul_fits : (v w : ℚ) → unsigned_abs v.num * unsigned_abs w.num ≤ largest → v.den * w.den ≤ largest →
+    mul (Some largest) v w ≡ Some (v *ℚ w)
 unfolding mul
 mul_fits v w h k =
     let a = int_div v.num (pos (gcd (unsigned_abs v.num) w.den)) in
@@ -44,9 +46,11 @@ abs-sum : (x y : ℤ) → unsigned_abs (x +ℤ y) ≤ unsigned_abs x + unsigned_
 abs-sum x y = omega (arith, ints)
 
 times_le : (a : ℤ) (d g : ℕ) → unsigned_abs (a *ℤ pos (d / g)) ≤ unsigned_abs a * d
-times_le a d g = subst (λ n. n ≤ unsigned_abs a * d) (sym (unsigned_abs-mul a (pos (d / g)))) (mul-le-mul (omega arith) (div-le_self d g))
+times_le a d g =
+    subst (λ n. n ≤ unsigned_abs a * d) (sym (unsigned_abs-mul a (pos (d / g)))) (mul-le-mul (omega arith) (div-le_self d g))
 
-pub add_fits : (v w : ℚ) → unsigned_abs v.num * w.den + unsigned_abs w.num * v.den ≤ largest → v.den * w.den ≤ largest → add (Some largest) v w ≡ Some (v +ℚ w)
+pub add_fits : (v w : ℚ) → unsigned_abs v.num * w.den + unsigned_abs w.num * v.den ≤ largest → v.den * w.den ≤ largest →
+    add (Some largest) v w ≡ Some (v +ℚ w)
 unfolding add
 add_fits v w h k =
     let l = times_le v.num w.den (gcd v.den w.den) in
@@ -59,9 +63,11 @@ add_fits v w h k =
     (test _ _ (mul-le-mul (div-le_self v.den _) (div-le_self w.den _)) k)
     ∙ ap (λ (x : ℚ). Some x) (sum_exact v w)
 
-pub sub_fits : (v w : ℚ) → unsigned_abs v.num * w.den + unsigned_abs w.num * v.den ≤ largest → v.den * w.den ≤ largest → sub (Some largest) v w ≡ Some (v -ℚ w)
+pub sub_fits : (v w : ℚ) → unsigned_abs v.num * w.den + unsigned_abs w.num * v.den ≤ largest → v.den * w.den ≤ largest →
+    sub (Some largest) v w ≡ Some (v -ℚ w)
 unfolding sub neg_ℚ
-sub_fits v w h k = add_fits v (neg_ℚ w) (subst (λ n. unsigned_abs v.num * w.den + n * v.den ≤ largest) (sym (abs-neg_ℤ w.num)) h) k
+sub_fits v w h k =
+    add_fits v (neg_ℚ w) (subst (λ n. unsigned_abs v.num * w.den + n * v.den ≤ largest) (sym (abs-neg_ℤ w.num)) h) k
 
 -- ---- the parts of a product
 record IsBelow (q : ℚ) (n d : ℕ) : Type 0 where
@@ -71,18 +77,21 @@ record IsBelow (q : ℚ) (n d : ℕ) : Type 0 where
 over_below : (n : ℤ) (d : ℕ) → 0 < d → IsBelow (over n d) (unsigned_abs n) d
 unfolding over
 over_below n zero p = absurd (omega arith)
-over_below n (suc d) p = record { num = part_le n (gcd (unsigned_abs n) (suc d)); den = div-le_self (suc d) (gcd (unsigned_abs n) (suc d)) }
+over_below n (suc d) p =
+    record { num = part_le n (gcd (unsigned_abs n) (suc d)); den = div-le_self (suc d) (gcd (unsigned_abs n) (suc d)) }
 
 product_below : (v w : ℚ) → IsBelow (v *ℚ w) (unsigned_abs v.num * unsigned_abs w.num) (v.den * w.den)
 unfolding ◌*ℚ◌
-product_below v w = subst (λ n. IsBelow (over (v.num *ℤ w.num) (v.den * w.den)) n (v.den * w.den)) (unsigned_abs-mul v.num w.num) (over_below (v.num *ℤ w.num) (v.den * w.den) (mul-pos v.positive w.positive))
+product_below v w =
+    subst (λ n. IsBelow (over (v.num *ℤ w.num) (v.den * w.den)) n (v.den * w.den)) (unsigned_abs-mul v.num w.num) (over_below (v.num *ℤ w.num) (v.den * w.den) (mul-pos v.positive w.positive))
 
 product_cross : (v w : ℚ) → (v.num *ℤ w.num) *ℤ pos (v *ℚ w).den ≡ (v *ℚ w).num *ℤ pos (v.den * w.den)
 unfolding ◌*ℚ◌
 product_cross v w = over_cross (v.num *ℤ w.num) (v.den * w.den) (mul-pos v.positive w.positive)
 
 -- ---- both
-less_exact : (v w s : ℚ) → s -ℚ v *ℚ w ≡ over (less_num v.num v.den w.num w.den s.num s.den) (less_den v.den w.den s.den)
+less_exact : (v w s : ℚ) →
+    s -ℚ v *ℚ w ≡ over (less_num v.num v.den w.num w.den s.num s.den) (less_den v.den w.den s.den)
 unfolding ◌+ℚ◌ neg_ℚ
 less_exact v w s =
     over-same _ _ (s.den * (v *ℚ w).den) (less_den v.den w.den s.den) (mul-pos s.positive (v *ℚ w).positive) (mul-pos (mul-pos v.positive w.positive) s.positive)
@@ -115,7 +124,8 @@ pub record IsLowest (num : ℤ) (den : ℕ) (p : ℤ) (q : ℕ) : Type 0 where
   pub den_fits : q ≤ den
   pub same : over p q ≡ over num den
 
-pub in_lowest : (num : ℤ) (den g : ℕ) (p : ℤ) (q : ℕ) → 0 < den → g ≡ gcd (unsigned_abs num) den → p ≡ int_div num (pos g) → q ≡ den / g → IsLowest num den p q
+pub in_lowest : (num : ℤ) (den g : ℕ) (p : ℤ) (q : ℕ) → 0 < den → g ≡ gcd (unsigned_abs num) den →
+    p ≡ int_div num (pos g) → q ≡ den / g → IsLowest num den p q
 in_lowest num den g p q h eg ep eq =
     let k : ℕ = gcd (unsigned_abs num) den in
     let ep' : p ≡ int_div num (pos k) = ep ∙ ap (λ n. int_div num (pos n)) eg in
@@ -124,10 +134,12 @@ in_lowest num den g p q h eg ep eq =
     let pq : 0 < den / k = positive_part k den h d in
     record {
       positive = subst (λ n. 0 < n) (sym eq') pq;
-      lowest = ap₂ (λ (x : ℤ) (n : ℕ). gcd (unsigned_abs x) n) ep' eq' ∙ ap (λ n. gcd n (den / k)) (abs-int_div num k) ∙ coprime_parts (unsigned_abs num) den h;
+      lowest =
+          ap₂ (λ (x : ℤ) (n : ℕ). gcd (unsigned_abs x) n) ep' eq' ∙ ap (λ n. gcd n (den / k)) (abs-int_div num k) ∙ coprime_parts (unsigned_abs num) den h;
       num_fits = subst (λ (x : ℤ). unsigned_abs x ≤ unsigned_abs num) (sym ep') (part_le num k);
       den_fits = subst (λ n. n ≤ den) (sym eq') (div-le_self den k);
-      same = ap₂ over ep' eq' ∙ over-same (int_div num (pos k)) num (den / k) den pq h (by (int_div num (pos k)) (den / k) k num den (exact_quotient num k (gcd_is (unsigned_abs num) den).0) (div-mul_cancel k d));
+      same =
+          ap₂ over ep' eq' ∙ over-same (int_div num (pos k)) num (den / k) den pq h (by (int_div num (pos k)) (den / k) k num den (exact_quotient num k (gcd_is (unsigned_abs num) den).0) (div-mul_cancel k d));
     }
   where
     by : (x : ℤ) (y k : ℕ) (n : ℤ) (m : ℕ) → x *ℤ pos k ≡ n → y * k ≡ m → x *ℤ pos m ≡ n *ℤ pos y

@@ -183,7 +183,7 @@ impl Entries {
         self.items[place] = (row, value);
     }
 
-    /// Takes the entry at `place` out and moves those behind it down by one.
+    /// Takes the entry at `place` out and moves those after it down by one.
     pub fn remove(&mut self, place: usize)
         requires { place < length self.old }
         ensures { self.new ≡ remove self.old place }

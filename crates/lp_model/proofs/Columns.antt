@@ -10,7 +10,8 @@ use Rattle.spec_edit.specs.Changes.{without_entry}
 use Rattle.spec_edit.proofs.Keeping.{lowered}
 
 -- what a map in place has not come to is as it was
-passed : {X : Type 0} (f : X → X) (xs ys : List X) (k : ℕ) (d : X) → k < length xs → ys ≡ map f (take k xs) ++ drop k xs → get_or ys k d ≡ get_or xs k d
+passed : {X : Type 0} (f : X → X) (xs ys : List X) (k : ℕ) (d : X) → k < length xs →
+    ys ≡ map f (take k xs) ++ drop k xs → get_or ys k d ≡ get_or xs k d
 passed f xs ys k d l e =
     let long : length (map f (take k xs)) ≡ k = length-map (take k xs) f ∙ length-take-le k xs (omega arith) in
     let rest : drop k ys ≡ drop k xs = ap (drop k) e ∙ ap (λ n. drop n (map f (take k xs) ++ drop k xs)) (sym long) ∙ drop-append_seam (map f (take k xs)) (drop k xs) in
@@ -29,7 +30,8 @@ lowered-more i xs ys k d es l long e f =
     ∙ map_over_more (lowered i) xs ys k (get_or ys k d) l e (get_or_default ys k d (get_or ys k d) (omega arith))
 
 -- a map in place of the slice that a vector is seen as, written back to it
-pub mapped_back : {X : Type 0} (f : X → X) (n : ℕ) (xs seen new : List X) → seen ≡ xs → length seen ≡ n → new ≡ map f seen → take n (new ++ drop (length new) xs) ≡ map f xs
+pub mapped_back : {X : Type 0} (f : X → X) (n : ℕ) (xs seen new : List X) → seen ≡ xs → length seen ≡ n →
+    new ≡ map f seen → take n (new ++ drop (length new) xs) ≡ map f xs
 mapped_back f n xs seen new e l g =
     let long : length new ≡ length xs = ap length g ∙ length-map seen f ∙ ap length e in
     let same : length seen ≡ length xs = ap length e in

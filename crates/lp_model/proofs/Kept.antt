@@ -16,11 +16,13 @@ module _ (m : Model) (i : ℕ) (r : ExactRow) (here : r ≡ get_or m.rows i r) (
   row_here : r ≡ get_or m.rows i no_row
   row_here = here ∙ get_or_default m.rows i r no_row l
 
-  pub rhs_here : (v w : ℚ) → w ≡ v → IsModel m → IsNarrow v → IsModel (record m { rows = set m.rows i (record r { rhs = w }) })
+  pub rhs_here : (v w : ℚ) → w ≡ v → IsModel m → IsNarrow v →
+      IsModel (record m { rows = set m.rows i (record r { rhs = w }) })
   rhs_here v w e k narrow =
       subst IsModel (ap₂ (λ r v. record m { rows = set m.rows i (record r { rhs = v }) }) (sym row_here) (sym e)) (with_rhs-kept m i v k l narrow)
 
-  pub range_here : (range given : Option ℚ) → given ≡ range → IsModel m → IfSome range IsNarrow → IsModel (record m { rows = set m.rows i (record r { range = given }) })
+  pub range_here : (range given : Option ℚ) → given ≡ range → IsModel m → IfSome range IsNarrow →
+      IsModel (record m { rows = set m.rows i (record r { range = given }) })
   range_here range given e k narrow =
       subst IsModel (ap₂ (λ r v. record m { rows = set m.rows i (record r { range = v }) }) (sym row_here) (sym e)) (with_range-kept m i range k l narrow)
 
@@ -34,11 +36,13 @@ module _ (m : Model) (j : ℕ) (x : ExactColumn) (here : x ≡ get_or m.columns 
   stays : set m.columns j x ≡ m.columns
   stays = ap (set m.columns j) here ∙ set-get_or m.columns j x
 
-  pub cost_here : (v w : ℚ) → w ≡ v → IsModel m → IsNarrow v → IsModel (record m { columns = set m.columns j (record x { cost = w }) })
+  pub cost_here : (v w : ℚ) → w ≡ v → IsModel m → IsNarrow v →
+      IsModel (record m { columns = set m.columns j (record x { cost = w }) })
   cost_here v w e k narrow =
       subst IsModel (ap₂ (λ x v. record m { columns = set m.columns j (record x { cost = v }) }) (sym column_here) (sym e)) (with_cost-kept m j v k l narrow)
 
-  pub bounds_here : (lower upper a b : Option ℚ) → a ≡ lower → b ≡ upper → IsModel m → IsKeptBound lower → IsKeptBound upper → IsModel (record m { columns = set m.columns j (record x { lower = a; upper = b }) })
+  pub bounds_here : (lower upper a b : Option ℚ) → a ≡ lower → b ≡ upper → IsModel m → IsKeptBound lower →
+      IsKeptBound upper → IsModel (record m { columns = set m.columns j (record x { lower = a; upper = b }) })
   bounds_here lower upper a b e f k p q =
       let given : Limits = record { lower = a; upper = b } in
       let same : (let l : Limits = record { lower = lower; upper = upper } in l) ≡ given = ap₂ (λ a b. record { lower = a; upper = b }) (sym e) (sym f) in

@@ -56,12 +56,14 @@ drop-remove es k l =
     ap (λ n. drop n (remove es k)) (sym e) ∙ drop-append_seam (take k es) (drop (suc k) es) ∙ sym (rw add-one refl)
 
 -- its entry was removed, and the rows from there on were lowered
-pub lowered-own : (i k : ℕ) (es less new : Entries) → StandsAt i k es → less ≡ remove es k → new ≡ take k less ++ map lower (drop k less) → new ≡ without_entry i es
+pub lowered-own : (i k : ℕ) (es less new : Entries) → StandsAt i k es → less ≡ remove es k →
+    new ≡ take k less ++ map lower (drop k less) → new ≡ without_entry i es
 lowered-own i k es less new h e f =
     f ∙ ap (λ xs. take k xs ++ map lower (drop k xs)) e
     ∙ ap₂ (λ xs ys. xs ++ map lower ys) (take-remove es k h.inside) (drop-remove es k h.inside)
     ∙ sym (without-own i k es h)
 
 -- it had no entry, and the rows from there on were lowered
-pub lowered-none : (i k : ℕ) (es new : Entries) → BelongsAt i k es → new ≡ take k es ++ map lower (drop k es) → new ≡ without_entry i es
+pub lowered-none : (i k : ℕ) (es new : Entries) → BelongsAt i k es → new ≡ take k es ++ map lower (drop k es) →
+    new ≡ without_entry i es
 lowered-none i k es new h f = f ∙ sym (without-none i k es h)

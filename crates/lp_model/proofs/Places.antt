@@ -19,24 +19,28 @@ abbrev AreAscending : Entries → Type 0
 AreAscending = AllPairs (λ d e. d.0 < e.0)
 
 -- the comparisons with a row rise along the entries
-comparisons_rise : (es : Entries) (row : ℕ) → AreAscending es → IsNonDecreasingBy (λ e. ordering_index (nat_cmp e.0 row)) es
+comparisons_rise : (es : Entries) (row : ℕ) → AreAscending es →
+    IsNonDecreasingBy (λ e. ordering_index (nat_cmp e.0 row)) es
 comparisons_rise es row h =
     IsNonDecreasingBy-from_default (λ e. ordering_index (nat_cmp e.0 row)) es (0, 0ℚ) (λ i j le l.
     let rises : (get_or es i (0, 0ℚ)).0 ≤ (get_or es j (0, 0ℚ)).0 = grind (arith, h i j (0, 0ℚ), λ (same : i ≡ j). ap (λ k. (get_or es k (0, 0ℚ)).0) same) in
     grind (arith, nat_tests))
 
-all_before : (es : Entries) (k row : ℕ) → ((i : ℕ) (d : ℕ × ℚ) → i < k → i < length es → (get_or es i d).0 < row) → All (λ e. e.0 < row) (take k es)
+all_before : (es : Entries) (k row : ℕ) → ((i : ℕ) (d : ℕ × ℚ) → i < k → i < length es → (get_or es i d).0 < row) →
+    All (λ e. e.0 < row) (take k es)
 all_before es k row h = λ i d l.
     let inside : (i < k) × (i < length es) = (omega (arith, length-take k es), omega (arith, length-take k es)) in
     let e : get_or (take k es) i d ≡ get_or es i d = get_or-take k es i d inside.0 in
     rw e (h i d inside.0 inside.1)
 
-all_behind : (es : Entries) (k row : ℕ) → ((i : ℕ) (d : ℕ × ℚ) → k ≤ i → i < length es → row < (get_or es i d).0) → All (λ e. row < e.0) (drop k es)
+all_behind : (es : Entries) (k row : ℕ) → ((i : ℕ) (d : ℕ × ℚ) → k ≤ i → i < length es → row < (get_or es i d).0) →
+    All (λ e. row < e.0) (drop k es)
 all_behind es k row h = λ i d l.
     let e : get_or (drop k es) i d ≡ get_or es (k + i) d = get_or-drop k es i d in
     rw e (h (k + i) d (omega arith) (omega (arith, length-drop k es)))
 
-pub searched : (es : Entries) (row : ℕ) → AreAscending es → (r : Result ℕ ℕ) → IsSearchInRange r (length es) → IsBinarySearchResult (λ e. nat_cmp e.0 row) es r → IsPlace row es r
+pub searched : (es : Entries) (row : ℕ) → AreAscending es → (r : Result ℕ ℕ) → IsSearchInRange r (length es) →
+    IsBinarySearchResult (λ e. nat_cmp e.0 row) es r → IsPlace row es r
 searched es row h (Ok k) inside equal =
     let here : HoldsAt (λ e. e.0 ≡ row) es k = λ d. ranked _ row _ (sym (equal d)) in
     record {
@@ -45,7 +49,8 @@ searched es row h (Ok k) inside equal =
       split =
           record {
             before = all_before es k row (λ i d l m. subst (λ r. (get_or es i d).0 < r) (here d) (h i k d l inside));
-            behind = all_behind es (k + 1) row (λ i d l m. subst (λ r. r < (get_or es i d).0) (here d) (h k i d (omega arith) m));
+            behind =
+                all_behind es (k + 1) row (λ i d l m. subst (λ r. r < (get_or es i d).0) (here d) (h k i d (omega arith) m));
           };
     }
 searched es row h (Err k) inside parted =

@@ -20,22 +20,26 @@ lower e = (e.0 - 1, e.1)
 
 filter-all : {X : Type 0} (p : X → Bool) (xs : List X) → All (λ x. p x ≡ true) xs → filter p xs ≡ xs
 filter-all p [] h = refl
-filter-all p (x ∷ xs) h = rw (All-head (λ x. p x ≡ true) x xs h) (ap (λ ys. x ∷ ys) (filter-all p xs (All-tail (λ x. p x ≡ true) x xs h)))
+filter-all p (x ∷ xs) h =
+    rw (All-head (λ x. p x ≡ true) x xs h) (ap (λ ys. x ∷ ys) (filter-all p xs (All-tail (λ x. p x ≡ true) x xs h)))
 
 filter-none : {X : Type 0} (p : X → Bool) (xs : List X) → All (λ x. p x ≡ false) xs → filter p xs ≡ []
 filter-none p [] h = refl
-filter-none p (x ∷ xs) h = rw (All-head (λ x. p x ≡ false) x xs h) (filter-none p xs (All-tail (λ x. p x ≡ false) x xs h))
+filter-none p (x ∷ xs) h =
+    rw (All-head (λ x. p x ≡ false) x xs h) (filter-none p xs (All-tail (λ x. p x ≡ false) x xs h))
 
 map-same : {X Y : Type 0} (f g : X → Y) (xs : List X) → All (λ x. f x ≡ g x) xs → map f xs ≡ map g xs
 map-same f g [] h = refl
-map-same f g (x ∷ xs) h = ap₂ ◌∷◌ (All-head (λ x. f x ≡ g x) x xs h) (map-same f g xs (All-tail (λ x. f x ≡ g x) x xs h))
+map-same f g (x ∷ xs) h =
+    ap₂ ◌∷◌ (All-head (λ x. f x ≡ g x) x xs h) (map-same f g xs (All-tail (λ x. f x ≡ g x) x xs h))
 
 map-id : {X : Type 0} (f : X → X) (xs : List X) → All (λ x. f x ≡ x) xs → map f xs ≡ xs
 map-id f [] h = refl
 map-id f (x ∷ xs) h = ap₂ ◌∷◌ (All-head (λ x. f x ≡ x) x xs h) (map-id f xs (All-tail (λ x. f x ≡ x) x xs h))
 
 -- what a filter leaves of three parts
-three : {X : Type 0} (p : X → Bool) (xs ys zs us vs ws : List X) → filter p xs ≡ us → filter p ys ≡ vs → filter p zs ≡ ws → filter p (xs ++ (ys ++ zs)) ≡ us ++ (vs ++ ws)
+three : {X : Type 0} (p : X → Bool) (xs ys zs us vs ws : List X) → filter p xs ≡ us → filter p ys ≡ vs →
+    filter p zs ≡ ws → filter p (xs ++ (ys ++ zs)) ≡ us ++ (vs ++ ws)
 three p xs ys zs us vs ws e f g = filter-append p xs (ys ++ zs) ∙ ap₂ ◌++◌ e (filter-append p ys zs ∙ ap₂ ◌++◌ f g)
 
 module _ (i : ℕ) (front own back : Entries) (own_row : All (λ e. e.0 ≡ i) own) (split : IsSplit i front back) where
@@ -87,7 +91,8 @@ put-other i v n = by (eq_ℚ v 0ℚ) refl
 
 -- ---- at a place
 
-parts_around : (es : Entries) (k : ℕ) (d : ℕ × ℚ) → k < length es → take k es ++ ((get_or es k d ∷ []) ++ drop (k + 1) es) ≡ es
+parts_around : (es : Entries) (k : ℕ) (d : ℕ × ℚ) → k < length es →
+    take k es ++ ((get_or es k d ∷ []) ++ drop (k + 1) es) ≡ es
 parts_around es k d l = rw (add-one, ← drop-cons es k d) (take-append-drop k es)
 
 set-parts : {X : Type 0} (xs : List X) (k : ℕ) (x : X) → k < length xs → set xs k x ≡ take k xs ++ (x ∷ drop (k + 1) xs)
@@ -101,26 +106,32 @@ module _ (i k : ℕ) (es : Entries) (stands : StandsAt i k es) where
   own = All-cons (λ e. e.0 ≡ i) (get_or es k (i, 0ℚ)) [] (stands.here (i, 0ℚ)) (All-nil (λ e. e.0 ≡ i))
 
   put : (v : ℚ) → with_entry i v es ≡ take k es ++ (entry_if i v ++ drop (k + 1) es)
-  put v = ap (with_entry i v) (sym around) ∙ with_entry-parts i (take k es) (get_or es k (i, 0ℚ) ∷ []) (drop (k + 1) es) own stands.split v
+  put v =
+      ap (with_entry i v) (sym around) ∙ with_entry-parts i (take k es) (get_or es k (i, 0ℚ) ∷ []) (drop (k + 1) es) own stands.split v
 
   pub remove-put : (v : ℚ) → v ≡ 0ℚ → remove es k ≡ with_entry i v es
   remove-put v e = sym (put v ∙ ap (λ xs. take k es ++ (xs ++ drop (k + 1) es)) (put-zero i v e) ∙ rw add-one refl)
 
   pub set-put : (v : ℚ) → v ≢ 0ℚ → set es k (i, v) ≡ with_entry i v es
-  set-put v n = set-parts es k (i, v) stands.inside ∙ sym (put v ∙ ap (λ xs. take k es ++ (xs ++ drop (k + 1) es)) (put-other i v n))
+  set-put v n =
+      set-parts es k (i, v) stands.inside ∙ sym (put v ∙ ap (λ xs. take k es ++ (xs ++ drop (k + 1) es)) (put-other i v n))
 
   pub without-own : without_entry i es ≡ take k es ++ map lower (drop (k + 1) es)
-  without-own = ap (without_entry i) (sym around) ∙ without_entry-parts i (take k es) (get_or es k (i, 0ℚ) ∷ []) (drop (k + 1) es) own stands.split
+  without-own =
+      ap (without_entry i) (sym around) ∙ without_entry-parts i (take k es) (get_or es k (i, 0ℚ) ∷ []) (drop (k + 1) es) own stands.split
 
 module _ (i k : ℕ) (es : Entries) (belongs : BelongsAt i k es) where
   put_between : (v : ℚ) → with_entry i v es ≡ take k es ++ (entry_if i v ++ drop k es)
-  put_between v = ap (with_entry i v) (sym (take-append-drop k es)) ∙ with_entry-parts i (take k es) [] (drop k es) (All-nil (λ e. e.0 ≡ i)) belongs.split v
+  put_between v =
+      ap (with_entry i v) (sym (take-append-drop k es)) ∙ with_entry-parts i (take k es) [] (drop k es) (All-nil (λ e. e.0 ≡ i)) belongs.split v
 
   pub same-put : (v : ℚ) → v ≡ 0ℚ → es ≡ with_entry i v es
-  same-put v e = sym (put_between v ∙ ap (λ xs. take k es ++ (xs ++ drop k es)) (put-zero i v e) ∙ take-append-drop k es)
+  same-put v e =
+      sym (put_between v ∙ ap (λ xs. take k es ++ (xs ++ drop k es)) (put-zero i v e) ∙ take-append-drop k es)
 
   pub insert-put : (v : ℚ) → v ≢ 0ℚ → insert es k (i, v) ≡ with_entry i v es
   insert-put v n = sym (put_between v ∙ ap (λ xs. take k es ++ (xs ++ drop k es)) (put-other i v n))
 
   pub without-none : without_entry i es ≡ take k es ++ map lower (drop k es)
-  without-none = ap (without_entry i) (sym (take-append-drop k es)) ∙ without_entry-parts i (take k es) [] (drop k es) (All-nil (λ e. e.0 ≡ i)) belongs.split
+  without-none =
+      ap (without_entry i) (sym (take-append-drop k es)) ∙ without_entry-parts i (take k es) [] (drop k es) (All-nil (λ e. e.0 ≡ i)) belongs.split

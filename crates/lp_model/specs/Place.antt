@@ -3,7 +3,7 @@ use Rattle.std.specs.Prelude.{ℕ, ◌≡◌, ◌<◌, ◌≤◌, ◌+◌, List,
 use Rattle.std.specs.List.{HoldsAt}
 use Rattle.spec_exact.specs.Fraction.{ℚ}
 
--- the entries before a row, and those behind it
+-- the entries before a row, and those after it
 pub record IsSplit (row : ℕ) (front back : List (ℕ × ℚ)) : Type 0 where
   pub before : All (λ e. e.0 < row) front
   pub behind : All (λ e. row < e.0) back

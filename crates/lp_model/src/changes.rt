@@ -51,7 +51,7 @@ impl Model {
         put_entry(&mut column.entries, i, v)
     }
 
-    /// Takes row `i` out. The rows behind it move down by one.
+    /// Takes row `i` out. The rows after it move down by one.
     pub fn remove_row(&mut self, i: u32)
         requires { i < height self.old }
         ensures { self.new ≡ changes.without_row self.old i }
@@ -60,7 +60,7 @@ impl Model {
         take_row_out_of(&mut self.columns, i);
     }
 
-    /// Takes column `j` out. The columns behind it move down by one.
+    /// Takes column `j` out. The columns after it move down by one.
     pub fn remove_col(&mut self, j: u32)
         requires { j < width self.old }
         ensures { self.new ≡ changes.without_column self.old j }

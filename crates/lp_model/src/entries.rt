@@ -37,7 +37,7 @@ pub fn put_entry(entries: &mut Entries, row: u32, value: Frac) -> Result<(), All
     }
 }
 
-/// Takes the entry of row `row` out. The rows behind it move down by one.
+/// Takes the entry of row `row` out. The rows after it move down by one.
 pub(crate) fn take_row_out(entries: &mut Entries, row: u32)
     requires { AllPairs (λ d e. d.0 < e.0) entries.old }
     ensures { entries.new ≡ without_entry row entries.old }

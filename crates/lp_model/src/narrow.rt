@@ -39,7 +39,7 @@ pub(crate) fn narrow_row(row: Row) -> Row
     }
 }
 
-/// The same column, whose coefficients are told to be narrow.
+/// The same column, whose coefficients are known to be narrow.
 pub(crate) fn narrow_column(column: Column) -> Column
     requires { All (λ e. IsNarrow e.1) column.entries }
     ensures value { result ≡ column }

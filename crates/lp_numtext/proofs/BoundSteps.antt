@@ -17,21 +17,27 @@ use Rattle.lp_numtext.proofs.DigitSteps.{digits_kept, zero_spelled}
 use Rattle.lp_numtext.proofs.ReadSteps.{cases_min}
 use Rattle.lp_numtext.proofs.SizeSteps.{at_least, below, led}
 
--- ---- zeros in front
+-- ---- leading zeros
 
--- of the digits before and behind a point
-pub zeros_first : (front back : List ℕ) → prefix_len is_zero front < length front → prefix_len is_zero (front ++ back) ≡ prefix_len is_zero front
-zeros_first front back h = prefix_len-append is_zero front back ∙ rw (ne_eqb (prefix_len is_zero front) (length front) (λ e. omega arith)) refl
+-- of the digits before and after a point
+pub zeros_first : (front back : List ℕ) → prefix_len is_zero front < length front →
+    prefix_len is_zero (front ++ back) ≡ prefix_len is_zero front
+zeros_first front back h =
+    prefix_len-append is_zero front back ∙ rw (ne_eqb (prefix_len is_zero front) (length front) (λ e. omega arith)) refl
 
-pub zeros_both : (front back : List ℕ) → prefix_len is_zero front ≡ length front → prefix_len is_zero (front ++ back) ≡ prefix_len is_zero front + prefix_len is_zero back
-zeros_both front back h = prefix_len-append is_zero front back ∙ rw (eq-eqb (prefix_len is_zero front) (length front) h) (omega arith)
+pub zeros_both : (front back : List ℕ) → prefix_len is_zero front ≡ length front →
+    prefix_len is_zero (front ++ back) ≡ prefix_len is_zero front + prefix_len is_zero back
+zeros_both front back h =
+    prefix_len-append is_zero front back ∙ rw (eq-eqb (prefix_len is_zero front) (length front) h) (omega arith)
 
--- where not all are zeros, the zeros at the end leave those in front
+-- where not all are zeros, the trailing zeros leave the leading ones
 zeros_kept : (ds : List ℕ) → list_all is_zero ds ≡ false → prefix_len is_zero (without_zeros ds) ≡ prefix_len is_zero ds
 zeros_kept [] h = cc
 zeros_kept (d ∷ ds) h = rw h (by (eqb d 48) h (zeros_kept ds))
   where
-    by : (t : Bool) → (t && list_all is_zero ds) ≡ false → (list_all is_zero ds ≡ false → prefix_len is_zero (without_zeros ds) ≡ prefix_len is_zero ds) → cond t (1 + prefix_len is_zero (without_zeros ds)) 0 ≡ cond t (1 + prefix_len is_zero ds) 0
+    by : (t : Bool) → (t && list_all is_zero ds) ≡ false →
+        (list_all is_zero ds ≡ false → prefix_len is_zero (without_zeros ds) ≡ prefix_len is_zero ds) →
+        cond t (1 + prefix_len is_zero (without_zeros ds)) 0 ≡ cond t (1 + prefix_len is_zero ds) 0
     by true h i = ap (λ n. 1 + n) (i h)
     by false h i = refl
 
@@ -42,7 +48,8 @@ are_all_zeros (d ∷ ds) = by (eqb d 48) (are_all_zeros ds)
     more : (m n : ℕ) → eqb m n ≡ eqb (1 + m) (suc n)
     more m n = grind arith
 
-    by : (t : Bool) → list_all is_zero ds ≡ eqb (prefix_len is_zero ds) (length ds) → (t && list_all is_zero ds) ≡ eqb (cond t (1 + prefix_len is_zero ds) 0) (suc (length ds))
+    by : (t : Bool) → list_all is_zero ds ≡ eqb (prefix_len is_zero ds) (length ds) →
+        (t && list_all is_zero ds) ≡ eqb (cond t (1 + prefix_len is_zero ds) 0) (suc (length ds))
     by true i = i ∙ more _ _
     by false i = sym (ne_eqb 0 (suc (length ds)) (λ e. omega (arith, e)))
 
@@ -53,7 +60,8 @@ none_kept (d ∷ ds) h = rw h refl
 -- ---- a decimal by the place of its first digit
 
 -- S of c + 1 digits: S * 10 ^ e is at least 10 ^ 20 exactly where its first digit stands there or higher
-size_huge : (negative : Bool) (s c : ℕ) (e : ℤ) → 10 ^ c ≤ s → s < 10 ^ suc c → int_lt (pos 20) (pos (suc c) +ℤ e) ≡ is_huge (Decimal negative s e)
+size_huge : (negative : Bool) (s c : ℕ) (e : ℤ) → 10 ^ c ≤ s → s < 10 ^ suc c →
+    int_lt (pos 20) (pos (suc c) +ℤ e) ≡ is_huge (Decimal negative s e)
 unfolding is_huge
 size_huge negative s c (pos e) low high = by (int_lt (pos 20) (pos (suc c) +ℤ pos e)) refl
   where
@@ -89,7 +97,8 @@ lt_is x y h = by (int_lt x y) refl
     by false e = absurd (omega (arith, ints, lt-false x y e))
 
 -- the nearer exponent is as far past as the exponent itself
-near_same : (t : Bool) (n w z : ℕ) → w ≤ 2 ^ 65 → z ≤ 2 ^ 65 → int_lt (pos 20) (near t n +ℤ pos w -ℤ pos z) ≡ int_lt (pos 20) (signed t n +ℤ pos w -ℤ pos z)
+near_same : (t : Bool) (n w z : ℕ) → w ≤ 2 ^ 65 → z ≤ 2 ^ 65 →
+    int_lt (pos 20) (near t n +ℤ pos w -ℤ pos z) ≡ int_lt (pos 20) (signed t n +ℤ pos w -ℤ pos z)
 unfolding near
 near_same t n w z a b = by t (min n far) (cases_min n)
   where
@@ -100,7 +109,8 @@ near_same t n w z a b = by t (min n far) (cases_min n)
         go true e = absurd (omega (arith, ints, lt-true x y e))
         go false e = e
 
-    by : (t : Bool) (m : ℕ) → (m ≡ n) ⊎ ((m ≡ far) × (far ≤ n)) → int_lt (pos 20) (signed t m +ℤ pos w -ℤ pos z) ≡ int_lt (pos 20) (signed t n +ℤ pos w -ℤ pos z)
+    by : (t : Bool) (m : ℕ) → (m ≡ n) ⊎ ((m ≡ far) × (far ≤ n)) →
+        int_lt (pos 20) (signed t m +ℤ pos w -ℤ pos z) ≡ int_lt (pos 20) (signed t n +ℤ pos w -ℤ pos z)
     by t m (inl e) = ap (λ x. int_lt (pos 20) (signed t x +ℤ pos w -ℤ pos z)) e
     by true m (inr h) =
         not_lt (pos 20) (signed true m +ℤ pos w -ℤ pos z) (omega (arith, ints))
@@ -119,7 +129,8 @@ zero_huge negative (negsuc e) =
     sym (lt-leb (10 ^ 20 * 10 ^ suc e) 0 (omega arith))
 
 -- digits that are not all 0 spell a number above 0, without the zeros at their end too
-zeros_off : (ds : List ℕ) → list_all is_ascii_digit ds ≡ true → list_all is_zero ds ≡ false → 0 < spelled (without_zeros ds)
+zeros_off : (ds : List ℕ) → list_all is_ascii_digit ds ≡ true → list_all is_zero ds ≡ false →
+    0 < spelled (without_zeros ds)
 zeros_off ds h z =
     let c = cut 0 ds in
     let ne : spelled ds ≡ 0 → ⊥ = eqb-false _ _ (sym (zero_spelled ds h) ∙ z) in
@@ -132,7 +143,8 @@ zeros_off ds h z =
 place : (e : ℤ) (w z c k : ℕ) → k ≡ z + suc c → e +ℤ pos w -ℤ pos z ≡ pos (suc c) +ℤ (e +ℤ pos w -ℤ pos k)
 place e w z c k h = omega (arith, ints)
 
-pub decimal_small : (negative : Bool) (front back : List ℕ) (e : ℤ) (z : ℕ) → z ≡ prefix_len is_zero (front ++ back) → z ≡ length front + length back → false ≡ is_huge (scaled negative front back e)
+pub decimal_small : (negative : Bool) (front back : List ℕ) (e : ℤ) (z : ℕ) → z ≡ prefix_len is_zero (front ++ back) →
+    z ≡ length front + length back → false ≡ is_huge (scaled negative front back e)
 unfolding scaled
 decimal_small negative front back e z p l =
     let len : prefix_len is_zero (front ++ back) ≡ length (front ++ back) = sym p ∙ l ∙ sym (length-append front back) in
@@ -169,7 +181,8 @@ drop_digits n ds h =
     let e : (list_all is_ascii_digit (take n ds) && list_all is_ascii_digit (drop n ds)) ≡ true = sym (list_all-append is_ascii_digit (take n ds) (drop n ds)) ∙ ap (list_all is_ascii_digit) (take-append-drop n ds) ∙ h in
     (and_parts _ _ e).1
 
-high_digits : (ds : List ℕ) → list_all is_ascii_digit ds ≡ true → IsQuotient (spelled (take (length ds - 20) ds)) (spelled ds)
+high_digits : (ds : List ℕ) → list_all is_ascii_digit ds ≡ true →
+    IsQuotient (spelled (take (length ds - 20) ds)) (spelled ds)
 high_digits ds h = by (leb 20 (length ds)) refl
   where
     by : (t : Bool) → leb 20 (length ds) ≡ t → IsQuotient (spelled (take (length ds - 20) ds)) (spelled ds)
@@ -191,10 +204,12 @@ high_digits ds h = by (leb 20 (length ds)) refl
         let p : 10 ^ length ds ≤ 10 ^ 20 = pow-le-pow_right (omega arith) {i = length ds} {j = 20} (omega arith) in
         record { low = omega arith; up = omega arith }
 
-pub quotient_huge : (negative : Bool) (top : List ℕ) (bottom : ℕ) → list_all is_ascii_digit top ≡ true → 0 < bottom → leb bottom (spelled (take (length top - 20) top)) ≡ is_huge (Quotient negative (spelled top) bottom)
+pub quotient_huge : (negative : Bool) (top : List ℕ) (bottom : ℕ) → list_all is_ascii_digit top ≡ true → 0 < bottom →
+    leb bottom (spelled (take (length top - 20) top)) ≡ is_huge (Quotient negative (spelled top) bottom)
 unfolding is_huge
 quotient_huge negative top bottom h p = by (leb bottom (spelled (take (length top - 20) top))) refl (high_digits top h)
   where
-    by : (t : Bool) → leb bottom (spelled (take (length top - 20) top)) ≡ t → IsQuotient (spelled (take (length top - 20) top)) (spelled top) → t ≡ leb (10 ^ 20 * bottom) (spelled top)
+    by : (t : Bool) → leb bottom (spelled (take (length top - 20) top)) ≡ t →
+        IsQuotient (spelled (take (length top - 20) top)) (spelled top) → t ≡ leb (10 ^ 20 * bottom) (spelled top)
     by true e q = let l = leb-true _ _ e in sym (le-leb (10 ^ 20 * bottom) (spelled top) (omega (arith, q.low)))
     by false e q = let l = leb-false _ _ e in sym (lt-leb (10 ^ 20 * bottom) (spelled top) (omega (arith, q.up)))

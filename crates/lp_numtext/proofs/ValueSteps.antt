@@ -32,7 +32,8 @@ use Rattle.lp_numtext.specs.declared.parts.Parts.TheVariants as parts
 over_back : (n m : ℤ) (d e : ℕ) → 0 < d → 0 < e → over n d ≤ℚ over m e → (n *ℤ pos e) ≤ℤ (m *ℤ pos d)
 over_back n m d e p q h = by (over n d) (over m e) (over_cross n d p) (over_cross m e q) h
   where
-    by : (x y : ℚ) → n *ℤ pos x.den ≡ x.num *ℤ pos d → m *ℤ pos y.den ≡ y.num *ℤ pos e → x ≤ℚ y → (n *ℤ pos e) ≤ℤ (m *ℤ pos d)
+    by : (x y : ℚ) → n *ℤ pos x.den ≡ x.num *ℤ pos d → m *ℤ pos y.den ≡ y.num *ℤ pos e → x ≤ℚ y →
+        (n *ℤ pos e) ≤ℤ (m *ℤ pos d)
     by x y a b h =
         ≤ℤ_cancel _ _ (x.den * y.den) (mul-pos x.positive y.positive)
         (≤ℤ_by _ _ _ _
@@ -59,7 +60,8 @@ unfolding neg_ℚ whole
 low_limit = over-parts (neg_ℚ infinite)
 
 limits : neg_ℚ infinite <ℚ infinite
-limits = subst₂ ◌<ℚ◌ low_limit top_limit (over_strict (neg_ℤ (pos (10 ^ 20))) (pos (10 ^ 20)) 1 1 (omega arith) (omega arith) (omega (arith, ints)))
+limits =
+    subst₂ ◌<ℚ◌ low_limit top_limit (over_strict (neg_ℤ (pos (10 ^ 20))) (pos (10 ^ 20)) 1 1 (omega arith) (omega arith) (omega (arith, ints)))
 
 lt_from : (x y : ℚ) → x <ℚ y → is_at_least y x ≡ false
 lt_from x y h = ap not (lt_test x y h)
@@ -67,7 +69,8 @@ lt_from x y h = ap not (lt_test x y h)
 le_from : (x y : ℚ) → y ≤ℚ x → is_at_least y x ≡ true
 le_from x y h = ap not (not_lt_test x y h)
 
-huge_value : (negative : Bool) (n d : ℕ) (r : NumberReading) → 0 < d → 10 ^ 20 * d ≤ n → bound_by_value (over (signed negative n) d) r ≡ infinity negative
+huge_value : (negative : Bool) (n d : ℕ) (r : NumberReading) → 0 < d → 10 ^ 20 * d ≤ n →
+    bound_by_value (over (signed negative n) d) r ≡ infinity negative
 unfolding bound_by_value
 huge_value false n d r p h =
     let le : infinite ≤ℚ over (pos n) d = subst (λ x. x ≤ℚ over (pos n) d) top_limit (≤ℚ-over (pos (10 ^ 20)) (pos n) 1 d (omega arith) p (omega (arith, ints))) in
@@ -77,7 +80,8 @@ huge_value true n d r p h =
     let lt : over (neg_ℤ (pos n)) d <ℚ infinite = ≤ℚ-<ℚ_trans _ (neg_ℚ infinite) _ le limits in
     rw (lt_from (over (neg_ℤ (pos n)) d) infinite lt, le_from (neg_ℚ infinite) (over (neg_ℤ (pos n)) d) le) refl
 
-small_value : (negative : Bool) (n d : ℕ) (r : NumberReading) → 0 < d → n < 10 ^ 20 * d → bound_by_value (over (signed negative n) d) r ≡ as_bound r
+small_value : (negative : Bool) (n d : ℕ) (r : NumberReading) → 0 < d → n < 10 ^ 20 * d →
+    bound_by_value (over (signed negative n) d) r ≡ as_bound r
 unfolding bound_by_value
 small_value negative n d r p h =
     let above : neg_ℚ infinite <ℚ over (signed negative n) d = subst (λ x. x <ℚ over (signed negative n) d) low_limit (over_strict (neg_ℤ (pos (10 ^ 20))) (signed negative n) 1 d (omega arith) p (up negative)) in
@@ -92,10 +96,12 @@ small_value negative n d r p h =
     down true = omega (arith, ints)
     down false = omega (arith, ints)
 
-tested : (negative : Bool) (n d : ℕ) (r : NumberReading) → 0 < d → bound_by_value (over (signed negative n) d) r ≡ cond (leb (10 ^ 20 * d) n) (infinity negative) (as_bound r)
+tested : (negative : Bool) (n d : ℕ) (r : NumberReading) → 0 < d →
+    bound_by_value (over (signed negative n) d) r ≡ cond (leb (10 ^ 20 * d) n) (infinity negative) (as_bound r)
 tested negative n d r p = by (leb (10 ^ 20 * d) n) refl
   where
-    by : (t : Bool) → leb (10 ^ 20 * d) n ≡ t → bound_by_value (over (signed negative n) d) r ≡ cond t (infinity negative) (as_bound r)
+    by : (t : Bool) → leb (10 ^ 20 * d) n ≡ t →
+        bound_by_value (over (signed negative n) d) r ≡ cond t (infinity negative) (as_bound r)
     by true e = huge_value negative n d r p (leb-true _ _ e)
     by false e = small_value negative n d r p (leb-false _ _ e)
 
@@ -104,27 +110,33 @@ pub IsProper : NumberParts → Type 0
 IsProper (Decimal negative s e) = Unit {0}
 IsProper (Quotient negative top bottom) = 0 < bottom
 
-by_size : (p : NumberParts) (r : NumberReading) → IsProper p → bound_by_value (value_of p) r ≡ cond (is_huge p) (infinity (sign_of p)) (as_bound r)
+by_size : (p : NumberParts) (r : NumberReading) → IsProper p →
+    bound_by_value (value_of p) r ≡ cond (is_huge p) (infinity (sign_of p)) (as_bound r)
 unfolding value_of is_huge IsProper
-by_size (Decimal negative s (pos e)) r p = ap (λ x. bound_by_value x r) (sym (over-one (signed negative (s * 10 ^ e)))) ∙ tested negative (s * 10 ^ e) 1 r (omega arith)
+by_size (Decimal negative s (pos e)) r p =
+    ap (λ x. bound_by_value x r) (sym (over-one (signed negative (s * 10 ^ e)))) ∙ tested negative (s * 10 ^ e) 1 r (omega arith)
 by_size (Decimal negative s (negsuc e)) r p = tested negative s (10 ^ suc e) r (one-le-pow (suc e) 10 (omega arith))
 by_size (Quotient negative top bottom) r p = tested negative top bottom r p
 
 -- ---- texts
 
-pub infinite_word : (text : List ℕ) → None ≡ parts_of text → is_infinity (without_sign text) ≡ true → bound_of text ≡ infinity (is_negative text)
+pub infinite_word : (text : List ℕ) → None ≡ parts_of text → is_infinity (without_sign text) ≡ true →
+    bound_of text ≡ infinity (is_negative text)
 unfolding bound_of bound_by
 infinite_word text e h = ap (bound_by text) (sym e) ∙ rw h refl
 
-pub no_bound : (text : List ℕ) → None ≡ parts_of text → is_infinity (without_sign text) ≡ false → bound_of text ≡ bound.Shape
+pub no_bound : (text : List ℕ) → None ≡ parts_of text → is_infinity (without_sign text) ≡ false →
+    bound_of text ≡ bound.Shape
 unfolding bound_of bound_by
 no_bound text e h = ap (bound_by text) (sym e) ∙ rw h refl
 
-pub infinite_number : (text : List ℕ) (p : NumberParts) → Some p ≡ parts_of text → IsProper p → is_huge p ≡ true → bound_of text ≡ infinity (sign_of p)
+pub infinite_number : (text : List ℕ) (p : NumberParts) → Some p ≡ parts_of text → IsProper p → is_huge p ≡ true →
+    bound_of text ≡ infinity (sign_of p)
 unfolding bound_of bound_by
 infinite_number text p e i h = ap (bound_by text) (sym e) ∙ by_size p _ i ∙ rw h refl
 
-pub finite_number : (text : List ℕ) (p : NumberParts) → Some p ≡ parts_of text → IsProper p → is_huge p ≡ false → bound_of text ≡ as_bound (number_by (Some p))
+pub finite_number : (text : List ℕ) (p : NumberParts) → Some p ≡ parts_of text → IsProper p → is_huge p ≡ false →
+    bound_of text ≡ as_bound (number_by (Some p))
 unfolding bound_of bound_by
 finite_number text p e i h = ap (bound_by text) (sym e) ∙ by_size p _ i ∙ rw h refl
 

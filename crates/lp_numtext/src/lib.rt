@@ -6,7 +6,7 @@
 //! | `read` | the fraction that a text is | src/reading |
 //! | `read_bound` | the bound that a text is | src/bounds |
 //! | `number_text` | the text of a fraction | src/writing |
-//! | `write` | the same, behind other text | src/writing |
+//! | `write` | the same, after other text | src/writing |
 //!
 //! The contracts cite the rule of the text in spec_mps: number_of (specs/NumberText), bound_of (specs/BoundText) and
 //! number_text (specs/NumberWritten). Its laws, such as that what is written is read again, are spec_mps's.

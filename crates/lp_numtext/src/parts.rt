@@ -12,7 +12,7 @@ pub(crate) struct Exponent<'a> {
     pub(crate) digits: Digits<'a>,
 }
 
-// The digits before and behind the point, and the exponent.
+// The digits before and after the point, and the exponent.
 #[derive(Clone, Copy)]
 pub(crate) struct Decimal<'a> {
     pub(crate) is_negative: bool,
@@ -49,7 +49,7 @@ impl<'a> Exponent<'a> {
     ghost use Rattle.spec_mps.specs.NumberText as number;
     ghost use Rattle.lp_numtext.specs.Seen.{exponent_seen};
 
-    // What stands behind the mark, where there is one.
+    // What follows the mark, where there is one.
     #[tactic(auto, unfolding(spec_mps::specs::NumberText::exponent_of))]
     fn parse(mark: Option<&'a [u8]>) -> Option<Exponent<'a>>
         ensures { option_map exponent_seen result ≡ number.exponent_of (option_copied mark.entry) }

@@ -1,4 +1,4 @@
-// A text in pieces: its sign, and what stands before and behind a byte.
+// A text in pieces: its sign, and what stands before and after a byte.
 ghost use Rattle.std.specs.Prelude.{◌≡◌};
 ghost use Rattle.std.specs.Option.{option_copied};
 ghost use Rattle.std.specs.List.{before_first, position};
@@ -29,7 +29,7 @@ fn place(text: &[u8], separator: Separator) -> Option<usize>
     text.iter().position(|b| is_separator(separator, *b))
 }
 
-// What stands before the first such separator, and what stands behind it, where there is one.
+// What stands before the first such separator, and what follows it, where there is one.
 pub(crate) fn split(text: &[u8], separator: Separator) -> (&[u8], Option<&[u8]>)
     ensures before { result.0.now ≡ before_first (separates separator) text.now }
     ensures behind { option_copied result.1 ≡ number.behind (separates separator) text.now }

@@ -7,7 +7,7 @@ use lp_base::Bytes;
 use lp_frac::{Frac, den, num};
 use std::alloc::{AllocError, Global};
 
-// The most digits behind a point.
+// The most digits after a point.
 const MAX_PLACES: u32 = 18;
 
 fn write_whole(alloc: Global, n: u128, to: &mut Bytes) -> Result<(), AllocError>
@@ -47,7 +47,7 @@ fn write_quotient(alloc: Global, n: u128, den: u128, to: &mut Bytes) -> Result<(
     write_whole(alloc, den, to)
 }
 
-// The least number of places behind the point that a fraction with this denominator takes, where 18 are enough.
+// The least number of places after the point that a fraction with this denominator takes, where 18 are enough.
 fn places(den: u128) -> Option<u32>
     requires { 0 < den }
     ensures value { result ≡ told.places den }

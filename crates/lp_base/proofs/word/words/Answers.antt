@@ -10,7 +10,9 @@ use Rattle.spec_text.specs.Words.{is_blank, has_bytes, words_of}
 use Rattle.lp_base.proofs.word.words.Goals as goal
 
 -- what a loop has seen at its end, with the list that is wanted named last
-seen_at_end : {S A B : Type 0} {steps : S → Option A → S → Type 0} {s : S} (xs : List A) (t : S) → Yields steps s xs t → (r : Option A) (u : S) → r ≡ None → steps t r u → (v : A → B) (all : List B) → YieldsList steps v s all → map v xs ≡ all
+seen_at_end : {S A B : Type 0} {steps : S → Option A → S → Type 0} {s : S} (xs : List A) (t : S) → Yields steps s xs t →
+    (r : Option A) (u : S) → r ≡ None → steps t r u → (v : A → B) (all : List B) → YieldsList steps v s all →
+    map v xs ≡ all
 seen_at_end xs t y r u is gave v all e = (YieldsList-end e xs t y r u is gave).0
 
 pub returns : goal.returns

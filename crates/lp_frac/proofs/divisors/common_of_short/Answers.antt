@@ -8,4 +8,5 @@ pub returns-clause-positive : goal.returns-clause-positive
 returns-clause-positive c = λ p. subst (λ n. 0 < n) (sym c.any_short_common.ensures) (gcd_positive c.args.a c.args.b p)
 
 pub returns-clause-small : goal.returns-clause-small
-returns-clause-small c = λ p. subst (λ n. n ≤ c.args.b) (sym c.any_short_common.ensures) (le_of_dvd p (gcd_is c.args.a c.args.b).1)
+returns-clause-small c =
+    λ p. subst (λ n. n ≤ c.args.b) (sym c.any_short_common.ensures) (le_of_dvd p (gcd_is c.args.a c.args.b).1)

@@ -6,4 +6,5 @@ pub returns-clause-odd : goal.returns-clause-odd
 returns-clause-odd c = gap_odd c.args.x c.args.y _ c.ranges.x.fits c.ranges.y.fits c.requires.other c.abs_diff.ensures
 
 pub returns-clause-common : goal.returns-clause-common
-returns-clause-common c = gap_common c.args.x c.args.y _ c.ranges.x.fits c.ranges.y.fits c.requires.other c.abs_diff.ensures
+returns-clause-common c =
+    gap_common c.args.x c.args.y _ c.ranges.x.fits c.ranges.y.fits c.requires.other c.abs_diff.ensures

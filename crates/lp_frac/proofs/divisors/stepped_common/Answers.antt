@@ -7,7 +7,8 @@ pub returns-then-b-eq0 : goal.returns-then-b-eq0
 returns-then-b-eq0 c = sym (ap (gcd c.args.a) c.if-b-eq0.true ∙ gcd-zero c.args.a)
 
 pub returns-then-rest-eq0 : goal.returns-then-rest-eq0
-returns-then-rest-eq0 c = sym (gcd-zero c.args.b) ∙ ap (gcd c.args.b) (sym c.if-rest-eq0.true) ∙ gcd-step c.args.a c.args.b
+returns-then-rest-eq0 c =
+    sym (gcd-zero c.args.b) ∙ ap (gcd c.args.b) (sym c.if-rest-eq0.true) ∙ gcd-step c.args.a c.args.b
 
 pub returns : goal.returns
 returns c = c.twos_common-2.ensures ∙ gcd-step c.args.a c.args.b

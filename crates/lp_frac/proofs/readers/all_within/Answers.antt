@@ -13,4 +13,5 @@ loop-v-preserved c =
     (subst (IsWithin largest) c.v-item.is c.within.ensures)
 
 pub returns : goal.returns
-returns c = subst (All (IsWithin largest)) (take_all c.loop-v.v-index c.args.vs.now (omega (arith, c.loop-v-test.false))) c.loop-v.invariant
+returns c =
+    subst (All (IsWithin largest)) (take_all c.loop-v.v-index c.args.vs.now (omega (arith, c.loop-v-test.false))) c.loop-v.invariant

@@ -4,4 +4,5 @@ use Rattle.lp_model.proofs.changes.take_row_out_of.Given as goal
 
 -- the columns that were passed over are without the row
 abbrev pub invariant-loop-column : goal.invariant-loop-column
-invariant-loop-column l = l.columns ≡ map (lowered l.i) (take l.column-index l.initial.columns) ++ drop l.column-index l.initial.columns
+invariant-loop-column l =
+    l.columns ≡ map (lowered l.i) (take l.column-index l.initial.columns) ++ drop l.column-index l.initial.columns

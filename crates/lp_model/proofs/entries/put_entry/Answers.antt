@@ -13,7 +13,8 @@ returns-then-gone-clause-ok c =
 pub returns-else-gone-clause-ok : goal.returns-else-gone-clause-ok
 returns-else-gone-clause-ok c =
     let stands : StandsAt c.args.row c.in-Ok.place c.args.entries.now = subst (StandsAt c.args.row c.in-Ok.place) c.as_slice.ensures c.in-Ok.ensures in
-    let other : c.args.value ≢ 0ℚ = λ e. let t : c.is_zero-gone.result ≡ true = c.is_zero-gone.ensures.1 (c.narrow-value.ensures.value ∙ e) in let f = c.if-gone.false in cc in
+    let other : c.args.value ≢ 0ℚ = λ e. let t : c.is_zero-gone.result ≡ true = c.is_zero-gone.ensures.1 (c.narrow-value.ensures.value ∙ e) in
+    let f = c.if-gone.false in cc in
     c.set.ensures ∙ ap (λ v. set c.args.entries.now c.in-Ok.place (c.args.row, v)) c.narrow-value.ensures.value ∙ set-put _ _ _ stands c.args.value other
 
 pub returns-then-gone-2-clause-ok : goal.returns-then-gone-2-clause-ok
@@ -24,6 +25,7 @@ returns-then-gone-2-clause-ok c =
 pub returns-else-gone-2-clause-ok : goal.returns-else-gone-2-clause-ok
 returns-else-gone-2-clause-ok c =
     let belongs : BelongsAt c.args.row c.in-Err.place c.args.entries.now = subst (BelongsAt c.args.row c.in-Err.place) c.as_slice.ensures c.in-Err.ensures in
-    let other : c.args.value ≢ 0ℚ = λ e. let t : c.is_zero-gone.result ≡ true = c.is_zero-gone.ensures.1 (c.narrow-value.ensures.value ∙ e) in let f = c.if-gone-2.false in cc in
+    let other : c.args.value ≢ 0ℚ = λ e. let t : c.is_zero-gone.result ≡ true = c.is_zero-gone.ensures.1 (c.narrow-value.ensures.value ∙ e) in
+    let f = c.if-gone-2.false in cc in
     let put = ap (λ v. insert c.args.entries.now c.in-Err.place (c.args.row, v)) c.narrow-value.ensures.value ∙ insert-put _ _ _ belongs c.args.value other in
     rw (← put) c.insert.ensures.ok

@@ -9,6 +9,7 @@ returns-then-digits-len-ne48-clause-value c =
 pub loop-len-preserved : goal.loop-len-preserved
 loop-len-preserved c =
     record {
-      told = zeros_go c.args.digits.now c.loop-len.len (c.loop-len.len - 1) (omega arith) (omega arith) c.if-digits-len-ne48.false ∙ c.loop-len.invariant.told;
+      told =
+          zeros_go c.args.digits.now c.loop-len.len (c.loop-len.len - 1) (omega arith) (omega arith) c.if-digits-len-ne48.false ∙ c.loop-len.invariant.told;
       within = omega arith;
     }

@@ -4,7 +4,9 @@ use Rattle.lp_numtext.proofs.PieceSteps.{behind_some, behind_none}
 use Rattle.lp_numtext.proofs.pieces.split.Goals as goal
 
 pub returns-in-Some-clause-behind : goal.returns-in-Some-clause-behind
-returns-in-Some-clause-behind c = behind_some (separates c.args.separator) c.args.text.now c.in-Some.at (sym c.in-Some.is ∙ c.place.ensures)
+returns-in-Some-clause-behind c =
+    behind_some (separates c.args.separator) c.args.text.now c.in-Some.at (sym c.in-Some.is ∙ c.place.ensures)
 
 pub returns-in-None-clause-behind : goal.returns-in-None-clause-behind
-returns-in-None-clause-behind c = behind_none (separates c.args.separator) c.args.text.now (sym c.in-None.is ∙ c.place.ensures)
+returns-in-None-clause-behind c =
+    behind_none (separates c.args.separator) c.args.text.now (sym c.in-None.is ∙ c.place.ensures)

@@ -5,7 +5,8 @@ use Rattle.lp_base.proofs.SoFar.{SoFar-read, SoFar-run, gives_ended, gives_over,
 use Rattle.lp_base.proofs.lines.Lines.next.Goals as goal
 
 pub returns-in_err-has_more-clause-held : goal.returns-in_err-has_more-clause-held
-returns-in_err-has_more-clause-held g c = λ has. stays (c.loop-line.invariant.held has) (c.has_more.ensures.held (still_ahead c.loop-line.invariant.read has))
+returns-in_err-has_more-clause-held g c =
+    λ has. stays (c.loop-line.invariant.held has) (c.has_more.ensures.held (still_ahead c.loop-line.invariant.read has))
 
 pub returns-in_err-has_more-clause-line : goal.returns-in_err-has_more-clause-line
 returns-in_err-has_more-clause-line g c =
@@ -21,7 +22,8 @@ returns-then-is_full-clause-line g c =
     gives_over s some.2 (c.if-is_full.ensures.full.0 refl) some.0 c.has_more.ensures.near
 
 pub returns-then-is_full-clause-held : goal.returns-then-is_full-clause-held
-returns-then-is_full-clause-held g c = λ has. stays (c.loop-line.invariant.held has) (c.has_more.ensures.held (still_ahead c.loop-line.invariant.read has))
+returns-then-is_full-clause-held g c =
+    λ has. stays (c.loop-line.invariant.held has) (c.has_more.ensures.held (still_ahead c.loop-line.invariant.read has))
 
 pub returns-in_err-take_run-clause-line : goal.returns-in_err-take_run-clause-line
 returns-in_err-take_run-clause-line g c =
@@ -32,7 +34,8 @@ returns-in_err-take_run-clause-line g c =
     gives_err c.from_residual-in_err-take_run.result p.0 p.1 p.2 (gives_no_memory c.take_run.new.self s some.2 c.has_more.ensures.near)
 
 pub returns-in_err-take_run-clause-held : goal.returns-in_err-take_run-clause-held
-returns-in_err-take_run-clause-held g c = λ has. stays (c.loop-line.invariant.held has) (c.has_more.ensures.held (still_ahead c.loop-line.invariant.read has))
+returns-in_err-take_run-clause-held g c =
+    λ has. stays (c.loop-line.invariant.held has) (c.has_more.ensures.held (still_ahead c.loop-line.invariant.read has))
 
 pub returns-then-branch-2-clause-line : goal.returns-then-branch-2-clause-line
 returns-then-branch-2-clause-line g c =
@@ -42,7 +45,8 @@ returns-then-branch-2-clause-line g c =
     gives_ended s (run_with true c.in_ok-take_run.ensures c.if-branch-2.true) some.2 c.has_more.ensures.near c.ended_line.result c.ended_line.ensures
 
 pub returns-then-branch-2-clause-held : goal.returns-then-branch-2-clause-held
-returns-then-branch-2-clause-held g c = λ has. stays (c.loop-line.invariant.held has) (c.has_more.ensures.held (still_ahead c.loop-line.invariant.read has))
+returns-then-branch-2-clause-held g c =
+    λ has. stays (c.loop-line.invariant.held has) (c.has_more.ensures.held (still_ahead c.loop-line.invariant.read has))
 
 pub loop-line-preserved : goal.loop-line-preserved
 loop-line-preserved g c =
@@ -54,7 +58,8 @@ loop-line-preserved g c =
       read = SoFar-run s run;
       later = omega (arith, c.has_more.ensures.cause.later);
       idle = λ e. absurd (not_both some.1 (c.loop-line.invariant.read.ended ∙ e));
-      held = λ has. stays (c.loop-line.invariant.held has) (c.has_more.ensures.held (still_ahead c.loop-line.invariant.read has));
+      held =
+          λ has. stays (c.loop-line.invariant.held has) (c.has_more.ensures.held (still_ahead c.loop-line.invariant.read has));
       bound = run.bound;
       beside = cc;
     }
@@ -66,4 +71,5 @@ returns-clause-line g c =
     gives_last (g.S.Source.left c.has_more.new.source) c.loop-line.invariant.read more.0 more.1 more.2 more.3 none c.loop-line.invariant.bound c.loop-line.invariant.idle c.last_line.result c.last_line.ensures.some c.last_line.ensures.none
 
 pub returns-clause-held : goal.returns-clause-held
-returns-clause-held g c = λ has. stays (c.loop-line.invariant.held has) (c.has_more.ensures.held (still_ahead c.loop-line.invariant.read has))
+returns-clause-held g c =
+    λ has. stays (c.loop-line.invariant.held has) (c.has_more.ensures.held (still_ahead c.loop-line.invariant.read has))

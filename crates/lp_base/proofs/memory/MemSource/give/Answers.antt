@@ -30,7 +30,8 @@ returns-then-self-piece-clause-behind c =
     ∙ ap (left_behind room) c.loop-self.invariant.left
 
 pub returns-then-self-piece-clause-bytes : goal.returns-then-self-piece-clause-bytes
-returns-then-self-piece-clause-bytes c = given_bytes (length c.args.buf.now) _ _ _ (returns-then-self-piece-clause-first c) (returns-then-self-piece-clause-behind c)
+returns-then-self-piece-clause-bytes c =
+    given_bytes (length c.args.buf.now) _ _ _ (returns-then-self-piece-clause-first c) (returns-then-self-piece-clause-behind c)
 
 pub returns-then-self-piece-clause-end : goal.returns-then-self-piece-clause-end
 returns-then-self-piece-clause-end c =
