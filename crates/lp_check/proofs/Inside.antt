@@ -9,7 +9,8 @@ use Rattle.spec_check.specs.declared.certificate.Letter.TheVariants.{X, Y, R}
 use Rattle.spec_check.specs.Certificate.{IsFor}
 use Rattle.lp_check.specs.Answer.{IsPlace, IsInside}
 
-pub inside : (m : Model) (letter : Letter) (k : ℕ) (cert : Certificate (List ℚ)) → IsFor m cert → IsPlace m letter k → IsInside letter k cert
+pub inside : (m : Model) (letter : Letter) (k : ℕ) (cert : Certificate (List ℚ)) → IsFor m cert → IsPlace m letter k →
+    IsInside letter k cert
 inside m X k (Optimal x y) f h = omega (arith, f.0, h)
 inside m Y k (Optimal x y) f h = omega (arith, f.1, h)
 inside m R k (Optimal x y) f h = tt

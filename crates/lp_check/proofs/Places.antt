@@ -14,7 +14,8 @@ use Rattle.lp_check.specs.Answer.{IsErrorOf}
 abbrev pub IsOnTheWay : Model → ExactRaw → ℕ → Certificate (List ℚ) → Type 0
 IsOnTheWay m raw i cert = put_all m (take i raw.parts) (drop i raw.parts) cert ≡ certificate_for m raw
 
-pub at_start : (m : Model) (raw : ExactRaw) (cert : Certificate (List ℚ)) → blank m raw.kind ≡ Ok cert → IsOnTheWay m raw 0 cert
+pub at_start : (m : Model) (raw : ExactRaw) (cert : Certificate (List ℚ)) → blank m raw.kind ≡ Ok cert →
+    IsOnTheWay m raw 0 cert
 unfolding certificate_for
 at_start m raw cert e = sym (ap (λ o. o >>= λ cert. put_all m [] raw.parts cert) e)
 
@@ -38,11 +39,13 @@ stopped m raw i p cert NoMemory h g way e = tt
 stopped m raw i p cert (Fault fault) h g way e =
     sym way ∙ step_of m raw i p cert h g ∙ ap (λ o. o >>= λ next. put_all m (take (i + 1) raw.parts) (drop (i + 1) raw.parts) next) e
 
-pub blank_stopped : (m : Model) (raw : ExactRaw) (error : SettleError) → IsErrorOf (blank m raw.kind) error → IsErrorOf (certificate_for m raw) error
+pub blank_stopped : (m : Model) (raw : ExactRaw) (error : SettleError) → IsErrorOf (blank m raw.kind) error →
+    IsErrorOf (certificate_for m raw) error
 unfolding certificate_for
 blank_stopped m raw NoMemory e = tt
 blank_stopped m raw (Fault fault) e = ap (λ o. o >>= λ cert. put_all m [] raw.parts cert) e
 
 -- none is left
-pub all_put : (m : Model) (raw : ExactRaw) (i : ℕ) (cert : Certificate (List ℚ)) → length raw.parts ≤ i → IsOnTheWay m raw i cert → certificate_for m raw ≡ Ok cert
+pub all_put : (m : Model) (raw : ExactRaw) (i : ℕ) (cert : Certificate (List ℚ)) → length raw.parts ≤ i →
+    IsOnTheWay m raw i cert → certificate_for m raw ≡ Ok cert
 all_put m raw i cert h way = sym way ∙ at_drop_all (λ ps. put_all m (take i raw.parts) ps cert) raw.parts i h

@@ -21,7 +21,7 @@ abbrev pub Settles : Settled (Certificate (List ℚ)) → Result (Certificate (L
 Settles answer (Ok cert) = answer ≡ Ok cert
 Settles answer (Err error) = IsErrorOf answer error
 
--- the answer's certificate behind a step, or its fault
+-- the answer's certificate after a step, or its fault
 abbrev pub Puts : Settled (Certificate (List ℚ)) → Certificate (List ℚ) → Result ⊤ SettleError → Type 0
 Puts answer after (Ok done) = answer ≡ Ok after
 Puts answer after (Err error) = IsErrorOf answer error

@@ -6,7 +6,7 @@ use Rattle.lp_check.specs.declared.reader.CertFeed.{CertFeed}
 use Rattle.lp_check.specs.declared.reader.CertFeed.TheVariants as feed
 use Rattle.lp_check.specs.CertificateRead.{CertificateRead}
 
--- the text goes on behind line n
+-- the text continues after line n
 pub record GoesOn (outcome : Outcome) (n : ℕ) (new : CertificateRead) : Type 0 where
   pub raw : ExactRaw
   pub state : outcome ≡ progress.More raw
@@ -17,7 +17,7 @@ pub record IsUnfit (outcome : Outcome) (n line : ℕ) : Type 0 where
   pub state : outcome ≡ progress.Unfit
   pub number : line ≡ n
 
--- the answer at line n of what its step leads to; want of memory says nothing
+-- the answer at line n of what its step leads to; if memory runs out it says nothing
 abbrev pub Feeds : Outcome → ℕ → CertificateRead → CertFeed → Type 0
 Feeds outcome n new feed.More = GoesOn outcome n new
 Feeds outcome n new (feed.Done raw) = outcome ≡ progress.Done raw

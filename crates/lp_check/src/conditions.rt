@@ -5,7 +5,7 @@ ghost use Rattle.spec_check.specs.Certificate.{IsFor};
 ghost use Rattle.spec_check.specs.Run as run;
 ghost use Rattle.lp_frac.specs.Narrow.{largest};
 
-use crate::certificate::{Certificate, Known, CheckStop, Verdict};
+use crate::certificate::{Certificate, CheckStop, Known, Verdict};
 use crate::farkas::{clash, infeasible};
 use crate::multipliers::{columns_tight, rows_tight};
 use crate::point::{columns_within, rows_within, value};

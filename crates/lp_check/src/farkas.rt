@@ -5,7 +5,7 @@ ghost use Rattle.spec_model.specs.Model.{width, height};
 ghost use Rattle.spec_check.specs.Run as run;
 ghost use Rattle.lp_frac.specs.Narrow.{largest};
 
-use crate::certificate::{Known, CheckStop};
+use crate::certificate::{CheckStop, Known};
 use crate::limits::{lower_limit, upper_limit};
 use crate::steps::{is_greater, is_less, is_negative, is_positive, need, part, plus_product};
 use lp_frac::{Frac, Fracs, cmp, zero};

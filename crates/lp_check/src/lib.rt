@@ -7,7 +7,7 @@
 //! | `cert_text` | the lines of a certificate's text | src/text |
 //! | `CertReader`, `CertFeed` | a text of a certificate that is read line by line, and what a line is answered | src/reader |
 //! | `is_end` | whether the words of a line end a text of a certificate | src/words |
-//! | `Certificate` | what is handed in to show something of one model | src/certificate |
+//! | `Certificate` | what is given to show something of one model | src/certificate |
 //! | `Verdict`, `Known` | what a check says, and what a certificate shows | src/certificate |
 //! | `RawCertificate`, `CertificateKind`, `Parts`, `Part`, `Letter` | a certificate as its text has it, with names | src/certificate, `spec_check` |
 //! | `SettleError`, `SettleFault` | why parts make no certificate of a model | src/settled, src/certificate |

@@ -14,7 +14,7 @@ type Progress = spec_check::Progress<RawCertificate>;
 /// What a line is answered.
 #[derive(Drop)]
 pub enum CertFeed {
-    /// The text goes on.
+    /// The text continues.
     More,
     /// It has ended, and spells this.
     Done(RawCertificate),
@@ -51,7 +51,7 @@ fn open(alloc: Global, words: &Texts) -> Result<Progress, AllocError>
     }
 }
 
-// A line behind the first.
+// A line after the first.
 fn go_on(alloc: Global, mut raw: RawCertificate, words: &Texts) -> Result<Progress, AllocError>
     ensures { IfOk result (λ progress. progress ≡ told.step_by_words (Some raw) words.now) }
 {
@@ -67,7 +67,7 @@ fn go_on(alloc: Global, mut raw: RawCertificate, words: &Texts) -> Result<Progre
     }
 }
 
-// What a line leads to, behind what was read before it.
+// What a line leads to, after what was read before it.
 #[tactic(auto, unfolding(spec_check::specs::Text::step))]
 fn advance(
     alloc: Global,

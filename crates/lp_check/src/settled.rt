@@ -129,7 +129,7 @@ fn is_given(part: &Part, parts: &[Part]) -> bool
         && are_same(p.name.as_slice(), part.name.as_slice()))
 }
 
-// Puts the part into its place, behind those before it.
+// Puts the part into its place, after those before it.
 #[tactic(auto, unfolding(spec_check::specs::Settle::put))]
 fn put(
     alloc: Global,

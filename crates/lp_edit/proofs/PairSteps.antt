@@ -16,7 +16,7 @@ Entries = List (ℕ × ℚ)
 
 -- p is the pair at k, in the list as it was read
 module _ (m : Model) (pairs : Pairs) (k : ℕ) (es : Entries) (p : Name × ℚ) (here : p ≡ get_or pairs k p) (l : k < length pairs) where
-  -- the entries behind the pairs before k, and those behind all of them
+  -- the entries after the pairs before k, and those after all of them
   so_far : OrFault Entries
   so_far = entries_of m (take k pairs) (drop k pairs) es
 
@@ -35,12 +35,14 @@ module _ (m : Model) (pairs : Pairs) (k : ℕ) (es : Entries) (p : Name × ℚ) 
   unfolding so_far
   unknown e = step ∙ ap (λ o. known o p.0 >>= λ i. cond (is_given p.0 (take k pairs)) (Err (Repeated p.0)) (behind i)) e
 
-  at : (i : ℕ) (t : Bool) → row_place m p.0 ≡ Some i → is_given p.0 (take k pairs) ≡ t → so_far ≡ cond t (Err (Repeated p.0)) (behind i)
+  at : (i : ℕ) (t : Bool) → row_place m p.0 ≡ Some i → is_given p.0 (take k pairs) ≡ t →
+      so_far ≡ cond t (Err (Repeated p.0)) (behind i)
   at i t e f =
       step ∙ ap (λ o. known o p.0 >>= λ i. cond (is_given p.0 (take k pairs)) (Err (Repeated p.0)) (behind i)) e
       ∙ ap (λ t. cond t (Err (Repeated p.0)) (behind i)) f
 
-  pub repeated : (i : ℕ) → row_place m p.0 ≡ Some i → is_given p.0 (take k pairs) ≡ true → entries_of m (take k pairs) (drop k pairs) es ≡ Err (Repeated p.0)
+  pub repeated : (i : ℕ) → row_place m p.0 ≡ Some i → is_given p.0 (take k pairs) ≡ true →
+      entries_of m (take k pairs) (drop k pairs) es ≡ Err (Repeated p.0)
   unfolding so_far
   repeated i e f = at i true e f
 
@@ -54,7 +56,8 @@ pub read : (seen pairs : Pairs) (k : ℕ) (p : Name × ℚ) → seen ≡ pairs �
 read seen pairs k p e here = here ∙ ap (λ xs. get_or xs k p) e
 
 -- the name of the pair at k
-pub named : (seen pairs : Pairs) (k : ℕ) (p : Name × ℚ) (name : Name) → p ≡ get_or pairs k p → k < length pairs → seen ≡ pairs → IfSome (slice_get seen k) (λ q. name ≡ q.0) → name ≡ p.0
+pub named : (seen pairs : Pairs) (k : ℕ) (p : Name × ℚ) (name : Name) → p ≡ get_or pairs k p → k < length pairs →
+    seen ≡ pairs → IfSome (slice_get seen k) (λ q. name ≡ q.0) → name ≡ p.0
 named seen pairs k p name here l e h =
     let at : slice_get seen k ≡ Some p = ap (λ xs. slice_get xs k) e ∙ slice_get-get_or pairs k p l ∙ ap Some (sym here) in
     subst (λ o. IfSome o (λ q. name ≡ q.0)) at h

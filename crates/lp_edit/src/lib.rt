@@ -1,4 +1,4 @@
-//! Edits of a model: rows and columns that come or go, and numbers that change.
+//! Edits of a model: rows and columns that are added or removed, and numbers that change.
 //!
 //! | Item | What it is | Where |
 //! |---|---|---|

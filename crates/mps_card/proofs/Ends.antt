@@ -1,4 +1,4 @@
--- Spaces at the ends of a text, and columns behind the last field.
+-- Spaces at the ends of a text, and columns after the last field.
 use Rattle.std.proofs.Common.{◌≡◌, ℕ, suc, ◌+◌, ◌<◌, ◌≤◌, false, ◌&&◌, cond, List, [], ◌∷◌, ◌++◌, length, get_or, take, refl, sym, ap, ◌∙◌, arith, None, eqb}
 use Rattle.std.specs.List.{list_all}
 use Rattle.std.proofs.Math.Seq.{take-suc as take_suc}
@@ -19,21 +19,24 @@ spaces_end (x ∷ xs) b h = ap (λ t. eqb x 32 && t) (spaces_end xs b h) ∙ and
 
 spaces_stay : (xs : List ℕ) (b : ℕ) → eqb b 32 ≡ false → without_end (xs ++ b ∷ []) ≡ xs ++ b ∷ []
 spaces_stay [] b h = rw h refl
-spaces_stay (x ∷ xs) b h = ap (λ t. cond t [] (x ∷ without_end (xs ++ b ∷ []))) (spaces_end (x ∷ xs) b h) ∙ ap (λ ys. x ∷ ys) (spaces_stay xs b h)
+spaces_stay (x ∷ xs) b h =
+    ap (λ t. cond t [] (x ∷ without_end (xs ++ b ∷ []))) (spaces_end (x ∷ xs) b h) ∙ ap (λ ys. x ∷ ys) (spaces_stay xs b h)
 
--- behind a byte that is no space nothing is taken away
-pub spaces_stop : (xs : List ℕ) (n m : ℕ) → n ≡ suc m → n ≤ length xs → (get_or xs m 0 ≡ 32 → ⊥) → without_end (take n xs) ≡ take n xs
+-- after a byte that is no space nothing is removed
+pub spaces_stop : (xs : List ℕ) (n m : ℕ) → n ≡ suc m → n ≤ length xs → (get_or xs m 0 ≡ 32 → ⊥) →
+    without_end (take n xs) ≡ take n xs
 spaces_stop xs n m q h d =
     let e : take n xs ≡ take m xs ++ get_or xs m 0 ∷ [] = ap (λ k. take k xs) q ∙ take_suc xs m 0 (omega arith) in
     ap without_end e ∙ spaces_stay (take m xs) (get_or xs m 0) (ne_eqb _ _ d) ∙ sym e
 
 -- a space at the end is taken away
-pub spaces_go : (xs : List ℕ) (n m : ℕ) → n ≡ suc m → n ≤ length xs → get_or xs m 0 ≡ 32 → without_end (take m xs) ≡ without_end (take n xs)
+pub spaces_go : (xs : List ℕ) (n m : ℕ) → n ≡ suc m → n ≤ length xs → get_or xs m 0 ≡ 32 →
+    without_end (take m xs) ≡ without_end (take n xs)
 spaces_go xs n m q h d =
     let e : take n xs ≡ take m xs ++ get_or xs m 0 ∷ [] = ap (λ k. take k xs) q ∙ take_suc xs m 0 (omega arith) in
     sym (spaces_away (take m xs)) ∙ ap (λ b. without_end (take m xs ++ b ∷ [])) (sym d) ∙ ap without_end (sym e)
 
--- nothing is misplaced behind column 62
+-- nothing is misplaced after column 62
 pub past_columns : (c : ℕ) (bs : List ℕ) → 62 < c → misplaced_from c bs ≡ None
 past_columns c [] h = refl
 past_columns c (b ∷ bs) h = rw (lt-leb c 62 h, past_columns (c + 1) bs (omega arith)) refl

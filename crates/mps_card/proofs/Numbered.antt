@@ -10,7 +10,8 @@ length-numbered n [] = refl
 length-numbered n (x ∷ xs) = ap suc (length-numbered (n + 1) xs)
 
 -- one more word, unless it is empty
-numbered-push : (n : ℕ) (xs : List (List ℕ)) (w : List ℕ) → numbered_from n (xs ++ filter has_bytes (w ∷ [])) ≡ numbered_from n xs ++ field_of (length xs + n) w
+numbered-push : (n : ℕ) (xs : List (List ℕ)) (w : List ℕ) →
+    numbered_from n (xs ++ filter has_bytes (w ∷ [])) ≡ numbered_from n xs ++ field_of (length xs + n) w
 numbered-push n [] [] = refl
 numbered-push n [] (b ∷ bs) = ap (λ k. record { number = k; text = b ∷ bs } ∷ []) (omega arith)
 numbered-push n (x ∷ xs) w =

@@ -6,7 +6,7 @@ use Rattle.spec_mps.specs.Fields as told
 use Rattle.mps_card.specs.declared.fault.CardFault.{CardFault}
 use Rattle.mps_card.specs.declared.fault.CardFault.TheVariants.{Misplaced, NoMemory}
 
--- the card, or the column that is at fault; want of memory says nothing
+-- the card, or the column that is wrong; if memory runs out it says nothing
 abbrev pub GivesCard : Result (Card Fields) CardFault → CardReading → Type 0
 GivesCard (Ok card) reading = reading ≡ Is card
 GivesCard (Err (Misplaced column)) reading = reading ≡ told.Misplaced column

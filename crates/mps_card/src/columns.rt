@@ -5,7 +5,7 @@ ghost use Rattle.spec_mps.specs.Fields as told;
 use crate::Fields;
 use std::alloc::{AllocError, Global};
 
-/// The column behind the last field, from which on nothing is read.
+/// The column after the last field, from which on nothing is read.
 const LAST_COLUMN: u32 = 62;
 
 fn is_beside(column: u32) -> bool

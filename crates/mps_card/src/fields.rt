@@ -104,7 +104,7 @@ impl Fields {
         Ok(())
     }
 
-    /// Adds a word with the next number, unless it is empty. A number past a `u32` counts as want of memory.
+    /// Adds a word with the next number, unless it is empty. A number past a `u32` counts as running out of memory.
     pub(crate) fn push_word(&mut self, alloc: Global, word: &[u8]) -> Result<(), AllocError>
         ensures { OnOk result (self.new ≡ self.old ++ told.field_of (length self.old + 1) word.now) }
     {

@@ -12,7 +12,8 @@ use Rattle.spec_mps.specs.Reader.{put_entry, with_number}
 use Rattle.spec_mps.specs.Sides.{changed_at}
 
 -- the item at a place is written
-pub changed_at-set : {A : Type 0} (xs : List A) (i : ℕ) (f : A → A) (d : A) → i < length xs → set xs i (f (get_or xs i d)) ≡ changed_at i f xs
+pub changed_at-set : {A : Type 0} (xs : List A) (i : ℕ) (f : A → A) (d : A) → i < length xs →
+    set xs i (f (get_or xs i d)) ≡ changed_at i f xs
 changed_at-set [] i f d l = absurd (omega arith)
 changed_at-set (x ∷ xs) zero f d l = refl
 changed_at-set (x ∷ xs) (suc i) f d l = ap (λ ys. x ∷ ys) (changed_at-set xs i f d (omega arith))
@@ -26,10 +27,12 @@ changed_at-past (x ∷ xs) (suc i) f l = ap (λ ys. x ∷ ys) (changed_at-past x
 pub number_zero : (c : ExactColumn) (i : ℕ) (v : ℚ) → v ≡ 0ℚ → c ≡ with_number c (target.Row i) v
 number_zero c i v e = rw (eq_test v 0ℚ e) refl
 
-pub number_put : (c : ExactColumn) (i : ℕ) (v : ℚ) → (v ≡ 0ℚ → ⊥) → record c { entries = put_entry i v c.entries } ≡ with_number c (target.Row i) v
+pub number_put : (c : ExactColumn) (i : ℕ) (v : ℚ) → (v ≡ 0ℚ → ⊥) →
+    record c { entries = put_entry i v c.entries } ≡ with_number c (target.Row i) v
 number_put c i v n = go (eq_ℚ v 0ℚ) refl
   where
-    go : (b : Bool) → eq_ℚ v 0ℚ ≡ b → record c { entries = put_entry i v c.entries } ≡ cond b c (record c { entries = put_entry i v c.entries })
+    go : (b : Bool) → eq_ℚ v 0ℚ ≡ b →
+        record c { entries = put_entry i v c.entries } ≡ cond b c (record c { entries = put_entry i v c.entries })
     go true e = absurd (n (eq_if v 0ℚ e))
     go false e = refl
 

@@ -34,17 +34,22 @@ without_set [] = refl
 without_set (t ∷ ts) = refl
 
 -- an even number of fields has no set
-pub even_fields : (fs : Fields) → length fs % 2 ≡ 0 → record { set = None; pairs = pairs_of (texts_of fs) } ≡ set_and_pairs (texts_of fs)
+pub even_fields : (fs : Fields) → length fs % 2 ≡ 0 →
+    record { set = None; pairs = pairs_of (texts_of fs) } ≡ set_and_pairs (texts_of fs)
 unfolding set_and_pairs
-even_fields fs h = sym (ap (λ b. set_and_pairs_by b (texts_of fs)) (is_even (texts_of fs) (ap (λ n. n % 2) (length-map fs (λ (f : Field). f.text)) ∙ h)) ∙ without_set (texts_of fs))
+even_fields fs h =
+    sym (ap (λ b. set_and_pairs_by b (texts_of fs)) (is_even (texts_of fs) (ap (λ n. n % 2) (length-map fs (λ (f : Field). f.text)) ∙ h)) ∙ without_set (texts_of fs))
 
 -- an odd one begins with it
-pub odd_fields : (fs : Fields) (t : List ℕ) (f : Field) (rest : Fields) → fs ≡ f ∷ rest → t ≡ f.text → length fs % 2 ≢ 0 → record { set = Some t; pairs = pairs_of (texts_of rest) } ≡ set_and_pairs (texts_of fs)
+pub odd_fields : (fs : Fields) (t : List ℕ) (f : Field) (rest : Fields) → fs ≡ f ∷ rest → t ≡ f.text →
+    length fs % 2 ≢ 0 → record { set = Some t; pairs = pairs_of (texts_of rest) } ≡ set_and_pairs (texts_of fs)
 unfolding set_and_pairs
 odd_fields fs t f rest e k h = rw (k, e) (begins f rest (λ z. h (ap (λ (xs : Fields). length xs % 2) e ∙ z)))
   where
-    begins : (f : Field) (rest : Fields) → length (f ∷ rest) % 2 ≢ 0 → record { set = Some f.text; pairs = pairs_of (texts_of rest) } ≡ set_and_pairs (texts_of (f ∷ rest))
-    begins f rest h = sym (ap (λ b. set_and_pairs_by b (texts_of (f ∷ rest))) (odd_is (texts_of (f ∷ rest)) (λ z. h (sym (ap (λ n. n % 2) (length-map (f ∷ rest) (λ (f : Field). f.text))) ∙ z))))
+    begins : (f : Field) (rest : Fields) → length (f ∷ rest) % 2 ≢ 0 →
+        record { set = Some f.text; pairs = pairs_of (texts_of rest) } ≡ set_and_pairs (texts_of (f ∷ rest))
+    begins f rest h =
+        sym (ap (λ b. set_and_pairs_by b (texts_of (f ∷ rest))) (odd_is (texts_of (f ∷ rest)) (λ z. h (sym (ap (λ n. n % 2) (length-map (f ∷ rest) (λ (f : Field). f.text))) ∙ z))))
 
 -- less than two texts are no pair
 pub few_pairs : (fs : Fields) → length fs < 2 → pairs_of (texts_of fs) ≡ []
@@ -53,7 +58,8 @@ few_pairs (f ∷ []) h = refl
 few_pairs (f ∷ g ∷ fs) h = absurd (omega arith)
 
 -- texts by their places
-pub texts_places : (b : Bool) (ts : List (List ℕ)) → texts_by b (slice_get ts 0) (slice_get ts 1) (slice_get ts 2) (slice_get ts 3) ≡ bound_texts_by b ts
+pub texts_places : (b : Bool) (ts : List (List ℕ)) →
+    texts_by b (slice_get ts 0) (slice_get ts 1) (slice_get ts 2) (slice_get ts 3) ≡ bound_texts_by b ts
 texts_places true [] = refl
 texts_places false [] = refl
 texts_places true (a ∷ []) = refl
@@ -65,7 +71,7 @@ texts_places false (a ∷ b ∷ c ∷ []) = refl
 texts_places true (a ∷ b ∷ c ∷ d ∷ ts) = refl
 texts_places false (a ∷ b ∷ c ∷ d ∷ ts) = refl
 
--- the texts behind a kind
+-- the texts after a kind
 pub bound_texts_are : (style : Style) (kind : BoundKind) (fs : Fields) (shape has_value : Bool) (a b c d : Option Name) (made : Check BoundTexts) → shape ≡ has_shape (bound_shapes style kind) fs → shape ≡ true → has_value ≡ takes_value kind →
     a ≡ slice_get (texts_of (filter (λ f. is_read kind f.number) fs)) 0 → b ≡ slice_get (texts_of (filter (λ f. is_read kind f.number) fs)) 1 → c ≡ slice_get (texts_of (filter (λ f. is_read kind f.number) fs)) 2 →
     d ≡ slice_get (texts_of (filter (λ f. is_read kind f.number) fs)) 3 → made ≡ texts_by has_value a b c d → made ≡ bound_texts style kind fs

@@ -29,7 +29,8 @@ texts_made (Err code) = Err code
 -- the texts of a card by their places
 abbrev pub texts_by : Bool → Option Name → Option Name → Option Name → Option Name → Check told.BoundTexts
 texts_by true (Some column) (Some value) None fourth = Ok (record { set = None; column = column; value = value })
-texts_by true (Some set) (Some column) (Some value) None = Ok (record { set = Some set; column = column; value = value })
+texts_by true (Some set) (Some column) (Some value) None =
+    Ok (record { set = Some set; column = column; value = value })
 texts_by false (Some column) None third fourth = Ok (record { set = None; column = column; value = [] })
 texts_by false (Some set) (Some column) None fourth = Ok (record { set = Some set; column = column; value = [] })
 texts_by has_value first second third fourth = Err code.CardShape

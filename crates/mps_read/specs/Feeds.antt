@@ -8,7 +8,7 @@ use Rattle.mps_read.specs.declared.reader.Feed.{Feed}
 use Rattle.mps_read.specs.declared.reader.Feed.TheVariants as feed
 use Rattle.mps_read.specs.TextRead.{TextRead}
 
--- the text goes on behind line n
+-- the text continues after line n
 pub record GoesOn (outcome : Outcome) (form : Style) (n : ℕ) (new : TextRead) : Type 0 where
   pub state : outcome ≡ Ok (told.More new.state)
   pub style : new.style ≡ form
@@ -19,7 +19,7 @@ pub record IsRefused (outcome : Outcome) (n : ℕ) (fault : MpsFault) : Type 0 w
   pub line : fault.line ≡ n
   pub code : outcome ≡ Err fault.code
 
--- the answer at line n of what its step leads to; want of memory says nothing
+-- the answer at line n of what its step leads to; if memory runs out it says nothing
 abbrev pub Feeds : Outcome → Style → ℕ → TextRead → Feed → Type 0
 Feeds outcome style n new feed.More = GoesOn outcome style n new
 Feeds outcome style n new (feed.Done m) = outcome ≡ Ok (told.Done m)

@@ -63,7 +63,7 @@ fn text_read(kind: BoundKind, fields: &[Field], place: usize) -> Option<&[u8]>
     None
 }
 
-// The texts behind the kind, by their places.
+// The texts after the kind, by their places.
 fn texts_by<'a>(
     has_value: bool,
     first: Option<&'a [u8]>,

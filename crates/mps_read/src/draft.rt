@@ -23,7 +23,7 @@ pub(crate) struct Draft {
     pub(crate) name: Option<Name>,
     pub(crate) sense: Option<Sense>,
     pub(crate) objective: Option<Name>,
-    /// The rows of type N behind the objective.
+    /// The rows of type N after the objective.
     pub(crate) dropped: Vec<Name>,
     pub(crate) rows: Rows,
     pub(crate) offset: Frac,

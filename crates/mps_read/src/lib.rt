@@ -45,9 +45,9 @@ ghost use Rattle.mps_read.specs.Leads.{Leads};
 pub use reader::{Feed, Reader};
 pub use spec_mps::{Code, MpsFault, Style};
 
-/// The answers at the lines of a text, one by one, are the verdict on the text. Behind lines that lead to a state, a line
+/// The answers at the lines of a text, one by one, are the verdict on the text. After lines that lead to a state, a line
 /// leads further, or ends the text, which spells that model whatever follows, or is wrong, and refuses the text there.
-/// Where no line follows, the line that would come next is at fault.
+/// Where no line follows, the line that would come next is wrong.
 pub fn answers_are_the_verdict()
     ensures longer { (style : Style) (lines : List (Line (List ℕ))) (line : Line (List ℕ)) (s t : State) →
         Leads style start lines s → step style s line ≡ Ok (More t) → Leads style start (lines ++ line ∷ []) t }

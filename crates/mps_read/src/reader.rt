@@ -19,7 +19,7 @@ use std::{marker, mem};
 /// What a line is answered.
 #[derive(Drop)]
 pub enum Feed {
-    /// The text goes on.
+    /// The text continues.
     More,
     /// It has ended, and spells this model.
     Done(Model),

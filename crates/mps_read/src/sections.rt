@@ -45,7 +45,7 @@ fn with_section(mut seen: Seen, part: Section) -> Seen
     seen
 }
 
-// NAME and OBJSENSE stand before ROWS, and RHS, RANGES, BOUNDS and ENDATA behind COLUMNS.
+// NAME and OBJSENSE stand before ROWS, and RHS, RANGES, BOUNDS and ENDATA after COLUMNS.
 fn may_follow(seen: Seen, part: Section) -> bool
     ensures { result ≡ told.may_follow seen part }
 {

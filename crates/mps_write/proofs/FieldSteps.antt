@@ -13,15 +13,20 @@ use Rattle.mps_write.specs.declared.line.Field as code
 use Rattle.mps_write.specs.Adds.{IsAdded, Names, fields_of, is_wide_in, wide_field, wide_in}
 use Rattle.mps_write.proofs.AddSteps.{first_none, first_some}
 
-with_fields-append : (style : Style) (line : List ℕ) (fs gs : Fields) → with_fields style line (fs ++ gs) ≡ with_fields style (with_fields style line fs) gs
+with_fields-append : (style : Style) (line : List ℕ) (fs gs : Fields) →
+    with_fields style line (fs ++ gs) ≡ with_fields style (with_fields style line fs) gs
 with_fields-append style line [] gs = refl
 with_fields-append style line (f ∷ fs) gs = with_fields-append style (padded style f.number line ++ f.text) fs gs
 
-wide_behind : (style : Style) (fs gs : Fields) → wide_field style fs ≡ None → wide_field style (fs ++ gs) ≡ wide_field style gs
-wide_behind style fs gs h = ap (option_map (λ f. f.text)) (find-append (is_wide_in style) fs gs) ∙ first_none (find (is_wide_in style) fs) (find (is_wide_in style) gs) h
+wide_behind : (style : Style) (fs gs : Fields) → wide_field style fs ≡ None →
+    wide_field style (fs ++ gs) ≡ wide_field style gs
+wide_behind style fs gs h =
+    ap (option_map (λ f. f.text)) (find-append (is_wide_in style) fs gs) ∙ first_none (find (is_wide_in style) fs) (find (is_wide_in style) gs) h
 
-wide_first : (style : Style) (fs gs : Fields) (item : List ℕ) → wide_field style fs ≡ Some item → wide_field style (fs ++ gs) ≡ Some item
-wide_first style fs gs item h = ap (option_map (λ f. f.text)) (find-append (is_wide_in style) fs gs) ∙ first_some (find (is_wide_in style) fs) (find (is_wide_in style) gs) item h
+wide_first : (style : Style) (fs gs : Fields) (item : List ℕ) → wide_field style fs ≡ Some item →
+    wide_field style (fs ++ gs) ≡ Some item
+wide_first style fs gs item h =
+    ap (option_map (λ f. f.text)) (find-append (is_wide_in style) fs gs) ∙ first_some (find (is_wide_in style) fs) (find (is_wide_in style) gs) item h
 
 wide_one : (style : Style) (f : Field) → is_wide_in style f ≡ true → wide_field style (f ∷ []) ≡ Some f.text
 wide_one style f h = rw h refl
@@ -48,7 +53,8 @@ module _ (style : Style) (fs : List (code.Field (Bor (List ℕ)))) (i : ℕ) (d 
   fields_all : fields_of fs ≡ fields_of (take (i + 1) fs) ++ fields_of (drop (i + 1) fs)
   fields_all = ap (map seen) (sym (take-append-drop (i + 1) fs)) ∙ map-append seen (take (i + 1) fs) (drop (i + 1) fs)
 
-  pub puts_stops : wide_field style (fields_of (take i fs)) ≡ None → is_wide_in style (seen (get_or fs i d)) ≡ true → wide_field style (fields_of fs) ≡ Some (get_or fs i d).text.now
+  pub puts_stops : wide_field style (fields_of (take i fs)) ≡ None → is_wide_in style (seen (get_or fs i d)) ≡ true →
+      wide_field style (fields_of fs) ≡ Some (get_or fs i d).text.now
   puts_stops narrow wide =
       ap (wide_field style) fields_all ∙ wide_first style (fields_of (take (i + 1) fs)) (fields_of (drop (i + 1) fs)) (get_or fs i d).text.now
       (ap (wide_field style) fields_next ∙ wide_behind style (fields_of (take i fs)) (seen (get_or fs i d) ∷ []) narrow ∙ wide_one style (seen (get_or fs i d)) wide)
@@ -69,16 +75,18 @@ pub wide_card : (style : Style) (fs : Fields) → wide_in style (Data fs ∷ [])
 wide_card Free fs = sym (free_narrow fs)
 wide_card Fixed fs = ap (λ gs. wide_field Fixed gs) (append-nil fs)
 
-pub card_stops : (style : Style) (fs : Fields) (fault : WriteFault) → Names (wide_field style fs) fault → Names (wide_in style (Data fs ∷ [])) fault
+pub card_stops : (style : Style) (fs : Fields) (fault : WriteFault) → Names (wide_field style fs) fault →
+    Names (wide_in style (Data fs ∷ [])) fault
 card_stops style fs (TooWide item) h = wide_card style fs ∙ h
 card_stops style fs NoMemory h = tt
 
--- a line feed behind the line, and the line behind the text
+-- a line feed after the line, and the line after the text
 pub card_done : (style : Style) (fs : Fields) (start line ended shown text next : List ℕ)
     → (wide_field style fs ≡ None) × (line ≡ with_fields style start fs) → start ≡ [] → ended ≡ line ++ 10 ∷ [] → shown ≡ ended → next ≡ text ++ shown
     → IsAdded style (Data fs ∷ []) text next
 card_done style fs start line ended shown text next puts empty end same put =
     record {
       narrow = wide_card style fs ∙ puts.0;
-      text = put ∙ ap (λ t. text ++ t) (same ∙ end ∙ ap (λ l. l ++ 10 ∷ []) (puts.1 ∙ ap (λ l. with_fields style l fs) empty) ∙ sym (append-nil (with_fields style [] fs ++ 10 ∷ [])));
+      text =
+          put ∙ ap (λ t. text ++ t) (same ∙ end ∙ ap (λ l. l ++ 10 ∷ []) (puts.1 ∙ ap (λ l. with_fields style l fs) empty) ∙ sym (append-nil (with_fields style [] fs ++ 10 ∷ [])));
     }

@@ -28,9 +28,10 @@ abbrev pub Names : Option (List ℕ) → WriteFault → Type 0
 Names wide (TooWide item) = wide ≡ Some item
 Names wide NoMemory = Unit {0}
 
--- all fields stand behind the line, or the first that has no room is the fault
+-- all fields follow the line, or the first that has no room is the fault
 abbrev pub PutsFields : Style → Fields → List ℕ → List ℕ → Result ⊤ WriteFault → Type 0
-PutsFields style fields before after (Ok done) = (wide_field style fields ≡ None) × (after ≡ with_fields style before fields)
+PutsFields style fields before after (Ok done) =
+    (wide_field style fields ≡ None) × (after ≡ with_fields style before fields)
 PutsFields style fields before after (Err fault) = Names (wide_field style fields) fault
 
 -- the first field of cards that has no room
@@ -38,7 +39,7 @@ abbrev pub wide_in : Style → WrittenCards → Option (List ℕ)
 wide_in Free cards = None
 wide_in Fixed cards = first_wide cards
 
--- the lines of the cards stand behind the text, and all their fields have room
+-- the lines of the cards follow the text, and all their fields have room
 pub record IsAdded (style : Style) (cards : WrittenCards) (before after : List ℕ) : Type 0 where
   pub narrow : wide_in style cards ≡ None
   pub text : after ≡ before ++ cards_text style cards
@@ -48,7 +49,7 @@ abbrev pub Adds : Style → WrittenCards → List ℕ → List ℕ → Result �
 Adds style cards before after (Ok done) = IsAdded style cards before after
 Adds style cards before after (Err fault) = Names (wide_in style cards) fault
 
--- the cards up to those of COLUMNS, and those behind them
+-- the cards up to those of COLUMNS, and those after them
 abbrev pub front_cards : Model → WrittenCards
 front_cards m = name_card m.name ∷ sense_cards m.sense ++ rows_cards m ++ columns_cards m
 

@@ -33,7 +33,7 @@ fn field_width(number: u32) -> usize
     }
 }
 
-/// Blanks behind a line until it has so many bytes.
+/// Blanks after a line until it has this many bytes.
 fn pad(width: usize, line: &mut Bytes) -> Result<(), AllocError>
     ensures { OnOk result (line.new ≡ line.old ++ replicate (width - length line.old) 32) }
 {
@@ -58,7 +58,7 @@ pub(crate) struct Writer {
 }
 
 impl Writer {
-    // A field behind a line, whatever its width.
+    // A field after a line, whatever its width.
     fn place(&self, number: u32, text: &[u8], line: &mut Bytes) -> Result<(), AllocError>
         ensures { OnOk result (line.new ≡ told.padded self.now.style number line.old ++ text.now) }
     {
@@ -75,7 +75,7 @@ impl Writer {
         self.style == Style::Fixed && text.len() > field_width(number)
     }
 
-    // Fields behind a line.
+    // Fields after a line.
     fn fields(&self, fields: &[Field<&[u8]>], line: &mut Bytes) -> Result<(), WriteFault>
         ensures { PutsFields self.now.style (fields_of fields.now) line.old line.new result }
     {

@@ -36,7 +36,7 @@ impl Writer {
         self.columns(model, to)
     }
 
-    // What stands behind `COLUMNS`.
+    // What follows `COLUMNS`.
     fn back(&self, model: &Model, to: &mut Bytes) -> Result<(), WriteFault>
         ensures { Adds self.now.style (back_cards model.now) to.old to.new result }
     {

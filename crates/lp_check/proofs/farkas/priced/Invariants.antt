@@ -8,4 +8,5 @@ use Rattle.lp_check.proofs.farkas.priced.Given as goal
 
 -- the sum so far
 abbrev pub invariant-loop-i : goal.invariant-loop-i
-invariant-loop-i l = run.each_from 0ℚ l.i (λ k s. run.plus_product (Some largest) (part l.y k) (coefficient l.model k l.j) s) ≡ Ok l.sum
+invariant-loop-i l =
+    run.each_from 0ℚ l.i (λ k s. run.plus_product (Some largest) (part l.y k) (coefficient l.model k l.j) s) ≡ Ok l.sum

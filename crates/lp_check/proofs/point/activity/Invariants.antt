@@ -8,4 +8,5 @@ use Rattle.lp_check.proofs.point.activity.Given as goal
 
 -- the sum so far
 abbrev pub invariant-loop-j : goal.invariant-loop-j
-invariant-loop-j l = run.each_from 0ℚ l.j (λ k s. run.plus_product (Some largest) (coefficient l.model l.i k) (part l.x k) s) ≡ Ok l.sum
+invariant-loop-j l =
+    run.each_from 0ℚ l.j (λ k s. run.plus_product (Some largest) (coefficient l.model l.i k) (part l.x k) s) ≡ Ok l.sum

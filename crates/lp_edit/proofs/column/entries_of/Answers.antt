@@ -50,9 +50,11 @@ loop-place-preserved c =
       answer =
           ap (entries_of m (take (c.loop-place.place + 1) c.args.pairs) (drop (c.loop-place.place + 1) c.args.pairs)) put
           ∙ goes_on m c.args.pairs c.loop-place.place c.loop-place.entries p here l c.in-Some.row some new ∙ c.loop-place.invariant.answer;
-      kept = subst (AreEntries (height m)) (sym put) (with_entry-kept (height m) c.in-Some.row p.1 c.loop-place.entries c.loop-place.invariant.kept c.in-Some.ensures.inside);
+      kept =
+          subst (AreEntries (height m)) (sym put) (with_entry-kept (height m) c.in-Some.row p.1 c.loop-place.entries c.loop-place.invariant.kept c.in-Some.ensures.inside);
       pairs = c.loop-place.invariant.pairs;
-      narrow = subst (All (λ (e : ℕ × ℚ). IsNarrow e.1)) (sym put) (with_entry-narrow c.in-Some.row p.1 c.loop-place.entries c.loop-place.invariant.narrow c.in_ok-put_entry.ensures.narrow);
+      narrow =
+          subst (All (λ (e : ℕ × ℚ). IsNarrow e.1)) (sym put) (with_entry-narrow c.in-Some.row p.1 c.loop-place.entries c.loop-place.invariant.narrow c.in_ok-put_entry.ensures.narrow);
     }
 
 pub returns-clause-answer : goal.returns-clause-answer

@@ -11,7 +11,8 @@ use Rattle.spec_model.specs.Kept.{IsModel, IsKeptColumn, IsNarrowRow, IsNarrowCo
 use Rattle.spec_edit.proofs.NewColumns.{zero_narrow}
 use Rattle.lp_edit.proofs.tests.empty.Goals as goal
 
-of_nothing : (sense : Sense) → IsModel (record { name = []; sense = sense; objective = codes "COST"; offset = 0ℚ; rows = []; columns = [] })
+of_nothing : (sense : Sense) →
+    IsModel (record { name = []; sense = sense; objective = codes "COST"; offset = 0ℚ; rows = []; columns = [] })
 unfolding is_name is_row_name is_model_name
 of_nothing sense =
     record {
@@ -29,4 +30,5 @@ of_nothing sense =
     }
 
 pub new-requires-3 : goal.new-requires-3
-new-requires-3 c = rw (c.in_ok-from_slice.ensures, c.in_ok-from_slice-2.ensures, c.zero.ensures, c.new.ensures.items, c.new-2.ensures.items) (of_nothing Min)
+new-requires-3 c =
+    rw (c.in_ok-from_slice.ensures, c.in_ok-from_slice-2.ensures, c.zero.ensures, c.new.ensures.items, c.new-2.ensures.items) (of_nothing Min)

@@ -13,7 +13,9 @@ use Rattle.mps_card.proofs.Numbered.{next_word}
 use Rattle.mps_card.proofs.words.word_fields.Goals as goal
 
 -- what a loop has seen at its end, with the list that is wanted named last
-seen_at_end : {S A B : Type 0} {steps : S → Option A → S → Type 0} {s : S} (xs : List A) (t : S) → Yields steps s xs t → (r : Option A) (u : S) → r ≡ None → steps t r u → (v : A → B) (all : List B) → YieldsList steps v s all → map v xs ≡ all
+seen_at_end : {S A B : Type 0} {steps : S → Option A → S → Type 0} {s : S} (xs : List A) (t : S) → Yields steps s xs t →
+    (r : Option A) (u : S) → r ≡ None → steps t r u → (v : A → B) (all : List B) → YieldsList steps v s all →
+    map v xs ≡ all
 seen_at_end xs t y r u is gave v all e = (YieldsList-end e xs t y r u is gave).0
 
 pub returns : goal.returns

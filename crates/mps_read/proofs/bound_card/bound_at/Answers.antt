@@ -10,4 +10,5 @@ returns-then-place-columns c =
     ∙ changed_at-set c.args.columns.now c.args.place (bounded c.args.lowered (bound_seen c.args.card.now)) c.index-columns-place.result c.if-place-columns.true
 
 pub returns-else-place-columns : goal.returns-else-place-columns
-returns-else-place-columns c = changed_at-past c.args.columns.now c.args.place (bounded c.args.lowered (bound_seen c.args.card.now)) c.if-place-columns.false
+returns-else-place-columns c =
+    changed_at-past c.args.columns.now c.args.place (bounded c.args.lowered (bound_seen c.args.card.now)) c.if-place-columns.false

@@ -5,4 +5,5 @@ use Rattle.mps_read.proofs.column.place_for.Given as goal
 
 -- the entries that were passed over stay before the new one
 abbrev pub invariant-loop-place : goal.invariant-loop-place
-invariant-loop-place l = (v : ℚ) → take l.place l.entries ++ put_entry l.row v (drop l.place l.entries) ≡ put_entry l.row v l.entries
+invariant-loop-place l =
+    (v : ℚ) → take l.place l.entries ++ put_entry l.row v (drop l.place l.entries) ≡ put_entry l.row v l.entries

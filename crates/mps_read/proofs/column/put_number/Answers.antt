@@ -5,8 +5,10 @@ use Rattle.mps_read.proofs.column.put_number.Goals as goal
 
 pub returns-in_ok-put_entry-in-Row : goal.returns-in_ok-put_entry-in-Row
 returns-in_ok-put_entry-in-Row c =
-    let not_zero : c.args.value ≡ 0ℚ → ⊥ = λ e. let t : c.is_zero.result ≡ true = c.is_zero.ensures.1 e in let f : c.is_zero.result ≡ false = c.if-not-is_zero.true in cc in
+    let not_zero : c.args.value ≡ 0ℚ → ⊥ = λ e. let t : c.is_zero.result ≡ true = c.is_zero.ensures.1 e in
+    let f : c.is_zero.result ≡ false = c.if-not-is_zero.true in cc in
     rw (c.in-Row.is, c.in_ok-put_entry-in-Row.ensures) (number_put c.args.column.now c.in-Row.row c.args.value not_zero)
 
 pub returns-else-not-is_zero : goal.returns-else-not-is_zero
-returns-else-not-is_zero c = rw (c.in-Row.is) (number_zero c.args.column.now c.in-Row.row c.args.value (c.is_zero.ensures.0 c.if-not-is_zero.false))
+returns-else-not-is_zero c =
+    rw (c.in-Row.is) (number_zero c.args.column.now c.in-Row.row c.args.value (c.is_zero.ensures.0 c.if-not-is_zero.false))

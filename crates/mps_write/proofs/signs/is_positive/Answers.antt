@@ -6,4 +6,5 @@ use Rattle.mps_write.proofs.SignSteps.{positive_test}
 use Rattle.mps_write.proofs.signs.is_positive.Goals as goal
 
 pub returns : goal.returns
-returns c = ap (int_lt (pos 0)) (to_z-of_z w128 c.num.result (search rules) ∙ c.num.ensures.value) ∙ positive_test c.args.v
+returns c =
+    ap (int_lt (pos 0)) (to_z-of_z w128 c.num.result (search rules) ∙ c.num.ensures.value) ∙ positive_test c.args.v

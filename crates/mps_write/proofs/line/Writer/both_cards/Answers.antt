@@ -10,7 +10,8 @@ pub returns-then-is_equal : goal.returns-then-is_equal
 returns-then-is_equal c = rw (sym c.is_equal.ensures ∙ c.if-is_equal.true) c.bound_card.ensures
 
 pub returns-then-is_up_from_zero : goal.returns-then-is_up_from_zero
-returns-then-is_up_from_zero c = rw (sym c.is_equal.ensures ∙ c.if-is_equal.false, sym c.is_up_from_zero.ensures ∙ c.if-is_up_from_zero.true) c.bound_card-then-is_up_from_zero.ensures
+returns-then-is_up_from_zero c =
+    rw (sym c.is_equal.ensures ∙ c.if-is_equal.false, sym c.is_up_from_zero.ensures ∙ c.if-is_up_from_zero.true) c.bound_card-then-is_up_from_zero.ensures
 
 pub returns-in_err-bound_card : goal.returns-in_err-bound_card
 returns-in_err-bound_card c =

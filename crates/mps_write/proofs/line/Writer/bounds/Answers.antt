@@ -8,7 +8,8 @@ use Rattle.mps_write.proofs.line.Writer.bounds.Goals as goal
 
 pub returns-then-not-has_bounds : goal.returns-then-not-has_bounds
 unfolding bounds_cards
-returns-then-not-has_bounds c = rw (sym c.has_bounds.ensures ∙ c.if-not-has_bounds.true) (nothing c.args.self.now.style c.args.to.now)
+returns-then-not-has_bounds c =
+    rw (sym c.has_bounds.ensures ∙ c.if-not-has_bounds.true) (nothing c.args.self.now.style c.args.to.now)
 
 pub returns : goal.returns
 unfolding bounds_cards

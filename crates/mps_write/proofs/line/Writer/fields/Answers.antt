@@ -1,4 +1,4 @@
--- One more field has room and stands behind the line, or it is the first without room.
+-- One more field has room and follows the line, or it is the first without room.
 use Rattle.std.proofs.Common.{refl, sym, ◌∙◌, ap, Some, arith}
 use Rattle.mps_write.proofs.FieldSteps.{puts_next, puts_stops, puts_done}
 use Rattle.mps_write.proofs.line.Writer.fields.Goals as goal
@@ -16,4 +16,5 @@ returns-then-is_wide c =
     puts_stops c.args.self.now.style c.args.fields.now c.loop-field.field-index _ (omega arith) c.loop-field.invariant.0 (sym c.is_wide.ensures ∙ c.if-is_wide.true) ∙ ap Some (sym c.in_ok-from_slice.ensures)
 
 pub returns : goal.returns
-returns c = puts_done c.args.self.now.style c.args.fields.now c.loop-field.field-index c.args.line.now c.loop-field.line (omega arith) c.loop-field.invariant.0 c.loop-field.invariant.1
+returns c =
+    puts_done c.args.self.now.style c.args.fields.now c.loop-field.field-index c.args.line.now c.loop-field.line (omega arith) c.loop-field.invariant.0 c.loop-field.invariant.1

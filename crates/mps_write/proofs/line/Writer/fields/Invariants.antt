@@ -1,4 +1,4 @@
--- The fields so far have room, and stand behind the line.
+-- The fields so far have room, and follow the line.
 use Rattle.std.proofs.Common.{◌≡◌, None, take}
 use Rattle.spec_mps.specs.Written.{with_fields}
 use Rattle.mps_write.specs.Adds.{fields_of, wide_field}

@@ -8,7 +8,8 @@ use Rattle.mps_write.proofs.line.Writer.ranges.Goals as goal
 
 pub returns-then-not-has_ranges : goal.returns-then-not-has_ranges
 unfolding ranges_cards
-returns-then-not-has_ranges c = rw (sym c.has_ranges.ensures ∙ c.if-not-has_ranges.true) (nothing c.args.self.now.style c.args.to.now)
+returns-then-not-has_ranges c =
+    rw (sym c.has_ranges.ensures ∙ c.if-not-has_ranges.true) (nothing c.args.self.now.style c.args.to.now)
 
 pub returns : goal.returns
 unfolding ranges_cards
