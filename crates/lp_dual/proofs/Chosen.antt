@@ -14,7 +14,8 @@ use Rattle.spec_warm.proofs.Fits.{IsLeaving, leaving_is}
 use Rattle.lp_dual.specs.Starts.{HasPlace, IsSeated, CanEnter}
 use Rattle.lp_dual.proofs.Enters.{MayEnter, best_enters}
 
-passed : (below : Bool) (lower upper : Option ℚ) (v c : ℚ) → IsPast (way below) lower upper v c → NamesBound (passed_bound below) lower upper c
+passed : (below : Bool) (lower upper : Option ℚ) (v c : ℚ) → IsPast (way below) lower upper v c →
+    NamesBound (passed_bound below) lower upper c
 passed true lower upper v c h = h.0
 passed false lower upper v c h = h.0
 
@@ -23,12 +24,14 @@ module _ (limit : Option ℕ) (t : Tableau) (s : IsSeated t) (x : Leaving) (h : 
   out = leaving_is limit t (Some x) h
 
   there : (place_of t x.col < t.rows) × (basic_at t (place_of t x.col) ≡ x.col)
-  there = let p : HasPlace t x.col = s.places x.col out.inside out.basic in place_is t x.col t.rows p.place p.inside p.holds
+  there =
+      let p : HasPlace t x.col = s.places x.col out.inside out.basic in place_is t x.col t.rows p.place p.inside p.holds
 
   pub place_inside : place_of t x.col < t.rows
   place_inside = there.0
 
-  pub can_enter : (best : Cheapest ℚ) → cheapest_run limit t (place_of t x.col) x.below ≡ Ok (Some best) → CanEnter t (place_of t x.col) best.col (passed_bound x.below)
+  pub can_enter : (best : Cheapest ℚ) → cheapest_run limit t (place_of t x.col) x.below ≡ Ok (Some best) →
+      CanEnter t (place_of t x.col) best.col (passed_bound x.below)
   can_enter best g =
       let m : MayEnter t (place_of t x.col) x.below best.col = best_enters limit t (place_of t x.col) x.below best g in
       record {
@@ -36,5 +39,6 @@ module _ (limit : Option ℕ) (t : Tableau) (s : IsSeated t) (x : Leaving) (h : 
         column = m.inside;
         nonbasic = m.nonbasic;
         entry = m.entry;
-        bound = (out.bound, subst (λ k. NamesBound (passed_bound x.below) (lower_at t k) (upper_at t k) out.bound) (sym there.1) (passed x.below _ _ _ out.bound out.past));
+        bound =
+            (out.bound, subst (λ k. NamesBound (passed_bound x.below) (lower_at t k) (upper_at t k) out.bound) (sym there.1) (passed x.below _ _ _ out.bound out.past));
       }

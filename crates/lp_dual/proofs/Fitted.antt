@@ -27,13 +27,16 @@ module _ (limit : Option ℕ) (m n : ℕ) (f : Matrix) (cost : ℕ → ℚ) (b :
   can_flip k l e = by (is_fixed (lower_at t k) (upper_at t k)) e (fit_is limit t Dual h k l)
     where
       stands : Stands (status_at t k) (lower_at t k) (upper_at t k) (value_at t k)
-      stands = subst₂ (λ low high. Stands (status_at t k) low high (value_at t k)) (sym (lower_same f cost b t own k l)) (sym (upper_same f cost b t own k l)) (own.tableau.stands k l)
+      stands =
+          subst₂ (λ low high. Stands (status_at t k) low high (value_at t k)) (sym (lower_same f cost b t own k l)) (sym (upper_same f cost b t own k l)) (own.tableau.stands k l)
 
-      by : (c : Bool) → not c && needs_flip (status_at t k) (reduced_at t k) ≡ true → c || meets_need (status_at t k) (reduced_at t k) (lower_at t k) (upper_at t k) ≡ true → CanFlip t k
+      by : (c : Bool) → not c && needs_flip (status_at t k) (reduced_at t k) ≡ true →
+          c || meets_need (status_at t k) (reduced_at t k) (lower_at t k) (upper_at t k) ≡ true → CanFlip t k
       by true e g = let z : false ≡ true = e in cc
       by false e g =
           let w = wrong (status_at t k) (reduced_at t k) (value_at t k) (lower_at t k) (upper_at t k) stands g e in
           record { column = l; nonbasic = not_basic (way w.0) (status_at t k) w.1.can_move; lower = w.1.low; upper = w.1.high }
 
   pub can_start : IsDualStart t
-  can_start = record { seated = record { all_basic = s.whole.all_basic; all_statuses = s.whole.all_statuses; places = place }; flips = can_flip }
+  can_start =
+      record { seated = record { all_basic = s.whole.all_basic; all_statuses = s.whole.all_statuses; places = place }; flips = can_flip }

@@ -16,7 +16,8 @@ use Rattle.lp_primal.proofs.Ratios.{difference_ok, quotient_ok}
 use Rattle.lp_dual.specs.Starts.{HasPlace, IsSeated, CanEnter}
 
 -- ---- it may be made
-stands_there : (to : Status) (lower upper : Option ℚ) (v : ℚ) → NamesBound to lower upper v → NamesBound to lower upper (stand to lower upper)
+stands_there : (to : Status) (lower upper : Option ℚ) (v : ℚ) → NamesBound to lower upper v →
+    NamesBound to lower upper (stand to lower upper)
 stands_there Basic lower upper v h = h
 stands_there AtLower lower upper v h = h ∙ ap (λ b. Some (or_zero b)) (sym h)
 stands_there AtUpper lower upper v h = h ∙ ap (λ b. Some (or_zero b)) (sym h)
@@ -30,7 +31,8 @@ can_pivot limit t p j to gap theta c g q = record {
   column = c.column;
   nonbasic = c.nonbasic;
   entry = c.entry;
-  lands = subst (NamesBound to (lower_at t (basic_at t p)) (upper_at t (basic_at t p))) (sym landed) (stands_there to (lower_at t (basic_at t p)) (upper_at t (basic_at t p)) c.bound.0 c.bound.1);
+  lands =
+      subst (NamesBound to (lower_at t (basic_at t p)) (upper_at t (basic_at t p))) (sym landed) (stands_there to (lower_at t (basic_at t p)) (upper_at t (basic_at t p)) c.bound.0 c.bound.1);
 }
   where
     less : (v b : ℚ) → v -ℚ (v -ℚ b) ≡ b
@@ -59,7 +61,8 @@ module _ (t : Tableau) (s : IsSeated t) (p j : ℕ) (to : Status) (c : CanEnter 
   seat_at k l e = ⊎_elim same other (cases_eq k j)
     where
       same : k ≡ j → HasPlace after k
-      same z = record { place = p; inside = c.place; holds = get_or-set_same t.basic p j 0 (omega (arith, c.place, s.all_basic)) ∙ sym z }
+      same z =
+          record { place = p; inside = c.place; holds = get_or-set_same t.basic p j 0 (omega (arith, c.place, s.all_basic)) ∙ sym z }
 
       other : k ≢ j → HasPlace after k
       other n = record { place = seat.place; inside = seat.inside; holds = get_or-set_other t.basic p seat.place j 0 elsewhere ∙ seat.holds }
@@ -84,7 +87,8 @@ module _ (t : Tableau) (s : IsSeated t) (p j : ℕ) (to : Status) (c : CanEnter 
     places = seat_at;
   }
 
-pub pivot_seated : (limit : Option ℕ) (t u : Tableau) (p j : ℕ) (to : Status) → IsSeated t → CanEnter t p j to → dual_pivot_run limit t p j to ≡ Ok u → IsSeated u
+pub pivot_seated : (limit : Option ℕ) (t u : Tableau) (p j : ℕ) (to : Status) → IsSeated t → CanEnter t p j to →
+    dual_pivot_run limit t p j to ≡ Ok u → IsSeated u
 unfolding dual_pivot_run pivot_run
 pivot_seated limit t u p j to s c h =
     let gap = then_ok (difference_run limit (value_at t (basic_at t p)) (stand to (lower_at t (basic_at t p)) (upper_at t (basic_at t p)))) _ u h in

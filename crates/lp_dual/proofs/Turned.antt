@@ -29,20 +29,24 @@ module _ (t : Tableau) (s : IsSeated t) (j : ℕ) (inside : j < all_columns t) (
   status_other k n = get_or-set_other t.status j k to Basic n
 
   not_the_one : (k : ℕ) → status_at after k ≡ Basic → k ≢ j
-  not_the_one k e z = bound (sym (get_or-set_same t.status j to Basic (omega (arith, inside, s.all_statuses))) ∙ ap (status_at after) (sym z) ∙ e)
+  not_the_one k e z =
+      bound (sym (get_or-set_same t.status j to Basic (omega (arith, inside, s.all_statuses))) ∙ ap (status_at after) (sym z) ∙ e)
 
   seated_after : IsSeated after
   seated_after = record {
     all_basic = s.all_basic;
     all_statuses = length-set t.status j to ∙ s.all_statuses;
-    places = λ k l e. let p : HasPlace t k = s.places k l (sym (status_other k (not_the_one k e)) ∙ e) in record { place = p.place; inside = p.inside; holds = p.holds };
+    places =
+        λ k l e. let p : HasPlace t k = s.places k l (sym (status_other k (not_the_one k e)) ∙ e) in record { place = p.place; inside = p.inside; holds = p.holds };
   }
 
   needs_other : (k : ℕ) → k ≢ j → needs_flip_at after k ≡ needs_flip_at t k
-  needs_other k n = ap (λ s. not (is_fixed (lower_at t k) (upper_at t k)) && needs_flip s (reduced_at t k)) (status_other k n)
+  needs_other k n =
+      ap (λ s. not (is_fixed (lower_at t k) (upper_at t k)) && needs_flip s (reduced_at t k)) (status_other k n)
 
   can_other : (k : ℕ) → k ≢ j → CanFlip t k → CanFlip after k
-  can_other k n c = record { column = c.column; nonbasic = λ e. c.nonbasic (sym (status_other k n) ∙ e); lower = c.lower; upper = c.upper }
+  can_other k n c =
+      record { column = c.column; nonbasic = λ e. c.nonbasic (sym (status_other k n) ∙ e); lower = c.lower; upper = c.upper }
 
 -- ---- all of them
 abbrev flip_at : Option ℕ → ℕ → ℕ → Reached → Result Reached (RunStop ℚ)
@@ -62,22 +66,28 @@ module _ (limit : Option ℕ) (budget : ℕ) (first : Tableau) where
   pub flips_begin : IsDualStart first → Flipping limit budget first 0 (begun first)
   flips_begin g = record { so_far = refl; columns = refl; seated = g.seated; late = λ j l i e. g.flips j i e }
 
-  pub flips_pass : (k : ℕ) (r : Reached) → Flipping limit budget first k r → needs_flip_at r.tableau k ≡ false → Flipping limit budget first (k + 1) r
+  pub flips_pass : (k : ℕ) (r : Reached) → Flipping limit budget first k r → needs_flip_at r.tableau k ≡ false →
+      Flipping limit budget first (k + 1) r
   flips_pass k r v e = record {
-    so_far = steps_more k (flip_at limit budget) (begun first) r r v.so_far (ap (λ b. cond b (flip_next limit budget k r) (Ok r)) e);
+    so_far =
+        steps_more k (flip_at limit budget) (begun first) r r v.so_far (ap (λ b. cond b (flip_next limit budget k r) (Ok r)) e);
     columns = v.columns;
     seated = v.seated;
     late = λ j l. v.late j (omega (arith, l));
   }
 
-  needed : (k : ℕ) (r : Reached) (o : Result Reached (RunStop ℚ)) → needs_flip_at r.tableau k ≡ true → flip_next limit budget k r ≡ o → flip_at limit budget k r ≡ o
+  needed : (k : ℕ) (r : Reached) (o : Result Reached (RunStop ℚ)) → needs_flip_at r.tableau k ≡ true →
+      flip_next limit budget k r ≡ o → flip_at limit budget k r ≡ o
   needed k r o e h = ap (λ b. cond b (flip_next limit budget k r) (Ok r)) e ∙ h
 
-  pub flips_stop : (k : ℕ) (r : Reached) (s : RunStop ℚ) → Flipping limit budget first k r → k < all_columns first → needs_flip_at r.tableau k ≡ true → flip_next limit budget k r ≡ Err s → flips_run limit budget first ≡ Err s
+  pub flips_stop : (k : ℕ) (r : Reached) (s : RunStop ℚ) → Flipping limit budget first k r → k < all_columns first →
+      needs_flip_at r.tableau k ≡ true → flip_next limit budget k r ≡ Err s → flips_run limit budget first ≡ Err s
   unfolding flips_run
-  flips_stop k r s v l e h = steps_stop k (all_columns first) (flip_at limit budget) (begun first) r s l v.so_far (needed k r (Err s) e h)
+  flips_stop k r s v l e h =
+      steps_stop k (all_columns first) (flip_at limit budget) (begun first) r s l v.so_far (needed k r (Err s) e h)
 
-  pub flips_end : (k : ℕ) (r : Reached) → Flipping limit budget first k r → k ≡ all_columns first → flips_run limit budget first ≡ Ok r
+  pub flips_end : (k : ℕ) (r : Reached) → Flipping limit budget first k r → k ≡ all_columns first →
+      flips_run limit budget first ≡ Ok r
   unfolding flips_run
   flips_end k r v e = ap (λ n. steps n (flip_at limit budget) (begun first)) (sym e) ∙ v.so_far
 
@@ -85,7 +95,9 @@ module _ (limit : Option ℕ) (budget : ℕ) (first : Tableau) where
     pub can_flip : CanFlip r.tableau k
     can_flip = v.late k (omega arith) (omega (arith, l, v.columns)) e
 
-    flip_late : (values : List ℚ) (to : Status) → to ≢ Basic → (q : Reached) → q.tableau ≡ flipped r.tableau k to values → flip_next limit budget k r ≡ Ok q → Flipping limit budget first (k + 1) q
+    flip_late : (values : List ℚ) (to : Status) → to ≢ Basic → (q : Reached) →
+        q.tableau ≡ flipped r.tableau k to values → flip_next limit budget k r ≡ Ok q →
+        Flipping limit budget first (k + 1) q
     flip_late values to n q same h = record {
       so_far = steps_more k (flip_at limit budget) (begun first) r q v.so_far (needed k r (Ok q) e h);
       columns = ap all_columns same ∙ v.columns;
@@ -98,7 +110,8 @@ module _ (limit : Option ℕ) (budget : ℕ) (first : Tableau) where
         inside : k < all_columns r.tableau
         inside = omega (arith, l, v.columns)
 
-    by_spent : (c : Bool) (q : Reached) → flip_by limit k r c ≡ Ok q → (u : Tableau) × (flip_run limit r.tableau k ≡ Ok u) × (one_more r u ≡ q)
+    by_spent : (c : Bool) (q : Reached) → flip_by limit k r c ≡ Ok q →
+        (u : Tableau) × (flip_run limit r.tableau k ≡ Ok u) × (one_more r u ≡ q)
     by_spent true q h = let z : ◌≡◌ {A = Result Reached (RunStop ℚ)} (Err stop.Spent) (Ok q) = h in cc
     by_spent false q h =
         let o = then_ok (refused_as stop.Past (flip_run limit r.tableau k)) (λ u. Ok (one_more r u)) q h in

@@ -30,12 +30,16 @@ module _ (limit : Option ℕ) (t : Tableau) where
     pub nothing_stops : best_run limit t e ≡ Ok None → choice_run limit t ≡ Ok (End (Unbounded e.col e.up))
     nothing_stops g = from_best ∙ ap (λ o. o >>= λ best. Ok (choice_by e best)) g
 
-    pub best_stops : (x : Best ℚ) (place : Option ℕ) → best_run limit t e ≡ Ok (Some x) → x.place ≡ place → choice_run limit t ≡ Ok (choice_at e x place)
-    best_stops x place g k = from_best ∙ ap (λ o. o >>= λ best. Ok (choice_by e best)) g ∙ ap (λ p. Ok (choice_at e x p)) k
+    pub best_stops : (x : Best ℚ) (place : Option ℕ) → best_run limit t e ≡ Ok (Some x) → x.place ≡ place →
+        choice_run limit t ≡ Ok (choice_at e x place)
+    best_stops x place g k =
+        from_best ∙ ap (λ o. o >>= λ best. Ok (choice_by e best)) g ∙ ap (λ p. Ok (choice_at e x p)) k
 
   -- ---- it may be done
-  at_place : (e : Entering) (x : Best ℚ) (place : Option ℕ) → MayEnter t (all_columns t) e → StopsBy t e x.ratio x.to place → CanMake t (choice_at e x place)
-  at_place e x None m s = record { column = m.inside; nonbasic = not_basic (is_fixed (lower_at t e.col) (upper_at t e.col)) _ (reduced_at t e.col) e.up m.way; lower = s.lower; upper = s.upper }
+  at_place : (e : Entering) (x : Best ℚ) (place : Option ℕ) → MayEnter t (all_columns t) e →
+      StopsBy t e x.ratio x.to place → CanMake t (choice_at e x place)
+  at_place e x None m s =
+      record { column = m.inside; nonbasic = not_basic (is_fixed (lower_at t e.col) (upper_at t e.col)) _ (reduced_at t e.col) e.up m.way; lower = s.lower; upper = s.upper }
   at_place e x (Some i) m s =
       record {
         place = s.place;
@@ -45,16 +49,21 @@ module _ (limit : Option ℕ) (t : Tableau) where
         lands = s.lands;
       }
 
-  by_best : (e : Entering) (best : Option (Best ℚ)) → MayEnter t (all_columns t) e → IsBest t e best → CanMake t (choice_by e best)
+  by_best : (e : Entering) (best : Option (Best ℚ)) → MayEnter t (all_columns t) e → IsBest t e best →
+      CanMake t (choice_by e best)
   by_best e None m s = tt
   by_best e (Some x) m s = at_place e x x.place m s
 
-  by_entering : (o : Option Entering) (choice : Choice ℚ) → entering t ≡ o → choice_of limit t o ≡ Ok choice → CanMake t choice
+  by_entering : (o : Option Entering) (choice : Choice ℚ) → entering t ≡ o → choice_of limit t o ≡ Ok choice →
+      CanMake t choice
   by_entering None choice h g = let z : End Optimal ≡ choice = cc in subst (CanMake t) z tt
   by_entering (Some e) choice h g = by (then_ok (best_run limit t e) (λ best. Ok (choice_by e best)) choice g)
     where
-      by : (best : Option (Best ℚ)) × (best_run limit t e ≡ Ok best) × (◌≡◌ {A = Run (Choice ℚ)} (Ok (choice_by e best)) (Ok choice)) → CanMake t choice
-      by (best, f, k) = let z : choice_by e best ≡ choice = cc in subst (CanMake t) z (by_best e best (may_enter t e h) (best_is limit t e best f))
+      by : (best : Option (Best ℚ)) × (best_run limit t e ≡ Ok best) × (◌≡◌ {A = Run (Choice ℚ)} (Ok (choice_by e best)) (Ok choice)) →
+          CanMake t choice
+      by (best, f, k) =
+          let z : choice_by e best ≡ choice = cc in
+          subst (CanMake t) z (by_best e best (may_enter t e h) (best_is limit t e best f))
 
   pub can_make : (choice : Choice ℚ) → choice_run limit t ≡ Ok choice → CanMake t choice
   unfolding choice_run

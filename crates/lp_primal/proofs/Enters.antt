@@ -10,12 +10,14 @@ use Rattle.spec_simplex.specs.Step.{way_by, way_at, or_enters, entering_below, e
 -- ---- the least of many
 stays : (t : Tableau) (n d : ℕ) (e : Entering) → entering_below t n ≡ Some e → entering_below t (n + d) ≡ Some e
 stays t n zero e h = (let z : n + 0 ≡ n = omega arith in ap (entering_below t) z) ∙ h
-stays t n (suc d) e h = (let z : n + suc d ≡ suc (n + d) = omega arith in ap (entering_below t) z) ∙ ap (λ o. or_enters o (n + d) (way_at t (n + d))) (stays t n d e h)
+stays t n (suc d) e h =
+    (let z : n + suc d ≡ suc (n + d) = omega arith in ap (entering_below t) z) ∙ ap (λ o. or_enters o (n + d) (way_at t (n + d))) (stays t n d e h)
 
 pub none_more : (t : Tableau) (k : ℕ) → entering_below t k ≡ None → way_at t k ≡ None → entering_below t (k + 1) ≡ None
 none_more t k h g = (let z : k + 1 ≡ suc k = omega arith in ap (entering_below t) z) ∙ ap₂ (λ o w. or_enters o k w) h g
 
-pub enters_at : (t : Tableau) (k n : ℕ) (up : Bool) → entering_below t k ≡ None → k < n → way_at t k ≡ Some up → entering_below t n ≡ Some (record { col = k; up = up })
+pub enters_at : (t : Tableau) (k n : ℕ) (up : Bool) → entering_below t k ≡ None → k < n → way_at t k ≡ Some up →
+    entering_below t n ≡ Some (record { col = k; up = up })
 enters_at t k n up h l g =
     let z : suc k + (n - suc k) ≡ n = omega arith in
     subst (λ i. entering_below t i ≡ Some (record { col = k; up = up })) z (stays t (suc k) (n - suc k) (record { col = k; up = up }) (ap₂ (λ o w. or_enters o k w) h g))
@@ -29,8 +31,10 @@ may_enter_below : (t : Tableau) (n : ℕ) (x : Entering) → entering_below t n 
 may_enter_below t zero x h = let z : None ≡ Some x = h in cc
 may_enter_below t (suc n) x h = by (entering_below t n) (way_at t n) refl refl h (λ p. may_enter_below t n x p)
   where
-    by : (e : Option Entering) (w : Option Bool) → entering_below t n ≡ e → way_at t n ≡ w → or_enters e n w ≡ Some x → (entering_below t n ≡ Some x → MayEnter t n x) → MayEnter t (suc n) x
-    by (Some e) w p q h before = let there : MayEnter t n x = before (p ∙ h) in record { inside = omega (arith, there.inside); way = there.way }
+    by : (e : Option Entering) (w : Option Bool) → entering_below t n ≡ e → way_at t n ≡ w → or_enters e n w ≡ Some x →
+        (entering_below t n ≡ Some x → MayEnter t n x) → MayEnter t (suc n) x
+    by (Some e) w p q h before =
+        let there : MayEnter t n x = before (p ∙ h) in record { inside = omega (arith, there.inside); way = there.way }
     by None None p q h before = let z : None ≡ Some x = h in cc
     by None (Some up) p q h before =
         let z : ◌≡◌ {A = Entering} (record { col = n; up = up }) x = cc in

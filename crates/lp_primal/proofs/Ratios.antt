@@ -22,7 +22,8 @@ use Rattle.spec_simplex.proofs.Stops.{steps_stop}
 use Rattle.lp_primal.proofs.Signs.{negative_is}
 
 -- ---- results of operations
-pub then_ok : {A B E : Type 0} (o : Result A E) (next : A → Result B E) (b : B) → (o >>= next) ≡ Ok b → (a : A) × (o ≡ Ok a) × (next a ≡ Ok b)
+pub then_ok : {A B E : Type 0} (o : Result A E) (next : A → Result B E) (b : B) → (o >>= next) ≡ Ok b →
+    (a : A) × (o ≡ Ok a) × (next a ≡ Ok b)
 then_ok (Ok a) next b h = (a, refl, h)
 then_ok (Err e) next b h = cc
 
@@ -44,10 +45,12 @@ abs_below : (x : ℚ) → x <ℚ 0ℚ → abs_ℚ x ≡ neg_ℚ x
 abs_below x h = ap (λ b. cond b (neg_ℚ x) x) (negative_is x ∙ lt_test x 0ℚ h)
 
 turned_up : (x : ℚ) → neg_ℚ x <ℚ 0ℚ → 0ℚ <ℚ x
-turned_up x h = subst (λ a. 0ℚ <ℚ a) (neg-neg x) (subst (λ a. a <ℚ neg_ℚ (neg_ℚ x)) neg-zero (neg_strict (neg_ℚ x) 0ℚ h))
+turned_up x h =
+    subst (λ a. 0ℚ <ℚ a) (neg-neg x) (subst (λ a. a <ℚ neg_ℚ (neg_ℚ x)) neg-zero (neg_strict (neg_ℚ x) 0ℚ h))
 
 turned_down : (x : ℚ) → 0ℚ <ℚ neg_ℚ x → x <ℚ 0ℚ
-turned_down x h = subst (λ a. a <ℚ 0ℚ) (neg-neg x) (subst (λ a. neg_ℚ (neg_ℚ x) <ℚ a) neg-zero (neg_strict 0ℚ (neg_ℚ x) h))
+turned_down x h =
+    subst (λ a. a <ℚ 0ℚ) (neg-neg x) (subst (λ a. neg_ℚ (neg_ℚ x) <ℚ a) neg-zero (neg_strict 0ℚ (neg_ℚ x) h))
 
 -- of an entry, by the way of the column
 abs_falling : (up : Bool) (a : ℚ) → directed up a <ℚ 0ℚ → abs_ℚ a ≡ neg_ℚ (directed up a)
@@ -89,11 +92,13 @@ pub record IsGap (up : Bool) (a : ℚ) (lower upper : Option ℚ) (v gap : ℚ) 
 moved_is : (up : Bool) (v r a : ℚ) → v -ℚ directed up r *ℚ a ≡ v -ℚ r *ℚ directed up a
 moved_is up v r a = ap (λ x. v -ℚ x) (directed_times up r a)
 
-rises : (limit : Option ℕ) (up : Bool) (a : ℚ) (lower upper : Option ℚ) (v gap : ℚ) (to : Status) → directed up a <ℚ 0ℚ → rise_run limit upper v ≡ Ok (Some (gap, to)) → IsGap up a lower upper v gap to
+rises : (limit : Option ℕ) (up : Bool) (a : ℚ) (lower upper : Option ℚ) (v gap : ℚ) (to : Status) →
+    directed up a <ℚ 0ℚ → rise_run limit upper v ≡ Ok (Some (gap, to)) → IsGap up a lower upper v gap to
 rises limit up a lower None v gap to d h = cc
 rises limit up a lower (Some u) v gap to d h = by (then_ok (difference_run limit u v) (λ g. Ok (Some (g, AtUpper))) (Some (gap, to)) h)
   where
-    by : (g : ℚ) × (difference_run limit u v ≡ Ok g) × (◌≡◌ {A = Run (Option (ℚ × Status))} (Ok (Some (g, AtUpper))) (Ok (Some (gap, to)))) → IsGap up a lower (Some u) v gap to
+    by : (g : ℚ) × (difference_run limit u v ≡ Ok g) × (◌≡◌ {A = Run (Option (ℚ × Status))} (Ok (Some (g, AtUpper))) (Ok (Some (gap, to)))) →
+        IsGap up a lower (Some u) v gap to
     by (g, e, f) =
         let z : ◌≡◌ {A = ℚ × Status} (g, AtUpper) (gap, to) = cc in
         let same : g ≡ gap = ap (λ (p : ℚ × Status). p.0) z in
@@ -101,14 +106,17 @@ rises limit up a lower (Some u) v gap to d h = by (then_ok (difference_run limit
         subst (IsGap up a lower (Some u) v gap) there
         (record {
           entry = λ z. <ℚ_irrefl 0ℚ (subst (λ x. x <ℚ 0ℚ) (directed_zero up a z) d);
-          lands = λ r k. ap Some (sym (moved_is up v r a ∙ up_to v u r (directed up a) (ap (λ x. r *ℚ x) (sym (abs_falling up a d)) ∙ k ∙ sym same ∙ difference_ok limit u v g e)));
+          lands =
+              λ r k. ap Some (sym (moved_is up v r a ∙ up_to v u r (directed up a) (ap (λ x. r *ℚ x) (sym (abs_falling up a d)) ∙ k ∙ sym same ∙ difference_ok limit u v g e)));
         })
 
-falls : (limit : Option ℕ) (up : Bool) (a : ℚ) (lower upper : Option ℚ) (v gap : ℚ) (to : Status) → 0ℚ <ℚ directed up a → fall_run limit lower v ≡ Ok (Some (gap, to)) → IsGap up a lower upper v gap to
+falls : (limit : Option ℕ) (up : Bool) (a : ℚ) (lower upper : Option ℚ) (v gap : ℚ) (to : Status) →
+    0ℚ <ℚ directed up a → fall_run limit lower v ≡ Ok (Some (gap, to)) → IsGap up a lower upper v gap to
 falls limit up a None upper v gap to d h = cc
 falls limit up a (Some l) upper v gap to d h = by (then_ok (difference_run limit v l) (λ g. Ok (Some (g, AtLower))) (Some (gap, to)) h)
   where
-    by : (g : ℚ) × (difference_run limit v l ≡ Ok g) × (◌≡◌ {A = Run (Option (ℚ × Status))} (Ok (Some (g, AtLower))) (Ok (Some (gap, to)))) → IsGap up a (Some l) upper v gap to
+    by : (g : ℚ) × (difference_run limit v l ≡ Ok g) × (◌≡◌ {A = Run (Option (ℚ × Status))} (Ok (Some (g, AtLower))) (Ok (Some (gap, to)))) →
+        IsGap up a (Some l) upper v gap to
     by (g, e, f) =
         let z : ◌≡◌ {A = ℚ × Status} (g, AtLower) (gap, to) = cc in
         let same : g ≡ gap = ap (λ (p : ℚ × Status). p.0) z in
@@ -116,20 +124,26 @@ falls limit up a (Some l) upper v gap to d h = by (then_ok (difference_run limit
         subst (IsGap up a (Some l) upper v gap) there
         (record {
           entry = λ z. <ℚ_irrefl 0ℚ (subst (λ x. 0ℚ <ℚ x) (directed_zero up a z) d);
-          lands = λ r k. ap Some (sym (moved_is up v r a ∙ down_to v l r (directed up a) (ap (λ x. r *ℚ x) (sym (abs_rising up a d)) ∙ k ∙ sym same ∙ difference_ok limit v l g e)));
+          lands =
+              λ r k. ap Some (sym (moved_is up v r a ∙ down_to v l r (directed up a) (ap (λ x. r *ℚ x) (sym (abs_rising up a d)) ∙ k ∙ sym same ∙ difference_ok limit v l g e)));
         })
 
-pub gap_is : (limit : Option ℕ) (up : Bool) (a : ℚ) (lower upper : Option ℚ) (v gap : ℚ) (to : Status) → gap_run limit up a lower upper v ≡ Ok (Some (gap, to)) → IsGap up a lower upper v gap to
+pub gap_is : (limit : Option ℕ) (up : Bool) (a : ℚ) (lower upper : Option ℚ) (v gap : ℚ) (to : Status) →
+    gap_run limit up a lower upper v ≡ Ok (Some (gap, to)) → IsGap up a lower upper v gap to
 gap_is limit up a lower upper v gap to h = by (lt_ℚ (directed up a) 0ℚ) (lt_ℚ 0ℚ (directed up a)) refl refl h
   where
-    by : (b c : Bool) → lt_ℚ (directed up a) 0ℚ ≡ b → lt_ℚ 0ℚ (directed up a) ≡ c → cond b (rise_run limit upper v) (cond c (fall_run limit lower v) (Ok None)) ≡ Ok (Some (gap, to)) → IsGap up a lower upper v gap to
+    by : (b c : Bool) → lt_ℚ (directed up a) 0ℚ ≡ b → lt_ℚ 0ℚ (directed up a) ≡ c →
+        cond b (rise_run limit upper v) (cond c (fall_run limit lower v) (Ok None)) ≡ Ok (Some (gap, to)) →
+        IsGap up a lower upper v gap to
     by true c e f h = rises limit up a lower upper v gap to (lt_if (directed up a) 0ℚ e) h
     by false true e f h = falls limit up a lower upper v gap to (lt_if 0ℚ (directed up a) f) h
     by false false e f h = cc
 
 -- a position with a gap has an entry to divide by
-pub divides : (limit : Option ℕ) (up : Bool) (a : ℚ) (lower upper : Option ℚ) (v gap : ℚ) (to : Status) → gap_run limit up a lower upper v ≡ Ok (Some (gap, to)) → abs_ℚ a ≢ 0ℚ
-divides limit up a lower upper v gap to h = let g : IsGap up a lower upper v gap to = gap_is limit up a lower upper v gap to h in abs_not_zero a g.entry
+pub divides : (limit : Option ℕ) (up : Bool) (a : ℚ) (lower upper : Option ℚ) (v gap : ℚ) (to : Status) →
+    gap_run limit up a lower upper v ≡ Ok (Some (gap, to)) → abs_ℚ a ≢ 0ℚ
+divides limit up a lower upper v gap to h =
+    let g : IsGap up a lower upper v gap to = gap_is limit up a lower upper v gap to h in abs_not_zero a g.entry
 
 -- ---- the best
 -- the column stops itself
@@ -152,17 +166,20 @@ IsBest t e None = Unit {0}
 IsBest t e (Some x) = StopsBy t e x.ratio x.to x.place
 
 module _ (limit : Option ℕ) (t : Tableau) (e : Entering) where
-  range_is : (l u : Option ℚ) (best : Option (Best ℚ)) → lower_at t e.col ≡ l → upper_at t e.col ≡ u → range_run limit e l u ≡ Ok best → IsBest t e best
+  range_is : (l u : Option ℚ) (best : Option (Best ℚ)) → lower_at t e.col ≡ l → upper_at t e.col ≡ u →
+      range_run limit e l u ≡ Ok best → IsBest t e best
   range_is None u best p q h = let z : None ≡ best = cc in subst (IsBest t e) z tt
   range_is (Some l) None best p q h = let z : None ≡ best = cc in subst (IsBest t e) z tt
   range_is (Some l) (Some u) best p q h = by (then_ok (difference_run limit u l) (λ r. Ok (Some (record { ratio = r; col = e.col; place = None; to = other_bound e.up }))) best h)
     where
-      by : (r : ℚ) × (difference_run limit u l ≡ Ok r) × (◌≡◌ {A = Run (Option (Best ℚ))} (Ok (Some (record { ratio = r; col = e.col; place = None; to = other_bound e.up }))) (Ok best)) → IsBest t e best
+      by : (r : ℚ) × (difference_run limit u l ≡ Ok r) × (◌≡◌ {A = Run (Option (Best ℚ))} (Ok (Some (record { ratio = r; col = e.col; place = None; to = other_bound e.up }))) (Ok best)) →
+          IsBest t e best
       by (r, f, g) =
           let z : ◌≡◌ {A = Option (Best ℚ)} (Some (record { ratio = r; col = e.col; place = None; to = other_bound e.up })) best = cc in
           subst (IsBest t e) z (record { lower = (l, p); upper = (u, q) })
 
-  one_of : (new old : Best ℚ) (o : Ordering) → IsBest t e (Some new) → IsBest t e (Some old) → IsBest t e (Some (better_by new old o))
+  one_of : (new old : Best ℚ) (o : Ordering) → IsBest t e (Some new) → IsBest t e (Some old) →
+      IsBest t e (Some (better_by new old o))
   one_of new old Less p q = p
   one_of new old Equal p q = by (nat_lt new.col old.col)
     where
@@ -171,11 +188,13 @@ module _ (limit : Option ℕ) (t : Tableau) (e : Entering) where
       by false = q
   one_of new old Greater p q = q
 
-  better_is : (new : Best ℚ) (old best : Option (Best ℚ)) → IsBest t e (Some new) → IsBest t e old → better_run limit new old ≡ Ok best → IsBest t e best
+  better_is : (new : Best ℚ) (old best : Option (Best ℚ)) → IsBest t e (Some new) → IsBest t e old →
+      better_run limit new old ≡ Ok best → IsBest t e best
   better_is new None best p q h = let z : Some new ≡ best = cc in subst (IsBest t e) z p
   better_is new (Some old) best p q h = by (then_ok (order_run limit new.ratio old.ratio) (λ o. Ok (Some (better_by new old o))) best h)
     where
-      by : (o : Ordering) × (order_run limit new.ratio old.ratio ≡ Ok o) × (◌≡◌ {A = Run (Option (Best ℚ))} (Ok (Some (better_by new old o))) (Ok best)) → IsBest t e best
+      by : (o : Ordering) × (order_run limit new.ratio old.ratio ≡ Ok o) × (◌≡◌ {A = Run (Option (Best ℚ))} (Ok (Some (better_by new old o))) (Ok best)) →
+          IsBest t e best
       by (o, f, g) = let z : Some (better_by new old o) ≡ best = cc in subst (IsBest t e) z (one_of new old o p q)
 
   with_gap_is : (i : ℕ) (gap : Option (ℚ × Status)) (old best : Option (Best ℚ)) → i < t.rows
@@ -186,15 +205,18 @@ module _ (limit : Option ℕ) (t : Tableau) (e : Entering) where
       by (then_ok (quotient_run limit gap (abs_ℚ (entry_at t i e.col))) (λ r. better_run limit (record { ratio = r; col = basic_at t i; place = Some i; to = to }) old) best h)
     where
       known : IsGap e.up (entry_at t i e.col) (lower_at t (basic_at t i)) (upper_at t (basic_at t i)) (value_at t (basic_at t i)) gap to
-      known = gap_is limit e.up (entry_at t i e.col) (lower_at t (basic_at t i)) (upper_at t (basic_at t i)) (value_at t (basic_at t i)) gap to g
+      known =
+          gap_is limit e.up (entry_at t i e.col) (lower_at t (basic_at t i)) (upper_at t (basic_at t i)) (value_at t (basic_at t i)) gap to g
 
-      by : (r : ℚ) × (quotient_run limit gap (abs_ℚ (entry_at t i e.col)) ≡ Ok r) × (better_run limit (record { ratio = r; col = basic_at t i; place = Some i; to = to }) old ≡ Ok best) → IsBest t e best
+      by : (r : ℚ) × (quotient_run limit gap (abs_ℚ (entry_at t i e.col)) ≡ Ok r) × (better_run limit (record { ratio = r; col = basic_at t i; place = Some i; to = to }) old ≡ Ok best) →
+          IsBest t e best
       by (r, f, k) =
           better_is (record { ratio = r; col = basic_at t i; place = Some i; to = to }) old best
           (record { place = l; entry = known.entry; lands = known.lands r (quotient_ok limit gap (abs_ℚ (entry_at t i e.col)) r (abs_not_zero (entry_at t i e.col) known.entry) f) })
           q k
 
-  steps_are : (n : ℕ) (first best : Option (Best ℚ)) → n ≤ t.rows → IsBest t e first → steps n (best_with limit t e) first ≡ Ok best → IsBest t e best
+  steps_are : (n : ℕ) (first best : Option (Best ℚ)) → n ≤ t.rows → IsBest t e first →
+      steps n (best_with limit t e) first ≡ Ok best → IsBest t e best
   steps_are zero first best l p h = let z : first ≡ best = cc in subst (IsBest t e) z p
   steps_are (suc n) first best l p h =
       let b = then_ok (steps n (best_with limit t e) first) (λ b. best_with limit t e n b) best h in
@@ -207,5 +229,9 @@ module _ (limit : Option ℕ) (t : Tableau) (e : Entering) where
       steps_are t.rows o.0 best (omega arith) (range_is (lower_at t e.col) (upper_at t e.col) o.0 refl refl o.1) o.2
 
   -- a refusal at position i
-  pub best_refused : (i : ℕ) (first best : Option (Best ℚ)) (p : Past ℚ) → range_run limit e (lower_at t e.col) (upper_at t e.col) ≡ Ok first → steps i (best_with limit t e) first ≡ Ok best → i < t.rows → best_with limit t e i best ≡ Err p → best_run limit t e ≡ Err p
-  best_refused i first best p h s l g = ap (λ o. o >>= λ first. steps t.rows (best_with limit t e) first) h ∙ steps_stop i t.rows (best_with limit t e) first best p l s g
+  pub best_refused : (i : ℕ) (first best : Option (Best ℚ)) (p : Past ℚ) →
+      range_run limit e (lower_at t e.col) (upper_at t e.col) ≡ Ok first →
+      steps i (best_with limit t e) first ≡ Ok best → i < t.rows → best_with limit t e i best ≡ Err p →
+      best_run limit t e ≡ Err p
+  best_refused i first best p h s l g =
+      ap (λ o. o >>= λ first. steps t.rows (best_with limit t e) first) h ∙ steps_stop i t.rows (best_with limit t e) first best p l s g

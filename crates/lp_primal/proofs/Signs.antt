@@ -39,11 +39,13 @@ greater_is n = by (int_lt n (pos 0)) (int_lt (pos 0) n) (λ e f. grind (arith, i
 
 pub negative_is : (v : ℚ) → int_lt v.num (pos 0) ≡ lt_ℚ v 0ℚ
 unfolding lt_ℚ whole
-negative_is v = ap₂ int_lt (by_ring (v.num ∷ []) v0 (v0 ⊗ lit (pos 1)) refl) (by_ring (pos v.den ∷ []) (lit (pos 0)) (lit (pos 0) ⊗ v0) refl)
+negative_is v =
+    ap₂ int_lt (by_ring (v.num ∷ []) v0 (v0 ⊗ lit (pos 1)) refl) (by_ring (pos v.den ∷ []) (lit (pos 0)) (lit (pos 0) ⊗ v0) refl)
 
 positive_is : (v : ℚ) → int_lt (pos 0) v.num ≡ lt_ℚ 0ℚ v
 unfolding lt_ℚ whole
-positive_is v = ap₂ int_lt (by_ring (pos v.den ∷ []) (lit (pos 0)) (lit (pos 0) ⊗ v0) refl) (by_ring (v.num ∷ []) v0 (v0 ⊗ lit (pos 1)) refl)
+positive_is v =
+    ap₂ int_lt (by_ring (pos v.den ∷ []) (lit (pos 0)) (lit (pos 0) ⊗ v0) refl) (by_ring (v.num ∷ []) v0 (v0 ⊗ lit (pos 1)) refl)
 
 -- by the sign, whether it is below and above 0
 pub below_zero : (v : ℚ) (o : Ordering) → o ≡ sign v → lt_ℚ v 0ℚ ≡ is_less o
@@ -58,7 +60,8 @@ of_sign Less x y z = x
 of_sign Equal x y z = y
 of_sign Greater x y z = z
 
-pub by_sign : {A : Type 0} (v : ℚ) (o : Ordering) (x y z : A) → o ≡ sign v → of_sign o x y z ≡ cond (lt_ℚ v 0ℚ) x (cond (lt_ℚ 0ℚ v) z y)
+pub by_sign : {A : Type 0} (v : ℚ) (o : Ordering) (x y z : A) → o ≡ sign v →
+    of_sign o x y z ≡ cond (lt_ℚ v 0ℚ) x (cond (lt_ℚ 0ℚ v) z y)
 by_sign v o x y z e = by o ∙ sym (ap₂ (λ a b. cond a x (cond b z y)) (below_zero v o e) (above_zero v o e))
   where
     by : (o : Ordering) → of_sign o x y z ≡ cond (is_less o) x (cond (is_greater o) z y)
@@ -67,7 +70,9 @@ by_sign v o x y z e = by o ∙ sym (ap₂ (λ a b. cond a x (cond b z y)) (below
     by Greater = refl
 
 -- the gap, by the sign of the entry as the column goes
-pub gap_by : (limit : Option ℕ) (up : Bool) (a : ℚ) (lower upper : Option ℚ) (v d : ℚ) (o : Ordering) → d ≡ directed up a → o ≡ sign d → of_sign o (rise_run limit upper v) (Ok None) (fall_run limit lower v) ≡ gap_run limit up a lower upper v
+pub gap_by : (limit : Option ℕ) (up : Bool) (a : ℚ) (lower upper : Option ℚ) (v d : ℚ) (o : Ordering) →
+    d ≡ directed up a → o ≡ sign d →
+    of_sign o (rise_run limit upper v) (Ok None) (fall_run limit lower v) ≡ gap_run limit up a lower upper v
 gap_by limit up a lower upper v d o e f =
     by_sign d o (rise_run limit upper v) (Ok None) (fall_run limit lower v) f
     ∙ ap (λ d. cond (lt_ℚ d 0ℚ) (rise_run limit upper v) (cond (lt_ℚ 0ℚ d) (fall_run limit lower v) (Ok None))) e
@@ -95,7 +100,8 @@ way_is AtLower d o e = by o ∙ sym (ap (λ a. cond a (Some true) None) (below_z
     by Greater = refl
 way_is AtUpper d o e = by o ∙ sym (ap (λ a. cond a (Some false) None) (above_zero d o e))
   where
-    by : (o : Ordering) → ◌≡◌ {A = Option Bool} (of_sign o None None (Some false)) (cond (is_greater o) (Some false) None)
+    by : (o : Ordering) →
+        ◌≡◌ {A = Option Bool} (of_sign o None None (Some false)) (cond (is_greater o) (Some false) None)
     by Less = refl
     by Equal = refl
     by Greater = refl

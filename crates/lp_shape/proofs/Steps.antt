@@ -10,7 +10,7 @@ use Rattle.spec_shape.specs.Words.{word_from, columns_of, status_at, unpacked}
 use Rattle.spec_shape.proofs.Bases.{unpacked_at}
 use Rattle.spec_shape.proofs.Digits.{word_fits}
 
--- one more column in front
+-- one more column at the start
 pub column_more : (code : ℕ → ℕ) (c k word : ℕ) → 0 < k → k ≤ 32 → word ≡ word_from code (c + k) (32 - k) →
     4 * word + code (c + (k - 1)) ≡ word_from code (c + (k - 1)) (32 - (k - 1))
 column_more code c k word h l e =
@@ -19,11 +19,12 @@ column_more code c k word h l e =
     ∙ (let z : suc (32 - k) ≡ 32 - (k - 1) = omega (arith, h, l) in ap (word_from code (c + (k - 1))) z)
 
 -- before the last column there is room for it
-pub has_room : (code : ℕ → ℕ) → ((c : ℕ) → code c < 4) → (c k word : ℕ) → 0 < k → word ≡ word_from code (c + k) (32 - k) → word < 2 ^ 62
+pub has_room : (code : ℕ → ℕ) → ((c : ℕ) → code c < 4) → (c k word : ℕ) → 0 < k →
+    word ≡ word_from code (c + k) (32 - k) → word < 2 ^ 62
 has_room code small c k word h e =
     omega (arith, e, word_fits code small (c + k) (32 - k), (let two : 0 < 2 = omega arith in pow-le-pow_right two {i = 2 * (32 - k)} {j = 62} (omega (arith, h))))
 
--- one more word behind
+-- one more word after
 pub word_more : (words front : List ℕ) (f : ℕ → ℕ) (n k i w : ℕ) → i ≡ n + k → i < length words → take (n + k) words ≡ front ++ made k f → w ≡ f k →
     take (n + (k + 1)) (set words i w) ≡ front ++ made (k + 1) f
 word_more words front f n k i w e h t v =
@@ -36,21 +37,25 @@ word_more words front f n k i w e h t v =
     append_twice = append_assoc front (made k f) (w ∷ [])
 
 -- one more word that is copied
-pub copied_more : (words from : List ℕ) (i : ℕ) → i < length words → i < length from → take i words ≡ take i from → take (i + 1) (set words i (get_or from i 0)) ≡ take (i + 1) from
-copied_more words from i h l t = take_more_set words i (get_or from i 0) h ∙ ap (λ ws. ws ++ get_or from i 0 ∷ []) t ∙ sym (take_more from i 0 l)
+pub copied_more : (words from : List ℕ) (i : ℕ) → i < length words → i < length from → take i words ≡ take i from →
+    take (i + 1) (set words i (get_or from i 0)) ≡ take (i + 1) from
+copied_more words from i h l t =
+    take_more_set words i (get_or from i 0) h ∙ ap (λ ws. ws ++ get_or from i 0 ∷ []) t ∙ sym (take_more from i 0 l)
 
 -- the words that were put are all
 pub all_put : (words ys : List ℕ) (n i m : ℕ) → length words ≡ m → n + i ≡ m → take (n + i) words ≡ ys → words ≡ ys
 all_put words ys n i m h e t = sym (take_all (n + i) words (omega (arith, h, e))) ∙ t
 
 -- one more column is counted
-pub count_more : (words : List ℕ) (c : ℕ) → c < columns_of words → basics_below (unpacked words) (c + 1) ≡ basics_below (unpacked words) c + cond (is_basic (status_at words c)) 1 0
+pub count_more : (words : List ℕ) (c : ℕ) → c < columns_of words →
+    basics_below (unpacked words) (c + 1) ≡ basics_below (unpacked words) c + cond (is_basic (status_at words c)) 1 0
 count_more words c h =
     (let z : c + 1 ≡ suc c = omega arith in ap (basics_below (unpacked words)) z)
     ∙ ap (λ s. basics_below (unpacked words) c + cond (is_basic s) 1 0) (unpacked_at words c h)
 
 -- where no column is left the word is whole
-pub whole_word : (code : ℕ → ℕ) (c k word : ℕ) → k ≡ 0 → word ≡ word_from code (c + k) (32 - k) → word ≡ word_from code c 32
+pub whole_word : (code : ℕ → ℕ) (c k word : ℕ) → k ≡ 0 → word ≡ word_from code (c + k) (32 - k) →
+    word ≡ word_from code c 32
 whole_word code c k word z e =
     e ∙ (let y : c + k ≡ c = omega (arith, z) in ap (λ d. word_from code d (32 - k)) y) ∙ (let y : 32 - k ≡ 32 = omega (arith, z) in ap (word_from code c) y)
 

@@ -1,4 +1,4 @@
-//! The words in which the shape of a form, and a basis of it, are handed on.
+//! The words in which the shape of a form, and a basis of it, are passed on.
 //!
 //! | Item | What it is | Where |
 //! |---|---|---|

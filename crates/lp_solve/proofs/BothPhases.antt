@@ -40,7 +40,9 @@ module _ (limit : Option ℕ) (budget : ℕ) (f : Form) where
     first_keeps : (one : PrimalEnded) → phase_one limit budget t ≡ Ok one → IsAsLarge t one.tableau
     first_keeps one ok = by (wants_phase_one t) ok
       where
-        by : (c : Bool) → cond c (run_from limit budget 0 t) (Ok (record { end = Optimal; tableau = t; used = 0 })) ≡ Ok one → IsAsLarge t one.tableau
+        by : (c : Bool) →
+            cond c (run_from limit budget 0 t) (Ok (record { end = Optimal; tableau = t; used = 0 })) ≡ Ok one →
+            IsAsLarge t one.tableau
         by true ok = let e : IsEnd limit t one = run_ends limit budget 0 t one ok in e.large
         by false ok =
             let z : ◌≡◌ {A = PrimalEnded} (record { end = Optimal; tableau = t; used = 0 }) one = cc in
@@ -69,15 +71,20 @@ module _ (limit : Option ℕ) (budget : ℕ) (f : Form) where
         goes_on : phases_run limit budget f ≡ phase_two limit budget f one
         goes_on = from_first ∙ ap (λ b. cond b (Ok (Infeasible u used)) (phase_two limit budget f one)) free
 
-        pub second_refused : (p : Past ℚ) → phase_two_run limit f u ≡ Err p → phases_run limit budget f ≡ Err (stop.Past p)
-        second_refused p h = goes_on ∙ ap (λ o. refused_as stop.Past o >>= λ t. run_from limit (budget - used) used t >>= λ two. Ok (Finished two)) h
+        pub second_refused : (p : Past ℚ) → phase_two_run limit f u ≡ Err p →
+            phases_run limit budget f ≡ Err (stop.Past p)
+        second_refused p h =
+            goes_on ∙ ap (λ o. refused_as stop.Past o >>= λ t. run_from limit (budget - used) used t >>= λ two. Ok (Finished two)) h
 
         module _ (v : Tableau) (second : phase_two_run limit f u ≡ Ok v) where
           from_second : phases_run limit budget f ≡ (run_from limit (budget - used) used v >>= λ two. Ok (Finished two))
-          from_second = goes_on ∙ ap (λ o. refused_as stop.Past o >>= λ t. run_from limit (budget - used) used t >>= λ two. Ok (Finished two)) second
+          from_second =
+              goes_on ∙ ap (λ o. refused_as stop.Past o >>= λ t. run_from limit (budget - used) used t >>= λ two. Ok (Finished two)) second
 
-          pub second_stops : (s : RunStop ℚ) → run_from limit (budget - used) used v ≡ Err s → phases_run limit budget f ≡ Err s
+          pub second_stops : (s : RunStop ℚ) → run_from limit (budget - used) used v ≡ Err s →
+              phases_run limit budget f ≡ Err s
           second_stops s h = from_second ∙ ap (λ o. o >>= λ two. Ok (Finished two)) h
 
-          pub is_finished : (two : PrimalEnded) → run_from limit (budget - used) used v ≡ Ok two → phases_run limit budget f ≡ Ok (Finished two)
+          pub is_finished : (two : PrimalEnded) → run_from limit (budget - used) used v ≡ Ok two →
+              phases_run limit budget f ≡ Ok (Finished two)
           is_finished two h = from_second ∙ ap (λ o. o >>= λ two. Ok (Finished two)) h

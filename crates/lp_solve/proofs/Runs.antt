@@ -39,7 +39,8 @@ module _ (limit : Option ℕ) where
       let z : flipped t j (other_bound (flip_way (status_at t j))) b.0 ≡ u = cc in
       subst (IsAsLarge t) z (record { rows = refl; cols = refl })
 
-  pivot_keeps : (t u : Tableau) (p j : ℕ) (theta : ℚ) (to : Status) → pivot_run limit t p j theta to ≡ Ok u → IsAsLarge t u
+  pivot_keeps : (t u : Tableau) (p j : ℕ) (theta : ℚ) (to : Status) → pivot_run limit t p j theta to ≡ Ok u →
+      IsAsLarge t u
   unfolding pivot_run
   pivot_keeps t u p j theta to h =
       let a = then_ok (moved_run limit t j theta (Some p)) _ u h in
@@ -50,15 +51,19 @@ module _ (limit : Option ℕ) where
       subst (IsAsLarge t) z (record { rows = refl; cols = refl })
 
   -- ---- the column that is never stopped
-  is_no_end : (t : Tableau) (e : Entering) (x : Best ℚ) (place : Option ℕ) (end : PrimalEnd) → choice_at e x place ≡ End end → IsInside t (Some end)
+  is_no_end : (t : Tableau) (e : Entering) (x : Best ℚ) (place : Option ℕ) (end : PrimalEnd) →
+      choice_at e x place ≡ End end → IsInside t (Some end)
   is_no_end t e x None end h = let z : ◌≡◌ {A = Choice ℚ} (Flip e.col) (End end) = h in cc
-  is_no_end t e x (Some i) end h = let z : ◌≡◌ {A = Choice ℚ} (Pivot i e.col (directed e.up x.ratio) x.to) (End end) = h in cc
+  is_no_end t e x (Some i) end h =
+      let z : ◌≡◌ {A = Choice ℚ} (Pivot i e.col (directed e.up x.ratio) x.to) (End end) = h in cc
 
-  by_best : (t : Tableau) (e : Entering) (best : Option (Best ℚ)) (end : PrimalEnd) → e.col < all_columns t → choice_by e best ≡ End end → IsInside t (Some end)
+  by_best : (t : Tableau) (e : Entering) (best : Option (Best ℚ)) (end : PrimalEnd) → e.col < all_columns t →
+      choice_by e best ≡ End end → IsInside t (Some end)
   by_best t e None end l h = let z : Unbounded e.col e.up ≡ end = cc in subst (λ end. IsInside t (Some end)) z l
   by_best t e (Some x) end l h = is_no_end t e x x.place end h
 
-  by_entering : (t : Tableau) (o : Option Entering) (end : PrimalEnd) → entering t ≡ o → choice_of limit t o ≡ Ok (End end) → IsInside t (Some end)
+  by_entering : (t : Tableau) (o : Option Entering) (end : PrimalEnd) → entering t ≡ o →
+      choice_of limit t o ≡ Ok (End end) → IsInside t (Some end)
   by_entering t None end h g = let z : Optimal ≡ end = cc in subst (λ end. IsInside t (Some end)) z tt
   by_entering t (Some e) end h g =
       let b = then_ok (best_run limit t e) (λ best. Ok (choice_by e best)) (End end) g in
@@ -78,13 +83,17 @@ module _ (limit : Option ℕ) where
   on_from : (t u : Tableau) (e : PrimalEnded) → IsAsLarge t u → IsEnd u e → IsEnd t e
   on_from t u e p q = record { large = by_way_of t u e.tableau p q.large; inside = q.inside }
 
-  ends_at : (t : Tableau) (used : ℕ) (e : PrimalEnded) (end : PrimalEnd) → choice_run limit t ≡ Ok (End end) → record { end = end; tableau = t; used = used } ≡ e → IsEnd t e
+  ends_at : (t : Tableau) (used : ℕ) (e : PrimalEnded) (end : PrimalEnd) → choice_run limit t ≡ Ok (End end) →
+      record { end = end; tableau = t; used = used } ≡ e → IsEnd t e
   ends_at t used e end c z = subst (IsEnd t) z (record { large = as_large t; inside = end_inside t end c })
 
-  ends_here : (t : Tableau) (used : ℕ) (e : PrimalEnded) (choice : Choice ℚ) → choice_run limit t ≡ Ok choice → end_or_spent t used choice ≡ Ok e → IsEnd t e
-  ends_here t used e (End end) c h = ends_at t used e end c (let z : ◌≡◌ {A = PrimalEnded} (record { end = end; tableau = t; used = used }) e = cc in z)
+  ends_here : (t : Tableau) (used : ℕ) (e : PrimalEnded) (choice : Choice ℚ) → choice_run limit t ≡ Ok choice →
+      end_or_spent t used choice ≡ Ok e → IsEnd t e
+  ends_here t used e (End end) c h =
+      ends_at t used e end c (let z : ◌≡◌ {A = PrimalEnded} (record { end = end; tableau = t; used = used }) e = cc in z)
   ends_here t used e (Flip j) c h = let z : ◌≡◌ {A = Result PrimalEnded (RunStop ℚ)} (Err stop.Spent) (Ok e) = h in cc
-  ends_here t used e (Pivot p j theta to) c h = let z : ◌≡◌ {A = Result PrimalEnded (RunStop ℚ)} (Err stop.Spent) (Ok e) = h in cc
+  ends_here t used e (Pivot p j theta to) c h =
+      let z : ◌≡◌ {A = Result PrimalEnded (RunStop ℚ)} (Err stop.Spent) (Ok e) = h in cc
 
   pub run_ends : (left used : ℕ) (t : Tableau) (e : PrimalEnded) → run_from limit left used t ≡ Ok e → IsEnd t e
   unfolding run_from
@@ -105,5 +114,8 @@ module _ (limit : Option ℕ) where
           let o = then_ok (refused_as stop.Past (pivot_run limit t p j theta to)) (λ u. run_from limit left (used + 1) u) e h in
           on_from t o.0 e (pivot_keeps t o.0 p j theta to (refused_ok stop.Past (pivot_run limit t p j theta to) o.0 o.1)) (more o.0 o.2)
 
-  pub run_inside : (left used : ℕ) (t : Tableau) (end : PrimalEnd) (u : Tableau) (after : ℕ) → run_from limit left used t ≡ Ok (record { end = end; tableau = u; used = after }) → IsInside u (Some end)
-  run_inside left used t end u after h = let e : IsEnd t (record { end = end; tableau = u; used = after }) = run_ends left used t (record { end = end; tableau = u; used = after }) h in e.inside
+  pub run_inside : (left used : ℕ) (t : Tableau) (end : PrimalEnd) (u : Tableau) (after : ℕ) →
+      run_from limit left used t ≡ Ok (record { end = end; tableau = u; used = after }) → IsInside u (Some end)
+  run_inside left used t end u after h =
+      let e : IsEnd t (record { end = end; tableau = u; used = after }) = run_ends left used t (record { end = end; tableau = u; used = after }) h in
+      e.inside

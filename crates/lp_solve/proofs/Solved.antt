@@ -27,22 +27,27 @@ use Rattle.lp_solve.proofs.BothPhases.{start_refused}
 pub start_stop : {A : Type 0} (run : Run A) (s : ColdStop) (p : Past ℚ) → s ≡ start.Past p → Stops run s → run ≡ Err p
 start_stop run s p e h = subst (Stops run) e h
 
-pub form_stop : {A : Type 0} (run : Result A (FormFault ℚ)) (s : FormStop) (p : Past ℚ) → s ≡ form.Past p → IsFaultOf run s → run ≡ Err (fault.Past p)
+pub form_stop : {A : Type 0} (run : Result A (FormFault ℚ)) (s : FormStop) (p : Past ℚ) → s ≡ form.Past p →
+    IsFaultOf run s → run ≡ Err (fault.Past p)
 form_stop run s p e h = subst (IsFaultOf run) e h
 
-pub form_clash : {A : Type 0} (run : Result A (FormFault ℚ)) (s : FormStop) (j : ℕ) → s ≡ form.Clash j → IsFaultOf run s → run ≡ Err (fault.Clash j)
+pub form_clash : {A : Type 0} (run : Result A (FormFault ℚ)) (s : FormStop) (j : ℕ) → s ≡ form.Clash j →
+    IsFaultOf run s → run ≡ Err (fault.Clash j)
 form_clash run s j e h = subst (IsFaultOf run) e h
 
 -- ---- the solve
 module _ (limit : Option ℕ) (budget : ℕ) (m : Model) where
-  pub cold_is : (o : Result Form (FormFault ℚ)) → form_of limit m ≡ o → after_form limit budget m o ≡ cold limit budget m
+  pub cold_is : (o : Result Form (FormFault ℚ)) → form_of limit m ≡ o →
+      after_form limit budget m o ≡ cold limit budget m
   unfolding cold
   cold_is o h = ap (after_form limit budget m) (sym h)
 
-  pub refused_from : (f : Form) (p : Past ℚ) → start_of limit f ≡ Err p → ◌≡◌ {A = ColdEnd} (outcome.Past p) (after_phases limit m (phases_run limit budget f))
+  pub refused_from : (f : Form) (p : Past ℚ) → start_of limit f ≡ Err p →
+      ◌≡◌ {A = ColdEnd} (outcome.Past p) (after_phases limit m (phases_run limit budget f))
   refused_from f p h = ap (after_phases limit m) (sym (start_refused limit budget f p h))
 
-  pub end_fits : (f : Form) (e : PhasesEnd) → form_of limit m ≡ Ok f → phases_run limit budget f ≡ Ok e → IsFor m (certificate_of e)
+  pub end_fits : (f : Form) (e : PhasesEnd) → form_of limit m ≡ Ok f → phases_run limit budget f ≡ Ok e →
+      IsFor m (certificate_of e)
   end_fits f e h g = let a : IsAccepted limit m (certificate_of e) = end_accepted limit budget m f e h g in a.fits
 
   pub clash_fits : (j : ℕ) → form_of limit m ≡ Err (fault.Clash j) → j < width m

@@ -44,35 +44,44 @@ use Rattle.lp_solve.specs.Begun.{IsBegun}
 use Rattle.lp_solve.proofs.Solved.{cold_is}
 
 -- ---- stops as the code has them
-pub is_singular : {A : Type 0} (run : Result A (StartStop ℚ)) (s : BasisStop) → s ≡ stop.Singular → StopsAt run s → run ≡ Err begun.Singular
+pub is_singular : {A : Type 0} (run : Result A (StartStop ℚ)) (s : BasisStop) → s ≡ stop.Singular → StopsAt run s →
+    run ≡ Err begun.Singular
 is_singular run s e h = subst (StopsAt run) e h
 
-pub is_past : {A : Type 0} (run : Result A (StartStop ℚ)) (s : BasisStop) (p : Past ℚ) → s ≡ stop.Past p → StopsAt run s → run ≡ Err (begun.Past p)
+pub is_past : {A : Type 0} (run : Result A (StartStop ℚ)) (s : BasisStop) (p : Past ℚ) → s ≡ stop.Past p →
+    StopsAt run s → run ≡ Err (begun.Past p)
 is_past run s p e h = subst (StopsAt run) e h
 
 module _ (limit : Option ℕ) (budget : ℕ) where
   -- ---- each method
-  pub primal_stops : (t : Tableau) (s : RunStop ℚ) → run_from limit budget 0 t ≡ Err s → run_by limit budget t fit.Primal ≡ Err (run_stop s)
+  pub primal_stops : (t : Tableau) (s : RunStop ℚ) → run_from limit budget 0 t ≡ Err s →
+      run_by limit budget t fit.Primal ≡ Err (run_stop s)
   primal_stops t s h = ap (λ o. stopped_as run_stop o >>= λ e. Ok (ByPrimal e)) h
 
-  pub primal_ends : (t : Tableau) (e : PrimalEnded) → run_from limit budget 0 t ≡ Ok e → run_by limit budget t fit.Primal ≡ Ok (ByPrimal e)
+  pub primal_ends : (t : Tableau) (e : PrimalEnded) → run_from limit budget 0 t ≡ Ok e →
+      run_by limit budget t fit.Primal ≡ Ok (ByPrimal e)
   primal_ends t e h = ap (λ o. stopped_as run_stop o >>= λ e. Ok (ByPrimal e)) h
 
-  pub dual_stops : (t : Tableau) (s : RunStop ℚ) → dual_run limit budget t ≡ Err s → run_by limit budget t fit.Dual ≡ Err (run_stop s)
+  pub dual_stops : (t : Tableau) (s : RunStop ℚ) → dual_run limit budget t ≡ Err s →
+      run_by limit budget t fit.Dual ≡ Err (run_stop s)
   dual_stops t s h = ap (λ o. stopped_as run_stop o >>= λ e. Ok (ByDual e)) h
 
-  pub dual_ends : (t : Tableau) (e : DualEnded) → dual_run limit budget t ≡ Ok e → run_by limit budget t fit.Dual ≡ Ok (ByDual e)
+  pub dual_ends : (t : Tableau) (e : DualEnded) → dual_run limit budget t ≡ Ok e →
+      run_by limit budget t fit.Dual ≡ Ok (ByDual e)
   dual_ends t e h = ap (λ o. stopped_as run_stop o >>= λ e. Ok (ByDual e)) h
 
   -- ---- the run
-  pub start_stops : (f : Form) (basis : List Status) (s : StartStop ℚ) → start_from limit f basis ≡ Err s → warm_run limit budget f basis ≡ Err (start_stop s)
+  pub start_stops : (f : Form) (basis : List Status) (s : StartStop ℚ) → start_from limit f basis ≡ Err s →
+      warm_run limit budget f basis ≡ Err (start_stop s)
   unfolding warm_run
-  start_stops f basis s h = ap (λ o. stopped_as start_stop o >>= λ t. refused_as fall.Past (fit_run limit t) >>= λ fit. run_by limit budget t fit) h
+  start_stops f basis s h =
+      ap (λ o. stopped_as start_stop o >>= λ t. refused_as fall.Past (fit_run limit t) >>= λ fit. run_by limit budget t fit) h
 
   module _ (f : Form) (basis : List Status) (t : Tableau) (starts : start_from limit f basis ≡ Ok t) where
     from_start : warm_run limit budget f basis ≡ (refused_as fall.Past (fit_run limit t) >>= λ fit. run_by limit budget t fit)
     unfolding warm_run
-    from_start = ap (λ o. stopped_as start_stop o >>= λ t. refused_as fall.Past (fit_run limit t) >>= λ fit. run_by limit budget t fit) starts
+    from_start =
+        ap (λ o. stopped_as start_stop o >>= λ t. refused_as fall.Past (fit_run limit t) >>= λ fit. run_by limit budget t fit) starts
 
     pub fit_refused : (p : Past ℚ) → fit_run limit t ≡ Err p → warm_run limit budget f basis ≡ Err (fall.Past p)
     fit_refused p h = from_start ∙ ap (λ o. refused_as fall.Past o >>= λ fit. run_by limit budget t fit) h
@@ -102,7 +111,8 @@ module _ (limit : Option ℕ) (budget : ℕ) where
 pub nothing_handed : {B : Type 0} (limit : Option ℕ) (m : Model) (view : B → List Status) (handed : Option B) (why : FormFault ℚ) → form_of limit m ≡ Err why
     → IfSome handed (λ basis. HasBasis limit m (view basis)) → handed ≡ None
 nothing_handed limit m view None why h fits = refl
-nothing_handed limit m view (Some basis) why h fits = let z : ◌≡◌ {A = Result Form (FormFault ℚ)} (Ok fits.0) (Err why) = sym fits.1 ∙ h in cc
+nothing_handed limit m view (Some basis) why h fits =
+    let z : ◌≡◌ {A = Result Form (FormFault ℚ)} (Ok fits.0) (Err why) = sym fits.1 ∙ h in cc
 
 pub solves_cold : {B : Type 0} (limit : Option ℕ) (budget : ℕ) (m : Model) (view : B → List Status) (handed : Option B) (end : colds.ColdEnd) → handed ≡ None → end ≡ colds.cold limit budget m
     → ◌≡◌ {A = SolveEnd} (record { end = end; route = route.Cold }) (solve limit budget m (option_map view handed))
@@ -112,8 +122,11 @@ solves_cold limit budget m view handed end e h =
     (ap (λ (end : colds.ColdEnd). record { end = end; route = route.Cold }) h)
 
 -- ---- what is known of the tableau of a basis
-form_costs : (limit : Option ℕ) (m : Model) (f : Form) → form_of limit m ≡ Ok f → length f.cost ≤ f.cols + f.rows + f.rows
-form_costs limit m f e = let o = form_is limit m f e in subst (λ (f : Form). length f.cost ≤ f.cols + f.rows + f.rows) o.2 (omega (arith, cost_length m o.0 o.1))
+form_costs : (limit : Option ℕ) (m : Model) (f : Form) → form_of limit m ≡ Ok f →
+    length f.cost ≤ f.cols + f.rows + f.rows
+form_costs limit m f e =
+    let o = form_is limit m f e in
+    subst (λ (f : Form). length f.cost ≤ f.cols + f.rows + f.rows) o.2 (omega (arith, cost_length m o.0 o.1))
 
 module _ (m : Model) (t : Tableau) (kind : Fit) (k : IsBegun m t kind) where
   pub can_run : kind ≡ fit.Dual → IsDualStart t
@@ -124,12 +137,14 @@ module _ (m : Model) (t : Tableau) (kind : Fit) (k : IsBegun m t kind) where
   runs : (budget : ℕ) → warm_run (Some largest) budget k.form k.basis ≡ run_by (Some largest) budget t kind
   runs budget = runs_by (Some largest) budget k.form k.basis t k.starts kind k.fit
 
-pub primal_fits : (budget : ℕ) (m : Model) (t : Tableau) (e : PrimalEnded) → IsBegun m t fit.Primal → run_from (Some largest) budget 0 t ≡ Ok e → IsFor m (colds.certificate_at e.tableau e.end)
+pub primal_fits : (budget : ℕ) (m : Model) (t : Tableau) (e : PrimalEnded) → IsBegun m t fit.Primal →
+    run_from (Some largest) budget 0 t ≡ Ok e → IsFor m (colds.certificate_at e.tableau e.end)
 primal_fits budget m t e k h =
     let a : IsAccepted (Some largest) m (warm_certificate (ByPrimal e)) = run_accepted (Some largest) budget m k.form k.basis (ByPrimal e) k.formed k.fits (runs m t fit.Primal k budget ∙ primal_ends (Some largest) budget t e h) in
     a.fits
 
-pub dual_fits : (budget : ℕ) (m : Model) (t : Tableau) (e : DualEnded) → IsBegun m t fit.Dual → dual_run (Some largest) budget t ≡ Ok e → IsFor m (dual_certificate e.tableau e.end)
+pub dual_fits : (budget : ℕ) (m : Model) (t : Tableau) (e : DualEnded) → IsBegun m t fit.Dual →
+    dual_run (Some largest) budget t ≡ Ok e → IsFor m (dual_certificate e.tableau e.end)
 dual_fits budget m t e k h =
     let a : IsAccepted (Some largest) m (warm_certificate (ByDual e)) = run_accepted (Some largest) budget m k.form k.basis (ByDual e) k.formed k.fits (runs m t fit.Dual k budget ∙ dual_ends (Some largest) budget t e h) in
     a.fits

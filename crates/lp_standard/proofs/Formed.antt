@@ -16,8 +16,11 @@ use Rattle.lp_standard.specs.declared.fault.FormStop.TheVariants.{Clash, NoMemor
 use Rattle.lp_standard.specs.declared.fault.FormStop.TheVariants as stop
 
 -- ---- one column more
-pub entries_more : (xs : List ExactColumn) (j : ℕ) (done : List (List (ℕ × ℚ))) (e : List (ℕ × ℚ)) → done ≡ map (λ c. c.entries) (take j xs) → e ≡ (get_or xs j no_column).entries → j < length xs → done ++ e ∷ [] ≡ map (λ c. c.entries) (take (j + 1) xs)
-entries_more xs j done e h g l = ap₂ (λ ys y. ys ++ y ∷ []) h g ∙ sym (map_more (λ (c : ExactColumn). c.entries) xs j no_column l)
+pub entries_more : (xs : List ExactColumn) (j : ℕ) (done : List (List (ℕ × ℚ))) (e : List (ℕ × ℚ)) →
+    done ≡ map (λ c. c.entries) (take j xs) → e ≡ (get_or xs j no_column).entries → j < length xs →
+    done ++ e ∷ [] ≡ map (λ c. c.entries) (take (j + 1) xs)
+entries_more xs j done e h g l =
+    ap₂ (λ ys y. ys ++ y ∷ []) h g ∙ sym (map_more (λ (c : ExactColumn). c.entries) xs j no_column l)
 
 -- ---- the parts are those of a form
 module _ (m : Model) (limits : List (Option ℚ × Option ℚ)) (rows cols : ℕ) (entries : List (List (ℕ × ℚ))) (lower upper : List (Option ℚ)) (cost : List ℚ)
@@ -27,15 +30,19 @@ module _ (m : Model) (limits : List (Option ℚ × Option ℚ)) (rows cols : ℕ
   pub parts_are : record { rows = rows; cols = cols; entries = entries; lower = lower; upper = upper; cost = cost } ≡ formed m limits
   parts_are = cc
 
-  pub is_form : length limits ≡ height m → rows ≤ 256 → cols ≤ 512 → All (AreEntries (height m)) entries → IsForm (record { rows = rows; cols = cols; entries = entries; lower = lower; upper = upper; cost = cost })
+  pub is_form : length limits ≡ height m → rows ≤ 256 → cols ≤ 512 → All (AreEntries (height m)) entries →
+      IsForm (record { rows = rows; cols = cols; entries = entries; lower = lower; upper = upper; cost = cost })
   is_form g h i k =
       record {
         few_rows = h;
         few_columns = i;
         all_entries = ap length c ∙ length-map m.columns (λ (c : ExactColumn). c.entries) ∙ sym b;
-        all_lower = omega (arith, ap length d, length-append (map (λ (c : ExactColumn). c.lower) m.columns) (map (λ (l : Option ℚ × Option ℚ). l.0) limits), length-map m.columns (λ (c : ExactColumn). c.lower), length-map limits (λ (l : Option ℚ × Option ℚ). l.0), a, b, g);
-        all_upper = omega (arith, ap length e, length-append (map (λ (c : ExactColumn). c.upper) m.columns) (map (λ (l : Option ℚ × Option ℚ). l.1) limits), length-map m.columns (λ (c : ExactColumn). c.upper), length-map limits (λ (l : Option ℚ × Option ℚ). l.1), a, b, g);
-        all_costs = omega (arith, ap length f, length-append (map (λ (c : ExactColumn). least_cost m.sense c.cost) m.columns) (replicate (height m) 0ℚ), length-map m.columns (λ (c : ExactColumn). least_cost m.sense c.cost), length-replicate (height m) 0ℚ, a, b);
+        all_lower =
+            omega (arith, ap length d, length-append (map (λ (c : ExactColumn). c.lower) m.columns) (map (λ (l : Option ℚ × Option ℚ). l.0) limits), length-map m.columns (λ (c : ExactColumn). c.lower), length-map limits (λ (l : Option ℚ × Option ℚ). l.0), a, b, g);
+        all_upper =
+            omega (arith, ap length e, length-append (map (λ (c : ExactColumn). c.upper) m.columns) (map (λ (l : Option ℚ × Option ℚ). l.1) limits), length-map m.columns (λ (c : ExactColumn). c.upper), length-map limits (λ (l : Option ℚ × Option ℚ). l.1), a, b, g);
+        all_costs =
+            omega (arith, ap length f, length-append (map (λ (c : ExactColumn). least_cost m.sense c.cost) m.columns) (replicate (height m) 0ℚ), length-map m.columns (λ (c : ExactColumn). least_cost m.sense c.cost), length-replicate (height m) 0ℚ, a, b);
         columns = subst (λ n. All (AreEntries n) entries) (sym a) k;
       }
 
@@ -44,7 +51,8 @@ module _ (limit : Option ℕ) (m : Model) where
   abbrev after_limits : List (Option ℚ × Option ℚ) → Result Form (FormFault ℚ)
   after_limits limits = steps (width m) (λ j _. column_clash limit m j) tt >>= λ _. Ok (formed m limits)
 
-  pub limits_stop : (s : FormStop) → IsStopOf (list_run (height m) (λ i. limits_run limit (row m i))) s → IsFaultOf (form_of limit m) s
+  pub limits_stop : (s : FormStop) → IsStopOf (list_run (height m) (λ i. limits_run limit (row m i))) s →
+      IsFaultOf (form_of limit m) s
   unfolding form_of
   limits_stop (Clash j) h = absurd h
   limits_stop (stop.Past p) h = ap (λ o. refused_as fault.Past o >>= λ limits. after_limits limits) h
@@ -55,12 +63,15 @@ module _ (limit : Option ℕ) (m : Model) where
     unfolding form_of
     from_limits = ap (λ o. refused_as fault.Past o >>= λ limits. after_limits limits) r
 
-    clash_stops : (f : FormFault ℚ) → steps (width m) (λ j _. column_clash limit m j) tt ≡ Err f → form_of limit m ≡ Err f
+    clash_stops : (f : FormFault ℚ) → steps (width m) (λ j _. column_clash limit m j) tt ≡ Err f →
+        form_of limit m ≡ Err f
     clash_stops f h = from_limits ∙ ap (λ o. o >>= λ _. Ok (formed m limits)) h
 
-    pub clash_is : (f : FormFault ℚ) → steps (width m) (λ j _. column_clash limit m j) tt ≡ Err f → IsFaultOf (form_of limit m) (stop_of f)
+    pub clash_is : (f : FormFault ℚ) → steps (width m) (λ j _. column_clash limit m j) tt ≡ Err f →
+        IsFaultOf (form_of limit m) (stop_of f)
     clash_is (fault.Clash j) h = clash_stops (fault.Clash j) h
     clash_is (fault.Past p) h = clash_stops (fault.Past p) h
 
-    pub form_is : (f : Form) → steps (width m) (λ j _. column_clash limit m j) tt ≡ Ok tt → f ≡ formed m limits → form_of limit m ≡ Ok f
+    pub form_is : (f : Form) → steps (width m) (λ j _. column_clash limit m j) tt ≡ Ok tt → f ≡ formed m limits →
+        form_of limit m ≡ Ok f
     form_is f h e = from_limits ∙ ap (λ o. o >>= λ _. Ok (formed m limits)) h ∙ ap Ok (sym e)

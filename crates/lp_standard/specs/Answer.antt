@@ -7,13 +7,13 @@ use Rattle.spec_simplex.specs.Run.{Run}
 use Rattle.lp_standard.specs.declared.fault.FormStop.{FormStop}
 use Rattle.lp_standard.specs.declared.fault.FormStop.TheVariants.{Clash, Past, NoMemory}
 
--- this stop is why there is no form, or memory was wanting
+-- this stop is why there is no form, or memory ran out
 abbrev pub IsFaultOf : {A : Type 0} → Result A (FormFault ℚ) → FormStop → Type 0
 IsFaultOf run (Clash j) = run ≡ Err (fault.Clash j)
 IsFaultOf run (Past p) = run ≡ Err (fault.Past p)
 IsFaultOf run NoMemory = ⊤
 
--- this stop is the refusal, or memory was wanting
+-- this stop is the refusal, or memory ran out
 abbrev pub IsStopOf : {A : Type 0} → Run A → FormStop → Type 0
 IsStopOf run (Clash j) = ⊥
 IsStopOf run (Past p) = run ≡ Err p

@@ -34,7 +34,8 @@ all_within zero i = refl
 all_within (suc m) zero = refl
 all_within (suc m) (suc i) = all_within m i
 
-pub equations_are : (f : Form) (m : ℕ) (starts : List (RowStart ℚ)) → starts ≡ replicate m (Within 0ℚ) → made f.rows (start_row f starts) ≡ made f.rows (equation f)
+pub equations_are : (f : Form) (m : ℕ) (starts : List (RowStart ℚ)) → starts ≡ replicate m (Within 0ℚ) →
+    made f.rows (start_row f starts) ≡ made f.rows (equation f)
 equations_are f m starts e =
     made_same f.rows (start_row f starts) (equation f)
     (λ i. ap (λ s. made (f.cols + f.rows + f.rows) (start_entry f s i)) (ap (λ starts. start_at starts i) e ∙ all_within m i))
@@ -60,7 +61,8 @@ module _ (f : Form) (basis : List Status) (e : Elimination) (kept : IsForm f) (a
   first_inside None l h = l
   first_inside (Some k) l h = h
 
-  pub based_shape : IsGrid f.rows (width_of f) e.rows → AreInside (width_of f) e.basic → IsTableauShape (with_basis f basis e)
+  pub based_shape : IsGrid f.rows (width_of f) e.rows → AreInside (width_of f) e.basic →
+      IsTableauShape (with_basis f basis e)
   based_shape g inside = record {
     few_rows = kept.few_rows;
     few_columns = kept.few_columns;
@@ -82,7 +84,8 @@ module _ (f : Form) (basis : List Status) (e : Elimination) (kept : IsForm f) (a
       v ∙ ap₂ (λ n g. made n g) (ap length s ∙ statuses_length) (ap (λ status. stand_in status lower upper) s ∙ ap₂ (λ lower upper. stand_in (basis_status f basis) lower upper) l u)
 
   abbrev table : ℕ → ℕ → List ℕ → List ℚ → List ℚ → List Status → List (Option ℚ) → List (Option ℚ) → Tableau
-  table rows cols basic value reduced status lower upper = record { rows = rows; cols = cols; entries = e.rows; basic = basic; value = value; reduced = reduced; status = status; lower = lower; upper = upper }
+  table rows cols basic value reduced status lower upper =
+      record { rows = rows; cols = cols; entries = e.rows; basic = basic; value = value; reduced = reduced; status = status; lower = lower; upper = upper }
 
   pub based_is : (rows cols : ℕ) (basic : List ℕ) (value reduced : List ℚ) (status : List Status) (lower upper : List (Option ℚ))
       → rows ≡ f.rows → cols ≡ f.cols → basic ≡ made (length e.basic) (λ i. or_first (get_or e.basic i None)) → value ≡ made (length status) (stand_in status lower upper) → reduced ≡ replicate (width_of f) 0ℚ
@@ -105,17 +108,21 @@ module _ (limit : Option ℕ) (t : Tableau) where
   abbrev fill_at : ℕ → List ℚ → Run (List ℚ)
   fill_at i values = position_run limit t i >>= λ v. Ok (slice_set values (basic_at t i) v)
 
-  pub values_refused : (i : ℕ) (values : List ℚ) (e : Past ℚ) → i < t.rows → steps i fill_at t.value ≡ Ok values → position_run limit t i ≡ Err e → valued_run limit t ≡ Err e
+  pub values_refused : (i : ℕ) (values : List ℚ) (e : Past ℚ) → i < t.rows → steps i fill_at t.value ≡ Ok values →
+      position_run limit t i ≡ Err e → valued_run limit t ≡ Err e
   unfolding valued_run
-  values_refused i values e l s h = steps_stop i t.rows fill_at t.value values e l s (ap (λ o. o >>= λ v. Ok (slice_set values (basic_at t i) v)) h)
+  values_refused i values e l s h =
+      steps_stop i t.rows fill_at t.value values e l s (ap (λ o. o >>= λ v. Ok (slice_set values (basic_at t i) v)) h)
 
-  pub values_filled : (i : ℕ) (values : List ℚ) → i ≡ t.rows → steps i fill_at t.value ≡ Ok values → valued_run limit t ≡ Ok values
+  pub values_filled : (i : ℕ) (values : List ℚ) → i ≡ t.rows → steps i fill_at t.value ≡ Ok values →
+      valued_run limit t ≡ Ok values
   unfolding valued_run
   values_filled i values e s = ap (λ n. steps n fill_at t.value) (sym e) ∙ s
 
 -- ---- the whole
--- a list that was lent whole, and what is behind it
-pub written_back : (n : ℕ) (new front rest now : List (Option ℕ)) (m : ℕ) → now ≡ take n (new ++ rest) → front ≡ replicate m None → length front ≡ n → length new ≡ m → now ≡ new
+-- a list that was lent whole, and what is after it
+pub written_back : (n : ℕ) (new front rest now : List (Option ℕ)) (m : ℕ) → now ≡ take n (new ++ rest) →
+    front ≡ replicate m None → length front ≡ n → length new ≡ m → now ≡ new
 written_back n new front rest now m e f l k =
     let z : n ≡ length new = omega (arith, l, ap length f, length-replicate {A = Option ℕ} m None, k) in
     e ∙ ap (λ i. take i (new ++ rest)) z ∙ take-append_seam new rest
@@ -136,18 +143,24 @@ module _ (limit : Option ℕ) (f : Form) (basis : List Status) where
     from_rows = ap after_rows r ∙ ap (λ t. refused_as start.Past (filled_run limit f t)) (sym b)
 
     abbrev after_values : Run (List ℚ) → Run Tableau
-    after_values o = o >>= λ values. priced_run limit t f.cost >>= λ reduced. Ok (with_reduced (with_values t values) reduced)
+    after_values o =
+        o >>= λ values. priced_run limit t f.cost >>= λ reduced. Ok (with_reduced (with_values t values) reduced)
 
-    by_values : (o : Run (List ℚ)) (s : BasisStop) → valued_run limit t ≡ o → StopsAt (refused_as start.Past o) s → StopsAt (start_from limit f basis) s
-    by_values (Ok values) stop.Singular g h = let z : ◌≡◌ {A = Result (List ℚ) (StartStop ℚ)} (Ok values) (Err start.Singular) = h in cc
-    by_values (Ok values) (stop.Past p) g h = let z : ◌≡◌ {A = Result (List ℚ) (StartStop ℚ)} (Ok values) (Err (start.Past p)) = h in cc
-    by_values (Err x) stop.Singular g h = let z : ◌≡◌ {A = Result (List ℚ) (StartStop ℚ)} (Err (start.Past x)) (Err start.Singular) = h in cc
+    by_values : (o : Run (List ℚ)) (s : BasisStop) → valued_run limit t ≡ o → StopsAt (refused_as start.Past o) s →
+        StopsAt (start_from limit f basis) s
+    by_values (Ok values) stop.Singular g h =
+        let z : ◌≡◌ {A = Result (List ℚ) (StartStop ℚ)} (Ok values) (Err start.Singular) = h in cc
+    by_values (Ok values) (stop.Past p) g h =
+        let z : ◌≡◌ {A = Result (List ℚ) (StartStop ℚ)} (Ok values) (Err (start.Past p)) = h in cc
+    by_values (Err x) stop.Singular g h =
+        let z : ◌≡◌ {A = Result (List ℚ) (StartStop ℚ)} (Err (start.Past x)) (Err start.Singular) = h in cc
     by_values (Err x) (stop.Past p) g h =
         let z : ◌≡◌ {A = Result Tableau (StartStop ℚ)} (Err (start.Past x)) (Err (start.Past p)) = (let y : ◌≡◌ {A = Result (List ℚ) (StartStop ℚ)} (Err (start.Past x)) (Err (start.Past p)) = h in cc) in
         from_rows ∙ ap (λ o. refused_as start.Past (after_values o)) g ∙ z
     by_values o stop.NoMemory g h = tt
 
-    pub values_stop : (s : BasisStop) → StopsAt (refused_as start.Past (valued_run limit t)) s → StopsAt (start_from limit f basis) s
+    pub values_stop : (s : BasisStop) → StopsAt (refused_as start.Past (valued_run limit t)) s →
+        StopsAt (start_from limit f basis) s
     values_stop s h = by_values (valued_run limit t) s refl h
 
     module _ (values costs : List ℚ) (v : valued_run limit t ≡ Ok values) (c : costs ≡ f.cost) where
@@ -162,5 +175,6 @@ module _ (limit : Option ℕ) (f : Form) (basis : List Status) where
       pub price_stop : (p : Past ℚ) → priced_run limit t costs ≡ Err p → start_from limit f basis ≡ Err (start.Past p)
       price_stop p h = from_values ∙ ap last h
 
-      pub based : (x u : Tableau) → priced_run limit t costs ≡ Ok x.reduced → x ≡ with_reduced t x.reduced → u ≡ with_values x values → start_from limit f basis ≡ Ok u
+      pub based : (x u : Tableau) → priced_run limit t costs ≡ Ok x.reduced → x ≡ with_reduced t x.reduced →
+          u ≡ with_values x values → start_from limit f basis ≡ Ok u
       based x u h k w = from_values ∙ ap last h ∙ ap Ok (sym (w ∙ ap (λ x. with_values x values) k))

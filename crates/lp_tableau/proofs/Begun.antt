@@ -30,7 +30,8 @@ length-flat n zero f h = omega arith
 length-flat n (suc m) f h = omega (arith, length-append (flat m f) (f m), length-flat n m f h, h m, suc-mul m n)
 
 -- the rows of a block and one row more
-rows_of-append : (n m : ℕ) (xs ys : List ℚ) → length xs ≡ m * n → length ys ≡ n → rows_of n (suc m) (xs ++ ys) ≡ rows_of n m xs ++ ys ∷ []
+rows_of-append : (n m : ℕ) (xs ys : List ℚ) → length xs ≡ m * n → length ys ≡ n →
+    rows_of n (suc m) (xs ++ ys) ≡ rows_of n m xs ++ ys ∷ []
 rows_of-append n zero [] ys h g = ap (λ row. row ∷ []) (ap (λ k. take k ys) (sym g) ∙ take-length ys)
 rows_of-append n zero (x ∷ xs) ys h g = absurd (omega (arith, h, zero-mul n))
 rows_of-append n (suc m) xs ys h g =
@@ -57,7 +58,8 @@ basic_inside f i false h = omega arith
 length-start_front : (f : Form) (starts : List (RowStart ℚ)) (i : ℕ) → length (start_front f starts i) ≡ f.cols + f.rows
 length-start_front f starts i = length-made (f.cols + f.rows) (start_entry f (start_at starts i) i)
 
-block_is : (f : Form) (starts : List (RowStart ℚ)) (xs : List ℚ) → IsForm f → xs ≡ flat f.rows (start_front f starts) → IsBlock f.rows (f.cols + f.rows) xs
+block_is : (f : Form) (starts : List (RowStart ℚ)) (xs : List ℚ) → IsForm f → xs ≡ flat f.rows (start_front f starts) →
+    IsBlock f.rows (f.cols + f.rows) xs
 block_is f starts xs g e =
     record {
       few_rows = g.few_rows;
@@ -65,20 +67,25 @@ block_is f starts xs g e =
       size = ap length e ∙ length-flat (f.cols + f.rows) f.rows (start_front f starts) (length-start_front f starts);
     }
 
-pub begun_shape : (f : Form) (starts : List (RowStart ℚ)) → IsForm f → length starts ≡ f.rows → IsTableauShape (begun f starts)
+pub begun_shape : (f : Form) (starts : List (RowStart ℚ)) → IsForm f → length starts ≡ f.rows →
+    IsTableauShape (begun f starts)
 begun_shape f starts g e =
     record {
       few_rows = g.few_rows;
       few_columns = g.few_columns;
       all_rows = length-made f.rows (start_row f starts);
-      whole_rows = All-made (λ row. length row ≡ width_of f) f.rows (start_row f starts) (λ i l. length-start_row f starts i);
+      whole_rows =
+          All-made (λ row. length row ≡ width_of f) f.rows (start_row f starts) (λ i l. length-start_row f starts i);
       all_basic = length-made f.rows (start_basic f starts);
-      in_range = All-made (λ k. k < width_of f) f.rows (start_basic f starts) (λ i l. basic_inside f i (is_wanting (start_at starts i)) l);
+      in_range =
+          All-made (λ k. k < width_of f) f.rows (start_basic f starts) (λ i l. basic_inside f i (is_wanting (start_at starts i)) l);
       all_values = length-made (width_of f) (start_value f starts);
       all_reduced = length-replicate (width_of f) 0ℚ;
       all_statuses = length-made (width_of f) (start_status f starts);
-      all_lower = omega (arith, length-append f.lower (replicate f.rows (Some 0ℚ)), length-replicate {A = Option ℚ} f.rows (Some 0ℚ), g.all_lower);
-      all_upper = omega (arith, length-append f.upper (map artificial_upper starts), length-map starts artificial_upper, g.all_upper, e);
+      all_lower =
+          omega (arith, length-append f.lower (replicate f.rows (Some 0ℚ)), length-replicate {A = Option ℚ} f.rows (Some 0ℚ), g.all_lower);
+      all_upper =
+          omega (arith, length-append f.upper (map artificial_upper starts), length-map starts artificial_upper, g.all_upper, e);
     }
 
 -- ---- the rows of the block, with their twins, are those of the tableau
@@ -93,7 +100,8 @@ module _ (f : Form) (starts : List (RowStart ℚ)) (w m : ℕ) (xs : List ℚ) (
 
 made_same : {A : Type 0} (n : ℕ) (f g : ℕ → A) → ((i : ℕ) → i < n → f i ≡ g i) → made n f ≡ made n g
 made_same zero f g h = refl
-made_same (suc n) f g h = ap₂ (λ xs x. xs ++ x ∷ []) (made_same n f g (λ i l. h i (omega (arith, l)))) (h n (omega arith))
+made_same (suc n) f g h =
+    ap₂ (λ xs x. xs ++ x ∷ []) (made_same n f g (λ i l. h i (omega (arith, l)))) (h n (omega arith))
 
 append_none : (xs : List ℚ) → xs ++ [] ≡ xs
 append_none [] = refl
@@ -106,13 +114,16 @@ made_parts n (suc m) f =
     ∙ ap (λ xs. xs ++ f (n + m) ∷ []) (made_parts n m f)
     ∙ append_assoc (made n f) (made m (λ r. f (n + r))) (f (n + m) ∷ [])
 
-twinned_push : (c : ℕ) (turned : List Bool) (rows : List (List ℚ)) (row : List ℚ) → twinned c turned (rows ++ row ∷ []) ≡ twinned c turned rows ++ with_twins c turned row ∷ []
+twinned_push : (c : ℕ) (turned : List Bool) (rows : List (List ℚ)) (row : List ℚ) →
+    twinned c turned (rows ++ row ∷ []) ≡ twinned c turned rows ++ with_twins c turned row ∷ []
 twinned_push c turned [] row = refl
 twinned_push c turned (x ∷ rows) row = ap (λ ys. with_twins c turned x ∷ ys) (twinned_push c turned rows row)
 
-twinned_made : (c : ℕ) (turned : List Bool) (m : ℕ) (f : ℕ → List ℚ) → twinned c turned (made m f) ≡ made m (λ i. with_twins c turned (f i))
+twinned_made : (c : ℕ) (turned : List Bool) (m : ℕ) (f : ℕ → List ℚ) →
+    twinned c turned (made m f) ≡ made m (λ i. with_twins c turned (f i))
 twinned_made c turned zero f = refl
-twinned_made c turned (suc m) f = twinned_push c turned (made m f) (f m) ∙ ap (λ xs. xs ++ with_twins c turned (f m) ∷ []) (twinned_made c turned m f)
+twinned_made c turned (suc m) f =
+    twinned_push c turned (made m f) (f m) ∙ ap (λ xs. xs ++ with_twins c turned (f m) ∷ []) (twinned_made c turned m f)
 
 -- a logical and its artificial
 sign_is : (s : RowStart ℚ) → signed (is_below s) (logical_sign s) ≡ 1ℚ
@@ -124,7 +135,8 @@ zero_is : (b : Bool) → signed b 0ℚ ≡ 0ℚ
 zero_is true = neg-zero
 zero_is false = refl
 
-one_is : (starts : List (RowStart ℚ)) (i r : ℕ) → signed (is_below (start_at starts r)) (one_at i r (logical_sign (start_at starts i))) ≡ one_at i r 1ℚ
+one_is : (starts : List (RowStart ℚ)) (i r : ℕ) →
+    signed (is_below (start_at starts r)) (one_at i r (logical_sign (start_at starts i))) ≡ one_at i r 1ℚ
 one_is starts i r = ⊎_elim same other (cases_eq i r)
   where
     same : i ≡ r → signed (is_below (start_at starts r)) (one_at i r (logical_sign (start_at starts i))) ≡ one_at i r 1ℚ
@@ -135,7 +147,8 @@ one_is starts i r = ⊎_elim same other (cases_eq i r)
         ∙ sign_is (start_at starts i)
         ∙ sym (ap (λ b. cond b 1ℚ 0ℚ) t)
 
-    other : (i ≡ r → ⊥) → signed (is_below (start_at starts r)) (one_at i r (logical_sign (start_at starts i))) ≡ one_at i r 1ℚ
+    other : (i ≡ r → ⊥) →
+        signed (is_below (start_at starts r)) (one_at i r (logical_sign (start_at starts i))) ≡ one_at i r 1ℚ
     other n =
         let t : nat_eq i r ≡ false = ne_eqb i r n in
         ap (λ b. signed (is_below (start_at starts r)) (cond b (logical_sign (start_at starts i)) 0ℚ)) t
@@ -160,7 +173,8 @@ module _ (f : Form) (starts : List (RowStart ℚ)) (l : length starts ≡ f.rows
       (le-ltb (f.cols + f.rows + r) f.cols (omega arith)) (le-ltb (f.cols + f.rows + r) (f.cols + f.rows) (omega arith))
       ∙ ap (λ k. one_at i k 1ℚ) z
 
-  twin_is : (r : ℕ) → r < f.rows → twin f.cols (map is_below starts) (start_front f starts i) r ≡ start_entry f start i (f.cols + f.rows + r)
+  twin_is : (r : ℕ) → r < f.rows →
+      twin f.cols (map is_below starts) (start_front f starts i) r ≡ start_entry f start i (f.cols + f.rows + r)
   twin_is r h =
       ap₂ signed (get_or-map is_below starts r (Within 0ℚ) false (omega (arith, h, l))) (get_or-made (f.cols + f.rows) (start_entry f start i) (f.cols + r) 0ℚ (omega (arith, h)) ∙ logical_is r h)
       ∙ one_is starts i r ∙ sym (artificial_is r)
@@ -188,7 +202,8 @@ is_twinned f starts c m turned grid g l ec em et eg =
       twins = ap length et ∙ length-map starts is_below ∙ l ∙ sym em;
       grid = record {
         height = ap length eg ∙ length-made f.rows (start_front f starts) ∙ sym em;
-        width = subst (All (λ row. length row ≡ c + m)) (sym eg) (All-made (λ row. length row ≡ c + m) f.rows (start_front f starts) (λ i h. length-start_front f starts i ∙ sym (ap₂ (λ x y. x + y) ec em)));
+        width =
+            subst (All (λ row. length row ≡ c + m)) (sym eg) (All-made (λ row. length row ≡ c + m) f.rows (start_front f starts) (λ i h. length-start_front f starts i ∙ sym (ap₂ (λ x y. x + y) ec em)));
       };
     }
 
@@ -202,7 +217,8 @@ begun_is f starts rows cols entries basic value reduced status lower upper a b c
 -- ---- the start
 module _ (limit : Option ℕ) (f : Form) where
   abbrev after_rows : List (RowStart ℚ) → Run Tableau
-  after_rows starts = priced_run limit (begun f starts) (first_costs f starts) >>= λ reduced. Ok (with_reduced (begun f starts) reduced)
+  after_rows starts =
+      priced_run limit (begun f starts) (first_costs f starts) >>= λ reduced. Ok (with_reduced (begun f starts) reduced)
 
   pub rows_stop : (s : ColdStop) → Stops (list_run f.rows (row_start limit f)) s → Stops (start_of limit f) s
   unfolding start_of
@@ -212,7 +228,8 @@ module _ (limit : Option ℕ) (f : Form) where
   module _ (starts : List (RowStart ℚ)) (t : Tableau) (costs : List ℚ) (r : list_run f.rows (row_start limit f) ≡ Ok starts) (b : t ≡ begun f starts) (c : costs ≡ first_costs f starts) where
     from_rows : start_of limit f ≡ (priced_run limit t costs >>= λ reduced. Ok (with_reduced t reduced))
     unfolding start_of
-    from_rows = ap (λ o. o >>= after_rows) r ∙ sym (ap₂ (λ u cs. priced_run limit u cs >>= λ reduced. Ok (with_reduced u reduced)) b c)
+    from_rows =
+        ap (λ o. o >>= after_rows) r ∙ sym (ap₂ (λ u cs. priced_run limit u cs >>= λ reduced. Ok (with_reduced u reduced)) b c)
 
     pub price_stops : (e : Past ℚ) → priced_run limit t costs ≡ Err e → start_of limit f ≡ Err e
     price_stops e h = from_rows ∙ ap (λ o. o >>= λ reduced. Ok (with_reduced t reduced)) h

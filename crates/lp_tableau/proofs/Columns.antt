@@ -16,7 +16,8 @@ use Rattle.lp_tableau.proofs.Rows.{length-rows_of, at-rows_of, inside, row_width
 -- ---- one item of rows
 module _ (rows : List (List ℚ)) (p k : ℕ) (v : ℚ) (h : p < length rows) where
   item_put : k < length (get_or rows p []) → at_place (with_item rows p k v) p k ≡ v
-  item_put l = ap (λ row. get_or row k 0ℚ) (get_or-set_same rows p (set (get_or rows p []) k v) [] h) ∙ get_or-set_same (get_or rows p []) k v 0ℚ l
+  item_put l =
+      ap (λ row. get_or row k 0ℚ) (get_or-set_same rows p (set (get_or rows p []) k v) [] h) ∙ get_or-set_same (get_or rows p []) k v 0ℚ l
 
   row_stays : (i l : ℕ) → i ≢ p → at_place (with_item rows p k v) i l ≡ at_place rows i l
   row_stays i l n = ap (λ row. get_or row l 0ℚ) (get_or-set_other rows p i (set (get_or rows p []) k v) [] n)
@@ -45,22 +46,26 @@ none_put f j rows l o =
       rest = λ i k h g. o.rest i k h (omega (arith, g));
     }
 
-pub one_put : (f : Form) (j : ℕ) (entries : List (ℕ × ℚ)) (rows : List (List ℚ)) (r : ℕ) (v : ℚ) → j < f.cols → r < f.rows → HoldsPart f j entries rows → HoldsPart f j ((r, v) ∷ entries) (with_item rows r j v)
+pub one_put : (f : Form) (j : ℕ) (entries : List (ℕ × ℚ)) (rows : List (List ℚ)) (r : ℕ) (v : ℚ) → j < f.cols →
+    r < f.rows → HoldsPart f j entries rows → HoldsPart f j ((r, v) ∷ entries) (with_item rows r j v)
 one_put f j entries rows r v l h o =
     let inside_r = row_inside f.rows f.cols rows r o.shape h in
     record {
       shape = grid_set f.rows f.cols rows r j v o.shape h;
-      done = λ i k g m. column_stays rows r j v inside_r i k (λ e. absurd (let z : ⊥ = omega (arith, m, e) in z)) ∙ o.done i k g m;
+      done =
+          λ i k g m. column_stays rows r j v inside_r i k (λ e. absurd (let z : ⊥ = omega (arith, m, e) in z)) ∙ o.done i k g m;
       column = λ i g.
           ⊎_elim
           (λ (e : r ≡ i). subst (λ q. at_place (with_item rows r j v) q j ≡ v) e (item_put rows r j v inside_r (omega (arith, l, grid_row f.rows f.cols rows r o.shape h)))
           ∙ sym (ap (λ b. cond b v (entry_of entries i)) (eq-eqb r i e)))
           (λ (n : r ≢ i). row_stays rows r j v inside_r i j (λ e. n (sym e)) ∙ o.column i g ∙ sym (ap (λ b. cond b v (entry_of entries i)) (ne_eqb r i n)))
           (cases_eq r i);
-      rest = λ i k g m. λ n. column_stays rows r j v inside_r i k (λ e. absurd (let z : ⊥ = omega (arith, m, e) in z)) ∙ o.rest i k g m n;
+      rest =
+          λ i k g m. λ n. column_stays rows r j v inside_r i k (λ e. absurd (let z : ⊥ = omega (arith, m, e) in z)) ∙ o.rest i k g m n;
     }
 
-pub all_put : (f : Form) (j : ℕ) (rows : List (List ℚ)) → HoldsPart f j (get_or f.entries j []) rows → HoldsColumns f (j + 1) rows
+pub all_put : (f : Form) (j : ℕ) (rows : List (List ℚ)) → HoldsPart f j (get_or f.entries j []) rows →
+    HoldsColumns f (j + 1) rows
 all_put f j rows o =
     record {
       shape = o.shape;
@@ -87,8 +92,10 @@ module _ (f : Form) (g : IsForm f) (xs : List ℚ) (e : xs ≡ replicate (f.rows
       record {
         shape = record {
           height = length-rows_of f.cols f.rows xs;
-          width = All-from_get_or (λ row. length row ≡ f.cols) (rows_of f.cols f.rows xs) [] (λ i h. row_width f.cols f.rows i xs (omega (arith, h, length-rows_of f.cols f.rows xs)) size);
+          width =
+              All-from_get_or (λ row. length row ≡ f.cols) (rows_of f.cols f.rows xs) [] (λ i h. row_width f.cols f.rows i xs (omega (arith, h, length-rows_of f.cols f.rows xs)) size);
         };
         done = λ i k h l. absurd (let z : ⊥ = omega (arith, l) in z);
-        rest = λ i k h l m. at-rows_of f.cols f.rows i k xs h m ∙ ap (λ ys. get_or ys (i * f.cols + k) 0ℚ) e ∙ get_or-replicate (f.rows * f.cols) (i * f.cols + k) 0ℚ 0ℚ (inside f.cols f.rows i k h m);
+        rest =
+            λ i k h l m. at-rows_of f.cols f.rows i k xs h m ∙ ap (λ ys. get_or ys (i * f.cols + k) 0ℚ) e ∙ get_or-replicate (f.rows * f.cols) (i * f.cols + k) 0ℚ 0ℚ (inside f.cols f.rows i k h m);
       }

@@ -1,4 +1,4 @@
--- Lists whose items are replaced one after the other, from the front, and rows among rows.
+-- Lists whose items are replaced one after the other, from the start, and rows among rows.
 use Rattle.std.proofs.Common.{◌≡◌, ◌≢◌, ℕ, ◌+◌, ◌<◌, ◌≤◌, List, [], length, take, drop, get_or, Ok, Err, refl, sym, ap, ◌∙◌, subst, arith}
 use Rattle.std.proofs.Math.ListN.{set}
 use Rattle.std.proofs.Math.Seq.{take-length}
@@ -23,7 +23,8 @@ none_done f old = record { done = refl; rest = refl; len = refl }
 drop_one_more : (k : ℕ) (xs ys : List ℚ) → drop k xs ≡ drop k ys → drop (k + 1) xs ≡ drop (k + 1) ys
 drop_one_more k xs ys e = sym (drop-drop 1 k xs) ∙ ap (drop 1) e ∙ drop-drop 1 k ys
 
-pub one_done : (k : ℕ) (f : ℕ → Run ℚ) (old new : List ℚ) (v : ℚ) → IsDone k f old new → k < length new → f k ≡ Ok v → IsDone (k + 1) f old (set new k v)
+pub one_done : (k : ℕ) (f : ℕ → Run ℚ) (old new : List ℚ) (v : ℚ) → IsDone k f old new → k < length new → f k ≡ Ok v →
+    IsDone (k + 1) f old (set new k v)
 one_done k f old new v d h e =
     record {
       done = list_more k f (take k new) v d.done e ∙ ap Ok (sym (take_more_set new k v h));
@@ -52,32 +53,41 @@ no_row_done p f old = record { row = none_done f (get_or old p []); frame = sym 
 abbrev pub with_item : List (List ℚ) → ℕ → ℕ → ℚ → List (List ℚ)
 with_item rows p k v = set rows p (set (get_or rows p []) k v)
 
-pub one_row_done : (p k : ℕ) (f : ℕ → Run ℚ) (old new : List (List ℚ)) (v : ℚ) → IsRowDone p k f old new → p < length new → k < length (get_or new p []) → f k ≡ Ok v → IsRowDone p (k + 1) f old (with_item new p k v)
+pub one_row_done : (p k : ℕ) (f : ℕ → Run ℚ) (old new : List (List ℚ)) (v : ℚ) → IsRowDone p k f old new →
+    p < length new → k < length (get_or new p []) → f k ≡ Ok v → IsRowDone p (k + 1) f old (with_item new p k v)
 one_row_done p k f old new v d h l e =
     let r : List ℚ = set (get_or new p []) k v in
     let same : get_or (set new p r) p [] ≡ r = get_or-set_same new p r [] h in
     record {
-      row = subst (IsDone (k + 1) f (get_or old p [])) (sym same) (one_done k f (get_or old p []) (get_or new p []) v d.row l e);
-      frame = ap (λ rows. set rows p r) d.frame ∙ set-set old p (get_or new p []) r ∙ ap (λ row. set old p row) (sym same);
+      row =
+          subst (IsDone (k + 1) f (get_or old p [])) (sym same) (one_done k f (get_or old p []) (get_or new p []) v d.row l e);
+      frame =
+          ap (λ rows. set rows p r) d.frame ∙ set-set old p (get_or new p []) r ∙ ap (λ row. set old p row) (sym same);
     }
 
 -- the whole run
-pub row_all_done : (p n : ℕ) (f : ℕ → Run ℚ) (old new : List (List ℚ)) → IsRowDone p n f old new → length (get_or old p []) ≡ n → (list_run n f >>= λ row. Ok (set old p row)) ≡ Ok new
+pub row_all_done : (p n : ℕ) (f : ℕ → Run ℚ) (old new : List (List ℚ)) → IsRowDone p n f old new →
+    length (get_or old p []) ≡ n → (list_run n f >>= λ row. Ok (set old p row)) ≡ Ok new
 row_all_done p n f old new d e =
     ap (λ o. o >>= λ row. Ok (set old p row)) (all_done n f (get_or old p []) (get_or new p []) d.row e) ∙ ap Ok (sym d.frame)
 
-pub row_stops : (p k n : ℕ) (f : ℕ → Run ℚ) (old new : List (List ℚ)) (e : Past ℚ) → IsRowDone p k f old new → k < n → f k ≡ Err e → (list_run n f >>= λ row. Ok (set old p row)) ≡ Err e
+pub row_stops : (p k n : ℕ) (f : ℕ → Run ℚ) (old new : List (List ℚ)) (e : Past ℚ) → IsRowDone p k f old new → k < n →
+    f k ≡ Err e → (list_run n f >>= λ row. Ok (set old p row)) ≡ Err e
 row_stops p k n f old new e d h g =
     ap (λ o. o >>= λ row. Ok (set old p row)) (list_stops k n f (take k (get_or new p [])) e h d.row.done g)
 
 -- what is read of the row, and of another one
-pub row_as_before : (p k : ℕ) (f : ℕ → Run ℚ) (old new : List (List ℚ)) → IsRowDone p k f old new → at_place new p k ≡ at_place old p k
+pub row_as_before : (p k : ℕ) (f : ℕ → Run ℚ) (old new : List (List ℚ)) → IsRowDone p k f old new →
+    at_place new p k ≡ at_place old p k
 row_as_before p k f old new d = as_before k f (get_or old p []) (get_or new p []) d.row
 
-pub others_as_before : (p k q : ℕ) (f : ℕ → Run ℚ) (old new : List (List ℚ)) → IsRowDone p k f old new → q ≢ p → get_or new q [] ≡ get_or old q []
-others_as_before p k q f old new d n = ap (λ rows. get_or rows q []) d.frame ∙ get_or-set_other old p q (get_or new p []) [] n
+pub others_as_before : (p k q : ℕ) (f : ℕ → Run ℚ) (old new : List (List ℚ)) → IsRowDone p k f old new → q ≢ p →
+    get_or new q [] ≡ get_or old q []
+others_as_before p k q f old new d n =
+    ap (λ rows. get_or rows q []) d.frame ∙ get_or-set_other old p q (get_or new p []) [] n
 
-pub other_as_before : (p k q : ℕ) (f : ℕ → Run ℚ) (old new : List (List ℚ)) → IsRowDone p k f old new → p ≢ q → at_place new q k ≡ at_place old q k
+pub other_as_before : (p k q : ℕ) (f : ℕ → Run ℚ) (old new : List (List ℚ)) → IsRowDone p k f old new → p ≢ q →
+    at_place new q k ≡ at_place old q k
 other_as_before p k q f old new d n = ap (λ row. get_or row k 0ℚ) (others_as_before p k q f old new d (λ e. n (sym e)))
 
 -- ---- rows of one width
@@ -87,23 +97,28 @@ grid_row m n rows i g h = All-get_or (λ row. length row ≡ n) rows i [] (omega
 pub row_inside : (m n : ℕ) (rows : List (List ℚ)) (i : ℕ) → IsGrid m n rows → i < m → i < length rows
 row_inside m n rows i g h = omega (arith, h, g.height)
 
-pub column_inside : (m n : ℕ) (rows : List (List ℚ)) (i k : ℕ) → IsGrid m n rows → i < m → k < n → k < length (get_or rows i [])
+pub column_inside : (m n : ℕ) (rows : List (List ℚ)) (i k : ℕ) → IsGrid m n rows → i < m → k < n →
+    k < length (get_or rows i [])
 column_inside m n rows i k g h l = omega (arith, l, grid_row m n rows i g h)
 
-pub grid_set : (m n : ℕ) (rows : List (List ℚ)) (i k : ℕ) (v : ℚ) → IsGrid m n rows → i < m → IsGrid m n (with_item rows i k v)
+pub grid_set : (m n : ℕ) (rows : List (List ℚ)) (i k : ℕ) (v : ℚ) → IsGrid m n rows → i < m →
+    IsGrid m n (with_item rows i k v)
 grid_set m n rows i k v g h =
     record {
       height = length-set rows i (set (get_or rows i []) k v) ∙ g.height;
-      width = All-set (λ row. length row ≡ n) rows i (set (get_or rows i []) k v) (length-set (get_or rows i []) k v ∙ grid_row m n rows i g h) g.width;
+      width =
+          All-set (λ row. length row ≡ n) rows i (set (get_or rows i []) k v) (length-set (get_or rows i []) k v ∙ grid_row m n rows i g h) g.width;
     }
 
 -- the end of a loop
-pub row_finished : (p k n : ℕ) (f : ℕ → Run ℚ) (old new : List (List ℚ)) → IsRowDone p k f old new → n ≤ k → k ≤ n → length (get_or old p []) ≡ n → (list_run n f >>= λ row. Ok (set old p row)) ≡ Ok new
+pub row_finished : (p k n : ℕ) (f : ℕ → Run ℚ) (old new : List (List ℚ)) → IsRowDone p k f old new → n ≤ k → k ≤ n →
+    length (get_or old p []) ≡ n → (list_run n f >>= λ row. Ok (set old p row)) ≡ Ok new
 row_finished p k n f old new d h l e =
     let z : k ≡ n = omega arith in
     row_all_done p n f old new (subst (λ i. IsRowDone p i f old new) z d) e
 
-pub list_finished : (k n : ℕ) (f : ℕ → Run ℚ) (old new : List ℚ) → IsDone k f old new → n ≤ k → k ≤ n → length old ≡ n → list_run n f ≡ Ok new
+pub list_finished : (k n : ℕ) (f : ℕ → Run ℚ) (old new : List ℚ) → IsDone k f old new → n ≤ k → k ≤ n → length old ≡ n →
+    list_run n f ≡ Ok new
 list_finished k n f old new d h l e =
     let z : k ≡ n = omega arith in
     all_done n f old new (subst (λ i. IsDone i f old new) z d) e

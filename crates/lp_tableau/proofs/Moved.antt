@@ -16,27 +16,34 @@ abbrev pub move_at : Option ℕ → Tableau → ℕ → ℚ → Option ℕ → �
 move_at limit t j theta but i values = cond (is_place but i) (Ok values) (moved_at limit t j theta i values)
 
 module _ (limit : Option ℕ) (t : Tableau) (j : ℕ) (theta : ℚ) (but : Option ℕ) where
-  at_same : (u : Tableau) (i : ℕ) → MovedFrom t u → moved_at limit u j theta i u.value ≡ moved_at limit t j theta i u.value
+  at_same : (u : Tableau) (i : ℕ) → MovedFrom t u →
+      moved_at limit u j theta i u.value ≡ moved_at limit t j theta i u.value
   at_same u i e = ap (λ w. moved_at limit w j theta i u.value) e
 
   pub not_moved : (i : ℕ) (values : List ℚ) → is_place but i ≡ true → move_at limit t j theta but i values ≡ Ok values
   not_moved i values b = ap (λ b. cond b (Ok values) (moved_at limit t j theta i values)) b
 
-  pub one_passed : (i : ℕ) (values : List ℚ) → steps i (move_at limit t j theta but) t.value ≡ Ok values → is_place but i ≡ true → steps (i + 1) (move_at limit t j theta but) t.value ≡ Ok values
+  pub one_passed : (i : ℕ) (values : List ℚ) → steps i (move_at limit t j theta but) t.value ≡ Ok values →
+      is_place but i ≡ true → steps (i + 1) (move_at limit t j theta but) t.value ≡ Ok values
   one_passed i values s b = steps_more i (move_at limit t j theta but) t.value values values s (not_moved i values b)
 
-  pub one_moved : (u : Tableau) (i : ℕ) (values : List ℚ) → steps i (move_at limit t j theta but) t.value ≡ Ok u.value → MovedFrom t u → is_place but i ≡ false → moved_at limit u j theta i u.value ≡ Ok values → steps (i + 1) (move_at limit t j theta but) t.value ≡ Ok values
+  pub one_moved : (u : Tableau) (i : ℕ) (values : List ℚ) → steps i (move_at limit t j theta but) t.value ≡ Ok u.value →
+      MovedFrom t u → is_place but i ≡ false → moved_at limit u j theta i u.value ≡ Ok values →
+      steps (i + 1) (move_at limit t j theta but) t.value ≡ Ok values
   one_moved u i values s e b g =
       steps_more i (move_at limit t j theta but) t.value u.value values s
       (ap (λ b. cond b (Ok u.value) (moved_at limit t j theta i u.value)) b ∙ (let z = at_same u i e in sym z) ∙ g)
 
-  pub move_refused : (u : Tableau) (i : ℕ) (p : Past ℚ) → steps i (move_at limit t j theta but) t.value ≡ Ok u.value → MovedFrom t u → i < t.rows → is_place but i ≡ false → moved_at limit u j theta i u.value ≡ Err p → moved_run limit t j theta but ≡ Err p
+  pub move_refused : (u : Tableau) (i : ℕ) (p : Past ℚ) → steps i (move_at limit t j theta but) t.value ≡ Ok u.value →
+      MovedFrom t u → i < t.rows → is_place but i ≡ false → moved_at limit u j theta i u.value ≡ Err p →
+      moved_run limit t j theta but ≡ Err p
   unfolding moved_run
   move_refused u i p s e h b g =
       steps_stop i t.rows (move_at limit t j theta but) t.value u.value p h s
       (ap (λ b. cond b (Ok u.value) (moved_at limit t j theta i u.value)) b ∙ (let z = at_same u i e in sym z) ∙ g)
 
-  pub all_moved : (i : ℕ) (values : List ℚ) → steps i (move_at limit t j theta but) t.value ≡ Ok values → t.rows ≤ i → i ≤ t.rows → moved_run limit t j theta but ≡ Ok values
+  pub all_moved : (i : ℕ) (values : List ℚ) → steps i (move_at limit t j theta but) t.value ≡ Ok values → t.rows ≤ i →
+      i ≤ t.rows → moved_run limit t j theta but ≡ Ok values
   unfolding moved_run
   all_moved i values s h l =
       let z : i ≡ t.rows = omega arith in

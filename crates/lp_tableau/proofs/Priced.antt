@@ -16,7 +16,8 @@ use Rattle.lp_tableau.proofs.Pivots.{RepricedFrom}
 use Rattle.lp_tableau.proofs.Spots.{less_no_times}
 
 -- reduced costs do not read those that stand already
-pub reduced_same : (limit : Option ℕ) (t u : Tableau) (costs : List ℚ) (k : ℕ) → RepricedFrom t u → reduced_run limit u costs k ≡ reduced_run limit t costs k
+pub reduced_same : (limit : Option ℕ) (t u : Tableau) (costs : List ℚ) (k : ℕ) → RepricedFrom t u →
+    reduced_run limit u costs k ≡ reduced_run limit t costs k
 reduced_same limit t u costs k e = ap (λ w. reduced_run limit w costs k) e
 
 pub repriced_again : (t u v : Tableau) (xs : List ℚ) → RepricedFrom t u → v ≡ with_reduced u xs → RepricedFrom t v
@@ -24,7 +25,9 @@ repriced_again t u v xs e h =
     let d : xs ≡ v.reduced = sym (ap (λ w. w.reduced) h) in
     h ∙ ap (λ w. with_reduced w xs) e ∙ ap (with_reduced t) d
 
-pub phase_two_gives : (limit : Option ℕ) (f : Form) (t u x : Tableau) (costs : List ℚ) (r : Result ⊤ (Past ℚ)) → u ≡ without_artificials t → costs ≡ f.cost → GivesRun (priced_run limit u costs) x.reduced r → RepricedFrom u x → GivesRun (phase_two_run limit f t) x r
+pub phase_two_gives : (limit : Option ℕ) (f : Form) (t u x : Tableau) (costs : List ℚ) (r : Result ⊤ (Past ℚ)) →
+    u ≡ without_artificials t → costs ≡ f.cost → GivesRun (priced_run limit u costs) x.reduced r → RepricedFrom u x →
+    GivesRun (phase_two_run limit f t) x r
 unfolding phase_two_run
 phase_two_gives limit f t u x costs (Ok v) e g h k =
     let priced : priced_run limit (without_artificials t) f.cost ≡ Ok x.reduced = subst (λ w. priced_run limit w f.cost ≡ Ok x.reduced) e (subst (λ c. priced_run limit u c ≡ Ok x.reduced) g h) in

@@ -22,7 +22,7 @@ length-rows_of n (suc m) xs = ap suc (length-rows_of n m (drop n xs))
 next_at : (n i : ℕ) → n + i * n ≡ suc i * n
 next_at n i = omega (arith, suc-mul i n)
 
--- row i begins behind i rows
+-- row i begins after i rows
 pub row-rows_of : (n m i : ℕ) (xs : List ℚ) → i < m → get_or (rows_of n m xs) i [] ≡ take n (drop (i * n) xs)
 row-rows_of n zero i xs h = absurd (omega arith)
 row-rows_of n (suc m) zero xs h = ap (λ k. take n (drop k xs)) (sym (zero-mul n))
@@ -42,7 +42,8 @@ inside n m i k h l =
     omega (arith, e, g)
 
 -- a write into the block is a write into its row
-pub set-rows_of : (n m i k : ℕ) (xs : List ℚ) (v : ℚ) → i < m → k < n → rows_of n m (set xs (i * n + k) v) ≡ set (rows_of n m xs) i (set (get_or (rows_of n m xs) i []) k v)
+pub set-rows_of : (n m i k : ℕ) (xs : List ℚ) (v : ℚ) → i < m → k < n →
+    rows_of n m (set xs (i * n + k) v) ≡ set (rows_of n m xs) i (set (get_or (rows_of n m xs) i []) k v)
 set-rows_of n zero i k xs v h l = absurd (omega arith)
 set-rows_of n (suc m) zero k xs v h l =
     let e : zero * n + k ≡ k = omega (arith, zero-mul n) in
@@ -98,10 +99,12 @@ pub within_item : (xs : List ℚ) (k : ℕ) → All (IsWithin largest) xs → Is
 within_item xs k h =
     ⊎_elim (λ l. All-get_or (IsWithin largest) xs k 0ℚ l h) (λ g. subst (IsWithin largest) (sym (get_or_past xs k 0ℚ g)) zero_within) (cases_lt k (length xs))
 
-within_rows : (n m : ℕ) (xs : List ℚ) (i k : ℕ) → All (IsWithin largest) xs → IsWithin largest (at_place (rows_of n m xs) i k)
+within_rows : (n m : ℕ) (xs : List ℚ) (i k : ℕ) → All (IsWithin largest) xs →
+    IsWithin largest (at_place (rows_of n m xs) i k)
 within_rows n zero xs i k h = within_item [] k (λ j d l. absurd (omega (arith, l)))
 within_rows n (suc m) xs zero k h = within_item (take n xs) k (All-take (IsWithin largest) n xs h)
 within_rows n (suc m) xs (suc i) k h = within_rows n m (drop n xs) i k (All-drop (IsWithin largest) n xs h)
 
-pub narrow_rows : (n m : ℕ) (xs : List ℚ) (rows : List (List ℚ)) → rows_of n m xs ≡ rows → All (IsWithin largest) xs → IsNarrowGrid rows
+pub narrow_rows : (n m : ℕ) (xs : List ℚ) (rows : List (List ℚ)) → rows_of n m xs ≡ rows → All (IsWithin largest) xs →
+    IsNarrowGrid rows
 narrow_rows n m xs rows e h = subst IsNarrowGrid e (record { each = λ i k. within_rows n m xs i k h })

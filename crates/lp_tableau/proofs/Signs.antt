@@ -16,18 +16,23 @@ use Rattle.lp_tableau.specs.Twins.{signed}
 use Rattle.spec_simplex.specs.Run.{Run, ◌>>=◌, product_run, difference_run, quotient_run, less_product}
 
 -- ---- products
-product_size : (a : ℤ) (b : ℕ) (c : ℤ) (d : ℕ) → unsigned_abs (product_num a b c d) ≡ unsigned_abs a / gcd (unsigned_abs a) d * (unsigned_abs c / gcd (unsigned_abs c) b)
-product_size a b c d = unsigned_abs-mul (int_div a (pos (gcd (unsigned_abs a) d))) (int_div c (pos (gcd (unsigned_abs c) b))) ∙ ap₂ (λ (m n : ℕ). m * n) (abs-int_div a _) (abs-int_div c _)
+product_size : (a : ℤ) (b : ℕ) (c : ℤ) (d : ℕ) →
+    unsigned_abs (product_num a b c d) ≡ unsigned_abs a / gcd (unsigned_abs a) d * (unsigned_abs c / gcd (unsigned_abs c) b)
+product_size a b c d =
+    unsigned_abs-mul (int_div a (pos (gcd (unsigned_abs a) d))) (int_div c (pos (gcd (unsigned_abs c) b))) ∙ ap₂ (λ (m n : ℕ). m * n) (abs-int_div a _) (abs-int_div c _)
 
 abbrev size_fits : Option ℕ → ℕ → ℕ → ℕ → ℕ → Bool
 size_fits limit a b c d = fits limit (a / gcd a d * (c / gcd c b)) && fits limit (b / gcd c b * (d / gcd a d))
 
-fits_by_size : (limit : Option ℕ) (a : ℤ) (b : ℕ) (c : ℤ) (d : ℕ) → product_fits limit a b c d ≡ size_fits limit (unsigned_abs a) b (unsigned_abs c) d
+fits_by_size : (limit : Option ℕ) (a : ℤ) (b : ℕ) (c : ℤ) (d : ℕ) →
+    product_fits limit a b c d ≡ size_fits limit (unsigned_abs a) b (unsigned_abs c) d
 fits_by_size limit a b c d = ap (λ (n : ℕ). fits limit n && fits limit (product_den a b c d)) (product_size a b c d)
 
-mul_is : (limit : Option ℕ) (v w : ℚ) → mul limit v w ≡ cond (size_fits limit (unsigned_abs v.num) v.den (unsigned_abs w.num) w.den) (Some (v *ℚ w)) None
+mul_is : (limit : Option ℕ) (v w : ℚ) →
+    mul limit v w ≡ cond (size_fits limit (unsigned_abs v.num) v.den (unsigned_abs w.num) w.den) (Some (v *ℚ w)) None
 unfolding mul
-mul_is limit v w = ap₂ (λ (t : Bool) (x : ℚ). cond t (Some x) None) (fits_by_size limit v.num v.den w.num w.den) (product_exact v w)
+mul_is limit v w =
+    ap₂ (λ (t : Bool) (x : ℚ). cond t (Some x) None) (fits_by_size limit v.num v.den w.num w.den) (product_exact v w)
 
 -- the negative of an answer
 abbrev negated : Option ℚ → Option ℚ
@@ -54,26 +59,31 @@ mul_left_neg limit v w =
 
 -- ---- differences
 abbrev sum_sizes : Option ℕ → ℕ → ℕ → ℕ → ℕ → ℕ → Bool
-sum_sizes limit l r s b d = fits limit l && fits limit r && fits limit s && fits limit (b / gcd b d * (d / gcd s (gcd b d)))
+sum_sizes limit l r s b d =
+    fits limit l && fits limit r && fits limit s && fits limit (b / gcd b d * (d / gcd s (gcd b d)))
 
-sum_fits_by : (limit : Option ℕ) (a : ℤ) (b : ℕ) (c : ℤ) (d : ℕ) → sum_fits limit a b c d ≡ sum_sizes limit (unsigned_abs (left_num a b c d)) (unsigned_abs (right_num a b c d)) (unsigned_abs (whole_sum a b c d)) b d
+sum_fits_by : (limit : Option ℕ) (a : ℤ) (b : ℕ) (c : ℤ) (d : ℕ) →
+    sum_fits limit a b c d ≡ sum_sizes limit (unsigned_abs (left_num a b c d)) (unsigned_abs (right_num a b c d)) (unsigned_abs (whole_sum a b c d)) b d
 sum_fits_by limit a b c d = refl
 
 left_neg : (a : ℤ) (k : ℕ) → unsigned_abs (neg_ℤ a *ℤ pos k) ≡ unsigned_abs (a *ℤ pos k)
 left_neg a k = unsigned_abs-mul (neg_ℤ a) (pos k) ∙ ap (λ n. n * k) (abs-neg_ℤ a) ∙ sym (unsigned_abs-mul a (pos k))
 
-whole_neg : (a c : ℤ) (m k : ℕ) → unsigned_abs (neg_ℤ a *ℤ pos m +ℤ neg_ℤ c *ℤ pos k) ≡ unsigned_abs (a *ℤ pos m +ℤ c *ℤ pos k)
+whole_neg : (a c : ℤ) (m k : ℕ) →
+    unsigned_abs (neg_ℤ a *ℤ pos m +ℤ neg_ℤ c *ℤ pos k) ≡ unsigned_abs (a *ℤ pos m +ℤ c *ℤ pos k)
 whole_neg a c m k =
     ap unsigned_abs (by_ring (a ∷ c ∷ pos m ∷ pos k ∷ []) (minus v0 ⊗ v2 ⊕ minus v1 ⊗ v3) (minus (v0 ⊗ v2 ⊕ v1 ⊗ v3)) refl)
     ∙ abs-neg_ℤ (a *ℤ pos m +ℤ c *ℤ pos k)
 
-sum_fits_neg : (limit : Option ℕ) (a : ℤ) (b : ℕ) (c : ℤ) (d : ℕ) → sum_fits limit (neg_ℤ a) b (neg_ℤ c) d ≡ sum_fits limit a b c d
+sum_fits_neg : (limit : Option ℕ) (a : ℤ) (b : ℕ) (c : ℤ) (d : ℕ) →
+    sum_fits limit (neg_ℤ a) b (neg_ℤ c) d ≡ sum_fits limit a b c d
 sum_fits_neg limit a b c d =
     sum_fits_by limit (neg_ℤ a) b (neg_ℤ c) d
     ∙ ap₂ (λ (l r : ℕ). sum_sizes limit l r (unsigned_abs (whole_sum (neg_ℤ a) b (neg_ℤ c) d)) b d) (left_neg a (d / gcd b d)) (left_neg c (b / gcd b d))
     ∙ ap (λ (s : ℕ). sum_sizes limit (unsigned_abs (left_num a b c d)) (unsigned_abs (right_num a b c d)) s b d) (whole_neg a c (d / gcd b d) (b / gcd b d))
 
-add_is : (limit : Option ℕ) (v w : ℚ) → add limit v w ≡ cond (sum_fits limit v.num v.den w.num w.den) (Some (v +ℚ w)) None
+add_is : (limit : Option ℕ) (v w : ℚ) →
+    add limit v w ≡ cond (sum_fits limit v.num v.den w.num w.den) (Some (v +ℚ w)) None
 unfolding add
 add_is limit v w = ap (λ (x : ℚ). cond (sum_fits limit v.num v.den w.num w.den) (Some x) None) (sum_exact v w)
 
@@ -93,31 +103,43 @@ unfolding div
 div_neg limit v w = mul_left_neg limit v (inverse w)
 
 -- ---- runs
-told_neg : (op : Op) (v w x y : ℚ) (o : Option ℚ) (z : ℚ) → told op v w o ≡ Ok z → told op x y (negated o) ≡ Ok (neg_ℚ z)
+told_neg : (op : Op) (v w x y : ℚ) (o : Option ℚ) (z : ℚ) → told op v w o ≡ Ok z →
+    told op x y (negated o) ≡ Ok (neg_ℚ z)
 told_neg op v w x y (Some u) z e = let f : u ≡ z = cc in ap (λ (q : ℚ). Ok (neg_ℚ q)) f
 told_neg op v w x y None z e = cc
 
-quotient_neg : (limit : Option ℕ) (v w z : ℚ) → quotient_run limit v w ≡ Ok z → quotient_run limit (neg_ℚ v) w ≡ Ok (neg_ℚ z)
-quotient_neg limit v w z e = ap (told Div (neg_ℚ v) w) (div_neg limit v w) ∙ told_neg Div v w (neg_ℚ v) w (div limit v w) z e
+quotient_neg : (limit : Option ℕ) (v w z : ℚ) → quotient_run limit v w ≡ Ok z →
+    quotient_run limit (neg_ℚ v) w ≡ Ok (neg_ℚ z)
+quotient_neg limit v w z e =
+    ap (told Div (neg_ℚ v) w) (div_neg limit v w) ∙ told_neg Div v w (neg_ℚ v) w (div limit v w) z e
 
-product_neg : (limit : Option ℕ) (v w z : ℚ) → product_run limit v w ≡ Ok z → product_run limit v (neg_ℚ w) ≡ Ok (neg_ℚ z)
-product_neg limit v w z e = ap (told Mul v (neg_ℚ w)) (mul_right_neg limit v w) ∙ told_neg Mul v w v (neg_ℚ w) (mul limit v w) z e
+product_neg : (limit : Option ℕ) (v w z : ℚ) → product_run limit v w ≡ Ok z →
+    product_run limit v (neg_ℚ w) ≡ Ok (neg_ℚ z)
+product_neg limit v w z e =
+    ap (told Mul v (neg_ℚ w)) (mul_right_neg limit v w) ∙ told_neg Mul v w v (neg_ℚ w) (mul limit v w) z e
 
-difference_neg : (limit : Option ℕ) (v w z : ℚ) → difference_run limit v w ≡ Ok z → difference_run limit (neg_ℚ v) (neg_ℚ w) ≡ Ok (neg_ℚ z)
-difference_neg limit v w z e = ap (told Sub (neg_ℚ v) (neg_ℚ w)) (sub_neg limit v w) ∙ told_neg Sub v w (neg_ℚ v) (neg_ℚ w) (sub limit v w) z e
+difference_neg : (limit : Option ℕ) (v w z : ℚ) → difference_run limit v w ≡ Ok z →
+    difference_run limit (neg_ℚ v) (neg_ℚ w) ≡ Ok (neg_ℚ z)
+difference_neg limit v w z e =
+    ap (told Sub (neg_ℚ v) (neg_ℚ w)) (sub_neg limit v w) ∙ told_neg Sub v w (neg_ℚ v) (neg_ℚ w) (sub limit v w) z e
 
-less_neg : (limit : Option ℕ) (v w s z : ℚ) → less_product limit v w s ≡ Ok z → less_product limit v (neg_ℚ w) (neg_ℚ s) ≡ Ok (neg_ℚ z)
+less_neg : (limit : Option ℕ) (v w s z : ℚ) → less_product limit v w s ≡ Ok z →
+    less_product limit v (neg_ℚ w) (neg_ℚ s) ≡ Ok (neg_ℚ z)
 less_neg limit v w s z e = by (product_run limit v w) refl e
   where
-    by : (o : Run ℚ) → product_run limit v w ≡ o → (o >>= λ p. difference_run limit s p) ≡ Ok z → less_product limit v (neg_ℚ w) (neg_ℚ s) ≡ Ok (neg_ℚ z)
-    by (Ok p) f g = ap (λ o. o >>= λ p. difference_run limit (neg_ℚ s) p) (product_neg limit v w p f) ∙ difference_neg limit s p z g
+    by : (o : Run ℚ) → product_run limit v w ≡ o → (o >>= λ p. difference_run limit s p) ≡ Ok z →
+        less_product limit v (neg_ℚ w) (neg_ℚ s) ≡ Ok (neg_ℚ z)
+    by (Ok p) f g =
+        ap (λ o. o >>= λ p. difference_run limit (neg_ℚ s) p) (product_neg limit v w p f) ∙ difference_neg limit s p z g
     by (Err p) f g = cc
 
 -- of a sign
-pub quotient_signed : (limit : Option ℕ) (b : Bool) (v w z : ℚ) → quotient_run limit v w ≡ Ok z → quotient_run limit (signed b v) w ≡ Ok (signed b z)
+pub quotient_signed : (limit : Option ℕ) (b : Bool) (v w z : ℚ) → quotient_run limit v w ≡ Ok z →
+    quotient_run limit (signed b v) w ≡ Ok (signed b z)
 quotient_signed limit true v w z e = quotient_neg limit v w z e
 quotient_signed limit false v w z e = e
 
-pub less_signed : (limit : Option ℕ) (b : Bool) (v w s z : ℚ) → less_product limit v w s ≡ Ok z → less_product limit v (signed b w) (signed b s) ≡ Ok (signed b z)
+pub less_signed : (limit : Option ℕ) (b : Bool) (v w s z : ℚ) → less_product limit v w s ≡ Ok z →
+    less_product limit v (signed b w) (signed b s) ≡ Ok (signed b z)
 less_signed limit true v w s z e = less_neg limit v w s z e
 less_signed limit false v w s z e = e

@@ -26,12 +26,15 @@ use Rattle.lp_tableau.specs.Based.{AreInside, StopsAt}
 -- ---- the least open position
 stays : (e : Elimination) (j n d p : ℕ) → open_below e j n ≡ Some p → open_below e j (n + d) ≡ Some p
 stays e j n zero p h = (let z : n + 0 ≡ n = omega arith in ap (open_below e j) z) ∙ h
-stays e j n (suc d) p h = (let z : n + suc d ≡ suc (n + d) = omega arith in ap (open_below e j) z) ∙ ap (λ o. or_place o (n + d) (is_open e j (n + d))) (stays e j n d p h)
+stays e j n (suc d) p h =
+    (let z : n + suc d ≡ suc (n + d) = omega arith in ap (open_below e j) z) ∙ ap (λ o. or_place o (n + d) (is_open e j (n + d))) (stays e j n d p h)
 
-pub none_more : (e : Elimination) (j k : ℕ) → open_below e j k ≡ None → is_open e j k ≡ false → open_below e j (k + 1) ≡ None
+pub none_more : (e : Elimination) (j k : ℕ) → open_below e j k ≡ None → is_open e j k ≡ false →
+    open_below e j (k + 1) ≡ None
 none_more e j k h g = (let z : k + 1 ≡ suc k = omega arith in ap (open_below e j) z) ∙ ap₂ (λ o b. or_place o k b) h g
 
-pub open_at : (e : Elimination) (j k n : ℕ) → open_below e j k ≡ None → k < n → is_open e j k ≡ true → open_below e j n ≡ Some k
+pub open_at : (e : Elimination) (j k n : ℕ) → open_below e j k ≡ None → k < n → is_open e j k ≡ true →
+    open_below e j n ≡ Some k
 open_at e j k n h l g =
     let z : suc k + (n - suc k) ≡ n = omega arith in
     subst (λ i. open_below e j i ≡ Some k) z (stays e j (suc k) (n - suc k) k (ap₂ (λ o b. or_place o k b) h g))
@@ -62,13 +65,16 @@ module _ (limit : Option ℕ) (f : Form) (rows : List (List ℚ)) (basic : List 
     abbrev placed : Run (List (List ℚ)) → Result Elimination (StartStop ℚ)
     placed o = refused_as start.Past (o >>= λ rows. Ok (record { rows = rows; basic = slice_set basic p (Some j) }))
 
-    pub is_refused : (e : Past ℚ) → turned_run limit f.rows (width_of f) rows p j ≡ Err e → solved_run limit f now j ≡ Err (start.Past e)
+    pub is_refused : (e : Past ℚ) → turned_run limit f.rows (width_of f) rows p j ≡ Err e →
+        solved_run limit f now j ≡ Err (start.Past e)
     is_refused e g = ap (solved_by limit f now j) (sym h) ∙ ap placed g
 
-    pub is_solved : (after : List (List ℚ)) → turned_run limit f.rows (width_of f) rows p j ≡ Ok after → solved_run limit f now j ≡ Ok (record { rows = after; basic = slice_set basic p (Some j) })
+    pub is_solved : (after : List (List ℚ)) → turned_run limit f.rows (width_of f) rows p j ≡ Ok after →
+        solved_run limit f now j ≡ Ok (record { rows = after; basic = slice_set basic p (Some j) })
     is_solved after g = ap (solved_by limit f now j) (sym h) ∙ ap placed g
 
-pub one_inside : (n : ℕ) (basic : List (Option ℕ)) (p j : ℕ) → AreInside n basic → j < n → AreInside n (slice_set basic p (Some j))
+pub one_inside : (n : ℕ) (basic : List (Option ℕ)) (p j : ℕ) → AreInside n basic → j < n →
+    AreInside n (slice_set basic p (Some j))
 one_inside n basic p j a l = All-set (λ (o : Option ℕ). IfSome o (λ k. k < n)) basic p (Some j) l a
 
 -- ---- all columns
@@ -90,10 +96,12 @@ module _ (limit : Option ℕ) (f : Form) (basis : List Status) where
   unsolved_grid : IsGrid f.rows (width_of f) (made f.rows (equation f))
   unsolved_grid = record {
     height = length-made f.rows (equation f);
-    width = All-made (λ row. length row ≡ width_of f) f.rows (equation f) (λ i l. length-made (width_of f) (start_entry f (Within 0ℚ) i));
+    width =
+        All-made (λ row. length row ≡ width_of f) f.rows (equation f) (λ i l. length-made (width_of f) (start_entry f (Within 0ℚ) i));
   }
 
-  pub solving_begins : (rows : List (List ℚ)) (basic : List (Option ℕ)) → rows ≡ (unsolved f).rows → basic ≡ (unsolved f).basic → Solving limit f basis 0 rows basic
+  pub solving_begins : (rows : List (List ℚ)) (basic : List (Option ℕ)) → rows ≡ (unsolved f).rows →
+      basic ≡ (unsolved f).basic → Solving limit f basis 0 rows basic
   solving_begins rows basic p q = record {
     so_far = ap₂ (λ rows basic. Ok (record { rows = rows; basic = basic })) (sym p) (sym q);
     shape = subst (IsGrid f.rows (width_of f)) (sym p) unsolved_grid;
@@ -104,14 +112,18 @@ module _ (limit : Option ℕ) (f : Form) (basis : List Status) where
   module _ (j : ℕ) (rows : List (List ℚ)) (basic : List (Option ℕ)) (v : Solving limit f basis j rows basic) where
     pub solving_passes : is_basic (basis_at basis j) ≡ false → Solving limit f basis (j + 1) rows basic
     solving_passes h = record {
-      so_far = steps_more j (solve_at limit f basis) (unsolved f) _ _ v.so_far (ap (λ b. cond b (solved_run limit f (record { rows = rows; basic = basic }) j) (Ok (record { rows = rows; basic = basic }))) h);
+      so_far =
+          steps_more j (solve_at limit f basis) (unsolved f) _ _ v.so_far (ap (λ b. cond b (solved_run limit f (record { rows = rows; basic = basic }) j) (Ok (record { rows = rows; basic = basic }))) h);
       shape = v.shape;
       places = v.places;
       inside = v.inside;
     }
 
-    here : (o : Result Elimination (StartStop ℚ)) → is_basic (basis_at basis j) ≡ true → solved_run limit f (record { rows = rows; basic = basic }) j ≡ o → solve_at limit f basis j (record { rows = rows; basic = basic }) ≡ o
-    here o h g = ap (λ b. cond b (solved_run limit f (record { rows = rows; basic = basic }) j) (Ok (record { rows = rows; basic = basic }))) h ∙ g
+    here : (o : Result Elimination (StartStop ℚ)) → is_basic (basis_at basis j) ≡ true →
+        solved_run limit f (record { rows = rows; basic = basic }) j ≡ o →
+        solve_at limit f basis j (record { rows = rows; basic = basic }) ≡ o
+    here o h g =
+        ap (λ b. cond b (solved_run limit f (record { rows = rows; basic = basic }) j) (Ok (record { rows = rows; basic = basic }))) h ∙ g
 
     pub solving_goes_on : (after : List (List ℚ)) (then : List (Option ℕ)) → is_basic (basis_at basis j) ≡ true → solved_run limit f (record { rows = rows; basic = basic }) j ≡ Ok (record { rows = after; basic = then })
         → IsGrid f.rows (width_of f) after → length then ≡ f.rows → AreInside (width_of f) then → Solving limit f basis (j + 1) after then
@@ -122,11 +134,14 @@ module _ (limit : Option ℕ) (f : Form) (basis : List Status) where
       inside = i;
     }
 
-    stopped : (e : StartStop ℚ) → j < f.cols + f.rows → is_basic (basis_at basis j) ≡ true → solved_run limit f (record { rows = rows; basic = basic }) j ≡ Err e → eliminate_run limit f basis ≡ Err e
+    stopped : (e : StartStop ℚ) → j < f.cols + f.rows → is_basic (basis_at basis j) ≡ true →
+        solved_run limit f (record { rows = rows; basic = basic }) j ≡ Err e → eliminate_run limit f basis ≡ Err e
     unfolding eliminate_run
     stopped e l h g = steps_stop j (f.cols + f.rows) (solve_at limit f basis) (unsolved f) _ e l v.so_far (here _ h g)
 
-    pub solving_stops : (s : BasisStop) → j < f.cols + f.rows → is_basic (basis_at basis j) ≡ true → StopsAt (solved_run limit f (record { rows = rows; basic = basic }) j) s → StopsAt (eliminate_run limit f basis) s
+    pub solving_stops : (s : BasisStop) → j < f.cols + f.rows → is_basic (basis_at basis j) ≡ true →
+        StopsAt (solved_run limit f (record { rows = rows; basic = basic }) j) s →
+        StopsAt (eliminate_run limit f basis) s
     solving_stops stop.Singular l h g = stopped start.Singular l h g
     solving_stops (stop.Past p) l h g = stopped (start.Past p) l h g
     solving_stops stop.NoMemory l h g = tt

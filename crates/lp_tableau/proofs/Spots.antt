@@ -35,21 +35,25 @@ module _ (f : ℕ → Run ℚ) (old new : List ℚ) where
       let g : set new k (get_or new k 0ℚ) ≡ new = set-get_or new k 0ℚ in
       subst (IsDone (k + 1) f old) g (one_done k f old new (get_or new k 0ℚ) d h (e ∙ ap Ok (sym (as_before k f old new d))))
 
-  kept : (a d : ℕ) → IsDone a f old new → a + d ≤ length new → ((k : ℕ) → a ≤ k → k < a + d → f k ≡ Ok (get_or old k 0ℚ)) → IsDone (a + d) f old new
+  kept : (a d : ℕ) → IsDone a f old new → a + d ≤ length new →
+      ((k : ℕ) → a ≤ k → k < a + d → f k ≡ Ok (get_or old k 0ℚ)) → IsDone (a + d) f old new
   kept a zero d h e = (let z : a ≡ a + 0 = omega arith in subst (λ i. IsDone i f old new) z d)
   kept a (suc n) d h e =
       let z : (a + n) + 1 ≡ a + suc n = omega arith in
       subst (λ i. IsDone i f old new) z
       (one_kept (a + n) (kept a n d (omega (arith, h)) (λ k l g. e k l (omega (arith, g)))) (omega (arith, h)) (e (a + n) (omega arith) (omega arith)))
 
-  pub all_kept : (a b : ℕ) → IsDone a f old new → a ≤ b → b ≤ length new → ((k : ℕ) → a ≤ k → k < b → f k ≡ Ok (get_or old k 0ℚ)) → IsDone b f old new
+  pub all_kept : (a b : ℕ) → IsDone a f old new → a ≤ b → b ≤ length new →
+      ((k : ℕ) → a ≤ k → k < b → f k ≡ Ok (get_or old k 0ℚ)) → IsDone b f old new
   all_kept a b d l h e =
       let z : a + (b - a) ≡ b = omega (arith, l) in
       subst (λ i. IsDone i f old new) z (kept a (b - a) d (omega (arith, z, h)) (λ k g m. e k g (omega (arith, m, z))))
 
 -- in a row among rows
-pub row_kept : (p a b : ℕ) (f : ℕ → Run ℚ) (old new : List (List ℚ)) → IsRowDone p a f old new → a ≤ b → b ≤ length (get_or new p []) → ((k : ℕ) → a ≤ k → k < b → f k ≡ Ok (at_place old p k)) → IsRowDone p b f old new
-row_kept p a b f old new d l h e = record { row = all_kept f (get_or old p []) (get_or new p []) a b d.row l h e; frame = d.frame }
+pub row_kept : (p a b : ℕ) (f : ℕ → Run ℚ) (old new : List (List ℚ)) → IsRowDone p a f old new → a ≤ b →
+    b ≤ length (get_or new p []) → ((k : ℕ) → a ≤ k → k < b → f k ≡ Ok (at_place old p k)) → IsRowDone p b f old new
+row_kept p a b f old new d l h e =
+    record { row = all_kept f (get_or old p []) (get_or new p []) a b d.row l h e; frame = d.frame }
 
 -- ---- the list of columns
 pub none_listed : (row : List ℚ) → IsListed row 0 []
@@ -62,16 +66,20 @@ more row a n (k ∷ ks) l c =
     (record { from = x.from; inside = omega (arith, x.inside); before = x.before }, more row (k + 1) n ks (omega (arith, x.inside)) c.1)
 
 zero_more : (row : List ℚ) (a n : ℕ) (ks : List ℕ) → get_or row n 0ℚ ≡ 0ℚ → Covers row a n ks → Covers row a (n + 1) ks
-zero_more row a n [] e c = λ k h g. ⊎_elim (λ s. ap (λ i. get_or row i 0ℚ) s ∙ e) (λ ne. c k h (omega (arith, g, ne))) (cases_eq k n)
+zero_more row a n [] e c =
+    λ k h g. ⊎_elim (λ s. ap (λ i. get_or row i 0ℚ) s ∙ e) (λ ne. c k h (omega (arith, g, ne))) (cases_eq k n)
 zero_more row a n (k ∷ ks) e c =
     let x : IsNext row a k n = c.0 in
     (record { from = x.from; inside = omega (arith, x.inside); before = x.before }, zero_more row (k + 1) n ks e c.1)
 
 -- one column more, in which the row is not 0, and in which it is
-pub one_listed : (row : List ℚ) (n count : ℕ) (spots : List ℕ) → count < length spots → IsListed row n (take count spots) → IsListed row (n + 1) (take (count + 1) (set spots count n))
-one_listed row n count spots h c = subst (IsListed row (n + 1)) (sym (take_more_set spots count n h)) (record { covers = more row 0 n (take count spots) (omega arith) c.covers })
+pub one_listed : (row : List ℚ) (n count : ℕ) (spots : List ℕ) → count < length spots →
+    IsListed row n (take count spots) → IsListed row (n + 1) (take (count + 1) (set spots count n))
+one_listed row n count spots h c =
+    subst (IsListed row (n + 1)) (sym (take_more_set spots count n h)) (record { covers = more row 0 n (take count spots) (omega arith) c.covers })
 
-pub zero_passed : (row : List ℚ) (n : ℕ) (spots : List ℕ) → IsListed row n spots → get_or row n 0ℚ ≡ 0ℚ → IsListed row (n + 1) spots
+pub zero_passed : (row : List ℚ) (n : ℕ) (spots : List ℕ) → IsListed row n spots → get_or row n 0ℚ ≡ 0ℚ →
+    IsListed row (n + 1) spots
 zero_passed row n spots c e = record { covers = zero_more row 0 n spots e c.covers }
 
 -- ---- a row that is cleared in these columns
@@ -85,15 +93,18 @@ pub record IsOnWay (n p : ℕ) (times : ℚ) (i : ℕ) (spots : List ℕ) (old n
   pub done : IsRowDone i so_far (cleared_at old p times i) old new
   pub ahead : Covers (get_or old p []) so_far n spots
 
-pub set_out : (n p : ℕ) (times : ℚ) (i : ℕ) (spots : List ℕ) (rows : List (List ℚ)) → IsListed (get_or rows p []) n spots → IsOnWay n p times i spots rows rows
-set_out n p times i spots rows c = record { so_far = 0; inside = omega arith; done = no_row_done i (cleared_at rows p times i) rows; ahead = c.covers }
+pub set_out : (n p : ℕ) (times : ℚ) (i : ℕ) (spots : List ℕ) (rows : List (List ℚ)) →
+    IsListed (get_or rows p []) n spots → IsOnWay n p times i spots rows rows
+set_out n p times i spots rows c =
+    record { so_far = 0; inside = omega arith; done = no_row_done i (cleared_at rows p times i) rows; ahead = c.covers }
 
 module _ (n p : ℕ) (times : ℚ) (i : ℕ) (old new : List (List ℚ)) (t : IsWithin largest times) (w : IsNarrowGrid old) where
   zero_kept : (k : ℕ) → at_place old p k ≡ 0ℚ → cleared_at old p times i k ≡ Ok (at_place old i k)
   zero_kept k e = less_times_no largest times (at_place old p k) (at_place old i k) e t (w.each i k)
 
   -- at the next column
-  pub there : (k : ℕ) (ks : List ℕ) → IsOnWay n p times i (k ∷ ks) old new → length (get_or new i []) ≡ n → IsRowDone i k (cleared_at old p times i) old new
+  pub there : (k : ℕ) (ks : List ℕ) → IsOnWay n p times i (k ∷ ks) old new → length (get_or new i []) ≡ n →
+      IsRowDone i k (cleared_at old p times i) old new
   there k ks o e =
       let x : IsNext (get_or old p []) o.so_far k n = o.ahead.0 in
       row_kept i o.so_far k (cleared_at old p times i) old new o.done x.from (omega (arith, e, x.inside)) (λ c l g. zero_kept c (x.before c l g))
@@ -102,20 +113,25 @@ module _ (n p : ℕ) (times : ℚ) (i : ℕ) (old new : List (List ℚ)) (t : Is
   next_inside k ks o = (let x : IsNext (get_or old p []) o.so_far k n = o.ahead.0 in x.inside)
 
   -- beyond it
-  pub gone_on : (k : ℕ) (ks : List ℕ) (next : List (List ℚ)) → IsOnWay n p times i (k ∷ ks) old new → IsRowDone i (k + 1) (cleared_at old p times i) old next → IsOnWay n p times i ks old next
-  gone_on k ks next o d = record { so_far = k + 1; inside = (let l : k < n = next_inside k ks o in omega (arith, l)); done = d; ahead = o.ahead.1 }
+  pub gone_on : (k : ℕ) (ks : List ℕ) (next : List (List ℚ)) → IsOnWay n p times i (k ∷ ks) old new →
+      IsRowDone i (k + 1) (cleared_at old p times i) old next → IsOnWay n p times i ks old next
+  gone_on k ks next o d =
+      record { so_far = k + 1; inside = (let l : k < n = next_inside k ks o in omega (arith, l)); done = d; ahead = o.ahead.1 }
 
   -- at the end
-  pub arrived : IsOnWay n p times i [] old new → length (get_or new i []) ≡ n → IsRowDone i n (cleared_at old p times i) old new
-  arrived o e = row_kept i o.so_far n (cleared_at old p times i) old new o.done o.inside (omega (arith, e)) (λ c l g. zero_kept c (o.ahead c l g))
+  pub arrived : IsOnWay n p times i [] old new → length (get_or new i []) ≡ n →
+      IsRowDone i n (cleared_at old p times i) old new
+  arrived o e =
+      row_kept i o.so_far n (cleared_at old p times i) old new o.done o.inside (omega (arith, e)) (λ c l g. zero_kept c (o.ahead c l g))
 
 -- a row from which row p is taken no times stays
-pub none_cleared : (n p : ℕ) (times : ℚ) (i : ℕ) (rows : List (List ℚ)) → IsNarrowGrid rows → times ≡ 0ℚ → length (get_or rows i []) ≡ n → IsRowDone i n (cleared_at rows p times i) rows rows
+pub none_cleared : (n p : ℕ) (times : ℚ) (i : ℕ) (rows : List (List ℚ)) → IsNarrowGrid rows → times ≡ 0ℚ →
+    length (get_or rows i []) ≡ n → IsRowDone i n (cleared_at rows p times i) rows rows
 none_cleared n p times i rows w e h =
     row_kept i 0 n (cleared_at rows p times i) rows rows (no_row_done i (cleared_at rows p times i) rows) (omega arith) (omega (arith, h))
     (λ k l g. less_no_times largest times (at_place rows p k) (at_place rows i k) e (w.each p k) (w.each i k))
 
--- in a list of columns that is read from its front
+-- in a list of columns that is read from its start
 module _ (n p : ℕ) (times : ℚ) (i : ℕ) (old new : List (List ℚ)) (spots : List ℕ) (s : ℕ) (o : IsOnWay n p times i (drop s spots) old new) where
   pub at_spot : s < length spots → IsOnWay n p times i (get_or spots s 0 ∷ drop (s + 1) spots) old new
   at_spot h = subst (λ ks. IsOnWay n p times i ks old new) (drop_more spots s 0 h) o
@@ -124,7 +140,8 @@ module _ (n p : ℕ) (times : ℚ) (i : ℕ) (old new : List (List ℚ)) (spots 
   past_spots h = subst (λ ks. IsOnWay n p times i ks old new) (drop_all s spots h) o
 
 -- ---- a basic column whose entry is 0 does not move
-pub not_moved : (t : Tableau) (j : ℕ) (theta : ℚ) (i : ℕ) → entry_at t i j ≡ 0ℚ → IsWithin largest theta → IsWithin largest (get_or t.value (basic_at t i) 0ℚ) → moved_at (Some largest) t j theta i t.value ≡ Ok t.value
+pub not_moved : (t : Tableau) (j : ℕ) (theta : ℚ) (i : ℕ) → entry_at t i j ≡ 0ℚ → IsWithin largest theta →
+    IsWithin largest (get_or t.value (basic_at t i) 0ℚ) → moved_at (Some largest) t j theta i t.value ≡ Ok t.value
 not_moved t j theta i e h g =
     ap (λ o. o >>= λ v. Ok (set t.value (basic_at t i) v)) (less_no_times largest (entry_at t i j) theta (get_or t.value (basic_at t i) 0ℚ) e h g)
     ∙ ap Ok (set-get_or t.value (basic_at t i) 0ℚ)

@@ -15,13 +15,16 @@ module _ (limit : Option ℕ) (m n : ℕ) (rows : List (List ℚ)) (p j : ℕ) w
   unfolding turned_run
   first_refused e h = ap (λ o. o >>= λ scaled. steps m (turned_at limit n p j) scaled) h
 
-  pub row_refused : (k : ℕ) (scaled now : List (List ℚ)) (e : Past ℚ) → scaled_run limit n rows p j ≡ Ok scaled → steps k (turned_at limit n p j) scaled ≡ Ok now → k < m → (k ≡ p → ⊥) → cleared_run limit n p j k now ≡ Err e → turned_run limit m n rows p j ≡ Err e
+  pub row_refused : (k : ℕ) (scaled now : List (List ℚ)) (e : Past ℚ) → scaled_run limit n rows p j ≡ Ok scaled →
+      steps k (turned_at limit n p j) scaled ≡ Ok now → k < m → (k ≡ p → ⊥) → cleared_run limit n p j k now ≡ Err e →
+      turned_run limit m n rows p j ≡ Err e
   unfolding turned_run
   row_refused k scaled now e h s l d g =
       ap (λ o. o >>= λ scaled. steps m (turned_at limit n p j) scaled) h
       ∙ steps_stop k m (turned_at limit n p j) scaled now e l s (ap (λ b. cond b (Ok now) (cleared_run limit n p j k now)) (ne_eqb k p d) ∙ g)
 
-  pub rows_turned : (k : ℕ) (scaled now : List (List ℚ)) → scaled_run limit n rows p j ≡ Ok scaled → steps k (turned_at limit n p j) scaled ≡ Ok now → m ≤ k → k ≤ m → turned_run limit m n rows p j ≡ Ok now
+  pub rows_turned : (k : ℕ) (scaled now : List (List ℚ)) → scaled_run limit n rows p j ≡ Ok scaled →
+      steps k (turned_at limit n p j) scaled ≡ Ok now → m ≤ k → k ≤ m → turned_run limit m n rows p j ≡ Ok now
   unfolding turned_run
   rows_turned k scaled now h s l g =
       let z : k ≡ m = omega arith in

@@ -21,13 +21,17 @@ use Rattle.lp_tableau.proofs.Signs.{quotient_signed, less_signed}
 -- ---- lists of runs
 list_same : (n : ℕ) (f g : ℕ → Run ℚ) → ((k : ℕ) → k < n → g k ≡ f k) → list_run n g ≡ list_run n f
 list_same zero f g h = refl
-list_same (suc n) f g h = ap₂ (λ o p. o >>= λ xs. p >>= λ x. Ok (xs ++ x ∷ [])) (list_same n f g (λ k l. h k (omega (arith, l)))) (h n (omega arith))
+list_same (suc n) f g h =
+    ap₂ (λ o p. o >>= λ xs. p >>= λ x. Ok (xs ++ x ∷ [])) (list_same n f g (λ k l. h k (omega (arith, l)))) (h n (omega arith))
 
-list_item : (n : ℕ) (f : ℕ → Run ℚ) (row : List ℚ) → list_run n f ≡ Ok row → (k : ℕ) → k < n → f k ≡ Ok (get_or row k 0ℚ)
+list_item : (n : ℕ) (f : ℕ → Run ℚ) (row : List ℚ) → list_run n f ≡ Ok row → (k : ℕ) → k < n →
+    f k ≡ Ok (get_or row k 0ℚ)
 list_item zero f row e k h = absurd (omega (arith, h))
 list_item (suc n) f row e k h = by (λ ys. list_item n f ys) (list_run n f) (f n) refl refl e
   where
-    by : ((ys : List ℚ) → list_run n f ≡ Ok ys → (k : ℕ) → k < n → f k ≡ Ok (get_or ys k 0ℚ)) → (o : Run (List ℚ)) (p : Run ℚ) → list_run n f ≡ o → f n ≡ p → (o >>= λ ys. p >>= λ x. Ok (ys ++ x ∷ [])) ≡ Ok row → f k ≡ Ok (get_or row k 0ℚ)
+    by : ((ys : List ℚ) → list_run n f ≡ Ok ys → (k : ℕ) → k < n → f k ≡ Ok (get_or ys k 0ℚ)) →
+        (o : Run (List ℚ)) (p : Run ℚ) → list_run n f ≡ o → f n ≡ p →
+        (o >>= λ ys. p >>= λ x. Ok (ys ++ x ∷ [])) ≡ Ok row → f k ≡ Ok (get_or row k 0ℚ)
     by ih (Ok ys) (Ok x) a b g =
         let r : ys ++ x ∷ [] ≡ row = cc in
         let l : length ys ≡ n = length-list_run n f ys a in
@@ -48,15 +52,18 @@ append_none : (xs : List ℚ) → xs ++ [] ≡ xs
 append_none [] = refl
 append_none (x ∷ xs) = ap (λ ys. x ∷ ys) (append_none xs)
 
-list_onto : (n m : ℕ) (f : ℕ → Run ℚ) (g : ℕ → ℚ) (row : List ℚ) → list_run n f ≡ Ok row → ((r : ℕ) → r < m → f (n + r) ≡ Ok (g r)) → list_run (n + m) f ≡ Ok (row ++ made m g)
-list_onto n zero f g row e h = (let z : n + 0 ≡ n = omega arith in ap (λ k. list_run k f) z) ∙ e ∙ ap Ok (sym (append_none row))
+list_onto : (n m : ℕ) (f : ℕ → Run ℚ) (g : ℕ → ℚ) (row : List ℚ) → list_run n f ≡ Ok row →
+    ((r : ℕ) → r < m → f (n + r) ≡ Ok (g r)) → list_run (n + m) f ≡ Ok (row ++ made m g)
+list_onto n zero f g row e h =
+    (let z : n + 0 ≡ n = omega arith in ap (λ k. list_run k f) z) ∙ e ∙ ap Ok (sym (append_none row))
 list_onto n (suc m) f g row e h =
     (let z : n + suc m ≡ (n + m) + 1 = omega arith in ap (λ k. list_run k f) z)
     ∙ list_more (n + m) f (row ++ made m g) (g m) (list_onto n m f g row e (λ r l. h r (omega (arith, l)))) (h m (omega arith))
     ∙ ap Ok (append_assoc row (made m g) (g m ∷ []))
 
 -- ---- what is read of rows with twins
-pub twinned_row : (c : ℕ) (turned : List Bool) (rows : List (List ℚ)) (i : ℕ) → i < length rows → get_or (twinned c turned rows) i [] ≡ with_twins c turned (get_or rows i [])
+pub twinned_row : (c : ℕ) (turned : List Bool) (rows : List (List ℚ)) (i : ℕ) → i < length rows →
+    get_or (twinned c turned rows) i [] ≡ with_twins c turned (get_or rows i [])
 twinned_row c turned [] i h = absurd (omega (arith, h))
 twinned_row c turned (row ∷ rows) zero h = refl
 twinned_row c turned (row ∷ rows) (suc i) h = twinned_row c turned rows i (omega (arith, h))
@@ -65,13 +72,16 @@ pub length-twinned : (c : ℕ) (turned : List Bool) (rows : List (List ℚ)) →
 length-twinned c turned [] = refl
 length-twinned c turned (row ∷ rows) = ap suc (length-twinned c turned rows)
 
-twinned_set : (c : ℕ) (turned : List Bool) (rows : List (List ℚ)) (i : ℕ) (row : List ℚ) → twinned c turned (set rows i row) ≡ set (twinned c turned rows) i (with_twins c turned row)
+twinned_set : (c : ℕ) (turned : List Bool) (rows : List (List ℚ)) (i : ℕ) (row : List ℚ) →
+    twinned c turned (set rows i row) ≡ set (twinned c turned rows) i (with_twins c turned row)
 twinned_set c turned [] i row = refl
 twinned_set c turned (x ∷ rows) zero row = refl
 twinned_set c turned (x ∷ rows) (suc i) row = ap (λ zs. with_twins c turned x ∷ zs) (twinned_set c turned rows i row)
 
-pub length-with_twins : (c : ℕ) (turned : List Bool) (row : List ℚ) → length (with_twins c turned row) ≡ length row + length turned
-length-with_twins c turned row = omega (arith, length-append row (made (length turned) (twin c turned row)), length-made (length turned) (twin c turned row))
+pub length-with_twins : (c : ℕ) (turned : List Bool) (row : List ℚ) →
+    length (with_twins c turned row) ≡ length row + length turned
+length-with_twins c turned row =
+    omega (arith, length-append row (made (length turned) (twin c turned row)), length-made (length turned) (twin c turned row))
 
 module _ (c m : ℕ) (turned : List Bool) (rows : List (List ℚ)) (t : length turned ≡ m) (g : IsGrid m (c + m) rows) (i : ℕ) (h : i < m) where
   row_of : get_or (twinned c turned rows) i [] ≡ with_twins c turned (get_or rows i [])
@@ -84,9 +94,11 @@ module _ (c m : ℕ) (turned : List Bool) (rows : List (List ℚ)) (t : length t
   row_width = ap length row_of ∙ omega (arith, length-with_twins c turned (get_or rows i []), width_of, t)
 
   pub at_low : (k : ℕ) → k < c + m → at_place (twinned c turned rows) i k ≡ at_place rows i k
-  at_low k l = ap (λ row. get_or row k 0ℚ) row_of ∙ get_or-append (get_or rows i []) (made (length turned) (twin c turned (get_or rows i []))) 0ℚ k (omega (arith, l, width_of))
+  at_low k l =
+      ap (λ row. get_or row k 0ℚ) row_of ∙ get_or-append (get_or rows i []) (made (length turned) (twin c turned (get_or rows i []))) 0ℚ k (omega (arith, l, width_of))
 
-  pub at_high : (k r : ℕ) → k ≡ c + m + r → r < m → at_place (twinned c turned rows) i k ≡ signed (get_or turned r false) (at_place rows i (c + r))
+  pub at_high : (k r : ℕ) → k ≡ c + m + r → r < m →
+      at_place (twinned c turned rows) i k ≡ signed (get_or turned r false) (at_place rows i (c + r))
   at_high k r e l =
       let row : List ℚ = get_or rows i [] in
       let z : k - (c + m) ≡ r = omega (arith, e) in
@@ -148,15 +160,18 @@ module _ (limit : Option ℕ) (c m : ℕ) (turned : List Bool) (rows : List (Lis
       rows i new r w
 
 -- ---- rows that are seen with their twins
-all_wide : (c m : ℕ) (turned : List Bool) (rows : List (List ℚ)) → length turned ≡ m → All (λ row. length row ≡ c + m) rows → All (λ row. length row ≡ c + m + m) (twinned c turned rows)
+all_wide : (c m : ℕ) (turned : List Bool) (rows : List (List ℚ)) → length turned ≡ m →
+    All (λ row. length row ≡ c + m) rows → All (λ row. length row ≡ c + m + m) (twinned c turned rows)
 all_wide c m turned [] t h = All-nil (λ row. length row ≡ c + m + m)
 all_wide c m turned (row ∷ rows) t h =
     All-cons (λ row. length row ≡ c + m + m) (with_twins c turned row) (twinned c turned rows)
     (let w : length row ≡ c + m = All-head (λ row. length row ≡ c + m) row rows h in omega (arith, length-with_twins c turned row, w, t))
     (all_wide c m turned rows t (All-tail (λ row. length row ≡ c + m) row rows h))
 
-pub grid_twinned : (c m : ℕ) (turned : List Bool) (rows : List (List ℚ)) → length turned ≡ m → IsGrid m (c + m) rows → IsGrid m (c + m + m) (twinned c turned rows)
-grid_twinned c m turned rows t g = record { height = length-twinned c turned rows ∙ g.height; width = all_wide c m turned rows t g.width }
+pub grid_twinned : (c m : ℕ) (turned : List Bool) (rows : List (List ℚ)) → length turned ≡ m → IsGrid m (c + m) rows →
+    IsGrid m (c + m + m) (twinned c turned rows)
+grid_twinned c m turned rows t g =
+    record { height = length-twinned c turned rows ∙ g.height; width = all_wide c m turned rows t g.width }
 
 module _ (c m : ℕ) (turned : List Bool) (grid rows : List (List ℚ)) (e : twinned c turned grid ≡ rows) (v : IsTwinned c m turned grid) where
   all_rows : length rows ≡ m
@@ -178,10 +193,14 @@ module _ (c m : ℕ) (turned : List Bool) (grid rows : List (List ℚ)) (e : twi
     pub width_is : (p : ℕ) → p < height → width ≡ c + m + m
     width_is p h = sym (grid_row height width rows p g h) ∙ row_wide p (omega (arith, h, height_is))
 
-    pub turned_same : (limit : Option ℕ) (p j : ℕ) (new : List (List ℚ)) (r : Result ⊤ (Past ℚ)) → p < height → GivesRun (turned_run limit m (c + m + m) (twinned c turned grid) p j) new r → GivesRun (turned_run limit height width rows p j) new r
+    pub turned_same : (limit : Option ℕ) (p j : ℕ) (new : List (List ℚ)) (r : Result ⊤ (Past ℚ)) → p < height →
+        GivesRun (turned_run limit m (c + m + m) (twinned c turned grid) p j) new r →
+        GivesRun (turned_run limit height width rows p j) new r
     turned_same limit p j new r h w =
         subst (λ run. GivesRun run new r)
         (ap₂ (λ a b. turned_run limit a b (twinned c turned grid) p j) (sym height_is) (sym (width_is p h)) ∙ ap (λ xs. turned_run limit height width xs p j) e) w
 
-    pub grid_after : (new : List (List ℚ)) (p : ℕ) → p < height → IsGrid m (c + m) new → IsGrid height width (twinned c turned new)
-    grid_after new p h k = subst₂ (λ a b. IsGrid a b (twinned c turned new)) (sym height_is) (sym (width_is p h)) (grid_twinned c m turned new v.twins k)
+    pub grid_after : (new : List (List ℚ)) (p : ℕ) → p < height → IsGrid m (c + m) new →
+        IsGrid height width (twinned c turned new)
+    grid_after new p h k =
+        subst₂ (λ a b. IsGrid a b (twinned c turned new)) (sym height_is) (sym (width_is p h)) (grid_twinned c m turned new v.twins k)

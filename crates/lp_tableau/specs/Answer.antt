@@ -11,7 +11,7 @@ abbrev pub GivesRun : {A : Type 0} → Run A → A → Result ⊤ (Past ℚ) →
 GivesRun run x (Ok u) = run ≡ Ok x
 GivesRun run x (Err p) = run ≡ Err p
 
--- the run is refused with this stop, or memory was wanting
+-- the run is refused with this stop, or memory ran out
 abbrev pub Stops : {A : Type 0} → Run A → ColdStop → Type 0
 Stops run (cold.Past p) = run ≡ Err p
 Stops run cold.NoMemory = ⊤

@@ -10,7 +10,7 @@ use Rattle.spec_simplex.specs.Eliminate.{Elimination}
 use Rattle.lp_tableau.specs.declared.ends.BasisStop.{BasisStop}
 use Rattle.lp_tableau.specs.declared.ends.BasisStop.TheVariants as stop
 
--- the run stops so, or memory was wanting
+-- the run stops so, or memory ran out
 abbrev pub StopsAt : {A : Type 0} → Result A (StartStop ℚ) → BasisStop → Type 0
 StopsAt run stop.Singular = run ≡ Err start.Singular
 StopsAt run (stop.Past p) = run ≡ Err (start.Past p)

@@ -18,7 +18,7 @@ is_below (Above gap) = false
 abbrev pub start_front : Form → List (RowStart ℚ) → ℕ → List ℚ
 start_front f starts i = made (f.cols + f.rows) (start_entry f (start_at starts i) i)
 
--- the rows have the coefficients of the first n columns, and 0 behind those
+-- the rows have the coefficients of the first n columns, and 0 after those
 pub record HoldsColumns (f : Form) (n : ℕ) (rows : List (List ℚ)) : Type 0 where
   pub shape : IsGrid f.rows f.cols rows
   pub done : (i k : ℕ) → i < f.rows → k < n → at_place rows i k ≡ form_entry f i k

@@ -1,4 +1,4 @@
--- Rows with a twin of each of their last items behind them: the item itself, or its negative.
+-- Rows with a twin of each of their last items after them: the item itself, or its negative.
 use Rattle.std.specs.Prelude.{◌≡◌, ℕ, ◌+◌, ◌≤◌, List, [], ◌∷◌, ◌++◌, length, get_or, slice_set, Option, Ok, Bool, false, if◌then◌else◌}
 use Rattle.spec_exact.specs.Fraction.{ℚ, 0ℚ, neg_ℚ}
 use Rattle.spec_simplex.specs.Run.{Run, ◌>>=◌, made, list_run, quotient_run, less_product}
@@ -30,8 +30,10 @@ pub record IsTwinned (c m : ℕ) (turned : List Bool) (rows : List (List ℚ)) :
 -- ---- the steps of a pivot on the rows without twins
 -- row p over a number
 unfoldable pub scaled_by : Option ℕ → ℕ → List (List ℚ) → ℕ → ℚ → Run (List (List ℚ))
-scaled_by limit n rows p by = list_run n (λ k. quotient_run limit (at_place rows p k) by) >>= λ row. Ok (slice_set rows p row)
+scaled_by limit n rows p by =
+    list_run n (λ k. quotient_run limit (at_place rows p k) by) >>= λ row. Ok (slice_set rows p row)
 
--- row i less row p, so many times
+-- row i less a multiple of row p
 unfoldable pub cleared_by : Option ℕ → ℕ → ℕ → ℚ → ℕ → List (List ℚ) → Run (List (List ℚ))
-cleared_by limit n p times i rows = list_run n (λ k. less_product limit times (at_place rows p k) (at_place rows i k)) >>= λ row. Ok (slice_set rows i row)
+cleared_by limit n p times i rows =
+    list_run n (λ k. less_product limit times (at_place rows p k) (at_place rows i k)) >>= λ row. Ok (slice_set rows i row)

@@ -58,7 +58,7 @@ fn scale(grid: &mut Grid, height: u32, width: u32, p: u32, by: Frac) -> Result<(
     Ok(())
 }
 
-// Lists the columns in which row `p` is not 0 at the front of `spots`; how many they are.
+// Lists the columns in which row `p` is not 0 at the start of `spots`; how many they are.
 fn list(spots: &mut [u32], grid: &Grid, height: u32, width: u32, p: u32) -> usize
     requires shape { IsGrid height width grid.now }
     requires place { p < height }
@@ -77,7 +77,7 @@ fn list(spots: &mut [u32], grid: &Grid, height: u32, width: u32, p: u32) -> usiz
     count
 }
 
-// Row `i` less row `p`, so many times. Row `p` is 0 but in the columns of `spots`.
+// Row `i` less a multiple of row `p`. Row `p` is 0 but in the columns of `spots`.
 fn clear(
     grid: &mut Grid,
     height: u32,

@@ -446,7 +446,7 @@ fn begun(
 ///
 /// Each structural column stands at its lower bound, else at its upper one, else at 0. Row by row,
 /// the logical is basic where its row's sum is then within the row's limits; else the logical stands
-/// at the limit that is missed, and the row's artificial is basic with what is wanting.
+/// at the limit that is missed, and the row's artificial is basic with the missing amount as its value.
 pub fn start_cold(alloc: Global, form: &Form) -> Result<Tableau, ColdStop>
     ensures ok { IfOk result (λ t. starting.start_of (Some largest) form.now ≡ Ok t) }
     ensures err { IfErr result (Stops (starting.start_of (Some largest) form.now)) }

@@ -23,4 +23,5 @@ loop-k-preserved c =
     ]
 
 pub returns-clause-flips : goal.returns-clause-flips
-returns-clause-flips c = flips_end (Some largest) c.args.budget c.args.tab.now c.loop-k.k _ c.loop-k.invariant (omega (arith, c.loop-k-test.false, c.loop-k.auto.k-end, c.width-k-end.ensures.value))
+returns-clause-flips c =
+    flips_end (Some largest) c.args.budget c.args.tab.now c.loop-k.k _ c.loop-k.invariant (omega (arith, c.loop-k-test.false, c.loop-k.auto.k-end, c.width-k-end.ensures.value))

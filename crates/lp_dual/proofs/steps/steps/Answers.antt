@@ -13,13 +13,15 @@ returns-in_err-end-clause-runs c =
     rw (p.1, p.2) (c.loop-end.invariant.0 ∙ run_refused (Some largest) _ _ _ _ (sym c.in_err-end.ensures.value))
 
 pub returns-in-End-clause-runs : goal.returns-in-End-clause-runs
-returns-in-End-clause-runs c = c.loop-end.invariant.0 ∙ run_ends (Some largest) _ _ _ _ (sym c.in_ok-end.ensures.value ∙ ap Ok c.in-End.is)
+returns-in-End-clause-runs c =
+    c.loop-end.invariant.0 ∙ run_ends (Some largest) _ _ _ _ (sym c.in_ok-end.ensures.value ∙ ap Ok c.in-End.is)
 
 pub returns-in-End-clause-inside : goal.returns-in-End-clause-inside
 returns-in-End-clause-inside c = subst (CanTake c.loop-end.tab) c.in-End.is c.in_ok-end.ensures.possible
 
 pub returns-then-used-budget-clause-runs : goal.returns-then-used-budget-clause-runs
-returns-then-used-budget-clause-runs c = c.loop-end.invariant.0 ∙ run_spent (Some largest) _ _ _ _ _ _ (sym c.in_ok-end.ensures.value ∙ ap Ok c.in-Pivot.is) (omega (arith, c.if-used-budget.true))
+returns-then-used-budget-clause-runs c =
+    c.loop-end.invariant.0 ∙ run_spent (Some largest) _ _ _ _ _ _ (sym c.in_ok-end.ensures.value ∙ ap Ok c.in-Pivot.is) (omega (arith, c.if-used-budget.true))
 
 pub returns-in_err-pivot-in-Pivot-clause-runs : goal.returns-in_err-pivot-in-Pivot-clause-runs
 returns-in_err-pivot-in-Pivot-clause-runs c =

@@ -8,4 +8,5 @@ use Rattle.lp_dual.proofs.tests.is_ready.Given as goal
 
 -- the columns so far have a position where they are basic, and need no flip
 abbrev pub invariant-loop-k : goal.invariant-loop-k
-invariant-loop-k l = (j : ℕ) → j < l.k → (status_at l.tab j ≡ Basic → HasPlace l.tab j) × (needs_flip_at l.tab j ≡ false)
+invariant-loop-k l =
+    (j : ℕ) → j < l.k → (status_at l.tab j ≡ Basic → HasPlace l.tab j) × (needs_flip_at l.tab j ≡ false)

@@ -14,7 +14,8 @@ returns-in-Basic c =
     ⊎_elim (λ e. ap (λ s. way_of s Less) (sym e) ∙ d) (λ e. ap (λ s. way_of s Less) (sym e) ∙ d) c.in-Basic.is
 
 pub returns-in-Equal : goal.returns-in-Equal
-returns-in-Equal c = still c.args.status ∙ way_is c.args.status c.args.reduced Equal (sym c.in-Equal.is ∙ c.sign.ensures)
+returns-in-Equal c =
+    still c.args.status ∙ way_is c.args.status c.args.reduced Equal (sym c.in-Equal.is ∙ c.sign.ensures)
 
 pub returns-in-AtUpper : goal.returns-in-AtUpper
 returns-in-AtUpper c =

@@ -5,4 +5,5 @@ use Rattle.lp_primal.proofs.Ratios.{divides}
 use Rattle.lp_primal.proofs.ratio.best_with.Goals as goal
 
 pub div-requires : goal.div-requires
-div-requires c = λ z. divides (Some largest) c.args.e.up c.entry-entry.result c.lower.result c.upper.result c.value.result c.in-Some.gap c.in-Some.to (sym c.in_ok-gap.ensures ∙ ap Ok c.in-Some.is) (sym c.abs.ensures ∙ z)
+div-requires c =
+    λ z. divides (Some largest) c.args.e.up c.entry-entry.result c.lower.result c.upper.result c.value.result c.in-Some.gap c.in-Some.to (sym c.in_ok-gap.ensures ∙ ap Ok c.in-Some.is) (sym c.abs.ensures ∙ z)

@@ -18,7 +18,8 @@ returns-in_err-next-clause-stopped c =
     rw (p.1, p.2) (choice_stops _ _ _ _ _ c.loop-next.invariant.way _ (sym c.in_err-next.ensures.value))
 
 pub returns-in-End-clause-ended : goal.returns-in-End-clause-ended
-returns-in-End-clause-ended c = c.loop-next.invariant.same ∙ run_ends _ _ _ _ _ (sym c.in_ok-next.ensures.value ∙ ap Ok c.in-End.is)
+returns-in-End-clause-ended c =
+    c.loop-next.invariant.same ∙ run_ends _ _ _ _ _ (sym c.in_ok-next.ensures.value ∙ ap Ok c.in-End.is)
 
 pub returns-then-used-budget-clause-ended : goal.returns-then-used-budget-clause-ended
 returns-then-used-budget-clause-ended c =
@@ -39,6 +40,8 @@ returns-in_err-make-clause-stopped c =
 
 pub loop-next-preserved : goal.loop-next-preserved
 loop-next-preserved c = record {
-  same = c.loop-next.invariant.same ∙ step_done _ _ _ _ _ _ (sym c.in_ok-next.ensures.value) c.in_default.not-End c.if-used-budget.false c.in_ok-make.ensures;
-  way = one_made _ _ _ _ _ c.loop-next.invariant.way _ _ (sym c.in_ok-next.ensures.value) c.in_default.not-End c.if-used-budget.false c.in_ok-make.ensures;
+  same =
+      c.loop-next.invariant.same ∙ step_done _ _ _ _ _ _ (sym c.in_ok-next.ensures.value) c.in_default.not-End c.if-used-budget.false c.in_ok-make.ensures;
+  way =
+      one_made _ _ _ _ _ c.loop-next.invariant.way _ _ (sym c.in_ok-next.ensures.value) c.in_default.not-End c.if-used-budget.false c.in_ok-make.ensures;
 }

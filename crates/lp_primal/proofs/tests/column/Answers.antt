@@ -9,7 +9,8 @@ use Rattle.lp_primal.proofs.tests.column.Goals as goal
 use Rattle.lp_primal.proofs.tests.column.Goals.{then-not-is_zero+in_ok-push, else-not-is_zero}
 
 one_more : (n : ℕ) (es : List (ℕ × ℚ)) → AreEntries n es → AreEntries (n + 1) es
-one_more n es g = record { inside = All-weaker (λ (e : ℕ × ℚ). e.0 < n) (λ e. e.0 < n + 1) (λ e h. omega (arith, h)) es g.inside; ascending = g.ascending; not_zero = g.not_zero }
+one_more n es g =
+    record { inside = All-weaker (λ (e : ℕ × ℚ). e.0 < n) (λ e. e.0 < n + 1) (λ e h. omega (arith, h)) es g.inside; ascending = g.ascending; not_zero = g.not_zero }
 
 pushed : (n : ℕ) (es : List (ℕ × ℚ)) (v : ℚ) → AreEntries n es → v ≢ 0ℚ → AreEntries (n + 1) (es ++ (n, v) ∷ [])
 pushed n es v g h =

@@ -6,10 +6,14 @@ use Rattle.lp_shape.proofs.Steps.{column_more, has_room, whole_word}
 use Rattle.lp_shape.proofs.packing.form_word.Goals as goal
 
 pub overflow_mul-word : goal.overflow_mul-word
-overflow_mul-word c = let h = has_room (form_code c.args.form.now) (form_small c.args.form.now) c.args.first c.loop-k.k c.loop-k.word (omega arith) c.loop-k.invariant in omega (arith, h)
+overflow_mul-word c =
+    let h = has_room (form_code c.args.form.now) (form_small c.args.form.now) c.args.first c.loop-k.k c.loop-k.word (omega arith) c.loop-k.invariant in
+    omega (arith, h)
 
 pub overflow_add-word : goal.overflow_add-word
-overflow_add-word c = let h = has_room (form_code c.args.form.now) (form_small c.args.form.now) c.args.first c.loop-k.k c.loop-k.word (omega arith) c.loop-k.invariant in omega (arith, h, c.form_code.ensures.small)
+overflow_add-word c =
+    let h = has_room (form_code c.args.form.now) (form_small c.args.form.now) c.args.first c.loop-k.k c.loop-k.word (omega arith) c.loop-k.invariant in
+    omega (arith, h, c.form_code.ensures.small)
 
 pub loop-k-preserved : goal.loop-k-preserved
 loop-k-preserved c =
@@ -17,4 +21,5 @@ loop-k-preserved c =
     ∙ column_more (form_code c.args.form.now) c.args.first c.loop-k.k c.loop-k.word (omega arith) (omega arith) c.loop-k.invariant
 
 pub returns : goal.returns
-returns c = whole_word (form_code c.args.form.now) c.args.first c.loop-k.k c.loop-k.word (omega arith) c.loop-k.invariant
+returns c =
+    whole_word (form_code c.args.form.now) c.args.first c.loop-k.k c.loop-k.word (omega arith) c.loop-k.invariant

@@ -15,7 +15,8 @@ one_entry : (q : ℚ) → q ≢ 0ℚ → AreEntries 1 ((0, q) ∷ [])
 one_entry q n =
     record {
       inside = All-cons (λ e. e.0 < 1) (0, q) [] (omega arith) (All-nil (λ e. e.0 < 1));
-      ascending = AllPairs-cons (λ d e. d.0 < e.0) (0, q) [] (All-nil (λ e. 0 < e.0)) (λ i j d h k. absurd (omega arith));
+      ascending =
+          AllPairs-cons (λ d e. d.0 < e.0) (0, q) [] (All-nil (λ e. 0 < e.0)) (λ i j d h k. absurd (omega arith));
       not_zero = All-cons (λ e. e.1 ≢ 0ℚ) (0, q) [] n (All-nil (λ e. e.1 ≢ 0ℚ));
     }
 
@@ -29,7 +30,8 @@ kept q columns lower upper cost o e l u c =
       all_lower = l;
       all_upper = u;
       all_costs = c;
-      columns = subst (All (AreEntries 1)) (sym e) (All-cons (AreEntries 1) ((0, q) ∷ []) [] (one_entry q (λ z. one_not_zero (sym o ∙ z))) (All-nil (AreEntries 1)));
+      columns =
+          subst (All (AreEntries 1)) (sym e) (All-cons (AreEntries 1) ((0, q) ∷ []) [] (one_entry q (λ z. one_not_zero (sym o ∙ z))) (All-nil (AreEntries 1)));
     }
 
 pub new-requires : goal.new-requires

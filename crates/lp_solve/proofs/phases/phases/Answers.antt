@@ -12,7 +12,8 @@ returns-in_err-phase_one-clause-answer c =
     rw (p.1, p.2) (first_stops _ _ _ _ c.requires _ c.in_err-phase_one.ensures)
 
 pub returns-then-is_stuck-clause-answer : goal.returns-then-is_stuck-clause-answer
-returns-then-is_stuck-clause-answer c = is_infeasible _ _ _ _ c.requires _ _ _ c.in_ok-phase_one.ensures (sym c.is_stuck.ensures ∙ c.if-is_stuck.true)
+returns-then-is_stuck-clause-answer c =
+    is_infeasible _ _ _ _ c.requires _ _ _ c.in_ok-phase_one.ensures (sym c.is_stuck.ensures ∙ c.if-is_stuck.true)
 
 pub phase_two-requires-clause-same_rows : goal.phase_two-requires-clause-same_rows
 phase_two-requires-clause-same_rows c = same_rows _ _ _ _ c.requires _ _ _ c.in_ok-phase_one.ensures

@@ -11,7 +11,8 @@ returns-in-Ok-clause-answer c =
     ∙ solves_cold (Some largest) c.args.budget c.args.model.now _ c.args.handed _ c.in-None.is (c.in_ok-from_form-in-None.ensures.answer ∙ cold_is _ _ _ _ c.in-Ok.ensures.ok)
 
 pub answered-requires-clause-fits : goal.answered-requires-clause-fits
-answered-requires-clause-fits c = rw c.in-Err-Clash.j-is (clash_fits _ c.args.budget _ _ (form_clash _ _ _ c.in-Err-Clash.field-0-is c.in-Err-Clash.ensures.err))
+answered-requires-clause-fits c =
+    rw c.in-Err-Clash.j-is (clash_fits _ c.args.budget _ _ (form_clash _ _ _ c.in-Err-Clash.field-0-is c.in-Err-Clash.ensures.err))
 
 pub returns-in-Err-Clash-clause-answer : goal.returns-in-Err-Clash-clause-answer
 returns-in-Err-Clash-clause-answer c =

@@ -15,5 +15,6 @@ loop-j-preserved c =
     let e = c.from_vec.ensures ∙ c.in_ok-column.ensures.items in
     record {
       items = c.in_ok-push.ensures.ok ∙ entries_more m.columns _ _ _ i.items (e ∙ c.entries.ensures.value) l;
-      kept = subst (All (AreEntries (height m))) (sym c.in_ok-push.ensures.ok) (All-push (AreEntries (height m)) _ _ i.kept (subst (AreEntries (height m)) (sym e) c.entries.ensures.kept));
+      kept =
+          subst (All (AreEntries (height m))) (sym c.in_ok-push.ensures.ok) (All-push (AreEntries (height m)) _ _ i.kept (subst (AreEntries (height m)) (sym e) c.entries.ensures.kept));
     }

@@ -24,7 +24,8 @@ unfolding whole
 one_is_bound = record { below = omega (arith, ints) }
 
 is_bound : (v : ℚ) → (v ≡ 0ℚ) ⊎ (v ≡ 1ℚ) → IsBound (Some v)
-is_bound v h = ⊎_elim (λ e. subst (λ v. IsBound (Some v)) (sym e) zero_is_bound) (λ e. subst (λ v. IsBound (Some v)) (sym e) one_is_bound) h
+is_bound v h =
+    ⊎_elim (λ e. subst (λ v. IsBound (Some v)) (sym e) zero_is_bound) (λ e. subst (λ v. IsBound (Some v)) (sym e) one_is_bound) h
 
 is_x : (name : Name) → name ≡ codes "x" → IsTrue (is_name name)
 unfolding is_name

@@ -23,8 +23,10 @@ zero_is_narrow : (z : ℚ) → z ≡ 0ℚ → IsNarrow z
 unfolding whole
 zero_is_narrow z e = subst IsNarrow (sym e) (record { top = omega arith; bottom = omega arith })
 
-narrow_row : (r : ExactRow) (rhs : ℚ) (range : Option ℚ) → r.rhs ≡ rhs → r.range ≡ range → IsNarrow rhs → IfSome range IsNarrow → IsNarrowRow r
-narrow_row r rhs range e f n k = record { rhs = subst IsNarrow (sym e) n; range = subst (λ o. IfSome o IsNarrow) (sym f) k }
+narrow_row : (r : ExactRow) (rhs : ℚ) (range : Option ℚ) → r.rhs ≡ rhs → r.range ≡ range → IsNarrow rhs →
+    IfSome range IsNarrow → IsNarrowRow r
+narrow_row r rhs range e f n k =
+    record { rhs = subst IsNarrow (sym e) n; range = subst (λ o. IfSome o IsNarrow) (sym f) k }
 
 kept : (sense : Sense) (name objective : Name) (offset : ℚ) (rows no_rows : List ExactRow) (columns no_columns : List ExactColumn) (r : ExactRow) (x : ExactColumn)
     → name ≡ [] → objective ≡ codes "COST" → rows ≡ no_rows ++ r ∷ [] → no_rows ≡ [] → columns ≡ no_columns ++ x ∷ [] → no_columns ≡ [] → r.name ≡ codes "R"
@@ -39,13 +41,16 @@ kept sense name objective offset rows no_rows columns no_columns r x n o e f g h
       few_columns = subst (λ (xs : List ExactColumn). length xs ≤ 512) (sym cs) (omega arith);
       name = rw n refl;
       objective = rw o refl;
-      rows = subst (λ (xs : List ExactRow). All (λ r. IsTrue (is_row_name r.name)) xs) (sym rs) (All-cons (λ r. IsTrue (is_row_name r.name)) r [] (rw rn refl) (All-nil (λ r. IsTrue (is_row_name r.name))));
+      rows =
+          subst (λ (xs : List ExactRow). All (λ r. IsTrue (is_row_name r.name)) xs) (sym rs) (All-cons (λ r. IsTrue (is_row_name r.name)) r [] (rw rn refl) (All-nil (λ r. IsTrue (is_row_name r.name))));
       columns = rw (rs, cs) (All-cons (IsKeptColumn 1) x [] kx (All-nil (IsKeptColumn 1)));
       rows_distinct = rw (o, rs, rn) (two_names (codes "COST") (codes "R") (λ e. cc));
       columns_distinct = rw cs (one_name x.name);
       offset = ko;
-      narrow_rows = subst (λ (xs : List ExactRow). All IsNarrowRow xs) (sym rs) (All-cons IsNarrowRow r [] kr (All-nil IsNarrowRow));
-      narrow_columns = subst (λ (xs : List ExactColumn). All IsNarrowColumn xs) (sym cs) (All-cons IsNarrowColumn x [] lx (All-nil IsNarrowColumn));
+      narrow_rows =
+          subst (λ (xs : List ExactRow). All IsNarrowRow xs) (sym rs) (All-cons IsNarrowRow r [] kr (All-nil IsNarrowRow));
+      narrow_columns =
+          subst (λ (xs : List ExactColumn). All IsNarrowColumn xs) (sym cs) (All-cons IsNarrowColumn x [] lx (All-nil IsNarrowColumn));
     }
 
 pub new-requires : goal.new-requires

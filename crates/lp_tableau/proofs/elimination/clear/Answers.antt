@@ -41,7 +41,8 @@ returns-in_err-entry-clause-rows c =
     rw (p.1, p.2) (row_stops _ _ _ _ _ _ _ d (next_inside _ _ _ _ _ _ c.within.ensures c.narrow.ensures _ _ o) (sym step))
 
 pub returns-in_err-entry-clause-rest : goal.returns-in_err-entry-clause-rest
-returns-in_err-entry-clause-rest c = others_as_before _ _ _ _ _ _ c.loop-spot.invariant.done.done (λ e. c.requires.other (sym e))
+returns-in_err-entry-clause-rest c =
+    others_as_before _ _ _ _ _ _ c.loop-spot.invariant.done.done (λ e. c.requires.other (sym e))
 
 pub loop-spot-preserved : goal.loop-spot-preserved
 loop-spot-preserved c =
@@ -52,7 +53,8 @@ loop-spot-preserved c =
     let n = c.requires.other in
     let step = rw (c.at.ensures, c.at-in-loop-spot.ensures, row_as_before _ _ _ _ _ d, other_as_before _ _ _ _ _ _ d n) at c.in_ok-entry.ensures in
     record {
-      done = rw c.set.ensures (gone_on _ _ _ _ _ _ c.within.ensures c.narrow.ensures _ _ _ o (one_row_done _ _ _ _ _ _ d (row_inside _ _ _ _ g c.requires.row) (column_inside _ _ _ _ _ g c.requires.row l) (sym step)));
+      done =
+          rw c.set.ensures (gone_on _ _ _ _ _ _ c.within.ensures c.narrow.ensures _ _ _ o (one_row_done _ _ _ _ _ _ d (row_inside _ _ _ _ g c.requires.row) (column_inside _ _ _ _ _ g c.requires.row l) (sym step)));
       shape = rw c.set.ensures (grid_set _ _ _ _ _ _ g c.requires.row);
     }
 

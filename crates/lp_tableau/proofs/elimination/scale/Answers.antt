@@ -19,10 +19,12 @@ loop-k-preserved c =
     let g = c.loop-k.invariant.shape in
     let step = rw (c.at.ensures, row_as_before _ _ _ _ _ d) at c.in_ok-entry.ensures in
     record {
-      done = rw c.set.ensures (one_row_done _ _ _ _ _ _ d (row_inside _ _ _ _ g c.requires.place) (column_inside _ _ _ _ _ g c.requires.place c.loop-k-test.true) (sym step));
+      done =
+          rw c.set.ensures (one_row_done _ _ _ _ _ _ d (row_inside _ _ _ _ g c.requires.place) (column_inside _ _ _ _ _ g c.requires.place c.loop-k-test.true) (sym step));
       shape = rw c.set.ensures (grid_set _ _ _ _ _ _ g c.requires.place);
     }
 
 pub returns-clause-rows : goal.returns-clause-rows
 unfolding scaled_by
-returns-clause-rows c = row_finished _ _ _ _ _ _ c.loop-k.invariant.done c.loop-k-test.false c.loop-k.auto.k-end (grid_row _ _ _ _ c.requires.shape c.requires.place)
+returns-clause-rows c =
+    row_finished _ _ _ _ _ _ c.loop-k.invariant.done c.loop-k-test.false c.loop-k.auto.k-end (grid_row _ _ _ _ c.requires.shape c.requires.place)

@@ -16,7 +16,8 @@ returns-in_err-clear_twins-clause-rows c =
     rw (p.1, p.2) (row_refused _ _ _ _ _ _ _ _ _ _ c.in_ok-scale_twins.ensures.rows c.loop-i.invariant.done c.loop-i-test.true c.if-i-p.true c.in_err-clear_twins.ensures.rows)
 
 pub returns-clause-rows : goal.returns-clause-rows
-returns-clause-rows c = rows_turned _ _ _ _ _ _ _ _ _ c.in_ok-scale_twins.ensures.rows c.loop-i.invariant.done c.loop-i-test.false c.loop-i.auto.i-end
+returns-clause-rows c =
+    rows_turned _ _ _ _ _ _ _ _ _ c.in_ok-scale_twins.ensures.rows c.loop-i.invariant.done c.loop-i-test.false c.loop-i.auto.i-end
 
 pub clear_twins-requires-clause-listed : goal.clear_twins-requires-clause-listed
 clear_twins-requires-clause-listed c =

@@ -11,5 +11,6 @@ pub returns-then-is_open-clause-open : goal.returns-then-is_open-clause-open
 returns-then-is_open-clause-open c =
     record {
       inside = omega (arith, c.loop-i-test.true, c.rows-i-end.ensures.value);
-      entry = open_entry (record { rows = c.args.grid.now; basic = c.args.basic.now }) c.args.j c.loop-i.i (sym c.is_open.ensures ∙ c.if-is_open.true);
+      entry =
+          open_entry (record { rows = c.args.grid.now; basic = c.args.basic.now }) c.args.j c.loop-i.i (sym c.is_open.ensures ∙ c.if-is_open.true);
     }

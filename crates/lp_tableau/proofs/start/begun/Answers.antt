@@ -11,4 +11,5 @@ returns c =
     c.in_ok-basics.ensures c.in_ok-values.ensures (c.in_ok-zeros.ensures ∙ ap (λ n. replicate n 0ℚ) c.width.ensures.value) c.in_ok-statuses.ensures c.in_ok-lowers.ensures c.in_ok-uppers.ensures
 
 pub invariant_of-result : goal.invariant_of-result
-invariant_of-result c = subst IsTableauShape (sym (returns c)) (begun_shape _ _ c.rows-height.ensures.kept c.requires.starts)
+invariant_of-result c =
+    subst IsTableauShape (sym (returns c)) (begun_shape _ _ c.rows-height.ensures.kept c.requires.starts)

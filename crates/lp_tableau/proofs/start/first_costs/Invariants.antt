@@ -6,4 +6,5 @@ use Rattle.lp_tableau.proofs.start.first_costs.Given as goal
 
 -- the artificials so far are there
 abbrev pub invariant-loop-start : goal.invariant-loop-start
-invariant-loop-start l = l.costs.items ≡ replicate (l.form.cols + l.form.rows) 0ℚ ++ map first_cost (take l.start-index l.starts)
+invariant-loop-start l =
+    l.costs.items ≡ replicate (l.form.cols + l.form.rows) 0ℚ ++ map first_cost (take l.start-index l.starts)

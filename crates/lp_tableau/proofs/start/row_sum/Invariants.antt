@@ -9,4 +9,5 @@ use Rattle.lp_tableau.proofs.start.row_sum.Given as goal
 
 -- the sum so far
 abbrev pub invariant-loop-j : goal.invariant-loop-j
-invariant-loop-j l = steps l.j (λ j s. plus_product (Some largest) (form_entry l.form l.i j) (first_value l.form j) s) 0ℚ ≡ Ok l.sum
+invariant-loop-j l =
+    steps l.j (λ j s. plus_product (Some largest) (form_entry l.form l.i j) (first_value l.form j) s) 0ℚ ≡ Ok l.sum

@@ -4,7 +4,8 @@ use Rattle.lp_tableau.proofs.Begun.{grid_block, grid_is, is_twinned, twins_are}
 use Rattle.lp_tableau.proofs.start.rows.Goals as goal
 
 pub from_block-grid-requires : goal.from_block-grid-requires
-from_block-grid-requires c = grid_block _ _ _ _ _ c.front.ensures.value c.rows-others.ensures.value c.in_ok-block.ensures c.rows-others.ensures.kept
+from_block-grid-requires c =
+    grid_block _ _ _ _ _ c.front.ensures.value c.rows-others.ensures.value c.in_ok-block.ensures c.rows-others.ensures.kept
 
 pub from_grid-requires : goal.from_grid-requires
 from_grid-requires c =

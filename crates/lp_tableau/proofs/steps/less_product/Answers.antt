@@ -10,4 +10,5 @@ then_is (Ok a) next = refl
 then_is (Err e) next = refl
 
 pub returns : goal.returns
-returns c = c.less_product.ensures ∙ then_is (product_run (Some largest) c.args.v c.args.w) (difference_run (Some largest) c.args.s)
+returns c =
+    c.less_product.ensures ∙ then_is (product_run (Some largest) c.args.v c.args.w) (difference_run (Some largest) c.args.s)

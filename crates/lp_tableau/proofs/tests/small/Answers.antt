@@ -18,12 +18,14 @@ three q = (0, q) ∷ (1, q) ∷ (2, q) ∷ []
 three_entries : (q : ℚ) → q ≢ 0ℚ → AreEntries 3 (three q)
 three_entries q n =
     record {
-      inside = All-cons (λ e. e.0 < 3) (0, q) ((1, q) ∷ (2, q) ∷ []) (omega arith) (All-cons (λ e. e.0 < 3) (1, q) ((2, q) ∷ []) (omega arith) (All-cons (λ e. e.0 < 3) (2, q) [] (omega arith) (All-nil (λ e. e.0 < 3))));
+      inside =
+          All-cons (λ e. e.0 < 3) (0, q) ((1, q) ∷ (2, q) ∷ []) (omega arith) (All-cons (λ e. e.0 < 3) (1, q) ((2, q) ∷ []) (omega arith) (All-cons (λ e. e.0 < 3) (2, q) [] (omega arith) (All-nil (λ e. e.0 < 3))));
       ascending = AllPairs-cons (λ d e. d.0 < e.0) (0, q) ((1, q) ∷ (2, q) ∷ [])
           (All-cons (λ e. 0 < e.0) (1, q) ((2, q) ∷ []) (omega arith) (All-cons (λ e. 0 < e.0) (2, q) [] (omega arith) (All-nil (λ e. 0 < e.0))))
           (AllPairs-cons (λ d e. d.0 < e.0) (1, q) ((2, q) ∷ []) (All-cons (λ e. 1 < e.0) (2, q) [] (omega arith) (All-nil (λ e. 1 < e.0)))
           (AllPairs-cons (λ d e. d.0 < e.0) (2, q) [] (All-nil (λ e. 2 < e.0)) (λ i j d h k. absurd (omega arith))));
-      not_zero = All-cons (λ e. e.1 ≢ 0ℚ) (0, q) ((1, q) ∷ (2, q) ∷ []) n (All-cons (λ e. e.1 ≢ 0ℚ) (1, q) ((2, q) ∷ []) n (All-cons (λ e. e.1 ≢ 0ℚ) (2, q) [] n (All-nil (λ e. e.1 ≢ 0ℚ))));
+      not_zero =
+          All-cons (λ e. e.1 ≢ 0ℚ) (0, q) ((1, q) ∷ (2, q) ∷ []) n (All-cons (λ e. e.1 ≢ 0ℚ) (1, q) ((2, q) ∷ []) n (All-cons (λ e. e.1 ≢ 0ℚ) (2, q) [] n (All-nil (λ e. e.1 ≢ 0ℚ))));
     }
 
 kept : (q : ℚ) (columns : List (List (ℕ × ℚ))) (lower upper : List (Option ℚ)) (cost : List ℚ) → q ≡ 1ℚ → columns ≡ three q ∷ [] → length lower ≡ 4 → length upper ≡ 4 → length cost ≡ 4
@@ -36,7 +38,8 @@ kept q columns lower upper cost o e l u c =
       all_lower = l;
       all_upper = u;
       all_costs = c;
-      columns = subst (All (AreEntries 3)) (sym e) (All-cons (AreEntries 3) (three q) [] (three_entries q (λ z. one_not_zero (sym o ∙ z))) (All-nil (AreEntries 3)));
+      columns =
+          subst (All (AreEntries 3)) (sym e) (All-cons (AreEntries 3) (three q) [] (three_entries q (λ z. one_not_zero (sym o ∙ z))) (All-nil (AreEntries 3)));
     }
 
 pub new-requires-4 : goal.new-requires-4

@@ -14,4 +14,5 @@ pub bounds-values-basic : goal.bounds-values-basic
 bounds-values-basic c = omega (arith, c.basic.ensures.inside, c.loop-i.auto.values, c.requires.len)
 
 pub returns-clause-filled : goal.returns-clause-filled
-returns-clause-filled c = values_filled (Some largest) c.args.self.now c.loop-i.i c.loop-i.values (omega (arith, c.loop-i-test.false, c.loop-i.auto.i-end, c.rows-i-end.ensures.value)) c.loop-i.invariant
+returns-clause-filled c =
+    values_filled (Some largest) c.args.self.now c.loop-i.i c.loop-i.values (omega (arith, c.loop-i-test.false, c.loop-i.auto.i-end, c.rows-i-end.ensures.value)) c.loop-i.invariant

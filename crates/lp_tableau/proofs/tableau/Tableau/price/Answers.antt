@@ -25,7 +25,8 @@ loop-k-preserved c =
     let w = c.width-k-end.ensures.value in
     let inside : c.loop-k.k < length c.loop-k.self.reduced = omega (arith, c.loop-k-test.true, w, i.done.len, s.all_reduced) in
     record {
-      done = subst (IsDone _ _ _) (sym (ap (λ t. t.reduced) c.set_reduced.ensures)) (one_done _ _ _ _ _ i.done inside (sym (reduced_same _ c.args.self.now c.loop-k.self _ _ i.rest) ∙ sym c.in_ok-cost.ensures));
+      done =
+          subst (IsDone _ _ _) (sym (ap (λ t. t.reduced) c.set_reduced.ensures)) (one_done _ _ _ _ _ i.done inside (sym (reduced_same _ c.args.self.now c.loop-k.self _ _ i.rest) ∙ sym c.in_ok-cost.ensures));
       rest = repriced_again c.args.self.now c.loop-k.self _ _ i.rest c.set_reduced.ensures;
     }
 

@@ -4,10 +4,12 @@ use Rattle.lp_tableau.proofs.TwinRows.{height_is, width_is, turned_same, grid_af
 use Rattle.lp_tableau.proofs.twins.Twins.turn.Goals as goal
 
 pub turn-requires-clause-place : goal.turn-requires-clause-place
-turn-requires-clause-place c = omega (arith, height_is _ _ _ _ _ c.self.view_is c.self.invariant _ _ c.requires.shape, c.requires.place)
+turn-requires-clause-place c =
+    omega (arith, height_is _ _ _ _ _ c.self.view_is c.self.invariant _ _ c.requires.shape, c.requires.place)
 
 pub turn-requires-clause-column : goal.turn-requires-clause-column
-turn-requires-clause-column c = omega (arith, width_is _ _ _ _ _ c.self.view_is c.self.invariant _ _ c.requires.shape _ c.requires.place, c.requires.column)
+turn-requires-clause-column c =
+    omega (arith, width_is _ _ _ _ _ c.self.view_is c.self.invariant _ _ c.requires.shape _ c.requires.place, c.requires.column)
 
 pub returns : goal.returns
 returns c =
