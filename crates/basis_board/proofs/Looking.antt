@@ -15,25 +15,32 @@ use Rattle.basis_board.specs.Calls.{Meets, AgreesWith, PassesBy, undone, other, 
 use Rattle.basis_board.proofs.Totals.{each_map}
 
 pub meets : (v w u : View) (n : ℕ) → Learned (met v w) n u → Meets v w u
-meets v w u n h = subst (λ (x : View). Meets v w x) (sym h.view) (record { view = refl; whole = λ all. (n, h.whole all, record { within = h.within; seen = h.seen; reads = h.reads; whole = h.whole }) })
+meets v w u n h =
+    subst (λ (x : View). Meets v w x) (sym h.view) (record { view = refl; whole = λ all. (n, h.whole all, record { within = h.within; seen = h.seen; reads = h.reads; whole = h.whole }) })
 
-pub each_both : {X : Type 0} (P Q R : X → Type 0) → ((x : X) → P x → Q x → R x) → (xs : List X) → Each P xs → Each Q xs → Each R xs
+pub each_both : {X : Type 0} (P Q R : X → Type 0) → ((x : X) → P x → Q x → R x) → (xs : List X) → Each P xs →
+    Each Q xs → Each R xs
 each_both P Q R both [] p q = tt
 each_both P Q R both (x ∷ xs) p q = (both x p.0 q.0, each_both P Q R both xs p.1 q.1)
 
 saw_at : (k i n : ℕ) (v w : View) → i ≡ 50 * k + 50 → Saw (i / 50 - 1) v n w → Saw k v n w
 saw_at k i n v w is h = let e : i / 50 - 1 ≡ k = omega arith in subst (λ (z : ℕ). Saw z v n w) e h
 
-pub undone_at : (shape : List ℕ) (k i n : ℕ) (v w : View) → i ≡ 50 * k + 50 → n ≡ 0 → Saw (i / 50 - 1) v n w → PassesBy shape k v w
-undone_at shape k i n v w is z h = let g = saw_at k i n v w is h in undone (each_map (λ p. p.0 ≡ k → n ≡ 1) (λ p. p.0 ≢ k) (λ p f e. (let one = f e in omega arith)) v.seen g.known) (g.not_done z)
+pub undone_at : (shape : List ℕ) (k i n : ℕ) (v w : View) → i ≡ 50 * k + 50 → n ≡ 0 → Saw (i / 50 - 1) v n w →
+    PassesBy shape k v w
+undone_at shape k i n v w is z h =
+    let g = saw_at k i n v w is h in
+    undone (each_map (λ p. p.0 ≡ k → n ≡ 1) (λ p. p.0 ≢ k) (λ p f e. (let one = f e in omega arith)) v.seen g.known) (g.not_done z)
 
-pub reads_none : (k i n : ℕ) (words : List ℕ) (v w : View) → i ≡ 50 * k + 50 → (n ≡ 0 → ⊥) → length words ≡ 49 → Saw (i / 50 - 1) v n w → Consistent w → IsReading k 0 words v w
+pub reads_none : (k i n : ℕ) (words : List ℕ) (v w : View) → i ≡ 50 * k + 50 → (n ≡ 0 → ⊥) → length words ≡ 49 →
+    Saw (i / 50 - 1) v n w → Consistent w → IsReading k 0 words v w
 reads_none k i n words v w is one long h cons =
     let g = saw_at k i n v w is h in
     let b = g.bit in
     record { long = long; view = g.yes (omega arith); consistent = cons; agrees = each_map (λ p. p.0 ≡ k → n ≡ 1) (AgreesWith k []) (λ p f e j l m. absurd (omega arith)) v.seen g.known }
 
-pub reads_on : (k i n m : ℕ) (words : List ℕ) (v u w : View) → i < 49 → m ≡ 50 * k + 1 + i → IsReading k i words v u → WordRead ((m - 1) / 50) ((m - 1) % 50) u n w → Consistent w → IsReading k (i + 1) (set words i n) v w
+pub reads_on : (k i n m : ℕ) (words : List ℕ) (v u w : View) → i < 49 → m ≡ 50 * k + 1 + i → IsReading k i words v u →
+    WordRead ((m - 1) / 50) ((m - 1) % 50) u n w → Consistent w → IsReading k (i + 1) (set words i n) v w
 reads_on k i n m words v u w room is h g cons =
     let long = h.long in
     let xs : List ℕ = take i words in
@@ -43,7 +50,8 @@ reads_on k i n m words v u w room is h g cons =
     let on_k : (m - 1) / 50 ≡ k = omega arith in
     let on_i : (m - 1) % 50 ≡ i = omega arith in
     let known = (subst (λ (z : View). Each (HasAt ((m - 1) / 50) ((m - 1) % 50) n) z.seen) h.view g.known).1 in
-    let known' : Each (HasAt k i n) v.seen = subst (λ (z : ℕ × ℕ). Each (HasAt z.0 z.1 n) v.seen) (λ j. (on_k j, on_i j)) known in record {
+    let known' : Each (HasAt k i n) v.seen = subst (λ (z : ℕ × ℕ). Each (HasAt z.0 z.1 n) v.seen) (λ j. (on_k j, on_i j)) known in
+    record {
       long = length-set words i n ∙ long;
       view = g.view ∙ ap (λ (z : View). reading z n) h.view ∙ ap (seeing v k) (sym next);
       consistent = cons;
@@ -56,7 +64,8 @@ reads_on k i n m words v u w room is h g cons =
           v.seen h.agrees known');
     }
 
-pub formed_on : (k i n m : ℕ) (words : List ℕ) (v u w : View) → i < 49 → m ≡ 50 * k + 1 + i → IsReading k i words v u → WordRead ((m - 1) / 50) ((m - 1) % 50) u n w → Consistent w → i + 1 ≡ 49 → IsWellFormed (set words i n)
+pub formed_on : (k i n m : ℕ) (words : List ℕ) (v u w : View) → i < 49 → m ≡ 50 * k + 1 + i → IsReading k i words v u →
+    WordRead ((m - 1) / 50) ((m - 1) % 50) u n w → Consistent w → i + 1 ≡ 49 → IsWellFormed (set words i n)
 formed_on k i n m words v u w room is h g cons last =
     let after = reads_on k i n m words v u w room is h g cons in
     let long = after.long in
@@ -64,7 +73,9 @@ formed_on k i n m words v u w room is h g cons last =
     let head : head_words w.seen ≡ set words i n = ap (λ (z : View). head_words z.seen) after.view ∙ all in
     subst IsWellFormed head (g.formed (ap length head ∙ long))
 
-pub rest_on : (shape : List ℕ) (k i n m : ℕ) (words : List ℕ) (v u w : View) → i < 49 → m ≡ 50 * k + 1 + i → IsReadingRest shape k i words v u → WordRead ((m - 1) / 50) ((m - 1) % 50) u n w → Consistent w → IsReadingRest shape k (i + 1) (set words i n) v w
+pub rest_on : (shape : List ℕ) (k i n m : ℕ) (words : List ℕ) (v u w : View) → i < 49 → m ≡ 50 * k + 1 + i →
+    IsReadingRest shape k i words v u → WordRead ((m - 1) / 50) ((m - 1) % 50) u n w → Consistent w →
+    IsReadingRest shape k (i + 1) (set words i n) v w
 rest_on shape k i n m words v u w room is h g cons =
     let late = h.late in record {
       read = reads_on k i n m words v u w room is h.read g cons;
@@ -73,10 +84,13 @@ rest_on shape k i n m words v u w room is h g cons =
       formed = λ last. formed_on k i n m words v u w room is h.read g cons last;
     }
 
-pub other_at : (shape : List ℕ) (k : ℕ) (words : List ℕ) (v w : View) → IsReading k 25 words v w → take 25 words ≢ shape → PassesBy shape k v w
-other_at shape k words v w h apart = let long = h.long in other (take 25 words) (omega (arith, length-take 25 words)) apart h.agrees h.view
+pub other_at : (shape : List ℕ) (k : ℕ) (words : List ℕ) (v w : View) → IsReading k 25 words v w →
+    take 25 words ≢ shape → PassesBy shape k v w
+other_at shape k words v w h apart =
+    let long = h.long in other (take 25 words) (omega (arith, length-take 25 words)) apart h.agrees h.view
 
-pub finds : (shape : List ℕ) (k : ℕ) (words : List ℕ) (v w : View) → IsReadingRest shape k 49 words v w → Finds shape k words v w
+pub finds : (shape : List ℕ) (k : ℕ) (words : List ℕ) (v w : View) → IsReadingRest shape k 49 words v w →
+    Finds shape k words v w
 finds shape k words v w h =
     let r = h.read in
     let long = r.long in
@@ -85,4 +99,6 @@ finds shape k words v w h =
 
 -- what a test of two slices by != tells
 pub differ : (xs ys : List ℕ) (r : Bool) → r ≡ not (pointwise eqb xs ys) → r ≡ true → xs ≢ ys
-differ xs ys r is on e = let d = slice_eq-Decides Decides-eqb xs ys (pointwise eqb xs ys) refl in let same : pointwise eqb xs ys ≡ true = d.1 e in true≢false (sym on ∙ (is ∙ ap not same))
+differ xs ys r is on e =
+    let d = slice_eq-Decides Decides-eqb xs ys (pointwise eqb xs ys) refl in
+    let same : pointwise eqb xs ys ≡ true = d.1 e in true≢false (sym on ∙ (is ∙ ap not same))

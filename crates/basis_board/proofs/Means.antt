@@ -43,7 +43,8 @@ just_one f (v ∷ vs) z = ⊎_elim
     elsewhere one zero u n e = absurd (n refl)
     elsewhere one (suc j) u n e = no_view f vs (omega arith) j u e
 
-    later : f v ≡ 0 → (seat : ℕ) → ((j : ℕ) (u : View) → j ≢ seat → get_elem? vs j ≡ some u → f u ≡ 0) → (j : ℕ) (u : View) → j ≢ suc seat → get_elem? (v ∷ vs) j ≡ some u → f u ≡ 0
+    later : f v ≡ 0 → (seat : ℕ) → ((j : ℕ) (u : View) → j ≢ seat → get_elem? vs j ≡ some u → f u ≡ 0) →
+        (j : ℕ) (u : View) → j ≢ suc seat → get_elem? (v ∷ vs) j ≡ some u → f u ≡ 0
     later none seat rest zero u n e = ap f (sym (some-injective v u e)) ∙ none
     later none seat rest (suc j) u n e = rest j u (λ q. n (ap suc q)) e
 
@@ -60,7 +61,8 @@ means places s r = record {
       let h = just_one (holding k) s.views (omega arith) in
       inl (record { holder = h; words = λ xs is. subst (HeldFits s.words) is (r.each_seat h.seat h.view h.there).held; undone = undone; in_no_own = no_view (λ v. times k v.own) s.views (omega arith) }))
       (cases_eq (done s.words k) 1);
-  beyond = λ k l. let p = r.each_place k in let f = p.free l in (omega arith, no_view (holding k) s.views (omega arith));
+  beyond =
+      λ k l. let p = r.each_place k in let f = p.free l in (omega arith, no_view (holding k) s.views (omega arith));
   views = λ j v at. let f = r.each_seat j v at in record {
     seen = λ k xs h. each_has (SeenFits s.words) v.seen (k, xs) f.seen h;
     own = λ k h. each_has (OwnFits v.seen) v.own k f.own h;

@@ -12,7 +12,8 @@ use Rattle.basis_board.specs.Rule.{SeenFits, ReadFits, Kept, Agree, published_pl
 use Rattle.basis_board.proofs.Totals.{total_at, each_map, each_append, has_left, has_right}
 use Rattle.basis_board.proofs.Frames.{St, shows_same}
 
-stands_in : (seen more : List (ℕ × List ℕ)) → ((p : ℕ × List ℕ) → Has seen p → Has more p) → (r : Read) → StandsIn seen r → StandsIn more r
+stands_in : (seen more : List (ℕ × List ℕ)) → ((p : ℕ × List ℕ) → Has seen p → Has more p) → (r : Read) →
+    StandsIn seen r → StandsIn more r
 stands_in seen more into (Count c) h = tt
 stands_in seen more into (Open k) h = tt
 stands_in seen more into (See k xs) h = (h.0, into (k, h.0) h.1, h.2)
@@ -20,23 +21,29 @@ stands_in seen more into (Claim k) h = tt
 stands_in seen more into (Lost c) h = tt
 stands_in seen more into (Done k xs) h = (h.0, into (k, h.0) h.1, h.2)
 
-pub neat_noted : (v : View) (r : Read) → published_places (r ∷ v.reads) ≡ published_places v.reads → StandsIn v.seen r → Neat v → Neat (noted v r)
+pub neat_noted : (v : View) (r : Read) → published_places (r ∷ v.reads) ≡ published_places v.reads → StandsIn v.seen r →
+    Neat v → Neat (noted v r)
 neat_noted v r same stands n = record { published = n.published ∙ sym same; stands = (stands, n.stands) }
 
 pub neat_finished : (v : View) (k : ℕ) (xs : List ℕ) → Neat v → Neat (finished (Some (k, xs)) v)
-neat_finished v k xs n = record { published = ap (λ (l : List ℕ). l ++ k ∷ []) n.published; stands = ((xs, inl refl, omega arith), each_map (StandsIn v.seen) (StandsIn ((k, xs) ∷ v.seen)) (stands_in v.seen ((k, xs) ∷ v.seen) (λ p h. inr h)) v.reads n.stands) }
+neat_finished v k xs n =
+    record { published = ap (λ (l : List ℕ). l ++ k ∷ []) n.published; stands = ((xs, inl refl, omega arith), each_map (StandsIn v.seen) (StandsIn ((k, xs) ∷ v.seen)) (stands_in v.seen ((k, xs) ∷ v.seen) (λ p h. inr h)) v.reads n.stands) }
 
 pub neat_opening : (v : View) (k : ℕ) → Neat v → Neat (opening_place v k)
-neat_opening v k n = record { published = n.published; stands = (([], inl refl, omega arith), each_map (StandsIn v.seen) (StandsIn ((k, []) ∷ v.seen)) (stands_in v.seen ((k, []) ∷ v.seen) (λ p h. inr h)) v.reads n.stands) }
+neat_opening v k n =
+    record { published = n.published; stands = (([], inl refl, omega arith), each_map (StandsIn v.seen) (StandsIn ((k, []) ∷ v.seen)) (stands_in v.seen ((k, []) ∷ v.seen) (λ p h. inr h)) v.reads n.stands) }
 
 -- the place that was seen last has one more word
-longer_in : (k b : ℕ) (xs : List ℕ) (rest : List (ℕ × List ℕ)) (j : ℕ) (n : ℕ) → (ys : List ℕ) × Has ((k, xs) ∷ rest) (j, ys) × (n ≤ length ys) → (ys : List ℕ) × Has ((k, xs ++ b ∷ []) ∷ rest) (j, ys) × (n ≤ length ys)
+longer_in : (k b : ℕ) (xs : List ℕ) (rest : List (ℕ × List ℕ)) (j : ℕ) (n : ℕ) →
+    (ys : List ℕ) × Has ((k, xs) ∷ rest) (j, ys) × (n ≤ length ys) →
+    (ys : List ℕ) × Has ((k, xs ++ b ∷ []) ∷ rest) (j, ys) × (n ≤ length ys)
 longer_in k b xs rest j n h = ⊎_elim
     (λ (e : (k, xs) ≡ (j, h.0)). let l : length xs ≡ length h.0 = ap (λ (p : ℕ × List ℕ). length p.1) e in let m = h.2 in let a : length (xs ++ b ∷ []) ≡ length xs + 1 = length-append xs (b ∷ []) in (xs ++ b ∷ [], inl (λ i. (((e i).0), xs ++ b ∷ [])), omega arith))
     (λ (g : Has rest (j, h.0)). (h.0, inr g, h.2))
     h.1
 
-stands_longer : (k b : ℕ) (xs : List ℕ) (rest : List (ℕ × List ℕ)) (r : Read) → StandsIn ((k, xs) ∷ rest) r → StandsIn ((k, xs ++ b ∷ []) ∷ rest) r
+stands_longer : (k b : ℕ) (xs : List ℕ) (rest : List (ℕ × List ℕ)) (r : Read) → StandsIn ((k, xs) ∷ rest) r →
+    StandsIn ((k, xs ++ b ∷ []) ∷ rest) r
 stands_longer k b xs rest (Count c) h = tt
 stands_longer k b xs rest (Open j) h = tt
 stands_longer k b xs rest (See j ys) h = longer_in k b xs rest j (length ys) h
@@ -44,11 +51,13 @@ stands_longer k b xs rest (Claim j) h = tt
 stands_longer k b xs rest (Lost c) h = tt
 stands_longer k b xs rest (Done j ys) h = longer_in k b xs rest j (length ys) h
 
-pub neat_reading : (v : View) (k b : ℕ) (xs : List ℕ) (rest : List (ℕ × List ℕ)) (old : List Read) → v.seen ≡ (k, xs) ∷ rest → v.reads ≡ See k xs ∷ old → Neat v → Neat (reading v b)
+pub neat_reading : (v : View) (k b : ℕ) (xs : List ℕ) (rest : List (ℕ × List ℕ)) (old : List Read) →
+    v.seen ≡ (k, xs) ∷ rest → v.reads ≡ See k xs ∷ old → Neat v → Neat (reading v b)
 neat_reading v k b xs rest old top last n =
     let now : grown_seen v.seen b ≡ (k, xs ++ b ∷ []) ∷ rest = ap (λ (l : List (ℕ × List ℕ)). grown_seen l b) top in
     let noted_now : grown_reads v.reads b ≡ See k (xs ++ b ∷ []) ∷ old = ap (λ (l : List Read). grown_reads l b) last in
-    let was : Each (StandsIn ((k, xs) ∷ rest)) (See k xs ∷ old) = subst (λ (z : List (ℕ × List ℕ) × List Read). Each (StandsIn z.0) z.1) (λ i. (top i, last i)) n.stands in record {
+    let was : Each (StandsIn ((k, xs) ∷ rest)) (See k xs ∷ old) = subst (λ (z : List (ℕ × List ℕ) × List Read). Each (StandsIn z.0) z.1) (λ i. (top i, last i)) n.stands in
+    record {
       published = n.published ∙ (ap published_places last ∙ ap published_places (sym noted_now));
       stands = subst (λ (z : List (ℕ × List ℕ) × List Read). Each (StandsIn z.0) z.1) (λ i. (sym now i, sym noted_now i))
           ((xs ++ b ∷ [], inl refl, omega arith), each_map (StandsIn ((k, xs) ∷ rest)) (StandsIn ((k, xs ++ b ∷ []) ∷ rest)) (stands_longer k b xs rest) old was.1);
@@ -61,7 +70,8 @@ published-append (Open k ∷ xs) ys = published-append xs ys
 published-append (See k zs ∷ xs) ys = published-append xs ys
 published-append (Claim k ∷ xs) ys = published-append xs ys
 published-append (Lost c ∷ xs) ys = published-append xs ys
-published-append (Done k zs ∷ xs) ys = ap (λ (l : List ℕ). l ++ k ∷ []) (published-append xs ys) ∙ append_assoc (published_places ys) (published_places xs) (k ∷ [])
+published-append (Done k zs ∷ xs) ys =
+    ap (λ (l : List ℕ). l ++ k ∷ []) (published-append xs ys) ∙ append_assoc (published_places ys) (published_places xs) (k ∷ [])
 
 pub neat_met : (v w : View) → Neat v → Neat w → Neat (met v w)
 neat_met v w n m = record {
@@ -73,7 +83,8 @@ neat_met v w n m = record {
 agree : (ws : List ℕ) (p q : ℕ × List ℕ) → SeenFits ws p → SeenFits ws q → Agree p q
 agree ws p q a b e i l m = sym (a.1.same i l) ∙ (ap (λ (z : ℕ). get_or ws (50 * z + 1 + i) 0) e ∙ b.1.same i m)
 
-read_agrees : (ws : List ℕ) (seen : List (ℕ × List ℕ)) → Each (SeenFits ws) seen → (r : Read) → ReadFits ws r → ReadAgrees seen r
+read_agrees : (ws : List ℕ) (seen : List (ℕ × List ℕ)) → Each (SeenFits ws) seen → (r : Read) → ReadFits ws r →
+    ReadAgrees seen r
 read_agrees ws seen all (Count c) h = tt
 read_agrees ws seen all (Open k) h = tt
 read_agrees ws seen all (See k xs) h = each_map (SeenFits ws) (Agree (k, xs)) (λ q c. agree ws (k, xs) q h c) seen all
@@ -87,13 +98,16 @@ at_here (z ∷ zs) zero x y e = refl
 at_here (z ∷ zs) (suc i) x y e = at_here zs i x y e
 
 pub consistent_left : (v : View) → Consistent v → Consistent (cut_left v)
-consistent_left v h = record { neat = record { published = h.neat.published; stands = h.neat.stands }; agree = h.agree; reads_agree = h.reads_agree; formed = h.formed; own = h.own; once = h.once }
+consistent_left v h =
+    record { neat = record { published = h.neat.published; stands = h.neat.stands }; agree = h.agree; reads_agree = h.reads_agree; formed = h.formed; own = h.own; once = h.once }
 
 pub consistent_right : (v : View) → Consistent v → Consistent (cut_right v)
-consistent_right v h = record { neat = record { published = refl; stands = tt }; agree = h.agree; reads_agree = tt; formed = h.formed; own = tt; once = λ k. omega arith }
+consistent_right v h =
+    record { neat = record { published = refl; stands = tt }; agree = h.agree; reads_agree = tt; formed = h.formed; own = tt; once = λ k. omega arith }
 
 pub consistent_first : (places : ℕ) → Consistent (first_view places)
-consistent_first places = record { neat = record { published = refl; stands = tt }; agree = tt; reads_agree = tt; formed = tt; own = tt; once = λ k. omega arith }
+consistent_first places =
+    record { neat = record { published = refl; stands = tt }; agree = tt; reads_agree = tt; formed = tt; own = tt; once = λ k. omega arith }
 
 module _ (places : ℕ) where
   pub consistent : (s : St) → Kept places s → (id : ℕ) (v : View) → get_elem? s.views id ≡ some v → Consistent v
@@ -101,14 +115,18 @@ module _ (places : ℕ) where
       let ws : List ℕ = s.words in
       let f = r.each_seat id v at in record {
         neat = f.neat;
-        agree = each_map (SeenFits ws) (λ p. Each (Agree p) v.seen) (λ p a. each_map (SeenFits ws) (Agree p) (λ q c. agree ws p q a c) v.seen f.seen) v.seen f.seen;
+        agree =
+            each_map (SeenFits ws) (λ p. Each (Agree p) v.seen) (λ p a. each_map (SeenFits ws) (Agree p) (λ q c. agree ws p q a c) v.seen f.seen) v.seen f.seen;
         reads_agree = each_map (ReadFits ws) (ReadAgrees v.seen) (read_agrees ws v.seen f.seen) v.reads f.reads;
-        formed = each_map (SeenFits ws) (λ p. length p.1 ≡ 49 → IsWellFormed p.1) (λ p a long. (let g = (r.each_place p.0).formed a.0 in subst IsWellFormed (shows_same ws p.0 g.0 p.1 (g.2.all ∙ sym long) g.1 a.1) g.2)) v.seen f.seen;
+        formed =
+            each_map (SeenFits ws) (λ p. length p.1 ≡ 49 → IsWellFormed p.1) (λ p a long. (let g = (r.each_place p.0).formed a.0 in subst IsWellFormed (shows_same ws p.0 g.0 p.1 (g.2.all ∙ sym long) g.1 a.1) g.2)) v.seen f.seen;
         own = f.own;
         once = λ k. (let p = r.each_place k in let o = p.owned in let t = total_at (owning k) s.views id v at in
             ⊎_elim (λ (l : k < count ws). (let c = p.claimed l in omega arith)) (λ (l : count ws ≤ k). (let c = p.free l in omega arith)) (cases_lt k (count ws)));
       }
 
   -- the view after a step
-  pub after : (s : St) (ws : List ℕ) (id : ℕ) (v w : View) → get_elem? s.views id ≡ some v → Kept places record { words = ws; homes = s.homes; views = set s.views id w } → Consistent w
-  after s ws id v w at r = consistent record { words = ws; homes = s.homes; views = set s.views id w } r id w (at_here s.views id v w at)
+  pub after : (s : St) (ws : List ℕ) (id : ℕ) (v w : View) → get_elem? s.views id ≡ some v →
+      Kept places record { words = ws; homes = s.homes; views = set s.views id w } → Consistent w
+  after s ws id v w at r =
+      consistent record { words = ws; homes = s.homes; views = set s.views id w } r id w (at_here s.views id v w at)

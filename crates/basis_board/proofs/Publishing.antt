@@ -32,9 +32,11 @@ raced v v1 w n e h g apart =
 pub full : (v v1 : View) (n : ℕ) → Counted v n v1 → v.places ≤ n → IsFull v n v1
 full v v1 n h most = let a = h.within in record { view = h.view; all = omega arith; tells = tells v v1 n h }
 
-pub published_view : (v v1 v2 v3 w : View) (n e : ℕ) (xs : List ℕ) → Counted v n v1 → Claimed n v1 e v2 → e ≡ n → v3 ≡ storing v2 n xs → w ≡ finished v3.held v3 → n < v.places → IsPublished v xs n w
+pub published_view : (v v1 v2 v3 w : View) (n e : ℕ) (xs : List ℕ) → Counted v n v1 → Claimed n v1 e v2 → e ≡ n →
+    v3 ≡ storing v2 n xs → w ≡ finished v3.held v3 → n < v.places → IsPublished v xs n w
 published_view v v1 v2 v3 w n e xs h g hit stored ended inside = record {
-  view = ended ∙ ap (λ (u : View). finished u.held u) (stored ∙ ap (λ u. storing u n xs) (g.won hit ∙ ap (λ u. claiming u n) h.view));
+  view =
+      ended ∙ ap (λ (u : View). finished u.held u) (stored ∙ ap (λ u. storing u n xs) (g.won hit ∙ ap (λ u. claiming u n) h.view));
   inside = inside;
   tells = tells v v1 n h;
 }

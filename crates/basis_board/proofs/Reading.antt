@@ -17,7 +17,8 @@ use Rattle.basis_board.proofs.Frames.{shows_same, shows_none, unmoved}
 
 module _ (places : ℕ) where
   -- kind 5
-  pub sees : (slots id : ℕ) (me : Me ℕ View) (i k : ℕ) → 0 < me.0.share → i ≡ 50 * k + 50 → Allows (Kept places) slots id me i (λ n. n) (saw (step slots i 0 0 none) me)
+  pub sees : (slots id : ℕ) (me : Me ℕ View) (i k : ℕ) → 0 < me.0.share → i ≡ 50 * k + 50 →
+      Allows (Kept places) slots id me i (λ n. n) (saw (step slots i 0 0 none) me)
   sees slots id me i k share is s r _ at _ =
       let v : View = me.0 in
       let ws : List ℕ = s.words in
@@ -58,8 +59,10 @@ module _ (places : ℕ) where
       ))
       (cases_eq n 1)
 
-  own_grows : (k : ℕ) (xs : List ℕ) (b : ℕ) (rest : List (ℕ × List ℕ)) → length xs < 49 → (j : ℕ) → OwnFits ((k, xs) ∷ rest) j → OwnFits ((k, xs ++ b ∷ []) ∷ rest) j
-  own_grows k xs b rest short j f = (f.0, ⊎_elim (λ (e : (k, xs) ≡ (j, f.0)). absurd (let l : length xs ≡ length f.0 = ap (λ (p : ℕ × List ℕ). length p.1) e in let m = f.2 in omega arith)) (λ (h : Has rest (j, f.0)). inr h) f.1, f.2)
+  own_grows : (k : ℕ) (xs : List ℕ) (b : ℕ) (rest : List (ℕ × List ℕ)) → length xs < 49 → (j : ℕ) →
+      OwnFits ((k, xs) ∷ rest) j → OwnFits ((k, xs ++ b ∷ []) ∷ rest) j
+  own_grows k xs b rest short j f =
+      (f.0, ⊎_elim (λ (e : (k, xs) ≡ (j, f.0)). absurd (let l : length xs ≡ length f.0 = ap (λ (p : ℕ × List ℕ). length p.1) e in let m = f.2 in omega arith)) (λ (h : Has rest (j, f.0)). inr h) f.1, f.2)
 
   -- kind 6
   pub reads : (slots id : ℕ) (me : Me ℕ View) (i k : ℕ) (xs : List ℕ) (rest : List (ℕ × List ℕ)) (old : List Read) → me.0.seen ≡ (k, xs) ∷ rest → me.0.reads ≡ See k xs ∷ old → 0 < me.0.share → length xs < 49 → i ≡ 50 * k + 1 + length xs
@@ -105,14 +108,16 @@ module _ (places : ℕ) where
                 (λ q f e l. let same : q.0 ≡ k = e ∙ sym on_k in let at_m : m < length q.1 = omega arith in
                 ap (λ (z : ℕ). get_or q.1 z 0) (sym on_m) ∙ (sym (f.1.same m at_m) ∙ (ap (λ (z : ℕ). get_or ws (50 * z + 1 + m) 0) same ∙ word)))
                 v.seen fits.seen;
-            formed = λ whole. subst IsWellFormed (shows_same ws k formed.0 (head_words w.seen) (formed.2.all ∙ sym whole) formed.1 (subst (Shows ws k) (sym head) longer)) formed.2;
+            formed =
+                λ whole. subst IsWellFormed (shows_same ws k formed.0 (head_words w.seen) (formed.2.all ∙ sym whole) formed.1 (subst (Shows ws k) (sym head) longer)) formed.2;
           },
           refl,
           after places s (set ws i n) id v w at kept,
         ),
       )
     where
-      shows_more : (ws : List ℕ) (k : ℕ) (xs : List ℕ) (n : ℕ) → length xs < 49 → get_or ws (50 * k + 1 + length xs) 0 ≡ n → Shows ws k xs → Shows ws k (xs ++ n ∷ [])
+      shows_more : (ws : List ℕ) (k : ℕ) (xs : List ℕ) (n : ℕ) → length xs < 49 →
+          get_or ws (50 * k + 1 + length xs) 0 ≡ n → Shows ws k xs → Shows ws k (xs ++ n ∷ [])
       shows_more ws k xs n short word h = let long : length (xs ++ n ∷ []) ≡ length xs + 1 = length-append xs (n ∷ []) in record {
         short = omega arith;
         same = λ j l. ⊎_elim

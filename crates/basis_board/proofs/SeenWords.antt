@@ -15,12 +15,16 @@ pub record Longest (k : ℕ) (seen : List (ℕ × List ℕ)) (ys : List ℕ) : T
   pub has : Has seen (k, words)
   pub long : length ys ≤ length words
 
-longer_cases : (b : Bool) (xs ys : List ℕ) → (b ≡ true → length xs < length ys) → (b ≡ false → length ys ≤ length xs) → (zs : List ℕ) × (longer_if b xs ys ≡ zs) × ((zs ≡ xs) ⊎ (zs ≡ ys)) × (length xs ≤ length zs) × (length ys ≤ length zs)
+longer_cases : (b : Bool) (xs ys : List ℕ) → (b ≡ true → length xs < length ys) → (b ≡ false → length ys ≤ length xs) →
+    (zs : List ℕ) × (longer_if b xs ys ≡ zs) × ((zs ≡ xs) ⊎ (zs ≡ ys)) × (length xs ≤ length zs) × (length ys ≤ length zs)
 longer_cases true xs ys less more = let l = less refl in (ys, refl, inr refl, omega arith, omega arith)
 longer_cases false xs ys less more = (xs, refl, inl refl, omega arith, more refl)
 
-with_head : (k : ℕ) (p : ℕ × List ℕ) (ps : List (ℕ × List ℕ)) (o : Option (List ℕ)) → words_of k ps ≡ o → p.0 ≡ k → ((xs : List ℕ) → o ≡ Some xs → Has ps (k, xs)) → (zs : List ℕ) × (words_of k (p ∷ ps) ≡ Some zs) × Has (p ∷ ps) (k, zs) × (length p.1 ≤ length zs) × ((xs : List ℕ) → o ≡ Some xs → length xs ≤ length zs)
-with_head k p ps None is same has = (p.1, ap (λ b. merged b p.1 (words_of k ps)) (eq-eqb p.0 k same) ∙ ap (longer p.1) is, inl (λ i. (same i, p.1)), omega arith, (λ xs e. absurd (cc)))
+with_head : (k : ℕ) (p : ℕ × List ℕ) (ps : List (ℕ × List ℕ)) (o : Option (List ℕ)) → words_of k ps ≡ o → p.0 ≡ k →
+    ((xs : List ℕ) → o ≡ Some xs → Has ps (k, xs)) →
+    (zs : List ℕ) × (words_of k (p ∷ ps) ≡ Some zs) × Has (p ∷ ps) (k, zs) × (length p.1 ≤ length zs) × ((xs : List ℕ) → o ≡ Some xs → length xs ≤ length zs)
+with_head k p ps None is same has =
+    (p.1, ap (λ b. merged b p.1 (words_of k ps)) (eq-eqb p.0 k same) ∙ ap (longer p.1) is, inl (λ i. (same i, p.1)), omega arith, (λ xs e. absurd (cc)))
 with_head k p ps (Some ys) is same has =
     let c = longer_cases (ltb (length p.1) (length ys)) p.1 ys (λ t. grind (arith, nat_tests)) (λ t. grind (arith, nat_tests)) in (
       c.0,
@@ -55,7 +59,9 @@ longest k (p ∷ ps) ys h = ⊎_elim
     (cases_eq p.0 k)
 
 -- what was seen of a place is a prefix of what a view has seen of it that has seen as much
-pub seen_grows : (w : View) (old : List (ℕ × List ℕ)) (k : ℕ) (ys : List ℕ) → Consistent w → ((p : ℕ × List ℕ) → Has old p → Has w.seen p) → words_of k old ≡ Some ys → (xs : List ℕ) × (words_of k w.seen ≡ Some xs) × IsPrefixOf ys xs
+pub seen_grows : (w : View) (old : List (ℕ × List ℕ)) (k : ℕ) (ys : List ℕ) → Consistent w →
+    ((p : ℕ × List ℕ) → Has old p → Has w.seen p) → words_of k old ≡ Some ys →
+    (xs : List ℕ) × (words_of k w.seen ≡ Some xs) × IsPrefixOf ys xs
 seen_grows w old k ys h into was =
     let there : Has w.seen (k, ys) = into (k, ys) (words_has k old ys was) in
     let t = longest k w.seen ys there in

@@ -14,7 +14,8 @@ use Rattle.basis_board.proofs.Totals.{total_set, total_push, total_at, total_two
 use Rattle.basis_board.proofs.Frames.{St, shows_set, done_set, reads_move, same_total, seats_stay, held_stays, fits_move}
 
 -- one more word of the payload
-pub shows_push : (ws : List ℕ) (k i b : ℕ) (xs : List ℕ) → length xs < 49 → i ≡ 50 * k + 1 + length xs → i < length ws → Shows ws k xs → Shows (set ws i b) k (xs ++ b ∷ [])
+pub shows_push : (ws : List ℕ) (k i b : ℕ) (xs : List ℕ) → length xs < 49 → i ≡ 50 * k + 1 + length xs → i < length ws →
+    Shows ws k xs → Shows (set ws i b) k (xs ++ b ∷ [])
 shows_push ws k i b xs room is inside h =
     let n : ℕ = length xs in
     let long : length (xs ++ b ∷ []) ≡ n + 1 = length-append xs (b ∷ []) in record {
@@ -34,7 +35,8 @@ module _ (places : ℕ) where
     pub undone : done s.words k ≡ 0
     pub alone : (j : ℕ) (u : View) → j ≢ id → get_elem? s.views j ≡ some u → holding k u ≡ 0
 
-  pub holds : (s : St) → Kept places s → (id : ℕ) (v : View) (k : ℕ) (xs : List ℕ) → get_elem? s.views id ≡ some v → v.held ≡ Some (k, xs) → Holds s id k
+  pub holds : (s : St) → Kept places s → (id : ℕ) (v : View) (k : ℕ) (xs : List ℕ) → get_elem? s.views id ≡ some v →
+      v.held ≡ Some (k, xs) → Holds s id k
   holds s r id v k xs at held =
       let one : holding k v ≡ 1 = ap (holding_in k) held ∙ times_here k in
       let some_one = total_at (holding k) s.views id v at in
@@ -44,9 +46,11 @@ module _ (places : ℕ) where
       (λ (l : count s.words ≤ k). let c = p.free l in absurd (omega arith))
       (cases_lt k (count s.words))
 
-  held_apart : (ws us : List ℕ) (k : ℕ) → ((j : ℕ) (xs : List ℕ) → j ≢ k → Shows ws j xs → Shows us j xs) → (o : Option (ℕ × List ℕ)) → holding_in k o ≡ 0 → HeldFits ws o → HeldFits us o
+  held_apart : (ws us : List ℕ) (k : ℕ) → ((j : ℕ) (xs : List ℕ) → j ≢ k → Shows ws j xs → Shows us j xs) →
+      (o : Option (ℕ × List ℕ)) → holding_in k o ≡ 0 → HeldFits ws o → HeldFits us o
   held_apart ws us k shown None z h = tt
-  held_apart ws us k shown (Some p) z h = shown p.0 p.1 (λ e. (let q : one_if (eqb p.0 k) ≡ 1 = ap (λ x. one_if (eqb x k)) e ∙ times_here k in omega arith)) h
+  held_apart ws us k shown (Some p) z h =
+      shown p.0 p.1 (λ e. (let q : one_if (eqb p.0 k) ≡ 1 = ap (λ x. one_if (eqb x k)) e ∙ times_here k in omega arith)) h
 
   -- kind 3
   pub writes : (slots id : ℕ) (me : Me ℕ View) (i b k : ℕ) (xs : List ℕ) → me.0.held ≡ Some (k, xs) → 0 < me.0.share → length xs < 49 → i ≡ 50 * k + 1 + length xs
@@ -81,7 +85,8 @@ module _ (places : ℕ) where
                 claimed = λ l. (let c = p.claimed (omega arith) in omega arith);
                 free = λ l. (let c = p.free (omega arith) in omega arith);
                 owned = same_total (owning j) s.views id v w at refl ∙ p.owned ∙ sym dj;
-                formed = λ e. (let is_done : done ws j ≡ 1 = sym dj ∙ e in let f = p.formed is_done in (f.0, shown j f.0 (other j is_done) f.1, f.2));
+                formed =
+                    λ e. (let is_done : done ws j ≡ 1 = sym dj ∙ e in let f = p.formed is_done in (f.0, shown j f.0 (other j is_done) f.1, f.2));
               });
           each_seat = seats_stay (Fits places us) s.views id w
               (record { on_board = fits.on_board; is_spent = λ z. absurd (omega arith); held = mine_held; seen = each_map (SeenFits ws) (SeenFits us) seen v.seen fits.seen; own = fits.own; reads = each_map (ReadFits ws) (ReadFits us) (reads_move ws us more seen) v.reads fits.reads; neat = record { published = fits.neat.published; stands = fits.neat.stands } })
@@ -131,7 +136,8 @@ module _ (places : ℕ) where
               claimed = λ l. omega arith;
               free = λ l. absurd (let a = h.inside in omega arith);
               owned = omega arith;
-              formed = λ _. subst (λ z. (ys : List ℕ) × Shows us z ys × IsWellFormed ys) e (xs, shown k xs mine, formed);
+              formed =
+                  λ _. subst (λ z. (ys : List ℕ) × Shows us z ys × IsWellFormed ys) e (xs, shown k xs mine, formed);
             })
             (λ (e : k ≡ j → ⊥).
             let none_here : one_if (eqb k j) ≡ 0 = times_else k j e in
@@ -149,7 +155,8 @@ module _ (places : ℕ) where
               is_spent = λ z. absurd (omega arith);
               held = tt;
               seen = (new, each_map (SeenFits ws) (SeenFits us) seen v.seen fits.seen);
-              own = each_push (OwnFits w.seen) v.own k (each_map (OwnFits v.seen) (OwnFits w.seen) (λ j f. (f.0, inr f.1, f.2)) v.own fits.own) (xs, inl refl, formed.all);
+              own =
+                  each_push (OwnFits w.seen) v.own k (each_map (OwnFits v.seen) (OwnFits w.seen) (λ j f. (f.0, inr f.1, f.2)) v.own fits.own) (xs, inl refl, formed.all);
               reads = (new, each_map (ReadFits ws) (ReadFits us) (reads_move ws us more seen) v.reads fits.reads);
               neat = neat_finished v k xs fits.neat;
             })

@@ -74,7 +74,8 @@ writing v b = record v { held = grown_held v.held b }
 
 abbrev pub finished : Option (ℕ × List ℕ) → View → View
 finished None v = v
-finished (Some p) v = record v { held = None; seen = p ∷ v.seen; own = v.own ++ p.0 ∷ []; reads = Done p.0 p.1 ∷ v.reads }
+finished (Some p) v =
+    record v { held = None; seen = p ∷ v.seen; own = v.own ++ p.0 ∷ []; reads = Done p.0 p.1 ∷ v.reads }
 
 abbrev pub opening_place : View → ℕ → View
 opening_place v k = record v { seen = (k, []) ∷ v.seen; reads = See k [] ∷ v.reads }
@@ -113,7 +114,8 @@ abbrev pub cut_right : View → View
 cut_right v = record { places = v.places; share = 1; held = None; seen = v.seen; own = []; reads = [] }
 
 abbrev pub met : View → View → View
-met v w = record { places = v.places; share = v.share + w.share; held = v.held; seen = v.seen ++ w.seen; own = v.own ++ w.own; reads = w.reads ++ v.reads }
+met v w =
+    record { places = v.places; share = v.share + w.share; held = v.held; seen = v.seen ++ w.seen; own = v.own ++ w.own; reads = w.reads ++ v.reads }
 
 -- the view, when the place k was read as done and then these words of it
 abbrev pub seeing : View → ℕ → List ℕ → View
@@ -124,4 +126,5 @@ abbrev pub storing : View → ℕ → List ℕ → View
 storing v k xs = record v { held = Some (k, xs) }
 
 abbrev pub publishing : View → ℕ → List ℕ → View
-publishing v k xs = record v { held = None; seen = (k, xs) ∷ v.seen; own = v.own ++ k ∷ []; reads = Done k xs ∷ Claim k ∷ Count k ∷ v.reads }
+publishing v k xs =
+    record v { held = None; seen = (k, xs) ∷ v.seen; own = v.own ++ k ∷ []; reads = Done k xs ∷ Claim k ∷ Count k ∷ v.reads }

@@ -60,7 +60,8 @@ pub record Meets (v w u : View) : Type 0 where
 -- the place k was read, and is not done or has another shape
 pub data PassesBy (shape : List ℕ) (k : ℕ) (v w : View) : Type 0 where
   undone : Each (λ p. p.0 ≢ k) v.seen → w ≡ noted v (Open k) → PassesBy shape k v w
-  other : (xs : List ℕ) → length xs ≡ 25 → xs ≢ shape → Each (AgreesWith k xs) v.seen → w ≡ seeing v k xs → PassesBy shape k v w
+  other : (xs : List ℕ) → length xs ≡ 25 → xs ≢ shape → Each (AgreesWith k xs) v.seen → w ≡ seeing v k xs →
+      PassesBy shape k v w
 
 -- the place k was read as done, with these words and this shape
 pub record Finds (shape : List ℕ) (k : ℕ) (xs : List ℕ) (v w : View) : Type 0 where

@@ -97,16 +97,19 @@ silent_lines addressing pending (here ∷ lines) given e =
   where
     no_end : here ≢ line.End
     no_end = (All-head (λ (l : Line (List ℕ)). IsGiven l) here lines given).0
+
     by : (asks : Asks) → asks_of_line addressing pending here ≡ asks
         → (said_by (script_step addressing) (pending_after_line addressing pending here) lines ≡ None → SayNothing addressing (pending_after_line addressing pending here) lines)
         → SayNothing addressing pending (here ∷ lines)
     by [] is rest =
         let later = rest (sym (behind_step addressing pending here lines [] no_end is) ∙ e) in
         record {
-          no_asks = ap (λ (zs : Asks). zs ++ asks_from addressing (pending_after_line addressing pending here) lines) is ∙ later.no_asks;
+          no_asks =
+              ap (λ (zs : Asks). zs ++ asks_from addressing (pending_after_line addressing pending here) lines) is ∙ later.no_asks;
           behind = λ more. behind_step addressing pending here (lines ++ more) [] no_end is ∙ later.behind more;
         }
-    by (asked ∷ asks) is rest = unsaid (taken.Ask asked) (sym (behind_step addressing pending here lines (asked ∷ asks) no_end is) ∙ e)
+    by (asked ∷ asks) is rest =
+        unsaid (taken.Ask asked) (sym (behind_step addressing pending here lines (asked ∷ asks) no_end is) ∙ e)
 
 -- what one line says is an ask
 record SaysAsk (addressing : Addressing) (pending : Pending) (here : Line (List ℕ)) (what : Taken) : Type 0 where
@@ -125,7 +128,8 @@ says_ask addressing pending here what no_end e = by (asks_of_line addressing pen
         let done = line_done addressing pending here asked rest is in
         record {
           asked = asked;
-          is_said = same_said what (taken.Ask asked) (sym e ∙ behind_step addressing pending here [] (asked ∷ rest) no_end is);
+          is_said =
+              same_said what (taken.Ask asked) (sym e ∙ behind_step addressing pending here [] (asked ∷ rest) no_end is);
           asks = is ∙ ap (λ (zs : Asks). asked ∷ zs) done.alone;
           between = done.between;
         }
@@ -230,7 +234,8 @@ module _ (addressing : Addressing) (before after : Option (List ℕ)) (old new :
   more_at_end Cut = tt
   more_at_end Over = tt
 
-  more_said : (what : Taken) → HearsNext (Say addressing) before after old new (Ok (heard.Says what)) → TakesMore old new (Ok what)
+  more_said : (what : Taken) → HearsNext (Say addressing) before after old new (Ok (heard.Says what)) →
+      TakesMore old new (Ok what)
   more_said what (inl h) = more_at what (h.grows, h.bound)
   more_said what (inr h) = subst (λ (w : Taken). TakesMore old new (Ok w)) (sym (said_at_end what h)) (more_at_end _)
 

@@ -83,7 +83,8 @@ module _ {T R : Type 0} {Say : T → List (Line (List ℕ)) → Option R → Typ
 
     -- the lines so far say nothing
     silent_so_far : Say at [] None → Say first t.passed None
-    silent_so_far silent = subst (λ (ls : List (Line (List ℕ))). Say first ls None) (append-nil t.passed) (t.comes [] None silent)
+    silent_so_far silent =
+        subst (λ (ls : List (Line (List ℕ))). Say first ls None) (append-nil t.passed) (t.comes [] None silent)
 
     said_at : Say at [] None → (here : Line (List ℕ)) → GivesNext now after reading new (Ok here) → here ≢ line.End →
         here ≢ line.Over → (what : R) →
@@ -104,16 +105,20 @@ module _ {T R : Type 0} {Say : T → List (Line (List ℕ)) → Option R → Typ
 
     until : Say at [] None → (result : Result (Line (List ℕ)) LineStop) → GivesNext now after reading new result →
         HearsUntil (Say first) before after old result
-    until silent result g = record { passed = t.passed; reads = reads_until t.reads g; given = t.given; silent = silent_so_far silent }
+    until silent result g =
+        record { passed = t.passed; reads = reads_until t.reads g; given = t.given; silent = silent_so_far silent }
 
     -- something is said at a line, or at the end
     pub says_so : Say at [] None → (here : Line (List ℕ)) → GivesNext now after reading new (Ok here) →
         here ≢ line.Over → (what : R) →
         Leads Say count at here (step.Says what) → HearsNext (Say first) before after old new (Ok (heard.Says what))
     unfolding until
-    says_so silent (line.Text bytes) g no_over what leads = inl (said_at silent (line.Text bytes) g (λ h. cc) no_over what leads)
-    says_so silent (line.Long len) g no_over what leads = inl (said_at silent (line.Long len) g (λ h. cc) no_over what leads)
-    says_so silent line.End g no_over what leads = inr (record { until = until silent (Ok line.End) g; says = t.comes (line.End ∷ []) (Some what) (leads []) })
+    says_so silent (line.Text bytes) g no_over what leads =
+        inl (said_at silent (line.Text bytes) g (λ h. cc) no_over what leads)
+    says_so silent (line.Long len) g no_over what leads =
+        inl (said_at silent (line.Long len) g (λ h. cc) no_over what leads)
+    says_so silent line.End g no_over what leads =
+        inr (record { until = until silent (Ok line.End) g; says = t.comes (line.End ∷ []) (Some what) (leads []) })
     says_so silent line.Over g no_over what leads = absurd (no_over refl)
 
     -- no line came
@@ -129,8 +134,10 @@ module _ {T R : Type 0} {Say : T → List (Line (List ℕ)) → Option R → Typ
     -- memory was wanting for what a line leads to
     pub wants : (here : Line (List ℕ)) → GivesNext now after reading new (Ok here) → here ≢ line.Over →
         HearsNext (Say first) before after old new (Err stop.NoMemory)
-    wants (line.Text bytes) g no_over = record { passed = t.passed ++ line.Text bytes ∷ []; reads = inl (reads_line (line.Text bytes) t.reads g (λ h. cc) no_over) }
-    wants (line.Long len) g no_over = record { passed = t.passed ++ line.Long len ∷ []; reads = inl (reads_line (line.Long len) t.reads g (λ h. cc) no_over) }
+    wants (line.Text bytes) g no_over =
+        record { passed = t.passed ++ line.Text bytes ∷ []; reads = inl (reads_line (line.Text bytes) t.reads g (λ h. cc) no_over) }
+    wants (line.Long len) g no_over =
+        record { passed = t.passed ++ line.Long len ∷ []; reads = inl (reads_line (line.Long len) t.reads g (λ h. cc) no_over) }
     wants line.End g no_over = record { passed = t.passed; reads = inl (reads_end t.reads g).0 }
     wants line.Over g no_over = absurd (no_over refl)
 
@@ -138,7 +145,8 @@ module _ {T R : Type 0} {Say : T → List (Line (List ℕ)) → Option R → Typ
 pub hears_as : {R : Type 0} (Say : List (Line (List ℕ)) → Option R →
     Type 0) (before after : Option (List ℕ)) (old new : LinesState) (result other : Result (Heard R) LineStop) →
     result ≡ other → HearsNext Say before after old new other → HearsNext Say before after old new result
-hears_as {R} Say before after old new result other same h = subst (λ (r : Result (Heard R) LineStop). HearsNext Say before after old new r) (sym same) h
+hears_as {R} Say before after old new result other same h =
+    subst (λ (r : Result (Heard R) LineStop). HearsNext Say before after old new r) (sym same) h
 
 -- want of memory, and what is heard, are no fault of the source
 pub memory_no_fault : {R P : Type 0} (result : Result R LineStop) → result ≡ Err stop.NoMemory →

@@ -1,4 +1,4 @@
--- Lines one behind the other.
+-- Lines one after the other.
 use Rattle.std.proofs.Common.{◌≡◌, ℕ, suc, ◌+◌, List, [], ◌∷◌, ◌++◌, take, Some, arith, ap, ◌∙◌, append-nil}
 use Rattle.std.specs.List.{flat_map, slice_get}
 use Rattle.std.proofs.Math.Seq.{take-suc}

@@ -18,7 +18,8 @@ pub two_by_two-odd : (words : List (List ℕ)) → length words % 2 ≢ 0 → tw
 unfolding two_by_two
 two_by_two-odd [] odd = absurd (odd refl)
 two_by_two-odd (word ∷ []) odd = refl
-two_by_two-odd (name ∷ value ∷ words) odd = ap (option_map (λ pairs. (name, value) ∷ pairs)) (two_by_two-odd words (omega arith))
+two_by_two-odd (name ∷ value ∷ words) odd =
+    ap (option_map (λ pairs. (name, value) ∷ pairs)) (two_by_two-odd words (omega arith))
 
 -- and of an even one none
 two_by_two-even : (words : List (List ℕ)) → length words % 2 ≡ 0 → (pairs : Words) × (two_by_two words ≡ Some pairs)
@@ -59,7 +60,8 @@ module _ (name cost : List ℕ) (words : List (List ℕ)) (even : length words %
   pairs_fault v e stop result is g = subst (GivesWords (column_in name cost (two_by_two words))) (sym is) (by stop (pairs_read v e (Err stop) g))
     where
       by : (stop : EditStop) →
-          (answer : Reads Pairs) × (GivesWords answer (Err stop)) × (column_in name cost (two_by_two words) ≡ (answer >>= λ ps. Ok (AddCol name v ps))) → GivesWords (column_in name cost (two_by_two words)) (Err stop)
+          (answer : Reads Pairs) × (GivesWords answer (Err stop)) × (column_in name cost (two_by_two words) ≡ (answer >>= λ ps. Ok (AddCol name v ps))) →
+          GivesWords (column_in name cost (two_by_two words)) (Err stop)
       by (Fault why) (answer, g, e) = e ∙ ap (λ (a : Reads Pairs). a >>= λ ps. Ok (AddCol name v ps)) g
       by NoMemory (answer, g, e) = tt
 

@@ -13,7 +13,7 @@ use Rattle.spec_server.specs.EditCommand.{Reads, ◌>>=◌, number_in, two_by_tw
 abbrev pub Words : Type 0
 Words = List (List ℕ × List ℕ)
 
--- the pairs of all words are these, and those of the words that are left behind them
+-- the pairs of all words are these, and those of the words that are left after them
 pub record PairsLeft (all : Words) (left : List (List ℕ)) (pairs : Pairs) : Type 0 where
   pub rest : Words
   pub paired : two_by_two left ≡ Some rest
@@ -21,7 +21,7 @@ pub record PairsLeft (all : Words) (left : List (List ℕ)) (pairs : Pairs) : Ty
 
 -- ---- the first two words
 
--- the words behind the first two
+-- the words after the first two
 behind : (name value : List ℕ) (others : List (List ℕ)) (rest : Words) →
     two_by_two (name ∷ value ∷ others) ≡ Some rest →
     (more : Words) × (two_by_two others ≡ Some more) × (rest ≡ (name, value) ∷ more)
@@ -70,7 +70,7 @@ module _ (words : List (List ℕ)) (all : Words) (pairs : Pairs) (left : PairsLe
   two_left : PairsLeft all (name ∷ value ∷ take (length words - 2) (drop 2 words)) pairs
   two_left = subst (λ (ws : List (List ℕ)). PairsLeft all ws pairs) (two_first words name value two n v) left
 
-  -- the number behind the first name that is left was read
+  -- the number after the first name that is left was read
   first_read : (v : ℚ) → number_in value ≡ Ok v →
       PairsLeft all (take (length words - 2) (drop 2 words)) (pairs ++ (name, v) ∷ [])
   first_read v e = pair_read two_left v e

@@ -47,7 +47,8 @@ text_cut form s = refl
 text_judged : (form : Style) (s : State) (n : ℕ) (lines : List (Line (List ℕ))) →
     said_by (text_step form) (record { state = s; lines = n }) (lines ++ line.End ∷ []) ≡ Some (verdict_said (text.judge form s (n + 1) lines))
 unfolding text_step
-text_judged form s n [] = ap (λ (o : text.Outcome). follow (behind_line (n + 1) o) (λ next. said_by (text_step form) next [])) (text_cut form s)
+text_judged form s n [] =
+    ap (λ (o : text.Outcome). follow (behind_line (n + 1) o) (λ next. said_by (text_step form) next [])) (text_cut form s)
 text_judged form s n (here ∷ lines) = by (text.step form s here) (λ t. text_judged form t (n + 1) lines)
   where
     by : (o : text.Outcome)
@@ -97,11 +98,13 @@ text_passes form lines held next here fits p = λ more answer h.
 
 text_closes : (form : Style) (lines : List (Line (List ℕ))) (held : Body TextRead TextSaid) (what : TextSaid) →
     TextFits form lines held → BodySays TextSays held (line.End ∷ []) (Some what) → verdict_said (text.judge form start 1 lines) ≡ what
-text_closes form lines held what fits h = same_said _ what (sym (text_judged form start 0 lines) ∙ fits (line.End ∷ []) (Some what) h)
+text_closes form lines held what fits h =
+    same_said _ what (sym (text_judged form start 0 lines) ∙ fits (line.End ∷ []) (Some what) h)
 
 pub certificate_begins : (reader : certificate_reading.CertificateRead) → reader ≡ record { raw = None; lines = 0 } →
     CertificateFits [] (body.Reading reader)
-certificate_begins reader is = subst (λ (r : certificate_reading.CertificateRead). CertificateFits [] (body.Reading r)) (sym is) (λ more answer h. h)
+certificate_begins reader is =
+    subst (λ (r : certificate_reading.CertificateRead). CertificateFits [] (body.Reading r)) (sym is) (λ more answer h. h)
 
 certificate_passes : (lines : List (Line (List ℕ))) (held next : Body certificate_reading.CertificateRead CertificateSaid) (here : Line (List ℕ)) →
     CertificateFits lines held → PassesTo CertificateSays lines_of_certificate held here next → CertificateFits (lines ++ here ∷ []) next
@@ -111,7 +114,8 @@ certificate_passes lines held next here fits p = λ more answer h.
 
 certificate_closes : (lines : List (Line (List ℕ))) (held : Body certificate_reading.CertificateRead CertificateSaid) (what : CertificateSaid) →
     CertificateFits lines held → BodySays CertificateSays held (line.End ∷ []) (Some what) → judgement_said (certificate.judge None 1 lines) ≡ what
-certificate_closes lines held what fits h = same_said _ what (sym (certificate_judged None 0 lines) ∙ fits (line.End ∷ []) (Some what) h)
+certificate_closes lines held what fits h =
+    same_said _ what (sym (certificate_judged None 0 lines) ∙ fits (line.End ∷ []) (Some what) h)
 
 -- ---- steps
 
@@ -152,7 +156,7 @@ leads_on from next here no_end g few = record {
 -- a line completes this ask
 leads_to_ask : (from : ScriptStage) (here : Line (List ℕ)) (asked : Asked ExactAsk) (what : Taken) → here ≢ line.End →
     ((addressing : Addressing) (pending : Pending) → Fits addressing pending from →
-        asks_of_line addressing pending here ≡ asked ∷ []) →
+    asks_of_line addressing pending here ≡ asked ∷ []) →
     what ≡ taken.Ask asked → Leads ScriptSays lines_in from here (step.Says what)
 leads_to_ask from here asked what no_end asks is = λ more addressing pending fits.
     behind_step addressing pending here more (asked ∷ []) no_end (asks addressing pending fits) ∙ ap Some (sym is)
@@ -194,10 +198,11 @@ commands own here addressed (step.Says what) no_end e b =
 
 fit_text : (P : Addressing → Pending → Type 0) (own : ℕ) (held : Body TextRead TextSaid) →
     ((addressing : Addressing) (form : Style) (lines : List (Line (List ℕ))) → TextFits form lines held →
-        P addressing (Text own form lines)) →
+    P addressing (Text own form lines)) →
     (addressing : Addressing) (pending : Pending) → Fits addressing pending (stage.Text own held) → P addressing pending
 fit_text P own held h addressing Between f = absurd f
-fit_text P own held h addressing (Text session form lines) f = subst (λ (s : ℕ). P addressing (Text s form lines)) f.0 (h addressing form lines f.1)
+fit_text P own held h addressing (Text session form lines) f =
+    subst (λ (s : ℕ). P addressing (Text s form lines)) f.0 (h addressing form lines f.1)
 fit_text P own held h addressing (Certificate session lines) f = absurd f
 
 pub text_goes_on : (own : ℕ) (held next : Body TextRead TextSaid) (here : Line (List ℕ)) → here ≢ line.End →
@@ -207,11 +212,11 @@ text_goes_on own held next here no_end e p = leads_on (stage.Text own held) (sta
     (record {
       no_asks = fit_text (λ a p. asks_of_line a p here ≡ []) own held
           (λ addressing form lines fits.
-              ap (λ (t : Bool). cond t (record { session = own; ask = ask_of_verdict (text.judge form start 1 (lines ++ here ∷ [])) } ∷ []) []) (sym e));
+          ap (λ (t : Bool). cond t (record { session = own; ask = ask_of_verdict (text.judge form start 1 (lines ++ here ∷ [])) } ∷ []) []) (sym e));
       fits = fit_text (λ a p. Fits a (pending_after_line a p here) (stage.Text own next)) own held
           (λ addressing form lines fits.
-              subst (λ (t : Bool). Fits addressing (cond t Between (Text own form (lines ++ here ∷ []))) (stage.Text own next)) e
-              (refl, text_passes form lines held next here fits p));
+          subst (λ (t : Bool). Fits addressing (cond t Between (Text own form (lines ++ here ∷ []))) (stage.Text own next)) e
+          (refl, text_passes form lines held next here fits p));
     })
     (omega (arith, p.counts))
 
@@ -222,10 +227,10 @@ pub text_ends : (own : ℕ) (held next : Body TextRead TextSaid) (here : Line (L
 text_ends own held next here said ask what no_end e p closed asks is =
     leads_to_ask (stage.Text own held) here (record { session = own; ask = ask }) what no_end
     (fit_text (λ a p. asks_of_line a p here ≡ record { session = own; ask = ask } ∷ []) own held
-        (λ addressing form lines fits.
-            ap (λ (t : Bool). cond t (record { session = own; ask = ask_of_verdict (text.judge form start 1 (lines ++ here ∷ [])) } ∷ []) []) (sym e)
-            ∙ ap (λ (a : ExactAsk). record { session = own; ask = a } ∷ [])
-                (asks _ (text_closes form (lines ++ here ∷ []) next said (text_passes form lines held next here fits p) closed))))
+    (λ addressing form lines fits.
+    ap (λ (t : Bool). cond t (record { session = own; ask = ask_of_verdict (text.judge form start 1 (lines ++ here ∷ [])) } ∷ []) []) (sym e)
+    ∙ ap (λ (a : ExactAsk). record { session = own; ask = a } ∷ [])
+    (asks _ (text_closes form (lines ++ here ∷ []) next said (text_passes form lines held next here fits p) closed))))
     is
 
 -- ---- a line in a certificate
@@ -233,12 +238,13 @@ text_ends own held next here said ask what no_end e p closed asks is =
 fit_certificate : (P : Addressing → Pending →
     Type 0) (own : ℕ) (held : Body certificate_reading.CertificateRead CertificateSaid) →
     ((addressing : Addressing) (lines : List (Line (List ℕ))) → CertificateFits lines held →
-        P addressing (Certificate own lines)) →
+    P addressing (Certificate own lines)) →
     (addressing : Addressing) (pending : Pending) → Fits addressing pending (stage.Certificate own held) →
-        P addressing pending
+    P addressing pending
 fit_certificate P own held h addressing Between f = absurd f
 fit_certificate P own held h addressing (Text session form lines) f = absurd f
-fit_certificate P own held h addressing (Certificate session lines) f = subst (λ (s : ℕ). P addressing (Certificate s lines)) f.0 (h addressing lines f.1)
+fit_certificate P own held h addressing (Certificate session lines) f =
+    subst (λ (s : ℕ). P addressing (Certificate s lines)) f.0 (h addressing lines f.1)
 
 pub certificate_goes_on : (own : ℕ) (held next : Body certificate_reading.CertificateRead CertificateSaid) (here : Line (List ℕ)) → here ≢ line.End →
     false ≡ ends_certificate here → PassesTo CertificateSays lines_of_certificate held here next →
@@ -247,27 +253,27 @@ certificate_goes_on own held next here no_end e p = leads_on (stage.Certificate 
     (record {
       no_asks = fit_certificate (λ a p. asks_of_line a p here ≡ []) own held
           (λ addressing lines fits.
-              ap (λ (t : Bool). cond t (record { session = own; ask = ask_of_judgement (certificate.judge None 1 (lines ++ here ∷ [])) } ∷ []) []) (sym e));
+          ap (λ (t : Bool). cond t (record { session = own; ask = ask_of_judgement (certificate.judge None 1 (lines ++ here ∷ [])) } ∷ []) []) (sym e));
       fits = fit_certificate (λ a p. Fits a (pending_after_line a p here) (stage.Certificate own next)) own held
           (λ addressing lines fits.
-              subst (λ (t : Bool). Fits addressing (cond t Between (Certificate own (lines ++ here ∷ []))) (stage.Certificate own next)) e
-              (refl, certificate_passes lines held next here fits p));
+          subst (λ (t : Bool). Fits addressing (cond t Between (Certificate own (lines ++ here ∷ []))) (stage.Certificate own next)) e
+          (refl, certificate_passes lines held next here fits p));
     })
     (omega (arith, p.counts))
 
 pub certificate_ends : (own : ℕ) (held next : Body certificate_reading.CertificateRead CertificateSaid) (here : Line (List ℕ)) (said : CertificateSaid) (ask : ExactAsk)
     (what : Taken) → here ≢ line.End → true ≡ ends_certificate here →
-        PassesTo CertificateSays lines_of_certificate held here next →
+    PassesTo CertificateSays lines_of_certificate held here next →
     BodySays CertificateSays next (line.End ∷ []) (Some said) →
     ((judgement : certificate.Judgement) → judgement_said judgement ≡ said → ask_of_judgement judgement ≡ ask) →
     what ≡ taken.Ask (record { session = own; ask = ask }) → Leads ScriptSays lines_in (stage.Certificate own held) here (step.Says what)
 certificate_ends own held next here said ask what no_end e p closed asks is =
     leads_to_ask (stage.Certificate own held) here (record { session = own; ask = ask }) what no_end
     (fit_certificate (λ a p. asks_of_line a p here ≡ record { session = own; ask = ask } ∷ []) own held
-        (λ addressing lines fits.
-            ap (λ (t : Bool). cond t (record { session = own; ask = ask_of_judgement (certificate.judge None 1 (lines ++ here ∷ [])) } ∷ []) []) (sym e)
-            ∙ ap (λ (a : ExactAsk). record { session = own; ask = a } ∷ [])
-                (asks _ (certificate_closes (lines ++ here ∷ []) next said (certificate_passes lines held next here fits p) closed))))
+    (λ addressing lines fits.
+    ap (λ (t : Bool). cond t (record { session = own; ask = ask_of_judgement (certificate.judge None 1 (lines ++ here ∷ [])) } ∷ []) []) (sym e)
+    ∙ ap (λ (a : ExactAsk). record { session = own; ask = a } ∷ [])
+    (asks _ (certificate_closes (lines ++ here ∷ []) next said (certificate_passes lines held next here fits p) closed))))
     is
 
 -- ---- the end of the input
@@ -282,4 +288,5 @@ ends_so from here end is e =
 -- the same step
 pub leads_as : (from : ScriptStage) (here : Line (List ℕ)) (made is : code.Step ScriptStage Taken) → made ≡ is →
     Leads ScriptSays lines_in from here is → Leads ScriptSays lines_in from here made
-leads_as from here made is e h = subst (λ (m : code.Step ScriptStage Taken). Leads ScriptSays lines_in from here m) (sym e) h
+leads_as from here made is e h =
+    subst (λ (m : code.Step ScriptStage Taken). Leads ScriptSays lines_in from here m) (sym e) h

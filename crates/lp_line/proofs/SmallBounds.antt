@@ -12,7 +12,8 @@ pub small_bound : (text : List ℕ) (q : ℚ) → Ok (value.Finite q) ≡ as_rea
 small_bound text q e = by (bound_of text) refl e
   where
     by : (r : BoundReading) → bound_of text ≡ r → Ok (value.Finite q) ≡ as_read (bound_answer r) → abs_ℚ q <ℚ infinite
-    by (Finite v) is e = let same : v ≡ q = cc in abs_from_within infinite q (bound_is_within text q (is ∙ ap Finite same))
+    by (Finite v) is e =
+        let same : v ≡ q = cc in abs_from_within infinite q (bound_is_within text q (is ∙ ap Finite same))
     by PlusInf is e = absurd (let h = e in cc)
     by MinusInf is e = absurd (let h = e in cc)
     by Shape is e = absurd (let h = e in cc)

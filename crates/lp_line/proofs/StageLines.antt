@@ -25,7 +25,7 @@ lines_read reader = reader.lines
 
 -- ---- a text
 
--- none goes on behind the end of the input
+-- none goes on after the end of the input
 no_text_behind_end : (style : Style) (state next : State) → text.step style state End ≡ Ok (text.More next) → ⊥
 unfolding text.step
 no_text_behind_end style state next e = cc

@@ -1,4 +1,4 @@
--- What the lines of a body say, behind those that were read.
+-- What the lines of a body say, after those that were read.
 use Rattle.std.specs.Prelude.{ℕ, ◌≡◌, ◌≤◌, ◌+◌, List, ◌∷◌, Option, Some}
 use Rattle.spec_text.specs.declared.line.Line.{Line}
 use Rattle.lp_line.specs.declared.body.Body.{Body}
@@ -15,7 +15,7 @@ abbrev pub count_in : {T R : Type 0} → (T → ℕ) → Body T R → ℕ
 count_in count (Reading stage) = count stage
 count_in count (Read what) = 0
 
--- behind the line lines say what they say behind the next body
+-- after the line lines say what they say after the next body
 pub record PassesTo {T R : Type 0} (Say : T → List (Line (List ℕ)) → Option R → Type 0) (count : T → ℕ) (body : Body T R) (here : Line (List ℕ)) (next : Body T R) : Type 0 where
   pub behind : (more : List (Line (List ℕ))) (answer : Option R) → BodySays Say next more answer →
       BodySays Say body (here ∷ more) answer

@@ -13,7 +13,7 @@ use Rattle.lp_line.specs.declared.hearing.Heard.TheVariants as heard
 
 -- ---- one line
 
--- The next stage is one line further, and behind the line lines say what they say behind the next stage. No stage follows the end of
+-- The next stage is one line further, and after the line lines say what they say after the next stage. No stage follows the end of
 -- the input.
 pub record LeadsOn {T R : Type 0} (Say : T → List (Line (List ℕ)) → Option R → Type 0) (count : T → ℕ) (stage : T) (here : Line (List ℕ)) (next : T) : Type 0 where
   pub behind : (more : List (Line (List ℕ))) (answer : Option R) → Say next more answer → Say stage (here ∷ more) answer
@@ -54,19 +54,20 @@ pub record HearsUntil {R : Type 0} (Say : List (Line (List ℕ)) → Option R �
   pub given : AreGiven passed
   pub silent : Say passed None
 
--- the input ended behind them, and this is said at its end
+-- the input ended after them, and this is said at its end
 pub record HearsAtEnd {R : Type 0} (Say : List (Line (List ℕ)) → Option R → Type 0) (before after : Option (List ℕ)) (old : LinesState) (what : R) : Type 0 where
   pub until : HearsUntil Say before after old (Ok line.End)
   pub says : Say (until.passed ++ line.End ∷ []) (Some what)
 
--- memory was wanting behind these lines, or for what the last of them leads to
+-- memory ran out after these lines, or for what the last of them leads to
 pub record TakesPart (before after : Option (List ℕ)) (old new : LinesState) : Type 0 where
   pub passed : List (Line (List ℕ))
   pub reads : ReadsLines before after old new passed ⊎ ReadsUntil before after old passed (Err stop.NoMemory)
 
 abbrev pub HearsNext : {R : Type 0} → (List (Line (List ℕ)) → Option R → Type 0) → Option (List ℕ) → Option (List ℕ) →
     LinesState → LinesState → Result (Heard R) LineStop → Type 0
-HearsNext Say before after old new (Ok (heard.Says what)) = HearsAt Say before after old new what ⊎ HearsAtEnd Say before after old what
+HearsNext Say before after old new (Ok (heard.Says what)) =
+    HearsAt Say before after old new what ⊎ HearsAtEnd Say before after old what
 HearsNext Say before after old new (Ok heard.Over) = HearsUntil Say before after old (Ok line.Over)
 HearsNext Say before after old new (Err stop.Read) = HearsUntil Say before after old (Err stop.Read)
 HearsNext Say before after old new (Err stop.NoMemory) = TakesPart before after old new

@@ -32,7 +32,7 @@ taken_at Ended = taken.End
 taken_at Cut = taken.Cut
 taken_at Over = taken.Over
 
--- behind the asks of a line
+-- after the asks of a line
 abbrev pub behind_asks : List (Asked ExactAsk) → Pending → Step Pending Taken
 behind_asks [] next = On next
 behind_asks (asked ∷ more) next = Says (taken.Ask asked)
@@ -69,19 +69,21 @@ Fits addressing pending other = ⊥
 abbrev pub ScriptSays : ScriptStage → List (Line (List ℕ)) → Option Taken → Type 0
 ScriptSays here lines answer =
     (addressing : Addressing) (pending : Pending) → Fits addressing pending here →
-        said_by (script_step addressing) pending lines ≡ answer
+    said_by (script_step addressing) pending lines ≡ answer
 
 -- how many lines the body has, with the line of its command
 abbrev pub lines_in : ScriptStage → ℕ
 lines_in (stage.Between addressing) = 0
 lines_in (stage.Text session body) = count_in (λ (reader : text_reading.TextRead). reader.lines) body + 1
-lines_in (stage.Certificate session body) = count_in (λ (reader : certificate_reading.CertificateRead). reader.lines) body + 1
+lines_in (stage.Certificate session body) =
+    count_in (λ (reader : certificate_reading.CertificateRead). reader.lines) body + 1
 
 -- ---- parts of a step
 
 -- the end of a script that stands there
 abbrev pub IsEndOf : ScriptStage → Taken → Type 0
-IsEndOf here end = (addressing : Addressing) (pending : Pending) → Fits addressing pending here → taken_at (ending_by pending) ≡ end
+IsEndOf here end =
+    (addressing : Addressing) (pending : Pending) → Fits addressing pending here → taken_at (ending_by pending) ≡ end
 
 -- a body begins, of which nothing was read
 pub record BeginsBody (session : ℕ) (command : ExactCommand) (next : ScriptStage) : Type 0 where

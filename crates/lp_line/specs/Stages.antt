@@ -8,9 +8,10 @@ use Rattle.spec_server.specs.SolveOut.{TextSaid, text_step}
 use Rattle.mps_read.specs.TextRead as text
 use Rattle.lp_check.specs.CertificateRead.{CertificateRead}
 
--- behind a reader of a text
+-- after a reader of a text
 abbrev pub TextSays : text.TextRead → List (Line (List ℕ)) → Option TextSaid → Type 0
-TextSays reader lines answer = said_by (text_step reader.style) (record { state = reader.state; lines = reader.lines }) lines ≡ answer
+TextSays reader lines answer =
+    said_by (text_step reader.style) (record { state = reader.state; lines = reader.lines }) lines ≡ answer
 
 -- the certificate that a text spells, or the first line that does not fit
 abbrev pub CertificateSaid : Type 0
@@ -25,6 +26,6 @@ behind_line n progress.Unfit = Says (Err n)
 unfoldable pub certificate_step : CertificateRead → Line (List ℕ) → Step CertificateRead CertificateSaid
 certificate_step reader line = behind_line (reader.lines + 1) (certificate.step reader.raw line)
 
--- behind a reader of a certificate
+-- after a reader of a certificate
 abbrev pub CertificateSays : CertificateRead → List (Line (List ℕ)) → Option CertificateSaid → Type 0
 CertificateSays reader lines answer = said_by certificate_step reader lines ≡ answer

@@ -34,7 +34,7 @@ pub record TakesNone (addressing : Addressing) (before after : Option (List ℕ)
   pub given : AreGiven passed
   pub asks : asks_from addressing Between passed ≡ []
 
--- the input ended behind them, and the script so
+-- the input ended after them, and the script so
 pub record TakesEnd (addressing : Addressing) (before after : Option (List ℕ)) (old : LinesState) (ending : Ending) : Type 0 where
   pub none : TakesNone addressing before after old (Ok line.End)
   pub ends : ending_by (pending_after addressing Between none.passed) ≡ ending

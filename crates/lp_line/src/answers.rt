@@ -10,7 +10,7 @@ use lp_frac::{Op, Past};
 use spec_server::{How, Publication};
 use std::alloc::{AllocError, Global};
 
-/// Writes a number behind what is there.
+/// Writes a number after what is there.
 pub(crate) fn push_number(alloc: Global, number: u64, to: &mut Bytes) -> Result<(), AllocError>
     ensures { OnOk result (to.new ≡ to.old ++ decimal number) }
 {
@@ -54,7 +54,7 @@ fn push_known(alloc: Global, known: &Known, to: &mut Bytes) -> Result<(), AllocE
     }
 }
 
-/// Writes a verdict behind what is there.
+/// Writes a verdict after what is there.
 pub(crate) fn push_verdict(
     alloc: Global,
     verdict: &Verdict,
@@ -75,7 +75,7 @@ pub(crate) fn push_verdict(
     }
 }
 
-/// Writes an answer behind what is there.
+/// Writes an answer after what is there.
 pub(crate) fn push_answer(alloc: Global, answer: &Answer, to: &mut Bytes) -> Result<(), AllocError>
     ensures { OnOk result (to.new ≡ to.old ++ output.answer_text answer.now) }
 {
@@ -114,7 +114,7 @@ fn push_pivots(alloc: Global, pivots: Option<u64>, to: &mut Bytes) -> Result<(),
     }
 }
 
-/// Writes how an answer was found behind what is there.
+/// Writes how an answer was found after what is there.
 #[tactic(auto, unfolding(spec_server::specs::Output::reply_text))]
 pub(crate) fn push_found(
     alloc: Global,

@@ -8,7 +8,7 @@ use crate::hearing::{Stage, Step};
 use lp_base::Line;
 use std::alloc::{AllocError, Global};
 
-/// A body as far as it was read: in a stage of type `T`, or behind the line at which this was said of it. The lines behind that one
+/// A body as far as it was read: in a stage of type `T`, or after the line at which this was said of it. The lines after that one
 /// are passed over.
 #[derive(Drop)]
 pub enum Body<T, R> {
@@ -17,11 +17,7 @@ pub enum Body<T, R> {
 }
 
 // A line of a body of which nothing was said.
-fn read_on<T: Stage>(
-    alloc: Global,
-    stage: T,
-    line: &Line,
-) -> Result<Body<T, T::Said>, AllocError>
+fn read_on<T: Stage>(alloc: Global, stage: T, line: &Line) -> Result<Body<T, T::Said>, AllocError>
     requires { T.count stage < 2 ^ 32 - 1 }
     ensures { IfOk result (PassesTo T.says T.count (body.Reading stage) line.now) }
 {
@@ -58,10 +54,7 @@ fn said_at_end<T: Stage>(alloc: Global, stage: T) -> Result<T::Said, AllocError>
 }
 
 /// What is said of a body that has no more lines.
-pub(crate) fn close<T: Stage>(
-    alloc: Global,
-    body: Body<T, T::Said>,
-) -> Result<T::Said, AllocError>
+pub(crate) fn close<T: Stage>(alloc: Global, body: Body<T, T::Said>) -> Result<T::Said, AllocError>
     requires { count_in T.count body < 2 ^ 32 - 1 }
     ensures { IfOk result (λ said. BodySays T.says body (line.End ∷ []) (Some said)) }
 {

@@ -50,12 +50,8 @@ fn change(alloc: Global, which: EditWord, words: &[Bytes]) -> Result<Command, Al
     }
 }
 
-// By the command word and the words behind it.
-fn command_with(
-    alloc: Global,
-    word: CommandWord,
-    words: &[Bytes],
-) -> Result<Command, AllocError>
+// By the command word and the words after it.
+fn command_with(alloc: Global, word: CommandWord, words: &[Bytes]) -> Result<Command, AllocError>
     ensures { IfOk result (λ command. command ≡ commands.command_with word words.now) }
 {
     match (word, words) {
@@ -84,7 +80,7 @@ fn command_of(alloc: Global, words: &[Bytes]) -> Result<Command, AllocError>
     }
 }
 
-// A command behind the word that is to be the number of its session.
+// A command after the word that is to be the number of its session.
 fn addressed_to(alloc: Global, number: &[u8], words: &[Bytes]) -> Result<Addressed, AllocError>
     ensures { IfOk result (λ addressed. addressed ≡ lines.addressed_to (commands.session_of number.now) words.now) }
 {

@@ -137,7 +137,7 @@ fn name_in(alloc: Global, word: &Bytes) -> Result<Name, AllocError>
     Name::from_slice(alloc, word.as_slice())
 }
 
-// The names of rows, each with the number behind it. The words are as many of these as of those.
+// The names of rows, each with the number after it. The words are as many of these as of those.
 fn pairs_in(alloc: Global, words: &[Bytes]) -> Result<Pairs, EditStop>
     ensures { IfSome (edit_command.two_by_two words.now) (λ pairs. GivesWords (edit_command.numbers_in pairs) result) }
 {
@@ -288,7 +288,7 @@ fn set_sense(words: &[Bytes]) -> Result<Edit, EditStop>
     Ok(Edit::SetSense(sense_in(sense)?))
 }
 
-/// The edit that the words behind a command word ask for. Their count comes first, and then the words from left to right.
+/// The edit that the words after a command word ask for. Their count comes first, and then the words from left to right.
 pub(crate) fn edit_by(alloc: Global, which: EditWord, words: &[Bytes]) -> Result<Edit, EditStop>
     ensures { GivesWords (edit_command.edit_by which words.now) result }
 {

@@ -19,7 +19,7 @@ pub trait Stage: Drop {
     /// What is said of the input.
     type Said: Drop;
 
-    // what lines say behind it; nothing where more are needed
+    // what lines say after it; nothing where more are needed
     ghost says: { Self → List (exact_line (List ℕ)) → Option Self.Said → Type 0 };
 
     // of how many lines it is

@@ -64,7 +64,7 @@ fn push_line(alloc: Global, reply: &Reply, to: &mut Bytes) -> Result<(), AllocEr
     to.extend(b"\n")
 }
 
-/// Writes lines behind what is there, each with a line feed behind it. After an `Err` a part of them may stand there.
+/// Writes lines after what is there, each with a line feed after it. After an `Err` a part of them may stand there.
 #[tactic(auto, unfolding(spec_server::specs::Output::ended_lines))]
 pub fn print_lines(lines: &Texts, to: &mut Bytes) -> Result<(), AllocError>
     ensures ok { OnOk result (to.new ≡ to.old ++ output.ended_lines lines.now) }
@@ -128,7 +128,7 @@ fn push_reply_lines(
     push_lines_behind(reply, to)
 }
 
-/// Writes the lines of a session's reply behind what is there, all of them or none.
+/// Writes the lines of a session's reply after what is there, all of them or none.
 pub fn print(
     alloc: Global,
     addressing: Addressing,
@@ -144,7 +144,7 @@ pub fn print(
     to.extend(lines.as_slice())
 }
 
-/// Writes the line of what the commands `check` and `solve` say behind what is there, all of it or none.
+/// Writes the line of what the commands `check` and `solve` say after what is there, all of it or none.
 #[tactic(auto, unfolding(spec_server::specs::CheckOut::check_line))]
 pub fn print_said(alloc: Global, reply: &Reply, to: &mut Bytes) -> Result<(), AllocError>
     ensures ok { OnOk result (to.new ≡ to.old ++ check_line reply.now) }

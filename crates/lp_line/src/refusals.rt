@@ -86,7 +86,7 @@ fn which_name(which: Which) -> &'static [u8]
     }
 }
 
-/// Writes a refusal behind what is there.
+/// Writes a refusal after what is there.
 pub(crate) fn push_refusal(
     alloc: Global,
     refusal: &Refusal,

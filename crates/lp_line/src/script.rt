@@ -48,11 +48,7 @@ impl Stage for ScriptStage {
 
     ghost silent = { λ stage addressing pending fits. refl };
 
-    fn advance(
-        self,
-        alloc: Global,
-        line: &Line,
-    ) -> Result<Step<ScriptStage, Taken>, AllocError> {
+    fn advance(self, alloc: Global, line: &Line) -> Result<Step<ScriptStage, Taken>, AllocError> {
         match line {
             Line::End => Ok(Step::Says(end_of(&self))),
             Line::Text(_) | Line::Long(_) | Line::Over => line_in(alloc, self, line),

@@ -1,6 +1,6 @@
 use crate::{
-    Addressed, Addressing, Answer, Ask, Command, How, LineFault, Plain, Publication, Refusal, Reply,
-    Taken, print, read, take,
+    Addressed, Addressing, Answer, Ask, Command, How, LineFault, Plain, Publication, Refusal,
+    Reply, Taken, print, read, take,
 };
 use lp_base::{Bytes, Line, Lines, MemSource, Name, Texts};
 use lp_check::{Known, Verdict};
@@ -121,7 +121,10 @@ fn all_commands_in_pieces(rt: HostRuntime) -> Result<(), Fail> {
             (1, "number", 0),
             (0, "cut", 0),
         ] {
-            assert_eq!(rt; next(alloc, Addressing::Numbered, &mut lines, &mut src)?, expected);
+            assert_eq!(rt;
+                next(alloc, Addressing::Numbered, &mut lines, &mut src)?,
+                expected
+            );
         }
     }
     Ok(())
@@ -158,7 +161,10 @@ fn edits_with_their_numbers(rt: HostRuntime) -> Result<(), Fail> {
         ("wide", 0),
         ("word", 0),
     ] {
-        assert_eq!(rt; next(alloc, Addressing::Numbered, &mut lines, &mut src)?, (9, what, number));
+        assert_eq!(rt;
+            next(alloc, Addressing::Numbered, &mut lines, &mut src)?,
+            (9, what, number)
+        );
     }
     Ok(())
 }
@@ -180,10 +186,19 @@ fn lines_without_numbers(rt: HostRuntime) -> Result<(), Fail> {
         ("quit", 0),
         ("end", 0),
     ] {
-        assert_eq!(rt; next(alloc, Addressing::Alone, &mut lines, &mut src)?, (0, what, number));
+        assert_eq!(rt;
+            next(alloc, Addressing::Alone, &mut lines, &mut src)?,
+            (0, what, number)
+        );
     }
     let mut printed = Bytes::new(alloc);
-    print(alloc, Addressing::Alone, 0, &Reply::Loaded(1, 2), &mut printed)?;
+    print(
+        alloc,
+        Addressing::Alone,
+        0,
+        &Reply::Loaded(1, 2),
+        &mut printed,
+    )?;
     assert_eq!(rt; printed.as_slice(), b"LOADED 1 2\n".as_slice());
     Ok(())
 }
@@ -192,7 +207,13 @@ fn lines_without_numbers(rt: HostRuntime) -> Result<(), Fail> {
 fn a_line_alone(rt: HostRuntime) -> Result<(), Fail> {
     let alloc = rt.alloc();
     let line = Line::Text(Bytes::from_slice(alloc, b"9 SENSE MAX")?);
-    let Some(Addressed { session, command: Command::Plain(plain) }) = read(alloc, Addressing::Numbered, &line)? else {
+    let Some(
+        Addressed {
+            session,
+            command: Command::Plain(plain),
+        },
+    ) = read(alloc, Addressing::Numbered, &line)?
+    else {
         return Ok(assert!(rt; false));
     };
     assert_eq!(rt; (session, told(&Ask::Plain(plain))), (9, ("max", 0)));
@@ -287,7 +308,13 @@ fn replies_and_refusals(rt: HostRuntime) -> Result<(), Fail> {
     assert_eq!(rt; printed.as_slice(), REPLIES.as_bytes());
     let mut printed = Bytes::new(alloc);
     for refusal in refusals(alloc)? {
-        print(alloc, Addressing::Numbered, 0, &Reply::Refused(refusal), &mut printed)?;
+        print(
+            alloc,
+            Addressing::Numbered,
+            0,
+            &Reply::Refused(refusal),
+            &mut printed,
+        )?;
     }
     assert_eq!(rt; printed.as_slice(), REFUSALS.as_bytes());
     Ok(())

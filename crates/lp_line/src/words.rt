@@ -22,7 +22,7 @@ fn begins_with_zero(text: &[u8]) -> bool
     }
 }
 
-// A number from 1 to the last one, in at most so many digits.
+// A number from 1 to the last one, of at most this many digits.
 fn number_to(last: u32, digits: usize, text: &[u8]) -> Option<u32>
     requires { last ≤ 1000000 }
     ensures { result ≡ commands.number_to last digits text.now }

@@ -25,7 +25,8 @@ without_limit : (budget : ℕ) (m : Model) (known : Known ℚ) (c : Certificate 
 without_limit budget m known c basis pivots (inl h) e = sym h ∙ e
 without_limit budget m known c basis pivots (inr h) e = absurd (past_is_no_end h.0 known c basis pivots (sym h.1 ∙ e))
 
-end_is_solved : (m : Model) (budget : ℕ) (solved : ColdEnd) → solved ≡ cold (Some number_limit) budget m → IsFit m solved → IsSolved m budget solved
+end_is_solved : (m : Model) (budget : ℕ) (solved : ColdEnd) → solved ≡ cold (Some number_limit) budget m →
+    IsFit m solved → IsSolved m budget solved
 end_is_solved m budget (Ended known c basis pivots) e fit = record {
   may_answer = (fit.0, fit.1, (ended_is_true (Some number_limit) budget m known c basis pivots (sym e)).1);
   how_fits = without_limit budget m known c basis pivots (cold_same (Some number_limit) budget m) (sym e);
@@ -35,6 +36,8 @@ end_is_solved m budget (Past p) e fit = record { may_answer = sym e; how_fits = 
 end_is_solved m budget Spent e fit = record { may_answer = sym e; how_fits = tt; without_form = λ fault no_form. e }
 
 -- with nothing handed
-pub is_solved : (m : Model) (budget given : ℕ) (s : SolveEnd) → given ≡ budget → s ≡ solve (Some number_limit) given m None → IsFit m s.end → IsSolved m budget s.end
+pub is_solved : (m : Model) (budget given : ℕ) (s : SolveEnd) → given ≡ budget →
+    s ≡ solve (Some number_limit) given m None → IsFit m s.end → IsSolved m budget s.end
 unfolding solve
-is_solved m budget given s same e fit = end_is_solved m budget s.end (ap (λ (s : SolveEnd). s.end) e ∙ ap (λ n. cold (Some number_limit) n m) same) fit
+is_solved m budget given s same e fit =
+    end_is_solved m budget s.end (ap (λ (s : SolveEnd). s.end) e ∙ ap (λ n. cold (Some number_limit) n m) same) fit

@@ -57,7 +57,7 @@ impl Session {
         }
     }
 
-    /// Replies to what is asked. Where memory is wanting the reply is `Memory`, and the session is as it was.
+    /// Replies to what is asked. If memory runs out the reply is `Memory`, and the session is as it was.
     pub fn step(&mut self, alloc: Global, ask: Ask) -> Reply
         ensures { machine.AloneStep self.old ask [] result self.new }
     {

@@ -1,4 +1,4 @@
-// Solves of models, and what is told of them.
+// Solves of models, and what is said of them.
 ghost use Rattle.std.specs.Prelude.{◌≡◌, ℕ, IfOk};
 ghost use Rattle.spec_server.specs.Answers.{MayAnswer, IsSolved};
 ghost use Rattle.spec_server.specs.Machine as machine;

@@ -15,23 +15,28 @@ use Rattle.spec_server.specs.CommandLine.{Options, OptionNames, in_pairs, is_one
 use Rattle.lp_top.specs.Words.{value_in, are_in, bytes_of}
 
 -- the value of an option among the pairs
-pub value-look_up : (name : List ℕ) (words : List (List ℕ)) (options : Options) → in_pairs words ≡ Some options → value_in name words ≡ look_up name options
+pub value-look_up : (name : List ℕ) (words : List (List ℕ)) (options : Options) → in_pairs words ≡ Some options →
+    value_in name words ≡ look_up name options
 value-look_up name [] options e = let same' : ◌≡◌ {A = Options} [] options = cc in ap (look_up name) same'
 value-look_up name (option ∷ []) options e = absurd (let z : ◌≡◌ {A = Option Options} None (Some options) = e in cc)
 value-look_up name (option ∷ value ∷ words) options e = by (in_pairs words) refl e (value-look_up name words)
   where
-    by : (p : Option Options) → in_pairs words ≡ p → option_map (λ pairs. (option, value) ∷ pairs) p ≡ Some options → ((pairs : Options) → in_pairs words ≡ Some pairs → value_in name words ≡ look_up name pairs) → value_in name (option ∷ value ∷ words) ≡ look_up name options
+    by : (p : Option Options) → in_pairs words ≡ p → option_map (λ pairs. (option, value) ∷ pairs) p ≡ Some options →
+        ((pairs : Options) → in_pairs words ≡ Some pairs → value_in name words ≡ look_up name pairs) →
+        value_in name (option ∷ value ∷ words) ≡ look_up name options
     by None q h rest = absurd (let z : ◌≡◌ {A = Option Options} None (Some options) = h in cc)
     by (Some pairs) q h rest =
         let is : ◌≡◌ {A = Options} ((option, value) ∷ pairs) options = cc in
         ap (λ o. cond (same name option) (Some value) o) (rest pairs q) ∙ ap (look_up name) is
 
 -- a name among the pairs
-given-one_of : (name : List ℕ) (options : Options) → is_some (look_up name options) ≡ is_one_of name (map (λ o. o.0) options)
+given-one_of : (name : List ℕ) (options : Options) →
+    is_some (look_up name options) ≡ is_one_of name (map (λ o. o.0) options)
 given-one_of name [] = refl
 given-one_of name (option ∷ options) = by (same name option.0) (given-one_of name options)
   where
-    by : (t : Bool) → is_some (look_up name options) ≡ is_one_of name (map (λ o. o.0) options) → is_some (cond t (Some option.1) (look_up name options)) ≡ t || is_one_of name (map (λ o. o.0) options)
+    by : (t : Bool) → is_some (look_up name options) ≡ is_one_of name (map (λ o. o.0) options) →
+        is_some (cond t (Some option.1) (look_up name options)) ≡ t || is_one_of name (map (λ o. o.0) options)
     by true r = refl
     by false r = r
 
@@ -59,8 +64,10 @@ are-pairs names [] = refl
 are-pairs names (option ∷ []) = refl
 are-pairs names (option ∷ value ∷ words) = by (in_pairs words) refl (are-pairs names words)
   where
-    by : (p : Option Options) → in_pairs words ≡ p → are_in names words ≡ pairs_are names p → are_in names (option ∷ value ∷ words) ≡ pairs_are names (option_map (λ pairs. (option, value) ∷ pairs) p)
-    by None q r = ap (λ t. cond (is_one_of option names && not (is_some (value_in option words))) t false) r ∙ and_false (is_one_of option names && not (is_some (value_in option words)))
+    by : (p : Option Options) → in_pairs words ≡ p → are_in names words ≡ pairs_are names p →
+        are_in names (option ∷ value ∷ words) ≡ pairs_are names (option_map (λ pairs. (option, value) ∷ pairs) p)
+    by None q r =
+        ap (λ t. cond (is_one_of option names && not (is_some (value_in option words))) t false) r ∙ and_false (is_one_of option names && not (is_some (value_in option words)))
     by (Some pairs) q r =
         ap (λ t. cond (is_one_of option names && not (is_some (value_in option words))) t false) r
         ∙ ap (λ (v : Option (List ℕ)). cond (is_one_of option names && not (is_some v)) (are_options_of names pairs) false) (value-look_up option words pairs q)
@@ -68,44 +75,52 @@ are-pairs names (option ∷ value ∷ words) = by (in_pairs words) refl (are-pai
         ∙ swap_and (is_one_of option names) (is_one_of option (map (λ o. o.0) pairs)) (list_all (λ o. is_one_of o.0 names) pairs) (are_distinct (map (λ o. o.0) pairs))
 
 -- the options, where the words are some
-pub options-some : (names : OptionNames) (words : List (List ℕ)) → are_in names words ≡ true → (options : Options) × (options_in names words ≡ Some options) × (in_pairs words ≡ Some options)
+pub options-some : (names : OptionNames) (words : List (List ℕ)) → are_in names words ≡ true →
+    (options : Options) × (options_in names words ≡ Some options) × (in_pairs words ≡ Some options)
 unfolding options_in pairs_are
 options-some names words e = by (in_pairs words) (sym (are-pairs names words) ∙ e)
   where
-    by : (p : Option Options) → pairs_are names p ≡ true → (options : Options) × (option_and_then (λ o. cond (are_options_of names o) (Some o) None) p ≡ Some options) × (p ≡ Some options)
+    by : (p : Option Options) → pairs_are names p ≡ true →
+        (options : Options) × (option_and_then (λ o. cond (are_options_of names o) (Some o) None) p ≡ Some options) × (p ≡ Some options)
     by None h = absurd (let z : false ≡ true = h in cc)
     by (Some options) h = (options, ap (λ t. cond t (Some options) None) h, refl)
 
 -- nothing, where they are none
-pub options-none : (names : OptionNames) (words : List (List ℕ)) → are_in names words ≡ false → options_in names words ≡ None
+pub options-none : (names : OptionNames) (words : List (List ℕ)) → are_in names words ≡ false →
+    options_in names words ≡ None
 unfolding options_in pairs_are
 options-none names words e = by (in_pairs words) (sym (are-pairs names words) ∙ e)
   where
-    by : (p : Option Options) → pairs_are names p ≡ false → option_and_then (λ o. cond (are_options_of names o) (Some o) None) p ≡ None
+    by : (p : Option Options) → pairs_are names p ≡ false →
+        option_and_then (λ o. cond (are_options_of names o) (Some o) None) p ≡ None
     by None h = refl
     by (Some options) h = ap (λ t. cond t (Some options) None) h
 
 -- ---- the words that are left at the end of a loop
 
-pub value-short : {X : Type 0} (name : List ℕ) (f : X → List ℕ) (rest : List X) → length rest < 2 → value_in name (map f rest) ≡ None
+pub value-short : {X : Type 0} (name : List ℕ) (f : X → List ℕ) (rest : List X) → length rest < 2 →
+    value_in name (map f rest) ≡ None
 value-short name f [] h = refl
 value-short name f (x ∷ []) h = refl
 value-short name f (x ∷ y ∷ more) h = absurd (omega arith)
 
-pub are-short : {X : Type 0} (names : OptionNames) (f : X → List ℕ) (rest : List X) → length rest < 2 → (length rest == 0) ≡ are_in names (map f rest)
+pub are-short : {X : Type 0} (names : OptionNames) (f : X → List ℕ) (rest : List X) → length rest < 2 →
+    (length rest == 0) ≡ are_in names (map f rest)
 are-short names f [] h = refl
 are-short names f (x ∷ []) h = refl
 are-short names f (x ∷ y ∷ more) h = absurd (omega arith)
 
-pub any-bytes : (word : List ℕ) (names : List (Bor (List ℕ))) → list_any (λ name. same word name.now) names ≡ is_one_of word (bytes_of names)
+pub any-bytes : (word : List ℕ) (names : List (Bor (List ℕ))) →
+    list_any (λ name. same word name.now) names ≡ is_one_of word (bytes_of names)
 any-bytes word [] = refl
 any-bytes word (name ∷ names) = ap (λ t. same word name.now || t) (any-bytes word names)
 
--- ---- plain words, and options behind them
+-- ---- plain words, and options after them
 
 module _ {X : Type 0} (f : X → List ℕ) (plain : ℕ) (names : OptionNames) (words : List X) where
   abbrev behind : Bool → Option command_lines.Given
-  behind t = cond t (option_map (λ options. record { plain = take plain (map f words); options = options }) (options_in names (drop plain (map f words)))) None
+  behind t =
+      cond t (option_map (λ options. record { plain = take plain (map f words); options = options }) (options_in names (drop plain (map f words)))) None
 
   pub given-few : length words < plain → command_lines.given_in plain names (map f words) ≡ None
   unfolding command_lines.given_in
@@ -128,7 +143,8 @@ module _ {X : Type 0} (f : X → List ℕ) (plain : ℕ) (names : OptionNames) (
         ∙ ap (λ (ws : List (List ℕ)). option_map (λ options. record { plain = ws; options = options }) (options_in names (map f back))) same_front
 
     pub given-none : are_in names (map f back) ≡ false → command_lines.given_in plain names (map f words) ≡ None
-    given-none h = given-is ∙ ap (option_map (λ options. record { plain = map f front; options = options })) (options-none names (map f back) h)
+    given-none h =
+        given-is ∙ ap (option_map (λ options. record { plain = map f front; options = options })) (options-none names (map f back) h)
 
     pub given-some : are_in names (map f back) ≡ true →
         (options : Options) × (command_lines.given_in plain names (map f words) ≡ Some (record { plain = map f front; options = options })) × (in_pairs (map f back) ≡ Some options)
@@ -167,7 +183,8 @@ module _ (names : List (Bor (List ℕ))) (all rest : List (List ℕ)) (invariant
 
   module _ (k : known ≡ true) (found : Option (List ℕ)) (is_found : found ≡ value_in option more) where
     second : are_in (bytes_of names) all ≡ decided true (is_some found)
-    second = first ∙ ap (λ t. decided t (is_some (value_in option more))) k ∙ ap (λ (o : Option (List ℕ)). decided true (is_some o)) (sym is_found)
+    second =
+        first ∙ ap (λ t. decided t (is_some (value_in option more))) k ∙ ap (λ (o : Option (List ℕ)). decided true (is_some o)) (sym is_found)
 
     pub are-given : is_some found ≡ true → false ≡ are_in (bytes_of names) all
     are-given g = sym (second ∙ ap (decided true) g)

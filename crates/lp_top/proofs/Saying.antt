@@ -22,7 +22,8 @@ use Rattle.lp_top.specs.Text as text
 use Rattle.lp_top.specs.TextCommands.{ReadsText}
 
 module _ {R : Type 0} (said : List (Line (List ℕ)) → Option R) (Out : R → List ℕ → Type 0) (code_of : R → ℕ) (before after taken : Option (List ℕ)) where
-  halts_so : (halt : Halt) → HearsSo said before after (Err halt) → SaysSo said Out code_of (streams before after taken taken) (Err halt)
+  halts_so : (halt : Halt) → HearsSo said before after (Err halt) →
+      SaysSo said Out code_of (streams before after taken taken) (Err halt)
   halts_so halts.Read h = (h, Appends-nil taken)
   halts_so halts.Over h = (h, Appends-nil taken)
   halts_so halts.NoMemory h = (h, Appends-nil taken)
@@ -30,28 +31,37 @@ module _ {R : Type 0} (said : List (Line (List ℕ)) → Option R) (Out : R → 
   halts_so halts.Cut h = absurd h
 
   -- where nothing is said, nothing is written
-  pub says_nothing : (halt : Halt) → HearsSo said before after (Err halt) → (result : Result ExitStatus Halt) (got : Halt) → result ≡ Err got → got ≡ halt → SaysSo said Out code_of (streams before after taken taken) result
-  says_nothing halt h result got is same = subst (λ (r : Result ExitStatus Halt). SaysSo said Out code_of (streams before after taken taken) r) (sym (is ∙ ap Err same)) (halts_so halt h)
+  pub says_nothing : (halt : Halt) → HearsSo said before after (Err halt) →
+      (result : Result ExitStatus Halt) (got : Halt) → result ≡ Err got → got ≡ halt →
+      SaysSo said Out code_of (streams before after taken taken) result
+  says_nothing halt h result got is same =
+      subst (λ (r : Result ExitStatus Halt). SaysSo said Out code_of (streams before after taken taken) r) (sym (is ∙ ap Err same)) (halts_so halt h)
 
   module _ (what : R) (h : Hears said before after what) (none text piece : List ℕ) (is_none : none ≡ []) (printed : Prints (Out what) none text) (whole : piece ≡ text) (now : Option (List ℕ)) where
     same : piece ≡ printed.output
     same = whole ∙ printed.behind ∙ ap (λ bs. bs ++ printed.output) is_none
 
-    pub says : Appends taken now piece → (code : ℕ) → code ≡ code_of what → Says said Out code_of (streams before after taken now) code
-    says written code is = record { what = what; hears = h; output = printed.output; is_output = printed.is_output; written = subst (Appends taken now) same written; status = is }
+    pub says : Appends taken now piece → (code : ℕ) → code ≡ code_of what →
+        Says said Out code_of (streams before after taken now) code
+    says written code is =
+        record { what = what; hears = h; output = printed.output; is_output = printed.is_output; written = subst (Appends taken now) same written; status = is }
 
     pub says_in_part : Takes taken now piece → SaysInPart said Out (streams before after taken now)
-    says_in_part written = record { what = what; hears = h; output = printed.output; is_output = printed.is_output; written = subst (Takes taken now) same written }
+    says_in_part written =
+        record { what = what; hears = h; output = printed.output; is_output = printed.is_output; written = subst (Takes taken now) same written }
 
 -- ---- from the start of a text on
 
-reads_as : (command is : TextCommand) (style : Style) (s : Streams) (result : Result ExitStatus Halt) → command ≡ is → ReadsText is style s result → ReadsText command style s result
+reads_as : (command is : TextCommand) (style : Style) (s : Streams) (result : Result ExitStatus Halt) → command ≡ is →
+    ReadsText is style s result → ReadsText command style s result
 reads_as command is style s result e h = subst (λ (asked : TextCommand). ReadsText asked style s result) (sym e) h
 
 pub solve_reads : (command : TextCommand) (style : Style) (reader : TextRead) → command ≡ Solve → reader ≡ record { style = style; state = start; lines = 0 } → (s : Streams) (result : Result ExitStatus Halt) →
     SaysSo (text.said_behind reader) SolveOut solve_code s result → ReadsText command style s result
-solve_reads command style reader asked is s result h = reads_as command Solve style s result asked (subst (λ (r : TextRead). SaysSo (text.said_behind r) SolveOut solve_code s result) is h)
+solve_reads command style reader asked is s result h =
+    reads_as command Solve style s result asked (subst (λ (r : TextRead). SaysSo (text.said_behind r) SolveOut solve_code s result) is h)
 
 pub check_reads : (command : TextCommand) (style : Style) (reader : TextRead) → command ≡ Check → reader ≡ record { style = style; state = start; lines = 0 } → (s : Streams) (result : Result ExitStatus Halt) →
     SaysSo (check_stage.said_behind (stage.Text reader)) CheckOut check_code s result → ReadsText command style s result
-check_reads command style reader asked is s result h = reads_as command Check style s result asked (subst (λ (r : TextRead). SaysSo (check_stage.said_behind (stage.Text r)) CheckOut check_code s result) is h)
+check_reads command style reader asked is s result h =
+    reads_as command Check style s result asked (subst (λ (r : TextRead). SaysSo (check_stage.said_behind (stage.Text r)) CheckOut check_code s result) is h)

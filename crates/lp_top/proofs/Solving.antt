@@ -13,7 +13,7 @@ use Rattle.spec_server.specs.Output.{ended_lines}
 use Rattle.spec_server.specs.SolveOut.{SolveOut, solved_lines}
 use Rattle.lp_top.specs.Hearing.{Prints}
 
--- the answer's line, and the lines of the certificate behind it
+-- the answer's line, and the lines of the certificate after it
 pub prints_solved : {T E : Type 0} (m : Model) (solved : ColdEnd) (answer : Answer ℚ) (lines : List (List ℕ)) (before between after : List ℕ) (result : Result T E) →
     IsSolved m opening_budget solved → answer ≡ answer_of opening_budget solved → lines ≡ lines_of_solved m solved →
     between ≡ before ++ check_line (reply.Answered answer) → OnOk result (after ≡ between ++ ended_lines lines) → OnOk result (Prints (SolveOut (Ok m)) before after)

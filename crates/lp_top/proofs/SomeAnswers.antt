@@ -1,4 +1,4 @@
--- Any asks have exchanges in which each session runs alone: what is due, or want of memory where a model is to be solved.
+-- Any asks have exchanges in which each session runs alone: what is due, or MEMORY where a model is to be solved.
 use Rattle.std.proofs.Common.{◌≡◌, ℕ, true, List, [], ◌∷◌, map, Option, Some, None, Ok, Err, refl, sym, ap, subst, inl, inr}
 use Rattle.spec_model.specs.Model.{Model}
 use Rattle.spec_edit.specs.Edited.{ExactEdit, OrFault, edited}
@@ -16,11 +16,12 @@ edit_solves_nothing : (state : State) (m : Model) (answer : OrFault Model) → e
 edit_solves_nothing state m (Ok n) e = no_solve _ _ m e
 edit_solves_nothing state m (Err why) e = no_solve _ _ m e
 
-change_solves_nothing : (state : State) (m : Model) (held : Option Model) (e : ExactEdit) → change_due state held e ≡ Solves m → ⊥
+change_solves_nothing : (state : State) (m : Model) (held : Option Model) (e : ExactEdit) →
+    change_due state held e ≡ Solves m → ⊥
 change_solves_nothing state m None e h = no_solve _ _ m h
 change_solves_nothing state m (Some n) e h = edit_solves_nothing state m (edited n e) h
 
--- memory may be wanting for a solve
+-- memory may run out in a solve
 solve_wants : (state : State) (asked : ExactAsk) (m : Model) → due state asked ≡ Solves m → takes_memory asked ≡ true
 solve_wants state (ask.Plain (command.Write form)) m e = refl
 solve_wants state (ask.Plain command.Solve) m e = refl
@@ -50,7 +51,8 @@ step_by state asked (Replies replied next) e = record {
 step_by state asked (Solves m) e = record {
   replied = reply.Memory;
   next = state;
-  step = record { no_reads = refl; answer = inr (record { may_want = solve_wants state asked m e; memory = refl; stays = refl }) };
+  step =
+      record { no_reads = refl; answer = inr (record { may_want = solve_wants state asked m e; memory = refl; stays = refl }) };
 }
 
 some_step : (state : State) (asked : ExactAsk) → SomeStep state asked

@@ -18,16 +18,23 @@ use Rattle.lp_top.specs.Top.{Tells, Does}
 
 module _ {s : Streams} where
   told_stop : (moves : Moves s) (stop : Halt) → EndsSo moves (Err stop) → Tells (code_behind stop) moves
-  told_stop moves halts.Read ends = record { done = λ e. absurd (omega arith); fault = λ e. ends; cut = λ e. absurd (omega arith); over = λ e. absurd (omega arith) }
-  told_stop moves halts.Write ends = record { done = λ e. absurd (omega arith); fault = λ e. absurd (omega arith); cut = λ e. absurd (omega arith); over = λ e. absurd (omega arith) }
-  told_stop moves halts.NoMemory ends = record { done = λ e. absurd (omega arith); fault = λ e. absurd (omega arith); cut = λ e. absurd (omega arith); over = λ e. absurd (omega arith) }
-  told_stop moves halts.Cut ends = record { done = λ e. absurd (omega arith); fault = λ e. absurd (omega arith); cut = λ e. ends; over = λ e. absurd (omega arith) }
-  told_stop moves halts.Over ends = record { done = λ e. absurd (omega arith); fault = λ e. absurd (omega arith); cut = λ e. absurd (omega arith); over = λ e. ends }
+  told_stop moves halts.Read ends =
+      record { done = λ e. absurd (omega arith); fault = λ e. ends; cut = λ e. absurd (omega arith); over = λ e. absurd (omega arith) }
+  told_stop moves halts.Write ends =
+      record { done = λ e. absurd (omega arith); fault = λ e. absurd (omega arith); cut = λ e. absurd (omega arith); over = λ e. absurd (omega arith) }
+  told_stop moves halts.NoMemory ends =
+      record { done = λ e. absurd (omega arith); fault = λ e. absurd (omega arith); cut = λ e. absurd (omega arith); over = λ e. absurd (omega arith) }
+  told_stop moves halts.Cut ends =
+      record { done = λ e. absurd (omega arith); fault = λ e. absurd (omega arith); cut = λ e. ends; over = λ e. absurd (omega arith) }
+  told_stop moves halts.Over ends =
+      record { done = λ e. absurd (omega arith); fault = λ e. absurd (omega arith); cut = λ e. absurd (omega arith); over = λ e. ends }
 
   pub run_done : ((moves : Moves s) × EndsSo moves (Ok tt)) → (moves : Moves s) × Tells 0 moves
-  run_done m = (m.0, record { done = λ e. m.1; fault = λ e. absurd (omega arith); cut = λ e. absurd (omega arith); over = λ e. absurd (omega arith) })
+  run_done m =
+      (m.0, record { done = λ e. m.1; fault = λ e. absurd (omega arith); cut = λ e. absurd (omega arith); over = λ e. absurd (omega arith) })
 
-  pub run_stopped : (stop : Halt) (code : ℕ) → code ≡ code_behind stop → ((moves : Moves s) × EndsSo moves (Err stop)) → (moves : Moves s) × Tells code moves
+  pub run_stopped : (stop : Halt) (code : ℕ) → code ≡ code_behind stop → ((moves : Moves s) × EndsSo moves (Err stop)) →
+      (moves : Moves s) × Tells code moves
   run_stopped stop code e m = (m.0, subst (λ n. Tells n m.0) (sym e) (told_stop m.0 stop m.1))
 
 -- ---- the commands that read a text
@@ -68,9 +75,12 @@ module _ {R : Type 0} (said : List (Line (List ℕ)) → Option R) (Out : R → 
     over = λ e. h;
   }
 
-pub text_halted : (command : TextCommand) (style : Style) (s : Streams) (halt : Halt) (code : ℕ) → code ≡ code_behind halt → ReadsText command style s (Err halt) → TellsOfText command style s code
-text_halted command style s halt code e h = subst (λ n. TellsOfText command style s n) (sym e) (stop_told (said_of command style) (MayWrite command) (code_of command) s halt h)
+pub text_halted : (command : TextCommand) (style : Style) (s : Streams) (halt : Halt) (code : ℕ) →
+    code ≡ code_behind halt → ReadsText command style s (Err halt) → TellsOfText command style s code
+text_halted command style s halt code e h =
+    subst (λ n. TellsOfText command style s n) (sym e) (stop_told (said_of command style) (MayWrite command) (code_of command) s halt h)
 
 -- by the command
-pub does_as : (asked is : CommandLine) (s : Streams) (code : ℕ) → asked ≡ is → Does (Some is) s code → Does (Some asked) s code
+pub does_as : (asked is : CommandLine) (s : Streams) (code : ℕ) → asked ≡ is → Does (Some is) s code →
+    Does (Some asked) s code
 does_as asked is s code e h = subst (λ c. Does (Some c) s code) (sym e) h

@@ -45,7 +45,8 @@ pub record GoesOn (exchanges : List Exchange) (lines : List (Line (List ℕ))) :
   pub runs : RunFits (exchanges ++ others)
 
 -- more lines may be answered
-goes_on : (exchanges : List Exchange) (lines more : List (Line (List ℕ))) (states : ℕ → State) → IsSoFar exchanges lines states → GoesOn exchanges (lines ++ more)
+goes_on : (exchanges : List Exchange) (lines more : List (Line (List ℕ))) (states : ℕ → State) →
+    IsSoFar exchanges lines states → GoesOn exchanges (lines ++ more)
 goes_on exchanges lines more states so =
     let asks : List (Asked ExactAsk) = asks_from Numbered (pending_after Numbered Between lines) more in
     let some : SomeExchanges states asks = some_exchanges states asks in
@@ -62,13 +63,17 @@ goes_on exchanges lines more states so =
       );
     }
 
--- ---- lines behind those that end between two commands
+-- ---- lines after those that end between two commands
 
-asks_more : (lines more : List (Line (List ℕ))) → pending_after Numbered Between lines ≡ Between → asks_from Numbered Between (lines ++ more) ≡ asks_from Numbered Between lines ++ asks_from Numbered Between more
-asks_more lines more between = asks_from-append Numbered Between lines more ∙ ap (λ (p : Pending). asks_from Numbered Between lines ++ asks_from Numbered p more) between
+asks_more : (lines more : List (Line (List ℕ))) → pending_after Numbered Between lines ≡ Between →
+    asks_from Numbered Between (lines ++ more) ≡ asks_from Numbered Between lines ++ asks_from Numbered Between more
+asks_more lines more between =
+    asks_from-append Numbered Between lines more ∙ ap (λ (p : Pending). asks_from Numbered Between lines ++ asks_from Numbered p more) between
 
-pending_more : (lines more : List (Line (List ℕ))) → pending_after Numbered Between lines ≡ Between → pending_after Numbered Between (lines ++ more) ≡ pending_after Numbered Between more
-pending_more lines more between = pending_after-append Numbered Between lines more ∙ ap (λ (p : Pending). pending_after Numbered p more) between
+pending_more : (lines more : List (Line (List ℕ))) → pending_after Numbered Between lines ≡ Between →
+    pending_after Numbered Between (lines ++ more) ≡ pending_after Numbered Between more
+pending_more lines more between =
+    pending_after-append Numbered Between lines more ∙ ap (λ (p : Pending). pending_after Numbered p more) between
 
 -- the exchanges with those of more lines
 so_far_more : (exchanges others : List Exchange) (lines more : List (Line (List ℕ))) (states new : ℕ → State) → IsSoFar exchanges lines states → pending_after Numbered Between lines ≡ Between →
@@ -85,18 +90,23 @@ so_far_more exchanges others lines more states new so between asks runs = record
 }
 
 -- more lines that complete no ask
-so_far_none : (exchanges : List Exchange) (lines more : List (Line (List ℕ))) (states : ℕ → State) → IsSoFar exchanges lines states → pending_after Numbered Between lines ≡ Between → asks_from Numbered Between more ≡ [] → IsSoFar exchanges (lines ++ more) states
+so_far_none : (exchanges : List Exchange) (lines more : List (Line (List ℕ))) (states : ℕ → State) →
+    IsSoFar exchanges lines states → pending_after Numbered Between lines ≡ Between →
+    asks_from Numbered Between more ≡ [] → IsSoFar exchanges (lines ++ more) states
 so_far_none exchanges lines more states so between none = record {
-  asks = so.asks ∙ sym (append-nil (asks_from Numbered Between lines)) ∙ ap (λ zs. asks_from Numbered Between lines ++ zs) (sym none) ∙ sym (asks_more lines more between);
+  asks =
+      so.asks ∙ sym (append-nil (asks_from Numbered Between lines)) ∙ ap (λ zs. asks_from Numbered Between lines ++ zs) (sym none) ∙ sym (asks_more lines more between);
   runs = so.runs;
 }
 
-so_fits : {exchanges : List Exchange} {lines : List (Line (List ℕ))} {states : ℕ → State} → IsSoFar exchanges lines states → RunFits exchanges
+so_fits : {exchanges : List Exchange} {lines : List (Line (List ℕ))} {states : ℕ → State} →
+    IsSoFar exchanges lines states → RunFits exchanges
 so_fits {exchanges} {lines} {states} so = λ session. (states session, so.runs session)
 
 -- ---- scripts by their length
 
-script_within : (read : List ℕ) → length read ≤ 2 ^ 26 → script_of read ≡ record { asks = asks_from Numbered Between (lines_of read); ending = ending_by (pending_after Numbered Between (lines_of read)) }
+script_within : (read : List ℕ) → length read ≤ 2 ^ 26 →
+    script_of read ≡ record { asks = asks_from Numbered Between (lines_of read); ending = ending_by (pending_after Numbered Between (lines_of read)) }
 unfolding script_of
 script_within read h = by (nat_le (length read) input_limit) (le-leb (length read) input_limit h)
   where
@@ -105,7 +115,8 @@ script_within read h = by (nat_le (length read) input_limit) (le-leb (length rea
         (record { asks = asks_from Numbered Between (lines_of read); ending = ending_by (pending_after Numbered Between (lines_of read)) })
     by t e = rw e refl
 
-script_past : (read : List ℕ) → 2 ^ 26 < length read → script_of read ≡ record { asks = ended_asks_of read; ending = script.Over }
+script_past : (read : List ℕ) → 2 ^ 26 < length read →
+    script_of read ≡ record { asks = ended_asks_of read; ending = script.Over }
 unfolding script_of
 script_past read h = by (nat_le (length read) input_limit) (lt-leb (length read) input_limit h)
   where
@@ -134,13 +145,15 @@ state-replicate (suc n) zero = refl
 state-replicate (suc n) (suc session) = state-replicate n session
 
 -- at the start
-pub start : (left taken : Option (List ℕ)) (reading : LinesState) (sessions : List State) → reading ≡ at_start → sessions ≡ replicate 65 opening → Turn left left taken taken reading sessions
+pub start : (left taken : Option (List ℕ)) (reading : LinesState) (sessions : List State) → reading ≡ at_start →
+    sessions ≡ replicate 65 opening → Turn left left taken taken reading sessions
 start left taken reading sessions is_start are_opening = record {
   lines = [];
   reads = reads_start left reading is_start;
   between = refl;
   exchanges = [];
-  so_far = record { asks = refl; runs = λ session. ap (λ (all : List State). state_at all session) are_opening ∙ state-replicate 65 session };
+  so_far =
+      record { asks = refl; runs = λ session. ap (λ (all : List State). state_at all session) are_opening ∙ state-replicate 65 session };
   written = Appends-nil taken;
 }
 
@@ -164,8 +177,9 @@ turn_on {left_before} {left_now} {taken_before} {taken_now} left_after taken_aft
 
 -- ---- where the run stops
 
--- what was written is a front of the output of more exchanges
-front_of : (written : List ℕ) (exchanges others : List Exchange) → IsPrefixOf written (script_out exchanges) → IsPrefixOf written (script_out (exchanges ++ others))
+-- what was written is a prefix of the output of more exchanges
+front_of : (written : List ℕ) (exchanges others : List Exchange) → IsPrefixOf written (script_out exchanges) →
+    IsPrefixOf written (script_out (exchanges ++ others))
 front_of written exchanges others front = (
   front.0 ++ script_out others,
   sym (append_assoc written front.0 (script_out others)) ∙ ap (λ zs. zs ++ script_out others) front.1 ∙ sym (script_out-append exchanges others),
@@ -184,7 +198,8 @@ moves_in_part exchanges lines more states so written appended front (inl part) =
       written = written;
       consumed = part.front.moved;
       appended = appended;
-      asks = inl (on.asks ∙ ap (asks_from Numbered Between) (sym (append_assoc lines more part.more)) ∙ ap (asks_from Numbered Between) (sym part.front.ended) ∙ sym (ended_asks part.front.read));
+      asks =
+          inl (on.asks ∙ ap (asks_from Numbered Between) (sym (append_assoc lines more part.more)) ∙ ap (asks_from Numbered Between) (sym part.front.ended) ∙ sym (ended_asks part.front.read));
       runs = on.runs;
       front = front_of written exchanges on.others front;
     }
@@ -196,7 +211,8 @@ moves_in_part exchanges lines more states so written appended front (inr all) =
       written = written;
       consumed = all.moved;
       appended = appended;
-      asks = inr (on.asks ∙ ap (asks_from Numbered Between) (sym all.all) ∙ sym (ap (λ (s : Script). s.asks) (script_within all.read all.bound)), all.at_end);
+      asks =
+          inr (on.asks ∙ ap (asks_from Numbered Between) (sym all.all) ∙ sym (ap (λ (s : Script). s.asks) (script_within all.read all.bound)), all.at_end);
       runs = on.runs;
       front = front_of written exchanges on.others front;
     }
@@ -248,11 +264,13 @@ moves_all exchanges lines states so appended all ending ends =
 
 module _ {left_before left_now taken_before taken_now : Option (List ℕ)} (left_after : Option (List ℕ)) {reading : LinesState} {sessions : List State} (t : Turn left_before left_now taken_before taken_now reading sessions) where
   -- lines came that complete no ask
-  none_more : (more : List (Line (List ℕ))) → asks_from Numbered Between more ≡ [] → IsSoFar t.exchanges (t.lines ++ more) (state_at sessions)
+  none_more : (more : List (Line (List ℕ))) → asks_from Numbered Between more ≡ [] →
+      IsSoFar t.exchanges (t.lines ++ more) (state_at sessions)
   none_more more none = so_far_none t.exchanges t.lines more (state_at sessions) t.so_far t.between none
 
   -- no further ask came
-  pub stopped : (new : LinesState) (stop : LineStop) → TakesNext Numbered left_now left_after reading new (Err stop) → (moves : Moves (streams left_before left_after taken_before taken_now)) × EndsSo moves (Err (halt_of stop))
+  pub stopped : (new : LinesState) (stop : LineStop) → TakesNext Numbered left_now left_after reading new (Err stop) →
+      (moves : Moves (streams left_before left_after taken_before taken_now)) × EndsSo moves (Err (halt_of stop))
   stopped new line_stops.Read k =
       let m = moves_broken_off t.exchanges (t.lines ++ k.passed) (state_at sessions) (none_more k.passed k.asks) t.written (stops_with line_stops.Read (ReadsUntil-append t.reads k.reads)).front in
       (m.0, m.1.0)
@@ -263,13 +281,15 @@ module _ {left_before left_now taken_before taken_now : Option (List ℕ)} (left
   )
 
   -- the input has ended
-  pub ended : (ending : Ending) → TakesEnd Numbered left_now left_after reading ending → (moves : Moves (streams left_before left_after taken_before taken_now)) × EndsInput moves ending
+  pub ended : (ending : Ending) → TakesEnd Numbered left_now left_after reading ending →
+      (moves : Moves (streams left_before left_after taken_before taken_now)) × EndsInput moves ending
   ended ending k =
       moves_all t.exchanges (t.lines ++ k.none.passed) (state_at sessions) (none_more k.none.passed k.none.asks) t.written (stops_at_end (ReadsUntil-append t.reads k.none.reads))
       ending (ap ending_by (pending_more t.lines k.none.passed t.between) ∙ k.ends)
 
   -- the input is longer than may be read
-  pub too_long : TakesNone Numbered left_now left_after reading (Ok Over) → (moves : Moves (streams left_before left_after taken_before taken_now)) × EndsSo moves (Err halts.Over)
+  pub too_long : TakesNone Numbered left_now left_after reading (Ok Over) →
+      (moves : Moves (streams left_before left_after taken_before taken_now)) × EndsSo moves (Err halts.Over)
   too_long k =
       let over = stops_over (ReadsUntil-append t.reads k.reads) in
       let m = moves_broken_off t.exchanges (t.lines ++ k.passed) (state_at sessions) (none_more k.passed k.asks) t.written over.front in
@@ -279,7 +299,9 @@ module _ {left_before left_now taken_before taken_now : Option (List ℕ)} (left
       (m.0, record { script = past; whole = m.1.0.whole })
 
   -- an ask came, and was answered in part
-  pub in_answer : (taken_after : Option (List ℕ)) (new : LinesState) (asked : Asked ExactAsk) → TakesAsk Numbered left_now left_after reading new asked → AnswersInPart taken_now taken_after sessions asked → Moves (streams left_before left_after taken_before taken_after)
+  pub in_answer : (taken_after : Option (List ℕ)) (new : LinesState) (asked : Asked ExactAsk) →
+      TakesAsk Numbered left_now left_after reading new asked → AnswersInPart taken_now taken_after sessions asked →
+      Moves (streams left_before left_after taken_before taken_after)
   in_answer taken_after new asked k a =
       let others : List Exchange = exchange_of asked a.reply ∷ [] in
       let lines : List (Line (List ℕ)) = t.lines ++ k.passed in
@@ -295,12 +317,16 @@ module _ {left_before left_now taken_before taken_now : Option (List ℕ)} (left
       (subst (λ (ls : List (Line (List ℕ))). ReadsPart left_before left_after ls ⊎ ReadsAll left_before left_after ls) (sym (append-nil lines)) (stops_now (ReadsLines-append t.reads k.reads)))
 
 -- the same of what was taken
-pub takes_as : (before after : Option (List ℕ)) (old new : LinesState) (taken is : Taken) → taken ≡ is → TakesNext Numbered before after old new (Ok taken) → TakesNext Numbered before after old new (Ok is)
-takes_as before after old new taken is same k = subst (λ (t : Taken). TakesNext Numbered before after old new (Ok t)) same k
+pub takes_as : (before after : Option (List ℕ)) (old new : LinesState) (taken is : Taken) → taken ≡ is →
+    TakesNext Numbered before after old new (Ok taken) → TakesNext Numbered before after old new (Ok is)
+takes_as before after old new taken is same k =
+    subst (λ (t : Taken). TakesNext Numbered before after old new (Ok t)) same k
 
--- a stop by want of memory or by a fault of the sink asks for nothing else
-pub stops_so : {s : Streams} (moves : Moves s) (result : Result (Unit {0}) Halt) (stop : Halt) → result ≡ Err stop → (stop ≡ halts.Write) ⊎ (stop ≡ halts.NoMemory) → (m : Moves s) × EndsSo m result
-stops_so {s} moves result stop is why = (moves, subst (λ (r : Result (Unit {0}) Halt). EndsSo moves r) (sym is) (⊎_elim (λ e. subst (λ (h : Halt). EndsSo moves (Err h)) (sym e) tt) (λ e. subst (λ (h : Halt). EndsSo moves (Err h)) (sym e) tt) why))
+-- after a stop because memory ran out or the sink failed, nothing else is required
+pub stops_so : {s : Streams} (moves : Moves s) (result : Result (Unit {0}) Halt) (stop : Halt) → result ≡ Err stop →
+    (stop ≡ halts.Write) ⊎ (stop ≡ halts.NoMemory) → (m : Moves s) × EndsSo m result
+stops_so {s} moves result stop is why =
+    (moves, subst (λ (r : Result (Unit {0}) Halt). EndsSo moves r) (sym is) (⊎_elim (λ e. subst (λ (h : Halt). EndsSo moves (Err h)) (sym e) tt) (λ e. subst (λ (h : Halt). EndsSo moves (Err h)) (sym e) tt) why))
 
 -- nothing was read or written
 pub nothing : (left taken : Option (List ℕ)) → Moves (streams left left taken taken)
@@ -317,5 +343,6 @@ nothing left taken = record {
 }
 
 -- the same result
-pub ends_as : {s : Streams} (result other : Result (Unit {0}) Halt) → result ≡ other → ((m : Moves s) × EndsSo m other) → (m : Moves s) × EndsSo m result
+pub ends_as : {s : Streams} (result other : Result (Unit {0}) Halt) → result ≡ other →
+    ((m : Moves s) × EndsSo m other) → (m : Moves s) × EndsSo m result
 ends_as {s} result other same m = (m.0, subst (λ (r : Result (Unit {0}) Halt). EndsSo m.0 r) (sym same) m.1)

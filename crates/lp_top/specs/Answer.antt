@@ -22,7 +22,7 @@ pub record Answers (before after : Option (List ℕ)) (old new : List State) (as
   pub steps : Steps old new asked reply
   pub written : Appends before after (reply_lines Numbered asked.session reply)
 
--- a front of a reply was written
+-- a prefix of a reply was written
 pub record AnswersInPart (before after : Option (List ℕ)) (old : List State) (asked : Asked ExactAsk) : Type 0 where
   pub reply : ExactReply
   pub state : State

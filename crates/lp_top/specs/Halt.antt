@@ -9,7 +9,7 @@ abbrev pub halt_of : LineStop → Halt
 halt_of Read = halts.Read
 halt_of NoMemory = halts.NoMemory
 
--- the code of the status behind it
+-- the code of the status of it
 abbrev pub code_behind : Halt → ℕ
 code_behind halts.Read = 3
 code_behind halts.Write = 4

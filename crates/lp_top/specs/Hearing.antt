@@ -15,10 +15,12 @@ use Rattle.lp_top.specs.Streams.{Streams}
 
 -- ---- lines, one by one
 
--- A line leads to the next stage, or something is said at it; by what lines say behind a stage, and of how many lines it is. No
+-- A line leads to the next stage, or something is said at it; by what lines say after a stage, and of how many lines it is. No
 -- stage follows the end of the input.
-abbrev pub Leads : {T R : Type 0} → (T → List (Line (List ℕ)) → Option R) → (T → ℕ) → T → Line (List ℕ) → Step T R → Type 0
-Leads said count stage line (On next) = ((more : List (Line (List ℕ))) → said stage (line ∷ more) ≡ said next more) × (count next ≤ count stage + 1) × (line ≢ End)
+abbrev pub Leads : {T R : Type 0} → (T → List (Line (List ℕ)) → Option R) → (T → ℕ) → T → Line (List ℕ) → Step T R →
+    Type 0
+Leads said count stage line (On next) =
+    ((more : List (Line (List ℕ))) → said stage (line ∷ more) ≡ said next more) × (count next ≤ count stage + 1) × (line ≢ End)
 Leads said count stage line (SaysStep what) = (more : List (Line (List ℕ))) → said stage (line ∷ more) ≡ Some what
 
 -- ---- what is read
@@ -27,7 +29,7 @@ Leads said count stage line (SaysStep what) = (more : List (Line (List ℕ))) �
 abbrev pub buffer_len : ℕ
 buffer_len = 4096
 
--- the bytes are those of lines of which the last one decides what is said, and less than a buffer behind them
+-- the bytes are those of lines of which the last one decides what is said, and less than a buffer after them
 pub record StopsSoon {R : Type 0} (said : List (Line (List ℕ)) → Option R) (read : List ℕ) (what : R) : Type 0 where
   pub lines : List (Line (List ℕ))
   pub last : Line (List ℕ)
@@ -39,7 +41,7 @@ pub record StopsSoon {R : Type 0} (said : List (Line (List ℕ)) → Option R) (
   pub are_lines : lines_of raw ≡ lines ++ last ∷ []
   pub few : length ahead < buffer_len
 
--- these bytes were read, and this is said of them; and little was read behind the line that decides, unless the input has ended
+-- these bytes were read, and this is said of them; and little was read after the line that decides, unless the input has ended
 pub record Hears {R : Type 0} (said : List (Line (List ℕ)) → Option R) (before after : Option (List ℕ)) (what : R) : Type 0 where
   pub read : List ℕ
   pub consumed : Consumes before after read
@@ -62,7 +64,8 @@ pub record Reads (before after : Option (List ℕ)) : Type 0 where
   pub read : List ℕ
   pub consumed : Consumes before after read
 
-abbrev pub HearsSo : {R : Type 0} → (List (Line (List ℕ)) → Option R) → Option (List ℕ) → Option (List ℕ) → Result R Halt → Type 0
+abbrev pub HearsSo : {R : Type 0} → (List (Line (List ℕ)) → Option R) → Option (List ℕ) → Option (List ℕ) →
+    Result R Halt → Type 0
 HearsSo said before after (Ok what) = Hears said before after what
 HearsSo said before after (Err halts.Read) = HearsNothing said before after
 HearsSo said before after (Err halts.Over) = HearsTooMuch said before after
@@ -72,7 +75,7 @@ HearsSo said before after (Err halts.Cut) = ⊥
 
 -- ---- what is written of what is said: an output that it may have, with its status
 
--- an output of this kind was put behind what was there
+-- an output of this kind was put after what was there
 pub record Prints (Out : List ℕ → Type 0) (before after : List ℕ) : Type 0 where
   pub output : List ℕ
   pub is_output : Out output
@@ -87,7 +90,7 @@ pub record Says {R : Type 0} (said : List (Line (List ℕ)) → Option R) (Out :
   pub written : Appends s.taken_before s.taken_after output
   pub status : code ≡ code_of what
 
--- a front of one was written
+-- a prefix of one was written
 pub record SaysInPart {R : Type 0} (said : List (Line (List ℕ)) → Option R) (Out : R → List ℕ → Type 0) (s : Streams) : Type 0 where
   pub what : R
   pub hears : Hears said s.left_before s.left_after what
@@ -98,7 +101,8 @@ pub record SaysInPart {R : Type 0} (said : List (Line (List ℕ)) → Option R) 
 abbrev pub WritesNothing : Streams → Type 0
 WritesNothing s = Appends s.taken_before s.taken_after []
 
-abbrev pub SaysSo : {R : Type 0} → (List (Line (List ℕ)) → Option R) → (R → List ℕ → Type 0) → (R → ℕ) → Streams → Result ExitStatus Halt → Type 0
+abbrev pub SaysSo : {R : Type 0} → (List (Line (List ℕ)) → Option R) → (R → List ℕ → Type 0) → (R → ℕ) → Streams →
+    Result ExitStatus Halt → Type 0
 SaysSo said Out code_of s (Ok status) = Says said Out code_of s status.code
 SaysSo said Out code_of s (Err halts.Read) = HearsNothing said s.left_before s.left_after × WritesNothing s
 SaysSo said Out code_of s (Err halts.Over) = HearsTooMuch said s.left_before s.left_after × WritesNothing s

@@ -16,7 +16,7 @@ abbrev pub AreAsked : Option (List ℕ) → List ℕ → List (Asked ExactAsk) �
 AreAsked after read asks = (asks ≡ ended_asks_of read) ⊎ ((asks ≡ (script_of read).asks) × IsAtEnd after)
 
 -- The bytes that were read, the exchanges of their asks, in which each session runs alone, and the bytes that were
--- written, a front of the output of the exchanges.
+-- written, a prefix of the output of the exchanges.
 pub record Moves (s : Streams) : Type 0 where
   pub read : List ℕ
   pub exchanges : List Exchange

@@ -21,6 +21,6 @@ abbrev pub count_of : CheckStage → ℕ
 count_of (stage.Text reader) = reader.lines
 count_of (stage.Certificate model reader) = reader.lines
 
--- what lines say behind it
+-- what lines say after it
 abbrev pub said_behind : CheckStage → List (Line (List ℕ)) → Option ExactReply
 said_behind stage lines = reading.said_from (stage_of stage) lines

@@ -8,4 +8,5 @@ pub record Streams : Type 0 where
   pub taken_after : Option (List ℕ)
 
 abbrev pub streams : Option (List ℕ) → Option (List ℕ) → Option (List ℕ) → Option (List ℕ) → Streams
-streams before after taken now = record { left_before = before; left_after = after; taken_before = taken; taken_after = now }
+streams before after taken now =
+    record { left_before = before; left_after = after; taken_before = taken; taken_after = now }

@@ -9,12 +9,12 @@ use Rattle.lp_top.specs.declared.command_line.Given.{Given}
 abbrev pub bytes_of : List (Bor (List ℕ)) → List (List ℕ)
 bytes_of names = map (λ name. name.now) names
 
--- the value behind an option's name, option by option
+-- the value after an option's name, option by option
 abbrev pub value_in : List ℕ → List (List ℕ) → Option (List ℕ)
 value_in name (option ∷ value ∷ words) = if same name option then Some value else value_in name words
 value_in name words = None
 
--- it has one of these names, and is not given again in the words behind it
+-- it has one of these names, and is not given again in the words after it
 abbrev pub is_new_option : List ℕ → List (List ℕ) → List (List ℕ) → Bool
 is_new_option option names behind = is_one_of option names && not (is_some (value_in option behind))
 

@@ -1,4 +1,4 @@
-// The check of a certificate that stands behind the text of its model.
+// The check of a certificate that follows the text of its model.
 ghost use Rattle.std.specs.Prelude.{◌≡◌, ◌<◌, ◌-◌, ◌^◌, IfOk, refl};
 ghost use Rattle.spec_server.specs.CheckOut.{InText, InCertificate, check_step, check_code, CheckOut};
 ghost use Rattle.lp_top.specs.Stage.{step_of, count_of, said_behind};
@@ -13,7 +13,7 @@ use lp_session::verdict_on;
 use mps_read::{Feed, Reader};
 use std::alloc::{AllocError, Global};
 
-/// In the text of a model, or in the certificate behind it.
+/// In the text of a model, or in the certificate after it.
 #[derive(Drop)]
 pub(crate) enum CheckStage {
     Text(Reader),

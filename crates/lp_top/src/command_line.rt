@@ -10,7 +10,7 @@ use lp_base::are_same;
 use spec_mps::Style;
 use spec_server::{CommandLine, TextCommand};
 
-// What stands behind a command's word: plain words, and options, each a name and a value.
+// What follows a command's word: plain words, and options, each a name and a value.
 #[derive(Clone, Copy)]
 struct Given<'a> {
     plain: &'a [String],
@@ -23,7 +23,7 @@ fn is_one_of(word: &[u8], names: &[&str]) -> bool
     names.iter().any(|name| are_same(word, name.as_bytes()))
 }
 
-// The first option and its value, and the words behind them.
+// The first option and its value, and the words after them.
 fn first_option(words: &[String]) -> Option<(&[u8], &[u8], &[String])>
     ensures cut { MatchOption result (length words.now < 2) (λ p. map string_bytes words.now ≡ p.0.now ∷ p.1.now ∷ map string_bytes p.2.now) }
     ensures fewer { IfSome result (λ p. length p.2.now < length words.now) }
@@ -65,7 +65,7 @@ fn are_options(words: &[String], names: &[&str]) -> bool
     rest.is_empty()
 }
 
-// The words as so many plain ones, and options with these names behind them.
+// The words as so many plain ones, and options with these names after them.
 fn given_in<'a>(words: &'a [String], plain: usize, names: &[&str]) -> Option<Given<'a>>
     ensures { IsGiven (command_lines.given_in plain (bytes_of names.now) (map string_bytes words.now)) result }
 {

@@ -22,13 +22,13 @@ pub(crate) trait Stage: Drop {
     /// What is said of the input.
     type Said: Drop;
 
-    // what lines say behind it
+    // what lines say after it
     ghost said: { Self → List (exact_line (List ℕ)) → Option Self.Said };
 
     // of how many lines it is
     ghost count: { Self → ℕ };
 
-    // what may be written of what is said, and the status behind it
+    // what may be written of what is said, and the status of it
     ghost may_write: { Self.Said → List ℕ → Type 0 };
 
     ghost code: { Self.Said → ℕ };
@@ -38,7 +38,7 @@ pub(crate) trait Stage: Drop {
         requires { count self < 2 ^ 32 - 1 }
         ensures { IfOk result (Leads said count self line.now) };
 
-    /// Writes what is said, and tells the status behind it.
+    /// Writes what is said, and tells the status after it.
     fn print(alloc: Global, what: Self::Said, to: &mut Bytes) -> Result<ExitStatus, AllocError>
         ensures output { OnOk result (Prints (may_write what) to.old to.new) }
         ensures status { IfOk result (λ status. status.code ≡ code what) };

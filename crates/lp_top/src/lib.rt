@@ -5,7 +5,7 @@
 //! | `lpd_top` | runs a command line over a source and a sink | here |
 //! | `ExitStatus` | how that ended | src/exit_status |
 //!
-//! What it reads and writes is told by specs/Top, of a script by specs/Run and of a text by specs/Hearing, in the words of the
+//! What it reads and writes is stated by specs/Top, of a script by specs/Run and of a text by specs/Hearing, in the words of the
 //! server's definitions.
 #![tactic(auto)]
 
@@ -47,10 +47,10 @@ pub fn lpd_top<S: Source, K: Sink>(
     ensures output { Does (command_line_of (map string_bytes words.now)) (streams (S.left src.old) (S.left src.new) (K.taken out.old) (K.taken out.new)) result.code }
     ensures codes { IsStatus (command_line_of (map string_bytes words.now)) result.code }
 
-    // The words are at fault exactly where they are no command line.
+    // The words are refused exactly if they are no command line.
     ensures words { (result.code ≡ 2) ↔ (command_line_of (map string_bytes words.now) ≡ None) }
 
-    // No fault is told that did not happen.
+    // No fault is reported that did not happen.
     ensures read { result.code ≡ 3 → Rose (S.read_faults src.old) (S.read_faults src.new) }
     ensures write { result.code ≡ 4 → Rose (K.write_faults out.old) (K.write_faults out.new) }
 {

@@ -7,7 +7,8 @@ pub returns-in-Ok-clause-output : goal.returns-in-Ok-clause-output
 returns-in-Ok-clause-output g c = does_as c.args.command Run _ _ c.in-Run.is (run_done c.in-Ok.ensures.output)
 
 pub returns-in-Err-clause-output : goal.returns-in-Err-clause-output
-returns-in-Err-clause-output g c = does_as c.args.command Run _ _ c.in-Run.is (run_stopped c.in-Err.halt c.from.result.code c.from.ensures c.in-Err.ensures.output)
+returns-in-Err-clause-output g c =
+    does_as c.args.command Run _ _ c.in-Run.is (run_stopped c.in-Err.halt c.from.result.code c.from.ensures c.in-Err.ensures.output)
 
 pub returns-in-Err-read_text-clause-output : goal.returns-in-Err-read_text-clause-output
 returns-in-Err-read_text-clause-output g c =

@@ -16,7 +16,8 @@ returns-in_err-line-clause-heard g c =
     hears_as _ _ _ _ _ c.from_residual.result _ (p.1 ∙ ap Err p.2) (stopped c.loop-line.invariant.turn _ _ (g.met.T.Stage.silent c.loop-line.stage) _ c.in_err-line.ensures.line)
 
 pub returns-in-Over-clause-heard : goal.returns-in-Over-clause-heard
-returns-in-Over-clause-heard g c = too_long c.loop-line.invariant.turn _ _ (g.met.T.Stage.silent c.loop-line.stage) (gives_as Over c.in-Over.is c.in_ok-line.ensures.line)
+returns-in-Over-clause-heard g c =
+    too_long c.loop-line.invariant.turn _ _ (g.met.T.Stage.silent c.loop-line.stage) (gives_as Over c.in-Over.is c.in_ok-line.ensures.line)
 
 pub returns-in_err-next-in_default-clause-heard : goal.returns-in_err-next-in_default-clause-heard
 returns-in_err-next-in_default-clause-heard g c =

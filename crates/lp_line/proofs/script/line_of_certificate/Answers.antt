@@ -11,4 +11,4 @@ pub returns : goal.returns
 returns c =
     leads_as _ c.args.line.now c.asked.result _ c.asked.ensures
     (certificate_ends c.args.session c.args.body c.in_ok-body.body c.args.line.now c.in_ok-said.said c.ask_of_certificate.result _ c.requires.given
-        (grind (arith, common_steps)) c.in_ok-body.ensures c.in_ok-said.ensures c.ask_of_certificate.ensures refl)
+    (grind (arith, common_steps)) c.in_ok-body.ensures c.in_ok-said.ensures c.ask_of_certificate.ensures refl)

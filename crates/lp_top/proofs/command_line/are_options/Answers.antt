@@ -16,4 +16,5 @@ loop-option-preserved c =
     c.in-Some.ensures.cut c.is_one_of.result c.is_one_of.ensures c.if-not-is_one_of.false (option_copied c.value_of.result) c.value_of.ensures (some-copied c.value_of.result ∙ sym c.is_some.ensures ∙ c.if-is_some.false)
 
 pub returns : goal.returns
-returns c = c.is_empty.ensures ∙ are-short (bytes_of c.args.names.now) string_bytes c.loop-option.rest.now c.in_default.ensures.cut ∙ c.loop-option.invariant
+returns c =
+    c.is_empty.ensures ∙ are-short (bytes_of c.args.names.now) string_bytes c.loop-option.rest.now c.in_default.ensures.cut ∙ c.loop-option.invariant

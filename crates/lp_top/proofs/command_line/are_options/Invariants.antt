@@ -5,7 +5,8 @@ use Rattle.lp_top.specs.Words.{bytes_of, are_in}
 use Rattle.lp_top.proofs.command_line.are_options.Given as goal
 
 abbrev pub invariant-loop-option : goal.invariant-loop-option
-invariant-loop-option l = are_in (bytes_of l.names) (map string_bytes l.rest) ≡ are_in (bytes_of l.names) (map string_bytes l.words)
+invariant-loop-option l =
+    are_in (bytes_of l.names) (map string_bytes l.rest) ≡ are_in (bytes_of l.names) (map string_bytes l.words)
 
 abbrev pub decreases-loop-option : goal.decreases-loop-option
 decreases-loop-option l = length l.rest

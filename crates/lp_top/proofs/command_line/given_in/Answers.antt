@@ -6,7 +6,8 @@ use Rattle.lp_top.proofs.OptionLemmas.{given-few, given-none, given-some}
 use Rattle.lp_top.proofs.command_line.given_in.Goals as goal
 
 pub returns-then-words-plain : goal.returns-then-words-plain
-returns-then-words-plain c = given-few string_bytes c.args.plain (bytes_of c.args.names.now) c.args.words.now (omega (arith, c.if-words-plain.true))
+returns-then-words-plain c =
+    given-few string_bytes c.args.plain (bytes_of c.args.names.now) c.args.words.now (omega (arith, c.if-words-plain.true))
 
 pub returns-then-not-are_options : goal.returns-then-not-are_options
 returns-then-not-are_options c =

@@ -8,7 +8,8 @@ use Rattle.lp_top.proofs.HearTurns.{started, on_line, says_so, stopped, too_long
 use Rattle.lp_top.proofs.hearing.hear.Goals as goal
 
 pub loop-lines-init : goal.loop-lines-init
-loop-lines-init g c = record { turn = started _ c.in_ok-lines.lines c.in_ok-lines.ensures c.requires; read = omega arith }
+loop-lines-init g c =
+    record { turn = started _ c.in_ok-lines.lines c.in_ok-lines.ensures c.requires; read = omega arith }
 
 pub returns-in_err-line-clause-output : goal.returns-in_err-line-clause-output
 returns-in_err-line-clause-output g c =
@@ -16,13 +17,15 @@ returns-in_err-line-clause-output g c =
     hears_as _ _ _ c.from_residual-in_err-line.result _ (p.1 ∙ ap Err p.2) (stopped c.loop-lines.invariant.turn _ (g.met.T.Stage.silent c.loop-lines.stage) _ _ c.in_err-line.ensures.line)
 
 pub returns-in-Over-clause-output : goal.returns-in-Over-clause-output
-returns-in-Over-clause-output g c = too_long c.loop-lines.invariant.turn _ (g.met.T.Stage.silent c.loop-lines.stage) _ (gives_as Over c.in-Over.is c.in_ok-line.ensures.line)
+returns-in-Over-clause-output g c =
+    too_long c.loop-lines.invariant.turn _ (g.met.T.Stage.silent c.loop-lines.stage) _ (gives_as Over c.in-Over.is c.in_ok-line.ensures.line)
 
 pub returns-in_err-next-in_default : goal.returns-in_err-next-in_default
 returns-in_err-next-in_default g c =
     let p = err_from_is_err_and c.from_residual-in_err-next-in_default.result c.from_residual-in_err-next-in_default.ensures.1 in
     record {
-      output = hears_as _ _ _ c.from_residual-in_err-next-in_default.result _ (p.1 ∙ ap Err p.2) (reads_some c.loop-lines.invariant.turn _ (Ok c.in_ok-line.line) _ c.in_ok-line.ensures.line);
+      output =
+          hears_as _ _ _ c.from_residual-in_err-next-in_default.result _ (p.1 ∙ ap Err p.2) (reads_some c.loop-lines.invariant.turn _ (Ok c.in_ok-line.line) _ c.in_ok-line.ensures.line);
       read = memory_no_fault c.from_residual-in_err-next-in_default.result (p.1 ∙ ap Err p.2);
     }
 

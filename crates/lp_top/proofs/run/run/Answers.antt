@@ -30,7 +30,8 @@ returns-in_err-asked-clause-output g c =
 
 pub loop-sessions-preserved : goal.loop-sessions-preserved
 loop-sessions-preserved g c = record {
-  turn = turn_on _ _ c.loop-sessions.invariant.turn _ c.in-Ask.asked (takes_as _ _ _ _ _ (taken.Ask c.in-Ask.asked) c.in-Ask.is c.in_ok-asked.ensures.taken) _ c.in_ok-answer-in-Ask.ensures.ok;
+  turn =
+      turn_on _ _ c.loop-sessions.invariant.turn _ c.in-Ask.asked (takes_as _ _ _ _ _ (taken.Ask c.in-Ask.asked) c.in-Ask.is c.in_ok-asked.ensures.taken) _ c.in_ok-answer-in-Ask.ensures.ok;
   read = omega (arith, c.take.ensures.later);
   write = omega (arith, c.answer.ensures.later);
 }
@@ -42,10 +43,13 @@ returns-in_err-answer-in-Ask-clause-output g c =
     (⊎_elim (λ e. inl (p.2 ∙ e)) (λ e. inr (p.2 ∙ e)) c.in_err-answer-in-Ask.ensures.halts)
 
 pub returns-in-End-clause-output : goal.returns-in-End-clause-output
-returns-in-End-clause-output g c = ended _ c.loop-sessions.invariant.turn Ended (takes_as _ _ _ _ _ taken.End c.in-End.is c.in_ok-asked.ensures.taken)
+returns-in-End-clause-output g c =
+    ended _ c.loop-sessions.invariant.turn Ended (takes_as _ _ _ _ _ taken.End c.in-End.is c.in_ok-asked.ensures.taken)
 
 pub returns-in-Cut-clause-output : goal.returns-in-Cut-clause-output
-returns-in-Cut-clause-output g c = ended _ c.loop-sessions.invariant.turn Cut (takes_as _ _ _ _ _ taken.Cut c.in-Cut.is c.in_ok-asked.ensures.taken)
+returns-in-Cut-clause-output g c =
+    ended _ c.loop-sessions.invariant.turn Cut (takes_as _ _ _ _ _ taken.Cut c.in-Cut.is c.in_ok-asked.ensures.taken)
 
 pub returns-in-Over-clause-output : goal.returns-in-Over-clause-output
-returns-in-Over-clause-output g c = too_long _ c.loop-sessions.invariant.turn (takes_as _ _ _ _ _ taken.Over c.in-Over.is c.in_ok-asked.ensures.taken)
+returns-in-Over-clause-output g c =
+    too_long _ c.loop-sessions.invariant.turn (takes_as _ _ _ _ _ taken.Over c.in-Over.is c.in_ok-asked.ensures.taken)

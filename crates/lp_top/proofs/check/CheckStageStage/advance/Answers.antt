@@ -3,7 +3,8 @@ use Rattle.lp_top.proofs.CheckLines.{leads_from}
 use Rattle.lp_top.proofs.check.CheckStageStage.advance.Goals as goal
 
 pub returns-in-Text : goal.returns-in-Text
-returns-in-Text c = leads_from c.args.self (stage.Text c.in-Text.reader) c.args.line.now c.text_line.result c.in-Text.is c.text_line.ensures
+returns-in-Text c =
+    leads_from c.args.self (stage.Text c.in-Text.reader) c.args.line.now c.text_line.result c.in-Text.is c.text_line.ensures
 
 pub returns-in-Certificate : goal.returns-in-Certificate
 returns-in-Certificate c =

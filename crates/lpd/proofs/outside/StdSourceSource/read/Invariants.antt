@@ -4,4 +4,5 @@ use Rattle.std.specs.Io.KnownBytes.{Keeps}
 use Rattle.lpd.proofs.outside.StdSourceSource.read.Given as goal
 
 abbrev pub invariant-loop : goal.invariant-loop
-invariant-loop g l = Keeps (g.R.Read.remaining l.initial.self.inner) (g.R.Read.remaining l.self.inner) × (l.self.faults ≡ l.initial.self.faults)
+invariant-loop g l =
+    Keeps (g.R.Read.remaining l.initial.self.inner) (g.R.Read.remaining l.self.inner) × (l.self.faults ≡ l.initial.self.faults)
