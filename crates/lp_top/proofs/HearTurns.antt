@@ -1,6 +1,5 @@
 -- The reading of an input of which something is said, line by line, and what it is where it halts.
 use Rattle.std.proofs.Common.{◌≡◌, ◌≢◌, ℕ, ◌+◌, ◌-◌, ◌^◌, ◌≤◌, ◌<◌, ◌⊎◌, List, [], ◌∷◌, ◌++◌, length, take, Option, Some, None, Result, Ok, Err, Bool, true, false, arith, ap, sym, ◌∙◌, append_assoc, append-nil, length-append, refl, inl, inr, subst, ⊎_elim}
-use Rattle.std.specs.Io.KnownBytes.{IsAtEnd}
 use Rattle.std.proofs.KnownBytes.{Consumes-nil, Consumes-trans}
 use Rattle.spec_text.specs.Lines.{lines_of, ended_lines_of, input_limit}
 use Rattle.spec_text.proofs.LineLemmas.{lines_of_none}
@@ -117,8 +116,18 @@ module _ {T R : Type 0} {said : T → List (Line (List ℕ)) → Option R} {coun
         says more = ap (said first) (append_one t.lines line more) ∙ t.comes (line ∷ more) ∙ leads more
 
         little : (u : TakesLines after at_start r.bytes new lines) (ended : Bool) →
-            Tells ended after u.raw new.ahead lines → StopsSoon (said first) r.bytes what ⊎ IsAtEnd after
-        little u true whole = inr whole.at_end
+            Tells ended after u.raw new.ahead lines → StopsSoon (said first) r.bytes what ⊎ (said first (lines_of r.bytes) ≡ None)
+        little u true whole = inl (record {
+          lines = t.lines;
+          last = line;
+          undecided = undecided silent;
+          decides = ap (said first) (sym (append-nil lines)) ∙ says [];
+          raw = u.raw;
+          ahead = new.ahead;
+          cut = u.cut;
+          are_lines = whole.all;
+          few = u.near (omega arith);
+        })
         little u false begins = inl (record {
           lines = t.lines;
           last = line;
@@ -151,16 +160,16 @@ module _ {T R : Type 0} {said : T → List (Line (List ℕ)) → Option R} {coun
             ∙ says (ended_lines_of (take (input_limit - length u.raw) (new.ahead ++ more))))
 
     -- and at the end
-    said_at_end : (new : LinesState) → GivesNext now after reading new (Ok End) → (what : R) →
+    said_at_end : said at [] ≡ None → (new : LinesState) → GivesNext now after reading new (Ok End) → (what : R) →
         Leads said count at End (step.Says what) → Hears (said first) before after what
-    said_at_end new g what leads =
+    said_at_end silent new g what leads =
         let all = stops_at_end (reads_until t.reads g) in
         record {
           read = all.read;
           consumed = all.moved;
           is_said =
               inr (record { all = ap (λ ls. said first (ls ++ End ∷ [])) all.all ∙ t.comes (End ∷ []) ∙ leads []; within = all.bound; at_end = all.at_end });
-          soon = inr all.at_end;
+          soon = inr (ap (said first) all.all ∙ undecided silent);
         }
 
     pub says_so : said at [] ≡ None → (new : LinesState) (line : Line (List ℕ)) →
@@ -170,7 +179,7 @@ module _ {T R : Type 0} {said : T → List (Line (List ℕ)) → Option R} {coun
         said_at silent new (line.Text bytes) (reads_line (line.Text bytes) t.reads g (λ h. cc) no_over) what leads
     says_so silent new (line.Long len) g no_over what leads =
         said_at silent new (line.Long len) (reads_line (line.Long len) t.reads g (λ h. cc) no_over) what leads
-    says_so silent new line.End g no_over what leads = said_at_end new g what leads
+    says_so silent new line.End g no_over what leads = said_at_end silent new g what leads
     says_so silent new line.Over g no_over what leads = absurd (no_over refl)
 
     pub stopped : said at [] ≡ None → (new : LinesState) (stop : LineStop) →

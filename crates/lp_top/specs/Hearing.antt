@@ -1,6 +1,6 @@
 -- What is said of an input that is read line by line, and what is read and written of it.
 use Rattle.std.specs.Prelude.{ℕ, ◌≡◌, ◌≢◌, ◌≤◌, ◌<◌, ◌⊎◌, ◌+◌, List, [], ◌∷◌, ◌++◌, length, Option, Some, None, Result, Ok, Err}
-use Rattle.std.specs.Io.KnownBytes.{Consumes, Appends, IsAtEnd}
+use Rattle.std.specs.Io.KnownBytes.{Consumes, Appends}
 use Rattle.spec_text.specs.Lines.{lines_of, input_limit}
 use Rattle.spec_text.specs.declared.line.Line.{Line}
 use Rattle.spec_text.specs.declared.line.Line.TheVariants.{End}
@@ -41,12 +41,13 @@ pub record StopsSoon {R : Type 0} (said : List (Line (List ℕ)) → Option R) (
   pub are_lines : lines_of raw ≡ lines ++ last ∷ []
   pub few : length ahead < buffer_len
 
--- these bytes were read, and this is said of them; and little was read after the line that decides, unless the input has ended
+-- these bytes were read, and this is said of them; and little was read after the line that decides, unless no line does, but
+-- the end of the input
 pub record Hears {R : Type 0} (said : List (Line (List ℕ)) → Option R) (before after : Option (List ℕ)) (what : R) : Type 0 where
   pub read : List ℕ
   pub consumed : Consumes before after read
   pub is_said : IsSaid said after read what
-  pub soon : StopsSoon said read what ⊎ IsAtEnd after
+  pub soon : StopsSoon said read what ⊎ (said (lines_of read) ≡ None)
 
 -- nothing is said of the bytes that were read
 pub record HearsNothing {R : Type 0} (said : List (Line (List ℕ)) → Option R) (before after : Option (List ℕ)) : Type 0 where
