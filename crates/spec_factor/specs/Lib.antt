@@ -1,0 +1,4 @@
+pub mod Factors
+pub mod Basis
+pub mod Revised
+pub mod Over

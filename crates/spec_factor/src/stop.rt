@@ -1,0 +1,13 @@
+// Why a basis has no factors, over the type F of numbers.
+
+use spec_exact::Past;
+use std::fmt::Debug;
+
+/// Why a basis has no factors.
+#[derive(Clone, Copy, Debug, PartialEq, Eq)]
+pub enum NoFactors<F: Debug> {
+    /// A basic column depends on those before it.
+    Singular,
+    /// The operation that is past the limit.
+    Past(Past<F>),
+}
