@@ -4,6 +4,7 @@ ghost use Rattle.spec_exact.specs.Fraction.{0ℚ};
 ghost use Rattle.spec_simplex.specs.Tableau.{all_columns};
 ghost use Rattle.spec_simplex.specs.Step as step;
 ghost use Rattle.lp_frac.specs.Narrow.{largest};
+ghost use Rattle.lp_primal.specs.Ratio.{best_at as best_at_of};
 
 use lp_form::Status;
 use lp_frac::{Frac, Past, abs, cmp, div, neg, sign, sub};
@@ -11,8 +12,8 @@ use lp_tableau::Tableau;
 use spec_simplex::Entering;
 use std::cmp::Ordering;
 
-// The least ratio so far.
-pub(crate) type Best = spec_simplex::Best<Frac>;
+/// The least ratio so far.
+pub type Best = spec_simplex::Best<Frac>;
 
 /// `v`, or its negative where `up` is false.
 pub fn directed(up: bool, v: Frac) -> Frac
@@ -27,8 +28,8 @@ fn other_bound(up: bool) -> Status
     if up { Status::AtUpper } else { Status::AtLower }
 }
 
-// How far the entering column itself may move, where it has both bounds.
-fn range(e: Entering, lower: Option<Frac>, upper: Option<Frac>) -> Result<Option<Best>, Past>
+/// How far the entering column itself may move, where it has both bounds.
+pub fn range(e: Entering, lower: Option<Frac>, upper: Option<Frac>) -> Result<Option<Best>, Past>
     ensures { result ≡ step.range_run (Some largest) e lower upper }
 {
     match (lower, upper) {
@@ -93,18 +94,28 @@ fn better(new: Best, best: Option<Best>) -> Result<Option<Best>, Past>
     }
 }
 
-// The best so far, with position `i`.
-fn best_with(tab: &Tableau, e: Entering, i: u32, best: Option<Best>) -> Result<Option<Best>, Past>
-    requires column { e.col < all_columns tab.now }
-    requires place { i < tab.now.rows }
-    ensures { result ≡ step.best_with (Some largest) tab.now e i best }
+/// A position as the ratio test sees it.
+#[derive(Clone, Copy)]
+pub struct Position {
+    pub place: u32,
+    /// Its basic column.
+    pub col: u32,
+    /// What stands there in the entering column.
+    pub entry: Frac,
+    /// The basic column's bounds and value.
+    pub lower: Option<Frac>,
+    pub upper: Option<Frac>,
+    pub value: Frac,
+}
+
+/// The best so far, with one position, where the entering column rises (`up`) or falls.
+pub fn best_at(up: bool, at: Position, best: Option<Best>) -> Result<Option<Best>, Past>
+    ensures { result ≡ best_at_of up at.place at.col at.entry at.lower at.upper at.value best }
 {
-    let col = tab.basic(i);
-    let entry = tab.entry(i, e.col);
-    match gap(e.up, entry, tab.lower(col), tab.upper(col), tab.value(col))? {
+    match gap(up, at.entry, at.lower, at.upper, at.value)? {
         Some((gap, to)) => {
-            let ratio = div(gap, abs(entry))?;
-            let place = Some(i);
+            let ratio = div(gap, abs(at.entry))?;
+            let (col, place) = (at.col, Some(at.place));
             better(
                 Best {
                     ratio,
@@ -117,6 +128,24 @@ fn best_with(tab: &Tableau, e: Entering, i: u32, best: Option<Best>) -> Result<O
         }
         None => Ok(best),
     }
+}
+
+// The best so far, with position `i`.
+fn best_with(tab: &Tableau, e: Entering, i: u32, best: Option<Best>) -> Result<Option<Best>, Past>
+    requires column { e.col < all_columns tab.now }
+    requires place { i < tab.now.rows }
+    ensures { result ≡ step.best_with (Some largest) tab.now e i best }
+{
+    let col = tab.basic(i);
+    let at = Position {
+        place: i,
+        col,
+        entry: tab.entry(i, e.col),
+        lower: tab.lower(col),
+        upper: tab.upper(col),
+        value: tab.value(col),
+    };
+    best_at(e.up, at, best)
 }
 
 // The least ratio of all, if anything stops the column.

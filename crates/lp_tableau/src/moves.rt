@@ -17,14 +17,15 @@ fn directed(up: bool, v: Frac) -> Frac
     if up { v } else { neg(v) }
 }
 
-fn other_bound(up: bool) -> Status
+/// The bound that a column goes to where it rises, or falls.
+pub fn other_bound(up: bool) -> Status
     ensures { result ≡ other_bound_of up }
 {
     if up { Status::AtUpper } else { Status::AtLower }
 }
 
-// Whether a column of this status rises in a flip.
-fn flip_way(status: Status) -> bool
+/// Whether a column of this status rises in a flip.
+pub fn flip_way(status: Status) -> bool
     ensures { result ≡ flip_way_of status }
 {
     match status {
@@ -33,7 +34,8 @@ fn flip_way(status: Status) -> bool
     }
 }
 
-fn is_place(but: Option<u32>, i: u32) -> bool
+/// Whether position `i` is the one that is named, if one is.
+pub fn is_place(but: Option<u32>, i: u32) -> bool
     ensures { result ≡ is_place_of but i }
 {
     match but {

@@ -20,8 +20,8 @@ use lp_frac::{Frac, Past, cmp, neg, one, sub, zero};
 use std::alloc::{AllocError, Global};
 use std::cmp::Ordering;
 
-// How a row begins.
-type RowStart = spec_simplex::RowStart<Frac>;
+/// How a row begins.
+pub type RowStart = spec_simplex::RowStart<Frac>;
 
 fn first_status(form: &Form, j: u32) -> Status
     requires { j < form.now.cols }
@@ -346,7 +346,8 @@ pub(crate) fn rows(
     Ok(Twins::from_grid(first, others, grid, turns(alloc, starts)?))
 }
 
-fn basics(alloc: Global, form: &Form, starts: &[RowStart]) -> Result<Vec<u32>, AllocError>
+/// The basic column of each position.
+pub fn basics(alloc: Global, form: &Form, starts: &[RowStart]) -> Result<Vec<u32>, AllocError>
     requires { length starts.now ≡ form.now.rows }
     ensures { IfOk result (λ v. v.items ≡ made form.now.rows (starting.start_basic form.now starts.now)) }
 {
@@ -357,7 +358,8 @@ fn basics(alloc: Global, form: &Form, starts: &[RowStart]) -> Result<Vec<u32>, A
     Ok(basics)
 }
 
-fn values(alloc: Global, form: &Form, starts: &[RowStart]) -> Result<Vec<Frac>, AllocError>
+/// The value of each column.
+pub fn values(alloc: Global, form: &Form, starts: &[RowStart]) -> Result<Vec<Frac>, AllocError>
     requires { length starts.now ≡ form.now.rows }
     ensures { IfOk result (λ v. v.items ≡ made (form.now.cols + form.now.rows + form.now.rows) (starting.start_value form.now starts.now)) }
 {
@@ -368,7 +370,8 @@ fn values(alloc: Global, form: &Form, starts: &[RowStart]) -> Result<Vec<Frac>, 
     Ok(values)
 }
 
-fn statuses(alloc: Global, form: &Form, starts: &[RowStart]) -> Result<Vec<Status>, AllocError>
+/// The status of each column.
+pub fn statuses(alloc: Global, form: &Form, starts: &[RowStart]) -> Result<Vec<Status>, AllocError>
     requires { length starts.now ≡ form.now.rows }
     ensures { IfOk result (λ v. v.items ≡ made (form.now.cols + form.now.rows + form.now.rows) (starting.start_status form.now starts.now)) }
 {
@@ -379,7 +382,8 @@ fn statuses(alloc: Global, form: &Form, starts: &[RowStart]) -> Result<Vec<Statu
     Ok(statuses)
 }
 
-pub(crate) fn lowers(alloc: Global, form: &Form) -> Result<Vec<Option<Frac>>, AllocError>
+/// The lower bound of each column.
+pub fn lowers(alloc: Global, form: &Form) -> Result<Vec<Option<Frac>>, AllocError>
     ensures { IfOk result (λ v. v.items ≡ form.now.lower ++ replicate form.now.rows (Some 0ℚ)) }
 {
     let mut lowers = Vec::from_slice(alloc, form.lowers())?;
@@ -389,7 +393,12 @@ pub(crate) fn lowers(alloc: Global, form: &Form) -> Result<Vec<Option<Frac>>, Al
     Ok(lowers)
 }
 
-fn uppers(alloc: Global, form: &Form, starts: &[RowStart]) -> Result<Vec<Option<Frac>>, AllocError>
+/// The upper bound of each column.
+pub fn uppers(
+    alloc: Global,
+    form: &Form,
+    starts: &[RowStart],
+) -> Result<Vec<Option<Frac>>, AllocError>
     ensures { IfOk result (λ v. v.items ≡ form.now.upper ++ map starting.artificial_upper starts.now) }
 {
     let mut uppers = Vec::from_slice(alloc, form.uppers())?;
@@ -406,8 +415,8 @@ pub(crate) fn zeros(alloc: Global, n: usize) -> Result<Vec<Frac>, AllocError>
     Ok(zeros)
 }
 
-// The costs of phase one.
-fn first_costs(alloc: Global, form: &Form, starts: &[RowStart]) -> Result<Vec<Frac>, AllocError>
+/// The costs of phase one.
+pub fn first_costs(alloc: Global, form: &Form, starts: &[RowStart]) -> Result<Vec<Frac>, AllocError>
     ensures { IfOk result (λ v. v.items ≡ starting.first_costs form.now starts.now) }
 {
     let mut costs = zeros(alloc, (form.cols() + form.rows()) as usize)?;
@@ -440,6 +449,15 @@ fn begun(
         lower: lowers(alloc, form)?,
         upper: uppers(alloc, form, starts)?,
     })
+}
+
+/// How all rows begin, in order, with each structural column at its first place.
+pub fn starts(alloc: Global, form: &Form) -> Result<Vec<RowStart>, ColdStop>
+    ensures ok { IfOk result (λ v. list_run form.now.rows (starting.row_start (Some largest) form.now) ≡ Ok v.items) }
+    ensures err { IfErr result (Stops (list_run form.now.rows (starting.row_start (Some largest) form.now))) }
+{
+    let coefficients = coefficients(alloc, form)?;
+    row_starts(alloc, form, &coefficients)
 }
 
 /// The tableau that the form begins with, with the reduced costs of phase one.

@@ -24,7 +24,8 @@ pub(crate) fn less_product(v: Frac, w: Frac, s: Frac) -> Result<Frac, Past>
     lp_frac::less_product(v, w, s)
 }
 
-pub(crate) fn or_zero(bound: Option<Frac>) -> Frac
+/// The bound, or 0 where there is none.
+pub fn or_zero(bound: Option<Frac>) -> Frac
     ensures { result ≡ or_zero_of bound }
 {
     match bound {
@@ -33,8 +34,8 @@ pub(crate) fn or_zero(bound: Option<Frac>) -> Frac
     }
 }
 
-// Where a column of this status stands, between these bounds.
-pub(crate) fn stand(status: Status, lower: Option<Frac>, upper: Option<Frac>) -> Frac
+/// Where a column of this status stands, between these bounds.
+pub fn stand(status: Status, lower: Option<Frac>, upper: Option<Frac>) -> Frac
     ensures { result ≡ stand_of status lower upper }
 {
     match status {

@@ -1,9 +1,12 @@
--- A position with a gap has an entry.
-use Rattle.std.proofs.Common.{sym, ap, ◌∙◌, Some, Ok}
-use Rattle.lp_frac.specs.Narrow.{largest}
-use Rattle.lp_primal.proofs.Ratios.{divides}
+-- The position of the tableau.
+use Rattle.std.proofs.Common.{◌∙◌, ap}
+use Rattle.spec_simplex.specs.Tableau.{lower_at, upper_at, value_at}
+use Rattle.lp_primal.proofs.Positions.{position_is}
 use Rattle.lp_primal.proofs.ratio.best_with.Goals as goal
 
-pub div-requires : goal.div-requires
-div-requires c =
-    λ z. divides (Some largest) c.args.e.up c.entry-entry.result c.lower.result c.upper.result c.value.result c.in-Some.gap c.in-Some.to (sym c.in_ok-gap.ensures ∙ ap Ok c.in-Some.is) (sym c.abs.ensures ∙ z)
+pub returns : goal.returns
+returns c =
+    c.best_at.ensures
+    ∙ position_is c.args.tab.now c.args.e c.args.i c.args.best c.basic-col.result c.entry.result c.lower.result c.upper.result c.value.result c.basic-col.ensures.value c.entry.ensures
+    (c.lower.ensures ∙ ap (lower_at c.args.tab.now) c.basic-col.ensures.value) (c.upper.ensures ∙ ap (upper_at c.args.tab.now) c.basic-col.ensures.value)
+    (c.value.ensures ∙ ap (value_at c.args.tab.now) c.basic-col.ensures.value)
