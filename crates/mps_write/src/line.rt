@@ -1,6 +1,6 @@
 // The lines of cards.
 ghost use Rattle.std.specs.Prelude.{◌≡◌, ◌++◌, ◌-◌, [], ◌∷◌, OnOk, length, replicate};
-ghost use Rattle.spec_mps.specs.Written as told;
+ghost use Rattle.spec_mps.specs.Written as written;
 ghost use Rattle.mps_write.specs.Adds.{Adds, IsAdded, PutsFields, fields_of, is_wide_in};
 
 use crate::fault::WriteFault;
@@ -10,7 +10,7 @@ use std::alloc::{AllocError, Global};
 
 /// The column of fixed form in which a field begins.
 fn first_column(number: u32) -> usize
-    ensures { result ≡ told.first_column number }
+    ensures { result ≡ written.first_column number }
 {
     match number {
         1 => 2,
@@ -24,7 +24,7 @@ fn first_column(number: u32) -> usize
 
 /// The most bytes of a field of fixed form.
 fn field_width(number: u32) -> usize
-    ensures { result ≡ told.field_width number }
+    ensures { result ≡ written.field_width number }
 {
     match number {
         1 => 2,
@@ -60,7 +60,7 @@ pub(crate) struct Writer {
 impl Writer {
     // A field after a line, whatever its width.
     fn place(&self, number: u32, text: &[u8], line: &mut Bytes) -> Result<(), AllocError>
-        ensures { OnOk result (line.new ≡ told.padded self.now.style number line.old ++ text.now) }
+        ensures { OnOk result (line.new ≡ written.padded self.now.style number line.old ++ text.now) }
     {
         match self.style {
             Style::Free => line.push(b' ')?,
@@ -70,7 +70,7 @@ impl Writer {
     }
 
     fn is_wide(&self, number: u32, text: &[u8]) -> bool
-        ensures { result ≡ is_wide_in self.now.style (told.field_at number text.now) }
+        ensures { result ≡ is_wide_in self.now.style (written.field_at number text.now) }
     {
         self.style == Style::Fixed && text.len() > field_width(number)
     }
@@ -90,7 +90,7 @@ impl Writer {
 
     /// A data card.
     pub fn data(&self, fields: &[Field<&[u8]>], to: &mut Bytes) -> Result<(), WriteFault>
-        ensures { Adds self.now.style (told.Data (fields_of fields.now) ∷ []) to.old to.new result }
+        ensures { Adds self.now.style (written.Data (fields_of fields.now) ∷ []) to.old to.new result }
     {
         let mut line = Bytes::new(self.alloc);
         self.fields(fields, &mut line)?;
@@ -101,7 +101,7 @@ impl Writer {
 
     /// A section card of one word.
     pub fn section(&self, word: &[u8], to: &mut Bytes) -> Result<(), AllocError>
-        ensures { OnOk result (IsAdded self.now.style (told.section_card word.now ∷ []) to.old to.new) }
+        ensures { OnOk result (IsAdded self.now.style (written.section_card word.now ∷ []) to.old to.new) }
     {
         let mut line = Bytes::from_slice(self.alloc, word)?;
         line.push(b'\n')?;
@@ -111,7 +111,7 @@ impl Writer {
 
     /// The card of a model's name.
     pub fn name(&self, name: &[u8], to: &mut Bytes) -> Result<(), AllocError>
-        ensures { OnOk result (IsAdded self.now.style (told.name_card name.now ∷ []) to.old to.new) }
+        ensures { OnOk result (IsAdded self.now.style (written.name_card name.now ∷ []) to.old to.new) }
     {
         let mut line = Bytes::from_slice(self.alloc, b"NAME")?;
         if !name.is_empty() {

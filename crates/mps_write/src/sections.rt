@@ -2,8 +2,8 @@
 ghost use Rattle.std.specs.Prelude.{◌≡◌, ◌<◌, [], ◌∷◌, All, IfOk, map};
 ghost use Rattle.std.specs.List.{flat_map, list_any};
 ghost use Rattle.spec_model.specs.Model.{row, column, width, height};
-ghost use Rattle.spec_mps.specs.NumberWritten as written;
-ghost use Rattle.spec_mps.specs.Written as told;
+ghost use Rattle.spec_mps.specs.NumberWritten as number_written;
+ghost use Rattle.spec_mps.specs.Written as written;
 ghost use Rattle.mps_write.specs.Adds.{Adds};
 
 use crate::fault::WriteFault;
@@ -17,7 +17,7 @@ use std::alloc::{AllocError, Global};
 
 /// The word of a kind of rows.
 fn kind_word(kind: Kind) -> &'static [u8]
-    ensures { result.now ≡ told.kind_word kind }
+    ensures { result.now ≡ written.kind_word kind }
 {
     match kind {
         Kind::L => b"L",
@@ -35,7 +35,7 @@ fn field(number: u32, text: &[u8]) -> Field<&[u8]>
 
 impl Writer {
     fn type_card(&self, word: &[u8], name: &[u8], to: &mut Bytes) -> Result<(), WriteFault>
-        ensures { Adds self.now.style (told.type_card word.now name.now ∷ []) to.old to.new result }
+        ensures { Adds self.now.style (written.type_card word.now name.now ∷ []) to.old to.new result }
     {
         self.data(&[field(1, word), field(2, name)], to)
     }
@@ -47,7 +47,7 @@ impl Writer {
         value: &Frac,
         to: &mut Bytes,
     ) -> Result<(), WriteFault>
-        ensures { Adds self.now.style (told.number_card group.now name.now value.now ∷ []) to.old to.new result }
+        ensures { Adds self.now.style (written.number_card group.now name.now value.now ∷ []) to.old to.new result }
     {
         let text = number_text(self.alloc, *value)?;
         self.data(
@@ -57,7 +57,7 @@ impl Writer {
     }
 
     fn unbound_card(&self, kind: &[u8], name: &[u8], to: &mut Bytes) -> Result<(), WriteFault>
-        ensures { Adds self.now.style (told.unbound_card kind.now name.now ∷ []) to.old to.new result }
+        ensures { Adds self.now.style (written.unbound_card kind.now name.now ∷ []) to.old to.new result }
     {
         self.data(&[field(1, kind), field(2, b"BND"), field(3, name)], to)
     }
@@ -69,7 +69,7 @@ impl Writer {
         value: &Frac,
         to: &mut Bytes,
     ) -> Result<(), WriteFault>
-        ensures { Adds self.now.style (told.bound_card kind.now name.now value.now ∷ []) to.old to.new result }
+        ensures { Adds self.now.style (written.bound_card kind.now name.now value.now ∷ []) to.old to.new result }
     {
         let text = number_text(self.alloc, *value)?;
         self.data(
@@ -85,7 +85,7 @@ impl Writer {
 
     /// `ROWS`: the objective and the rows.
     pub fn rows(&self, model: &Model, to: &mut Bytes) -> Result<(), WriteFault>
-        ensures { Adds self.now.style (told.rows_cards model.now) to.old to.new result }
+        ensures { Adds self.now.style (written.rows_cards model.now) to.old to.new result }
     {
         self.section(b"ROWS", to)?;
         self.type_card(b"N", model.objective().as_slice(), to)?;
@@ -93,7 +93,7 @@ impl Writer {
     }
 
     fn row_cards(&self, model: &Model, to: &mut Bytes) -> Result<(), WriteFault>
-        ensures { Adds self.now.style (map told.row_card model.now.rows) to.old to.new result }
+        ensures { Adds self.now.style (map written.row_card model.now.rows) to.old to.new result }
     {
         for i in 0..model.rows() {
             let row = model.row(i);
@@ -104,14 +104,15 @@ impl Writer {
 
     /// `COLUMNS`: each column's cost and its entries.
     pub fn columns(&self, model: &Model, to: &mut Bytes) -> Result<(), WriteFault>
-        ensures { Adds self.now.style (told.columns_cards model.now) to.old to.new result }
+        ensures { Adds self.now.style (written.columns_cards model.now) to.old to.new result }
     {
         self.section(b"COLUMNS", to)?;
         self.column_cards(model, to)
     }
 
     fn column_cards(&self, model: &Model, to: &mut Bytes) -> Result<(), WriteFault>
-        ensures { Adds self.now.style (flat_map (told.column_cards model.now) model.now.columns) to.old to.new result }
+        ensures { Adds self.now.style
+            (flat_map (written.column_cards model.now) model.now.columns) to.old to.new result }
     {
         for j in 0..model.cols() {
             self.column(model, j, to)?;
@@ -121,7 +122,7 @@ impl Writer {
 
     fn column(&self, model: &Model, j: u32, to: &mut Bytes) -> Result<(), WriteFault>
         requires { j < width model.now }
-        ensures { Adds self.now.style (told.column_cards model.now (column model.now j)) to.old to.new result }
+        ensures { Adds self.now.style (written.column_cards model.now (column model.now j)) to.old to.new result }
     {
         let column = model.col(j);
         let name = column.name.as_slice();
@@ -137,7 +138,8 @@ impl Writer {
         to: &mut Bytes,
     ) -> Result<(), WriteFault>
         requires { All (λ e. e.0 < height model.now) entries.now }
-        ensures { Adds self.now.style (map (λ e. told.number_card name.now (row model.now e.0).name e.1) entries.now) to.old to.new result }
+        ensures { Adds self.now.style
+            (map (λ e. written.number_card name.now (row model.now e.0).name e.1) entries.now) to.old to.new result }
     {
         for (i, value) in entries {
             self.number_card(name, model.row(*i).name.as_slice(), value, to)?;
@@ -147,7 +149,7 @@ impl Writer {
 
     /// `RHS`: the right sides that are not 0.
     pub fn sides(&self, model: &Model, to: &mut Bytes) -> Result<(), WriteFault>
-        ensures { Adds self.now.style (told.sides_cards model.now) to.old to.new result }
+        ensures { Adds self.now.style (written.sides_cards model.now) to.old to.new result }
     {
         self.section(b"RHS", to)?;
         self.side(model.objective().as_slice(), &neg(model.offset()), to)?;
@@ -155,7 +157,8 @@ impl Writer {
     }
 
     fn row_sides(&self, model: &Model, to: &mut Bytes) -> Result<(), WriteFault>
-        ensures { Adds self.now.style (flat_map (λ r. told.side_cards r.name r.rhs) model.now.rows) to.old to.new result }
+        ensures { Adds self.now.style
+            (flat_map (λ r. written.side_cards r.name r.rhs) model.now.rows) to.old to.new result }
     {
         for i in 0..model.rows() {
             let row = model.row(i);
@@ -165,7 +168,7 @@ impl Writer {
     }
 
     fn side(&self, name: &[u8], value: &Frac, to: &mut Bytes) -> Result<(), WriteFault>
-        ensures { Adds self.now.style (told.side_cards name.now value.now) to.old to.new result }
+        ensures { Adds self.now.style (written.side_cards name.now value.now) to.old to.new result }
     {
         if is_zero(*value) {
             return Ok(());
@@ -175,7 +178,7 @@ impl Writer {
 
     /// `RANGES`, where a row has one.
     pub fn ranges(&self, model: &Model, to: &mut Bytes) -> Result<(), WriteFault>
-        ensures { Adds self.now.style (told.ranges_cards model.now) to.old to.new result }
+        ensures { Adds self.now.style (written.ranges_cards model.now) to.old to.new result }
     {
         if !has_ranges(model) {
             return Ok(());
@@ -185,7 +188,8 @@ impl Writer {
     }
 
     fn row_ranges(&self, model: &Model, to: &mut Bytes) -> Result<(), WriteFault>
-        ensures { Adds self.now.style (flat_map (λ r. told.range_cards r.name r.range) model.now.rows) to.old to.new result }
+        ensures { Adds self.now.style
+            (flat_map (λ r. written.range_cards r.name r.range) model.now.rows) to.old to.new result }
     {
         for i in 0..model.rows() {
             let row = model.row(i);
@@ -195,7 +199,7 @@ impl Writer {
     }
 
     fn range(&self, name: &[u8], range: Option<Frac>, to: &mut Bytes) -> Result<(), WriteFault>
-        ensures { Adds self.now.style (told.range_cards name.now range) to.old to.new result }
+        ensures { Adds self.now.style (written.range_cards name.now range) to.old to.new result }
     {
         match range {
             None => Ok(()),
@@ -205,7 +209,7 @@ impl Writer {
 
     /// `BOUNDS`, where a column has others than 0 and none.
     pub fn bounds(&self, model: &Model, to: &mut Bytes) -> Result<(), WriteFault>
-        ensures { Adds self.now.style (told.bounds_cards model.now) to.old to.new result }
+        ensures { Adds self.now.style (written.bounds_cards model.now) to.old to.new result }
     {
         if !has_bounds(model) {
             return Ok(());
@@ -215,7 +219,8 @@ impl Writer {
     }
 
     fn column_bounds(&self, model: &Model, to: &mut Bytes) -> Result<(), WriteFault>
-        ensures { Adds self.now.style (flat_map (λ c. told.bound_cards c.name c.lower c.upper) model.now.columns) to.old to.new result }
+        ensures { Adds self.now.style
+            (flat_map (λ c. written.bound_cards c.name c.lower c.upper) model.now.columns) to.old to.new result }
     {
         for j in 0..model.cols() {
             let column = model.col(j);
@@ -231,7 +236,7 @@ impl Writer {
         upper: Option<Frac>,
         to: &mut Bytes,
     ) -> Result<(), WriteFault>
-        ensures { Adds self.now.style (told.bound_cards name.now lower upper) to.old to.new result }
+        ensures { Adds self.now.style (written.bound_cards name.now lower upper) to.old to.new result }
     {
         match lower {
             None => self.upper_cards(name, upper, to),
@@ -249,7 +254,7 @@ impl Writer {
         upper: Option<Frac>,
         to: &mut Bytes,
     ) -> Result<(), WriteFault>
-        ensures { Adds self.now.style (told.bound_cards name.now None upper) to.old to.new result }
+        ensures { Adds self.now.style (written.bound_cards name.now None upper) to.old to.new result }
     {
         match upper {
             None => self.unbound_card(b"FR", name, to),
@@ -261,7 +266,7 @@ impl Writer {
     }
 
     fn lower_cards(&self, name: &[u8], lower: Frac, to: &mut Bytes) -> Result<(), WriteFault>
-        ensures { Adds self.now.style (told.bound_cards name.now (Some lower) None) to.old to.new result }
+        ensures { Adds self.now.style (written.bound_cards name.now (Some lower) None) to.old to.new result }
     {
         if is_zero(lower) {
             return Ok(());
@@ -276,7 +281,7 @@ impl Writer {
         upper: Frac,
         to: &mut Bytes,
     ) -> Result<(), WriteFault>
-        ensures { Adds self.now.style (told.bound_cards name.now (Some lower) (Some upper)) to.old to.new result }
+        ensures { Adds self.now.style (written.bound_cards name.now (Some lower) (Some upper)) to.old to.new result }
     {
         if is_equal(lower, upper) {
             return self.bound_card(b"FX", name, &lower, to);
@@ -290,7 +295,7 @@ impl Writer {
 }
 
 fn has_ranges(model: &Model) -> bool
-    ensures { result ≡ list_any told.has_range model.now.rows }
+    ensures { result ≡ list_any written.has_range model.now.rows }
 {
     for i in 0..model.rows() {
         if model.row(i).range.is_some() {
@@ -301,7 +306,7 @@ fn has_ranges(model: &Model) -> bool
 }
 
 fn has_bounds(model: &Model) -> bool
-    ensures { result ≡ list_any told.has_bounds model.now.columns }
+    ensures { result ≡ list_any written.has_bounds model.now.columns }
 {
     for j in 0..model.cols() {
         let column = model.col(j);
@@ -314,7 +319,7 @@ fn has_bounds(model: &Model) -> bool
 
 /// A lower bound 0 and no upper one.
 fn is_usual(lower: Option<Frac>, upper: Option<Frac>) -> bool
-    ensures { result ≡ told.is_usual lower upper }
+    ensures { result ≡ written.is_usual lower upper }
 {
     match (lower, upper) {
         (Some(l), None) => is_zero(l),

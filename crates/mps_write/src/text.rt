@@ -1,6 +1,6 @@
 // Whole texts.
 ghost use Rattle.std.specs.Prelude.{◌≡◌, ◌∷◌, IfOk};
-ghost use Rattle.spec_mps.specs.Written as told;
+ghost use Rattle.spec_mps.specs.Written as written;
 ghost use Rattle.mps_write.specs.Adds.{Adds, GivesText, IsFixed, front_cards, back_cards};
 
 use crate::fault::WriteFault;
@@ -12,7 +12,7 @@ use std::alloc::{AllocError, Global};
 
 impl Writer {
     fn sense(&self, sense: Sense, to: &mut Bytes) -> Result<(), WriteFault>
-        ensures { Adds self.now.style (told.sense_cards sense) to.old to.new result }
+        ensures { Adds self.now.style (written.sense_cards sense) to.old to.new result }
     {
         if sense == Sense::Max {
             self.section(b"OBJSENSE MAX", to)?;
@@ -22,7 +22,8 @@ impl Writer {
 
     // What stands before `ROWS`.
     fn start(&self, model: &Model, to: &mut Bytes) -> Result<(), WriteFault>
-        ensures { Adds self.now.style (told.name_card model.now.name ∷ told.sense_cards model.now.sense) to.old to.new result }
+        ensures { Adds self.now.style
+            (written.name_card model.now.name ∷ written.sense_cards model.now.sense) to.old to.new result }
     {
         self.name(model.name().as_slice(), to)?;
         self.sense(model.sense(), to)
@@ -48,7 +49,7 @@ impl Writer {
     }
 
     fn cards(&self, model: &Model, to: &mut Bytes) -> Result<(), WriteFault>
-        ensures { Adds self.now.style (told.cards_of model.now) to.old to.new result }
+        ensures { Adds self.now.style (written.cards_of model.now) to.old to.new result }
     {
         self.front(model, to)?;
         self.back(model, to)
@@ -56,7 +57,7 @@ impl Writer {
 }
 
 fn text_of(alloc: Global, style: Style, model: &Model) -> Result<Bytes, WriteFault>
-    ensures { GivesText style (told.cards_of model.now) result }
+    ensures { GivesText style (written.cards_of model.now) result }
 {
     let mut text = Bytes::new(alloc);
     Writer { alloc, style }.cards(model, &mut text)?;
@@ -65,7 +66,7 @@ fn text_of(alloc: Global, style: Style, model: &Model) -> Result<Bytes, WriteFau
 
 /// The text of a model in free form.
 pub fn free(alloc: Global, model: &Model) -> Result<Bytes, AllocError>
-    ensures { IfOk result (λ text. text ≡ told.free model.now) }
+    ensures { IfOk result (λ text. text ≡ written.free model.now) }
 {
     match text_of(alloc, Style::Free, model) {
         Ok(text) => Ok(text),
