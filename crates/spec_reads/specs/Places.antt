@@ -1,0 +1,51 @@
+-- Places, and how they answer what is read of them.
+use Rattle.std.specs.Prelude.{ℕ, suc, zero, ◌≡◌, ◌⊎◌, ◌<◌, ◌++◌, Option, Some, None, List, [], ◌∷◌, length, map}
+use Rattle.spec_reads.specs.declared.place.Place.{Place}
+use Rattle.spec_reads.specs.declared.place.Place.TheVariants as place
+use Rattle.spec_reads.specs.declared.read.Read.TheVariants.{Count, NotDone, Seen, Claim, Lost, Done}
+use Rattle.spec_reads.specs.Reads.{Words, ExactRead, front}
+
+-- the places that are claimed, in the order in which they were
+abbrev pub ExactPlace : Type 0
+ExactPlace = Place Words
+
+-- place k, if it is claimed
+abbrev pub place_at : List ExactPlace → ℕ → Option ExactPlace
+place_at [] k = None
+place_at (p ∷ ps) zero = Some p
+place_at (p ∷ ps) (suc k) = place_at ps k
+
+abbrev pub with_place : List ExactPlace → ℕ → ExactPlace → List ExactPlace
+with_place [] k new = []
+with_place (p ∷ ps) zero new = new ∷ ps
+with_place (p ∷ ps) (suc k) new = p ∷ with_place ps k new
+
+-- all its words, or those in front
+abbrev pub IsShown : Words → Words → Type 0
+IsShown payload words = (words ≡ payload) ⊎ (words ≡ front payload)
+
+-- With so many places in all, and these claimed, a session may make this read, and then these are claimed.
+abbrev pub Answers : ℕ → List ExactPlace → ℕ → ExactRead → List ExactPlace → Type 0
+Answers places now session (Count c) next = (c ≡ length now) × (next ≡ now)
+Answers places now session (NotDone k) next = (owner : ℕ) × (place_at now k ≡ Some (place.Claimed owner)) × (next ≡ now)
+Answers places now session (Seen k words) next =
+    (payload : Words) × (place_at now k ≡ Some (place.Done payload)) × IsShown payload words × (next ≡ now)
+Answers places now session (Claim k) next =
+    (k ≡ length now) × (k < places) × (next ≡ now ++ place.Claimed session ∷ [])
+Answers places now session (Lost c) next = (c ≡ length now) × (next ≡ now)
+Answers places now session (Done k words) next =
+    (place_at now k ≡ Some (place.Claimed session)) × (next ≡ with_place now k (place.Done words))
+
+-- a read of a session
+pub record Logged : Type 0 where
+  pub session : ℕ
+  pub read : ExactRead
+
+abbrev pub logged : ℕ → List ExactRead → List Logged
+logged session reads = map (λ read. record { session = session; read = read }) reads
+
+-- the reads of all sessions in one order, each answered by the places as they are then
+abbrev pub Plays : ℕ → List ExactPlace → List Logged → List ExactPlace → Type 0
+Plays places now [] last = last ≡ now
+Plays places now (x ∷ log) last =
+    (next : List ExactPlace) × Answers places now x.session x.read next × Plays places next log last

@@ -1,0 +1,73 @@
+-- What one session reads and writes of the places: a look and a put, by their reads in order.
+use Rattle.std.specs.Prelude.{ℕ, suc, zero, ◌≡◌, ◌<◌, Bool, true, false, Option, Some, None, List, [], ◌∷◌, length}
+use Rattle.std.specs.Prelude.{take, if◌then◌else◌}
+use Rattle.spec_text.specs.Words.{same}
+use Rattle.spec_reads.specs.declared.read.Found.{Found}
+use Rattle.spec_reads.specs.declared.read.Put.{Put}
+use Rattle.spec_reads.specs.declared.read.Put.TheVariants.{Published, Full, Raced}
+use Rattle.spec_reads.specs.declared.read.Read.{Read}
+use Rattle.spec_reads.specs.declared.read.Read.TheVariants.{Count, NotDone, Seen, Claim, Lost, Done}
+
+abbrev pub Words : Type 0
+Words = List ℕ
+
+abbrev pub ExactRead : Type 0
+ExactRead = Read Words
+
+-- ---- the words of a place
+
+-- a basis has so many words, of which those in front are its shape
+abbrev pub basis_words : ℕ
+basis_words = 49
+
+abbrev pub shape_words : ℕ
+shape_words = 25
+
+abbrev pub front : Words → Words
+front words = take shape_words words
+
+abbrev pub has_shape : Words → Words → Bool
+has_shape shape words = same (front words) shape
+
+-- what is read of a place that is done: all its words where they have the shape, and else those in front
+abbrev pub shown : Words → Words → Words
+shown shape words = if has_shape shape words then words else front words
+
+-- ---- looks
+
+-- what a look found, if it found a place
+abbrev pub Looked : Type 0
+Looked = Option (Found Words)
+
+-- What a place done with these words is for a look: the one that is found, of which all words are read and after which
+-- nothing is; or one to pass over, of which only the words in front are read.
+abbrev pub SeenBy : Bool → ℕ → Words → List ExactRead → Looked → Type 0 → Type 0
+SeenBy true k words reads found Rest =
+    (length words ≡ basis_words) × (reads ≡ []) × (found ≡ Some (record { place = k; words = words }))
+SeenBy false k words reads found Rest = (front words ≡ words) × Rest
+
+-- From place k - 1 down the places are read one by one, to the first one that is done with the shape; it is found, and
+-- without one nothing is.
+abbrev pub SeesDown : Words → ℕ → List ExactRead → Looked → Type 0
+SeesDown shape zero reads found = (reads ≡ []) × (found ≡ None)
+SeesDown shape (suc k) [] found = ⊥
+SeesDown shape (suc k) (NotDone j ∷ reads) found = (j ≡ k) × SeesDown shape k reads found
+SeesDown shape (suc k) (Seen j words ∷ reads) found =
+    (j ≡ k) × SeenBy (has_shape shape words) k words reads found (SeesDown shape k reads found)
+SeesDown shape (suc k) (other ∷ reads) found = ⊥
+
+-- a look: how many places are claimed, and then these places from the newest down
+pub record LookReads (shape : Words) (reads : List ExactRead) (found : Looked) : Type 0 where
+  pub count : ℕ
+  pub seen : List ExactRead
+  pub down : SeesDown shape count seen found
+  pub all : reads ≡ Count count ∷ seen
+
+-- ---- puts
+
+-- With so many places, a put of these words: one is claimed and written; or another session was quicker; or all are
+-- claimed.
+abbrev pub PutReads : ℕ → Words → Put → List ExactRead → Type 0
+PutReads places words (Published k) reads = (k < places) × (reads ≡ Count k ∷ Claim k ∷ Done k words ∷ [])
+PutReads places words (Raced e) reads = (c : ℕ) × (c < e) × (reads ≡ Count c ∷ Lost e ∷ [])
+PutReads places words (Full c) reads = (c ≡ places) × (reads ≡ Count c ∷ [])
