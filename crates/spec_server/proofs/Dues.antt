@@ -1,146 +1,200 @@
 -- What is due to each ask can be done, with memory enough, where models are ones that may be kept.
-use Rattle.std.proofs.Common.{◌≡◌, ℕ, false, List, Option, Some, None, Ok, Err, refl, sym, ◌∙◌, subst, ◌⊎◌, inl, inr}
+use Rattle.std.proofs.Common.{◌≡◌, ℕ, false, List, [], ◌∷◌, Option, Some, None, Result, Ok, Err, refl, inl}
 use Rattle.std.specs.Prelude.{IfSome}
 use Rattle.spec_exact.specs.Fraction.{ℚ}
-use Rattle.spec_exact.specs.declared.past.Past.{Past}
 use Rattle.spec_model.specs.Model.{Model, Name}
 use Rattle.spec_model.specs.Kept.{IsModel}
 use Rattle.spec_mps.specs.declared.style.Style.{Style}
 use Rattle.spec_mps.specs.declared.style.Style.TheVariants as style
 use Rattle.spec_mps.specs.Written.{too_wide}
 use Rattle.spec_check.specs.declared.certificate.Certificate.{Certificate}
-use Rattle.spec_check.specs.declared.certificate.Known.{Known}
 use Rattle.spec_check.specs.declared.certificate.SettleFault.TheVariants as settle
-use Rattle.spec_check.specs.Certificate.{IsFor}
 use Rattle.spec_check.specs.Settle.{Settled, certificate_for}
 use Rattle.spec_check.specs.Text.{ExactRaw}
 use Rattle.spec_edit.specs.declared.edit.EditFault.{EditFault}
 use Rattle.spec_edit.specs.declared.edit.EditFault.TheVariants as fault
 use Rattle.spec_edit.specs.Edited.{ExactEdit, OrFault, IsKeptEdit, edited}
 use Rattle.spec_edit.proofs.EditsKeep.{edited-kept}
-use Rattle.spec_pivot.specs.declared.status.Status.{Status}
-use Rattle.spec_cold.specs.declared.outcome.Cold.TheVariants as outcome
+use Rattle.spec_simplex.specs.declared.ends.FormFault.{FormFault}
+use Rattle.spec_simplex.specs.Form.{Form, form_of}
 use Rattle.spec_cold.specs.Cold.{ColdEnd, cold}
-use Rattle.spec_cold.proofs.Solved.{by_end, ended_is_true}
-use Rattle.spec_cold.proofs.LimitPhases.{cold_same}
+use Rattle.spec_warm.specs.declared.ends.Route.TheVariants as route
+use Rattle.spec_reads.specs.declared.read.Put.TheVariants.{Full}
+use Rattle.spec_reads.specs.declared.read.Read.TheVariants.{Count}
+use Rattle.spec_reads.specs.Reads.{Words, ExactRead}
+use Rattle.spec_server.specs.declared.answer.How.TheVariants as how
+use Rattle.spec_server.specs.declared.answer.Publication.{Publication}
+use Rattle.spec_server.specs.declared.answer.Publication.TheVariants as publication
 use Rattle.spec_server.specs.declared.asks.Ask.TheVariants as ask
-use Rattle.spec_server.specs.declared.asks.Reply.TheVariants as reply
-use Rattle.spec_server.specs.declared.command.Plain.TheVariants as plain
+use Rattle.spec_server.specs.declared.command.Plain.TheVariants as command
 use Rattle.spec_server.specs.Answers.{number_limit, IsSolved}
+use Rattle.spec_server.specs.Machine.{ExactAsk, ExactReply, ExactLastAnswer, IsKeptAsk, State, is_memory, verdict_on}
+use Rattle.spec_server.specs.Machine.{check_reply, fixed_reply, text_reply, write_reply, cert_reply, how_reply, Due}
+use Rattle.spec_server.specs.Machine.{Replies, Solves, solve_due, edit_refusal, edit_due, change_due, due}
 use Rattle.spec_server.proofs.NarrowCold.{cold_narrow}
-use Rattle.spec_server.specs.Machine.{ExactAsk, ExactReply, ExactLastAnswer, IsKeptAsk, State, is_memory, verdict_on, check_reply, fixed_reply, text_reply, write_reply, cert_reply, how_reply, answer_of, Due, Replies, Solves, solve_due, edit_refusal, edit_due, change_due, due, with_solved, Does}
+use Rattle.spec_server.proofs.Solves.{cold_fits, cold_solved}
+use Rattle.spec_server.specs.Step.{answered, with_answer, solve_begun, begun_by, words_of_end, worked_with, Concludes}
+use Rattle.spec_server.specs.Step.{GoesOn, AloneStep}
 
 -- ---- the cold solve at the limit is a solve that is allowed
 
-cold_fits : (limit : Option ℕ) (budget : ℕ) (m : Model) (known : Known ℚ) (c : Certificate (List ℚ)) (basis : Option (List Status)) (pivots : ℕ) →
-    cold limit budget m ≡ outcome.Ended known c basis pivots → IsFor m c
-cold_fits limit budget m known c basis pivots =
-    by_end limit budget m (λ e. e ≡ outcome.Ended known c basis pivots → IsFor m c)
-    (λ a d basis' pivots' t e. let same : d ≡ c = cc in subst (IsFor m) same t.accepted.fits)
-    (λ p e. let z : ◌≡◌ {A = ColdEnd} (outcome.Past p) (outcome.Ended known c basis pivots) = e in cc)
-    (λ f p q e. let z : ◌≡◌ {A = ColdEnd} outcome.Spent (outcome.Ended known c basis pivots) = e in cc)
+pub cold_is_solved : (m : Model) (budget : ℕ) → IsModel m →
+    IsSolved m budget None (record { end = cold (Some number_limit) budget m; route = route.Cold })
+cold_is_solved m budget kept =
+    cold_solved m budget
+    (λ known c basis pivots e. (
+      cold_fits (Some number_limit) budget m known c basis pivots e,
+      cold_narrow known c basis pivots budget m kept e,
+    ))
 
-past_is_no_end : (p : Past ℚ) (known : Known ℚ) (c : Certificate (List ℚ)) (basis : Option (List Status)) (pivots : ℕ) →
-    ◌≡◌ {A = ColdEnd} (outcome.Past p) (outcome.Ended known c basis pivots) → ⊥
-past_is_no_end p known c basis pivots e = cc
+-- ---- with no place claimed for the look, and all of them for the put
 
-cold_unlimited : (budget : ℕ) (m : Model) (known : Known ℚ) (c : Certificate (List ℚ)) (basis : Option (List Status)) (pivots : ℕ) →
-    (cold (Some number_limit) budget m ≡ cold None budget m) ⊎ ((p : Past ℚ) × (cold (Some number_limit) budget m ≡ outcome.Past p)) →
-    cold (Some number_limit) budget m ≡ outcome.Ended known c basis pivots → cold None budget m ≡ outcome.Ended known c basis pivots
-cold_unlimited budget m known c basis pivots (inl h) e = sym h ∙ e
-cold_unlimited budget m known c basis pivots (inr h) e = absurd (past_is_no_end h.0 known c basis pivots (sym h.1 ∙ e))
+abbrev put_reads : ℕ → Option Words → List ExactRead
+put_reads places None = []
+put_reads places (Some words) = Count places ∷ []
 
-solved_as : (m : Model) (budget : ℕ) (solved : ColdEnd) → IsModel m → cold (Some number_limit) budget m ≡ solved →
-    IsSolved m budget solved
-solved_as m budget (outcome.Ended known c basis pivots) kept e = record {
-  may_answer = (
-    cold_fits (Some number_limit) budget m known c basis pivots e,
-    cold_narrow known c basis pivots budget m kept e,
-    (ended_is_true (Some number_limit) budget m known c basis pivots e).1,
-  );
-  how_fits = cold_unlimited budget m known c basis pivots (cold_same (Some number_limit) budget m) e;
-  without_form = λ fault no_form. sym e;
-}
-solved_as m budget (outcome.Past p) kept e =
-    record { may_answer = e; how_fits = tt; without_form = λ fault no_form. sym e }
-solved_as m budget outcome.Spent kept e =
-    record { may_answer = e; how_fits = tt; without_form = λ fault no_form. sym e }
+abbrev put_ends : ℕ → Option Words → Publication
+put_ends places None = publication.Nothing
+put_ends places (Some words) = publication.Tried (Full places)
 
-pub cold_is_solved : (m : Model) (budget : ℕ) → IsModel m → IsSolved m budget (cold (Some number_limit) budget m)
-cold_is_solved m budget kept = solved_as m budget (cold (Some number_limit) budget m) kept refl
+abbrev solve_reads : ℕ → ColdEnd → Result Form (FormFault ℚ) → List ExactRead
+solve_reads places end (Ok f) = Count 0 ∷ put_reads places (words_of_end f end)
+solve_reads places end (Err why) = []
+
+abbrev solve_ends : ℕ → ColdEnd → Result Form (FormFault ℚ) → Publication
+solve_ends places end (Ok f) = put_ends places (words_of_end f end)
+solve_ends places end (Err why) = publication.Nothing
 
 -- ---- what is due is done
 
+abbrev cold_end : State → Model → ColdEnd
+cold_end state m = cold (Some number_limit) state.budget m
+
+abbrev due_reads : ℕ → State → Due → List ExactRead
+due_reads places state (Replies replied next) = []
+due_reads places state (Solves m) = solve_reads places (cold_end state m) (form_of (Some number_limit) m)
+
 abbrev due_reply : State → Due → ExactReply
 due_reply state (Replies replied next) = replied
-due_reply state (Solves m) = reply.Answered (answer_of state.budget (cold (Some number_limit) state.budget m))
+due_reply state (Solves m) = answered state (cold_end state m)
 
-abbrev pub due_next : State → Due → State
-due_next state (Replies replied next) = next
-due_next state (Solves m) = with_solved state (cold (Some number_limit) state.budget m)
+abbrev pub due_next : ℕ → State → Due → State
+due_next places state (Replies replied next) = next
+due_next places state (Solves m) =
+    with_answer state (cold_end state m) how.Cold (solve_ends places (cold_end state m) (form_of (Some number_limit) m))
 
--- a model that is to be solved
-abbrev IsKeptDue : Due → Type 0
-IsKeptDue (Replies replied next) = Unit {0}
-IsKeptDue (Solves m) = IsModel m
+-- a model that is held, and is to be solved, may be kept
+abbrev IsKeptDue : State → Due → Type 0
+IsKeptDue state (Replies replied next) = Unit {0}
+IsKeptDue state (Solves m) = (state.model ≡ Some m) × IsModel m
 
-does : (state : State) (what : Due) → IsKeptDue what → Does state what (due_reply state what) (due_next state what)
-does state (Replies replied next) h = (refl, refl)
-does state (Solves m) h =
-    record { solved = cold (Some number_limit) state.budget m; is_solved = cold_is_solved m state.budget h; answer = refl; kept = refl }
+module _ (places : ℕ) (state : State) where
+  -- after the look
+  concludes : (end : ColdEnd) (words : Option Words) →
+      Concludes places state (worked_with state None end how.Cold words) (Count 0 ∷ [])
+      (Count 0 ∷ put_reads places words) (answered state end)
+      (with_answer state end how.Cold (put_ends places words))
+  concludes end None = (refl, refl, refl)
+  concludes end (Some words) =
+      record {
+        put = Full places;
+        tried = Count places ∷ [];
+        puts = (refl, refl);
+        all = refl;
+        answer = refl;
+        kept = refl;
+      }
+
+  solve_goes_on : (m : Model) (r : Result Form (FormFault ℚ)) → form_of (Some number_limit) m ≡ r →
+      state.model ≡ Some m →
+      IsModel m →
+      GoesOn places state (solve_begun state m r) (solve_reads places (cold_end state m) r)
+      (answered state (cold_end state m))
+      (with_answer state (cold_end state m) how.Cold (solve_ends places (cold_end state m) r))
+  solve_goes_on m (Err why) is held kept = (refl, refl, refl)
+  solve_goes_on m (Ok f) is held kept = record {
+    looked = Count 0 ∷ [];
+    found = None;
+    worked = worked_with state None (cold_end state m) how.Cold (words_of_end f (cold_end state m));
+    look = record { count = 0; seen = []; down = (refl, refl); all = refl };
+    works = inl (record {
+      model = m;
+      form = f;
+      solved = record { end = cold_end state m; route = route.Cold };
+      held = held;
+      formed = is;
+      is_solved = cold_is_solved m state.budget kept;
+      goes_on = refl;
+    });
+    concludes = concludes (cold_end state m) (words_of_end f (cold_end state m));
+  }
+
+  does : (what : Due) → IsKeptDue state what →
+      GoesOn places state (begun_by state what) (due_reads places state what) (due_reply state what)
+      (due_next places state what)
+  does (Replies replied next) h = (refl, refl, refl)
+  does (Solves m) h = solve_goes_on m (form_of (Some number_limit) m) refl h.0 h.1
 
 abbrev pub IsKeptState : State → Type 0
 IsKeptState state = IfSome state.model IsModel
 
-solve_kept : (state : State) (held : Option Model) → IfSome held IsModel → IsKeptDue (solve_due state held)
-solve_kept state None h = tt
-solve_kept state (Some m) h = h
+module _ (state : State) where
+  solve_kept : (held : Option Model) → state.model ≡ held → IfSome held IsModel → IsKeptDue state (solve_due state held)
+  solve_kept None e h = tt
+  solve_kept (Some m) e h = (e, h)
 
-edit_solves_none : (state : State) (r : OrFault Model) → IsKeptDue (edit_due state r)
-edit_solves_none state (Ok m) = tt
-edit_solves_none state (Err why) = tt
+  edit_solves_none : (r : OrFault Model) → IsKeptDue state (edit_due state r)
+  edit_solves_none (Ok m) = tt
+  edit_solves_none (Err why) = tt
 
-change_solves_none : (state : State) (held : Option Model) (e : ExactEdit) → IsKeptDue (change_due state held e)
-change_solves_none state None e = tt
-change_solves_none state (Some m) e = edit_solves_none state (edited m e)
+  change_solves_none : (held : Option Model) (e : ExactEdit) → IsKeptDue state (change_due state held e)
+  change_solves_none None e = tt
+  change_solves_none (Some m) e = edit_solves_none (edited m e)
 
-due_kept : (state : State) (asked : ExactAsk) → IsKeptState state → IsKeptDue (due state asked)
-due_kept state (ask.Plain plain.Solve) h = solve_kept state state.model h
-due_kept state (ask.Plain (plain.Change e)) h = change_solves_none state state.model e
-due_kept state asked h = tt
+  due_kept : (asked : ExactAsk) → IsKeptState state → IsKeptDue state (due state asked)
+  due_kept (ask.Plain command.Solve) h = solve_kept state.model refl h
+  due_kept (ask.Plain (command.Change e)) h = change_solves_none state.model e
+  due_kept asked h = tt
+
+abbrev pub reads_of : ℕ → State → ExactAsk → List ExactRead
+reads_of places state asked = due_reads places state (due state asked)
 
 abbrev pub reply_to : State → ExactAsk → ExactReply
 reply_to state asked = due_reply state (due state asked)
 
-abbrev pub state_after : State → ExactAsk → State
-state_after state asked = due_next state (due state asked)
+abbrev pub state_after : ℕ → State → ExactAsk → State
+state_after places state asked = due_next places state (due state asked)
 
-pub does_due : (state : State) (asked : ExactAsk) → IsKeptState state →
-    Does state (due state asked) (reply_to state asked) (state_after state asked)
-does_due state asked h = does state (due state asked) (due_kept state asked h)
+-- each step may be taken
+pub good_step : (places : ℕ) (state : State) (asked : ExactAsk) → IsKeptState state →
+    AloneStep places state asked (reads_of places state asked) (reply_to state asked) (state_after places state asked)
+good_step places state asked h = record {
+  begun = begun_by state (due state asked);
+  begins = inl refl;
+  goes_on = does places state (due state asked) (due_kept state asked h);
+}
 
-after_solve : (state : State) (held : Option Model) → IsKeptState state →
-    IsKeptState (due_next state (solve_due state held))
-after_solve state None h = h
-after_solve state (Some m) h = h
+module _ (places : ℕ) (state : State) (h : IsKeptState state) where
+  after_solve : (held : Option Model) → IsKeptState (due_next places state (solve_due state held))
+  after_solve None = h
+  after_solve (Some m) = h
 
-after_edit : (state : State) (r : OrFault Model) → IsKeptState state → ((m : Model) → r ≡ Ok m → IsModel m) →
-    IsKeptState (due_next state (edit_due state r))
-after_edit state (Ok m) h go = go m refl
-after_edit state (Err why) h go = h
+  after_edit : (r : OrFault Model) → ((m : Model) → r ≡ Ok m → IsModel m) →
+      IsKeptState (due_next places state (edit_due state r))
+  after_edit (Ok m) go = go m refl
+  after_edit (Err why) go = h
 
-after_change : (state : State) (held : Option Model) (e : ExactEdit) → IsKeptState state → IfSome held IsModel →
-    IsKeptEdit e → IsKeptState (due_next state (change_due state held e))
-after_change state None e h kept may = h
-after_change state (Some m) e h kept may = after_edit state (edited m e) h (λ n is. edited-kept m n e kept may is)
+  after_change : (held : Option Model) (e : ExactEdit) → IfSome held IsModel → IsKeptEdit e →
+      IsKeptState (due_next places state (change_due state held e))
+  after_change None e kept may = h
+  after_change (Some m) e kept may = after_edit (edited m e) (λ n is. edited-kept m n e kept may is)
 
-pub after_kept : (state : State) (asked : ExactAsk) → IsKeptState state → IsKeptAsk asked →
-    IsKeptState (state_after state asked)
-after_kept state (ask.Plain plain.Solve) h k = after_solve state state.model h
-after_kept state (ask.Plain plain.Quit) h k = tt
-after_kept state (ask.Plain (plain.Change e)) h k = after_change state state.model e h h k
-after_kept state (ask.Loaded m) h k = k
-after_kept state asked h k = h
+  pub after_kept : (asked : ExactAsk) → IsKeptAsk asked → IsKeptState (state_after places state asked)
+  after_kept (ask.Plain command.Solve) k = after_solve state.model
+  after_kept (ask.Plain command.Quit) k = tt
+  after_kept (ask.Plain (command.Change e)) k = after_change state.model e h k
+  after_kept (ask.Loaded m) k = k
+  after_kept asked k = h
 
 -- ---- no such reply is MEMORY
 
@@ -195,13 +249,13 @@ ample_change state None e = refl
 ample_change state (Some m) e = ample_edit state (edited m e)
 
 pub ample_reply : (state : State) (asked : ExactAsk) → is_memory (reply_to state asked) ≡ false
-ample_reply state (ask.Plain (plain.Write form)) = ample_write state.model form
-ample_reply state (ask.Plain plain.Solve) = ample_solve state state.model
-ample_reply state (ask.Plain plain.Cert) = ample_cert state.model state.last
-ample_reply state (ask.Plain plain.How) = ample_how state.last
-ample_reply state (ask.Plain (plain.Budget n)) = refl
-ample_reply state (ask.Plain plain.Quit) = refl
-ample_reply state (ask.Plain (plain.Change e)) = ample_change state state.model e
+ample_reply state (ask.Plain (command.Write form)) = ample_write state.model form
+ample_reply state (ask.Plain command.Solve) = ample_solve state state.model
+ample_reply state (ask.Plain command.Cert) = ample_cert state.model state.last
+ample_reply state (ask.Plain command.How) = ample_how state.last
+ample_reply state (ask.Plain (command.Budget n)) = refl
+ample_reply state (ask.Plain command.Quit) = refl
+ample_reply state (ask.Plain (command.Change e)) = ample_change state state.model e
 ample_reply state (ask.Loaded m) = refl
 ample_reply state (ask.Misspelled why) = refl
 ample_reply state (ask.Checked raw) = ample_check state.model raw

@@ -3,10 +3,13 @@ pub mod NarrowRuns
 pub mod NarrowSteps
 pub mod NarrowStart
 pub mod NarrowCold
+pub mod Solves
+pub mod Simply
 pub mod Dues
 pub mod HandedBack
 pub mod LastFits
 pub mod RunLemmas
+pub mod Answered
 pub mod KeptEdits
 pub mod ScriptLemmas
 pub mod ScriptKept

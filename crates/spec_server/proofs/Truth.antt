@@ -18,14 +18,17 @@ use Rattle.spec_cold.specs.Cold.{ColdEnd}
 use Rattle.spec_check.proofs.Fits.{settled_fits}
 use Rattle.spec_check.proofs.RunSound.{run_sound}
 use Rattle.spec_check.proofs.Sound.{checks_hold}
+use Rattle.spec_reads.specs.Reads.{ExactRead}
 use Rattle.spec_server.specs.declared.asks.Ask.TheVariants as ask
 use Rattle.spec_server.specs.declared.asks.Reply.TheVariants as reply
 use Rattle.spec_server.specs.declared.asks.Refusal.TheVariants as refusal
 use Rattle.spec_server.specs.declared.answer.Answer.{Answer}
 use Rattle.spec_server.specs.declared.answer.Answer.TheVariants as answer
-use Rattle.spec_server.specs.declared.command.Plain.TheVariants as plain
+use Rattle.spec_server.specs.declared.command.Plain.TheVariants as command
 use Rattle.spec_server.specs.Answers.{number_limit, MayAnswer}
-use Rattle.spec_server.specs.Machine.{State, Read, ExactReply, verdict_on, check_reply, solve_due, answer_of, Does, WantsMemory, AloneStep}
+use Rattle.spec_server.specs.Machine.{State, ExactReply, verdict_on, check_reply, solve_due, answer_of}
+use Rattle.spec_server.specs.Step.{AloneStep}
+use Rattle.spec_server.proofs.Simply.{Does, WantsMemory, step_simply}
 
 said_yes : (run : Run (Known ℚ)) (said : Known ℚ) → verdict_of run ≡ verdict.Yes said → run ≡ Ok said
 said_yes (Ok other) said e = cc
@@ -42,7 +45,8 @@ yes_to said = reply.Checked (verdict.Yes said)
 verdict_true : (m : Model) (said : Known ℚ) (raw : ExactRaw) (r : Settled (Certificate (List ℚ))) →
     certificate_for m raw ≡ r → yes_to said ≡ verdict_on m r → Holds m said
 verdict_true m said raw (Ok cert) is e =
-    let ran : check_run (Some number_limit) m cert ≡ Ok said = said_yes (check_run (Some number_limit) m cert) said (sym (checked _ _ e)) in
+    let ran : check_run (Some number_limit) m cert ≡ Ok said =
+    said_yes (check_run (Some number_limit) m cert) said (sym (checked _ _ e)) in
     let sound = run_sound (Some number_limit) m cert said (settled_fits m raw cert is) ran in
     subst (Holds m) (sym sound.1) (checks_hold m cert sound.0)
 verdict_true m said raw (Err (settle.UnknownName name)) is e = cc
@@ -56,15 +60,15 @@ reply_true (Some m) said raw e = (m, refl, verdict_true m said raw (certificate_
 no_memory : (said : Known ℚ) → yes_to said ≡ reply.Memory → ⊥
 no_memory said e = cc
 
-answer_true : (old new : State) (raw : ExactRaw) (said : Known ℚ) →
-    ((yes_to said ≡ check_reply old.model raw) × (new ≡ old)) ⊎ WantsMemory old (ask.Checked raw) (yes_to said) new →
-    (m : Model) × (old.model ≡ Some m) × Holds m said
-answer_true old new raw said (inl h) = reply_true old.model said raw h.0
-answer_true old new raw said (inr h) = absurd (no_memory said h.memory)
-
-pub accepted_is_true : (old new : State) (raw : ExactRaw) (reads : List Read) (said : Known ℚ) →
-    AloneStep old (ask.Checked raw) reads (yes_to said) new → (m : Model) × (old.model ≡ Some m) × Holds m said
-accepted_is_true old new raw reads said s = answer_true old new raw said s.answer
+pub accepted_is_true : (places : ℕ) (old new : State) (raw : ExactRaw) (reads : List ExactRead) (said : Known ℚ) →
+    AloneStep places old (ask.Checked raw) reads (yes_to said) new → (m : Model) × (old.model ≡ Some m) × Holds m said
+accepted_is_true places old new raw reads said s =
+    by (step_simply places old reads (yes_to said) new (ask.Checked raw) s)
+  where
+    by : ((yes_to said ≡ check_reply old.model raw) × (new ≡ old)) ⊎ WantsMemory old (yes_to said) new →
+        (m : Model) × (old.model ≡ Some m) × Holds m said
+    by (inl h) = reply_true old.model said raw h.0
+    by (inr h) = absurd (no_memory said h.memory)
 
 -- ---- solves
 
@@ -78,7 +82,8 @@ answers_same a b e = cc
 knowns_same : (a b : Known ℚ) → ◌≡◌ {A = Answer ℚ} (answer.Known a) (answer.Known b) → a ≡ b
 knowns_same a b e = cc
 
-pub ended_true : (m : Model) (budget : ℕ) (known : Known ℚ) (cert : Certificate (List ℚ)) (basis : Option (List Status)) (pivots : ℕ) →
+pub ended_true : (m : Model) (budget : ℕ) (known : Known ℚ) (cert : Certificate (List ℚ)) (basis : Option (List Status))
+    (pivots : ℕ) →
     MayAnswer m budget (outcome.Ended known cert basis pivots) → Holds m known
 ended_true m budget known cert basis pivots h =
     let sound = run_sound (Some number_limit) m cert known h.0 h.2 in
@@ -101,14 +106,15 @@ due_true : (old new : State) (held : Option Model) (said : Known ℚ) →
     Does old (solve_due old held) (known_to said) new → (m : Model) × (held ≡ Some m) × Holds m said
 due_true old new None said h = absurd (refused_unknown said h.0)
 due_true old new (Some m) said h =
-    (m, refl, solved_true m old.budget h.solved said h.is_solved.may_answer (answers_same _ _ h.answer))
+    (m, refl, solved_true m old.budget h.end said h.may_answer (answers_same _ _ h.answer))
 
-solve_true : (old new : State) (said : Known ℚ) →
-    Does old (solve_due old old.model) (known_to said) new ⊎ WantsMemory old (ask.Plain plain.Solve) (known_to said) new →
+pub answered_is_true : (places : ℕ) (old new : State) (reads : List ExactRead) (said : Known ℚ) →
+    AloneStep places old (ask.Plain command.Solve) reads (known_to said) new →
     (m : Model) × (old.model ≡ Some m) × Holds m said
-solve_true old new said (inl h) = due_true old new old.model said h
-solve_true old new said (inr h) = absurd (no_memory_known said h.memory)
-
-pub answered_is_true : (old new : State) (reads : List Read) (said : Known ℚ) →
-    AloneStep old (ask.Plain plain.Solve) reads (known_to said) new → (m : Model) × (old.model ≡ Some m) × Holds m said
-answered_is_true old new reads said s = solve_true old new said s.answer
+answered_is_true places old new reads said s =
+    by (step_simply places old reads (known_to said) new (ask.Plain command.Solve) s)
+  where
+    by : Does old (solve_due old old.model) (known_to said) new ⊎ WantsMemory old (known_to said) new →
+        (m : Model) × (old.model ≡ Some m) × Holds m said
+    by (inl h) = due_true old new old.model said h
+    by (inr h) = absurd (no_memory_known said h.memory)

@@ -29,7 +29,8 @@ abbrev pub begins_with_hash : List ℕ → Bool
 begins_with_hash [] = false
 begins_with_hash (b ∷ bs) = b == 35
 
--- A comment is skipped. A line that is too long is no command of any session. The ends of the input are no lines of a script.
+-- A comment is skipped. A line that is too long is no command of any session. The ends of the input are no lines of a
+-- script.
 unfoldable pub addressed_in : Addressing → Line (List ℕ) → Option (Addressed ExactEdit)
 addressed_in addressing (line.Text bytes) =
     if begins_with_hash bytes then None else addressed_by addressing (words_of bytes)

@@ -1,5 +1,5 @@
--- What the command `check` says of its input: the text of a model and, from the line after it on, a certificate. Each line is
--- a step from what was read before it, up to the line at which something is said.
+-- What the command `check` says of its input: the text of a model and, from the line after it on, a certificate. Each
+-- line is a step from what was read before it, up to the line at which something is said.
 use Rattle.std.specs.Prelude.{ℕ, ◌≡◌, ◌+◌, Option, Some, None, Ok, Err, List, [], ◌∷◌, ◌++◌}
 use Rattle.spec_text.specs.declared.line.Line.{Line}
 use Rattle.spec_model.specs.Model.{Model}

@@ -1,5 +1,6 @@
 -- What the words of a line ask, after the number of its session.
-use Rattle.std.specs.Prelude.{ℕ, ◌==◌, ◌&&◌, Bool, false, not, Option, Some, None, Ok, Err, List, [], ◌∷◌, length, nat_lt, nat_le, codes, if◌then◌else◌}
+use Rattle.std.specs.Prelude.{ℕ, ◌==◌, ◌&&◌, Bool, false, not, Option, Some, None, Ok, Err, List, [], ◌∷◌, length}
+use Rattle.std.specs.Prelude.{nat_lt, nat_le, codes, if◌then◌else◌}
 use Rattle.std.specs.List.{list_all}
 use Rattle.spec_mps.specs.NumberText.{spelled_from}
 use Rattle.spec_mps.specs.Shapes.{look_up}
@@ -31,7 +32,8 @@ begins_with_zero (b ∷ bs) = b == 48
 -- a number from 1 to the last one, with no leading zero, of at most this many digits
 abbrev pub number_to : ℕ → ℕ → List ℕ → Option ℕ
 number_to last digits text =
-    if nat_lt 0 (length text) && nat_le (length text) digits && list_all is_digit text && not (begins_with_zero text) && nat_le (spelled_from 0 text) last
+    if nat_lt 0 (length text) && nat_le (length text) digits && list_all is_digit text
+    && not (begins_with_zero text) && nat_le (spelled_from 0 text) last
     then Some (spelled_from 0 text) else None
 
 -- a session's number

@@ -1,6 +1,7 @@
--- The command lines of the program: the word of a command, its plain words, and after them its options, each a name and a value,
--- in any order and each at most once.
-use Rattle.std.specs.Prelude.{ℕ, ◌&&◌, Bool, true, not, Option, Some, None, option_map, option_and_then, List, [], ◌∷◌, length, map, take, drop, nat_le, codes, if◌then◌else◌}
+-- The command lines of the program: the word of a command, its plain words, and after them its options, each a name and
+-- a value, in any order and each at most once.
+use Rattle.std.specs.Prelude.{ℕ, ◌&&◌, Bool, true, not, Option, Some, None, option_map, option_and_then, List, [], ◌∷◌}
+use Rattle.std.specs.Prelude.{length, map, take, drop, nat_le, codes, if◌then◌else◌}
 use Rattle.std.specs.List.{list_all, list_any}
 use Rattle.spec_text.specs.Words.{same}
 use Rattle.spec_mps.specs.declared.style.Style.{Style}
@@ -10,6 +11,7 @@ use Rattle.spec_server.specs.declared.command_line.CommandLine.{CommandLine}
 use Rattle.spec_server.specs.declared.command_line.CommandLine.TheVariants.{Run, Read}
 use Rattle.spec_server.specs.declared.command_line.TextCommand.{TextCommand}
 use Rattle.spec_server.specs.declared.command_line.TextCommand.TheVariants.{Solve, Check}
+use Rattle.spec_server.specs.Command.{number_to}
 
 abbrev pub Word : Type 0
 Word = List ℕ
@@ -54,7 +56,10 @@ pub record Given : Type 0 where
 -- so many plain words, and options with these names after them
 unfoldable pub given_in : ℕ → OptionNames → List Word → Option Given
 given_in plain names words =
-    if nat_le plain (length words) then option_map (λ options. record { plain = take plain words; options = options }) (options_in names (drop plain words)) else None
+    if nat_le plain (length words)
+    then option_map (λ options. record { plain = take plain words; options = options })
+    (options_in names (drop plain words))
+    else None
 
 -- ---- the table of commands
 
@@ -66,6 +71,18 @@ abbrev pub form_given : Option Word → Option Style
 form_given None = Some Free
 form_given (Some word) = form_of word
 
+-- so many places are shared by the sessions of a script, unless another number is given
+abbrev pub usual_places : ℕ
+usual_places = 256
+
+-- how many places a word gives, from 1 to 1,024, in at most 7 digits
+unfoldable pub places_of : Word → Option ℕ
+places_of word = number_to 1024 7 word
+
+abbrev pub places_given : Option Word → Option ℕ
+places_given None = Some usual_places
+places_given (Some word) = places_of word
+
 -- a command: how many plain words it has, the names of its options, and what it asks with these
 pub record Row : Type 0 where
   pub plain : ℕ
@@ -73,7 +90,11 @@ pub record Row : Type 0 where
   pub asks : Given → Option CommandLine
 
 abbrev pub run_row : Row
-run_row = record { plain = 0; names = []; asks = λ given. Some Run }
+run_row = record {
+  plain = 0;
+  names = codes "--places" ∷ [];
+  asks = λ given. option_map Run (places_given (look_up (codes "--places") given.options));
+}
 
 abbrev pub text_row : TextCommand → Row
 text_row command = record {

@@ -17,7 +17,8 @@ use Rattle.spec_mps.specs.NumberText.{answer, number_of}
 use Rattle.spec_mps.specs.BoundText.{bound_answer, bound_of}
 use Rattle.spec_mps.specs.Shapes.{look_up}
 use Rattle.spec_server.specs.declared.command.EditWord.{EditWord}
-use Rattle.spec_server.specs.declared.command.EditWord.TheVariants.{AddRow, DelRow, AddCol, DelCol, SetCost, SetCoef, SetRhs, SetRange, SetBound, Sense as SenseWord}
+use Rattle.spec_server.specs.declared.command.EditWord.TheVariants.{AddRow, DelRow, AddCol, DelCol, SetCost, SetCoef}
+use Rattle.spec_server.specs.declared.command.EditWord.TheVariants.{SetRhs, SetRange, SetBound, Sense as SenseWord}
 use Rattle.spec_server.specs.declared.command.LineFault.{LineFault}
 use Rattle.spec_server.specs.declared.command.LineFault.TheVariants as fault
 

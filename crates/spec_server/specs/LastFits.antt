@@ -4,8 +4,8 @@ use Rattle.spec_model.specs.Model.{Model}
 use Rattle.spec_server.specs.Answers.{MayAnswer}
 use Rattle.spec_server.specs.Machine.{ExactLastAnswer}
 
--- a session without a model has no last answer, and that of a session with one is an answer that its model may have, within
--- some budget
+-- a session without a model has no last answer, and that of a session with one is an answer that its model may have,
+-- within some budget
 abbrev pub LastFits : Option Model → Option ExactLastAnswer → Type 0
 LastFits model None = Unit {0}
 LastFits None (Some last) = ⊥

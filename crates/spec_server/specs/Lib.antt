@@ -1,5 +1,7 @@
 pub mod Answers
 pub mod Machine
+pub mod Step
+pub mod Exchanges
 pub mod HandedBack
 pub mod LastFits
 pub mod Output
@@ -12,3 +14,4 @@ pub mod CheckOut
 pub mod SolveOut
 pub mod TextOut
 pub mod CommandLine
+pub mod Halves

@@ -1,6 +1,5 @@
 -- The one-session machine: a session that holds its model, its budget and its last answer alone.
-use Rattle.std.specs.Prelude.{ℕ, ◌≡◌, ◌⊎◌, ◌==◌, Bool, true, false, Option, Some, None, Ok, Err, List, [], ◌∷◌, length, All}
-use Rattle.std.specs.List.{filter}
+use Rattle.std.specs.Prelude.{ℕ, Bool, true, false, Option, Some, None, Ok, Err, List, [], length, All}
 use Rattle.spec_exact.specs.Fraction.{ℚ}
 use Rattle.spec_model.specs.Model.{Model, Name}
 use Rattle.spec_model.specs.Kept.{IsModel}
@@ -23,8 +22,6 @@ use Rattle.spec_cold.specs.declared.outcome.Cold.TheVariants as outcome
 use Rattle.spec_cold.specs.Cold.{ColdEnd}
 use Rattle.spec_server.specs.declared.answer.Answer.{Answer}
 use Rattle.spec_server.specs.declared.answer.Answer.TheVariants as answer
-use Rattle.spec_server.specs.declared.answer.How.TheVariants as how
-use Rattle.spec_server.specs.declared.answer.Publication.TheVariants as publication
 use Rattle.spec_server.specs.declared.answer.LastAnswer.{LastAnswer}
 use Rattle.spec_server.specs.declared.asks.Ask.{Ask}
 use Rattle.spec_server.specs.declared.asks.Ask.TheVariants as ask
@@ -33,8 +30,8 @@ use Rattle.spec_server.specs.declared.asks.Reply.{Reply}
 use Rattle.spec_server.specs.declared.asks.Reply.TheVariants as reply
 use Rattle.spec_server.specs.declared.asks.Refusal.TheVariants as refusal
 use Rattle.spec_server.specs.declared.command.Plain.{Plain}
-use Rattle.spec_server.specs.declared.command.Plain.TheVariants as plain
-use Rattle.spec_server.specs.Answers.{number_limit, IsSolved}
+use Rattle.spec_server.specs.declared.command.Plain.TheVariants as command
+use Rattle.spec_server.specs.Answers.{number_limit}
 
 -- an ask, a reply and a last answer of exact numbers
 abbrev pub ExactAsk : Type 0
@@ -48,7 +45,7 @@ ExactLastAnswer = LastAnswer ℚ (List ℚ) (List Status)
 
 -- a model that is to be held is one that may be kept, and an edit has numbers that may be
 abbrev pub IsKeptPlain : Plain ExactEdit → Type 0
-IsKeptPlain (plain.Change e) = edits.IsKeptEdit e
+IsKeptPlain (command.Change e) = edits.IsKeptEdit e
 IsKeptPlain asked = Unit {0}
 
 abbrev pub IsKeptAsk : ExactAsk → Type 0
@@ -159,13 +156,13 @@ change_due state None e = Replies (reply.Refused refusal.NoModel) state
 change_due state (Some m) e = edit_due state (edited m e)
 
 abbrev pub plain_due : State → Plain ExactEdit → Due
-plain_due state (plain.Write form) = Replies (write_reply state.model form) state
-plain_due state plain.Solve = solve_due state state.model
-plain_due state plain.Cert = Replies (cert_reply state.model state.last) state
-plain_due state plain.How = Replies (how_reply state.last) state
-plain_due state (plain.Budget n) = Replies reply.Done (record state { budget = n })
-plain_due state plain.Quit = Replies reply.Bye opening
-plain_due state (plain.Change e) = change_due state state.model e
+plain_due state (command.Write form) = Replies (write_reply state.model form) state
+plain_due state command.Solve = solve_due state state.model
+plain_due state command.Cert = Replies (cert_reply state.model state.last) state
+plain_due state command.How = Replies (how_reply state.last) state
+plain_due state (command.Budget n) = Replies reply.Done (record state { budget = n })
+plain_due state command.Quit = Replies reply.Bye opening
+plain_due state (command.Change e) = change_due state state.model e
 
 abbrev pub due : State → ExactAsk → Due
 due state (ask.Plain asked) = plain_due state asked
@@ -176,71 +173,18 @@ due state (ask.Checked raw) = Replies (check_reply state.model raw) state
 due state (ask.Unfit line) = Replies (reply.Refused (refusal.Unfit line)) state
 due state (ask.Bad fault) = Replies (reply.Refused (refusal.Bad fault)) state
 
--- the state with what a solve ended with; it started cold, and passes nothing on to other sessions
-abbrev pub with_solved : State → ColdEnd → State
-with_solved state solved =
-    record state { last = Some (record { solved = solved; how = how.Cold; publication = publication.Nothing }) }
+-- ---- memory
 
--- a solve replies its answer, and the session keeps it
-pub record SolveStep (old : State) (m : Model) (replied : ExactReply) (new : State) : Type 0 where
-  pub solved : ColdEnd
-  pub is_solved : IsSolved m old.budget solved
-  pub answer : replied ≡ reply.Answered (answer_of old.budget solved)
-  pub kept : new ≡ with_solved old solved
-
-abbrev pub Does : State → Due → ExactReply → State → Type 0
-Does old (Replies stated next) replied new = (replied ≡ stated) × (new ≡ next)
-Does old (Solves m) replied new = SolveStep old m replied new
-
--- ---- steps and runs
-
--- whether memory may run out for the reply: where lines are made, a certificate is put to a model, a row, a column or an entry
--- comes, or a model is solved
+-- whether memory may run out for the reply: where lines are made, a certificate is put to a model, a row, a column or
+-- an entry comes, or a model is solved
 abbrev pub plain_takes_memory : Plain ExactEdit → Bool
-plain_takes_memory (plain.Write form) = true
-plain_takes_memory plain.Solve = true
-plain_takes_memory plain.Cert = true
-plain_takes_memory (plain.Change e) = edits.takes_memory e
+plain_takes_memory (command.Write form) = true
+plain_takes_memory command.Solve = true
+plain_takes_memory command.Cert = true
+plain_takes_memory (command.Change e) = edits.takes_memory e
 plain_takes_memory asked = false
 
 abbrev pub takes_memory : ExactAsk → Bool
 takes_memory (ask.Plain asked) = plain_takes_memory asked
 takes_memory (ask.Checked raw) = true
 takes_memory asked = false
-
--- memory runs out, and the state stays
-pub record WantsMemory (old : State) (asked : ExactAsk) (replied : ExactReply) (new : State) : Type 0 where
-  pub may_want : takes_memory asked ≡ true
-  pub memory : replied ≡ reply.Memory
-  pub stays : new ≡ old
-
--- what a session reads of what sessions share: nothing yet
-pub data Read : Type 0 where
-
--- One step: nothing is read, and the session does what is due; or memory runs out.
-pub record AloneStep (old : State) (asked : ExactAsk) (reads : List Read) (replied : ExactReply) (new : State) : Type 0 where
-  pub no_reads : reads ≡ []
-  pub answer : Does old (due old asked) replied new ⊎ WantsMemory old asked replied new
-
--- an ask of a session, what it read, and its reply
-pub record Exchange : Type 0 where
-  pub session : ℕ
-  pub ask : ExactAsk
-  pub reads : List Read
-  pub reply : ExactReply
-
-abbrev pub asked_in : Exchange → Asked ExactAsk
-asked_in x = record { session = x.session; ask = x.ask }
-
--- from old, step by step, to new
-abbrev pub AloneRun : State → List Exchange → State → Type 0
-AloneRun old [] new = new ≡ old
-AloneRun old (x ∷ xs) new = (middle : State) × AloneStep old x.ask x.reads x.reply middle × AloneRun middle xs new
-
--- those of one session
-abbrev pub of_session : ℕ → List Exchange → List Exchange
-of_session session xs = filter (λ x. x.session == session) xs
-
--- each session's exchanges are a run of the one-session machine, from the opening state
-abbrev pub RunFits : List Exchange → Type 0
-RunFits xs = (session : ℕ) → (last : State) × AloneRun opening (of_session session xs) last

@@ -1,5 +1,5 @@
--- What is written of replies: a line each, which begins with the number of the session, and the text of a model or the lines of a
--- certificate after it.
+-- What is written of replies: a line each, which begins with the number of the session, and the text of a model or the
+-- lines of a certificate after it.
 use Rattle.std.specs.Prelude.{ℕ, ◌==◌, ◌++◌, Option, Some, None, List, [], ◌∷◌, length, codes, decimal}
 use Rattle.std.specs.List.{filter, flat_map}
 use Rattle.spec_exact.specs.Fraction.{ℚ}
@@ -16,20 +16,25 @@ use Rattle.spec_check.specs.declared.certificate.Verdict.{Verdict}
 use Rattle.spec_check.specs.declared.certificate.Verdict.TheVariants as verdict
 use Rattle.spec_edit.specs.declared.edit.Which.{Which}
 use Rattle.spec_edit.specs.declared.edit.Which.TheVariants.{Rows, Columns}
+use Rattle.spec_warm.specs.declared.ends.Fall.{Fall}
+use Rattle.spec_warm.specs.declared.ends.Fall.TheVariants as fall
+use Rattle.spec_reads.specs.declared.read.Put.{Put}
+use Rattle.spec_reads.specs.declared.read.Put.TheVariants as put
 use Rattle.spec_server.specs.declared.addressing.Addressing.{Addressing}
 use Rattle.spec_server.specs.declared.addressing.Addressing.TheVariants.{Numbered, Alone}
 use Rattle.spec_server.specs.declared.answer.Answer.{Answer}
 use Rattle.spec_server.specs.declared.answer.Answer.TheVariants as answer
 use Rattle.spec_server.specs.declared.answer.How.{How}
-use Rattle.spec_server.specs.declared.answer.How.TheVariants.{Cold}
+use Rattle.spec_server.specs.declared.answer.How.TheVariants.{Cold, Basis, Fell}
 use Rattle.spec_server.specs.declared.answer.Publication.{Publication}
-use Rattle.spec_server.specs.declared.answer.Publication.TheVariants.{Nothing}
+use Rattle.spec_server.specs.declared.answer.Publication.TheVariants.{Nothing, Same, Tried}
 use Rattle.spec_server.specs.declared.command.LineFault.{LineFault}
 use Rattle.spec_server.specs.declared.command.LineFault.TheVariants as fault
 use Rattle.spec_server.specs.declared.asks.Reply.TheVariants as reply
 use Rattle.spec_server.specs.declared.asks.Refusal.{Refusal}
 use Rattle.spec_server.specs.declared.asks.Refusal.TheVariants as refusal
-use Rattle.spec_server.specs.Machine.{ExactReply, Exchange}
+use Rattle.spec_server.specs.Machine.{ExactReply}
+use Rattle.spec_server.specs.Exchanges.{Exchange}
 
 -- fractions in replies are written as the numbers of texts
 abbrev pub fraction_text : ℚ → List ℕ
@@ -62,15 +67,30 @@ answer_text (answer.Past p) = past_text p
 answer_text (answer.Spent budget) = codes "SPENT " ++ decimal budget
 
 -- how an answer was found, its pivots and flips, and what was given of it to other sessions
+abbrev pub fall_text : Fall → List ℕ
+fall_text fall.Singular = codes "SINGULAR"
+fall_text fall.Unfit = codes "UNFIT"
+fall_text fall.Past = codes "PAST"
+fall_text fall.Spent = codes "SPENT"
+
 abbrev pub how_text : How → List ℕ
 how_text Cold = codes "COLD"
+how_text (Basis k) = codes "BASIS " ++ decimal k
+how_text (Fell k why) = codes "FELL " ++ decimal k ++ codes " " ++ fall_text why
 
 abbrev pub pivots_text : Option ℕ → List ℕ
 pivots_text None = codes "-"
 pivots_text (Some n) = decimal n
 
+abbrev pub put_text : Put → List ℕ
+put_text (put.Published k) = codes "PUBLISHED " ++ decimal k
+put_text (put.Raced c) = codes "RACED " ++ decimal c
+put_text (put.Full c) = codes "FULL " ++ decimal c
+
 abbrev pub publication_text : Publication → List ℕ
 publication_text Nothing = codes "NONE"
+publication_text Same = codes "SAME"
+publication_text (Tried put) = put_text put
 
 -- why a line is no command
 abbrev pub line_fault_text : LineFault → List ℕ

@@ -1,5 +1,5 @@
--- What is said of an input that is read line by line, each line a step from what was read before it, up to the line at which
--- something is said.
+-- What is said of an input that is read line by line, each line a step from what was read before it, up to the line at
+-- which something is said.
 use Rattle.std.specs.Prelude.{ℕ, ◌≡◌, ◌≤◌, ◌⊎◌, Option, Some, None, List, [], ◌∷◌, ◌++◌, length, take}
 use Rattle.std.specs.Io.KnownBytes.{IsAtEnd}
 use Rattle.spec_text.specs.declared.line.Line.{Line}
@@ -27,7 +27,8 @@ abbrev pub IsSaidEarly : {R : Type 0} → (List (Line (List ℕ)) → Option R) 
 IsSaidEarly said read what = (more : List ℕ) → said (ended_lines_of (take input_limit (read ++ more))) ≡ Some what
 
 -- at the end of an input that is no longer than may be read
-pub record IsSaidAtEnd {R : Type 0} (said : List (Line (List ℕ)) → Option R) (after : Option (List ℕ)) (read : List ℕ) (what : R) : Type 0 where
+pub record IsSaidAtEnd {R : Type 0} (said : List (Line (List ℕ)) → Option R) (after : Option (List ℕ)) (read : List ℕ)
+    (what : R) : Type 0 where
   pub all : said (lines_of read ++ End ∷ []) ≡ Some what
   pub within : length read ≤ input_limit
   pub at_end : IsAtEnd after

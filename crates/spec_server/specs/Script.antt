@@ -1,5 +1,6 @@
 -- What a script asks.
-use Rattle.std.specs.Prelude.{ℕ, ◌&&◌, Bool, false, not, Option, Some, None, List, [], ◌∷◌, ◌++◌, length, take, nat_le, codes, if◌then◌else◌}
+use Rattle.std.specs.Prelude.{ℕ, ◌&&◌, Bool, false, not, Option, Some, None, List, [], ◌∷◌, ◌++◌, length, take, nat_le}
+use Rattle.std.specs.Prelude.{codes, if◌then◌else◌}
 use Rattle.spec_text.specs.declared.line.Line.{Line}
 use Rattle.spec_text.specs.declared.line.Line.TheVariants as line
 use Rattle.spec_text.specs.Lines.{lines_of, ended_lines_of, input_limit}
@@ -90,9 +91,13 @@ asks_by (Some addressed) = asks_of_command addressed.session addressed.command
 abbrev pub asks_of_line : Addressing → Pending → Line (List ℕ) → List (Asked ExactAsk)
 asks_of_line addressing Between next = asks_by (addressed_in addressing next)
 asks_of_line addressing (Text session form body) next =
-    if ends_text next then record { session = session; ask = ask_of_verdict (judge form start 1 (body ++ next ∷ [])) } ∷ [] else []
+    if ends_text next
+    then record { session = session; ask = ask_of_verdict (judge form start 1 (body ++ next ∷ [])) } ∷ []
+    else []
 asks_of_line addressing (Certificate session body) next =
-    if ends_certificate next then record { session = session; ask = ask_of_judgement (certificate.judge None 1 (body ++ next ∷ [])) } ∷ [] else []
+    if ends_certificate next
+    then record { session = session; ask = ask_of_judgement (certificate.judge None 1 (body ++ next ∷ [])) } ∷ []
+    else []
 
 -- the asks that these lines complete, and what is pending after them
 abbrev pub asks_from : Addressing → Pending → List (Line (List ℕ)) → List (Asked ExactAsk)

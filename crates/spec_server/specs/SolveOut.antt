@@ -1,5 +1,5 @@
 -- What the command `solve` reads and writes: the text of a model, and what a solve of the model ends with.
-use Rattle.std.specs.Prelude.{ℕ, ◌≡◌, ◌+◌, Option, Result, Ok, Err, List, ◌++◌}
+use Rattle.std.specs.Prelude.{ℕ, ◌≡◌, ◌+◌, Option, None, Result, Ok, Err, List, ◌++◌}
 use Rattle.spec_text.specs.declared.line.Line.{Line}
 use Rattle.spec_model.specs.Model.{Model}
 use Rattle.spec_mps.specs.declared.fault.MpsFault.{MpsFault}
@@ -7,6 +7,7 @@ use Rattle.spec_mps.specs.declared.style.Style.{Style}
 use Rattle.spec_mps.specs.Reader.{State, start}
 use Rattle.spec_mps.specs.Steps as text
 use Rattle.spec_cold.specs.Cold.{ColdEnd}
+use Rattle.spec_warm.specs.Solve.{SolveEnd}
 use Rattle.spec_server.specs.declared.asks.Reply.TheVariants as reply
 use Rattle.spec_server.specs.declared.asks.Refusal.TheVariants as refusal
 use Rattle.spec_server.specs.Answers.{IsSolved}
@@ -44,9 +45,10 @@ unfoldable pub solved_lines : Model → ColdEnd → List ℕ
 solved_lines m solved =
     check_line (reply.Answered (answer_of opening_budget solved)) ++ ended_lines (lines_of_solved m solved)
 
--- what a solve of the model ends with, within the budget of a new session; or the line of the fault
+-- what a solve of the model ends with, cold and within the budget of a new session; or the line of the fault
 abbrev pub SolveOut : TextSaid → List ℕ → Type 0
-SolveOut (Ok m) written = (solved : ColdEnd) × IsSolved m opening_budget solved × (written ≡ solved_lines m solved)
+SolveOut (Ok m) written =
+    (solved : SolveEnd) × IsSolved m opening_budget None solved × (written ≡ solved_lines m solved.end)
 SolveOut (Err fault) written = written ≡ check_line (reply.Refused (refusal.Misspelled fault))
 
 -- the status of it

@@ -1,4 +1,5 @@
--- The commands that read the text of a model: what each says of its input, and what it writes of that with which status.
+-- The commands that read the text of a model: what each says of its input, and what it writes of that with which
+-- status.
 use Rattle.std.specs.Prelude.{ℕ, Option, List}
 use Rattle.spec_text.specs.declared.line.Line.{Line}
 use Rattle.spec_mps.specs.declared.style.Style.{Style}

@@ -11,7 +11,8 @@ pub enum Addressing {
     Alone,
 }
 
-/// A command over the type E of edits, with the number of its session. It is of session 0 where a line names no session.
+/// A command over the type E of edits, with the number of its session. It is of session 0 where a line names no
+/// session.
 #[derive(Drop)]
 pub struct Addressed<E> {
     pub session: u32,

@@ -2,6 +2,8 @@
 use spec_check::Known;
 use spec_cold::Cold;
 use spec_exact::Past;
+use spec_reads::Put;
+use spec_warm::Fall;
 use std::fmt::Debug;
 
 /// What a solve answers.
@@ -20,12 +22,21 @@ pub enum Answer<F: Debug> {
 pub enum How {
     /// From the start that each model has.
     Cold,
+    /// From the basis at this place.
+    Basis(u32),
+    /// From the start that each model has, since that from the basis at this place was given up.
+    Fell(u32, Fall),
 }
 
 /// What was given to other sessions of an answer.
 #[derive(Clone, Copy, Debug, PartialEq, Eq)]
 pub enum Publication {
+    /// It is no optimum.
     Nothing,
+    /// Its basis is the one that was found.
+    Same,
+    /// One try was made to publish its basis.
+    Tried(Put),
 }
 
 /// The last answer of a session.

@@ -1,5 +1,5 @@
-// What a session is asked and what it replies, over the type M of models, R of certificates as their texts have them, E of
-// edits, N of names, F of numbers, T of texts and L of lists of lines.
+// What a session is asked and what it replies, over the type M of models, R of certificates as their texts have them, E
+// of edits, N of names, F of numbers, T of texts and L of lists of lines.
 use crate::answer::{Answer, How, Publication};
 use crate::command::{LineFault, Plain};
 use spec_check::Verdict;

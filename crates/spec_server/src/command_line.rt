@@ -13,8 +13,8 @@ pub enum TextCommand {
 /// What the words of a command line ask.
 #[derive(Clone, Copy, Debug, PartialEq, Eq)]
 pub enum CommandLine {
-    /// To run the script that the source gives.
-    Run,
+    /// To run the script that the source gives, whose sessions share so many places.
+    Run { places: u32 },
     /// To read the text in this form that the source gives.
     Read(TextCommand, Style),
 }

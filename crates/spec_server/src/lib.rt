@@ -4,20 +4,23 @@
 //! |---|---|---|
 //! | `Ask`, `Reply`, `Refusal` | what a session is asked, and what it replies | src/asks |
 //! | `Answer`, `LastAnswer` | what a solve answers, and what a session keeps of it | src/answer |
-//! | `Command`, `command_of` | what the words of a line ask, after the number of its session | src/command, specs/Command |
-//! | `Addressing`, `addressed_in` | whether lines name sessions, and what a line between two commands is | src/addressing, |
-//!                               specs/Addressing
-//! | Item | What it is | Where |
-//! |---|---|---|
+//! | `How`, `Publication` | how an answer was found, and what other sessions were given of it | src/answer |
+//! | `Command`, `command_of` | what the words of a line ask its session | src/command, specs/Command |
+//! | `Addressing`, `addressed_in` | whether lines name sessions, and which | src/addressing, specs/Addressing |
 //! | `edit_by` | the edit that a line's words ask for | specs/EditCommand |
 //! | `CommandLine`, `command_line_of` | what the words of a command line ask | src/command_line, specs/CommandLine |
 //! | `Pending` | what the lines of a script have begun | specs/Script |
-//! | `MayAnswer`, `HowFits` | what a solve may end with | specs/Answers |
+//! | `MayAnswer`, `HowFits`, `IsSolved` | what a solve may end with, and how it was found | specs/Answers |
 //! | `LastFits` | what holds of the last answer that a session keeps | specs/LastFits |
 //! | `IsAcceptedBack` | that the certificate of an answer is accepted, handed back | specs/HandedBack |
 //! | `AreKept` | asks whose models and edits may be kept | specs/Machine |
-//! | `AloneStep`, `AloneRun` | the one-session machine and its runs | specs/Machine |
-//! | `RunFits` | the exchanges of many sessions, each on its own | specs/Machine |
+//! | `State`, `due` | what a session holds, and what is due to an ask | specs/Machine |
+//! | `Begins`, `Works`, `Concludes` | the parts of a step: before a look, after it, and after a put | specs/Step |
+//! | `AloneStep` | a step of the one-session machine, with what it reads | specs/Step |
+//! | `Started`, `Next`, `Standing` | a step in parts, by what a session is to be told next | src/halves, specs/Halves |
+//! | `AloneRun` | the runs of the one-session machine | specs/Exchanges |
+//! | `RunAlone` | the exchanges of many sessions, each on its own | specs/Exchanges |
+//! | `RunFits` | those, with what they read of the places that they share | specs/Exchanges |
 //! | `script_of` | the asks of a script and how it ends, by its bytes | specs/Script |
 //! | `IsSaid` | what a step from line to line says of an input | specs/Said |
 //! | `said`, `check_line` | what the command `check` says of its input, and the line that it writes | specs/CheckOut |
@@ -46,11 +49,15 @@ ghost use Rattle.spec_server.specs.declared.answer.Answer.TheVariants as answer;
 ghost use Rattle.spec_server.specs.declared.asks.Ask.TheVariants as ask;
 ghost use Rattle.spec_server.specs.declared.asks.Asked.{Asked as asked_of};
 ghost use Rattle.spec_server.specs.declared.asks.Reply.TheVariants as reply;
-ghost use Rattle.spec_server.specs.declared.command.Plain.TheVariants as plain;
+ghost use Rattle.spec_server.specs.declared.command.Plain.TheVariants as command;
 ghost use Rattle.spec_server.specs.Answers.{number_limit, MayAnswer};
 ghost use Rattle.spec_server.specs.HandedBack.{IsAcceptedBack};
 ghost use Rattle.spec_server.specs.LastFits.{LastFits};
-ghost use Rattle.spec_server.specs.Machine.{ExactAsk, ExactReply, ExactLastAnswer, IsKeptAsk, AreKept, is_memory, State, opening, Read, AloneStep, Exchange, asked_in, AloneRun, RunFits};
+ghost use Rattle.spec_reads.specs.Reads.{ExactRead};
+ghost use Rattle.spec_server.specs.Machine.{ExactAsk, ExactReply, ExactLastAnswer, IsKeptAsk, AreKept};
+ghost use Rattle.spec_server.specs.Machine.{is_memory, State, opening};
+ghost use Rattle.spec_server.specs.Step.{AloneStep};
+ghost use Rattle.spec_server.specs.Exchanges.{Exchange, asked_in, AloneRun, RunAlone};
 ghost use Rattle.spec_server.specs.Script.{script_of};
 ghost use Rattle.spec_server.specs.Output.{ended_lines};
 ghost use Rattle.spec_server.specs.Said.{IsSaidEarly};
@@ -61,85 +68,98 @@ mod answer;
 mod asks;
 mod command;
 mod command_line;
+mod halves;
 
 pub use addressing::{Addressed, Addressing};
 pub use answer::{Answer, How, LastAnswer, Publication};
 pub use asks::{Ask, Asked, Refusal, Reply};
 pub use command::{Command, CommandWord, EditWord, LineFault, Plain};
 pub use command_line::{CommandLine, TextCommand};
+pub use halves::{Next, Started};
 
 /// What a session says of a certificate with a yes is true of the model that it holds.
 pub fn accepted_certificates_are_true()
-    ensures { (old new : State) (raw : ExactRaw) (reads : List Read) (known : Known ℚ) →
-        AloneStep old (ask.Checked raw) reads (reply.Checked (verdict.Yes known)) new →
+    ensures { (places : ℕ) (old new : State) (raw : ExactRaw) (reads : List ExactRead) (known : Known ℚ) →
+        AloneStep places old (ask.Checked raw) reads (reply.Checked (verdict.Yes known)) new →
         (m : Model) × (old.model ≡ Some m) × Holds m known }
 {}
 
 /// What a session answers to a solve is true of the model that it holds.
 pub fn answers_are_true()
-    ensures { (old new : State) (reads : List Read) (known : Known ℚ) →
-        AloneStep old (ask.Plain plain.Solve) reads (reply.Answered (answer.Known known)) new →
+    ensures { (places : ℕ) (old new : State) (reads : List ExactRead) (known : Known ℚ) →
+        AloneStep places old (ask.Plain command.Solve) reads (reply.Answered (answer.Known known)) new →
         (m : Model) × (old.model ≡ Some m) × Holds m known }
 {}
 
-/// A solve answers what the cold solve at the limit finds, or memory runs out.
+/// Whatever is read, a solve answers what the cold solve at the limit finds, or memory runs out.
 pub fn solves_answer_as_the_cold_run()
-    ensures { (old new : State) (reads : List Read) (replied : ExactReply) (m : Model)
+    ensures { (places : ℕ) (old new : State) (reads : List ExactRead) (replied : ExactReply) (m : Model)
         (known : Known ℚ) (cert : Certificate (List ℚ)) (basis : Option (List Status)) (pivots : ℕ) →
         old.model ≡ Some m → cold (Some number_limit) old.budget m ≡ outcome.Ended known cert basis pivots →
-        AloneStep old (ask.Plain plain.Solve) reads replied new →
+        AloneStep places old (ask.Plain command.Solve) reads replied new →
         (replied ≡ reply.Answered (answer.Known known)) ⊎ (replied ≡ reply.Memory) }
 {}
 
 /// The last answer that a session keeps stays one that its model may have.
 pub fn last_answers_fit()
     ensures opening { LastFits opening.model opening.last }
-    ensures steps { (old new : State) (asked : ExactAsk) (reads : List Read) (replied : ExactReply) →
-        AloneStep old asked reads replied new → LastFits old.model old.last → LastFits new.model new.last }
+    ensures steps { (places : ℕ) (old new : State) (asked : ExactAsk) (reads : List ExactRead) (replied : ExactReply) →
+        AloneStep places old asked reads replied new → LastFits old.model old.last → LastFits new.model new.last }
 {}
 
 /// A session whose asks have models and edits that may be kept holds no model but one that may be kept.
 pub fn sessions_keep_models()
     ensures opening { IfSome opening.model IsModel }
-    ensures steps { (old new : State) (asked : ExactAsk) (reads : List Read) (replied : ExactReply) →
-        AloneStep old asked reads replied new → IsKeptAsk asked → IfSome old.model IsModel → IfSome new.model IsModel }
+    ensures steps { (places : ℕ) (old new : State) (asked : ExactAsk) (reads : List ExactRead) (replied : ExactReply) →
+        AloneStep places old asked reads replied new → IsKeptAsk asked → IfSome old.model IsModel →
+        IfSome new.model IsModel }
 {}
 
-/// Whatever a session was asked before, with models and edits that may be kept, as those of scripts are: its last answer stands
-/// up. What is known by it is true of the model that the session holds, and to the text of this model with the lines of the
-/// answer's certificate after it the command `check` says yes, and that the same is known.
+/// Whatever a session was asked before, with models and edits that may be kept, as those of scripts are: its last
+/// answer stands up. What is known by it is true of the model that the session holds, and to the text of this model
+/// with the lines of the answer's certificate after it the command `check` says yes, and that the same is known.
 pub fn last_answers_stand_up()
-    ensures { (xs : List Exchange) (state : State) (m : Model) (last : ExactLastAnswer)
+    ensures { (places : ℕ) (xs : List Exchange) (state : State) (m : Model) (last : ExactLastAnswer)
         (known : Known ℚ) (cert : Certificate (List ℚ)) (basis : Option (List Status)) (pivots : ℕ) →
-        AreKept (map asked_in xs) → AloneRun opening xs state →
+        AreKept (map asked_in xs) → AloneRun places opening xs state →
         state.model ≡ Some m → state.last ≡ Some last → last.solved ≡ outcome.Ended known cert basis pivots →
-        Holds m known × IsSaidEarly (said form.Free) (free m ++ ended_lines (certificate_lines m cert)) (reply.Checked (verdict.Yes known)) }
+        Holds m known
+        × IsSaidEarly (said form.Free) (free m ++ ended_lines (certificate_lines m cert))
+        (reply.Checked (verdict.Yes known)) }
 {}
 
 /// The certificate of an answer is accepted if its lines are given to a session that holds the model.
 pub fn certificates_are_accepted_back()
-    ensures { (m : Model) (budget : ℕ) (known : Known ℚ) (cert : Certificate (List ℚ)) (basis : Option (List Status)) (pivots : ℕ) →
+    ensures { (m : Model) (budget : ℕ) (known : Known ℚ) (cert : Certificate (List ℚ))
+        (basis : Option (List Status)) (pivots : ℕ) →
         IsModel m → MayAnswer m budget (outcome.Ended known cert basis pivots) → IsAcceptedBack m known cert }
 {}
 
-/// Anyone can check an answer: to the text of its model with the lines of its certificate after it the command `check` says
-/// yes, and that the same is known, whatever follows. It is so in both forms, where fixed form has room for the model.
+/// Anyone can check an answer: to the text of its model with the lines of its certificate after it the command `check`
+/// says yes, and that the same is known, whatever follows. It is so in both forms, where fixed form has room for the
+/// model.
 pub fn answers_check_against_the_written_text()
-    ensures free { (m : Model) (budget : ℕ) (known : Known ℚ) (cert : Certificate (List ℚ)) (basis : Option (List Status)) (pivots : ℕ) →
+    ensures free { (m : Model) (budget : ℕ) (known : Known ℚ) (cert : Certificate (List ℚ))
+        (basis : Option (List Status)) (pivots : ℕ) →
         IsModel m → MayAnswer m budget (outcome.Ended known cert basis pivots) →
-        IsSaidEarly (said form.Free) (free m ++ ended_lines (certificate_lines m cert)) (reply.Checked (verdict.Yes known)) }
-    ensures fixed { (m : Model) (budget : ℕ) (known : Known ℚ) (cert : Certificate (List ℚ)) (basis : Option (List Status)) (pivots : ℕ) →
+        IsSaidEarly (said form.Free) (free m ++ ended_lines (certificate_lines m cert))
+        (reply.Checked (verdict.Yes known)) }
+    ensures fixed { (m : Model) (budget : ℕ) (known : Known ℚ) (cert : Certificate (List ℚ))
+        (basis : Option (List Status)) (pivots : ℕ) →
         IsModel m → too_wide m ≡ None → MayAnswer m budget (outcome.Ended known cert basis pivots) →
-        IsSaidEarly (said form.Fixed) (fixed m ++ ended_lines (certificate_lines m cert)) (reply.Checked (verdict.Yes known)) }
+        IsSaidEarly (said form.Fixed) (fixed m ++ ended_lines (certificate_lines m cert))
+        (reply.Checked (verdict.Yes known)) }
 {}
 
 /// Each list of asks, whose models may be kept, has exchanges in which each session runs alone, with memory enough.
 pub fn asks_have_a_run()
-    ensures { (asks : List (asked_of ExactAsk)) → AreKept asks →
-        (xs : List Exchange) × (map asked_in xs ≡ asks) × RunFits xs × (filter (λ x. is_memory x.reply) xs ≡ []) }
+    ensures { (places : ℕ) (asks : List (asked_of ExactAsk)) → AreKept asks →
+        (xs : List Exchange) × (map asked_in xs ≡ asks) × RunAlone places xs
+        × (filter (λ x. is_memory x.reply) xs ≡ []) }
 {}
 
-/// The models that a script's asks are to hold may be kept, and its edits have numbers and bounds that a kept model may have.
+/// The models that a script's asks are to hold may be kept, and its edits have numbers and bounds that a kept model may
+/// have.
 pub fn scripts_ask_kept_models()
     ensures { (bytes : List ℕ) → AreKept (script_of bytes).asks }
 {}

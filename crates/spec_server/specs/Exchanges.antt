@@ -1,0 +1,43 @@
+-- Runs of the one-session machine, and the exchanges of many sessions that share places.
+use Rattle.std.specs.Prelude.{ℕ, ◌≡◌, ◌==◌, List, [], ◌∷◌}
+use Rattle.std.specs.List.{filter, flat_map}
+use Rattle.spec_reads.specs.Reads.{ExactRead}
+use Rattle.spec_reads.specs.Places.{ExactPlace, Logged, logged, Plays}
+use Rattle.spec_server.specs.declared.asks.Asked.{Asked}
+use Rattle.spec_server.specs.Machine.{ExactAsk, ExactReply, State, opening}
+use Rattle.spec_server.specs.Step.{AloneStep}
+
+-- an ask of a session, what it read, and its reply
+pub record Exchange : Type 0 where
+  pub session : ℕ
+  pub ask : ExactAsk
+  pub reads : List ExactRead
+  pub reply : ExactReply
+
+abbrev pub asked_in : Exchange → Asked ExactAsk
+asked_in x = record { session = x.session; ask = x.ask }
+
+-- from old, step by step, to new, where sessions share so many places
+abbrev pub AloneRun : ℕ → State → List Exchange → State → Type 0
+AloneRun places old [] new = new ≡ old
+AloneRun places old (x ∷ xs) new =
+    (middle : State) × AloneStep places old x.ask x.reads x.reply middle × AloneRun places middle xs new
+
+-- those of one session
+abbrev pub of_session : ℕ → List Exchange → List Exchange
+of_session session xs = filter (λ x. x.session == session) xs
+
+-- each session's exchanges are a run of the one-session machine, from the opening state
+abbrev pub RunAlone : ℕ → List Exchange → Type 0
+RunAlone places xs = (session : ℕ) → (last : State) × AloneRun places opening (of_session session xs) last
+
+-- the reads of the exchanges, one exchange after the other
+abbrev pub log_of : List Exchange → List Logged
+log_of xs = flat_map (λ x. logged x.session x.reads) xs
+
+-- The asks are answered one after the other. Each session runs alone, and nobody else reads or writes the places, of
+-- which none is claimed at first: each read is answered by the places as they are then.
+pub record RunFits (places : ℕ) (xs : List Exchange) : Type 0 where
+  pub alone : RunAlone places xs
+  pub last : List ExactPlace
+  pub played : Plays places [] (log_of xs) last

@@ -1,0 +1,161 @@
+-- The steps of the one-session machine. What it reads of what sessions share are values that come in: a solve makes one
+-- look for the newest basis of its form's shape, solves with what was found, and tries at most once to publish the
+-- basis that it ends with.
+use Rattle.std.specs.Prelude.{ℕ, ◌≡◌, ◌⊎◌, ◌++◌, Bool, true, false, Option, Some, None, option_map, Result, Ok, Err}
+use Rattle.std.specs.Prelude.{List, [], if◌then◌else◌}
+use Rattle.spec_text.specs.Words.{same}
+use Rattle.spec_exact.specs.Fraction.{ℚ}
+use Rattle.spec_model.specs.Model.{Model}
+use Rattle.spec_check.specs.declared.certificate.Known.TheVariants as known
+use Rattle.spec_pivot.specs.declared.status.Status.{Status}
+use Rattle.spec_simplex.specs.declared.ends.FormFault.{FormFault}
+use Rattle.spec_simplex.specs.Form.{Form, form_of}
+use Rattle.spec_cold.specs.declared.outcome.Cold.TheVariants.{Ended}
+use Rattle.spec_cold.specs.Cold.{ColdEnd, cold}
+use Rattle.spec_warm.specs.declared.ends.Route.{Route}
+use Rattle.spec_warm.specs.declared.ends.Route.TheVariants as route
+use Rattle.spec_warm.specs.Solve.{SolveEnd}
+use Rattle.spec_shape.specs.Words.{shape_of, packed, unpacked}
+use Rattle.spec_reads.specs.declared.read.Put.{Put}
+use Rattle.spec_reads.specs.Reads.{Words, ExactRead, Looked, LookReads, PutReads}
+use Rattle.spec_server.specs.declared.answer.How.{How}
+use Rattle.spec_server.specs.declared.answer.How.TheVariants as how
+use Rattle.spec_server.specs.declared.answer.Publication.{Publication}
+use Rattle.spec_server.specs.declared.answer.Publication.TheVariants as publication
+use Rattle.spec_server.specs.declared.asks.Reply.TheVariants as reply
+use Rattle.spec_server.specs.Answers.{number_limit, IsSolved}
+use Rattle.spec_server.specs.Machine.{ExactAsk, ExactReply, State, Due, Replies, Solves, due, answer_of, takes_memory}
+
+-- ---- an ask begins
+
+-- it ends with a reply and the next state; or words of this shape are looked for
+pub data Begun : Type 0 where
+  Answers : (replied : ExactReply) → (next : State) → Begun
+  Looks : (shape : Words) → Begun
+
+-- the line of an answer
+abbrev pub answered : State → ColdEnd → ExactReply
+answered old end = reply.Answered (answer_of old.budget end)
+
+-- the state that keeps it
+abbrev pub with_answer : State → ColdEnd → How → Publication → State
+with_answer old end how publication =
+    record old { last = Some (record { solved = end; how = how; publication = publication }) }
+
+-- a model without a form is answered as the cold solve does; for any other the shape of its form is looked for
+abbrev pub solve_begun : State → Model → Result Form (FormFault ℚ) → Begun
+solve_begun old m (Ok f) = Looks (shape_of f)
+solve_begun old m (Err fault) =
+    let end : ColdEnd = cold (Some number_limit) old.budget m in
+    Answers (answered old end) (with_answer old end how.Cold publication.Nothing)
+
+abbrev pub begun_by : State → Due → Begun
+begun_by old (Replies replied next) = Answers replied next
+begun_by old (Solves m) = solve_begun old m (form_of (Some number_limit) m)
+
+-- with memory enough the ask begins as is due; where memory runs out the reply says so, and the state stays
+abbrev pub Begins : State → ExactAsk → Begun → Type 0
+Begins old asked begun =
+    (begun ≡ begun_by old (due old asked)) ⊎ ((takes_memory asked ≡ true) × (begun ≡ Answers reply.Memory old))
+
+-- ---- a solve goes on with what was found
+
+-- an answer whose basis is to be published, in these words
+pub record Pending : Type 0 where
+  pub end : ColdEnd
+  pub how : How
+  pub words : Words
+
+-- the ask ends with a reply and the next state; or words are published first
+pub data Worked : Type 0 where
+  Ends : (replied : ExactReply) → (next : State) → Worked
+  Publishes : (pending : Pending) → Worked
+
+-- the basis that is handed to the solve
+abbrev pub handed_by : Looked → Option (List Status)
+handed_by found = option_map (λ place. unpacked place.words) found
+
+-- how the answer was found: from the basis at a place, or without it
+abbrev pub how_from : ℕ → Route → How
+how_from k route.Cold = how.Cold
+how_from k route.Warm = how.Basis k
+how_from k (route.Fell why) = how.Fell k why
+
+abbrev pub how_by : Looked → Route → How
+how_by None route = how.Cold
+how_by (Some place) route = how_from place.place route
+
+-- these are the words that were found
+abbrev pub is_found : Looked → Words → Bool
+is_found None words = false
+is_found (Some place) words = same words place.words
+
+-- the words of the basis of an optimum
+abbrev pub words_of_end : Form → ColdEnd → Option Words
+words_of_end f (Ended (known.Optimal v) certificate (Some basis) pivots) = Some (packed f basis)
+words_of_end f other = None
+
+-- the basis of an optimum is published, unless it is the one that was found
+abbrev pub worked_with : State → Looked → ColdEnd → How → Option Words → Worked
+worked_with old found end how None = Ends (answered old end) (with_answer old end how publication.Nothing)
+worked_with old found end how (Some words) =
+    if is_found found words
+    then Ends (answered old end) (with_answer old end how publication.Same)
+    else Publishes (record { end = end; how = how; words = words })
+
+-- the model of the session is solved
+pub record SolvesWith (old : State) (found : Looked) (worked : Worked) : Type 0 where
+  pub model : Model
+  pub form : Form
+  pub solved : SolveEnd
+  pub held : old.model ≡ Some model
+  pub formed : form_of (Some number_limit) model ≡ Ok form
+  pub is_solved : IsSolved model old.budget (handed_by found) solved
+  pub goes_on :
+      worked ≡ worked_with old found solved.end (how_by found solved.route) (words_of_end form solved.end)
+
+-- or memory runs out, and the state stays
+abbrev pub Works : State → Looked → Worked → Type 0
+Works old found worked = SolvesWith old found worked ⊎ (worked ≡ Ends reply.Memory old)
+
+-- ---- words were published, or not
+
+abbrev pub after_put : State → Pending → Put → State
+after_put old pending put = with_answer old pending.end pending.how (publication.Tried put)
+
+-- after a look, one put of what is to be published
+pub record PutStep (places : ℕ) (old : State) (pending : Pending) (looked reads : List ExactRead) (replied : ExactReply)
+    (new : State) : Type 0 where
+  pub put : Put
+  pub tried : List ExactRead
+  pub puts : PutReads places pending.words put tried
+  pub all : reads ≡ looked ++ tried
+  pub answer : replied ≡ answered old pending.end
+  pub kept : new ≡ after_put old pending put
+
+abbrev pub Concludes : ℕ → State → Worked → List ExactRead → List ExactRead → ExactReply → State → Type 0
+Concludes places old (Ends stated next) looked reads replied new = (reads ≡ looked) × (replied ≡ stated) × (new ≡ next)
+Concludes places old (Publishes pending) looked reads replied new = PutStep places old pending looked reads replied new
+
+-- ---- the whole step
+
+-- one look, the solve, and then at most one put
+pub record LookStep (places : ℕ) (old : State) (shape : Words) (reads : List ExactRead) (replied : ExactReply)
+    (new : State) : Type 0 where
+  pub looked : List ExactRead
+  pub found : Looked
+  pub worked : Worked
+  pub look : LookReads shape looked found
+  pub works : Works old found worked
+  pub concludes : Concludes places old worked looked reads replied new
+
+abbrev pub GoesOn : ℕ → State → Begun → List ExactRead → ExactReply → State → Type 0
+GoesOn places old (Answers stated next) reads replied new = (reads ≡ []) × (replied ≡ stated) × (new ≡ next)
+GoesOn places old (Looks shape) reads replied new = LookStep places old shape reads replied new
+
+-- One step, where sessions share so many places.
+pub record AloneStep (places : ℕ) (old : State) (asked : ExactAsk) (reads : List ExactRead) (replied : ExactReply)
+    (new : State) : Type 0 where
+  pub begun : Begun
+  pub begins : Begins old asked begun
+  pub goes_on : GoesOn places old begun reads replied new
