@@ -6,9 +6,13 @@ use Rattle.spec_edit.specs.declared.edit.EditFault.TheVariants as fault
 use Rattle.spec_edit.specs.Edited.{ExactEdit, OrFault, edited}
 use Rattle.spec_server.specs.declared.asks.Ask.TheVariants as ask
 use Rattle.spec_server.specs.declared.asks.Reply.TheVariants as reply
-use Rattle.spec_server.specs.declared.command.Plain.TheVariants as plain
-use Rattle.spec_server.specs.Machine.{ExactAsk, ExactReply, State, Does, due, solve_due, edit_due, change_due}
-use Rattle.spec_server.specs.Machine.{edit_refusal, opening, WantsMemory, Exchange, AloneRun, of_session}
+use Rattle.spec_server.specs.declared.command.Plain.TheVariants as command
+use Rattle.spec_reads.specs.Reads.{ExactRead}
+use Rattle.spec_server.specs.Machine.{ExactAsk, ExactReply, State, opening, solve_due, edit_refusal, edit_due}
+use Rattle.spec_server.specs.Machine.{change_due, due}
+use Rattle.spec_server.specs.Step.{AloneStep}
+use Rattle.spec_server.specs.Exchanges.{Exchange, AloneRun, of_session}
+use Rattle.spec_server.proofs.Simply.{Does, WantsMemory, step_simply}
 use Rattle.spec_truth.specs.ModelThen.{made, after_change, after_exchange, after_exchanges, model_then}
 
 -- ---- edits
@@ -43,37 +47,40 @@ solve_then old new (Some m) replied d = ap (λ s. s.model) d.kept
 
 due_then : (old new : State) (asked : ExactAsk) (replied : ExactReply) → Does old (due old asked) replied new →
     new.model ≡ after_exchange old.model asked replied
-due_then old new (ask.Plain plain.Solve) replied d = solve_then old new old.model replied d
-due_then old new (ask.Plain plain.Quit) replied d =
-    ap (λ s. s.model) d.1 ∙ sym (ap (after_exchange old.model (ask.Plain plain.Quit)) d.0)
-due_then old new (ask.Plain (plain.Change e)) replied d = change_then old new old.model e replied refl d
+due_then old new (ask.Plain command.Solve) replied d = solve_then old new old.model replied d
+due_then old new (ask.Plain command.Quit) replied d =
+    ap (λ s. s.model) d.1 ∙ sym (ap (after_exchange old.model (ask.Plain command.Quit)) d.0)
+due_then old new (ask.Plain (command.Change e)) replied d = change_then old new old.model e replied refl d
 due_then old new (ask.Loaded m) replied d =
     ap (λ s. s.model) d.1 ∙ sym (ap (after_exchange old.model (ask.Loaded m)) d.0)
 due_then old new asked replied d = ap (λ s. s.model) d.1
 
 memory_then : (held : Option Model) (asked : ExactAsk) → after_exchange held asked reply.Memory ≡ held
-memory_then held (ask.Plain (plain.Change e)) = refl
-memory_then held (ask.Plain plain.Quit) = refl
+memory_then held (ask.Plain (command.Change e)) = refl
+memory_then held (ask.Plain command.Quit) = refl
 memory_then held (ask.Loaded m) = refl
 memory_then held asked = refl
 
-answer_then : (old new : State) (asked : ExactAsk) (replied : ExactReply) →
-    Does old (due old asked) replied new ⊎ WantsMemory old asked replied new →
-    new.model ≡ after_exchange old.model asked replied
-answer_then old new asked replied (inl d) = due_then old new asked replied d
-answer_then old new asked replied (inr w) =
-    ap (λ s. s.model) w.stays ∙ sym (ap (after_exchange old.model asked) w.memory ∙ memory_then old.model asked)
+step_then : (places : ℕ) (old new : State) (asked : ExactAsk) (reads : List ExactRead) (replied : ExactReply) →
+    AloneStep places old asked reads replied new → new.model ≡ after_exchange old.model asked replied
+step_then places old new asked reads replied s = by (step_simply places old reads replied new asked s)
+  where
+    by : Does old (due old asked) replied new ⊎ WantsMemory old replied new →
+        new.model ≡ after_exchange old.model asked replied
+    by (inl d) = due_then old new asked replied d
+    by (inr w) =
+        ap (λ s. s.model) w.stays ∙ sym (ap (after_exchange old.model asked) w.memory ∙ memory_then old.model asked)
 
 -- ---- runs
 
-pub run_then : (old new : State) (xs : List Exchange) (held : Option Model) → old.model ≡ held → AloneRun old xs new →
-    new.model ≡ after_exchanges held xs
-run_then old new [] held is run = ap (λ s. s.model) run ∙ is
-run_then old new (x ∷ xs) held is run =
-    run_then run.0 new xs (after_exchange held x.ask x.reply)
-    (answer_then old run.0 x.ask x.reply run.1.answer ∙ ap (λ h. after_exchange h x.ask x.reply) is)
+pub run_then : (places : ℕ) (old new : State) (xs : List Exchange) (held : Option Model) → old.model ≡ held →
+    AloneRun places old xs new → new.model ≡ after_exchanges held xs
+run_then places old new [] held is run = ap (λ s. s.model) run ∙ is
+run_then places old new (x ∷ xs) held is run =
+    run_then places run.0 new xs (after_exchange held x.ask x.reply)
+    (step_then places old run.0 x.ask x.reads x.reply run.1 ∙ ap (λ h. after_exchange h x.ask x.reply) is)
     run.2
 
-pub holds_then : (session : ℕ) (xs : List Exchange) (last : State) → AloneRun opening (of_session session xs) last →
-    last.model ≡ model_then session xs
-holds_then session xs last run = run_then opening last (of_session session xs) None refl run
+pub holds_then : (places session : ℕ) (xs : List Exchange) (last : State) →
+    AloneRun places opening (of_session session xs) last → last.model ≡ model_then session xs
+holds_then places session xs last run = run_then places opening last (of_session session xs) None refl run

@@ -12,3 +12,4 @@ pub mod PrintedRuns
 pub mod OwnTexts
 pub mod LoadedLines
 pub mod MadeEdits
+pub mod Agreement

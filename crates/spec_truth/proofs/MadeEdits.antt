@@ -1,5 +1,5 @@
 -- An edit that is answered OK is made.
-use Rattle.std.proofs.Common.{◌≡◌, List, [], ◌∷◌, ◌++◌, Option, Some, None, Ok, Err, refl, sym, ◌∙◌, ap, subst}
+use Rattle.std.proofs.Common.{◌≡◌, ℕ, List, [], ◌∷◌, ◌++◌, Option, Some, None, Ok, Err, refl, sym, ◌∙◌, ap, subst}
 use Rattle.std.proofs.Common.{◌⊎◌, inl, inr}
 use Rattle.spec_model.specs.Model.{Model, Name}
 use Rattle.spec_edit.specs.declared.edit.EditFault.{EditFault}
@@ -8,9 +8,12 @@ use Rattle.spec_edit.specs.Edited.{ExactEdit, OrFault, edited}
 use Rattle.spec_server.specs.declared.asks.Ask.TheVariants as ask
 use Rattle.spec_server.specs.declared.asks.Reply.TheVariants as reply
 use Rattle.spec_server.specs.declared.asks.Refusal.TheVariants as refusal
-use Rattle.spec_server.specs.declared.command.Plain.TheVariants as plain
-use Rattle.spec_server.specs.Machine.{ExactAsk, ExactReply, State, Read, Does, edit_due, change_due, edit_refusal}
-use Rattle.spec_server.specs.Machine.{WantsMemory, AloneStep, Exchange, of_session, RunFits}
+use Rattle.spec_server.specs.declared.command.Plain.TheVariants as command
+use Rattle.spec_reads.specs.Reads.{ExactRead}
+use Rattle.spec_server.specs.Machine.{ExactAsk, ExactReply, State, edit_due, change_due, edit_refusal}
+use Rattle.spec_server.specs.Step.{AloneStep}
+use Rattle.spec_server.specs.Exchanges.{Exchange, of_session, RunAlone}
+use Rattle.spec_server.proofs.Simply.{Does, WantsMemory, step_simply}
 use Rattle.spec_server.proofs.RunLemmas.{of_session-append}
 use Rattle.spec_truth.specs.ModelThen.{made, after_exchange, after_exchanges, model_then}
 use Rattle.spec_truth.proofs.TrueRuns.{steps_then, own_first}
@@ -40,12 +43,11 @@ change_made : (old new : State) (held : Option Model) (e : ExactEdit) →
 change_made old new None e d = let z : ◌≡◌ {A = ExactReply} reply.Done (reply.Refused refusal.NoModel) = d.0 in cc
 change_made old new (Some m) e d = edit_made old new m e (edited m e) refl d
 
-step_made : (old new : State) (e : ExactEdit) (reads : List Read) →
-    AloneStep old (ask.Plain (plain.Change e)) reads reply.Done new → IsMade old.model e
-step_made old new e reads s = by s.answer
+step_made : (places : ℕ) (old new : State) (e : ExactEdit) (reads : List ExactRead) →
+    AloneStep places old (ask.Plain (command.Change e)) reads reply.Done new → IsMade old.model e
+step_made places old new e reads s = by (step_simply places old reads reply.Done new (ask.Plain (command.Change e)) s)
   where
-    by : Does old (change_due old old.model e) reply.Done new
-        ⊎ WantsMemory old (ask.Plain (plain.Change e)) reply.Done new → IsMade old.model e
+    by : Does old (change_due old old.model e) reply.Done new ⊎ WantsMemory old reply.Done new → IsMade old.model e
     by (inl d) = change_made old new old.model e d
     by (inr w) = let z : ◌≡◌ {A = ExactReply} reply.Done reply.Memory = w.memory in cc
 
@@ -65,22 +67,23 @@ then_after before x =
 
 -- ---- in a run
 
-pub edit_then : (before behind : List Exchange) (x : Exchange) (e : ExactEdit) → RunFits (before ++ x ∷ behind) →
-    x.ask ≡ ask.Plain (plain.Change e) → x.reply ≡ reply.Done →
+pub edit_then : (places : ℕ) (before behind : List Exchange) (x : Exchange) (e : ExactEdit) →
+    RunAlone places (before ++ x ∷ behind) →
+    x.ask ≡ ask.Plain (command.Change e) → x.reply ≡ reply.Done →
     (m : Model) × (n : Model) × (model_then x.session before ≡ Some m) × (edited m e ≡ Ok n)
     × (model_then x.session (before ++ x ∷ []) ≡ Some n)
-edit_then before behind x e fits asked replied =
-    let s = steps_then before behind x fits in
-    let step : AloneStep s.old (ask.Plain (plain.Change e)) x.reads reply.Done s.new =
-    subst (λ (r : ExactReply). AloneStep s.old (ask.Plain (plain.Change e)) x.reads r s.new) replied
-    (subst (λ (a : ExactAsk). AloneStep s.old a x.reads x.reply s.new) asked s.step) in
-    let made_then = step_made s.old s.new e x.reads step in
+edit_then places before behind x e fits asked replied =
+    let s = steps_then places before behind x fits in
+    let step : AloneStep places s.old (ask.Plain (command.Change e)) x.reads reply.Done s.new =
+    subst (λ (r : ExactReply). AloneStep places s.old (ask.Plain (command.Change e)) x.reads r s.new) replied
+    (subst (λ (a : ExactAsk). AloneStep places s.old a x.reads x.reply s.new) asked s.step) in
+    let made_then = step_made places s.old s.new e x.reads step in
     let held : model_then x.session before ≡ Some made_then.before = sym s.held ∙ made_then.is_held in (
       made_then.before,
       made_then.after,
       held,
       made_then.is_edited,
       then_after before x ∙ ap (λ a. after_exchange (model_then x.session before) a x.reply) asked
-          ∙ ap (λ r. after_exchange (model_then x.session before) (ask.Plain (plain.Change e)) r) replied
-          ∙ ap (λ h. after_exchange h (ask.Plain (plain.Change e)) reply.Done) held ∙ ap made made_then.is_edited,
+          ∙ ap (λ r. after_exchange (model_then x.session before) (ask.Plain (command.Change e)) r) replied
+          ∙ ap (λ h. after_exchange h (ask.Plain (command.Change e)) reply.Done) held ∙ ap made made_then.is_edited,
     )

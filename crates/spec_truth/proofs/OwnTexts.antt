@@ -1,5 +1,5 @@
 -- Different answers have different texts.
-use Rattle.std.proofs.Common.{◌≡◌, List, ◌∷◌, ◌++◌, refl, sym, ◌∙◌, ap}
+use Rattle.std.proofs.Common.{◌≡◌, ℕ, List, ◌∷◌, ◌++◌, refl, sym, ◌∙◌, ap}
 use Rattle.spec_exact.specs.Fraction.{ℚ}
 use Rattle.spec_exact.specs.Narrow.{IsNarrow}
 use Rattle.spec_model.specs.Model.{Model}
@@ -7,7 +7,7 @@ use Rattle.spec_mps.specs.NumberText.{Is, number_of}
 use Rattle.spec_mps.specs.NumberWritten.{number_text}
 use Rattle.spec_check.specs.declared.certificate.Known.{Known}
 use Rattle.spec_check.specs.declared.certificate.Known.TheVariants as known
-use Rattle.spec_server.specs.Machine.{Exchange, RunFits}
+use Rattle.spec_server.specs.Exchanges.{Exchange, RunAlone}
 use Rattle.spec_server.specs.Output.{known_text, reply_text}
 use Rattle.spec_truth.specs.TrueAnswer.{IsNarrowKnown}
 use Rattle.spec_truth.proofs.Shown.{IsShown, value_fits}
@@ -45,12 +45,14 @@ shown_narrow m (known.Optimal v) s = value_fits m v s
 shown_narrow m known.Infeasible s = tt
 shown_narrow m known.Unbounded s = tt
 
-pub answered_narrow : (before behind : List Exchange) (x : Exchange) (what : Known ℚ) → RunFits (before ++ x ∷ behind) →
+pub answered_narrow : (places : ℕ) (before behind : List Exchange) (x : Exchange) (what : Known ℚ) →
+    RunAlone places (before ++ x ∷ behind) →
     x.reply ≡ answer_to what → IsNarrowKnown what
-answered_narrow before behind x what fits is =
-    let s = answered_then before behind x what fits is in shown_narrow s.model what s.shown
+answered_narrow places before behind x what fits is =
+    let s = answered_then places before behind x what fits is in shown_narrow s.model what s.shown
 
-pub accepted_narrow : (before behind : List Exchange) (x : Exchange) (what : Known ℚ) → RunFits (before ++ x ∷ behind) →
+pub accepted_narrow : (places : ℕ) (before behind : List Exchange) (x : Exchange) (what : Known ℚ) →
+    RunAlone places (before ++ x ∷ behind) →
     x.reply ≡ yes_to what → IsNarrowKnown what
-accepted_narrow before behind x what fits is =
-    let s = accepted_then before behind x what fits is in shown_narrow s.model what s.shown
+accepted_narrow places before behind x what fits is =
+    let s = accepted_then places before behind x what fits is in shown_narrow s.model what s.shown

@@ -7,7 +7,7 @@ use Rattle.spec_model.specs.Truth.{IsOptimal, IsInfeasible, IsUnbounded}
 use Rattle.spec_mps.specs.NumberText.{Is, number_of}
 use Rattle.spec_mps.specs.NumberWritten.{number_text}
 use Rattle.spec_check.specs.declared.certificate.Known.TheVariants as known
-use Rattle.spec_server.specs.Machine.{Exchange, RunFits}
+use Rattle.spec_server.specs.Exchanges.{Exchange, RunAlone}
 use Rattle.spec_server.specs.Output.{reply_text}
 use Rattle.spec_truth.specs.ModelThen.{model_then}
 use Rattle.spec_truth.proofs.Shown.{value_fits}
@@ -26,38 +26,44 @@ value_then : (before : List Exchange) (x : Exchange) (text : List ℕ) (v : ℚ)
 value_then before x text v same s =
     (v, ap number_of (sym same) ∙ read_back v (value_fits s.model v s.shown), true_then before x (known.Optimal v) s)
 
-pub optimal_answer : (before behind : List Exchange) (x : Exchange) (text : List ℕ) → RunFits (before ++ x ∷ behind) →
+pub optimal_answer : (places : ℕ) (before behind : List Exchange) (x : Exchange) (text : List ℕ) →
+    RunAlone places (before ++ x ∷ behind) →
     reply_text x.reply ≡ codes "OPTIMAL " ++ text → IsValueThen before x text
-optimal_answer before behind x text fits e =
+optimal_answer places before behind x text fits e =
     let y = reply_lines.optimal_answer x.reply text e in
-    value_then before x text y.0 y.2 (answered_then before behind x (known.Optimal y.0) fits y.1)
+    value_then before x text y.0 y.2 (answered_then places before behind x (known.Optimal y.0) fits y.1)
 
-pub infeasible_answer : (before behind : List Exchange) (x : Exchange) → RunFits (before ++ x ∷ behind) →
+pub infeasible_answer : (places : ℕ) (before behind : List Exchange) (x : Exchange) →
+    RunAlone places (before ++ x ∷ behind) →
     reply_text x.reply ≡ codes "INFEASIBLE" → IsSoThen before x IsInfeasible
-infeasible_answer before behind x fits e =
+infeasible_answer places before behind x fits e =
     true_then before x known.Infeasible
-    (answered_then before behind x known.Infeasible fits (reply_lines.infeasible_answer x.reply e))
+    (answered_then places before behind x known.Infeasible fits (reply_lines.infeasible_answer x.reply e))
 
-pub unbounded_answer : (before behind : List Exchange) (x : Exchange) → RunFits (before ++ x ∷ behind) →
+pub unbounded_answer : (places : ℕ) (before behind : List Exchange) (x : Exchange) →
+    RunAlone places (before ++ x ∷ behind) →
     reply_text x.reply ≡ codes "UNBOUNDED" → IsSoThen before x IsUnbounded
-unbounded_answer before behind x fits e =
+unbounded_answer places before behind x fits e =
     true_then before x known.Unbounded
-    (answered_then before behind x known.Unbounded fits (reply_lines.unbounded_answer x.reply e))
+    (answered_then places before behind x known.Unbounded fits (reply_lines.unbounded_answer x.reply e))
 
-pub optimal_yes : (before behind : List Exchange) (x : Exchange) (text : List ℕ) → RunFits (before ++ x ∷ behind) →
+pub optimal_yes : (places : ℕ) (before behind : List Exchange) (x : Exchange) (text : List ℕ) →
+    RunAlone places (before ++ x ∷ behind) →
     reply_text x.reply ≡ codes "YES OPTIMAL " ++ text → IsValueThen before x text
-optimal_yes before behind x text fits e =
+optimal_yes places before behind x text fits e =
     let y = reply_lines.optimal_yes x.reply text e in
-    value_then before x text y.0 y.2 (accepted_then before behind x (known.Optimal y.0) fits y.1)
+    value_then before x text y.0 y.2 (accepted_then places before behind x (known.Optimal y.0) fits y.1)
 
-pub infeasible_yes : (before behind : List Exchange) (x : Exchange) → RunFits (before ++ x ∷ behind) →
+pub infeasible_yes : (places : ℕ) (before behind : List Exchange) (x : Exchange) →
+    RunAlone places (before ++ x ∷ behind) →
     reply_text x.reply ≡ codes "YES INFEASIBLE" → IsSoThen before x IsInfeasible
-infeasible_yes before behind x fits e =
+infeasible_yes places before behind x fits e =
     true_then before x known.Infeasible
-    (accepted_then before behind x known.Infeasible fits (reply_lines.infeasible_yes x.reply e))
+    (accepted_then places before behind x known.Infeasible fits (reply_lines.infeasible_yes x.reply e))
 
-pub unbounded_yes : (before behind : List Exchange) (x : Exchange) → RunFits (before ++ x ∷ behind) →
+pub unbounded_yes : (places : ℕ) (before behind : List Exchange) (x : Exchange) →
+    RunAlone places (before ++ x ∷ behind) →
     reply_text x.reply ≡ codes "YES UNBOUNDED" → IsSoThen before x IsUnbounded
-unbounded_yes before behind x fits e =
+unbounded_yes places before behind x fits e =
     true_then before x known.Unbounded
-    (accepted_then before behind x known.Unbounded fits (reply_lines.unbounded_yes x.reply e))
+    (accepted_then places before behind x known.Unbounded fits (reply_lines.unbounded_yes x.reply e))

@@ -35,10 +35,10 @@ solved_begins m solved =
 out_answered : (m : Model) (written : List ℕ) → SolveOut (Ok m) written → IsAnswered m written
 out_answered m written out =
     record {
-      answer = answer_of opening_budget out.0;
-      behind = ended_lines (lines_of_solved m out.0);
-      line = out.2 ∙ solved_begins m out.0;
-      shown = answer_shown m opening_budget out.0 out.1.may_answer;
+      answer = answer_of opening_budget out.0.end;
+      behind = ended_lines (lines_of_solved m out.0.end);
+      line = out.2 ∙ solved_begins m out.0.end;
+      shown = answer_shown m opening_budget out.0.end out.1.may_answer;
     }
 
 same_said : (a b : TextSaid) → ◌≡◌ {A = Option TextSaid} (Some a) (Some b) → a ≡ b

@@ -20,11 +20,13 @@ use Rattle.spec_server.specs.declared.answer.Answer.TheVariants as answer
 use Rattle.spec_server.specs.declared.asks.Ask.TheVariants as ask
 use Rattle.spec_server.specs.declared.asks.Reply.TheVariants as reply
 use Rattle.spec_server.specs.declared.asks.Refusal.TheVariants as refusal
-use Rattle.spec_server.specs.declared.command.Plain.TheVariants as plain
-use Rattle.spec_server.specs.Machine.{ExactAsk, ExactReply, ExactLastAnswer, State, Read, verdict_on, check_reply}
-use Rattle.spec_server.specs.Machine.{fixed_reply, write_reply, cert_reply, how_reply, Due, Replies, Solves, Does}
-use Rattle.spec_server.specs.Machine.{answer_of, due, solve_due, edit_refusal, edit_due, change_due, WantsMemory}
-use Rattle.spec_server.specs.Machine.{AloneStep}
+use Rattle.spec_server.specs.declared.command.Plain.TheVariants as command
+use Rattle.spec_reads.specs.Reads.{ExactRead}
+use Rattle.spec_server.specs.Machine.{ExactAsk, ExactReply, ExactLastAnswer, State, verdict_on, check_reply}
+use Rattle.spec_server.specs.Machine.{fixed_reply, write_reply, cert_reply, how_reply, Due, Replies, Solves}
+use Rattle.spec_server.specs.Machine.{answer_of, due, solve_due, edit_refusal, edit_due, change_due}
+use Rattle.spec_server.specs.Step.{AloneStep}
+use Rattle.spec_server.proofs.Simply.{Does, WantsMemory, step_simply}
 use Rattle.spec_truth.proofs.Shown.{IsShown, IsShownBy, answer_shown, yes_shown}
 
 -- ---- which replies answer, and which speak of a certificate
@@ -92,11 +94,11 @@ done_sort old new (Replies stated next) replied d = ap sort d.0
 done_sort old new (Solves m) replied d = ap sort d.answer
 
 -- memory is not wanting for a reply of these sorts
-step_done : (old new : State) (asked : ExactAsk) (reads : List Read) (replied : ExactReply) (n : ℕ) →
-    AloneStep old asked reads replied new → sort replied ≡ suc n → Does old (due old asked) replied new
-step_done old new asked reads replied n s h = by s.answer
+step_done : (places : ℕ) (old new : State) (asked : ExactAsk) (reads : List ExactRead) (replied : ExactReply) (n : ℕ) →
+    AloneStep places old asked reads replied new → sort replied ≡ suc n → Does old (due old asked) replied new
+step_done places old new asked reads replied n s h = by (step_simply places old reads replied new asked s)
   where
-    by : Does old (due old asked) replied new ⊎ WantsMemory old asked replied new → Does old (due old asked) replied new
+    by : Does old (due old asked) replied new ⊎ WantsMemory old replied new → Does old (due old asked) replied new
     by (inl d) = d
     by (inr w) = absurd (let e : sort replied ≡ 0 = ap sort w.memory in omega (arith, e))
 
@@ -115,11 +117,11 @@ solve_shown : (old new : State) (held : Option Model) (what : Known ℚ) →
 solve_shown old new None what d =
     let e : ◌≡◌ {A = ExactReply} (reply.Answered (answer.Known what)) (reply.Refused refusal.NoModel) = d.0 in cc
 solve_shown old new (Some m) what d =
-    let same : answer.Known what ≡ answer_of old.budget d.solved = answers_same _ _ d.answer in
+    let same : answer.Known what ≡ answer_of old.budget d.end = answers_same _ _ d.answer in
     record {
       model = m;
       is_held = refl;
-      shown = subst (IsShownBy m) (sym same) (answer_shown m old.budget d.solved d.is_solved.may_answer);
+      shown = subst (IsShownBy m) (sym same) (answer_shown m old.budget d.end d.may_answer);
     }
 
 check_shown : (held : Option Model) (raw : ExactRaw) (what : Known ℚ) →
@@ -130,35 +132,37 @@ check_shown (Some m) raw what e = record { model = m; is_held = refl; shown = ye
 -- nothing but a solve answers
 answer_by : (old new : State) (asked : ExactAsk) (what : Known ℚ) → 1 ≡ due_sort (due old asked) →
     Does old (due old asked) (reply.Answered (answer.Known what)) new → IsShownOfHeld old.model what
-answer_by old new (ask.Plain plain.Solve) what h d = solve_shown old new old.model what d
-answer_by old new (ask.Plain (plain.Write form)) what h d =
+answer_by old new (ask.Plain command.Solve) what h d = solve_shown old new old.model what d
+answer_by old new (ask.Plain (command.Write form)) what h d =
     let e = write_sort old.model form in absurd (omega (arith, e))
-answer_by old new (ask.Plain plain.Cert) what h d = let e = cert_sort old.model old.last in absurd (omega (arith, e))
-answer_by old new (ask.Plain plain.How) what h d = let e = how_sort old.last in absurd (omega (arith, e))
-answer_by old new (ask.Plain (plain.Change e)) what h d =
+answer_by old new (ask.Plain command.Cert) what h d = let e = cert_sort old.model old.last in absurd (omega (arith, e))
+answer_by old new (ask.Plain command.How) what h d = let e = how_sort old.last in absurd (omega (arith, e))
+answer_by old new (ask.Plain (command.Change e)) what h d =
     let z = change_sort old old.model e in absurd (omega (arith, z))
 answer_by old new (ask.Checked raw) what h d = absurd (check_sort old.model raw (sym h))
 answer_by old new asked what h d = cc
 
-pub answer_is_shown : (old new : State) (asked : ExactAsk) (reads : List Read) (what : Known ℚ) →
-    AloneStep old asked reads (reply.Answered (answer.Known what)) new → IsShownOfHeld old.model what
-answer_is_shown old new asked reads what s =
-    let d = step_done old new asked reads (reply.Answered (answer.Known what)) 0 s refl in
+pub answer_is_shown : (places : ℕ) (old new : State) (asked : ExactAsk) (reads : List ExactRead) (what : Known ℚ) →
+    AloneStep places old asked reads (reply.Answered (answer.Known what)) new → IsShownOfHeld old.model what
+answer_is_shown places old new asked reads what s =
+    let d = step_done places old new asked reads (reply.Answered (answer.Known what)) 0 s refl in
     answer_by old new asked what (done_sort old new (due old asked) (reply.Answered (answer.Known what)) d) d
 
 -- nothing but a certificate is said yes to
 yes_by : (old new : State) (asked : ExactAsk) (what : Known ℚ) → 2 ≡ due_sort (due old asked) →
     Does old (due old asked) (reply.Checked (verdict.Yes what)) new → IsShownOfHeld old.model what
 yes_by old new (ask.Checked raw) what h d = check_shown old.model raw what d.0
-yes_by old new (ask.Plain plain.Solve) what h d = absurd (solve_sort old old.model (sym h))
-yes_by old new (ask.Plain (plain.Write form)) what h d = let e = write_sort old.model form in absurd (omega (arith, e))
-yes_by old new (ask.Plain plain.Cert) what h d = let e = cert_sort old.model old.last in absurd (omega (arith, e))
-yes_by old new (ask.Plain plain.How) what h d = let e = how_sort old.last in absurd (omega (arith, e))
-yes_by old new (ask.Plain (plain.Change e)) what h d = let z = change_sort old old.model e in absurd (omega (arith, z))
+yes_by old new (ask.Plain command.Solve) what h d = absurd (solve_sort old old.model (sym h))
+yes_by old new (ask.Plain (command.Write form)) what h d =
+    let e = write_sort old.model form in absurd (omega (arith, e))
+yes_by old new (ask.Plain command.Cert) what h d = let e = cert_sort old.model old.last in absurd (omega (arith, e))
+yes_by old new (ask.Plain command.How) what h d = let e = how_sort old.last in absurd (omega (arith, e))
+yes_by old new (ask.Plain (command.Change e)) what h d =
+    let z = change_sort old old.model e in absurd (omega (arith, z))
 yes_by old new asked what h d = cc
 
-pub yes_is_shown : (old new : State) (asked : ExactAsk) (reads : List Read) (what : Known ℚ) →
-    AloneStep old asked reads (reply.Checked (verdict.Yes what)) new → IsShownOfHeld old.model what
-yes_is_shown old new asked reads what s =
-    let d = step_done old new asked reads (reply.Checked (verdict.Yes what)) 1 s refl in
+pub yes_is_shown : (places : ℕ) (old new : State) (asked : ExactAsk) (reads : List ExactRead) (what : Known ℚ) →
+    AloneStep places old asked reads (reply.Checked (verdict.Yes what)) new → IsShownOfHeld old.model what
+yes_is_shown places old new asked reads what s =
+    let d = step_done places old new asked reads (reply.Checked (verdict.Yes what)) 1 s refl in
     yes_by old new asked what (done_sort old new (due old asked) (reply.Checked (verdict.Yes what)) d) d

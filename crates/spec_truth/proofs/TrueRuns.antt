@@ -8,7 +8,9 @@ use Rattle.spec_check.specs.declared.certificate.Verdict.TheVariants as verdict
 use Rattle.spec_check.specs.Certificate.{Holds}
 use Rattle.spec_server.specs.declared.answer.Answer.TheVariants as answer
 use Rattle.spec_server.specs.declared.asks.Reply.TheVariants as reply
-use Rattle.spec_server.specs.Machine.{ExactReply, State, opening, AloneStep, Exchange, AloneRun, of_session, RunFits}
+use Rattle.spec_server.specs.Machine.{ExactReply, State, opening}
+use Rattle.spec_server.specs.Step.{AloneStep}
+use Rattle.spec_server.specs.Exchanges.{Exchange, AloneRun, of_session, RunAlone}
 use Rattle.spec_server.proofs.RunLemmas.{of_session-append}
 use Rattle.spec_truth.specs.ModelThen.{model_then}
 use Rattle.spec_truth.proofs.HeldThen.{holds_then}
@@ -18,15 +20,16 @@ use Rattle.spec_truth.proofs.TrueReplies.{IsShownOfHeld, answer_is_shown, yes_is
 -- ---- the step of one exchange in a run
 
 -- a run of two lists is one of each
-record Splits (a c : State) (xs ys : List Exchange) : Type 0 where
+record Splits (places : ℕ) (a c : State) (xs ys : List Exchange) : Type 0 where
   middle : State
-  first : AloneRun a xs middle
-  second : AloneRun middle ys c
+  first : AloneRun places a xs middle
+  second : AloneRun places middle ys c
 
-split_run : (a c : State) (xs ys : List Exchange) → AloneRun a (xs ++ ys) c → Splits a c xs ys
-split_run a c [] ys run = record { middle = a; first = refl; second = run }
-split_run a c (x ∷ xs) ys run =
-    let more : Splits run.0 c xs ys = split_run run.0 c xs ys run.2 in
+split_run : (places : ℕ) (a c : State) (xs ys : List Exchange) → AloneRun places a (xs ++ ys) c →
+    Splits places a c xs ys
+split_run places a c [] ys run = record { middle = a; first = refl; second = run }
+split_run places a c (x ∷ xs) ys run =
+    let more : Splits places run.0 c xs ys = split_run places run.0 c xs ys run.2 in
     record { middle = more.middle; first = (run.0, run.1, more.first); second = more.second }
 
 same_session : (n : ℕ) → nat_eq n n ≡ true
@@ -37,26 +40,27 @@ pub own_first : (x : Exchange) (xs : List Exchange) → of_session x.session (x 
 own_first x xs = ap (λ t. cond t (x ∷ of_session x.session xs) (of_session x.session xs)) (same_session x.session)
 
 -- the session holds this model as it is asked, and steps from there
-pub record StepsThen (before : List Exchange) (x : Exchange) : Type 0 where
+pub record StepsThen (places : ℕ) (before : List Exchange) (x : Exchange) : Type 0 where
   pub old : State
   pub new : State
-  pub step : AloneStep old x.ask x.reads x.reply new
+  pub step : AloneStep places old x.ask x.reads x.reply new
   pub held : old.model ≡ model_then x.session before
 
-pub steps_then : (before behind : List Exchange) (x : Exchange) → RunFits (before ++ x ∷ behind) → StepsThen before x
-steps_then before behind x fits =
+pub steps_then : (places : ℕ) (before behind : List Exchange) (x : Exchange) → RunAlone places (before ++ x ∷ behind) →
+    StepsThen places before x
+steps_then places before behind x fits =
     let s : ℕ = x.session in
     let run = fits s in
     let cut : of_session s (before ++ x ∷ behind) ≡ of_session s before ++ (x ∷ of_session s behind) =
     of_session-append s before (x ∷ behind) ∙ ap (λ ys. of_session s before ++ ys) (own_first x behind) in
     let parts =
-    split_run opening run.0 (of_session s before) (x ∷ of_session s behind)
-    (subst (λ (ys : List Exchange). AloneRun opening ys run.0) cut run.1) in
+    split_run places opening run.0 (of_session s before) (x ∷ of_session s behind)
+    (subst (λ (ys : List Exchange). AloneRun places opening ys run.0) cut run.1) in
     record {
       old = parts.middle;
       new = parts.second.0;
       step = parts.second.1;
-      held = holds_then s before parts.middle parts.first;
+      held = holds_then places s before parts.middle parts.first;
     }
 
 -- ---- what it replies
@@ -67,27 +71,33 @@ pub record IsShownThen (before : List Exchange) (x : Exchange) (what : Known ℚ
   pub is_held : model_then x.session before ≡ Some model
   pub shown : IsShown model what
 
-with_reply : (before : List Exchange) (x : Exchange) (replied : ExactReply) (s : StepsThen before x) →
-    x.reply ≡ replied → AloneStep s.old x.ask x.reads replied s.new
-with_reply before x replied s is = subst (λ (r : ExactReply). AloneStep s.old x.ask x.reads r s.new) is s.step
+with_reply : (places : ℕ) (before : List Exchange) (x : Exchange) (replied : ExactReply)
+    (s : StepsThen places before x) →
+    x.reply ≡ replied → AloneStep places s.old x.ask x.reads replied s.new
+with_reply places before x replied s is =
+    subst (λ (r : ExactReply). AloneStep places s.old x.ask x.reads r s.new) is s.step
 
-then_shown : (before : List Exchange) (x : Exchange) (what : Known ℚ) (s : StepsThen before x) →
+then_shown : (places : ℕ) (before : List Exchange) (x : Exchange) (what : Known ℚ) (s : StepsThen places before x) →
     IsShownOfHeld s.old.model what → IsShownThen before x what
-then_shown before x what s h = record { model = h.model; is_held = sym s.held ∙ h.is_held; shown = h.shown }
+then_shown places before x what s h = record { model = h.model; is_held = sym s.held ∙ h.is_held; shown = h.shown }
 
-pub answered_then : (before behind : List Exchange) (x : Exchange) (what : Known ℚ) → RunFits (before ++ x ∷ behind) →
+pub answered_then : (places : ℕ) (before behind : List Exchange) (x : Exchange) (what : Known ℚ) →
+    RunAlone places (before ++ x ∷ behind) →
     x.reply ≡ reply.Answered (answer.Known what) → IsShownThen before x what
-answered_then before behind x what fits is =
-    let s = steps_then before behind x fits in
-    then_shown before x what s
-    (answer_is_shown s.old s.new x.ask x.reads what (with_reply before x (reply.Answered (answer.Known what)) s is))
+answered_then places before behind x what fits is =
+    let s = steps_then places before behind x fits in
+    then_shown places before x what s
+    (answer_is_shown places s.old s.new x.ask x.reads what
+    (with_reply places before x (reply.Answered (answer.Known what)) s is))
 
-pub accepted_then : (before behind : List Exchange) (x : Exchange) (what : Known ℚ) → RunFits (before ++ x ∷ behind) →
+pub accepted_then : (places : ℕ) (before behind : List Exchange) (x : Exchange) (what : Known ℚ) →
+    RunAlone places (before ++ x ∷ behind) →
     x.reply ≡ reply.Checked (verdict.Yes what) → IsShownThen before x what
-accepted_then before behind x what fits is =
-    let s = steps_then before behind x fits in
-    then_shown before x what s
-    (yes_is_shown s.old s.new x.ask x.reads what (with_reply before x (reply.Checked (verdict.Yes what)) s is))
+accepted_then places before behind x what fits is =
+    let s = steps_then places before behind x fits in
+    then_shown places before x what s
+    (yes_is_shown places s.old s.new x.ask x.reads what
+    (with_reply places before x (reply.Checked (verdict.Yes what)) s is))
 
 pub true_then : (before : List Exchange) (x : Exchange) (what : Known ℚ) → IsShownThen before x what →
     (m : Model) × (model_then x.session before ≡ Some m) × Holds m what

@@ -2,3 +2,4 @@ pub mod ModelThen
 pub mod TrueAnswer
 pub mod Certified
 pub mod LoadedFrom
+pub mod Agree

@@ -4,8 +4,9 @@ use Rattle.spec_model.specs.Model.{Model}
 use Rattle.spec_edit.specs.Edited.{ExactEdit, OrFault, edited}
 use Rattle.spec_server.specs.declared.asks.Ask.TheVariants as ask
 use Rattle.spec_server.specs.declared.asks.Reply.TheVariants as reply
-use Rattle.spec_server.specs.declared.command.Plain.TheVariants as plain
-use Rattle.spec_server.specs.Machine.{ExactAsk, ExactReply, Exchange, of_session}
+use Rattle.spec_server.specs.declared.command.Plain.TheVariants as command
+use Rattle.spec_server.specs.Machine.{ExactAsk, ExactReply}
+use Rattle.spec_server.specs.Exchanges.{Exchange, of_session}
 
 -- what an edit makes of a model; none where there was none, or where the edit may not be made
 abbrev pub made : OrFault Model → Option Model
@@ -32,8 +33,8 @@ after_quit held replied = held
 -- the model after an exchange, by that before it
 abbrev pub after_exchange : Option Model → ExactAsk → ExactReply → Option Model
 after_exchange held (ask.Loaded m) replied = after_load held m replied
-after_exchange held (ask.Plain (plain.Change e)) replied = after_change held e replied
-after_exchange held (ask.Plain plain.Quit) replied = after_quit held replied
+after_exchange held (ask.Plain (command.Change e)) replied = after_change held e replied
+after_exchange held (ask.Plain command.Quit) replied = after_quit held replied
 after_exchange held asked replied = held
 
 abbrev pub after_exchanges : Option Model → List Exchange → Option Model

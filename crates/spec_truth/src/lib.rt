@@ -8,10 +8,11 @@
 //! | `IsTrueOf` | that what an answer says of a model is so | specs/TrueAnswer |
 //! | `IsNarrowKnown` | that a known value is of at most 127 bits | specs/TrueAnswer |
 //! | `IsCertified` | lines of a model and a certificate after it, and what is so of the model | specs/Certified |
+//! | `RepliesAgree` | replies that two runs of one session may give to the same asks | specs/Agree |
 #![tactic(auto)]
 
 ghost use Rattle.std.specs.Prelude.{◌≡◌, ◌≢◌, ◌≤◌, ◌↔◌, ℕ, Some, None, Ok, Err};
-ghost use Rattle.std.specs.Prelude.{List, [], ◌∷◌, ◌++◌, length, take, All, codes};
+ghost use Rattle.std.specs.Prelude.{List, [], ◌∷◌, ◌++◌, length, take, map, All, codes};
 ghost use Rattle.spec_text.specs.Lines.{lines_of, ended_lines_of, input_limit};
 ghost use Rattle.spec_text.specs.declared.line.Line.{Line};
 ghost use Rattle.spec_exact.specs.Fraction.{ℚ};
@@ -34,9 +35,10 @@ ghost use Rattle.spec_server.specs.declared.answer.Answer.TheVariants as answer;
 ghost use Rattle.spec_server.specs.declared.asks.Ask.TheVariants as ask;
 ghost use Rattle.spec_server.specs.declared.asks.Asked.{Asked as asked_of};
 ghost use Rattle.spec_server.specs.declared.asks.Reply.TheVariants as reply;
-ghost use Rattle.spec_server.specs.declared.command.Plain.TheVariants as plain;
-ghost use Rattle.spec_server.specs.Machine.{ExactAsk, ExactReply, Exchange};
-ghost use Rattle.spec_server.specs.Machine.{State, opening, of_session, AloneRun, RunFits};
+ghost use Rattle.spec_server.specs.declared.command.Plain.TheVariants as command;
+ghost use Rattle.spec_server.specs.Machine.{ExactAsk, ExactReply, State, opening};
+ghost use Rattle.spec_server.specs.Exchanges.{Exchange, of_session, AloneRun, RunAlone};
+ghost use Rattle.spec_truth.specs.Agree.{HasMemory, RepliesAgree};
 ghost use Rattle.spec_server.specs.Script.{Between, asks_from, ended_asks_of, script_of};
 ghost use Rattle.spec_server.specs.Output.{reply_text};
 ghost use Rattle.spec_server.specs.CheckOut.{said, check_line};
@@ -48,15 +50,15 @@ ghost use Rattle.spec_truth.specs.TrueAnswer.{IsTrueOf, IsNarrowKnown};
 
 /// A session holds the model that its asks and replies say.
 pub fn sessions_hold_the_model_then()
-    ensures { (session : ℕ) (xs : List Exchange) (last : State) →
-        AloneRun opening (of_session session xs) last → last.model ≡ model_then session xs }
+    ensures { (places session : ℕ) (xs : List Exchange) (last : State) →
+        AloneRun places opening (of_session session xs) last → last.model ≡ model_then session xs }
 {}
 
 /// In each run of sessions, an edit that is answered OK makes of the model that the session has then the model that it
 /// has from then on.
 pub fn edits_answered_ok_are_made()
-    ensures { (before behind : List Exchange) (x : Exchange) (e : ExactEdit) → RunFits (before ++ x ∷ behind) →
-        x.ask ≡ ask.Plain (plain.Change e) → x.reply ≡ reply.Done →
+    ensures { (places : ℕ) (before behind : List Exchange) (x : Exchange) (e : ExactEdit) →
+        RunAlone places (before ++ x ∷ behind) → x.ask ≡ ask.Plain (command.Change e) → x.reply ≡ reply.Done →
         (m : Model) × (n : Model) × (model_then x.session before ≡ Some m) × (edited m e ≡ Ok n)
         × (model_then x.session (before ++ x ∷ []) ≡ Some n) }
 {}
@@ -80,50 +82,50 @@ pub fn loaded_models_are_spelled()
 
 /// In each run of sessions, an answer to a solve is true of the model that the session has then.
 pub fn answers_are_true_of_the_model_then()
-    ensures optimal { (before behind : List Exchange) (x : Exchange) (v : ℚ) → RunFits (before ++ x ∷ behind) →
-        x.reply ≡ reply.Answered (answer.Known (known.Optimal v)) →
+    ensures optimal { (places : ℕ) (before behind : List Exchange) (x : Exchange) (v : ℚ) →
+        RunAlone places (before ++ x ∷ behind) → x.reply ≡ reply.Answered (answer.Known (known.Optimal v)) →
         (m : Model) × (model_then x.session before ≡ Some m) × IsOptimal m v }
-    ensures infeasible { (before behind : List Exchange) (x : Exchange) → RunFits (before ++ x ∷ behind) →
-        x.reply ≡ reply.Answered (answer.Known known.Infeasible) →
+    ensures infeasible { (places : ℕ) (before behind : List Exchange) (x : Exchange) →
+        RunAlone places (before ++ x ∷ behind) → x.reply ≡ reply.Answered (answer.Known known.Infeasible) →
         (m : Model) × (model_then x.session before ≡ Some m) × IsInfeasible m }
-    ensures unbounded { (before behind : List Exchange) (x : Exchange) → RunFits (before ++ x ∷ behind) →
-        x.reply ≡ reply.Answered (answer.Known known.Unbounded) →
+    ensures unbounded { (places : ℕ) (before behind : List Exchange) (x : Exchange) →
+        RunAlone places (before ++ x ∷ behind) → x.reply ≡ reply.Answered (answer.Known known.Unbounded) →
         (m : Model) × (model_then x.session before ≡ Some m) × IsUnbounded m }
 {}
 
 /// In each run of sessions, what a yes to a certificate says is true of the model that the session has then.
 pub fn yes_is_true_of_the_model_then()
-    ensures optimal { (before behind : List Exchange) (x : Exchange) (v : ℚ) → RunFits (before ++ x ∷ behind) →
-        x.reply ≡ reply.Checked (verdict.Yes (known.Optimal v)) →
+    ensures optimal { (places : ℕ) (before behind : List Exchange) (x : Exchange) (v : ℚ) →
+        RunAlone places (before ++ x ∷ behind) → x.reply ≡ reply.Checked (verdict.Yes (known.Optimal v)) →
         (m : Model) × (model_then x.session before ≡ Some m) × IsOptimal m v }
-    ensures infeasible { (before behind : List Exchange) (x : Exchange) → RunFits (before ++ x ∷ behind) →
-        x.reply ≡ reply.Checked (verdict.Yes known.Infeasible) →
+    ensures infeasible { (places : ℕ) (before behind : List Exchange) (x : Exchange) →
+        RunAlone places (before ++ x ∷ behind) → x.reply ≡ reply.Checked (verdict.Yes known.Infeasible) →
         (m : Model) × (model_then x.session before ≡ Some m) × IsInfeasible m }
-    ensures unbounded { (before behind : List Exchange) (x : Exchange) → RunFits (before ++ x ∷ behind) →
-        x.reply ≡ reply.Checked (verdict.Yes known.Unbounded) →
+    ensures unbounded { (places : ℕ) (before behind : List Exchange) (x : Exchange) →
+        RunAlone places (before ++ x ∷ behind) → x.reply ≡ reply.Checked (verdict.Yes known.Unbounded) →
         (m : Model) × (model_then x.session before ≡ Some m) × IsUnbounded m }
 {}
 
 /// In each run of sessions, the text of a reply alone says what is true of the model that the session has then: after
 /// the word OPTIMAL stands the text of the optimal value.
 pub fn reply_texts_are_true_of_the_model_then()
-    ensures optimal { (before behind : List Exchange) (x : Exchange) (text : List ℕ) → RunFits (before ++ x ∷ behind) →
-        reply_text x.reply ≡ codes "OPTIMAL " ++ text →
+    ensures optimal { (places : ℕ) (before behind : List Exchange) (x : Exchange) (text : List ℕ) →
+        RunAlone places (before ++ x ∷ behind) → reply_text x.reply ≡ codes "OPTIMAL " ++ text →
         (v : ℚ) × (number_of text ≡ Is v) × ((m : Model) × (model_then x.session before ≡ Some m) × IsOptimal m v) }
-    ensures infeasible { (before behind : List Exchange) (x : Exchange) → RunFits (before ++ x ∷ behind) →
-        reply_text x.reply ≡ codes "INFEASIBLE" →
+    ensures infeasible { (places : ℕ) (before behind : List Exchange) (x : Exchange) →
+        RunAlone places (before ++ x ∷ behind) → reply_text x.reply ≡ codes "INFEASIBLE" →
         (m : Model) × (model_then x.session before ≡ Some m) × IsInfeasible m }
-    ensures unbounded { (before behind : List Exchange) (x : Exchange) → RunFits (before ++ x ∷ behind) →
-        reply_text x.reply ≡ codes "UNBOUNDED" →
+    ensures unbounded { (places : ℕ) (before behind : List Exchange) (x : Exchange) →
+        RunAlone places (before ++ x ∷ behind) → reply_text x.reply ≡ codes "UNBOUNDED" →
         (m : Model) × (model_then x.session before ≡ Some m) × IsUnbounded m }
-    ensures yes_optimal { (before behind : List Exchange) (x : Exchange) (text : List ℕ) →
-        RunFits (before ++ x ∷ behind) → reply_text x.reply ≡ codes "YES OPTIMAL " ++ text →
+    ensures yes_optimal { (places : ℕ) (before behind : List Exchange) (x : Exchange) (text : List ℕ) →
+        RunAlone places (before ++ x ∷ behind) → reply_text x.reply ≡ codes "YES OPTIMAL " ++ text →
         (v : ℚ) × (number_of text ≡ Is v) × ((m : Model) × (model_then x.session before ≡ Some m) × IsOptimal m v) }
-    ensures yes_infeasible { (before behind : List Exchange) (x : Exchange) → RunFits (before ++ x ∷ behind) →
-        reply_text x.reply ≡ codes "YES INFEASIBLE" →
+    ensures yes_infeasible { (places : ℕ) (before behind : List Exchange) (x : Exchange) →
+        RunAlone places (before ++ x ∷ behind) → reply_text x.reply ≡ codes "YES INFEASIBLE" →
         (m : Model) × (model_then x.session before ≡ Some m) × IsInfeasible m }
-    ensures yes_unbounded { (before behind : List Exchange) (x : Exchange) → RunFits (before ++ x ∷ behind) →
-        reply_text x.reply ≡ codes "YES UNBOUNDED" →
+    ensures yes_unbounded { (places : ℕ) (before behind : List Exchange) (x : Exchange) →
+        RunAlone places (before ++ x ∷ behind) → reply_text x.reply ≡ codes "YES UNBOUNDED" →
         (m : Model) × (model_then x.session before ≡ Some m) × IsUnbounded m }
 {}
 
@@ -190,8 +192,16 @@ pub fn known_answers_have_their_own_texts()
     ensures different { (what other : Known ℚ) → IsNarrowKnown what → IsNarrowKnown other →
         reply_text (reply.Answered (answer.Known what)) ≡ reply_text (reply.Answered (answer.Known other)) →
         what ≡ other }
-    ensures answered { (before behind : List Exchange) (x : Exchange) (what : Known ℚ) →
-        RunFits (before ++ x ∷ behind) → x.reply ≡ reply.Answered (answer.Known what) → IsNarrowKnown what }
-    ensures accepted { (before behind : List Exchange) (x : Exchange) (what : Known ℚ) →
-        RunFits (before ++ x ∷ behind) → x.reply ≡ reply.Checked (verdict.Yes what) → IsNarrowKnown what }
+    ensures answered { (places : ℕ) (before behind : List Exchange) (x : Exchange) (what : Known ℚ) →
+        RunAlone places (before ++ x ∷ behind) → x.reply ≡ reply.Answered (answer.Known what) → IsNarrowKnown what }
+    ensures accepted { (places : ℕ) (before behind : List Exchange) (x : Exchange) (what : Known ℚ) →
+        RunAlone places (before ++ x ∷ behind) → x.reply ≡ reply.Checked (verdict.Yes what) → IsNarrowKnown what }
+{}
+
+/// Two runs in which a session is asked the same reply the same, whatever each reads, but for how answers were found,
+/// the lines of certificates, and answers in place of a refused operation or of a spent budget.
+pub fn runs_of_the_same_asks_agree()
+    ensures { (places places' : ℕ) (xs ys : List Exchange) (last last' : State) →
+        AloneRun places opening xs last → AloneRun places' opening ys last' →
+        map (λ x. x.ask) xs ≡ map (λ y. y.ask) ys → HasMemory xs → HasMemory ys → RepliesAgree xs ys }
 {}

@@ -5,12 +5,12 @@ use Rattle.spec_truth.proofs.yes_is_true_of_the_model_then.Goals as goal
 pub returns : goal.returns
 returns c = record {
   optimal =
-      λ before behind x v fits is. true_then before x (known.Optimal v)
-      (accepted_then before behind x (known.Optimal v) fits is);
+      λ places before behind x v fits is. true_then before x (known.Optimal v)
+      (accepted_then places before behind x (known.Optimal v) fits is);
   infeasible =
-      λ before behind x fits is. true_then before x known.Infeasible
-      (accepted_then before behind x known.Infeasible fits is);
+      λ places before behind x fits is. true_then before x known.Infeasible
+      (accepted_then places before behind x known.Infeasible fits is);
   unbounded =
-      λ before behind x fits is. true_then before x known.Unbounded
-      (accepted_then before behind x known.Unbounded fits is);
+      λ places before behind x fits is. true_then before x known.Unbounded
+      (accepted_then places before behind x known.Unbounded fits is);
 }

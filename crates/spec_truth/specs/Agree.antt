@@ -1,0 +1,40 @@
+-- Replies that two runs of one session may give to the same asks.
+use Rattle.std.specs.Prelude.{◌≡◌, ◌⊎◌, List, [], ◌∷◌}
+use Rattle.std.specs.List.{AllByRecursion}
+use Rattle.spec_exact.specs.Fraction.{ℚ}
+use Rattle.spec_server.specs.declared.answer.Answer.{Answer}
+use Rattle.spec_server.specs.declared.answer.Answer.TheVariants.{Known, Past, Spent}
+use Rattle.spec_server.specs.declared.asks.Ask.TheVariants as ask
+use Rattle.spec_server.specs.declared.asks.Reply.TheVariants as reply
+use Rattle.spec_server.specs.declared.command.Plain.TheVariants as command
+use Rattle.spec_server.specs.Machine.{ExactAsk, ExactReply}
+use Rattle.spec_server.specs.Exchanges.{Exchange}
+
+-- one of them knows an answer where the other passed the limit or spent its budget
+abbrev pub IsWon : Answer ℚ → Answer ℚ → Type 0
+IsWon (Known a) (Past p) = Unit {0}
+IsWon (Known a) (Spent n) = Unit {0}
+IsWon (Past p) (Known b) = Unit {0}
+IsWon (Spent n) (Known b) = Unit {0}
+IsWon a b = ⊥
+
+-- how an answer was found, the lines of its certificate, and an answer that was won
+abbrev pub MayDiffer : ExactAsk → ExactReply → ExactReply → Type 0
+MayDiffer (ask.Plain command.How) (reply.Found how pivots publication) (reply.Found how' pivots' publication') =
+    Unit {0}
+MayDiffer (ask.Plain command.Cert) (reply.Certified lines) (reply.Certified lines') = Unit {0}
+MayDiffer (ask.Plain command.Solve) (reply.Answered a) (reply.Answered b) = IsWon a b
+MayDiffer asked a b = ⊥
+
+abbrev pub IsSameBut : ExactAsk → ExactReply → ExactReply → Type 0
+IsSameBut asked a b = (a ≡ b) ⊎ MayDiffer asked a b
+
+-- one after the other
+abbrev pub RepliesAgree : List Exchange → List Exchange → Type 0
+RepliesAgree [] [] = Unit {0}
+RepliesAgree (x ∷ xs) (y ∷ ys) = IsSameBut x.ask x.reply y.reply × RepliesAgree xs ys
+RepliesAgree xs ys = ⊥
+
+-- memory never ran out
+abbrev pub HasMemory : List Exchange → Type 0
+HasMemory xs = AllByRecursion (λ x. x.reply ≡ reply.Memory → ⊥) xs
