@@ -7,7 +7,9 @@ use crate::asks::Answer;
 use lp_base::Bytes;
 use lp_check::{Known, Verdict};
 use lp_frac::{Op, Past};
+use spec_reads::Put;
 use spec_server::{How, Publication};
+use spec_warm::Fall;
 use std::alloc::{AllocError, Global};
 
 /// Writes a number after what is there.
@@ -89,19 +91,65 @@ pub(crate) fn push_answer(alloc: Global, answer: &Answer, to: &mut Bytes) -> Res
     }
 }
 
-fn how_name(how: How) -> &'static [u8]
-    ensures { result.now ≡ output.how_text how }
+fn fall_name(fall: Fall) -> &'static [u8]
+    ensures { result.now ≡ output.fall_text fall }
 {
-    match how {
-        How::Cold => b"COLD",
+    match fall {
+        Fall::Singular => b"SINGULAR",
+        Fall::Unfit => b"UNFIT",
+        Fall::Past => b"PAST",
+        Fall::Spent => b"SPENT",
     }
 }
 
-fn publication_name(publication: Publication) -> &'static [u8]
-    ensures { result.now ≡ output.publication_text publication }
+fn push_how(alloc: Global, how: How, to: &mut Bytes) -> Result<(), AllocError>
+    ensures { OnOk result (to.new ≡ to.old ++ output.how_text how) }
+{
+    match how {
+        How::Cold => to.extend(b"COLD"),
+        How::Basis(place) => {
+            to.extend(b"BASIS ")?;
+            push_number(alloc, u64::from(place), to)
+        }
+        How::Fell(place, fall) => {
+            to.extend(b"FELL ")?;
+            push_number(alloc, u64::from(place), to)?;
+            to.extend(b" ")?;
+            to.extend(fall_name(fall))
+        }
+    }
+}
+
+fn push_put(alloc: Global, put: Put, to: &mut Bytes) -> Result<(), AllocError>
+    ensures { OnOk result (to.new ≡ to.old ++ output.put_text put) }
+{
+    match put {
+        Put::Published(place) => {
+            to.extend(b"PUBLISHED ")?;
+            push_number(alloc, u64::from(place), to)
+        }
+        Put::Raced(claimed) => {
+            to.extend(b"RACED ")?;
+            push_number(alloc, u64::from(claimed), to)
+        }
+        Put::Full(claimed) => {
+            to.extend(b"FULL ")?;
+            push_number(alloc, u64::from(claimed), to)
+        }
+    }
+}
+
+fn push_publication(
+    alloc: Global,
+    publication: Publication,
+    to: &mut Bytes,
+) -> Result<(), AllocError>
+    ensures { OnOk result (to.new ≡ to.old ++ output.publication_text publication) }
 {
     match publication {
-        Publication::Nothing => b"NONE",
+        Publication::Nothing => to.extend(b"NONE"),
+        Publication::Same => to.extend(b"SAME"),
+        Publication::Tried(put) => push_put(alloc, put, to),
     }
 }
 
@@ -126,9 +174,9 @@ pub(crate) fn push_found(
     ensures { OnOk result (to.new ≡ to.old ++ output.reply_text (replies.Found how pivots publication)) }
 {
     to.extend(b"HOW ")?;
-    to.extend(how_name(how))?;
+    push_how(alloc, how, to)?;
     to.extend(b" PIVOTS ")?;
     push_pivots(alloc, pivots, to)?;
     to.extend(b" ")?;
-    to.extend(publication_name(publication))
+    push_publication(alloc, publication, to)
 }

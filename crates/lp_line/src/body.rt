@@ -8,8 +8,8 @@ use crate::hearing::{Stage, Step};
 use lp_base::Line;
 use std::alloc::{AllocError, Global};
 
-/// A body as far as it was read: in a stage of type `T`, or after the line at which this was said of it. The lines after that one
-/// are passed over.
+/// A body as far as it was read: in a stage of type `T`, or after the line at which this was said of it.
+/// Later lines are passed over.
 #[derive(Drop)]
 pub enum Body<T, R> {
     Reading(T),

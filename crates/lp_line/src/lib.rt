@@ -1,15 +1,14 @@
-//! The protocol of scripts: their lines are read as asks, and replies are written as lines. Lines name sessions, or are all
-//! those of one.
+//! The protocol of scripts: their lines are read as asks, and replies are written as lines. Lines name sessions, or are
+//! all those of one.
 //!
 //! | Item | What it is | Where |
 //! |---|---|---|
 //! | `Ask`, `Asked`, `Reply` | what sessions are asked and reply, with the types of the code | src/asks |
-//! | `read`, `Addressed`, `Command` | what a line between two commands is: src/command, and the edits | src/edits |
-//! | `hear`, `Stage`, `Heard` | reads lines up to the one at which something is said, as texts and certificates are | src/hearing, |
-//!                  src/stages, specs/Hearing
-//! | Item | What it is | Where |
-//! |---|---|---|
+//! | `read`, `Addressed`, `Command` | what a line between two commands is | src/command, src/edits |
+//! | `hear`, `Heard` | reads lines up to the one at which something is said | src/hearing, specs/Hearing |
+//! | `Stage`, `Step` | what was read so far, and where the next line leads | src/hearing, src/stages, src/script |
 //! | `take`, `Taken` | reads the lines of the next ask | src/taking, specs/Takes |
+//! | `places_of` | how many places a word of the command line gives | src/words |
 //! | `print` | writes a session's reply | src/printing |
 //! | `print_said` | writes a reply without a session | src/printing |
 //! | `print_lines` | writes lines | src/printing |
@@ -38,3 +37,4 @@ pub use printing::{print, print_lines, print_said};
 pub use spec_server::{Addressing, How, LineFault, Publication};
 pub use stages::{CertificateSaid, TextSaid};
 pub use taking::{Taken, take};
+pub use words::places_of;

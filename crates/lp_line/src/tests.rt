@@ -1,6 +1,6 @@
 use crate::{
     Addressed, Addressing, Answer, Ask, Command, How, LineFault, Plain, Publication, Refusal,
-    Reply, Taken, print, read, take,
+    Reply, Taken, places_of, print, read, take,
 };
 use lp_base::{Bytes, Line, Lines, MemSource, Name, Texts};
 use lp_check::{Known, Verdict};
@@ -8,11 +8,16 @@ use lp_edit::{Edit, Which};
 use lp_frac::{Frac, Op, Past, num};
 use lp_model::Sense;
 use spec_mps::{Code, MpsFault, Style};
+use spec_reads::Put;
+use spec_warm::Fall;
 use std::alloc::{AllocError, Global};
 use std::test::Fail;
 
 const SCRIPT: &str =
-    "# all commands\n1 LOAD FREE\nNAME a\nROWS\n N cost\n G R1\nCOLUMNS\n x cost 1 R1 1\nRHS\n R1 1\nENDATA\r\n\t2  CHECK\nOPTIMAL\nx x 1\nEND\n\n3 WRITE FIXED\n64 SOLVE\n5 CERT\n6 HOW\n7 BUDGET 1000000\n8 QUIT\n1 LOAD FIXED\n ENDATA\nENDATA\n1 JUMP\n65 SOLVE\n1\n1 BUDGET 0\n2 CHECK\nOPTIMAL";
+    "# all commands\n1 LOAD FREE\nNAME a\nROWS\n N cost\n G R1\nCOLUMNS\n x cost 1 R1 1\nRHS\n R1 1\n\
+     ENDATA\r\n\t2  CHECK\nOPTIMAL\nx x 1\nEND\n\n3 WRITE FIXED\n64 SOLVE\n5 CERT\n6 HOW\n\
+     7 BUDGET 1000000\n8 QUIT\n1 LOAD FIXED\n ENDATA\nENDATA\n1 JUMP\n65 SOLVE\n1\n1 BUDGET 0\n\
+     2 CHECK\nOPTIMAL";
 
 // A source of these bytes in pieces of this size.
 fn source(alloc: Global, text: &str, size: usize) -> Result<MemSource, AllocError> {
@@ -37,7 +42,7 @@ fn value(number: &Option<Frac>) -> i128 {
 }
 
 // What an edit is, and a number that it has.
-fn edit_told(edit: &Edit) -> (&'static str, i128) {
+fn kind_of_edit(edit: &Edit) -> (&'static str, i128) {
     match edit {
         Edit::AddRow { rhs, range, .. } => match range {
             Some(range) => ("row with a range", num(*range)),
@@ -60,7 +65,7 @@ fn edit_told(edit: &Edit) -> (&'static str, i128) {
 }
 
 // What an ask is, and a number that it has.
-fn told(ask: &Ask) -> (&'static str, i128) {
+fn kind_of(ask: &Ask) -> (&'static str, i128) {
     match ask {
         Ask::Plain(Plain::Write(Style::Free)) => ("write free", 0),
         Ask::Plain(Plain::Write(Style::Fixed)) => ("write fixed", 0),
@@ -69,7 +74,7 @@ fn told(ask: &Ask) -> (&'static str, i128) {
         Ask::Plain(Plain::How) => ("how", 0),
         Ask::Plain(Plain::Budget(count)) => ("budget", i128::from(*count)),
         Ask::Plain(Plain::Quit) => ("quit", 0),
-        Ask::Plain(Plain::Change(edit)) => edit_told(edit),
+        Ask::Plain(Plain::Change(edit)) => kind_of_edit(edit),
         Ask::Loaded(model) => ("columns", i128::from(model.cols())),
         Ask::Misspelled(fault) => ("misspelled", i128::from(fault.line)),
         Ask::Checked(raw) => ("parts", raw.parts.as_slice().len() as i128),
@@ -90,7 +95,7 @@ fn next(
 ) -> Result<(u32, &'static str, i128), Fail> {
     match take(alloc, addressing, lines, src)? {
         Taken::Ask(asked) => {
-            let (what, number) = told(&asked.ask);
+            let (what, number) = kind_of(&asked.ask);
             Ok((asked.session, what, number))
         }
         Taken::End => Ok((0, "end", 0)),
@@ -131,7 +136,10 @@ fn all_commands_in_pieces(rt: HostRuntime) -> Result<(), Fail> {
 }
 
 const EDITS: &str =
-    "9 ADDROW r L 1\n9 ADDROW r G 1 2\n9 DELROW r\n9 ADDCOL y 1 r 3 s 4/5\n9 DELCOL y\n9 SETCOST y -3\n9 SETCOEF r y 4\n9 SETRHS r 5\n9 SETRANGE r 6\n9 SETRANGE r NONE\n9 SETBOUND y 7 8\n9 SETBOUND y -inf 9\n9 SETBOUND y -1e20 1e20\n9 SENSE MIN\n9 SENSE MAX\n9 ADDCOL y 1 r\n9 ADDROW r N x\n9 ADDROW r E x\n9 SETBOUND y inf 0\n9 SETRHS r 1e99\n9 SENSE";
+    "9 ADDROW r L 1\n9 ADDROW r G 1 2\n9 DELROW r\n9 ADDCOL y 1 r 3 s 4/5\n9 DELCOL y\n\
+     9 SETCOST y -3\n9 SETCOEF r y 4\n9 SETRHS r 5\n9 SETRANGE r 6\n9 SETRANGE r NONE\n\
+     9 SETBOUND y 7 8\n9 SETBOUND y -inf 9\n9 SETBOUND y -1e20 1e20\n9 SENSE MIN\n9 SENSE MAX\n\
+     9 ADDCOL y 1 r\n9 ADDROW r N x\n9 ADDROW r E x\n9 SETBOUND y inf 0\n9 SETRHS r 1e99\n9 SENSE";
 
 #[test]
 fn edits_with_their_numbers(rt: HostRuntime) -> Result<(), Fail> {
@@ -170,7 +178,8 @@ fn edits_with_their_numbers(rt: HostRuntime) -> Result<(), Fail> {
 }
 
 const UNNUMBERED: &str =
-    "LOAD FREE\nNAME a\nROWS\n N cost\n G R1\nCOLUMNS\n x cost 1 R1 1\nENDATA\n9 SOLVE\nSOLVE\n# none\n\nCHECK\nOPTIMAL\nz\nx x 1\nEND\nLOAD FREE\nROWS\nROWS\n N cost\nENDATA\nQUIT\n";
+    "LOAD FREE\nNAME a\nROWS\n N cost\n G R1\nCOLUMNS\n x cost 1 R1 1\nENDATA\n9 SOLVE\nSOLVE\n\
+     # none\n\nCHECK\nOPTIMAL\nz\nx x 1\nEND\nLOAD FREE\nROWS\nROWS\n N cost\nENDATA\nQUIT\n";
 
 #[test]
 fn lines_without_numbers(rt: HostRuntime) -> Result<(), Fail> {
@@ -216,7 +225,16 @@ fn a_line_alone(rt: HostRuntime) -> Result<(), Fail> {
     else {
         return Ok(assert!(rt; false));
     };
-    assert_eq!(rt; (session, told(&Ask::Plain(plain))), (9, ("max", 0)));
+    assert_eq!(rt; (session, kind_of(&Ask::Plain(plain))), (9, ("max", 0)));
+    Ok(())
+}
+
+#[test]
+fn places_of_a_word(rt: HostRuntime) -> Result<(), Fail> {
+    assert_eq!(rt;
+        (places_of(b"1024"), places_of(b"1025")),
+        (Some(1024), None)
+    );
     Ok(())
 }
 
@@ -250,8 +268,16 @@ fn replies(alloc: Global) -> Result<Vec<Reply>, Fail> {
     replies.push(Reply::Answered(Answer::Spent(1)))?;
     replies.push(Reply::Certified(texts(alloc, &["OPTIMAL", "x x 1", "y R1 1", "END"])?))?;
     replies.push(Reply::Certified(Texts::new(alloc)))?;
-    replies.push(found(Some(2)))?;
-    replies.push(found(None))?;
+    replies.push(found(How::Cold, None, Publication::Nothing))?;
+    replies.push(found(How::Basis(3), Some(0), Publication::Same))?;
+    replies.push(found(
+        How::Fell(255, Fall::Singular),
+        Some(2),
+        tried(Put::Published(9)),
+    ))?;
+    replies.push(found(How::Fell(0, Fall::Unfit), Some(2), tried(Put::Raced(10))))?;
+    replies.push(found(How::Fell(0, Fall::Past), Some(2), tried(Put::Full(256))))?;
+    replies.push(found(How::Fell(0, Fall::Spent), None, Publication::Nothing))?;
     replies.push(Reply::Checked(Verdict::Yes(Known::Optimal(Frac::new(1, 1)?))))?;
     replies.push(Reply::Checked(Verdict::No(4)))?;
     replies.push(Reply::Checked(Verdict::Past(past)))?;
@@ -260,16 +286,25 @@ fn replies(alloc: Global) -> Result<Vec<Reply>, Fail> {
     Ok(replies)
 }
 
-fn found(pivots: Option<u64>) -> Reply {
+fn found(how: How, pivots: Option<u64>, publication: Publication) -> Reply {
     Reply::Found {
-        how: How::Cold,
+        how,
         pivots,
-        publication: Publication::Nothing,
+        publication,
     }
 }
 
+fn tried(put: Put) -> Publication {
+    Publication::Tried(put)
+}
+
 const REPLIES: &str =
-    "7 LOADED 30 40\n7 TEXT 2\nNAME a\nENDATA\n7 OK\n7 OPTIMAL 10/21\n7 INFEASIBLE\n7 UNBOUNDED\n7 PAST ADD 1/100000000000000000000 1/100000000000000000001\n7 SPENT 1\n7 CERT 4\nOPTIMAL\nx x 1\ny R1 1\nEND\n7 CERT 0\n7 HOW COLD PIVOTS 2 NONE\n7 HOW COLD PIVOTS - NONE\n7 YES OPTIMAL 1\n7 NO 4\n7 PAST ADD 1/100000000000000000000 1/100000000000000000001\n7 BYE\n7 MEMORY\n";
+    "7 LOADED 30 40\n7 TEXT 2\nNAME a\nENDATA\n7 OK\n7 OPTIMAL 10/21\n7 INFEASIBLE\n7 UNBOUNDED\n\
+     7 PAST ADD 1/100000000000000000000 1/100000000000000000001\n7 SPENT 1\n7 CERT 4\nOPTIMAL\n\
+     x x 1\ny R1 1\nEND\n7 CERT 0\n7 HOW COLD PIVOTS - NONE\n7 HOW BASIS 3 PIVOTS 0 SAME\n\
+     7 HOW FELL 255 SINGULAR PIVOTS 2 PUBLISHED 9\n7 HOW FELL 0 UNFIT PIVOTS 2 RACED 10\n\
+     7 HOW FELL 0 PAST PIVOTS 2 FULL 256\n7 HOW FELL 0 SPENT PIVOTS - NONE\n7 YES OPTIMAL 1\n\
+     7 NO 4\n7 PAST ADD 1/100000000000000000000 1/100000000000000000001\n7 BYE\n7 MEMORY\n";
 
 fn refusals(alloc: Global) -> Result<Vec<Refusal>, AllocError> {
     let fault = MpsFault {
@@ -296,7 +331,10 @@ fn refusals(alloc: Global) -> Result<Vec<Refusal>, AllocError> {
 }
 
 const REFUSALS: &str =
-    "0 ERR 1 WORD\n0 ERR 2 NUMBER\n0 ERR 3 WIDE\n0 ERR 4 NOMODEL\n0 ERR 5 NAME R1\n0 ERR 6 TAKEN R1\n0 ERR 7 LIMIT ROWS 256\n0 ERR 7 LIMIT COLUMNS 512\n0 ERR 8 MPS 9 M12\n0 ERR 9 NOANSWER\n0 ERR 10 FIXEDWIDE longname9\n0 ERR 11 LONG\n0 ERR 12 REPEATED R1\n0 ERR 13 BADNAME\n0 ERR 14 CERT 2\n";
+    "0 ERR 1 WORD\n0 ERR 2 NUMBER\n0 ERR 3 WIDE\n0 ERR 4 NOMODEL\n0 ERR 5 NAME R1\n\
+     0 ERR 6 TAKEN R1\n0 ERR 7 LIMIT ROWS 256\n0 ERR 7 LIMIT COLUMNS 512\n0 ERR 8 MPS 9 M12\n\
+     0 ERR 9 NOANSWER\n0 ERR 10 FIXEDWIDE longname9\n0 ERR 11 LONG\n0 ERR 12 REPEATED R1\n\
+     0 ERR 13 BADNAME\n0 ERR 14 CERT 2\n";
 
 #[test]
 fn replies_and_refusals(rt: HostRuntime) -> Result<(), Fail> {

@@ -1,6 +1,7 @@
 // The words of command lines.
 ghost use Rattle.std.specs.Prelude.{◌≡◌, ◌≤◌};
 ghost use Rattle.spec_server.specs.Command as commands;
+ghost use Rattle.spec_server.specs.CommandLine as command_lines;
 ghost use Rattle.lp_line.specs.EditWords as edits;
 
 use lp_base::are_same;
@@ -57,6 +58,14 @@ pub(crate) fn budget_of(word: &[u8]) -> Option<u32>
     ensures { result ≡ commands.budget_of word.now }
 {
     number_to(1_000_000, 7, word)
+}
+
+/// How many places a word gives, 1 to 1,024.
+#[tactic(auto, unfolding(spec_server::specs::CommandLine::places_of))]
+pub fn places_of(word: &[u8]) -> Option<u32>
+    ensures { result ≡ command_lines.places_of word.now }
+{
+    number_to(1024, 7, word)
 }
 
 /// The form that a word names.
