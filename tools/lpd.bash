@@ -1,0 +1,38 @@
+# Completion of lpd's command lines in bash, which begins with: source tools/lpd.bash
+#
+# tools/check_commands.py checks that these are the commands and the options that the program takes.
+
+# The commands: the plain words of each, as placeholders, and then its options.
+declare -A _lpd_commands=(
+    [run]=""
+    [solve]="--form"
+    [check]="--form"
+)
+
+# The values of those options that take few.
+declare -A _lpd_values=(
+    [--form]="free fixed"
+)
+
+_lpd() {
+    local word=${COMP_WORDS[COMP_CWORD]} choices="" place=2 each
+    if ((COMP_CWORD == 1)); then
+        choices=${!_lpd_commands[*]}
+    else
+        for each in ${_lpd_commands[${COMP_WORDS[1]:--}]-}; do
+            if [[ $each != --* ]]; then
+                ((place += 1))
+            elif [[ " ${COMP_WORDS[*]:2:COMP_CWORD-2} " != *" $each "* ]]; then
+                choices+=" $each"
+            fi
+        done
+        if ((COMP_CWORD < place)); then
+            choices=""
+        elif (((COMP_CWORD - place) % 2)); then
+            choices=${_lpd_values[${COMP_WORDS[COMP_CWORD - 1]}]-}
+        fi
+    fi
+    mapfile -t COMPREPLY < <(compgen -W "$choices" -- "$word")
+}
+
+complete -F _lpd lpd
