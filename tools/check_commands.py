@@ -1,0 +1,103 @@
+#!/usr/bin/env python3
+"""Checks that the manual page and the completion name the commands and options that the program takes.
+
+    check_commands.py
+
+The program takes those of the table `commands` in crates/spec_server/specs/CommandLine.antt. docs/lpd.1 has to describe
+each command with as many plain words, and each of its options. bash, completing by tools/lpd.bash, has to offer each
+command, then nothing for a plain word, and then the options that are not given yet. It prints what differs; the status is
+1 where something does.
+"""
+import re
+import subprocess
+import sys
+from pathlib import Path
+
+TOP = Path(__file__).resolve().parent.parent
+TABLE = TOP / "crates" / "spec_server" / "specs" / "CommandLine.antt"
+PAGE = TOP / "docs" / "lpd.1"
+COMPLETION = TOP / "tools" / "lpd.bash"
+ROW = re.compile(r"^(\w+)(?: \w+)* = record \{\s*plain = (\d+);\s*names = ([^;]*);", re.M)
+NAMES = re.compile(r'(?:codes "--[\w-]+" ∷ )*\[\]')
+COMMAND = re.compile(r'\(codes "([\w-]+)", (\w+)(?: \w+)*\)')
+COMPLETES = 'source "$1"; shift; COMP_WORDS=("$@"); COMP_CWORD=$(($# - 1)); _lpd; printf "%s\\n" "${COMPREPLY[@]}"'
+
+
+def taken():
+    """The commands that the program takes: of each, how many plain words and which options it has."""
+    text = TABLE.read_text(encoding="utf-8")
+    rows = {}
+    for name, plain, names in ROW.findall(text):
+        if not NAMES.fullmatch(" ".join(names.split())):
+            raise ValueError(f"the options of {name} are not read: {names}")
+        rows[name] = int(plain), set(re.findall(r'"([^"]+)"', names))
+    table = re.search(r"^commands = (.*?)\n\n", text, re.M | re.S)
+    if not table or COMMAND.sub("", table[1]).split() != ["∷"] * len(COMMAND.findall(table[1])) + ["[]"]:
+        raise ValueError("the table of commands is not read")
+    commands = dict(COMMAND.findall(table[1]))
+    if not commands or not set(commands.values()) <= rows.keys():
+        raise ValueError("the rows of the table of commands are not read")
+    return {command: rows[row] for command, row in commands.items()}
+
+
+def section(page, title):
+    return re.search(rf"^\.SH {title}\n(.*?)(?=^\.SH )", page, re.M | re.S)[1]
+
+
+def described():
+    """The same of the commands that the manual page describes."""
+    page = PAGE.read_text(encoding="utf-8").replace("\\-", "-")
+    commands = {}
+    for head in re.findall(r"^\.TP\n\.BI? (.*)$", section(page, "COMMANDS"), re.M):
+        command, *plain = head.replace('"', " ").split()
+        commands[command] = len(plain), set()
+    for row in section(page, "OPTIONS").splitlines():
+        cells = row.split("\t")
+        if len(cells) == 3 and cells[1].startswith("--"):
+            commands.setdefault(cells[0], (0, set()))[1].add(cells[1].split()[0])
+    return commands
+
+
+def completed(*words):
+    """What bash offers after these words."""
+    command = ["bash", "-c", COMPLETES, "bash", COMPLETION, "lpd", *words, ""]
+    return set(subprocess.run(command, capture_output=True, text=True, check=True).stdout.split())
+
+
+def wrong_completions(commands):
+    """Where the completion offers something else than what the program takes."""
+    tried = [((), set(commands))]
+    for command, (plain, options) in commands.items():
+        tried += [((command, *["1"] * count), set()) for count in range(plain)]
+        words = (command, *["1"] * plain)
+        tried.append((words, options))
+        tried += [((*words, option, "1"), options - {option}) for option in options]
+    for words, wanted in tried:
+        found = completed(*words)
+        if found != wanted:
+            after = " ".join(["lpd", *words])
+            yield f"tools/lpd.bash: after '{after}' it offers {sorted(found)}, and not {sorted(wanted)}"
+
+
+def wrong_descriptions(commands):
+    """Where the manual page names something else than what the program takes."""
+    found = described()
+    for command in sorted(commands.keys() | found.keys()):
+        if found.get(command) != commands.get(command):
+            yield f"docs/lpd.1: of {command} it names {found.get(command)}, and not {commands.get(command)}"
+
+
+def main():
+    try:
+        commands = taken()
+    except ValueError as error:
+        print(f"{TABLE.relative_to(TOP)}: {error}")
+        return 1
+    wrong = [*wrong_descriptions(commands), *wrong_completions(commands)]
+    for what in wrong:
+        print(what)
+    return 1 if wrong else 0
+
+
+if __name__ == "__main__":
+    sys.exit(main())
