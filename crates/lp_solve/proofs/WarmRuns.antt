@@ -19,7 +19,7 @@ use Rattle.spec_simplex.specs.Run.{◌>>=◌, refused_as}
 use Rattle.spec_simplex.specs.Form.{Form, form_of}
 use Rattle.spec_simplex.specs.Tableau.{Tableau}
 use Rattle.spec_simplex.specs.Phases.{PrimalEnded, run_from}
-use Rattle.spec_simplex.specs.Eliminate.{start_from}
+use Rattle.spec_simplex.specs.Eliminate.{IsBasisOf, start_from}
 use Rattle.spec_simplex.specs.Fit.{fit_run}
 use Rattle.spec_simplex.specs.Dual.{DualEnded, dual_run}
 use Rattle.spec_cold.specs.declared.outcome.Cold.TheVariants as cold
@@ -113,6 +113,15 @@ pub nothing_handed : {B : Type 0} (limit : Option ℕ) (m : Model) (view : B →
 nothing_handed limit m view None why h fits = refl
 nothing_handed limit m view (Some basis) why h fits =
     let z : ◌≡◌ {A = Result Form (FormFault ℚ)} (Ok fits.0) (Err why) = sym fits.1 ∙ h in cc
+
+pub fits_form : {B : Type 0} (limit : Option ℕ) (m : Model) (view : B → List Status) (handed : Option B) (f : Form) →
+    form_of limit m ≡ Ok f → IfSome handed (λ basis. HasBasis limit m (view basis)) →
+    IfSome handed (λ basis. IsBasisOf f (view basis))
+fits_form limit m view None f h fits = fits
+fits_form limit m view (Some basis) f h fits =
+    let same : ◌≡◌ {A = Result Form (FormFault ℚ)} (Ok fits.0) (Ok f) = sym fits.1 ∙ h in
+    let is : fits.0 ≡ f = cc in
+    subst (λ f. IsBasisOf f (view basis)) is fits.2
 
 pub solves_cold : {B : Type 0} (limit : Option ℕ) (budget : ℕ) (m : Model) (view : B → List Status) (handed : Option B) (end : colds.ColdEnd) → handed ≡ None → end ≡ colds.cold limit budget m
     → ◌≡◌ {A = SolveEnd} (record { end = end; route = route.Cold }) (solve limit budget m (option_map view handed))

@@ -8,6 +8,7 @@
 //! | Item | What it is | Where |
 //! |---|---|---|
 //! | `solve`, `Solved` | the solve of a model, and how it ends | src/solving |
+//! | `solve_formed` | the same by the model's form | src/solving |
 //! | `End`, `from_form` | what a solve ends with, and the cold solve from a form | src/cold |
 //! | `from_basis` | the warm start from a basis | src/warm |
 //! | `Ended` | how both phases of a cold solve ended | src/phases |
@@ -25,5 +26,5 @@ mod tests;
 mod warm;
 
 pub use cold::End;
-pub use solving::{Solved, solve};
+pub use solving::{Solved, solve, solve_formed};
 pub use spec_warm::{Fall, Route};

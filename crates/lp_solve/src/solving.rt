@@ -3,7 +3,7 @@ ghost use Rattle.std.specs.Prelude.{◌≡◌, IfOk, IfSome, Ok, Some, option_ma
 ghost use Rattle.spec_simplex.specs.Eliminate.{IsBasisOf};
 ghost use Rattle.spec_simplex.specs.Form.{form_of};
 ghost use Rattle.spec_warm.specs.declared.ends.Route.TheVariants as route;
-ghost use Rattle.spec_warm.specs.Solve as told;
+ghost use Rattle.spec_warm.specs.Solve as solve;
 ghost use Rattle.lp_frac.specs.Narrow.{largest};
 ghost use Rattle.lp_solve.specs.Fit.{IsFit};
 
@@ -24,7 +24,7 @@ pub type Solved = spec_warm::Solved<Frac, Fracs, Basis>;
 
 // Why the warm start was given up.
 fn fall(stop: WarmStop) -> Fall
-    ensures { result ≡ told.fall_of stop }
+    ensures { result ≡ solve.fall_of stop }
 {
     match stop {
         WarmStop::Singular => Fall::Singular,
@@ -44,7 +44,7 @@ fn warm_first(
 ) -> Result<Solved, AllocError>
     requires formed { form_of (Some largest) model.now ≡ Ok form.now }
     requires fits { IsBasisOf form.now basis.now }
-    ensures answer { IfOk result (λ s. s ≡ told.solve (Some largest) budget model.now (Some basis.now)) }
+    ensures answer { IfOk result (λ s. s ≡ solve.solve (Some largest) budget model.now (Some basis.now)) }
     ensures narrow { IfOk result (λ s. IsFit model.now s.end) }
 {
     match from_basis(alloc, budget, model, form, basis)? {
@@ -79,6 +79,26 @@ fn cold(end: End) -> Solved
     }
 }
 
+/// The same solve of a model whose form is at hand.
+pub fn solve_formed(
+    alloc: Global,
+    model: &Model,
+    budget: u64,
+    form: &Form,
+    handed: Option<&Basis>,
+) -> Result<Solved, AllocError>
+    requires formed { form_of (Some largest) model.now ≡ Ok form.now }
+    requires fits { IfSome handed (λ basis. IsBasisOf form.now basis.now) }
+    ensures answer { IfOk result
+        (λ s. s ≡ solve.solve (Some largest) budget model.now (option_map (λ basis. basis.now) handed.entry)) }
+    ensures narrow { IfOk result (λ s. IsFit model.now s.end) }
+{
+    match handed {
+        Some(basis) => warm_first(alloc, budget, model, form, basis),
+        None => Ok(cold(from_form(alloc, budget, model, form)?)),
+    }
+}
+
 /// Solves the model within a budget of pivots and flips, and has the certificate of the end checked: from the basis that
 /// is handed to it, if one is, by the method that this is fit for; and where nothing is handed, or the start from the
 /// basis stops, from the start that each model has, with the whole budget.
@@ -88,15 +108,13 @@ pub fn solve(
     budget: u64,
     handed: Option<&Basis>,
 ) -> Result<Solved, AllocError>
-    requires { IfSome handed (λ basis. told.HasBasis (Some largest) model.now basis.now) }
-    ensures answer { IfOk result (λ s. s ≡ told.solve (Some largest) budget model.now (option_map (λ basis. basis.now) handed.entry)) }
+    requires { IfSome handed (λ basis. solve.HasBasis (Some largest) model.now basis.now) }
+    ensures answer { IfOk result
+        (λ s. s ≡ solve.solve (Some largest) budget model.now (option_map (λ basis. basis.now) handed.entry)) }
     ensures narrow { IfOk result (λ s. IsFit model.now s.end) }
 {
     match form(alloc, model) {
-        Ok(form) => match handed {
-            Some(basis) => warm_first(alloc, budget, model, &form, basis),
-            None => Ok(cold(from_form(alloc, budget, model, &form)?)),
-        },
+        Ok(form) => solve_formed(alloc, model, budget, &form, handed),
         Err(FormStop::Clash(j)) => Ok(cold(answered(model, Certificate::Clash(j), None, 0))),
         Err(FormStop::Past(past)) => Ok(cold(End::Past(past))),
         Err(FormStop::NoMemory) => Err(AllocError),

@@ -2,13 +2,11 @@
 use Rattle.std.proofs.Common.{◌∙◌, Some}
 use Rattle.lp_frac.specs.Narrow.{largest}
 use Rattle.lp_solve.proofs.Solved.{form_stop, form_clash, cold_is, clash_fits}
-use Rattle.lp_solve.proofs.WarmRuns.{nothing_handed, solves_cold}
+use Rattle.lp_solve.proofs.WarmRuns.{fits_form, nothing_handed, solves_cold}
 use Rattle.lp_solve.proofs.solving.solve.Goals as goal
 
-pub returns-in-Ok-clause-answer : goal.returns-in-Ok-clause-answer
-returns-in-Ok-clause-answer c =
-    c.cold.ensures
-    ∙ solves_cold (Some largest) c.args.budget c.args.model.now _ c.args.handed _ c.in-None.is (c.in_ok-from_form-in-None.ensures.answer ∙ cold_is _ _ _ _ c.in-Ok.ensures.ok)
+pub solve_formed-requires-clause-fits : goal.solve_formed-requires-clause-fits
+solve_formed-requires-clause-fits c = fits_form _ _ _ _ _ c.in-Ok.ensures.ok c.requires
 
 pub answered-requires-clause-fits : goal.answered-requires-clause-fits
 answered-requires-clause-fits c =
@@ -18,7 +16,7 @@ pub returns-in-Err-Clash-clause-answer : goal.returns-in-Err-Clash-clause-answer
 returns-in-Err-Clash-clause-answer c =
     let stop = form_clash _ _ _ c.in-Err-Clash.field-0-is c.in-Err-Clash.ensures.err in
     let answered = rw c.in-Err-Clash.j-is at c.answered.ensures.answer in
-    c.cold-in-Err-Clash.ensures
+    c.cold.ensures
     ∙ solves_cold (Some largest) c.args.budget c.args.model.now _ c.args.handed _ (nothing_handed (Some largest) c.args.model.now _ c.args.handed _ stop c.requires) (answered ∙ cold_is _ _ _ _ stop)
 
 pub returns-in-Err-Past-clause-answer : goal.returns-in-Err-Past-clause-answer
