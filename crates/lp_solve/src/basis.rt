@@ -2,8 +2,8 @@
 ghost use Rattle.std.specs.Prelude.{◌≡◌, ◌<◌, ◌++◌, ◌∷◌, [], IfOk, OnOk};
 ghost use Rattle.spec_simplex.specs.Run.{made};
 ghost use Rattle.spec_simplex.specs.Tableau.{form_columns, is_basic as basic_of};
-ghost use Rattle.spec_cold.specs.Cold as told;
-ghost use Rattle.spec_warm.specs.Warm as warmed;
+ghost use Rattle.spec_cold.specs.Cold as cold;
+ghost use Rattle.spec_warm.specs.Warm as warm;
 
 use lp_dual::DualEnd;
 use lp_form::{Basis, Status};
@@ -22,7 +22,7 @@ fn is_basic(status: Status) -> bool
 // The status of column `k`. A logical whose row's artificial is basic counts as basic in its place.
 fn basis_status(tab: &Tableau, k: u32) -> Status
     requires { k < form_columns tab.now }
-    ensures { result ≡ told.basis_status tab.now k }
+    ensures { result ≡ cold.basis_status tab.now k }
 {
     if tab.cols() <= k && is_basic(tab.status(k + tab.rows())) {
         Status::Basic
@@ -40,7 +40,7 @@ fn push_status(statuses: &mut Vec<Status>, status: Status) -> Result<(), AllocEr
 
 // The statuses of the model's columns and of the rows' logicals.
 fn statuses(alloc: Global, tab: &Tableau) -> Result<Basis, AllocError>
-    ensures { IfOk result (λ b. b ≡ made (form_columns tab.now) (told.basis_status tab.now)) }
+    ensures { IfOk result (λ b. b ≡ made (form_columns tab.now) (cold.basis_status tab.now)) }
 {
     let mut statuses = Vec::new(alloc);
     for k in 0..tab.cols() + tab.rows() {
@@ -55,7 +55,7 @@ pub(crate) fn basis_at(
     tab: &Tableau,
     end: PrimalEnd,
 ) -> Result<Option<Basis>, AllocError>
-    ensures { IfOk result (λ b. b ≡ told.basis_at tab.now end) }
+    ensures { IfOk result (λ b. b ≡ cold.basis_at tab.now end) }
 {
     match end {
         PrimalEnd::Optimal => Ok(Some(statuses(alloc, tab)?)),
@@ -69,7 +69,7 @@ pub(crate) fn dual_basis(
     tab: &Tableau,
     end: DualEnd,
 ) -> Result<Option<Basis>, AllocError>
-    ensures { IfOk result (λ b. b ≡ warmed.dual_basis tab.now end) }
+    ensures { IfOk result (λ b. b ≡ warm.dual_basis tab.now end) }
 {
     match end {
         DualEnd::Optimal => Ok(Some(statuses(alloc, tab)?)),

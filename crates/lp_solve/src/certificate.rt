@@ -5,8 +5,8 @@ ghost use Rattle.spec_check.specs.declared.certificate.Certificate.TheVariants a
 ghost use Rattle.spec_check.specs.Certificate.{IsNarrowCertificate};
 ghost use Rattle.spec_simplex.specs.Tableau.{all_columns};
 ghost use Rattle.spec_simplex.specs.Step.{directed as directed_of};
-ghost use Rattle.spec_cold.specs.Cold as told;
-ghost use Rattle.spec_warm.specs.Warm as warmed;
+ghost use Rattle.spec_cold.specs.Cold as cold;
+ghost use Rattle.spec_warm.specs.Warm as warm;
 ghost use Rattle.lp_dual.specs.Starts.{IsPlace};
 ghost use Rattle.lp_solve.specs.Ends.{IsInside};
 
@@ -29,7 +29,7 @@ fn push(fracs: &mut Fracs, v: Frac) -> Result<(), AllocError>
 
 // The values of the model's columns.
 fn point(alloc: Global, tab: &Tableau) -> Result<Fracs, AllocError>
-    ensures value { IfOk result (λ x. x ≡ told.point tab.now) }
+    ensures value { IfOk result (λ x. x ≡ cold.point tab.now) }
     ensures narrow { IfOk result (All IsNarrow) }
 {
     let mut point = Fracs::new(alloc);
@@ -41,7 +41,7 @@ fn point(alloc: Global, tab: &Tableau) -> Result<Fracs, AllocError>
 
 // The reduced costs of the rows' logicals.
 fn multipliers(alloc: Global, tab: &Tableau) -> Result<Fracs, AllocError>
-    ensures value { IfOk result (λ y. y ≡ told.multipliers tab.now) }
+    ensures value { IfOk result (λ y. y ≡ cold.multipliers tab.now) }
     ensures narrow { IfOk result (All IsNarrow) }
 {
     let mut multipliers = Fracs::new(alloc);
@@ -61,7 +61,7 @@ fn directed(up: bool, v: Frac) -> Frac
 // How column `k` moves while column `j` enters and rises or falls by 1.
 fn move_of(tab: &Tableau, j: u32, up: bool, k: u32) -> Frac
     requires { j < all_columns tab.now }
-    ensures { result ≡ told.moves_by tab.now j up k }
+    ensures { result ≡ cold.moves_by tab.now j up k }
 {
     let mut moved = if k == j { directed(up, one()) } else { zero() };
     for i in 0..tab.rows() {
@@ -75,7 +75,7 @@ fn move_of(tab: &Tableau, j: u32, up: bool, k: u32) -> Frac
 // The same of the model's columns.
 fn direction(alloc: Global, tab: &Tableau, j: u32, up: bool) -> Result<Fracs, AllocError>
     requires { j < all_columns tab.now }
-    ensures value { IfOk result (λ r. r ≡ told.direction tab.now j up) }
+    ensures value { IfOk result (λ r. r ≡ cold.direction tab.now j up) }
     ensures narrow { IfOk result (All IsNarrow) }
 {
     let mut direction = Fracs::new(alloc);
@@ -93,7 +93,7 @@ fn row_multipliers(
     below: bool,
 ) -> Result<Fracs, AllocError>
     requires { place < tab.now.rows }
-    ensures value { IfOk result (λ y. y ≡ warmed.row_multipliers tab.now place below) }
+    ensures value { IfOk result (λ y. y ≡ warm.row_multipliers tab.now place below) }
     ensures narrow { IfOk result (All IsNarrow) }
 {
     let mut multipliers = Fracs::new(alloc);
@@ -108,7 +108,7 @@ fn row_multipliers(
 
 // The certificate that no point is feasible, by the reduced costs.
 pub(crate) fn infeasible(alloc: Global, tab: &Tableau) -> Result<Certificate, AllocError>
-    ensures value { IfOk result (λ c. c ≡ certificates.Infeasible (told.multipliers tab.now)) }
+    ensures value { IfOk result (λ c. c ≡ certificates.Infeasible (cold.multipliers tab.now)) }
     ensures narrow { IfOk result IsNarrowCertificate }
 {
     Ok(Certificate::Infeasible {
@@ -123,7 +123,7 @@ pub(crate) fn certificate_at(
     end: PrimalEnd,
 ) -> Result<Certificate, AllocError>
     requires { IsInside tab.now (Some end) }
-    ensures value { IfOk result (λ c. c ≡ told.certificate_at tab.now end) }
+    ensures value { IfOk result (λ c. c ≡ cold.certificate_at tab.now end) }
     ensures narrow { IfOk result IsNarrowCertificate }
 {
     match end {
@@ -145,7 +145,7 @@ pub(crate) fn dual_certificate(
     end: DualEnd,
 ) -> Result<Certificate, AllocError>
     requires { IsPlace tab.now end }
-    ensures value { IfOk result (λ c. c ≡ warmed.dual_certificate tab.now end) }
+    ensures value { IfOk result (λ c. c ≡ warm.dual_certificate tab.now end) }
     ensures narrow { IfOk result IsNarrowCertificate }
 {
     match end {

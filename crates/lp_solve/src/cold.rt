@@ -2,7 +2,7 @@
 ghost use Rattle.std.specs.Prelude.{◌≡◌, IfOk, Ok, Some};
 ghost use Rattle.spec_check.specs.Certificate.{IsFor, IsNarrowCertificate};
 ghost use Rattle.spec_simplex.specs.Form.{form_of};
-ghost use Rattle.spec_cold.specs.Cold as told;
+ghost use Rattle.spec_cold.specs.Cold as cold;
 ghost use Rattle.lp_frac.specs.Narrow.{largest};
 ghost use Rattle.lp_solve.specs.Ends.{end_of, IsInside};
 ghost use Rattle.lp_solve.specs.Fit.{IsFit};
@@ -30,7 +30,7 @@ pub(crate) fn answered(
 ) -> End
     requires fits { IsFor model.now certificate }
     requires narrow { IsNarrowCertificate certificate }
-    ensures answer { result ≡ told.answered (Some largest) model.now certificate basis pivots }
+    ensures answer { result ≡ cold.answered (Some largest) model.now certificate basis pivots }
     ensures narrow { IsFit model.now result }
 {
     match check(model, &certificate) {
@@ -48,7 +48,7 @@ pub(crate) fn answered(
 // The certificate of what both phases ended with.
 fn certificate(alloc: Global, ended: &Ended) -> Result<Certificate, AllocError>
     requires { IsInside ended.now.tab ended.now.end }
-    ensures value { IfOk result (λ c. c ≡ told.certificate_of (end_of ended.now)) }
+    ensures value { IfOk result (λ c. c ≡ cold.certificate_of (end_of ended.now)) }
     ensures narrow { IfOk result IsNarrowCertificate }
 {
     match ended.end {
@@ -59,7 +59,7 @@ fn certificate(alloc: Global, ended: &Ended) -> Result<Certificate, AllocError>
 
 // The basis of what both phases ended with, which an optimal end has.
 fn basis(alloc: Global, ended: &Ended) -> Result<Option<Basis>, AllocError>
-    ensures { IfOk result (λ b. b ≡ told.basis_of (end_of ended.now)) }
+    ensures { IfOk result (λ b. b ≡ cold.basis_of (end_of ended.now)) }
 {
     match ended.end {
         None => Ok(None),
@@ -70,8 +70,8 @@ fn basis(alloc: Global, ended: &Ended) -> Result<Option<Basis>, AllocError>
 // The answer of what both phases ended with.
 fn finished(alloc: Global, model: &Model, ended: &Ended) -> Result<End, AllocError>
     requires inside { IsInside ended.now.tab ended.now.end }
-    requires fits { IsFor model.now (told.certificate_of (end_of ended.now)) }
-    ensures answer { IfOk result (λ s. s ≡ told.after_phases (Some largest) model.now (Ok (end_of ended.now))) }
+    requires fits { IsFor model.now (cold.certificate_of (end_of ended.now)) }
+    ensures answer { IfOk result (λ s. s ≡ cold.after_phases (Some largest) model.now (Ok (end_of ended.now))) }
     ensures narrow { IfOk result (IsFit model.now) }
 {
     let certificate = certificate(alloc, ended)?;
@@ -87,7 +87,7 @@ pub(crate) fn from_form(
     form: &Form,
 ) -> Result<End, AllocError>
     requires { form_of (Some largest) model.now ≡ Ok form.now }
-    ensures answer { IfOk result (λ s. s ≡ told.after_form (Some largest) budget model.now (Ok form.now)) }
+    ensures answer { IfOk result (λ s. s ≡ cold.after_form (Some largest) budget model.now (Ok form.now)) }
     ensures narrow { IfOk result (IsFit model.now) }
 {
     let tab = match start_cold(alloc, form) {

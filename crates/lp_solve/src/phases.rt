@@ -1,7 +1,7 @@
 // Both phases.
 ghost use Rattle.std.specs.Prelude.{◌≡◌, IfOk, Ok, Some};
 ghost use Rattle.spec_simplex.specs.Start.{start_of};
-ghost use Rattle.spec_simplex.specs.Phases as plain;
+ghost use Rattle.spec_simplex.specs.Phases as phases;
 ghost use Rattle.lp_frac.specs.Narrow.{largest};
 ghost use Rattle.lp_primal.specs.Answer.{Runs};
 ghost use Rattle.lp_solve.specs.Ends.{Ends, IsInside};
@@ -22,7 +22,7 @@ pub(crate) struct Ended {
 // Phase one, where it is wanted.
 fn phase_one(tab: &mut Tableau, used: &mut u64, budget: u64) -> Result<PrimalEnd, RunStop>
     requires { used.old ≡ 0 }
-    ensures { Runs (plain.phase_one (Some largest) budget tab.old) tab.new used.new result }
+    ensures { Runs (phases.phase_one (Some largest) budget tab.old) tab.new used.new result }
 {
     if tab.wants_phase_one() {
         run(tab, used, budget)
@@ -34,7 +34,7 @@ fn phase_one(tab: &mut Tableau, used: &mut u64, budget: u64) -> Result<PrimalEnd
 /// Both phases from the tableau that the form begins with. They share the budget.
 pub(crate) fn phases(mut tab: Tableau, form: &Form, budget: u64) -> Result<Ended, RunStop>
     requires { start_of (Some largest) form.now ≡ Ok tab }
-    ensures answer { Ends (plain.phases_run (Some largest) budget form.now) result }
+    ensures answer { Ends (phases.phases_run (Some largest) budget form.now) result }
     ensures inside { IfOk result (λ e. IsInside e.tab e.end) }
 {
     let mut used = 0;

@@ -4,7 +4,7 @@ ghost use Rattle.spec_check.specs.Certificate.{IsFor, IsNarrowCertificate};
 ghost use Rattle.spec_simplex.specs.declared.ends.Fit.TheVariants as fitted;
 ghost use Rattle.spec_simplex.specs.Eliminate.{IsBasisOf};
 ghost use Rattle.spec_simplex.specs.Form.{form_of};
-ghost use Rattle.spec_warm.specs.Warm as told;
+ghost use Rattle.spec_warm.specs.Warm as warm;
 ghost use Rattle.lp_frac.specs.Narrow.{largest};
 ghost use Rattle.lp_solve.specs.Begun.{IsBegun};
 ghost use Rattle.lp_solve.specs.Fit.{IsWarmFit};
@@ -26,7 +26,7 @@ pub(crate) type Warm = spec_warm::Warm<Frac, Fracs, Basis>;
 
 // A stop of the run as one of the warm start.
 fn run_stop(stop: RunStop) -> WarmStop
-    ensures { result ≡ told.run_stop stop }
+    ensures { result ≡ warm.run_stop stop }
 {
     match stop {
         RunStop::Past(past) => WarmStop::Past(past),
@@ -38,7 +38,7 @@ fn run_stop(stop: RunStop) -> WarmStop
 fn answered(model: &Model, certificate: Certificate, basis: Option<Basis>, pivots: u64) -> Warm
     requires fits { IsFor model.now certificate }
     requires narrow { IsNarrowCertificate certificate }
-    ensures answer { result ≡ told.answered (Some largest) model.now certificate basis pivots }
+    ensures answer { result ≡ warm.answered (Some largest) model.now certificate basis pivots }
     ensures narrow { IsWarmFit model.now result }
 {
     match check(model, &certificate) {
@@ -61,7 +61,8 @@ fn by_primal(
     mut tab: Tableau,
 ) -> Result<Warm, AllocError>
     requires { IsBegun model.now tab fitted.Primal }
-    ensures answer { IfOk result (λ w. w ≡ told.after_run (Some largest) model.now (told.run_by (Some largest) budget tab fitted.Primal)) }
+    ensures answer { IfOk result
+        (λ w. w ≡ warm.after_run (Some largest) model.now (warm.run_by (Some largest) budget tab fitted.Primal)) }
     ensures narrow { IfOk result (IsWarmFit model.now) }
 {
     let mut used = 0;
@@ -78,7 +79,8 @@ fn by_primal(
 // The dual method from a tableau that is fit for it.
 fn by_dual(alloc: Global, budget: u64, model: &Model, mut tab: Tableau) -> Result<Warm, AllocError>
     requires { IsBegun model.now tab fitted.Dual }
-    ensures answer { IfOk result (λ w. w ≡ told.after_run (Some largest) model.now (told.run_by (Some largest) budget tab fitted.Dual)) }
+    ensures answer { IfOk result
+        (λ w. w ≡ warm.after_run (Some largest) model.now (warm.run_by (Some largest) budget tab fitted.Dual)) }
     ensures narrow { IfOk result (IsWarmFit model.now) }
 {
     let mut used = 0;
@@ -102,7 +104,7 @@ pub(crate) fn from_basis(
 ) -> Result<Warm, AllocError>
     requires formed { form_of (Some largest) model.now ≡ Ok form.now }
     requires fits { IsBasisOf form.now basis.now }
-    ensures answer { IfOk result (λ w. w ≡ told.after_form (Some largest) budget model.now basis.now (Ok form.now)) }
+    ensures answer { IfOk result (λ w. w ≡ warm.after_form (Some largest) budget model.now basis.now (Ok form.now)) }
     ensures narrow { IfOk result (IsWarmFit model.now) }
 {
     let tab = match start_from(alloc, form, basis) {
