@@ -1,0 +1,375 @@
+-- Each act of a session, at each of its stages.
+use Rattle.std.proofs.Common.{◌≡◌, ℕ, zero, suc, ◌≤◌, Bool, true, false, List, [], ◌∷◌, ◌++◌, length, Some, None}
+use Rattle.std.proofs.Common.{refl, sym, ap, ◌∙◌, subst, inl, inr, nat_eq, eqb-true, cond, arith}
+use Rattle.std.proofs.lemmas.Bool.{eqb-false}
+use Rattle.std.proofs.lemmas.List.{append_assoc, append-nil, take-take}
+use Rattle.spec_text.specs.Words.{same}
+use Rattle.spec_reads.specs.declared.place.Place.TheVariants as place
+use Rattle.spec_reads.specs.declared.read.Put.{Put}
+use Rattle.spec_reads.specs.declared.read.Put.TheVariants.{Published, Full, Raced}
+use Rattle.spec_reads.specs.declared.read.Read.TheVariants as read
+use Rattle.spec_reads.specs.Reads.{ExactRead, Looked, basis_words, shape_words, front, has_shape, shown, PutReads}
+use Rattle.spec_reads.specs.Places.{ExactPlace, place_at, with_place, IsShown}
+use Rattle.spec_server.specs.Machine.{ExactAsk, ExactReply, State, opening}
+use Rattle.spec_server.specs.Step.{Begun, Looks, Begins, Pending, Worked, Ends, Publishes, Works, answered, after_put}
+use Rattle.spec_server.specs.Step.{AloneStep}
+use Rattle.spec_server.specs.Step as step
+use Rattle.spec_server.specs.Exchanges.{Exchange, AloneRun}
+use Rattle.spec_world.specs.declared.event.Act.TheVariants as act
+use Rattle.spec_world.specs.World.{Server, ExactAct, Stage, Idle, Counts, Sees, Solving, Puts, Claims, Writes}
+use Rattle.spec_world.specs.World.{Session, Left, solve, begun_left, looking, counted_left, read_of, seen_left}
+use Rattle.spec_world.specs.World.{worked_left, put_left, put_counted_left, claimed_left, done_left, Leaves}
+use Rattle.spec_world.specs.Sound.{going, reads_so_far, IsPublisher}
+use Rattle.spec_world.proofs.Places.{place_last, place_some}
+use Rattle.spec_world.proofs.Stages.{looks_begin, looks_past, looks_find, looks_over, HasLooked, IsSeeing, IsSolving}
+use Rattle.spec_world.proofs.Stages.{IsClaiming, IsWriting, StageFits, looking_fits}
+use Rattle.spec_world.proofs.Asked.{only_solve_looks}
+use Rattle.spec_world.proofs.Moves.{Moved, goes_on, ends}
+use Rattle.spec_world.proofs.Bases.{puts_basis}
+
+-- ---- looks
+
+looking_reads : (shape : List ℕ) (k : ℕ) (reads : List ExactRead) → reads_so_far (looking shape k reads) ≡ reads
+looking_reads shape zero reads = refl
+looking_reads shape (suc k) reads = refl
+
+looking_going : (shape : List ℕ) (k : ℕ) (reads : List ExactRead) → going (looking shape k reads) ≡ solve ∷ []
+looking_going shape zero reads = refl
+looking_going shape (suc k) reads = refl
+
+shown_so : (shape payload : List ℕ) → IsShown payload (shown shape payload)
+shown_so shape payload = by (has_shape shape payload)
+  where
+    by : (t : Bool) → IsShown payload (cond t payload (front payload))
+    by true = inl refl
+    by false = inr refl
+
+pub front_front : (payload : List ℕ) → front (front payload) ≡ front payload
+front_front payload = take-take shape_words shape_words payload (omega arith)
+
+shown_front : (shape payload : List ℕ) → has_shape shape (shown shape payload) ≡ false →
+    front (shown shape payload) ≡ shown shape payload
+shown_front shape payload = by (has_shape shape payload) refl
+  where
+    by : (t : Bool) → has_shape shape payload ≡ t → has_shape shape (cond t payload (front payload)) ≡ false →
+        front (cond t payload (front payload)) ≡ cond t payload (front payload)
+    by true e h = absurd (let z : true ≡ false = sym e ∙ h in cc)
+    by false e h = front_front payload
+
+-- only a place with the shape is read as one
+pub shown_all : (shape payload : List ℕ) → has_shape shape (shown shape payload) ≡ true → shown shape payload ≡ payload
+shown_all shape payload = by (has_shape shape payload) refl
+  where
+    by : (t : Bool) → has_shape shape payload ≡ t → has_shape shape (cond t payload (front payload)) ≡ true →
+        cond t payload (front payload) ≡ payload
+    by true e h = refl
+    by false e h = absurd (let z : false ≡ true =
+        sym e ∙ ap (λ words. same words shape) (sym (front_front payload)) ∙ h in cc)
+
+-- ---- acts
+
+module _ (server : Server) (me : ℕ) (now : List ExactPlace) (state : State) (finished : List Exchange)
+    (run : AloneRun server.places opening finished state) (bounded : length now ≤ server.places)
+    (sized : (k : ℕ) (words : List ℕ) → place_at now k ≡ Some (place.Done words) → length words ≡ basis_words) where
+  abbrev session : Stage → Session
+  session stage = record { state = state; stage = stage; finished = finished }
+
+  begun_moved : (asked : ExactAsk) (begun : Begun) → Begins state asked begun →
+      Moved server me now (session Idle) (act.Ask asked) (begun_left me now (session Idle) asked begun)
+  begun_moved asked (step.Answers replied next) b =
+      ends server me now state Idle finished (act.Ask asked) asked [] [] replied next now run
+      (record { begun = step.Answers replied next; begins = b; goes_on = (refl, refl, refl) }) refl
+      (omega arith) refl refl
+      (λ k words e. absurd (let z = e in cc))
+  begun_moved asked (Looks shape) b =
+      let same : asked ≡ solve = only_solve_looks state shape asked b in
+      goes_on server me now state Idle finished (act.Ask asked) (Counts shape) now [] run
+      (subst (λ a. Begins state a (Looks shape)) same b) refl (omega arith) refl (ap (λ a. a ∷ []) (sym same))
+      (λ k words e. absurd (let z = e in cc))
+
+  counted_moved : (shape : List ℕ) → StageFits server me now state (Counts shape) →
+      Moved server me now (session (Counts shape)) act.Count (counted_left now (session (Counts shape)) shape)
+  counted_moved shape b =
+      goes_on server me now state (Counts shape) finished act.Count
+      (looking shape (length now) (read.Count (length now) ∷ [])) now (read.Count (length now) ∷ []) run
+      (looking_fits server me now state shape (length now) (read.Count (length now) ∷ []) b
+      (looks_begin shape (length now)) (omega arith))
+      (now, (refl, refl), refl) (omega arith) (looking_reads shape (length now) (read.Count (length now) ∷ []))
+      (looking_going shape (length now) (read.Count (length now) ∷ [])) (λ k words e. cc)
+
+  -- a place that is read as done
+  seen_done : (shape : List ℕ) (k : ℕ) (reads : List ExactRead) (payload words : List ℕ) →
+      IsSeeing now state shape k reads → place_at now k ≡ Some (place.Done payload) →
+      IsShown payload words → (has_shape shape words ≡ true → words ≡ payload) →
+      (has_shape shape words ≡ false → front words ≡ words) →
+      Moved server me now (session (Sees shape k reads)) (act.See k)
+      (seen_left now (session (Sees shape k reads)) shape k reads (read.Seen k words))
+  seen_done shape k reads payload words h at shows alls fronts = by (has_shape shape words) refl
+    where
+      made : ExactRead
+      made = read.Seen k words
+
+      after : List ExactRead
+      after = reads ++ made ∷ []
+
+      by : (t : Bool) → has_shape shape words ≡ t →
+          Moved server me now (session (Sees shape k reads)) (act.See k)
+          (record {
+            session = session
+                (cond t (Solving (Some (record { place = k; words = words })) (reads ++ read.Seen k words ∷ []))
+                (looking shape k (reads ++ read.Seen k words ∷ [])));
+            places = now;
+            reads =
+                read.Seen k words ∷ [];
+            replied = None;
+          })
+      by true e =
+          goes_on server me now state (Sees shape k reads) finished (act.See k)
+          (Solving (Some (record { place = k; words = words })) (reads ++ read.Seen k words ∷ [])) now
+          (read.Seen k words ∷ []) run
+          (record {
+            shape = shape;
+            begins = h.begins;
+            look =
+                looks_find shape k words reads h.look (ap length (alls e) ∙ sized k payload at) e;
+          })
+          (now, (payload, at, shows, refl), refl) (omega arith) refl refl (λ j ws d. cc)
+      by false e =
+          let b = h.below in
+          goes_on server me now state (Sees shape k reads) finished (act.See k)
+          (looking shape k (reads ++ read.Seen k words ∷ [])) now (read.Seen k words ∷ []) run
+          (looking_fits server me now state shape k (reads ++ read.Seen k words ∷ []) h.begins
+          (looks_past shape k reads (read.Seen k words) h.look (looks_over shape k words e (fronts e)))
+          (omega arith))
+          (now, (payload, at, shows, refl), refl) (omega arith)
+          (looking_reads shape k (reads ++ read.Seen k words ∷ []))
+          (looking_going shape k (reads ++ read.Seen k words ∷ [])) (λ j ws d. cc)
+
+  seen_place : (shape : List ℕ) (k : ℕ) (reads : List ExactRead) (p : ExactPlace) → IsSeeing now state shape k reads →
+      place_at now k ≡ Some p →
+      Moved server me now (session (Sees shape k reads)) (act.See k)
+      (seen_left now (session (Sees shape k reads)) shape k reads (read_of shape k (Some p)))
+  seen_place shape k reads (place.Claimed owner) h at =
+      let b = h.below in
+      goes_on server me now state (Sees shape k reads) finished (act.See k)
+      (looking shape k (reads ++ read.NotDone k ∷ [])) now (read.NotDone k ∷ []) run
+      (looking_fits server me now state shape k (reads ++ read.NotDone k ∷ []) h.begins
+      (looks_past shape k reads (read.NotDone k) h.look (λ rest found d. (refl, d))) (omega arith))
+      (now, (owner, at, refl), refl) (omega arith) (looking_reads shape k (reads ++ read.NotDone k ∷ []))
+      (looking_going shape k (reads ++ read.NotDone k ∷ [])) (λ j ws d. cc)
+  seen_place shape k reads (place.Done payload) h at =
+      seen_done shape k reads payload (shown shape payload) h at (shown_so shape payload) (shown_all shape payload)
+      (shown_front shape payload)
+
+  seen_moved : (shape : List ℕ) (k : ℕ) (reads : List ExactRead) → IsSeeing now state shape k reads →
+      Moved server me now (session (Sees shape k reads)) (act.See k)
+      (seen_left now (session (Sees shape k reads)) shape k reads (read_of shape k (place_at now k)))
+  seen_moved shape k reads h =
+      let there = place_some now k h.below in
+      subst (λ p. Moved server me now (session (Sees shape k reads)) (act.See k)
+      (seen_left now (session (Sees shape k reads)) shape k reads (read_of shape k p)))
+      (sym there.1) (seen_place shape k reads there.0 h there.1)
+
+  worked_moved : (found : Looked) (reads : List ExactRead) (worked : Worked) → IsSolving state found reads →
+      Works state found worked →
+      Moved server me now (session (Solving found reads)) act.Work
+      (worked_left me now (session (Solving found reads)) reads worked)
+  worked_moved found reads (Ends replied next) h works =
+      ends server me now state (Solving found reads) finished act.Work solve reads [] replied next now run
+      (record {
+        begun = Looks h.shape;
+        begins = h.begins;
+        goes_on = record {
+          looked = reads;
+          found = found;
+          worked = Ends replied next;
+          look = h.look;
+          works =
+              works;
+          concludes = (refl, refl, refl);
+        };
+      })
+      refl (omega arith) (sym (append-nil reads)) refl (λ k words e. absurd (let z = e in cc))
+  worked_moved found reads (Publishes pending) h works =
+      goes_on server me now state (Solving found reads) finished act.Work (Puts pending reads) now [] run
+      (record { shape = h.shape; found = found; begins = h.begins; look = h.look; works = works })
+      refl (omega arith) (sym (append-nil reads)) refl (λ k words e. absurd (let z = e in cc))
+
+  -- ---- puts
+
+  put_step : (pending : Pending) (looked reads tried : List ExactRead) (result : Put)
+      (l : HasLooked state pending looked) → PutReads server.places pending.words result tried →
+      reads ≡ looked ++ tried →
+      AloneStep server.places state solve reads (answered state pending.end) (after_put state pending result)
+  put_step pending looked reads tried result l put all = record {
+    begun = Looks l.shape;
+    begins = l.begins;
+    goes_on = record {
+      looked = looked;
+      found = l.found;
+      worked = Publishes pending;
+      look = l.look;
+      works = l.works;
+      concludes = record { put = result; tried = tried; puts = put; all = all; answer = refl; kept = refl };
+    };
+  }
+
+  put_counted : (pending : Pending) (reads : List ExactRead) → HasLooked state pending reads →
+      Moved server me now (session (Puts pending reads)) act.Count
+      (put_counted_left server me now (session (Puts pending reads)) pending reads)
+  put_counted pending reads l = by (nat_eq (length now) server.places) refl
+    where
+      by : (t : Bool) → nat_eq (length now) server.places ≡ t →
+          Moved server me now (session (Puts pending reads)) act.Count
+          (cond t (put_left me now (session (Puts pending reads)) pending reads (read.Count (length now))
+          (Full (length now)))
+          (record {
+            session = session (Claims pending (length now) (reads ++ read.Count (length now) ∷ []));
+            places =
+                now;
+            reads = read.Count (length now) ∷ [];
+            replied = None;
+          }))
+      by true e =
+          ends server me now state (Puts pending reads) finished act.Count solve
+          (reads ++ read.Count (length now) ∷ []) (read.Count (length now) ∷ []) (answered state pending.end)
+          (after_put state pending (Full (length now))) now run
+          (put_step pending reads (reads ++ read.Count (length now) ∷ []) (read.Count (length now) ∷ [])
+          (Full (length now)) l (eqb-true (length now) server.places e, refl) refl)
+          (now, (refl, refl), refl) (omega arith) refl refl (λ k words d. cc)
+      by false e =
+          let apart : length now ≡ server.places → ⊥ = eqb-false (length now) server.places e in
+          goes_on server me now state (Puts pending reads) finished act.Count
+          (Claims pending (length now) (reads ++ read.Count (length now) ∷ [])) now
+          (read.Count (length now) ∷ []) run
+          (record { looked = reads; is_looked = l; all = refl; room = omega arith; low = omega arith })
+          (now, (refl, refl), refl) (omega arith) refl refl (λ k words d. cc)
+
+  claimed_moved : (pending : Pending) (c : ℕ) (reads : List ExactRead) → IsClaiming server now state pending c reads →
+      Moved server me now (session (Claims pending c reads)) act.Claim
+      (claimed_left me now (session (Claims pending c reads)) pending c reads)
+  claimed_moved pending c reads h = by (nat_eq (length now) c) refl
+    where
+      by : (t : Bool) → nat_eq (length now) c ≡ t → Moved server me now (session (Claims pending c reads)) act.Claim
+          (cond t
+          (record {
+            session = session (Writes pending c (reads ++ read.Claim c ∷ []));
+            places =
+                now ++ place.Claimed me ∷ [];
+            reads = read.Claim c ∷ [];
+            replied = None;
+          })
+          (put_left me now (session (Claims pending c reads)) pending reads (read.Lost (length now))
+          (Raced (length now))))
+      by true e =
+          let same : length now ≡ c = eqb-true (length now) c e in
+          let next : List ExactPlace = now ++ place.Claimed me ∷ [] in
+          goes_on server me now state (Claims pending c reads) finished act.Claim
+          (Writes pending c (reads ++ read.Claim c ∷ [])) (now ++ place.Claimed me ∷ []) (read.Claim c ∷ []) run
+          (record {
+            looked = h.looked;
+            is_looked = h.is_looked;
+            all = ap (λ rs. rs ++ read.Claim c ∷ []) h.all
+                ∙ append_assoc h.looked (read.Count c ∷ []) (read.Claim c ∷ []);
+            room = h.room;
+            mine = subst (λ k. place_at (now ++ place.Claimed me ∷ []) k ≡ Some (place.Claimed me)) same
+                (place_last now (place.Claimed me));
+          })
+          (now ++ place.Claimed me ∷ [], (sym same, h.room, refl), refl) (omega arith) refl refl (λ k words d. cc)
+      by false e =
+          let apart : length now ≡ c → ⊥ = eqb-false (length now) c e in
+          let low = h.low in
+          ends server me now state (Claims pending c reads) finished act.Claim solve
+          (reads ++ read.Lost (length now) ∷ []) (read.Lost (length now) ∷ []) (answered state pending.end)
+          (after_put state pending (Raced (length now))) now run
+          (put_step pending h.looked (reads ++ read.Lost (length now) ∷ [])
+          (read.Count c ∷ read.Lost (length now) ∷ []) (Raced (length now)) h.is_looked (c, omega arith, refl)
+          (ap (λ rs. rs ++ read.Lost (length now) ∷ []) h.all
+          ∙ append_assoc h.looked (read.Count c ∷ []) (read.Lost (length now) ∷ [])))
+          (now, (refl, refl), refl) (omega arith) refl refl (λ k words d. cc)
+
+  done_moved : (pending : Pending) (k : ℕ) (reads : List ExactRead) → IsWriting server me now state pending k reads →
+      Moved server me now (session (Writes pending k reads)) act.Done
+      (done_left me now (session (Writes pending k reads)) pending k reads)
+  done_moved pending k reads h =
+      ends server me now state (Writes pending k reads) finished act.Done solve (reads ++ made ∷ [])
+      (made ∷ []) replied new next run
+      (put_step pending h.looked (reads ++ made ∷ []) (read.Count k ∷ read.Claim k ∷ made ∷ [])
+      (Published k) h.is_looked (h.room, refl) all)
+      (next, (h.mine, refl), refl) (omega arith) refl refl puts
+    where
+      made : ExactRead
+      made = read.Done k pending.words
+
+      next : List ExactPlace
+      next = with_place now k (place.Done pending.words)
+
+      replied : ExactReply
+      replied = answered state pending.end
+
+      new : State
+      new = after_put state pending (Published k)
+
+      all : reads ++ made ∷ [] ≡ h.looked ++ read.Count k ∷ read.Claim k ∷ made ∷ []
+      all = ap (λ rs. rs ++ made ∷ []) h.all ∙ append_assoc h.looked (read.Count k ∷ read.Claim k ∷ []) (made ∷ [])
+
+      x : Exchange
+      x = record { session = me; ask = solve; reads = reads ++ made ∷ []; reply = replied }
+
+      after : Session
+      after = record { state = new; stage = Idle; finished = finished ++ x ∷ [] }
+
+      publisher : IsPublisher server.places after k pending.words
+      publisher = record {
+        before = finished;
+        after = [];
+        exchange = x;
+        old = state;
+        all = refl;
+        run = run;
+        puts = puts_basis state pending h.looked h.is_looked x k h.is_looked.begins all;
+      }
+
+      puts : (j : ℕ) (words : List ℕ) → made ∷ [] ≡ read.Done j words ∷ [] → IsPublisher server.places after j words
+      puts j words e =
+          let same_place : k ≡ j = cc in
+          let same_words : pending.words ≡ words = cc in
+          subst (λ i. IsPublisher server.places after i words) same_place
+          (subst (IsPublisher server.places after k) same_words publisher)
+
+  -- ---- all of them
+
+  -- an act asks nothing, whatever place it reads
+  any_place : (k j : ℕ) (s : Session) (left : Left) → Moved server me now s (act.See k) left →
+      Moved server me now s (act.See j) left
+  any_place k j s left m = record {
+    run = m.run;
+    stage = m.stage;
+    answered = m.answered;
+    few = m.few;
+    reads = m.reads;
+    asks = m.asks;
+    grows = m.grows;
+    published = m.published;
+  }
+
+  pub act_moved : (stage : Stage) (a : ExactAct) (left : Left) → Leaves server me now (session stage) stage a left →
+      StageFits server me now state stage → Moved server me now (session stage) a left
+  act_moved Idle (act.Ask asked) left h fits =
+      subst (Moved server me now (session Idle) (act.Ask asked)) (sym h.2) (begun_moved asked h.0 h.1)
+  act_moved (Counts shape) act.Count left h fits =
+      subst (Moved server me now (session (Counts shape)) act.Count) (sym h) (counted_moved shape fits)
+  act_moved (Sees shape k reads) (act.See j) left h fits =
+      subst (Moved server me now (session (Sees shape k reads)) (act.See j)) (sym h)
+      (any_place k j _ _ (seen_moved shape k reads fits))
+  act_moved (Solving found reads) act.Work left h fits =
+      subst (Moved server me now (session (Solving found reads)) act.Work) (sym h.2)
+      (worked_moved found reads h.0 fits h.1)
+  act_moved (Puts pending reads) act.Count left h fits =
+      subst (Moved server me now (session (Puts pending reads)) act.Count) (sym h) (put_counted pending reads fits)
+  act_moved (Claims pending c reads) act.Claim left h fits =
+      subst (Moved server me now (session (Claims pending c reads)) act.Claim) (sym h)
+      (claimed_moved pending c reads fits)
+  act_moved (Writes pending k reads) act.Done left h fits =
+      subst (Moved server me now (session (Writes pending k reads)) act.Done) (sym h) (done_moved pending k reads fits)
+  act_moved stage other left h fits = absurd h

@@ -1,0 +1,219 @@
+-- What a session reads, where nobody else does anything, is what its acts read.
+use Rattle.std.proofs.Common.{◌≡◌, ℕ, zero, suc, ◌<◌, Bool, true, false, List, [], ◌∷◌, ◌++◌, length, Some, refl}
+use Rattle.std.proofs.Common.{sym, ap, ◌∙◌, subst, inl, inr, nat_eq, cond, arith}
+use Rattle.std.proofs.lemmas.Bool.{eq-eqb, ne_eqb}
+use Rattle.std.proofs.lemmas.List.{append_assoc, append-nil, length-take}
+use Rattle.spec_text.specs.Words.{same}
+use Rattle.spec_reads.specs.declared.place.Place.TheVariants as place
+use Rattle.spec_reads.specs.declared.read.Put.{Put}
+use Rattle.spec_reads.specs.declared.read.Put.TheVariants.{Published, Full, Raced}
+use Rattle.spec_reads.specs.declared.read.Read.TheVariants as read
+use Rattle.spec_reads.specs.Reads.{ExactRead, Looked, basis_words, shape_words, front, has_shape, shown, SeenBy}
+use Rattle.spec_reads.specs.Reads.{SeesDown, PutReads}
+use Rattle.spec_reads.specs.Places.{ExactPlace, place_at, with_place, IsShown, Logged, Plays, logged}
+use Rattle.spec_server.specs.Machine.{State}
+use Rattle.spec_server.specs.Step.{Pending, answered, after_put}
+use Rattle.spec_server.specs.Exchanges.{Exchange}
+use Rattle.spec_world.specs.declared.event.Act.TheVariants as act
+use Rattle.spec_world.specs.World.{Server, ExactAct, Stage, Idle, Sees, Solving, Puts, Claims, Writes, Session, World}
+use Rattle.spec_world.specs.World.{has_session, fits_stage, Left, Leaves, solve, ended, looking, read_of, seen_left}
+use Rattle.spec_world.specs.World.{done_left}
+use Rattle.spec_world.proofs.Acts.{front_front}
+use Rattle.spec_world.proofs.Held.{Leads, leads_nowhere, leads_by}
+
+-- ---- what is shown of a place
+
+shown_is_read : (shape payload words : List ℕ) → IsShown payload words →
+    (has_shape shape words ≡ true → length words ≡ basis_words) →
+    (has_shape shape words ≡ false → front words ≡ words) → shown shape payload ≡ words
+shown_is_read shape payload words (inl e) size fronts = by (has_shape shape payload) refl
+  where
+    by : (t : Bool) → has_shape shape payload ≡ t → cond t payload (front payload) ≡ words
+    by true h = sym e
+    by false h = ap front (sym e) ∙ fronts (ap (has_shape shape) e ∙ h)
+shown_is_read shape payload words (inr e) size fronts = by (has_shape shape payload) refl
+  where
+    by : (t : Bool) → has_shape shape payload ≡ t → cond t payload (front payload) ≡ words
+    by true h =
+        let long : length words ≡ basis_words =
+        size (ap (has_shape shape) e ∙ ap (λ ws. same ws shape) (front_front payload) ∙ h) in
+        let short : length words ≡ _ = ap length e ∙ length-take shape_words payload in
+        absurd (omega arith)
+    by false h = sym e
+
+module _ (server : Server) (old : World) (me : ℕ) (there : has_session server me ≡ true) (state : State)
+    (finished : List Exchange) where
+  abbrev at : Stage → Session
+  at stage = record { state = state; stage = stage; finished = finished }
+
+  abbrev Goes : Stage → List ExactPlace → Session → List ExactPlace → Type 0
+  Goes stage now new next = Leads server old me there (at stage) now new next
+
+  abbrev log : List ExactRead → List Logged
+  log reads = logged me reads
+
+  -- ---- puts
+
+  abbrev put_ended : Pending → List ExactRead → Put → Session
+  put_ended pending reads result =
+      ended me (at Idle) solve reads (answered state pending.end) (after_put state pending result)
+
+  -- an act whose outcome a test decides
+  decided : (stage : Stage) (now : List ExactPlace) (a : ExactAct) (t b : Bool) (x y : Left) (new : Session)
+      (next : List ExactPlace) → t ≡ b → fits_stage stage a ≡ true →
+      Leaves server me now (at stage) stage a (cond t x y) →
+      Leads server old me there (cond b x y).session (cond b x y).places new next → Goes stage now new next
+  decided stage now a t b x y new next e fits leaves l =
+      leads_by server old me there (at stage) now a (cond t x y) new next fits leaves
+      (subst (λ c. Leads server old me there (cond c x y).session (cond c x y).places new next) (sym e) l)
+
+  full_leads : (now : List ExactPlace) (pending : Pending) (looked : List ExactRead) → length now ≡ server.places →
+      Goes (Puts pending looked) now
+      (put_ended pending (looked ++ read.Count (length now) ∷ []) (Full (length now))) now
+  full_leads now pending looked e =
+      decided (Puts pending looked) now act.Count (nat_eq (length now) server.places) true _ _ _ _
+      (eq-eqb (length now) server.places e) refl refl
+      (leads_nowhere server old me there
+      (put_ended pending (looked ++ read.Count (length now) ∷ []) (Full (length now))) now)
+
+  done_leads : (now : List ExactPlace) (pending : Pending) (k : ℕ) (reads : List ExactRead) →
+      Goes (Writes pending k reads) now (put_ended pending (reads ++ read.Done k pending.words ∷ []) (Published k))
+      (with_place now k (place.Done pending.words))
+  done_leads now pending k reads =
+      leads_by server old me there (at (Writes pending k reads)) now act.Done
+      (done_left me now (at (Writes pending k reads)) pending k reads) _ _ refl refl
+      (leads_nowhere server old me there (put_ended pending (reads ++ read.Done k pending.words ∷ []) (Published k))
+      (with_place now k (place.Done pending.words)))
+
+  claim_leads : (now : List ExactPlace) (pending : Pending) (reads : List ExactRead) →
+      Goes (Claims pending (length now) reads) now
+      (put_ended pending ((reads ++ read.Claim (length now) ∷ []) ++ read.Done (length now) pending.words ∷ [])
+      (Published (length now)))
+      (with_place (now ++ place.Claimed me ∷ []) (length now) (place.Done pending.words))
+  claim_leads now pending reads =
+      decided (Claims pending (length now) reads) now act.Claim (nat_eq (length now) (length now)) true _ _ _ _
+      (eq-eqb (length now) (length now) refl) refl refl
+      (done_leads (now ++ place.Claimed me ∷ []) pending (length now) (reads ++ read.Claim (length now) ∷ []))
+
+  published_leads : (now : List ExactPlace) (pending : Pending) (looked : List ExactRead) → length now < server.places →
+      Goes (Puts pending looked) now
+      (put_ended pending (looked ++ read.Count (length now) ∷ read.Claim (length now) ∷ read.Done
+      (length now) pending.words ∷ []) (Published (length now)))
+      (with_place (now ++ place.Claimed me ∷ []) (length now) (place.Done pending.words))
+  published_leads now pending looked room =
+      let n : ℕ = length now in
+      let one : (looked ++ read.Count (length now) ∷ []) ++ read.Claim (length now) ∷ [] ≡ looked ++ read.Count
+      (length now) ∷ read.Claim (length now) ∷ [] =
+      append_assoc looked (read.Count (length now) ∷ []) (read.Claim (length now) ∷ []) in
+      let all : ((looked ++ read.Count (length now) ∷ []) ++ read.Claim (length now) ∷ []) ++ read.Done
+      (length now) pending.words ∷ [] ≡
+      looked ++ read.Count (length now) ∷ read.Claim (length now) ∷ read.Done (length now) pending.words ∷ [] =
+      ap (λ rs. rs ++ read.Done (length now) pending.words ∷ []) one
+      ∙ append_assoc looked (read.Count (length now) ∷ read.Claim (length now) ∷ [])
+      (read.Done (length now) pending.words ∷ []) in
+      subst (λ rs. Goes (Puts pending looked) now (put_ended pending rs (Published (length now)))
+      (with_place (now ++ place.Claimed me ∷ []) (length now) (place.Done pending.words))) all
+      (decided (Puts pending looked) now act.Count (nat_eq (length now) server.places) false _ _ _ _
+      (ne_eqb (length now) server.places (λ e. omega arith)) refl refl
+      (claim_leads now pending (looked ++ read.Count (length now) ∷ [])))
+
+  pub put_leads : (now last : List ExactPlace) (pending : Pending) (looked tried : List ExactRead) (result : Put) →
+      PutReads server.places pending.words result tried →
+      Plays server.places now (log tried) last →
+      Goes (Puts pending looked) now (put_ended pending (looked ++ tried) result) last
+  put_leads now last pending looked tried (Full c) put plays =
+      let p : Plays server.places now (log (read.Count c ∷ [])) last =
+      subst (λ rs. Plays server.places now (log rs) last) put.1 plays in
+      let counted : length now ≡ c = sym p.1.0 in
+      let stays : now ≡ last = sym (p.2 ∙ p.1.1) in
+      subst (λ ps. Goes (Puts pending looked) now (put_ended pending (looked ++ tried) (Full c)) ps) stays
+      (subst (λ rs. Goes (Puts pending looked) now (put_ended pending (looked ++ rs) (Full c)) now) (sym put.1)
+      (subst (λ n. Goes (Puts pending looked) now
+      (put_ended pending (looked ++ read.Count n ∷ []) (Full n)) now) counted
+      (full_leads now pending looked (counted ∙ put.0))))
+  put_leads now last pending looked tried (Published k) put plays =
+      let p : Plays server.places now (log (read.Count k ∷ read.Claim k ∷ read.Done k pending.words ∷ [])) last =
+      subst (λ rs. Plays server.places now (log rs) last) put.1 plays in
+      let counted : length now ≡ k = sym p.1.0 in
+      let room : length now < server.places = subst (λ n. n < server.places) (sym counted) put.0 in
+      let claimed : p.2.0 ≡ now ++ place.Claimed me ∷ [] = p.2.1.2 ∙ ap (λ ps. ps ++ place.Claimed me ∷ []) p.1.1 in
+      let done : with_place (now ++ place.Claimed me ∷ []) k (place.Done pending.words) ≡ last =
+      sym (p.2.2.2 ∙ p.2.2.1.1 ∙ ap (λ ps. with_place ps k (place.Done pending.words)) claimed) in
+      subst (λ ps. Goes (Puts pending looked) now (put_ended pending (looked ++ tried) (Published k)) ps) done
+      (subst (λ rs. Goes (Puts pending looked) now (put_ended pending (looked ++ rs) (Published k))
+      (with_place (now ++ place.Claimed me ∷ []) k (place.Done pending.words))) (sym put.1)
+      (subst (λ n. Goes (Puts pending looked) now
+      (put_ended pending (looked ++ read.Count n ∷ read.Claim n ∷ read.Done n pending.words ∷ []) (Published n))
+      (with_place (now ++ place.Claimed me ∷ []) n (place.Done pending.words))) counted
+      (published_leads now pending looked room)))
+  put_leads now last pending looked tried (Raced e) put plays =
+      let p : Plays server.places now (log (read.Count put.0 ∷ read.Lost e ∷ [])) last =
+      subst (λ rs. Plays server.places now (log rs) last) put.2 plays in
+      let counted : put.0 ≡ length now = p.1.0 in
+      let lost : e ≡ length now = p.2.1.0 ∙ ap length p.1.1 in
+      let more : put.0 < e = put.1 in
+      absurd (omega arith)
+
+  -- ---- looks
+
+  module _ (shape : List ℕ) (found : Looked) (now : List ExactPlace) (new : Session) (next : List ExactPlace) where
+    -- one place is read
+    see_leads : (k : ℕ) (reads : List ExactRead) (made : ExactRead) → read_of shape k (place_at now k) ≡ made →
+        Leads server old me there (seen_left now (at (Sees shape k reads)) shape k reads made).session now new next →
+        Goes (Sees shape k reads) now new next
+    see_leads k reads made e l =
+        leads_by server old me there (at (Sees shape k reads)) now (act.See k)
+        (seen_left now (at (Sees shape k reads)) shape k reads (read_of shape k (place_at now k))) new next
+        (eq-eqb k k refl) refl
+        (subst (λ r. Leads server old me there
+        (seen_left now (at (Sees shape k reads)) shape k reads r).session now new next) (sym e) l)
+
+    -- a place that is done is read
+    seen_leads : (k : ℕ) (reads : List ExactRead) (words : List ℕ) (rest : List ExactRead) (payload : List ℕ) →
+        place_at now k ≡ Some (place.Done payload) → IsShown payload words →
+        SeenBy (has_shape shape words) k words rest found (SeesDown shape k rest found) →
+        (SeesDown shape k rest found → Goes (looking shape k (reads ++ read.Seen k words ∷ [])) now new next) →
+        Goes (Solving found (reads ++ read.Seen k words ∷ rest)) now new next → Goes (Sees shape k reads) now new next
+    seen_leads k reads words rest payload at' shows b more l =
+        see_leads k reads (read.Seen k words)
+        (ap (read_of shape k) at'
+        ∙ ap (read.Seen k) (shown_is_read shape payload words shows
+        (λ h. (subst (λ t. SeenBy t k words rest found (SeesDown shape k rest found)) h b).0)
+        (λ h. (subst (λ t. SeenBy t k words rest found (SeesDown shape k rest found)) h b).0)))
+        (by (has_shape shape words) b)
+      where
+        by : (t : Bool) → SeenBy t k words rest found (SeesDown shape k rest found) →
+            Goes (cond t (Solving (Some (record { place = k; words = words })) (reads ++ read.Seen k words ∷ []))
+            (looking shape k (reads ++ read.Seen k words ∷ []))) now new next
+        by true c = subst (λ f. Goes (Solving f (reads ++ read.Seen k words ∷ [])) now new next) c.2
+            (subst (λ rs. Goes (Solving found (reads ++ read.Seen k words ∷ rs)) now new next) c.1 l)
+        by false c = more c.1
+
+    pub sees_lead : (k : ℕ) (reads rest : List ExactRead) (last : List ExactPlace) → SeesDown shape k rest found →
+        Plays server.places now (log rest) last → Goes (Solving found (reads ++ rest)) now new next →
+        Goes (looking shape k reads) now new next
+    sees_lead zero reads rest last d plays l =
+        subst (λ f. Goes (Solving f reads) now new next) d.1
+        (subst (λ rs. Goes (Solving found rs) now new next) (ap (λ rs. reads ++ rs) d.0 ∙ append-nil reads) l)
+    sees_lead (suc k) reads [] last d plays l = absurd d
+    sees_lead (suc k) reads (read.NotDone j ∷ rest) last d plays l =
+        let there : place_at now k ≡ Some (place.Claimed plays.1.0) =
+        subst (λ i. place_at now i ≡ Some (place.Claimed plays.1.0)) d.0 plays.1.1 in
+        see_leads k reads (read.NotDone k) (ap (read_of shape k) there)
+        (sees_lead k (reads ++ read.NotDone k ∷ []) rest last d.1
+        (subst (λ ps. Plays server.places ps (log rest) last) plays.1.2 plays.2)
+        (subst (λ rs. Goes (Solving found rs) now new next)
+        (ap (λ i. reads ++ read.NotDone i ∷ rest) d.0 ∙ sym (append_assoc reads (read.NotDone k ∷ []) rest)) l))
+    sees_lead (suc k) reads (read.Seen j words ∷ rest) last d plays l =
+        seen_leads k reads words rest plays.1.0
+        (subst (λ i. place_at now i ≡ Some (place.Done plays.1.0)) d.0 plays.1.1) plays.1.2 d.1
+        (λ more. sees_lead k (reads ++ read.Seen k words ∷ []) rest last more
+        (subst (λ ps. Plays server.places ps (log rest) last) plays.1.3 plays.2)
+        (subst (λ rs. Goes (Solving found rs) now new next)
+        (ap (λ i. reads ++ read.Seen i words ∷ rest) d.0
+        ∙ sym (append_assoc reads (read.Seen k words ∷ []) rest)) l))
+        (subst (λ i. Goes (Solving found (reads ++ read.Seen i words ∷ rest)) now new next) d.0 l)
+    sees_lead (suc k) reads (read.Count c ∷ rest) last d plays l = absurd d
+    sees_lead (suc k) reads (read.Claim c ∷ rest) last d plays l = absurd d
+    sees_lead (suc k) reads (read.Lost c ∷ rest) last d plays l = absurd d
+    sees_lead (suc k) reads (read.Done j words ∷ rest) last d plays l = absurd d

@@ -1,0 +1,21 @@
+-- Lemmas.
+pub mod Places
+pub mod Stages
+pub mod Moves
+pub mod Bases
+pub mod Asked
+pub mod Acts
+pub mod Publishers
+pub mod Worlds
+pub mod Events
+pub mod Happening
+pub mod WorldsAgree
+pub mod Held
+pub mod Leading
+pub mod Running
+pub mod OneWorker
+pub mod FromTogether
+pub mod InOrder
+pub mod Stays
+pub mod AllDone
+pub mod ManyFromOne

@@ -1,0 +1,111 @@
+-- What one worker may reply is what a world replies in which the events of each ask stand together.
+use Rattle.std.proofs.Common.{◌≡◌, ℕ, Bool, true, false, List, [], ◌∷◌, ◌++◌, map, refl, sym, ap, subst, nat_eq}
+use Rattle.std.proofs.Common.{eqb-true, cond}
+use Rattle.std.proofs.lemmas.Bool.{eqb-false, eq-eqb, ne_eqb}
+use Rattle.spec_reads.specs.Places.{ExactPlace, Plays, logged}
+use Rattle.spec_server.specs.Machine.{State}
+use Rattle.spec_server.specs.Exchanges.{Exchange, AloneRun, of_session, log_of, RunFits}
+use Rattle.spec_world.specs.declared.event.Act.TheVariants as act
+use Rattle.spec_world.specs.World.{Server, Idle, Session, World, opening_world, ended}
+use Rattle.spec_world.specs.Together.{by_session, AskRuns, Together, HaveSessions}
+use Rattle.spec_world.proofs.Held.{holding, holds_own, holds_other}
+use Rattle.spec_world.proofs.Running.{Plays-split, RunsTo, step_runs}
+
+-- the world after the ask of this exchange
+record AskEnds (server : Server) (old : World) (x : Exchange) (state : State) (last : List ExactPlace) : Type 0 where
+  new : World
+  runs : AskRuns server old x new
+  own : new.sessions x.session ≡ record {
+    state = state;
+    stage = Idle;
+    finished =
+        (old.sessions x.session).finished ++ x ∷ [];
+  }
+  others : (other : ℕ) → (x.session ≡ other → ⊥) → new.sessions other ≡ old.sessions other
+  places : new.places ≡ last
+
+ask_ends : (server : Server) (old : World) (x : Exchange) (state : State) (last : List ExactPlace) →
+    RunsTo server old x.session x.ask x.reads x.reply state last → AskEnds server old x state last
+ask_ends server old x state last r =
+    let after : Session = ended x.session (old.sessions x.session) x.ask x.reads x.reply state in
+    let new : World = holding old x.session after last (map (by_session x.session) (act.Ask x.ask ∷ r.acts)) in
+    let own : new.sessions x.session ≡ after = holds_own old x.session after in
+    record {
+      new = new;
+      runs = record {
+        acts = r.acts;
+        run = r.run;
+        finished = ap (λ (s : Session). s.finished) own;
+        is_idle =
+            ap (λ (s : Session). s.stage) own;
+      };
+      own = own;
+      others = λ other apart. holds_other old x.session after other apart;
+      places = refl;
+    }
+
+-- no ask is being answered, and each session goes on alone with its part of the exchanges
+record IsReady (server : Server) (old : World) (xs : List Exchange) (last : List ExactPlace) : Type 0 where
+  idle : (session : ℕ) → (old.sessions session).stage ≡ Idle
+  alone : (session : ℕ) →
+      (end : State) × AloneRun server.places (old.sessions session).state (of_session session xs) end
+  played : Plays server.places old.places (log_of xs) last
+
+-- its own part of the exchanges begins with this one
+pub own_part : (places : ℕ) (state : State) (x : Exchange) (xs : List Exchange) (end : State) →
+    AloneRun places state (of_session x.session (x ∷ xs)) end → AloneRun places state (x ∷ of_session x.session xs) end
+own_part places state x xs end run =
+    subst (λ t. AloneRun places state (cond t (x ∷ of_session x.session xs) (of_session x.session xs)) end)
+    (eq-eqb x.session x.session refl) run
+
+pub other_part : (places : ℕ) (state : State) (x : Exchange) (xs : List Exchange) (session : ℕ) (end : State) →
+    (x.session ≡ session → ⊥) → AloneRun places state (of_session session (x ∷ xs)) end →
+    AloneRun places state (of_session session xs) end
+other_part places state x xs session end apart run =
+    subst (λ t. AloneRun places state (cond t (x ∷ of_session session xs) (of_session session xs)) end)
+    (ne_eqb x.session session apart) run
+
+module _ (server : Server) (old : World) (x : Exchange) (xs : List Exchange) (last middle : List ExactPlace)
+    (state end : State) (ready : IsReady server old (x ∷ xs) last)
+    (e : AskEnds server old x state middle) (rest : AloneRun server.places state (of_session x.session xs) end)
+    (plays : Plays server.places middle (log_of xs) last) where
+  each : (P : ℕ → Session → Type 0) →
+      P x.session (record { state = state; stage = Idle; finished = (old.sessions x.session).finished ++ x ∷ [] }) →
+      ((other : ℕ) → (x.session ≡ other → ⊥) → P other (old.sessions other)) → (session : ℕ) →
+      P session (e.new.sessions session)
+  each P own others session = by (nat_eq x.session session) refl
+    where
+      by : (b : Bool) → nat_eq x.session session ≡ b → P session (e.new.sessions session)
+      by true h = subst (λ i. P i (e.new.sessions i)) (eqb-true x.session session h)
+          (subst (P x.session) (sym e.own) own)
+      by false h = let apart = eqb-false x.session session h in
+          subst (P session) (sym (e.others session apart)) (others session apart)
+
+  ready_on : IsReady server e.new xs last
+  ready_on = record {
+    idle = each (λ i s. s.stage ≡ Idle) refl (λ other apart. ready.idle other);
+    alone = each (λ i s. (end : State) × AloneRun server.places s.state (of_session i xs) end) (end, rest)
+        (λ other apart. let r = ready.alone other in
+        (r.0, other_part server.places (old.sessions other).state x xs other r.0 apart r.1));
+    played = subst (λ ps. Plays server.places ps (log_of xs) last) (sym e.places) plays;
+  }
+
+together_from : (server : Server) (old : World) (xs : List Exchange) (last : List ExactPlace) →
+    IsReady server old xs last → HaveSessions server xs → (new : World) × Together server old xs new
+together_from server old [] last ready there = (old, refl)
+together_from server old (x ∷ xs) last ready there =
+    let own = ready.alone x.session in
+    let run = own_part server.places (old.sessions x.session).state x xs own.0 own.1 in
+    let p = Plays-split server.places old.places last (logged x.session x.reads) (log_of xs) ready.played in
+    let e : AskEnds server old x run.0 p.0 =
+    ask_ends server old x run.0 p.0
+    (step_runs server old x.session there.0 (ready.idle x.session) p.0 x.ask x.reads x.reply run.0 run.1 p.1) in
+    let more = together_from server e.new xs last
+    (ready_on server old x xs last p.0 run.0 own.0 ready e run.2 p.2) there.1 in
+    (more.0, (e.new, e.runs, more.1))
+
+pub one_together : (server : Server) (xs : List Exchange) → RunFits server.places xs → HaveSessions server xs →
+    (world : World) × Together server opening_world xs world
+one_together server xs fits there =
+    together_from server opening_world xs fits.last
+    (record { idle = λ session. refl; alone = fits.alone; played = fits.played }) there

@@ -1,0 +1,150 @@
+-- What reads and writes leave of the places.
+use Rattle.std.proofs.Common.{◌≡◌, ℕ, zero, suc, ◌<◌, ◌≤◌, Bool, true, false, List, [], ◌∷◌, ◌++◌, length, Option}
+use Rattle.std.proofs.Common.{Some, refl, sym, ap, ◌∙◌, subst, ◌⊎◌, inl, inr, nat_eq, eqb-true, ◌+◌, arith}
+use Rattle.std.proofs.lemmas.Bool.{eqb-false}
+use Rattle.std.proofs.lemmas.List.{length_push, map-append}
+use Rattle.spec_reads.specs.declared.place.Place.TheVariants.{Claimed, Done}
+use Rattle.spec_reads.specs.declared.read.Read.TheVariants as read
+use Rattle.spec_reads.specs.Reads.{ExactRead}
+use Rattle.spec_reads.specs.Places.{ExactPlace, place_at, with_place, Answers, Logged, logged, Plays}
+
+-- ---- one more place
+
+pub place_more : (ps : List ExactPlace) (k : ℕ) (p new : ExactPlace) → place_at ps k ≡ Some p →
+    place_at (ps ++ new ∷ []) k ≡ Some p
+place_more [] k p new h = cc
+place_more (q ∷ ps) zero p new h = h
+place_more (q ∷ ps) (suc k) p new h = place_more ps k p new h
+
+pub place_last : (ps : List ExactPlace) (new : ExactPlace) → place_at (ps ++ new ∷ []) (length ps) ≡ Some new
+place_last [] new = refl
+place_last (p ∷ ps) new = place_last ps new
+
+some_same : (p q : ExactPlace) → ◌≡◌ {A = Option ExactPlace} (Some p) (Some q) → p ≡ q
+some_same p q e = cc
+
+place_before : (ps : List ExactPlace) (k : ℕ) (p new : ExactPlace) → place_at (ps ++ new ∷ []) k ≡ Some p →
+    (place_at ps k ≡ Some p) ⊎ (p ≡ new)
+place_before [] zero p new h = inr (sym (some_same new p h))
+place_before [] (suc k) p new h = cc
+place_before (q ∷ ps) zero p new h = inl h
+place_before (q ∷ ps) (suc k) p new h = place_before ps k p new h
+
+pub place_some : (ps : List ExactPlace) (k : ℕ) → k < length ps → (p : ExactPlace) × (place_at ps k ≡ Some p)
+place_some [] k h = absurd (omega arith)
+place_some (p ∷ ps) zero h = (p, refl)
+place_some (p ∷ ps) (suc k) h = place_some ps k (omega arith)
+
+pub place_below : (ps : List ExactPlace) (k : ℕ) (p : ExactPlace) → place_at ps k ≡ Some p → k < length ps
+place_below [] k p h = cc
+place_below (q ∷ ps) zero p h = omega arith
+place_below (q ∷ ps) (suc k) p h = let l = place_below ps k p h in omega arith
+
+-- ---- another place at k
+
+length_with : (ps : List ExactPlace) (k : ℕ) (new : ExactPlace) → length (with_place ps k new) ≡ length ps
+length_with [] k new = refl
+length_with (p ∷ ps) zero new = refl
+length_with (p ∷ ps) (suc k) new = ap suc (length_with ps k new)
+
+pub with_same : (ps : List ExactPlace) (k : ℕ) (old new : ExactPlace) → place_at ps k ≡ Some old →
+    place_at (with_place ps k new) k ≡ Some new
+with_same [] k old new h = cc
+with_same (p ∷ ps) zero old new h = refl
+with_same (p ∷ ps) (suc k) old new h = with_same ps k old new h
+
+pub with_other : (ps : List ExactPlace) (j k : ℕ) (new : ExactPlace) → (j ≡ k → ⊥) →
+    place_at (with_place ps j new) k ≡ place_at ps k
+with_other [] j k new h = refl
+with_other (p ∷ ps) zero zero new h = absurd (h refl)
+with_other (p ∷ ps) zero (suc k) new h = refl
+with_other (p ∷ ps) (suc j) zero new h = refl
+with_other (p ∷ ps) (suc j) (suc k) new h = with_other ps j k new (λ e. h (ap suc e))
+
+-- ---- reads
+
+module _ (places : ℕ) (session : ℕ) where
+  -- a place stays as it is, unless it is the one that the session has claimed
+  pub answers_keep : (now next : List ExactPlace) (r : ExactRead) (k : ℕ) (p : ExactPlace) →
+      Answers places now session r next → (p ≡ Claimed session → ⊥) → place_at now k ≡ Some p → place_at next k ≡ Some p
+  answers_keep now next (read.Count c) k p a other h = subst (λ ps. place_at ps k ≡ Some p) (sym a.1) h
+  answers_keep now next (read.NotDone j) k p a other h = subst (λ ps. place_at ps k ≡ Some p) (sym a.2) h
+  answers_keep now next (read.Seen j words) k p a other h = subst (λ ps. place_at ps k ≡ Some p) (sym a.3) h
+  answers_keep now next (read.Claim j) k p a other h =
+      subst (λ ps. place_at ps k ≡ Some p) (sym a.2) (place_more now k p (Claimed session) h)
+  answers_keep now next (read.Lost c) k p a other h = subst (λ ps. place_at ps k ≡ Some p) (sym a.1) h
+  answers_keep now next (read.Done j words) k p a other h =
+      let apart : j ≡ k → ⊥ = λ e. other (some_same p (Claimed session) (sym h ∙ sym (ap (place_at now) e) ∙ a.0)) in
+      subst (λ ps. place_at ps k ≡ Some p) (sym a.1) (with_other now j k (Done words) apart ∙ h)
+
+  pub answers_grow : (now next : List ExactPlace) (r : ExactRead) → Answers places now session r next →
+      length now ≤ length next
+  answers_grow now next (read.Count c) a = let e : length next ≡ length now = ap length a.1 in omega arith
+  answers_grow now next (read.NotDone j) a = let e : length next ≡ length now = ap length a.2 in omega arith
+  answers_grow now next (read.Seen j words) a = let e : length next ≡ length now = ap length a.3 in omega arith
+  answers_grow now next (read.Claim j) a = let e : length next ≡ length now + 1 =
+      ap length a.2 ∙ length_push now (Claimed session) in omega arith
+  answers_grow now next (read.Lost c) a = let e : length next ≡ length now = ap length a.1 in omega arith
+  answers_grow now next (read.Done j words) a = let e : length next ≡ length now =
+      ap length a.1 ∙ length_with now j (Done words) in omega arith
+
+  pub answers_bounded : (now next : List ExactPlace) (r : ExactRead) → Answers places now session r next →
+      length now ≤ places → length next ≤ places
+  answers_bounded now next (read.Count c) a h = let e : length next ≡ length now = ap length a.1 in omega arith
+  answers_bounded now next (read.NotDone j) a h = let e : length next ≡ length now = ap length a.2 in omega arith
+  answers_bounded now next (read.Seen j words) a h = let e : length next ≡ length now = ap length a.3 in omega arith
+  answers_bounded now next (read.Claim j) a h =
+      let e : length next ≡ length now + 1 = ap length a.2 ∙ length_push now (Claimed session) in let f = a.0 in
+      let g = a.1 in omega arith
+  answers_bounded now next (read.Lost c) a h = let e : length next ≡ length now = ap length a.1 in omega arith
+  answers_bounded now next (read.Done j words) a h = let e : length next ≡ length now =
+      ap length a.1 ∙ length_with now j (Done words) in omega arith
+
+  -- what is done was done before, or is done now
+  pub answers_before : (now next : List ExactPlace) (r : ExactRead) (k : ℕ) (words : List ℕ) →
+      Answers places now session r next → place_at next k ≡ Some (Done words) →
+      (place_at now k ≡ Some (Done words)) ⊎ (r ≡ read.Done k words)
+  answers_before now next (read.Count c) k words a h = inl (subst (λ ps. place_at ps k ≡ Some (Done words)) a.1 h)
+  answers_before now next (read.NotDone j) k words a h = inl (subst (λ ps. place_at ps k ≡ Some (Done words)) a.2 h)
+  answers_before now next (read.Seen j seen) k words a h = inl (subst (λ ps. place_at ps k ≡ Some (Done words)) a.3 h)
+  answers_before now next (read.Claim j) k words a h =
+      by (place_before now k (Done words) (Claimed session) (subst (λ ps. place_at ps k ≡ Some (Done words)) a.2 h))
+    where
+      by : (place_at now k ≡ Some (Done words)) ⊎ (Done words ≡ Claimed session) →
+          (place_at now k ≡ Some (Done words)) ⊎ (read.Claim j ≡ read.Done k words)
+      by (inl e) = inl e
+      by (inr e) = cc
+  answers_before now next (read.Lost c) k words a h = inl (subst (λ ps. place_at ps k ≡ Some (Done words)) a.1 h)
+  answers_before now next (read.Done j done) k words a h = by (nat_eq j k) refl
+    where
+      after : place_at (with_place now j (Done done)) k ≡ Some (Done words)
+      after = subst (λ ps. place_at ps k ≡ Some (Done words)) a.1 h
+
+      by : (t : Bool) → nat_eq j k ≡ t → (place_at now k ≡ Some (Done words)) ⊎ (read.Done j done ≡ read.Done k words)
+      by true e =
+          let same : j ≡ k = eqb-true j k e in
+          let there : place_at (with_place now j (Done done)) k ≡ Some (Done done) =
+          subst (λ i. place_at (with_place now j (Done done)) i ≡ Some (Done done)) same
+          (with_same now j (Claimed session) (Done done) a.0) in
+          let words_same : ◌≡◌ {A = ExactPlace} (Done done) (Done words) =
+          some_same (Done done) (Done words) (sym there ∙ after) in
+          inr cc
+      by false e = inl (sym (with_other now j k (Done done) (eqb-false j k e)) ∙ after)
+
+-- ---- many of them
+
+pub logged-append : (session : ℕ) (xs ys : List ExactRead) →
+    logged session (xs ++ ys) ≡ logged session xs ++ logged session ys
+logged-append session xs ys = map-append (λ (r : ExactRead). record { session = session; read = r }) xs ys
+
+pub Plays-append : (places : ℕ) (a b c : List ExactPlace) (xs ys : List Logged) → Plays places a xs b →
+    Plays places b ys c → Plays places a (xs ++ ys) c
+Plays-append places a b c [] ys p q = subst (λ ps. Plays places ps ys c) p q
+Plays-append places a b c (x ∷ xs) ys p q = (p.0, p.1, Plays-append places p.0 b c xs ys p.2 q)
+
+pub plays_keep_done : (places : ℕ) (now last : List ExactPlace) (log : List Logged) (k : ℕ) (words : List ℕ) →
+    Plays places now log last → place_at now k ≡ Some (Done words) → place_at last k ≡ Some (Done words)
+plays_keep_done places now last [] k words p h = subst (λ ps. place_at ps k ≡ Some (Done words)) (sym p) h
+plays_keep_done places now last (x ∷ log) k words p h =
+    plays_keep_done places p.0 last log k words p.2
+    (answers_keep places x.session now p.0 x.read k (Done words) p.1 (λ e. cc) h)

@@ -1,0 +1,137 @@
+-- What holds of each world that events lead to.
+use Rattle.std.specs.Prelude.{ℕ, ◌≡◌, ◌==◌, ◌≤◌, Some, Ok, List, [], ◌∷◌, ◌++◌, length, map, if◌then◌else◌}
+use Rattle.std.specs.List.{flat_map}
+use Rattle.spec_exact.specs.Fraction.{ℚ}
+use Rattle.spec_model.specs.Model.{Model}
+use Rattle.spec_check.specs.declared.certificate.Certificate.{Certificate}
+use Rattle.spec_check.specs.declared.certificate.Known.TheVariants as known
+use Rattle.spec_pivot.specs.declared.status.Status.{Status}
+use Rattle.spec_simplex.specs.Form.{Form, form_of}
+use Rattle.spec_cold.specs.declared.outcome.Cold.TheVariants as outcome
+use Rattle.spec_warm.specs.Solve.{SolveEnd}
+use Rattle.spec_shape.specs.Words.{packed}
+use Rattle.spec_reads.specs.declared.place.Place.TheVariants as place
+use Rattle.spec_reads.specs.declared.read.Read.TheVariants as read
+use Rattle.spec_reads.specs.Reads.{Words, ExactRead, Looked, LookReads}
+use Rattle.spec_reads.specs.Places.{place_at, Logged, logged, Plays}
+use Rattle.spec_server.specs.Answers.{number_limit, IsSolved}
+use Rattle.spec_server.specs.Machine.{ExactAsk, ExactReply, State, opening}
+use Rattle.spec_server.specs.Step.{Looks, Begins, handed_by}
+use Rattle.spec_server.specs.Exchanges.{Exchange, AloneRun}
+use Rattle.spec_world.specs.declared.event.Act.TheVariants as act
+use Rattle.spec_world.specs.declared.event.StepEnd.TheVariants.{Quiet, Replied, Not}
+use Rattle.spec_world.specs.World.{Server, ExactAct, ExactEvent, ExactEnd, Stage, Idle, Counts, Sees, Solving, Puts}
+use Rattle.spec_world.specs.World.{Claims, Writes, Session, World, solve}
+
+-- ---- what a session was asked and what it read
+
+-- the ask that is being answered, and what was read for it so far
+abbrev pub going : Stage → List ExactAsk
+going Idle = []
+going other = solve ∷ []
+
+abbrev pub reads_so_far : Stage → List ExactRead
+reads_so_far Idle = []
+reads_so_far (Counts shape) = []
+reads_so_far (Sees shape k reads) = reads
+reads_so_far (Solving found reads) = reads
+reads_so_far (Puts pending reads) = reads
+reads_so_far (Claims pending c reads) = reads
+reads_so_far (Writes pending k reads) = reads
+
+abbrev pub asks_of : Session → List ExactAsk
+asks_of s = map (λ x. x.ask) s.finished ++ going s.stage
+
+abbrev pub reads_of : Session → List ExactRead
+reads_of s = flat_map (λ x. x.reads) s.finished ++ reads_so_far s.stage
+
+-- the asks of a session among events
+abbrev pub asks_by : ExactAct → List ExactAsk
+asks_by (act.Ask asked) = asked ∷ []
+asks_by other = []
+
+abbrev pub asks_in : ℕ → List ExactEvent → List ExactAsk
+asks_in session events = flat_map (λ e. if e.session == session then asks_by e.act else []) events
+
+-- the reads of a session among those of all
+abbrev pub reads_in : ℕ → List Logged → List ExactRead
+reads_in session log = flat_map (λ x. if x.session == session then x.read ∷ [] else []) log
+
+-- ---- who published what
+
+-- From this state the exchange is a solve that ends optimal, and these are the packed words of its final basis, which
+-- it put at place k.
+pub record PutsBasis (old : State) (exchange : Exchange) (k : ℕ) (words : Words) : Type 0 where
+  pub shape : Words
+  pub looked : List ExactRead
+  pub found : Looked
+  pub model : Model
+  pub form : Form
+  pub value : ℚ
+  pub certificate : Certificate (List ℚ)
+  pub basis : List Status
+  pub pivots : ℕ
+  pub solved : SolveEnd
+  pub begins : Begins old exchange.ask (Looks shape)
+  pub look : LookReads shape looked found
+  pub held : old.model ≡ Some model
+  pub formed : form_of (Some number_limit) model ≡ Ok form
+  pub is_solved : IsSolved model old.budget (handed_by found) solved
+  pub is_optimal : solved.end ≡ outcome.Ended (known.Optimal value) certificate (Some basis) pivots
+  pub is_packed : words ≡ packed form basis
+  pub reads : exchange.reads ≡ looked ++ read.Count k ∷ read.Claim k ∷ read.Done k words ∷ []
+
+-- it is one of the session's exchanges
+pub record IsPublisher (places : ℕ) (s : Session) (k : ℕ) (words : Words) : Type 0 where
+  pub before : List Exchange
+  pub after : List Exchange
+  pub exchange : Exchange
+  pub old : State
+  pub all : s.finished ≡ before ++ exchange ∷ after
+  pub run : AloneRun places opening before old
+  pub puts : PutsBasis old exchange k words
+
+-- ---- worlds
+
+-- For each session, its asks that have ended, with their reads and replies, are a run of the one-session machine. The
+-- reads of all sessions stand in one order, and each was answered by the places as they were then. Its asks are those
+-- that its events ask, in order. The words of a place that is done are the packed final basis of a session's solve,
+-- which put it there.
+pub record IsSound (server : Server) (world : World) : Type 0 where
+  pub alone : (session : ℕ) →
+      AloneRun server.places opening (world.sessions session).finished (world.sessions session).state
+  pub log : List Logged
+  pub played : Plays server.places [] log world.places
+  pub reads : (session : ℕ) → reads_of (world.sessions session) ≡ reads_in session log
+  pub asks : (session : ℕ) → asks_of (world.sessions session) ≡ asks_in session world.events
+  pub published : (k : ℕ) (words : Words) → place_at world.places k ≡ Some (place.Done words) →
+      (session : ℕ) × IsPublisher server.places (world.sessions session) k words
+
+-- ---- events
+
+-- The event made these reads, one at most. They stand behind those of its session, each answered by the places as they
+-- were at the event, and nothing else befell the sessions and the places.
+pub record ReadsNow (server : Server) (old : World) (event : ExactEvent) (new : World) : Type 0 where
+  pub made : List ExactRead
+  pub few : length made ≤ 1
+  pub reads : reads_of (new.sessions event.session) ≡ reads_of (old.sessions event.session) ++ made
+  pub answered : Plays server.places old.places (logged event.session made) new.places
+  pub others : (other : ℕ) → (event.session ≡ other → ⊥) → new.sessions other ≡ old.sessions other
+
+-- an ask of the session has ended with this reply
+pub record EndsAsk (old : Session) (replied : ExactReply) (new : Session) : Type 0 where
+  pub exchange : Exchange
+  pub finished : new.finished ≡ old.finished ++ exchange ∷ []
+  pub is_reply : exchange.reply ≡ replied
+  pub is_idle : new.stage ≡ Idle
+
+-- An event that is not taken changes nothing. One that is taken is the last of the events; it ends an ask of its
+-- session with the reply that is given, or it is quiet and ends none.
+abbrev pub EndFits : World → ExactEvent → ExactEnd → World → Type 0
+EndFits old event Not new = new ≡ old
+EndFits old event Quiet new =
+    (new.events ≡ old.events ++ event ∷ [])
+    × ((session : ℕ) → (new.sessions session).finished ≡ (old.sessions session).finished)
+EndFits old event (Replied session replied) new =
+    (session ≡ event.session) × (new.events ≡ old.events ++ event ∷ [])
+    × EndsAsk (old.sessions session) replied (new.sessions session)

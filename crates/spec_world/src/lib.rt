@@ -1,0 +1,109 @@
+//! Sessions that share places, as a world of events, and that each runs alone in it, whatever their order.
+//!
+//! | Item | What it is | Where |
+//! |---|---|---|
+//! | `Act`, `Event` | what a session does at once | src/event |
+//! | `StepEnd` | what comes of it | src/event |
+//! | `Server` | how many sessions and places there are | specs/World |
+//! | `Stage` | where a session is in its ask | specs/World |
+//! | `World`, `WorldStep`, `WorldRun` | the world, one event, and a list of events | specs/World |
+//! | `IsSound` | what holds of each world that events lead to | specs/Sound |
+//! | `PutsBasis` | that a session published the basis of its solve | specs/Sound |
+//! | `ReadsNow`, `EndFits` | what holds of each event | specs/Sound |
+//! | `ManyFits` | what sessions may reply that many workers serve | specs/Workers |
+//! | `Together` | worlds in which the events of each ask stand together | specs/Together |
+//!
+//! An event is what one session does while no other does anything: it is asked, reads how many places are claimed,
+//! reads one place, solves, claims a place, or writes it. So a list of events is one order of all that many sessions do
+//! at the same time.
+#![tactic(auto)]
+
+ghost use Rattle.std.specs.Prelude.{◌≡◌, ◌↔◌, ℕ, Bool, List, map, Some, false};
+ghost use Rattle.std.specs.List.{filter, flat_map};
+ghost use Rattle.spec_reads.specs.declared.place.Place.TheVariants as place;
+ghost use Rattle.spec_reads.specs.Reads.{Words};
+ghost use Rattle.spec_reads.specs.Places.{ExactPlace, place_at, Logged, Plays};
+ghost use Rattle.spec_server.specs.Exchanges.{Exchange, RunFits};
+ghost use Rattle.spec_truth.specs.Agree.{HasMemory, RepliesAgree};
+ghost use Rattle.spec_world.specs.declared.event.StepEnd.TheVariants.{Not};
+ghost use Rattle.spec_world.specs.World.{Server, ExactEvent, ExactEnd, World, opening_world, is_enabled};
+ghost use Rattle.spec_world.specs.World.{WorldStep, WorldRun};
+ghost use Rattle.spec_world.specs.Sound.{IsSound, ReadsNow, EndFits};
+ghost use Rattle.spec_world.specs.Workers.{ManyFits, InPairs, AreInOrder, published_by};
+ghost use Rattle.spec_world.specs.Together.{Together, HaveSessions};
+
+mod event;
+
+pub use event::{Act, Event, StepEnd};
+
+/// Over every list of events, what each session was asked, read and replied is a run of the one-session machine.
+pub fn sessions_run_alone()
+    ensures { (server : Server) (events : List ExactEvent) (world : World) →
+        WorldRun server opening_world events world → IsSound server world }
+{}
+
+/// Each read is answered by the places as they are at its event.
+pub fn reads_are_answered()
+    ensures { (server : Server) (events : List ExactEvent) (old : World) (event : ExactEvent) (end : ExactEnd)
+        (new : World) →
+        WorldRun server opening_world events old → WorldStep server old event end new → ReadsNow server old event new }
+{}
+
+/// A place that is done stays so, with its words.
+pub fn done_places_stay()
+    ensures { (server : Server) (before : List ExactEvent) (old : World) (events : List ExactEvent) (new : World)
+        (k : ℕ) (words : Words) →
+        WorldRun server opening_world before old → WorldRun server old events new →
+        place_at old.places k ≡ Some (place.Done words) → place_at new.places k ≡ Some (place.Done words) }
+{}
+
+/// An event is not taken exactly where it is not enabled, and what is said of it is so.
+pub fn events_are_told()
+    ensures not { (server : Server) (old : World) (event : ExactEvent) (end : ExactEnd) (new : World) →
+        WorldStep server old event end new → (end ≡ Not) ↔ (is_enabled server old event ≡ false) }
+    ensures ends { (server : Server) (events : List ExactEvent) (old : World) (event : ExactEvent) (end : ExactEnd)
+        (new : World) →
+        WorldRun server opening_world events old → WorldStep server old event end new → EndFits old event end new }
+{}
+
+/// Each event can happen: one that is not enabled by leaving all as it is, each other by its act.
+pub fn events_happen()
+    ensures { (server : Server) (old : World) (event : ExactEvent) →
+        (end : ExactEnd) × (new : World) × WorldStep server old event end new }
+{}
+
+/// In two worlds, even of two servers, a session that was asked the same replied the same, but for how answers were
+/// found, the lines of certificates, and answers in place of a refused operation or of a spent budget.
+pub fn replies_agree()
+    ensures { (server server' : Server) (events events' : List ExactEvent) (world world' : World) (session : ℕ) →
+        WorldRun server opening_world events world → WorldRun server' opening_world events' world' →
+        map (λ (x : Exchange). x.ask) (world.sessions session).finished
+        ≡ map (λ (x : Exchange). x.ask) (world'.sessions session).finished →
+        HasMemory (world.sessions session).finished → HasMemory (world'.sessions session).finished →
+        RepliesAgree (world.sessions session).finished (world'.sessions session).finished }
+{}
+
+/// What sessions may reply whose asks are answered one after the other, with their reads, is exactly what a world
+/// replies in which the events of each ask stand together.
+pub fn one_worker_is_a_world()
+    ensures worlds { (server : Server) (xs : List Exchange) → RunFits server.places xs → HaveSessions server xs →
+        (world : World) × Together server opening_world xs world }
+    ensures fits { (server : Server) (xs : List Exchange) (world : World) → Together server opening_world xs world →
+        RunFits server.places xs }
+{}
+
+/// Whatever sessions a worker serves: of what it reads, a count never falls, and a place that was done, or that it
+/// published, is below each later count and read as done ever after. No place is published twice.
+pub fn reads_stay_in_order()
+    ensures order { (places : ℕ) (now last : List ExactPlace) (log : List Logged) (serves : ℕ → Bool) →
+        Plays places now log last →
+        InPairs AreInOrder (map (λ (x : Logged). x.read) (filter (λ x. serves x.session) log)) }
+    ensures once { (places : ℕ) (now last : List ExactPlace) (log : List Logged) →
+        Plays places now log last →
+        InPairs (λ (j k : ℕ). j ≡ k → ⊥) (flat_map (λ (x : Logged). published_by x.read) log) }
+{}
+
+/// What one worker may reply, with its reads, many may.
+pub fn one_worker_is_many()
+    ensures { (places workers : ℕ) (xs : List Exchange) → RunFits places xs → ManyFits places workers xs }
+{}
