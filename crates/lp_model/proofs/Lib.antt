@@ -1,3 +1,5 @@
+pub mod NamePlaces
+pub mod Halved
 pub mod Splits
 pub mod Places
 pub mod Lowered

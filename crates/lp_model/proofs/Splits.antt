@@ -91,7 +91,7 @@ put-other i v n = by (eq_ℚ v 0ℚ) refl
 
 -- ---- at a place
 
-parts_around : (es : Entries) (k : ℕ) (d : ℕ × ℚ) → k < length es →
+pub parts_around : (es : Entries) (k : ℕ) (d : ℕ × ℚ) → k < length es →
     take k es ++ ((get_or es k d ∷ []) ++ drop (k + 1) es) ≡ es
 parts_around es k d l = rw (add-one, ← drop-cons es k d) (take-append-drop k es)
 

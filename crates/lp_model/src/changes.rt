@@ -8,6 +8,7 @@ ghost use Rattle.spec_edit.specs.Changes as changes;
 ghost use Rattle.spec_edit.specs.Edited.{is_row_taken, is_column_taken};
 
 use crate::entries::{put_entry, take_row_out};
+use crate::indexed::{take_name_out, with_name};
 use crate::model::{Column, Model, Row};
 use crate::narrow::{narrow, narrow_column, narrow_if, narrow_row};
 use lp_frac::Frac;
@@ -23,7 +24,9 @@ impl Model {
         ensures ok { OnOk result (self.new ≡ changes.with_row self.old row) }
         ensures err { OnErr result (self.new ≡ self.old) }
     {
+        let names = with_name(self.row_names.take(), row.name.as_slice());
         self.rows.push(narrow_row(row))?;
+        self.row_names = names;
         Ok(())
     }
 
@@ -36,7 +39,9 @@ impl Model {
         ensures ok { OnOk result (self.new ≡ changes.with_column self.old column) }
         ensures err { OnErr result (self.new ≡ self.old) }
     {
+        let names = with_name(self.column_names.take(), column.name.as_slice());
         self.columns.push(narrow_column(column))?;
+        self.column_names = names;
         Ok(())
     }
 
@@ -57,6 +62,7 @@ impl Model {
         ensures { self.new ≡ changes.without_row self.old i }
     {
         self.rows.remove(i as usize);
+        take_name_out(&mut self.row_names, i as usize);
         take_row_out_of(&mut self.columns, i);
     }
 
@@ -66,6 +72,7 @@ impl Model {
         ensures { self.new ≡ changes.without_column self.old j }
     {
         self.columns.remove(j as usize);
+        take_name_out(&mut self.column_names, j as usize);
     }
 
     /// Gives column `j` this cost.
@@ -121,7 +128,8 @@ impl Model {
 // Takes row `i` out of each column.
 fn take_row_out_of(columns: &mut [Column], i: u32)
     requires { All (λ c. AllPairs (λ d e. d.0 < e.0) c.entries) columns.old }
-    ensures { columns.new ≡ map (λ (c : ExactColumn). record c { entries = changes.without_entry i c.entries }) columns.old }
+    ensures { columns.new ≡
+        map (λ (c : ExactColumn). record c { entries = changes.without_entry i c.entries }) columns.old }
 {
     for column in columns.iter_mut() {
         take_row_out(&mut column.entries, i);

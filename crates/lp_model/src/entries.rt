@@ -51,8 +51,8 @@ pub(crate) fn take_row_out(entries: &mut Entries, row: u32)
     }
 }
 
-// Where the row's entry stands, or else where it belongs.
-fn place_of(entries: &[(u32, Frac)], row: u32) -> Result<usize, usize>
+/// Where the row's entry stands, or else where it belongs.
+pub(crate) fn place_of(entries: &[(u32, Frac)], row: u32) -> Result<usize, usize>
     requires { AllPairs (λ d e. d.0 < e.0) entries.now }
     ensures { IsPlace row entries.now result }
 {

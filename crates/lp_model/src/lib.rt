@@ -4,8 +4,9 @@
 //! |---|---|---|
 //! | `Model` | a model that may be kept; to contracts a record of plain data, `spec_model`'s `Model` | src/model |
 //! | `Row`, `Column` | its parts, with names and numbers as the code holds them | src/model |
-//! | `Sense`, `Kind` | whether the objective is to be least or greatest; the kinds of rows | `spec_model`, `spec_model` |
+//! | `Sense`, `Kind` | whether the objective is to be least or greatest; the kinds of rows | `spec_model` |
 //! | `put_entry` | puts a coefficient among the entries of a column | src/entries |
+//! | `NameIndex` | distinct names that are found by their hashes | src/name_index |
 //! | `is_name`, `is_row_name`, `is_model_name` | whether a text may be a name | src/names |
 //!
 //! A model is read by the methods of src/model and changed by those of src/changes, which keep it in order.
@@ -13,11 +14,14 @@
 
 mod changes;
 mod entries;
+mod indexed;
 mod model;
+mod name_index;
 mod names;
 mod narrow;
 
 pub use entries::put_entry;
 pub use model::{Column, Model, Row};
+pub use name_index::NameIndex;
 pub use names::{is_model_name, is_name, is_row_name};
 pub use spec_model::{Kind, Sense};

@@ -1,11 +1,13 @@
 // Models and their readers.
-ghost use Rattle.std.specs.Prelude.{◌≡◌, ◌<◌, ◌≤◌, IfSome, length};
-ghost use Rattle.std.specs.List.{position};
-ghost use Rattle.spec_text.specs.Words.{same};
+ghost use Rattle.std.specs.Prelude.{◌≡◌, ◌<◌, ◌≤◌, IfSome};
+ghost use Rattle.std.specs.List.{AllPairs};
 ghost use Rattle.spec_model.specs.Model.{width, height, row, column, coefficient, entry_of};
 ghost use Rattle.spec_model.specs.Kept.{AreEntries, IsModel, row_place, column_place};
 
-use lp_base::{Name, are_same};
+use crate::entries::place_of;
+use crate::indexed::{column_named, names_of_columns, names_of_rows, row_named};
+use crate::name_index::NameIndex;
+use lp_base::Name;
 use lp_frac::{Entries, Frac, zero};
 use spec_model::{Kind, Sense};
 
@@ -24,13 +26,17 @@ pub struct Model {
     pub(crate) offset: Frac,
     pub(crate) rows: Vec<Row>,
     pub(crate) columns: Vec<Column>,
+    /// The names of the rows, by which they are found; none where there was no memory for them.
+    pub(crate) row_names: Option<NameIndex>,
+    /// The names of the columns, as those of the rows.
+    pub(crate) column_names: Option<NameIndex>,
 }
 
 impl std::marker::Model for Model {
-    ghost use Rattle.spec_model.specs.Model as plain;
-    ghost use Rattle.spec_model.specs.Kept.{IsModel};
+    ghost use Rattle.spec_model.specs.Model as model;
+    ghost use Rattle.lp_model.specs.Indexed.{IsIndexed};
 
-    ghost Value = { plain.Model };
+    ghost Value = { model.Model };
 
     ghost view = { λ m. record {
       name = m.name;
@@ -41,14 +47,14 @@ impl std::marker::Model for Model {
       columns = m.columns.items;
     } };
 
-    ghost invariant = { λ m. IsModel (record {
+    ghost invariant = { λ m. IsIndexed (record {
       name = m.name;
       sense = m.sense;
       objective = m.objective;
       offset = m.offset;
       rows = m.rows.items;
       columns = m.columns.items;
-    }) };
+    }) m.row_names m.column_names };
 }
 
 impl Model {
@@ -78,6 +84,8 @@ impl Model {
           columns = columns.items;
         } }
     {
+        let row_names = names_of_rows(*rows.allocator(), &rows);
+        let column_names = names_of_columns(*columns.allocator(), &columns);
         Model {
             name,
             sense,
@@ -85,6 +93,8 @@ impl Model {
             offset,
             rows,
             columns,
+            row_names,
+            column_names,
         }
     }
 
@@ -161,7 +171,7 @@ impl Model {
         requires j_in_range { j < width self.now }
         ensures { result ≡ coefficient self.now i j }
     {
-        entry_at(self.col(j).entries.as_slice(), i)
+        entry_at(self.entries(j), i)
     }
 
     /// The number of the row with this name.
@@ -170,7 +180,7 @@ impl Model {
         ensures value { result ≡ row_place self.now name.now }
         ensures inside { IfSome result (λ i. i < height self.now) }
     {
-        match row_named(&self.rows, name) {
+        match row_named(&self.row_names, &self.rows, name) {
             Some(i) => Some(i as u32),
             None => None,
         }
@@ -182,39 +192,20 @@ impl Model {
         ensures value { result ≡ column_place self.now name.now }
         ensures inside { IfSome result (λ j. j < width self.now) }
     {
-        match column_named(&self.columns, name) {
+        match column_named(&self.column_names, &self.columns, name) {
             Some(j) => Some(j as u32),
             None => None,
         }
     }
 }
 
-// The place of the first row with this name.
-fn row_named(rows: &[Row], name: &[u8]) -> Option<usize>
-    ensures value { result ≡ position (λ r. same r.name name.now) rows.now }
-    ensures inside { IfSome result (λ i. i < length rows.now) }
-{
-    rows.iter().position(|r| are_same(r.name.as_slice(), name))
-}
-
-// The place of the first column with this name.
-fn column_named(columns: &[Column], name: &[u8]) -> Option<usize>
-    ensures value { result ≡ position (λ c. same c.name name.now) columns.now }
-    ensures inside { IfSome result (λ j. j < length columns.now) }
-{
-    columns
-        .iter()
-        .position(|c| are_same(c.name.as_slice(), name))
-}
-
 // What stands at row `i`, 0 where nothing does.
 fn entry_at(entries: &[(u32, Frac)], i: u32) -> Frac
+    requires { AllPairs (λ d e. d.0 < e.0) entries.now }
     ensures { result ≡ entry_of entries.now i }
 {
-    for (row, value) in entries {
-        if *row == i {
-            return *value;
-        }
+    match place_of(entries, i) {
+        Ok(place) => entries[place].1,
+        Err(_) => zero(),
     }
-    zero()
 }

@@ -1,20 +1,20 @@
 // Names that a model may have.
 ghost use Rattle.std.specs.Prelude.{◌≡◌};
 ghost use Rattle.std.specs.List.{list_all};
-ghost use Rattle.spec_model.specs.Kept as told;
+ghost use Rattle.spec_model.specs.Kept as kept;
 
 use lp_base::are_same;
 
 const MAX_NAME: usize = 64;
 
 fn is_printable(b: u8) -> bool
-    ensures { result ≡ told.is_printable b }
+    ensures { result ≡ kept.is_printable b }
 {
     33 <= b && b <= 126
 }
 
 fn are_printable(text: &[u8]) -> bool
-    ensures { result ≡ list_all told.is_printable text.now }
+    ensures { result ≡ list_all kept.is_printable text.now }
 {
     text.iter().all(|b| is_printable(*b))
 }
@@ -22,7 +22,7 @@ fn are_printable(text: &[u8]) -> bool
 /// Whether this may be the name of a column.
 #[tactic(auto, unfolding(spec_model::specs::Kept::is_name))]
 pub fn is_name(name: &[u8]) -> bool
-    ensures { result ≡ told.is_name name.now }
+    ensures { result ≡ kept.is_name name.now }
 {
     !name.is_empty() && name.len() <= MAX_NAME && are_printable(name)
 }
@@ -30,7 +30,7 @@ pub fn is_name(name: &[u8]) -> bool
 /// Whether this may be the name of a row or of the objective.
 #[tactic(auto, unfolding(spec_model::specs::Kept::is_row_name))]
 pub fn is_row_name(name: &[u8]) -> bool
-    ensures { result ≡ told.is_row_name name.now }
+    ensures { result ≡ kept.is_row_name name.now }
 {
     is_name(name) && !are_same(name, b"'MARKER'")
 }
@@ -38,7 +38,7 @@ pub fn is_row_name(name: &[u8]) -> bool
 /// Whether this may be the name of a model.
 #[tactic(auto, unfolding(spec_model::specs::Kept::is_model_name))]
 pub fn is_model_name(name: &[u8]) -> bool
-    ensures { result ≡ told.is_model_name name.now }
+    ensures { result ≡ kept.is_model_name name.now }
 {
     name.len() <= MAX_NAME && are_printable(name)
 }

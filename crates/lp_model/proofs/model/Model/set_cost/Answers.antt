@@ -1,9 +1,18 @@
-use Rattle.std.proofs.Common.{◌<◌, subst, sym}
-use Rattle.spec_model.specs.Model.{width}
+use Rattle.std.proofs.Common.{◌<◌, refl, subst, sym}
+use Rattle.spec_model.specs.Model.{ExactColumn, width}
+use Rattle.lp_model.proofs.NamePlaces.{names_set}
 use Rattle.lp_model.proofs.Kept.{cost_here}
 use Rattle.lp_model.proofs.model.Model.set_cost.Goals as goal
 
 pub invariant_of-self : goal.invariant_of-self
 invariant_of-self c =
-    cost_here _ c.args.j c.index_mut.result.now c.index_mut.ensures.value (subst (λ m. c.args.j < width m) (sym c.self.view_is) c.requires)
-    c.args.v c.narrow.result c.narrow.ensures.value c.self.invariant c.narrow.ensures.narrow
+    record {
+      model =
+          cost_here _ c.args.j c.index_mut.result.now c.index_mut.ensures.value (subst (λ m. c.args.j < width m) (sym c.self.view_is) c.requires)
+          c.args.v c.narrow.result c.narrow.ensures.value c.self.invariant.model c.narrow.ensures.narrow;
+      rows = c.self.invariant.rows;
+      columns =
+          names_set (λ (x : ExactColumn). x.name) _ c.self.inside.columns.items c.args.j c.index_mut.result.now
+          (record c.index_mut.result.now { cost = c.narrow.result }) c.index_mut.ensures.value
+          (subst (λ m. c.args.j < width m) (sym c.self.view_is) c.requires) refl c.self.invariant.columns;
+    }

@@ -1,0 +1,7 @@
+use Rattle.std.proofs.Common.{◌≡◌, map, take}
+use Rattle.spec_model.specs.Model.{ExactColumn}
+use Rattle.lp_model.proofs.indexed.names_of_columns.Given as goal
+
+-- the names so far are those of the columns that were passed
+abbrev pub invariant-loop-column : goal.invariant-loop-column
+invariant-loop-column l = l.names ≡ map (λ (x : ExactColumn). x.name) (take l.column-index l.columns)

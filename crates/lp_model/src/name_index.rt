@@ -1,0 +1,73 @@
+// Names that are found by their hashes.
+ghost use Rattle.std.specs.Prelude.{◌≡◌, ◌≢◌, ◌<◌, ◌++◌, ◌∷◌, [], All, length, IfSome, OnOk, OnErr};
+ghost use Rattle.std.specs.List.{list_any, position, remove};
+ghost use Rattle.spec_text.specs.Words.{same};
+
+use indexmap::IndexSet;
+use std::alloc::{AllocError, Global};
+use std::marker::Model;
+
+/// Distinct names in their order. The time to find one does not grow with how many there are.
+#[derive(Drop)]
+pub struct NameIndex {
+    names: IndexSet<Vec<u8>>,
+}
+
+impl Model for NameIndex {
+    ghost use Rattle.std.specs.Prelude.{List, ℕ, map};
+
+    ghost Value = { List (List ℕ) };
+
+    ghost view = { λ n. map (λ name. name.items) n.names.keys };
+}
+
+impl NameIndex {
+    pub fn new(alloc: Global) -> Self
+        ensures { result ≡ [] }
+    {
+        NameIndex {
+            names: IndexSet::new(alloc),
+        }
+    }
+
+    /// How many names there are.
+    pub fn len(&self) -> usize
+        ensures { result ≡ length self.now }
+    {
+        self.names.len()
+    }
+
+    /// Adds a name at the end.
+    pub fn push(&mut self, name: &[u8]) -> Result<(), AllocError>
+        requires { All (λ x. x ≢ name.now) self.old }
+        ensures ok { OnOk result (self.new ≡ self.old ++ name.now ∷ []) }
+        ensures err { OnErr result (self.new ≡ self.old) }
+    {
+        let name = Vec::from_slice(*self.names.allocator(), name)?;
+        self.names.insert(name)?;
+        Ok(())
+    }
+
+    /// Takes out the name at a place. The names after it move down by one.
+    pub fn remove(&mut self, at: usize)
+        requires { at < length self.old }
+        ensures { self.new ≡ remove self.old at }
+    {
+        self.names.shift_remove_index(at);
+    }
+
+    /// Whether a name is among them.
+    pub fn has(&self, name: &[u8]) -> bool
+        ensures { result ≡ list_any (same name.now) self.now }
+    {
+        self.names.contains(name)
+    }
+
+    /// The place of a name, counted from 0.
+    pub fn place_of(&self, name: &[u8]) -> Option<usize>
+        ensures value { result ≡ position (λ x. same x name.now) self.now }
+        ensures inside { IfSome result (λ i. i < length self.now) }
+    {
+        self.names.get_index_of(name)
+    }
+}
