@@ -5,29 +5,29 @@ use Rattle.spec_model.specs.Model.{Name}
 use Rattle.spec_mps.specs.declared.fault.Code.{Code}
 use Rattle.spec_mps.specs.declared.fault.Code.TheVariants as code
 use Rattle.spec_mps.specs.Checks.{Check}
-use Rattle.spec_mps.specs.Bounds as told
+use Rattle.spec_mps.specs.Bounds as bounds
 use Rattle.mps_read.specs.declared.bound_card.BoundCard.{BoundCard}
 use Rattle.mps_read.specs.declared.bound_card.BoundCard.TheVariants as card
 use Rattle.mps_read.specs.declared.bounds.BoundTexts.{BoundTexts}
 
-abbrev pub bound_seen : BoundCard → told.BoundCard
-bound_seen (card.SetsUpper u) = told.SetsUpper u
-bound_seen (card.SetsLower l) = told.SetsLower l
-bound_seen (card.SetsBoth l u) = told.SetsBoth l u
+abbrev pub bound_seen : BoundCard → bounds.BoundCard
+bound_seen (card.SetsUpper u) = bounds.SetsUpper u
+bound_seen (card.SetsLower l) = bounds.SetsLower l
+bound_seen (card.SetsBoth l u) = bounds.SetsBoth l u
 
-abbrev pub bound_made : Result BoundCard Code → Check told.BoundCard
+abbrev pub bound_made : Result BoundCard Code → Check bounds.BoundCard
 bound_made (Ok card) = Ok (bound_seen card)
 bound_made (Err code) = Err code
 
-abbrev pub texts_seen : BoundTexts → told.BoundTexts
+abbrev pub texts_seen : BoundTexts → bounds.BoundTexts
 texts_seen texts = record { set = option_copied texts.set; column = texts.column.now; value = texts.value.now }
 
-abbrev pub texts_made : Result BoundTexts Code → Check told.BoundTexts
+abbrev pub texts_made : Result BoundTexts Code → Check bounds.BoundTexts
 texts_made (Ok texts) = Ok (texts_seen texts)
 texts_made (Err code) = Err code
 
 -- the texts of a card by their places
-abbrev pub texts_by : Bool → Option Name → Option Name → Option Name → Option Name → Check told.BoundTexts
+abbrev pub texts_by : Bool → Option Name → Option Name → Option Name → Option Name → Check bounds.BoundTexts
 texts_by true (Some column) (Some value) None fourth = Ok (record { set = None; column = column; value = value })
 texts_by true (Some set) (Some column) (Some value) None =
     Ok (record { set = Some set; column = column; value = value })

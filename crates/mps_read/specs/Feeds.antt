@@ -3,14 +3,14 @@ use Rattle.std.specs.Prelude.{ℕ, ◌≡◌, Ok, Err}
 use Rattle.spec_mps.specs.declared.fault.MpsFault.{MpsFault}
 use Rattle.spec_mps.specs.declared.style.Style.{Style}
 use Rattle.spec_mps.specs.Steps.{Outcome}
-use Rattle.spec_mps.specs.Steps as told
+use Rattle.spec_mps.specs.Steps as steps
 use Rattle.mps_read.specs.declared.reader.Feed.{Feed}
 use Rattle.mps_read.specs.declared.reader.Feed.TheVariants as feed
 use Rattle.mps_read.specs.TextRead.{TextRead}
 
 -- the text continues after line n
 pub record GoesOn (outcome : Outcome) (form : Style) (n : ℕ) (new : TextRead) : Type 0 where
-  pub state : outcome ≡ Ok (told.More new.state)
+  pub state : outcome ≡ Ok (steps.More new.state)
   pub style : new.style ≡ form
   pub lines : new.lines ≡ n
 
@@ -22,6 +22,6 @@ pub record IsRefused (outcome : Outcome) (n : ℕ) (fault : MpsFault) : Type 0 w
 -- the answer at line n of what its step leads to; if memory runs out it says nothing
 abbrev pub Feeds : Outcome → Style → ℕ → TextRead → Feed → Type 0
 Feeds outcome style n new feed.More = GoesOn outcome style n new
-Feeds outcome style n new (feed.Done m) = outcome ≡ Ok (told.Done m)
+Feeds outcome style n new (feed.Done m) = outcome ≡ Ok (steps.Done m)
 Feeds outcome style n new (feed.Refused fault) = IsRefused outcome n fault
 Feeds outcome style n new feed.NoMemory = Unit {0}

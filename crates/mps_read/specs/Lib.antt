@@ -5,6 +5,8 @@ pub mod Draft
 pub mod Feeds
 pub mod Finished
 pub mod Leads
+pub mod Marks
+pub mod Named
 pub mod Parts
 pub mod TextRead
 pub mod Sets

@@ -1,7 +1,7 @@
 // What a card of BOUNDS does.
 ghost use Rattle.std.specs.Prelude.{◌≡◌, Option, None};
 ghost use Rattle.spec_exact.specs.Fraction.{ℚ};
-ghost use Rattle.spec_mps.specs.Bounds as told;
+ghost use Rattle.spec_mps.specs.Bounds as bounds;
 ghost use Rattle.spec_mps.specs.Sides.{changed_at};
 ghost use Rattle.mps_read.specs.BoundSeen.{bound_seen, bound_made};
 
@@ -20,13 +20,13 @@ pub(crate) enum BoundCard {
 
 #[tactic(auto, unfolding(spec_mps::specs::Bounds::bound_in))]
 fn bound_in(text: &[u8]) -> Result<BoundValue<Frac>, Code>
-    ensures { result ≡ told.bound_in text.now }
+    ensures { result ≡ bounds.bound_in text.now }
 {
     Ok(read_bound(text)?)
 }
 
 fn upper_card(value: BoundValue<Frac>) -> Result<BoundCard, Code>
-    ensures { bound_made result ≡ told.upper_card value }
+    ensures { bound_made result ≡ bounds.upper_card value }
 {
     match value {
         BoundValue::Finite(upper) => Ok(BoundCard::SetsUpper(Some(upper))),
@@ -36,7 +36,7 @@ fn upper_card(value: BoundValue<Frac>) -> Result<BoundCard, Code>
 }
 
 fn lower_card(value: BoundValue<Frac>) -> Result<BoundCard, Code>
-    ensures { bound_made result ≡ told.lower_card value }
+    ensures { bound_made result ≡ bounds.lower_card value }
 {
     match value {
         BoundValue::Finite(lower) => Ok(BoundCard::SetsLower(Some(lower))),
@@ -46,7 +46,7 @@ fn lower_card(value: BoundValue<Frac>) -> Result<BoundCard, Code>
 }
 
 fn both_card(value: BoundValue<Frac>) -> Result<BoundCard, Code>
-    ensures { bound_made result ≡ told.both_card value }
+    ensures { bound_made result ≡ bounds.both_card value }
 {
     match value {
         BoundValue::Finite(v) => Ok(BoundCard::SetsBoth(Some(v), Some(v))),
@@ -57,7 +57,7 @@ fn both_card(value: BoundValue<Frac>) -> Result<BoundCard, Code>
 /// The card of a kind, with its value where it takes one.
 #[tactic(auto, unfolding(spec_mps::specs::Bounds::bound_card))]
 pub(crate) fn bound_card(kind: BoundKind, text: &[u8]) -> Result<BoundCard, Code>
-    ensures { bound_made result ≡ told.bound_card kind text.now }
+    ensures { bound_made result ≡ bounds.bound_card kind text.now }
 {
     match kind {
         BoundKind::Up => upper_card(bound_in(text)?),
@@ -70,7 +70,7 @@ pub(crate) fn bound_card(kind: BoundKind, text: &[u8]) -> Result<BoundCard, Code
 }
 
 fn is_below_zero(bound: &Option<Frac>) -> bool
-    ensures { result ≡ told.is_negative bound.now }
+    ensures { result ≡ bounds.is_negative bound.now }
 {
     match bound {
         Some(bound) => num(*bound) < 0,
@@ -79,7 +79,7 @@ fn is_below_zero(bound: &Option<Frac>) -> bool
 }
 
 fn bound_column(column: &mut Column, lowered: bool, card: &BoundCard)
-    ensures { column.new ≡ told.bounded lowered (bound_seen card.now) column.old }
+    ensures { column.new ≡ bounds.bounded lowered (bound_seen card.now) column.old }
 {
     match card {
         BoundCard::SetsUpper(upper) => {
@@ -98,7 +98,7 @@ fn bound_column(column: &mut Column, lowered: bool, card: &BoundCard)
 
 /// Lets a card act on the column at a place. Past the end there is none.
 pub(crate) fn bound_at(columns: &mut [Column], place: usize, lowered: bool, card: &BoundCard)
-    ensures { columns.new ≡ changed_at place (told.bounded lowered (bound_seen card.now)) columns.old }
+    ensures { columns.new ≡ changed_at place (bounds.bounded lowered (bound_seen card.now)) columns.old }
 {
     if place < columns.len() {
         bound_column(&mut columns[place], lowered, card);
@@ -107,7 +107,7 @@ pub(crate) fn bound_at(columns: &mut [Column], place: usize, lowered: bool, card
 
 /// Whether a card sets the lower bound.
 pub(crate) fn sets_lower(card: &BoundCard) -> bool
-    ensures { result ≡ told.sets_lower (bound_seen card.now) }
+    ensures { result ≡ bounds.sets_lower (bound_seen card.now) }
 {
     match card {
         BoundCard::SetsUpper(_) => false,

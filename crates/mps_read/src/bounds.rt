@@ -1,24 +1,21 @@
 // The cards of BOUNDS.
 ghost use Rattle.std.specs.Prelude.{◌≡◌, ◌||◌, ℕ, false, get_or, slice_get};
-ghost use Rattle.std.specs.List.{filter, position};
+ghost use Rattle.std.specs.List.{filter};
 ghost use Rattle.std.specs.Option.{option_copied};
-ghost use Rattle.spec_text.specs.Words.{same};
 ghost use Rattle.spec_mps.specs.Fields.{texts_of};
-ghost use Rattle.spec_mps.specs.Bounds as told;
+ghost use Rattle.spec_mps.specs.Bounds as bounds;
 ghost use Rattle.spec_mps.specs.Sides.{changed_at};
 ghost use Rattle.mps_read.specs.Answer.{GivesState};
 ghost use Rattle.mps_read.specs.BoundSeen.{bound_seen, texts_seen, texts_made};
 ghost use Rattle.mps_read.specs.BoundSeen as seen;
 ghost use Rattle.mps_read.specs.Draft.{state_of};
 
-use crate::bound_card::{BoundCard, bound_at, bound_card, sets_lower};
+use crate::bound_card::{BoundCard, bound_card, sets_lower};
 use crate::draft::Draft;
 use crate::fault::Fault;
 use crate::sets::is_used;
 use crate::shapes::has_bound_shape;
 use crate::words::bound_kind_of;
-use lp_base::are_same;
-use lp_model::Column;
 use mps_card::{Field, Fields};
 use spec_mps::{BoundKind, Code, Style};
 use std::alloc::Global;
@@ -32,7 +29,7 @@ pub(crate) struct BoundTexts<'a> {
 }
 
 fn takes_value(kind: BoundKind) -> bool
-    ensures { result ≡ told.takes_value kind }
+    ensures { result ≡ bounds.takes_value kind }
 {
     match kind {
         BoundKind::Up | BoundKind::Lo | BoundKind::Fx => true,
@@ -42,14 +39,14 @@ fn takes_value(kind: BoundKind) -> bool
 
 // Field 1 is the kind. Where that takes no value, field 4 is not read.
 fn is_read(kind: BoundKind, number: u32) -> bool
-    ensures { result ≡ told.is_read kind number }
+    ensures { result ≡ bounds.is_read kind number }
 {
     number != 1 && (takes_value(kind) || number != 4)
 }
 
 // What stands in one of the fields that are read, counted from 0.
 fn text_read(kind: BoundKind, fields: &[Field], place: usize) -> Option<&[u8]>
-    ensures { option_copied result ≡ slice_get (texts_of (filter (λ f. told.is_read kind f.number) fields.now)) place }
+    ensures { option_copied result ≡ slice_get (texts_of (filter (λ f. bounds.is_read kind f.number) fields.now)) place }
 {
     let mut left = place;
     for field in fields {
@@ -87,7 +84,7 @@ fn texts_by<'a>(
 
 #[tactic(auto, unfolding(spec_mps::specs::Bounds::bound_texts))]
 fn bound_texts(style: Style, kind: BoundKind, fields: &[Field]) -> Result<BoundTexts<'_>, Code>
-    ensures { texts_made result ≡ told.bound_texts style kind fields.now }
+    ensures { texts_made result ≡ bounds.bound_texts style kind fields.now }
 {
     if !has_bound_shape(style, kind, fields) {
         return Err(Code::CardShape);
@@ -99,15 +96,6 @@ fn bound_texts(style: Style, kind: BoundKind, fields: &[Field]) -> Result<BoundT
         text_read(kind, fields, 2),
         text_read(kind, fields, 3),
     )
-}
-
-// The place of the first column with this name.
-fn column_named(columns: &[Column], name: &[u8]) -> Option<usize>
-    ensures { result ≡ position (λ c. same c.name name.now) columns.now }
-{
-    columns
-        .iter()
-        .position(|c| are_same(c.name.as_slice(), name))
 }
 
 fn is_lowered(lowered: &[bool], place: usize) -> bool
@@ -135,7 +123,7 @@ impl Draft {
         style: Style,
         fields: &Fields,
     ) -> Result<(), Fault>
-        ensures { GivesState (told.bounds_card style (state_of self.old) fields.now) (state_of self.new) result }
+        ensures { GivesState (bounds.bounds_card style (state_of self.old) fields.now) (state_of self.new) result }
     {
         let kind = bound_kind_of(fields.text_at(1))?;
         let texts = bound_texts(style, kind, fields.as_slice())?;
@@ -147,9 +135,9 @@ impl Draft {
 
     #[tactic(auto, unfolding(spec_mps::specs::Bounds::use_bound))]
     fn use_bound(&mut self, alloc: Global, kind: BoundKind, texts: BoundTexts) -> Result<(), Fault>
-        ensures { GivesState (told.use_bound (state_of self.old) kind (texts_seen texts.entry)) (state_of self.new) result }
+        ensures { GivesState (bounds.use_bound (state_of self.old) kind (texts_seen texts.entry)) (state_of self.new) result }
     {
-        let Some(place) = column_named(&self.columns, texts.column) else {
+        let Some(place) = self.columns.place_of(texts.column) else {
             return Err(Fault::Code(Code::UnknownColumn));
         };
         let card = bound_card(kind, texts.value)?;
@@ -160,10 +148,10 @@ impl Draft {
 
     #[tactic(auto, unfolding(spec_mps::specs::Bounds::with_bound))]
     fn put_bound(&mut self, place: usize, card: &BoundCard)
-        ensures { state_of self.new ≡ told.with_bound (state_of self.old) place (bound_seen card.now) }
+        ensures { state_of self.new ≡ bounds.with_bound (state_of self.old) place (bound_seen card.now) }
     {
         let lowered = is_lowered(&self.lowered, place);
-        bound_at(&mut self.columns, place, lowered, card);
+        self.columns.bound_at(place, lowered, card);
         lower_at(&mut self.lowered, place, sets_lower(card));
     }
 }

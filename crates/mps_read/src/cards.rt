@@ -1,6 +1,6 @@
 // The cards of lines, by the section that they stand in.
 ghost use Rattle.mps_card.specs.Answer as card;
-ghost use Rattle.spec_mps.specs.Steps as told;
+ghost use Rattle.spec_mps.specs.Steps as steps;
 ghost use Rattle.mps_read.specs.Answer.{GivesState, Goes};
 ghost use Rattle.mps_read.specs.Draft.{state_of};
 
@@ -18,7 +18,7 @@ fn read_card(
     part: Option<Section>,
     bytes: &[u8],
 ) -> Result<Card, CardFault>
-    ensures { card.GivesCard result (told.reading_of style part bytes.now) }
+    ensures { card.GivesCard result (steps.reading_of style part bytes.now) }
 {
     match (style, part) {
         (Style::Free, _) | (Style::Fixed, Some(Section::Sense)) => free(alloc, bytes),
@@ -28,7 +28,7 @@ fn read_card(
 
 impl Draft {
     fn data_card(&mut self, alloc: Global, style: Style, fields: &Fields) -> Result<(), Fault>
-        ensures { GivesState (told.data_card style (state_of self.old).part (state_of self.old) fields.now) (state_of self.new) result }
+        ensures { GivesState (steps.data_card style (state_of self.old).part (state_of self.old) fields.now) (state_of self.new) result }
     {
         match self.part {
             None | Some(Section::Name | Section::End) => Err(Fault::Code(Code::CardShape)),
@@ -42,7 +42,7 @@ impl Draft {
     }
 
     fn on_card(&mut self, alloc: Global, style: Style, card: &Card) -> Result<Went, Fault>
-        ensures { Goes (told.on_card style (state_of self.old) card.now) (state_of self.new) result }
+        ensures { Goes (steps.on_card style (state_of self.old) card.now) (state_of self.new) result }
     {
         match card {
             Card::Skip => Ok(Went::On),
@@ -55,7 +55,7 @@ impl Draft {
     }
 
     fn text_line(&mut self, alloc: Global, style: Style, bytes: &[u8]) -> Result<Went, Fault>
-        ensures { Goes (told.on_reading style (state_of self.old) (told.reading_of style (state_of self.old).part bytes.now)) (state_of self.new) result }
+        ensures { Goes (steps.on_reading style (state_of self.old) (steps.reading_of style (state_of self.old).part bytes.now)) (state_of self.new) result }
     {
         let card = read_card(alloc, style, self.part, bytes)?;
         self.on_card(alloc, style, &card)
@@ -64,7 +64,7 @@ impl Draft {
     /// Reads a line.
     #[tactic(auto, unfolding(spec_mps::specs::Steps::step))]
     pub(crate) fn step(&mut self, alloc: Global, style: Style, line: &Line) -> Result<Went, Fault>
-        ensures { Goes (told.step style (state_of self.old) line.now) (state_of self.new) result }
+        ensures { Goes (steps.step style (state_of self.old) line.now) (state_of self.new) result }
     {
         match line {
             Line::Text(bytes) => self.text_line(alloc, style, bytes.as_slice()),

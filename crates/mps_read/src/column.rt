@@ -2,7 +2,7 @@
 ghost use Rattle.std.specs.Prelude.{◌≡◌, ◌≤◌, ℕ, length, IfOk, OnOk};
 ghost use Rattle.std.specs.List.{insert};
 ghost use Rattle.spec_exact.specs.Fraction.{ℚ};
-ghost use Rattle.spec_mps.specs.Reader as told;
+ghost use Rattle.spec_mps.specs.Reader as reader;
 
 use lp_base::Name;
 use lp_frac::{Entries, Frac, is_zero, zero};
@@ -12,7 +12,7 @@ use std::alloc::{AllocError, Global};
 
 /// A column with the bounds 0 and none, and no numbers.
 pub(crate) fn make_column(alloc: Global, name: &[u8]) -> Result<Column, AllocError>
-    ensures { IfOk result (λ column. column ≡ told.new_column name.now) }
+    ensures { IfOk result (λ column. column ≡ reader.new_column name.now) }
 {
     let name = Name::from_slice(alloc, name)?;
     Ok(Column {
@@ -26,7 +26,8 @@ pub(crate) fn make_column(alloc: Global, name: &[u8]) -> Result<Column, AllocErr
 
 /// Puts a number where it belongs: to the cost, or among the entries, unless it is 0.
 pub(crate) fn put_number(column: &mut Column, target: Target, value: Frac) -> Result<(), AllocError>
-    ensures { OnOk result (column.new ≡ told.with_number column.old target value) }
+    ensures ok { OnOk result (column.new ≡ reader.with_number column.old target value) }
+    ensures named { column.new.name ≡ column.old.name }
 {
     match target {
         Target::Objective => column.cost = value,
@@ -40,7 +41,7 @@ pub(crate) fn put_number(column: &mut Column, target: Target, value: Frac) -> Re
 }
 
 fn put_entry(entries: &mut Entries, row: u32, value: Frac) -> Result<(), AllocError>
-    ensures { OnOk result (entries.new ≡ told.put_entry row value entries.old) }
+    ensures { OnOk result (entries.new ≡ reader.put_entry row value entries.old) }
 {
     let place = place_for(entries.as_slice(), row);
     entries.insert(place, row, value)
@@ -48,7 +49,7 @@ fn put_entry(entries: &mut Entries, row: u32, value: Frac) -> Result<(), AllocEr
 
 // Before the first entry of a later row.
 fn place_for(entries: &[(u32, Frac)], row: u32) -> usize
-    ensures place { (v : ℚ) → insert entries.now result (row, v) ≡ told.put_entry row v entries.now }
+    ensures place { (v : ℚ) → insert entries.now result (row, v) ≡ reader.put_entry row v entries.now }
     ensures inside { result ≤ length entries.now }
 {
     for (place, entry) in entries.iter().enumerate() {

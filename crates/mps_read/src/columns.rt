@@ -4,17 +4,16 @@ ghost use Rattle.std.specs.List.{list_any};
 ghost use Rattle.spec_text.specs.Words.{same};
 ghost use Rattle.spec_mps.specs.declared.target.Place.TheVariants as place;
 ghost use Rattle.spec_mps.specs.Fields.{texts_of};
-ghost use Rattle.spec_mps.specs.Reader as told;
+ghost use Rattle.spec_mps.specs.Reader as reader;
 ghost use Rattle.mps_read.specs.Answer.{GivesState};
 ghost use Rattle.mps_read.specs.Draft.{state_of};
 
-use crate::column::{make_column, put_number};
 use crate::draft::{Draft, number_in};
 use crate::fault::Fault;
 use crate::shapes::has_shape;
 use lp_base::are_same;
 use lp_frac::Frac;
-use lp_model::{Column, is_name};
+use lp_model::is_name;
 use mps_card::{Field, Fields};
 use spec_mps::{Code, Place, Section, Style, Target};
 use std::alloc::{AllocError, Global};
@@ -23,18 +22,12 @@ const MAX_COLUMNS: usize = 512;
 
 // The field that says 'MARKER' on a card that marks whole columns.
 fn marker_field(style: Style) -> u32
-    ensures { result ≡ told.marker_field style }
+    ensures { result ≡ reader.marker_field style }
 {
     match style {
         Style::Free => 2,
         Style::Fixed => 3,
     }
-}
-
-fn has_column(columns: &[Column], name: &[u8]) -> bool
-    ensures { result ≡ list_any (λ c. same c.name name.now) columns.now }
-{
-    columns.iter().any(|c| are_same(c.name.as_slice(), name))
 }
 
 impl Draft {
@@ -45,7 +38,7 @@ impl Draft {
         style: Style,
         fields: &Fields,
     ) -> Result<(), Fault>
-        ensures { GivesState (told.columns_card style (state_of self.old) fields.now) (state_of self.new) result }
+        ensures { GivesState (reader.columns_card style (state_of self.old) fields.now) (state_of self.new) result }
     {
         if are_same(fields.text_at(marker_field(style)), b"'MARKER'") {
             return Err(Fault::Code(Code::Integer));
@@ -58,7 +51,7 @@ impl Draft {
 
     // A column's name, and pairs of a row's name and a number.
     fn column_by(&mut self, alloc: Global, fields: &[Field]) -> Result<(), Fault>
-        ensures { GivesState (told.column_by (state_of self.old) (texts_of fields.now)) (state_of self.new) result }
+        ensures { GivesState (reader.column_by (state_of self.old) (texts_of fields.now)) (state_of self.new) result }
     {
         let Some((name, pairs)) = fields.split_first() else {
             return Err(Fault::Code(Code::CardShape));
@@ -70,35 +63,23 @@ impl Draft {
         self.column_pairs(pairs)
     }
 
-    fn is_open(&self, name: &[u8]) -> bool
-        ensures { result ≡ told.is_open (state_of self.now).column name.now }
-    {
-        match &self.column {
-            Some(column) => are_same(column.name.as_slice(), name),
-            None => false,
-        }
-    }
-
     /// No more cards are read of the column.
     pub(crate) fn close(&mut self) -> Result<(), AllocError>
-        ensures { OnOk result (state_of self.new ≡ record (state_of self.old) { columns = told.whole_columns (state_of self.old); column = None }) }
+        ensures { OnOk result (state_of self.new ≡ record (state_of self.old) { columns = reader.whole_columns (state_of self.old); column = None }) }
     {
-        if let Some(column) = self.column.take() {
-            self.columns.push(column)?;
-        }
-        Ok(())
+        self.columns.close()
     }
 
     // Cards of this column are read, or of none that is there already.
     #[tactic(auto, unfolding(spec_mps::specs::Reader::opened))]
     fn open(&mut self, alloc: Global, name: &[u8]) -> Result<(), Fault>
-        ensures { GivesState (told.opened (state_of self.old) name.now) (state_of self.new) result }
+        ensures { GivesState (reader.opened (state_of self.old) name.now) (state_of self.new) result }
     {
-        if self.is_open(name) {
+        if self.columns.is_open(name) {
             return Ok(());
         }
         self.close()?;
-        if has_column(&self.columns, name) {
+        if self.columns.has(name) {
             return Err(Fault::Code(Code::ColumnTaken));
         }
         if self.columns.len() >= MAX_COLUMNS {
@@ -109,20 +90,22 @@ impl Draft {
     }
 
     fn begin_column(&mut self, alloc: Global, name: &[u8]) -> Result<(), AllocError>
+        requires closed { (state_of self.old).column ≡ None }
+        requires new { list_any (λ c. same c.name name.now) (state_of self.old).columns ≡ false }
         ensures { OnOk result (state_of self.new ≡ record (state_of self.old) {
-          column = Some (told.new_column name.now);
+          column = Some (reader.new_column name.now);
           lowered = (state_of self.old).lowered ++ false ∷ [];
           paired = [];
         }) }
     {
-        self.column = Some(make_column(alloc, name)?);
+        self.columns.begin(alloc, name)?;
         self.lowered.push(false)?;
         self.paired.clear();
         Ok(())
     }
 
     fn column_pairs(&mut self, fields: &[Field]) -> Result<(), Fault>
-        ensures { GivesState (told.column_pairs (state_of self.old) (told.pairs_of (texts_of fields.now))) (state_of self.new) result }
+        ensures { GivesState (reader.column_pairs (state_of self.old) (reader.pairs_of (texts_of fields.now))) (state_of self.new) result }
     {
         let mut fields = fields;
         while let [row, value, more @ ..] = fields {
@@ -134,7 +117,7 @@ impl Draft {
 
     #[tactic(auto, unfolding(spec_mps::specs::Reader::column_pair, spec_mps::specs::Reader::enter))]
     fn column_pair(&mut self, name: &[u8], text: &[u8]) -> Result<(), Fault>
-        ensures { GivesState (told.column_pair (state_of self.old) name.now text.now) (state_of self.new) result }
+        ensures { GivesState (reader.column_pair (state_of self.old) name.now text.now) (state_of self.new) result }
     {
         let Some(place) = self.place_of(name) else {
             return Err(Fault::Code(Code::UnknownRow));
@@ -149,14 +132,12 @@ impl Draft {
     // A number of the column that is read, at a target that had none.
     #[tactic(auto, unfolding(spec_mps::specs::Reader::enter))]
     fn enter(&mut self, target: Target, value: Frac) -> Result<(), Fault>
-        ensures { GivesState (told.enter (state_of self.old) (place.Kept target) value) (state_of self.new) result }
+        ensures { GivesState (reader.enter (state_of self.old) (place.Kept target) value) (state_of self.new) result }
     {
         if self.paired.has(target) {
             return Err(Fault::Code(Code::EntryRepeated));
         }
-        if let Some(column) = &mut self.column {
-            put_number(column, target, value)?;
-        }
+        self.columns.put_number(target, value)?;
         self.paired.push(target)?;
         Ok(())
     }

@@ -1,6 +1,6 @@
 // What a line leads to, and the model of a text that has ended.
 ghost use Rattle.std.specs.Prelude.{◌≡◌, [], Option, Some, None, IfOk};
-ghost use Rattle.spec_mps.specs.Steps as told;
+ghost use Rattle.spec_mps.specs.Steps as steps;
 ghost use Rattle.mps_read.specs.Draft.{state_of, name_of};
 ghost use Rattle.mps_read.specs.Advances.{Advances};
 ghost use Rattle.mps_read.specs.Finished.{Ends, IsKept};
@@ -23,7 +23,7 @@ fn name_or_none(alloc: Global, name: Option<Name>) -> Result<Name, AllocError>
 }
 
 fn sense_or_min(sense: Option<Sense>) -> Sense
-    ensures { result ≡ told.sense_or_min sense }
+    ensures { result ≡ steps.sense_or_min sense }
 {
     match sense {
         Some(sense) => sense,
@@ -47,7 +47,7 @@ impl Draft {
         line: &Line,
     ) -> Result<Progress, Fault>
         requires { IsReached style (state_of self) }
-        ensures { Advances (told.step style (state_of self) line.now) result }
+        ensures { Advances (steps.step style (state_of self) line.now) result }
     {
         match self.step(alloc, style, line)? {
             Went::On => Ok(Progress::More(self)),
@@ -58,8 +58,8 @@ impl Draft {
     /// The model, if there is an objective.
     #[tactic(auto, unfolding(spec_mps::specs::Steps::finished, spec_mps::specs::Steps::model_by))]
     fn finish(mut self, alloc: Global) -> Result<Model, Fault>
-        requires { IsKept (told.finished (state_of self)) }
-        ensures { Ends (told.finished (state_of self)) result }
+        requires { IsKept (steps.finished (state_of self)) }
+        ensures { Ends (steps.finished (state_of self)) result }
     {
         self.close()?;
         let Draft {
@@ -81,7 +81,7 @@ impl Draft {
             objective,
             offset,
             rows.into_vec(),
-            columns,
+            columns.into_vec(),
         ))
     }
 }

@@ -10,13 +10,14 @@
 //! | `Leads` | that lines lead from one state to another | specs/Leads |
 //!
 //! The rule of each line is the step of spec_mps; each section has a file of its own here. Rows and columns are found by
-//! their names in lists, of which a model has at most 256 and 512.
+//! the hashes of their names, so that the time for a card does not grow with how many there are.
 #![tactic(auto)]
 
 mod bound_card;
 mod bounds;
 mod cards;
 mod column;
+mod column_list;
 mod columns;
 mod draft;
 mod fault;

@@ -1,14 +1,14 @@
 // The rows that were read.
-ghost use Rattle.std.specs.Prelude.{◌≡◌, ◌<◌, [], ◌∷◌, ◌++◌, length, Some, None, IfOk, IfSome, OnOk};
+ghost use Rattle.std.specs.Prelude.{◌≡◌, ◌≢◌, ◌<◌, [], ◌∷◌, ◌++◌, All, length, Some, None, IfOk, OnOk};
 ghost use Rattle.std.specs.List.{position};
 ghost use Rattle.spec_text.specs.Words.{same};
 ghost use Rattle.spec_model.specs.Kept.{row_limit};
 ghost use Rattle.spec_mps.specs.Reader.{new_row};
 ghost use Rattle.spec_mps.specs.Sides.{changed_at};
 
-use lp_base::{Name, are_same};
+use lp_base::Name;
 use lp_frac::{Frac, zero};
-use lp_model::{Kind, Row};
+use lp_model::{Kind, NameIndex, Row};
 use std::alloc::{AllocError, Global};
 use std::marker::Model;
 
@@ -25,21 +25,24 @@ pub(crate) fn make_row(alloc: Global, kind: Kind, name: &[u8]) -> Result<Row, Al
     })
 }
 
-/// At most 256 rows.
+/// At most 256 rows with distinct names.
 #[derive(Drop)]
 pub(crate) struct Rows {
     items: Vec<Row>,
+    /// Their names, by which they are found.
+    names: NameIndex,
 }
 
 impl Model for Rows {
-    ghost use Rattle.std.specs.Prelude.{List, ◌≤◌, length};
+    ghost use Rattle.std.specs.Prelude.{List};
     ghost use Rattle.spec_model.specs.Model.{ExactRow};
+    ghost use Rattle.mps_read.specs.Named.{AreRows};
 
     ghost Value = { List ExactRow };
 
     ghost view = { λ r. r.items.items };
 
-    ghost invariant = { λ r. length r.items.items ≤ 256 };
+    ghost invariant = { λ r. AreRows r.items.items r.names };
 }
 
 impl Rows {
@@ -48,6 +51,7 @@ impl Rows {
     {
         Rows {
             items: Vec::new(alloc),
+            names: NameIndex::new(alloc),
         }
     }
 
@@ -58,9 +62,13 @@ impl Rows {
     }
 
     pub(crate) fn push(&mut self, row: Row) -> Result<(), AllocError>
-        requires { length self.old < row_limit }
+        requires few { length self.old < row_limit }
+        requires new { All (λ r. r.name ≢ row.name) self.old }
         ensures { OnOk result (self.new ≡ self.old ++ row ∷ []) }
     {
+        // Where there is room for the row, only its name can fail.
+        self.items.reserve(1)?;
+        self.names.push(row.name.as_slice())?;
         self.items.push(row)?;
         Ok(())
     }
@@ -69,20 +77,20 @@ impl Rows {
     pub(crate) fn place_of(&self, name: &[u8]) -> Option<u32>
         ensures { result ≡ position (λ r. same r.name name.now) self.now }
     {
-        match place_in(&self.items, name) {
+        match self.names.place_of(name) {
             Some(i) => Some(i as u32),
             None => None,
         }
     }
 
-    /// GivesState the row at a place this right side. Past the end there is none.
+    /// Gives the row at a place this right side. Past the end there is none.
     pub(crate) fn set_rhs(&mut self, at: u32, value: Frac)
         ensures { self.new ≡ changed_at at (λ r. record r { rhs = value }) self.old }
     {
         set_rhs_in(&mut self.items, at as usize, value);
     }
 
-    /// GivesState the row at a place this range. Past the end there is none.
+    /// Gives the row at a place this range. Past the end there is none.
     pub(crate) fn set_range(&mut self, at: u32, value: Frac)
         ensures { self.new ≡ changed_at at (λ r. record r { range = Some value }) self.old }
     {
@@ -110,11 +118,4 @@ fn set_range_in(rows: &mut [Row], at: usize, value: Frac)
     if at < rows.len() {
         rows[at].range = Some(value);
     }
-}
-
-fn place_in(rows: &[Row], name: &[u8]) -> Option<usize>
-    ensures value { result ≡ position (λ r. same r.name name.now) rows.now }
-    ensures inside { IfSome result (λ i. i < length rows.now) }
-{
-    rows.iter().position(|r| are_same(r.name.as_slice(), name))
 }

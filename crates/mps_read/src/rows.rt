@@ -1,8 +1,8 @@
 // The cards of ROWS.
-ghost use Rattle.std.specs.Prelude.{◌≡◌, ◌+◌, ◌++◌, ◌∷◌, [], length, nat_lt, OnOk};
+ghost use Rattle.std.specs.Prelude.{◌≡◌, ◌+◌, None, length, nat_lt};
 ghost use Rattle.spec_model.specs.Kept.{row_limit};
 ghost use Rattle.spec_mps.specs.declared.row_type.RowType.TheVariants as row_type;
-ghost use Rattle.spec_mps.specs.Reader as told;
+ghost use Rattle.spec_mps.specs.Reader as reader;
 ghost use Rattle.mps_read.specs.Answer.{GivesState};
 ghost use Rattle.mps_read.specs.Draft.{state_of};
 ghost use Rattle.mps_read.specs.Parts.{put_row};
@@ -16,7 +16,7 @@ use lp_base::Name;
 use lp_model::{Kind, is_row_name};
 use mps_card::Fields;
 use spec_mps::{Code, RowType, Section, Style};
-use std::alloc::{AllocError, Global};
+use std::alloc::Global;
 
 const MAX_ROWS: usize = 256;
 
@@ -28,7 +28,7 @@ impl Draft {
         style: Style,
         fields: &Fields,
     ) -> Result<(), Fault>
-        ensures { GivesState (told.rows_card style (state_of self.old) fields.now) (state_of self.new) result }
+        ensures { GivesState (reader.rows_card style (state_of self.old) fields.now) (state_of self.new) result }
     {
         if !has_shape(style, Section::Rows, fields.as_slice()) {
             return Err(Fault::Code(Code::CardShape));
@@ -41,7 +41,7 @@ impl Draft {
 
     #[tactic(auto, unfolding(spec_mps::specs::Reader::add_row))]
     fn add_row(&mut self, alloc: Global, row_type: RowType, name: &[u8]) -> Result<(), Fault>
-        ensures { GivesState (told.add_row (state_of self.old) row_type name.now) (state_of self.new) result }
+        ensures { GivesState (reader.add_row (state_of self.old) row_type name.now) (state_of self.new) result }
     {
         if !is_row_name(name) {
             return Err(Fault::Code(Code::Name));
@@ -64,6 +64,7 @@ impl Draft {
     }
 
     fn add_unlimited(&mut self, alloc: Global, name: &[u8]) -> Result<(), Fault>
+        requires { reader.place_of (state_of self.old) name.now ≡ None }
         ensures { GivesState (put_row (state_of self.old) row_type.Unlimited name.now) (state_of self.new) result }
     {
         if self.objective.is_none() {
@@ -73,18 +74,12 @@ impl Draft {
         if !self.has_room() {
             return Err(Fault::Code(Code::Limit));
         }
-        self.drop_row(alloc, name)?;
-        Ok(())
-    }
-
-    fn drop_row(&mut self, alloc: Global, name: &[u8]) -> Result<(), AllocError>
-        ensures { OnOk result (state_of self.new ≡ record (state_of self.old) { dropped = (state_of self.old).dropped ++ name.now ∷ [] }) }
-    {
-        self.dropped.push(Name::from_slice(alloc, name)?)?;
+        self.dropped.push(name)?;
         Ok(())
     }
 
     fn add_limited(&mut self, alloc: Global, kind: Kind, name: &[u8]) -> Result<(), Fault>
+        requires { reader.place_of (state_of self.old) name.now ≡ None }
         ensures { GivesState (put_row (state_of self.old) (row_type.Limited kind) name.now) (state_of self.new) result }
     {
         if !self.has_room() {

@@ -1,7 +1,7 @@
 // The cards that begin sections.
 ghost use Rattle.std.specs.Prelude.{◌≡◌, ◌&&◌, not, OnOk, None, Some};
 ghost use Rattle.spec_mps.specs.declared.section.Section.TheVariants as part;
-ghost use Rattle.spec_mps.specs.Steps as told;
+ghost use Rattle.spec_mps.specs.Steps as steps;
 ghost use Rattle.mps_read.specs.Answer.{GivesState, Goes};
 ghost use Rattle.mps_read.specs.Draft.{state_of};
 
@@ -15,7 +15,7 @@ use spec_mps::{Code, Section, Seen};
 use std::alloc::{AllocError, Global};
 
 fn has_begun(seen: Seen, part: Section) -> bool
-    ensures { result ≡ told.has_begun seen part }
+    ensures { result ≡ steps.has_begun seen part }
 {
     match part {
         Section::Name => seen.name,
@@ -30,7 +30,7 @@ fn has_begun(seen: Seen, part: Section) -> bool
 }
 
 fn with_section(mut seen: Seen, part: Section) -> Seen
-    ensures { result ≡ told.with_section seen part }
+    ensures { result ≡ steps.with_section seen part }
 {
     match part {
         Section::Name => seen.name = true,
@@ -47,7 +47,7 @@ fn with_section(mut seen: Seen, part: Section) -> Seen
 
 // NAME and OBJSENSE stand before ROWS, and RHS, RANGES, BOUNDS and ENDATA after COLUMNS.
 fn may_follow(seen: Seen, part: Section) -> bool
-    ensures { result ≡ told.may_follow seen part }
+    ensures { result ≡ steps.may_follow seen part }
 {
     match part {
         Section::Name | Section::Sense => !seen.rows,
@@ -58,7 +58,7 @@ fn may_follow(seen: Seen, part: Section) -> bool
 }
 
 fn may_begin(seen: Seen, part: Section) -> bool
-    ensures { result ≡ (told.may_follow seen part && not (told.has_begun seen part)) }
+    ensures { result ≡ (steps.may_follow seen part && not (steps.has_begun seen part)) }
 {
     may_follow(seen, part) && !has_begun(seen, part)
 }
@@ -66,7 +66,7 @@ fn may_begin(seen: Seen, part: Section) -> bool
 impl Draft {
     #[tactic(auto, unfolding(spec_mps::specs::Steps::section_card))]
     pub(crate) fn section_card(&mut self, alloc: Global, fields: &Fields) -> Result<Went, Fault>
-        ensures { Goes (told.section_card (state_of self.old) fields.now) (state_of self.new) result }
+        ensures { Goes (steps.section_card (state_of self.old) fields.now) (state_of self.new) result }
     {
         let Some(part) = section_of(fields.text_at(1)) else {
             return Err(Fault::Code(Code::UnknownSection));
@@ -78,7 +78,7 @@ impl Draft {
     }
 
     fn begin(&mut self, alloc: Global, part: Section, word: &[u8]) -> Result<Went, Fault>
-        ensures { Goes (told.begin (state_of self.old) part word.now) (state_of self.new) result }
+        ensures { Goes (steps.begin (state_of self.old) part word.now) (state_of self.new) result }
     {
         if part == Section::End {
             return Ok(Went::ToEnd);
@@ -90,7 +90,7 @@ impl Draft {
 
     // The last column is whole, no row has a number in the section, and there is no set.
     fn begin_part(&mut self, part: Section) -> Result<(), AllocError>
-        ensures { OnOk result (state_of self.new ≡ told.begun (state_of self.old) part) }
+        ensures { OnOk result (state_of self.new ≡ steps.begun (state_of self.old) part) }
     {
         self.close()?;
         self.part = Some(part);
@@ -102,7 +102,7 @@ impl Draft {
 
     // What a section's card says by its second word, which has no bytes where there is none.
     fn head(&mut self, alloc: Global, part: Section, word: &[u8]) -> Result<(), Fault>
-        ensures { GivesState (told.headed (state_of self.old) part word.now) (state_of self.new) result }
+        ensures { GivesState (steps.headed (state_of self.old) part word.now) (state_of self.new) result }
     {
         match part {
             Section::Name => self.take_name(alloc, word),
@@ -122,7 +122,7 @@ impl Draft {
     }
 
     fn take_name(&mut self, alloc: Global, word: &[u8]) -> Result<(), Fault>
-        ensures { GivesState (told.headed (state_of self.old) part.Name word.now) (state_of self.new) result }
+        ensures { GivesState (steps.headed (state_of self.old) part.Name word.now) (state_of self.new) result }
     {
         if !is_model_name(word) {
             return Err(Fault::Code(Code::Name));

@@ -1,5 +1,5 @@
 // The sense of the objective.
-ghost use Rattle.spec_mps.specs.Steps as told;
+ghost use Rattle.spec_mps.specs.Steps as steps;
 ghost use Rattle.mps_read.specs.Answer.{GivesState};
 ghost use Rattle.mps_read.specs.Draft.{state_of};
 
@@ -13,7 +13,7 @@ use spec_mps::{Code, Section, Style};
 impl Draft {
     #[tactic(auto, unfolding(spec_mps::specs::Steps::take_sense))]
     fn take_sense(&mut self, text: &[u8]) -> Result<(), Fault>
-        ensures { GivesState (told.take_sense (state_of self.old) text.now) (state_of self.new) result }
+        ensures { GivesState (steps.take_sense (state_of self.old) text.now) (state_of self.new) result }
     {
         let Some(sense) = sense_of(text) else {
             return Err(Fault::Code(Code::CardShape));
@@ -27,7 +27,7 @@ impl Draft {
 
     /// A sense that stands beside OBJSENSE, if one does.
     pub(crate) fn sense_beside(&mut self, word: &[u8]) -> Result<(), Fault>
-        ensures { GivesState (told.sense_beside (state_of self.old) word.now) (state_of self.new) result }
+        ensures { GivesState (steps.sense_beside (state_of self.old) word.now) (state_of self.new) result }
     {
         if word.is_empty() {
             return Ok(());
@@ -37,7 +37,7 @@ impl Draft {
 
     #[tactic(auto, unfolding(spec_mps::specs::Steps::sense_card, spec_mps::specs::Shapes::shaped))]
     pub(crate) fn sense_card(&mut self, style: Style, fields: &Fields) -> Result<(), Fault>
-        ensures { GivesState (told.sense_card style (state_of self.old) fields.now) (state_of self.new) result }
+        ensures { GivesState (steps.sense_card style (state_of self.old) fields.now) (state_of self.new) result }
     {
         if !has_shape(style, Section::Sense, fields.as_slice()) {
             return Err(Fault::Code(Code::CardShape));

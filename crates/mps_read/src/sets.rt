@@ -2,7 +2,7 @@
 ghost use Rattle.std.specs.Prelude.{◌≡◌, Some, OnOk};
 ghost use Rattle.std.specs.Option.{option_copied};
 ghost use Rattle.spec_mps.specs.Fields.{texts_of};
-ghost use Rattle.spec_mps.specs.Sides as told;
+ghost use Rattle.spec_mps.specs.Sides as sides;
 ghost use Rattle.mps_read.specs.Draft.{state_of};
 ghost use Rattle.mps_read.specs.Sets.{card_seen};
 
@@ -22,7 +22,7 @@ impl<'a> SetAndPairs<'a> {
     /// An odd number of fields begins with a set.
     #[tactic(auto, unfolding(spec_mps::specs::Sides::set_and_pairs))]
     pub(crate) fn new(fields: &'a [Field]) -> Self
-        ensures { card_seen result ≡ told.set_and_pairs (texts_of fields.now) }
+        ensures { card_seen result ≡ sides.set_and_pairs (texts_of fields.now) }
     {
         if fields.len() % 2 == 0 {
             return SetAndPairs {
@@ -44,7 +44,7 @@ impl<'a> SetAndPairs<'a> {
 }
 
 fn is_set(first: &Option<Name>, set: Option<&[u8]>) -> bool
-    ensures { result ≡ told.same_set first.now (option_copied set.entry) }
+    ensures { result ≡ sides.same_set first.now (option_copied set.entry) }
 {
     match (first, set) {
         (None, None) => true,
@@ -55,7 +55,7 @@ fn is_set(first: &Option<Name>, set: Option<&[u8]>) -> bool
 
 /// Whether the cards of a set are used.
 pub(crate) fn is_used(first: &Option<Option<Name>>, set: Option<&[u8]>) -> bool
-    ensures { result ≡ told.is_used first.now (option_copied set.entry) }
+    ensures { result ≡ sides.is_used first.now (option_copied set.entry) }
 {
     match first {
         None => true,

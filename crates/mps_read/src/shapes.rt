@@ -2,7 +2,7 @@
 ghost use Rattle.std.specs.Prelude.{◌≡◌};
 ghost use Rattle.spec_text.specs.Words.{same};
 ghost use Rattle.spec_mps.specs.Fields.{numbers_of};
-ghost use Rattle.spec_mps.specs.Shapes as told;
+ghost use Rattle.spec_mps.specs.Shapes as shapes;
 
 use mps_card::Field;
 use spec_mps::{BoundKind, Section, Style};
@@ -26,7 +26,7 @@ fn has_numbers(fields: &[Field], numbers: &[u32]) -> bool
 
 #[tactic(auto, unfolding(spec_mps::specs::Shapes::has_shape))]
 fn has_free_shape(section: Section, fields: &[Field]) -> bool
-    ensures { result ≡ told.has_shape (told.free_shapes section) fields.now }
+    ensures { result ≡ shapes.has_shape (shapes.free_shapes section) fields.now }
 {
     match section {
         Section::Name | Section::End => false,
@@ -47,7 +47,7 @@ fn has_free_shape(section: Section, fields: &[Field]) -> bool
 
 #[tactic(auto, unfolding(spec_mps::specs::Shapes::has_shape))]
 fn has_fixed_shape(section: Section, fields: &[Field]) -> bool
-    ensures { result ≡ told.has_shape (told.fixed_shapes section) fields.now }
+    ensures { result ≡ shapes.has_shape (shapes.fixed_shapes section) fields.now }
 {
     match section {
         Section::Name | Section::End => false,
@@ -68,7 +68,7 @@ fn has_fixed_shape(section: Section, fields: &[Field]) -> bool
 
 /// Whether a card of this section may have these fields.
 pub(crate) fn has_shape(style: Style, section: Section, fields: &[Field]) -> bool
-    ensures { result ≡ told.has_shape (told.shapes_of style section) fields.now }
+    ensures { result ≡ shapes.has_shape (shapes.shapes_of style section) fields.now }
 {
     match style {
         Style::Free => has_free_shape(section, fields),
@@ -78,7 +78,7 @@ pub(crate) fn has_shape(style: Style, section: Section, fields: &[Field]) -> boo
 
 #[tactic(auto, unfolding(spec_mps::specs::Shapes::has_shape))]
 fn has_unvalued_shape(style: Style, fields: &[Field]) -> bool
-    ensures { result ≡ told.has_shape (told.unvalued_shapes style) fields.now }
+    ensures { result ≡ shapes.has_shape (shapes.unvalued_shapes style) fields.now }
 {
     match style {
         Style::Free => has_numbers(fields, &[1, 2]) || has_numbers(fields, &[1, 2, 3]),
@@ -93,7 +93,7 @@ fn has_unvalued_shape(style: Style, fields: &[Field]) -> bool
 
 /// Whether a card of BOUNDS of this kind may have these fields.
 pub(crate) fn has_bound_shape(style: Style, kind: BoundKind, fields: &[Field]) -> bool
-    ensures { result ≡ told.has_shape (told.bound_shapes style kind) fields.now }
+    ensures { result ≡ shapes.has_shape (shapes.bound_shapes style kind) fields.now }
 {
     match kind {
         BoundKind::Up | BoundKind::Lo | BoundKind::Fx => {

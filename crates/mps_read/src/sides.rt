@@ -3,7 +3,7 @@ ghost use Rattle.std.specs.Prelude.{◌≡◌, ◌∷◌, Some, OnOk, option_map
 ghost use Rattle.spec_mps.specs.declared.target.Target.TheVariants as target;
 ghost use Rattle.spec_mps.specs.declared.target.Place.TheVariants as place;
 ghost use Rattle.spec_mps.specs.Fields.{texts_of};
-ghost use Rattle.spec_mps.specs.Reader as told;
+ghost use Rattle.spec_mps.specs.Reader as reader;
 ghost use Rattle.spec_mps.specs.Sides as side;
 ghost use Rattle.mps_read.specs.Answer.{GivesState};
 ghost use Rattle.mps_read.specs.Draft.{state_of};
@@ -46,7 +46,7 @@ impl Draft {
     }
 
     fn side_pairs(&mut self, fields: &[Field]) -> Result<(), Fault>
-        ensures { GivesState (side.side_pairs (state_of self.old) (told.pairs_of (texts_of fields.now))) (state_of self.new) result }
+        ensures { GivesState (side.side_pairs (state_of self.old) (reader.pairs_of (texts_of fields.now))) (state_of self.new) result }
     {
         let mut fields = fields;
         while let [row, value, more @ ..] = fields {
@@ -77,8 +77,8 @@ impl Draft {
         if self.paired.has(target) {
             return Err(Fault::Code(Code::EntryRepeated));
         }
-        self.set_side(target, value);
         self.paired.push(target)?;
+        self.set_side(target, value);
         Ok(())
     }
 
@@ -118,7 +118,7 @@ impl Draft {
     }
 
     fn range_pairs(&mut self, fields: &[Field]) -> Result<(), Fault>
-        ensures { GivesState (side.range_pairs (state_of self.old) (told.pairs_of (texts_of fields.now))) (state_of self.new) result }
+        ensures { GivesState (side.range_pairs (state_of self.old) (reader.pairs_of (texts_of fields.now))) (state_of self.new) result }
     {
         let mut fields = fields;
         while let [row, value, more @ ..] = fields {

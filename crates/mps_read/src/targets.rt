@@ -1,24 +1,28 @@
 // What has a number already.
-ghost use Rattle.std.specs.Prelude.{◌≡◌, [], ◌∷◌, OnOk};
-ghost use Rattle.spec_mps.specs.Reader.{is_among, same_target};
+ghost use Rattle.std.specs.Prelude.{◌≡◌, [], ◌∷◌, false, OnOk};
+ghost use Rattle.spec_mps.specs.Reader.{is_among};
+ghost use Rattle.mps_read.specs.Marks.{mark_of};
 
+use indexmap::IndexSet;
 use spec_mps::Target;
 use std::alloc::{AllocError, Global};
 use std::marker::Model;
 
-/// A list of targets. What was put in last stands first.
+/// A list of targets without doubles, each found by its hash. What was put in last stands first.
 #[derive(Drop)]
 pub(crate) struct Targets {
-    items: Vec<Target>,
+    /// Rows by their numbers, and the objective as none.
+    marks: IndexSet<Option<u32>>,
 }
 
 impl Model for Targets {
-    ghost use Rattle.std.specs.Prelude.{List, reverse};
+    ghost use Rattle.std.specs.Prelude.{List, map, reverse};
     ghost use Rattle.spec_mps.specs.declared.target.Target.{Target};
+    ghost use Rattle.mps_read.specs.Marks.{target_of};
 
     ghost Value = { List Target };
 
-    ghost view = { λ t. reverse t.items.items };
+    ghost view = { λ t. reverse (map target_of t.marks.keys) };
 }
 
 impl Targets {
@@ -26,38 +30,37 @@ impl Targets {
         ensures { result ≡ [] }
     {
         Targets {
-            items: Vec::new(alloc),
+            marks: IndexSet::new(alloc),
         }
     }
 
     pub(crate) fn has(&self, target: Target) -> bool
         ensures { result ≡ is_among target self.now }
     {
-        is_in(target, &self.items)
+        let mark = mark_of(target);
+        self.marks.contains(&mark)
     }
 
     pub(crate) fn push(&mut self, target: Target) -> Result<(), AllocError>
+        requires { is_among target self.old ≡ false }
         ensures { OnOk result (self.new ≡ target ∷ self.old) }
     {
-        self.items.push(target)?;
+        self.marks.insert(mark_of(target))?;
         Ok(())
     }
 
     pub(crate) fn clear(&mut self)
         ensures { self.new ≡ [] }
     {
-        self.items.clear();
+        self.marks.clear();
     }
 }
 
-fn is_in(target: Target, targets: &[Target]) -> bool
-    ensures { result ≡ is_among target targets.now }
+fn mark_of(target: Target) -> Option<u32>
+    ensures { result ≡ mark_of target }
 {
-    targets.iter().any(|t| are_same(target, *t))
-}
-
-fn are_same(target: Target, other: Target) -> bool
-    ensures { result ≡ same_target target other }
-{
-    target == other
+    match target {
+        Target::Objective => None,
+        Target::Row(row) => Some(row),
+    }
 }

@@ -1,6 +1,6 @@
 // The words of the format.
 ghost use Rattle.std.specs.Prelude.{◌≡◌};
-ghost use Rattle.spec_mps.specs.Shapes as told;
+ghost use Rattle.spec_mps.specs.Shapes as shapes;
 
 use lp_base::are_same;
 use lp_model::{Kind, Sense};
@@ -9,7 +9,7 @@ use spec_mps::{BoundKind, Code, RowType, Section};
 /// The section that a word begins.
 #[tactic(auto, unfolding(spec_mps::specs::Shapes::section_of))]
 pub(crate) fn section_of(word: &[u8]) -> Option<Section>
-    ensures { result ≡ told.section_of word.now }
+    ensures { result ≡ shapes.section_of word.now }
 {
     if are_same(word, b"NAME") {
         return Some(Section::Name);
@@ -41,7 +41,7 @@ pub(crate) fn section_of(word: &[u8]) -> Option<Section>
 /// The sense that a word says.
 #[tactic(auto, unfolding(spec_mps::specs::Shapes::sense_of))]
 pub(crate) fn sense_of(word: &[u8]) -> Option<Sense>
-    ensures { result ≡ told.sense_of word.now }
+    ensures { result ≡ shapes.sense_of word.now }
 {
     if are_same(word, b"MIN") || are_same(word, b"MINIMIZE") {
         return Some(Sense::Min);
@@ -55,7 +55,7 @@ pub(crate) fn sense_of(word: &[u8]) -> Option<Sense>
 /// The type of rows that a word says.
 #[tactic(auto, unfolding(spec_mps::specs::Shapes::row_type_of))]
 pub(crate) fn row_type_of(word: &[u8]) -> Option<RowType>
-    ensures { result ≡ told.row_type_of word.now }
+    ensures { result ≡ shapes.row_type_of word.now }
 {
     if are_same(word, b"N") {
         return Some(RowType::Unlimited);
@@ -75,7 +75,7 @@ pub(crate) fn row_type_of(word: &[u8]) -> Option<RowType>
 /// The kind of bounds that a word says. The kinds for columns of whole numbers and semi-continuous columns are not read.
 #[tactic(auto, unfolding(spec_mps::specs::Shapes::bound_kind_of))]
 pub(crate) fn bound_kind_of(word: &[u8]) -> Result<BoundKind, Code>
-    ensures { result ≡ told.bound_kind_of word.now }
+    ensures { result ≡ shapes.bound_kind_of word.now }
 {
     if are_same(word, b"UP") {
         return Ok(BoundKind::Up);

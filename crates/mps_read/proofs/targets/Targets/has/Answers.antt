@@ -1,10 +1,7 @@
-use Rattle.std.proofs.Common.{◌∙◌, ap, sym}
-use Rattle.mps_read.proofs.Lists.{list_any-reverse}
-use Rattle.spec_mps.specs.Reader.{is_among, same_target}
+use Rattle.std.proofs.Common.{◌∙◌}
+use Rattle.mps_read.proofs.MarkLists.{among_marks}
 use Rattle.mps_read.proofs.targets.Targets.has.Goals as goal
 
 pub returns : goal.returns
 returns c =
-    c.is_in.ensures ∙ ap (is_among c.args.target) c.deref.ensures.value
-    ∙ sym (list_any-reverse (same_target c.args.target) c.self.inside.items.items)
-    ∙ ap (is_among c.args.target) c.self.view_is
+    c.contains.ensures ∙ among_marks c.args.target _ c.self.inside.marks.keys c.args.self.now c.mark_of-mark.ensures c.self.view_is

@@ -1,0 +1,6 @@
+use Rattle.mps_read.specs.Draft.{state_of}
+use Rattle.mps_read.proofs.NewNames.{rows_new}
+use Rattle.mps_read.proofs.draft.Draft.add_limited.Goals as goal
+
+pub push-requires-clause-new : goal.push-requires-clause-new
+push-requires-clause-new c = rw c.in_ok-row.ensures (rows_new (state_of c.args.self.now) c.args.name.now c.requires)

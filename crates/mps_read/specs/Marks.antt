@@ -1,0 +1,12 @@
+-- Targets as the code marks them.
+use Rattle.std.specs.Prelude.{ℕ, Option, Some, None}
+use Rattle.spec_mps.specs.declared.target.Target.{Target}
+use Rattle.spec_mps.specs.declared.target.Target.TheVariants.{Objective, Row}
+
+abbrev pub mark_of : Target → Option ℕ
+mark_of Objective = None
+mark_of (Row i) = Some i
+
+abbrev pub target_of : Option ℕ → Target
+target_of None = Objective
+target_of (Some i) = Row i

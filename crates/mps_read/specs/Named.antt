@@ -1,0 +1,16 @@
+-- Rows and columns beside which their names stand, so that they are found by them.
+use Rattle.std.specs.Prelude.{◌≡◌, ◌≤◌, Option, List, length, map}
+use Rattle.spec_model.specs.Model.{Name, ExactRow, ExactColumn}
+use Rattle.spec_mps.specs.Reader.{columns_with}
+
+pub record AreRows (rows : List ExactRow) (names : List Name) : Type 0 where
+  pub few : length rows ≤ 256
+  pub named : names ≡ map (λ (r : ExactRow). r.name) rows
+
+-- the columns that are whole, and the one that cards are read of
+pub record ColumnsRead : Type 0 where
+  pub whole : List ExactColumn
+  pub current : Option ExactColumn
+
+abbrev pub AreColumns : ColumnsRead → List Name → Type 0
+AreColumns columns names = names ≡ map (λ (c : ExactColumn). c.name) (columns_with columns.whole columns.current)
