@@ -1,0 +1,4 @@
+-- Lemmas.
+pub mod Tying
+pub mod Changing
+pub mod StepLemmas

@@ -1,0 +1,2 @@
+pub mod PassReads
+pub mod Spelled

@@ -1,0 +1,46 @@
+-- What a pass of a board reads, as the reads of places that sessions share.
+use Rattle.std.specs.Prelude.{◌≡◌, ◌++◌, List, map, reverse, Some, None}
+use Rattle.spec_reads.specs.declared.read.Put.{Put as ExactPut}
+use Rattle.spec_reads.specs.declared.read.Put.TheVariants as put
+use Rattle.spec_reads.specs.declared.read.Read.TheVariants as read
+use Rattle.spec_reads.specs.Reads.{Words, ExactRead, Looked, LookReads, PutReads}
+use Rattle.basis_board.specs.declared.seats.View.{View}
+use Rattle.basis_board.specs.declared.seats.Read.{Read}
+use Rattle.basis_board.specs.declared.seats.Read.TheVariants.{Count, Open, See, Claim, Lost, Done}
+use Rattle.basis_board.specs.declared.board.Look.{Look}
+use Rattle.basis_board.specs.declared.board.Look.TheVariants.{Found, NoneReady}
+use Rattle.basis_board.specs.declared.board.Put.{Put}
+use Rattle.basis_board.specs.declared.board.Put.TheVariants.{Published, Full, Raced}
+
+abbrev pub exact_read : Read → ExactRead
+exact_read (Count c) = read.Count c
+exact_read (Open k) = read.NotDone k
+exact_read (See k words) = read.Seen k words
+exact_read (Claim k) = read.Claim k
+exact_read (Lost c) = read.Lost c
+exact_read (Done k words) = read.Done k words
+
+-- in order, the first one first
+abbrev pub reads_of : View → List ExactRead
+reads_of v = map exact_read (reverse v.reads)
+
+abbrev pub looked_by : Look → Looked
+looked_by (Found k words) = Some (record { place = k; words = words })
+looked_by (NoneReady c) = None
+
+abbrev pub exact_put : Put → ExactPut
+exact_put (Published k) = put.Published k
+exact_put (Full c) = put.Full c
+exact_put (Raced e) = put.Raced e
+
+-- the pass reads one look more
+pub record AddsLook (shape : Words) (look : Look) (before after : View) : Type 0 where
+  pub made : List ExactRead
+  pub reads : LookReads shape made (looked_by look)
+  pub all : reads_of after ≡ reads_of before ++ made
+
+-- the pass reads one put more
+pub record AddsPut (words : Words) (put : Put) (before after : View) : Type 0 where
+  pub made : List ExactRead
+  pub reads : PutReads before.places words (exact_put put) made
+  pub all : reads_of after ≡ reads_of before ++ made

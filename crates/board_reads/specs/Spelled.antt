@@ -1,0 +1,53 @@
+-- The places that sessions share, as the words of a board spell them.
+use Rattle.std.specs.Prelude.{ℕ, ◌≡◌, ◌+◌, ◌*◌, ◌<◌, ◌++◌, List, [], ◌∷◌, length, map, slice_set, Some}
+use mathlib.Core.Option.{some}
+use lib.ListN.{get_elem?}
+use Rattle.spec_reads.specs.declared.place.Place.TheVariants as place
+use Rattle.spec_reads.specs.declared.read.Read.TheVariants as read
+use Rattle.spec_reads.specs.Reads.{ExactRead}
+use Rattle.spec_reads.specs.Places.{ExactPlace, place_at, IsShown, Answers}
+use Rattle.atomic_table.specs.Table.{State}
+use Rattle.basis_board.specs.declared.seats.View.{View}
+use Rattle.basis_board.specs.Board.{count, done}
+use Rattle.basis_board.specs.Places.{Place, Taken, Shown, payload, board_of}
+
+-- a claimed place without its session
+abbrev pub spelled : ExactPlace → Place
+spelled (place.Claimed session) = Taken
+spelled (place.Done words) = Shown words
+
+-- What a read changes of the places that the words spell: a claim has one more taken, a place that is done is shown,
+-- and nothing else changes any.
+abbrev pub Changes : List ExactPlace → ExactRead → List ExactPlace → Type 0
+Changes now (read.Claim k) next = map spelled next ≡ map spelled now ++ Taken ∷ []
+Changes now (read.Done k words) next = map spelled next ≡ slice_set (map spelled now) k (Shown words)
+Changes now other next = map spelled next ≡ map spelled now
+
+-- ---- the steps of a board
+
+-- the words of a board spell these places
+abbrev pub AreSpelled : List ℕ → List ExactPlace → Type 0
+AreSpelled words now = map spelled now ≡ board_of words
+
+-- a session may make the read, and then the words spell the places
+abbrev pub IsAnswered : ℕ → List ExactPlace → ℕ → ExactRead → List ℕ → Type 0
+IsAnswered places now session made words =
+    (next : List ExactPlace) × Answers places now session made next × AreSpelled words next
+
+-- The event of each kind of step, in a state of the board whose words spell these places: a load of the count, of a
+-- done word and of words of a place that is done, a compare-exchange of the count, a store of a word and of a done
+-- word. The place of a store is one that a seat holds; it is the session's whose seat it is.
+pub record StepsAreReads (places : ℕ) (s : State ℕ View) (now : List ExactPlace) : Type 0 where
+  pub counts : (session : ℕ) → IsAnswered places now session (read.Count (count s.words)) s.words
+  pub opens : (session k : ℕ) → k < count s.words → done s.words k ≡ 0 →
+      IsAnswered places now session (read.NotDone k) s.words
+  pub sees : (session k : ℕ) (words : List ℕ) → k < count s.words → done s.words k ≡ 1 →
+      IsShown (payload s.words k) words → IsAnswered places now session (read.Seen k words) s.words
+  pub claims : (session : ℕ) → count s.words < places →
+      IsAnswered places now session (read.Claim (count s.words)) (slice_set s.words 0 (count s.words + 1))
+  pub loses : (session : ℕ) → IsAnswered places now session (read.Lost (count s.words)) s.words
+  pub stores : (seat : ℕ) (v : View) (k : ℕ) (words : List ℕ) (m b : ℕ) → get_elem? s.views seat ≡ some v →
+      v.held ≡ Some (k, words) → m < 49 → AreSpelled (slice_set s.words (50 * k + 1 + m) b) now
+  pub finishes : (seat : ℕ) (v : View) (k : ℕ) (words : List ℕ) (session : ℕ) → get_elem? s.views seat ≡ some v →
+      v.held ≡ Some (k, words) → length words ≡ 49 → place_at now k ≡ Some (place.Claimed session) →
+      IsAnswered places now session (read.Done k words) (slice_set s.words (50 * k + 50) 1)
