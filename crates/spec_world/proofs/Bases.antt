@@ -23,7 +23,7 @@ abbrev words_of : Worked → Words
 words_of (Ends replied next) = []
 words_of (Publishes pending) = pending.words
 
-published_words : (p q : Pending) (t : Bool) (end : Worked) → ((r : Pending) → Publishes r ≡ end → ⊥) →
+pub published_words : (p q : Pending) (t : Bool) (end : Worked) → ((r : Pending) → Publishes r ≡ end → ⊥) →
     Publishes p ≡ cond t end (Publishes q) → p.words ≡ q.words
 published_words p q true end none e = absurd (none p e)
 published_words p q false end none e = ap words_of e

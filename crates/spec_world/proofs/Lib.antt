@@ -19,3 +19,6 @@ pub mod InOrder
 pub mod Stays
 pub mod AllDone
 pub mod ManyFromOne
+pub mod FormWords
+pub mod FormedWords
+pub mod FormedWorlds

@@ -20,10 +20,10 @@ pub place_last : (ps : List ExactPlace) (new : ExactPlace) → place_at (ps ++ n
 place_last [] new = refl
 place_last (p ∷ ps) new = place_last ps new
 
-some_same : (p q : ExactPlace) → ◌≡◌ {A = Option ExactPlace} (Some p) (Some q) → p ≡ q
+pub some_same : (p q : ExactPlace) → ◌≡◌ {A = Option ExactPlace} (Some p) (Some q) → p ≡ q
 some_same p q e = cc
 
-place_before : (ps : List ExactPlace) (k : ℕ) (p new : ExactPlace) → place_at (ps ++ new ∷ []) k ≡ Some p →
+pub place_before : (ps : List ExactPlace) (k : ℕ) (p new : ExactPlace) → place_at (ps ++ new ∷ []) k ≡ Some p →
     (place_at ps k ≡ Some p) ⊎ (p ≡ new)
 place_before [] zero p new h = inr (sym (some_same new p h))
 place_before [] (suc k) p new h = cc

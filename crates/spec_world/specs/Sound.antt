@@ -1,6 +1,6 @@
 -- What holds of each world that events lead to.
 use Rattle.std.specs.Prelude.{ℕ, ◌≡◌, ◌==◌, ◌≤◌, Some, Ok, List, [], ◌∷◌, ◌++◌, length, map, if◌then◌else◌}
-use Rattle.std.specs.List.{flat_map}
+use Rattle.std.specs.List.{flat_map, AllByRecursion}
 use Rattle.spec_exact.specs.Fraction.{ℚ}
 use Rattle.spec_model.specs.Model.{Model}
 use Rattle.spec_check.specs.declared.certificate.Certificate.{Certificate}
@@ -15,7 +15,7 @@ use Rattle.spec_reads.specs.declared.read.Read.TheVariants as read
 use Rattle.spec_reads.specs.Reads.{Words, ExactRead, Looked, LookReads}
 use Rattle.spec_reads.specs.Places.{place_at, Logged, logged, Plays}
 use Rattle.spec_server.specs.Answers.{number_limit, IsSolved}
-use Rattle.spec_server.specs.Machine.{ExactAsk, ExactReply, State, opening}
+use Rattle.spec_server.specs.Machine.{ExactAsk, ExactReply, IsKeptAsk, State, opening}
 use Rattle.spec_server.specs.Step.{Looks, Begins, handed_by}
 use Rattle.spec_server.specs.Exchanges.{Exchange, AloneRun}
 use Rattle.spec_world.specs.declared.event.Act.TheVariants as act
@@ -108,6 +108,14 @@ pub record IsSound (server : Server) (world : World) : Type 0 where
       (session : ℕ) × IsPublisher server.places (world.sessions session) k words
 
 -- ---- events
+
+-- the models that events ask sessions to hold may be kept, and the numbers of edits are ones that a kept model may have
+abbrev pub IsKeptAct : ExactAct → Type 0
+IsKeptAct (act.Ask asked) = IsKeptAsk asked
+IsKeptAct other = Unit {0}
+
+abbrev pub AreKeptEvents : List ExactEvent → Type 0
+AreKeptEvents events = AllByRecursion (λ e. IsKeptAct e.act) events
 
 -- The event made these reads, one at most. They stand behind those of its session, each answered by the places as they
 -- were at the event, and nothing else befell the sessions and the places.

@@ -9,6 +9,7 @@
 //! | `World`, `WorldStep`, `WorldRun` | the world, one event, and a list of events | specs/World |
 //! | `IsSound` | what holds of each world that events lead to | specs/Sound |
 //! | `PutsBasis` | that a session published the basis of its solve | specs/Sound |
+//! | `AreKeptEvents` | events whose models and edits may be kept | specs/Sound |
 //! | `ReadsNow`, `EndFits` | what holds of each event | specs/Sound |
 //! | `ManyFits` | what sessions may reply that many workers serve | specs/Workers |
 //! | `Together` | worlds in which the events of each ask stand together | specs/Together |
@@ -20,6 +21,7 @@
 
 ghost use Rattle.std.specs.Prelude.{◌≡◌, ◌↔◌, ℕ, Bool, List, map, Some, false};
 ghost use Rattle.std.specs.List.{filter, flat_map};
+ghost use Rattle.spec_shape.specs.Words.{IsWellFormed};
 ghost use Rattle.spec_reads.specs.declared.place.Place.TheVariants as place;
 ghost use Rattle.spec_reads.specs.Reads.{Words};
 ghost use Rattle.spec_reads.specs.Places.{ExactPlace, place_at, Logged, Plays};
@@ -28,7 +30,7 @@ ghost use Rattle.spec_truth.specs.Agree.{HasMemory, RepliesAgree};
 ghost use Rattle.spec_world.specs.declared.event.StepEnd.TheVariants.{Not};
 ghost use Rattle.spec_world.specs.World.{Server, ExactEvent, ExactEnd, World, opening_world, is_enabled};
 ghost use Rattle.spec_world.specs.World.{WorldStep, WorldRun};
-ghost use Rattle.spec_world.specs.Sound.{IsSound, ReadsNow, EndFits};
+ghost use Rattle.spec_world.specs.Sound.{IsSound, AreKeptEvents, ReadsNow, EndFits};
 ghost use Rattle.spec_world.specs.Workers.{ManyFits, InPairs, AreInOrder, published_by};
 ghost use Rattle.spec_world.specs.Together.{Together, HaveSessions};
 
@@ -55,6 +57,14 @@ pub fn done_places_stay()
         (k : ℕ) (words : Words) →
         WorldRun server opening_world before old → WorldRun server old events new →
         place_at old.places k ≡ Some (place.Done words) → place_at new.places k ≡ Some (place.Done words) }
+{}
+
+/// Where the models that sessions are asked to hold may be kept, each place that is done has the well-formed words of a
+/// basis.
+pub fn done_places_are_well_formed()
+    ensures { (server : Server) (events : List ExactEvent) (world : World) (k : ℕ) (words : Words) →
+        AreKeptEvents events → WorldRun server opening_world events world →
+        place_at world.places k ≡ Some (place.Done words) → IsWellFormed words }
 {}
 
 /// An event is not taken exactly where it is not enabled, and what is said of it is so.
