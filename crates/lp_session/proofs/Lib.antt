@@ -1,2 +1,7 @@
 -- Lemmas.
-pub mod Solves
+pub mod Looks
+pub mod Puts
+pub mod Left
+pub mod Ends
+pub mod Works
+pub mod Steps

@@ -1,5 +1,5 @@
 // Solves of models, and what is said of them.
-ghost use Rattle.std.specs.Prelude.{◌≡◌, ℕ, IfOk};
+ghost use Rattle.std.specs.Prelude.{◌≡◌, ℕ, None, IfOk};
 ghost use Rattle.spec_server.specs.Answers.{MayAnswer, IsSolved};
 ghost use Rattle.spec_server.specs.Machine as machine;
 
@@ -7,16 +7,15 @@ use lp_base::Texts;
 use lp_check::cert_text;
 use lp_frac::Frac;
 use lp_model::Model;
-use lp_solve::{End, solve};
+use lp_solve::{End, Solved, solve};
 use spec_server::Answer;
 use std::alloc::{AllocError, Global};
 
-/// What a solve of a model ends with, within a budget of pivots and flips.
-pub fn solved_within(alloc: Global, model: &Model, budget: u32) -> Result<End, AllocError>
-    ensures { IfOk result (λ solved. IsSolved model.now budget solved) }
+/// What a solve of a model ends with, within a budget of pivots and flips, from the start that each model has.
+pub fn solved_within(alloc: Global, model: &Model, budget: u32) -> Result<Solved, AllocError>
+    ensures { IfOk result (λ solved. IsSolved model.now budget None solved) }
 {
-    let solved = solve(alloc, model, u64::from(budget), None)?;
-    Ok(solved.end)
+    solve(alloc, model, u64::from(budget), None)
 }
 
 /// What is answered of a solve within a budget.

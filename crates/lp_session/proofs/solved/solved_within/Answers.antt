@@ -1,6 +1,9 @@
-use Rattle.lp_session.proofs.Solves.{is_solved}
+-- Nothing is handed.
+use Rattle.std.proofs.Common.{None}
+use Rattle.lp_session.proofs.Ends.{solved_ok}
 use Rattle.lp_session.proofs.solved.solved_within.Goals as goal
 
 pub returns : goal.returns
 returns c =
-    is_solved c.args.model.now c.args.budget c.from.result c.in_ok-solved.solved c.from.ensures c.in_ok-solved.ensures.answer c.in_ok-solved.ensures.narrow
+    solved_ok c.args.model.now None c.solve.result c.args.budget _ c.from.ensures tt c.solve.ensures.answer
+    c.solve.ensures.narrow

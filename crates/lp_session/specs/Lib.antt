@@ -1,0 +1,3 @@
+pub mod Sharing
+pub mod Room
+pub mod Stages

@@ -1,0 +1,80 @@
+-- A session between the parts of a step, as the code keeps it.
+use Rattle.std.specs.Prelude.{ℕ, ◌≡◌, Option, Some, None, Ok, IfSome}
+use Rattle.spec_model.specs.Model.{Model}
+use Rattle.spec_check.specs.declared.certificate.Known.TheVariants as known
+use Rattle.spec_simplex.specs.Form.{Form, form_of}
+use Rattle.spec_simplex.specs.Eliminate.{IsBasisOf}
+use Rattle.spec_cold.specs.declared.outcome.Cold.TheVariants as cold
+use Rattle.spec_cold.specs.Cold.{ColdEnd}
+use Rattle.spec_warm.specs.Solve.{SolveEnd}
+use Rattle.spec_shape.specs.Words.{IsWellFormed, shape_of}
+use Rattle.spec_reads.specs.Reads.{Looked, front}
+use Rattle.spec_server.specs.Answers.{number_limit, MayAnswer, IsSolved}
+use Rattle.spec_server.specs.Machine.{ExactAsk, State}
+use Rattle.spec_server.specs.Step as step
+use Rattle.spec_server.specs.Halves.{Awaits, Nothing, WhatIsFound, WhatBecameOf}
+use Rattle.lp_session.specs.declared.stage.Begun.{Begun}
+use Rattle.lp_session.specs.declared.stage.Begun.TheVariants as begun
+use Rattle.lp_session.specs.declared.stage.Pending.{Pending}
+use Rattle.lp_session.specs.declared.stage.Stage.{Stage}
+use Rattle.lp_session.specs.declared.stage.Stage.TheVariants as stage
+use Rattle.lp_session.specs.declared.stage.Worked.{Worked}
+use Rattle.lp_session.specs.declared.stage.Worked.TheVariants as worked
+
+-- the model that is held has this form
+abbrev pub IsFormHeld : Option Model → Form → Type 0
+IsFormHeld None f = ⊥
+IsFormHeld (Some m) f = form_of (Some number_limit) m ≡ Ok f
+
+-- it may be answered so, within some budget
+abbrev pub IsEndOf : Option Model → ColdEnd → Type 0
+IsEndOf None end = ⊥
+IsEndOf (Some m) end = (budget : ℕ) × MayAnswer m budget end
+
+-- what is found has the shape of the form
+abbrev pub FitsForm : Form → Looked → Type 0
+FitsForm f found = IfSome found (λ place. IsWellFormed place.words × (front place.words ≡ shape_of f))
+
+-- the basis of an optimum is one of the form
+abbrev pub LeavesBasis : Form → ColdEnd → Type 0
+LeavesBasis f (cold.Ended (known.Optimal v) certificate (Some basis) pivots) = IsBasisOf f basis
+LeavesBasis f other = Unit {0}
+
+-- the model that is held is solved, with what was found
+abbrev pub IsSolvedBy : Option Model → ℕ → Looked → SolveEnd → Type 0
+IsSolvedBy None budget found solved = ⊥
+IsSolvedBy (Some m) budget found solved = IsSolved m budget (step.handed_by found) solved
+
+-- ---- where a session is in its ask
+
+abbrev pub pending_of : Pending → step.Pending
+pending_of p = record { end = p.end; how = p.how; words = p.words }
+
+abbrev pub awaits_of : Stage → Awaits
+awaits_of stage.Rest = Nothing
+awaits_of (stage.Looking form) = WhatIsFound (shape_of form)
+awaits_of (stage.Publishing pending) = WhatBecameOf (pending_of pending)
+
+-- a form that is kept is that of the model, and so is an end
+abbrev pub StageFits : Option Model → Stage → Type 0
+StageFits model stage.Rest = Unit {0}
+StageFits model (stage.Looking form) = IsFormHeld model form
+StageFits model (stage.Publishing pending) = IsEndOf model pending.end
+
+-- ---- the parts of a step
+
+abbrev pub BeginsSo : State → ExactAsk → Begun → State → Type 0
+BeginsSo old asked (begun.Reply replied) new = step.Begins old asked (step.Answers replied new)
+BeginsSo old asked (begun.Look form) new =
+    step.Begins old asked (step.Looks (shape_of form)) × (new ≡ old) × IsFormHeld new.model form
+
+-- words that are to be published are well formed, and stand with an end of the model
+pub record PublishesSo (old : State) (found : Looked) (pending : Pending) (new : State) : Type 0 where
+  pub works : step.Works old found (step.Publishes (pending_of pending))
+  pub formed : IsWellFormed pending.words
+  pub kept : new ≡ old
+  pub fits : IsEndOf new.model pending.end
+
+abbrev pub WorksSo : State → Looked → Worked → State → Type 0
+WorksSo old found (worked.Reply replied) new = step.Works old found (step.Ends replied new)
+WorksSo old found (worked.Publish pending) new = PublishesSo old found pending new

@@ -1,0 +1,268 @@
+// What a session holds.
+ghost use Rattle.std.specs.Prelude.{◌≡◌, ◌⊎◌};
+ghost use Rattle.spec_server.specs.Machine as machine;
+ghost use Rattle.spec_server.specs.Step as step;
+ghost use Rattle.spec_server.specs.declared.asks.Ask.TheVariants as asks;
+ghost use Rattle.spec_server.specs.declared.asks.Reply.TheVariants as replies;
+ghost use Rattle.spec_server.specs.declared.command.Plain.TheVariants as commands;
+ghost use Rattle.lp_session.specs.Stages.{IsFormHeld, IsEndOf, FitsForm, BeginsSo, WorksSo};
+
+use crate::solved::{answer_of, certificate_lines, solved_within};
+use crate::stage::{Begun, LastAnswer, Pending, Worked};
+use crate::verdict::verdict_on;
+use crate::working::{how_by, is_found, solved_from, words_of_end};
+use lp_check::RawCertificate;
+use lp_edit::{Edit, EditError, EditFault, apply};
+use lp_form::Form;
+use lp_line::{Ask, Refusal, Reply};
+use lp_model::Model;
+use lp_solve::End;
+use lp_standard::{FormStop, form};
+use mps_write::{WriteFault, fixed, free};
+use spec_mps::Style;
+use spec_reads::Found;
+use spec_server::{How, Plain, Publication};
+use std::alloc::Global;
+use std::marker;
+
+/// The pivots and flips that a solve of a new session may make.
+pub const OPENING_BUDGET: u32 = 10_000;
+
+/// What a session holds: its model once one is loaded, its budget and what its last solve ended with.
+#[derive(Drop)]
+pub(crate) struct Holding {
+    model: Option<Model>,
+    budget: u32,
+    last: Option<LastAnswer>,
+}
+
+impl marker::Model for Holding {
+    ghost use Rattle.spec_server.specs.LastFits.{LastFits};
+    ghost use Rattle.spec_server.specs.Machine.{State};
+
+    ghost Value = { State };
+
+    ghost view = { λ s. record { model = s.model; budget = s.budget; last = s.last } };
+
+    ghost invariant = { λ s. LastFits s.model s.last };
+}
+
+impl Holding {
+    /// No model.
+    pub(crate) fn new() -> Self
+        ensures { result ≡ machine.opening }
+    {
+        Holding {
+            model: None,
+            budget: OPENING_BUDGET,
+            last: None,
+        }
+    }
+
+    /// Replies to what is asked, or gives the form of the model that is to be solved. If memory runs out the reply is
+    /// `Memory`, and all is as it was.
+    pub(crate) fn begin(&mut self, alloc: Global, ask: Ask) -> Begun
+        ensures { BeginsSo self.old ask result self.new }
+    {
+        match ask {
+            Ask::Plain(asked) => self.answer(alloc, asked),
+            Ask::Loaded(model) => Begun::Reply(self.load(model)),
+            Ask::Misspelled(fault) => Begun::Reply(Reply::Refused(Refusal::Misspelled(fault))),
+            Ask::Checked(raw) => Begun::Reply(self.check(alloc, &raw)),
+            Ask::Unfit(line) => Begun::Reply(Reply::Refused(Refusal::Unfit(line))),
+            Ask::Bad(fault) => Begun::Reply(Reply::Refused(Refusal::Bad(fault))),
+        }
+    }
+
+    fn load(&mut self, model: Model) -> Reply
+        ensures { step.Begins self.old (asks.Loaded model) (step.Answers result self.new) }
+    {
+        let reply = Reply::Loaded(model.rows(), model.cols());
+        self.last = None; // the old model's
+        self.model = Some(model);
+        reply
+    }
+
+    // Replies to what one line asks, or gives the form of the model that it asks to solve.
+    fn answer(&mut self, alloc: Global, asked: Plain<Edit>) -> Begun
+        ensures { BeginsSo self.old (asks.Plain asked) result self.new }
+    {
+        match asked {
+            Plain::Write(style) => Begun::Reply(self.write(alloc, style)),
+            Plain::Solve => self.begin_solve(alloc),
+            Plain::Cert => Begun::Reply(self.certify(alloc)),
+            Plain::How => Begun::Reply(self.how()),
+            Plain::Budget(budget) => {
+                self.budget = budget;
+                Begun::Reply(Reply::Done)
+            }
+            Plain::Quit => {
+                *self = Holding::new();
+                Begun::Reply(Reply::Bye)
+            }
+            Plain::Change(edit) => Begun::Reply(self.change(alloc, edit)),
+        }
+    }
+
+    // The edit of the model. One that is done forgets the last answer.
+    fn change(&mut self, alloc: Global, edit: Edit) -> Reply
+        ensures { step.Begins self.old (asks.Plain (commands.Change edit)) (step.Answers result self.new) }
+    {
+        let Some(model) = &mut self.model else {
+            return Reply::Refused(Refusal::NoModel);
+        };
+        match apply(alloc, model, edit) {
+            Ok(()) => {
+                self.last = None; // of the model before the edit
+                Reply::Done
+            }
+            Err(EditError::Fault(fault)) => Reply::Refused(refusal_of(fault)),
+            Err(EditError::NoMemory) => Reply::Memory,
+        }
+    }
+
+    // The form of the model. A model without one is answered as the cold solve does.
+    fn begin_solve(&mut self, alloc: Global) -> Begun
+        ensures { BeginsSo self.old (asks.Plain commands.Solve) result self.new }
+    {
+        let Some(model) = &self.model else {
+            return Begun::Reply(Reply::Refused(Refusal::NoModel));
+        };
+        match form(alloc, model) {
+            Ok(form) => Begun::Look(form),
+            Err(FormStop::NoMemory) => Begun::Reply(Reply::Memory),
+            Err(FormStop::Clash(_) | FormStop::Past(_)) => {
+                let Ok(solved) = solved_within(alloc, model, self.budget) else {
+                    return Begun::Reply(Reply::Memory);
+                };
+                Begun::Reply(self.keep(solved.end, How::Cold, Publication::Nothing))
+            }
+        }
+    }
+
+    /// Solves the model, whose form this is, with what was found of its shape. An answer is kept, unless its basis is
+    /// to be published first.
+    pub(crate) fn work(
+        &mut self,
+        alloc: Global,
+        form: &Form,
+        found: Option<Found<[u64; 49]>>,
+    ) -> Worked
+        requires held { IsFormHeld self.old.model form.now }
+        requires fits { FitsForm form.now found }
+        ensures { WorksSo self.old found result self.new }
+    {
+        let Some(model) = &self.model else {
+            unreachable!()
+        };
+        let Ok(solved) = solved_from(alloc, model, self.budget, form, found) else {
+            return Worked::Reply(Reply::Memory);
+        };
+        let how = how_by(found, solved.route);
+        match words_of_end(form, &solved.end) {
+            None => Worked::Reply(self.keep(solved.end, how, Publication::Nothing)),
+            Some(words) if is_found(found, &words) => {
+                Worked::Reply(self.keep(solved.end, how, Publication::Same))
+            }
+            Some(words) => Worked::Publish(Pending {
+                end: solved.end,
+                how,
+                words,
+            }),
+        }
+    }
+
+    /// Keeps what a solve of the model ended with as the last answer, and replies with it.
+    pub(crate) fn keep(&mut self, solved: End, how: How, publication: Publication) -> Reply
+        requires { IsEndOf self.old.model solved }
+        ensures reply { result ≡ step.answered self.old solved }
+        ensures kept { self.new ≡ step.with_answer self.old solved how publication }
+    {
+        let answer = answer_of(self.budget, &solved);
+        self.last = Some(LastAnswer {
+            solved,
+            how,
+            publication,
+        });
+        Reply::Answered(answer)
+    }
+
+    fn certify(&self, alloc: Global) -> Reply
+        ensures { (result ≡ machine.cert_reply self.now.model self.now.last) ⊎ (result ≡ replies.Memory) }
+    {
+        match (&self.model, &self.last) {
+            (Some(model), Some(last)) => match certificate_lines(alloc, model, &last.solved) {
+                Ok(lines) => Reply::Certified(lines),
+                Err(_) => Reply::Memory,
+            },
+            _ => Reply::Refused(Refusal::NoAnswer),
+        }
+    }
+
+    fn how(&self) -> Reply
+        ensures { result ≡ machine.how_reply self.now.last }
+    {
+        let Some(last) = &self.last else {
+            return Reply::Refused(Refusal::NoAnswer);
+        };
+        Reply::Found {
+            how: last.how,
+            pivots: pivots_of(&last.solved),
+            publication: last.publication,
+        }
+    }
+
+    fn write(&self, alloc: Global, style: Style) -> Reply
+        ensures { (result ≡ machine.write_reply self.now.model style) ⊎ (result ≡ replies.Memory) }
+    {
+        let Some(model) = &self.model else {
+            return Reply::Refused(Refusal::NoModel);
+        };
+        text_of(alloc, model, style)
+    }
+
+    fn check(&self, alloc: Global, raw: &RawCertificate) -> Reply
+        ensures { (result ≡ machine.check_reply self.now.model raw.now) ⊎ (result ≡ replies.Memory) }
+    {
+        let Some(model) = &self.model else {
+            return Reply::Refused(Refusal::NoModel);
+        };
+        verdict_on(alloc, model, raw).unwrap_or(Reply::Memory)
+    }
+}
+
+// Why an edit is refused.
+fn refusal_of(fault: EditFault) -> Refusal
+    ensures { machine.edit_refusal fault ≡ replies.Refused result }
+{
+    match fault {
+        EditFault::UnknownName(name) => Refusal::Name(name),
+        EditFault::Taken(name) => Refusal::Taken(name),
+        EditFault::Limit(which, count) => Refusal::Limit(which, count),
+        EditFault::BadName => Refusal::BadName,
+        EditFault::Repeated(name) => Refusal::Repeated(name),
+    }
+}
+
+fn pivots_of(solved: &End) -> Option<u64>
+    ensures { result ≡ machine.pivots_of_solved solved.now }
+{
+    match solved {
+        End::Ended { pivots, .. } => Some(*pivots),
+        End::Past(_) | End::Spent => None,
+    }
+}
+
+fn text_of(alloc: Global, model: &Model, style: Style) -> Reply
+    ensures { (result ≡ machine.text_reply model.now style) ⊎ (result ≡ replies.Memory) }
+{
+    let written = match style {
+        Style::Free => free(alloc, model).map_err(WriteFault::from),
+        Style::Fixed => fixed(alloc, model),
+    };
+    match written {
+        Ok(text) => Reply::Written(text),
+        Err(WriteFault::TooWide(item)) => Reply::Refused(Refusal::FixedWide(item)),
+        Err(WriteFault::NoMemory) => Reply::Memory,
+    }
+}
