@@ -1,0 +1,7 @@
+pub mod Gaps
+pub mod EtaRuns
+pub mod EtaLoops
+pub mod Items
+pub mod Solving
+pub mod Replacing
+pub mod Opens

@@ -1,0 +1,33 @@
+// Pairs of operations, and what is known of fractions.
+ghost use Rattle.std.specs.Prelude.{◌≡◌, Some, All};
+ghost use Rattle.spec_exact.specs.Narrow.{IsNarrow};
+ghost use Rattle.spec_simplex.specs.Run as run;
+ghost use Rattle.lp_frac.specs.Narrow.{largest};
+
+use lp_frac::{Frac, Fracs, Past, den, num};
+
+/// The same fraction. It does nothing: proofs call it for the fact that its parts have at most 127 bits.
+pub fn narrow(v: Frac) -> Frac
+    ensures value { result ≡ v }
+    ensures narrow { IsNarrow result }
+{
+    let _parts = (num(v), den(v));
+    v
+}
+
+/// `s` less `v * w`.
+#[inline(always)]
+pub fn less_product(v: Frac, w: Frac, s: Frac) -> Result<Frac, Past>
+    ensures { result ≡ run.less_product (Some largest) v w s }
+{
+    lp_frac::less_product(v, w, s)
+}
+
+/// The same of each fraction of a list as `narrow` of one.
+pub fn tell_narrow(v: &Fracs)
+    ensures { All IsNarrow v.now }
+{
+    for i in 0..v.len() {
+        let _item = narrow(v.at(i));
+    }
+}
