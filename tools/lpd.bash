@@ -4,7 +4,7 @@
 
 # The commands: the plain words of each, as placeholders, and then its options.
 declare -A _lpd_commands=(
-    [run]=""
+    [run]="--places"
     [solve]="--form"
     [check]="--form"
 )
