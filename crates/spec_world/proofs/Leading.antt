@@ -97,17 +97,18 @@ module _ (server : Server) (old : World) (me : ℕ) (there : has_session server 
 
   published_leads : (now : List ExactPlace) (pending : Pending) (looked : List ExactRead) → length now < server.places →
       Goes (Puts pending looked) now
-      (put_ended pending (looked ++ read.Count (length now) ∷ read.Claim (length now) ∷ read.Done
-      (length now) pending.words ∷ []) (Published (length now)))
+      (put_ended pending
+      (looked ++ read.Count (length now) ∷ read.Claim (length now) ∷ read.Done (length now) pending.words ∷ [])
+      (Published (length now)))
       (with_place (now ++ place.Claimed me ∷ []) (length now) (place.Done pending.words))
   published_leads now pending looked room =
       let n : ℕ = length now in
-      let one : (looked ++ read.Count (length now) ∷ []) ++ read.Claim (length now) ∷ [] ≡ looked ++ read.Count
-      (length now) ∷ read.Claim (length now) ∷ [] =
+      let one : (looked ++ read.Count (length now) ∷ []) ++ read.Claim (length now) ∷ []
+      ≡ looked ++ read.Count (length now) ∷ read.Claim (length now) ∷ [] =
       append_assoc looked (read.Count (length now) ∷ []) (read.Claim (length now) ∷ []) in
-      let all : ((looked ++ read.Count (length now) ∷ []) ++ read.Claim (length now) ∷ []) ++ read.Done
-      (length now) pending.words ∷ [] ≡
-      looked ++ read.Count (length now) ∷ read.Claim (length now) ∷ read.Done (length now) pending.words ∷ [] =
+      let all : ((looked ++ read.Count (length now) ∷ []) ++ read.Claim (length now) ∷ [])
+      ++ read.Done (length now) pending.words ∷ []
+      ≡ looked ++ read.Count (length now) ∷ read.Claim (length now) ∷ read.Done (length now) pending.words ∷ [] =
       ap (λ rs. rs ++ read.Done (length now) pending.words ∷ []) one
       ∙ append_assoc looked (read.Count (length now) ∷ read.Claim (length now) ∷ [])
       (read.Done (length now) pending.words ∷ []) in

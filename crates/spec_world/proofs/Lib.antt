@@ -4,6 +4,7 @@ pub mod Stages
 pub mod Moves
 pub mod Bases
 pub mod Asked
+pub mod PutActs
 pub mod Acts
 pub mod Publishers
 pub mod Worlds
