@@ -34,7 +34,7 @@ bounded_name lowered (SetsBoth l u) c = refl
 module _ (columns : ColumnsRead) (names : List Name) (kept : AreColumns columns names) (name : Name) where
   pub has_named : list_any (same name) names ≡ list_any (λ (c : ExactColumn). same c.name name) (columns_with columns.whole columns.current)
   has_named =
-      ap (list_any (same name)) kept
+      ap (list_any (same name)) kept.named
       ∙ sym (any_named (λ (c : ExactColumn). same c.name name) (same name) name_of (λ c. turned c.name name) (columns_with columns.whole columns.current))
 
   -- the name of a new column is none of the names
@@ -44,7 +44,7 @@ module _ (columns : ColumnsRead) (names : List Name) (kept : AreColumns columns 
       let current : columns.current ≡ None = ap (λ (v : ColumnsRead). v.current) e ∙ closed in
       let whole : list_any (λ (c : ExactColumn). same c.name name) columns.whole ≡ false =
       ap (λ (v : ColumnsRead). list_any (λ (c : ExactColumn). same c.name name) v.whole) e ∙ new in
-      names_new name_of columns.whole names name name (kept ∙ ap (λ c. map name_of (columns_with columns.whole c)) current) refl
+      names_new name_of columns.whole names name name (kept.named ∙ ap (λ c. map name_of (columns_with columns.whole c)) current) refl
       (All-weaker (λ (c : ExactColumn). same c.name name ≡ false) (λ c. c.name ≢ name) (λ c. same_false c.name name) columns.whole
       (none_passes (λ (c : ExactColumn). same c.name name) columns.whole whole))
 
@@ -104,7 +104,7 @@ module _ (columns : ColumnsRead) (names : List Name) (kept : AreColumns columns 
 
   all_placed : position (λ x. same x name) names ≡ position test (columns_with columns.whole columns.current)
   all_placed =
-      ap (position (λ x. same x name)) kept
+      ap (position (λ x. same x name)) kept.named
       ∙ sym (place_named test (λ x. same x name) name_of (λ c. refl) (columns_with columns.whole columns.current))
 
   pub place_inside : (k : ℕ) → Some k ≡ position (λ x. same x name) names → k < length columns.whole →

@@ -1,4 +1,5 @@
 pub mod ColumnPlaces
+pub mod EntryOrder
 pub mod Feeding
 pub mod Lists
 pub mod MarkLists

@@ -1,6 +1,7 @@
 // Columns, and the numbers of the one that is read.
 ghost use Rattle.std.specs.Prelude.{◌≡◌, ◌≤◌, ℕ, length, IfOk, OnOk};
 ghost use Rattle.std.specs.List.{insert};
+ghost use Rattle.std.specs.List.Sorted.{IsNonDecreasingBy};
 ghost use Rattle.spec_exact.specs.Fraction.{ℚ};
 ghost use Rattle.spec_mps.specs.Reader as reader;
 
@@ -26,8 +27,10 @@ pub(crate) fn make_column(alloc: Global, name: &[u8]) -> Result<Column, AllocErr
 
 /// Puts a number where it belongs: to the cost, or among the entries, unless it is 0.
 pub(crate) fn put_number(column: &mut Column, target: Target, value: Frac) -> Result<(), AllocError>
+    requires { IsNonDecreasingBy (λ e. e.0) column.old.entries }
     ensures ok { OnOk result (column.new ≡ reader.with_number column.old target value) }
     ensures named { column.new.name ≡ column.old.name }
+    ensures ordered { IsNonDecreasingBy (λ e. e.0) column.new.entries }
 {
     match target {
         Target::Objective => column.cost = value,
@@ -40,8 +43,11 @@ pub(crate) fn put_number(column: &mut Column, target: Target, value: Frac) -> Re
     Ok(())
 }
 
+// In the order of rows.
 fn put_entry(entries: &mut Entries, row: u32, value: Frac) -> Result<(), AllocError>
-    ensures { OnOk result (entries.new ≡ reader.put_entry row value entries.old) }
+    requires { IsNonDecreasingBy (λ e. e.0) entries.old }
+    ensures ok { OnOk result (entries.new ≡ reader.put_entry row value entries.old) }
+    ensures ordered { IsNonDecreasingBy (λ e. e.0) entries.new }
 {
     let place = place_for(entries.as_slice(), row);
     entries.insert(place, row, value)
@@ -49,13 +55,9 @@ fn put_entry(entries: &mut Entries, row: u32, value: Frac) -> Result<(), AllocEr
 
 // Before the first entry of a later row.
 fn place_for(entries: &[(u32, Frac)], row: u32) -> usize
+    requires { IsNonDecreasingBy (λ e. e.0) entries.now }
     ensures place { (v : ℚ) → insert entries.now result (row, v) ≡ reader.put_entry row v entries.now }
     ensures inside { result ≤ length entries.now }
 {
-    for (place, entry) in entries.iter().enumerate() {
-        if row < entry.0 {
-            return place;
-        }
-    }
-    entries.len()
+    entries.partition_point(|e| e.0 <= row)
 }

@@ -12,8 +12,12 @@ invariant_of-self c =
     let written =
     written_back c.args.place change _ c.self.inside.whole.items _ _ c.deref_mut.ensures.value
     c.deref_mut.ensures.len c.bound_at.ensures in
-    c.self.invariant
-    ∙ sym (names_beside c.self.inside.whole.items _ c.self.inside.current
-    (ap (map (λ (x : ExactColumn). x.name)) written
-    ∙ names_changed (λ (x : ExactColumn). x.name) c.args.place change (bounded_name c.args.lowered (bound_seen c.args.card.now))
-    c.self.inside.whole.items))
+    record {
+      named =
+          c.self.invariant.named
+          ∙ sym (names_beside c.self.inside.whole.items _ c.self.inside.current
+          (ap (map (λ (x : ExactColumn). x.name)) written
+          ∙ names_changed (λ (x : ExactColumn). x.name) c.args.place change (bounded_name c.args.lowered (bound_seen c.args.card.now))
+          c.self.inside.whole.items));
+      ordered = c.self.invariant.ordered;
+    }
