@@ -1,5 +1,6 @@
 -- The asks that lines complete, by what they say.
-use Rattle.std.proofs.Common.{◌≡◌, ◌≢◌, ℕ, ◌≤◌, ◌<◌, ◌^◌, List, [], ◌∷◌, ◌++◌, Option, Some, None, Result, Ok, Err, Bool, true, false, cond, ap, sym, ◌∙◌, append-nil, refl, inl, inr, subst}
+use Rattle.std.proofs.Common.{◌≡◌, ◌≢◌, ℕ, ◌≤◌, ◌<◌, ◌^◌, List, [], ◌∷◌, ◌++◌, Option, Some, None, Result, Ok, Err}
+use Rattle.std.proofs.Common.{Bool, true, false, cond, ap, sym, ◌∙◌, append-nil, refl, inl, inr, subst}
 use Rattle.std.proofs.lemmas.List.Elements.{All-head, All-tail, All-push}
 use Rattle.spec_text.specs.declared.line.Line.{Line}
 use Rattle.spec_text.specs.declared.line.Line.TheVariants as line
@@ -12,8 +13,10 @@ use Rattle.spec_server.specs.Addressing.{addressed_in}
 use Rattle.spec_server.specs.Command.{ExactCommand}
 use Rattle.spec_server.specs.Machine.{ExactAsk}
 use Rattle.spec_server.specs.Said.{Step, On, Says, follow, said_by}
-use Rattle.spec_server.specs.Script.{Pending, Between, Text, Certificate, Ending, Ended, Cut, Over, ending_by, ends_text, ends_certificate}
-use Rattle.spec_server.specs.Script.{begun, begun_by, asks_of_command, asks_by, asks_of_line, pending_after_line, asks_from, pending_after}
+use Rattle.spec_server.specs.Script.{Pending, Between, Text, Certificate, Ending, Ended, Cut, Over, ending_by}
+use Rattle.spec_server.specs.Script.{ends_text, ends_certificate}
+use Rattle.spec_server.specs.Script.{begun, begun_by, asks_of_command, asks_by, asks_of_line, pending_after_line}
+use Rattle.spec_server.specs.Script.{asks_from, pending_after}
 use Rattle.spec_server.proofs.ScriptLemmas.{asks_from-append, pending_after-append, asked_session}
 use Rattle.lp_base.specs.LinesState.{LinesState}
 use Rattle.lp_base.specs.declared.lines.LineStop.{LineStop}
@@ -66,7 +69,8 @@ body_done : (ends : Bool) (completed asked : Asked ExactAsk) (rest : Asks) (more
 body_done true completed asked rest more e = record { alone = one_alone completed asked rest e; between = refl }
 body_done false completed asked rest more e = none_some asked rest e
 
-line_done : (addressing : Addressing) (pending : Pending) (next : Line (List ℕ)) (asked : Asked ExactAsk) (rest : Asks) →
+line_done : (addressing : Addressing) (pending : Pending) (next : Line (List ℕ)) (asked : Asked ExactAsk)
+    (rest : Asks) →
     asks_of_line addressing pending next ≡ asked ∷ rest → IsDone rest (pending_after_line addressing pending next)
 line_done addressing Between next asked rest e = addressed_done (addressed_in addressing next) asked rest e
 line_done addressing (Text session form body) next asked rest e = body_done (ends_text next) _ asked rest _ e
@@ -87,25 +91,30 @@ same_said a b e = cc
 record SayNothing (addressing : Addressing) (pending : Pending) (lines : List (Line (List ℕ))) : Type 0 where
   no_asks : asks_from addressing pending lines ≡ []
   behind : (more : List (Line (List ℕ))) →
-      said_by (script_step addressing) pending (lines ++ more) ≡ said_by (script_step addressing) (pending_after addressing pending lines) more
+      said_by (script_step addressing) pending (lines ++ more) ≡
+      said_by (script_step addressing) (pending_after addressing pending lines) more
 
 silent_lines : (addressing : Addressing) (pending : Pending) (lines : List (Line (List ℕ))) → AreGiven lines →
     said_by (script_step addressing) pending lines ≡ None → SayNothing addressing pending lines
 silent_lines addressing pending [] given e = record { no_asks = refl; behind = λ more. refl }
 silent_lines addressing pending (here ∷ lines) given e =
-    by (asks_of_line addressing pending here) refl (silent_lines addressing (pending_after_line addressing pending here) lines (All-tail (λ (l : Line (List ℕ)). IsGiven l) here lines given))
+    by (asks_of_line addressing pending here) refl
+    (silent_lines addressing (pending_after_line addressing pending here) lines
+    (All-tail (λ (l : Line (List ℕ)). IsGiven l) here lines given))
   where
     no_end : here ≢ line.End
     no_end = (All-head (λ (l : Line (List ℕ)). IsGiven l) here lines given).0
 
     by : (asks : Asks) → asks_of_line addressing pending here ≡ asks
-        → (said_by (script_step addressing) (pending_after_line addressing pending here) lines ≡ None → SayNothing addressing (pending_after_line addressing pending here) lines)
+        → (said_by (script_step addressing) (pending_after_line addressing pending here) lines ≡ None →
+        SayNothing addressing (pending_after_line addressing pending here) lines)
         → SayNothing addressing pending (here ∷ lines)
     by [] is rest =
         let later = rest (sym (behind_step addressing pending here lines [] no_end is) ∙ e) in
         record {
           no_asks =
-              ap (λ (zs : Asks). zs ++ asks_from addressing (pending_after_line addressing pending here) lines) is ∙ later.no_asks;
+              ap (λ (zs : Asks). zs ++ asks_from addressing (pending_after_line addressing pending here) lines) is
+              ∙ later.no_asks;
           behind = λ more. behind_step addressing pending here (lines ++ more) [] no_end is ∙ later.behind more;
         }
     by (asked ∷ asks) is rest =
@@ -129,7 +138,8 @@ says_ask addressing pending here what no_end e = by (asks_of_line addressing pen
         record {
           asked = asked;
           is_said =
-              same_said what (taken.Ask asked) (sym e ∙ behind_step addressing pending here [] (asked ∷ rest) no_end is);
+              same_said what (taken.Ask asked)
+              (sym e ∙ behind_step addressing pending here [] (asked ∷ rest) no_end is);
           asks = is ∙ ap (λ (zs : Asks). asked ∷ zs) done.alone;
           between = done.between;
         }
@@ -151,7 +161,8 @@ module _ (addressing : Addressing) (before after : Option (List ℕ)) (old new :
   takes_ask what h =
       let s = silent_lines addressing Between h.earlier h.given (h.silent addressing Between refl) in
       let pending : Pending = pending_after addressing Between h.earlier in
-      let a = says_ask addressing pending h.last what h.last_given.0 (sym (s.behind (h.last ∷ [])) ∙ h.says [] addressing Between refl) in
+      let a = says_ask addressing pending h.last what h.last_given.0
+      (sym (s.behind (h.last ∷ [])) ∙ h.says [] addressing Between refl) in
       subst (λ (w : Taken). TakesNext addressing before after old new (Ok w)) (sym a.is_said)
       (record {
         passed = h.earlier ++ h.last ∷ [];
@@ -179,7 +190,8 @@ module _ (addressing : Addressing) (before after : Option (List ℕ)) (old new :
   }
 
   end_taken : (h : HearsUntil (Say addressing) before after old (Ok line.End)) (pending : Pending) →
-      ending_by (pending_after addressing Between h.passed) ≡ ending_by pending → TakesNext addressing before after old new (Ok (taken_at (ending_by pending)))
+      ending_by (pending_after addressing Between h.passed) ≡ ending_by pending →
+      TakesNext addressing before after old new (Ok (taken_at (ending_by pending)))
   unfolding none
   end_taken h Between e = record { none = none (Ok line.End) h; ends = e }
   end_taken h (Text session form body) e = record { none = none (Ok line.End) h; ends = e }
@@ -190,7 +202,8 @@ module _ (addressing : Addressing) (before after : Option (List ℕ)) (old new :
   said_at_end what h =
       let s = silent_lines addressing Between h.until.passed h.until.given (h.until.silent addressing Between refl) in
       same_said what _
-      (sym (h.says addressing Between refl) ∙ s.behind (line.End ∷ []) ∙ at_end addressing (pending_after addressing Between h.until.passed))
+      (sym (h.says addressing Between refl) ∙ s.behind (line.End ∷ [])
+      ∙ at_end addressing (pending_after addressing Between h.until.passed))
 
   takes_end : (what : Taken) → HearsAtEnd (Say addressing) before after old what →
       TakesNext addressing before after old new (Ok what)
@@ -208,7 +221,8 @@ module _ (addressing : Addressing) (before after : Option (List ℕ)) (old new :
   takes found what is h =
       takes_said what (subst (λ (f : Heard Taken). HearsNext (Say addressing) before after old new (Ok f)) is h)
 
-  pub too_long : (found : Heard Taken) → found ≡ heard.Over → HearsNext (Say addressing) before after old new (Ok found) →
+  pub too_long : (found : Heard Taken) → found ≡ heard.Over →
+      HearsNext (Say addressing) before after old new (Ok found) →
       TakesNext addressing before after old new (Ok taken.Over)
   too_long found is h =
       none (Ok line.Over) (subst (λ (f : Heard Taken). HearsNext (Say addressing) before after old new (Ok f)) is h)

@@ -14,7 +14,8 @@ look_up-map f text [] = refl
 look_up-map f text (line ∷ lines) = by (same text line.0) (look_up-map f text lines)
   where
     by : (t : Bool) → look_up text (map (λ line. (line.0, f line.1)) lines) ≡ option_map f (look_up text lines) →
-        cond t (Some (f line.1)) (look_up text (map (λ line. (line.0, f line.1)) lines)) ≡ option_map f (cond t (Some line.1) (look_up text lines))
+        cond t (Some (f line.1)) (look_up text (map (λ line. (line.0, f line.1)) lines)) ≡
+        option_map f (cond t (Some line.1) (look_up text lines))
     by true rest = refl
     by false rest = rest
 
@@ -28,7 +29,8 @@ look_up-edit_lines text = look_up-map Edit text edit_words
 -- a text that is none of the other command words is the command word of an edit, or none
 pub command_word_of-edit : (text : List ℕ) → false ≡ same text (codes "LOAD") → false ≡ same text (codes "WRITE") →
     false ≡ same text (codes "SOLVE") → false ≡ same text (codes "CERT") →
-    false ≡ same text (codes "HOW") → false ≡ same text (codes "BUDGET") → false ≡ same text (codes "CHECK") → false ≡ same text (codes "QUIT") →
+    false ≡ same text (codes "HOW") → false ≡ same text (codes "BUDGET") → false ≡ same text (codes "CHECK") →
+    false ≡ same text (codes "QUIT") →
     command_word_of text ≡ option_map Edit (edit_word_of text)
 unfolding command_word_of edit_lines
 command_word_of-edit text load write solve cert how budget check quit =

@@ -1,5 +1,7 @@
 -- The lines up to the one at which something is said, and where the reading stops.
-use Rattle.std.proofs.Common.{◌≡◌, ◌≢◌, ℕ, ◌-◌, ◌^◌, ◌≤◌, ◌<◌, List, [], ◌∷◌, ◌++◌, length, Option, Some, None, Result, Ok, Err, arith, ap, sym, ◌∙◌, append_assoc, append-nil, length-append, refl, inl, inr, subst, ⊎_elim}
+use Rattle.std.proofs.Common.{◌≡◌, ◌≢◌, ℕ, ◌-◌, ◌^◌, ◌≤◌, ◌<◌, List, [], ◌∷◌, ◌++◌, length, Option, Some, None, Result}
+use Rattle.std.proofs.Common.{Ok, Err, arith, ap, sym, ◌∙◌, append_assoc, append-nil, length-append, refl, inl, inr}
+use Rattle.std.proofs.Common.{subst, ⊎_elim}
 use Rattle.std.proofs.lemmas.List.Elements.{All-nil, All-push}
 use Rattle.spec_text.specs.declared.line.Line.{Line}
 use Rattle.spec_text.specs.declared.line.Line.TheVariants as line
@@ -33,7 +35,8 @@ one_more passed next given no_end no_over =
     let now : IsGiven next = (no_end, no_over) in All-push (λ (l : Line (List ℕ)). IsGiven l) passed next given now
 
 -- these lines were read, which lead from the first stage to this one
-pub record Turn {T R : Type 0} (Say : T → List (Line (List ℕ)) → Option R → Type 0) (count : T → ℕ) (first : T) (before now : Option (List ℕ)) (old reading : LinesState) (at : T) : Type 0 where
+pub record Turn {T R : Type 0} (Say : T → List (Line (List ℕ)) → Option R → Type 0) (count : T → ℕ) (first : T)
+    (before now : Option (List ℕ)) (old reading : LinesState) (at : T) : Type 0 where
   pub passed : List (Line (List ℕ))
   pub reads : ReadsLines before now old reading passed
   pub given : AreGiven passed
@@ -59,7 +62,8 @@ module _ {T R : Type 0} {Say : T → List (Line (List ℕ)) → Option R → Typ
       Turn Say count first before now old reading at → count at < 2 ^ 32 - 1
   in_range t = omega (arith, t.small)
 
-  module _ {before now : Option (List ℕ)} {old reading : LinesState} {at : T} (t : Turn Say count first before now old reading at) (after : Option (List ℕ)) (new : LinesState) where
+  module _ {before now : Option (List ℕ)} {old reading : LinesState} {at : T}
+      (t : Turn Say count first before now old reading at) (after : Option (List ℕ)) (new : LinesState) where
     -- one more line was read
     pub on_line : (here : Line (List ℕ)) → GivesNext now after reading new (Ok here) → here ≢ line.Over → (next : T) →
         Leads Say count at here (step.On next) → Turn Say count first before after old new next
@@ -70,7 +74,8 @@ module _ {T R : Type 0} {Say : T → List (Line (List ℕ)) → Option R → Typ
           reads = reads_line here t.reads g leads.no_end no_over;
           given = one_more t.passed here t.given leads.no_end no_over;
           comes = λ behind answer h.
-              subst (λ (ls : List (Line (List ℕ))). Say first ls answer) (sym (append_assoc t.passed (here ∷ []) behind))
+              subst (λ (ls : List (Line (List ℕ))). Say first ls answer)
+              (sym (append_assoc t.passed (here ∷ []) behind))
               (t.comes (here ∷ behind) answer (leads.behind behind answer h));
           kept = omega (arith, t.kept, more.0);
           few = omega (arith, leads.counts, t.few, more.0);
@@ -135,9 +140,15 @@ module _ {T R : Type 0} {Say : T → List (Line (List ℕ)) → Option R → Typ
     pub wants : (here : Line (List ℕ)) → GivesNext now after reading new (Ok here) → here ≢ line.Over →
         HearsNext (Say first) before after old new (Err stop.NoMemory)
     wants (line.Text bytes) g no_over =
-        record { passed = t.passed ++ line.Text bytes ∷ []; reads = inl (reads_line (line.Text bytes) t.reads g (λ h. cc) no_over) }
+        record {
+          passed = t.passed ++ line.Text bytes ∷ [];
+          reads = inl (reads_line (line.Text bytes) t.reads g (λ h. cc) no_over);
+        }
     wants (line.Long len) g no_over =
-        record { passed = t.passed ++ line.Long len ∷ []; reads = inl (reads_line (line.Long len) t.reads g (λ h. cc) no_over) }
+        record {
+          passed = t.passed ++ line.Long len ∷ [];
+          reads = inl (reads_line (line.Long len) t.reads g (λ h. cc) no_over);
+        }
     wants line.End g no_over = record { passed = t.passed; reads = inl (reads_end t.reads g).0 }
     wants line.Over g no_over = absurd (no_over refl)
 

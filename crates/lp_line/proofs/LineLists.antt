@@ -16,6 +16,8 @@ unfolding ended_lines
 ended_lines_more lines at line e =
     let ended : List ℕ → List ℕ = λ l. l ++ 10 ∷ [] in
     ap (λ k. flat_map ended (take k lines)) (one_more at)
-    ∙ ap (flat_map ended) (take-suc lines at [] (slice_get_within lines at line e) ∙ ap (λ l. take at lines ++ l ∷ []) (get_or_from_slice_get lines at line [] e))
+    ∙ ap (flat_map ended)
+    (take-suc lines at [] (slice_get_within lines at line e)
+    ∙ ap (λ l. take at lines ++ l ∷ []) (get_or_from_slice_get lines at line [] e))
     ∙ flat_map-append ended (take at lines) (line ∷ [])
     ∙ ap (λ zs. flat_map ended (take at lines) ++ zs) (append-nil (line ++ 10 ∷ []))

@@ -1,5 +1,6 @@
 -- The words of a new column.
-use Rattle.std.proofs.Common.{◌≡◌, ◌≢◌, ◌%◌, ℕ, List, [], ◌∷◌, Option, Some, None, option_map, Result, Ok, Err, length, refl, ap, sym, ◌∙◌, subst, arith}
+use Rattle.std.proofs.Common.{◌≡◌, ◌≢◌, ◌%◌, ℕ, List, [], ◌∷◌, Option, Some, None, option_map, Result, Ok, Err, length}
+use Rattle.std.proofs.Common.{refl, ap, sym, ◌∙◌, subst, arith}
 use Rattle.std.specs.Prelude.{IfSome}
 use Rattle.spec_exact.specs.Fraction.{ℚ}
 use Rattle.spec_model.specs.Model.{Name}
@@ -37,10 +38,12 @@ odd_column name cost words odd = ap (column_in name cost) (two_by_two-odd words 
 module _ (name cost : List ℕ) (words : List (List ℕ)) (even : length words % 2 ≡ 0) where
   -- the cost is read
   cost_read : (answer : Reads ℚ) → number_in cost ≡ answer →
-      column_in name cost (two_by_two words) ≡ (answer >>= λ c. numbers_in (two_by_two-even words even).0 >>= λ ps. Ok (AddCol name c ps))
+      column_in name cost (two_by_two words) ≡
+      (answer >>= λ c. numbers_in (two_by_two-even words even).0 >>= λ ps. Ok (AddCol name c ps))
   cost_read answer e =
       let pairs = two_by_two-even words even in
-      ap (column_in name cost) pairs.1 ∙ ap (λ (a : Reads ℚ). a >>= λ c. numbers_in pairs.0 >>= λ ps. Ok (AddCol name c ps)) e
+      ap (column_in name cost) pairs.1
+      ∙ ap (λ (a : Reads ℚ). a >>= λ c. numbers_in pairs.0 >>= λ ps. Ok (AddCol name c ps)) e
 
   -- or it is no number
   pub cost_fault : (why : LineFault) → number_in cost ≡ Err why → column_in name cost (two_by_two words) ≡ Err why
@@ -48,19 +51,26 @@ module _ (name cost : List ℕ) (words : List (List ℕ)) (even : length words %
 
   pairs_read : (v : ℚ) → number_in cost ≡ Ok v → (result : Result Pairs EditStop) →
       IfSome (two_by_two words) (λ pairs. GivesWords (numbers_in pairs) result) →
-      (answer : Reads Pairs) × (GivesWords answer result) × (column_in name cost (two_by_two words) ≡ (answer >>= λ ps. Ok (AddCol name v ps)))
+      (answer : Reads Pairs) × (GivesWords answer result) ×
+      (column_in name cost (two_by_two words) ≡ (answer >>= λ ps. Ok (AddCol name v ps)))
   pairs_read v e result g =
-      let pairs = two_by_two-even words even in
-      (numbers_in pairs.0, subst (λ (o : Option Words). IfSome o (λ ps. GivesWords (numbers_in ps) result)) pairs.1 g, cost_read (Ok v) e)
+      let pairs = two_by_two-even words even in (
+        numbers_in pairs.0,
+        subst (λ (o : Option Words). IfSome o (λ ps. GivesWords (numbers_in ps) result)) pairs.1 g,
+        cost_read (Ok v) e,
+      )
 
   -- a pair's number is none
   pub pairs_fault : (v : ℚ) → number_in cost ≡ Ok v → (stop : EditStop) (result : Result ExactEdit EditStop) →
       result ≡ Err stop →
-      IfSome (two_by_two words) (λ pairs. GivesWords (numbers_in pairs) (Err stop)) → GivesWords (column_in name cost (two_by_two words)) result
-  pairs_fault v e stop result is g = subst (GivesWords (column_in name cost (two_by_two words))) (sym is) (by stop (pairs_read v e (Err stop) g))
+      IfSome (two_by_two words) (λ pairs. GivesWords (numbers_in pairs) (Err stop)) →
+      GivesWords (column_in name cost (two_by_two words)) result
+  pairs_fault v e stop result is g =
+      subst (GivesWords (column_in name cost (two_by_two words))) (sym is) (by stop (pairs_read v e (Err stop) g))
     where
       by : (stop : EditStop) →
-          (answer : Reads Pairs) × (GivesWords answer (Err stop)) × (column_in name cost (two_by_two words) ≡ (answer >>= λ ps. Ok (AddCol name v ps))) →
+          (answer : Reads Pairs) × (GivesWords answer (Err stop)) ×
+          (column_in name cost (two_by_two words) ≡ (answer >>= λ ps. Ok (AddCol name v ps))) →
           GivesWords (column_in name cost (two_by_two words)) (Err stop)
       by (Fault why) (answer, g, e) = e ∙ ap (λ (a : Reads Pairs). a >>= λ ps. Ok (AddCol name v ps)) g
       by NoMemory (answer, g, e) = tt
@@ -71,4 +81,5 @@ module _ (name cost : List ℕ) (words : List (List ℕ)) (even : length words %
       column_in name cost (two_by_two words) ≡ Ok (AddCol same v pairs)
   column_read v e pairs g same is =
       let read = pairs_read v (sym e) (Ok pairs) g in
-      read.2 ∙ ap (λ (a : Reads Pairs). a >>= λ ps. Ok (AddCol name v ps)) read.1 ∙ ap (λ (n : Name). Ok (AddCol n v pairs)) (sym is)
+      read.2 ∙ ap (λ (a : Reads Pairs). a >>= λ ps. Ok (AddCol name v ps)) read.1
+      ∙ ap (λ (n : Name). Ok (AddCol n v pairs)) (sym is)

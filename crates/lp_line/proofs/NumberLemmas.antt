@@ -1,5 +1,6 @@
 -- Numbers in digits.
-use Rattle.std.proofs.Common.{◌≡◌, ℕ, suc, ◌+◌, ◌-◌, ◌*◌, ◌≤◌, ◌<◌, List, [], ◌∷◌, length, drop, get_or, Some, None, Bool, true, false, ◌&&◌, not, cond, nat_le, nat_lt, arith, ap, ◌∙◌, refl}
+use Rattle.std.proofs.Common.{◌≡◌, ℕ, suc, ◌+◌, ◌-◌, ◌*◌, ◌≤◌, ◌<◌, List, [], ◌∷◌, length, drop, get_or, Some, None}
+use Rattle.std.proofs.Common.{Bool, true, false, ◌&&◌, not, cond, nat_le, nat_lt, arith, ap, ◌∙◌, refl}
 use Rattle.std.proofs.Math.Seq.{drop-cons}
 use Rattle.std.proofs.lemmas.Bool.{lt-leb}
 use Rattle.std.specs.List.{list_all}
@@ -25,6 +26,9 @@ pub too_large : (last digits : ℕ) (text : List ℕ) (at number : ℕ) →
     spelled_from 0 text ≡ spelled_from number (drop at text) → at < length text →
     last < number * 10 + (get_or text at 0 - 48) → None ≡ number_to last digits text
 too_large last digits text at number spelled h past =
-    let more : spelled_from 0 text ≡ spelled_from (number * 10 + (get_or text at 0 - 48)) (drop (suc at) text) = spelled ∙ ap (spelled_from number) (drop-cons text at 0 h) in
-    last_fails (nat_lt 0 (length text)) (nat_le (length text) digits) (list_all is_digit text) (not (begins_with_zero text)) _ (spelled_from 0 text)
-    (lt-leb (spelled_from 0 text) last (omega (arith, more, spelled_no_less (number * 10 + (get_or text at 0 - 48)) (drop (suc at) text))))
+    let more : spelled_from 0 text ≡ spelled_from (number * 10 + (get_or text at 0 - 48)) (drop (suc at) text) = spelled
+    ∙ ap (spelled_from number) (drop-cons text at 0 h) in
+    last_fails (nat_lt 0 (length text)) (nat_le (length text) digits) (list_all is_digit text)
+    (not (begins_with_zero text)) _ (spelled_from 0 text)
+    (lt-leb (spelled_from 0 text) last
+    (omega (arith, more, spelled_no_less (number * 10 + (get_or text at 0 - 48)) (drop (suc at) text))))

@@ -1,5 +1,7 @@
 -- The pairs of a new column, as far as they were read.
-use Rattle.std.proofs.Common.{◌≡◌, ◌≤◌, ◌<◌, ℕ, ◌-◌, List, [], ◌∷◌, ◌++◌, Option, Some, None, option_map, Ok, Err, length, take, drop, slice_index_or, refl, ap, sym, ◌∙◌, subst, append_assoc, append-nil, arith}
+use Rattle.std.proofs.Common.{◌≡◌, ◌≤◌, ◌<◌, ℕ, ◌-◌, List, [], ◌∷◌, ◌++◌, Option, Some, None, option_map, Ok, Err}
+use Rattle.std.proofs.Common.{length, take, drop, slice_index_or, refl, ap, sym, ◌∙◌, subst, append_assoc, append-nil}
+use Rattle.std.proofs.Common.{arith}
 use Rattle.std.specs.Prelude.{IfSome}
 use Rattle.std.proofs.lemmas.List.{take_all}
 use Rattle.std.proofs.lemmas.Option.{IfSome_then}
@@ -34,22 +36,30 @@ behind name value others rest e = by (two_by_two others) refl e
     by (Some more) is e = (more, is, let same : rest ≡ (name, value) ∷ more = cc in same)
 
 one_more : (answer : Reads Pairs) (pairs : Pairs) (p : Name × ℚ) →
-    ((answer >>= λ rest. Ok (p ∷ rest)) >>= λ more. Ok (pairs ++ more)) ≡ (answer >>= λ more. Ok ((pairs ++ p ∷ []) ++ more))
+    ((answer >>= λ rest. Ok (p ∷ rest)) >>= λ more. Ok (pairs ++ more)) ≡
+    (answer >>= λ more. Ok ((pairs ++ p ∷ []) ++ more))
 one_more (Ok rest) pairs p = ap Ok (sym (append_assoc pairs (p ∷ []) rest))
 one_more (Err why) pairs p = refl
 
-module _ {all : Words} {name value : List ℕ} {others : List (List ℕ)} {pairs : Pairs} (left : PairsLeft all (name ∷ value ∷ others) pairs) where
+module _ {all : Words} {name value : List ℕ} {others : List (List ℕ)} {pairs : Pairs}
+    (left : PairsLeft all (name ∷ value ∷ others) pairs) where
   numbers_behind : (more : Words) → left.rest ≡ (name, value) ∷ more → (answer : Reads ℚ) → number_in value ≡ answer →
-      numbers_in all ≡ ((answer >>= λ v. numbers_in more >>= λ rest. Ok ((name, v) ∷ rest)) >>= λ more. Ok (pairs ++ more))
+      numbers_in all ≡ ((answer >>= λ v. numbers_in more >>= λ rest. Ok ((name, v) ∷ rest)) >>=
+      λ more. Ok (pairs ++ more))
   unfolding numbers_in
   numbers_behind more is answer e =
       left.numbers ∙ ap (λ (w : Words). numbers_in w >>= λ more. Ok (pairs ++ more)) is
-      ∙ ap (λ (a : Reads ℚ). (a >>= λ v. numbers_in more >>= λ rest. Ok ((name, v) ∷ rest)) >>= λ more. Ok (pairs ++ more)) e
+      ∙ ap (λ (a : Reads ℚ). (a >>= λ v. numbers_in more >>= λ rest. Ok ((name, v) ∷ rest)) >>=
+      λ more. Ok (pairs ++ more)) e
 
   pair_read : (v : ℚ) → number_in value ≡ Ok v → PairsLeft all others (pairs ++ (name, v) ∷ [])
   pair_read v e =
       let first = behind name value others left.rest left.paired in
-      record { rest = first.0; paired = first.1; numbers = numbers_behind first.0 first.2 (Ok v) e ∙ one_more (numbers_in first.0) pairs (name, v) }
+      record {
+        rest = first.0;
+        paired = first.1;
+        numbers = numbers_behind first.0 first.2 (Ok v) e ∙ one_more (numbers_in first.0) pairs (name, v);
+      }
 
   pair_fault : (why : LineFault) → number_in value ≡ Err why → numbers_in all ≡ Err why
   pair_fault why e =
@@ -66,7 +76,8 @@ two_first (first ∷ second ∷ others) name value l n v =
     ap (λ (x : List ℕ). x ∷ second ∷ others) (sym n) ∙ ap (λ (y : List ℕ). name ∷ y ∷ others) (sym v)
     ∙ ap (λ (rest : List (List ℕ)). name ∷ value ∷ rest) (sym (take_all _ others (omega arith)))
 
-module _ (words : List (List ℕ)) (all : Words) (pairs : Pairs) (left : PairsLeft all words pairs) (name value : List ℕ) (two : 2 ≤ length words) (n : name ≡ slice_index_or words 0 name) (v : value ≡ slice_index_or words 1 value) where
+module _ (words : List (List ℕ)) (all : Words) (pairs : Pairs) (left : PairsLeft all words pairs) (name value : List ℕ)
+    (two : 2 ≤ length words) (n : name ≡ slice_index_or words 0 name) (v : value ≡ slice_index_or words 1 value) where
   two_left : PairsLeft all (name ∷ value ∷ take (length words - 2) (drop 2 words)) pairs
   two_left = subst (λ (ws : List (List ℕ)). PairsLeft all ws pairs) (two_first words name value two n v) left
 
@@ -81,8 +92,10 @@ module _ (words : List (List ℕ)) (all : Words) (pairs : Pairs) (left : PairsLe
 
 -- a pair more was read
 pub one_read : (whole words : List (List ℕ)) (pairs new : Pairs) (name value row : List ℕ) (v : ℚ) →
-    IfSome (two_by_two whole) (λ all. PairsLeft all words pairs) → 2 ≤ length words → name ≡ slice_index_or words 0 name → value ≡ slice_index_or words 1 value →
-    number_in value ≡ Ok v → row ≡ name → new ≡ pairs ++ (row, v) ∷ [] → IfSome (two_by_two whole) (λ all. PairsLeft all (take (length words - 2) (drop 2 words)) new)
+    IfSome (two_by_two whole) (λ all. PairsLeft all words pairs) → 2 ≤ length words →
+    name ≡ slice_index_or words 0 name → value ≡ slice_index_or words 1 value →
+    number_in value ≡ Ok v → row ≡ name → new ≡ pairs ++ (row, v) ∷ [] →
+    IfSome (two_by_two whole) (λ all. PairsLeft all (take (length words - 2) (drop 2 words)) new)
 one_read whole words pairs new name value row v left two n w e same is =
     IfSome_then (two_by_two whole) left
     (λ all here.

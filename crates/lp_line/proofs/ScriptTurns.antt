@@ -1,5 +1,6 @@
 -- The lines of a script, by what is held of a body.
-use Rattle.std.proofs.Common.{◌≡◌, ◌≢◌, ℕ, ◌+◌, ◌≤◌, List, [], ◌∷◌, ◌++◌, Option, Some, None, Ok, Err, Bool, true, false, cond, arith, ap, sym, ◌∙◌, append_assoc, refl, subst}
+use Rattle.std.proofs.Common.{◌≡◌, ◌≢◌, ℕ, ◌+◌, ◌≤◌, List, [], ◌∷◌, ◌++◌, Option, Some, None, Ok, Err, Bool, true}
+use Rattle.std.proofs.Common.{false, cond, arith, ap, sym, ◌∙◌, append_assoc, refl, subst}
 use Rattle.spec_text.specs.declared.line.Line.{Line}
 use Rattle.spec_text.specs.declared.line.Line.TheVariants as line
 use Rattle.spec_mps.specs.declared.style.Style.{Style}
@@ -17,7 +18,8 @@ use Rattle.spec_server.specs.Command.{ExactCommand}
 use Rattle.spec_server.specs.Machine.{ExactAsk}
 use Rattle.spec_server.specs.Said.{Step, On, Says, follow, said_by}
 use Rattle.spec_server.specs.SolveOut.{TextSaid, behind_line, text_step}
-use Rattle.spec_server.specs.Script.{Pending, Between, Text, Certificate, ends_text, ends_certificate, ask_of_verdict, ask_of_judgement}
+use Rattle.spec_server.specs.Script.{Pending, Between, Text, Certificate, ends_text, ends_certificate, ask_of_verdict}
+use Rattle.spec_server.specs.Script.{ask_of_judgement}
 use Rattle.spec_server.specs.Script.{begun, begun_by, asks_of_command, asks_by, pending_after_line, asks_of_line}
 use Rattle.mps_read.specs.TextRead.{TextRead}
 use Rattle.lp_check.specs.CertificateRead as certificate_reading
@@ -31,7 +33,8 @@ use Rattle.lp_line.specs.declared.taking.Taken.{Taken}
 use Rattle.lp_line.specs.declared.taking.Taken.TheVariants as taken
 use Rattle.lp_line.specs.Body.{BodySays, PassesTo}
 use Rattle.lp_line.specs.Hearing.{LeadsOn, Leads}
-use Rattle.lp_line.specs.Script.{behind_asks, script_step, TextFits, CertificateFits, Fits, ScriptSays, lines_in, Begins, IsEndOf, verdict_said, judgement_said}
+use Rattle.lp_line.specs.Script.{behind_asks, script_step, TextFits, CertificateFits, Fits, ScriptSays, lines_in}
+use Rattle.lp_line.specs.Script.{Begins, IsEndOf, verdict_said, judgement_said}
 use Rattle.lp_line.specs.Stages.{TextSays, CertificateSaid, certificate_step, CertificateSays}
 use Rattle.lp_line.specs.Stages as stages
 
@@ -45,14 +48,17 @@ unfolding text.step
 text_cut form s = refl
 
 text_judged : (form : Style) (s : State) (n : ℕ) (lines : List (Line (List ℕ))) →
-    said_by (text_step form) (record { state = s; lines = n }) (lines ++ line.End ∷ []) ≡ Some (verdict_said (text.judge form s (n + 1) lines))
+    said_by (text_step form) (record { state = s; lines = n }) (lines ++ line.End ∷ []) ≡
+    Some (verdict_said (text.judge form s (n + 1) lines))
 unfolding text_step
 text_judged form s n [] =
-    ap (λ (o : text.Outcome). follow (behind_line (n + 1) o) (λ next. said_by (text_step form) next [])) (text_cut form s)
+    ap (λ (o : text.Outcome). follow (behind_line (n + 1) o) (λ next. said_by (text_step form) next []))
+    (text_cut form s)
 text_judged form s n (here ∷ lines) = by (text.step form s here) (λ t. text_judged form t (n + 1) lines)
   where
     by : (o : text.Outcome)
-        → ((t : State) → said_by (text_step form) (record { state = t; lines = n + 1 }) (lines ++ line.End ∷ []) ≡ Some (verdict_said (text.judge form t (n + 1 + 1) lines)))
+        → ((t : State) → said_by (text_step form) (record { state = t; lines = n + 1 }) (lines ++ line.End ∷ []) ≡
+        Some (verdict_said (text.judge form t (n + 1 + 1) lines)))
         → follow (behind_line (n + 1) o) (λ next. said_by (text_step form) next (lines ++ line.End ∷ []))
         ≡ Some (verdict_said (text.settled (n + 1) (λ t. text.judge form t (n + 1 + 1) lines) o))
     by (Ok (text.More t)) rest = rest t
@@ -64,14 +70,19 @@ unfolding certificate.step
 certificate_cut raw = refl
 
 certificate_judged : (raw : Option certificate.ExactRaw) (n : ℕ) (lines : List (Line (List ℕ))) →
-    said_by certificate_step (record { raw = raw; lines = n }) (lines ++ line.End ∷ []) ≡ Some (judgement_said (certificate.judge raw (n + 1) lines))
+    said_by certificate_step (record { raw = raw; lines = n }) (lines ++ line.End ∷ []) ≡
+    Some (judgement_said (certificate.judge raw (n + 1) lines))
 unfolding certificate_step
 certificate_judged raw n [] =
-    ap (λ (o : certificate.Outcome). follow (stages.behind_line (n + 1) o) (λ next. said_by certificate_step next [])) (certificate_cut raw)
-certificate_judged raw n (here ∷ lines) = by (certificate.step raw here) (λ t. certificate_judged (Some t) (n + 1) lines)
+    ap (λ (o : certificate.Outcome). follow (stages.behind_line (n + 1) o) (λ next. said_by certificate_step next []))
+    (certificate_cut raw)
+certificate_judged raw n (here ∷ lines) =
+    by (certificate.step raw here) (λ t. certificate_judged (Some t) (n + 1) lines)
   where
     by : (o : certificate.Outcome)
-        → ((t : certificate.ExactRaw) → said_by certificate_step (record { raw = Some t; lines = n + 1 }) (lines ++ line.End ∷ []) ≡ Some (judgement_said (certificate.judge (Some t) (n + 1 + 1) lines)))
+        → ((t : certificate.ExactRaw) →
+        said_by certificate_step (record { raw = Some t; lines = n + 1 }) (lines ++ line.End ∷ []) ≡
+        Some (judgement_said (certificate.judge (Some t) (n + 1 + 1) lines)))
         → follow (stages.behind_line (n + 1) o) (λ next. said_by certificate_step next (lines ++ line.End ∷ []))
         ≡ Some (judgement_said (certificate.settled (n + 1) (λ t. certificate.judge (Some t) (n + 1 + 1) lines) o))
     by (progress.More t) rest = rest t
@@ -90,50 +101,61 @@ pub text_begins : (form : Style) (reader : TextRead) → reader ≡ record { sty
     TextFits form [] (body.Reading reader)
 text_begins form reader is = subst (λ (r : TextRead). TextFits form [] (body.Reading r)) (sym is) (λ more answer h. h)
 
-text_passes : (form : Style) (lines : List (Line (List ℕ))) (held next : Body TextRead TextSaid) (here : Line (List ℕ)) →
+text_passes : (form : Style) (lines : List (Line (List ℕ))) (held next : Body TextRead TextSaid)
+    (here : Line (List ℕ)) →
     TextFits form lines held → PassesTo TextSays lines_read held here next → TextFits form (lines ++ here ∷ []) next
 text_passes form lines held next here fits p = λ more answer h.
     ap (said_by (text_step form) (record { state = start; lines = 0 })) (append_assoc lines (here ∷ []) more)
     ∙ fits (here ∷ more) answer (p.behind more answer h)
 
 text_closes : (form : Style) (lines : List (Line (List ℕ))) (held : Body TextRead TextSaid) (what : TextSaid) →
-    TextFits form lines held → BodySays TextSays held (line.End ∷ []) (Some what) → verdict_said (text.judge form start 1 lines) ≡ what
+    TextFits form lines held → BodySays TextSays held (line.End ∷ []) (Some what) →
+    verdict_said (text.judge form start 1 lines) ≡ what
 text_closes form lines held what fits h =
     same_said _ what (sym (text_judged form start 0 lines) ∙ fits (line.End ∷ []) (Some what) h)
 
 pub certificate_begins : (reader : certificate_reading.CertificateRead) → reader ≡ record { raw = None; lines = 0 } →
     CertificateFits [] (body.Reading reader)
 certificate_begins reader is =
-    subst (λ (r : certificate_reading.CertificateRead). CertificateFits [] (body.Reading r)) (sym is) (λ more answer h. h)
+    subst (λ (r : certificate_reading.CertificateRead). CertificateFits [] (body.Reading r)) (sym is)
+    (λ more answer h. h)
 
-certificate_passes : (lines : List (Line (List ℕ))) (held next : Body certificate_reading.CertificateRead CertificateSaid) (here : Line (List ℕ)) →
-    CertificateFits lines held → PassesTo CertificateSays lines_of_certificate held here next → CertificateFits (lines ++ here ∷ []) next
+certificate_passes : (lines : List (Line (List ℕ)))
+    (held next : Body certificate_reading.CertificateRead CertificateSaid) (here : Line (List ℕ)) →
+    CertificateFits lines held → PassesTo CertificateSays lines_of_certificate held here next →
+    CertificateFits (lines ++ here ∷ []) next
 certificate_passes lines held next here fits p = λ more answer h.
     ap (said_by certificate_step (record { raw = None; lines = 0 })) (append_assoc lines (here ∷ []) more)
     ∙ fits (here ∷ more) answer (p.behind more answer h)
 
-certificate_closes : (lines : List (Line (List ℕ))) (held : Body certificate_reading.CertificateRead CertificateSaid) (what : CertificateSaid) →
-    CertificateFits lines held → BodySays CertificateSays held (line.End ∷ []) (Some what) → judgement_said (certificate.judge None 1 lines) ≡ what
+certificate_closes : (lines : List (Line (List ℕ))) (held : Body certificate_reading.CertificateRead CertificateSaid)
+    (what : CertificateSaid) →
+    CertificateFits lines held → BodySays CertificateSays held (line.End ∷ []) (Some what) →
+    judgement_said (certificate.judge None 1 lines) ≡ what
 certificate_closes lines held what fits h =
     same_said _ what (sym (certificate_judged None 0 lines) ∙ fits (line.End ∷ []) (Some what) h)
 
 -- ---- steps
 
 step_given : (addressing : Addressing) (pending : Pending) (here : Line (List ℕ)) → here ≢ line.End →
-    script_step addressing pending here ≡ behind_asks (asks_of_line addressing pending here) (pending_after_line addressing pending here)
+    script_step addressing pending here ≡
+    behind_asks (asks_of_line addressing pending here) (pending_after_line addressing pending here)
 unfolding script_step
 step_given addressing pending (line.Text bytes) no_end = refl
 step_given addressing pending (line.Long len) no_end = refl
 step_given addressing pending line.End no_end = absurd (no_end refl)
 step_given addressing pending line.Over no_end = refl
 
-pub behind_step : (addressing : Addressing) (pending : Pending) (here : Line (List ℕ)) (more : List (Line (List ℕ))) (asks : List (Asked ExactAsk)) →
+pub behind_step : (addressing : Addressing) (pending : Pending) (here : Line (List ℕ)) (more : List (Line (List ℕ)))
+    (asks : List (Asked ExactAsk)) →
     here ≢ line.End → asks_of_line addressing pending here ≡ asks →
     said_by (script_step addressing) pending (here ∷ more)
-    ≡ follow (behind_asks asks (pending_after_line addressing pending here)) (λ next. said_by (script_step addressing) next more)
+    ≡ follow (behind_asks asks (pending_after_line addressing pending here))
+    (λ next. said_by (script_step addressing) next more)
 behind_step addressing pending here more asks no_end e =
     ap (λ (st : Step Pending Taken). follow st (λ next. said_by (script_step addressing) next more))
-    (step_given addressing pending here no_end ∙ ap (λ (zs : List (Asked ExactAsk)). behind_asks zs (pending_after_line addressing pending here)) e)
+    (step_given addressing pending here no_end
+    ∙ ap (λ (zs : List (Asked ExactAsk)). behind_asks zs (pending_after_line addressing pending here)) e)
 
 -- a line completes no ask, and leads to the next stage
 record GoesTo (from : ScriptStage) (here : Line (List ℕ)) (next : ScriptStage) : Type 0 where
@@ -207,28 +229,36 @@ fit_text P own held h addressing (Certificate session lines) f = absurd f
 
 pub text_goes_on : (own : ℕ) (held next : Body TextRead TextSaid) (here : Line (List ℕ)) → here ≢ line.End →
     false ≡ ends_text here →
-    PassesTo TextSays lines_read held here next → Leads ScriptSays lines_in (stage.Text own held) here (step.On (stage.Text own next))
+    PassesTo TextSays lines_read held here next →
+    Leads ScriptSays lines_in (stage.Text own held) here (step.On (stage.Text own next))
 text_goes_on own held next here no_end e p = leads_on (stage.Text own held) (stage.Text own next) here no_end
     (record {
       no_asks = fit_text (λ a p. asks_of_line a p here ≡ []) own held
           (λ addressing form lines fits.
-          ap (λ (t : Bool). cond t (record { session = own; ask = ask_of_verdict (text.judge form start 1 (lines ++ here ∷ [])) } ∷ []) []) (sym e));
+          ap (λ (t : Bool). cond t
+          (record { session = own; ask = ask_of_verdict (text.judge form start 1 (lines ++ here ∷ [])) } ∷ []) [])
+          (sym e));
       fits = fit_text (λ a p. Fits a (pending_after_line a p here) (stage.Text own next)) own held
           (λ addressing form lines fits.
-          subst (λ (t : Bool). Fits addressing (cond t Between (Text own form (lines ++ here ∷ []))) (stage.Text own next)) e
+          subst (λ (t : Bool). Fits addressing (cond t Between (Text own form (lines ++ here ∷ [])))
+          (stage.Text own next)) e
           (refl, text_passes form lines held next here fits p));
     })
     (omega (arith, p.counts))
 
-pub text_ends : (own : ℕ) (held next : Body TextRead TextSaid) (here : Line (List ℕ)) (said : TextSaid) (ask : ExactAsk) (what : Taken) → here ≢ line.End →
-    true ≡ ends_text here → PassesTo TextSays lines_read held here next → BodySays TextSays next (line.End ∷ []) (Some said) →
+pub text_ends : (own : ℕ) (held next : Body TextRead TextSaid) (here : Line (List ℕ)) (said : TextSaid) (ask : ExactAsk)
+    (what : Taken) → here ≢ line.End →
+    true ≡ ends_text here → PassesTo TextSays lines_read held here next →
+    BodySays TextSays next (line.End ∷ []) (Some said) →
     ((verdict : text.Verdict) → verdict_said verdict ≡ said → ask_of_verdict verdict ≡ ask) →
-    what ≡ taken.Ask (record { session = own; ask = ask }) → Leads ScriptSays lines_in (stage.Text own held) here (step.Says what)
+    what ≡ taken.Ask (record { session = own; ask = ask }) →
+    Leads ScriptSays lines_in (stage.Text own held) here (step.Says what)
 text_ends own held next here said ask what no_end e p closed asks is =
     leads_to_ask (stage.Text own held) here (record { session = own; ask = ask }) what no_end
     (fit_text (λ a p. asks_of_line a p here ≡ record { session = own; ask = ask } ∷ []) own held
     (λ addressing form lines fits.
-    ap (λ (t : Bool). cond t (record { session = own; ask = ask_of_verdict (text.judge form start 1 (lines ++ here ∷ [])) } ∷ []) []) (sym e)
+    ap (λ (t : Bool). cond t
+    (record { session = own; ask = ask_of_verdict (text.judge form start 1 (lines ++ here ∷ [])) } ∷ []) []) (sym e)
     ∙ ap (λ (a : ExactAsk). record { session = own; ask = a } ∷ [])
     (asks _ (text_closes form (lines ++ here ∷ []) next said (text_passes form lines held next here fits p) closed))))
     is
@@ -246,34 +276,46 @@ fit_certificate P own held h addressing (Text session form lines) f = absurd f
 fit_certificate P own held h addressing (Certificate session lines) f =
     subst (λ (s : ℕ). P addressing (Certificate s lines)) f.0 (h addressing lines f.1)
 
-pub certificate_goes_on : (own : ℕ) (held next : Body certificate_reading.CertificateRead CertificateSaid) (here : Line (List ℕ)) → here ≢ line.End →
+pub certificate_goes_on : (own : ℕ) (held next : Body certificate_reading.CertificateRead CertificateSaid)
+    (here : Line (List ℕ)) → here ≢ line.End →
     false ≡ ends_certificate here → PassesTo CertificateSays lines_of_certificate held here next →
     Leads ScriptSays lines_in (stage.Certificate own held) here (step.On (stage.Certificate own next))
-certificate_goes_on own held next here no_end e p = leads_on (stage.Certificate own held) (stage.Certificate own next) here no_end
+certificate_goes_on own held next here no_end e p =
+    leads_on (stage.Certificate own held) (stage.Certificate own next) here no_end
     (record {
       no_asks = fit_certificate (λ a p. asks_of_line a p here ≡ []) own held
           (λ addressing lines fits.
-          ap (λ (t : Bool). cond t (record { session = own; ask = ask_of_judgement (certificate.judge None 1 (lines ++ here ∷ [])) } ∷ []) []) (sym e));
+          ap (λ (t : Bool). cond t
+          (record {
+            session = own;
+            ask = ask_of_judgement (certificate.judge None 1 (lines ++ here ∷ []));
+          } ∷ []) []) (sym e));
       fits = fit_certificate (λ a p. Fits a (pending_after_line a p here) (stage.Certificate own next)) own held
           (λ addressing lines fits.
-          subst (λ (t : Bool). Fits addressing (cond t Between (Certificate own (lines ++ here ∷ []))) (stage.Certificate own next)) e
+          subst (λ (t : Bool). Fits addressing (cond t Between (Certificate own (lines ++ here ∷ [])))
+          (stage.Certificate own next)) e
           (refl, certificate_passes lines held next here fits p));
     })
     (omega (arith, p.counts))
 
-pub certificate_ends : (own : ℕ) (held next : Body certificate_reading.CertificateRead CertificateSaid) (here : Line (List ℕ)) (said : CertificateSaid) (ask : ExactAsk)
+pub certificate_ends : (own : ℕ) (held next : Body certificate_reading.CertificateRead CertificateSaid)
+    (here : Line (List ℕ)) (said : CertificateSaid) (ask : ExactAsk)
     (what : Taken) → here ≢ line.End → true ≡ ends_certificate here →
     PassesTo CertificateSays lines_of_certificate held here next →
     BodySays CertificateSays next (line.End ∷ []) (Some said) →
     ((judgement : certificate.Judgement) → judgement_said judgement ≡ said → ask_of_judgement judgement ≡ ask) →
-    what ≡ taken.Ask (record { session = own; ask = ask }) → Leads ScriptSays lines_in (stage.Certificate own held) here (step.Says what)
+    what ≡ taken.Ask (record { session = own; ask = ask }) →
+    Leads ScriptSays lines_in (stage.Certificate own held) here (step.Says what)
 certificate_ends own held next here said ask what no_end e p closed asks is =
     leads_to_ask (stage.Certificate own held) here (record { session = own; ask = ask }) what no_end
     (fit_certificate (λ a p. asks_of_line a p here ≡ record { session = own; ask = ask } ∷ []) own held
     (λ addressing lines fits.
-    ap (λ (t : Bool). cond t (record { session = own; ask = ask_of_judgement (certificate.judge None 1 (lines ++ here ∷ [])) } ∷ []) []) (sym e)
+    ap (λ (t : Bool). cond t
+    (record { session = own; ask = ask_of_judgement (certificate.judge None 1 (lines ++ here ∷ [])) } ∷ []) [])
+    (sym e)
     ∙ ap (λ (a : ExactAsk). record { session = own; ask = a } ∷ [])
-    (asks _ (certificate_closes (lines ++ here ∷ []) next said (certificate_passes lines held next here fits p) closed))))
+    (asks _ (certificate_closes (lines ++ here ∷ []) next said
+    (certificate_passes lines held next here fits p) closed))))
     is
 
 -- ---- the end of the input

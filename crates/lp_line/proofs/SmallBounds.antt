@@ -2,7 +2,8 @@
 use Rattle.std.proofs.Common.{◌≡◌, ℕ, List, Ok, refl, ap, ◌∙◌}
 use Rattle.spec_exact.specs.Fraction.{ℚ, abs_ℚ, ◌<ℚ◌}
 use Rattle.spec_mps.specs.declared.number.BoundValue.TheVariants as value
-use Rattle.spec_mps.specs.BoundText.{BoundReading, Finite, PlusInf, MinusInf, Shape, Wide, infinite, bound_of, bound_answer}
+use Rattle.spec_mps.specs.BoundText.{BoundReading, Finite, PlusInf, MinusInf, Shape, Wide, infinite, bound_of}
+use Rattle.spec_mps.specs.BoundText.{bound_answer}
 use Rattle.spec_mps.proofs.BoundLemmas.{bound_is_within, abs_from_within}
 use Rattle.spec_server.specs.EditCommand.{as_read}
 

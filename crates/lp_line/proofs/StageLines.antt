@@ -31,7 +31,8 @@ unfolding text.step
 no_text_behind_end style state next e = cc
 
 at_same : (style form : Style) (state : State) (n m : ℕ) (more : List (Line (List ℕ))) → style ≡ form → n ≡ m →
-    said_by (text_step style) (record { state = state; lines = n }) more ≡ said_by (text_step form) (record { state = state; lines = m }) more
+    said_by (text_step style) (record { state = state; lines = n }) more ≡
+    said_by (text_step form) (record { state = state; lines = m }) more
 at_same style form state n m more e d =
     ap (λ (s : Style). said_by (text_step s) (record { state = state; lines = n }) more) e
     ∙ ap (λ (k : ℕ). said_by (text_step form) (record { state = state; lines = k }) more) d
@@ -42,10 +43,12 @@ by_outcome : (old : TextRead) (line : Line (List ℕ)) (more : List (Line (List 
     ≡ follow (behind_line (old.lines + 1) outcome) (λ next. said_by (text_step old.style) next more)
 unfolding text_step
 by_outcome old line more outcome e =
-    ap (λ (o : text.Outcome). follow (behind_line (old.lines + 1) o) (λ next. said_by (text_step old.style) next more)) e
+    ap (λ (o : text.Outcome). follow (behind_line (old.lines + 1) o) (λ next. said_by (text_step old.style) next more))
+    e
 
 pub text_goes_on : (old new : TextRead) (line : Line (List ℕ)) →
-    feeds.GoesOn (text.step old.style old.state line) old.style (old.lines + 1) new → Leads TextSays lines_read old line (On new)
+    feeds.GoesOn (text.step old.style old.state line) old.style (old.lines + 1) new →
+    Leads TextSays lines_read old line (On new)
 text_goes_on old new line g = record {
   behind = λ more answer h.
       by_outcome old line more (Ok (text.More new.state)) g.state
@@ -60,7 +63,8 @@ pub text_spells : (old : TextRead) (line : Line (List ℕ)) (m : Model) →
 text_spells old line m e = λ more. by_outcome old line more (Ok (text.Done m)) e
 
 pub text_is_wrong : (old : TextRead) (line : Line (List ℕ)) (fault : MpsFault) →
-    feeds.IsRefused (text.step old.style old.state line) (old.lines + 1) fault → Leads TextSays lines_read old line (Says (Err fault))
+    feeds.IsRefused (text.step old.style old.state line) (old.lines + 1) fault →
+    Leads TextSays lines_read old line (Says (Err fault))
 text_is_wrong old line fault r = λ more.
     by_outcome old line more (Err fault.code) r.code
     ∙ ap (λ (n : ℕ). Some (Err (record { line = n; code = fault.code }))) (sym r.line)
@@ -75,15 +79,19 @@ no_certificate_behind_end : (raw : Option certificate.ExactRaw) (next : certific
 unfolding certificate.step
 no_certificate_behind_end raw next e = cc
 
-by_judgement : (old : certificate_reading.CertificateRead) (line : Line (List ℕ)) (more : List (Line (List ℕ))) (outcome : certificate.Outcome) →
+by_judgement : (old : certificate_reading.CertificateRead) (line : Line (List ℕ)) (more : List (Line (List ℕ)))
+    (outcome : certificate.Outcome) →
     certificate.step old.raw line ≡ outcome →
-    said_by certificate_step old (line ∷ more) ≡ follow (stages.behind_line (old.lines + 1) outcome) (λ next. said_by certificate_step next more)
+    said_by certificate_step old (line ∷ more) ≡
+    follow (stages.behind_line (old.lines + 1) outcome) (λ next. said_by certificate_step next more)
 unfolding certificate_step
 by_judgement old line more outcome e =
-    ap (λ (o : certificate.Outcome). follow (stages.behind_line (old.lines + 1) o) (λ next. said_by certificate_step next more)) e
+    ap (λ (o : certificate.Outcome). follow (stages.behind_line (old.lines + 1) o)
+    (λ next. said_by certificate_step next more)) e
 
 pub certificate_goes_on : (old new : certificate_reading.CertificateRead) (line : Line (List ℕ)) →
-    certificate_feeds.GoesOn (certificate.step old.raw line) (old.lines + 1) new → Leads CertificateSays lines_of_certificate old line (On new)
+    certificate_feeds.GoesOn (certificate.step old.raw line) (old.lines + 1) new →
+    Leads CertificateSays lines_of_certificate old line (On new)
 certificate_goes_on old new line g = record {
   behind = λ more answer h.
       by_judgement old line more (progress.More g.raw) g.state
@@ -92,11 +100,14 @@ certificate_goes_on old new line g = record {
   no_end = λ h. no_certificate_behind_end old.raw g.raw (ap (certificate.step old.raw) (sym h) ∙ g.state);
 }
 
-pub certificate_spells : (old : certificate_reading.CertificateRead) (line : Line (List ℕ)) (raw : certificate.ExactRaw) →
-    certificate.step old.raw line ≡ progress.Done raw → Leads CertificateSays lines_of_certificate old line (Says (Ok raw))
+pub certificate_spells : (old : certificate_reading.CertificateRead) (line : Line (List ℕ))
+    (raw : certificate.ExactRaw) →
+    certificate.step old.raw line ≡ progress.Done raw →
+    Leads CertificateSays lines_of_certificate old line (Says (Ok raw))
 certificate_spells old line raw e = λ more. by_judgement old line more (progress.Done raw) e
 
 pub certificate_is_unfit : (old : certificate_reading.CertificateRead) (line : Line (List ℕ)) (n : ℕ) →
-    certificate_feeds.IsUnfit (certificate.step old.raw line) (old.lines + 1) n → Leads CertificateSays lines_of_certificate old line (Says (Err n))
+    certificate_feeds.IsUnfit (certificate.step old.raw line) (old.lines + 1) n →
+    Leads CertificateSays lines_of_certificate old line (Says (Err n))
 certificate_is_unfit old line n u = λ more.
     by_judgement old line more progress.Unfit u.state ∙ ap (λ (k : ℕ). Some (Err k)) (sym u.number)

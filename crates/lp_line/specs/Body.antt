@@ -16,7 +16,8 @@ count_in count (Reading stage) = count stage
 count_in count (Read what) = 0
 
 -- after the line lines say what they say after the next body
-pub record PassesTo {T R : Type 0} (Say : T → List (Line (List ℕ)) → Option R → Type 0) (count : T → ℕ) (body : Body T R) (here : Line (List ℕ)) (next : Body T R) : Type 0 where
+pub record PassesTo {T R : Type 0} (Say : T → List (Line (List ℕ)) → Option R → Type 0) (count : T → ℕ)
+    (body : Body T R) (here : Line (List ℕ)) (next : Body T R) : Type 0 where
   pub behind : (more : List (Line (List ℕ))) (answer : Option R) → BodySays Say next more answer →
       BodySays Say body (here ∷ more) answer
   pub counts : count_in count next ≤ count_in count body + 1

@@ -2,7 +2,8 @@
 use Rattle.std.specs.Prelude.{ℕ, Option, List, [], ◌∷◌, codes}
 use Rattle.spec_mps.specs.Shapes.{look_up}
 use Rattle.spec_server.specs.declared.command.EditWord.{EditWord}
-use Rattle.spec_server.specs.declared.command.EditWord.TheVariants.{AddRow, DelRow, AddCol, DelCol, SetCost, SetCoef, SetRhs, SetRange, SetBound, Sense}
+use Rattle.spec_server.specs.declared.command.EditWord.TheVariants.{AddRow, DelRow, AddCol, DelCol, SetCost, SetCoef}
+use Rattle.spec_server.specs.declared.command.EditWord.TheVariants.{SetRhs, SetRange, SetBound, Sense}
 
 abbrev pub edit_words : List (List ℕ × EditWord)
 edit_words =

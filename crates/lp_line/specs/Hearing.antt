@@ -1,5 +1,6 @@
 -- Lines that are taken one by one, up to the one at which something is said.
-use Rattle.std.specs.Prelude.{ℕ, ◌≢◌, ◌≤◌, ◌<◌, ◌+◌, ◌^◌, ◌⊎◌, List, [], ◌∷◌, ◌++◌, All, Option, Some, None, Result, Ok, Err}
+use Rattle.std.specs.Prelude.{ℕ, ◌≢◌, ◌≤◌, ◌<◌, ◌+◌, ◌^◌, ◌⊎◌, List, [], ◌∷◌, ◌++◌, All, Option, Some, None, Result, Ok}
+use Rattle.std.specs.Prelude.{Err}
 use Rattle.spec_text.specs.declared.line.Line.{Line}
 use Rattle.spec_text.specs.declared.line.Line.TheVariants as line
 use Rattle.lp_base.specs.LinesState.{LinesState}
@@ -13,9 +14,10 @@ use Rattle.lp_line.specs.declared.hearing.Heard.TheVariants as heard
 
 -- ---- one line
 
--- The next stage is one line further, and after the line lines say what they say after the next stage. No stage follows the end of
--- the input.
-pub record LeadsOn {T R : Type 0} (Say : T → List (Line (List ℕ)) → Option R → Type 0) (count : T → ℕ) (stage : T) (here : Line (List ℕ)) (next : T) : Type 0 where
+-- The next stage is one line further, and after the line lines say what they say after the next stage. No stage follows
+-- the end of the input.
+pub record LeadsOn {T R : Type 0} (Say : T → List (Line (List ℕ)) → Option R → Type 0) (count : T → ℕ) (stage : T)
+    (here : Line (List ℕ)) (next : T) : Type 0 where
   pub behind : (more : List (Line (List ℕ))) (answer : Option R) → Say next more answer → Say stage (here ∷ more) answer
   pub counts : count next ≤ count stage + 1
   pub no_end : here ≢ line.End
@@ -36,7 +38,8 @@ abbrev pub AreGiven : List (Line (List ℕ)) → Type 0
 AreGiven lines = All IsGiven lines
 
 -- these lines were read, and the last of them is the first at which something is said
-pub record HearsAt {R : Type 0} (Say : List (Line (List ℕ)) → Option R → Type 0) (before after : Option (List ℕ)) (old new : LinesState) (what : R) : Type 0 where
+pub record HearsAt {R : Type 0} (Say : List (Line (List ℕ)) → Option R → Type 0) (before after : Option (List ℕ))
+    (old new : LinesState) (what : R) : Type 0 where
   pub earlier : List (Line (List ℕ))
   pub last : Line (List ℕ)
   pub reads : ReadsLines before after old new (earlier ++ last ∷ [])
@@ -48,14 +51,16 @@ pub record HearsAt {R : Type 0} (Say : List (Line (List ℕ)) → Option R → T
   pub bound : new.given ≤ 2 ^ 26
 
 -- these lines were read, which say nothing, and then this came
-pub record HearsUntil {R : Type 0} (Say : List (Line (List ℕ)) → Option R → Type 0) (before after : Option (List ℕ)) (old : LinesState) (result : Result (Line (List ℕ)) LineStop) : Type 0 where
+pub record HearsUntil {R : Type 0} (Say : List (Line (List ℕ)) → Option R → Type 0) (before after : Option (List ℕ))
+    (old : LinesState) (result : Result (Line (List ℕ)) LineStop) : Type 0 where
   pub passed : List (Line (List ℕ))
   pub reads : ReadsUntil before after old passed result
   pub given : AreGiven passed
   pub silent : Say passed None
 
 -- the input ended after them, and this is said at its end
-pub record HearsAtEnd {R : Type 0} (Say : List (Line (List ℕ)) → Option R → Type 0) (before after : Option (List ℕ)) (old : LinesState) (what : R) : Type 0 where
+pub record HearsAtEnd {R : Type 0} (Say : List (Line (List ℕ)) → Option R → Type 0) (before after : Option (List ℕ))
+    (old : LinesState) (what : R) : Type 0 where
   pub until : HearsUntil Say before after old (Ok line.End)
   pub says : Say (until.passed ++ line.End ∷ []) (Some what)
 

@@ -12,7 +12,8 @@ use Rattle.spec_server.specs.Machine.{ExactAsk}
 use Rattle.spec_server.specs.Command.{ExactCommand}
 use Rattle.spec_server.specs.Said.{Step, On, Says, said_by}
 use Rattle.spec_server.specs.SolveOut.{TextSaid, text_step}
-use Rattle.spec_server.specs.Script.{Pending, Between, Text, Certificate, Ending, Ended, Cut, Over, ending_by, begun, asks_of_command, pending_after_line, asks_of_line}
+use Rattle.spec_server.specs.Script.{Pending, Between, Text, Certificate, Ending, Ended, Cut, Over, ending_by, begun}
+use Rattle.spec_server.specs.Script.{asks_of_command, pending_after_line, asks_of_line}
 use Rattle.lp_check.specs.CertificateRead as certificate_reading
 use Rattle.mps_read.specs.TextRead as text_reading
 use Rattle.lp_line.specs.declared.body.Body.{Body}
@@ -39,9 +40,11 @@ behind_asks (asked ∷ more) next = Says (taken.Ask asked)
 
 unfoldable pub script_step : Addressing → Pending → Line (List ℕ) → Step Pending Taken
 script_step addressing pending (line.Text bytes) =
-    behind_asks (asks_of_line addressing pending (line.Text bytes)) (pending_after_line addressing pending (line.Text bytes))
+    behind_asks (asks_of_line addressing pending (line.Text bytes))
+    (pending_after_line addressing pending (line.Text bytes))
 script_step addressing pending (line.Long len) =
-    behind_asks (asks_of_line addressing pending (line.Long len)) (pending_after_line addressing pending (line.Long len))
+    behind_asks (asks_of_line addressing pending (line.Long len))
+    (pending_after_line addressing pending (line.Long len))
 script_step addressing pending line.End = Says (taken_at (ending_by pending))
 script_step addressing pending line.Over =
     behind_asks (asks_of_line addressing pending line.Over) (pending_after_line addressing pending line.Over)

@@ -15,7 +15,8 @@ use Rattle.lp_line.specs.declared.taking.Taken.{Taken}
 use Rattle.lp_line.specs.declared.taking.Taken.TheVariants as taken
 
 -- these lines were read, and the last of them completes this ask, the only one
-pub record TakesAsk (addressing : Addressing) (before after : Option (List ℕ)) (old new : LinesState) (asked : Asked ExactAsk) : Type 0 where
+pub record TakesAsk (addressing : Addressing) (before after : Option (List ℕ)) (old new : LinesState)
+    (asked : Asked ExactAsk) : Type 0 where
   pub passed : List (Line (List ℕ))
   pub reads : ReadsLines before after old new passed
   pub given : AreGiven passed
@@ -28,18 +29,21 @@ pub record TakesAsk (addressing : Addressing) (before after : Option (List ℕ))
   pub numbered : asked.session ≤ 64
 
 -- these lines were read, which complete no ask, and then this came
-pub record TakesNone (addressing : Addressing) (before after : Option (List ℕ)) (old : LinesState) (result : Result (Line (List ℕ)) LineStop) : Type 0 where
+pub record TakesNone (addressing : Addressing) (before after : Option (List ℕ)) (old : LinesState)
+    (result : Result (Line (List ℕ)) LineStop) : Type 0 where
   pub passed : List (Line (List ℕ))
   pub reads : ReadsUntil before after old passed result
   pub given : AreGiven passed
   pub asks : asks_from addressing Between passed ≡ []
 
 -- the input ended after them, and the script so
-pub record TakesEnd (addressing : Addressing) (before after : Option (List ℕ)) (old : LinesState) (ending : Ending) : Type 0 where
+pub record TakesEnd (addressing : Addressing) (before after : Option (List ℕ)) (old : LinesState)
+    (ending : Ending) : Type 0 where
   pub none : TakesNone addressing before after old (Ok line.End)
   pub ends : ending_by (pending_after addressing Between none.passed) ≡ ending
 
-abbrev pub TakesNext : Addressing → Option (List ℕ) → Option (List ℕ) → LinesState → LinesState → Result Taken LineStop →
+abbrev pub TakesNext : Addressing → Option (List ℕ) → Option (List ℕ) → LinesState → LinesState →
+    Result Taken LineStop →
     Type 0
 TakesNext addressing before after old new (Ok (taken.Ask asked)) = TakesAsk addressing before after old new asked
 TakesNext addressing before after old new (Ok taken.End) = TakesEnd addressing before after old Ended

@@ -12,11 +12,13 @@ returns-in_err-value c =
     IfSome_then _ c.loop-left.invariant
     (λ all left.
     gives_fault (numbers_in all) c.from_residual.result p.0 c.in_err-value.field-0.0 p.1 p.2
-    (first_fault _ all _ left _ _ c.in-len2-up.len_at_least c.name-item.is c.value-item.is _ (sym c.in_err-value.ensures)))
+    (first_fault _ all _ left _ _ c.in-len2-up.len_at_least c.name-item.is c.value-item.is _
+    (sym c.in_err-value.ensures)))
 
 pub loop-left-preserved : goal.loop-left-preserved
 loop-left-preserved c =
-    one_read c.args.words.now _ _ _ _ _ _ _ c.loop-left.invariant c.in-len2-up.len_at_least c.name-item.is c.value-item.is
+    one_read c.args.words.now _ _ _ _ _ _ _ c.loop-left.invariant c.in-len2-up.len_at_least c.name-item.is
+    c.value-item.is
     (sym c.in_ok-value.ensures) c.in_ok-name_in.ensures c.in_ok-push.ensures.ok
 
 pub returns : goal.returns

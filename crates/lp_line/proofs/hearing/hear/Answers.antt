@@ -13,35 +13,45 @@ loop-line-init g c = record { turn = started _ c.args.lines.now c.requires; read
 pub returns-in_err-line-clause-heard : goal.returns-in_err-line-clause-heard
 returns-in_err-line-clause-heard g c =
     let p = err_from_is_err_and c.from_residual.result c.from_residual.ensures.1 in
-    hears_as _ _ _ _ _ c.from_residual.result _ (p.1 ∙ ap Err p.2) (stopped c.loop-line.invariant.turn _ _ (g.met.T.Stage.silent c.loop-line.stage) _ c.in_err-line.ensures.line)
+    hears_as _ _ _ _ _ c.from_residual.result _ (p.1 ∙ ap Err p.2)
+    (stopped c.loop-line.invariant.turn _ _ (g.met.T.Stage.silent c.loop-line.stage) _ c.in_err-line.ensures.line)
 
 pub returns-in-Over-clause-heard : goal.returns-in-Over-clause-heard
 returns-in-Over-clause-heard g c =
-    too_long c.loop-line.invariant.turn _ _ (g.met.T.Stage.silent c.loop-line.stage) (gives_as Over c.in-Over.is c.in_ok-line.ensures.line)
+    too_long c.loop-line.invariant.turn _ _ (g.met.T.Stage.silent c.loop-line.stage)
+    (gives_as Over c.in-Over.is c.in_ok-line.ensures.line)
 
 pub returns-in_err-next-in_default-clause-heard : goal.returns-in_err-next-in_default-clause-heard
 returns-in_err-next-in_default-clause-heard g c =
-    let p = err_from_is_err_and c.from_residual-in_err-next-in_default.result c.from_residual-in_err-next-in_default.ensures.1 in
+    let p = err_from_is_err_and c.from_residual-in_err-next-in_default.result
+    c.from_residual-in_err-next-in_default.ensures.1 in
     hears_as _ _ _ _ _ c.from_residual-in_err-next-in_default.result _ (p.1 ∙ ap Err p.2)
     (wants c.loop-line.invariant.turn _ _ c.in_ok-line.line c.in_ok-line.ensures.line c.in_default.not-Over)
 
 pub returns-in-Says-clause-heard : goal.returns-in-Says-clause-heard
 returns-in-Says-clause-heard g c =
-    says_so c.loop-line.invariant.turn _ _ (g.met.T.Stage.silent c.loop-line.stage) c.in_ok-line.line c.in_ok-line.ensures.line c.in_default.not-Over c.in-Says.said
-    (subst (Leads g.T.Stage.says g.T.Stage.count c.loop-line.stage c.in_ok-line.line) c.in-Says.is c.in_ok-next-in_default.ensures)
+    says_so c.loop-line.invariant.turn _ _
+    (g.met.T.Stage.silent c.loop-line.stage) c.in_ok-line.line c.in_ok-line.ensures.line c.in_default.not-Over
+    c.in-Says.said
+    (subst (Leads g.T.Stage.says g.T.Stage.count c.loop-line.stage c.in_ok-line.line) c.in-Says.is
+    c.in_ok-next-in_default.ensures)
 
 pub loop-line-preserved : goal.loop-line-preserved
 loop-line-preserved g c = record {
-  turn = on_line c.loop-line.invariant.turn _ _ c.in_ok-line.line c.in_ok-line.ensures.line c.in_default.not-Over c.in-On.next
-      (subst (Leads g.T.Stage.says g.T.Stage.count c.loop-line.stage c.in_ok-line.line) c.in-On.is c.in_ok-next-in_default.ensures);
+  turn = on_line c.loop-line.invariant.turn _ _ c.in_ok-line.line c.in_ok-line.ensures.line c.in_default.not-Over
+      c.in-On.next
+      (subst (Leads g.T.Stage.says g.T.Stage.count c.loop-line.stage c.in_ok-line.line) c.in-On.is
+      c.in_ok-next-in_default.ensures);
   read = omega (arith, c.next.ensures.later);
   beside = c.next.ensures.beside ∙ c.loop-line.invariant.beside;
 }
 
 pub loop-line-preserved-in-On : goal.loop-line-preserved-in-On
 loop-line-preserved-in-On g c = record {
-  turn = on_line c.loop-line.invariant.turn _ _ c.in_ok-line.line c.in_ok-line.ensures.line c.in_default.not-Over c.in-On.next
-      (subst (Leads g.T.Stage.says g.T.Stage.count c.loop-line.stage c.in_ok-line.line) c.in-On.is c.in_ok-next-in_default.ensures);
+  turn = on_line c.loop-line.invariant.turn _ _ c.in_ok-line.line c.in_ok-line.ensures.line c.in_default.not-Over
+      c.in-On.next
+      (subst (Leads g.T.Stage.says g.T.Stage.count c.loop-line.stage c.in_ok-line.line) c.in-On.is
+      c.in_ok-next-in_default.ensures);
   read = omega (arith, c.next.ensures.later);
   beside = c.next.ensures.beside ∙ c.loop-line.invariant.beside;
 }

@@ -9,6 +9,8 @@ loop-index-preserved c =
     let here = c.loop-index.invariant in
     c.in_ok-push.ensures.ok
     ∙ ap (λ zs. zs ++ 10 ∷ []) (c.in_ok-extend.ensures.ok ∙ ap (λ zs. zs ++ c.at.result.now) here)
-    ∙ ap (λ zs. zs ++ 10 ∷ []) (append_assoc c.args.to.now (ended_lines (take c.loop-index.index c.args.lines.now)) c.at.result.now)
+    ∙ ap (λ zs. zs ++ 10 ∷ [])
+    (append_assoc c.args.to.now (ended_lines (take c.loop-index.index c.args.lines.now)) c.at.result.now)
     ∙ append_assoc c.args.to.now (ended_lines (take c.loop-index.index c.args.lines.now) ++ c.at.result.now) (10 ∷ [])
-    ∙ ap (λ zs. c.args.to.now ++ zs) (append_assoc (ended_lines (take c.loop-index.index c.args.lines.now)) c.at.result.now (10 ∷ []) ∙ sym more)
+    ∙ ap (λ zs. c.args.to.now ++ zs)
+    (append_assoc (ended_lines (take c.loop-index.index c.args.lines.now)) c.at.result.now (10 ∷ []) ∙ sym more)

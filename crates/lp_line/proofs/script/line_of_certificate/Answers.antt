@@ -5,10 +5,12 @@ use Rattle.lp_line.proofs.script.line_of_certificate.Goals as goal
 
 pub returns-then-not-ends : goal.returns-then-not-ends
 returns-then-not-ends c =
-    certificate_goes_on c.args.session c.args.body c.in_ok-body.body c.args.line.now c.requires.given (grind (arith, common_steps)) c.in_ok-body.ensures
+    certificate_goes_on c.args.session c.args.body c.in_ok-body.body c.args.line.now c.requires.given
+    (grind (arith, common_steps)) c.in_ok-body.ensures
 
 pub returns : goal.returns
 returns c =
     leads_as _ c.args.line.now c.asked.result _ c.asked.ensures
-    (certificate_ends c.args.session c.args.body c.in_ok-body.body c.args.line.now c.in_ok-said.said c.ask_of_certificate.result _ c.requires.given
+    (certificate_ends c.args.session c.args.body c.in_ok-body.body c.args.line.now c.in_ok-said.said
+    c.ask_of_certificate.result _ c.requires.given
     (grind (arith, common_steps)) c.in_ok-body.ensures c.in_ok-said.ensures c.ask_of_certificate.ensures refl)

@@ -17,7 +17,8 @@ returns-in-Says-clause-taken g c =
 
 pub returns-in-Says-clause-more : goal.returns-in-Says-clause-more
 returns-in-Says-clause-more g c =
-    takes_more c.args.addressing (g.S.Source.left c.args.source.now) (g.S.Source.left c.hear.new.source) c.args.lines.now
+    takes_more c.args.addressing (g.S.Source.left c.args.source.now)
+    (g.S.Source.left c.hear.new.source) c.args.lines.now
     c.hear.new.lines c.in_ok-taken.field-0 c.in-Says.taken c.in-Says.is c.in_ok-taken.ensures.heard
 
 pub returns-in-Over-clause-taken : goal.returns-in-Over-clause-taken
