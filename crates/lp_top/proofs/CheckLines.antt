@@ -11,12 +11,12 @@ use Rattle.spec_server.specs.Machine.{ExactReply}
 use Rattle.spec_server.specs.CheckOut as reading
 use Rattle.spec_server.specs.CheckOut.{check_step}
 use Rattle.spec_server.proofs.CheckLemmas.{end_says}
+use Rattle.lp_line.specs.declared.hearing.Step.{Step}
+use Rattle.lp_line.specs.declared.hearing.Step.TheVariants as step
+use Rattle.lp_line.specs.Hearing.{Leads}
 use Rattle.lp_top.specs.declared.check.CheckStage.{CheckStage}
 use Rattle.lp_top.specs.declared.check.CheckStage.TheVariants as stage
-use Rattle.lp_top.specs.declared.hearing.Step.{Step}
-use Rattle.lp_top.specs.declared.hearing.Step.TheVariants as step
-use Rattle.lp_top.specs.Hearing.{Leads}
-use Rattle.lp_top.specs.Stage.{stage_of, step_of, count_of, said_behind}
+use Rattle.lp_top.specs.Stage.{stage_of, step_of, count_of, CheckSays}
 
 -- ---- a line counts for one
 
@@ -58,17 +58,19 @@ counted at next line e =
 -- ---- what a step leads to is what the line leads to
 
 pub leads : (at : CheckStage) (line : Line (List ℕ)) (made : Step CheckStage ExactReply) →
-    step_of made ≡ check_step (stage_of at) line → Leads said_behind count_of at line made
-leads at line (step.On next) e = (
-  λ more. ap (λ st. reading.follow st (λ s. reading.said_from s more)) (sym e),
-  counted at next line (sym e),
-  λ h. end_says (stage_of at) (stage_of next) (ap (check_step (stage_of at)) (sym h) ∙ sym e),
-)
+    step_of made ≡ check_step (stage_of at) line → Leads CheckSays count_of at line made
+leads at line (step.On next) e = record {
+  behind = λ more answer h. ap (λ st. reading.follow st (λ s. reading.said_from s more)) (sym e) ∙ h;
+  counts = counted at next line (sym e);
+  no_end = λ h. end_says (stage_of at) (stage_of next) (ap (check_step (stage_of at)) (sym h) ∙ sym e);
+}
 leads at line (step.Says reply) e = λ more. ap (λ st. reading.follow st (λ s. reading.said_from s more)) (sym e)
 
 -- from the stage that self is
-pub leads_from : {E : Type 0} (self at : CheckStage) (line : Line (List ℕ)) (result : Result (Step CheckStage ExactReply) E) → self ≡ at →
-    IfOk result (λ made. step_of made ≡ check_step (stage_of at) line) → IfOk result (Leads said_behind count_of self line)
+pub leads_from : {E : Type 0} (self at : CheckStage) (line : Line (List ℕ))
+    (result : Result (Step CheckStage ExactReply) E) →
+    self ≡ at → IfOk result (λ made. step_of made ≡ check_step (stage_of at) line) →
+    IfOk result (Leads CheckSays count_of self line)
 leads_from self at line (Ok made) is e =
     leads self line made (e ∙ ap (λ (s : CheckStage). check_step (stage_of s) line) (sym is))
 leads_from self at line (Err why) is e = tt

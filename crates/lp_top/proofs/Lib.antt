@@ -1,9 +1,8 @@
 -- Lemmas.
 pub mod Answering
 pub mod Turns
-pub mod HearTurns
+pub mod Heard
 pub mod CheckLines
-pub mod TextLines
 pub mod Telling
 pub mod Saying
 pub mod OptionLemmas

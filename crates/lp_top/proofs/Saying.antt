@@ -7,23 +7,25 @@ use Rattle.spec_mps.specs.declared.style.Style.{Style}
 use Rattle.spec_mps.specs.Reader.{start}
 use Rattle.spec_server.specs.declared.command_line.TextCommand.{TextCommand}
 use Rattle.spec_server.specs.declared.command_line.TextCommand.TheVariants.{Solve, Check}
-use Rattle.spec_server.specs.CheckOut.{CheckOut, check_code}
-use Rattle.spec_server.specs.SolveOut.{SolveOut, solve_code}
+use Rattle.spec_server.specs.Machine.{ExactReply}
+use Rattle.spec_server.specs.CheckOut.{said, CheckOut, check_code}
+use Rattle.spec_server.specs.SolveOut.{TextSaid, text_said, SolveOut, solve_code}
 use Rattle.lp_base.specs.Beside.{Takes}
 use Rattle.mps_read.specs.TextRead.{TextRead}
+use Rattle.lp_line.specs.Stages.{TextSays}
 use Rattle.lp_top.specs.declared.check.CheckStage.TheVariants as stage
 use Rattle.lp_top.specs.declared.exit_status.ExitStatus.{ExitStatus}
 use Rattle.lp_top.specs.declared.halt.Halt.{Halt}
 use Rattle.lp_top.specs.declared.halt.Halt.TheVariants as halts
-use Rattle.lp_top.specs.Hearing.{Hears, HearsSo, Prints, Says, SaysInPart, SaysSo}
-use Rattle.lp_top.specs.Stage as check_stage
+use Rattle.lp_top.specs.Hearing.{Agrees, Hears, HearsSo, Prints, Says, SaysInPart, SaysSo}
+use Rattle.lp_top.specs.Stage.{CheckSays}
 use Rattle.lp_top.specs.Streams.{Streams, streams}
-use Rattle.lp_top.specs.Text as text
 use Rattle.lp_top.specs.TextCommands.{ReadsText}
 
-module _ {R : Type 0} (said : List (Line (List ℕ)) → Option R) (Out : R → List ℕ → Type 0) (code_of : R → ℕ) (before after taken : Option (List ℕ)) where
-  halts_so : (halt : Halt) → HearsSo said before after (Err halt) →
-      SaysSo said Out code_of (streams before after taken taken) (Err halt)
+module _ {R : Type 0} (tells : List (Line (List ℕ)) → Option R) (Out : R → List ℕ → Type 0) (code_of : R → ℕ)
+    (before after taken : Option (List ℕ)) where
+  halts_so : (halt : Halt) → HearsSo tells before after (Err halt) →
+      SaysSo tells Out code_of (streams before after taken taken) (Err halt)
   halts_so halts.Read h = (h, Appends-nil taken)
   halts_so halts.Over h = (h, Appends-nil taken)
   halts_so halts.NoMemory h = (h, Appends-nil taken)
@@ -31,24 +33,46 @@ module _ {R : Type 0} (said : List (Line (List ℕ)) → Option R) (Out : R → 
   halts_so halts.Cut h = absurd h
 
   -- where nothing is said, nothing is written
-  pub says_nothing : (halt : Halt) → HearsSo said before after (Err halt) →
+  pub says_nothing : (halt : Halt) → HearsSo tells before after (Err halt) →
       (result : Result ExitStatus Halt) (got : Halt) → result ≡ Err got → got ≡ halt →
-      SaysSo said Out code_of (streams before after taken taken) result
+      SaysSo tells Out code_of (streams before after taken taken) result
   says_nothing halt h result got is same =
-      subst (λ (r : Result ExitStatus Halt). SaysSo said Out code_of (streams before after taken taken) r) (sym (is ∙ ap Err same)) (halts_so halt h)
+      subst (λ (r : Result ExitStatus Halt). SaysSo tells Out code_of (streams before after taken taken) r)
+      (sym (is ∙ ap Err same)) (halts_so halt h)
 
-  module _ (what : R) (h : Hears said before after what) (none text piece : List ℕ) (is_none : none ≡ []) (printed : Prints (Out what) none text) (whole : piece ≡ text) (now : Option (List ℕ)) where
+  -- where memory is wanting for what is said, nothing is written
+  pub says_none : (what : R) → Hears tells before after what →
+      (result : Result ExitStatus Halt) (got : Halt) → result ≡ Err got → got ≡ halts.NoMemory →
+      SaysSo tells Out code_of (streams before after taken taken) result
+  says_none what h result got is same =
+      says_nothing halts.NoMemory (record { read = h.read; consumed = h.consumed }) result got is same
+
+  module _ (what : R) (h : Hears tells before after what) (none text piece : List ℕ) (is_none : none ≡ [])
+      (printed : Prints (Out what) none text) (whole : piece ≡ text) (now : Option (List ℕ)) where
     same : piece ≡ printed.output
     same = whole ∙ printed.behind ∙ ap (λ bs. bs ++ printed.output) is_none
 
     pub says : Appends taken now piece → (code : ℕ) → code ≡ code_of what →
-        Says said Out code_of (streams before after taken now) code
+        Says tells Out code_of (streams before after taken now) code
     says written code is =
-        record { what = what; hears = h; output = printed.output; is_output = printed.is_output; written = subst (Appends taken now) same written; status = is }
+        record {
+          what = what;
+          hears = h;
+          output = printed.output;
+          is_output = printed.is_output;
+          written = subst (Appends taken now) same written;
+          status = is;
+        }
 
-    pub says_in_part : Takes taken now piece → SaysInPart said Out (streams before after taken now)
+    pub says_in_part : Takes taken now piece → SaysInPart tells Out (streams before after taken now)
     says_in_part written =
-        record { what = what; hears = h; output = printed.output; is_output = printed.is_output; written = subst (Takes taken now) same written }
+        record {
+          what = what;
+          hears = h;
+          output = printed.output;
+          is_output = printed.is_output;
+          written = subst (Takes taken now) same written;
+        }
 
 -- ---- from the start of a text on
 
@@ -56,12 +80,23 @@ reads_as : (command is : TextCommand) (style : Style) (s : Streams) (result : Re
     ReadsText is style s result → ReadsText command style s result
 reads_as command is style s result e h = subst (λ (asked : TextCommand). ReadsText asked style s result) (sym e) h
 
-pub solve_reads : (command : TextCommand) (style : Style) (reader : TextRead) → command ≡ Solve → reader ≡ record { style = style; state = start; lines = 0 } → (s : Streams) (result : Result ExitStatus Halt) →
-    SaysSo (text.said_behind reader) SolveOut solve_code s result → ReadsText command style s result
-solve_reads command style reader asked is s result h =
-    reads_as command Solve style s result asked (subst (λ (r : TextRead). SaysSo (text.said_behind r) SolveOut solve_code s result) is h)
+module _ (style : Style) (reader : TextRead) (begun : reader ≡ record { style = style; state = start; lines = 0 }) where
+  text_agrees : Agrees (TextSays reader) (text_said style)
+  text_agrees lines answer h = subst (λ (r : TextRead). TextSays r lines answer) begun h
 
-pub check_reads : (command : TextCommand) (style : Style) (reader : TextRead) → command ≡ Check → reader ≡ record { style = style; state = start; lines = 0 } → (s : Streams) (result : Result ExitStatus Halt) →
-    SaysSo (check_stage.said_behind (stage.Text reader)) CheckOut check_code s result → ReadsText command style s result
-check_reads command style reader asked is s result h =
-    reads_as command Check style s result asked (subst (λ (r : TextRead). SaysSo (check_stage.said_behind (stage.Text r)) CheckOut check_code s result) is h)
+  check_agrees : Agrees (CheckSays (stage.Text reader)) (said style)
+  check_agrees lines answer h = subst (λ (r : TextRead). CheckSays (stage.Text r) lines answer) begun h
+
+  pub solve_reads : (command : TextCommand) → command ≡ Solve → (s : Streams) (result : Result ExitStatus Halt) →
+      ((said : List (Line (List ℕ)) → Option TextSaid) → Agrees (TextSays reader) said →
+      SaysSo said SolveOut solve_code s result) →
+      ReadsText command style s result
+  solve_reads command asked s result h =
+      reads_as command Solve style s result asked (h (text_said style) text_agrees)
+
+  pub check_reads : (command : TextCommand) → command ≡ Check → (s : Streams) (result : Result ExitStatus Halt) →
+      ((said : List (Line (List ℕ)) → Option ExactReply) → Agrees (CheckSays (stage.Text reader)) said →
+      SaysSo said CheckOut check_code s result) →
+      ReadsText command style s result
+  check_reads command asked s result h =
+      reads_as command Check style s result asked (h (said style) check_agrees)

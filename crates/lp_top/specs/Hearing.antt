@@ -1,27 +1,20 @@
 -- What is said of an input that is read line by line, and what is read and written of it.
-use Rattle.std.specs.Prelude.{ℕ, ◌≡◌, ◌≢◌, ◌≤◌, ◌<◌, ◌⊎◌, ◌+◌, List, [], ◌∷◌, ◌++◌, length, Option, Some, None, Result, Ok, Err}
+use Rattle.std.specs.Prelude.{ℕ, ◌≡◌, ◌≤◌, ◌<◌, ◌⊎◌, ◌+◌, List, [], ◌∷◌, ◌++◌, length, Option, Some, None, Result, Ok}
+use Rattle.std.specs.Prelude.{Err}
 use Rattle.std.specs.Io.KnownBytes.{Consumes, Appends}
 use Rattle.spec_text.specs.Lines.{lines_of, input_limit}
 use Rattle.spec_text.specs.declared.line.Line.{Line}
-use Rattle.spec_text.specs.declared.line.Line.TheVariants.{End}
 use Rattle.spec_server.specs.Said.{IsSaid, IsUndecided}
 use Rattle.lp_base.specs.Beside.{Takes}
-use Rattle.lp_top.specs.declared.hearing.Step.{Step}
-use Rattle.lp_top.specs.declared.hearing.Step.TheVariants.{On, Says as SaysStep}
 use Rattle.lp_top.specs.declared.halt.Halt.{Halt}
 use Rattle.lp_top.specs.declared.halt.Halt.TheVariants as halts
 use Rattle.lp_top.specs.declared.exit_status.ExitStatus.{ExitStatus}
 use Rattle.lp_top.specs.Streams.{Streams}
 
--- ---- lines, one by one
-
--- A line leads to the next stage, or something is said at it; by what lines say after a stage, and of how many lines it is. No
--- stage follows the end of the input.
-abbrev pub Leads : {T R : Type 0} → (T → List (Line (List ℕ)) → Option R) → (T → ℕ) → T → Line (List ℕ) → Step T R →
+-- what may be said of lines is what this says of them
+abbrev pub Agrees : {R : Type 0} → (List (Line (List ℕ)) → Option R → Type 0) → (List (Line (List ℕ)) → Option R) →
     Type 0
-Leads said count stage line (On next) =
-    ((more : List (Line (List ℕ))) → said stage (line ∷ more) ≡ said next more) × (count next ≤ count stage + 1) × (line ≢ End)
-Leads said count stage line (SaysStep what) = (more : List (Line (List ℕ))) → said stage (line ∷ more) ≡ Some what
+Agrees {R} Say said = (lines : List (Line (List ℕ))) (answer : Option R) → Say lines answer → said lines ≡ answer
 
 -- ---- what is read
 
@@ -41,22 +34,25 @@ pub record StopsSoon {R : Type 0} (said : List (Line (List ℕ)) → Option R) (
   pub are_lines : lines_of raw ≡ lines ++ last ∷ []
   pub few : length ahead < buffer_len
 
--- these bytes were read, and this is said of them; and little was read after the line that decides, unless no line does, but
--- the end of the input
-pub record Hears {R : Type 0} (said : List (Line (List ℕ)) → Option R) (before after : Option (List ℕ)) (what : R) : Type 0 where
+-- these bytes were read, and this is said of them; and little was read after the line that decides, unless no line does,
+-- but the end of the input
+pub record Hears {R : Type 0} (said : List (Line (List ℕ)) → Option R) (before after : Option (List ℕ))
+    (what : R) : Type 0 where
   pub read : List ℕ
   pub consumed : Consumes before after read
   pub is_said : IsSaid said after read what
   pub soon : StopsSoon said read what ⊎ (said (lines_of read) ≡ None)
 
 -- nothing is said of the bytes that were read
-pub record HearsNothing {R : Type 0} (said : List (Line (List ℕ)) → Option R) (before after : Option (List ℕ)) : Type 0 where
+pub record HearsNothing {R : Type 0} (said : List (Line (List ℕ)) → Option R)
+    (before after : Option (List ℕ)) : Type 0 where
   pub read : List ℕ
   pub consumed : Consumes before after read
   pub undecided : IsUndecided said read
 
 -- there are more than may be read, of which no more than a buffer was read
-pub record HearsTooMuch {R : Type 0} (said : List (Line (List ℕ)) → Option R) (before after : Option (List ℕ)) : Type 0 where
+pub record HearsTooMuch {R : Type 0} (said : List (Line (List ℕ)) → Option R)
+    (before after : Option (List ℕ)) : Type 0 where
   pub nothing : HearsNothing said before after
   pub over : input_limit < length nothing.read
   pub soon : length nothing.read ≤ input_limit + buffer_len
@@ -83,7 +79,8 @@ pub record Prints (Out : List ℕ → Type 0) (before after : List ℕ) : Type 0
   pub behind : after ≡ before ++ output
 
 -- all of one was written
-pub record Says {R : Type 0} (said : List (Line (List ℕ)) → Option R) (Out : R → List ℕ → Type 0) (code_of : R → ℕ) (s : Streams) (code : ℕ) : Type 0 where
+pub record Says {R : Type 0} (said : List (Line (List ℕ)) → Option R) (Out : R → List ℕ → Type 0) (code_of : R → ℕ)
+    (s : Streams) (code : ℕ) : Type 0 where
   pub what : R
   pub hears : Hears said s.left_before s.left_after what
   pub output : List ℕ
@@ -92,7 +89,8 @@ pub record Says {R : Type 0} (said : List (Line (List ℕ)) → Option R) (Out :
   pub status : code ≡ code_of what
 
 -- a prefix of one was written
-pub record SaysInPart {R : Type 0} (said : List (Line (List ℕ)) → Option R) (Out : R → List ℕ → Type 0) (s : Streams) : Type 0 where
+pub record SaysInPart {R : Type 0} (said : List (Line (List ℕ)) → Option R) (Out : R → List ℕ → Type 0)
+    (s : Streams) : Type 0 where
   pub what : R
   pub hears : Hears said s.left_before s.left_after what
   pub output : List ℕ
@@ -112,7 +110,8 @@ SaysSo said Out code_of s (Err halts.Write) = SaysInPart said Out s
 SaysSo said Out code_of s (Err halts.Cut) = ⊥
 
 -- what a status says of the bytes that were read and written
-pub record TellsOf {R : Type 0} (said : List (Line (List ℕ)) → Option R) (Out : R → List ℕ → Type 0) (code_of : R → ℕ) (s : Streams) (code : ℕ) : Type 0 where
+pub record TellsOf {R : Type 0} (said : List (Line (List ℕ)) → Option R) (Out : R → List ℕ → Type 0) (code_of : R → ℕ)
+    (s : Streams) (code : ℕ) : Type 0 where
   pub done : (code ≡ 0) ⊎ (code ≡ 9) → Says said Out code_of s code
   pub fault : code ≡ 3 → HearsNothing said s.left_before s.left_after × WritesNothing s
   pub sink : code ≡ 4 → SaysInPart said Out s

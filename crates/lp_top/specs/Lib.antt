@@ -5,6 +5,5 @@ pub mod Halt
 pub mod Top
 pub mod Hearing
 pub mod Stage
-pub mod Text
 pub mod TextCommands
 pub mod Words

@@ -1,12 +1,12 @@
 -- Where the reading of `check` stands, as the definitions have it.
-use Rattle.std.specs.Prelude.{ℕ, Option, List}
+use Rattle.std.specs.Prelude.{ℕ, ◌≡◌, Option, List}
 use Rattle.spec_text.specs.declared.line.Line.{Line}
 use Rattle.spec_server.specs.Machine.{ExactReply}
 use Rattle.spec_server.specs.CheckOut as reading
+use Rattle.lp_line.specs.declared.hearing.Step.{Step}
+use Rattle.lp_line.specs.declared.hearing.Step.TheVariants as step
 use Rattle.lp_top.specs.declared.check.CheckStage.{CheckStage}
 use Rattle.lp_top.specs.declared.check.CheckStage.TheVariants as stage
-use Rattle.lp_top.specs.declared.hearing.Step.{Step}
-use Rattle.lp_top.specs.declared.hearing.Step.TheVariants as step
 
 abbrev pub stage_of : CheckStage → reading.Stage
 stage_of (stage.Text reader) = reading.InText reader.style reader.state reader.lines
@@ -22,5 +22,5 @@ count_of (stage.Text reader) = reader.lines
 count_of (stage.Certificate model reader) = reader.lines
 
 -- what lines say after it
-abbrev pub said_behind : CheckStage → List (Line (List ℕ)) → Option ExactReply
-said_behind stage lines = reading.said_from (stage_of stage) lines
+abbrev pub CheckSays : CheckStage → List (Line (List ℕ)) → Option ExactReply → Type 0
+CheckSays stage lines answer = reading.said_from (stage_of stage) lines ≡ answer

@@ -1,13 +1,13 @@
 // The check of a certificate that follows the text of its model.
 ghost use Rattle.std.specs.Prelude.{◌≡◌, ◌<◌, ◌-◌, ◌^◌, IfOk, refl};
 ghost use Rattle.spec_server.specs.CheckOut.{InText, InCertificate, check_step, check_code, CheckOut};
-ghost use Rattle.lp_top.specs.Stage.{step_of, count_of, said_behind};
+ghost use Rattle.lp_top.specs.Stage.{step_of, count_of, CheckSays};
 
 use crate::exit_status::ExitStatus;
-use crate::hearing::{Stage, Step};
+use crate::hearing::Output;
 use lp_base::{Bytes, Line};
 use lp_check::{CertFeed, CertReader};
-use lp_line::{Refusal, Reply, print_said};
+use lp_line::{Refusal, Reply, Stage, Step, print_said};
 use lp_model::Model;
 use lp_session::verdict_on;
 use mps_read::{Feed, Reader};
@@ -23,13 +23,9 @@ pub(crate) enum CheckStage {
 impl Stage for CheckStage {
     type Said = Reply;
 
-    ghost said = { said_behind };
+    ghost says = { CheckSays };
 
     ghost count = { count_of };
-
-    ghost may_write = { CheckOut };
-
-    ghost code = { check_code };
 
     ghost silent = { λ _. refl };
 
@@ -41,10 +37,16 @@ impl Stage for CheckStage {
             }
         }
     }
+}
 
-    fn print(alloc: Global, what: Reply, to: &mut Bytes) -> Result<ExitStatus, AllocError> {
-        print_said(alloc, &what, to)?;
-        Ok(status_of(&what))
+impl Output for Reply {
+    ghost may_write = { CheckOut };
+
+    ghost code = { check_code };
+
+    fn print(self, alloc: Global, to: &mut Bytes) -> Result<ExitStatus, AllocError> {
+        print_said(alloc, &self, to)?;
+        Ok(status_of(&self))
     }
 }
 

@@ -22,7 +22,8 @@ pub(crate) fn read_text<S: Source, K: Sink>(
     src: &mut S,
     out: &mut K,
 ) -> Result<ExitStatus, Halt>
-    ensures output { ReadsText command style (streams (S.left src.old) (S.left src.new) (K.taken out.old) (K.taken out.new)) result }
+    ensures output { ReadsText command style
+        (streams (S.left src.old) (S.left src.new) (K.taken out.old) (K.taken out.new)) result }
     ensures read { IsErrOf result Halt.Read → Rose (S.read_faults src.old) (S.read_faults src.new) }
     ensures write { IsErrOf result Halt.Write → Rose (K.write_faults out.old) (K.write_faults out.new) }
 {

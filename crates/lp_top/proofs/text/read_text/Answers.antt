@@ -4,8 +4,9 @@ use Rattle.lp_top.proofs.text.read_text.Goals as goal
 
 pub returns-in-Solve-clause-output : goal.returns-in-Solve-clause-output
 returns-in-Solve-clause-output g c =
-    solve_reads c.args.command c.args.style c.new-text.result c.in-Solve.is c.new-text.ensures _ _ c.say.ensures.output
+    solve_reads c.args.style c.new-text.result c.new-text.ensures c.args.command c.in-Solve.is _ _ c.say.ensures.output
 
 pub returns-in-Check-clause-output : goal.returns-in-Check-clause-output
 returns-in-Check-clause-output g c =
-    check_reads c.args.command c.args.style c.new-text.result c.in-Check.is c.new-text.ensures _ _ c.say-in-Check.ensures.output
+    check_reads c.args.style c.new-text.result c.new-text.ensures c.args.command c.in-Check.is _ _
+    c.say-in-Check.ensures.output

@@ -4,8 +4,11 @@ use Rattle.lp_top.proofs.check.CheckStageStage.advance.Goals as goal
 
 pub returns-in-Text : goal.returns-in-Text
 returns-in-Text c =
-    leads_from c.args.self (stage.Text c.in-Text.reader) c.args.line.now c.text_line.result c.in-Text.is c.text_line.ensures
+    leads_from c.args.self
+    (stage.Text c.in-Text.reader) c.args.line.now c.text_line.result c.in-Text.is c.text_line.ensures
 
 pub returns-in-Certificate : goal.returns-in-Certificate
 returns-in-Certificate c =
-    leads_from c.args.self (stage.Certificate c.in-Certificate.model c.in-Certificate.reader) c.args.line.now c.certificate_line.result c.in-Certificate.is c.certificate_line.ensures
+    leads_from c.args.self
+    (stage.Certificate c.in-Certificate.model c.in-Certificate.reader) c.args.line.now c.certificate_line.result
+    c.in-Certificate.is c.certificate_line.ensures
