@@ -1,0 +1,47 @@
+-- The entering column: once one enters no more are priced.
+use Rattle.std.proofs.Common.{◌≡◌, ℕ, zero, suc, ◌+◌, ◌-◌, ◌<◌, List, Option, Some, None, Ok, Err, Bool, ap, ◌∙◌, subst, arith}
+use Rattle.spec_exact.specs.Fraction.{ℚ}
+use Rattle.spec_exact.specs.declared.past.Past.{Past}
+use Rattle.spec_simplex.specs.declared.ends.Entering.{Entering}
+use Rattle.spec_simplex.specs.Form.{Form}
+use Rattle.spec_simplex.specs.Run.{Run, ◌>>=◌, steps}
+use Rattle.spec_simplex.specs.Tableau.{Tableau, all_columns}
+use Rattle.spec_simplex.specs.Step.{or_enters}
+use Rattle.spec_simplex.proofs.Stops.{steps_more, steps_stop}
+use Rattle.spec_factor.specs.Revised.{way_run, or_priced, entering_run}
+use Rattle.lp_frac.specs.Narrow.{largest}
+
+module _ (f : Form) (costs y : List ℚ) (t : Tableau) where
+  abbrev pub priced_at : ℕ → Option Entering → Run (Option Entering)
+  priced_at k e = or_priced (Some largest) f costs y t k e
+
+  pub none_more : (k : ℕ) → steps k priced_at None ≡ Ok None → way_run (Some largest) f costs y t k ≡ Ok None →
+      steps (k + 1) priced_at None ≡ Ok None
+  none_more k h g = steps_more k priced_at None None None h (ap (λ o. o >>= λ way. Ok (or_enters None k way)) g)
+
+  pub way_refused : (k : ℕ) (p : Past ℚ) → steps k priced_at None ≡ Ok None → k < all_columns t →
+      way_run (Some largest) f costs y t k ≡ Err p → entering_run (Some largest) f costs y t ≡ Err p
+  unfolding entering_run
+  way_refused k p h l g =
+      steps_stop k (all_columns t) priced_at None None p l h (ap (λ o. o >>= λ way. Ok (or_enters None k way)) g)
+
+  stays : (n d : ℕ) (e : Entering) → steps n priced_at None ≡ Ok (Some e) → steps (n + d) priced_at None ≡ Ok (Some e)
+  stays n zero e h = ap (λ i. steps i priced_at None) (let z : n + 0 ≡ n = omega arith in z) ∙ h
+  stays n (suc d) e h =
+      ap (λ i. steps i priced_at None) (let z : n + suc d ≡ suc (n + d) = omega arith in z)
+      ∙ ap (λ o. o >>= λ e. priced_at (n + d) e) (stays n d e h)
+
+  pub enters : (k : ℕ) (up : Bool) → steps k priced_at None ≡ Ok None → k < all_columns t →
+      way_run (Some largest) f costs y t k ≡ Ok (Some up) →
+      entering_run (Some largest) f costs y t ≡ Ok (Some (record { col = k; up = up }))
+  unfolding entering_run
+  enters k up h l g =
+      let z : k + 1 + (all_columns t - (k + 1)) ≡ all_columns t = omega (arith, l) in
+      subst (λ i. steps i priced_at None ≡ Ok (Some (record { col = k; up = up }))) z
+      (stays (k + 1) (all_columns t - (k + 1)) (record { col = k; up = up })
+      (steps_more k priced_at None None (Some (record { col = k; up = up })) h (ap (λ o. o >>= λ way. Ok (or_enters None k way)) g)))
+
+  pub none_enters : (k : ℕ) → steps k priced_at None ≡ Ok None → k ≡ all_columns t →
+      entering_run (Some largest) f costs y t ≡ Ok None
+  unfolding entering_run
+  none_enters k h e = subst (λ i. steps i priced_at None ≡ Ok None) e h

@@ -1,0 +1,65 @@
+-- A pivot's exchange, part by part.
+use Rattle.std.proofs.Common.{◌≡◌, ℕ, suc, ◌+◌, List, [], Some, Ok, Err, sym, ap, ◌∙◌, arith}
+use Rattle.spec_exact.specs.Fraction.{ℚ}
+use Rattle.spec_exact.specs.declared.past.Past.{Past}
+use Rattle.spec_pivot.specs.declared.status.Status.{Status}
+use Rattle.spec_simplex.specs.declared.ends.RowStart.{RowStart}
+use Rattle.spec_simplex.specs.Form.{Form}
+use Rattle.spec_simplex.specs.Run.{Run, ◌>>=◌}
+use Rattle.spec_simplex.specs.Tableau.{Tableau}
+use Rattle.spec_simplex.specs.Step.{shifted_run, exchanged, turned}
+use Rattle.spec_factor.specs.Factors.{Factors, with_pair, column_of, ftran_run, replace_run}
+use Rattle.spec_factor.specs.Revised.{Revised, bare_of, seen, exchange_run}
+use Rattle.std.specs.Prelude.{slice_set}
+use Rattle.lp_frac.specs.Narrow.{largest}
+use Rattle.lp_revised.specs.Moved.{WithValues, moves_by, exchanged_by}
+use Rattle.lp_revised.proofs.Flipped.{moves_are}
+
+module _ (starts : List (RowStart ℚ)) (s : Revised) (z : List ℚ) (p j : ℕ) (theta : ℚ) (to : Status) where
+  abbrev new_state : List ℚ → Revised
+  new_state shifted =
+      record { bare = exchanged (turned s.bare shifted [] []) p j to; pairs = with_pair s.pairs p z; replaced = suc s.replaced }
+
+  abbrev after_moves : List ℚ → Run Revised
+  after_moves values = shifted_run (Some largest) values j theta >>= λ shifted. Ok (new_state shifted)
+
+  abbrev whole : Run Revised
+  whole = exchanged_by starts s z p j theta to
+
+  pub moves_refused : (e : Past ℚ) → moves_by starts s.bare z theta (Some p) s.bare.rows ≡ Err e → whole ≡ Err e
+  moves_refused e h = ap (λ o. o >>= after_moves) h
+
+  module _ (u : Revised) (m : moves_by starts s.bare z theta (Some p) s.bare.rows ≡ Ok u.bare.value) where
+    pub shift_refused : (e : Past ℚ) → shifted_run (Some largest) u.bare.value j theta ≡ Err e → whole ≡ Err e
+    shift_refused e h = ap (λ o. o >>= after_moves) m ∙ ap (λ o. o >>= λ shifted. Ok (new_state shifted)) h
+
+    pub exchanges : (v w x : Revised) → s.bare ≡ bare_of s.bare → WithValues s u →
+        shifted_run (Some largest) u.bare.value j theta ≡ Ok v.bare.value → WithValues u v
+        → w ≡ record { bare = v.bare; pairs = with_pair v.pairs p z; replaced = v.replaced + 1 } → x ≡ record w { bare = exchanged w.bare p j to } → whole ≡ Ok x
+    exchanges v w x b f h g r is =
+        let values : List ℚ = v.bare.value in
+        ap (λ o. o >>= after_moves) m ∙ ap (λ o. o >>= λ shifted. Ok (new_state shifted)) h
+        ∙ ap (λ n. Ok (record { bare = exchanged (turned s.bare values [] []) p j to; pairs = with_pair s.pairs p z; replaced = n })) (let z : suc s.replaced ≡ s.replaced + 1 = omega arith in z)
+        ∙ ap (λ (t : Tableau). Ok (record { bare = exchanged (record t { value = values }) p j to; pairs = with_pair s.pairs p z; replaced = s.replaced + 1 })) (sym b)
+        ∙ ap (λ (y : Revised). Ok (record { bare = exchanged (record y.bare { value = values }) p j to; pairs = with_pair y.pairs p z; replaced = y.replaced + 1 })) (sym f)
+        ∙ ap (λ (y : Revised). Ok (record { bare = exchanged y.bare p j to; pairs = with_pair y.pairs p z; replaced = y.replaced + 1 })) (sym g)
+        ∙ ap (λ (y : Revised). Ok (record y { bare = exchanged y.bare p j to })) (sym r) ∙ ap Ok (sym is)
+
+  abbrev new_factors : List ℚ → Factors
+  new_factors v = record { pairs = with_pair s.pairs p v; basic = slice_set s.bare.basic p j }
+
+  abbrev with_factors : List ℚ → Factors → Run Revised
+  with_factors shifted factors =
+      Ok (record { bare = exchanged (turned s.bare shifted [] []) p j to; pairs = factors.pairs; replaced = suc s.replaced })
+
+  abbrev by_solve : Run (List ℚ) → List ℚ → Run Revised
+  by_solve solve values =
+      shifted_run (Some largest) values j theta >>= λ shifted. (solve >>= λ v. Ok (new_factors v)) >>= λ factors. with_factors shifted factors
+
+  -- the exchange of the definition, where z is the column's solution
+  pub exchange_is : (f : Form) → ftran_run (Some largest) s.bare.rows s.pairs (column_of f j) ≡ Ok z →
+      exchange_run (Some largest) f s (seen starts s.bare j z) p j theta to ≡ whole
+  unfolding exchange_run replace_run
+  exchange_is f h =
+      ap (λ o. o >>= by_solve (ftran_run (Some largest) s.bare.rows s.pairs (column_of f j))) (sym (moves_are starts s z theta (Some p) j))
+      ∙ ap (λ o. moves_by starts s.bare z theta (Some p) s.bare.rows >>= by_solve o) h

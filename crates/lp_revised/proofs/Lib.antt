@@ -1,0 +1,14 @@
+pub mod Seen
+pub mod Signed
+pub mod Prices
+pub mod Entered
+pub mod Flipped
+pub mod Sights
+pub mod Exchanged
+pub mod Basics
+pub mod Renewed
+pub mod Pivoted
+pub mod OneStep
+pub mod TwoPhases
+pub mod Begun
+pub mod Whole

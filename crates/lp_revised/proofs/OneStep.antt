@@ -1,0 +1,151 @@
+-- A run of steps over factors by its first step.
+use Rattle.std.proofs.Common.{◌≡◌, ◌≢◌, ℕ, zero, suc, ◌+◌, ◌-◌, ◌<◌, List, length, Option, get_or, Some, None, Result, Ok, Err, refl, sym, ap, ◌∙◌, subst, arith}
+use Rattle.spec_exact.specs.Fraction.{ℚ, 0ℚ}
+use Rattle.spec_pivot.specs.declared.status.Status.{Status}
+use Rattle.spec_simplex.specs.declared.ends.RowStart.{RowStart}
+use Rattle.spec_simplex.specs.declared.ends.PrimalEnd.{PrimalEnd}
+use Rattle.spec_simplex.specs.declared.ends.PrimalEnd.TheVariants.{Optimal, Unbounded}
+use Rattle.spec_simplex.specs.declared.ends.Choice.{Choice}
+use Rattle.spec_simplex.specs.declared.ends.Choice.TheVariants.{End, Flip, Pivot}
+use Rattle.spec_simplex.specs.declared.ends.RunStop.{RunStop}
+use Rattle.spec_simplex.specs.declared.ends.RunStop.TheVariants as cause
+use Rattle.spec_simplex.specs.Form.{Form}
+use Rattle.spec_simplex.specs.Run.{Run, ◌>>=◌, refused_as}
+use Rattle.spec_factor.specs.Revised.{Revised, seen, Selection, selection_run, flip_over_run, pivot_over_run}
+use Rattle.spec_factor.specs.Over.{RevisedEnded, over_or_spent, over_or_next, over_from}
+use Rattle.lp_frac.specs.Narrow.{largest}
+use Rattle.lp_revised.specs.declared.select.Column.{Column}
+use Rattle.lp_revised.specs.declared.select.Selected.{Selected}
+use Rattle.lp_revised.specs.declared.steps.StepsEnd.{StepsEnd}
+use Rattle.lp_revised.specs.declared.stop.RevisedStop.{RevisedStop}
+use Rattle.lp_revised.specs.Answer.{StopsRevised}
+use Rattle.lp_revised.specs.Selecting.{CanDo, IsSolved, tableau_of, selection_of}
+use Rattle.lp_revised.specs.Runs.{EndsWith, made_run, ended_of}
+use Rattle.lp_revised.proofs.Renewed.{stops_after}
+
+-- a step that is no end
+abbrev pub GoesOn : Choice ℚ → Type 0
+GoesOn choice = (end : PrimalEnd) → choice ≡ End end → ⊥
+
+-- an end has the column that nothing stops
+pub ends_with : (f : Form) (s : Revised) (column : Option Column) (choice : Choice ℚ) (end : PrimalEnd) →
+    choice ≡ End end →
+    CanDo f s column choice → EndsWith s.bare column end
+ends_with f s column choice end e h = by column end (subst (CanDo f s column) e h)
+  where
+    by : (column : Option Column) (end : PrimalEnd) → CanDo f s column (End end) → EndsWith s.bare column end
+    by None end z = let y : ◌≡◌ {A = Choice ℚ} (End end) (End Optimal) = z in cc
+    by (Some c) Optimal z = z.1
+    by (Some c) (Unbounded j up) z = (sym z.1, z.0.all)
+
+module _ (f : Form) (starts : List (RowStart ℚ)) (costs : List ℚ) where
+  abbrev seen_from : Revised → Run Selection
+  seen_from s = selection_run (Some largest) f starts costs s
+
+  abbrev from : ℕ → ℕ → Revised → Result RevisedEnded (RunStop ℚ)
+  from left used s = over_from (Some largest) f starts costs left used s
+
+  pub run_refused : (left used : ℕ) (s : Revised) (e : RevisedStop) →
+      StopsRevised (refused_as cause.Past (seen_from s)) e → StopsRevised (from left used s) e
+  unfolding over_from
+  run_refused zero used s e h =
+      stops_after (refused_as cause.Past (seen_from s)) (λ x. over_or_spent s used x x.choice) e h
+  run_refused (suc left) used s e h =
+      stops_after (refused_as cause.Past (seen_from s))
+      (λ x. over_or_next (Some largest) f s used (λ u. from left (used + 1) u) x x.choice) e h
+
+  module _ (s : Revised) (selected : Selected) (h : seen_from s ≡ Ok (selection_of starts s.bare selected)) where
+    abbrev shown_by : Choice ℚ → Selection
+    shown_by choice =
+        record { multipliers = selected.multipliers; tableau = tableau_of starts s.bare selected.column; choice = choice }
+
+    pub run_ends : (left used : ℕ) (end : PrimalEnd) → selected.choice ≡ End end →
+        from left used s ≡ Ok (record { end = end; state = s; selection = shown_by (End end); used = used })
+    unfolding over_from
+    run_ends zero used end c =
+        ap (λ o. refused_as cause.Past o >>= λ x. over_or_spent s used x x.choice) (h ∙ ap (λ c. Ok (shown_by c)) c)
+    run_ends (suc left) used end c =
+        ap (λ o. refused_as cause.Past o >>= λ x. over_or_next (Some largest) f s used (λ u. from left (used + 1) u) x x.choice)
+        (h ∙ ap (λ c. Ok (shown_by c)) c)
+
+    spent_at : (used : ℕ) (x : Selection) (choice : Choice ℚ) → GoesOn choice →
+        over_or_spent s used x choice ≡ Err cause.Spent
+    spent_at used x (End end) n = absurd (n end refl)
+    spent_at used x (Flip j) n = refl
+    spent_at used x (Pivot p j theta to) n = refl
+
+    pub run_spent : (left used : ℕ) → GoesOn selected.choice → left ≡ 0 → from left used s ≡ Err cause.Spent
+    unfolding over_from
+    run_spent zero used n e =
+        ap (λ o. refused_as cause.Past o >>= λ x. over_or_spent s used x x.choice) h
+        ∙ spent_at used (shown_by selected.choice) selected.choice n
+    run_spent (suc left) used n e = absurd (let z : ⊥ = omega (arith, e) in z)
+
+    next_at : (used : ℕ) (next : Revised → Result RevisedEnded (RunStop ℚ)) (c d : Choice ℚ) → GoesOn d →
+        over_or_next (Some largest) f s used next (shown_by c) d ≡ (made_run f starts s selected.column d >>= next)
+    next_at used next c (End end) n = absurd (n end refl)
+    next_at used next c (Flip j) n = refl
+    next_at used next c (Pivot p j theta to) n = refl
+
+    goes_on : (left used : ℕ) → GoesOn selected.choice →
+        from (suc left) used s ≡ (made_run f starts s selected.column selected.choice >>= λ u. from left (used + 1) u)
+    unfolding over_from
+    goes_on left used n =
+        ap (λ o. refused_as cause.Past o >>= λ x. over_or_next (Some largest) f s used (λ u. from left (used + 1) u) x x.choice) h
+        ∙ next_at used (λ u. from left (used + 1) u) selected.choice selected.choice n
+
+    -- where `used` of the budget are spent, and it is more
+    one_left : (budget used : ℕ) → used < budget → budget - used ≡ suc (budget - (used + 1))
+    one_left budget used l = omega (arith, l)
+
+    one_step : (budget used : ℕ) → GoesOn selected.choice → used < budget →
+        from (budget - used) used s
+        ≡ (made_run f starts s selected.column selected.choice >>= λ u. from (budget - (used + 1)) (used + 1) u)
+    one_step budget used n l =
+        ap (λ left. from left used s) (one_left budget used l) ∙ goes_on (budget - (used + 1)) used n
+
+    pub step_stops : (budget used : ℕ) (e : RevisedStop) → GoesOn selected.choice → used < budget →
+        StopsRevised (made_run f starts s selected.column selected.choice) e →
+        StopsRevised (from (budget - used) used s) e
+    step_stops budget used e n l g =
+        subst (λ r. StopsRevised r e) (sym (one_step budget used n l))
+        (stops_after (made_run f starts s selected.column selected.choice) (λ u. from (budget - (used + 1)) (used + 1) u) e g)
+
+    pub step_done : (budget used : ℕ) (u : Revised) → GoesOn selected.choice → used < budget →
+        made_run f starts s selected.column selected.choice ≡ Ok u →
+        from (budget - used) used s ≡ from (budget - (used + 1)) (used + 1) u
+    step_done budget used u n l g =
+        one_step budget used n l ∙ ap (λ o. o >>= λ u. from (budget - (used + 1)) (used + 1) u) g
+
+-- ---- what is done with a column that enters
+module _ (f : Form) (starts : List (RowStart ℚ)) (s : Revised) (c : Column) (choice : Choice ℚ) (can : CanDo f s (Some c) choice) where
+  pub solved_as : IsSolved f s c
+  solved_as = can.0
+
+  pub flips_it : (j : ℕ) → choice ≡ Flip j →
+      made_run f starts s (Some c) choice
+      ≡ refused_as cause.Past (flip_over_run (Some largest) s (seen starts s.bare c.number c.solved) c.number)
+  flips_it j e =
+      let k : j ≡ c.number = (subst (CanDo f s (Some c)) e can).1 in
+      ap (made_run f starts s (Some c)) e
+      ∙ ap (λ j. refused_as cause.Past (flip_over_run (Some largest) s (seen starts s.bare c.number c.solved) j)) k
+
+  may_do : (p j : ℕ) (theta : ℚ) (to : Status) → choice ≡ Pivot p j theta to →
+      (j ≡ c.number) × (p < s.bare.rows) × (get_or c.solved p 0ℚ ≢ 0ℚ)
+  may_do p j theta to e = by (subst (CanDo f s (Some c)) e can)
+    where
+      by : CanDo f s (Some c) (Pivot p j theta to) → (j ≡ c.number) × (p < s.bare.rows) × (get_or c.solved p 0ℚ ≢ 0ℚ)
+      by (solved, m) = m
+
+  pub pivots_it : (p j : ℕ) (theta : ℚ) (to : Status) → choice ≡ Pivot p j theta to →
+      made_run f starts s (Some c) choice
+      ≡ pivot_over_run (Some largest) f s (seen starts s.bare c.number c.solved) p c.number theta to
+  pivots_it p j theta to e =
+      ap (made_run f starts s (Some c)) e
+      ∙ ap (λ j. pivot_over_run (Some largest) f s (seen starts s.bare c.number c.solved) p j theta to) (may_do p j theta to e).0
+
+  pub place_inside : (p j : ℕ) (theta : ℚ) (to : Status) → choice ≡ Pivot p j theta to → p < s.bare.rows
+  place_inside p j theta to e = (may_do p j theta to e).1
+
+  pub entry_not_zero : (p j : ℕ) (theta : ℚ) (to : Status) → choice ≡ Pivot p j theta to → get_or c.solved p 0ℚ ≢ 0ℚ
+  entry_not_zero p j theta to e = (may_do p j theta to e).2

@@ -1,0 +1,45 @@
+-- Signs of columns, and the multipliers.
+use Rattle.std.proofs.Common.{◌≡◌, ℕ, ◌-◌, ◌<◌, ◌≤◌, List, length, get_or, Some, sym, ap, ◌∙◌, le-leb}
+use Rattle.std.proofs.lemmas.Bool.{lt-leb}
+use Rattle.std.proofs.lemmas.List.{get_or_default}
+use Rattle.spec_exact.specs.Fraction.{ℚ, 0ℚ, ◌*ℚ◌, neg_ℚ}
+use Rattle.spec_exact.proofs.Ruleset.{one-*ℚ, neg-*ℚ}
+use Rattle.spec_simplex.specs.declared.ends.RowStart.{RowStart}
+use Rattle.spec_simplex.specs.declared.ends.RowStart.TheVariants.{Within, Below, Above}
+use Rattle.spec_simplex.specs.Run.{Run}
+use Rattle.spec_simplex.specs.Start.{start_at, logical_sign}
+use Rattle.spec_simplex.specs.Tableau.{Tableau, form_columns}
+use Rattle.spec_factor.specs.Factors.{Pair, btran_run}
+use Rattle.spec_factor.specs.Revised.{Revised, sign_of, basic_costs, multipliers_run}
+use Rattle.lp_frac.specs.Narrow.{largest}
+
+one_times : (v : ℚ) → v ≡ logical_sign (Within 0ℚ) *ℚ v
+one_times v = sym (one-*ℚ v)
+
+module _ (starts : List (RowStart ℚ)) (t : Tableau) (k : ℕ) (v : ℚ) where
+  pub of_form : k < form_columns t → v ≡ sign_of starts t k *ℚ v
+  of_form l = rw (lt-leb (form_columns t) k l) (one_times v)
+
+  -- the start that was read
+  pub of_start : (s : RowStart ℚ) (i : ℕ) → form_columns t ≤ k → i ≡ k - form_columns t → i < length starts →
+      s ≡ get_or starts i s → sign_of starts t k ≡ logical_sign s
+  of_start s i l e h is =
+      rw (le-leb (form_columns t) k l)
+      (ap logical_sign (ap (start_at starts) (sym e) ∙ sym (is ∙ get_or_default starts i s (Within 0ℚ) h)))
+
+  pub turned : (g x : ℚ) → sign_of starts t k ≡ logical_sign (Below g) → x ≡ neg_ℚ v → x ≡ sign_of starts t k *ℚ v
+  turned g x e is = is ∙ ap neg_ℚ (one_times v) ∙ sym (neg-*ℚ (logical_sign (Within 0ℚ)) v) ∙ ap (λ a. a *ℚ v) (sym e)
+
+  pub within_as_it_is : (g : ℚ) → sign_of starts t k ≡ logical_sign (Within g) → v ≡ sign_of starts t k *ℚ v
+  within_as_it_is g e = one_times v ∙ ap (λ a. a *ℚ v) (sym e)
+
+  pub above_as_it_is : (g : ℚ) → sign_of starts t k ≡ logical_sign (Above g) → v ≡ sign_of starts t k *ℚ v
+  above_as_it_is g e = one_times v ∙ ap (λ a. a *ℚ v) (sym e)
+
+pub multipliers_are : (starts : List (RowStart ℚ)) (costs : List ℚ) (s : Revised) (places : ℕ) (pairs : List Pair) (list : List ℚ) (r : Run (List ℚ))
+    → places ≡ s.bare.rows → pairs ≡ s.pairs → list ≡ basic_costs starts costs s.bare → btran_run (Some largest) places pairs list ≡ r → multipliers_run (Some largest) starts costs s ≡ r
+unfolding multipliers_run
+multipliers_are starts costs s places pairs list r p q l h =
+    ap (λ m. btran_run (Some largest) m s.pairs (basic_costs starts costs s.bare)) (sym p)
+    ∙ ap (λ es. btran_run (Some largest) places es (basic_costs starts costs s.bare)) (sym q)
+    ∙ ap (btran_run (Some largest) places pairs) (sym l) ∙ h

@@ -1,0 +1,13 @@
+-- The loop over the columns.
+use Rattle.std.proofs.Common.{◌≡◌, All}
+use Rattle.spec_exact.specs.Narrow.{IsNarrow}
+use Rattle.spec_simplex.specs.Run.{made}
+use Rattle.spec_cold.specs.Cold.{moves_by}
+use Rattle.spec_factor.specs.Revised.{seen}
+use Rattle.lp_revised.proofs.state.Revised.direction.Given as goal
+
+-- the moves so far are there, each of at most 127 bits
+abbrev pub invariant-loop-k : goal.invariant-loop-k
+invariant-loop-k l =
+    (l.direction ≡ made l.k (moves_by (seen l.starts l.self.bare l.column.number l.column.solved) l.column.number l.up))
+    × All IsNarrow l.direction

@@ -1,0 +1,5 @@
+pub mod Answer
+pub mod Moved
+pub mod Runs
+pub mod Selecting
+pub mod State

@@ -1,0 +1,74 @@
+-- Steps over factors up to an end, as the code has them.
+use Rattle.std.specs.Prelude.{◌≡◌, ℕ, ◌-◌, List, length, Option, Some, None, Result, Ok, Err}
+use Rattle.spec_exact.specs.Fraction.{ℚ}
+use Rattle.spec_simplex.specs.declared.ends.RowStart.{RowStart}
+use Rattle.spec_simplex.specs.declared.ends.Choice.{Choice}
+use Rattle.spec_simplex.specs.declared.ends.Choice.TheVariants.{End, Flip, Pivot}
+use Rattle.spec_simplex.specs.declared.ends.PrimalEnd.{PrimalEnd}
+use Rattle.spec_simplex.specs.declared.ends.PrimalEnd.TheVariants.{Optimal, Unbounded}
+use Rattle.spec_simplex.specs.declared.ends.RunStop.{RunStop}
+use Rattle.spec_simplex.specs.declared.ends.RunStop.TheVariants as cause
+use Rattle.spec_simplex.specs.Form.{Form}
+use Rattle.spec_simplex.specs.Run.{◌>>=◌, refused_as}
+use Rattle.spec_simplex.specs.Tableau.{Tableau}
+use Rattle.spec_simplex.specs.Phases.{PhasesEnd}
+use Rattle.spec_factor.specs.Revised.{Revised, Selection, flip_over_run, pivot_over_run}
+use Rattle.spec_factor.specs.Over.{RevisedEnded, OverEnd, over_from, second_state, end_answer, answer_in}
+use Rattle.lp_frac.specs.Narrow.{largest}
+use Rattle.lp_revised.specs.declared.cold_run.RunEnd.{RunEnd}
+use Rattle.lp_revised.specs.declared.select.Column.{Column}
+use Rattle.lp_revised.specs.declared.steps.StepsEnd.{StepsEnd}
+use Rattle.lp_revised.specs.declared.stop.RevisedStop.{RevisedStop}
+use Rattle.lp_revised.specs.declared.stop.RevisedStop.TheVariants as stop
+use Rattle.lp_revised.specs.Answer.{StopsRevised}
+use Rattle.lp_revised.specs.Selecting.{tableau_of}
+
+-- the flip or the pivot of a step; an end changes nothing
+abbrev pub made_run : Form → List (RowStart ℚ) → Revised → Option Column → Choice ℚ → Result Revised (RunStop ℚ)
+made_run f starts s column (End end) = Ok s
+made_run f starts s column (Flip j) =
+    refused_as cause.Past (flip_over_run (Some largest) s (tableau_of starts s.bare column) j)
+made_run f starts s column (Pivot p j theta to) =
+    pivot_over_run (Some largest) f s (tableau_of starts s.bare column) p j theta to
+
+-- what the last step saw
+abbrev pub selection_at : List (RowStart ℚ) → Tableau → StepsEnd → Selection
+selection_at starts t e =
+    record { multipliers = e.multipliers; tableau = tableau_of starts t e.column; choice = End e.end }
+
+-- how the steps ended, with the last state and the count of pivots and flips
+abbrev pub ended_of : List (RowStart ℚ) → Revised → ℕ → StepsEnd → RevisedEnded
+ended_of starts s used e =
+    record { end = e.end; state = s; selection = selection_at starts s.bare e; used = used }
+
+-- an end has the column that nothing stops, which is given by places, and no other
+abbrev pub EndsWith : Tableau → Option Column → PrimalEnd → Type 0
+EndsWith t None end = end ≡ Optimal
+EndsWith t (Some c) Optimal = ⊥
+EndsWith t (Some c) (Unbounded j up) = (c.number ≡ j) × (length c.solved ≡ t.rows)
+
+-- the steps end so, with this state and this count, or stop so, or memory was wanting
+abbrev pub RunsOver : Result RevisedEnded (RunStop ℚ) → List (RowStart ℚ) → Revised → ℕ → Result StepsEnd RevisedStop →
+    Type 0
+RunsOver answer starts s used (Ok e) = answer ≡ Ok (ended_of starts s used e)
+RunsOver answer starts s used (Err e) = StopsRevised answer e
+
+abbrev pub over_end : RunEnd → OverEnd
+over_end e = record { certificate = e.certificate; basis = e.basis; pivots = e.pivots }
+
+-- both phases end so, or stop so, or memory was wanting
+abbrev pub EndsOver : Result OverEnd (RunStop ℚ) → Result RunEnd RevisedStop → Type 0
+EndsOver answer (Ok e) = answer ≡ Ok (over_end e)
+EndsOver answer (Err e) = StopsRevised answer e
+
+-- phase two from the state that phase one leaves, before which `used` steps were made
+abbrev pub second_run : ℕ → Form → List (RowStart ℚ) → ℕ → Revised → Result OverEnd (RunStop ℚ)
+second_run budget f starts used s =
+    over_from (Some largest) f starts f.cost (budget - used) used (second_state s) >>= λ two. Ok (end_answer two)
+
+-- without a limit the run on whole tableaus ends so, or is spent too
+abbrev pub EndsWhole : Result PhasesEnd (RunStop ℚ) → Result RunEnd RevisedStop → Type 0
+EndsWhole whole (Ok e) = answer_in whole ≡ Ok (over_end e)
+EndsWhole whole (Err (stop.Past p)) = Unit {0}
+EndsWhole whole (Err stop.Spent) = whole ≡ Err cause.Spent
+EndsWhole whole (Err stop.NoMemory) = Unit {0}

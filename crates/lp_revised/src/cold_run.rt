@@ -1,0 +1,173 @@
+// The cold run over factors: the start, both phases, and what they end with.
+ghost use Rattle.std.specs.Prelude.{◌≡◌, ◌<◌, Ok, Some, None, IfOk, IfErr, OnOk, length};
+ghost use Rattle.spec_model.specs.Model.{Model};
+ghost use Rattle.spec_check.specs.Certificate.{IsNarrowCertificate};
+ghost use Rattle.spec_simplex.specs.declared.ends.RunStop.TheVariants as cause;
+ghost use Rattle.spec_simplex.specs.Run.{list_run, refused_as};
+ghost use Rattle.spec_simplex.specs.Start as starting;
+ghost use Rattle.spec_simplex.specs.Form.{form_of};
+ghost use Rattle.spec_simplex.specs.Phases.{phases_run};
+ghost use Rattle.spec_factor.specs.Revised.{bare_of, replacements};
+ghost use Rattle.spec_factor.specs.Over.{over_one, over_phases, over_run};
+ghost use Rattle.lp_frac.specs.Narrow.{largest};
+ghost use Rattle.lp_revised.specs.Answer.{StopsRevised};
+ghost use Rattle.lp_revised.specs.Runs.{RunsOver, EndsOver, EndsWhole, second_run};
+
+use crate::ends::{Certificate, negatives_of};
+use crate::state::{Revised, RowStart};
+use crate::steps::StepsEnd;
+use crate::stop::RevisedStop;
+use lp_factor::Factors;
+use lp_form::{Basis, Form};
+use lp_frac::Fracs;
+use lp_tableau::{ColdStop, PrimalEnd, start};
+use std::alloc::{AllocError, Global};
+
+/// What a run over factors ends with.
+#[derive(Drop)]
+pub struct RunEnd {
+    pub certificate: Certificate,
+    /// The basis of an optimal end.
+    pub basis: Option<Basis>,
+    /// How many pivots and flips were made.
+    pub pivots: u64,
+}
+
+// How all rows begin, in order.
+fn row_starts(alloc: Global, form: &Form) -> Result<Vec<RowStart>, RevisedStop>
+    ensures ok { IfOk result (λ v. list_run form.now.rows (starting.row_start (Some largest) form.now) ≡ Ok v.items) }
+    ensures err { IfErr result (StopsRevised (refused_as cause.Past
+        (list_run form.now.rows (starting.row_start (Some largest) form.now)))) }
+{
+    match start::starts(alloc, form) {
+        Ok(starts) => Ok(starts),
+        Err(ColdStop::Past(past)) => Err(RevisedStop::Past(past)),
+        Err(ColdStop::NoMemory) => Err(RevisedStop::NoMemory),
+    }
+}
+
+// The state that the form begins with, before it has factors.
+fn begun(alloc: Global, form: &Form, starts: &[RowStart]) -> Result<Revised, AllocError>
+    requires { length starts.now ≡ form.now.rows }
+    ensures { IfOk result (λ s. s.bare ≡ bare_of (starting.begun form.now starts.now)) }
+{
+    Ok(Revised {
+        rows: form.rows(),
+        cols: form.cols(),
+        basic: start::basics(alloc, form, starts)?,
+        value: start::values(alloc, form, starts)?,
+        status: start::statuses(alloc, form, starts)?,
+        lower: start::lowers(alloc, form)?,
+        upper: start::uppers(alloc, form, starts)?,
+        factors: Factors::empty(alloc, form.rows())?,
+        replaced: 0,
+    })
+}
+
+impl Revised {
+    // Phase one, where it is wanted.
+    fn phase_one(
+        &mut self,
+        alloc: Global,
+        form: &Form,
+        starts: &[RowStart],
+        used: &mut u64,
+        budget: u64,
+    ) -> Result<StepsEnd, RevisedStop>
+        requires rows { form.now.rows ≡ self.old.bare.rows }
+        requires cols { form.now.cols ≡ self.old.bare.cols }
+        requires starts { length starts.now ≡ self.old.bare.rows }
+        requires few { self.old.replaced < replacements }
+        requires unused { used.old ≡ 0 }
+        ensures run { RunsOver (over_one (Some largest) budget form.now starts.now self.old) starts.now self.new
+            used.new result }
+        ensures rows { OnOk result (self.new.bare.rows ≡ self.old.bare.rows) }
+        ensures cols { OnOk result (self.new.bare.cols ≡ self.old.bare.cols) }
+        ensures fresh { OnOk result (self.new.replaced < replacements) }
+    {
+        if self.wants_phase_one() {
+            let costs = start::first_costs(alloc, form, starts)?;
+            self.run(alloc, form, starts, &costs, used, budget)
+        } else {
+            Ok(StepsEnd {
+                end: PrimalEnd::Optimal,
+                multipliers: Fracs::new(alloc),
+                column: None,
+            })
+        }
+    }
+
+    // Phase two, before which `used` pivots and flips were made, and what it ends with.
+    fn phase_two(
+        &mut self,
+        alloc: Global,
+        form: &Form,
+        starts: &[RowStart],
+        used: u64,
+        budget: u64,
+    ) -> Result<RunEnd, RevisedStop>
+        requires rows { form.now.rows ≡ self.old.bare.rows }
+        requires cols { form.now.cols ≡ self.old.bare.cols }
+        requires starts { length starts.now ≡ self.old.bare.rows }
+        requires few { self.old.replaced < replacements }
+        ensures run { EndsOver (second_run budget form.now starts.now used self.old) result }
+        ensures narrow { IfOk result (λ e. IsNarrowCertificate e.certificate) }
+    {
+        self.fix_artificials();
+        let mut pivots = used;
+        let end = self.run(alloc, form, starts, form.costs(), &mut pivots, budget)?;
+        let certificate = self.certificate(alloc, starts, &end)?;
+        let basis = self.basis_at(alloc, end.end)?;
+        Ok(RunEnd {
+            certificate,
+            basis,
+            pivots,
+        })
+    }
+
+    // Both phases, which share the budget. Where phase one leaves an artificial that is not 0, no point is feasible.
+    fn phases(
+        &mut self,
+        alloc: Global,
+        form: &Form,
+        starts: &[RowStart],
+        budget: u64,
+    ) -> Result<RunEnd, RevisedStop>
+        requires rows { form.now.rows ≡ self.old.bare.rows }
+        requires cols { form.now.cols ≡ self.old.bare.cols }
+        requires starts { length starts.now ≡ self.old.bare.rows }
+        requires few { self.old.replaced < replacements }
+        ensures run { EndsOver (over_phases (Some largest) budget form.now starts.now self.old) result }
+        ensures narrow { IfOk result (λ e. IsNarrowCertificate e.certificate) }
+    {
+        let mut used = 0;
+        let one = self.phase_one(alloc, form, starts, &mut used, budget)?;
+        if self.is_stuck() {
+            return Ok(RunEnd {
+                certificate: Certificate::Infeasible {
+                    y: negatives_of(alloc, self.rows(), &one.multipliers)?,
+                },
+                basis: None,
+                pivots: used,
+            });
+        }
+        self.phase_two(alloc, form, starts, used, budget)
+    }
+}
+
+/// The cold run over factors, within a budget of pivots and flips: from the form's start through both phases, with the
+/// certificate of the end.
+///
+/// It gives up with the first operation that is past 127 bits, or where the budget is spent. For the form of a model
+/// the run on whole tableaus with unlimited fractions ends so too.
+pub fn cold(alloc: Global, form: &Form, budget: u64) -> Result<RunEnd, RevisedStop>
+    ensures run { EndsOver (over_run (Some largest) budget form.now) result }
+    ensures whole { (m : Model) → form_of (Some largest) m ≡ Ok form.now →
+        EndsWhole (phases_run None budget form.now) result }
+    ensures narrow { IfOk result (λ e. IsNarrowCertificate e.certificate) }
+{
+    let starts = row_starts(alloc, form)?;
+    let mut state = begun(alloc, form, &starts)?;
+    state.refactor(alloc, form)?;
+    state.phases(alloc, form, &starts, budget)
+}

@@ -1,0 +1,164 @@
+// What a run over factors ends with: the certificate and the basis.
+ghost use Rattle.std.specs.Prelude.{◌≡◌, ◌<◌, ◌∷◌, ◌++◌, [], All, IfOk, OnOk, length, get_or};
+ghost use Rattle.spec_exact.specs.Fraction.{0ℚ};
+ghost use Rattle.spec_exact.specs.Narrow.{IsNarrow};
+ghost use Rattle.spec_check.specs.Certificate.{IsNarrowCertificate};
+ghost use Rattle.spec_simplex.specs.Tableau.{entry_at};
+ghost use Rattle.spec_cold.specs.Cold as solves;
+ghost use Rattle.spec_factor.specs.Revised.{seen};
+ghost use Rattle.spec_factor.specs.Over.{negatives, over_certificate};
+ghost use Rattle.lp_revised.specs.Runs.{EndsWith, selection_at};
+
+use crate::select::Column;
+use crate::state::{Revised, RowStart};
+use crate::steps::StepsEnd;
+use lp_factor::narrow;
+use lp_form::Basis;
+use lp_frac::{Frac, Fracs, neg, one, zero};
+use lp_primal::directed;
+use lp_tableau::PrimalEnd;
+use std::alloc::{AllocError, Global};
+
+/// The certificate of an end.
+pub type Certificate = spec_check::Certificate<Fracs>;
+
+// Puts a fraction at the end, whose parts have at most 127 bits as those of each one.
+fn push(fracs: &mut Fracs, v: Frac) -> Result<(), AllocError>
+    ensures pushed { OnOk result (fracs.new ≡ fracs.old ++ v ∷ []) }
+    ensures narrow { IsNarrow v }
+{
+    let value = narrow(v);
+    fracs.push(value)?;
+    Ok(())
+}
+
+// The multiplier of row `i`, 0 where none stands.
+fn multiplier(y: &Fracs, i: u32) -> Frac
+    ensures { result ≡ get_or y.now i 0ℚ }
+{
+    if (i as usize) < y.len() {
+        y.at(i as usize)
+    } else {
+        zero()
+    }
+}
+
+// The negatives of the multipliers, one for each row.
+pub(crate) fn negatives_of(alloc: Global, rows: u32, y: &Fracs) -> Result<Fracs, AllocError>
+    ensures value { IfOk result (λ z. z ≡ negatives rows y.now) }
+    ensures narrow { IfOk result (All IsNarrow) }
+{
+    let mut list = Fracs::new(alloc);
+    for i in 0..rows {
+        push(&mut list, neg(multiplier(y, i)))?;
+    }
+    Ok(list)
+}
+
+impl Revised {
+    // The values of the model's columns.
+    fn point(&self, alloc: Global) -> Result<Fracs, AllocError>
+        ensures value { IfOk result (λ x. x ≡ solves.point self.now.bare) }
+        ensures narrow { IfOk result (All IsNarrow) }
+    {
+        let mut point = Fracs::new(alloc);
+        for j in 0..self.cols {
+            push(&mut point, self.value(j))?;
+        }
+        Ok(point)
+    }
+
+    // What stands at a position in a column that enters.
+    fn entry_in(&self, starts: &[RowStart], column: &Column, place: u32) -> Frac
+        requires starts { length starts.now ≡ self.now.bare.rows }
+        requires solved { length column.now.solved ≡ self.now.bare.rows }
+        requires place { place < self.now.bare.rows }
+        ensures { result ≡ entry_at (seen starts.now self.now.bare column.now.number column.now.solved) place
+            column.now.number }
+    {
+        self.entry(starts, column.solved.as_slice(), place)
+    }
+
+    // How column `k` moves while a column enters and rises or falls by 1.
+    fn move_of(&self, starts: &[RowStart], column: &Column, up: bool, k: u32) -> Frac
+        requires starts { length starts.now ≡ self.now.bare.rows }
+        requires solved { length column.now.solved ≡ self.now.bare.rows }
+        ensures { result ≡ solves.moves_by (seen starts.now self.now.bare column.now.number column.now.solved)
+            column.now.number up k }
+    {
+        let mut moved = if k == column.number {
+            directed(up, one())
+        } else {
+            zero()
+        };
+        for i in 0..self.rows() {
+            if self.basic(i) == k {
+                moved = neg(directed(up, self.entry_in(starts, column, i)));
+            }
+        }
+        moved
+    }
+
+    // The same of the model's columns.
+    fn direction(
+        &self,
+        alloc: Global,
+        starts: &[RowStart],
+        column: &Column,
+        up: bool,
+    ) -> Result<Fracs, AllocError>
+        requires starts { length starts.now ≡ self.now.bare.rows }
+        requires solved { length column.now.solved ≡ self.now.bare.rows }
+        ensures value { IfOk result (λ r. r ≡ solves.direction
+            (seen starts.now self.now.bare column.now.number column.now.solved) column.now.number up) }
+        ensures narrow { IfOk result (All IsNarrow) }
+    {
+        let mut direction = Fracs::new(alloc);
+        for k in 0..self.cols {
+            push(&mut direction, self.move_of(starts, column, up, k))?;
+        }
+        Ok(direction)
+    }
+
+    // The certificate of an end.
+    pub(crate) fn certificate(
+        &self,
+        alloc: Global,
+        starts: &[RowStart],
+        end: &StepsEnd,
+    ) -> Result<Certificate, AllocError>
+        requires starts { length starts.now ≡ self.now.bare.rows }
+        requires with { EndsWith self.now.bare end.now.column end.now.end }
+        ensures value { IfOk result (λ c. c ≡ over_certificate self.now.bare
+            (selection_at starts.now self.now.bare end.now) end.now.end) }
+        ensures narrow { IfOk result IsNarrowCertificate }
+    {
+        match end.end {
+            PrimalEnd::Optimal => Ok(Certificate::Optimal {
+                x: self.point(alloc)?,
+                y: negatives_of(alloc, self.rows(), &end.multipliers)?,
+            }),
+            PrimalEnd::Unbounded { up, .. } => match &end.column {
+                Some(column) => Ok(Certificate::Unbounded {
+                    x: self.point(alloc)?,
+                    r: self.direction(alloc, starts, column, up)?,
+                }),
+                None => unreachable!(),
+            },
+        }
+    }
+
+    // The basis of an end, which an optimal one has.
+    pub(crate) fn basis_at(
+        &self,
+        alloc: Global,
+        end: PrimalEnd,
+    ) -> Result<Option<Basis>, AllocError>
+        ensures { IfOk result (λ b. b ≡ solves.basis_at self.now.bare end) }
+    {
+        match end {
+            PrimalEnd::Optimal => Ok(Some(self.factor_basis(alloc)?)),
+            PrimalEnd::Unbounded { .. } => Ok(None),
+        }
+    }
+}

@@ -1,0 +1,90 @@
+// How the basic columns move with the entering one, and flips.
+ghost use Rattle.std.specs.Prelude.{◌≡◌, ◌<◌, Some, length};
+ghost use Rattle.spec_simplex.specs.Tableau.{all_columns};
+ghost use Rattle.spec_simplex.specs.Step.{flipped};
+ghost use Rattle.spec_factor.specs.Revised.{seen, flip_over_run};
+ghost use Rattle.lp_frac.specs.Narrow.{largest};
+ghost use Rattle.lp_factor.specs.Answer.{GivesRun};
+ghost use Rattle.lp_revised.specs.Moved.{WithValues, moved_by, moves_by};
+
+use crate::state::{Revised, RowStart};
+use lp_factor::less_product;
+use lp_form::Status;
+use lp_frac::{Frac, Past, sub};
+use lp_primal::directed;
+use lp_tableau::{flip_way, is_place, or_zero, other_bound, stand};
+
+impl Revised {
+    // The column at position `i` moves with the entering one, which is `solved` by places.
+    fn move_at(
+        &mut self,
+        starts: &[RowStart],
+        solved: &[Frac],
+        theta: Frac,
+        i: u32,
+    ) -> Result<(), Past>
+        requires starts { length starts.now ≡ self.old.bare.rows }
+        requires solved { length solved.now ≡ self.old.bare.rows }
+        requires place { i < self.old.bare.rows }
+        ensures moved { GivesRun (moved_by starts.now self.old.bare solved.now theta i self.old.bare.value)
+            self.new.bare.value result }
+        ensures rest { WithValues self.old self.new }
+    {
+        let k = self.basic(i);
+        let value = less_product(self.entry(starts, solved, i), theta, self.value(k))?;
+        self.value[k as usize] = value;
+        Ok(())
+    }
+
+    // All basic columns move, but for the one at a position, if one is named.
+    pub(crate) fn move_values(
+        &mut self,
+        starts: &[RowStart],
+        solved: &[Frac],
+        theta: Frac,
+        but: Option<u32>,
+    ) -> Result<(), Past>
+        requires starts { length starts.now ≡ self.old.bare.rows }
+        requires solved { length solved.now ≡ self.old.bare.rows }
+        ensures moved { GivesRun (moves_by starts.now self.old.bare solved.now theta but self.old.bare.rows)
+            self.new.bare.value result }
+        ensures rest { WithValues self.old self.new }
+    {
+        for i in 0..self.rows() {
+            if !is_place(but, i) {
+                self.move_at(starts, solved, theta, i)?;
+            }
+        }
+        Ok(())
+    }
+
+    // Column `col` stands at the bound `to`.
+    fn put_at(&mut self, col: u32, to: Status)
+        requires { col < all_columns self.old.bare }
+        ensures { self.new ≡ record self.old { bare = flipped self.old.bare col to self.old.bare.value } }
+    {
+        let value = stand(to, self.lower(col), self.upper(col));
+        self.value[col as usize] = value;
+        self.status[col as usize] = to;
+    }
+
+    /// Moves column `col`, which is `solved` by places, to its other bound, and the basic columns with
+    /// it. After a refusal the state is spent.
+    pub fn flip(&mut self, starts: &[RowStart], solved: &[Frac], col: u32) -> Result<(), Past>
+        requires starts { length starts.now ≡ self.old.bare.rows }
+        requires solved { length solved.now ≡ self.old.bare.rows }
+        requires column { col < all_columns self.old.bare }
+        ensures run { GivesRun (flip_over_run (Some largest) self.old (seen starts.now self.old.bare col solved.now)
+            col) self.new result }
+        ensures rows { self.new.bare.rows ≡ self.old.bare.rows }
+        ensures cols { self.new.bare.cols ≡ self.old.bare.cols }
+        ensures replaced { self.new.replaced ≡ self.old.replaced }
+    {
+        let _ = &self.rows;
+        let range = sub(or_zero(self.upper(col)), or_zero(self.lower(col)))?;
+        let up = flip_way(self.status(col));
+        self.move_values(starts, solved, directed(up, range), None)?;
+        self.put_at(col, other_bound(up));
+        Ok(())
+    }
+}

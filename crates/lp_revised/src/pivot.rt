@@ -1,0 +1,143 @@
+// Pivots: the values change, and then the column is replaced.
+ghost use Rattle.std.specs.Prelude.{◌≡◌, ◌≢◌, ◌<◌, ◌+◌, Some, OnOk, get_or, length};
+ghost use Rattle.spec_exact.specs.Fraction.{0ℚ};
+ghost use Rattle.spec_simplex.specs.Tableau.{all_columns};
+ghost use Rattle.spec_simplex.specs.Run.{refused_as};
+ghost use Rattle.spec_simplex.specs.declared.ends.RunStop.TheVariants as cause;
+ghost use Rattle.spec_simplex.specs.Step.{shifted_run, exchanged};
+ghost use Rattle.spec_factor.specs.Factors.{with_pair};
+ghost use Rattle.spec_factor.specs.Revised.{seen, pivot_over_run, replacements};
+ghost use Rattle.lp_frac.specs.Narrow.{largest};
+ghost use Rattle.lp_factor.specs.Answer.{GivesRun};
+ghost use Rattle.lp_revised.specs.Answer.{LeavesRevised};
+ghost use Rattle.lp_revised.specs.Moved.{WithValues, exchanged_by};
+ghost use Rattle.lp_revised.specs.Selecting.{IsSolved};
+
+use crate::select::Column;
+use crate::state::{Revised, RowStart};
+use crate::stop::RevisedStop;
+use lp_form::{Form, Status};
+use lp_frac::{Frac, Fracs, Past, add, zero};
+use lp_tableau::stand;
+use std::alloc::{AllocError, Global};
+
+impl Revised {
+    // Column `col`, which is not basic, moves by `theta`.
+    #[tactic(auto, unfolding(spec_simplex::specs::Step::shifted_run))]
+    fn shift(&mut self, col: u32, theta: Frac) -> Result<(), Past>
+        requires { col < all_columns self.old.bare }
+        ensures value { GivesRun (shifted_run (Some largest) self.old.bare.value col theta) self.new.bare.value result }
+        ensures rest { WithValues self.old self.new }
+    {
+        let value = add(self.value(col), theta)?;
+        self.value[col as usize] = value;
+        Ok(())
+    }
+
+    // The factors get column `col`, which is `solved` by places, in a place.
+    fn replace(
+        &mut self,
+        alloc: Global,
+        place: u32,
+        col: u32,
+        solved: &Fracs,
+    ) -> Result<(), AllocError>
+        requires place { place < self.old.bare.rows }
+        requires solved { length solved.now ≡ self.old.bare.rows }
+        requires entry { get_or solved.now place 0ℚ ≢ 0ℚ }
+        requires few { self.old.replaced < replacements }
+        ensures ok { OnOk result (self.new ≡ record {
+          bare = self.old.bare;
+          pairs = with_pair self.old.pairs place solved.now;
+          replaced = self.old.replaced + 1;
+        }) }
+        ensures bare { self.new.bare ≡ self.old.bare }
+    {
+        let _places = self.rows();
+        self.factors.replace_solved(alloc, place, col, solved)?;
+        self.replaced += 1;
+        Ok(())
+    }
+
+    // The column at a position goes to the bound `to`, and column `col` takes the position. An
+    // artificial that leaves is at 0 for good.
+    fn exchange(&mut self, place: u32, col: u32, to: Status)
+        requires place { place < self.old.bare.rows }
+        requires column { col < all_columns self.old.bare }
+        ensures { self.new ≡ record self.old { bare = exchanged self.old.bare place col to } }
+    {
+        let leaving = self.basic(place) as usize;
+        let artificials = self.form_columns() as usize;
+        let value = stand(to, self.lower[leaving], self.upper[leaving]);
+        self.basic[place as usize] = col;
+        self.value[leaving] = value;
+        self.status[leaving] = to;
+        self.status[col as usize] = Status::Basic;
+        if leaving >= artificials {
+            self.lower[leaving] = Some(zero());
+            self.upper[leaving] = Some(zero());
+        }
+    }
+
+    // A column of the form moves by `theta`, and the basic columns with it, and then it takes the
+    // place, whose column goes to the bound `to`. The form is not read: the column is solved.
+    fn exchange_values(
+        &mut self,
+        alloc: Global,
+        starts: &[RowStart],
+        column: &Column,
+        place: u32,
+        theta: Frac,
+        to: Status,
+    ) -> Result<(), RevisedStop>
+        requires starts { length starts.now ≡ self.old.bare.rows }
+        requires column { column.now.number < all_columns self.old.bare }
+        requires all { length column.now.solved ≡ self.old.bare.rows }
+        requires place { place < self.old.bare.rows }
+        requires entry { get_or column.now.solved place 0ℚ ≢ 0ℚ }
+        requires few { self.old.replaced < replacements }
+        ensures run { LeavesRevised (refused_as cause.Past
+            (exchanged_by starts.now self.old column.now.solved place column.now.number theta to)) self.new result }
+        ensures rows { self.new.bare.rows ≡ self.old.bare.rows }
+        ensures cols { self.new.bare.cols ≡ self.old.bare.cols }
+    {
+        let _ = &self.rows;
+        let solved = column.solved.as_slice();
+        self.move_values(starts, solved, theta, Some(place))?;
+        self.shift(column.number, theta)?;
+        self.replace(alloc, place, column.number, &column.solved)?;
+        self.exchange(place, column.number, to);
+        Ok(())
+    }
+
+    /// Moves the column that enters by `theta` and the basic columns with it, and puts it in place of
+    /// the one at a position, which goes to the bound `to`. Then the factors are taken anew, if it is
+    /// time. After a refusal the state is spent.
+    pub fn pivot(
+        &mut self,
+        alloc: Global,
+        form: &Form,
+        starts: &[RowStart],
+        column: &Column,
+        place: u32,
+        theta: Frac,
+        to: Status,
+    ) -> Result<(), RevisedStop>
+        requires rows { form.now.rows ≡ self.old.bare.rows }
+        requires cols { form.now.cols ≡ self.old.bare.cols }
+        requires starts { length starts.now ≡ self.old.bare.rows }
+        requires column { IsSolved form.now self.old column.now }
+        requires place { place < self.old.bare.rows }
+        requires entry { get_or column.now.solved place 0ℚ ≢ 0ℚ }
+        requires few { self.old.replaced < replacements }
+        ensures run { LeavesRevised (pivot_over_run (Some largest) form.now self.old
+            (seen starts.now self.old.bare column.now.number column.now.solved) place column.now.number theta
+            to) self.new result }
+        ensures rows { self.new.bare.rows ≡ self.old.bare.rows }
+        ensures cols { self.new.bare.cols ≡ self.old.bare.cols }
+        ensures fresh { OnOk result (self.new.replaced < replacements) }
+    {
+        self.exchange_values(alloc, starts, column, place, theta, to)?;
+        self.refresh(alloc, form)
+    }
+}

@@ -1,0 +1,102 @@
+// Which column enters: reduced costs, each over its column's entries alone.
+ghost use Rattle.std.specs.Prelude.{◌≡◌, ◌<◌, ◌≤◌, ◌+◌, Some, All, IfSome, IfOk, length};
+ghost use Rattle.spec_exact.specs.Narrow.{IsNarrow};
+ghost use Rattle.spec_simplex.specs.Tableau.{all_columns};
+ghost use Rattle.spec_simplex.specs.Tableau.{is_basic as is_basic_of};
+ghost use Rattle.spec_factor.specs.Revised.{price_run, way_run, entering_run};
+ghost use Rattle.lp_frac.specs.Narrow.{largest};
+
+use crate::costs::cost;
+use crate::state::Revised;
+use lp_factor::{less_product, narrow};
+use lp_form::{Form, Status};
+use lp_frac::{Frac, Past, neg, one};
+use lp_primal::{is_fixed, way};
+use spec_simplex::Entering;
+
+// The reduced cost of structural column `k`, over its entries.
+fn price_structural(form: &Form, costs: &[Frac], y: &[Frac], k: u32) -> Result<Frac, Past>
+    requires column { k < form.now.cols }
+    requires all { length y.now ≡ form.now.rows }
+    requires narrow { All IsNarrow y.now }
+    ensures { result ≡ price_run (Some largest) form.now costs.now y.now k }
+{
+    let mut rest = narrow(cost(costs, k));
+    for (row, value) in form.entries(k) {
+        rest = narrow(less_product(y[*row as usize], neg(*value), rest)?);
+    }
+    Ok(rest)
+}
+
+// The reduced cost of logical column `k`, whose entry is 1 in its row.
+fn price_logical(form: &Form, costs: &[Frac], y: &[Frac], k: u32) -> Result<Frac, Past>
+    requires logical { form.now.cols ≤ k }
+    requires column { k < form.now.cols + form.now.rows }
+    requires all { length y.now ≡ form.now.rows }
+    requires narrow { All IsNarrow y.now }
+    ensures { result ≡ price_run (Some largest) form.now costs.now y.now k }
+{
+    let rest = narrow(cost(costs, k));
+    let less = narrow(less_product(y[(k - form.cols()) as usize], one(), rest)?);
+    Ok(less)
+}
+
+// The reduced cost of column `k`. An artificial has no entries beside those of its row's logical.
+fn price(form: &Form, costs: &[Frac], y: &[Frac], k: u32) -> Result<Frac, Past>
+    requires all { length y.now ≡ form.now.rows }
+    requires narrow { All IsNarrow y.now }
+    ensures { result ≡ price_run (Some largest) form.now costs.now y.now k }
+{
+    if k < form.cols() {
+        price_structural(form, costs, y, k)
+    } else if k - form.cols() < form.rows() {
+        price_logical(form, costs, y, k)
+    } else {
+        Ok(narrow(cost(costs, k)))
+    }
+}
+
+pub(crate) fn is_basic(status: Status) -> bool
+    ensures { result ≡ is_basic_of status }
+{
+    match status {
+        Status::Basic => true,
+        Status::AtLower | Status::AtUpper | Status::AtZero => false,
+    }
+}
+
+impl Revised {
+    // Whether column `k` rises or falls, if it may enter.
+    fn way(&self, form: &Form, costs: &[Frac], y: &[Frac], k: u32) -> Result<Option<bool>, Past>
+        requires column { k < all_columns self.now.bare }
+        requires all { length y.now ≡ form.now.rows }
+        requires narrow { All IsNarrow y.now }
+        ensures { result ≡ way_run (Some largest) form.now costs.now y.now self.now.bare k }
+    {
+        let status = self.status(k);
+        if is_fixed(self.lower(k), self.upper(k)) || is_basic(status) {
+            return Ok(None);
+        }
+        Ok(way(status, price(form, costs, y, k)?))
+    }
+
+    // The least column that may enter. Those behind it are not priced.
+    pub(crate) fn entering(
+        &self,
+        form: &Form,
+        costs: &[Frac],
+        y: &[Frac],
+    ) -> Result<Option<Entering>, Past>
+        requires all { length y.now ≡ form.now.rows }
+        requires narrow { All IsNarrow y.now }
+        ensures value { result ≡ entering_run (Some largest) form.now costs.now y.now self.now.bare }
+        ensures inside { IfOk result (λ o. IfSome o (λ e. e.col < all_columns self.now.bare)) }
+    {
+        for col in 0..self.width() {
+            if let Some(up) = self.way(form, costs, y, col)? {
+                return Ok(Some(Entering { col, up }));
+            }
+        }
+        Ok(None)
+    }
+}

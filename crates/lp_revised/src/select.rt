@@ -1,0 +1,108 @@
+// What a step sees and chooses.
+ghost use Rattle.std.specs.Prelude.{◌≡◌, ◌<◌, Some, Ok, IfOk, length};
+ghost use Rattle.spec_simplex.specs.Tableau.{all_columns};
+ghost use Rattle.spec_factor.specs.Factors.{column_of as column_by, ftran_run};
+ghost use Rattle.spec_factor.specs.Revised.{selection_run};
+ghost use Rattle.lp_frac.specs.Narrow.{largest};
+ghost use Rattle.lp_revised.specs.Answer.{TellsRevised};
+ghost use Rattle.lp_revised.specs.Selecting.{choice_seen, MayDo, CanDo, Selects};
+
+use crate::state::{Revised, RowStart};
+use crate::stop::RevisedStop;
+use lp_factor::column_of;
+use lp_form::Form;
+use lp_frac::{Frac, Fracs, Past};
+use lp_primal::directed;
+use lp_tableau::PrimalEnd;
+use spec_simplex::Entering;
+use std::alloc::Global;
+
+/// What a step does.
+pub type Choice = spec_simplex::Choice<Frac>;
+
+/// A column that enters, and its solution by places.
+#[derive(Drop)]
+pub struct Column {
+    pub number: u32,
+    pub solved: Fracs,
+}
+
+/// What a step saw, and what it does.
+#[derive(Drop)]
+pub struct Selected {
+    pub multipliers: Fracs,
+    /// The column that enters, if one may.
+    pub column: Option<Column>,
+    pub choice: Choice,
+}
+
+impl Revised {
+    // The solution of column `k`, by places.
+    fn solve_column(&self, alloc: Global, form: &Form, k: u32) -> Result<Fracs, RevisedStop>
+        requires { form.now.rows ≡ self.now.bare.rows }
+        ensures run { TellsRevised (ftran_run (Some largest) self.now.bare.rows self.now.pairs (column_by form.now k))
+            result }
+        ensures all { IfOk result (λ z. length z ≡ self.now.bare.rows) }
+    {
+        let mut column = column_of(alloc, form, k)?;
+        self.factors.ftran(&mut column)?;
+        Ok(column)
+    }
+
+    // What is done with the column that enters.
+    fn chosen(&self, starts: &[RowStart], solved: &[Frac], e: Entering) -> Result<Choice, Past>
+        requires starts { length starts.now ≡ self.now.bare.rows }
+        requires solved { length solved.now ≡ self.now.bare.rows }
+        requires column { e.col < all_columns self.now.bare }
+        ensures value { result ≡ choice_seen starts.now self.now.bare solved.now e }
+        ensures possible { IfOk result (MayDo self.now.bare solved.now e.col) }
+    {
+        let Some(best) = self.best(starts, solved, e)? else {
+            let (col, up) = (e.col, e.up);
+            return Ok(Choice::End(PrimalEnd::Unbounded { col, up }));
+        };
+        match best.place {
+            None => Ok(Choice::Flip { col: e.col }),
+            Some(place) => Ok(Choice::Pivot {
+                place,
+                col: e.col,
+                theta: directed(e.up, best.ratio),
+                to: best.to,
+            }),
+        }
+    }
+
+    /// The multipliers, the column that enters, and what is done with it.
+    pub fn select(
+        &self,
+        alloc: Global,
+        form: &Form,
+        starts: &[RowStart],
+        costs: &[Frac],
+    ) -> Result<Selected, RevisedStop>
+        requires rows { form.now.rows ≡ self.now.bare.rows }
+        requires starts { length starts.now ≡ self.now.bare.rows }
+        ensures run { Selects (selection_run (Some largest) form.now starts.now costs.now self.now) starts.now
+            self.now.bare result }
+        ensures possible { IfOk result (λ l. CanDo form.now self.now l.column l.choice) }
+    {
+        let multipliers = self.multipliers(alloc, starts, costs)?;
+        let Some(e) = self.entering(form, costs, multipliers.as_slice())? else {
+            return Ok(Selected {
+                multipliers,
+                column: None,
+                choice: Choice::End(PrimalEnd::Optimal),
+            });
+        };
+        let solved = self.solve_column(alloc, form, e.col)?;
+        let choice = self.chosen(starts, solved.as_slice(), e)?;
+        Ok(Selected {
+            multipliers,
+            column: Some(Column {
+                number: e.col,
+                solved,
+            }),
+            choice,
+        })
+    }
+}
