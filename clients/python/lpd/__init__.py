@@ -42,7 +42,8 @@ from .errors import (
 from .link import Link
 from .model import Model, read_model
 from .program import Program, run
-from .replies import Accepted, Answer, Found, Infeasible, Loaded, Optimal, Past, Rejected, Spent, Unbounded, Verdict
+from .replies import Accepted, Answer, Infeasible, Loaded, Optimal, Past, Rejected, Spent, Unbounded, Verdict
+from .replies import Basis, Cold, Fell, Found, Full, Published, Raced, Same, Unpublished
 from .session import Session, connect
 
 __all__ = [
@@ -51,11 +52,15 @@ __all__ = [
     "BadCommand",
     "BadName",
     "BadNumber",
+    "Basis",
     "CertificateFault",
     "Certified",
+    "Cold",
     "ConnectFailed",
     "Converted",
+    "Fell",
     "Found",
+    "Full",
     "Infeasible",
     "LimitReached",
     "LineTooLong",
@@ -78,9 +83,12 @@ __all__ = [
     "Program",
     "ProgramEnded",
     "ProgramMissing",
+    "Published",
     "Question",
+    "Raced",
     "Refused",
     "Rejected",
+    "Same",
     "Session",
     "Spent",
     "TextFault",
@@ -89,6 +97,7 @@ __all__ = [
     "Unconvertible",
     "Unexpected",
     "UnknownName",
+    "Unpublished",
     "Verdict",
     "certify",
     "check",

@@ -91,9 +91,94 @@ class Loaded:
 
 
 @dataclass(frozen=True)
-class Found:
-    """How the last answer was found: by which start, in how many pivots and flips, and what of it was passed on."""
+class Cold:
+    """The solve began with the start that every model has."""
 
-    start: str
+    def __str__(self) -> str:
+        return "COLD"
+
+
+@dataclass(frozen=True)
+class Basis:
+    """The solve began with the basis at this place."""
+
+    place: int
+
+    def __str__(self) -> str:
+        return f"BASIS {self.place}"
+
+
+@dataclass(frozen=True)
+class Fell:
+    """The basis at this place was tried and given up, and the solve began anew. The basis is SINGULAR in this model or UNFIT for
+    it, a number was PAST 127 bits on the way from it, or the budget was SPENT on the way."""
+
+    place: int
+    why: str
+
+    def __str__(self) -> str:
+        return f"FELL {self.place} {self.why}"
+
+
+Start = Union[Cold, Basis, Fell]
+
+
+@dataclass(frozen=True)
+class Unpublished:
+    """The answer has no basis to publish."""
+
+    def __str__(self) -> str:
+        return "NONE"
+
+
+@dataclass(frozen=True)
+class Same:
+    """The answer's basis is the one that the solve began with."""
+
+    def __str__(self) -> str:
+        return "SAME"
+
+
+@dataclass(frozen=True)
+class Published:
+    """The answer's basis is at this place, for other sessions too."""
+
+    place: int
+
+    def __str__(self) -> str:
+        return f"PUBLISHED {self.place}"
+
+
+@dataclass(frozen=True)
+class Raced:
+    """Another session claimed the place first; so many are claimed."""
+
+    claimed: int
+
+    def __str__(self) -> str:
+        return f"RACED {self.claimed}"
+
+
+@dataclass(frozen=True)
+class Full:
+    """All places are claimed, so many."""
+
+    claimed: int
+
+    def __str__(self) -> str:
+        return f"FULL {self.claimed}"
+
+
+Publication = Union[Unpublished, Same, Published, Raced, Full]
+
+
+@dataclass(frozen=True)
+class Found:
+    """How the last answer was found: from which start, in how many pivots and flips, and what became of its basis."""
+
+    start: Start
     pivots: Optional[int]
-    publication: str
+    publication: Publication
+
+    def __str__(self) -> str:
+        return f"HOW {self.start} PIVOTS {'-' if self.pivots is None else self.pivots} {self.publication}"

@@ -11,7 +11,8 @@ from .link import TIMEOUT, Link
 from .model import Model, lines_of, read_lines, read_model, words_of
 from .number_text import NotANumber, parse, shown
 from .program import Program
-from .replies import Accepted, Answer, Found, Infeasible, Known, Loaded, Optimal, Past, Rejected, Spent, Unbounded, Verdict
+from .replies import Accepted, Answer, Infeasible, Known, Loaded, Optimal, Past, Rejected, Spent, Unbounded, Verdict
+from .replies import Basis, Cold, Fell, Found, Full, Publication, Published, Raced, Same, Start, Unpublished
 
 # What may be given as a number: an int, a fraction, or its text, as "0.1". A float is not, since it is seldom what it looks like.
 Numeric = Union[int, Fraction, str]
@@ -48,6 +49,37 @@ def known_of(words: Sequence[str]) -> Optional[Known]:
 
 def past_of(words: Sequence[str]) -> Optional[Past]:
     return Past(words[1], value_of(words[2]), value_of(words[3])) if len(words) == 4 and words[0] == "PAST" else None
+
+
+FALLS = ("SINGULAR", "UNFIT", "PAST", "SPENT")
+
+
+def start_of(words: Sequence[str]) -> Optional[Start]:
+    if len(words) == 2 and words[0] == "BASIS":
+        return Basis(count_of(words[1]))
+    if len(words) == 3 and words[0] == "FELL" and words[2] in FALLS:
+        return Fell(count_of(words[1]), words[2])
+    return Cold() if list(words) == ["COLD"] else None
+
+
+def publication_of(words: Sequence[str]) -> Optional[Publication]:
+    if len(words) == 2 and words[0] == "PUBLISHED":
+        return Published(count_of(words[1]))
+    if len(words) == 2 and words[0] == "RACED":
+        return Raced(count_of(words[1]))
+    if len(words) == 2 and words[0] == "FULL":
+        return Full(count_of(words[1]))
+    if list(words) == ["SAME"]:
+        return Same()
+    return Unpublished() if list(words) == ["NONE"] else None
+
+
+def found_of(words: Sequence[str]) -> Optional[Found]:
+    at = words.index("PIVOTS") if "PIVOTS" in words else len(words)
+    start, publication = start_of(words[1:at]), publication_of(words[at + 2 :])
+    if words[0] != "HOW" or start is None or publication is None:
+        return None
+    return Found(start, None if words[at + 1] == "-" else count_of(words[at + 1]), publication)
 
 
 class Transport(Protocol):
@@ -175,10 +207,12 @@ class Session:
         return self.lines("CERT", ["CERT"])
 
     def how(self) -> Found:
+        """How the last answer was found."""
         words = self.ask(["HOW"])
-        if len(words) < 5 or words[0] != "HOW" or words[2] != "PIVOTS":
+        found = found_of(words)
+        if found is None:
             raise unexpected(words)
-        return Found(words[1], None if words[3] == "-" else count_of(words[3]), " ".join(words[4:]))
+        return found
 
     def check(self, certificate: Union[str, Sequence[str]]) -> Verdict:
         """The verdict of the proved checker on a certificate for the model."""

@@ -172,7 +172,7 @@ class WithTheProgram(Linked):
         self.assertEqual(session.solve_checked(lpd.read_model(text))[0], lpd.Optimal(Fraction(185, 2)))
         session.set_rhs("energy", 2500)
         self.assertEqual(str(session.solve_checked()[0]), "OPTIMAL 120.625")
-        self.assertEqual(session.how().start, "COLD")
+        self.assertEqual(session.how().start, lpd.Basis(0))
         with self.assertRaisesRegex(lpd.UnknownName, "in 'DELROW none'"):
             session.delete_row("none")
         with self.assertRaises(lpd.TextFault):

@@ -33,15 +33,31 @@ class Replayed(unittest.TestCase):
         self.assertEqual([session.check("OPTIMAL\nx x 1\n") for _ in expected], expected)
 
     def test_other_replies(self) -> None:
-        session = self.session("1 LOADED 1 2", "1 OK", "1 CERT 2", "CLASH x", "END", "1 CERT 0", "1 HOW COLD PIVOTS 3 NONE", "1 HOW COLD PIVOTS - NONE", "1 TEXT 1", "ENDATA", "1 BYE")
+        session = self.session("1 LOADED 1 2", "1 OK", "1 CERT 2", "CLASH x", "END", "1 CERT 0", "1 TEXT 1", "ENDATA", "1 BYE")
         self.assertEqual(session.load(TEXT), lpd.Loaded(1, 2))
         session.set_bounds("x", None, Fraction(1, 2))
         self.assertEqual(session.certificate(), ["CLASH x", "END"])
         self.assertEqual(session.certificate(), [])
-        self.assertEqual(session.how(), lpd.Found("COLD", 3, "NONE"))
-        self.assertEqual(session.how(), lpd.Found("COLD", None, "NONE"))
         self.assertEqual(session.write(), "ENDATA\n")
         session.close()
+
+    def test_how_an_answer_was_found(self) -> None:
+        cases = {
+            "HOW COLD PIVOTS 3 NONE": lpd.Found(lpd.Cold(), 3, lpd.Unpublished()),
+            "HOW COLD PIVOTS - NONE": lpd.Found(lpd.Cold(), None, lpd.Unpublished()),
+            "HOW COLD PIVOTS 2 FULL 1": lpd.Found(lpd.Cold(), 2, lpd.Full(1)),
+            "HOW BASIS 255 PIVOTS 0 SAME": lpd.Found(lpd.Basis(255), 0, lpd.Same()),
+            "HOW BASIS 0 PIVOTS 1 PUBLISHED 1": lpd.Found(lpd.Basis(0), 1, lpd.Published(1)),
+            "HOW FELL 0 SINGULAR PIVOTS 1 RACED 2": lpd.Found(lpd.Fell(0, "SINGULAR"), 1, lpd.Raced(2)),
+            "HOW FELL 7 UNFIT PIVOTS 0 NONE": lpd.Found(lpd.Fell(7, "UNFIT"), 0, lpd.Unpublished()),
+            "HOW FELL 7 PAST PIVOTS - NONE": lpd.Found(lpd.Fell(7, "PAST"), None, lpd.Unpublished()),
+            "HOW FELL 7 SPENT PIVOTS - NONE": lpd.Found(lpd.Fell(7, "SPENT"), None, lpd.Unpublished()),
+        }
+        session = self.session(*(f"1 {reply}" for reply in cases))
+        for reply, found in cases.items():
+            with self.subTest(reply):
+                self.assertEqual(session.how(), found)
+                self.assertEqual(str(found), reply)
 
     def test_errors(self) -> None:
         cases = [
@@ -84,6 +100,11 @@ class Replayed(unittest.TestCase):
         for reply in ("1 OPTIMAL", "1 OPTIMAL x", "1 SPENT x", "1 PAST ADD 1", "1 LOADED 1 1"):
             with self.subTest(reply), self.assertRaises(lpd.Unexpected):
                 self.session(reply).solve()
+        starts = ("BASIS PIVOTS 3 NONE", "BASIS x PIVOTS 3 NONE", "FELL 1 PIVOTS 3 NONE", "FELL 1 LATE PIVOTS 3 NONE", "WARM PIVOTS 3 NONE")
+        ends = ("COLD", "COLD 3 NONE", "COLD PIVOTS", "COLD PIVOTS 3", "COLD PIVOTS x NONE", "COLD PIVOTS 3 FULL", "COLD PIVOTS 3 NONE 1")
+        for reply in (*(f"1 HOW {how}" for how in starts + ends), "1 OK"):
+            with self.subTest(reply), self.assertRaises(lpd.Unexpected):
+                self.session(reply).how()
         for reply in ("1 CERT", "1 CERT x", "1 CERT 9999999999", "1 OK"):
             with self.subTest(reply), self.assertRaises(lpd.Unexpected):
                 self.session(reply).certificate()
