@@ -35,7 +35,7 @@ fn print_solved(alloc: Global, model: &Model, to: &mut Bytes) -> Result<(), Allo
     ensures { OnOk result (Prints (SolveOut (Ok model.now)) to.old to.new) }
 {
     let solved = solved_within(alloc, model, OPENING_BUDGET)?;
-    let answer = answer_of(OPENING_BUDGET, &solved);
+    let answer = answer_of(OPENING_BUDGET, &solved.end);
     print_said(alloc, &Reply::Answered(answer), to)?;
-    print_lines(&certificate_lines(alloc, model, &solved)?, to)
+    print_lines(&certificate_lines(alloc, model, &solved.end)?, to)
 }
