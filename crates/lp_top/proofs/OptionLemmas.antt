@@ -1,18 +1,19 @@
 -- The options of a command line, option by option and as a whole.
-use Rattle.std.proofs.Common.{◌≡◌, ℕ, ◌&&◌, ◌||◌, Bool, true, false, not, cond, List, [], ◌∷◌, length, take, drop, nat_le, le-leb, ◌<◌, ◌≤◌, ◌==◌, arith, map, Option, Some, None, refl, sym, ap, ◌∙◌}
-use Rattle.std.specs.Prelude.{codes, option_copied, is_some, option_map, option_and_then}
+use Rattle.std.proofs.Common.{◌≡◌, ℕ, ◌&&◌, ◌||◌, Bool, true, false, not, cond, nat_le, le-leb, ◌<◌, ◌≤◌, ◌==◌, arith}
+use Rattle.std.proofs.Common.{List, [], ◌∷◌, length, take, drop, map, Option, Some, None, refl, sym, ap, ◌∙◌}
+use Rattle.std.specs.Prelude.{option_copied, is_some, option_map, option_and_then, string_bytes}
 use Rattle.std.specs.List.{list_all, list_any}
 use Rattle.std.proofs.lemmas.Bool.{lt-leb}
 use Rattle.std.proofs.lemmas.List.{take-map, drop-map, length-map}
 use denote.Ref.{Bor}
 use Rattle.spec_text.specs.Words.{same}
 use Rattle.spec_mps.specs.Shapes.{look_up}
-use Rattle.spec_mps.specs.declared.style.Style.{Style}
-use Rattle.spec_server.specs.declared.command_line.TextCommand.{TextCommand}
-use Rattle.spec_server.specs.declared.command_line.CommandLine.TheVariants.{Read}
+use Rattle.spec_server.specs.declared.command_line.CommandLine.{CommandLine}
 use Rattle.spec_server.specs.CommandLine as command_lines
-use Rattle.spec_server.specs.CommandLine.{Options, OptionNames, in_pairs, is_one_of, are_distinct, are_options_of, options_in}
-use Rattle.lp_top.specs.Words.{value_in, are_in, bytes_of}
+use Rattle.spec_server.specs.CommandLine.{Options, OptionNames, in_pairs, is_one_of, are_distinct, are_options_of}
+use Rattle.spec_server.specs.CommandLine.{options_in}
+use Rattle.lp_top.specs.declared.command_line.Given.{Given}
+use Rattle.lp_top.specs.Words.{value_in, is_new_option, are_in, bytes_of, IsGiven}
 
 -- the value of an option among the pairs
 pub value-look_up : (name : List ℕ) (words : List (List ℕ)) (options : Options) → in_pairs words ≡ Some options →
@@ -67,12 +68,16 @@ are-pairs names (option ∷ value ∷ words) = by (in_pairs words) refl (are-pai
     by : (p : Option Options) → in_pairs words ≡ p → are_in names words ≡ pairs_are names p →
         are_in names (option ∷ value ∷ words) ≡ pairs_are names (option_map (λ pairs. (option, value) ∷ pairs) p)
     by None q r =
-        ap (λ t. cond (is_one_of option names && not (is_some (value_in option words))) t false) r ∙ and_false (is_one_of option names && not (is_some (value_in option words)))
+        ap (λ t. cond (is_new_option option names words) t false) r ∙ and_false (is_new_option option names words)
     by (Some pairs) q r =
-        ap (λ t. cond (is_one_of option names && not (is_some (value_in option words))) t false) r
-        ∙ ap (λ (v : Option (List ℕ)). cond (is_one_of option names && not (is_some v)) (are_options_of names pairs) false) (value-look_up option words pairs q)
-        ∙ ap (λ (b : Bool). cond (is_one_of option names && not b) (are_options_of names pairs) false) (given-one_of option pairs)
-        ∙ swap_and (is_one_of option names) (is_one_of option (map (λ o. o.0) pairs)) (list_all (λ o. is_one_of o.0 names) pairs) (are_distinct (map (λ o. o.0) pairs))
+        ap (λ t. cond (is_new_option option names words) t false) r
+        ∙ ap (λ (v : Option (List ℕ)).
+        cond (is_one_of option names && not (is_some v)) (are_options_of names pairs) false)
+        (value-look_up option words pairs q)
+        ∙ ap (λ (b : Bool). cond (is_one_of option names && not b) (are_options_of names pairs) false)
+        (given-one_of option pairs)
+        ∙ swap_and (is_one_of option names) (is_one_of option (map (λ o. o.0) pairs))
+        (list_all (λ o. is_one_of o.0 names) pairs) (are_distinct (map (λ o. o.0) pairs))
 
 -- the options, where the words are some
 pub options-some : (names : OptionNames) (words : List (List ℕ)) → are_in names words ≡ true →
@@ -81,7 +86,9 @@ unfolding options_in pairs_are
 options-some names words e = by (in_pairs words) (sym (are-pairs names words) ∙ e)
   where
     by : (p : Option Options) → pairs_are names p ≡ true →
-        (options : Options) × (option_and_then (λ o. cond (are_options_of names o) (Some o) None) p ≡ Some options) × (p ≡ Some options)
+        (options : Options) ×
+        (option_and_then (λ o. cond (are_options_of names o) (Some o) None) p ≡ Some options) ×
+        (p ≡ Some options)
     by None h = absurd (let z : false ≡ true = h in cc)
     by (Some options) h = (options, ap (λ t. cond t (Some options) None) h, refl)
 
@@ -118,15 +125,19 @@ any-bytes word (name ∷ names) = ap (λ t. same word name.now || t) (any-bytes 
 -- ---- plain words, and options after them
 
 module _ {X : Type 0} (f : X → List ℕ) (plain : ℕ) (names : OptionNames) (words : List X) where
+  -- by the plain words and the others
+  abbrev both : List (List ℕ) → List (List ℕ) → Option command_lines.Given
+  both front back = option_map (λ options. record { plain = front; options = options }) (options_in names back)
+
   abbrev behind : Bool → Option command_lines.Given
-  behind t =
-      cond t (option_map (λ options. record { plain = take plain (map f words); options = options }) (options_in names (drop plain (map f words)))) None
+  behind t = cond t (both (take plain (map f words)) (drop plain (map f words))) None
 
   pub given-few : length words < plain → command_lines.given_in plain names (map f words) ≡ None
   unfolding command_lines.given_in
   given-few h = ap behind (lt-leb plain (length (map f words)) (let e = length-map words f in omega arith))
 
-  module _ (enough : plain ≤ length words) (front back : List X) (is_front : front ≡ take plain words) (is_back : back ≡ drop plain words) where
+  module _ (enough : plain ≤ length words) (front back : List X) (is_front : front ≡ take plain words)
+      (is_back : back ≡ drop plain words) where
     is_enough : nat_le plain (length (map f words)) ≡ true
     is_enough = le-leb plain (length (map f words)) (let e = length-map words f in omega arith)
 
@@ -136,31 +147,47 @@ module _ {X : Type 0} (f : X → List ℕ) (plain : ℕ) (names : OptionNames) (
     same_front : take plain (map f words) ≡ map f front
     same_front = take-map f plain words ∙ ap (map f) (sym is_front)
 
-    given-is : command_lines.given_in plain names (map f words) ≡ option_map (λ options. record { plain = map f front; options = options }) (options_in names (map f back))
+    given-is : command_lines.given_in plain names (map f words) ≡ both (map f front) (map f back)
     unfolding command_lines.given_in
-    given-is = ap behind is_enough
-        ∙ ap (λ (ws : List (List ℕ)). option_map (λ options. record { plain = take plain (map f words); options = options }) (options_in names ws)) same_back
-        ∙ ap (λ (ws : List (List ℕ)). option_map (λ options. record { plain = ws; options = options }) (options_in names (map f back))) same_front
+    given-is =
+        ap behind is_enough
+        ∙ ap (both (take plain (map f words))) same_back
+        ∙ ap (λ (ws : List (List ℕ)). both ws (map f back)) same_front
 
     pub given-none : are_in names (map f back) ≡ false → command_lines.given_in plain names (map f words) ≡ None
     given-none h =
-        given-is ∙ ap (option_map (λ options. record { plain = map f front; options = options })) (options-none names (map f back) h)
+        given-is
+        ∙ ap (option_map (λ options. record { plain = map f front; options = options }))
+        (options-none names (map f back) h)
 
     pub given-some : are_in names (map f back) ≡ true →
-        (options : Options) × (command_lines.given_in plain names (map f words) ≡ Some (record { plain = map f front; options = options })) × (in_pairs (map f back) ≡ Some options)
+        (options : Options) ×
+        (command_lines.given_in plain names (map f words) ≡ Some (record { plain = map f front; options = options })) ×
+        (in_pairs (map f back) ≡ Some options)
     given-some h =
         let o = options-some names (map f back) h in
         (o.0, given-is ∙ ap (option_map (λ options. record { plain = map f front; options = options })) o.1, o.2)
 
--- ---- a command that reads a text
+-- ---- a command with one option and no plain words
 
-pub text-asks : (command : TextCommand) (words plain : List (List ℕ)) (given : List (List ℕ)) (options : Options) (value : Option (List ℕ)) (form : Option Style) →
-    command_lines.given_in 0 (codes "--form" ∷ []) words ≡ Some (record { plain = plain; options = options }) → in_pairs given ≡ Some options →
-    value ≡ value_in (codes "--form") given → command_lines.form_given value ≡ form → command_lines.asked_by words (command_lines.text_row command) ≡ option_map (Read command) form
-text-asks command words plain given options value form h p v f =
-    ap (option_and_then (λ g. option_map (Read command) (command_lines.form_given (look_up (codes "--form") g.options)))) h
-    ∙ ap (λ w. option_map (Read command) (command_lines.form_given w)) (sym (v ∙ value-look_up (codes "--form") given options p))
-    ∙ ap (option_map (Read command)) f
+-- it asks what is made of what is read of the option's value, or of none
+abbrev pub with_option : {X : Type 0} → List ℕ → (Option (List ℕ) → Option X) → (X → CommandLine) → command_lines.Row
+with_option name read make = record {
+  plain = 0;
+  names = name ∷ [];
+  asks = λ given. option_map make (read (look_up name given.options));
+}
+
+-- by what is given, and the value of the option among it
+pub asks-option : {X : Type 0} (name : List ℕ) (read : Option (List ℕ) → Option X) (make : X → CommandLine)
+    (words : List (List ℕ)) (given : Given) (value : Option (List ℕ)) (made : Option X) →
+    IsGiven (command_lines.given_in 0 (name ∷ []) words) (Some given) →
+    value ≡ value_in name (map string_bytes given.options.now) → read value ≡ made →
+    command_lines.asked_by words (with_option name read make) ≡ option_map make made
+asks-option name read make words given value made is_given is_value is_made =
+    ap (option_and_then (λ g. option_map make (read (look_up name g.options)))) is_given.1
+    ∙ ap (λ v. option_map make (read v)) (sym (is_value ∙ value-look_up name _ is_given.0 is_given.2))
+    ∙ ap (option_map make) is_made
 
 pub some-copied : {X : Type 0} (o : Option (Bor X)) → is_some (option_copied o) ≡ is_some o
 some-copied None = refl
@@ -168,7 +195,10 @@ some-copied (Some x) = refl
 
 -- ---- one option of several words
 
-module _ (names : List (Bor (List ℕ))) (all rest : List (List ℕ)) (invariant : are_in (bytes_of names) rest ≡ are_in (bytes_of names) all) (option value : List ℕ) (more : List (List ℕ)) (cut : rest ≡ option ∷ value ∷ more) (known : Bool) (is_known : known ≡ list_any (λ name. same option name.now) names) where
+module _ (names : List (Bor (List ℕ))) (all rest : List (List ℕ))
+    (invariant : are_in (bytes_of names) rest ≡ are_in (bytes_of names) all) (option value : List ℕ)
+    (more : List (List ℕ)) (cut : rest ≡ option ∷ value ∷ more) (known : Bool)
+    (is_known : known ≡ list_any (λ name. same option name.now) names) where
   one : is_one_of option (bytes_of names) ≡ known
   one = sym (any-bytes option names) ∙ sym is_known
 
@@ -184,7 +214,9 @@ module _ (names : List (Bor (List ℕ))) (all rest : List (List ℕ)) (invariant
   module _ (k : known ≡ true) (found : Option (List ℕ)) (is_found : found ≡ value_in option more) where
     second : are_in (bytes_of names) all ≡ decided true (is_some found)
     second =
-        first ∙ ap (λ t. decided t (is_some (value_in option more))) k ∙ ap (λ (o : Option (List ℕ)). decided true (is_some o)) (sym is_found)
+        first
+        ∙ ap (λ t. decided t (is_some (value_in option more))) k
+        ∙ ap (λ (o : Option (List ℕ)). decided true (is_some o)) (sym is_found)
 
     pub are-given : is_some found ≡ true → false ≡ are_in (bytes_of names) all
     are-given g = sym (second ∙ ap (decided true) g)

@@ -16,8 +16,8 @@ use Rattle.lp_top.specs.Top.{Tells, Does}
 
 -- ---- a script
 
-module _ {s : Streams} where
-  told_stop : (moves : Moves s) (stop : Halt) → EndsSo moves (Err stop) → Tells (code_behind stop) moves
+module _ {places : ℕ} {s : Streams} where
+  told_stop : (moves : Moves places s) (stop : Halt) → EndsSo moves (Err stop) → Tells (code_behind stop) moves
   told_stop moves halts.Read ends =
       record { done = λ e. absurd (omega arith); fault = λ e. ends; cut = λ e. absurd (omega arith); over = λ e. absurd (omega arith) }
   told_stop moves halts.Write ends =
@@ -29,12 +29,12 @@ module _ {s : Streams} where
   told_stop moves halts.Over ends =
       record { done = λ e. absurd (omega arith); fault = λ e. absurd (omega arith); cut = λ e. absurd (omega arith); over = λ e. ends }
 
-  pub run_done : ((moves : Moves s) × EndsSo moves (Ok tt)) → (moves : Moves s) × Tells 0 moves
+  pub run_done : ((moves : Moves places s) × EndsSo moves (Ok tt)) → (moves : Moves places s) × Tells 0 moves
   run_done m =
       (m.0, record { done = λ e. m.1; fault = λ e. absurd (omega arith); cut = λ e. absurd (omega arith); over = λ e. absurd (omega arith) })
 
-  pub run_stopped : (stop : Halt) (code : ℕ) → code ≡ code_behind stop → ((moves : Moves s) × EndsSo moves (Err stop)) →
-      (moves : Moves s) × Tells code moves
+  pub run_stopped : (stop : Halt) (code : ℕ) → code ≡ code_behind stop → ((moves : Moves places s) × EndsSo moves (Err stop)) →
+      (moves : Moves places s) × Tells code moves
   run_stopped stop code e m = (m.0, subst (λ n. Tells n m.0) (sym e) (told_stop m.0 stop m.1))
 
 -- ---- the commands that read a text

@@ -3,8 +3,9 @@ use Rattle.std.specs.Prelude.{ℕ, ◌≡◌, ◌⊎◌, List, map, Option, Resu
 use Rattle.std.specs.Io.KnownBytes.{Consumes, Appends, IsAtEnd}
 use Rattle.spec_text.specs.Lines.{IsPrefixOf}
 use Rattle.spec_server.specs.declared.asks.Asked.{Asked}
-use Rattle.spec_server.specs.Machine.{ExactAsk, Exchange, asked_in, RunFits}
-use Rattle.spec_server.specs.Script.{Script, Ending, Ended, Cut, ending_by, script_of, ended_asks_of}
+use Rattle.spec_server.specs.Machine.{ExactAsk}
+use Rattle.spec_server.specs.Exchanges.{Exchange, asked_in, RunFits}
+use Rattle.spec_server.specs.Script.{Ending, Ended, Cut, script_of, ended_asks_of}
 use Rattle.spec_server.specs.Script as script
 use Rattle.spec_server.specs.Output.{script_out}
 use Rattle.lp_top.specs.declared.halt.Halt.{Halt}
@@ -15,38 +16,38 @@ use Rattle.lp_top.specs.Streams.{Streams}
 abbrev pub AreAsked : Option (List ℕ) → List ℕ → List (Asked ExactAsk) → Type 0
 AreAsked after read asks = (asks ≡ ended_asks_of read) ⊎ ((asks ≡ (script_of read).asks) × IsAtEnd after)
 
--- The bytes that were read, the exchanges of their asks, in which each session runs alone, and the bytes that were
--- written, a prefix of the output of the exchanges.
-pub record Moves (s : Streams) : Type 0 where
+-- The bytes that were read; the exchanges of their asks, in which each session runs alone, and shares so many places
+-- with the others; and the bytes that were written, a prefix of the output of the exchanges.
+pub record Moves (places : ℕ) (s : Streams) : Type 0 where
   pub read : List ℕ
   pub exchanges : List Exchange
   pub written : List ℕ
   pub consumed : Consumes s.left_before s.left_after read
   pub appended : Appends s.taken_before s.taken_after written
   pub asks : AreAsked s.left_after read (map asked_in exchanges)
-  pub runs : RunFits exchanges
+  pub runs : RunFits places exchanges
   pub front : IsPrefixOf written (script_out exchanges)
 
 -- the whole output was written
-abbrev pub IsWhole : {s : Streams} → Moves s → Type 0
+abbrev pub IsWhole : {places : ℕ} {s : Streams} → Moves places s → Type 0
 IsWhole moves = moves.written ≡ script_out moves.exchanges
 
 -- the bytes are a whole script with this end, the exchanges are those of its asks, and the whole output was written
-pub record EndsWith {s : Streams} (moves : Moves s) (ending : Ending) : Type 0 where
+pub record EndsWith {places : ℕ} {s : Streams} (moves : Moves places s) (ending : Ending) : Type 0 where
   pub script : script_of moves.read ≡ record { asks = map asked_in moves.exchanges; ending = ending }
   pub whole : IsWhole moves
 
 -- nothing is left to be read
-pub record EndsInput {s : Streams} (moves : Moves s) (ending : Ending) : Type 0 where
+pub record EndsInput {places : ℕ} {s : Streams} (moves : Moves places s) (ending : Ending) : Type 0 where
   pub ends : EndsWith moves ending
   pub at_end : IsAtEnd s.left_after
 
 -- the exchanges are those of the lines that end among the bytes, and the whole output was written
-pub record BreaksOff {s : Streams} (moves : Moves s) : Type 0 where
+pub record BreaksOff {places : ℕ} {s : Streams} (moves : Moves places s) : Type 0 where
   pub asks : map asked_in moves.exchanges ≡ ended_asks_of moves.read
   pub whole : IsWhole moves
 
-abbrev pub EndsSo : {s : Streams} → Moves s → Result (Unit {0}) Halt → Type 0
+abbrev pub EndsSo : {places : ℕ} {s : Streams} → Moves places s → Result (Unit {0}) Halt → Type 0
 EndsSo moves (Ok u) = EndsInput moves Ended
 EndsSo moves (Err halts.Cut) = EndsInput moves Cut
 EndsSo moves (Err halts.Over) = EndsWith moves script.Over
@@ -54,5 +55,5 @@ EndsSo moves (Err halts.Read) = BreaksOff moves
 EndsSo moves (Err halts.Write) = Unit {0}
 EndsSo moves (Err halts.NoMemory) = Unit {0}
 
-abbrev pub Runs : Streams → Result (Unit {0}) Halt → Type 0
-Runs s result = (moves : Moves s) × EndsSo moves result
+abbrev pub Runs : ℕ → Streams → Result (Unit {0}) Halt → Type 0
+Runs places s result = (moves : Moves places s) × EndsSo moves result

@@ -1,4 +1,5 @@
--- The bytes that a source has left, and those that a sink has taken, where they tell of them, before a call and after it.
+-- The bytes that a source has left, and those that a sink has taken, where they tell of them, before a call and after
+-- it.
 use Rattle.std.specs.Prelude.{ℕ, List, Option}
 
 pub record Streams : Type 0 where

@@ -1,5 +1,6 @@
 -- The words of a command line, as they are cut up.
-use Rattle.std.specs.Prelude.{ℕ, ◌≡◌, ◌&&◌, Bool, true, false, not, List, [], ◌∷◌, map, Option, Some, None, is_some, string_bytes, if◌then◌else◌}
+use Rattle.std.specs.Prelude.{ℕ, ◌≡◌, ◌&&◌, Bool, true, false, not, List, [], ◌∷◌, map, Option, Some, None, is_some}
+use Rattle.std.specs.Prelude.{string_bytes, if◌then◌else◌}
 use Rattle.spec_text.specs.Words.{same}
 use denote.Ref.{Bor}
 use Rattle.spec_server.specs.CommandLine.{Options, in_pairs, is_one_of}
@@ -28,4 +29,6 @@ are_in names (option ∷ value ∷ words) = if is_new_option option names words 
 abbrev pub IsGiven : Option command_lines.Given → Option Given → Type 0
 IsGiven is None = is ≡ None
 IsGiven is (Some given) =
-    (options : Options) × (is ≡ Some (record { plain = map string_bytes given.plain.now; options = options })) × (in_pairs (map string_bytes given.options.now) ≡ Some options)
+    (options : Options) ×
+    (is ≡ Some (record { plain = map string_bytes given.plain.now; options = options })) ×
+    (in_pairs (map string_bytes given.options.now) ≡ Some options)

@@ -1,5 +1,6 @@
 // The words of a command line.
-ghost use Rattle.std.specs.Prelude.{◌≡◌, List, [], map, length, is_some, option_copied, string_bytes, Some, None, MatchOption, IfSome, ◌<◌, ◌∷◌};
+ghost use Rattle.std.specs.Prelude.{◌≡◌, map, length, is_some, option_copied, string_bytes, Some, None};
+ghost use Rattle.std.specs.Prelude.{MatchOption, IfSome, ◌<◌, ◌∷◌};
 ghost use Rattle.std.specs.List.{list_any};
 ghost use Rattle.spec_text.specs.Words.{same};
 ghost use Rattle.spec_server.specs.CommandLine.{run_row, text_row, asked_by};
@@ -7,8 +8,12 @@ ghost use Rattle.spec_server.specs.CommandLine as command_lines;
 ghost use Rattle.lp_top.specs.Words.{bytes_of, value_in, are_in, IsGiven};
 
 use lp_base::are_same;
+use lp_line::places_of;
 use spec_mps::Style;
 use spec_server::{CommandLine, TextCommand};
+
+// How many places the sessions of a script share, unless it is said.
+const USUAL_PLACES: u32 = 256;
 
 // What follows a command's word: plain words, and options, each a name and a value.
 #[derive(Clone, Copy)]
@@ -25,7 +30,8 @@ fn is_one_of(word: &[u8], names: &[&str]) -> bool
 
 // The first option and its value, and the words after them.
 fn first_option(words: &[String]) -> Option<(&[u8], &[u8], &[String])>
-    ensures cut { MatchOption result (length words.now < 2) (λ p. map string_bytes words.now ≡ p.0.now ∷ p.1.now ∷ map string_bytes p.2.now) }
+    ensures cut { MatchOption result (length words.now < 2)
+        (λ p. map string_bytes words.now ≡ p.0.now ∷ p.1.now ∷ map string_bytes p.2.now) }
     ensures fewer { IfSome result (λ p. length p.2.now < length words.now) }
 {
     match words {
@@ -91,12 +97,16 @@ fn form_of(word: &[u8]) -> Option<Style>
     None
 }
 
-// A script is run.
+// A script is run, whose sessions share so many places.
 fn run_line(words: &[String]) -> Option<CommandLine>
     ensures { result ≡ asked_by (map string_bytes words.now) run_row }
 {
-    given_in(words, 0, &[])?;
-    Some(CommandLine::Run)
+    let given = given_in(words, 0, &["--places"])?;
+    let places = match value_of(given.options, b"--places") {
+        Some(number) => places_of(number)?,
+        None => USUAL_PLACES,
+    };
+    Some(CommandLine::Run { places })
 }
 
 // A text is read, in free form unless another is given.

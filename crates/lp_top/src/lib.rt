@@ -5,8 +5,8 @@
 //! | `lpd_top` | runs a command line over a source and a sink | here |
 //! | `ExitStatus` | how that ended | src/exit_status |
 //!
-//! What it reads and writes is stated by specs/Top, of a script by specs/Run and of a text by specs/Hearing, in the words of the
-//! server's definitions.
+//! What it reads and writes is stated by specs/Top, of a script by specs/Run and of a text by specs/Hearing, in the
+//! words of the server's definitions.
 #![tactic(auto)]
 
 mod answer;
@@ -26,7 +26,7 @@ ghost use Rattle.std.specs.Prelude.{◌≡◌, ◌↔◌, map, string_bytes, Som
 ghost use Rattle.lp_base.specs.Causes.{Rose};
 ghost use Rattle.spec_server.specs.CommandLine.{command_line_of};
 ghost use Rattle.lp_top.specs.Streams.{streams};
-ghost use Rattle.lp_top.specs.Top.{Does, IsStatus};
+ghost use Rattle.lp_top.specs.Top.{Does, HasPlaces, IsStatus};
 
 use crate::halt::Halt;
 pub use exit_status::ExitStatus;
@@ -41,10 +41,12 @@ pub fn lpd_top<S: Source, K: Sink>(
     src: &mut S,
     out: &mut K,
 ) -> ExitStatus
-    // For some bytes that were read and written: of a script, what was written is the output of a run in which each session
-    // replies as if it were alone, whole or in part as the status says; of the text of a model, what was written is what the
-    // command may write of what its lines say, as far as an input may be read.
-    ensures output { Does (command_line_of (map string_bytes words.now)) (streams (S.left src.old) (S.left src.new) (K.taken out.old) (K.taken out.new)) result.code }
+    // For some bytes that were read and written: of a script, what was written is the output of a run in which each
+    // session replies as if it were alone with what it reads of the places, of which there are as many as the command
+    // line says, and nobody else writes them; whole or in part as the status says. Of the text of a model, what was
+    // written is what the command may write of what its lines say, as far as an input may be read.
+    ensures output { Does (command_line_of (map string_bytes words.now))
+        (streams (S.left src.old) (S.left src.new) (K.taken out.old) (K.taken out.new)) result.code }
     ensures codes { IsStatus (command_line_of (map string_bytes words.now)) result.code }
 
     // The words are refused exactly if they are no command line.
@@ -67,13 +69,15 @@ fn obey<S: Source, K: Sink>(
     src: &mut S,
     out: &mut K,
 ) -> ExitStatus
-    ensures output { Does (Some command) (streams (S.left src.old) (S.left src.new) (K.taken out.old) (K.taken out.new)) result.code }
+    requires { HasPlaces command }
+    ensures output { Does (Some command)
+        (streams (S.left src.old) (S.left src.new) (K.taken out.old) (K.taken out.new)) result.code }
     ensures codes { IsStatus (Some command) result.code }
     ensures read { result.code ≡ 3 → Rose (S.read_faults src.old) (S.read_faults src.new) }
     ensures write { result.code ≡ 4 → Rose (K.write_faults out.old) (K.write_faults out.new) }
 {
     match command {
-        CommandLine::Run => match run::run(alloc, src, out) {
+        CommandLine::Run { places } => match run::run(alloc, places, src, out) {
             Ok(()) => ExitStatus::DONE,
             Err(halt) => ExitStatus::from(halt),
         },

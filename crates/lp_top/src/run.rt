@@ -1,8 +1,9 @@
 // The run of a script.
-ghost use Rattle.std.specs.Prelude.{◌≡◌, ◌≤◌, IsErrOf};
+ghost use Rattle.std.specs.Prelude.{IsErrOf};
 ghost use Rattle.lp_base.specs.Causes.{Rose};
 ghost use Rattle.lp_top.specs.Run.{Runs};
 ghost use Rattle.lp_top.specs.Streams.{streams};
+ghost use Rattle.lp_top.specs.Top.{IsPlaces};
 
 use crate::answer::answer;
 use crate::halt::Halt;
@@ -11,14 +12,21 @@ use lp_base::{Lines, Sink, Source};
 use lp_line::{Addressing, Taken, take};
 use std::alloc::Global;
 
-/// Answers each ask of the script that the source gives.
-pub(crate) fn run<S: Source, K: Sink>(alloc: Global, src: &mut S, out: &mut K) -> Result<(), Halt>
-    ensures output { Runs (streams (S.left src.old) (S.left src.new) (K.taken out.old) (K.taken out.new)) result }
+/// Answers each ask of the script that the source gives. The sessions share so many places.
+pub(crate) fn run<S: Source, K: Sink>(
+    alloc: Global,
+    places: u32,
+    src: &mut S,
+    out: &mut K,
+) -> Result<(), Halt>
+    requires { IsPlaces places }
+    ensures output { Runs places
+        (streams (S.left src.old) (S.left src.new) (K.taken out.old) (K.taken out.new)) result }
     ensures read { IsErrOf result Halt.Read → Rose (S.read_faults src.old) (S.read_faults src.new) }
     ensures write { IsErrOf result Halt.Write → Rose (K.write_faults out.old) (K.write_faults out.new) }
 {
     let mut lines = Lines::new(alloc)?;
-    let mut sessions = Sessions::new(alloc)?;
+    let mut sessions = Sessions::new(alloc, places)?;
     loop {
         match take(alloc, Addressing::Numbered, &mut lines, src)? {
             Taken::Ask(asked) => answer(alloc, &mut sessions, asked, out)?,

@@ -4,11 +4,22 @@ use std::alloc::{AllocError, Global};
 use std::test::Fail;
 
 const SCRIPT: &str =
-    "# a model and its certificate\n1 LOAD FREE\nNAME a\nROWS\n N cost\n G R1\nCOLUMNS\n x cost 1 R1 1\nRHS\n R1 1\nENDATA\r\n\t1  CHECK\nOPTIMAL\nx x 1\ny R1 1\nEND\n\n2 CHECK\nOPTIMAL\nEND\n1 SOLVE";
+    "# a model and its certificate\n1 LOAD FREE\nNAME a\nROWS\n N cost\n G R1\nCOLUMNS\n x cost 1 R1 1\n\
+     RHS\n R1 1\nENDATA\r\n\t1  CHECK\nOPTIMAL\nx x 1\ny R1 1\nEND\n\n2 CHECK\nOPTIMAL\nEND\n1 SOLVE";
+
+// Two sessions hold models of one shape, whose optima have different bases.
+const TWO: &str =
+    "1 LOAD FREE\nROWS\n N cost\n G R1\nCOLUMNS\n x cost 1 R1 1\nRHS\n R1 1\nENDATA\n1 SOLVE\n1 HOW\n\
+     2 LOAD FREE\nROWS\n N cost\n G R1\nCOLUMNS\n x cost 1 R1 1\nRHS\n R1 -1\nENDATA\n2 SOLVE\n2 HOW\n\
+     1 SOLVE\n1 HOW\n";
 
 const TEXT: &str = "NAME a\nROWS\n N cost\n G R1\nCOLUMNS\n x cost 1 R1 1\nRHS\n R1 1\nENDATA\n";
 
 const CERTIFICATE: &str = "OPTIMAL\nx x 1\ny R1 1\nEND\n";
+
+const TWO_REPLIES: &str = "1 LOADED 1 1\n1 OPTIMAL 1\n1 HOW COLD PIVOTS 1 PUBLISHED 0\n\
+     2 LOADED 1 1\n2 OPTIMAL 0\n2 HOW BASIS 0 PIVOTS 1 FULL 1\n\
+     1 OPTIMAL 1\n1 HOW BASIS 0 PIVOTS 0 SAME\n";
 
 const REPLIES: &str = "1 LOADED 1 1\n1 YES OPTIMAL 1\n2 ERR 4 NOMODEL\n1 OPTIMAL 1\n";
 
@@ -46,6 +57,18 @@ fn a_script_in_pieces(rt: HostRuntime) -> Result<(), Fail> {
         assert_eq!(rt; status, ExitStatus::DONE, "in pieces of {size}");
         assert_eq!(rt; out.written(), REPLIES.as_bytes(), "in pieces of {size}");
     }
+    Ok(())
+}
+
+#[test]
+fn one_place_for_two_sessions(rt: HostRuntime) -> Result<(), Fail> {
+    let alloc = rt.alloc();
+    let words = words(alloc, &["run", "--places", "1"])?;
+    let mut src = source(alloc, TWO, 4096, &[])?;
+    let mut out = MemSink::new(alloc, Vec::new(alloc));
+    let status = lpd_top(alloc, &words, &mut src, &mut out);
+    assert_eq!(rt; status, ExitStatus::DONE);
+    assert_eq!(rt; out.written(), TWO_REPLIES.as_bytes());
     Ok(())
 }
 

@@ -5,7 +5,8 @@ use Rattle.lp_top.proofs.run.run.Given as goal
 
 abbrev pub invariant-loop-sessions : goal.invariant-loop-sessions
 invariant-loop-sessions g l = record {
-  turn : Turn (g.S.Source.left l.fn.src) (g.S.Source.left l.src) (g.K.Sink.taken l.fn.out) (g.K.Sink.taken l.out) l.lines l.sessions;
+  turn : Turn l.fn.places (g.S.Source.left l.fn.src) (g.S.Source.left l.src) (g.K.Sink.taken l.fn.out)
+      (g.K.Sink.taken l.out) l.lines l.sessions;
   read : g.S.Source.read_faults l.fn.src ≤ g.S.Source.read_faults l.src;
   write : g.K.Sink.write_faults l.fn.out ≤ g.K.Sink.write_faults l.out;
 }
