@@ -5,3 +5,4 @@ pub mod Left
 pub mod Ends
 pub mod Works
 pub mod Steps
+pub mod Boards

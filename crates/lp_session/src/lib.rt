@@ -5,6 +5,7 @@
 //! | `Session` | steps as the one-session machine, at once or in parts | src/session |
 //! | `Places` | places for the bases that the sessions of one script share | src/places |
 //! | `Sharing`, `SharesStep` | what such places are, and a step of a session with them | specs/Sharing |
+//! | `AddsStep`, `StepCalls` | a step of a session over a board, by a pass of it | specs/Boarding |
 //! | `Holding`, `LastAnswer` | what a session holds, and what it keeps of a solve | src/holding, src/stage |
 //! | `Stage`, `StageFits` | where a session is in its ask, and what holds of that | src/stage, specs/Stages |
 //! | `solved_within` | what a solve of a model ends with, within a budget | src/solved |
@@ -14,6 +15,7 @@
 //! | `verdict_on` | what is said of a certificate for a model | src/verdict |
 #![tactic(auto)]
 
+mod boarding;
 mod holding;
 mod places;
 mod session;

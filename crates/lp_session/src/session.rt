@@ -2,11 +2,16 @@
 ghost use Rattle.std.specs.Prelude.{◌≡◌};
 ghost use Rattle.spec_server.specs.Machine.{opening};
 ghost use Rattle.spec_server.specs.Halves.{Nothing, at_rest, StartFits, MayBeFound, NextFits, IsPutAwaited, PutFits};
+ghost use Rattle.basis_board.specs.Id.{id_of};
+ghost use Rattle.basis_board.specs.Rule.{Consistent};
+ghost use Rattle.lp_session.specs.Boarding.{AddsStep, StepCalls};
 ghost use Rattle.lp_session.specs.Sharing.{SharesStep};
 
+use crate::boarding::{found_by, put_by};
 use crate::holding::Holding;
 use crate::places::Places;
 use crate::stage::{Begun, Stage, Worked};
+use basis_board::{Board, Pass};
 use lp_line::{Ask, Reply};
 use lp_shape::shape;
 use spec_reads::{Found, Put};
@@ -105,6 +110,30 @@ impl Session {
             Next::Publish(words) => words,
         };
         let put = places.publish(&words);
+        self.put(put)
+    }
+
+    /// Replies to what is asked, over a board that others share, by a pass of it. Any session may take any pass.
+    pub fn step_on(&mut self, alloc: Global, board: &Board, pass: &mut Pass, ask: Ask) -> Reply
+        requires rests { self.old.awaits ≡ Nothing }
+        requires board { pass.old.board ≡ id_of board.now }
+        ensures step { AddsStep self.old.state ask pass.old.view result self.new.state pass.new.view }
+        ensures calls { StepCalls pass.old.view pass.new.view }
+        ensures rests { self.new.awaits ≡ Nothing }
+        ensures board { pass.new.board ≡ pass.old.board }
+        ensures consistent { Consistent pass.old.view → Consistent pass.new.view }
+        ensures share { (pass.new.view).share ≡ (pass.old.view).share }
+    {
+        let shape = match self.start(alloc, ask) {
+            Started::Reply(reply) => return reply,
+            Started::Look(shape) => shape,
+        };
+        let found = found_by(board.look(pass, &shape));
+        let words = match self.found(alloc, found) {
+            Next::Reply(reply) => return reply,
+            Next::Publish(words) => words,
+        };
+        let put = put_by(board.publish(pass, &words));
         self.put(put)
     }
 }

@@ -1,0 +1,14 @@
+-- An answer after a look, and one whose basis was to be published.
+use Rattle.lp_session.proofs.Boards.{ends_so, publishes_on}
+use Rattle.lp_session.proofs.session.Session.step_on.Goals as goal
+
+pub returns-in-Reply-found-clause-step : goal.returns-in-Reply-found-clause-step
+returns-in-Reply-found-clause-step c =
+    ends_so c.args.self.now.state c.args.ask c.start.result _ c.start.ensures c.args.pass.now.view _ c.in-Look.is _
+    c.look.result c.look.ensures.look _ c.found_by-found.ensures c.found.result _ c.found.ensures _ c.in-Reply-found.is
+
+pub returns-clause-step : goal.returns-clause-step
+returns-clause-step c =
+    publishes_on c.args.self.now.state c.args.ask c.start.result _ c.start.ensures c.args.pass.now.view _ c.in-Look.is _
+    c.look.result c.look.ensures.look _ c.found_by-found.ensures c.found.result _ c.found.ensures _ c.in-Publish.is _
+    c.publish.result c.publish.ensures.put _ _ _ c.put_by-put.ensures c.put.ensures
