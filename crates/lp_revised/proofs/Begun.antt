@@ -1,5 +1,5 @@
 -- The state that a form begins with, before it has factors.
-use Rattle.std.proofs.Common.{◌≡◌, ℕ, ◌+◌, List, [], ◌++◌, length, map, replicate, Option, Some, sym, ap, ◌∙◌, subst, arith}
+use Rattle.std.proofs.Common.{◌≡◌, ℕ, ◌+◌, List, [], ◌++◌, length, map, replicate, Option, Some, sym, subst, arith}
 use Rattle.spec_exact.specs.Fraction.{ℚ, 0ℚ}
 use Rattle.spec_pivot.specs.declared.status.Status.{Status}
 use Rattle.spec_simplex.specs.declared.ends.RowStart.{RowStart}

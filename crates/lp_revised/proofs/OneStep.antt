@@ -1,5 +1,5 @@
 -- A run of steps over factors by its first step.
-use Rattle.std.proofs.Common.{◌≡◌, ◌≢◌, ℕ, zero, suc, ◌+◌, ◌-◌, ◌<◌, List, length, Option, get_or, Some, None, Result, Ok, Err, refl, sym, ap, ◌∙◌, subst, arith}
+use Rattle.std.proofs.Common.{◌≡◌, ◌≢◌, ℕ, zero, suc, ◌+◌, ◌-◌, ◌<◌, List, Option, get_or, Some, None, Result, Ok, Err, refl, sym, ap, ◌∙◌, subst, arith}
 use Rattle.spec_exact.specs.Fraction.{ℚ, 0ℚ}
 use Rattle.spec_pivot.specs.declared.status.Status.{Status}
 use Rattle.spec_simplex.specs.declared.ends.RowStart.{RowStart}
@@ -16,11 +16,10 @@ use Rattle.spec_factor.specs.Over.{RevisedEnded, over_or_spent, over_or_next, ov
 use Rattle.lp_frac.specs.Narrow.{largest}
 use Rattle.lp_revised.specs.declared.select.Column.{Column}
 use Rattle.lp_revised.specs.declared.select.Selected.{Selected}
-use Rattle.lp_revised.specs.declared.steps.StepsEnd.{StepsEnd}
 use Rattle.lp_revised.specs.declared.stop.RevisedStop.{RevisedStop}
 use Rattle.lp_revised.specs.Answer.{StopsRevised}
 use Rattle.lp_revised.specs.Selecting.{CanDo, IsSolved, tableau_of, selection_of}
-use Rattle.lp_revised.specs.Runs.{EndsWith, made_run, ended_of}
+use Rattle.lp_revised.specs.Runs.{EndsWith, made_run}
 use Rattle.lp_revised.proofs.Renewed.{stops_after}
 
 -- a step that is no end

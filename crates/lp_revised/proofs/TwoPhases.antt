@@ -1,5 +1,5 @@
 -- Both phases over factors, part by part.
-use Rattle.std.proofs.Common.{◌≡◌, ℕ, ◌+◌, ◌-◌, List, Option, Some, None, Result, Ok, Err, Bool, true, false, cond, refl, sym, ap, ◌∙◌, subst, arith}
+use Rattle.std.proofs.Common.{◌≡◌, ℕ, ◌-◌, List, Option, Some, None, Result, Ok, true, false, cond, sym, ap, ◌∙◌, subst, arith}
 use Rattle.spec_exact.specs.Fraction.{ℚ}
 use Rattle.spec_check.specs.declared.certificate.Certificate.{Certificate}
 use Rattle.spec_check.specs.declared.certificate.Certificate.TheVariants as certificate
@@ -20,7 +20,7 @@ use Rattle.lp_revised.specs.declared.cold_run.RunEnd.{RunEnd}
 use Rattle.lp_revised.specs.declared.steps.StepsEnd.{StepsEnd}
 use Rattle.lp_revised.specs.declared.stop.RevisedStop.{RevisedStop}
 use Rattle.lp_revised.specs.Answer.{StopsRevised}
-use Rattle.lp_revised.specs.Runs.{RunsOver, EndsOver, ended_of, over_end, second_run, selection_at}
+use Rattle.lp_revised.specs.Runs.{RunsOver, EndsOver, ended_of, second_run, selection_at}
 use Rattle.lp_revised.proofs.Renewed.{stops_after}
 
 module _ (budget : ℕ) (f : Form) (starts : List (RowStart ℚ)) (s : Revised) where

@@ -1,5 +1,5 @@
 -- Where the run over factors ends or is spent, so is the one on whole tableaus without a limit.
-use Rattle.std.proofs.Common.{◌≡◌, ◌⊎◌, ⊎_elim, ℕ, Option, Some, None, Result, Ok, Err, sym, ap, ◌∙◌, subst}
+use Rattle.std.proofs.Common.{◌≡◌, ⊎_elim, ℕ, Some, None, Result, Ok, Err, sym, ap, ◌∙◌}
 use Rattle.spec_exact.specs.Fraction.{ℚ}
 use Rattle.spec_exact.specs.declared.past.Past.{Past}
 use Rattle.spec_model.specs.Model.{Model}

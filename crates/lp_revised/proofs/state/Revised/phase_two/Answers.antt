@@ -1,5 +1,4 @@
 -- A stop in the run, and its end.
-use Rattle.std.proofs.Common.{sym, ap, ◌∙◌}
 use Rattle.std.proofs.lemmas.Result.{err_from_is_err_and}
 use Rattle.lp_revised.proofs.TwoPhases.{second_stops, is_finished}
 use Rattle.lp_revised.proofs.state.Revised.phase_two.Goals as goal

@@ -1,5 +1,5 @@
 -- A stop in phase one, its end with an artificial that is not 0, and phase two.
-use Rattle.std.proofs.Common.{sym, ap, ◌∙◌}
+use Rattle.std.proofs.Common.{sym, ◌∙◌}
 use Rattle.std.proofs.lemmas.Result.{err_from_is_err_and}
 use Rattle.lp_revised.proofs.TwoPhases.{first_stops, is_infeasible, then_second}
 use Rattle.lp_revised.proofs.state.Revised.phases.Goals as goal
