@@ -1,0 +1,18 @@
+use Rattle.std.proofs.Common.{rules}
+use Rattle.lp_core.proofs.Formed.{claim_formed}
+use Rattle.lp_core.proofs.Steps.{puts_raced, claims_win}
+use Rattle.lp_core.proofs.seat.Seat.claim.Goals as goal
+
+pub returns-then-claimed-count-clause-fits : goal.returns-then-claimed-count-clause-fits
+returns-then-claimed-count-clause-fits c =
+    puts_raced _ _ _ _ _ _ _ c.self.view_is _ _ c.in-Some-words.words c.in-Some.count c.len-claimed.result
+    (search rules) (search rules) c.self.invariant (search rules) (search rules) c.put-reply.ensures
+
+pub returns-clause-fits : goal.returns-clause-fits
+returns-clause-fits c =
+    claims_win _ _ _ _ _ _ _ c.self.view_is c.in-Some-words.words c.in-Some.count _ (search rules) (search rules)
+    c.self.invariant (search rules) (search rules)
+
+pub returns-clause-formed : goal.returns-clause-formed
+returns-clause-formed c =
+    claim_formed c.args.me c.args.places.now.items c.push_reserved.new.self.items (search rules) c.requires.formed

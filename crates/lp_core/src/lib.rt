@@ -1,0 +1,19 @@
+//! The pure server: sessions whose acts come in any order, each act at once, over one list of places.
+//!
+//! | Item | What it is | Where |
+//! |---|---|---|
+//! | `World` | sessions and the places that they share, and what one event does | src/world |
+//! | `Seat` | a session and where it is in its ask | src/seat |
+//! | `Stage` | where a session is in its ask | src/stage |
+//! | `Core`, `Kept` | what the code holds of a world, and of one session | specs/Core |
+//! | `Shows` | that it is held of this world | specs/Core |
+//! | `StepFits`, `Follows` | that an event leads on as it may, from the opening world | specs/Core |
+#![tactic(auto)]
+
+mod seat;
+mod stage;
+#[cfg(test)]
+mod tests;
+mod world;
+
+pub use world::World;

@@ -1,0 +1,248 @@
+// A session and where it is in its ask.
+ghost use Rattle.std.specs.Prelude.{◌≡◌, ◌≤◌, length, IfSome};
+ghost use Rattle.std.specs.Vec.{vec_capacity};
+ghost use Rattle.spec_shape.specs.Words.{IsWellFormed};
+ghost use Rattle.spec_reads.specs.declared.place.Place.TheVariants as place_is;
+ghost use Rattle.spec_reads.specs.Reads as reads;
+ghost use Rattle.spec_reads.specs.Places.{with_place};
+ghost use Rattle.spec_world.specs.declared.event.Act.TheVariants as acts;
+ghost use Rattle.lp_core.specs.Core.{opening_kept, ActFits, IsBelow, AreFormed};
+ghost use Rattle.lp_core.specs.Looks.{words_at, seen_at};
+
+use crate::stage::{Stage, looking};
+use lp_line::{Ask, Reply};
+use lp_session::Session;
+use spec_reads::{Found, Place, Put};
+use spec_server::{Next, Started};
+use spec_world::StepEnd;
+use std::alloc::Global;
+use std::marker::Model;
+
+/// A session and where it is in its ask.
+#[derive(Drop)]
+pub struct Seat {
+    session: Session,
+    stage: Stage,
+}
+
+impl Model for Seat {
+    ghost use Rattle.lp_core.specs.Core.{Kept, step_of, Agrees};
+
+    ghost Value = { Kept };
+
+    ghost view = { λ h. record { state = h.session.state; step = step_of h.stage h.session.awaits } };
+
+    ghost invariant = { λ h. Agrees h.stage h.session.awaits };
+}
+
+// The words of a place that is done.
+fn words_of(places: &[Place<[u64; 49]>], place: u32) -> Option<[u64; 49]>
+    ensures { result ≡ words_at places.now place }
+{
+    if place as usize >= places.len() {
+        return None;
+    }
+    match places[place as usize] {
+        Place::Claimed(_owner) => None,
+        Place::Done(words) => Some(words),
+    }
+}
+
+// Writes a place, if it is claimed.
+fn write(places: &mut Vec<Place<[u64; 49]>>, place: u32, words: [u64; 49])
+    ensures items { places.new.items ≡ with_place places.old.items place (place_is.Done words) }
+    ensures len { length places.new.items ≡ length places.old.items }
+    ensures capacity { vec_capacity places.new ≡ vec_capacity places.old }
+{
+    if (place as usize) < places.len() {
+        places[place as usize] = Place::Done(words);
+    }
+}
+
+fn has_shape(shape: &[u64; 25], words: &[u64; 49]) -> bool
+    ensures { result ≡ reads.has_shape shape.now words.now }
+{
+    words[..25] == shape[..]
+}
+
+// Where a look goes on from a place, or ends.
+fn seen(shape: [u64; 25], place: u32, read: Option<[u64; 49]>) -> Stage
+    ensures { result ≡ seen_at shape place read }
+{
+    match read {
+        Some(words) if has_shape(&shape, &words) => Stage::Solving(Some(Found { place, words })),
+        _ => looking(shape, place),
+    }
+}
+
+impl Seat {
+    /// A session that holds nothing, and of which nothing is asked.
+    pub fn new() -> Self
+        ensures { result ≡ opening_kept }
+    {
+        Seat {
+            session: Session::new(),
+            stage: Stage::Idle,
+        }
+    }
+
+    /// It is asked.
+    pub fn ask(
+        &mut self,
+        alloc: Global,
+        me: u32,
+        limit: u32,
+        places: &[Place<[u64; 49]>],
+        ask: Ask,
+    ) -> StepEnd<Reply>
+        ensures fits { ActFits limit me self.old places.now (acts.Ask ask) result self.new places.now }
+        ensures below { IsBelow limit self.old.step → IsBelow limit self.new.step }
+    {
+        if !self.stage.is_idle() {
+            return StepEnd::Not;
+        }
+        match self.session.start(alloc, ask) {
+            Started::Reply(reply) => StepEnd::Replied(me, reply),
+            Started::Look(shape) => {
+                self.stage = Stage::Counts(shape);
+                StepEnd::Quiet
+            }
+        }
+    }
+
+    /// It reads how many places are claimed.
+    pub fn count(&mut self, me: u32, limit: u32, places: &[Place<[u64; 49]>]) -> StepEnd<Reply>
+        requires { length places.now ≤ limit }
+        ensures fits { ActFits limit me self.old places.now acts.Count result self.new places.now }
+        ensures below { IsBelow limit self.old.step → IsBelow limit self.new.step }
+    {
+        let count = places.len() as u32;
+        if let Some(shape) = self.stage.counts() {
+            self.stage = looking(shape, count);
+            return StepEnd::Quiet;
+        }
+        let Some(words) = self.stage.puts() else {
+            return StepEnd::Not;
+        };
+        if count == limit {
+            let reply = self.session.put(Put::Full(count));
+            self.stage = Stage::Idle;
+            return StepEnd::Replied(me, reply);
+        }
+        self.stage = Stage::Claims(words, count);
+        StepEnd::Quiet
+    }
+
+    /// It reads this place.
+    pub fn see(
+        &mut self,
+        me: u32,
+        limit: u32,
+        places: &[Place<[u64; 49]>],
+        at: u32,
+    ) -> StepEnd<Reply>
+        requires formed { AreFormed places.now }
+        ensures fits { ActFits limit me self.old places.now (acts.See at) result self.new places.now }
+        ensures below { IsBelow limit self.old.step → IsBelow limit self.new.step }
+    {
+        let Some(place) = self.stage.sees() else {
+            return StepEnd::Not;
+        };
+        let Some(shape) = self.stage.shape() else {
+            return StepEnd::Not;
+        };
+        if at != place {
+            return StepEnd::Not;
+        }
+        self.stage = seen(shape, place, words_of(places, place));
+        StepEnd::Quiet
+    }
+
+    /// It solves.
+    pub fn work(
+        &mut self,
+        alloc: Global,
+        me: u32,
+        limit: u32,
+        places: &[Place<[u64; 49]>],
+    ) -> StepEnd<Reply>
+        ensures fits { ActFits limit me self.old places.now acts.Work result self.new places.now }
+        ensures below { IsBelow limit self.old.step → IsBelow limit self.new.step }
+    {
+        let Some(found) = self.stage.solving() else {
+            return StepEnd::Not;
+        };
+        match self.session.found(alloc, found) {
+            Next::Reply(reply) => {
+                self.stage = Stage::Idle;
+                StepEnd::Replied(me, reply)
+            }
+            Next::Publish(words) => {
+                self.stage = Stage::Puts(words);
+                StepEnd::Quiet
+            }
+        }
+    }
+
+    /// It claims a place.
+    pub fn claim(
+        &mut self,
+        me: u32,
+        limit: u32,
+        places: &mut Vec<Place<[u64; 49]>>,
+    ) -> StepEnd<Reply>
+        requires below { IsBelow limit self.old.step }
+        requires few { length places.old.items ≤ limit }
+        requires room { limit ≤ vec_capacity places.old }
+        requires formed { AreFormed places.old.items }
+        ensures fits { ActFits limit me self.old places.old.items acts.Claim result self.new places.new.items }
+        ensures below { IsBelow limit self.new.step }
+        ensures few { length places.new.items ≤ limit }
+        ensures room { limit ≤ vec_capacity places.new }
+        ensures formed { AreFormed places.new.items }
+    {
+        let Some(count) = self.stage.claims() else {
+            return StepEnd::Not;
+        };
+        let Some(words) = self.stage.words() else {
+            return StepEnd::Not;
+        };
+        let claimed = places.len() as u32;
+        if claimed != count {
+            let reply = self.session.put(Put::Raced(claimed));
+            self.stage = Stage::Idle;
+            return StepEnd::Replied(me, reply);
+        }
+        places.push_reserved(Place::Claimed(me));
+        self.stage = Stage::Writes(words, count);
+        StepEnd::Quiet
+    }
+
+    /// It writes its place.
+    pub fn done(
+        &mut self,
+        me: u32,
+        limit: u32,
+        places: &mut Vec<Place<[u64; 49]>>,
+    ) -> StepEnd<Reply>
+        requires room { limit ≤ vec_capacity places.old }
+        requires few { length places.old.items ≤ limit }
+        requires formed { AreFormed places.old.items }
+        ensures fits { ActFits limit me self.old places.old.items acts.Done result self.new places.new.items }
+        ensures below { IsBelow limit self.old.step → IsBelow limit self.new.step }
+        ensures few { length places.new.items ≤ limit }
+        ensures room { limit ≤ vec_capacity places.new }
+        ensures formed { AreFormed places.new.items }
+    {
+        let Some(place) = self.stage.writes() else {
+            return StepEnd::Not;
+        };
+        let Some(words) = self.stage.words() else {
+            return StepEnd::Not;
+        };
+        write(places, place, words);
+        let reply = self.session.put(Put::Published(place));
+        self.stage = Stage::Idle;
+        StepEnd::Replied(me, reply)
+    }
+}
