@@ -26,7 +26,7 @@ places_kept shape v w (NoneReady c) d = ap (λ (x : View). x.places) d.view
 places_kept shape v w (Found k xs) f =
     ap (λ (x : View). x.places) f.finds.view ∙ ap (λ (x : View). x.places) f.down.view
 
-finds_formed : (shape : Words) (v w : View) (look : Look) → Looks shape v look w →
+pub finds_formed : (shape : Words) (v w : View) (look : Look) → Looks shape v look w →
     IfSome (looked_by look) (λ place. IsWellFormed place.words × (front place.words ≡ shape))
 finds_formed shape v w (NoneReady c) d = tt
 finds_formed shape v w (Found k xs) f = (f.finds.formed, f.finds.shape_is)

@@ -6,3 +6,5 @@ pub mod Ends
 pub mod Works
 pub mod Steps
 pub mod Boards
+pub mod Only
+pub mod Sights

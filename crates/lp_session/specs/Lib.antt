@@ -1,4 +1,4 @@
 pub mod Sharing
-pub mod Room
 pub mod Stages
 pub mod Boarding
+pub mod Only

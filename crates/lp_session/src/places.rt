@@ -4,35 +4,30 @@ ghost use Rattle.spec_shape.specs.Words.{IsWellFormed};
 ghost use Rattle.spec_reads.specs.Reads as reads;
 ghost use Rattle.lp_session.specs.Sharing.{SharesLook, SharesPut};
 
+use crate::boarding::{found_by, put_by};
+use basis_board::{Board, Pass};
 use spec_reads::{Found, Put};
 use std::alloc::{AllocError, Global};
 use std::marker::Model;
 
-/// Places for the bases that the sessions of one script share, which nobody else reads or writes. They are claimed one
-/// after the other, and each is written at once.
+/// Places for the bases that the sessions of one script share, which nobody else reads or writes: a board with the only
+/// pass of it. They are claimed one after the other, and each is written at once.
 #[derive(Drop)]
 pub struct Places {
-    places: u32,
-    done: Vec<[u64; 49]>,
+    board: Board,
+    pass: Pass,
 }
 
 impl Model for Places {
-    ghost use Rattle.std.specs.Vec.{vec_capacity};
-    ghost use Rattle.lp_session.specs.Room.{HasRoom};
+    ghost use Rattle.basis_board.specs.Id.{id_of};
+    ghost use Rattle.lp_session.specs.Only.{sharing_of, IsOnly};
     ghost use Rattle.lp_session.specs.Sharing.{Sharing};
 
     ghost Value = { Sharing };
 
-    ghost view = { λ p. record { places = p.places; done = p.done.items } };
+    ghost view = { λ p. sharing_of p.pass.view };
 
-    ghost invariant = { λ p. HasRoom p.places (vec_capacity p.done) p.done.items };
-}
-
-// Whether the words begin with this shape.
-fn has_shape(words: &[u64; 49], shape: &[u64; 25]) -> bool
-    ensures { result ≡ reads.has_shape shape.now words.now }
-{
-    words[..25] == shape[..]
+    ghost invariant = { λ p. IsOnly (id_of p.board) p.pass };
 }
 
 impl Places {
@@ -42,24 +37,17 @@ impl Places {
         requires few { places ≤ 1024 }
         ensures { IfOk result (λ p. p ≡ record { places = places; done = [] }) }
     {
-        let done = Vec::with_capacity(alloc, places as usize)?;
-        Ok(Places { places, done })
+        let (board, pass) = Board::new(alloc, places)?;
+        Ok(Places { board, pass })
     }
 
     /// The newest place whose words begin with this shape.
-    pub fn look(&self, shape: &[u64; 25]) -> Option<Found<[u64; 49]>>
-        ensures look { SharesLook shape.now self.now result }
+    pub fn look(&mut self, shape: &[u64; 25]) -> Option<Found<[u64; 49]>>
+        ensures look { SharesLook shape.now self.old result }
+        ensures kept { self.new ≡ self.old }
         ensures formed { IfSome result (λ place. IsWellFormed place.words × (reads.front place.words ≡ shape.now)) }
     {
-        for place in (0..self.done.len()).rev() {
-            if has_shape(&self.done[place], shape) {
-                return Some(Found {
-                    place: place as u32,
-                    words: self.done[place],
-                });
-            }
-        }
-        None
+        found_by(self.board.look(&mut self.pass, shape))
     }
 
     /// Gives the words the next place, unless all are claimed. It takes no memory.
@@ -67,11 +55,6 @@ impl Places {
         requires { IsWellFormed words.now }
         ensures { SharesPut words.now self.old result self.new }
     {
-        let place = self.done.len() as u32;
-        if place == self.places {
-            return Put::Full(place);
-        }
-        self.done.push(*words).unwrap();
-        Put::Published(place)
+        put_by(self.board.publish(&mut self.pass, words))
     }
 }

@@ -1,0 +1,33 @@
+-- What holds of places as the code keeps them: a board with the only pass of it.
+use Rattle.std.specs.Prelude.{◌≡◌, ◌++◌, List, [], ◌∷◌, length}
+use Rattle.atomic_table.specs.Seated.{TableId}
+use Rattle.spec_shape.specs.Words.{IsWellFormed}
+use Rattle.spec_reads.specs.Reads.{Words}
+use Rattle.basis_board.specs.declared.seats.View.{View}
+use Rattle.basis_board.specs.declared.seats.Read.{Read}
+use Rattle.basis_board.specs.declared.seats.Read.TheVariants.{Done}
+use Rattle.basis_board.specs.Known.{Known}
+use Rattle.basis_board.specs.Rule.{Consistent}
+use Rattle.lp_session.specs.Sharing.{Sharing}
+
+-- the words of the publications, the first one first
+abbrev pub published_words : List Read → List Words
+published_words [] = []
+published_words (Done k words ∷ reads) = published_words reads ++ words ∷ []
+published_words (r ∷ reads) = published_words reads
+
+-- each publication has the place after those of the earlier ones
+abbrev pub AreInOrder : List Read → Type 0
+AreInOrder [] = Unit {0}
+AreInOrder (Done k words ∷ reads) = (k ≡ length (published_words reads)) × IsWellFormed words × AreInOrder reads
+AreInOrder (r ∷ reads) = AreInOrder reads
+
+abbrev pub sharing_of : View → Sharing
+sharing_of v = record { places = v.places; done = published_words v.reads }
+
+-- the pass is of this board, and no other pass is
+pub record IsOnly (board : TableId) (pass : Known) : Type 0 where
+  pub of_board : pass.board ≡ board
+  pub whole : pass.view.share ≡ 64
+  pub consistent : Consistent pass.view
+  pub in_order : AreInOrder pass.view.reads
