@@ -1,5 +1,6 @@
 -- Magnitudes, and signs that are turned.
-use Rattle.std.proofs.Common.{◌≡◌, ℕ, ℤ, pos, ◌*ℤ◌, ◌<ℤ◌, ◌≤ℤ◌, int_lt, Bool, true, false, cond, refl, sym, ap, ◌∙◌, subst, arith}
+use Rattle.std.proofs.Common.{◌≡◌, ℕ, ℤ, pos, ◌*ℤ◌, ◌<ℤ◌, ◌≤ℤ◌, int_lt, Bool}
+use Rattle.std.proofs.Common.{true, false, cond, refl, sym, ap, ◌∙◌, subst, arith}
 use Rattle.std.proofs.lemmas.Int.{ints}
 use borrow.Author.Differences.{at_most_in, below_in, lt-true, lt-false}
 use Rattle.spec_exact.specs.Fraction.{ℚ, 0ℚ, neg_ℚ, abs_ℚ, whole, ◌<ℚ◌, ◌≤ℚ◌}
@@ -46,7 +47,8 @@ turned_down x h = subst (λ a. a <ℚ 0ℚ) (neg-neg x) (above_turned (neg_ℚ x
 -- a magnitude is not below 0, and 0 only of 0
 pub abs_at_most : (x : ℚ) → x ≤ℚ 0ℚ → abs_ℚ x ≡ neg_ℚ x
 abs_at_most x h =
-    by_sign x (λ p. clash_ℚ 0ℚ x p h) (abs_below x) (λ e. abs_above x (subst (λ a. 0ℚ ≤ℚ a) (sym e) (≤ℚ_refl 0ℚ)) ∙ e ∙ sym neg-zero ∙ ap neg_ℚ (sym e))
+    by_sign x (λ p. clash_ℚ 0ℚ x p h) (abs_below x)
+    (λ e. abs_above x (subst (λ a. 0ℚ ≤ℚ a) (sym e) (≤ℚ_refl 0ℚ)) ∙ e ∙ sym neg-zero ∙ ap neg_ℚ (sym e))
 
 pub abs_least : (x : ℚ) → 0ℚ ≤ℚ abs_ℚ x
 abs_least x =

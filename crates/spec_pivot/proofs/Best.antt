@@ -1,5 +1,6 @@
 -- The ratio test finds a move for which there is room, or that nothing stops the column.
-use Rattle.std.proofs.Common.{◌≡◌, ℕ, ◌⊎◌, Option, Some, None, Bool, true, false, cond, option_map, IfSome, refl, ap, ◌∙◌, subst, inl, inr, ⊎_elim}
+use Rattle.std.proofs.Common.{◌≡◌, ℕ, ◌⊎◌, Option, Some, None, Bool, true, false, cond}
+use Rattle.std.proofs.Common.{option_map, IfSome, refl, ap, ◌∙◌, subst, inl, inr, ⊎_elim}
 use Rattle.spec_exact.specs.Fraction.{ℚ, ◌-ℚ◌, ◌*ℚ◌, neg_ℚ, inverse, 0ℚ, ◌≤ℚ◌, ◌<ℚ◌, lt_ℚ}
 use Rattle.spec_exact.proofs.Order.{≤ℚ_trans, <ℚ-le, lt_if, ≤ℚ-difference, *ℚ-nonneg}
 use Rattle.spec_exact.proofs.Strict.{inv_pos}
@@ -23,13 +24,15 @@ lower_least None v r q p i e = cc
 lower_least (Some l) v r q p i e =
     let z : (v -ℚ l) *ℚ inverse (neg_ℚ r) ≡ q = cc in
     subst (λ a. 0ℚ ≤ℚ a) z
-    (*ℚ-nonneg (v -ℚ l) (inverse (neg_ℚ r)) (≤ℚ-difference l v i) (<ℚ-le 0ℚ (inverse (neg_ℚ r)) (inv_pos (neg_ℚ r) (neg_above r p))))
+    (*ℚ-nonneg (v -ℚ l) (inverse (neg_ℚ r)) (≤ℚ-difference l v i)
+    (<ℚ-le 0ℚ (inverse (neg_ℚ r)) (inv_pos (neg_ℚ r) (neg_above r p))))
 
 room_least : (b : Bounds) (k : ℕ) (v r q : ℚ) → IsInside (b.lower k) (b.upper k) v → room b k v r ≡ Some q → 0ℚ ≤ℚ q
 room_least b k v r q i e = by (lt_ℚ 0ℚ r) (lt_ℚ r 0ℚ) refl refl e
   where
     by : (s t : Bool) → lt_ℚ 0ℚ r ≡ s → lt_ℚ r 0ℚ ≡ t
-        → cond s (option_map (λ u. (u -ℚ v) *ℚ inverse r) (b.upper k)) (cond t (option_map (λ l. (v -ℚ l) *ℚ inverse (neg_ℚ r)) (b.lower k)) None) ≡ Some q
+        → cond s (option_map (λ u. (u -ℚ v) *ℚ inverse r) (b.upper k))
+        (cond t (option_map (λ l. (v -ℚ l) *ℚ inverse (neg_ℚ r)) (b.lower k)) None) ≡ Some q
         → 0ℚ ≤ℚ q
     by true t p w h = upper_least (b.upper k) v r q (lt_if 0ℚ r p) i.upper h
     by false true p w h = lower_least (b.lower k) v r q (lt_if r 0ℚ w) i.lower h
@@ -48,7 +51,8 @@ range_none j None u e = inl refl
 range_none j (Some l) None e = inr refl
 range_none j (Some l) (Some u) e = cc
 
-module _ (m n : ℕ) (f : Matrix) (cost : ℕ → ℚ) (b : Bounds) (t : Table) (way : Way) (j : ℕ) (g : IsTableau m n f cost b t) (within : IsWithin n b t) (e : Enters n b t way j) where
+module _ (m n : ℕ) (f : Matrix) (cost : ℕ → ℚ) (b : Bounds) (t : Table) (way : Way) (j : ℕ)
+    (g : IsTableau m n f cost b t) (within : IsWithin n b t) (e : Enters n b t way j) where
   abbrev rooms : ℕ → Option ℚ
   rooms = room_at m b t way j
 
@@ -60,10 +64,12 @@ module _ (m n : ℕ) (f : Matrix) (cost : ℕ → ℚ) (b : Bounds) (t : Table) 
     forward =
         ⊎_elim
         (λ a. range_least j (b.lower j) (b.upper j) (t.value j) x (within j e.in_range) a)
-        (λ a. let i : ℕ = a.0 in let at = a.1 in room_least b (t.basic i) (t.value (t.basic i)) (ray m t way j (t.basic i)) x.ratio (within (t.basic i) (g.in_range i at.in_range)) at.ratio)
+        (λ a. let i : ℕ = a.0 in let at = a.1 in room_least b (t.basic i) (t.value (t.basic i))
+        (ray m t way j (t.basic i)) x.ratio (within (t.basic i) (g.in_range i at.in_range)) at.ratio)
         (found rooms t.basic range m x h);
     own =
-        λ l u p q. scan_first rooms t.basic range m x (record { ratio = u -ℚ l; column = j; position = None }) (ap (λ o. range_of j o (b.upper j)) p ∙ ap (λ o. range_of j (Some l) o) q) h;
+        λ l u p q. scan_first rooms t.basic range m x (record { ratio = u -ℚ l; column = j; position = None })
+        (ap (λ o. range_of j o (b.upper j)) p ∙ ap (λ o. range_of j (Some l) o) q) h;
     others = λ i p q k. no_more x q (t.basic i) (scan_least rooms t.basic range m x h i p q k);
   }
 

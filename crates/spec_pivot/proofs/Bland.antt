@@ -1,5 +1,7 @@
--- Two tableaus of a cycle, of which in one the greatest of the columns that come and go leaves, and in the other it enters.
-use Rattle.std.proofs.Common.{◌≡◌, ℕ, zero, suc, ◌<◌, ◌≢◌, ◌⊎◌, Some, None, refl, sym, ap, ◌∙◌, subst, arith, inl, inr, ⊎_elim}
+-- Two tableaus of a cycle, of which in one the greatest of the columns that come and go leaves,
+-- and in the other it enters.
+use Rattle.std.proofs.Common.{◌≡◌, ℕ, zero, suc, ◌<◌, ◌≢◌, ◌⊎◌, Some, None, refl}
+use Rattle.std.proofs.Common.{sym, ap, ◌∙◌, subst, arith, inl, inr, ⊎_elim}
 use Rattle.spec_exact.specs.Fraction.{ℚ, ◌+ℚ◌, ◌*ℚ◌, 0ℚ, ◌≤ℚ◌, ◌<ℚ◌}
 use Rattle.spec_exact.specs.Sums.{sum_below}
 use Rattle.spec_exact.proofs.Field.{+ℚ_zero, *ℚ_zero}
@@ -21,7 +23,8 @@ negative_term (suc n) f h =
     by_le 0ℚ (f n)
     (λ p. let q = negative_term n f
     (by_le 0ℚ (sum_below n f)
-    (λ s. absurd (clash_ℚ _ _ h (subst (λ a. a ≤ℚ (sum_below n f +ℚ f n)) (+ℚ_zero 0ℚ) (+ℚ_mono₂ 0ℚ (sum_below n f) 0ℚ (f n) s p))))
+    (λ s. absurd
+    (clash_ℚ _ _ h (subst (λ a. a ≤ℚ (sum_below n f +ℚ f n)) (+ℚ_zero 0ℚ) (+ℚ_mono₂ 0ℚ (sum_below n f) 0ℚ (f n) s p))))
     (λ s. s)) in
     (q.0, omega arith, q.2))
     (λ p. (n, omega arith, p))
@@ -99,7 +102,8 @@ pub record Entering (n : ℕ) (b : Bounds) (x : ℕ → ℚ) (d : ℕ → ℚ) (
   pub least_up : (k : ℕ) → k < g → MayEnter b k → CanMove Up (s k) → ¬ (d k <ℚ 0ℚ)
   pub least_down : (k : ℕ) → k < g → MayEnter b k → CanMove Down (s k) → ¬ (0ℚ <ℚ d k)
 
-module _ (n : ℕ) (b : Bounds) (x d e : ℕ → ℚ) (s u : ℕ → Status) (r : ℕ → ℚ) (j g : ℕ) (D : Leaving n b x d s r j g) (E : Entering n b x e u g)
+module _ (n : ℕ) (b : Bounds) (x d e : ℕ → ℚ) (s u : ℕ → Status) (r : ℕ → ℚ)
+    (j g : ℕ) (D : Leaving n b x d s r j g) (E : Entering n b x e u g)
     -- a column that is basic or enters on the one side, and is not basic on the other, comes and goes
     (moves : (k : ℕ) → k < n → (s k ≡ Basic) ⊎ (k ≡ j) → ¬ (u k ≡ Basic) → (k < g ⊎ k ≡ g) × MayEnter b k) where
   -- where the ray moves, a column is basic or enters
@@ -122,7 +126,8 @@ module _ (n : ℕ) (b : Bounds) (x d e : ℕ → ℚ) (s u : ℕ → Status) (r 
       ⊎_elim
       (λ lt. E.least_up k lt mv.1 c p)
       (λ o. ⊎_elim
-      (λ bl. rise_under_upper b k (x k) (u k) mv.1.1 (E.stands k h) c (subst (λ g. b.upper g ≡ Some (x g)) (sym o) bl.1))
+      (λ bl. rise_under_upper b k (x k) (u k) mv.1.1 (E.stands k h) c
+      (subst (λ g. b.upper g ≡ Some (x g)) (sym o) bl.1))
       (λ bl. clash_ℚ _ _ q (<ℚ-le _ _ (subst (λ g. r g <ℚ 0ℚ) (sym o) bl.0)))
       D.blocked)
       mv.0)
@@ -131,7 +136,8 @@ module _ (n : ℕ) (b : Bounds) (x d e : ℕ → ℚ) (s u : ℕ → Status) (r 
       ⊎_elim
       (λ lt. ⊎_elim
       (λ bs. D.least k lt bs (inl (q, top)))
-      (λ o. rise_under_upper b k (x k) (s k) mv.1.1 (D.stands k h) (subst (λ j. CanMove Up (s j)) (sym o) (D.rises (subst (λ j. 0ℚ <ℚ r j) o q))) top)
+      (λ o. rise_under_upper b k (x k) (s k) mv.1.1 (D.stands k h)
+      (subst (λ j. CanMove Up (s j)) (sym o) (D.rises (subst (λ j. 0ℚ <ℚ r j) o q))) top)
       way)
       (λ o. not_up (u k) (subst (λ g. CanMove Up (u g)) (sym o) (E.rises (subst (λ g. e g <ℚ 0ℚ) o p))) a)
       mv.0)
@@ -156,7 +162,8 @@ module _ (n : ℕ) (b : Bounds) (x d e : ℕ → ℚ) (s u : ℕ → Status) (r 
       ⊎_elim
       (λ lt. ⊎_elim
       (λ bs. D.least k lt bs (inr (q, bottom)))
-      (λ o. fall_over_lower b k (x k) (s k) mv.1.1 (D.stands k h) (subst (λ j. CanMove Down (s j)) (sym o) (D.falls (subst (λ j. r j <ℚ 0ℚ) o q))) bottom)
+      (λ o. fall_over_lower b k (x k) (s k) mv.1.1 (D.stands k h)
+      (subst (λ j. CanMove Down (s j)) (sym o) (D.falls (subst (λ j. r j <ℚ 0ℚ) o q))) bottom)
       way)
       (λ o. not_down (u k) (subst (λ g. CanMove Down (u g)) (sym o) (E.falls (subst (λ g. 0ℚ <ℚ e g) o p))) a)
       mv.0)
@@ -174,16 +181,20 @@ module _ (n : ℕ) (b : Bounds) (x d e : ℕ → ℚ) (s u : ℕ → Status) (r 
           go : (v : Status) → s k ≡ v → d k *ℚ r k ≡ 0ℚ
           go Basic q = ap (λ a. a *ℚ r k) (D.zero_at_basic k h q) ∙ zero-*ℚ (r k)
           go AtLower q =
-              ap (λ a. d k *ℚ a) (D.still k h (λ z. let w : AtLower ≡ Basic = sym q ∙ z in cc) (λ z. o (sym z))) ∙ *ℚ_zero (d k)
+              ap (λ a. d k *ℚ a) (D.still k h (λ z. let w : AtLower ≡ Basic = sym q ∙ z in cc) (λ z. o (sym z)))
+              ∙ *ℚ_zero (d k)
           go AtUpper q =
-              ap (λ a. d k *ℚ a) (D.still k h (λ z. let w : AtUpper ≡ Basic = sym q ∙ z in cc) (λ z. o (sym z))) ∙ *ℚ_zero (d k)
+              ap (λ a. d k *ℚ a) (D.still k h (λ z. let w : AtUpper ≡ Basic = sym q ∙ z in cc) (λ z. o (sym z)))
+              ∙ *ℚ_zero (d k)
           go AtZero q =
-              ap (λ a. d k *ℚ a) (D.still k h (λ z. let w : AtZero ≡ Basic = sym q ∙ z in cc) (λ z. o (sym z))) ∙ *ℚ_zero (d k)
+              ap (λ a. d k *ℚ a) (D.still k h (λ z. let w : AtZero ≡ Basic = sym q ∙ z in cc) (λ z. o (sym z)))
+              ∙ *ℚ_zero (d k)
 
       part : (k : ℕ) → k < n → d k *ℚ r k ≡ delta j k *ℚ (d k *ℚ r k)
       part k h =
           by_eq j k
-          (λ o. subst (λ k. d k *ℚ r k ≡ delta j k *ℚ (d k *ℚ r k)) o (sym (ap (λ a. a *ℚ (d j *ℚ r j)) (delta_same j) ∙ one-*ℚ (d j *ℚ r j))))
+          (λ o. subst (λ k. d k *ℚ r k ≡ delta j k *ℚ (d k *ℚ r k)) o
+          (sym (ap (λ a. a *ℚ (d j *ℚ r j)) (delta_same j) ∙ one-*ℚ (d j *ℚ r j))))
           (λ o. none k h o ∙ sym (ap (λ a. a *ℚ (d k *ℚ r k)) (delta_other j k o) ∙ zero-*ℚ (d k *ℚ r k)))
 
   pub no_pair : sum_below n (λ k. d k *ℚ r k) ≡ sum_below n (λ k. e k *ℚ r k) → ⊥

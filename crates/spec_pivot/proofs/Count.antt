@@ -1,5 +1,6 @@
 -- How many steps there can be.
-use Rattle.std.proofs.Common.{◌≡◌, ℕ, zero, suc, ◌+◌, ◌-◌, ◌*◌, ◌^◌, ◌<◌, ◌≢◌, ◌⊎◌, cond, ltb, refl, sym, ap, ◌∙◌, subst, arith, Option, Some, None, inl, inr, ⊎_elim, pow-suc}
+use Rattle.std.proofs.Common.{◌≡◌, ℕ, zero, suc, ◌+◌, ◌-◌, ◌*◌, ◌^◌, ◌<◌, ◌≢◌, ◌⊎◌, cond, ltb, refl}
+use Rattle.std.proofs.Common.{sym, ap, ◌∙◌, subst, arith, Option, Some, None, inl, inr, ⊎_elim, pow-suc}
 use Rattle.std.proofs.lemmas.Bool.{cases_lt}
 use Rattle.std.proofs.lemmas.Bool.Decides.{nat_tests}
 use Rattle.spec_exact.specs.Fraction.{ℚ}
@@ -41,8 +42,14 @@ pigeons (suc len) zero c h p = absurd (let q : c len < 0 = h len (omega arith) i
 pigeons (suc len) (suc n) c h p =
     ⊎_elim
     (λ w. (w.0, len, w.1, omega arith, w.2))
-    (λ o. let r = pigeons len n (λ i. closed (c len) (c i)) (λ i q. closed_less (c len) (c i) n (o i q) (h len (omega arith)) (h i (omega arith))) (omega arith) in
-    (r.0, r.1, r.2, omega (arith, r.3), closed_same (c len) (c r.0) (c r.1) (o r.0 (omega (arith, r.2, r.3))) (o r.1 r.3) r.4))
+    (λ o. let r = pigeons len n (λ i. closed (c len) (c i))
+    (λ i q. closed_less (c len) (c i) n (o i q) (h len (omega arith)) (h i (omega arith))) (omega arith) in (
+      r.0,
+      r.1,
+      r.2,
+      omega (arith, r.3),
+      closed_same (c len) (c r.0) (c r.1) (o r.0 (omega (arith, r.2, r.3))) (o r.1 r.3) r.4,
+    ))
     (find_value c (c len) len)
 
 -- ---- statuses as numbers
@@ -99,7 +106,8 @@ pub bounded : (m n : ℕ) (f : Matrix) (cost : ℕ → ℚ) (b : Bounds) (t : �
     IsRun m n f cost b t l len → len < 3 ^ n
 bounded m n f cost b t l len run =
     ⊎_elim (λ lt. lt)
-    (λ le. absurd (twice (pigeons (suc len) (3 ^ n) (λ i. code n (t i).status) (λ i _. code_less n (t i).status) (omega arith))))
+    (λ le. absurd
+    (twice (pigeons (suc len) (3 ^ n) (λ i. code n (t i).status) (λ i _. code_less n (t i).status) (omega arith))))
     (cases_lt len (3 ^ n))
   where
     twice : (i j : ℕ) × (i < j) × (j < suc len) × (code n (t i).status ≡ code n (t j).status) → ⊥
@@ -112,10 +120,13 @@ bounded m n f cost b t l len run =
         (record {
           first = subst (λ a. IsTableau m n f cost b (t a)) (sym e₀) (good m n f cost b t l len run i (omega arith));
           steps =
-              λ a h. let q : suc (i + a) ≡ i + suc a = omega arith in subst (λ c. IsStep m n b (l (i + a)) (t (i + a)) (t c)) q (run.steps (i + a) (omega arith));
+              λ a h. let q : suc (i + a) ≡ i + suc a = omega arith in
+              subst (λ c. IsStep m n b (l (i + a)) (t (i + a)) (t c)) q (run.steps (i + a) (omega arith));
         })
         (omega arith)
-        (λ k h. subst (λ a. (t (i + 0)).status k ≡ (t a).status k) (sym e) (subst (λ a. (t a).status k ≡ (t j).status k) (sym e₀)
+        (λ k h. subst (λ a. (t (i + 0)).status k ≡ (t a).status k)
+        (sym e) (subst (λ a. (t a).status k ≡ (t j).status k) (sym e₀)
         (same_digit ((t i).status k) ((t j).status k) (b.lower k) (b.upper k) _ _
-        ((good m n f cost b t l len run i (omega arith)).stands k h) ((good m n f cost b t l len run j (omega arith)).stands k h)
+        ((good m n f cost b t l len run i (omega arith)).stands k h)
+        ((good m n f cost b t l len run j (omega arith)).stands k h)
         (code_same n (t i).status (t j).status r.4 k h))))

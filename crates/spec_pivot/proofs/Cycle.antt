@@ -1,5 +1,6 @@
 -- Steps by the least index never come back to the same statuses.
-use Rattle.std.proofs.Common.{◌≡◌, ℕ, zero, suc, ◌+◌, ◌-◌, ◌<◌, ◌≤◌, ◌≢◌, ◌⊎◌, refl, sym, ap, ◌∙◌, subst, subst₂, arith, inl, inr, ⊎_elim}
+use Rattle.std.proofs.Common.{◌≡◌, ℕ, zero, suc, ◌+◌, ◌-◌, ◌<◌, ◌≤◌, ◌≢◌, ◌⊎◌, refl}
+use Rattle.std.proofs.Common.{sym, ap, ◌∙◌, subst, subst₂, arith, inl, inr, ⊎_elim}
 use Rattle.std.proofs.lemmas.Bool.{cases_lt}
 use Rattle.spec_exact.specs.Fraction.{ℚ, ◌+ℚ◌, ◌*ℚ◌, neg_ℚ, 0ℚ, 1ℚ, ◌≤ℚ◌, ◌<ℚ◌}
 use Rattle.spec_exact.specs.Sums.{sum_below}
@@ -12,7 +13,9 @@ use Rattle.spec_pivot.specs.Tableau.{Matrix}
 use Rattle.spec_pivot.specs.declared.status.Status.TheVariants.{Basic}
 use Rattle.spec_pivot.specs.declared.status.Way.{Way}
 use Rattle.spec_pivot.specs.declared.status.Way.TheVariants.{Up, Down}
-use Rattle.spec_pivot.specs.Simplex.{sign, Bounds, MayEnter, CanMove, Improves, Stands, Table, ray, IsBlocked, IsTableau, moved, after_pivot, Pivots, StepKind, Pivot, Flip, Label, StepOf, IsStep, IsRun, SameStatuses}
+use Rattle.spec_pivot.specs.Simplex.{sign, Bounds, MayEnter, CanMove, Improves, Stands, Table}
+use Rattle.spec_pivot.specs.Simplex.{ray, IsBlocked, IsTableau, moved, after_pivot, Pivots, StepKind}
+use Rattle.spec_pivot.specs.Simplex.{Pivot, Flip, Label, StepOf, IsStep, IsRun, SameStatuses}
 use Rattle.spec_pivot.proofs.Pivot.{by_eq}
 use Rattle.spec_pivot.proofs.Ray.{ray_at, ray_still, cost_ray}
 use Rattle.spec_pivot.proofs.Kept.{outside, j_outside, flip_kept, pivot_kept, status_j, status_left, status_other}
@@ -34,9 +37,11 @@ module _ (m n : ℕ) (f : Matrix) (cost : ℕ → ℚ) (b : Bounds) where
     where
       go : (k : StepKind) → StepOf k m n b l t u → IsTableau m n f cost b u
       go Pivot s =
-          subst (IsTableau m n f cost b) (sym s.1) (pivot_kept m n f cost b t g l.way l.column l.position l.theta l.to s.0)
+          subst (IsTableau m n f cost b) (sym s.1)
+          (pivot_kept m n f cost b t g l.way l.column l.position l.theta l.to s.0)
       go Flip s =
-          subst (IsTableau m n f cost b) (sym s.1) (flip_kept m n f cost b t g l.way l.column s.0.enters l.theta l.to s.0.to_nonbasic s.0.lands)
+          subst (IsTableau m n f cost b) (sym s.1)
+          (flip_kept m n f cost b t g l.way l.column s.0.enters l.theta l.to s.0.to_nonbasic s.0.lands)
 
   -- a pivot by nothing
   record Still (l : Label) (t u : Table) : Type 0 where
@@ -54,9 +59,12 @@ module _ (m n : ℕ) (f : Matrix) (cost : ℕ → ℚ) (b : Bounds) where
       go Pivot s =
           by_le l.theta 0ℚ
           (λ h. inl (record { rule = s.0; result = s.1; none = ≤ℚ_antisym l.theta 0ℚ h s.0.forward }))
-          (λ h. inr (subst (λ u. cost_at u <ℚ cost_at t) (sym s.1) (subst (λ a. a <ℚ cost_at t) (sym (cost_along m n f cost b t g l.way l.column s.0.enters l.theta))
+          (λ h. inr (subst (λ u. cost_at u <ℚ cost_at t) (sym s.1)
+          (subst (λ a. a <ℚ cost_at t) (sym (cost_along m n f cost b t g l.way l.column s.0.enters l.theta))
           (plus_negative _ l.theta _ h (better m n f cost b t g l.way l.column s.0.enters)))))
-      go Flip s = inr (subst (λ u. cost_at u <ℚ cost_at t) (sym s.1) (subst (λ a. a <ℚ cost_at t) (sym (cost_along m n f cost b t g l.way l.column s.0.enters l.theta))
+      go Flip s =
+          inr (subst (λ u. cost_at u <ℚ cost_at t) (sym s.1)
+          (subst (λ a. a <ℚ cost_at t) (sym (cost_along m n f cost b t g l.way l.column s.0.enters l.theta))
           (plus_negative _ l.theta _ s.0.forward (better m n f cost b t g l.way l.column s.0.enters))))
 
   module _ (t : ℕ → Table) (l : ℕ → Label) (len : ℕ) (run : IsRun m n f cost b t l len) where
@@ -69,8 +77,10 @@ module _ (m n : ℕ) (f : Matrix) (cost : ℕ → ℚ) (b : Bounds) where
     no_rise i h =
         ⊎_elim
         (λ s. subst (λ u. cost_at u ≤ℚ cost_at (t i)) (sym s.result)
-        (subst (λ a. a ≤ℚ cost_at (t i)) (sym (cost_along m n f cost b (t i) (good i (omega arith)) (l i).way (l i).column s.rule.enters (l i).theta
-        ∙ ap (λ a. cost_at (t i) +ℚ a *ℚ ((t i).reduced (l i).column *ℚ sign (l i).way)) s.none ∙ nothing _ _)) (≤ℚ_refl _)))
+        (subst (λ a. a ≤ℚ cost_at (t i))
+        (sym (cost_along m n f cost b (t i) (good i (omega arith)) (l i).way (l i).column s.rule.enters (l i).theta
+        ∙ ap (λ a. cost_at (t i) +ℚ a *ℚ ((t i).reduced (l i).column *ℚ sign (l i).way)) s.none ∙ nothing _ _))
+        (≤ℚ_refl _)))
         (λ s. <ℚ-le _ _ s)
         (still_or_less (l i) (t i) (t (suc i)) (good i (omega arith)) (run.steps i h))
       where
@@ -82,19 +92,22 @@ module _ (m n : ℕ) (f : Matrix) (cost : ℕ → ℚ) (b : Bounds) where
         let e : i + zero ≡ i = omega arith in subst (λ j. cost_at (t j) ≤ℚ cost_at (t i)) (sym e) (≤ℚ_refl _)
     falls_along i (suc d) h =
         let e : i + suc d ≡ suc (i + d) = omega arith in
-        subst (λ j. cost_at (t j) ≤ℚ cost_at (t i)) (sym e) (≤ℚ_trans _ _ _ (no_rise (i + d) (omega arith)) (falls_along i d (omega arith)))
+        subst (λ j. cost_at (t j) ≤ℚ cost_at (t i)) (sym e)
+        (≤ℚ_trans _ _ _ (no_rise (i + d) (omega arith)) (falls_along i d (omega arith)))
 
     module _ (same : SameStatuses n (t 0) (t len)) where
       same_cost : cost_at (t 0) ≡ cost_at (t len)
       unfolding cost_at
       same_cost =
           sum_below_same n _ _
-          (λ k h. ap (λ a. cost k *ℚ a) (same_values m n f cost b (t 0) run.first (t len) (good len (omega arith)) same k h))
+          (λ k h. ap (λ a. cost k *ℚ a)
+          (same_values m n f cost b (t 0) run.first (t len) (good len (omega arith)) same k h))
 
       still : (i : ℕ) → i < len → Still (l i) (t i) (t (suc i))
       still i h =
           ⊎_elim (λ s. s)
-          (λ s. absurd (clash_ℚ _ _ (≤ℚ-<ℚ_trans _ _ _ rest (<ℚ-≤ℚ_trans _ _ _ s first)) (subst (λ a. cost_at (t 0) ≤ℚ a) same_cost (≤ℚ_refl _))))
+          (λ s. absurd (clash_ℚ _ _ (≤ℚ-<ℚ_trans _ _ _ rest (<ℚ-≤ℚ_trans _ _ _ s first))
+          (subst (λ a. cost_at (t 0) ≤ℚ a) same_cost (≤ℚ_refl _))))
           (still_or_less (l i) (t i) (t (suc i)) (good i (omega arith)) (run.steps i h))
         where
           first : cost_at (t i) ≤ℚ cost_at (t 0)
@@ -111,7 +124,9 @@ module _ (m n : ℕ) (f : Matrix) (cost : ℕ → ℚ) (b : Bounds) where
       same_value zero h k = refl
       same_value (suc i) h k =
           let s = still i (omega arith) in
-          ap (λ (u : Table). u.value k) s.result ∙ ap (λ a. (t i).value k +ℚ a *ℚ ray m (t i) (l i).way (l i).column k) s.none ∙ nothing _ _ ∙ same_value i (omega arith) k
+          ap (λ (u : Table). u.value k) s.result
+          ∙ ap (λ a. (t i).value k +ℚ a *ℚ ray m (t i) (l i).way (l i).column k) s.none
+          ∙ nothing _ _ ∙ same_value i (omega arith) k
         where
           nothing : (a d : ℚ) → a +ℚ 0ℚ *ℚ d ≡ a
           nothing a d = simp ring
@@ -128,7 +143,8 @@ module _ (m n : ℕ) (f : Matrix) (cost : ℕ → ℚ) (b : Bounds) where
       status_entered i h =
           let s = still i h in
           ap (λ (u : Table). u.status (l i).column) s.result
-          ∙ status_j m n f cost b (t i) (good i (omega arith)) (l i).way (l i).column (l i).position (l i).theta (l i).to s.rule
+          ∙ status_j m n f cost b (t i) (good i (omega arith))
+          (l i).way (l i).column (l i).position (l i).theta (l i).to s.rule
 
       status_gone : (i : ℕ) → i < len → ¬ ((t (suc i)).status (left i) ≡ Basic)
       unfolding left
@@ -136,14 +152,16 @@ module _ (m n : ℕ) (f : Matrix) (cost : ℕ → ℚ) (b : Bounds) where
           let s = still i h in
           s.rule.to_nonbasic
           (sym (ap (λ (u : Table). u.status ((t i).basic (l i).position)) s.result
-          ∙ status_left m n f cost b (t i) (good i (omega arith)) (l i).way (l i).column (l i).position (l i).theta (l i).to s.rule) ∙ e)
+          ∙ status_left m n f cost b (t i) (good i (omega arith))
+          (l i).way (l i).column (l i).position (l i).theta (l i).to s.rule) ∙ e)
 
       status_same : (i : ℕ) → i < len → (k : ℕ) → k ≢ col i → k ≢ left i → (t (suc i)).status k ≡ (t i).status k
       unfolding col left
       status_same i h k y z =
           let s = still i h in
           ap (λ (u : Table). u.status k) s.result
-          ∙ status_other m n f cost b (t i) (good i (omega arith)) (l i).way (l i).column (l i).position (l i).theta (l i).to s.rule k y z
+          ∙ status_other m n f cost b (t i) (good i (omega arith))
+          (l i).way (l i).column (l i).position (l i).theta (l i).to s.rule k y z
 
       was_outside : (i : ℕ) → i < len → ¬ ((t i).status (col i) ≡ Basic)
       unfolding col
@@ -189,9 +207,12 @@ module _ (m n : ℕ) (f : Matrix) (cost : ℕ → ℚ) (b : Bounds) where
       leaves_to k i j kn h g p q =
           ⊎_elim
           (λ lt. by_basic ((t len).status k)
-          (λ s. let e : 0 + j ≡ j = omega arith in leaves k 0 j (omega arith) (same k kn ∙ s) (subst (λ a. ¬ ((t a).status k ≡ Basic)) (sym e) q))
-          (λ s. let e : i + (len - i) ≡ len = omega arith in leaves k i (len - i) (omega arith) p (subst (λ a. ¬ ((t a).status k ≡ Basic)) (sym e) s)))
-          (λ le. let e : i + (j - i) ≡ j = omega arith in leaves k i (j - i) (omega arith) p (subst (λ a. ¬ ((t a).status k ≡ Basic)) (sym e) q))
+          (λ s. let e : 0 + j ≡ j = omega arith in
+          leaves k 0 j (omega arith) (same k kn ∙ s) (subst (λ a. ¬ ((t a).status k ≡ Basic)) (sym e) q))
+          (λ s. let e : i + (len - i) ≡ len = omega arith in
+          leaves k i (len - i) (omega arith) p (subst (λ a. ¬ ((t a).status k ≡ Basic)) (sym e) s)))
+          (λ le. let e : i + (j - i) ≡ j = omega arith in
+          leaves k i (j - i) (omega arith) p (subst (λ a. ¬ ((t a).status k ≡ Basic)) (sym e) q))
           (cases_lt j i)
 
       enters_to : (k i j : ℕ) → k < n → i ≤ len → j ≤ len → ¬ ((t i).status k ≡ Basic) → (t j).status k ≡ Basic →
@@ -199,16 +220,23 @@ module _ (m n : ℕ) (f : Matrix) (cost : ℕ → ℚ) (b : Bounds) where
       enters_to k i j kn h g p q =
           ⊎_elim
           (λ lt. by_basic ((t len).status k)
-          (λ s. let e : i + (len - i) ≡ len = omega arith in enters k i (len - i) (omega arith) p (subst (λ a. (t a).status k ≡ Basic) (sym e) s))
-          (λ s. let e : 0 + j ≡ j = omega arith in enters k 0 j (omega arith) (λ z. s (sym (same k kn) ∙ z)) (subst (λ a. (t a).status k ≡ Basic) (sym e) q)))
-          (λ le. let e : i + (j - i) ≡ j = omega arith in enters k i (j - i) (omega arith) p (subst (λ a. (t a).status k ≡ Basic) (sym e) q))
+          (λ s. let e : i + (len - i) ≡ len = omega arith in
+          enters k i (len - i) (omega arith) p (subst (λ a. (t a).status k ≡ Basic) (sym e) s))
+          (λ s. let e : 0 + j ≡ j = omega arith in
+          enters k 0 j (omega arith) (λ z. s (sym (same k kn) ∙ z)) (subst (λ a. (t a).status k ≡ Basic) (sym e) q)))
+          (λ le. let e : i + (j - i) ≡ j = omega arith in
+          enters k i (j - i) (omega arith) p (subst (λ a. (t a).status k ≡ Basic) (sym e) q))
           (cases_lt j i)
 
       -- the step at which the greatest column enters
       greatest : (c : ℕ) → 0 < c → c ≤ len → (i : ℕ) × (i < c) × ((a : ℕ) → a < c → col a ≤ col i)
       greatest zero h g = absurd (let z : ⊥ = omega arith in z)
-      greatest (suc zero) h g =
-          (0, omega arith, λ a p. let e : a ≡ 0 = omega arith in subst (λ a. col a ≤ col 0) (sym e) (let z : col 0 ≤ col 0 = omega arith in z))
+      greatest (suc zero) h g = (
+        0,
+        omega arith,
+        λ a p. let e : a ≡ 0 = omega arith in
+            subst (λ a. col a ≤ col 0) (sym e) (let z : col 0 ≤ col 0 = omega arith in z),
+      )
       greatest (suc (suc c)) h g =
           let r = greatest (suc c) (omega arith) (omega arith) in
           ⊎_elim
@@ -220,7 +248,11 @@ module _ (m n : ℕ) (f : Matrix) (cost : ℕ → ℚ) (b : Bounds) where
                 (λ e. subst (λ a. col a ≤ col (suc c)) (sym e) (let z : col (suc c) ≤ col (suc c) = omega arith in z))
                 (λ o. let q : col a ≤ col r.0 = r.2 a (omega arith) in omega arith),
           ))
-          (λ le. (r.0, omega (arith, r.1), λ a p. by_eq a (suc c) (λ e. subst (λ a. col a ≤ col r.0) (sym e) le) (λ o. r.2 a (omega arith))))
+          (λ le. (
+            r.0,
+            omega (arith, r.1),
+            λ a p. by_eq a (suc c) (λ e. subst (λ a. col a ≤ col r.0) (sym e) le) (λ o. r.2 a (omega arith)),
+          ))
           (cases_lt (col r.0) (col (suc c)))
 
       x : ℕ → ℚ
@@ -234,7 +266,8 @@ module _ (m n : ℕ) (f : Matrix) (cost : ℕ → ℚ) (b : Bounds) where
             g_in = s.rule.enters.in_range;
             zero_at_basic = zero_at_basic m n f cost b (t i) g;
             stands =
-                λ k p. subst (λ v. Stands ((t i).status k) (b.lower k) (b.upper k) v) (same_value i (omega arith) k) (g.stands k p);
+                λ k p. subst (λ v. Stands ((t i).status k) (b.lower k) (b.upper k) v)
+                (same_value i (omega arith) k) (g.stands k p);
             may_enter = s.rule.enters.eligible.may_enter;
             rises = λ p. up (l i).way s.rule.enters.eligible.status s.rule.enters.eligible.improves p;
             falls = λ p. down (l i).way s.rule.enters.eligible.status s.rule.enters.eligible.improves p;
@@ -242,12 +275,14 @@ module _ (m n : ℕ) (f : Matrix) (cost : ℕ → ℚ) (b : Bounds) where
             least_down = λ k p q r z. s.rule.enters.least k Down p (record { may_enter = q; status = r; improves = z });
           }
         where
-          up : (w : Way) → CanMove w ((t i).status (l i).column) → Improves w ((t i).reduced (l i).column) → (t i).reduced (l i).column <ℚ 0ℚ
+          up : (w : Way) → CanMove w ((t i).status (l i).column) →
+              Improves w ((t i).reduced (l i).column) → (t i).reduced (l i).column <ℚ 0ℚ
               → CanMove Up ((t i).status (l i).column)
           up Up c z p = c
           up Down c z p = clash_ℚ _ _ z (<ℚ-le _ _ p)
 
-          down : (w : Way) → CanMove w ((t i).status (l i).column) → Improves w ((t i).reduced (l i).column) → 0ℚ <ℚ (t i).reduced (l i).column
+          down : (w : Way) → CanMove w ((t i).status (l i).column) →
+              Improves w ((t i).reduced (l i).column) → 0ℚ <ℚ (t i).reduced (l i).column
               → CanMove Down ((t i).status (l i).column)
           down Up c z p = clash_ℚ _ _ z (<ℚ-le _ _ p)
           down Down c z p = c
@@ -259,27 +294,36 @@ module _ (m n : ℕ) (f : Matrix) (cost : ℕ → ℚ) (b : Bounds) where
       unfolding col x left ray_of
       leaving_side i h =
           let s = still i h in let g = good i (omega arith) in
-          let at = ray_at m (t i) g.units (l i).way (l i).column (j_outside m n f cost b (t i) g (l i).way (l i).column s.rule.enters) in
+          let at =
+          ray_at m (t i) g.units
+          (l i).way (l i).column (j_outside m n f cost b (t i) g (l i).way (l i).column s.rule.enters) in
           let here : (k : ℕ) → moved m (t i) (l i).way (l i).column (l i).theta k ≡ (t 0).value k =
-          λ k. ap (λ a. (t i).value k +ℚ a *ℚ ray m (t i) (l i).way (l i).column k) s.none ∙ nothing _ _ ∙ same_value i (omega arith) k in
+          λ k. ap (λ a. (t i).value k +ℚ a *ℚ ray m (t i) (l i).way (l i).column k) s.none
+          ∙ nothing _ _ ∙ same_value i (omega arith) k in
           record {
             j_in = s.rule.enters.in_range;
             zero_at_basic = zero_at_basic m n f cost b (t i) g;
             still = λ k p q z.
-                ray_still m (t i) g.units (l i).way (l i).column (j_outside m n f cost b (t i) g (l i).way (l i).column s.rule.enters) k (λ e. z (sym e)) (outside m n f cost b (t i) g k q);
+                ray_still m (t i) g.units
+                (l i).way (l i).column (j_outside m n f cost b (t i) g (l i).way (l i).column s.rule.enters) k
+                (λ e. z (sym e)) (outside m n f cost b (t i) g k q);
             stands =
-                λ k p. subst (λ v. Stands ((t i).status k) (b.lower k) (b.upper k) v) (same_value i (omega arith) k) (g.stands k p);
+                λ k p. subst (λ v. Stands ((t i).status k) (b.lower k) (b.upper k) v)
+                (same_value i (omega arith) k) (g.stands k p);
             may_enter = s.rule.enters.eligible.may_enter;
             rises = λ p. up (l i).way s.rule.enters.eligible.status (subst (λ a. 0ℚ <ℚ a) at p);
             falls = λ p. down (l i).way s.rule.enters.eligible.status (subst (λ a. a <ℚ 0ℚ) at p);
             better =
-                subst (λ a. ((t i).reduced (l i).column *ℚ a) <ℚ 0ℚ) (sym at) (better m n f cost b (t i) g (l i).way (l i).column s.rule.enters);
+                subst (λ a. ((t i).reduced (l i).column *ℚ a) <ℚ 0ℚ) (sym at)
+                (better m n f cost b (t i) g (l i).way (l i).column s.rule.enters);
             blocked =
-                subst (λ v. IsBlocked b ((t i).basic (l i).position) v (ray m (t i) (l i).way (l i).column ((t i).basic (l i).position))) (here _) s.rule.blocked;
+                subst (λ v. IsBlocked b ((t i).basic (l i).position) v
+                (ray m (t i) (l i).way (l i).column ((t i).basic (l i).position))) (here _) s.rule.blocked;
             least = λ k p q z.
                 let w = g.placed k (omega (arith, g.in_range (l i).position s.rule.position)) q in
                 s.rule.least w.0 w.1 (omega (arith, w.2))
-                (subst (λ v. IsBlocked b ((t i).basic w.0) v (ray m (t i) (l i).way (l i).column ((t i).basic w.0))) (sym (here _))
+                (subst (λ v. IsBlocked b ((t i).basic w.0) v (ray m (t i) (l i).way (l i).column ((t i).basic w.0)))
+                (sym (here _))
                 (subst (λ k. IsBlocked b k ((t 0).value k) (ray m (t i) (l i).way (l i).column k)) (sym w.2) z));
           }
         where
@@ -304,8 +348,10 @@ module _ (m n : ℕ) (f : Matrix) (cost : ℕ → ℚ) (b : Bounds) where
       one_sum i a h p =
           let s = still i h in let g = good i (omega arith) in let q = good a (omega arith) in
           let out = j_outside m n f cost b (t i) g (l i).way (l i).column s.rule.enters in
-          cost_ray m (t i) g.units (l i).way (l i).column out n s.rule.enters.in_range g.in_range f cost (t i).reduced g.back g.costs.weights g.costs.less
-          ∙ sym (cost_ray m (t i) g.units (l i).way (l i).column out n s.rule.enters.in_range g.in_range f cost (t a).reduced g.back q.costs.weights q.costs.less)
+          cost_ray m (t i) g.units (l i).way (l i).column out n s.rule.enters.in_range g.in_range f cost
+          (t i).reduced g.back g.costs.weights g.costs.less
+          ∙ sym (cost_ray m (t i) g.units (l i).way (l i).column out n s.rule.enters.in_range g.in_range f cost
+          (t a).reduced g.back q.costs.weights q.costs.less)
 
       may_enter_at : (i : ℕ) → i < len → MayEnter b (col i)
       unfolding col
@@ -318,9 +364,13 @@ module _ (m n : ℕ) (f : Matrix) (cost : ℕ → ℚ) (b : Bounds) where
       contradiction : 0 < len → ⊥
       contradiction h =
           let r = greatest len h (omega arith) in
-          let away = leaves_to (col r.0) (suc r.0) r.0 (col_in r.0 r.1) (omega (arith, r.1)) (omega (arith, r.1)) (status_entered r.0 r.1) (was_outside r.0 r.1) in
-          no_pair n b x (t away.0).reduced (t r.0).reduced (t away.0).status (t r.0).status (ray_of away.0) (col away.0) (col r.0)
-          (subst (Leaving n b x (t away.0).reduced (t away.0).status (ray_of away.0) (col away.0)) away.2 (leaving_side away.0 away.1))
+          let away =
+          leaves_to (col r.0) (suc r.0) r.0 (col_in r.0 r.1) (omega (arith, r.1))
+          (omega (arith, r.1)) (status_entered r.0 r.1) (was_outside r.0 r.1) in
+          no_pair n b x (t away.0).reduced (t r.0).reduced (t away.0).status (t r.0).status (ray_of away.0)
+          (col away.0) (col r.0)
+          (subst (Leaving n b x (t away.0).reduced (t away.0).status (ray_of away.0) (col away.0)) away.2
+          (leaving_side away.0 away.1))
           (entering_side r.0 r.1)
           (λ k p w z. by_entry k (col r.0)
           (⊎_elim
@@ -338,6 +388,7 @@ module _ (m n : ℕ) (f : Matrix) (cost : ℕ → ℚ) (b : Bounds) where
             subst (λ k. MayEnter b k) a.2 (may_enter_at a.0 a.1),
           )
 
-pub no_cycle : (m n : ℕ) (f : Matrix) (cost : ℕ → ℚ) (b : Bounds) (t : ℕ → Table) (l : ℕ → Label) (len : ℕ) → IsRun m n f cost b t l len → 0 < len
+pub no_cycle : (m n : ℕ) (f : Matrix) (cost : ℕ → ℚ) (b : Bounds) (t : ℕ → Table) (l : ℕ → Label) (len : ℕ) →
+    IsRun m n f cost b t l len → 0 < len
     → ¬ (SameStatuses n (t 0) (t len))
 no_cycle m n f cost b t l len run h same = contradiction m n f cost b t l len run same h

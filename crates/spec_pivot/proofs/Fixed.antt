@@ -6,7 +6,8 @@ use Rattle.spec_exact.proofs.Field.{*ℚ_zero, *ℚ_assoc}
 use Rattle.spec_exact.proofs.Order.{≤ℚ_antisym, by_le}
 use Rattle.spec_exact.proofs.Ruleset.{ring}
 use Rattle.spec_exact.proofs.Strict.{<ℚ_irrefl}
-use Rattle.spec_exact.proofs.Sums.{sum_below_none, sum_below_same, *ℚ-sum_below, sum_below-*ℚ, sum_below_swap, sum_below-sub}
+use Rattle.spec_exact.proofs.Sums.{sum_below_none, sum_below_same, *ℚ-sum_below}
+use Rattle.spec_exact.proofs.Sums.{sum_below-*ℚ, sum_below_swap, sum_below-sub}
 use Rattle.spec_pivot.specs.Tableau.{Matrix}
 use Rattle.spec_pivot.specs.Simplex.{Bounds, IsFixed}
 
@@ -21,8 +22,10 @@ fixed_or_not b k = go (b.lower k) (b.upper k) refl refl
         by_le v w
         (λ h. by_le w v
         (λ g. inl (v, p, q ∙ ap Some (≤ℚ_antisym w v g h)))
-        (λ g. inr (λ f. let e : Some v ≡ Some f.0 = sym p ∙ f.1 in let d : Some w ≡ Some f.0 = sym q ∙ f.2 in let z : v ≡ w = cc in <ℚ_irrefl w (subst (λ v. v <ℚ w) z g))))
-        (λ g. inr (λ f. let e : Some v ≡ Some f.0 = sym p ∙ f.1 in let d : Some w ≡ Some f.0 = sym q ∙ f.2 in let z : v ≡ w = cc in <ℚ_irrefl w (subst (λ v. w <ℚ v) z g)))
+        (λ g. inr (λ f. let e : Some v ≡ Some f.0 = sym p ∙ f.1 in let d : Some w ≡ Some f.0 = sym q ∙ f.2 in
+        let z : v ≡ w = cc in <ℚ_irrefl w (subst (λ v. v <ℚ w) z g))))
+        (λ g. inr (λ f. let e : Some v ≡ Some f.0 = sym p ∙ f.1 in let d : Some w ≡ Some f.0 = sym q ∙ f.2 in
+        let z : v ≡ w = cc in <ℚ_irrefl w (subst (λ v. w <ℚ v) z g)))
 
 -- costs and reduced costs have one sum at a point that solves the rows
 pub costs_agree : (m n : ℕ) (f : Matrix) (c d z w : ℕ → ℚ) → ((k : ℕ) → d k ≡ c k -ℚ sum_below m (λ r. w r *ℚ f r k)) →
@@ -35,7 +38,8 @@ costs_agree m n f c d z w e solved =
     ∙ sum_below-sub n _ _
     ∙ ap (λ a. sum_below n (λ k. c k *ℚ z k) -ℚ a)
     (sym (sum_below_swap m n (λ r k. w r *ℚ (f r k *ℚ z k)))
-    ∙ sum_below_none m _ (λ r p. sym (*ℚ-sum_below (w r) n (λ k. f r k *ℚ z k)) ∙ ap (λ a. w r *ℚ a) (solved r p) ∙ *ℚ_zero (w r)))
+    ∙ sum_below_none m _
+    (λ r p. sym (*ℚ-sum_below (w r) n (λ k. f r k *ℚ z k)) ∙ ap (λ a. w r *ℚ a) (solved r p) ∙ *ℚ_zero (w r)))
     ∙ less_none _
   where
     open_ : (c s r : ℚ) → (c -ℚ s) *ℚ r ≡ c *ℚ r -ℚ s *ℚ r

@@ -1,4 +1,5 @@
--- A run that is there. There are two columns x and s, each at least 0, and one row x + s = 0, and -x is to be least. So x enters, and s leaves at once.
+-- A run that is there. There are two columns x and s, each at least 0, and one row x + s = 0, and -x is to be least. So
+-- x enters, and s leaves at once.
 use Rattle.std.proofs.Common.{◌≡◌, ℕ, zero, suc, ◌<◌, Some, None, false, refl, sym, ap, subst, subst₂, arith, inr}
 use Rattle.spec_exact.specs.Fraction.{ℚ, ◌+ℚ◌, ◌-ℚ◌, ◌*ℚ◌, neg_ℚ, 0ℚ, 1ℚ, ◌<ℚ◌}
 use Rattle.spec_exact.specs.Sums.{sum_below}
@@ -9,7 +10,8 @@ use Rattle.spec_pivot.specs.Tableau.{Matrix, delta}
 use Rattle.spec_pivot.specs.declared.status.Status.{Status}
 use Rattle.spec_pivot.specs.declared.status.Status.TheVariants.{Basic, AtLower}
 use Rattle.spec_pivot.specs.declared.status.Way.TheVariants.{Up}
-use Rattle.spec_pivot.specs.Simplex.{Bounds, Stands, Table, IsTableau, Pivots, ray, moved, after_pivot, Label, Pivot, IsStep, IsRun}
+use Rattle.spec_pivot.specs.Simplex.{Bounds, Stands, Table, IsTableau, Pivots, ray}
+use Rattle.spec_pivot.specs.Simplex.{moved, after_pivot, Label, Pivot, IsStep, IsRun}
 use Rattle.spec_pivot.proofs.Pivot.{Spans_refl}
 
 abbrev pub f : Matrix
@@ -28,7 +30,13 @@ status (suc k) = Basic
 
 abbrev opening : Table
 opening =
-    record { entry = f; basic = λ i. 1; value = λ k. 0ℚ; reduced = λ k. cost k -ℚ sum_below 1 (λ r. 0ℚ *ℚ f r k); status = status }
+    record {
+      entry = f;
+      basic = λ i. 1;
+      value = λ k. 0ℚ;
+      reduced = λ k. cost k -ℚ sum_below 1 (λ r. 0ℚ *ℚ f r k);
+      status = status;
+    }
 
 abbrev pub tables : ℕ → Table
 tables zero = opening
@@ -69,7 +77,11 @@ pivots = record {
   enters = record {
     in_range = omega arith;
     eligible =
-        record { may_enter = (refl, λ x. let e : None ≡ Some x.0 = x.2 in cc); status = tt; improves = subst (λ a. a <ℚ 0ℚ) (sym cheaper) below };
+        record {
+          may_enter = (refl, λ x. let e : None ≡ Some x.0 = x.2 in cc);
+          status = tt;
+          improves = subst (λ a. a <ℚ 0ℚ) (sym cheaper) below;
+        };
     least = λ k w h. absurd (let z : ⊥ = omega arith in z);
   };
   position = omega arith;

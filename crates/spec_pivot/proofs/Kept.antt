@@ -10,7 +10,8 @@ use Rattle.spec_pivot.specs.declared.status.Status.{Status}
 use Rattle.spec_pivot.specs.declared.status.Status.TheVariants.{Basic}
 use Rattle.spec_pivot.specs.declared.status.Way.{Way}
 use Rattle.spec_pivot.specs.declared.status.Way.TheVariants.{Up, Down}
-use Rattle.spec_pivot.specs.Simplex.{sign, Bounds, CanMove, Stands, Table, ray, IsBlocked, IsTableau, moved, after_pivot, after_flip, Enters, Pivots, Flips, Exchanges, Crosses}
+use Rattle.spec_pivot.specs.Simplex.{sign, Bounds, CanMove, Stands, Table, ray, IsBlocked, IsTableau, moved}
+use Rattle.spec_pivot.specs.Simplex.{after_pivot, after_flip, Enters, Pivots, Flips, Exchanges, Crosses}
 use Rattle.spec_pivot.proofs.Ray.{ray_basic}
 use Rattle.spec_pivot.proofs.Moves as any
 
@@ -30,10 +31,12 @@ module _ (m n : ℕ) (f : Matrix) (cost : ℕ → ℚ) (b : Bounds) (t : Table) 
     j_outside = outside j enters_nonbasic
 
     pub cost_moved : (theta : ℚ) →
-        sum_below n (λ k. cost k *ℚ moved m t way j theta k) ≡ sum_below n (λ k. cost k *ℚ t.value k) +ℚ theta *ℚ sum_below n (λ k. cost k *ℚ ray m t way j k)
+        sum_below n (λ k. cost k *ℚ moved m t way j theta k)
+        ≡ sum_below n (λ k. cost k *ℚ t.value k) +ℚ theta *ℚ sum_below n (λ k. cost k *ℚ ray m t way j k)
     cost_moved = any.cost_moved m n f cost b t g way j e.in_range enters_nonbasic
 
-    pub flip_kept : (theta : ℚ) (to : Status) → ¬ (to ≡ Basic) → Stands to (b.lower j) (b.upper j) (moved m t way j theta j)
+    pub flip_kept : (theta : ℚ) (to : Status) → ¬ (to ≡ Basic) →
+        Stands to (b.lower j) (b.upper j) (moved m t way j theta j)
         → IsTableau m n f cost b (after_flip m t way j theta to)
     flip_kept = any.flip_kept m n f cost b t g way j e.in_range enters_nonbasic
 
@@ -48,7 +51,8 @@ module _ (m n : ℕ) (f : Matrix) (cost : ℕ → ℚ) (b : Bounds) (t : Table) 
       where
         none : ray m t way j (t.basic p) ≡ 0ℚ
         none =
-            ray_basic m t g.units way j (j_outside way j v.enters) p v.position ∙ ap (λ a. neg_ℚ (sign way *ℚ a)) e ∙ ap neg_ℚ (*ℚ_zero (sign way)) ∙ neg-zero
+            ray_basic m t g.units way j (j_outside way j v.enters) p v.position
+            ∙ ap (λ a. neg_ℚ (sign way *ℚ a)) e ∙ ap neg_ℚ (*ℚ_zero (sign way)) ∙ neg-zero
 
         go : IsBlocked b (t.basic p) (moved m t way j theta (t.basic p)) (ray m t way j (t.basic p)) → ⊥
         go (inl h) = <ℚ_irrefl 0ℚ (subst (λ a. 0ℚ <ℚ a) none h.0)

@@ -9,8 +9,10 @@ use Rattle.spec_pivot.specs.Tableau.{Matrix}
 use Rattle.spec_pivot.specs.declared.status.Status.{Status}
 use Rattle.spec_pivot.specs.declared.status.Status.TheVariants.{Basic, AtLower, AtUpper, AtZero}
 use Rattle.spec_pivot.specs.declared.status.Way.{Way}
-use Rattle.spec_pivot.specs.Simplex.{Bounds, Stands, Table, ray, AgreesWith, IsTableau, moved, status_set, after_pivot, after_flip, Exchanges}
-use Rattle.spec_pivot.proofs.Pivot.{by_eq, delta_other, entered_at, entered_off, forth, back, units, Spans_trans, pivot_row_zero}
+use Rattle.spec_pivot.specs.Simplex.{Bounds, Stands, Table, ray, AgreesWith, IsTableau}
+use Rattle.spec_pivot.specs.Simplex.{moved, status_set, after_pivot, after_flip, Exchanges}
+use Rattle.spec_pivot.proofs.Pivot.{by_eq, delta_other, entered_at, entered_off}
+use Rattle.spec_pivot.proofs.Pivot.{forth, back, units, Spans_trans, pivot_row_zero}
 use Rattle.spec_pivot.proofs.Unique.{apart}
 use Rattle.spec_pivot.proofs.Ray.{ray_still, form_ray}
 
@@ -35,10 +37,12 @@ module _ (m n : ℕ) (f : Matrix) (cost : ℕ → ℚ) (b : Bounds) (t : Table) 
     -- the values that move solve the rows
     pub solves_moved : (theta : ℚ) (i : ℕ) → i < m → sum_below n (λ k. f i k *ℚ moved m t way j theta k) ≡ 0ℚ
     solves_moved theta i h =
-        sum_below_same n _ (λ k. f i k *ℚ t.value k +ℚ theta *ℚ (f i k *ℚ ray m t way j k)) (λ k _. spread (f i k) (t.value k) theta (ray m t way j k))
+        sum_below_same n _ (λ k. f i k *ℚ t.value k +ℚ theta *ℚ (f i k *ℚ ray m t way j k))
+        (λ k _. spread (f i k) (t.value k) theta (ray m t way j k))
         ∙ sum_below-+ℚ n _ _
         ∙ ap₂ ◌+ℚ◌ (g.solves i h)
-        (sym (*ℚ-sum_below theta n _) ∙ ap (λ a. theta *ℚ a) (form_ray m t g.units way j j_outside n j_in g.in_range f g.back i h) ∙ *ℚ_zero theta)
+        (sym (*ℚ-sum_below theta n _)
+        ∙ ap (λ a. theta *ℚ a) (form_ray m t g.units way j j_outside n j_in g.in_range f g.back i h) ∙ *ℚ_zero theta)
         ∙ +ℚ_zero 0ℚ
       where
         spread : (a v s r : ℚ) → a *ℚ (v +ℚ s *ℚ r) ≡ a *ℚ v +ℚ s *ℚ (a *ℚ r)
@@ -48,7 +52,8 @@ module _ (m n : ℕ) (f : Matrix) (cost : ℕ → ℚ) (b : Bounds) (t : Table) 
     pub cost_moved : (theta : ℚ) →
         cost_of (moved m t way j theta) ≡ cost_of t.value +ℚ theta *ℚ sum_below n (λ k. cost k *ℚ ray m t way j k)
     cost_moved theta =
-        sum_below_same n _ (λ k. cost k *ℚ t.value k +ℚ theta *ℚ (cost k *ℚ ray m t way j k)) (λ k _. spread (cost k) (t.value k) theta (ray m t way j k))
+        sum_below_same n _ (λ k. cost k *ℚ t.value k +ℚ theta *ℚ (cost k *ℚ ray m t way j k))
+        (λ k _. spread (cost k) (t.value k) theta (ray m t way j k))
         ∙ sum_below-+ℚ n _ _ ∙ ap (λ a. cost_of t.value +ℚ a) (sym (*ℚ-sum_below theta n _))
       where
         spread : (a v s r : ℚ) → a *ℚ (v +ℚ s *ℚ r) ≡ a *ℚ v +ℚ s *ℚ (a *ℚ r)
@@ -56,7 +61,9 @@ module _ (m n : ℕ) (f : Matrix) (cost : ℕ → ℚ) (b : Bounds) (t : Table) 
 
     -- a column that is not basic and does not enter stays
     pub stays : (theta : ℚ) (k : ℕ) → ¬ (t.status k ≡ Basic) → k ≢ j → moved m t way j theta k ≡ t.value k
-    stays theta k o q = ap (λ a. t.value k +ℚ theta *ℚ a) (ray_still m t g.units way j j_outside k (λ e. q (sym e)) (outside k o)) ∙ none (t.value k) theta
+    stays theta k o q =
+        ap (λ a. t.value k +ℚ theta *ℚ a) (ray_still m t g.units way j j_outside k (λ e. q (sym e)) (outside k o))
+        ∙ none (t.value k) theta
       where
         none : (v s : ℚ) → v +ℚ s *ℚ 0ℚ ≡ v
         none v s = simp ring
@@ -69,13 +76,17 @@ module _ (m n : ℕ) (f : Matrix) (cost : ℕ → ℚ) (b : Bounds) (t : Table) 
         go : (s : Status) → t.status k ≡ s → Stands (t.status k) (b.lower k) (b.upper k) (moved m t way j theta k)
         go Basic q = subst (λ s. Stands s (b.lower k) (b.upper k) (moved m t way j theta k)) (sym q) tt
         go AtLower q =
-            subst (λ v. Stands (t.status k) (b.lower k) (b.upper k) v) (sym (stays theta k (λ w. let y : AtLower ≡ Basic = sym q ∙ w in cc) z)) (g.stands k h)
+            subst (λ v. Stands (t.status k) (b.lower k) (b.upper k) v)
+            (sym (stays theta k (λ w. let y : AtLower ≡ Basic = sym q ∙ w in cc) z)) (g.stands k h)
         go AtUpper q =
-            subst (λ v. Stands (t.status k) (b.lower k) (b.upper k) v) (sym (stays theta k (λ w. let y : AtUpper ≡ Basic = sym q ∙ w in cc) z)) (g.stands k h)
+            subst (λ v. Stands (t.status k) (b.lower k) (b.upper k) v)
+            (sym (stays theta k (λ w. let y : AtUpper ≡ Basic = sym q ∙ w in cc) z)) (g.stands k h)
         go AtZero q =
-            subst (λ v. Stands (t.status k) (b.lower k) (b.upper k) v) (sym (stays theta k (λ w. let y : AtZero ≡ Basic = sym q ∙ w in cc) z)) (g.stands k h)
+            subst (λ v. Stands (t.status k) (b.lower k) (b.upper k) v)
+            (sym (stays theta k (λ w. let y : AtZero ≡ Basic = sym q ∙ w in cc) z)) (g.stands k h)
 
-    pub flip_kept : (theta : ℚ) (to : Status) → ¬ (to ≡ Basic) → Stands to (b.lower j) (b.upper j) (moved m t way j theta j)
+    pub flip_kept : (theta : ℚ) (to : Status) → ¬ (to ≡ Basic) →
+        Stands to (b.lower j) (b.upper j) (moved m t way j theta j)
         → IsTableau m n f cost b (after_flip m t way j theta to)
     flip_kept theta to o st = record {
       in_range = g.in_range;
@@ -88,9 +99,11 @@ module _ (m n : ℕ) (f : Matrix) (cost : ℕ → ℚ) (b : Bounds) (t : Table) 
           (λ z. absurd (o (sym (subst (λ k. status_set t.status j to k ≡ to) (sym z) (set_at t.status j to)) ∙ q)))
           (λ z. g.placed k h (sym (set_off t.status j to k z) ∙ q));
       stands = λ k h. by_eq k j
-          (λ z. subst (λ k. Stands (status_set t.status j to k) (b.lower k) (b.upper k) (moved m t way j theta k)) (sym z)
+          (λ z. subst (λ k. Stands (status_set t.status j to k) (b.lower k) (b.upper k) (moved m t way j theta k))
+          (sym z)
           (subst (λ s. Stands s (b.lower j) (b.upper j) (moved m t way j theta j)) (sym (set_at t.status j to)) st))
-          (λ z. subst (λ s. Stands s (b.lower k) (b.upper k) (moved m t way j theta k)) (sym (set_off t.status j to k z)) (standing theta k h z));
+          (λ z. subst (λ s. Stands s (b.lower k) (b.upper k) (moved m t way j theta k))
+          (sym (set_off t.status j to k z)) (standing theta k h z));
       solves = solves_moved theta;
     }
 
@@ -108,15 +121,19 @@ module _ (m n : ℕ) (f : Matrix) (cost : ℕ → ℚ) (b : Bounds) (t : Table) 
       weights = λ r. g.costs.weights r +ℚ factor *ℚ g.forth.0 p r;
       less = λ k.
           ap₂ (λ a c. a -ℚ t.reduced j *ℚ (c *ℚ inverse (t.entry p j))) (g.costs.less k) (g.forth.1 p k v.position)
-          ∙ regroup (cost k) (sum_below m (λ r. g.costs.weights r *ℚ f r k)) (t.reduced j) (sum_below m (λ r. g.forth.0 p r *ℚ f r k)) (inverse (t.entry p j))
-          ∙ ap (λ a. cost k -ℚ a) (sym (sum_below_same m _ (λ r. g.costs.weights r *ℚ f r k +ℚ factor *ℚ (g.forth.0 p r *ℚ f r k))
+          ∙ regroup (cost k) (sum_below m (λ r. g.costs.weights r *ℚ f r k)) (t.reduced j)
+          (sum_below m (λ r. g.forth.0 p r *ℚ f r k)) (inverse (t.entry p j))
+          ∙ ap (λ a. cost k -ℚ a)
+          (sym (sum_below_same m _ (λ r. g.costs.weights r *ℚ f r k +ℚ factor *ℚ (g.forth.0 p r *ℚ f r k))
           (λ r _. spread (g.costs.weights r) factor (g.forth.0 p r) (f r k))
-          ∙ sum_below-+ℚ m _ _ ∙ ap (λ a. sum_below m (λ r. g.costs.weights r *ℚ f r k) +ℚ a) (sym (*ℚ-sum_below factor m _))));
+          ∙ sum_below-+ℚ m _ _
+          ∙ ap (λ a. sum_below m (λ r. g.costs.weights r *ℚ f r k) +ℚ a) (sym (*ℚ-sum_below factor m _))));
       at_basic = λ i h. by_eq i p
           (λ z. ap next.reduced (ap next.basic z ∙ entered_at t.basic p j)
           ∙ ap (λ a. t.reduced j -ℚ t.reduced j *ℚ a) (*ℚ_inverse (t.entry p j) v.entry) ∙ gone (t.reduced j))
           (λ z. ap next.reduced (entered_off t.basic p j i z)
-          ∙ ap₂ (λ a c. a -ℚ t.reduced j *ℚ c) (g.costs.at_basic i h) (pivot_row_zero t.entry p j (t.basic i) (g.units i p h v.position ∙ delta_other i p z))
+          ∙ ap₂ (λ a c. a -ℚ t.reduced j *ℚ c) (g.costs.at_basic i h)
+          (pivot_row_zero t.entry p j (t.basic i) (g.units i p h v.position ∙ delta_other i p z))
           ∙ nothing (t.reduced j));
     }
       where
@@ -138,7 +155,8 @@ module _ (m n : ℕ) (f : Matrix) (cost : ℕ → ℚ) (b : Bounds) (t : Table) 
 
     pub status_left : next.status (t.basic p) ≡ to
     status_left =
-        set_off (status_set t.status (t.basic p) to) j Basic (t.basic p) (λ e. j_outside way j v.in_range v.nonbasic p v.position e) ∙ set_at t.status (t.basic p) to
+        set_off (status_set t.status (t.basic p) to) j Basic (t.basic p)
+        (λ e. j_outside way j v.in_range v.nonbasic p v.position e) ∙ set_at t.status (t.basic p) to
 
     pub status_other : (k : ℕ) → k ≢ j → k ≢ t.basic p → next.status k ≡ t.status k
     status_other k y z = set_off (status_set t.status (t.basic p) to) j Basic k y ∙ set_off t.status (t.basic p) to k z
@@ -155,7 +173,8 @@ module _ (m n : ℕ) (f : Matrix) (cost : ℕ → ℚ) (b : Bounds) (t : Table) 
       marked = λ i h. by_eq i p
           (λ z. ap next.status (ap next.basic z ∙ entered_at t.basic p j) ∙ status_j)
           (λ z. ap next.status (entered_off t.basic p j i z)
-          ∙ status_other (t.basic i) (j_outside way j v.in_range v.nonbasic i h) (λ e. z (apart m t.entry t.basic g.units i p h v.position e)) ∙ g.marked i h);
+          ∙ status_other (t.basic i) (j_outside way j v.in_range v.nonbasic i h)
+          (λ e. z (apart m t.entry t.basic g.units i p h v.position e)) ∙ g.marked i h);
       placed = λ k h q. by_eq k j
           (λ z. (p, v.position, entered_at t.basic p j ∙ sym z))
           (λ y. by_eq k (t.basic p)
@@ -166,7 +185,9 @@ module _ (m n : ℕ) (f : Matrix) (cost : ℕ → ℚ) (b : Bounds) (t : Table) 
           (λ z. subst (λ s. Stands s (b.lower k) (b.upper k) (next.value k)) (sym (ap next.status z ∙ status_j)) tt)
           (λ y. by_eq k (t.basic p)
           (λ z. subst (λ k. Stands (next.status k) (b.lower k) (b.upper k) (next.value k)) (sym z)
-          (subst (λ s. Stands s (b.lower (t.basic p)) (b.upper (t.basic p)) (next.value (t.basic p))) (sym status_left) v.lands))
-          (λ z. subst (λ s. Stands s (b.lower k) (b.upper k) (next.value k)) (sym (status_other k y z)) (standing way j v.in_range v.nonbasic theta k h y)));
+          (subst (λ s. Stands s (b.lower (t.basic p)) (b.upper (t.basic p)) (next.value (t.basic p)))
+          (sym status_left) v.lands))
+          (λ z. subst (λ s. Stands s (b.lower k) (b.upper k) (next.value k))
+          (sym (status_other k y z)) (standing way j v.in_range v.nonbasic theta k h y)));
       solves = solves_moved way j v.in_range v.nonbasic theta;
     }

@@ -1,5 +1,6 @@
 -- What a pivot keeps.
-use Rattle.std.proofs.Common.{◌≡◌, ℕ, zero, suc, ◌+◌, ◌<◌, ◌≢◌, cond, nat_eq, refl, sym, ap, ap₂, ◌∙◌, subst, arith, eq-eqb, ne_eqb, ⊎_elim}
+use Rattle.std.proofs.Common.{◌≡◌, ℕ, zero, suc, ◌+◌, ◌<◌, ◌≢◌, cond, nat_eq, refl}
+use Rattle.std.proofs.Common.{sym, ap, ap₂, ◌∙◌, subst, arith, eq-eqb, ne_eqb, ⊎_elim}
 use Rattle.std.proofs.lemmas.Bool.{cases_eq}
 use Rattle.spec_exact.specs.Fraction.{ℚ, ◌+ℚ◌, ◌-ℚ◌, ◌*ℚ◌, neg_ℚ, 0ℚ, 1ℚ, inverse}
 use Rattle.spec_exact.specs.Sums.{sum_below}
@@ -31,13 +32,15 @@ sum_below-delta (suc n) i f h =
     by_eq i n
     (λ e. ap₂ ◌+ℚ◌ (sum_below-delta_past n i f (omega arith))
     (ap (λ a. delta i a *ℚ f a) (sym e) ∙ ap (λ a. a *ℚ f i) (delta_same i) ∙ one-*ℚ (f i)) ∙ zero-+ℚ (f i))
-    (λ e. ap₂ ◌+ℚ◌ (sum_below-delta n i f (omega arith)) (ap (λ a. a *ℚ f n) (delta_other i n e) ∙ zero-*ℚ (f n)) ∙ +ℚ_zero (f i))
+    (λ e. ap₂ ◌+ℚ◌ (sum_below-delta n i f (omega arith)) (ap (λ a. a *ℚ f n) (delta_other i n e) ∙ zero-*ℚ (f n))
+    ∙ +ℚ_zero (f i))
 
 -- a sum with two weights
 sum_below_two : (m i p : ℕ) (a b : ℚ) (f : ℕ → ℚ) → i < m → p < m
     → sum_below m (λ r. (a *ℚ delta i r +ℚ b *ℚ delta p r) *ℚ f r) ≡ a *ℚ f i +ℚ b *ℚ f p
 sum_below_two m i p a b f h k =
-    sum_below_same m _ (λ r. a *ℚ (delta i r *ℚ f r) +ℚ b *ℚ (delta p r *ℚ f r)) (λ r _. spread a b (delta i r) (delta p r) (f r))
+    sum_below_same m _ (λ r. a *ℚ (delta i r *ℚ f r) +ℚ b *ℚ (delta p r *ℚ f r))
+    (λ r _. spread a b (delta i r) (delta p r) (f r))
     ∙ sum_below-+ℚ m (λ r. a *ℚ (delta i r *ℚ f r)) (λ r. b *ℚ (delta p r *ℚ f r))
     ∙ ap₂ ◌+ℚ◌
     (sym (*ℚ-sum_below a m (λ r. delta i r *ℚ f r)) ∙ ap (λ s. a *ℚ s) (sum_below-delta m i f h))
@@ -85,9 +88,11 @@ unfolding own forth_weight
 forth_row t p j i k =
     by_eq i p
     (λ e. subst (λ i. pivoted t p j i k ≡ own p i *ℚ t i k +ℚ forth_weight t p j i *ℚ t p k) (sym e)
-    (pivoted_at t p j k ∙ sym (ap₂ (λ x y. x *ℚ t p k +ℚ y *ℚ t p k) (cond_at p 0ℚ 1ℚ) (cond_at p _ _) ∙ first (t p k) (inverse (t p j)))))
+    (pivoted_at t p j k
+    ∙ sym (ap₂ (λ x y. x *ℚ t p k +ℚ y *ℚ t p k) (cond_at p 0ℚ 1ℚ) (cond_at p _ _) ∙ first (t p k) (inverse (t p j)))))
     (λ n. pivoted_off t p j i k n
-    ∙ sym (ap₂ (λ x y. x *ℚ t i k +ℚ y *ℚ t p k) (cond_off i p 0ℚ 1ℚ n) (cond_off i p _ _ n) ∙ second (t i k) (t i j) (t p k) (inverse (t p j))))
+    ∙ sym (ap₂ (λ x y. x *ℚ t i k +ℚ y *ℚ t p k) (cond_off i p 0ℚ 1ℚ n) (cond_off i p _ _ n)
+    ∙ second (t i k) (t i j) (t p k) (inverse (t p j))))
   where
     first : (a q : ℚ) → 0ℚ *ℚ a +ℚ q *ℚ a ≡ a *ℚ q
     first a q = simp ring
@@ -97,7 +102,8 @@ forth_row t p j i k =
 
 divided : (a b : ℚ) → ¬ (b ≡ 0ℚ) → b *ℚ (a *ℚ inverse b) ≡ a
 divided a b n =
-    ap (λ x. b *ℚ x) (*ℚ_comm a (inverse b)) ∙ sym (*ℚ_assoc b (inverse b) a) ∙ ap (λ x. x *ℚ a) (*ℚ_inverse b n) ∙ one-*ℚ a
+    ap (λ x. b *ℚ x) (*ℚ_comm a (inverse b)) ∙ sym (*ℚ_assoc b (inverse b) a)
+    ∙ ap (λ x. x *ℚ a) (*ℚ_inverse b n) ∙ one-*ℚ a
 
 back_row : (t : Matrix) (p j i k : ℕ) → ¬ (t p j ≡ 0ℚ) →
     t i k ≡ own p i *ℚ pivoted t p j i k +ℚ t i j *ℚ pivoted t p j p k
@@ -143,8 +149,10 @@ kept t p j r k e =
 pub new_unit : (t : Matrix) (p j r : ℕ) → ¬ (t p j ≡ 0ℚ) → pivoted t p j r j ≡ delta p r
 new_unit t p j r n =
     by_eq r p
-    (λ o. subst (λ r. pivoted t p j r j ≡ delta p r) (sym o) (pivoted_at t p j j ∙ *ℚ_inverse (t p j) n ∙ sym (delta_same p)))
-    (λ o. pivoted_off t p j r j o ∙ ap (λ x. t r j -ℚ t r j *ℚ x) (*ℚ_inverse (t p j) n) ∙ none (t r j) ∙ sym (delta_other p r (λ e. o (sym e))))
+    (λ o. subst (λ r. pivoted t p j r j ≡ delta p r) (sym o)
+    (pivoted_at t p j j ∙ *ℚ_inverse (t p j) n ∙ sym (delta_same p)))
+    (λ o. pivoted_off t p j r j o ∙ ap (λ x. t r j -ℚ t r j *ℚ x) (*ℚ_inverse (t p j) n)
+    ∙ none (t r j) ∙ sym (delta_other p r (λ e. o (sym e))))
   where
     none : (a : ℚ) → a -ℚ a *ℚ 1ℚ ≡ 0ℚ
     none a = simp ring

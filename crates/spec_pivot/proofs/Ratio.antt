@@ -1,5 +1,7 @@
 -- What the scan of the ratio test finds, and how room and bounds go together.
-use Rattle.std.proofs.Common.{◌≡◌, ℕ, zero, suc, ◌<◌, ◌≤◌, ◌⊎◌, Option, Some, None, Bool, true, false, not, ◌&&◌, ◌||◌, cond, nat_lt, option_map, refl, sym, ap, ◌∙◌, subst, arith, inl, inr, ⊎_elim, ltb-true, ltb-false}
+use Rattle.std.proofs.Common.{◌≡◌, ℕ, zero, suc, ◌<◌, ◌≤◌, ◌⊎◌, Option, Some, None, Bool, true}
+use Rattle.std.proofs.Common.{false, not, ◌&&◌, ◌||◌, cond, nat_lt, option_map, refl, sym}
+use Rattle.std.proofs.Common.{ap, ◌∙◌, subst, arith, inl, inr, ⊎_elim, ltb-true, ltb-false}
 use Rattle.spec_exact.specs.Fraction.{ℚ, ◌+ℚ◌, ◌-ℚ◌, ◌*ℚ◌, neg_ℚ, 0ℚ, 1ℚ, ◌≤ℚ◌, ◌<ℚ◌, inverse, lt_ℚ}
 use Rattle.spec_exact.proofs.Field.{*ℚ_assoc, *ℚ_comm, *ℚ_one, *ℚ_inverse}
 use Rattle.spec_exact.proofs.Order.{≤ℚ_refl, ≤ℚ_trans, lt_if, le_if_not, lt_test, not_lt_test, ≤ℚ_antisym, <ℚ-le}
@@ -94,7 +96,15 @@ module _ (r : ℕ → Option ℚ) (c : ℕ → ℕ) (s : Option Best) where
       later w =
           ⊎_elim
           (λ a. inl a)
-          (λ a. let at = a.1 in inr (a.0, record { in_range = omega (arith, at.in_range); ratio = at.ratio; column = at.column; position = at.position }))
+          (λ a. let at = a.1 in inr (
+            a.0,
+            record {
+              in_range = omega (arith, at.in_range);
+              ratio = at.ratio;
+              column = at.column;
+              position = at.position;
+            },
+          ))
           w
 
       here : (q : ℚ) → r m ≡ Some q → record { ratio = q; column = c m; position = Some m } ≡ x →
@@ -141,7 +151,8 @@ module _ (r : ℕ → Option ℚ) (c : ℕ → ℕ) (s : Option Best) where
               x.ratio ≤ℚ y.ratio
           pick true p h =
               let same : ◌≡◌ {A = Best} (record { ratio = q; column = c m; position = Some m }) x = cc in
-              let less : q ≤ℚ z.ratio = ⊎_elim (λ a. <ℚ-le q z.ratio a) (λ a. subst (λ b. q ≤ℚ b) a.0 (≤ℚ_refl q)) (won q (c m) z p) in
+              let less : q ≤ℚ z.ratio =
+              ⊎_elim (λ a. <ℚ-le q z.ratio a) (λ a. subst (λ b. q ≤ℚ b) a.0 (≤ℚ_refl q)) (won q (c m) z p) in
               subst (λ (b : Best). b.ratio ≤ℚ y.ratio) same (≤ℚ_trans q z.ratio y.ratio less (ih z w))
           pick false p h = let same : z ≡ x = cc in subst (λ (b : Best). b.ratio ≤ℚ y.ratio) same (ih z w)
 
@@ -180,34 +191,43 @@ module _ (r : ℕ → Option ℚ) (c : ℕ → ℕ) (s : Option Best) where
               let w : record { ratio = p; column = c m; position = Some m } ≡ x = cc in
               by_eq i m
               (λ a. subst (λ (x : Best). NoWorse x q (c i)) w (at_last p (last p g a) a))
-              (λ a. subst (λ (x : Best). NoWorse x q (c i)) w (better_still p (c m) (Some m) y q (c i) b (ih y z i (omega arith) q f)))
+              (λ a. subst (λ (x : Best). NoWorse x q (c i)) w
+              (better_still p (c m) (Some m) y q (c i) b (ih y z i (omega arith) q f)))
           pick false b e =
               let w : y ≡ x = cc in
               by_eq i m
-              (λ a. subst (λ (x : Best). NoWorse x q (c i)) w (subst (λ q. NoWorse y q (c i)) (last p g a) (subst (λ i. NoWorse y p (c i)) (sym a) (lost p (c m) y b))))
+              (λ a. subst (λ (x : Best). NoWorse x q (c i)) w
+              (subst (λ q. NoWorse y q (c i)) (last p g a) (subst (λ i. NoWorse y p (c i)) (sym a) (lost p (c m) y b))))
               (λ a. subst (λ (x : Best). NoWorse x q (c i)) w (ih y z i (omega arith) q f))
 
 -- ---- room and bounds
 pub reaches : (a v r : ℚ) → ¬ (r ≡ 0ℚ) → v +ℚ ((a -ℚ v) *ℚ inverse r) *ℚ r ≡ a
-reaches a v r n = ap (λ x. v +ℚ x) (*ℚ_assoc (a -ℚ v) (inverse r) r ∙ ap (λ x. (a -ℚ v) *ℚ x) (*ℚ_comm (inverse r) r ∙ *ℚ_inverse r n)) ∙ back_ v a
+reaches a v r n =
+    ap (λ x. v +ℚ x)
+    (*ℚ_assoc (a -ℚ v) (inverse r) r ∙ ap (λ x. (a -ℚ v) *ℚ x) (*ℚ_comm (inverse r) r ∙ *ℚ_inverse r n)) ∙ back_ v a
   where
     back_ : (v a : ℚ) → v +ℚ (a -ℚ v) *ℚ 1ℚ ≡ a
     back_ v a = simp ring
 
 pub reaches_down : (a v s : ℚ) → ¬ (s ≡ 0ℚ) → v -ℚ ((v -ℚ a) *ℚ inverse s) *ℚ s ≡ a
-reaches_down a v s n = ap (λ x. v -ℚ x) (*ℚ_assoc (v -ℚ a) (inverse s) s ∙ ap (λ x. (v -ℚ a) *ℚ x) (*ℚ_comm (inverse s) s ∙ *ℚ_inverse s n)) ∙ back_ v a
+reaches_down a v s n =
+    ap (λ x. v -ℚ x)
+    (*ℚ_assoc (v -ℚ a) (inverse s) s ∙ ap (λ x. (v -ℚ a) *ℚ x) (*ℚ_comm (inverse s) s ∙ *ℚ_inverse s n)) ∙ back_ v a
   where
     back_ : (v a : ℚ) → v -ℚ (v -ℚ a) *ℚ 1ℚ ≡ a
     back_ v a = simp ring
 
 measured : (q v r : ℚ) → ¬ (r ≡ 0ℚ) → ((v +ℚ q *ℚ r) -ℚ v) *ℚ inverse r ≡ q
-measured q v r n = ap (λ x. x *ℚ inverse r) (only v (q *ℚ r)) ∙ *ℚ_assoc q r (inverse r) ∙ ap (λ x. q *ℚ x) (*ℚ_inverse r n) ∙ *ℚ_one q
+measured q v r n =
+    ap (λ x. x *ℚ inverse r) (only v (q *ℚ r)) ∙ *ℚ_assoc q r (inverse r) ∙ ap (λ x. q *ℚ x) (*ℚ_inverse r n) ∙ *ℚ_one q
   where
     only : (v a : ℚ) → (v +ℚ a) -ℚ v ≡ a
     only v a = simp ring
 
 measured_down : (q v r : ℚ) → ¬ (neg_ℚ r ≡ 0ℚ) → (v -ℚ (v +ℚ q *ℚ r)) *ℚ inverse (neg_ℚ r) ≡ q
-measured_down q v r n = ap (λ x. x *ℚ inverse (neg_ℚ r)) (turn v q r) ∙ *ℚ_assoc q (neg_ℚ r) (inverse (neg_ℚ r)) ∙ ap (λ x. q *ℚ x) (*ℚ_inverse (neg_ℚ r) n) ∙ *ℚ_one q
+measured_down q v r n =
+    ap (λ x. x *ℚ inverse (neg_ℚ r)) (turn v q r) ∙ *ℚ_assoc q (neg_ℚ r) (inverse (neg_ℚ r))
+    ∙ ap (λ x. q *ℚ x) (*ℚ_inverse (neg_ℚ r) n) ∙ *ℚ_one q
   where
     turn : (v q r : ℚ) → v -ℚ (v +ℚ q *ℚ r) ≡ q *ℚ neg_ℚ r
     turn v q r = simp ring
@@ -236,7 +256,8 @@ room_down : (o : Option ℚ) (v q r : ℚ) → r <ℚ 0ℚ → option_map (λ l.
 room_down None v q r p e = cc
 room_down (Some l) v q r p e =
     let z : (v -ℚ l) *ℚ inverse (neg_ℚ r) ≡ q = cc in
-    ap Some (sym (reaches_down l v (neg_ℚ r) (not-zero_from_lt (neg_ℚ r) (neg_above r p))) ∙ ap (λ x. v -ℚ x *ℚ neg_ℚ r) z ∙ turn v q r)
+    ap Some (sym (reaches_down l v (neg_ℚ r) (not-zero_from_lt (neg_ℚ r) (neg_above r p)))
+    ∙ ap (λ x. v -ℚ x *ℚ neg_ℚ r) z ∙ turn v q r)
   where
     turn : (v q r : ℚ) → v -ℚ q *ℚ neg_ℚ r ≡ v +ℚ q *ℚ r
     turn v q r = simp ring
@@ -245,7 +266,8 @@ pub room_blocked : (b : Bounds) (k : ℕ) (v q r : ℚ) → room b k v r ≡ Som
 room_blocked b k v q r e = by (lt_ℚ 0ℚ r) (lt_ℚ r 0ℚ) refl refl e
   where
     by : (s t : Bool) → lt_ℚ 0ℚ r ≡ s → lt_ℚ r 0ℚ ≡ t
-        → cond s (option_map (λ u. (u -ℚ v) *ℚ inverse r) (b.upper k)) (cond t (option_map (λ l. (v -ℚ l) *ℚ inverse (neg_ℚ r)) (b.lower k)) None) ≡ Some q
+        → cond s (option_map (λ u. (u -ℚ v) *ℚ inverse r) (b.upper k))
+        (cond t (option_map (λ l. (v -ℚ l) *ℚ inverse (neg_ℚ r)) (b.lower k)) None) ≡ Some q
         → IsBlocked b k (v +ℚ q *ℚ r) r
     by true t p w h = inl (lt_if 0ℚ r p, room_up (b.upper k) v q r (lt_if 0ℚ r p) h)
     by false true p w h = inr (lt_if r 0ℚ w, room_down (b.lower k) v q r (lt_if r 0ℚ w) h)

@@ -33,5 +33,6 @@ module _ (m n : ℕ) (t : Matrix) (basic : ℕ → ℕ) (units : IsUnit m t basi
           (ap (λ a. a *ℚ z (basic r)) (units r r h h ∙ delta_same r ∙ sym (delta_same (basic r)))))
           (λ q. ap (λ a. a *ℚ z k) (ap (t r) (sym w.2) ∙ units w.0 r w.1 h ∙ delta_other w.0 r (λ y. q (sym y))
           ∙ sym (delta_other (basic r) k (λ y. q (apart m t basic units r w.0 h w.1 (y ∙ sym w.2)))))))
-          (λ e. ap (λ a. t r k *ℚ a) (off k p e) ∙ *ℚ_zero _ ∙ sym (ap (λ a. delta (basic r) k *ℚ a) (off k p e) ∙ *ℚ_zero _))
+          (λ e. ap (λ a. t r k *ℚ a) (off k p e) ∙ *ℚ_zero _
+          ∙ sym (ap (λ a. delta (basic r) k *ℚ a) (off k p e) ∙ *ℚ_zero _))
           (at_position m basic k)

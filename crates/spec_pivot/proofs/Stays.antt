@@ -1,5 +1,6 @@
 -- A move for which there is room keeps every value within its bounds.
-use Rattle.std.proofs.Common.{◌≡◌, ℕ, ◌<◌, Option, Some, None, Bool, true, false, cond, option_map, IfSome, refl, sym, ap, ◌∙◌, subst, subst₂}
+use Rattle.std.proofs.Common.{◌≡◌, ℕ, ◌<◌, Option, Some, None, Bool, true, false, cond}
+use Rattle.std.proofs.Common.{option_map, IfSome, refl, sym, ap, ◌∙◌, subst, subst₂}
 use Rattle.spec_exact.specs.Fraction.{ℚ, ◌+ℚ◌, ◌-ℚ◌, ◌*ℚ◌, neg_ℚ, inverse, 0ℚ, 1ℚ, ◌≤ℚ◌, ◌<ℚ◌, lt_ℚ}
 use Rattle.spec_exact.proofs.Field.{+ℚ_zero, *ℚ_comm, *ℚ_zero}
 use Rattle.spec_exact.proofs.Order.{≤ℚ_refl, ≤ℚ_trans, +ℚ_mono, *ℚ_mono, <ℚ-le, lt_if, le_if_not}
@@ -10,7 +11,8 @@ use Rattle.spec_pivot.specs.declared.status.Status.{Status}
 use Rattle.spec_pivot.specs.declared.status.Status.TheVariants.{Basic, AtLower, AtUpper, AtZero}
 use Rattle.spec_pivot.specs.declared.status.Way.{Way}
 use Rattle.spec_pivot.specs.declared.status.Way.TheVariants.{Up, Down}
-use Rattle.spec_pivot.specs.Simplex.{IsInside, IsWithin, sign, Bounds, CanMove, Stands, Table, ray, IsTableau, Enters, moved}
+use Rattle.spec_pivot.specs.Simplex.{IsInside, IsWithin, sign, Bounds, CanMove}
+use Rattle.spec_pivot.specs.Simplex.{Stands, Table, ray, IsTableau, Enters, moved}
 use Rattle.spec_pivot.specs.Ratio.{room, HasRoom}
 use Rattle.spec_pivot.proofs.Pivot.{by_eq}
 use Rattle.spec_pivot.proofs.Kept.{outside, j_outside}
@@ -34,13 +36,15 @@ up_to_bound : (a v theta r : ℚ) → 0ℚ <ℚ r → theta ≤ℚ ((a -ℚ v) *
 up_to_bound a v theta r p h =
     subst (λ z. (v +ℚ theta *ℚ r) ≤ℚ z) (reaches a v r (not-zero_from_lt r p))
     (+ℚ_mono₂ v v (theta *ℚ r) (((a -ℚ v) *ℚ inverse r) *ℚ r) (≤ℚ_refl v)
-    (subst₂ ◌≤ℚ◌ (*ℚ_comm r theta) (*ℚ_comm r ((a -ℚ v) *ℚ inverse r)) (*ℚ_mono theta ((a -ℚ v) *ℚ inverse r) r (<ℚ-le 0ℚ r p) h)))
+    (subst₂ ◌≤ℚ◌ (*ℚ_comm r theta) (*ℚ_comm r ((a -ℚ v) *ℚ inverse r))
+    (*ℚ_mono theta ((a -ℚ v) *ℚ inverse r) r (<ℚ-le 0ℚ r p) h)))
 
 -- down to the bound a is up to its negative
 down_to_bound : (a v theta r : ℚ) → r <ℚ 0ℚ → theta ≤ℚ ((v -ℚ a) *ℚ inverse (neg_ℚ r)) → a ≤ℚ (v +ℚ theta *ℚ r)
 down_to_bound a v theta r p h =
     subst₂ ◌≤ℚ◌ (twice a) (turn v theta r)
-    (neg_mono _ _ (up_to_bound (neg_ℚ a) (neg_ℚ v) theta (neg_ℚ r) (neg_above r p) (subst (λ z. theta ≤ℚ (z *ℚ inverse (neg_ℚ r))) (gap v a) h)))
+    (neg_mono _ _ (up_to_bound (neg_ℚ a) (neg_ℚ v) theta (neg_ℚ r)
+    (neg_above r p) (subst (λ z. theta ≤ℚ (z *ℚ inverse (neg_ℚ r))) (gap v a) h)))
   where
     twice : (a : ℚ) → neg_ℚ (neg_ℚ a) ≡ a
     twice a = simp ring
@@ -52,12 +56,14 @@ down_to_bound a v theta r p h =
     gap v a = simp ring
 
 upper_kept : (o : Option ℚ) (v theta r : ℚ) → 0ℚ <ℚ r
-    → ((q : ℚ) → option_map (λ u. (u -ℚ v) *ℚ inverse r) o ≡ Some q → theta ≤ℚ q) → IfSome o (λ k. (v +ℚ theta *ℚ r) ≤ℚ k)
+    → ((q : ℚ) → option_map (λ u. (u -ℚ v) *ℚ inverse r) o ≡ Some q → theta ≤ℚ q) →
+    IfSome o (λ k. (v +ℚ theta *ℚ r) ≤ℚ k)
 upper_kept None v theta r p h = tt
 upper_kept (Some u) v theta r p h = up_to_bound u v theta r p (h ((u -ℚ v) *ℚ inverse r) refl)
 
 lower_kept : (o : Option ℚ) (v theta r : ℚ) → r <ℚ 0ℚ
-    → ((q : ℚ) → option_map (λ l. (v -ℚ l) *ℚ inverse (neg_ℚ r)) o ≡ Some q → theta ≤ℚ q) → IfSome o (λ k. k ≤ℚ (v +ℚ theta *ℚ r))
+    → ((q : ℚ) → option_map (λ l. (v -ℚ l) *ℚ inverse (neg_ℚ r)) o ≡ Some q → theta ≤ℚ q) →
+    IfSome o (λ k. k ≤ℚ (v +ℚ theta *ℚ r))
 lower_kept None v theta r p h = tt
 lower_kept (Some l) v theta r p h = down_to_bound l v theta r p (h ((v -ℚ l) *ℚ inverse (neg_ℚ r)) refl)
 
@@ -69,12 +75,14 @@ lower_more : (o : Option ℚ) (v w : ℚ) → v ≤ℚ w → IfSome o (λ k. k �
 lower_more None v w h i = tt
 lower_more (Some l) v w h i = ≤ℚ_trans l v w i h
 
-room_kept : (b : Bounds) (k : ℕ) (v r theta : ℚ) → 0ℚ ≤ℚ theta → IsInside (b.lower k) (b.upper k) v → ((q : ℚ) → room b k v r ≡ Some q → theta ≤ℚ q)
+room_kept : (b : Bounds) (k : ℕ) (v r theta : ℚ) → 0ℚ ≤ℚ theta →
+    IsInside (b.lower k) (b.upper k) v → ((q : ℚ) → room b k v r ≡ Some q → theta ≤ℚ q)
     → IsInside (b.lower k) (b.upper k) (v +ℚ theta *ℚ r)
 room_kept b k v r theta f i h = by (lt_ℚ 0ℚ r) (lt_ℚ r 0ℚ) refl refl h
   where
     by : (s t : Bool) → lt_ℚ 0ℚ r ≡ s → lt_ℚ r 0ℚ ≡ t
-        → ((q : ℚ) → cond s (option_map (λ u. (u -ℚ v) *ℚ inverse r) (b.upper k)) (cond t (option_map (λ l. (v -ℚ l) *ℚ inverse (neg_ℚ r)) (b.lower k)) None) ≡ Some q → theta ≤ℚ q)
+        → ((q : ℚ) → cond s (option_map (λ u. (u -ℚ v) *ℚ inverse r) (b.upper k))
+        (cond t (option_map (λ l. (v -ℚ l) *ℚ inverse (neg_ℚ r)) (b.lower k)) None) ≡ Some q → theta ≤ℚ q)
         → IsInside (b.lower k) (b.upper k) (v +ℚ theta *ℚ r)
     by true t p q g = record {
       lower = lower_more (b.lower k) v (v +ℚ theta *ℚ r) (rises v theta r f (<ℚ-le 0ℚ r (lt_if 0ℚ r p))) i.lower;
@@ -140,16 +148,23 @@ own_kept l u v theta Up AtUpper c s f h i = absurd c
 own_kept l u v theta Down Basic c s f h i = absurd c
 own_kept l u v theta Down AtLower c s f h i = absurd c
 
-pub stays_within : (m n : ℕ) (f : Matrix) (cost : ℕ → ℚ) (b : Bounds) (t : Table) (way : Way) (j : ℕ) (theta : ℚ) → IsTableau m n f cost b t
-    → IsWithin n b t → Enters n b t way j → HasRoom m b t way j theta → (k : ℕ) → k < n → IsInside (b.lower k) (b.upper k) (moved m t way j theta k)
+pub stays_within : (m n : ℕ) (f : Matrix) (cost : ℕ → ℚ) (b : Bounds) (t : Table) (way : Way) (j : ℕ) (theta : ℚ) →
+    IsTableau m n f cost b t
+    → IsWithin n b t → Enters n b t way j → HasRoom m b t way j theta →
+    (k : ℕ) → k < n → IsInside (b.lower k) (b.upper k) (moved m t way j theta k)
 stays_within m n f cost b t way j theta g within e h k p =
     by_basic (t.status k)
     (λ s. let q = g.placed k p s in
     subst (λ k. IsInside (b.lower k) (b.upper k) (moved m t way j theta k)) q.2
-    (room_kept b (t.basic q.0) (t.value (t.basic q.0)) (ray m t way j (t.basic q.0)) theta h.forward (within (t.basic q.0) (g.in_range q.0 q.1)) (h.others q.0 q.1)))
+    (room_kept b (t.basic q.0) (t.value (t.basic q.0)) (ray m t way j (t.basic q.0)) theta h.forward
+    (within (t.basic q.0) (g.in_range q.0 q.1)) (h.others q.0 q.1)))
     (λ s. by_eq j k
     (λ o. subst (λ k. IsInside (b.lower k) (b.upper k) (moved m t way j theta k)) o
-    (subst (λ r. IsInside (b.lower j) (b.upper j) (t.value j +ℚ theta *ℚ r)) (sym (ray_at m t g.units way j (j_outside m n f cost b t g way j e)))
-    (own_kept (b.lower j) (b.upper j) (t.value j) theta way (t.status j) e.eligible.status (g.stands j e.in_range) h.forward h.own (within j e.in_range))))
-    (λ o. subst (λ r. IsInside (b.lower k) (b.upper k) (t.value k +ℚ theta *ℚ r)) (sym (ray_still m t g.units way j (j_outside m n f cost b t g way j e) k o (outside m n f cost b t g k s)))
-    (subst (IsInside (b.lower k) (b.upper k)) (sym (ap (λ a. t.value k +ℚ a) (*ℚ_zero theta) ∙ +ℚ_zero (t.value k))) (within k p))))
+    (subst (λ r. IsInside (b.lower j) (b.upper j) (t.value j +ℚ theta *ℚ r))
+    (sym (ray_at m t g.units way j (j_outside m n f cost b t g way j e)))
+    (own_kept (b.lower j) (b.upper j) (t.value j) theta way (t.status j) e.eligible.status
+    (g.stands j e.in_range) h.forward h.own (within j e.in_range))))
+    (λ o. subst (λ r. IsInside (b.lower k) (b.upper k) (t.value k +ℚ theta *ℚ r))
+    (sym (ray_still m t g.units way j (j_outside m n f cost b t g way j e) k o (outside m n f cost b t g k s)))
+    (subst (IsInside (b.lower k) (b.upper k))
+    (sym (ap (λ a. t.value k +ℚ a) (*ℚ_zero theta) ∙ +ℚ_zero (t.value k))) (within k p))))

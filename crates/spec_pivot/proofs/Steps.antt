@@ -1,5 +1,6 @@
 -- The best that the ratio test finds is a step by the rule: a pivot at its position, or a flip where it has none.
-use Rattle.std.proofs.Common.{◌≡◌, ℕ, ◌<◌, ◌≤◌, Option, Some, None, IfSome, refl, sym, ap, ◌∙◌, subst, subst₂, arith, inl, inr, ⊎_elim}
+use Rattle.std.proofs.Common.{◌≡◌, ℕ, ◌<◌, ◌≤◌, Option, Some, None, IfSome, refl}
+use Rattle.std.proofs.Common.{sym, ap, ◌∙◌, subst, subst₂, arith, inl, inr, ⊎_elim}
 use Rattle.spec_exact.specs.Fraction.{ℚ, ◌+ℚ◌, ◌-ℚ◌, ◌*ℚ◌, neg_ℚ, 0ℚ, 1ℚ, ◌≤ℚ◌, ◌<ℚ◌}
 use Rattle.spec_exact.proofs.Order.{≤ℚ_trans, ≤ℚ_antisym, <ℚ-le, by_le, lt_test, not_lt_test}
 use Rattle.spec_exact.proofs.Ruleset.{ring}
@@ -9,7 +10,8 @@ use Rattle.spec_pivot.specs.declared.status.Status.{Status}
 use Rattle.spec_pivot.specs.declared.status.Status.TheVariants.{Basic, AtLower, AtUpper, AtZero}
 use Rattle.spec_pivot.specs.declared.status.Way.{Way}
 use Rattle.spec_pivot.specs.declared.status.Way.TheVariants.{Up, Down}
-use Rattle.spec_pivot.specs.Simplex.{Bounds, IsFixed, IsInside, IsWithin, Stands, Table, IsTableau, CanMove, Enters, sign, ray, moved, IsBlocked, IsBlockedAt, Pivots, Flips}
+use Rattle.spec_pivot.specs.Simplex.{Bounds, IsFixed, IsInside, IsWithin, Stands, Table, IsTableau, CanMove}
+use Rattle.spec_pivot.specs.Simplex.{Enters, sign, ray, moved, IsBlocked, IsBlockedAt, Pivots, Flips}
 use Rattle.spec_pivot.specs.Ratio.{room_at, Best, NoWorse, range_of, best_of, way_of, bound_ahead}
 use Rattle.spec_pivot.proofs.Kept.{j_outside}
 use Rattle.spec_pivot.proofs.Ray.{ray_at}
@@ -40,10 +42,18 @@ ranges j None u x e = cc
 ranges j (Some l) None x e = cc
 ranges j (Some l) (Some u) x e =
     let z : ◌≡◌ {A = Best} (record { ratio = u -ℚ l; column = j; position = None }) x = cc in
-    record { bottom = l; top = u; at_bottom = refl; at_top = refl; length = ap (λ (x : Best). x.ratio) (sym z); position = ap (λ (x : Best). x.position) (sym z) }
+    record {
+      bottom = l;
+      top = u;
+      at_bottom = refl;
+      at_top = refl;
+      length = ap (λ (x : Best). x.ratio) (sym z);
+      position = ap (λ (x : Best). x.position) (sym z);
+    }
 
 -- a move of a column through its whole range
-pub whole_range : (l u v : ℚ) (low high : Option ℚ) (way : Way) (s : Status) → low ≡ Some l → high ≡ Some u → CanMove way s → Stands s low high v
+pub whole_range : (l u v : ℚ) (low high : Option ℚ) (way : Way) (s : Status) →
+    low ≡ Some l → high ≡ Some u → CanMove way s → Stands s low high v
     → Stands (bound_ahead way) low high (v +ℚ (u -ℚ l) *ℚ sign way)
 whole_range l u v low high Up AtLower p q c st =
     let e : Some l ≡ Some v = sym p ∙ st in let z : l ≡ v = cc in
@@ -79,7 +89,9 @@ range_above b k v l u n i p q =
     none : (a : ℚ) → a -ℚ a ≡ 0ℚ
     none a = simp ring
 
-module _ (m n : ℕ) (f : Matrix) (cost : ℕ → ℚ) (b : Bounds) (t : Table) (way : Way) (j : ℕ) (g : IsTableau m n f cost b t) (within : IsWithin n b t) (e : Enters n b t way j) (x : Best) (best : best_of m b t way j ≡ Some x) where
+module _ (m n : ℕ) (f : Matrix) (cost : ℕ → ℚ) (b : Bounds) (t : Table)
+    (way : Way) (j : ℕ) (g : IsTableau m n f cost b t) (within : IsWithin n b t)
+    (e : Enters n b t way j) (x : Best) (best : best_of m b t way j ≡ Some x) where
   abbrev rooms : ℕ → Option ℚ
   rooms = room_at m b t way j
 
@@ -122,12 +134,14 @@ module _ (m n : ℕ) (f : Matrix) (cost : ℕ → ℚ) (b : Bounds) (t : Table) 
     enters = e;
     forward =
         subst (λ a. 0ℚ <ℚ a) (sym own.length)
-        (range_above b j (t.value j) own.bottom own.top e.eligible.may_enter.1 (within j e.in_range) own.at_bottom own.at_top);
+        (range_above b j (t.value j) own.bottom own.top e.eligible.may_enter.1
+        (within j e.in_range) own.at_bottom own.at_top);
     to_nonbasic = ahead_nonbasic way;
     lands =
         subst₂ (λ r q. Stands (bound_ahead way) (b.lower j) (b.upper j) (t.value j +ℚ q *ℚ r))
         (sym (ray_at m t g.units way j (j_outside m n f cost b t g way j e))) (sym own.length)
-        (whole_range own.bottom own.top (t.value j) (b.lower j) (b.upper j) way (t.status j) own.at_bottom own.at_top e.eligible.status (g.stands j e.in_range));
+        (whole_range own.bottom own.top (t.value j) (b.lower j) (b.upper j) way
+        (t.status j) own.at_bottom own.at_top e.eligible.status (g.stands j e.in_range));
   }
     where
       own : Ranges (b.lower j) (b.upper j) x

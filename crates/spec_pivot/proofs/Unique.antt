@@ -5,7 +5,8 @@ use Rattle.spec_exact.specs.Sums.{sum_below}
 use Rattle.spec_exact.proofs.Field.{+ℚ_neg, *ℚ_assoc, *ℚ_comm}
 use Rattle.spec_exact.proofs.Ruleset.{ring, zero-*ℚ, zero-+ℚ}
 use Rattle.spec_exact.proofs.Strict.{zero-lt-one, <ℚ_irrefl}
-use Rattle.spec_exact.proofs.Sums.{sum_below_same, *ℚ-sum_below, sum_below_zero, sum_below_swap, sum_below-*ℚ, sum_below-sub}
+use Rattle.spec_exact.proofs.Sums.{sum_below_same, *ℚ-sum_below, sum_below_zero}
+use Rattle.spec_exact.proofs.Sums.{sum_below_swap, sum_below-*ℚ, sum_below-sub}
 use Rattle.spec_pivot.specs.Tableau.{Matrix, Spans, delta, IsUnit}
 use Rattle.spec_pivot.proofs.Pivot.{by_eq, delta_same, delta_other, sum_below-delta}
 
@@ -21,21 +22,25 @@ weight m t b u w s h =
 -- basic columns at two places differ
 pub apart : (m : ℕ) (t : Matrix) (b : ℕ → ℕ) → IsUnit m t b → (r s : ℕ) → r < m → s < m → b r ≡ b s → r ≡ s
 apart m t b u r s h k e =
-    by_eq r s (λ o. o) (λ n. absurd (one-not-zero (sym (delta_same r) ∙ sym (u r r h h) ∙ ap (λ c. t r c) e ∙ u s r k h ∙ delta_other s r (λ o. n (sym o)))))
+    by_eq r s (λ o. o) (λ n. absurd (one-not-zero
+    (sym (delta_same r) ∙ sym (u r r h h) ∙ ap (λ c. t r c) e ∙ u s r k h ∙ delta_other s r (λ o. n (sym o)))))
 
 pub record SameColumns (m : ℕ) (b c : ℕ → ℕ) : Type 0 where
   pub position : (s : ℕ) → s < m → (i : ℕ) × (i < m) × (b s ≡ c i)
 
-pub same_row : (m : ℕ) (t u : Matrix) (b c : ℕ → ℕ) → IsUnit m t b → IsUnit m u c → Spans m u t → SameColumns m b c → (r i : ℕ) → r < m → i < m
+pub same_row : (m : ℕ) (t u : Matrix) (b c : ℕ → ℕ) → IsUnit m t b →
+    IsUnit m u c → Spans m u t → SameColumns m b c → (r i : ℕ) → r < m → i < m
     → b r ≡ c i → (k : ℕ) → u i k ≡ t r k
 same_row m t u b c ut uu sp same r i hr hi e k =
-    sp.1 i k hi ∙ sum_below_same m _ _ (λ s hs. ap (λ x. x *ℚ t s k) (weights s hs)) ∙ sum_below-delta m r (λ s. t s k) hr
+    sp.1 i k hi ∙ sum_below_same m _ _ (λ s hs. ap (λ x. x *ℚ t s k) (weights s hs))
+    ∙ sum_below-delta m r (λ s. t s k) hr
   where
     weights : (s : ℕ) → s < m → sp.0 i s ≡ delta r s
     weights s hs =
         sym (weight m t b ut (sp.0 i) s hs) ∙ sym (sp.1 i (b s) hi)
         ∙ by_eq r s
-        (λ o. subst (λ s. u i (b s) ≡ delta r s) o (ap (λ x. u i x) e ∙ uu i i hi hi ∙ delta_same i ∙ sym (delta_same r)))
+        (λ o. subst (λ s. u i (b s) ≡ delta r s) o
+        (ap (λ x. u i x) e ∙ uu i i hi hi ∙ delta_same i ∙ sym (delta_same r)))
         (λ o. let q = same.position s hs in
         ap (λ x. u i x) q.2 ∙ uu q.0 i q.1 hi
         ∙ delta_other q.0 i (λ z. o (apart m t b ut r s hr hs (e ∙ ap c (sym z) ∙ sym q.2)))
@@ -43,10 +48,12 @@ same_row m t u b c ut uu sp same r i hr hi e k =
 
 -- the reduced costs are fixed too
 pub same_reduced_costs : (m : ℕ) (f t : Matrix) (b : ℕ → ℕ) → IsUnit m t b → Spans m f t → (cost d e v w : ℕ → ℚ)
-    → ((k : ℕ) → d k ≡ cost k -ℚ sum_below m (λ r. v r *ℚ f r k)) → ((k : ℕ) → e k ≡ cost k -ℚ sum_below m (λ r. w r *ℚ f r k))
+    → ((k : ℕ) → d k ≡ cost k -ℚ sum_below m (λ r. v r *ℚ f r k)) →
+    ((k : ℕ) → e k ≡ cost k -ℚ sum_below m (λ r. w r *ℚ f r k))
     → ((i : ℕ) → i < m → d (b i) ≡ 0ℚ) → ((i : ℕ) → i < m → e (b i) ≡ 0ℚ) → (k : ℕ) → d k ≡ e k
 same_reduced_costs m f t b u sp cost d e v w dk ek db eb k =
-    apart_by (d k) (e k) (combo k ∙ sum_below_same m _ (λ _. 0ℚ) (λ s h. ap (λ a. a *ℚ t s k) (none s h) ∙ zero-*ℚ _) ∙ sum_below_zero m)
+    apart_by (d k) (e k)
+    (combo k ∙ sum_below_same m _ (λ _. 0ℚ) (λ s h. ap (λ a. a *ℚ t s k) (none s h) ∙ zero-*ℚ _) ∙ sum_below_zero m)
   where
     weight_of : ℕ → ℚ
     weight_of s = sum_below m (λ r. (w r -ℚ v r) *ℚ sp.0 r s)
@@ -54,10 +61,12 @@ same_reduced_costs m f t b u sp cost d e v w dk ek db eb k =
     -- the difference is a combination of the tableau's rows
     combo : (k : ℕ) → d k -ℚ e k ≡ sum_below m (λ s. weight_of s *ℚ t s k)
     combo k =
-        ap₂ (λ a c. a -ℚ c) (dk k) (ek k) ∙ cancel (cost k) (sum_below m (λ r. v r *ℚ f r k)) (sum_below m (λ r. w r *ℚ f r k))
+        ap₂ (λ a c. a -ℚ c) (dk k) (ek k)
+        ∙ cancel (cost k) (sum_below m (λ r. v r *ℚ f r k)) (sum_below m (λ r. w r *ℚ f r k))
         ∙ sym (sum_below-sub m (λ r. w r *ℚ f r k) (λ r. v r *ℚ f r k))
         ∙ sum_below_same m _ (λ r. sum_below m (λ s. (w r -ℚ v r) *ℚ sp.0 r s *ℚ t s k))
-        (λ r h. sym (factor (w r) (v r) (f r k)) ∙ ap (λ a. (w r -ℚ v r) *ℚ a) (sp.1 r k h) ∙ *ℚ-sum_below (w r -ℚ v r) m _
+        (λ r h. sym (factor (w r) (v r) (f r k))
+        ∙ ap (λ a. (w r -ℚ v r) *ℚ a) (sp.1 r k h) ∙ *ℚ-sum_below (w r -ℚ v r) m _
         ∙ sum_below_same m _ _ (λ s _. sym (*ℚ_assoc (w r -ℚ v r) (sp.0 r s) (t s k))))
         ∙ sum_below_swap m m (λ r s. (w r -ℚ v r) *ℚ sp.0 r s *ℚ t s k)
         ∙ sum_below_same m _ _ (λ s _. sym (sum_below-*ℚ m (λ r. (w r -ℚ v r) *ℚ sp.0 r s) (t s k)))

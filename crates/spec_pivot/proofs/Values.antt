@@ -5,7 +5,8 @@ use Rattle.spec_exact.specs.Sums.{sum_below}
 use Rattle.spec_exact.proofs.Field.{+ℚ_neg, *ℚ_assoc, *ℚ_one, *ℚ_zero}
 use Rattle.spec_exact.proofs.Ruleset.{ring, zero-*ℚ, one-*ℚ, zero-+ℚ, neg-zero}
 use Rattle.spec_exact.proofs.Strict.{neg_strict}
-use Rattle.spec_exact.proofs.Sums.{sum_below-sub, sum_below_none, sum_below_same, *ℚ-sum_below, sum_below_swap, sum_below-*ℚ}
+use Rattle.spec_exact.proofs.Sums.{sum_below-sub, sum_below_none, sum_below_same}
+use Rattle.spec_exact.proofs.Sums.{*ℚ-sum_below, sum_below_swap, sum_below-*ℚ}
 use Rattle.spec_pivot.specs.Tableau.{Matrix, Spans, delta}
 use Rattle.spec_pivot.specs.declared.status.Status.{Status}
 use Rattle.spec_pivot.specs.declared.status.Status.TheVariants.{Basic, AtLower, AtUpper, AtZero}
@@ -18,7 +19,8 @@ use Rattle.spec_pivot.proofs.Ray.{ray_at, ray_still, cost_ray}
 use Rattle.spec_pivot.proofs.Kept.{outside, j_outside, cost_moved}
 
 -- what solves the rows solves their combinations
-pub combined : (m n : ℕ) (s t : Matrix) → Spans m s t → (x : ℕ → ℚ) → ((i : ℕ) → i < m → sum_below n (λ k. t i k *ℚ x k) ≡ 0ℚ) → (i : ℕ) → i < m
+pub combined : (m n : ℕ) (s t : Matrix) → Spans m s t → (x : ℕ → ℚ) →
+    ((i : ℕ) → i < m → sum_below n (λ k. t i k *ℚ x k) ≡ 0ℚ) → (i : ℕ) → i < m
     → sum_below n (λ k. s i k *ℚ x k) ≡ 0ℚ
 combined m n s t sp x e i h =
     sum_below_same n _ (λ k. sum_below m (λ r. sp.0 i r *ℚ (t r k *ℚ x k)))
@@ -48,7 +50,8 @@ module _ (m n : ℕ) (f : Matrix) (cost : ℕ → ℚ) (b : Bounds) (t : Table) 
   row_at : (z : ℕ → ℚ) → ((k : ℕ) → k < n → ¬ (t.status k ≡ Basic) → z k ≡ 0ℚ) → (r : ℕ) → r < m →
       sum_below n (λ k. t.entry r k *ℚ z k) ≡ z (t.basic r)
   row_at z o =
-      rows.row_at m n t.entry t.basic g.units g.in_range z (λ k p none. o k p (λ e. let w = g.placed k p e in none w.0 w.1 w.2))
+      rows.row_at m n t.entry t.basic g.units g.in_range z
+      (λ k p none. o k p (λ e. let w = g.placed k p e in none w.0 w.1 w.2))
 
   pub same_values : (u : Table) → IsTableau m n f cost b u → SameStatuses n t u → (k : ℕ) → k < n →
       t.value k ≡ u.value k
@@ -78,7 +81,8 @@ module _ (m n : ℕ) (f : Matrix) (cost : ℕ → ℚ) (b : Bounds) (t : Table) 
 
       solved : (r : ℕ) → r < m → sum_below n (λ k. t.entry r k *ℚ difference k) ≡ 0ℚ
       solved = combined m n t.entry f g.forth difference
-          (λ i h. sum_below_same n _ (λ k. f i k *ℚ t.value k -ℚ f i k *ℚ u.value k) (λ k _. open_ (f i k) (t.value k) (u.value k))
+          (λ i h. sum_below_same n _ (λ k. f i k *ℚ t.value k -ℚ f i k *ℚ u.value k)
+          (λ k _. open_ (f i k) (t.value k) (u.value k))
           ∙ sum_below-sub n _ _ ∙ ap₂ (λ a c. a -ℚ c) (g.solves i h) (q.solves i h) ∙ +ℚ_neg 0ℚ)
         where
           open_ : (a x y : ℚ) → a *ℚ (x -ℚ y) ≡ a *ℚ x -ℚ a *ℚ y
@@ -103,7 +107,9 @@ module _ (m n : ℕ) (f : Matrix) (cost : ℕ → ℚ) (b : Bounds) (t : Table) 
             none k h o =
                 by_basic (t.status k)
                 (λ s. ap (λ a. a *ℚ ray m t way j k) (zero_at_basic k h s) ∙ zero-*ℚ _)
-                (λ s. ap (λ a. t.reduced k *ℚ a) (ray_still m t g.units way j (j_outside m n f cost b t g way j e) k o (outside m n f cost b t g k s)) ∙ *ℚ_zero _)
+                (λ s. ap (λ a. t.reduced k *ℚ a)
+                (ray_still m t g.units way j (j_outside m n f cost b t g way j e) k o (outside m n f cost b t g k s))
+                ∙ *ℚ_zero _)
 
     pub better : (t.reduced j *ℚ sign way) <ℚ 0ℚ
     better = go way e.eligible.improves
@@ -116,7 +122,9 @@ module _ (m n : ℕ) (f : Matrix) (cost : ℕ → ℚ) (b : Bounds) (t : Table) 
             minus d = simp ring
 
     pub cost_along : (theta : ℚ) →
-        sum_below n (λ k. cost k *ℚ moved m t way j theta k) ≡ sum_below n (λ k. cost k *ℚ t.value k) +ℚ theta *ℚ (t.reduced j *ℚ sign way)
+        sum_below n (λ k. cost k *ℚ moved m t way j theta k)
+        ≡ sum_below n (λ k. cost k *ℚ t.value k) +ℚ theta *ℚ (t.reduced j *ℚ sign way)
     cost_along theta = cost_moved m n f cost b t g way j e theta
         ∙ ap (λ a. sum_below n (λ k. cost k *ℚ t.value k) +ℚ theta *ℚ a)
-        (sym (cost_ray m t g.units way j (j_outside m n f cost b t g way j e) n e.in_range g.in_range f cost t.reduced g.back g.costs.weights g.costs.less) ∙ ray_cost)
+        (sym (cost_ray m t g.units way j (j_outside m n f cost b t g way j e) n e.in_range
+        g.in_range f cost t.reduced g.back g.costs.weights g.costs.less) ∙ ray_cost)

@@ -1,5 +1,6 @@
 -- The ratio test.
-use Rattle.std.specs.Prelude.{◌≡◌, ◌<◌, ◌≤◌, ◌⊎◌, ℕ, zero, suc, Option, Some, None, Bool, true, not, ◌&&◌, ◌||◌, cond, nat_lt, option_map}
+use Rattle.std.specs.Prelude.{◌≡◌, ◌<◌, ◌≤◌, ◌⊎◌, ℕ, zero, suc, Option, Some, None}
+use Rattle.std.specs.Prelude.{Bool, true, not, ◌&&◌, ◌||◌, cond, nat_lt, option_map}
 use Rattle.spec_exact.specs.Fraction.{◌<ℚ◌, ◌≤ℚ◌, lt_ℚ, ℚ, ◌-ℚ◌, ◌*ℚ◌, neg_ℚ, 0ℚ, inverse}
 use Rattle.spec_pivot.specs.declared.status.Status.{Status}
 use Rattle.spec_pivot.specs.declared.status.Status.TheVariants.{AtLower, AtUpper}

@@ -36,7 +36,8 @@ Stands AtUpper l u v = u ≡ Some v
 Stands AtZero l u v = (l ≡ None) × (u ≡ None) × (v ≡ 0ℚ)
 
 -- ---- tableaus
--- the entries by position and column, the basic column of each position, and each column's value, reduced cost and status
+-- the entries by position and column, the basic column of each position, and each column's value,
+-- reduced cost and status
 pub record Table : Type 0 where
   pub entry : Matrix
   pub basic : ℕ → ℕ
@@ -50,7 +51,8 @@ pub record AgreesWith (m : ℕ) (f : Matrix) (basic : ℕ → ℕ) (cost d : ℕ
   pub less : (k : ℕ) → d k ≡ cost k -ℚ sum_below m (λ r. weights r *ℚ f r k)
   pub at_basic : (i : ℕ) → i < m → d (basic i) ≡ 0ℚ
 
--- a tableau of the m rows f over n columns with these costs and bounds: its rows and those of f are combinations of each other, its values solve them, and each value stands where its status says
+-- a tableau of the m rows f over n columns with these costs and bounds: its rows and those of f are combinations of
+-- each other, its values solve them, and each value stands where its status says
 pub record IsTableau (m n : ℕ) (f : Matrix) (cost : ℕ → ℚ) (b : Bounds) (t : Table) : Type 0 where
   pub in_range : (i : ℕ) → i < m → t.basic i < n
   pub forth : Spans m t.entry f
@@ -151,7 +153,8 @@ after_flip m t way j theta to =
       status = status_set t.status j to;
     }
 
--- a pivot of any method: column j is not basic, its entry at position p is not 0, and the move takes the column at p to where `to` says
+-- a pivot of any method: column j is not basic, its entry at position p is not 0,
+-- and the move takes the column at p to where `to` says
 pub record Exchanges (m n : ℕ) (b : Bounds) (t : Table) (way : Way) (j p : ℕ) (theta : ℚ) (to : Status) : Type 0 where
   pub in_range : j < n
   pub nonbasic : ¬ (t.status j ≡ Basic)
@@ -207,6 +210,7 @@ abbrev pub IsStep : ℕ → ℕ → Bounds → Label → Table → Table → Typ
 IsStep m n b l t u = StepOf l.kind m n b l t u
 
 -- len steps from the first tableau
-pub record IsRun (m n : ℕ) (f : Matrix) (cost : ℕ → ℚ) (b : Bounds) (t : ℕ → Table) (l : ℕ → Label) (len : ℕ) : Type 0 where
+pub record IsRun (m n : ℕ) (f : Matrix) (cost : ℕ → ℚ) (b : Bounds)
+    (t : ℕ → Table) (l : ℕ → Label) (len : ℕ) : Type 0 where
   pub first : IsTableau m n f cost b (t 0)
   pub steps : (i : ℕ) → i < len → IsStep m n b (l i) (t i) (t (suc i))

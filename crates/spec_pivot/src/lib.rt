@@ -1,7 +1,8 @@
 //! Steps of the simplex method with bounds on the variables, over functions of an index: definitions, and the laws that
 //! they meet. There are no lists here, no model, and no limit on numbers.
 //!
-//! A reader has to believe the definitions in `specs/`; each law is the contract of a function below, which does nothing.
+//! A reader has to believe the definitions in `specs/`; each law is the contract of a function below,
+//! which does nothing.
 //!
 //! | Item | What it is | Where |
 //! |---|---|---|
@@ -18,10 +19,10 @@
 //! | `HasRoom`, `GoesOn` | there is room for a move; nothing ever stops it | specs/Ratio |
 //! | `bound_ahead`, `way_of` | the bound at which a column ends; the way of a column that moves along | specs/Ratio |
 //!
-//! A tableau has m positions, each with a basic column and a row, and n columns; a row means that the sum of its entries
-//! times the columns' values is 0. The cost is to be least. The method with bounds is that of Chvátal, Linear Programming
-//! (1983), chapter 8, and tableaus are those of its chapter 2. The rule of the least index, and that it ends, are by
-//! Bland, New finite pivoting rules for the simplex method (1977).
+//! A tableau has m positions, each with a basic column and a row, and n columns; a row means that the sum of its
+//! entries times the columns' values is 0. The cost is to be least. The method with bounds is that of Chvátal, Linear
+//! Programming (1983), chapter 8, and tableaus are those of its chapter 2. The rule of the least index, and that it
+//! ends, are by Bland, New finite pivoting rules for the simplex method (1977).
 #![tactic(auto)]
 
 mod status;
@@ -31,7 +32,8 @@ ghost use Rattle.spec_exact.specs.Fraction.{ℚ, 0ℚ};
 ghost use Rattle.spec_pivot.specs.declared.status.Status.{Status};
 ghost use Rattle.spec_pivot.specs.declared.status.Way.{Way};
 ghost use Rattle.spec_pivot.specs.Tableau.{Matrix, Spans, IsUnit, pivoted, entered};
-ghost use Rattle.spec_pivot.specs.Simplex.{Bounds, Table, IsTableau, IsWithin, Enters, ray, after_pivot, after_flip, Pivots, Flips, Pivot, Label, IsStep, IsRun, SameStatuses, SameTableau};
+ghost use Rattle.spec_pivot.specs.Simplex.{Bounds, Table, IsTableau, IsWithin, Enters, ray, after_pivot, after_flip};
+ghost use Rattle.spec_pivot.specs.Simplex.{Pivots, Flips, Pivot, Label, IsStep, IsRun, SameStatuses, SameTableau};
 ghost use Rattle.spec_pivot.specs.Ratio.{Best, GoesOn, HasRoom, NoWorse, best_of, room_at, way_of, bound_ahead};
 
 pub use status::{Status, Way};

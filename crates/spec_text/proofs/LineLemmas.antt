@@ -1,5 +1,6 @@
 -- The lines of a text, taken from its start one by one.
-use Rattle.std.proofs.Common.{◌≡◌, ℕ, Bool, true, false, List, [], ◌∷◌, ◌++◌, All, ◌≢◌, eqb, refl, ap, ◌∙◌, cond, rules, tests, arith, map, length, ◌<◌, ◌≤◌, ◌⊎◌, inl, inr, ⊎_elim}
+use Rattle.std.proofs.Common.{◌≡◌, ℕ, Bool, true, false, List, [], ◌∷◌, ◌++◌, All, ◌≢◌, eqb, refl, ap, ◌∙◌}
+use Rattle.std.proofs.Common.{cond, rules, tests, arith, map, length, ◌<◌, ◌≤◌, ◌⊎◌, inl, inr, ⊎_elim}
 use Rattle.std.specs.List.{slice_split, onto_first}
 use Rattle.std.specs.Str.Lines.{lines, lines_of_parts, strip_carriage_return}
 use Rattle.std.proofs.lemmas.List.Splits.{slice_split_at, slice_split_none}
@@ -25,14 +26,17 @@ onto_some b (p ∷ ps) = (b ∷ p, ps, refl)
 split_some : (p : ℕ → Bool) (bs : List ℕ) → (y : List ℕ) × (more : List (List ℕ)) × (slice_split p bs ≡ y ∷ more)
 split_some p [] = ([], [], refl)
 split_some p (b ∷ bs) =
-    elim (p b) as (λ t. (y : List ℕ) × (more : List (List ℕ)) × (cond t ([] ∷ slice_split p bs) (onto_first b (slice_split p bs)) ≡ y ∷ more)) [ true ↦ ([], slice_split p bs, refl) | false ↦ onto_some b (slice_split p bs) ]
+    elim (p b) as (λ t. (y : List ℕ) × (more : List (List ℕ))
+    × (cond t ([] ∷ slice_split p bs) (onto_first b (slice_split p bs)) ≡ y ∷ more))
+    [ true ↦ ([], slice_split p bs, refl) | false ↦ onto_some b (slice_split p bs) ]
 
 -- a line that ends is the first one, less its carriage return
 pub lines_first : (line more : List ℕ) → All (λ b. eqb b 10 ≡ false) line →
     lines (line ++ 10 ∷ more) ≡ strip_carriage_return line ∷ lines more
 lines_first line more h =
     let s = split_some (λ b. eqb b 10) more in
-    ap lines_of_parts (slice_split_at (λ b. eqb b 10) line 10 more h refl) ∙ parts_more line (slice_split (λ b. eqb b 10) more) s.0 s.1 s.2
+    ap lines_of_parts (slice_split_at (λ b. eqb b 10) line 10 more h refl)
+    ∙ parts_more line (slice_split (λ b. eqb b 10) more) s.0 s.1 s.2
 
 tests_false : (line : List ℕ) → All (λ b. b ≢ 10) line → All (λ b. eqb b 10 ≡ false) line
 tests_false line h = All-weaker (λ b. b ≢ 10) (λ b. eqb b 10 ≡ false) (λ b n. search (rules, tests)) line h
@@ -76,13 +80,16 @@ pub ended_lines_of_line : (line more : List ℕ) → All (λ b. b ≢ 10) line �
 unfolding ended_lines_of
 ended_lines_of_line line more h =
     let s = split_some (λ b. eqb b 10) more in
-    ap (λ parts. map (λ raw. line_of (strip_carriage_return raw)) (all_but_last parts)) (slice_split_at (λ b. eqb b 10) line 10 more (tests_false line h) refl)
-    ∙ ap (map (λ raw. line_of (strip_carriage_return raw))) (parts_before line (slice_split (λ b. eqb b 10) more) s.0 s.1 s.2)
+    ap (λ parts. map (λ raw. line_of (strip_carriage_return raw)) (all_but_last parts))
+    (slice_split_at (λ b. eqb b 10) line 10 more (tests_false line h) refl)
+    ∙ ap (map (λ raw. line_of (strip_carriage_return raw)))
+    (parts_before line (slice_split (λ b. eqb b 10) more) s.0 s.1 s.2)
 
 pub ended_lines_of_last : (line : List ℕ) → All (λ b. b ≢ 10) line → ended_lines_of line ≡ []
 unfolding ended_lines_of
 ended_lines_of_last line h =
-    ap (λ parts. map (λ raw. line_of (strip_carriage_return raw)) (all_but_last parts)) (slice_split_none (λ b. eqb b 10) line (tests_false line h))
+    ap (λ parts. map (λ raw. line_of (strip_carriage_return raw)) (all_but_last parts))
+    (slice_split_none (λ b. eqb b 10) line (tests_false line h))
 
 -- a line has its bytes or its length
 pub line_of_cases : (bytes : List ℕ) → (line_of bytes ≡ Text bytes) ⊎ (line_of bytes ≡ Long (length bytes))

@@ -1,5 +1,6 @@
 -- The words of a line, and texts that are the same.
-use Rattle.std.proofs.Common.{◌≡◌, ◌≢◌, ◌↔◌, ℕ, ◌+◌, ◌<◌, ◌≤◌, Bool, true, false, not, ◌&&◌, cond, eqb, eqb→eq, eq-eqb, IsTrue, T, List, [], ◌∷◌, ◌++◌, length, take, drop, refl, sym, ap, ◌∙◌, subst, arith}
+use Rattle.std.proofs.Common.{◌≡◌, ◌≢◌, ◌↔◌, ℕ, ◌+◌, ◌<◌, ◌≤◌, Bool, true, false, not, ◌&&◌, cond, eqb, eqb→eq, eq-eqb}
+use Rattle.std.proofs.Common.{IsTrue, T, List, [], ◌∷◌, ◌++◌, length, take, drop, refl, sym, ap, ◌∙◌, subst, arith}
 use Rattle.std.specs.Bool.{Decides}
 use Rattle.std.specs.List.{slice_split, filter, position_or_len, onto_first}
 use Rattle.std.proofs.lemmas.List.Splits.{slice_split_first}
@@ -13,10 +14,13 @@ filter_first (b ∷ part) parts = refl
 
 -- a blank ends the first word, and the others follow it
 pub words_of_first : (line : List ℕ) → position_or_len is_blank line < length line →
-    words_of line ≡ filter has_bytes (take (position_or_len is_blank line) line ∷ []) ++ words_of (drop (position_or_len is_blank line + 1) line)
+    words_of line ≡ filter has_bytes
+    (take (position_or_len is_blank line) line ∷ []) ++ words_of (drop (position_or_len is_blank line + 1) line)
 unfolding words_of
 words_of_first line h =
-    ap (filter has_bytes) (slice_split_first is_blank line 0 h) ∙ filter_first (take (position_or_len is_blank line) line) (slice_split is_blank (drop (position_or_len is_blank line + 1) line))
+    ap (filter has_bytes) (slice_split_first is_blank line 0 h)
+    ∙ filter_first (take (position_or_len is_blank line) line)
+    (slice_split is_blank (drop (position_or_len is_blank line + 1) line))
 
 split_last : (line : List ℕ) → length line ≤ position_or_len is_blank line → slice_split is_blank line ≡ line ∷ []
 split_last [] h = refl
