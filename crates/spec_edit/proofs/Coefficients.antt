@@ -1,5 +1,6 @@
 -- What stands at a row, after a change of a column's entries.
-use Rattle.std.proofs.Common.{◌≡◌, ◌≢◌, ℕ, ◌+◌, ◌-◌, ◌<◌, ◌≤◌, Bool, true, false, not, cond, eqb, ltb, List, [], ◌∷◌, ◌++◌, map, All, refl, sym, ap, ◌∙◌, subst, arith, ⊎_elim, eq-eqb, ne_eqb}
+use Rattle.std.proofs.Common.{◌≡◌, ◌≢◌, ℕ, ◌+◌, ◌-◌, ◌<◌, ◌≤◌, Bool, true, false, not, cond, eqb, ltb, List, []}
+use Rattle.std.proofs.Common.{◌∷◌, ◌++◌, map, All, refl, sym, ap, ◌∙◌, subst, arith, ⊎_elim, eq-eqb, ne_eqb}
 use borrow.Author.Tests.{ltb-true, ltb-false, lt-ltb, eqb-true, eqb-false}
 use Rattle.std.specs.List.{filter}
 use Rattle.std.proofs.lemmas.Bool.{cases_order}
@@ -92,7 +93,8 @@ entry_of-with_entry i v es k = ⊎_elim at (⊎_elim lower higher) (cases_order 
     higher : i < k → is-put (cond (eqb k i) v (entry_of es k))
     higher l =
         let n : k ≢ i = omega arith in
-        behind_others k (below ++ entry_if i v) above (All-append (λ e. e.0 ≢ k) below (entry_if i v) (not_below (omega arith)) (not_here n))
+        behind_others k (below ++ entry_if i v) above
+        (All-append (λ e. e.0 ≢ k) below (entry_if i v) (not_below (omega arith)) (not_here n))
         ∙ passes_at (λ a. ltb i a) k (lt-ltb i k l) es
         ∙ rw (ne_eqb k i n) refl
 
@@ -140,7 +142,9 @@ entry_of-without_entry i (e ∷ es) k = by (eqb e.0 i) refl (entry_of-without_en
     moved e = (renumbered i e.0, e.1)
 
     by : (t : Bool) → eqb e.0 i ≡ t → entry_of (map moved others) k ≡ entry_of es (skipping i k) →
-        entry_of (map moved (cond (not t) (e ∷ others) others)) k ≡ cond (eqb e.0 (skipping i k)) e.1 (entry_of es (skipping i k))
+        entry_of (map moved (cond (not t) (e ∷ others) others)) k
+        ≡ cond (eqb e.0 (skipping i k)) e.1 (entry_of es (skipping i k))
     by true f rest =
-        rw (ne_eqb e.0 (skipping i k) (subst (λ a. a ≢ skipping i k) (sym (eqb-true e.0 i f)) (skipping-other i k))) rest
+        rw (ne_eqb e.0 (skipping i k) (subst (λ a. a ≢ skipping i k) (sym (eqb-true e.0 i f)) (skipping-other i k)))
+        rest
     by false f rest = rw (renumbered-skipping i e.0 k (eqb-false e.0 i f), rest) refl

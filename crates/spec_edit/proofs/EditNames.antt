@@ -2,8 +2,10 @@
 use Rattle.std.proofs.Common.{◌≡◌, ℕ, ◌<◌, false, Ok, refl, subst, ⊎_elim}
 use Rattle.spec_exact.specs.Fraction.{ℚ}
 use Rattle.spec_model.specs.Model.{Model, Name, ExactRow, ExactColumn, width, height, row, column}
-use Rattle.spec_edit.specs.declared.edit.Edit.TheVariants.{AddRow, DelRow, AddCol, DelCol, SetCost, SetCoef, SetRhs, SetRange, SetBound, SetSense}
-use Rattle.spec_edit.specs.Changes.{changed_row, changed_column, with_entry, with_cost, with_coefficient, with_bounds, with_range, with_sense}
+use Rattle.spec_edit.specs.declared.edit.Edit.TheVariants.{AddRow, DelRow, AddCol, DelCol, SetCost}
+use Rattle.spec_edit.specs.declared.edit.Edit.TheVariants.{SetCoef, SetRhs, SetRange, SetBound, SetSense}
+use Rattle.spec_edit.specs.Changes.{changed_row, changed_column, with_entry, with_cost}
+use Rattle.spec_edit.specs.Changes.{with_coefficient, with_bounds, with_range, with_sense}
 use Rattle.spec_edit.specs.Edited.{ExactEdit, with_right_side, edited}
 use Rattle.spec_edit.specs.Meaning.{adds_or_removes, KeepsNames}
 use Rattle.spec_edit.proofs.NameLemmas.{row_names-changed, column_names-changed}
@@ -35,13 +37,15 @@ edited-names m n (SetCost name v) other h =
     subst (KeepsNames m) s.model (at_a_column m s.place (λ (c : ExactColumn). record c { cost = v }) s.inside refl)
 edited-names m n (SetCoef row column v) other h =
     let s = at_entry m n row column (λ i j. with_coefficient m i j v) h in
-    subst (KeepsNames m) s.model (at_a_column m s.column (λ (c : ExactColumn). record c { entries = with_entry s.row v c.entries }) s.column_inside refl)
+    subst (KeepsNames m) s.model (at_a_column m s.column
+    (λ (c : ExactColumn). record c { entries = with_entry s.row v c.entries }) s.column_inside refl)
 edited-names m n (SetRhs name v) other h = right_side-names m n name v h
 edited-names m n (SetRange name range) other h =
     let s = at_row m n name (λ i. with_range m i range) h in
     subst (KeepsNames m) s.model (at_a_row m s.place (λ (r : ExactRow). record r { range = range }) s.inside refl)
 edited-names m n (SetBound name bounds) other h =
     let s = at_column m n name (λ j. with_bounds m j bounds) h in
-    subst (KeepsNames m) s.model (at_a_column m s.place (λ (c : ExactColumn). record c { lower = bounds.lower; upper = bounds.upper }) s.inside refl)
+    subst (KeepsNames m) s.model
+    (at_a_column m s.place (λ (c : ExactColumn). record c { lower = bounds.lower; upper = bounds.upper }) s.inside refl)
 edited-names m n (SetSense sense) other h =
     subst (KeepsNames m) (same_ok (with_sense m sense) n h) (record { objective = refl; rows = refl; columns = refl })

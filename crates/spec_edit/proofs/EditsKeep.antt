@@ -7,11 +7,15 @@ use Rattle.spec_exact.specs.Narrow.{IsNarrow, widest}
 use Rattle.spec_exact.specs.Quotients.{abs-neg_ℤ}
 use Rattle.spec_model.specs.Model.{Model, Name, ExactRow, height}
 use Rattle.spec_model.specs.Kept.{IsModel, IsNarrowRow, is_row_name, row_limit}
-use Rattle.spec_edit.specs.declared.edit.Edit.TheVariants.{AddRow, DelRow, AddCol, DelCol, SetCost, SetCoef, SetRhs, SetRange, SetBound, SetSense}
-use Rattle.spec_edit.specs.Changes.{with_row, without_row, without_column, with_cost, with_coefficient, with_bounds, with_range, with_sense}
+use Rattle.spec_edit.specs.declared.edit.Edit.TheVariants.{AddRow, DelRow, AddCol, DelCol, SetCost}
+use Rattle.spec_edit.specs.declared.edit.Edit.TheVariants.{SetCoef, SetRhs, SetRange, SetBound, SetSense}
+use Rattle.spec_edit.specs.Changes.{with_row, without_row, without_column, with_cost}
+use Rattle.spec_edit.specs.Changes.{with_coefficient, with_bounds, with_range, with_sense}
 use Rattle.spec_edit.specs.Edited.{ExactEdit, IsKeptEdit, is_row_taken, new_row, with_right_side, edited}
 use Rattle.spec_edit.proofs.Steps.{test_ok, same_ok, at_row, at_column, at_entry, right_side-ok}
-use Rattle.spec_edit.proofs.Keeping.{with_row-kept, without_row-kept, without_column-kept, with_cost-kept, with_coefficient-kept, with_bounds-kept, with_rhs-kept, with_range-kept, with_offset-kept, with_sense-kept}
+use Rattle.spec_edit.proofs.Keeping.{with_row-kept, without_row-kept, without_column-kept}
+use Rattle.spec_edit.proofs.Keeping.{with_cost-kept, with_coefficient-kept, with_bounds-kept, with_rhs-kept}
+use Rattle.spec_edit.proofs.Keeping.{with_range-kept, with_offset-kept, with_sense-kept}
 use Rattle.spec_edit.proofs.NewColumns.{new_column-kept}
 
 new_row-kept : (m n : Model) (r : ExactRow) → IsModel m → IsNarrowRow r → new_row m r ≡ Ok n → IsModel n
@@ -38,7 +42,8 @@ right_side-kept m n name v k narrow h =
 pub edited-kept : (m n : Model) (e : ExactEdit) → IsModel m → IsKeptEdit e → edited m e ≡ Ok n → IsModel n
 unfolding edited
 edited-kept m n (AddRow name kind rhs range) k may h =
-    new_row-kept m n (record { name = name; kind = kind; rhs = rhs; range = range }) k (record { rhs = may.0; range = may.1 }) h
+    new_row-kept m n (record { name = name; kind = kind; rhs = rhs; range = range }) k
+    (record { rhs = may.0; range = may.1 }) h
 edited-kept m n (DelRow name) k may h =
     let s = at_row m n name (λ i. without_row m i) h in subst IsModel s.model (without_row-kept m s.place k s.inside)
 edited-kept m n (AddCol name cost pairs) k may h = new_column-kept m n name cost pairs k may.0 may.1 h

@@ -1,9 +1,11 @@
 -- The entries of a column, after a change: they stand in the order of their rows, and are of 127 bits.
-use Rattle.std.proofs.Common.{◌≡◌, ◌≢◌, ℕ, suc, ◌-◌, ◌<◌, ◌≤◌, Bool, true, false, not, cond, eqb, ltb, List, [], ◌∷◌, ◌++◌, All, refl, sym, subst, arith}
+use Rattle.std.proofs.Common.{◌≡◌, ◌≢◌, ℕ, suc, ◌-◌, ◌<◌, ◌≤◌, Bool, true, false, not, cond}
+use Rattle.std.proofs.Common.{eqb, ltb, List, [], ◌∷◌, ◌++◌, All, refl, sym, subst, arith}
 use borrow.Author.Tests.{ltb-true, ltb-false, eqb-false}
 use Rattle.std.specs.List.{filter}
 use Rattle.std.proofs.lemmas.Bool.{not-true}
-use Rattle.std.proofs.lemmas.List.Elements.{All-nil, All-cons, All-append, All-weaker, All-map, All-filter, filter_passes}
+use Rattle.std.proofs.lemmas.List.Elements.{All-nil, All-cons, All-append, All-weaker}
+use Rattle.std.proofs.lemmas.List.Elements.{All-map, All-filter, filter_passes}
 use Rattle.std.proofs.lemmas.List.Kept.{AllPairs-filter}
 use Rattle.spec_exact.specs.Fraction.{ℚ, 0ℚ, eq_ℚ}
 use Rattle.spec_exact.specs.Narrow.{IsNarrow}
@@ -20,7 +22,8 @@ joined n i xs ys h k below above =
       inside = All-append (λ e. e.0 < n) xs ys h.inside k.inside;
       ascending =
           AllPairs-append (λ d e. d.0 < e.0) xs ys h.ascending k.ascending
-          (All-weaker (λ d. d.0 < i) (λ d. All (λ e. d.0 < e.0) ys) (λ d l. All-weaker (λ e. i ≤ e.0) (λ e. d.0 < e.0) (λ e m. omega arith) ys above) xs below);
+          (All-weaker (λ d. d.0 < i) (λ d. All (λ e. d.0 < e.0) ys)
+          (λ d l. All-weaker (λ e. i ≤ e.0) (λ e. d.0 < e.0) (λ e m. omega arith) ys above) xs below);
       not_zero = All-append (λ e. e.1 ≢ 0ℚ) xs ys h.not_zero k.not_zero;
     }
 
@@ -39,11 +42,13 @@ differs v w e g = let h : eq_ℚ v w ≡ true = eq_test v w g in cc
 
 pub filtered_below : (i : ℕ) (es : List (ℕ × ℚ)) → All (λ e. e.0 < i) (filter (λ e. ltb e.0 i) es)
 filtered_below i es =
-    All-weaker (λ e. ltb e.0 i ≡ true) (λ e. e.0 < i) (λ e t. ltb-true e.0 i t) (filter (λ e. ltb e.0 i) es) (filter_passes (λ e. ltb e.0 i) es)
+    All-weaker (λ e. ltb e.0 i ≡ true) (λ e. e.0 < i) (λ e t. ltb-true e.0 i t)
+    (filter (λ e. ltb e.0 i) es) (filter_passes (λ e. ltb e.0 i) es)
 
 pub filtered_above : (i : ℕ) (es : List (ℕ × ℚ)) → All (λ e. i < e.0) (filter (λ e. ltb i e.0) es)
 filtered_above i es =
-    All-weaker (λ e. ltb i e.0 ≡ true) (λ e. i < e.0) (λ e t. ltb-true i e.0 t) (filter (λ e. ltb i e.0) es) (filter_passes (λ e. ltb i e.0) es)
+    All-weaker (λ e. ltb i e.0 ≡ true) (λ e. i < e.0) (λ e t. ltb-true i e.0 t)
+    (filter (λ e. ltb i e.0) es) (filter_passes (λ e. ltb i e.0) es)
 
 pub entry_if-row : (i : ℕ) (v : ℚ) → All (λ e. e.0 ≡ i) (entry_if i v)
 entry_if-row i v = by (eq_ℚ v 0ℚ)
@@ -57,7 +62,11 @@ entry_if-kept n i v l = by (eq_ℚ v 0ℚ) refl
   where
     by : (t : Bool) → eq_ℚ v 0ℚ ≡ t → AreEntries n (cond t [] ((i, v) ∷ []))
     by true e =
-        record { inside = All-nil (λ e. e.0 < n); ascending = λ i j d l k. absurd (omega arith); not_zero = All-nil (λ e. e.1 ≢ 0ℚ) }
+        record {
+          inside = All-nil (λ e. e.0 < n);
+          ascending = λ i j d l k. absurd (omega arith);
+          not_zero = All-nil (λ e. e.1 ≢ 0ℚ);
+        }
     by false e =
         record {
           inside = All-cons (λ e. e.0 < n) (i, v) [] l (All-nil (λ e. e.0 < n));
@@ -69,9 +78,12 @@ pub with_entry-kept : (n i : ℕ) (v : ℚ) (es : List (ℕ × ℚ)) → AreEntr
 unfolding with_entry
 with_entry-kept n i v es h l =
     joined n (suc i) (below ++ entry_if i v) above
-    (joined n i below (entry_if i v) (filtered n (λ e. ltb e.0 i) es h) (entry_if-kept n i v l) (filtered_below i es) (here (λ k. i ≤ k) (omega arith)))
+    (joined n i below (entry_if i v) (filtered n (λ e. ltb e.0 i) es h)
+    (entry_if-kept n i v l) (filtered_below i es) (here (λ k. i ≤ k) (omega arith)))
     (filtered n (λ e. ltb i e.0) es h)
-    (All-append (λ e. e.0 < suc i) below (entry_if i v) (All-weaker (λ e. e.0 < i) (λ e. e.0 < suc i) (λ e m. omega arith) below (filtered_below i es)) (here (λ k. k < suc i) (omega arith)))
+    (All-append (λ e. e.0 < suc i) below (entry_if i v)
+    (All-weaker (λ e. e.0 < i) (λ e. e.0 < suc i) (λ e m. omega arith) below (filtered_below i es))
+    (here (λ k. k < suc i) (omega arith)))
     (All-weaker (λ e. i < e.0) (λ e. suc i ≤ e.0) (λ e m. m) above (filtered_above i es))
   where
     below : List (ℕ × ℚ)
@@ -95,7 +107,8 @@ pub with_entry-narrow : (i : ℕ) (v : ℚ) (es : List (ℕ × ℚ)) → All (λ
 unfolding with_entry
 with_entry-narrow i v es h k =
     All-append (λ e. IsNarrow e.1) (filter (λ e. ltb e.0 i) es ++ entry_if i v) (filter (λ e. ltb i e.0) es)
-    (All-append (λ e. IsNarrow e.1) (filter (λ e. ltb e.0 i) es) (entry_if i v) (All-filter (λ e. ltb e.0 i) (λ e. IsNarrow e.1) es h) (entry_if-narrow i v k))
+    (All-append (λ e. IsNarrow e.1) (filter (λ e. ltb e.0 i) es) (entry_if i v)
+    (All-filter (λ e. ltb e.0 i) (λ e. IsNarrow e.1) es h) (entry_if-narrow i v k))
     (All-filter (λ e. ltb i e.0) (λ e. IsNarrow e.1) es h)
 
 -- ---- a row that is gone
@@ -122,10 +135,12 @@ unfolding without_entry
 without_entry-kept n i es h l =
     record {
       inside =
-          All-map (λ (e : ℕ × ℚ). e.0 < n - 1) moved others (λ k d m. renumbered-< n i _ (kept.inside k d m) (apart k d m) l);
+          All-map (λ (e : ℕ × ℚ). e.0 < n - 1) moved others
+          (λ k d m. renumbered-< n i _ (kept.inside k d m) (apart k d m) l);
       ascending =
           AllPairs-map (λ (d e : ℕ × ℚ). d.0 < e.0) moved others
-          (AllPairs-weaker (λ e. e.0 ≢ i) (λ d e. d.0 < e.0) (λ d e. renumbered i d.0 < renumbered i e.0) (λ d e p q m. renumbered-mono i d.0 e.0 p q m) others apart kept.ascending);
+          (AllPairs-weaker (λ e. e.0 ≢ i) (λ d e. d.0 < e.0) (λ d e. renumbered i d.0 < renumbered i e.0)
+          (λ d e p q m. renumbered-mono i d.0 e.0 p q m) others apart kept.ascending);
       not_zero = All-map (λ (e : ℕ × ℚ). e.1 ≢ 0ℚ) moved others kept.not_zero;
     }
   where

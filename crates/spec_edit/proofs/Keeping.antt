@@ -1,5 +1,6 @@
 -- Changes of a model that is kept leave one that may be kept.
-use Rattle.std.proofs.Common.{◌≡◌, ◌≢◌, ℕ, suc, ◌+◌, ◌-◌, ◌<◌, ◌≤◌, false, Option, List, [], ◌∷◌, ◌++◌, length, map, set, All, IfSome, IsTrue, refl, sym, ap, subst, arith, length-append}
+use Rattle.std.proofs.Common.{◌≡◌, ◌≢◌, ℕ, suc, ◌+◌, ◌-◌, ◌<◌, ◌≤◌, false, Option, List, [], ◌∷◌, ◌++◌, length}
+use Rattle.std.proofs.Common.{map, set, All, IfSome, IsTrue, refl, sym, ap, subst, arith, length-append}
 use Rattle.std.specs.List.{AllPairs, remove}
 use Rattle.std.proofs.lemmas.List.{map-append, length-set, length-map}
 use Rattle.std.proofs.lemmas.List.Edits.{length-remove}
@@ -8,12 +9,17 @@ use Rattle.std.proofs.lemmas.List.Quantifiers.{all_pairs_push, all_pairs_remove}
 use Rattle.spec_exact.specs.Fraction.{ℚ}
 use Rattle.spec_exact.specs.Narrow.{IsNarrow}
 use Rattle.spec_model.specs.declared.parts.Sense.{Sense}
-use Rattle.spec_model.specs.Model.{Model, Name, Limits, ExactRow, ExactColumn, no_row, no_column, width, height, row, column}
-use Rattle.spec_model.specs.Kept.{IsModel, IsKeptColumn, IsNarrowRow, IsNarrowColumn, is_row_name, row_limit, column_limit, row_names, column_names}
-use Rattle.spec_edit.specs.Changes.{with_row, with_column, changed_row, changed_column, without_entry, with_entry, without_row, without_column, with_cost, with_coefficient, with_bounds, with_rhs, with_range, with_offset, with_sense}
+use Rattle.spec_model.specs.Model.{Model, Name, Limits, ExactRow, ExactColumn}
+use Rattle.spec_model.specs.Model.{no_row, no_column, width, height, row, column}
+use Rattle.spec_model.specs.Kept.{IsModel, IsKeptColumn, IsNarrowRow, IsNarrowColumn}
+use Rattle.spec_model.specs.Kept.{is_row_name, row_limit, column_limit, row_names, column_names}
+use Rattle.spec_edit.specs.Changes.{with_row, with_column, changed_row, changed_column, without_entry}
+use Rattle.spec_edit.specs.Changes.{with_entry, without_row, without_column, with_cost, with_coefficient}
+use Rattle.spec_edit.specs.Changes.{with_bounds, with_rhs, with_range, with_offset, with_sense}
 use Rattle.spec_edit.specs.Edited.{IsKeptBound, is_row_taken, is_column_taken}
 use Rattle.spec_edit.proofs.ListLemmas.{All-remove, map-remove, map-map_unseen}
-pub use Rattle.spec_edit.proofs.EntryLemmas.{with_entry-kept, with_entry-narrow, without_entry-kept, without_entry-narrow}
+pub use Rattle.spec_edit.proofs.EntryLemmas.{with_entry-kept, with_entry-narrow}
+pub use Rattle.spec_edit.proofs.EntryLemmas.{without_entry-kept, without_entry-narrow}
 use Rattle.spec_edit.proofs.NameLemmas.{row_names-changed, column_names-changed, row_new, column_new}
 
 abbrev name_of_row : ExactRow → Name
@@ -53,7 +59,8 @@ with_row-kept m r k few named new narrow =
       objective = k.objective;
       rows = All-push (λ (r : ExactRow). IsTrue (is_row_name r.name)) m.rows r k.rows named;
       columns =
-          All-weaker (IsKeptColumn (length m.rows)) (IsKeptColumn (length (m.rows ++ r ∷ []))) (higher _ _ (omega arith)) m.columns k.columns;
+          All-weaker (IsKeptColumn (length m.rows)) (IsKeptColumn (length (m.rows ++ r ∷ [])))
+          (higher _ _ (omega arith)) m.columns k.columns;
       rows_distinct =
           subst Distinct (ap (λ names. m.objective ∷ names) (sym (map-append name_of_row m.rows (r ∷ []))))
           (all_pairs_push (λ x y. x ≢ y) (m.objective ∷ row_names m) r.name k.rows_distinct (row_new m r.name new));
@@ -110,16 +117,19 @@ without_row-kept m i k l =
       columns =
           subst (λ n. All (IsKeptColumn n) (map (lowered i) m.columns)) height_is
           (All-map (IsKeptColumn (length m.rows - 1)) (lowered i) m.columns
-          (All-weaker (IsKeptColumn (length m.rows)) (λ c. IsKeptColumn (length m.rows - 1) (lowered i c)) (lowered-kept (length m.rows) i l) m.columns k.columns));
+          (All-weaker (IsKeptColumn (length m.rows)) (λ c. IsKeptColumn (length m.rows - 1) (lowered i c))
+          (lowered-kept (length m.rows) i l) m.columns k.columns));
       rows_distinct =
           subst Distinct (ap (λ names. m.objective ∷ names) (sym (map-remove name_of_row m.rows i)))
-          (all_pairs_remove (λ x y. x ≢ y) (m.objective ∷ row_names m) (suc i) (omega (arith, length-map m.rows name_of_row)) k.rows_distinct);
+          (all_pairs_remove (λ x y. x ≢ y) (m.objective ∷ row_names m) (suc i)
+          (omega (arith, length-map m.rows name_of_row)) k.rows_distinct);
       columns_distinct =
           subst Distinct (sym (map-map_unseen name_of_column (lowered i) (λ c. refl) m.columns)) k.columns_distinct;
       offset = k.offset;
       narrow_rows = All-remove IsNarrowRow m.rows i k.narrow_rows;
       narrow_columns =
-          All-map IsNarrowColumn (lowered i) m.columns (All-weaker IsNarrowColumn (λ c. IsNarrowColumn (lowered i c)) (lowered-narrow i) m.columns k.narrow_columns);
+          All-map IsNarrowColumn (lowered i) m.columns
+          (All-weaker IsNarrowColumn (λ c. IsNarrowColumn (lowered i c)) (lowered-narrow i) m.columns k.narrow_columns);
     }
 
 pub without_column-kept : (m : Model) (j : ℕ) → IsModel m → j < width m → IsModel (without_column m j)
@@ -135,7 +145,8 @@ without_column-kept m j k l =
       rows_distinct = k.rows_distinct;
       columns_distinct =
           subst Distinct (sym (map-remove name_of_column m.columns j))
-          (all_pairs_remove (λ x y. x ≢ y) (column_names m) j (omega (arith, length-map m.columns name_of_column)) k.columns_distinct);
+          (all_pairs_remove (λ x y. x ≢ y) (column_names m) j
+          (omega (arith, length-map m.columns name_of_column)) k.columns_distinct);
       offset = k.offset;
       narrow_rows = k.narrow_rows;
       narrow_columns = All-remove IsNarrowColumn m.columns j k.narrow_columns;
@@ -153,7 +164,8 @@ changed_row-kept m i change k l named narrow =
       name = k.name;
       objective = k.objective;
       rows =
-          All-set (λ (r : ExactRow). IsTrue (is_row_name r.name)) m.rows i (change (row m i)) (subst (λ name. IsTrue (is_row_name name)) (sym named) (k.rows i no_row l)) k.rows;
+          All-set (λ (r : ExactRow). IsTrue (is_row_name r.name)) m.rows i (change (row m i))
+          (subst (λ name. IsTrue (is_row_name name)) (sym named) (k.rows i no_row l)) k.rows;
       columns = subst (λ n. All (IsKeptColumn n) m.columns) (sym long) k.columns;
       rows_distinct =
           subst (λ names. Distinct (m.objective ∷ names)) (sym (row_names-changed m i change l named)) k.rows_distinct;
@@ -167,7 +179,8 @@ pub changed_column-kept : (m : Model) (j : ℕ) (change : ExactColumn → ExactC
     (change (column m j)).name ≡ (column m j).name → IsKeptColumn (height m) (change (column m j)) →
     IsNarrowColumn (change (column m j)) → IsModel (changed_column change m j)
 changed_column-kept m j change k l named kept narrow =
-    let long : length (set m.columns j (change (column m j))) ≡ length m.columns = length-set m.columns j (change (column m j)) in
+    let long : length (set m.columns j (change (column m j))) ≡ length m.columns =
+    length-set m.columns j (change (column m j)) in
     record {
       few_rows = k.few_rows;
       few_columns = omega (arith, k.few_columns);
@@ -198,8 +211,18 @@ with_coefficient-kept m i j v k p q narrow =
     let c = k.columns j no_column q in
     let n = k.narrow_columns j no_column q in
     changed_column-kept m j (λ (c : ExactColumn). record c { entries = with_entry i v c.entries }) k q refl
-    (record { name = c.name; lower = c.lower; upper = c.upper; entries = with_entry-kept (height m) i v (column m j).entries c.entries p })
-    (record { cost = n.cost; lower = n.lower; upper = n.upper; entries = with_entry-narrow i v (column m j).entries n.entries narrow })
+    (record {
+      name = c.name;
+      lower = c.lower;
+      upper = c.upper;
+      entries = with_entry-kept (height m) i v (column m j).entries c.entries p;
+    })
+    (record {
+      cost = n.cost;
+      lower = n.lower;
+      upper = n.upper;
+      entries = with_entry-narrow i v (column m j).entries n.entries narrow;
+    })
 
 pub with_bounds-kept : (m : Model) (j : ℕ) (l : Limits) → IsModel m → j < width m → IsKeptBound l.lower →
     IsKeptBound l.upper → IsModel (with_bounds m j l)

@@ -1,5 +1,6 @@
 -- What holds of each element and of each pair, after a change of a list.
-use Rattle.std.proofs.Common.{◌≡◌, ℕ, suc, ◌<◌, List, [], ◌∷◌, ◌++◌, length, map, take, drop, set, get_or, All, refl, sym, ap, ap₂, ◌∙◌, arith}
+use Rattle.std.proofs.Common.{◌≡◌, ℕ, suc, ◌<◌, List, [], ◌∷◌, ◌++◌, length, map, take}
+use Rattle.std.proofs.Common.{drop, set, get_or, All, refl, sym, ap, ap₂, ◌∙◌, arith}
 use Rattle.std.specs.List.{AllPairs, remove}
 use Rattle.std.proofs.lemmas.List.{map-append, take-map, drop-map, map-set, set-get_or, get_or-map}
 use Rattle.std.proofs.lemmas.List.Elements.{All-append, All-head, All-tail, All-take, All-drop, All-map}

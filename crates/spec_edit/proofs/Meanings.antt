@@ -1,5 +1,6 @@
 -- What changes of a model mean, row by row, column by column and coefficient by coefficient.
-use Rattle.std.proofs.Common.{◌≡◌, ◌≢◌, ℕ, ◌+◌, ◌<◌, ◌≤◌, Bool, true, false, ◌&&◌, cond, eqb, ltb, set, get_or, refl, sym, ap, ap₂, ◌∙◌, arith, ⊎_elim}
+use Rattle.std.proofs.Common.{◌≡◌, ◌≢◌, ℕ, ◌+◌, ◌<◌, ◌≤◌, Bool, true, false, ◌&&◌, cond}
+use Rattle.std.proofs.Common.{eqb, ltb, set, get_or, refl, sym, ap, ap₂, ◌∙◌, arith, ⊎_elim}
 use borrow.Author.Tests.{ltb-true, ltb-false, eqb-true, eqb-false}
 use Rattle.std.proofs.Math.ListN.{get_or-map}
 use Rattle.std.proofs.lemmas.Bool.{cases_lt}
@@ -7,7 +8,8 @@ use Rattle.std.proofs.lemmas.List.{get_or-set_same, get_or-set_other, get_or_pas
 use Rattle.std.proofs.lemmas.List.Edits.{length-remove, get_or-remove_below, get_or-remove_above}
 use Rattle.std.proofs.lemmas.List.Elements.{All-weaker}
 use Rattle.spec_exact.specs.Fraction.{ℚ, 0ℚ}
-use Rattle.spec_model.specs.Model.{Model, ExactRow, ExactColumn, no_row, no_column, width, height, row, column, entry_of, coefficient}
+use Rattle.spec_model.specs.Model.{Model, ExactRow, ExactColumn, no_row, no_column}
+use Rattle.spec_model.specs.Model.{width, height, row, column, entry_of, coefficient}
 use Rattle.spec_model.specs.Kept.{IsModel}
 use Rattle.spec_edit.specs.Changes.{with_entry, without_entry, with_row, without_row}
 use Rattle.spec_edit.specs.Meaning.{skipping, IsWithCoefficient, IsWithoutRow}
@@ -31,14 +33,17 @@ with_coefficient-means m i j v l a b = by (eqb b j) refl
     changed = record (column m j) { entries = with_entry i v (column m j).entries }
 
     by : (t : Bool) → eqb b j ≡ t →
-        entry_of (get_or (set m.columns j changed) b no_column).entries a ≡ cond (eqb a i && eqb b j) v (coefficient m a b)
+        entry_of (get_or (set m.columns j changed) b no_column).entries a
+        ≡ cond (eqb a i && eqb b j) v (coefficient m a b)
     by true e =
         ap (λ k. entry_of (get_or (set m.columns j changed) k no_column).entries a) (eqb-true b j e)
         ∙ ap (λ (c : ExactColumn). entry_of c.entries a) (get_or-set_same m.columns j changed no_column l)
         ∙ entry_of-with_entry i v (column m j).entries a
-        ∙ sym (ap₂ (λ t k. cond t v (coefficient m a k)) (ap (λ t. eqb a i && t) e ∙ and_true (eqb a i)) (eqb-true b j e))
+        ∙ sym (ap₂ (λ t k. cond t v (coefficient m a k))
+        (ap (λ t. eqb a i && t) e ∙ and_true (eqb a i)) (eqb-true b j e))
     by false e =
-        ap (λ (c : ExactColumn). entry_of c.entries a) (get_or-set_other m.columns j b changed no_column (eqb-false b j e))
+        ap (λ (c : ExactColumn). entry_of c.entries a)
+        (get_or-set_other m.columns j b changed no_column (eqb-false b j e))
         ∙ sym (ap (λ t. cond t v (coefficient m a b)) (ap (λ t. eqb a i && t) e ∙ and_false (eqb a i)))
 
 -- ---- a row that is gone, and a new one
@@ -60,7 +65,8 @@ without_row-means m i l =
       height = sym (length-remove m.rows i l);
       rows = λ a. others m i a l;
       coefficients =
-          λ a j. ap (λ (c : ExactColumn). entry_of c.entries a) (column-lowered m i j) ∙ entry_of-without_entry i (column m j).entries a;
+          λ a j. ap (λ (c : ExactColumn). entry_of c.entries a) (column-lowered m i j)
+          ∙ entry_of-without_entry i (column m j).entries a;
     }
 
 pub new_coefficient : (m : Model) (r : ExactRow) (j : ℕ) → IsModel m → coefficient (with_row m r) (height m) j ≡ 0ℚ
@@ -69,7 +75,8 @@ new_coefficient m r j k = ⊎_elim known past (cases_lt j (width m))
     known : j < width m → entry_of (column m j).entries (height m) ≡ 0ℚ
     known l =
         none_at (height m) (column m j).entries
-        (All-weaker (λ e. e.0 < height m) (λ e. e.0 ≢ height m) (λ e p q. absurd (omega arith)) (column m j).entries (k.columns j no_column l).entries.inside)
+        (All-weaker (λ e. e.0 < height m) (λ e. e.0 ≢ height m) (λ e p q. absurd (omega arith))
+        (column m j).entries (k.columns j no_column l).entries.inside)
 
     past : width m ≤ j → entry_of (column m j).entries (height m) ≡ 0ℚ
     past l = ap (λ (c : ExactColumn). entry_of c.entries (height m)) (get_or_past m.columns j no_column l)

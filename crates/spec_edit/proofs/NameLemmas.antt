@@ -1,5 +1,6 @@
 -- Names that stand for a row or a column, and names that stand for none.
-use Rattle.std.proofs.Common.{◌≡◌, ◌≢◌, ℕ, suc, ◌<◌, ◌≤◌, Bool, true, false, cond, ltb, Some, None, List, [], ◌∷◌, length, get_or, All, refl, sym, ◌∙◌, arith, ⊎_elim}
+use Rattle.std.proofs.Common.{◌≡◌, ◌≢◌, ℕ, suc, ◌<◌, ◌≤◌, Bool, true, false, cond, ltb, Some, None}
+use Rattle.std.proofs.Common.{List, [], ◌∷◌, length, get_or, All, refl, sym, ◌∙◌, arith, ⊎_elim}
 use borrow.Author.Tests.{ltb-false}
 use Rattle.std.specs.Prelude.{is_some}
 use Rattle.std.specs.List.{position, position_or_len}
@@ -43,13 +44,15 @@ row_new m name h =
     let p = or_parts (same m.objective name) (is_some (row_place m name)) h in
     All-cons (λ x. x ≢ name) m.objective (row_names m) (same_false m.objective name p.0)
     (All-map (λ x. x ≢ name) (λ (r : ExactRow). r.name) m.rows
-    (All-weaker (λ (r : ExactRow). same r.name name ≡ false) (λ r. r.name ≢ name) (λ r. same_false r.name name) m.rows (position-None (λ (r : ExactRow). same r.name name) m.rows p.1)))
+    (All-weaker (λ (r : ExactRow). same r.name name ≡ false) (λ r. r.name ≢ name)
+    (λ r. same_false r.name name) m.rows (position-None (λ (r : ExactRow). same r.name name) m.rows p.1)))
 
 pub column_new : (m : Model) (name : Name) → is_column_taken m name ≡ false → All (λ x. x ≢ name) (column_names m)
 unfolding column_place
 column_new m name h =
     All-map (λ x. x ≢ name) (λ (c : ExactColumn). c.name) m.columns
-    (All-weaker (λ (c : ExactColumn). same c.name name ≡ false) (λ c. c.name ≢ name) (λ c. same_false c.name name) m.columns (position-None (λ (c : ExactColumn). same c.name name) m.columns h))
+    (All-weaker (λ (c : ExactColumn). same c.name name ≡ false) (λ c. c.name ≢ name)
+    (λ c. same_false c.name name) m.columns (position-None (λ (c : ExactColumn). same c.name name) m.columns h))
 
 -- ---- names that are known
 
@@ -68,11 +71,15 @@ column_known m name j h =
 
 -- a name is that of one row
 pub one_row : (m : Model) (i j : ℕ) → IsModel m → i < height m → j < height m → (row m i).name ≡ (row m j).name → i ≡ j
-one_row m i j k p q e = ⊎_elim (λ same. same) (⊎_elim (λ l. absurd (apart i j l p q e)) (λ l. absurd (apart j i l q p (sym e)))) (cases_order i j)
+one_row m i j k p q e =
+    ⊎_elim (λ same. same)
+    (⊎_elim (λ l. absurd (apart i j l p q e)) (λ l. absurd (apart j i l q p (sym e)))) (cases_order i j)
   where
     apart : (a b : ℕ) → a < b → a < height m → b < height m → (row m a).name ≡ (row m b).name → ⊥
     apart a b l p q e =
         let long : length (row_names m) ≡ height m = length-map m.rows (λ (r : ExactRow). r.name) in
-        let f : get_or (row_names m) a [] ≡ (row m a).name = get_or-map (λ (r : ExactRow). r.name) m.rows a no_row [] p in
-        let g : get_or (row_names m) b [] ≡ (row m b).name = get_or-map (λ (r : ExactRow). r.name) m.rows b no_row [] q in
+        let f : get_or (row_names m) a [] ≡ (row m a).name =
+        get_or-map (λ (r : ExactRow). r.name) m.rows a no_row [] p in
+        let g : get_or (row_names m) b [] ≡ (row m b).name =
+        get_or-map (λ (r : ExactRow). r.name) m.rows b no_row [] q in
         k.rows_distinct (suc a) (suc b) [] (omega arith) (omega arith) (f ∙ e ∙ sym g)

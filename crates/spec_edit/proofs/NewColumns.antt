@@ -1,5 +1,6 @@
 -- The entries of a new column stand in the order of their rows, and the column may be kept.
-use Rattle.std.proofs.Common.{◌≡◌, ℕ, ◌<◌, true, false, not, leb, Some, Ok, List, [], ◌∷◌, ◌++◌, All, IsTrue, subst, arith}
+use Rattle.std.proofs.Common.{◌≡◌, ℕ, ◌<◌, true, false, not, leb, Some, Ok}
+use Rattle.std.proofs.Common.{List, [], ◌∷◌, ◌++◌, All, IsTrue, subst, arith}
 use borrow.Author.Tests.{leb-false}
 use Rattle.std.proofs.lemmas.Bool.{not-false}
 use Rattle.std.proofs.lemmas.Int.{ints}
@@ -7,7 +8,8 @@ use Rattle.std.proofs.lemmas.List.Elements.{All-nil, All-head, All-tail}
 use Rattle.spec_exact.specs.Fraction.{ℚ, 0ℚ, whole}
 use Rattle.spec_exact.specs.Narrow.{IsNarrow}
 use Rattle.spec_model.specs.Model.{Model, Name, width, height}
-use Rattle.spec_model.specs.Kept.{IsModel, IsBound, IsKeptColumn, IsNarrowColumn, AreEntries, is_name, column_limit, row_place}
+use Rattle.spec_model.specs.Kept.{IsModel, IsBound, IsKeptColumn, IsNarrowColumn}
+use Rattle.spec_model.specs.Kept.{AreEntries, is_name, column_limit, row_place}
 use Rattle.spec_edit.specs.Changes.{with_entry, with_column}
 use Rattle.spec_edit.specs.Edited.{Pairs, row_named, is_given, entries_of, column_of, is_column_taken, new_column}
 use Rattle.spec_edit.proofs.NameLemmas.{row_known}
@@ -35,7 +37,8 @@ pub entries_of-kept : (m : Model) (before pairs : Pairs) (es out : List (ℕ × 
 entries_of-kept m before [] es out h k = subst (AreEntries (height m)) (same_ok es out h) k
 entries_of-kept m before (p ∷ pairs) es out h k =
     let s = puts_pair m before p pairs es out h in
-    entries_of-kept m (before ++ p ∷ []) pairs (with_entry s.place p.1 es) out s.rest (with_entry-kept (height m) s.place p.1 es k (row_known m p.0 s.place s.names).0)
+    entries_of-kept m (before ++ p ∷ []) pairs (with_entry s.place p.1 es) out s.rest
+    (with_entry-kept (height m) s.place p.1 es k (row_known m p.0 s.place s.names).0)
 
 pub entries_of-narrow : (m : Model) (before pairs : Pairs) (es out : List (ℕ × ℚ)) →
     entries_of m before pairs es ≡ Ok out → All (λ e. IsNarrow e.1) es → All (λ p. IsNarrow p.1) pairs →
@@ -59,7 +62,11 @@ zero_narrow = record { top = omega arith; bottom = omega arith }
 
 no_entries : (n : ℕ) → AreEntries n []
 no_entries n =
-    record { inside = All-nil (λ e. e.0 < n); ascending = λ i j d l k. absurd (omega arith); not_zero = λ k d l. absurd (omega arith) }
+    record {
+      inside = All-nil (λ e. e.0 < n);
+      ascending = λ i j d l k. absurd (omega arith);
+      not_zero = λ k d l. absurd (omega arith);
+    }
 
 pub column_of-kept : (n : ℕ) (name : Name) (cost : ℚ) (es : List (ℕ × ℚ)) → IsTrue (is_name name) → AreEntries n es →
     IsKeptColumn n (column_of name cost es)
@@ -101,5 +108,7 @@ new_column-kept m n name cost pairs k c narrow h =
     let s = new_column-ok m n name cost pairs h in
     subst IsModel s.model
     (with_column-kept m (column_of name cost s.entries) k s.few s.free
-    (column_of-kept (height m) name cost s.entries s.named (entries_of-kept m [] pairs [] s.entries s.given (no_entries (height m))))
-    (column_of-narrow name cost s.entries c (entries_of-narrow m [] pairs [] s.entries s.given (All-nil (λ e. IsNarrow e.1)) narrow)))
+    (column_of-kept (height m) name cost s.entries s.named
+    (entries_of-kept m [] pairs [] s.entries s.given (no_entries (height m))))
+    (column_of-narrow name cost s.entries c
+    (entries_of-narrow m [] pairs [] s.entries s.given (All-nil (λ e. IsNarrow e.1)) narrow)))

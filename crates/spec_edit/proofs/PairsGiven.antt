@@ -1,5 +1,6 @@
 -- A new column has in each row the number that its pairs give to the row's name.
-use Rattle.std.proofs.Common.{length-append, ◌≡◌, ℕ, ◌<◌, true, false, cond, eqb, Ok, List, [], ◌∷◌, ◌++◌, refl, sym, ap, ◌∙◌, ⊎_elim, eq-eqb, ne_eqb}
+use Rattle.std.proofs.Common.{length-append, ◌≡◌, ℕ, ◌<◌, true, false, cond, eqb, Ok, List}
+use Rattle.std.proofs.Common.{[], ◌∷◌, ◌++◌, refl, sym, ap, ◌∙◌, ⊎_elim, eq-eqb, ne_eqb}
 use Rattle.std.proofs.lemmas.Bool.{cases_eq, both_ways, false_from_ne_true, or_left, or_right}
 use Rattle.std.proofs.lemmas.List.{get_or_push}
 use Rattle.std.proofs.lemmas.List.Folds.{list_any-append}
@@ -29,12 +30,14 @@ given_or-zero name (p ∷ pairs) = ap (cond (same p.0 name) p.1) (given_or-zero 
 
 given_more : (name : Name) (before more : Pairs) → is_given name before ≡ true → is_given name (before ++ more) ≡ true
 given_more name before more h =
-    list_any-append (λ (p : Name × ℚ). same p.0 name) before more ∙ or_left (is_given name before) (is_given name more) h
+    list_any-append (λ (p : Name × ℚ). same p.0 name) before more
+    ∙ or_left (is_given name before) (is_given name more) h
 
 given_last : (name : Name) (before : Pairs) (p : Name × ℚ) → same p.0 name ≡ true →
     is_given name (before ++ p ∷ []) ≡ true
 given_last name before p h =
-    list_any-append (λ (p : Name × ℚ). same p.0 name) before (p ∷ []) ∙ or_right (is_given name before) (is_given name (p ∷ [])) (or_left (same p.0 name) false h)
+    list_any-append (λ (p : Name × ℚ). same p.0 name) before (p ∷ [])
+    ∙ or_right (is_given name before) (is_given name (p ∷ [])) (or_left (same p.0 name) false h)
 
 -- what was given before is not given once more
 not_again : (m : Model) (name : Name) (d : ℚ) (before pairs : Pairs) (es out : List (ℕ × ℚ)) →
@@ -43,13 +46,16 @@ not_again m name d before [] es out g h = refl
 not_again m name d before (p ∷ pairs) es out g h =
     let s = puts_pair m before p pairs es out h in
     let other : same p.0 name ≡ false = apart s.first in
-    let rest = not_again m name d (before ++ p ∷ []) pairs (with_entry s.place p.1 es) out (given_more name before (p ∷ []) g) s.rest in
+    let rest =
+    not_again m name d (before ++ p ∷ []) pairs (with_entry s.place p.1 es) out
+    (given_more name before (p ∷ []) g) s.rest in
     rw other rest
   where
     apart : is_given p.0 before ≡ false → same p.0 name ≡ false
     apart f =
         false_from_ne_true (same p.0 name)
-        (λ t. let e : is_given p.0 before ≡ true = ap (λ n. is_given n before) (same_true p.0 name t) ∙ g in both_ways _ f e)
+        (λ t. let e : is_given p.0 before ≡ true = ap (λ n. is_given n before) (same_true p.0 name t) ∙ g in
+        both_ways _ f e)
 
 -- ---- the entries
 
@@ -62,22 +68,28 @@ pairs_stand m k before (p ∷ pairs) es out h i l =
     let known = row_known m p.0 s.place s.names in
     let put = entry_of-with_entry s.place p.1 es i in
     let rest = pairs_stand m k (before ++ p ∷ []) pairs (with_entry s.place p.1 es) out s.rest i l in
-    rest ∙ ap (λ d. given_or d (row m i).name pairs) put ∙ ⊎_elim (here s.place known.1 s.rest) (there s.place known) (cases_eq i s.place)
+    rest ∙ ap (λ d. given_or d (row m i).name pairs) put
+    ∙ ⊎_elim (here s.place known.1 s.rest) (there s.place known) (cases_eq i s.place)
   where
     IsPut : ℕ → Type 0
     IsPut place =
-        given_or (cond (eqb i place) p.1 (entry_of es i)) (row m i).name pairs ≡ cond (same p.0 (row m i).name) p.1 (given_or (entry_of es i) (row m i).name pairs)
+        given_or (cond (eqb i place) p.1 (entry_of es i)) (row m i).name pairs
+        ≡ cond (same p.0 (row m i).name) p.1 (given_or (entry_of es i) (row m i).name pairs)
 
     here : (place : ℕ) → (row m place).name ≡ p.0 →
         entries_of m (before ++ p ∷ []) pairs (with_entry place p.1 es) ≡ Ok out → i ≡ place → IsPut place
     here place named rest e =
         let own : same p.0 (row m i).name ≡ true = ap (same p.0) (ap (λ a. (row m a).name) e ∙ named) ∙ same-refl p.0 in
-        let once = not_again m (row m i).name p.1 (before ++ p ∷ []) pairs (with_entry place p.1 es) out (given_last (row m i).name before p own) rest in
+        let once =
+        not_again m (row m i).name p.1 (before ++ p ∷ []) pairs
+        (with_entry place p.1 es) out (given_last (row m i).name before p own) rest in
         rw (eq-eqb i place e, own) once
 
     there : (place : ℕ) → (place < height m) × ((row m place).name ≡ p.0) → (i ≡ place → ⊥) → IsPut place
     there place known n =
-        let other : same p.0 (row m i).name ≡ false = false_from_ne_true (same p.0 (row m i).name) (λ t. n (one_row m i place k l known.0 (sym (same_true p.0 (row m i).name t) ∙ sym known.1))) in
+        let other : same p.0 (row m i).name ≡ false =
+        false_from_ne_true (same p.0 (row m i).name)
+        (λ t. n (one_row m i place k l known.0 (sym (same_true p.0 (row m i).name t) ∙ sym known.1))) in
         rw (ne_eqb i place n, other) refl
 
 -- ---- the column

@@ -45,13 +45,21 @@ pub at_row : (m n : Model) (name : Name) (change : ℕ → Model) → (row_named
     AtRow m n change
 at_row m n name change h =
     let a = step_ok (row_named m name) _ n h in
-    record { place = a.0; inside = (row_known m name a.0 (known_ok (row_place m name) name a.0 a.1)).0; model = same_ok (change a.0) n a.2 }
+    record {
+      place = a.0;
+      inside = (row_known m name a.0 (known_ok (row_place m name) name a.0 a.1)).0;
+      model = same_ok (change a.0) n a.2;
+    }
 
 pub at_column : (m n : Model) (name : Name) (change : ℕ → Model) → (column_named m name >>= λ j. Ok (change j)) ≡ Ok n →
     AtColumn m n change
 at_column m n name change h =
     let a = step_ok (column_named m name) _ n h in
-    record { place = a.0; inside = (column_known m name a.0 (known_ok (column_place m name) name a.0 a.1)).0; model = same_ok (change a.0) n a.2 }
+    record {
+      place = a.0;
+      inside = (column_known m name a.0 (known_ok (column_place m name) name a.0 a.1)).0;
+      model = same_ok (change a.0) n a.2;
+    }
 
 pub record AtEntry (m n : Model) (change : ℕ → ℕ → Model) : Type 0 where
   pub row : ℕ

@@ -43,7 +43,10 @@ without_entry i entries = map (λ e. (renumbered i e.0, e.1)) (filter (λ e. not
 
 abbrev pub without_row : Model → ℕ → Model
 without_row m i =
-    record m { rows = remove m.rows i; columns = map (λ (c : ExactColumn). record c { entries = without_entry i c.entries }) m.columns }
+    record m {
+      rows = remove m.rows i;
+      columns = map (λ (c : ExactColumn). record c { entries = without_entry i c.entries }) m.columns;
+    }
 
 abbrev pub without_column : Model → ℕ → Model
 without_column m j = record m { columns = remove m.columns j }

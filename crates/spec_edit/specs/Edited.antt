@@ -1,5 +1,6 @@
 -- The model after an edit, or why the edit is refused.
-use Rattle.std.specs.Prelude.{ℕ, ◌||◌, Bool, true, false, not, is_some, Option, Some, None, IfSome, Result, Ok, Err, List, [], ◌∷◌, ◌++◌, All, nat_le, if◌then◌else◌}
+use Rattle.std.specs.Prelude.{ℕ, ◌||◌, Bool, true, false, not, is_some, Option, Some, None, IfSome}
+use Rattle.std.specs.Prelude.{Result, Ok, Err, List, [], ◌∷◌, ◌++◌, All, nat_le, if◌then◌else◌}
 use Rattle.std.specs.List.{list_any}
 use Rattle.spec_text.specs.Words.{same}
 use Rattle.spec_exact.specs.Fraction.{ℚ, 0ℚ, neg_ℚ}
@@ -7,11 +8,13 @@ use Rattle.spec_exact.specs.Narrow.{IsNarrow}
 use Rattle.spec_model.specs.Model.{Model, Name, Limits, ExactRow, ExactColumn, width, height}
 use Rattle.spec_model.specs.Kept.{IsBound, is_name, is_row_name, row_limit, column_limit, row_place, column_place}
 use Rattle.spec_edit.specs.declared.edit.Edit.{Edit}
-use Rattle.spec_edit.specs.declared.edit.Edit.TheVariants.{AddRow, DelRow, AddCol, DelCol, SetCost, SetCoef, SetRhs, SetRange, SetBound, SetSense}
+use Rattle.spec_edit.specs.declared.edit.Edit.TheVariants.{AddRow, DelRow, AddCol, DelCol, SetCost}
+use Rattle.spec_edit.specs.declared.edit.Edit.TheVariants.{SetCoef, SetRhs, SetRange, SetBound, SetSense}
 use Rattle.spec_edit.specs.declared.edit.EditFault.{EditFault}
 use Rattle.spec_edit.specs.declared.edit.EditFault.TheVariants.{UnknownName, Taken, Limit, BadName, Repeated}
 use Rattle.spec_edit.specs.declared.edit.Which.TheVariants.{Rows, Columns}
-use Rattle.spec_edit.specs.Changes.{with_row, without_row, with_column, without_column, with_entry, with_cost, with_coefficient, with_bounds, with_rhs, with_range, with_offset, with_sense}
+use Rattle.spec_edit.specs.Changes.{with_row, without_row, with_column, without_column, with_entry, with_cost}
+use Rattle.spec_edit.specs.Changes.{with_coefficient, with_bounds, with_rhs, with_range, with_offset, with_sense}
 
 -- the pairs of a new column: a row's name and a number
 abbrev pub Pairs : Type 0

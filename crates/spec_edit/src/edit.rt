@@ -1,4 +1,5 @@
-// Edits of a model, over the type N of names, F of numbers, P of lists of pairs of a name and a number, and B of bounds.
+// Edits of a model, over the type N of names, F of numbers, P of lists of pairs of a name and a number,
+// and B of bounds.
 use spec_model::{Kind, Sense};
 use std::fmt::Debug;
 use thiserror::Error;

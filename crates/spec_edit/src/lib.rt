@@ -20,7 +20,8 @@ ghost use Rattle.spec_model.specs.Kept.{IsModel};
 ghost use Rattle.spec_model.specs.Model.{Model, Name, ExactRow, width, height, row, coefficient};
 ghost use Rattle.spec_edit.specs.Changes.{with_row};
 ghost use Rattle.spec_edit.specs.Edited.{ExactEdit, IsKeptEdit, Pairs, edited, new_column};
-ghost use Rattle.spec_edit.specs.Meaning.{IsWithCoefficient, IsWithoutRow, IsWithoutColumn, IsWithPairs, adds_or_removes, KeepsNames};
+ghost use Rattle.spec_edit.specs.Meaning.{IsWithCoefficient, IsWithoutRow, IsWithoutColumn};
+ghost use Rattle.spec_edit.specs.Meaning.{IsWithPairs, adds_or_removes, KeepsNames};
 
 pub use edit::{Edit, EditFault, Which};
 
@@ -35,12 +36,14 @@ pub fn changes_have_their_meaning()
     ensures without_row { (m : Model) (i : ℕ) → i < height m → IsWithoutRow m i }
     ensures without_column { (m : Model) (j : ℕ) → j < width m → IsWithoutColumn m j }
     ensures new_row { (m : Model) (r : ExactRow) → row (with_row m r) (height m) ≡ r }
-    ensures new_coefficients { (m : Model) (r : ExactRow) (j : ℕ) → IsModel m → coefficient (with_row m r) (height m) j ≡ 0ℚ }
+    ensures new_coefficients { (m : Model) (r : ExactRow) (j : ℕ) →
+        IsModel m → coefficient (with_row m r) (height m) j ≡ 0ℚ }
 {}
 
 /// A new column has in each row the number that its pairs give to the row's name, and 0 in the others.
 pub fn new_columns_have_their_pairs()
-    ensures { (m n : Model) (name : Name) (cost : ℚ) (pairs : Pairs) → IsModel m → new_column m name cost pairs ≡ Ok n → IsWithPairs m n pairs }
+    ensures { (m n : Model) (name : Name) (cost : ℚ) (pairs : Pairs) →
+        IsModel m → new_column m name cost pairs ≡ Ok n → IsWithPairs m n pairs }
 {}
 
 /// The names of the objective, the rows and the columns change only where a row or a column is added or removed.

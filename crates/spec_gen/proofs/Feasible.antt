@@ -1,5 +1,6 @@
 -- The point 0 is feasible in each generated model, and its values have an upper limit.
-use Rattle.std.proofs.Common.{◌≡◌, ℕ, zero, suc, ◌+◌, ◌%◌, ◌<◌, ◌≤◌, List, pos, refl, sym, ap, ◌∙◌, subst, subst₂, arith}
+use Rattle.std.proofs.Common.{◌≡◌, ℕ, zero, suc, ◌+◌, ◌%◌, ◌<◌, ◌≤◌, List}
+use Rattle.std.proofs.Common.{pos, refl, sym, ap, ◌∙◌, subst, subst₂, arith}
 use Rattle.std.specs.Prelude.{replicate}
 use Rattle.std.proofs.lemmas.Int.{ints}
 use Rattle.std.proofs.lemmas.List.{length-replicate}
@@ -11,10 +12,12 @@ use Rattle.spec_exact.proofs.Floor.{below_floor}
 use Rattle.spec_exact.proofs.Order.{≤ℚ_refl, ≤ℚ_trans, *ℚ_mono, <ℚ-le, clash_ℚ}
 use Rattle.spec_exact.proofs.Strict.{whole_least}
 use Rattle.spec_exact.proofs.Sums.{sum_below_none, sum_below_mono}
-use Rattle.spec_model.specs.Model.{Model, ExactRow, ExactColumn, no_row, no_column, width, height, row, column, bounds_of, limits_of, cost, coefficient, part, activity, cost_of, value_of}
+use Rattle.spec_model.specs.Model.{Model, ExactRow, ExactColumn, no_row, no_column, width, height, row, column}
+use Rattle.spec_model.specs.Model.{bounds_of, limits_of, cost, coefficient, part, activity, cost_of, value_of}
 use Rattle.spec_model.specs.Truth.{IsBetween, IsFeasible, IsUnbounded}
 use Rattle.spec_gen.specs.Draws.{next, draw, after}
-use Rattle.spec_gen.specs.Generated.{at_column, generated_column, generated_columns, generated_row, generated_rows, generated}
+use Rattle.spec_gen.specs.Generated.{at_column, generated_column, generated_columns}
+use Rattle.spec_gen.specs.Generated.{generated_row, generated_rows, generated}
 
 -- ---- the parts of a generated model, by their numbers
 

@@ -1,5 +1,6 @@
 -- Models that are made from a number, the seed: each number of a model is drawn at a state that follows from the seed.
-use Rattle.std.specs.Prelude.{ℕ, zero, suc, pos, ◌+◌, ◌%◌, ◌==◌, ◌++◌, Some, None, Bool, List, [], ◌∷◌, map, codes, decimal, if◌then◌else◌}
+use Rattle.std.specs.Prelude.{ℕ, zero, suc, pos, ◌+◌, ◌%◌, ◌==◌, ◌++◌, Some, None}
+use Rattle.std.specs.Prelude.{Bool, List, [], ◌∷◌, map, codes, decimal, if◌then◌else◌}
 use Rattle.std.specs.List.{range_with_len}
 use Rattle.spec_exact.specs.Fraction.{ℚ, 0ℚ, whole}
 use Rattle.spec_model.specs.declared.parts.Sense.TheVariants.{Max}

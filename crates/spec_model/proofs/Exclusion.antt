@@ -23,7 +23,8 @@ one_optimum m v w p q =
 -- a whole number below v
 below : (v : ℚ) → whole (neg_ℤ (pos (suc (floor (neg_ℚ v))))) ≤ℚ v
 below v =
-    subst₂ ◌≤ℚ◌ (neg-whole (pos (suc (floor (neg_ℚ v))))) (neg-neg v) (<ℚ-le _ _ (neg_strict _ _ (below_floor (neg_ℚ v))))
+    subst₂ ◌≤ℚ◌ (neg-whole (pos (suc (floor (neg_ℚ v)))))
+    (neg-neg v) (<ℚ-le _ _ (neg_strict _ _ (below_floor (neg_ℚ v))))
 
 -- a whole number, so that what is better than it is better than v
 past : (s : Sense) (v : ℚ) → (k : ℤ) × ((w : ℚ) → IsBetter s w (whole k) → IsBetter s w v)

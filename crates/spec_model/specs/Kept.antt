@@ -1,5 +1,6 @@
 -- What holds of each model that is kept.
-use Rattle.std.specs.Prelude.{ℕ, ◌<◌, ◌≤◌, ◌≢◌, ◌^◌, ◌&&◌, Bool, not, pos, List, ◌∷◌, length, map, nat_lt, nat_le, codes, All, AllPairs, IsTrue, Option, IfSome}
+use Rattle.std.specs.Prelude.{ℕ, ◌<◌, ◌≤◌, ◌≢◌, ◌^◌, ◌&&◌, Bool, not, pos, List, ◌∷◌, length}
+use Rattle.std.specs.Prelude.{map, nat_lt, nat_le, codes, All, AllPairs, IsTrue, Option, IfSome}
 use Rattle.std.specs.List.{list_all, position}
 use Rattle.spec_text.specs.Words.{same}
 use Rattle.spec_exact.specs.Fraction.{ℚ, 0ℚ, whole, abs_ℚ, ◌<ℚ◌}

@@ -12,7 +12,8 @@ use Rattle.spec_model.specs.declared.parts.Column.{Column}
 abbrev pub Name : Type 0
 Name = List ℕ
 
--- the rows and columns of a model: names are bytes, numbers are fractions, entries are pairs of a row's number and a coefficient
+-- the rows and columns of a model: names are bytes, numbers are fractions,
+-- entries are pairs of a row's number and a coefficient
 abbrev pub ExactRow : Type 0
 ExactRow = Row Name ℚ
 
