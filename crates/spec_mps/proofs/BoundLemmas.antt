@@ -1,14 +1,17 @@
 -- Bounds and their texts.
-use Rattle.std.proofs.Common.{◌≡◌, Bool, true, false, cond, not, Option, Some, None, List, ℕ, pos, ℤ, ◌*ℤ◌, ◌≤ℤ◌, ◌<ℤ◌, refl, sym, ap, ◌∙◌, subst, arith}
+use Rattle.std.proofs.Common.{◌≡◌, Bool, true, false, cond, not, Option, Some, None, List}
+use Rattle.std.proofs.Common.{ℕ, pos, ℤ, ◌*ℤ◌, ◌≤ℤ◌, ◌<ℤ◌, refl, sym, ap, ◌∙◌, subst, arith}
 use Rattle.std.specs.Prelude.{int_lt}
 use borrow.Author.Differences.{lt-true, lt-false, at_most_in, below_in, ints}
 use Rattle.spec_exact.specs.Fraction.{ℚ, 0ℚ, whole, neg_ℚ, abs_ℚ, lt_ℚ, ◌≤ℚ◌, ◌<ℚ◌}
 use Rattle.spec_exact.proofs.Order.{lt_if, lt_test, from_num, ≤ℚ_trans}
 use Rattle.spec_exact.proofs.Strict.{≤ℚ-<ℚ_trans, <ℚ-≤ℚ_trans, neg_mono, neg_strict}
 use Rattle.spec_exact.proofs.Ruleset.{neg-neg, neg-zero}
-use Rattle.spec_mps.specs.NumberText.{NumberParts, NumberReading, Is, Wide, parts_of, value_of, is_narrow, number_by, number_of, is_negative, without_sign}
+use Rattle.spec_mps.specs.NumberText.{NumberParts, NumberReading, Is, Wide, parts_of, value_of}
+use Rattle.spec_mps.specs.NumberText.{is_narrow, number_by, number_of, is_negative, without_sign}
 use Rattle.spec_mps.specs.NumberText as number
-use Rattle.spec_mps.specs.BoundText.{BoundReading, Finite, PlusInf, MinusInf, Shape, infinite, is_infinity, infinity, as_bound, bound_by_value, bound_by, bound_of}
+use Rattle.spec_mps.specs.BoundText.{BoundReading, Finite, PlusInf, MinusInf, Shape, infinite}
+use Rattle.spec_mps.specs.BoundText.{is_infinity, infinity, as_bound, bound_by_value, bound_by, bound_of}
 
 -- ---- magnitudes
 
@@ -47,7 +50,8 @@ within_from_abs limit q h = by (int_lt q.num (pos 0)) refl h
         let n = num_positive q e in
         record {
           above =
-              <ℚ-≤ℚ_trans (neg_ℚ limit) (neg_ℚ q) q (neg_strict _ _ h) (≤ℚ_trans (neg_ℚ q) 0ℚ q (positive_turned q n) n);
+              <ℚ-≤ℚ_trans (neg_ℚ limit) (neg_ℚ q) q (neg_strict _ _ h)
+              (≤ℚ_trans (neg_ℚ q) 0ℚ q (positive_turned q n) n);
           below = h;
         }
 
@@ -92,8 +96,10 @@ bound_is_within text q e = by (parts_of text) e
     by_word true false e = cc
     by_word false n e = cc
 
-    by_tests : (p : NumberParts) (s t : Bool) (r : NumberReading) → lt_ℚ (value_of p) infinite ≡ s → lt_ℚ (neg_ℚ infinite) (value_of p) ≡ t → number_by (Some p) ≡ r →
-        ◌≡◌ {A = BoundReading} (cond (not s) PlusInf (cond (not t) MinusInf (as_bound r))) (Finite q) → IsWithin infinite q
+    by_tests : (p : NumberParts) (s t : Bool) (r : NumberReading) → lt_ℚ (value_of p) infinite ≡ s →
+        lt_ℚ (neg_ℚ infinite) (value_of p) ≡ t → number_by (Some p) ≡ r →
+        ◌≡◌ {A = BoundReading} (cond (not s) PlusInf (cond (not t) MinusInf (as_bound r))) (Finite q) →
+        IsWithin infinite q
     by_tests p false t r es et er e = cc
     by_tests p true false r es et er e = cc
     by_tests p true true number.Shape es et er e = cc

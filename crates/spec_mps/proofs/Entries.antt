@@ -1,5 +1,6 @@
 -- The entries of a column that cards are read of.
-use Rattle.std.proofs.Common.{◌≡◌, ◌≢◌, ℕ, suc, ◌<◌, ◌≤◌, Bool, true, false, ◌||◌, cond, ltb, List, [], ◌∷◌, All, refl, sym, ap, ◌∙◌, arith, eq-eqb}
+use Rattle.std.proofs.Common.{◌≡◌, ◌≢◌, ℕ, suc, ◌<◌, ◌≤◌, Bool, true, false, ◌||◌, cond}
+use Rattle.std.proofs.Common.{ltb, List, [], ◌∷◌, All, refl, sym, ap, ◌∙◌, arith, eq-eqb}
 use borrow.Author.Tests.{ltb-true, ltb-false}
 use Rattle.std.specs.List.{AllPairs}
 use Rattle.std.proofs.lemmas.List.Elements.{All-nil, All-cons}
@@ -33,7 +34,12 @@ among_more t u paired h = by (same_target t u) (is_among t paired) h
 entry_more : (n low : ℕ) (u : Target) (paired : List Target) (e : ℕ × ℚ) → IsEntry n low paired e →
     IsEntry n low (u ∷ paired) e
 entry_more n low u paired e h =
-    record { above = h.above; inside = h.inside; not_zero = h.not_zero; known = among_more (target.Row e.0) u paired h.known }
+    record {
+      above = h.above;
+      inside = h.inside;
+      not_zero = h.not_zero;
+      known = among_more (target.Row e.0) u paired h.known;
+    }
 
 pub climbs_more : (n low : ℕ) (u : Target) (paired : List Target) (es : List (ℕ × ℚ)) → Climbs n low paired es →
     Climbs n low (u ∷ paired) es
@@ -67,14 +73,20 @@ pub climbs_put : (n low i : ℕ) (v : ℚ) (paired : List Target) (es : List (�
     is_among (target.Row i) paired ≡ false → Climbs n low paired es →
     Climbs n low (target.Row i ∷ paired) (put_entry i v es)
 climbs_put n low i v paired [] l k z p h = (record { above = l; inside = k; not_zero = z; known = itself i paired }, tt)
-climbs_put n low i v paired (e ∷ es) l k z p h = go (ltb i e.0) refl (λ m. climbs_put n (suc e.0) i v paired es m k z p h.1)
+climbs_put n low i v paired (e ∷ es) l k z p h =
+    go (ltb i e.0) refl (λ m. climbs_put n (suc e.0) i v paired es m k z p h.1)
   where
     here : IsEntry n low (target.Row i ∷ paired) (i, v)
     here = record { above = l; inside = k; not_zero = z; known = itself i paired }
 
     later : i < e.0 → IsEntry n (suc i) (target.Row i ∷ paired) e
     later m =
-        record { above = omega arith; inside = h.0.inside; not_zero = h.0.not_zero; known = among_more (target.Row e.0) (target.Row i) paired h.0.known }
+        record {
+          above = omega arith;
+          inside = h.0.inside;
+          not_zero = h.0.not_zero;
+          known = among_more (target.Row e.0) (target.Row i) paired h.0.known;
+        }
 
     go : (t : Bool) → ltb i e.0 ≡ t → (suc e.0 ≤ i → Climbs n (suc e.0) (target.Row i ∷ paired) (put_entry i v es)) →
         Climbs n low (target.Row i ∷ paired) (cond t ((i, v) ∷ e ∷ es) (e ∷ put_entry i v es))
@@ -96,7 +108,8 @@ not_zero_all n low paired (e ∷ es) h =
 above_all : (n low m : ℕ) (paired : List Target) (es : List (ℕ × ℚ)) → m < low → Climbs n low paired es →
     All (λ e. m < e.0) es
 above_all n low m paired [] l h = All-nil (λ e. m < e.0)
-above_all n low m paired (e ∷ es) l h = All-cons (λ e. m < e.0) e es (by h.0.above) (above_all n (suc e.0) m paired es (by2 h.0.above) h.1)
+above_all n low m paired (e ∷ es) l h =
+    All-cons (λ e. m < e.0) e es (by h.0.above) (above_all n (suc e.0) m paired es (by2 h.0.above) h.1)
   where
     by : low ≤ e.0 → m < e.0
     by k = omega arith
@@ -108,8 +121,13 @@ ascending_all : (n low : ℕ) (paired : List Target) (es : List (ℕ × ℚ)) �
     AllPairs (λ d e. d.0 < e.0) es
 ascending_all n low paired [] h = λ i j d l k. absurd (omega arith)
 ascending_all n low paired (e ∷ es) h =
-    AllPairs-cons (λ d e. d.0 < e.0) e es (above_all n (suc e.0) e.0 paired es (omega arith) h.1) (ascending_all n (suc e.0) paired es h.1)
+    AllPairs-cons (λ d e. d.0 < e.0) e es (above_all n (suc e.0) e.0 paired es (omega arith) h.1)
+    (ascending_all n (suc e.0) paired es h.1)
 
 pub climbs_entries : (n low : ℕ) (paired : List Target) (es : List (ℕ × ℚ)) → Climbs n low paired es → AreEntries n es
 climbs_entries n low paired es h =
-    record { inside = inside_all n low paired es h; ascending = ascending_all n low paired es h; not_zero = not_zero_all n low paired es h }
+    record {
+      inside = inside_all n low paired es h;
+      ascending = ascending_all n low paired es h;
+      not_zero = not_zero_all n low paired es h;
+    }

@@ -1,5 +1,6 @@
 -- Names that are distinct.
-use Rattle.std.proofs.Common.{◌≡◌, ◌≢◌, ℕ, suc, ◌+◌, Bool, true, false, ◌||◌, not, cond, ltb, Some, None, List, [], ◌∷◌, length, map, All, refl, arith}
+use Rattle.std.proofs.Common.{◌≡◌, ◌≢◌, ℕ, suc, ◌+◌, Bool, true, false, ◌||◌, not, cond}
+use Rattle.std.proofs.Common.{ltb, Some, None, List, [], ◌∷◌, length, map, All, refl, arith}
 use Rattle.std.specs.List.{list_any, position, prefix_len}
 use Rattle.std.proofs.lemmas.List.Elements.{All-nil, All-cons, All-map, All-weaker}
 use Rattle.std.proofs.lemmas.Bool.Decides.{nat_tests}
@@ -38,4 +39,5 @@ same_false xs ys h e = let t : same xs ys ≡ true = (same_is_equal xs ys).1 e i
 pub others : {X : Type 0} (f : X → List ℕ) (name : List ℕ) (xs : List X) → All (λ x. same (f x) name ≡ false) xs →
     All (λ n. n ≢ name) (map f xs)
 others f name xs h =
-    All-map (λ n. n ≢ name) f xs (All-weaker (λ x. same (f x) name ≡ false) (λ x. f x ≢ name) (λ x e. same_false (f x) name e) xs h)
+    All-map (λ n. n ≢ name) f xs
+    (All-weaker (λ x. same (f x) name ≡ false) (λ x. f x ≢ name) (λ x e. same_false (f x) name e) xs h)

@@ -1,5 +1,7 @@
 -- Each card keeps the numbers that were read so far within 127 bits.
-use Rattle.std.proofs.Common.{◌≡◌, ℕ, zero, suc, ◌+◌, Bool, true, false, ◌||◌, ◌&&◌, not, cond, ltb, Option, Some, None, is_none, option_map, Ok, List, [], ◌∷◌, ◌++◌, length, All, IfSome, refl, subst, codes, get_or}
+use Rattle.std.proofs.Common.{◌≡◌, ℕ, zero, suc, ◌+◌, Bool, true, false, ◌||◌, ◌&&◌, not}
+use Rattle.std.proofs.Common.{cond, ltb, Option, Some, None, is_none, option_map, Ok, List, []}
+use Rattle.std.proofs.Common.{◌∷◌, ◌++◌, length, All, IfSome, refl, subst, codes, get_or}
 use Rattle.std.specs.List.{list_any, position}
 use Rattle.std.proofs.lemmas.List.Elements.{All-nil, All-cons, All-head, All-tail, All-push}
 use Rattle.spec_text.specs.Words.{same}
@@ -27,9 +29,16 @@ use Rattle.spec_mps.specs.BoundText as bound
 use Rattle.spec_mps.specs.Fields.{Fields, text_at}
 use Rattle.spec_mps.specs.Checks.{◌>>=◌, must, coded}
 use Rattle.spec_mps.specs.Shapes.{row_type_of, bound_kind_of, shaped}
-use Rattle.spec_mps.specs.Reader.{State, start, place_of, number_in, is_among, new_row, is_first, with_row, add_row, rows_card, new_column, columns_with, whole_columns, is_open, opened, put_entry, with_number, enter, column_pair, pairs_of, column_pairs, column_by, marker_field, columns_card}
-use Rattle.spec_mps.specs.Sides.{SetAndPairs, set_and_pairs, is_used, changed_at, put_side, side_pair, side_pairs, rhs_by, rhs_card, ranged_row, put_range, range_pair, range_pairs, ranges_by, ranges_card}
-use Rattle.spec_mps.specs.Bounds.{BoundCard, SetsUpper, SetsLower, SetsBoth, upper_card, lower_card, both_card, bound_in, bound_card, is_negative, bounded, BoundTexts, bound_texts, with_bound, use_bound, bounds_card}
+use Rattle.spec_mps.specs.Reader.{State, start, place_of, number_in, is_among, new_row, is_first}
+use Rattle.spec_mps.specs.Reader.{with_row, add_row, rows_card, new_column, columns_with, whole_columns}
+use Rattle.spec_mps.specs.Reader.{is_open, opened, put_entry, with_number, enter, column_pair}
+use Rattle.spec_mps.specs.Reader.{pairs_of, column_pairs, column_by, marker_field, columns_card}
+use Rattle.spec_mps.specs.Sides.{SetAndPairs, set_and_pairs, is_used, changed_at, put_side}
+use Rattle.spec_mps.specs.Sides.{side_pair, side_pairs, rhs_by, rhs_card, ranged_row}
+use Rattle.spec_mps.specs.Sides.{put_range, range_pair, range_pairs, ranges_by, ranges_card}
+use Rattle.spec_mps.specs.Bounds.{BoundCard, SetsUpper, SetsLower, SetsBoth, upper_card, lower_card}
+use Rattle.spec_mps.specs.Bounds.{both_card, bound_in, bound_card, is_negative, bounded}
+use Rattle.spec_mps.specs.Bounds.{BoundTexts, bound_texts, with_bound, use_bound, bounds_card}
 use Rattle.spec_mps.proofs.CheckSteps.{step_ok, must_ok, need_ok, same_ok}
 use Rattle.spec_mps.proofs.NarrowNumbers.{zero_narrow, neg_narrow, number_narrow, bound_narrow}
 
@@ -60,7 +69,12 @@ with_row_narrow s Unlimited name h = go (is_none s.objective)
     go true = record { offset = h.offset; rows = h.rows; columns = h.columns; column = h.column }
     go false = record { offset = h.offset; rows = h.rows; columns = h.columns; column = h.column }
 with_row_narrow s (Limited kind) name h =
-    record { offset = h.offset; rows = All-push IsNarrowRow s.rows (new_row kind name) h.rows (record { rhs = zero_narrow; range = tt }); columns = h.columns; column = h.column }
+    record {
+      offset = h.offset;
+      rows = All-push IsNarrowRow s.rows (new_row kind name) h.rows (record { rhs = zero_narrow; range = tt });
+      columns = h.columns;
+      column = h.column;
+    }
 
 pub rows_card_narrow : (style : Style) (s : State) (fields : Fields) (t : State) → rows_card style s fields ≡ Ok t →
     AreNarrow s → AreNarrow t
@@ -97,7 +111,13 @@ unfolding opened
 opened_narrow s name t h narrow = go (is_open s.column name) h
   where
     go : (b : Bool) →
-        cond b (Ok s) (must (not (list_any (λ c. same c.name name) (whole_columns s))) code.ColumnTaken >>= λ _. must (ltb (length (whole_columns s)) 512) code.Limit >>= λ _. Ok (record s { columns = whole_columns s; column = Some (new_column name); lowered = s.lowered ++ false ∷ []; paired = [] })) ≡ Ok t →
+        cond b (Ok s) (must (not (list_any (λ c. same c.name name) (whole_columns s))) code.ColumnTaken >>=
+        λ _. must (ltb (length (whole_columns s)) 512) code.Limit >>= λ _. Ok (record s {
+          columns = whole_columns s;
+          column = Some (new_column name);
+          lowered = s.lowered ++ false ∷ [];
+          paired = [];
+        })) ≡ Ok t →
         AreNarrow t
     go true k = subst AreNarrow (same_ok s t k) narrow
     go false k =
@@ -109,7 +129,12 @@ opened_narrow s name t h narrow = go (is_open s.column name) h
           rows = narrow.rows;
           columns = whole_narrow s.columns s.column narrow.columns narrow.column;
           column =
-              record { cost = zero_narrow; lower = zero_narrow; upper = tt; entries = All-nil (λ (e : ℕ × ℚ). IsNarrow e.1) };
+              record {
+                cost = zero_narrow;
+                lower = zero_narrow;
+                upper = tt;
+                entries = All-nil (λ (e : ℕ × ℚ). IsNarrow e.1);
+              };
         })
 
 put_narrow : (i : ℕ) (v : ℚ) (es : List (ℕ × ℚ)) → IsNarrow v → All (λ e. IsNarrow e.1) es →
@@ -144,7 +169,12 @@ unfolding enter
 enter_narrow s Dropped v t n h narrow = subst AreNarrow (same_ok s t h) narrow
 enter_narrow s (Kept x) v t n h narrow =
     let a = must_ok (not (is_among x s.paired)) code.EntryRepeated _ t h in
-    subst AreNarrow (same_ok _ t a.1) (record { offset = narrow.offset; rows = narrow.rows; columns = narrow.columns; column = last_narrow s.column x v n narrow.column })
+    subst AreNarrow (same_ok _ t a.1) (record {
+      offset = narrow.offset;
+      rows = narrow.rows;
+      columns = narrow.columns;
+      column = last_narrow s.column x v n narrow.column;
+    })
 
 column_pair_narrow : (s : State) (name : Name) (text : List ℕ) (t : State) → column_pair s name text ≡ Ok t →
     AreNarrow s → AreNarrow t
@@ -185,14 +215,16 @@ unfolding put_side
 put_side_narrow s Dropped b t n h narrow = subst AreNarrow (same_ok s t h) narrow
 put_side_narrow s (Kept Objective) b t n h narrow =
     let a = must_ok (not (is_among Objective s.paired)) code.EntryRepeated _ t h in
-    subst AreNarrow (same_ok _ t a.1) (record { offset = neg_narrow b n; rows = narrow.rows; columns = narrow.columns; column = narrow.column })
+    subst AreNarrow (same_ok _ t a.1)
+    (record { offset = neg_narrow b n; rows = narrow.rows; columns = narrow.columns; column = narrow.column })
 put_side_narrow s (Kept (Row i)) b t n h narrow =
     let a = must_ok (not (is_among (Row i) s.paired)) code.EntryRepeated _ t h in
     subst AreNarrow (same_ok _ t a.1)
     (record {
       offset = narrow.offset;
       rows =
-          changed_all IsNarrowRow i (λ r. record r { rhs = b }) s.rows (λ r k. record { rhs = n; range = k.range }) narrow.rows;
+          changed_all IsNarrowRow i (λ r. record r { rhs = b }) s.rows
+          (λ r k. record { rhs = n; range = k.range }) narrow.rows;
       columns = narrow.columns;
       column = narrow.column;
     })
@@ -238,7 +270,8 @@ put_range_narrow s (Some i) v t n h narrow =
     (record {
       offset = narrow.offset;
       rows =
-          changed_all IsNarrowRow i (λ r. record r { range = Some v }) s.rows (λ r k. record { rhs = k.rhs; range = n }) narrow.rows;
+          changed_all IsNarrowRow i (λ r. record r { range = Some v }) s.rows
+          (λ r k. record { rhs = k.rhs; range = n }) narrow.rows;
       columns = narrow.columns;
       column = narrow.column;
     })
@@ -346,7 +379,8 @@ with_bound_narrow s place card n narrow =
       offset = narrow.offset;
       rows = narrow.rows;
       columns =
-          changed_all IsNarrowColumn place (bounded lowered card) s.columns (λ c k. bounded_narrow lowered card c n k) narrow.columns;
+          changed_all IsNarrowColumn place (bounded lowered card) s.columns
+          (λ c k. bounded_narrow lowered card c n k) narrow.columns;
       column = narrow.column;
     }
 
@@ -356,7 +390,8 @@ unfolding use_bound
 use_bound_narrow s kind texts t h narrow =
     let a = need_ok (position (λ c. same c.name texts.column) s.columns) code.UnknownColumn _ t h in
     let b = step_ok (bound_card kind texts.value) _ t a.2 in
-    subst AreNarrow (same_ok _ t b.2) (with_bound_narrow _ a.0 b.0 (card_narrow kind texts.value b.0 b.1) (with_set s texts.set narrow))
+    subst AreNarrow (same_ok _ t b.2)
+    (with_bound_narrow _ a.0 b.0 (card_narrow kind texts.value b.0 b.1) (with_set s texts.set narrow))
 
 pub bounds_card_narrow : (style : Style) (s : State) (fields : Fields) (t : State) → bounds_card style s fields ≡ Ok t →
     AreNarrow s → AreNarrow t

@@ -1,5 +1,6 @@
 -- Numbers that texts are read as are of 127 bits.
-use Rattle.std.proofs.Common.{◌≡◌, ℕ, zero, suc, ◌*◌, ◌/◌, ◌^◌, ◌≤◌, Bool, true, false, cond, not, Option, Some, None, List, ℤ, pos, negsuc, int_div, unsigned_abs, refl, sym, ap, subst, arith}
+use Rattle.std.proofs.Common.{◌≡◌, ℕ, zero, suc, ◌*◌, ◌/◌, ◌^◌, ◌≤◌, Bool, true, false, cond, not, Option, Some}
+use Rattle.std.proofs.Common.{None, List, ℤ, pos, negsuc, int_div, unsigned_abs, refl, sym, ap, subst, arith}
 use Rattle.std.specs.Prelude.{nat_le}
 use Rattle.std.proofs.Math.Nat.{div-le_self}
 use borrow.Author.Tests.{leb-true}
@@ -7,9 +8,11 @@ use Rattle.spec_exact.specs.Fraction.{ℚ, 0ℚ, whole, over, neg_ℚ, lt_ℚ}
 use Rattle.spec_exact.specs.Gcd.{gcd}
 use Rattle.spec_exact.specs.Narrow.{IsNarrow, widest}
 use Rattle.spec_exact.specs.Quotients.{abs-int_div, abs-neg_ℤ}
-use Rattle.spec_mps.specs.NumberText.{NumberParts, Decimal, Quotient, NumberReading, Is, Wide, signed, parts_of, value_of, is_narrow, number_by, number_of, is_negative, without_sign}
+use Rattle.spec_mps.specs.NumberText.{NumberParts, Decimal, Quotient, NumberReading, Is, Wide, signed, parts_of}
+use Rattle.spec_mps.specs.NumberText.{value_of, is_narrow, number_by, number_of, is_negative, without_sign}
 use Rattle.spec_mps.specs.NumberText as number
-use Rattle.spec_mps.specs.BoundText.{BoundReading, Finite, PlusInf, MinusInf, Shape, infinite, is_infinity, infinity, as_bound, bound_by_value, bound_by, bound_of}
+use Rattle.spec_mps.specs.BoundText.{BoundReading, Finite, PlusInf, MinusInf, Shape, infinite}
+use Rattle.spec_mps.specs.BoundText.{is_infinity, infinity, as_bound, bound_by_value, bound_by, bound_of}
 use Rattle.spec_mps.proofs.Steps.{both}
 use Rattle.spec_mps.proofs.RoundTrip.{zero_value}
 
@@ -55,7 +58,8 @@ value_narrow (Decimal negative (suc s) (pos e)) h =
     whole_narrow (signed negative (suc s * 10 ^ e)) (signed_narrow negative (suc s * 10 ^ e) h)
 value_narrow (Decimal negative (suc s) (negsuc e)) h =
     let p = both (nat_le (suc s) widest) (nat_le (10 ^ suc e) widest) h in
-    over_narrow (signed negative (suc s)) (10 ^ suc e) (signed_narrow negative (suc s) p.0) (leb-true (10 ^ suc e) widest p.1)
+    over_narrow (signed negative (suc s)) (10 ^ suc e)
+    (signed_narrow negative (suc s) p.0) (leb-true (10 ^ suc e) widest p.1)
 value_narrow (Quotient negative top bottom) h =
     let p = both (nat_le top widest) (nat_le bottom widest) h in
     over_narrow (signed negative top) bottom (signed_narrow negative top p.0) (leb-true bottom widest p.1)

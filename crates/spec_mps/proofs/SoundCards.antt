@@ -1,5 +1,7 @@
 -- Each card keeps what was read so far as a model has it.
-use Rattle.std.proofs.Common.{◌≡◌, ◌≢◌, ℕ, zero, suc, ◌+◌, ◌<◌, ◌≤◌, Bool, true, false, ◌||◌, not, cond, ltb, Option, Some, None, is_none, Ok, List, [], ◌∷◌, ◌++◌, length, map, All, refl, sym, ap, subst, arith, get_or, length-append, codes}
+use Rattle.std.proofs.Common.{◌≡◌, ◌≢◌, ℕ, zero, suc, ◌+◌, ◌<◌, ◌≤◌, Bool, true, false, ◌||◌, not}
+use Rattle.std.proofs.Common.{cond, ltb, Option, Some, None, is_none, Ok, List, [], ◌∷◌, ◌++◌, length}
+use Rattle.std.proofs.Common.{map, All, refl, sym, ap, subst, arith, get_or, length-append, codes}
 use borrow.Author.Tests.{ltb-true}
 use Rattle.std.specs.List.{list_any, position}
 use Rattle.std.specs.Option.{option_to_list}
@@ -28,15 +30,21 @@ use Rattle.spec_mps.specs.BoundText as bound
 use Rattle.spec_mps.specs.Fields.{Fields, text_at}
 use Rattle.spec_mps.specs.Checks.{◌>>=◌, must, coded}
 use Rattle.spec_mps.specs.Shapes.{row_type_of, bound_kind_of, shaped}
-use Rattle.spec_mps.specs.Reader.{State, is_objective, row_at, place_of, number_in, is_among, new_row, is_first, with_row, add_row, rows_card, new_column, whole_columns, is_open, opened, enter, column_pair, pairs_of, column_pairs, column_by, marker_field, columns_card}
-use Rattle.spec_mps.specs.Sides.{SetAndPairs, set_and_pairs, is_used, changed_at, put_side, side_pair, side_pairs, rhs_by, rhs_card, ranged_row, put_range, range_pair, range_pairs, ranges_by, ranges_card}
-use Rattle.spec_mps.specs.Bounds.{BoundCard, SetsUpper, SetsLower, SetsBoth, upper_card, lower_card, both_card, bound_in, bound_card, BoundTexts, bound_texts, with_bound, use_bound, bounds_card}
+use Rattle.spec_mps.specs.Reader.{State, is_objective, row_at, place_of, number_in, is_among, new_row, is_first}
+use Rattle.spec_mps.specs.Reader.{with_row, add_row, rows_card, new_column, whole_columns, is_open, opened, enter}
+use Rattle.spec_mps.specs.Reader.{column_pair, pairs_of, column_pairs, column_by, marker_field, columns_card}
+use Rattle.spec_mps.specs.Sides.{SetAndPairs, set_and_pairs, is_used, changed_at, put_side}
+use Rattle.spec_mps.specs.Sides.{side_pair, side_pairs, rhs_by, rhs_card, ranged_row}
+use Rattle.spec_mps.specs.Sides.{put_range, range_pair, range_pairs, ranges_by, ranges_card}
+use Rattle.spec_mps.specs.Bounds.{BoundCard, SetsUpper, SetsLower, SetsBoth, upper_card, lower_card, both_card}
+use Rattle.spec_mps.specs.Bounds.{bound_in, bound_card, BoundTexts, bound_texts, with_bound, use_bound, bounds_card}
 use Rattle.spec_mps.proofs.BoundLemmas.{bound_is_within, abs_from_within}
 use Rattle.spec_mps.proofs.Steps.{negated, none_if}
 use Rattle.spec_mps.proofs.Names.{same_false, none_pass, nowhere, others}
 use Rattle.spec_mps.proofs.CheckSteps.{step_ok, must_ok, need_ok, same_ok, same_some}
 use Rattle.spec_mps.proofs.SoundRows.{SoundRows, with_objective, push_row}
-use Rattle.spec_mps.proofs.SoundColumns.{SoundColumns, IsInside, IsSmall, more_rows, more_paired, closed, with_new, with_pair, with_bounds}
+use Rattle.spec_mps.proofs.SoundColumns.{SoundColumns, IsInside, IsSmall, more_rows}
+use Rattle.spec_mps.proofs.SoundColumns.{more_paired, closed, with_new, with_pair, with_bounds}
 
 abbrev pub row_names : List ExactRow → List Name
 row_names rows = map (λ r. r.name) rows
@@ -65,8 +73,11 @@ free_name : (s : State) (name : Name) → place_of s name ≡ None →
     All (λ n. n ≢ name) (option_to_list s.objective ++ row_names s.rows)
 unfolding place_of
 free_name s name h =
-    let u = untaken (is_objective s.objective name) (list_any (same name) s.dropped) (position (λ r. same r.name name) s.rows) h in
-    beside_objective s.objective (row_names s.rows) name u.0 (others (λ (r : ExactRow). r.name) name s.rows (nowhere (λ (r : ExactRow). same r.name name) s.rows u.1))
+    let u =
+    untaken (is_objective s.objective name) (list_any (same name) s.dropped)
+    (position (λ r. same r.name name) s.rows) h in
+    beside_objective s.objective (row_names s.rows) name u.0
+    (others (λ (r : ExactRow). r.name) name s.rows (nowhere (λ (r : ExactRow). same r.name name) s.rows u.1))
 
 abbrev IsKeptInside : ℕ → Place → Type 0
 IsKeptInside n Dropped = Unit {0}
@@ -77,7 +88,12 @@ place_inside : (s : State) (name : Name) (place : Place) → place_of s name ≡
     IsKeptInside (length (row_names s.rows)) place
 unfolding place_of
 place_inside s name place h =
-    go (is_objective s.objective name) (list_any (same name) s.dropped) (position (λ r. same r.name name) s.rows) (λ i k. omega (arith, (position-Some (λ (r : ExactRow). same r.name name) s.rows i no_row k).0, length-map s.rows (λ (r : ExactRow). r.name))) h
+    go (is_objective s.objective name) (list_any (same name) s.dropped)
+    (position (λ r. same r.name name) s.rows) (λ i k. omega (
+      arith,
+      (position-Some (λ (r : ExactRow). same r.name name) s.rows i no_row k).0,
+      length-map s.rows (λ (r : ExactRow). r.name),
+    )) h
   where
     go : (t u : Bool) (o : Option ℕ) → ((i : ℕ) → o ≡ Some i → i < length (row_names s.rows)) →
         cond t (Some (Kept Objective)) (cond u (Some Dropped) (row_at o)) ≡ Some place →
@@ -101,17 +117,22 @@ with_row_sound s Unlimited name t n few sound = go (is_none s.objective) refl
         let f = subst (λ o. All (λ n. n ≢ name) (option_to_list o ++ row_names s.rows)) none (free_name s name n) in
         record {
           rows =
-              with_objective s.name (row_names s.rows) name t f (subst (λ o. SoundRows s.name o (row_names s.rows)) none sound.rows);
+              with_objective s.name (row_names s.rows) name t f
+              (subst (λ o. SoundRows s.name o (row_names s.rows)) none sound.rows);
           columns = sound.columns;
         }
     go false e = record { rows = sound.rows; columns = sound.columns }
 with_row_sound s (Limited kind) name t n few sound =
-    let less : length (row_names s.rows) < 256 = omega (arith, ltb-true _ _ few, length-map s.rows (λ (r : ExactRow). r.name)) in
-    let e : row_names (s.rows ++ new_row kind name ∷ []) ≡ row_names s.rows ++ name ∷ [] = map-append (λ (r : ExactRow). r.name) s.rows (new_row kind name ∷ []) in
-    let longer : length (row_names s.rows) ≤ length (row_names (s.rows ++ new_row kind name ∷ [])) = omega (arith, ap length e, length-append (row_names s.rows) (name ∷ [])) in
+    let less : length (row_names s.rows) < 256 =
+    omega (arith, ltb-true _ _ few, length-map s.rows (λ (r : ExactRow). r.name)) in
+    let e : row_names (s.rows ++ new_row kind name ∷ []) ≡ row_names s.rows ++ name ∷ [] =
+    map-append (λ (r : ExactRow). r.name) s.rows (new_row kind name ∷ []) in
+    let longer : length (row_names s.rows) ≤ length (row_names (s.rows ++ new_row kind name ∷ [])) =
+    omega (arith, ap length e, length-append (row_names s.rows) (name ∷ [])) in
     record {
       rows =
-          subst (SoundRows s.name s.objective) (sym e) (push_row s.name s.objective (row_names s.rows) name t less (free_name s name n) sound.rows);
+          subst (SoundRows s.name s.objective) (sym e)
+          (push_row s.name s.objective (row_names s.rows) name t less (free_name s name n) sound.rows);
       columns = more_rows _ _ s.columns s.column s.paired longer sound.columns;
     }
 
@@ -140,18 +161,27 @@ unfolding opened
 opened_sound s name t named h sound = go (is_open s.column name) h
   where
     go : (b : Bool) →
-        cond b (Ok s) (must (not (list_any (λ c. same c.name name) (whole_columns s))) code.ColumnTaken >>= λ _. must (ltb (length (whole_columns s)) 512) code.Limit >>= λ _. Ok (record s { columns = whole_columns s; column = Some (new_column name); lowered = s.lowered ++ false ∷ []; paired = [] })) ≡ Ok t →
+        cond b (Ok s) (must (not (list_any (λ c. same c.name name) (whole_columns s))) code.ColumnTaken >>=
+        λ _. must (ltb (length (whole_columns s)) 512) code.Limit >>= λ _. Ok (record s {
+          columns = whole_columns s;
+          column = Some (new_column name);
+          lowered = s.lowered ++ false ∷ [];
+          paired = [];
+        })) ≡ Ok t →
         IsSound t
     go true k = subst IsSound (same_ok s t k) sound
     go false k =
         let a = must_ok (not (list_any (λ c. same c.name name) (whole_columns s))) code.ColumnTaken _ t k in
         let b = must_ok (ltb (length (whole_columns s)) 512) code.Limit _ t a.1 in
-        let f = others (λ (c : ExactColumn). c.name) name (whole_columns s) (none_pass (λ (c : ExactColumn). same c.name name) (whole_columns s) (negated _ a.0)) in
+        let f =
+        others (λ (c : ExactColumn). c.name) name (whole_columns s)
+        (none_pass (λ (c : ExactColumn). same c.name name) (whole_columns s) (negated _ a.0)) in
         subst IsSound (same_ok _ t b.1)
         (record {
           rows = sound.rows;
           columns =
-              with_new (length (row_names s.rows)) (whole_columns s) name named f (ltb-true _ _ b.0) (closed (length (row_names s.rows)) s.columns s.column s.paired sound.columns);
+              with_new (length (row_names s.rows)) (whole_columns s) name named f (ltb-true _ _ b.0)
+              (closed (length (row_names s.rows)) s.columns s.column s.paired sound.columns);
         })
 
 enter_sound : (s : State) (place : Place) (v : ℚ) (t : State) → IsKeptInside (length (row_names s.rows)) place →
@@ -213,7 +243,8 @@ row_sound s t i change same_name sound =
     record {
       rows = subst (SoundRows s.name s.objective) (sym e) sound.rows;
       columns =
-          subst (λ names. SoundColumns (length names) s.columns s.column (t ∷ s.paired)) (sym e) (more_paired (length (row_names s.rows)) t s.columns s.column s.paired sound.columns);
+          subst (λ names. SoundColumns (length names) s.columns s.column (t ∷ s.paired)) (sym e)
+          (more_paired (length (row_names s.rows)) t s.columns s.column s.paired sound.columns);
     }
 
 put_side_sound : (s : State) (place : Place) (b : ℚ) (t : State) → put_side s place b ≡ Ok t → IsSound s → IsSound t
@@ -222,7 +253,10 @@ put_side_sound s Dropped b t h sound = subst IsSound (same_ok s t h) sound
 put_side_sound s (Kept Objective) b t h sound =
     let a = must_ok (not (is_among Objective s.paired)) code.EntryRepeated _ t h in
     subst IsSound (same_ok _ t a.1)
-    (record { rows = sound.rows; columns = more_paired (length (row_names s.rows)) Objective s.columns s.column s.paired sound.columns })
+    (record {
+      rows = sound.rows;
+      columns = more_paired (length (row_names s.rows)) Objective s.columns s.column s.paired sound.columns;
+    })
 put_side_sound s (Kept (Row i)) b t h sound =
     let a = must_ok (not (is_among (Row i) s.paired)) code.EntryRepeated _ t h in
     subst IsSound (same_ok _ t a.1) (row_sound s (Row i) i (λ r. record r { rhs = b }) (λ r. refl) sound)
@@ -350,7 +384,8 @@ with_bound_sound s place card small sound =
     record {
       rows = sound.rows;
       columns =
-          with_bounds (length (row_names s.rows)) place (get_or s.lowered place false) card s.columns s.column s.paired small sound.columns;
+          with_bounds (length (row_names s.rows)) place
+          (get_or s.lowered place false) card s.columns s.column s.paired small sound.columns;
     }
 
 use_bound_sound : (s : State) (kind : BoundKind) (texts : BoundTexts) (t : State) → use_bound s kind texts ≡ Ok t →
@@ -359,7 +394,8 @@ unfolding use_bound
 use_bound_sound s kind texts t h sound =
     let a = need_ok (position (λ c. same c.name texts.column) s.columns) code.UnknownColumn _ t h in
     let b = step_ok (bound_card kind texts.value) _ t a.2 in
-    subst IsSound (same_ok _ t b.2) (with_bound_sound _ a.0 b.0 (card_small kind texts.value b.0 b.1) (with_set s texts.set sound))
+    subst IsSound (same_ok _ t b.2)
+    (with_bound_sound _ a.0 b.0 (card_small kind texts.value b.0 b.1) (with_set s texts.set sound))
 
 pub bounds_card_sound : (style : Style) (s : State) (fields : Fields) (t : State) → bounds_card style s fields ≡ Ok t →
     IsSound s → IsSound t

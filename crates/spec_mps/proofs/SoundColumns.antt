@@ -1,5 +1,7 @@
 -- The columns of a text so far, as a model has them.
-use Rattle.std.proofs.Common.{◌≡◌, ◌≢◌, ℕ, zero, suc, ◌<◌, ◌≤◌, Bool, true, false, ◌&&◌, not, cond, Option, Some, None, option_map, List, [], ◌∷◌, ◌++◌, length, map, All, IfSome, IsTrue, refl, sym, ap, ◌∙◌, subst, arith, length-append}
+use Rattle.std.proofs.Common.{◌≡◌, ◌≢◌, ℕ, zero, suc, ◌<◌, ◌≤◌, Bool, true, false, ◌&&◌, not, cond}
+use Rattle.std.proofs.Common.{Option, Some, None, option_map, List, [], ◌∷◌, ◌++◌, length, map}
+use Rattle.std.proofs.Common.{All, IfSome, IsTrue, refl, sym, ap, ◌∙◌, subst, arith, length-append}
 use Rattle.std.specs.List.{AllPairs}
 use Rattle.std.proofs.lemmas.List.{map-append, length-map}
 use Rattle.std.proofs.lemmas.List.Elements.{All-nil, All-cons, All-head, All-tail, All-push, All-weaker}
@@ -27,7 +29,8 @@ pub record IsOpen (n : ℕ) (paired : List Target) (c : ExactColumn) : Type 0 wh
   pub entries : Climbs n 0 paired c.entries
 
 -- columns over n rows
-pub record SoundColumns (n : ℕ) (columns : List ExactColumn) (column : Option ExactColumn) (paired : List Target) : Type 0 where
+pub record SoundColumns (n : ℕ) (columns : List ExactColumn)
+    (column : Option ExactColumn) (paired : List Target) : Type 0 where
   pub few : length (column_names (columns_with columns column)) ≤ 512
   pub distinct : AllPairs (λ x y. x ≢ y) (column_names (columns_with columns column))
   pub each : All (IsKeptColumn n) columns
@@ -35,7 +38,12 @@ pub record SoundColumns (n : ℕ) (columns : List ExactColumn) (column : Option 
 
 pub no_columns : SoundColumns 0 [] None []
 no_columns =
-    record { few = omega arith; distinct = λ i j d l k. absurd (omega arith); each = All-nil (IsKeptColumn 0); last = tt }
+    record {
+      few = omega arith;
+      distinct = λ i j d l k. absurd (omega arith);
+      each = All-nil (IsKeptColumn 0);
+      last = tt;
+    }
 
 -- ---- more rows, and more numbers
 
@@ -56,7 +64,12 @@ open_higher : (n m : ℕ) (paired : List Target) (column : Option ExactColumn) �
     IfSome column (IsOpen m paired)
 open_higher n m paired None l h = h
 open_higher n m paired (Some c) l h =
-    record { name = h.name; lower = h.lower; upper = h.upper; entries = climbs_higher n m 0 paired c.entries l h.entries }
+    record {
+      name = h.name;
+      lower = h.lower;
+      upper = h.upper;
+      entries = climbs_higher n m 0 paired c.entries l h.entries;
+    }
 
 pub more_rows : (n m : ℕ) (columns : List ExactColumn) (column : Option ExactColumn) (paired : List Target) → n ≤ m →
     SoundColumns n columns column paired → SoundColumns m columns column paired
@@ -74,7 +87,8 @@ open_more n t paired None h = h
 open_more n t paired (Some c) h =
     record { name = h.name; lower = h.lower; upper = h.upper; entries = climbs_more n 0 t paired c.entries h.entries }
 
-pub more_paired : (n : ℕ) (t : Target) (columns : List ExactColumn) (column : Option ExactColumn) (paired : List Target) →
+pub more_paired : (n : ℕ) (t : Target) (columns : List ExactColumn)
+    (column : Option ExactColumn) (paired : List Target) →
     SoundColumns n columns column paired → SoundColumns n columns column (t ∷ paired)
 more_paired n t columns column paired s =
     record { few = s.few; distinct = s.distinct; each = s.each; last = open_more n t paired column s.last }
@@ -87,7 +101,12 @@ pub close_column : (n : ℕ) (paired : List Target) (columns : List ExactColumn)
 close_column n paired columns None h k = h
 close_column n paired columns (Some c) h k =
     All-push (IsKeptColumn n) columns c h
-    (record { name = k.name; lower = k.lower; upper = k.upper; entries = climbs_entries n 0 paired c.entries k.entries })
+    (record {
+      name = k.name;
+      lower = k.lower;
+      upper = k.upper;
+      entries = climbs_entries n 0 paired c.entries k.entries;
+    })
 
 pub closed : (n : ℕ) (columns : List ExactColumn) (column : Option ExactColumn) (paired : List Target) →
     SoundColumns n columns column paired → SoundColumns n (columns_with columns column) None []
@@ -108,9 +127,14 @@ pub with_new : (n : ℕ) (columns : List ExactColumn) (new : Name) → is_name n
 with_new n columns new t f few s =
     record {
       few =
-          omega (arith, length-map (columns ++ new_column new ∷ []) (λ (c : ExactColumn). c.name), length-append columns (new_column new ∷ []));
+          omega (
+            arith,
+            length-map (columns ++ new_column new ∷ []) (λ (c : ExactColumn). c.name),
+            length-append columns (new_column new ∷ []),
+          );
       distinct =
-          subst (AllPairs (λ x y. x ≢ y)) (sym (named_new columns new)) (all_pairs_push (λ x y. x ≢ y) (column_names columns) new s.distinct f);
+          subst (AllPairs (λ x y. x ≢ y)) (sym (named_new columns new))
+          (all_pairs_push (λ x y. x ≢ y) (column_names columns) new s.distinct f);
       each = s.each;
       last = record { name = t; lower = zero_bound; upper = tt; entries = tt };
     }
@@ -133,7 +157,12 @@ number_name c (Row i) v = go (eq_ℚ v 0ℚ)
 number_open : (n : ℕ) (paired : List Target) (c : ExactColumn) (t : Target) (v : ℚ) → IsInside n t →
     is_among t paired ≡ false → IsOpen n paired c → IsOpen n (t ∷ paired) (with_number c t v)
 number_open n paired c Objective v i f o =
-    record { name = o.name; lower = o.lower; upper = o.upper; entries = climbs_more n 0 Objective paired c.entries o.entries }
+    record {
+      name = o.name;
+      lower = o.lower;
+      upper = o.upper;
+      entries = climbs_more n 0 Objective paired c.entries o.entries;
+    }
 number_open n paired c (Row i) v k f o = go (eq_ℚ v 0ℚ) refl
   where
     differs : eq_ℚ v 0ℚ ≡ false → v ≢ 0ℚ
@@ -142,7 +171,12 @@ number_open n paired c (Row i) v k f o = go (eq_ℚ v 0ℚ) refl
     go : (b : Bool) → eq_ℚ v 0ℚ ≡ b →
         IsOpen n (Row i ∷ paired) (cond b c (record c { entries = put_entry i v c.entries }))
     go true e =
-        record { name = o.name; lower = o.lower; upper = o.upper; entries = climbs_more n 0 (Row i) paired c.entries o.entries }
+        record {
+          name = o.name;
+          lower = o.lower;
+          upper = o.upper;
+          entries = climbs_more n 0 (Row i) paired c.entries o.entries;
+        }
     go false e =
         record {
           name = o.name;
@@ -152,7 +186,8 @@ number_open n paired c (Row i) v k f o = go (eq_ℚ v 0ℚ) refl
         }
 
 number_names : (columns : List ExactColumn) (column : Option ExactColumn) (t : Target) (v : ℚ) →
-    column_names (columns_with columns (option_map (λ c. with_number c t v) column)) ≡ column_names (columns_with columns column)
+    column_names (columns_with columns (option_map (λ c. with_number c t v) column))
+    ≡ column_names (columns_with columns column)
 number_names columns None t v = refl
 number_names columns (Some c) t v =
     map-append (λ (c : ExactColumn). c.name) columns (with_number c t v ∷ [])
@@ -165,7 +200,8 @@ number_last : (n : ℕ) (paired : List Target) (column : Option ExactColumn) (t 
 number_last n paired None t v i f o = tt
 number_last n paired (Some c) t v i f o = number_open n paired c t v i f o
 
-pub with_pair : (n : ℕ) (columns : List ExactColumn) (column : Option ExactColumn) (paired : List Target) (t : Target) (v : ℚ) →
+pub with_pair : (n : ℕ) (columns : List ExactColumn)
+    (column : Option ExactColumn) (paired : List Target) (t : Target) (v : ℚ) →
     IsInside n t → is_among t paired ≡ false → SoundColumns n columns column paired →
     SoundColumns n columns (option_map (λ c. with_number c t v) column) (t ∷ paired)
 with_pair n columns column paired t v i f s =
@@ -216,9 +252,11 @@ changed_kept : (n place : ℕ) (lowered : Bool) (card : BoundCard) (columns : Li
     All (IsKeptColumn n) columns → All (IsKeptColumn n) (changed_at place (bounded lowered card) columns)
 changed_kept n place lowered card [] small h = h
 changed_kept n zero lowered card (c ∷ cs) small h =
-    All-cons (IsKeptColumn n) (bounded lowered card c) cs (bounded_kept n lowered card c small (All-head (IsKeptColumn n) c cs h)) (All-tail (IsKeptColumn n) c cs h)
+    All-cons (IsKeptColumn n) (bounded lowered card c) cs
+    (bounded_kept n lowered card c small (All-head (IsKeptColumn n) c cs h)) (All-tail (IsKeptColumn n) c cs h)
 changed_kept n (suc place) lowered card (c ∷ cs) small h =
-    All-cons (IsKeptColumn n) c (changed_at place (bounded lowered card) cs) (All-head (IsKeptColumn n) c cs h) (changed_kept n place lowered card cs small (All-tail (IsKeptColumn n) c cs h))
+    All-cons (IsKeptColumn n) c (changed_at place (bounded lowered card) cs) (All-head (IsKeptColumn n) c cs h)
+    (changed_kept n place lowered card cs small (All-tail (IsKeptColumn n) c cs h))
 
 names_with : (columns others : List ExactColumn) (column : Option ExactColumn) →
     column_names columns ≡ column_names others →
@@ -229,11 +267,14 @@ names_with columns others (Some c) e =
     ∙ ap (λ names. names ++ c.name ∷ []) e
     ∙ sym (map-append (λ (c : ExactColumn). c.name) others (c ∷ []))
 
-pub with_bounds : (n place : ℕ) (lowered : Bool) (card : BoundCard) (columns : List ExactColumn) (column : Option ExactColumn) (paired : List Target) →
+pub with_bounds : (n place : ℕ) (lowered : Bool) (card : BoundCard)
+    (columns : List ExactColumn) (column : Option ExactColumn) (paired : List Target) →
     IsSmall card → SoundColumns n columns column paired →
     SoundColumns n (changed_at place (bounded lowered card) columns) column paired
 with_bounds n place lowered card columns column paired small s =
-    let e = names_with (changed_at place (bounded lowered card) columns) columns column (changed_names place lowered card columns) in
+    let e =
+    names_with (changed_at place (bounded lowered card) columns) columns column
+    (changed_names place lowered card columns) in
     record {
       few = subst (λ names. length names ≤ 512) (sym e) s.few;
       distinct = subst (AllPairs (λ x y. x ≢ y)) (sym e) s.distinct;

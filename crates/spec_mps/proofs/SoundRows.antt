@@ -1,5 +1,6 @@
 -- The names of a text so far, as a model has them.
-use Rattle.std.proofs.Common.{◌≡◌, ◌≢◌, ◌+◌, ◌<◌, ◌≤◌, Option, Some, None, List, [], ◌∷◌, ◌++◌, length, All, IfSome, IsTrue, refl, sym, subst, arith, true, append_assoc, length-append}
+use Rattle.std.proofs.Common.{◌≡◌, ◌≢◌, ◌+◌, ◌<◌, ◌≤◌, Option, Some, None, List, [], ◌∷◌, ◌++◌, length, All}
+use Rattle.std.proofs.Common.{IfSome, IsTrue, refl, sym, subst, arith, true, append_assoc, length-append}
 use Rattle.std.specs.List.{AllPairs}
 use Rattle.std.specs.Option.{option_to_list}
 use Rattle.std.proofs.lemmas.List.Elements.{All-nil, All-push, All-weaker}
@@ -30,7 +31,13 @@ no_rows =
 pub with_name : (name : Name) (objective : Option Name) (rows : List Name) (new : Name) → is_model_name new ≡ true →
     SoundRows name objective rows → SoundRows new objective rows
 with_name name objective rows new t s =
-    record { few = s.few; model_name = t; objective_name = s.objective_name; each_name = s.each_name; distinct = s.distinct }
+    record {
+      few = s.few;
+      model_name = t;
+      objective_name = s.objective_name;
+      each_name = s.each_name;
+      distinct = s.distinct;
+    }
 
 pub with_objective : (name : Name) (rows : List Name) (new : Name) → is_row_name new ≡ true → All (λ n. n ≢ new) rows →
     SoundRows name None rows → SoundRows name (Some new) rows
@@ -41,7 +48,8 @@ with_objective name rows new t f s =
       objective_name = t;
       each_name = s.each_name;
       distinct =
-          AllPairs-cons (λ x y. x ≢ y) new rows (All-weaker (λ n. n ≢ new) (λ n. new ≢ n) (λ n g e. g (sym e)) rows f) s.distinct;
+          AllPairs-cons (λ x y. x ≢ y) new rows
+          (All-weaker (λ n. n ≢ new) (λ n. new ≢ n) (λ n g e. g (sym e)) rows f) s.distinct;
     }
 
 pub push_row : (name : Name) (objective : Option Name) (rows : List Name) (new : Name) → is_row_name new ≡ true →
@@ -55,5 +63,6 @@ push_row name objective rows new t few f s =
       objective_name = s.objective_name;
       each_name = All-push (λ n. IsTrue (is_row_name n)) rows new s.each_name t;
       distinct =
-          subst (AllPairs (λ x y. x ≢ y)) (append_assoc (option_to_list objective) rows (new ∷ [])) (all_pairs_push (λ x y. x ≢ y) (option_to_list objective ++ rows) new s.distinct f);
+          subst (AllPairs (λ x y. x ≢ y)) (append_assoc (option_to_list objective) rows (new ∷ []))
+          (all_pairs_push (λ x y. x ≢ y) (option_to_list objective ++ rows) new s.distinct f);
     }

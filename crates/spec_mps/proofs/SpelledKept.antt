@@ -1,5 +1,6 @@
 -- What a text spells is a model that may be kept.
-use Rattle.std.proofs.Common.{◌≡◌, ℕ, ◌+◌, Option, Some, is_none, is_some, Ok, Err, List, [], ◌∷◌, length, map, All, IsTrue, refl, subst, arith, ◌&&◌, not}
+use Rattle.std.proofs.Common.{◌≡◌, ℕ, ◌+◌, Option, Some, is_none, is_some, Ok, Err, List, []}
+use Rattle.std.proofs.Common.{◌∷◌, length, map, All, IsTrue, refl, subst, arith, ◌&&◌, not}
 use Rattle.std.proofs.lemmas.List.{length-map}
 use Rattle.std.proofs.lemmas.List.Elements.{All-nil, All-cons, All-head, All-tail}
 use Rattle.spec_text.specs.declared.line.Line.{Line}
@@ -16,12 +17,16 @@ use Rattle.spec_mps.specs.Fields.{Fields, CardReading, Is, Misplaced, text_at}
 use Rattle.spec_mps.specs.Checks.{Check}
 use Rattle.spec_mps.specs.Shapes.{section_of, sense_of, shaped}
 use Rattle.spec_mps.specs.Reader.{State, start, whole_columns}
-use Rattle.spec_mps.specs.Steps.{take_sense, sense_card, has_begun, may_follow, begun, sense_beside, headed, Progress, More, Done, Outcome, more, model_by, finished, begin, section_card, data_card, on_card, on_reading, reading_of, step, Verdict, Spelled, settled, judge, Spells}
+use Rattle.spec_mps.specs.Steps.{take_sense, sense_card, has_begun, may_follow, begun, sense_beside, headed, Progress}
+use Rattle.spec_mps.specs.Steps.{More, Done, Outcome, more, model_by, finished, begin, section_card, data_card}
+use Rattle.spec_mps.specs.Steps.{on_card, on_reading, reading_of, step, Verdict, Spelled, settled, judge, Spells}
 use Rattle.spec_mps.proofs.CheckSteps.{step_ok, must_ok, need_ok, same_ok}
 use Rattle.spec_mps.proofs.SoundRows.{SoundRows, no_rows, with_name}
 use Rattle.spec_mps.proofs.SoundColumns.{no_columns, closed, close_column}
-use Rattle.spec_mps.proofs.SoundCards.{IsSound, row_names, rows_card_sound, columns_card_sound, rhs_card_sound, ranges_card_sound, bounds_card_sound}
-use Rattle.spec_mps.proofs.NarrowCards.{AreNarrow, none_narrow, whole_narrow, rows_card_narrow, columns_card_narrow, rhs_card_narrow, ranges_card_narrow, bounds_card_narrow}
+use Rattle.spec_mps.proofs.SoundCards.{IsSound, row_names, rows_card_sound, columns_card_sound}
+use Rattle.spec_mps.proofs.SoundCards.{rhs_card_sound, ranges_card_sound, bounds_card_sound}
+use Rattle.spec_mps.proofs.NarrowCards.{AreNarrow, none_narrow, whole_narrow, rows_card_narrow, columns_card_narrow}
+use Rattle.spec_mps.proofs.NarrowCards.{rhs_card_narrow, ranges_card_narrow, bounds_card_narrow}
 
 -- what was read is as a model has it, and its numbers are of 127 bits
 record IsSoFar (s : State) : Type 0 where
@@ -39,7 +44,12 @@ take_sense_sound s text t h so =
     (record {
       sound = record { rows = so.sound.rows; columns = so.sound.columns };
       narrow =
-          record { offset = so.narrow.offset; rows = so.narrow.rows; columns = so.narrow.columns; column = so.narrow.column };
+          record {
+            offset = so.narrow.offset;
+            rows = so.narrow.rows;
+            columns = so.narrow.columns;
+            column = so.narrow.column;
+          };
     })
 
 sense_card_sound : (style : Style) (s : State) (fields : Fields) (t : State) → sense_card style s fields ≡ Ok t →
@@ -53,9 +63,17 @@ begun_sound : (s : State) (part : Section) → IsSoFar s → IsSoFar (begun s pa
 begun_sound s part so =
     record {
       sound =
-          record { rows = so.sound.rows; columns = closed (length (row_names s.rows)) s.columns s.column s.paired so.sound.columns };
+          record {
+            rows = so.sound.rows;
+            columns = closed (length (row_names s.rows)) s.columns s.column s.paired so.sound.columns;
+          };
       narrow =
-          record { offset = so.narrow.offset; rows = so.narrow.rows; columns = whole_narrow s.columns s.column so.narrow.columns so.narrow.column; column = tt };
+          record {
+            offset = so.narrow.offset;
+            rows = so.narrow.rows;
+            columns = whole_narrow s.columns s.column so.narrow.columns so.narrow.column;
+            column = tt;
+          };
     }
 
 sense_beside_sound : (s : State) (word : List ℕ) (t : State) → sense_beside s word ≡ Ok t → IsSoFar s → IsSoFar t
@@ -69,9 +87,17 @@ headed_sound s section.Name word t h so =
     subst IsSoFar (same_ok _ t a.1)
     (record {
       sound =
-          record { rows = with_name s.name s.objective (row_names s.rows) word a.0 so.sound.rows; columns = so.sound.columns };
+          record {
+            rows = with_name s.name s.objective (row_names s.rows) word a.0 so.sound.rows;
+            columns = so.sound.columns;
+          };
       narrow =
-          record { offset = so.narrow.offset; rows = so.narrow.rows; columns = so.narrow.columns; column = so.narrow.column };
+          record {
+            offset = so.narrow.offset;
+            rows = so.narrow.rows;
+            columns = so.narrow.columns;
+            column = so.narrow.column;
+          };
     })
 headed_sound s section.Sense word t h so = sense_beside_sound s word t h so
 headed_sound s section.Columns word t h so =
@@ -98,7 +124,8 @@ model_kept s objective e so =
       objective = r.objective_name;
       rows = All-unmap (λ n. IsTrue (is_row_name n)) (λ (r : ExactRow). r.name) s.rows r.each_name;
       columns =
-          subst (λ n. All (IsKeptColumn n) (whole_columns s)) size (close_column (length (row_names s.rows)) s.paired s.columns s.column c.each c.last);
+          subst (λ n. All (IsKeptColumn n) (whole_columns s)) size
+          (close_column (length (row_names s.rows)) s.paired s.columns s.column c.each c.last);
       rows_distinct = r.distinct;
       columns_distinct = c.distinct;
       offset = so.narrow.offset;
@@ -142,15 +169,27 @@ data_card_sound : (style : Style) (part : Option Section) (s : State) (fields : 
     data_card style part s fields ≡ Ok t → IsSoFar s → IsSoFar t
 data_card_sound style (Some section.Sense) s fields t h so = sense_card_sound style s fields t h so
 data_card_sound style (Some section.Rows) s fields t h so =
-    record { sound = rows_card_sound style s fields t h so.sound; narrow = rows_card_narrow style s fields t h so.narrow }
+    record {
+      sound = rows_card_sound style s fields t h so.sound;
+      narrow = rows_card_narrow style s fields t h so.narrow;
+    }
 data_card_sound style (Some section.Columns) s fields t h so =
-    record { sound = columns_card_sound style s fields t h so.sound; narrow = columns_card_narrow style s fields t h so.narrow }
+    record {
+      sound = columns_card_sound style s fields t h so.sound;
+      narrow = columns_card_narrow style s fields t h so.narrow;
+    }
 data_card_sound style (Some section.RightSides) s fields t h so =
     record { sound = rhs_card_sound style s fields t h so.sound; narrow = rhs_card_narrow style s fields t h so.narrow }
 data_card_sound style (Some section.Ranges) s fields t h so =
-    record { sound = ranges_card_sound style s fields t h so.sound; narrow = ranges_card_narrow style s fields t h so.narrow }
+    record {
+      sound = ranges_card_sound style s fields t h so.sound;
+      narrow = ranges_card_narrow style s fields t h so.narrow;
+    }
 data_card_sound style (Some section.Bounds) s fields t h so =
-    record { sound = bounds_card_sound style s fields t h so.sound; narrow = bounds_card_narrow style s fields t h so.narrow }
+    record {
+      sound = bounds_card_sound style s fields t h so.sound;
+      narrow = bounds_card_narrow style s fields t h so.narrow;
+    }
 data_card_sound style part s fields t h so = absurd (cc)
 
 card_sound : (style : Style) (s : State) (c : Card Fields) (p : Progress) → on_card style s c ≡ Ok p → IsSoFar s →
@@ -191,7 +230,8 @@ judged_kept : (style : Style) (lines : List (Line (List ℕ))) (s : State) (n : 
     judge style s n lines ≡ Spelled m → IsSoFar s → IsModel m
 judged_kept style [] s n m h so = absurd (cc)
 judged_kept style (l ∷ lines) s n m h so =
-    settled_kept n (λ t. judge style t (n + 1) lines) (step style s l) m h (λ p k. step_sound style s l p k so) (λ t k. judged_kept style lines t (n + 1) m k)
+    settled_kept n (λ t. judge style t (n + 1) lines) (step style s l) m h
+    (λ p k. step_sound style s l p k so) (λ t k. judged_kept style lines t (n + 1) m k)
 
 -- a spelled model may be kept
 pub spelled_kept : (style : Style) (lines : List (Line (List ℕ))) (m : Model) → Spells style lines m → IsModel m

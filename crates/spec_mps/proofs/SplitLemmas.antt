@@ -1,5 +1,6 @@
 -- A text in two at the first byte that passes a test.
-use Rattle.std.proofs.Common.{◌≡◌, ℕ, ◌+◌, Bool, true, false, ◌||◌, Some, None, List, [], ◌∷◌, ◌++◌, length, take, drop, refl, ap, ◌∙◌, arith}
+use Rattle.std.proofs.Common.{◌≡◌, ℕ, ◌+◌, Bool, true, false, ◌||◌, Some, None, List}
+use Rattle.std.proofs.Common.{[], ◌∷◌, ◌++◌, length, take, drop, refl, ap, ◌∙◌, arith}
 use Rattle.std.specs.List.{list_any, position_or_len, before_first, after_first}
 use Rattle.std.proofs.lemmas.List.{take_all, drop_all}
 use Rattle.std.proofs.lemmas.List.Folds.{list_any-append}
@@ -50,8 +51,10 @@ pub split : (test : ℕ → Bool) (front : List ℕ) (b : ℕ) (back : List ℕ)
     IsSplit test (front ++ b ∷ back) front back
 split test front b back h t =
     let here : position_or_len test (b ∷ back) ≡ 0 = rw t refl in
-    let e : position_or_len test (front ++ b ∷ back) ≡ length front = position_past test front (b ∷ back) h ∙ omega arith in
-    let after : after_first test (front ++ b ∷ back) ≡ back = ap (λ n. drop (n + 1) (front ++ b ∷ back)) e ∙ drop-append-add front (b ∷ back) 1 in
+    let e : position_or_len test (front ++ b ∷ back) ≡ length front =
+    position_past test front (b ∷ back) h ∙ omega arith in
+    let after : after_first test (front ++ b ∷ back) ≡ back =
+    ap (λ n. drop (n + 1) (front ++ b ∷ back)) e ∙ drop-append-add front (b ∷ back) 1 in
     record {
       before = ap (λ n. take n (front ++ b ∷ back)) e ∙ take-append_seam front (b ∷ back);
       after = after;

@@ -1,5 +1,6 @@
 -- The cards of BOUNDS of a written text are read as a column's bounds.
-use Rattle.std.proofs.Common.{◌≡◌, ℕ, ◌||◌, ◌&&◌, Bool, true, false, cond, Option, Some, None, Ok, List, [], ◌∷◌, ◌++◌, length, map, get_or, refl, sym, ap, ◌∙◌, subst, inl, inr, ◌⊎◌, arith}
+use Rattle.std.proofs.Common.{◌≡◌, ℕ, ◌||◌, ◌&&◌, Bool, true, false, cond, Option, Some, None, Ok, List, []}
+use Rattle.std.proofs.Common.{◌∷◌, ◌++◌, length, map, get_or, refl, sym, ap, ◌∙◌, subst, inl, inr, ◌⊎◌, arith}
 use Rattle.std.specs.Prelude.{codes, IfSome}
 use Rattle.std.specs.List.{position}
 use borrow.Author.Tests.{ltb-false}
@@ -23,8 +24,9 @@ use Rattle.spec_mps.specs.Shapes.{bound_kind_of, has_shape}
 use Rattle.spec_mps.specs.Fields.{Fields, text_at}
 use Rattle.spec_mps.specs.Reader.{State}
 use Rattle.spec_mps.specs.Sides.{is_used, changed_at}
-use Rattle.spec_mps.specs.Bounds.{BoundCard, SetsUpper, SetsLower, SetsBoth, BoundTexts, upper_card, lower_card, both_card, bound_in, bound_texts, use_bound, bounds_card, bounded, sets_lower, with_bound}
-use Rattle.spec_mps.specs.Bounds.{bound_card as card_of}
+use Rattle.spec_mps.specs.Bounds.{BoundCard, SetsUpper, SetsLower, SetsBoth, BoundTexts, upper_card}
+use Rattle.spec_mps.specs.Bounds.{lower_card, both_card, bound_in, bound_texts, use_bound}
+use Rattle.spec_mps.specs.Bounds.{bounds_card, bounded, sets_lower, with_bound, bound_card as card_of}
 use Rattle.spec_mps.specs.Steps.{more}
 use Rattle.spec_mps.specs.Written.{WrittenCards, Data, field_at, bound_card, unbound_card, bound_cards, line_text}
 use Rattle.spec_mps.proofs.WrittenCards.{HasRoom, IsItem, IsReadBack, read_as}
@@ -44,18 +46,26 @@ use Rattle.spec_mps.proofs.WrittenRoom.{RoomFor, room_front, room_back}
 abbrev pub used_set : Option (Option Name)
 used_set = Some (Some (codes "BND"))
 
-bound_card_read : (style : Style) (s : State) (fields : Fields) (kind : BoundKind) (texts : BoundTexts) (place : ℕ) (card : BoundCard) → bound_kind_of (text_at 1 fields) ≡ Ok kind → bound_texts style kind fields ≡ Ok texts → is_used s.set texts.set ≡ true
-    → position (λ c. same c.name texts.column) s.columns ≡ Some place → card_of kind texts.value ≡ Ok card → bounds_card style s fields ≡ Ok (with_bound (record s { set = Some texts.set }) place card)
+bound_card_read : (style : Style) (s : State) (fields : Fields) (kind : BoundKind)
+    (texts : BoundTexts) (place : ℕ) (card : BoundCard) → bound_kind_of (text_at 1 fields) ≡ Ok kind →
+    bound_texts style kind fields ≡ Ok texts → is_used s.set texts.set ≡ true
+    → position (λ c. same c.name texts.column) s.columns ≡ Some place → card_of kind texts.value ≡ Ok card →
+    bounds_card style s fields ≡ Ok (with_bound (record s { set = Some texts.set }) place card)
 unfolding bounds_card use_bound
 bound_card_read style s fields kind texts place card known shape used there is = rw (known, shape, used, there, is) refl
 
-bound_step : (style : Style) (s t : State) (fields : Fields) (kind : BoundKind) (texts : BoundTexts) (place : ℕ) (card : BoundCard) → s.part ≡ Some section.Bounds → IsReadBack style fields → bound_kind_of (text_at 1 (read_as style fields)) ≡ Ok kind
-    → bound_texts style kind (read_as style fields) ≡ Ok texts → is_used s.set texts.set ≡ true → position (λ c. same c.name texts.column) s.columns ≡ Some place → card_of kind texts.value ≡ Ok card → with_bound (record s { set = Some texts.set }) place card ≡ t
+bound_step : (style : Style) (s t : State) (fields : Fields) (kind : BoundKind)
+    (texts : BoundTexts) (place : ℕ) (card : BoundCard) → s.part ≡ Some section.Bounds →
+    IsReadBack style fields → bound_kind_of (text_at 1 (read_as style fields)) ≡ Ok kind
+    → bound_texts style kind (read_as style fields) ≡ Ok texts → is_used s.set texts.set ≡ true →
+    position (λ c. same c.name texts.column) s.columns ≡ Some place →
+    card_of kind texts.value ≡ Ok card → with_bound (record s { set = Some texts.set }) place card ≡ t
     → Goes style s (Data fields ∷ []) t
 bound_step style s t fields kind texts place card e back known shape used there is put =
     goes_one style s t (Data fields)
     (given_step style s section.Bounds (line_text style (Data fields)) (read_as style fields) e refl back.read
-    ∙ ap more (bound_card_read style s (read_as style fields) kind texts place card known shape used there is ∙ ap (λ u. Ok u) put))
+    ∙ ap more (bound_card_read style s (read_as style fields) kind texts place card known shape used there is
+    ∙ ap (λ u. Ok u) put))
 
 -- ---- where the column is
 
@@ -70,15 +80,22 @@ pub record AreBefore (name : Name) (done : List ExactColumn) (lowered : List Boo
   pub absent : IsAbsent name (column_names done)
   pub alike : length lowered ≡ length done
 
-put_behind : (s : State) (done : List ExactColumn) (c : ExactColumn) (more : List ExactColumn) (before : List Bool) (b : Bool) (after : List Bool) (set : Option (Option Name)) (card : BoundCard) → length before ≡ length done
-    → with_bound (bounding s (done ++ c ∷ more) (before ++ b ∷ after) set) (length done) card ≡ bounding s (done ++ bounded b card c ∷ more) (before ++ (b || sets_lower card) ∷ after) set
+put_behind : (s : State) (done : List ExactColumn) (c : ExactColumn) (more : List ExactColumn) (before : List Bool)
+    (b : Bool) (after : List Bool) (set : Option (Option Name)) (card : BoundCard) → length before ≡ length done
+    → with_bound (bounding s (done ++ c ∷ more) (before ++ b ∷ after) set) (length done) card
+    ≡ bounding s (done ++ bounded b card c ∷ more) (before ++ (b || sets_lower card) ∷ after) set
 unfolding with_bound
 put_behind s done c more before b after set card e =
-    let there : get_or (before ++ b ∷ after) (length done) false ≡ b = ap (λ n. get_or (before ++ b ∷ after) n false) (sym e) ∙ there_behind before b after false in
-    let lowered : changed_at (length done) (λ l. l || sets_lower card) (before ++ b ∷ after) ≡ before ++ (b || sets_lower card) ∷ after =
-    ap (λ n. changed_at n (λ l. l || sets_lower card) (before ++ b ∷ after)) (sym e) ∙ changed_behind (λ l. l || sets_lower card) before b after in
-    ap (λ l. bounding s (changed_at (length done) (bounded l card) (done ++ c ∷ more)) (changed_at (length done) (λ l. l || sets_lower card) (before ++ b ∷ after)) set) there
-    ∙ ap (λ cs. bounding s cs (changed_at (length done) (λ l. l || sets_lower card) (before ++ b ∷ after)) set) (changed_behind (bounded b card) done c more)
+    let there : get_or (before ++ b ∷ after) (length done) false ≡ b =
+    ap (λ n. get_or (before ++ b ∷ after) n false) (sym e) ∙ there_behind before b after false in
+    let lowered : changed_at (length done) (λ l. l || sets_lower card) (before ++ b ∷ after)
+    ≡ before ++ (b || sets_lower card) ∷ after =
+    ap (λ n. changed_at n (λ l. l || sets_lower card) (before ++ b ∷ after)) (sym e)
+    ∙ changed_behind (λ l. l || sets_lower card) before b after in
+    ap (λ l. bounding s (changed_at (length done) (bounded l card) (done ++ c ∷ more))
+    (changed_at (length done) (λ l. l || sets_lower card) (before ++ b ∷ after)) set) there
+    ∙ ap (λ cs. bounding s cs (changed_at (length done) (λ l. l || sets_lower card) (before ++ b ∷ after)) set)
+    (changed_behind (bounded b card) done c more)
     ∙ ap (λ ls. bounding s (done ++ bounded b card c ∷ more) ls set) lowered
 
 -- ---- the kinds
@@ -88,7 +105,8 @@ kind_item Free a b h = record { word = h; room = tt }
 kind_item Fixed a b h = record { word = h; room = omega arith }
 
 abbrev number_fields : List ℕ → Name → ℚ → Fields
-number_fields kind name q = field_at 1 kind ∷ field_at 2 (codes "BND") ∷ field_at 3 name ∷ field_at 4 (number_text q) ∷ []
+number_fields kind name q =
+    field_at 1 kind ∷ field_at 2 (codes "BND") ∷ field_at 3 name ∷ field_at 4 (number_text q) ∷ []
 
 abbrev name_fields : List ℕ → Name → Fields
 name_fields kind name = field_at 1 kind ∷ field_at 2 (codes "BND") ∷ field_at 3 name ∷ []
@@ -101,7 +119,8 @@ pub record IsBoundNumber (q : ℚ) : Type 0 where
 bound_reads : (q : ℚ) → IsBoundNumber q → bound_in (number_text q) ≡ Ok (value.Finite q)
 unfolding bound_in
 bound_reads q h =
-    ap (λ r. coded (bound_answer r)) (number_is_bound (number_text q) q (read_written q h.narrow.top h.narrow.bottom) (within_from_abs infinite q h.small))
+    ap (λ r. coded (bound_answer r)) (number_is_bound (number_text q) q
+    (read_written q h.narrow.top h.narrow.bottom) (within_from_abs infinite q h.small))
 
 -- a kind with a value, and what its card does
 record IsValueKind (word : List ℕ) (kind : BoundKind) (says : ℚ → BoundCard) : Type 0 where
@@ -109,7 +128,8 @@ record IsValueKind (word : List ℕ) (kind : BoundKind) (says : ℚ → BoundCar
   pub known : (style : Style) (name : Name) (q : ℚ) →
       bound_kind_of (text_at 1 (read_as style (number_fields word name q))) ≡ Ok kind
   pub shape : (style : Style) (name : Name) (q : ℚ) →
-      bound_texts style kind (read_as style (number_fields word name q)) ≡ Ok (record { set = Some (codes "BND"); column = name; value = number_text q })
+      bound_texts style kind (read_as style (number_fields word name q))
+      ≡ Ok (record { set = Some (codes "BND"); column = name; value = number_text q })
   pub is : (q : ℚ) → IsBoundNumber q → card_of kind (number_text q) ≡ Ok (says q)
 
 -- a kind without one
@@ -118,7 +138,8 @@ record IsNameKind (word : List ℕ) (kind : BoundKind) (says : BoundCard) : Type
   pub known : (style : Style) (name : Name) →
       bound_kind_of (text_at 1 (read_as style (name_fields word name))) ≡ Ok kind
   pub shape : (style : Style) (name : Name) →
-      bound_texts style kind (read_as style (name_fields word name)) ≡ Ok (record { set = Some (codes "BND"); column = name; value = [] })
+      bound_texts style kind (read_as style (name_fields word name))
+      ≡ Ok (record { set = Some (codes "BND"); column = name; value = [] })
   pub is : card_of kind [] ≡ Ok says
 
 up_known : (style : Style) (name : Name) (q : ℚ) →
@@ -128,7 +149,8 @@ up_known Free name q = refl
 up_known Fixed name q = refl
 
 up_shape : (style : Style) (name : Name) (q : ℚ) →
-    bound_texts style Up (read_as style (number_fields (codes "UP") name q)) ≡ Ok (record { set = Some (codes "BND"); column = name; value = number_text q })
+    bound_texts style Up (read_as style (number_fields (codes "UP") name q))
+    ≡ Ok (record { set = Some (codes "BND"); column = name; value = number_text q })
 unfolding bound_texts has_shape
 up_shape Free name q = refl
 up_shape Fixed name q = refl
@@ -139,7 +161,12 @@ up_is q h = ap (λ r. r >>= upper_card) (bound_reads q h)
 
 up_kind : IsValueKind (codes "UP") Up (λ q. SetsUpper (Some q))
 up_kind =
-    record { item = λ style. kind_item style 85 80 (record { some = refl; printable = refl }); known = up_known; shape = up_shape; is = up_is }
+    record {
+      item = λ style. kind_item style 85 80 (record { some = refl; printable = refl });
+      known = up_known;
+      shape = up_shape;
+      is = up_is;
+    }
 
 lo_known : (style : Style) (name : Name) (q : ℚ) →
     bound_kind_of (text_at 1 (read_as style (number_fields (codes "LO") name q))) ≡ Ok Lo
@@ -148,7 +175,8 @@ lo_known Free name q = refl
 lo_known Fixed name q = refl
 
 lo_shape : (style : Style) (name : Name) (q : ℚ) →
-    bound_texts style Lo (read_as style (number_fields (codes "LO") name q)) ≡ Ok (record { set = Some (codes "BND"); column = name; value = number_text q })
+    bound_texts style Lo (read_as style (number_fields (codes "LO") name q))
+    ≡ Ok (record { set = Some (codes "BND"); column = name; value = number_text q })
 unfolding bound_texts has_shape
 lo_shape Free name q = refl
 lo_shape Fixed name q = refl
@@ -159,7 +187,12 @@ lo_is q h = ap (λ r. r >>= lower_card) (bound_reads q h)
 
 lo_kind : IsValueKind (codes "LO") Lo (λ q. SetsLower (Some q))
 lo_kind =
-    record { item = λ style. kind_item style 76 79 (record { some = refl; printable = refl }); known = lo_known; shape = lo_shape; is = lo_is }
+    record {
+      item = λ style. kind_item style 76 79 (record { some = refl; printable = refl });
+      known = lo_known;
+      shape = lo_shape;
+      is = lo_is;
+    }
 
 fx_known : (style : Style) (name : Name) (q : ℚ) →
     bound_kind_of (text_at 1 (read_as style (number_fields (codes "FX") name q))) ≡ Ok Fx
@@ -168,7 +201,8 @@ fx_known Free name q = refl
 fx_known Fixed name q = refl
 
 fx_shape : (style : Style) (name : Name) (q : ℚ) →
-    bound_texts style Fx (read_as style (number_fields (codes "FX") name q)) ≡ Ok (record { set = Some (codes "BND"); column = name; value = number_text q })
+    bound_texts style Fx (read_as style (number_fields (codes "FX") name q))
+    ≡ Ok (record { set = Some (codes "BND"); column = name; value = number_text q })
 unfolding bound_texts has_shape
 fx_shape Free name q = refl
 fx_shape Fixed name q = refl
@@ -179,7 +213,12 @@ fx_is q h = ap (λ r. r >>= both_card) (bound_reads q h)
 
 fx_kind : IsValueKind (codes "FX") Fx (λ q. SetsBoth (Some q) (Some q))
 fx_kind =
-    record { item = λ style. kind_item style 70 88 (record { some = refl; printable = refl }); known = fx_known; shape = fx_shape; is = fx_is }
+    record {
+      item = λ style. kind_item style 70 88 (record { some = refl; printable = refl });
+      known = fx_known;
+      shape = fx_shape;
+      is = fx_is;
+    }
 
 fr_known : (style : Style) (name : Name) →
     bound_kind_of (text_at 1 (read_as style (name_fields (codes "FR") name))) ≡ Ok Fr
@@ -188,7 +227,8 @@ fr_known Free name = refl
 fr_known Fixed name = refl
 
 fr_shape : (style : Style) (name : Name) →
-    bound_texts style Fr (read_as style (name_fields (codes "FR") name)) ≡ Ok (record { set = Some (codes "BND"); column = name; value = [] })
+    bound_texts style Fr (read_as style (name_fields (codes "FR") name))
+    ≡ Ok (record { set = Some (codes "BND"); column = name; value = [] })
 unfolding bound_texts has_shape
 fr_shape Free name = refl
 fr_shape Fixed name = refl
@@ -199,7 +239,12 @@ fr_is = refl
 
 fr_kind : IsNameKind (codes "FR") Fr (SetsBoth None None)
 fr_kind =
-    record { item = λ style. kind_item style 70 82 (record { some = refl; printable = refl }); known = fr_known; shape = fr_shape; is = fr_is }
+    record {
+      item = λ style. kind_item style 70 82 (record { some = refl; printable = refl });
+      known = fr_known;
+      shape = fr_shape;
+      is = fr_is;
+    }
 
 mi_known : (style : Style) (name : Name) →
     bound_kind_of (text_at 1 (read_as style (name_fields (codes "MI") name))) ≡ Ok Mi
@@ -208,7 +253,8 @@ mi_known Free name = refl
 mi_known Fixed name = refl
 
 mi_shape : (style : Style) (name : Name) →
-    bound_texts style Mi (read_as style (name_fields (codes "MI") name)) ≡ Ok (record { set = Some (codes "BND"); column = name; value = [] })
+    bound_texts style Mi (read_as style (name_fields (codes "MI") name))
+    ≡ Ok (record { set = Some (codes "BND"); column = name; value = [] })
 unfolding bound_texts has_shape
 mi_shape Free name = refl
 mi_shape Fixed name = refl
@@ -219,7 +265,12 @@ mi_is = refl
 
 mi_kind : IsNameKind (codes "MI") Mi (SetsLower None)
 mi_kind =
-    record { item = λ style. kind_item style 77 73 (record { some = refl; printable = refl }); known = mi_known; shape = mi_shape; is = mi_is }
+    record {
+      item = λ style. kind_item style 77 73 (record { some = refl; printable = refl });
+      known = mi_known;
+      shape = mi_shape;
+      is = mi_is;
+    }
 
 -- ---- a card that is read where the column is
 
@@ -227,25 +278,43 @@ abbrev pub spot : State → List ExactColumn → ExactColumn → List ExactColum
     Option (Option Name) → State
 spot s done c more before b after set = bounding s (done ++ c ∷ more) (before ++ b ∷ after) set
 
-set_there : (s : State) (done : List ExactColumn) (c d : ExactColumn) (more : List ExactColumn) (before : List Bool) (b : Bool) (after : List Bool) (card : BoundCard) → length before ≡ length done → bounded b card c ≡ d
-    → with_bound (spot s done c more before b after used_set) (length done) card ≡ spot s done d more before (b || sets_lower card) after used_set
+set_there : (s : State) (done : List ExactColumn) (c d : ExactColumn) (more : List ExactColumn) (before : List Bool)
+    (b : Bool) (after : List Bool) (card : BoundCard) → length before ≡ length done → bounded b card c ≡ d
+    → with_bound (spot s done c more before b after used_set) (length done) card
+    ≡ spot s done d more before (b || sets_lower card) after used_set
 set_there s done c d more before b after card e change =
-    put_behind s done c more before b after used_set card e ∙ ap (λ x. spot s done x more before (b || sets_lower card) after used_set) change
+    put_behind s done c more before b after used_set card e
+    ∙ ap (λ x. spot s done x more before (b || sets_lower card) after used_set) change
 
-value_goes : (style : Style) (s : State) (done : List ExactColumn) (c d : ExactColumn) (more : List ExactColumn) (before : List Bool) (b : Bool) (after : List Bool) (set : Option (Option Name)) (word : List ℕ) (kind : BoundKind) (says : ℚ → BoundCard) (q : ℚ)
-    → s.part ≡ Some section.Bounds → AreBefore c.name done before → is_used set (Some (codes "BND")) ≡ true → IsValueKind word kind says → IsItem style 8 c.name → IsItem style 12 (number_text q) → IsBoundNumber q → bounded b (says q) c ≡ d
-    → Goes style (spot s done c more before b after set) (bound_card word c.name q ∷ []) (spot s done d more before (b || sets_lower (says q)) after used_set)
+value_goes : (style : Style) (s : State) (done : List ExactColumn) (c d : ExactColumn)
+    (more : List ExactColumn) (before : List Bool) (b : Bool) (after : List Bool)
+    (set : Option (Option Name)) (word : List ℕ) (kind : BoundKind) (says : ℚ → BoundCard) (q : ℚ)
+    → s.part ≡ Some section.Bounds → AreBefore c.name done before →
+    is_used set (Some (codes "BND")) ≡ true → IsValueKind word kind says → IsItem style 8 c.name →
+    IsItem style 12 (number_text q) → IsBoundNumber q → bounded b (says q) c ≡ d
+    → Goes style (spot s done c more before b after set) (bound_card word c.name q ∷ [])
+    (spot s done d more before (b || sets_lower (says q)) after used_set)
 value_goes style s done c d more before b after set word kind says q e place used k name number h change =
-    bound_step style (spot s done c more before b after set) (spot s done d more before (b || sets_lower (says q)) after used_set) (number_fields word c.name q) kind (record { set = Some (codes "BND"); column = c.name; value = number_text q }) (length done) (says q) e
-    ((cards_are_read_back style).bounds word c.name (number_text q) (k.item style) name number) (k.known style c.name q) (k.shape style c.name q) used (place_behind (λ x. x.name) c.name done c more place.absent refl) (k.is q h)
+    bound_step style (spot s done c more before b after set)
+    (spot s done d more before (b || sets_lower (says q)) after used_set) (number_fields word c.name q) kind
+    (record { set = Some (codes "BND"); column = c.name; value = number_text q }) (length done) (says q) e
+    ((cards_are_read_back style).bounds word c.name (number_text q) (k.item style) name number) (k.known style c.name q)
+    (k.shape style c.name q) used (place_behind (λ x. x.name) c.name done c more place.absent refl) (k.is q h)
     (set_there s done c d more before b after (says q) place.alike change)
 
-name_goes : (style : Style) (s : State) (done : List ExactColumn) (c d : ExactColumn) (more : List ExactColumn) (before : List Bool) (b : Bool) (after : List Bool) (set : Option (Option Name)) (word : List ℕ) (kind : BoundKind) (says : BoundCard)
-    → s.part ≡ Some section.Bounds → AreBefore c.name done before → is_used set (Some (codes "BND")) ≡ true → IsNameKind word kind says → IsItem style 8 c.name → bounded b says c ≡ d
-    → Goes style (spot s done c more before b after set) (unbound_card word c.name ∷ []) (spot s done d more before (b || sets_lower says) after used_set)
+name_goes : (style : Style) (s : State) (done : List ExactColumn) (c d : ExactColumn)
+    (more : List ExactColumn) (before : List Bool) (b : Bool) (after : List Bool)
+    (set : Option (Option Name)) (word : List ℕ) (kind : BoundKind) (says : BoundCard)
+    → s.part ≡ Some section.Bounds → AreBefore c.name done before → is_used set (Some (codes "BND")) ≡ true →
+    IsNameKind word kind says → IsItem style 8 c.name → bounded b says c ≡ d
+    → Goes style (spot s done c more before b after set) (unbound_card word c.name ∷ [])
+    (spot s done d more before (b || sets_lower says) after used_set)
 name_goes style s done c d more before b after set word kind says e place used k name change =
-    bound_step style (spot s done c more before b after set) (spot s done d more before (b || sets_lower says) after used_set) (name_fields word c.name) kind (record { set = Some (codes "BND"); column = c.name; value = [] }) (length done) says e
-    ((cards_are_read_back style).without_number word c.name (k.item style) name) (k.known style c.name) (k.shape style c.name) used (place_behind (λ x. x.name) c.name done c more place.absent refl) k.is
+    bound_step style (spot s done c more before b after set)
+    (spot s done d more before (b || sets_lower says) after used_set) (name_fields word c.name) kind
+    (record { set = Some (codes "BND"); column = c.name; value = [] }) (length done) says e
+    ((cards_are_read_back style).without_number word c.name (k.item style) name) (k.known style c.name)
+    (k.shape style c.name) used (place_behind (λ x. x.name) c.name done c more place.absent refl) k.is
     (set_there s done c d more before b after says place.alike change)
 
 -- ---- room
@@ -254,7 +323,8 @@ value_room : (style : Style) (word : List ℕ) (name : Name) (q : ℚ) → RoomF
     HasRoom style 8 name × HasRoom style 12 (number_text q)
 value_room Free word name q h = (tt, tt)
 value_room Fixed word name q h =
-    let a = field_narrow (field_at 1 word) (field_at 2 (codes "BND") ∷ field_at 3 name ∷ field_at 4 (number_text q) ∷ []) h in
+    let a =
+    field_narrow (field_at 1 word) (field_at 2 (codes "BND") ∷ field_at 3 name ∷ field_at 4 (number_text q) ∷ []) h in
     let b = field_narrow (field_at 2 (codes "BND")) (field_at 3 name ∷ field_at 4 (number_text q) ∷ []) a.1 in
     let c = field_narrow (field_at 3 name) (field_at 4 (number_text q) ∷ []) b.1 in
     let d = field_narrow (field_at 4 (number_text q)) [] c.1 in
@@ -275,7 +345,9 @@ name_room Fixed word name h =
 abbrev pub IsBounded : Style → State → List ExactColumn → ExactColumn → List ExactColumn → List Bool → List Bool →
     Option (Option Name) → WrittenCards → Type 0
 IsBounded style s done c more before after set cards =
-    (b : Bool) × (q : Option (Option Name)) × Goes style (spot s done (bare_column c) more before false after set) cards (spot s done c more before b after q) × (is_used q (Some (codes "BND")) ≡ true)
+    (b : Bool) × (q : Option (Option Name))
+    × Goes style (spot s done (bare_column c) more before false after set) cards (spot s done c more before b after q)
+    × (is_used q (Some (codes "BND")) ≡ true)
 
 never : (t : Bool) → t && false ≡ false
 never true = refl
@@ -296,49 +368,70 @@ upper_positive : (c : ExactColumn) (u : ℚ) → lt_ℚ 0ℚ u ≡ true →
     bounded false (SetsUpper (Some u)) c ≡ record c { upper = Some u }
 upper_positive c u h = rw (not_below u h) refl
 
-pub column_bounded : (style : Style) (s : State) (done : List ExactColumn) (c : ExactColumn) (more : List ExactColumn) (before after : List Bool) (set : Option (Option Name)) → s.part ≡ Some section.Bounds → AreBefore c.name done before
-    → is_used set (Some (codes "BND")) ≡ true → IsWord c.name → (lower upper : Option ℚ) → IfSome lower IsBoundNumber → IfSome upper IsBoundNumber → RoomFor style (bound_cards c.name lower upper)
-    → IsBounded style s done (record c { lower = lower; upper = upper }) more before after set (bound_cards c.name lower upper)
+pub column_bounded : (style : Style) (s : State) (done : List ExactColumn) (c : ExactColumn)
+    (more : List ExactColumn) (before after : List Bool) (set : Option (Option Name)) →
+    s.part ≡ Some section.Bounds → AreBefore c.name done before
+    → is_used set (Some (codes "BND")) ≡ true → IsWord c.name → (lower upper : Option ℚ) →
+    IfSome lower IsBoundNumber → IfSome upper IsBoundNumber → RoomFor style (bound_cards c.name lower upper)
+    → IsBounded style s done (record c { lower = lower; upper = upper }) more before after set
+    (bound_cards c.name lower upper)
 column_bounded style s done c more before after set e place used word None None hl hu room = (
   true,
   used_set,
-  name_goes style s done (bare_column c) (record c { lower = None; upper = None }) more before false after set (codes "FR") Fr (SetsBoth None None) e place used fr_kind
+  name_goes style s done (bare_column c) (record c { lower = None; upper = None }) more before false after set
+      (codes "FR") Fr (SetsBoth None None) e place used fr_kind
       (record { word = word; room = name_room style (codes "FR") c.name room }) refl,
   refl,
 )
 column_bounded style s done c more before after set e place used word None (Some u) hl hu room =
-    let back = value_room style (codes "UP") c.name u (room_back style (unbound_card (codes "MI") c.name ∷ []) (bound_card (codes "UP") c.name u ∷ []) room) in
+    let back =
+    value_room style (codes "UP") c.name u
+    (room_back style (unbound_card (codes "MI") c.name ∷ []) (bound_card (codes "UP") c.name u ∷ []) room) in
     let name : IsItem style 8 c.name = record { word = word; room = back.0 } in
     let free : ExactColumn = record c { lower = None; upper = None } in
-    let first = name_goes style s done (bare_column c) free more before false after set (codes "MI") Mi (SetsLower None) e place used mi_kind name refl in
+    let first =
+    name_goes style s done (bare_column c) free more before false after set
+    (codes "MI") Mi (SetsLower None) e place used mi_kind name refl in
     let second =
-    value_goes style s done free (record c { lower = None; upper = Some u }) more before true after used_set (codes "UP") Up (λ q. SetsUpper (Some q)) u e (record { absent = place.absent; alike = place.alike }) refl up_kind name (number_item style u hu.narrow back.1) hu
+    value_goes style s done free (record c { lower = None; upper = Some u }) more before true after used_set
+    (codes "UP") Up (λ q. SetsUpper (Some q)) u e
+    (record { absent = place.absent; alike = place.alike }) refl up_kind name (number_item style u hu.narrow back.1) hu
     (upper_lowered free u) in (
       true,
       used_set,
-      goes_then style (spot s done (bare_column c) more before false after set) (spot s done free more before true after used_set) (spot s done (record c { lower = None; upper = Some u }) more before true after used_set)
+      goes_then style (spot s done (bare_column c) more before false after set)
+          (spot s done free more before true after used_set)
+          (spot s done (record c { lower = None; upper = Some u }) more before true after used_set)
           (unbound_card (codes "MI") c.name) (bound_card (codes "UP") c.name u ∷ []) first second,
       refl,
     )
-column_bounded style s done c more before after set e place used word (Some l) None hl hu room = by (eq_ℚ l 0ℚ) refl room
+column_bounded style s done c more before after set e place used word (Some l) None hl hu room =
+    by (eq_ℚ l 0ℚ) refl room
   where
     by : (t : Bool) → eq_ℚ l 0ℚ ≡ t → RoomFor style (cond t [] (bound_card (codes "LO") c.name l ∷ [])) →
-        IsBounded style s done (record c { lower = Some l; upper = None }) more before after set (cond t [] (bound_card (codes "LO") c.name l ∷ []))
+        IsBounded style s done (record c { lower = Some l; upper = None }) more before after set
+        (cond t [] (bound_card (codes "LO") c.name l ∷ []))
     by true z room =
-        let same : bare_column c ≡ record c { lower = Some l; upper = None } = ap (λ x. record c { lower = Some x; upper = None }) (sym (eq_if l 0ℚ z)) in (
+        let same : bare_column c ≡ record c { lower = Some l; upper = None } =
+        ap (λ x. record c { lower = Some x; upper = None }) (sym (eq_if l 0ℚ z)) in (
           false,
           set,
-          subst (λ x. Goes style (spot s done (bare_column c) more before false after set) [] (spot s done x more before false after set)) same (goes_none style (spot s done (bare_column c) more before false after set)),
+          subst (λ x. Goes style (spot s done (bare_column c) more before false after set) []
+              (spot s done x more before false after set)) same
+              (goes_none style (spot s done (bare_column c) more before false after set)),
           used,
         )
     by false z room =
         let r = value_room style (codes "LO") c.name l room in (
           true,
           used_set,
-          value_goes style s done (bare_column c) (record c { lower = Some l; upper = None }) more before false after set (codes "LO") Lo (λ q. SetsLower (Some q)) l e place used lo_kind (record { word = word; room = r.0 }) (number_item style l hl.narrow r.1) hl refl,
+          value_goes style s done (bare_column c) (record c { lower = Some l; upper = None }) more
+              before false after set (codes "LO") Lo (λ q. SetsLower (Some q)) l e place used lo_kind
+              (record { word = word; room = r.0 }) (number_item style l hl.narrow r.1) hl refl,
           refl,
         )
-column_bounded style s done c more before after set e place used word (Some l) (Some u) hl hu room = by (eq_ℚ l u) refl room
+column_bounded style s done c more before after set e place used word (Some l) (Some u) hl hu room =
+    by (eq_ℚ l u) refl room
   where
     whole : ExactColumn
     whole = record c { lower = Some l; upper = Some u }
@@ -352,36 +445,52 @@ column_bounded style s done c more before after set e place used word (Some l) (
     two true z room =
         let p = both (eq_ℚ l 0ℚ) (lt_ℚ 0ℚ u) z in
         let r = value_room style (codes "UP") c.name u room in
-        let same : record c { lower = Some 0ℚ; upper = Some u } ≡ whole = ap (λ x. record c { lower = Some x; upper = Some u }) (sym (eq_if l 0ℚ p.0)) in (
+        let same : record c { lower = Some 0ℚ; upper = Some u } ≡ whole =
+        ap (λ x. record c { lower = Some x; upper = Some u }) (sym (eq_if l 0ℚ p.0)) in (
           false,
           used_set,
-          value_goes style s done (bare_column c) whole more before false after set (codes "UP") Up (λ q. SetsUpper (Some q)) u e place used up_kind (record { word = word; room = r.0 }) (number_item style u hu.narrow r.1) hu (upper_positive (bare_column c) u p.1 ∙ same),
+          value_goes style s done (bare_column c) whole more before false after set (codes "UP") Up
+              (λ q. SetsUpper (Some q)) u e place used up_kind (record { word = word; room = r.0 })
+              (number_item style u hu.narrow r.1) hu (upper_positive (bare_column c) u p.1 ∙ same),
           refl,
         )
     two false z room =
-        let front = value_room style (codes "LO") c.name l (room_front style (bound_card (codes "LO") c.name l ∷ []) (bound_card (codes "UP") c.name u ∷ []) room) in
-        let back = value_room style (codes "UP") c.name u (room_back style (bound_card (codes "LO") c.name l ∷ []) (bound_card (codes "UP") c.name u ∷ []) room) in
+        let front =
+        value_room style (codes "LO") c.name l
+        (room_front style (bound_card (codes "LO") c.name l ∷ []) (bound_card (codes "UP") c.name u ∷ []) room) in
+        let back =
+        value_room style (codes "UP") c.name u
+        (room_back style (bound_card (codes "LO") c.name l ∷ []) (bound_card (codes "UP") c.name u ∷ []) room) in
         let name : IsItem style 8 c.name = record { word = word; room = front.0 } in
         let low : ExactColumn = record c { lower = Some l; upper = None } in
         let first =
-        value_goes style s done (bare_column c) low more before false after set (codes "LO") Lo (λ q. SetsLower (Some q)) l e place used lo_kind name (number_item style l hl.narrow front.1) hl refl in
+        value_goes style s done (bare_column c) low more before false after set (codes "LO") Lo
+        (λ q. SetsLower (Some q)) l e place used lo_kind name (number_item style l hl.narrow front.1) hl refl in
         let second =
-        value_goes style s done low whole more before true after used_set (codes "UP") Up (λ q. SetsUpper (Some q)) u e (record { absent = place.absent; alike = place.alike }) refl up_kind name (number_item style u hu.narrow back.1) hu (upper_lowered low u) in (
+        value_goes style s done low whole more before true after used_set (codes "UP") Up
+        (λ q. SetsUpper (Some q)) u e (record { absent = place.absent; alike = place.alike }) refl up_kind name
+        (number_item style u hu.narrow back.1) hu (upper_lowered low u) in (
           true,
           used_set,
-          goes_then style (spot s done (bare_column c) more before false after set) (spot s done low more before true after used_set) (spot s done whole more before true after used_set)
+          goes_then style (spot s done (bare_column c) more before false after set)
+              (spot s done low more before true after used_set) (spot s done whole more before true after used_set)
               (bound_card (codes "LO") c.name l) (bound_card (codes "UP") c.name u ∷ []) first second,
           refl,
         )
 
-    by : (t : Bool) → eq_ℚ l u ≡ t → RoomFor style (cond t (bound_card (codes "FX") c.name l ∷ []) (cond (eq_ℚ l 0ℚ && lt_ℚ 0ℚ u) (bound_card (codes "UP") c.name u ∷ []) lows))
-        → IsBounded style s done whole more before after set (cond t (bound_card (codes "FX") c.name l ∷ []) (cond (eq_ℚ l 0ℚ && lt_ℚ 0ℚ u) (bound_card (codes "UP") c.name u ∷ []) lows))
+    by : (t : Bool) → eq_ℚ l u ≡ t → RoomFor style (cond t (bound_card (codes "FX") c.name l ∷ [])
+        (cond (eq_ℚ l 0ℚ && lt_ℚ 0ℚ u) (bound_card (codes "UP") c.name u ∷ []) lows))
+        → IsBounded style s done whole more before after set (cond t (bound_card (codes "FX") c.name l ∷ [])
+        (cond (eq_ℚ l 0ℚ && lt_ℚ 0ℚ u) (bound_card (codes "UP") c.name u ∷ []) lows))
     by true z room =
         let r = value_room style (codes "FX") c.name l room in
-        let same : record c { lower = Some l; upper = Some l } ≡ whole = ap (λ x. record c { lower = Some l; upper = Some x }) (eq_if l u z) in (
+        let same : record c { lower = Some l; upper = Some l } ≡ whole =
+        ap (λ x. record c { lower = Some l; upper = Some x }) (eq_if l u z) in (
           true,
           used_set,
-          value_goes style s done (bare_column c) whole more before false after set (codes "FX") Fx (λ q. SetsBoth (Some q) (Some q)) l e place used fx_kind (record { word = word; room = r.0 }) (number_item style l hl.narrow r.1) hl same,
+          value_goes style s done (bare_column c) whole more before false after set
+              (codes "FX") Fx (λ q. SetsBoth (Some q) (Some q)) l e place used fx_kind
+              (record { word = word; room = r.0 }) (number_item style l hl.narrow r.1) hl same,
           refl,
         )
     by false z room = two (eq_ℚ l 0ℚ && lt_ℚ 0ℚ u) refl room

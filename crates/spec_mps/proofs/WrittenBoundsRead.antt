@@ -1,5 +1,6 @@
 -- The whole section BOUNDS of a written text, and the end.
-use Rattle.std.proofs.Common.{◌≡◌, ℕ, suc, not, Bool, true, false, cond, Option, Some, None, Ok, List, [], ◌∷◌, ◌++◌, length, map, refl, sym, ap, ◌∙◌, subst, append_assoc, length-append, arith}
+use Rattle.std.proofs.Common.{◌≡◌, ℕ, suc, not, Bool, true, false, cond, Option, Some, None, Ok, List, [], ◌∷◌}
+use Rattle.std.proofs.Common.{◌++◌, length, map, refl, sym, ap, ◌∙◌, subst, append_assoc, length-append, arith}
 use Rattle.std.specs.Prelude.{codes, IfSome}
 use Rattle.std.specs.List.{All, flat_map, list_any}
 use Rattle.std.proofs.lemmas.List.{map-append}
@@ -41,37 +42,54 @@ bound_number (Some q) h k = record { narrow = k; small = h }
 -- the columns after some others get their bounds
 abbrev AreBounded : Style → State → List ExactColumn → List ExactColumn → List Bool → Option (Option Name) → Type 0
 AreBounded style s done rest before set =
-    (bs : List Bool) × (q : Option (Option Name)) × Goes style (bounding s (done ++ map bare_column rest) (before ++ map (λ c. false) rest) set) (bounds_of rest) (bounding s (done ++ rest) bs q)
+    (bs : List Bool) × (q : Option (Option Name))
+    × Goes style (bounding s (done ++ map bare_column rest) (before ++ map (λ c. false) rest) set)
+    (bounds_of rest) (bounding s (done ++ rest) bs q)
 
 names_next : (done : List ExactColumn) (c : ExactColumn) →
     column_names done ++ c.name ∷ [] ≡ column_names (done ++ c ∷ [])
 names_next done c = sym (map-append (λ x. x.name) done (c ∷ []))
 
-bounds_go : (style : Style) (height : ℕ) (s : State) (done rest : List ExactColumn) (before : List Bool) (set : Option (Option Name)) → s.part ≡ Some section.Bounds → All (IsKeptColumn height) rest → All IsNarrowColumn rest
-    → AreFresh (column_names done) (column_names rest) → length before ≡ length done → is_used set (Some (codes "BND")) ≡ true → RoomFor style (bounds_of rest) → AreBounded style s done rest before set
+bounds_go : (style : Style) (height : ℕ) (s : State) (done rest : List ExactColumn)
+    (before : List Bool) (set : Option (Option Name)) → s.part ≡ Some section.Bounds →
+    All (IsKeptColumn height) rest → All IsNarrowColumn rest
+    → AreFresh (column_names done) (column_names rest) → length before ≡ length done →
+    is_used set (Some (codes "BND")) ≡ true → RoomFor style (bounds_of rest) → AreBounded style s done rest before set
 bounds_go style height s done [] before set e kept narrow fresh alike used room =
     (before ++ [], set, goes_none style (bounding s (done ++ []) (before ++ []) set))
 bounds_go style height s done (c ∷ rest) before set e kept narrow fresh alike used room =
     let k : IsKeptColumn height c = kept 0 c (omega arith) in
     let n : IsNarrowColumn c = narrow 0 c (omega arith) in
-    let one : IsBounded style s done c (map bare_column rest) before (map (λ c. false) rest) set (bound_cards c.name c.lower c.upper) =
-    column_bounded style s done c (map bare_column rest) before (map (λ c. false) rest) set e (record { absent = fresh.0; alike = alike }) used (name_word c.name k.name) c.lower c.upper (bound_number c.lower k.lower n.lower)
-    (bound_number c.upper k.upper n.upper) (room_front style (bound_cards c.name c.lower c.upper) (bounds_of rest) room) in
+    let one : IsBounded style s done c (map bare_column rest) before
+    (map (λ c. false) rest) set (bound_cards c.name c.lower c.upper) =
+    column_bounded style s done c (map bare_column rest) before
+    (map (λ c. false) rest) set e (record { absent = fresh.0; alike = alike }) used
+    (name_word c.name k.name) c.lower c.upper (bound_number c.lower k.lower n.lower)
+    (bound_number c.upper k.upper n.upper)
+    (room_front style (bound_cards c.name c.lower c.upper) (bounds_of rest) room) in
     let longer = length-append done (c ∷ []) in
     let lowered = length-append before (one.0 ∷ []) in
     let rec : AreBounded style s (done ++ c ∷ []) rest (before ++ one.0 ∷ []) one.1 =
-    bounds_go style height s (done ++ c ∷ []) rest (before ++ one.0 ∷ []) one.1 e (λ i d a. kept (suc i) d (omega arith)) (λ i d a. narrow (suc i) d (omega arith)) (subst (λ seen. AreFresh seen (column_names rest)) (names_next done c) fresh.1)
+    bounds_go style height s (done ++ c ∷ []) rest (before ++ one.0 ∷ []) one.1 e
+    (λ i d a. kept (suc i) d (omega arith)) (λ i d a. narrow (suc i) d (omega arith))
+    (subst (λ seen. AreFresh seen (column_names rest)) (names_next done c) fresh.1)
     (omega arith) one.3 (room_back style (bound_cards c.name c.lower c.upper) (bounds_of rest) room) in
     let x = append_assoc done (c ∷ []) (map bare_column rest) in
     let y = append_assoc before (one.0 ∷ []) (map (λ c. false) rest) in
     let z = append_assoc done (c ∷ []) rest in
-    let more : Goes style (spot s done c (map bare_column rest) before one.0 (map (λ c. false) rest) one.1) (bounds_of rest) (bounding s (done ++ c ∷ rest) rec.0 rec.1) =
-    subst (λ cs. Goes style (bounding s cs (before ++ one.0 ∷ map (λ c. false) rest) one.1) (bounds_of rest) (bounding s (done ++ c ∷ rest) rec.0 rec.1)) x
-    (subst (λ bs. Goes style (bounding s ((done ++ c ∷ []) ++ map bare_column rest) bs one.1) (bounds_of rest) (bounding s (done ++ c ∷ rest) rec.0 rec.1)) y
-    (subst (λ cs. Goes style (bounding s ((done ++ c ∷ []) ++ map bare_column rest) ((before ++ one.0 ∷ []) ++ map (λ c. false) rest) one.1) (bounds_of rest) (bounding s cs rec.0 rec.1)) z rec.2)) in (
+    let more : Goes style (spot s done c (map bare_column rest) before one.0 (map (λ c. false) rest) one.1)
+    (bounds_of rest) (bounding s (done ++ c ∷ rest) rec.0 rec.1) =
+    subst (λ cs. Goes style (bounding s cs (before ++ one.0 ∷ map (λ c. false) rest) one.1)
+    (bounds_of rest) (bounding s (done ++ c ∷ rest) rec.0 rec.1)) x
+    (subst (λ bs. Goes style (bounding s ((done ++ c ∷ []) ++ map bare_column rest) bs one.1)
+    (bounds_of rest) (bounding s (done ++ c ∷ rest) rec.0 rec.1)) y
+    (subst (λ cs. Goes style
+    (bounding s ((done ++ c ∷ []) ++ map bare_column rest) ((before ++ one.0 ∷ []) ++ map (λ c. false) rest) one.1)
+    (bounds_of rest) (bounding s cs rec.0 rec.1)) z rec.2)) in (
       rec.0,
       rec.1,
-      goes_append style (spot s done (bare_column c) (map bare_column rest) before false (map (λ c. false) rest) set) (spot s done c (map bare_column rest) before one.0 (map (λ c. false) rest) one.1)
+      goes_append style (spot s done (bare_column c) (map bare_column rest) before false (map (λ c. false) rest) set)
+          (spot s done c (map bare_column rest) before one.0 (map (λ c. false) rest) one.1)
           (bounding s (done ++ c ∷ rest) rec.0 rec.1) (bound_cards c.name c.lower c.upper) (bounds_of rest) one.2 more,
     )
 
@@ -91,7 +109,8 @@ none_bounded : (columns : List ExactColumn) → list_any has_bounds columns ≡ 
 none_bounded [] h = refl
 none_bounded (c ∷ columns) h =
     let p = or_parts (has_bounds c) (list_any has_bounds columns) h in
-    ap (λ x. x ∷ map bare_column columns) (usual_is c c.lower c.upper (not_false (is_usual c.lower c.upper) p.0)) ∙ ap (λ l. c ∷ l) (none_bounded columns p.1)
+    ap (λ x. x ∷ map bare_column columns) (usual_is c c.lower c.upper (not_false (is_usual c.lower c.upper) p.0))
+    ∙ ap (λ l. c ∷ l) (none_bounded columns p.1)
 
 pub bounds_are_read : (style : Style) (m : Model) → IsModel m → RoomFor style (bounds_cards m) → (s : State) →
     HasNoBounds s m → (t : State) × Goes style s (bounds_cards m) t × IsWhole t m
@@ -106,27 +125,42 @@ bounds_are_read style m kept room s h = by (list_any has_bounds m.columns) refl
 
     go : RoomFor style (bounds_of m.columns) → AreBounded style one [] m.columns [] None
     go r =
-        bounds_go style (length m.rows) one [] m.columns [] None refl kept.columns kept.narrow_columns (fresh [] (column_names m.columns) (λ i d a. refl) kept.columns_distinct) refl refl r
+        bounds_go style (length m.rows) one [] m.columns [] None refl kept.columns kept.narrow_columns
+        (fresh [] (column_names m.columns) (λ i d a. refl) kept.columns_distinct) refl refl r
 
-    here : (bs : List Bool) (q : Option (Option Name)) → Goes style (bounding one (map bare_column m.columns) (map (λ c. false) m.columns) None) (bounds_of m.columns) (bounding one m.columns bs q)
+    here : (bs : List Bool) (q : Option (Option Name)) →
+        Goes style (bounding one (map bare_column m.columns) (map (λ c. false) m.columns) None)
+        (bounds_of m.columns) (bounding one m.columns bs q)
         → Goes style one (bounds_of m.columns) (bounding one m.columns bs q)
     here bs q g =
-        subst (λ ls. Goes style (bounding one one.columns ls None) (bounds_of m.columns) (bounding one m.columns bs q)) (sym h.unbounded.none_lowered)
-        (subst (λ cs. Goes style (bounding one cs (map (λ c. false) m.columns) None) (bounds_of m.columns) (bounding one m.columns bs q)) (sym none_open) g)
+        subst (λ ls. Goes style (bounding one one.columns ls None) (bounds_of m.columns) (bounding one m.columns bs q))
+        (sym h.unbounded.none_lowered)
+        (subst (λ cs. Goes style (bounding one cs (map (λ c. false) m.columns) None)
+        (bounds_of m.columns) (bounding one m.columns bs q)) (sym none_open) g)
 
     by : (t : Bool) → list_any has_bounds m.columns ≡ t →
         (u : State) × Goes style s (cond t (section_card (codes "BOUNDS") ∷ bounds_of m.columns) []) u × IsWhole u m
     by true z =
-        let there : RoomFor style (section_card (codes "BOUNDS") ∷ bounds_of m.columns) = subst (λ t. RoomFor style (cond t (section_card (codes "BOUNDS") ∷ bounds_of m.columns) [])) z room in
+        let there : RoomFor style (section_card (codes "BOUNDS") ∷ bounds_of m.columns) =
+        subst (λ t. RoomFor style (cond t (section_card (codes "BOUNDS") ∷ bounds_of m.columns) [])) z room in
         let g = go (room_back style (section_card (codes "BOUNDS") ∷ []) (bounds_of m.columns) there) in
         let t : State = bounding one m.columns g.0 g.1 in
         let k = h.known in
-        let heading : Goes style s (section_card (codes "BOUNDS") ∷ []) one = goes_one style s one (section_card (codes "BOUNDS")) (bounds_step style s k.may_follow h.unbounded.no_bounds) in (
+        let heading : Goes style s (section_card (codes "BOUNDS") ∷ []) one =
+        goes_one style s one (section_card (codes "BOUNDS"))
+        (bounds_step style s k.may_follow h.unbounded.no_bounds) in (
           t,
           goes_then style s one t (section_card (codes "BOUNDS")) (bounds_of m.columns) heading (here g.0 g.1 g.2),
           record {
             known =
-                record { name = k.name; sense = k.sense; objective = k.objective; none_dropped = k.none_dropped; may_follow = k.may_follow; none_open = refl };
+                record {
+                  name = k.name;
+                  sense = k.sense;
+                  objective = k.objective;
+                  none_dropped = k.none_dropped;
+                  may_follow = k.may_follow;
+                  none_open = refl;
+                };
             offset = h.offset;
             rows = h.rows;
             columns = refl;
@@ -135,7 +169,12 @@ bounds_are_read style m kept room s h = by (list_any has_bounds m.columns) refl
     by false z = (
       s,
       goes_none style s,
-      record { known = h.known; offset = h.offset; rows = h.rows; columns = h.unbounded.columns ∙ none_bounded m.columns z },
+      record {
+        known = h.known;
+        offset = h.offset;
+        rows = h.rows;
+        columns = h.unbounded.columns ∙ none_bounded m.columns z;
+      },
     )
 
 -- ---- the end
@@ -147,4 +186,6 @@ is_model s m h = let k = h.known in rw (k.name, k.sense, h.offset, h.rows, k.non
 pub end_step : (style : Style) (s : State) (m : Model) → IsWhole s m →
     step style s (Text (codes "ENDATA")) ≡ Ok (Done m)
 unfolding on_section section_of free_fields fixed_fields is_skipped word_fields words_of finished model_by
-end_step style s m h = heading_step style s (codes "ENDATA") refl refl ∙ rw (h.known.may_follow, h.known.objective) (ap (λ x. Ok (Done x)) (is_model s m h))
+end_step style s m h =
+    heading_step style s (codes "ENDATA") refl refl
+    ∙ rw (h.known.may_follow, h.known.objective) (ap (λ x. Ok (Done x)) (is_model s m h))

@@ -1,5 +1,6 @@
 -- A card of COLUMNS of a written text.
-use Rattle.std.proofs.Common.{◌≡◌, ℕ, ◌<◌, true, false, not, Option, Some, Ok, List, [], ◌∷◌, ◌++◌, length, refl, ap, ◌∙◌}
+use Rattle.std.proofs.Common.{◌≡◌, ℕ, ◌<◌, true, false, not, Option, Some}
+use Rattle.std.proofs.Common.{Ok, List, [], ◌∷◌, ◌++◌, length, refl, ap, ◌∙◌}
 use Rattle.std.specs.Prelude.{codes}
 use Rattle.std.specs.List.{list_any}
 use borrow.Author.Tests.{lt-ltb}
@@ -18,7 +19,8 @@ use Rattle.spec_mps.specs.declared.target.Place.TheVariants.{Kept}
 use Rattle.spec_mps.specs.Fields.{Is}
 use Rattle.spec_mps.specs.Shapes.{shaped, has_shape}
 use Rattle.spec_mps.specs.NumberWritten.{number_text}
-use Rattle.spec_mps.specs.Reader.{State, place_of, is_among, new_column, whole_columns, is_open, opened, with_number, enter, column_pair, columns_card}
+use Rattle.spec_mps.specs.Reader.{State, place_of, is_among, new_column, whole_columns, is_open}
+use Rattle.spec_mps.specs.Reader.{opened, with_number, enter, column_pair, columns_card}
 use Rattle.spec_mps.specs.Steps.{more, data_card, step, on_reading, reading_of}
 use Rattle.spec_mps.specs.Written.{line_text, number_card}
 use Rattle.spec_mps.proofs.WrittenCards.{IsItem, read_as}
@@ -29,12 +31,15 @@ use Rattle.spec_mps.proofs.WrittenRows.{goes_one}
 use Rattle.spec_mps.proofs.WrittenParts.{number_fields}
 use Rattle.spec_mps.proofs.WrittenPlaces.{number_is_in}
 
-read_number : (style : Style) (part : Option Section) (group name : Name) (value : ℚ) → part ≡ Some section.Columns → IsItem style 8 group → IsItem style 8 name → IsItem style 12 (number_text value)
-    → reading_of style part (line_text style (number_card group name value)) ≡ Is (Given (read_as style (number_fields group name (number_text value))))
+read_number : (style : Style) (part : Option Section) (group name : Name) (value : ℚ) →
+    part ≡ Some section.Columns → IsItem style 8 group → IsItem style 8 name → IsItem style 12 (number_text value)
+    → reading_of style part (line_text style (number_card group name value))
+    ≡ Is (Given (read_as style (number_fields group name (number_text value))))
 read_number Free part group name value e h k l =
     ((cards_are_read_back Free).numbers group name (number_text value) h k l).read
 read_number Fixed part group name value e h k l =
-    ap (λ p. reading_of Fixed p (line_text Fixed (number_card group name value))) e ∙ ((cards_are_read_back Fixed).numbers group name (number_text value) h k l).read
+    ap (λ p. reading_of Fixed p (line_text Fixed (number_card group name value))) e
+    ∙ ((cards_are_read_back Fixed).numbers group name (number_text value) h k l).read
 
 has_number_shape : (style : Style) (group name text : List ℕ) →
     shaped style section.Columns (read_as style (number_fields group name text)) ≡ Ok (group ∷ name ∷ text ∷ [])
@@ -47,7 +52,8 @@ no_marker : (name : Name) → is_row_name name ≡ true → same name (codes "'M
 unfolding is_row_name
 no_marker name h = negated (same name (codes "'MARKER'")) (both (is_name name) (not (same name (codes "'MARKER'"))) h).1
 
-columns_read : (style : Style) (s t u : State) (group name text : List ℕ) → is_name group ≡ true → is_row_name name ≡ true → opened s group ≡ Ok t → column_pair t name text ≡ Ok u
+columns_read : (style : Style) (s t u : State) (group name text : List ℕ) → is_name group ≡ true →
+    is_row_name name ≡ true → opened s group ≡ Ok t → column_pair t name text ≡ Ok u
     → columns_card style s (read_as style (number_fields group name text)) ≡ Ok u
 unfolding columns_card
 columns_read Free s t u group name text g n o p =
@@ -70,19 +76,27 @@ pub record IsColumnCard (style : Style) (s : State) (group name : Name) (value :
   pub row_name : is_row_name name ≡ true
   pub narrow : IsNarrow value
 
-pub column_card_goes : (style : Style) (s t u : State) (group name : Name) (value : ℚ) (target : Target) → IsColumnCard style s group name value → opened s group ≡ Ok t → place_of t name ≡ Some (Kept target)
+pub column_card_goes : (style : Style) (s t u : State) (group name : Name) (value : ℚ) (target : Target) →
+    IsColumnCard style s group name value → opened s group ≡ Ok t → place_of t name ≡ Some (Kept target)
     → enter t (Kept target) value ≡ Ok u → Goes style s (number_card group name value ∷ []) u
 unfolding step
 column_card_goes style s t u group name value target c o p e =
     goes_one style s u (number_card group name value)
     (ap (on_reading style s) (read_number style s.part group name value c.part c.group_item c.name_item c.number_item)
     ∙ ap (λ part. more (data_card style part s (read_as style (number_fields group name (number_text value))))) c.part
-    ∙ ap more (columns_read style s t u group name (number_text value) c.group_name c.row_name o (pair_read t u name value target p c.narrow e)))
+    ∙ ap more (columns_read style s t u group name (number_text value) c.group_name c.row_name o
+    (pair_read t u name value target p c.narrow e)))
 
 -- ---- the column
 
-pub opened_new : (s : State) (name : Name) → is_open s.column name ≡ false → list_any (λ c. same c.name name) (whole_columns s) ≡ false → length (whole_columns s) < 512
-    → opened s name ≡ Ok (record s { columns = whole_columns s; column = Some (new_column name); lowered = s.lowered ++ false ∷ []; paired = [] })
+pub opened_new : (s : State) (name : Name) → is_open s.column name ≡ false →
+    list_any (λ c. same c.name name) (whole_columns s) ≡ false → length (whole_columns s) < 512
+    → opened s name ≡ Ok (record s {
+      columns = whole_columns s;
+      column = Some (new_column name);
+      lowered = s.lowered ++ false ∷ [];
+      paired = [];
+    })
 unfolding opened
 opened_new s name h k few = rw (h, k, lt-ltb (length (whole_columns s)) 512 few) refl
 

@@ -1,11 +1,13 @@
 -- The fields of a written line, in fixed form: texts that stand in their columns are read as those texts.
-use Rattle.std.proofs.Common.{◌≡◌, ℕ, zero, suc, ◌+◌, ◌-◌, ◌≤◌, ◌<◌, ◌==◌, ◌&&◌, ◌||◌, Bool, true, false, List, [], ◌∷◌, ◌++◌, length, take, drop, replicate, refl, sym, ap, ◌∙◌, arith}
+use Rattle.std.proofs.Common.{◌≡◌, ℕ, zero, suc, ◌+◌, ◌-◌, ◌≤◌, ◌<◌, ◌==◌, ◌&&◌, ◌||◌, Bool, true, false}
+use Rattle.std.proofs.Common.{List, [], ◌∷◌, ◌++◌, length, take, drop, replicate, refl, sym, ap, ◌∙◌, arith}
 use Rattle.std.specs.Prelude.{nat_le}
 use Rattle.std.specs.List.{list_all}
 use Rattle.std.proofs.lemmas.List.{append-nil, take_all, drop_all}
 use borrow.Author.Tests.{leb-true, ne_eqb}
 use Rattle.spec_model.specs.Kept.{is_printable}
-use Rattle.spec_mps.specs.Fields.{is_space, without_front, without_end, in_columns, is_beside, is_misplaced, misplaced_from}
+use Rattle.spec_mps.specs.Fields.{is_space, without_front, without_end, in_columns}
+use Rattle.spec_mps.specs.Fields.{is_beside, is_misplaced, misplaced_from}
 use Rattle.spec_mps.proofs.Steps.{both}
 
 abbrev pub IsPrinted : List ℕ → Type 0
@@ -46,7 +48,8 @@ front_kept b bs h = rw h refl
 trimmed : (w : List ℕ) (n : ℕ) → IsPrinted w → without_end (without_front (w ++ blanks n)) ≡ w
 trimmed [] n h = ap without_end (front_blank n)
 trimmed (b ∷ w) n h =
-    ap without_end (front_kept b (w ++ blanks n) (no_space b (both (is_printable b) (list_all is_printable w) h).0)) ∙ end_printed (b ∷ w) n h
+    ap without_end (front_kept b (w ++ blanks n) (no_space b (both (is_printable b) (list_all is_printable w) h).0))
+    ∙ end_printed (b ∷ w) n h
 
 -- ---- what stands between two columns
 
@@ -75,22 +78,26 @@ short (suc n) [] = omega arith
 short (suc n) (b ∷ l) = let h = short n l in omega arith
 
 -- a text in its columns, with blanks after it
-pub column_read : (front w rest : List ℕ) (n first last size : ℕ) → IsPrinted w → length front + 1 ≡ first → length front + size ≡ last → length w ≤ size → size ≤ length w + n
+pub column_read : (front w rest : List ℕ) (n first last size : ℕ) → IsPrinted w →
+    length front + 1 ≡ first → length front + size ≡ last → length w ≤ size → size ≤ length w + n
     → in_columns first last (front ++ (w ++ (blanks n ++ rest))) ≡ w
 unfolding in_columns
 column_read front w rest n first last size h a b fits far =
     let line : List ℕ = front ++ (w ++ (blanks n ++ rest)) in
     let e : drop (first - 1) (take last line) ≡ w ++ blanks (size - length w) =
-    ap (λ d. drop d (take last line)) (omega arith) ∙ window front (w ++ (blanks n ++ rest)) size last (omega arith) ∙ reach w rest n (size - length w) size (omega arith) (omega arith) in
+    ap (λ d. drop d (take last line)) (omega arith) ∙ window front (w ++ (blanks n ++ rest)) size last (omega arith)
+    ∙ reach w rest n (size - length w) size (omega arith) (omega arith) in
     ap (λ l. without_end (without_front l)) e ∙ trimmed w (size - length w) h
 
 -- the last text of a line
-pub column_last : (front w : List ℕ) (first last size : ℕ) → IsPrinted w → length front + 1 ≡ first → length front + size ≡ last → length w ≤ size
+pub column_last : (front w : List ℕ) (first last size : ℕ) → IsPrinted w →
+    length front + 1 ≡ first → length front + size ≡ last → length w ≤ size
     → in_columns first last (front ++ w) ≡ w
 unfolding in_columns
 column_last front w first last size h a b fits =
     let e : drop (first - 1) (take last (front ++ w)) ≡ w ++ blanks 0 =
-    ap (λ d. drop d (take last (front ++ w))) (omega arith) ∙ window front w size last (omega arith) ∙ take_all size w fits ∙ sym (append-nil w) in
+    ap (λ d. drop d (take last (front ++ w))) (omega arith)
+    ∙ window front w size last (omega arith) ∙ take_all size w fits ∙ sym (append-nil w) in
     ap (λ l. without_end (without_front l)) e ∙ trimmed w 0 h
 
 -- nothing follows a line
@@ -117,7 +124,8 @@ pub placed_blanks : (column n : ℕ) (rest : List ℕ) →
     misplaced_from column (blanks n ++ rest) ≡ misplaced_from (column + n) rest
 placed_blanks column zero rest = ap (λ k. misplaced_from k rest) (omega arith)
 placed_blanks column (suc n) rest =
-    rw (never (nat_le column 62) (is_beside column)) (placed_blanks (column + 1) n rest ∙ ap (λ k. misplaced_from k rest) (omega arith))
+    rw (never (nat_le column 62) (is_beside column))
+    (placed_blanks (column + 1) n rest ∙ ap (λ k. misplaced_from k rest) (omega arith))
 
 -- columns of fields alone
 abbrev pub HasNoneBeside : ℕ → ℕ → Type 0
@@ -138,4 +146,5 @@ placed_text column (suc size) (b ∷ w) rest h fits none =
     let p = both (is_printable b) (list_all is_printable w) h in
     let here : is_misplaced column b ≡ false = text_byte column b p.0 (none column (omega arith) (omega arith)) in
     let more : HasNoneBeside (column + 1) size = λ k a c. none k (omega arith) (omega arith) in
-    rw here (placed_text (column + 1) size w rest p.1 (omega arith) more ∙ ap (λ k. misplaced_from k rest) (omega arith))
+    rw here
+    (placed_text (column + 1) size w rest p.1 (omega arith) more ∙ ap (λ k. misplaced_from k rest) (omega arith))

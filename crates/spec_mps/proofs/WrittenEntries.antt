@@ -33,8 +33,10 @@ ascend_from n low (e ∷ es) above inside ascending not_zero narrow = (
     not_zero = not_zero 0 e (omega arith);
     narrow = narrow 0 e (omega arith);
   },
-  ascend_from n (suc e.0) es (λ i d l. ascending 0 (suc i) d (omega arith) (omega arith)) (λ i d l. inside (suc i) d (omega arith))
-      (λ i j d l k. ascending (suc i) (suc j) d (omega arith) (omega arith)) (λ i d l. not_zero (suc i) d (omega arith)) (λ i d l. narrow (suc i) d (omega arith)),
+  ascend_from n (suc e.0) es (λ i d l. ascending 0 (suc i) d (omega arith) (omega arith))
+      (λ i d l. inside (suc i) d (omega arith))
+      (λ i j d l k. ascending (suc i) (suc j) d (omega arith) (omega arith))
+      (λ i d l. not_zero (suc i) d (omega arith)) (λ i d l. narrow (suc i) d (omega arith)),
 )
 
 pub entries_ascend : (n : ℕ) (es : List (ℕ × ℚ)) → AreEntries n es → All (λ e. IsNarrow e.1) es → Ascend n 0 es

@@ -1,5 +1,6 @@
 -- Data cards of a written text, in fixed form, are read as their fields.
-use Rattle.std.proofs.Common.{◌≡◌, ℕ, zero, suc, ◌+◌, ◌-◌, ◌≤◌, ◌&&◌, Bool, true, false, None, List, [], ◌∷◌, ◌++◌, length, refl, sym, ap, ◌∙◌, append_assoc, length-append, arith}
+use Rattle.std.proofs.Common.{◌≡◌, ℕ, zero, suc, ◌+◌, ◌-◌, ◌≤◌, ◌&&◌, Bool, true, false, None, List, []}
+use Rattle.std.proofs.Common.{◌∷◌, ◌++◌, length, refl, sym, ap, ◌∙◌, append_assoc, length-append, arith}
 use Rattle.std.specs.List.{list_all}
 use Rattle.std.proofs.lemmas.List.{append-nil, take-append-le, length-replicate}
 use Rattle.std.proofs.lemmas.List.Folds.{list_all-append}
@@ -14,7 +15,8 @@ use Rattle.spec_mps.specs.Written.{Data, field_at, first_column, with_fields, li
 use Rattle.spec_mps.specs.NumberWritten.{IsWord}
 use Rattle.spec_mps.proofs.Steps.{both}
 use Rattle.spec_mps.proofs.WrittenWords.{is_plain, plain_text, stripped_plain, no_blank}
-use Rattle.spec_mps.proofs.WrittenColumns.{IsPrinted, blanks, HasNoneBeside, column_read, column_last, column_past, placed_blanks, placed_text}
+use Rattle.spec_mps.proofs.WrittenColumns.{IsPrinted, blanks, HasNoneBeside, column_read}
+use Rattle.spec_mps.proofs.WrittenColumns.{column_last, column_past, placed_blanks, placed_text}
 
 -- ---- lines that grow at their end
 
@@ -30,13 +32,17 @@ within_fields first last line (f ∷ fs) h =
     let n : ℕ = first_column f.number - 1 - length line in
     let a = length-append line (blanks n) in
     let b = length-append (line ++ blanks n) f.text in
-    within_fields first last ((line ++ blanks n) ++ f.text) fs (omega arith) ∙ within first last (line ++ blanks n) f.text (omega arith) ∙ within first last line (blanks n) h
+    within_fields first last ((line ++ blanks n) ++ f.text) fs (omega arith)
+    ∙ within first last (line ++ blanks n) f.text (omega arith) ∙ within first last line (blanks n) h
 
 -- a text with blanks after it, in its columns
-pub cell_read : (front w : List ℕ) (n first last size : ℕ) → IsPrinted w → length front + 1 ≡ first → length front + size ≡ last → length w ≤ size → size ≤ length w + n
+pub cell_read : (front w : List ℕ) (n first last size : ℕ) → IsPrinted w →
+    length front + 1 ≡ first → length front + size ≡ last → length w ≤ size → size ≤ length w + n
     → in_columns first last ((front ++ w) ++ blanks n) ≡ w
 cell_read front w n first last size h a b fits far =
-    ap (in_columns first last) (append_assoc front w (blanks n) ∙ ap (λ l. front ++ (w ++ l)) (sym (append-nil (blanks n)))) ∙ column_read front w [] n first last size h a b fits far
+    ap (in_columns first last)
+    (append_assoc front w (blanks n) ∙ ap (λ l. front ++ (w ++ l)) (sym (append-nil (blanks n))))
+    ∙ column_read front w [] n first last size h a b fits far
 
 -- no byte of a line is misplaced, whatever follows it
 abbrev pub IsPlaced : List ℕ → Type 0
@@ -49,13 +55,15 @@ blanks_placed : (line : List ℕ) (n : ℕ) → IsPlaced line → IsPlaced (line
 blanks_placed line n h rest =
     let a : length (line ++ blanks n) ≡ length line + length (blanks n) = length-append line (blanks n) in
     let b : length (blanks n) ≡ n = length-replicate n 32 in
-    ap (misplaced_from 1) (append_assoc line (blanks n) rest) ∙ h (blanks n ++ rest) ∙ placed_blanks (length line + 1) n rest ∙ ap (λ k. misplaced_from k rest) (omega arith)
+    ap (misplaced_from 1) (append_assoc line (blanks n) rest) ∙ h (blanks n ++ rest)
+    ∙ placed_blanks (length line + 1) n rest ∙ ap (λ k. misplaced_from k rest) (omega arith)
 
 text_placed : (line w : List ℕ) (column size : ℕ) → IsPlaced line → length line + 1 ≡ column → IsPrinted w →
     length w ≤ size → HasNoneBeside column size → IsPlaced (line ++ w)
 text_placed line w column size h e p fits none rest =
     let a = length-append line w in
-    ap (misplaced_from 1) (append_assoc line w rest) ∙ h (w ++ rest) ∙ ap (λ k. misplaced_from k (w ++ rest)) e ∙ placed_text column size w rest p fits none ∙ ap (λ k. misplaced_from k rest) (omega arith)
+    ap (misplaced_from 1) (append_assoc line w rest) ∙ h (w ++ rest) ∙ ap (λ k. misplaced_from k (w ++ rest)) e
+    ∙ placed_text column size w rest p fits none ∙ ap (λ k. misplaced_from k rest) (omega arith)
 
 whole_placed : (line : List ℕ) → IsPlaced line → misplaced_from 1 line ≡ None
 whole_placed line h = ap (misplaced_from 1) (sym (append-nil line)) ∙ h []
@@ -152,7 +160,8 @@ plain_more : (line more : List ℕ) → list_all is_plain line ≡ true → list
 plain_more line more h k = list_all-append is_plain line more ∙ rw (h, k) refl
 
 -- a line without misplaced bytes is read by its columns
-pub by_columns : (line : List ℕ) (fs : Fields) → begins_with_star line ≡ false → begins_with_blank line ≡ true → list_all is_plain line ≡ true → list_all is_blank line ≡ false → misplaced_from 1 line ≡ None
+pub by_columns : (line : List ℕ) (fs : Fields) → begins_with_star line ≡ false → begins_with_blank line ≡ true →
+    list_all is_plain line ≡ true → list_all is_blank line ≡ false → misplaced_from 1 line ≡ None
     → column_fields line ≡ fs → fixed_fields line ≡ Is (Given fs)
 unfolding fixed_fields is_skipped
 by_columns line fs star blank plain word none here = rw (star, stripped_plain line plain, word, blank, none, here) refl
@@ -190,9 +199,11 @@ cell_front line w at column size next h e c room =
     record {
       long = omega arith;
       plain =
-          plain_more (line ++ w) (blanks n) (plain_more line w h.plain (plain_text w c.word.printable)) (plain_blanks n);
+          plain_more (line ++ w) (blanks n)
+          (plain_more line w h.plain (plain_text w c.word.printable)) (plain_blanks n);
       placed =
-          blanks_placed (line ++ w) n (text_placed line w column size h.placed (ap (λ k. k + 1) h.long ∙ e) c.word.printable c.fits c.none);
+          blanks_placed (line ++ w) n
+          (text_placed line w column size h.placed (ap (λ k. k + 1) h.long ∙ e) c.word.printable c.fits c.none);
     }
 
 -- what stands in the cell, and all that stood before it
@@ -202,7 +213,8 @@ cell_is line w at column last size next h e f c room =
     let a : length (line ++ w) ≡ length line + length w = length-append line w in
     let l = h.long in
     let fits = c.fits in
-    cell_read line w (next - length (line ++ w)) column last size c.word.printable (omega arith) (omega arith) c.fits (omega arith)
+    cell_read line w (next - length (line ++ w)) column last size c.word.printable
+    (omega arith) (omega arith) c.fits (omega arith)
 
 pub cell_keeps : (line w : List ℕ) (first last next : ℕ) → last ≤ length line →
     in_columns first last (cell next line w) ≡ in_columns first last line
@@ -228,7 +240,8 @@ ended line w at column size limit h e c room =
       plain = plain_more line w h.plain (plain_text w c.word.printable);
       word = with_word line w c.word;
       placed =
-          whole_placed (line ++ w) (text_placed line w column size h.placed (ap (λ k. k + 1) h.long ∙ e) c.word.printable c.fits c.none);
+          whole_placed (line ++ w)
+          (text_placed line w column size h.placed (ap (λ k. k + 1) h.long ∙ e) c.word.printable c.fits c.none);
     }
 
 pub last_is : (line w : List ℕ) (at column last size : ℕ) → IsFront line at → at + 1 ≡ column → at + size ≡ last →
@@ -246,32 +259,38 @@ four_blanks = record { long = refl; plain = refl; placed = blanks_placed [] 4 no
 -- ---- the four kinds of cards
 
 -- fields 5 and 6 are never written
-six_fields : (line k a b c : List ℕ) → in_columns 2 3 line ≡ k → in_columns 5 12 line ≡ a → in_columns 15 22 line ≡ b → in_columns 25 36 line ≡ c → in_columns 40 47 line ≡ [] → in_columns 50 61 line ≡ []
+six_fields : (line k a b c : List ℕ) → in_columns 2 3 line ≡ k → in_columns 5 12 line ≡ a →
+    in_columns 15 22 line ≡ b → in_columns 25 36 line ≡ c → in_columns 40 47 line ≡ [] → in_columns 50 61 line ≡ []
     → column_fields line ≡ field_of 1 k ++ field_of 2 a ++ field_of 3 b ++ field_of 4 c
 unfolding column_fields
 six_fields line k a b c c1 c2 c3 c4 c5 c6 = rw (c1, c2, c3, c4, c5, c6, append-nil, append-nil) refl
 
 -- a type and a name
 pub type_card_read : (k a : List ℕ) → IsCell 2 2 k → IsCell 5 8 a
-    → fixed_fields (line_text Fixed (Data (field_at 1 k ∷ field_at 2 a ∷ []))) ≡ Is (Given (field_at 1 k ∷ field_at 2 a ∷ []))
+    → fixed_fields (line_text Fixed (Data (field_at 1 k ∷ field_at 2 a ∷ [])))
+    ≡ Is (Given (field_at 1 k ∷ field_at 2 a ∷ []))
 type_card_read k a hk ha =
     let front : IsFront (cell 4 (32 ∷ []) k) 4 = cell_front (32 ∷ []) k 1 2 2 4 one_blank refl hk (omega arith) in
     let long = front.long in
     let line : List ℕ = cell 4 (32 ∷ []) k ++ a in
     let end : IsEnded line 12 = ended (cell 4 (32 ∷ []) k) a 4 5 8 12 front refl ha refl in
     let short = end.short in
-    let c1 : in_columns 2 3 line ≡ k = within 2 3 (cell 4 (32 ∷ []) k) a (omega arith) ∙ cell_is (32 ∷ []) k 1 2 3 2 4 one_blank refl refl hk (omega arith) in
+    let c1 : in_columns 2 3 line ≡ k =
+    within 2 3 (cell 4 (32 ∷ []) k) a (omega arith)
+    ∙ cell_is (32 ∷ []) k 1 2 3 2 4 one_blank refl refl hk (omega arith) in
     let c2 : in_columns 5 12 line ≡ a = last_is (cell 4 (32 ∷ []) k) a 4 5 12 8 front refl refl ha in
     let c3 : in_columns 15 22 line ≡ [] = column_past line 15 22 (omega arith) in
     let c4 : in_columns 25 36 line ≡ [] = column_past line 25 36 (omega arith) in
     let c5 : in_columns 40 47 line ≡ [] = column_past line 40 47 (omega arith) in
     let c6 : in_columns 50 61 line ≡ [] = column_past line 50 61 (omega arith) in
-    let e : column_fields line ≡ field_at 1 k ∷ field_at 2 a ∷ [] = six_fields line k a [] [] c1 c2 c3 c4 c5 c6 ∙ rw (a_field 1 k hk.word, a_field 2 a ha.word) refl in
+    let e : column_fields line ≡ field_at 1 k ∷ field_at 2 a ∷ [] =
+    six_fields line k a [] [] c1 c2 c3 c4 c5 c6 ∙ rw (a_field 1 k hk.word, a_field 2 a ha.word) refl in
     by_columns line (field_at 1 k ∷ field_at 2 a ∷ []) refl refl end.plain end.word end.placed e
 
 -- a column or a set, a row and a number
 pub number_card_read : (a b c : List ℕ) → IsCell 5 8 a → IsCell 15 8 b → IsCell 25 12 c
-    → fixed_fields (line_text Fixed (Data (field_at 2 a ∷ field_at 3 b ∷ field_at 4 c ∷ []))) ≡ Is (Given (field_at 2 a ∷ field_at 3 b ∷ field_at 4 c ∷ []))
+    → fixed_fields (line_text Fixed (Data (field_at 2 a ∷ field_at 3 b ∷ field_at 4 c ∷ [])))
+    ≡ Is (Given (field_at 2 a ∷ field_at 3 b ∷ field_at 4 c ∷ []))
 unfolding in_columns
 number_card_read a b c ha hb hc =
     let start : List ℕ = 32 ∷ 32 ∷ 32 ∷ 32 ∷ [] in
@@ -284,18 +303,26 @@ number_card_read a b c ha hb hc =
     let l3 = f3.long in
     let l4 = f4.long in
     let short = end.short in
-    let c1 : in_columns 2 3 line ≡ [] = within 2 3 four c (omega arith) ∙ cell_keeps three b 2 3 24 (omega arith) ∙ cell_keeps start a 2 3 14 (omega arith) in
-    let c2 : in_columns 5 12 line ≡ a = within 5 12 four c (omega arith) ∙ cell_keeps three b 5 12 24 (omega arith) ∙ cell_is start a 4 5 12 8 14 four_blanks refl refl ha (omega arith) in
-    let c3 : in_columns 15 22 line ≡ b = within 15 22 four c (omega arith) ∙ cell_is three b 14 15 22 8 24 f3 refl refl hb (omega arith) in
+    let c1 : in_columns 2 3 line ≡ [] =
+    within 2 3 four c (omega arith) ∙ cell_keeps three b 2 3 24 (omega arith)
+    ∙ cell_keeps start a 2 3 14 (omega arith) in
+    let c2 : in_columns 5 12 line ≡ a =
+    within 5 12 four c (omega arith) ∙ cell_keeps three b 5 12 24 (omega arith)
+    ∙ cell_is start a 4 5 12 8 14 four_blanks refl refl ha (omega arith) in
+    let c3 : in_columns 15 22 line ≡ b =
+    within 15 22 four c (omega arith) ∙ cell_is three b 14 15 22 8 24 f3 refl refl hb (omega arith) in
     let c4 : in_columns 25 36 line ≡ c = last_is four c 24 25 36 12 f4 refl refl hc in
     let c5 : in_columns 40 47 line ≡ [] = column_past line 40 47 (omega arith) in
     let c6 : in_columns 50 61 line ≡ [] = column_past line 50 61 (omega arith) in
-    let e : column_fields line ≡ field_at 2 a ∷ field_at 3 b ∷ field_at 4 c ∷ [] = six_fields line [] a b c c1 c2 c3 c4 c5 c6 ∙ rw (a_field 2 a ha.word, a_field 3 b hb.word, a_field 4 c hc.word) refl in
+    let e : column_fields line ≡ field_at 2 a ∷ field_at 3 b ∷ field_at 4 c ∷ [] =
+    six_fields line [] a b c c1 c2 c3 c4 c5 c6
+    ∙ rw (a_field 2 a ha.word, a_field 3 b hb.word, a_field 4 c hc.word) refl in
     by_columns line (field_at 2 a ∷ field_at 3 b ∷ field_at 4 c ∷ []) refl refl end.plain end.word end.placed e
 
 -- a kind of bounds, a set and a column
 pub unbound_card_read : (k a b : List ℕ) → IsCell 2 2 k → IsCell 5 8 a → IsCell 15 8 b
-    → fixed_fields (line_text Fixed (Data (field_at 1 k ∷ field_at 2 a ∷ field_at 3 b ∷ []))) ≡ Is (Given (field_at 1 k ∷ field_at 2 a ∷ field_at 3 b ∷ []))
+    → fixed_fields (line_text Fixed (Data (field_at 1 k ∷ field_at 2 a ∷ field_at 3 b ∷ [])))
+    ≡ Is (Given (field_at 1 k ∷ field_at 2 a ∷ field_at 3 b ∷ []))
 unbound_card_read k a b hk ha hb =
     let start : List ℕ = 32 ∷ [] in
     let two : List ℕ = cell 4 start k in
@@ -307,18 +334,24 @@ unbound_card_read k a b hk ha hb =
     let l2 = f2.long in
     let l3 = f3.long in
     let short = end.short in
-    let c1 : in_columns 2 3 line ≡ k = within 2 3 three b (omega arith) ∙ cell_keeps two a 2 3 14 (omega arith) ∙ cell_is start k 1 2 3 2 4 one_blank refl refl hk (omega arith) in
-    let c2 : in_columns 5 12 line ≡ a = within 5 12 three b (omega arith) ∙ cell_is two a 4 5 12 8 14 f2 refl refl ha (omega arith) in
+    let c1 : in_columns 2 3 line ≡ k =
+    within 2 3 three b (omega arith) ∙ cell_keeps two a 2 3 14 (omega arith)
+    ∙ cell_is start k 1 2 3 2 4 one_blank refl refl hk (omega arith) in
+    let c2 : in_columns 5 12 line ≡ a =
+    within 5 12 three b (omega arith) ∙ cell_is two a 4 5 12 8 14 f2 refl refl ha (omega arith) in
     let c3 : in_columns 15 22 line ≡ b = last_is three b 14 15 22 8 f3 refl refl hb in
     let c4 : in_columns 25 36 line ≡ [] = column_past line 25 36 (omega arith) in
     let c5 : in_columns 40 47 line ≡ [] = column_past line 40 47 (omega arith) in
     let c6 : in_columns 50 61 line ≡ [] = column_past line 50 61 (omega arith) in
-    let e : column_fields line ≡ field_at 1 k ∷ field_at 2 a ∷ field_at 3 b ∷ [] = six_fields line k a b [] c1 c2 c3 c4 c5 c6 ∙ rw (a_field 1 k hk.word, a_field 2 a ha.word, a_field 3 b hb.word) refl in
+    let e : column_fields line ≡ field_at 1 k ∷ field_at 2 a ∷ field_at 3 b ∷ [] =
+    six_fields line k a b [] c1 c2 c3 c4 c5 c6
+    ∙ rw (a_field 1 k hk.word, a_field 2 a ha.word, a_field 3 b hb.word) refl in
     by_columns line (field_at 1 k ∷ field_at 2 a ∷ field_at 3 b ∷ []) refl refl end.plain end.word end.placed e
 
 -- .. and a number
 pub bound_card_read : (k a b c : List ℕ) → IsCell 2 2 k → IsCell 5 8 a → IsCell 15 8 b → IsCell 25 12 c
-    → fixed_fields (line_text Fixed (Data (field_at 1 k ∷ field_at 2 a ∷ field_at 3 b ∷ field_at 4 c ∷ []))) ≡ Is (Given (field_at 1 k ∷ field_at 2 a ∷ field_at 3 b ∷ field_at 4 c ∷ []))
+    → fixed_fields (line_text Fixed (Data (field_at 1 k ∷ field_at 2 a ∷ field_at 3 b ∷ field_at 4 c ∷ [])))
+    ≡ Is (Given (field_at 1 k ∷ field_at 2 a ∷ field_at 3 b ∷ field_at 4 c ∷ []))
 bound_card_read k a b c hk ha hb hc =
     let start : List ℕ = 32 ∷ [] in
     let two : List ℕ = cell 4 start k in
@@ -334,12 +367,18 @@ bound_card_read k a b c hk ha hb hc =
     let l4 = f4.long in
     let short = end.short in
     let c1 : in_columns 2 3 line ≡ k =
-    within 2 3 four c (omega arith) ∙ cell_keeps three b 2 3 24 (omega arith) ∙ cell_keeps two a 2 3 14 (omega arith) ∙ cell_is start k 1 2 3 2 4 one_blank refl refl hk (omega arith) in
-    let c2 : in_columns 5 12 line ≡ a = within 5 12 four c (omega arith) ∙ cell_keeps three b 5 12 24 (omega arith) ∙ cell_is two a 4 5 12 8 14 f2 refl refl ha (omega arith) in
-    let c3 : in_columns 15 22 line ≡ b = within 15 22 four c (omega arith) ∙ cell_is three b 14 15 22 8 24 f3 refl refl hb (omega arith) in
+    within 2 3 four c (omega arith) ∙ cell_keeps three b 2 3 24 (omega arith)
+    ∙ cell_keeps two a 2 3 14 (omega arith) ∙ cell_is start k 1 2 3 2 4 one_blank refl refl hk (omega arith) in
+    let c2 : in_columns 5 12 line ≡ a =
+    within 5 12 four c (omega arith) ∙ cell_keeps three b 5 12 24 (omega arith)
+    ∙ cell_is two a 4 5 12 8 14 f2 refl refl ha (omega arith) in
+    let c3 : in_columns 15 22 line ≡ b =
+    within 15 22 four c (omega arith) ∙ cell_is three b 14 15 22 8 24 f3 refl refl hb (omega arith) in
     let c4 : in_columns 25 36 line ≡ c = last_is four c 24 25 36 12 f4 refl refl hc in
     let c5 : in_columns 40 47 line ≡ [] = column_past line 40 47 (omega arith) in
     let c6 : in_columns 50 61 line ≡ [] = column_past line 50 61 (omega arith) in
     let e : column_fields line ≡ field_at 1 k ∷ field_at 2 a ∷ field_at 3 b ∷ field_at 4 c ∷ [] =
-    six_fields line k a b c c1 c2 c3 c4 c5 c6 ∙ rw (a_field 1 k hk.word, a_field 2 a ha.word, a_field 3 b hb.word, a_field 4 c hc.word) refl in
-    by_columns line (field_at 1 k ∷ field_at 2 a ∷ field_at 3 b ∷ field_at 4 c ∷ []) refl refl end.plain end.word end.placed e
+    six_fields line k a b c c1 c2 c3 c4 c5 c6
+    ∙ rw (a_field 1 k hk.word, a_field 2 a ha.word, a_field 3 b hb.word, a_field 4 c hc.word) refl in
+    by_columns line
+    (field_at 1 k ∷ field_at 2 a ∷ field_at 3 b ∷ field_at 4 c ∷ []) refl refl end.plain end.word end.placed e

@@ -30,7 +30,8 @@ alike Fixed (Some section.Ranges) line reading a b = b
 alike Fixed (Some section.Bounds) line reading a b = b
 alike Fixed (Some section.End) line reading a b = b
 
-pub heading_step : (style : Style) (s : State) (word : List ℕ) → free_fields word ≡ Is (Heading (field_at 1 word ∷ [])) → fixed_fields word ≡ Is (Heading (field_at 1 word ∷ []))
+pub heading_step : (style : Style) (s : State) (word : List ℕ) →
+    free_fields word ≡ Is (Heading (field_at 1 word ∷ [])) → fixed_fields word ≡ Is (Heading (field_at 1 word ∷ []))
     → step style s (Text word) ≡ section_card s (field_at 1 word ∷ [])
 unfolding step
 heading_step style s word a b =

@@ -1,5 +1,6 @@
 -- Names of a kept model are words, none is there twice, and where fixed form fits they have room in their fields.
-use Rattle.std.proofs.Common.{◌≡◌, ◌≢◌, suc, ◌&&◌, Bool, true, false, cond, Option, Some, None, List, [], ◌∷◌, ◌++◌, length, map, get_or, refl, sym, ap, ◌∙◌, arith}
+use Rattle.std.proofs.Common.{◌≡◌, ◌≢◌, suc, ◌&&◌, Bool, true, false, cond, Option, Some, None}
+use Rattle.std.proofs.Common.{List, [], ◌∷◌, ◌++◌, length, map, get_or, refl, sym, ap, ◌∙◌, arith}
 use Rattle.std.specs.Prelude.{nat_lt, nat_le, option_map, find, IsTrue}
 use Rattle.std.specs.Option.{option_or}
 use Rattle.std.specs.List.{All, AllPairs, list_all, flat_map}
@@ -53,7 +54,8 @@ pub fresh : (seen names : List Name) → All (λ n. IsAbsent n seen) names → A
 fresh seen [] h k = tt
 fresh seen (name ∷ names) h k = (
   h 0 name (omega arith),
-  fresh (seen ++ name ∷ []) names (λ i d a. absent_next (get_or names i d) seen name (h (suc i) d (omega arith)) (k 0 (suc i) d (omega arith) (omega arith)))
+  fresh (seen ++ name ∷ []) names (λ i d a. absent_next (get_or names i d) seen name
+      (h (suc i) d (omega arith)) (k 0 (suc i) d (omega arith) (omega arith)))
       (λ i j d a b. k (suc i) (suc j) d (omega arith) (omega arith)),
 )
 
@@ -81,17 +83,21 @@ back_none None y h = h
 back_none (Some f) y h = cc
 
 in_both : (cs ds : WrittenCards) →
-    first_wide (cs ++ ds) ≡ option_map (λ g. g.text) (option_or (find is_wide (flat_map data_fields cs)) (find is_wide (flat_map data_fields ds)))
+    first_wide (cs ++ ds) ≡ option_map (λ g. g.text)
+    (option_or (find is_wide (flat_map data_fields cs)) (find is_wide (flat_map data_fields ds)))
 in_both cs ds =
-    ap (option_map (λ g. g.text)) (ap (find is_wide) (flat_map-append data_fields cs ds) ∙ find-append is_wide (flat_map data_fields cs) (flat_map data_fields ds))
+    ap (option_map (λ g. g.text)) (ap (find is_wide) (flat_map-append data_fields cs ds)
+    ∙ find-append is_wide (flat_map data_fields cs) (flat_map data_fields ds))
 
 pub front_narrow : (cs ds : WrittenCards) → first_wide (cs ++ ds) ≡ None → first_wide cs ≡ None
 front_narrow cs ds h =
-    front_none (find is_wide (flat_map data_fields cs)) (find is_wide (flat_map data_fields ds)) (sym (in_both cs ds) ∙ h)
+    front_none (find is_wide (flat_map data_fields cs))
+    (find is_wide (flat_map data_fields ds)) (sym (in_both cs ds) ∙ h)
 
 pub back_narrow : (cs ds : WrittenCards) → first_wide (cs ++ ds) ≡ None → first_wide ds ≡ None
 back_narrow cs ds h =
-    back_none (find is_wide (flat_map data_fields cs)) (find is_wide (flat_map data_fields ds)) (sym (in_both cs ds) ∙ h)
+    back_none (find is_wide (flat_map data_fields cs))
+    (find is_wide (flat_map data_fields ds)) (sym (in_both cs ds) ∙ h)
 
 -- ---- rows
 
@@ -103,10 +109,17 @@ pub rows_known : (style : Style) (rows : List ExactRow) → All (λ r. IsTrue (i
     RoomForRows style rows → AreRows style rows
 rows_known style [] h room = tt
 rows_known Free (r ∷ rows) h room =
-    let name : is_row_name r.name ≡ true = h 0 r (omega arith) in
-    (record { word = row_name_word r.name name; room = tt }, name, rows_known Free rows (λ i d a. h (suc i) d (omega arith)) tt)
+    let name : is_row_name r.name ≡ true = h 0 r (omega arith) in (
+      record { word = row_name_word r.name name; room = tt },
+      name,
+      rows_known Free rows (λ i d a. h (suc i) d (omega arith)) tt,
+    )
 rows_known Fixed (r ∷ rows) h room =
     let name : is_row_name r.name ≡ true = h 0 r (omega arith) in
-    let type = field_narrow (field_at 1 (kind_word r.kind)) (field_at 2 r.name ∷ flat_map data_fields (map row_card rows)) room in
-    let p = field_narrow (field_at 2 r.name) (flat_map data_fields (map row_card rows)) type.1 in
-    (record { word = row_name_word r.name name; room = ltb-false 8 (length r.name) p.0 }, name, rows_known Fixed rows (λ i d a. h (suc i) d (omega arith)) p.1)
+    let type =
+    field_narrow (field_at 1 (kind_word r.kind)) (field_at 2 r.name ∷ flat_map data_fields (map row_card rows)) room in
+    let p = field_narrow (field_at 2 r.name) (flat_map data_fields (map row_card rows)) type.1 in (
+      record { word = row_name_word r.name name; room = ltb-false 8 (length r.name) p.0 },
+      name,
+      rows_known Fixed rows (λ i d a. h (suc i) d (omega arith)) p.1,
+    )

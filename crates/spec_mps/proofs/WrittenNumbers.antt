@@ -1,5 +1,6 @@
 -- The text of a number is a word.
-use Rattle.std.proofs.Common.{◌≡◌, ℕ, ◌*◌, ◌/◌, ◌^◌, ◌<◌, ◌≤◌, ◌==◌, Bool, true, false, cond, Option, Some, None, List, [], ◌∷◌, ◌++◌, length, pos, refl, ◌∙◌, arith}
+use Rattle.std.proofs.Common.{◌≡◌, ℕ, ◌*◌, ◌/◌, ◌^◌, ◌<◌, ◌≤◌, ◌==◌, Bool, true, false, cond, Option}
+use Rattle.std.proofs.Common.{Some, None, List, [], ◌∷◌, ◌++◌, length, pos, refl, ◌∙◌, arith}
 use Rattle.std.specs.Prelude.{decimal, nat_le, int_lt, unsigned_abs}
 use Rattle.std.specs.List.{list_all}
 use Rattle.std.specs.Char.{is_ascii_digit}
@@ -10,7 +11,8 @@ use Rattle.spec_text.specs.Words.{has_bytes}
 use Rattle.spec_exact.specs.Fraction.{ℚ}
 use Rattle.spec_exact.specs.Narrow.{widest}
 use Rattle.spec_model.specs.Kept.{is_printable}
-use Rattle.spec_mps.specs.NumberWritten.{last_digits, pointed, quotient_text, placed, places, size_text, number_text, IsWord}
+use Rattle.spec_mps.specs.NumberWritten.{last_digits, pointed, quotient_text, placed}
+use Rattle.spec_mps.specs.NumberWritten.{places, size_text, number_text, IsWord}
 use Rattle.spec_mps.proofs.Steps.{both}
 use Rattle.spec_mps.proofs.DigitLemmas.{digit_is, spelled_decimal, last_are_digits}
 
@@ -47,7 +49,8 @@ pointed_word : (d n : ℕ) → n ≤ widest → IsWord (pointed d n)
 unfolding pointed
 pointed_word d n h =
     let a : n / 10 ^ d ≤ n = div-le_self n (10 ^ d) in
-    longer (decimal (n / 10 ^ d)) (46 ∷ last_digits d n) (decimal_word (n / 10 ^ d) (omega arith)) (printed (last_digits d n) (last_are_digits d n))
+    longer (decimal (n / 10 ^ d)) (46 ∷ last_digits d n)
+    (decimal_word (n / 10 ^ d) (omega arith)) (printed (last_digits d n) (last_are_digits d n))
 
 placed_word : (n den : ℕ) (o : Option ℕ) → n ≤ widest → den ≤ widest → IsWord (placed n den o)
 unfolding placed

@@ -48,11 +48,13 @@ reading_is Fixed section.Ranges line h = refl
 reading_is Fixed section.Bounds line h = refl
 reading_is Fixed section.End line h = cc
 
-pub given_step : (style : Style) (s : State) (part : Section) (line : List ℕ) (fields : Fields) → s.part ≡ Some part → has_numbers part ≡ true → reading_in style line ≡ Is (Given fields)
+pub given_step : (style : Style) (s : State) (part : Section) (line : List ℕ) (fields : Fields) →
+    s.part ≡ Some part → has_numbers part ≡ true → reading_in style line ≡ Is (Given fields)
     → step style s (Text line) ≡ more (data_card style (Some part) s fields)
 unfolding step
 given_step style s part line fields e h k =
-    ap (λ p. on_reading style s (reading_of style p line)) e ∙ ap (on_reading style s) (reading_is style part line h ∙ k) ∙ ap (λ p. more (data_card style p s fields)) e
+    ap (λ p. on_reading style s (reading_of style p line)) e
+    ∙ ap (on_reading style s) (reading_is style part line h ∙ k) ∙ ap (λ p. more (data_card style p s fields)) e
 
 -- ---- numbers
 
@@ -70,4 +72,8 @@ pub number_card_of : (style : Style) (group name : Name) (q : ℚ) → IsWord na
     RoomFor style (number_card group name q ∷ []) → IsNumberCard style name q
 number_card_of style group name q word h room =
     let r = card_room style group name q [] room in
-    record { row = record { word = word; room = r.name }; number = number_item style q h r.number; reads = number_is_in q h }
+    record {
+      row = record { word = word; room = r.name };
+      number = number_item style q h r.number;
+      reads = number_is_in q h;
+    }

@@ -1,5 +1,6 @@
 -- The names of a kept model's objective and rows stand for them, and the texts of its numbers are read as these.
-use Rattle.std.proofs.Common.{◌≡◌, ◌≢◌, ℕ, zero, suc, ◌<◌, Bool, true, false, Some, Ok, List, [], ◌∷◌, length, map, get_or, refl, sym, ap, ◌∙◌, arith}
+use Rattle.std.proofs.Common.{◌≡◌, ◌≢◌, ℕ, zero, suc, ◌<◌, Bool, true, false, Some, Ok}
+use Rattle.std.proofs.Common.{List, [], ◌∷◌, length, map, get_or, refl, sym, ap, ◌∙◌, arith}
 use Rattle.std.specs.List.{AllPairs, position, position_or_len}
 use Rattle.std.proofs.lemmas.List.{length-map}
 use Rattle.std.proofs.Math.ListN.{get_or-map}
@@ -55,7 +56,10 @@ passed [] i h l = absurd (omega arith)
 passed (r ∷ rows) zero h l = rw (same_itself r.name) refl
 passed (r ∷ rows) (suc i) h l =
     let less : i < length rows = omega arith in
-    rw (not_same r.name (get_or rows i no_row).name (names_differ rows r.name i h less), passed rows i (tail_pairs r.name (names_of rows) h) less) (omega arith)
+    rw (
+      not_same r.name (get_or rows i no_row).name (names_differ rows r.name i h less),
+      passed rows i (tail_pairs r.name (names_of rows) h) less,
+    ) (omega arith)
 
 position_of : (rows : List ExactRow) (i : ℕ) → AllPairs (λ x y. x ≢ y) (names_of rows) → i < length rows →
     position (λ r. same r.name (get_or rows i no_row).name) (map bare_row rows) ≡ Some i
@@ -77,4 +81,10 @@ pub row_place : (m : Model) (s : State) (i : ℕ) → IsModel m → HasRowsOf m 
     place_of s (row m i).name ≡ Some (Kept (Row i))
 unfolding place_of
 row_place m s i kept h l =
-    rw (h.objective, not_same m.objective (row m i).name (names_differ m.rows m.objective i kept.rows_distinct l), h.none_dropped, h.rows, position_of m.rows i (tail_pairs m.objective (names_of m.rows) kept.rows_distinct) l) refl
+    rw (
+      h.objective,
+      not_same m.objective (row m i).name (names_differ m.rows m.objective i kept.rows_distinct l),
+      h.none_dropped,
+      h.rows,
+      position_of m.rows i (tail_pairs m.objective (names_of m.rows) kept.rows_distinct) l,
+    ) refl

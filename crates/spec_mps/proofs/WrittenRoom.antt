@@ -8,7 +8,9 @@ use Rattle.spec_model.specs.Model.{Model, Name}
 use Rattle.spec_mps.specs.declared.style.Style.{Style}
 use Rattle.spec_mps.specs.declared.style.Style.TheVariants.{Free, Fixed}
 use Rattle.spec_mps.specs.NumberWritten.{number_text}
-use Rattle.spec_mps.specs.Written.{WrittenCards, cards_of, name_card, sense_cards, rows_cards, columns_cards, column_cards, sides_cards, ranges_cards, bounds_cards, section_card, number_card, field_at, data_fields, first_wide, too_wide}
+use Rattle.spec_mps.specs.Written.{WrittenCards, cards_of, name_card, sense_cards, rows_cards}
+use Rattle.spec_mps.specs.Written.{columns_cards, column_cards, sides_cards, ranges_cards, bounds_cards}
+use Rattle.spec_mps.specs.Written.{section_card, number_card, field_at, data_fields, first_wide, too_wide}
 use Rattle.spec_mps.proofs.WrittenCards.{HasRoom}
 use Rattle.spec_mps.proofs.WrittenSteps.{Fits}
 use Rattle.spec_mps.proofs.WrittenNames.{front_narrow, back_narrow, field_narrow}
@@ -33,7 +35,12 @@ card_room Fixed group name value cards h =
     let a = field_narrow (field_at 2 group) (field_at 3 name ∷ field_at 4 (number_text value) ∷ rest) h in
     let b = field_narrow (field_at 3 name) (field_at 4 (number_text value) ∷ rest) a.1 in
     let c = field_narrow (field_at 4 (number_text value)) rest b.1 in
-    record { group = ltb-false 8 (length group) a.0; name = ltb-false 8 (length name) b.0; number = ltb-false 12 (length (number_text value)) c.0; rest = c.1 }
+    record {
+      group = ltb-false 8 (length group) a.0;
+      name = ltb-false 8 (length name) b.0;
+      number = ltb-false 12 (length (number_text value)) c.0;
+      rest = c.1;
+    }
 
 pub room_front : (style : Style) (cs ds : WrittenCards) → RoomFor style (cs ++ ds) → RoomFor style cs
 room_front Free cs ds h = tt
@@ -47,8 +54,11 @@ columns_narrow : (m : Model) → too_wide m ≡ None → first_wide (columns_car
 unfolding too_wide cards_of
 columns_narrow m h =
     let start : WrittenCards = name_card m.name ∷ sense_cards m.sense in
-    let a = front_narrow (start ++ rows_cards m ++ columns_cards m ++ sides_cards m ++ ranges_cards m ++ bounds_cards m) (section_card (codes "ENDATA") ∷ []) h in
-    let b = front_narrow (start ++ rows_cards m ++ columns_cards m ++ sides_cards m ++ ranges_cards m) (bounds_cards m) a in
+    let a =
+    front_narrow (start ++ rows_cards m ++ columns_cards m ++ sides_cards m ++ ranges_cards m ++ bounds_cards m)
+    (section_card (codes "ENDATA") ∷ []) h in
+    let b =
+    front_narrow (start ++ rows_cards m ++ columns_cards m ++ sides_cards m ++ ranges_cards m) (bounds_cards m) a in
     let c = front_narrow (start ++ rows_cards m ++ columns_cards m ++ sides_cards m) (ranges_cards m) b in
     let d = front_narrow (start ++ rows_cards m ++ columns_cards m) (sides_cards m) c in
     back_narrow (start ++ rows_cards m) (columns_cards m) d

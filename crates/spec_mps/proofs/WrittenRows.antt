@@ -1,5 +1,6 @@
 -- The cards of ROWS of a written text are read as the rows.
-use Rattle.std.proofs.Common.{◌≡◌, ℕ, ◌+◌, ◌<◌, ◌≤◌, ◌||◌, Bool, true, false, Option, Some, None, Ok, List, [], ◌∷◌, ◌++◌, length, map, refl, sym, ap, ◌∙◌, subst, append_assoc, length-append, arith}
+use Rattle.std.proofs.Common.{◌≡◌, ℕ, ◌+◌, ◌<◌, ◌≤◌, ◌||◌, Bool, true, false, Option, Some, None, Ok, List, [], ◌∷◌}
+use Rattle.std.proofs.Common.{◌++◌, length, map, refl, sym, ap, ◌∙◌, subst, append_assoc, length-append, arith}
 use Rattle.std.specs.List.{list_any, position, position_or_len}
 use Rattle.std.proofs.lemmas.List.{append-nil, map-append}
 use borrow.Author.Tests.{lt-ltb, le-ltb}
@@ -39,7 +40,8 @@ pub goes_then : (style : Style) (s t u : State) (card : WrittenCard) (cards : Wr
 goes_then style s t u card cards h k =
     record {
       goes =
-          λ n rest. h.goes n (card_lines style cards ++ rest) ∙ k.goes (n + 1) rest ∙ ap (λ i. judge style u i rest) (omega arith);
+          λ n rest. h.goes n (card_lines style cards ++ rest)
+          ∙ k.goes (n + 1) rest ∙ ap (λ i. judge style u i rest) (omega arith);
     }
 
 -- ---- one row
@@ -47,11 +49,13 @@ goes_then style s t u card cards h k =
 abbrev pub type_fields : List ℕ → Name → Fields
 type_fields type name = field_at 1 type ∷ field_at 2 name ∷ []
 
-read_type : (style : Style) (part : Option Section) (type : List ℕ) (name : Name) → part ≡ Some section.Rows → IsItem style 2 type → IsItem style 8 name
+read_type : (style : Style) (part : Option Section) (type : List ℕ) (name : Name) →
+    part ≡ Some section.Rows → IsItem style 2 type → IsItem style 8 name
     → reading_of style part (line_text style (type_card type name)) ≡ Is (Given (type_fields type name))
 read_type Free part type name e h k = ((cards_are_read_back Free).types type name h k).read
 read_type Fixed part type name e h k =
-    ap (λ p. reading_of Fixed p (line_text Fixed (type_card type name))) e ∙ ((cards_are_read_back Fixed).types type name h k).read
+    ap (λ p. reading_of Fixed p (line_text Fixed (type_card type name))) e
+    ∙ ((cards_are_read_back Fixed).types type name h k).read
 
 has_type_shape : (style : Style) (type : List ℕ) (name : Name) →
     shaped style section.Rows (type_fields type name) ≡ Ok (type ∷ name ∷ [])
@@ -64,11 +68,14 @@ type_read : (style : Style) (s t : State) (type : List ℕ) (name : Name) (kind 
 unfolding rows_card
 type_read style s t type name kind known added = rw (has_type_shape style type name, known, added) refl
 
-pub type_step : (style : Style) (s t : State) (type : List ℕ) (name : Name) (kind : RowType) → s.part ≡ Some section.Rows → IsItem style 2 type → IsItem style 8 name → row_type_of type ≡ Some kind
+pub type_step : (style : Style) (s t : State) (type : List ℕ) (name : Name) (kind : RowType) →
+    s.part ≡ Some section.Rows → IsItem style 2 type → IsItem style 8 name → row_type_of type ≡ Some kind
     → add_row s kind name ≡ Ok t → step style s (Text (line_text style (type_card type name))) ≡ Ok (More t)
 unfolding step
 type_step style s t type name kind e h k known added =
-    ap (on_reading style s) (read_type style s.part type name e h k) ∙ ap (λ p. more (data_card style p s (type_fields type name))) e ∙ ap more (type_read style s t type name kind known added)
+    ap (on_reading style s) (read_type style s.part type name e h k)
+    ∙ ap (λ p. more (data_card style p s (type_fields type name))) e
+    ∙ ap more (type_read style s t type name kind known added)
 
 kind_item : (style : Style) (kind : Kind) → IsItem style 2 (kind_word kind)
 kind_item Free L = record { word = record { some = refl; printable = refl }; room = tt }
@@ -84,16 +91,19 @@ kind_known L = refl
 kind_known G = refl
 kind_known E = refl
 
-row_added : (s : State) (kind : Kind) (name : Name) → is_row_name name ≡ true → place_of s name ≡ None → length s.rows + length s.dropped < 256
+row_added : (s : State) (kind : Kind) (name : Name) → is_row_name name ≡ true →
+    place_of s name ≡ None → length s.rows + length s.dropped < 256
     → add_row s (Limited kind) name ≡ Ok (record s { rows = s.rows ++ new_row kind name ∷ [] })
 unfolding add_row
 row_added s kind name h k few = rw (h, k, lt-ltb (length s.rows + length s.dropped) 256 few) refl
 
-pub row_goes : (style : Style) (s : State) (r : ExactRow) → s.part ≡ Some section.Rows → IsItem style 8 r.name → is_row_name r.name ≡ true → place_of s r.name ≡ None → length s.rows + length s.dropped < 256
+pub row_goes : (style : Style) (s : State) (r : ExactRow) → s.part ≡ Some section.Rows → IsItem style 8 r.name →
+    is_row_name r.name ≡ true → place_of s r.name ≡ None → length s.rows + length s.dropped < 256
     → Goes style s (row_card r ∷ []) (record s { rows = s.rows ++ bare_row r ∷ [] })
 row_goes style s r e item name free few =
     goes_one style s (record s { rows = s.rows ++ bare_row r ∷ [] }) (row_card r)
-    (type_step style s (record s { rows = s.rows ++ bare_row r ∷ [] }) (kind_word r.kind) r.name (Limited r.kind) e (kind_item style r.kind) item (kind_known r.kind) (row_added s r.kind r.name name free few))
+    (type_step style s (record s { rows = s.rows ++ bare_row r ∷ [] }) (kind_word r.kind) r.name
+    (Limited r.kind) e (kind_item style r.kind) item (kind_known r.kind) (row_added s r.kind r.name name free few))
 
 -- ---- the objective
 
@@ -147,8 +157,10 @@ names_next : (objective : Name) (rows : List ExactRow) (r : ExactRow) →
     (objective ∷ names_of rows) ++ r.name ∷ [] ≡ objective ∷ names_of (rows ++ bare_row r ∷ [])
 names_next objective rows r = ap (λ l. objective ∷ l) (sym (map-append (λ q. q.name) rows (bare_row r ∷ [])))
 
-pub rows_go : (style : Style) (s : State) (objective : Name) (rows : List ExactRow) → s.part ≡ Some section.Rows → s.objective ≡ Some objective → s.dropped ≡ [] → AreRows style rows
-    → AreFresh (objective ∷ names_of s.rows) (names_of rows) → length s.rows + length rows ≤ 256 → Goes style s (map row_card rows) (record s { rows = s.rows ++ map bare_row rows })
+pub rows_go : (style : Style) (s : State) (objective : Name) (rows : List ExactRow) →
+    s.part ≡ Some section.Rows → s.objective ≡ Some objective → s.dropped ≡ [] → AreRows style rows
+    → AreFresh (objective ∷ names_of s.rows) (names_of rows) → length s.rows + length rows ≤ 256 →
+    Goes style s (map row_card rows) (record s { rows = s.rows ++ map bare_row rows })
 rows_go style s objective [] e o d known fresh few =
     let P : List ExactRow → Type 0 = λ rs. Goes style s [] (record s { rows = rs }) in
     subst P (sym (append-nil s.rows)) (goes_none style s)
@@ -158,7 +170,9 @@ rows_go style s objective (r ∷ rows) e o d known fresh few =
     let long : length t.rows ≡ length s.rows + 1 = length-append s.rows (bare_row r ∷ []) in
     let F : List Name → Type 0 = λ seen. AreFresh seen (names_of rows) in
     let P : List ExactRow → Type 0 = λ rs. Goes style t (map row_card rows) (record s { rows = rs }) in
-    let one : Goes style s (row_card r ∷ []) t = row_goes style s r e known.0 known.1 (place_absent s objective r.name o d fresh.0) (omega arith) in
+    let one : Goes style s (row_card r ∷ []) t =
+    row_goes style s r e known.0 known.1 (place_absent s objective r.name o d fresh.0) (omega arith) in
     let rest : Goes style t (map row_card rows) (record s { rows = t.rows ++ map bare_row rows }) =
     rows_go style t objective rows e o d known.2 (subst F (names_next objective s.rows r) fresh.1) (omega arith) in
-    goes_then style s t (record s { rows = s.rows ++ map bare_row (r ∷ rows) }) (row_card r) (map row_card rows) one (subst P (append_assoc s.rows (bare_row r ∷ []) (map bare_row rows)) rest)
+    goes_then style s t (record s { rows = s.rows ++ map bare_row (r ∷ rows) }) (row_card r)
+    (map row_card rows) one (subst P (append_assoc s.rows (bare_row r ∷ []) (map bare_row rows)) rest)

@@ -12,19 +12,25 @@ use Rattle.spec_mps.specs.declared.row_type.RowType.TheVariants.{Unlimited}
 use Rattle.spec_mps.specs.Shapes.{row_type_of}
 use Rattle.spec_mps.specs.Reader.{State, place_of}
 use Rattle.spec_mps.specs.Steps.{begun}
-use Rattle.spec_mps.specs.Written.{WrittenCards, cards_of, name_card, sense_cards, rows_cards, columns_cards, sides_cards, ranges_cards, bounds_cards, section_card, type_card, row_card, field_at, data_fields, first_wide, too_wide}
+use Rattle.spec_mps.specs.Written.{WrittenCards, cards_of, name_card, sense_cards, rows_cards}
+use Rattle.spec_mps.specs.Written.{columns_cards, sides_cards, ranges_cards, bounds_cards, section_card}
+use Rattle.spec_mps.specs.Written.{type_card, row_card, field_at, data_fields, first_wide, too_wide}
 use Rattle.spec_mps.proofs.WrittenCards.{IsItem}
 use Rattle.spec_mps.proofs.WrittenSteps.{Fits, Goes, HasNoRows, RowsAreRead, bare_row, with_rows_of}
 use Rattle.spec_mps.proofs.WrittenHeadings.{rows_step}
 use Rattle.spec_mps.proofs.WrittenRows.{AreFresh, goes_one, goes_then, type_step, objective_added, rows_go, names_of}
-use Rattle.spec_mps.proofs.WrittenNames.{row_name_word, fresh_names, front_narrow, back_narrow, field_narrow, RoomForRows, rows_known}
+use Rattle.spec_mps.proofs.WrittenNames.{row_name_word, fresh_names, front_narrow}
+use Rattle.spec_mps.proofs.WrittenNames.{back_narrow, field_narrow, RoomForRows, rows_known}
 
 rows_narrow : (m : Model) → too_wide m ≡ None → first_wide (rows_cards m) ≡ None
 unfolding too_wide cards_of
 rows_narrow m h =
     let start : WrittenCards = name_card m.name ∷ sense_cards m.sense in
-    let a = front_narrow (start ++ rows_cards m ++ columns_cards m ++ sides_cards m ++ ranges_cards m ++ bounds_cards m) (section_card (codes "ENDATA") ∷ []) h in
-    let b = front_narrow (start ++ rows_cards m ++ columns_cards m ++ sides_cards m ++ ranges_cards m) (bounds_cards m) a in
+    let a =
+    front_narrow (start ++ rows_cards m ++ columns_cards m ++ sides_cards m ++ ranges_cards m ++ bounds_cards m)
+    (section_card (codes "ENDATA") ∷ []) h in
+    let b =
+    front_narrow (start ++ rows_cards m ++ columns_cards m ++ sides_cards m ++ ranges_cards m) (bounds_cards m) a in
     let c = front_narrow (start ++ rows_cards m ++ columns_cards m ++ sides_cards m) (ranges_cards m) b in
     let d = front_narrow (start ++ rows_cards m ++ columns_cards m) (sides_cards m) c in
     let e = front_narrow (start ++ rows_cards m) (columns_cards m) d in
@@ -59,16 +65,22 @@ rows_are_read style m kept fits s none =
     let one : State = begun s section.Rows in
     let two : State = record one { objective = Some m.objective } in
     let room = room_of style m kept.objective fits in
-    let heading : Goes style s (section_card (codes "ROWS") ∷ []) one = goes_one style s one (section_card (codes "ROWS")) (rows_step style s none.no_section) in
+    let heading : Goes style s (section_card (codes "ROWS") ∷ []) one =
+    goes_one style s one (section_card (codes "ROWS")) (rows_step style s none.no_section) in
     let objective : Goes style one (type_card (codes "N") m.objective ∷ []) two =
     goes_one style one two (type_card (codes "N") m.objective)
-    (type_step style one two (codes "N") m.objective Unlimited refl (type_item style) room.0 type_known (objective_added one m.objective none.no_objective kept.objective (nowhere s m.objective none))) in
+    (type_step style one two (codes "N") m.objective Unlimited refl (type_item style) room.0 type_known
+    (objective_added one m.objective none.no_objective kept.objective (nowhere s m.objective none))) in
     let F : List ExactRow → Type 0 = λ rows. AreFresh (m.objective ∷ names_of rows) (names_of m.rows) in
-    let P : List ExactRow → Type 0 = λ rows. Goes style two (map row_card m.rows) (record two { rows = rows ++ map bare_row m.rows }) in
+    let P : List ExactRow → Type 0 =
+    λ rows. Goes style two (map row_card m.rows) (record two { rows = rows ++ map bare_row m.rows }) in
     let short : length s.rows ≡ 0 = ap length none.no_row in
     let few : length m.rows ≤ 256 = kept.few_rows in
     let rows : Goes style two (map row_card m.rows) (with_rows_of s m) =
     subst P none.no_row
-    (rows_go style two m.objective m.rows refl refl none.none_dropped (rows_known style m.rows kept.rows room.1) (subst F (sym none.no_row) (fresh_names m.objective (names_of m.rows) kept.rows_distinct)) (omega arith)) in
-    goes_then style s one (with_rows_of s m) (section_card (codes "ROWS")) (type_card (codes "N") m.objective ∷ map row_card m.rows) heading
-    (goes_then style one two (with_rows_of s m) (type_card (codes "N") m.objective) (map row_card m.rows) objective rows)
+    (rows_go style two m.objective m.rows refl refl none.none_dropped (rows_known style m.rows kept.rows room.1)
+    (subst F (sym none.no_row) (fresh_names m.objective (names_of m.rows) kept.rows_distinct)) (omega arith)) in
+    goes_then style s one (with_rows_of s m) (section_card (codes "ROWS"))
+    (type_card (codes "N") m.objective ∷ map row_card m.rows) heading
+    (goes_then style one two (with_rows_of s m)
+    (type_card (codes "N") m.objective) (map row_card m.rows) objective rows)

@@ -1,5 +1,7 @@
 -- Each line of a written text is short, and of spaces and printed bytes.
-use Rattle.std.proofs.Common.{◌≡◌, ℕ, zero, suc, ◌+◌, ◌-◌, ◌*◌, ◌/◌, ◌^◌, ◌≤◌, ◌<◌, ◌==◌, ◌&&◌, Bool, true, false, cond, Option, Some, None, List, [], ◌∷◌, ◌++◌, length, map, get_or, replicate, pos, refl, ap, ◌∙◌, length-append, arith}
+use Rattle.std.proofs.Common.{◌≡◌, ℕ, zero, suc, ◌+◌, ◌-◌, ◌*◌, ◌/◌, ◌^◌, ◌≤◌, ◌<◌, ◌==◌, ◌&&◌}
+use Rattle.std.proofs.Common.{Bool, true, false, cond, Option, Some, None, List, [], ◌∷◌, ◌++◌, length}
+use Rattle.std.proofs.Common.{map, get_or, replicate, pos, refl, ap, ◌∙◌, length-append, arith}
 use Rattle.std.specs.Prelude.{codes, decimal, nat_le, nat_lt, int_lt, unsigned_abs, IfSome}
 use Rattle.std.specs.List.{All, flat_map, list_all, list_any}
 use Rattle.std.proofs.lemmas.Fmt.{length-decimal-le_wide}
@@ -15,12 +17,17 @@ use Rattle.spec_model.specs.declared.parts.Kind.TheVariants.{L, G, E}
 use Rattle.spec_model.specs.declared.parts.Sense.{Sense}
 use Rattle.spec_model.specs.declared.parts.Sense.TheVariants.{Min, Max}
 use Rattle.spec_model.specs.Model.{Name, Model, ExactColumn, no_row, row}
-use Rattle.spec_model.specs.Kept.{IsModel, IsKeptColumn, IsNarrowColumn, is_name, is_row_name, is_model_name, is_printable}
+use Rattle.spec_model.specs.Kept.{IsModel, IsKeptColumn, IsNarrowColumn, is_name}
+use Rattle.spec_model.specs.Kept.{is_row_name, is_model_name, is_printable}
 use Rattle.spec_mps.specs.declared.style.Style.{Style}
 use Rattle.spec_mps.specs.declared.style.Style.TheVariants.{Free, Fixed}
 use Rattle.spec_mps.specs.Fields.{Fields}
 use Rattle.spec_mps.specs.NumberWritten.{last_digits, pointed, quotient_text, placed, places, size_text, number_text}
-use Rattle.spec_mps.specs.Written.{WrittenCard, WrittenCards, Head, Data, cards_of, name_card, sense_cards, rows_cards, columns_cards, sides_cards, ranges_cards, bounds_cards, section_card, type_card, number_card, bound_card, unbound_card, kind_word, row_card, column_cards, side_cards, range_cards, bound_cards, has_range, has_bounds, first_column, padded, with_fields, line_text}
+use Rattle.spec_mps.specs.Written.{WrittenCard, WrittenCards, Head, Data, cards_of, name_card, sense_cards}
+use Rattle.spec_mps.specs.Written.{rows_cards, columns_cards, sides_cards, ranges_cards, bounds_cards}
+use Rattle.spec_mps.specs.Written.{section_card, type_card, number_card, bound_card, unbound_card}
+use Rattle.spec_mps.specs.Written.{kind_word, row_card, column_cards, side_cards, range_cards, bound_cards}
+use Rattle.spec_mps.specs.Written.{has_range, has_bounds, first_column, padded, with_fields, line_text}
 use Rattle.spec_mps.proofs.WrittenSteps.{IsPlainLine}
 use Rattle.spec_mps.proofs.Steps.{both}
 use Rattle.spec_mps.proofs.DigitLemmas.{length-last}
@@ -57,7 +64,8 @@ blanks_len k line = length-append line (replicate k 32) ∙ ap (λ m. length lin
 up_to : (column : ℕ) (line : List ℕ) → column ≤ 50 →
     length (line ++ replicate (column - 1 - length line) 32) ≤ length line + 50
 up_to column line h =
-    let e : length (line ++ replicate (column - 1 - length line) 32) ≡ length line + (column - 1 - length line) = blanks_len (column - 1 - length line) line in
+    let e : length (line ++ replicate (column - 1 - length line) 32) ≡ length line + (column - 1 - length line) =
+    blanks_len (column - 1 - length line) line in
     omega arith
 
 padded_fits : (style : Style) (n : ℕ) (line : List ℕ) → length (padded style n line) ≤ length line + 50
@@ -86,13 +94,15 @@ plain_padded : (style : Style) (n : ℕ) (line : List ℕ) → list_all is_plain
     list_all is_plain (padded style n line) ≡ true
 plain_padded Free n line h = plain_both line (32 ∷ []) h refl
 plain_padded Fixed n line h =
-    plain_both line (replicate (first_column n - 1 - length line) 32) h (plain_blanks (first_column n - 1 - length line))
+    plain_both line (replicate (first_column n - 1 - length line) 32) h
+    (plain_blanks (first_column n - 1 - length line))
 
 line_plain : (style : Style) (line : List ℕ) (fs : Fields) → list_all is_plain line ≡ true → AreShort fs →
     list_all is_plain (with_fields style line fs) ≡ true
 line_plain style line [] h k = h
 line_plain style line (f ∷ fs) h k =
-    line_plain style (padded style f.number line ++ f.text) fs (plain_both (padded style f.number line) f.text (plain_padded style f.number line h) k.0.plain) k.1
+    line_plain style (padded style f.number line ++ f.text) fs
+    (plain_both (padded style f.number line) f.text (plain_padded style f.number line h) k.0.plain) k.1
 
 -- a card with a few short fields
 abbrev pub IsShortCard : WrittenCard → Type 0
@@ -204,7 +214,8 @@ all_short : {X : Type 0} (f : X → WrittenCards) (xs : List X) → All (λ x. A
     AreShortCards (flat_map f xs)
 all_short f [] h = All-nil IsShortCard
 all_short f (x ∷ xs) h =
-    All-append IsShortCard (f x) (flat_map f xs) (h 0 x (omega arith)) (all_short f xs (λ i d a. h (suc i) d (omega arith)))
+    All-append IsShortCard (f x) (flat_map f xs) (h 0 x (omega arith))
+    (all_short f xs (λ i d a. h (suc i) d (omega arith)))
 
 number_card_short : (group name : Name) (q : ℚ) → IsShort group → IsShort name → IsNarrow q →
     IsShortCard (number_card group name q)
@@ -217,7 +228,8 @@ name_card_short (b ∷ bs) h =
 
 sense_short : (sense : Sense) → AreShortCards (sense_cards sense)
 sense_short Min = All-nil IsShortCard
-sense_short Max = one_short (section_card (codes "OBJSENSE MAX")) (record { fits = omega arith; plain = refl }, tt, omega arith)
+sense_short Max =
+    one_short (section_card (codes "OBJSENSE MAX")) (record { fits = omega arith; plain = refl }, tt, omega arith)
 
 kind_short : (kind : Kind) → IsShort (kind_word kind)
 kind_short L = record { fits = omega arith; plain = refl }
@@ -227,41 +239,61 @@ kind_short E = record { fits = omega arith; plain = refl }
 rows_short : (m : Model) → IsModel m → AreShortCards (rows_cards m)
 unfolding rows_cards
 rows_short m kept =
-    All-cons IsShortCard (section_card (codes "ROWS")) (type_card (codes "N") m.objective ∷ map row_card m.rows) (record { fits = omega arith; plain = refl }, tt, omega arith)
-    (All-cons IsShortCard (type_card (codes "N") m.objective) (map row_card m.rows) ((record { fits = omega arith; plain = refl }, (row_name_short m.objective kept.objective, tt)), omega arith)
-    (All-map IsShortCard row_card m.rows (λ i d a. ((kind_short (get_or m.rows i d).kind, (row_name_short (get_or m.rows i d).name (kept.rows i d a), tt)), omega arith))))
+    All-cons IsShortCard (section_card (codes "ROWS")) (type_card (codes "N") m.objective ∷ map row_card m.rows)
+    (record { fits = omega arith; plain = refl }, tt, omega arith)
+    (All-cons IsShortCard (type_card (codes "N") m.objective) (map row_card m.rows)
+    ((record { fits = omega arith; plain = refl }, (row_name_short m.objective kept.objective, tt)), omega arith)
+    (All-map IsShortCard row_card m.rows (λ i d a. (
+      (kind_short (get_or m.rows i d).kind, (row_name_short (get_or m.rows i d).name (kept.rows i d a), tt)),
+      omega arith,
+    ))))
 
 column_short : (m : Model) (c : ExactColumn) → IsModel m → IsKeptColumn (length m.rows) c → IsNarrowColumn c →
     AreShortCards (column_cards m c)
 column_short m c kept k n =
-    All-cons IsShortCard (number_card c.name m.objective c.cost) (map (λ e. number_card c.name (row m e.0).name e.1) c.entries) (number_card_short c.name m.objective c.cost (name_short c.name k.name) (row_name_short m.objective kept.objective) n.cost)
+    All-cons IsShortCard (number_card c.name m.objective c.cost)
+    (map (λ e. number_card c.name (row m e.0).name e.1) c.entries) (number_card_short c.name m.objective c.cost
+    (name_short c.name k.name) (row_name_short m.objective kept.objective) n.cost)
     (All-map IsShortCard (λ e. number_card c.name (row m e.0).name e.1) c.entries (λ i d a.
-    number_card_short c.name (row m (get_or c.entries i d).0).name (get_or c.entries i d).1 (name_short c.name k.name) (row_name_short (row m (get_or c.entries i d).0).name (kept.rows (get_or c.entries i d).0 no_row (k.entries.inside i d a))) (n.entries i d a)))
+    number_card_short c.name
+    (row m (get_or c.entries i d).0).name (get_or c.entries i d).1 (name_short c.name k.name) (row_name_short
+    (row m (get_or c.entries i d).0).name (kept.rows (get_or c.entries i d).0 no_row (k.entries.inside i d a)))
+    (n.entries i d a)))
 
 columns_short : (m : Model) → IsModel m → AreShortCards (columns_cards m)
 unfolding columns_cards
 columns_short m kept =
-    All-cons IsShortCard (section_card (codes "COLUMNS")) (flat_map (column_cards m) m.columns) (record { fits = omega arith; plain = refl }, tt, omega arith)
-    (all_short (column_cards m) m.columns (λ i d a. column_short m (get_or m.columns i d) kept (kept.columns i d a) (kept.narrow_columns i d a)))
+    All-cons IsShortCard (section_card (codes "COLUMNS")) (flat_map (column_cards m) m.columns)
+    (record { fits = omega arith; plain = refl }, tt, omega arith)
+    (all_short (column_cards m) m.columns
+    (λ i d a. column_short m (get_or m.columns i d) kept (kept.columns i d a) (kept.narrow_columns i d a)))
 
 side_short : (name : Name) (q : ℚ) → IsShort name → IsNarrow q → AreShortCards (side_cards name q)
 side_short name q h k = by (eq_ℚ q 0ℚ)
   where
     by : (t : Bool) → AreShortCards (cond t [] (number_card (codes "RHS") name q ∷ []))
     by true = All-nil IsShortCard
-    by false = one_short (number_card (codes "RHS") name q) (number_card_short (codes "RHS") name q (record { fits = omega arith; plain = refl }) h k)
+    by false =
+        one_short (number_card (codes "RHS") name q)
+        (number_card_short (codes "RHS") name q (record { fits = omega arith; plain = refl }) h k)
 
 sides_short : (m : Model) → IsModel m → AreShortCards (sides_cards m)
 unfolding sides_cards
 sides_short m kept =
-    All-cons IsShortCard (section_card (codes "RHS")) (side_cards m.objective (neg_ℚ m.offset) ++ flat_map (λ r. side_cards r.name r.rhs) m.rows) (record { fits = omega arith; plain = refl }, tt, omega arith)
+    All-cons IsShortCard (section_card (codes "RHS"))
+    (side_cards m.objective (neg_ℚ m.offset) ++ flat_map (λ r. side_cards r.name r.rhs) m.rows)
+    (record { fits = omega arith; plain = refl }, tt, omega arith)
     (All-append IsShortCard (side_cards m.objective (neg_ℚ m.offset)) (flat_map (λ r. side_cards r.name r.rhs) m.rows)
-    (side_short m.objective (neg_ℚ m.offset) (row_name_short m.objective kept.objective) (neg_narrow m.offset kept.offset))
-    (all_short (λ r. side_cards r.name r.rhs) m.rows (λ i d a. side_short (get_or m.rows i d).name (get_or m.rows i d).rhs (row_name_short (get_or m.rows i d).name (kept.rows i d a)) (kept.narrow_rows i d a).rhs)))
+    (side_short m.objective (neg_ℚ m.offset)
+    (row_name_short m.objective kept.objective) (neg_narrow m.offset kept.offset))
+    (all_short (λ r. side_cards r.name r.rhs) m.rows (λ i d a. side_short (get_or m.rows i d).name (get_or m.rows
+    i d).rhs (row_name_short (get_or m.rows i d).name (kept.rows i d a)) (kept.narrow_rows i d a).rhs)))
 
 range_short : (name : Name) (o : Option ℚ) → IsShort name → IfSome o IsNarrow → AreShortCards (range_cards name o)
 range_short name None h k = All-nil IsShortCard
-range_short name (Some v) h k = one_short (number_card (codes "RNG") name v) (number_card_short (codes "RNG") name v (record { fits = omega arith; plain = refl }) h k)
+range_short name (Some v) h k =
+    one_short (number_card (codes "RNG") name v)
+    (number_card_short (codes "RNG") name v (record { fits = omega arith; plain = refl }) h k)
 
 ranges_short : (m : Model) → IsModel m → AreShortCards (ranges_cards m)
 unfolding ranges_cards
@@ -270,8 +302,11 @@ ranges_short m kept = by (list_any has_range m.rows)
     by : (t : Bool) →
         AreShortCards (cond t (section_card (codes "RANGES") ∷ flat_map (λ r. range_cards r.name r.range) m.rows) [])
     by true =
-        All-cons IsShortCard (section_card (codes "RANGES")) (flat_map (λ r. range_cards r.name r.range) m.rows) (record { fits = omega arith; plain = refl }, tt, omega arith)
-        (all_short (λ r. range_cards r.name r.range) m.rows (λ i d a. range_short (get_or m.rows i d).name (get_or m.rows i d).range (row_name_short (get_or m.rows i d).name (kept.rows i d a)) (kept.narrow_rows i d a).range))
+        All-cons IsShortCard (section_card (codes "RANGES")) (flat_map (λ r. range_cards r.name r.range) m.rows)
+        (record { fits = omega arith; plain = refl }, tt, omega arith)
+        (all_short (λ r. range_cards r.name r.range) m.rows
+        (λ i d a. range_short (get_or m.rows i d).name (get_or m.rows i
+        d).range (row_name_short (get_or m.rows i d).name (kept.rows i d a)) (kept.narrow_rows i d a).range))
     by false = All-nil IsShortCard
 
 value_short : (kind : List ℕ) (name : Name) (q : ℚ) → IsShort kind → IsShort name → IsNarrow q →
@@ -287,9 +322,12 @@ two_bytes a b h = record { fits = omega arith; plain = h }
 
 bound_short : (name : Name) (lower upper : Option ℚ) → IsShort name → IfSome lower IsNarrow → IfSome upper IsNarrow →
     AreShortCards (bound_cards name lower upper)
-bound_short name None None h l u = one_short (unbound_card (codes "FR") name) (unbound_short (codes "FR") name (two_bytes 70 82 refl) h)
+bound_short name None None h l u =
+    one_short (unbound_card (codes "FR") name) (unbound_short (codes "FR") name (two_bytes 70 82 refl) h)
 bound_short name None (Some u) h k n =
-    two_short (unbound_card (codes "MI") name) (bound_card (codes "UP") name u) (unbound_short (codes "MI") name (two_bytes 77 73 refl) h) (value_short (codes "UP") name u (two_bytes 85 80 refl) h n)
+    two_short (unbound_card (codes "MI") name) (bound_card (codes "UP") name u)
+    (unbound_short (codes "MI") name (two_bytes 77 73 refl) h)
+    (value_short (codes "UP") name u (two_bytes 85 80 refl) h n)
 bound_short name (Some l) None h k n = by (eq_ℚ l 0ℚ)
   where
     by : (t : Bool) → AreShortCards (cond t [] (bound_card (codes "LO") name l ∷ []))
@@ -301,32 +339,48 @@ bound_short name (Some l) (Some u) h k n = by (eq_ℚ l u) (eq_ℚ l 0ℚ && lt_
     up = value_short (codes "UP") name u (two_bytes 85 80 refl) h n
 
     by : (s t : Bool) →
-        AreShortCards (cond s (bound_card (codes "FX") name l ∷ []) (cond t (bound_card (codes "UP") name u ∷ []) (bound_card (codes "LO") name l ∷ bound_card (codes "UP") name u ∷ [])))
+        AreShortCards (cond s (bound_card (codes "FX") name l ∷ []) (cond t (bound_card (codes "UP") name u ∷ [])
+        (bound_card (codes "LO") name l ∷ bound_card (codes "UP") name u ∷ [])))
     by true t = one_short (bound_card (codes "FX") name l) (value_short (codes "FX") name l (two_bytes 70 88 refl) h k)
     by false true = one_short (bound_card (codes "UP") name u) up
-    by false false = two_short (bound_card (codes "LO") name l) (bound_card (codes "UP") name u) (value_short (codes "LO") name l (two_bytes 76 79 refl) h k) up
+    by false false =
+        two_short (bound_card (codes "LO") name l) (bound_card (codes "UP") name u)
+        (value_short (codes "LO") name l (two_bytes 76 79 refl) h k) up
 
 bounds_short : (m : Model) → IsModel m → AreShortCards (bounds_cards m)
 unfolding bounds_cards
 bounds_short m kept = by (list_any has_bounds m.columns)
   where
     by : (t : Bool) →
-        AreShortCards (cond t (section_card (codes "BOUNDS") ∷ flat_map (λ c. bound_cards c.name c.lower c.upper) m.columns) [])
+        AreShortCards
+        (cond t (section_card (codes "BOUNDS") ∷ flat_map (λ c. bound_cards c.name c.lower c.upper) m.columns) [])
     by true =
-        All-cons IsShortCard (section_card (codes "BOUNDS")) (flat_map (λ c. bound_cards c.name c.lower c.upper) m.columns) (record { fits = omega arith; plain = refl }, tt, omega arith)
+        All-cons IsShortCard (section_card (codes "BOUNDS"))
+        (flat_map (λ c. bound_cards c.name c.lower c.upper) m.columns)
+        (record { fits = omega arith; plain = refl }, tt, omega arith)
         (all_short (λ c. bound_cards c.name c.lower c.upper) m.columns (λ i d a.
-        bound_short (get_or m.columns i d).name (get_or m.columns i d).lower (get_or m.columns i d).upper (name_short (get_or m.columns i d).name (kept.columns i d a).name) (kept.narrow_columns i d a).lower (kept.narrow_columns i d a).upper))
+        bound_short (get_or m.columns i d).name (get_or m.columns i d).lower (get_or m.columns
+        i d).upper (name_short (get_or m.columns i d).name (kept.columns i d a).name)
+        (kept.narrow_columns i d a).lower (kept.narrow_columns i d a).upper))
     by false = All-nil IsShortCard
 
 pub cards_short : (m : Model) → IsModel m → AreShortCards (cards_of m)
 unfolding cards_of
 cards_short m kept =
     let start : WrittenCards = name_card m.name ∷ sense_cards m.sense in
-    let a = All-cons IsShortCard (name_card m.name) (sense_cards m.sense) (name_card_short m.name kept.name) (sense_short m.sense) in
+    let a =
+    All-cons IsShortCard (name_card m.name) (sense_cards m.sense)
+    (name_card_short m.name kept.name) (sense_short m.sense) in
     let b = All-append IsShortCard start (rows_cards m) a (rows_short m kept) in
     let c = All-append IsShortCard (start ++ rows_cards m) (columns_cards m) b (columns_short m kept) in
     let d = All-append IsShortCard (start ++ rows_cards m ++ columns_cards m) (sides_cards m) c (sides_short m kept) in
-    let e = All-append IsShortCard (start ++ rows_cards m ++ columns_cards m ++ sides_cards m) (ranges_cards m) d (ranges_short m kept) in
-    let f = All-append IsShortCard (start ++ rows_cards m ++ columns_cards m ++ sides_cards m ++ ranges_cards m) (bounds_cards m) e (bounds_short m kept) in
-    All-append IsShortCard (start ++ rows_cards m ++ columns_cards m ++ sides_cards m ++ ranges_cards m ++ bounds_cards m) (section_card (codes "ENDATA") ∷ []) f
+    let e =
+    All-append IsShortCard (start ++ rows_cards m ++ columns_cards m ++ sides_cards m)
+    (ranges_cards m) d (ranges_short m kept) in
+    let f =
+    All-append IsShortCard (start ++ rows_cards m ++ columns_cards m ++ sides_cards m ++ ranges_cards m)
+    (bounds_cards m) e (bounds_short m kept) in
+    All-append IsShortCard
+    (start ++ rows_cards m ++ columns_cards m ++ sides_cards m ++ ranges_cards m ++ bounds_cards m)
+    (section_card (codes "ENDATA") ∷ []) f
     (one_short (section_card (codes "ENDATA")) (record { fits = omega arith; plain = refl }, tt, omega arith))

@@ -1,5 +1,6 @@
 -- The section RHS of a written text is read as the offset and the rows' right sides.
-use Rattle.std.proofs.Common.{◌≡◌, ℕ, ◌+◌, ◌≤◌, Bool, true, false, cond, Option, Some, Ok, List, [], ◌∷◌, ◌++◌, length, map, refl, sym, ap, ◌∙◌, subst, append_assoc, length-append, arith}
+use Rattle.std.proofs.Common.{◌≡◌, ℕ, ◌+◌, ◌≤◌, Bool, true, false, cond, Option, Some, Ok, List, [], ◌∷◌, ◌++◌}
+use Rattle.std.proofs.Common.{length, map, refl, sym, ap, ◌∙◌, subst, append_assoc, length-append, arith}
 use Rattle.std.specs.Prelude.{codes}
 use Rattle.std.specs.List.{flat_map, list_any}
 use Rattle.std.proofs.lemmas.List.{map-append}
@@ -33,7 +34,8 @@ use Rattle.spec_mps.proofs.WrittenFacts.{rangeless}
 -- ---- one card
 
 side_shape : (style : Style) (name : Name) (text : List ℕ) →
-    shaped style section.RightSides (read_as style (number_fields (codes "RHS") name text)) ≡ Ok (codes "RHS" ∷ name ∷ text ∷ [])
+    shaped style section.RightSides (read_as style (number_fields (codes "RHS") name text))
+    ≡ Ok (codes "RHS" ∷ name ∷ text ∷ [])
 unfolding shaped has_shape
 side_shape Free name text = refl
 side_shape Fixed name text = refl
@@ -42,18 +44,27 @@ group_item : (style : Style) → IsItem style 8 (codes "RHS")
 group_item Free = record { word = record { some = refl; printable = refl }; room = tt }
 group_item Fixed = record { word = record { some = refl; printable = refl }; room = omega arith }
 
-side_card_read : (style : Style) (s t : State) (name : Name) (text : List ℕ) (place : Place) (b : ℚ) → is_used s.set (Some (codes "RHS")) ≡ true → place_of (record s { set = Some (Some (codes "RHS")) }) name ≡ Some place → number_in text ≡ Ok b
-    → put_side (record s { set = Some (Some (codes "RHS")) }) place b ≡ Ok t → rhs_card style s (read_as style (number_fields (codes "RHS") name text)) ≡ Ok t
+side_card_read : (style : Style) (s t : State) (name : Name) (text : List ℕ) (place : Place) (b : ℚ) →
+    is_used s.set (Some (codes "RHS")) ≡ true →
+    place_of (record s { set = Some (Some (codes "RHS")) }) name ≡ Some place → number_in text ≡ Ok b
+    → put_side (record s { set = Some (Some (codes "RHS")) }) place b ≡ Ok t →
+    rhs_card style s (read_as style (number_fields (codes "RHS") name text)) ≡ Ok t
 unfolding rhs_card rhs_by set_and_pairs side_pair
 side_card_read style s t name text place b used there reads put =
     rw (side_shape style name text, used, there, reads, put) refl
 
-pub side_goes : (style : Style) (s t : State) (name : Name) (b : ℚ) (place : Place) → s.part ≡ Some section.RightSides → IsNumberCard style name b → is_used s.set (Some (codes "RHS")) ≡ true
-    → place_of (record s { set = Some (Some (codes "RHS")) }) name ≡ Some place → put_side (record s { set = Some (Some (codes "RHS")) }) place b ≡ Ok t → Goes style s (number_card (codes "RHS") name b ∷ []) t
+pub side_goes : (style : Style) (s t : State) (name : Name) (b : ℚ) (place : Place) →
+    s.part ≡ Some section.RightSides → IsNumberCard style name b → is_used s.set (Some (codes "RHS")) ≡ true
+    → place_of (record s { set = Some (Some (codes "RHS")) }) name ≡ Some place →
+    put_side (record s { set = Some (Some (codes "RHS")) }) place b ≡ Ok t →
+    Goes style s (number_card (codes "RHS") name b ∷ []) t
 side_goes style s t name b place e card used there put =
-    let read = ((cards_are_read_back style).numbers (codes "RHS") name (number_text b) (group_item style) card.row card.number).read in
+    let read =
+    ((cards_are_read_back style).numbers (codes "RHS") name
+    (number_text b) (group_item style) card.row card.number).read in
     goes_one style s t (number_card (codes "RHS") name b)
-    (given_step style s section.RightSides (line_text style (number_card (codes "RHS") name b)) (read_as style (number_fields (codes "RHS") name (number_text b))) e refl read
+    (given_step style s section.RightSides (line_text style (number_card (codes "RHS") name b))
+    (read_as style (number_fields (codes "RHS") name (number_text b))) e refl read
     ∙ ap more (side_card_read style s t name (number_text b) place b used there card.reads put))
 
 -- ---- where a name stands
@@ -68,7 +79,9 @@ unpaired_next n paired h i k = rw (ne_eqb i n (λ e. omega arith), h i (omega ar
 pub unpaired_later : (n : ℕ) (paired : List Target) → IsUnpaired n paired → IsUnpaired (n + 1) paired
 unpaired_later n paired h i k = h i (omega arith)
 
-pub place_of_row : (s : State) (objective : Name) (done : List ExactRow) (r : ExactRow) (more : List ExactRow) → s.objective ≡ Some objective → s.dropped ≡ [] → s.rows ≡ done ++ r ∷ more → IsAbsent r.name (objective ∷ names_of done)
+pub place_of_row : (s : State) (objective : Name) (done : List ExactRow) (r : ExactRow) (more : List ExactRow) →
+    s.objective ≡ Some objective → s.dropped ≡ [] →
+    s.rows ≡ done ++ r ∷ more → IsAbsent r.name (objective ∷ names_of done)
     → place_of s r.name ≡ Some (Kept (Row (length done)))
 unfolding place_of
 place_of_row s objective done r more o d e h =
@@ -84,7 +97,8 @@ place_of_objective s objective o = rw (o, same_itself objective) refl
 
 -- the row's right side is put where it is
 side_put : (s : State) (n : ℕ) (b : ℚ) → is_among (Row n) s.paired ≡ false →
-    put_side s (Kept (Row n)) b ≡ Ok (record s { rows = changed_at n (λ r. record r { rhs = b }) s.rows; paired = Row n ∷ s.paired })
+    put_side s (Kept (Row n)) b
+    ≡ Ok (record s { rows = changed_at n (λ r. record r { rhs = b }) s.rows; paired = Row n ∷ s.paired })
 unfolding put_side
 side_put s n b h = rw h refl
 
@@ -97,22 +111,39 @@ AreSides style (r ∷ rows) = (eq_ℚ r.rhs 0ℚ ≡ false → IsNumberCard styl
 abbrev pub Sides : Style → State → List ExactRow → WrittenCards → List ExactRow → List Target → Option (Option Name) →
     Type 0
 Sides style s before cards after paired set =
-    (p : List Target) × (q : Option (Option Name)) × Goes style (record s { rows = before; paired = paired; set = set }) cards (record s { rows = after; paired = p; set = q })
+    (p : List Target) × (q : Option (Option Name)) × Goes style
+    (record s { rows = before; paired = paired; set = set }) cards (record s { rows = after; paired = p; set = q })
 
 abbrev pub sides_of : List ExactRow → WrittenCards
 sides_of rows = flat_map (λ r. side_cards r.name r.rhs) rows
 
-one_side : (style : Style) (s : State) (objective : Name) (done : List ExactRow) (r : ExactRow) (more : List ExactRow) (paired : List Target) (set : Option (Option Name)) → s.part ≡ Some section.RightSides → s.objective ≡ Some objective → s.dropped ≡ []
-    → IsNumberCard style r.name r.rhs → IsAbsent r.name (objective ∷ names_of done) → IsUnpaired (length done) paired → is_used set (Some (codes "RHS")) ≡ true
-    → Goes style (record s { rows = done ++ bare_row r ∷ more; paired = paired; set = set }) (number_card (codes "RHS") r.name r.rhs ∷ [])
-    (record s { rows = done ++ rangeless r ∷ more; paired = Row (length done) ∷ paired; set = Some (Some (codes "RHS")) })
+one_side : (style : Style) (s : State) (objective : Name) (done : List ExactRow) (r : ExactRow)
+    (more : List ExactRow) (paired : List Target) (set : Option (Option Name)) →
+    s.part ≡ Some section.RightSides → s.objective ≡ Some objective → s.dropped ≡ []
+    → IsNumberCard style r.name r.rhs → IsAbsent r.name (objective ∷ names_of done) →
+    IsUnpaired (length done) paired → is_used set (Some (codes "RHS")) ≡ true
+    → Goes style (record s { rows = done ++ bare_row r ∷ more; paired = paired; set = set })
+    (number_card (codes "RHS") r.name r.rhs ∷ [])
+    (record s {
+      rows = done ++ rangeless r ∷ more;
+      paired = Row (length done) ∷ paired;
+      set = Some (Some (codes "RHS"));
+    })
 one_side style s objective done r more paired set e o d card absent unpaired used =
     let before : State = record s { rows = done ++ bare_row r ∷ more; paired = paired; set = set } in
-    let there = place_of_row (record before { set = Some (Some (codes "RHS")) }) objective done (bare_row r) more o d refl absent in
-    let put = side_put (record before { set = Some (Some (codes "RHS")) }) (length done) r.rhs (unpaired (length done) (omega arith)) in
+    let there =
+    place_of_row (record before { set = Some (Some (codes "RHS")) }) objective done (bare_row r) more o d refl absent in
+    let put =
+    side_put (record before { set = Some (Some (codes "RHS")) })
+    (length done) r.rhs (unpaired (length done) (omega arith)) in
     let changed = changed_behind (λ q. record q { rhs = r.rhs }) done (bare_row r) more in
-    side_goes style before (record s { rows = done ++ rangeless r ∷ more; paired = Row (length done) ∷ paired; set = Some (Some (codes "RHS")) }) r.name r.rhs (Kept (Row (length done))) e card used there
-    (put ∙ ap (λ rows. Ok (record s { rows = rows; paired = Row (length done) ∷ paired; set = Some (Some (codes "RHS")) })) changed)
+    side_goes style before (record s {
+      rows = done ++ rangeless r ∷ more;
+      paired = Row (length done) ∷ paired;
+      set = Some (Some (codes "RHS"));
+    }) r.name r.rhs (Kept (Row (length done))) e card used there
+    (put ∙ ap (λ rows.
+    Ok (record s { rows = rows; paired = Row (length done) ∷ paired; set = Some (Some (codes "RHS")) })) changed)
 
 zero_side : (r : ExactRow) → eq_ℚ r.rhs 0ℚ ≡ true → bare_row r ≡ rangeless r
 zero_side r e = ap (λ b. record (bare_row r) { rhs = b }) (sym (eq_if r.rhs 0ℚ e))
@@ -121,13 +152,18 @@ pub names_next : (objective : Name) (rows : List ExactRow) (r : ExactRow) →
     (objective ∷ names_of rows) ++ r.name ∷ [] ≡ objective ∷ names_of (rows ++ rangeless r ∷ [])
 names_next objective rows r = ap (λ l. objective ∷ l) (sym (map-append (λ q. q.name) rows (rangeless r ∷ [])))
 
-pub sides_go : (style : Style) (s : State) (objective : Name) (done rest : List ExactRow) (paired : List Target) (set : Option (Option Name)) → s.part ≡ Some section.RightSides → s.objective ≡ Some objective → s.dropped ≡ [] → AreSides style rest
-    → AreFresh (objective ∷ names_of done) (names_of rest) → IsUnpaired (length done) paired → is_used set (Some (codes "RHS")) ≡ true
+pub sides_go : (style : Style) (s : State) (objective : Name) (done rest : List ExactRow)
+    (paired : List Target) (set : Option (Option Name)) → s.part ≡ Some section.RightSides →
+    s.objective ≡ Some objective → s.dropped ≡ [] → AreSides style rest
+    → AreFresh (objective ∷ names_of done) (names_of rest) →
+    IsUnpaired (length done) paired → is_used set (Some (codes "RHS")) ≡ true
     → Sides style s (done ++ map bare_row rest) (sides_of rest) (done ++ map rangeless rest) paired set
 sides_go style s objective done [] paired set e o d known fresh unpaired used =
     (paired, set, goes_none style (record s { rows = done ++ []; paired = paired; set = set }))
 sides_go style s objective done (r ∷ rest) paired set e o d known fresh unpaired used =
-    by (λ p q h k. on p q (sides_go style s objective next rest p q e o d known.1 fresh_next (subst (λ n. IsUnpaired n p) (sym longer) h) k)) (eq_ℚ r.rhs 0ℚ) refl
+    by (λ p q h k. on p q
+    (sides_go style s objective next rest p q e o d known.1 fresh_next (subst (λ n. IsUnpaired n p) (sym longer) h) k))
+    (eq_ℚ r.rhs 0ℚ) refl
   where
     next : List ExactRow
     next = done ++ rangeless r ∷ []
@@ -140,23 +176,37 @@ sides_go style s objective done (r ∷ rest) paired set e o d known fresh unpair
 
     on : (p : List Target) (q : Option (Option Name)) →
         Sides style s (next ++ map bare_row rest) (sides_of rest) (next ++ map rangeless rest) p q →
-        Sides style s (done ++ rangeless r ∷ map bare_row rest) (sides_of rest) (done ++ rangeless r ∷ map rangeless rest) p q
+        Sides style s (done ++ rangeless r ∷ map bare_row rest)
+        (sides_of rest) (done ++ rangeless r ∷ map rangeless rest) p q
     on p q rec =
         let a = append_assoc done (rangeless r ∷ []) (map bare_row rest) in
         let b = append_assoc done (rangeless r ∷ []) (map rangeless rest) in
-        subst (λ l. Sides style s l (sides_of rest) (done ++ rangeless r ∷ map rangeless rest) p q) a (subst (λ l. Sides style s (next ++ map bare_row rest) (sides_of rest) l p q) b rec)
+        subst (λ l. Sides style s l (sides_of rest) (done ++ rangeless r ∷ map rangeless rest) p q) a
+        (subst (λ l. Sides style s (next ++ map bare_row rest) (sides_of rest) l p q) b rec)
 
-    by : ((p : List Target) (q : Option (Option Name)) → IsUnpaired (length done + 1) p → is_used q (Some (codes "RHS")) ≡ true → Sides style s (done ++ rangeless r ∷ map bare_row rest) (sides_of rest) (done ++ rangeless r ∷ map rangeless rest) p q)
-        → (t : Bool) → eq_ℚ r.rhs 0ℚ ≡ t → Sides style s (done ++ bare_row r ∷ map bare_row rest) (cond t [] (number_card (codes "RHS") r.name r.rhs ∷ []) ++ sides_of rest) (done ++ rangeless r ∷ map rangeless rest) paired set
+    by : ((p : List Target) (q : Option (Option Name)) → IsUnpaired (length done + 1) p →
+        is_used q (Some (codes "RHS")) ≡ true → Sides style s (done ++ rangeless r ∷ map bare_row rest)
+        (sides_of rest) (done ++ rangeless r ∷ map rangeless rest) p q)
+        → (t : Bool) → eq_ℚ r.rhs 0ℚ ≡ t →
+        Sides style s (done ++ bare_row r ∷ map bare_row rest) (cond t [] (number_card (codes "RHS") r.name r.rhs ∷ [])
+        ++ sides_of rest) (done ++ rangeless r ∷ map rangeless rest) paired set
     by later true z =
-        subst (λ x. Sides style s (done ++ x ∷ map bare_row rest) (sides_of rest) (done ++ rangeless r ∷ map rangeless rest) paired set) (sym (zero_side r z))
+        subst (λ x. Sides style s (done ++ x ∷ map bare_row rest) (sides_of rest)
+        (done ++ rangeless r ∷ map rangeless rest) paired set) (sym (zero_side r z))
         (later paired set (unpaired_later (length done) paired unpaired) used)
     by later false z =
-        let rec = later (Row (length done) ∷ paired) (Some (Some (codes "RHS"))) (unpaired_next (length done) paired unpaired) refl in (
+        let rec =
+        later (Row (length done) ∷ paired) (Some (Some (codes "RHS")))
+        (unpaired_next (length done) paired unpaired) refl in (
           rec.0,
           rec.1,
           goes_then style (record s { rows = done ++ bare_row r ∷ map bare_row rest; paired = paired; set = set })
-              (record s { rows = done ++ rangeless r ∷ map bare_row rest; paired = Row (length done) ∷ paired; set = Some (Some (codes "RHS")) }) (record s { rows = done ++ rangeless r ∷ map rangeless rest; paired = rec.0; set = rec.1 })
+              (record s {
+                rows = done ++ rangeless r ∷ map bare_row rest;
+                paired = Row (length done) ∷ paired;
+                set = Some (Some (codes "RHS"));
+              }) (record s { rows = done ++ rangeless r ∷ map rangeless rest; paired = rec.0; set = rec.1 })
               (number_card (codes "RHS") r.name r.rhs) (sides_of rest)
-              (one_side style s objective done r (map bare_row rest) paired set e o d (known.0 z) fresh.0 unpaired used) rec.2,
+              (one_side style s objective done r (map bare_row rest) paired set e o d (known.0 z) fresh.0 unpaired used)
+              rec.2,
         )

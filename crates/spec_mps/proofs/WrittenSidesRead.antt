@@ -1,5 +1,6 @@
 -- The whole section RHS of a written text, after its heading.
-use Rattle.std.proofs.Common.{◌≡◌, zero, suc, ◌≤◌, Bool, true, false, cond, Some, Ok, List, [], ◌∷◌, ◌++◌, map, ℤ, pos, negsuc, refl, sym, ap, ◌∙◌, subst, arith}
+use Rattle.std.proofs.Common.{◌≡◌, zero, suc, ◌≤◌, Bool, true, false, cond, Some, Ok, List, []}
+use Rattle.std.proofs.Common.{◌∷◌, ◌++◌, map, ℤ, pos, negsuc, refl, sym, ap, ◌∙◌, subst, arith}
 use Rattle.std.specs.Prelude.{codes, IsTrue, unsigned_abs, neg_ℤ}
 use Rattle.std.specs.List.{All}
 use Rattle.spec_exact.specs.Fraction.{ℚ, 0ℚ, neg_ℚ, eq_ℚ}
@@ -28,11 +29,16 @@ use Rattle.spec_mps.proofs.WrittenSides.{AreSides, IsUnpaired, Sides, sides_of, 
 sides_known : (style : Style) (rows : List ExactRow) → All (λ r. IsTrue (is_row_name r.name)) rows →
     All IsNarrowRow rows → RoomFor style (sides_of rows) → AreSides style rows
 sides_known style [] names narrow room = tt
-sides_known style (r ∷ rows) names narrow room = (card, sides_known style rows (λ i d a. names (suc i) d (omega arith)) (λ i d a. narrow (suc i) d (omega arith)) (room_back style (side_cards r.name r.rhs) (sides_of rows) room))
+sides_known style (r ∷ rows) names narrow room = (
+  card,
+  sides_known style rows (λ i d a. names (suc i) d (omega arith)) (λ i d a. narrow (suc i) d (omega arith))
+      (room_back style (side_cards r.name r.rhs) (sides_of rows) room),
+)
   where
     card : eq_ℚ r.rhs 0ℚ ≡ false → IsNumberCard style r.name r.rhs
     card z =
-        let here : RoomFor style (side_cards r.name r.rhs) = room_front style (side_cards r.name r.rhs) (sides_of rows) room in
+        let here : RoomFor style (side_cards r.name r.rhs) =
+        room_front style (side_cards r.name r.rhs) (sides_of rows) room in
         let h : IsNarrowRow r = narrow 0 r (omega arith) in
         number_card_of style (codes "RHS") r.name r.rhs (row_name_word r.name (names 0 r (omega arith))) h.rhs
         (subst (λ t. RoomFor style (cond t [] (number_card (codes "RHS") r.name r.rhs ∷ []))) z here)
@@ -53,7 +59,8 @@ rows_sided : (style : Style) (m : Model) → IsModel m → RoomFor style (sides_
 rows_sided style m kept room s h =
     let known = sides_known style m.rows kept.rows kept.narrow_rows room in
     let go : Sides style s (map bare_row m.rows) (sides_of m.rows) (map rangeless m.rows) s.paired s.set =
-    sides_go style s m.objective [] m.rows s.paired s.set h.part h.known.objective h.known.none_dropped known (fresh_names m.objective (names_of m.rows) kept.rows_distinct) h.unpaired h.used in
+    sides_go style s m.objective [] m.rows s.paired s.set h.part h.known.objective h.known.none_dropped known
+    (fresh_names m.objective (names_of m.rows) kept.rows_distinct) h.unpaired h.used in
     let here : Sides style s s.rows (sides_of m.rows) (map rangeless m.rows) s.paired s.set =
     subst (λ rows. Sides style s rows (sides_of m.rows) (map rangeless m.rows) s.paired s.set) (sym h.rows) go in
     let k = h.known in
@@ -62,7 +69,14 @@ rows_sided style m kept room s h =
       here.2,
       record {
         known =
-            record { name = k.name; sense = k.sense; objective = k.objective; none_dropped = k.none_dropped; may_follow = k.may_follow; none_open = k.none_open };
+            record {
+              name = k.name;
+              sense = k.sense;
+              objective = k.objective;
+              none_dropped = k.none_dropped;
+              may_follow = k.may_follow;
+              none_open = k.none_open;
+            };
         unbounded = record { no_bounds = u.no_bounds; columns = u.columns; none_lowered = u.none_lowered };
         no_ranges = h.no_ranges;
         offset = h.offset;
@@ -89,7 +103,8 @@ offset_put s b h = rw h refl
 no_offset : (q : ℚ) → eq_ℚ (neg_ℚ q) 0ℚ ≡ true → q ≡ 0ℚ
 no_offset q e = sym (neg-neg q) ∙ ap neg_ℚ (eq_if (neg_ℚ q) 0ℚ e) ∙ neg-zero
 
-pub sides_are_read : (style : Style) (m : Model) → IsModel m → RoomFor style (side_cards m.objective (neg_ℚ m.offset) ++ sides_of m.rows) → (s : State) → HasNoSides s m
+pub sides_are_read : (style : Style) (m : Model) → IsModel m →
+    RoomFor style (side_cards m.objective (neg_ℚ m.offset) ++ sides_of m.rows) → (s : State) → HasNoSides s m
     → (t : State) × Goes style s (side_cards m.objective (neg_ℚ m.offset) ++ sides_of m.rows) t × HasNoRanges t m
 sides_are_read style m kept room s h = by (eq_ℚ (neg_ℚ m.offset) 0ℚ) refl
   where
@@ -105,7 +120,14 @@ sides_are_read style m kept room s h = by (eq_ℚ (neg_ℚ m.offset) 0ℚ) refl
     known_one : HasStart one m
     known_one =
         let k = h.known in
-        record { name = k.name; sense = k.sense; objective = k.objective; none_dropped = k.none_dropped; may_follow = k.may_follow; none_open = k.none_open }
+        record {
+          name = k.name;
+          sense = k.sense;
+          objective = k.objective;
+          none_dropped = k.none_dropped;
+          may_follow = k.may_follow;
+          none_open = k.none_open;
+        }
 
     has_one : HasOffset one m
     has_one =
@@ -124,15 +146,20 @@ sides_are_read style m kept room s h = by (eq_ℚ (neg_ℚ m.offset) 0ℚ) refl
     card : eq_ℚ (neg_ℚ m.offset) 0ℚ ≡ false →
         Goes style s (number_card (codes "RHS") m.objective (neg_ℚ m.offset) ∷ []) one
     card z =
-        let here : RoomFor style (side_cards m.objective (neg_ℚ m.offset)) = room_front style (side_cards m.objective (neg_ℚ m.offset)) (sides_of m.rows) room in
+        let here : RoomFor style (side_cards m.objective (neg_ℚ m.offset)) =
+        room_front style (side_cards m.objective (neg_ℚ m.offset)) (sides_of m.rows) room in
         let is : IsNumberCard style m.objective (neg_ℚ m.offset) =
-        number_card_of style (codes "RHS") m.objective (neg_ℚ m.offset) (row_name_word m.objective kept.objective) (neg_narrow m.offset kept.offset)
+        number_card_of style (codes "RHS") m.objective (neg_ℚ m.offset)
+        (row_name_word m.objective kept.objective) (neg_narrow m.offset kept.offset)
         (subst (λ t. RoomFor style (cond t [] (number_card (codes "RHS") m.objective (neg_ℚ m.offset) ∷ []))) z here) in
         side_goes style s one m.objective (neg_ℚ m.offset) (Kept Objective) h.part is used
-        (place_of_objective (record s { set = Some (Some (codes "RHS")) }) m.objective h.known.objective) (offset_put (record s { set = Some (Some (codes "RHS")) }) (neg_ℚ m.offset) h.none_paired)
+        (place_of_objective (record s { set = Some (Some (codes "RHS")) }) m.objective h.known.objective)
+        (offset_put (record s { set = Some (Some (codes "RHS")) }) (neg_ℚ m.offset) h.none_paired)
 
     by : (t : Bool) → eq_ℚ (neg_ℚ m.offset) 0ℚ ≡ t →
-        (u : State) × Goes style s (cond t [] (number_card (codes "RHS") m.objective (neg_ℚ m.offset) ∷ []) ++ sides_of m.rows) u × HasNoRanges u m
+        (u : State)
+        × Goes style s (cond t [] (number_card (codes "RHS") m.objective (neg_ℚ m.offset) ∷ []) ++ sides_of m.rows) u
+        × HasNoRanges u m
     by true z =
         rows_sided style m kept rest s
         (record {
@@ -146,5 +173,9 @@ sides_are_read style m kept room s h = by (eq_ℚ (neg_ℚ m.offset) 0ℚ) refl
           used = used;
         })
     by false z =
-        let r = rows_sided style m kept rest one has_one in
-        (r.0, goes_then style s one r.0 (number_card (codes "RHS") m.objective (neg_ℚ m.offset)) (sides_of m.rows) (card z) r.1, r.2)
+        let r = rows_sided style m kept rest one has_one in (
+          r.0,
+          goes_then style s one r.0 (number_card (codes "RHS") m.objective (neg_ℚ m.offset))
+              (sides_of m.rows) (card z) r.1,
+          r.2,
+        )

@@ -30,9 +30,11 @@ name_word = record { some = refl; printable = refl }
 named_words : (style : Style) (b : ℕ) (bs : List ℕ) → IsWord (b ∷ bs) →
     words_of (line_text style (name_card (b ∷ bs))) ≡ codes "NAME" ∷ (b ∷ bs) ∷ []
 unfolding words_of
-named_words Free b bs h = parts_word_then (codes "NAME") (b ∷ bs) name_word ∙ ap (λ ws. codes "NAME" ∷ ws) (parts_word (b ∷ bs) h)
+named_words Free b bs h =
+    parts_word_then (codes "NAME") (b ∷ bs) name_word ∙ ap (λ ws. codes "NAME" ∷ ws) (parts_word (b ∷ bs) h)
 named_words Fixed b bs h =
-    parts_word_then (codes "NAME") (32 ∷ 32 ∷ 32 ∷ 32 ∷ 32 ∷ 32 ∷ 32 ∷ 32 ∷ 32 ∷ b ∷ bs) name_word ∙ ap (λ ws. codes "NAME" ∷ ws) (parts_word (b ∷ bs) h)
+    parts_word_then (codes "NAME") (32 ∷ 32 ∷ 32 ∷ 32 ∷ 32 ∷ 32 ∷ 32 ∷ 32 ∷ 32 ∷ b ∷ bs) name_word
+    ∙ ap (λ ws. codes "NAME" ∷ ws) (parts_word (b ∷ bs) h)
 
 plain_name : (style : Style) (b : ℕ) (bs : List ℕ) → IsWord (b ∷ bs) →
     list_all is_plain (line_text style (name_card (b ∷ bs))) ≡ true
@@ -40,7 +42,8 @@ plain_name Free b bs h = plain_text (b ∷ bs) h.printable
 plain_name Fixed b bs h = plain_text (b ∷ bs) h.printable
 
 named_read : (style : Style) (b : ℕ) (bs : List ℕ) → IsWord (b ∷ bs) →
-    reading_of style None (line_text style (name_card (b ∷ bs))) ≡ Is (Heading (field_at 1 (codes "NAME") ∷ field_at 2 (b ∷ bs) ∷ []))
+    reading_of style None (line_text style (name_card (b ∷ bs)))
+    ≡ Is (Heading (field_at 1 (codes "NAME") ∷ field_at 2 (b ∷ bs) ∷ []))
 unfolding free_fields fixed_fields is_skipped word_fields
 named_read Free b bs h =
     rw (stripped_plain (line_text Free (name_card (b ∷ bs))) (plain_name Free b bs h), named_words Free b bs h) refl
@@ -58,11 +61,13 @@ unfolding step section_card section_of is_model_name
 name_step Free [] h = ap (on_reading Free start) (unnamed_read Free)
 name_step Fixed [] h = ap (on_reading Fixed start) (unnamed_read Fixed)
 name_step style (b ∷ bs) h =
-    let word : IsWord (b ∷ bs) = record { some = refl; printable = (both (nat_le (length (b ∷ bs)) 64) (list_all is_printable (b ∷ bs)) h).1 } in
+    let word : IsWord (b ∷ bs) =
+    record { some = refl; printable = (both (nat_le (length (b ∷ bs)) 64) (list_all is_printable (b ∷ bs)) h).1 } in
     ap (on_reading style start) (named_read style b bs word) ∙ rw h refl
 
 sense_read : (style : Style) →
-    reading_of style (Some section.Name) (codes "OBJSENSE MAX") ≡ Is (Heading (field_at 1 (codes "OBJSENSE") ∷ field_at 2 (codes "MAX") ∷ []))
+    reading_of style (Some section.Name) (codes "OBJSENSE MAX")
+    ≡ Is (Heading (field_at 1 (codes "OBJSENSE") ∷ field_at 2 (codes "MAX") ∷ []))
 unfolding free_fields fixed_fields is_skipped word_fields words_of
 sense_read Free = refl
 sense_read Fixed = refl
@@ -81,5 +86,7 @@ start_is_read style m kept = by m.sense
     by : (sense : Sense) → Goes style start (name_card m.name ∷ sense_cards sense) (with_start_of m.name sense)
     by Min = first
     by Max =
-        goes_then style start (named m.name) (with_start_of m.name Max) (name_card m.name) (one_word (codes "OBJSENSE MAX") ∷ []) first
-        (goes_one style (named m.name) (with_start_of m.name Max) (one_word (codes "OBJSENSE MAX")) (sense_step style m.name))
+        goes_then style start (named m.name) (with_start_of m.name Max)
+        (name_card m.name) (one_word (codes "OBJSENSE MAX") ∷ []) first
+        (goes_one style (named m.name) (with_start_of m.name Max)
+        (one_word (codes "OBJSENSE MAX")) (sense_step style m.name))

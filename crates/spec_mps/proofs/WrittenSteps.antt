@@ -1,5 +1,6 @@
 -- Written cards that a reader goes over, from one state to another.
-use Rattle.std.specs.Prelude.{ℕ, ◌+◌, ◌≡◌, ◌≤◌, ◌&&◌, true, false, nat_le, Some, None, List, [], ◌∷◌, ◌++◌, length, map, codes}
+use Rattle.std.specs.Prelude.{ℕ, ◌+◌, ◌≡◌, ◌≤◌, ◌&&◌, true, false, nat_le, Some}
+use Rattle.std.specs.Prelude.{None, List, [], ◌∷◌, ◌++◌, length, map, codes}
 use Rattle.std.specs.List.{All, list_all}
 use Rattle.spec_text.specs.Lines.{line_limit, lines_of}
 use Rattle.spec_text.specs.declared.line.Line.{Line}
@@ -13,7 +14,8 @@ use Rattle.spec_mps.specs.declared.style.Style.TheVariants.{Free, Fixed}
 use Rattle.spec_mps.specs.declared.section.Section.TheVariants as section
 use Rattle.spec_mps.specs.Reader.{State, start, new_row}
 use Rattle.spec_mps.specs.Steps.{begun, judge}
-use Rattle.spec_mps.specs.Written.{WrittenCards, cards_text, line_text, name_card, sense_cards, rows_cards, columns_cards, section_card, too_wide}
+use Rattle.spec_mps.specs.Written.{WrittenCards, cards_text, line_text, name_card, sense_cards}
+use Rattle.spec_mps.specs.Written.{rows_cards, columns_cards, section_card, too_wide}
 
 abbrev pub card_lines : Style → WrittenCards → List (Line (List ℕ))
 card_lines style cards = map (λ card. Text (line_text style card)) cards
@@ -87,7 +89,10 @@ pub record HasNoColumns (s : State) (m : Model) : Type 0 where
 
 abbrev pub with_columns_of : State → Model → State
 with_columns_of s m =
-    record (begun (begun s section.Columns) section.RightSides) { columns = map bare_column m.columns; lowered = map (λ c. false) m.columns }
+    record (begun (begun s section.Columns) section.RightSides)
+    { columns = map bare_column m.columns; lowered = map (λ c. false) m.columns }
 
 abbrev pub ColumnsAreRead : Style → Model → Type 0
-ColumnsAreRead style m = (s : State) → HasNoColumns s m → Goes style s (columns_cards m ++ section_card (codes "RHS") ∷ []) (with_columns_of s m)
+ColumnsAreRead style m =
+    (s : State) → HasNoColumns s m →
+    Goes style s (columns_cards m ++ section_card (codes "RHS") ∷ []) (with_columns_of s m)

@@ -1,5 +1,6 @@
 -- The text that a model is written as spells that model.
-use Rattle.std.proofs.Common.{◌≡◌, ◌↔◌, ℕ, ◌+◌, None, List, [], ◌∷◌, ◌++◌, length, get_or, refl, sym, ap, ◌∙◌, subst, append_assoc}
+use Rattle.std.proofs.Common.{◌≡◌, ◌↔◌, ℕ, ◌+◌, None, List, [], ◌∷◌, ◌++◌, length}
+use Rattle.std.proofs.Common.{get_or, refl, sym, ap, ◌∙◌, subst, append_assoc}
 use Rattle.std.specs.Prelude.{codes}
 use Rattle.std.proofs.lemmas.List.{map-append}
 use Rattle.spec_text.specs.Lines.{lines_of}
@@ -14,8 +15,11 @@ use Rattle.spec_mps.specs.declared.style.Style.{Style}
 use Rattle.spec_mps.specs.declared.style.Style.TheVariants.{Free, Fixed}
 use Rattle.spec_mps.specs.Reader.{State, start}
 use Rattle.spec_mps.specs.Steps.{Verdict, Spelled, Spells, judge, settled}
-use Rattle.spec_mps.specs.Written.{WrittenCards, cards_of, cards_text, name_card, sense_cards, rows_cards, columns_cards, sides_cards, ranges_cards, bounds_cards, section_card, side_cards, line_text, too_wide, free, fixed}
-use Rattle.spec_mps.proofs.WrittenSteps.{Goes, Fits, HasNoRows, HasNoColumns, ColumnsAreRead, card_lines, with_start_of, with_rows_of, with_columns_of}
+use Rattle.spec_mps.specs.Written.{WrittenCards, cards_of, cards_text, name_card, sense_cards}
+use Rattle.spec_mps.specs.Written.{rows_cards, columns_cards, sides_cards, ranges_cards, bounds_cards}
+use Rattle.spec_mps.specs.Written.{section_card, side_cards, line_text, too_wide, free, fixed}
+use Rattle.spec_mps.proofs.WrittenSteps.{Goes, Fits, HasNoRows, HasNoColumns, ColumnsAreRead}
+use Rattle.spec_mps.proofs.WrittenSteps.{card_lines, with_start_of, with_rows_of, with_columns_of}
 use Rattle.spec_mps.proofs.WrittenLines.{has_its_lines}
 use Rattle.spec_mps.proofs.WrittenStart.{start_is_read}
 use Rattle.spec_mps.proofs.WrittenRowsRead.{rows_are_read}
@@ -36,9 +40,29 @@ rows_first name Max = record { no_section = refl; no_objective = refl; none_drop
 
 columns_then : (m : Model) (sense : Sense) → HasNoColumns (with_rows_of (with_start_of m.name sense) m) m
 columns_then m Min =
-    record { rows_are_read = refl; no_section = refl; no_sides = refl; objective = refl; none_dropped = refl; rows = refl; no_column = refl; none_open = refl; none_lowered = refl }
+    record {
+      rows_are_read = refl;
+      no_section = refl;
+      no_sides = refl;
+      objective = refl;
+      none_dropped = refl;
+      rows = refl;
+      no_column = refl;
+      none_open = refl;
+      none_lowered = refl;
+    }
 columns_then m Max =
-    record { rows_are_read = refl; no_section = refl; no_sides = refl; objective = refl; none_dropped = refl; rows = refl; no_column = refl; none_open = refl; none_lowered = refl }
+    record {
+      rows_are_read = refl;
+      no_section = refl;
+      no_sides = refl;
+      objective = refl;
+      none_dropped = refl;
+      rows = refl;
+      no_column = refl;
+      none_open = refl;
+      none_lowered = refl;
+    }
 
 sides_then : (m : Model) (sense : Sense) → sense ≡ m.sense →
     HasNoSides (with_columns_of (with_rows_of (with_start_of m.name sense) m) m) m
@@ -91,23 +115,29 @@ room_of : (style : Style) (m : Model) → Fits style m → HasItsRoom style m
 unfolding cards_of
 room_of style m fits =
     let start : WrittenCards = name_card m.name ∷ sense_cards m.sense in
-    let a = room_front style (start ++ rows_cards m ++ columns_cards m ++ sides_cards m ++ ranges_cards m ++ bounds_cards m) (section_card (codes "ENDATA") ∷ []) (whole_room style m fits) in
-    let b = room_front style (start ++ rows_cards m ++ columns_cards m ++ sides_cards m ++ ranges_cards m) (bounds_cards m) a in
+    let a =
+    room_front style (start ++ rows_cards m ++ columns_cards m ++ sides_cards m ++ ranges_cards m ++ bounds_cards m)
+    (section_card (codes "ENDATA") ∷ []) (whole_room style m fits) in
+    let b =
+    room_front style (start ++ rows_cards m ++ columns_cards m ++ sides_cards m ++ ranges_cards m) (bounds_cards m) a in
     let c = room_front style (start ++ rows_cards m ++ columns_cards m ++ sides_cards m) (ranges_cards m) b in
     record {
       sides = room_back style (start ++ rows_cards m ++ columns_cards m) (sides_cards m) c;
       ranges = room_back style (start ++ rows_cards m ++ columns_cards m ++ sides_cards m) (ranges_cards m) b;
       bounds =
-          room_back style (start ++ rows_cards m ++ columns_cards m ++ sides_cards m ++ ranges_cards m) (bounds_cards m) a;
+          room_back style (start ++ rows_cards m ++ columns_cards m ++ sides_cards m ++ ranges_cards m)
+          (bounds_cards m) a;
     }
 
 -- the cards before ENDATA
 abbrev body : Model → WrittenCards
 body m =
-    (name_card m.name ∷ sense_cards m.sense) ++ rows_cards m ++ columns_cards m ++ sides_cards m ++ ranges_cards m ++ bounds_cards m
+    (name_card m.name ∷ sense_cards m.sense) ++ rows_cards m
+    ++ columns_cards m ++ sides_cards m ++ ranges_cards m ++ bounds_cards m
 
 sides_goes : (style : Style) (m : Model) → IsModel m → Fits style m → ColumnsAreRead style m
-    → (t : State) × Goes style start ((name_card m.name ∷ sense_cards m.sense) ++ rows_cards m ++ columns_cards m ++ sides_cards m) t × HasNoRanges t m
+    → (t : State) × Goes style start
+    ((name_card m.name ∷ sense_cards m.sense) ++ rows_cards m ++ columns_cards m ++ sides_cards m) t × HasNoRanges t m
 unfolding sides_cards
 sides_goes style m kept fits columns_are_read =
     let first : WrittenCards = name_card m.name ∷ sense_cards m.sense in
@@ -117,16 +147,25 @@ sides_goes style m kept fits columns_are_read =
     let c : State = with_columns_of b m in
     let rows = rows_are_read style m kept fits a (rows_first m.name m.sense) in
     let columns = columns_are_read b (columns_then m m.sense) in
-    let right = sides_are_read style m kept (room_back style heading (sides m) (room_of style m fits).sides) c (sides_then m m.sense refl) in
+    let right =
+    sides_are_read style m kept (room_back style heading (sides m) (room_of style m fits).sides) c
+    (sides_then m m.sense refl) in
     let to_rows = goes_append style start a b first (rows_cards m) (start_is_read style m kept) rows in
     let to_columns = goes_append style start b c (first ++ rows_cards m) (columns_cards m ++ heading) to_rows columns in
-    let to_sides = goes_append style start c right.0 ((first ++ rows_cards m) ++ (columns_cards m ++ heading)) (sides m) to_columns right.1 in
-    (right.0, subst (λ cards. Goes style start cards right.0) (regroup (first ++ rows_cards m) (columns_cards m) heading (sides m)) to_sides, right.2)
+    let to_sides =
+    goes_append style start c right.0
+    ((first ++ rows_cards m) ++ (columns_cards m ++ heading)) (sides m) to_columns right.1 in (
+      right.0,
+      subst (λ cards. Goes style start cards right.0)
+          (regroup (first ++ rows_cards m) (columns_cards m) heading (sides m)) to_sides,
+      right.2,
+    )
 
 body_goes : (style : Style) (m : Model) → IsModel m → Fits style m → ColumnsAreRead style m →
     (t : State) × Goes style start (body m) t × IsWhole t m
 body_goes style m kept fits columns_are_read =
-    let first : WrittenCards = (name_card m.name ∷ sense_cards m.sense) ++ rows_cards m ++ columns_cards m ++ sides_cards m in
+    let first : WrittenCards =
+    (name_card m.name ∷ sense_cards m.sense) ++ rows_cards m ++ columns_cards m ++ sides_cards m in
     let a = sides_goes style m kept fits columns_are_read in
     let b = ranges_are_read style m kept (room_of style m fits).ranges a.0 a.2 in
     let c = bounds_are_read style m kept (room_of style m fits).bounds b.0 b.2 in
@@ -138,7 +177,9 @@ cards_spell : (style : Style) (m : Model) → IsModel m → Fits style m → Col
 unfolding cards_of
 cards_spell style m kept fits columns_are_read =
     let g = body_goes style m kept fits columns_are_read in
-    ap (judge style start 1) (map-append (λ card. Text (line_text style card)) (body m) (section_card (codes "ENDATA") ∷ [])) ∙ g.1.goes 1 (Text (codes "ENDATA") ∷ [])
+    ap (judge style start 1)
+    (map-append (λ card. Text (line_text style card)) (body m) (section_card (codes "ENDATA") ∷ []))
+    ∙ g.1.goes 1 (Text (codes "ENDATA") ∷ [])
     ∙ ap (settled (1 + length (body m)) (λ u. judge style u (1 + length (body m) + 1) [])) (end_step style g.0 m g.2)
 
 -- ---- the text
@@ -146,7 +187,9 @@ cards_spell style m kept fits columns_are_read =
 text_spells : (style : Style) (m : Model) → IsModel m → Fits style m → ColumnsAreRead style m →
     Spells style (lines_of (cards_text style (cards_of m))) m
 text_spells style m kept fits columns_are_read =
-    ap (judge style start 1) (has_its_lines style (cards_of m) (λ i d a. plain_line style (get_or (cards_of m) i d) (cards_short m kept i d a))) ∙ cards_spell style m kept fits columns_are_read
+    ap (judge style start 1)
+    (has_its_lines style (cards_of m) (λ i d a. plain_line style (get_or (cards_of m) i d) (cards_short m kept i d a)))
+    ∙ cards_spell style m kept fits columns_are_read
 
 pub free_spells : (m : Model) → IsModel m → ColumnsAreRead Free m → Spells Free (lines_of (free m)) m
 unfolding free

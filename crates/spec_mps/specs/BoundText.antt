@@ -1,12 +1,14 @@
 -- The text of bounds: numbers, and all that counts as infinite.
-use Rattle.std.specs.Prelude.{ℕ, ◌^◌, ◌||◌, pos, Bool, true, false, not, Option, Some, None, Result, Ok, Err, List, codes, if◌then◌else◌}
+use Rattle.std.specs.Prelude.{ℕ, ◌^◌, ◌||◌, pos, Bool, true, false, not, Option, Some}
+use Rattle.std.specs.Prelude.{None, Result, Ok, Err, List, codes, if◌then◌else◌}
 use Rattle.std.specs.Str.{str_eq_ignore_ascii_case}
 use Rattle.spec_exact.specs.Fraction.{ℚ, whole, neg_ℚ, lt_ℚ}
 use Rattle.spec_mps.specs.declared.number.NumFault.{NumFault}
 use Rattle.spec_mps.specs.declared.number.NumFault.TheVariants as fault
 use Rattle.spec_mps.specs.declared.number.BoundValue.{BoundValue}
 use Rattle.spec_mps.specs.declared.number.BoundValue.TheVariants as bound
-use Rattle.spec_mps.specs.NumberText.{NumberParts, NumberReading, is_negative, without_sign, parts_of, value_of, number_by}
+use Rattle.spec_mps.specs.NumberText.{NumberParts, NumberReading, is_negative}
+use Rattle.spec_mps.specs.NumberText.{without_sign, parts_of, value_of, number_by}
 use Rattle.spec_mps.specs.NumberText as number
 
 -- what a text is: a bound, no bound, or a number past the width

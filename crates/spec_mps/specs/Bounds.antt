@@ -1,5 +1,6 @@
 -- The cards of BOUNDS.
-use Rattle.std.specs.Prelude.{ℕ, ◌==◌, ◌&&◌, ◌||◌, Bool, true, false, not, Option, Some, None, Ok, Err, List, [], ◌∷◌, get_or, if◌then◌else◌}
+use Rattle.std.specs.Prelude.{ℕ, ◌==◌, ◌&&◌, ◌||◌, Bool, true, false, not, Option, Some}
+use Rattle.std.specs.Prelude.{None, Ok, Err, List, [], ◌∷◌, get_or, if◌then◌else◌}
 use Rattle.std.specs.List.{filter, position}
 use Rattle.spec_text.specs.Words.{same}
 use Rattle.spec_exact.specs.Fraction.{ℚ, 0ℚ, lt_ℚ}
@@ -104,7 +105,8 @@ is_read kind n = not (n == 1) && (takes_value kind || not (n == 4))
 
 unfoldable pub bound_texts : Style → BoundKind → Fields → Check BoundTexts
 bound_texts style kind fields =
-    if has_shape (bound_shapes style kind) fields then bound_texts_by (takes_value kind) (texts_of (filter (λ f. is_read kind f.number) fields))
+    if has_shape (bound_shapes style kind) fields
+    then bound_texts_by (takes_value kind) (texts_of (filter (λ f. is_read kind f.number) fields))
     else Err code.CardShape
 
 unfoldable pub use_bound : State → BoundKind → BoundTexts → Check State

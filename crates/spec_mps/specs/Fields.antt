@@ -1,5 +1,6 @@
 -- The cards of a text in free and in fixed form, with numbered fields.
-use Rattle.std.specs.Prelude.{ℕ, ◌+◌, ◌-◌, ◌==◌, ◌&&◌, ◌||◌, Bool, not, Option, Some, None, List, [], ◌∷◌, ◌++◌, take, drop, map, nat_le, if◌then◌else◌}
+use Rattle.std.specs.Prelude.{ℕ, ◌+◌, ◌-◌, ◌==◌, ◌&&◌, ◌||◌, Bool, not, Option, Some, None}
+use Rattle.std.specs.Prelude.{List, [], ◌∷◌, ◌++◌, take, drop, map, nat_le, if◌then◌else◌}
 use Rattle.std.specs.List.{list_all}
 use Rattle.spec_text.specs.Words.{words_of}
 use Rattle.spec_mps.specs.declared.card.Card.{Card}
@@ -83,7 +84,8 @@ placed (Some column) fields = Misplaced column
 unfoldable pub fixed_fields : List ℕ → CardReading
 fixed_fields line =
     if is_skipped line then Is Skip
-    else (if begins_with_blank line then placed (misplaced_from 1 line) (column_fields line) else Is (Section (word_fields line)))
+    else (if begins_with_blank line then placed (misplaced_from 1 line) (column_fields line)
+    else Is (Section (word_fields line)))
 
 -- ---- the fields of a card
 

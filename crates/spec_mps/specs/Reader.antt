@@ -1,5 +1,6 @@
 -- What was read of a text so far, and the cards of ROWS and COLUMNS.
-use Rattle.std.specs.Prelude.{ℕ, ◌+◌, ◌==◌, ◌||◌, Bool, true, false, not, Option, Some, None, is_none, option_map, Ok, Err, List, [], ◌∷◌, ◌++◌, length, nat_lt, codes, if◌then◌else◌}
+use Rattle.std.specs.Prelude.{ℕ, ◌+◌, ◌==◌, ◌||◌, Bool, true, false, not, Option, Some, None, is_none}
+use Rattle.std.specs.Prelude.{option_map, Ok, Err, List, [], ◌∷◌, ◌++◌, length, nat_lt, codes, if◌then◌else◌}
 use Rattle.std.specs.List.{list_any, position}
 use Rattle.spec_text.specs.Words.{same}
 use Rattle.spec_exact.specs.Fraction.{ℚ, 0ℚ, eq_ℚ}
@@ -45,7 +46,15 @@ start =
     record {
       part = None;
       seen =
-          record { name = false; sense = false; rows = false; columns = false; right_sides = false; ranges = false; bounds = false };
+          record {
+            name = false;
+            sense = false;
+            rows = false;
+            columns = false;
+            right_sides = false;
+            ranges = false;
+            bounds = false;
+          };
       name = [];
       sense = None;
       objective = None;
@@ -141,7 +150,12 @@ opened s name =
     else (do
       _ ← must (not (list_any (λ c. same c.name name) (whole_columns s))) code.ColumnTaken
       _ ← must (nat_lt (length (whole_columns s)) column_limit) code.Limit
-      Ok (record s { columns = whole_columns s; column = Some (new_column name); lowered = s.lowered ++ false ∷ []; paired = [] }))
+      Ok (record s {
+        columns = whole_columns s;
+        column = Some (new_column name);
+        lowered = s.lowered ++ false ∷ [];
+        paired = [];
+      }))
 
 -- an entry at its place in the order of rows
 abbrev pub put_entry : ℕ → ℚ → List (ℕ × ℚ) → List (ℕ × ℚ)

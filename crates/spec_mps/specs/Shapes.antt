@@ -38,10 +38,13 @@ section_of word =
     ∷ [])
 
 unfoldable pub sense_of : List ℕ → Option Sense
-sense_of word = look_up word ((codes "MIN", Min) ∷ (codes "MINIMIZE", Min) ∷ (codes "MAX", Max) ∷ (codes "MAXIMIZE", Max) ∷ [])
+sense_of word =
+    look_up word ((codes "MIN", Min) ∷ (codes "MINIMIZE", Min) ∷ (codes "MAX", Max) ∷ (codes "MAXIMIZE", Max) ∷ [])
 
 unfoldable pub row_type_of : List ℕ → Option RowType
-row_type_of word = look_up word ((codes "N", Unlimited) ∷ (codes "L", Limited L) ∷ (codes "G", Limited G) ∷ (codes "E", Limited E) ∷ [])
+row_type_of word =
+    look_up word
+    ((codes "N", Unlimited) ∷ (codes "L", Limited L) ∷ (codes "G", Limited G) ∷ (codes "E", Limited E) ∷ [])
 
 -- a kind that is read, or why it is not
 unfoldable pub bound_kind_of : List ℕ → Check BoundKind

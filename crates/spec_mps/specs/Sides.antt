@@ -1,5 +1,6 @@
 -- The cards of RHS and RANGES.
-use Rattle.std.specs.Prelude.{ℕ, zero, suc, Bool, true, false, not, Option, Some, None, Ok, Err, List, [], ◌∷◌, if◌then◌else◌}
+use Rattle.std.specs.Prelude.{ℕ, zero, suc, Bool, true, false, not, Option}
+use Rattle.std.specs.Prelude.{Some, None, Ok, Err, List, [], ◌∷◌, if◌then◌else◌}
 use Rattle.spec_text.specs.Words.{same}
 use Rattle.spec_exact.specs.Fraction.{ℚ, neg_ℚ}
 use Rattle.spec_model.specs.Model.{Name}

@@ -1,5 +1,6 @@
 -- What a text of a model is: one model, or one line with one fault. Each line is a step from what was read before it.
-use Rattle.std.specs.Prelude.{ℕ, ◌+◌, ◌≡◌, ◌⊎◌, ◌&&◌, Bool, true, false, not, Option, Some, None, is_some, is_none, Ok, Err, List, [], ◌∷◌}
+use Rattle.std.specs.Prelude.{ℕ, ◌+◌, ◌≡◌, ◌⊎◌, ◌&&◌, Bool, true, false, not, Option}
+use Rattle.std.specs.Prelude.{Some, None, is_some, is_none, Ok, Err, List, [], ◌∷◌}
 use Rattle.spec_text.specs.declared.line.Line.{Line}
 use Rattle.spec_text.specs.declared.line.Line.TheVariants.{Text, Long, End, Over}
 use Rattle.spec_model.specs.declared.parts.Sense.{Sense}
@@ -69,7 +70,14 @@ may_follow seen section.End = seen.columns
 -- as a section begins, the last column is whole, no row has a number in it, and there is no set
 abbrev pub begun : State → Section → State
 begun s part =
-    record s { part = Some part; seen = with_section s.seen part; columns = whole_columns s; column = None; paired = []; set = None }
+    record s {
+      part = Some part;
+      seen = with_section s.seen part;
+      columns = whole_columns s;
+      column = None;
+      paired = [];
+      set = None;
+    }
 
 abbrev pub sense_beside : State → List ℕ → Check State
 sense_beside s [] = Ok s
@@ -100,7 +108,14 @@ sense_or_min (Some sense) = sense
 
 unfoldable pub model_by : State → Name → Model
 model_by s objective =
-    record { name = s.name; sense = sense_or_min s.sense; objective = objective; offset = s.offset; rows = s.rows; columns = whole_columns s }
+    record {
+      name = s.name;
+      sense = sense_or_min s.sense;
+      objective = objective;
+      offset = s.offset;
+      rows = s.rows;
+      columns = whole_columns s;
+    }
 
 unfoldable pub finished : State → Outcome
 finished s = need s.objective code.NoObjective >>= λ objective. Ok (Done (model_by s objective))

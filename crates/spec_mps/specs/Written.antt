@@ -1,5 +1,6 @@
 -- The text that a model is written as: its cards, and their lines in both forms.
-use Rattle.std.specs.Prelude.{ℕ, ◌-◌, ◌==◌, ◌&&◌, ◌||◌, Bool, false, not, Option, Some, None, is_some, option_map, List, [], ◌∷◌, ◌++◌, length, replicate, map, find, nat_lt, codes, if◌then◌else◌}
+use Rattle.std.specs.Prelude.{ℕ, ◌-◌, ◌==◌, ◌&&◌, ◌||◌, Bool, false, not, Option, Some, None, is_some, option_map}
+use Rattle.std.specs.Prelude.{List, [], ◌∷◌, ◌++◌, length, replicate, map, find, nat_lt, codes, if◌then◌else◌}
 use Rattle.std.specs.List.{list_any, flat_map}
 use Rattle.spec_exact.specs.Fraction.{ℚ, 0ℚ, neg_ℚ, eq_ℚ, lt_ℚ}
 use Rattle.spec_model.specs.declared.parts.Kind.{Kind}
@@ -38,7 +39,8 @@ number_card group name value = Data (field_at 2 group ∷ field_at 3 name ∷ fi
 
 -- a kind of bounds and a column, with and without a number
 abbrev pub bound_card : List ℕ → Name → ℚ → WrittenCard
-bound_card kind name value = Data (field_at 1 kind ∷ field_at 2 (codes "BND") ∷ field_at 3 name ∷ field_at 4 (number_text value) ∷ [])
+bound_card kind name value =
+    Data (field_at 1 kind ∷ field_at 2 (codes "BND") ∷ field_at 3 name ∷ field_at 4 (number_text value) ∷ [])
 
 abbrev pub unbound_card : List ℕ → Name → WrittenCard
 unbound_card kind name = Data (field_at 1 kind ∷ field_at 2 (codes "BND") ∷ field_at 3 name ∷ [])
@@ -76,7 +78,9 @@ side_cards name value = if eq_ℚ value 0ℚ then [] else number_card (codes "RH
 
 -- The right side of the objective is the negative of the offset.
 unfoldable pub sides_cards : Model → WrittenCards
-sides_cards m = section_card (codes "RHS") ∷ (side_cards m.objective (neg_ℚ m.offset) ++ flat_map (λ r. side_cards r.name r.rhs) m.rows)
+sides_cards m =
+    section_card (codes "RHS")
+    ∷ (side_cards m.objective (neg_ℚ m.offset) ++ flat_map (λ r. side_cards r.name r.rhs) m.rows)
 
 -- a range, if there is one, as it is
 abbrev pub range_cards : Name → Option ℚ → WrittenCards
@@ -88,7 +92,8 @@ has_range r = is_some r.range
 
 unfoldable pub ranges_cards : Model → WrittenCards
 ranges_cards m =
-    if list_any has_range m.rows then section_card (codes "RANGES") ∷ flat_map (λ r. range_cards r.name r.range) m.rows else []
+    if list_any has_range m.rows then section_card (codes "RANGES")
+    ∷ flat_map (λ r. range_cards r.name r.range) m.rows else []
 
 -- a lower bound 0 and no upper one
 abbrev pub is_usual : Option ℚ → Option ℚ → Bool
@@ -103,18 +108,21 @@ bound_cards name None (Some u) = unbound_card (codes "MI") name ∷ bound_card (
 bound_cards name (Some l) None = if eq_ℚ l 0ℚ then [] else bound_card (codes "LO") name l ∷ []
 bound_cards name (Some l) (Some u) =
     if eq_ℚ l u then bound_card (codes "FX") name l ∷ []
-    else (if eq_ℚ l 0ℚ && lt_ℚ 0ℚ u then bound_card (codes "UP") name u ∷ [] else bound_card (codes "LO") name l ∷ bound_card (codes "UP") name u ∷ [])
+    else (if eq_ℚ l 0ℚ && lt_ℚ 0ℚ u then bound_card (codes "UP") name u
+    ∷ [] else bound_card (codes "LO") name l ∷ bound_card (codes "UP") name u ∷ [])
 
 abbrev pub has_bounds : ExactColumn → Bool
 has_bounds c = not (is_usual c.lower c.upper)
 
 unfoldable pub bounds_cards : Model → WrittenCards
 bounds_cards m =
-    if list_any has_bounds m.columns then section_card (codes "BOUNDS") ∷ flat_map (λ c. bound_cards c.name c.lower c.upper) m.columns else []
+    if list_any has_bounds m.columns then section_card (codes "BOUNDS")
+    ∷ flat_map (λ c. bound_cards c.name c.lower c.upper) m.columns else []
 
 unfoldable pub cards_of : Model → WrittenCards
 cards_of m =
-    name_card m.name ∷ sense_cards m.sense ++ rows_cards m ++ columns_cards m ++ sides_cards m ++ ranges_cards m ++ bounds_cards m
+    name_card m.name ∷ sense_cards m.sense ++ rows_cards m
+    ++ columns_cards m ++ sides_cards m ++ ranges_cards m ++ bounds_cards m
     ++ section_card (codes "ENDATA") ∷ []
 
 -- ---- lines
@@ -122,7 +130,8 @@ cards_of m =
 -- the column of fixed form in which a field begins, and the most bytes that it holds
 abbrev pub first_column : ℕ → ℕ
 first_column n =
-    if n == 1 then 2 else (if n == 2 then 5 else (if n == 3 then 15 else (if n == 4 then 25 else (if n == 5 then 40 else 50))))
+    if n == 1 then 2
+    else (if n == 2 then 5 else (if n == 3 then 15 else (if n == 4 then 25 else (if n == 5 then 40 else 50))))
 
 abbrev pub field_width : ℕ → ℕ
 field_width n = if n == 1 then 2 else (if n == 4 || n == 6 then 12 else 8)

@@ -19,8 +19,8 @@
 //! | `step`, `Spells`, `Refuses` | the step of a line, and what a whole text is | specs/Steps |
 //! | `is_skipped` | the lines that count for nothing | specs/Cards |
 //!
-//! The format is MPS (IBM Mathematical Programming System Extended, Program Reference Manual, 1971, and the free form of
-//! later readers): docs/FORMATS.md.
+//! The format is MPS (IBM Mathematical Programming System Extended, Program Reference Manual, 1971, and the free form
+//! of later readers): docs/FORMATS.md.
 #![tactic(auto)]
 
 mod bound_kind;
@@ -79,7 +79,8 @@ pub fn written_numbers_are_words()
 /// The text that a model is written as spells that model and no other, in both forms.
 pub fn written_texts_spell_their_models()
     ensures free { (m n : Model) → IsModel m → (Spells form.Free (lines_of (free m)) n ↔ (n ≡ m)) }
-    ensures fixed { (m n : Model) → IsModel m → too_wide m ≡ None → (Spells form.Fixed (lines_of (fixed m)) n ↔ (n ≡ m)) }
+    ensures fixed { (m n : Model) → IsModel m → too_wide m ≡ None →
+        (Spells form.Fixed (lines_of (fixed m)) n ↔ (n ≡ m)) }
 {}
 
 /// A number of a size below 10^20 is a finite bound.

@@ -11,4 +11,5 @@ returns-clause-free c =
 
 pub returns-clause-fixed : goal.returns-clause-fixed
 returns-clause-fixed c =
-    λ m n kept narrow. no_other Fixed (lines_of (fixed m)) m n (fixed_spells m kept narrow (columns_are_read Fixed m kept narrow))
+    λ m n kept narrow. no_other Fixed (lines_of (fixed m)) m n
+    (fixed_spells m kept narrow (columns_are_read Fixed m kept narrow))
