@@ -1,5 +1,6 @@
 -- What one more card of BOUNDS makes of a column's bounds.
-use Rattle.std.proofs.Common.{◌≡◌, ℕ, Bool, true, false, not, ◌&&◌, ◌||◌, cond, Option, Some, None, is_some, Ok, List, [], ◌∷◌, ◌++◌, refl, sym, ap, ◌∙◌, subst, append-nil}
+use Rattle.std.proofs.Common.{◌≡◌, ℕ, Bool, true, false, not, ◌&&◌, ◌||◌, cond, Option, Some, None}
+use Rattle.std.proofs.Common.{is_some, Ok, List, [], ◌∷◌, ◌++◌, refl, sym, ap, ◌∙◌, subst, append-nil}
 use Rattle.std.specs.List.{filter_map, cons_option, list_any}
 use Rattle.std.proofs.lemmas.List.Elements.{filter_map-append}
 use Rattle.spec_exact.specs.Fraction.{ℚ, 0ℚ}
@@ -10,9 +11,11 @@ use Rattle.spec_mps.specs.declared.style.Style.{Style}
 use Rattle.spec_mps.specs.BoundText.{BoundReading, Finite, PlusInf, MinusInf, Shape, Wide, bound_of, bound_answer}
 use Rattle.spec_mps.specs.Checks.{◌>>=◌, coded}
 use Rattle.spec_mps.specs.Fields.{Fields, text_at}
-use Rattle.spec_mps.specs.Bounds.{BoundCard, SetsUpper, SetsLower, SetsBoth, upper_card, lower_card, both_card, bound_in, bound_card, is_negative, bounded, sets_lower}
+use Rattle.spec_mps.specs.Bounds.{BoundCard, SetsUpper, SetsLower, SetsBoth, upper_card, lower_card}
+use Rattle.spec_mps.specs.Bounds.{both_card, bound_in, bound_card, is_negative, bounded, sets_lower}
 use Rattle.spec_mps.proofs.CheckSteps.{same_ok}
-use Rattle.spec_meaning.specs.BoundCards.{kind_of, bound_on, upper_by, lower_by, is_below_zero, upper_on, lower_on, has_negative_upper, last_or, upper_of, lower_of}
+use Rattle.spec_meaning.specs.BoundCards.{kind_of, bound_on, upper_by, lower_by, is_below_zero, upper_on}
+use Rattle.spec_meaning.specs.BoundCards.{lower_on, has_negative_upper, last_or, upper_of, lower_of}
 
 -- ---- one card
 
@@ -39,7 +42,8 @@ record Does (kind : BoundKind) (value : BoundReading) (does : BoundCard) : Type 
 does_upper : (value : BoundReading) (does : BoundCard) → (coded (bound_answer value) >>= upper_card) ≡ Ok does →
     Does Up value does
 does_upper (Finite u) does h =
-    subst (Does Up (Finite u)) (same_ok (SetsUpper (Some u)) does h) (record { upper = refl; lower = refl; below = refl })
+    subst (Does Up (Finite u)) (same_ok (SetsUpper (Some u)) does h)
+    (record { upper = refl; lower = refl; below = refl })
 does_upper PlusInf does h =
     subst (Does Up PlusInf) (same_ok (SetsUpper None) does h) (record { upper = refl; lower = refl; below = refl })
 does_upper MinusInf does h = absurd (cc)
@@ -49,7 +53,8 @@ does_upper Wide does h = absurd (cc)
 does_lower : (value : BoundReading) (does : BoundCard) → (coded (bound_answer value) >>= lower_card) ≡ Ok does →
     Does Lo value does
 does_lower (Finite l) does h =
-    subst (Does Lo (Finite l)) (same_ok (SetsLower (Some l)) does h) (record { upper = refl; lower = refl; below = refl })
+    subst (Does Lo (Finite l)) (same_ok (SetsLower (Some l)) does h)
+    (record { upper = refl; lower = refl; below = refl })
 does_lower PlusInf does h = absurd (cc)
 does_lower MinusInf does h =
     subst (Does Lo MinusInf) (same_ok (SetsLower None) does h) (record { upper = refl; lower = refl; below = refl })
@@ -59,7 +64,8 @@ does_lower Wide does h = absurd (cc)
 does_both : (value : BoundReading) (does : BoundCard) → (coded (bound_answer value) >>= both_card) ≡ Ok does →
     Does Fx value does
 does_both (Finite v) does h =
-    subst (Does Fx (Finite v)) (same_ok (SetsBoth (Some v) (Some v)) does h) (record { upper = refl; lower = refl; below = refl })
+    subst (Does Fx (Finite v)) (same_ok (SetsBoth (Some v) (Some v)) does h)
+    (record { upper = refl; lower = refl; below = refl })
 does_both PlusInf does h = absurd (cc)
 does_both MinusInf does h = absurd (cc)
 does_both Shape does h = absurd (cc)
@@ -72,11 +78,14 @@ card_does Up text does h = does_upper (bound_of text) does h
 card_does Lo text does h = does_lower (bound_of text) does h
 card_does Fx text does h = does_both (bound_of text) does h
 card_does Fr text does h =
-    subst (Does Fr (bound_of text)) (same_ok (SetsBoth None None) does h) (record { upper = refl; lower = refl; below = refl })
+    subst (Does Fr (bound_of text)) (same_ok (SetsBoth None None) does h)
+    (record { upper = refl; lower = refl; below = refl })
 card_does Mi text does h =
-    subst (Does Mi (bound_of text)) (same_ok (SetsLower None) does h) (record { upper = refl; lower = refl; below = refl })
+    subst (Does Mi (bound_of text)) (same_ok (SetsLower None) does h)
+    (record { upper = refl; lower = refl; below = refl })
 card_does Pl text does h =
-    subst (Does Pl (bound_of text)) (same_ok (SetsUpper None) does h) (record { upper = refl; lower = refl; below = refl })
+    subst (Does Pl (bound_of text)) (same_ok (SetsUpper None) does h)
+    (record { upper = refl; lower = refl; below = refl })
 
 -- the same of the card's fields
 pub record Effects (style : Style) (card : Fields) (does : BoundCard) : Type 0 where
@@ -109,7 +118,8 @@ any_push test [] card = by (test card)
     by : (b : Bool) → (b || false) ≡ b
     by true = refl
     by false = refl
-any_push test (x ∷ cards) card = ap (λ b. test x || b) (any_push test cards card) ∙ by (test x) (list_any test cards) (test card)
+any_push test (x ∷ cards) card =
+    ap (λ b. test x || b) (any_push test cards card) ∙ by (test x) (list_any test cards) (test card)
   where
     by : (a b c : Bool) → (a || (b || c)) ≡ ((a || b) || c)
     by true b c = refl
@@ -128,7 +138,8 @@ upper_push : (style : Style) (cards : List Fields) (card : Fields) →
     upper_of style (cards ++ card ∷ []) ≡ or_kept (upper_on style card) (upper_of style cards)
 unfolding upper_of
 upper_push style cards card =
-    ap (last_or None) (filter_map-append (upper_on style) cards (card ∷ [])) ∙ last_added None (filter_map (upper_on style) cards) (upper_on style card)
+    ap (last_or None) (filter_map-append (upper_on style) cards (card ∷ []))
+    ∙ last_added None (filter_map (upper_on style) cards) (upper_on style card)
 
 -- a card has set the lower bound
 abbrev pub is_lowered : Style → List Fields → Bool
@@ -138,10 +149,13 @@ abbrev first_lower : Bool → Option ℚ
 first_lower negative = cond negative None (Some 0ℚ)
 
 lower_push : (style : Style) (cards : List Fields) (card : Fields) →
-    lower_of style (cards ++ card ∷ []) ≡ or_kept (lower_on style card) (last_or (first_lower (list_any (has_negative_upper style) cards || has_negative_upper style card)) (filter_map (lower_on style) cards))
+    lower_of style (cards ++ card ∷ []) ≡ or_kept (lower_on style card)
+    (last_or (first_lower (list_any (has_negative_upper style) cards || has_negative_upper style card))
+    (filter_map (lower_on style) cards))
 unfolding lower_of
 lower_push style cards card =
-    (λ i. last_or (first_lower (any_push (has_negative_upper style) cards card i)) (filter_map-append (lower_on style) cards (card ∷ []) i))
+    (λ i. last_or (first_lower (any_push (has_negative_upper style) cards card i))
+    (filter_map-append (lower_on style) cards (card ∷ []) i))
     ∙ last_added _ (filter_map (lower_on style) cards) (lower_on style card)
 
 -- where a card has set it, what was first does not count
@@ -151,8 +165,10 @@ set_before style [] a b h = absurd (cc)
 set_before style (card ∷ cards) a b h = by (lower_on style card) h (set_before style cards a b)
   where
     by : (o : Option (Option ℚ)) → (is_some o || is_lowered style cards) ≡ true →
-        (is_lowered style cards ≡ true → last_or a (filter_map (lower_on style) cards) ≡ last_or b (filter_map (lower_on style) cards)) →
-        last_or a (cons_option o (filter_map (lower_on style) cards)) ≡ last_or b (cons_option o (filter_map (lower_on style) cards))
+        (is_lowered style cards ≡ true →
+        last_or a (filter_map (lower_on style) cards) ≡ last_or b (filter_map (lower_on style) cards)) →
+        last_or a (cons_option o (filter_map (lower_on style) cards))
+        ≡ last_or b (cons_option o (filter_map (lower_on style) cards))
     by None k f = f k
     by (Some l) k f = refl
 
@@ -169,7 +185,8 @@ unset_before style (card ∷ cards) h = by (lower_on style card) h (unset_before
 
 -- an upper bound takes the lower one away where it is below 0 and no card has set that
 lower_kept : (style : Style) (cards : List Fields) (negative : Bool) →
-    last_or (first_lower (list_any (has_negative_upper style) cards || negative)) (filter_map (lower_on style) cards) ≡ cond (negative && not (is_lowered style cards)) None (lower_of style cards)
+    last_or (first_lower (list_any (has_negative_upper style) cards || negative)) (filter_map (lower_on style) cards)
+    ≡ cond (negative && not (is_lowered style cards)) None (lower_of style cards)
 unfolding lower_of
 lower_kept style cards negative = by (is_lowered style cards) refl
   where
@@ -184,12 +201,15 @@ lower_kept style cards negative = by (is_lowered style cards) refl
     set false = refl
 
     by : (b : Bool) → is_lowered style cards ≡ b →
-        last_or (first_lower (list_any (has_negative_upper style) cards || negative)) (filter_map (lower_on style) cards) ≡ cond (negative && not b) None (last_or (first_lower (list_any (has_negative_upper style) cards)) (filter_map (lower_on style) cards))
+        last_or (first_lower (list_any (has_negative_upper style) cards || negative))
+        (filter_map (lower_on style) cards) ≡ cond (negative && not b) None
+        (last_or (first_lower (list_any (has_negative_upper style) cards)) (filter_map (lower_on style) cards))
     by true e = set_before style cards _ _ e ∙ sym (set negative)
     by false e =
         ap (last_or _) (unset_before style cards e)
         ∙ none (list_any (has_negative_upper style) cards) negative
-        ∙ ap (λ ls. cond (negative && true) None (last_or (first_lower (list_any (has_negative_upper style) cards)) ls)) (sym (unset_before style cards e))
+        ∙ ap (λ ls. cond (negative && true) None (last_or (first_lower (list_any (has_negative_upper style) cards)) ls))
+        (sym (unset_before style cards e))
 
 -- ---- a column's bounds
 
@@ -198,7 +218,8 @@ pub record IsBounded (style : Style) (cards : List Fields) (c : ExactColumn) (lo
   pub lower : c.lower ≡ lower_of style cards
   pub lowered_is : lowered ≡ is_lowered style cards
 
-pub bounded_push : (style : Style) (cards : List Fields) (card : Fields) (does : BoundCard) (c : ExactColumn) (lowered : Bool) →
+pub bounded_push : (style : Style) (cards : List Fields) (card : Fields)
+    (does : BoundCard) (c : ExactColumn) (lowered : Bool) →
     Effects style card does → IsBounded style cards c lowered →
     IsBounded style (cards ++ card ∷ []) (bounded lowered does c) (lowered || sets_lower does)
 bounded_push style cards card (SetsUpper u) c lowered e k = go (is_negative u && not lowered) refl
@@ -206,7 +227,8 @@ bounded_push style cards card (SetsUpper u) c lowered e k = go (is_negative u &&
     lower_is : lower_of style (cards ++ card ∷ []) ≡ cond (is_negative u && not lowered) None c.lower
     lower_is =
         lower_push style cards card
-        ∙ (λ i. or_kept (e.lower i) (last_or (first_lower (list_any (has_negative_upper style) cards || e.below i)) (filter_map (lower_on style) cards)))
+        ∙ (λ i. or_kept (e.lower i) (last_or (first_lower (list_any (has_negative_upper style) cards || e.below i))
+        (filter_map (lower_on style) cards)))
         ∙ lower_kept style cards (is_negative u)
         ∙ (λ i. cond (is_negative u && not (sym k.lowered_is i)) None (sym k.lower i))
 
@@ -215,10 +237,12 @@ bounded_push style cards card (SetsUpper u) c lowered e k = go (is_negative u &&
 
     lowered_is : (lowered || false) ≡ is_lowered style (cards ++ card ∷ [])
     lowered_is =
-        ap (λ b. b || false) k.lowered_is ∙ ap (λ o. is_lowered style cards || is_some o) (sym e.lower) ∙ sym (any_push (λ card. is_some (lower_on style card)) cards card)
+        ap (λ b. b || false) k.lowered_is ∙ ap (λ o. is_lowered style cards || is_some o) (sym e.lower)
+        ∙ sym (any_push (λ card. is_some (lower_on style card)) cards card)
 
     go : (b : Bool) → is_negative u && not lowered ≡ b →
-        IsBounded style (cards ++ card ∷ []) (cond b (record c { lower = None; upper = u }) (record c { upper = u })) (lowered || false)
+        IsBounded style (cards ++ card ∷ [])
+        (cond b (record c { lower = None; upper = u }) (record c { upper = u })) (lowered || false)
     go true f =
         record { upper = upper_is; lower = sym (lower_is ∙ ap (λ b. cond b None c.lower) f); lowered_is = lowered_is }
     go false f =
@@ -227,17 +251,23 @@ bounded_push style cards card (SetsLower l) c lowered e k =
     record {
       upper = k.upper ∙ sym (upper_push style cards card ∙ ap (λ o. or_kept o (upper_of style cards)) e.upper);
       lower =
-          sym (lower_push style cards card ∙ ap (λ o. or_kept o (last_or (first_lower (list_any (has_negative_upper style) cards || has_negative_upper style card)) (filter_map (lower_on style) cards))) e.lower);
+          sym (lower_push style cards card ∙ ap (λ o. or_kept o
+          (last_or (first_lower (list_any (has_negative_upper style) cards || has_negative_upper style card))
+          (filter_map (lower_on style) cards))) e.lower);
       lowered_is =
-          ap (λ b. b || true) k.lowered_is ∙ ap (λ o. is_lowered style cards || is_some o) (sym e.lower) ∙ sym (any_push (λ card. is_some (lower_on style card)) cards card);
+          ap (λ b. b || true) k.lowered_is ∙ ap (λ o. is_lowered style cards || is_some o) (sym e.lower)
+          ∙ sym (any_push (λ card. is_some (lower_on style card)) cards card);
     }
 bounded_push style cards card (SetsBoth l u) c lowered e k =
     record {
       upper = sym (upper_push style cards card ∙ ap (λ o. or_kept o (upper_of style cards)) e.upper);
       lower =
-          sym (lower_push style cards card ∙ ap (λ o. or_kept o (last_or (first_lower (list_any (has_negative_upper style) cards || has_negative_upper style card)) (filter_map (lower_on style) cards))) e.lower);
+          sym (lower_push style cards card ∙ ap (λ o. or_kept o
+          (last_or (first_lower (list_any (has_negative_upper style) cards || has_negative_upper style card))
+          (filter_map (lower_on style) cards))) e.lower);
       lowered_is =
-          ap (λ b. b || true) k.lowered_is ∙ ap (λ o. is_lowered style cards || is_some o) (sym e.lower) ∙ sym (any_push (λ card. is_some (lower_on style card)) cards card);
+          ap (λ b. b || true) k.lowered_is ∙ ap (λ o. is_lowered style cards || is_some o) (sym e.lower)
+          ∙ sym (any_push (λ card. is_some (lower_on style card)) cards card);
     }
 
 pub none_bounded : (style : Style) (c : ExactColumn) → c.lower ≡ Some 0ℚ → c.upper ≡ None → IsBounded style [] c false

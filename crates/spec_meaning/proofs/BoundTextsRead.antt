@@ -1,5 +1,6 @@
 -- The fields of a card of BOUNDS in both forms.
-use Rattle.std.proofs.Common.{◌≡◌, ℕ, suc, Bool, true, false, ◌||◌, cond, Some, Ok, Err, List, [], ◌∷◌, length, refl, sym, ap, ◌∙◌, subst, codes, arith}
+use Rattle.std.proofs.Common.{◌≡◌, ℕ, suc, Bool, true, false, ◌||◌, cond, Some, Ok, Err}
+use Rattle.std.proofs.Common.{List, [], ◌∷◌, length, refl, sym, ap, ◌∙◌, subst, codes, arith}
 use Rattle.std.specs.List.{filter, list_any}
 use Rattle.spec_text.specs.Words.{same}
 use Rattle.spec_text.proofs.WordLemmas.{same_true}
@@ -62,7 +63,22 @@ word_is : (word : List ℕ) (kind : BoundKind) → bound_kind_of word ≡ Ok kin
 unfolding bound_kind_of kinds
 word_is word kind h =
     let a = need_ok (look_up word kinds) code.BoundKind (λ k. k) kind h in
-    looked_up word kind a.0 kinds (word_of Up, (word_of Lo, (word_of Fx, (word_of Fr, (word_of Mi, (word_of Pl, (λ k e. absurd (cc), (λ k e. absurd (cc), (λ k e. absurd (cc), (λ k e. absurd (cc), tt)))))))))) a.1 a.2
+    looked_up word kind a.0 kinds (
+      word_of Up,
+      (
+        word_of Lo,
+        (
+          word_of Fx,
+          (
+            word_of Fr,
+            (
+              word_of Mi,
+              (word_of Pl, (λ k e. absurd (cc), (λ k e. absurd (cc), (λ k e. absurd (cc), (λ k e. absurd (cc), tt))))),
+            ),
+          ),
+        ),
+      ),
+    ) a.1 a.2
 
 kind_of_word : (kind : BoundKind) → kind_of (kind_word kind) ≡ Some kind
 unfolding kind_of
@@ -106,7 +122,8 @@ any_shape P fields (shape ∷ shapes) a h = go (same (numbers_of fields) shape) 
         (b || list_any (same (numbers_of fields)) shapes) ≡ true → P fields
     go true e f k =
         let numbers = same_true (numbers_of fields) shape e in
-        subst P (sym (numbered_are fields ∙ ap (λ ns. numbered ns (texts_of fields)) numbers)) (a.0 (texts_of fields) (many fields ∙ ap length numbers))
+        subst P (sym (numbered_are fields ∙ ap (λ ns. numbered ns (texts_of fields)) numbers))
+        (a.0 (texts_of fields) (many fields ∙ ap length numbers))
     go false e f k = f k
 
 of_two : (Q : List (List ℕ) → Type 0) → ((a b : List ℕ) → Q (a ∷ b ∷ [])) → (texts : List (List ℕ)) → length texts ≡ 2 →
@@ -131,7 +148,8 @@ of_four Q f (a ∷ more) h = of_three (λ texts. Q (a ∷ texts)) (f a) more (om
 -- what is read of such fields
 abbrev IsRead : Style → BoundKind → BoundTexts → Fields → Type 0
 IsRead style kind texts fields =
-    bound_texts_by (takes_value kind) (texts_of (filter (λ f. is_read kind f.number) fields)) ≡ Ok texts → bound_texts_on style (takes_value kind) fields ≡ texts
+    bound_texts_by (takes_value kind) (texts_of (filter (λ f. is_read kind f.number) fields)) ≡ Ok texts →
+    bound_texts_on style (takes_value kind) fields ≡ texts
 
 texts_same : (a b : BoundTexts) → (let r : Check BoundTexts = Ok a in r) ≡ Ok b → a ≡ b
 texts_same a b h = same_ok a b h
@@ -156,12 +174,27 @@ read_by_shape Fixed Lo texts =
     (of_three _ (λ a b c h. texts_same _ texts h), (of_four _ (λ a b c d h. texts_same _ texts h), tt))
 read_by_shape Fixed Fx texts =
     (of_three _ (λ a b c h. texts_same _ texts h), (of_four _ (λ a b c d h. texts_same _ texts h), tt))
-read_by_shape Fixed Fr texts =
-    (of_two _ (λ a b h. texts_same _ texts h), (of_three _ (λ a b c h. texts_same _ texts h), (of_three _ (λ a b c h. texts_same _ texts h), (of_four _ (λ a b c d h. texts_same _ texts h), tt))))
-read_by_shape Fixed Mi texts =
-    (of_two _ (λ a b h. texts_same _ texts h), (of_three _ (λ a b c h. texts_same _ texts h), (of_three _ (λ a b c h. texts_same _ texts h), (of_four _ (λ a b c d h. texts_same _ texts h), tt))))
-read_by_shape Fixed Pl texts =
-    (of_two _ (λ a b h. texts_same _ texts h), (of_three _ (λ a b c h. texts_same _ texts h), (of_three _ (λ a b c h. texts_same _ texts h), (of_four _ (λ a b c d h. texts_same _ texts h), tt))))
+read_by_shape Fixed Fr texts = (
+  of_two _ (λ a b h. texts_same _ texts h),
+  (
+    of_three _ (λ a b c h. texts_same _ texts h),
+    (of_three _ (λ a b c h. texts_same _ texts h), (of_four _ (λ a b c d h. texts_same _ texts h), tt)),
+  ),
+)
+read_by_shape Fixed Mi texts = (
+  of_two _ (λ a b h. texts_same _ texts h),
+  (
+    of_three _ (λ a b c h. texts_same _ texts h),
+    (of_three _ (λ a b c h. texts_same _ texts h), (of_four _ (λ a b c d h. texts_same _ texts h), tt)),
+  ),
+)
+read_by_shape Fixed Pl texts = (
+  of_two _ (λ a b h. texts_same _ texts h),
+  (
+    of_three _ (λ a b c h. texts_same _ texts h),
+    (of_three _ (λ a b c h. texts_same _ texts h), (of_four _ (λ a b c d h. texts_same _ texts h), tt)),
+  ),
+)
 
 valued_as : (kind : BoundKind) → has_value kind ≡ takes_value kind
 valued_as Up = refl
@@ -174,10 +207,13 @@ valued_as Pl = refl
 pub texts_are : (style : Style) (kind : BoundKind) (fields : Fields) (texts : BoundTexts) →
     bound_texts style kind fields ≡ Ok texts → bound_texts_on style (has_value kind) fields ≡ texts
 unfolding bound_texts has_shape
-texts_are style kind fields texts h = ap (λ valued. bound_texts_on style valued fields) (valued_as kind) ∙ go (list_any (same (numbers_of fields)) (bound_shapes style kind)) refl h
+texts_are style kind fields texts h =
+    ap (λ valued. bound_texts_on style valued fields) (valued_as kind)
+    ∙ go (list_any (same (numbers_of fields)) (bound_shapes style kind)) refl h
   where
     go : (b : Bool) → list_any (same (numbers_of fields)) (bound_shapes style kind) ≡ b →
-        cond b (bound_texts_by (takes_value kind) (texts_of (filter (λ f. is_read kind f.number) fields))) (Err code.CardShape) ≡ Ok texts →
+        cond b (bound_texts_by (takes_value kind) (texts_of (filter (λ f. is_read kind f.number) fields)))
+        (Err code.CardShape) ≡ Ok texts →
         bound_texts_on style (takes_value kind) fields ≡ texts
     go true e k =
         any_shape (IsRead style kind texts) fields (bound_shapes style kind) (read_by_shape style kind texts) e k

@@ -1,5 +1,7 @@
 -- The bounds of a model's columns are what BOUNDS says.
-use Rattle.std.proofs.Common.{◌≡◌, ◌≢◌, ℕ, zero, suc, ◌+◌, ◌<◌, Bool, true, false, not, cond, Option, Some, None, option_map, Ok, List, [], ◌∷◌, ◌++◌, length, refl, sym, ap, ◌∙◌, subst, subst₂, get_or, arith, length-append, All}
+use Rattle.std.proofs.Common.{◌≡◌, ◌≢◌, ℕ, zero, suc, ◌+◌, ◌<◌, Bool, true, false, not, cond}
+use Rattle.std.proofs.Common.{Option, Some, None, option_map, Ok, List, [], ◌∷◌, ◌++◌, length, refl}
+use Rattle.std.proofs.Common.{sym, ap, ◌∙◌, subst, subst₂, get_or, arith, length-append, All}
 use borrow.Author.Tests.{lt-ltb}
 use Rattle.std.specs.List.{AllPairs, position, position_or_len}
 use Rattle.std.proofs.lemmas.List.{length-map, get_or_append_left}
@@ -20,7 +22,8 @@ use Rattle.spec_mps.specs.declared.target.Target.TheVariants.{Objective, Row}
 use Rattle.spec_mps.specs.declared.target.Place.{Place}
 use Rattle.spec_mps.specs.declared.target.Place.TheVariants.{Kept, Dropped}
 use Rattle.spec_mps.specs.Fields.{Fields, text_at}
-use Rattle.spec_mps.specs.Reader.{State, is_among, new_column, columns_with, whole_columns, put_entry, with_number, enter, pairs_of, columns_card}
+use Rattle.spec_mps.specs.Reader.{State, is_among, new_column, columns_with, whole_columns}
+use Rattle.spec_mps.specs.Reader.{put_entry, with_number, enter, pairs_of, columns_card}
 use Rattle.spec_mps.specs.Steps.{has_begun, begun, headed, data_card, model_by, Spells}
 use Rattle.spec_mps.proofs.CheckSteps.{must_ok, same_ok}
 use Rattle.spec_mps.proofs.SpelledKept.{spelled_kept}
@@ -32,7 +35,8 @@ use Rattle.spec_meaning.proofs.Order.{IsOrdered, not_both}
 use Rattle.spec_meaning.proofs.Runs.{IsKept, spelled_by, stays, headed_leads}
 use Rattle.spec_meaning.proofs.ColumnsKept.{ColumnsSay}
 use Rattle.spec_meaning.proofs.ColumnsSaid.{columns_kept}
-use Rattle.spec_meaning.proofs.BoundsKept.{first_bound, column_names, column_place, AreBounded, AreNew, BoundsSay, new_bounded, bounds_card_says}
+use Rattle.spec_meaning.proofs.BoundsKept.{first_bound, column_names, column_place, AreBounded}
+use Rattle.spec_meaning.proofs.BoundsKept.{AreNew, BoundsSay, new_bounded, bounds_card_says}
 
 -- ---- columns before BOUNDS
 
@@ -41,11 +45,13 @@ IsNew c = (c.lower ≡ Some 0ℚ) × (c.upper ≡ None)
 
 without_last : (columns : List ExactColumn) (c : ExactColumn) → All IsNew (columns ++ c ∷ []) → All IsNew columns
 without_last columns c h =
-    λ i d l. subst IsNew (get_or_append_left columns (c ∷ []) d i l) (h i d (omega (arith, length-append columns (c ∷ []))))
+    λ i d l. subst IsNew (get_or_append_left columns (c ∷ []) d i l)
+    (h i d (omega (arith, length-append columns (c ∷ []))))
 
 the_last : (columns : List ExactColumn) (c : ExactColumn) → All IsNew (columns ++ c ∷ []) → IsNew c
 the_last columns c h =
-    subst IsNew (get_or-append_seam columns c [] c) (h (length columns) c (omega (arith, length-append columns (c ∷ []))))
+    subst IsNew (get_or-append_seam columns c [] c)
+    (h (length columns) c (omega (arith, length-append columns (c ∷ []))))
 
 number_new : (c : ExactColumn) (x : Target) (v : ℚ) → IsNew c → IsNew (with_number c x v)
 number_new c Objective v h = h
@@ -75,7 +81,11 @@ enter_new s Dropped v t h k = subst (λ (u : State). AreNew (whole_columns u) u.
 enter_new s (Kept x) v t h k =
     let a = must_ok (not (is_among x s.paired)) code.EntryRepeated _ t h in
     subst (λ (u : State). AreNew (whole_columns u) u.lowered) (same_ok _ t a.1)
-    (record { bounds = with_number_new s.columns s.column x v k.bounds; many = k.many ∙ sym (with_number_many s.columns s.column x v); unset = k.unset })
+    (record {
+      bounds = with_number_new s.columns s.column x v k.bounds;
+      many = k.many ∙ sym (with_number_many s.columns s.column x v);
+      unset = k.unset;
+    })
 
 unset_push : (lowered : List Bool) (j : ℕ) → ((i : ℕ) → get_or lowered i false ≡ false) →
     get_or (lowered ++ false ∷ []) j false ≡ false
@@ -92,7 +102,8 @@ opens_new s name t (New other free new) k =
     (record {
       bounds = All-push IsNew (whole_columns s) (new_column name) k.bounds (refl, refl);
       many =
-          length-append s.lowered (false ∷ []) ∙ ap (λ n. n + 1) k.many ∙ sym (length-append (whole_columns s) (new_column name ∷ []));
+          length-append s.lowered (false ∷ []) ∙ ap (λ n. n + 1) k.many
+          ∙ sym (length-append (whole_columns s) (new_column name ∷ []));
       unset = λ j. unset_push s.lowered j k.unset;
     })
 
@@ -100,7 +111,9 @@ columns_new : (style : Style) (s : State) (card : Fields) (t : State) → column
     AreNew (whole_columns s) s.lowered → AreNew (whole_columns t) t.lowered
 columns_new style s card t h k =
     let d = columns_did style s card t h in
-    column_pairs_keep (λ done u. AreNew (whole_columns u) u.lowered) (λ done u pair place v w p e n. enter_new u place v w e n) (pairs_of d.more) [] d.between t d.pairs (opens_new s d.name d.between d.opens k)
+    column_pairs_keep (λ done u. AreNew (whole_columns u) u.lowered)
+    (λ done u pair place v w p e n. enter_new u place v w e n)
+    (pairs_of d.more) [] d.between t d.pairs (opens_new s d.name d.between d.opens k)
 
 -- ---- cards of other sections
 
@@ -114,17 +127,41 @@ bounds_stay : (part : Section) (s t : State) → is_section (Some part) section.
 bounds_stay section.Columns s t e f h = absurd (cc)
 bounds_stay section.Bounds s t e f h = absurd (cc)
 bounds_stay section.Name s t e f h =
-    record { columns = ap (λ (u : State). u.columns) h; column = ap (λ (u : State). u.column) h; lowered = ap (λ (u : State). u.lowered) h }
+    record {
+      columns = ap (λ (u : State). u.columns) h;
+      column = ap (λ (u : State). u.column) h;
+      lowered = ap (λ (u : State). u.lowered) h;
+    }
 bounds_stay section.Sense s t e f h =
-    record { columns = ap (λ (u : State). u.columns) h; column = ap (λ (u : State). u.column) h; lowered = ap (λ (u : State). u.lowered) h }
+    record {
+      columns = ap (λ (u : State). u.columns) h;
+      column = ap (λ (u : State). u.column) h;
+      lowered = ap (λ (u : State). u.lowered) h;
+    }
 bounds_stay section.Rows s t e f h =
-    record { columns = ap (λ (u : State). u.columns) h; column = ap (λ (u : State). u.column) h; lowered = ap (λ (u : State). u.lowered) h }
+    record {
+      columns = ap (λ (u : State). u.columns) h;
+      column = ap (λ (u : State). u.column) h;
+      lowered = ap (λ (u : State). u.lowered) h;
+    }
 bounds_stay section.RightSides s t e f h =
-    record { columns = ap (λ (u : State). u.columns) h; column = ap (λ (u : State). u.column) h; lowered = ap (λ (u : State). u.lowered) h }
+    record {
+      columns = ap (λ (u : State). u.columns) h;
+      column = ap (λ (u : State). u.column) h;
+      lowered = ap (λ (u : State). u.lowered) h;
+    }
 bounds_stay section.Ranges s t e f h =
-    record { columns = ap (λ (u : State). u.columns) h; column = ap (λ (u : State). u.column) h; lowered = ap (λ (u : State). u.lowered) h }
+    record {
+      columns = ap (λ (u : State). u.columns) h;
+      column = ap (λ (u : State). u.column) h;
+      lowered = ap (λ (u : State). u.lowered) h;
+    }
 bounds_stay section.End s t e f h =
-    record { columns = ap (λ (u : State). u.columns) h; column = ap (λ (u : State). u.column) h; lowered = ap (λ (u : State). u.lowered) h }
+    record {
+      columns = ap (λ (u : State). u.columns) h;
+      column = ap (λ (u : State). u.column) h;
+      lowered = ap (λ (u : State). u.lowered) h;
+    }
 
 bounds_same : (style : Style) (cards : List Fields) (s t : State) → (t.seen.bounds ≡ false → s.seen.bounds ≡ false) →
     whole_columns t ≡ whole_columns s → t.lowered ≡ s.lowered →
@@ -145,7 +182,8 @@ bounds_at_card style c s t section.Bounds card o here h columns k =
     let st = stays section.Bounds s t leads in
     let at : is_section s.part section.Bounds ≡ true = ap (λ p. is_section p section.Bounds) here in
     let away : is_section s.part section.Columns ≡ false = ap (λ p. is_section p section.Columns) here in
-    bounds_card_says style c.bounds card s t (ap (λ (x : Seen). x.bounds) st.1 ∙ o.told.bounds at) at (columns.shut away) (ap (λ (u : State). u.column) leads) h k
+    bounds_card_says style c.bounds card s t (ap (λ (x : Seen). x.bounds) st.1 ∙ o.told.bounds at) at
+    (columns.shut away) (ap (λ (u : State). u.column) leads) h k
 bounds_at_card style c s t section.Columns card o here h columns k =
     let st = stays section.Columns s t (card_leads style section.Columns s card t h) in
     let before : s.seen.bounds ≡ false = (o.at_columns (ap (λ p. is_section p section.Columns) here)).bounds in
@@ -160,7 +198,8 @@ bounds_at_card style c s t part card o here h columns k =
     let leads = card_leads style part s card t h in
     let st = stays part s t leads in
     let b = bounds_stay part s t refl refl leads in
-    bounds_same style c.bounds s t (λ f. sym (ap (λ (x : Seen). x.bounds) st.1) ∙ f) (λ i. columns_with (b.columns i) (b.column i)) b.lowered
+    bounds_same style c.bounds s t (λ f. sym (ap (λ (x : Seen). x.bounds) st.1) ∙ f)
+    (λ i. columns_with (b.columns i) (b.column i)) b.lowered
     (λ f. not_both (is_section t.part section.Bounds) f (ap (λ p. is_section p section.Bounds) (st.0 ∙ here))) k
 
 -- ---- sections that begin
@@ -176,10 +215,12 @@ bounds_at_heading : (style : Style) (cards : List Fields) (s t : State) (part : 
     BoundsSay style cards t
 bounds_at_heading style cards s t section.Bounds word new h k =
     let u = headed_leads (begun s section.Bounds) section.Bounds word t h in
-    bounds_same style cards s t (λ f. new) (whole_headed s section.Bounds word t h) (ap (λ (x : State). x.lowered) u) (λ f. ap (λ (x : State). x.set) u ∙ ap (first_bound style) (sym (k.none new).0)) k
+    bounds_same style cards s t (λ f. new) (whole_headed s section.Bounds word t h) (ap (λ (x : State). x.lowered) u)
+    (λ f. ap (λ (x : State). x.set) u ∙ ap (first_bound style) (sym (k.none new).0)) k
 bounds_at_heading style cards s t part word new h k =
     let u = headed_leads (begun s part) part word t h in
-    bounds_same style cards s t (λ f. sym (ap (λ (x : State). x.seen.bounds) u) ∙ f) (whole_headed s part word t h) (ap (λ (x : State). x.lowered) u)
+    bounds_same style cards s t (λ f. sym (ap (λ (x : State). x.seen.bounds) u) ∙ f)
+    (whole_headed s part word t h) (ap (λ (x : State). x.lowered) u)
     (λ f. not_both (is_section t.part section.Bounds) f (ap (λ (x : State). is_section x.part section.Bounds) u)) k
 
 none_new : AreNew [] []
@@ -188,12 +229,24 @@ none_new = record { bounds = All-nil IsNew; many = refl; unset = λ j. refl }
 bounds_kept : (style : Style) → IsKept style (λ c s. ColumnsSay c.columns s × BoundsSay style c.bounds s)
 bounds_kept style =
     record {
-      at_start =
-          ((columns_kept style).at_start, record { none = λ h. (refl, none_new); bounded = new_bounded style [] [] [] refl none_new; during = λ h. absurd (cc) });
+      at_start = (
+        (columns_kept style).at_start,
+        record {
+          none = λ h. (refl, none_new);
+          bounded = new_bounded style [] [] [] refl none_new;
+          during = λ h. absurd (cc);
+        },
+      );
       at_heading =
-          λ c s t part words o new h k. ((columns_kept style).at_heading c s t part words o new h k.0, bounds_at_heading style c.bounds s t part (text_at 2 words) new h k.1);
+          λ c s t part words o new h k. (
+            (columns_kept style).at_heading c s t part words o new h k.0,
+            bounds_at_heading style c.bounds s t part (text_at 2 words) new h k.1,
+          );
       at_card =
-          λ c s t part card o here h k. ((columns_kept style).at_card c s t part card o here h k.0, bounds_at_card style c s t part card o here h k.0 k.1);
+          λ c s t part card o here h k. (
+            (columns_kept style).at_card c s t part card o here h k.0,
+            bounds_at_card style c s t part card o here h k.0 k.1,
+          );
     }
 
 -- ---- the model
@@ -209,7 +262,8 @@ own_first (x ∷ names) zero h l = ap (λ b. cond (not b) (1 + position_or_len (
 own_first (x ∷ names) (suc j) h l =
     let less : j < length names = omega arith in
     let apart : x ≢ get_or names j [] = h 0 (suc j) [] (omega arith) l in
-    ap (λ b. cond (not b) (1 + position_or_len (λ n. same n (get_or names j [])) names) 0) (differs x (get_or names j []) apart (same x (get_or names j [])) refl)
+    ap (λ b. cond (not b) (1 + position_or_len (λ n. same n (get_or names j [])) names) 0)
+    (differs x (get_or names j []) apart (same x (get_or names j [])) refl)
     ∙ ap (λ n. 1 + n) (own_first names j (λ i k d a b. h (suc i) (suc k) d (omega arith) (omega arith)) less)
     ∙ omega arith
 
@@ -219,14 +273,21 @@ own_place names j h l = rw (own_first names j h l, lt-ltb j (length names) l) re
 
 -- the bounds of a column are those of its cards
 pub bounds_said : (style : Style) (lines : Lines) (m : Model) → Spells style lines m → (j : ℕ) → j < width m →
-    ((column m j).lower ≡ lower_of style (bounds_of_column style (column m j).name (cards_in style section.Bounds lines))) × ((column m j).upper ≡ upper_of style (bounds_of_column style (column m j).name (cards_in style section.Bounds lines)))
+    ((column m j).lower ≡ lower_of style
+    (bounds_of_column style (column m j).name (cards_in style section.Bounds lines))) × ((column m j).upper
+    ≡ upper_of style (bounds_of_column style (column m j).name (cards_in style section.Bounds lines)))
 unfolding model_by
 bounds_said style lines m h j l =
     let e = spelled_by style _ (bounds_kept style) lines m h in
     let columns : whole_columns e.last ≡ m.columns = ap (λ (o : Model). o.columns) e.model_is in
-    let k = subst (λ cs. AreBounded style (cards_in style section.Bounds lines) cs e.last.lowered) columns e.holds.1.bounded in
-    let name : get_or (column_names m.columns) j [] ≡ (column m j).name = get_or-map (λ (c : ExactColumn). c.name) m.columns j no_column in
-    let inside : j < length (column_names m.columns) = omega (arith, length-map m.columns (λ (c : ExactColumn). c.name)) in
-    let place : column_place (column m j).name m.columns ≡ Some j = subst (λ n. column_place n m.columns ≡ Some j) name (own_place (column_names m.columns) j (spelled_kept style lines m h).columns_distinct inside) in
+    let k =
+    subst (λ cs. AreBounded style (cards_in style section.Bounds lines) cs e.last.lowered) columns e.holds.1.bounded in
+    let name : get_or (column_names m.columns) j [] ≡ (column m j).name =
+    get_or-map (λ (c : ExactColumn). c.name) m.columns j no_column in
+    let inside : j < length (column_names m.columns) =
+    omega (arith, length-map m.columns (λ (c : ExactColumn). c.name)) in
+    let place : column_place (column m j).name m.columns ≡ Some j =
+    subst (λ n. column_place n m.columns ≡ Some j) name
+    (own_place (column_names m.columns) j (spelled_kept style lines m h).columns_distinct inside) in
     let b = k.said (column m j).name j place in
     (b.lower, b.upper)

@@ -1,5 +1,6 @@
 -- Columns that cards name, their pairs, and entries that are put at their place.
-use Rattle.std.proofs.Common.{◌≡◌, ◌≢◌, ℕ, ◌≤◌, Bool, true, false, not, ◌||◌, cond, eqb, eq-eqb, ltb, List, [], ◌∷◌, ◌++◌, length, map, refl, sym, ap, ◌∙◌, subst, arith, append-nil, All, Ok}
+use Rattle.std.proofs.Common.{◌≡◌, ◌≢◌, ℕ, ◌≤◌, Bool, true, false, not, ◌||◌, cond, eqb, eq-eqb, ltb, List, []}
+use Rattle.std.proofs.Common.{◌∷◌, ◌++◌, length, map, refl, sym, ap, ◌∙◌, subst, arith, append-nil, All, Ok}
 use Rattle.std.specs.List.{filter, flat_map, list_any}
 use Rattle.std.proofs.lemmas.List.{map-append}
 use Rattle.std.proofs.lemmas.List.Elements.{filter-append, All-nil, All-cons, All-head, All-tail}
@@ -52,7 +53,8 @@ pub column_is : (style : Style) (fields : Fields) (texts : List (List ℕ)) (nam
     IsColumn (texts_of fields) name (pairs_of more)
 column_is style fields texts name more h e =
     let count = counts_column style fields (has_its_shape style section.Columns fields texts h) in
-    subst (λ xs. IsColumn xs name (pairs_of more)) (sym e) (column_by_count name more (subst (λ xs. IsColumnCount (length xs)) e count))
+    subst (λ xs. IsColumn xs name (pairs_of more)) (sym e)
+    (column_by_count name more (subst (λ xs. IsColumnCount (length xs)) e count))
 
 -- ---- the pairs of a column
 
@@ -61,11 +63,13 @@ flat_one true card = append-nil (numbers_on card)
 flat_one false card = refl
 
 pub pairs_push : (name : Name) (cards : List Fields) (card : Fields) →
-    pairs_of_column name (cards ++ card ∷ []) ≡ pairs_of_column name cards ++ cond (same (column_on card) name) (numbers_on card) []
+    pairs_of_column name (cards ++ card ∷ [])
+    ≡ pairs_of_column name cards ++ cond (same (column_on card) name) (numbers_on card) []
 unfolding pairs_of_column
 pairs_push name cards card =
     ap (flat_map numbers_on) (filter-append (λ other. same (column_on other) name) cards (card ∷ []))
-    ∙ flat_map-append numbers_on (filter (λ other. same (column_on other) name) cards) (cond (same (column_on card) name) (card ∷ []) [])
+    ∙ flat_map-append numbers_on (filter (λ other. same (column_on other) name) cards)
+    (cond (same (column_on card) name) (card ∷ []) [])
     ∙ ap (λ more. pairs_of_column name cards ++ more) (flat_one (same (column_on card) name) card)
 
 -- ---- names in the order of their first mention
@@ -80,7 +84,9 @@ any_push name [] y = by (same y name)
     by : (b : Bool) → (b || false) ≡ b
     by true = refl
     by false = refl
-any_push name (x ∷ xs) y = ap (λ b. same x name || b) (any_push name xs y) ∙ by (same x name) (list_any (λ other. same other name) xs) (same y name)
+any_push name (x ∷ xs) y =
+    ap (λ b. same x name || b) (any_push name xs y)
+    ∙ by (same x name) (list_any (λ other. same other name) xs) (same y name)
   where
     by : (a b c : Bool) → (a || (b || c)) ≡ ((a || b) || c)
     by true b c = refl
@@ -89,7 +95,8 @@ any_push name (x ∷ xs) y = ap (λ b. same x name || b) (any_push name xs y) �
 pub named_push : (name : Name) (cards : List Fields) (card : Fields) →
     is_named name (cards ++ card ∷ []) ≡ (is_named name cards || same (column_on card) name)
 named_push name cards card =
-    ap (list_any (λ other. same other name)) (map-append column_on cards (card ∷ [])) ∙ any_push name (map column_on cards) (column_on card)
+    ap (list_any (λ other. same other name)) (map-append column_on cards (card ∷ []))
+    ∙ any_push name (map column_on cards) (column_on card)
 
 firsts_add : (name : Name) (xs : List Name) →
     firsts (xs ++ name ∷ []) ≡ firsts xs ++ cond (list_any (λ other. same other name) xs) [] (name ∷ [])
@@ -97,8 +104,10 @@ firsts_add name [] = refl
 firsts_add name (x ∷ xs) =
     ap (λ names. x ∷ filter (λ other. not (same x other)) names) (firsts_add name xs)
     ∙ ap (λ names. x ∷ names)
-    (filter-append (λ other. not (same x other)) (firsts xs) (cond (list_any (λ other. same other name) xs) [] (name ∷ []))
-    ∙ ap (λ more. filter (λ other. not (same x other)) (firsts xs) ++ more) (by (list_any (λ other. same other name) xs) (same x name) refl))
+    (filter-append (λ other. not (same x other)) (firsts xs)
+    (cond (list_any (λ other. same other name) xs) [] (name ∷ []))
+    ∙ ap (λ more. filter (λ other. not (same x other)) (firsts xs) ++ more)
+    (by (list_any (λ other. same other name) xs) (same x name) refl))
   where
     by : (known first : Bool) → same x name ≡ first →
         filter (λ other. not (same x other)) (cond known [] (name ∷ [])) ≡ cond (first || known) [] (name ∷ [])
@@ -108,7 +117,8 @@ firsts_add name (x ∷ xs) =
     by false false e = ap (λ b. cond (not b) (name ∷ []) []) e
 
 pub firsts_push : (cards : List Fields) (card : Fields) →
-    named_columns (cards ++ card ∷ []) ≡ named_columns cards ++ cond (is_named (column_on card) cards) [] (column_on card ∷ [])
+    named_columns (cards ++ card ∷ [])
+    ≡ named_columns cards ++ cond (is_named (column_on card) cards) [] (column_on card ∷ [])
 unfolding named_columns
 firsts_push cards card =
     ap firsts (map-append column_on cards (card ∷ [])) ∙ firsts_add (column_on card) (map column_on cards)
@@ -118,7 +128,8 @@ not_first : (name : Name) (xs : List Name) → All (λ x. same x name ≡ false)
     list_any (λ other. same other name) xs ≡ false
 not_first name [] h = refl
 not_first name (x ∷ xs) h =
-    let head : same x name ≡ false = All-head (λ x. same x name ≡ false) x (filter (λ other. not (same x other)) (firsts xs)) h in
+    let head : same x name ≡ false =
+    All-head (λ x. same x name ≡ false) x (filter (λ other. not (same x other)) (firsts xs)) h in
     let tail = All-tail (λ x. same x name ≡ false) x (filter (λ other. not (same x other)) (firsts xs)) h in
     (λ i. head i || not_first name xs (unfiltered (firsts xs) head tail) i)
   where
@@ -128,13 +139,16 @@ not_first name (x ∷ xs) h =
     unfiltered (y ∷ ys) e h = by (same x y) refl h (λ k. unfiltered ys e k)
       where
         by : (b : Bool) → same x y ≡ b →
-            All (λ y. same y name ≡ false) (cond (not b) (y ∷ filter (λ other. not (same x other)) ys) (filter (λ other. not (same x other)) ys)) →
-            (All (λ y. same y name ≡ false) (filter (λ other. not (same x other)) ys) → All (λ y. same y name ≡ false) ys) →
+            All (λ y. same y name ≡ false)
+            (cond (not b) (y ∷ filter (λ other. not (same x other)) ys) (filter (λ other. not (same x other)) ys)) →
+            (All (λ y. same y name ≡ false) (filter (λ other. not (same x other)) ys) →
+            All (λ y. same y name ≡ false) ys) →
             All (λ y. same y name ≡ false) (y ∷ ys)
         by true f h g =
             All-cons (λ y. same y name ≡ false) y ys (ap (λ z. same z name) (sym (same_true x y f)) ∙ e) (g h)
         by false f h g =
-            All-cons (λ y. same y name ≡ false) y ys (All-head (λ y. same y name ≡ false) y _ h) (g (All-tail (λ y. same y name ≡ false) y _ h))
+            All-cons (λ y. same y name ≡ false) y ys (All-head (λ y. same y name ≡ false) y _ h)
+            (g (All-tail (λ y. same y name ≡ false) y _ h))
 
 pub not_named : (name : Name) (cards : List Fields) → All (λ x. same x name ≡ false) (named_columns cards) →
     is_named name cards ≡ false
@@ -149,7 +163,8 @@ unnamed_pairs name (card ∷ cards) h = by (same (column_on card) name) refl h (
   where
     by : (b : Bool) → same (column_on card) name ≡ b → (b || is_named name cards) ≡ false →
         (is_named name cards ≡ false → pairs_of_column name cards ≡ []) →
-        flat_map numbers_on (cond b (card ∷ filter (λ card. same (column_on card) name) cards) (filter (λ card. same (column_on card) name) cards)) ≡ []
+        flat_map numbers_on (cond b (card ∷ filter (λ card. same (column_on card) name) cards)
+        (filter (λ card. same (column_on card) name) cards)) ≡ []
     by true e k f = absurd (cc)
     by false e k f = f k
 

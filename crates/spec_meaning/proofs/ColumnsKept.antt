@@ -1,5 +1,7 @@
 -- The columns, their costs and their coefficients are what COLUMNS says.
-use Rattle.std.proofs.Common.{◌≡◌, ◌≢◌, ℕ, Bool, true, false, not, ◌||◌, cond, eqb, Option, Some, None, option_map, Ok, List, [], ◌∷◌, ◌++◌, map, refl, sym, ap, ◌∙◌, subst, subst₂, get_or, arith, append_assoc, append-nil, All, IfSome, codes}
+use Rattle.std.proofs.Common.{◌≡◌, ◌≢◌, ℕ, Bool, true, false, not, ◌||◌, cond, eqb, Option, Some}
+use Rattle.std.proofs.Common.{None, option_map, Ok, List, [], ◌∷◌, ◌++◌, map, refl, sym, ap, ◌∙◌, subst}
+use Rattle.std.proofs.Common.{subst₂, get_or, arith, append_assoc, append-nil, All, IfSome, codes}
 use Rattle.std.specs.List.{list_any}
 use Rattle.std.proofs.lemmas.List.{map-append}
 use Rattle.std.proofs.lemmas.List.Elements.{All-push, All-map}
@@ -17,7 +19,8 @@ use Rattle.spec_mps.specs.declared.target.Place.{Place}
 use Rattle.spec_mps.specs.declared.target.Place.TheVariants.{Kept, Dropped}
 use Rattle.spec_mps.specs.Fields.{Fields, text_at, texts_of}
 use Rattle.spec_mps.specs.Shapes.{shaped}
-use Rattle.spec_mps.specs.Reader.{State, is_among, same_target, new_column, columns_with, whole_columns, is_open, put_entry, with_number, enter, pairs_of, columns_card, marker_field}
+use Rattle.spec_mps.specs.Reader.{State, is_among, same_target, new_column, columns_with, whole_columns}
+use Rattle.spec_mps.specs.Reader.{is_open, put_entry, with_number, enter, pairs_of, columns_card, marker_field}
 use Rattle.spec_mps.proofs.Steps.{negated}
 use Rattle.spec_mps.proofs.Names.{none_pass}
 use Rattle.spec_mps.proofs.CheckSteps.{step_ok, must_ok, same_ok}
@@ -29,7 +32,8 @@ use Rattle.spec_meaning.proofs.SoFar.{is_section}
 use Rattle.spec_meaning.proofs.Order.{not_both}
 use Rattle.spec_meaning.proofs.RowViews.{RowView, row_view, place_in, place_by_view}
 use Rattle.spec_meaning.proofs.PairsKept.{Put, PutNowhere, PutAt, Tells, tells_push, number_is, texts_none}
-use Rattle.spec_meaning.proofs.ColumnLemmas.{IsColumn, column_is, pairs_push, is_named, named_push, firsts_push, not_named, unnamed_pairs, AreNonZero, put_non_zero, put_here, put_there}
+use Rattle.spec_meaning.proofs.ColumnLemmas.{IsColumn, column_is, pairs_push, is_named, named_push, firsts_push}
+use Rattle.spec_meaning.proofs.ColumnLemmas.{not_named, unnamed_pairs, AreNonZero, put_non_zero, put_here, put_there}
 
 -- ---- numbers of a column
 
@@ -94,7 +98,8 @@ pub record IsSaid (view : RowView) (cards : List Fields) (c : ExactColumn) : Typ
       IsTheNumber (texts_for name (pairs_of_column c.name cards)) (number_at c t)
 
 -- of the column that cards are read of
-pub record IsOpenSaid (view : RowView) (cards : List Fields) (columns : List ExactColumn) (paired : List Target) (c : ExactColumn) : Type 0 where
+pub record IsOpenSaid (view : RowView) (cards : List Fields)
+    (columns : List ExactColumn) (paired : List Target) (c : ExactColumn) : Type 0 where
   pub said : IsSaid view cards c
   pub unpaired : (name : Name) (t : Target) → place_in view name ≡ Some (Kept t) → is_among t paired ≡ false →
       texts_for name (pairs_of_column c.name cards) ≡ []
@@ -111,7 +116,8 @@ pub record ColumnsSay (cards : List Fields) (s : State) : Type 0 where
 
 -- ---- the pairs of a card
 
-record IsReading (view : RowView) (old : Pairs) (name : Name) (columns : List ExactColumn) (done : Pairs) (u : State) : Type 0 where
+record IsReading (view : RowView) (old : Pairs) (name : Name)
+    (columns : List ExactColumn) (done : Pairs) (u : State) : Type 0 where
   columns_are : u.columns ≡ columns
   tells : Tells ℚ open_at IsTheNumber view (old ++ done) u
   column : ExactColumn
@@ -119,7 +125,8 @@ record IsReading (view : RowView) (old : Pairs) (name : Name) (columns : List Ex
   name_is : column.name ≡ name
   non_zero : AreNonZero column.entries
 
-one_pair : (view : RowView) (old : Pairs) (name : Name) (columns : List ExactColumn) (done : Pairs) (s : State) (pair : List ℕ × List ℕ) (place : Place) (v : ℚ) (t : State) →
+one_pair : (view : RowView) (old : Pairs) (name : Name) (columns : List ExactColumn)
+    (done : Pairs) (s : State) (pair : List ℕ × List ℕ) (place : Place) (v : ℚ) (t : State) →
     frames.Pairs s pair place v → enter s place v ≡ Ok t → IsReading view old name columns done s →
     IsReading view old name columns (done ++ pair ∷ []) t
 unfolding enter
@@ -131,24 +138,39 @@ one_pair view old name columns done s pair place v t p h k = by place h at
     push : (place : Place) (u : State) → place_in view pair.0 ≡ Some place → Put ℚ open_at s place v u →
         Tells ℚ open_at IsTheNumber view (old ++ (done ++ pair ∷ [])) u
     push place u at put =
-        subst (λ ps. Tells ℚ open_at IsTheNumber view ps u) (append_assoc old done (pair ∷ [])) (tells_push view (old ++ done) s u pair place v at (number_is pair.1 v p.number_is) k.tells put)
+        subst (λ ps. Tells ℚ open_at IsTheNumber view ps u) (append_assoc old done (pair ∷ []))
+        (tells_push view (old ++ done) s u pair place v at (number_is pair.1 v p.number_is) k.tells put)
 
     by : (place : Place) → enter s place v ≡ Ok t → place_in view pair.0 ≡ Some place →
         IsReading view old name columns (done ++ pair ∷ []) t
     by Dropped h at =
         subst (IsReading view old name columns (done ++ pair ∷ [])) (same_ok s t h)
-        (record { columns_are = k.columns_are; tells = push Dropped s at (PutNowhere refl refl); column = k.column; column_is = k.column_is; name_is = k.name_is; non_zero = k.non_zero })
+        (record {
+          columns_are = k.columns_are;
+          tells = push Dropped s at (PutNowhere refl refl);
+          column = k.column;
+          column_is = k.column_is;
+          name_is = k.name_is;
+          non_zero = k.non_zero;
+        })
     by (Kept x) h at =
         let a = must_ok (not (is_among x s.paired)) code.EntryRepeated _ t h in
         let new : is_among x s.paired ≡ false = negated _ a.0 in
-        let zero : number_at k.column x ≡ 0ℚ = ap (λ o. open_number o x) (sym k.column_is) ∙ subst (λ texts. IsTheNumber texts (open_at s x)) (k.tells.unpaired pair.0 x at new) (k.tells.numbers pair.0 x at) in
-        let column : option_map (λ c. with_number c x v) s.column ≡ Some (with_number k.column x v) = ap (option_map (λ c. with_number c x v)) k.column_is in
+        let zero : number_at k.column x ≡ 0ℚ =
+        ap (λ o. open_number o x) (sym k.column_is) ∙ subst (λ texts. IsTheNumber texts (open_at s x))
+        (k.tells.unpaired pair.0 x at new) (k.tells.numbers pair.0 x at) in
+        let column : option_map (λ c. with_number c x v) s.column ≡ Some (with_number k.column x v) =
+        ap (option_map (λ c. with_number c x v)) k.column_is in
         subst (IsReading view old name columns (done ++ pair ∷ [])) (same_ok _ t a.1)
         (record {
           columns_are = k.columns_are;
-          tells = push (Kept x) (record s { column = option_map (λ c. with_number c x v) s.column; paired = x ∷ s.paired }) at
-              (PutAt x refl new refl refl refl (ap (λ o. open_number o x) column ∙ number_here k.column x v k.non_zero zero)
-              (λ y ne. ap (λ o. open_number o y) column ∙ number_there k.column x y v ne ∙ ap (λ o. open_number o y) (sym k.column_is)));
+          tells =
+              push (Kept x)
+              (record s { column = option_map (λ c. with_number c x v) s.column; paired = x ∷ s.paired }) at
+              (PutAt x refl new refl refl refl
+              (ap (λ o. open_number o x) column ∙ number_here k.column x v k.non_zero zero)
+              (λ y ne. ap (λ o. open_number o y) column ∙ number_there k.column x y v ne
+              ∙ ap (λ o. open_number o y) (sym k.column_is)));
           column = with_number k.column x v;
           column_is = column;
           name_is = number_name k.column x v ∙ k.name_is;
@@ -176,15 +198,21 @@ said_push : (view : RowView) (cards : List Fields) (card : Fields) (c : ExactCol
     same c.name (column_on card) ≡ false → IsSaid view cards c → IsSaid view (cards ++ card ∷ []) c
 said_push view cards card c h k =
     let pairs : pairs_of_column c.name (cards ++ card ∷ []) ≡ pairs_of_column c.name cards =
-    pairs_push c.name cards card ∙ ap (λ b. pairs_of_column c.name cards ++ cond b (numbers_on card) []) (same_back c.name (column_on card) h) ∙ append-nil (pairs_of_column c.name cards) in
-    record { numbers = λ name t p. subst (λ ps. IsTheNumber (texts_for name ps) (number_at c t)) (sym pairs) (k.numbers name t p) }
+    pairs_push c.name cards card
+    ∙ ap (λ b. pairs_of_column c.name cards ++ cond b (numbers_on card) []) (same_back c.name (column_on card) h)
+    ∙ append-nil (pairs_of_column c.name cards) in
+    record {
+      numbers =
+          λ name t p. subst (λ ps. IsTheNumber (texts_for name ps) (number_at c t)) (sym pairs) (k.numbers name t p);
+    }
 
 all_said_push : (view : RowView) (cards : List Fields) (card : Fields) (columns : List ExactColumn) →
     All (λ d. same d.name (column_on card) ≡ false) columns → All (IsSaid view cards) columns →
     All (IsSaid view (cards ++ card ∷ [])) columns
 all_said_push view cards card columns h k = λ i d l. said_push view cards card (get_or columns i d) (h i d l) (k i d l)
 
-pub all_whole : (view : RowView) (cards : List Fields) (columns : List ExactColumn) (paired : List Target) (column : Option ExactColumn) →
+pub all_whole : (view : RowView) (cards : List Fields) (columns : List ExactColumn)
+    (paired : List Target) (column : Option ExactColumn) →
     All (IsSaid view cards) columns → IfSome column (IsOpenSaid view cards columns paired) →
     All (IsSaid view cards) (columns_with columns column)
 all_whole view cards columns paired None h k = h
@@ -201,11 +229,14 @@ opened_again cards card s (Some c) e same_name last k =
     record {
       reading = record {
         columns_are = refl;
-        tells = subst (λ ps. Tells ℚ open_at IsTheNumber (row_view s) ps s) (sym (append-nil (pairs_of_column (column_on card) cards)))
+        tells =
+            subst (λ ps. Tells ℚ open_at IsTheNumber (row_view s) ps s)
+            (sym (append-nil (pairs_of_column (column_on card) cards)))
             (record {
               view_is = refl;
               numbers =
-                  λ n t p. subst₂ (λ m o. IsTheNumber (texts_for n (pairs_of_column m cards)) (open_number o t)) name (sym e) (last.said.numbers n t p);
+                  λ n t p. subst₂ (λ m o. IsTheNumber (texts_for n (pairs_of_column m cards)) (open_number o t)) name
+                  (sym e) (last.said.numbers n t p);
               unpaired =
                   λ n t p free. ap (λ m. texts_for n (pairs_of_column m cards)) (sym name) ∙ last.unpaired n t p free;
             });
@@ -228,11 +259,18 @@ opened_again cards card s (Some c) e same_name last k =
 
 opened_new : (cards : List Fields) (card : Fields) (s : State) →
     list_any (λ c. same c.name (column_on card)) (whole_columns s) ≡ false → ColumnsSay cards s →
-    IsOpened (row_view s) cards card (record s { columns = whole_columns s; column = Some (new_column (column_on card)); lowered = s.lowered ++ false ∷ []; paired = [] })
+    IsOpened (row_view s) cards card (record s {
+      columns = whole_columns s;
+      column = Some (new_column (column_on card));
+      lowered = s.lowered ++ false ∷ [];
+      paired = [];
+    })
 opened_new cards card s free k =
     let others = none_pass (λ (c : ExactColumn). same c.name (column_on card)) (whole_columns s) free in
-    let all_names = All-map (λ x. same x (column_on card) ≡ false) (λ (c : ExactColumn). c.name) (whole_columns s) others in
-    let new : is_named (column_on card) cards ≡ false = not_named (column_on card) cards (subst (All (λ x. same x (column_on card) ≡ false)) k.names all_names) in
+    let all_names =
+    All-map (λ x. same x (column_on card) ≡ false) (λ (c : ExactColumn). c.name) (whole_columns s) others in
+    let new : is_named (column_on card) cards ≡ false =
+    not_named (column_on card) cards (subst (All (λ x. same x (column_on card) ≡ false)) k.names all_names) in
     let none : pairs_of_column (column_on card) cards ≡ [] = unnamed_pairs (column_on card) cards new in
     record {
       reading = record {
@@ -240,7 +278,8 @@ opened_new cards card s free k =
         tells = record {
           view_is = refl;
           numbers =
-              λ n t p. subst (λ texts. IsTheNumber texts (number_at (new_column (column_on card)) t)) (sym (nothing none n)) (zero_at t);
+              λ n t p. subst (λ texts. IsTheNumber texts (number_at (new_column (column_on card)) t))
+              (sym (nothing none n)) (zero_at t);
           unpaired = λ n t p f. nothing none n;
         };
         column = new_column (column_on card);
@@ -249,9 +288,11 @@ opened_new cards card s free k =
         non_zero = tt;
       };
       names =
-          ap (λ names. names ++ column_on card ∷ []) k.names ∙ ap (λ b. named_columns cards ++ cond b [] (column_on card ∷ [])) (sym new) ∙ sym (firsts_push cards card);
+          ap (λ names. names ++ column_on card ∷ []) k.names
+          ∙ ap (λ b. named_columns cards ++ cond b [] (column_on card ∷ [])) (sym new) ∙ sym (firsts_push cards card);
       whole =
-          all_said_push (row_view s) cards card (whole_columns s) others (all_whole (row_view s) cards s.columns s.paired s.column k.whole k.last);
+          all_said_push (row_view s) cards card (whole_columns s) others
+          (all_whole (row_view s) cards s.columns s.paired s.column k.whole k.last);
       others = others;
     }
   where
@@ -287,9 +328,13 @@ finish : (cards : List Fields) (card : Fields) (s u t : State) → t.seen.column
 finish cards card s u t seen here o r =
     let view : row_view s ≡ row_view t = sym r.tells.view_is in
     let name : column_on card ≡ r.column.name = sym r.name_is in
-    let pairs : pairs_of_column (column_on card) cards ++ numbers_on card ≡ pairs_of_column (column_on card) (cards ++ card ∷ []) =
-    ap (λ b. pairs_of_column (column_on card) cards ++ cond b (numbers_on card) []) (sym (same-refl (column_on card))) ∙ sym (pairs_push (column_on card) cards card) in
-    let all_pairs : pairs_of_column (column_on card) cards ++ numbers_on card ≡ pairs_of_column r.column.name (cards ++ card ∷ []) = pairs ∙ ap (λ n. pairs_of_column n (cards ++ card ∷ [])) name in
+    let pairs : pairs_of_column (column_on card) cards ++ numbers_on card
+    ≡ pairs_of_column (column_on card) (cards ++ card ∷ []) =
+    ap (λ b. pairs_of_column (column_on card) cards ++ cond b (numbers_on card) []) (sym (same-refl (column_on card)))
+    ∙ sym (pairs_push (column_on card) cards card) in
+    let all_pairs : pairs_of_column (column_on card) cards ++ numbers_on card
+    ≡ pairs_of_column r.column.name (cards ++ card ∷ []) =
+    pairs ∙ ap (λ n. pairs_of_column n (cards ++ card ∷ [])) name in
     let columns : u.columns ≡ t.columns = sym r.columns_are in
     record {
       none = λ h. not_both t.seen.columns seen h;
@@ -303,13 +348,20 @@ finish cards card s u t seen here o r =
       last = subst (λ o. IfSome o (IsOpenSaid (row_view t) (cards ++ card ∷ []) t.columns t.paired)) (sym r.column_is)
           (record {
             said =
-                record { numbers = λ n x p. subst₂ (λ ps o. IsTheNumber (texts_for n ps) (open_number o x)) all_pairs r.column_is (r.tells.numbers n x (ap (λ v. place_in v n) view ∙ p)) };
+                record {
+                  numbers =
+                      λ n x p. subst₂ (λ ps o. IsTheNumber (texts_for n ps) (open_number o x)) all_pairs r.column_is
+                      (r.tells.numbers n x (ap (λ v. place_in v n) view ∙ p));
+                };
             unpaired =
-                λ n x p free. ap (texts_for n) (sym all_pairs) ∙ r.tells.unpaired n x (ap (λ v. place_in v n) view ∙ p) free;
+                λ n x p free. ap (texts_for n) (sym all_pairs)
+                ∙ r.tells.unpaired n x (ap (λ v. place_in v n) view ∙ p) free;
             non_zero = r.non_zero;
             others = subst₂ (λ n cs. All (λ (d : ExactColumn). same d.name n ≡ false) cs) name columns o.others;
             known =
-                ap (λ n. is_named n (cards ++ card ∷ [])) (sym name) ∙ named_push (column_on card) cards card ∙ ap (λ b. is_named (column_on card) cards || b) (same-refl (column_on card)) ∙ or_true (is_named (column_on card) cards);
+                ap (λ n. is_named n (cards ++ card ∷ [])) (sym name) ∙ named_push (column_on card) cards card
+                ∙ ap (λ b. is_named (column_on card) cards || b) (same-refl (column_on card))
+                ∙ or_true (is_named (column_on card) cards);
           });
     }
   where
@@ -325,5 +377,9 @@ columns_card_says style cards card s t seen here h k =
     let c = columns_read style s card t d.name d.more h d.texts_are in
     let opened = opens cards card s d.between (subst (λ n. Opens s n d.between) (sym c.column_is) d.opens) k in
     let old = pairs_of_column (column_on card) cards in
-    let r = column_pairs_keep (IsReading (row_view s) old (column_on card) d.between.columns) (one_pair (row_view s) old (column_on card) d.between.columns) (pairs_of d.more) [] d.between t d.pairs opened.reading in
-    finish cards card s d.between t seen here opened (subst (λ ps. IsReading (row_view s) old (column_on card) d.between.columns ps t) (sym c.pairs_are) r)
+    let r =
+    column_pairs_keep (IsReading (row_view s) old (column_on card) d.between.columns)
+    (one_pair (row_view s) old (column_on card) d.between.columns)
+    (pairs_of d.more) [] d.between t d.pairs opened.reading in
+    finish cards card s d.between t seen here opened
+    (subst (λ ps. IsReading (row_view s) old (column_on card) d.between.columns ps t) (sym c.pairs_are) r)

@@ -1,5 +1,6 @@
 -- The columns of a model are what COLUMNS says.
-use Rattle.std.proofs.Common.{◌≡◌, ℕ, ◌<◌, true, false, Some, None, Ok, List, [], ◌∷◌, map, refl, sym, ap, ◌∙◌, subst, subst₂, get_or, All, IfSome}
+use Rattle.std.proofs.Common.{◌≡◌, ℕ, ◌<◌, true, false, Some, None, Ok, List, [], ◌∷◌}
+use Rattle.std.proofs.Common.{map, refl, sym, ap, ◌∙◌, subst, subst₂, get_or, All, IfSome}
 use Rattle.std.proofs.lemmas.List.Elements.{All-nil, All-cons, All-head, All-tail, All-map}
 use Rattle.spec_model.specs.Model.{Model, ExactColumn, no_row, no_column, row, column, height, width, cost, coefficient}
 use Rattle.spec_mps.specs.declared.section.Section.{Section}
@@ -44,7 +45,8 @@ said_within : (view : RowView) (cards : List Fields) (columns : List ExactColumn
 said_within view cards [] h = All-nil (IsSaid view cards)
 said_within view cards (c ∷ columns) h =
     let first = All-head (IsSaid view cards) (without_bounds c) (map without_bounds columns) h in
-    All-cons (IsSaid view cards) c columns (record { numbers = first.numbers }) (said_within view cards columns (All-tail (IsSaid view cards) (without_bounds c) (map without_bounds columns) h))
+    All-cons (IsSaid view cards) c columns (record { numbers = first.numbers })
+    (said_within view cards columns (All-tail (IsSaid view cards) (without_bounds c) (map without_bounds columns) h))
 
 columns_same : (cards : List Fields) (s t : State) → t.seen.columns ≡ s.seen.columns →
     is_section t.part section.Columns ≡ false → s.column ≡ None → t.column ≡ s.column →
@@ -65,7 +67,8 @@ columns_same cards s t seen away shut column columns view k =
           ∙ ap (λ o. map (λ (c : ExactColumn). c.name) (columns_with s.columns o)) (sym shut)
           ∙ k.names;
       whole =
-          said_within (row_view t) cards t.columns (subst₂ (λ v cs. All (IsSaid v cards) cs) (sym view) (sym columns) (said_beside (row_view s) cards s.columns k.whole));
+          said_within (row_view t) cards t.columns (subst₂ (λ v cs. All (IsSaid v cards) cs)
+          (sym view) (sym columns) (said_beside (row_view s) cards s.columns k.whole));
       last = subst (λ o. IfSome o (IsOpenSaid (row_view t) cards t.columns t.paired)) (sym closed) tt;
     }
 
@@ -113,17 +116,20 @@ columns_at_card : (style : Style) (c : SoFar) (s t : State) (part : Section) (ca
 columns_at_card style c s t section.Columns card o here h k =
     let st = stays section.Columns s t (card_leads style section.Columns s card t h) in
     let at : is_section s.part section.Columns ≡ true = ap (λ p. is_section p section.Columns) here in
-    columns_card_says style c.columns card s t (ap (λ (x : Seen). x.columns) st.1 ∙ o.told.columns at) (ap (λ p. is_section p section.Columns) st.0 ∙ at) h k
+    columns_card_says style c.columns card s t (ap (λ (x : Seen). x.columns) st.1 ∙ o.told.columns at)
+    (ap (λ p. is_section p section.Columns) st.0 ∙ at) h k
 columns_at_card style c s t section.Rows card o here h k =
     let leads = card_leads style section.Rows s card t h in
     let st = stays section.Rows s t leads in
-    columns_before c.columns s t (o.at_rows (ap (λ p. is_section p section.Rows) here)) (ap (λ (x : Seen). x.columns) st.1) (ap (λ (u : State). u.columns) leads) (ap (λ (u : State). u.column) leads) k
+    columns_before c.columns s t (o.at_rows (ap (λ p. is_section p section.Rows) here))
+    (ap (λ (x : Seen). x.columns) st.1) (ap (λ (u : State). u.columns) leads) (ap (λ (u : State). u.column) leads) k
 columns_at_card style c s t part card o here h k =
     let leads = card_leads style part s card t h in
     let st = stays part s t leads in
     let cs = columns_stay part s t refl leads in
     let away : is_section s.part section.Columns ≡ false = ap (λ p. is_section p section.Columns) here in
-    columns_same c.columns s t (ap (λ (x : Seen). x.columns) st.1) (ap (λ p. is_section p section.Columns) st.0 ∙ away) (k.shut away) cs.column cs.columns (rows_stay part s t refl leads) k
+    columns_same c.columns s t (ap (λ (x : Seen). x.columns) st.1) (ap (λ p. is_section p section.Columns) st.0 ∙ away)
+    (k.shut away) cs.column cs.columns (rows_stay part s t refl leads) k
 
 -- ---- sections that begin
 
@@ -150,7 +156,8 @@ columns_at_heading cards s t part word h k =
       shut = λ f. closed;
       names = (λ i. map (λ (c : ExactColumn). c.name) (columns_with (columns i) (closed i))) ∙ k.names;
       whole =
-          subst₂ (λ v cs. All (IsSaid v cards) cs) (sym (rows_stay_headed s part word t h)) (sym columns) (all_whole (row_view s) cards s.columns s.paired s.column k.whole k.last);
+          subst₂ (λ v cs. All (IsSaid v cards) cs) (sym (rows_stay_headed s part word t h))
+          (sym columns) (all_whole (row_view s) cards s.columns s.paired s.column k.whole k.last);
       last = subst (λ o. IfSome o (IsOpenSaid (row_view t) cards t.columns t.paired)) (sym closed) tt;
     }
 
@@ -172,7 +179,8 @@ columns_kept style =
 
 rows_and_columns : (style : Style) → IsKept style (λ c s. RowsSay c.rows (row_view s) × ColumnsSay c.columns s)
 rows_and_columns style =
-    both_kept style (λ c s. RowsSay c.rows (row_view s)) (λ c s. ColumnsSay c.columns s) (rows_kept style) (columns_kept style)
+    both_kept style (λ c s. RowsSay c.rows (row_view s))
+    (λ c s. ColumnsSay c.columns s) (rows_kept style) (columns_kept style)
 
 pub columns_named : (style : Style) (lines : Lines) (m : Model) → Spells style lines m →
     map (λ c. c.name) m.columns ≡ named_columns (cards_in style section.Columns lines)
@@ -183,21 +191,32 @@ columns_named style lines m h =
 
 pub coefficient_said : (style : Style) (lines : Lines) (m : Model) → Spells style lines m → (i j : ℕ) → i < height m →
     j < width m →
-    IsTheNumber (texts_for (row m i).name (pairs_of_column (column m j).name (cards_in style section.Columns lines))) (coefficient m i j)
+    IsTheNumber (texts_for (row m i).name (pairs_of_column (column m j).name (cards_in style section.Columns lines)))
+    (coefficient m i j)
 unfolding model_by
 coefficient_said style lines m h =
     let e = spelled_by style _ (rows_and_columns style) lines m h in
     let k = e.holds.1 in
-    let all = all_whole (row_view e.last) (cards_in style section.Columns lines) e.last.columns e.last.paired e.last.column k.whole k.last in
-    subst (λ (m : Model). (i j : ℕ) → i < height m → j < width m → IsTheNumber (texts_for (row m i).name (pairs_of_column (column m j).name (cards_in style section.Columns lines))) (coefficient m i j)) e.model_is
-    (λ i j l k. (all j no_column k).numbers (get_or e.last.rows i no_row).name (Row i) (row_place e.last i e.holds.0.placed l))
+    let all =
+    all_whole (row_view e.last)
+    (cards_in style section.Columns lines) e.last.columns e.last.paired e.last.column k.whole k.last in
+    subst (λ (m : Model). (i j : ℕ) → i < height m → j < width m →
+    IsTheNumber (texts_for (row m i).name (pairs_of_column (column m j).name (cards_in style section.Columns lines)))
+    (coefficient m i j)) e.model_is
+    (λ i j l k.
+    (all j no_column k).numbers (get_or e.last.rows i no_row).name (Row i) (row_place e.last i e.holds.0.placed l))
 
 pub cost_said : (style : Style) (lines : Lines) (m : Model) → Spells style lines m → (j : ℕ) → j < width m →
-    IsTheNumber (texts_for m.objective (pairs_of_column (column m j).name (cards_in style section.Columns lines))) (cost m j)
+    IsTheNumber (texts_for m.objective (pairs_of_column (column m j).name (cards_in style section.Columns lines)))
+    (cost m j)
 unfolding model_by
 cost_said style lines m h =
     let e = spelled_by style _ (rows_and_columns style) lines m h in
     let k = e.holds.1 in
-    let all = all_whole (row_view e.last) (cards_in style section.Columns lines) e.last.columns e.last.paired e.last.column k.whole k.last in
-    subst (λ (m : Model). (j : ℕ) → j < width m → IsTheNumber (texts_for m.objective (pairs_of_column (column m j).name (cards_in style section.Columns lines))) (cost m j)) e.model_is
-    (λ j k. (all j no_column k).numbers e.objective Objective (objective_place (row_view e.last) e.objective e.objective_is))
+    let all =
+    all_whole (row_view e.last)
+    (cards_in style section.Columns lines) e.last.columns e.last.paired e.last.column k.whole k.last in
+    subst (λ (m : Model). (j : ℕ) → j < width m → IsTheNumber (texts_for m.objective
+    (pairs_of_column (column m j).name (cards_in style section.Columns lines))) (cost m j)) e.model_is
+    (λ j k.
+    (all j no_column k).numbers e.objective Objective (objective_place (row_view e.last) e.objective e.objective_is))

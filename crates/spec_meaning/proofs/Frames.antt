@@ -1,5 +1,7 @@
 -- What a data card of a section leaves as it was.
-use Rattle.std.proofs.Common.{◌≡◌, ℕ, zero, suc, ◌+◌, Bool, true, false, not, ◌&&◌, cond, Option, Some, None, is_none, Ok, Err, List, [], ◌∷◌, ◌++◌, length, map, refl, sym, ap, ◌∙◌, subst, get_or, ◌||◌, ltb, codes, append-nil, append_assoc}
+use Rattle.std.proofs.Common.{◌≡◌, ℕ, zero, suc, ◌+◌, Bool, true, false, not, ◌&&◌, cond, Option}
+use Rattle.std.proofs.Common.{Some, None, is_none, Ok, Err, List, [], ◌∷◌, ◌++◌, length, map, refl, sym}
+use Rattle.std.proofs.Common.{ap, ◌∙◌, subst, get_or, ◌||◌, ltb, codes, append-nil, append_assoc}
 use Rattle.std.specs.List.{list_any, position}
 use Rattle.spec_text.specs.Words.{same}
 use Rattle.spec_exact.specs.Fraction.{ℚ, 0ℚ}
@@ -18,9 +20,14 @@ use Rattle.spec_mps.specs.declared.target.Place.TheVariants.{Kept, Dropped}
 use Rattle.spec_mps.specs.Fields.{Fields, text_at, texts_of}
 use Rattle.spec_mps.specs.Checks.{Check, ◌>>=◌, must}
 use Rattle.spec_mps.specs.Shapes.{row_type_of, sense_of, bound_kind_of, has_shape, shapes_of, shaped}
-use Rattle.spec_mps.specs.Reader.{State, place_of, number_in, is_among, is_first, with_row, add_row, rows_card, new_column, whole_columns, is_open, opened, enter, column_pair, pairs_of, column_pairs, column_by, marker_field, columns_card}
-use Rattle.spec_mps.specs.Sides.{SetAndPairs, set_and_pairs, is_used, changed_at, put_side, side_pair, side_pairs, rhs_by, rhs_card, ranged_row, put_range, range_pair, range_pairs, ranges_by, ranges_card}
-use Rattle.spec_mps.specs.Bounds.{BoundCard, SetsUpper, SetsLower, SetsBoth, is_negative, bounded, bound_card, BoundTexts, bound_texts, with_bound, use_bound, bounds_card}
+use Rattle.spec_mps.specs.Reader.{State, place_of, number_in, is_among, is_first, with_row, add_row}
+use Rattle.spec_mps.specs.Reader.{rows_card, new_column, whole_columns, is_open, opened, enter, column_pair}
+use Rattle.spec_mps.specs.Reader.{pairs_of, column_pairs, column_by, marker_field, columns_card}
+use Rattle.spec_mps.specs.Sides.{SetAndPairs, set_and_pairs, is_used, changed_at, put_side}
+use Rattle.spec_mps.specs.Sides.{side_pair, side_pairs, rhs_by, rhs_card, ranged_row}
+use Rattle.spec_mps.specs.Sides.{put_range, range_pair, range_pairs, ranges_by, ranges_card}
+use Rattle.spec_mps.specs.Bounds.{BoundCard, SetsUpper, SetsLower, SetsBoth, is_negative, bounded}
+use Rattle.spec_mps.specs.Bounds.{bound_card, BoundTexts, bound_texts, with_bound, use_bound, bounds_card}
 use Rattle.spec_mps.specs.Steps.{take_sense, sense_card, data_card}
 use Rattle.spec_mps.proofs.CheckSteps.{step_ok, must_ok, need_ok, same_ok}
 
@@ -69,7 +76,8 @@ with_row_leads : (s : State) (type : RowType) (name : Name) → Leads section.Ro
 with_row_leads s Unlimited name = go (is_none s.objective)
   where
     go : (b : Bool) →
-        Leads section.Rows s (cond b (record s { objective = Some name }) (record s { dropped = s.dropped ++ name ∷ [] }))
+        Leads section.Rows s
+        (cond b (record s { objective = Some name }) (record s { dropped = s.dropped ++ name ∷ [] }))
     go true = refl
     go false = refl
 with_row_leads s (Limited kind) name = refl
@@ -122,7 +130,12 @@ pub data Opens (s : State) (name : Name) (t : State) : Type 0 where
   Same : (known : is_open s.column name ≡ true) → (same : s ≡ t) → Opens s name t
   New : (other : is_open s.column name ≡ false) →
       (free : not (list_any (λ c. same c.name name) (whole_columns s)) ≡ true) →
-      (new : record s { columns = whole_columns s; column = Some (new_column name); lowered = s.lowered ++ false ∷ []; paired = [] } ≡ t) →
+      (new : record s {
+        columns = whole_columns s;
+        column = Some (new_column name);
+        lowered = s.lowered ++ false ∷ [];
+        paired = [];
+      } ≡ t) →
       Opens s name t
 
 pub opened_did : (s : State) (name : Name) (t : State) → opened s name ≡ Ok t → Opens s name t
@@ -130,7 +143,13 @@ unfolding opened
 opened_did s name t h = go (is_open s.column name) refl h
   where
     go : (b : Bool) → is_open s.column name ≡ b →
-        cond b (Ok s) (must (not (list_any (λ c. same c.name name) (whole_columns s))) code.ColumnTaken >>= λ _. must (ltb (length (whole_columns s)) 512) code.Limit >>= λ _. Ok (record s { columns = whole_columns s; column = Some (new_column name); lowered = s.lowered ++ false ∷ []; paired = [] })) ≡ Ok t →
+        cond b (Ok s) (must (not (list_any (λ c. same c.name name) (whole_columns s))) code.ColumnTaken >>=
+        λ _. must (ltb (length (whole_columns s)) 512) code.Limit >>= λ _. Ok (record s {
+          columns = whole_columns s;
+          column = Some (new_column name);
+          lowered = s.lowered ++ false ∷ [];
+          paired = [];
+        })) ≡ Ok t →
         Opens s name t
     go true e k = Same e (same_ok s t k)
     go false e k =
@@ -145,7 +164,8 @@ pub record Pairs (s : State) (pair : List ℕ × List ℕ) (place : Place) (v : 
 
 -- what each pair keeps, all of them keep
 pub column_pairs_keep : (K : List (List ℕ × List ℕ) → State → Type 0) →
-    ((done : List (List ℕ × List ℕ)) (s : State) (pair : List ℕ × List ℕ) (place : Place) (v : ℚ) (t : State) → Pairs s pair place v → enter s place v ≡ Ok t → K done s → K (done ++ pair ∷ []) t) →
+    ((done : List (List ℕ × List ℕ)) (s : State) (pair : List ℕ × List ℕ) (place : Place) (v : ℚ) (t : State) →
+    Pairs s pair place v → enter s place v ≡ Ok t → K done s → K (done ++ pair ∷ []) t) →
     (pairs done : List (List ℕ × List ℕ)) (s t : State) → column_pairs s pairs ≡ Ok t → K done s → K (done ++ pairs) t
 unfolding column_pair
 column_pairs_keep K f [] done s t h k = subst (λ l. K l t) (sym (append-nil done)) (subst (K done) (same_ok s t h) k)
@@ -153,7 +173,8 @@ column_pairs_keep K f (pair ∷ pairs) done s t h k =
     let a = step_ok (column_pair s pair.0 pair.1) (λ u. column_pairs u pairs) t h in
     let b = need_ok (place_of s pair.0) code.UnknownRow _ a.0 a.1 in
     let c = step_ok (number_in pair.1) _ a.0 b.2 in
-    subst (λ l. K l t) (append_assoc done (pair ∷ []) pairs) (column_pairs_keep K f pairs (done ++ pair ∷ []) a.0 t a.2 (f done s pair b.0 c.0 a.0 (record { place_is = b.1; number_is = c.1 }) c.2 k))
+    subst (λ l. K l t) (append_assoc done (pair ∷ []) pairs) (column_pairs_keep K f pairs
+    (done ++ pair ∷ []) a.0 t a.2 (f done s pair b.0 c.0 a.0 (record { place_is = b.1; number_is = c.1 }) c.2 k))
 
 enter_leads : (s : State) (place : Place) (v : ℚ) (t : State) → enter s place v ≡ Ok t → Leads section.Columns s t
 unfolding enter
@@ -176,7 +197,14 @@ column_by_did s [] t h = absurd (cc)
 column_by_did s (name ∷ texts) t h =
     let a = must_ok (is_name name) code.Name _ t h in
     let b = step_ok (opened s name) _ t a.1 in
-    record { name = name; more = texts; texts_are = refl; between = b.0; opens = opened_did s name b.0 b.1; pairs = b.2 }
+    record {
+      name = name;
+      more = texts;
+      texts_are = refl;
+      between = b.0;
+      opens = opened_did s name b.0 b.1;
+      pairs = b.2;
+    }
 
 pub columns_did : (style : Style) (s : State) (fields : Fields) (t : State) → columns_card style s fields ≡ Ok t →
     ColumnsDid s (texts_of fields) t
@@ -184,7 +212,8 @@ unfolding columns_card
 columns_did style s fields t h =
     let a = must_ok (not (same (text_at (marker_field style) fields) (codes "'MARKER'"))) code.Integer _ t h in
     let b = step_ok (shaped style section.Columns fields) _ t a.1 in
-    column_by_did s (texts_of fields) t (subst (λ x. column_by s x ≡ Ok t) (sym (shaped_texts style section.Columns fields b.0 b.1)) b.2)
+    column_by_did s (texts_of fields) t
+    (subst (λ x. column_by s x ≡ Ok t) (sym (shaped_texts style section.Columns fields b.0 b.1)) b.2)
 
 opens_leads : (s : State) (name : Name) (t : State) → Opens s name t → Leads section.Columns s t
 opens_leads s name t (Same known same) = subst (Leads section.Columns s) same refl
@@ -194,7 +223,9 @@ pub columns_leads : (style : Style) (s : State) (fields : Fields) (t : State) �
     Leads section.Columns s t
 columns_leads style s fields t h =
     let d = columns_did style s fields t h in
-    column_pairs_keep (λ done u. Leads section.Columns s u) (λ done u pair place v w p e k. enter_leads u place v w e ∙ k) (pairs_of d.more) [] d.between t d.pairs (opens_leads s d.name d.between d.opens)
+    column_pairs_keep (λ done u. Leads section.Columns s u)
+    (λ done u pair place v w p e k. enter_leads u place v w e ∙ k)
+    (pairs_of d.more) [] d.between t d.pairs (opens_leads s d.name d.between d.opens)
 
 -- ---- RHS and RANGES
 
@@ -206,7 +237,8 @@ changed_unseen view change zero (x ∷ xs) h = ap (λ y. y ∷ map view xs) (h x
 changed_unseen view change (suc i) (x ∷ xs) h = ap (λ ys. view x ∷ ys) (changed_unseen view change i xs h)
 
 pub side_pairs_keep : (K : List (List ℕ × List ℕ) → State → Type 0) →
-    ((done : List (List ℕ × List ℕ)) (s : State) (pair : List ℕ × List ℕ) (place : Place) (v : ℚ) (t : State) → Pairs s pair place v → put_side s place v ≡ Ok t → K done s → K (done ++ pair ∷ []) t) →
+    ((done : List (List ℕ × List ℕ)) (s : State) (pair : List ℕ × List ℕ) (place : Place) (v : ℚ) (t : State) →
+    Pairs s pair place v → put_side s place v ≡ Ok t → K done s → K (done ++ pair ∷ []) t) →
     (pairs done : List (List ℕ × List ℕ)) (s t : State) → side_pairs s pairs ≡ Ok t → K done s → K (done ++ pairs) t
 unfolding side_pair
 side_pairs_keep K f [] done s t h k = subst (λ l. K l t) (sym (append-nil done)) (subst (K done) (same_ok s t h) k)
@@ -214,7 +246,8 @@ side_pairs_keep K f (pair ∷ pairs) done s t h k =
     let a = step_ok (side_pair s pair.0 pair.1) (λ u. side_pairs u pairs) t h in
     let b = need_ok (place_of s pair.0) code.UnknownRow _ a.0 a.1 in
     let c = step_ok (number_in pair.1) _ a.0 b.2 in
-    subst (λ l. K l t) (append_assoc done (pair ∷ []) pairs) (side_pairs_keep K f pairs (done ++ pair ∷ []) a.0 t a.2 (f done s pair b.0 c.0 a.0 (record { place_is = b.1; number_is = c.1 }) c.2 k))
+    subst (λ l. K l t) (append_assoc done (pair ∷ []) pairs) (side_pairs_keep K f pairs
+    (done ++ pair ∷ []) a.0 t a.2 (f done s pair b.0 c.0 a.0 (record { place_is = b.1; number_is = c.1 }) c.2 k))
 
 put_side_leads : (s : State) (place : Place) (v : ℚ) (t : State) → put_side s place v ≡ Ok t →
     Leads section.RightSides s t
@@ -226,10 +259,12 @@ put_side_leads s (Kept Objective) v t h =
 put_side_leads s (Kept (Row i)) v t h =
     let a = must_ok (not (is_among (Row i) s.paired)) code.EntryRepeated _ t h in
     subst (Leads section.RightSides s) (same_ok _ t a.1)
-    (ap (λ (rows : List ExactRow). record s { offset = 0ℚ; rows = rows; paired = []; set = None }) (changed_unseen without_side (λ r. record r { rhs = v }) i s.rows (λ r. refl)))
+    (ap (λ (rows : List ExactRow). record s { offset = 0ℚ; rows = rows; paired = []; set = None })
+    (changed_unseen without_side (λ r. record r { rhs = v }) i s.rows (λ r. refl)))
 
 -- a card of the set that is used, or of another one
-pub data SetDid (s : State) (card : SetAndPairs) (does : State → List (List ℕ × List ℕ) → Check State) (t : State) : Type 0 where
+pub data SetDid (s : State) (card : SetAndPairs)
+    (does : State → List (List ℕ × List ℕ) → Check State) (t : State) : Type 0 where
   Used : (used : is_used s.set card.set ≡ true) → (did : does (record s { set = Some card.set }) card.pairs ≡ Ok t) →
       SetDid s card does t
   Skipped : (other : is_used s.set card.set ≡ false) → (same : s ≡ t) → SetDid s card does t
@@ -249,11 +284,13 @@ pub rhs_did : (style : Style) (s : State) (fields : Fields) (t : State) → rhs_
 unfolding rhs_card rhs_by
 rhs_did style s fields t h =
     let a = step_ok (shaped style section.RightSides fields) _ t h in
-    subst (λ x. SetDid s (set_and_pairs x) side_pairs t) (sym (shaped_texts style section.RightSides fields a.0 a.1)) (set_did s (set_and_pairs a.0) side_pairs t a.2)
+    subst (λ x. SetDid s (set_and_pairs x) side_pairs t)
+    (sym (shaped_texts style section.RightSides fields a.0 a.1)) (set_did s (set_and_pairs a.0) side_pairs t a.2)
 
 rhs_leads : (s : State) (card : SetAndPairs) (t : State) → SetDid s card side_pairs t → Leads section.RightSides s t
 rhs_leads s card t (Used used did) =
-    side_pairs_keep (λ done u. Leads section.RightSides s u) (λ done u pair place v w p e k. put_side_leads u place v w e ∙ k) card.pairs [] _ t did refl
+    side_pairs_keep (λ done u. Leads section.RightSides s u)
+    (λ done u pair place v w p e k. put_side_leads u place v w e ∙ k) card.pairs [] _ t did refl
 rhs_leads s card t (Skipped other same) = subst (Leads section.RightSides s) same refl
 
 -- a row of a range, none where it is dropped
@@ -263,7 +300,8 @@ pub record RangePairs (s : State) (pair : List ℕ × List ℕ) (place : Place) 
   pub number_is : number_in pair.1 ≡ Ok v
 
 pub range_pairs_keep : (K : List (List ℕ × List ℕ) → State → Type 0) →
-    ((done : List (List ℕ × List ℕ)) (s : State) (pair : List ℕ × List ℕ) (place : Place) (row : Option ℕ) (v : ℚ) (t : State) → RangePairs s pair place row v → put_range s row v ≡ Ok t → K done s → K (done ++ pair ∷ []) t) →
+    ((done : List (List ℕ × List ℕ)) (s : State) (pair : List ℕ × List ℕ) (place : Place) (row : Option ℕ) (v : ℚ)
+    (t : State) → RangePairs s pair place row v → put_range s row v ≡ Ok t → K done s → K (done ++ pair ∷ []) t) →
     (pairs done : List (List ℕ × List ℕ)) (s t : State) → range_pairs s pairs ≡ Ok t → K done s → K (done ++ pairs) t
 unfolding range_pair
 range_pairs_keep K f [] done s t h k = subst (λ l. K l t) (sym (append-nil done)) (subst (K done) (same_ok s t h) k)
@@ -272,7 +310,8 @@ range_pairs_keep K f (pair ∷ pairs) done s t h k =
     let b = need_ok (place_of s pair.0) code.UnknownRow _ a.0 a.1 in
     let r = step_ok (ranged_row b.0) _ a.0 b.2 in
     let c = step_ok (number_in pair.1) _ a.0 r.2 in
-    subst (λ l. K l t) (append_assoc done (pair ∷ []) pairs) (range_pairs_keep K f pairs (done ++ pair ∷ []) a.0 t a.2 (f done s pair b.0 r.0 c.0 a.0 (record { place_is = b.1; row_is = r.1; number_is = c.1 }) c.2 k))
+    subst (λ l. K l t) (append_assoc done (pair ∷ []) pairs) (range_pairs_keep K f pairs (done ++ pair ∷ []) a.0 t a.2
+    (f done s pair b.0 r.0 c.0 a.0 (record { place_is = b.1; row_is = r.1; number_is = c.1 }) c.2 k))
 
 put_range_leads : (s : State) (row : Option ℕ) (v : ℚ) (t : State) → put_range s row v ≡ Ok t → Leads section.Ranges s t
 unfolding put_range
@@ -280,18 +319,21 @@ put_range_leads s None v t h = subst (Leads section.Ranges s) (same_ok s t h) re
 put_range_leads s (Some i) v t h =
     let a = must_ok (not (is_among (Row i) s.paired)) code.EntryRepeated _ t h in
     subst (Leads section.Ranges s) (same_ok _ t a.1)
-    (ap (λ (rows : List ExactRow). record s { rows = rows; paired = []; set = None }) (changed_unseen without_range (λ r. record r { range = Some v }) i s.rows (λ r. refl)))
+    (ap (λ (rows : List ExactRow). record s { rows = rows; paired = []; set = None })
+    (changed_unseen without_range (λ r. record r { range = Some v }) i s.rows (λ r. refl)))
 
 pub ranges_did : (style : Style) (s : State) (fields : Fields) (t : State) → ranges_card style s fields ≡ Ok t →
     SetDid s (set_and_pairs (texts_of fields)) range_pairs t
 unfolding ranges_card ranges_by
 ranges_did style s fields t h =
     let a = step_ok (shaped style section.Ranges fields) _ t h in
-    subst (λ x. SetDid s (set_and_pairs x) range_pairs t) (sym (shaped_texts style section.Ranges fields a.0 a.1)) (set_did s (set_and_pairs a.0) range_pairs t a.2)
+    subst (λ x. SetDid s (set_and_pairs x) range_pairs t)
+    (sym (shaped_texts style section.Ranges fields a.0 a.1)) (set_did s (set_and_pairs a.0) range_pairs t a.2)
 
 ranges_leads : (s : State) (card : SetAndPairs) (t : State) → SetDid s card range_pairs t → Leads section.Ranges s t
 ranges_leads s card t (Used used did) =
-    range_pairs_keep (λ done u. Leads section.Ranges s u) (λ done u pair place row v w p e k. put_range_leads u row v w e ∙ k) card.pairs [] _ t did refl
+    range_pairs_keep (λ done u. Leads section.Ranges s u)
+    (λ done u pair place row v w p e k. put_range_leads u row v w e ∙ k) card.pairs [] _ t did refl
 ranges_leads s card t (Skipped other same) = subst (Leads section.Ranges s) same refl
 
 -- ---- BOUNDS
@@ -317,7 +359,13 @@ unfolding bounds_card use_bound
 bounds_did style s fields t h =
     let a = step_ok (bound_kind_of (text_at 1 fields)) _ t h in
     let b = step_ok (bound_texts style a.0 fields) _ t a.2 in
-    record { kind = a.0; texts = b.0; kind_is = a.1; texts_are = b.1; did = go a.0 b.0 (is_used s.set b.0.set) refl b.2 }
+    record {
+      kind = a.0;
+      texts = b.0;
+      kind_is = a.1;
+      texts_are = b.1;
+      did = go a.0 b.0 (is_used s.set b.0.set) refl b.2;
+    }
   where
     go : (kind : BoundKind) (texts : BoundTexts) (b : Bool) → is_used s.set texts.set ≡ b →
         cond b (use_bound s kind texts) (Ok s) ≡ Ok t → BoundDid s kind texts t
@@ -345,7 +393,8 @@ with_bound_leads : (s : State) (place : ℕ) (card : BoundCard) → Leads sectio
 unfolding with_bound
 with_bound_leads s place card =
     ap (λ (columns : List ExactColumn). record s { columns = columns; lowered = []; set = None })
-    (changed_unseen without_bounds (bounded (get_or s.lowered place false) card) place s.columns (bounded_unseen (get_or s.lowered place false) card))
+    (changed_unseen without_bounds (bounded (get_or s.lowered place false) card) place s.columns
+    (bounded_unseen (get_or s.lowered place false) card))
 
 bound_leads : (s : State) (kind : BoundKind) (texts : BoundTexts) (t : State) → BoundDid s kind texts t →
     Leads section.Bounds s t

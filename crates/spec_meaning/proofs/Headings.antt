@@ -1,5 +1,6 @@
 -- Lines that begin sections, and the order of these.
-use Rattle.std.proofs.Common.{sym, ◌≡◌, ℕ, Bool, true, false, not, ◌&&◌, ◌||◌, cond, Option, Some, None, option_map, List, [], ◌∷◌, ◌++◌, refl, ap, ◌∙◌, append-nil, codes}
+use Rattle.std.proofs.Common.{sym, ◌≡◌, ℕ, Bool, true, false, not, ◌&&◌, ◌||◌, cond, Option, Some}
+use Rattle.std.proofs.Common.{None, option_map, List, [], ◌∷◌, ◌++◌, refl, ap, ◌∙◌, append-nil, codes}
 use Rattle.std.specs.List.{find}
 use Rattle.spec_text.specs.Words.{same}
 use Rattle.spec_text.proofs.WordLemmas.{same_true}
@@ -12,7 +13,8 @@ use Rattle.spec_mps.specs.Fields.{Fields, word_fields, text_at}
 use Rattle.spec_mps.specs.Shapes.{look_up, section_of}
 use Rattle.spec_mps.proofs.CheckSteps.{same_some}
 use Rattle.spec_meaning.specs.TextCards.{Lines, bytes_of, section_word, is_heading, begins}
-use Rattle.spec_meaning.proofs.SoFar.{before, behind, is_section, or_else, titled, lines_by, cards_of, cards_to_come, title_by, title_to_come}
+use Rattle.spec_meaning.proofs.SoFar.{before, behind, is_section, or_else, titled, lines_by}
+use Rattle.spec_meaning.proofs.SoFar.{cards_of, cards_to_come, title_by, title_to_come}
 
 -- ---- the words of sections
 
@@ -95,13 +97,15 @@ never k = cc
 cards_heading : (style : Style) (at seen now : Bool) (part q : Section) (l : Line (List ℕ)) (lines : Lines) →
     IsHeading l part → is_section (Some part) section.End ≡ false → is_section (Some part) q ≡ now →
     (at ≡ true → seen ≡ true) → (now ≡ true → seen ≡ false) →
-    cards_of style q (lines_by at seen q (before (begins section.End) (l ∷ lines))) ≡ cards_of style q (lines_by now (now || seen) q (before (begins section.End) lines))
+    cards_of style q (lines_by at seen q (before (begins section.End) (l ∷ lines)))
+    ≡ cards_of style q (lines_by now (now || seen) q (before (begins section.End) lines))
 cards_heading style at seen now part q l lines h e n told new =
     ap (λ ls. cards_of style q (lines_by at seen q ls)) (goes_on l part lines h e) ∙ go at seen now n told new
   where
     go : (at seen now : Bool) → is_section (Some part) q ≡ now → (at ≡ true → seen ≡ true) →
         (now ≡ true → seen ≡ false) →
-        cards_of style q (lines_by at seen q (l ∷ before (begins section.End) lines)) ≡ cards_of style q (lines_by now (now || seen) q (before (begins section.End) lines))
+        cards_of style q (lines_by at seen q (l ∷ before (begins section.End) lines))
+        ≡ cards_of style q (lines_by now (now || seen) q (before (begins section.End) lines))
     go true true true n told new = absurd (never (new refl))
     go true true false n told new =
         ap (λ b. cards_of style q (cond b [] (l ∷ before is_heading (before (begins section.End) lines)))) h.heading
@@ -109,14 +113,20 @@ cards_heading style at seen now part q l lines h e n told new =
     go false true true n told new = absurd (never (new refl))
     go false true false n told new = refl
     go false false true n told new =
-        ap (λ b. cards_of style q (before is_heading (cond b (before (begins section.End) lines) (behind (begins q) (before (begins section.End) lines))))) (h.begins_one q ∙ n)
+        ap (λ b. cards_of style q (before is_heading
+        (cond b (before (begins section.End) lines) (behind (begins q) (before (begins section.End) lines)))))
+        (h.begins_one q ∙ n)
     go false false false n told new =
-        ap (λ b. cards_of style q (before is_heading (cond b (before (begins section.End) lines) (behind (begins q) (before (begins section.End) lines))))) (h.begins_one q ∙ n)
+        ap (λ b. cards_of style q (before is_heading
+        (cond b (before (begins section.End) lines) (behind (begins q) (before (begins section.End) lines)))))
+        (h.begins_one q ∙ n)
 
-pub cards_begin : (style : Style) (here : Option Section) (seen : Bool) (part q : Section) (l : Line (List ℕ)) (lines : Lines) →
+pub cards_begin : (style : Style) (here : Option Section) (seen : Bool)
+    (part q : Section) (l : Line (List ℕ)) (lines : Lines) →
     IsHeading l part → is_section (Some part) section.End ≡ false → (is_section here q ≡ true → seen ≡ true) →
     (is_section (Some part) q ≡ true → seen ≡ false) →
-    cards_to_come style here seen q (l ∷ lines) ≡ cards_to_come style (Some part) (is_section (Some part) q || seen) q lines
+    cards_to_come style here seen q (l ∷ lines)
+    ≡ cards_to_come style (Some part) (is_section (Some part) q || seen) q lines
 unfolding cards_to_come
 cards_begin style here seen part q l lines h e told new =
     cards_heading style (is_section here q) seen (is_section (Some part) q) part q l lines h e refl told new
@@ -124,7 +134,8 @@ cards_begin style here seen part q l lines h e told new =
 title_heading : (seen now : Bool) (part q : Section) (l : Line (List ℕ)) (lines : Lines) (o : Option Fields) →
     IsHeading l part → is_section (Some part) section.End ≡ false → is_section (Some part) q ≡ now →
     (now ≡ true → seen ≡ false) →
-    or_else o (title_by seen q (before (begins section.End) (l ∷ lines))) ≡ or_else (titled now o (word_fields (bytes_of l))) (title_by (now || seen) q (before (begins section.End) lines))
+    or_else o (title_by seen q (before (begins section.End) (l ∷ lines)))
+    ≡ or_else (titled now o (word_fields (bytes_of l))) (title_by (now || seen) q (before (begins section.End) lines))
 title_heading seen now part q l lines o h e n new =
     ap (λ ls. or_else o (title_by seen q ls)) (goes_on l part lines h e) ∙ go seen now n new
   where
@@ -134,17 +145,23 @@ title_heading seen now part q l lines o h e n new =
     known (Some fields) = refl
 
     go : (seen now : Bool) → is_section (Some part) q ≡ now → (now ≡ true → seen ≡ false) →
-        or_else o (title_by seen q (l ∷ before (begins section.End) lines)) ≡ or_else (titled now o (word_fields (bytes_of l))) (title_by (now || seen) q (before (begins section.End) lines))
+        or_else o (title_by seen q (l ∷ before (begins section.End) lines))
+        ≡ or_else (titled now o (word_fields (bytes_of l)))
+        (title_by (now || seen) q (before (begins section.End) lines))
     go true true n new = absurd (never (new refl))
     go true false n new = refl
     go false true n new =
-        ap (λ b. or_else o (option_map (λ l. word_fields (bytes_of l)) (cond b (Some l) (find (begins q) (before (begins section.End) lines))))) (h.begins_one q ∙ n) ∙ known o
+        ap (λ b. or_else o (option_map (λ l. word_fields (bytes_of l))
+        (cond b (Some l) (find (begins q) (before (begins section.End) lines))))) (h.begins_one q ∙ n) ∙ known o
     go false false n new =
-        ap (λ b. or_else o (option_map (λ l. word_fields (bytes_of l)) (cond b (Some l) (find (begins q) (before (begins section.End) lines))))) (h.begins_one q ∙ n)
+        ap (λ b. or_else o (option_map (λ l. word_fields (bytes_of l))
+        (cond b (Some l) (find (begins q) (before (begins section.End) lines))))) (h.begins_one q ∙ n)
 
 pub title_begin : (seen : Bool) (part q : Section) (l : Line (List ℕ)) (lines : Lines) (o : Option Fields) →
     IsHeading l part → is_section (Some part) section.End ≡ false → (is_section (Some part) q ≡ true → seen ≡ false) →
-    or_else o (title_to_come seen q (l ∷ lines)) ≡ or_else (titled (is_section (Some part) q) o (word_fields (bytes_of l))) (title_to_come (is_section (Some part) q || seen) q lines)
+    or_else o (title_to_come seen q (l ∷ lines))
+    ≡ or_else (titled (is_section (Some part) q) o (word_fields (bytes_of l)))
+    (title_to_come (is_section (Some part) q || seen) q lines)
 unfolding title_to_come
 title_begin seen part q l lines o h e new = title_heading seen (is_section (Some part) q) part q l lines o h e refl new
 
@@ -153,7 +170,8 @@ title_begin seen part q l lines o h e new = title_heading seen (is_section (Some
 ends : (l : Line (List ℕ)) (lines : Lines) → IsHeading l section.End → before (begins section.End) (l ∷ lines) ≡ []
 ends l lines h = ap (λ b. cond b [] (l ∷ before (begins section.End) lines)) (h.begins_one section.End)
 
-pub cards_end : (style : Style) (here : Option Section) (seen : Bool) (q : Section) (l : Line (List ℕ)) (lines : Lines) (cards : List Fields) →
+pub cards_end : (style : Style) (here : Option Section) (seen : Bool)
+    (q : Section) (l : Line (List ℕ)) (lines : Lines) (cards : List Fields) →
     IsHeading l section.End → cards ++ cards_to_come style here seen q (l ∷ lines) ≡ cards
 unfolding cards_to_come
 cards_end style here seen q l lines cards h =

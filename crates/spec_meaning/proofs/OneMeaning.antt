@@ -1,5 +1,7 @@
 -- A text has one meaning.
-use Rattle.std.proofs.Common.{◌≡◌, ◌≢◌, ℕ, suc, ◌<◌, ◌≤◌, Bool, true, false, cond, ltb, eqb, eqb→eq, eq-eqb, Option, Some, List, [], ◌∷◌, length, map, refl, sym, ap, ◌∙◌, subst, subst₂, get_or, arith, All, T, le_refl, codes, inl, inr}
+use Rattle.std.proofs.Common.{◌≡◌, ◌≢◌, ℕ, suc, ◌<◌, ◌≤◌, Bool, true, false, cond, ltb, eqb, eqb→eq}
+use Rattle.std.proofs.Common.{eq-eqb, Option, Some, List, [], ◌∷◌, length, map, refl, sym, ap}
+use Rattle.std.proofs.Common.{◌∙◌, subst, subst₂, get_or, arith, All, T, le_refl, codes, inl, inr}
 use borrow.Author.Tests.{ltb-true, ltb-false}
 use Rattle.std.specs.List.{AllPairs}
 use Rattle.std.proofs.lemmas.List.{ext_get_or, length-map}
@@ -11,7 +13,8 @@ use Rattle.spec_text.specs.Words.{same}
 use Rattle.spec_text.proofs.WordLemmas.{same-refl}
 use Rattle.spec_model.specs.declared.parts.Sense.{Sense}
 use Rattle.spec_model.specs.declared.parts.Sense.TheVariants.{Min, Max}
-use Rattle.spec_model.specs.Model.{Model, Name, ExactRow, ExactColumn, no_row, no_column, row, column, height, width, entry_of}
+use Rattle.spec_model.specs.Model.{Model, Name, ExactRow, ExactColumn, no_row}
+use Rattle.spec_model.specs.Model.{no_column, row, column, height, width, entry_of}
 use Rattle.spec_model.specs.Kept.{AreEntries, IsModel}
 use Rattle.spec_mps.specs.declared.style.Style.{Style}
 use Rattle.spec_mps.specs.NumberText.{Is}
@@ -102,8 +105,10 @@ rise_from n low (e ∷ es) above inside ascending not_zero = (
   above 0 e (omega arith),
   inside 0 e (omega arith),
   not_zero 0 e (omega arith),
-  rise_from n (suc e.0) es (λ i d l. ascending 0 (suc i) d (omega arith) (omega arith)) (λ i d l. inside (suc i) d (omega arith))
-      (λ i j d l k. ascending (suc i) (suc j) d (omega arith) (omega arith)) (λ i d l. not_zero (suc i) d (omega arith)),
+  rise_from n (suc e.0) es (λ i d l. ascending 0 (suc i) d (omega arith) (omega arith))
+      (λ i d l. inside (suc i) d (omega arith))
+      (λ i j d l k. ascending (suc i) (suc j) d (omega arith) (omega arith))
+      (λ i d l. not_zero (suc i) d (omega arith)),
 )
 
 entries_rise : (n : ℕ) (es : List (ℕ × ℚ)) → AreEntries n es → Rise n 0 es
@@ -178,12 +183,14 @@ module _ (style : Style) (lines : Lines) (m o : Model) (h : Means style lines m)
   objectives : m.objective ≡ o.objective
   objectives = same_head m.objective o.objective h.objective.0 k.objective.0 (sym h.objective.1 ∙ k.objective.1)
 
-  labels_same : map (λ (r : ExactRow). (let x : Kind × Name = (r.kind, r.name) in x)) m.rows ≡ map (λ (r : ExactRow). (let x : Kind × Name = (r.kind, r.name) in x)) o.rows
+  labels_same : map (λ (r : ExactRow). (let x : Kind × Name = (r.kind, r.name) in x)) m.rows
+      ≡ map (λ (r : ExactRow). (let x : Kind × Name = (r.kind, r.name) in x)) o.rows
   labels_same = h.rows ∙ sym k.rows
 
   heights : height m ≡ height o
   heights =
-      sym (length-map m.rows (λ (r : ExactRow). (let x : Kind × Name = (r.kind, r.name) in x))) ∙ ap length labels_same ∙ length-map o.rows (λ (r : ExactRow). (let x : Kind × Name = (r.kind, r.name) in x))
+      sym (length-map m.rows (λ (r : ExactRow). (let x : Kind × Name = (r.kind, r.name) in x)))
+      ∙ ap length labels_same ∙ length-map o.rows (λ (r : ExactRow). (let x : Kind × Name = (r.kind, r.name) in x))
 
   label_at : (i : ℕ) → (let x : Kind × Name = ((row m i).kind, (row m i).name) in x) ≡ ((row o i).kind, (row o i).name)
   label_at i =
@@ -195,8 +202,14 @@ module _ (style : Style) (lines : Lines) (m o : Model) (h : Means style lines m)
   row_at i l =
       let l' : i < height o = omega (arith, heights) in
       let name : (row m i).name ≡ (row o i).name = ap (λ (x : Kind × Name). x.1) (label_at i) in
-      let rhs = one_number _ (row m i).rhs (row o i).rhs (h.right_sides i l) (subst (λ n. IsTheNumber (texts_for n (used_pairs (cards_in style section.RightSides lines))) (row o i).rhs) (sym name) (k.right_sides i l')) in
-      let range = one_range _ (row m i).range (row o i).range (h.ranges i l) (subst (λ n. IsTheRange (texts_for n (used_pairs (cards_in style section.Ranges lines))) (row o i).range) (sym name) (k.ranges i l')) in
+      let rhs =
+      one_number _ (row m i).rhs (row o i).rhs (h.right_sides i l)
+      (subst (λ n. IsTheNumber (texts_for n (used_pairs (cards_in style section.RightSides lines))) (row o i).rhs)
+      (sym name) (k.right_sides i l')) in
+      let range =
+      one_range _ (row m i).range (row o i).range (h.ranges i l)
+      (subst (λ n. IsTheRange (texts_for n (used_pairs (cards_in style section.Ranges lines))) (row o i).range)
+      (sym name) (k.ranges i l')) in
       λ j. record { name = name j; kind = (label_at i j).0; rhs = rhs j; range = range j }
 
   rows_same : m.rows ≡ o.rows
@@ -207,7 +220,8 @@ module _ (style : Style) (lines : Lines) (m o : Model) (h : Means style lines m)
 
   widths : width m ≡ width o
   widths =
-      sym (length-map m.columns (λ (c : ExactColumn). c.name)) ∙ ap length names_same ∙ length-map o.columns (λ (c : ExactColumn). c.name)
+      sym (length-map m.columns (λ (c : ExactColumn). c.name))
+      ∙ ap length names_same ∙ length-map o.columns (λ (c : ExactColumn). c.name)
 
   name_at : (j : ℕ) → (column m j).name ≡ (column o j).name
   name_at j =
@@ -223,21 +237,42 @@ module _ (style : Style) (lines : Lines) (m o : Model) (h : Means style lines m)
       (λ i g.
       let g' : i < height o = omega (arith, heights) in
       one_number _ (entry_of (column m j).entries i) (entry_of (column o j).entries i) (h.coefficients i j g l)
-      (subst₂ (λ r c. IsTheNumber (texts_for r (pairs_of_column c (cards_in style section.Columns lines))) (entry_of (column o j).entries i)) (sym (ap (λ (x : ExactRow). x.name) (row_at i g))) (sym (name_at j)) (k.coefficients i j g' l')))
+      (subst₂ (λ r c. IsTheNumber (texts_for r (pairs_of_column c (cards_in style section.Columns lines)))
+      (entry_of (column o j).entries i)) (sym (ap (λ (x : ExactRow). x.name) (row_at i g)))
+      (sym (name_at j)) (k.coefficients i j g' l')))
 
   column_at : IsModel m → IsModel o → (j : ℕ) → j < width m → column m j ≡ column o j
   column_at a b j l =
       let l' : j < width o = omega (arith, widths) in
-      let cost = one_number _ (column m j).cost (column o j).cost (h.costs j l) (subst₂ (λ r c. IsTheNumber (texts_for r (pairs_of_column c (cards_in style section.Columns lines))) (column o j).cost) (sym objectives) (sym (name_at j)) (k.costs j l')) in
-      let lower = h.lower j l ∙ ap (λ n. lower_of style (bounds_of_column style n (cards_in style section.Bounds lines))) (name_at j) ∙ sym (k.lower j l') in
-      let upper = h.upper j l ∙ ap (λ n. upper_of style (bounds_of_column style n (cards_in style section.Bounds lines))) (name_at j) ∙ sym (k.upper j l') in
+      let cost =
+      one_number _ (column m j).cost (column o j).cost (h.costs j l) (subst₂
+      (λ r c. IsTheNumber (texts_for r (pairs_of_column c (cards_in style section.Columns lines))) (column o j).cost)
+      (sym objectives) (sym (name_at j)) (k.costs j l')) in
+      let lower =
+      h.lower j l
+      ∙ ap (λ n. lower_of style (bounds_of_column style n (cards_in style section.Bounds lines))) (name_at j)
+      ∙ sym (k.lower j l') in
+      let upper =
+      h.upper j l
+      ∙ ap (λ n. upper_of style (bounds_of_column style n (cards_in style section.Bounds lines))) (name_at j)
+      ∙ sym (k.upper j l') in
       let entries = entries_at a b j l in
       λ i. record { name = name_at j i; cost = cost i; lower = lower i; upper = upper i; entries = entries i }
 
   pub one_meaning : IsModel m → IsModel o → m ≡ o
   one_meaning a b =
-      let offset = sym (neg-neg m.offset) ∙ ap neg_ℚ (one_number _ (neg_ℚ m.offset) (neg_ℚ o.offset) h.offset (subst (λ n. IsTheNumber (texts_for n (used_pairs (cards_in style section.RightSides lines))) (neg_ℚ o.offset)) (sym objectives) k.offset)) ∙ neg-neg o.offset in
+      let offset =
+      sym (neg-neg m.offset) ∙ ap neg_ℚ (one_number _ (neg_ℚ m.offset) (neg_ℚ o.offset) h.offset
+      (subst (λ n. IsTheNumber (texts_for n (used_pairs (cards_in style section.RightSides lines))) (neg_ℚ o.offset))
+      (sym objectives) k.offset)) ∙ neg-neg o.offset in
       let columns = ext_get_or no_column m.columns o.columns widths (column_at a b) in
       let name = h.name ∙ sym k.name in
       let sense = one_sense _ m.sense o.sense h.sense k.sense in
-      λ i. record { name = name i; sense = sense i; objective = objectives i; offset = offset i; rows = rows_same i; columns = columns i }
+      λ i. record {
+        name = name i;
+        sense = sense i;
+        objective = objectives i;
+        offset = offset i;
+        rows = rows_same i;
+        columns = columns i;
+      }

@@ -9,9 +9,11 @@ use Rattle.spec_mps.specs.declared.section.Section.{Section}
 use Rattle.spec_mps.specs.declared.section.Section.TheVariants as section
 use Rattle.spec_mps.specs.declared.section.Seen.{Seen}
 use Rattle.spec_mps.specs.Cards.{is_skipped, begins_with_blank}
-use Rattle.spec_mps.specs.Fields.{Fields, CardReading, Is, word_fields, column_fields, misplaced_from, placed, free_fields, fixed_fields}
+use Rattle.spec_mps.specs.Fields.{Fields, CardReading, Is, word_fields, column_fields}
+use Rattle.spec_mps.specs.Fields.{misplaced_from, placed, free_fields, fixed_fields}
 use Rattle.spec_mps.specs.Reader.{State, start}
-use Rattle.spec_mps.specs.Steps.{has_begun, with_section, may_follow, Progress, More, more, section_card, data_card, on_reading, reading_of, step}
+use Rattle.spec_mps.specs.Steps.{has_begun, with_section, may_follow, Progress, More, more}
+use Rattle.spec_mps.specs.Steps.{section_card, data_card, on_reading, reading_of, step}
 use Rattle.spec_mps.proofs.CheckSteps.{step_ok, same_ok}
 use Rattle.spec_meaning.specs.TextCards.{bytes_of, fields_in}
 use Rattle.spec_meaning.proofs.SoFar.{is_section}
@@ -43,7 +45,14 @@ pub start_ordered : IsOrdered start.part start.seen
 start_ordered =
     record {
       told =
-          record { senses = λ h. h; rows = λ h. h; columns = λ h. h; right_sides = λ h. h; ranges = λ h. h; bounds = λ h. h };
+          record {
+            senses = λ h. h;
+            rows = λ h. h;
+            columns = λ h. h;
+            right_sides = λ h. h;
+            ranges = λ h. h;
+            bounds = λ h. h;
+          };
       columns_later = λ h. refl;
       ends_later = λ h. record { right_sides = refl; ranges = refl; bounds = refl };
       at_rows = λ h. refl;
@@ -100,19 +109,61 @@ pub begun_ordered : (here : Option Section) (part : Section) (seen : Seen) → m
     has_begun seen part ≡ false → is_section (Some part) section.End ≡ false → IsOrdered here seen →
     IsOrdered (Some part) (with_section seen part)
 begun_ordered here section.Name seen may new e o =
-    record { told = begun_told section.Name seen; columns_later = o.columns_later; ends_later = λ h. ends_as seen _ (o.ends_later h) refl refl refl; at_rows = λ h. absurd (cc); at_columns = λ h. absurd (cc) }
+    record {
+      told = begun_told section.Name seen;
+      columns_later = o.columns_later;
+      ends_later = λ h. ends_as seen _ (o.ends_later h) refl refl refl;
+      at_rows = λ h. absurd (cc);
+      at_columns = λ h. absurd (cc);
+    }
 begun_ordered here section.Sense seen may new e o =
-    record { told = begun_told section.Sense seen; columns_later = o.columns_later; ends_later = λ h. ends_as seen _ (o.ends_later h) refl refl refl; at_rows = λ h. absurd (cc); at_columns = λ h. absurd (cc) }
+    record {
+      told = begun_told section.Sense seen;
+      columns_later = o.columns_later;
+      ends_later = λ h. ends_as seen _ (o.ends_later h) refl refl refl;
+      at_rows = λ h. absurd (cc);
+      at_columns = λ h. absurd (cc);
+    }
 begun_ordered here section.Rows seen may new e o =
-    record { told = begun_told section.Rows seen; columns_later = λ h. absurd (cc); ends_later = λ h. ends_as seen _ (o.ends_later h) refl refl refl; at_rows = λ h. o.columns_later new; at_columns = λ h. absurd (cc) }
+    record {
+      told = begun_told section.Rows seen;
+      columns_later = λ h. absurd (cc);
+      ends_later = λ h. ends_as seen _ (o.ends_later h) refl refl refl;
+      at_rows = λ h. o.columns_later new;
+      at_columns = λ h. absurd (cc);
+    }
 begun_ordered here section.Columns seen may new e o =
-    record { told = begun_told section.Columns seen; columns_later = λ h. not_both seen.rows may h; ends_later = λ h. absurd (cc); at_rows = λ h. absurd (cc); at_columns = λ h. ends_as seen _ (o.ends_later new) refl refl refl }
+    record {
+      told = begun_told section.Columns seen;
+      columns_later = λ h. not_both seen.rows may h;
+      ends_later = λ h. absurd (cc);
+      at_rows = λ h. absurd (cc);
+      at_columns = λ h. ends_as seen _ (o.ends_later new) refl refl refl;
+    }
 begun_ordered here section.RightSides seen may new e o =
-    record { told = begun_told section.RightSides seen; columns_later = o.columns_later; ends_later = λ h. not_both seen.columns may h; at_rows = λ h. absurd (cc); at_columns = λ h. absurd (cc) }
+    record {
+      told = begun_told section.RightSides seen;
+      columns_later = o.columns_later;
+      ends_later = λ h. not_both seen.columns may h;
+      at_rows = λ h. absurd (cc);
+      at_columns = λ h. absurd (cc);
+    }
 begun_ordered here section.Ranges seen may new e o =
-    record { told = begun_told section.Ranges seen; columns_later = o.columns_later; ends_later = λ h. not_both seen.columns may h; at_rows = λ h. absurd (cc); at_columns = λ h. absurd (cc) }
+    record {
+      told = begun_told section.Ranges seen;
+      columns_later = o.columns_later;
+      ends_later = λ h. not_both seen.columns may h;
+      at_rows = λ h. absurd (cc);
+      at_columns = λ h. absurd (cc);
+    }
 begun_ordered here section.Bounds seen may new e o =
-    record { told = begun_told section.Bounds seen; columns_later = o.columns_later; ends_later = λ h. not_both seen.columns may h; at_rows = λ h. absurd (cc); at_columns = λ h. absurd (cc) }
+    record {
+      told = begun_told section.Bounds seen;
+      columns_later = o.columns_later;
+      ends_later = λ h. not_both seen.columns may h;
+      at_rows = λ h. absurd (cc);
+      at_columns = λ h. absurd (cc);
+    }
 begun_ordered here section.End seen may new e o = absurd (cc)
 
 -- ---- what a line did
@@ -132,12 +183,14 @@ pub data LineDid (style : Style) (s : State) (bytes : List ℕ) (p : Progress) :
       (did : section_card s (word_fields bytes) ≡ Ok p) → LineDid style s bytes p
 
 line_by : (style : Style) (s : State) (bytes : List ℕ) (p : Progress) (given : CardReading) →
-    on_reading style s (cond (is_skipped bytes) (Is card.Skip) (cond (begins_with_blank bytes) given (Is (card.Section (word_fields bytes))))) ≡ Ok p →
+    on_reading style s (cond (is_skipped bytes) (Is card.Skip)
+    (cond (begins_with_blank bytes) given (Is (card.Section (word_fields bytes))))) ≡ Ok p →
     (on_reading style s given ≡ Ok p → DataDid style s bytes p) → LineDid style s bytes p
 line_by style s bytes p given h f = go (is_skipped bytes) (begins_with_blank bytes) refl refl h
   where
     go : (skipped blank : Bool) → is_skipped bytes ≡ skipped → begins_with_blank bytes ≡ blank →
-        on_reading style s (cond skipped (Is card.Skip) (cond blank given (Is (card.Section (word_fields bytes))))) ≡ Ok p →
+        on_reading style s (cond skipped (Is card.Skip) (cond blank given (Is (card.Section (word_fields bytes)))))
+        ≡ Ok p →
         LineDid style s bytes p
     go true blank e b k = Skipped e (same_ok (More s) p k)
     go false true e b k = Data e b (f k)
@@ -147,7 +200,13 @@ data_did : (style : Style) (s : State) (bytes : List ℕ) (p : Progress) (part :
     more (data_card style s.part s (fields_in style part bytes)) ≡ Ok p → DataDid style s bytes p
 data_did style s bytes p part e h =
     let a = step_ok (data_card style s.part s (fields_in style part bytes)) (λ t. Ok (More t)) p h in
-    record { part = part; next = a.0; here = e; did = subst (λ here. data_card style here s (fields_in style part bytes) ≡ Ok a.0) e a.1; goes = same_ok (More a.0) p a.2 }
+    record {
+      part = part;
+      next = a.0;
+      here = e;
+      did = subst (λ here. data_card style here s (fields_in style part bytes) ≡ Ok a.0) e a.1;
+      goes = same_ok (More a.0) p a.2;
+    }
 
 no_data : (style : Style) (s : State) (bytes : List ℕ) (p : Progress) (fields : Fields) → s.part ≡ None →
     more (data_card style s.part s fields) ≡ Ok p → DataDid style s bytes p
@@ -168,11 +227,13 @@ unfolding free_fields fixed_fields
 line_did Free None s bytes p e h = line_by Free s bytes p _ h (no_data Free s bytes p (word_fields bytes) e)
 line_did Free (Some part) s bytes p e h = line_by Free s bytes p _ h (data_did Free s bytes p part e)
 line_did Fixed None s bytes p e h =
-    line_by Fixed s bytes p _ h (placed_did Fixed s bytes p (misplaced_from 1 bytes) (column_fields bytes) (no_data Fixed s bytes p (column_fields bytes) e))
+    line_by Fixed s bytes p _ h (placed_did Fixed s bytes p (misplaced_from 1 bytes)
+    (column_fields bytes) (no_data Fixed s bytes p (column_fields bytes) e))
 line_did Fixed (Some section.Sense) s bytes p e h =
     line_by Fixed s bytes p _ h (data_did Fixed s bytes p section.Sense e)
 line_did Fixed (Some part) s bytes p e h =
-    line_by Fixed s bytes p _ h (placed_did Fixed s bytes p (misplaced_from 1 bytes) (column_fields bytes) (data_did Fixed s bytes p part e))
+    line_by Fixed s bytes p _ h
+    (placed_did Fixed s bytes p (misplaced_from 1 bytes) (column_fields bytes) (data_did Fixed s bytes p part e))
 
 pub step_did : (style : Style) (s : State) (l : Line (List ℕ)) (p : Progress) → step style s l ≡ Ok p →
     LineDid style s (bytes_of l) p

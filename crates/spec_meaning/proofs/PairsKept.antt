@@ -1,5 +1,6 @@
 -- Numbers that pairs give to rows, one after another.
-use Rattle.std.proofs.Common.{◌≡◌, ℕ, Bool, true, false, ◌||◌, cond, eqb→eq, eq-eqb, Some, Ok, List, [], ◌∷◌, ◌++◌, map, refl, sym, ap, ◌∙◌, subst, subst₂, append-nil, T}
+use Rattle.std.proofs.Common.{◌≡◌, ℕ, Bool, true, false, ◌||◌, cond, eqb→eq, eq-eqb, Some, Ok, List}
+use Rattle.std.proofs.Common.{[], ◌∷◌, ◌++◌, map, refl, sym, ap, ◌∙◌, subst, subst₂, append-nil, T}
 use Rattle.std.specs.List.{filter}
 use Rattle.std.proofs.lemmas.List.{map-append}
 use Rattle.std.proofs.lemmas.List.Elements.{filter-append}
@@ -42,7 +43,8 @@ pub texts_push : (name : Name) (pairs : Pairs) (pair : List ℕ × List ℕ) →
 unfolding texts_for
 texts_push name pairs pair =
     ap (map (λ (p : List ℕ × List ℕ). p.1)) (filter-append (λ (p : List ℕ × List ℕ). same p.0 name) pairs (pair ∷ []))
-    ∙ map-append (λ (p : List ℕ × List ℕ). p.1) (filter (λ p. same p.0 name) pairs) (cond (same pair.0 name) (pair ∷ []) [])
+    ∙ map-append (λ (p : List ℕ × List ℕ). p.1)
+    (filter (λ p. same p.0 name) pairs) (cond (same pair.0 name) (pair ∷ []) [])
     ∙ ap (λ more. texts_for name pairs ++ more) (one_or_none (same pair.0 name) pair)
 
 pub texts_none : (name : Name) → texts_for name [] ≡ []
@@ -52,7 +54,8 @@ texts_none name = refl
 texts_same : (name : Name) (pairs : Pairs) (pair : List ℕ × List ℕ) → same pair.0 name ≡ false →
     texts_for name (pairs ++ pair ∷ []) ≡ texts_for name pairs
 texts_same name pairs pair h =
-    texts_push name pairs pair ∙ ap (λ b. texts_for name pairs ++ cond b (pair.1 ∷ []) []) h ∙ append-nil (texts_for name pairs)
+    texts_push name pairs pair ∙ ap (λ b. texts_for name pairs ++ cond b (pair.1 ∷ []) []) h
+    ∙ append-nil (texts_for name pairs)
 
 texts_one : (name : Name) (pairs : Pairs) (pair : List ℕ × List ℕ) → same pair.0 name ≡ true →
     texts_for name pairs ≡ [] → texts_for name (pairs ++ pair ∷ []) ≡ pair.1 ∷ []
@@ -81,7 +84,8 @@ pub data Put (V : Type 0) (value_of : State → Target → V) (u : State) (place
       Put V value_of u place v w
 
 -- the values of targets are what these pairs say
-pub record Tells (V : Type 0) (value_of : State → Target → V) (IsNumber : List (List ℕ) → V → Type 0) (view : RowView) (pairs : Pairs) (u : State) : Type 0 where
+pub record Tells (V : Type 0) (value_of : State → Target → V) (IsNumber : List (List ℕ) → V → Type 0)
+    (view : RowView) (pairs : Pairs) (u : State) : Type 0 where
   pub view_is : row_view u ≡ view
   pub numbers : (name : Name) (t : Target) → place_in view name ≡ Some (Kept t) →
       IsNumber (texts_for name pairs) (value_of u t)
@@ -103,7 +107,10 @@ same_dropped t h = cc
 same_kept : (t u : Target) → Kept t ≡ Kept u → t ≡ u
 same_kept t u h = cc
 
-module _ {V : Type 0} {value_of : State → Target → V} {IsNumber : List (List ℕ) → V → Type 0} (view : RowView) (pairs : Pairs) (u w : State) (pair : List ℕ × List ℕ) (place : Place) (v : V) (at : place_in view pair.0 ≡ Some place) (one : IsNumber (pair.1 ∷ []) v) (k : Tells V value_of IsNumber view pairs u) where
+module _ {V : Type 0} {value_of : State → Target → V} {IsNumber : List (List ℕ) → V → Type 0}
+    (view : RowView) (pairs : Pairs) (u w : State) (pair : List ℕ × List ℕ)
+    (place : Place) (v : V) (at : place_in view pair.0 ≡ Some place)
+    (one : IsNumber (pair.1 ∷ []) v) (k : Tells V value_of IsNumber view pairs u) where
   -- a name of another target than the pair's
   other_name : (name : Name) (t x : Target) → place ≡ Kept x → place_in view name ≡ Some (Kept t) →
       same_target t x ≡ false → same pair.0 name ≡ false
@@ -111,7 +118,8 @@ module _ {V : Type 0} {value_of : State → Target → V} {IsNumber : List (List
     where
       by : (b : Bool) → same pair.0 name ≡ b → b ≡ false
       by true f =
-          let p : place_in view name ≡ Some (Kept x) = ap (place_in view) (sym (same_true pair.0 name f)) ∙ at ∙ ap (λ y. Some y) e in
+          let p : place_in view name ≡ Some (Kept x) =
+          ap (place_in view) (sym (same_true pair.0 name f)) ∙ at ∙ ap (λ y. Some y) e in
           let same : t ≡ x = one_target view name t x h p in
           not_both (same_target t x) (ap (λ y. same_target t y) (sym same) ∙ same_target_itself t) ne
       by false f = refl
@@ -141,24 +149,29 @@ module _ {V : Type 0} {value_of : State → Target → V} {IsNumber : List (List
       by name t h true f =
           let same_t : t ≡ x = same_target_true t x f in
           let none : texts_for name pairs ≡ [] = k.unpaired name t h (ap (λ y. is_among y u.paired) same_t ∙ new) in
-          subst₂ IsNumber (sym (texts_one name pairs pair (own_name name t x e h same_t) none)) (sym (ap (value_of w) same_t ∙ here)) one
+          subst₂ IsNumber (sym (texts_one name pairs pair (own_name name t x e h same_t) none))
+          (sym (ap (value_of w) same_t ∙ here)) one
       by name t h false f =
-          subst₂ IsNumber (sym (texts_same name pairs pair (other_name name t x e h f))) (sym (elsewhere t f)) (k.numbers name t h)
+          subst₂ IsNumber (sym (texts_same name pairs pair (other_name name t x e h f)))
+          (sym (elsewhere t f)) (k.numbers name t h)
 
   nowhere : place ≡ Dropped → Tells V value_of IsNumber view (pairs ++ pair ∷ []) u
   nowhere e =
       record {
         view_is = k.view_is;
         numbers =
-            λ name t h. subst (λ texts. IsNumber texts (value_of u t)) (sym (texts_same name pairs pair (differs name t h (same pair.0 name) refl))) (k.numbers name t h);
+            λ name t h. subst (λ texts. IsNumber texts (value_of u t))
+            (sym (texts_same name pairs pair (differs name t h (same pair.0 name) refl))) (k.numbers name t h);
         unpaired =
-            λ name t h free. texts_same name pairs pair (differs name t h (same pair.0 name) refl) ∙ k.unpaired name t h free;
+            λ name t h free. texts_same name pairs pair (differs name t h (same pair.0 name) refl)
+            ∙ k.unpaired name t h free;
       }
     where
       differs : (name : Name) (t : Target) → place_in view name ≡ Some (Kept t) → (b : Bool) → same pair.0 name ≡ b →
           b ≡ false
       differs name t h true f =
-          absurd (same_dropped t (same_some Dropped (Kept t) (sym (ap (λ y. Some y) e) ∙ sym at ∙ ap (place_in view) (same_true pair.0 name f) ∙ h)))
+          absurd (same_dropped t (same_some Dropped (Kept t)
+          (sym (ap (λ y. Some y) e) ∙ sym at ∙ ap (place_in view) (same_true pair.0 name f) ∙ h)))
       differs name t h false f = refl
 
   pub tells_push : Put V value_of u place v w → Tells V value_of IsNumber view (pairs ++ pair ∷ []) w

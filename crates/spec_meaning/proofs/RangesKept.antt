@@ -1,5 +1,7 @@
 -- The ranges of rows are what RANGES says.
-use Rattle.std.proofs.Common.{◌≡◌, ℕ, zero, suc, ◌<◌, Bool, true, false, not, cond, Option, Some, None, is_none, Ok, List, [], ◌∷◌, ◌++◌, length, refl, sym, ap, ◌∙◌, subst, get_or, arith, append_assoc, append-nil}
+use Rattle.std.proofs.Common.{◌≡◌, ℕ, zero, suc, ◌<◌, Bool, true, false, not, cond, Option}
+use Rattle.std.proofs.Common.{Some, None, is_none, Ok, List, [], ◌∷◌, ◌++◌, length, refl}
+use Rattle.std.proofs.Common.{sym, ap, ◌∙◌, subst, get_or, arith, append_assoc, append-nil}
 use Rattle.spec_exact.specs.Fraction.{ℚ}
 use Rattle.spec_model.specs.Model.{Model, Name, ExactRow, no_row, row, height}
 use Rattle.spec_mps.specs.declared.fault.Code.TheVariants as code
@@ -23,11 +25,13 @@ use Rattle.spec_mps.proofs.CheckSteps.{step_ok, must_ok, same_ok}
 use Rattle.spec_meaning.specs.NumberCards.{Pairs, IsTheRange, texts_for, side_of, set_on, pairs_on, used_pairs}
 use Rattle.spec_meaning.specs.TextCards.{Lines, cards_in}
 use Rattle.spec_meaning.proofs.Frames as frames
-use Rattle.spec_meaning.proofs.Frames.{Leads, card_leads, without_side, without_range, changed_unseen, SetDid, Used, Skipped, ranges_did, rows_did, range_pairs_keep}
+use Rattle.spec_meaning.proofs.Frames.{Leads, card_leads, without_side, without_range, changed_unseen}
+use Rattle.spec_meaning.proofs.Frames.{SetDid, Used, Skipped, ranges_did, rows_did, range_pairs_keep}
 use Rattle.spec_meaning.proofs.SoFar.{is_section, SoFar, with_card}
 use Rattle.spec_meaning.proofs.Order.{IsOrdered}
 use Rattle.spec_meaning.proofs.Runs.{IsKept, both_kept, spelled_by, stays, headed_leads}
-use Rattle.spec_meaning.proofs.RowViews.{RowView, row_view, rows_stay, rows_stay_headed, place_in, place_by_view, objective_place}
+use Rattle.spec_meaning.proofs.RowViews.{RowView, row_view, rows_stay, rows_stay_headed}
+use Rattle.spec_meaning.proofs.RowViews.{place_in, place_by_view, objective_place}
 use Rattle.spec_meaning.proofs.PairsKept.{Put, PutNowhere, PutAt, put_set, Tells, tells_push, number_is}
 use Rattle.spec_meaning.proofs.SetsKept.{range_is, Says, says_same, says_before, says_begun, says_used, says_skipped}
 use Rattle.spec_meaning.proofs.RowsKept.{RowsSay, rows_kept, row_place}
@@ -57,12 +61,16 @@ put_at : (s : State) (name : Name) (i : ℕ) (v : ℚ) (t : State) → place_of 
 unfolding put_range
 put_at s name i v t at h =
     let a = must_ok (not (is_among (Row i) s.paired)) code.EntryRepeated _ t h in
-    let view = ap (λ rows. (let w : RowView = record { objective = s.objective; dropped = s.dropped; rows = rows } in w)) (changed_unseen (λ (r : ExactRow). (r.kind, r.name)) (λ r. record r { range = Some v }) i s.rows (λ r. refl)) in
+    let view =
+    ap (λ rows. (let w : RowView = record { objective = s.objective; dropped = s.dropped; rows = rows } in w))
+    (changed_unseen (λ (r : ExactRow). (r.kind, r.name)) (λ r. record r { range = Some v }) i s.rows (λ r. refl)) in
     subst (Put (Option ℚ) range_at s (Kept (Row i)) (Some v)) (same_ok _ t a.1)
-    (PutAt (Row i) refl (negated _ a.0) refl refl view (changed_here s.rows i v (row_inside s name i at)) (λ x ne. elsewhere x ne))
+    (PutAt (Row i) refl (negated _ a.0) refl refl view
+    (changed_here s.rows i v (row_inside s name i at)) (λ x ne. elsewhere x ne))
   where
     elsewhere : (x : Target) → same_target x (Row i) ≡ false →
-        range_at (record s { rows = changed_at i (λ r. record r { range = Some v }) s.rows; paired = Row i ∷ s.paired }) x ≡ range_at s x
+        range_at (record s { rows = changed_at i (λ r. record r { range = Some v }) s.rows; paired = Row i ∷ s.paired })
+        x ≡ range_at s x
     elsewhere Objective ne = refl
     elsewhere (Row j) ne =
         ap (λ (r : ExactRow). r.range) (changed_there (λ r. record r { range = Some v }) s.rows i j (apart j i ne))
@@ -86,15 +94,19 @@ record Reads (view : RowView) (old : Pairs) (set : Option Name) (done : Pairs) (
   tells : Tells (Option ℚ) range_at IsTheRange view (old ++ done) u
   set_is : u.set ≡ Some set
 
-one_pair : (view : RowView) (old : Pairs) (set : Option Name) (done : Pairs) (s : State) (pair : List ℕ × List ℕ) (place : Place) (row : Option ℕ) (v : ℚ) (t : State) →
+one_pair : (view : RowView) (old : Pairs) (set : Option Name) (done : Pairs) (s : State)
+    (pair : List ℕ × List ℕ) (place : Place) (row : Option ℕ) (v : ℚ) (t : State) →
     frames.RangePairs s pair place row v → put_range s row v ≡ Ok t → Reads view old set done s →
     Reads view old set (done ++ pair ∷ []) t
 one_pair view old set done s pair place row v t p h k =
     let put = range_put s pair.0 place row v t p.place_is p.row_is h in
-    let at : place_in view pair.0 ≡ Some place = ap (λ w. place_in w pair.0) (sym k.tells.view_is) ∙ sym (place_by_view s pair.0) ∙ p.place_is in
+    let at : place_in view pair.0 ≡ Some place =
+    ap (λ w. place_in w pair.0) (sym k.tells.view_is) ∙ sym (place_by_view s pair.0) ∙ p.place_is in
     record {
       tells =
-          subst (λ ps. Tells (Option ℚ) range_at IsTheRange view ps t) (append_assoc old done (pair ∷ [])) (tells_push view (old ++ done) s t pair place (Some v) at (v, refl, number_is pair.1 v p.number_is) k.tells put);
+          subst (λ ps. Tells (Option ℚ) range_at IsTheRange view ps t)
+          (append_assoc old done (pair ∷ [])) (tells_push view (old ++ done) s t pair place
+          (Some v) at (v, refl, number_is pair.1 v p.number_is) k.tells put);
       set_is = put_set (Option ℚ) range_at s place (Some v) t put ∙ k.set_is;
     }
 
@@ -104,11 +116,17 @@ used_card : (cards : List Fields) (card : Fields) (s t : State) → seen_ranges 
     RangesSay (cards ++ card ∷ []) t
 used_card cards card s t seen here used did k =
     let d = k.during here in
-    let first : Tells (Option ℚ) range_at IsTheRange (row_view s) (used_pairs cards ++ []) (record s { set = Some (set_on card) }) =
-    subst (λ ps. Tells (Option ℚ) range_at IsTheRange (row_view s) ps (record s { set = Some (set_on card) })) (sym (append-nil (used_pairs cards)))
+    let first : Tells (Option ℚ) range_at IsTheRange (row_view s)
+    (used_pairs cards ++ []) (record s { set = Some (set_on card) }) =
+    subst (λ ps. Tells (Option ℚ) range_at IsTheRange (row_view s) ps (record s { set = Some (set_on card) }))
+    (sym (append-nil (used_pairs cards)))
     (record { view_is = refl; numbers = k.numbers; unpaired = d.unpaired }) in
-    let r = range_pairs_keep (Reads (row_view s) (used_pairs cards) (set_on card)) (one_pair (row_view s) (used_pairs cards) (set_on card)) (pairs_on card) [] (record s { set = Some (set_on card) }) t did (record { tells = first; set_is = refl }) in
-    says_used range_at IsTheRange section.Ranges seen_ranges cards s t k card seen (ap (λ o. is_used o (set_on card)) (sym d.set) ∙ used) r.set_is r.tells
+    let r =
+    range_pairs_keep (Reads (row_view s) (used_pairs cards) (set_on card))
+    (one_pair (row_view s) (used_pairs cards) (set_on card)) (pairs_on card) []
+    (record s { set = Some (set_on card) }) t did (record { tells = first; set_is = refl }) in
+    says_used range_at IsTheRange section.Ranges seen_ranges cards s t k card seen
+    (ap (λ o. is_used o (set_on card)) (sym d.set) ∙ used) r.set_is r.tells
 
 ranges_says : (cards : List Fields) (card : Fields) (s t : State) → s.seen.ranges ≡ true →
     is_section s.part section.Ranges ≡ true → t.seen ≡ s.seen → SetDid s (side_of (texts_of card)) range_pairs t →
@@ -117,7 +135,8 @@ ranges_says cards card s t seen here same_seen (Used used did) k =
     used_card cards card s t (ap seen_ranges same_seen ∙ seen) here used did k
 ranges_says cards card s t seen here same_seen (Skipped other same) k =
     subst (RangesSay (cards ++ card ∷ [])) same
-    (says_skipped range_at IsTheRange section.Ranges seen_ranges cards s card seen here (ap (λ o. is_used o (set_on card)) (sym (k.during here).set) ∙ other) k)
+    (says_skipped range_at IsTheRange section.Ranges seen_ranges cards s card seen here
+    (ap (λ o. is_used o (set_on card)) (sym (k.during here).set) ∙ other) k)
 
 ranges_read : (style : Style) (s : State) (card : Fields) (t : State) → ranges_card style s card ≡ Ok t →
     side_of (texts_of card) ≡ set_and_pairs (texts_of card)
@@ -145,7 +164,8 @@ with_row_ranges s type name h Objective = refl
 with_row_ranges s Unlimited name h (Row i) = go (is_none s.objective)
   where
     go : (b : Bool) →
-        range_at (cond b (record s { objective = Some name }) (record s { dropped = s.dropped ++ name ∷ [] })) (Row i) ≡ None
+        range_at (cond b (record s { objective = Some name }) (record s { dropped = s.dropped ++ name ∷ [] })) (Row i)
+        ≡ None
     go true = h (Row i)
     go false = h (Row i)
 with_row_ranges s (Limited kind) name h (Row i) =
@@ -157,7 +177,8 @@ ranges_at_card : (style : Style) (c : SoFar) (s t : State) (part : Section) (car
 ranges_at_card style c s t section.Ranges card o here h k =
     let at : is_section s.part section.Ranges ≡ true = ap (λ p. is_section p section.Ranges) here in
     let seen = (stays section.Ranges s t (card_leads style section.Ranges s card t h)).1 in
-    ranges_says c.ranges card s t (o.told.ranges at) at seen (subst (λ x. SetDid s x range_pairs t) (sym (ranges_read style s card t h)) (ranges_did style s card t h)) k
+    ranges_says c.ranges card s t (o.told.ranges at) at seen
+    (subst (λ x. SetDid s x range_pairs t) (sym (ranges_read style s card t h)) (ranges_did style s card t h)) k
 ranges_at_card style c s t section.Rows card o here h k =
     let st = stays section.Rows s t (card_leads style section.Rows s card t h) in
     let new : s.seen.ranges ≡ false = (o.ends_later (o.at_rows (ap (λ p. is_section p section.Rows) here))).ranges in
@@ -168,7 +189,9 @@ ranges_at_card style c s t section.Rows card o here h k =
 ranges_at_card style c s t part card o here h k =
     let leads = card_leads style part s card t h in
     let st = stays part s t leads in
-    says_same range_at IsTheRange section.Ranges seen_ranges c.ranges s t k (ap seen_ranges st.1) (rows_stay part s t refl leads) (ranges_stay part s t refl refl leads) (ap (λ p. is_section p section.Ranges) (st.0 ∙ here))
+    says_same range_at IsTheRange section.Ranges seen_ranges c.ranges s t k
+    (ap seen_ranges st.1) (rows_stay part s t refl leads)
+    (ranges_stay part s t refl refl leads) (ap (λ p. is_section p section.Ranges) (st.0 ∙ here))
 
 -- ---- sections that begin
 
@@ -182,10 +205,14 @@ ranges_at_heading : (cards : List Fields) (s t : State) (part : Section) (word :
     has_begun s.seen part ≡ false → headed (begun s part) part word ≡ Ok t → RangesSay cards s → RangesSay cards t
 ranges_at_heading cards s t section.Ranges word new h k =
     let u = headed_leads (begun s section.Ranges) section.Ranges word t h in
-    says_begun range_at IsTheRange section.Ranges seen_ranges cards s t k new (ap (λ (x : State). x.seen.ranges) u) (rows_stay_headed s section.Ranges word t h) (ranges_stay_headed s section.Ranges word t h) (ap (λ (x : State). x.set) u)
+    says_begun range_at IsTheRange section.Ranges seen_ranges cards s t k new
+    (ap (λ (x : State). x.seen.ranges) u) (rows_stay_headed s section.Ranges word t h)
+    (ranges_stay_headed s section.Ranges word t h) (ap (λ (x : State). x.set) u)
 ranges_at_heading cards s t part word new h k =
     let u = headed_leads (begun s part) part word t h in
-    says_same range_at IsTheRange section.Ranges seen_ranges cards s t k (ap (λ (x : State). x.seen.ranges) u) (rows_stay_headed s part word t h) (ranges_stay_headed s part word t h) (ap (λ (x : State). is_section x.part section.Ranges) u)
+    says_same range_at IsTheRange section.Ranges seen_ranges cards s t k
+    (ap (λ (x : State). x.seen.ranges) u) (rows_stay_headed s part word t h)
+    (ranges_stay_headed s part word t h) (ap (λ (x : State). is_section x.part section.Ranges) u)
 
 no_ranges : (x : Target) → range_at start x ≡ None
 no_ranges Objective = refl
@@ -214,14 +241,16 @@ ranges_kept style =
 
 rows_and_ranges : (style : Style) → IsKept style (λ c s. RowsSay c.rows (row_view s) × RangesSay c.ranges s)
 rows_and_ranges style =
-    both_kept style (λ c s. RowsSay c.rows (row_view s)) (λ c s. RangesSay c.ranges s) (rows_kept style) (ranges_kept style)
+    both_kept style (λ c s. RowsSay c.rows (row_view s))
+    (λ c s. RangesSay c.ranges s) (rows_kept style) (ranges_kept style)
 
 pub range_said : (style : Style) (lines : Lines) (m : Model) → Spells style lines m → (i : ℕ) → i < height m →
     IsTheRange (texts_for (row m i).name (used_pairs (cards_in style section.Ranges lines))) (row m i).range
 unfolding model_by
 range_said style lines m h =
     let e = spelled_by style _ (rows_and_ranges style) lines m h in
-    subst (λ (m : Model). (i : ℕ) → i < height m → IsTheRange (texts_for (row m i).name (used_pairs (cards_in style section.Ranges lines))) (row m i).range) e.model_is
+    subst (λ (m : Model). (i : ℕ) → i < height m →
+    IsTheRange (texts_for (row m i).name (used_pairs (cards_in style section.Ranges lines))) (row m i).range) e.model_is
     (λ i l. e.holds.1.numbers (get_or e.last.rows i no_row).name (Row i) (row_place e.last i e.holds.0.placed l))
 
 none_given : (texts : List (List ℕ)) → IsTheRange texts None → texts ≡ []
@@ -238,4 +267,5 @@ unfolding model_by
 no_range_said style lines m h =
     let e = spelled_by style _ (rows_and_ranges style) lines m h in
     subst (λ (m : Model). texts_for m.objective (used_pairs (cards_in style section.Ranges lines)) ≡ []) e.model_is
-    (none_given _ (e.holds.1.numbers e.objective Objective (objective_place (row_view e.last) e.objective e.objective_is)))
+    (none_given _
+    (e.holds.1.numbers e.objective Objective (objective_place (row_view e.last) e.objective e.objective_is)))

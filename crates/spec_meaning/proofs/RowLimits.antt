@@ -26,8 +26,10 @@ within : (a b v : ℚ) → IsBetween (from_to a b) v ↔ ((a ≤ℚ v) × (v ≤
 within a b v = (λ h. (h.lower, h.upper), λ h. record { lower = h.0; upper = h.1 })
 
 on : (b v : ℚ) → IsBetween (from_to b b) v ↔ (v ≡ b)
-on b v =
-    (λ h. ≤ℚ_antisym v b h.upper h.lower, λ h. record { lower = subst (λ x. b ≤ℚ x) (sym h) (≤ℚ_refl b); upper = subst (λ x. x ≤ℚ b) (sym h) (≤ℚ_refl b) })
+on b v = (
+  λ h. ≤ℚ_antisym v b h.upper h.lower,
+  λ h. record { lower = subst (λ x. b ≤ℚ x) (sym h) (≤ℚ_refl b); upper = subst (λ x. x ≤ℚ b) (sym h) (≤ℚ_refl b) },
+)
 
 pub at_most : (r : ExactRow) (v : ℚ) → r.kind ≡ L → r.range ≡ None → IsBetween (limits_of r) v ↔ (v ≤ℚ r.rhs)
 at_most r v k e = by_limits r L None (up_to r.rhs) v _ k e refl (below r.rhs v)

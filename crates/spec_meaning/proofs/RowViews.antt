@@ -1,5 +1,7 @@
 -- The names of rows that a state has, what they stand for, and what leaves them as they are.
-use Rattle.std.proofs.Common.{◌≡◌, ℕ, suc, ◌+◌, ◌<◌, ◌≤◌, Bool, true, false, not, ◌||◌, cond, ltb, Option, Some, None, Ok, List, [], ◌∷◌, ◌++◌, length, map, refl, sym, ap, ◌∙◌, subst, get_or, arith, length-append}
+use Rattle.std.proofs.Common.{◌≡◌, ℕ, suc, ◌+◌, ◌<◌, ◌≤◌, Bool, true, false, not, ◌||◌, cond}
+use Rattle.std.proofs.Common.{ltb, Option, Some, None, Ok, List, [], ◌∷◌, ◌++◌, length}
+use Rattle.std.proofs.Common.{map, refl, sym, ap, ◌∙◌, subst, get_or, arith, length-append}
 use borrow.Author.Tests.{ltb-true, ltb-false, lt-ltb}
 use Rattle.std.specs.List.{list_any, position, position_or_len}
 use Rattle.std.proofs.lemmas.List.Quantifiers.{position-Some}
@@ -87,7 +89,8 @@ pub place_by_view : (s : State) (name : Name) → place_of s name ≡ place_in (
 unfolding place_of
 place_by_view s name =
     λ i. cond (is_objective s.objective name) (Some (Kept Objective))
-    (cond (list_any (same name) s.dropped) (Some Dropped) (row_at (cond (ltb (first_label name s.rows i) (sym (many_labels s.rows) i)) (Some (first_label name s.rows i)) None)))
+    (cond (list_any (same name) s.dropped) (Some Dropped) (row_at
+    (cond (ltb (first_label name s.rows i) (sym (many_labels s.rows) i)) (Some (first_label name s.rows i)) None)))
 
 -- ---- the name of a target
 
@@ -108,7 +111,9 @@ objective_name (Some objective) name h = ap (λ n. Some n) (same_true objective 
 
 pub place_name : (v : RowView) (name : Name) (t : Target) → place_in v name ≡ Some (Kept t) →
     (name_in v t ≡ Some name) × IsIn v t
-place_name v name t h = go (is_objective v.objective name) (list_any (same name) v.dropped) (position (λ r. same r.1 name) v.rows) refl refl h
+place_name v name t h =
+    go (is_objective v.objective name) (list_any (same name) v.dropped)
+    (position (λ r. same r.1 name) v.rows) refl refl h
   where
     by_target : (u : Target) → Kept u ≡ Kept t → (name_in v u ≡ Some name) × IsIn v u →
         (name_in v t ≡ Some name) × IsIn v t
@@ -136,8 +141,11 @@ one_target v a t u h k = same_kept t u (same_some (Kept t) (Kept u) (sym h ∙ k
 
 pub objective_place : (v : RowView) (name : Name) → v.objective ≡ Some name → place_in v name ≡ Some (Kept Objective)
 objective_place v name h =
-    ap (λ o. cond (is_objective o name) (Some (Kept Objective)) (cond (list_any (same name) v.dropped) (Some Dropped) (row_at (position (λ r. same r.1 name) v.rows)))) h
-    ∙ ap (λ b. cond b (Some (Kept Objective)) (cond (list_any (same name) v.dropped) (Some Dropped) (row_at (position (λ r. same r.1 name) v.rows)))) (same-refl name)
+    ap (λ o. cond (is_objective o name) (Some (Kept Objective))
+    (cond (list_any (same name) v.dropped) (Some Dropped) (row_at (position (λ r. same r.1 name) v.rows)))) h
+    ∙ ap (λ b. cond b (Some (Kept Objective))
+    (cond (list_any (same name) v.dropped) (Some Dropped) (row_at (position (λ r. same r.1 name) v.rows))))
+    (same-refl name)
 
 -- ---- each row's name stands for it
 
@@ -180,7 +188,8 @@ any_push p (x ∷ xs) y h = ap (λ b. p x || b) (any_push p xs y h)
 pub placed_dropped : (v : RowView) (new old : Name) (t : Target) → place_in v new ≡ None →
     place_in v old ≡ Some (Kept t) → place_in (record v { dropped = v.dropped ++ new ∷ [] }) old ≡ Some (Kept t)
 placed_dropped v new old t h k =
-    ap (λ b. cond (is_objective v.objective old) (Some (Kept Objective)) (cond b (Some Dropped) (row_at (position (λ r. same r.1 old) v.rows))))
+    ap (λ b. cond (is_objective v.objective old) (Some (Kept Objective))
+    (cond b (Some Dropped) (row_at (position (λ r. same r.1 old) v.rows))))
     (any_push (same old) v.dropped new (differs_back v new old (Kept t) h k (same old new) refl))
     ∙ k
 
@@ -214,7 +223,10 @@ position_more p xs y i h = go (ltb (position_or_len p xs) (length xs)) refl h
         position p (xs ++ y ∷ []) ≡ Some i
     go true e k =
         let less : position_or_len p xs < length xs = ltb-true _ _ e in
-        rw (first_more p xs (y ∷ []) less, lt-ltb (position_or_len p xs) (length (xs ++ y ∷ [])) (omega (arith, length-append xs (y ∷ [])))) k
+        rw (
+          first_more p xs (y ∷ []) less,
+          lt-ltb (position_or_len p xs) (length (xs ++ y ∷ [])) (omega (arith, length-append xs (y ∷ []))),
+        ) k
     go false e k = absurd (cc)
 
 pub position_last : {X : Type 0} (p : X → Bool) (xs : List X) (y : X) → position p xs ≡ None → p y ≡ true →
@@ -226,16 +238,21 @@ position_last p xs y h e = go (ltb (position_or_len p xs) (length xs)) refl h
     go true f k = absurd (cc)
     go false f k =
         let most : length xs ≤ position_or_len p xs = ltb-false _ _ f in
-        rw (first_last p xs y most e, lt-ltb (length xs) (length (xs ++ y ∷ [])) (omega (arith, length-append xs (y ∷ [])))) refl
+        rw (
+          first_last p xs y most e,
+          lt-ltb (length xs) (length (xs ++ y ∷ [])) (omega (arith, length-append xs (y ∷ []))),
+        ) refl
 
 -- one more row
 pub placed_row : (v : RowView) (new : Kind × Name) (old : Name) (t : Target) → place_in v old ≡ Some (Kept t) →
     place_in (record v { rows = v.rows ++ new ∷ [] }) old ≡ Some (Kept t)
-placed_row v new old t k = go (is_objective v.objective old) (list_any (same old) v.dropped) (position (λ r. same r.1 old) v.rows) refl k
+placed_row v new old t k =
+    go (is_objective v.objective old) (list_any (same old) v.dropped) (position (λ r. same r.1 old) v.rows) refl k
   where
     go : (a b : Bool) (o : Option ℕ) → position (λ r. same r.1 old) v.rows ≡ o →
         cond a (Some (Kept Objective)) (cond b (Some Dropped) (row_at o)) ≡ Some (Kept t) →
-        cond a (Some (Kept Objective)) (cond b (Some Dropped) (row_at (position (λ r. same r.1 old) (v.rows ++ new ∷ [])))) ≡ Some (Kept t)
+        cond a (Some (Kept Objective))
+        (cond b (Some Dropped) (row_at (position (λ r. same r.1 old) (v.rows ++ new ∷ [])))) ≡ Some (Kept t)
     go true b o e k = k
     go false true o e k = k
     go false false None e k = absurd (cc)
@@ -243,11 +260,14 @@ placed_row v new old t k = go (is_objective v.objective old) (list_any (same old
 
 pub placed_new : (v : RowView) (kind : Kind) (new : Name) → place_in v new ≡ None →
     place_in (record v { rows = v.rows ++ (kind, new) ∷ [] }) new ≡ Some (Kept (Row (length v.rows)))
-placed_new v kind new h = go (is_objective v.objective new) (list_any (same new) v.dropped) (position (λ r. same r.1 new) v.rows) refl h
+placed_new v kind new h =
+    go (is_objective v.objective new) (list_any (same new) v.dropped) (position (λ r. same r.1 new) v.rows) refl h
   where
     go : (a b : Bool) (o : Option ℕ) → position (λ r. same r.1 new) v.rows ≡ o →
         cond a (Some (Kept Objective)) (cond b (Some Dropped) (row_at o)) ≡ None →
-        cond a (Some (Kept Objective)) (cond b (Some Dropped) (row_at (position (λ r. same r.1 new) (v.rows ++ (kind, new) ∷ [])))) ≡ Some (Kept (Row (length v.rows)))
+        cond a (Some (Kept Objective))
+        (cond b (Some Dropped) (row_at (position (λ r. same r.1 new) (v.rows ++ (kind, new) ∷ []))))
+        ≡ Some (Kept (Row (length v.rows)))
     go true b o e k = absurd (cc)
     go false true o e k = absurd (cc)
     go false false (Some i) e k = absurd (cc)

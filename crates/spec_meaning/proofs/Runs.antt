@@ -1,5 +1,6 @@
 -- What holds of each state and the cards so far, holds of the last one and all cards of the text.
-use Rattle.std.proofs.Common.{◌≡◌, ℕ, ◌+◌, Bool, true, false, not, ◌&&◌, Option, Some, None, Ok, Err, List, [], ◌∷◌, ◌++◌, refl, sym, ap, ◌∙◌, subst, subst₂, option_map, is_none, is_some}
+use Rattle.std.proofs.Common.{◌≡◌, ℕ, ◌+◌, Bool, true, false, not, ◌&&◌, Option, Some, None, Ok, Err, List}
+use Rattle.std.proofs.Common.{[], ◌∷◌, ◌++◌, refl, sym, ap, ◌∙◌, subst, subst₂, option_map, is_none, is_some}
 use Rattle.std.specs.List.{find}
 use Rattle.spec_text.specs.declared.line.Line.{Line}
 use Rattle.spec_model.specs.Model.{Model, Name}
@@ -13,14 +14,20 @@ use Rattle.spec_mps.specs.Cards.{is_skipped, begins_with_blank}
 use Rattle.spec_mps.specs.Fields.{Fields, word_fields, text_at}
 use Rattle.spec_mps.specs.Shapes.{section_of, sense_of}
 use Rattle.spec_mps.specs.Reader.{State, start}
-use Rattle.spec_mps.specs.Steps.{take_sense, has_begun, with_section, may_follow, begun, sense_beside, headed, Progress, More, Done, Outcome, more, model_by, finished, begin, section_card, data_card, step, Spelled, settled, judge, Spells}
+use Rattle.spec_mps.specs.Steps.{take_sense, has_begun, with_section, may_follow, begun, sense_beside}
+use Rattle.spec_mps.specs.Steps.{headed, Progress, More, Done, Outcome, more, model_by, finished}
+use Rattle.spec_mps.specs.Steps.{begin, section_card, data_card, step, Spelled, settled, judge, Spells}
 use Rattle.spec_mps.proofs.Steps.{both, negated}
 use Rattle.spec_mps.proofs.CheckSteps.{step_ok, must_ok, need_ok, same_ok}
-use Rattle.spec_meaning.specs.TextCards.{Lines, bytes_of, is_heading, begins, lines_up_to_end, lines_in, fields_in, cards_in, title_of}
+use Rattle.spec_meaning.specs.TextCards.{Lines, bytes_of, is_heading, begins, lines_up_to_end}
+use Rattle.spec_meaning.specs.TextCards.{lines_in, fields_in, cards_in, title_of}
 use Rattle.spec_meaning.proofs.Frames.{Leads, card_leads}
-use Rattle.spec_meaning.proofs.SoFar.{before, behind, before_is, behind_is, is_section, SoFar, nothing, with_card, or_else, with_title, cards_to_come, title_to_come, cards_of, whole, skipped_plain, data_plain, title_plain, cards_skip, cards_data}
+use Rattle.spec_meaning.proofs.SoFar.{before, behind, before_is, behind_is, is_section, SoFar, nothing}
+use Rattle.spec_meaning.proofs.SoFar.{with_card, or_else, with_title, cards_to_come, title_to_come, cards_of}
+use Rattle.spec_meaning.proofs.SoFar.{whole, skipped_plain, data_plain, title_plain, cards_skip, cards_data}
 use Rattle.spec_meaning.proofs.Headings.{IsHeading, heading_is, cards_begin, title_begin, cards_end, title_end}
-use Rattle.spec_meaning.proofs.Order.{IsOrdered, start_ordered, one_more, begun_ordered, LineDid, Skipped, Data, Heading, step_did}
+use Rattle.spec_meaning.proofs.Order.{IsOrdered, start_ordered, one_more, begun_ordered}
+use Rattle.spec_meaning.proofs.Order.{LineDid, Skipped, Data, Heading, step_did}
 
 -- ---- a property of the cards so far and the state
 
@@ -39,9 +46,11 @@ both_kept style P Q p q =
     record {
       at_start = (p.at_start, q.at_start);
       at_heading =
-          λ c s t part words o new h k. (p.at_heading c s t part words o new h k.0, q.at_heading c s t part words o new h k.1);
+          λ c s t part words o new h k.
+          (p.at_heading c s t part words o new h k.0, q.at_heading c s t part words o new h k.1);
       at_card =
-          λ c s t part fields o here h k. (p.at_card c s t part fields o here h k.0, q.at_card c s t part fields o here h k.1);
+          λ c s t part fields o here h k.
+          (p.at_card c s t part fields o here h k.0, q.at_card c s t part fields o here h k.1);
     }
 
 -- the model is made of a state of which the property holds with these cards
@@ -111,9 +120,11 @@ whole_skip c style here seen l lines h =
 
 whole_data : (c : SoFar) (style : Style) (here : Section) (seen : Seen) (l : Line (List ℕ)) (lines : Lines) →
     is_skipped (bytes_of l) ≡ false → begins_with_blank (bytes_of l) ≡ true →
-    whole (with_card here (fields_in style here (bytes_of l)) c) style (Some here) seen lines ≡ whole c style (Some here) seen (l ∷ lines)
+    whole (with_card here (fields_in style here (bytes_of l)) c) style (Some here) seen lines
+    ≡ whole c style (Some here) seen (l ∷ lines)
 whole_data c style here seen l lines h b =
-    let card = λ (begun : Bool) (q : Section) (cards : List Fields). sym (cards_data style here begun q l lines cards h b) in
+    let card =
+    λ (begun : Bool) (q : Section) (cards : List Fields). sym (cards_data style here begun q l lines cards h b) in
     let title = λ (begun : Bool) (q : Section). sym (title_plain begun q l lines (data_plain l h b)) in
     λ i.
     record {
@@ -142,28 +153,95 @@ never h = absurd (cc)
 
 is_new : (part : Section) (seen : Seen) → has_begun seen part ≡ false → IsNew part seen
 is_new section.Name seen h =
-    record { name = λ e. h; sense = never; rows = never; columns = never; right_sides = never; ranges = never; bounds = never }
+    record {
+      name = λ e. h;
+      sense = never;
+      rows = never;
+      columns = never;
+      right_sides = never;
+      ranges = never;
+      bounds = never;
+    }
 is_new section.Sense seen h =
-    record { name = never; sense = λ e. h; rows = never; columns = never; right_sides = never; ranges = never; bounds = never }
+    record {
+      name = never;
+      sense = λ e. h;
+      rows = never;
+      columns = never;
+      right_sides = never;
+      ranges = never;
+      bounds = never;
+    }
 is_new section.Rows seen h =
-    record { name = never; sense = never; rows = λ e. h; columns = never; right_sides = never; ranges = never; bounds = never }
+    record {
+      name = never;
+      sense = never;
+      rows = λ e. h;
+      columns = never;
+      right_sides = never;
+      ranges = never;
+      bounds = never;
+    }
 is_new section.Columns seen h =
-    record { name = never; sense = never; rows = never; columns = λ e. h; right_sides = never; ranges = never; bounds = never }
+    record {
+      name = never;
+      sense = never;
+      rows = never;
+      columns = λ e. h;
+      right_sides = never;
+      ranges = never;
+      bounds = never;
+    }
 is_new section.RightSides seen h =
-    record { name = never; sense = never; rows = never; columns = never; right_sides = λ e. h; ranges = never; bounds = never }
+    record {
+      name = never;
+      sense = never;
+      rows = never;
+      columns = never;
+      right_sides = λ e. h;
+      ranges = never;
+      bounds = never;
+    }
 is_new section.Ranges seen h =
-    record { name = never; sense = never; rows = never; columns = never; right_sides = never; ranges = λ e. h; bounds = never }
+    record {
+      name = never;
+      sense = never;
+      rows = never;
+      columns = never;
+      right_sides = never;
+      ranges = λ e. h;
+      bounds = never;
+    }
 is_new section.Bounds seen h =
-    record { name = never; sense = never; rows = never; columns = never; right_sides = never; ranges = never; bounds = λ e. h }
+    record {
+      name = never;
+      sense = never;
+      rows = never;
+      columns = never;
+      right_sides = never;
+      ranges = never;
+      bounds = λ e. h;
+    }
 is_new section.End seen h =
-    record { name = never; sense = never; rows = never; columns = never; right_sides = never; ranges = never; bounds = never }
+    record {
+      name = never;
+      sense = never;
+      rows = never;
+      columns = never;
+      right_sides = never;
+      ranges = never;
+      bounds = never;
+    }
 
-whole_heading : (c : SoFar) (style : Style) (here : Option Section) (part : Section) (seen : Seen) (l : Line (List ℕ)) (lines : Lines) →
+whole_heading : (c : SoFar) (style : Style) (here : Option Section)
+    (part : Section) (seen : Seen) (l : Line (List ℕ)) (lines : Lines) →
     IsHeading l part → is_section (Some part) section.End ≡ false → has_begun seen part ≡ false → IsOrdered here seen →
-    whole (with_title part (word_fields (bytes_of l)) c) style (Some part) (with_section seen part) lines ≡ whole c style here seen (l ∷ lines)
+    whole (with_title part (word_fields (bytes_of l)) c) style (Some part) (with_section seen part) lines
+    ≡ whole c style here seen (l ∷ lines)
 whole_heading c style here part seen l lines h e new o =
     let n = is_new part seen new in
-    ap (λ later. whole (with_title part (word_fields (bytes_of l)) c) style (Some part) later lines) (one_more seen part)
+    ap (λ later. whole (with_title part (word_fields (bytes_of l)) c) style (Some part) later lines)
+    (one_more seen part)
     ∙ λ i.
     record {
       name_title = sym (title_begin seen.name part section.Name l lines c.name_title h e n.name) i;
@@ -172,9 +250,11 @@ whole_heading c style here part seen l lines h e new o =
           c.senses ++ sym (cards_begin style here seen.sense part section.Sense l lines h e o.told.senses n.sense) i;
       rows = c.rows ++ sym (cards_begin style here seen.rows part section.Rows l lines h e o.told.rows n.rows) i;
       columns =
-          c.columns ++ sym (cards_begin style here seen.columns part section.Columns l lines h e o.told.columns n.columns) i;
+          c.columns
+          ++ sym (cards_begin style here seen.columns part section.Columns l lines h e o.told.columns n.columns) i;
       right_sides =
-          c.right_sides ++ sym (cards_begin style here seen.right_sides part section.RightSides l lines h e o.told.right_sides n.right_sides) i;
+          c.right_sides ++ sym (cards_begin style here seen.right_sides part
+          section.RightSides l lines h e o.told.right_sides n.right_sides) i;
       ranges =
           c.ranges ++ sym (cards_begin style here seen.ranges part section.Ranges l lines h e o.told.ranges n.ranges) i;
       bounds =
@@ -263,11 +343,14 @@ module _ (style : Style) (Inv : SoFar → State → Type 0) (kept : IsKept style
       LineDid style s (bytes_of l) (More t) → IsOrdered s.part s.seen → Inv c s → Leads_on lines m t →
       Ends Inv (whole c style s.part s.seen (l ∷ lines)) m
   line_goes c s t l lines m (Skipped skipped same) o k f =
-      subst (λ w. Ends Inv w m) (whole_skip c style s.part s.seen l lines skipped) (subst (Leads_on lines m) (sym (same_more s t same)) f c o k)
+      subst (λ w. Ends Inv w m) (whole_skip c style s.part s.seen l lines skipped)
+      (subst (Leads_on lines m) (sym (same_more s t same)) f c o k)
   line_goes c s t l lines m (Data not_skipped blank d) o k f =
       let st = stays d.part s d.next (card_leads style d.part s _ d.next d.did) in
       let g = subst (Leads_on lines m) (sym (same_more d.next t d.goes)) f in
-      let ends = g _ (subst₂ IsOrdered (sym st.0) (sym st.1) o) (kept.at_card c s d.next d.part (fields_in style d.part (bytes_of l)) o d.here d.did k) in
+      let ends =
+      g _ (subst₂ IsOrdered (sym st.0) (sym st.1) o)
+      (kept.at_card c s d.next d.part (fields_in style d.part (bytes_of l)) o d.here d.did k) in
       let to = (λ i. whole (with_card d.part (fields_in style d.part (bytes_of l)) c) style (st.0 i) (st.1 i) lines)
       ∙ ap (λ here. whole (with_card d.part (fields_in style d.part (bytes_of l)) c) style here s.seen lines) d.here
       ∙ whole_data c style d.part s.seen l lines not_skipped blank
@@ -290,9 +373,12 @@ module _ (style : Style) (Inv : SoFar → State → Type 0) (kept : IsKept style
           let seen : next.seen ≡ with_section s.seen part = ap (λ (x : State). x.seen) u in
           let g = subst (Leads_on lines m) (sym (same_more next t goes)) f in
           let ordered = begun_ordered s.part part s.seen h.may h.new other o in
-          let ends = g _ (subst₂ IsOrdered (sym here) (sym seen) ordered) (kept.at_heading c s next part (word_fields (bytes_of l)) o h.new did k) in
+          let ends =
+          g _ (subst₂ IsOrdered (sym here) (sym seen) ordered)
+          (kept.at_heading c s next part (word_fields (bytes_of l)) o h.new did k) in
           let to = (λ i. whole (with_title part (word_fields (bytes_of l)) c) style (here i) (seen i) lines)
-          ∙ whole_heading c style s.part part s.seen l lines (heading_is l part not_skipped filled h.part_is) other h.new o in
+          ∙ whole_heading c style s.part part s.seen l lines
+          (heading_is l part not_skipped filled h.part_is) other h.new o in
           subst (λ w. Ends Inv w m) to ends
 
   line_ends : (c : SoFar) (s : State) (l : Line (List ℕ)) (lines : Lines) (m d : Model) →
@@ -371,7 +457,8 @@ all_cards style part lines =
 all_titles : (part : Section) (lines : Lines) → title_to_come false part lines ≡ title_of part lines
 unfolding title_to_come title_of lines_up_to_end
 all_titles part lines =
-    ap (λ ls. option_map (λ l. word_fields (bytes_of l)) (find (begins part) ls)) (sym (before_is (begins section.End) lines))
+    ap (λ ls. option_map (λ l. word_fields (bytes_of l)) (find (begins part) ls))
+    (sym (before_is (begins section.End) lines))
 
 pub whole_is : (style : Style) (lines : Lines) → whole nothing style start.part start.seen lines ≡ all_of style lines
 whole_is style lines =

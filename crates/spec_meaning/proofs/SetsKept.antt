@@ -1,5 +1,6 @@
 -- Numbers of the set that is used in RHS or in RANGES.
-use Rattle.std.proofs.Common.{◌≡◌, ℕ, suc, ◌≤◌, Bool, true, false, ◌||◌, cond, Option, Some, None, Ok, Err, List, [], ◌∷◌, ◌++◌, length, refl, sym, ap, ◌∙◌, subst, subst₂, arith, append-nil, append_assoc}
+use Rattle.std.proofs.Common.{◌≡◌, ℕ, suc, ◌≤◌, Bool, true, false, ◌||◌, cond, Option, Some, None, Ok, Err, List, []}
+use Rattle.std.proofs.Common.{◌∷◌, ◌++◌, length, refl, sym, ap, ◌∙◌, subst, subst₂, arith, append-nil, append_assoc}
 use Rattle.std.specs.List.{filter, flat_map, list_any}
 use Rattle.std.proofs.lemmas.List.Elements.{filter-append}
 use Rattle.spec_text.specs.Words.{same}
@@ -78,9 +79,21 @@ count n h k = (h, k)
 counts_side : (style : Style) (fields : Fields) → has_shape (shapes_of style section.RightSides) fields ≡ true →
     IsSideCount (length (texts_of fields))
 counts_side Free fields h =
-    shape_length IsSideCount _ fields (count 2 (omega arith) (omega arith), (count 3 (omega arith) (omega arith), (count 4 (omega arith) (omega arith), (count 5 (omega arith) (omega arith), tt)))) h
+    shape_length IsSideCount _ fields (
+      count 2 (omega arith) (omega arith),
+      (
+        count 3 (omega arith) (omega arith),
+        (count 4 (omega arith) (omega arith), (count 5 (omega arith) (omega arith), tt)),
+      ),
+    ) h
 counts_side Fixed fields h =
-    shape_length IsSideCount _ fields (count 2 (omega arith) (omega arith), (count 3 (omega arith) (omega arith), (count 4 (omega arith) (omega arith), (count 5 (omega arith) (omega arith), tt)))) h
+    shape_length IsSideCount _ fields (
+      count 2 (omega arith) (omega arith),
+      (
+        count 3 (omega arith) (omega arith),
+        (count 4 (omega arith) (omega arith), (count 5 (omega arith) (omega arith), tt)),
+      ),
+    ) h
 
 counts_range : (style : Style) (fields : Fields) → has_shape (shapes_of style section.Ranges) fields ≡ true →
     IsSideCount (length (texts_of fields))
@@ -122,20 +135,25 @@ same_as (Some a) (Some b) = refl
 flat_append : (xs ys : List Fields) → flat_map pairs_on (xs ++ ys) ≡ flat_map pairs_on xs ++ flat_map pairs_on ys
 flat_append [] ys = refl
 flat_append (x ∷ xs) ys =
-    ap (λ more. pairs_on x ++ more) (flat_append xs ys) ∙ sym (append_assoc (pairs_on x) (flat_map pairs_on xs) (flat_map pairs_on ys))
+    ap (λ more. pairs_on x ++ more) (flat_append xs ys)
+    ∙ sym (append_assoc (pairs_on x) (flat_map pairs_on xs) (flat_map pairs_on ys))
 
 flat_one : (b : Bool) (card : Fields) → flat_map pairs_on (cond b (card ∷ []) []) ≡ cond b (pairs_on card) []
 flat_one true card = append-nil (pairs_on card)
 flat_one false card = refl
 
 pub used_push : (cards : List Fields) (card : Fields) →
-    used_pairs (cards ++ card ∷ []) ≡ used_pairs cards ++ cond (is_used (first_set cards) (set_on card)) (pairs_on card) []
+    used_pairs (cards ++ card ∷ [])
+    ≡ used_pairs cards ++ cond (is_used (first_set cards) (set_on card)) (pairs_on card) []
 unfolding used_pairs
 used_push [] card =
-    ap (λ b. flat_map pairs_on (cond b (card ∷ []) [])) (same_as (set_on card) (set_on card) ∙ same_set_itself (set_on card)) ∙ append-nil (pairs_on card)
+    ap (λ b. flat_map pairs_on (cond b (card ∷ []) []))
+    (same_as (set_on card) (set_on card) ∙ same_set_itself (set_on card)) ∙ append-nil (pairs_on card)
 used_push (first ∷ cards) card =
-    ap (flat_map pairs_on) (filter-append (λ other. is_same_set (set_on first) (set_on other)) (first ∷ cards) (card ∷ []))
-    ∙ flat_append (filter (λ other. is_same_set (set_on first) (set_on other)) (first ∷ cards)) (cond (is_same_set (set_on first) (set_on card)) (card ∷ []) [])
+    ap (flat_map pairs_on)
+    (filter-append (λ other. is_same_set (set_on first) (set_on other)) (first ∷ cards) (card ∷ []))
+    ∙ flat_append (filter (λ other. is_same_set (set_on first) (set_on other)) (first ∷ cards))
+    (cond (is_same_set (set_on first) (set_on card)) (card ∷ []) [])
     ∙ ap (λ more. used_pairs (first ∷ cards) ++ more) (flat_one (is_same_set (set_on first) (set_on card)) card)
     ∙ ap (λ b. used_pairs (first ∷ cards) ++ cond b (pairs_on card) []) (same_as (set_on first) (set_on card))
 
@@ -161,13 +179,16 @@ pub record IsDuring (cards : List Fields) (s : State) : Type 0 where
   pub unpaired : (name : Name) (t : Target) → place_in (row_view s) name ≡ Some (Kept t) → is_among t s.paired ≡ false →
       texts_for name (used_pairs cards) ≡ []
 
-pub record Says (V : Type 0) (value_of : State → Target → V) (IsNumber : List (List ℕ) → V → Type 0) (part : Section) (seen_of : Seen → Bool) (cards : List Fields) (s : State) : Type 0 where
+pub record Says (V : Type 0) (value_of : State → Target → V) (IsNumber : List (List ℕ) → V → Type 0)
+    (part : Section) (seen_of : Seen → Bool) (cards : List Fields) (s : State) : Type 0 where
   pub none : seen_of s.seen ≡ false → (cards ≡ []) × ((t : Target) → IsNumber [] (value_of s t))
   pub numbers : (name : Name) (t : Target) → place_in (row_view s) name ≡ Some (Kept t) →
       IsNumber (texts_for name (used_pairs cards)) (value_of s t)
   pub during : is_section s.part part ≡ true → IsDuring cards s
 
-module _ {V : Type 0} (value_of : State → Target → V) (IsNumber : List (List ℕ) → V → Type 0) (part : Section) (seen_of : Seen → Bool) (cards : List Fields) (s t : State) (k : Says V value_of IsNumber part seen_of cards s) where
+module _ {V : Type 0} (value_of : State → Target → V) (IsNumber : List (List ℕ) → V → Type 0)
+    (part : Section) (seen_of : Seen → Bool) (cards : List Fields)
+    (s t : State) (k : Says V value_of IsNumber part seen_of cards s) where
   -- where neither the rows nor the values change
   pub says_same : seen_of t.seen ≡ seen_of s.seen → row_view t ≡ row_view s →
       ((x : Target) → value_of t x ≡ value_of s x) → is_section t.part part ≡ false →
@@ -176,7 +197,8 @@ module _ {V : Type 0} (value_of : State → Target → V) (IsNumber : List (List
       record {
         none = λ h. let n = k.none (sym seen ∙ h) in (n.0, λ x. subst (IsNumber []) (sym (value x)) (n.1 x));
         numbers =
-            λ name x h. subst (IsNumber (texts_for name (used_pairs cards))) (sym (value x)) (k.numbers name x (ap (λ v. place_in v name) (sym view) ∙ h));
+            λ name x h. subst (IsNumber (texts_for name (used_pairs cards)))
+            (sym (value x)) (k.numbers name x (ap (λ v. place_in v name) (sym view) ∙ h));
         during = λ h. not_both (is_section t.part part) h away;
       }
 
@@ -189,7 +211,9 @@ module _ {V : Type 0} (value_of : State → Target → V) (IsNumber : List (List
       record {
         none = λ h. (n.0, value);
         numbers =
-            λ name x h. subst (λ texts. IsNumber texts (value_of t x)) (sym (ap (λ c. texts_for name (used_pairs c)) n.0 ∙ ap (texts_for name) used_none ∙ texts_none name)) (value x);
+            λ name x h. subst (λ texts. IsNumber texts (value_of t x))
+            (sym (ap (λ c. texts_for name (used_pairs c)) n.0 ∙ ap (texts_for name) used_none ∙ texts_none name))
+            (value x);
         during = λ h. not_both (is_section t.part part) h away;
       }
 
@@ -198,7 +222,8 @@ module _ {V : Type 0} (value_of : State → Target → V) (IsNumber : List (List
       ((x : Target) → value_of t x ≡ value_of s x) → t.set ≡ None → Says V value_of IsNumber part seen_of cards t
   says_begun new seen view value set =
       let n = k.none new in
-      let nothing = λ (name : Name). ap (λ c. texts_for name (used_pairs c)) n.0 ∙ ap (texts_for name) used_none ∙ texts_none name in
+      let nothing =
+      λ (name : Name). ap (λ c. texts_for name (used_pairs c)) n.0 ∙ ap (texts_for name) used_none ∙ texts_none name in
       record {
         none = λ h. not_both (seen_of t.seen) seen h;
         numbers = λ name x h. subst₂ IsNumber (sym (nothing name)) (sym (value x)) (n.1 x);
@@ -210,28 +235,37 @@ module _ {V : Type 0} (value_of : State → Target → V) (IsNumber : List (List
       t.set ≡ Some (set_on card) → Tells V value_of IsNumber (row_view s) (used_pairs cards ++ pairs_on card) t →
       Says V value_of IsNumber part seen_of (cards ++ card ∷ []) t
   says_used card seen used set tells =
-      let pairs : used_pairs (cards ++ card ∷ []) ≡ used_pairs cards ++ pairs_on card = used_push cards card ∙ ap (λ b. used_pairs cards ++ cond b (pairs_on card) []) used in
+      let pairs : used_pairs (cards ++ card ∷ []) ≡ used_pairs cards ++ pairs_on card =
+      used_push cards card ∙ ap (λ b. used_pairs cards ++ cond b (pairs_on card) []) used in
       record {
         none = λ h. not_both (seen_of t.seen) seen h;
         numbers =
-            λ name x h. subst (λ ps. IsNumber (texts_for name ps) (value_of t x)) (sym pairs) (tells.numbers name x (ap (λ v. place_in v name) (sym tells.view_is) ∙ h));
+            λ name x h. subst (λ ps. IsNumber (texts_for name ps) (value_of t x)) (sym pairs)
+            (tells.numbers name x (ap (λ v. place_in v name) (sym tells.view_is) ∙ h));
         during = λ h. record {
           set = set ∙ sym (first_used cards card used);
           unpaired =
-              λ name x g free. ap (texts_for name) pairs ∙ tells.unpaired name x (ap (λ v. place_in v name) (sym tells.view_is) ∙ g) free;
+              λ name x g free. ap (texts_for name) pairs
+              ∙ tells.unpaired name x (ap (λ v. place_in v name) (sym tells.view_is) ∙ g) free;
         };
       }
 
 -- a card of another set
-pub says_skipped : {V : Type 0} (value_of : State → Target → V) (IsNumber : List (List ℕ) → V → Type 0) (part : Section) (seen_of : Seen → Bool) (cards : List Fields) (s : State) (card : Fields) →
+pub says_skipped : {V : Type 0} (value_of : State → Target → V) (IsNumber : List (List ℕ) → V → Type 0)
+    (part : Section) (seen_of : Seen → Bool) (cards : List Fields) (s : State) (card : Fields) →
     seen_of s.seen ≡ true → is_section s.part part ≡ true → is_used (first_set cards) (set_on card) ≡ false →
     Says V value_of IsNumber part seen_of cards s → Says V value_of IsNumber part seen_of (cards ++ card ∷ []) s
 says_skipped {V} value_of IsNumber part seen_of cards s card seen here skipped k =
-    let pairs : used_pairs (cards ++ card ∷ []) ≡ used_pairs cards = used_push cards card ∙ ap (λ b. used_pairs cards ++ cond b (pairs_on card) []) skipped ∙ append-nil (used_pairs cards) in
+    let pairs : used_pairs (cards ++ card ∷ []) ≡ used_pairs cards =
+    used_push cards card ∙ ap (λ b. used_pairs cards ++ cond b (pairs_on card) []) skipped
+    ∙ append-nil (used_pairs cards) in
     let d = k.during here in
     record {
       none = λ h. not_both (seen_of s.seen) seen h;
       numbers = λ name x h. subst (λ ps. IsNumber (texts_for name ps) (value_of s x)) (sym pairs) (k.numbers name x h);
       during =
-          λ h. record { set = d.set ∙ sym (first_skipped cards card skipped); unpaired = λ name x g free. ap (texts_for name) pairs ∙ d.unpaired name x g free };
+          λ h. record {
+            set = d.set ∙ sym (first_skipped cards card skipped);
+            unpaired = λ name x g free. ap (texts_for name) pairs ∙ d.unpaired name x g free;
+          };
     }

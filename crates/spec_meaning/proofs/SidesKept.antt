@@ -1,5 +1,7 @@
 -- The right sides of rows, and the offset, are what RHS says.
-use Rattle.std.proofs.Common.{◌≡◌, ℕ, zero, suc, ◌<◌, Bool, true, false, not, cond, eqb, eq-eqb, ◌≢◌, Option, Some, None, is_none, Ok, List, [], ◌∷◌, ◌++◌, length, map, refl, sym, ap, ◌∙◌, subst, get_or, arith, append_assoc, append-nil}
+use Rattle.std.proofs.Common.{◌≡◌, ℕ, zero, suc, ◌<◌, Bool, true, false, not, cond, eqb, eq-eqb}
+use Rattle.std.proofs.Common.{◌≢◌, Option, Some, None, is_none, Ok, List, [], ◌∷◌, ◌++◌, length, map}
+use Rattle.std.proofs.Common.{refl, sym, ap, ◌∙◌, subst, get_or, arith, append_assoc, append-nil}
 use Rattle.std.proofs.Math.ListN.{get_or-map}
 use Rattle.spec_exact.specs.Fraction.{ℚ, 0ℚ, neg_ℚ}
 use Rattle.spec_exact.proofs.Ruleset.{neg-neg, neg-zero}
@@ -25,11 +27,13 @@ use Rattle.spec_mps.proofs.CheckSteps.{step_ok, must_ok, same_ok}
 use Rattle.spec_meaning.specs.NumberCards.{Pairs, IsTheNumber, texts_for, side_of, set_on, pairs_on, used_pairs}
 use Rattle.spec_meaning.specs.TextCards.{Lines, cards_in}
 use Rattle.spec_meaning.proofs.Frames as frames
-use Rattle.spec_meaning.proofs.Frames.{Leads, card_leads, without_side, without_range, changed_unseen, SetDid, Used, Skipped, rhs_did, rows_did, side_pairs_keep}
+use Rattle.spec_meaning.proofs.Frames.{Leads, card_leads, without_side, without_range, changed_unseen}
+use Rattle.spec_meaning.proofs.Frames.{SetDid, Used, Skipped, rhs_did, rows_did, side_pairs_keep}
 use Rattle.spec_meaning.proofs.SoFar.{is_section, SoFar, with_card}
 use Rattle.spec_meaning.proofs.Order.{IsOrdered}
 use Rattle.spec_meaning.proofs.Runs.{IsKept, both_kept, spelled_by, stays, headed_leads}
-use Rattle.spec_meaning.proofs.RowViews.{RowView, labels, many_labels, row_view, rows_stay, rows_stay_headed, place_in, place_by_view, place_name, objective_place}
+use Rattle.spec_meaning.proofs.RowViews.{RowView, labels, many_labels, row_view, rows_stay, rows_stay_headed}
+use Rattle.spec_meaning.proofs.RowViews.{place_in, place_by_view, place_name, objective_place}
 use Rattle.spec_meaning.proofs.PairsKept.{Put, PutNowhere, PutAt, put_set, Tells, tells_push, number_is}
 use Rattle.spec_meaning.proofs.SetsKept.{side_is, Says, says_same, says_before, says_begun, says_used, says_skipped}
 use Rattle.spec_meaning.proofs.RowsKept.{RowsSay, rows_kept, row_place}
@@ -85,12 +89,16 @@ side_put s name (Kept Objective) v t at h =
     elsewhere (Row i) ne = refl
 side_put s name (Kept (Row i)) v t at h =
     let a = must_ok (not (is_among (Row i) s.paired)) code.EntryRepeated _ t h in
-    let view = ap (λ rows. (let w : RowView = record { objective = s.objective; dropped = s.dropped; rows = rows } in w)) (changed_unseen (λ (r : ExactRow). (r.kind, r.name)) (λ r. record r { rhs = v }) i s.rows (λ r. refl)) in
+    let view =
+    ap (λ rows. (let w : RowView = record { objective = s.objective; dropped = s.dropped; rows = rows } in w))
+    (changed_unseen (λ (r : ExactRow). (r.kind, r.name)) (λ r. record r { rhs = v }) i s.rows (λ r. refl)) in
     subst (Put ℚ side_at s (Kept (Row i)) v) (same_ok _ t a.1)
-    (PutAt (Row i) refl (negated _ a.0) refl refl view (changed_here s.rows i v (row_inside s name i at)) (λ x ne. elsewhere x ne))
+    (PutAt (Row i) refl (negated _ a.0) refl refl view
+    (changed_here s.rows i v (row_inside s name i at)) (λ x ne. elsewhere x ne))
   where
     elsewhere : (x : Target) → same_target x (Row i) ≡ false →
-        side_at (record s { rows = changed_at i (λ r. record r { rhs = v }) s.rows; paired = Row i ∷ s.paired }) x ≡ side_at s x
+        side_at (record s { rows = changed_at i (λ r. record r { rhs = v }) s.rows; paired = Row i ∷ s.paired }) x
+        ≡ side_at s x
     elsewhere Objective ne = refl
     elsewhere (Row j) ne =
         ap (λ (r : ExactRow). r.rhs) (changed_there (λ r. record r { rhs = v }) s.rows i j (apart j i ne))
@@ -101,15 +109,18 @@ record Reads (view : RowView) (old : Pairs) (set : Option Name) (done : Pairs) (
   tells : Tells ℚ side_at IsTheNumber view (old ++ done) u
   set_is : u.set ≡ Some set
 
-one_pair : (view : RowView) (old : Pairs) (set : Option Name) (done : Pairs) (s : State) (pair : List ℕ × List ℕ) (place : Place) (v : ℚ) (t : State) →
+one_pair : (view : RowView) (old : Pairs) (set : Option Name) (done : Pairs)
+    (s : State) (pair : List ℕ × List ℕ) (place : Place) (v : ℚ) (t : State) →
     frames.Pairs s pair place v → put_side s place v ≡ Ok t → Reads view old set done s →
     Reads view old set (done ++ pair ∷ []) t
 one_pair view old set done s pair place v t p h k =
     let put = side_put s pair.0 place v t p.place_is h in
-    let at : place_in view pair.0 ≡ Some place = ap (λ w. place_in w pair.0) (sym k.tells.view_is) ∙ sym (place_by_view s pair.0) ∙ p.place_is in
+    let at : place_in view pair.0 ≡ Some place =
+    ap (λ w. place_in w pair.0) (sym k.tells.view_is) ∙ sym (place_by_view s pair.0) ∙ p.place_is in
     record {
       tells =
-          subst (λ ps. Tells ℚ side_at IsTheNumber view ps t) (append_assoc old done (pair ∷ [])) (tells_push view (old ++ done) s t pair place v at (number_is pair.1 v p.number_is) k.tells put);
+          subst (λ ps. Tells ℚ side_at IsTheNumber view ps t) (append_assoc old done (pair ∷ []))
+          (tells_push view (old ++ done) s t pair place v at (number_is pair.1 v p.number_is) k.tells put);
       set_is = put_set ℚ side_at s place v t put ∙ k.set_is;
     }
 
@@ -119,11 +130,17 @@ used_card : (cards : List Fields) (card : Fields) (s t : State) → seen_sides t
     SidesSay (cards ++ card ∷ []) t
 used_card cards card s t seen here used did k =
     let d = k.during here in
-    let first : Tells ℚ side_at IsTheNumber (row_view s) (used_pairs cards ++ []) (record s { set = Some (set_on card) }) =
-    subst (λ ps. Tells ℚ side_at IsTheNumber (row_view s) ps (record s { set = Some (set_on card) })) (sym (append-nil (used_pairs cards)))
+    let first : Tells ℚ side_at IsTheNumber (row_view s)
+    (used_pairs cards ++ []) (record s { set = Some (set_on card) }) =
+    subst (λ ps. Tells ℚ side_at IsTheNumber (row_view s) ps (record s { set = Some (set_on card) }))
+    (sym (append-nil (used_pairs cards)))
     (record { view_is = refl; numbers = k.numbers; unpaired = d.unpaired }) in
-    let r = side_pairs_keep (Reads (row_view s) (used_pairs cards) (set_on card)) (one_pair (row_view s) (used_pairs cards) (set_on card)) (pairs_on card) [] (record s { set = Some (set_on card) }) t did (record { tells = first; set_is = refl }) in
-    says_used side_at IsTheNumber section.RightSides seen_sides cards s t k card seen (ap (λ o. is_used o (set_on card)) (sym d.set) ∙ used) r.set_is r.tells
+    let r =
+    side_pairs_keep (Reads (row_view s) (used_pairs cards) (set_on card))
+    (one_pair (row_view s) (used_pairs cards) (set_on card)) (pairs_on card) []
+    (record s { set = Some (set_on card) }) t did (record { tells = first; set_is = refl }) in
+    says_used side_at IsTheNumber section.RightSides seen_sides cards s t k card seen
+    (ap (λ o. is_used o (set_on card)) (sym d.set) ∙ used) r.set_is r.tells
 
 rhs_says : (style : Style) (cards : List Fields) (card : Fields) (s t : State) → s.seen.right_sides ≡ true →
     is_section s.part section.RightSides ≡ true → t.seen ≡ s.seen → SetDid s (side_of (texts_of card)) side_pairs t →
@@ -132,7 +149,8 @@ rhs_says style cards card s t seen here same_seen (Used used did) k =
     used_card cards card s t (ap seen_sides same_seen ∙ seen) here used did k
 rhs_says style cards card s t seen here same_seen (Skipped other same) k =
     subst (SidesSay (cards ++ card ∷ [])) same
-    (says_skipped side_at IsTheNumber section.RightSides seen_sides cards s card seen here (ap (λ o. is_used o (set_on card)) (sym (k.during here).set) ∙ other) k)
+    (says_skipped side_at IsTheNumber section.RightSides seen_sides cards s card seen here
+    (ap (λ o. is_used o (set_on card)) (sym (k.during here).set) ∙ other) k)
 
 sides_read : (style : Style) (s : State) (card : Fields) (t : State) → rhs_card style s card ≡ Ok t →
     side_of (texts_of card) ≡ set_and_pairs (texts_of card)
@@ -192,10 +210,12 @@ sides_at_card : (style : Style) (c : SoFar) (s t : State) (part : Section) (card
 sides_at_card style c s t section.RightSides card o here h k =
     let at : is_section s.part section.RightSides ≡ true = ap (λ p. is_section p section.RightSides) here in
     let seen = (stays section.RightSides s t (card_leads style section.RightSides s card t h)).1 in
-    rhs_says style c.right_sides card s t (o.told.right_sides at) at seen (subst (λ x. SetDid s x side_pairs t) (sym (sides_read style s card t h)) (rhs_did style s card t h)) k
+    rhs_says style c.right_sides card s t (o.told.right_sides at) at seen
+    (subst (λ x. SetDid s x side_pairs t) (sym (sides_read style s card t h)) (rhs_did style s card t h)) k
 sides_at_card style c s t section.Rows card o here h k =
     let st = stays section.Rows s t (card_leads style section.Rows s card t h) in
-    let new : s.seen.right_sides ≡ false = (o.ends_later (o.at_rows (ap (λ p. is_section p section.Rows) here))).right_sides in
+    let new : s.seen.right_sides ≡ false =
+    (o.ends_later (o.at_rows (ap (λ p. is_section p section.Rows) here))).right_sides in
     let d = rows_did style s card t h in
     says_before side_at IsTheNumber section.RightSides seen_sides c.right_sides s t k new (ap seen_sides st.1)
     (subst (λ u. (x : Target) → side_at u x ≡ 0ℚ) d.new (with_row_sides s d.type (text_at 2 card) (k.none new).1))
@@ -203,7 +223,9 @@ sides_at_card style c s t section.Rows card o here h k =
 sides_at_card style c s t part card o here h k =
     let leads = card_leads style part s card t h in
     let st = stays part s t leads in
-    says_same side_at IsTheNumber section.RightSides seen_sides c.right_sides s t k (ap seen_sides st.1) (rows_stay part s t refl leads) (sides_stay part s t refl refl leads) (ap (λ p. is_section p section.RightSides) (st.0 ∙ here))
+    says_same side_at IsTheNumber section.RightSides seen_sides c.right_sides s t k
+    (ap seen_sides st.1) (rows_stay part s t refl leads) (sides_stay part s t refl refl leads)
+    (ap (λ p. is_section p section.RightSides) (st.0 ∙ here))
 
 -- ---- sections that begin
 
@@ -218,10 +240,14 @@ sides_at_heading : (cards : List Fields) (s t : State) (part : Section) (word : 
     has_begun s.seen part ≡ false → headed (begun s part) part word ≡ Ok t → SidesSay cards s → SidesSay cards t
 sides_at_heading cards s t section.RightSides word new h k =
     let u = headed_leads (begun s section.RightSides) section.RightSides word t h in
-    says_begun side_at IsTheNumber section.RightSides seen_sides cards s t k new (ap (λ (x : State). x.seen.right_sides) u) (rows_stay_headed s section.RightSides word t h) (sides_stay_headed s section.RightSides word t h) (ap (λ (x : State). x.set) u)
+    says_begun side_at IsTheNumber section.RightSides seen_sides cards s t k new
+    (ap (λ (x : State). x.seen.right_sides) u) (rows_stay_headed s section.RightSides word t h)
+    (sides_stay_headed s section.RightSides word t h) (ap (λ (x : State). x.set) u)
 sides_at_heading cards s t part word new h k =
     let u = headed_leads (begun s part) part word t h in
-    says_same side_at IsTheNumber section.RightSides seen_sides cards s t k (ap (λ (x : State). x.seen.right_sides) u) (rows_stay_headed s part word t h) (sides_stay_headed s part word t h) (ap (λ (x : State). is_section x.part section.RightSides) u)
+    says_same side_at IsTheNumber section.RightSides seen_sides cards s t k
+    (ap (λ (x : State). x.seen.right_sides) u) (rows_stay_headed s part word t h)
+    (sides_stay_headed s part word t h) (ap (λ (x : State). is_section x.part section.RightSides) u)
 
 no_sides : (x : Target) → side_at start x ≡ 0ℚ
 no_sides Objective = neg-zero
@@ -251,14 +277,17 @@ sides_kept style =
 -- with the names of rows
 rows_and_sides : (style : Style) → IsKept style (λ c s. RowsSay c.rows (row_view s) × SidesSay c.right_sides s)
 rows_and_sides style =
-    both_kept style (λ c s. RowsSay c.rows (row_view s)) (λ c s. SidesSay c.right_sides s) (rows_kept style) (sides_kept style)
+    both_kept style (λ c s. RowsSay c.rows (row_view s))
+    (λ c s. SidesSay c.right_sides s) (rows_kept style) (sides_kept style)
 
 pub right_side_said : (style : Style) (lines : Lines) (m : Model) → Spells style lines m → (i : ℕ) → i < height m →
     IsTheNumber (texts_for (row m i).name (used_pairs (cards_in style section.RightSides lines))) (row m i).rhs
 unfolding model_by
 right_side_said style lines m h =
     let e = spelled_by style _ (rows_and_sides style) lines m h in
-    subst (λ (m : Model). (i : ℕ) → i < height m → IsTheNumber (texts_for (row m i).name (used_pairs (cards_in style section.RightSides lines))) (row m i).rhs) e.model_is
+    subst (λ (m : Model). (i : ℕ) → i < height m →
+    IsTheNumber (texts_for (row m i).name (used_pairs (cards_in style section.RightSides lines))) (row m i).rhs)
+    e.model_is
     (λ i l. e.holds.1.numbers (get_or e.last.rows i no_row).name (Row i) (row_place e.last i e.holds.0.placed l))
 
 pub offset_said : (style : Style) (lines : Lines) (m : Model) → Spells style lines m →
@@ -266,5 +295,6 @@ pub offset_said : (style : Style) (lines : Lines) (m : Model) → Spells style l
 unfolding model_by
 offset_said style lines m h =
     let e = spelled_by style _ (rows_and_sides style) lines m h in
-    subst (λ (m : Model). IsTheNumber (texts_for m.objective (used_pairs (cards_in style section.RightSides lines))) (neg_ℚ m.offset)) e.model_is
+    subst (λ (m : Model). IsTheNumber (texts_for m.objective (used_pairs (cards_in style section.RightSides lines)))
+    (neg_ℚ m.offset)) e.model_is
     (e.holds.1.numbers e.objective Objective (objective_place (row_view e.last) e.objective e.objective_is))

@@ -1,5 +1,7 @@
 -- The cards of a text so far, and those that are still to come.
-use Rattle.std.proofs.Common.{◌≡◌, ℕ, ◌+◌, Bool, true, false, not, ◌&&◌, cond, eqb, eqb→eq, Option, Some, None, option_map, List, [], ◌∷◌, ◌++◌, map, take, drop, refl, sym, ap, ◌∙◌, subst, append_assoc, add-one, add_comm, T}
+use Rattle.std.proofs.Common.{◌≡◌, ℕ, ◌+◌, Bool, true, false, not, ◌&&◌, cond, eqb, eqb→eq}
+use Rattle.std.proofs.Common.{Option, Some, None, option_map, List, [], ◌∷◌, ◌++◌, map, take, drop}
+use Rattle.std.proofs.Common.{refl, sym, ap, ◌∙◌, subst, append_assoc, add-one, add_comm, T}
 use Rattle.std.specs.List.{filter, find, before_first, after_first, position_or_len}
 use Rattle.spec_text.specs.Words.{same}
 use Rattle.spec_text.specs.declared.line.Line.{Line}
@@ -88,7 +90,16 @@ pub record SoFar : Type 0 where
 
 abbrev pub nothing : SoFar
 nothing =
-    record { name_title = None; sense_title = None; senses = []; rows = []; columns = []; right_sides = []; ranges = []; bounds = [] }
+    record {
+      name_title = None;
+      sense_title = None;
+      senses = [];
+      rows = [];
+      columns = [];
+      right_sides = [];
+      ranges = [];
+      bounds = [];
+    }
 
 abbrev pub pushed : Bool → List Fields → Fields → List Fields
 pushed true cards fields = cards ++ fields ∷ []
@@ -168,7 +179,10 @@ plain : (l : Line (List ℕ)) (s b : Bool) → is_skipped (bytes_of l) ≡ s →
     not s && not b ≡ false → IsPlain l
 plain l s b e f h =
     let g : is_heading l ≡ false = (λ i. not (e i) && not (f i)) ∙ h in
-    record { heading = g; begins_none = λ part. ap (λ t. t && same (text_at 1 (word_fields (bytes_of l))) (section_word part)) g }
+    record {
+      heading = g;
+      begins_none = λ part. ap (λ t. t && same (text_at 1 (word_fields (bytes_of l))) (section_word part)) g;
+    }
 
 pub skipped_plain : (l : Line (List ℕ)) → is_skipped (bytes_of l) ≡ true → IsPlain l
 skipped_plain l h = plain l true (begins_with_blank (bytes_of l)) h refl refl
@@ -182,9 +196,12 @@ on_line style part l counts cards = cond counts (fields_in style part (bytes_of 
 
 -- where its section is here, it counts unless it is skipped
 cards_plain : (style : Style) (part : Section) (at seen : Bool) (l : Line (List ℕ)) (lines : Lines) → IsPlain l →
-    cards_of style part (lines_by at seen part (before (begins section.End) (l ∷ lines))) ≡ on_line style part l (at && not (is_skipped (bytes_of l))) (cards_of style part (lines_by at seen part (before (begins section.End) lines)))
+    cards_of style part (lines_by at seen part (before (begins section.End) (l ∷ lines)))
+    ≡ on_line style part l (at && not (is_skipped (bytes_of l)))
+    (cards_of style part (lines_by at seen part (before (begins section.End) lines)))
 cards_plain style part true seen l lines p =
-    ap (λ b. cards_of style part (before is_heading (cond b [] (l ∷ before (begins section.End) lines)))) (p.begins_none section.End)
+    ap (λ b. cards_of style part (before is_heading (cond b [] (l ∷ before (begins section.End) lines))))
+    (p.begins_none section.End)
     ∙ ap (λ b. cards_of style part (cond b [] (l ∷ before is_heading (before (begins section.End) lines)))) p.heading
     ∙ go (not (is_skipped (bytes_of l)))
   where
@@ -192,47 +209,62 @@ cards_plain style part true seen l lines p =
     rest = filter (λ l. not (is_skipped (bytes_of l))) (before is_heading (before (begins section.End) lines))
 
     go : (b : Bool) →
-        map (λ l. fields_in style part (bytes_of l)) (cond b (l ∷ rest) rest) ≡ on_line style part l b (map (λ l. fields_in style part (bytes_of l)) rest)
+        map (λ l. fields_in style part (bytes_of l)) (cond b (l ∷ rest) rest)
+        ≡ on_line style part l b (map (λ l. fields_in style part (bytes_of l)) rest)
     go true = refl
     go false = refl
 cards_plain style part false true l lines p = refl
 cards_plain style part false false l lines p =
-    ap (λ b. cards_of style part (before is_heading (behind (begins part) (cond b [] (l ∷ before (begins section.End) lines))))) (p.begins_none section.End)
-    ∙ ap (λ b. cards_of style part (before is_heading (cond b (before (begins section.End) lines) (behind (begins part) (before (begins section.End) lines))))) (p.begins_none part)
+    ap (λ b. cards_of style part
+    (before is_heading (behind (begins part) (cond b [] (l ∷ before (begins section.End) lines)))))
+    (p.begins_none section.End)
+    ∙ ap (λ b. cards_of style part (before is_heading
+    (cond b (before (begins section.End) lines) (behind (begins part) (before (begins section.End) lines)))))
+    (p.begins_none part)
 
 pub title_plain : (seen : Bool) (part : Section) (l : Line (List ℕ)) (lines : Lines) → IsPlain l →
     title_to_come seen part (l ∷ lines) ≡ title_to_come seen part lines
 unfolding title_to_come
 title_plain true part l lines p = refl
 title_plain false part l lines p =
-    ap (λ b. option_map (λ l. word_fields (bytes_of l)) (find (begins part) (cond b [] (l ∷ before (begins section.End) lines)))) (p.begins_none section.End)
-    ∙ ap (λ b. option_map (λ l. word_fields (bytes_of l)) (cond b (Some l) (find (begins part) (before (begins section.End) lines)))) (p.begins_none part)
+    ap (λ b. option_map (λ l. word_fields (bytes_of l))
+    (find (begins part) (cond b [] (l ∷ before (begins section.End) lines)))) (p.begins_none section.End)
+    ∙ ap (λ b. option_map (λ l. word_fields (bytes_of l))
+    (cond b (Some l) (find (begins part) (before (begins section.End) lines)))) (p.begins_none part)
 
-pub cards_skip : (style : Style) (here : Option Section) (seen : Bool) (part : Section) (l : Line (List ℕ)) (lines : Lines) →
+pub cards_skip : (style : Style) (here : Option Section) (seen : Bool)
+    (part : Section) (l : Line (List ℕ)) (lines : Lines) →
     is_skipped (bytes_of l) ≡ true →
     cards_to_come style here seen part (l ∷ lines) ≡ cards_to_come style here seen part lines
 unfolding cards_to_come
 cards_skip style here seen part l lines h =
     cards_plain style part (is_section here part) seen l lines (skipped_plain l h)
-    ∙ ap (λ b. on_line style part l b (cards_of style part (lines_by (is_section here part) seen part (before (begins section.End) lines)))) (none (is_section here part) (is_skipped (bytes_of l)) h)
+    ∙ ap (λ b. on_line style part l b
+    (cards_of style part (lines_by (is_section here part) seen part (before (begins section.End) lines))))
+    (none (is_section here part) (is_skipped (bytes_of l)) h)
   where
     none : (at skipped : Bool) → skipped ≡ true → at && not skipped ≡ false
     none true skipped e = ap not e
     none false skipped e = refl
 
-pub cards_data : (style : Style) (here : Section) (seen : Bool) (part : Section) (l : Line (List ℕ)) (lines : Lines) (cards : List Fields) →
+pub cards_data : (style : Style) (here : Section) (seen : Bool)
+    (part : Section) (l : Line (List ℕ)) (lines : Lines) (cards : List Fields) →
     is_skipped (bytes_of l) ≡ false → begins_with_blank (bytes_of l) ≡ true →
-    cards ++ cards_to_come style (Some here) seen part (l ∷ lines) ≡ pushed (is_section (Some here) part) cards (fields_in style here (bytes_of l)) ++ cards_to_come style (Some here) seen part lines
+    cards ++ cards_to_come style (Some here) seen part (l ∷ lines) ≡ pushed (is_section (Some here) part) cards
+    (fields_in style here (bytes_of l)) ++ cards_to_come style (Some here) seen part lines
 unfolding cards_to_come
 cards_data style here seen part l lines cards h b =
     ap (λ more. cards ++ more)
     (cards_plain style part (is_section (Some here) part) seen l lines (data_plain l h b)
-    ∙ ap (λ c. on_line style part l (is_section (Some here) part && not c) (cards_of style part (lines_by (is_section (Some here) part) seen part (before (begins section.End) lines)))) h)
-    ∙ go (is_section (Some here) part) (fields_same style here part (bytes_of l)) (cards_of style part (lines_by (is_section (Some here) part) seen part (before (begins section.End) lines)))
+    ∙ ap (λ c. on_line style part l (is_section (Some here) part && not c)
+    (cards_of style part (lines_by (is_section (Some here) part) seen part (before (begins section.End) lines)))) h)
+    ∙ go (is_section (Some here) part) (fields_same style here part (bytes_of l))
+    (cards_of style part (lines_by (is_section (Some here) part) seen part (before (begins section.End) lines)))
   where
     go : (at : Bool) → (at ≡ true → fields_in style here (bytes_of l) ≡ fields_in style part (bytes_of l)) →
         (more : List Fields) →
         cards ++ on_line style part l (at && true) more ≡ pushed at cards (fields_in style here (bytes_of l)) ++ more
     go true f more =
-        ap (λ fields. cards ++ fields ∷ more) (sym (f refl)) ∙ sym (append_assoc cards (fields_in style here (bytes_of l) ∷ []) more)
+        ap (λ fields. cards ++ fields ∷ more) (sym (f refl))
+        ∙ sym (append_assoc cards (fields_in style here (bytes_of l) ∷ []) more)
     go false f more = refl

@@ -1,5 +1,6 @@
 -- The name and the sense are what NAME and OBJSENSE say.
-use Rattle.std.proofs.Common.{cond, ◌≡◌, ℕ, Bool, true, false, Option, Some, None, is_none, is_some, Ok, List, [], ◌∷◌, ◌++◌, map, refl, sym, ap, ◌∙◌, subst, subst₂, append_assoc, codes, inl, inr}
+use Rattle.std.proofs.Common.{cond, ◌≡◌, ℕ, Bool, true, false, Option, Some, None, is_none, is_some, Ok, List, []}
+use Rattle.std.proofs.Common.{◌∷◌, ◌++◌, map, refl, sym, ap, ◌∙◌, subst, subst₂, append_assoc, codes, inl, inr}
 use Rattle.std.specs.List.{filter}
 use Rattle.std.proofs.lemmas.List.{map-append}
 use Rattle.spec_text.specs.Words.{same, has_bytes}
@@ -16,7 +17,8 @@ use Rattle.spec_mps.specs.declared.style.Style.{Style}
 use Rattle.spec_mps.specs.Fields.{Fields, text_at}
 use Rattle.spec_mps.specs.Shapes.{look_up, sense_of, shaped}
 use Rattle.spec_mps.specs.Reader.{State}
-use Rattle.spec_mps.specs.Steps.{take_sense, sense_card, has_begun, with_section, begun, sense_beside, headed, data_card, sense_or_min, model_by, Spells}
+use Rattle.spec_mps.specs.Steps.{take_sense, sense_card, has_begun, with_section, begun}
+use Rattle.spec_mps.specs.Steps.{sense_beside, headed, data_card, sense_or_min, model_by, Spells}
 use Rattle.spec_mps.proofs.Steps.{none_if}
 use Rattle.spec_mps.proofs.CheckSteps.{step_ok, must_ok, need_ok, same_ok, same_some}
 use Rattle.spec_meaning.specs.RowCards.{second_word, sense_words, IsSenseWord, IsSenseOf}
@@ -71,9 +73,11 @@ name_at_heading c s t section.Name words new h k =
     subst (λ o. NameSays (or_else o (Some words)) t.seen.name t.name) (sym (k.none new))
     (record { none = λ f. not_both t.seen.name seen f; name_is = named (begun s section.Name) (text_at 2 words) t h })
 name_at_heading c s t section.Sense words new h k =
-    name_same c.name_title s t (ap (λ (x : Seen). x.name) (seen_stays s section.Sense (text_at 2 words) t h)) (name_stays (begun s section.Sense) section.Sense (text_at 2 words) t refl h) k
+    name_same c.name_title s t (ap (λ (x : Seen). x.name) (seen_stays s section.Sense (text_at 2 words) t h))
+    (name_stays (begun s section.Sense) section.Sense (text_at 2 words) t refl h) k
 name_at_heading c s t part words new h k =
-    name_same c.name_title s t (ap (λ (x : Seen). x.name) (seen_stays s part (text_at 2 words) t h)) (name_stays (begun s part) part (text_at 2 words) t refl h) k
+    name_same c.name_title s t (ap (λ (x : Seen). x.name) (seen_stays s part (text_at 2 words) t h))
+    (name_stays (begun s part) part (text_at 2 words) t refl h) k
 
 card_keeps_name : (part : Section) (s t : State) → Leads part s t → t.name ≡ s.name
 card_keeps_name section.Name s t h = ap (λ (u : State). u.name) h
@@ -85,7 +89,9 @@ name_kept style =
       at_start = record { none = λ h. refl; name_is = refl };
       at_heading = λ c s t part words o new h k. name_at_heading c s t part words new h k;
       at_card =
-          λ c s t part card o here h k. let leads = card_leads style part s card t h in name_same c.name_title s t (ap (λ (x : Seen). x.name) (stays part s t leads).1) (card_keeps_name part s t leads) k;
+          λ c s t part card o here h k. let leads = card_leads style part s card t h in
+          name_same c.name_title s t (ap (λ (x : Seen). x.name) (stays part s t leads).1)
+          (card_keeps_name part s t leads) k;
     }
 
 pub name_said : (style : Style) (lines : Lines) (m : Model) → Spells style lines m →
@@ -138,7 +144,8 @@ unfolding sense_card
 sense_card_says style title cards s t card h k =
     let a = step_ok (shaped style section.Sense card) _ t h in
     let b = took_sense s (text_at 1 card) t a.2 in
-    subst (λ words. SenseIs words t.sense) (sym (words_push title cards card ∙ ap (λ words. words ++ text_at 1 card ∷ []) (unsaid (sense_words title cards) s.sense b.2 k)))
+    subst (λ words. SenseIs words t.sense) (sym (words_push title cards card
+    ∙ ap (λ words. words ++ text_at 1 card ∷ []) (unsaid (sense_words title cards) s.sense b.2 k)))
     (b.0, b.1, b.3)
 
 sense_same : (title : Option Fields) (cards : List Fields) (s t : State) → t.seen.sense ≡ s.seen.sense →
@@ -151,11 +158,17 @@ sense_at_card : (style : Style) (c : SoFar) (s t : State) (part : Section) (card
     SenseSays c.sense_title c.senses s.seen.sense s.sense →
     SenseSays (with_card part card c).sense_title (with_card part card c).senses t.seen.sense t.sense
 sense_at_card style c s t section.Sense card o here h k =
-    let seen : t.seen.sense ≡ true = ap (λ (x : Seen). x.sense) (stays section.Sense s t (card_leads style section.Sense s card t h)).1 ∙ o.told.senses (ap (λ p. is_section p section.Sense) here) in
-    record { none = λ f. not_both t.seen.sense seen f; sense_is = sense_card_says style c.sense_title c.senses s t card h k.sense_is }
+    let seen : t.seen.sense ≡ true =
+    ap (λ (x : Seen). x.sense) (stays section.Sense s t (card_leads style section.Sense s card t h)).1
+    ∙ o.told.senses (ap (λ p. is_section p section.Sense) here) in
+    record {
+      none = λ f. not_both t.seen.sense seen f;
+      sense_is = sense_card_says style c.sense_title c.senses s t card h k.sense_is;
+    }
 sense_at_card style c s t part card o here h k =
     let leads = card_leads style part s card t h in
-    sense_same c.sense_title c.senses s t (ap (λ (x : Seen). x.sense) (stays part s t leads).1) (ap (λ (u : State). u.sense) leads) k
+    sense_same c.sense_title c.senses s t
+    (ap (λ (x : Seen). x.sense) (stays part s t leads).1) (ap (λ (u : State). u.sense) leads) k
 
 sense_stays : (s : State) (part : Section) (word : List ℕ) (t : State) → is_section (Some part) section.Sense ≡ false →
     headed s part word ≡ Ok t → t.sense ≡ s.sense
@@ -170,7 +183,8 @@ sense_beside_says : (s t : State) (words : Fields) (word : List ℕ) → word �
     sense_beside s word ≡ Ok t → s.sense ≡ None → SenseIs (sense_words (Some words) []) t.sense
 unfolding sense_words
 sense_beside_says s t words [] e h none =
-    subst (λ word. SenseIs (filter has_bytes (word ∷ []) ++ []) t.sense) e (sym (ap (λ (u : State). u.sense) (same_ok s t h)) ∙ none)
+    subst (λ word. SenseIs (filter has_bytes (word ∷ []) ++ []) t.sense) e
+    (sym (ap (λ (u : State). u.sense) (same_ok s t h)) ∙ none)
 sense_beside_says s t words (b ∷ bs) e h none =
     let a = took_sense s (b ∷ bs) t h in
     subst (λ word. SenseIs (filter has_bytes (word ∷ []) ++ []) t.sense) e (a.0, a.1, a.3)
@@ -185,11 +199,17 @@ sense_at_heading : (c : SoFar) (s t : State) (part : Section) (words : Fields) �
 sense_at_heading c s t section.Sense words new h k =
     let seen : t.seen.sense ≡ true = ap (λ (x : Seen). x.sense) (seen_stays s section.Sense (text_at 2 words) t h) in
     let before = k.none new in
-    let none : s.sense ≡ None = none_said s.sense (subst₂ (λ title cards. SenseIs (sense_words title cards) s.sense) before.0 before.1 k.sense_is) in
+    let none : s.sense ≡ None =
+    none_said s.sense
+    (subst₂ (λ title cards. SenseIs (sense_words title cards) s.sense) before.0 before.1 k.sense_is) in
     subst₂ (λ o cards. SenseSays (or_else o (Some words)) cards t.seen.sense t.sense) (sym before.0) (sym before.1)
-    (record { none = λ f. not_both t.seen.sense seen f; sense_is = sense_beside_says (begun s section.Sense) t words (text_at 2 words) refl h none })
+    (record {
+      none = λ f. not_both t.seen.sense seen f;
+      sense_is = sense_beside_says (begun s section.Sense) t words (text_at 2 words) refl h none;
+    })
 sense_at_heading c s t part words new h k =
-    sense_same c.sense_title c.senses s t (ap (λ (x : Seen). x.sense) (seen_stays s part (text_at 2 words) t h)) (sense_stays (begun s part) part (text_at 2 words) t refl h) k
+    sense_same c.sense_title c.senses s t (ap (λ (x : Seen). x.sense) (seen_stays s part (text_at 2 words) t h))
+    (sense_stays (begun s part) part (text_at 2 words) t refl h) k
 
 nothing_said : SenseIs (sense_words None []) None
 unfolding sense_words
