@@ -1,5 +1,6 @@
 -- A certificate that is put to a model has a number for each row and column.
-use Rattle.std.proofs.Common.{◌≡◌, ℕ, ◌<◌, Bool, true, false, cond, ltb, Option, Some, None, Ok, Err, List, [], ◌∷◌, ◌++◌, refl, ◌∙◌, subst}
+use Rattle.std.proofs.Common.{◌≡◌, ℕ, ◌<◌, Bool, true, false, cond, ltb, Option, Some}
+use Rattle.std.proofs.Common.{None, Ok, Err, List, [], ◌∷◌, ◌++◌, refl, ◌∙◌, subst}
 use Rattle.std.specs.List.{prefix_len}
 use Rattle.std.specs.Prelude.{not}
 use Rattle.std.proofs.Math.ListN.{length-set, length-replicate}
@@ -16,7 +17,8 @@ use Rattle.spec_check.specs.declared.certificate.Certificate.TheVariants.{Optima
 use Rattle.spec_check.specs.declared.certificate.SettleFault.TheVariants.{Repeated}
 use Rattle.spec_check.specs.Certificate.{IsFor}
 use Rattle.spec_check.specs.Text.{ExactPart, ExactRaw, ExactKind}
-use Rattle.spec_check.specs.Settle.{Settled, ◌>>=◌, known, place_of, with_value, is_given, blank, put, put_all, certificate_for}
+use Rattle.spec_check.specs.Settle.{Settled, ◌>>=◌, known, place_of, with_value}
+use Rattle.spec_check.specs.Settle.{is_given, blank, put, put_all, certificate_for}
 
 -- what an answer came from
 after_ok : {A B : Type 0} (o : Settled A) (next : A → Settled B) (b : B) → (o >>= next) ≡ Ok b →
@@ -61,15 +63,20 @@ put_fits : (m : Model) (before : List ExactPart) (p : ExactPart) (cert next : Ce
     put m before p cert ≡ Ok next → IsFor m next
 unfolding put
 put_fits m before p cert next f e =
-    let a = after_ok (known (place_of m p.letter p.name) p.name) (λ k. cond (is_given p.letter p.name before) (Err (Repeated p.name)) (Ok (with_value p.letter k p.value cert))) next e in
+    let a =
+    after_ok (known (place_of m p.letter p.name) p.name)
+    (λ k. cond (is_given p.letter p.name before) (Err (Repeated p.name)) (Ok (with_value p.letter k p.value cert)))
+    next e in
     by (is_given p.letter p.name before) a.0 a.2
   where
     by : (t : Bool) (k : ℕ) →
-        ◌≡◌ {A = Settled (Certificate (List ℚ))} (cond t (Err (Repeated p.name)) (Ok (with_value p.letter k p.value cert))) (Ok next) →
+        ◌≡◌ {A = Settled (Certificate (List ℚ))}
+        (cond t (Err (Repeated p.name)) (Ok (with_value p.letter k p.value cert))) (Ok next) →
         IsFor m next
     by true k h = cc
     by false k h =
-        subst (IsFor m) (ok_same (with_value p.letter k p.value cert) next h) (with_value_fits m p.letter k p.value cert f)
+        subst (IsFor m) (ok_same (with_value p.letter k p.value cert) next h)
+        (with_value_fits m p.letter k p.value cert f)
 
 all_fit : (m : Model) (before parts : List ExactPart) (cert last : Certificate (List ℚ)) → IsFor m cert →
     put_all m before parts cert ≡ Ok last → IsFor m last
@@ -87,7 +94,8 @@ blank_fits m kind.Unbounded cert e =
     subst (IsFor m) (ok_same _ cert e) (length-replicate (width m) 0ℚ, length-replicate (width m) 0ℚ)
 blank_fits m (kind.Clash name) cert e =
     let a = after_ok (known (column_place m name) name) (λ j. Ok (Clash j)) cert e in
-    subst (IsFor m) (ok_same (Clash a.0) cert a.2) (column_inside m name a.0 (known_ok (column_place m name) name a.0 a.1))
+    subst (IsFor m) (ok_same (Clash a.0) cert a.2)
+    (column_inside m name a.0 (known_ok (column_place m name) name a.0 a.1))
 
 pub settled_fits : (m : Model) (raw : ExactRaw) (cert : Certificate (List ℚ)) → certificate_for m raw ≡ Ok cert →
     IsFor m cert

@@ -1,5 +1,6 @@
 -- Where the conditions that no point is feasible hold, the run without a limit says yes.
-use Rattle.std.proofs.Common.{◌≡◌, ℕ, List, Option, Some, None, Ok, Bool, true, false, cond, Ordering, Less, Equal, Greater, refl, sym, ap, ap₂, ◌∙◌, subst}
+use Rattle.std.proofs.Common.{◌≡◌, ℕ, List, Option, Some, None, Ok, Bool, true, false, cond}
+use Rattle.std.proofs.Common.{Ordering, Less, Equal, Greater, refl, sym, ap, ap₂, ◌∙◌, subst}
 use Rattle.spec_exact.specs.Fraction.{ℚ, 0ℚ, ◌+ℚ◌, ◌*ℚ◌, ◌<ℚ◌, lt_ℚ}
 use Rattle.spec_exact.specs.Limit.{compare, order}
 use Rattle.spec_exact.specs.declared.past.Op.TheVariants.{Cmp}
@@ -10,9 +11,13 @@ use Rattle.spec_exact.proofs.Strict.{<ℚ_irrefl}
 use Rattle.spec_exact.proofs.Compare.{order_less, order_equal, order_greater}
 use Rattle.spec_model.specs.Model.{Model, Limits, width, height, bounds, limits, row, coefficient, part}
 use Rattle.spec_check.specs.declared.certificate.Known.TheVariants as known
-use Rattle.spec_check.specs.Checks.{priced, asked, or_zero, HasLimit, turned_limits, rows_ask, columns_give, ChecksInfeasible, ChecksClash}
-use Rattle.spec_check.specs.Run.{Run, ◌>>=◌, step, need, lower_run, upper_run, is_less, is_greater, weighed_at, weighed, row_asks_run, priced_run, column_gives_run, rows_ask_run, columns_give_run, infeasible_run, crossed_run, clash_run}
-use Rattle.spec_check.proofs.StepsComplete.{then_ok, need_true, from_all, plus_all, sum_all, lower_all, upper_all, ordered}
+use Rattle.spec_check.specs.Checks.{priced, asked, or_zero, HasLimit, turned_limits}
+use Rattle.spec_check.specs.Checks.{rows_ask, columns_give, ChecksInfeasible, ChecksClash}
+use Rattle.spec_check.specs.Run.{Run, ◌>>=◌, step, need, lower_run, upper_run, is_less, is_greater}
+use Rattle.spec_check.specs.Run.{weighed_at, weighed, row_asks_run, priced_run, column_gives_run}
+use Rattle.spec_check.specs.Run.{rows_ask_run, columns_give_run, infeasible_run, crossed_run, clash_run}
+use Rattle.spec_check.proofs.StepsComplete.{then_ok, need_true, from_all, plus_all}
+use Rattle.spec_check.proofs.StepsComplete.{sum_all, lower_all, upper_all, ordered}
 
 weighed_at_all : (n : ℕ) (d : ℚ) (o : Option ℚ) (b s : ℚ) → o ≡ Some b →
     weighed_at n None d o s ≡ Ok (s +ℚ d *ℚ or_zero o)
@@ -25,7 +30,8 @@ weighed_all : (n : ℕ) (l : Limits) (d s : ℚ) → HasLimit l d → weighed n 
 weighed_all n l d s h = by (lt_ℚ 0ℚ d) (lt_ℚ d 0ℚ) refl refl
   where
     by : (a b : Bool) → lt_ℚ 0ℚ d ≡ a → lt_ℚ d 0ℚ ≡ b
-        → cond a (weighed_at n None d l.lower s) (cond b (weighed_at n None d l.upper s) (Ok s)) ≡ Ok (s +ℚ d *ℚ cond a (or_zero l.lower) (cond b (or_zero l.upper) 0ℚ))
+        → cond a (weighed_at n None d l.lower s) (cond b (weighed_at n None d l.upper s) (Ok s))
+        ≡ Ok (s +ℚ d *ℚ cond a (or_zero l.lower) (cond b (or_zero l.upper) 0ℚ))
     by true b p q = let w = h.above (lt_if 0ℚ d p) in weighed_at_all n d l.lower w.0 s w.1
     by false true p q = let w = h.below (lt_if d 0ℚ q) in weighed_at_all n d l.upper w.0 s w.1
     by false false p q = nothing s d
@@ -50,17 +56,21 @@ row_all m y i s h = by (lt_ℚ 0ℚ d) (lt_ℚ d 0ℚ) refl refl
         cond a low (cond b high (Ok s)) ≡ Ok (s +ℚ d *ℚ cond a (or_zero l.lower) (cond b (or_zero l.upper) 0ℚ))
     by true b p q =
         let w = h.above (lt_if 0ℚ d p) in
-        then_ok (lower_run None (row m i)) (limits m i).lower (λ l. weighed_at 1 None (part y i) l s) _ (lower_all (row m i)) (weighed_at_all 1 d l.lower w.0 s w.1)
+        then_ok (lower_run None (row m i)) (limits m i).lower (λ l. weighed_at 1 None (part y i) l s) _
+        (lower_all (row m i)) (weighed_at_all 1 d l.lower w.0 s w.1)
     by false true p q =
         let w = h.below (lt_if d 0ℚ q) in
-        then_ok (upper_run None (row m i)) (limits m i).upper (λ u. weighed_at 1 None (part y i) u s) _ (upper_all (row m i)) (weighed_at_all 1 d l.upper w.0 s w.1)
+        then_ok (upper_run None (row m i)) (limits m i).upper (λ u. weighed_at 1 None (part y i) u s) _
+        (upper_all (row m i)) (weighed_at_all 1 d l.upper w.0 s w.1)
     by false false p q = nothing s d
 
 column_all : (m : Model) (y : List ℚ) (j : ℕ) (s : ℚ) → HasLimit (turned_limits (bounds m j)) (priced m y j)
     → column_gives_run None m y j s ≡ Ok (s +ℚ priced m y j *ℚ asked (turned_limits (bounds m j)) (priced m y j))
 column_all m y j s h =
-    then_ok (priced_run None m y j) (priced m y j) (λ g. weighed 2 None (turned_limits (bounds m j)) g s) (s +ℚ priced m y j *ℚ asked (turned_limits (bounds m j)) (priced m y j))
-    (sum_all (height m) (λ i. part y i) (λ i. coefficient m i j)) (weighed_all 2 (turned_limits (bounds m j)) (priced m y j) s h)
+    then_ok (priced_run None m y j) (priced m y j) (λ g. weighed 2 None (turned_limits (bounds m j)) g s)
+    (s +ℚ priced m y j *ℚ asked (turned_limits (bounds m j)) (priced m y j))
+    (sum_all (height m) (λ i. part y i) (λ i. coefficient m i j))
+    (weighed_all 2 (turned_limits (bounds m j)) (priced m y j) s h)
 
 less_test : (o : Ordering) (v k : ℚ) → order v k ≡ o → v <ℚ k → is_less o ≡ true
 less_test Less v k e h = refl
@@ -75,18 +85,24 @@ greater_test Greater v k e h = refl
 pub infeasible_all : (m : Model) (y : List ℚ) → ChecksInfeasible m y → infeasible_run None m y ≡ Ok known.Infeasible
 infeasible_all m y h =
     then_ok (rows_ask_run None m y) (rows_ask m y) _ known.Infeasible
-    (from_all 0ℚ (height m) (row_asks_run None m y) (λ i. part y i *ℚ asked (limits m i) (part y i)) (λ i u p. row_all m y i u (h.rows i p)) ∙ ap Ok (zero-+ℚ _))
+    (from_all 0ℚ (height m) (row_asks_run None m y) (λ i. part y i *ℚ asked (limits m i) (part y i))
+    (λ i u p. row_all m y i u (h.rows i p)) ∙ ap Ok (zero-+ℚ _))
     (then_ok (columns_give_run None m y) (columns_give m y) _ known.Infeasible
-    (from_all 0ℚ (width m) (column_gives_run None m y) (λ j. priced m y j *ℚ asked (turned_limits (bounds m j)) (priced m y j)) (λ j u p. column_all m y j u (h.columns j p)) ∙ ap Ok (zero-+ℚ _))
-    (then_ok (step Cmp (columns_give m y) (rows_ask m y) (compare None (columns_give m y) (rows_ask m y))) (order (columns_give m y) (rows_ask m y)) (λ o. need 3 (is_less o) >>= λ _. Ok known.Infeasible)
+    (from_all 0ℚ (width m) (column_gives_run None m y)
+    (λ j. priced m y j *ℚ asked (turned_limits (bounds m j)) (priced m y j))
+    (λ j u p. column_all m y j u (h.columns j p)) ∙ ap Ok (zero-+ℚ _))
+    (then_ok (step Cmp (columns_give m y) (rows_ask m y) (compare None (columns_give m y) (rows_ask m y)))
+    (order (columns_give m y) (rows_ask m y)) (λ o. need 3 (is_less o) >>= λ _. Ok known.Infeasible)
     known.Infeasible (ordered (columns_give m y) (rows_ask m y))
     (then_ok (need 3 (is_less (order (columns_give m y) (rows_ask m y)))) tt (λ _. Ok known.Infeasible) known.Infeasible
-    (need_true 3 _ (less_test (order (columns_give m y) (rows_ask m y)) (columns_give m y) (rows_ask m y) refl h.less)) refl)))
+    (need_true 3 _ (less_test (order (columns_give m y) (rows_ask m y)) (columns_give m y) (rows_ask m y) refl h.less))
+    refl)))
 
 pub clash_all : (m : Model) (j : ℕ) → ChecksClash m j → clash_run None m j ≡ Ok known.Infeasible
 clash_all m j h =
     ap₂ (λ l u. crossed_run None l u >>= λ _. Ok known.Infeasible) h.lower h.upper
     ∙ then_ok (crossed_run None (Some h.low) (Some h.high)) tt (λ _. Ok known.Infeasible) known.Infeasible
-    (then_ok (step Cmp h.low h.high (compare None h.low h.high)) (order h.low h.high) (λ o. need 1 (is_greater o)) tt (ordered h.low h.high)
+    (then_ok (step Cmp h.low h.high (compare None h.low h.high))
+    (order h.low h.high) (λ o. need 1 (is_greater o)) tt (ordered h.low h.high)
     (need_true 1 _ (greater_test (order h.low h.high) h.low h.high refl h.crossed)))
     refl

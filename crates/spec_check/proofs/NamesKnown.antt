@@ -1,5 +1,6 @@
 -- Names of a kept model are words, have their places, and none is there twice.
-use Rattle.std.proofs.Common.{◌≡◌, ◌≢◌, ℕ, zero, suc, ◌+◌, ◌<◌, Bool, true, false, not, cond, ltb, Some, None, List, [], ◌∷◌, length, get_or, refl, ap, ◌∙◌, subst₂, arith}
+use Rattle.std.proofs.Common.{◌≡◌, ◌≢◌, ℕ, zero, suc, ◌+◌, ◌<◌, Bool, true, false, not, cond, ltb}
+use Rattle.std.proofs.Common.{Some, None, List, [], ◌∷◌, length, get_or, refl, ap, ◌∙◌, subst₂, arith}
 use Rattle.std.specs.List.{position, prefix_len}
 use Rattle.std.proofs.lemmas.List.{get_or-map, length-map}
 use borrow.Author.Tests.{lt-ltb}
@@ -25,7 +26,8 @@ prefix_at q (x ∷ xs) d (suc j) h f g =
 pub position_at : {A : Type 0} (p : A → Bool) (xs : List A) (d : A) (j : ℕ) → j < length xs →
     ((i : ℕ) → i < j → p (get_or xs i d) ≡ false) → p (get_or xs j d) ≡ true → position p xs ≡ Some j
 position_at p xs d j h f g =
-    let e : prefix_len (λ x. not (p x)) xs ≡ j = prefix_at (λ x. not (p x)) xs d j h (λ i k. ap not (f i k)) (ap not g) in
+    let e : prefix_len (λ x. not (p x)) xs ≡ j =
+    prefix_at (λ x. not (p x)) xs d j h (λ i k. ap not (f i k)) (ap not g) in
     ap (λ n. cond (ltb n (length xs)) (Some n) None) e ∙ rw (lt-ltb j (length xs) h) refl
 
 differs : (a b : Name) → a ≢ b → same a b ≡ false
@@ -51,16 +53,20 @@ columns_differ : (m : Model) → IsModel m → (i k : ℕ) → i < k → k < wid
     same (column_name m i) (column_name m k) ≡ false
 columns_differ m h i k p q =
     let long : length (column_names m) ≡ width m = length-map m.columns (λ (c : ExactColumn). c.name) in
-    let a : get_or (column_names m) i [] ≡ column_name m i = get_or-map (λ (c : ExactColumn). c.name) m.columns i no_column [] (omega arith) in
-    let b : get_or (column_names m) k [] ≡ column_name m k = get_or-map (λ (c : ExactColumn). c.name) m.columns k no_column [] q in
+    let a : get_or (column_names m) i [] ≡ column_name m i =
+    get_or-map (λ (c : ExactColumn). c.name) m.columns i no_column [] (omega arith) in
+    let b : get_or (column_names m) k [] ≡ column_name m k =
+    get_or-map (λ (c : ExactColumn). c.name) m.columns k no_column [] q in
     differs (column_name m i) (column_name m k) (subst₂ ◌≢◌ a b (h.columns_distinct i k [] p (omega arith)))
 
 rows_differ : (m : Model) → IsModel m → (i k : ℕ) → i < k → k < height m → same (row_name m i) (row_name m k) ≡ false
 rows_differ m h i k p q =
     let long : length (row_names m) ≡ height m = length-map m.rows (λ (r : ExactRow). r.name) in
-    let a : get_or (row_names m) i [] ≡ row_name m i = get_or-map (λ (r : ExactRow). r.name) m.rows i no_row [] (omega arith) in
+    let a : get_or (row_names m) i [] ≡ row_name m i =
+    get_or-map (λ (r : ExactRow). r.name) m.rows i no_row [] (omega arith) in
     let b : get_or (row_names m) k [] ≡ row_name m k = get_or-map (λ (r : ExactRow). r.name) m.rows k no_row [] q in
-    differs (row_name m i) (row_name m k) (subst₂ ◌≢◌ a b (h.rows_distinct (suc i) (suc k) [] (omega arith) (omega arith)))
+    differs (row_name m i) (row_name m k)
+    (subst₂ ◌≢◌ a b (h.rows_distinct (suc i) (suc k) [] (omega arith) (omega arith)))
 
 same-self : (a : Name) → same a a ≡ true
 same-self a = (same_is_equal a a).1 refl
@@ -68,12 +74,14 @@ same-self a = (same_is_equal a a).1 refl
 pub column_at : (m : Model) → IsModel m → (j : ℕ) → j < width m → column_place m (column_name m j) ≡ Some j
 unfolding column_place
 column_at m h j p =
-    position_at (λ (c : ExactColumn). same c.name (column_name m j)) m.columns no_column j p (λ i k. columns_differ m h i j k p) (same-self (column_name m j))
+    position_at (λ (c : ExactColumn). same c.name (column_name m j)) m.columns no_column j p
+    (λ i k. columns_differ m h i j k p) (same-self (column_name m j))
 
 row_at : (m : Model) → IsModel m → (i : ℕ) → i < height m → row_place m (row_name m i) ≡ Some i
 unfolding row_place
 row_at m h i p =
-    position_at (λ (r : ExactRow). same r.name (row_name m i)) m.rows no_row i p (λ k q. rows_differ m h k i q p) (same-self (row_name m i))
+    position_at (λ (r : ExactRow). same r.name (row_name m i)) m.rows no_row i p
+    (λ k q. rows_differ m h k i q p) (same-self (row_name m i))
 
 pub column_word : (m : Model) → IsModel m → (j : ℕ) → j < width m → IsWord (column_name m j)
 column_word m h j p = name_word (column_name m j) (h.columns j no_column p).name
@@ -86,4 +94,8 @@ rays_named m h = record { words = column_word m h; places = column_at m h; disti
 
 pub rows_named : (m : Model) → IsModel m → AreNames m Y (height m) (row_name m)
 rows_named m h =
-    record { words = λ i p. row_name_word (row_name m i) (h.rows i no_row p); places = row_at m h; distinct = rows_differ m h }
+    record {
+      words = λ i p. row_name_word (row_name m i) (h.rows i no_row p);
+      places = row_at m h;
+      distinct = rows_differ m h;
+    }

@@ -1,5 +1,6 @@
 -- The parts that are written of a certificate, put into their places.
-use Rattle.std.proofs.Common.{◌≡◌, ℕ, zero, suc, ◌+◌, ◌-◌, ◌<◌, ◌≤◌, ◌&&◌, ◌||◌, Bool, true, false, cond, Ok, Err, List, [], ◌∷◌, ◌++◌, length, take, refl, sym, ap, ap₂, ◌∙◌, append_assoc, arith}
+use Rattle.std.proofs.Common.{◌≡◌, ℕ, zero, suc, ◌+◌, ◌-◌, ◌<◌, ◌≤◌, ◌&&◌, ◌||◌, Bool, true, false, cond, Ok, Err}
+use Rattle.std.proofs.Common.{List, [], ◌∷◌, ◌++◌, length, take, refl, sym, ap, ap₂, ◌∙◌, append_assoc, arith}
 use Rattle.std.specs.Prelude.{slice_set}
 use Rattle.std.proofs.lemmas.List.{append-nil, length-take-le, set_at, take_all, take_more}
 use Rattle.std.proofs.lemmas.List.Folds.{list_any-append}
@@ -22,11 +23,14 @@ put_more m before [] qs cert = ap (λ b. put_all m b qs cert) (sym (append-nil b
 put_more m before (p ∷ ps) qs cert = by (put m before p cert) (put_more m (before ++ p ∷ []) ps qs)
   where
     by : (o : Settled (Certificate (List ℚ)))
-        → ((next : Certificate (List ℚ)) → put_all m (before ++ p ∷ []) (ps ++ qs) next ≡ (put_all m (before ++ p ∷ []) ps next >>= λ last. put_all m ((before ++ p ∷ []) ++ ps) qs last))
-        → (o >>= λ next. put_all m (before ++ p ∷ []) (ps ++ qs) next) ≡ ((o >>= λ next. put_all m (before ++ p ∷ []) ps next) >>= λ last. put_all m (before ++ p ∷ ps) qs last)
+        → ((next : Certificate (List ℚ)) → put_all m (before ++ p ∷ []) (ps ++ qs) next
+        ≡ (put_all m (before ++ p ∷ []) ps next >>= λ last. put_all m ((before ++ p ∷ []) ++ ps) qs last))
+        → (o >>= λ next. put_all m (before ++ p ∷ []) (ps ++ qs) next)
+        ≡ ((o >>= λ next. put_all m (before ++ p ∷ []) ps next) >>= λ last. put_all m (before ++ p ∷ ps) qs last)
     by (Err fault) h = refl
     by (Ok next) h =
-        h next ∙ ap (λ b. put_all m (before ++ p ∷ []) ps next >>= λ last. put_all m b qs last) (append_assoc before (p ∷ []) ps)
+        h next ∙ ap (λ b. put_all m (before ++ p ∷ []) ps next >>= λ last. put_all m b qs last)
+        (append_assoc before (p ∷ []) ps)
 
 -- ---- no part of a letter, and no part with a name
 
@@ -49,8 +53,10 @@ pub free_behind : (letter other : Letter) (names : ℕ → Name) (values : List 
     same_letter other letter ≡ false → IsFree letter (parts_below other names values n)
 free_behind letter other names values zero h name = refl
 free_behind letter other names values (suc n) h name =
-    list_any-append (λ p. same_letter p.letter letter && same p.name name) (parts_below other names values n) (part_if other (names n) (part values n))
-    ∙ ap₂ (λ (s t : Bool). s || t) (free_behind letter other names values n h name) (none_of letter other name (names n) (part values n) h)
+    list_any-append (λ p. same_letter p.letter letter && same p.name name)
+    (parts_below other names values n) (part_if other (names n) (part values n))
+    ∙ ap₂ (λ (s t : Bool). s || t) (free_behind letter other names values n h name)
+    (none_of letter other name (names n) (part values n) h)
 
 not_named : (letter : Letter) (name own : Name) (v : ℚ) → same own name ≡ false →
     is_given letter name (part_if letter own v) ≡ false
@@ -64,17 +70,21 @@ not_named letter name own v h = by (eq_ℚ v 0ℚ)
     by true = refl
     by false = ap (λ b. same_letter letter letter && b || false) h ∙ off (same_letter letter letter)
 
-module _ (m : Model) (letter : Letter) (w : ℕ) (names : ℕ → Name) (known_names : AreNames m letter w names) (values : List ℚ) (long : length values ≡ w) where
+module _ (m : Model) (letter : Letter) (w : ℕ) (names : ℕ → Name)
+    (known_names : AreNames m letter w names) (values : List ℚ) (long : length values ≡ w) where
   not_given_below : (n k : ℕ) → n ≤ k → k < w → is_given letter (names k) (parts_below letter names values n) ≡ false
   not_given_below zero k h p = refl
   not_given_below (suc n) k h p =
-      list_any-append (λ q. same_letter q.letter letter && same q.name (names k)) (parts_below letter names values n) (part_if letter (names n) (part values n))
-      ∙ ap₂ (λ (s t : Bool). s || t) (not_given_below n k (omega (arith, h)) p) (not_named letter (names k) (names n) (part values n) (known_names.distinct n k (omega (arith, h)) p))
+      list_any-append (λ q. same_letter q.letter letter && same q.name (names k))
+      (parts_below letter names values n) (part_if letter (names n) (part values n))
+      ∙ ap₂ (λ (s t : Bool). s || t) (not_given_below n k (omega (arith, h)) p)
+      (not_named letter (names k) (names n) (part values n) (known_names.distinct n k (omega (arith, h)) p))
 
   not_given : (before : List ExactPart) (k : ℕ) → IsFree letter before → k < w →
       is_given letter (names k) (before ++ parts_below letter names values k) ≡ false
   not_given before k f p =
-      list_any-append (λ q. same_letter q.letter letter && same q.name (names k)) before (parts_below letter names values k)
+      list_any-append (λ q. same_letter q.letter letter && same q.name (names k)) before
+      (parts_below letter names values k)
       ∙ ap₂ (λ (s t : Bool). s || t) (f (names k)) (not_given_below k k (omega arith) p)
 
   -- the first n values, and 0 for the others
@@ -88,14 +98,16 @@ module _ (m : Model) (letter : Letter) (w : ℕ) (names : ℕ → Name) (known_n
   unfolding front
   front_more n h =
       let e : n + 1 ≡ suc n = omega arith in
-      ap (λ xs. xs ++ zeros (w - suc n)) (ap (λ k. take k values) (sym e) ∙ take_more values n 0ℚ (omega (arith, h, long)))
+      ap (λ xs. xs ++ zeros (w - suc n))
+      (ap (λ k. take k values) (sym e) ∙ take_more values n 0ℚ (omega (arith, h, long)))
       ∙ append_assoc (take n values) (part values n ∷ []) (zeros (w - suc n))
 
   front_set : (n : ℕ) → n < w → slice_set (front n) n (part values n) ≡ front (suc n)
   unfolding front
   front_set n h =
       ap (λ zs. slice_set (take n values ++ zs) n (part values n)) (next_zero n h)
-      ∙ set_at (take n values) 0ℚ (zeros (w - suc n)) (part values n) n (length-take-le n values (omega (arith, h, long)))
+      ∙ set_at (take n values) 0ℚ (zeros (w - suc n)) (part values n) n
+      (length-take-le n values (omega (arith, h, long)))
       ∙ sym (front_more n h)
 
   front_same : (n : ℕ) → n < w → part values n ≡ 0ℚ → front n ≡ front (suc n)
@@ -116,24 +128,31 @@ module _ (m : Model) (letter : Letter) (w : ℕ) (names : ℕ → Name) (known_n
   front_none = let all : w - 0 ≡ w = omega arith in ap zeros all
 
   -- a list of the certificate is filled by parts with the letter
-  module _ (fill : List ℚ → Certificate (List ℚ)) (fills : (z : List ℚ) (k : ℕ) (v : ℚ) → with_value letter k v (fill z) ≡ fill (slice_set z k v)) (before : List ExactPart) (free : IsFree letter before) where
+  module _ (fill : List ℚ → Certificate (List ℚ))
+      (fills : (z : List ℚ) (k : ℕ) (v : ℚ) → with_value letter k v (fill z) ≡ fill (slice_set z k v))
+      (before : List ExactPart) (free : IsFree letter before) where
     put_one : (n : ℕ) → n < w →
-        put_all m (before ++ parts_below letter names values n) (part_if letter (names n) (part values n)) (fill (front n)) ≡ Ok (fill (front (suc n)))
+        put_all m (before ++ parts_below letter names values n)
+        (part_if letter (names n) (part values n)) (fill (front n)) ≡ Ok (fill (front (suc n)))
     unfolding put
     put_one n h = by (eq_ℚ (part values n) 0ℚ) refl
       where
         by : (t : Bool) → eq_ℚ (part values n) 0ℚ ≡ t →
-            put_all m (before ++ parts_below letter names values n) (cond t [] (the_part letter (names n) (part values n) ∷ [])) (fill (front n)) ≡ Ok (fill (front (suc n)))
+            put_all m (before ++ parts_below letter names values n)
+            (cond t [] (the_part letter (names n) (part values n) ∷ [])) (fill (front n)) ≡ Ok (fill (front (suc n)))
         by true e = ap (λ z. Ok (fill z)) (front_same n h (eq_if (part values n) 0ℚ e))
         by false e =
-            rw (known_names.places n h, not_given before n free h, fills (front n) n (part values n), front_set n h) refl
+            rw (known_names.places n h, not_given before n free h, fills (front n) n (part values n), front_set n h)
+            refl
 
     put_below : (n : ℕ) → n ≤ w →
         put_all m before (parts_below letter names values n) (fill (front 0)) ≡ Ok (fill (front n))
     put_below zero h = refl
     put_below (suc n) h =
-        put_more m before (parts_below letter names values n) (part_if letter (names n) (part values n)) (fill (front 0))
-        ∙ ap (λ o. o >>= λ next. put_all m (before ++ parts_below letter names values n) (part_if letter (names n) (part values n)) next) (put_below n (omega (arith, h)))
+        put_more m before (parts_below letter names values n)
+        (part_if letter (names n) (part values n)) (fill (front 0))
+        ∙ ap (λ o. o >>= λ next. put_all m (before ++ parts_below letter names values n)
+        (part_if letter (names n) (part values n)) next) (put_below n (omega (arith, h)))
         ∙ put_one n (omega (arith, h))
 
     pub filled : put_all m before (parts_below letter names values w) (fill (zeros w)) ≡ Ok (fill values)

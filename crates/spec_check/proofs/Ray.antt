@@ -1,5 +1,6 @@
 -- Along a ray feasible points get better without limit.
-use Rattle.std.proofs.Common.{◌≡◌, ℕ, zero, suc, pos, ◌<◌, List, [], ◌∷◌, length, Option, Some, None, IfSome, refl, sym, ap, ◌∙◌, subst, subst₂, arith}
+use Rattle.std.proofs.Common.{◌≡◌, ℕ, zero, suc, pos, ◌<◌, List, [], ◌∷◌, length, Option}
+use Rattle.std.proofs.Common.{Some, None, IfSome, refl, sym, ap, ◌∙◌, subst, subst₂, arith}
 use Rattle.spec_exact.specs.Fraction.{whole, ℚ, ◌+ℚ◌, ◌-ℚ◌, ◌*ℚ◌, neg_ℚ, 0ℚ, 1ℚ, ◌≤ℚ◌, ◌<ℚ◌, inverse, floor}
 use Rattle.spec_exact.specs.Sums.{sum_below}
 use Rattle.spec_exact.proofs.Field.{+ℚ_zero, *ℚ_assoc, *ℚ_comm, *ℚ_one, *ℚ_zero, *ℚ_inverse}
@@ -38,17 +39,22 @@ lower_along : (o : Option ℚ) (v r t : ℚ) → 0ℚ ≤ℚ t → IfSome o (λ 
     IfSome o (λ k. k ≤ℚ (v +ℚ t *ℚ r))
 lower_along None v r t p h g = tt
 lower_along (Some k) v r t p h g =
-    subst (λ a. a ≤ℚ (v +ℚ t *ℚ r)) (+ℚ_zero k) (+ℚ_mono₂ k v 0ℚ (t *ℚ r) h (subst (λ a. a ≤ℚ (t *ℚ r)) (*ℚ_zero t) (*ℚ_mono 0ℚ r t p g)))
+    subst (λ a. a ≤ℚ (v +ℚ t *ℚ r)) (+ℚ_zero k)
+    (+ℚ_mono₂ k v 0ℚ (t *ℚ r) h (subst (λ a. a ≤ℚ (t *ℚ r)) (*ℚ_zero t) (*ℚ_mono 0ℚ r t p g)))
 
 upper_along : (o : Option ℚ) (v r t : ℚ) → 0ℚ ≤ℚ t → IfSome o (λ k. v ≤ℚ k) → IfSome o (λ _. r ≤ℚ 0ℚ) →
     IfSome o (λ k. (v +ℚ t *ℚ r) ≤ℚ k)
 upper_along None v r t p h g = tt
 upper_along (Some k) v r t p h g =
-    subst (λ a. (v +ℚ t *ℚ r) ≤ℚ a) (+ℚ_zero k) (+ℚ_mono₂ v k (t *ℚ r) 0ℚ h (subst (λ a. (t *ℚ r) ≤ℚ a) (*ℚ_zero t) (*ℚ_mono r 0ℚ t p g)))
+    subst (λ a. (v +ℚ t *ℚ r) ≤ℚ a) (+ℚ_zero k)
+    (+ℚ_mono₂ v k (t *ℚ r) 0ℚ h (subst (λ a. (t *ℚ r) ≤ℚ a) (*ℚ_zero t) (*ℚ_mono r 0ℚ t p g)))
 
 along : (l : Limits) (v r t w : ℚ) → 0ℚ ≤ℚ t → IsBetween l v → Allows l r → w ≡ v +ℚ t *ℚ r → IsBetween l w
 along l v r t w p b a e =
-    subst (IsBetween l) (sym e) (record { lower = lower_along l.lower v r t p b.lower a.lower; upper = upper_along l.upper v r t p b.upper a.upper })
+    subst (IsBetween l) (sym e) (record {
+      lower = lower_along l.lower v r t p b.lower a.lower;
+      upper = upper_along l.upper v r t p b.upper a.upper;
+    })
 
 -- a step so long that v + t * s is below w
 abbrev step : ℚ → ℚ → ℚ → ℚ
@@ -66,7 +72,8 @@ far_enough v s w h =
   where
     cancelled : (d a : ℚ) → ¬ (d ≡ 0ℚ) → d *ℚ (a *ℚ inverse d) ≡ a
     cancelled d a n =
-        ap (λ b. d *ℚ b) (*ℚ_comm a (inverse d)) ∙ sym (*ℚ_assoc d (inverse d) a) ∙ ap (λ b. b *ℚ a) (*ℚ_inverse d n) ∙ *ℚ_comm 1ℚ a ∙ *ℚ_one a
+        ap (λ b. d *ℚ b) (*ℚ_comm a (inverse d)) ∙ sym (*ℚ_assoc d (inverse d) a)
+        ∙ ap (λ b. b *ℚ a) (*ℚ_inverse d n) ∙ *ℚ_comm 1ℚ a ∙ *ℚ_one a
 
     moved : (v s w t : ℚ) → (v -ℚ w) +ℚ (w +ℚ t *ℚ s) ≡ v +ℚ t *ℚ s
     moved v s w t = simp ring
@@ -79,7 +86,8 @@ better_along Min v w r h = (step v r w, whole_least _, far_enough v r w h)
 better_along Max v w r h = (
   step (neg_ℚ v) (neg_ℚ r) (neg_ℚ w),
   whole_least _,
-  subst₂ ◌<ℚ◌ (neg-neg w) (back v r (step (neg_ℚ v) (neg_ℚ r) (neg_ℚ w))) (neg_strict _ _ (far_enough (neg_ℚ v) (neg_ℚ r) (neg_ℚ w) h)),
+  subst₂ ◌<ℚ◌ (neg-neg w) (back v r (step (neg_ℚ v) (neg_ℚ r) (neg_ℚ w)))
+      (neg_strict _ _ (far_enough (neg_ℚ v) (neg_ℚ r) (neg_ℚ w) h)),
 )
   where
     back : (v r t : ℚ) → neg_ℚ (neg_ℚ v +ℚ t *ℚ neg_ℚ r) ≡ v +ℚ t *ℚ r
@@ -94,17 +102,21 @@ unbounded_holds m x r h k =
     let t : ℚ = good.0 in
     let point : ℕ → ℚ = λ j. part x j +ℚ t *ℚ part r j in
     let z : List ℚ = made n point in
-    let sums : (a : ℕ → ℚ) → sum_below n (λ j. a j *ℚ part z j) ≡ sum_below n (λ j. a j *ℚ part x j) +ℚ t *ℚ sum_below n (λ j. a j *ℚ part r j) =
+    let sums : (a : ℕ → ℚ) →
+    sum_below n (λ j. a j *ℚ part z j) ≡ sum_below n (λ j. a j *ℚ part x j) +ℚ t *ℚ sum_below n (λ j. a j *ℚ part r j) =
     λ a. sum_below_same n _ _ (λ j p. ap (λ b. a j *ℚ b) (part-made n point j p)) ∙ ray_sum n a (part x) (part r) t in (
       z,
       record {
         one_each = length-made n point;
         columns =
-            λ j p. along (bounds m j) (part x j) (part r j) t (part z j) good.1 (h.feasible.columns j p) (h.columns j p) (part-made n point j p);
+            λ j p. along (bounds m j) (part x j) (part r j) t (part z j) good.1
+            (h.feasible.columns j p) (h.columns j p) (part-made n point j p);
         rows =
-            λ i p. along (limits m i) (activity m x i) (activity m r i) t (activity m z i) good.1 (h.feasible.rows i p) (h.rows i p) (sums (coefficient m i));
+            λ i p. along (limits m i) (activity m x i) (activity m r i) t
+            (activity m z i) good.1 (h.feasible.rows i p) (h.rows i p) (sums (coefficient m i));
       },
-      subst (λ a. IsBetter m.sense a (whole k)) (sym (ap (λ a. a +ℚ m.offset) (sums c) ∙ last (sum_below n (λ j. c j *ℚ part x j)) (t *ℚ sum_below n (λ j. c j *ℚ part r j)) m.offset)) good.2,
+      subst (λ a. IsBetter m.sense a (whole k)) (sym (ap (λ a. a +ℚ m.offset) (sums c)
+          ∙ last (sum_below n (λ j. c j *ℚ part x j)) (t *ℚ sum_below n (λ j. c j *ℚ part r j)) m.offset)) good.2,
     )
   where
     last : (a b c : ℚ) → (a +ℚ b) +ℚ c ≡ (a +ℚ c) +ℚ b

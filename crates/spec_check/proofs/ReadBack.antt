@@ -1,5 +1,6 @@
 -- A written certificate is read back.
-use Rattle.std.proofs.Common.{◌≡◌, ℕ, ◌<◌, true, Some, None, List, [], ◌∷◌, ◌++◌, length, map, refl, sym, ap, ◌∙◌, subst, append_assoc, arith}
+use Rattle.std.proofs.Common.{◌≡◌, ℕ, ◌<◌, true, Some, None, List, [], ◌∷◌, ◌++◌, length}
+use Rattle.std.proofs.Common.{map, refl, sym, ap, ◌∙◌, subst, append_assoc, arith}
 use Rattle.std.specs.Prelude.{codes, All}
 use Rattle.std.proofs.lemmas.List.{map-append}
 use Rattle.spec_text.specs.declared.line.Line.{Line}
@@ -18,12 +19,14 @@ use Rattle.spec_check.specs.declared.certificate.Certificate.{Certificate}
 use Rattle.spec_check.specs.declared.certificate.Certificate.TheVariants.{Optimal, Infeasible, Clash, Unbounded}
 use Rattle.spec_check.specs.Certificate.{IsFor, IsNarrowCertificate}
 use Rattle.spec_check.specs.declared.progress.Progress.TheVariants.{More, Done}
-use Rattle.spec_check.specs.Text.{ExactPart, ExactRaw, ExactKind, kind_of, takes, is_end, step_by_words, step, Leads, Spells}
+use Rattle.spec_check.specs.Text.{ExactPart, ExactRaw, ExactKind, kind_of, takes}
+use Rattle.spec_check.specs.Text.{is_end, step_by_words, step, Leads, Spells}
 use Rattle.spec_check.specs.Settle.{◌>>=◌, zeros, blank, put_all, certificate_for}
 use Rattle.spec_check.specs.TextWritten.{lines_below, kind_text, all_part_lines, certificate_lines}
 use Rattle.spec_check.specs.TextRead.{IsReadBack}
 use Rattle.spec_check.proofs.TextSteps.{goes_on, ends, with_parts, parts_below, parts_lead}
-use Rattle.spec_check.proofs.NamesKnown.{column_name, row_name, column_word, column_at, columns_named, rays_named, rows_named}
+use Rattle.spec_check.proofs.NamesKnown.{column_name, row_name, column_word, column_at}
+use Rattle.spec_check.proofs.NamesKnown.{columns_named, rays_named, rows_named}
 use Rattle.spec_check.proofs.PartsPlaced.{put_more, free_at_first, free_behind, filled}
 
 abbrev raw_of : ExactKind → List ExactPart → ExactRaw
@@ -56,7 +59,9 @@ unbounded_step = ap (step_by_words None) (one_word (codes "UNBOUNDED") (record {
 
 clash_words : (name : List ℕ) → IsWord name → words_of (codes "CLASH" ++ 32 ∷ name) ≡ codes "CLASH" ∷ name ∷ []
 unfolding words_of
-clash_words name h = parts_word_then (codes "CLASH") name (record { some = refl; printable = refl }) ∙ ap (λ ws. codes "CLASH" ∷ ws) (parts_word name h)
+clash_words name h =
+    parts_word_then (codes "CLASH") name (record { some = refl; printable = refl })
+    ∙ ap (λ ws. codes "CLASH" ∷ ws) (parts_word name h)
 
 clash_step : (name : List ℕ) → IsWord name →
     step None (Text (codes "CLASH" ++ 32 ∷ name)) ≡ More (raw_of (kind.Clash name) [])
@@ -64,22 +69,30 @@ unfolding step kind_of
 clash_step name h = ap (step_by_words None) (clash_words name h)
 
 -- the lines of a whole certificate, from those before END
-whole : (m : Model) (cert : Certificate (List ℚ)) (raw : ExactRaw) → Leads None (map Text (kind_text m cert ∷ all_part_lines m cert)) (Some raw)
+whole : (m : Model) (cert : Certificate (List ℚ)) (raw : ExactRaw) →
+    Leads None (map Text (kind_text m cert ∷ all_part_lines m cert)) (Some raw)
     → (more : List (Line (List ℕ))) → Spells (map Text (certificate_lines m cert) ++ more) raw
 unfolding certificate_lines
 whole m cert raw l more =
     subst (λ ls. Spells ls raw)
-    (sym (ap (λ ls. ls ++ more) (map-append Text (kind_text m cert ∷ all_part_lines m cert) (codes "END" ∷ [])) ∙ append_assoc (map Text (kind_text m cert ∷ all_part_lines m cert)) (Text (codes "END") ∷ []) more))
-    (ends (map Text (kind_text m cert ∷ all_part_lines m cert)) more (Text (codes "END")) (Some raw) raw l (end_step raw))
+    (sym (ap (λ ls. ls ++ more) (map-append Text (kind_text m cert ∷ all_part_lines m cert) (codes "END" ∷ []))
+    ∙ append_assoc (map Text (kind_text m cert ∷ all_part_lines m cert)) (Text (codes "END") ∷ []) more))
+    (ends (map Text (kind_text m cert ∷ all_part_lines m cert)) more
+    (Text (codes "END")) (Some raw) raw l (end_step raw))
 
 -- two letters, one after the other
-two_lead : (raw : ExactRaw) (a b : Letter) (names others : ℕ → List ℕ) (xs ys : List ℚ) (n k : ℕ) → takes raw.kind a ≡ true → takes raw.kind b ≡ true
-    → ((i : ℕ) → i < n → IsWord (names i)) → ((i : ℕ) → i < n → IsNarrow (part xs i)) → ((i : ℕ) → i < k → IsWord (others i)) → ((i : ℕ) → i < k → IsNarrow (part ys i))
-    → Leads (Some raw) (map Text (lines_below a names xs n ++ lines_below b others ys k)) (Some (with_parts (with_parts raw (parts_below a names xs n)) (parts_below b others ys k)))
+two_lead : (raw : ExactRaw) (a b : Letter) (names others : ℕ → List ℕ) (xs ys : List ℚ) (n k : ℕ) →
+    takes raw.kind a ≡ true → takes raw.kind b ≡ true
+    → ((i : ℕ) → i < n → IsWord (names i)) → ((i : ℕ) → i < n → IsNarrow (part xs i)) →
+    ((i : ℕ) → i < k → IsWord (others i)) → ((i : ℕ) → i < k → IsNarrow (part ys i))
+    → Leads (Some raw) (map Text (lines_below a names xs n ++ lines_below b others ys k))
+    (Some (with_parts (with_parts raw (parts_below a names xs n)) (parts_below b others ys k)))
 two_lead raw a b names others xs ys n k s t h p i q =
     let one : ExactRaw = with_parts raw (parts_below a names xs n) in
-    subst (λ ls. Leads (Some raw) ls (Some (with_parts one (parts_below b others ys k)))) (sym (map-append Text (lines_below a names xs n) (lines_below b others ys k)))
-    (goes_on (Some raw) (Some one) (Some (with_parts one (parts_below b others ys k))) _ _ (parts_lead raw a names xs n s h p) (parts_lead one b others ys k t i q))
+    subst (λ ls. Leads (Some raw) ls (Some (with_parts one (parts_below b others ys k))))
+    (sym (map-append Text (lines_below a names xs n) (lines_below b others ys k)))
+    (goes_on (Some raw) (Some one) (Some (with_parts one (parts_below b others ys k))) _ _
+    (parts_lead raw a names xs n s h p) (parts_lead one b others ys k t i q))
 
 narrow_at : (xs : List ℚ) (n : ℕ) → length xs ≡ n → All IsNarrow xs → (k : ℕ) → k < n → IsNarrow (part xs k)
 narrow_at xs n e h k p = h k 0ℚ (omega (arith, e, p))
@@ -100,12 +113,15 @@ optimal_back m x y h f n =
         start,
         optimal_step,
         two_lead start X Y (column_name m) (row_name m) x y (width m) (height m) refl refl
-            (columns_named m h).words (narrow_at x (width m) f.0 n.0) (rows_named m h).words (narrow_at y (height m) f.1 n.1),
+            (columns_named m h).words (narrow_at x (width m) f.0 n.0)
+            (rows_named m h).words (narrow_at y (height m) f.1 n.1),
       );
       settled = put_more m [] xs ys (Optimal (zeros (width m)) (zeros (height m)))
           ∙ ap (λ o. o >>= λ next. put_all m xs ys next)
-          (filled m X (width m) (column_name m) (columns_named m h) x f.0 (λ z. Optimal z (zeros (height m))) (λ z k v. refl) [] (free_at_first X))
-          ∙ filled m Y (height m) (row_name m) (rows_named m h) y f.1 (λ z. Optimal x z) (λ z k v. refl) xs (free_behind Y X (column_name m) x (width m) refl);
+          (filled m X (width m) (column_name m) (columns_named m h) x f.0
+          (λ z. Optimal z (zeros (height m))) (λ z k v. refl) [] (free_at_first X))
+          ∙ filled m Y (height m) (row_name m) (rows_named m h) y f.1 (λ z. Optimal x z)
+          (λ z k v. refl) xs (free_behind Y X (column_name m) x (width m) refl);
     }
 
 infeasible_back : (m : Model) (y : List ℚ) → IsModel m → IsFor m (Infeasible y) → IsNarrowCertificate (Infeasible y) →
@@ -117,10 +133,14 @@ infeasible_back m y h f n =
     let raw : ExactRaw = raw_of kind.Infeasible ys in
     record {
       raw = raw;
-      spelled = whole m (Infeasible y) raw
-          (start, infeasible_step, parts_lead start Y (row_name m) y (height m) refl (rows_named m h).words (narrow_at y (height m) f n));
+      spelled = whole m (Infeasible y) raw (
+        start,
+        infeasible_step,
+        parts_lead start Y (row_name m) y (height m) refl (rows_named m h).words (narrow_at y (height m) f n),
+      );
       settled =
-          filled m Y (height m) (row_name m) (rows_named m h) y f (λ z. Infeasible z) (λ z k v. refl) [] (free_at_first Y);
+          filled m Y (height m) (row_name m) (rows_named m h) y f
+          (λ z. Infeasible z) (λ z k v. refl) [] (free_at_first Y);
     }
 
 unbounded_back : (m : Model) (x r : List ℚ) → IsModel m → IsFor m (Unbounded x r) →
@@ -137,12 +157,15 @@ unbounded_back m x r h f n =
         start,
         unbounded_step,
         two_lead start X R (column_name m) (column_name m) x r (width m) (width m) refl refl
-            (columns_named m h).words (narrow_at x (width m) f.0 n.0) (columns_named m h).words (narrow_at r (width m) f.1 n.1),
+            (columns_named m h).words (narrow_at x (width m) f.0 n.0)
+            (columns_named m h).words (narrow_at r (width m) f.1 n.1),
       );
       settled = put_more m [] xs rs (Unbounded (zeros (width m)) (zeros (width m)))
           ∙ ap (λ o. o >>= λ next. put_all m xs rs next)
-          (filled m X (width m) (column_name m) (columns_named m h) x f.0 (λ z. Unbounded z (zeros (width m))) (λ z k v. refl) [] (free_at_first X))
-          ∙ filled m R (width m) (column_name m) (rays_named m h) r f.1 (λ z. Unbounded x z) (λ z k v. refl) xs (free_behind R X (column_name m) x (width m) refl);
+          (filled m X (width m) (column_name m) (columns_named m h) x f.0
+          (λ z. Unbounded z (zeros (width m))) (λ z k v. refl) [] (free_at_first X))
+          ∙ filled m R (width m) (column_name m) (rays_named m h) r f.1 (λ z. Unbounded x z)
+          (λ z k v. refl) xs (free_behind R X (column_name m) x (width m) refl);
     }
 
 clash_back : (m : Model) (j : ℕ) → IsModel m → IsFor m (Clash j) → IsReadBack m (Clash j)

@@ -1,5 +1,6 @@
 -- At a limit the run is the run without one, or an operation is refused.
-use Rattle.std.proofs.Common.{◌≡◌, inl, inr, ⊎_elim, ℕ, zero, suc, List, Option, Some, None, Ok, Err, Bool, true, false, cond, refl, sym, ap, ◌∙◌, subst}
+use Rattle.std.proofs.Common.{◌≡◌, inl, inr, ⊎_elim, ℕ, zero, suc, List, Option, Some, None}
+use Rattle.std.proofs.Common.{Ok, Err, Bool, true, false, cond, refl, sym, ap, ◌∙◌, subst}
 use Rattle.std.specs.Prelude.{⊤}
 use Rattle.spec_exact.specs.Fraction.{ℚ, 0ℚ, ◌+ℚ◌, ◌-ℚ◌, ◌*ℚ◌, lt_ℚ, abs_ℚ}
 use Rattle.spec_exact.specs.Limit.{add, sub, mul, compare, order}
@@ -13,7 +14,12 @@ use Rattle.spec_model.specs.Model.{Model, ExactRow, Limits, width, height, bound
 use Rattle.spec_check.specs.declared.certificate.Certificate.{Certificate}
 use Rattle.spec_check.specs.declared.certificate.Certificate.TheVariants.{Optimal, Infeasible, Clash, Unbounded}
 use Rattle.spec_check.specs.Checks.{signed, turned_limits}
-use Rattle.spec_check.specs.Run.{Run, Agrees, ◌>>=◌, step, each, each_from, plus_product, less_product, sum_run, some_run, lower_by_run, upper_by_run, lower_run, upper_run, at_least, at_most, column_within_run, activity_run, row_within_run, reduced_run, column_tight_run, row_tight_run, value_run, optimal_run, check_run, weighed_at, weighed, row_asks_run, priced_run, column_gives_run, infeasible_run, crossed_run, clash_run, row_allows_run, better_run, unbounded_run}
+use Rattle.spec_check.specs.Run.{Run, Agrees, ◌>>=◌, step, each, each_from, plus_product, less_product}
+use Rattle.spec_check.specs.Run.{sum_run, some_run, lower_by_run, upper_by_run, lower_run, upper_run, at_least}
+use Rattle.spec_check.specs.Run.{at_most, column_within_run, activity_run, row_within_run, reduced_run}
+use Rattle.spec_check.specs.Run.{column_tight_run, row_tight_run, value_run, optimal_run, check_run}
+use Rattle.spec_check.specs.Run.{weighed_at, weighed, row_asks_run, priced_run, column_gives_run, infeasible_run}
+use Rattle.spec_check.specs.Run.{crossed_run, clash_run, row_allows_run, better_run, unbounded_run}
 
 same : {A : Type 0} (o : Run A) → Agrees o o
 unfolding Agrees
@@ -68,7 +74,8 @@ module _ (limit : Option ℕ) where
 
   compare_agrees : (v w : ℚ) → Agrees (step Cmp v w (compare limit v w)) (step Cmp v w (compare None v w))
   compare_agrees v w =
-      step_agrees Cmp v w (compare limit v w) (compare None v w) (order v w) (λ x e. compare_gives limit v w x e) (compare_unlimited v w)
+      step_agrees Cmp v w (compare limit v w) (compare None v w) (order v w)
+      (λ x e. compare_gives limit v w x e) (compare_unlimited v w)
 
   plus_agrees : (v w s : ℚ) → Agrees (plus_product limit v w s) (plus_product None v w s)
   plus_agrees v w s = after_agrees _ _ _ _ (mul_agrees v w) (λ p. add_agrees s p)
@@ -115,7 +122,8 @@ module _ (limit : Option ℕ) where
   column_within_agrees : (m : Model) (x : List ℚ) (j : ℕ) →
       Agrees (column_within_run limit m x j) (column_within_run None m x j)
   column_within_agrees m x j =
-      after_agrees _ _ _ _ (least_agrees 1 (bounds m j).lower (part x j)) (λ _. most_agrees 1 (bounds m j).upper (part x j))
+      after_agrees _ _ _ _ (least_agrees 1 (bounds m j).lower (part x j))
+      (λ _. most_agrees 1 (bounds m j).upper (part x j))
 
   activity_agrees : (m : Model) (z : List ℚ) (i : ℕ) → Agrees (activity_run limit m z i) (activity_run None m z i)
   activity_agrees m z i = sum_agrees (width m) (λ j. coefficient m i j) (λ j. part z j)

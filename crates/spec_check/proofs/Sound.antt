@@ -7,12 +7,14 @@ use Rattle.spec_exact.proofs.Ruleset.{ring, neg-*ℚ, neg-zero}
 use Rattle.spec_exact.proofs.Strict.{neg_mono_back}
 use Rattle.spec_model.specs.declared.parts.Sense.{Sense}
 use Rattle.spec_model.specs.declared.parts.Sense.TheVariants.{Min, Max}
-use Rattle.spec_model.specs.Model.{Model, Limits, bounds, cost, width, height, column, limits, coefficient, part, activity, value_of}
+use Rattle.spec_model.specs.Model.{Model, Limits, bounds, cost, width, height, column}
+use Rattle.spec_model.specs.Model.{limits, coefficient, part, activity, value_of}
 use Rattle.spec_model.specs.Truth.{IsBetween, IsFeasible, IsBetter, IsOptimal, IsInfeasible}
 use Rattle.spec_check.specs.declared.certificate.Certificate.{Certificate}
 use Rattle.spec_check.specs.declared.certificate.Certificate.TheVariants.{Optimal, Infeasible, Clash, Unbounded}
 use Rattle.spec_check.specs.Certificate.{shown, Holds}
-use Rattle.spec_check.specs.Checks.{Checks, signed, ChecksOptimal, ChecksInfeasible, asked, or_zero, HasLimit, turned_limits, priced, ChecksClash}
+use Rattle.spec_check.specs.Checks.{Checks, signed, ChecksOptimal, ChecksInfeasible, asked}
+use Rattle.spec_check.specs.Checks.{or_zero, HasLimit, turned_limits, priced, ChecksClash}
 use Rattle.spec_check.proofs.Duality.{Between, Feasible, optimal, infeasible}
 use Rattle.spec_check.proofs.Ray.{unbounded_holds}
 
@@ -30,7 +32,8 @@ module _ (m : Model) where
   above_of j = (bounds m j).upper
 
   feasible_for : (z : List ℚ) → IsFeasible m z →
-      Feasible (width m) (height m) (coefficient m) below_of above_of (λ i. (limits m i).lower) (λ i. (limits m i).upper) (part z)
+      Feasible (width m) (height m) (coefficient m) below_of above_of
+      (λ i. (limits m i).lower) (λ i. (limits m i).upper) (part z)
   feasible_for z f = record {
     columns = λ j h. between (bounds m j) (part z j) (f.columns j h);
     rows = λ i h. between (limits m i) (activity m z i) (f.rows i h);
@@ -53,7 +56,8 @@ pub signed-sum_below : (s : Sense) (n : ℕ) (c z : ℕ → ℚ) →
     sum_below n (λ j. signed s (c j) *ℚ z j) ≡ signed s (sum_below n (λ j. c j *ℚ z j))
 signed-sum_below s zero c z = sym (signed_zero s)
 signed-sum_below s (suc n) c z =
-    subst₂ (λ a b. a +ℚ b ≡ signed s (sum_below n (λ j. c j *ℚ z j) +ℚ c n *ℚ z n)) (sym (signed-sum_below s n c z)) (sym (signed_product s (c n) (z n))) (sym (signed_sum s _ _))
+    subst₂ (λ a b. a +ℚ b ≡ signed s (sum_below n (λ j. c j *ℚ z j) +ℚ c n *ℚ z n))
+    (sym (signed-sum_below s n c z)) (sym (signed_product s (c n) (z n))) (sym (signed_sum s _ _))
 
 not_better : (s : Sense) (v w off : ℚ) → signed s v ≤ℚ signed s w → ¬ (IsBetter s (w +ℚ off) (v +ℚ off))
 not_better Min v w off h b = clash_ℚ _ _ b (+ℚ_mono v w off h)
@@ -63,8 +67,10 @@ pub optimal_holds : (m : Model) (x y : List ℚ) → ChecksOptimal m x y → IsO
 optimal_holds m x y h = record {
   point = (x, h.feasible, refl);
   best = λ z f. not_better m.sense _ _ m.offset
-      (subst₂ ◌≤ℚ◌ (signed-sum_below m.sense (width m) (cost m) (part x)) (signed-sum_below m.sense (width m) (cost m) (part z))
-      (optimal (width m) (height m) (coefficient m) (below_of m) (above_of m) (λ i. (limits m i).lower) (λ i. (limits m i).upper)
+      (subst₂ ◌≤ℚ◌ (signed-sum_below m.sense (width m) (cost m) (part x))
+      (signed-sum_below m.sense (width m) (cost m) (part z))
+      (optimal (width m) (height m) (coefficient m) (below_of m)
+      (above_of m) (λ i. (limits m i).lower) (λ i. (limits m i).upper)
       (λ j. signed m.sense (column m j).cost) (part x) (part y) (part z)
       (λ j p. record { above = (h.columns j p).above; below = (h.columns j p).below })
       (λ i p. record { above = (h.rows i p).above; below = (h.rows i p).below })
@@ -86,10 +92,17 @@ asked_below l d h p =
 
 pub infeasible_holds : (m : Model) (y : List ℚ) → ChecksInfeasible m y → IsInfeasible m
 infeasible_holds m y h z f =
-    infeasible (width m) (height m) (coefficient m) (below_of m) (above_of m) (λ i. (limits m i).lower) (λ i. (limits m i).upper)
+    infeasible (width m) (height m) (coefficient m) (below_of m)
+    (above_of m) (λ i. (limits m i).lower) (λ i. (limits m i).upper)
     (part y) (λ i. asked (limits m i) (part y i)) (λ j. asked (turned_limits (bounds m j)) (priced m y j)) (part z)
-    (λ i k. record { above = asked_above (limits m i) (part y i) (h.rows i k); below = asked_below (limits m i) (part y i) (h.rows i k) })
-    (λ j k. record { above = asked_above (turned_limits (bounds m j)) (priced m y j) (h.columns j k); below = asked_below (turned_limits (bounds m j)) (priced m y j) (h.columns j k) })
+    (λ i k. record {
+      above = asked_above (limits m i) (part y i) (h.rows i k);
+      below = asked_below (limits m i) (part y i) (h.rows i k);
+    })
+    (λ j k. record {
+      above = asked_above (turned_limits (bounds m j)) (priced m y j) (h.columns j k);
+      below = asked_below (turned_limits (bounds m j)) (priced m y j) (h.columns j k);
+    })
     h.less
     (feasible_for m z f)
 
@@ -97,7 +110,8 @@ pub clash_holds : (m : Model) (j : ℕ) → ChecksClash m j → IsInfeasible m
 clash_holds m j h z f =
     let b : IsBetween (bounds m j) (part z j) = f.columns j h.inside in
     clash_ℚ h.high h.low h.crossed
-    (≤ℚ_trans h.low (part z j) h.high (at_some (λ k. k ≤ℚ part z j) (bounds m j).lower b.lower h.low h.lower) (at_some (λ k. part z j ≤ℚ k) (bounds m j).upper b.upper h.high h.upper))
+    (≤ℚ_trans h.low (part z j) h.high (at_some (λ k. k ≤ℚ part z j) (bounds m j).lower b.lower h.low h.lower)
+    (at_some (λ k. part z j ≤ℚ k) (bounds m j).upper b.upper h.high h.upper))
 
 pub checks_hold : (m : Model) (cert : Certificate (List ℚ)) → Checks m cert → Holds m (shown m cert)
 checks_hold m (Optimal x y) h = optimal_holds m x y h

@@ -1,5 +1,6 @@
 -- What the steps of a run without a limit give: sums, limits, comparisons, and conditions 1 and 2.
-use Rattle.std.proofs.Common.{◌≡◌, ℕ, zero, suc, ◌<◌, List, Option, Some, None, Ok, IfSome, Bool, true, false, not, cond, Ordering, Less, Equal, Greater, refl, sym, ap, ◌∙◌, arith}
+use Rattle.std.proofs.Common.{◌≡◌, ℕ, zero, suc, ◌<◌, List, Option, Some, None, Ok, IfSome, Bool, true}
+use Rattle.std.proofs.Common.{false, not, cond, Ordering, Less, Equal, Greater, refl, sym, ap, ◌∙◌, arith}
 use Rattle.std.specs.Prelude.{⊤}
 use Rattle.spec_exact.specs.Fraction.{ℚ, 0ℚ, ◌+ℚ◌, ◌-ℚ◌, ◌*ℚ◌, ◌≤ℚ◌, lt_ℚ, abs_ℚ}
 use Rattle.spec_exact.specs.Sums.{sum_below}
@@ -14,10 +15,14 @@ use Rattle.spec_exact.proofs.Compare.{compare_unlimited, order_less, order_great
 use Rattle.spec_exact.proofs.Same.{eq_test}
 use Rattle.spec_model.specs.declared.parts.Kind.{Kind}
 use Rattle.spec_model.specs.declared.parts.Kind.TheVariants.{L, G, E}
-use Rattle.spec_model.specs.Model.{Model, ExactRow, Limits, limits_by, limits_of, from_to, width, height, bounds, limits, row, coefficient, activity, part}
+use Rattle.spec_model.specs.Model.{Model, ExactRow, Limits, limits_by, limits_of, from_to, width}
+use Rattle.spec_model.specs.Model.{height, bounds, limits, row, coefficient, activity, part}
 use Rattle.spec_model.specs.Truth.{IsBetween, IsFeasible}
 use Rattle.spec_check.specs.Checks.{IsTight}
-use Rattle.spec_check.specs.Run.{Run, ◌>>=◌, step, need, each, each_from, plus_product, less_product, sum_run, some_run, lower_by_run, upper_by_run, lower_run, upper_run, is_less, is_greater, at_least, at_most, stands_at, is_tight, column_within_run, columns_run, activity_run, row_within_run, rows_run}
+use Rattle.spec_check.specs.Run.{Run, ◌>>=◌, step, need, each, each_from, plus_product, less_product}
+use Rattle.spec_check.specs.Run.{sum_run, some_run, lower_by_run, upper_by_run, lower_run, upper_run}
+use Rattle.spec_check.specs.Run.{is_less, is_greater, at_least, at_most, stands_at, is_tight}
+use Rattle.spec_check.specs.Run.{column_within_run, columns_run, activity_run, row_within_run, rows_run}
 
 pub then_ok : {A B : Type 0} (o : Run A) (a : A) (next : A → Run B) (b : B) → o ≡ Ok a → next a ≡ Ok b →
     (o >>= next) ≡ Ok b
@@ -39,7 +44,8 @@ pub from_all : (s : ℚ) (n : ℕ) (f : ℕ → ℚ → Run ℚ) (t : ℕ → �
     each_from s n f ≡ Ok (s +ℚ sum_below n t)
 from_all s zero f t h = ap Ok (sym (+ℚ_zero s))
 from_all s (suc n) f t h =
-    then_ok (each_from s n f) (s +ℚ sum_below n t) (λ u. f n u) (s +ℚ sum_below (suc n) t) (from_all s n f t (λ k u p. h k u (omega (arith, p))))
+    then_ok (each_from s n f) (s +ℚ sum_below n t) (λ u. f n u)
+    (s +ℚ sum_below (suc n) t) (from_all s n f t (λ k u p. h k u (omega (arith, p))))
     (h n (s +ℚ sum_below n t) (omega arith) ∙ ap Ok (+ℚ_assoc s (sum_below n t) (t n)))
 
 pub added : (v w : ℚ) → step Add v w (add None v w) ≡ Ok (v +ℚ w)
@@ -53,15 +59,18 @@ multiplied v w = comes Mul v w (mul None v w) (v *ℚ w) (mul_unlimited v w)
 
 pub plus_all : (v w s : ℚ) → plus_product None v w s ≡ Ok (s +ℚ v *ℚ w)
 plus_all v w s =
-    then_ok (step Mul v w (mul None v w)) (v *ℚ w) (λ p. step Add s p (add None s p)) (s +ℚ v *ℚ w) (multiplied v w) (added s (v *ℚ w))
+    then_ok (step Mul v w (mul None v w)) (v *ℚ w) (λ p. step Add s p (add None s p))
+    (s +ℚ v *ℚ w) (multiplied v w) (added s (v *ℚ w))
 
 pub less_all : (v w s : ℚ) → less_product None v w s ≡ Ok (s -ℚ v *ℚ w)
 less_all v w s =
-    then_ok (step Mul v w (mul None v w)) (v *ℚ w) (λ p. step Sub s p (sub None s p)) (s -ℚ v *ℚ w) (multiplied v w) (taken s (v *ℚ w))
+    then_ok (step Mul v w (mul None v w)) (v *ℚ w) (λ p. step Sub s p (sub None s p))
+    (s -ℚ v *ℚ w) (multiplied v w) (taken s (v *ℚ w))
 
 pub sum_all : (n : ℕ) (f g : ℕ → ℚ) → sum_run None n f g ≡ Ok (sum_below n (λ k. f k *ℚ g k))
 sum_all n f g =
-    from_all 0ℚ n (λ k s. plus_product None (f k) (g k) s) (λ k. f k *ℚ g k) (λ k u p. plus_all (f k) (g k) u) ∙ ap Ok (zero-+ℚ _)
+    from_all 0ℚ n (λ k s. plus_product None (f k) (g k) s) (λ k. f k *ℚ g k) (λ k u p. plus_all (f k) (g k) u)
+    ∙ ap Ok (zero-+ℚ _)
 
 -- ---- a row's limits
 pub some_all : (run : Run ℚ) (v : ℚ) → run ≡ Ok v → some_run run ≡ Ok (Some v)
@@ -76,7 +85,8 @@ lower_by_all E b None = refl
 lower_by_all E b (Some r) = by (lt_ℚ r 0ℚ)
   where
     by : (t : Bool) →
-        cond t (some_run (step Add b r (add None b r))) (Ok (Some b)) ≡ Ok (cond t (from_to (b +ℚ r) b) (from_to b (b +ℚ r))).lower
+        cond t (some_run (step Add b r (add None b r))) (Ok (Some b))
+        ≡ Ok (cond t (from_to (b +ℚ r) b) (from_to b (b +ℚ r))).lower
     by true = some_all _ (b +ℚ r) (added b r)
     by false = refl
 
@@ -89,7 +99,8 @@ upper_by_all E b None = refl
 upper_by_all E b (Some r) = by (lt_ℚ r 0ℚ)
   where
     by : (t : Bool) →
-        cond t (Ok (Some b)) (some_run (step Add b r (add None b r))) ≡ Ok (cond t (from_to (b +ℚ r) b) (from_to b (b +ℚ r))).upper
+        cond t (Ok (Some b)) (some_run (step Add b r (add None b r)))
+        ≡ Ok (cond t (from_to (b +ℚ r) b) (from_to b (b +ℚ r))).upper
     by true = refl
     by false = some_all _ (b +ℚ r) (added b r)
 
@@ -116,12 +127,14 @@ not_greater_test Greater v k e h = clash_ℚ k v ((order_greater v k).0 e) h
 pub least_all : (n : ℕ) (o : Option ℚ) (v : ℚ) → IfSome o (λ k. k ≤ℚ v) → at_least n None o v ≡ Ok tt
 least_all n None v h = refl
 least_all n (Some k) v h =
-    then_ok (step Cmp v k (compare None v k)) (order v k) (λ o. need n (not (is_less o))) tt (ordered v k) (need_true n _ (not_less_test (order v k) v k refl h))
+    then_ok (step Cmp v k (compare None v k)) (order v k) (λ o. need n (not (is_less o))) tt
+    (ordered v k) (need_true n _ (not_less_test (order v k) v k refl h))
 
 pub most_all : (n : ℕ) (o : Option ℚ) (v : ℚ) → IfSome o (λ k. v ≤ℚ k) → at_most n None o v ≡ Ok tt
 most_all n None v h = refl
 most_all n (Some k) v h =
-    then_ok (step Cmp v k (compare None v k)) (order v k) (λ o. need n (not (is_greater o))) tt (ordered v k) (need_true n _ (not_greater_test (order v k) v k refl h))
+    then_ok (step Cmp v k (compare None v k)) (order v k) (λ o. need n (not (is_greater o))) tt
+    (ordered v k) (need_true n _ (not_greater_test (order v k) v k refl h))
 
 pub stands_test : (o : Option ℚ) (v : ℚ) → o ≡ Some v → stands_at o v ≡ true
 stands_test o v e = ap (λ z. stands_at z v) e ∙ eq_test v v refl
@@ -153,8 +166,10 @@ pub row_within_all : (m : Model) (x : List ℚ) (i : ℕ) → IsBetween (limits 
 row_within_all m x i b =
     then_ok (activity_run None m x i) (activity m x i) _ tt (activity_all m x i)
     (then_ok (lower_run None (row m i)) (limits m i).lower _ tt (lower_all (row m i))
-    (then_ok (at_least 2 None (limits m i).lower (activity m x i)) tt _ tt (least_all 2 (limits m i).lower (activity m x i) b.lower)
-    (then_ok (upper_run None (row m i)) (limits m i).upper (λ u. at_most 2 None u (activity m x i)) tt (upper_all (row m i))
+    (then_ok (at_least 2 None (limits m i).lower (activity m x i)) tt _ tt
+    (least_all 2 (limits m i).lower (activity m x i) b.lower)
+    (then_ok (upper_run None (row m i))
+    (limits m i).upper (λ u. at_most 2 None u (activity m x i)) tt (upper_all (row m i))
     (most_all 2 (limits m i).upper (activity m x i) b.upper))))
 
 pub rows_all : (m : Model) (x : List ℚ) → IsFeasible m x → rows_run None m x ≡ Ok tt

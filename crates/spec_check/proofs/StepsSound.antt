@@ -1,5 +1,7 @@
 -- What the steps of a run that says yes show: sums, limits, comparisons, and a feasible point.
-use Rattle.std.proofs.Common.{◌≡◌, ℕ, zero, suc, ◌<◌, List, length, Option, Some, None, Ok, Err, IfSome, Bool, true, false, not, cond, Ordering, Less, Equal, Greater, refl, sym, ap, ◌∙◌, subst, arith, ⊎_elim}
+use Rattle.std.proofs.Common.{◌≡◌, ℕ, zero, suc, ◌<◌, List, length, Option, Some, None}
+use Rattle.std.proofs.Common.{Ok, Err, IfSome, Bool, true, false, not, cond, Ordering, Less}
+use Rattle.std.proofs.Common.{Equal, Greater, refl, sym, ap, ◌∙◌, subst, arith, ⊎_elim}
 use Rattle.std.specs.Prelude.{⊤}
 use Rattle.std.proofs.lemmas.Bool.{cases_lt}
 use Rattle.spec_exact.specs.Fraction.{ℚ, 0ℚ, ◌+ℚ◌, ◌-ℚ◌, ◌*ℚ◌, ◌≤ℚ◌, ◌<ℚ◌, lt_ℚ, abs_ℚ}
@@ -15,10 +17,14 @@ use Rattle.spec_exact.proofs.Compare.{compare_gives, order_less, order_equal, or
 use Rattle.spec_exact.proofs.Same.{eq_if}
 use Rattle.spec_model.specs.declared.parts.Kind.{Kind}
 use Rattle.spec_model.specs.declared.parts.Kind.TheVariants.{L, G, E}
-use Rattle.spec_model.specs.Model.{Model, ExactRow, Limits, limits_by, limits_of, from_to, width, height, bounds, limits, row, coefficient, activity, part}
+use Rattle.spec_model.specs.Model.{Model, ExactRow, Limits, limits_by, limits_of, from_to, width}
+use Rattle.spec_model.specs.Model.{height, bounds, limits, row, coefficient, activity, part}
 use Rattle.spec_model.specs.Truth.{IsBetween, IsFeasible}
 use Rattle.spec_check.specs.Checks.{IsTight}
-use Rattle.spec_check.specs.Run.{Run, ◌>>=◌, step, need, each, each_from, plus_product, less_product, sum_run, some_run, lower_by_run, upper_by_run, lower_run, upper_run, is_less, is_greater, at_least, at_most, stands_at, is_tight, column_within_run, columns_run, activity_run, row_within_run, rows_run}
+use Rattle.spec_check.specs.Run.{Run, ◌>>=◌, step, need, each, each_from, plus_product, less_product}
+use Rattle.spec_check.specs.Run.{sum_run, some_run, lower_by_run, upper_by_run, lower_run, upper_run}
+use Rattle.spec_check.specs.Run.{is_less, is_greater, at_least, at_most, stands_at, is_tight}
+use Rattle.spec_check.specs.Run.{column_within_run, columns_run, activity_run, row_within_run, rows_run}
 
 -- ---- what a yes came from
 pub after_ok : {A B : Type 0} (o : Run A) (next : A → Run B) (b : B) → (o >>= next) ≡ Ok b →
@@ -54,7 +60,8 @@ pub sum_ok : (s : ℚ) (n : ℕ) (f : ℕ → ℚ → Run ℚ) (t : ℕ → ℚ)
 sum_ok s zero f t h v e = sym (ok_same s v e) ∙ sym (+ℚ_zero s)
 sum_ok s (suc n) f t h v e =
     let a = after_ok (each_from s n f) (λ u. f n u) v e in
-    h n a.0 v (omega arith) a.2 ∙ ap (λ u. u +ℚ t n) (sum_ok s n f t (λ k u w p. h k u w (omega (arith, p))) a.0 a.1) ∙ +ℚ_assoc s (sum_below n t) (t n)
+    h n a.0 v (omega arith) a.2 ∙ ap (λ u. u +ℚ t n) (sum_ok s n f t (λ k u w p. h k u w (omega (arith, p))) a.0 a.1)
+    ∙ +ℚ_assoc s (sum_below n t) (t n)
 
 -- each one was reached
 pub some_ok_at : (s : ℚ) (n : ℕ) (f : ℕ → ℚ → Run ℚ) (v : ℚ) → each_from s n f ≡ Ok v → (k : ℕ) → k < n →
@@ -67,17 +74,20 @@ some_ok_at s (suc n) f v e k h =
 pub plus_ok : (limit : Option ℕ) (v w s u : ℚ) → plus_product limit v w s ≡ Ok u → u ≡ s +ℚ v *ℚ w
 plus_ok limit v w s u e =
     let a = after_ok (step Mul v w (mul limit v w)) (λ p. step Add s p (add limit s p)) u e in
-    add_gives limit s a.0 u (step_ok Add s a.0 (add limit s a.0) u a.2) ∙ ap (λ p. s +ℚ p) (mul_gives limit v w a.0 (step_ok Mul v w (mul limit v w) a.0 a.1))
+    add_gives limit s a.0 u (step_ok Add s a.0 (add limit s a.0) u a.2)
+    ∙ ap (λ p. s +ℚ p) (mul_gives limit v w a.0 (step_ok Mul v w (mul limit v w) a.0 a.1))
 
 pub less_ok : (limit : Option ℕ) (v w s u : ℚ) → less_product limit v w s ≡ Ok u → u ≡ s -ℚ v *ℚ w
 less_ok limit v w s u e =
     let a = after_ok (step Mul v w (mul limit v w)) (λ p. step Sub s p (sub limit s p)) u e in
-    sub_gives limit s a.0 u (step_ok Sub s a.0 (sub limit s a.0) u a.2) ∙ ap (λ p. s -ℚ p) (mul_gives limit v w a.0 (step_ok Mul v w (mul limit v w) a.0 a.1))
+    sub_gives limit s a.0 u (step_ok Sub s a.0 (sub limit s a.0) u a.2)
+    ∙ ap (λ p. s -ℚ p) (mul_gives limit v w a.0 (step_ok Mul v w (mul limit v w) a.0 a.1))
 
 pub products_ok : (limit : Option ℕ) (n : ℕ) (f g : ℕ → ℚ) (v : ℚ) → sum_run limit n f g ≡ Ok v →
     v ≡ sum_below n (λ k. f k *ℚ g k)
 products_ok limit n f g v e =
-    sum_ok 0ℚ n (λ k s. plus_product limit (f k) (g k) s) (λ k. f k *ℚ g k) (λ k u w p h. plus_ok limit (f k) (g k) u w h) v e ∙ zero-+ℚ _
+    sum_ok 0ℚ n (λ k s. plus_product limit (f k) (g k) s) (λ k. f k *ℚ g k)
+    (λ k u w p h. plus_ok limit (f k) (g k) u w h) v e ∙ zero-+ℚ _
 
 -- ---- a row's limits
 pub some_ok : (run : Run ℚ) (v : ℚ) → ((x : ℚ) → run ≡ Ok x → x ≡ v) → (l : Option ℚ) → some_run run ≡ Ok l → l ≡ Some v
@@ -179,8 +189,13 @@ tight_from l d v e = record {
 pub column_within_ok : (limit : Option ℕ) (m : Model) (x : List ℚ) (j : ℕ) → column_within_run limit m x j ≡ Ok tt →
     IsBetween (bounds m j) (part x j)
 column_within_ok limit m x j e =
-    let a = after_ok (at_least 1 limit (bounds m j).lower (part x j)) (λ _. at_most 1 limit (bounds m j).upper (part x j)) tt e in
-    record { lower = at_least_ok 1 limit (bounds m j).lower (part x j) a.0 a.1; upper = at_most_ok 1 limit (bounds m j).upper (part x j) tt a.2 }
+    let a =
+    after_ok (at_least 1 limit (bounds m j).lower (part x j))
+    (λ _. at_most 1 limit (bounds m j).upper (part x j)) tt e in
+    record {
+      lower = at_least_ok 1 limit (bounds m j).lower (part x j) a.0 a.1;
+      upper = at_most_ok 1 limit (bounds m j).upper (part x j) tt a.2;
+    }
 
 pub activity_ok : (limit : Option ℕ) (m : Model) (z : List ℚ) (i : ℕ) (v : ℚ) → activity_run limit m z i ≡ Ok v →
     v ≡ activity m z i
@@ -196,7 +211,8 @@ row_within_ok limit m x i e =
     subst (λ v. IsBetween (limits m i) v) (activity_ok limit m x i a.0 a.1)
     (record {
       lower =
-          subst (λ l. IfSome l (λ k. k ≤ℚ a.0)) (lower_ok limit (row m i) b.0 b.1) (at_least_ok 2 limit b.0 a.0 c.0 c.1);
+          subst (λ l. IfSome l (λ k. k ≤ℚ a.0)) (lower_ok limit (row m i) b.0 b.1)
+          (at_least_ok 2 limit b.0 a.0 c.0 c.1);
       upper =
           subst (λ u. IfSome u (λ k. a.0 ≤ℚ k)) (upper_ok limit (row m i) d.0 d.1) (at_most_ok 2 limit d.0 a.0 tt d.2);
     })

@@ -1,5 +1,6 @@
 -- Where the run says yes to a ray, the conditions hold.
-use Rattle.std.proofs.Common.{◌≡◌, ℕ, List, length, Option, Some, None, Ok, IfSome, Bool, true, false, not, refl, sym, subst}
+use Rattle.std.proofs.Common.{◌≡◌, ℕ, List, length, Option, Some, None, Ok}
+use Rattle.std.proofs.Common.{IfSome, Bool, true, false, not, refl, sym, subst}
 use Rattle.std.specs.Prelude.{⊤}
 use Rattle.spec_exact.specs.Fraction.{ℚ, 0ℚ, ◌≤ℚ◌, ◌<ℚ◌, lt_ℚ}
 use Rattle.spec_exact.proofs.Order.{lt_if, le_if_not}
@@ -7,8 +8,10 @@ use Rattle.spec_model.specs.Model.{Model, width, height, bounds, limits, row, co
 use Rattle.spec_check.specs.declared.certificate.Known.{Known}
 use Rattle.spec_check.specs.declared.certificate.Known.TheVariants as known
 use Rattle.spec_check.specs.Checks.{signed, Allows, ChecksUnbounded}
-use Rattle.spec_check.specs.Run.{need, each, lower_run, upper_run, columns_run, activity_run, rows_run, cost_run, not_below, not_above, column_allows_run, row_allows_run, better_run, unbounded_run}
-use Rattle.spec_check.proofs.StepsSound.{after_ok, need_ok, ok_same, each_ok, products_ok, lower_ok, upper_ok, activity_ok, feasible_ok}
+use Rattle.spec_check.specs.Run.{need, each, lower_run, upper_run, columns_run, activity_run, rows_run, cost_run}
+use Rattle.spec_check.specs.Run.{not_below, not_above, column_allows_run, row_allows_run, better_run, unbounded_run}
+use Rattle.spec_check.proofs.StepsSound.{after_ok, need_ok, ok_same, each_ok, products_ok}
+use Rattle.spec_check.proofs.StepsSound.{lower_ok, upper_ok, activity_ok, feasible_ok}
 
 not_true : (t : Bool) → not t ≡ true → t ≡ false
 not_true true e = cc
@@ -24,8 +27,13 @@ above_from (Some k) r e = le_if_not 0ℚ r (not_true _ e)
 
 column_allows_ok : (m : Model) (r : List ℚ) (j : ℕ) → column_allows_run m r j ≡ Ok tt → Allows (bounds m j) (part r j)
 column_allows_ok m r j e =
-    let a = after_ok (need 3 (not_below (bounds m j).lower (part r j))) (λ _. need 3 (not_above (bounds m j).upper (part r j))) tt e in
-    record { lower = below_from (bounds m j).lower (part r j) (need_ok 3 _ a.0 a.1); upper = above_from (bounds m j).upper (part r j) (need_ok 3 _ tt a.2) }
+    let a =
+    after_ok (need 3 (not_below (bounds m j).lower (part r j)))
+    (λ _. need 3 (not_above (bounds m j).upper (part r j))) tt e in
+    record {
+      lower = below_from (bounds m j).lower (part r j) (need_ok 3 _ a.0 a.1);
+      upper = above_from (bounds m j).upper (part r j) (need_ok 3 _ tt a.2);
+    }
 
 row_allows_ok : (limit : Option ℕ) (m : Model) (r : List ℚ) (i : ℕ) → row_allows_run limit m r i ≡ Ok tt →
     Allows (limits m i) (activity m r i)
@@ -37,16 +45,19 @@ row_allows_ok limit m r i e =
     subst (Allows (limits m i)) (activity_ok limit m r i a.0 a.1)
     (record {
       lower =
-          subst (λ l. IfSome l (λ _. 0ℚ ≤ℚ a.0)) (lower_ok limit (row m i) b.0 b.1) (below_from b.0 a.0 (need_ok 4 _ c.0 c.1));
+          subst (λ l. IfSome l (λ _. 0ℚ ≤ℚ a.0)) (lower_ok limit (row m i) b.0 b.1)
+          (below_from b.0 a.0 (need_ok 4 _ c.0 c.1));
       upper =
-          subst (λ u. IfSome u (λ _. a.0 ≤ℚ 0ℚ)) (upper_ok limit (row m i) d.0 d.1) (above_from d.0 a.0 (need_ok 4 _ tt d.2));
+          subst (λ u. IfSome u (λ _. a.0 ≤ℚ 0ℚ)) (upper_ok limit (row m i) d.0 d.1)
+          (above_from d.0 a.0 (need_ok 4 _ tt d.2));
     })
 
 better_ok : (limit : Option ℕ) (m : Model) (r : List ℚ) (t : ⊤) → better_run limit m r ≡ Ok t →
     signed m.sense (cost_of m r) <ℚ 0ℚ
 better_ok limit m r t e =
     let a = after_ok (cost_run limit m r) (λ s. need 5 (lt_ℚ (signed m.sense s) 0ℚ)) t e in
-    subst (λ z. signed m.sense z <ℚ 0ℚ) (products_ok limit (width m) (cost m) (λ j. part r j) a.0 a.1) (lt_if (signed m.sense a.0) 0ℚ (need_ok 5 _ t a.2))
+    subst (λ z. signed m.sense z <ℚ 0ℚ) (products_ok limit (width m) (cost m) (λ j. part r j) a.0 a.1)
+    (lt_if (signed m.sense a.0) 0ℚ (need_ok 5 _ t a.2))
 
 pub unbounded_ok : (limit : Option ℕ) (m : Model) (x r : List ℚ) (said : Known ℚ) → length x ≡ width m →
     unbounded_run limit m x r ≡ Ok said → ChecksUnbounded m x r × (said ≡ known.Unbounded)

@@ -4,7 +4,8 @@ use Rattle.spec_exact.specs.Fraction.{ℚ, ◌-ℚ◌, ◌*ℚ◌, ◌≤ℚ◌,
 use Rattle.spec_exact.specs.Sums.{sum_below}
 use Rattle.spec_model.specs.declared.parts.Sense.{Sense}
 use Rattle.spec_model.specs.declared.parts.Sense.TheVariants.{Min, Max}
-use Rattle.spec_model.specs.Model.{Model, Limits, width, height, bounds, limits, cost, coefficient, activity, cost_of, part}
+use Rattle.spec_model.specs.Model.{Model, Limits, width, height, bounds, limits}
+use Rattle.spec_model.specs.Model.{cost, coefficient, activity, cost_of, part}
 use Rattle.spec_model.specs.Truth.{IsFeasible}
 use Rattle.spec_check.specs.declared.certificate.Certificate.{Certificate}
 use Rattle.spec_check.specs.declared.certificate.Certificate.TheVariants.{Optimal, Infeasible, Clash, Unbounded}

@@ -1,5 +1,6 @@
 -- The checker's run: the sums and tests of the conditions, in their order, under a limit.
-use Rattle.std.specs.Prelude.{◌≡◌, ◌⊎◌, ℕ, zero, suc, ⊤, List, Option, Some, None, Result, Ok, Err, Bool, true, false, not, cond, ok_or}
+use Rattle.std.specs.Prelude.{◌≡◌, ◌⊎◌, ℕ, zero, suc, ⊤, List, Option, Some, None}
+use Rattle.std.specs.Prelude.{Result, Ok, Err, Bool, true, false, not, cond, ok_or}
 use Rattle.std.specs.declared.cmp.Ordering.{Ordering}
 use Rattle.std.specs.declared.cmp.Ordering.TheVariants.{Less, Equal, Greater}
 use Rattle.spec_exact.specs.Fraction.{ℚ, 0ℚ, abs_ℚ, lt_ℚ, eq_ℚ}
@@ -143,8 +144,10 @@ column_tight_run limit m x y j = reduced_run limit m y j >>= λ d. need 3 (is_ti
 -- The sum and the limit that the multiplier's sign asks for are those of condition 2, taken again.
 abbrev pub row_tight_run : Option ℕ → Model → List ℚ → List ℚ → ℕ → Run ⊤
 row_tight_run limit m x y i =
-    cond (lt_ℚ 0ℚ (part y i)) (activity_run limit m x i >>= λ v. lower_run limit (row m i) >>= λ l. need 4 (stands_at l v))
-    (cond (lt_ℚ (part y i) 0ℚ) (activity_run limit m x i >>= λ v. upper_run limit (row m i) >>= λ u. need 4 (stands_at u v)) (Ok tt))
+    cond (lt_ℚ 0ℚ (part y i))
+    (activity_run limit m x i >>= λ v. lower_run limit (row m i) >>= λ l. need 4 (stands_at l v))
+    (cond (lt_ℚ (part y i) 0ℚ)
+    (activity_run limit m x i >>= λ v. upper_run limit (row m i) >>= λ u. need 4 (stands_at u v)) (Ok tt))
 
 -- ---- the value
 abbrev pub cost_run : Option ℕ → Model → List ℚ → Run ℚ

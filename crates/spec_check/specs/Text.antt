@@ -1,7 +1,8 @@
--- The text of a certificate. Its first line says the kind: OPTIMAL, INFEASIBLE, UNBOUNDED, or CLASH and a column's name. Each
--- line after it is a part: a letter that the kind takes, a name and a number. The last line is END. Each line is a step from
--- what was read before it.
-use Rattle.std.specs.Prelude.{ℕ, ◌+◌, ◌≡◌, ◌⊎◌, Bool, true, false, Option, Some, None, List, [], ◌∷◌, ◌++◌, codes, if◌then◌else◌}
+-- The text of a certificate. Its first line says the kind: OPTIMAL, INFEASIBLE, UNBOUNDED, or CLASH and a column's
+-- name. Each line after it is a part: a letter that the kind takes, a name and a number. The last line is END. Each
+-- line is a step from what was read before it.
+use Rattle.std.specs.Prelude.{ℕ, ◌+◌, ◌≡◌, ◌⊎◌, Bool, true, false, Option, Some}
+use Rattle.std.specs.Prelude.{None, List, [], ◌∷◌, ◌++◌, codes, if◌then◌else◌}
 use Rattle.spec_text.specs.declared.line.Line.{Line}
 use Rattle.spec_text.specs.declared.line.Line.TheVariants as line
 use Rattle.spec_text.specs.Words.{same, words_of}
@@ -47,7 +48,8 @@ takes (Clash name) letter = false
 
 -- the kind that the words of a first line say
 unfoldable pub kind_of : List (List ℕ) → Option ExactKind
-kind_of (word ∷ []) = look_up word ((codes "OPTIMAL", Optimal) ∷ (codes "INFEASIBLE", Infeasible) ∷ (codes "UNBOUNDED", Unbounded) ∷ [])
+kind_of (word ∷ []) =
+    look_up word ((codes "OPTIMAL", Optimal) ∷ (codes "INFEASIBLE", Infeasible) ∷ (codes "UNBOUNDED", Unbounded) ∷ [])
 kind_of (word ∷ name ∷ []) = if same word (codes "CLASH") then Some (Clash name) else None
 kind_of words = None
 

@@ -49,14 +49,18 @@ pub fn certificates_are_sound()
 
 /// Where the run says yes, at any limit, the conditions hold, it says what the certificate shows, and that is true.
 pub fn runs_are_sound()
-    ensures truth { (limit : Option ℕ) (m : Model) (cert : Certificate (List ℚ)) (known : Known ℚ) → IsFor m cert → check_run limit m cert ≡ Ok known → Holds m known }
-    ensures conditions { (limit : Option ℕ) (m : Model) (cert : Certificate (List ℚ)) (known : Known ℚ) → IsFor m cert → check_run limit m cert ≡ Ok known → Checks m cert × (known ≡ shown m cert) }
+    ensures truth { (limit : Option ℕ) (m : Model) (cert : Certificate (List ℚ)) (known : Known ℚ) →
+        IsFor m cert → check_run limit m cert ≡ Ok known → Holds m known }
+    ensures conditions { (limit : Option ℕ) (m : Model) (cert : Certificate (List ℚ)) (known : Known ℚ) →
+        IsFor m cert → check_run limit m cert ≡ Ok known → Checks m cert × (known ≡ shown m cert) }
 {}
 
 /// At a limit the run is the run without one, or an operation is refused.
 pub fn limits_only_refuse()
-    ensures accepted { (limit : Option ℕ) (m : Model) (cert : Certificate (List ℚ)) → Checks m cert → Agrees (check_run limit m cert) (Ok (shown m cert)) }
-    ensures same { (limit : Option ℕ) (m : Model) (cert : Certificate (List ℚ)) → Agrees (check_run limit m cert) (check_run None m cert) }
+    ensures accepted { (limit : Option ℕ) (m : Model) (cert : Certificate (List ℚ)) →
+        Checks m cert → Agrees (check_run limit m cert) (Ok (shown m cert)) }
+    ensures same { (limit : Option ℕ) (m : Model) (cert : Certificate (List ℚ)) →
+        Agrees (check_run limit m cert) (check_run None m cert) }
 {}
 
 /// Where the conditions hold, the run without a limit says yes.
@@ -71,23 +75,27 @@ pub fn certificate_texts_are_judged()
 
 /// The text of a certificate is read as that certificate, whatever follows the text.
 pub fn written_certificates_are_read()
-    ensures { (m : Model) (cert : Certificate (List ℚ)) → IsModel m → IsFor m cert → IsNarrowCertificate cert → IsReadBack m cert }
+    ensures { (m : Model) (cert : Certificate (List ℚ)) → IsModel m →
+        IsFor m cert → IsNarrowCertificate cert → IsReadBack m cert }
 {}
 
-/// The steps of a text's lines, one by one, are the judgement of the text. After lines that lead on, a line leads further,
-/// or ends the text, which spells that certificate whatever follows, or does not fit, and refuses the text there. Where no
-/// line follows, the line that would come next does not fit.
+/// The steps of a text's lines, one by one, are the judgement of the text. After lines that lead on, a line leads
+/// further, or ends the text, which spells that certificate whatever follows, or does not fit, and refuses the text
+/// there. Where no line follows, the line that would come next does not fit.
 pub fn certificate_steps_are_the_judgement()
     ensures longer { (lines : List (Line (List ℕ))) (line : Line (List ℕ)) (s : Option ExactRaw) (raw : ExactRaw) →
         Leads None lines s → step s line ≡ More raw → Leads None (lines ++ line ∷ []) (Some raw) }
-    ensures spelled { (lines more : List (Line (List ℕ))) (line : Line (List ℕ)) (s : Option ExactRaw) (raw : ExactRaw) →
+    ensures spelled { (lines more : List (Line (List ℕ)))
+        (line : Line (List ℕ)) (s : Option ExactRaw) (raw : ExactRaw) →
         Leads None lines s → step s line ≡ Done raw → Spells (lines ++ line ∷ more) raw }
     ensures refused { (lines more : List (Line (List ℕ))) (line : Line (List ℕ)) (s : Option ExactRaw) →
         Leads None lines s → step s line ≡ Unfit → Refuses (lines ++ line ∷ more) (length lines + 1) }
-    ensures cut { (lines : List (Line (List ℕ))) (s : Option ExactRaw) → Leads None lines s → Refuses lines (length lines + 1) }
+    ensures cut { (lines : List (Line (List ℕ))) (s : Option ExactRaw) →
+        Leads None lines s → Refuses lines (length lines + 1) }
 {}
 
 /// A certificate that parts make for a model has a number for each of its columns and rows.
 pub fn settled_certificates_fit()
-    ensures { (m : Model) (raw : ExactRaw) (cert : Certificate (List ℚ)) → certificate_for m raw ≡ Ok cert → IsFor m cert }
+    ensures { (m : Model) (raw : ExactRaw) (cert : Certificate (List ℚ)) →
+        certificate_for m raw ≡ Ok cert → IsFor m cert }
 {}

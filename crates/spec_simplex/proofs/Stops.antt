@@ -1,5 +1,7 @@
--- Runs over places in order, step by step: one more place, and a refusal at a place, which stays so at the places after it.
-use Rattle.std.proofs.Common.{◌≡◌, ℕ, zero, suc, ◌+◌, ◌-◌, ◌<◌, List, [], ◌∷◌, ◌++◌, length, get_or, Result, Ok, Err, ⊎_elim, refl, sym, subst, ap, ◌∙◌, arith}
+-- Runs over places in order, step by step: one more place, and a refusal at a place,
+-- which stays so at the places after it.
+use Rattle.std.proofs.Common.{◌≡◌, ℕ, zero, suc, ◌+◌, ◌-◌, ◌<◌, List, [], ◌∷◌, ◌++◌, length}
+use Rattle.std.proofs.Common.{get_or, Result, Ok, Err, ⊎_elim, refl, sym, subst, ap, ◌∙◌, arith}
 use Rattle.std.proofs.lemmas.Bool.{cases_eq}
 use Rattle.std.proofs.lemmas.List.{length-append}
 use Rattle.std.proofs.lemmas.List.Elements.{All-nil, All-push}
@@ -21,7 +23,8 @@ steps_stay : {A E : Type 0} (n d : ℕ) (f : ℕ → A → Result A E) (a : A) (
     steps (n + d) f a ≡ Err e
 steps_stay n zero f a e h = (let z : n + 0 ≡ n = omega arith in ap (λ k. steps k f a) z) ∙ h
 steps_stay n (suc d) f a e h =
-    (let z : n + suc d ≡ suc (n + d) = omega arith in ap (λ k. steps k f a) z) ∙ ap (λ o. o >>= λ b. f (n + d) b) (steps_stay n d f a e h)
+    (let z : n + suc d ≡ suc (n + d) = omega arith in ap (λ k. steps k f a) z)
+    ∙ ap (λ o. o >>= λ b. f (n + d) b) (steps_stay n d f a e h)
 
 -- one more step
 pub steps_more : {A E : Type 0} (k : ℕ) (f : ℕ → A → Result A E) (a b c : A) → steps k f a ≡ Ok b → f k b ≡ Ok c →
@@ -32,7 +35,8 @@ steps_more k f a b c h g = ap (λ i. steps i f a) (next_is k) ∙ ap (λ o. o >>
 pub steps_stop : {A E : Type 0} (k n : ℕ) (f : ℕ → A → Result A E) (a b : A) (e : E) → k < n → steps k f a ≡ Ok b →
     f k b ≡ Err e → steps n f a ≡ Err e
 steps_stop k n f a b e p h g =
-    subst (λ i. steps i f a ≡ Err e) (up_to k n p) (steps_stay (suc k) (n - suc k) f a e (ap (λ o. o >>= λ b. f k b) h ∙ g))
+    subst (λ i. steps i f a ≡ Err e) (up_to k n p)
+    (steps_stay (suc k) (n - suc k) f a e (ap (λ o. o >>= λ b. f k b) h ∙ g))
 
 -- ---- lists
 list_stays : {A : Type 0} (n d : ℕ) (f : ℕ → Run A) (e : Past ℚ) → list_run n f ≡ Err e → list_run (n + d) f ≡ Err e
@@ -45,14 +49,16 @@ list_stays n (suc d) f e h =
 pub list_more : {A : Type 0} (k : ℕ) (f : ℕ → Run A) (xs : List A) (x : A) → list_run k f ≡ Ok xs → f k ≡ Ok x →
     list_run (k + 1) f ≡ Ok (xs ++ x ∷ [])
 list_more k f xs x h g =
-    ap (λ i. list_run i f) (next_is k) ∙ ap (λ o. o >>= λ xs. f k >>= λ x. Ok (xs ++ x ∷ [])) h ∙ ap (λ o. o >>= λ x. Ok (xs ++ x ∷ [])) g
+    ap (λ i. list_run i f) (next_is k) ∙ ap (λ o. o >>= λ xs. f k >>= λ x. Ok (xs ++ x ∷ [])) h
+    ∙ ap (λ o. o >>= λ x. Ok (xs ++ x ∷ [])) g
 
 -- a refusal of item k stops the list of n
 pub list_stops : {A : Type 0} (k n : ℕ) (f : ℕ → Run A) (xs : List A) (e : Past ℚ) → k < n → list_run k f ≡ Ok xs →
     f k ≡ Err e → list_run n f ≡ Err e
 list_stops k n f xs e p h g =
     subst (λ i. list_run i f ≡ Err e) (up_to k n p)
-    (list_stays (suc k) (n - suc k) f e (ap (λ o. o >>= λ xs. f k >>= λ x. Ok (xs ++ x ∷ [])) h ∙ ap (λ o. o >>= λ x. Ok (xs ++ x ∷ [])) g))
+    (list_stays (suc k) (n - suc k) f e
+    (ap (λ o. o >>= λ xs. f k >>= λ x. Ok (xs ++ x ∷ [])) h ∙ ap (λ o. o >>= λ x. Ok (xs ++ x ∷ [])) g))
 
 -- ---- lists without operations
 pub length-made : {A : Type 0} (n : ℕ) (f : ℕ → A) → length (made n f) ≡ n
@@ -80,7 +86,8 @@ get_or-made {A} (suc n) f i d h = ⊎_elim at_end (λ ne. before (get_or-made n 
   where
     at_end : i ≡ n → get_or (made n f ++ f n ∷ []) i d ≡ f i
     at_end e =
-        ap (λ k. get_or (made n f ++ f n ∷ []) k d) (e ∙ sym (length-made n f)) ∙ get_or-append_seam (made n f) (f n) [] d ∙ ap f (sym e)
+        ap (λ k. get_or (made n f ++ f n ∷ []) k d) (e ∙ sym (length-made n f))
+        ∙ get_or-append_seam (made n f) (f n) [] d ∙ ap f (sym e)
 
     before : (i < n → get_or (made n f) i d ≡ f i) → i < n → get_or (made n f ++ f n ∷ []) i d ≡ f i
     before g l = get_or-append (made n f) (f n ∷ []) d i (omega (arith, l, length-made n f)) ∙ g l

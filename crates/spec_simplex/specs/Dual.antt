@@ -1,6 +1,7 @@
--- The dual method on a tableau, at a limit and within a budget: flips that give each reduced cost the sign that it needs, and
--- then steps up to an end.
-use Rattle.std.specs.Prelude.{ℕ, zero, suc, ◌+◌, ◌-◌, Option, Some, None, Result, Ok, Err, Bool, true, false, nat_le, nat_eq, if◌then◌else◌}
+-- The dual method on a tableau, at a limit and within a budget: flips that give each reduced cost the sign that it
+-- needs, and then steps up to an end.
+use Rattle.std.specs.Prelude.{ℕ, zero, suc, ◌+◌, ◌-◌, Option, Some, None, Result, Ok}
+use Rattle.std.specs.Prelude.{Err, Bool, true, false, nat_le, nat_eq, if◌then◌else◌}
 use Rattle.std.specs.declared.cmp.Ordering.{Ordering}
 use Rattle.std.specs.declared.cmp.Ordering.TheVariants.{Less, Equal, Greater}
 use Rattle.spec_exact.specs.Fraction.{ℚ, abs_ℚ}
@@ -10,7 +11,8 @@ use Rattle.spec_simplex.specs.declared.ends.RunStop.{RunStop}
 use Rattle.spec_simplex.specs.declared.ends.RunStop.TheVariants as stop
 use Rattle.spec_simplex.specs.Run.{Run, ◌>>=◌, refused_as, difference_run, quotient_run, order_run, steps}
 use Rattle.spec_simplex.specs.Step.{directed, way_by, flip_run, pivot_run}
-use Rattle.spec_simplex.specs.Tableau.{Tableau, all_columns, entry_at, basic_at, value_at, reduced_at, status_at, lower_at, upper_at, is_fixed, stand}
+use Rattle.spec_simplex.specs.Tableau.{Tableau, all_columns, entry_at, basic_at, value_at}
+use Rattle.spec_simplex.specs.Tableau.{reduced_at, status_at, lower_at, upper_at, is_fixed, stand}
 use Rattle.spec_simplex.specs.declared.ends.Leaving.{Leaving}
 use Rattle.spec_simplex.specs.declared.ends.Cheapest.{Cheapest}
 use Rattle.spec_simplex.specs.declared.ends.DualEnd.{DualEnd}
@@ -39,7 +41,8 @@ flip_next limit budget k r = flip_by limit k r (nat_le budget r.used)
 -- Each column that needs its other bound goes there, in order. A flip changes the need of no other column.
 unfoldable pub flips_run : Option ℕ → ℕ → Tableau → Result Reached (RunStop ℚ)
 flips_run limit budget t =
-    steps (all_columns t) (λ k r. if needs_flip_at r.tableau k then flip_next limit budget k r else Ok r) (record { tableau = t; used = 0 })
+    steps (all_columns t) (λ k r. if needs_flip_at r.tableau k then flip_next limit budget k r else Ok r)
+    (record { tableau = t; used = 0 })
 
 -- ---- entering
 -- the position of column k: the last of the first n at which it is basic
@@ -50,8 +53,8 @@ place_below t k (suc n) = if nat_eq (basic_at t n) k then n else place_below t k
 abbrev pub place_of : Tableau → ℕ → ℕ
 place_of t k = place_below t k t.rows
 
--- Whether column k rises or falls as it enters, if it may: the column at position p, which is below its lower bound or above
--- its upper one, then comes back. A basic and a fixed column never enter.
+-- Whether column k rises or falls as it enters, if it may: the column at position p, which is below its lower bound or
+-- above its upper one, then comes back. A basic and a fixed column never enter.
 abbrev pub dual_way_at : Tableau → ℕ → Bool → ℕ → Option Bool
 dual_way_at t p below k =
     if is_fixed (lower_at t k) (upper_at t k) then None else way_by (status_at t k) (directed below (entry_at t p k))
@@ -70,7 +73,8 @@ cheaper_run limit new (Some best) = order_run limit new.ratio best.ratio >>= λ 
 abbrev pub cheapest_by : Option ℕ → Tableau → ℕ → ℕ → Option (Cheapest ℚ) → Option Bool → Run (Option (Cheapest ℚ))
 cheapest_by limit t p k best None = Ok best
 cheapest_by limit t p k best (Some up) =
-    quotient_run limit (abs_ℚ (reduced_at t k)) (abs_ℚ (entry_at t p k)) >>= λ ratio. cheaper_run limit (record { ratio = ratio; col = k }) best
+    quotient_run limit (abs_ℚ (reduced_at t k)) (abs_ℚ (entry_at t p k)) >>=
+    λ ratio. cheaper_run limit (record { ratio = ratio; col = k }) best
 
 abbrev pub cheapest_with : Option ℕ → Tableau → ℕ → Bool → ℕ → Option (Cheapest ℚ) → Run (Option (Cheapest ℚ))
 cheapest_with limit t p below k best = cheapest_by limit t p k best (dual_way_at t p below k)
@@ -128,7 +132,8 @@ dual_end_or_next limit t used next (Pivot p j to) = refused_as stop.Past (dual_p
 unfoldable pub dual_from : Option ℕ → ℕ → ℕ → Tableau → Result DualEnded (RunStop ℚ)
 dual_from limit zero used t = refused_as stop.Past (dual_choice_run limit t) >>= dual_end_or_spent t used
 dual_from limit (suc left) used t =
-    refused_as stop.Past (dual_choice_run limit t) >>= dual_end_or_next limit t used (λ u. dual_from limit left (used + 1) u)
+    refused_as stop.Past (dual_choice_run limit t) >>=
+    dual_end_or_next limit t used (λ u. dual_from limit left (used + 1) u)
 
 -- the flips, and then the steps
 unfoldable pub dual_run : Option ℕ → ℕ → Tableau → Result DualEnded (RunStop ℚ)

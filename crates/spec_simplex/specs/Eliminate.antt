@@ -1,8 +1,9 @@
--- The tableau of a basis, at a limit: the form's equations are solved for the basic columns, one after the other; then come
--- the values and the reduced costs.
+-- The tableau of a basis, at a limit: the form's equations are solved for the basic columns, one after the other; then
+-- come the values and the reduced costs.
 --
 -- A basis has a status for each structural and then each logical column of the form. Artificial columns are not basic.
-use Rattle.std.specs.Prelude.{◌≡◌, ℕ, zero, suc, ◌+◌, ◌<◌, List, ◌++◌, length, get_or, slice_set, replicate, Option, Some, None, Result, Ok, Err, Bool, true, false, not, ◌&&◌, if◌then◌else◌}
+use Rattle.std.specs.Prelude.{◌≡◌, ℕ, zero, suc, ◌+◌, ◌<◌, List, ◌++◌, length, get_or, slice_set, replicate}
+use Rattle.std.specs.Prelude.{Option, Some, None, Result, Ok, Err, Bool, true, false, not, ◌&&◌, if◌then◌else◌}
 use Rattle.spec_exact.specs.Fraction.{ℚ, 0ℚ, eq_ℚ}
 use Rattle.spec_pivot.specs.declared.status.Status.{Status}
 use Rattle.spec_pivot.specs.declared.status.Status.TheVariants.{Basic, AtLower, AtUpper, AtZero}
@@ -71,7 +72,8 @@ open_below e j (suc n) = or_place (open_below e j n) n (is_open e j n)
 -- column j takes position p, and the rows change as in a pivot there
 abbrev pub solved_at : Option ℕ → Form → Elimination → ℕ → ℕ → Run Elimination
 solved_at limit f e j p =
-    turned_run limit f.rows (f.cols + f.rows + f.rows) e.rows p j >>= λ rows. Ok (record { rows = rows; basic = slice_set e.basic p (Some j) })
+    turned_run limit f.rows (f.cols + f.rows + f.rows) e.rows p j >>=
+    λ rows. Ok (record { rows = rows; basic = slice_set e.basic p (Some j) })
 
 abbrev pub solved_by : Option ℕ → Form → Elimination → ℕ → Option ℕ → Result Elimination (StartStop ℚ)
 solved_by limit f e j None = Err stop.Singular
@@ -85,7 +87,8 @@ unfoldable pub eliminate_run : Option ℕ → Form → List Status → Result El
 eliminate_run limit f basis =
     steps (f.cols + f.rows) (λ j e. if is_basic (basis_at basis j) then solved_run limit f e j else Ok e) (unsolved f)
 
--- ---- the tableau of these rows, in which only the columns that are not basic have their values, and none its reduced cost
+-- ---- the tableau of these rows, in which only the columns that are not basic have their values,
+-- and none its reduced cost
 abbrev pub or_first : Option ℕ → ℕ
 or_first None = 0
 or_first (Some k) = k
@@ -121,7 +124,8 @@ with_basis f basis e =
 -- of that at position i: from 0, each entry of a column that is not basic takes its value times that away
 abbrev pub position_run : Option ℕ → Tableau → ℕ → Run ℚ
 position_run limit t i =
-    steps (all_columns t) (λ k v. if is_basic (status_at t k) then Ok v else less_product limit (entry_at t i k) (value_at t k) v) 0ℚ
+    steps (all_columns t)
+    (λ k v. if is_basic (status_at t k) then Ok v else less_product limit (entry_at t i k) (value_at t k) v) 0ℚ
 
 unfoldable pub valued_run : Option ℕ → Tableau → Run (List ℚ)
 valued_run limit t =

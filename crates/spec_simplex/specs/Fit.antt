@@ -1,13 +1,14 @@
 -- Which method the tableau of a basis is fit for, at a limit.
-use Rattle.std.specs.Prelude.{ℕ, zero, suc, Option, Some, None, Ok, Bool, true, false, not, ◌&&◌, ◌||◌, option_map, if◌then◌else◌}
+use Rattle.std.specs.Prelude.{ℕ, zero, suc, Option, Some, None, Ok, Bool, true}
+use Rattle.std.specs.Prelude.{false, not, ◌&&◌, ◌||◌, option_map, if◌then◌else◌}
 use Rattle.std.specs.declared.cmp.Ordering.{Ordering}
 use Rattle.std.specs.declared.cmp.Ordering.TheVariants.{Less, Equal, Greater}
 use Rattle.spec_exact.specs.Fraction.{ℚ, 0ℚ, eq_ℚ, lt_ℚ}
 use Rattle.spec_pivot.specs.declared.status.Status.{Status}
 use Rattle.spec_pivot.specs.declared.status.Status.TheVariants.{Basic, AtLower, AtUpper, AtZero}
 use Rattle.spec_simplex.specs.Run.{Run, ◌>>=◌, order_run, steps}
-use Rattle.spec_simplex.specs.Tableau.{Tableau, all_columns, value_at, reduced_at, status_at, lower_at, upper_at, is_fixed}
-use Rattle.spec_simplex.specs.Tableau.{is_basic}
+use Rattle.spec_simplex.specs.Tableau.{Tableau, all_columns, value_at, reduced_at}
+use Rattle.spec_simplex.specs.Tableau.{status_at, lower_at, upper_at, is_fixed, is_basic}
 use Rattle.spec_simplex.specs.declared.ends.Fit.{Fit}
 use Rattle.spec_simplex.specs.declared.ends.Fit.TheVariants.{Primal, Dual, Unfit}
 use Rattle.spec_simplex.specs.declared.ends.Leaving.{Leaving}
@@ -42,7 +43,8 @@ outside_run limit lower upper v = below_lower limit lower v >>= outside_by limit
 
 abbrev pub leaving_at : Option ℕ → Tableau → ℕ → Run (Option Leaving)
 leaving_at limit t k =
-    outside_run limit (lower_at t k) (upper_at t k) (value_at t k) >>= λ side. Ok (option_map (λ below. record { col = k; below = below }) side)
+    outside_run limit (lower_at t k) (upper_at t k) (value_at t k) >>=
+    λ side. Ok (option_map (λ below. record { col = k; below = below }) side)
 
 -- nothing is compared after the first that is outside
 abbrev pub leaving_with : Option ℕ → Tableau → ℕ → Option Leaving → Run (Option Leaving)

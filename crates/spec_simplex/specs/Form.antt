@@ -1,9 +1,10 @@
--- The form of a linear program on which the simplex method runs: bounds alone, and costs to be made least. And the form of
--- a model, at a limit.
+-- The form of a linear program on which the simplex method runs: bounds alone, and costs to be made least. And the form
+-- of a model, at a limit.
 --
--- Column j below `cols` is structural, the model's own. Column `cols + i` is the logical of row i: the row's sum, with the
--- row's limits as its bounds and the cost 0.
-use Rattle.std.specs.Prelude.{◌≡◌, ℕ, ◌+◌, ◌≤◌, List, [], ◌++◌, length, get_or, All, map, replicate, Option, Some, None, Result, Ok, Err, if◌then◌else◌}
+-- Column j below `cols` is structural, the model's own. Column `cols + i` is the logical of row i: the row's sum, with
+-- the row's limits as its bounds and the cost 0.
+use Rattle.std.specs.Prelude.{◌≡◌, ℕ, ◌+◌, ◌≤◌, List, [], ◌++◌, length, get_or, All, map}
+use Rattle.std.specs.Prelude.{replicate, Option, Some, None, Result, Ok, Err, if◌then◌else◌}
 use Rattle.std.specs.declared.cmp.Ordering.{Ordering}
 use Rattle.std.specs.declared.cmp.Ordering.TheVariants.{Less, Equal, Greater}
 use Rattle.spec_exact.specs.Fraction.{ℚ, 0ℚ, neg_ℚ, abs_ℚ, lt_ℚ}

@@ -1,5 +1,6 @@
 -- Steps up to an end within a budget, and the two phases of the cold solve, at a limit.
-use Rattle.std.specs.Prelude.{ℕ, zero, suc, ◌+◌, ◌-◌, List, slice_set, Option, Some, Result, Ok, Err, Bool, not, ◌&&◌, if◌then◌else◌}
+use Rattle.std.specs.Prelude.{ℕ, zero, suc, ◌+◌, ◌-◌, List, slice_set, Option, Some}
+use Rattle.std.specs.Prelude.{Result, Ok, Err, Bool, not, ◌&&◌, if◌then◌else◌}
 use Rattle.std.specs.List.{list_any}
 use Rattle.spec_exact.specs.Fraction.{ℚ, 0ℚ, eq_ℚ}
 use Rattle.spec_simplex.specs.Form.{Form}
@@ -54,7 +55,10 @@ fixed_at_zero n (suc m) bounds = slice_set (fixed_at_zero n m bounds) (n + m) (S
 
 abbrev pub without_artificials : Tableau → Tableau
 without_artificials t =
-    record t { lower = fixed_at_zero (form_columns t) t.rows t.lower; upper = fixed_at_zero (form_columns t) t.rows t.upper }
+    record t {
+      lower = fixed_at_zero (form_columns t) t.rows t.lower;
+      upper = fixed_at_zero (form_columns t) t.rows t.upper;
+    }
 
 unfoldable pub phase_two_run : Option ℕ → Form → Tableau → Run Tableau
 phase_two_run limit f t =

@@ -1,6 +1,7 @@
--- The tableau that a form begins with, at a limit: each structural column stands at a bound, and a row's logical is basic
--- where its sum is then within the row's limits; else its artificial is, with the missing amount as its value.
-use Rattle.std.specs.Prelude.{ℕ, ◌+◌, ◌-◌, List, ◌++◌, map, replicate, get_or, Option, Some, None, Ok, Bool, true, false, nat_lt, nat_eq, if◌then◌else◌}
+-- The tableau that a form begins with, at a limit: each structural column stands at a bound, and a row's logical is
+-- basic where its sum is then within the row's limits; else its artificial is, with the missing amount as its value.
+use Rattle.std.specs.Prelude.{ℕ, ◌+◌, ◌-◌, List, ◌++◌, map, replicate, get_or, Option, Some}
+use Rattle.std.specs.Prelude.{None, Ok, Bool, true, false, nat_lt, nat_eq, if◌then◌else◌}
 use Rattle.std.specs.declared.cmp.Ordering.{Ordering}
 use Rattle.std.specs.declared.cmp.Ordering.TheVariants.{Less, Equal, Greater}
 use Rattle.spec_exact.specs.Fraction.{ℚ, 0ℚ, 1ℚ, neg_ℚ}
@@ -9,7 +10,8 @@ use Rattle.spec_pivot.specs.declared.status.Status.TheVariants.{Basic, AtLower, 
 use Rattle.spec_simplex.specs.Form.{Form, form_entry, form_lower, form_upper}
 use Rattle.spec_simplex.specs.declared.ends.RowStart.{RowStart}
 use Rattle.spec_simplex.specs.declared.ends.RowStart.TheVariants.{Within, Below, Above}
-use Rattle.spec_simplex.specs.Run.{Run, ◌>>=◌, difference_run, order_run, plus_product, less_product, steps, list_run, made}
+use Rattle.spec_simplex.specs.Run.{Run, ◌>>=◌, difference_run, order_run}
+use Rattle.spec_simplex.specs.Run.{plus_product, less_product, steps, list_run, made}
 use Rattle.spec_simplex.specs.Tableau.{Tableau, all_columns, basic_at, entry_at, or_zero, stand}
 
 -- ---- the structural columns
@@ -107,7 +109,8 @@ start_at starts i = get_or starts i (Within 0ℚ)
 -- one of three, by whether column k is structural, logical or artificial; the latter two by their rows
 abbrev pub by_column : {A : Type 0} → Form → ℕ → A → (ℕ → A) → (ℕ → A) → A
 by_column f k structural logical artificial =
-    if nat_lt k f.cols then structural else (if nat_lt k (f.cols + f.rows) then logical (k - f.cols) else artificial (k - (f.cols + f.rows)))
+    if nat_lt k f.cols then structural
+    else (if nat_lt k (f.cols + f.rows) then logical (k - f.cols) else artificial (k - (f.cols + f.rows)))
 
 abbrev pub one_at : ℕ → ℕ → ℚ → ℚ
 one_at i r v = if nat_eq i r then v else 0ℚ
@@ -121,11 +124,13 @@ start_basic f starts i = if is_wanting (start_at starts i) then f.cols + f.rows 
 
 abbrev pub start_value : Form → List (RowStart ℚ) → ℕ → ℚ
 start_value f starts k =
-    by_column f k (first_value f k) (λ r. logical_value (start_at starts r) (form_lower f k) (form_upper f k)) (λ r. artificial_value (start_at starts r))
+    by_column f k (first_value f k) (λ r. logical_value (start_at starts r) (form_lower f k) (form_upper f k))
+    (λ r. artificial_value (start_at starts r))
 
 abbrev pub start_status : Form → List (RowStart ℚ) → ℕ → Status
 start_status f starts k =
-    by_column f k (first_status (form_lower f k) (form_upper f k)) (λ r. logical_status (start_at starts r)) (λ r. artificial_status (start_at starts r))
+    by_column f k (first_status (form_lower f k) (form_upper f k))
+    (λ r. logical_status (start_at starts r)) (λ r. artificial_status (start_at starts r))
 
 abbrev pub start_row : Form → List (RowStart ℚ) → ℕ → List ℚ
 start_row f starts i = made (f.cols + f.rows + f.rows) (start_entry f (start_at starts i) i)

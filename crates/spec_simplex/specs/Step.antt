@@ -1,5 +1,6 @@
 -- One step of the primal method, at a limit: which column enters, which position stops it, and the flip or the pivot.
-use Rattle.std.specs.Prelude.{◌≡◌, ◌≢◌, ℕ, ◌<◌, zero, suc, List, slice_set, get_or, Option, Some, None, Ok, Bool, true, false, nat_lt, nat_eq, if◌then◌else◌}
+use Rattle.std.specs.Prelude.{◌≡◌, ◌≢◌, ℕ, ◌<◌, zero, suc, List, slice_set, get_or, Option}
+use Rattle.std.specs.Prelude.{Some, None, Ok, Bool, true, false, nat_lt, nat_eq, if◌then◌else◌}
 use Rattle.std.specs.declared.cmp.Ordering.{Ordering}
 use Rattle.std.specs.declared.cmp.Ordering.TheVariants.{Less, Equal, Greater}
 use Rattle.spec_exact.specs.Fraction.{ℚ, 0ℚ, ◌-ℚ◌, ◌*ℚ◌, neg_ℚ, abs_ℚ, lt_ℚ}
@@ -10,8 +11,10 @@ use Rattle.spec_simplex.specs.declared.ends.Best.{Best}
 use Rattle.spec_simplex.specs.declared.ends.PrimalEnd.TheVariants.{Optimal, Unbounded}
 use Rattle.spec_simplex.specs.declared.ends.Choice.{Choice}
 use Rattle.spec_simplex.specs.declared.ends.Choice.TheVariants.{End, Flip, Pivot}
-use Rattle.spec_simplex.specs.Run.{Run, ◌>>=◌, sum_run, difference_run, quotient_run, order_run, less_product, steps, list_run}
-use Rattle.spec_simplex.specs.Tableau.{Tableau, all_columns, at_place, entry_at, basic_at, value_at, reduced_at, status_at, lower_at, upper_at, is_artificial, is_fixed, or_zero, stand}
+use Rattle.spec_simplex.specs.Run.{Run, ◌>>=◌, sum_run, difference_run, quotient_run}
+use Rattle.spec_simplex.specs.Run.{order_run, less_product, steps, list_run}
+use Rattle.spec_simplex.specs.Tableau.{Tableau, all_columns, at_place, entry_at, basic_at, value_at, reduced_at}
+use Rattle.spec_simplex.specs.Tableau.{status_at, lower_at, upper_at, is_artificial, is_fixed, or_zero, stand}
 
 -- ---- entering: the least column that may
 -- whether a column of this status and reduced cost rises or falls, if it may enter
@@ -51,7 +54,8 @@ abbrev pub range_run : Option ℕ → Entering → Option ℚ → Option ℚ →
 range_run limit e None upper = Ok None
 range_run limit e (Some l) None = Ok None
 range_run limit e (Some l) (Some u) =
-    difference_run limit u l >>= λ range. Ok (Some (record { ratio = range; col = e.col; place = None; to = other_bound e.up }))
+    difference_run limit u l >>=
+    λ range. Ok (Some (record { ratio = range; col = e.col; place = None; to = other_bound e.up }))
 
 -- how far the value v may rise, and how far it may fall, where a bound stops it
 abbrev pub rise_run : Option ℕ → Option ℚ → ℚ → Run (Option (ℚ × Status))
@@ -65,7 +69,8 @@ fall_run limit (Some l) v = difference_run limit v l >>= λ gap. Ok (Some (gap, 
 -- the gap of a column with these bounds at v, in a position whose entry in the entering column is a
 abbrev pub gap_run : Option ℕ → Bool → ℚ → Option ℚ → Option ℚ → ℚ → Run (Option (ℚ × Status))
 gap_run limit up a lower upper v =
-    if lt_ℚ (directed up a) 0ℚ then rise_run limit upper v else (if lt_ℚ 0ℚ (directed up a) then fall_run limit lower v else Ok None)
+    if lt_ℚ (directed up a) 0ℚ then rise_run limit upper v
+    else (if lt_ℚ 0ℚ (directed up a) then fall_run limit lower v else Ok None)
 
 -- the new best where a ratio is less than that of the best so far, or as small and of a lesser column
 abbrev pub better_by : Best ℚ → Best ℚ → Ordering → Best ℚ
@@ -80,12 +85,14 @@ better_run limit new (Some best) = order_run limit new.ratio best.ratio >>= λ o
 abbrev pub with_gap : Option ℕ → ℕ → ℕ → ℚ → Option (Best ℚ) → Option (ℚ × Status) → Run (Option (Best ℚ))
 with_gap limit i k a best None = Ok best
 with_gap limit i k a best (Some (gap, to)) =
-    quotient_run limit gap (abs_ℚ a) >>= λ ratio. better_run limit (record { ratio = ratio; col = k; place = Some i; to = to }) best
+    quotient_run limit gap (abs_ℚ a) >>=
+    λ ratio. better_run limit (record { ratio = ratio; col = k; place = Some i; to = to }) best
 
 -- with position i
 abbrev pub best_with : Option ℕ → Tableau → Entering → ℕ → Option (Best ℚ) → Run (Option (Best ℚ))
 best_with limit t e i best =
-    gap_run limit e.up (entry_at t i e.col) (lower_at t (basic_at t i)) (upper_at t (basic_at t i)) (value_at t (basic_at t i)) >>= λ gap.
+    gap_run limit e.up (entry_at t i e.col) (lower_at t (basic_at t i))
+    (upper_at t (basic_at t i)) (value_at t (basic_at t i)) >>= λ gap.
     with_gap limit i (basic_at t i) (entry_at t i e.col) best gap
 
 abbrev pub best_run : Option ℕ → Tableau → Entering → Run (Option (Best ℚ))
@@ -115,7 +122,8 @@ is_place (Some p) i = nat_eq i p
 
 abbrev pub moved_at : Option ℕ → Tableau → ℕ → ℚ → ℕ → List ℚ → Run (List ℚ)
 moved_at limit t j theta i values =
-    less_product limit (entry_at t i j) theta (get_or values (basic_at t i) 0ℚ) >>= λ v. Ok (slice_set values (basic_at t i) v)
+    less_product limit (entry_at t i j) theta (get_or values (basic_at t i) 0ℚ) >>=
+    λ v. Ok (slice_set values (basic_at t i) v)
 
 unfoldable pub moved_run : Option ℕ → Tableau → ℕ → ℚ → Option ℕ → Run (List ℚ)
 moved_run limit t j theta but =
@@ -147,12 +155,14 @@ scaled_run limit n rows p j =
 -- row i less row p, as often as makes its entry in column j 0
 unfoldable pub cleared_run : Option ℕ → ℕ → ℕ → ℕ → ℕ → List (List ℚ) → Run (List (List ℚ))
 cleared_run limit n p j i rows =
-    list_run n (λ k. less_product limit (at_place rows i j) (at_place rows p k) (at_place rows i k)) >>= λ row. Ok (slice_set rows i row)
+    list_run n (λ k. less_product limit (at_place rows i j) (at_place rows p k) (at_place rows i k)) >>=
+    λ row. Ok (slice_set rows i row)
 
 -- all rows: first row p, then the others in order
 unfoldable pub turned_run : Option ℕ → ℕ → ℕ → List (List ℚ) → ℕ → ℕ → Run (List (List ℚ))
 turned_run limit m n rows p j =
-    scaled_run limit n rows p j >>= λ scaled. steps m (λ i rows. if nat_eq i p then Ok rows else cleared_run limit n p j i rows) scaled
+    scaled_run limit n rows p j >>=
+    λ scaled. steps m (λ i rows. if nat_eq i p then Ok rows else cleared_run limit n p j i rows) scaled
 
 -- the reduced costs, by the new rows
 unfoldable pub repriced_run : Option ℕ → ℕ → List ℚ → List (List ℚ) → ℕ → ℕ → Run (List ℚ)
@@ -200,13 +210,15 @@ NamesBound AtLower lower upper v = lower ≡ Some v
 NamesBound AtUpper lower upper v = upper ≡ Some v
 NamesBound AtZero lower upper v = ⊥
 
--- a pivot may be made: column j is not basic, its entry is not 0, and the move takes the leaving column to a bound that it has
+-- a pivot may be made: column j is not basic, its entry is not 0,
+-- and the move takes the leaving column to a bound that it has
 pub record CanPivot (t : Tableau) (p j : ℕ) (theta : ℚ) (to : Status) : Type 0 where
   pub place : p < t.rows
   pub column : j < all_columns t
   pub nonbasic : status_at t j ≢ Basic
   pub entry : entry_at t p j ≢ 0ℚ
-  pub lands : NamesBound to (lower_at t (basic_at t p)) (upper_at t (basic_at t p)) (value_at t (basic_at t p) -ℚ theta *ℚ entry_at t p j)
+  pub lands : NamesBound to (lower_at t (basic_at t p)) (upper_at t (basic_at t p))
+      (value_at t (basic_at t p) -ℚ theta *ℚ entry_at t p j)
 
 -- a flip may be made: column j is not basic and has both bounds
 pub record CanFlip (t : Tableau) (j : ℕ) : Type 0 where

@@ -1,9 +1,10 @@
--- A tableau: for each position a basic column and a row, for each column its value, its reduced cost, its status and its
--- bounds.
+-- A tableau: for each position a basic column and a row, for each column its value, its reduced cost, its status and
+-- its bounds.
 --
 -- The columns are those of the form and then an artificial for each row. A row t of the tableau says that the sum of
 -- t_k x_k over all columns is 0; it has 1 at its own basic column and 0 at those of the other positions.
-use Rattle.std.specs.Prelude.{◌≡◌, ℕ, ◌+◌, ◌<◌, ◌≤◌, List, [], length, get_or, Option, Some, None, Bool, true, false, nat_le, All}
+use Rattle.std.specs.Prelude.{◌≡◌, ℕ, ◌+◌, ◌<◌, ◌≤◌, List, [], length, get_or}
+use Rattle.std.specs.Prelude.{Option, Some, None, Bool, true, false, nat_le, All}
 use Rattle.spec_exact.specs.Fraction.{ℚ, 0ℚ, eq_ℚ}
 use Rattle.spec_model.specs.Kept.{row_limit, column_limit}
 use Rattle.spec_pivot.specs.declared.status.Status.{Status}
