@@ -1,7 +1,10 @@
 -- The tableau that a form begins with is one of the form's equations, and each value is within its bounds.
-use Rattle.std.proofs.Common.{◌≡◌, ◌⊎◌, inl, inr, ℕ, ◌+◌, ◌-◌, ◌<◌, ◌≤◌, List, [], ◌++◌, length, get_or, map, replicate, Option, Some, None, IfSome, Ok, Bool, true, false, cond, nat_eq, refl, sym, ap, ap₂, ◌∙◌, subst, arith}
+use Rattle.std.proofs.Common.{◌≡◌, ◌⊎◌, inl, inr, ℕ, ◌+◌, ◌-◌, ◌<◌, ◌≤◌, List, [], ◌++◌, length}
+use Rattle.std.proofs.Common.{get_or, map, replicate, Option, Some, None, IfSome, Ok, Bool}
+use Rattle.std.proofs.Common.{true, false, cond, nat_eq, refl, sym, ap, ap₂, ◌∙◌, subst, arith}
 use Rattle.std.proofs.lemmas.Bool.{le-leb, lt-leb}
-use Rattle.std.proofs.lemmas.List.{length-append, length-map, length-replicate, get_or_append_left, get_or-append-add, get_or-replicate, get_or-map}
+use Rattle.std.proofs.lemmas.List.{length-append, length-map, length-replicate, get_or_append_left}
+use Rattle.std.proofs.lemmas.List.{get_or-append-add, get_or-replicate, get_or-map}
 use Rattle.spec_exact.specs.Fraction.{ℚ, 0ℚ, 1ℚ, ◌+ℚ◌, ◌-ℚ◌, ◌*ℚ◌, neg_ℚ, ◌≤ℚ◌}
 use Rattle.spec_exact.specs.Sums.{sum_below}
 use Rattle.spec_exact.proofs.Field.{*ℚ_assoc, *ℚ_zero, *ℚ_one}
@@ -17,8 +20,13 @@ use Rattle.spec_simplex.specs.declared.ends.RowStart.{RowStart}
 use Rattle.spec_simplex.specs.declared.ends.RowStart.TheVariants.{Within, Below, Above}
 use Rattle.spec_simplex.specs.Form.{Form, form_entry, form_lower, form_upper}
 use Rattle.spec_simplex.specs.Run.{list_run}
-use Rattle.spec_simplex.specs.Start.{first_status, first_value, row_start, logical_status, logical_value, logical_sign, structural_entry, artificial_status, artificial_value, artificial_upper, is_wanting, start_at, one_at, start_entry, start_basic, start_value, start_status, start_row, begun, with_reduced, cost_at, first_cost, first_costs, priced_run, start_of}
-use Rattle.spec_simplex.specs.Tableau.{Tableau, basic_at, entry_at, value_at, reduced_at, status_at, lower_at, upper_at, or_zero, stand}
+use Rattle.spec_simplex.specs.Start.{first_status, first_value, row_start, logical_status, logical_value}
+use Rattle.spec_simplex.specs.Start.{logical_sign, structural_entry, artificial_status, artificial_value}
+use Rattle.spec_simplex.specs.Start.{artificial_upper, is_wanting, start_at, one_at, start_entry}
+use Rattle.spec_simplex.specs.Start.{start_basic, start_value, start_status, start_row, begun}
+use Rattle.spec_simplex.specs.Start.{with_reduced, cost_at, first_cost, first_costs, priced_run, start_of}
+use Rattle.spec_simplex.specs.Tableau.{Tableau, basic_at, entry_at, value_at, reduced_at}
+use Rattle.spec_simplex.specs.Tableau.{status_at, lower_at, upper_at, or_zero, stand}
 use Rattle.spec_simplex.proofs.Stops.{length-made}
 use Rattle.spec_cold.specs.Tables.{bounds_of, IsWhole, KeepsBounds, IsTableauOf}
 use Rattle.spec_cold.specs.Begins.{form_rows, IsProper, Begins}
@@ -31,7 +39,8 @@ use Rattle.spec_cold.proofs.RowStarts.{first_sum, RowBegins, within, below, abov
 
 pub delta_sym : (i r : ℕ) → delta i r ≡ delta r i
 delta_sym i r =
-    by_eq i r (λ e. subst (λ r. delta i r ≡ delta r i) e refl) (λ n. delta_other i r n ∙ sym (delta_other r i (λ e. n (sym e))))
+    by_eq i r (λ e. subst (λ r. delta i r ≡ delta r i) e refl)
+    (λ n. delta_other i r n ∙ sym (delta_other r i (λ e. n (sym e))))
 
 one_is : (i r : ℕ) (v : ℚ) → one_at i r v ≡ v *ℚ delta i r
 one_is i r v = by (nat_eq i r)
@@ -128,7 +137,9 @@ row_solved l u v (Above g) (above a e h) = ap (λ z. (neg_ℚ v +ℚ z) +ℚ 1�
     none v a = simp ring
 
 module _ (f : Form) (proper : IsProper f) (starts : List (RowStart ℚ)) (all : length starts ≡ f.rows)
-    (begins : (i : ℕ) → i < f.rows → RowBegins (form_lower f (f.cols + i)) (form_upper f (f.cols + i)) (first_sum f i) (start_at starts i)) (reduced : List ℚ) where
+    (begins : (i : ℕ) → i < f.rows →
+    RowBegins (form_lower f (f.cols + i)) (form_upper f (f.cols + i)) (first_sum f i) (start_at starts i))
+    (reduced : List ℚ) where
   abbrev t : Tableau
   t = with_reduced (begun f starts) reduced
 
@@ -172,12 +183,14 @@ module _ (f : Form) (proper : IsProper f) (starts : List (RowStart ℚ)) (all : 
 
   lower_after : (r : ℕ) → r < f.rows → lower_at t (f.cols + f.rows + r) ≡ Some 0ℚ
   lower_after r h =
-      ap (λ k. get_or (f.lower ++ replicate f.rows (Some 0ℚ)) (k + r) None) (sym proper.all_lower) ∙ get_or-append-add f.lower (replicate f.rows (Some 0ℚ)) r None
+      ap (λ k. get_or (f.lower ++ replicate f.rows (Some 0ℚ)) (k + r) None) (sym proper.all_lower)
+      ∙ get_or-append-add f.lower (replicate f.rows (Some 0ℚ)) r None
       ∙ get_or-replicate f.rows r (Some 0ℚ) None h
 
   upper_after : (r : ℕ) → r < f.rows → upper_at t (f.cols + f.rows + r) ≡ artificial_upper (s r)
   upper_after r h =
-      ap (λ k. get_or (f.upper ++ map artificial_upper starts) (k + r) None) (sym proper.all_upper) ∙ get_or-append-add f.upper (map artificial_upper starts) r None
+      ap (λ k. get_or (f.upper ++ map artificial_upper starts) (k + r) None) (sym proper.all_upper)
+      ∙ get_or-append-add f.upper (map artificial_upper starts) r None
       ∙ get_or-map artificial_upper starts r (Within 0ℚ) None (omega (arith, h, all))
 
   -- ---- the rows
@@ -187,20 +200,25 @@ module _ (f : Form) (proper : IsProper f) (starts : List (RowStart ℚ)) (all : 
 
   start_logical : (i r : ℕ) → r < f.rows → start_entry f (s i) i (f.cols + r) ≡ one_at i r (sign_at i)
   start_logical i r =
-      logical_at f (structural_entry (s i) (form_entry f i (f.cols + r))) (λ r. one_at i r (sign_at i)) (λ r. one_at i r 1ℚ) r
+      logical_at f (structural_entry (s i) (form_entry f i (f.cols + r)))
+      (λ r. one_at i r (sign_at i)) (λ r. one_at i r 1ℚ) r
 
   start_artificial : (i r : ℕ) → start_entry f (s i) i (f.cols + f.rows + r) ≡ one_at i r 1ℚ
   start_artificial i r =
-      artificial_at f (structural_entry (s i) (form_entry f i (f.cols + f.rows + r))) (λ r. one_at i r (sign_at i)) (λ r. one_at i r 1ℚ) r
+      artificial_at f (structural_entry (s i) (form_entry f i (f.cols + f.rows + r)))
+      (λ r. one_at i r (sign_at i)) (λ r. one_at i r 1ℚ) r
 
   signed : (i k : ℕ) → i < f.rows → start_entry f (s i) i k ≡ sign_at i *ℚ F i k
   signed i k h =
       by_kind f.cols f.rows k
-      (λ l. start_structural i k l ∙ structural_sign (s i) (form_entry f i k) ∙ ap (λ a. sign_at i *ℚ a) (sym (row_structural f starts i k l)))
+      (λ l. start_structural i k l ∙ structural_sign (s i) (form_entry f i k)
+      ∙ ap (λ a. sign_at i *ℚ a) (sym (row_structural f starts i k l)))
       (λ r l e. subst (λ k. start_entry f (s i) i k ≡ sign_at i *ℚ F i k) (sym e)
       (start_logical i r l ∙ one_is i r (sign_at i) ∙ ap (λ a. sign_at i *ℚ a) (sym (row_logical f starts i r l))))
       (λ r e. subst (λ k. start_entry f (s i) i k ≡ sign_at i *ℚ F i k) (sym e)
-      (start_artificial i r ∙ one_is i r 1ℚ ∙ one-*ℚ (delta i r) ∙ sym (twice (sign_at i) (delta i r) (sign_square (s i))) ∙ ap (λ a. sign_at i *ℚ a) (sym (row_artificial f starts i r))))
+      (start_artificial i r ∙ one_is i r 1ℚ ∙ one-*ℚ (delta i r)
+      ∙ sym (twice (sign_at i) (delta i r) (sign_square (s i)))
+      ∙ ap (λ a. sign_at i *ℚ a) (sym (row_artificial f starts i r))))
 
   entry_past : (i k : ℕ) → i < f.rows → n ≤ k → entry_at t i k ≡ 0ℚ
   entry_past i k h l = past_row t.entries i k n (row_length i h) l
@@ -214,14 +232,18 @@ module _ (f : Form) (proper : IsProper f) (starts : List (RowStart ℚ)) (all : 
   diagonal : (i : ℕ) → i < f.rows → (g : ℕ → ℚ) →
       sum_below f.rows (λ r. (delta i r *ℚ sign_at i) *ℚ g r) ≡ sign_at i *ℚ g i
   diagonal i h g =
-      sum_below_same f.rows _ (λ r. delta i r *ℚ (sign_at i *ℚ g r)) (λ r _. *ℚ_assoc (delta i r) (sign_at i) (g r)) ∙ sum_below-delta f.rows i (λ r. sign_at i *ℚ g r) h
+      sum_below_same f.rows _ (λ r. delta i r *ℚ (sign_at i *ℚ g r)) (λ r _. *ℚ_assoc (delta i r) (sign_at i) (g r))
+      ∙ sum_below-delta f.rows i (λ r. sign_at i *ℚ g r) h
 
   forth : Spans f.rows (entry_at t) F
   forth = (λ i r. delta i r *ℚ sign_at i, λ i k h. entry_sign i k h ∙ sym (diagonal i h (λ r. F r k)))
 
   back : Spans f.rows F (entry_at t)
-  back =
-      (λ i r. delta i r *ℚ sign_at i, λ i k h. sym (diagonal i h (λ r. entry_at t r k) ∙ ap (λ a. sign_at i *ℚ a) (entry_sign i k h) ∙ twice (sign_at i) (F i k) (sign_square (s i))))
+  back = (
+    λ i r. delta i r *ℚ sign_at i,
+    λ i k h. sym (diagonal i h (λ r. entry_at t r k) ∙ ap (λ a. sign_at i *ℚ a) (entry_sign i k h)
+        ∙ twice (sign_at i) (F i k) (sign_square (s i))),
+  )
 
   -- ---- the basic columns
   logical_in : (i : ℕ) → i < f.rows → f.cols + i < n
@@ -251,42 +273,50 @@ module _ (f : Form) (proper : IsProper f) (starts : List (RowStart ℚ)) (all : 
   units : IsUnit f.rows (entry_at t) (basic_at t)
   units i r h l =
       by_wanting (λ k. entry_at t r k ≡ delta i r) i h
-      (λ _. entry_is r (f.cols + f.rows + i) l (artificial_in i h) ∙ start_artificial r i ∙ one_is r i 1ℚ ∙ one-*ℚ (delta r i) ∙ delta_sym r i)
+      (λ _. entry_is r (f.cols + f.rows + i) l (artificial_in i h)
+      ∙ start_artificial r i ∙ one_is r i 1ℚ ∙ one-*ℚ (delta r i) ∙ delta_sym r i)
       (λ e. entry_is r (f.cols + i) l (logical_in i h) ∙ start_logical r i h ∙ one_is r i (sign_at r) ∙ by_eq r i
-      (λ z. subst (λ r. sign_at r *ℚ delta r i ≡ delta i r) (sym z) (ap (λ a. a *ℚ delta i i) (wanting_sign (s i) e) ∙ one-*ℚ (delta i i)))
+      (λ z. subst (λ r. sign_at r *ℚ delta r i ≡ delta i r) (sym z)
+      (ap (λ a. a *ℚ delta i i) (wanting_sign (s i) e) ∙ one-*ℚ (delta i i)))
       (λ z. ap (λ a. sign_at r *ℚ a) (delta_other r i z) ∙ *ℚ_zero _ ∙ sym (delta_other i r (λ y. z (sym y)))))
 
   -- ---- statuses
   status_structural : (k : ℕ) → k < f.cols → status_at t k ≡ first_status (form_lower f k) (form_upper f k)
   status_structural k h =
       status_is k (omega (arith, h))
-      ∙ structural_at f (first_status (form_lower f k) (form_upper f k)) (λ r. logical_status (s r)) (λ r. artificial_status (s r)) k h
+      ∙ structural_at f (first_status (form_lower f k) (form_upper f k))
+      (λ r. logical_status (s r)) (λ r. artificial_status (s r)) k h
 
   status_logical : (r : ℕ) → r < f.rows → status_at t (f.cols + r) ≡ logical_status (s r)
   status_logical r h =
       status_is (f.cols + r) (logical_in r h)
-      ∙ logical_at f (first_status (form_lower f (f.cols + r)) (form_upper f (f.cols + r))) (λ r. logical_status (s r)) (λ r. artificial_status (s r)) r h
+      ∙ logical_at f (first_status (form_lower f (f.cols + r)) (form_upper f (f.cols + r)))
+      (λ r. logical_status (s r)) (λ r. artificial_status (s r)) r h
 
   status_artificial : (r : ℕ) → r < f.rows → status_at t (f.cols + f.rows + r) ≡ artificial_status (s r)
   status_artificial r h =
       status_is (f.cols + f.rows + r) (artificial_in r h)
-      ∙ artificial_at f (first_status (form_lower f (f.cols + f.rows + r)) (form_upper f (f.cols + f.rows + r))) (λ r. logical_status (s r)) (λ r. artificial_status (s r)) r
+      ∙ artificial_at f (first_status (form_lower f (f.cols + f.rows + r)) (form_upper f (f.cols + f.rows + r)))
+      (λ r. logical_status (s r)) (λ r. artificial_status (s r)) r
 
   value_structural : (k : ℕ) → k < f.cols → value_at t k ≡ first_value f k
   value_structural k h =
       value_is k (omega (arith, h))
-      ∙ structural_at f (first_value f k) (λ r. logical_value (s r) (form_lower f k) (form_upper f k)) (λ r. artificial_value (s r)) k h
+      ∙ structural_at f (first_value f k)
+      (λ r. logical_value (s r) (form_lower f k) (form_upper f k)) (λ r. artificial_value (s r)) k h
 
   value_logical : (r : ℕ) → r < f.rows →
       value_at t (f.cols + r) ≡ logical_value (s r) (form_lower f (f.cols + r)) (form_upper f (f.cols + r))
   value_logical r h =
       value_is (f.cols + r) (logical_in r h)
-      ∙ logical_at f (first_value f (f.cols + r)) (λ i. logical_value (s i) (form_lower f (f.cols + r)) (form_upper f (f.cols + r))) (λ r. artificial_value (s r)) r h
+      ∙ logical_at f (first_value f (f.cols + r)) (λ i. logical_value (s i)
+      (form_lower f (f.cols + r)) (form_upper f (f.cols + r))) (λ r. artificial_value (s r)) r h
 
   value_artificial : (r : ℕ) → r < f.rows → value_at t (f.cols + f.rows + r) ≡ artificial_value (s r)
   value_artificial r h =
       value_is (f.cols + f.rows + r) (artificial_in r h)
-      ∙ artificial_at f (first_value f (f.cols + f.rows + r)) (λ i. logical_value (s i) (form_lower f (f.cols + f.rows + r)) (form_upper f (f.cols + f.rows + r))) (λ r. artificial_value (s r)) r
+      ∙ artificial_at f (first_value f (f.cols + f.rows + r)) (λ i. logical_value (s i)
+      (form_lower f (f.cols + f.rows + r)) (form_upper f (f.cols + f.rows + r))) (λ r. artificial_value (s r)) r
 
   wanting_basic : (r : RowStart ℚ) → is_wanting r ≡ true → artificial_status r ≡ Basic
   wanting_basic (Within v) e = let z : false ≡ true = e in cc
@@ -324,8 +354,18 @@ module _ (f : Form) (proper : IsProper f) (starts : List (RowStart ℚ)) (all : 
   placed k h =
       by_column_kind (λ k. status_at t k ≡ Basic → (i : ℕ) × (i < f.rows) × (basic_at t i ≡ k)) k h
       (λ l e. absurd (first_never_basic (form_lower f k) (form_upper f k) (sym (status_structural k l) ∙ e)))
-      (λ r l e. (r, l, basic_is r l ∙ ap (λ c. cond c (f.cols + f.rows + r) (f.cols + r)) (basic_not_wanting (s r) (sym (status_logical r l) ∙ e))))
-      (λ r l e. (r, l, basic_is r l ∙ ap (λ c. cond c (f.cols + f.rows + r) (f.cols + r)) (basic_wanting (s r) (sym (status_artificial r l) ∙ e))))
+      (λ r l e. (
+        r,
+        l,
+        basic_is r l ∙ ap (λ c. cond c (f.cols + f.rows + r) (f.cols + r))
+            (basic_not_wanting (s r) (sym (status_logical r l) ∙ e)),
+      ))
+      (λ r l e. (
+        r,
+        l,
+        basic_is r l ∙ ap (λ c. cond c (f.cols + f.rows + r) (f.cols + r))
+            (basic_wanting (s r) (sym (status_artificial r l) ∙ e)),
+      ))
 
   -- ---- bounds and values
   abbrev StandsAt : ℕ → Type 0
@@ -335,17 +375,22 @@ module _ (f : Form) (proper : IsProper f) (starts : List (RowStart ℚ)) (all : 
       value_at t k ≡ v → Stands x l u v → StandsAt k
   stands_by k x l u v a c d e h =
       subst (λ x. Stands x (lower_at t k) (upper_at t k) (value_at t k)) (sym a)
-      (subst (λ l. Stands x l (upper_at t k) (value_at t k)) (sym c) (subst (λ u. Stands x l u (value_at t k)) (sym d) (subst (Stands x l u) (sym e) h)))
+      (subst (λ l. Stands x l (upper_at t k) (value_at t k)) (sym c)
+      (subst (λ u. Stands x l u (value_at t k)) (sym d) (subst (Stands x l u) (sym e) h)))
 
   stands : (k : ℕ) → k < n → StandsAt k
   stands k h =
       by_column_kind StandsAt k h
-      (λ l. stands_by k (first_status (form_lower f k) (form_upper f k)) (form_lower f k) (form_upper f k) (first_value f k) (status_structural k l) (lower_before k (omega (arith, l))) (upper_before k (omega (arith, l))) (value_structural k l)
+      (λ l. stands_by k (first_status (form_lower f k) (form_upper f k))
+      (form_lower f k) (form_upper f k) (first_value f k) (status_structural k l)
+      (lower_before k (omega (arith, l))) (upper_before k (omega (arith, l))) (value_structural k l)
       (first_stands (form_lower f k) (form_upper f k)))
-      (λ r l. stands_by (f.cols + r) (logical_status (s r)) (form_lower f (f.cols + r)) (form_upper f (f.cols + r)) (logical_value (s r) (form_lower f (f.cols + r)) (form_upper f (f.cols + r))) (status_logical r l)
+      (λ r l. stands_by (f.cols + r) (logical_status (s r)) (form_lower f (f.cols + r)) (form_upper f (f.cols + r))
+      (logical_value (s r) (form_lower f (f.cols + r)) (form_upper f (f.cols + r))) (status_logical r l)
       (lower_before (f.cols + r) (omega (arith, l))) (upper_before (f.cols + r) (omega (arith, l))) (value_logical r l)
       (logical_stands (form_lower f (f.cols + r)) (form_upper f (f.cols + r)) (first_sum f r) (s r) (begins r l)))
-      (λ r l. stands_by (f.cols + f.rows + r) (artificial_status (s r)) (Some 0ℚ) (artificial_upper (s r)) (artificial_value (s r)) (status_artificial r l) (lower_after r l) (upper_after r l) (value_artificial r l)
+      (λ r l. stands_by (f.cols + f.rows + r) (artificial_status (s r)) (Some 0ℚ) (artificial_upper (s r))
+      (artificial_value (s r)) (status_artificial r l) (lower_after r l) (upper_after r l) (value_artificial r l)
       (artificial_stands (s r)))
 
   abbrev InsideAt : ℕ → Type 0
@@ -354,17 +399,22 @@ module _ (f : Form) (proper : IsProper f) (starts : List (RowStart ℚ)) (all : 
   inside_by : (k : ℕ) (l u : Option ℚ) (v : ℚ) → lower_at t k ≡ l → upper_at t k ≡ u → value_at t k ≡ v →
       IsInside l u v → InsideAt k
   inside_by k l u v c d e h =
-      subst (λ l. IsInside l (upper_at t k) (value_at t k)) (sym c) (subst (λ u. IsInside l u (value_at t k)) (sym d) (subst (IsInside l u) (sym e) h))
+      subst (λ l. IsInside l (upper_at t k) (value_at t k)) (sym c)
+      (subst (λ u. IsInside l u (value_at t k)) (sym d) (subst (IsInside l u) (sym e) h))
 
   inside : (k : ℕ) → k < n → InsideAt k
   inside k h =
       by_column_kind InsideAt k h
-      (λ l. inside_by k (form_lower f k) (form_upper f k) (first_value f k) (lower_before k (omega (arith, l))) (upper_before k (omega (arith, l))) (value_structural k l)
+      (λ l. inside_by k (form_lower f k) (form_upper f k) (first_value f k)
+      (lower_before k (omega (arith, l))) (upper_before k (omega (arith, l))) (value_structural k l)
       (first_inside (form_lower f k) (form_upper f k) (λ a c. proper.ordered k a c (omega (arith, l)))))
-      (λ r l. inside_by (f.cols + r) (form_lower f (f.cols + r)) (form_upper f (f.cols + r)) (logical_value (s r) (form_lower f (f.cols + r)) (form_upper f (f.cols + r)))
+      (λ r l. inside_by (f.cols + r) (form_lower f (f.cols + r)) (form_upper f (f.cols + r))
+      (logical_value (s r) (form_lower f (f.cols + r)) (form_upper f (f.cols + r)))
       (lower_before (f.cols + r) (omega (arith, l))) (upper_before (f.cols + r) (omega (arith, l))) (value_logical r l)
-      (logical_inside (form_lower f (f.cols + r)) (form_upper f (f.cols + r)) (first_sum f r) (s r) (λ a c. proper.ordered (f.cols + r) a c (omega (arith, l))) (begins r l)))
-      (λ r l. inside_by (f.cols + f.rows + r) (Some 0ℚ) (artificial_upper (s r)) (artificial_value (s r)) (lower_after r l) (upper_after r l) (value_artificial r l)
+      (logical_inside (form_lower f (f.cols + r)) (form_upper f (f.cols + r)) (first_sum f r)
+      (s r) (λ a c. proper.ordered (f.cols + r) a c (omega (arith, l))) (begins r l)))
+      (λ r l. inside_by (f.cols + f.rows + r) (Some 0ℚ) (artificial_upper (s r))
+      (artificial_value (s r)) (lower_after r l) (upper_after r l) (value_artificial r l)
       (artificial_inside (form_lower f (f.cols + r)) (form_upper f (f.cols + r)) (first_sum f r) (s r) (begins r l)))
 
   -- ---- the equations are solved
@@ -382,22 +432,28 @@ module _ (f : Form) (proper : IsProper f) (starts : List (RowStart ℚ)) (all : 
 
       structural : sum_below f.cols (λ k. F i k *ℚ value_at t k) ≡ neg_ℚ (first_sum f i)
       structural =
-          sum_below_same f.cols _ (λ k. neg_ℚ 1ℚ *ℚ (form_entry f i k *ℚ first_value f k)) (λ k l. ap₂ ◌*ℚ◌ (row_structural f starts i k l) (value_structural k l) ∙ minus (form_entry f i k) (first_value f k))
+          sum_below_same f.cols _ (λ k. neg_ℚ 1ℚ *ℚ (form_entry f i k *ℚ first_value f k)) (λ k l.
+          ap₂ ◌*ℚ◌ (row_structural f starts i k l) (value_structural k l) ∙ minus (form_entry f i k) (first_value f k))
           ∙ sym (*ℚ-sum_below (neg_ℚ 1ℚ) f.cols _) ∙ negative (first_sum f i)
 
-      logical : sum_below f.rows (λ r. F i (f.cols + r) *ℚ value_at t (f.cols + r)) ≡ logical_value (s i) (form_lower f (f.cols + i)) (form_upper f (f.cols + i))
+      logical : sum_below f.rows (λ r. F i (f.cols + r) *ℚ value_at t (f.cols + r))
+          ≡ logical_value (s i) (form_lower f (f.cols + i)) (form_upper f (f.cols + i))
       logical =
-          sum_below_same f.rows _ (λ r. delta i r *ℚ value_at t (f.cols + r)) (λ r l. ap (λ a. a *ℚ value_at t (f.cols + r)) (row_logical f starts i r l))
+          sum_below_same f.rows _ (λ r. delta i r *ℚ value_at t (f.cols + r))
+          (λ r l. ap (λ a. a *ℚ value_at t (f.cols + r)) (row_logical f starts i r l))
           ∙ sum_below-delta f.rows i (λ r. value_at t (f.cols + r)) h ∙ value_logical i h
 
       turn : (c d v : ℚ) → (c *ℚ d) *ℚ v ≡ d *ℚ (c *ℚ v)
       turn c d v = simp ring
 
-      artificial : sum_below f.rows (λ r. F i (f.cols + f.rows + r) *ℚ value_at t (f.cols + f.rows + r)) ≡ sign_at i *ℚ artificial_value (s i)
+      artificial : sum_below f.rows (λ r. F i (f.cols + f.rows + r) *ℚ value_at t (f.cols + f.rows + r))
+          ≡ sign_at i *ℚ artificial_value (s i)
       artificial =
           sum_below_same f.rows _ (λ r. delta i r *ℚ (sign_at i *ℚ value_at t (f.cols + f.rows + r)))
-          (λ r l. ap (λ a. a *ℚ value_at t (f.cols + f.rows + r)) (row_artificial f starts i r) ∙ turn (sign_at i) (delta i r) (value_at t (f.cols + f.rows + r)))
-          ∙ sum_below-delta f.rows i (λ r. sign_at i *ℚ value_at t (f.cols + f.rows + r)) h ∙ ap (λ a. sign_at i *ℚ a) (value_artificial i h)
+          (λ r l. ap (λ a. a *ℚ value_at t (f.cols + f.rows + r)) (row_artificial f starts i r)
+          ∙ turn (sign_at i) (delta i r) (value_at t (f.cols + f.rows + r)))
+          ∙ sum_below-delta f.rows i (λ r. sign_at i *ℚ value_at t (f.cols + f.rows + r)) h
+          ∙ ap (λ a. sign_at i *ℚ a) (value_artificial i h)
 
   -- ---- the whole
   whole : length reduced ≡ n → IsWhole t
@@ -409,9 +465,11 @@ module _ (f : Form) (proper : IsProper f) (starts : List (RowStart ℚ)) (all : 
     all_reduced = reduced_length;
     all_statuses = length-made n (start_status f starts);
     all_lower =
-        length-append f.lower (replicate f.rows (Some 0ℚ)) ∙ ap₂ ◌+◌ proper.all_lower (length-replicate f.rows (Some 0ℚ));
+        length-append f.lower (replicate f.rows (Some 0ℚ))
+        ∙ ap₂ ◌+◌ proper.all_lower (length-replicate f.rows (Some 0ℚ));
     all_upper =
-        length-append f.upper (map artificial_upper starts) ∙ ap₂ ◌+◌ proper.all_upper (length-map starts artificial_upper ∙ all);
+        length-append f.upper (map artificial_upper starts)
+        ∙ ap₂ ◌+◌ proper.all_upper (length-map starts artificial_upper ∙ all);
   }
 
   fixed_upper : (r : RowStart ℚ) → ¬ (artificial_status r ≡ Basic) → artificial_upper r ≡ Some 0ℚ
@@ -437,13 +495,15 @@ module _ (f : Form) (proper : IsProper f) (starts : List (RowStart ℚ)) (all : 
     top = λ k l h.
         let r : ℕ = k - (f.cols + f.rows) in
         let e : k ≡ f.cols + f.rows + r = omega (arith, l) in
-        subst (λ o. (o ≡ None) ⊎ (o ≡ Some 0ℚ)) (sym (ap (upper_at t) e ∙ upper_after r (omega (arith, l, h)))) (top_of (s r));
+        subst (λ o. (o ≡ None) ⊎ (o ≡ Some 0ℚ))
+        (sym (ap (upper_at t) e ∙ upper_after r (omega (arith, l, h)))) (top_of (s r));
     basic = λ k l e. refl;
     fixed = λ k l h b.
         let r : ℕ = k - (f.cols + f.rows) in
         let e : k ≡ f.cols + f.rows + r = omega (arith, l) in
         let r_in : r < f.rows = omega (arith, l, h) in
-        subst (λ k. upper_at t k ≡ Some 0ℚ) (sym e) (upper_after r r_in ∙ fixed_upper (s r) (λ z. b (ap (status_at t) e ∙ status_artificial r r_in ∙ z)));
+        subst (λ k. upper_at t k ≡ Some 0ℚ) (sym e)
+        (upper_after r r_in ∙ fixed_upper (s r) (λ z. b (ap (status_at t) e ∙ status_artificial r r_in ∙ z)));
   }
 
   tableau_of : (cost : ℕ → ℚ) → length reduced ≡ n → AgreesWith f.rows F (basic_at t) cost (reduced_at t) →
@@ -453,7 +513,17 @@ module _ (f : Form) (proper : IsProper f) (starts : List (RowStart ℚ)) (all : 
     cols = refl;
     whole = whole reduced_length;
     tableau =
-        record { in_range = in_range; forth = forth; back = back; units = units; costs = costs; marked = marked; placed = placed; stands = stands; solves = solves };
+        record {
+          in_range = in_range;
+          forth = forth;
+          back = back;
+          units = units;
+          costs = costs;
+          marked = marked;
+          placed = placed;
+          stands = stands;
+          solves = solves;
+        };
     within = inside;
     bounds = keeps;
   }
@@ -461,12 +531,19 @@ module _ (f : Form) (proper : IsProper f) (starts : List (RowStart ℚ)) (all : 
   pub begun_is : (limit : Option ℕ) → priced_run limit (begun f starts) (first_costs f starts) ≡ Ok reduced →
       IsTableauOf f.rows f.cols F (cost_at (first_costs f starts)) (bounds_of t) t
   begun_is limit h =
-      tableau_of (cost_at (first_costs f starts)) (priced_length limit (begun f starts) (first_costs f starts) reduced h)
+      tableau_of (cost_at (first_costs f starts))
+      (priced_length limit (begun f starts) (first_costs f starts) reduced h)
       (priced_agrees limit (begun f starts) (first_costs f starts) reduced h few entry_past F forth units in_range)
     where
       few : length (first_costs f starts) ≤ f.cols + f.rows + f.rows
       few =
-          omega (arith, length-append (replicate (f.cols + f.rows) 0ℚ) (map first_cost starts), length-replicate (f.cols + f.rows) 0ℚ, length-map starts first_cost, all)
+          omega (
+            arith,
+            length-append (replicate (f.cols + f.rows) 0ℚ) (map first_cost starts),
+            length-replicate (f.cols + f.rows) 0ℚ,
+            length-map starts first_cost,
+            all,
+          )
 
 -- what is known of the start
 pub record Started (f : Form) (t : Tableau) : Type 0 where
@@ -476,7 +553,8 @@ pub record Started (f : Form) (t : Tableau) : Type 0 where
   pub lower : (k : ℕ) → k < f.cols + f.rows → lower_at t k ≡ form_lower f k
   pub upper : (k : ℕ) → k < f.cols + f.rows → upper_at t k ≡ form_upper f k
   pub artificial : (r : ℕ) → r < f.rows →
-      (lower_at t (f.cols + f.rows + r) ≡ Some 0ℚ) × (upper_at t (f.cols + f.rows + r) ≡ artificial_upper (start_at starts r))
+      (lower_at t (f.cols + f.rows + r) ≡ Some 0ℚ)
+      × (upper_at t (f.cols + f.rows + r) ≡ artificial_upper (start_at starts r))
 
 pub start_is_tableau : (limit : Option ℕ) (f : Form) (t : Tableau) → IsProper f → start_of limit f ≡ Ok t → Started f t
 unfolding start_of
@@ -484,8 +562,11 @@ start_is_tableau limit f t proper h =
     let o = then_ok (list_run f.rows (row_start limit f)) _ t h in
     let p = then_ok (priced_run limit (begun f o.0) (first_costs f o.0)) _ t o.2 in
     let z : with_reduced (begun f o.0) p.0 ≡ t = cc in
-    let l : IsListOf f.rows (row_start limit f) (Within 0ℚ) o.0 = list_ok f.rows (row_start limit f) (Within 0ℚ) o.0 o.1 in
-    let begins : (i : ℕ) → i < f.rows → RowBegins (form_lower f (f.cols + i)) (form_upper f (f.cols + i)) (first_sum f i) (start_at o.0 i) = λ i h. start_is limit f i (start_at o.0 i) (l.each i h) in
+    let l : IsListOf f.rows (row_start limit f) (Within 0ℚ) o.0 =
+    list_ok f.rows (row_start limit f) (Within 0ℚ) o.0 o.1 in
+    let begins : (i : ℕ) → i < f.rows →
+    RowBegins (form_lower f (f.cols + i)) (form_upper f (f.cols + i)) (first_sum f i) (start_at o.0 i) =
+    λ i h. start_is limit f i (start_at o.0 i) (l.each i h) in
     subst (Started f) z (record {
       starts = o.0;
       tableau = begun_is f proper o.0 l.all begins p.0 limit p.1;

@@ -1,6 +1,9 @@
 -- Phase one is never unbounded, and where it ends and an artificial is not 0, no point satisfies all rows.
-use Rattle.std.proofs.Common.{◌≡◌, ℕ, zero, suc, ◌+◌, ◌<◌, ◌⊎◌, List, length, get_or, map, replicate, Option, Some, None, IfSome, Bool, true, false, cond, refl, sym, ap, ap₂, ◌∙◌, subst, subst₂, arith, inl, inr}
-use Rattle.std.proofs.lemmas.List.{length-replicate, get_or_append_left, get_or-append-add, get_or-replicate, get_or-map}
+use Rattle.std.proofs.Common.{◌≡◌, ℕ, zero, suc, ◌+◌, ◌<◌, ◌⊎◌, List, length, get_or, map}
+use Rattle.std.proofs.Common.{replicate, Option, Some, None, IfSome, Bool, true, false}
+use Rattle.std.proofs.Common.{cond, refl, sym, ap, ap₂, ◌∙◌, subst, subst₂, arith, inl, inr}
+use Rattle.std.proofs.lemmas.List.{length-replicate, get_or_append_left}
+use Rattle.std.proofs.lemmas.List.{get_or-append-add, get_or-replicate, get_or-map}
 use Rattle.spec_exact.specs.Fraction.{ℚ, ◌+ℚ◌, ◌-ℚ◌, ◌*ℚ◌, neg_ℚ, 0ℚ, ◌≤ℚ◌, ◌<ℚ◌, lt_ℚ}
 use Rattle.spec_exact.specs.Sums.{sum_below}
 use Rattle.spec_exact.proofs.Field.{+ℚ_zero, +ℚ_comm, *ℚ_zero}
@@ -9,7 +12,8 @@ use Rattle.spec_exact.proofs.Ruleset.{ring, zero-+ℚ, zero-*ℚ, one-*ℚ, neg-
 use Rattle.spec_exact.proofs.Strict.{<ℚ-≤ℚ_trans, +ℚ_strict, +ℚ_mono₂, neg_strict, by_sign}
 use Rattle.spec_exact.proofs.Sums.{sum_below_none, sum_below_same, neg-sum_below}
 use Rattle.spec_model.specs.Model.{bounds, Model, Limits, width, height, limits, coefficient, part}
-use Rattle.spec_check.specs.Checks.{priced, IsTight, HasLimit, or_zero, asked, turned_limits, rows_ask, columns_give, ChecksInfeasible}
+use Rattle.spec_check.specs.Checks.{priced, IsTight, HasLimit, or_zero, asked}
+use Rattle.spec_check.specs.Checks.{turned_limits, rows_ask, columns_give, ChecksInfeasible}
 use Rattle.spec_pivot.specs.declared.status.Way.{Way}
 use Rattle.spec_pivot.specs.Simplex.{Bounds, Table, IsInside, IsWithin, IsEligible, IsTableau, ray}
 use Rattle.spec_pivot.specs.Ratio.{GoesOn}
@@ -52,7 +56,8 @@ asked_is l d v t = by (lt_ℚ 0ℚ d) (lt_ℚ d 0ℚ) refl refl
 sum_least : (n : ℕ) (f : ℕ → ℚ) → ((i : ℕ) → i < n → 0ℚ ≤ℚ f i) → 0ℚ ≤ℚ sum_below n f
 sum_least zero f h = ≤ℚ_refl 0ℚ
 sum_least (suc n) f h =
-    subst (λ a. a ≤ℚ sum_below (suc n) f) (+ℚ_zero 0ℚ) (+ℚ_mono₂ 0ℚ (sum_below n f) 0ℚ (f n) (sum_least n f (λ i p. h i (omega (arith, p)))) (h n (omega arith)))
+    subst (λ a. a ≤ℚ sum_below (suc n) f) (+ℚ_zero 0ℚ)
+    (+ℚ_mono₂ 0ℚ (sum_below n f) 0ℚ (f n) (sum_least n f (λ i p. h i (omega (arith, p)))) (h n (omega arith)))
 
 positive_sum : (a b : ℚ) → 0ℚ <ℚ a → 0ℚ ≤ℚ b → 0ℚ <ℚ (a +ℚ b)
 positive_sum a b h k =
@@ -62,8 +67,10 @@ sum_positive : (n : ℕ) (f : ℕ → ℚ) → ((i : ℕ) → i < n → 0ℚ ≤
 sum_positive zero f h r p k = absurd (let z : ⊥ = omega (arith, p) in z)
 sum_positive (suc n) f h r p k =
     by_eq r n
-    (λ e. subst (λ z. 0ℚ <ℚ z) (+ℚ_comm (f n) (sum_below n f)) (positive_sum (f n) (sum_below n f) (subst (λ i. 0ℚ <ℚ f i) e k) (sum_least n f (λ i q. h i (omega (arith, q))))))
-    (λ o. positive_sum (sum_below n f) (f n) (sum_positive n f (λ i q. h i (omega (arith, q))) r (omega (arith, p, o)) k) (h n (omega arith)))
+    (λ e. subst (λ z. 0ℚ <ℚ z) (+ℚ_comm (f n) (sum_below n f))
+    (positive_sum (f n) (sum_below n f) (subst (λ i. 0ℚ <ℚ f i) e k) (sum_least n f (λ i q. h i (omega (arith, q))))))
+    (λ o. positive_sum (sum_below n f) (f n)
+    (sum_positive n f (λ i q. h i (omega (arith, q))) r (omega (arith, p, o)) k) (h n (omega arith)))
 
 -- ---- artificials of phase one
 top_of : (s : RowStart ℚ) → (artificial_upper s ≡ None) ⊎ (artificial_upper s ≡ Some 0ℚ)
@@ -85,9 +92,12 @@ cost_positive (Within v) a i n = absurd (n (≤ℚ_antisym a 0ℚ i.upper i.lowe
 cost_positive (Below g) a i n = subst (λ z. 0ℚ <ℚ z) (sym (one-*ℚ a)) (positive a i.lower n)
 cost_positive (Above g) a i n = subst (λ z. 0ℚ <ℚ z) (sym (one-*ℚ a)) (positive a i.lower n)
 
-module _ (m : Model) (ls : List (Option ℚ × Option ℚ)) (h : Limited m ls) (starts : List (RowStart ℚ)) (all : length starts ≡ height m) (b : Bounds) (bs : HasBounds (formed m ls) b)
-    (artificial : (i : ℕ) → i < height m → (b.lower (width m + height m + i) ≡ Some 0ℚ) × (b.upper (width m + height m + i) ≡ artificial_upper (start_at starts i)))
-    (t : Table) (g : IsTableau (height m) (width m + height m + height m) (form_rows (formed m ls) starts) (cost_at (first_costs (formed m ls) starts)) b t) where
+module _ (m : Model) (ls : List (Option ℚ × Option ℚ)) (h : Limited m ls) (starts : List (RowStart ℚ))
+    (all : length starts ≡ height m) (b : Bounds) (bs : HasBounds (formed m ls) b)
+    (artificial : (i : ℕ) → i < height m → (b.lower (width m + height m + i) ≡ Some 0ℚ)
+    × (b.upper (width m + height m + i) ≡ artificial_upper (start_at starts i)))
+    (t : Table) (g : IsTableau (height m) (width m + height m + height m)
+    (form_rows (formed m ls) starts) (cost_at (first_costs (formed m ls) starts)) b t) where
   abbrev w : ℕ
   w = width m
 
@@ -105,11 +115,13 @@ module _ (m : Model) (ls : List (Option ℚ × Option ℚ)) (h : Limited m ls) (
 
   cost_before : (k : ℕ) → k < w + r → costs k ≡ 0ℚ
   cost_before k p =
-      get_or_append_left (replicate (w + r) 0ℚ) (map first_cost starts) 0ℚ k (omega (arith, p, length-replicate (w + r) 0ℚ)) ∙ get_or-replicate (w + r) k 0ℚ 0ℚ p
+      get_or_append_left (replicate (w + r) 0ℚ) (map first_cost starts) 0ℚ k
+      (omega (arith, p, length-replicate (w + r) 0ℚ)) ∙ get_or-replicate (w + r) k 0ℚ 0ℚ p
 
   cost_after : (i : ℕ) → i < r → costs (w + r + i) ≡ first_cost (start_at starts i)
   cost_after i p =
-      ap (λ k. get_or (first_costs (formed m ls) starts) (k + i) 0ℚ) (sym (length-replicate (w + r) 0ℚ)) ∙ get_or-append-add (replicate (w + r) 0ℚ) (map first_cost starts) i 0ℚ
+      ap (λ k. get_or (first_costs (formed m ls) starts) (k + i) 0ℚ) (sym (length-replicate (w + r) 0ℚ))
+      ∙ get_or-append-add (replicate (w + r) 0ℚ) (map first_cost starts) i 0ℚ
       ∙ get_or-map first_cost starts i (Within 0ℚ) 0ℚ (omega (arith, p, all))
 
   -- what the costs sum up to at numbers z
@@ -128,14 +140,18 @@ module _ (m : Model) (ls : List (Option ℚ × Option ℚ)) (h : Limited m ls) (
   pub never_goes_on : (way : Way) (j : ℕ) → ¬ (GoesOn r n b t way j)
   never_goes_on way j e =
       clash_ℚ (sum_below n (λ k. costs k *ℚ ray r t way j k)) 0ℚ (falls r n F costs b t g way j e)
-      (subst (λ a. 0ℚ ≤ℚ a) (sym (costs_sum (ray r t way j))) (sum_least r _ (λ i p. cost_least (start_at starts i) (ray r t way j (w + r + i)) (rises i p))))
+      (subst (λ a. 0ℚ ≤ℚ a) (sym (costs_sum (ray r t way j)))
+      (sum_least r _ (λ i p. cost_least (start_at starts i) (ray r t way j (w + r + i)) (rises i p))))
     where
       rises : (i : ℕ) → i < r → 0ℚ ≤ℚ ray r t way j (w + r + i)
       rises i p =
-          subst (λ o. IfSome o (λ _. 0ℚ ≤ℚ ray r t way j (w + r + i))) (artificial i p).0 (allowed r n F costs b t g way j e (w + r + i) (omega (arith, p))).lower
+          subst (λ o. IfSome o (λ _. 0ℚ ≤ℚ ray r t way j (w + r + i)))
+          (artificial i p).0 (allowed r n F costs b t g way j e (w + r + i) (omega (arith, p))).lower
 
-  module _ (within : IsWithin (width m + height m + height m) b t) (none : (way : Way) (k : ℕ) → k < width m + height m + height m → ¬ (IsEligible b t way k))
-      (y : List ℚ) (y_at : (i : ℕ) → i < height m → part y i ≡ t.reduced (width m + i)) (r0 : ℕ) (r0_in : r0 < height m) (not_zero : ¬ (t.value (width m + height m + r0) ≡ 0ℚ)) where
+  module _ (within : IsWithin (width m + height m + height m) b t)
+      (none : (way : Way) (k : ℕ) → k < width m + height m + height m → ¬ (IsEligible b t way k))
+      (y : List ℚ) (y_at : (i : ℕ) → i < height m → part y i ≡ t.reduced (width m + i)) (r0 : ℕ)
+      (r0_in : r0 < height m) (not_zero : ¬ (t.value (width m + height m + r0) ≡ 0ℚ)) where
     abbrev d : ℕ → ℚ
     d = t.reduced
 
@@ -144,21 +160,25 @@ module _ (m : Model) (ls : List (Option ℚ × Option ℚ)) (h : Limited m ls) (
 
     row_tight : (i : ℕ) → i < r → IsTight (limits m i) (part y i) (v (w + i))
     row_tight i p =
-        subst (λ a. IsTight (limits m i) a (v (w + i))) (sym (y_at i p)) (tight_logical m ls h starts b bs t within costs g none i p)
+        subst (λ a. IsTight (limits m i) a (v (w + i))) (sym (y_at i p))
+        (tight_logical m ls h starts b bs t within costs g none i p)
 
     multiplier : (i : ℕ) → i < r → part y i ≡ neg_ℚ (g.costs.weights i)
     multiplier i p =
-        y_at i p ∙ weight_at m ls h starts costs d g.costs.weights g.costs.less i p (cost_before (w + i) (omega (arith, p)))
+        y_at i p
+        ∙ weight_at m ls h starts costs d g.costs.weights g.costs.less i p (cost_before (w + i) (omega (arith, p)))
 
     priced_at : (j : ℕ) → j < w → d j ≡ neg_ℚ (priced m y j)
     priced_at j p =
         column_at m ls h starts costs d g.costs.weights g.costs.less j p
-        ∙ ap₂ (λ a c. a -ℚ c) (cost_before j (omega (arith, p))) (sum_below_same r _ (λ i. part y i *ℚ coefficient m i j) (λ i q. ap (λ a. a *ℚ coefficient m i j) (sym (multiplier i q))))
+        ∙ ap₂ (λ a c. a -ℚ c) (cost_before j (omega (arith, p))) (sum_below_same r _
+        (λ i. part y i *ℚ coefficient m i j) (λ i q. ap (λ a. a *ℚ coefficient m i j) (sym (multiplier i q))))
         ∙ zero-+ℚ _
 
     column_tight : (j : ℕ) → j < w → IsTight (turned_limits (bounds m j)) (priced m y j) (v j)
     column_tight j p =
-        tight_turned (bounds m j) (d j) (priced m y j) (v j) (priced_at j p) (tight_structural m ls h starts b bs t within costs g none j p)
+        tight_turned (bounds m j) (d j) (priced m y j) (v j) (priced_at j p)
+        (tight_structural m ls h starts b bs t within costs g none j p)
 
     A : ℚ
     A = sum_below w (λ j. d j *ℚ v j)
@@ -173,12 +193,15 @@ module _ (m : Model) (ls : List (Option ℚ × Option ℚ)) (h : Limited m ls) (
     asks_is : rows_ask m y ≡ B
     unfolding B
     asks_is =
-        sum_below_same r _ _ (λ i p. asked_is (limits m i) (part y i) (v (w + i)) (row_tight i p) ∙ ap (λ a. a *ℚ v (w + i)) (y_at i p))
+        sum_below_same r _ _
+        (λ i p. asked_is (limits m i) (part y i) (v (w + i)) (row_tight i p) ∙ ap (λ a. a *ℚ v (w + i)) (y_at i p))
 
     gives_is : columns_give m y ≡ neg_ℚ A
     unfolding A
     gives_is =
-        sum_below_same w _ (λ j. neg_ℚ (d j *ℚ v j)) (λ j p. asked_is (turned_limits (bounds m j)) (priced m y j) (v j) (column_tight j p) ∙ turn (priced m y j) (d j) (v j) (priced_at j p))
+        sum_below_same w _ (λ j. neg_ℚ (d j *ℚ v j))
+        (λ j p. asked_is (turned_limits (bounds m j)) (priced m y j) (v j) (column_tight j p)
+        ∙ turn (priced m y j) (d j) (v j) (priced_at j p))
         ∙ sym (neg-sum_below w (λ j. d j *ℚ v j))
       where
         turn : (p d v : ℚ) → d ≡ neg_ℚ p → p *ℚ v ≡ neg_ℚ (d *ℚ v)
@@ -191,22 +214,27 @@ module _ (m : Model) (ls : List (Option ℚ × Option ℚ)) (h : Limited m ls) (
     no_part : (i : ℕ) → i < r → d (w + r + i) *ℚ v (w + r + i) ≡ 0ℚ
     no_part i p =
         by_basic (t.status (w + r + i))
-        (λ s. ap (λ a. a *ℚ v (w + r + i)) (zero_at_basic r n F costs b t g (w + r + i) (omega (arith, p)) s) ∙ zero-*ℚ _)
+        (λ s. ap (λ a. a *ℚ v (w + r + i)) (zero_at_basic r n F costs b t g (w + r + i) (omega (arith, p)) s)
+        ∙ zero-*ℚ _)
         (λ s. ap (λ a. d (w + r + i) *ℚ a)
-        (stands_zero (t.status (w + r + i)) (b.lower (w + r + i)) (b.upper (w + r + i)) (v (w + r + i)) (artificial i p).0
-        (subst (λ o. (o ≡ None) ⊎ (o ≡ Some 0ℚ)) (sym (artificial i p).1) (top_of (start_at starts i))) s (g.stands (w + r + i) (omega (arith, p)))) ∙ *ℚ_zero _)
+        (stands_zero (t.status (w + r + i)) (b.lower (w + r + i))
+        (b.upper (w + r + i)) (v (w + r + i)) (artificial i p).0
+        (subst (λ o. (o ≡ None) ⊎ (o ≡ Some 0ℚ)) (sym (artificial i p).1) (top_of (start_at starts i))) s
+        (g.stands (w + r + i) (omega (arith, p)))) ∙ *ℚ_zero _)
 
     balance : A +ℚ B ≡ U
     unfolding A B U
     balance =
-        sym (+ℚ_zero _) ∙ ap (λ z. (sum_below w (λ j. d j *ℚ v j) +ℚ sum_below r (λ i. d (w + i) *ℚ v (w + i))) +ℚ z) (sym (sum_below_none r _ no_part))
+        sym (+ℚ_zero _) ∙ ap (λ z. (sum_below w (λ j. d j *ℚ v j) +ℚ sum_below r (λ i. d (w + i) *ℚ v (w + i))) +ℚ z)
+        (sym (sum_below_none r _ no_part))
         ∙ sym (sum_by_kind w r (λ k. d k *ℚ v k))
         ∙ costs_agree r n F costs d v g.costs.weights g.costs.less g.solves
         ∙ costs_sum v
 
     inside_at : (i : ℕ) → i < r → IsInside (Some 0ℚ) (artificial_upper (start_at starts i)) (v (w + r + i))
     inside_at i p =
-        subst₂ (λ l u. IsInside l u (v (w + r + i))) (artificial i p).0 (artificial i p).1 (within (w + r + i) (omega (arith, p)))
+        subst₂ (λ l u. IsInside l u (v (w + r + i)))
+        (artificial i p).0 (artificial i p).1 (within (w + r + i) (omega (arith, p)))
 
     above_zero : 0ℚ <ℚ U
     unfolding U

@@ -1,5 +1,6 @@
 -- A column that is never stopped moves along a ray that bounds allow, and the cost falls along it.
-use Rattle.std.proofs.Common.{◌≡◌, ℕ, ◌<◌, ◌⊎◌, Option, Some, None, Bool, true, false, cond, option_map, IfSome, refl, sym, ◌∙◌, subst, ⊎_elim}
+use Rattle.std.proofs.Common.{◌≡◌, ℕ, ◌<◌, ◌⊎◌, Option, Some, None, Bool, true, false}
+use Rattle.std.proofs.Common.{cond, option_map, IfSome, refl, sym, ◌∙◌, subst, ⊎_elim}
 use Rattle.spec_exact.specs.Fraction.{ℚ, ◌-ℚ◌, ◌*ℚ◌, neg_ℚ, inverse, 0ℚ, 1ℚ, ◌≤ℚ◌, ◌<ℚ◌, lt_ℚ}
 use Rattle.spec_exact.specs.Sums.{sum_below}
 use Rattle.spec_exact.proofs.Order.{≤ℚ_refl, <ℚ-le, lt_if, le_if_not}
@@ -36,7 +37,8 @@ room_none : (b : Bounds) (k : ℕ) (v r : ℚ) → room b k v r ≡ None → All
 room_none b k v r e = by (lt_ℚ 0ℚ r) (lt_ℚ r 0ℚ) refl refl e
   where
     by : (s t : Bool) → lt_ℚ 0ℚ r ≡ s → lt_ℚ r 0ℚ ≡ t →
-        cond s (option_map (λ u. (u -ℚ v) *ℚ inverse r) (b.upper k)) (cond t (option_map (λ l. (v -ℚ l) *ℚ inverse (neg_ℚ r)) (b.lower k)) None) ≡ None →
+        cond s (option_map (λ u. (u -ℚ v) *ℚ inverse r) (b.upper k))
+        (cond t (option_map (λ l. (v -ℚ l) *ℚ inverse (neg_ℚ r)) (b.lower k)) None) ≡ None →
         Allows (limits_at b k) r
     by true t p q h = record {
       lower = if_all (λ _. 0ℚ ≤ℚ r) (b.lower k) (λ _. <ℚ-le 0ℚ r (lt_if 0ℚ r p));
@@ -53,7 +55,10 @@ room_none b k v r e = by (lt_ℚ 0ℚ r) (lt_ℚ r 0ℚ) refl refl e
 
 still_allowed : (l : Limits) (r : ℚ) → r ≡ 0ℚ → Allows l r
 still_allowed l r e =
-    subst (Allows l) (sym e) (record { lower = if_all (λ _. 0ℚ ≤ℚ 0ℚ) l.lower (λ _. ≤ℚ_refl 0ℚ); upper = if_all (λ _. 0ℚ ≤ℚ 0ℚ) l.upper (λ _. ≤ℚ_refl 0ℚ) })
+    subst (Allows l) (sym e) (record {
+      lower = if_all (λ _. 0ℚ ≤ℚ 0ℚ) l.lower (λ _. ≤ℚ_refl 0ℚ);
+      upper = if_all (λ _. 0ℚ ≤ℚ 0ℚ) l.upper (λ _. ≤ℚ_refl 0ℚ);
+    })
 
 below-zero : neg_ℚ 1ℚ <ℚ 0ℚ
 below-zero = subst (λ a. neg_ℚ 1ℚ <ℚ a) neg-zero (neg_strict 0ℚ 1ℚ zero-lt-one)
@@ -72,24 +77,32 @@ own_allowed l u v Down AtUpper c s o = record {
   upper = if_all (λ _. neg_ℚ 1ℚ ≤ℚ 0ℚ) u (λ _. <ℚ-le _ _ below-zero);
 }
 own_allowed l u v Down AtZero c s o =
-    record { lower = if_none (λ _. 0ℚ ≤ℚ neg_ℚ 1ℚ) l s.0; upper = if_all (λ _. neg_ℚ 1ℚ ≤ℚ 0ℚ) u (λ _. <ℚ-le _ _ below-zero) }
+    record {
+      lower = if_none (λ _. 0ℚ ≤ℚ neg_ℚ 1ℚ) l s.0;
+      upper = if_all (λ _. neg_ℚ 1ℚ ≤ℚ 0ℚ) u (λ _. <ℚ-le _ _ below-zero);
+    }
 own_allowed l u v Up Basic c s o = absurd c
 own_allowed l u v Up AtUpper c s o = absurd c
 own_allowed l u v Down Basic c s o = absurd c
 own_allowed l u v Down AtLower c s o = absurd c
 
-module _ (m n : ℕ) (f : Matrix) (c : ℕ → ℚ) (b : Bounds) (t : Table) (g : IsTableau m n f c b t) (way : Way) (j : ℕ) (e : GoesOn m n b t way j) where
+module _ (m n : ℕ) (f : Matrix) (c : ℕ → ℚ) (b : Bounds) (t : Table)
+    (g : IsTableau m n f c b t) (way : Way) (j : ℕ) (e : GoesOn m n b t way j) where
   pub allowed : (k : ℕ) → k < n → Allows (limits_at b k) (ray m t way j k)
   allowed k h =
       by_basic (t.status k)
-      (λ s. let q = g.placed k h s in subst (λ k. Allows (limits_at b k) (ray m t way j k)) q.2 (room_none b (t.basic q.0) (t.value (t.basic q.0)) (ray m t way j (t.basic q.0)) (e.others q.0 q.1)))
+      (λ s. let q = g.placed k h s in subst (λ k. Allows (limits_at b k) (ray m t way j k)) q.2
+      (room_none b (t.basic q.0) (t.value (t.basic q.0)) (ray m t way j (t.basic q.0)) (e.others q.0 q.1)))
       (λ s. by_eq j k
       (λ o. subst (λ k. Allows (limits_at b k) (ray m t way j k)) o
       (subst (Allows (limits_at b j)) (sym (ray_at m t g.units way j (j_outside m n f c b t g way j e.enters)))
-      (own_allowed (b.lower j) (b.upper j) (t.value j) way (t.status j) e.enters.eligible.status (g.stands j e.enters.in_range) e.own)))
-      (λ o. still_allowed (limits_at b k) (ray m t way j k) (ray_still m t g.units way j (j_outside m n f c b t g way j e.enters) k o (outside m n f c b t g k s))))
+      (own_allowed (b.lower j) (b.upper j) (t.value j) way
+      (t.status j) e.enters.eligible.status (g.stands j e.enters.in_range) e.own)))
+      (λ o. still_allowed (limits_at b k) (ray m t way j k)
+      (ray_still m t g.units way j (j_outside m n f c b t g way j e.enters) k o (outside m n f c b t g k s))))
 
   pub falls : sum_below n (λ k. c k *ℚ ray m t way j k) <ℚ 0ℚ
   falls = subst (λ a. a <ℚ 0ℚ)
-      (sym (ray_cost m n f c b t g way j e.enters) ∙ cost_ray m t g.units way j (j_outside m n f c b t g way j e.enters) n e.enters.in_range g.in_range f c t.reduced g.back g.costs.weights g.costs.less)
+      (sym (ray_cost m n f c b t g way j e.enters) ∙ cost_ray m t g.units way j (j_outside m n f c b t g way j e.enters)
+      n e.enters.in_range g.in_range f c t.reduced g.back g.costs.weights g.costs.less)
       (better m n f c b t g way j e.enters)

@@ -1,5 +1,6 @@
 -- Where no column is eligible, a reduced cost stands at the bound of its sign; and sums over the columns of a form.
-use Rattle.std.proofs.Common.{◌≡◌, ℕ, ◌+◌, ◌<◌, List, Option, Some, false, IfSome, refl, sym, ap, ap₂, ◌∙◌, subst, subst₂, arith, ⊎_elim}
+use Rattle.std.proofs.Common.{◌≡◌, ℕ, ◌+◌, ◌<◌, List, Option, Some, false, IfSome}
+use Rattle.std.proofs.Common.{refl, sym, ap, ap₂, ◌∙◌, subst, subst₂, arith, ⊎_elim}
 use Rattle.spec_exact.specs.Fraction.{ℚ, ◌+ℚ◌, ◌-ℚ◌, ◌*ℚ◌, neg_ℚ, 0ℚ, 1ℚ, ◌≤ℚ◌, ◌<ℚ◌}
 use Rattle.spec_exact.specs.Sums.{sum_below}
 use Rattle.spec_exact.proofs.Field.{+ℚ_zero, *ℚ_comm, *ℚ_zero}
@@ -30,8 +31,10 @@ use Rattle.spec_cold.proofs.Begun.{delta_sym}
 abbrev pub limits_at : Bounds → ℕ → Limits
 limits_at b k = record { lower = b.lower k; upper = b.upper k }
 
-module _ (b : Bounds) (t : Table) (k : ℕ) (stands : Stands (t.status k) (b.lower k) (b.upper k) (t.value k)) (within : IsInside (b.lower k) (b.upper k) (t.value k))
-    (basic : t.status k ≡ Basic → t.reduced k ≡ 0ℚ) (open_ : b.barred k ≡ false) (none : (way : Way) → ¬ (IsEligible b t way k)) where
+module _ (b : Bounds) (t : Table) (k : ℕ) (stands : Stands (t.status k) (b.lower k) (b.upper k) (t.value k))
+    (within : IsInside (b.lower k) (b.upper k) (t.value k))
+    (basic : t.status k ≡ Basic → t.reduced k ≡ 0ℚ) (open_ : b.barred k ≡ false)
+    (none : (way : Way) → ¬ (IsEligible b t way k)) where
   fixed_value : (f : IsFixed b k) → f.0 ≡ t.value k
   fixed_value f = ≤ℚ_antisym f.0 (t.value k)
       (subst (λ o. IfSome o (λ c. c ≤ℚ t.value k)) f.1 within.lower)
@@ -92,11 +95,15 @@ module _ (m : Model) (ls : List (Option ℚ × Option ℚ)) (h : Limited m ls) (
   module _ (b : Bounds) (bs : HasBounds f b) where
     pub bounds_structural : (P : Limits → Type 0) (j : ℕ) → j < w → P (limits_at b j) → P (bounds m j)
     bounds_structural P j l =
-        subst₂ (λ x y. P (record { lower = x; upper = y })) (bs.lower j (omega (arith, l)) ∙ lower_structural m ls h j l) (bs.upper j (omega (arith, l)) ∙ upper_structural m ls h j l)
+        subst₂ (λ x y. P (record { lower = x; upper = y }))
+        (bs.lower j (omega (arith, l)) ∙ lower_structural m ls h j l)
+        (bs.upper j (omega (arith, l)) ∙ upper_structural m ls h j l)
 
     pub bounds_logical : (P : Limits → Type 0) (i : ℕ) → i < r → P (limits_at b (w + i)) → P (limits m i)
     bounds_logical P i l =
-        subst₂ (λ x y. P (record { lower = x; upper = y })) (bs.lower (w + i) (omega (arith, l)) ∙ lower_logical m ls h i l) (bs.upper (w + i) (omega (arith, l)) ∙ upper_logical m ls h i l)
+        subst₂ (λ x y. P (record { lower = x; upper = y }))
+        (bs.lower (w + i) (omega (arith, l)) ∙ lower_logical m ls h i l)
+        (bs.upper (w + i) (omega (arith, l)) ∙ upper_logical m ls h i l)
 
     between_at : (t : Table) (k : ℕ) → IsInside (b.lower k) (b.upper k) (t.value k) →
         IsBetween (limits_at b k) (t.value k)
@@ -109,13 +116,16 @@ module _ (m : Model) (ls : List (Option ℚ × Option ℚ)) (h : Limited m ls) (
 
       pub within_logical : (i : ℕ) → i < r → IsBetween (limits m i) (t.value (w + i))
       within_logical i l =
-          bounds_logical (λ x. IsBetween x (t.value (w + i))) i l (between_at t (w + i) (within (w + i) (omega (arith, l))))
+          bounds_logical (λ x. IsBetween x (t.value (w + i))) i l
+          (between_at t (w + i) (within (w + i) (omega (arith, l))))
 
-      module _ (cost : ℕ → ℚ) (g : IsTableau r (w + r + r) F cost b t) (none : (way : Way) (k : ℕ) → k < w + r + r → ¬ (IsEligible b t way k)) where
+      module _ (cost : ℕ → ℚ) (g : IsTableau r (w + r + r) F cost b t)
+          (none : (way : Way) (k : ℕ) → k < w + r + r → ¬ (IsEligible b t way k)) where
         tight_at : (k : ℕ) → k < w + r → IsTight (limits_at b k) (t.reduced k) (t.value k)
         tight_at k l =
             let q : k < w + r + r = omega (arith, l) in
-            tight b t k (g.stands k q) (within k q) (zero_at_basic r (w + r + r) F cost b t g k q) (bs.entering k l) (λ way. none way k q)
+            tight b t k (g.stands k q) (within k q)
+            (zero_at_basic r (w + r + r) F cost b t g k q) (bs.entering k l) (λ way. none way k q)
 
         pub tight_structural : (j : ℕ) → j < w → IsTight (bounds m j) (t.reduced j) (t.value j)
         tight_structural j l =
@@ -123,19 +133,23 @@ module _ (m : Model) (ls : List (Option ℚ × Option ℚ)) (h : Limited m ls) (
 
         pub tight_logical : (i : ℕ) → i < r → IsTight (limits m i) (t.reduced (w + i)) (t.value (w + i))
         tight_logical i l =
-            bounds_logical (λ x. IsTight x (t.reduced (w + i)) (t.value (w + i))) i l (tight_at (w + i) (omega (arith, l)))
+            bounds_logical (λ x. IsTight x (t.reduced (w + i)) (t.value (w + i))) i l
+            (tight_at (w + i) (omega (arith, l)))
 
   -- the multipliers are the weights of the reduced costs, negated
   module _ (cost d weights : ℕ → ℚ) (less : (k : ℕ) → d k ≡ cost k -ℚ sum_below r (λ i. weights i *ℚ F i k)) where
     pub weight_at : (i : ℕ) → i < r → cost (w + i) ≡ 0ℚ → d (w + i) ≡ neg_ℚ (weights i)
     weight_at i p e =
         less (w + i) ∙ ap₂ (λ a c. a -ℚ c) e
-        (sum_below_same r _ (λ s. delta i s *ℚ weights s) (λ s q. ap (λ a. weights s *ℚ a) (row_logical f starts s i p ∙ delta_sym s i) ∙ *ℚ_comm (weights s) (delta i s)) ∙ sum_below-delta r i weights p)
+        (sum_below_same r _ (λ s. delta i s *ℚ weights s)
+        (λ s q. ap (λ a. weights s *ℚ a) (row_logical f starts s i p ∙ delta_sym s i) ∙ *ℚ_comm (weights s) (delta i s))
+        ∙ sum_below-delta r i weights p)
         ∙ zero-+ℚ _
 
     pub column_at : (j : ℕ) → j < w → d j ≡ cost j -ℚ sum_below r (λ i. neg_ℚ (weights i) *ℚ coefficient m i j)
     column_at j p =
-        less j ∙ ap (λ s. cost j -ℚ s) (sum_below_same r _ _ (λ i q. ap (λ a. weights i *ℚ a) (row_structural f starts i j p ∙ ap neg_ℚ (entry_is m ls h i j)) ∙ swap_sign (weights i) (coefficient m i j)))
+        less j ∙ ap (λ s. cost j -ℚ s) (sum_below_same r _ _ (λ i q. ap (λ a. weights i *ℚ a)
+        (row_structural f starts i j p ∙ ap neg_ℚ (entry_is m ls h i j)) ∙ swap_sign (weights i) (coefficient m i j)))
       where
         swap_sign : (w a : ℚ) → w *ℚ neg_ℚ a ≡ neg_ℚ w *ℚ a
         swap_sign w a = simp ring
@@ -148,9 +162,12 @@ module _ (m : Model) (ls : List (Option ℚ × Option ℚ)) (h : Limited m ls) (
       (sym (sum_by_kind w r (λ k. F i k *ℚ z k)
       ∙ ap₂ ◌+ℚ◌
       (ap₂ ◌+ℚ◌
-      (sum_below_same w _ (λ j. neg_ℚ 1ℚ *ℚ (coefficient m i j *ℚ z j)) (λ j q. ap (λ a. a *ℚ z j) (row_structural f starts i j q ∙ ap neg_ℚ (entry_is m ls h i j)) ∙ minus (coefficient m i j) (z j))
+      (sum_below_same w _ (λ j. neg_ℚ 1ℚ *ℚ (coefficient m i j *ℚ z j))
+      (λ j q. ap (λ a. a *ℚ z j) (row_structural f starts i j q ∙ ap neg_ℚ (entry_is m ls h i j))
+      ∙ minus (coefficient m i j) (z j))
       ∙ sym (*ℚ-sum_below (neg_ℚ 1ℚ) w _))
-      (sum_below_same r _ (λ s. delta i s *ℚ z (w + s)) (λ s q. ap (λ a. a *ℚ z (w + s)) (row_logical f starts i s q)) ∙ sum_below-delta r i (λ s. z (w + s)) p))
+      (sum_below_same r _ (λ s. delta i s *ℚ z (w + s)) (λ s q. ap (λ a. a *ℚ z (w + s)) (row_logical f starts i s q))
+      ∙ sum_below-delta r i (λ s. z (w + s)) p))
       (sum_below_none r _ (λ s q. ap (λ a. F i (w + r + s) *ℚ a) (none s q) ∙ *ℚ_zero _)))
       ∙ solves)
     where

@@ -27,14 +27,19 @@ use Rattle.spec_cold.proofs.EndRay.{allowed, falls}
 zero_allowed : (l u : Option ℚ) (r : ℚ) → l ≡ Some 0ℚ → u ≡ Some 0ℚ → Allows (record { lower = l; upper = u }) r →
     r ≡ 0ℚ
 zero_allowed l u r p q a =
-    let z : Allows (record { lower = Some 0ℚ; upper = Some 0ℚ }) r = subst₂ (λ l u. Allows (record { lower = l; upper = u }) r) p q a in
+    let z : Allows (record { lower = Some 0ℚ; upper = Some 0ℚ }) r =
+    subst₂ (λ l u. Allows (record { lower = l; upper = u }) r) p q a in
     ≤ℚ_antisym r 0ℚ z.upper z.lower
 
-module _ (m : Model) (ls : List (Option ℚ × Option ℚ)) (h : Limited m ls) (starts : List (RowStart ℚ)) (b : Bounds) (bs : HasBounds (formed m ls) b)
-    (fixed : (i : ℕ) → i < height m → (b.lower (width m + height m + i) ≡ Some 0ℚ) × (b.upper (width m + height m + i) ≡ Some 0ℚ))
-    (t : Table) (g : IsTableau (height m) (width m + height m + height m) (form_rows (formed m ls) starts) (cost_at (formed m ls).cost) b t) (within : IsWithin (width m + height m + height m) b t)
+module _ (m : Model) (ls : List (Option ℚ × Option ℚ)) (h : Limited m ls)
+    (starts : List (RowStart ℚ)) (b : Bounds) (bs : HasBounds (formed m ls) b)
+    (fixed : (i : ℕ) → i < height m →
+    (b.lower (width m + height m + i) ≡ Some 0ℚ) × (b.upper (width m + height m + i) ≡ Some 0ℚ))
+    (t : Table) (g : IsTableau (height m) (width m + height m + height m) (form_rows (formed m ls) starts)
+    (cost_at (formed m ls).cost) b t) (within : IsWithin (width m + height m + height m) b t)
     (way : Way) (j : ℕ) (e : GoesOn (height m) (width m + height m + height m) b t way j)
-    (x y : List ℚ) (x_length : length x ≡ width m) (x_at : (j : ℕ) → j < width m → part x j ≡ t.value j) (y_at : (k : ℕ) → k < width m → part y k ≡ ray (height m) t way j k) where
+    (x y : List ℚ) (x_length : length x ≡ width m) (x_at : (j : ℕ) → j < width m → part x j ≡ t.value j)
+    (y_at : (k : ℕ) → k < width m → part y k ≡ ray (height m) t way j k) where
   abbrev n : ℕ
   n = width m + height m + height m
 
@@ -52,19 +57,22 @@ module _ (m : Model) (ls : List (Option ℚ × Option ℚ)) (h : Limited m ls) (
 
   still : (i : ℕ) → i < height m → z (width m + height m + i) ≡ 0ℚ
   still i p =
-      zero_allowed (b.lower (width m + height m + i)) (b.upper (width m + height m + i)) (z (width m + height m + i)) (fixed i p).0 (fixed i p).1 (allowed_at (width m + height m + i) (omega (arith, p)))
+      zero_allowed (b.lower (width m + height m + i)) (b.upper (width m + height m + i)) (z (width m + height m + i))
+      (fixed i p).0 (fixed i p).1 (allowed_at (width m + height m + i) (omega (arith, p)))
 
   row_ray : (i : ℕ) → i < height m → activity m y i ≡ z (width m + i)
   row_ray i p =
       sum_below_same (width m) _ (λ k. coefficient m i k *ℚ z k) (λ k q. ap (λ a. coefficient m i k *ℚ a) (y_at k q))
-      ∙ logical_is_row m ls h starts z still i p (form_ray (height m) t g.units way j (j_outside (height m) n F costs b t g way j e.enters) n e.enters.in_range g.in_range F g.back i p)
+      ∙ logical_is_row m ls h starts z still i p (form_ray (height m) t g.units way j
+      (j_outside (height m) n F costs b t g way j e.enters) n e.enters.in_range g.in_range F g.back i p)
 
   cost_is : sum_below n (λ k. costs k *ℚ z k) ≡ signed m.sense (cost_of m y)
   cost_is =
       sum_by_kind (width m) (height m) (λ k. costs k *ℚ z k)
       ∙ ap₂ ◌+ℚ◌
       (ap₂ ◌+ℚ◌
-      (sum_below_same (width m) _ (λ k. signed m.sense (cost m k) *ℚ part y k) (λ k p. ap₂ ◌*ℚ◌ (cost_structural m ls h k p) (sym (y_at k p)))
+      (sum_below_same (width m) _ (λ k. signed m.sense (cost m k) *ℚ part y k)
+      (λ k p. ap₂ ◌*ℚ◌ (cost_structural m ls h k p) (sym (y_at k p)))
       ∙ signed-sum_below m.sense (width m) (cost m) (part y))
       (sum_below_none (height m) _ (λ i p. ap (λ a. a *ℚ z (width m + i)) (cost_other m ls h i) ∙ zero-*ℚ _)))
       (sum_below_none (height m) _ (λ i p. ap (λ a. a *ℚ z (width m + height m + i)) (artificial_cost i) ∙ zero-*ℚ _))
@@ -72,14 +80,17 @@ module _ (m : Model) (ls : List (Option ℚ × Option ℚ)) (h : Limited m ls) (
     where
       artificial_cost : (i : ℕ) → costs (width m + height m + i) ≡ 0ℚ
       artificial_cost i =
-          (let e : width m + height m + i ≡ width m + (height m + i) = omega arith in ap (cost_at (formed m ls).cost) e) ∙ cost_other m ls h (height m + i)
+          (let e : width m + height m + i ≡ width m + (height m + i) = omega arith in ap (cost_at (formed m ls).cost) e)
+          ∙ cost_other m ls h (height m + i)
 
   pub unbounded_checks : ChecksUnbounded m x y
   unbounded_checks = record {
     feasible = point_feasible m ls h starts b bs fixed t g within x x_length x_at;
     columns =
-        λ k p. subst (Allows (bounds m k)) (sym (y_at k p)) (bounds_structural m ls h starts b bs (λ l. Allows l (z k)) k p (allowed_at k (omega (arith, p))));
+        λ k p. subst (Allows (bounds m k)) (sym (y_at k p))
+        (bounds_structural m ls h starts b bs (λ l. Allows l (z k)) k p (allowed_at k (omega (arith, p))));
     rows =
-        λ i p. subst (Allows (limits m i)) (sym (row_ray i p)) (bounds_logical m ls h starts b bs (λ l. Allows l (z (width m + i))) i p (allowed_at (width m + i) (omega (arith, p))));
+        λ i p. subst (Allows (limits m i)) (sym (row_ray i p)) (bounds_logical m ls h starts b bs
+        (λ l. Allows l (z (width m + i))) i p (allowed_at (width m + i) (omega (arith, p))));
     better = subst (λ a. a <ℚ 0ℚ) cost_is (falls (height m) n F costs b t g way j e);
   }

@@ -1,5 +1,6 @@
 -- The column that enters, and that none does.
-use Rattle.std.proofs.Common.{◌≡◌, ◌≢◌, ℕ, zero, suc, ◌<◌, Option, Some, None, Bool, true, false, cond, refl, sym, ap, ap₂, ◌∙◌, subst, arith}
+use Rattle.std.proofs.Common.{◌≡◌, ◌≢◌, ℕ, zero, suc, ◌<◌, Option, Some, None, Bool}
+use Rattle.std.proofs.Common.{true, false, cond, refl, sym, ap, ap₂, ◌∙◌, subst, arith}
 use Rattle.spec_exact.specs.Fraction.{ℚ, 0ℚ, lt_ℚ}
 use Rattle.spec_exact.proofs.Order.{lt_if, lt_test}
 use Rattle.spec_exact.proofs.Same.{eq_if, eq_test}
@@ -11,7 +12,8 @@ use Rattle.spec_pivot.specs.Simplex.{Bounds, IsFixed, CanMove, Improves, IsEligi
 use Rattle.spec_pivot.proofs.Pivot.{by_eq}
 use Rattle.spec_pivot.proofs.Values.{by_basic}
 use Rattle.spec_simplex.specs.declared.ends.Entering.{Entering}
-use Rattle.spec_simplex.specs.Tableau.{Tableau, form_columns, all_columns, reduced_at, status_at, lower_at, upper_at, is_fixed}
+use Rattle.spec_simplex.specs.Tableau.{Tableau, form_columns, all_columns, reduced_at}
+use Rattle.spec_simplex.specs.Tableau.{status_at, lower_at, upper_at, is_fixed}
 use Rattle.spec_simplex.specs.Step.{way_by, way_at, or_enters, entering_below, entering}
 use Rattle.spec_cold.specs.Tables.{way, table_of, KeepsBounds}
 use Rattle.spec_cold.proofs.Lists.{by_lt}
@@ -104,7 +106,8 @@ module _ (b : Bounds) (t : Tableau) (keeps : KeepsBounds b t) where
           cond c None (way_by (status_at t k) (reduced_at t k)) ≡ Some up → IsEligible b (table_of t) (way up) k
       by true c e = let z : None ≡ Some up = e in cc
       by false c e =
-          let goes : Goes (way up) (status_at t k) (reduced_at t k) = way_by_some (status_at t k) (reduced_at t k) up e in
+          let goes : Goes (way up) (status_at t k) (reduced_at t k) =
+          way_by_some (status_at t k) (reduced_at t k) up e in
           by_lt k (form_columns t)
           (λ l. record {
             may_enter = (keeps.entering k l, λ v. let z : false ≡ true = sym c ∙ not_fixed_at k l v in cc);
@@ -113,7 +116,8 @@ module _ (b : Bounds) (t : Tableau) (keeps : KeepsBounds b t) where
           })
           (λ l. by_basic (status_at t k)
           (λ s. let z : None ≡ Some up = sym (ap (λ s. way_by s (reduced_at t k)) s) ∙ e in cc)
-          (λ s. let z : false ≡ true = sym c ∙ fixed_test (lower_at t k) (upper_at t k) 0ℚ (keeps.lower k k_in ∙ keeps.zero k l k_in) (keeps.fixed k l k_in s) in cc))
+          (λ s. let z : false ≡ true = sym c ∙ fixed_test (lower_at t k) (upper_at t k) 0ℚ
+          (keeps.lower k k_in ∙ keeps.zero k l k_in) (keeps.fixed k l k_in s) in cc))
 
   -- ---- the least of many
   record EntersBelow (n : ℕ) (e : Entering) : Type 0 where
@@ -145,7 +149,8 @@ module _ (b : Bounds) (t : Tableau) (keeps : KeepsBounds b t) where
       by None None p q h before = let z : None ≡ Some x = h in cc
       by None (Some up) p q h before =
           let z : ◌≡◌ {A = Entering} (record { col = n; up = up }) x = cc in
-          subst (EntersBelow (suc n)) z (record { inside = omega arith; way_there = q; least = λ k l. none_below n p k l })
+          subst (EntersBelow (suc n)) z
+          (record { inside = omega arith; way_there = q; least = λ k l. none_below n p k l })
 
   pub no_entering : entering t ≡ None → (w : Way) (k : ℕ) → k < all_columns t → ¬ (IsEligible b (table_of t) w k)
   no_entering h w k l = none_at k (none_below (all_columns t) h k l) w

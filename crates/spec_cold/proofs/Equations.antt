@@ -17,15 +17,18 @@ module _ (f : Form) (starts : List (RowStart ℚ)) where
 
   pub row_logical : (i r : ℕ) → r < f.rows → form_rows f starts i (f.cols + r) ≡ delta i r
   row_logical i r =
-      logical_at f (neg_ℚ (form_entry f i (f.cols + r))) (λ r. delta i r) (λ r. logical_sign (start_at starts i) *ℚ delta i r) r
+      logical_at f (neg_ℚ (form_entry f i (f.cols + r))) (λ r. delta i r)
+      (λ r. logical_sign (start_at starts i) *ℚ delta i r) r
 
   pub row_artificial : (i r : ℕ) →
       form_rows f starts i (f.cols + f.rows + r) ≡ logical_sign (start_at starts i) *ℚ delta i r
   row_artificial i r =
-      artificial_at f (neg_ℚ (form_entry f i (f.cols + f.rows + r))) (λ r. delta i r) (λ r. logical_sign (start_at starts i) *ℚ delta i r) r
+      artificial_at f (neg_ℚ (form_entry f i (f.cols + f.rows + r)))
+      (λ r. delta i r) (λ r. logical_sign (start_at starts i) *ℚ delta i r) r
 
   pub row_past : (i k : ℕ) → i < f.rows → f.cols + f.rows + f.rows ≤ k → form_rows f starts i k ≡ 0ℚ
   row_past i k h l =
       let e : k ≡ f.cols + f.rows + (k - (f.cols + f.rows)) = omega (arith, l) in
       ap (form_rows f starts i) e ∙ row_artificial i (k - (f.cols + f.rows))
-      ∙ ap (λ a. logical_sign (start_at starts i) *ℚ a) (delta_other i (k - (f.cols + f.rows)) (λ z. let y : ⊥ = omega (arith, h, l, z) in y)) ∙ *ℚ_zero _
+      ∙ ap (λ a. logical_sign (start_at starts i) *ℚ a)
+      (delta_other i (k - (f.cols + f.rows)) (λ z. let y : ⊥ = omega (arith, h, l, z) in y)) ∙ *ℚ_zero _

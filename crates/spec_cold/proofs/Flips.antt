@@ -1,5 +1,6 @@
 -- A flip of the run is a flip of the table.
-use Rattle.std.proofs.Common.{◌≡◌, ◌≢◌, ℕ, ◌<◌, List, length, Option, None, Ok, Bool, true, false, refl, sym, ap, ap₂, ◌∙◌, subst, arith, eq-eqb, ne_eqb}
+use Rattle.std.proofs.Common.{◌≡◌, ◌≢◌, ℕ, ◌<◌, List, length, Option, None, Ok, Bool, true}
+use Rattle.std.proofs.Common.{false, refl, sym, ap, ap₂, ◌∙◌, subst, arith, eq-eqb, ne_eqb}
 use Rattle.std.proofs.lemmas.List.{length-set, get_or-set_same, get_or-set_other}
 use Rattle.spec_exact.specs.Fraction.{ℚ, 0ℚ, 1ℚ, ◌-ℚ◌, ◌*ℚ◌, neg_ℚ}
 use Rattle.spec_exact.proofs.Ruleset.{ring}
@@ -10,7 +11,8 @@ use Rattle.spec_pivot.specs.Simplex.{Bounds, IsTableau, sign, moved, status_set,
 use Rattle.spec_pivot.proofs.Pivot.{by_eq}
 use Rattle.spec_pivot.proofs.Kept.{outside}
 use Rattle.spec_simplex.specs.Run.{Run, ◌>>=◌, difference_run}
-use Rattle.spec_simplex.specs.Tableau.{Tableau, form_columns, all_columns, value_at, status_at, lower_at, upper_at, or_zero, stand}
+use Rattle.spec_simplex.specs.Tableau.{Tableau, form_columns, all_columns, value_at}
+use Rattle.spec_simplex.specs.Tableau.{status_at, lower_at, upper_at, or_zero, stand}
 use Rattle.spec_simplex.specs.Step.{directed, other_bound, moved_run, flip_way, flipped, flip_run}
 use Rattle.spec_cold.specs.Tables.{way, table_of, IsWhole, KeepsBounds}
 use Rattle.spec_cold.proofs.Runs.{then_ok, difference_ok}
@@ -29,8 +31,11 @@ directed_is false v = down v
     down : (v : ℚ) → neg_ℚ v ≡ neg_ℚ 1ℚ *ℚ v
     down v = simp ring
 
-module _ (limit : Option ℕ) (t : Tableau) (w : IsWhole t) (f : Matrix) (cost : ℕ → ℚ) (b : Bounds) (g : IsTableau t.rows (all_columns t) f cost b (table_of t)) (keeps : KeepsBounds b t)
-    (up : Bool) (j : ℕ) (ratio : ℚ) (v : Crosses t.rows (all_columns t) b (table_of t) (way up) j ratio (other_bound up)) (open_ : b.barred j ≡ false) where
+module _ (limit : Option ℕ) (t : Tableau) (w : IsWhole t) (f : Matrix) (cost : ℕ → ℚ) (b : Bounds)
+    (g : IsTableau t.rows (all_columns t) f cost b (table_of t)) (keeps : KeepsBounds b t)
+    (up : Bool) (j : ℕ) (ratio : ℚ)
+    (v : Crosses t.rows (all_columns t) b (table_of t) (way up) j ratio (other_bound up))
+    (open_ : b.barred j ≡ false) where
   abbrev to : Status
   to = other_bound up
 
@@ -40,7 +45,8 @@ module _ (limit : Option ℕ) (t : Tableau) (w : IsWhole t) (f : Matrix) (cost :
   j_before : j < form_columns t
   j_before = enters_before b t j keeps open_
 
-  module _ (theta : ℚ) (same : theta ≡ sign (way up) *ℚ ratio) (values : List ℚ) (values_ok : moved_run limit t j theta None ≡ Ok values) where
+  module _ (theta : ℚ) (same : theta ≡ sign (way up) *ℚ ratio) (values : List ℚ)
+      (values_ok : moved_run limit t j theta None ≡ Ok values) where
     abbrev u : Tableau
     u = flipped t j to values
 
@@ -67,14 +73,16 @@ module _ (limit : Option ℕ) (t : Tableau) (w : IsWhole t) (f : Matrix) (cost :
         ∙ ap₂ (stand to) (keeps.lower j j_in) (keeps.upper j j_before)
         ∙ stand_is to (b.lower j) (b.upper j) (moved t.rows (table_of t) (way up) j ratio j) v.to_nonbasic v.lands))
         (λ o. get_or-set_other values j k (stand to (lower_at t j) (upper_at t j)) 0ℚ o
-        ∙ moved_ray limit t w f cost b g j theta None values values_ok (way up) (outside t.rows (all_columns t) f cost b (table_of t) g j v.nonbasic) ratio same k o (λ r l s. let z : false ≡ true = s in cc))
+        ∙ moved_ray limit t w f cost b g j theta None values values_ok (way up) (outside t.rows
+        (all_columns t) f cost b (table_of t) g j v.nonbasic) ratio same k o (λ r l s. let z : false ≡ true = s in cc))
 
     status_is : (k : ℕ) → status_at u k ≡ status_set (status_at t) j to k
     status_is k = set_reads t.status j to Basic (omega (arith, w.all_statuses, j_in)) k
 
     table_is : table_of u ≡ after_flip t.rows (table_of t) (way up) j ratio to
     table_is =
-        same_table (table_of u) (after_flip t.rows (table_of t) (way up) j ratio to) (λ i k. refl) (λ i. refl) value_is (λ k. refl) status_is
+        same_table (table_of u) (after_flip t.rows (table_of t) (way up) j ratio to)
+        (λ i k. refl) (λ i. refl) value_is (λ k. refl) status_is
 
     status_other : (k : ℕ) → k ≢ j → status_at u k ≡ status_at t k
     status_other k d = status_is k ∙ rw (ne_eqb k j d) refl
@@ -106,7 +114,8 @@ module _ (limit : Option ℕ) (t : Tableau) (w : IsWhole t) (f : Matrix) (cost :
       difference_run limit (or_zero (upper_at t j)) (or_zero (lower_at t j)) >>= λ range.
       moved_run limit t j (directed c range) None >>= λ values. Ok (flipped t j (other_bound c) values)
 
-  pub flip_leaves : (u : Tableau) → flip_way (status_at t j) ≡ up → ratio ≡ or_zero (upper_at t j) -ℚ or_zero (lower_at t j) → flip_run limit t j ≡ Ok u
+  pub flip_leaves : (u : Tableau) → flip_way (status_at t j) ≡ up →
+      ratio ≡ or_zero (upper_at t j) -ℚ or_zero (lower_at t j) → flip_run limit t j ≡ Ok u
       → Leaves b t u (after_flip t.rows (table_of t) (way up) j ratio to)
   unfolding flip_run flip_by
   flip_leaves u e length h =
@@ -114,5 +123,8 @@ module _ (limit : Option ℕ) (t : Tableau) (w : IsWhole t) (f : Matrix) (cost :
       let a = then_ok (difference_run limit (or_zero (upper_at t j)) (or_zero (lower_at t j))) _ u h' in
       let c = then_ok (moved_run limit t j (directed up a.0) None) _ u a.2 in
       let z : flipped t j (other_bound up) c.0 ≡ u = cc in
-      let same : directed up a.0 ≡ sign (way up) *ℚ ratio = ap (directed up) (difference_ok limit (or_zero (upper_at t j)) (or_zero (lower_at t j)) a.0 a.1 ∙ sym length) ∙ directed_is up ratio in
-      subst (λ u. Leaves b t u (after_flip t.rows (table_of t) (way up) j ratio to)) z (leaves (directed up a.0) same c.0 c.1)
+      let same : directed up a.0 ≡ sign (way up) *ℚ ratio =
+      ap (directed up) (difference_ok limit (or_zero (upper_at t j)) (or_zero (lower_at t j)) a.0 a.1 ∙ sym length)
+      ∙ directed_is up ratio in
+      subst (λ u. Leaves b t u (after_flip t.rows (table_of t) (way up) j ratio to)) z
+      (leaves (directed up a.0) same c.0 c.1)

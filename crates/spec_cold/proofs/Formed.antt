@@ -1,22 +1,26 @@
 -- The form of a model: its parts are the model's, and no bounds clash; or some clash.
-use Rattle.std.proofs.Common.{◌≡◌, ◌≢◌, ℕ, zero, suc, ◌+◌, ◌-◌, ◌<◌, List, ◌++◌, length, get_or, map, replicate, Option, Some, None, Result, Ok, Err, refl, sym, ap, ap₂, ◌∙◌, subst, subst₂, arith}
+use Rattle.std.proofs.Common.{◌≡◌, ◌≢◌, ℕ, zero, suc, ◌+◌, ◌-◌, ◌<◌, List, ◌++◌, length, get_or, map, replicate}
+use Rattle.std.proofs.Common.{Option, Some, None, Result, Ok, Err, refl, sym, ap, ap₂, ◌∙◌, subst, subst₂, arith}
 use Rattle.std.specs.declared.cmp.Ordering.{Ordering}
 use Rattle.std.specs.declared.cmp.Ordering.TheVariants.{Less, Equal, Greater}
 use Rattle.std.proofs.Math.ListN.{get_or-map}
-use Rattle.std.proofs.lemmas.List.{length-append, length-map, length-replicate, get_or_append_left, get_or-append-add, get_or-replicate, get_or_past}
+use Rattle.std.proofs.lemmas.List.{length-append, length-map, length-replicate, get_or_append_left}
+use Rattle.std.proofs.lemmas.List.{get_or-append-add, get_or-replicate, get_or_past}
 use Rattle.spec_exact.specs.Fraction.{ℚ, 0ℚ, ◌≤ℚ◌}
 use Rattle.spec_exact.specs.Limit.{order}
 use Rattle.spec_exact.proofs.Compare.{order_less, order_equal, order_greater}
 use Rattle.spec_exact.proofs.Order.{≤ℚ_refl, <ℚ-le}
 use Rattle.spec_model.specs.declared.parts.Sense.{Sense}
 use Rattle.spec_model.specs.declared.parts.Sense.TheVariants.{Min, Max}
-use Rattle.spec_model.specs.Model.{Model, Limits, ExactRow, ExactColumn, no_column, width, height, row, column, bounds, limits, cost, coefficient}
+use Rattle.spec_model.specs.Model.{Model, Limits, ExactRow, ExactColumn, no_column, width}
+use Rattle.spec_model.specs.Model.{height, row, column, bounds, limits, cost, coefficient}
 use Rattle.spec_check.specs.Checks.{signed, ChecksClash}
 use Rattle.spec_pivot.proofs.Pivot.{by_eq}
 use Rattle.spec_simplex.specs.declared.ends.FormFault.{FormFault}
 use Rattle.spec_simplex.specs.declared.ends.FormFault.TheVariants as fault
 use Rattle.spec_simplex.specs.Run.{Run, ◌>>=◌, refused_as, order_run, steps, list_run}
-use Rattle.spec_simplex.specs.Form.{Form, form_entry, form_lower, form_upper, form_cost, limits_run, clash_by, bounds_clash, column_clash, least_cost, formed, form_of}
+use Rattle.spec_simplex.specs.Form.{Form, form_entry, form_lower, form_upper, form_cost, limits_run}
+use Rattle.spec_simplex.specs.Form.{clash_by, bounds_clash, column_clash, least_cost, formed, form_of}
 use Rattle.spec_cold.specs.Begins.{IsProper}
 use Rattle.spec_cold.proofs.Runs.{then_ok, refused_ok, order_ok, steps_ok, IsListOf, list_ok}
 use Rattle.spec_cold.proofs.Lists.{by_lt}
@@ -40,27 +44,32 @@ module _ (m : Model) (ls : List (Option ℚ × Option ℚ)) (h : Limited m ls) w
 
   pub entry_is : (i j : ℕ) → form_entry f i j ≡ coefficient m i j
   entry_is i j =
-      ap (λ es. Rattle.spec_model.specs.Model.entry_of es i) (get_or-map (λ (c : ExactColumn). c.entries) m.columns j no_column)
+      ap (λ es. Rattle.spec_model.specs.Model.entry_of es i)
+      (get_or-map (λ (c : ExactColumn). c.entries) m.columns j no_column)
 
   pub lower_structural : (j : ℕ) → j < width m → form_lower f j ≡ (bounds m j).lower
   lower_structural j l =
-      get_or_append_left (map (λ (c : ExactColumn). c.lower) m.columns) (map (λ (p : Pair). p.0) ls) None j (omega (arith, l, length-map m.columns (λ (c : ExactColumn). c.lower)))
+      get_or_append_left (map (λ (c : ExactColumn). c.lower) m.columns) (map (λ (p : Pair). p.0) ls) None j
+      (omega (arith, l, length-map m.columns (λ (c : ExactColumn). c.lower)))
       ∙ get_or-map (λ (c : ExactColumn). c.lower) m.columns j no_column
 
   pub upper_structural : (j : ℕ) → j < width m → form_upper f j ≡ (bounds m j).upper
   upper_structural j l =
-      get_or_append_left (map (λ (c : ExactColumn). c.upper) m.columns) (map (λ (p : Pair). p.1) ls) None j (omega (arith, l, length-map m.columns (λ (c : ExactColumn). c.upper)))
+      get_or_append_left (map (λ (c : ExactColumn). c.upper) m.columns) (map (λ (p : Pair). p.1) ls) None j
+      (omega (arith, l, length-map m.columns (λ (c : ExactColumn). c.upper)))
       ∙ get_or-map (λ (c : ExactColumn). c.upper) m.columns j no_column
 
   pub lower_logical : (i : ℕ) → i < height m → form_lower f (width m + i) ≡ (limits m i).lower
   lower_logical i l =
-      ap (λ k. get_or (map (λ (c : ExactColumn). c.lower) m.columns ++ map (λ (p : Pair). p.0) ls) (k + i) None) (sym (length-map m.columns (λ (c : ExactColumn). c.lower)))
+      ap (λ k. get_or (map (λ (c : ExactColumn). c.lower) m.columns ++ map (λ (p : Pair). p.0) ls) (k + i) None)
+      (sym (length-map m.columns (λ (c : ExactColumn). c.lower)))
       ∙ get_or-append-add (map (λ (c : ExactColumn). c.lower) m.columns) (map (λ (p : Pair). p.0) ls) i None
       ∙ get_or-map (λ (p : Pair). p.0) ls i no_limits ∙ (h.each i l).lower
 
   pub upper_logical : (i : ℕ) → i < height m → form_upper f (width m + i) ≡ (limits m i).upper
   upper_logical i l =
-      ap (λ k. get_or (map (λ (c : ExactColumn). c.upper) m.columns ++ map (λ (p : Pair). p.1) ls) (k + i) None) (sym (length-map m.columns (λ (c : ExactColumn). c.upper)))
+      ap (λ k. get_or (map (λ (c : ExactColumn). c.upper) m.columns ++ map (λ (p : Pair). p.1) ls) (k + i) None)
+      (sym (length-map m.columns (λ (c : ExactColumn). c.upper)))
       ∙ get_or-append-add (map (λ (c : ExactColumn). c.upper) m.columns) (map (λ (p : Pair). p.1) ls) i None
       ∙ get_or-map (λ (p : Pair). p.1) ls i no_limits ∙ (h.each i l).upper
 
@@ -74,35 +83,42 @@ module _ (m : Model) (ls : List (Option ℚ × Option ℚ)) (h : Limited m ls) w
 
   pub cost_structural : (j : ℕ) → j < width m → form_cost f j ≡ signed m.sense (cost m j)
   cost_structural j l =
-      get_or_append_left (map (λ (c : ExactColumn). least_cost m.sense c.cost) m.columns) (replicate (height m) 0ℚ) 0ℚ j (omega (arith, l, length-map m.columns (λ (c : ExactColumn). least_cost m.sense c.cost)))
+      get_or_append_left (map (λ (c : ExactColumn). least_cost m.sense c.cost) m.columns) (replicate (height m) 0ℚ) 0ℚ j
+      (omega (arith, l, length-map m.columns (λ (c : ExactColumn). least_cost m.sense c.cost)))
       ∙ ap (get_or (map (λ (c : ExactColumn). least_cost m.sense c.cost) m.columns) j) (sym (least_zero m.sense))
       ∙ get_or-map (λ (c : ExactColumn). least_cost m.sense c.cost) m.columns j no_column ∙ least_is m.sense (cost m j)
 
   pub cost_length : length f.cost ≡ width m + height m
   cost_length =
-      length-append (map (λ (c : ExactColumn). least_cost m.sense c.cost) m.columns) (replicate (height m) 0ℚ) ∙ ap₂ ◌+◌ (length-map m.columns (λ (c : ExactColumn). least_cost m.sense c.cost)) (length-replicate (height m) 0ℚ)
+      length-append (map (λ (c : ExactColumn). least_cost m.sense c.cost) m.columns) (replicate (height m) 0ℚ)
+      ∙ ap₂ ◌+◌ (length-map m.columns (λ (c : ExactColumn). least_cost m.sense c.cost)) (length-replicate (height m) 0ℚ)
 
   pub cost_other : (i : ℕ) → form_cost f (width m + i) ≡ 0ℚ
   cost_other i =
       by_lt i (height m)
-      (λ l. ap (λ k. get_or (map (λ (c : ExactColumn). least_cost m.sense c.cost) m.columns ++ replicate (height m) 0ℚ) (k + i) 0ℚ) (sym (length-map m.columns (λ (c : ExactColumn). least_cost m.sense c.cost)))
-      ∙ get_or-append-add (map (λ (c : ExactColumn). least_cost m.sense c.cost) m.columns) (replicate (height m) 0ℚ) i 0ℚ
+      (λ l. ap (λ k. get_or (map (λ (c : ExactColumn). least_cost m.sense c.cost) m.columns ++ replicate (height m) 0ℚ)
+      (k + i) 0ℚ) (sym (length-map m.columns (λ (c : ExactColumn). least_cost m.sense c.cost)))
+      ∙ get_or-append-add (map (λ (c : ExactColumn). least_cost m.sense c.cost) m.columns)
+      (replicate (height m) 0ℚ) i 0ℚ
       ∙ get_or-replicate (height m) i 0ℚ 0ℚ l)
       (λ l. get_or_past f.cost (width m + i) 0ℚ (omega (arith, l, cost_length)))
 
   pub formed_proper : IsProper f
   formed_proper = record {
     all_lower =
-        length-append (map (λ (c : ExactColumn). c.lower) m.columns) (map (λ (p : Pair). p.0) ls) ∙ ap₂ ◌+◌ (length-map m.columns (λ (c : ExactColumn). c.lower)) (length-map ls (λ (p : Pair). p.0) ∙ h.all);
+        length-append (map (λ (c : ExactColumn). c.lower) m.columns) (map (λ (p : Pair). p.0) ls)
+        ∙ ap₂ ◌+◌ (length-map m.columns (λ (c : ExactColumn). c.lower)) (length-map ls (λ (p : Pair). p.0) ∙ h.all);
     all_upper =
-        length-append (map (λ (c : ExactColumn). c.upper) m.columns) (map (λ (p : Pair). p.1) ls) ∙ ap₂ ◌+◌ (length-map m.columns (λ (c : ExactColumn). c.upper)) (length-map ls (λ (p : Pair). p.1) ∙ h.all);
+        length-append (map (λ (c : ExactColumn). c.upper) m.columns) (map (λ (p : Pair). p.1) ls)
+        ∙ ap₂ ◌+◌ (length-map m.columns (λ (c : ExactColumn). c.upper)) (length-map ls (λ (p : Pair). p.1) ∙ h.all);
     ordered = λ k l u k_in p q.
         by_lt k (width m)
         (λ z. h.ordered k l u z (sym (lower_structural k z) ∙ p) (sym (upper_structural k z) ∙ q))
         (λ z. let e : k ≡ width m + (k - width m) = omega (arith, z) in
         let i_in : k - width m < height m = omega (arith, z, k_in) in
         let r : ExactRow = row m (k - width m) in
-        limits_ordered r.kind r.rhs r.range l u (sym (lower_logical (k - width m) i_in) ∙ ap (form_lower f) (sym e) ∙ p) (sym (upper_logical (k - width m) i_in) ∙ ap (form_upper f) (sym e) ∙ q));
+        limits_ordered r.kind r.rhs r.range l u (sym (lower_logical (k - width m) i_in) ∙ ap (form_lower f) (sym e) ∙ p)
+        (sym (upper_logical (k - width m) i_in) ∙ ap (form_upper f) (sym e) ∙ q));
   }
 
 -- ---- the run
@@ -128,13 +144,19 @@ pub form_is : (limit : Option ℕ) (m : Model) (f : Form) → form_of limit m �
     (ls : List (Option ℚ × Option ℚ)) × Limited m ls × (formed m ls ≡ f)
 unfolding form_of
 form_is limit m f h =
-    let o = then_ok (refused_as fault.Past (list_run (height m) (λ i. limits_run limit (row m i)))) (λ ls. steps (width m) (λ j _. column_clash limit m j) tt >>= λ _. Ok (formed m ls)) f h in
+    let o =
+    then_ok (refused_as fault.Past (list_run (height m) (λ i. limits_run limit (row m i))))
+    (λ ls. steps (width m) (λ j _. column_clash limit m j) tt >>= λ _. Ok (formed m ls)) f h in
     let p = then_ok (steps (width m) (λ j _. column_clash limit m j) tt) (λ _. Ok (formed m o.0)) f o.2 in
-    let l : IsListOf (height m) (λ i. limits_run limit (row m i)) no_limits o.0 = list_ok (height m) (λ i. limits_run limit (row m i)) no_limits o.0 (refused_ok fault.Past (list_run (height m) (λ i. limits_run limit (row m i))) o.0 o.1) in
+    let l : IsListOf (height m) (λ i. limits_run limit (row m i)) no_limits o.0 =
+    list_ok (height m) (λ i. limits_run limit (row m i)) no_limits o.0
+    (refused_ok fault.Past (list_run (height m) (λ i. limits_run limit (row m i))) o.0 o.1) in
     let free : (j : ℕ) → j < width m → column_clash limit m j ≡ Ok tt =
-    steps_ok (λ n x. (j : ℕ) → j < n → column_clash limit m j ≡ Ok tt) (width m) (λ j _. column_clash limit m j) tt p.0 p.1
+    steps_ok (λ n x. (j : ℕ) → j < n → column_clash limit m j ≡ Ok tt)
+    (width m) (λ j _. column_clash limit m j) tt p.0 p.1
     (λ j l. absurd (let z : ⊥ = omega (arith, l) in z))
-    (λ i x y i_in was is j l. by_eq j i (λ e. ap (column_clash limit m) e ∙ is ∙ ap Ok (unit_is y)) (λ d. was j (omega (arith, l, d)))) in (
+    (λ i x y i_in was is j l. by_eq j i (λ e. ap (column_clash limit m) e ∙ is ∙ ap Ok (unit_is y))
+    (λ d. was j (omega (arith, l, d)))) in (
       o.0,
       record {
         all = l.all;
@@ -176,7 +198,9 @@ clash_at limit m i j i_in h = by (column m i).lower (column m i).upper refl refl
     by None u p q h = let z : ◌≡◌ {A = Result (Unit {0}) (FormFault ℚ)} (Ok tt) (Err (fault.Clash j)) = h in cc
     by (Some l) None p q h = let z : ◌≡◌ {A = Result (Unit {0}) (FormFault ℚ)} (Ok tt) (Err (fault.Clash j)) = h in cc
     by (Some l) (Some u) p q h =
-        let o = then_err (refused_as fault.Past (order_run limit l u)) (λ o. clash_by i o) (fault.Clash j) h (never_clash j (order_run limit l u)) in
+        let o =
+        then_err (refused_as fault.Past (order_run limit l u)) (λ o. clash_by i o)
+        (fault.Clash j) h (never_clash j (order_run limit l u)) in
         go o.0 (order_ok limit l u o.0 (refused_ok fault.Past (order_run limit l u) o.0 o.1)) o.2
       where
         go : (o : Ordering) → o ≡ order l u → clash_by i o ≡ Err (fault.Clash j) → ChecksClash m j
@@ -185,12 +209,15 @@ clash_at limit m i j i_in h = by (column m i).lower (column m i).upper refl refl
         go Greater e h =
             let y : ◌≡◌ {A = FormFault ℚ} (fault.Clash i) (fault.Clash j) = cc in
             let z : i ≡ j = cc in
-            subst (ChecksClash m) z (record { inside = i_in; low = l; high = u; lower = p; upper = q; crossed = (order_greater l u).0 (sym e) })
+            subst (ChecksClash m) z
+            (record { inside = i_in; low = l; high = u; lower = p; upper = q; crossed = (order_greater l u).0 (sym e) })
 
 pub clash_is : (limit : Option ℕ) (m : Model) (j : ℕ) → form_of limit m ≡ Err (fault.Clash j) → ChecksClash m j
 unfolding form_of
 clash_is limit m j h =
-    let o = then_err (refused_as fault.Past (list_run (height m) (λ i. limits_run limit (row m i)))) (λ ls. steps (width m) (λ j _. column_clash limit m j) tt >>= λ _. Ok (formed m ls)) (fault.Clash j) h
+    let o =
+    then_err (refused_as fault.Past (list_run (height m) (λ i. limits_run limit (row m i))))
+    (λ ls. steps (width m) (λ j _. column_clash limit m j) tt >>= λ _. Ok (formed m ls)) (fault.Clash j) h
     (never_clash j (list_run (height m) (λ i. limits_run limit (row m i)))) in
     by o.0 (steps (width m) (λ j _. column_clash limit m j) tt) refl o.2
   where

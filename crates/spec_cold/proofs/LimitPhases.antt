@@ -1,5 +1,6 @@
 -- The whole solve at a limit beside the one without a limit; and each model has an answer.
-use Rattle.std.proofs.Common.{◌≡◌, ◌≢◌, ◌⊎◌, inl, inr, ⊎_elim, ℕ, zero, suc, ◌+◌, ◌*◌, ◌^◌, ◌-◌, ◌≤◌, List, Option, None, Result, Ok, Err, refl, sym, ap, ◌∙◌, subst}
+use Rattle.std.proofs.Common.{◌≡◌, ◌≢◌, ◌⊎◌, inl, inr, ⊎_elim, ℕ, zero, suc, ◌+◌, ◌*◌, ◌^◌, ◌-◌}
+use Rattle.std.proofs.Common.{◌≤◌, List, Option, None, Result, Ok, Err, refl, sym, ap, ◌∙◌, subst}
 use Rattle.spec_exact.specs.Fraction.{ℚ}
 use Rattle.spec_exact.specs.declared.past.Past.{Past}
 use Rattle.spec_model.specs.Model.{Model, width, height}
@@ -17,12 +18,16 @@ use Rattle.spec_simplex.specs.declared.ends.RunStop.{RunStop}
 use Rattle.spec_simplex.specs.declared.ends.RunStop.TheVariants as stop
 use Rattle.spec_simplex.specs.Form.{Form, form_of}
 use Rattle.spec_simplex.specs.Tableau.{Tableau}
-use Rattle.spec_simplex.specs.Phases.{PrimalEnded, end_or_spent, end_or_next, run_from, without_artificials, phase_two_run, wants_phase_one, is_stuck, phase_two, PhasesEnd, Infeasible, Finished, phases_run}
+use Rattle.spec_simplex.specs.Phases.{PrimalEnded, end_or_spent, end_or_next, run_from}
+use Rattle.spec_simplex.specs.Phases.{without_artificials, phase_two_run, wants_phase_one, is_stuck}
+use Rattle.spec_simplex.specs.Phases.{phase_two, PhasesEnd, Infeasible, Finished, phases_run}
 use Rattle.spec_cold.specs.declared.outcome.Cold.TheVariants as outcome
-use Rattle.spec_cold.specs.Cold.{ColdEnd, certificate_of, basis_of, pivots_of, checked, answered, after_phases, after_form, cold}
+use Rattle.spec_cold.specs.Cold.{ColdEnd, certificate_of, basis_of, pivots_of}
+use Rattle.spec_cold.specs.Cold.{checked, answered, after_phases, after_form, cold}
 use Rattle.spec_cold.specs.Accepted.{IsAccepted, IsAnswered}
 use Rattle.spec_cold.proofs.Refusals.{Agrees, as_it_is, agrees_ok, agrees_err, agrees_then, agrees_if, agrees_as}
-use Rattle.spec_cold.proofs.LimitStart.{form_agrees, priced_agrees, start_agrees, choice_agrees, flip_agrees, pivot_agrees}
+use Rattle.spec_cold.proofs.LimitStart.{form_agrees, priced_agrees, start_agrees}
+use Rattle.spec_cold.proofs.LimitStart.{choice_agrees, flip_agrees, pivot_agrees}
 use Rattle.spec_cold.proofs.Solved.{end_accepted, clash_accepted, enough, ended_is_true}
 
 pub spent_agrees : {A : Type 0} → Agrees {A = A} stop.Past (Err stop.Spent) (Err stop.Spent)
@@ -47,28 +52,35 @@ module _ (limit : Option ℕ) where
       Agrees stop.Past (run_from limit left used t) (run_from None left used t)
   unfolding run_from
   run_agrees zero used t =
-      agrees_then stop.Past _ _ (end_or_spent t used) (end_or_spent t used) (agrees_as stop.Past _ _ (choice_agrees limit t)) (end_agrees t used)
+      agrees_then stop.Past _ _ (end_or_spent t used) (end_or_spent t used)
+      (agrees_as stop.Past _ _ (choice_agrees limit t)) (end_agrees t used)
   run_agrees (suc left) used t =
-      agrees_then stop.Past _ _ (end_or_next limit t used (λ u. run_from limit left (used + 1) u)) (end_or_next None t used (λ u. run_from None left (used + 1) u)) (agrees_as stop.Past _ _ (choice_agrees limit t))
-      (next_agrees t used (λ u. run_from limit left (used + 1) u) (λ u. run_from None left (used + 1) u) (λ u. run_agrees left (used + 1) u))
+      agrees_then stop.Past _ _ (end_or_next limit t used (λ u. run_from limit left (used + 1) u))
+      (end_or_next None t used (λ u. run_from None left (used + 1) u)) (agrees_as stop.Past _ _ (choice_agrees limit t))
+      (next_agrees t used (λ u. run_from limit left (used + 1) u)
+      (λ u. run_from None left (used + 1) u) (λ u. run_agrees left (used + 1) u))
 
   pub two_agrees : (f : Form) (t : Tableau) → Agrees as_it_is (phase_two_run limit f t) (phase_two_run None f t)
   unfolding phase_two_run
   two_agrees f t =
-      agrees_then as_it_is _ _ _ _ (priced_agrees limit (without_artificials t) f.cost) (λ reduced. agrees_ok as_it_is _)
+      agrees_then as_it_is _ _ _ _ (priced_agrees limit (without_artificials t) f.cost)
+      (λ reduced. agrees_ok as_it_is _)
 
   phase_two_agrees : (budget : ℕ) (f : Form) (one : PrimalEnded) →
       Agrees stop.Past (phase_two limit budget f one) (phase_two None budget f one)
   phase_two_agrees budget f one =
       agrees_then stop.Past _ _ _ _ (agrees_as stop.Past _ _ (two_agrees f one.tableau)) (λ t.
-      agrees_then stop.Past _ _ _ _ (run_agrees (budget - one.used) one.used t) (λ two. agrees_ok stop.Past (Finished two)))
+      agrees_then stop.Past _ _ _ _ (run_agrees (budget - one.used) one.used t)
+      (λ two. agrees_ok stop.Past (Finished two)))
 
   pub phases_agree : (budget : ℕ) (f : Form) → Agrees stop.Past (phases_run limit budget f) (phases_run None budget f)
   unfolding phases_run
   phases_agree budget f =
       agrees_then stop.Past _ _ _ _ (agrees_as stop.Past _ _ (start_agrees limit f)) (λ t.
-      agrees_then stop.Past _ _ _ _ (agrees_if stop.Past (wants_phase_one t) _ _ _ _ (run_agrees budget 0 t) (agrees_ok stop.Past (record { end = Optimal; tableau = t; used = 0 }))) (λ one.
-      agrees_if stop.Past (is_stuck one.tableau) _ _ _ _ (agrees_ok stop.Past (Infeasible one.tableau one.used)) (phase_two_agrees budget f one)))
+      agrees_then stop.Past _ _ _ _ (agrees_if stop.Past (wants_phase_one t) _ _ _ _ (run_agrees budget 0 t)
+      (agrees_ok stop.Past (record { end = Optimal; tableau = t; used = 0 }))) (λ one.
+      agrees_if stop.Past (is_stuck one.tableau) _ _ _ _
+      (agrees_ok stop.Past (Infeasible one.tableau one.used)) (phase_two_agrees budget f one)))
 
 -- ---- the whole solve
 module _ (limit : Option ℕ) (budget : ℕ) (m : Model) where
@@ -108,14 +120,16 @@ module _ (limit : Option ℕ) (budget : ℕ) (m : Model) where
       by (Ok f) u q (inl z) =
           subst (λ u. Same (after_form limit budget m (Ok f)) (after_form None budget m u)) z (phases_same f q)
       by (Err (fault.Clash j)) u q (inl z) =
-          subst (λ u. Same (after_form limit budget m (Err (fault.Clash j))) (after_form None budget m u)) z (answers_agree _ None 0 (clash_accepted limit m j q))
+          subst (λ u. Same (after_form limit budget m (Err (fault.Clash j))) (after_form None budget m u)) z
+          (answers_agree _ None 0 (clash_accepted limit m j q))
       by (Err (fault.Past p)) u q (inl z) = inr (p, refl)
 
 -- ---- without a limit
 checked_never_past : (m : Model) (c : Certificate (List ℚ)) (basis : Option (List Status)) (pivots : ℕ) →
     IsAccepted None m c → (p : Past ℚ) → ¬ (answered None m c basis pivots ≡ outcome.Past p)
 checked_never_past m c basis pivots a p e =
-    let z : ◌≡◌ {A = ColdEnd} (outcome.Ended (shown m c) c basis pivots) (outcome.Past p) = sym (ap (checked c basis pivots) a.accepted) ∙ e in
+    let z : ◌≡◌ {A = ColdEnd} (outcome.Ended (shown m c) c basis pivots) (outcome.Past p) =
+    sym (ap (checked c basis pivots) a.accepted) ∙ e in
     cc
 
 pub never_past : (budget : ℕ) (m : Model) (p : Past ℚ) → ¬ (cold None budget m ≡ outcome.Past p)
@@ -126,7 +140,8 @@ never_past budget m p = by (form_of None m) refl (form_agrees None m).exact
         phases_run None budget f ≡ o → ((p : Past ℚ) → o ≢ Err (stop.Past p)) →
         ¬ (after_phases None m o ≡ outcome.Past p)
     with_phases f e (Ok end) q n =
-        checked_never_past m (certificate_of end) (basis_of end) (pivots_of end) (end_accepted None budget m f end e q) p
+        checked_never_past m (certificate_of end) (basis_of end)
+        (pivots_of end) (end_accepted None budget m f end e q) p
     with_phases f e (Err (stop.Past v)) q n = absurd (n v refl)
     with_phases f e (Err stop.Spent) q n = λ z. let y : ◌≡◌ {A = ColdEnd} outcome.Spent (outcome.Past p) = z in cc
 
@@ -141,6 +156,13 @@ answers budget m enough_ = by (cold None budget m) refl
   where
     by : (e : ColdEnd) → cold None budget m ≡ e → IsAnswered budget m
     by (outcome.Ended answer c basis pivots) e =
-        record { answer = answer; certificate = c; basis = basis; pivots = pivots; ended = e; holds = (ended_is_true None budget m answer c basis pivots e).0 }
+        record {
+          answer = answer;
+          certificate = c;
+          basis = basis;
+          pivots = pivots;
+          ended = e;
+          holds = (ended_is_true None budget m answer c basis pivots e).0;
+        }
     by (outcome.Past p) e = absurd (never_past budget m p e)
     by outcome.Spent e = absurd (enough None budget m enough_ e)

@@ -12,11 +12,17 @@ use Rattle.spec_simplex.specs.declared.ends.Entering.{Entering}
 use Rattle.spec_simplex.specs.declared.ends.FormFault.{FormFault}
 use Rattle.spec_simplex.specs.declared.ends.FormFault.TheVariants as fault
 use Rattle.spec_simplex.specs.Run.{Run, ◌>>=◌}
-use Rattle.spec_simplex.specs.Form.{Form, form_entry, form_lower, form_upper, limits_by, limits_run, clash_by, bounds_clash, column_clash, formed, form_of}
-use Rattle.spec_simplex.specs.Start.{first_value, below_by, below_run, above_by, above_run, row_start_by, row_start, cost_at, reduced_run, priced_run, start_of}
+use Rattle.spec_simplex.specs.Form.{Form, form_entry, form_lower, form_upper, limits_by, limits_run}
+use Rattle.spec_simplex.specs.Form.{clash_by, bounds_clash, column_clash, formed, form_of}
+use Rattle.spec_simplex.specs.Start.{first_value, below_by, below_run, above_by, above_run, row_start_by}
+use Rattle.spec_simplex.specs.Start.{row_start, cost_at, reduced_run, priced_run, start_of}
 use Rattle.spec_simplex.specs.Tableau.{Tableau, all_columns, basic_at, entry_at, lower_at, upper_at, value_at}
-use Rattle.spec_simplex.specs.Step.{entering, range_run, rise_run, fall_run, directed, gap_run, better_run, with_gap, best_with, best_run, choice_of, choice_run, is_place, moved_at, moved_run, flip_run, scaled_run, cleared_run, shifted_run, turned_run, repriced_run, pivot_run}
-use Rattle.spec_cold.proofs.Refusals.{Agrees, as_it_is, agrees_ok, agrees_err, agrees_then, agrees_if, agrees_steps, agrees_as, agrees_list, agrees_sum, agrees_difference, agrees_quotient, agrees_order, agrees_plus, agrees_less}
+use Rattle.spec_simplex.specs.Step.{entering, range_run, rise_run, fall_run, directed, gap_run, better_run, with_gap}
+use Rattle.spec_simplex.specs.Step.{best_with, best_run, choice_of, choice_run, is_place, moved_at, moved_run}
+use Rattle.spec_simplex.specs.Step.{flip_run, scaled_run, cleared_run, shifted_run, turned_run, repriced_run, pivot_run}
+use Rattle.spec_cold.proofs.Refusals.{Agrees, as_it_is, agrees_ok, agrees_err, agrees_then, agrees_if}
+use Rattle.spec_cold.proofs.Refusals.{agrees_steps, agrees_as, agrees_list, agrees_sum, agrees_difference}
+use Rattle.spec_cold.proofs.Refusals.{agrees_quotient, agrees_order, agrees_plus, agrees_less}
 
 ok : {A : Type 0} (a : A) → Agrees {A = A} as_it_is (Ok a) (Ok a)
 ok a = agrees_ok as_it_is a
@@ -39,7 +45,8 @@ module _ (limit : Option ℕ) where
   clash_agrees j Less = agrees_ok fault.Past tt
   clash_agrees j Equal = agrees_ok fault.Past tt
   clash_agrees j Greater =
-      agrees_err fault.Past (fault.Clash j) (λ p e. let z : ◌≡◌ {A = FormFault ℚ} (fault.Clash j) (fault.Past p) = e in cc)
+      agrees_err fault.Past (fault.Clash j)
+      (λ p e. let z : ◌≡◌ {A = FormFault ℚ} (fault.Clash j) (fault.Past p) = e in cc)
 
   bounds_agrees : (j : ℕ) (l u : Option ℚ) → Agrees fault.Past (bounds_clash limit j l u) (bounds_clash None j l u)
   bounds_agrees j None u = agrees_ok fault.Past tt
@@ -50,8 +57,10 @@ module _ (limit : Option ℕ) where
   pub form_agrees : (m : Model) → Agrees fault.Past (form_of limit m) (form_of None m)
   unfolding form_of
   form_agrees m =
-      agrees_then fault.Past _ _ _ _ (agrees_as fault.Past _ _ (agrees_list (height m) (λ i. limits_run limit (row m i)) (λ i. limits_run None (row m i)) (λ i. limits_by_agrees (row m i).kind (row m i).rhs (row m i).range))) (λ ls.
-      agrees_then fault.Past _ _ _ _ (agrees_steps fault.Past (width m) (λ j _. column_clash limit m j) (λ j _. column_clash None m j) tt (λ j _. bounds_agrees j (column m j).lower (column m j).upper)) (λ _.
+      agrees_then fault.Past _ _ _ _ (agrees_as fault.Past _ _ (agrees_list (height m) (λ i. limits_run limit (row m i))
+      (λ i. limits_run None (row m i)) (λ i. limits_by_agrees (row m i).kind (row m i).rhs (row m i).range))) (λ ls.
+      agrees_then fault.Past _ _ _ _ (agrees_steps fault.Past (width m) (λ j _. column_clash limit m j)
+      (λ j _. column_clash None m j) tt (λ j _. bounds_agrees j (column m j).lower (column m j).upper)) (λ _.
       agrees_ok fault.Past (formed m ls)))
 
   -- ---- the start
@@ -80,15 +89,18 @@ module _ (limit : Option ℕ) where
 
   pub row_start_agrees : (f : Form) (i : ℕ) → Agrees as_it_is (row_start limit f i) (row_start None f i)
   row_start_agrees f i =
-      also _ _ _ _ (agrees_steps as_it_is f.cols _ _ 0ℚ (λ j s. agrees_plus limit (form_entry f i j) (first_value f j) s)) (λ v.
-      also _ _ _ _ (below_agrees (form_lower f (f.cols + i)) v) (λ gap. start_by_agrees (form_upper f (f.cols + i)) v gap))
+      also _ _ _ _
+      (agrees_steps as_it_is f.cols _ _ 0ℚ (λ j s. agrees_plus limit (form_entry f i j) (first_value f j) s)) (λ v.
+      also _ _ _ _ (below_agrees (form_lower f (f.cols + i)) v)
+      (λ gap. start_by_agrees (form_upper f (f.cols + i)) v gap))
 
   pub priced_agrees : (t : Tableau) (costs : List ℚ) →
       Agrees as_it_is (priced_run limit t costs) (priced_run None t costs)
   unfolding priced_run
   priced_agrees t costs =
       agrees_list (all_columns t) (reduced_run limit t costs) (reduced_run None t costs)
-      (λ k. agrees_steps as_it_is t.rows _ _ (cost_at costs k) (λ i d. agrees_less limit (cost_at costs (basic_at t i)) (entry_at t i k) d))
+      (λ k. agrees_steps as_it_is t.rows _ _ (cost_at costs k)
+      (λ i d. agrees_less limit (cost_at costs (basic_at t i)) (entry_at t i k) d))
 
   pub start_agrees : (f : Form) → Agrees as_it_is (start_of limit f) (start_of None f)
   unfolding start_of
@@ -113,7 +125,8 @@ module _ (limit : Option ℕ) where
   gap_agrees : (up : Bool) (a : ℚ) (l u : Option ℚ) (v : ℚ) →
       Agrees as_it_is (gap_run limit up a l u v) (gap_run None up a l u v)
   gap_agrees up a l u v =
-      agrees_if as_it_is (lt_ℚ (directed up a) 0ℚ) _ _ _ _ (rise_agrees u v) (agrees_if as_it_is (lt_ℚ 0ℚ (directed up a)) _ _ _ _ (fall_agrees l v) (ok _))
+      agrees_if as_it_is (lt_ℚ (directed up a) 0ℚ) _ _ _ _ (rise_agrees u v)
+      (agrees_if as_it_is (lt_ℚ 0ℚ (directed up a)) _ _ _ _ (fall_agrees l v) (ok _))
 
   better_agrees : (new : Best ℚ) (best : Option (Best ℚ)) →
       Agrees as_it_is (better_run limit new best) (better_run None new best)
@@ -129,11 +142,13 @@ module _ (limit : Option ℕ) where
   best_with_agrees : (t : Tableau) (e : Entering) (i : ℕ) (best : Option (Best ℚ)) →
       Agrees as_it_is (best_with limit t e i best) (best_with None t e i best)
   best_with_agrees t e i best =
-      also _ _ _ _ (gap_agrees e.up (entry_at t i e.col) (lower_at t (basic_at t i)) (upper_at t (basic_at t i)) (value_at t (basic_at t i))) (λ gap. with_gap_agrees i (basic_at t i) (entry_at t i e.col) best gap)
+      also _ _ _ _ (gap_agrees e.up (entry_at t i e.col) (lower_at t (basic_at t i)) (upper_at t (basic_at t i))
+      (value_at t (basic_at t i))) (λ gap. with_gap_agrees i (basic_at t i) (entry_at t i e.col) best gap)
 
   pub best_agrees : (t : Tableau) (e : Entering) → Agrees as_it_is (best_run limit t e) (best_run None t e)
   best_agrees t e =
-      also _ _ _ _ (range_agrees e _ _) (λ best. agrees_steps as_it_is t.rows (best_with limit t e) (best_with None t e) best (best_with_agrees t e))
+      also _ _ _ _ (range_agrees e _ _)
+      (λ best. agrees_steps as_it_is t.rows (best_with limit t e) (best_with None t e) best (best_with_agrees t e))
 
   choice_of_agrees : (t : Tableau) (e : Option Entering) → Agrees as_it_is (choice_of limit t e) (choice_of None t e)
   choice_of_agrees t None = ok _
@@ -151,7 +166,8 @@ module _ (limit : Option ℕ) where
       Agrees as_it_is (moved_run limit t j theta but) (moved_run None t j theta but)
   unfolding moved_run
   moved_agrees t j theta but =
-      agrees_steps as_it_is t.rows _ _ t.value (λ i values. agrees_if as_it_is (is_place but i) _ _ _ _ (ok values) (moved_at_agrees t j theta i values))
+      agrees_steps as_it_is t.rows _ _ t.value
+      (λ i values. agrees_if as_it_is (is_place but i) _ _ _ _ (ok values) (moved_at_agrees t j theta i values))
 
   pub flip_agrees : (t : Tableau) (j : ℕ) → Agrees as_it_is (flip_run limit t j) (flip_run None t j)
   unfolding flip_run
@@ -172,7 +188,8 @@ module _ (limit : Option ℕ) where
       Agrees as_it_is (turned_run limit m n rows p j) (turned_run None m n rows p j)
   unfolding turned_run
   turned_agrees m n rows p j =
-      also _ _ _ _ (scaled_agrees n rows p j) (λ scaled. agrees_steps as_it_is m _ _ scaled (λ i rows. agrees_if as_it_is (nat_eq i p) _ _ _ _ (ok rows) (cleared_agrees n p j i rows)))
+      also _ _ _ _ (scaled_agrees n rows p j) (λ scaled. agrees_steps as_it_is m _ _ scaled
+      (λ i rows. agrees_if as_it_is (nat_eq i p) _ _ _ _ (ok rows) (cleared_agrees n p j i rows)))
 
   repriced_agrees : (n : ℕ) (reduced : List ℚ) (rows : List (List ℚ)) (p j : ℕ) →
       Agrees as_it_is (repriced_run limit n reduced rows p j) (repriced_run None n reduced rows p j)

@@ -1,5 +1,6 @@
 -- The values after a move of the entering column, with all basic columns but that of one position.
-use Rattle.std.proofs.Common.{◌≡◌, ◌≢◌, ◌⊎◌, inl, inr, ⊎_elim, ℕ, suc, ◌<◌, List, length, get_or, set, Option, Ok, Bool, true, false, cond, refl, sym, ap, ◌∙◌, subst, arith}
+use Rattle.std.proofs.Common.{◌≡◌, ◌≢◌, ◌⊎◌, inl, inr, ⊎_elim, ℕ, suc, ◌<◌, List, length, get_or, set}
+use Rattle.std.proofs.Common.{Option, Ok, Bool, true, false, cond, refl, sym, ap, ◌∙◌, subst, arith}
 use Rattle.std.proofs.lemmas.List.{length-set, get_or-set_same, get_or-set_other}
 use Rattle.spec_exact.specs.Fraction.{ℚ, 0ℚ, ◌+ℚ◌, ◌-ℚ◌, ◌*ℚ◌, neg_ℚ}
 use Rattle.spec_exact.proofs.Ruleset.{ring}
@@ -26,7 +27,8 @@ at_position m n f cost b t g k =
     (λ h. by_basic (t.status k) (λ s. inl (g.placed k h s)) (λ s. inr (outside m n f cost b t g k s)))
     (λ h. inr (λ r q e. let l : t.basic r < n = g.in_range r q in let z : ⊥ = omega (arith, h, l, e) in z))
 
-module _ (limit : Option ℕ) (t : Tableau) (w : IsWhole t) (f : Matrix) (cost : ℕ → ℚ) (b : Bounds) (g : IsTableau t.rows (all_columns t) f cost b (table_of t)) where
+module _ (limit : Option ℕ) (t : Tableau) (w : IsWhole t) (f : Matrix) (cost : ℕ → ℚ)
+    (b : Bounds) (g : IsTableau t.rows (all_columns t) f cost b (table_of t)) where
   unique : (r s : ℕ) → r < t.rows → s < t.rows → basic_at t r ≡ basic_at t s → r ≡ s
   unique r s = apart t.rows (entry_at t) (basic_at t) g.units r s
 
@@ -52,30 +54,46 @@ module _ (limit : Option ℕ) (t : Tableau) (w : IsWhole t) (f : Matrix) (cost :
             subst (Moved (suc i)) e (record {
               all = v.all;
               placed =
-                  λ r q l s. no_more r q (λ q. v.placed r q l s) (λ z. let c' : is_place but r ≡ true = ap (is_place but) z ∙ c in let y : true ≡ false = sym c' ∙ s in cc);
+                  λ r q l s. no_more r q (λ q. v.placed r q l s)
+                  (λ z. let c' : is_place but r ≡ true = ap (is_place but) z ∙ c in
+                  let y : true ≡ false = sym c' ∙ s in cc);
               others = λ k o. v.others k (λ r q l s. o r (omega (arith, q)) l s);
             })
         go false c h =
-            let o = then_ok (less_product limit (entry_at t i j) theta (get_or x (basic_at t i) 0ℚ)) (λ a. Ok (set x (basic_at t i) a)) y h in
+            let o =
+            then_ok (less_product limit (entry_at t i j) theta (get_or x (basic_at t i) 0ℚ))
+            (λ a. Ok (set x (basic_at t i) a)) y h in
             let e : set x (basic_at t i) o.0 ≡ y = cc in
             let inside : basic_at t i < all_columns t = g.in_range i i_in in
-            let old : get_or x (basic_at t i) 0ℚ ≡ value_at t (basic_at t i) = v.others (basic_at t i) (λ r q l s z. let u : r ≡ i = unique r i l i_in z in let y : ⊥ = omega (arith, q, u) in y) in
+            let old : get_or x (basic_at t i) 0ℚ ≡ value_at t (basic_at t i) =
+            v.others (basic_at t i)
+            (λ r q l s z. let u : r ≡ i = unique r i l i_in z in let y : ⊥ = omega (arith, q, u) in y) in
             subst (Moved (suc i)) e (record {
               all = length-set x (basic_at t i) o.0 ∙ v.all;
               placed = λ r q l s. no_more r q
-                  (λ q. get_or-set_other x (basic_at t i) (basic_at t r) o.0 0ℚ (λ z. let u : r ≡ i = unique r i l i_in z in let y : ⊥ = omega (arith, q, u) in y) ∙ v.placed r q l s)
-                  (λ z. subst (λ r. get_or (set x (basic_at t i) o.0) (basic_at t r) 0ℚ ≡ value_at t (basic_at t r) -ℚ entry_at t r j *ℚ theta) (sym z)
-                  (get_or-set_same x (basic_at t i) o.0 0ℚ (omega (arith, inside, v.all)) ∙ less_ok limit (entry_at t i j) theta (get_or x (basic_at t i) 0ℚ) o.0 o.1 ∙ ap (λ a. a -ℚ entry_at t i j *ℚ theta) old));
+                  (λ q. get_or-set_other x (basic_at t i) (basic_at t r) o.0 0ℚ
+                  (λ z. let u : r ≡ i = unique r i l i_in z in let y : ⊥ = omega (arith, q, u) in y) ∙ v.placed r q l s)
+                  (λ z. subst (λ r. get_or (set x (basic_at t i) o.0) (basic_at t r) 0ℚ
+                  ≡ value_at t (basic_at t r) -ℚ entry_at t r j *ℚ theta) (sym z)
+                  (get_or-set_same x (basic_at t i) o.0 0ℚ (omega (arith, inside, v.all))
+                  ∙ less_ok limit (entry_at t i j) theta (get_or x (basic_at t i) 0ℚ) o.0 o.1
+                  ∙ ap (λ a. a -ℚ entry_at t i j *ℚ theta) old));
               others = λ k q.
-                  get_or-set_other x (basic_at t i) k o.0 0ℚ (λ z. q i (omega arith) i_in c (sym z)) ∙ v.others k (λ r p l s. q r (omega (arith, p)) l s);
+                  get_or-set_other x (basic_at t i) k o.0 0ℚ (λ z. q i (omega arith) i_in c (sym z))
+                  ∙ v.others k (λ r p l s. q r (omega (arith, p)) l s);
             })
 
     module _ (values : List ℚ) (ok : moved_run limit t j theta but ≡ Ok values) where
       moved_all : Moved t.rows values
       unfolding moved_run
       moved_all =
-          steps_ok Moved t.rows (λ i values. cond (is_place but i) (Ok values) (moved_at limit t j theta i values)) t.value values ok
-          (record { all = w.all_values; placed = λ r q. absurd (let z : ⊥ = omega (arith, q) in z); others = λ k o. refl })
+          steps_ok Moved t.rows
+          (λ i values. cond (is_place but i) (Ok values) (moved_at limit t j theta i values)) t.value values ok
+          (record {
+            all = w.all_values;
+            placed = λ r q. absurd (let z : ⊥ = omega (arith, q) in z);
+            others = λ k o. refl;
+          })
           moved_step
 
       pub moved_length : length values ≡ all_columns t
@@ -86,7 +104,8 @@ module _ (limit : Option ℕ) (t : Tableau) (w : IsWhole t) (f : Matrix) (cost :
       moved_others k o = moved_all.others k (λ r q l s. o r l s)
 
       -- where the column is not basic, these are the values along the ray
-      module _ (way : Way) (j_off : (r : ℕ) → r < t.rows → ¬ (basic_at t r ≡ j)) (ratio : ℚ) (same : theta ≡ sign way *ℚ ratio) where
+      module _ (way : Way) (j_off : (r : ℕ) → r < t.rows → ¬ (basic_at t r ≡ j))
+          (ratio : ℚ) (same : theta ≡ sign way *ℚ ratio) where
         pub moved_own : get_or values j 0ℚ ≡ value_at t j
         moved_own = moved_others j (λ r q s. j_off r q)
 
@@ -96,7 +115,8 @@ module _ (limit : Option ℕ) (t : Tableau) (w : IsWhole t) (f : Matrix) (cost :
             ⊎_elim
             (λ p. go (is_place but p.0) p.0 refl p.1 p.2)
             (λ none. moved_others k (λ r q s. none r q)
-            ∙ sym (ap (λ a. value_at t k +ℚ ratio *ℚ a) (ray_still t.rows (table_of t) g.units way j j_off k (λ z. k_other (sym z)) none) ∙ still (value_at t k) ratio))
+            ∙ sym (ap (λ a. value_at t k +ℚ ratio *ℚ a) (ray_still t.rows
+            (table_of t) g.units way j j_off k (λ z. k_other (sym z)) none) ∙ still (value_at t k) ratio))
             (at_position t.rows (all_columns t) f cost b (table_of t) g k)
           where
             still : (v s : ℚ) → v +ℚ s *ℚ 0ℚ ≡ v
@@ -111,4 +131,5 @@ module _ (limit : Option ℕ) (t : Tableau) (w : IsWhole t) (f : Matrix) (cost :
             go false r c q z = subst (λ k. get_or values k 0ℚ ≡ moved t.rows (table_of t) way j ratio k) z
                 (moved_all.placed r q q c ∙ ap (λ a. value_at t (basic_at t r) -ℚ entry_at t r j *ℚ a) same
                 ∙ along (value_at t (basic_at t r)) (entry_at t r j) (sign way) ratio
-                ∙ sym (ap (λ a. value_at t (basic_at t r) +ℚ ratio *ℚ a) (ray_basic t.rows (table_of t) g.units way j j_off r q)))
+                ∙ sym (ap (λ a. value_at t (basic_at t r) +ℚ ratio *ℚ a)
+                (ray_basic t.rows (table_of t) g.units way j j_off r q)))

@@ -1,5 +1,6 @@
 -- What both phases end with is accepted, and a stated budget is enough for them.
-use Rattle.std.proofs.Common.{◌≡◌, ◌≢◌, ℕ, ◌+◌, ◌-◌, ◌*◌, ◌^◌, ◌<◌, ◌≤◌, List, Option, Some, Result, Ok, Err, Bool, true, false, not, ◌&&◌, cond, refl, sym, ap, ◌∙◌, subst, arith}
+use Rattle.std.proofs.Common.{◌≡◌, ◌≢◌, ℕ, ◌+◌, ◌-◌, ◌*◌, ◌^◌, ◌<◌, ◌≤◌, List, Option, Some, Result, Ok}
+use Rattle.std.proofs.Common.{Err, Bool, true, false, not, ◌&&◌, cond, refl, sym, ap, ◌∙◌, subst, arith}
 use Rattle.std.proofs.lemmas.Bool.{leb-true}
 use Rattle.std.proofs.lemmas.List.Folds.{list_any_at}
 use Rattle.spec_exact.specs.Fraction.{ℚ, 0ℚ, eq_ℚ}
@@ -21,12 +22,14 @@ use Rattle.spec_simplex.specs.Form.{Form, formed}
 use Rattle.spec_simplex.specs.Run.{◌>>=◌, refused_as}
 use Rattle.spec_simplex.specs.Start.{cost_at, first_costs, start_of}
 use Rattle.spec_simplex.specs.Tableau.{Tableau, form_columns, is_artificial, basic_at, value_at, lower_at, upper_at}
-use Rattle.spec_simplex.specs.Phases.{PrimalEnded, wants_phase_one, is_stuck, phase_one, phase_two, phase_two_run, run_from, PhasesEnd, Infeasible, Finished, phases_run}
+use Rattle.spec_simplex.specs.Phases.{PrimalEnded, wants_phase_one, is_stuck, phase_one, phase_two}
+use Rattle.spec_simplex.specs.Phases.{phase_two_run, run_from, PhasesEnd, Infeasible, Finished, phases_run}
 use Rattle.spec_cold.specs.Tables.{way, table_of, bounds_of, IsTableauOf, IsMeant}
 use Rattle.spec_cold.specs.Begins.{form_rows}
 use Rattle.spec_cold.specs.Cold.{multipliers, certificate_at, certificate_of}
 use Rattle.spec_cold.proofs.Runs.{then_ok, refused_ok}
-use Rattle.spec_cold.proofs.Walks.{IsEnd, run_ends, run_spent, few, stand_still, never_spent, ThenErr, first, second, then_err}
+use Rattle.spec_cold.proofs.Walks.{IsEnd, run_ends, run_spent, few, stand_still}
+use Rattle.spec_cold.proofs.Walks.{never_spent, ThenErr, first, second, then_err}
 use Rattle.spec_cold.proofs.Begun.{Started, start_is_tableau}
 use Rattle.spec_cold.proofs.PhaseTwo.{IsSecond, second_phase, some_of}
 use Rattle.spec_cold.proofs.Formed.{Limited, cost_length, formed_proper}
@@ -61,7 +64,11 @@ module _ (limit : Option ℕ) (m : Model) (ls : List (Option ℚ × Option ℚ))
 
     first_bounds : HasBounds f (bounds_of t)
     first_bounds =
-        record { lower = s.lower; upper = s.upper; entering = λ k l. s.tableau.bounds.entering k (omega (arith, l, s.tableau.rows, s.tableau.cols)) }
+        record {
+          lower = s.lower;
+          upper = s.upper;
+          entering = λ k l. s.tableau.bounds.entering k (omega (arith, l, s.tableau.rows, s.tableau.cols));
+        }
 
     -- what is known of phase one's end
     record IsFirst (one : PrimalEnded) : Type 0 where
@@ -78,7 +85,9 @@ module _ (limit : Option ℕ) (m : Model) (ls : List (Option ℚ × Option ℚ))
         by false p = p
         by true p =
             let o = some_of (λ k. is_artificial t k && not (eq_ℚ (value_at t k) 0ℚ)) t.basic 0 p in
-            let z : true ≡ false = sym (list_any_at (λ k. is_artificial t k) t.basic o.0 0 o.1 (both_true (is_artificial t (basic_at t o.0)) (not (eq_ℚ (value_at t (basic_at t o.0)) 0ℚ)) o.2).0) ∙ e in
+            let z : true ≡ false =
+            sym (list_any_at (λ k. is_artificial t k) t.basic o.0 0 o.1
+            (both_true (is_artificial t (basic_at t o.0)) (not (eq_ℚ (value_at t (basic_at t o.0)) 0ℚ)) o.2).0) ∙ e in
             cc
 
     first_ends : (budget : ℕ) (one : PrimalEnded) → phase_one limit budget t ≡ Ok one → IsFirst one
@@ -88,21 +97,27 @@ module _ (limit : Option ℕ) (m : Model) (ls : List (Option ℚ × Option ℚ))
             cond c (run_from limit budget 0 t) (Ok (record { end = Optimal; tableau = t; used = 0 })) ≡ Ok one →
             IsFirst one
         by true e ok =
-            let o : IsEnd limit r w F first_cost_at (bounds_of t) t 0 one = run_ends limit r w F first_cost_at (bounds_of t) some_label budget 0 t one s.tableau ok in
+            let o : IsEnd limit r w F first_cost_at (bounds_of t) t 0 one =
+            run_ends limit r w F first_cost_at (bounds_of t) some_label budget 0 t one s.tableau ok in
             record {
               after = o.after;
               none = λ _. none one.end o.end;
               not_wanted = λ z. let y : true ≡ false = sym e ∙ z in cc;
               few_used =
-                  (let q : o.length < 3 ^ (w + r + r) = few r w F first_cost_at (bounds_of t) t o.length s.tableau o.walk in let z : one.used ≡ o.length = o.count ∙ (let y : 0 + o.length ≡ o.length = omega arith in y) in subst (λ k. k < 3 ^ (w + r + r)) (sym z) q);
+                  (let q : o.length < 3 ^ (w + r + r) =
+                  few r w F first_cost_at (bounds_of t) t o.length s.tableau o.walk in
+                  let z : one.used ≡ o.length = o.count ∙ (let y : 0 + o.length ≡ o.length = omega arith in y) in
+                  subst (λ k. k < 3 ^ (w + r + r)) (sym z) q);
             }
           where
             none : (end : PrimalEnd) → IsMeant r w F first_cost_at (bounds_of t) limit one.tableau (End end) →
                 (way : Way) (k : ℕ) → k < w + r + r → ¬ (IsEligible (bounds_of t) (table_of one.tableau) way k)
             none Optimal m = m
             none (Unbounded j up) g =
-                absurd (never_goes_on m ls h s.starts s.all (bounds_of t) first_bounds s.artificial (table_of one.tableau)
-                ((run_ends limit r w F first_cost_at (bounds_of t) some_label budget 0 t one s.tableau ok).after).tableau (way up) j g)
+                absurd
+                (never_goes_on m ls h s.starts s.all (bounds_of t) first_bounds s.artificial (table_of one.tableau)
+                ((run_ends limit r w F first_cost_at
+                (bounds_of t) some_label budget 0 t one s.tableau ok).after).tableau (way up) j g)
         by false e ok =
             let z : ◌≡◌ {A = PrimalEnded} (record { end = Optimal; tableau = t; used = 0 }) one = cc in
             subst IsFirst z (record {
@@ -129,13 +144,16 @@ module _ (limit : Option ℕ) (m : Model) (ls : List (Option ℚ × Option ℚ))
         let two = both_true (is_artificial u (basic_at u at.0)) (not (eq_ℚ (value_at u (basic_at u at.0)) 0ℚ)) at.2 in
         let k : ℕ = basic_at u at.0 in
         let k_least : form_columns u ≤ k = leb-true (form_columns u) k two.0 in
-        let k_in : k < w + r + r = o.after.tableau.in_range at.0 (omega (arith, at.1, o.after.whole.all_basic, o.after.rows)) in
+        let k_in : k < w + r + r =
+        o.after.tableau.in_range at.0 (omega (arith, at.1, o.after.whole.all_basic, o.after.rows)) in
         let k_is : w + r + (k - (w + r)) ≡ k = omega (arith, k_least, o.after.rows, o.after.cols) in
         record {
           for = multipliers_length r w F first_cost_at (bounds_of t) u o.after;
           checks =
-              infeasible_checks m ls h s.starts s.all (bounds_of t) first_bounds s.artificial (table_of u) o.after.tableau o.after.within (o.none (wanted_where_stuck one o p)) (multipliers u)
-              (multiplier_at r w F first_cost_at (bounds_of t) u o.after) (k - (w + r)) (omega (arith, k_least, o.after.rows, o.after.cols, k_in))
+              infeasible_checks m ls h s.starts s.all (bounds_of t) first_bounds s.artificial
+              (table_of u) o.after.tableau o.after.within (o.none (wanted_where_stuck one o p)) (multipliers u)
+              (multiplier_at r w F first_cost_at (bounds_of t) u o.after)
+              (k - (w + r)) (omega (arith, k_least, o.after.rows, o.after.cols, k_in))
               (λ z. not_zero (value_at u k) (ap (value_at u) (sym k_is) ∙ z) two.1);
         }
       where
@@ -143,10 +161,12 @@ module _ (limit : Option ℕ) (m : Model) (ls : List (Option ℚ × Option ℚ))
         not_zero v e g = let z : false ≡ true = sym (ap not (eq_test v 0ℚ e)) ∙ g in cc
 
     -- ---- phase two
-    module _ (one : PrimalEnded) (o : IsFirst one) (free : is_stuck one.tableau ≡ false) (u : Tableau) (ok : phase_two_run limit f one.tableau ≡ Ok u) where
+    module _ (one : PrimalEnded) (o : IsFirst one) (free : is_stuck one.tableau ≡ false)
+        (u : Tableau) (ok : phase_two_run limit f one.tableau ≡ Ok u) where
       two : IsSecond r w F f.cost (bounds_of t) u
       two =
-          second_phase limit f r w F first_cost_at (bounds_of t) one.tableau u o.after free (omega (arith, cost_length m ls h)) ok
+          second_phase limit f r w F first_cost_at
+          (bounds_of t) one.tableau u o.after free (omega (arith, cost_length m ls h)) ok
 
       second_bounds : HasBounds f (bounds_of u)
       second_bounds = record {
@@ -167,7 +187,8 @@ module _ (limit : Option ℕ) (m : Model) (ls : List (Option ℚ × Option ℚ))
   unfolding phases_run
   phases_show budget end ok =
       let a = then_ok (refused_as stop.Past (start_of limit f)) _ end ok in
-      let s : Started f a.0 = start_is_tableau limit f a.0 (formed_proper m ls h) (refused_ok stop.Past (start_of limit f) a.0 a.1) in
+      let s : Started f a.0 =
+      start_is_tableau limit f a.0 (formed_proper m ls h) (refused_ok stop.Past (start_of limit f) a.0 a.1) in
       let c = then_ok (phase_one limit budget a.0) _ end a.2 in
       let one : IsFirst a.0 s c.0 = first_ends a.0 s budget c.0 c.1 in
       by a.0 s c.0 one (is_stuck c.0.tableau) refl c.2
@@ -184,7 +205,9 @@ module _ (limit : Option ℕ) (m : Model) (ls : List (Option ℚ × Option ℚ))
           let p = refused_ok stop.Past (phase_two_run limit f one.tableau) a.0 a.1 in
           let c = then_ok (run_from limit (budget - one.used) one.used a.0) _ end a.2 in
           let z : Finished c.0 ≡ end = cc in
-          let d = run_ends limit r w (F t s) (cost_at f.cost) (bounds_of a.0) some_label (budget - one.used) one.used a.0 c.0 (two t s one o e a.0 p).tableau c.1 in
+          let d =
+          run_ends limit r w (F t s) (cost_at f.cost) (bounds_of a.0) some_label
+          (budget - one.used) one.used a.0 c.0 (two t s one o e a.0 p).tableau c.1 in
           subst (λ end. Shows m (certificate_of end)) z (end_shows t s one o e a.0 p c.0 one.used d)
 
   -- the tableau that phase two ends with
@@ -192,7 +215,8 @@ module _ (limit : Option ℕ) (m : Model) (ls : List (Option ℚ × Option ℚ))
     pub starts : List (RowStart ℚ)
     pub bounds : Bounds
     pub bounded : HasBounds (formed m ls) bounds
-    pub after : IsTableauOf (height m) (width m) (form_rows (formed m ls) starts) (cost_at (formed m ls).cost) bounds e.tableau
+    pub after : IsTableauOf (height m) (width m) (form_rows (formed m ls) starts)
+        (cost_at (formed m ls).cost) bounds e.tableau
 
   abbrev pub EndsOn : PhasesEnd → Type 0
   EndsOn (Infeasible t used) = Unit {0}
@@ -205,14 +229,18 @@ module _ (limit : Option ℕ) (m : Model) (ls : List (Option ℚ × Option ℚ))
       let q = refused_ok stop.Past (phase_two_run limit f one.tableau) a.0 a.1 in
       let c = then_ok (run_from limit (budget - one.used) one.used a.0) _ end a.2 in
       let z : Finished c.0 ≡ end = cc in
-      let d = run_ends limit r w (F t s) (cost_at f.cost) (bounds_of a.0) some_label (budget - one.used) one.used a.0 c.0 (two t s one o p a.0 q).tableau c.1 in
-      subst EndsOn z (record { starts = s.starts; bounds = bounds_of a.0; bounded = second_bounds t s one o p a.0 q; after = d.after })
+      let d =
+      run_ends limit r w (F t s) (cost_at f.cost) (bounds_of a.0) some_label
+      (budget - one.used) one.used a.0 c.0 (two t s one o p a.0 q).tableau c.1 in
+      subst EndsOn z
+      (record { starts = s.starts; bounds = bounds_of a.0; bounded = second_bounds t s one o p a.0 q; after = d.after })
 
   pub phases_finish : (budget : ℕ) (end : PhasesEnd) → phases_run limit budget f ≡ Ok end → EndsOn end
   unfolding phases_run
   phases_finish budget end ok =
       let a = then_ok (refused_as stop.Past (start_of limit f)) _ end ok in
-      let s : Started f a.0 = start_is_tableau limit f a.0 (formed_proper m ls h) (refused_ok stop.Past (start_of limit f) a.0 a.1) in
+      let s : Started f a.0 =
+      start_is_tableau limit f a.0 (formed_proper m ls h) (refused_ok stop.Past (start_of limit f) a.0 a.1) in
       let c = then_ok (phase_one limit budget a.0) _ end a.2 in
       let one : IsFirst a.0 s c.0 = first_ends a.0 s budget c.0 c.1 in
       by a.0 s c.0 one (is_stuck c.0.tableau) refl c.2
@@ -231,31 +259,39 @@ module _ (limit : Option ℕ) (m : Model) (ls : List (Option ℚ × Option ℚ))
       by : (c : Bool) →
           cond c (run_from limit budget 0 t) (Ok (record { end = Optimal; tableau = t; used = 0 })) ≡ Err stop.Spent → ⊥
       by true ok =
-          let q : budget < 3 ^ (w + r + r) = few r w (F t s) (first_cost_at t s) (bounds_of t) t budget s.tableau (run_spent limit r w (F t s) (first_cost_at t s) (bounds_of t) some_label budget 0 t s.tableau ok) in
+          let q : budget < 3 ^ (w + r + r) =
+          few r w (F t s) (first_cost_at t s) (bounds_of t) t budget s.tableau
+          (run_spent limit r w (F t s) (first_cost_at t s) (bounds_of t) some_label budget 0 t s.tableau ok) in
           omega (arith, q, enough)
       by false ok =
-          let z : ◌≡◌ {A = Result PrimalEnded (RunStop ℚ)} (Ok (record { end = Optimal; tableau = t; used = 0 })) (Err stop.Spent) = ok in
+          let z : ◌≡◌ {A = Result PrimalEnded (RunStop ℚ)}
+          (Ok (record { end = Optimal; tableau = t; used = 0 })) (Err stop.Spent) =
+          ok in
           cc
 
   enough_second : (t : Tableau) (s : Started f t) (one : PrimalEnded) → IsFirst t s one → is_stuck one.tableau ≡ false →
       (budget : ℕ) → 2 * 3 ^ (w + r + r) ≤ budget → phase_two limit budget f one ≢ Err stop.Spent
-  enough_second t s one o free budget enough ok = by (then_err (refused_as stop.Past (phase_two_run limit f one.tableau)) _ stop.Spent ok)
+  enough_second t s one o free budget enough ok =
+      by (then_err (refused_as stop.Past (phase_two_run limit f one.tableau)) _ stop.Spent ok)
     where
       go : (u : Tableau) → phase_two_run limit f one.tableau ≡ Ok u →
           (run_from limit (budget - one.used) one.used u >>= λ two. Ok (Finished two)) ≡ Err stop.Spent → ⊥
-      go u p ok = finish (then_err (run_from limit (budget - one.used) one.used u) (λ two. Ok (Finished two)) stop.Spent ok)
+      go u p ok =
+          finish (then_err (run_from limit (budget - one.used) one.used u) (λ two. Ok (Finished two)) stop.Spent ok)
         where
           finish : ThenErr (run_from limit (budget - one.used) one.used u) (λ two. Ok (Finished two)) stop.Spent → ⊥
           finish (first e) =
               let z : IsSecond r w (F t s) f.cost (bounds_of t) u = two t s one o free u p in
               let q : budget - one.used < 3 ^ (w + r + r) =
-              few r w (F t s) (cost_at f.cost) (bounds_of u) u (budget - one.used) z.tableau (run_spent limit r w (F t s) (cost_at f.cost) (bounds_of u) some_label (budget - one.used) one.used u z.tableau e) in
+              few r w (F t s) (cost_at f.cost) (bounds_of u) u (budget - one.used) z.tableau (run_spent limit r w
+              (F t s) (cost_at f.cost) (bounds_of u) some_label (budget - one.used) one.used u z.tableau e) in
               let x : one.used < 3 ^ (w + r + r) = o.few_used in
               omega (arith, q, x, enough)
           finish (second e p ok) =
               let z : ◌≡◌ {A = Result PhasesEnd (RunStop ℚ)} (Ok (Finished e)) (Err stop.Spent) = ok in cc
 
-      by : ThenErr (refused_as stop.Past (phase_two_run limit f one.tableau)) (λ u. run_from limit (budget - one.used) one.used u >>= λ two. Ok (Finished two)) stop.Spent →
+      by : ThenErr (refused_as stop.Past (phase_two_run limit f one.tableau))
+          (λ u. run_from limit (budget - one.used) one.used u >>= λ two. Ok (Finished two)) stop.Spent →
           ⊥
       by (first e) = never_spent (phase_two_run limit f one.tableau) e
       by (second u e ok) = go u (refused_ok stop.Past (phase_two_run limit f one.tableau) u e) ok
@@ -273,14 +309,18 @@ module _ (limit : Option ℕ) (m : Model) (ls : List (Option ℚ × Option ℚ))
       ends t s one o false e ok = enough_second t s one o e budget enough ok
 
       goes : (t : Tableau) → Started f t →
-          ThenErr (phase_one limit budget t) (λ one. cond (is_stuck one.tableau) (Ok (Infeasible one.tableau one.used)) (phase_two limit budget f one)) stop.Spent →
+          ThenErr (phase_one limit budget t) (λ one. cond (is_stuck one.tableau)
+          (Ok (Infeasible one.tableau one.used)) (phase_two limit budget f one)) stop.Spent →
           ⊥
       goes t s (first e) = enough_first t s budget (omega (arith, enough)) e
       goes t s (second one e ok) = ends t s one (first_ends t s budget one e) (is_stuck one.tableau) refl ok
 
-      begin : ThenErr (refused_as stop.Past (start_of limit f)) (λ t. phase_one limit budget t >>= λ one. cond (is_stuck one.tableau) (Ok (Infeasible one.tableau one.used)) (phase_two limit budget f one)) stop.Spent →
+      begin : ThenErr (refused_as stop.Past (start_of limit f)) (λ t. phase_one limit budget t >>= λ one. cond
+          (is_stuck one.tableau) (Ok (Infeasible one.tableau one.used)) (phase_two limit budget f one)) stop.Spent →
           ⊥
       begin (first e) = never_spent (start_of limit f) e
       begin (second t e ok) =
           goes t (start_is_tableau limit f t (formed_proper m ls h) (refused_ok stop.Past (start_of limit f) t e))
-          (then_err (phase_one limit budget t) (λ one. cond (is_stuck one.tableau) (Ok (Infeasible one.tableau one.used)) (phase_two limit budget f one)) stop.Spent ok)
+          (then_err (phase_one limit budget t)
+          (λ one. cond (is_stuck one.tableau) (Ok (Infeasible one.tableau one.used)) (phase_two limit budget f one))
+          stop.Spent ok)

@@ -1,14 +1,18 @@
--- A run at a limit beside the same run without one: the latter is not refused, and the former is the same or is refused.
-use Rattle.std.proofs.Common.{◌≡◌, ◌≢◌, ◌⊎◌, inl, inr, ⊎_elim, ℕ, zero, suc, [], ◌∷◌, ◌++◌, Option, Some, None, Result, Ok, Err, Bool, true, false, cond, refl, sym, ap, subst}
+-- A run at a limit beside the same run without one: the latter is not refused,
+-- and the former is the same or is refused.
+use Rattle.std.proofs.Common.{◌≡◌, ◌≢◌, ◌⊎◌, inl, inr, ⊎_elim, ℕ, zero, suc, [], ◌∷◌, ◌++◌, Option, Some}
+use Rattle.std.proofs.Common.{None, Result, Ok, Err, Bool, true, false, cond, refl, sym, ap, subst}
 use Rattle.spec_exact.specs.Fraction.{ℚ, ◌+ℚ◌, ◌-ℚ◌, ◌*ℚ◌, inverse}
 use Rattle.spec_exact.specs.Limit.{add, sub, mul, div, compare, order}
 use Rattle.spec_exact.specs.Answer.{told}
 use Rattle.spec_exact.specs.declared.past.Op.{Op}
 use Rattle.spec_exact.specs.declared.past.Op.TheVariants.{Add, Sub, Mul, Div, Cmp}
 use Rattle.spec_exact.specs.declared.past.Past.{Past}
-use Rattle.spec_exact.proofs.Limit.{add_gives, sub_gives, mul_gives, div_gives, add_unlimited, sub_unlimited, mul_unlimited, div_unlimited}
+use Rattle.spec_exact.proofs.Limit.{add_gives, sub_gives, mul_gives, div_gives, add_unlimited}
+use Rattle.spec_exact.proofs.Limit.{sub_unlimited, mul_unlimited, div_unlimited}
 use Rattle.spec_exact.proofs.Compare.{compare_gives, compare_unlimited}
-use Rattle.spec_simplex.specs.Run.{Run, ◌>>=◌, refused_as, sum_run, difference_run, product_run, quotient_run, order_run, plus_product, less_product, steps, list_run}
+use Rattle.spec_simplex.specs.Run.{Run, ◌>>=◌, refused_as, sum_run, difference_run, product_run}
+use Rattle.spec_simplex.specs.Run.{quotient_run, order_run, plus_product, less_product, steps, list_run}
 
 -- by which errors are refusals
 pub record Agrees {A E : Type 0} (kind : Past ℚ → E) (o u : Result A E) : Type 0 where
@@ -25,7 +29,10 @@ module _ {E : Type 0} (kind : Past ℚ → E) where
 
   pub agrees_err : {A : Type 0} (e : E) → ((p : Past ℚ) → e ≢ kind p) → Agrees {A = A} kind (Err e) (Err e)
   agrees_err {A} e n =
-      record { exact = λ p z. let y : ◌≡◌ {A = Result A E} (Err e) (Err (kind p)) = z in n p (let x : e ≡ kind p = cc in x); same = inl refl }
+      record {
+        exact = λ p z. let y : ◌≡◌ {A = Result A E} (Err e) (Err (kind p)) = z in n p (let x : e ≡ kind p = cc in x);
+        same = inl refl;
+      }
 
   pub agrees_then : {A B : Type 0} (o u : Result A E) (f g : A → Result B E) → Agrees kind o u →
       ((a : A) → Agrees kind (f a) (g a)) → Agrees kind (o >>= f) (u >>= g)
@@ -71,12 +78,15 @@ pub agrees_list : {A : Type 0} (n : ℕ) (f g : ℕ → Run A) → ((i : ℕ) �
     Agrees as_it_is (list_run n f) (list_run n g)
 agrees_list zero f g h = agrees_ok as_it_is []
 agrees_list (suc n) f g h =
-    agrees_then as_it_is (list_run n f) (list_run n g) (λ xs. f n >>= λ x. Ok (xs ++ x ∷ [])) (λ xs. g n >>= λ x. Ok (xs ++ x ∷ [])) (agrees_list n f g h)
-    (λ xs. agrees_then as_it_is (f n) (g n) (λ x. Ok (xs ++ x ∷ [])) (λ x. Ok (xs ++ x ∷ [])) (h n) (λ x. agrees_ok as_it_is (xs ++ x ∷ [])))
+    agrees_then as_it_is (list_run n f) (list_run n g) (λ xs. f n >>= λ x. Ok (xs ++ x ∷ []))
+    (λ xs. g n >>= λ x. Ok (xs ++ x ∷ [])) (agrees_list n f g h)
+    (λ xs. agrees_then as_it_is (f n) (g n) (λ x. Ok (xs ++ x ∷ []))
+    (λ x. Ok (xs ++ x ∷ [])) (h n) (λ x. agrees_ok as_it_is (xs ++ x ∷ [])))
 
 agrees_told : {A : Type 0} (op : Op) (v w : ℚ) (a b : Option A) (y : A) → ((x : A) → a ≡ Some x → x ≡ y) → b ≡ Some y →
     Agrees as_it_is (told op v w a) (told op v w b)
-agrees_told {A} op v w a b y gives unlimited = subst (λ b. Agrees as_it_is (told op v w a) (told op v w b)) (sym unlimited) (by a gives)
+agrees_told {A} op v w a b y gives unlimited =
+    subst (λ b. Agrees as_it_is (told op v w a) (told op v w b)) (sym unlimited) (by a gives)
   where
     by : (a : Option A) → ((x : A) → a ≡ Some x → x ≡ y) → Agrees as_it_is (told op v w a) (Ok y)
     by (Some x) g = record { exact = (agrees_ok as_it_is y).exact; same = inl (ap Ok (g x refl)) }
@@ -100,12 +110,15 @@ module _ (limit : Option ℕ) where
 
   pub agrees_order : (v w : ℚ) → Agrees as_it_is (order_run limit v w) (order_run None v w)
   agrees_order v w =
-      agrees_told Cmp v w (compare limit v w) (compare None v w) (order v w) (compare_gives limit v w) (compare_unlimited v w)
+      agrees_told Cmp v w (compare limit v w) (compare None v w)
+      (order v w) (compare_gives limit v w) (compare_unlimited v w)
 
   pub agrees_plus : (v w s : ℚ) → Agrees as_it_is (plus_product limit v w s) (plus_product None v w s)
   agrees_plus v w s =
-      agrees_then as_it_is (product_run limit v w) (product_run None v w) (λ p. sum_run limit s p) (λ p. sum_run None s p) (agrees_product v w) (λ p. agrees_sum s p)
+      agrees_then as_it_is (product_run limit v w) (product_run None v w)
+      (λ p. sum_run limit s p) (λ p. sum_run None s p) (agrees_product v w) (λ p. agrees_sum s p)
 
   pub agrees_less : (v w s : ℚ) → Agrees as_it_is (less_product limit v w s) (less_product None v w s)
   agrees_less v w s =
-      agrees_then as_it_is (product_run limit v w) (product_run None v w) (λ p. difference_run limit s p) (λ p. difference_run None s p) (agrees_product v w) (λ p. agrees_difference s p)
+      agrees_then as_it_is (product_run limit v w) (product_run None v w) (λ p. difference_run limit s p)
+      (λ p. difference_run None s p) (agrees_product v w) (λ p. agrees_difference s p)

@@ -29,14 +29,16 @@ limits_by_ok limit L b None p h =
 limits_by_ok limit L b (Some r) p h =
     let o = then_ok (difference_run limit b (abs_ℚ r)) (λ a. Ok (Some a, Some b)) p h in
     let z : ◌≡◌ {A = Pair} (Some o.0, Some b) p = cc in
-    subst (AreLimits (limits_by L b (Some r))) z (record { lower = ap Some (difference_ok limit b (abs_ℚ r) o.0 o.1); upper = refl })
+    subst (AreLimits (limits_by L b (Some r))) z
+    (record { lower = ap Some (difference_ok limit b (abs_ℚ r) o.0 o.1); upper = refl })
 limits_by_ok limit G b None p h =
     let z : ◌≡◌ {A = Pair} (Some b, None) p = cc in
     subst (AreLimits (limits_by G b None)) z (record { lower = refl; upper = refl })
 limits_by_ok limit G b (Some r) p h =
     let o = then_ok (sum_run limit b (abs_ℚ r)) (λ c. Ok (Some b, Some c)) p h in
     let z : ◌≡◌ {A = Pair} (Some b, Some o.0) p = cc in
-    subst (AreLimits (limits_by G b (Some r))) z (record { lower = refl; upper = ap Some (sum_ok limit b (abs_ℚ r) o.0 o.1) })
+    subst (AreLimits (limits_by G b (Some r))) z
+    (record { lower = refl; upper = ap Some (sum_ok limit b (abs_ℚ r) o.0 o.1) })
 limits_by_ok limit E b None p h =
     let z : ◌≡◌ {A = Pair} (Some b, Some b) p = cc in
     subst (AreLimits (limits_by E b None)) z (record { lower = refl; upper = refl })
@@ -62,7 +64,8 @@ abs_least : (r : ℚ) → 0ℚ ≤ℚ abs_ℚ r
 abs_least r =
     by_le 0ℚ r
     (λ h. subst (λ a. 0ℚ ≤ℚ a) (sym (abs_above r h)) h)
-    (λ h. subst (λ a. 0ℚ ≤ℚ a) (sym (abs_below r h)) (<ℚ-le 0ℚ (neg_ℚ r) (subst (λ a. a <ℚ neg_ℚ r) neg-zero (neg_strict r 0ℚ h))))
+    (λ h. subst (λ a. 0ℚ ≤ℚ a) (sym (abs_below r h))
+    (<ℚ-le 0ℚ (neg_ℚ r) (subst (λ a. a <ℚ neg_ℚ r) neg-zero (neg_strict r 0ℚ h))))
 
 abbrev Ordered : Limits → Type 0
 Ordered l = (a c : ℚ) → l.lower ≡ Some a → l.upper ≡ Some c → a ≤ℚ c
@@ -95,5 +98,6 @@ limits_ordered E b (Some r) = by (lt_ℚ r 0ℚ) refl
 
     by : (c : Bool) → lt_ℚ r 0ℚ ≡ c → Ordered (cond c (from_to (b +ℚ r) b) (from_to b (b +ℚ r)))
     by true e =
-        between (b +ℚ r) b (≤ℚ_from (b +ℚ r) b (neg_ℚ r) (<ℚ-le 0ℚ (neg_ℚ r) (subst (λ a. a <ℚ neg_ℚ r) neg-zero (neg_strict r 0ℚ (lt_if r 0ℚ e)))) (falls b r))
+        between (b +ℚ r) b (≤ℚ_from (b +ℚ r) b (neg_ℚ r)
+        (<ℚ-le 0ℚ (neg_ℚ r) (subst (λ a. a <ℚ neg_ℚ r) neg-zero (neg_strict r 0ℚ (lt_if r 0ℚ e)))) (falls b r))
     by false e = between b (b +ℚ r) (above b r (le_if_not r 0ℚ e))

@@ -11,7 +11,8 @@ use Rattle.spec_simplex.specs.declared.ends.RowStart.{RowStart}
 use Rattle.spec_simplex.specs.declared.ends.RowStart.TheVariants.{Within, Below, Above}
 use Rattle.spec_simplex.specs.Form.{Form, form_entry, form_lower, form_upper}
 use Rattle.spec_simplex.specs.Run.{◌>>=◌, difference_run, order_run, plus_product}
-use Rattle.spec_simplex.specs.Start.{first_value, row_sum, below_by, below_run, above_by, above_run, within_or_above, row_start_by, row_start}
+use Rattle.spec_simplex.specs.Start.{first_value, row_sum, below_by, below_run, above_by}
+use Rattle.spec_simplex.specs.Start.{above_run, within_or_above, row_start_by, row_start}
 use Rattle.spec_cold.proofs.Runs.{then_ok, difference_ok, order_ok, plus_ok, steps_ok}
 
 abbrev pub first_sum : Form → ℕ → ℚ
@@ -52,7 +53,8 @@ below_is limit (Some l) v gap h =
     go Less e h =
         let p = then_ok (difference_run limit l v) (λ gap. Ok (Some gap)) gap h in
         let z : Some p.0 ≡ gap = cc in
-        subst (BelowGap (Some l) v) (ap Some (sym (difference_ok limit l v p.0 p.1)) ∙ z) (some l refl ((order_less v l).0 (sym e)))
+        subst (BelowGap (Some l) v) (ap Some (sym (difference_ok limit l v p.0 p.1)) ∙ z)
+        (some l refl ((order_less v l).0 (sym e)))
     go Equal e h =
         let z : None ≡ gap = cc in
         subst (BelowGap (Some l) v) z (none (λ a y. subst (λ a. a ≤ℚ v) (same a y) (not_less v l Equal e (λ k. cc))))
@@ -78,18 +80,23 @@ above_is limit (Some u) v gap h =
     go Greater e h =
         let p = then_ok (difference_run limit v u) (λ gap. Ok (Some gap)) gap h in
         let z : Some p.0 ≡ gap = cc in
-        subst (AboveGap (Some u) v) (ap Some (sym (difference_ok limit v u p.0 p.1)) ∙ z) (some_above u refl ((order_greater v u).0 (sym e)))
+        subst (AboveGap (Some u) v) (ap Some (sym (difference_ok limit v u p.0 p.1)) ∙ z)
+        (some_above u refl ((order_greater v u).0 (sym e)))
     go Equal e h =
         let z : None ≡ gap = cc in
-        subst (AboveGap (Some u) v) z (none_above (λ a y. subst (λ a. v ≤ℚ a) (same a y) (not_greater v u Equal e (λ k. cc))))
+        subst (AboveGap (Some u) v) z
+        (none_above (λ a y. subst (λ a. v ≤ℚ a) (same a y) (not_greater v u Equal e (λ k. cc))))
     go Less e h =
         let z : None ≡ gap = cc in
-        subst (AboveGap (Some u) v) z (none_above (λ a y. subst (λ a. v ≤ℚ a) (same a y) (not_greater v u Less e (λ k. cc))))
+        subst (AboveGap (Some u) v) z
+        (none_above (λ a y. subst (λ a. v ≤ℚ a) (same a y) (not_greater v u Less e (λ k. cc))))
 
 sum_is : (limit : Option ℕ) (f : Form) (i : ℕ) (v : ℚ) → row_sum limit f i ≡ Ok v → v ≡ first_sum f i
 sum_is limit f i v h =
-    steps_ok (λ n s. s ≡ sum_below n (λ j. form_entry f i j *ℚ first_value f j)) f.cols (λ j s. plus_product limit (form_entry f i j) (first_value f j) s) 0ℚ v h refl
-    (λ j x y l was is. plus_ok limit (form_entry f i j) (first_value f j) x y is ∙ ap (λ s. s +ℚ form_entry f i j *ℚ first_value f j) was)
+    steps_ok (λ n s. s ≡ sum_below n (λ j. form_entry f i j *ℚ first_value f j)) f.cols
+    (λ j s. plus_product limit (form_entry f i j) (first_value f j) s) 0ℚ v h refl
+    (λ j x y l was is. plus_ok limit (form_entry f i j) (first_value f j) x y is
+    ∙ ap (λ s. s +ℚ form_entry f i j *ℚ first_value f j) was)
 
 start_by : (limit : Option ℕ) (l u : Option ℚ) (v : ℚ) (gap : Option ℚ) (s : RowStart ℚ) → BelowGap l v gap →
     row_start_by limit u v gap ≡ Ok s → RowBegins l u v s
@@ -107,7 +114,12 @@ start_by limit l u v (Some g) s (some a e lt) h =
 pub start_is : (limit : Option ℕ) (f : Form) (i : ℕ) (s : RowStart ℚ) → row_start limit f i ≡ Ok s →
     RowBegins (form_lower f (f.cols + i)) (form_upper f (f.cols + i)) (first_sum f i) s
 start_is limit f i s h =
-    let o = then_ok (row_sum limit f i) (λ v. below_run limit (form_lower f (f.cols + i)) v >>= λ gap. row_start_by limit (form_upper f (f.cols + i)) v gap) s h in
-    let p = then_ok (below_run limit (form_lower f (f.cols + i)) o.0) (λ gap. row_start_by limit (form_upper f (f.cols + i)) o.0 gap) s o.2 in
+    let o =
+    then_ok (row_sum limit f i) (λ v. below_run limit (form_lower f (f.cols + i)) v >>=
+    λ gap. row_start_by limit (form_upper f (f.cols + i)) v gap) s h in
+    let p =
+    then_ok (below_run limit (form_lower f (f.cols + i)) o.0)
+    (λ gap. row_start_by limit (form_upper f (f.cols + i)) o.0 gap) s o.2 in
     subst (λ v. RowBegins (form_lower f (f.cols + i)) (form_upper f (f.cols + i)) v s) (sum_is limit f i o.0 o.1)
-    (start_by limit (form_lower f (f.cols + i)) (form_upper f (f.cols + i)) o.0 p.0 s (below_is limit (form_lower f (f.cols + i)) o.0 p.0 p.1) p.2)
+    (start_by limit (form_lower f (f.cols + i)) (form_upper f (f.cols + i)) o.0 p.0 s
+    (below_is limit (form_lower f (f.cols + i)) o.0 p.0 p.1) p.2)

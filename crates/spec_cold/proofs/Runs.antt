@@ -1,6 +1,7 @@
--- What is known of a run's parts where it gives a result: each of them gave one, and operations gave the exact ones. So all
--- that follows holds at each limit.
-use Rattle.std.proofs.Common.{◌≡◌, ℕ, zero, suc, ◌<◌, List, [], ◌∷◌, ◌++◌, length, get_or, Option, Some, None, Result, Ok, Err, refl, sym, ap, ◌∙◌, subst, arith}
+-- What is known of a run's parts where it gives a result: each of them gave one, and operations gave the exact ones. So
+-- all that follows holds at each limit.
+use Rattle.std.proofs.Common.{◌≡◌, ℕ, zero, suc, ◌<◌, List, [], ◌∷◌, ◌++◌, length, get_or, Option}
+use Rattle.std.proofs.Common.{Some, None, Result, Ok, Err, refl, sym, ap, ◌∙◌, subst, arith}
 use Rattle.std.specs.declared.cmp.Ordering.{Ordering}
 use Rattle.std.proofs.lemmas.List.{length-append}
 use Rattle.std.proofs.Math.ListN.{get_or-append}
@@ -14,7 +15,8 @@ use Rattle.spec_exact.specs.declared.past.Past.{Past}
 use Rattle.spec_exact.proofs.Limit.{add_gives, sub_gives, mul_gives, div_gives}
 use Rattle.spec_exact.proofs.Compare.{compare_gives}
 use Rattle.spec_pivot.proofs.Pivot.{by_eq}
-use Rattle.spec_simplex.specs.Run.{Run, ◌>>=◌, refused_as, sum_run, difference_run, product_run, quotient_run, order_run, plus_product, less_product, steps, list_run, made}
+use Rattle.spec_simplex.specs.Run.{Run, ◌>>=◌, refused_as, sum_run, difference_run, product_run, quotient_run}
+use Rattle.spec_simplex.specs.Run.{order_run, plus_product, less_product, steps, list_run, made}
 use Rattle.spec_simplex.proofs.Stops.{length-made}
 
 -- ---- one after the other
@@ -59,7 +61,8 @@ less_ok limit v w s x h =
 
 -- ---- many
 -- what each step keeps
-pub steps_ok : {A E : Type 0} (P : ℕ → A → Type 0) (n : ℕ) (f : ℕ → A → Result A E) (a b : A) → steps n f a ≡ Ok b → P 0 a
+pub steps_ok : {A E : Type 0} (P : ℕ → A → Type 0) (n : ℕ) (f : ℕ → A → Result A E) (a b : A) →
+    steps n f a ≡ Ok b → P 0 a
     → ((i : ℕ) (x y : A) → i < n → P i x → f i x ≡ Ok y → P (suc i) y) → P n b
 steps_ok P zero f a b h p k = let e : a ≡ b = cc in subst (P 0) e p
 steps_ok P (suc n) f a b h p k =
@@ -82,13 +85,17 @@ list_ok {A} (suc n) f d xs h =
     subst (λ ys. IsListOf (suc n) f d ys) e (record {
       all = omega (arith, length-append o.0 (p.0 ∷ []), before.all);
       each = λ i l. by_eq i n
-          (λ q. subst (λ i. f i ≡ Ok (get_or (o.0 ++ p.0 ∷ []) i d)) (sym q) (p.1 ∙ ap Ok (sym (ap (λ k. get_or (o.0 ++ p.0 ∷ []) k d) (sym before.all) ∙ get_or-append_seam o.0 p.0 [] d))))
-          (λ q. before.each i (omega (arith, l, q)) ∙ ap Ok (sym (get_or-append o.0 (p.0 ∷ []) d i (omega (arith, l, q, before.all)))));
+          (λ q. subst (λ i. f i ≡ Ok (get_or (o.0 ++ p.0 ∷ []) i d)) (sym q) (p.1
+          ∙ ap Ok (sym (ap (λ k. get_or (o.0 ++ p.0 ∷ []) k d) (sym before.all) ∙ get_or-append_seam o.0 p.0 [] d))))
+          (λ q. before.each i (omega (arith, l, q))
+          ∙ ap Ok (sym (get_or-append o.0 (p.0 ∷ []) d i (omega (arith, l, q, before.all)))));
     })
 
 pub get_or-made : {A : Type 0} (n : ℕ) (f : ℕ → A) (d : A) (i : ℕ) → i < n → get_or (made n f) i d ≡ f i
 get_or-made zero f d i h = absurd (let z : ⊥ = omega (arith, h) in z)
 get_or-made (suc n) f d i h =
     by_eq i n
-    (λ q. subst (λ i. get_or (made n f ++ f n ∷ []) i d ≡ f i) (sym q) (ap (λ k. get_or (made n f ++ f n ∷ []) k d) (sym (length-made n f)) ∙ get_or-append_seam (made n f) (f n) [] d))
-    (λ q. get_or-append (made n f) (f n ∷ []) d i (omega (arith, h, q, length-made n f)) ∙ get_or-made n f d i (omega (arith, h, q)))
+    (λ q. subst (λ i. get_or (made n f ++ f n ∷ []) i d ≡ f i) (sym q)
+    (ap (λ k. get_or (made n f ++ f n ∷ []) k d) (sym (length-made n f)) ∙ get_or-append_seam (made n f) (f n) [] d))
+    (λ q. get_or-append (made n f) (f n ∷ []) d i (omega (arith, h, q, length-made n f))
+    ∙ get_or-made n f d i (omega (arith, h, q)))

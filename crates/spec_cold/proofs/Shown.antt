@@ -42,7 +42,8 @@ module _ (m n : ℕ) (f : ℕ → ℕ → ℚ) (cost : ℕ → ℚ) (b : Bounds)
 
   pub multiplier_at : (i : ℕ) → i < m → part (multipliers t) i ≡ reduced_at t (n + i)
   multiplier_at i l =
-      get_or-made t.rows (λ i. reduced_at t (t.cols + i)) 0ℚ i (omega (arith, l, s.rows)) ∙ ap (λ n. reduced_at t (n + i)) s.cols
+      get_or-made t.rows (λ i. reduced_at t (t.cols + i)) 0ℚ i (omega (arith, l, s.rows))
+      ∙ ap (λ n. reduced_at t (n + i)) s.cols
 
   pub direction_length : (j : ℕ) (up : Bool) → length (direction t j up) ≡ n
   direction_length j up = length-made t.cols (moves_by t j up) ∙ s.cols
@@ -51,8 +52,10 @@ module _ (m n : ℕ) (f : ℕ → ℕ → ℚ) (cost : ℕ → ℚ) (b : Bounds)
   direction_at j up k l =
       get_or-made t.cols (moves_by t j up) 0ℚ k (omega (arith, l, s.cols)) ∙ ap (moves_below t j up k) s.rows
 
-module _ (m : Model) (ls : List (Option ℚ × Option ℚ)) (h : Limited m ls) (starts : List (RowStart ℚ)) (b : Bounds) (bs : HasBounds (formed m ls) b)
-    (fixed : (i : ℕ) → i < height m → (b.lower (width m + height m + i) ≡ Some 0ℚ) × (b.upper (width m + height m + i) ≡ Some 0ℚ)) where
+module _ (m : Model) (ls : List (Option ℚ × Option ℚ)) (h : Limited m ls)
+    (starts : List (RowStart ℚ)) (b : Bounds) (bs : HasBounds (formed m ls) b)
+    (fixed : (i : ℕ) → i < height m →
+    (b.lower (width m + height m + i) ≡ Some 0ℚ) × (b.upper (width m + height m + i) ≡ Some 0ℚ)) where
   abbrev r : ℕ
   r = height m
 
@@ -80,7 +83,9 @@ module _ (m : Model) (ls : List (Option ℚ × Option ℚ)) (h : Limited m ls) (
       by (Unbounded j up) g = record {
         for = (point_length r w F costs b e.tableau after, direction_length r w F costs b e.tableau after j up);
         checks =
-            unbounded_checks m ls h starts b bs fixed (table_of e.tableau) after.tableau after.within (way up) j g (point e.tableau) (direction e.tableau j up)
+            unbounded_checks m ls h starts b bs fixed (table_of e.tableau) after.tableau after.within
+            (way up) j g (point e.tableau) (direction e.tableau j up)
             (point_length r w F costs b e.tableau after) (point_at r w F costs b e.tableau after)
-            (λ k l. direction_at r w F costs b e.tableau after j up k l ∙ moves_are r (w + r + r) F costs b e.tableau j up after.tableau g.enters k);
+            (λ k l. direction_at r w F costs b e.tableau after j up k l
+            ∙ moves_are r (w + r + r) F costs b e.tableau j up after.tableau g.enters k);
       }

@@ -1,5 +1,6 @@
 -- What a cold solve ends with is true.
-use Rattle.std.proofs.Common.{◌≡◌, ⊎_elim, ℕ, ◌+◌, ◌*◌, ◌^◌, ◌≤◌, List, Option, None, Result, Ok, Err, refl, sym, ap, ◌∙◌, subst, arith}
+use Rattle.std.proofs.Common.{◌≡◌, ⊎_elim, ℕ, ◌+◌, ◌*◌, ◌^◌, ◌≤◌, List, Option, None}
+use Rattle.std.proofs.Common.{Result, Ok, Err, refl, sym, ap, ◌∙◌, subst, arith}
 use Rattle.spec_exact.specs.Fraction.{ℚ}
 use Rattle.spec_exact.specs.declared.past.Past.{Past}
 use Rattle.spec_model.specs.Model.{Model, width, height}
@@ -21,7 +22,8 @@ use Rattle.spec_simplex.specs.Form.{Form, form_of}
 use Rattle.spec_simplex.specs.Phases.{PhasesEnd, phases_run}
 use Rattle.spec_cold.specs.declared.outcome.Cold.TheVariants as outcome
 use Rattle.spec_cold.specs.Begins.{IsProper}
-use Rattle.spec_cold.specs.Cold.{ColdEnd, certificate_of, basis_of, pivots_of, checked, answered, after_phases, after_form, cold}
+use Rattle.spec_cold.specs.Cold.{ColdEnd, certificate_of, basis_of, pivots_of}
+use Rattle.spec_cold.specs.Cold.{checked, answered, after_phases, after_form, cold}
 use Rattle.spec_cold.specs.Accepted.{IsAccepted}
 use Rattle.spec_cold.proofs.Formed.{form_is, formed_proper, clash_is}
 use Rattle.spec_cold.proofs.Phases.{phases_show, phases_enough}
@@ -55,7 +57,8 @@ pub record IsTrueEnd (limit : Option ℕ) (m : Model) (answer : Known ℚ) (c : 
   pub checks : check_run limit m c ≡ Ok answer
 
 module _ (limit : Option ℕ) (budget : ℕ) (m : Model) (P : ColdEnd → Type 0)
-    (ended : (answer : Known ℚ) (c : Certificate (List ℚ)) (basis : Option (List Status)) (pivots : ℕ) → IsTrueEnd limit m answer c → P (outcome.Ended answer c basis pivots))
+    (ended : (answer : Known ℚ) (c : Certificate (List ℚ)) (basis : Option (List Status)) (pivots : ℕ) →
+    IsTrueEnd limit m answer c → P (outcome.Ended answer c basis pivots))
     (past : (p : Past ℚ) → P (outcome.Past p))
     (spent : (f : Form) → form_of limit m ≡ Ok f → phases_run limit budget f ≡ Err stop.Spent → P outcome.Spent) where
   by_check : (c : Certificate (List ℚ)) (basis : Option (List Status)) (pivots : ℕ) → IsAccepted limit m c →
@@ -63,7 +66,8 @@ module _ (limit : Option ℕ) (budget : ℕ) (m : Model) (P : ColdEnd → Type 0
   unfolding Agrees
   by_check c basis pivots a =
       ⊎_elim
-      (λ e. subst (λ o. P (checked c basis pivots o)) (sym e) (ended (shown m c) c basis pivots (record { accepted = a; checks = e })))
+      (λ e. subst (λ o. P (checked c basis pivots o)) (sym e)
+      (ended (shown m c) c basis pivots (record { accepted = a; checks = e })))
       (λ p. subst (λ o. P (checked c basis pivots o)) (sym p.1) (past p.0))
       a.limited
 
@@ -84,14 +88,17 @@ module _ (limit : Option ℕ) (budget : ℕ) (m : Model) (P : ColdEnd → Type 0
       with_form (Err (fault.Past v)) p = past v
 
 -- ---- the laws
-pub ended_is_true : (limit : Option ℕ) (budget : ℕ) (m : Model) (answer : Known ℚ) (c : Certificate (List ℚ)) (basis : Option (List Status)) (pivots : ℕ) → cold limit budget m ≡ outcome.Ended answer c basis pivots
+pub ended_is_true : (limit : Option ℕ) (budget : ℕ) (m : Model) (answer : Known ℚ) (c : Certificate (List ℚ))
+    (basis : Option (List Status)) (pivots : ℕ) → cold limit budget m ≡ outcome.Ended answer c basis pivots
     → Holds m answer × (check_run limit m c ≡ Ok answer)
 ended_is_true limit budget m answer c basis pivots =
-    by_end limit budget m (λ e. e ≡ outcome.Ended answer c basis pivots → Holds m answer × (check_run limit m c ≡ Ok answer))
+    by_end limit budget m
+    (λ e. e ≡ outcome.Ended answer c basis pivots → Holds m answer × (check_run limit m c ≡ Ok answer))
     (λ a d basis' pivots' t e.
     let same_answer : a ≡ answer = cc in
     let same_certificate : d ≡ c = cc in
-    let checks : check_run limit m c ≡ Ok answer = ap (check_run limit m) (sym same_certificate) ∙ t.checks ∙ ap Ok same_answer in
+    let checks : check_run limit m c ≡ Ok answer =
+    ap (check_run limit m) (sym same_certificate) ∙ t.checks ∙ ap Ok same_answer in
     let r = run_sound limit m c answer (subst (IsFor m) same_certificate t.accepted.fits) checks in
     (subst (Holds m) (sym r.1) (checks_hold m c r.0), checks))
     (λ p e. let z : ◌≡◌ {A = ColdEnd} (outcome.Past p) (outcome.Ended answer c basis pivots) = e in cc)
@@ -100,7 +107,8 @@ ended_is_true limit budget m answer c basis pivots =
 pub spent_is_spent : (limit : Option ℕ) (budget : ℕ) (m : Model) → cold limit budget m ≡ outcome.Spent →
     (f : Form) × (form_of limit m ≡ Ok f) × (phases_run limit budget f ≡ Err stop.Spent)
 spent_is_spent limit budget m =
-    by_end limit budget m (λ e. e ≡ outcome.Spent → (f : Form) × (form_of limit m ≡ Ok f) × (phases_run limit budget f ≡ Err stop.Spent))
+    by_end limit budget m
+    (λ e. e ≡ outcome.Spent → (f : Form) × (form_of limit m ≡ Ok f) × (phases_run limit budget f ≡ Err stop.Spent))
     (λ a d basis pivots t e. let z : ◌≡◌ {A = ColdEnd} (outcome.Ended a d basis pivots) outcome.Spent = e in cc)
     (λ p e. let z : ◌≡◌ {A = ColdEnd} (outcome.Past p) outcome.Spent = e in cc)
     (λ f p q e. (f, p, q))

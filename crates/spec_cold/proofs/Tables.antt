@@ -10,7 +10,8 @@ use Rattle.spec_simplex.specs.Tableau.{or_zero, stand}
 abbrev table : (ℕ → ℕ → ℚ) → (ℕ → ℕ) → (ℕ → ℚ) → (ℕ → ℚ) → (ℕ → Status) → Table
 table e b v r s = record { entry = e; basic = b; value = v; reduced = r; status = s }
 
-pub same_table : (t u : Table) → ((i k : ℕ) → t.entry i k ≡ u.entry i k) → ((i : ℕ) → t.basic i ≡ u.basic i) → ((k : ℕ) → t.value k ≡ u.value k) → ((k : ℕ) → t.reduced k ≡ u.reduced k)
+pub same_table : (t u : Table) → ((i k : ℕ) → t.entry i k ≡ u.entry i k) → ((i : ℕ) → t.basic i ≡ u.basic i) →
+    ((k : ℕ) → t.value k ≡ u.value k) → ((k : ℕ) → t.reduced k ≡ u.reduced k)
     → ((k : ℕ) → t.status k ≡ u.status k) → t ≡ u
 same_table t u e b v r s =
     ap (λ x. table x t.basic t.value t.reduced t.status) (fun_ext (λ i. fun_ext (e i)))

@@ -1,5 +1,7 @@
--- The cold solve of a model, at a limit and within a budget: its form, both phases, and the check of what they ended with.
-use Rattle.std.specs.Prelude.{ℕ, zero, suc, ◌+◌, List, Option, Some, None, Result, Ok, Err, Bool, nat_le, nat_eq, ◌&&◌, if◌then◌else◌}
+-- The cold solve of a model, at a limit and within a budget: its form, both phases,
+-- and the check of what they ended with.
+use Rattle.std.specs.Prelude.{ℕ, zero, suc, ◌+◌, List, Option, Some, None, Result}
+use Rattle.std.specs.Prelude.{Ok, Err, Bool, nat_le, nat_eq, ◌&&◌, if◌then◌else◌}
 use Rattle.spec_exact.specs.Fraction.{ℚ, 0ℚ, 1ℚ, neg_ℚ}
 use Rattle.spec_model.specs.Model.{Model}
 use Rattle.spec_check.specs.declared.certificate.Certificate.{Certificate}
@@ -18,7 +20,8 @@ use Rattle.spec_simplex.specs.declared.ends.RunStop.{RunStop as Spending}
 use Rattle.spec_simplex.specs.declared.ends.RunStop.TheVariants as stop
 use Rattle.spec_simplex.specs.Run.{made}
 use Rattle.spec_simplex.specs.Form.{Form, form_of}
-use Rattle.spec_simplex.specs.Tableau.{Tableau, form_columns, basic_at, entry_at, value_at, reduced_at, status_at, is_basic}
+use Rattle.spec_simplex.specs.Tableau.{Tableau, form_columns, basic_at, entry_at}
+use Rattle.spec_simplex.specs.Tableau.{value_at, reduced_at, status_at, is_basic}
 use Rattle.spec_simplex.specs.Step.{directed}
 use Rattle.spec_simplex.specs.Phases.{PhasesEnd, Infeasible, Finished, phases_run}
 use Rattle.spec_cold.specs.declared.outcome.Cold.{Cold}
@@ -36,7 +39,8 @@ point t = made t.cols (value_at t)
 abbrev pub multipliers : Tableau → List ℚ
 multipliers t = made t.rows (λ i. reduced_at t (t.cols + i))
 
--- how column k moves while column j enters and rises or falls by 1: by the last of the first m positions at which it is basic
+-- how column k moves while column j enters and rises or falls by 1:
+-- by the last of the first m positions at which it is basic
 abbrev pub moves_below : Tableau → ℕ → Bool → ℕ → ℕ → ℚ
 moves_below t j up k zero = if nat_eq k j then directed up 1ℚ else 0ℚ
 moves_below t j up k (suc m) =

@@ -1,5 +1,6 @@
 -- A tableau of lists, as one of functions of an index, and what a choice of the run means for it.
-use Rattle.std.specs.Prelude.{◌≡◌, ◌⊎◌, ℕ, ◌+◌, ◌<◌, ◌≤◌, Option, None, Ok, [], length, get_or, Some, Bool, true, false, if◌then◌else◌}
+use Rattle.std.specs.Prelude.{◌≡◌, ◌⊎◌, ℕ, ◌+◌, ◌<◌, ◌≤◌, Option, None, Ok, []}
+use Rattle.std.specs.Prelude.{length, get_or, Some, Bool, true, false, if◌then◌else◌}
 use Rattle.spec_exact.specs.Fraction.{ℚ, 0ℚ}
 use Rattle.spec_pivot.specs.declared.status.Status.TheVariants.{Basic}
 use Rattle.spec_pivot.specs.declared.status.Way.{Way}
@@ -10,7 +11,8 @@ use Rattle.spec_pivot.specs.Ratio.{GoesOn}
 use Rattle.spec_simplex.specs.declared.ends.PrimalEnd.TheVariants.{Optimal, Unbounded}
 use Rattle.spec_simplex.specs.declared.ends.Choice.{Choice}
 use Rattle.spec_simplex.specs.declared.ends.Choice.TheVariants.{End, Flip, Pivot}
-use Rattle.spec_simplex.specs.Tableau.{Tableau, form_columns, all_columns, is_artificial, entry_at, basic_at, value_at, reduced_at, status_at, lower_at, upper_at}
+use Rattle.spec_simplex.specs.Tableau.{Tableau, form_columns, all_columns, is_artificial, entry_at}
+use Rattle.spec_simplex.specs.Tableau.{basic_at, value_at, reduced_at, status_at, lower_at, upper_at}
 use Rattle.spec_simplex.specs.Step.{flip_run, pivot_run}
 
 abbrev pub table_of : Tableau → Table

@@ -11,8 +11,8 @@
 //! | `IsMeant` | what a choice of the run means for a tableau | specs/Tables |
 //! | `form_rows`, `IsProper`, `Begins` | a form's equations, and the tableau that it begins with | specs/Begins |
 //!
-//! The functions here have the laws as their contracts. Each law holds at every limit: a run at a limit that gives a result
-//! gives the exact one.
+//! The functions here have the laws as their contracts. Each law holds at every limit: a run at a limit that gives a
+//! result gives the exact one.
 //!
 //! The run on lists is that of `spec_simplex`, the steps on functions of an index are those of `spec_pivot`, and the
 //! certificates and their checker those of `spec_check`.
@@ -48,8 +48,9 @@ ghost use Rattle.spec_cold.specs.Accepted.{IsAccepted, IsAnswered};
 
 pub use outcome::Cold;
 
-/// A choice of the run means what the rule of the least index says: its flips and pivots are steps by the rule to tableaus
-/// of the same rows, costs and bounds; where it ends, no column is eligible, or the one that enters is never stopped.
+/// A choice of the run means what the rule of the least index says: its flips and pivots are steps by the rule to
+/// tableaus of the same rows, costs and bounds; where it ends, no column is eligible,
+/// or the one that enters is never stopped.
 pub fn steps_mean_pivots()
     ensures { (limit : Option ℕ) (m n : ℕ) (f : Matrix) (cost : ℕ → ℚ) (b : Bounds) (t : Tableau) (choice : Choice ℚ) →
         IsTableauOf m n f cost b t → choice_run limit t ≡ Ok choice → IsMeant m n f cost b limit t choice }
@@ -65,7 +66,8 @@ pub fn starts_are_tableaus()
 /// costs, with each value within its bounds.
 pub fn phase_two_goes_on()
     ensures { (limit : Option ℕ) (form : Form) (m n : ℕ) (f : Matrix) (cost : ℕ → ℚ) (b : Bounds) (t u : Tableau) →
-        IsTableauOf m n f cost b t → is_stuck t ≡ false → length form.cost ≤ n + m + m → phase_two_run limit form t ≡ Ok u →
+        IsTableauOf m n f cost b t → is_stuck t ≡ false →
+        length form.cost ≤ n + m + m → phase_two_run limit form t ≡ Ok u →
         IsTableauOf m n f (cost_at form.cost) (bounds_of u) u }
 {}
 
@@ -80,14 +82,17 @@ pub fn ends_are_accepted()
 
 /// What a cold solve ends with is true, and the checker accepts its certificate. It is spent only where the phases are.
 pub fn cold_ends_true()
-    ensures ended { (limit : Option ℕ) (budget : ℕ) (m : Model) (answer : Known ℚ) (cert : Certificate (List ℚ)) (basis : Option (List Status)) (pivots : ℕ) →
-        cold limit budget m ≡ outcome.Ended answer cert basis pivots → Holds m answer × (check_run limit m cert ≡ Ok answer) }
+    ensures ended { (limit : Option ℕ) (budget : ℕ) (m : Model) (answer : Known ℚ)
+        (cert : Certificate (List ℚ)) (basis : Option (List Status)) (pivots : ℕ) →
+        cold limit budget m ≡ outcome.Ended answer cert basis pivots →
+        Holds m answer × (check_run limit m cert ≡ Ok answer) }
     ensures spent { (limit : Option ℕ) (budget : ℕ) (m : Model) →
-        cold limit budget m ≡ outcome.Spent → (f : Form) × (form_of limit m ≡ Ok f) × (phases_run limit budget f ≡ Err stop.Spent) }
+        cold limit budget m ≡ outcome.Spent →
+        (f : Form) × (form_of limit m ≡ Ok f) × (phases_run limit budget f ≡ Err stop.Spent) }
 {}
 
-/// Each phase has fewer steps than there are ways to give each of its columns one of three statuses, so twice as many are
-/// enough for both (Bland, New finite pivoting rules for the simplex method).
+/// Each phase has fewer steps than there are ways to give each of its columns one of three statuses, so twice as many
+/// are enough for both (Bland, New finite pivoting rules for the simplex method).
 pub fn a_stated_budget_is_enough()
     ensures { (limit : Option ℕ) (budget : ℕ) (m : Model) →
         2 * 3 ^ (width m + 2 * height m) ≤ budget → ¬ (cold limit budget m ≡ outcome.Spent) }
@@ -100,8 +105,8 @@ pub fn cold_limits_only_refuse()
     ensures exact { (budget : ℕ) (m : Model) (p : Past ℚ) → ¬ (cold None budget m ≡ outcome.Past p) }
 {}
 
-/// So each model is decided: it has an optimal value, or no feasible point, or points that get better without limit, and the
-/// cold solve without a limit says which.
+/// So each model is decided: it has an optimal value, or no feasible point, or points that get better without limit,
+/// and the cold solve without a limit says which.
 pub fn every_model_is_decided()
     ensures { (budget : ℕ) (m : Model) → 2 * 3 ^ (width m + 2 * height m) ≤ budget → IsAnswered budget m }
 {}
