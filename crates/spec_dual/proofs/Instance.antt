@@ -1,5 +1,6 @@
--- A dual step that is there. There are two columns x and s, of which x is at least 0 and s at least 1, and one row s - x = 0,
--- and x is to be least. At first s is basic and 0, so it leaves to its bound, and x enters. Where the row is s + x = 0 none can.
+-- A dual step that is there. There are two columns x and s, of which x is at least 0 and s at least 1, and one row s -
+-- x = 0, and x is to be least. At first s is basic and 0, so it leaves to its bound, and x enters.
+-- Where the row is s + x = 0 none can.
 use Rattle.std.proofs.Common.{◌≡◌, ℕ, zero, suc, ◌<◌, Option, Some, None, false, refl, sym, subst, subst₂, arith}
 use Rattle.spec_exact.specs.Fraction.{ℚ, ◌+ℚ◌, ◌-ℚ◌, ◌*ℚ◌, neg_ℚ, 0ℚ, 1ℚ, ◌≤ℚ◌, ◌<ℚ◌}
 use Rattle.spec_exact.specs.Sums.{sum_below}
@@ -35,7 +36,13 @@ status (suc k) = Basic
 
 abbrev pub opening : Table
 opening =
-    record { entry = f; basic = λ i. 1; value = λ k. 0ℚ; reduced = λ k. cost k -ℚ sum_below 1 (λ r. 0ℚ *ℚ f r k); status = status }
+    record {
+      entry = f;
+      basic = λ i. 1;
+      value = λ k. 0ℚ;
+      reduced = λ k. cost k -ℚ sum_below 1 (λ r. 0ℚ *ℚ f r k);
+      status = status;
+    }
 
 only_zero : (i : ℕ) → i < 1 → i ≡ 0
 only_zero i h = omega arith
@@ -75,7 +82,10 @@ pub cheapest : IsCheapest 2 b opening Up 0 0
 cheapest = record {
   in_range = omega arith;
   candidate =
-      record { not_fixed = λ x. let e : None ≡ Some x.0 = x.2 in cc; helps = subst (λ a. a <ℚ 0ℚ) (sym entry_is) below };
+      record {
+        not_fixed = λ x. let e : None ≡ Some x.0 = x.2 in cc;
+        helps = subst (λ a. a <ℚ 0ℚ) (sym entry_is) below;
+      };
   least = λ k h c. only k h c;
 }
   where

@@ -10,7 +10,8 @@ use Rattle.spec_pivot.specs.declared.status.Status.TheVariants.{Basic, AtLower, 
 use Rattle.spec_pivot.specs.declared.status.Way.{Way}
 use Rattle.spec_pivot.specs.declared.status.Way.TheVariants.{Up, Down}
 use Rattle.spec_pivot.specs.Tableau.{Matrix}
-use Rattle.spec_pivot.specs.Simplex.{Bounds, IsFixed, IsInside, IsWithin, Stands, CanMove, Improves, IsEligible, Table, IsTableau}
+use Rattle.spec_pivot.specs.Simplex.{Bounds, IsFixed, IsInside, IsWithin, Stands}
+use Rattle.spec_pivot.specs.Simplex.{CanMove, Improves, IsEligible, Table, IsTableau}
 use Rattle.spec_pivot.proofs.Fixed.{fixed_or_not, costs_agree}
 use Rattle.spec_pivot.proofs.Values.{by_basic, zero_at_basic}
 use Rattle.spec_dual.specs.Dual.{Suits, IsDualFeasible, IsOrdered, IsSolution, IsComplementary}
@@ -53,7 +54,8 @@ stands_inside AtZero l u v o n h = record {
   upper = subst (λ x. IfSome x (λ k. v ≤ℚ k)) (sym h.1) tt;
 }
 
-pub within_where_basic : (m n : ℕ) (f : Matrix) (cost : ℕ → ℚ) (b : Bounds) (t : Table) → IsTableau m n f cost b t → IsOrdered n b
+pub within_where_basic : (m n : ℕ) (f : Matrix) (cost : ℕ → ℚ) (b : Bounds) (t : Table) →
+    IsTableau m n f cost b t → IsOrdered n b
     → ((k : ℕ) → k < n → t.status k ≡ Basic → IsInside (b.lower k) (b.upper k) (t.value k)) → IsWithin n b t
 within_where_basic m n f cost b t g ordered inside k h =
     by_basic (t.status k)
@@ -61,15 +63,18 @@ within_where_basic m n f cost b t g ordered inside k h =
     (λ s. stands_inside (t.status k) (b.lower k) (b.upper k) (t.value k) (λ l u. ordered k l u h) s (g.stands k h))
 
 -- ---- complementary slackness
-module _ (m n : ℕ) (f : Matrix) (cost : ℕ → ℚ) (b : Bounds) (t : Table) (g : IsTableau m n f cost b t) (feasible : IsDualFeasible n b t) where
+module _ (m n : ℕ) (f : Matrix) (cost : ℕ → ℚ) (b : Bounds) (t : Table)
+    (g : IsTableau m n f cost b t) (feasible : IsDualFeasible n b t) where
   pub complementary : (k : ℕ) → k < n → IsComplementary b t k
   complementary k h = record {
     above = λ a. ⊎_elim
-        (λ fixed. fixed_lower (b.lower k) (b.upper k) (t.status k) (t.value k) fixed.0 fixed.1 fixed.2 (not_basic_above a) (g.stands k h))
+        (λ fixed. fixed_lower (b.lower k) (b.upper k) (t.status k)
+        (t.value k) fixed.0 fixed.1 fixed.2 (not_basic_above a) (g.stands k h))
         (λ free. above (t.status k) refl free a)
         (fixed_or_not b k);
     below = λ a. ⊎_elim
-        (λ fixed. fixed_upper (b.lower k) (b.upper k) (t.status k) (t.value k) fixed.0 fixed.1 fixed.2 (not_basic_below a) (g.stands k h))
+        (λ fixed. fixed_upper (b.lower k) (b.upper k) (t.status k)
+        (t.value k) fixed.0 fixed.1 fixed.2 (not_basic_below a) (g.stands k h))
         (λ free. below (t.status k) refl free a)
         (fixed_or_not b k);
   }
@@ -103,4 +108,5 @@ module _ (m n : ℕ) (f : Matrix) (cost : ℕ → ℚ) (b : Bounds) (t : Table) 
       (costs_agree m n f cost t.reduced t.value g.costs.weights g.costs.less g.solves)
       (costs_agree m n f cost t.reduced x g.costs.weights g.costs.less s.solves)
       (sum_below_mono n (λ k. t.reduced k *ℚ t.value k) (λ k. t.reduced k *ℚ x k)
-      (λ k h. term_least (b.lower k) (b.upper k) (t.reduced k) (t.value k) (x k) (complementary k h).above (complementary k h).below (s.within k h).lower (s.within k h).upper))
+      (λ k h. term_least (b.lower k) (b.upper k) (t.reduced k) (t.value k) (x k)
+      (complementary k h).above (complementary k h).below (s.within k h).lower (s.within k h).upper))

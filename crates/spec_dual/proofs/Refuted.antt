@@ -1,5 +1,6 @@
 -- Where no column can bring the leaving one back, its row shows that no values solve the rows within the bounds.
-use Rattle.std.proofs.Common.{◌≡◌, ◌≢◌, ℕ, ◌<◌, Option, Some, None, IfSome, cond, nat_eq, refl, sym, ap, ap₂, ◌∙◌, subst, subst₂, eq-eqb, ne_eqb, ⊎_elim}
+use Rattle.std.proofs.Common.{◌≡◌, ◌≢◌, ℕ, ◌<◌, Option, Some, None, IfSome, cond, nat_eq}
+use Rattle.std.proofs.Common.{refl, sym, ap, ap₂, ◌∙◌, subst, subst₂, eq-eqb, ne_eqb, ⊎_elim}
 use Rattle.spec_exact.specs.Fraction.{ℚ, ◌+ℚ◌, ◌-ℚ◌, ◌*ℚ◌, neg_ℚ, 0ℚ, 1ℚ, ◌≤ℚ◌, ◌<ℚ◌}
 use Rattle.spec_exact.specs.Sums.{sum_below}
 use Rattle.spec_exact.proofs.Field.{*ℚ_assoc, *ℚ_zero, *ℚ_one}
@@ -7,7 +8,8 @@ use Rattle.spec_exact.proofs.Order.{≤ℚ_refl, *ℚ_mono, <ℚ-le, clash_ℚ}
 use Rattle.spec_exact.proofs.Ruleset.{ring, zero-*ℚ, zero-+ℚ}
 use Rattle.spec_exact.proofs.Sizes.{turned_down}
 use Rattle.spec_exact.proofs.Strict.{<ℚ_irrefl, ≤ℚ-<ℚ_trans, by_sign, zero-lt-one, +ℚ_strict, *ℚ_mono_neg}
-use Rattle.spec_exact.proofs.Sums.{sum_below_same, sum_below_mono, sum_below-+ℚ, sum_below-*ℚ, *ℚ-sum_below, sum_below_swap, sum_below_none}
+use Rattle.spec_exact.proofs.Sums.{sum_below_same, sum_below_mono, sum_below-+ℚ, sum_below-*ℚ}
+use Rattle.spec_exact.proofs.Sums.{*ℚ-sum_below, sum_below_swap, sum_below_none}
 use Rattle.spec_pivot.specs.declared.status.Status.{Status}
 use Rattle.spec_pivot.specs.declared.status.Status.TheVariants.{Basic, AtLower, AtUpper, AtZero}
 use Rattle.spec_pivot.specs.declared.status.Way.{Way}
@@ -46,7 +48,8 @@ pub at_other : (q : ℕ) (v : ℚ) (x : ℕ → ℚ) (k : ℕ) → k ≢ q → a
 unfolding at_or
 at_other q v x k n = rw (ne_eqb k q n) refl
 
-module _ (m n : ℕ) (f : Matrix) (cost : ℕ → ℚ) (b : Bounds) (t : Table) (g : IsTableau m n f cost b t) (way : Way) (p : ℕ) (c : ℚ) (l : Leaves m b t way p c)
+module _ (m n : ℕ) (f : Matrix) (cost : ℕ → ℚ) (b : Bounds) (t : Table)
+    (g : IsTableau m n f cost b t) (way : Way) (p : ℕ) (c : ℚ) (l : Leaves m b t way p c)
     (none : (k : ℕ) → k < n → ¬ (IsCandidate b t way p k)) where
   abbrev q : ℕ
   q = t.basic p
@@ -65,7 +68,8 @@ module _ (m n : ℕ) (f : Matrix) (cost : ℕ → ℚ) (b : Bounds) (t : Table) 
   basic_entry : (k : ℕ) → k < n → k ≢ t.basic p → t.status k ≡ Basic → row k ≡ 0ℚ
   basic_entry k h o s =
       let w = g.placed k h s in
-      ap (λ a. sign way *ℚ a) (ap (t.entry p) (sym w.2) ∙ g.units w.0 p w.1 l.position ∙ delta_other w.0 p (λ z. o (sym w.2 ∙ ap t.basic z))) ∙ *ℚ_zero (sign way)
+      ap (λ a. sign way *ℚ a) (ap (t.entry p) (sym w.2) ∙ g.units w.0 p w.1 l.position
+      ∙ delta_other w.0 p (λ z. o (sym w.2 ∙ ap t.basic z))) ∙ *ℚ_zero (sign way)
 
   -- ---- the leaving column's own bound
   own_above : (w : Way) (lo up : Option ℚ) (v : ℚ) → IsPast w lo up v c → 0ℚ <ℚ sign w → lo ≡ Some c
@@ -80,7 +84,8 @@ module _ (m n : ℕ) (f : Matrix) (cost : ℕ → ℚ) (b : Bounds) (t : Table) 
   other_above : (k : ℕ) → k < n → k ≢ t.basic p → 0ℚ <ℚ row k → b.lower k ≡ Some (t.value k)
   other_above k h o a =
       ⊎_elim
-      (λ fixed. fixed_lower (b.lower k) (b.upper k) (t.status k) (t.value k) fixed.0 fixed.1 fixed.2 nonbasic (g.stands k h))
+      (λ fixed. fixed_lower (b.lower k) (b.upper k) (t.status k)
+      (t.value k) fixed.0 fixed.1 fixed.2 nonbasic (g.stands k h))
       (λ free. go (t.status k) refl free)
       (fixed_or_not b k)
     where
@@ -93,12 +98,16 @@ module _ (m n : ℕ) (f : Matrix) (cost : ℕ → ℚ) (b : Bounds) (t : Table) 
       go AtUpper e free =
           absurd (none k h (record { not_fixed = free; helps = subst (λ s. Helps s (row k)) (sym e) a }))
       go AtZero e free =
-          absurd (none k h (record { not_fixed = free; helps = subst (λ s. Helps s (row k)) (sym e) (λ z. <ℚ_irrefl 0ℚ (subst (λ x. 0ℚ <ℚ x) z a)) }))
+          absurd (none k h (record {
+            not_fixed = free;
+            helps = subst (λ s. Helps s (row k)) (sym e) (λ z. <ℚ_irrefl 0ℚ (subst (λ x. 0ℚ <ℚ x) z a));
+          }))
 
   other_below : (k : ℕ) → k < n → k ≢ t.basic p → row k <ℚ 0ℚ → b.upper k ≡ Some (t.value k)
   other_below k h o a =
       ⊎_elim
-      (λ fixed. fixed_upper (b.lower k) (b.upper k) (t.status k) (t.value k) fixed.0 fixed.1 fixed.2 nonbasic (g.stands k h))
+      (λ fixed. fixed_upper (b.lower k) (b.upper k) (t.status k)
+      (t.value k) fixed.0 fixed.1 fixed.2 nonbasic (g.stands k h))
       (λ free. go (t.status k) refl free)
       (fixed_or_not b k)
     where
@@ -111,12 +120,16 @@ module _ (m n : ℕ) (f : Matrix) (cost : ℕ → ℚ) (b : Bounds) (t : Table) 
       go AtLower e free =
           absurd (none k h (record { not_fixed = free; helps = subst (λ s. Helps s (row k)) (sym e) a }))
       go AtZero e free =
-          absurd (none k h (record { not_fixed = free; helps = subst (λ s. Helps s (row k)) (sym e) (λ z. <ℚ_irrefl 0ℚ (subst (λ x. x <ℚ 0ℚ) z a)) }))
+          absurd (none k h (record {
+            not_fixed = free;
+            helps = subst (λ s. Helps s (row k)) (sym e) (λ z. <ℚ_irrefl 0ℚ (subst (λ x. x <ℚ 0ℚ) z a));
+          }))
 
   -- ---- the sum: 0 at the tableau's values, and more at the bounds
   at_values : sum_below n (λ k. row k *ℚ t.value k) ≡ 0ℚ
   at_values =
-      sum_below_same n _ (λ k. sign way *ℚ (t.entry p k *ℚ t.value k)) (λ k _. *ℚ_assoc (sign way) (t.entry p k) (t.value k))
+      sum_below_same n _ (λ k. sign way *ℚ (t.entry p k *ℚ t.value k))
+      (λ k _. *ℚ_assoc (sign way) (t.entry p k) (t.value k))
       ∙ sym (*ℚ-sum_below (sign way) n _)
       ∙ ap (λ a. sign way *ℚ a) (combined m n t.entry f g.forth t.value g.solves p l.position) ∙ *ℚ_zero (sign way)
 
@@ -136,11 +149,15 @@ module _ (m n : ℕ) (f : Matrix) (cost : ℕ → ℚ) (b : Bounds) (t : Table) 
       term : (k : ℕ) → row k *ℚ stops k ≡ row k *ℚ t.value k +ℚ delta (t.basic p) k *ℚ (row k *ℚ (c -ℚ t.value k))
       term k =
           by_eq k (t.basic p)
-          (λ z. subst (λ k. row k *ℚ stops k ≡ row k *ℚ t.value k +ℚ delta (t.basic p) k *ℚ (row k *ℚ (c -ℚ t.value k))) (sym z)
+          (λ z. subst (λ k. row k *ℚ stops k ≡ row k *ℚ t.value k +ℚ delta (t.basic p) k *ℚ (row k *ℚ (c -ℚ t.value k)))
+          (sym z)
           (ap (λ a. row (t.basic p) *ℚ a) (at_own (t.basic p) c t.value) ∙ own (row (t.basic p)) c (t.value (t.basic p))
-          ∙ ap (λ d. row (t.basic p) *ℚ t.value (t.basic p) +ℚ d *ℚ (row (t.basic p) *ℚ (c -ℚ t.value (t.basic p)))) (sym (delta_same (t.basic p)))))
-          (λ z. ap (λ a. row k *ℚ a) (at_other (t.basic p) c t.value k z) ∙ other (row k) (row k *ℚ (c -ℚ t.value k)) (t.value k)
-          ∙ ap (λ d. row k *ℚ t.value k +ℚ d *ℚ (row k *ℚ (c -ℚ t.value k))) (sym (delta_other (t.basic p) k (λ y. z (sym y)))))
+          ∙ ap (λ d. row (t.basic p) *ℚ t.value (t.basic p) +ℚ d *ℚ (row (t.basic p) *ℚ (c -ℚ t.value (t.basic p))))
+          (sym (delta_same (t.basic p)))))
+          (λ z. ap (λ a. row k *ℚ a) (at_other (t.basic p) c t.value k z)
+          ∙ other (row k) (row k *ℚ (c -ℚ t.value k)) (t.value k)
+          ∙ ap (λ d. row k *ℚ t.value k +ℚ d *ℚ (row k *ℚ (c -ℚ t.value k)))
+          (sym (delta_other (t.basic p) k (λ y. z (sym y)))))
 
   gains : (w : Way) (lo up : Option ℚ) (v : ℚ) → IsPast w lo up v c → 0ℚ <ℚ (sign w *ℚ (c -ℚ v))
   gains Up lo up v h = subst₂ ◌<ℚ◌ (none_ v) (one_ c v) (+ℚ_strict v c (neg_ℚ v) h.1)
@@ -166,11 +183,13 @@ module _ (m n : ℕ) (f : Matrix) (cost : ℕ → ℚ) (b : Bounds) (t : Table) 
         ∙ sum_below_same m _ _ (λ r _. sym (*ℚ_assoc (sign way) (g.forth.0 p r) (f r k)));
     above = λ k h a. by_eq k (t.basic p)
         (λ z. subst (λ k. b.lower k ≡ Some (stops k)) (sym z)
-        (own_above way (b.lower (t.basic p)) (b.upper (t.basic p)) (t.value (t.basic p)) l.past (subst (λ x. 0ℚ <ℚ x) (ap row z ∙ own_entry) a) ∙ ap Some (sym (at_own (t.basic p) c t.value))))
+        (own_above way (b.lower (t.basic p)) (b.upper (t.basic p)) (t.value (t.basic p)) l.past
+        (subst (λ x. 0ℚ <ℚ x) (ap row z ∙ own_entry) a) ∙ ap Some (sym (at_own (t.basic p) c t.value))))
         (λ z. other_above k h z a ∙ ap Some (sym (at_other (t.basic p) c t.value k z)));
     below = λ k h a. by_eq k (t.basic p)
         (λ z. subst (λ k. b.upper k ≡ Some (stops k)) (sym z)
-        (own_below way (b.lower (t.basic p)) (b.upper (t.basic p)) (t.value (t.basic p)) l.past (subst (λ x. x <ℚ 0ℚ) (ap row z ∙ own_entry) a) ∙ ap Some (sym (at_own (t.basic p) c t.value))))
+        (own_below way (b.lower (t.basic p)) (b.upper (t.basic p)) (t.value (t.basic p)) l.past
+        (subst (λ x. x <ℚ 0ℚ) (ap row z ∙ own_entry) a) ∙ ap Some (sym (at_own (t.basic p) c t.value))))
         (λ z. other_below k h z a ∙ ap Some (sym (at_other (t.basic p) c t.value k z)));
     positive = subst (λ x. 0ℚ <ℚ x) (sym (at_stops ∙ ap (λ a. a *ℚ (c -ℚ t.value (t.basic p))) own_entry))
         (gains way (b.lower (t.basic p)) (b.upper (t.basic p)) (t.value (t.basic p)) l.past);
@@ -187,13 +206,16 @@ term_least l u a w x up down low high =
     (λ e. subst₂ ◌≤ℚ◌ (sym (ap (λ a. a *ℚ w) e ∙ zero-*ℚ w)) (sym (ap (λ a. a *ℚ x) e ∙ zero-*ℚ x)) (≤ℚ_refl 0ℚ))
 
 -- a combination of the rows makes 0 with values that solve them
-pub solved_row : (m n : ℕ) (f : Matrix) (a w x : ℕ → ℚ) → ((k : ℕ) → a k ≡ sum_below m (λ r. w r *ℚ f r k)) → ((i : ℕ) → i < m → sum_below n (λ k. f i k *ℚ x k) ≡ 0ℚ)
+pub solved_row : (m n : ℕ) (f : Matrix) (a w x : ℕ → ℚ) → ((k : ℕ) → a k ≡ sum_below m (λ r. w r *ℚ f r k)) →
+    ((i : ℕ) → i < m → sum_below n (λ k. f i k *ℚ x k) ≡ 0ℚ)
     → sum_below n (λ k. a k *ℚ x k) ≡ 0ℚ
 solved_row m n f a w x is solves =
     sum_below_same n _ (λ k. sum_below m (λ r. w r *ℚ (f r k *ℚ x k)))
-    (λ k _. ap (λ a. a *ℚ x k) (is k) ∙ sum_below-*ℚ m _ (x k) ∙ sum_below_same m _ _ (λ r _. *ℚ_assoc (w r) (f r k) (x k)))
+    (λ k _. ap (λ a. a *ℚ x k) (is k) ∙ sum_below-*ℚ m _ (x k)
+    ∙ sum_below_same m _ _ (λ r _. *ℚ_assoc (w r) (f r k) (x k)))
     ∙ sym (sum_below_swap m n (λ r k. w r *ℚ (f r k *ℚ x k)))
-    ∙ sum_below_none m _ (λ r p. sym (*ℚ-sum_below (w r) n (λ k. f r k *ℚ x k)) ∙ ap (λ a. w r *ℚ a) (solves r p) ∙ *ℚ_zero (w r))
+    ∙ sum_below_none m _
+    (λ r p. sym (*ℚ-sum_below (w r) n (λ k. f r k *ℚ x k)) ∙ ap (λ a. w r *ℚ a) (solves r p) ∙ *ℚ_zero (w r))
 
 pub refuted : (m n : ℕ) (f : Matrix) (b : Bounds) (a w : ℕ → ℚ) → Refutes m n f b a w → (x : ℕ → ℚ) →
     ¬ (IsSolution m n f b x)
@@ -201,4 +223,5 @@ refuted m n f b a w r x s =
     clash_ℚ 0ℚ (sum_below n (λ k. a k *ℚ w k)) r.positive
     (subst (λ z. sum_below n (λ k. a k *ℚ w k) ≤ℚ z) (solved_row m n f a r.weights x r.combined s.solves)
     (sum_below_mono n (λ k. a k *ℚ w k) (λ k. a k *ℚ x k)
-    (λ k h. term_least (b.lower k) (b.upper k) (a k) (w k) (x k) (r.above k h) (r.below k h) (s.within k h).lower (s.within k h).upper)))
+    (λ k h. term_least (b.lower k) (b.upper k) (a k) (w k) (x k)
+    (r.above k h) (r.below k h) (s.within k h).lower (s.within k h).upper)))

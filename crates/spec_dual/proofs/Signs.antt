@@ -4,7 +4,8 @@ use Rattle.spec_exact.specs.Fraction.{ℚ, ◌+ℚ◌, ◌*ℚ◌, neg_ℚ, 0ℚ
 use Rattle.spec_exact.proofs.Field.{+ℚ_zero, *ℚ_assoc, *ℚ_comm, *ℚ_one, *ℚ_zero, *ℚ_inverse}
 use Rattle.spec_exact.proofs.Order.{≤ℚ_refl, ≤ℚ_antisym, <ℚ-le, *ℚ_mono, *ℚ-nonneg}
 use Rattle.spec_exact.proofs.Ruleset.{ring, zero-*ℚ, neg-neg, neg-zero}
-use Rattle.spec_exact.proofs.Sizes.{abs_above, abs_below, abs_at_most, abs_least, abs_positive, below_turned, turned_down, turned_back}
+use Rattle.spec_exact.proofs.Sizes.{abs_above, abs_below, abs_at_most, abs_least}
+use Rattle.spec_exact.proofs.Sizes.{abs_positive, below_turned, turned_down, turned_back}
 use Rattle.spec_exact.proofs.Strict.{<ℚ_irrefl, by_sign, inv_pos, +ℚ_mono₂, not-zero_from_lt, not-zero_from_below}
 use Rattle.spec_pivot.specs.declared.status.Status.{Status}
 use Rattle.spec_pivot.specs.declared.status.Status.TheVariants.{Basic, AtLower, AtUpper, AtZero}
@@ -31,7 +32,8 @@ down_is e = simp ring
 pub size_below : (way : Way) (e : ℚ) → (sign way *ℚ e) <ℚ 0ℚ → abs_ℚ e ≡ neg_ℚ (sign way *ℚ e)
 size_below Up e h = abs_below e (subst (λ a. a <ℚ 0ℚ) (up_is e) h) ∙ ap neg_ℚ (sym (up_is e))
 size_below Down e h =
-    abs_above e (<ℚ-le 0ℚ e (turned_back e (subst (λ a. a <ℚ 0ℚ) (down_is e) h))) ∙ sym (ap neg_ℚ (down_is e) ∙ neg-neg e)
+    abs_above e (<ℚ-le 0ℚ e (turned_back e (subst (λ a. a <ℚ 0ℚ) (down_is e) h)))
+    ∙ sym (ap neg_ℚ (down_is e) ∙ neg-neg e)
 
 pub size_above : (way : Way) (e : ℚ) → 0ℚ <ℚ (sign way *ℚ e) → abs_ℚ e ≡ sign way *ℚ e
 size_above Up e h = abs_above e (<ℚ-le 0ℚ e (subst (λ a. 0ℚ <ℚ a) (up_is e) h)) ∙ sym (up_is e)
@@ -63,16 +65,19 @@ pub ratio_is : (s : Status) (way : Way) (d e : ℚ) → Suits s d → Helps s (s
 ratio_is Basic way d e f h = tt
 ratio_is AtLower way d e f h =
     ap (λ a. (abs_ℚ d *ℚ inverse (abs_ℚ e)) *ℚ a) (sym (size_below way e h))
-    ∙ divided (abs_ℚ d) (abs_ℚ e) (not-zero_from_lt (abs_ℚ e) (abs_positive e (helps_nonzero AtLower way e h))) ∙ abs_above d f
+    ∙ divided (abs_ℚ d) (abs_ℚ e) (not-zero_from_lt (abs_ℚ e) (abs_positive e (helps_nonzero AtLower way e h)))
+    ∙ abs_above d f
 ratio_is AtUpper way d e f h =
     ap (λ a. (abs_ℚ d *ℚ inverse (abs_ℚ e)) *ℚ a) (sym (size_above way e h))
-    ∙ divided (abs_ℚ d) (abs_ℚ e) (not-zero_from_lt (abs_ℚ e) (abs_positive e (helps_nonzero AtUpper way e h))) ∙ abs_at_most d f
+    ∙ divided (abs_ℚ d) (abs_ℚ e) (not-zero_from_lt (abs_ℚ e) (abs_positive e (helps_nonzero AtUpper way e h)))
+    ∙ abs_at_most d f
 ratio_is AtZero way d e f h =
     ap (λ a. a *ℚ inverse (abs_ℚ e)) (ap abs_ℚ f ∙ abs_above 0ℚ (≤ℚ_refl 0ℚ)) ∙ zero-*ℚ (inverse (abs_ℚ e))
 
 pub ratio_least : (d e : ℚ) → ¬ (e ≡ 0ℚ) → 0ℚ ≤ℚ (abs_ℚ d *ℚ inverse (abs_ℚ e))
 ratio_least d e n =
-    *ℚ-nonneg (abs_ℚ d) (inverse (abs_ℚ e)) (abs_least d) (<ℚ-le 0ℚ (inverse (abs_ℚ e)) (inv_pos (abs_ℚ e) (abs_positive e n)))
+    *ℚ-nonneg (abs_ℚ d) (inverse (abs_ℚ e)) (abs_least d)
+    (<ℚ-le 0ℚ (inverse (abs_ℚ e)) (inv_pos (abs_ℚ e) (abs_positive e n)))
 
 -- the reduced cost of a candidate, by its ratio
 pub by_ratio : (s : Status) (d a r : ℚ) → Suits s d → Helps s a → IsRatio s d a r → d ≡ neg_ℚ (r *ℚ a)
@@ -98,7 +103,8 @@ most_sum d x h k = subst (λ z. (d +ℚ x) ≤ℚ z) (+ℚ_zero 0ℚ) (+ℚ_mono
 less_at_lower : (d a q r : ℚ) → a <ℚ 0ℚ → q *ℚ neg_ℚ a ≡ d → r ≤ℚ q → 0ℚ ≤ℚ (d +ℚ r *ℚ a)
 less_at_lower d a q r h e l =
     subst (λ d. 0ℚ ≤ℚ (d +ℚ r *ℚ a)) e
-    (subst₂ ◌≤ℚ◌ (none r a) (swap q r a) (+ℚ_mono₂ (neg_ℚ a *ℚ r) (neg_ℚ a *ℚ q) (r *ℚ a) (r *ℚ a) (*ℚ_mono r q (neg_ℚ a) turned l) (≤ℚ_refl (r *ℚ a))))
+    (subst₂ ◌≤ℚ◌ (none r a) (swap q r a)
+    (+ℚ_mono₂ (neg_ℚ a *ℚ r) (neg_ℚ a *ℚ q) (r *ℚ a) (r *ℚ a) (*ℚ_mono r q (neg_ℚ a) turned l) (≤ℚ_refl (r *ℚ a))))
   where
     turned : 0ℚ ≤ℚ neg_ℚ a
     turned = <ℚ-le 0ℚ (neg_ℚ a) (below_turned a h)
@@ -132,7 +138,8 @@ suits_after AtUpper d a q r h f k =
     by_sign a
     (λ p. let o = k p in less_at_upper d a q r p o.0 o.1)
     (λ p. most_sum d (r *ℚ a) f (subst (λ z. (r *ℚ a) ≤ℚ z) (*ℚ_zero r) (*ℚ_mono a 0ℚ r h (<ℚ-le a 0ℚ p))))
-    (λ e. subst (λ a. (d +ℚ r *ℚ a) ≤ℚ 0ℚ) (sym e) (most_sum d (r *ℚ 0ℚ) f (subst (λ z. (r *ℚ 0ℚ) ≤ℚ z) (*ℚ_zero r) (≤ℚ_refl (r *ℚ 0ℚ)))))
+    (λ e. subst (λ a. (d +ℚ r *ℚ a) ≤ℚ 0ℚ) (sym e)
+    (most_sum d (r *ℚ 0ℚ) f (subst (λ z. (r *ℚ 0ℚ) ≤ℚ z) (*ℚ_zero r) (≤ℚ_refl (r *ℚ 0ℚ)))))
 suits_after AtZero d a q r h f k =
     by_sign a
     (λ p. none (k (not-zero_from_lt a p)))

@@ -21,7 +21,8 @@ pub behind_stands : (way : Way) (l u : Option ℚ) (v c : ℚ) → IsPast way l 
 behind_stands Up l u v c h = h.0
 behind_stands Down l u v c h = h.0
 
-module _ (m n : ℕ) (f : Matrix) (cost : ℕ → ℚ) (b : Bounds) (t : Table) (g : IsTableau m n f cost b t) (way : Way) (p j : ℕ) (c : ℚ) (l : Leaves m b t way p c) (j_in : j < n) (e : IsCandidate b t way p j) where
+module _ (m n : ℕ) (f : Matrix) (cost : ℕ → ℚ) (b : Bounds) (t : Table) (g : IsTableau m n f cost b t)
+    (way : Way) (p j : ℕ) (c : ℚ) (l : Leaves m b t way p c) (j_in : j < n) (e : IsCandidate b t way p j) where
   pub j_nonbasic : ¬ (t.status j ≡ Basic)
   j_nonbasic = helps_nonbasic (t.status j) (sign way *ℚ t.entry p j) e.helps
 
@@ -31,7 +32,8 @@ module _ (m n : ℕ) (f : Matrix) (cost : ℕ → ℚ) (b : Bounds) (t : Table) 
   -- the leaving column comes to its bound
   pub lands_at : moved m t Up j (shift t p j c) (t.basic p) ≡ c
   lands_at =
-      ap (λ r. t.value (t.basic p) +ℚ shift t p j c *ℚ r) (ray_basic m t g.units Up j (outside m n f cost b t g j j_nonbasic) p l.position)
+      ap (λ r. t.value (t.basic p) +ℚ shift t p j c *ℚ r)
+      (ray_basic m t g.units Up j (outside m n f cost b t g j j_nonbasic) p l.position)
       ∙ turn (t.value (t.basic p)) (shift t p j c) (t.entry p j)
       ∙ reaches_down c (t.value (t.basic p)) (t.entry p j) entry_nonzero
     where

@@ -83,8 +83,8 @@ pub record IsSolution (m n : ℕ) (f : Matrix) (b : Bounds) (x : ℕ → ℚ) : 
   pub solves : (i : ℕ) → i < m → sum_below n (λ k. f i k *ℚ x k) ≡ 0ℚ
   pub within : (k : ℕ) → k < n → IsInside (b.lower k) (b.upper k) (x k)
 
--- A combination a of the m rows of f, and for each column the bound w that keeps a_k x_k at least at a_k w_k: these make more
--- than 0 (Farkas).
+-- A combination a of the m rows of f, and for each column the bound w that keeps a_k x_k at least at a_k w_k: these
+-- make more than 0 (Farkas).
 pub record Refutes (m n : ℕ) (f : Matrix) (b : Bounds) (a w : ℕ → ℚ) : Type 0 where
   pub weights : ℕ → ℚ
   pub combined : (k : ℕ) → a k ≡ sum_below m (λ r. weights r *ℚ f r k)

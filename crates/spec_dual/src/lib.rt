@@ -1,8 +1,8 @@
-//! Steps of the dual simplex method with bounds on the variables, over functions of an index: definitions, and the laws that
-//! they meet. There are no lists here, no model, and no limit on numbers.
+//! Steps of the dual simplex method with bounds on the variables, over functions of an index: definitions, and the laws
+//! that they meet. There are no lists here, no model, and no limit on numbers.
 //!
-//! A reader has to believe the definitions in `specs/` and those of `spec_pivot`; each law is the contract of a function
-//! below, which does nothing.
+//! A reader has to believe the definitions in `specs/` and those of `spec_pivot`; each law is the contract of a
+//! function below, which does nothing.
 //!
 //! | Item | What it is | Where |
 //! |---|---|---|
@@ -13,9 +13,9 @@
 //! | `IsSolution`, `Refutes` | values that solve the rows within the bounds; a row that shows that there are none | specs/Dual |
 //! | `IsComplementary` | complementary slackness of a column | specs/Dual |
 //!
-//! The dual method begins with a tableau whose reduced costs have their signs and some of whose values are outside their
-//! bounds, and keeps the former until none of the latter is left. With bounds on the variables it is that of Chvátal,
-//! Linear Programming (1983), chapters 8 and 10.
+//! The dual method begins with a tableau whose reduced costs have their signs and some of whose values are outside
+//! their bounds, and keeps the former until none of the latter is left. With bounds on the variables it is that of
+//! Chvátal, Linear Programming (1983), chapters 8 and 10.
 #![tactic(auto)]
 
 ghost use Rattle.std.specs.Prelude.{◌≡◌, ◌≢◌, ◌<◌, ℕ};
@@ -25,11 +25,13 @@ ghost use Rattle.spec_pivot.specs.declared.status.Status.{Status};
 ghost use Rattle.spec_pivot.specs.declared.status.Status.TheVariants.{Basic};
 ghost use Rattle.spec_pivot.specs.declared.status.Way.{Way};
 ghost use Rattle.spec_pivot.specs.Tableau.{Matrix};
-ghost use Rattle.spec_pivot.specs.Simplex.{Bounds, Table, IsFixed, IsInside, IsTableau, IsWithin, IsEligible, Crosses, moved, after_flip};
-ghost use Rattle.spec_dual.specs.Dual.{Suits, IsDualFeasible, IsOrdered, Leaves, row_of, IsCandidate, IsCheapest, shift, after_dual, IsSolution, Refutes, IsComplementary};
+ghost use Rattle.spec_pivot.specs.Simplex.{Bounds, Table, IsFixed, IsInside, IsTableau};
+ghost use Rattle.spec_pivot.specs.Simplex.{IsWithin, IsEligible, Crosses, moved, after_flip};
+ghost use Rattle.spec_dual.specs.Dual.{Suits, IsDualFeasible, IsOrdered, Leaves, row_of, IsCandidate};
+ghost use Rattle.spec_dual.specs.Dual.{IsCheapest, shift, after_dual, IsSolution, Refutes, IsComplementary};
 
-/// A dual step leaves a tableau of the same rows, costs and bounds, in which the column that leaves is at the bound that it
-/// had passed; and a flip does (Chvátal, Linear Programming, chapters 8 and 10).
+/// A dual step leaves a tableau of the same rows, costs and bounds, in which the column that leaves is at the bound
+/// that it had passed; and a flip does (Chvátal, Linear Programming, chapters 8 and 10).
 pub fn dual_steps_keep_tableaus()
     ensures pivot { (m n : ℕ) (f : Matrix) (cost : ℕ → ℚ) (b : Bounds) (t : Table)
         (way : Way) (p j : ℕ) (c : ℚ) →
@@ -45,8 +47,8 @@ pub fn dual_steps_keep_tableaus()
         IsTableau m n f cost b (after_flip m t way j theta to) }
 {}
 
-/// Where the candidate with the least ratio enters, each reduced cost keeps the sign that belongs to its status. A flip gives one
-/// column another status (Chvátal, Linear Programming, chapter 10).
+/// Where the candidate with the least ratio enters, each reduced cost keeps the sign that belongs to its status. A flip
+/// gives one column another status (Chvátal, Linear Programming, chapter 10).
 pub fn dual_ratio_test()
     ensures pivot { (m n : ℕ) (f : Matrix) (cost : ℕ → ℚ) (b : Bounds) (t : Table)
         (way : Way) (p j : ℕ) (c : ℚ) →
@@ -58,8 +60,8 @@ pub fn dual_ratio_test()
         IsDualFeasible n b (after_flip m t way j theta to) }
 {}
 
-/// Where no column may enter, the leaving column's row and the bounds at which it stops make more than 0; and where some row
-/// and bounds do, no values solve the rows within the bounds (Farkas' lemma).
+/// Where no column may enter, the leaving column's row and the bounds at which it stops make more than 0; and where
+/// some row and bounds do, no values solve the rows within the bounds (Farkas' lemma).
 pub fn stuck_rows_refute()
     ensures row { (m n : ℕ) (f : Matrix) (cost : ℕ → ℚ) (b : Bounds) (t : Table)
         (way : Way) (p : ℕ) (c : ℚ) →
@@ -69,8 +71,8 @@ pub fn stuck_rows_refute()
         (x : ℕ → ℚ) → ¬ (IsSolution m n f b x) }
 {}
 
-/// Where no basic value is outside its bounds, none is; and where the reduced costs have their signs, no column is eligible
-/// for the primal method, values and reduced costs are complementary, and no solution costs less
+/// Where no basic value is outside its bounds, none is; and where the reduced costs have their signs, no column is
+/// eligible for the primal method, values and reduced costs are complementary, and no solution costs less
 /// (Chvátal, Linear Programming, chapters 5 and 8).
 pub fn dual_ends_are_optimal()
     ensures within { (m n : ℕ) (f : Matrix) (cost : ℕ → ℚ) (b : Bounds) (t : Table) →
@@ -87,7 +89,8 @@ pub fn dual_ends_are_optimal()
 
 /// There is a dual step by the ratio test, and a row that refutes, so that the laws do not hold of nothing.
 pub fn some_dual_step_exists()
-    ensures step { (m n : ℕ) × (f : Matrix) × (cost : ℕ → ℚ) × (b : Bounds) × (t : Table) × (way : Way) × (p j : ℕ) × (c : ℚ) ×
+    ensures step { (m n : ℕ) × (f : Matrix) × (cost : ℕ → ℚ)
+        × (b : Bounds) × (t : Table) × (way : Way) × (p j : ℕ) × (c : ℚ) ×
         IsTableau m n f cost b t × IsDualFeasible n b t × Leaves m b t way p c × IsCheapest n b t way p j }
     ensures row { (m n : ℕ) × (f : Matrix) × (b : Bounds) × (a w : ℕ → ℚ) × Refutes m n f b a w }
 {}

@@ -1,5 +1,6 @@
 -- The basis of an end is a basis of the form.
-use Rattle.std.proofs.Common.{◌≡◌, ◌≢◌, ℕ, zero, suc, ◌+◌, ◌<◌, List, Option, Bool, true, false, ◌&&◌, ◌||◌, cond, nat_le, refl, sym, ap, ap₂, ◌∙◌, subst, subst₂, arith}
+use Rattle.std.proofs.Common.{◌≡◌, ◌≢◌, ℕ, zero, suc, ◌+◌, ◌<◌, List, Option, Bool, true, false, ◌&&◌}
+use Rattle.std.proofs.Common.{◌||◌, cond, nat_le, refl, sym, ap, ap₂, ◌∙◌, subst, subst₂, arith}
 use Rattle.std.proofs.lemmas.Bool.{le-leb, lt-leb}
 use Rattle.spec_exact.specs.Fraction.{ℚ, ◌*ℚ◌, 0ℚ, 1ℚ, ◌<ℚ◌}
 use Rattle.spec_exact.proofs.Field.{*ℚ_comm, *ℚ_assoc, *ℚ_zero}
@@ -29,7 +30,8 @@ use Rattle.spec_cold.proofs.Equations.{row_logical, row_artificial}
 use Rattle.spec_cold.proofs.Runs.{get_or-made}
 use Rattle.spec_simplex.specs.Eliminate.{basis_at, basics_below, CanStand, IsBasisOf}
 use Rattle.spec_warm.proofs.Counts.{basic_if, basic_test, nonbasic_test}
-use Rattle.spec_warm.proofs.Members.{count, count_same, count_split, count_either, member, member_if, member_test, count_members}
+use Rattle.spec_warm.proofs.Members.{count, count_same, count_split, count_either}
+use Rattle.spec_warm.proofs.Members.{member, member_if, member_test, count_members}
 
 stands_can : (s : Status) (l u : Option ℚ) (v : ℚ) → Stands s l u v → CanStand s l u
 stands_can Basic l u v h = tt
@@ -41,7 +43,8 @@ basics_count : (basis : List Status) (n : ℕ) → basics_below basis n ≡ coun
 basics_count basis zero = refl
 basics_count basis (suc n) = ap (λ c. c + cond (is_basic (basis_at basis n)) 1 0) (basics_count basis n)
 
-module _ (f : Form) (starts : List (RowStart ℚ)) (cost : ℕ → ℚ) (b : Bounds) (bs : HasBounds f b) (t : Tableau) (rows : t.rows ≡ f.rows) (cols : t.cols ≡ f.cols)
+module _ (f : Form) (starts : List (RowStart ℚ)) (cost : ℕ → ℚ) (b : Bounds)
+    (bs : HasBounds f b) (t : Tableau) (rows : t.rows ≡ f.rows) (cols : t.cols ≡ f.cols)
     (g : IsTableau f.rows (f.cols + f.rows + f.rows) (form_rows f starts) cost b (table_of t)) where
   abbrev n : ℕ
   n = f.cols + f.rows + f.rows
@@ -56,7 +59,8 @@ module _ (f : Form) (starts : List (RowStart ℚ)) (cost : ℕ → ℚ) (b : Bou
   basic_member : (k : ℕ) → k < n → basic k ≡ member f.rows (basic_at t) k
   basic_member k h =
       by_basic (status_at t k)
-      (λ s. let w = g.placed k h s in basic_test (status_at t k) s ∙ sym (member_test f.rows (basic_at t) k w.0 w.1 w.2))
+      (λ s. let w = g.placed k h s in
+      basic_test (status_at t k) s ∙ sym (member_test f.rows (basic_at t) k w.0 w.1 w.2))
       (λ s. nonbasic_test (status_at t k) s ∙ sym (none s (member f.rows (basic_at t) k) refl))
     where
       none : ¬ (status_at t k ≡ Basic) → (c : Bool) → member f.rows (basic_at t) k ≡ c →
@@ -67,13 +71,15 @@ module _ (f : Form) (starts : List (RowStart ℚ)) (cost : ℕ → ℚ) (b : Bou
 
   all_basics : count n basic ≡ f.rows
   all_basics =
-      count_same n basic (member f.rows (basic_at t)) basic_member ∙ count_members f.rows n (basic_at t) g.in_range (λ i r h l e. apart f.rows (entry_at t) (basic_at t) g.units i r h l e)
+      count_same n basic (member f.rows (basic_at t)) basic_member ∙ count_members f.rows n
+      (basic_at t) g.in_range (λ i r h l e. apart f.rows (entry_at t) (basic_at t) g.units i r h l e)
 
   -- ---- a row's logical and its artificial are not both basic, since their columns are the same but for a sign
   logical_entry : (r i : ℕ) → r < f.rows → i < f.rows → entry_at t r (f.cols + i) ≡ g.forth.0 r i
   logical_entry r i h l =
       g.forth.1 r (f.cols + i) h
-      ∙ sum_below_same f.rows _ (λ s. delta i s *ℚ g.forth.0 r s) (λ s q. ap (λ a. g.forth.0 r s *ℚ a) (row_logical f starts s i l ∙ delta_sym s i) ∙ *ℚ_comm (g.forth.0 r s) (delta i s))
+      ∙ sum_below_same f.rows _ (λ s. delta i s *ℚ g.forth.0 r s) (λ s q.
+      ap (λ a. g.forth.0 r s *ℚ a) (row_logical f starts s i l ∙ delta_sym s i) ∙ *ℚ_comm (g.forth.0 r s) (delta i s))
       ∙ sum_below-delta f.rows i (g.forth.0 r) l
 
   artificial_entry : (r i : ℕ) → r < f.rows → i < f.rows →
@@ -81,7 +87,9 @@ module _ (f : Form) (starts : List (RowStart ℚ)) (cost : ℕ → ℚ) (b : Bou
   artificial_entry r i h l =
       g.forth.1 r (f.cols + f.rows + i) h
       ∙ sum_below_same f.rows _ (λ s. delta i s *ℚ (logical_sign (start_at starts s) *ℚ g.forth.0 r s))
-      (λ s q. ap (λ a. g.forth.0 r s *ℚ a) (row_artificial f starts s i ∙ ap (λ d. logical_sign (start_at starts s) *ℚ d) (delta_sym s i)) ∙ turn (g.forth.0 r s) (logical_sign (start_at starts s)) (delta i s))
+      (λ s q. ap (λ a. g.forth.0 r s *ℚ a)
+      (row_artificial f starts s i ∙ ap (λ d. logical_sign (start_at starts s) *ℚ d) (delta_sym s i))
+      ∙ turn (g.forth.0 r s) (logical_sign (start_at starts s)) (delta i s))
       ∙ sum_below-delta f.rows i (λ s. logical_sign (start_at starts s) *ℚ g.forth.0 r s) l
     where
       turn : (w c d : ℚ) → w *ℚ (c *ℚ d) ≡ d *ℚ (c *ℚ w)
@@ -91,10 +99,13 @@ module _ (f : Form) (starts : List (RowStart ℚ)) (cost : ℕ → ℚ) (b : Bou
   not_both i h p q =
       let v = g.placed (f.cols + i) (omega (arith, h)) (basic_if (status_at t (f.cols + i)) p) in
       let w = g.placed (f.cols + f.rows + i) (omega (arith, h)) (basic_if (status_at t (f.cols + f.rows + i)) q) in
-      let other : w.0 ≢ v.0 = (λ e. let z : f.cols + f.rows + i ≡ f.cols + i = sym w.2 ∙ ap (basic_at t) e ∙ v.2 in omega (arith, h, z)) in
-      let one : g.forth.0 v.0 i ≡ 1ℚ = sym (logical_entry v.0 i v.1 h) ∙ ap (entry_at t v.0) (sym v.2) ∙ g.units v.0 v.0 v.1 v.1 ∙ delta_same v.0 in
+      let other : w.0 ≢ v.0 =
+      (λ e. let z : f.cols + f.rows + i ≡ f.cols + i = sym w.2 ∙ ap (basic_at t) e ∙ v.2 in omega (arith, h, z)) in
+      let one : g.forth.0 v.0 i ≡ 1ℚ =
+      sym (logical_entry v.0 i v.1 h) ∙ ap (entry_at t v.0) (sym v.2) ∙ g.units v.0 v.0 v.1 v.1 ∙ delta_same v.0 in
       let none : logical_sign (start_at starts i) *ℚ g.forth.0 v.0 i ≡ 0ℚ =
-      sym (artificial_entry v.0 i v.1 h) ∙ ap (entry_at t v.0) (sym w.2) ∙ g.units w.0 v.0 w.1 v.1 ∙ delta_other w.0 v.0 other in
+      sym (artificial_entry v.0 i v.1 h) ∙ ap (entry_at t v.0) (sym w.2)
+      ∙ g.units w.0 v.0 w.1 v.1 ∙ delta_other w.0 v.0 other in
       clash (logical_sign (start_at starts i)) (g.forth.0 v.0 i) (sign_square (start_at starts i)) one none
     where
       clash : (s a : ℚ) → s *ℚ s ≡ 1ℚ → a ≡ 1ℚ → s *ℚ a ≡ 0ℚ → ⊥
@@ -110,14 +121,17 @@ module _ (f : Form) (starts : List (RowStart ℚ)) (cost : ℕ → ℚ) (b : Bou
   structural_is : (k : ℕ) → k < f.cols → is_basic (basis_at basis k) ≡ basic k
   structural_is k h =
       ap is_basic (at_is k (omega (arith, h)))
-      ∙ ap (λ c. is_basic (cond (c && is_basic (status_at t (k + t.rows))) Basic (status_at t k))) (lt-leb t.cols k (omega (arith, h, cols)))
+      ∙ ap (λ c. is_basic (cond (c && is_basic (status_at t (k + t.rows))) Basic (status_at t k)))
+      (lt-leb t.cols k (omega (arith, h, cols)))
 
   logical_is : (i : ℕ) → i < f.rows →
       is_basic (basis_at basis (f.cols + i)) ≡ basic (f.cols + i) || basic (f.cols + f.rows + i)
   logical_is i h =
       ap is_basic (at_is (f.cols + i) (omega (arith, h)))
-      ∙ ap (λ c. is_basic (cond (c && is_basic (status_at t (f.cols + i + t.rows))) Basic (status_at t (f.cols + i)))) (le-leb t.cols (f.cols + i) (omega (arith, cols)))
-      ∙ (let z : f.cols + i + t.rows ≡ f.cols + f.rows + i = omega (arith, rows) in ap (λ k. is_basic (cond (is_basic (status_at t k)) Basic (status_at t (f.cols + i)))) z)
+      ∙ ap (λ c. is_basic (cond (c && is_basic (status_at t (f.cols + i + t.rows))) Basic (status_at t (f.cols + i))))
+      (le-leb t.cols (f.cols + i) (omega (arith, cols)))
+      ∙ (let z : f.cols + i + t.rows ≡ f.cols + f.rows + i = omega (arith, rows) in
+      ap (λ k. is_basic (cond (is_basic (status_at t k)) Basic (status_at t (f.cols + i)))) z)
       ∙ by (basic (f.cols + f.rows + i)) (status_at t (f.cols + i))
     where
       by : (c : Bool) (s : Status) → is_basic (cond c Basic s) ≡ is_basic s || c
@@ -135,9 +149,11 @@ module _ (f : Form) (starts : List (RowStart ℚ)) (cost : ℕ → ℚ) (b : Bou
       basics_count basis (f.cols + f.rows) ∙ count_split f.cols f.rows (λ k. is_basic (basis_at basis k))
       ∙ ap₂ ◌+◌
       (count_same f.cols (λ k. is_basic (basis_at basis k)) basic structural_is)
-      (count_same f.rows (λ i. is_basic (basis_at basis (f.cols + i))) (λ i. basic (f.cols + i) || basic (f.cols + f.rows + i)) logical_is
+      (count_same f.rows (λ i. is_basic (basis_at basis (f.cols + i)))
+      (λ i. basic (f.cols + i) || basic (f.cols + f.rows + i)) logical_is
       ∙ count_either f.rows (λ i. basic (f.cols + i)) (λ i. basic (f.cols + f.rows + i)) not_both)
-      ∙ same (count f.cols basic) (count f.rows (λ i. basic (f.cols + i))) (count f.rows (λ i. basic (f.cols + f.rows + i)))
+      ∙ same (count f.cols basic) (count f.rows (λ i. basic (f.cols + i)))
+      (count f.rows (λ i. basic (f.cols + f.rows + i)))
       ∙ sym (ap (λ c. c + count f.rows (λ i. basic (f.cols + f.rows + i))) (count_split f.cols f.rows basic))
       ∙ sym (count_split (f.cols + f.rows) f.rows basic) ∙ all_basics
     where
@@ -150,7 +166,8 @@ module _ (f : Form) (starts : List (RowStart ℚ)) (cost : ℕ → ℚ) (b : Bou
     stand = λ k h. subst (λ s. CanStand s (form_lower f k) (form_upper f k)) (sym (at_is k h))
         (by (nat_le t.cols k && is_basic (status_at t (k + t.rows))) (status_at t k) (form_lower f k) (form_upper f k)
         (stands_can (status_at t k) (form_lower f k) (form_upper f k) (value_at t k)
-        (subst₂ (λ l u. Stands (status_at t k) l u (value_at t k)) (bs.lower k h) (bs.upper k h) (g.stands k (omega (arith, h))))));
+        (subst₂ (λ l u. Stands (status_at t k) l u (value_at t k))
+        (bs.lower k h) (bs.upper k h) (g.stands k (omega (arith, h))))));
     count = basis_count;
   }
     where

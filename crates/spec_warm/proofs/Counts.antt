@@ -1,5 +1,6 @@
 -- How many positions have a column.
-use Rattle.std.proofs.Common.{◌≡◌, ◌≢◌, ℕ, zero, suc, ◌+◌, ◌<◌, ◌≤◌, List, length, get_or, set, Option, Some, None, Bool, true, false, cond, refl, sym, ap, ap₂, ◌∙◌, subst, arith}
+use Rattle.std.proofs.Common.{◌≡◌, ◌≢◌, ℕ, zero, suc, ◌+◌, ◌<◌, ◌≤◌, List, length, get_or, set, Option}
+use Rattle.std.proofs.Common.{Some, None, Bool, true, false, cond, refl, sym, ap, ap₂, ◌∙◌, subst, arith}
 use Rattle.std.proofs.lemmas.List.{get_or-set_same, get_or-set_other}
 use Rattle.spec_pivot.specs.declared.status.Status.{Status}
 use Rattle.spec_pivot.specs.declared.status.Status.TheVariants.{Basic, AtLower, AtUpper, AtZero}
@@ -43,11 +44,13 @@ pub filled_all : (basic : List (Option ℕ)) (n : ℕ) → filled basic n ≡ n 
 filled_all basic zero h i l = absurd (let z : ⊥ = omega (arith, l) in z)
 filled_all basic (suc n) h i l = by (has_none (get_or basic n None)) refl h (filled_all basic n)
   where
-    by : (c : Bool) → has_none (get_or basic n None) ≡ c → filled basic n + cond c 0 1 ≡ suc n → (filled basic n ≡ n → (i : ℕ) → i < n → has_none (get_or basic i None) ≡ false)
+    by : (c : Bool) → has_none (get_or basic n None) ≡ c → filled basic n + cond c 0 1 ≡ suc n →
+        (filled basic n ≡ n → (i : ℕ) → i < n → has_none (get_or basic i None) ≡ false)
         → has_none (get_or basic i None) ≡ false
     by true e h more = absurd (let z : ⊥ = omega (arith, h, filled_most basic n) in z)
     by false e h more =
-        by_eq i n (λ z. ap (λ i. has_none (get_or basic i None)) z ∙ e) (λ z. more (omega (arith, h)) i (omega (arith, l, z)))
+        by_eq i n (λ z. ap (λ i. has_none (get_or basic i None)) z ∙ e)
+        (λ z. more (omega (arith, h)) i (omega (arith, l, z)))
 
 filled_before : (basic : List (Option ℕ)) (p j n : ℕ) → n ≤ p → filled (set basic p (Some j)) n ≡ filled basic n
 filled_before basic p j zero h = refl
@@ -62,11 +65,15 @@ filled_set basic p j zero h l e = absurd (let z : ⊥ = omega (arith, h) in z)
 filled_set basic p j (suc n) h l e =
     by_eq p n
     (λ z. subst (λ n. filled (set basic p (Some j)) (suc n) ≡ filled basic (suc n) + 1) z
-    (ap₂ (λ c o. c + cond (has_none o) 0 1) (filled_before basic p j p (omega arith)) (get_or-set_same basic p (Some j) None l)
-    ∙ sym (ap (λ c. filled basic p + cond c 0 1 + 1) e ∙ (let y : filled basic p + 0 + 1 ≡ filled basic p + 1 = omega arith in y))))
-    (λ z. let rest : filled (set basic p (Some j)) n ≡ filled basic n + 1 = filled_set basic p j n (omega (arith, h, z)) l e in
+    (ap₂ (λ c o. c + cond (has_none o) 0 1) (filled_before basic p j p (omega arith))
+    (get_or-set_same basic p (Some j) None l)
+    ∙ sym (ap (λ c. filled basic p + cond c 0 1 + 1) e
+    ∙ (let y : filled basic p + 0 + 1 ≡ filled basic p + 1 = omega arith in y))))
+    (λ z. let rest : filled (set basic p (Some j)) n ≡ filled basic n + 1 =
+    filled_set basic p j n (omega (arith, h, z)) l e in
     ap₂ (λ c o. c + cond (has_none o) 0 1) rest (get_or-set_other basic p n (Some j) None (λ y. z (sym y)))
-    ∙ (let y : filled basic n + 1 + cond (has_none (get_or basic n None)) 0 1 ≡ filled basic n + cond (has_none (get_or basic n None)) 0 1 + 1 = omega arith in y))
+    ∙ (let y : filled basic n + 1 + cond (has_none (get_or basic n None)) 0 1
+    ≡ filled basic n + cond (has_none (get_or basic n None)) 0 1 + 1 = omega arith in y))
 
 -- where a position has none, it has none of all columns
 pub none_is : (o : Option ℕ) → has_none o ≡ true → (k : ℕ) → o ≢ Some k

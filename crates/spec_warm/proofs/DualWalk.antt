@@ -13,7 +13,8 @@ use Rattle.spec_dual.specs.Dual.{Leaves, IsCheapest, after_dual}
 use Rattle.spec_simplex.specs.declared.ends.DualChoice.{DualChoice}
 use Rattle.spec_simplex.specs.declared.ends.DualChoice.TheVariants.{End, Pivot}
 use Rattle.spec_warm.specs.Based.{IsReady, IsDualStep, IsDualMeant}
-use Rattle.spec_simplex.specs.Dual.{passed_bound, dual_choice_run, dual_pivot_run, DualEnded, dual_end_or_spent, dual_end_or_next, dual_from}
+use Rattle.spec_simplex.specs.Dual.{passed_bound, dual_choice_run, dual_pivot_run, DualEnded}
+use Rattle.spec_simplex.specs.Dual.{dual_end_or_spent, dual_end_or_next, dual_from}
 use Rattle.spec_warm.proofs.Stepped.{choice_meant, pivot_ready, pivot_table}
 
 module _ (limit : Option ℕ) (m n : ℕ) (f : Matrix) (cost : ℕ → ℚ) (b : Bounds) where
@@ -23,7 +24,8 @@ module _ (limit : Option ℕ) (m n : ℕ) (f : Matrix) (cost : ℕ → ℚ) (b :
   pub ready_meant : (t : Tableau) (choice : DualChoice) → IsReady m n f cost b t → dual_choice_run limit t ≡ Ok choice →
       IsDualMeant m n b t choice
   ready_meant t choice s h =
-      subst₂ (λ m n. IsDualMeant m n b t choice) s.based.rows s.based.cols (choice_meant limit f cost b t (own_ready t s).based choice h)
+      subst₂ (λ m n. IsDualMeant m n b t choice) s.based.rows s.based.cols
+      (choice_meant limit f cost b t (own_ready t s).based choice h)
 
   pub ready_next : (t u : Tableau) (p j : ℕ) (below : Bool) → IsReady m n f cost b t → IsDualStep m n b t p j below →
       dual_pivot_run limit t p j (passed_bound below) ≡ Ok u → IsReady m n f cost b u
@@ -32,17 +34,20 @@ module _ (limit : Option ℕ) (m n : ℕ) (f : Matrix) (cost : ℕ → ℚ) (b :
       (pivot_ready limit f cost b t (own_ready t s).based (own_ready t s).feasible p j below
       (subst₂ (λ m n. IsDualStep m n b t p j below) (sym s.based.rows) (sym s.based.cols) d) u h)
 
-  pub next_table : (t u : Tableau) (p j : ℕ) (below : Bool) → IsReady m n f cost b t → (d : IsDualStep m n b t p j below) → dual_pivot_run limit t p j (passed_bound below) ≡ Ok u
+  pub next_table : (t u : Tableau) (p j : ℕ) (below : Bool) → IsReady m n f cost b t →
+      (d : IsDualStep m n b t p j below) → dual_pivot_run limit t p j (passed_bound below) ≡ Ok u
       → table_of u ≡ after_dual m (table_of t) (way below) p j d.bound
   next_table t u p j below s d h =
-      pivot_table limit f cost b t (own_ready t s).based (own_ready t s).feasible p j below own u h ∙ ap (λ m. after_dual m (table_of t) (way below) p j d.bound) s.based.rows
+      pivot_table limit f cost b t (own_ready t s).based (own_ready t s).feasible p j below own u h
+      ∙ ap (λ m. after_dual m (table_of t) (way below) p j d.bound) s.based.rows
     where
       own : IsDualStep t.rows t.cols b t p j below
       own = record {
         bound = d.bound;
         leaves = subst (λ m. Leaves m b (table_of t) (way below) p d.bound) (sym s.based.rows) d.leaves;
         cheapest =
-            subst₂ (λ m n. IsCheapest (n + m + m) b (table_of t) (way below) p j) (sym s.based.rows) (sym s.based.cols) d.cheapest;
+            subst₂ (λ m n. IsCheapest (n + m + m) b (table_of t) (way below) p j)
+            (sym s.based.rows) (sym s.based.cols) d.cheapest;
       }
 
   -- what is known of an end
@@ -58,13 +63,16 @@ module _ (limit : Option ℕ) (m n : ℕ) (f : Matrix) (cost : ℕ → ℚ) (b :
   ends_here t used e (Pivot p j to) s c h =
       let z : ◌≡◌ {A = Result DualEnded (RunStop ℚ)} (Err stop.Spent) (Ok e) = h in cc
 
-  goes_on : (t : Tableau) (used : ℕ) (e : DualEnded) (next : Tableau → Result DualEnded (RunStop ℚ)) (choice : DualChoice) → IsReady m n f cost b t → dual_choice_run limit t ≡ Ok choice → dual_end_or_next limit t used next choice ≡ Ok e
+  goes_on : (t : Tableau) (used : ℕ) (e : DualEnded) (next : Tableau → Result DualEnded (RunStop ℚ))
+      (choice : DualChoice) → IsReady m n f cost b t →
+      dual_choice_run limit t ≡ Ok choice → dual_end_or_next limit t used next choice ≡ Ok e
       → ((u : Tableau) → IsReady m n f cost b u → next u ≡ Ok e → IsDualEnd e) → IsDualEnd e
   goes_on t used e next (End end) s c h more = ends_here t used e (End end) s c h
   goes_on t used e next (Pivot p j to) s c h more =
       let o = then_ok (refused_as stop.Past (dual_pivot_run limit t p j to)) next e h in
       let d = ready_meant t (Pivot p j to) s c in
-      more o.0 (ready_next t o.0 p j d.0 s d.1 (ap (dual_pivot_run limit t p j) (sym d.2) ∙ refused_ok stop.Past (dual_pivot_run limit t p j to) o.0 o.1)) o.2
+      more o.0 (ready_next t o.0 p j d.0 s d.1
+      (ap (dual_pivot_run limit t p j) (sym d.2) ∙ refused_ok stop.Past (dual_pivot_run limit t p j to) o.0 o.1)) o.2
 
   pub dual_ends : (left used : ℕ) (t : Tableau) (e : DualEnded) → IsReady m n f cost b t →
       dual_from limit left used t ≡ Ok e → IsDualEnd e
@@ -73,6 +81,9 @@ module _ (limit : Option ℕ) (m n : ℕ) (f : Matrix) (cost : ℕ → ℚ) (b :
       let o = then_ok (refused_as stop.Past (dual_choice_run limit t)) (dual_end_or_spent t used) e h in
       ends_here t used e o.0 s (refused_ok stop.Past (dual_choice_run limit t) o.0 o.1) o.2
   dual_ends (suc left) used t e s h =
-      let o = then_ok (refused_as stop.Past (dual_choice_run limit t)) (dual_end_or_next limit t used (λ u. dual_from limit left (used + 1) u)) e h in
-      goes_on t used e (λ u. dual_from limit left (used + 1) u) o.0 s (refused_ok stop.Past (dual_choice_run limit t) o.0 o.1) o.2
+      let o =
+      then_ok (refused_as stop.Past (dual_choice_run limit t))
+      (dual_end_or_next limit t used (λ u. dual_from limit left (used + 1) u)) e h in
+      goes_on t used e (λ u. dual_from limit left (used + 1) u) o.0 s
+      (refused_ok stop.Past (dual_choice_run limit t) o.0 o.1) o.2
       (λ u r g. dual_ends left (used + 1) u e r g)

@@ -1,5 +1,7 @@
 -- Elimination keeps the span of the equations, and makes the basic columns those of the unit matrix.
-use Rattle.std.proofs.Common.{◌≡◌, ◌≢◌, ℕ, zero, suc, ◌+◌, ◌<◌, List, [], length, get_or, set, Option, Some, None, Result, Ok, Err, Bool, true, false, not, ◌&&◌, cond, refl, sym, ap, ◌∙◌, subst, subst₂, arith}
+use Rattle.std.proofs.Common.{◌≡◌, ◌≢◌, ℕ, zero, suc, ◌+◌, ◌<◌, List, [], length, get_or}
+use Rattle.std.proofs.Common.{set, Option, Some, None, Result, Ok, Err, Bool, true, false}
+use Rattle.std.proofs.Common.{not, ◌&&◌, cond, refl, sym, ap, ◌∙◌, subst, subst₂, arith}
 use Rattle.std.proofs.Math.Path.{fun_ext}
 use Rattle.std.proofs.lemmas.List.{length-set, length-replicate, get_or-set_same, get_or-set_other, get_or-replicate}
 use Rattle.spec_exact.specs.Fraction.{ℚ, 0ℚ, eq_ℚ}
@@ -19,7 +21,8 @@ use Rattle.spec_cold.proofs.Turned.{turned_rows, turned_whole, turned_entry}
 use Rattle.spec_simplex.specs.declared.ends.StartStop.{StartStop}
 use Rattle.spec_simplex.specs.declared.ends.StartStop.TheVariants as stop
 use Rattle.spec_warm.specs.Based.{equations}
-use Rattle.spec_simplex.specs.Eliminate.{basis_at, basics_below, Elimination, equation, unsolved, has_none, is_open, or_place, open_below, solved_at, solved_by, solved_run, eliminate_run}
+use Rattle.spec_simplex.specs.Eliminate.{basis_at, basics_below, Elimination, equation, unsolved, has_none, is_open}
+use Rattle.spec_simplex.specs.Eliminate.{or_place, open_below, solved_at, solved_by, solved_run, eliminate_run}
 use Rattle.spec_warm.proofs.Counts.{basic_if, basic_test, filled, filled_set, none_is}
 use Rattle.spec_warm.proofs.Unsolved.{unsolved_length, unsolved_forth, unsolved_back}
 
@@ -35,7 +38,11 @@ open_means e j n p h o = by (has_none (get_or e.basic p None)) (eq_ℚ (at_place
     by : (c d : Bool) → has_none (get_or e.basic p None) ≡ c → eq_ℚ (at_place e.rows p j) 0ℚ ≡ d → c && not d ≡ true →
         IsOpen e j n p
     by true false c d o =
-        record { position = h; free = c; entry = λ z. let y : false ≡ true = sym d ∙ eq_test (at_place e.rows p j) 0ℚ z in cc }
+        record {
+          position = h;
+          free = c;
+          entry = λ z. let y : false ≡ true = sym d ∙ eq_test (at_place e.rows p j) 0ℚ z in cc;
+        }
     by true true c d o = let z : false ≡ true = o in cc
     by false d c y o = let z : false ≡ true = o in cc
 
@@ -78,7 +85,8 @@ module _ (limit : Option ℕ) (f : Form) (basis : List Status) where
   none_filled zero h = refl
   none_filled (suc i) h =
       ap (λ o. filled (unsolved f).basic i + cond (has_none o) 0 1) (none_yet i (omega (arith, h)))
-      ∙ (let z : filled (unsolved f).basic i ≡ 0 = none_filled i (omega (arith, h)) in let y : filled (unsolved f).basic i + 0 ≡ 0 = omega (arith, z) in y)
+      ∙ (let z : filled (unsolved f).basic i ≡ 0 = none_filled i (omega (arith, h)) in
+      let y : filled (unsolved f).basic i + 0 ≡ 0 = omega (arith, z) in y)
 
   begins : Solving 0 (unsolved f)
   begins = record {
@@ -107,18 +115,21 @@ module _ (limit : Option ℕ) (f : Form) (basis : List Status) where
         (λ z. s.placed k (omega (arith, h, z)) b);
     only = λ i k h z. let o = s.only i k h z in (omega (arith, o.0), o.1);
     count =
-        s.count ∙ sym (ap (λ c. basics_below basis j + cond c 1 0) c ∙ (let z : basics_below basis j + 0 ≡ basics_below basis j = omega arith in z));
+        s.count ∙ sym (ap (λ c. basics_below basis j + cond c 1 0) c
+        ∙ (let z : basics_below basis j + 0 ≡ basics_below basis j = omega arith in z));
   }
 
   -- ---- one that is
-  module _ (j : ℕ) (e : Elimination) (s : Solving j e) (b : basis_at basis j ≡ Basic) (p : ℕ) (o : IsOpen e j f.rows p) (rows : List (List ℚ))
+  module _ (j : ℕ) (e : Elimination) (s : Solving j e) (b : basis_at basis j ≡ Basic)
+      (p : ℕ) (o : IsOpen e j f.rows p) (rows : List (List ℚ))
       (ok : turned_run limit f.rows (f.cols + f.rows + f.rows) e.rows p j ≡ Ok rows) where
     abbrev next : Elimination
     next = record { rows = rows; basic = set e.basic p (Some j) }
 
     entries : at_place rows ≡ pivoted (at_place e.rows) p j
     entries =
-        fun_ext (λ i. fun_ext (λ k. turned_entry limit f.rows (f.cols + f.rows + f.rows) e.rows s.all_rows s.whole_rows p j o.position rows ok i k))
+        fun_ext (λ i. fun_ext (λ k. turned_entry limit f.rows
+        (f.cols + f.rows + f.rows) e.rows s.all_rows s.whole_rows p j o.position rows ok i k))
 
     p_in : p < length e.basic
     p_in = omega (arith, o.position, s.all_basic)
@@ -127,14 +138,16 @@ module _ (limit : Option ℕ) (f : Form) (basis : List Status) where
         (i ≢ p → get_or e.basic i None ≡ Some k → P) → P
     by_place i k h f g =
         by_eq i p
-        (λ z. f z (let y : Some j ≡ Some k = sym (get_or-set_same e.basic p (Some j) None p_in) ∙ ap (λ i. get_or (set e.basic p (Some j)) i None) (sym z) ∙ h in let x : k ≡ j = cc in x))
+        (λ z. f z (let y : Some j ≡ Some k = sym (get_or-set_same e.basic p (Some j) None p_in)
+        ∙ ap (λ i. get_or (set e.basic p (Some j)) i None) (sym z) ∙ h in let x : k ≡ j = cc in x))
         (λ z. g z (sym (get_or-set_other e.basic p i (Some j) None z) ∙ h))
 
     units_kept : (i k r : ℕ) → i < f.rows → r < f.rows → get_or (set e.basic p (Some j)) i None ≡ Some k →
         pivoted (at_place e.rows) p j r k ≡ delta i r
     units_kept i k r h l e' =
         by_place i k e'
-        (λ z y. subst₂ (λ i k. pivoted (at_place e.rows) p j r k ≡ delta i r) (sym z) (sym y) (new_unit (at_place e.rows) p j r o.entry))
+        (λ z y. subst₂ (λ i k. pivoted (at_place e.rows) p j r k ≡ delta i r)
+        (sym z) (sym y) (new_unit (at_place e.rows) p j r o.entry))
         (λ z y. kept (at_place e.rows) p j r k (s.units i k p h o.position y ∙ delta_other i p z) ∙ s.units i k r h l y)
 
     solved : Solving (suc j) next
@@ -145,19 +158,26 @@ module _ (limit : Option ℕ) (f : Form) (basis : List Status) where
           turned_whole limit f.rows (f.cols + f.rows + f.rows) e.rows s.all_rows s.whole_rows p j o.position rows ok;
       all_basic = length-set e.basic p (Some j) ∙ s.all_basic;
       forth =
-          subst (λ t. Spans f.rows t (equations f)) (sym entries) (Spans_trans f.rows _ _ _ (forth f.rows (at_place e.rows) p j o.position) s.forth);
+          subst (λ t. Spans f.rows t (equations f)) (sym entries)
+          (Spans_trans f.rows _ _ _ (forth f.rows (at_place e.rows) p j o.position) s.forth);
       back =
-          subst (λ t. Spans f.rows (equations f) t) (sym entries) (Spans_trans f.rows _ _ _ s.back (back f.rows (at_place e.rows) p j o.position o.entry));
+          subst (λ t. Spans f.rows (equations f) t) (sym entries)
+          (Spans_trans f.rows _ _ _ s.back (back f.rows (at_place e.rows) p j o.position o.entry));
       units = λ i k r h l y. ap (λ t. t r k) entries ∙ units_kept i k r h l y;
       placed = λ k h y. by_eq k j
           (λ z. (p, o.position, get_or-set_same e.basic p (Some j) None p_in ∙ ap Some (sym z)))
-          (λ z. let w = s.placed k (omega (arith, h, z)) y in
-          (w.0, w.1, get_or-set_other e.basic p w.0 (Some j) None (λ x. none_is (get_or e.basic p None) o.free k (ap (λ i. get_or e.basic i None) (sym x) ∙ w.2)) ∙ w.2));
+          (λ z. let w = s.placed k (omega (arith, h, z)) y in (
+            w.0,
+            w.1,
+            get_or-set_other e.basic p w.0 (Some j) None
+                (λ x. none_is (get_or e.basic p None) o.free k (ap (λ i. get_or e.basic i None) (sym x) ∙ w.2)) ∙ w.2,
+          ));
       only = λ i k h y. by_place i k y
           (λ z x. (omega (arith, x), ap (basis_at basis) x ∙ b))
           (λ z x. let w = s.only i k h x in (omega (arith, w.0), w.1));
       count =
-          filled_set e.basic p j f.rows o.position p_in o.free ∙ ap (λ c. c + 1) s.count ∙ sym (ap (λ c. basics_below basis j + cond c 1 0) (basic_test (basis_at basis j) b));
+          filled_set e.basic p j f.rows o.position p_in o.free ∙ ap (λ c. c + 1) s.count
+          ∙ sym (ap (λ c. basics_below basis j + cond c 1 0) (basic_test (basis_at basis j) b));
     }
 
   -- ---- the run
@@ -168,7 +188,9 @@ module _ (limit : Option ℕ) (f : Form) (basis : List Status) where
       taken : (p : ℕ) → open_below e j f.rows ≡ Some p → basis_at basis j ≡ Basic →
           refused_as stop.Past (solved_at limit f e j p) ≡ Ok u → Solving (suc j) u
       taken p o b h =
-          let a = then_ok (turned_run limit f.rows (f.cols + f.rows + f.rows) e.rows p j) _ u (refused_ok stop.Past (solved_at limit f e j p) u h) in
+          let a =
+          then_ok (turned_run limit f.rows (f.cols + f.rows + f.rows) e.rows p j) _ u
+          (refused_ok stop.Past (solved_at limit f e j p) u h) in
           let z : ◌≡◌ {A = Elimination} (record { rows = a.0; basic = set e.basic p (Some j) }) u = cc in
           subst (Solving (suc j)) z (solved j e s b p (open_is e j f.rows p o) a.0 a.1)
 
@@ -187,7 +209,8 @@ module _ (limit : Option ℕ) (f : Form) (basis : List Status) where
       steps j (λ j e. cond (is_basic (basis_at basis j)) (solved_run limit f e j) (Ok e)) (unsolved f) ≡ Ok e →
       Solving j e
   eliminated_below j e h =
-      steps_ok Solving j (λ j e. cond (is_basic (basis_at basis j)) (solved_run limit f e j) (Ok e)) (unsolved f) e h begins (λ i x y l s k. step i x y s k)
+      steps_ok Solving j (λ j e. cond (is_basic (basis_at basis j)) (solved_run limit f e j) (Ok e))
+      (unsolved f) e h begins (λ i x y l s k. step i x y s k)
 
   pub eliminated : (e : Elimination) → eliminate_run limit f basis ≡ Ok e → Solving (f.cols + f.rows) e
   unfolding eliminate_run

@@ -18,7 +18,8 @@ use Rattle.spec_dual.specs.Dual.{Refutes}
 use Rattle.spec_warm.specs.Based.{equations}
 
 module _ (m : Model) (ls : List (Option ℚ × Option ℚ)) (h : Limited m ls) (b : Bounds) (bs : HasBounds (formed m ls) b)
-    (fixed : (i : ℕ) → i < height m → (b.lower (width m + height m + i) ≡ Some 0ℚ) × (b.upper (width m + height m + i) ≡ Some 0ℚ))
+    (fixed : (i : ℕ) → i < height m →
+    (b.lower (width m + height m + i) ≡ Some 0ℚ) × (b.upper (width m + height m + i) ≡ Some 0ℚ))
     (a stops : ℕ → ℚ) (refutes : Refutes (height m) (width m + height m + height m) (equations (formed m ls)) b a stops)
     (y : List ℚ) (y_at : (i : ℕ) → i < height m → part y i ≡ a (width m + i)) where
   abbrev w : ℕ
@@ -31,7 +32,8 @@ module _ (m : Model) (ls : List (Option ℚ × Option ℚ)) (h : Limited m ls) (
   less : (k : ℕ) → a k ≡ 0ℚ -ℚ sum_below r (λ i. neg_ℚ (refutes.weights i) *ℚ equations (formed m ls) i k)
   less k =
       refutes.combined k ∙ sym (neg-neg _)
-      ∙ ap neg_ℚ (neg-sum_below r (λ i. refutes.weights i *ℚ equations (formed m ls) i k) ∙ sum_below_same r _ _ (λ i _. turn (refutes.weights i) (equations (formed m ls) i k)))
+      ∙ ap neg_ℚ (neg-sum_below r (λ i. refutes.weights i *ℚ equations (formed m ls) i k)
+      ∙ sum_below_same r _ _ (λ i _. turn (refutes.weights i) (equations (formed m ls) i k)))
       ∙ sym (zero-+ℚ _)
     where
       turn : (w f : ℚ) → neg_ℚ (w *ℚ f) ≡ neg_ℚ w *ℚ f
@@ -43,7 +45,8 @@ module _ (m : Model) (ls : List (Option ℚ × Option ℚ)) (h : Limited m ls) (
   priced_at : (j : ℕ) → j < w → a j ≡ neg_ℚ (priced m y j)
   priced_at j p =
       column_at m ls h [] (λ _. 0ℚ) a (λ i. neg_ℚ (refutes.weights i)) less j p
-      ∙ ap (λ c. 0ℚ -ℚ c) (sum_below_same r _ (λ i. part y i *ℚ coefficient m i j) (λ i q. ap (λ a. a *ℚ coefficient m i j) (sym (multiplier i q))))
+      ∙ ap (λ c. 0ℚ -ℚ c) (sum_below_same r _ (λ i. part y i *ℚ coefficient m i j)
+      (λ i q. ap (λ a. a *ℚ coefficient m i j) (sym (multiplier i q))))
       ∙ zero-+ℚ _
 
   tight_at : (k : ℕ) → k < w + r + r → IsTight (limits_at b k) (a k) (stops k)
@@ -52,7 +55,8 @@ module _ (m : Model) (ls : List (Option ℚ × Option ℚ)) (h : Limited m ls) (
   row_tight : (i : ℕ) → i < r → IsTight (limits m i) (part y i) (stops (w + i))
   row_tight i p =
       subst (λ d. IsTight (limits m i) d (stops (w + i))) (sym (y_at i p))
-      (bounds_logical m ls h [] b bs (λ x. IsTight x (a (w + i)) (stops (w + i))) i p (tight_at (w + i) (omega (arith, p))))
+      (bounds_logical m ls h [] b bs (λ x. IsTight x (a (w + i)) (stops (w + i))) i p
+      (tight_at (w + i) (omega (arith, p))))
 
   column_tight : (j : ℕ) → j < w → IsTight (turned_limits (bounds m j)) (priced m y j) (stops j)
   column_tight j p =
@@ -68,12 +72,15 @@ module _ (m : Model) (ls : List (Option ℚ × Option ℚ)) (h : Limited m ls) (
   asks_is : rows_ask m y ≡ B
   unfolding B
   asks_is =
-      sum_below_same r _ _ (λ i p. asked_is (limits m i) (part y i) (stops (w + i)) (row_tight i p) ∙ ap (λ d. d *ℚ stops (w + i)) (y_at i p))
+      sum_below_same r _ _ (λ i p. asked_is (limits m i) (part y i) (stops (w + i)) (row_tight i p)
+      ∙ ap (λ d. d *ℚ stops (w + i)) (y_at i p))
 
   gives_is : columns_give m y ≡ neg_ℚ A
   unfolding A
   gives_is =
-      sum_below_same w _ (λ j. neg_ℚ (a j *ℚ stops j)) (λ j p. asked_is (turned_limits (bounds m j)) (priced m y j) (stops j) (column_tight j p) ∙ turn (priced m y j) (a j) (stops j) (priced_at j p))
+      sum_below_same w _ (λ j. neg_ℚ (a j *ℚ stops j))
+      (λ j p. asked_is (turned_limits (bounds m j)) (priced m y j) (stops j) (column_tight j p)
+      ∙ turn (priced m y j) (a j) (stops j) (priced_at j p))
       ∙ sym (neg-sum_below w (λ j. a j *ℚ stops j))
     where
       turn : (p d v : ℚ) → d ≡ neg_ℚ p → p *ℚ v ≡ neg_ℚ (d *ℚ v)
@@ -86,8 +93,10 @@ module _ (m : Model) (ls : List (Option ℚ × Option ℚ)) (h : Limited m ls) (
   no_part : (i : ℕ) → i < r → a (w + r + i) *ℚ stops (w + r + i) ≡ 0ℚ
   no_part i p =
       by_sign (a (w + r + i))
-      (λ q. none (let z : Some 0ℚ ≡ Some (stops (w + r + i)) = sym (fixed i p).0 ∙ refutes.above (w + r + i) (omega (arith, p)) q in cc))
-      (λ q. none (let z : Some 0ℚ ≡ Some (stops (w + r + i)) = sym (fixed i p).1 ∙ refutes.below (w + r + i) (omega (arith, p)) q in cc))
+      (λ q. none (let z : Some 0ℚ ≡ Some (stops (w + r + i)) =
+      sym (fixed i p).0 ∙ refutes.above (w + r + i) (omega (arith, p)) q in cc))
+      (λ q. none (let z : Some 0ℚ ≡ Some (stops (w + r + i)) =
+      sym (fixed i p).1 ∙ refutes.below (w + r + i) (omega (arith, p)) q in cc))
       (λ e. ap (λ d. d *ℚ stops (w + r + i)) e ∙ zero-*ℚ _)
     where
       none : 0ℚ ≡ stops (w + r + i) → a (w + r + i) *ℚ stops (w + r + i) ≡ 0ℚ
@@ -96,7 +105,9 @@ module _ (m : Model) (ls : List (Option ℚ × Option ℚ)) (h : Limited m ls) (
   balance : sum_below (w + r + r) (λ k. a k *ℚ stops k) ≡ A +ℚ B
   unfolding A B
   balance =
-      sum_by_kind w r (λ k. a k *ℚ stops k) ∙ ap (λ z. (sum_below w (λ j. a j *ℚ stops j) +ℚ sum_below r (λ i. a (w + i) *ℚ stops (w + i))) +ℚ z) (sum_below_none r _ no_part) ∙ +ℚ_zero _
+      sum_by_kind w r (λ k. a k *ℚ stops k)
+      ∙ ap (λ z. (sum_below w (λ j. a j *ℚ stops j) +ℚ sum_below r (λ i. a (w + i) *ℚ stops (w + i))) +ℚ z)
+      (sum_below_none r _ no_part) ∙ +ℚ_zero _
 
   apart : (a c : ℚ) → 0ℚ <ℚ (a +ℚ c) → neg_ℚ a <ℚ c
   apart a c p = subst₂ ◌<ℚ◌ (zero-+ℚ (neg_ℚ a)) (close a c) (+ℚ_strict 0ℚ (a +ℚ c) (neg_ℚ a) p)

@@ -1,5 +1,6 @@
 -- The first basic column that is outside its bounds, and what the fit of a tableau means.
-use Rattle.std.proofs.Common.{◌≡◌, ℕ, zero, suc, ◌<◌, Option, Some, None, IfSome, Ok, Bool, true, false, ◌&&◌, cond, option_map, refl, sym, ap, ◌∙◌, subst, arith}
+use Rattle.std.proofs.Common.{◌≡◌, ℕ, zero, suc, ◌<◌, Option, Some, None, IfSome, Ok, Bool, true}
+use Rattle.std.proofs.Common.{false, ◌&&◌, cond, option_map, refl, sym, ap, ◌∙◌, subst, arith}
 use Rattle.std.specs.declared.cmp.Ordering.{Ordering}
 use Rattle.std.specs.declared.cmp.Ordering.TheVariants.{Less, Equal, Greater}
 use Rattle.spec_exact.specs.Fraction.{ℚ, 0ℚ, ◌≤ℚ◌, ◌<ℚ◌}
@@ -20,7 +21,9 @@ use Rattle.spec_dual.specs.Dual.{Suits, IsPast}
 use Rattle.spec_simplex.specs.declared.ends.Fit.{Fit}
 use Rattle.spec_simplex.specs.declared.ends.Fit.TheVariants.{Primal, Dual, Unfit}
 use Rattle.spec_simplex.specs.declared.ends.Leaving.{Leaving}
-use Rattle.spec_simplex.specs.Fit.{is_less, is_greater, below_lower, above_upper, outside_by, outside_run, leaving_at, leaving_with, leaving_run, needs_flip, meets_need, meets_need_at, all_meet, fit_by, fit_run}
+use Rattle.spec_simplex.specs.Fit.{is_less, is_greater, below_lower, above_upper, outside_by}
+use Rattle.spec_simplex.specs.Fit.{outside_run, leaving_at, leaving_with, leaving_run, needs_flip}
+use Rattle.spec_simplex.specs.Fit.{meets_need, meets_need_at, all_meet, fit_by, fit_run}
 use Rattle.spec_warm.proofs.Counts.{basic_if, basic_test}
 
 -- ---- one value
@@ -98,7 +101,9 @@ module _ (limit : Option ℕ) (t : Tableau) where
   here_is : (k : ℕ) (x : Option Leaving) → status_at t k ≡ Basic → LeavingIs t k None → leaving_at limit t k ≡ Ok x →
       LeavingIs t (suc k) x
   here_is k x b before h =
-      let o = then_ok (outside_run limit (lower_at t k) (upper_at t k) (value_at t k)) (λ side. Ok (option_map (λ below. record { col = k; below = below }) side)) x h in
+      let o =
+      then_ok (outside_run limit (lower_at t k) (upper_at t k) (value_at t k))
+      (λ side. Ok (option_map (λ below. record { col = k; below = below }) side)) x h in
       by o.0 (outside_is limit (lower_at t k) (upper_at t k) (value_at t k) o.0 o.1) o.2
     where
       by : (side : Option Bool) → OutsideIs (lower_at t k) (upper_at t k) (value_at t k) side →
@@ -106,7 +111,8 @@ module _ (limit : Option ℕ) (t : Tableau) where
           LeavingIs t (suc k) x
       by None i h =
           let z : None ≡ x = cc in
-          subst (LeavingIs t (suc k)) z (λ j l e. by_eq j k (λ y. subst (InsideAt t) (sym y) i) (λ y. before j (omega (arith, l, y)) e))
+          subst (LeavingIs t (suc k)) z
+          (λ j l e. by_eq j k (λ y. subst (InsideAt t) (sym y) i) (λ y. before j (omega (arith, l, y)) e))
       by (Some below) i h =
           let z : ◌≡◌ {A = Option Leaving} (Some (record { col = k; below = below })) x = cc in
           subst (LeavingIs t (suc k)) z (record { inside = omega arith; basic = b; bound = i.0; past = i.1 })
@@ -115,7 +121,8 @@ module _ (limit : Option ℕ) (t : Tableau) where
       leaving_with limit t k x ≡ Ok y → LeavingIs t (suc k) y
   leaving_step k (Some x) y l was h =
       let z : Some x ≡ y = cc in
-      subst (LeavingIs t (suc k)) z (record { inside = omega (arith, was.inside); basic = was.basic; bound = was.bound; past = was.past })
+      subst (LeavingIs t (suc k)) z
+      (record { inside = omega (arith, was.inside); basic = was.basic; bound = was.bound; past = was.past })
   leaving_step k None y l was h = by (is_basic (status_at t k)) refl h
     where
       by : (c : Bool) → is_basic (status_at t k) ≡ c → cond c (leaving_at limit t k) (Ok None) ≡ Ok y →
@@ -124,11 +131,14 @@ module _ (limit : Option ℕ) (t : Tableau) where
       by false c h =
           let z : None ≡ y = cc in
           subst (LeavingIs t (suc k)) z
-          (λ j q e. by_eq j k (λ z. let y : false ≡ true = sym c ∙ basic_test (status_at t k) (ap (status_at t) (sym z) ∙ e) in cc) (λ z. was j (omega (arith, q, z)) e))
+          (λ j q e. by_eq j k
+          (λ z. let y : false ≡ true = sym c ∙ basic_test (status_at t k) (ap (status_at t) (sym z) ∙ e) in cc)
+          (λ z. was j (omega (arith, q, z)) e))
 
   pub leaving_is : (x : Option Leaving) → leaving_run limit t ≡ Ok x → LeavingIs t (all_columns t) x
   leaving_is x h =
-      steps_ok (LeavingIs t) (all_columns t) (leaving_with limit t) None x h (λ k l. absurd (let z : ⊥ = omega (arith, l) in z)) leaving_step
+      steps_ok (LeavingIs t) (all_columns t) (leaving_with limit t) None x h
+      (λ k l. absurd (let z : ⊥ = omega (arith, l) in z)) leaving_step
 
 -- ---- needs of reduced costs
 two_true : (a c : Bool) → a && c ≡ true → (a ≡ true) × (c ≡ true)

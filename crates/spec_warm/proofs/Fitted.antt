@@ -16,7 +16,8 @@ use Rattle.spec_warm.proofs.Bounded.{own_counts, lower_same, upper_same}
 use Rattle.spec_warm.proofs.Fits.{fit_is}
 use Rattle.spec_warm.proofs.Flipped.{flips_ready}
 
-module _ (limit : Option ℕ) (m n : ℕ) (f : Matrix) (cost : ℕ → ℚ) (b : Bounds) (t : Tableau) (s : IsBased m n f cost b t) where
+module _ (limit : Option ℕ) (m n : ℕ) (f : Matrix) (cost : ℕ → ℚ)
+    (b : Bounds) (t : Tableau) (s : IsBased m n f cost b t) where
   own : IsBased t.rows t.cols f cost b t
   own = own_counts m n f cost b t s
 
@@ -33,7 +34,9 @@ module _ (limit : Option ℕ) (m n : ℕ) (f : Matrix) (cost : ℕ → ℚ) (b :
       inside : (k : ℕ) → k < n + m + m → status_at t k ≡ Basic → IsInside (b.lower k) (b.upper k) (value_at t k)
       inside k l e =
           let q = fit_is limit t Primal h k (omega (arith, l, s.rows, s.cols)) e in
-          subst₂ (λ low high. IsInside low high (value_at t k)) (lower_same f cost b t own k (omega (arith, l, s.rows, s.cols))) (upper_same f cost b t own k (omega (arith, l, s.rows, s.cols))) q
+          subst₂ (λ low high. IsInside low high (value_at t k))
+          (lower_same f cost b t own k (omega (arith, l, s.rows, s.cols)))
+          (upper_same f cost b t own k (omega (arith, l, s.rows, s.cols))) q
 
   pub dual_fit : (budget : ℕ) (r : Reached) → fit_run limit t ≡ Ok Dual → flips_run limit budget t ≡ Ok r →
       IsReady m n f cost b r.tableau

@@ -1,5 +1,6 @@
 -- The flips give each reduced cost the sign that belongs to its status.
-use Rattle.std.proofs.Common.{◌≡◌, ◌≢◌, ℕ, suc, ◌+◌, ◌<◌, ◌≤◌, List, Option, Some, None, Result, Ok, Err, Bool, true, false, not, ◌&&◌, ◌||◌, cond, nat_le, refl, sym, ap, ap₂, ◌∙◌, subst, subst₂, arith}
+use Rattle.std.proofs.Common.{◌≡◌, ◌≢◌, ℕ, suc, ◌+◌, ◌<◌, ◌≤◌, List, Option, Some, None, Result, Ok, Err, Bool, true}
+use Rattle.std.proofs.Common.{false, not, ◌&&◌, ◌||◌, cond, nat_le, refl, sym, ap, ap₂, ◌∙◌, subst, subst₂, arith}
 use Rattle.std.proofs.lemmas.List.{get_or-set_same, get_or-set_other}
 use Rattle.spec_exact.specs.Fraction.{ℚ, 0ℚ, ◌+ℚ◌, ◌-ℚ◌, ◌*ℚ◌, lt_ℚ}
 use Rattle.spec_exact.proofs.Order.{<ℚ-le, lt_if}
@@ -16,7 +17,8 @@ use Rattle.spec_simplex.specs.declared.ends.RunStop.{RunStop}
 use Rattle.spec_simplex.specs.declared.ends.RunStop.TheVariants as stop
 use Rattle.spec_simplex.specs.Run.{refused_as, difference_run, steps}
 use Rattle.spec_simplex.specs.Step.{directed, other_bound, moved_run, flip_way, flipped, flip_run}
-use Rattle.spec_simplex.specs.Tableau.{Tableau, all_columns, value_at, reduced_at, status_at, lower_at, upper_at, or_zero, is_fixed}
+use Rattle.spec_simplex.specs.Tableau.{Tableau, all_columns, value_at, reduced_at}
+use Rattle.spec_simplex.specs.Tableau.{status_at, lower_at, upper_at, or_zero, is_fixed}
 use Rattle.spec_cold.specs.Tables.{way, table_of}
 use Rattle.spec_cold.proofs.Runs.{then_ok, refused_ok, steps_ok}
 use Rattle.spec_cold.proofs.Pivots.{Leaves}
@@ -26,7 +28,8 @@ use Rattle.spec_dual.specs.Dual.{Suits}
 use Rattle.spec_warm.specs.Based.{IsBased, IsReady}
 use Rattle.spec_simplex.specs.Dual.{Reached, one_more, flip_by, flip_next, flips_run}
 use Rattle.spec_simplex.specs.Fit.{needs_flip, is_there, meets_need, needs_flip_at, meets_need_at}
-use Rattle.spec_warm.proofs.Bounded.{own_counts, given_counts, lower_same, upper_same, fixed_is, not_fixed_is, free_open}
+use Rattle.spec_warm.proofs.Bounded.{own_counts, given_counts, lower_same}
+use Rattle.spec_warm.proofs.Bounded.{upper_same, fixed_is, not_fixed_is, free_open}
 use Rattle.spec_warm.proofs.Fits.{met_suits}
 
 -- ---- a column that needs its other bound
@@ -49,10 +52,26 @@ either false c h e = let z : false ≡ true = e in cc
 pub wrong : (s : Status) (d v : ℚ) (l u : Option ℚ) → Stands s l u v → meets_need s d l u ≡ true →
     needs_flip s d ≡ true → (up : Bool) × IsWrong s d l u up
 wrong Basic d v l u st h n = let z : false ≡ true = n in cc
-wrong AtLower d v l u st h n =
-    (true, record { can_move = tt; way_is = refl; low = (v, st); high = there_is u (either (lt_ℚ d 0ℚ) (is_there u) h n); suits = <ℚ-le d 0ℚ (lt_if d 0ℚ n) })
-wrong AtUpper d v l u st h n =
-    (false, record { can_move = tt; way_is = refl; low = there_is l (either (lt_ℚ 0ℚ d) (is_there l) h n); high = (v, st); suits = <ℚ-le 0ℚ d (lt_if 0ℚ d n) })
+wrong AtLower d v l u st h n = (
+  true,
+  record {
+    can_move = tt;
+    way_is = refl;
+    low = (v, st);
+    high = there_is u (either (lt_ℚ d 0ℚ) (is_there u) h n);
+    suits = <ℚ-le d 0ℚ (lt_if d 0ℚ n);
+  },
+)
+wrong AtUpper d v l u st h n = (
+  false,
+  record {
+    can_move = tt;
+    way_is = refl;
+    low = there_is l (either (lt_ℚ 0ℚ d) (is_there l) h n);
+    high = (v, st);
+    suits = <ℚ-le 0ℚ d (lt_if 0ℚ d n);
+  },
+)
 wrong AtZero d v l u st h n = let z : false ≡ true = n in cc
 
 other_nonbasic : (up : Bool) → ¬ (other_bound up ≡ Basic)
@@ -72,8 +91,10 @@ flip_shape limit t u j h =
     let c = then_ok (moved_run limit t j (directed (flip_way (status_at t j)) a.0) None) _ u a.2 in
     record { values = c.0; is = let z : flipped t j (other_bound (flip_way (status_at t j))) c.0 ≡ u = cc in z }
 
-module _ (limit : Option ℕ) (f : Matrix) (cost : ℕ → ℚ) (b : Bounds) (t : Tableau) (s : IsBased t.rows t.cols f cost b t) (j : ℕ) (j_in : j < all_columns t) (free : ¬ (IsFixed b j))
-    (up : Bool) (wrongly : IsWrong (status_at t j) (reduced_at t j) (lower_at t j) (upper_at t j) up) (u : Tableau) (ok : flip_run limit t j ≡ Ok u) where
+module _ (limit : Option ℕ) (f : Matrix) (cost : ℕ → ℚ) (b : Bounds) (t : Tableau)
+    (s : IsBased t.rows t.cols f cost b t) (j : ℕ) (j_in : j < all_columns t) (free : ¬ (IsFixed b j))
+    (up : Bool) (wrongly : IsWrong (status_at t j) (reduced_at t j) (lower_at t j) (upper_at t j) up)
+    (u : Tableau) (ok : flip_run limit t j ≡ Ok u) where
   abbrev range : ℚ
   range = wrongly.high.0 -ℚ wrongly.low.0
 
@@ -87,14 +108,17 @@ module _ (limit : Option ℕ) (f : Matrix) (cost : ℕ → ℚ) (b : Bounds) (t 
     to_nonbasic = other_nonbasic up;
     lands =
         subst₂ (λ to r. Stands to (b.lower j) (b.upper j) (value_at t j +ℚ range *ℚ r))
-        (ahead_is up) (sym (ray_at t.rows (table_of t) s.tableau.units (way up) j (outside t.rows (all_columns t) f cost b (table_of t) s.tableau j nonbasic)))
+        (ahead_is up) (sym (ray_at t.rows (table_of t) s.tableau.units (way up) j
+        (outside t.rows (all_columns t) f cost b (table_of t) s.tableau j nonbasic)))
         (whole_range wrongly.low.0 wrongly.high.0 (value_at t j) (b.lower j) (b.upper j) (way up) (status_at t j)
-        (sym (lower_same f cost b t s j j_in) ∙ wrongly.low.1) (sym (upper_same f cost b t s j j_in) ∙ wrongly.high.1) wrongly.can_move (s.tableau.stands j j_in));
+        (sym (lower_same f cost b t s j j_in) ∙ wrongly.low.1)
+        (sym (upper_same f cost b t s j j_in) ∙ wrongly.high.1) wrongly.can_move (s.tableau.stands j j_in));
   }
 
   left : Leaves b t u (after_flip t.rows (table_of t) (way up) j range (other_bound up))
   left =
-      flip_leaves limit t s.whole f cost b s.tableau s.bounds up j range crosses (free_open f cost b t s j j_in free) u wrongly.way_is
+      flip_leaves limit t s.whole f cost b s.tableau s.bounds up j range crosses
+      (free_open f cost b t s j j_in free) u wrongly.way_is
       (sym (ap₂ (λ u l. or_zero u -ℚ or_zero l) wrongly.high.1 wrongly.low.1)) ok
 
   pub flip_based : IsBased t.rows t.cols f cost b u
@@ -103,7 +127,8 @@ module _ (limit : Option ℕ) (f : Matrix) (cost : ℕ → ℚ) (b : Bounds) (t 
     cols = left.cols;
     whole = left.whole;
     tableau = subst (IsTableau t.rows (all_columns t) f cost b) (sym left.table)
-        (flip_kept t.rows (all_columns t) f cost b (table_of t) s.tableau (way up) j j_in nonbasic range (other_bound up) (other_nonbasic up) crosses.lands);
+        (flip_kept t.rows (all_columns t) f cost b (table_of t) s.tableau
+        (way up) j j_in nonbasic range (other_bound up) (other_nonbasic up) crosses.lands);
     bounds = left.bounds;
     top = s.top;
   }
@@ -113,7 +138,8 @@ module _ (limit : Option ℕ) (f : Matrix) (cost : ℕ → ℚ) (b : Bounds) (t 
 
   pub flip_status : status_at u j ≡ other_bound up
   flip_status =
-      ap (λ u. status_at u j) (sym shape.is) ∙ get_or-set_same t.status j (other_bound up) Basic (omega (arith, s.whole.all_statuses, j_in))
+      ap (λ u. status_at u j) (sym shape.is)
+      ∙ get_or-set_same t.status j (other_bound up) Basic (omega (arith, s.whole.all_statuses, j_in))
 
   pub flip_other : (k : ℕ) → k ≢ j → status_at u k ≡ status_at t k
   flip_other k d = ap (λ u. status_at u k) (sym shape.is) ∙ get_or-set_other t.status j k (other_bound up) Basic d
@@ -124,7 +150,8 @@ module _ (limit : Option ℕ) (f : Matrix) (cost : ℕ → ℚ) (b : Bounds) (t 
   pub flip_met : (k : ℕ) → k ≢ j → meets_need_at u k ≡ meets_need_at t k
   flip_met k d =
       ap (λ u. meets_need_at u k) (sym shape.is)
-      ∙ ap (λ s. is_fixed (lower_at t k) (upper_at t k) || meets_need s (reduced_at t k) (lower_at t k) (upper_at t k)) (get_or-set_other t.status j k (other_bound up) Basic d)
+      ∙ ap (λ s. is_fixed (lower_at t k) (upper_at t k) || meets_need s (reduced_at t k) (lower_at t k) (upper_at t k))
+      (get_or-set_other t.status j k (other_bound up) Basic d)
 
 -- ---- all of them
 module _ (limit : Option ℕ) (budget m n : ℕ) (f : Matrix) (cost : ℕ → ℚ) (b : Bounds) where
@@ -139,7 +166,8 @@ module _ (limit : Option ℕ) (budget m n : ℕ) (f : Matrix) (cost : ℕ → �
   pass i r i_in v h = record {
     based = v.based;
     early = λ k l q free. by_eq k i
-        (λ z. subst (λ k. Suits (status_at r.tableau k) (reduced_at r.tableau k)) (sym z) (here (subst (λ k. ¬ (IsFixed b k)) z free)))
+        (λ z. subst (λ k. Suits (status_at r.tableau k) (reduced_at r.tableau k))
+        (sym z) (here (subst (λ k. ¬ (IsFixed b k)) z free)))
         (λ z. v.early k (omega (arith, l, z)) q free);
     late = λ k l. v.late k (omega (arith, l));
   }
@@ -153,16 +181,20 @@ module _ (limit : Option ℕ) (budget m n : ℕ) (f : Matrix) (cost : ℕ → �
       here : ¬ (IsFixed b i) → Suits (status_at r.tableau i) (reduced_at r.tableau i)
       here free = by (is_fixed (lower_at r.tableau i) (upper_at r.tableau i)) refl h (v.late i (omega arith) i_in)
         where
-          by : (c : Bool) → is_fixed (lower_at r.tableau i) (upper_at r.tableau i) ≡ c → not c && needs_flip (status_at r.tableau i) (reduced_at r.tableau i) ≡ false
-              → c || meets_need (status_at r.tableau i) (reduced_at r.tableau i) (lower_at r.tableau i) (upper_at r.tableau i) ≡ true → Suits (status_at r.tableau i) (reduced_at r.tableau i)
+          by : (c : Bool) → is_fixed (lower_at r.tableau i) (upper_at r.tableau i) ≡ c →
+              not c && needs_flip (status_at r.tableau i) (reduced_at r.tableau i) ≡ false
+              → c || meets_need (status_at r.tableau i) (reduced_at r.tableau i) (lower_at r.tableau i)
+              (upper_at r.tableau i) ≡ true → Suits (status_at r.tableau i) (reduced_at r.tableau i)
           by true c h g =
               absurd (free (fixed_is f cost b r.tableau s i (omega (arith, i_in, v.based.rows, v.based.cols)) c))
           by false c h g =
-              met_suits (status_at r.tableau i) (reduced_at r.tableau i) (lower_at r.tableau i) (upper_at r.tableau i) g h
+              met_suits (status_at r.tableau i) (reduced_at r.tableau i)
+              (lower_at r.tableau i) (upper_at r.tableau i) g h
 
   flip : (i : ℕ) (r : Reached) (u : Tableau) → i < n + m + m → Flipping i r → needs_flip_at r.tableau i ≡ true →
       flip_run limit r.tableau i ≡ Ok u → Flipping (suc i) (one_more r u)
-  flip i r u i_in v h ok = by (is_fixed (lower_at r.tableau i) (upper_at r.tableau i)) refl h (v.late i (omega arith) i_in)
+  flip i r u i_in v h ok =
+      by (is_fixed (lower_at r.tableau i) (upper_at r.tableau i)) refl h (v.late i (omega arith) i_in)
     where
       s : IsBased r.tableau.rows r.tableau.cols f cost b r.tableau
       s = own_counts m n f cost b r.tableau v.based
@@ -175,22 +207,32 @@ module _ (limit : Option ℕ) (budget m n : ℕ) (f : Matrix) (cost : ℕ → �
           Flipping (suc i) (one_more r u)
       goes up free w = record {
         based =
-            given_counts m n f cost b r.tableau u v.based (flip_based limit f cost b r.tableau s i inside free up w u ok);
+            given_counts m n f cost b r.tableau u v.based
+            (flip_based limit f cost b r.tableau s i inside free up w u ok);
         early = λ k l q loose. by_eq k i
             (λ z. subst (λ k. Suits (status_at u k) (reduced_at u k)) (sym z)
-            (subst₂ Suits (sym (flip_status limit f cost b r.tableau s i inside free up w u ok)) (sym (flip_reduced limit f cost b r.tableau s i inside free up w u ok i)) w.suits))
-            (λ z. subst₂ Suits (sym (flip_other limit f cost b r.tableau s i inside free up w u ok k z)) (sym (flip_reduced limit f cost b r.tableau s i inside free up w u ok k))
+            (subst₂ Suits (sym (flip_status limit f cost b r.tableau s i inside free up w u ok))
+            (sym (flip_reduced limit f cost b r.tableau s i inside free up w u ok i)) w.suits))
+            (λ z. subst₂ Suits (sym (flip_other limit f cost b r.tableau s i inside free up w u ok k z))
+            (sym (flip_reduced limit f cost b r.tableau s i inside free up w u ok k))
             (v.early k (omega (arith, l, z)) q loose));
         late =
-            λ k l q. flip_met limit f cost b r.tableau s i inside free up w u ok k (λ z. let y : ⊥ = omega (arith, l, z) in y) ∙ v.late k (omega (arith, l)) q;
+            λ k l q. flip_met limit f cost b r.tableau s i inside free up w u ok k
+            (λ z. let y : ⊥ = omega (arith, l, z) in y) ∙ v.late k (omega (arith, l)) q;
       }
 
-      by : (c : Bool) → is_fixed (lower_at r.tableau i) (upper_at r.tableau i) ≡ c → not c && needs_flip (status_at r.tableau i) (reduced_at r.tableau i) ≡ true
-          → c || meets_need (status_at r.tableau i) (reduced_at r.tableau i) (lower_at r.tableau i) (upper_at r.tableau i) ≡ true → Flipping (suc i) (one_more r u)
+      by : (c : Bool) → is_fixed (lower_at r.tableau i) (upper_at r.tableau i) ≡ c →
+          not c && needs_flip (status_at r.tableau i) (reduced_at r.tableau i) ≡ true
+          → c || meets_need (status_at r.tableau i) (reduced_at r.tableau i)
+          (lower_at r.tableau i) (upper_at r.tableau i) ≡ true → Flipping (suc i) (one_more r u)
       by true c h g = let z : false ≡ true = h in cc
       by false c h g =
-          let w = wrong (status_at r.tableau i) (reduced_at r.tableau i) (value_at r.tableau i) (lower_at r.tableau i) (upper_at r.tableau i)
-          (subst₂ (λ l u. Stands (status_at r.tableau i) l u (value_at r.tableau i)) (sym (lower_same f cost b r.tableau s i inside)) (sym (upper_same f cost b r.tableau s i inside)) (s.tableau.stands i inside)) g h in
+          let w =
+          wrong (status_at r.tableau i) (reduced_at r.tableau i)
+          (value_at r.tableau i) (lower_at r.tableau i) (upper_at r.tableau i)
+          (subst₂ (λ l u. Stands (status_at r.tableau i) l u (value_at r.tableau i))
+          (sym (lower_same f cost b r.tableau s i inside))
+          (sym (upper_same f cost b r.tableau s i inside)) (s.tableau.stands i inside)) g h in
           goes w.0 (not_fixed_is f cost b r.tableau s i inside c) w.1
 
   next : (i : ℕ) (x y : Reached) → i < n + m + m → Flipping i x → needs_flip_at x.tableau i ≡ true → (c : Bool) →
@@ -217,8 +259,10 @@ module _ (limit : Option ℕ) (budget m n : ℕ) (f : Matrix) (cost : ℕ → �
   flips_ready t r s met h =
       let z : all_columns t ≡ n + m + m = omega (arith, s.rows, s.cols) in
       let v : Flipping (n + m + m) r =
-      steps_ok Flipping (n + m + m) (λ k r. cond (needs_flip_at r.tableau k) (flip_next limit budget k r) (Ok r)) (record { tableau = t; used = 0 }) r
-      (ap (λ c. steps c (λ k r. cond (needs_flip_at r.tableau k) (flip_next limit budget k r) (Ok r)) (record { tableau = t; used = 0 })) (sym z) ∙ h)
+      steps_ok Flipping (n + m + m) (λ k r. cond (needs_flip_at r.tableau k) (flip_next limit budget k r) (Ok r))
+      (record { tableau = t; used = 0 }) r
+      (ap (λ c. steps c (λ k r. cond (needs_flip_at r.tableau k) (flip_next limit budget k r) (Ok r))
+      (record { tableau = t; used = 0 })) (sym z) ∙ h)
       (record { based = s; early = λ k l. absurd (let y : ⊥ = omega (arith, l) in y); late = λ k l q. met k q })
       step in
       record { based = v.based; feasible = λ k l free. v.early k l l free }

@@ -1,14 +1,16 @@
 -- The tableau of a basis, its fit and the dual steps at a limit beside those without one.
-use Rattle.std.proofs.Common.{◌≡◌, ℕ, zero, suc, ◌+◌, ◌-◌, List, Option, Some, None, Result, Ok, Err, Bool, true, false, nat_le}
+use Rattle.std.proofs.Common.{◌≡◌, ℕ, zero, suc, ◌+◌, ◌-◌, List, Option, Some}
+use Rattle.std.proofs.Common.{None, Result, Ok, Err, Bool, true, false, nat_le}
 use Rattle.spec_exact.specs.Fraction.{ℚ, 0ℚ, abs_ℚ}
 use Rattle.spec_pivot.specs.declared.status.Status.{Status}
 use Rattle.spec_simplex.specs.declared.ends.RunStop.{RunStop}
 use Rattle.spec_simplex.specs.declared.ends.RunStop.TheVariants as stop
 use Rattle.spec_simplex.specs.Form.{Form}
 use Rattle.spec_simplex.specs.Run.{Run, ◌>>=◌}
-use Rattle.spec_simplex.specs.Tableau.{Tableau, all_columns, basic_at, entry_at, value_at, reduced_at, status_at, lower_at, upper_at, stand}
-use Rattle.spec_simplex.specs.Tableau.{is_basic}
-use Rattle.spec_cold.proofs.Refusals.{Agrees, as_it_is, agrees_ok, agrees_err, agrees_then, agrees_if, agrees_steps, agrees_as, agrees_difference, agrees_quotient, agrees_order, agrees_less}
+use Rattle.spec_simplex.specs.Tableau.{Tableau, all_columns, basic_at, entry_at, value_at}
+use Rattle.spec_simplex.specs.Tableau.{reduced_at, status_at, lower_at, upper_at, stand, is_basic}
+use Rattle.spec_cold.proofs.Refusals.{Agrees, as_it_is, agrees_ok, agrees_err, agrees_then, agrees_if, agrees_steps}
+use Rattle.spec_cold.proofs.Refusals.{agrees_as, agrees_difference, agrees_quotient, agrees_order, agrees_less}
 use Rattle.spec_cold.proofs.LimitStart.{priced_agrees, flip_agrees, pivot_agrees, turned_agrees}
 use Rattle.spec_simplex.specs.declared.ends.StartStop.{StartStop}
 use Rattle.spec_simplex.specs.declared.ends.StartStop.TheVariants as start
@@ -16,9 +18,13 @@ use Rattle.spec_simplex.specs.declared.ends.Cheapest.{Cheapest}
 use Rattle.spec_simplex.specs.declared.ends.Leaving.{Leaving}
 use Rattle.spec_simplex.specs.declared.ends.DualChoice.{DualChoice}
 use Rattle.spec_simplex.specs.declared.ends.DualChoice.TheVariants.{End, Pivot}
-use Rattle.spec_simplex.specs.Dual.{Reached, flip_by, flip_next, flips_run, place_of, dual_way_at, cheaper_run, cheapest_by, cheapest_with, cheapest_run, dual_choice_of, dual_choice_run, dual_pivot_run, DualEnded, dual_end_or_spent, dual_end_or_next, dual_from, dual_run}
-use Rattle.spec_simplex.specs.Eliminate.{basis_at, Elimination, unsolved, open_below, solved_at, solved_by, solved_run, eliminate_run, with_basis, position_run, valued_run, filled_run, start_from}
-use Rattle.spec_simplex.specs.Fit.{below_lower, above_upper, outside_by, outside_run, leaving_at, leaving_with, leaving_run, needs_flip_at, fit_run}
+use Rattle.spec_simplex.specs.Dual.{Reached, flip_by, flip_next, flips_run, place_of, dual_way_at, cheaper_run}
+use Rattle.spec_simplex.specs.Dual.{cheapest_by, cheapest_with, cheapest_run, dual_choice_of, dual_choice_run}
+use Rattle.spec_simplex.specs.Dual.{dual_pivot_run, DualEnded, dual_end_or_spent, dual_end_or_next, dual_from, dual_run}
+use Rattle.spec_simplex.specs.Eliminate.{basis_at, Elimination, unsolved, open_below, solved_at, solved_by, solved_run}
+use Rattle.spec_simplex.specs.Eliminate.{eliminate_run, with_basis, position_run, valued_run, filled_run, start_from}
+use Rattle.spec_simplex.specs.Fit.{below_lower, above_upper, outside_by, outside_run, leaving_at}
+use Rattle.spec_simplex.specs.Fit.{leaving_with, leaving_run, needs_flip_at, fit_run}
 
 ok : {A : Type 0} (a : A) → Agrees {A = A} as_it_is (Ok a) (Ok a)
 ok a = agrees_ok as_it_is a
@@ -40,18 +46,21 @@ module _ (limit : Option ℕ) where
       Agrees start.Past (solved_by limit f e j p) (solved_by None f e j p)
   solved_agrees f e j None = singular_agrees
   solved_agrees f e j (Some p) =
-      agrees_as start.Past (solved_at limit f e j p) (solved_at None f e j p) (also _ _ _ _ (turned_agrees limit f.rows (f.cols + f.rows + f.rows) e.rows p j) (λ rows. ok _))
+      agrees_as start.Past (solved_at limit f e j p) (solved_at None f e j p)
+      (also _ _ _ _ (turned_agrees limit f.rows (f.cols + f.rows + f.rows) e.rows p j) (λ rows. ok _))
 
   eliminate_agrees : (f : Form) (basis : List Status) →
       Agrees start.Past (eliminate_run limit f basis) (eliminate_run None f basis)
   unfolding eliminate_run
   eliminate_agrees f basis =
       agrees_steps start.Past (f.cols + f.rows) _ _ (unsolved f)
-      (λ j e. agrees_if start.Past (is_basic (basis_at basis j)) (solved_run limit f e j) (Ok e) (solved_run None f e j) (Ok e) (solved_agrees f e j (open_below e j f.rows)) (agrees_ok start.Past e))
+      (λ j e. agrees_if start.Past (is_basic (basis_at basis j)) (solved_run limit f e j) (Ok e)
+      (solved_run None f e j) (Ok e) (solved_agrees f e j (open_below e j f.rows)) (agrees_ok start.Past e))
 
   position_agrees : (t : Tableau) (i : ℕ) → Agrees as_it_is (position_run limit t i) (position_run None t i)
   position_agrees t i =
-      agrees_steps as_it_is (all_columns t) _ _ 0ℚ (λ k v. agrees_if as_it_is (is_basic (status_at t k)) _ _ _ _ (ok v) (agrees_less limit (entry_at t i k) (value_at t k) v))
+      agrees_steps as_it_is (all_columns t) _ _ 0ℚ (λ k v. agrees_if as_it_is
+      (is_basic (status_at t k)) _ _ _ _ (ok v) (agrees_less limit (entry_at t i k) (value_at t k) v))
 
   valued_agrees : (t : Tableau) → Agrees as_it_is (valued_run limit t) (valued_run None t)
   unfolding valued_run
@@ -67,7 +76,8 @@ module _ (limit : Option ℕ) where
   unfolding start_from
   from_agrees f basis =
       agrees_then start.Past (eliminate_run limit f basis) (eliminate_run None f basis) _ _ (eliminate_agrees f basis)
-      (λ e. agrees_as start.Past (filled_run limit f (with_basis f basis e)) (filled_run None f (with_basis f basis e)) (filled_agrees f (with_basis f basis e)))
+      (λ e. agrees_as start.Past (filled_run limit f (with_basis f basis e))
+      (filled_run None f (with_basis f basis e)) (filled_agrees f (with_basis f basis e)))
 
   -- ---- the fit
   below_agrees : (l : Option ℚ) (v : ℚ) → Agrees as_it_is (below_lower limit l v) (below_lower None l v)
@@ -106,13 +116,15 @@ module _ (limit : Option ℕ) where
   flip_by_agrees : (k : ℕ) (r : Reached) (c : Bool) → Agrees stop.Past (flip_by limit k r c) (flip_by None k r c)
   flip_by_agrees k r true = spent_agrees
   flip_by_agrees k r false =
-      agrees_then stop.Past _ _ _ _ (agrees_as stop.Past _ _ (flip_agrees limit r.tableau k)) (λ u. agrees_ok stop.Past _)
+      agrees_then stop.Past _ _ _ _
+      (agrees_as stop.Past _ _ (flip_agrees limit r.tableau k)) (λ u. agrees_ok stop.Past _)
 
   flips_agree : (budget : ℕ) (t : Tableau) → Agrees stop.Past (flips_run limit budget t) (flips_run None budget t)
   unfolding flips_run
   flips_agree budget t =
       agrees_steps stop.Past (all_columns t) _ _ (record { tableau = t; used = 0 })
-      (λ k r. agrees_if stop.Past (needs_flip_at r.tableau k) (flip_next limit budget k r) (Ok r) (flip_next None budget k r) (Ok r) (flip_by_agrees k r (nat_le budget r.used)) (agrees_ok stop.Past r))
+      (λ k r. agrees_if stop.Past (needs_flip_at r.tableau k) (flip_next limit budget k r) (Ok r)
+      (flip_next None budget k r) (Ok r) (flip_by_agrees k r (nat_le budget r.used)) (agrees_ok stop.Past r))
 
   -- ---- one step
   cheaper_agrees : (new : Cheapest ℚ) (best : Option (Cheapest ℚ)) →
@@ -124,12 +136,14 @@ module _ (limit : Option ℕ) where
       Agrees as_it_is (cheapest_by limit t p k best w) (cheapest_by None t p k best w)
   cheapest_by_agrees t p k best None = ok _
   cheapest_by_agrees t p k best (Some up) =
-      also _ _ _ _ (agrees_quotient limit (abs_ℚ (reduced_at t k)) (abs_ℚ (entry_at t p k))) (λ ratio. cheaper_agrees _ best)
+      also _ _ _ _ (agrees_quotient limit (abs_ℚ (reduced_at t k)) (abs_ℚ (entry_at t p k)))
+      (λ ratio. cheaper_agrees _ best)
 
   cheapest_agrees : (t : Tableau) (p : ℕ) (below : Bool) →
       Agrees as_it_is (cheapest_run limit t p below) (cheapest_run None t p below)
   cheapest_agrees t p below =
-      agrees_steps as_it_is (all_columns t) (cheapest_with limit t p below) (cheapest_with None t p below) None (λ k best. cheapest_by_agrees t p k best (dual_way_at t p below k))
+      agrees_steps as_it_is (all_columns t) (cheapest_with limit t p below)
+      (cheapest_with None t p below) None (λ k best. cheapest_by_agrees t p k best (dual_way_at t p below k))
 
   choice_of_agrees : (t : Tableau) (x : Option Leaving) →
       Agrees as_it_is (dual_choice_of limit t x) (dual_choice_of None t x)
@@ -144,7 +158,8 @@ module _ (limit : Option ℕ) where
       Agrees as_it_is (dual_pivot_run limit t p j to) (dual_pivot_run None t p j to)
   unfolding dual_pivot_run
   step_agrees t p j to =
-      also _ _ _ _ (agrees_difference limit (value_at t (basic_at t p)) (stand to (lower_at t (basic_at t p)) (upper_at t (basic_at t p)))) (λ gap.
+      also _ _ _ _ (agrees_difference limit (value_at t (basic_at t p))
+      (stand to (lower_at t (basic_at t p)) (upper_at t (basic_at t p)))) (λ gap.
       also _ _ _ _ (agrees_quotient limit gap (entry_at t p j)) (λ theta. pivot_agrees limit t p j theta to))
 
   -- ---- steps up to an end
@@ -164,12 +179,16 @@ module _ (limit : Option ℕ) where
       Agrees stop.Past (dual_from limit left used t) (dual_from None left used t)
   unfolding dual_from
   dual_from_agrees zero used t =
-      agrees_then stop.Past _ _ (dual_end_or_spent t used) (dual_end_or_spent t used) (agrees_as stop.Past _ _ (choice_agrees t)) (end_agrees t used)
+      agrees_then stop.Past _ _ (dual_end_or_spent t used) (dual_end_or_spent t used)
+      (agrees_as stop.Past _ _ (choice_agrees t)) (end_agrees t used)
   dual_from_agrees (suc left) used t =
-      agrees_then stop.Past _ _ (dual_end_or_next limit t used (λ u. dual_from limit left (used + 1) u)) (dual_end_or_next None t used (λ u. dual_from None left (used + 1) u)) (agrees_as stop.Past _ _ (choice_agrees t))
-      (next_agrees t used (λ u. dual_from limit left (used + 1) u) (λ u. dual_from None left (used + 1) u) (λ u. dual_from_agrees left (used + 1) u))
+      agrees_then stop.Past _ _ (dual_end_or_next limit t used (λ u. dual_from limit left (used + 1) u))
+      (dual_end_or_next None t used (λ u. dual_from None left (used + 1) u)) (agrees_as stop.Past _ _ (choice_agrees t))
+      (next_agrees t used (λ u. dual_from limit left (used + 1) u)
+      (λ u. dual_from None left (used + 1) u) (λ u. dual_from_agrees left (used + 1) u))
 
   pub dual_agrees : (budget : ℕ) (t : Tableau) → Agrees stop.Past (dual_run limit budget t) (dual_run None budget t)
   unfolding dual_run
   dual_agrees budget t =
-      agrees_then stop.Past (flips_run limit budget t) (flips_run None budget t) _ _ (flips_agree budget t) (λ r. dual_from_agrees (budget - r.used) r.used r.tableau)
+      agrees_then stop.Past (flips_run limit budget t) (flips_run None budget t) _ _
+      (flips_agree budget t) (λ r. dual_from_agrees (budget - r.used) r.used r.tableau)

@@ -1,5 +1,6 @@
 -- Counting indexes that pass a test.
-use Rattle.std.proofs.Common.{◌≡◌, ℕ, zero, suc, ◌+◌, ◌<◌, ◌≤◌, Bool, true, false, ◌||◌, cond, nat_eq, refl, sym, ap, ap₂, ◌∙◌, arith, eq-eqb, ne_eqb}
+use Rattle.std.proofs.Common.{◌≡◌, ℕ, zero, suc, ◌+◌, ◌<◌, ◌≤◌, Bool, true, false, ◌||◌}
+use Rattle.std.proofs.Common.{cond, nat_eq, refl, sym, ap, ap₂, ◌∙◌, arith, eq-eqb, ne_eqb}
 use Rattle.std.proofs.lemmas.Bool.{eqb-true}
 use Rattle.spec_pivot.proofs.Pivot.{by_eq}
 
@@ -17,8 +18,10 @@ pub count_split : (a b : ℕ) (p : ℕ → Bool) → count (a + b) p ≡ count a
 count_split a zero p =
     (let z : a + 0 ≡ a = omega arith in ap (λ k. count k p) z) ∙ (let z : count a p ≡ count a p + 0 = omega arith in z)
 count_split a (suc b) p =
-    (let z : a + suc b ≡ suc (a + b) = omega arith in ap (λ k. count k p) z) ∙ ap (λ c. c + cond (p (a + b)) 1 0) (count_split a b p)
-    ∙ (let z : count a p + count b (λ i. p (a + i)) + cond (p (a + b)) 1 0 ≡ count a p + (count b (λ i. p (a + i)) + cond (p (a + b)) 1 0) = omega arith in z)
+    (let z : a + suc b ≡ suc (a + b) = omega arith in ap (λ k. count k p) z)
+    ∙ ap (λ c. c + cond (p (a + b)) 1 0) (count_split a b p)
+    ∙ (let z : count a p + count b (λ i. p (a + i)) + cond (p (a + b)) 1 0
+    ≡ count a p + (count b (λ i. p (a + i)) + cond (p (a + b)) 1 0) = omega arith in z)
 
 -- where no index passes both tests
 pub count_either : (n : ℕ) (p q : ℕ → Bool) → ((i : ℕ) → i < n → p i ≡ true → q i ≡ true → ⊥) →
@@ -36,7 +39,8 @@ count_either (suc n) p q h = by (p n) (q n) refl refl (count_either n p q (λ i 
 count_past : (n j : ℕ) → n ≤ j → count n (λ k. nat_eq k j) ≡ 0
 count_past zero j h = refl
 count_past (suc n) j h =
-    ap₂ (λ c d. c + cond d 1 0) (count_past n j (omega (arith, h))) (ne_eqb n j (λ e. let z : ⊥ = omega (arith, h, e) in z))
+    ap₂ (λ c d. c + cond d 1 0) (count_past n j (omega (arith, h)))
+    (ne_eqb n j (λ e. let z : ⊥ = omega (arith, h, e) in z))
 
 count_one : (n j : ℕ) → j < n → count n (λ k. nat_eq k j) ≡ 1
 count_one zero j h = absurd (let z : ⊥ = omega (arith, h) in z)
@@ -80,7 +84,8 @@ count_members zero n b inside apart = none n
     none (suc n) = (let z : count n (λ k. false) + 0 ≡ count n (λ k. false) = omega arith in z) ∙ none n
 count_members (suc m) n b inside apart =
     count_either n (λ k. nat_eq k (b m)) (member m b) other
-    ∙ ap₂ ◌+◌ (count_one n (b m) (inside m (omega arith))) (count_members m n b (λ i h. inside i (omega (arith, h))) (λ i r h l. apart i r (omega (arith, h)) (omega (arith, l))))
+    ∙ ap₂ ◌+◌ (count_one n (b m) (inside m (omega arith))) (count_members m n b
+    (λ i h. inside i (omega (arith, h))) (λ i r h l. apart i r (omega (arith, h)) (omega (arith, l))))
     ∙ (let z : 1 + m ≡ suc m = omega arith in z)
   where
     other : (k : ℕ) → k < n → nat_eq k (b m) ≡ true → member m b k ≡ true → ⊥

@@ -1,11 +1,14 @@
 -- Where elimination finds no position for a basic column, this depends on the basic columns before it.
-use Rattle.std.proofs.Common.{◌≡◌, ◌≢◌, ℕ, zero, suc, ◌+◌, ◌<◌, ◌⊎◌, List, get_or, Option, Some, None, Result, Ok, Err, Bool, true, false, not, ◌&&◌, cond, inl, inr, ⊎_elim, refl, sym, ap, ap₂, ◌∙◌, subst, arith}
+use Rattle.std.proofs.Common.{◌≡◌, ◌≢◌, ℕ, zero, suc, ◌+◌, ◌<◌, ◌⊎◌, List, get_or, Option}
+use Rattle.std.proofs.Common.{Some, None, Result, Ok, Err, Bool, true, false, not, ◌&&◌}
+use Rattle.std.proofs.Common.{cond, inl, inr, ⊎_elim, refl, sym, ap, ap₂, ◌∙◌, subst, arith}
 use Rattle.spec_exact.specs.Fraction.{ℚ, ◌-ℚ◌, ◌*ℚ◌, 0ℚ, 1ℚ, eq_ℚ}
 use Rattle.spec_exact.specs.Sums.{sum_below}
 use Rattle.spec_exact.proofs.Field.{+ℚ_neg, *ℚ_comm, *ℚ_zero}
 use Rattle.spec_exact.proofs.Ruleset.{ring, zero-*ℚ}
 use Rattle.spec_exact.proofs.Same.{eq_if}
-use Rattle.spec_exact.proofs.Sums.{sum_below_same, sum_below_none, sum_below-sub, *ℚ-sum_below, sum_below_swap, sum_below-*ℚ}
+use Rattle.spec_exact.proofs.Sums.{sum_below_same, sum_below_none, sum_below-sub}
+use Rattle.spec_exact.proofs.Sums.{*ℚ-sum_below, sum_below_swap, sum_below-*ℚ}
 use Rattle.spec_pivot.specs.declared.status.Status.{Status}
 use Rattle.spec_pivot.specs.declared.status.Status.TheVariants.{Basic}
 use Rattle.spec_pivot.specs.Tableau.{delta}
@@ -19,7 +22,9 @@ use Rattle.spec_cold.proofs.Begun.{delta_sym}
 use Rattle.spec_simplex.specs.declared.ends.StartStop.{StartStop}
 use Rattle.spec_simplex.specs.declared.ends.StartStop.TheVariants as stop
 use Rattle.spec_warm.specs.Based.{equations, IsDependent}
-use Rattle.spec_simplex.specs.Eliminate.{basis_at, Elimination, unsolved, has_none, is_open, or_place, open_below, solved_at, solved_by, solved_run, eliminate_run, or_first, with_basis, filled_run, start_from}
+use Rattle.spec_simplex.specs.Eliminate.{basis_at, Elimination, unsolved, has_none, is_open}
+use Rattle.spec_simplex.specs.Eliminate.{or_place, open_below, solved_at, solved_by, solved_run}
+use Rattle.spec_simplex.specs.Eliminate.{eliminate_run, or_first, with_basis, filled_run, start_from}
 use Rattle.spec_warm.proofs.Counts.{basic_if, some_is}
 use Rattle.spec_warm.proofs.Eliminated.{Solving, eliminated_below}
 
@@ -45,7 +50,9 @@ closed e j i h = by (has_none (get_or e.basic i None)) (eq_ℚ (at_place e.rows 
     by true true p q h = inr (eq_if (at_place e.rows i j) 0ℚ q)
     by true false p q h = let z : true ≡ false = h in cc
 
-module _ (limit : Option ℕ) (f : Form) (basis : List Status) (j : ℕ) (j_in : j < f.cols + f.rows) (b : basis_at basis j ≡ Basic) (e : Elimination) (s : Solving limit f basis j e) (none : open_below e j f.rows ≡ None) where
+module _ (limit : Option ℕ) (f : Form) (basis : List Status) (j : ℕ)
+    (j_in : j < f.cols + f.rows) (b : basis_at basis j ≡ Basic) (e : Elimination)
+    (s : Solving limit f basis j e) (none : open_below e j f.rows ≡ None) where
   abbrev m : ℕ
   m = f.rows
 
@@ -91,7 +98,8 @@ module _ (limit : Option ℕ) (f : Form) (basis : List Status) (j : ℕ) (j_in :
   others : (k : ℕ) → k ≢ j → ¬ ((k < j) × (basis_at basis k ≡ Basic)) → solution k ≡ 0ℚ
   unfolding solution
   others k o free =
-      ap₂ ◌-ℚ◌ (delta_other j k (λ z. o (sym z))) (no_part k (λ i h l p z. free (subst (λ k. k < j) z l, ap (basis_at basis) (sym z) ∙ p))) ∙ whole 0ℚ
+      ap₂ ◌-ℚ◌ (delta_other j k (λ z. o (sym z)))
+      (no_part k (λ i h l p z. free (subst (λ k. k < j) z l, ap (basis_at basis) (sym z) ∙ p))) ∙ whole 0ℚ
 
   inside : (i : ℕ) → i < m → column i < n
   inside i h = by (get_or e.basic i None) refl
@@ -106,11 +114,14 @@ module _ (limit : Option ℕ) (f : Form) (basis : List Status) (j : ℕ) (j_in :
   row_solved r h =
       sum_below_same n _ (λ k. delta j k *ℚ E r k -ℚ sum_below m (λ i. E i j *ℚ (delta (column i) k *ℚ E r k)))
       (λ k _. turn (E r k) (delta j k) (sum_below m (λ i. delta (column i) k *ℚ E i j))
-      ∙ ap (λ a. delta j k *ℚ E r k -ℚ a) (sum_below-*ℚ m _ (E r k) ∙ sum_below_same m _ _ (λ i _. order (delta (column i) k) (E i j) (E r k))))
+      ∙ ap (λ a. delta j k *ℚ E r k -ℚ a)
+      (sum_below-*ℚ m _ (E r k) ∙ sum_below_same m _ _ (λ i _. order (delta (column i) k) (E i j) (E r k))))
       ∙ sum_below-sub n _ _
       ∙ ap₂ ◌-ℚ◌ (sum_below-delta n j (λ k. E r k) (omega (arith, j_in)))
       (sym (sum_below_swap m n (λ i k. E i j *ℚ (delta (column i) k *ℚ E r k)))
-      ∙ sum_below_same m _ (λ i. delta r i *ℚ E i j) (λ i l. sym (*ℚ-sum_below (E i j) n (λ k. delta (column i) k *ℚ E r k)) ∙ ap (λ a. E i j *ℚ a) (sum_below-delta n (column i) (λ k. E r k) (inside i l)) ∙ unit i l)
+      ∙ sum_below_same m _ (λ i. delta r i *ℚ E i j)
+      (λ i l. sym (*ℚ-sum_below (E i j) n (λ k. delta (column i) k *ℚ E r k))
+      ∙ ap (λ a. E i j *ℚ a) (sum_below-delta n (column i) (λ k. E r k) (inside i l)) ∙ unit i l)
       ∙ sum_below-delta m r (λ i. E i j) h)
       ∙ +ℚ_neg (E r j)
     where
@@ -164,14 +175,19 @@ pub eliminate_singular : (limit : Option ℕ) (f : Form) (basis : List Status) �
     eliminate_run limit f basis ≡ Err stop.Singular → (j : ℕ) × (x : ℕ → ℚ) × IsDependent f basis j x
 unfolding eliminate_run
 eliminate_singular limit f basis h =
-    let o = stops_at (f.cols + f.rows) (λ j e. cond (is_basic (basis_at basis j)) (solved_run limit f e j) (Ok e)) (unsolved f) stop.Singular h in
+    let o =
+    stops_at (f.cols + f.rows) (λ j e. cond (is_basic (basis_at basis j)) (solved_run limit f e j) (Ok e))
+    (unsolved f) stop.Singular h in
     by o.0 o.1 o.2 (eliminated_below limit f basis o.0 o.2 o.3) (is_basic (basis_at basis o.0)) refl o.4
   where
     by : (j : ℕ) → j < f.cols + f.rows → (e : Elimination) → Solving limit f basis j e → (c : Bool) →
         is_basic (basis_at basis j) ≡ c → cond c (solved_run limit f e j) (Ok e) ≡ Err stop.Singular →
         (j : ℕ) × (x : ℕ → ℚ) × IsDependent f basis j x
-    by j l e s true c h =
-        (j, solution limit f basis j l (basic_if (basis_at basis j) c) e s (no_place limit f e j (open_below e j f.rows) h), depends limit f basis j l (basic_if (basis_at basis j) c) e s (no_place limit f e j (open_below e j f.rows) h))
+    by j l e s true c h = (
+      j,
+      solution limit f basis j l (basic_if (basis_at basis j) c) e s (no_place limit f e j (open_below e j f.rows) h),
+      depends limit f basis j l (basic_if (basis_at basis j) c) e s (no_place limit f e j (open_below e j f.rows) h),
+    )
     by j l e s false c h = let z : ◌≡◌ {A = Result Elimination (StartStop ℚ)} (Ok e) (Err stop.Singular) = h in cc
 
 pub start_singular : (limit : Option ℕ) (f : Form) (basis : List Status) →

@@ -1,7 +1,9 @@
 -- The tableau of a basis is one of the form's equations, costs and bounds.
-use Rattle.std.proofs.Common.{◌≡◌, inr, ℕ, ◌+◌, ◌-◌, ◌<◌, ◌≤◌, List, ◌++◌, length, get_or, replicate, Option, Some, None, Ok, refl, sym, ap, ap₂, ◌∙◌, subst, arith}
+use Rattle.std.proofs.Common.{◌≡◌, inr, ℕ, ◌+◌, ◌-◌, ◌<◌, ◌≤◌, List, ◌++◌, length, get_or, replicate}
+use Rattle.std.proofs.Common.{Option, Some, None, Ok, refl, sym, ap, ap₂, ◌∙◌, subst, arith}
 use Rattle.std.proofs.lemmas.Bool.{le-leb, lt-leb}
-use Rattle.std.proofs.lemmas.List.{length-append, length-replicate, get_or_append_left, get_or-append-add, get_or-replicate}
+use Rattle.std.proofs.lemmas.List.{length-append, length-replicate, get_or_append_left}
+use Rattle.std.proofs.lemmas.List.{get_or-append-add, get_or-replicate}
 use Rattle.spec_exact.specs.Fraction.{ℚ, 0ℚ}
 use Rattle.spec_pivot.specs.declared.status.Status.{Status}
 use Rattle.spec_pivot.specs.declared.status.Status.TheVariants.{Basic, AtLower, AtUpper, AtZero}
@@ -10,7 +12,8 @@ use Rattle.spec_pivot.specs.Simplex.{Stands}
 use Rattle.spec_pivot.proofs.Values.{combined, by_basic}
 use Rattle.spec_simplex.specs.Form.{Form, form_lower, form_upper}
 use Rattle.spec_simplex.specs.Start.{cost_at, priced_run, with_reduced}
-use Rattle.spec_simplex.specs.Tableau.{Tableau, basic_at, entry_at, value_at, status_at, lower_at, upper_at, or_zero, stand}
+use Rattle.spec_simplex.specs.Tableau.{Tableau, basic_at, entry_at, value_at}
+use Rattle.spec_simplex.specs.Tableau.{status_at, lower_at, upper_at, or_zero, stand}
 use Rattle.spec_simplex.proofs.Stops.{length-made}
 use Rattle.spec_cold.specs.Tables.{bounds_of, IsWhole, KeepsBounds}
 use Rattle.spec_cold.specs.Begins.{IsProper}
@@ -19,7 +22,8 @@ use Rattle.spec_cold.proofs.Lists.{by_lt, past_row}
 use Rattle.spec_cold.proofs.Priced.{priced_length, priced_agrees}
 use Rattle.spec_simplex.specs.declared.ends.StartStop.TheVariants as stop
 use Rattle.spec_warm.specs.Based.{equations, IsBased, BeginsFrom}
-use Rattle.spec_simplex.specs.Eliminate.{basis_at, CanStand, IsBasisOf, Elimination, eliminate_run, or_first, basis_value, with_basis, valued_run, with_values, filled_run, start_from}
+use Rattle.spec_simplex.specs.Eliminate.{basis_at, CanStand, IsBasisOf, Elimination, eliminate_run, or_first}
+use Rattle.spec_simplex.specs.Eliminate.{basis_value, with_basis, valued_run, with_values, filled_run, start_from}
 use Rattle.spec_warm.proofs.Counts.{filled_all, some_is}
 use Rattle.spec_warm.proofs.Eliminated.{Solving, eliminated}
 use Rattle.spec_warm.proofs.Valued.{valued_length, valued_other, valued_solves}
@@ -34,7 +38,8 @@ can_stand AtZero l u h = (h.0, h.1, refl)
 basic_stands_zero : (s : Status) (l u : Option ℚ) → s ≡ Basic → stand s l u ≡ 0ℚ
 basic_stands_zero s l u e = ap (λ s. stand s l u) e
 
-module _ (limit : Option ℕ) (f : Form) (proper : IsProper f) (basis : List Status) (fits : IsBasisOf f basis) (e : Elimination) (s : Solving limit f basis (f.cols + f.rows) e) where
+module _ (limit : Option ℕ) (f : Form) (proper : IsProper f) (basis : List Status)
+    (fits : IsBasisOf f basis) (e : Elimination) (s : Solving limit f basis (f.cols + f.rows) e) where
   abbrev t : Tableau
   t = with_basis f basis e
 
@@ -51,7 +56,11 @@ module _ (limit : Option ℕ) (f : Form) (proper : IsProper f) (basis : List Sta
   at : (i : ℕ) → i < f.rows → At i
   at i h =
       let o = some_is (get_or e.basic i None) (filled_all e.basic f.rows (s.count ∙ fits.count) i h) in
-      record { column = o.0; taken = o.1; is = get_or-made f.rows (λ i. or_first (get_or e.basic i None)) 0 i h ∙ ap or_first o.1 }
+      record {
+        column = o.0;
+        taken = o.1;
+        is = get_or-made f.rows (λ i. or_first (get_or e.basic i None)) 0 i h ∙ ap or_first o.1;
+      }
 
   basic_before : (i : ℕ) → i < f.rows → basic_at t i < f.cols + f.rows
   basic_before i h = let a = at i h in subst (λ k. k < f.cols + f.rows) (sym a.is) (s.only i a.column h a.taken).0
@@ -64,7 +73,8 @@ module _ (limit : Option ℕ) (f : Form) (proper : IsProper f) (basis : List Sta
 
   status_after : (r : ℕ) → r < f.rows → status_at t (f.cols + f.rows + r) ≡ AtLower
   status_after r h =
-      ap (λ k. get_or (basis ++ replicate f.rows AtLower) (k + r) Basic) (sym fits.all) ∙ get_or-append-add basis (replicate f.rows AtLower) r Basic
+      ap (λ k. get_or (basis ++ replicate f.rows AtLower) (k + r) Basic) (sym fits.all)
+      ∙ get_or-append-add basis (replicate f.rows AtLower) r Basic
       ∙ get_or-replicate f.rows r AtLower Basic h
 
   lower_before : (k : ℕ) → k < f.cols + f.rows → lower_at t k ≡ form_lower f k
@@ -76,7 +86,8 @@ module _ (limit : Option ℕ) (f : Form) (proper : IsProper f) (basis : List Sta
   bound_after : (bounds : List (Option ℚ)) → length bounds ≡ f.cols + f.rows → (r : ℕ) → r < f.rows →
       get_or (bounds ++ replicate f.rows (Some 0ℚ)) (f.cols + f.rows + r) None ≡ Some 0ℚ
   bound_after bounds all r h =
-      ap (λ k. get_or (bounds ++ replicate f.rows (Some 0ℚ)) (k + r) None) (sym all) ∙ get_or-append-add bounds (replicate f.rows (Some 0ℚ)) r None
+      ap (λ k. get_or (bounds ++ replicate f.rows (Some 0ℚ)) (k + r) None) (sym all)
+      ∙ get_or-append-add bounds (replicate f.rows (Some 0ℚ)) r None
       ∙ get_or-replicate f.rows r (Some 0ℚ) None h
 
   -- an artificial by the number of its row
@@ -122,15 +133,19 @@ module _ (limit : Option ℕ) (f : Form) (proper : IsProper f) (basis : List Sta
   can : (k : ℕ) → k < n → CanStand (status_at t k) (lower_at t k) (upper_at t k)
   can k h =
       by_lt k (f.cols + f.rows)
-      (λ l. at_bounds (basis_at basis k) (form_lower f k) (form_upper f k) (status_before k l) (lower_before k l) (upper_before k l) (fits.stand k l))
-      (λ l. subst (λ s. CanStand s (lower_at t k) (upper_at t k)) (sym (by_artificial (λ k. status_at t k ≡ AtLower) k l h status_after)) (0ℚ, lower_zero k l h))
+      (λ l. at_bounds (basis_at basis k) (form_lower f k) (form_upper f k)
+      (status_before k l) (lower_before k l) (upper_before k l) (fits.stand k l))
+      (λ l. subst (λ s. CanStand s (lower_at t k) (upper_at t k))
+      (sym (by_artificial (λ k. status_at t k ≡ AtLower) k l h status_after)) (0ℚ, lower_zero k l h))
     where
       at_bounds : (x : Status) (a c : Option ℚ) → status_at t k ≡ x → lower_at t k ≡ a → upper_at t k ≡ c →
           CanStand x a c → CanStand (status_at t k) (lower_at t k) (upper_at t k)
       at_bounds x a c p q r g =
-          subst (λ x. CanStand x (lower_at t k) (upper_at t k)) (sym p) (subst (λ a. CanStand x a (upper_at t k)) (sym q) (subst (CanStand x a) (sym r) g))
+          subst (λ x. CanStand x (lower_at t k) (upper_at t k)) (sym p)
+          (subst (λ a. CanStand x a (upper_at t k)) (sym q) (subst (CanStand x a) (sym r) g))
 
-  module _ (values reduced : List ℚ) (values_ok : valued_run limit t ≡ Ok values) (reduced_ok : priced_run limit t f.cost ≡ Ok reduced) (few : length f.cost ≤ n) where
+  module _ (values reduced : List ℚ) (values_ok : valued_run limit t ≡ Ok values)
+      (reduced_ok : priced_run limit t f.cost ≡ Ok reduced) (few : length f.cost ≤ n) where
     abbrev u : Tableau
     u = with_reduced (with_values t values) reduced
 
@@ -141,7 +156,8 @@ module _ (limit : Option ℕ) (f : Form) (proper : IsProper f) (basis : List Sta
     stands k h =
         by_basic (status_at t k)
         (λ b. subst (λ x. Stands x (lower_at t k) (upper_at t k) (get_or values k 0ℚ)) (sym b) tt)
-        (λ b. subst (Stands (status_at t k) (lower_at t k) (upper_at t k)) (sym (valued_other limit t all_values units in_range marked zero values values_ok k b ∙ value_is k h))
+        (λ b. subst (Stands (status_at t k) (lower_at t k) (upper_at t k))
+        (sym (valued_other limit t all_values units in_range marked zero values values_ok k b ∙ value_is k h))
         (can_stand (status_at t k) (lower_at t k) (upper_at t k) (can k h)))
 
     whole : IsWhole u
@@ -154,9 +170,11 @@ module _ (limit : Option ℕ) (f : Form) (proper : IsProper f) (basis : List Sta
       all_statuses =
           length-append basis (replicate f.rows AtLower) ∙ ap₂ ◌+◌ fits.all (length-replicate f.rows AtLower);
       all_lower =
-          length-append f.lower (replicate f.rows (Some 0ℚ)) ∙ ap₂ ◌+◌ proper.all_lower (length-replicate f.rows (Some 0ℚ));
+          length-append f.lower (replicate f.rows (Some 0ℚ))
+          ∙ ap₂ ◌+◌ proper.all_lower (length-replicate f.rows (Some 0ℚ));
       all_upper =
-          length-append f.upper (replicate f.rows (Some 0ℚ)) ∙ ap₂ ◌+◌ proper.all_upper (length-replicate f.rows (Some 0ℚ));
+          length-append f.upper (replicate f.rows (Some 0ℚ))
+          ∙ ap₂ ◌+◌ proper.all_upper (length-replicate f.rows (Some 0ℚ));
     }
 
     keeps : KeepsBounds (bounds_of u) u
@@ -182,12 +200,14 @@ module _ (limit : Option ℕ) (f : Form) (proper : IsProper f) (basis : List Sta
         back = s.back;
         units = units;
         costs =
-            priced_agrees limit t f.cost reduced reduced_ok few (λ i k h l. past_row e.rows i k n (s.whole_rows i h) l) (equations f) s.forth units in_range;
+            priced_agrees limit t f.cost reduced reduced_ok few
+            (λ i k h l. past_row e.rows i k n (s.whole_rows i h) l) (equations f) s.forth units in_range;
         marked = marked;
         placed = placed;
         stands = stands;
         solves =
-            combined f.rows n (equations f) (entry_at t) s.back (λ k. get_or values k 0ℚ) (valued_solves limit t all_values units in_range marked zero values values_ok);
+            combined f.rows n (equations f) (entry_at t) s.back (λ k. get_or values k 0ℚ)
+            (valued_solves limit t all_values units in_range marked zero values values_ok);
       };
       bounds = keeps;
       top = upper_zero;

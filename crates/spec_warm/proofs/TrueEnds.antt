@@ -29,24 +29,29 @@ use Rattle.spec_warm.specs.declared.ends.Warm.TheVariants as outcome
 use Rattle.spec_simplex.specs.declared.ends.WarmStop.{WarmStop}
 use Rattle.spec_simplex.specs.declared.ends.WarmStop.TheVariants as fall
 use Rattle.spec_simplex.specs.Eliminate.{IsBasisOf}
-use Rattle.spec_warm.specs.Warm.{WarmEnd, WarmResult, warm_run, warm_certificate, warm_basis, warm_pivots, checked, answered, after_run, after_form, warm, IsBasisFor}
+use Rattle.spec_warm.specs.Warm.{WarmEnd, WarmResult, warm_run, warm_certificate, warm_basis}
+use Rattle.spec_warm.specs.Warm.{warm_pivots, checked, answered, after_run, after_form, warm, IsBasisFor}
 use Rattle.spec_warm.proofs.Bases.{basis_fits}
 use Rattle.spec_warm.proofs.Warmed.{warm_shows, warm_left}
 
-pub run_accepted : (limit : Option ℕ) (budget : ℕ) (m : Model) (f : Form) (basis : List Status) (e : WarmEnd) → form_of limit m ≡ Ok f → IsBasisOf f basis → warm_run limit budget f basis ≡ Ok e
+pub run_accepted : (limit : Option ℕ) (budget : ℕ) (m : Model) (f : Form) (basis : List Status) (e : WarmEnd) →
+    form_of limit m ≡ Ok f → IsBasisOf f basis → warm_run limit budget f basis ≡ Ok e
     → IsAccepted limit m (warm_certificate e)
 run_accepted limit budget m f basis e p fits q =
     let o = form_is limit m f p in
     accepted limit m (warm_certificate e)
-    (warm_shows limit m o.0 o.1 budget basis e (subst (λ f. IsBasisOf f basis) (sym o.2) fits) (ap (λ f. warm_run limit budget f basis) o.2 ∙ q))
+    (warm_shows limit m o.0 o.1 budget basis e (subst (λ f. IsBasisOf f basis) (sym o.2) fits)
+    (ap (λ f. warm_run limit budget f basis) o.2 ∙ q))
 
 -- ---- the bases of ends
-pub run_left : (limit : Option ℕ) (budget : ℕ) (m : Model) (f : Form) (basis : List Status) (e : WarmEnd) (left : List Status) → form_of limit m ≡ Ok f → IsBasisOf f basis → warm_run limit budget f basis ≡ Ok e
+pub run_left : (limit : Option ℕ) (budget : ℕ) (m : Model) (f : Form) (basis : List Status) (e : WarmEnd)
+    (left : List Status) → form_of limit m ≡ Ok f → IsBasisOf f basis → warm_run limit budget f basis ≡ Ok e
     → warm_basis e ≡ Some left → IsBasisOf f left
 run_left limit budget m f basis e left p fits q r =
     let o = form_is limit m f p in
     subst (λ f. IsBasisOf f left) o.2
-    (warm_left limit m o.0 o.1 budget basis e (subst (λ f. IsBasisOf f basis) (sym o.2) fits) (ap (λ f. warm_run limit budget f basis) o.2 ∙ q) left r)
+    (warm_left limit m o.0 o.1 budget basis e (subst (λ f. IsBasisOf f basis) (sym o.2) fits)
+    (ap (λ f. warm_run limit budget f basis) o.2 ∙ q) left r)
 
 pub phases_left : (limit : Option ℕ) (budget : ℕ) (m : Model) (f : Form) (e : PhasesEnd) (left : List Status) →
     form_of limit m ≡ Ok f → phases_run limit budget f ≡ Ok e → cold.basis_of e ≡ Some left → IsBasisOf f left
@@ -55,7 +60,8 @@ phases_left limit budget m f (Finished e) left p q r =
     let o = form_is limit m f p in
     let d = phases_finish limit m o.0 o.1 budget (Finished e) (ap (phases_run limit budget) o.2 ∙ q) in
     subst (λ f. IsBasisOf f left) o.2
-    (by e.end r (basis_fits (formed m o.0) d.starts (cost_at (formed m o.0).cost) d.bounds d.bounded e.tableau d.after.rows d.after.cols d.after.tableau))
+    (by e.end r (basis_fits (formed m o.0) d.starts
+    (cost_at (formed m o.0).cost) d.bounds d.bounded e.tableau d.after.rows d.after.cols d.after.tableau))
   where
     by : {f : Form} (end : PrimalEnd) → cold.basis_at e.tableau end ≡ Some left →
         IsBasisOf f (made (form_columns e.tableau) (cold.basis_status e.tableau)) → IsBasisOf f left
@@ -64,16 +70,20 @@ phases_left limit budget m f (Finished e) left p q r =
     by (primal.Unbounded j up) r h = let z : None ≡ Some left = r in cc
 
 -- ---- by what the checker says
-module _ (limit : Option ℕ) (budget : ℕ) (m : Model) (basis : List Status) (fits : IsBasisFor limit m basis) (P : WarmResult → Type 0)
-    (ended : (answer : Known ℚ) (c : Certificate (List ℚ)) (left : Option (List Status)) (pivots : ℕ) → IsTrueEnd limit m answer c → P (outcome.Ended answer c left pivots))
+module _ (limit : Option ℕ) (budget : ℕ) (m : Model) (basis : List Status)
+    (fits : IsBasisFor limit m basis) (P : WarmResult → Type 0)
+    (ended : (answer : Known ℚ) (c : Certificate (List ℚ)) (left : Option (List Status)) (pivots : ℕ) →
+    IsTrueEnd limit m answer c → P (outcome.Ended answer c left pivots))
     (past : (p : Past ℚ) → P (outcome.Stopped (fall.Past p)))
-    (stopped : (f : Form) (s : WarmStop ℚ) → form_of limit m ≡ Ok f → warm_run limit budget f basis ≡ Err s → P (outcome.Stopped s)) where
+    (stopped : (f : Form) (s : WarmStop ℚ) → form_of limit m ≡ Ok f →
+    warm_run limit budget f basis ≡ Err s → P (outcome.Stopped s)) where
   by_check : (c : Certificate (List ℚ)) (left : Option (List Status)) (pivots : ℕ) → IsAccepted limit m c →
       P (answered limit m c left pivots)
   unfolding Agrees
   by_check c left pivots a =
       ⊎_elim
-      (λ e. subst (λ o. P (checked c left pivots o)) (sym e) (ended (shown m c) c left pivots (record { accepted = a; checks = e })))
+      (λ e. subst (λ o. P (checked c left pivots o)) (sym e)
+      (ended (shown m c) c left pivots (record { accepted = a; checks = e })))
       (λ p. subst (λ o. P (checked c left pivots o)) (sym p.1) (past p.0))
       a.limited
 
@@ -84,7 +94,8 @@ module _ (limit : Option ℕ) (budget : ℕ) (m : Model) (basis : List Status) (
       with_run : (f : Form) → form_of limit m ≡ Ok f → (o : Result WarmEnd (WarmStop ℚ)) →
           warm_run limit budget f basis ≡ o → P (after_run limit m o)
       with_run f p (Ok e) q =
-          by_check (warm_certificate e) (warm_basis e) (warm_pivots e) (run_accepted limit budget m f basis e p (fits f p) q)
+          by_check (warm_certificate e) (warm_basis e) (warm_pivots e)
+          (run_accepted limit budget m f basis e p (fits f p) q)
       with_run f p (Err s) q = stopped f s p q
 
       with_form : (o : Result Form (FormFault ℚ)) → form_of limit m ≡ o → P (after_form limit budget m basis o)
@@ -93,23 +104,29 @@ module _ (limit : Option ℕ) (budget : ℕ) (m : Model) (basis : List Status) (
       with_form (Err (fault.Past v)) p = past v
 
 -- ---- the laws
-pub ended_is_true : (limit : Option ℕ) (budget : ℕ) (m : Model) (basis : List Status) (answer : Known ℚ) (c : Certificate (List ℚ)) (left : Option (List Status)) (pivots : ℕ) → IsBasisFor limit m basis
-    → warm limit budget m basis ≡ outcome.Ended answer c left pivots → Holds m answer × (check_run limit m c ≡ Ok answer)
+pub ended_is_true : (limit : Option ℕ) (budget : ℕ) (m : Model) (basis : List Status) (answer : Known ℚ)
+    (c : Certificate (List ℚ)) (left : Option (List Status)) (pivots : ℕ) → IsBasisFor limit m basis
+    → warm limit budget m basis ≡ outcome.Ended answer c left pivots →
+    Holds m answer × (check_run limit m c ≡ Ok answer)
 ended_is_true limit budget m basis answer c left pivots fits =
-    by_end limit budget m basis fits (λ e. e ≡ outcome.Ended answer c left pivots → Holds m answer × (check_run limit m c ≡ Ok answer))
+    by_end limit budget m basis fits
+    (λ e. e ≡ outcome.Ended answer c left pivots → Holds m answer × (check_run limit m c ≡ Ok answer))
     (λ a d left' pivots' t e.
     let same_answer : a ≡ answer = cc in
     let same_certificate : d ≡ c = cc in
-    let checks : check_run limit m c ≡ Ok answer = ap (check_run limit m) (sym same_certificate) ∙ t.checks ∙ ap Ok same_answer in
+    let checks : check_run limit m c ≡ Ok answer =
+    ap (check_run limit m) (sym same_certificate) ∙ t.checks ∙ ap Ok same_answer in
     let r = run_sound limit m c answer (subst (IsFor m) same_certificate t.accepted.fits) checks in
     (subst (Holds m) (sym r.1) (checks_hold m c r.0), checks))
     (λ p e. let z : ◌≡◌ {A = WarmResult} (outcome.Stopped (fall.Past p)) (outcome.Ended answer c left pivots) = e in cc)
     (λ f s p q e. let z : ◌≡◌ {A = WarmResult} (outcome.Stopped s) (outcome.Ended answer c left pivots) = e in cc)
 
-pub stopped_is_stopped : (limit : Option ℕ) (budget : ℕ) (m : Model) (basis : List Status) (s : WarmStop ℚ) → IsBasisFor limit m basis → ((p : Past ℚ) → s ≢ fall.Past p) → warm limit budget m basis ≡ outcome.Stopped s
+pub stopped_is_stopped : (limit : Option ℕ) (budget : ℕ) (m : Model) (basis : List Status) (s : WarmStop ℚ) →
+    IsBasisFor limit m basis → ((p : Past ℚ) → s ≢ fall.Past p) → warm limit budget m basis ≡ outcome.Stopped s
     → (f : Form) × (form_of limit m ≡ Ok f) × (warm_run limit budget f basis ≡ Err s)
 stopped_is_stopped limit budget m basis s fits not_past =
-    by_end limit budget m basis fits (λ e. e ≡ outcome.Stopped s → (f : Form) × (form_of limit m ≡ Ok f) × (warm_run limit budget f basis ≡ Err s))
+    by_end limit budget m basis fits
+    (λ e. e ≡ outcome.Stopped s → (f : Form) × (form_of limit m ≡ Ok f) × (warm_run limit budget f basis ≡ Err s))
     (λ a d left pivots t e. let z : ◌≡◌ {A = WarmResult} (outcome.Ended a d left pivots) (outcome.Stopped s) = e in cc)
     (λ p e. absurd (not_past p (let z : fall.Past p ≡ s = cc in sym z)))
     (λ f x p q e. (f, p, q ∙ (let z : x ≡ s = cc in ap Err z)))

@@ -36,18 +36,22 @@ module _ (f : Form) where
 
   pub unsolved_length : (i : ℕ) → i < f.rows → length (get_or (unsolved f).rows i []) ≡ f.cols + f.rows + f.rows
   unsolved_length i h =
-      ap length (get_or-made f.rows (equation f) [] i h) ∙ length-made (f.cols + f.rows + f.rows) (start_entry f (Within 0ℚ) i)
+      ap length (get_or-made f.rows (equation f) [] i h)
+      ∙ length-made (f.cols + f.rows + f.rows) (start_entry f (Within 0ℚ) i)
 
   unsolved_entry : (i k : ℕ) → i < f.rows → at_place (unsolved f).rows i k ≡ equations f i k
   unsolved_entry i k h =
       by_lt k (f.cols + f.rows + f.rows)
       (λ l. ap (λ row. get_or row k 0ℚ) (get_or-made f.rows (equation f) [] i h)
       ∙ get_or-made (f.cols + f.rows + f.rows) (start_entry f (Within 0ℚ) i) 0ℚ k l ∙ equation_is i k)
-      (λ l. past_row (unsolved f).rows i k (f.cols + f.rows + f.rows) (unsolved_length i h) l ∙ sym (row_past f [] i k h l))
+      (λ l. past_row (unsolved f).rows i k (f.cols + f.rows + f.rows) (unsolved_length i h) l
+      ∙ sym (row_past f [] i k h l))
 
   pub unsolved_forth : Spans f.rows (at_place (unsolved f).rows) (equations f)
   unsolved_forth = (delta, λ i k h. unsolved_entry i k h ∙ sym (sum_below-delta f.rows i (λ r. equations f r k) h))
 
   pub unsolved_back : Spans f.rows (equations f) (at_place (unsolved f).rows)
-  unsolved_back =
-      (delta, λ i k h. sym (unsolved_entry i k h) ∙ sym (sum_below-delta f.rows i (λ r. at_place (unsolved f).rows r k) h))
+  unsolved_back = (
+    delta,
+    λ i k h. sym (unsolved_entry i k h) ∙ sym (sum_below-delta f.rows i (λ r. at_place (unsolved f).rows r k) h),
+  )

@@ -1,5 +1,6 @@
 -- What a warm start ends with shows what it says of the model.
-use Rattle.std.proofs.Common.{◌≡◌, ℕ, ◌+◌, ◌-◌, ◌<◌, ◌≤◌, List, [], Option, Some, None, Result, Ok, Err, Bool, true, sym, ap, ◌∙◌, subst, subst₂, arith}
+use Rattle.std.proofs.Common.{◌≡◌, ℕ, ◌+◌, ◌-◌, ◌<◌, ◌≤◌, List, [], Option, Some, None}
+use Rattle.std.proofs.Common.{Result, Ok, Err, Bool, true, sym, ap, ◌∙◌, subst, subst₂, arith}
 use Rattle.spec_exact.specs.Fraction.{ℚ, 0ℚ, ◌≤ℚ◌}
 use Rattle.spec_exact.proofs.Order.{≤ℚ_refl}
 use Rattle.spec_model.specs.Model.{Model, width, height}
@@ -15,7 +16,8 @@ use Rattle.spec_simplex.specs.Form.{formed}
 use Rattle.spec_simplex.specs.Run.{refused_as, made}
 use Rattle.spec_simplex.specs.Start.{cost_at}
 use Rattle.spec_simplex.specs.Step.{directed}
-use Rattle.spec_simplex.specs.Tableau.{Tableau, form_columns, all_columns, entry_at, value_at, status_at, lower_at, upper_at}
+use Rattle.spec_simplex.specs.Tableau.{Tableau, form_columns, all_columns, entry_at}
+use Rattle.spec_simplex.specs.Tableau.{value_at, status_at, lower_at, upper_at}
 use Rattle.spec_simplex.specs.Phases.{PrimalEnded, run_from}
 use Rattle.spec_simplex.proofs.Stops.{length-made}
 use Rattle.spec_cold.specs.Tables.{way, table_of, bounds_of, IsTableauOf}
@@ -41,7 +43,8 @@ use Rattle.spec_warm.specs.Based.{equations, IsBased, IsReady, BeginsFrom, IsStu
 use Rattle.spec_simplex.specs.Dual.{DualEnded, flips_run, dual_from, dual_run}
 use Rattle.spec_simplex.specs.Eliminate.{IsBasisOf, start_from}
 use Rattle.spec_simplex.specs.Fit.{meets_need_at, fit_run}
-use Rattle.spec_warm.specs.Warm.{stopped_as, start_stop, run_stop, WarmEnd, ByPrimal, ByDual, run_by, warm_run, row_multipliers, dual_certificate, warm_certificate, dual_basis, warm_basis}
+use Rattle.spec_warm.specs.Warm.{stopped_as, start_stop, run_stop, WarmEnd, ByPrimal, ByDual, run_by, warm_run}
+use Rattle.spec_warm.specs.Warm.{row_multipliers, dual_certificate, warm_certificate, dual_basis, warm_basis}
 use Rattle.spec_warm.proofs.Bases.{basis_fits}
 use Rattle.spec_warm.proofs.DualWalk.{IsDualEnd, dual_ends}
 use Rattle.spec_warm.proofs.EndRefuted.{refuted_checks}
@@ -61,7 +64,8 @@ pub stopped_ok : {A D E : Type 0} (kind : D → E) (o : Result A D) (a : A) → 
 stopped_ok kind (Ok b) a h = cc
 stopped_ok kind (Err e) a h = cc
 
-module _ (limit : Option ℕ) (m : Model) (ls : List (Option ℚ × Option ℚ)) (h : Limited m ls) (t : Tableau) (s : BeginsFrom (formed m ls) t) where
+module _ (limit : Option ℕ) (m : Model) (ls : List (Option ℚ × Option ℚ))
+    (h : Limited m ls) (t : Tableau) (s : BeginsFrom (formed m ls) t) where
   abbrev w : ℕ
   w = width m
 
@@ -79,21 +83,29 @@ module _ (limit : Option ℕ) (m : Model) (ls : List (Option ℚ × Option ℚ))
 
   bounded : HasBounds (formed m ls) (bounds_of t)
   bounded =
-      record { lower = s.lower; upper = s.upper; entering = λ k l. s.based.bounds.entering k (omega (arith, l, s.based.rows, s.based.cols)) }
+      record {
+        lower = s.lower;
+        upper = s.upper;
+        entering = λ k l. s.based.bounds.entering k (omega (arith, l, s.based.rows, s.based.cols));
+      }
 
   lower_zero : (k : ℕ) → w + r ≤ k → k < w + r + r → lower_at t k ≡ Some 0ℚ
   lower_zero k l q =
-      s.based.bounds.zero k (omega (arith, l, s.based.rows, s.based.cols)) (omega (arith, q, s.based.rows, s.based.cols))
+      s.based.bounds.zero k (omega (arith, l, s.based.rows, s.based.cols))
+      (omega (arith, q, s.based.rows, s.based.cols))
 
   fixed : (i : ℕ) → i < r → (lower_at t (w + r + i) ≡ Some 0ℚ) × (upper_at t (w + r + i) ≡ Some 0ℚ)
-  fixed i l =
-      (lower_zero (w + r + i) (omega arith) (omega (arith, l)), s.based.top (w + r + i) (omega arith) (omega (arith, l)))
+  fixed i l = (
+    lower_zero (w + r + i) (omega arith) (omega (arith, l)),
+    s.based.top (w + r + i) (omega arith) (omega (arith, l)),
+  )
 
   ordered : IsOrdered (w + r + r) (bounds_of t)
   ordered k l u k_in p q =
       by_lt k (w + r)
       (λ z. (formed_proper m ls h).ordered k l u z (sym (s.lower k z) ∙ p) (sym (s.upper k z) ∙ q))
-      (λ z. let x : Some 0ℚ ≡ Some l = sym (lower_zero k z k_in) ∙ p in let y : Some 0ℚ ≡ Some u = sym (s.based.top k z k_in) ∙ q in
+      (λ z. let x : Some 0ℚ ≡ Some l = sym (lower_zero k z k_in) ∙ p in
+      let y : Some 0ℚ ≡ Some u = sym (s.based.top k z k_in) ∙ q in
       let x' : 0ℚ ≡ l = cc in let y' : 0ℚ ≡ u = cc in subst₂ ◌≤ℚ◌ x' y' (≤ℚ_refl 0ℚ))
 
   -- where each basic value is within its bounds, the tableau is one for the primal method
@@ -117,16 +129,19 @@ module _ (limit : Option ℕ) (m : Model) (ls : List (Option ℚ × Option ℚ))
     checks =
         refuted_checks m ls h (bounds_of t) bounded fixed (row_of (table_of u) (way below) p)
         (stops r (w + r + r) F costs (bounds_of t) (table_of u) d.based.tableau (way below) p k.bound k.leaves k.none)
-        (row_refutes r (w + r + r) F costs (bounds_of t) (table_of u) d.based.tableau (way below) p k.bound k.leaves k.none)
+        (row_refutes r (w + r + r) F costs (bounds_of t)
+        (table_of u) d.based.tableau (way below) p k.bound k.leaves k.none)
         (row_multipliers u p below)
-        (λ i l. get_or-made u.rows (λ i. directed below (entry_at u p (u.cols + i))) 0ℚ i (omega (arith, l, d.based.rows))
+        (λ i l. get_or-made u.rows (λ i. directed below (entry_at u p (u.cols + i))) 0ℚ i
+        (omega (arith, l, d.based.rows))
         ∙ ap (λ n. directed below (entry_at u p (n + i))) d.based.cols ∙ directed_is below (entry_at u p (w + i)));
   }
 
   dual_shows : (u : Tableau) (end : DualEnd) → IsReady r w F costs (bounds_of t) u →
       IsDualMeant r w (bounds_of t) u (End end) → Shows m (dual_certificate u end)
   dual_shows u Optimal d inside =
-      primal_shows m ls h [] (bounds_of t) bounded fixed limit (record { end = primal.Optimal; tableau = u; used = 0 }) (whole u d.based inside)
+      primal_shows m ls h [] (bounds_of t) bounded fixed limit
+      (record { end = primal.Optimal; tableau = u; used = 0 }) (whole u d.based inside)
       (none_eligible (w + r + r) (bounds_of t) (table_of u) d.feasible)
   dual_shows u (Infeasible p below) d k = stuck_shows u p below d k
 
@@ -138,26 +153,39 @@ module _ (limit : Option ℕ) (m : Model) (ls : List (Option ℚ × Option ℚ))
   -- what is known of an end
   pub record IsEndOf (e : WarmEnd) : Type 0 where
     pub shows : Shows m (warm_certificate e)
-    pub based : IsBased (height m) (width m) (equations (formed m ls)) (cost_at (formed m ls).cost) (bounds_of t) (end_tableau e)
+    pub based : IsBased (height m) (width m) (equations (formed m ls))
+        (cost_at (formed m ls).cost) (bounds_of t) (end_tableau e)
 
   by_dual : (budget : ℕ) (e : DualEnded) → ((k : ℕ) → k < all_columns t → meets_need_at t k ≡ true) →
       dual_run limit budget t ≡ Ok e → IsEndOf (ByDual e)
   unfolding dual_run
   by_dual budget e met ok =
       let o = then_ok (flips_run limit budget t) (λ r. dual_from limit (budget - r.used) r.used r.tableau) e ok in
-      let d = flips_ready limit budget r w F costs (bounds_of t) t o.0 s.based (λ k l. met k (omega (arith, l, s.based.rows, s.based.cols))) o.1 in
-      let g : IsDualEnd limit r w F costs (bounds_of t) e = dual_ends limit r w F costs (bounds_of t) (budget - o.0.used) o.0.used o.0.tableau e d o.2 in
+      let d =
+      flips_ready limit budget r w F costs (bounds_of t) t o.0 s.based
+      (λ k l. met k (omega (arith, l, s.based.rows, s.based.cols))) o.1 in
+      let g : IsDualEnd limit r w F costs (bounds_of t) e =
+      dual_ends limit r w F costs (bounds_of t) (budget - o.0.used) o.0.used o.0.tableau e d o.2 in
       record { shows = dual_shows e.tableau e.end g.after g.end; based = g.after.based }
 
   by_primal : (budget : ℕ) (e : PrimalEnded) →
       ((k : ℕ) → k < all_columns t → status_at t k ≡ Basic → IsInside (lower_at t k) (upper_at t k) (value_at t k)) →
       run_from limit budget 0 t ≡ Ok e → IsEndOf (ByPrimal e)
   by_primal budget e inside ok =
-      let d = run_ends limit r w F costs (bounds_of t) some_label budget 0 t e (whole t s.based (λ k l. inside k (omega (arith, l, s.based.rows, s.based.cols)))) ok in
+      let d =
+      run_ends limit r w F costs (bounds_of t) some_label budget 0 t e
+      (whole t s.based (λ k l. inside k (omega (arith, l, s.based.rows, s.based.cols)))) ok in
       record {
         shows = primal_shows m ls h [] (bounds_of t) bounded fixed limit e d.after d.end;
         based =
-            record { rows = d.after.rows; cols = d.after.cols; whole = d.after.whole; tableau = d.after.tableau; bounds = d.after.bounds; top = s.based.top };
+            record {
+              rows = d.after.rows;
+              cols = d.after.cols;
+              whole = d.after.whole;
+              tableau = d.after.tableau;
+              bounds = d.after.bounds;
+              top = s.based.top;
+            };
       }
 
   primal_end : (budget : ℕ) (o : PrimalEnded) (e : WarmEnd) → ByPrimal o ≡ e → FitIs t fit.Primal →
@@ -171,26 +199,30 @@ module _ (limit : Option ℕ) (m : Model) (ls : List (Option ℚ × Option ℚ))
   ends_primal : (budget : ℕ) (e : WarmEnd) → FitIs t fit.Primal → run_by limit budget t fit.Primal ≡ Ok e → IsEndOf e
   ends_primal budget e inside ok =
       let o = then_ok (stopped_as run_stop (run_from limit budget 0 t)) (λ e. Ok (ByPrimal e)) e ok in
-      primal_end budget o.0 e (let z : ByPrimal o.0 ≡ e = cc in z) inside (stopped_ok run_stop (run_from limit budget 0 t) o.0 o.1)
+      primal_end budget o.0 e (let z : ByPrimal o.0 ≡ e = cc in z) inside
+      (stopped_ok run_stop (run_from limit budget 0 t) o.0 o.1)
 
   ends_dual : (budget : ℕ) (e : WarmEnd) → FitIs t fit.Dual → run_by limit budget t fit.Dual ≡ Ok e → IsEndOf e
   ends_dual budget e met ok =
       let o = then_ok (stopped_as run_stop (dual_run limit budget t)) (λ e. Ok (ByDual e)) e ok in
-      dual_end budget o.0 e (let z : ByDual o.0 ≡ e = cc in z) met (stopped_ok run_stop (dual_run limit budget t) o.0 o.1)
+      dual_end budget o.0 e (let z : ByDual o.0 ≡ e = cc in z) met
+      (stopped_ok run_stop (dual_run limit budget t) o.0 o.1)
 
   ends_unfit : (budget : ℕ) (e : WarmEnd) → run_by limit budget t fit.Unfit ≡ Ok e → IsEndOf e
   ends_unfit budget e ok = let z : ◌≡◌ {A = Result WarmEnd (WarmStop ℚ)} (Err fall.Unfit) (Ok e) = ok in cc
 
   fit_ends : (budget : ℕ) (kind : Fit) (e : WarmEnd) → FitIs t kind → run_by limit budget t kind ≡ Ok e → IsEndOf e
   fit_ends budget kind e =
-      by_fit (λ kind. FitIs t kind → run_by limit budget t kind ≡ Ok e → IsEndOf e) (ends_primal budget e) (ends_dual budget e) (λ _. ends_unfit budget e) kind
+      by_fit (λ kind. FitIs t kind → run_by limit budget t kind ≡ Ok e → IsEndOf e)
+      (ends_primal budget e) (ends_dual budget e) (λ _. ends_unfit budget e) kind
 
   -- ---- the basis of an end
   fits_at : (u : Tableau) → IsBased r w F costs (bounds_of t) u → (left : List Status) →
       Some (made (form_columns u) (cold.basis_status u)) ≡ Some left → IsBasisOf (formed m ls) left
   fits_at u d left e =
       let z : made (form_columns u) (cold.basis_status u) ≡ left = cc in
-      subst (IsBasisOf (formed m ls)) z (basis_fits (formed m ls) [] costs (bounds_of t) bounded u d.rows d.cols d.tableau)
+      subst (IsBasisOf (formed m ls)) z
+      (basis_fits (formed m ls) [] costs (bounds_of t) bounded u d.rows d.cols d.tableau)
 
   pub basis_left : (e : WarmEnd) → IsEndOf e → (left : List Status) → warm_basis e ≡ Some left →
       IsBasisOf (formed m ls) left
@@ -205,7 +237,9 @@ module _ (limit : Option ℕ) (m : Model) (ls : List (Option ℚ × Option ℚ))
       by Optimal q = fits_at e.tableau d.based left q
       by (Infeasible p below) q = let z : None ≡ Some left = q in cc
 
-module _ (limit : Option ℕ) (m : Model) (ls : List (Option ℚ × Option ℚ)) (h : Limited m ls) (budget : ℕ) (basis : List Status) (e : WarmEnd) (fits : IsBasisOf (formed m ls) basis) (ok : warm_run limit budget (formed m ls) basis ≡ Ok e) where
+module _ (limit : Option ℕ) (m : Model) (ls : List (Option ℚ × Option ℚ)) (h : Limited m ls)
+    (budget : ℕ) (basis : List Status) (e : WarmEnd) (fits : IsBasisOf (formed m ls) basis)
+    (ok : warm_run limit budget (formed m ls) basis ≡ Ok e) where
   -- the tableau that the run began with, and its end
   record Went : Type 0 where
     opening : Tableau
@@ -218,8 +252,15 @@ module _ (limit : Option ℕ) (m : Model) (ls : List (Option ℚ × Option ℚ))
       let a = then_ok (stopped_as start_stop (start_from limit (formed m ls) basis)) _ e ok in
       let c = then_ok (refused_as fall.Past (fit_run limit a.0)) (λ fit. run_by limit budget a.0 fit) e a.2 in
       let s : BeginsFrom (formed m ls) a.0 =
-      start_begins_from limit (formed m ls) basis a.0 (formed_proper m ls h) fits (omega (arith, cost_length m ls h)) (stopped_ok start_stop (start_from limit (formed m ls) basis) a.0 a.1) in
-      record { opening = a.0; begins = s; ends = fit_ends limit m ls h a.0 s budget c.0 e (fit_is limit a.0 c.0 (refused_ok fall.Past (fit_run limit a.0) c.0 c.1)) c.2 }
+      start_begins_from limit (formed m ls) basis a.0 (formed_proper m ls h) fits
+      (omega (arith, cost_length m ls h)) (stopped_ok start_stop (start_from limit (formed m ls) basis) a.0 a.1) in
+      record {
+        opening = a.0;
+        begins = s;
+        ends =
+            fit_ends limit m ls h a.0 s budget c.0 e
+            (fit_is limit a.0 c.0 (refused_ok fall.Past (fit_run limit a.0) c.0 c.1)) c.2;
+      }
 
   pub warm_shows : Shows m (warm_certificate e)
   warm_shows = went.ends.shows

@@ -1,4 +1,5 @@
--- What holds of the tableau of a basis and of those that the dual method makes of it, and what a choice of that method means.
+-- What holds of the tableau of a basis and of those that the dual method makes of it,
+-- and what a choice of that method means.
 use Rattle.std.specs.Prelude.{◌≡◌, ◌≢◌, ℕ, List, ◌+◌, ◌<◌, ◌≤◌, [], Some, Bool}
 use Rattle.spec_exact.specs.Fraction.{ℚ, 0ℚ, 1ℚ, ◌*ℚ◌}
 use Rattle.spec_exact.specs.Sums.{sum_below}
@@ -18,8 +19,8 @@ use Rattle.spec_simplex.specs.declared.ends.DualChoice.TheVariants.{End, Pivot}
 use Rattle.spec_simplex.specs.Dual.{passed_bound}
 use Rattle.spec_simplex.specs.Eliminate.{basis_at}
 
--- a tableau of m positions, n columns of the model and these rows, costs and bounds, in which artificials are fixed at 0; its
--- basic values may be outside their bounds
+-- a tableau of m positions, n columns of the model and these rows, costs and bounds, in which artificials are fixed at
+-- 0; its basic values may be outside their bounds
 pub record IsBased (m n : ℕ) (f : Matrix) (cost : ℕ → ℚ) (b : Bounds) (t : Tableau) : Type 0 where
   pub rows : t.rows ≡ m
   pub cols : t.cols ≡ n

@@ -1,5 +1,5 @@
--- A solve of a model, at a limit and within a budget: from the basis that is handed to it, if one is, and else cold. Where the
--- warm start stops, the solve is a cold one with the whole budget, so that a basis never costs an answer.
+-- A solve of a model, at a limit and within a budget: from the basis that is handed to it, if one is, and else cold.
+-- Where the warm start stops, the solve is a cold one with the whole budget, so that a basis never costs an answer.
 use Rattle.std.specs.Prelude.{◌≡◌, ℕ, List, Option, Some, None, Ok}
 use Rattle.spec_exact.specs.Fraction.{ℚ}
 use Rattle.spec_model.specs.Model.{Model}

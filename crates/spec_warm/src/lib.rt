@@ -10,8 +10,8 @@
 //! | `IsDependent` | a basic column depends on those before it | specs/Based |
 //! | `IsStuck`, `IsDualStep`, `IsDualMeant` | what a choice of the dual method means for a tableau | specs/Based |
 //!
-//! All runs take a limit: `Some m` refuses numbers past m, `None` refuses nothing. The functions here have the laws as their
-//! contracts. Each law holds at every limit: a run at a limit that gives a result gives the exact one.
+//! All runs take a limit: `Some m` refuses numbers past m, `None` refuses nothing. The functions here have the laws as
+//! their contracts. Each law holds at every limit: a run at a limit that gives a result gives the exact one.
 //!
 //! The elimination, the fit and the steps are those of `spec_simplex`, the dual steps on functions of an index those of
 //! `spec_dual`, and the certificates and their checker those of `spec_check`.
@@ -65,30 +65,37 @@ pub fn singular_bases_depend()
         (j : ℕ) × (x : ℕ → ℚ) × IsDependent f basis j x }
 {}
 
-/// A tableau that is fit for the primal method has each value within its bounds. One that is fit for the dual method has,
-/// after its flips, reduced costs of the signs that their statuses want.
+/// A tableau that is fit for the primal method has each value within its bounds. One that is fit for the dual method
+/// has, after its flips, reduced costs of the signs that their statuses want.
 pub fn fits_mean_methods()
     ensures primal { (limit : Option ℕ) (m n : ℕ) (f : Matrix) (cost : ℕ → ℚ) (b : Bounds) (t : Tableau) →
-        IsBased m n f cost b t → IsOrdered (n + m + m) b → fit_run limit t ≡ Ok fit.Primal → IsTableauOf m n f cost b t }
-    ensures dual { (limit : Option ℕ) (m n : ℕ) (f : Matrix) (cost : ℕ → ℚ) (b : Bounds) (t : Tableau) (budget : ℕ) (r : Reached) →
-        IsBased m n f cost b t → fit_run limit t ≡ Ok fit.Dual → flips_run limit budget t ≡ Ok r → IsReady m n f cost b r.tableau }
+        IsBased m n f cost b t → IsOrdered (n + m + m) b →
+        fit_run limit t ≡ Ok fit.Primal → IsTableauOf m n f cost b t }
+    ensures dual { (limit : Option ℕ) (m n : ℕ) (f : Matrix) (cost : ℕ → ℚ)
+        (b : Bounds) (t : Tableau) (budget : ℕ) (r : Reached) →
+        IsBased m n f cost b t → fit_run limit t ≡ Ok fit.Dual →
+        flips_run limit budget t ≡ Ok r → IsReady m n f cost b r.tableau }
 {}
 
-/// A choice of the dual run means what the dual ratio test says, and its pivot is a dual step, which keeps the signs of the
-/// reduced costs.
+/// A choice of the dual run means what the dual ratio test says, and its pivot is a dual step, which keeps the signs of
+/// the reduced costs.
 pub fn dual_choices_mean_steps()
-    ensures choice { (limit : Option ℕ) (m n : ℕ) (f : Matrix) (cost : ℕ → ℚ) (b : Bounds) (t : Tableau) (choice : DualChoice) →
+    ensures choice { (limit : Option ℕ) (m n : ℕ) (f : Matrix)
+        (cost : ℕ → ℚ) (b : Bounds) (t : Tableau) (choice : DualChoice) →
         IsReady m n f cost b t → dual_choice_run limit t ≡ Ok choice → IsDualMeant m n b t choice }
-    ensures table { (limit : Option ℕ) (m n : ℕ) (f : Matrix) (cost : ℕ → ℚ) (b : Bounds) (t u : Tableau) (p j : ℕ) (below : Bool) →
-        IsReady m n f cost b t → (d : IsDualStep m n b t p j below) → dual_pivot_run limit t p j (passed_bound below) ≡ Ok u →
+    ensures table { (limit : Option ℕ) (m n : ℕ) (f : Matrix) (cost : ℕ → ℚ)
+        (b : Bounds) (t u : Tableau) (p j : ℕ) (below : Bool) →
+        IsReady m n f cost b t → (d : IsDualStep m n b t p j below) →
+        dual_pivot_run limit t p j (passed_bound below) ≡ Ok u →
         table_of u ≡ after_dual m (table_of t) (way below) p j d.bound }
-    ensures ready { (limit : Option ℕ) (m n : ℕ) (f : Matrix) (cost : ℕ → ℚ) (b : Bounds) (t u : Tableau) (p j : ℕ) (below : Bool) →
+    ensures ready { (limit : Option ℕ) (m n : ℕ) (f : Matrix) (cost : ℕ → ℚ)
+        (b : Bounds) (t u : Tableau) (p j : ℕ) (below : Bool) →
         IsReady m n f cost b t → IsDualStep m n b t p j below → dual_pivot_run limit t p j (passed_bound below) ≡ Ok u →
         IsReady m n f cost b u }
 {}
 
-/// The certificate of what a run from a basis of the form ends with is accepted without a limit, and at a limit unless an
-/// operation is refused.
+/// The certificate of what a run from a basis of the form ends with is accepted without a limit, and at a limit unless
+/// an operation is refused.
 pub fn warm_ends_are_accepted()
     ensures { (limit : Option ℕ) (budget : ℕ) (m : Model) (f : Form) (basis : List Status) (e : WarmEnd) →
         form_of limit m ≡ Ok f → IsBasisOf f basis → warm_run limit budget f basis ≡ Ok e →
@@ -97,15 +104,16 @@ pub fn warm_ends_are_accepted()
 
 /// The basis of an optimal end is a basis of the form again, that of a warm start and that of the cold solve.
 pub fn ends_leave_bases()
-    ensures warm { (limit : Option ℕ) (budget : ℕ) (m : Model) (f : Form) (basis : List Status) (e : WarmEnd) (left : List Status) →
+    ensures warm { (limit : Option ℕ) (budget : ℕ) (m : Model) (f : Form)
+        (basis : List Status) (e : WarmEnd) (left : List Status) →
         form_of limit m ≡ Ok f → IsBasisOf f basis → warm_run limit budget f basis ≡ Ok e → warm_basis e ≡ Some left →
         IsBasisOf f left }
     ensures cold { (limit : Option ℕ) (budget : ℕ) (m : Model) (f : Form) (e : PhasesEnd) (left : List Status) →
         form_of limit m ≡ Ok f → phases_run limit budget f ≡ Ok e → basis_of e ≡ Some left → IsBasisOf f left }
 {}
 
-/// What a warm start ends with is true, and the checker accepts its certificate. Where it stops but for a refused operation,
-/// its run stopped so.
+/// What a warm start ends with is true, and the checker accepts its certificate. Where it stops but for a refused
+/// operation, its run stopped so.
 pub fn warm_ends_true()
     ensures ended { (limit : Option ℕ) (budget : ℕ) (m : Model) (basis : List Status)
         (answer : Known ℚ) (cert : Certificate (List ℚ)) (left : Option (List Status)) (pivots : ℕ) →
@@ -119,7 +127,8 @@ pub fn warm_ends_true()
 /// At a limit a warm start is the one without a limit, or an operation is refused. Without a limit none is.
 pub fn warm_limits_only_refuse()
     ensures same { (limit : Option ℕ) (budget : ℕ) (m : Model) (basis : List Status) → IsBasisFor limit m basis →
-        (warm limit budget m basis ≡ warm None budget m basis) ⊎ ((p : Past ℚ) × (warm limit budget m basis ≡ outcome.Stopped (fall.Past p))) }
+        (warm limit budget m basis ≡ warm None budget m basis)
+        ⊎ ((p : Past ℚ) × (warm limit budget m basis ≡ outcome.Stopped (fall.Past p))) }
     ensures exact { (budget : ℕ) (m : Model) (basis : List Status) (p : Past ℚ) → IsBasisFor None m basis →
         ¬ (warm None budget m basis ≡ outcome.Stopped (fall.Past p)) }
 {}

@@ -7,5 +7,6 @@ returns c = record {
   pivot = λ m n f cost b t way p j c g l h e. dual_kept m n f cost b t g way p j c l h e;
   lands = λ m n f cost b t way p j c g l h e. lands_at m n f cost b t g way p j c l h e;
   flip =
-      λ m n f cost b t way j theta to g v. flip_kept m n f cost b t g way j v.in_range v.nonbasic theta to v.to_nonbasic v.lands;
+      λ m n f cost b t way j theta to g v.
+      flip_kept m n f cost b t g way j v.in_range v.nonbasic theta to v.to_nonbasic v.lands;
 }

@@ -4,6 +4,7 @@ use Rattle.spec_dual.proofs.stuck_rows_refute.Goals as goal
 pub returns : goal.returns
 returns c = record {
   row =
-      λ m n f cost b t way p c g l none. (stops m n f cost b t g way p c l none, row_refutes m n f cost b t g way p c l none);
+      λ m n f cost b t way p c g l none.
+      (stops m n f cost b t g way p c l none, row_refutes m n f cost b t g way p c l none);
   none = refuted;
 }
