@@ -1,5 +1,6 @@
 -- What btran gives, without a limit, is adjoint to what ftran gives.
-use Rattle.std.proofs.Common.{◌≡◌, ◌≢◌, ℕ, ◌<◌, List, [], ◌∷◌, cond, nat_eq, refl, sym, ap, ap₂, ◌∙◌, subst, eq-eqb, ne_eqb}
+use Rattle.std.proofs.Common.{◌≡◌, ◌≢◌, ℕ, ◌<◌, List, [], ◌∷◌, cond, nat_eq}
+use Rattle.std.proofs.Common.{refl, sym, ap, ap₂, ◌∙◌, subst, eq-eqb, ne_eqb}
 use Rattle.std.specs.Prelude.{All}
 use Rattle.std.proofs.lemmas.List.Elements.{All-head, All-tail}
 use Rattle.spec_exact.specs.Fraction.{ℚ, ◌+ℚ◌, ◌-ℚ◌, ◌*ℚ◌, 0ℚ, 1ℚ, inverse}
@@ -40,14 +41,22 @@ backward_one_same m e c d p h i l =
 
 -- ---- the terms of both sums, in parts
 forward_term : (e : Pair) (c v : ℕ → ℚ) (i : ℕ) → c i *ℚ forward_one e v i ≡
-    (off e.place i (c i *ℚ v i) -ℚ off e.place i (c i *ℚ pair_at e i) *ℚ (v e.place *ℚ inverse (pair_at e e.place))) +ℚ delta e.place i *ℚ (c e.place *ℚ (v e.place *ℚ inverse (pair_at e e.place)))
+    (off e.place i (c i *ℚ v i) -ℚ off e.place i (c i *ℚ pair_at e i) *ℚ (v e.place *ℚ inverse (pair_at e e.place)))
+    +ℚ delta e.place i *ℚ (c e.place *ℚ (v e.place *ℚ inverse (pair_at e e.place)))
 forward_term e c v i =
     by_eq i e.place
-    (λ d. subst (λ i. c i *ℚ forward_one e v i ≡ (off e.place i (c i *ℚ v i) -ℚ off e.place i (c i *ℚ pair_at e i) *ℚ x) +ℚ delta e.place i *ℚ (c e.place *ℚ x)) (sym d)
-    (ap (λ a. c e.place *ℚ a) (one_at_place e v) ∙ sym (ap₂ (λ a b. (a -ℚ b *ℚ x) +ℚ delta e.place e.place *ℚ (c e.place *ℚ x)) (off_at (c e.place *ℚ v e.place)) (off_at (c e.place *ℚ pair_at e e.place)) ∙ ap (λ a. (0ℚ -ℚ 0ℚ *ℚ x) +ℚ a *ℚ (c e.place *ℚ x)) (delta_same e.place) ∙ here x (c e.place))))
+    (λ d. subst (λ i. c i *ℚ forward_one e v i
+    ≡ (off e.place i (c i *ℚ v i) -ℚ off e.place i (c i *ℚ pair_at e i) *ℚ x) +ℚ delta e.place i *ℚ (c e.place *ℚ x))
+    (sym d)
+    (ap (λ a. c e.place *ℚ a) (one_at_place e v)
+    ∙ sym (ap₂ (λ a b. (a -ℚ b *ℚ x) +ℚ delta e.place e.place *ℚ (c e.place *ℚ x))
+    (off_at (c e.place *ℚ v e.place)) (off_at (c e.place *ℚ pair_at e e.place))
+    ∙ ap (λ a. (0ℚ -ℚ 0ℚ *ℚ x) +ℚ a *ℚ (c e.place *ℚ x)) (delta_same e.place) ∙ here x (c e.place))))
     (λ d. ap (λ a. c i *ℚ a) (one_off_place e v i d)
-    ∙ sym (ap₂ (λ a b. (a -ℚ b *ℚ x) +ℚ delta e.place i *ℚ (c e.place *ℚ x)) (off_off i (c i *ℚ v i) d) (off_off i (c i *ℚ pair_at e i) d)
-    ∙ ap (λ a. (c i *ℚ v i -ℚ c i *ℚ pair_at e i *ℚ x) +ℚ a *ℚ (c e.place *ℚ x)) (delta_other e.place i (λ y. d (sym y)))
+    ∙ sym (ap₂ (λ a b. (a -ℚ b *ℚ x) +ℚ delta e.place i *ℚ (c e.place *ℚ x))
+    (off_off i (c i *ℚ v i) d) (off_off i (c i *ℚ pair_at e i) d)
+    ∙ ap (λ a. (c i *ℚ v i -ℚ c i *ℚ pair_at e i *ℚ x) +ℚ a *ℚ (c e.place *ℚ x))
+    (delta_other e.place i (λ y. d (sym y)))
     ∙ there (c i) (v i) (pair_at e i) x (c e.place)))
   where
     x : ℚ
@@ -66,11 +75,13 @@ forward_term e c v i =
     there c v z x b = simp ring
 
 backward_term : (m : ℕ) (e : Pair) (c v : ℕ → ℚ) (i : ℕ) →
-    backward_one m e c i *ℚ v i ≡ off e.place i (c i *ℚ v i) +ℚ delta e.place i *ℚ ((c e.place -ℚ taken m e c) *ℚ inverse (pair_at e e.place) *ℚ v e.place)
+    backward_one m e c i *ℚ v i ≡ off e.place i
+    (c i *ℚ v i) +ℚ delta e.place i *ℚ ((c e.place -ℚ taken m e c) *ℚ inverse (pair_at e e.place) *ℚ v e.place)
 unfolding backward_one
 backward_term m e c v i =
     by_eq i e.place
-    (λ d. subst (λ i. cond (nat_eq i e.place) w (c i) *ℚ v i ≡ off e.place i (c i *ℚ v i) +ℚ delta e.place i *ℚ (w *ℚ v e.place)) (sym d)
+    (λ d. subst (λ i. cond (nat_eq i e.place) w (c i) *ℚ v i
+    ≡ off e.place i (c i *ℚ v i) +ℚ delta e.place i *ℚ (w *ℚ v e.place)) (sym d)
     (rw (eq-eqb e.place e.place refl) (here (w *ℚ v e.place))))
     (λ d. rw (ne_eqb i e.place d, ne_eqb e.place i (λ y. d (sym y))) (there (c i *ℚ v i) (w *ℚ v e.place)))
   where
@@ -91,7 +102,8 @@ adjoint_one m e c v p =
     ∙ ap (λ a. A +ℚ a) (sum_below-delta m e.place (λ _. (c e.place -ℚ S) *ℚ q *ℚ v e.place) p)
     ∙ close A (c e.place) S q (v e.place)
     ∙ sym (sum_below_same m _ _ (λ i _. forward_term e c v i) ∙ sum_below-+ℚ m _ _
-    ∙ ap₂ ◌+ℚ◌ (sum_below-sub m _ _ ∙ ap (λ a. A -ℚ a) (sym (sum_below-*ℚ m _ (v e.place *ℚ q)))) (sum_below-delta m e.place (λ _. c e.place *ℚ (v e.place *ℚ q)) p))
+    ∙ ap₂ ◌+ℚ◌ (sum_below-sub m _ _ ∙ ap (λ a. A -ℚ a) (sym (sum_below-*ℚ m _ (v e.place *ℚ q))))
+    (sum_below-delta m e.place (λ _. c e.place *ℚ (v e.place *ℚ q)) p))
   where
     q : ℚ
     q = inverse (pair_at e e.place)
@@ -118,4 +130,5 @@ pub backward_same : (m : ℕ) (pairs : List Pair) (c d : ℕ → ℚ) → All (I
 unfolding backward
 backward_same m [] c d s h = h
 backward_same m (e ∷ es) c d s h =
-    backward_one_same m e (backward m es c) (backward m es d) ((All-head (IsPair m) e es s).place) (backward_same m es c d (All-tail (IsPair m) e es s) h)
+    backward_one_same m e (backward m es c) (backward m es d)
+    ((All-head (IsPair m) e es s).place) (backward_same m es c d (All-tail (IsPair m) e es s) h)

@@ -1,6 +1,8 @@
 -- Factoring anew: the columns that were taken are unit vectors, and where a column finds no place it is a combination
 -- of them.
-use Rattle.std.proofs.Common.{◌≡◌, ◌≢◌, ℕ, zero, suc, ◌+◌, ◌<◌, ◌≤◌, List, length, get_or, set, replicate, Option, Some, None, is_none, is_some, Result, Ok, Err, Bool, true, false, not, ◌&&◌, cond, refl, sym, ap, ap₂, ◌∙◌, subst, arith}
+use Rattle.std.proofs.Common.{◌≡◌, ◌≢◌, ℕ, zero, suc, ◌+◌, ◌<◌, ◌≤◌, List, length, get_or, set}
+use Rattle.std.proofs.Common.{replicate, Option, Some, None, is_none, is_some, Result, Ok, Err, Bool}
+use Rattle.std.proofs.Common.{true, false, not, ◌&&◌, cond, refl, sym, ap, ap₂, ◌∙◌, subst, arith}
 use Rattle.std.specs.Prelude.{All}
 use Rattle.std.proofs.lemmas.List.{length-set, length-replicate, get_or-set_same, get_or-set_other, get_or-replicate}
 use Rattle.std.proofs.lemmas.List.Elements.{All-nil}
@@ -23,7 +25,8 @@ use Rattle.spec_cold.proofs.Lists.{by_lt}
 use Rattle.spec_simplex.specs.Eliminate.{basis_at, basics_below}
 use Rattle.spec_factor.specs.declared.stop.NoFactors.{NoFactors}
 use Rattle.spec_factor.specs.declared.stop.NoFactors.TheVariants as stop
-use Rattle.spec_factor.specs.Factors.{Pair, Chosen, column_entry, column_of, ftran_run, is_open, or_open, open_place, with_pair, chosen_at, choose_run, none_chosen, choose_all}
+use Rattle.spec_factor.specs.Factors.{Pair, Chosen, column_entry, column_of, ftran_run, is_open, or_open}
+use Rattle.spec_factor.specs.Factors.{open_place, with_pair, chosen_at, choose_run, none_chosen, choose_all}
 use Rattle.spec_factor.specs.Basis.{forward, IsPair, AreDependent}
 use Rattle.spec_factor.proofs.Forward.{forward_same, forward_combines, forward_apart}
 use Rattle.spec_factor.proofs.RunLists.{read, ftran_ok}
@@ -98,14 +101,17 @@ filled_none : (m n : ℕ) → n ≤ m → filled (replicate m None) n ≡ 0
 unfolding filled
 filled_none m zero h = refl
 filled_none m (suc n) h =
-    ap (λ o. cond (is_some o) (suc (filled (replicate m None) n)) (filled (replicate m None) n)) (get_or-replicate m n None None (omega (arith, h)))
+    ap (λ o. cond (is_some o) (suc (filled (replicate m None) n)) (filled (replicate m None) n))
+    (get_or-replicate m n None None (omega (arith, h)))
     ∙ filled_none m n (omega (arith, h))
 
 filled_before : (columns : List (Option ℕ)) (p k n : ℕ) → n ≤ p → filled (set columns p (Some k)) n ≡ filled columns n
 unfolding filled
 filled_before columns p k zero h = refl
 filled_before columns p k (suc n) h =
-    ap₂ (λ o a. cond (is_some o) (suc a) a) (get_or-set_other columns p n (Some k) None (λ d. let z : ⊥ = omega (arith, h, d) in z)) (filled_before columns p k n (omega (arith, h)))
+    ap₂ (λ o a. cond (is_some o) (suc a) a)
+    (get_or-set_other columns p n (Some k) None (λ d. let z : ⊥ = omega (arith, h, d) in z))
+    (filled_before columns p k n (omega (arith, h)))
 
 filled_more : (columns : List (Option ℕ)) (p k n : ℕ) → chosen_column columns p ≡ None → p < length columns → p < n →
     filled (set columns p (Some k)) n ≡ suc (filled columns n)
@@ -113,13 +119,18 @@ unfolding filled
 filled_more columns p k zero e l h = absurd (let z : ⊥ = omega (arith, h) in z)
 filled_more columns p k (suc n) e l h =
     by_eq n p
-    (λ d. ap₂ (λ o a. cond (is_some o) (suc a) a) (ap (chosen_column (set columns p (Some k))) d ∙ get_or-set_same columns p (Some k) None l) (filled_before columns p k n (omega (arith, d)))
-    ∙ sym (ap (λ o. suc (cond (is_some o) (suc (filled columns n)) (filled columns n))) (ap (chosen_column columns) d ∙ e)))
-    (λ d. ap₂ (λ o a. cond (is_some o) (suc a) a) (get_or-set_other columns p n (Some k) None d) (filled_more columns p k n e l (omega (arith, h, d)))
+    (λ d. ap₂ (λ o a. cond (is_some o) (suc a) a)
+    (ap (chosen_column (set columns p (Some k))) d ∙ get_or-set_same columns p (Some k) None l)
+    (filled_before columns p k n (omega (arith, d)))
+    ∙ sym (ap (λ o. suc (cond (is_some o) (suc (filled columns n)) (filled columns n)))
+    (ap (chosen_column columns) d ∙ e)))
+    (λ d. ap₂ (λ o a. cond (is_some o) (suc a) a) (get_or-set_other columns p n (Some k) None d)
+    (filled_more columns p k n e l (omega (arith, h, d)))
     ∙ by (is_some (chosen_column columns n)))
   where
     by : (c : Bool) →
-        cond c (suc (suc (filled columns n))) (suc (filled columns n)) ≡ suc (cond c (suc (filled columns n)) (filled columns n))
+        cond c (suc (suc (filled columns n))) (suc (filled columns n))
+        ≡ suc (cond c (suc (filled columns n)) (filled columns n))
     by true = refl
     by false = refl
 
@@ -191,8 +202,11 @@ module _ (f : Form) (basis : List Status) where
       choose_run limit f n s ≡ Ok u → Took (suc n) u
   took_one limit n s u is_b t h =
       let a =
-      then_ok (refused_as stop.Past (ftran_run limit m s.pairs (column_of f n))) (λ v. chosen_at s n v (open_place s.columns v m)) u h in
-      by a.0 (solved limit s.pairs n a.0 t.sound (refused_ok stop.Past (ftran_run limit m s.pairs (column_of f n)) a.0 a.1)) (open_place s.columns a.0 m) refl a.2
+      then_ok (refused_as stop.Past (ftran_run limit m s.pairs (column_of f n)))
+      (λ v. chosen_at s n v (open_place s.columns v m)) u h in
+      by a.0
+      (solved limit s.pairs n a.0 t.sound (refused_ok stop.Past (ftran_run limit m s.pairs (column_of f n)) a.0 a.1))
+      (open_place s.columns a.0 m) refl a.2
     where
       by : (v : List ℚ) → ((i : ℕ) → i < m → read v i ≡ forward s.pairs (column n) i) → (o : Option ℕ) →
           open_place s.columns v m ≡ o → chosen_at s n v o ≡ Ok u → Took (suc n) u
@@ -206,20 +220,31 @@ module _ (f : Form) (basis : List Status) where
             all = length-set s.columns p (Some n) ∙ t.all;
             sound = sound_with m s.pairs p v t.sound found.0 found.1.not_zero;
             marked = λ q k l x. by_eq q p
-                (λ d. let y : Some n ≡ Some k = sym (get_or-set_same s.columns p (Some n) None inside) ∙ sym (ap (λ q. get_or (set s.columns p (Some n)) q None) d) ∙ x in
+                (λ d. let y : Some n ≡ Some k = sym (get_or-set_same s.columns p (Some n) None inside)
+                ∙ sym (ap (λ q. get_or (set s.columns p (Some n)) q None) d) ∙ x in
                 let w : n ≡ k = cc in subst (λ k. (k < suc n) × (basis_at basis k ≡ Basic)) w (omega arith, is_b))
-                (λ d. let w = t.marked q k l (sym (get_or-set_other s.columns p q (Some n) None d) ∙ x) in (omega (arith, w.0), w.1));
+                (λ d. let w = t.marked q k l (sym (get_or-set_other s.columns p q (Some n) None d) ∙ x) in
+                (omega (arith, w.0), w.1));
             placed = λ k l b. by_eq k n
                 (λ d. (p, found.0, get_or-set_same s.columns p (Some n) None inside ∙ ap Some (sym d)))
-                (λ d. let w = t.placed k (omega (arith, l, d)) b in
-                (w.0, w.1, get_or-set_other s.columns p w.0 (Some n) None (λ y. let x : None ≡ Some k = sym found.1.free ∙ ap (chosen_column s.columns) (sym y) ∙ w.2 in cc) ∙ w.2));
+                (λ d. let w = t.placed k (omega (arith, l, d)) b in (
+                  w.0,
+                  w.1,
+                  get_or-set_other s.columns p w.0 (Some n) None
+                      (λ y. let x : None ≡ Some k = sym found.1.free ∙ ap (chosen_column s.columns) (sym y) ∙ w.2 in cc)
+                      ∙ w.2,
+                ));
             units = λ q k i l r x. by_eq q p
-                (λ d. let y : Some n ≡ Some k = sym (get_or-set_same s.columns p (Some n) None inside) ∙ sym (ap (λ q. get_or (set s.columns p (Some n)) q None) d) ∙ x in
+                (λ d. let y : Some n ≡ Some k = sym (get_or-set_same s.columns p (Some n) None inside)
+                ∙ sym (ap (λ q. get_or (set s.columns p (Some n)) q None) d) ∙ x in
                 let w : n ≡ k = cc in
                 subst (λ k. forward (with_pair s.pairs p v) (column k) i ≡ delta q i) w
-                (with_own m s.pairs p v t.sound found.0 found.1.not_zero (column n) is i r ∙ ap (λ q. delta q i) (sym d)))
-                (λ d. let w : chosen_column s.columns q ≡ Some k = sym (get_or-set_other s.columns p q (Some n) None d) ∙ x in
-                with_other m s.pairs p v t.sound found.0 found.1.not_zero (column k) q (λ y. d (sym y)) (λ i g. t.units q k i l g w) i r);
+                (with_own m s.pairs p v t.sound found.0 found.1.not_zero (column n) is i r
+                ∙ ap (λ q. delta q i) (sym d)))
+                (λ d. let w : chosen_column s.columns q ≡ Some k =
+                sym (get_or-set_other s.columns p q (Some n) None d) ∙ x in
+                with_other m s.pairs p v t.sound found.0 found.1.not_zero
+                (column k) q (λ y. d (sym y)) (λ i g. t.units q k i l g w) i r);
             count = filled_more s.columns p n m found.1.free inside found.0 ∙ ap suc t.count ∙ sym (counted n is_b);
           })
 
@@ -246,7 +271,9 @@ module _ (f : Form) (basis : List Status) where
             sound = t.sound;
             marked = λ p k l x. let w = t.marked p k l x in (omega (arith, w.0), w.1);
             placed =
-                λ k l b. t.placed k (by_eq k n (λ d. absurd (not_basic_if (basis_at basis n) e (sym (ap (basis_at basis) d) ∙ b))) (λ d. omega (arith, l, d))) b;
+                λ k l b. t.placed k
+                (by_eq k n (λ d. absurd (not_basic_if (basis_at basis n) e (sym (ap (basis_at basis) d) ∙ b)))
+                (λ d. omega (arith, l, d))) b;
             units = t.units;
             count =
                 let z : basics_below basis n ≡ basics_below basis n + 0 = omega arith in
@@ -262,7 +289,9 @@ module _ (f : Form) (basis : List Status) where
   mark None k = 0ℚ
   mark (Some c) k = delta c k
 
-  module _ (n : ℕ) (s : Chosen) (t : Took n s) (inside : n < f.cols + m) (v : List ℚ) (is : (i : ℕ) → i < m → read v i ≡ forward s.pairs (column n) i) (closed : (p : ℕ) → p < m → chosen_column s.columns p ≡ None → read v p ≡ 0ℚ) where
+  module _ (n : ℕ) (s : Chosen) (t : Took n s) (inside : n < f.cols + m)
+      (v : List ℚ) (is : (i : ℕ) → i < m → read v i ≡ forward s.pairs (column n) i)
+      (closed : (p : ℕ) → p < m → chosen_column s.columns p ≡ None → read v p ≡ 0ℚ) where
     weights : ℕ → ℚ
     weights k = sum_below m (λ p. read v p *ℚ mark (chosen_column s.columns p) k)
 
@@ -279,14 +308,16 @@ module _ (f : Form) (basis : List Status) where
     at_place_is p l (Some k) e i q =
         ap (λ a. a *ℚ read v p)
         (forward_same m s.pairs (λ r. at_place r p) (column k) t.sound
-        (λ r _. ap (λ o. sum_below (f.cols + m) (λ k. mark o k *ℚ column k r)) e ∙ sum_below-delta (f.cols + m) k (λ k. column k r) (omega (arith, (t.marked p k l e).0, inside))) i q
+        (λ r _. ap (λ o. sum_below (f.cols + m) (λ k. mark o k *ℚ column k r)) e
+        ∙ sum_below-delta (f.cols + m) k (λ k. column k r) (omega (arith, (t.marked p k l e).0, inside))) i q
         ∙ t.units p k i l q e ∙ delta_sym p i)
 
     by_places : (r : ℕ) → r < m → column n r ≡ sum_below m (λ p. at_place r p *ℚ read v p)
     by_places =
         forward_apart m s.pairs (column n) (λ r. sum_below m (λ p. at_place r p *ℚ read v p)) t.sound
         (λ i l. sym (is i l)
-        ∙ sym (forward_combines m m s.pairs at_place (read v) (λ r. sum_below m (λ p. at_place r p *ℚ read v p)) t.sound (λ r _. refl) i l
+        ∙ sym (forward_combines m m s.pairs at_place (read v)
+        (λ r. sum_below m (λ p. at_place r p *ℚ read v p)) t.sound (λ r _. refl) i l
         ∙ sum_below_same m _ _ (λ p q. at_place_is p q (chosen_column s.columns p) refl i l)
         ∙ sum_below-delta m i (read v) l))
 
@@ -313,7 +344,9 @@ module _ (f : Form) (basis : List Status) where
       basic = b;
       weights = weights;
       others = λ k w. by_lt k n
-          (λ l. by_basic (basis_at basis k) (λ e. (l, e)) (λ e. absurd (w (no_weight k (λ p q x. e ((t.marked p k q x).1))))))
-          (λ l. absurd (w (no_weight k (λ p q x. let y = (t.marked p k q x).0 in let z : ⊥ = omega (arith, l, y) in z))));
+          (λ l. by_basic (basis_at basis k) (λ e. (l, e))
+          (λ e. absurd (w (no_weight k (λ p q x. e ((t.marked p k q x).1))))))
+          (λ l.
+          absurd (w (no_weight k (λ p q x. let y = (t.marked p k q x).0 in let z : ⊥ = omega (arith, l, y) in z))));
       combines = combined;
     }

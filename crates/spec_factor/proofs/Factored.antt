@@ -1,5 +1,6 @@
 -- Factors that were made anew: they stand for the basis, or its columns are dependent.
-use Rattle.std.proofs.Common.{◌≡◌, ℕ, zero, suc, ◌+◌, ◌<◌, List, get_or, map, Option, Some, None, Result, Ok, Err, Bool, true, false, cond, refl, sym, ap, ◌∙◌, subst, arith}
+use Rattle.std.proofs.Common.{◌≡◌, ℕ, zero, suc, ◌+◌, ◌<◌, List, get_or, map, Option, Some, None, Result}
+use Rattle.std.proofs.Common.{Ok, Err, Bool, true, false, cond, refl, sym, ap, ◌∙◌, subst, arith}
 use Rattle.std.specs.Prelude.{unwrap_or}
 use Rattle.std.proofs.lemmas.List.{length-map, get_or-map}
 use Rattle.spec_exact.specs.Fraction.{ℚ, ◌*ℚ◌, ◌<ℚ◌, 0ℚ, 1ℚ, eq_ℚ}
@@ -21,10 +22,12 @@ use Rattle.spec_cold.proofs.Walks.{ThenErr, first, second, then_err}
 use Rattle.spec_simplex.specs.Eliminate.{basis_at, basics_below}
 use Rattle.spec_factor.specs.declared.stop.NoFactors.{NoFactors}
 use Rattle.spec_factor.specs.declared.stop.NoFactors.TheVariants as stop
-use Rattle.spec_factor.specs.Factors.{Factors, Chosen, column_entry, column_of, ftran_run, open_place, chosen_at, choose_run, none_chosen, choose_all, factors_of, factor_run}
+use Rattle.spec_factor.specs.Factors.{Factors, Chosen, column_entry, column_of, ftran_run, open_place}
+use Rattle.spec_factor.specs.Factors.{chosen_at, choose_run, none_chosen, choose_all, factors_of, factor_run}
 use Rattle.spec_factor.specs.Basis.{forward, basis_of, AreFactors, AreDependent}
 use Rattle.spec_factor.proofs.Forward.{forward_same, forward_combines}
-use Rattle.spec_factor.proofs.Choosing.{chosen_column, none_found, filled_all, Took, basic_if, took_none, took_step, took_all, solved, dependent}
+use Rattle.spec_factor.proofs.Choosing.{chosen_column, none_found, filled_all, Took, basic_if}
+use Rattle.spec_factor.proofs.Choosing.{took_none, took_step, took_all, solved, dependent}
 
 -- ---- where steps stop
 pub record StopsAt {A E : Type 0} (n : ℕ) (f : ℕ → A → Result A E) (a : A) (e : E) : Type 0 where
@@ -41,7 +44,8 @@ stops_at (suc n) f a e h = by (then_err (steps n f a) (λ b. f n b) e h) (λ g. 
     by : ThenErr (steps n f a) (λ b. f n b) e → (steps n f a ≡ Err e → StopsAt n f a e) → StopsAt (suc n) f a e
     by (first g) more =
         let w =
-        more g in record { at = w.at; inside = omega (arith, w.inside); state = w.state; before = w.before; stop = w.stop }
+        more g in
+        record { at = w.at; inside = omega (arith, w.inside); state = w.state; before = w.before; stop = w.stop }
     by (second b g k) more = record { at = n; inside = omega arith; state = b; before = g; stop = k }
 
 module _ (f : Form) (basis : List Status) where
@@ -62,7 +66,8 @@ module _ (f : Form) (basis : List Status) where
     stands = record {
       sound = t.sound;
       units = λ p i l q. let w = full p l in
-          forward_same m s.pairs (λ r. basis_of f (factors_of s).basic r p) (λ r. column_entry f r w.0) t.sound (λ r _. ap (column_entry f r) (is p w.0 l w.1)) i q
+          forward_same m s.pairs (λ r. basis_of f (factors_of s).basic r p)
+          (λ r. column_entry f r w.0) t.sound (λ r _. ap (column_entry f r) (is p w.0 l w.1)) i q
           ∙ t.units p w.0 i l q w.1;
     };
   }
@@ -105,24 +110,31 @@ module _ (f : Form) (basis : List Status) where
           let z : ◌≡◌ {A = Result Chosen (NoFactors ℚ)} (chosen_at s n v (Some p)) (Err stop.Singular) = h in cc
 
       two : basis_at basis n ≡ Basic →
-          ThenErr (refused_as stop.Past (ftran_run limit m s.pairs (column_of f n))) (λ v. chosen_at s n v (open_place s.columns v m)) stop.Singular →
+          ThenErr (refused_as stop.Past (ftran_run limit m s.pairs (column_of f n)))
+          (λ v. chosen_at s n v (open_place s.columns v m)) stop.Singular →
           IsStuck n s
       two b (first g) = absurd (never_singular (ftran_run limit m s.pairs (column_of f n)) g)
       two b (second v g k) =
-          at v (refused_ok stop.Past (ftran_run limit m s.pairs (column_of f n)) v g) b (open_place s.columns v m) refl k
+          at v (refused_ok stop.Past (ftran_run limit m s.pairs (column_of f n)) v g) b
+          (open_place s.columns v m) refl k
 
       by : (c : Bool) → is_basic (basis_at basis n) ≡ c → cond c (choose_run limit f n s) (Ok s) ≡ Err stop.Singular →
           IsStuck n s
       by true e h =
-          two (basic_if f basis (basis_at basis n) e) (then_err (refused_as stop.Past (ftran_run limit m s.pairs (column_of f n))) (λ v. chosen_at s n v (open_place s.columns v m)) stop.Singular h)
+          two (basic_if f basis (basis_at basis n) e)
+          (then_err (refused_as stop.Past (ftran_run limit m s.pairs (column_of f n)))
+          (λ v. chosen_at s n v (open_place s.columns v m)) stop.Singular h)
       by false e h = let z : ◌≡◌ {A = Result Chosen (NoFactors ℚ)} (Ok s) (Err stop.Singular) = h in cc
 
   pub all_dependent : (limit : Option ℕ) → choose_all limit f basis N ≡ Err stop.Singular → AreDependent f basis
   unfolding choose_all
   all_dependent limit h =
-      let w : StopsAt N (λ k s. cond (is_basic (basis_at basis k)) (choose_run limit f k s) (Ok s)) (none_chosen f) stop.Singular = stops_at N _ (none_chosen f) stop.Singular h in
+      let w : StopsAt N (λ k s. cond (is_basic (basis_at basis k)) (choose_run limit f k s) (Ok s))
+      (none_chosen f) stop.Singular =
+      stops_at N _ (none_chosen f) stop.Singular h in
       let t : Took f basis w.at w.state =
-      steps_ok (Took f basis) w.at _ (none_chosen f) w.state w.before (took_none f basis) (λ i x y _ t k. took_step f basis limit i x y t k) in
+      steps_ok (Took f basis) w.at _ (none_chosen f) w.state w.before
+      (took_none f basis) (λ i x y _ t k. took_step f basis limit i x y t k) in
       let k : IsStuck w.at w.state = stuck_at limit w.at w.state w.stop in
       dependent f basis w.at w.state t w.inside k.column
       (solved f basis k.solved.0 w.state.pairs w.at k.column t.sound k.solved.1)
@@ -144,7 +156,8 @@ module _ (f : Form) (basis : List Status) where
       let own : forward s.pairs (λ r. column_entry f r d.column) at.0 ≡ 1ℚ =
       unit_of d.column at.0 at.0 at.1 at.1 at.2 ∙ delta_same at.0 in
       let sum : forward s.pairs (λ r. column_entry f r d.column) at.0 ≡ 0ℚ =
-      forward_combines m N s.pairs (column_entry f) d.weights (λ r. column_entry f r d.column) t.stands.sound (λ r l. d.combines r l ∙ turn r) at.0 at.1
+      forward_combines m N s.pairs (column_entry f) d.weights
+      (λ r. column_entry f r d.column) t.stands.sound (λ r l. d.combines r l ∙ turn r) at.0 at.1
       ∙ sum_below_none N _ (λ k l. by k (eq_ℚ (d.weights k) 0ℚ) refl at.0 at.1 at.2) in
       one-not-zero (sym own ∙ sum)
     where
@@ -167,5 +180,7 @@ module _ (f : Form) (basis : List Status) where
       by k false e p l x =
           let w = d.others k (λ y. let z : true ≡ false = sym (eq_test (d.weights k) 0ℚ y) ∙ e in cc) in
           let q = t.placed k (omega (arith, w.0, d.in_range)) w.1 in
-          ap (λ a. a *ℚ d.weights k) (unit_of k q.0 p q.1 l q.2 ∙ delta_other q.0 p (λ y. let z : k ≡ d.column = sym q.2 ∙ ap (λ p. get_or s.basic p 0) y ∙ x in let v : ⊥ = omega (arith, w.0, z) in v))
+          ap (λ a. a *ℚ d.weights k) (unit_of k q.0 p q.1 l q.2
+          ∙ delta_other q.0 p (λ y. let z : k ≡ d.column = sym q.2 ∙ ap (λ p. get_or s.basic p 0) y ∙ x in
+          let v : ⊥ = omega (arith, w.0, z) in v))
           ∙ zero-*ℚ _

@@ -1,5 +1,6 @@
 -- The product of elementary matrices: it keeps combinations, it looks at the m places alone, and it can be undone.
-use Rattle.std.proofs.Common.{◌≡◌, ◌≢◌, ℕ, ◌<◌, List, [], ◌∷◌, ◌++◌, cond, nat_eq, refl, sym, ap, ap₂, ◌∙◌, subst, eq-eqb, ne_eqb}
+use Rattle.std.proofs.Common.{◌≡◌, ◌≢◌, ℕ, ◌<◌, List, [], ◌∷◌, ◌++◌, cond, nat_eq}
+use Rattle.std.proofs.Common.{refl, sym, ap, ap₂, ◌∙◌, subst, eq-eqb, ne_eqb}
 use Rattle.std.specs.Prelude.{All}
 use Rattle.std.proofs.lemmas.List.Elements.{All-head, All-tail}
 use Rattle.spec_exact.specs.Fraction.{ℚ, ◌+ℚ◌, ◌-ℚ◌, ◌*ℚ◌, 0ℚ, inverse}
@@ -23,7 +24,8 @@ one_off_place e v i n = rw (ne_eqb i e.place n) refl
 one_same : (m : ℕ) (e : Pair) (v w : ℕ → ℚ) → e.place < m → ((i : ℕ) → i < m → v i ≡ w i) → (i : ℕ) → i < m →
     forward_one e v i ≡ forward_one e w i
 one_same m e v w p h i l =
-    ap₂ (λ a c. cond (nat_eq i e.place) (a *ℚ inverse (pair_at e e.place)) (c -ℚ pair_at e i *ℚ (a *ℚ inverse (pair_at e e.place)))) (h e.place p) (h i l)
+    ap₂ (λ a c. cond (nat_eq i e.place) (a *ℚ inverse (pair_at e e.place))
+    (c -ℚ pair_at e i *ℚ (a *ℚ inverse (pair_at e e.place)))) (h e.place p) (h i l)
 
 pub forward_same : (m : ℕ) (pairs : List Pair) (v w : ℕ → ℚ) → All (IsPair m) pairs → ((i : ℕ) → i < m → v i ≡ w i) →
     (i : ℕ) → i < m → forward pairs v i ≡ forward pairs w i
@@ -48,11 +50,13 @@ one_combines m n e t c v p h i l =
     by_eq i e.place
     (λ d. subst (λ i. forward_one e v i ≡ sum_below n (λ s. forward_one e (λ r. t r s) i *ℚ c s)) (sym d)
     (one_at_place e v ∙ ap (λ a. a *ℚ q) (h e.place p) ∙ sum_below-*ℚ n _ q
-    ∙ sum_below_same n _ _ (λ s _. turn (t e.place s) (c s) q ∙ ap (λ a. a *ℚ c s) (sym (one_at_place e (λ r. t r s))))))
+    ∙ sum_below_same n _ _
+    (λ s _. turn (t e.place s) (c s) q ∙ ap (λ a. a *ℚ c s) (sym (one_at_place e (λ r. t r s))))))
     (λ d. one_off_place e v i d ∙ ap₂ (λ a c. a -ℚ z *ℚ (c *ℚ q)) (h i l) (h e.place p)
     ∙ ap (λ a. sum_below n (λ s. t i s *ℚ c s) -ℚ a) (ap (λ a. z *ℚ a) (sum_below-*ℚ n _ q) ∙ *ℚ-sum_below z n _)
     ∙ sym (sum_below-sub n _ _)
-    ∙ sum_below_same n _ _ (λ s _. spread (t i s) (t e.place s) (c s) z q ∙ ap (λ a. a *ℚ c s) (sym (one_off_place e (λ r. t r s) i d))))
+    ∙ sum_below_same n _ _
+    (λ s _. spread (t i s) (t e.place s) (c s) z q ∙ ap (λ a. a *ℚ c s) (sym (one_off_place e (λ r. t r s) i d))))
   where
     q : ℚ
     q = inverse (pair_at e e.place)
@@ -101,7 +105,8 @@ undone_same : (m : ℕ) (pairs : List Pair) (v w : ℕ → ℚ) → All (IsPair 
 unfolding undone
 undone_same m [] v w s h = h
 undone_same m (e ∷ es) v w s h =
-    undone_one_same m e (undone es v) (undone es w) ((All-head (IsPair m) e es s).place) (undone_same m es v w (All-tail (IsPair m) e es s) h)
+    undone_one_same m e (undone es v) (undone es w) ((All-head (IsPair m) e es s).place)
+    (undone_same m es v w (All-tail (IsPair m) e es s) h)
 
 divided : (a b : ℚ) → b ≢ 0ℚ → b *ℚ (a *ℚ inverse b) ≡ a
 divided a b n =
@@ -115,8 +120,11 @@ one_back : (m : ℕ) (e : Pair) (v : ℕ → ℚ) → IsPair m e → (i : ℕ) �
 one_back m e v g i =
     by_eq i e.place
     (λ d. subst (λ i. undone_one e (forward_one e v) i ≡ v i) (sym d)
-    (undone_at e (forward_one e v) ∙ ap (λ a. pair_at e e.place *ℚ a) (one_at_place e v) ∙ divided (v e.place) (pair_at e e.place) g.pivot))
-    (λ d. undone_off e (forward_one e v) i d ∙ ap₂ (λ a c. a +ℚ pair_at e i *ℚ c) (one_off_place e v i d) (one_at_place e v) ∙ again (v i) (pair_at e i *ℚ (v e.place *ℚ inverse (pair_at e e.place))))
+    (undone_at e (forward_one e v) ∙ ap (λ a. pair_at e e.place *ℚ a) (one_at_place e v)
+    ∙ divided (v e.place) (pair_at e e.place) g.pivot))
+    (λ d. undone_off e (forward_one e v) i d
+    ∙ ap₂ (λ a c. a +ℚ pair_at e i *ℚ c) (one_off_place e v i d) (one_at_place e v)
+    ∙ again (v i) (pair_at e i *ℚ (v e.place *ℚ inverse (pair_at e e.place))))
   where
     again : (a b : ℚ) → a -ℚ b +ℚ b ≡ a
     again a b = simp ring
@@ -125,9 +133,11 @@ one_forth : (m : ℕ) (e : Pair) (u : ℕ → ℚ) → IsPair m e → (i : ℕ) 
 one_forth m e u g i =
     by_eq i e.place
     (λ d. subst (λ i. forward_one e (undone_one e u) i ≡ u i) (sym d)
-    (one_at_place e (undone_one e u) ∙ ap (λ a. a *ℚ inverse (pair_at e e.place)) (undone_at e u) ∙ times (u e.place) (pair_at e e.place) g.pivot))
+    (one_at_place e (undone_one e u) ∙ ap (λ a. a *ℚ inverse (pair_at e e.place)) (undone_at e u)
+    ∙ times (u e.place) (pair_at e e.place) g.pivot))
     (λ d. one_off_place e (undone_one e u) i d
-    ∙ ap₂ (λ a c. a -ℚ pair_at e i *ℚ c) (undone_off e u i d) (ap (λ a. a *ℚ inverse (pair_at e e.place)) (undone_at e u) ∙ times (u e.place) (pair_at e e.place) g.pivot)
+    ∙ ap₂ (λ a c. a -ℚ pair_at e i *ℚ c) (undone_off e u i d)
+    (ap (λ a. a *ℚ inverse (pair_at e e.place)) (undone_at e u) ∙ times (u e.place) (pair_at e e.place) g.pivot)
     ∙ again (u i) (pair_at e i *ℚ u e.place))
   where
     again : (a b : ℚ) → a +ℚ b -ℚ b ≡ a
@@ -138,7 +148,8 @@ pub undone_forward : (m : ℕ) (pairs : List Pair) (v : ℕ → ℚ) → All (Is
 unfolding undone
 undone_forward m [] v s i l = refl
 undone_forward m (e ∷ es) v s i l =
-    undone_one_same m e (undone es (forward es (forward_one e v))) (forward_one e v) ((All-head (IsPair m) e es s).place)
+    undone_one_same m e (undone es (forward es (forward_one e v)))
+    (forward_one e v) ((All-head (IsPair m) e es s).place)
     (undone_forward m es (forward_one e v) (All-tail (IsPair m) e es s)) i l
     ∙ one_back m e v (All-head (IsPair m) e es s) i
 

@@ -1,5 +1,6 @@
 -- Where pairs stand for a basis, ftran solves for its columns and btran for its rows; and a column can be replaced.
-use Rattle.std.proofs.Common.{◌≡◌, ◌≢◌, ℕ, ◌<◌, List, [], ◌∷◌, length, set, Option, Ok, refl, sym, ap, ap₂, ◌∙◌, subst, eq-eqb, ne_eqb}
+use Rattle.std.proofs.Common.{◌≡◌, ◌≢◌, ℕ, ◌<◌, List, [], ◌∷◌, length, set, Option}
+use Rattle.std.proofs.Common.{Ok, refl, sym, ap, ap₂, ◌∙◌, subst, eq-eqb, ne_eqb}
 use Rattle.std.specs.Prelude.{All}
 use Rattle.std.proofs.lemmas.List.Elements.{All-push}
 use Rattle.spec_exact.specs.Fraction.{ℚ, ◌-ℚ◌, ◌*ℚ◌, 0ℚ, 1ℚ, inverse}
@@ -12,13 +13,15 @@ use Rattle.spec_pivot.proofs.Pivot.{by_eq, delta_same, delta_other, sum_below-de
 use Rattle.spec_cold.proofs.Runs.{then_ok}
 use Rattle.spec_factor.specs.Factors.{Pair, pair_at, Factors, ftran_run, btran_run, with_pair, replace_run}
 use Rattle.spec_factor.specs.Basis.{forward_one, forward, IsPair, StandsFor, SolvesColumns, SolvesRows, with_column}
-use Rattle.spec_factor.proofs.Forward.{one_at_place, one_off_place, forward-append, forward_same, forward_combines, forward_apart}
+use Rattle.spec_factor.proofs.Forward.{one_at_place, one_off_place, forward-append}
+use Rattle.spec_factor.proofs.Forward.{forward_same, forward_combines, forward_apart}
 use Rattle.spec_factor.proofs.Backward.{backward, adjoint}
 use Rattle.spec_factor.proofs.RunLists.{Reads, read, ftran_ok, btran_ok}
 
 pub delta_sym : (i r : ℕ) → delta i r ≡ delta r i
 delta_sym i r =
-    by_eq i r (λ e. subst (λ r. delta i r ≡ delta r i) e refl) (λ n. delta_other i r n ∙ sym (delta_other r i (λ e. n (sym e))))
+    by_eq i r (λ e. subst (λ r. delta i r ≡ delta r i) e refl)
+    (λ n. delta_other i r n ∙ sym (delta_other r i (λ e. n (sym e))))
 
 module _ (m : ℕ) (pairs : List Pair) (basis : Matrix) (stands : StandsFor m pairs basis) where
   -- a combination of the basis's columns has its weights as its solution
@@ -37,7 +40,8 @@ module _ (m : ℕ) (pairs : List Pair) (basis : Matrix) (stands : StandsFor m pa
   pub rows_solved : (c : ℕ → ℚ) (s : ℕ) → s < m → sum_below m (λ r. backward m pairs c r *ℚ basis r s) ≡ c s
   rows_solved c s l =
       adjoint m pairs c (λ r. basis r s) stands.sound
-      ∙ sum_below_same m _ (λ i. delta s i *ℚ c i) (λ i k. ap (λ a. c i *ℚ a) (stands.units s i l k) ∙ *ℚ_comm (c i) (delta s i))
+      ∙ sum_below_same m _ (λ i. delta s i *ℚ c i)
+      (λ i k. ap (λ a. c i *ℚ a) (stands.units s i l k) ∙ *ℚ_comm (c i) (delta s i))
       ∙ sum_below-delta m s c l
 
   -- what solves for the rows, at row r
@@ -45,7 +49,8 @@ module _ (m : ℕ) (pairs : List Pair) (basis : Matrix) (stands : StandsFor m pa
       x r ≡ sum_below m (λ s. forward pairs (delta r) s *ℚ c s)
   row_at x c h r l =
       sym (sum_below-delta m r x l)
-      ∙ sum_below_same m _ (λ k. x k *ℚ sum_below m (λ s. basis k s *ℚ forward pairs (delta r) s)) (λ k q. *ℚ_comm (delta r k) (x k) ∙ ap (λ a. x k *ℚ a) (sym (columns_solved (delta r) k q)))
+      ∙ sum_below_same m _ (λ k. x k *ℚ sum_below m (λ s. basis k s *ℚ forward pairs (delta r) s))
+      (λ k q. *ℚ_comm (delta r k) (x k) ∙ ap (λ a. x k *ℚ a) (sym (columns_solved (delta r) k q)))
       ∙ exchange m m x (forward pairs (delta r)) basis
       ∙ sum_below_same m _ _ (λ s q. ap (λ a. forward pairs (delta r) s *ℚ a) (h s q))
 
@@ -90,8 +95,10 @@ pair_unit e v i n own here =
 pub pair_keeps : (e : Pair) (v : ℕ → ℚ) → v e.place ≡ 0ℚ → (i : ℕ) → forward_one e v i ≡ v i
 pair_keeps e v z i =
     by_eq i e.place
-    (λ d. subst (λ i. forward_one e v i ≡ v i) (sym d) (one_at_place e v ∙ ap (λ a. a *ℚ inverse (pair_at e e.place)) z ∙ nothing (inverse (pair_at e e.place)) ∙ sym z))
-    (λ d. one_off_place e v i d ∙ ap (λ a. v i -ℚ pair_at e i *ℚ (a *ℚ inverse (pair_at e e.place))) z ∙ less (v i) (pair_at e i) (inverse (pair_at e e.place)))
+    (λ d. subst (λ i. forward_one e v i ≡ v i) (sym d)
+    (one_at_place e v ∙ ap (λ a. a *ℚ inverse (pair_at e e.place)) z ∙ nothing (inverse (pair_at e e.place)) ∙ sym z))
+    (λ d. one_off_place e v i d ∙ ap (λ a. v i -ℚ pair_at e i *ℚ (a *ℚ inverse (pair_at e e.place))) z
+    ∙ less (v i) (pair_at e i) (inverse (pair_at e e.place)))
   where
     nothing : (a : ℚ) → 0ℚ *ℚ a ≡ 0ℚ
     nothing a = simp ring
@@ -100,7 +107,8 @@ pair_keeps e v z i =
     less v a b = simp ring
 
 -- pairs that make v, which is not 0 at place p, the list z, with the pair of z at p
-module _ (m : ℕ) (pairs : List Pair) (p : ℕ) (z : List ℚ) (sound : All (IsPair m) pairs) (p_in : p < m) (n : read z p ≢ 0ℚ) where
+module _ (m : ℕ) (pairs : List Pair) (p : ℕ) (z : List ℚ)
+    (sound : All (IsPair m) pairs) (p_in : p < m) (n : read z p ≢ 0ℚ) where
   pub sound_with : All (IsPair m) (with_pair pairs p z)
   sound_with = All-push (IsPair m) pairs (record { place = p; column = z }) sound (record { place = p_in; pivot = n })
 
@@ -118,8 +126,10 @@ module _ (m : ℕ) (pairs : List Pair) (p : ℕ) (z : List ℚ) (sound : All (Is
       ∙ is i l
 
 -- ---- another column in one place
-module _ (m : ℕ) (basis : Matrix) (limit : Option ℕ) (s u : Factors) (p k : ℕ) (column : List ℚ) (stands : StandsFor m s.pairs basis) (p_in : p < m) (all : length column ≡ m)
-    (entry : (z : List ℚ) → SolvesColumns m basis column z → read z p ≢ 0ℚ) (ok : replace_run limit m s p k column ≡ Ok u) where
+module _ (m : ℕ) (basis : Matrix) (limit : Option ℕ) (s u : Factors) (p k : ℕ) (column : List ℚ)
+    (stands : StandsFor m s.pairs basis) (p_in : p < m) (all : length column ≡ m)
+    (entry : (z : List ℚ) → SolvesColumns m basis column z → read z p ≢ 0ℚ)
+    (ok : replace_run limit m s p k column ≡ Ok u) where
   pub record Replaced (w : Factors) : Type 0 where
     pub stand : StandsFor m w.pairs (with_column basis p column)
     pub basic : w.basic ≡ set s.basic p k
@@ -138,11 +148,14 @@ module _ (m : ℕ) (basis : Matrix) (limit : Option ℕ) (s u : Factors) (p k : 
       record {
         sound = sound_with m s.pairs p v stands.sound p_in n;
         units = λ q i l g. by_eq q p
-            (λ d. subst (λ q. forward (with_pair s.pairs p v) (λ r. with_column basis p column r q) i ≡ delta q i) (sym d)
+            (λ d. subst (λ q. forward (with_pair s.pairs p v) (λ r. with_column basis p column r q) i ≡ delta q i)
+            (sym d)
             (with_own m s.pairs p v stands.sound p_in n (λ r. with_column basis p column r p)
-            (λ i l. is.each i l ∙ forward_same m s.pairs (read column) (λ r. with_column basis p column r p) stands.sound (λ r _. sym (with_at r)) i l) i g))
+            (λ i l. is.each i l ∙ forward_same m s.pairs (read column)
+            (λ r. with_column basis p column r p) stands.sound (λ r _. sym (with_at r)) i l) i g))
             (λ d. with_other m s.pairs p v stands.sound p_in n (λ r. with_column basis p column r q) q (λ y. d (sym y))
-            (λ i g. forward_same m s.pairs (λ r. with_column basis p column r q) (λ r. basis r q) stands.sound (λ r _. with_off r q d) i g ∙ stands.units q i l g) i g);
+            (λ i g. forward_same m s.pairs (λ r. with_column basis p column r q)
+            (λ r. basis r q) stands.sound (λ r _. with_off r q d) i g ∙ stands.units q i l g) i g);
       }
 
   pub replaced : Replaced u

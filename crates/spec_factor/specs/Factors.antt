@@ -4,7 +4,9 @@
 --
 -- A basis has a column of the form's equations in each of m places, as many as there are rows. The column of a
 -- structural is its coefficients' negatives by rows, that of a logical is 1 in its own row.
-use Rattle.std.specs.Prelude.{ℕ, zero, suc, ◌+◌, ◌-◌, List, [], ◌∷◌, ◌++◌, map, replicate, get_or, slice_set, Option, Some, None, is_none, unwrap_or, Result, Ok, Err, Bool, true, false, not, ◌&&◌, nat_lt, nat_eq, if◌then◌else◌}
+use Rattle.std.specs.Prelude.{ℕ, zero, suc, ◌+◌, ◌-◌, List, [], ◌∷◌, ◌++◌, map, replicate, get_or}
+use Rattle.std.specs.Prelude.{slice_set, Option, Some, None, is_none, unwrap_or, Result, Ok}
+use Rattle.std.specs.Prelude.{Err, Bool, true, false, not, ◌&&◌, nat_lt, nat_eq, if◌then◌else◌}
 use Rattle.spec_exact.specs.Fraction.{ℚ, 0ℚ, 1ℚ, neg_ℚ, eq_ℚ}
 use Rattle.spec_pivot.specs.declared.status.Status.{Status}
 use Rattle.spec_simplex.specs.Run.{Run, ◌>>=◌, refused_as, quotient_run, less_product, steps, list_run, made}

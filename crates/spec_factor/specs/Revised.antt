@@ -1,7 +1,8 @@
 -- One step of the primal method over factors, at a limit: the revised simplex method. No rows and no reduced costs are
 -- kept. The multipliers come from the basic columns' costs by btran, reduced costs are taken up to the column that
 -- enters, and of the rows only the entries of that column are known, by ftran.
-use Rattle.std.specs.Prelude.{ℕ, suc, ◌+◌, ◌-◌, List, [], map, get_or, Option, Some, None, Result, Ok, Err, Bool, nat_eq, nat_le, ◌&&◌, ◌||◌, if◌then◌else◌}
+use Rattle.std.specs.Prelude.{ℕ, suc, ◌+◌, ◌-◌, List, [], map, get_or, Option, Some, None}
+use Rattle.std.specs.Prelude.{Result, Ok, Err, Bool, nat_eq, nat_le, ◌&&◌, ◌||◌, if◌then◌else◌}
 use Rattle.spec_exact.specs.Fraction.{ℚ, 0ℚ, 1ℚ, ◌*ℚ◌}
 use Rattle.spec_pivot.specs.declared.status.Status.{Status}
 use Rattle.spec_simplex.specs.declared.ends.RowStart.{RowStart}
@@ -13,14 +14,17 @@ use Rattle.spec_simplex.specs.declared.ends.RunStop.{RunStop}
 use Rattle.spec_simplex.specs.declared.ends.RunStop.TheVariants as stop
 use Rattle.spec_simplex.specs.Form.{Form}
 use Rattle.spec_simplex.specs.Run.{Run, ◌>>=◌, refused_as, less_product, steps, made}
-use Rattle.spec_simplex.specs.Tableau.{Tableau, form_columns, all_columns, is_artificial, basic_at, status_at, lower_at, upper_at, is_fixed}
+use Rattle.spec_simplex.specs.Tableau.{Tableau, form_columns, all_columns, is_artificial}
+use Rattle.spec_simplex.specs.Tableau.{basic_at, status_at, lower_at, upper_at, is_fixed}
 use Rattle.spec_simplex.specs.Start.{logical_sign, start_at, cost_at}
-use Rattle.spec_simplex.specs.Step.{way_by, or_enters, best_run, choice_by, moved_run, shifted_run, flip_run, exchanged, turned}
+use Rattle.spec_simplex.specs.Step.{way_by, or_enters, best_run, choice_by, moved_run}
+use Rattle.spec_simplex.specs.Step.{shifted_run, flip_run, exchanged, turned}
 use Rattle.spec_cold.specs.Cold.{basis_status}
 use Rattle.spec_simplex.specs.Tableau.{is_basic}
 use Rattle.spec_factor.specs.declared.stop.NoFactors.{NoFactors}
 use Rattle.spec_factor.specs.declared.stop.NoFactors.TheVariants as factor
-use Rattle.spec_factor.specs.Factors.{Pair, Factors, column_entry, column_of, ftran_run, btran_run, factor_run, replace_run}
+use Rattle.spec_factor.specs.Factors.{Pair, Factors, column_entry, column_of}
+use Rattle.spec_factor.specs.Factors.{ftran_run, btran_run, factor_run, replace_run}
 
 -- a tableau without its rows and reduced costs, and the factors of its basic columns in their place
 pub record Revised : Type 0 where

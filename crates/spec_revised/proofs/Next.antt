@@ -10,7 +10,8 @@ use Rattle.spec_simplex.specs.declared.ends.Choice.{Choice}
 use Rattle.spec_simplex.specs.declared.ends.Choice.TheVariants.{End, Flip, Pivot}
 use Rattle.spec_simplex.specs.Run.{difference_run}
 use Rattle.spec_simplex.specs.Tableau.{Tableau, all_columns, basic_at, status_at, lower_at, upper_at, or_zero}
-use Rattle.spec_simplex.specs.Step.{directed, other_bound, moved_run, flip_way, flipped, flip_run, shifted_run, turned_run, repriced_run, exchanged, turned, pivot_run}
+use Rattle.spec_simplex.specs.Step.{directed, other_bound, moved_run, flip_way, flipped, flip_run}
+use Rattle.spec_simplex.specs.Step.{shifted_run, turned_run, repriced_run, exchanged, turned, pivot_run}
 use Rattle.spec_simplex.specs.Phases.{done_run}
 use Rattle.spec_cold.specs.Tables.{table_of, IsTableauOf}
 use Rattle.spec_cold.proofs.Runs.{then_ok}
@@ -79,9 +80,20 @@ next_statuses limit limit2 t u (Pivot p j theta to) d v w same e h k =
 -- ---- where the statuses are the same, so are all columns
 fields : Tableau → (r c : ℕ) → List ℚ → List Status → List (Option ℚ) → List (Option ℚ) → List ℕ → Tableau
 fields t r c v s l h basic =
-    record { rows = r; cols = c; entries = []; basic = basic; value = v; reduced = []; status = s; lower = l; upper = h }
+    record {
+      rows = r;
+      cols = c;
+      entries = [];
+      basic = basic;
+      value = v;
+      reduced = [];
+      status = s;
+      lower = l;
+      upper = h;
+    }
 
-module _ (m n : ℕ) (f : Matrix) (cost : ℕ → ℚ) (b : Bounds) (t u : Tableau) (st : IsTableauOf m n f cost b t) (su : IsTableauOf m n f cost b u) (same : t.status ≡ u.status) where
+module _ (m n : ℕ) (f : Matrix) (cost : ℕ → ℚ) (b : Bounds) (t u : Tableau)
+    (st : IsTableauOf m n f cost b t) (su : IsTableauOf m n f cost b u) (same : t.status ≡ u.status) where
   pub statuses : SameStatuses (n + m + m) (table_of t) (table_of u)
   statuses k l = ap (λ s. get_or s k Basic) same
 
@@ -114,13 +126,16 @@ module _ (m n : ℕ) (f : Matrix) (cost : ℕ → ℚ) (b : Bounds) (t u : Table
       ∙ ap₂ (λ l h. fields t u.rows u.cols u.value u.status l h basic) lower_same upper_same
 
 -- ---- by their statuses one by one
-pub next_same : (m n : ℕ) (f : Matrix) (cost : ℕ → ℚ) (b : Bounds) (limit other : Option ℕ) (t u v w : Tableau) (c d : Choice ℚ) →
+pub next_same : (m n : ℕ) (f : Matrix) (cost : ℕ → ℚ) (b : Bounds)
+    (limit other : Option ℕ) (t u v w : Tableau) (c d : Choice ℚ) →
     IsTableauOf m n f cost b t → IsTableauOf m n f cost b u
-    → SameStatuses (n + m + m) (table_of t) (table_of u) → SameChoice t u c d → done_run limit t c ≡ Ok v → done_run other u d ≡ Ok w → SameStatuses (n + m + m) (table_of v) (table_of w)
+    → SameStatuses (n + m + m) (table_of t) (table_of u) → SameChoice t u c d → done_run limit t c ≡ Ok v →
+    done_run other u d ≡ Ok w → SameStatuses (n + m + m) (table_of v) (table_of w)
 next_same m n f cost b limit other t u v w c d st su same chosen h k i l =
     ap (λ s. get_or s i Basic) (next_statuses limit other t u c d v w chosen lists h k)
   where
     lists : t.status ≡ u.status
     lists =
-        ext_get_or Basic t.status u.status (st.whole.all_statuses ∙ columns_are m n f cost b t st ∙ sym (su.whole.all_statuses ∙ columns_are m n f cost b u su))
+        ext_get_or Basic t.status u.status (st.whole.all_statuses ∙ columns_are m n f cost b t st
+        ∙ sym (su.whole.all_statuses ∙ columns_are m n f cost b u su))
         (λ k l. same k (subst (λ n. k < n) (st.whole.all_statuses ∙ columns_are m n f cost b t st) l))

@@ -1,5 +1,6 @@
 -- The cold run over factors with its check is the cold solve without a limit, or an operation is refused.
-use Rattle.std.proofs.Common.{◌≡◌, ◌⊎◌, inl, inr, ⊎_elim, ℕ, List, Option, None, Result, Ok, Err, refl, sym, ap, ◌∙◌, subst}
+use Rattle.std.proofs.Common.{◌≡◌, ◌⊎◌, inl, inr, ⊎_elim, ℕ, List, Option}
+use Rattle.std.proofs.Common.{None, Result, Ok, Err, refl, sym, ap, ◌∙◌, subst}
 use Rattle.spec_exact.specs.Fraction.{ℚ}
 use Rattle.spec_exact.specs.declared.past.Past.{Past}
 use Rattle.spec_model.specs.Model.{Model}
@@ -14,7 +15,8 @@ use Rattle.spec_simplex.specs.Form.{Form, form_of}
 use Rattle.spec_simplex.specs.Phases.{PhasesEnd, phases_run}
 use Rattle.spec_cold.specs.declared.outcome.Cold.TheVariants as outcome
 use Rattle.spec_cold.specs.Accepted.{IsAccepted}
-use Rattle.spec_cold.specs.Cold.{ColdEnd, certificate_of, basis_of, pivots_of, checked, answered, after_phases, after_form, cold}
+use Rattle.spec_cold.specs.Cold.{ColdEnd, certificate_of, basis_of, pivots_of}
+use Rattle.spec_cold.specs.Cold.{checked, answered, after_phases, after_form, cold}
 use Rattle.spec_cold.proofs.Formed.{form_is, cost_length, cost_other}
 use Rattle.spec_cold.proofs.LimitStart.{form_agrees}
 use Rattle.spec_cold.proofs.Solved.{form_proper, end_accepted}
@@ -62,7 +64,8 @@ module _ (limit : Option ℕ) (budget : ℕ) (m : Model) (f : Form) (formed : fo
         holds = a.holds;
         accepted = a.accepted;
         limited =
-            subst (λ o. check.Agrees (check.check_run limit m (certificate_of e)) o) a.accepted (Rattle.spec_check.proofs.RunAgrees.run_agrees limit m (certificate_of e));
+            subst (λ o. check.Agrees (check.check_run limit m (certificate_of e)) o) a.accepted
+            (Rattle.spec_check.proofs.RunAgrees.run_agrees limit m (certificate_of e));
       }
 
   after_same : (o : Result PhasesEnd (RunStop ℚ)) → phases_run None budget f ≡ o →
@@ -76,6 +79,7 @@ module _ (limit : Option ℕ) (budget : ℕ) (m : Model) (f : Form) (formed : fo
   over_same =
       ⊎_elim
       (λ e. subst (λ r. Same (after_over limit m r) (after_form None budget m (form_of None m))) (sym (e ∙ run_is))
-      (subst (λ r. Same (after_over limit m (answer_in (phases_run None budget f))) (after_form None budget m r)) (sym (form_without limit m f formed)) (after_same (phases_run None budget f) refl)))
+      (subst (λ r. Same (after_over limit m (answer_in (phases_run None budget f))) (after_form None budget m r))
+      (sym (form_without limit m f formed)) (after_same (phases_run None budget f) refl)))
       (λ p. inr (p.0, ap (after_over limit m) p.1))
       ((over_agrees limit budget f).same)

@@ -1,5 +1,6 @@
 -- The run over factors at a limit beside the one without a limit.
-use Rattle.std.proofs.Common.{◌≡◌, ◌≢◌, ◌⊎◌, inl, inr, ⊎_elim, ℕ, zero, suc, ◌+◌, ◌-◌, List, Option, Some, None, Result, Ok, Err, ◌||◌, nat_eq, refl, ap}
+use Rattle.std.proofs.Common.{◌≡◌, ◌≢◌, ◌⊎◌, inl, inr, ⊎_elim, ℕ, zero, suc, ◌+◌, ◌-◌, List}
+use Rattle.std.proofs.Common.{Option, Some, None, Result, Ok, Err, ◌||◌, nat_eq, refl, ap}
 use Rattle.spec_exact.specs.Fraction.{ℚ}
 use Rattle.spec_exact.specs.declared.past.Past.{Past}
 use Rattle.spec_pivot.specs.declared.status.Status.{Status}
@@ -15,14 +16,19 @@ use Rattle.spec_simplex.specs.Start.{row_start, begun, first_costs, cost_at}
 use Rattle.spec_simplex.specs.Tableau.{Tableau, all_columns, status_at, lower_at, upper_at, is_fixed}
 use Rattle.spec_simplex.specs.Phases.{wants_phase_one, is_stuck}
 use Rattle.spec_simplex.specs.Tableau.{is_basic}
-use Rattle.spec_cold.proofs.Refusals.{Agrees, as_it_is, agrees_ok, agrees_then, agrees_if, agrees_steps, agrees_as, agrees_list, agrees_less}
+use Rattle.spec_cold.proofs.Refusals.{Agrees, as_it_is, agrees_ok, agrees_then, agrees_if}
+use Rattle.spec_cold.proofs.Refusals.{agrees_steps, agrees_as, agrees_list, agrees_less}
 use Rattle.spec_cold.proofs.LimitStart.{row_start_agrees, best_agrees, moved_agrees, shifted_agrees, flip_agrees}
 use Rattle.spec_cold.proofs.LimitPhases.{spent_agrees}
 use Rattle.spec_factor.specs.declared.stop.NoFactors.{NoFactors}
 use Rattle.spec_factor.specs.declared.stop.NoFactors.TheVariants as factor
 use Rattle.spec_factor.specs.Factors.{Factors, column_entry, column_of}
-use Rattle.spec_factor.specs.Revised.{Revised, bare_of, factor_basis, factor_stop, refactor_run, replacements, basic_costs, multipliers_run, price_run, way_run, or_priced, entering_run, seen, Selection, selection_with, selection_run, flip_over_run, factors_at, exchange_run, pivot_over_run}
-use Rattle.spec_factor.specs.Over.{RevisedEnded, over_or_spent, over_or_next, over_from, second_state, stuck_answer, end_answer, over_two, over_run}
+use Rattle.spec_factor.specs.Revised.{Revised, bare_of, factor_basis, factor_stop, refactor_run}
+use Rattle.spec_factor.specs.Revised.{replacements, basic_costs, multipliers_run, price_run, way_run}
+use Rattle.spec_factor.specs.Revised.{or_priced, entering_run, seen, Selection, selection_with, selection_run}
+use Rattle.spec_factor.specs.Revised.{flip_over_run, factors_at, exchange_run, pivot_over_run}
+use Rattle.spec_factor.specs.Over.{RevisedEnded, over_or_spent, over_or_next, over_from}
+use Rattle.spec_factor.specs.Over.{second_state, stuck_answer, end_answer, over_two, over_run}
 use Rattle.spec_factor.proofs.FactorLimits.{ftran_agrees, btran_agrees, replace_agrees, factor_agrees}
 
 abbrev also : {A B : Type 0} (o u : Run A) (f g : A → Run B) → Agrees as_it_is o u →
@@ -56,7 +62,8 @@ module _ (limit : Option ℕ) where
   way_agrees : (f : Form) (costs y : List ℚ) (t : Tableau) (k : ℕ) →
       Agrees as_it_is (way_run limit f costs y t k) (way_run None f costs y t k)
   way_agrees f costs y t k =
-      agrees_if as_it_is (is_fixed (lower_at t k) (upper_at t k) || is_basic (status_at t k)) _ _ _ _ (agrees_ok as_it_is _) (also _ _ _ _ (price_agrees f costs y k) (λ d. agrees_ok as_it_is _))
+      agrees_if as_it_is (is_fixed (lower_at t k) (upper_at t k) || is_basic (status_at t k)) _ _ _ _
+      (agrees_ok as_it_is _) (also _ _ _ _ (price_agrees f costs y k) (λ d. agrees_ok as_it_is _))
 
   priced_agrees : (f : Form) (costs y : List ℚ) (t : Tableau) (k : ℕ) (e : Option Entering) →
       Agrees as_it_is (or_priced limit f costs y t k e) (or_priced None f costs y t k e)
@@ -72,7 +79,8 @@ module _ (limit : Option ℕ) where
       Agrees as_it_is (selection_with limit f starts s y e) (selection_with None f starts s y e)
   with_agrees f starts s y None = agrees_ok as_it_is _
   with_agrees f starts s y (Some e) =
-      also _ _ _ _ (ftran_agrees limit s.bare.rows s.pairs (column_of f e.col)) (λ z. also _ _ _ _ (best_agrees limit (seen starts s.bare e.col z) e) (λ best. agrees_ok as_it_is _))
+      also _ _ _ _ (ftran_agrees limit s.bare.rows s.pairs (column_of f e.col))
+      (λ z. also _ _ _ _ (best_agrees limit (seen starts s.bare e.col z) e) (λ best. agrees_ok as_it_is _))
 
   multipliers_agrees : (starts : List (RowStart ℚ)) (costs : List ℚ) (s : Revised) →
       Agrees as_it_is (multipliers_run limit starts costs s) (multipliers_run None starts costs s)
@@ -83,13 +91,15 @@ module _ (limit : Option ℕ) where
       Agrees as_it_is (selection_run limit f starts costs s) (selection_run None f starts costs s)
   unfolding selection_run
   selection_agrees f starts costs s =
-      also _ _ _ _ (multipliers_agrees starts costs s) (λ y. also _ _ _ _ (entering_agrees f costs y s.bare) (λ e. with_agrees f starts s y e))
+      also _ _ _ _ (multipliers_agrees starts costs s)
+      (λ y. also _ _ _ _ (entering_agrees f costs y s.bare) (λ e. with_agrees f starts s y e))
 
   -- ---- steps
   pub refactor_agrees : (f : Form) (t : Tableau) → Agrees stop.Past (refactor_run limit f t) (refactor_run None f t)
   unfolding refactor_run
   refactor_agrees f t =
-      agrees_then stop.Past _ _ _ _ (stop_agrees _ _ (factor_agrees limit f (factor_basis t))) (λ s. agrees_ok stop.Past _)
+      agrees_then stop.Past _ _ _ _
+      (stop_agrees _ _ (factor_agrees limit f (factor_basis t))) (λ s. agrees_ok stop.Past _)
 
   flip_over_agrees : (s : Revised) (t : Tableau) (j : ℕ) →
       Agrees as_it_is (flip_over_run limit s t j) (flip_over_run None s t j)
@@ -102,7 +112,8 @@ module _ (limit : Option ℕ) where
   exchange_agrees f s t p j theta to =
       also _ _ _ _ (moved_agrees limit t j theta (Some p)) (λ values.
       also _ _ _ _ (shifted_agrees limit values j theta) (λ shifted.
-      also _ _ _ _ (replace_agrees limit s.bare.rows (factors_at s) p j (column_of f j)) (λ factors. agrees_ok as_it_is _)))
+      also _ _ _ _ (replace_agrees limit s.bare.rows (factors_at s) p j (column_of f j))
+      (λ factors. agrees_ok as_it_is _)))
 
   pivot_over_agrees : (f : Form) (s : Revised) (t : Tableau) (p j : ℕ) (theta : ℚ) (to : Status) →
       Agrees stop.Past (pivot_over_run limit f s t p j theta to) (pivot_over_run None f s t p j theta to)
@@ -130,22 +141,34 @@ module _ (limit : Option ℕ) where
       Agrees stop.Past (over_from limit f starts costs left used s) (over_from None f starts costs left used s)
   unfolding over_from
   from_agrees f starts costs zero used s =
-      agrees_then stop.Past _ _ (λ selection. over_or_spent s used selection selection.choice) (λ selection. over_or_spent s used selection selection.choice) (agrees_as stop.Past _ _ (selection_agrees f starts costs s)) (λ selection. spent_same s used selection selection.choice)
-  from_agrees f starts costs (suc left) used s =
-      agrees_then stop.Past _ _ (λ selection. over_or_next limit f s used (λ u. over_from limit f starts costs left (used + 1) u) selection selection.choice) (λ selection. over_or_next None f s used (λ u. over_from None f starts costs left (used + 1) u) selection selection.choice)
+      agrees_then stop.Past _ _ (λ selection. over_or_spent s used selection selection.choice)
+      (λ selection. over_or_spent s used selection selection.choice)
       (agrees_as stop.Past _ _ (selection_agrees f starts costs s))
-      (λ selection. next_same f s used (λ u. over_from limit f starts costs left (used + 1) u) (λ u. over_from None f starts costs left (used + 1) u) (λ u. from_agrees f starts costs left (used + 1) u) selection selection.choice)
+      (λ selection. spent_same s used selection selection.choice)
+  from_agrees f starts costs (suc left) used s =
+      agrees_then stop.Past _ _ (λ selection. over_or_next limit f s used
+      (λ u. over_from limit f starts costs left (used + 1) u) selection selection.choice) (λ selection.
+      over_or_next None f s used (λ u. over_from None f starts costs left (used + 1) u) selection selection.choice)
+      (agrees_as stop.Past _ _ (selection_agrees f starts costs s))
+      (λ selection. next_same f s used (λ u. over_from limit f starts costs left (used + 1) u)
+      (λ u. over_from None f starts costs left (used + 1) u)
+      (λ u. from_agrees f starts costs left (used + 1) u) selection selection.choice)
 
   two_agrees : (budget : ℕ) (f : Form) (starts : List (RowStart ℚ)) (one : RevisedEnded) →
       Agrees stop.Past (over_two limit budget f starts one) (over_two None budget f starts one)
   two_agrees budget f starts one =
-      agrees_then stop.Past _ _ _ _ (from_agrees f starts f.cost (budget - one.used) one.used (second_state one.state)) (λ two. agrees_ok stop.Past (end_answer two))
+      agrees_then stop.Past _ _ _ _ (from_agrees f starts f.cost (budget - one.used) one.used (second_state one.state))
+      (λ two. agrees_ok stop.Past (end_answer two))
 
   pub over_agrees : (budget : ℕ) (f : Form) → Agrees stop.Past (over_run limit budget f) (over_run None budget f)
   unfolding over_run
   over_agrees budget f =
-      agrees_then stop.Past _ _ _ _ (agrees_as stop.Past _ _ (agrees_list f.rows (row_start limit f) (row_start None f) (row_start_agrees limit f))) (λ starts.
+      agrees_then stop.Past _ _ _ _
+      (agrees_as stop.Past _ _ (agrees_list f.rows (row_start limit f) (row_start None f) (row_start_agrees limit f)))
+      (λ starts.
       agrees_then stop.Past _ _ _ _ (refactor_agrees f (bare_of (begun f starts))) (λ s.
       agrees_then stop.Past _ _ _ _
-      (agrees_if stop.Past (wants_phase_one s.bare) _ _ _ _ (from_agrees f starts (first_costs f starts) budget 0 s) (agrees_ok stop.Past _)) (λ one.
-      agrees_if stop.Past (is_stuck one.state.bare) _ _ _ _ (agrees_ok stop.Past (stuck_answer one)) (two_agrees budget f starts one))))
+      (agrees_if stop.Past (wants_phase_one s.bare) _ _ _ _
+      (from_agrees f starts (first_costs f starts) budget 0 s) (agrees_ok stop.Past _)) (λ one.
+      agrees_if stop.Past (is_stuck one.state.bare) _ _ _ _
+      (agrees_ok stop.Past (stuck_answer one)) (two_agrees budget f starts one))))

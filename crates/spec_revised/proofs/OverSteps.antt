@@ -1,5 +1,6 @@
 -- A flip and a pivot over factors leave a state of the tableau that the same step leaves.
-use Rattle.std.proofs.Common.{◌≡◌, ◌≢◌, ℕ, suc, ◌+◌, ◌<◌, ◌≤◌, List, [], length, get_or, set, map, Option, Some, None, Ok, Err, cond, refl, sym, ap, ap₂, ◌∙◌, subst, subst₂, eq-eqb, ne_eqb}
+use Rattle.std.proofs.Common.{◌≡◌, ◌≢◌, ℕ, suc, ◌+◌, ◌<◌, ◌≤◌, List, [], length, get_or, set, map, Option, Some}
+use Rattle.std.proofs.Common.{None, Ok, Err, cond, refl, sym, ap, ap₂, ◌∙◌, subst, subst₂, eq-eqb, ne_eqb}
 use Rattle.std.proofs.lemmas.List.{length-set, get_or-map, get_or-set_same, get_or-set_other}
 use Rattle.spec_exact.specs.Fraction.{ℚ, ◌*ℚ◌, 0ℚ}
 use Rattle.spec_exact.proofs.Field.{*ℚ_zero}
@@ -21,7 +22,9 @@ use Rattle.spec_simplex.specs.Form.{Form}
 use Rattle.spec_simplex.specs.Run.{Run, ◌>>=◌, less_product, steps}
 use Rattle.spec_simplex.specs.Start.{cost_at}
 use Rattle.spec_simplex.specs.Tableau.{Tableau, all_columns, basic_at, entry_at, status_at}
-use Rattle.spec_simplex.specs.Step.{entering, directed, other_bound, best_run, choice_at, choice_by, choice_of, choice_run, is_place, moved_at, moved_run, flip_way, flipped, flip_run, shifted_run, exchanged, turned, pivot_run}
+use Rattle.spec_simplex.specs.Step.{entering, directed, other_bound, best_run, choice_at, choice_by}
+use Rattle.spec_simplex.specs.Step.{choice_of, choice_run, is_place, moved_at, moved_run, flip_way}
+use Rattle.spec_simplex.specs.Step.{flipped, flip_run, shifted_run, exchanged, turned, pivot_run}
 use Rattle.spec_simplex.specs.Phases.{done_run}
 use Rattle.spec_simplex.proofs.Stops.{length-made, get_or-made}
 use Rattle.spec_cold.specs.Tables.{way, table_of, IsTableauOf}
@@ -34,7 +37,8 @@ use Rattle.spec_cold.proofs.Steps.{choice_is_meant}
 use Rattle.spec_cold.proofs.Tests.{plain, a_best}
 use Rattle.spec_factor.specs.Factors.{Pair, column_entry, column_of, with_pair, replace_run}
 use Rattle.spec_factor.specs.Basis.{StandsFor, SolvesColumns, with_column, basis_of}
-use Rattle.spec_factor.specs.Revised.{Revised, bare_of, factor_column, sign_of, seen, flip_over_run, factors_at, exchange_run}
+use Rattle.spec_factor.specs.Revised.{Revised, bare_of, factor_column, sign_of}
+use Rattle.spec_factor.specs.Revised.{seen, flip_over_run, factors_at, exchange_run}
 use Rattle.spec_factor.proofs.RunLists.{read}
 use Rattle.spec_factor.proofs.Solves.{ftran_solves, replaced}
 use Rattle.spec_revised.specs.Same.{SameChoice, Places, bare_with, state, GoesWith}
@@ -53,10 +57,13 @@ pub moved_same : (limit : Option ℕ) (t u : Tableau) (j : ℕ) (theta : ℚ) (b
     moved_run limit t j theta but ≡ moved_run limit u j theta but
 unfolding moved_run
 moved_same limit t u j theta but s =
-    ap₂ (λ m v. steps m (λ i values. cond (is_place but i) (Ok values) (moved_at limit t j theta i values)) v) s.rows s.values
+    ap₂ (λ m v. steps m (λ i values. cond (is_place but i) (Ok values) (moved_at limit t j theta i values)) v)
+    s.rows s.values
     ∙ steps_same u.rows _ _ u.value (λ i x l. ap (λ o. cond (is_place but i) (Ok x) o)
-    (ap (λ a. less_product limit a theta (get_or x (basic_at t i) 0ℚ) >>= λ v. Ok (set x (basic_at t i) v)) (s.entries i l)
-    ∙ ap (λ b. less_product limit (entry_at u i j) theta (get_or x (get_or b i 0) 0ℚ) >>= λ v. Ok (set x (get_or b i 0) v)) s.basic))
+    (ap (λ a. less_product limit a theta (get_or x (basic_at t i) 0ℚ) >>= λ v. Ok (set x (basic_at t i) v))
+    (s.entries i l)
+    ∙ ap (λ b. less_product limit (entry_at u i j) theta (get_or x (get_or b i 0) 0ℚ) >>=
+    λ v. Ok (set x (get_or b i 0) v)) s.basic))
 
 -- ---- a pivot that was chosen is one by the rule
 pub record ChosenPivot (b : Bounds) (t : Tableau) (p j : ℕ) : Type 0 where
@@ -82,10 +89,17 @@ module _ (m n : ℕ) (F : ℕ → ℕ → ℚ) (cost : ℕ → ℚ) (b : Bounds)
           let pi : i ≡ p = cc in
           let ji : e.col ≡ j = cc in
           let enters : Enters (all_columns t) b (table_of t) (way e.up) e.col = an_entering b t st.bounds e is in
-          let v : Pivots t.rows (all_columns t) b (table_of t) (way e.up) e.col i x.ratio (bound_ahead (way_of (ray t.rows (table_of t) (way e.up) e.col (basic_at t i)))) =
-          best_pivots t.rows (all_columns t) F cost b (table_of t) (way e.up) e.col (own_table m n F cost b t st) own_within enters (plain x)
+          let v : Pivots t.rows (all_columns t) b (table_of t) (way e.up) e.col i x.ratio
+          (bound_ahead (way_of (ray t.rows (table_of t) (way e.up) e.col (basic_at t i)))) =
+          best_pivots t.rows (all_columns t) F cost b (table_of t) (way e.up) e.col
+          (own_table m n F cost b t st) own_within enters (plain x)
           (a_best limit t st.whole F cost b (own_table m n F cost b t st) st.bounds e enters x found) i z in
-          subst₂ (λ j p. ChosenPivot b t p j) ji pi (record { way = way e.up; ratio = x.ratio; to = bound_ahead (way_of (ray t.rows (table_of t) (way e.up) e.col (basic_at t i))); pivots = v })
+          subst₂ (λ j p. ChosenPivot b t p j) ji pi (record {
+            way = way e.up;
+            ratio = x.ratio;
+            to = bound_ahead (way_of (ray t.rows (table_of t) (way e.up) e.col (basic_at t i)));
+            pivots = v;
+          })
 
       with_best : (e : Entering) → entering t ≡ Some e → (best : Option (Best ℚ)) → best_run limit t e ≡ Ok best →
           choice_by e best ≡ Pivot p j theta to → ChosenPivot b t p j
@@ -99,7 +113,8 @@ module _ (m n : ℕ) (F : ℕ → ℕ → ℚ) (cost : ℕ → ℚ) (b : Bounds)
           h in let y : ◌≡◌ {A = Choice ℚ} (End Optimal) (Pivot p j theta to) = cc in cc
       by (Some e) is h =
           let a = then_ok (best_run limit t e) (λ best. Ok (choice_by e best)) (Pivot p j theta to) h in
-          with_best e is a.0 a.1 (let z : ◌≡◌ {A = Run (Choice ℚ)} (Ok (choice_by e a.0)) (Ok (Pivot p j theta to)) = a.2 in cc)
+          with_best e is a.0 a.1
+          (let z : ◌≡◌ {A = Run (Choice ℚ)} (Ok (choice_by e a.0)) (Ok (Pivot p j theta to)) = a.2 in cc)
 
 -- ---- the places of a tableau of this form
 pub places_of : (f : Form) (F : ℕ → ℕ → ℚ) (cost : ℕ → ℚ) (b : Bounds) (w : Tableau) (pairs : List Pair) →
@@ -131,7 +146,9 @@ places_as f t u basic pairs e h =
     from_bare f u basic pairs (subst (λ t. Places f t basic pairs) e (to_bare f t basic pairs h))
 
 -- ---- the steps
-module _ (f : Form) (starts : List (RowStart ℚ)) (costs : List ℚ) (b : Bounds) (t : Tableau) (st : IsTableauOf f.rows f.cols (form_rows f starts) (cost_at costs) b t) (few : length costs ≤ f.cols + f.rows + f.rows)
+module _ (f : Form) (starts : List (RowStart ℚ)) (costs : List ℚ) (b : Bounds)
+    (t : Tableau) (st : IsTableauOf f.rows f.cols (form_rows f starts) (cost_at costs) b t)
+    (few : length costs ≤ f.cols + f.rows + f.rows)
     (basic : List ℕ) (pairs : List Pair) (g : Places f t basic pairs) (replaced_before : ℕ) where
   abbrev F : ℕ → ℕ → ℚ
   F = form_rows f starts
@@ -160,7 +177,8 @@ module _ (f : Form) (starts : List (RowStart ℚ)) (costs : List ℚ) (b : Bound
       }
 
   -- a flip
-  module _ (j : ℕ) (v : Tableau) (sight : Sees f starts costs b t st few basic pairs g None j v) (chosen : choice_run None w ≡ Ok (Flip j)) where
+  module _ (j : ℕ) (v : Tableau) (sight : Sees f starts costs b t st few basic pairs g None j v)
+      (chosen : choice_run None w ≡ Ok (Flip j)) where
     record FlipsOver (u : Tableau) : Type 0 where
       next : Tableau
       over : flip_over_run None now v j ≡ Ok (state next basic pairs replaced_before)
@@ -178,8 +196,10 @@ module _ (f : Form) (starts : List (RowStart ℚ)) (costs : List ℚ) (b : Bound
         let seen_j : Tableau = seen starts (bare_with t basic) j sight.column in
         let same : SameColumn seen_j w j = subst (λ v. SameColumn v w j) sight.sight sight.same in
         let run : flip_run None seen_j j ≡ Ok (flipped seen_j j to o.values) =
-        ap (λ r. r >>= λ range. moved_run None seen_j j (directed (flip_way (status_at w j)) range) None >>= λ values. Ok (flipped seen_j j to values)) o.range_ok
-        ∙ ap (λ r. r >>= λ values. Ok (flipped seen_j j to values)) (moved_same None seen_j w j (directed (flip_way (status_at w j)) o.range) None same ∙ o.values_ok) in
+        ap (λ r. r >>= λ range. moved_run None seen_j j (directed (flip_way (status_at w j)) range) None >>=
+        λ values. Ok (flipped seen_j j to values)) o.range_ok
+        ∙ ap (λ r. r >>= λ values. Ok (flipped seen_j j to values))
+        (moved_same None seen_j w j (directed (flip_way (status_at w j)) o.range) None same ∙ o.values_ok) in
         let after' : IsTableauOf f.rows f.cols F (cost_at costs) b (flipped w j to o.values) =
         subst (IsTableauOf f.rows f.cols F (cost_at costs) b) (sym o.is) after in
         record {
@@ -197,11 +217,17 @@ module _ (f : Form) (starts : List (RowStart ℚ)) (costs : List ℚ) (b : Bound
         (s : Revised) × (flip_over_run None now v j ≡ Ok s) × GoesWith f u s
     flip_goes c u same chosen_t done su =
         let a = there_is (flip_run None w j) (flip_agrees None w j) in
-        let o : FlipsOver a.0 = flips_over a.0 a.1 in
-        (state o.next basic pairs replaced_before, o.over, goes o.next u basic pairs replaced_before o.after su (next_statuses None None t w c (Flip j) u o.next same refl done o.done) o.places)
+        let o : FlipsOver a.0 = flips_over a.0 a.1 in (
+          state o.next basic pairs replaced_before,
+          o.over,
+          goes o.next u basic pairs replaced_before o.after su
+              (next_statuses None None t w c (Flip j) u o.next same refl done o.done) o.places,
+        )
 
   -- a pivot
-  module _ (p j : ℕ) (theta : ℚ) (to : Status) (v : Tableau) (sight : Sees f starts costs b t st few basic pairs g None j v) (chosen : choice_run None w ≡ Ok (Pivot p j theta to)) where
+  module _ (p j : ℕ) (theta : ℚ) (to : Status) (v : Tableau)
+      (sight : Sees f starts costs b t st few basic pairs g None j v)
+      (chosen : choice_run None w ≡ Ok (Pivot p j theta to)) where
     by_rule : ChosenPivot b w p j
     by_rule = chosen_pivot f.rows f.cols F (cost_at costs) b w w_is None p j theta to chosen
 
@@ -216,49 +242,65 @@ module _ (f : Form) (starts : List (RowStart ℚ)) (costs : List ℚ) (b : Bound
 
     not_zero : read sight.column p ≢ 0ℚ
     not_zero e =
-        entry_not_zero w.rows (all_columns w) F (cost_at costs) b (table_of w) (own_table f.rows f.cols F (cost_at costs) b w w_is) by_rule.way j p by_rule.ratio by_rule.to by_rule.pivots
-        (sym (same_j.entries p by_rule.pivots.position) ∙ seen_at f starts costs b t st few basic pairs g j sight.column p p_in ∙ ap (λ a. sign_of starts t (get_or basic p 0) *ℚ a) e ∙ *ℚ_zero _)
+        entry_not_zero w.rows (all_columns w) F (cost_at costs) b (table_of w)
+        (own_table f.rows f.cols F (cost_at costs) b w w_is) by_rule.way j p by_rule.ratio by_rule.to by_rule.pivots
+        (sym (same_j.entries p by_rule.pivots.position)
+        ∙ seen_at f starts costs b t st few basic pairs g j sight.column p p_in
+        ∙ ap (λ a. sign_of starts t (get_or basic p 0) *ℚ a) e ∙ *ℚ_zero _)
 
     abbrev new_pairs : List Pair
     new_pairs = with_pair pairs p sight.column
 
-    replace_ok : replace_run None f.rows (factors_at now) p j (column_of f j) ≡ Ok (record { pairs = new_pairs; basic = set basic p j })
+    replace_ok : replace_run None f.rows (factors_at now) p j (column_of f j)
+        ≡ Ok (record { pairs = new_pairs; basic = set basic p j })
     unfolding replace_run
     replace_ok = ap (λ o. o >>= λ v. Ok (record { pairs = with_pair pairs p v; basic = set basic p j })) sight.ftran
 
     new_stands : StandsFor f.rows new_pairs (basis_of f (map (λ k. factor_column t k) (set basic p j)))
     new_stands =
-        stands_as f.rows new_pairs (with_column (basis_of f (map (λ k. factor_column t k) basic)) p (column_of f j)) (basis_of f (map (λ k. factor_column t k) (set basic p j)))
-        ((replaced f.rows (basis_of f (map (λ k. factor_column t k) basic)) None (factors_at now) (record { pairs = new_pairs; basic = set basic p j }) p j (column_of f j) g.stands p_in
+        stands_as f.rows new_pairs (with_column (basis_of f (map (λ k. factor_column t k) basic)) p (column_of f j))
+        (basis_of f (map (λ k. factor_column t k) (set basic p j)))
+        ((replaced f.rows (basis_of f (map (λ k. factor_column t k) basic)) None (factors_at now)
+        (record { pairs = new_pairs; basic = set basic p j }) p j (column_of f j) g.stands p_in
         (length-made f.rows (λ i. column_entry f i j)) entry replace_ok).stand)
         columns
       where
         entry : (z : List ℚ) →
             SolvesColumns f.rows (basis_of f (map (λ k. factor_column t k) basic)) (column_of f j) z → read z p ≢ 0ℚ
         entry z s e =
-            not_zero (sym ((ftran_solves f.rows pairs (basis_of f (map (λ k. factor_column t k) basic)) g.stands None (column_of f j) sight.column (length-made f.rows (λ i. column_entry f i j)) sight.ftran).only (read z) s.solves p p_in) ∙ e)
+            not_zero (sym
+            ((ftran_solves f.rows pairs (basis_of f (map (λ k. factor_column t k) basic)) g.stands None (column_of f j)
+            sight.column (length-made f.rows (λ i. column_entry f i j)) sight.ftran).only (read z) s.solves p p_in) ∙ e)
 
         columns : (r q : ℕ) → r < f.rows → q < f.rows →
-            with_column (basis_of f (map (λ k. factor_column t k) basic)) p (column_of f j) r q ≡ basis_of f (map (λ k. factor_column t k) (set basic p j)) r q
+            with_column (basis_of f (map (λ k. factor_column t k) basic)) p (column_of f j) r q
+            ≡ basis_of f (map (λ k. factor_column t k) (set basic p j)) r q
         columns r q l h =
             by_eq q p
-            (λ d. subst (λ q. with_column (basis_of f (map (λ k. factor_column t k) basic)) p (column_of f j) r q ≡ basis_of f (map (λ k. factor_column t k) (set basic p j)) r q) (sym d)
+            (λ d. subst (λ q. with_column (basis_of f (map (λ k. factor_column t k) basic)) p (column_of f j) r q
+            ≡ basis_of f (map (λ k. factor_column t k) (set basic p j)) r q) (sym d)
             (at_own r ∙ get_or-made f.rows (λ i. column_entry f i j) r 0ℚ l
-            ∙ ap (column_entry f r) (sym (new_at p p_in ∙ ap (factor_column t) (get_or-set_same basic p j 0 (subst (λ n. p < n) (sym g.all) p_in)) ∙ plain_column f starts t st.rows st.cols j sight.before))))
+            ∙ ap (column_entry f r) (sym
+            (new_at p p_in ∙ ap (factor_column t) (get_or-set_same basic p j 0 (subst (λ n. p < n) (sym g.all) p_in))
+            ∙ plain_column f starts t st.rows st.cols j sight.before))))
             (λ d. at_other r q d
-            ∙ ap (column_entry f r) (get_or-map (λ k. factor_column t k) basic q 0 0 (subst (λ n. q < n) (sym g.all) h) ∙ ap (factor_column t) (sym (get_or-set_other basic p q j 0 d)) ∙ sym (new_at q h)))
+            ∙ ap (column_entry f r) (get_or-map (λ k. factor_column t k) basic q 0 0 (subst (λ n. q < n) (sym g.all) h)
+            ∙ ap (factor_column t) (sym (get_or-set_other basic p q j 0 d)) ∙ sym (new_at q h)))
           where
             new_at : (q : ℕ) → q < f.rows →
                 get_or (map (λ k. factor_column t k) (set basic p j)) q 0 ≡ factor_column t (get_or (set basic p j) q 0)
             new_at q h =
-                get_or-map (λ k. factor_column t k) (set basic p j) q 0 0 (subst (λ n. q < n) (sym (length-set basic p j ∙ g.all)) h)
+                get_or-map (λ k. factor_column t k) (set basic p j) q 0 0
+                (subst (λ n. q < n) (sym (length-set basic p j ∙ g.all)) h)
 
             at_own : (r : ℕ) →
-                with_column (basis_of f (map (λ k. factor_column t k) basic)) p (column_of f j) r p ≡ read (column_of f j) r
+                with_column (basis_of f (map (λ k. factor_column t k) basic)) p (column_of f j) r p
+                ≡ read (column_of f j) r
             at_own r = rw (eq-eqb p p refl) refl
 
             at_other : (r q : ℕ) → q ≢ p →
-                with_column (basis_of f (map (λ k. factor_column t k) basic)) p (column_of f j) r q ≡ basis_of f (map (λ k. factor_column t k) basic) r q
+                with_column (basis_of f (map (λ k. factor_column t k) basic)) p (column_of f j) r q
+                ≡ basis_of f (map (λ k. factor_column t k) basic) r q
             at_other r q d = rw (ne_eqb q p d) refl
 
     record PivotsOver : Type 0 where
@@ -277,19 +319,34 @@ module _ (f : Form) (starts : List (RowStart ℚ)) (costs : List ℚ) (b : Bound
         (choice_is_meant None f.rows f.cols F (cost_at costs) b w (Pivot p j theta to) w_is chosen u h).after in
         let after' : IsTableauOf f.rows f.cols F (cost_at costs) b next =
         subst (IsTableauOf f.rows f.cols F (cost_at costs) b) (sym o.is) after in
-        let replace' : replace_run None t.rows (factors_at now) p j (column_of f j) ≡ Ok (record { pairs = new_pairs; basic = set basic p j }) =
-        subst (λ m. replace_run None m (factors_at now) p j (column_of f j) ≡ Ok (record { pairs = new_pairs; basic = set basic p j })) (sym st.rows) replace_ok in
+        let replace' : replace_run None t.rows (factors_at now) p j (column_of f j)
+        ≡ Ok (record { pairs = new_pairs; basic = set basic p j }) =
+        subst (λ m. replace_run None m (factors_at now) p j (column_of f j)
+        ≡ Ok (record { pairs = new_pairs; basic = set basic p j })) (sym st.rows) replace_ok in
         record {
           next = next;
           over =
               ap (λ v. exchange_run None f now v p j theta to) sight.sight
-              ∙ ap (λ r. r >>= λ values. shifted_run None values j theta >>= λ shifted. replace_run None t.rows (factors_at now) p j (column_of f j) >>= λ factors.
-              Ok (record { bare = exchanged (turned (bare_with t basic) shifted [] []) p j to; pairs = factors.pairs; replaced = suc replaced_before }))
+              ∙ ap (λ r. r >>= λ values. shifted_run None values j theta >>=
+              λ shifted. replace_run None t.rows (factors_at now) p j (column_of f j) >>= λ factors.
+              Ok (record {
+                bare = exchanged (turned (bare_with t basic) shifted [] []) p j to;
+                pairs = factors.pairs;
+                replaced = suc replaced_before;
+              }))
               (moved_same None seen_j w j theta (Some p) same_j ∙ o.values_ok)
               ∙ ap (λ r. r >>= λ shifted. replace_run None t.rows (factors_at now) p j (column_of f j) >>= λ factors.
-              Ok (record { bare = exchanged (turned (bare_with t basic) shifted [] []) p j to; pairs = factors.pairs; replaced = suc replaced_before }))
+              Ok (record {
+                bare = exchanged (turned (bare_with t basic) shifted [] []) p j to;
+                pairs = factors.pairs;
+                replaced = suc replaced_before;
+              }))
               o.shifted_ok
-              ∙ ap (λ r. r >>= λ factors. Ok (record { bare = exchanged (turned (bare_with t basic) o.shifted [] []) p j to; pairs = factors.pairs; replaced = suc replaced_before })) replace';
+              ∙ ap (λ r. r >>= λ factors. Ok (record {
+                bare = exchanged (turned (bare_with t basic) o.shifted [] []) p j to;
+                pairs = factors.pairs;
+                replaced = suc replaced_before;
+              })) replace';
           places = places_of f F (cost_at costs) b next new_pairs after' new_stands;
           after = after';
           done = h ∙ ap Ok (sym o.is);
@@ -303,5 +360,6 @@ module _ (f : Form) (starts : List (RowStart ℚ)) (costs : List ℚ) (b : Bound
         let o : PivotsOver = pivots_over a.0 a.1 in (
           state o.next (set basic p j) new_pairs (suc replaced_before),
           o.over,
-          goes o.next u (set basic p j) new_pairs (suc replaced_before) o.after su (next_statuses None None t w c (Pivot p j theta to) u o.next same refl done o.done) o.places,
+          goes o.next u (set basic p j) new_pairs (suc replaced_before) o.after su
+              (next_statuses None None t w c (Pivot p j theta to) u o.next same refl done o.done) o.places,
         )

@@ -1,5 +1,6 @@
 -- One basis, one step: two tableaus of the same statuses choose the same step, named by its columns.
-use Rattle.std.proofs.Common.{◌≡◌, ◌≢◌, ℕ, zero, suc, ◌+◌, ◌<◌, ◌≤◌, Option, Some, None, Ok, cond, option_map, refl, sym, ap, ap₂, ◌∙◌, subst, subst₂, arith, ⊎_elim}
+use Rattle.std.proofs.Common.{◌≡◌, ◌≢◌, ℕ, zero, suc, ◌+◌, ◌<◌, ◌≤◌, Option, Some, None, Ok, cond}
+use Rattle.std.proofs.Common.{option_map, refl, sym, ap, ap₂, ◌∙◌, subst, subst₂, arith, ⊎_elim}
 use Rattle.spec_exact.specs.Fraction.{ℚ, 0ℚ, ◌-ℚ◌, neg_ℚ, ◌*ℚ◌}
 use Rattle.spec_pivot.specs.declared.status.Status.TheVariants.{Basic}
 use Rattle.spec_pivot.specs.Tableau.{Matrix}
@@ -15,8 +16,10 @@ use Rattle.spec_simplex.specs.declared.ends.Best.{Best}
 use Rattle.spec_simplex.specs.declared.ends.PrimalEnd.TheVariants.{Optimal}
 use Rattle.spec_simplex.specs.declared.ends.Choice.{Choice}
 use Rattle.spec_simplex.specs.declared.ends.Choice.TheVariants.{End, Pivot}
-use Rattle.spec_simplex.specs.Tableau.{Tableau, all_columns, basic_at, value_at, reduced_at, status_at, lower_at, upper_at, is_fixed}
-use Rattle.spec_simplex.specs.Step.{way_by, way_at, or_enters, entering_below, entering, directed, best_run, choice_at, choice_by, choice_of, choice_run}
+use Rattle.spec_simplex.specs.Tableau.{Tableau, all_columns, basic_at, value_at}
+use Rattle.spec_simplex.specs.Tableau.{reduced_at, status_at, lower_at, upper_at, is_fixed}
+use Rattle.spec_simplex.specs.Step.{way_by, way_at, or_enters, entering_below, entering, directed}
+use Rattle.spec_simplex.specs.Step.{best_run, choice_at, choice_by, choice_of, choice_run}
 use Rattle.spec_cold.specs.Tables.{way, table_of, IsTableauOf}
 use Rattle.spec_cold.proofs.Runs.{then_ok}
 use Rattle.spec_cold.proofs.Lists.{by_lt}
@@ -42,9 +45,11 @@ module _ (m n : ℕ) (f : Matrix) (cost : ℕ → ℚ) (b : Bounds) (t : Tableau
       (λ h. subst P (sym (s.bounds.upper k (omega (arith, h, s.rows, s.cols)))) (before h))
       (λ h. by_basic (status_at t k)
       (λ e. subst P (sym (s.bounds.basic k (omega (arith, l, s.rows, s.cols)) e)) (basic h e))
-      (λ e. subst P (sym (s.bounds.fixed k (omega (arith, h, s.rows, s.cols)) (omega (arith, l, s.rows, s.cols)) e)) (other h e)))
+      (λ e. subst P
+      (sym (s.bounds.fixed k (omega (arith, h, s.rows, s.cols)) (omega (arith, l, s.rows, s.cols)) e)) (other h e)))
 
-module _ (m n : ℕ) (f : Matrix) (cost : ℕ → ℚ) (b : Bounds) (t u : Tableau) (st : IsTableauOf m n f cost b t) (su : IsTableauOf m n f cost b u) (same : SameStatuses (n + m + m) (table_of t) (table_of u)) where
+module _ (m n : ℕ) (f : Matrix) (cost : ℕ → ℚ) (b : Bounds) (t u : Tableau) (st : IsTableauOf m n f cost b t)
+    (su : IsTableauOf m n f cost b u) (same : SameStatuses (n + m + m) (table_of t) (table_of u)) where
   pub both : SameTableau m (n + m + m) (table_of t) (table_of u)
   both = one_tableau m (n + m + m) f cost b (table_of t) (table_of u) st.tableau su.tableau same
 
@@ -57,9 +62,12 @@ module _ (m n : ℕ) (f : Matrix) (cost : ℕ → ℚ) (b : Bounds) (t u : Table
   pub same_upper : (k : ℕ) → k < n + m + m → upper_at t k ≡ upper_at u k
   same_upper k l =
       upper_is m n f cost b t st k l (λ o. o ≡ upper_at u k)
-      (λ h. upper_is m n f cost b u su k l (λ o. b.upper k ≡ o) (λ _. refl) (λ h' e. refl) (λ h' e. let z : ⊥ = omega (arith, h, h') in absurd z))
-      (λ h e. upper_is m n f cost b u su k l (λ o. b.upper k ≡ o) (λ _. refl) (λ h' e. refl) (λ h' z. absurd (z (sym (same k l) ∙ e))))
-      (λ h e. upper_is m n f cost b u su k l (λ o. Some 0ℚ ≡ o) (λ h'. let z : ⊥ = omega (arith, h, h') in absurd z) (λ h' z. absurd (e (same k l ∙ z))) (λ h' z. refl))
+      (λ h. upper_is m n f cost b u su k l (λ o. b.upper k ≡ o) (λ _. refl)
+      (λ h' e. refl) (λ h' e. let z : ⊥ = omega (arith, h, h') in absurd z))
+      (λ h e. upper_is m n f cost b u su k l (λ o. b.upper k ≡ o)
+      (λ _. refl) (λ h' e. refl) (λ h' z. absurd (z (sym (same k l) ∙ e))))
+      (λ h e. upper_is m n f cost b u su k l (λ o. Some 0ℚ ≡ o)
+      (λ h'. let z : ⊥ = omega (arith, h, h') in absurd z) (λ h' z. absurd (e (same k l ∙ z))) (λ h' z. refl))
 
   -- ---- the column that enters
   same_way : (k : ℕ) → k < n + m + m → way_at t k ≡ way_at u k
@@ -84,11 +92,13 @@ module _ (m n : ℕ) (f : Matrix) (cost : ℕ → ℚ) (b : Bounds) (t u : Table
 
     enters_t : Enters (n + m + m) b (table_of t) (way e.up) e.col
     enters_t =
-        subst (λ k. Enters k b (table_of t) (way e.up) e.col) (columns_are m n f cost b t st) (an_entering b t st.bounds e there)
+        subst (λ k. Enters k b (table_of t) (way e.up) e.col)
+        (columns_are m n f cost b t st) (an_entering b t st.bounds e there)
 
     enters_u : Enters (n + m + m) b (table_of u) (way e.up) e.col
     enters_u =
-        subst (λ k. Enters k b (table_of u) (way e.up) e.col) (columns_are m n f cost b u su) (an_entering b u su.bounds e (sym same_entering ∙ there))
+        subst (λ k. Enters k b (table_of u) (way e.up) e.col) (columns_are m n f cost b u su)
+        (an_entering b u su.bounds e (sym same_entering ∙ there))
 
     outside_t : (i : ℕ) → i < m → basic_at t i ≢ e.col
     outside_t = j_outside m (n + m + m) f cost b (table_of t) st.tableau (way e.up) e.col enters_t
@@ -107,13 +117,15 @@ module _ (m n : ℕ) (f : Matrix) (cost : ℕ → ℚ) (b : Bounds) (t u : Table
     same_room : (r i : ℕ) → r < m → i < m → basic_at t r ≡ basic_at u i → rooms t r ≡ rooms u i
     same_room r i p q z =
         ap₂ (λ k a. room b k (value_at t k) a) z (same_ray r i p q z)
-        ∙ ap (λ v. room b (basic_at u i) v (ray m (table_of u) (way e.up) e.col (basic_at u i))) (both.values (basic_at u i) (su.tableau.in_range i q))
+        ∙ ap (λ v. room b (basic_at u i) v (ray m (table_of u) (way e.up) e.col (basic_at u i)))
+        (both.values (basic_at u i) (su.tableau.in_range i q))
 
     forth : SamePositions m (rooms t) (basic_at t) (rooms u) (basic_at u)
     forth = record {
       position =
           λ r p. let q =
-          su.tableau.placed (basic_at t r) (st.tableau.in_range r p) (sym (same (basic_at t r) (st.tableau.in_range r p)) ∙ st.tableau.marked r p) in
+          su.tableau.placed (basic_at t r) (st.tableau.in_range r p)
+          (sym (same (basic_at t r) (st.tableau.in_range r p)) ∙ st.tableau.marked r p) in
           (q.0, q.1, sym q.2, same_room r q.0 p q.1 (sym q.2));
     }
 
@@ -121,7 +133,8 @@ module _ (m n : ℕ) (f : Matrix) (cost : ℕ → ℚ) (b : Bounds) (t u : Table
     back = record {
       position =
           λ i p. let q =
-          st.tableau.placed (basic_at u i) (su.tableau.in_range i p) (same (basic_at u i) (su.tableau.in_range i p) ∙ su.tableau.marked i p) in
+          st.tableau.placed (basic_at u i) (su.tableau.in_range i p)
+          (same (basic_at u i) (su.tableau.in_range i p) ∙ su.tableau.marked i p) in
           (q.0, q.1, sym q.2, sym (same_room q.0 i q.1 p q.2));
     }
 
@@ -139,7 +152,8 @@ module _ (m n : ℕ) (f : Matrix) (cost : ℕ → ℚ) (b : Bounds) (t u : Table
         (x.position ≡ None) × ((i : ℕ) → i < m → (basic_at t i ≢ x.column) × (basic_at u i ≢ x.column))
     first x z =
         let y =
-        first_is (b.lower e.col) (b.upper e.col) x z in (y.0, λ i l. (λ w. outside_t i l (w ∙ y.1), λ w. outside_u i l (w ∙ y.1)))
+        first_is (b.lower e.col) (b.upper e.col) x z in
+        (y.0, λ i l. (λ w. outside_t i l (w ∙ y.1), λ w. outside_u i l (w ∙ y.1)))
 
     module _ (limit limit2 : Option ℕ) where
       scan_t : (best : Option (Best ℚ)) → best_run limit t e ≡ Ok best →
@@ -149,9 +163,11 @@ module _ (m n : ℕ) (f : Matrix) (cost : ℕ → ℚ) (b : Bounds) (t u : Table
           by : (best : Option (Best ℚ)) → best_run limit t e ≡ Ok best →
               best_of t.rows b (table_of t) (way e.up) e.col ≡ option_map plain best
           by None h =
-              no_best limit t st.whole f cost b (own_table m n f cost b t st) st.bounds e (an_entering b t st.bounds e there) h
+              no_best limit t st.whole f cost b (own_table m n f cost b t st) st.bounds e
+              (an_entering b t st.bounds e there) h
           by (Some x) h =
-              a_best limit t st.whole f cost b (own_table m n f cost b t st) st.bounds e (an_entering b t st.bounds e there) x h
+              a_best limit t st.whole f cost b (own_table m n f cost b t st) st.bounds e
+              (an_entering b t st.bounds e there) x h
 
       scan_u : (best : Option (Best ℚ)) → best_run limit2 u e ≡ Ok best →
           scan m (rooms u) (basic_at u) start ≡ option_map plain best
@@ -160,9 +176,11 @@ module _ (m n : ℕ) (f : Matrix) (cost : ℕ → ℚ) (b : Bounds) (t u : Table
           by : (best : Option (Best ℚ)) → best_run limit2 u e ≡ Ok best →
               best_of u.rows b (table_of u) (way e.up) e.col ≡ option_map plain best
           by None h =
-              no_best limit2 u su.whole f cost b (own_table m n f cost b u su) su.bounds e (an_entering b u su.bounds e (sym same_entering ∙ there)) h
+              no_best limit2 u su.whole f cost b (own_table m n f cost b u su) su.bounds e
+              (an_entering b u su.bounds e (sym same_entering ∙ there)) h
           by (Some x) h =
-              a_best limit2 u su.whole f cost b (own_table m n f cost b u su) su.bounds e (an_entering b u su.bounds e (sym same_entering ∙ there)) x h
+              a_best limit2 u su.whole f cost b (own_table m n f cost b u su) su.bounds e
+              (an_entering b u su.bounds e (sym same_entering ∙ there)) x h
 
       -- where both find a best
       with_bests : (x y : Best ℚ) → best_run limit t e ≡ Ok (Some x) → best_run limit2 u e ≡ Ok (Some y) →
@@ -171,7 +189,8 @@ module _ (m n : ℕ) (f : Matrix) (cost : ℕ → ℚ) (b : Bounds) (t u : Table
         where
           found : SameBest m (basic_at t) (basic_at u) (plain x) (plain y)
           found =
-              same_best m (rooms t) (basic_at t) (rooms u) (basic_at u) start forth back first (plain x) (plain y) (scan_t (Some x) h) (scan_u (Some y) k)
+              same_best m (rooms t) (basic_at t) (rooms u) (basic_at u) start forth back first
+              (plain x) (plain y) (scan_t (Some x) h) (scan_u (Some y) k)
 
           ratio : x.ratio ≡ y.ratio
           ratio = found.ratio
@@ -180,19 +199,22 @@ module _ (m n : ℕ) (f : Matrix) (cost : ℕ → ℚ) (b : Bounds) (t u : Table
               x.to ≡ bound_ahead (way_of (ray m (table_of t) (way e.up) e.col (basic_at t p)))
           ahead_t p z =
               subst (λ m. x.to ≡ bound_ahead (way_of (ray m (table_of t) (way e.up) e.col (basic_at t p)))) st.rows
-              (best_ahead limit t st.whole f cost b (own_table m n f cost b t st) st.bounds e (an_entering b t st.bounds e there) x h p z)
+              (best_ahead limit t st.whole f cost b (own_table m n f cost b t st) st.bounds e
+              (an_entering b t st.bounds e there) x h p z)
 
           ahead_u : (p : ℕ) → y.place ≡ Some p →
               y.to ≡ bound_ahead (way_of (ray m (table_of u) (way e.up) e.col (basic_at u p)))
           ahead_u p z =
               subst (λ m. y.to ≡ bound_ahead (way_of (ray m (table_of u) (way e.up) e.col (basic_at u p)))) su.rows
-              (best_ahead limit2 u su.whole f cost b (own_table m n f cost b u su) su.bounds e (an_entering b u su.bounds e (sym same_entering ∙ there)) y k p z)
+              (best_ahead limit2 u su.whole f cost b (own_table m n f cost b u su) su.bounds e
+              (an_entering b u su.bounds e (sym same_entering ∙ there)) y k p z)
 
           inside_t : (p : ℕ) → x.place ≡ Some p → p < m
           inside_t p z =
               ⊎_elim
               (λ w. let v : None ≡ Some p = sym ((first (plain x) w).0) ∙ z in cc)
-              (λ w. let v : Some w.0 ≡ Some p = sym w.1.position ∙ z in let e : w.0 ≡ p = cc in subst (λ p. p < m) e w.1.in_range)
+              (λ w. let v : Some w.0 ≡ Some p = sym w.1.position ∙ z in
+              let e : w.0 ≡ p = cc in subst (λ p. p < m) e w.1.in_range)
               (Rattle.spec_pivot.proofs.Ratio.found (rooms t) (basic_at t) start m (plain x) (scan_t (Some x) h))
 
           by : (o : Option ℕ) → x.place ≡ o → SameChoice t u (choice_at e x o) (choice_at e y y.place)

@@ -1,5 +1,6 @@
 -- Where a step over factors ends the run, its certificate and its basis are the tableau's.
-use Rattle.std.proofs.Common.{◌≡◌, ◌≢◌, ⊎_elim, ℕ, zero, suc, ◌+◌, ◌<◌, ◌≤◌, List, [], ◌∷◌, ◌++◌, length, get_or, Option, None, Ok, Bool, cond, nat_eq, refl, sym, ap, ap₂, ◌∙◌, subst, arith}
+use Rattle.std.proofs.Common.{◌≡◌, ◌≢◌, ⊎_elim, ℕ, zero, suc, ◌+◌, ◌<◌, ◌≤◌, List, [], ◌∷◌, ◌++◌, length, get_or}
+use Rattle.std.proofs.Common.{Option, None, Ok, Bool, cond, nat_eq, refl, sym, ap, ap₂, ◌∙◌, subst, arith}
 use Rattle.spec_exact.specs.Fraction.{ℚ, ◌-ℚ◌, ◌*ℚ◌, neg_ℚ, 0ℚ}
 use Rattle.spec_exact.proofs.Field.{*ℚ_comm}
 use Rattle.spec_exact.proofs.Ruleset.{ring}
@@ -44,8 +45,10 @@ made_same (suc n) f g h =
     ap₂ (λ xs x. xs ++ x ∷ []) (made_same n f g (λ i l. h i (omega (arith, l)))) (h n (omega arith))
 
 -- ---- two tableaus of one basis have the same ray
-module _ (m n : ℕ) (f : Matrix) (cost : ℕ → ℚ) (b : Bounds) (t u : Tableau) (st : IsTableauOf m n f cost b t) (su : IsTableauOf m n f cost b u) (same : SameStatuses (n + m + m) (table_of t) (table_of u))
-    (way : Way) (j : ℕ) (et : Enters (n + m + m) b (table_of t) way j) (eu : Enters (n + m + m) b (table_of u) way j) where
+module _ (m n : ℕ) (f : Matrix) (cost : ℕ → ℚ) (b : Bounds) (t u : Tableau) (st : IsTableauOf m n f cost b t)
+    (su : IsTableauOf m n f cost b u) (same : SameStatuses (n + m + m) (table_of t) (table_of u))
+    (way : Way) (j : ℕ) (et : Enters (n + m + m) b (table_of t) way j)
+    (eu : Enters (n + m + m) b (table_of u) way j) where
   outside_t : (i : ℕ) → i < m → basic_at t i ≢ j
   outside_t = j_outside m (n + m + m) f cost b (table_of t) st.tableau way j et
 
@@ -64,11 +67,14 @@ module _ (m n : ℕ) (f : Matrix) (cost : ℕ → ℚ) (b : Bounds) (t u : Table
       ∙ sym (ray_basic m (table_of u) su.tableau.units way j outside_u q.0 q.1)
       ∙ ap (ray m (table_of u) way j) q.2)
       (λ none. by_eq j k
-      (λ e. ap (ray m (table_of t) way j) (sym e) ∙ ray_at m (table_of t) st.tableau.units way j outside_t ∙ sym (ray_at m (table_of u) su.tableau.units way j outside_u) ∙ ap (ray m (table_of u) way j) e)
+      (λ e. ap (ray m (table_of t) way j) (sym e) ∙ ray_at m (table_of t) st.tableau.units way j outside_t
+      ∙ sym (ray_at m (table_of u) su.tableau.units way j outside_u) ∙ ap (ray m (table_of u) way j) e)
       (λ e. ray_still m (table_of t) st.tableau.units way j outside_t k e none
-      ∙ sym (ray_still m (table_of u) su.tableau.units way j outside_u k e (λ i l z. let h : k < n + m + m = subst (λ k. k < n + m + m) z (su.tableau.in_range i l) in
+      ∙ sym (ray_still m (table_of u) su.tableau.units way j outside_u k e
+      (λ i l z. let h : k < n + m + m = subst (λ k. k < n + m + m) z (su.tableau.in_range i l) in
       let q =
-      st.tableau.placed k h (same k h ∙ subst (λ k. status_at u k ≡ Basic) z (su.tableau.marked i l)) in none q.0 q.1 q.2))))
+      st.tableau.placed k h (same k h ∙ subst (λ k. status_at u k ≡ Basic) z (su.tableau.marked i l)) in
+      none q.0 q.1 q.2))))
       (at_position m (n + m + m) f cost b (table_of t) st.tableau k)
 
 -- the same entries in column j make the same moves
@@ -76,11 +82,16 @@ moves_same : (v u : Tableau) (j : ℕ) (up : Bool) (k : ℕ) → SameColumn v u 
     moves_below v j up k n ≡ moves_below u j up k n
 moves_same v u j up k s zero h = refl
 moves_same v u j up k s (suc n) h =
-    ap₂ (λ b a. cond (nat_eq (get_or b n 0) k) (neg_ℚ (directed up a)) (moves_below v j up k n)) s.basic (s.entries n (omega (arith, h)))
-    ∙ ap (λ a. cond (nat_eq (basic_at u n) k) (neg_ℚ (directed up (entry_at u n j))) a) (moves_same v u j up k s n (omega (arith, h)))
+    ap₂ (λ b a. cond (nat_eq (get_or b n 0) k) (neg_ℚ (directed up a)) (moves_below v j up k n)) s.basic
+    (s.entries n (omega (arith, h)))
+    ∙ ap (λ a. cond (nat_eq (basic_at u n) k) (neg_ℚ (directed up (entry_at u n j))) a)
+    (moves_same v u j up k s n (omega (arith, h)))
 
-module _ (f : Form) (starts : List (RowStart ℚ)) (costs : List ℚ) (b : Bounds) (t : Tableau) (st : IsTableauOf f.rows f.cols (form_rows f starts) (cost_at costs) b t) (few : length costs ≤ f.cols + f.rows + f.rows)
-    (free : (i : ℕ) → i < f.rows → cost_at costs (f.cols + i) ≡ 0ℚ) (basic : List ℕ) (pairs : List Pair) (g : Places f t basic pairs) where
+module _ (f : Form) (starts : List (RowStart ℚ)) (costs : List ℚ) (b : Bounds)
+    (t : Tableau) (st : IsTableauOf f.rows f.cols (form_rows f starts) (cost_at costs) b t)
+    (few : length costs ≤ f.cols + f.rows + f.rows)
+    (free : (i : ℕ) → i < f.rows → cost_at costs (f.cols + i) ≡ 0ℚ)
+    (basic : List ℕ) (pairs : List Pair) (g : Places f t basic pairs) where
   abbrev w : Tableau
   w = W f starts costs b t st few basic pairs g
 
@@ -93,7 +104,9 @@ module _ (f : Form) (starts : List (RowStart ℚ)) (costs : List ℚ) (b : Bound
   unfolding price
   price_logical i l =
       ap₂ (λ a c. a -ℚ c) (free i l)
-      (sum_below_same f.rows _ (λ r. delta i r *ℚ y r) (λ r _. ap (λ a. y r *ℚ a) (row_logical f starts r i l ∙ delta_sym r i) ∙ *ℚ_comm (y r) (delta i r)) ∙ sum_below-delta f.rows i y l)
+      (sum_below_same f.rows _ (λ r. delta i r *ℚ y r)
+      (λ r _. ap (λ a. y r *ℚ a) (row_logical f starts r i l ∙ delta_sym r i) ∙ *ℚ_comm (y r) (delta i r))
+      ∙ sum_below-delta f.rows i y l)
       ∙ nought (y i)
     where
       y : ℕ → ℚ
@@ -122,11 +135,13 @@ module _ (f : Form) (starts : List (RowStart ℚ)) (costs : List ℚ) (b : Bound
     where
       enters_t : Enters (f.cols + f.rows + f.rows) b (table_of t) (way up) j
       enters_t =
-          (choice_is_meant None f.rows f.cols (form_rows f starts) (cost_at costs) b t (End (Unbounded j up)) st ct).enters
+          (choice_is_meant None f.rows f.cols (form_rows f starts)
+          (cost_at costs) b t (End (Unbounded j up)) st ct).enters
 
       enters_w : Enters (f.cols + f.rows + f.rows) b (table_of w) (way up) j
       enters_w =
-          (choice_is_meant limit2 f.rows f.cols (form_rows f starts) (cost_at costs) b w (End (Unbounded j up)) w_is cw).enters
+          (choice_is_meant limit2 f.rows f.cols (form_rows f starts)
+          (cost_at costs) b w (End (Unbounded j up)) w_is cw).enters
 
       cols_same : v.cols ≡ t.cols
       cols_same = ap (λ (v : Tableau). v.cols) s.sight
@@ -136,9 +151,12 @@ module _ (f : Form) (starts : List (RowStart ℚ)) (costs : List ℚ) (b : Bound
           ap (moves_below v j up k) s.same.rows
           ∙ moves_same v w j up k s.same w.rows (let z : t.rows ≤ t.rows = omega arith in z)
           ∙ ap (moves_below w j up k) st.rows
-          ∙ moves_are f.rows (f.cols + f.rows + f.rows) (form_rows f starts) (cost_at costs) b w j up w_is.tableau enters_w k
-          ∙ sym (rays_same f.rows f.cols (form_rows f starts) (cost_at costs) b t w st w_is (λ k _. refl) (way up) j enters_t enters_w k)
-          ∙ sym (moves_are f.rows (f.cols + f.rows + f.rows) (form_rows f starts) (cost_at costs) b t j up st.tableau enters_t k)
+          ∙ moves_are f.rows (f.cols + f.rows + f.rows) (form_rows f starts)
+          (cost_at costs) b w j up w_is.tableau enters_w k
+          ∙ sym (rays_same f.rows f.cols (form_rows f starts)
+          (cost_at costs) b t w st w_is (λ k _. refl) (way up) j enters_t enters_w k)
+          ∙ sym (moves_are f.rows (f.cols + f.rows + f.rows)
+          (form_rows f starts) (cost_at costs) b t j up st.tableau enters_t k)
           ∙ ap (moves_below t j up k) (sym st.rows)
 
   -- ---- the certificate and the basis
@@ -150,7 +168,8 @@ module _ (f : Form) (starts : List (RowStart ℚ)) (costs : List ℚ) (b : Bound
   certificate_same selection (Unbounded j up) l c e =
       ap (certificate.Unbounded (point t))
       (direction_is None None selection.tableau j up
-      (subst (λ d. SeesFor f starts costs b t st few basic pairs g None d selection.tableau) e l.sees) c (l.choice ∙ ap Ok e))
+      (subst (λ d. SeesFor f starts costs b t st few basic pairs g None d selection.tableau) e l.sees) c
+      (l.choice ∙ ap Ok e))
 
 pub basis_same : (t : Tableau) (basic : List ℕ) (end : PrimalEnd) → basis_at (bare_with t basic) end ≡ basis_at t end
 basis_same t basic Optimal = refl

@@ -1,5 +1,6 @@
 -- The ratio test finds the same best column in whatever order the positions come.
-use Rattle.std.proofs.Common.{◌≡◌, ◌≢◌, ℕ, zero, suc, ◌<◌, ◌≤◌, Option, Some, None, Bool, true, false, cond, refl, sym, ap, ◌∙◌, subst, arith, inl, inr, ⊎_elim}
+use Rattle.std.proofs.Common.{◌≡◌, ◌≢◌, ℕ, zero, suc, ◌<◌, ◌≤◌, Option, Some, None, Bool, true}
+use Rattle.std.proofs.Common.{false, cond, refl, sym, ap, ◌∙◌, subst, arith, inl, inr, ⊎_elim}
 use Rattle.spec_exact.specs.Fraction.{ℚ, ◌<ℚ◌}
 use Rattle.spec_exact.proofs.Order.{≤ℚ_antisym, <ℚ-le}
 use Rattle.spec_exact.proofs.Strict.{<ℚ-≤ℚ_trans}
@@ -37,7 +38,8 @@ scan_start r c y (suc m) x e = go (r m) (scan m r c (Some y)) refl e (λ z k. sc
             NoWorse x y.ratio y.column
         pick true p h =
             let same : ◌≡◌ {A = Best} (record { ratio = q; column = c m; position = Some m }) x = cc in
-            subst (λ (x : Best). NoWorse x y.ratio y.column) same (better_no_worse q (c m) (Some m) z y.ratio y.column p (ih z w))
+            subst (λ (x : Best). NoWorse x y.ratio y.column) same
+            (better_no_worse q (c m) (Some m) z y.ratio y.column p (ih z w))
         pick false p h = let same : z ≡ x = cc in subst (λ (x : Best). NoWorse x y.ratio y.column) same (ih z w)
 
 -- two bests of which none is worse
@@ -62,7 +64,8 @@ pub record SameBest (m : ℕ) (c d : ℕ → ℕ) (x y : Best) : Type 0 where
   pub none : x.position ≡ None → y.position ≡ None
   pub some : (p : ℕ) → x.position ≡ Some p → (q : ℕ) × (q < m) × (c p ≡ d q) × (y.position ≡ Some q)
 
-module _ (m : ℕ) (r : ℕ → Option ℚ) (c : ℕ → ℕ) (s : ℕ → Option ℚ) (d : ℕ → ℕ) (start : Option Best) (forth : SamePositions m r c s d) where
+module _ (m : ℕ) (r : ℕ → Option ℚ) (c : ℕ → ℕ) (s : ℕ → Option ℚ)
+    (d : ℕ → ℕ) (start : Option Best) (forth : SamePositions m r c s d) where
   pub none_same : scan m s d start ≡ None → scan m r c start ≡ None
   none_same h = by (scan m r c start) refl
     where
@@ -70,7 +73,8 @@ module _ (m : ℕ) (r : ℕ → Option ℚ) (c : ℕ → ℕ) (s : ℕ → Optio
       by None e = e
       by (Some x) e = ⊎_elim
           (λ z. let y : None ≡ Some x = sym (none_first s d start m h) ∙ z in cc)
-          (λ w. let at = w.1 in let p = forth.position w.0 at.in_range in let y : None ≡ Some x.ratio = sym (none_before s d start m h p.0 p.1) ∙ sym p.3 ∙ at.ratio in cc)
+          (λ w. let at = w.1 in let p = forth.position w.0 at.in_range in
+          let y : None ≡ Some x.ratio = sym (none_before s d start m h p.0 p.1) ∙ sym p.3 ∙ at.ratio in cc)
           (found r c start m x e)
 
   no_worse : (x y : Best) → scan m r c start ≡ Some x → scan m s d start ≡ Some y → NoWorse y x.ratio x.column
@@ -78,12 +82,15 @@ module _ (m : ℕ) (r : ℕ → Option ℚ) (c : ℕ → ℕ) (s : ℕ → Optio
       ⊎_elim
       (λ z. scan_start s d x m y (ap (scan m s d) (sym z) ∙ k))
       (λ w. let at = w.1 in let p = forth.position w.0 at.in_range in
-      subst (λ j. NoWorse y x.ratio j) (sym p.2 ∙ at.column) (scan_least s d start m y k p.0 p.1 x.ratio (sym p.3 ∙ at.ratio)))
+      subst (λ j. NoWorse y x.ratio j) (sym p.2 ∙ at.column)
+      (scan_least s d start m y k p.0 p.1 x.ratio (sym p.3 ∙ at.ratio)))
       (found r c start m x h)
 
-module _ (m : ℕ) (r : ℕ → Option ℚ) (c : ℕ → ℕ) (s : ℕ → Option ℚ) (d : ℕ → ℕ) (start : Option Best) (forth : SamePositions m r c s d) (back : SamePositions m s d r c)
+module _ (m : ℕ) (r : ℕ → Option ℚ) (c : ℕ → ℕ) (s : ℕ → Option ℚ) (d : ℕ → ℕ)
+    (start : Option Best) (forth : SamePositions m r c s d) (back : SamePositions m s d r c)
     -- the first best has no position, and its column stands at none
-    (first : (x : Best) → start ≡ Some x → (x.position ≡ None) × ((i : ℕ) → i < m → (c i ≢ x.column) × (d i ≢ x.column))) where
+    (first : (x : Best) → start ≡ Some x →
+    (x.position ≡ None) × ((i : ℕ) → i < m → (c i ≢ x.column) × (d i ≢ x.column))) where
   pub same_best : (x y : Best) → scan m r c start ≡ Some x → scan m s d start ≡ Some y → SameBest m c d x y
   same_best x y h k =
       record {

@@ -1,6 +1,7 @@
 -- The tableau that factors stand for: its rows and reduced costs are those of the basis, so it is one of the form's
 -- equations.
-use Rattle.std.proofs.Common.{◌≡◌, ℕ, ◌+◌, ◌-◌, ◌<◌, ◌≤◌, List, [], length, get_or, map, Bool, true, false, cond, refl, sym, ap, ap₂, ◌∙◌, subst, arith, lt-ltb, le-ltb}
+use Rattle.std.proofs.Common.{◌≡◌, ℕ, ◌+◌, ◌-◌, ◌<◌, ◌≤◌, List, [], length, get_or, map, Bool, true}
+use Rattle.std.proofs.Common.{false, cond, refl, sym, ap, ap₂, ◌∙◌, subst, arith, lt-ltb, le-ltb}
 use Rattle.std.proofs.lemmas.Bool.{le-leb, lt-leb}
 use Rattle.std.proofs.lemmas.List.{get_or-map, get_or_past}
 use Rattle.spec_exact.specs.Fraction.{ℚ, ◌+ℚ◌, ◌-ℚ◌, ◌*ℚ◌, neg_ℚ, 0ℚ, 1ℚ}
@@ -51,7 +52,8 @@ module _ (f : Form) (starts : List (RowStart ℚ)) (t : Tableau) (rows : t.rows 
   signs_square k = by (is_artificial t k)
     where
       by : (c : Bool) →
-          cond c (logical_sign (start_at starts (k - form_columns t))) 1ℚ *ℚ cond c (logical_sign (start_at starts (k - form_columns t))) 1ℚ ≡ 1ℚ
+          cond c (logical_sign (start_at starts (k - form_columns t))) 1ℚ *ℚ cond c
+          (logical_sign (start_at starts (k - form_columns t))) 1ℚ ≡ 1ℚ
       by true = sign_square (start_at starts (k - form_columns t))
       by false = *ℚ_one 1ℚ
 
@@ -88,14 +90,17 @@ module _ (f : Form) (starts : List (RowStart ℚ)) (t : Tableau) (rows : t.rows 
           plain_is r k l ∙ sym (ap₂ (λ a c. a *ℚ column_entry f r c) (plain_sign k l) (plain_column k l) ∙ one-*ℚ _)
 
       artificial : (i : ℕ) →
-          F r (f.cols + f.rows + i) ≡ sign_of starts t (f.cols + f.rows + i) *ℚ column_entry f r (factor_column t (f.cols + f.rows + i))
+          F r (f.cols + f.rows + i)
+          ≡ sign_of starts t (f.cols + f.rows + i) *ℚ column_entry f r (factor_column t (f.cols + f.rows + i))
       artificial i =
           row_artificial f starts r i
           ∙ by_eq r i
           (λ e. ap (λ r'. logical_sign (start_at starts r') *ℚ delta r i) e)
-          (λ d. ap (λ a. logical_sign (start_at starts r) *ℚ a) (delta_other r i d) ∙ *ℚ_zero _ ∙ sym (ap (λ a. logical_sign (start_at starts i) *ℚ a) (delta_other r i d) ∙ *ℚ_zero _))
+          (λ d. ap (λ a. logical_sign (start_at starts r) *ℚ a) (delta_other r i d) ∙ *ℚ_zero _
+          ∙ sym (ap (λ a. logical_sign (start_at starts i) *ℚ a) (delta_other r i d) ∙ *ℚ_zero _))
           ∙ sym (ap₂ (λ a c. a *ℚ column_entry f r c)
-          (ap (λ c. cond c (logical_sign (start_at starts (f.cols + f.rows + i - form_columns t))) 1ℚ) is ∙ ap (λ j. logical_sign (start_at starts j)) back)
+          (ap (λ c. cond c (logical_sign (start_at starts (f.cols + f.rows + i - form_columns t))) 1ℚ) is
+          ∙ ap (λ j. logical_sign (start_at starts j)) back)
           (ap (λ c. cond c (f.cols + f.rows + i - t.rows) (f.cols + f.rows + i)) is ∙ before)
           ∙ ap (λ a. logical_sign (start_at starts i) *ℚ a) (column_logical r i))
         where
@@ -109,7 +114,8 @@ module _ (f : Form) (starts : List (RowStart ℚ)) (t : Tableau) (rows : t.rows 
           before = omega (arith, rows)
 
 -- ---- the tableau
-module _ (f : Form) (starts : List (RowStart ℚ)) (costs : List ℚ) (t : Tableau) (basic : List ℕ) (pairs : List Pair) where
+module _ (f : Form) (starts : List (RowStart ℚ)) (costs : List ℚ)
+    (t : Tableau) (basic : List ℕ) (pairs : List Pair) where
   abbrev pub m : ℕ
   m = f.rows
 
@@ -139,7 +145,8 @@ module _ (f : Form) (starts : List (RowStart ℚ)) (costs : List ℚ) (t : Table
   abbrev pub whole : Tableau
   whole = record t { entries = made m (λ p. made N (row p)); basic = basic; reduced = made N price }
 
-  module _ (b : Bounds) (st : IsTableauOf m f.cols equations (cost_at costs) b t) (few : length costs ≤ N) (g : Places f t basic pairs) where
+  module _ (b : Bounds) (st : IsTableauOf m f.cols equations (cost_at costs) b t)
+      (few : length costs ≤ N) (g : Places f t basic pairs) where
     abbrev basis : Matrix
     basis = basis_of f (map (λ k. factor_column t k) basic)
 
@@ -161,11 +168,14 @@ module _ (f : Form) (starts : List (RowStart ℚ)) (costs : List ℚ) (t : Table
     unfolding row
     row_unit q r l h =
         ap (λ a. sign r *ℚ a)
-        (forward_combines m 1 pairs (λ r _. basis r q) (λ _. sign q) (λ r. equations r (column q)) g.stands.sound (λ r _. equation_is r q l ∙ turn (sign q) (basis r q)) r h
+        (forward_combines m 1 pairs (λ r _. basis r q) (λ _. sign q)
+        (λ r. equations r (column q)) g.stands.sound (λ r _. equation_is r q l ∙ turn (sign q) (basis r q)) r h
         ∙ ap (λ a. 0ℚ +ℚ a *ℚ sign q) (g.stands.units q r l h))
         ∙ by_eq q r
-        (λ e. subst (λ r. sign r *ℚ (0ℚ +ℚ delta q r *ℚ sign q) ≡ delta q r) e (ap (λ a. sign q *ℚ (0ℚ +ℚ a *ℚ sign q)) (delta_same q) ∙ one (sign q) ∙ square q ∙ sym (delta_same q)))
-        (λ d. ap (λ a. sign r *ℚ (0ℚ +ℚ a *ℚ sign q)) (delta_other q r d) ∙ none (sign r) (sign q) ∙ sym (delta_other q r d))
+        (λ e. subst (λ r. sign r *ℚ (0ℚ +ℚ delta q r *ℚ sign q) ≡ delta q r) e
+        (ap (λ a. sign q *ℚ (0ℚ +ℚ a *ℚ sign q)) (delta_same q) ∙ one (sign q) ∙ square q ∙ sym (delta_same q)))
+        (λ d. ap (λ a. sign r *ℚ (0ℚ +ℚ a *ℚ sign q)) (delta_other q r d)
+        ∙ none (sign r) (sign q) ∙ sym (delta_other q r d))
       where
         turn : (a c : ℚ) → a *ℚ c ≡ 0ℚ +ℚ c *ℚ a
         turn a c = simp ring
@@ -182,7 +192,8 @@ module _ (f : Form) (starts : List (RowStart ℚ)) (costs : List ℚ) (t : Table
     row_forth : (i k : ℕ) → i < m → row i k ≡ sum_below m (λ s. (sign i *ℚ part_of i s) *ℚ equations s k)
     unfolding row part_of
     row_forth i k l =
-        ap (λ a. sign i *ℚ a) (forward_combines m m pairs delta (λ s. equations s k) (λ r. equations r k) g.stands.sound (λ r h. sym (sum_below-delta m r (λ s. equations s k) h)) i l)
+        ap (λ a. sign i *ℚ a) (forward_combines m m pairs delta (λ s. equations s k)
+        (λ r. equations r k) g.stands.sound (λ r h. sym (sum_below-delta m r (λ s. equations s k) h)) i l)
         ∙ *ℚ-sum_below (sign i) m _
         ∙ sum_below_same m _ _ (λ s _. sym (*ℚ_assoc (sign i) (forward pairs (λ r. delta r s) i) (equations s k)))
 
@@ -190,7 +201,8 @@ module _ (f : Form) (starts : List (RowStart ℚ)) (costs : List ℚ) (t : Table
     unfolding row
     row_back i k l =
         sym (columns_solved m pairs basis g.stands (λ r. equations r k) i l)
-        ∙ sum_below_same m _ _ (λ s _. sym (*ℚ_assoc (basis i s) (sign s) _ ∙ ap (λ a. basis i s *ℚ a) (twice (sign s) (forward pairs (λ r. equations r k) s) (square s))))
+        ∙ sum_below_same m _ _ (λ s _. sym (*ℚ_assoc (basis i s) (sign s) _
+        ∙ ap (λ a. basis i s *ℚ a) (twice (sign s) (forward pairs (λ r. equations r k) s) (square s))))
 
     row_none : (i k : ℕ) → i < m → N ≤ k → row i k ≡ 0ℚ
     row_none i k l h =
@@ -202,7 +214,8 @@ module _ (f : Form) (starts : List (RowStart ℚ)) (costs : List ℚ) (t : Table
     unfolding price multiplier
     price_basic q l =
         ap (λ a. cost_at costs (column q) -ℚ a)
-        (sum_below_same m _ (λ r. sign q *ℚ (y r *ℚ basis r q)) (λ r _. ap (λ a. y r *ℚ a) (equation_is r q l) ∙ turn (y r) (sign q) (basis r q))
+        (sum_below_same m _ (λ r. sign q *ℚ (y r *ℚ basis r q))
+        (λ r _. ap (λ a. y r *ℚ a) (equation_is r q l) ∙ turn (y r) (sign q) (basis r q))
         ∙ sym (*ℚ-sum_below (sign q) m _)
         ∙ ap (λ a. sign q *ℚ a) (rows_solved m pairs basis g.stands (λ p. sign p *ℚ cost_at costs (column p)) q l)
         ∙ twice (sign q) (cost_at costs (column q)) (square q))
@@ -252,8 +265,11 @@ module _ (f : Form) (starts : List (RowStart ℚ)) (costs : List ℚ) (t : Table
       tableau = record {
         in_range = λ p l. subst (λ n. column p < n) all_is (g.in_range p l);
         forth = (λ i s. sign i *ℚ part_of i s, λ i k l. entry_is i k l ∙ row_forth i k l);
-        back =
-            (λ i s. basis i s *ℚ sign s, λ i k l. row_back i k l ∙ sum_below_same m _ _ (λ s q. ap (λ a. (basis i s *ℚ sign s) *ℚ a) (sym (entry_is s k q))));
+        back = (
+          λ i s. basis i s *ℚ sign s,
+          λ i k l. row_back i k l
+              ∙ sum_below_same m _ _ (λ s q. ap (λ a. (basis i s *ℚ sign s) *ℚ a) (sym (entry_is s k q))),
+        );
         units = λ q r l h. entry_is r (column q) h ∙ row_unit q r l h;
         costs = record {
           weights = multiplier;

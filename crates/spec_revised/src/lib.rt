@@ -32,7 +32,8 @@ ghost use Rattle.spec_cold.specs.declared.outcome.Cold.TheVariants as outcome;
 ghost use Rattle.spec_cold.specs.Tables.{table_of, IsTableauOf};
 ghost use Rattle.spec_cold.specs.Begins.{form_rows};
 ghost use Rattle.spec_cold.specs.Cold.{cold};
-ghost use Rattle.spec_factor.specs.Revised.{Revised, Selection, selection_run, flip_over_run, refreshed_run, exchange_run};
+ghost use Rattle.spec_factor.specs.Revised.{Revised, Selection, selection_run};
+ghost use Rattle.spec_factor.specs.Revised.{flip_over_run, refreshed_run, exchange_run};
 ghost use Rattle.spec_factor.specs.Over.{over_run, answer_in, over_factors};
 ghost use Rattle.spec_revised.specs.Same.{SameChoice, GoesWith};
 

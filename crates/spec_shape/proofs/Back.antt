@@ -1,11 +1,13 @@
 -- Well-formed words of a form's shape are the words of their basis.
-use Rattle.std.proofs.Common.{◌≡◌, ℕ, zero, suc, ◌+◌, ◌-◌, ◌*◌, ◌/◌, ◌%◌, ◌^◌, ◌<◌, ◌≤◌, ⊎_elim, List, get_or, take, refl, sym, ap, ◌∙◌, arith}
+use Rattle.std.proofs.Common.{◌≡◌, ℕ, zero, suc, ◌+◌, ◌-◌, ◌*◌, ◌/◌, ◌%◌, ◌^◌, ◌<◌, ◌≤◌}
+use Rattle.std.proofs.Common.{⊎_elim, List, get_or, take, refl, sym, ap, ◌∙◌, arith}
 use Rattle.std.specs.Prelude.{All}
 use Rattle.std.proofs.lemmas.Bool.{cases_lt}
 use Rattle.std.proofs.lemmas.List.{ext_get_or}
 use Rattle.std.proofs.lemmas.Nat.{shr-shr}
 use Rattle.spec_simplex.specs.Form.{Form, IsForm}
-use Rattle.spec_shape.specs.Words.{status_code, status_of, code_at, basis_code, shape_of, packed, unpacked, columns_of, IsWellFormed}
+use Rattle.spec_shape.specs.Words.{status_code, status_of, code_at, basis_code}
+use Rattle.spec_shape.specs.Words.{shape_of, packed, unpacked, columns_of, IsWellFormed}
 use Rattle.spec_shape.proofs.Digits.{next_power}
 use Rattle.spec_shape.proofs.Places.{packed_length, front_word, basis_bits, basis_unused, packed_small}
 use Rattle.spec_shape.proofs.Bases.{unpacked_length, unpacked_at, same_word}
@@ -32,7 +34,8 @@ code_back (suc (suc zero)) h = refl
 code_back (suc (suc (suc n))) h = omega (arith, h)
 
 -- ---- the words
-module _ (f : Form) (is : IsForm f) (words : List ℕ) (same : take 25 words ≡ shape_of f) (well : IsWellFormed words) where
+module _ (f : Form) (is : IsForm f) (words : List ℕ)
+    (same : take 25 words ≡ shape_of f) (well : IsWellFormed words) where
   status_bits : (c : ℕ) → c < 768 → basis_code (unpacked words) c ≡ code_at 25 words c
   status_bits c h = ⊎_elim inside outside (cases_lt c (columns_of words))
     where
@@ -46,11 +49,13 @@ module _ (f : Form) (is : IsForm f) (words : List ℕ) (same : take 25 words ≡
   status_digit : (w k : ℕ) → w < 24 → k < 32 →
       get_or (packed f (unpacked words)) (25 + w) 0 / 2 ^ (2 * k) % 4 ≡ get_or words (25 + w) 0 / 2 ^ (2 * k) % 4
   status_digit w k h l =
-      sym (at (packed f (unpacked words))) ∙ basis_bits f (unpacked words) (32 * w + k) (omega (arith, h, l)) ∙ status_bits (32 * w + k) (omega (arith, h, l)) ∙ at words
+      sym (at (packed f (unpacked words))) ∙ basis_bits f (unpacked words) (32 * w + k) (omega (arith, h, l))
+      ∙ status_bits (32 * w + k) (omega (arith, h, l)) ∙ at words
     where
       at : (ws : List ℕ) → code_at 25 ws (32 * w + k) ≡ get_or ws (25 + w) 0 / 2 ^ (2 * k) % 4
       at ws =
-          (let z : (32 * w + k) / 32 ≡ w = omega (arith, l) in ap (λ i. get_or ws (25 + i) 0 / 2 ^ (2 * ((32 * w + k) % 32)) % 4) z)
+          (let z : (32 * w + k) / 32 ≡ w = omega (arith, l) in
+          ap (λ i. get_or ws (25 + i) 0 / 2 ^ (2 * ((32 * w + k) % 32)) % 4) z)
           ∙ (let z : (32 * w + k) % 32 ≡ k = omega (arith, l) in ap (λ i. get_or ws (25 + w) 0 / 2 ^ (2 * i) % 4) z)
 
   pub packed_unpacked : All (λ w. w < 2 ^ 64) words → packed f (unpacked words) ≡ words
@@ -64,7 +69,9 @@ module _ (f : Form) (is : IsForm f) (words : List ℕ) (same : take 25 words ≡
       behind : (i : ℕ) → i < 49 → 25 ≤ i → get_or (packed f (unpacked words)) i 0 ≡ get_or words i 0
       behind i h l =
           same_digits 32 (get_or (packed f (unpacked words)) i 0) (get_or words i 0)
-          (packed_small f (unpacked words) is i 0 (omega (arith, h, packed_length f (unpacked words)))) (small i 0 (omega (arith, h, well.all)))
+          (packed_small f (unpacked words) is i 0 (omega (arith, h, packed_length f (unpacked words))))
+          (small i 0 (omega (arith, h, well.all)))
           (λ k p. let z : 25 + (i - 25) ≡ i = omega (arith, l) in
-          ap (λ i. get_or (packed f (unpacked words)) i 0 / 2 ^ (2 * k) % 4) (sym z) ∙ status_digit (i - 25) k (omega (arith, h, l)) p
+          ap (λ i. get_or (packed f (unpacked words)) i 0 / 2 ^ (2 * k) % 4) (sym z)
+          ∙ status_digit (i - 25) k (omega (arith, h, l)) p
           ∙ ap (λ i. get_or words i 0 / 2 ^ (2 * k) % 4) z)

@@ -1,5 +1,6 @@
 -- Packed words are the words of their basis, and well-formed words of a form's shape have one of its bases.
-use Rattle.std.proofs.Common.{◌≡◌, ℕ, ◌+◌, ◌*◌, ◌/◌, ◌%◌, ◌^◌, ◌<◌, ◌≤◌, List, length, get_or, take, Option, Some, None, true, false, refl, sym, ap, ap₂, ◌∙◌, subst, arith}
+use Rattle.std.proofs.Common.{◌≡◌, ℕ, ◌+◌, ◌*◌, ◌/◌, ◌%◌, ◌^◌, ◌<◌, ◌≤◌, List, length, get_or, take}
+use Rattle.std.proofs.Common.{Option, Some, None, true, false, refl, sym, ap, ap₂, ◌∙◌, subst, arith}
 use Rattle.std.proofs.lemmas.List.{ext_get_or, get_or-take, take_at}
 use Rattle.spec_exact.specs.Fraction.{ℚ}
 use Rattle.spec_pivot.specs.declared.status.Status.{Status}
@@ -7,8 +8,11 @@ use Rattle.spec_pivot.specs.declared.status.Status.TheVariants.{Basic, AtLower, 
 use Rattle.spec_simplex.specs.Form.{Form, IsForm, form_lower, form_upper}
 use Rattle.spec_simplex.proofs.Stops.{length-made, get_or-made}
 use Rattle.spec_simplex.specs.Eliminate.{basis_at, basics_below, CanStand, IsBasisOf}
-use Rattle.spec_shape.specs.Words.{bounds_code, status_code, status_of, suits, words_of, places, form_code, basis_code, shape_of, packed, unpacked, rows_of, cols_of, columns_of, bounds_at, status_at, IsWellFormed, SameShape}
-use Rattle.spec_shape.proofs.Places.{form_unused, basis_unused, shape_length, packed_length, shape_bits, front_bits, basis_bits, shape_rows, shape_cols, packed_rows, packed_cols, packed_columns}
+use Rattle.spec_shape.specs.Words.{bounds_code, status_code, status_of, suits, words_of, places}
+use Rattle.spec_shape.specs.Words.{form_code, basis_code, shape_of, packed, unpacked, rows_of, cols_of}
+use Rattle.spec_shape.specs.Words.{columns_of, bounds_at, status_at, IsWellFormed, SameShape}
+use Rattle.spec_shape.proofs.Places.{form_unused, basis_unused, shape_length, packed_length, shape_bits, front_bits}
+use Rattle.spec_shape.proofs.Places.{basis_bits, shape_rows, shape_cols, packed_rows, packed_cols, packed_columns}
 
 -- ---- statuses
 status_back : (s : Status) → status_of (status_code s) ≡ s
@@ -74,12 +78,15 @@ module _ (f : Form) (is : IsForm f) where
     few_rows = omega (arith, packed_rows f basis is, is.few_rows);
     few_columns = omega (arith, packed_cols f basis is, is.few_columns);
     count =
-        ap₂ basics_below (unpacked_packed basis b.all) (packed_columns f basis is) ∙ b.count ∙ sym (packed_rows f basis is);
+        ap₂ basics_below (unpacked_packed basis b.all) (packed_columns f basis is)
+        ∙ b.count ∙ sym (packed_rows f basis is);
     suit = λ c h. let l : c < f.cols + f.rows = omega (arith, h, packed_columns f basis is) in
         ap₂ suits (packed_status basis b.all c l) (front_bits f basis c (omega (arith, l, few)))
         ∙ can_suits (basis_at basis c) (form_lower f c) (form_upper f c) (b.stand c l);
-    rest = λ c h p. let l : f.cols + f.rows ≤ c = omega (arith, h, packed_columns f basis is) in
-        (front_bits f basis c p ∙ form_unused f is c l, basis_bits f basis c p ∙ basis_unused basis c (omega (arith, l, b.all)));
+    rest = λ c h p. let l : f.cols + f.rows ≤ c = omega (arith, h, packed_columns f basis is) in (
+      front_bits f basis c p ∙ form_unused f is c l,
+      basis_bits f basis c p ∙ basis_unused basis c (omega (arith, l, b.all)),
+    );
   }
 
   -- ---- well-formed words of the form's shape

@@ -17,12 +17,15 @@ module _ (code : ℕ → ℕ) (small : (c : ℕ) → code c < 4) where
   past_first c n k =
       (let z : 2 * suc k ≡ 2 + 2 * k = omega arith in ap (λ i. (code c + 4 * word_from code (c + 1) n) / 2 ^ i) z)
       ∙ sym (shr-shr (code c + 4 * word_from code (c + 1) n) 2 (2 * k))
-      ∙ (let z : (code c + 4 * word_from code (c + 1) n) / 4 ≡ word_from code (c + 1) n = omega (arith, small c) in ap (λ w. w / 2 ^ (2 * k)) z)
+      ∙ (let z : (code c + 4 * word_from code (c + 1) n) / 4 ≡ word_from code (c + 1) n = omega (arith, small c) in
+      ap (λ w. w / 2 ^ (2 * k)) z)
 
   -- and of the column k after its first it has the bits
   pub digit_is : (c n k : ℕ) → k < n → word_from code c n / 2 ^ (2 * k) % 4 ≡ code (c + k)
   digit_is c zero k h = absurd (let z : ⊥ = omega (arith, h) in z)
   digit_is c (suc n) zero h =
-      (let z : (code c + 4 * word_from code (c + 1) n) / 1 % 4 ≡ code c = omega (arith, small c) in z) ∙ (let z : c ≡ c + 0 = omega arith in ap code z)
+      (let z : (code c + 4 * word_from code (c + 1) n) / 1 % 4 ≡ code c = omega (arith, small c) in z)
+      ∙ (let z : c ≡ c + 0 = omega arith in ap code z)
   digit_is c (suc n) (suc k) h =
-      ap (λ w. w % 4) (past_first c n k) ∙ digit_is (c + 1) n k (omega (arith, h)) ∙ (let z : c + 1 + k ≡ c + suc k = omega arith in ap code z)
+      ap (λ w. w % 4) (past_first c n k) ∙ digit_is (c + 1) n k (omega (arith, h))
+      ∙ (let z : c + 1 + k ≡ c + suc k = omega arith in ap code z)

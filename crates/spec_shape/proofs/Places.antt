@@ -1,5 +1,6 @@
 -- What stands where in packed words.
-use Rattle.std.proofs.Common.{◌≡◌, ℕ, suc, ◌+◌, ◌-◌, ◌*◌, ◌/◌, ◌%◌, ◌^◌, ◌<◌, ◌≤◌, List, length, get_or, Option, Some, None, refl, ap, ap₂, ◌∙◌, arith}
+use Rattle.std.proofs.Common.{◌≡◌, ℕ, suc, ◌+◌, ◌-◌, ◌*◌, ◌/◌, ◌%◌, ◌^◌, ◌<◌, ◌≤◌, List}
+use Rattle.std.proofs.Common.{length, get_or, Option, Some, None, refl, ap, ap₂, ◌∙◌, arith}
 use Rattle.std.proofs.lemmas.List.{length-append, get_or_past, get_or_append_left, get_or-append_right}
 use Rattle.std.proofs.lemmas.List.Elements.{All-cons, All-append}
 use Rattle.std.specs.Prelude.{All}
@@ -8,7 +9,8 @@ use Rattle.spec_pivot.specs.declared.status.Status.{Status}
 use Rattle.spec_pivot.specs.declared.status.Status.TheVariants.{Basic, AtLower, AtUpper, AtZero}
 use Rattle.spec_simplex.specs.Form.{Form, IsForm, form_lower, form_upper}
 use Rattle.spec_simplex.proofs.Stops.{length-made, get_or-made, All-made}
-use Rattle.spec_shape.specs.Words.{bounds_code, status_code, word_from, words_of, places, code_at, form_code, basis_code, shape_of, packed, rows_of, cols_of, columns_of, bounds_at}
+use Rattle.spec_shape.specs.Words.{bounds_code, status_code, word_from, words_of, places, code_at, form_code}
+use Rattle.spec_shape.specs.Words.{basis_code, shape_of, packed, rows_of, cols_of, columns_of, bounds_at}
 use Rattle.spec_shape.proofs.Digits.{word_fits, digit_is}
 
 -- ---- codes
@@ -33,7 +35,8 @@ basis_small basis c = small_status _
 -- columns that a form does not have
 pub form_unused : (f : Form) → IsForm f → (c : ℕ) → f.cols + f.rows ≤ c → form_code f c ≡ 0
 form_unused f h c p =
-    ap₂ bounds_code (get_or_past f.lower c None (omega (arith, p, h.all_lower))) (get_or_past f.upper c None (omega (arith, p, h.all_upper)))
+    ap₂ bounds_code (get_or_past f.lower c None (omega (arith, p, h.all_lower)))
+    (get_or_past f.upper c None (omega (arith, p, h.all_upper)))
 
 pub basis_unused : (basis : List Status) (c : ℕ) → length basis ≤ c → basis_code basis c ≡ 0
 basis_unused basis c p = ap status_code (get_or_past basis c Basic p)
@@ -46,7 +49,12 @@ shape_length f = ap suc (length-made 24 (λ w. word_from (form_code f) (32 * w) 
 pub packed_length : (f : Form) (basis : List Status) → length (packed f basis) ≡ 49
 unfolding packed
 packed_length f basis =
-    omega (arith, length-append (shape_of f) (words_of (basis_code basis)), shape_length f, length-made 24 (λ w. word_from (basis_code basis) (32 * w) 32))
+    omega (
+      arith,
+      length-append (shape_of f) (words_of (basis_code basis)),
+      shape_length f,
+      length-made 24 (λ w. word_from (basis_code basis) (32 * w) 32),
+    )
 
 pub first_word : (f : Form) → get_or (shape_of f) 0 0 ≡ 65536 * f.rows + f.cols
 unfolding shape_of
@@ -55,7 +63,8 @@ first_word f = refl
 pub shape_word : (f : Form) (w : ℕ) → w < 24 → get_or (shape_of f) (1 + w) 0 ≡ word_from (form_code f) (32 * w) 32
 unfolding shape_of
 shape_word f w h =
-    (let z : 1 + w ≡ suc w = omega arith in ap (λ k. get_or (shape_of f) k 0) z) ∙ get_or-made 24 (λ w. word_from (form_code f) (32 * w) 32) w 0 h
+    (let z : 1 + w ≡ suc w = omega arith in ap (λ k. get_or (shape_of f) k 0) z)
+    ∙ get_or-made 24 (λ w. word_from (form_code f) (32 * w) 32) w 0 h
 
 pub front_word : (f : Form) (basis : List Status) (w : ℕ) → w < 25 →
     get_or (packed f basis) w 0 ≡ get_or (shape_of f) w 0
@@ -89,7 +98,8 @@ front_bits f basis c h =
 pub basis_bits : (f : Form) (basis : List Status) (c : ℕ) → c < places →
     code_at 25 (packed f basis) c ≡ basis_code basis c
 basis_bits f basis c h =
-    code_in (basis_code basis) (basis_small basis) 25 (packed f basis) c (basis_word f basis (c / 32) (omega (arith, h)))
+    code_in (basis_code basis) (basis_small basis) 25
+    (packed f basis) c (basis_word f basis (c / 32) (omega (arith, h)))
 
 -- ---- the numbers of rows and columns
 rows_in : (m n : ℕ) → n < 65536 → (65536 * m + n) / 65536 ≡ m
@@ -121,9 +131,11 @@ words_small code small =
 shape_small : (f : Form) → IsForm f → All (λ w. w < 2 ^ 64) (shape_of f)
 unfolding shape_of
 shape_small f h =
-    All-cons (λ w. w < 2 ^ 64) (65536 * f.rows + f.cols) (words_of (form_code f)) (omega (arith, h.few_rows, h.few_columns)) (words_small (form_code f) (form_small f))
+    All-cons (λ w. w < 2 ^ 64) (65536 * f.rows + f.cols) (words_of (form_code f))
+    (omega (arith, h.few_rows, h.few_columns)) (words_small (form_code f) (form_small f))
 
 pub packed_small : (f : Form) (basis : List Status) → IsForm f → All (λ w. w < 2 ^ 64) (packed f basis)
 unfolding packed
 packed_small f basis h =
-    All-append (λ w. w < 2 ^ 64) (shape_of f) (words_of (basis_code basis)) (shape_small f h) (words_small (basis_code basis) (basis_small basis))
+    All-append (λ w. w < 2 ^ 64) (shape_of f) (words_of (basis_code basis))
+    (shape_small f h) (words_small (basis_code basis) (basis_small basis))

@@ -1,10 +1,11 @@
 -- Words in which the shape of a form, and a basis of it, are passed on.
 --
--- Word 0 has the numbers of rows and columns. Words 1 to 24 have two bits for each structural and then each logical column,
--- which say what bounds it has, and words 25 to 48 two bits for its status: those of column c stand at bit 2 * (c % 32) of
--- word 1 + c / 32 and of word 25 + c / 32. There are 24 * 32 = 768 columns at most; the bits of those that a form does not
--- have are 0. The first 25 words are the shape of the form.
-use Rattle.std.specs.Prelude.{◌≡◌, ℕ, zero, suc, ◌+◌, ◌*◌, ◌/◌, ◌%◌, ◌^◌, ◌<◌, ◌≤◌, List, ◌∷◌, ◌++◌, length, get_or, Option, Some, None, Bool, true, nat_eq, nat_le}
+-- Word 0 has the numbers of rows and columns. Words 1 to 24 have two bits for each structural and then each logical
+-- column, which say what bounds it has, and words 25 to 48 two bits for its status: those of column c stand at bit 2 *
+-- (c % 32) of word 1 + c / 32 and of word 25 + c / 32. There are 24 * 32 = 768 columns at most; the bits of those that
+-- a form does not have are 0. The first 25 words are the shape of the form.
+use Rattle.std.specs.Prelude.{◌≡◌, ℕ, zero, suc, ◌+◌, ◌*◌, ◌/◌, ◌%◌, ◌^◌, ◌<◌, ◌≤◌, List, ◌∷◌}
+use Rattle.std.specs.Prelude.{◌++◌, length, get_or, Option, Some, None, Bool, true, nat_eq, nat_le}
 use Rattle.spec_exact.specs.Fraction.{ℚ}
 use Rattle.spec_model.specs.Kept.{row_limit, column_limit}
 use Rattle.spec_pivot.specs.declared.status.Status.{Status}
@@ -33,8 +34,8 @@ status_of (suc zero) = AtLower
 status_of (suc (suc zero)) = AtUpper
 status_of (suc (suc (suc n))) = AtZero
 
--- a column with such bounds can have this status: the low bit says that there is a lower bound, the high one that there is an
--- upper one
+-- a column with such bounds can have this status: the low bit says that there is a lower bound, the high one that there
+-- is an upper one
 abbrev pub suits : Status → ℕ → Bool
 suits Basic bounds = true
 suits AtLower bounds = nat_eq (bounds % 2) 1
@@ -102,8 +103,8 @@ AllSuit words = (c : ℕ) → c < columns_of words → suits (status_at words c)
 abbrev pub RestIsZero : List ℕ → Type 0
 RestIsZero words = (c : ℕ) → columns_of words ≤ c → c < places → (bounds_at words c ≡ 0) × (code_at 25 words c ≡ 0)
 
--- what holds of the words of a basis, and is enough for them to have one: no more rows and columns than there can be, as many
--- basic columns as rows, statuses that suit their bounds, and no other bits
+-- what holds of the words of a basis, and is enough for them to have one: no more rows and columns than there can be,
+-- as many basic columns as rows, statuses that suit their bounds, and no other bits
 pub record IsWellFormed (words : List ℕ) : Type 0 where
   pub all : length words ≡ 49
   pub few_rows : rows_of words ≤ row_limit

@@ -14,11 +14,13 @@ ghost use Rattle.std.specs.Prelude.{◌≡◌, ◌+◌, ◌<◌, ◌^◌, ℕ, L
 ghost use Rattle.spec_pivot.specs.declared.status.Status.{Status};
 ghost use Rattle.spec_simplex.specs.Form.{Form, IsForm};
 ghost use Rattle.spec_simplex.specs.Eliminate.{IsBasisOf};
-ghost use Rattle.spec_shape.specs.Words.{shape_of, packed, unpacked, IsWellFormed, SameShape, places, rows_of, cols_of, bounds_at, form_code, basis_code, code_at};
+ghost use Rattle.spec_shape.specs.Words.{shape_of, packed, unpacked, IsWellFormed, SameShape, places};
+ghost use Rattle.spec_shape.specs.Words.{rows_of, cols_of, bounds_at, form_code, basis_code, code_at};
 
 /// The words of a basis give it back.
 pub fn words_give_the_basis()
-    ensures { (f : Form) (basis : List Status) → IsForm f → length basis ≡ f.cols + f.rows → unpacked (packed f basis) ≡ basis }
+    ensures { (f : Form) (basis : List Status) → IsForm f →
+        length basis ≡ f.cols + f.rows → unpacked (packed f basis) ≡ basis }
 {}
 
 /// They begin with the form's shape, and are well formed where the basis is one of the form.
@@ -29,18 +31,21 @@ pub fn packed_words_are_well_formed()
 
 /// Well-formed words that begin with a form's shape have one of its bases, whoever packed them.
 pub fn words_of_one_shape_fit()
-    ensures { (f : Form) (words : List ℕ) → IsForm f → IsWellFormed words → take 25 words ≡ shape_of f → IsBasisOf f (unpacked words) }
+    ensures { (f : Form) (words : List ℕ) → IsForm f → IsWellFormed words →
+        take 25 words ≡ shape_of f → IsBasisOf f (unpacked words) }
 {}
 
 /// And they are the words of that basis: so a basis has its words, and no others.
 pub fn bases_have_one_list_of_words()
-    ensures { (f : Form) (words : List ℕ) → IsForm f → IsWellFormed words → take 25 words ≡ shape_of f → All (λ w. w < 2 ^ 64) words →
+    ensures { (f : Form) (words : List ℕ) → IsForm f → IsWellFormed words →
+        take 25 words ≡ shape_of f → All (λ w. w < 2 ^ 64) words →
         packed f (unpacked words) ≡ words }
 {}
 
 /// Two forms of one shape have the same bases.
 pub fn one_shape_takes_the_same_bases()
-    ensures { (f g : Form) → IsForm f → IsForm g → SameShape f g → (basis : List Status) → IsBasisOf f basis → IsBasisOf g basis }
+    ensures { (f g : Form) → IsForm f → IsForm g → SameShape f g →
+        (basis : List Status) → IsBasisOf f basis → IsBasisOf g basis }
 {}
 
 /// The numbers of rows and columns, and the bits of each column, stand where they are read.
@@ -48,6 +53,8 @@ pub fn bits_stand_at_their_columns()
     ensures rows { (f : Form) (basis : List Status) → IsForm f → rows_of (packed f basis) ≡ f.rows }
     ensures columns { (f : Form) (basis : List Status) → IsForm f → cols_of (packed f basis) ≡ f.cols }
     ensures sizes { (f : Form) (basis : List Status) → IsForm f → All (λ w. w < 2 ^ 64) (packed f basis) }
-    ensures bounds { (f : Form) (basis : List Status) (c : ℕ) → c < places → bounds_at (packed f basis) c ≡ form_code f c }
-    ensures statuses { (f : Form) (basis : List Status) (c : ℕ) → c < places → code_at 25 (packed f basis) c ≡ basis_code basis c }
+    ensures bounds { (f : Form) (basis : List Status) (c : ℕ) →
+        c < places → bounds_at (packed f basis) c ≡ form_code f c }
+    ensures statuses { (f : Form) (basis : List Status) (c : ℕ) →
+        c < places → code_at 25 (packed f basis) c ≡ basis_code basis c }
 {}

@@ -4,9 +4,11 @@ use Rattle.spec_revised.proofs.factors_step_as_tableaus.Goals as goal
 pub returns : goal.returns
 returns c = record {
   choice =
-      λ limit other f starts costs b t s c selection st few g. state_choice f starts costs b t st few s g limit other c selection;
+      λ limit other f starts costs b t s c selection st few g.
+      state_choice f starts costs b t st few s g limit other c selection;
   flip = λ f starts costs b t u s c selection j st few g. state_flip f starts costs b t st few s g u c selection j;
   pivot =
-      λ f starts costs b t u s c selection p j theta to st few g. state_pivot f starts costs b t st few s g u c selection p j theta to;
+      λ f starts costs b t u s c selection p j theta to st few g.
+      state_pivot f starts costs b t st few s g u c selection p j theta to;
   refresh = goes_on;
 }

@@ -3,4 +3,10 @@ use Rattle.spec_shape.proofs.bits_stand_at_their_columns.Goals as goal
 
 pub returns : goal.returns
 returns c =
-    record { rows = packed_rows; columns = packed_cols; sizes = packed_small; bounds = front_bits; statuses = basis_bits }
+    record {
+      rows = packed_rows;
+      columns = packed_cols;
+      sizes = packed_small;
+      bounds = front_bits;
+      statuses = basis_bits;
+    }
