@@ -2,3 +2,8 @@
 pub mod Tying
 pub mod Changing
 pub mod StepLemmas
+pub mod Times
+pub mod AnyOrder
+pub mod Pushing
+pub mod KeepOrder
+pub mod WholePass

@@ -20,7 +20,7 @@ use Rattle.board_reads.specs.PassReads.{exact_read, reads_of, AddsLook, AddsPut}
 -- ---- lists
 
 -- some reads more, the newest first
-reads_more : (more old : List Read) →
+pub reads_more : (more old : List Read) →
     map exact_read (reverse (more ++ old)) ≡ map exact_read (reverse old) ++ map exact_read (reverse more)
 reads_more more old = ap (map exact_read) (reverse-append more old) ∙ map-append exact_read (reverse old) (reverse more)
 

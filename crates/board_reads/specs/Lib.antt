@@ -1,2 +1,3 @@
 pub mod PassReads
 pub mod Spelled
+pub mod Orderly

@@ -6,18 +6,24 @@
 //! | `AddsLook`, `AddsPut` | that a pass reads one look more, or one put | specs/PassReads |
 //! | `spelled`, `Changes` | the places that a board's words spell, and what a read changes of them | specs/Spelled |
 //! | `StepsAreReads` | the read that each kind of step of a board is | specs/Spelled |
+//! | `IsOrderly` | what holds of the reads of a pass | specs/Orderly |
 #![tactic(auto)]
 
-ghost use Rattle.std.specs.Prelude.{ℕ, List};
+ghost use Rattle.std.specs.Prelude.{◌≡◌, ℕ, List, length};
+ghost use Rattle.std.specs.List.{AllByRecursion};
+ghost use Rattle.std.specs.List.Sorted.{IsPermutation};
+ghost use Rattle.spec_shape.specs.Words.{IsWellFormed};
 ghost use Rattle.spec_reads.specs.Reads.{Words, ExactRead};
 ghost use Rattle.spec_reads.specs.Places.{ExactPlace, Answers};
+ghost use Rattle.spec_reads.specs.Orders.{AreBacked};
 ghost use Rattle.atomic_table.specs.Table.{State};
 ghost use Rattle.basis_board.specs.declared.seats.View.{View};
 ghost use Rattle.basis_board.specs.declared.board.Look.{Look};
 ghost use Rattle.basis_board.specs.declared.board.Put.{Put};
-ghost use Rattle.basis_board.specs.Calls.{Looks, Puts};
-ghost use Rattle.basis_board.specs.Rule.{Kept};
-ghost use Rattle.board_reads.specs.PassReads.{AddsLook, AddsPut};
+ghost use Rattle.basis_board.specs.Calls.{CountTells, Looks, Puts};
+ghost use Rattle.basis_board.specs.Rule.{Consistent, Kept, OwnsBelow};
+ghost use Rattle.board_reads.specs.Orderly.{IsWhole, IsOrderly};
+ghost use Rattle.board_reads.specs.PassReads.{reads_of, AddsLook, AddsPut};
 ghost use Rattle.board_reads.specs.Spelled.{Changes, AreSpelled, StepsAreReads};
 
 /// A look of a pass reads one look.
@@ -43,4 +49,25 @@ pub fn reads_change_the_board()
 pub fn steps_are_reads()
     ensures { (places : ℕ) (s : State ℕ View) (now : List ExactPlace) →
         Kept places s → AreSpelled s.words now → StepsAreReads places s now }
+{}
+
+/// Whatever a pass is called for, its counts never fall, and a place that it read as done or published is below each
+/// later count, and done ever after.
+pub fn calls_keep_order()
+    ensures look { (shape : Words) (before after : View) (look : Look) → Looks shape before look after →
+        Consistent before → Consistent after → IsOrderly before → IsOrderly after }
+    ensures put { (words : Words) (before after : View) (put : Put) → IsWellFormed words →
+        Puts before words put after → Consistent before → Consistent after → IsOrderly before → IsOrderly after }
+{}
+
+/// What a whole pass read, itself or by those that were met into it: no place is published twice, the published places
+/// are those below a number that no count exceeds, and what is read as done was published with those words.
+pub fn whole_passes_are_backed()
+    ensures { (v : View) (n : ℕ) → v.share ≡ 64 → Consistent v → OwnsBelow v n → CountTells v n →
+        AllByRecursion IsWhole (reads_of v) → AreBacked (reads_of v) }
+{}
+
+/// Reads that are backed are so in any other order.
+pub fn backed_in_any_order()
+    ensures { (a b : List ExactRead) → IsPermutation a b → AreBacked a → AreBacked b }
 {}

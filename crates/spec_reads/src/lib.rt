@@ -8,6 +8,7 @@
 //! | `Put` | what became of words that were to be published | src/read |
 //! | `LookReads`, `PutReads` | a look and a put, by what they read | specs/Reads |
 //! | `Answers`, `Plays` | reads that the places answer, one and all in one order | specs/Places |
+//! | `AreInOrder`, `AreBacked` | what the reads of one say of each other, and those of all | specs/Orders |
 //!
 //! The places are claimed one after the other, and each is written once. A look reads how many are claimed, and goes
 //! over them from the newest down to the first whose words have a shape. A put claims one place in one try, and writes

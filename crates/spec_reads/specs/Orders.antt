@@ -1,0 +1,51 @@
+-- What the reads of one who serves sessions say of each other, and those of all who share the places. Nothing is said
+-- here of one order of all the reads.
+use Rattle.std.specs.Prelude.{ℕ, ◌≡◌, ◌<◌, ◌≤◌, ◌↔◌, List, [], ◌∷◌}
+use Rattle.std.specs.List.{flat_map, Contains, AllByRecursion}
+use Rattle.spec_reads.specs.declared.read.Read.TheVariants.{Count, NotDone, Seen, Lost, Done}
+use Rattle.spec_reads.specs.Reads.{Words, ExactRead}
+use Rattle.spec_reads.specs.Places.{IsShown}
+
+-- ---- the reads of one
+
+-- each pair of an earlier and a later one
+abbrev pub InPairs : {X : Type 0} → (X → X → Type 0) → List X → Type 0
+InPairs R [] = Unit {0}
+InPairs R (x ∷ xs) = AllByRecursion (R x) xs × InPairs R xs
+
+-- what an earlier read says of a later one: the count never falls, and a place that was done, or was published, is below
+-- each count and done ever after
+abbrev pub AreInOrder : ExactRead → ExactRead → Type 0
+AreInOrder (Count c) (Count d) = c ≤ d
+AreInOrder (Count c) (Lost d) = c ≤ d
+AreInOrder (Lost c) (Count d) = c ≤ d
+AreInOrder (Lost c) (Lost d) = c ≤ d
+AreInOrder (Seen k words) (Count d) = k < d
+AreInOrder (Seen k words) (NotDone j) = k ≡ j → ⊥
+AreInOrder (Done k words) (Count d) = k < d
+AreInOrder (Done k words) (NotDone j) = k ≡ j → ⊥
+AreInOrder earlier later = Unit {0}
+
+-- ---- the reads of all
+
+abbrev pub published_by : ExactRead → List ℕ
+published_by (Done k words) = k ∷ []
+published_by other = []
+
+-- the places that were published
+abbrev pub published_in : List ExactRead → List ℕ
+published_in reads = flat_map published_by reads
+
+-- no count exceeds this number, and what is read as done is published in these reads, with those words
+abbrev pub IsBacked : List ExactRead → ℕ → ExactRead → Type 0
+IsBacked all claimed (Count c) = c ≤ claimed
+IsBacked all claimed (Lost c) = c ≤ claimed
+IsBacked all claimed (Seen k words) = (payload : Words) × Contains all (Done k payload) × IsShown payload words
+IsBacked all claimed other = Unit {0}
+
+-- no place is published twice, and the published places are those below some number
+pub record AreBacked (all : List ExactRead) : Type 0 where
+  pub once : InPairs (λ j k. j ≡ k → ⊥) (published_in all)
+  pub claimed : ℕ
+  pub published : (k : ℕ) → Contains (published_in all) k ↔ (k < claimed)
+  pub backed : AllByRecursion (IsBacked all claimed) all
