@@ -1,0 +1,471 @@
+-- What was read of a file gives a basis of the form, from line to line.
+use Rattle.std.proofs.Common.{◌≡◌, ◌≢◌, ℕ, zero, suc, ◌+◌, ◌<◌, ◌≤◌, ◌||◌, ◌⊎◌, inl, inr, Bool, true, false, not}
+use Rattle.std.proofs.Common.{cond, ltb, List, length, get_or}
+use Rattle.std.proofs.Common.{Option, Some, None, is_some, Ok, Err, ⊎_elim, refl, sym, ap, ◌∙◌, subst, arith}
+use Rattle.std.proofs.Common.{get_or-set_other, get_or-set_same}
+use Rattle.std.proofs.lemmas.Bool.{cases_eq}
+use Rattle.std.proofs.lemmas.List.{get_or-replicate, length-replicate}
+use Rattle.std.proofs.Math.ListN.{length-set}
+use borrow.Author.Tests.{lt-ltb, le-ltb}
+use Rattle.std.specs.Prelude.{nat_lt}
+use Rattle.std.specs.List.{position, position_or_len}
+use borrow.Author.Tests.{ltb-true}
+use Rattle.spec_text.specs.Words.{same}
+use Rattle.spec_exact.specs.Fraction.{ℚ}
+use Rattle.spec_model.specs.Model.{Model, Name, ExactRow, ExactColumn, width, height}
+use Rattle.spec_model.specs.Kept.{row_place, column_place}
+use Rattle.spec_pivot.specs.declared.status.Status.{Status}
+use Rattle.spec_pivot.specs.declared.status.Status.TheVariants.{Basic, AtUpper}
+use Rattle.spec_simplex.specs.Form.{Form, form_lower, form_upper}
+use Rattle.spec_simplex.specs.Run.{◌>>=◌}
+use Rattle.spec_simplex.specs.Start.{first_status}
+use Rattle.spec_simplex.specs.Tableau.{is_basic}
+use Rattle.spec_simplex.specs.Eliminate.{basis_at, basics_below, CanStand, IsBasisOf}
+use Rattle.spec_simplex.proofs.Stops.{length-made, get_or-made}
+use Rattle.spec_bas.specs.declared.fault.BasCode.TheVariants as code
+use Rattle.spec_bas.specs.declared.card.Card.TheVariants.{Xu, Xl, Ul, Ll}
+use Rattle.spec_bas.specs.declared.card.Reading.TheVariants.{Skipped, Named, Ends, Says, Wrong}
+use Rattle.spec_text.specs.declared.line.Line.{Line}
+use Rattle.spec_bas.specs.Cards.{ExactCard, ExactReading, reading_of}
+use Rattle.spec_bas.specs.Steps.{State, start, mark, is_marked, marked_status, marked_basis, usual_status, lower_first}
+use Rattle.spec_bas.specs.Steps.{upper_first, upper_status, must, need, pair_step, upper_step, usual_step, card_step}
+use Rattle.spec_bas.specs.Steps.{Check, More, Done, more, on_reading, step}
+use Rattle.spec_bas.specs.Fits.{HasSizeOf, IsMarking}
+
+-- ---- where columns can stand
+
+lower_can : (l u : Option ℚ) → CanStand (first_status l u) l u
+lower_can (Some l) u = (l, refl)
+lower_can None (Some u) = (u, refl)
+lower_can None None = (refl, refl)
+
+lower_out : (l u : Option ℚ) → is_basic (first_status l u) ≡ false
+lower_out (Some l) u = refl
+lower_out None (Some u) = refl
+lower_out None None = refl
+
+upper_can : (l u : Option ℚ) → CanStand (upper_status l u) l u
+upper_can l (Some u) = (u, refl)
+upper_can (Some l) None = (l, refl)
+upper_can None None = (refl, refl)
+
+upper_out : (l u : Option ℚ) → is_basic (upper_status l u) ≡ false
+upper_out l (Some u) = refl
+upper_out (Some l) None = refl
+upper_out None None = refl
+
+-- ---- counts
+
+-- two lists that agree below n have as many basic columns there
+basics_same : (b c : List Status) (n : ℕ) → ((i : ℕ) → i < n → is_basic (basis_at c i) ≡ is_basic (basis_at b i)) →
+    basics_below c n ≡ basics_below b n
+basics_same b c zero h = refl
+basics_same b c (suc n) h =
+    let rest = basics_same b c n (λ i l. h i (omega arith)) in
+    rw (rest, h n (omega arith)) refl
+
+-- where they agree but at k, which is basic in the second alone, that has one more
+basics_one : (b c : List Status) (k n : ℕ) → k < n → is_basic (basis_at b k) ≡ false → is_basic (basis_at c k) ≡ true →
+    ((i : ℕ) → i < n → i ≢ k → is_basic (basis_at c i) ≡ is_basic (basis_at b i)) →
+    basics_below c n ≡ basics_below b n + 1
+basics_one b c k zero l out in' h = absurd (omega arith)
+basics_one b c k (suc n) l out in' h =
+    ⊎_elim at_end (λ ne. before ne (basics_one b c k n (omega arith) out in' (λ i p. h i (omega arith)))) (cases_eq n k)
+  where
+    at_end : n ≡ k → basics_below c (suc n) ≡ basics_below b (suc n) + 1
+    at_end e =
+        let rest = basics_same b c n (λ i p. h i (omega arith) (λ q. omega arith)) in
+        let o : is_basic (basis_at b n) ≡ false = ap (λ i. is_basic (basis_at b i)) e ∙ out in
+        let w : is_basic (basis_at c n) ≡ true = ap (λ i. is_basic (basis_at c i)) e ∙ in' in
+        rw (rest, o, w) (omega arith)
+
+    before : n ≢ k → basics_below c n ≡ basics_below b n + 1 → basics_below c (suc n) ≡ basics_below b (suc n) + 1
+    before ne rest = rw (rest, h n (omega arith) ne) (omega arith)
+
+-- ---- the basis that marks give
+
+module _ (f : Form) where
+  abbrev pub status_at : State → ℕ → Status
+  status_at s k = marked_status f k (get_or s.marks k None)
+
+  pub marked_at : (s : State) (k : ℕ) → k < f.cols + f.rows → basis_at (marked_basis f s) k ≡ status_at s k
+  unfolding marked_basis
+  marked_at s k h = get_or-made (f.cols + f.rows) (status_at s) k Basic h
+
+  pub marked_length : (s : State) → length (marked_basis f s) ≡ f.cols + f.rows
+  unfolding marked_basis
+  marked_length s = length-made (f.cols + f.rows) (status_at s)
+
+  -- ---- usual statuses
+  pub usual_column : (k : ℕ) → k < f.cols → usual_status f k ≡ lower_first f k
+  usual_column k h = rw (lt-ltb k f.cols h) refl
+
+  pub usual_row : (k : ℕ) → f.cols ≤ k → usual_status f k ≡ Basic
+  usual_row k h = rw (le-ltb k f.cols h) refl
+
+  usual_can : (k : ℕ) → CanStand (usual_status f k) (form_lower f k) (form_upper f k)
+  usual_can k = by (ltb k f.cols)
+    where
+      by : (c : Bool) → CanStand (cond c (lower_first f k) Basic) (form_lower f k) (form_upper f k)
+      by true = lower_can (form_lower f k) (form_upper f k)
+      by false = tt
+
+  -- ---- one more mark
+  pub mark_other : (s : State) (k i : ℕ) (status : Status) → i ≢ k → status_at (mark k status s) i ≡ status_at s i
+  mark_other s k i status ne = ap (marked_status f i) (get_or-set_other s.marks k i (Some status) None ne)
+
+  pub mark_same : (s : State) (k : ℕ) (status : Status) → k < length s.marks → status_at (mark k status s) k ≡ status
+  mark_same s k status h = ap (marked_status f k) (get_or-set_same s.marks k (Some status) None h)
+
+  -- a column that had no mark
+  free_at : (s : State) (k : ℕ) → is_marked s k ≡ false → status_at s k ≡ usual_status f k
+  free_at s k h = by (get_or s.marks k None) h
+    where
+      by : (o : Option Status) → is_some o ≡ false → marked_status f k o ≡ usual_status f k
+      by None e = refl
+      by (Some status) e = cc
+
+  free_other : (s : State) (k i : ℕ) (status : Status) → i ≢ k → is_marked s i ≡ false →
+      is_marked (mark k status s) i ≡ false
+  free_other s k i status ne h = ap is_some (get_or-set_other s.marks k i (Some status) None ne) ∙ h
+
+  pub mark_length : (s : State) (k : ℕ) (status : Status) → length (mark k status s).marks ≡ length s.marks
+  mark_length s k status = length-set s.marks k (Some status)
+
+  -- the statuses can be, off the column and at it
+  abbrev AllStand : State → Type 0
+  AllStand s = (i : ℕ) → i < f.cols + f.rows → CanStand (basis_at (marked_basis f s) i) (form_lower f i)
+      (form_upper f i)
+
+  mark_stand : (s : State) (k : ℕ) (status : Status) → length s.marks ≡ f.cols + f.rows → AllStand s → k < f.cols +
+      f.rows →
+      CanStand status (form_lower f k) (form_upper f k) → AllStand (mark k status s)
+  mark_stand s k status long all l can i h =
+      subst (λ x. CanStand x (form_lower f i) (form_upper f i)) (sym (marked_at (mark k status s) i h))
+      (⊎_elim here other (cases_eq i k))
+    where
+      here : i ≡ k → CanStand (status_at (mark k status s) i) (form_lower f i) (form_upper f i)
+      here e =
+          subst (λ j. CanStand (status_at (mark k status s) j) (form_lower f j) (form_upper f j)) (sym e)
+          (subst (λ x. CanStand x (form_lower f k) (form_upper f k))
+          (sym (mark_same s k status (omega (arith, long)))) can)
+
+      other : i ≢ k → CanStand (status_at (mark k status s) i) (form_lower f i) (form_upper f i)
+      other ne =
+          subst (λ x. CanStand x (form_lower f i) (form_upper f i))
+          (sym (mark_other s k i status ne ∙ sym (marked_at s i h))) (all i h)
+
+  abbrev basics : State → ℕ
+  basics s = basics_below (marked_basis f s) (f.cols + f.rows)
+
+  basic_other : (s : State) (k : ℕ) (status : Status) (i : ℕ) → i < f.cols + f.rows → i ≢ k →
+      is_basic (basis_at (marked_basis f (mark k status s)) i) ≡ is_basic (basis_at (marked_basis f s) i)
+  basic_other s k status i h ne =
+      ap is_basic (marked_at (mark k status s) i h ∙ mark_other s k i status ne ∙ sym (marked_at s i h))
+
+  basic_at_mark : (s : State) (k : ℕ) (status : Status) → k < f.cols + f.rows → k < length s.marks →
+      is_basic (basis_at (marked_basis f (mark k status s)) k) ≡ is_basic status
+  basic_at_mark s k status h l = ap is_basic (marked_at (mark k status s) k h ∙ mark_same s k status l)
+
+  -- a column that is basic from now on
+  basics_up : (s : State) (k : ℕ) → k < f.cols + f.rows → k < length s.marks → is_basic (status_at s k) ≡ false →
+      basics (mark k Basic s) ≡ basics s + 1
+  basics_up s k h l out =
+      basics_one (marked_basis f s) (marked_basis f (mark k Basic s)) k (f.cols + f.rows) h
+      (ap is_basic (marked_at s k h) ∙ out) (basic_at_mark s k Basic h l) (basic_other s k Basic)
+
+  -- a column that is basic no more
+  basics_down : (s : State) (k : ℕ) (status : Status) → k < f.cols + f.rows → k < length s.marks →
+      is_basic (status_at s k) ≡ true → is_basic status ≡ false → basics s ≡ basics (mark k status s) + 1
+  basics_down s k status h l was out =
+      basics_one (marked_basis f (mark k status s)) (marked_basis f s) k (f.cols + f.rows) h
+      (basic_at_mark s k status h l ∙ out) (ap is_basic (marked_at s k h) ∙ was)
+      (λ i p ne. sym (basic_other s k status i p ne))
+
+  -- a column that is not basic, neither before nor after
+  basics_stay : (s : State) (k : ℕ) (status : Status) → k < length s.marks → is_basic (status_at s k) ≡ false →
+      is_basic status ≡ false → basics (mark k status s) ≡ basics s
+  basics_stay s k status l was out =
+      basics_same (marked_basis f s) (marked_basis f (mark k status s)) (f.cols + f.rows) (λ i p. by i p (cases_eq i k))
+    where
+      by : (i : ℕ) → i < f.cols + f.rows → (i ≡ k) ⊎ (i ≡ k → ⊥) →
+          is_basic (basis_at (marked_basis f (mark k status s)) i) ≡ is_basic (basis_at (marked_basis f s) i)
+      by i p (inl e) =
+          ap (λ j. is_basic (basis_at (marked_basis f (mark k status s)) j)) e
+          ∙ basic_at_mark s k status (omega (arith, p, e)) l ∙ out ∙ sym was
+          ∙ ap is_basic (sym (marked_at s k (omega (arith, p, e))))
+          ∙ ap (λ j. is_basic (basis_at (marked_basis f s) j)) (sym e)
+      by i p (inr ne) = basic_other s k status i p ne
+
+  -- ---- no mark at all
+  pub start_none : (k : ℕ) → k < f.cols + f.rows → status_at (start f) k ≡ usual_status f k
+  start_none k h = ap (marked_status f k) (get_or-replicate (f.cols + f.rows) k None None h)
+
+  column_out : (k : ℕ) → k < f.cols → is_basic (usual_status f k) ≡ false
+  column_out k h = ap is_basic (usual_column k h) ∙ lower_out (form_lower f k) (form_upper f k)
+
+  row_in : (k : ℕ) → f.cols ≤ k → is_basic (usual_status f k) ≡ true
+  row_in k h = ap is_basic (usual_row k h)
+
+  start_columns : (n : ℕ) → n ≤ f.cols → basics_below (marked_basis f (start f)) n ≡ 0
+  start_columns zero h = refl
+  start_columns (suc n) h =
+      let rest = start_columns n (omega arith) in
+      let here = ap is_basic (marked_at (start f) n (omega arith) ∙ start_none n (omega arith)) ∙ column_out n
+      (omega arith) in
+      rw (rest, here) refl
+
+  start_rows : (i : ℕ) → i ≤ f.rows → basics_below (marked_basis f (start f)) (f.cols + i) ≡ i
+  start_rows zero h = start_columns (f.cols + 0) (omega arith)
+  start_rows (suc i) h =
+      let rest = start_rows i (omega arith) in
+      let z : f.cols + suc i ≡ suc (f.cols + i) = omega arith in
+      let here = ap is_basic (marked_at (start f) (f.cols + i) (omega arith) ∙ start_none (f.cols + i)
+      (omega arith)) ∙ row_in (f.cols + i) (omega arith) in
+      ap (basics_below (marked_basis f (start f))) z ∙ rw (rest, here) (omega arith)
+
+  pub start_marks : IsMarking f (start f)
+  start_marks = record {
+    all = length-replicate (f.cols + f.rows) None;
+    fits = record {
+      all = marked_length (start f);
+      stand = λ k h. subst (λ x. CanStand x (form_lower f k) (form_upper f k))
+          (sym (marked_at (start f) k h ∙ start_none k h)) (usual_can k);
+      count = start_rows f.rows (omega arith);
+    };
+  }
+
+  -- ---- the steps of cards
+  -- a status that is not basic, at a column that had no mark and is not basic
+  one_marks : (s : State) (k : ℕ) (status : Status) → IsMarking f s → k < f.cols → is_marked s k ≡ false →
+      CanStand status (form_lower f k) (form_upper f k) → is_basic status ≡ false → IsMarking f (mark k status s)
+  one_marks s k status g h free can out = record {
+    all = mark_length s k status ∙ g.all;
+    fits = record {
+      all = marked_length (mark k status s);
+      stand = mark_stand s k status g.all g.fits.stand (omega arith) can;
+      count =
+          basics_stay s k status (omega (arith, g.all, h)) (ap is_basic (free_at s k free) ∙ column_out k h) out ∙
+          g.fits.count;
+    };
+  }
+
+  -- a column that is basic from now on, and a row that is so no more
+  pair_marks : (s : State) (j i : ℕ) (status : Status) → IsMarking f s → j < f.cols → i < f.rows →
+      is_marked s j ≡ false → is_marked s (f.cols + i) ≡ false →
+      CanStand status (form_lower f (f.cols + i)) (form_upper f (f.cols + i)) → is_basic status ≡ false →
+      IsMarking f (mark (f.cols + i) status (mark j Basic s))
+  pair_marks s j i status g h l free free_row can out =
+      let t = mark j Basic s in
+      let k = f.cols + i in
+      let apart : k ≢ j = (λ e. omega arith) in
+      let long : length t.marks ≡ f.cols + f.rows = mark_length s j Basic ∙ g.all in
+      record {
+        all = mark_length t k status ∙ long;
+        fits = record {
+          all = marked_length (mark k status t);
+          stand = mark_stand t k status long (mark_stand s j Basic g.all g.fits.stand (omega arith) tt)
+              (omega arith) can;
+          count =
+              let up = basics_up s j (omega arith) (omega (arith, g.all))
+              (ap is_basic (free_at s j free) ∙ column_out j h) in
+              let down = basics_down t k status (omega arith) (omega (arith, long))
+              (ap is_basic (free_at t k (free_other s j k Basic apart free_row)) ∙ row_in k (omega arith)) out in
+              omega (arith, up, down, g.fits.count);
+        };
+      }
+
+-- ---- the steps that go on
+
+-- where a name has its place
+inside : {X : Type 0} (p : X → Bool) (xs : List X) (k : ℕ) → position p xs ≡ Some k → k < length xs
+inside p xs k h = by (nat_lt (position_or_len p xs) (length xs)) refl h
+  where
+    by : (c : Bool) → nat_lt (position_or_len p xs) (length xs) ≡ c →
+        cond c (Some (position_or_len p xs)) None ≡ Some k → k < length xs
+    by true e h =
+        let l = ltb-true (position_or_len p xs) (length xs) e in
+        let z : position_or_len p xs ≡ k = cc in
+        omega (arith, l, z)
+    by false e h = cc
+
+pub column_inside : (m : Model) (name : Name) (j : ℕ) → column_place m name ≡ Some j → j < width m
+unfolding column_place
+column_inside m name j h = inside (λ (c : ExactColumn). same c.name name) m.columns j h
+
+pub row_inside : (m : Model) (name : Name) (i : ℕ) → row_place m name ≡ Some i → i < height m
+unfolding row_place
+row_inside m name i h = inside (λ (r : ExactRow). same r.name name) m.rows i h
+
+-- a pair is taken
+pub record TakesPair (m : Model) (f : Form) (s : State) (column row : Name) (status : ℕ → Status) (t : State) : Type
+    0 where
+  pub j : ℕ
+  pub i : ℕ
+  pub is_column : column_place m column ≡ Some j
+  pub is_row : row_place m row ≡ Some i
+  pub column_free : is_marked s j ≡ false
+  pub row_free : is_marked s (f.cols + i) ≡ false
+  pub marks : t ≡ mark (f.cols + i) (status (f.cols + i)) (mark j Basic s)
+
+pub pair_taken : (m : Model) (f : Form) (s : State) (column row : Name) (status : ℕ → Status) (t : State) →
+    pair_step m f s column row status ≡ Ok t → TakesPair m f s column row status t
+unfolding pair_step
+pair_taken m f s column row status t h = by (column_place m column) (row_place m row) refl refl h
+  where
+    free : (j i : ℕ) → column_place m column ≡ Some j → row_place m row ≡ Some i → (c d : Bool) →
+        is_marked s j ≡ c → is_marked s (f.cols + i) ≡ d →
+        (must (not (c || d)) code.Repeated >>= λ _. Ok (mark (f.cols + i) (status (f.cols + i)) (mark j Basic s))) ≡
+        Ok t →
+        TakesPair m f s column row status t
+    free j i p q false false a b e = record {
+      j = j;
+      i = i;
+      is_column = p;
+      is_row = q;
+      column_free = a;
+      row_free = b;
+      marks = cc;
+    }
+    free j i p q true d a b e = cc
+    free j i p q false true a b e = cc
+
+    by : (o p : Option ℕ) → column_place m column ≡ o → row_place m row ≡ p →
+        (need o code.UnknownColumn >>= λ j. need p code.UnknownRow >>= λ i.
+        must (not (is_marked s j || is_marked s (f.cols + i))) code.Repeated >>= λ _.
+        Ok (mark (f.cols + i) (status (f.cols + i)) (mark j Basic s))) ≡ Ok t →
+        TakesPair m f s column row status t
+    by None p a b e = cc
+    by (Some j) None a b e = cc
+    by (Some j) (Some i) a b e = free j i a b (is_marked s j) (is_marked s (f.cols + i)) refl refl e
+
+-- a column's card is taken
+pub record TakesColumn (m : Model) (s : State) (column : Name) (status : ℕ → Status) (t : State) : Type 0 where
+  pub j : ℕ
+  pub is_column : column_place m column ≡ Some j
+  pub column_free : is_marked s j ≡ false
+  pub marks : t ≡ mark j (status j) s
+
+pub usual_taken : (m : Model) (f : Form) (s : State) (column : Name) (t : State) → usual_step m f s column ≡ Ok t →
+    TakesColumn m s column (lower_first f) t
+unfolding usual_step
+usual_taken m f s column t h = by (column_place m column) refl h
+  where
+    free : (j : ℕ) → column_place m column ≡ Some j → (c : Bool) → is_marked s j ≡ c →
+        (must (not c) code.Repeated >>= λ _. Ok (mark j (lower_first f j) s)) ≡ Ok t →
+        TakesColumn m s column (lower_first f) t
+    free j p false a e = record { j = j; is_column = p; column_free = a; marks = cc }
+    free j p true a e = cc
+
+    by : (o : Option ℕ) → column_place m column ≡ o →
+        (need o code.UnknownColumn >>= λ j. must (not (is_marked s j)) code.Repeated >>= λ _. Ok
+        (mark j (lower_first f j) s)) ≡ Ok t →
+        TakesColumn m s column (lower_first f) t
+    by None a e = cc
+    by (Some j) a e = free j a (is_marked s j) refl e
+
+-- and a column at its upper bound has one
+pub record TakesUpper (m : Model) (f : Form) (s : State) (column : Name) (t : State) : Type 0 where
+  pub takes : TakesColumn m s column (λ _. AtUpper) t
+  pub bound : (u : ℚ) × (form_upper f takes.j ≡ Some u)
+
+pub upper_taken : (m : Model) (f : Form) (s : State) (column : Name) (t : State) → upper_step m f s column ≡ Ok t →
+    TakesUpper m f s column t
+unfolding upper_step
+upper_taken m f s column t h = by (column_place m column) refl h
+  where
+    free : (j : ℕ) → column_place m column ≡ Some j → (c : Bool) (u : Option ℚ) → is_marked s j ≡ c → form_upper f
+        j ≡ u →
+        (must (not c) code.Repeated >>= λ _. must (is_some u) code.NoUpperBound >>= λ _. Ok (mark j AtUpper s)) ≡ Ok t →
+        TakesUpper m f s column t
+    free j p false (Some u) a b e =
+        record { takes = record { j = j; is_column = p; column_free = a; marks = cc }; bound = (u, b) }
+    free j p false None a b e = cc
+    free j p true u a b e = cc
+
+    by : (o : Option ℕ) → column_place m column ≡ o →
+        (need o code.UnknownColumn >>= λ j. must (not (is_marked s j)) code.Repeated >>= λ _.
+        must (is_some (form_upper f j)) code.NoUpperBound >>= λ _. Ok (mark j AtUpper s)) ≡ Ok t →
+        TakesUpper m f s column t
+    by None a e = cc
+    by (Some j) a e = free j a (is_marked s j) (form_upper f j) refl refl e
+
+module _ (m : Model) (f : Form) (size : HasSizeOf m f) (s : State) (g : IsMarking f s) where
+  pair_keeps : (column row : Name) (status : ℕ → Status) (t : State) →
+      ((k : ℕ) → CanStand (status k) (form_lower f k) (form_upper f k)) → ((k : ℕ) → is_basic (status k) ≡ false) →
+      pair_step m f s column row status ≡ Ok t → IsMarking f t
+  pair_keeps column row status t can out h =
+      let p = pair_taken m f s column row status t h in
+      subst (IsMarking f) (sym p.marks)
+      (pair_marks f s p.j p.i (status (f.cols + p.i)) g
+      (omega (arith, column_inside m column p.j p.is_column, size.cols))
+      (omega (arith, row_inside m row p.i p.is_row, size.rows))
+      p.column_free p.row_free (can (f.cols + p.i)) (out (f.cols + p.i)))
+
+  column_keeps : (column : Name) (status : ℕ → Status) (t : State) → (p : TakesColumn m s column status t) →
+      CanStand (status p.j) (form_lower f p.j) (form_upper f p.j) → is_basic (status p.j) ≡ false → IsMarking f t
+  column_keeps column status t p can out =
+      subst (IsMarking f) (sym p.marks)
+      (one_marks f s p.j (status p.j) g (omega (arith, column_inside m column p.j p.is_column, size.cols))
+      p.column_free can out)
+
+  pub card_keeps : (card : ExactCard) (t : State) → card_step m f s card ≡ Ok t → IsMarking f t
+  card_keeps (Xu column row) t h =
+      pair_keeps column row (upper_first f) t (λ k. upper_can (form_lower f k) (form_upper f k))
+      (λ k. upper_out (form_lower f k) (form_upper f k)) h
+  card_keeps (Xl column row) t h =
+      pair_keeps column row (lower_first f) t (λ k. lower_can (form_lower f k) (form_upper f k))
+      (λ k. lower_out (form_lower f k) (form_upper f k)) h
+  card_keeps (Ul column) t h =
+      let p = upper_taken m f s column t h in column_keeps column (λ _. AtUpper) t p.takes p.bound refl
+  card_keeps (Ll column) t h =
+      let p = usual_taken m f s column t h in
+      column_keeps column (lower_first f) t p (lower_can (form_lower f p.j) (form_upper f p.j))
+      (lower_out (form_lower f p.j) (form_upper f p.j))
+
+  -- ---- whole lines
+  begun_keeps : IsMarking f (record s { begun = true })
+  unfolding marked_basis
+  begun_keeps = record { all = g.all; fits = g.fits }
+
+  named_keeps : (c : Bool) (t : State) →
+      more (must (not c) code.Section >>= λ _. Ok (record s { begun = true })) ≡ Ok (More t) → IsMarking f t
+  named_keeps false t h = let e : record s { begun = true } ≡ t = cc in subst (IsMarking f) e begun_keeps
+  named_keeps true t h = cc
+
+  said_keeps : (card : ExactCard) (c : Check State) (t : State) → card_step m f s card ≡ c →
+      more c ≡ Ok (More t) → IsMarking f t
+  said_keeps card (Ok u) t a h = card_keeps card t (let e : u ≡ t = cc in a ∙ ap Ok e)
+  said_keeps card (Err code) t a h = cc
+
+  on_keeps : (r : ExactReading) (t : State) → on_reading m f s r ≡ Ok (More t) → IsMarking f t
+  on_keeps Skipped t h = let e : s ≡ t = cc in subst (IsMarking f) e g
+  on_keeps Named t h = named_keeps s.begun t h
+  on_keeps Ends t h = cc
+  on_keeps (Says card) t h = said_keeps card (card_step m f s card) t refl h
+  on_keeps (Wrong code) t h = cc
+
+  said_not_done : (c : Check State) (basis : List Status) → more c ≡ Ok (Done basis) → ⊥
+  said_not_done (Ok u) basis h = cc
+  said_not_done (Err code) basis h = cc
+
+  named_not_done : (c : Bool) (basis : List Status) →
+      more (must (not c) code.Section >>= λ _. Ok (record s { begun = true })) ≡ Ok (Done basis) → ⊥
+  named_not_done false basis h = cc
+  named_not_done true basis h = cc
+
+  on_fits : (r : ExactReading) (basis : List Status) → on_reading m f s r ≡ Ok (Done basis) → IsBasisOf f basis
+  on_fits Skipped basis h = cc
+  on_fits Named basis h = absurd (named_not_done s.begun basis h)
+  on_fits Ends basis h = let e : marked_basis f s ≡ basis = cc in subst (IsBasisOf f) e g.fits
+  on_fits (Says card) basis h = absurd (said_not_done (card_step m f s card) basis h)
+  on_fits (Wrong code) basis h = cc
+
+  -- the marks stay so, and what a file gives is a basis of the form
+  pub step_keeps : (line : Line (List ℕ)) (t : State) → step m f s line ≡ Ok (More t) → IsMarking f t
+  unfolding step
+  step_keeps line t h = on_keeps (reading_of line) t h
+
+  pub step_fits : (line : Line (List ℕ)) (basis : List Status) → step m f s line ≡ Ok (Done basis) → IsBasisOf f basis
+  unfolding step
+  step_fits line basis h = on_fits (reading_of line) basis h

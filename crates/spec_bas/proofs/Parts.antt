@@ -1,0 +1,138 @@
+-- The marks of one kind of names, of columns or of rows: one more name, at either side of a step.
+use Rattle.std.proofs.Common.{◌≡◌, ◌≢◌, ℕ, zero, suc, ◌<◌, ◌⊎◌, inl, inr, true, false, List, ◌∷◌, length, get_or}
+use Rattle.std.proofs.Common.{Option, Some, None, is_some, All, sym, ap, ◌∙◌, arith, get_or-set_other, get_or-set_same}
+use Rattle.std.specs.List.{AllPairs}
+use Rattle.std.proofs.lemmas.Bool.{cases_eq, false≢true}
+use Rattle.spec_model.specs.Model.{Name}
+use Rattle.spec_pivot.specs.declared.status.Status.{Status}
+use Rattle.spec_simplex.specs.Form.{Form}
+use Rattle.spec_simplex.specs.Eliminate.{basis_at}
+use Rattle.spec_bas.specs.Steps.{State, mark, is_marked, status_of}
+use Rattle.spec_bas.specs.Spelled.{HasNoCard}
+use Rattle.spec_bas.proofs.Marks.{mark_same, mark_other}
+
+-- ---- lists
+
+pub all_cons : {A : Type 0} (P : A → Type 0) (x : A) (xs : List A) → P x → All P xs → All P (x ∷ xs)
+all_cons P x xs p h zero d l = p
+all_cons P x xs p h (suc i) d l = h i d (omega arith)
+
+pub all_rest : {A : Type 0} (P : A → Type 0) (x : A) (xs : List A) → All P (x ∷ xs) → All P xs
+all_rest P x xs h i d l = h (suc i) d (omega arith)
+
+pub all_first : {A : Type 0} (P : A → Type 0) (x : A) (xs : List A) → All P (x ∷ xs) → P x
+all_first P x xs h = h 0 x (omega arith)
+
+pairs_cons : {A : Type 0} (P : A → A → Type 0) (x : A) (xs : List A) → All (P x) xs → AllPairs P xs →
+    AllPairs P (x ∷ xs)
+pairs_cons P x xs h g zero zero d l r = absurd (omega arith)
+pairs_cons P x xs h g zero (suc k) d l r = h k d (omega arith)
+pairs_cons P x xs h g (suc i) zero d l r = absurd (omega arith)
+pairs_cons P x xs h g (suc i) (suc k) d l r = g i k d (omega arith) (omega arith)
+
+pairs_rest : {A : Type 0} (P : A → A → Type 0) (x : A) (xs : List A) → AllPairs P (x ∷ xs) → AllPairs P xs
+pairs_rest P x xs g i k d l r = g (suc i) (suc k) d (omega arith) (omega arith)
+
+pairs_first : {A : Type 0} (P : A → A → Type 0) (x : A) (xs : List A) → AllPairs P (x ∷ xs) → All (P x) xs
+pairs_first P x xs g k d l = g 0 (suc k) d (omega arith) (omega arith)
+
+-- ---- marks
+
+pub marked_same : (s : State) (k : ℕ) (status : Status) → k < length s.marks → is_marked (mark k status s) k ≡ true
+marked_same s k status h = ap is_some (get_or-set_same s.marks k (Some status) None h)
+
+pub marked_other : (s : State) (k i : ℕ) (status : Status) → i ≢ k → is_marked (mark k status s) i ≡ is_marked s i
+marked_other s k i status ne = ap is_some (get_or-set_other s.marks k i (Some status) None ne)
+
+module _ (f : Form) (place : Name → Option ℕ) (at : ℕ → ℕ) (n : ℕ)
+    (inside : (name : Name) (i : ℕ) → place name ≡ Some i → i < n)
+    (one : (a b : Name) (i : ℕ) → place a ≡ Some i → place b ≡ Some i → a ≡ b)
+    (apart : (i j : ℕ) → at i ≡ at j → i ≡ j) where
+  -- the names have no marks yet, and what has no name here stands in the basis as the marks so far have it
+  pub record Part (s : State) (names : List Name) (b : List Status) : Type 0 where
+    pub once : AllPairs (λ x y. x ≢ y) names
+    pub free : All (λ name. (i : ℕ) → place name ≡ Some i → is_marked s (at i) ≡ false) names
+    pub others : (i : ℕ) → i < n → HasNoCard place names i → basis_at b (at i) ≡ status_of f s (at i)
+
+  -- a mark of the other kind
+  pub part_aside : (s : State) (k : ℕ) (status : Status) (names : List Name) (b : List Status) →
+      ((i : ℕ) → i < n → at i ≢ k) → Part (mark k status s) names b → Part s names b
+  part_aside s k status names b off p = record {
+    once = p.once;
+    free = λ q d l i e. sym (marked_other s k (at i) status (off i (inside (get_or names q d) i e))) ∙ p.free q d l i e;
+    others = λ i l h. p.others i l h ∙ mark_other f s k (at i) status (off i l);
+  }
+
+  pub part_beside : (s : State) (k : ℕ) (status : Status) (names : List Name) (b : List Status) →
+      ((i : ℕ) → i < n → at i ≢ k) → Part s names b → Part (mark k status s) names b
+  part_beside s k status names b off p = record {
+    once = p.once;
+    free = λ q d l i e. marked_other s k (at i) status (off i (inside (get_or names q d) i e)) ∙ p.free q d l i e;
+    others = λ i l h. p.others i l h ∙ sym (mark_other f s k (at i) status (off i l));
+  }
+
+  -- a mark of this kind
+  module _ (s : State) (name : Name) (i : ℕ) (status : Status) (names : List Name) (b : List Status)
+      (is : place name ≡ Some i) (long : at i < length s.marks) where
+    abbrev t : State
+    t = mark (at i) status s
+
+    off : (k : ℕ) → k ≢ i → at k ≢ at i
+    off k ne e = ne (apart k i e)
+
+    module _ (p : Part t names b) where
+      -- no other name has it
+      no_other : HasNoCard place names i
+      no_other q d l e = false≢true (sym (p.free q d l i e) ∙ marked_same s (at i) status long)
+
+      pub part_stands : basis_at b (at i) ≡ status
+      part_stands = p.others i (inside name i is) no_other ∙ mark_same f s (at i) status long
+
+      grown_free : (k : ℕ) → is_marked t (at k) ≡ false → is_marked s (at k) ≡ false
+      grown_free k h = by (cases_eq k i)
+        where
+          by : (k ≡ i) ⊎ (k ≡ i → ⊥) → is_marked s (at k) ≡ false
+          by (inl e) = absurd (false≢true (sym h ∙ ap (λ q. is_marked t (at q)) e ∙ marked_same s (at i) status long))
+          by (inr ne) = sym (marked_other s (at i) (at k) status (off k ne)) ∙ h
+
+      pub part_more : is_marked s (at i) ≡ false → Part s (name ∷ names) b
+      part_more free = record {
+        once = pairs_cons (λ x y. x ≢ y) name names (λ q d l e. no_other q d l (ap place (sym e) ∙ is)) p.once;
+        free = all_cons (λ name. (k : ℕ) → place name ≡ Some k → is_marked s (at k) ≡ false) name names
+            (λ k e. let z : i ≡ k = same_place k (sym is ∙ e) in ap (λ q. is_marked s (at q)) (sym z) ∙ free)
+            (λ q d l k e. grown_free k (p.free q d l k e));
+        others = λ k l h. p.others k l (all_rest (λ x. place x ≢ Some k) name names h)
+            ∙ mark_other f s (at i) (at k) status
+            (off k (λ e. all_first (λ x. place x ≢ Some k) name names h (is ∙ ap Some (sym e))));
+      }
+        where
+          same_place : (k : ℕ) → ◌≡◌ {A = Option ℕ} (Some i) (Some k) → i ≡ k
+          same_place k e = cc
+
+    module _ (p : Part s (name ∷ names) b) (stands : basis_at b (at i) ≡ status) where
+      pub part_free : is_marked s (at i) ≡ false
+      part_free =
+          all_first (λ name. (k : ℕ) → place name ≡ Some k → is_marked s (at k) ≡ false) name names p.free i is
+
+      pub part_less : Part t names b
+      part_less = record {
+        once = pairs_rest (λ x y. x ≢ y) name names p.once;
+        free = λ q d l k e.
+            marked_other s (at i) (at k) status
+            (off k (λ z. pairs_first (λ x y. x ≢ y) name names p.once q d l
+            (one name (get_or names q d) i is (e ∙ ap Some z))))
+            ∙ all_rest (λ name. (k : ℕ) → place name ≡ Some k → is_marked s (at k) ≡ false) name names p.free q d l k e;
+        others = λ k l h. by k l h (cases_eq k i);
+      }
+        where
+          by : (k : ℕ) → k < n → HasNoCard place names k → (k ≡ i) ⊎ (k ≡ i → ⊥) → basis_at b (at k) ≡ status_of f t
+              (at k)
+          by k l h (inl e) =
+              ap (λ q. basis_at b (at q)) e ∙ stands ∙ sym (mark_same f s (at i) status long)
+              ∙ ap (λ q. status_of f t (at q)) (sym e)
+          by k l h (inr ne) =
+              p.others k l (all_cons (λ x. place x ≢ Some k) name names (λ e. ne (same_place k (sym is ∙ e))) h)
+              ∙ sym (mark_other f s (at i) (at k) status (off k ne))
+            where
+              same_place : (k : ℕ) → ◌≡◌ {A = Option ℕ} (Some i) (Some k) → k ≡ i
+              same_place k e = cc

@@ -1,0 +1,5 @@
+use Rattle.spec_bas.proofs.Fitting.{spelled_fits}
+use Rattle.spec_bas.proofs.spelled_bases_fit.Goals as goal
+
+pub returns : goal.returns
+returns c = λ m f lines basis size w. spelled_fits m f size lines basis w

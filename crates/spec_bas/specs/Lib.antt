@@ -1,0 +1,5 @@
+pub mod Cards
+pub mod Steps
+pub mod Fits
+pub mod Spelled
+pub mod Written

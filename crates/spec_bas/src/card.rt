@@ -1,0 +1,29 @@
+// The lines of basis files, over the type N of names.
+use crate::fault::BasCode;
+
+/// A data card: the words of MPS basis files, with the names behind them.
+#[derive(Drop)]
+pub enum Card<N> {
+    /// `XU`: the column is basic, and the row stands at its upper limit.
+    Xu { column: N, row: N },
+    /// `XL`: the column is basic, and the row stands at its lower limit.
+    Xl { column: N, row: N },
+    /// `UL`: the column stands at its upper bound.
+    Ul { column: N },
+    /// `LL`: the column stands where it does without a card.
+    Ll { column: N },
+}
+
+/// What a line of a basis file is.
+#[derive(Drop)]
+pub enum Reading<N> {
+    /// A comment or a blank line.
+    Skipped,
+    /// `NAME`, whatever stands behind it.
+    Named,
+    /// `ENDATA`, whatever stands behind it.
+    Ends,
+    Says(Card<N>),
+    /// None of these.
+    Wrong(BasCode),
+}

@@ -1,0 +1,280 @@
+-- The lines of a written file are its cards, and the file spells the basis that it is written from.
+use Rattle.std.proofs.Common.{◌≡◌, ◌↔◌, ℕ, ◌+◌, ◌<◌, ◌≤◌, ◌&&◌, inr, true, false, Option, Some, Ok}
+use Rattle.std.proofs.Common.{List, [], ◌∷◌, ◌++◌, length, map, All, refl, sym, ap, ◌∙◌, subst, arith}
+use Rattle.std.proofs.Common.{append_assoc}
+use Rattle.std.specs.Prelude.{codes, nat_lt, nat_le}
+use Rattle.std.specs.List.{list_all, zip}
+use Rattle.std.proofs.lemmas.List.{append-nil, map-append}
+use Rattle.std.proofs.lemmas.List.Elements.{All-nil, All-cons, All-append, All-map, All-weaker, All-tail}
+use borrow.Author.Tests.{leb-true}
+use Rattle.spec_text.specs.declared.line.Line.TheVariants.{Text}
+use Rattle.spec_text.specs.Lines.{lines_of}
+use Rattle.spec_text.specs.Words.{words_of}
+use Rattle.spec_model.specs.Model.{Model, Name, no_row, no_column}
+use Rattle.spec_model.specs.Kept.{IsModel, is_name, is_row_name, is_model_name, is_printable}
+use Rattle.spec_pivot.specs.declared.status.Status.{Status}
+use Rattle.spec_pivot.specs.declared.status.Status.TheVariants.{Basic, AtLower, AtUpper, AtZero}
+use Rattle.spec_simplex.specs.Form.{Form, form_of}
+use Rattle.spec_simplex.specs.Eliminate.{basis_at, IsBasisOf}
+use Rattle.spec_mps.specs.declared.style.Style.TheVariants.{Free}
+use Rattle.spec_mps.specs.Cards.{is_skipped, begins_with_blank}
+use Rattle.spec_mps.specs.Fields.{Fields, texts_of}
+use Rattle.spec_mps.specs.NumberWritten.{IsWord}
+use Rattle.spec_mps.specs.Written.{WrittenCard, name_card, section_card, line_text, with_fields}
+use Rattle.spec_mps.proofs.Steps.{both}
+use Rattle.spec_mps.proofs.WrittenNames.{name_word}
+use Rattle.spec_mps.proofs.WrittenWords.{AreWords, joined, words_of_joined, parts_word, parts_word_then, plain_text}
+use Rattle.spec_mps.proofs.WrittenWords.{stripped_plain, is_plain}
+use Rattle.spec_mps.proofs.WrittenSteps.{IsPlainLine, card_lines}
+use Rattle.spec_mps.proofs.WrittenShort.{IsShort, IsShortCard, plain_line}
+use Rattle.spec_mps.proofs.WrittenLines.{has_its_lines}
+use Rattle.spec_bas.specs.declared.card.Card.TheVariants.{Xu, Xl, Ul, Ll}
+use Rattle.spec_bas.specs.declared.card.Reading.TheVariants.{Named, Ends, Says}
+use Rattle.spec_bas.specs.Cards.{ExactCard, ExactReading, card_of, section_reading, text_reading, reading_of}
+use Rattle.spec_bas.specs.Fits.{HasSizeOf}
+use Rattle.spec_bas.specs.Spelled.{HasCards, SpellsBasis, readings_of, unless_skipped}
+use Rattle.spec_bas.specs.Written.{fields_on, written_card, written_cards, cards_of, bas_text, paired, pair_card}
+use Rattle.spec_bas.specs.Written.{upper_card, basic_columns, other_rows, upper_columns}
+use Rattle.spec_bas.proofs.Sizes.{sized}
+use Rattle.spec_bas.proofs.Fitting.{one_basis}
+use Rattle.spec_bas_text.proofs.Chosen.{all_zip, chosen_all}
+use Rattle.spec_bas_text.proofs.Places.{column_name, row_name}
+use Rattle.spec_bas_text.proofs.Meaning.{cards_mean}
+
+-- ---- names
+
+name_short : (name : Name) → is_name name ≡ true → IsShort name
+unfolding is_name
+name_short name h =
+    let p = both (nat_lt 0 (length name) && nat_le (length name) 64) (list_all is_printable name) h in
+    let q = both (nat_lt 0 (length name)) (nat_le (length name) 64) p.0 in
+    let l : length name ≤ 64 = leb-true (length name) 64 q.1 in
+    record { fits = omega arith; plain = plain_text name p.1 }
+
+is_row : (name : Name) → is_row_name name ≡ true → is_name name ≡ true
+unfolding is_row_name
+is_row name h = (both _ _ h).0
+
+model_name_word : (b : ℕ) (bs : Name) → is_model_name (b ∷ bs) ≡ true → IsWord (b ∷ bs)
+unfolding is_model_name
+model_name_word b bs h =
+    record { some = refl; printable = (both (nat_le (length (b ∷ bs)) 64) (list_all is_printable (b ∷ bs)) h).1 }
+
+model_name_short : (name : Name) → is_model_name name ≡ true → IsShort name
+unfolding is_model_name
+model_name_short name h =
+    let p = both (nat_le (length name) 64) (list_all is_printable name) h in
+    let l : length name ≤ 64 = leb-true (length name) 64 p.0 in
+    record { fits = omega arith; plain = plain_text name p.1 }
+
+-- the names on a card are names
+abbrev HasNames : ExactCard → Type 0
+HasNames (Xu column row) = (is_name column ≡ true) × (is_name row ≡ true)
+HasNames (Xl column row) = (is_name column ≡ true) × (is_name row ≡ true)
+HasNames (Ul column) = is_name column ≡ true
+HasNames (Ll column) = is_name column ≡ true
+
+-- ---- what lines are
+
+data_read : (line : List ℕ) (words : List (List ℕ)) (card : ExactCard) → is_skipped line ≡ false →
+    begins_with_blank line ≡ true → words_of line ≡ words → card_of words ≡ Some card →
+    reading_of (Text line) ≡ Says card
+unfolding reading_of text_reading
+data_read line words card a b c d = rw (a, b, c, d) refl
+
+head_read : (line : List ℕ) (words : List (List ℕ)) (reading : ExactReading) → is_skipped line ≡ false →
+    begins_with_blank line ≡ false → words_of line ≡ words → section_reading words ≡ reading →
+    reading_of (Text line) ≡ reading
+unfolding reading_of text_reading
+head_read line words reading a b c d = rw (a, b, c, d) refl
+
+-- fields of free form are words with a blank before each
+free_line : (line : List ℕ) (fs : Fields) → with_fields Free line fs ≡ line ++ joined (texts_of fs)
+free_line line [] = sym (append-nil line)
+free_line line (f ∷ fs) =
+    free_line ((line ++ 32 ∷ []) ++ f.text) fs ∙ append_assoc (line ++ 32 ∷ []) f.text (joined (texts_of fs))
+    ∙ append_assoc line (32 ∷ []) (f.text ++ joined (texts_of fs))
+
+short_card : (card : ExactCard) → HasNames card → IsShortCard (written_card card)
+short_card (Xu column row) h = (
+  (record { fits = omega arith; plain = refl }, (name_short column h.0, (name_short row h.1, tt))),
+  omega arith,
+)
+short_card (Xl column row) h = (
+  (record { fits = omega arith; plain = refl }, (name_short column h.0, (name_short row h.1, tt))),
+  omega arith,
+)
+short_card (Ul column) h = ((record { fits = omega arith; plain = refl }, (name_short column h, tt)), omega arith)
+short_card (Ll column) h = ((record { fits = omega arith; plain = refl }, (name_short column h, tt)), omega arith)
+
+plain_card : (card : ExactCard) → HasNames card → IsPlainLine (line_text Free (written_card card))
+plain_card card h = plain_line Free (written_card card) (short_card card h)
+
+card_words : (card : ExactCard) → HasNames card → words_of (line_text Free (written_card card)) ≡
+    texts_of (fields_on card)
+card_words card h =
+    ap words_of (free_line [] (fields_on card)) ∙ words_of_joined (texts_of (fields_on card)) (by card h)
+  where
+    by : (card : ExactCard) → HasNames card → AreWords (texts_of (fields_on card))
+    by (Xu column row) h = (record { some = refl; printable = refl }, (name_word column h.0, (name_word row h.1, tt)))
+    by (Xl column row) h = (record { some = refl; printable = refl }, (name_word column h.0, (name_word row h.1, tt)))
+    by (Ul column) h = (record { some = refl; printable = refl }, (name_word column h, tt))
+    by (Ll column) h = (record { some = refl; printable = refl }, (name_word column h, tt))
+
+card_counts : (card : ExactCard) → list_all is_plain (line_text Free (written_card card)) ≡ true →
+    is_skipped (line_text Free (written_card card)) ≡ false
+unfolding is_skipped
+card_counts (Xu column row) p = rw (stripped_plain (line_text Free (written_card (Xu column row))) p) refl
+card_counts (Xl column row) p = rw (stripped_plain (line_text Free (written_card (Xl column row))) p) refl
+card_counts (Ul column) p = rw (stripped_plain (line_text Free (written_card (Ul column))) p) refl
+card_counts (Ll column) p = rw (stripped_plain (line_text Free (written_card (Ll column))) p) refl
+
+card_begins : (card : ExactCard) → begins_with_blank (line_text Free (written_card card)) ≡ true
+card_begins (Xu column row) = refl
+card_begins (Xl column row) = refl
+card_begins (Ul column) = refl
+card_begins (Ll column) = refl
+
+card_said : (card : ExactCard) → card_of (texts_of (fields_on card)) ≡ Some card
+unfolding card_of
+card_said (Xu column row) = refl
+card_said (Xl column row) = refl
+card_said (Ul column) = refl
+card_said (Ll column) = refl
+
+card_read : (card : ExactCard) → HasNames card →
+    reading_of (Text (line_text Free (written_card card))) ≡ Says card
+card_read card h =
+    data_read (line_text Free (written_card card)) (texts_of (fields_on card)) card
+    (card_counts card (plain_card card h).plain) (card_begins card) (card_words card h) (card_said card)
+
+-- ---- the first line and the last one
+
+name_is_word : IsWord (codes "NAME")
+name_is_word = record { some = refl; printable = refl }
+
+short_name : (name : Name) → is_model_name name ≡ true → IsShortCard (name_card name)
+short_name [] h = (record { fits = omega arith; plain = refl }, tt, omega arith)
+short_name (b ∷ bs) h = (record { fits = omega arith; plain = refl }, (model_name_short (b ∷ bs) h, tt), omega arith)
+
+name_words : (b : ℕ) (bs : List ℕ) → IsWord (b ∷ bs) →
+    words_of (line_text Free (name_card (b ∷ bs))) ≡ codes "NAME" ∷ (b ∷ bs) ∷ []
+unfolding words_of
+name_words b bs h =
+    parts_word_then (codes "NAME") (b ∷ bs) name_is_word ∙ ap (λ ws. codes "NAME" ∷ ws) (parts_word (b ∷ bs) h)
+
+name_counts : (b : ℕ) (bs : List ℕ) → list_all is_plain (line_text Free (name_card (b ∷ bs))) ≡ true →
+    is_skipped (line_text Free (name_card (b ∷ bs))) ≡ false
+unfolding is_skipped
+name_counts b bs p = rw (stripped_plain (line_text Free (name_card (b ∷ bs))) p) refl
+
+section_named : (more : List (List ℕ)) → section_reading (codes "NAME" ∷ more) ≡ Named
+unfolding section_reading
+section_named more = refl
+
+name_read : (name : Name) → is_model_name name ≡ true → reading_of (Text (line_text Free (name_card name))) ≡ Named
+unfolding reading_of text_reading is_skipped words_of section_reading
+name_read [] h = refl
+name_read (b ∷ bs) h =
+    head_read (line_text Free (name_card (b ∷ bs))) (codes "NAME" ∷ (b ∷ bs) ∷ []) Named
+    (name_counts b bs (plain_line Free (name_card (b ∷ bs)) (short_name (b ∷ bs) h)).plain) refl
+    (name_words b bs (model_name_word b bs h)) (section_named ((b ∷ bs) ∷ []))
+
+end_read : reading_of (Text (codes "ENDATA")) ≡ Ends
+unfolding reading_of text_reading is_skipped words_of section_reading
+end_read = refl
+
+-- ---- all lines
+
+cards_read : (cards : List ExactCard) → All HasNames cards →
+    readings_of (card_lines Free (map written_card cards)) ≡ map Says cards
+cards_read [] h = refl
+cards_read (card ∷ cards) h =
+    ap (λ r. unless_skipped r ++ readings_of (card_lines Free (map written_card cards)))
+    (card_read card (h 0 card (omega arith)))
+    ∙ ap (λ rs. Says card ∷ rs) (cards_read cards (All-tail HasNames card cards h))
+
+module _ (m : Model) (f : Form) (size : HasSizeOf m f) (kept : IsModel m) (basis : List Status) where
+  column_is_name : (j : ℕ) → j < f.cols → is_name (column_name m j) ≡ true
+  column_is_name j l = (kept.columns j no_column (omega (arith, l, size.cols))).name
+
+  row_is_name : (i : ℕ) → i < f.rows → is_name (row_name m i) ≡ true
+  row_is_name i l = is_row (row_name m i) (kept.rows i no_row (omega (arith, l, size.rows)))
+
+  pair_names : (s : Status) (column row : Name) → is_name column ≡ true → is_name row ≡ true →
+      HasNames (paired s column row)
+  pair_names Basic column row c r = (c, r)
+  pair_names AtLower column row c r = (c, r)
+  pair_names AtUpper column row c r = (c, r)
+  pair_names AtZero column row c r = (c, r)
+
+  all_names : All HasNames (cards_of m f basis)
+  unfolding cards_of
+  all_names =
+      All-append HasNames (map (pair_card m f basis) (zip (basic_columns f basis) (other_rows f basis)))
+      (map (upper_card m) (upper_columns f basis))
+      (All-map HasNames (pair_card m f basis) (zip (basic_columns f basis) (other_rows f basis))
+      (All-weaker (λ (p : ℕ × ℕ). (p.0 < f.cols) × (p.1 < f.rows)) (λ p. HasNames (pair_card m f basis p))
+      (λ p h. pair_names (basis_at basis (f.cols + p.1)) (column_name m p.0) (row_name m p.1)
+      (column_is_name p.0 h.0) (row_is_name p.1 h.1))
+      (zip (basic_columns f basis) (other_rows f basis))
+      (all_zip (λ j. j < f.cols) (λ i. i < f.rows) (basic_columns f basis) (other_rows f basis)
+      (chosen_all _ (λ j. j < f.cols) f.cols (λ k l e. l)) (chosen_all _ (λ i. i < f.rows) f.rows (λ k l e. l)))))
+      (All-map HasNames (upper_card m) (upper_columns f basis)
+      (chosen_all _ (λ j. HasNames (upper_card m j)) f.cols (λ k l e. column_is_name k l)))
+
+  abbrev IsPlainCard : WrittenCard → Type 0
+  IsPlainCard card = IsPlainLine (line_text Free card)
+
+  all_plain : All IsPlainCard (written_cards m f basis)
+  unfolding written_cards
+  all_plain =
+      All-cons IsPlainCard (name_card m.name)
+      (map written_card (cards_of m f basis) ++ section_card (codes "ENDATA") ∷ [])
+      (plain_line Free (name_card m.name) (short_name m.name kept.name))
+      (All-append IsPlainCard (map written_card (cards_of m f basis)) (section_card (codes "ENDATA") ∷ [])
+      (All-map IsPlainCard written_card (cards_of m f basis)
+      (All-weaker HasNames (λ card. IsPlainCard (written_card card)) plain_card (cards_of m f basis) all_names))
+      (All-cons IsPlainCard (section_card (codes "ENDATA")) []
+      (record { short = omega arith; plain = refl }) (All-nil IsPlainCard)))
+
+  text_lines : lines_of (bas_text m f basis) ≡ card_lines Free (written_cards m f basis)
+  unfolding bas_text
+  text_lines = has_its_lines Free (written_cards m f basis) all_plain
+
+  lines_cut : card_lines Free (written_cards m f basis) ≡
+      card_lines Free (name_card m.name ∷ map written_card (cards_of m f basis)) ++ Text (codes "ENDATA") ∷ []
+  unfolding written_cards
+  lines_cut =
+      map-append (λ card. Text (line_text Free card)) (name_card m.name ∷ map written_card (cards_of m f basis))
+      (section_card (codes "ENDATA") ∷ [])
+
+  has_cards : HasCards (lines_of (bas_text m f basis)) (cards_of m f basis)
+  has_cards = record {
+    front = card_lines Free (name_card m.name ∷ map written_card (cards_of m f basis));
+    last = Text (codes "ENDATA");
+    more = [];
+    cut = text_lines ∙ lines_cut;
+    ends = end_read;
+    before = inr
+        (ap (λ r. unless_skipped r ++ readings_of (card_lines Free (map written_card (cards_of m f basis))))
+        (name_read m.name kept.name)
+        ∙ ap (λ rs. Named ∷ rs) (cards_read (cards_of m f basis) all_names));
+  }
+
+  pub spells : IsBasisOf f basis → SpellsBasis m f (lines_of (bas_text m f basis)) basis
+  spells fits = record {
+    cards = cards_of m f basis;
+    has = has_cards;
+    are = cards_mean m f size kept basis fits;
+  }
+
+pub written_spells : (limit : Option ℕ) (m : Model) (f : Form) (basis other : List Status) → IsModel m →
+    form_of limit m ≡ Ok f → IsBasisOf f basis →
+    (SpellsBasis m f (lines_of (bas_text m f basis)) other ↔ other ≡ basis)
+written_spells limit m f basis other kept is fits =
+    let size = sized limit m f is in
+    let w = spells m f size kept basis fits in (
+      λ v. one_basis m f size (lines_of (bas_text m f basis)) other basis v w,
+      λ e. subst (SpellsBasis m f (lines_of (bas_text m f basis))) (sym e) w,
+    )
