@@ -1,5 +1,6 @@
 -- What is due to each ask can be done, with memory enough, where models are ones that may be kept.
-use Rattle.std.proofs.Common.{◌≡◌, ℕ, false, List, [], ◌∷◌, Option, Some, None, Result, Ok, Err, refl, inl}
+use Rattle.std.proofs.Common.{◌≡◌, ℕ, false, List, [], ◌∷◌, Option, Some, None, Result, Ok, Err, refl, ap, ◌∙◌, inl}
+use Rattle.spec_pivot.specs.declared.status.Status.{Status}
 use Rattle.std.specs.Prelude.{IfSome}
 use Rattle.spec_exact.specs.Fraction.{ℚ}
 use Rattle.spec_model.specs.Model.{Model, Name}
@@ -9,6 +10,8 @@ use Rattle.spec_mps.specs.declared.style.Style.TheVariants as style
 use Rattle.spec_mps.specs.Written.{too_wide}
 use Rattle.spec_check.specs.declared.certificate.Certificate.{Certificate}
 use Rattle.spec_check.specs.declared.certificate.SettleFault.TheVariants as settle
+use Rattle.spec_check.specs.declared.certificate.Known.{Known}
+use Rattle.spec_check.specs.Certificate.{IsNarrowCertificate}
 use Rattle.spec_check.specs.Settle.{Settled, certificate_for}
 use Rattle.spec_check.specs.Text.{ExactRaw}
 use Rattle.spec_edit.specs.declared.edit.EditFault.{EditFault}
@@ -18,7 +21,11 @@ use Rattle.spec_edit.proofs.EditsKeep.{edited-kept}
 use Rattle.spec_simplex.specs.declared.ends.FormFault.{FormFault}
 use Rattle.spec_simplex.specs.Form.{Form, form_of}
 use Rattle.spec_cold.specs.Cold.{ColdEnd, cold}
+use Rattle.spec_cold.specs.declared.outcome.Cold.TheVariants.{Ended, Past, Spent}
 use Rattle.spec_warm.specs.declared.ends.Route.TheVariants as route
+use Rattle.spec_factor.specs.Over.{over_factors}
+use Rattle.spec_solve.specs.Order.{or_tableaus, cold_by, cold_over}
+use Rattle.spec_solve.proofs.Orders.{part_true}
 use Rattle.spec_reads.specs.declared.read.Put.TheVariants.{Full}
 use Rattle.spec_reads.specs.declared.read.Read.TheVariants.{Count}
 use Rattle.spec_reads.specs.Reads.{Words, ExactRead}
@@ -32,19 +39,39 @@ use Rattle.spec_server.specs.Machine.{ExactAsk, ExactReply, ExactLastAnswer, IsK
 use Rattle.spec_server.specs.Machine.{check_reply, fixed_reply, text_reply, write_reply, cert_reply, how_reply, Due}
 use Rattle.spec_server.specs.Machine.{Replies, Solves, solve_due, edit_refusal, edit_due, change_due, due}
 use Rattle.spec_server.proofs.NarrowCold.{cold_narrow}
-use Rattle.spec_server.proofs.Solves.{cold_fits, cold_solved}
+use Rattle.spec_server.proofs.NarrowOver.{over_narrow}
+use Rattle.spec_server.proofs.Solves.{cold_solved}
 use Rattle.spec_server.specs.Step.{answered, with_answer, solve_begun, begun_by, words_of_end, worked_with, Concludes}
 use Rattle.spec_server.specs.Step.{GoesOn, AloneStep}
 
--- ---- the cold solve at the limit is a solve that is allowed
+-- ---- the cold part of a solve at the limit is a solve that is allowed
 
-pub cold_is_solved : (m : Model) (budget : ℕ) → IsModel m →
-    IsSolved m budget None (record { end = cold (Some number_limit) budget m; route = route.Cold })
-cold_is_solved m budget kept =
-    cold_solved m budget
+-- its certificate has narrow numbers, whichever of both runs ended with it
+or_narrow : (known : Known ℚ) (c : Certificate (List ℚ)) (basis : Option (List Status)) (pivots : ℕ) (budget : ℕ)
+    (m : Model) (f : Form) (o : ColdEnd) →
+    form_of (Some number_limit) m ≡ Ok f → IsModel m → over_factors (Some number_limit) budget m f ≡ o →
+    or_tableaus o (cold (Some number_limit) budget m) ≡ Ended known c basis pivots → IsNarrowCertificate c
+or_narrow known c basis pivots budget m f (Ended a d b n) formed kept q e =
+    over_narrow known c basis pivots budget m f formed kept (q ∙ e)
+or_narrow known c basis pivots budget m f (Past p) formed kept q e = cold_narrow known c basis pivots budget m kept e
+or_narrow known c basis pivots budget m f Spent formed kept q e = cold_narrow known c basis pivots budget m kept e
+
+-- the end of the cold part, by the model's form
+abbrev part_end : ℕ → Model → Result Form (FormFault ℚ) → ColdEnd
+part_end budget m o = cold_by (Some number_limit) budget m o
+
+part_is : (budget : ℕ) (m : Model) (o : Result Form (FormFault ℚ)) → form_of (Some number_limit) m ≡ o →
+    cold_over (Some number_limit) budget m ≡ part_end budget m o
+unfolding cold_over
+part_is budget m o e = ap (part_end budget m) e
+
+pub part_is_solved : (m : Model) (budget : ℕ) (f : Form) → form_of (Some number_limit) m ≡ Ok f → IsModel m →
+    IsSolved m budget None (record { end = part_end budget m (Ok f); route = route.Cold })
+part_is_solved m budget f formed kept =
+    cold_solved m budget (part_end budget m (Ok f)) (part_is budget m (Ok f) formed)
     (λ known c basis pivots e. (
-      cold_fits (Some number_limit) budget m known c basis pivots e,
-      cold_narrow known c basis pivots budget m kept e,
+      (part_true (Some number_limit) budget m known c basis pivots (part_is budget m (Ok f) formed ∙ e)).1,
+      or_narrow known c basis pivots budget m f (over_factors (Some number_limit) budget m f) formed kept refl e,
     ))
 
 -- ---- with no place claimed for the look, and all of them for the put
@@ -67,21 +94,20 @@ solve_ends places end (Err why) = publication.Nothing
 
 -- ---- what is due is done
 
-abbrev cold_end : State → Model → ColdEnd
-cold_end state m = cold (Some number_limit) state.budget m
-
 abbrev due_reads : ℕ → State → Due → List ExactRead
 due_reads places state (Replies replied next) = []
-due_reads places state (Solves m) = solve_reads places (cold_end state m) (form_of (Some number_limit) m)
+due_reads places state (Solves m) =
+    solve_reads places (part_end state.budget m (form_of (Some number_limit) m)) (form_of (Some number_limit) m)
 
 abbrev due_reply : State → Due → ExactReply
 due_reply state (Replies replied next) = replied
-due_reply state (Solves m) = answered state (cold_end state m)
+due_reply state (Solves m) = answered state (part_end state.budget m (form_of (Some number_limit) m))
 
 abbrev pub due_next : ℕ → State → Due → State
 due_next places state (Replies replied next) = next
 due_next places state (Solves m) =
-    with_answer state (cold_end state m) how.Cold (solve_ends places (cold_end state m) (form_of (Some number_limit) m))
+    let r : Result Form (FormFault ℚ) = form_of (Some number_limit) m in
+    with_answer state (part_end state.budget m r) how.Cold (solve_ends places (part_end state.budget m r) r)
 
 -- a model that is held, and is to be solved, may be kept
 abbrev IsKeptDue : State → Due → Type 0
@@ -108,25 +134,25 @@ module _ (places : ℕ) (state : State) where
   solve_goes_on : (m : Model) (r : Result Form (FormFault ℚ)) → form_of (Some number_limit) m ≡ r →
       state.model ≡ Some m →
       IsModel m →
-      GoesOn places state (solve_begun state m r) (solve_reads places (cold_end state m) r)
-      (answered state (cold_end state m))
-      (with_answer state (cold_end state m) how.Cold (solve_ends places (cold_end state m) r))
+      GoesOn places state (solve_begun state m r) (solve_reads places (part_end state.budget m r) r)
+      (answered state (part_end state.budget m r))
+      (with_answer state (part_end state.budget m r) how.Cold (solve_ends places (part_end state.budget m r) r))
   solve_goes_on m (Err why) is held kept = (refl, refl, refl)
   solve_goes_on m (Ok f) is held kept = record {
     looked = Count 0 ∷ [];
     found = None;
-    worked = worked_with state None (cold_end state m) how.Cold (words_of_end f (cold_end state m));
+    worked = worked_with state None (part_end state.budget m (Ok f)) how.Cold (words_of_end f (part_end state.budget m (Ok f)));
     look = record { count = 0; seen = []; down = (refl, refl); all = refl };
     works = inl (record {
       model = m;
       form = f;
-      solved = record { end = cold_end state m; route = route.Cold };
+      solved = record { end = part_end state.budget m (Ok f); route = route.Cold };
       held = held;
       formed = is;
-      is_solved = cold_is_solved m state.budget kept;
+      is_solved = part_is_solved m state.budget f is kept;
       goes_on = refl;
     });
-    concludes = concludes (cold_end state m) (words_of_end f (cold_end state m));
+    concludes = concludes (part_end state.budget m (Ok f)) (words_of_end f (part_end state.budget m (Ok f)));
   }
 
   does : (what : Due) → IsKeptDue state what →

@@ -3,6 +3,7 @@ pub mod NarrowRuns
 pub mod NarrowSteps
 pub mod NarrowStart
 pub mod NarrowCold
+pub mod NarrowOver
 pub mod Solves
 pub mod Simply
 pub mod Dues

@@ -72,7 +72,7 @@ run_narrow (suc left) used t e h n =
 
 -- ---- both phases
 
-fixed_narrow : (n m : ℕ) (bounds : List (Option ℚ)) → All NarrowBound bounds →
+pub fixed_narrow : (n m : ℕ) (bounds : List (Option ℚ)) → All NarrowBound bounds →
     All NarrowBound (fixed_at_zero n m bounds)
 fixed_narrow n zero bounds h = h
 fixed_narrow n (suc m) bounds h =
@@ -139,7 +139,7 @@ directed_narrow : (up : Bool) (v : ℚ) → IsNarrow v → IsNarrow (directed up
 directed_narrow true v h = h
 directed_narrow false v h = neg_narrow v h
 
-moves_narrow : (t : Tableau) (j : ℕ) (up : Bool) (k m : ℕ) → AreNarrow t → IsNarrow (moves_below t j up k m)
+pub moves_narrow : (t : Tableau) (j : ℕ) (up : Bool) (k m : ℕ) → AreNarrow t → IsNarrow (moves_below t j up k m)
 moves_narrow t j up k zero n = by (nat_eq k j)
   where
     by : (c : Bool) → IsNarrow (cond c (directed up 1ℚ) 0ℚ)
@@ -153,7 +153,7 @@ moves_narrow t j up k (suc m) n = by (nat_eq (basic_at t m) k) (moves_narrow t j
         neg_narrow (directed up (entry_at t m j)) (directed_narrow up (entry_at t m j) (place_narrow t.entries n.entries m j))
     by false h = h
 
-point_narrow : (t : Tableau) → AreNarrow t → All IsNarrow (point t)
+pub point_narrow : (t : Tableau) → AreNarrow t → All IsNarrow (point t)
 point_narrow t n = All-made IsNarrow t.cols (value_at t) (λ k l. number_at t.value n.value k)
 
 multipliers_narrow : (t : Tableau) → AreNarrow t → All IsNarrow (multipliers t)
@@ -175,7 +175,7 @@ module _ (known : Known ℚ) (cert : Certificate (List ℚ)) (basis : Option (Li
   abbrev IsThisEnd : ColdEnd → Type 0
   IsThisEnd o = o ≡ outcome.Ended known cert basis pivots
 
-  by_check : (c : Certificate (List ℚ)) (b : Option (List Status)) (n : ℕ) (run : Result (Known ℚ) (CheckStop ℚ)) →
+  pub by_check : (c : Certificate (List ℚ)) (b : Option (List Status)) (n : ℕ) (run : Result (Known ℚ) (CheckStop ℚ)) →
       IsThisEnd (checked c b n run) → IsNarrowCertificate c → IsNarrowCertificate cert
   by_check c b n (Ok a) e h =
       let z : ◌≡◌ {A = ColdEnd} (outcome.Ended a c b n) (outcome.Ended known cert basis pivots) = e in

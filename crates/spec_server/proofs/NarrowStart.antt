@@ -109,7 +109,7 @@ entry_narrow (e ∷ es) i h = by (nat_eq e.0 i) (entry_narrow es i (λ k d l. h 
     by true rest = h 0 e (omega arith)
     by false rest = rest
 
-form_entry_narrow : (f : Form) → IsNarrowForm f → (i j : ℕ) → IsNarrow (form_entry f i j)
+pub form_entry_narrow : (f : Form) → IsNarrowForm f → (i j : ℕ) → IsNarrow (form_entry f i j)
 form_entry_narrow f n i j =
     entry_narrow (get_or f.entries j []) i (at (All (λ e. IsNarrow e.1)) f.entries [] n.entries (All-nil (λ (e : ℕ × ℚ). IsNarrow e.1)) j)
 
@@ -167,7 +167,7 @@ start_by_narrow upper v None s h n k =
     by (Some a) g = g
 start_by_narrow upper v (Some gap) s h n k = let e : Below gap ≡ s = cc in subst NarrowStart e k
 
-row_start_narrow : (f : Form) (i : ℕ) (s : RowStart ℚ) → row_start (Some number_limit) f i ≡ Ok s → NarrowStart s
+pub row_start_narrow : (f : Form) (i : ℕ) (s : RowStart ℚ) → row_start (Some number_limit) f i ≡ Ok s → NarrowStart s
 row_start_narrow f i s h =
     let o = then_ok (row_sum (Some number_limit) f i) _ s h in
     let p = then_ok (below_run (Some number_limit) (form_lower f (f.cols + i)) o.0) _ s o.2 in
@@ -184,7 +184,7 @@ by_column_narrow f k s l a p q r = by (nat_lt k f.cols) (nat_lt k (f.cols + f.ro
     by false true = q (k - f.cols)
     by false false = r (k - (f.cols + f.rows))
 
-one_at_narrow : (i r : ℕ) (v : ℚ) → IsNarrow v → IsNarrow (one_at i r v)
+pub one_at_narrow : (i r : ℕ) (v : ℚ) → IsNarrow v → IsNarrow (one_at i r v)
 one_at_narrow i r v h = by (nat_eq i r)
   where
     by : (t : Bool) → IsNarrow (cond t v 0ℚ)
@@ -248,7 +248,7 @@ module _ (f : Form) (starts : List (RowStart ℚ)) (n : IsNarrowForm f) (h : All
       (first_narrow k)
       (λ r. logical_narrow (start_at starts r) (form_lower f k) (form_upper f k) (at_start r) (lower_narrow k) (upper_narrow k)) (λ r. artificial_narrow (start_at starts r) (at_start r))
 
-  begun_narrow : AreNarrow (begun f starts)
+  pub begun_narrow : AreNarrow (begun f starts)
   begun_narrow = record {
     entries = All-made (All IsNarrow) f.rows (start_row f starts)
         (λ i l. All-made IsNarrow (f.cols + f.rows + f.rows) (start_entry f (start_at starts i) i) (λ k q. start_entry_narrow i k));
@@ -260,7 +260,7 @@ module _ (f : Form) (starts : List (RowStart ℚ)) (n : IsNarrowForm f) (h : All
         All-append NarrowBound f.upper (map artificial_upper starts) n.upper (All-map NarrowBound artificial_upper starts (λ k d l. artificial_bound (get_or starts k d)));
   }
 
-  first_costs_narrow : All IsNarrow (first_costs f starts)
+  pub first_costs_narrow : All IsNarrow (first_costs f starts)
   first_costs_narrow =
       All-append IsNarrow (replicate (f.cols + f.rows) 0ℚ) (map first_cost starts) (All-replicate IsNarrow (f.cols + f.rows) 0ℚ zero_narrow)
       (All-map IsNarrow first_cost starts (λ k d l. first_cost_narrow (get_or starts k d)))

@@ -59,7 +59,7 @@ moved_at_narrow t j theta i xs ys h n =
     let e : set xs (basic_at t i) o.0 ≡ ys = cc in
     subst (All IsNarrow) e (All-set IsNarrow xs (basic_at t i) o.0 (less_narrow (entry_at t i j) theta (get_or xs (basic_at t i) 0ℚ) o.0 o.1) n)
 
-moved_narrow : (t : Tableau) (j : ℕ) (theta : ℚ) (but : Option ℕ) (values : List ℚ) →
+pub moved_narrow : (t : Tableau) (j : ℕ) (theta : ℚ) (but : Option ℕ) (values : List ℚ) →
     moved_run (Some number_limit) t j theta but ≡ Ok values → All IsNarrow t.value → All IsNarrow values
 unfolding moved_run
 moved_narrow t j theta but values h n =
@@ -129,7 +129,7 @@ unfolding repriced_run
 repriced_narrow n reduced rows p j new h =
     all_given IsNarrow n _ new h (λ k x l q. less_narrow (get_or reduced j 0ℚ) (at_place rows p k) (get_or reduced k 0ℚ) x q)
 
-shifted_narrow : (values new : List ℚ) (j : ℕ) (theta : ℚ) → shifted_run (Some number_limit) values j theta ≡ Ok new →
+pub shifted_narrow : (values new : List ℚ) (j : ℕ) (theta : ℚ) → shifted_run (Some number_limit) values j theta ≡ Ok new →
     All IsNarrow values → All IsNarrow new
 unfolding shifted_run
 shifted_narrow values new j theta h n =
@@ -145,7 +145,7 @@ leave_narrow t q bounds h = by (is_artificial t q)
     by true = All-set NarrowBound bounds q (Some 0ℚ) zero_narrow h
     by false = h
 
-exchanged_narrow : (t : Tableau) (p j : ℕ) (to : Status) → AreNarrow t → AreNarrow (exchanged t p j to)
+pub exchanged_narrow : (t : Tableau) (p j : ℕ) (to : Status) → AreNarrow t → AreNarrow (exchanged t p j to)
 exchanged_narrow t p j to n =
     let q : ℕ = basic_at t p in
     record {

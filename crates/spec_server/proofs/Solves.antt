@@ -1,10 +1,9 @@
 -- What a solve ends with is one of the ends that a solve may have, where its certificate is one for the model with
 -- narrow numbers.
 use Rattle.std.proofs.Common.{◌≡◌, ℕ, ◌<◌, Bool, true, false, leb, leb-true, List, Option, Some, None, IfSome, Ok, Err}
-use Rattle.std.proofs.Common.{refl, sym, ◌∙◌, subst, ◌⊎◌, inl, inr}
+use Rattle.std.proofs.Common.{refl, sym, ◌∙◌, subst}
 use Rattle.std.proofs.lemmas.Bool.{leb-false}
 use Rattle.spec_exact.specs.Fraction.{ℚ}
-use Rattle.spec_exact.specs.declared.past.Past.{Past as Refused}
 use Rattle.spec_model.specs.Model.{Model}
 use Rattle.spec_check.specs.declared.certificate.Certificate.{Certificate}
 use Rattle.spec_check.specs.declared.certificate.Certificate.TheVariants as certificate
@@ -19,14 +18,16 @@ use Rattle.spec_simplex.specs.Form.{Form, form_of}
 use Rattle.spec_simplex.specs.Eliminate.{IsBasisOf}
 use Rattle.spec_cold.specs.declared.outcome.Cold.TheVariants.{Ended, Past, Spent}
 use Rattle.spec_cold.specs.Cold.{ColdEnd, checked, after_form, cold}
-use Rattle.spec_cold.proofs.Solved.{by_end, ended_is_true, enough}
-use Rattle.spec_cold.proofs.LimitPhases.{cold_same}
+use Rattle.spec_cold.proofs.Solved.{by_end, enough}
 use Rattle.spec_warm.specs.declared.ends.Route.TheVariants as route
 use Rattle.spec_warm.specs.declared.ends.Warm.TheVariants as warm
 use Rattle.spec_warm.specs.Warm.{WarmResult, warm as warm_start}
-use Rattle.spec_warm.specs.Solve.{SolveEnd, HasBasis, solved_by, solve}
+use Rattle.spec_warm.specs.Solve.{SolveEnd, HasBasis, solved_by}
 use Rattle.spec_warm.proofs.TrueEnds as warm_ends
-use Rattle.spec_server.specs.Answers.{number_limit, enough_pivots, MayAnswer, ColdFits, WarmFits, IsSolved}
+use Rattle.spec_factor.specs.Over.{over_factors}
+use Rattle.spec_solve.specs.Order.{GivesUp, cold_by, cold_over, solve_over}
+use Rattle.spec_solve.proofs.Orders.{part_true, part_ends, tableaus_give_up, factors_give_up}
+use Rattle.spec_server.specs.Answers.{number_limit, enough_pivots, MayAnswer, ColdFits, WarmFits, IsRefused, IsSolved}
 
 -- ---- the cold solve
 
@@ -48,38 +49,39 @@ cold_fits limit budget m known c basis pivots =
     (λ p e. let z : ◌≡◌ {A = ColdEnd} (Past p) (Ended known c basis pivots) = e in cc)
     (λ f p q e. let z : ◌≡◌ {A = ColdEnd} Spent (Ended known c basis pivots) = e in cc)
 
-past_is_no_end : (p : Refused ℚ) (known : Known ℚ) (c : Certificate (List ℚ)) (basis : Option (List Status))
-    (pivots : ℕ) →
-    ◌≡◌ {A = ColdEnd} (Past p) (Ended known c basis pivots) → ⊥
-past_is_no_end p known c basis pivots e = cc
-
--- a solve that ends at the limit does so without it
-without_limit : (budget : ℕ) (m : Model) (known : Known ℚ) (c : Certificate (List ℚ)) (basis : Option (List Status))
-    (pivots : ℕ) →
-    (cold (Some number_limit) budget m ≡ cold None budget m) ⊎
-    ((p : Refused ℚ) × (cold (Some number_limit) budget m ≡ Past p)) →
-    cold (Some number_limit) budget m ≡ Ended known c basis pivots → cold None budget m ≡ Ended known c basis pivots
-without_limit budget m known c basis pivots (inl h) e = sym h ∙ e
-without_limit budget m known c basis pivots (inr h) e = absurd (past_is_no_end h.0 known c basis pivots (sym h.1 ∙ e))
-
 -- where a solve ends so, its certificate is one for the model, of narrow numbers
 abbrev pub HasFitEnd : Model → ColdEnd → Type 0
 HasFitEnd m end = (known : Known ℚ) (c : Certificate (List ℚ)) (basis : Option (List Status)) (pivots : ℕ) →
     end ≡ Ended known c basis pivots → IsFor m c × IsNarrowCertificate c
 
 module _ (m : Model) (budget : ℕ) where
-  cold_may : (end : ColdEnd) → cold (Some number_limit) budget m ≡ end → HasFitEnd m end → MayAnswer m budget end
+  -- a solve over whole tableaus gives up as the cold part does
+  given_up : (end : ColdEnd) → cold_over (Some number_limit) budget m ≡ end → GivesUp end →
+      cold (Some number_limit) budget m ≡ end
+  given_up end e h = sym (tableaus_give_up (Some number_limit) budget m (subst GivesUp (sym e) h)) ∙ e
+
+  cold_may : (end : ColdEnd) → cold_over (Some number_limit) budget m ≡ end → HasFitEnd m end → MayAnswer m budget end
   cold_may (Ended known c basis pivots) e fit =
       let f = fit known c basis pivots refl in
-      (f.0, f.1, (ended_is_true (Some number_limit) budget m known c basis pivots e).1)
-  cold_may (Past p) e fit = e
-  cold_may Spent e fit = (e, spent_is_below m budget e)
+      (f.0, f.1, (part_true (Some number_limit) budget m known c basis pivots e).2)
+  cold_may (Past p) e fit = given_up (Past p) e tt
+  cold_may Spent e fit = let tableaus = given_up Spent e tt in (tableaus, spent_is_below m budget tableaus)
 
-  pub cold_how : (end : ColdEnd) → cold (Some number_limit) budget m ≡ end → ColdFits m budget end
-  cold_how (Ended known c basis pivots) e =
-      without_limit budget m known c basis pivots (cold_same (Some number_limit) budget m) e
+  cold_how : (end : ColdEnd) → cold_over (Some number_limit) budget m ≡ end → ColdFits m budget end
+  cold_how (Ended known c basis pivots) e = part_ends (Some number_limit) budget m known c basis pivots e
   cold_how (Past p) e = tt
   cold_how Spent e = tt
+
+  refused_gives_up : (end : ColdEnd) → IsRefused end → GivesUp end
+  refused_gives_up (Ended known c basis pivots) h = h
+  refused_gives_up (Past p) h = tt
+  refused_gives_up Spent h = tt
+
+  cold_by_factors : (f : Form) → form_of (Some number_limit) m ≡ Ok f →
+      IsRefused (cold_over (Some number_limit) budget m) → GivesUp (over_factors (Some number_limit) budget m f)
+  cold_by_factors f e h =
+      factors_give_up (Some number_limit) budget m f e
+      (refused_gives_up (cold_over (Some number_limit) budget m) h)
 
   -- ---- a model without a form
 
@@ -106,11 +108,17 @@ module _ (m : Model) (budget : ℕ) where
       fault_narrow why known c basis pivots
       (subst (λ r. after_form (Some number_limit) budget m r ≡ Ended known c basis pivots) no_form e)
 
+  formless_same : (why : FormFault ℚ) → form_of (Some number_limit) m ≡ Err why →
+      cold_over (Some number_limit) budget m ≡ cold (Some number_limit) budget m
+  unfolding cold_over
+  formless_same why no_form =
+      subst (λ o. cold_by (Some number_limit) budget m o ≡ cold (Some number_limit) budget m) (sym no_form) refl
+
   -- the cold solve at the limit ends with what may be answered
   pub formless_may : (why : FormFault ℚ) → form_of (Some number_limit) m ≡ Err why →
       MayAnswer m budget (cold (Some number_limit) budget m)
   formless_may why no_form =
-      cold_may (cold (Some number_limit) budget m) refl
+      cold_may (cold (Some number_limit) budget m) (formless_same why no_form)
       (λ known c basis pivots e. (
         cold_fits (Some number_limit) budget m known c basis pivots e,
         formless_narrow why no_form known c basis pivots e,
@@ -118,12 +126,13 @@ module _ (m : Model) (budget : ℕ) where
 
   -- ---- with nothing handed
 
-  pub cold_solved : HasFitEnd m (cold (Some number_limit) budget m) →
-      IsSolved m budget None (record { end = cold (Some number_limit) budget m; route = route.Cold })
-  cold_solved fit = record {
-    may_answer = cold_may (cold (Some number_limit) budget m) refl fit;
-    how_fits = (refl, cold_how (cold (Some number_limit) budget m) refl);
-    without_form = λ why no_form. refl;
+  pub cold_solved : (end : ColdEnd) → cold_over (Some number_limit) budget m ≡ end → HasFitEnd m end →
+      IsSolved m budget None (record { end = end; route = route.Cold })
+  cold_solved end e fit = record {
+    may_answer = cold_may end e fit;
+    how_fits = (refl, cold_how end e);
+    without_form = λ why no_form. sym e ∙ formless_same why no_form;
+    by_factors = λ f formed h. cold_by_factors f formed (subst IsRefused (sym e) h);
   }
 
   -- ---- the solve from a basis of the form
@@ -138,36 +147,44 @@ module _ (m : Model) (budget : ℕ) where
     formed why e = let both = sym has.1 ∙ e in cc
 
     warm_may : (result : WarmResult) → warm_start (Some number_limit) budget m basis ≡ result →
-        HasFitEnd m (solved_by (cold (Some number_limit) budget m) result).end →
-        MayAnswer m budget (solved_by (cold (Some number_limit) budget m) result).end
+        HasFitEnd m (solved_by (cold_over (Some number_limit) budget m) result).end →
+        MayAnswer m budget (solved_by (cold_over (Some number_limit) budget m) result).end
     warm_may (warm.Ended known c left pivots) e fit =
         let f = fit known c left pivots refl in
         (f.0, f.1, (warm_ends.ended_is_true (Some number_limit) budget m basis known c left pivots form_is_based e).1)
-    warm_may (warm.Stopped stop) e fit = cold_may (cold (Some number_limit) budget m) refl fit
+    warm_may (warm.Stopped stop) e fit = cold_may (cold_over (Some number_limit) budget m) refl fit
 
-    warm_how : (result : WarmResult) → WarmFits m budget result (solved_by (cold (Some number_limit) budget m) result)
+    warm_how : (result : WarmResult) →
+        WarmFits m budget result (solved_by (cold_over (Some number_limit) budget m) result)
     warm_how (warm.Ended known c left pivots) = refl
-    warm_how (warm.Stopped stop) = (refl, cold_how (cold (Some number_limit) budget m) refl)
+    warm_how (warm.Stopped stop) = (refl, cold_how (cold_over (Some number_limit) budget m) refl)
+
+    warm_by_factors : (result : WarmResult) (f : Form) → form_of (Some number_limit) m ≡ Ok f →
+        IsRefused (solved_by (cold_over (Some number_limit) budget m) result).end →
+        GivesUp (over_factors (Some number_limit) budget m f)
+    warm_by_factors (warm.Ended known c left pivots) f e h = absurd h
+    warm_by_factors (warm.Stopped stop) f e h = cold_by_factors f e h
 
     abbrev warm_solve : SolveEnd
-    warm_solve = solved_by (cold (Some number_limit) budget m) (warm_start (Some number_limit) budget m basis)
+    warm_solve = solved_by (cold_over (Some number_limit) budget m) (warm_start (Some number_limit) budget m basis)
 
     warm_solved : HasFitEnd m warm_solve.end → IsSolved m budget (Some basis) warm_solve
     warm_solved fit = record {
       may_answer = warm_may (warm_start (Some number_limit) budget m basis) refl fit;
       how_fits = warm_how (warm_start (Some number_limit) budget m basis);
       without_form = λ why no_form. absurd (formed why no_form);
+      by_factors = warm_by_factors (warm_start (Some number_limit) budget m basis);
     }
 
   solve_so : (handed : Option (List Status)) → IfSome handed (HasBasis (Some number_limit) m) →
-      HasFitEnd m (solve (Some number_limit) budget m handed).end →
-      IsSolved m budget handed (solve (Some number_limit) budget m handed)
-  unfolding solve
-  solve_so None h fit = cold_solved fit
+      HasFitEnd m (solve_over (Some number_limit) budget m handed).end →
+      IsSolved m budget handed (solve_over (Some number_limit) budget m handed)
+  unfolding solve_over
+  solve_so None h fit = cold_solved (cold_over (Some number_limit) budget m) refl fit
   solve_so (Some basis) h fit = warm_solved basis h fit
 
   -- the solve of the model is one that is allowed
   pub is_solved : (handed : Option (List Status)) (s : SolveEnd) → IfSome handed (HasBasis (Some number_limit) m) →
-      s ≡ solve (Some number_limit) budget m handed → HasFitEnd m s.end → IsSolved m budget handed s
+      s ≡ solve_over (Some number_limit) budget m handed → HasFitEnd m s.end → IsSolved m budget handed s
   is_solved handed s h e fit =
       subst (IsSolved m budget handed) (sym e) (solve_so handed h (subst (λ (s : SolveEnd). HasFitEnd m s.end) e fit))

@@ -6,13 +6,15 @@ use Rattle.spec_check.specs.Certificate.{IsFor, IsNarrowCertificate}
 use Rattle.spec_check.specs.Run.{check_run}
 use Rattle.spec_pivot.specs.declared.status.Status.{Status}
 use Rattle.spec_simplex.specs.declared.ends.FormFault.{FormFault}
-use Rattle.spec_simplex.specs.Form.{form_of}
+use Rattle.spec_simplex.specs.Form.{Form, form_of}
 use Rattle.spec_cold.specs.declared.outcome.Cold.TheVariants.{Ended, Past, Spent}
 use Rattle.spec_cold.specs.Cold.{ColdEnd, cold}
 use Rattle.spec_warm.specs.declared.ends.Route.TheVariants as route
 use Rattle.spec_warm.specs.declared.ends.Warm.TheVariants as warm
 use Rattle.spec_warm.specs.Warm.{WarmResult, warm as warm_start}
 use Rattle.spec_warm.specs.Solve.{SolveEnd, fall_of}
+use Rattle.spec_factor.specs.Over.{over_factors}
+use Rattle.spec_solve.specs.Order.{GivesUp}
 
 -- the limit of the numbers that the server holds, 2 ^ 127 - 1
 abbrev pub number_limit : ℕ
@@ -50,11 +52,20 @@ abbrev pub HowFits : Model → ℕ → Option (List Status) → SolveEnd → Typ
 HowFits m budget None solved = (solved.route ≡ route.Cold) × ColdFits m budget solved.end
 HowFits m budget (Some basis) solved = WarmFits m budget (warm_start (Some number_limit) budget m basis) solved
 
+-- nothing is known: an operation is past the limit, or the budget is spent
+abbrev pub IsRefused : ColdEnd → Type 0
+IsRefused (Ended known certificate basis pivots) = ⊥
+IsRefused (Past p) = Unit {0}
+IsRefused Spent = Unit {0}
+
 -- What a solve of a model may end with, within a budget and with this basis handed to it, if one is. Where the model
 -- has no form at the limit, because bounds clash or an operation is refused, it is what the cold solve at the limit
--- ends with: nothing else is tried.
+-- ends with: nothing else is tried. Where the model has a form, the run over factors is always tried: nothing is known
+-- only where that run gives up.
 pub record IsSolved (m : Model) (budget : ℕ) (handed : Option (List Status)) (solved : SolveEnd) : Type 0 where
   pub may_answer : MayAnswer m budget solved.end
   pub how_fits : HowFits m budget handed solved
   pub without_form : (fault : FormFault ℚ) → form_of (Some number_limit) m ≡ Err fault →
       solved.end ≡ cold (Some number_limit) budget m
+  pub by_factors : (f : Form) → form_of (Some number_limit) m ≡ Ok f → IsRefused solved.end →
+      GivesUp (over_factors (Some number_limit) budget m f)

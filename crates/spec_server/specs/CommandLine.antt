@@ -8,9 +8,9 @@ use Rattle.spec_mps.specs.declared.style.Style.{Style}
 use Rattle.spec_mps.specs.declared.style.Style.TheVariants.{Free, Fixed}
 use Rattle.spec_mps.specs.Shapes.{look_up}
 use Rattle.spec_server.specs.declared.command_line.CommandLine.{CommandLine}
-use Rattle.spec_server.specs.declared.command_line.CommandLine.TheVariants.{Run, Read}
+use Rattle.spec_server.specs.declared.command_line.CommandLine.TheVariants.{Run, Read, Generate}
 use Rattle.spec_server.specs.declared.command_line.TextCommand.{TextCommand}
-use Rattle.spec_server.specs.declared.command_line.TextCommand.TheVariants.{Solve, Check}
+use Rattle.spec_server.specs.declared.command_line.TextCommand.TheVariants.{Solve, Check, Basis}
 use Rattle.spec_server.specs.Command.{number_to}
 
 abbrev pub Word : Type 0
@@ -71,6 +71,18 @@ abbrev pub form_given : Option Word → Option Style
 form_given None = Some Free
 form_given (Some word) = form_of word
 
+-- a script is run by so many workers, unless another number is given
+abbrev pub usual_workers : ℕ
+usual_workers = 1
+
+-- how many workers a word gives, from 1 to 16, in at most 2 digits
+unfoldable pub workers_of : Word → Option ℕ
+workers_of word = number_to 16 2 word
+
+abbrev pub workers_given : Option Word → Option ℕ
+workers_given None = Some usual_workers
+workers_given (Some word) = workers_of word
+
 -- so many places are shared by the sessions of a script, unless another number is given
 abbrev pub usual_places : ℕ
 usual_places = 256
@@ -83,17 +95,32 @@ abbrev pub places_given : Option Word → Option ℕ
 places_given None = Some usual_places
 places_given (Some word) = places_of word
 
+-- the number that a model is made from, up to 1,000,000; 0 is one too
+unfoldable pub seed_of : Word → Option ℕ
+seed_of word = if same word (codes "0") then Some 0 else number_to 1000000 7 word
+
+-- how many rows and columns it has, from 1 to the most that a model may have
+unfoldable pub row_count_of : Word → Option ℕ
+row_count_of word = number_to 256 3 word
+
+unfoldable pub column_count_of : Word → Option ℕ
+column_count_of word = number_to 512 3 word
+
 -- a command: how many plain words it has, the names of its options, and what it asks with these
 pub record Row : Type 0 where
   pub plain : ℕ
   pub names : OptionNames
   pub asks : Given → Option CommandLine
 
+abbrev pub run_by : Option ℕ → Option ℕ → Option CommandLine
+run_by workers places = option_and_then (λ k. option_map (Run k) places) workers
+
 abbrev pub run_row : Row
 run_row = record {
   plain = 0;
-  names = codes "--places" ∷ [];
-  asks = λ given. option_map Run (places_given (look_up (codes "--places") given.options));
+  names = codes "--workers" ∷ codes "--places" ∷ [];
+  asks = λ given. run_by (workers_given (look_up (codes "--workers") given.options))
+      (places_given (look_up (codes "--places") given.options));
 }
 
 abbrev pub text_row : TextCommand → Row
@@ -103,8 +130,26 @@ text_row command = record {
   asks = λ given. option_map (Read command) (form_given (look_up (codes "--form") given.options));
 }
 
+abbrev pub generate_by : Option ℕ → Option ℕ → Option ℕ → Option CommandLine
+generate_by seed rows columns =
+    option_and_then (λ s. option_and_then (λ r. option_map (Generate s r) columns) rows) seed
+
+-- a seed, and how many rows and columns
+abbrev pub generate_with : List Word → Option CommandLine
+generate_with (seed ∷ rows ∷ columns ∷ []) = generate_by (seed_of seed) (row_count_of rows) (column_count_of columns)
+generate_with words = None
+
+abbrev pub generate_row : Row
+generate_row = record { plain = 3; names = []; asks = λ given. generate_with given.plain }
+
 abbrev pub commands : List (Word × Row)
-commands = (codes "run", run_row) ∷ (codes "solve", text_row Solve) ∷ (codes "check", text_row Check) ∷ []
+commands =
+    (codes "run", run_row)
+    ∷ (codes "solve", text_row Solve)
+    ∷ (codes "check", text_row Check)
+    ∷ (codes "basis", text_row Basis)
+    ∷ (codes "gen", generate_row)
+    ∷ []
 
 -- what the words after a command's word ask
 abbrev pub asked_by : List Word → Row → Option CommandLine

@@ -12,6 +12,8 @@ pub mod Script
 pub mod Said
 pub mod CheckOut
 pub mod SolveOut
+pub mod BasisOut
 pub mod TextOut
+pub mod GenOut
 pub mod CommandLine
 pub mod Halves

@@ -8,13 +8,17 @@ pub enum TextCommand {
     Solve,
     /// To check the certificate after the text.
     Check,
+    /// To solve the model from the basis of the file after the text.
+    Basis,
 }
 
 /// What the words of a command line ask.
 #[derive(Clone, Copy, Debug, PartialEq, Eq)]
 pub enum CommandLine {
-    /// To run the script that the source gives, whose sessions share so many places.
-    Run { places: u32 },
+    /// To run the script that the source gives with so many workers, and so many places that its sessions share.
+    Run { workers: u32, places: u32 },
     /// To read the text in this form that the source gives.
     Read(TextCommand, Style),
+    /// To make the model of this seed with so many rows and columns, and to solve it.
+    Generate { seed: u32, rows: u32, columns: u32 },
 }

@@ -25,7 +25,10 @@
 //! | `IsSaid` | what a step from line to line says of an input | specs/Said |
 //! | `said`, `check_line` | what the command `check` says of its input, and the line that it writes | specs/CheckOut |
 //! | `text_said`, `SolveOut` | what the command `solve` reads, and what it writes of it | specs/SolveOut |
+//! | `basis_said`, `BasisOut` | what the command `basis` reads, and what it writes of it | specs/BasisOut |
+//! | `BasisFault` | why it has no model to solve | src/basis |
 //! | `said_of`, `MayWrite`, `code_of` | the same for each command that reads a text, with its status | specs/TextOut |
+//! | `GenOut` | what the command `gen` writes of the model that it makes | specs/GenOut |
 //! | `script_out` | what is written of the replies | specs/Output |
 #![tactic(auto)]
 
@@ -66,6 +69,7 @@ ghost use Rattle.spec_server.specs.CheckOut.{said};
 mod addressing;
 mod answer;
 mod asks;
+mod basis;
 mod command;
 mod command_line;
 mod halves;
@@ -73,6 +77,7 @@ mod halves;
 pub use addressing::{Addressed, Addressing};
 pub use answer::{Answer, How, LastAnswer, Publication};
 pub use asks::{Ask, Asked, Refusal, Reply};
+pub use basis::BasisFault;
 pub use command::{Command, CommandWord, EditWord, LineFault, Plain};
 pub use command_line::{CommandLine, TextCommand};
 pub use halves::{Next, Started};
