@@ -20,6 +20,8 @@ pub mod InOrder
 pub mod Stays
 pub mod AllDone
 pub mod ManyFromOne
+pub mod Interleaving
+pub mod WorkersAgree
 pub mod FormWords
 pub mod FormedWords
 pub mod FormedWorlds

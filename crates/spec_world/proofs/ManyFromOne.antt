@@ -9,10 +9,10 @@ use Rattle.spec_reads.specs.declared.place.Place.TheVariants as place
 use Rattle.spec_reads.specs.declared.read.Read.TheVariants.{Count, NotDone, Seen, Claim, Lost, Done}
 use Rattle.spec_reads.specs.Reads.{ExactRead}
 use Rattle.spec_reads.specs.Places.{ExactPlace, place_at, Answers, Logged, Plays, logged}
+use Rattle.spec_reads.specs.Orders.{InPairs, AreInOrder, published_by, published_in, IsBacked, AreBacked}
 use Rattle.spec_server.specs.Machine.{opening}
 use Rattle.spec_server.specs.Exchanges.{Exchange, log_of, RunFits}
-use Rattle.spec_world.specs.Workers.{InPairs, AreInOrder, reads_in_all, reads_of_worker, published_by, published_in}
-use Rattle.spec_world.specs.Workers.{IsBacked, ManyFits}
+use Rattle.spec_world.specs.Workers.{reads_in_all, reads_of_worker, ManyFits, RunsBy}
 use Rattle.spec_world.proofs.Places.{place_some, place_below, answers_grow, answers_before}
 use Rattle.spec_world.proofs.InOrder.{served, served_in_order, published, published_once}
 use Rattle.spec_world.proofs.AllDone.{NoneClaimed, all_done}
@@ -65,7 +65,7 @@ published_log : (log : List Logged) → published log ≡ flat_map published_by 
 published_log [] = refl
 published_log (x ∷ log) = ap (λ ks. published_by x.read ++ ks) (published_log log)
 
-published_all : (xs : List Exchange) → published (log_of xs) ≡ published_in xs
+published_all : (xs : List Exchange) → published (log_of xs) ≡ published_in (reads_in_all xs)
 published_all xs = published_log (log_of xs) ∙ ap (flat_map published_by) (log_reads xs)
 
 -- ---- what is read is backed
@@ -178,17 +178,22 @@ one_is_many places workers xs f =
       alone = f.alone;
       ordered = λ worker l. subst (InPairs AreInOrder) (served_reads workers worker xs)
           (served_in_order places [] f.last (log_of xs) (λ session. nat_eq (session % workers) worker) f.played);
-      once = subst (InPairs (λ (j k : ℕ). j ≡ k → ⊥)) (published_all xs)
-          (published_once places [] f.last (log_of xs) f.played);
-      claimed = length f.last;
-      published = λ k. (
-        λ c. All-contains (λ (j : ℕ). j < length f.last) (published (log_of xs)) k
-            (All-from_recursion (λ (j : ℕ). j < length f.last) (published (log_of xs))
-            (published_below places [] f.last (log_of xs) f.played))
-            (subst (λ ks. Contains ks k) (sym (published_all xs)) c),
-        λ l. subst (λ ks. Contains ks k) (published_all xs)
-            (each_published places f.last (log_of xs) k f.played none l),
-      );
-      backed = subst (λ rs. AllByRecursion (IsBacked rs (length f.last)) rs) (log_reads xs)
-          (backed places [] f.last (log_of xs) (reads_in (log_of xs)) (λ r h. h) (λ k words e. cc) f.played);
+      backed = record {
+        once = subst (InPairs (λ (j k : ℕ). j ≡ k → ⊥)) (published_all xs)
+            (published_once places [] f.last (log_of xs) f.played);
+        claimed = length f.last;
+        published = λ k. (
+          λ c. All-contains (λ (j : ℕ). j < length f.last) (published (log_of xs)) k
+              (All-from_recursion (λ (j : ℕ). j < length f.last) (published (log_of xs))
+              (published_below places [] f.last (log_of xs) f.played))
+              (subst (λ ks. Contains ks k) (sym (published_all xs)) c),
+          λ l. subst (λ ks. Contains ks k) (published_all xs)
+              (each_published places f.last (log_of xs) k f.played none l),
+        );
+        backed = subst (λ rs. AllByRecursion (IsBacked rs (length f.last)) rs) (log_reads xs)
+            (backed places [] f.last (log_of xs) (reads_in (log_of xs)) (λ r h. h) (λ k words e. cc) f.played);
+      };
     }
+
+pub one_runs_by : (places : ℕ) (workers : ℕ) (xs : List Exchange) → RunFits places xs → RunsBy workers places xs
+one_runs_by places workers xs f = record { many = one_is_many places workers xs f; one = λ alone. f }

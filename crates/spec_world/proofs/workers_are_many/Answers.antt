@@ -1,0 +1,10 @@
+use Rattle.std.proofs.Common.{ℕ, ◌<◌, ◌%◌, arith}
+use Rattle.spec_world.proofs.Interleaving.{interleaved, many_fit}
+use Rattle.spec_world.proofs.workers_are_many.Goals as goal
+
+pub returns : goal.returns
+returns c = record {
+  interleave = interleaved;
+  fits = λ places workers xs some served backed.
+      many_fit workers places xs (λ session. omega arith) served backed;
+}
