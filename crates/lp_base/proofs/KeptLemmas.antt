@@ -1,5 +1,6 @@
 -- What is kept of a line, run by run.
-use Rattle.std.proofs.Common.{◌≡◌, ℕ, ◌+◌, ◌-◌, ◌<◌, ◌≤◌, List, [], ◌∷◌, ◌++◌, length, take, min, get_or, slice_index, Some, arith, refl, ap, sym, ◌∙◌, ⊎_elim, length-append, append-nil}
+use Rattle.std.proofs.Common.{◌≡◌, ℕ, ◌+◌, ◌-◌, ◌<◌, ◌≤◌, List, [], ◌∷◌, ◌++◌, length, take, min, get_or}
+use Rattle.std.proofs.Common.{slice_index, Some, arith, refl, ap, sym, ◌∙◌, ⊎_elim, length-append, append-nil}
 use Rattle.std.proofs.lemmas.List.{take_all, take_min, take-append-le, get_or-append_right}
 use Rattle.std.proofs.Math.Seq.{take-append-add}
 use Rattle.std.proofs.lemmas.Bool.{cases_lt}
@@ -12,7 +13,8 @@ use Rattle.std.specs.Str.Lines.{strip_carriage_return}
 pub take-append : (k : ℕ) (raw run : List ℕ) → take k (raw ++ run) ≡ take k raw ++ take (k - length raw) run
 take-append k raw run = ⊎_elim
     (λ lt. let none : 0 ≡ k - length raw = omega arith in
-    take-append-le k raw run (omega arith) ∙ sym (append-nil (take k raw)) ∙ ap (λ (n : ℕ). take k raw ++ take n run) none)
+    take-append-le k raw run (omega arith) ∙ sym (append-nil (take k raw))
+    ∙ ap (λ (n : ℕ). take k raw ++ take n run) none)
     (λ past. let all : k ≡ length raw + (k - length raw) = omega arith in
     ap (λ (n : ℕ). take n (raw ++ run)) all
     ∙ take-append-add raw run (k - length raw)
@@ -34,7 +36,8 @@ at_last : (raw run : List ℕ) → 0 < length run →
     get_or (raw ++ run) (length (raw ++ run) - 1) 0 ≡ get_or run (length run - 1) 0
 at_last raw run some =
     let place : length (raw ++ run) - 1 - length raw ≡ length run - 1 = omega (arith, length-append raw run) in
-    get_or-append_right raw run (length raw) (length (raw ++ run) - 1) 0 refl (omega (arith, length-append raw run)) ∙ ap (λ n. get_or run n 0) place
+    get_or-append_right raw run (length raw) (length (raw ++ run) - 1) 0 refl (omega (arith, length-append raw run))
+    ∙ ap (λ n. get_or run n 0) place
 
 pub last_of_run : (raw run : List ℕ) (last : ℕ) → Some last ≡ slice_get run (length run - 1) →
     last ≡ slice_index (raw ++ run) (length (raw ++ run) - 1)

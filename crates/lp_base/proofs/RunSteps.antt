@@ -1,5 +1,7 @@
 -- A run of bytes with no line feed, at the start of what is ahead.
-use Rattle.std.proofs.Common.{◌≡◌, ◌≢◌, ℕ, ◌+◌, ◌-◌, ◌^◌, ◌<◌, ◌≤◌, List, ◌∷◌, ◌++◌, All, length, take, drop, min, get_or, slice_index, true, false, arith, ap, ap₂, sym, subst, ◌∙◌, length-take, length-drop, get_or-take}
+use Rattle.std.proofs.Common.{◌≡◌, ◌≢◌, ℕ, ◌+◌, ◌-◌, ◌^◌, ◌<◌, ◌≤◌, List, ◌∷◌, ◌++◌, All}
+use Rattle.std.proofs.Common.{length, take, drop, min, get_or, slice_index, true, false, arith}
+use Rattle.std.proofs.Common.{ap, ap₂, sym, subst, ◌∙◌, length-take, length-drop, get_or-take}
 use Rattle.std.proofs.lemmas.List.{take-append-drop, take_min, drop_more, take-take}
 use Rattle.lp_base.specs.LinesState.{LinesState}
 use Rattle.lp_base.specs.NextLine.{IsKept, TakesRun}
@@ -22,13 +24,19 @@ cut_found room at all within is =
 cut_plain : (room : ℕ) (all : List ℕ) → all ≡ take room all ++ drop (length (take room all)) all
 cut_plain room all =
     sym (take-append-drop (length (take room all)) all)
-    ∙ ap (λ (xs : List ℕ). xs ++ drop (length (take room all)) all) (ap (λ (n : ℕ). take n all) (length-take room all) ∙ take_min room all)
+    ∙ ap (λ (xs : List ℕ). xs ++ drop (length (take room all)) all)
+    (ap (λ (n : ℕ). take n all) (length-take room all) ∙ take_min room all)
 
 -- what was passed over is taken from what is ahead
 passed_count : (old new : LinesState) (count : ℕ) → new ≡ passed old count → count ≤ length old.ahead →
     new.given + length new.ahead ≡ old.given + length old.ahead
 passed_count old new count moved within =
-    omega (arith, ap (λ (r : LinesState). r.given) moved, ap (λ (r : LinesState). length r.ahead) moved, length-drop count old.ahead)
+    omega (
+      arith,
+      ap (λ (r : LinesState). r.given) moved,
+      ap (λ (r : LinesState). length r.ahead) moved,
+      length-drop count old.ahead,
+    )
 
 -- a line feed was found after the run
 pub run_found : (old new : LinesState) (before after : Part) (ahead : List ℕ) (at : ℕ) →
@@ -36,10 +44,13 @@ pub run_found : (old new : LinesState) (before after : Part) (ahead : List ℕ) 
     All (λ b. b ≢ 10) (take at ahead) → new ≡ passed old (at + 1) →
     ((raw : List ℕ) → IsKept before raw → IsKept after (raw ++ take at ahead)) → TakesRun old new before after true
 run_found old new before after ahead at is within found plain moved kept =
-    let len : length ahead ≡ min (2 ^ 26 - old.given) (length old.ahead) = ap length is ∙ length-take (2 ^ 26 - old.given) old.ahead in
+    let len : length ahead ≡ min (2 ^ 26 - old.given) (length old.ahead) =
+    ap length is ∙ length-take (2 ^ 26 - old.given) old.ahead in
     let given : new.given ≡ old.given + (at + 1) = ap (λ (r : LinesState). r.given) moved in
-    let cut : old.ahead ≡ take at ahead ++ 10 ∷ drop (at + 1) old.ahead = subst (λ (xs : List ℕ). old.ahead ≡ take at xs ++ 10 ∷ drop (at + 1) old.ahead) (sym is)
-    (cut_found (2 ^ 26 - old.given) at old.ahead (subst (λ (xs : List ℕ). at < length xs) is within) (ap (λ (xs : List ℕ). slice_index xs at) (sym is) ∙ found)) in
+    let cut : old.ahead ≡ take at ahead ++ 10 ∷ drop (at + 1) old.ahead =
+    subst (λ (xs : List ℕ). old.ahead ≡ take at xs ++ 10 ∷ drop (at + 1) old.ahead) (sym is)
+    (cut_found (2 ^ 26 - old.given) at old.ahead (subst (λ (xs : List ℕ). at < length xs) is within)
+    (ap (λ (xs : List ℕ). slice_index xs at) (sym is) ∙ found)) in
     record {
       run = take at ahead;
       plain = plain;
@@ -57,9 +68,12 @@ pub run_plain : (old new : LinesState) (before after : Part) (ahead : List ℕ) 
     new ≡ passed old (length ahead) → ((raw : List ℕ) → IsKept before raw → IsKept after (raw ++ ahead)) →
     TakesRun old new before after false
 run_plain old new before after ahead is some room plain moved kept =
-    let len : length ahead ≡ min (2 ^ 26 - old.given) (length old.ahead) = ap length is ∙ length-take (2 ^ 26 - old.given) old.ahead in
+    let len : length ahead ≡ min (2 ^ 26 - old.given) (length old.ahead) =
+    ap length is ∙ length-take (2 ^ 26 - old.given) old.ahead in
     let given : new.given ≡ old.given + length ahead = ap (λ (r : LinesState). r.given) moved in
-    let cut : old.ahead ≡ ahead ++ drop (length ahead) old.ahead = subst (λ (xs : List ℕ). old.ahead ≡ xs ++ drop (length xs) old.ahead) (sym is) (cut_plain (2 ^ 26 - old.given) old.ahead) in
+    let cut : old.ahead ≡ ahead ++ drop (length ahead) old.ahead =
+    subst (λ (xs : List ℕ). old.ahead ≡ xs ++ drop (length xs) old.ahead)
+    (sym is) (cut_plain (2 ^ 26 - old.given) old.ahead) in
     record {
       run = ahead;
       plain = plain;

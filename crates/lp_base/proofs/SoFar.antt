@@ -1,5 +1,7 @@
 -- The line as far as it was read.
-use Rattle.std.proofs.Common.{◌≡◌, ◌≢◌, ℕ, ◌+◌, ◌^◌, ◌≤◌, ◌<◌, List, [], ◌∷◌, ◌++◌, All, length, Option, Result, Ok, Err, arith, ap, sym, ◌∙◌, append_assoc, length-append, append-nil, refl, inl, inr, ⊎_elim, Bool, true, false, subst}
+use Rattle.std.proofs.Common.{◌≡◌, ◌≢◌, ℕ, ◌+◌, ◌^◌, ◌≤◌, ◌<◌, List, [], ◌∷◌, ◌++◌, All, length}
+use Rattle.std.proofs.Common.{Option, Result, Ok, Err, arith, ap, sym, ◌∙◌, append_assoc, length-append}
+use Rattle.std.proofs.Common.{append-nil, refl, inl, inr, ⊎_elim, Bool, true, false, subst}
 use Rattle.std.specs.Io.KnownBytes.{Consumes, IsAtEnd, Keeps}
 use Rattle.std.specs.List.{Contains}
 use Rattle.std.specs.Str.Lines.{strip_carriage_return}
@@ -35,7 +37,8 @@ SoFar-read {before} {mid} {after} {old} {cur} {new} {part} s more moved ahead gi
   raw = s.raw;
   moved = Consumes-trans before mid after s.bytes more s.moved moved;
   cut =
-      sym (append_assoc old.ahead s.bytes more) ∙ ap (λ xs. xs ++ more) s.cut ∙ append_assoc s.raw cur.ahead more ∙ ap (λ xs. s.raw ++ xs) (sym ahead);
+      sym (append_assoc old.ahead s.bytes more) ∙ ap (λ xs. xs ++ more) s.cut
+      ∙ append_assoc s.raw cur.ahead more ∙ ap (λ xs. s.raw ++ xs) (sym ahead);
   plain = s.plain;
   kept = s.kept;
   given = given ∙ s.given;
@@ -57,7 +60,8 @@ SoFar-run {before} {after} {old} {cur} {new} s r = record {
 }
 
 -- a line is given
-gives_line : (before after : Option (List ℕ)) (old : LinesState) (bytes : List ℕ) (new : LinesState) (raw : List ℕ) (line : Line (List ℕ)) →
+gives_line : (before after : Option (List ℕ)) (old : LinesState)
+    (bytes : List ℕ) (new : LinesState) (raw : List ℕ) (line : Line (List ℕ)) →
     line ≡ line_of raw → GivesLine after old bytes new line → AnswersWith before after old bytes new (Ok line)
 gives_line before after old bytes new raw (Text text) is g = g
 gives_line before after old bytes new raw (Long len) is g = g
@@ -65,13 +69,15 @@ gives_line before after old bytes new raw End is g = let h = line_of_cases raw i
 gives_line before after old bytes new raw Over is g = let h = line_of_cases raw in absurd (⊎_elim (λ e. cc) (λ e. cc) h)
 
 -- the line that a line feed ends
-pub gives_ended : {before after : Option (List ℕ)} {old cur new : LinesState} {part next : Part} (s : SoFar before after old cur part) (r : TakesRun cur new part next true) →
+pub gives_ended : {before after : Option (List ℕ)} {old cur new : LinesState} {part next : Part}
+    (s : SoFar before after old cur part) (r : TakesRun cur new part next true) →
     cur.ended ≡ false → length cur.ahead ≤ 4096 → (line : Line (List ℕ)) →
     ((raw : List ℕ) → IsKept next raw → line ≡ line_of (strip_carriage_return raw)) →
     GivesNext before after old new (Ok line)
 gives_ended {before} {after} {old} {cur} {new} s r live near line is =
     let raw = s.raw ++ r.run in
-    let cut : old.ahead ++ s.bytes ≡ raw ++ 10 ∷ new.ahead = s.cut ∙ ap (λ xs. s.raw ++ xs) r.cut ∙ sym (append_assoc s.raw r.run (10 ∷ new.ahead)) in
+    let cut : old.ahead ++ s.bytes ≡ raw ++ 10 ∷ new.ahead =
+    s.cut ∙ ap (λ xs. s.raw ++ xs) r.cut ∙ sym (append_assoc s.raw r.run (10 ∷ new.ahead)) in
     let line_is = is raw (r.kept s.raw s.kept) in
     record {
       bytes = s.bytes;
@@ -79,7 +85,15 @@ gives_ended {before} {after} {old} {cur} {new} s r live near line is =
       gives = gives_line before after old s.bytes new _ line line_is (record {
         live = sym s.ended ∙ live;
         taken =
-            inl (record { raw = raw; plain = All-append (λ b. b ≢ 10) s.raw r.run s.plain r.plain; cut = cut; is = line_is }, r.ended ∙ live);
+            inl (
+              record {
+                raw = raw;
+                plain = All-append (λ b. b ≢ 10) s.raw r.run s.plain r.plain;
+                cut = cut;
+                is = line_is;
+              },
+              r.ended ∙ live,
+            );
         count = omega (arith, r.count, ap length s.cut, length-append s.raw cur.ahead, s.given);
         bound = r.bound;
         near = omega (arith, near, ap length r.cut, length-append r.run (10 ∷ new.ahead));
@@ -131,7 +145,8 @@ pub breaks_off : {before mid : Option (List ℕ)} (after : Option (List ℕ)) {o
     cur.given ≤ 2 ^ 26 → GivesNext before after old new (Err Read)
 breaks_off {before} {mid} after {old} {cur} {new} s kept none live same bound =
     let all = all_raw s none in
-    let given : cur.given ≡ old.given + length (old.ahead ++ s.bytes) = s.given ∙ ap (λ (xs : List ℕ). old.given + length xs) (sym all) in
+    let given : cur.given ≡ old.given + length (old.ahead ++ s.bytes) =
+    s.given ∙ ap (λ (xs : List ℕ). old.given + length xs) (sym all) in
     record {
       bytes = s.bytes;
       moved = Consumes-kept before mid after s.bytes s.moved kept;
@@ -155,11 +170,17 @@ at_end_now after cur live (inl h) = absurd (let e = h.0 in cc)
 at_end_now after cur live (inr h) = h.1
 
 -- the end of the input ends the line
-pub gives_last : {before mid : Option (List ℕ)} (after : Option (List ℕ)) {old cur new : LinesState} {part : Part} → SoFar before mid old cur part → (more : List ℕ) → Consumes mid after more → new.ahead ≡ cur.ahead ++ more → new.given ≡ cur.given → HasMore false cur new mid after → cur.given ≤ 2 ^ 26
-    → (old.ended ≡ true → (part.len ≡ 0) × (mid ≡ before)) → (line : Line (List ℕ)) → ((raw : List ℕ) → IsKept part raw → 0 < length raw → line ≡ line_of raw) → (IsKept part [] → line ≡ End) → GivesNext before after old new (Ok line)
+pub gives_last : {before mid : Option (List ℕ)} (after : Option (List ℕ)) {old cur new : LinesState} {part : Part} →
+    SoFar before mid old cur part → (more : List ℕ) → Consumes mid after more → new.ahead ≡ cur.ahead ++ more →
+    new.given ≡ cur.given → HasMore false cur new mid after → cur.given ≤ 2 ^ 26
+    → (old.ended ≡ true → (part.len ≡ 0) × (mid ≡ before)) → (line : Line (List ℕ)) →
+    ((raw : List ℕ) → IsKept part raw → 0 < length raw → line ≡ line_of raw) →
+    (IsKept part [] → line ≡ End) → GivesNext before after old new (Ok line)
 gives_last {before} {mid} after {old} {cur} {new} {part} s more moved ahead given none bound idle line some empty =
     let bytes = s.bytes ++ more in
-    let all : old.ahead ++ bytes ≡ s.raw = sym (append_assoc old.ahead s.bytes more) ∙ ap (λ xs. xs ++ more) s.cut ∙ append_assoc s.raw cur.ahead more ∙ ap (λ xs. s.raw ++ xs) (sym ahead ∙ none.0) ∙ append-nil s.raw in
+    let all : old.ahead ++ bytes ≡ s.raw =
+    sym (append_assoc old.ahead s.bytes more) ∙ ap (λ xs. xs ++ more) s.cut
+    ∙ append_assoc s.raw cur.ahead more ∙ ap (λ xs. s.raw ++ xs) (sym ahead ∙ none.0) ∙ append-nil s.raw in
     let taken = Consumes-trans before mid after s.bytes more s.moved moved in
     ⊎_elim
     (λ long.
@@ -208,7 +229,8 @@ still_ahead {old = old} {new = new} s has = ⊎_elim
     (λ some. some)
     (λ none.
     let plain = All-same (λ b. b ≢ 10) (old.ahead ++ s.bytes) s.raw (all_raw s (none_left new.ahead none)) s.plain in
-    absurd (All-contains (λ b. b ≢ 10) (old.ahead ++ s.bytes) 10 plain (Contains-append_left old.ahead s.bytes 10 has) refl))
+    absurd
+    (All-contains (λ b. b ≢ 10) (old.ahead ++ s.bytes) 10 plain (Contains-append_left old.ahead s.bytes 10 has) refl))
     (cases_lt 0 (length new.ahead))
 
 -- how the answer tells of more bytes
@@ -234,7 +256,8 @@ gives_no_memory {cur = cur} new s live near = record {
 }
 
 -- an error by its name
-pub gives_err : {before after : Option (List ℕ)} {old new : LinesState} {stop : LineStop} (result : Result (Line (List ℕ)) LineStop) (e : LineStop) →
+pub gives_err : {before after : Option (List ℕ)} {old new : LinesState} {stop : LineStop}
+    (result : Result (Line (List ℕ)) LineStop) (e : LineStop) →
     result ≡ Err e → e ≡ stop → GivesNext before after old new (Err stop) → GivesNext before after old new result
 gives_err {before} {after} {old} {new} result e is same g =
     subst (GivesNext before after old new) (sym (is ∙ ap (λ (x : LineStop). Err x) same)) g

@@ -1,9 +1,12 @@
 -- The lines that were taken, call by call, and what they are where a reader stops.
 --
--- A loop over `Lines::next` keeps `ReadsLines` in its invariant: `reads_start` or `reads_none` begins it, `reads_line` adds
--- a line, `ReadsLines-append` the lines of a call that reads several. At an exit `reads_until` joins the last answer to it,
--- and from the start of an input on `stops_at_end`, `stops_over`, `stops_with` and `stops_now` say what was read in all.
-use Rattle.std.proofs.Common.{◌≡◌, ◌≢◌, ℕ, ◌+◌, ◌-◌, ◌^◌, ◌≤◌, ◌<◌, ◌⊎◌, List, [], ◌∷◌, ◌++◌, All, length, take, Option, Result, Ok, Err, Bool, true, false, arith, ap, sym, ◌∙◌, append_assoc, length-append, append-nil, refl, inl, inr, ⊎_elim, subst}
+-- A loop over `Lines::next` keeps `ReadsLines` in its invariant: `reads_start` or `reads_none` begins it, `reads_line`
+-- adds a line, `ReadsLines-append` the lines of a call that reads several. At an exit `reads_until` joins the last
+-- answer to it, and from the start of an input on `stops_at_end`, `stops_over`,
+-- `stops_with` and `stops_now` say what was read in all.
+use Rattle.std.proofs.Common.{◌≡◌, ◌≢◌, ℕ, ◌+◌, ◌-◌, ◌^◌, ◌≤◌, ◌<◌, ◌⊎◌, List, [], ◌∷◌, ◌++◌, All, length}
+use Rattle.std.proofs.Common.{take, Option, Result, Ok, Err, Bool, true, false, arith, ap, sym, ◌∙◌}
+use Rattle.std.proofs.Common.{append_assoc, length-append, append-nil, refl, inl, inr, ⊎_elim, subst}
 use Rattle.std.specs.Io.KnownBytes.{IsAtEnd}
 use Rattle.std.specs.Str.Lines.{strip_carriage_return}
 use Rattle.std.proofs.KnownBytes.{Consumes-nil, Consumes-trans}
@@ -13,10 +16,13 @@ use Rattle.std.proofs.lemmas.List.Elements.{All-nil, All-take}
 use Rattle.spec_text.specs.Lines.{line_of, lines_of, ended_lines_of, input_limit}
 use Rattle.spec_text.specs.declared.line.Line.{Line}
 use Rattle.spec_text.specs.declared.line.Line.TheVariants.{Text, Long, End, Over}
-use Rattle.spec_text.proofs.LineLemmas.{lines_of_none, lines_of_line, lines_of_last, ended_lines_of_line, ended_lines_of_last}
+use Rattle.spec_text.proofs.LineLemmas.{lines_of_none, lines_of_line, lines_of_last}
+use Rattle.spec_text.proofs.LineLemmas.{ended_lines_of_line, ended_lines_of_last}
 use Rattle.lp_base.specs.LinesState.{LinesState, at_start}
-use Rattle.lp_base.specs.NextLine.{HasEnded, GivesLine, GivesEnd, IsOver, IsBrokenOff, IsGivenUp, AnswersWith, GivesNext}
-use Rattle.lp_base.specs.Taking.{BeginsWith, IsWhole, Tells, TakesLines, StaysEnded, ReadsLines, ReadsUntil, ReadsAll, ReadsLittleMore, ReadsPart, ReadsPast, StopsWith}
+use Rattle.lp_base.specs.NextLine.{HasEnded, GivesLine, GivesEnd, IsOver}
+use Rattle.lp_base.specs.NextLine.{IsBrokenOff, IsGivenUp, AnswersWith, GivesNext}
+use Rattle.lp_base.specs.Taking.{BeginsWith, IsWhole, Tells, TakesLines, StaysEnded, ReadsLines}
+use Rattle.lp_base.specs.Taking.{ReadsUntil, ReadsAll, ReadsLittleMore, ReadsPart, ReadsPast, StopsWith}
 use Rattle.lp_base.specs.declared.lines.LineStop.{LineStop}
 use Rattle.lp_base.specs.declared.lines.LineStop.TheVariants.{Read, NoMemory}
 use Rattle.lp_base.proofs.KeptLemmas.{take-append}
@@ -30,18 +36,22 @@ begins_with_line : (raw : List ℕ) (line : Line (List ℕ)) → All (λ b. b �
     line ≡ line_of (strip_carriage_return raw) → BeginsWith (raw ++ 10 ∷ []) (line ∷ [])
 begins_with_line raw line plain is = record {
   all =
-      λ more. ap lines_of (append_assoc raw (10 ∷ []) more) ∙ lines_of_line raw more plain ∙ ap (λ (l : Line (List ℕ)). l ∷ lines_of more) (sym is);
+      λ more. ap lines_of (append_assoc raw (10 ∷ []) more) ∙ lines_of_line raw more plain
+      ∙ ap (λ (l : Line (List ℕ)). l ∷ lines_of more) (sym is);
   ended =
-      λ more. ap ended_lines_of (append_assoc raw (10 ∷ []) more) ∙ ended_lines_of_line raw more plain ∙ ap (λ (l : Line (List ℕ)). l ∷ ended_lines_of more) (sym is);
+      λ more. ap ended_lines_of (append_assoc raw (10 ∷ []) more) ∙ ended_lines_of_line raw more plain
+      ∙ ap (λ (l : Line (List ℕ)). l ∷ ended_lines_of more) (sym is);
 }
 
 BeginsWith-append : {raw : List ℕ} {lines : List (Line (List ℕ))} {more : List ℕ} {others : List (Line (List ℕ))} →
     BeginsWith raw lines → BeginsWith more others → BeginsWith (raw ++ more) (lines ++ others)
 BeginsWith-append {raw} {lines} {more} {others} b d = record {
   all =
-      λ rest. ap lines_of (append_assoc raw more rest) ∙ b.all (more ++ rest) ∙ ap (λ ls. lines ++ ls) (d.all rest) ∙ sym (append_assoc lines others (lines_of rest));
+      λ rest. ap lines_of (append_assoc raw more rest) ∙ b.all (more ++ rest)
+      ∙ ap (λ ls. lines ++ ls) (d.all rest) ∙ sym (append_assoc lines others (lines_of rest));
   ended =
-      λ rest. ap ended_lines_of (append_assoc raw more rest) ∙ b.ended (more ++ rest) ∙ ap (λ ls. lines ++ ls) (d.ended rest) ∙ sym (append_assoc lines others (ended_lines_of rest));
+      λ rest. ap ended_lines_of (append_assoc raw more rest) ∙ b.ended (more ++ rest)
+      ∙ ap (λ ls. lines ++ ls) (d.ended rest) ∙ sym (append_assoc lines others (ended_lines_of rest));
 }
 
 -- where nothing follows, these are all the lines
@@ -63,7 +73,8 @@ plain_front : {raw : List ℕ} {lines : List (Line (List ℕ))} (limit : ℕ) (r
     length raw ≤ limit → All (λ b. b ≢ 10) rest → ended_lines_of (take limit (raw ++ rest)) ≡ lines
 plain_front {raw} {lines} limit rest b within plain =
     ended_front limit rest b within
-    ∙ ap (λ ls. lines ++ ls) (ended_lines_of_last (take (limit - length raw) rest) (All-take (λ b. b ≢ 10) (limit - length raw) rest plain))
+    ∙ ap (λ ls. lines ++ ls)
+    (ended_lines_of_last (take (limit - length raw) rest) (All-take (λ b. b ≢ 10) (limit - length raw) rest plain))
     ∙ append-nil lines
 
 -- no line ends in the rest as far as the limit
@@ -72,7 +83,8 @@ plain_to_limit : {raw : List ℕ} {lines : List (Line (List ℕ))} (limit : ℕ)
     ended_lines_of (take limit (raw ++ (front ++ rest))) ≡ lines
 plain_to_limit {raw} {lines} limit front rest b len plain =
     let room : limit - length raw ≡ length front = omega arith in
-    let all : take (limit - length raw) (front ++ rest) ≡ front = ap (λ (n : ℕ). take n (front ++ rest)) room ∙ take-append_seam front rest in
+    let all : take (limit - length raw) (front ++ rest) ≡ front =
+    ap (λ (n : ℕ). take n (front ++ rest)) room ∙ take-append_seam front rest in
     ended_front limit (front ++ rest) b (omega arith)
     ∙ ap (λ (xs : List ℕ). lines ++ ended_lines_of xs) all
     ∙ ap (λ ls. lines ++ ls) (ended_lines_of_last front plain)
@@ -85,7 +97,8 @@ tells_begun true after raw ahead lines live t = cc
 tells_begun false after raw ahead lines live t = t
 
 -- where the input has not ended, more lines may follow
-begun : {after : Option (List ℕ)} {old new : LinesState} {bytes : List ℕ} {lines : List (Line (List ℕ))} (t : TakesLines after old bytes new lines) →
+begun : {after : Option (List ℕ)} {old new : LinesState} {bytes : List ℕ} {lines : List (Line (List ℕ))}
+    (t : TakesLines after old bytes new lines) →
     new.ended ≡ false → BeginsWith t.raw lines
 begun {after} {old} {new} {bytes} {lines} t live = tells_begun new.ended after t.raw new.ahead lines live t.told
 
@@ -103,7 +116,8 @@ takes_none after state live = record {
 }
 
 -- one line
-pub takes_line : {after : Option (List ℕ)} {old : LinesState} {bytes : List ℕ} {new : LinesState} {line : Line (List ℕ)} →
+pub takes_line : {after : Option (List ℕ)} {old : LinesState}
+    {bytes : List ℕ} {new : LinesState} {line : Line (List ℕ)} →
     GivesLine after old bytes new line → TakesLines after old bytes new (line ∷ [])
 takes_line {after} {old} {bytes} {new} {line} g =
     ⊎_elim
@@ -118,7 +132,8 @@ takes_line {after} {old} {bytes} {new} {line} g =
       bound = λ b. g.bound;
       near = λ n. g.near;
       told =
-          subst (λ (b : Bool). Tells b after raw new.ahead (line ∷ [])) (sym e.1) (begins_with_line e.0.raw line e.0.plain e.0.is);
+          subst (λ (b : Bool). Tells b after raw new.ahead (line ∷ []))
+          (sym e.1) (begins_with_line e.0.raw line e.0.plain e.0.is);
     })
     (λ l.
     let raw = old.ahead ++ bytes in
@@ -138,14 +153,16 @@ takes_line {after} {old} {bytes} {new} {line} g =
     })
     g.taken
 
-Tells-append : (ended : Bool) (after : Option (List ℕ)) (raw more ahead : List ℕ) (lines others : List (Line (List ℕ))) →
+Tells-append : (ended : Bool) (after : Option (List ℕ))
+    (raw more ahead : List ℕ) (lines others : List (Line (List ℕ))) →
     BeginsWith raw lines → Tells ended after more ahead others → Tells ended after (raw ++ more) ahead (lines ++ others)
 Tells-append true after raw more ahead lines others b t =
     record { all = b.all more ∙ ap (λ ls. lines ++ ls) t.all; none = t.none; at_end = t.at_end }
 Tells-append false after raw more ahead lines others b t = BeginsWith-append b t
 
 -- more lines
-pub TakesLines-append : {mid after : Option (List ℕ)} {first old new : LinesState} {bytes more : List ℕ} {lines others : List (Line (List ℕ))} →
+pub TakesLines-append : {mid after : Option (List ℕ)} {first old new : LinesState}
+    {bytes more : List ℕ} {lines others : List (Line (List ℕ))} →
     TakesLines mid first bytes old lines → TakesLines after old more new others →
     TakesLines after first (bytes ++ more) new (lines ++ others)
 TakesLines-append {mid} {after} {first} {old} {new} {bytes} {more} {lines} {others} t u =
@@ -163,7 +180,8 @@ TakesLines-append {mid} {after} {first} {old} {new} {bytes} {more} {lines} {othe
       told = Tells-append new.ended after t.raw u.raw new.ahead lines others (begun t u.live) u.told;
     }
 
-tells_end : (ended : Bool) (mid after : Option (List ℕ)) (old : LinesState) (raw before ahead : List ℕ) (lines : List (Line (List ℕ))) →
+tells_end : (ended : Bool) (mid after : Option (List ℕ)) (old : LinesState)
+    (raw before ahead : List ℕ) (lines : List (Line (List ℕ))) →
     ended ≡ old.ended → ahead ≡ [] → HasEnded old mid after → Tells ended mid raw before lines →
     IsWhole after raw ahead lines
 tells_end true mid after old raw before ahead lines same none (inl h) t =
@@ -174,7 +192,8 @@ tells_end false mid after old raw before ahead lines same none (inr h) t =
     record { all = begins_whole t; none = none; at_end = h.1 }
 
 -- the end
-pub takes_end : {mid after : Option (List ℕ)} {first old new : LinesState} {bytes more : List ℕ} {lines : List (Line (List ℕ))} →
+pub takes_end : {mid after : Option (List ℕ)} {first old new : LinesState}
+    {bytes more : List ℕ} {lines : List (Line (List ℕ))} →
     TakesLines mid first bytes old lines → GivesEnd mid after old more new →
     TakesLines after first (bytes ++ more) new lines
 takes_end {mid} {after} {first} {old} {new} {bytes} {more} {lines} t g =
@@ -191,7 +210,8 @@ takes_end {mid} {after} {first} {old} {new} {bytes} {more} {lines} t g =
       bound = λ b. omega (arith, ap (λ (r : LinesState). r.given) stands, g.bound);
       near = λ n. omega (arith, ap length none);
       told =
-          subst (λ (b : Bool). Tells b after t.raw new.ahead lines) (sym (ap (λ (r : LinesState). r.ended) stands)) (tells_end old.ended mid after old t.raw old.ahead new.ahead lines refl none g.ended t.told);
+          subst (λ (b : Bool). Tells b after t.raw new.ahead lines) (sym (ap (λ (r : LinesState). r.ended) stands))
+          (tells_end old.ended mid after old t.raw old.ahead new.ahead lines refl none g.ended t.told);
     }
 
 -- ---- where a reader stops that began at the start of its input
@@ -201,12 +221,14 @@ tells_whole true after raw ahead lines e t = t
 tells_whole false after raw ahead lines e t = cc
 
 -- no more lines were taken than may be read
-raw_within : {after : Option (List ℕ)} {new : LinesState} {read : List ℕ} {lines : List (Line (List ℕ))} (t : TakesLines after at_start read new lines) →
+raw_within : {after : Option (List ℕ)} {new : LinesState} {read : List ℕ} {lines : List (Line (List ℕ))}
+    (t : TakesLines after at_start read new lines) →
     length t.raw ≤ 2 ^ 26
 raw_within t = let bound = t.bound (omega arith) in omega (arith, t.count)
 
 -- all bytes that were read, from the start on
-read_so_far : {mid : Option (List ℕ)} {old : LinesState} {read : List ℕ} {lines : List (Line (List ℕ))} (t : TakesLines mid at_start read old lines) (bytes : List ℕ) →
+read_so_far : {mid : Option (List ℕ)} {old : LinesState} {read : List ℕ} {lines : List (Line (List ℕ))}
+    (t : TakesLines mid at_start read old lines) (bytes : List ℕ) →
     read ++ bytes ≡ t.raw ++ (old.ahead ++ bytes)
 read_so_far {old = old} t bytes = ap (λ xs. xs ++ bytes) t.cut ∙ append_assoc t.raw old.ahead bytes
 
@@ -220,7 +242,8 @@ told_all {after} {new} {read} {lines} t ended =
     (ap lines_of same ∙ whole.all, omega (arith, raw_within t, ap length same), whole.at_end)
 
 -- where the source fails, all lines that end were taken
-pub told_at_fault : {mid : Option (List ℕ)} {old new : LinesState} {read bytes : List ℕ} {lines : List (Line (List ℕ))} →
+pub told_at_fault : {mid : Option (List ℕ)} {old new : LinesState}
+    {read bytes : List ℕ} {lines : List (Line (List ℕ))} →
     TakesLines mid at_start read old lines → IsBrokenOff old bytes new →
     ended_lines_of (take input_limit (read ++ bytes)) ≡ lines
 told_at_fault {mid} {old} {new} {read} {bytes} {lines} t broken =
@@ -232,10 +255,20 @@ pub told_over : {mid : Option (List ℕ)} {old : LinesState} {read bytes : List 
     TakesLines mid at_start read old lines → IsOver old bytes →
     (ended_lines_of (take input_limit (read ++ bytes)) ≡ lines) × (2 ^ 26 < length (read ++ bytes))
 told_over {mid} {old} {read} {bytes} {lines} t over =
-    let same : read ++ bytes ≡ t.raw ++ (over.raw ++ over.rest) = read_so_far t bytes ∙ ap (λ xs. t.raw ++ xs) over.cut in (
+    let same : read ++ bytes ≡ t.raw ++ (over.raw ++ over.rest) =
+    read_so_far t bytes ∙ ap (λ xs. t.raw ++ xs) over.cut in (
       ap (λ (xs : List ℕ). ended_lines_of (take input_limit xs)) same
-          ∙ plain_to_limit input_limit over.raw over.rest (begun t over.live) (omega (arith, t.count, over.len)) over.plain,
-      omega (arith, ap length same, length-append t.raw (over.raw ++ over.rest), length-append over.raw over.rest, t.count, over.len, over.more),
+          ∙ plain_to_limit input_limit over.raw over.rest
+          (begun t over.live) (omega (arith, t.count, over.len)) over.plain,
+      omega (
+        arith,
+        ap length same,
+        length-append t.raw (over.raw ++ over.rest),
+        length-append over.raw over.rest,
+        t.count,
+        over.len,
+        over.more,
+      ),
     )
 
 -- ---- how much more was read
@@ -302,15 +335,21 @@ told_in_part {mid} {old} {read} {lines} t live bytes = (
 -- after a call, the lines that were taken come first, or are all
 pub told_now : {after : Option (List ℕ)} {new : LinesState} {read : List ℕ} {lines : List (Line (List ℕ))} →
     TakesLines after at_start read new lines →
-    ((more : List (Line (List ℕ))) × (ended_lines_of (take input_limit read) ≡ lines ++ more) × ReadsLittleMore read lines) ⊎ ((lines_of read ≡ lines) × (length read ≤ 2 ^ 26) × IsAtEnd after)
+    ((more : List (Line (List ℕ))) × (ended_lines_of (take input_limit read) ≡ lines ++ more)
+    × ReadsLittleMore read lines) ⊎ ((lines_of read ≡ lines) × (length read ≤ 2 ^ 26) × IsAtEnd after)
 told_now {after} {new} {read} {lines} t = by new.ended refl
   where
     by : (ended : Bool) → new.ended ≡ ended →
-        ((more : List (Line (List ℕ))) × (ended_lines_of (take input_limit read) ≡ lines ++ more) × ReadsLittleMore read lines) ⊎ ((lines_of read ≡ lines) × (length read ≤ 2 ^ 26) × IsAtEnd after)
+        ((more : List (Line (List ℕ))) × (ended_lines_of (take input_limit read) ≡ lines ++ more)
+        × ReadsLittleMore read lines) ⊎ ((lines_of read ≡ lines) × (length read ≤ 2 ^ 26) × IsAtEnd after)
     by true is = inr (told_all t is)
     by false is =
         let part = told_in_part t is [] in
-        inl (part.0, ap (λ (xs : List ℕ). ended_lines_of (take input_limit xs)) (sym (append-nil read)) ∙ part.1, more_now t is)
+        inl (
+          part.0,
+          ap (λ (xs : List ℕ). ended_lines_of (take input_limit xs)) (sym (append-nil read)) ∙ part.1,
+          more_now t is,
+        )
 
 -- ---- the same, with what was consumed of the source
 -- an answer by its name
@@ -320,7 +359,8 @@ gives_as {before} {after} {old} {new} is same g =
     subst (λ (l : Line (List ℕ)). GivesNext before after old new (Ok l)) same g
 
 -- a line that is given is no end
-pub given_line : (before after : Option (List ℕ)) (old : LinesState) (bytes : List ℕ) (new : LinesState) (line : Line (List ℕ)) →
+pub given_line : (before after : Option (List ℕ)) (old : LinesState)
+    (bytes : List ℕ) (new : LinesState) (line : Line (List ℕ)) →
     line ≢ End → line ≢ Over → AnswersWith before after old bytes new (Ok line) → GivesLine after old bytes new line
 given_line before after old bytes new (Text text) no_end no_over g = g
 given_line before after old bytes new (Long len) no_end no_over g = g
@@ -333,7 +373,11 @@ reads_none left state = by state.ended refl
   where
     by : (ended : Bool) → state.ended ≡ ended → ReadsLines left left state state []
     by true is =
-        record { bytes = []; moved = Consumes-nil left; taken = inr (record { ended = is; unread = refl; left = refl; stays = refl; none = refl }) }
+        record {
+          bytes = [];
+          moved = Consumes-nil left;
+          taken = inr (record { ended = is; unread = refl; left = refl; stays = refl; none = refl });
+        }
     by false is = record { bytes = []; moved = Consumes-nil left; taken = inl (takes_none left state is) }
 
 pub reads_start : (left : Option (List ℕ)) (state : LinesState) → state ≡ at_start →
@@ -342,14 +386,17 @@ reads_start left state is =
     subst (λ (r : LinesState). ReadsLines left left at_start r []) (sym is) (reads_none left at_start)
 
 -- an end that stays
-same_taken : {mid after : Option (List ℕ)} {first old new : LinesState} {bytes more : List ℕ} {lines others : List (Line (List ℕ))} →
+same_taken : {mid after : Option (List ℕ)} {first old new : LinesState}
+    {bytes more : List ℕ} {lines others : List (Line (List ℕ))} →
     TakesLines mid first bytes old lines → StaysEnded mid after old more new others →
     TakesLines after first (bytes ++ more) new (lines ++ others)
 same_taken {mid} {after} {first} {old} {new} {bytes} {more} {lines} {others} t u =
     subst (λ (r : LinesState). TakesLines after first (bytes ++ more) r (lines ++ others)) (sym u.stays)
     (subst (λ (left : Option (List ℕ)). TakesLines left first (bytes ++ more) old (lines ++ others)) (sym u.left)
-    (subst (λ (ls : List (Line (List ℕ))). TakesLines mid first (bytes ++ more) old ls) (sym (ap (λ ls. lines ++ ls) u.none ∙ append-nil lines))
-    (subst (λ (bs : List ℕ). TakesLines mid first bs old lines) (sym (ap (λ xs. bytes ++ xs) u.unread ∙ append-nil bytes)) t)))
+    (subst (λ (ls : List (Line (List ℕ))). TakesLines mid first (bytes ++ more) old ls)
+    (sym (ap (λ ls. lines ++ ls) u.none ∙ append-nil lines))
+    (subst (λ (bs : List ℕ). TakesLines mid first bs old lines)
+    (sym (ap (λ xs. bytes ++ xs) u.unread ∙ append-nil bytes)) t)))
 
 both_none : {A : Type 0} {xs ys : List A} → xs ≡ [] → ys ≡ [] → xs ++ ys ≡ []
 both_none {ys = ys} e f = ap (λ zs. zs ++ ys) e ∙ f
@@ -361,7 +408,8 @@ true_is_not_false : {b : Bool} → b ≡ true → b ≡ false → ⊥
 true_is_not_false t f = cc
 
 -- more lines were read
-pub ReadsLines-append : {before mid after : Option (List ℕ)} {first old new : LinesState} {lines others : List (Line (List ℕ))} →
+pub ReadsLines-append : {before mid after : Option (List ℕ)}
+    {first old new : LinesState} {lines others : List (Line (List ℕ))} →
     ReadsLines before mid first old lines → ReadsLines mid after old new others →
     ReadsLines before after first new (lines ++ others)
 ReadsLines-append {before} {mid} {after} {first} {old} {new} {lines} {others} r s = record {
@@ -370,16 +418,25 @@ ReadsLines-append {before} {mid} {after} {first} {old} {new} {lines} {others} r 
   taken = by r.taken s.taken;
 }
   where
-    by : TakesLines mid first r.bytes old lines ⊎ StaysEnded before mid first r.bytes old lines → TakesLines after old s.bytes new others ⊎ StaysEnded mid after old s.bytes new others
-        → TakesLines after first (r.bytes ++ s.bytes) new (lines ++ others) ⊎ StaysEnded before after first (r.bytes ++ s.bytes) new (lines ++ others)
+    by : TakesLines mid first r.bytes old lines ⊎ StaysEnded before mid first r.bytes old lines →
+        TakesLines after old s.bytes new others ⊎ StaysEnded mid after old s.bytes new others
+        → TakesLines after first (r.bytes ++ s.bytes) new (lines ++ others)
+        ⊎ StaysEnded before after first (r.bytes ++ s.bytes) new (lines ++ others)
     by (inl t) (inl u) = inl (TakesLines-append t u)
     by (inl t) (inr u) = inl (same_taken t u)
     by (inr t) (inl u) = absurd (true_is_not_false (ended_still t.ended t.stays) u.live)
     by (inr t) (inr u) =
-        inr (record { ended = t.ended; unread = both_none t.unread u.unread; left = u.left ∙ t.left; stays = u.stays ∙ t.stays; none = both_none t.none u.none })
+        inr (record {
+          ended = t.ended;
+          unread = both_none t.unread u.unread;
+          left = u.left ∙ t.left;
+          stays = u.stays ∙ t.stays;
+          none = both_none t.none u.none;
+        })
 
 -- one more line was read
-pub reads_line : {before mid after : Option (List ℕ)} {first old new : LinesState} {lines : List (Line (List ℕ))} (line : Line (List ℕ)) →
+pub reads_line : {before mid after : Option (List ℕ)} {first old new : LinesState}
+    {lines : List (Line (List ℕ))} (line : Line (List ℕ)) →
     ReadsLines before mid first old lines → GivesNext mid after old new (Ok line) → line ≢ End → line ≢ Over →
     ReadsLines before after first new (lines ++ line ∷ [])
 reads_line {mid = mid} {after = after} {old = old} {new = new} line r g no_end no_over =
@@ -395,7 +452,8 @@ front_none : {A : Type 0} (xs ys : List A) → xs ++ ys ≡ [] → (xs ≡ []) �
 front_none [] ys e = (refl, e)
 front_none (x ∷ xs) ys e = absurd (let h = e in cc)
 
-ends_again : {before mid after : Option (List ℕ)} {first old new : LinesState} {bytes more : List ℕ} {lines : List (Line (List ℕ))} →
+ends_again : {before mid after : Option (List ℕ)} {first old new : LinesState}
+    {bytes more : List ℕ} {lines : List (Line (List ℕ))} →
     StaysEnded before mid first bytes old lines → GivesEnd mid after old more new →
     StaysEnded before after first (bytes ++ more) new lines
 ends_again {old = old} {more = more} t g =
@@ -423,12 +481,14 @@ reads_end {before} {mid} {after} {first} {old} {new} {lines} r g = (
 )
 
 -- lines and a last answer
-pub reads_until : {before mid after : Option (List ℕ)} {first old new : LinesState} {lines : List (Line (List ℕ))} {result : Result (Line (List ℕ)) LineStop} →
+pub reads_until : {before mid after : Option (List ℕ)} {first old new : LinesState}
+    {lines : List (Line (List ℕ))} {result : Result (Line (List ℕ)) LineStop} →
     ReadsLines before mid first old lines → GivesNext mid after old new result →
     ReadsUntil before after first lines result
 reads_until {mid = mid} {old = old} {new = new} r g = record { mid = mid; old = old; new = new; reads = r; gives = g }
 
-pub ReadsUntil-append : {before mid after : Option (List ℕ)} {first old : LinesState} {lines others : List (Line (List ℕ))} {result : Result (Line (List ℕ)) LineStop} →
+pub ReadsUntil-append : {before mid after : Option (List ℕ)} {first old : LinesState}
+    {lines others : List (Line (List ℕ))} {result : Result (Line (List ℕ)) LineStop} →
     ReadsLines before mid first old lines → ReadsUntil mid after old others result →
     ReadsUntil before after first (lines ++ others) result
 ReadsUntil-append r u =
@@ -492,6 +552,7 @@ stops_with {before} {after} NoMemory u =
 pub stops_now : {before after : Option (List ℕ)} {new : LinesState} {lines : List (Line (List ℕ))} →
     ReadsLines before after at_start new lines → ReadsPart before after lines ⊎ ReadsAll before after lines
 stops_now r = ⊎_elim
-    (λ part. inl (record { more = part.0; front = record { read = r.bytes; moved = r.moved; ended = part.1 }; near = part.2 }))
+    (λ part.
+    inl (record { more = part.0; front = record { read = r.bytes; moved = r.moved; ended = part.1 }; near = part.2 }))
     (λ all. inr (record { read = r.bytes; moved = r.moved; all = all.0; bound = all.1; at_end = all.2 }))
     (told_now (from_start r.taken))

@@ -1,5 +1,6 @@
 -- What a reader of lines gives.
-use Rattle.std.specs.Prelude.{ℕ, ◌≡◌, ◌≢◌, ◌≤◌, ◌<◌, ◌+◌, ◌-◌, ◌^◌, ◌⊎◌, List, [], ◌∷◌, ◌++◌, All, length, take, slice_index, Option, Result, Ok, Err, Bool, true, false}
+use Rattle.std.specs.Prelude.{ℕ, ◌≡◌, ◌≢◌, ◌≤◌, ◌<◌, ◌+◌, ◌-◌, ◌^◌, ◌⊎◌, List, [], ◌∷◌, ◌++◌, All}
+use Rattle.std.specs.Prelude.{length, take, slice_index, Option, Result, Ok, Err, Bool, true, false}
 use Rattle.std.specs.Io.KnownBytes.{Consumes, IsAtEnd, Keeps}
 use Rattle.std.specs.Str.Lines.{strip_carriage_return}
 use Rattle.spec_text.specs.Lines.{line_of, line_limit}
@@ -22,7 +23,8 @@ abbrev pub behind : Bool → List ℕ → List ℕ
 behind true after = 10 ∷ after
 behind false after = after
 
--- bytes with no line feed are moved from the start to the part, and the line feed after them, where one was found, is taken
+-- bytes with no line feed are moved from the start to the part, and the line feed after them,
+-- where one was found, is taken
 pub record TakesRun (old new : LinesState) (before after : Part) (found : Bool) : Type 0 where
   pub run : List ℕ
   pub plain : All (λ b. b ≢ 10) run
@@ -45,7 +47,8 @@ HasMore false old new before after = (new.ahead ≡ []) × (new.ended ≡ true) 
 -- Bytes were read, unless some are ahead. Where none are now, the input has ended.
 abbrev pub ReadsOn : Option (List ℕ) → Option (List ℕ) → LinesState → LinesState → Result Bool Failed → Type 0
 ReadsOn before after old new (Ok more) =
-    (bytes : List ℕ) × Consumes before after bytes × (new.ahead ≡ old.ahead ++ bytes) × (new.given ≡ old.given) × HasMore more old new before after
+    (bytes : List ℕ) × Consumes before after bytes × (new.ahead ≡ old.ahead ++ bytes)
+    × (new.given ≡ old.given) × HasMore more old new before after
 ReadsOn before after old new (Err e) = Keeps before after × (old.ahead ≡ []) × (old.ended ≡ false) × (new ≡ old)
 
 -- the bytes up to a line feed are taken from the start, and the line feed
@@ -63,15 +66,18 @@ pub record TakesLast (before after : List ℕ) (line : Line (List ℕ)) : Type 0
   pub is : line ≡ line_of before
 
 -- the line, with what was read in the call, of which less than a buffer is not the line's
-pub record GivesLine (after : Option (List ℕ)) (old : LinesState) (bytes : List ℕ) (new : LinesState) (line : Line (List ℕ)) : Type 0 where
+pub record GivesLine (after : Option (List ℕ)) (old : LinesState)
+    (bytes : List ℕ) (new : LinesState) (line : Line (List ℕ)) : Type 0 where
   pub live : old.ended ≡ false
-  pub taken : (TakesEnded (old.ahead ++ bytes) new.ahead line × (new.ended ≡ false)) ⊎ (TakesLast (old.ahead ++ bytes) new.ahead line × (new.ended ≡ true) × IsAtEnd after)
+  pub taken : (TakesEnded (old.ahead ++ bytes) new.ahead line × (new.ended ≡ false))
+      ⊎ (TakesLast (old.ahead ++ bytes) new.ahead line × (new.ended ≡ true) × IsAtEnd after)
   pub count : new.given + length new.ahead ≡ old.given + length (old.ahead ++ bytes)
   pub bound : new.given ≤ 2 ^ 26
   pub near : length new.ahead < 4096
 
 -- no byte is left
-pub record GivesEnd (before after : Option (List ℕ)) (old : LinesState) (bytes : List ℕ) (new : LinesState) : Type 0 where
+pub record GivesEnd (before after : Option (List ℕ)) (old : LinesState)
+    (bytes : List ℕ) (new : LinesState) : Type 0 where
   pub none : old.ahead ++ bytes ≡ []
   pub stands : new ≡ record { ahead = []; given = old.given; ended = true }
   pub bound : old.given ≤ 2 ^ 26
@@ -115,7 +121,8 @@ AnswersWith before after old bytes new (Err Read) = IsBrokenOff old bytes new
 AnswersWith before after old bytes new (Err NoMemory) = IsGivenUp old bytes
 
 -- some bytes were read, and the answer is about them
-pub record GivesNext (before after : Option (List ℕ)) (old new : LinesState) (result : Result (Line (List ℕ)) LineStop) : Type 0 where
+pub record GivesNext (before after : Option (List ℕ)) (old new : LinesState)
+    (result : Result (Line (List ℕ)) LineStop) : Type 0 where
   pub bytes : List ℕ
   pub moved : Consumes before after bytes
   pub gives : AnswersWith before after old bytes new result

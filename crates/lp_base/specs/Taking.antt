@@ -1,5 +1,6 @@
 -- The lines that several calls took, and what was read of the input when a reader stops.
-use Rattle.std.specs.Prelude.{ℕ, ◌≡◌, ◌≢◌, ◌<◌, ◌≤◌, ◌+◌, ◌^◌, ◌⊎◌, List, [], ◌++◌, All, length, take, Option, Result, Bool, true, false}
+use Rattle.std.specs.Prelude.{ℕ, ◌≡◌, ◌≢◌, ◌<◌, ◌≤◌, ◌+◌, ◌^◌, ◌⊎◌, List, [], ◌++◌}
+use Rattle.std.specs.Prelude.{All, length, take, Option, Result, Bool, true, false}
 use Rattle.std.specs.Io.KnownBytes.{Consumes, IsAtEnd}
 use Rattle.spec_text.specs.Lines.{lines_of, ended_lines_of, input_limit}
 use Rattle.spec_text.specs.declared.line.Line.{Line}
@@ -25,7 +26,8 @@ Tells false after raw ahead lines = BeginsWith raw lines
 Tells true after raw ahead lines = IsWhole after raw ahead lines
 
 -- from what was ahead and the bytes that were read in between, these lines were taken
-pub record TakesLines (after : Option (List ℕ)) (old : LinesState) (bytes : List ℕ) (new : LinesState) (lines : List (Line (List ℕ))) : Type 0 where
+pub record TakesLines (after : Option (List ℕ)) (old : LinesState) (bytes : List ℕ)
+    (new : LinesState) (lines : List (Line (List ℕ))) : Type 0 where
   pub live : old.ended ≡ false
   pub raw : List ℕ
   pub cut : old.ahead ++ bytes ≡ raw ++ new.ahead
@@ -35,7 +37,8 @@ pub record TakesLines (after : Option (List ℕ)) (old : LinesState) (bytes : Li
   pub told : Tells new.ended after raw new.ahead lines
 
 -- the input had ended before, and nothing is taken any more
-pub record StaysEnded (before after : Option (List ℕ)) (old : LinesState) (bytes : List ℕ) (new : LinesState) (lines : List (Line (List ℕ))) : Type 0 where
+pub record StaysEnded (before after : Option (List ℕ)) (old : LinesState)
+    (bytes : List ℕ) (new : LinesState) (lines : List (Line (List ℕ))) : Type 0 where
   pub ended : old.ended ≡ true
   pub unread : bytes ≡ []
   pub left : after ≡ before
@@ -43,13 +46,15 @@ pub record StaysEnded (before after : Option (List ℕ)) (old : LinesState) (byt
   pub none : lines ≡ []
 
 -- some bytes were read, and these lines were taken
-pub record ReadsLines (before after : Option (List ℕ)) (old new : LinesState) (lines : List (Line (List ℕ))) : Type 0 where
+pub record ReadsLines (before after : Option (List ℕ))
+    (old new : LinesState) (lines : List (Line (List ℕ))) : Type 0 where
   pub bytes : List ℕ
   pub moved : Consumes before after bytes
   pub taken : TakesLines after old bytes new lines ⊎ StaysEnded before after old bytes new lines
 
 -- these lines were taken, and the next answer is the last one
-pub record ReadsUntil (before after : Option (List ℕ)) (first : LinesState) (lines : List (Line (List ℕ))) (result : Result (Line (List ℕ)) LineStop) : Type 0 where
+pub record ReadsUntil (before after : Option (List ℕ)) (first : LinesState)
+    (lines : List (Line (List ℕ))) (result : Result (Line (List ℕ)) LineStop) : Type 0 where
   pub mid : Option (List ℕ)
   pub old : LinesState
   pub new : LinesState

@@ -1,5 +1,6 @@
 // Lists that contracts see as lists.
-ghost use Rattle.std.specs.Prelude.{◌≡◌, ◌↔◌, ℕ, ◌<◌, List, [], ◌∷◌, ◌++◌, length, slice_get, ◌==◌, IsTrue, IfOk, OnOk, OnErr};
+ghost use Rattle.std.specs.Prelude.{◌≡◌, ◌↔◌, ℕ, ◌<◌, List, [], ◌∷◌, ◌++◌, length};
+ghost use Rattle.std.specs.Prelude.{slice_get, ◌==◌, IsTrue, IfOk, OnOk, OnErr};
 ghost use Rattle.spec_text.specs.Words.{same};
 
 use std::alloc::{AllocError, Global};

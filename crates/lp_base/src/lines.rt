@@ -1,5 +1,6 @@
 // The lines of a source.
-ghost use Rattle.std.specs.Prelude.{◌≡◌, ◌≢◌, ℕ, ◌+◌, ◌-◌, ◌^◌, ◌<◌, ◌≤◌, List, [], ◌∷◌, ◌++◌, All, length, take, drop, slice_index, IfOk, IsErrOf, IsTrue, MatchOption, ◌↔◌, true, false, Ok};
+ghost use Rattle.std.specs.Prelude.{◌≡◌, ◌≢◌, ℕ, ◌+◌, ◌-◌, ◌^◌, ◌<◌, ◌≤◌, List, [], ◌∷◌, ◌++◌, All, length, take};
+ghost use Rattle.std.specs.Prelude.{drop, slice_index, IfOk, IsErrOf, IsTrue, MatchOption, ◌↔◌, true, false, Ok};
 ghost use Rattle.std.specs.List.{Contains};
 ghost use Rattle.lp_base.specs.declared.lines.LineStop.TheVariants.{Read, NoMemory};
 ghost use Rattle.spec_text.specs.declared.line.Line.TheVariants.{End};
@@ -95,7 +96,8 @@ impl Lines {
         ensures ended { self.old.ended ≡ true → (result ≡ Ok End) × (S.left source.new ≡ S.left source.old) }
 
         // A line that was read already is given without the source.
-        ensures held { Contains self.old.ahead 10 → (S.left source.new ≡ S.left source.old) × (S.read_faults source.new ≡ S.read_faults source.old) }
+        ensures held { Contains self.old.ahead 10 →
+            (S.left source.new ≡ S.left source.old) × (S.read_faults source.new ≡ S.read_faults source.old) }
 
         ensures later { S.read_faults source.old ≤ S.read_faults source.new }
         ensures read { IsErrOf result LineStop.Read → Rose (S.read_faults source.old) (S.read_faults source.new) }
@@ -125,7 +127,8 @@ impl Lines {
     fn has_more<S: Source>(&mut self, source: &mut S) -> Result<bool, Failed>
         ensures moved { ReadsOn (S.left source.old) (S.left source.new) self.old self.new result }
         ensures ended { self.old.ended ≡ true → (result ≡ Ok false) × (S.left source.new ≡ S.left source.old) }
-        ensures held { 0 < length self.old.ahead → (S.left source.new ≡ S.left source.old) × (S.read_faults source.new ≡ S.read_faults source.old) }
+        ensures held { 0 < length self.old.ahead →
+            (S.left source.new ≡ S.left source.old) × (S.read_faults source.new ≡ S.read_faults source.old) }
         ensures near { length self.new.ahead ≤ 4096 }
         ensures cause { HasCause (S.read_faults source.old) (S.read_faults source.new) result }
         ensures beside { S.beside_reads source.new ≡ S.beside_reads source.old }
@@ -156,7 +159,8 @@ impl Lines {
     fn pass(&mut self, count: usize)
         requires some { count ≤ length self.old.ahead }
         requires room { self.old.given + count ≤ 2 ^ 26 }
-        ensures { self.new ≡ record { ahead = drop count self.old.ahead; given = self.old.given + count; ended = self.old.ended } }
+        ensures { self.new
+            ≡ record { ahead = drop count self.old.ahead; given = self.old.given + count; ended = self.old.ended } }
     {
         self.from += count;
         self.given += count as u64;
@@ -188,7 +192,8 @@ impl Lines {
 
 // The place of the first line feed.
 fn line_feed_at(bytes: &[u8]) -> Option<usize>
-    ensures { MatchOption result (All (λ b. b ≢ 10) bytes.now) (λ at. (at < length bytes.now) × (slice_index bytes.now at ≡ 10) × All (λ b. b ≢ 10) (take at bytes.now)) }
+    ensures { MatchOption result (All (λ b. b ≢ 10) bytes.now)
+        (λ at. (at < length bytes.now) × (slice_index bytes.now at ≡ 10) × All (λ b. b ≢ 10) (take at bytes.now)) }
 {
     bytes.iter().position(|b| *b == LINE_FEED)
 }

@@ -1,11 +1,13 @@
 // A source and a sink in memory.
-ghost use Rattle.std.specs.Prelude.{◌≡◌, ◌↔◌, ℕ, ◌+◌, ◌-◌, ◌^◌, ◌<◌, ◌≤◌, ◌++◌, List, [], ◌∷◌, length, min, take, Some, IsErr, IsErrOf, OnOk, OnErr, IfOk};
+ghost use Rattle.std.specs.Prelude.{◌≡◌, ◌↔◌, ℕ, ◌+◌, ◌-◌, ◌^◌, ◌<◌, ◌≤◌, ◌++◌, List, [], ◌∷◌};
+ghost use Rattle.std.specs.Prelude.{length, min, take, Some, IsErr, IsErrOf, OnOk, OnErr, IfOk};
 ghost use Rattle.std.specs.List.{Contains};
 ghost use Rattle.std.specs.Io.{ReadsAtMost, WritesAtMost};
 ghost use Rattle.std.specs.Io.KnownBytes.{ReadConsumes, WriteAppends};
 ghost use Rattle.lp_base.specs.Beside.{no_sink, no_source};
 ghost use Rattle.lp_base.specs.Causes.{Rose, HasCause};
-ghost use Rattle.lp_base.specs.Memory.{unread, unread_pieces, next_read, failing_reads, source_faults, bytes_taken, next_write, failing_writes, sink_faults};
+ghost use Rattle.lp_base.specs.Memory.{unread, unread_pieces, next_read, failing_reads, source_faults};
+ghost use Rattle.lp_base.specs.Memory.{bytes_taken, next_write, failing_writes, sink_faults};
 ghost use Rattle.lp_base.specs.Pieces.{filled, pieces_left, bytes_of, first_given, left_behind};
 
 use crate::{Failed, Sink, Source, Texts};

@@ -1,6 +1,9 @@
 -- A product and a difference whose parts are short are not refused, and what they give.
-use Rattle.std.proofs.Common.{◌≡◌, ◌<◌, ◌≤◌, zero, suc, Some, None, Ok, ℕ, ◌+◌, ◌*◌, ◌/◌, ℤ, pos, neg_ℤ, ◌+ℤ◌, ◌-ℤ◌, ◌*ℤ◌, int_div, unsigned_abs, Bool, true, ◌&&◌, if◌then◌else◌, [], ◌∷◌, le-leb, refl, sym, ap, ap₂, subst, ◌∙◌, arith}
-use Rattle.std.proofs.Math.Nat.{div-mul_cancel, div-le_self, mul-le-mul, mul-le-mul_left, mul-le-mul_right, mul-pos, le_trans}
+use Rattle.std.proofs.Common.{◌≡◌, ◌<◌, ◌≤◌, zero, suc, Some, None, Ok, ℕ, ◌+◌, ◌*◌, ◌/◌, ℤ, pos}
+use Rattle.std.proofs.Common.{neg_ℤ, ◌+ℤ◌, ◌-ℤ◌, ◌*ℤ◌, int_div, unsigned_abs, Bool, true, ◌&&◌}
+use Rattle.std.proofs.Common.{if◌then◌else◌, [], ◌∷◌, le-leb, refl, sym, ap, ap₂, subst, ◌∙◌, arith}
+use Rattle.std.proofs.Math.Nat.{div-mul_cancel, div-le_self, mul-le-mul}
+use Rattle.std.proofs.Math.Nat.{mul-le-mul_left, mul-le-mul_right, mul-pos, le_trans}
 use Rattle.std.proofs.lemmas.Int.{ints, unsigned_abs-mul}
 use Rattle.spec_exact.specs.Gcd.{gcd}
 use Rattle.spec_exact.specs.GcdLaws.{gcd_is}
@@ -37,7 +40,8 @@ mul_fits v w h k =
     let a = int_div v.num (pos (gcd (unsigned_abs v.num) w.den)) in
     let c = int_div w.num (pos (gcd (unsigned_abs w.num) v.den)) in
     let top : unsigned_abs (a *ℤ c) ≤ unsigned_abs v.num * unsigned_abs w.num =
-    subst (λ n. n ≤ unsigned_abs v.num * unsigned_abs w.num) (sym (unsigned_abs-mul a c)) (mul-le-mul (part_le v.num _) (part_le w.num _)) in
+    subst (λ n. n ≤ unsigned_abs v.num * unsigned_abs w.num)
+    (sym (unsigned_abs-mul a c)) (mul-le-mul (part_le v.num _) (part_le w.num _)) in
     two_pass _ _ _ (test _ _ top h) (test _ _ (mul-le-mul (div-le_self v.den _) (div-le_self w.den _)) k)
     ∙ ap (λ (x : ℚ). Some x) (product_exact v w)
 
@@ -47,7 +51,8 @@ abs-sum x y = omega (arith, ints)
 
 times_le : (a : ℤ) (d g : ℕ) → unsigned_abs (a *ℤ pos (d / g)) ≤ unsigned_abs a * d
 times_le a d g =
-    subst (λ n. n ≤ unsigned_abs a * d) (sym (unsigned_abs-mul a (pos (d / g)))) (mul-le-mul (omega arith) (div-le_self d g))
+    subst (λ n. n ≤ unsigned_abs a * d) (sym (unsigned_abs-mul a (pos (d / g))))
+    (mul-le-mul (omega arith) (div-le_self d g))
 
 pub add_fits : (v w : ℚ) → unsigned_abs v.num * w.den + unsigned_abs w.num * v.den ≤ largest → v.den * w.den ≤ largest →
     add (Some largest) v w ≡ Some (v +ℚ w)
@@ -83,7 +88,8 @@ over_below n (suc d) p =
 product_below : (v w : ℚ) → IsBelow (v *ℚ w) (unsigned_abs v.num * unsigned_abs w.num) (v.den * w.den)
 unfolding ◌*ℚ◌
 product_below v w =
-    subst (λ n. IsBelow (over (v.num *ℤ w.num) (v.den * w.den)) n (v.den * w.den)) (unsigned_abs-mul v.num w.num) (over_below (v.num *ℤ w.num) (v.den * w.den) (mul-pos v.positive w.positive))
+    subst (λ n. IsBelow (over (v.num *ℤ w.num) (v.den * w.den)) n (v.den * w.den))
+    (unsigned_abs-mul v.num w.num) (over_below (v.num *ℤ w.num) (v.den * w.den) (mul-pos v.positive w.positive))
 
 product_cross : (v w : ℚ) → (v.num *ℤ w.num) *ℤ pos (v *ℚ w).den ≡ (v *ℚ w).num *ℤ pos (v.den * w.den)
 unfolding ◌*ℚ◌
@@ -94,19 +100,24 @@ less_exact : (v w s : ℚ) →
     s -ℚ v *ℚ w ≡ over (less_num v.num v.den w.num w.den s.num s.den) (less_den v.den w.den s.den)
 unfolding ◌+ℚ◌ neg_ℚ
 less_exact v w s =
-    over-same _ _ (s.den * (v *ℚ w).den) (less_den v.den w.den s.den) (mul-pos s.positive (v *ℚ w).positive) (mul-pos (mul-pos v.positive w.positive) s.positive)
+    over-same _ _ (s.den * (v *ℚ w).den) (less_den v.den w.den s.den)
+    (mul-pos s.positive (v *ℚ w).positive) (mul-pos (mul-pos v.positive w.positive) s.positive)
     (by s.num s.den (v *ℚ w).num (v *ℚ w).den (v.num *ℤ w.num) (v.den * w.den) (product_cross v w))
   where
     by : (e : ℤ) (f : ℕ) (p : ℤ) (q : ℕ) (n : ℤ) (d : ℕ) → n *ℤ pos q ≡ p *ℤ pos d →
         (e *ℤ pos q +ℤ neg_ℤ p *ℤ pos f) *ℤ pos (d * f) ≡ (e *ℤ pos d +ℤ neg_ℤ (n *ℤ pos f)) *ℤ pos (f * q)
     by e f p q n d h =
-        by_ring (e ∷ pos f ∷ p ∷ pos q ∷ pos d ∷ []) ((v0 ⊗ v3 ⊕ minus v2 ⊗ v1) ⊗ (v4 ⊗ v1)) (v0 ⊗ v3 ⊗ v4 ⊗ v1 ⊖ v2 ⊗ v4 ⊗ (v1 ⊗ v1)) refl
+        by_ring (e ∷ pos f ∷ p ∷ pos q ∷ pos d ∷ []) ((v0 ⊗ v3 ⊕ minus v2 ⊗ v1) ⊗ (v4 ⊗ v1))
+        (v0 ⊗ v3 ⊗ v4 ⊗ v1 ⊖ v2 ⊗ v4 ⊗ (v1 ⊗ v1)) refl
         ∙ ap (λ (z : ℤ). e *ℤ pos q *ℤ pos d *ℤ pos f +ℤ neg_ℤ (z *ℤ (pos f *ℤ pos f))) (sym h)
-        ∙ by_ring (e ∷ pos f ∷ n ∷ pos q ∷ pos d ∷ []) (v0 ⊗ v3 ⊗ v4 ⊗ v1 ⊖ v2 ⊗ v3 ⊗ (v1 ⊗ v1)) ((v0 ⊗ v4 ⊖ v2 ⊗ v1) ⊗ (v1 ⊗ v3)) refl
+        ∙ by_ring (e ∷ pos f ∷ n ∷ pos q ∷ pos d ∷ [])
+        (v0 ⊗ v3 ⊗ v4 ⊗ v1 ⊖ v2 ⊗ v3 ⊗ (v1 ⊗ v1)) ((v0 ⊗ v4 ⊖ v2 ⊗ v1) ⊗ (v1 ⊗ v3)) refl
 
 pub less_fits : (v w s : ℚ) → unsigned_abs v.num * unsigned_abs w.num ≤ largest → v.den * w.den ≤ largest →
-    unsigned_abs s.num * (v.den * w.den) + unsigned_abs v.num * unsigned_abs w.num * s.den ≤ largest → s.den * (v.den * w.den) ≤ largest →
-    less_product_of (Some largest) v w s ≡ Ok (over (less_num v.num v.den w.num w.den s.num s.den) (less_den v.den w.den s.den))
+    unsigned_abs s.num * (v.den * w.den) + unsigned_abs v.num * unsigned_abs w.num * s.den ≤ largest →
+    s.den * (v.den * w.den) ≤ largest →
+    less_product_of (Some largest) v w s
+    ≡ Ok (over (less_num v.num v.den w.num w.den s.num s.den) (less_den v.den w.den s.den))
 less_fits v w s h k l m =
     let b = product_below v w in
     let top : unsigned_abs s.num * (v *ℚ w).den + unsigned_abs (v *ℚ w).num * s.den ≤ largest =
@@ -135,16 +146,19 @@ in_lowest num den g p q h eg ep eq =
     record {
       positive = subst (λ n. 0 < n) (sym eq') pq;
       lowest =
-          ap₂ (λ (x : ℤ) (n : ℕ). gcd (unsigned_abs x) n) ep' eq' ∙ ap (λ n. gcd n (den / k)) (abs-int_div num k) ∙ coprime_parts (unsigned_abs num) den h;
+          ap₂ (λ (x : ℤ) (n : ℕ). gcd (unsigned_abs x) n) ep' eq'
+          ∙ ap (λ n. gcd n (den / k)) (abs-int_div num k) ∙ coprime_parts (unsigned_abs num) den h;
       num_fits = subst (λ (x : ℤ). unsigned_abs x ≤ unsigned_abs num) (sym ep') (part_le num k);
       den_fits = subst (λ n. n ≤ den) (sym eq') (div-le_self den k);
       same =
-          ap₂ over ep' eq' ∙ over-same (int_div num (pos k)) num (den / k) den pq h (by (int_div num (pos k)) (den / k) k num den (exact_quotient num k (gcd_is (unsigned_abs num) den).0) (div-mul_cancel k d));
+          ap₂ over ep' eq' ∙ over-same (int_div num (pos k)) num (den / k) den pq h (by (int_div num (pos k))
+          (den / k) k num den (exact_quotient num k (gcd_is (unsigned_abs num) den).0) (div-mul_cancel k d));
     }
   where
     by : (x : ℤ) (y k : ℕ) (n : ℤ) (m : ℕ) → x *ℤ pos k ≡ n → y * k ≡ m → x *ℤ pos m ≡ n *ℤ pos y
     by x y k n m e f =
-        ap (λ (z : ℕ). x *ℤ pos z) (sym f) ∙ by_ring (x ∷ pos y ∷ pos k ∷ []) (v0 ⊗ (v1 ⊗ v2)) (v0 ⊗ v2 ⊗ v1) refl ∙ ap (λ (z : ℤ). z *ℤ pos y) e
+        ap (λ (z : ℕ). x *ℤ pos z) (sym f)
+        ∙ by_ring (x ∷ pos y ∷ pos k ∷ []) (v0 ⊗ (v1 ⊗ v2)) (v0 ⊗ v2 ⊗ v1) refl ∙ ap (λ (z : ℤ). z *ℤ pos y) e
 
 -- ---- of short parts
 -- factors that bring the denominators to the same do
@@ -155,18 +169,23 @@ scaled_same e f n k p q hf hk hp h =
   where
     by : p * f ≡ q * k → (e *ℤ pos p -ℤ n *ℤ pos q) *ℤ pos (k * f) ≡ (e *ℤ pos k -ℤ n *ℤ pos f) *ℤ pos (p * f)
     by h =
-        by_ring (e ∷ pos f ∷ n ∷ pos k ∷ pos p ∷ pos q ∷ []) ((v0 ⊗ v4 ⊖ v2 ⊗ v5) ⊗ (v3 ⊗ v1)) (v0 ⊗ v4 ⊗ v3 ⊗ v1 ⊖ v2 ⊗ v1 ⊗ (v5 ⊗ v3)) refl
+        by_ring (e ∷ pos f ∷ n ∷ pos k ∷ pos p ∷ pos q ∷ [])
+        ((v0 ⊗ v4 ⊖ v2 ⊗ v5) ⊗ (v3 ⊗ v1)) (v0 ⊗ v4 ⊗ v3 ⊗ v1 ⊖ v2 ⊗ v1 ⊗ (v5 ⊗ v3)) refl
         ∙ ap (λ (z : ℕ). e *ℤ pos p *ℤ pos k *ℤ pos f +ℤ neg_ℤ (n *ℤ pos f *ℤ pos z)) (sym h)
-        ∙ by_ring (e ∷ pos f ∷ n ∷ pos k ∷ pos p ∷ []) (v0 ⊗ v4 ⊗ v3 ⊗ v1 ⊖ v2 ⊗ v1 ⊗ (v4 ⊗ v1)) ((v0 ⊗ v3 ⊖ v2 ⊗ v1) ⊗ (v4 ⊗ v1)) refl
+        ∙ by_ring (e ∷ pos f ∷ n ∷ pos k ∷ pos p ∷ [])
+        (v0 ⊗ v4 ⊗ v3 ⊗ v1 ⊖ v2 ⊗ v1 ⊗ (v4 ⊗ v1)) ((v0 ⊗ v3 ⊖ v2 ⊗ v1) ⊗ (v4 ⊗ v1)) refl
 
-pub less_short : (v w s x : ℚ) (n e : ℤ) (k f : ℕ) → IsShortProduct n k v w → IsShort e f s → x ≡ over (e *ℤ pos k -ℤ n *ℤ pos f) (k * f) →
+pub less_short : (v w s x : ℚ) (n e : ℤ) (k f : ℕ) → IsShortProduct n k v w →
+    IsShort e f s → x ≡ over (e *ℤ pos k -ℤ n *ℤ pos f) (k * f) →
     less_product_of (Some largest) v w s ≡ Ok x
 less_short v w s x n e k f hp hs ex =
     let left : unsigned_abs e * k ≤ 9223372036854775808 * 9223372036854775807 = mul-le-mul hs.num_size hp.den_size in
     let right : unsigned_abs n * f ≤ 9223372036854775808 * 9223372036854775807 = mul-le-mul hp.num_size hs.den_size in
     let low : f * k ≤ 9223372036854775807 * 9223372036854775807 = mul-le-mul hs.den_size hp.den_size in
-    at (unsigned_abs v.num * unsigned_abs w.num) (v.num *ℤ w.num) (v.den * w.den) s.num s.den (unsigned_abs-mul v.num w.num) hp.num_is hp.den_is hs.num_is hs.den_is
-    (less_fits v w s) (omega (arith, hp.num_size)) (omega (arith, hp.den_size)) (omega (arith, left, right)) (omega (arith, low))
+    at (unsigned_abs v.num * unsigned_abs w.num) (v.num *ℤ w.num) (v.den * w.den) s.num s.den
+    (unsigned_abs-mul v.num w.num) hp.num_is hp.den_is hs.num_is hs.den_is
+    (less_fits v w s) (omega (arith, hp.num_size)) (omega (arith, hp.den_size))
+    (omega (arith, left, right)) (omega (arith, low))
     ∙ ap Ok (sym ex)
   where
     at : (t : ℕ) (m : ℤ) (l : ℕ) (g : ℤ) (h : ℕ) → unsigned_abs m ≡ t → n ≡ m → k ≡ l → e ≡ g → f ≡ h →
@@ -177,22 +196,26 @@ less_short v w s x n e k f hp hs ex =
     at t m l g h et en ek ee ef = rw (en, ek, ee, ef, sym et) (λ y. y)
 
 -- of small parts
-pub less_small : (v w s x : ℚ) (a c e : ℤ) (b d f : ℕ) (n : ℤ) (k : ℕ) → IsSmall a b v → IsSmall c d w → IsSmall e f s → n ≡ a *ℤ c → k ≡ b * d → x ≡ over (e *ℤ pos k -ℤ n *ℤ pos f) (k * f) →
+pub less_small : (v w s x : ℚ) (a c e : ℤ) (b d f : ℕ) (n : ℤ) (k : ℕ) → IsSmall a b v → IsSmall c d w →
+    IsSmall e f s → n ≡ a *ℤ c → k ≡ b * d → x ≡ over (e *ℤ pos k -ℤ n *ℤ pos f) (k * f) →
     less_product_of (Some largest) v w s ≡ Ok x
 less_small v w s x a c e b d f n k hv hw hs en ek ex =
     let tops : unsigned_abs a * unsigned_abs c ≤ 2147483648 * 2147483648 = mul-le-mul hv.num_size hw.num_size in
     let lows : b * d ≤ 4294967295 * 4294967295 = mul-le-mul hv.den_size hw.den_size in
     let left : unsigned_abs e * (b * d) ≤ 2147483648 * (4294967295 * 4294967295) = mul-le-mul hs.num_size lows in
-    let right : unsigned_abs a * unsigned_abs c * f ≤ 2147483648 * 2147483648 * 4294967295 = mul-le-mul tops hs.den_size in
+    let right : unsigned_abs a * unsigned_abs c * f ≤ 2147483648 * 2147483648 * 4294967295 =
+    mul-le-mul tops hs.den_size in
     let low : f * (b * d) ≤ 4294967295 * (4294967295 * 4294967295) = mul-le-mul hs.den_size lows in
     at v.num v.den w.num w.den s.num s.den hv.num_is hv.den_is hw.num_is hw.den_is hs.num_is hs.den_is
     (less_fits v w s) (omega (arith, tops)) (omega (arith, lows)) (omega (arith, left, right)) (omega (arith, low))
     ∙ ap Ok (sym (ex ∙ ap₂ (λ (z : ℤ) (l : ℕ). over (e *ℤ pos l -ℤ z *ℤ pos f) (l * f)) en ek))
   where
     at : (p : ℤ) (q : ℕ) (k : ℤ) (l : ℕ) (m : ℤ) (n : ℕ) → a ≡ p → b ≡ q → c ≡ k → d ≡ l → e ≡ m → f ≡ n →
-        (unsigned_abs p * unsigned_abs k ≤ largest → q * l ≤ largest → unsigned_abs m * (q * l) + unsigned_abs p * unsigned_abs k * n ≤ largest → n * (q * l) ≤ largest →
+        (unsigned_abs p * unsigned_abs k ≤ largest → q * l ≤ largest →
+        unsigned_abs m * (q * l) + unsigned_abs p * unsigned_abs k * n ≤ largest → n * (q * l) ≤ largest →
         less_product_of (Some largest) v w s ≡ Ok (over (less_num p q k l m n) (less_den q l n))) →
-        unsigned_abs a * unsigned_abs c ≤ largest → b * d ≤ largest → unsigned_abs e * (b * d) + unsigned_abs a * unsigned_abs c * f ≤ largest → f * (b * d) ≤ largest →
+        unsigned_abs a * unsigned_abs c ≤ largest → b * d ≤ largest →
+        unsigned_abs e * (b * d) + unsigned_abs a * unsigned_abs c * f ≤ largest → f * (b * d) ≤ largest →
         less_product_of (Some largest) v w s ≡ Ok (over (less_num a b c d e f) (less_den b d f))
     at p q k l m n ea eb ec ed ee ef = rw (ea, eb, ec, ed, ee, ef) (λ h. h)
 

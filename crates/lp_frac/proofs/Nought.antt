@@ -11,19 +11,24 @@ within : (v : ℚ) (a : ℤ) (b : ℕ) → a ≡ v.num → b ≡ v.den → unsig
 within v a b ea eb h k =
     record { num_fits = subst (λ (z : ℤ). unsigned_abs z ≤ largest) ea h; den_fits = subst (λ n. n ≤ largest) eb k }
 
-module _ (v w : ℚ) (a c : ℤ) (b d : ℕ) (ea : a ≡ v.num) (eb : b ≡ v.den) (ec : c ≡ w.num) (ed : d ≡ w.den) (ha : unsigned_abs a ≤ largest) (hb : b ≤ largest) (hc : unsigned_abs c ≤ largest) (hd : d ≤ largest) where
+module _ (v w : ℚ) (a c : ℤ) (b d : ℕ) (ea : a ≡ v.num) (eb : b ≡ v.den) (ec : c ≡ w.num) (ed : d ≡ w.den)
+    (ha : unsigned_abs a ≤ largest) (hb : b ≤ largest) (hc : unsigned_abs c ≤ largest) (hd : d ≤ largest) where
   pub add_onto_zero : a ≡ pos 0 → add (Some largest) v w ≡ Some w
   add_onto_zero e =
-      ap (λ (x : ℚ). add (Some largest) x w) (zero_from_num v (sym ea ∙ e)) ∙ add_left largest w (within w c d ec ed hc hd)
+      ap (λ (x : ℚ). add (Some largest) x w) (zero_from_num v (sym ea ∙ e))
+      ∙ add_left largest w (within w c d ec ed hc hd)
 
   pub add_zero : c ≡ pos 0 → add (Some largest) v w ≡ Some v
   add_zero e =
-      ap (λ (x : ℚ). add (Some largest) v x) (zero_from_num w (sym ec ∙ e)) ∙ add_right largest v (within v a b ea eb ha hb)
+      ap (λ (x : ℚ). add (Some largest) v x) (zero_from_num w (sym ec ∙ e))
+      ∙ add_right largest v (within v a b ea eb ha hb)
 
   pub zero_times : a ≡ pos 0 → mul (Some largest) v w ≡ Some 0ℚ
   zero_times e =
-      ap (λ (x : ℚ). mul (Some largest) x w) (zero_from_num v (sym ea ∙ e)) ∙ mul_left largest w (within w c d ec ed hc hd)
+      ap (λ (x : ℚ). mul (Some largest) x w) (zero_from_num v (sym ea ∙ e))
+      ∙ mul_left largest w (within w c d ec ed hc hd)
 
   pub times_zero : c ≡ pos 0 → mul (Some largest) v w ≡ Some 0ℚ
   times_zero e =
-      ap (λ (x : ℚ). mul (Some largest) v x) (zero_from_num w (sym ec ∙ e)) ∙ mul_right largest v (within v a b ea eb ha hb)
+      ap (λ (x : ℚ). mul (Some largest) v x) (zero_from_num w (sym ec ∙ e))
+      ∙ mul_right largest v (within v a b ea eb ha hb)

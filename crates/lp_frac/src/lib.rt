@@ -30,8 +30,6 @@ mod readers;
 mod reduced;
 mod short;
 mod small;
-#[cfg(test)]
-mod tests;
 
 pub use frac::{Frac, FracFault, LARGEST, Op, Past};
 pub use less::less_product;

@@ -1,5 +1,6 @@
 // Lists that contracts see as plain lists: of fractions, and of the entries of a column.
-ghost use Rattle.std.specs.Prelude.{◌≡◌, ◌==◌, ◌<◌, ◌≤◌, [], ◌∷◌, ◌++◌, length, replicate, slice_get, slice_set, OnOk, OnErr, IfOk};
+ghost use Rattle.std.specs.Prelude.{◌≡◌, ◌==◌, ◌<◌, ◌≤◌, [], ◌∷◌, ◌++◌, length};
+ghost use Rattle.std.specs.Prelude.{replicate, slice_get, slice_set, OnOk, OnErr, IfOk};
 ghost use Rattle.std.specs.List.{insert, remove};
 ghost use Rattle.spec_exact.specs.Fraction.{0ℚ};
 

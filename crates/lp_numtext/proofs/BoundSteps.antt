@@ -1,5 +1,8 @@
 -- Which sizes are at least 10 ^ 20, by the places of their digits.
-use Rattle.std.proofs.Common.{◌≡◌, ℕ, zero, suc, ◌+◌, ◌-◌, ◌*◌, ◌^◌, ◌<◌, ◌≤◌, min, Bool, true, false, ◌&&◌, cond, ◌⊎◌, inl, inr, eqb, List, [], ◌∷◌, ◌++◌, length, take, drop, refl, sym, ap, ◌∙◌, arith, leb, leb-true, le-leb, length-append, length-drop, ℤ, pos, negsuc, ◌+ℤ◌, ◌-ℤ◌, ◌≤ℤ◌, ◌<ℤ◌, subst}
+use Rattle.std.proofs.Common.{◌≡◌, ℕ, zero, suc, ◌+◌, ◌-◌, ◌*◌, ◌^◌, ◌<◌, ◌≤◌, min, Bool, true}
+use Rattle.std.proofs.Common.{false, ◌&&◌, cond, ◌⊎◌, inl, inr, eqb, List, [], ◌∷◌, ◌++◌, length}
+use Rattle.std.proofs.Common.{take, drop, refl, sym, ap, ◌∙◌, arith, leb, leb-true, le-leb}
+use Rattle.std.proofs.Common.{length-append, length-drop, ℤ, pos, negsuc, ◌+ℤ◌, ◌-ℤ◌, ◌≤ℤ◌, ◌<ℤ◌, subst}
 use Rattle.std.specs.Prelude.{int_lt}
 use Rattle.std.specs.List.{list_all, prefix_len}
 use Rattle.std.specs.Char.{is_ascii_digit}
@@ -147,27 +150,38 @@ pub decimal_small : (negative : Bool) (front back : List ℕ) (e : ℤ) (z : ℕ
     z ≡ length front + length back → false ≡ is_huge (scaled negative front back e)
 unfolding scaled
 decimal_small negative front back e z p l =
-    let len : prefix_len is_zero (front ++ back) ≡ length (front ++ back) = sym p ∙ l ∙ sym (length-append front back) in
+    let len : prefix_len is_zero (front ++ back) ≡ length (front ++ back) =
+    sym p ∙ l ∙ sym (length-append front back) in
     let all : list_all is_zero (front ++ back) ≡ true = are_all_zeros (front ++ back) ∙ eq-eqb _ _ len in
     rw (none_kept (front ++ back) all) (zero_huge negative (e +ℤ pos (length front) -ℤ pos 0))
 
-pub decimal_huge : (negative : Bool) (front back : List ℕ) (t : Bool) (n z : ℕ) (e : ℤ) → list_all is_ascii_digit front ≡ true → list_all is_ascii_digit back ≡ true → z ≡ prefix_len is_zero (front ++ back) → (z ≡ length front + length back → ⊥) →
-    length front ≤ 2 ^ 65 → z ≤ 2 ^ 65 → e ≡ near t n +ℤ pos (length front) -ℤ pos z → int_lt (pos 20) e ≡ is_huge (scaled negative front back (signed t n))
+pub decimal_huge : (negative : Bool) (front back : List ℕ) (t : Bool) (n z : ℕ) (e : ℤ) →
+    list_all is_ascii_digit front ≡ true → list_all is_ascii_digit back ≡ true →
+    z ≡ prefix_len is_zero (front ++ back) → (z ≡ length front + length back → ⊥) →
+    length front ≤ 2 ^ 65 → z ≤ 2 ^ 65 → e ≡ near t n +ℤ pos (length front) -ℤ pos z →
+    int_lt (pos 20) e ≡ is_huge (scaled negative front back (signed t n))
 unfolding scaled
 decimal_huge negative front back t n z e h k p l a b q =
-    let all : list_all is_zero (front ++ back) ≡ false = are_all_zeros (front ++ back) ∙ ne_eqb _ _ (λ x. l (p ∙ x ∙ length-append front back)) in
+    let all : list_all is_zero (front ++ back) ≡ false =
+    are_all_zeros (front ++ back) ∙ ne_eqb _ _ (λ x. l (p ∙ x ∙ length-append front back)) in
     let digits = all-append front back h k in
     let kept = led (without_zeros (front ++ back)) (digits_kept (front ++ back) digits) in
     let zeros : prefix_len is_zero (without_zeros (front ++ back)) ≡ z = zeros_kept (front ++ back) all ∙ sym p in
     ap (int_lt (pos 20)) q ∙ near_same t n (length front) z a b
-    ∙ by kept.count (zeros_off (front ++ back) digits all) (kept.len ∙ ap (λ x. x + kept.count) zeros) kept.high kept.low
+    ∙ by kept.count (zeros_off (front ++ back) digits all)
+    (kept.len ∙ ap (λ x. x + kept.count) zeros) kept.high kept.low
   where
-    by : (count : ℕ) → 0 < spelled (without_zeros (front ++ back)) → length (without_zeros (front ++ back)) ≡ z + count → spelled (without_zeros (front ++ back)) < 10 ^ count → ((c : ℕ) → count ≡ suc c → 10 ^ c ≤ spelled (without_zeros (front ++ back))) →
-        int_lt (pos 20) (signed t n +ℤ pos (length front) -ℤ pos z) ≡ is_huge (Decimal negative (spelled (without_zeros (front ++ back))) (signed t n +ℤ pos (length front) -ℤ pos (length (without_zeros (front ++ back)))))
+    by : (count : ℕ) → 0 < spelled (without_zeros (front ++ back)) →
+        length (without_zeros (front ++ back)) ≡ z + count → spelled (without_zeros (front ++ back)) < 10 ^ count →
+        ((c : ℕ) → count ≡ suc c → 10 ^ c ≤ spelled (without_zeros (front ++ back))) →
+        int_lt (pos 20) (signed t n +ℤ pos (length front) -ℤ pos z)
+        ≡ is_huge (Decimal negative (spelled (without_zeros (front ++ back)))
+        (signed t n +ℤ pos (length front) -ℤ pos (length (without_zeros (front ++ back)))))
     by zero some len high low = absurd (omega arith)
     by (suc c) some len high low =
         ap (int_lt (pos 20)) (place (signed t n) (length front) z c (length (without_zeros (front ++ back))) len)
-        ∙ size_huge negative (spelled (without_zeros (front ++ back))) c (signed t n +ℤ pos (length front) -ℤ pos (length (without_zeros (front ++ back)))) (low c refl) high
+        ∙ size_huge negative (spelled (without_zeros (front ++ back))) c
+        (signed t n +ℤ pos (length front) -ℤ pos (length (without_zeros (front ++ back)))) (low c refl) high
 
 -- ---- a quotient without the last twenty digits of its first number
 
@@ -178,7 +192,9 @@ record IsQuotient (high whole : ℕ) : Type 0 where
 
 drop_digits : (n : ℕ) (ds : List ℕ) → list_all is_ascii_digit ds ≡ true → list_all is_ascii_digit (drop n ds) ≡ true
 drop_digits n ds h =
-    let e : (list_all is_ascii_digit (take n ds) && list_all is_ascii_digit (drop n ds)) ≡ true = sym (list_all-append is_ascii_digit (take n ds) (drop n ds)) ∙ ap (list_all is_ascii_digit) (take-append-drop n ds) ∙ h in
+    let e : (list_all is_ascii_digit (take n ds) && list_all is_ascii_digit (drop n ds)) ≡ true =
+    sym (list_all-append is_ascii_digit (take n ds) (drop n ds))
+    ∙ ap (list_all is_ascii_digit) (take-append-drop n ds) ∙ h in
     (and_parts _ _ e).1
 
 high_digits : (ds : List ℕ) → list_all is_ascii_digit ds ≡ true →
@@ -191,10 +207,14 @@ high_digits ds h = by (leb 20 (length ds)) refl
         let rest : List ℕ = drop (length ds - 20) ds in
         let l = leb-true 20 (length ds) e in
         let len : length rest ≡ 20 = omega (arith, length-drop (length ds - 20) ds) in
-        let whole : spelled ds ≡ spelled_from high rest = ap spelled (sym (take-append-drop (length ds - 20) ds)) ∙ spelled-append 0 (take (length ds - 20) ds) rest in
+        let whole : spelled ds ≡ spelled_from high rest =
+        ap spelled (sym (take-append-drop (length ds - 20) ds)) ∙ spelled-append 0 (take (length ds - 20) ds) rest in
         let power : 10 ^ length rest ≡ 10 ^ 20 = ap (λ n. 10 ^ n) len in
-        let low : high * 10 ^ 20 ≤ spelled_from high rest = subst (λ n. high * n ≤ spelled_from high rest) power (at_least high rest) in
-        let up : spelled_from high rest < suc high * 10 ^ 20 = subst (λ n. spelled_from high rest < suc high * n) power (below high rest (drop_digits (length ds - 20) ds h)) in
+        let low : high * 10 ^ 20 ≤ spelled_from high rest =
+        subst (λ n. high * n ≤ spelled_from high rest) power (at_least high rest) in
+        let up : spelled_from high rest < suc high * 10 ^ 20 =
+        subst (λ n. spelled_from high rest < suc high * n) power
+        (below high rest (drop_digits (length ds - 20) ds h)) in
         record { low = omega arith; up = omega arith }
     by false e =
         let l = leb-false 20 (length ds) e in

@@ -1,5 +1,6 @@
 -- What follows the first byte that passes a test.
-use Rattle.std.proofs.Common.{◌++◌, ℤ, ap₂, Bor, ◌≡◌, ℕ, suc, ◌+◌, ◌-◌, Bool, true, false, cond, not, ◌||◌, ltb, Option, Some, None, List, [], ◌∷◌, length, take, drop, length-drop, refl, sym, ap, ◌∙◌, arith}
+use Rattle.std.proofs.Common.{◌++◌, ℤ, ap₂, Bor, ◌≡◌, ℕ, suc, ◌+◌, ◌-◌, Bool, true, false, cond, not, ◌||◌, ltb, Option}
+use Rattle.std.proofs.Common.{Some, None, List, [], ◌∷◌, length, take, drop, length-drop, refl, sym, ap, ◌∙◌, arith}
 use Rattle.std.specs.List.{list_any, position, position_or_len, before_first, after_first}
 use Rattle.std.specs.Option.{unwrap_or, option_copied}
 use Rattle.std.proofs.lemmas.Bool.{lt-ltb}
@@ -54,9 +55,11 @@ unwrapped (Some x) d = refl
 
 -- digits around a point, and an exponent
 pub decimal_is : (negative : Bool) (mantissa front back : List ℕ) (mark : Option (List ℕ)) (e : ℤ) →
-    front ≡ before_first is_point mantissa → back ≡ after_first is_point mantissa → Some e ≡ exponent_of mark → are_digits (front ++ back) ≡ true →
+    front ≡ before_first is_point mantissa → back ≡ after_first is_point mantissa →
+    Some e ≡ exponent_of mark → are_digits (front ++ back) ≡ true →
     Some (scaled negative front back e) ≡ mantissa_of negative mantissa mark
 unfolding mantissa_of decimal_of
 decimal_is negative mantissa front back mark e f b h d =
-    let t : are_digits (before_first is_point mantissa ++ after_first is_point mantissa) ≡ true = ap₂ (λ (x y : List ℕ). are_digits (x ++ y)) (sym f) (sym b) ∙ d in
+    let t : are_digits (before_first is_point mantissa ++ after_first is_point mantissa) ≡ true =
+    ap₂ (λ (x y : List ℕ). are_digits (x ++ y)) (sym f) (sym b) ∙ d in
     rw (t, ← h) (ap₂ (λ (x y : List ℕ). Some (scaled negative x y e)) f b)

@@ -10,7 +10,9 @@ returns c =
     let p : 0 < c.args.a = omega arith in
     let q : 0 < c.args.b = omega arith in
     let e : c.odd_common.result * 2 ^ c.min-twos.result ≡ gcd c.args.a c.args.b =
-    ap₂ (λ (m k : ℕ). m * 2 ^ k) (c.odd_common.ensures ∙ c.odd_part-2.ensures.common c.odd_part.result c.odd_part.ensures.odd ∙ ap (λ n. gcd n c.args.b) c.odd_part.ensures.value) c.min-twos.ensures
+    ap₂ (λ (m k : ℕ). m * 2 ^ k)
+    (c.odd_common.ensures ∙ c.odd_part-2.ensures.common c.odd_part.result c.odd_part.ensures.odd
+    ∙ ap (λ n. gcd n c.args.b) c.odd_part.ensures.value) c.min-twos.ensures
     ∙ gcd_by_twos 64 c.args.a c.args.b p c.ranges.a.fits q c.ranges.b.fits in
     let small : gcd c.args.a c.args.b ≤ c.args.a = le_of_dvd p (gcd_is c.args.a c.args.b).0 in
     ap (λ n. n % 18446744073709551616) e ∙ mod-eq_of_lt (omega arith)

@@ -9,7 +9,8 @@ use Rattle.lp_frac.proofs.lowest.divided.Goals as goal
 is_lowest : (c : goal.After-short_part_den) → IsLowest c.args.num c.args.den c.short_part.result c.short_part_den.result
 is_lowest c =
     let a : SFits w64 c.args.num = c.ranges.num in
-    in_lowest c.args.num c.args.den c.common_of_short-g.result c.short_part.result c.short_part_den.result c.requires.positive
+    in_lowest c.args.num c.args.den c.common_of_short-g.result
+    c.short_part.result c.short_part_den.result c.requires.positive
     (c.common_of_short-g.ensures.value ∙ ap (λ k. gcd k c.args.den) (simp to_z-of_z at c.unsigned_abs.ensures.value))
     (simp to_z-of_z at c.short_part.ensures) c.short_part_den.ensures
 
@@ -23,7 +24,8 @@ returns c =
     let a : SFits w64 c.args.num = c.ranges.num in
     let n : SFits w128 c.short_part.result = search rules in
     let l =
-    in_lowest c.args.num c.args.den c.common_of_short-g.result c.short_part.result c.short_part_den.result c.requires.positive
+    in_lowest c.args.num c.args.den c.common_of_short-g.result
+    c.short_part.result c.short_part_den.result c.requires.positive
     (c.common_of_short-g.ensures.value ∙ ap (λ k. gcd k c.args.den) (simp to_z-of_z at c.unsigned_abs.ensures.value))
     (simp to_z-of_z at c.short_part.ensures) c.short_part_den.ensures in
     c.make-2.ensures ∙ ap (λ (z : ℤ). over z c.short_part_den.result) (to_z-of_z n) ∙ l.same

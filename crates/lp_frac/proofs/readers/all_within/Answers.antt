@@ -9,9 +9,11 @@ use Rattle.lp_frac.proofs.readers.all_within.Goals as goal
 
 pub loop-v-preserved : goal.loop-v-preserved
 loop-v-preserved c =
-    All-more (IsWithin largest) c.args.vs.now c.loop-v.v-index c.v-item.result (omega (arith, c.loop-v-test.true)) c.loop-v.invariant
+    All-more (IsWithin largest) c.args.vs.now c.loop-v.v-index c.v-item.result
+    (omega (arith, c.loop-v-test.true)) c.loop-v.invariant
     (subst (IsWithin largest) c.v-item.is c.within.ensures)
 
 pub returns : goal.returns
 returns c =
-    subst (All (IsWithin largest)) (take_all c.loop-v.v-index c.args.vs.now (omega (arith, c.loop-v-test.false))) c.loop-v.invariant
+    subst (All (IsWithin largest))
+    (take_all c.loop-v.v-index c.args.vs.now (omega (arith, c.loop-v-test.false))) c.loop-v.invariant

@@ -10,4 +10,5 @@ returns c =
     let n : SFits w64 c.args.n = c.ranges.n in
     let s = c.scales-p.ensures in
     (simp to_z-of_z at c.difference_on.ensures)
-    ∙ scaled_same c.args.e c.args.f c.args.n c.args.k c.scales-p.result.0 c.scales-p.result.1 c.requires.f_positive c.requires.k_positive s.positive s.same
+    ∙ scaled_same c.args.e c.args.f c.args.n c.args.k c.scales-p.result.0
+    c.scales-p.result.1 c.requires.f_positive c.requires.k_positive s.positive s.same

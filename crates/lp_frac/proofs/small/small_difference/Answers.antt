@@ -11,4 +11,5 @@ returns c =
     let n : SFits w64 c.args.n = c.ranges.n in
     let s = c.scales-p.ensures in
     IfSome_then c.small_difference_on.result (simp to_z-of_z at c.small_difference_on.ensures)
-    (λ x h. h ∙ scaled_same c.args.e c.args.f c.args.n c.args.k c.scales-p.result.0 c.scales-p.result.1 c.requires.f_positive c.requires.k_positive s.positive s.same)
+    (λ x h. h ∙ scaled_same c.args.e c.args.f c.args.n c.args.k c.scales-p.result.0
+    c.scales-p.result.1 c.requires.f_positive c.requires.k_positive s.positive s.same)

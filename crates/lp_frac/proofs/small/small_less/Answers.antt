@@ -15,5 +15,6 @@ returns c =
     let e : SFits w32 s.e = search rules in
     let n : SFits w64 c.small_product.result = search rules in
     IfSome_then c.small_difference.result (simp to_z-of_z at c.small_difference.ensures)
-    (λ x h. less_small c.args.v c.args.w c.args.s x v.a w.c s.e v.b w.d s.f c.small_product.result c.small_product_den.result
+    (λ x h. less_small c.args.v c.args.w c.args.s x v.a w.c s.e
+    v.b w.d s.f c.small_product.result c.small_product_den.result
     v.ensures w.ensures s.ensures (simp to_z-of_z at c.small_product.ensures.value) c.small_product_den.ensures h)

@@ -1,7 +1,8 @@
 -- What each exit gives, by the line so far.
 use Rattle.std.proofs.Common.{◌∙◌, sym, refl, true, false, arith}
 use Rattle.std.proofs.lemmas.Result.{err_from_is_err_and}
-use Rattle.lp_base.proofs.SoFar.{SoFar-read, SoFar-run, gives_ended, gives_over, gives_last, gives_no_memory, gives_err, breaks_off, still_ahead, stays, has_some, has_none, run_with, not_both}
+use Rattle.lp_base.proofs.SoFar.{SoFar-read, SoFar-run, gives_ended, gives_over, gives_last, gives_no_memory}
+use Rattle.lp_base.proofs.SoFar.{gives_err, breaks_off, still_ahead, stays, has_some, has_none, run_with, not_both}
 use Rattle.lp_base.proofs.lines.Lines.next.Goals as goal
 
 pub returns-in_err-has_more-clause-held : goal.returns-in_err-has_more-clause-held
@@ -12,7 +13,8 @@ pub returns-in_err-has_more-clause-line : goal.returns-in_err-has_more-clause-li
 returns-in_err-has_more-clause-line g c =
     let p = err_from_is_err_and c.from_residual.result c.from_residual.ensures.1 in
     let fault = c.in_err-has_more.ensures.moved in
-    gives_err c.from_residual.result p.0 p.1 p.2 (breaks_off (g.S.Source.left c.has_more.new.source) c.loop-line.invariant.read fault.0 fault.1 fault.2 fault.3 c.loop-line.invariant.bound)
+    gives_err c.from_residual.result p.0 p.1 p.2 (breaks_off (g.S.Source.left c.has_more.new.source)
+    c.loop-line.invariant.read fault.0 fault.1 fault.2 fault.3 c.loop-line.invariant.bound)
 
 pub returns-then-is_full-clause-line : goal.returns-then-is_full-clause-line
 returns-then-is_full-clause-line g c =
@@ -31,7 +33,8 @@ returns-in_err-take_run-clause-line g c =
     let some = has_some _ _ _ _ _ c.if-branch.true more.4 in
     let s = SoFar-read c.loop-line.invariant.read more.0 more.1 more.2 more.3 (some.2 ∙ sym some.1) in
     let p = err_from_is_err_and c.from_residual-in_err-take_run.result c.from_residual-in_err-take_run.ensures.1 in
-    gives_err c.from_residual-in_err-take_run.result p.0 p.1 p.2 (gives_no_memory c.take_run.new.self s some.2 c.has_more.ensures.near)
+    gives_err c.from_residual-in_err-take_run.result p.0 p.1 p.2
+    (gives_no_memory c.take_run.new.self s some.2 c.has_more.ensures.near)
 
 pub returns-in_err-take_run-clause-held : goal.returns-in_err-take_run-clause-held
 returns-in_err-take_run-clause-held g c =
@@ -42,7 +45,8 @@ returns-then-branch-2-clause-line g c =
     let more = c.in_ok-has_more.ensures.moved in
     let some = has_some _ _ _ _ _ c.if-branch.true more.4 in
     let s = SoFar-read c.loop-line.invariant.read more.0 more.1 more.2 more.3 (some.2 ∙ sym some.1) in
-    gives_ended s (run_with true c.in_ok-take_run.ensures c.if-branch-2.true) some.2 c.has_more.ensures.near c.ended_line.result c.ended_line.ensures
+    gives_ended s (run_with true c.in_ok-take_run.ensures c.if-branch-2.true)
+    some.2 c.has_more.ensures.near c.ended_line.result c.ended_line.ensures
 
 pub returns-then-branch-2-clause-held : goal.returns-then-branch-2-clause-held
 returns-then-branch-2-clause-held g c =
@@ -59,7 +63,8 @@ loop-line-preserved g c =
       later = omega (arith, c.has_more.ensures.cause.later);
       idle = λ e. absurd (not_both some.1 (c.loop-line.invariant.read.ended ∙ e));
       held =
-          λ has. stays (c.loop-line.invariant.held has) (c.has_more.ensures.held (still_ahead c.loop-line.invariant.read has));
+          λ has. stays (c.loop-line.invariant.held has)
+          (c.has_more.ensures.held (still_ahead c.loop-line.invariant.read has));
       bound = run.bound;
       beside = cc;
     }
@@ -68,7 +73,9 @@ pub returns-clause-line : goal.returns-clause-line
 returns-clause-line g c =
     let more = c.in_ok-has_more.ensures.moved in
     let none = has_none _ _ _ _ _ c.if-branch.false more.4 in
-    gives_last (g.S.Source.left c.has_more.new.source) c.loop-line.invariant.read more.0 more.1 more.2 more.3 none c.loop-line.invariant.bound c.loop-line.invariant.idle c.last_line.result c.last_line.ensures.some c.last_line.ensures.none
+    gives_last (g.S.Source.left c.has_more.new.source) c.loop-line.invariant.read more.0
+    more.1 more.2 more.3 none c.loop-line.invariant.bound c.loop-line.invariant.idle
+    c.last_line.result c.last_line.ensures.some c.last_line.ensures.none
 
 pub returns-clause-held : goal.returns-clause-held
 returns-clause-held g c =

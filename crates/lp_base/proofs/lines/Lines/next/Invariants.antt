@@ -10,7 +10,8 @@ invariant-loop-line g l = record {
   later : g.S.Source.read_faults l.fn.source ≤ g.S.Source.read_faults l.source;
   idle : l.fn.self.ended ≡ true → (l.line.len ≡ 0) × (g.S.Source.left l.source ≡ g.S.Source.left l.fn.source);
   held : Contains l.fn.self.ahead 10 →
-      (g.S.Source.left l.source ≡ g.S.Source.left l.fn.source) × (g.S.Source.read_faults l.source ≡ g.S.Source.read_faults l.fn.source);
+      (g.S.Source.left l.source ≡ g.S.Source.left l.fn.source)
+      × (g.S.Source.read_faults l.source ≡ g.S.Source.read_faults l.fn.source);
   bound : l.self.given ≤ 2 ^ 26;
   beside : g.S.Source.beside_reads l.source ≡ g.S.Source.beside_reads l.fn.source;
 }

@@ -24,27 +24,31 @@ returns-then-self-piece-clause-behind c =
     let room = length c.args.buf.now in
     let n = c.copy_front-count.result in
     let bytes = c.at-piece.result.now in
-    let len : length (take (length bytes - s.from) (drop s.from bytes)) ≡ length bytes - s.from = ap length (rest_of s.from bytes) ∙ length-drop s.from bytes in
+    let len : length (take (length bytes - s.from) (drop s.from bytes)) ≡ length bytes - s.from =
+    ap length (rest_of s.from bytes) ∙ length-drop s.from bytes in
     let count = c.copy_front-count.ensures.count in
     left_then s.pieces s.piece s.from room n bytes c.at-piece.ensures (omega arith) (omega (arith, count, len))
     ∙ ap (left_behind room) c.loop-self.invariant.left
 
 pub returns-then-self-piece-clause-bytes : goal.returns-then-self-piece-clause-bytes
 returns-then-self-piece-clause-bytes c =
-    given_bytes (length c.args.buf.now) _ _ _ (returns-then-self-piece-clause-first c) (returns-then-self-piece-clause-behind c)
+    given_bytes (length c.args.buf.now) _ _ _
+    (returns-then-self-piece-clause-first c) (returns-then-self-piece-clause-behind c)
 
 pub returns-then-self-piece-clause-end : goal.returns-then-self-piece-clause-end
 returns-then-self-piece-clause-end c =
     let s = c.loop-self.self in
     let bytes = c.at-piece.result.now in
     let some : 0 < length bytes - s.from = omega arith in
-    let len : length (take (length bytes - s.from) (drop s.from bytes)) ≡ length bytes - s.from = ap length (rest_of s.from bytes) ∙ length-drop s.from bytes in
+    let len : length (take (length bytes - s.from) (drop s.from bytes)) ≡ length bytes - s.from =
+    ap length (rest_of s.from bytes) ∙ length-drop s.from bytes in
     λ zero room. absurd (omega (arith, c.copy_front-count.ensures.count, c.copy_front-count.ensures.len, len))
 
 pub returns-clause-first : goal.returns-clause-first
 returns-clause-first c =
     let s = c.loop-self.self in
-    sym (ap (first_given (length c.args.buf.now)) (sym c.loop-self.invariant.left ∙ no_pieces s.pieces s.piece s.from (omega arith)))
+    sym (ap (first_given (length c.args.buf.now))
+    (sym c.loop-self.invariant.left ∙ no_pieces s.pieces s.piece s.from (omega arith)))
 
 pub returns-clause-behind : goal.returns-clause-behind
 returns-clause-behind c =
@@ -63,4 +67,9 @@ returns-clause-end c =
 pub loop-self-preserved : goal.loop-self-preserved
 loop-self-preserved c =
     let s = c.loop-self.self in
-    record { left = next_piece s.pieces s.piece s.from c.at-piece.result.now c.at-piece.ensures (omega arith) ∙ c.loop-self.invariant.left; calls = cc }
+    record {
+      left =
+          next_piece s.pieces s.piece s.from c.at-piece.result.now c.at-piece.ensures (omega arith)
+          ∙ c.loop-self.invariant.left;
+      calls = cc;
+    }

@@ -5,7 +5,8 @@ use Rattle.lp_base.proofs.memory.MemSource.give.Given as goal
 
 abbrev pub invariant-loop-self : goal.invariant-loop-self
 invariant-loop-self l = record {
-  left : pieces_left l.self.piece l.self.from l.self.pieces ≡ pieces_left l.fn.self.piece l.fn.self.from l.fn.self.pieces;
+  left : pieces_left l.self.piece l.self.from l.self.pieces
+      ≡ pieces_left l.fn.self.piece l.fn.self.from l.fn.self.pieces;
   calls : l.self.calls ≡ l.fn.self.calls;
 }
 

@@ -14,4 +14,6 @@ returns-then-len-gt-MAX_LINE c = λ raw kept.
 pub returns : goal.returns
 returns c = λ raw kept.
     let len : length (take c.args.len raw) ≡ c.args.len = length-take-le c.args.len raw (omega (arith, kept.len)) in
-    ap Text (c.from_vec.ensures ∙ c.truncate.ensures.items ∙ cut_kept c.args.self.bytes.items raw c.args.len 16385 kept.bytes (omega arith)) ∙ sym (line_short (take c.args.len raw) (omega (arith, len)))
+    ap Text (c.from_vec.ensures ∙ c.truncate.ensures.items
+    ∙ cut_kept c.args.self.bytes.items raw c.args.len 16385 kept.bytes (omega arith))
+    ∙ sym (line_short (take c.args.len raw) (omega (arith, len)))

@@ -8,7 +8,8 @@ use Rattle.lp_base.proofs.part.Part.ended_line.Goals as goal
 
 pub returns : goal.returns
 returns c = λ raw kept.
-    let same : take c.if-self-eq-CARRIAGE_RETURN.len raw ≡ strip_carriage_return raw = elim c.if-self-eq-CARRIAGE_RETURN.branch [
+    let same : take c.if-self-eq-CARRIAGE_RETURN.len raw ≡ strip_carriage_return raw =
+    elim c.if-self-eq-CARRIAGE_RETURN.branch [
       | then-self-eq-CARRIAGE_RETURN w ↦
           ap (λ n. take n raw) (w.len-is ∙ w.saturating_sub-len.ensures ∙ ap (λ n. n - 1) kept.len)
           ∙ stripped raw c.args.self.last kept.last w.if-self-eq-CARRIAGE_RETURN.true
