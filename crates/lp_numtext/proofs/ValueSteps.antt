@@ -1,5 +1,7 @@
 -- The bound that a text is, by the size of its number.
-use Rattle.std.proofs.Common.{◌≡◌, ℕ, suc, ◌*◌, ◌^◌, ◌<◌, ◌≤◌, Bool, true, false, not, cond, List, [], ◌∷◌, refl, sym, ap, ◌∙◌, arith, Some, None, leb, leb-true, ℤ, pos, negsuc, neg_ℤ, ◌≤ℤ◌, ◌<ℤ◌, ◌*ℤ◌, subst, subst₂}
+use Rattle.std.proofs.Common.{◌≡◌, ℕ, suc, ◌*◌, ◌^◌, ◌<◌, ◌≤◌, Bool, true, false, not, cond}
+use Rattle.std.proofs.Common.{List, [], ◌∷◌, refl, sym, ap, ◌∙◌, arith, Some, None, leb}
+use Rattle.std.proofs.Common.{leb-true, ℤ, pos, negsuc, neg_ℤ, ◌≤ℤ◌, ◌<ℤ◌, ◌*ℤ◌, subst, subst₂}
 use Rattle.std.specs.Prelude.{Ok, Err}
 use Rattle.std.proofs.lemmas.Bool.{leb-false}
 use Rattle.std.proofs.Math.Nat.{one-le-pow, mul-pos}
@@ -10,14 +12,17 @@ use Rattle.spec_exact.proofs.Whole.{by_ring}
 use Rattle.spec_exact.proofs.Fraction.{over_cross, over-parts}
 use Rattle.spec_exact.proofs.Order.{≤ℚ-over, ≤ℤ-times, ≤ℤ_cancel, lt_test, not_lt_test}
 use Rattle.spec_exact.proofs.Strict.{lt_from_not, ≤ℚ-<ℚ_trans}
-use Rattle.spec_mps.specs.BoundText.{infinite, is_at_least, is_infinity, infinity, as_bound, bound_by_value, bound_by, bound_of, bound_answer}
+use Rattle.spec_mps.specs.BoundText.{infinite, is_at_least, is_infinity, infinity, as_bound}
+use Rattle.spec_mps.specs.BoundText.{bound_by_value, bound_by, bound_of, bound_answer}
 use Rattle.spec_mps.specs.BoundText as bound
 use Rattle.spec_mps.specs.declared.number.NumFault.{NumFault}
 use Rattle.spec_mps.specs.declared.number.NumFault.TheVariants as fault
 use Rattle.spec_mps.specs.declared.number.BoundValue.TheVariants as value
 use Rattle.spec_mps.proofs.RoundTrip.{over-one}
 use Rattle.spec_mps.specs.NumberText as number
-use Rattle.spec_mps.specs.NumberText.{NumberReading, value_of, number_by, parts_of, is_negative, without_sign, answer, NumberParts, Decimal, Quotient, spelled_from, spelled, is_zero, without_zeros, signed, scaled}
+use Rattle.spec_mps.specs.NumberText.{NumberReading, value_of, number_by, parts_of, is_negative}
+use Rattle.spec_mps.specs.NumberText.{without_sign, answer, NumberParts, Decimal, Quotient}
+use Rattle.spec_mps.specs.NumberText.{spelled_from, spelled, is_zero, without_zeros, signed, scaled}
 use Rattle.lp_numtext.specs.Huge.{is_huge, sign_of}
 use Rattle.lp_numtext.specs.Seen.{parts_seen}
 use Rattle.lp_numtext.specs.declared.parts.Parts.{Parts}
@@ -61,7 +66,8 @@ low_limit = over-parts (neg_ℚ infinite)
 
 limits : neg_ℚ infinite <ℚ infinite
 limits =
-    subst₂ ◌<ℚ◌ low_limit top_limit (over_strict (neg_ℤ (pos (10 ^ 20))) (pos (10 ^ 20)) 1 1 (omega arith) (omega arith) (omega (arith, ints)))
+    subst₂ ◌<ℚ◌ low_limit top_limit
+    (over_strict (neg_ℤ (pos (10 ^ 20))) (pos (10 ^ 20)) 1 1 (omega arith) (omega arith) (omega (arith, ints)))
 
 lt_from : (x y : ℚ) → x <ℚ y → is_at_least y x ≡ false
 lt_from x y h = ap not (lt_test x y h)
@@ -73,10 +79,14 @@ huge_value : (negative : Bool) (n d : ℕ) (r : NumberReading) → 0 < d → 10 
     bound_by_value (over (signed negative n) d) r ≡ infinity negative
 unfolding bound_by_value
 huge_value false n d r p h =
-    let le : infinite ≤ℚ over (pos n) d = subst (λ x. x ≤ℚ over (pos n) d) top_limit (≤ℚ-over (pos (10 ^ 20)) (pos n) 1 d (omega arith) p (omega (arith, ints))) in
+    let le : infinite ≤ℚ over (pos n) d =
+    subst (λ x. x ≤ℚ over (pos n) d) top_limit
+    (≤ℚ-over (pos (10 ^ 20)) (pos n) 1 d (omega arith) p (omega (arith, ints))) in
     rw (le_from (over (pos n) d) infinite le) refl
 huge_value true n d r p h =
-    let le : over (neg_ℤ (pos n)) d ≤ℚ neg_ℚ infinite = subst (λ x. over (neg_ℤ (pos n)) d ≤ℚ x) low_limit (≤ℚ-over (neg_ℤ (pos n)) (neg_ℤ (pos (10 ^ 20))) d 1 p (omega arith) (omega (arith, ints))) in
+    let le : over (neg_ℤ (pos n)) d ≤ℚ neg_ℚ infinite =
+    subst (λ x. over (neg_ℤ (pos n)) d ≤ℚ x) low_limit
+    (≤ℚ-over (neg_ℤ (pos n)) (neg_ℤ (pos (10 ^ 20))) d 1 p (omega arith) (omega (arith, ints))) in
     let lt : over (neg_ℤ (pos n)) d <ℚ infinite = ≤ℚ-<ℚ_trans _ (neg_ℚ infinite) _ le limits in
     rw (lt_from (over (neg_ℤ (pos n)) d) infinite lt, le_from (neg_ℚ infinite) (over (neg_ℤ (pos n)) d) le) refl
 
@@ -84,9 +94,15 @@ small_value : (negative : Bool) (n d : ℕ) (r : NumberReading) → 0 < d → n 
     bound_by_value (over (signed negative n) d) r ≡ as_bound r
 unfolding bound_by_value
 small_value negative n d r p h =
-    let above : neg_ℚ infinite <ℚ over (signed negative n) d = subst (λ x. x <ℚ over (signed negative n) d) low_limit (over_strict (neg_ℤ (pos (10 ^ 20))) (signed negative n) 1 d (omega arith) p (up negative)) in
-    let under : over (signed negative n) d <ℚ infinite = subst (λ x. over (signed negative n) d <ℚ x) top_limit (over_strict (signed negative n) (pos (10 ^ 20)) d 1 p (omega arith) (down negative)) in
-    rw (lt_from (over (signed negative n) d) infinite under, lt_from (neg_ℚ infinite) (over (signed negative n) d) above) refl
+    let above : neg_ℚ infinite <ℚ over (signed negative n) d =
+    subst (λ x. x <ℚ over (signed negative n) d) low_limit
+    (over_strict (neg_ℤ (pos (10 ^ 20))) (signed negative n) 1 d (omega arith) p (up negative)) in
+    let under : over (signed negative n) d <ℚ infinite =
+    subst (λ x. over (signed negative n) d <ℚ x) top_limit
+    (over_strict (signed negative n) (pos (10 ^ 20)) d 1 p (omega arith) (down negative)) in
+    rw
+    (lt_from (over (signed negative n) d) infinite under, lt_from (neg_ℚ infinite) (over (signed negative n) d) above)
+    refl
   where
     up : (negative : Bool) → (neg_ℤ (pos (10 ^ 20)) *ℤ pos d) <ℤ (signed negative n *ℤ pos 1)
     up true = omega (arith, ints)
@@ -114,7 +130,8 @@ by_size : (p : NumberParts) (r : NumberReading) → IsProper p →
     bound_by_value (value_of p) r ≡ cond (is_huge p) (infinity (sign_of p)) (as_bound r)
 unfolding value_of is_huge IsProper
 by_size (Decimal negative s (pos e)) r p =
-    ap (λ x. bound_by_value x r) (sym (over-one (signed negative (s * 10 ^ e)))) ∙ tested negative (s * 10 ^ e) 1 r (omega arith)
+    ap (λ x. bound_by_value x r) (sym (over-one (signed negative (s * 10 ^ e))))
+    ∙ tested negative (s * 10 ^ e) 1 r (omega arith)
 by_size (Decimal negative s (negsuc e)) r p = tested negative s (10 ^ suc e) r (one-le-pow (suc e) 10 (omega arith))
 by_size (Quotient negative top bottom) r p = tested negative top bottom r p
 

@@ -17,8 +17,6 @@ mod digits;
 mod parts;
 mod pieces;
 mod reading;
-#[cfg(test)]
-mod tests;
 mod width;
 mod writing;
 

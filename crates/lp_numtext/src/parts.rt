@@ -81,7 +81,8 @@ impl<'a> Decimal<'a> {
     // A text with neither sign nor slash.
     #[tactic(auto, unfolding(spec_mps::specs::NumberText::mantissa_of, spec_mps::specs::NumberText::decimal_of))]
     fn parse(is_negative: bool, body: &'a [u8]) -> Option<Decimal<'a>>
-        ensures { option_map decimal_seen result ≡ number.mantissa_of is_negative (before_first number.is_mark body.now) (number.behind number.is_mark body.now) }
+        ensures { option_map decimal_seen result ≡ number.mantissa_of is_negative
+            (before_first number.is_mark body.now) (number.behind number.is_mark body.now) }
     {
         let (mantissa, mark) = split(body, Separator::Mark);
         let (front, back) = split(mantissa, Separator::Point);

@@ -1,17 +1,17 @@
 // Numbers within the width, which is the limit of fractions.
 ghost use Rattle.std.specs.Prelude.{◌≡◌, ◌*◌};
-ghost use Rattle.lp_numtext.specs.Within as told;
+ghost use Rattle.lp_numtext.specs.Within as width;
 
 use lp_frac::LARGEST;
 
 pub(crate) fn within(n: u128) -> Option<u128>
-    ensures { result ≡ told.within n }
+    ensures { result ≡ width.within n }
 {
     if n <= LARGEST { Some(n) } else { None }
 }
 
 pub(crate) fn product(n: u128, k: u128) -> Option<u128>
-    ensures { result ≡ told.within (n * k) }
+    ensures { result ≡ width.within (n * k) }
 {
     within(n.checked_mul(k)?)
 }

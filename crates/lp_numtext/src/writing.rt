@@ -1,6 +1,6 @@
 // Fractions as text.
 ghost use Rattle.std.specs.Prelude.{◌≡◌, ◌<◌, ◌≤◌, ◌++◌, decimal, OnOk, OnErr, IfOk, IfSome};
-ghost use Rattle.spec_mps.specs.NumberWritten as told;
+ghost use Rattle.spec_mps.specs.NumberWritten as number_written;
 
 use crate::width::product;
 use lp_base::Bytes;
@@ -19,7 +19,7 @@ fn write_whole(alloc: Global, n: u128, to: &mut Bytes) -> Result<(), AllocError>
 
 fn write_last_digits(n: u128, places: u32, to: &mut Bytes) -> Result<(), AllocError>
     requires { places ≤ MAX_PLACES }
-    ensures { OnOk result (to.new ≡ to.old ++ told.last_digits places n) }
+    ensures { OnOk result (to.new ≡ to.old ++ number_written.last_digits places n) }
 {
     for place in (0..places).rev() {
         let digit = n / 10u128.pow(place) % 10;
@@ -31,7 +31,7 @@ fn write_last_digits(n: u128, places: u32, to: &mut Bytes) -> Result<(), AllocEr
 #[tactic(auto, unfolding(spec_mps::specs::NumberWritten::pointed))]
 fn write_pointed(alloc: Global, n: u128, places: u32, to: &mut Bytes) -> Result<(), AllocError>
     requires { places ≤ MAX_PLACES }
-    ensures { OnOk result (to.new ≡ to.old ++ told.pointed places n) }
+    ensures { OnOk result (to.new ≡ to.old ++ number_written.pointed places n) }
 {
     write_whole(alloc, n / 10u128.pow(places), to)?;
     to.push(b'.')?;
@@ -40,7 +40,7 @@ fn write_pointed(alloc: Global, n: u128, places: u32, to: &mut Bytes) -> Result<
 
 #[tactic(auto, unfolding(spec_mps::specs::NumberWritten::quotient_text))]
 fn write_quotient(alloc: Global, n: u128, den: u128, to: &mut Bytes) -> Result<(), AllocError>
-    ensures { OnOk result (to.new ≡ to.old ++ told.quotient_text n den) }
+    ensures { OnOk result (to.new ≡ to.old ++ number_written.quotient_text n den) }
 {
     write_whole(alloc, n, to)?;
     to.push(b'/')?;
@@ -50,7 +50,7 @@ fn write_quotient(alloc: Global, n: u128, den: u128, to: &mut Bytes) -> Result<(
 // The least number of places after the point that a fraction with this denominator takes, where 18 are enough.
 fn places(den: u128) -> Option<u32>
     requires { 0 < den }
-    ensures value { result ≡ told.places den }
+    ensures value { result ≡ number_written.places den }
     ensures bound { IfSome result (λ d. d ≤ MAX_PLACES) }
 {
     for d in 0..=MAX_PLACES {
@@ -64,7 +64,7 @@ fn places(den: u128) -> Option<u32>
 #[tactic(auto, unfolding(spec_mps::specs::NumberWritten::size_text, spec_mps::specs::NumberWritten::placed))]
 fn write_size(alloc: Global, n: u128, den: u128, to: &mut Bytes) -> Result<(), AllocError>
     requires { 0 < den }
-    ensures { OnOk result (to.new ≡ to.old ++ told.size_text n den) }
+    ensures { OnOk result (to.new ≡ to.old ++ number_written.size_text n den) }
 {
     if den == 1 {
         return write_whole(alloc, n, to);
@@ -80,7 +80,7 @@ fn write_size(alloc: Global, n: u128, den: u128, to: &mut Bytes) -> Result<(), A
 /// The text of the number, which `read` reads as that number.
 #[tactic(auto, unfolding(spec_mps::specs::NumberWritten::number_text))]
 pub fn number_text(alloc: Global, v: Frac) -> Result<Bytes, AllocError>
-    ensures { IfOk result (λ text. text ≡ told.number_text v) }
+    ensures { IfOk result (λ text. text ≡ number_written.number_text v) }
 {
     let mut text = Bytes::new(alloc);
     if num(v) < 0 {
@@ -97,7 +97,7 @@ pub fn number_text(alloc: Global, v: Frac) -> Result<Bytes, AllocError>
 
 /// Appends the text of the number. After an error `to` is as it was.
 pub fn write(alloc: Global, v: Frac, to: &mut Bytes) -> Result<(), AllocError>
-    ensures ok { OnOk result (to.new ≡ to.old ++ told.number_text v) }
+    ensures ok { OnOk result (to.new ≡ to.old ++ number_written.number_text v) }
     ensures err { OnErr result (to.new ≡ to.old) }
 {
     let text = number_text(alloc, v)?;

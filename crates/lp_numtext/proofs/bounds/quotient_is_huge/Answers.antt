@@ -9,5 +9,6 @@ returns c =
     let top = c.args.q.top.bytes.now in
     let bottom = number.spelled c.args.q.bottom.bytes.now in
     c.are_at_least.ensures
-    ∙ ap (λ bs. nat_le bottom (number.spelled bs)) (c.without_last.ensures ∙ ap (λ n. take (length top - n) top) c.from.ensures)
+    ∙ ap (λ bs. nat_le bottom (number.spelled bs))
+    (c.without_last.ensures ∙ ap (λ n. take (length top - n) top) c.from.ensures)
     ∙ quotient_huge c.args.q.is_negative top bottom c.args.q.top.digits c.args.q.not_zero

@@ -9,19 +9,23 @@ pub returns-then-is_infinity : goal.returns-then-is_infinity
 returns-then-is_infinity c =
     c.infinity.ensures
     ∙ ap (λ n. bound_answer (bound.infinity n)) c.is_negative.ensures
-    ∙ ap bound_answer (sym (infinite_word c.args.text.now c.in_default.ensures (ap bound.is_infinity (sym c.without_sign.ensures) ∙ sym c.is_infinity.ensures ∙ c.if-is_infinity.true)))
+    ∙ ap bound_answer (sym (infinite_word c.args.text.now c.in_default.ensures
+    (ap bound.is_infinity (sym c.without_sign.ensures) ∙ sym c.is_infinity.ensures ∙ c.if-is_infinity.true)))
 
 pub returns-in_default : goal.returns-in_default
 returns-in_default c =
-    ap bound_answer (sym (no_bound c.args.text.now c.in_default.ensures (ap bound.is_infinity (sym c.without_sign.ensures) ∙ sym c.is_infinity.ensures ∙ c.if-is_infinity.false)))
+    ap bound_answer (sym (no_bound c.args.text.now c.in_default.ensures
+    (ap bound.is_infinity (sym c.without_sign.ensures) ∙ sym c.is_infinity.ensures ∙ c.if-is_infinity.false)))
 
 pub returns-then-is_huge : goal.returns-then-is_huge
 returns-then-is_huge c =
     c.infinity-then-is_huge.ensures
     ∙ ap (λ n. bound_answer (bound.infinity n)) c.is_negative-then-is_huge.ensures
-    ∙ ap bound_answer (sym (infinite_number c.args.text.now (parts_seen c.in-Some.parts) c.in-Some.ensures (seen_proper c.in-Some.parts) (sym c.is_huge.ensures ∙ c.if-is_huge.true)))
+    ∙ ap bound_answer (sym (infinite_number c.args.text.now (parts_seen c.in-Some.parts) c.in-Some.ensures
+    (seen_proper c.in-Some.parts) (sym c.is_huge.ensures ∙ c.if-is_huge.true)))
 
 pub returns : goal.returns
 returns c =
     c.finite.ensures
-    ∙ ap bound_answer (sym (finite_number c.args.text.now (parts_seen c.in-Some.parts) c.in-Some.ensures (seen_proper c.in-Some.parts) (sym c.is_huge.ensures ∙ c.if-is_huge.false)))
+    ∙ ap bound_answer (sym (finite_number c.args.text.now (parts_seen c.in-Some.parts) c.in-Some.ensures
+    (seen_proper c.in-Some.parts) (sym c.is_huge.ensures ∙ c.if-is_huge.false)))

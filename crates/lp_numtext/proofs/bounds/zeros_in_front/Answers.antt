@@ -8,4 +8,5 @@ returns-then-zeros-len c =
 
 pub returns-else-zeros-len : goal.returns-else-zeros-len
 returns-else-zeros-len c =
-    ap₂ (λ x y. x + y) c.zeros_in_front-zeros.ensures.value c.zeros_in_front.ensures.value ∙ sym (zeros_both c.args.front.bytes.now c.args.back.bytes.now (omega arith))
+    ap₂ (λ x y. x + y) c.zeros_in_front-zeros.ensures.value c.zeros_in_front.ensures.value
+    ∙ sym (zeros_both c.args.front.bytes.now c.args.back.bytes.now (omega arith))

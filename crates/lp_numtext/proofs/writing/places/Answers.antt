@@ -9,5 +9,6 @@ loop-d-init c = refl
 
 pub loop-d-preserved : goal.loop-d-preserved
 loop-d-preserved c =
-    place_passed (19 - c.loop-d.d) (19 - (c.loop-d.d + 1)) c.loop-d.d c.args.den (omega arith) (λ e. c.if-pow-den-eq0.false (ap (λ n. n % c.args.den) c.pow.ensures ∙ e))
+    place_passed (19 - c.loop-d.d) (19 - (c.loop-d.d + 1)) c.loop-d.d c.args.den
+    (omega arith) (λ e. c.if-pow-den-eq0.false (ap (λ n. n % c.args.den) c.pow.ensures ∙ e))
     ∙ c.loop-d.invariant

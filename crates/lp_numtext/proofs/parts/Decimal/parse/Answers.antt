@@ -6,7 +6,8 @@ use Rattle.lp_numtext.proofs.parts.Decimal.parse.Goals as goal
 
 pub returns : goal.returns
 returns c =
-    decimal_is c.args.is_negative c.split.result.0.now c.in_ok-front.front.bytes.now c.in_ok-back.back.bytes.now (option_copied c.split.result.1) _
+    decimal_is c.args.is_negative c.split.result.0.now c.in_ok-front.front.bytes.now c.in_ok-back.back.bytes.now
+    (option_copied c.split.result.1) _
     (c.in_ok-front.ensures.value ∙ c.split-2.ensures.before)
     (c.in_ok-back.ensures.value
     ∙ ap (λ (r : Bor (List ℕ)). r.now) c.unwrap_or.ensures
