@@ -1,5 +1,6 @@
 -- What a pair of a new column does to the entries of those before it.
-use Rattle.std.proofs.Common.{◌≡◌, ℕ, suc, ◌+◌, ◌<◌, Bool, true, false, cond, Option, Some, None, Err, List, [], ◌∷◌, ◌++◌, length, get_or, take, drop, IfSome, sym, ap, ap₂, ◌∙◌, subst, add-one}
+use Rattle.std.proofs.Common.{◌≡◌, ℕ, suc, ◌+◌, ◌<◌, Bool, true, false, cond, Option, Some, None, Err, List, []}
+use Rattle.std.proofs.Common.{◌∷◌, ◌++◌, length, get_or, take, drop, IfSome, sym, ap, ap₂, ◌∙◌, subst, add-one}
 use Rattle.std.specs.List.{slice_get}
 use Rattle.std.proofs.lemmas.Option.{slice_get-get_or}
 use Rattle.std.proofs.Math.Seq.{drop-cons}
@@ -15,7 +16,8 @@ abbrev Entries : Type 0
 Entries = List (ℕ × ℚ)
 
 -- p is the pair at k, in the list as it was read
-module _ (m : Model) (pairs : Pairs) (k : ℕ) (es : Entries) (p : Name × ℚ) (here : p ≡ get_or pairs k p) (l : k < length pairs) where
+module _ (m : Model) (pairs : Pairs) (k : ℕ) (es : Entries) (p : Name × ℚ)
+    (here : p ≡ get_or pairs k p) (l : k < length pairs) where
   -- the entries after the pairs before k, and those after all of them
   so_far : OrFault Entries
   so_far = entries_of m (take k pairs) (drop k pairs) es
@@ -23,13 +25,17 @@ module _ (m : Model) (pairs : Pairs) (k : ℕ) (es : Entries) (p : Name × ℚ) 
   behind : ℕ → OrFault Entries
   behind i = entries_of m (take (k + 1) pairs) (drop (k + 1) pairs) (with_entry i p.1 es)
 
-  step : so_far ≡ (known (row_place m p.0) p.0 >>= λ i. cond (is_given p.0 (take k pairs)) (Err (Repeated p.0)) (behind i))
+  step : so_far
+      ≡ (known (row_place m p.0) p.0 >>= λ i. cond (is_given p.0 (take k pairs)) (Err (Repeated p.0)) (behind i))
   unfolding so_far behind
   step =
-      let first : drop k pairs ≡ p ∷ drop (k + 1) pairs = drop-cons pairs k p l ∙ ap₂ ◌∷◌ (sym here) (ap (λ n. drop n pairs) (sym (add-one k))) in
-      let more : take k pairs ++ p ∷ [] ≡ take (k + 1) pairs = ap (λ q. take k pairs ++ q ∷ []) here ∙ sym (take_more pairs k p l) in
+      let first : drop k pairs ≡ p ∷ drop (k + 1) pairs =
+      drop-cons pairs k p l ∙ ap₂ ◌∷◌ (sym here) (ap (λ n. drop n pairs) (sym (add-one k))) in
+      let more : take k pairs ++ p ∷ [] ≡ take (k + 1) pairs =
+      ap (λ q. take k pairs ++ q ∷ []) here ∙ sym (take_more pairs k p l) in
       ap (λ ps. entries_of m (take k pairs) ps es) first
-      ∙ ap (λ ps. known (row_place m p.0) p.0 >>= λ i. cond (is_given p.0 (take k pairs)) (Err (Repeated p.0)) (entries_of m ps (drop (k + 1) pairs) (with_entry i p.1 es))) more
+      ∙ ap (λ ps. known (row_place m p.0) p.0 >>= λ i. cond (is_given p.0 (take k pairs))
+      (Err (Repeated p.0)) (entries_of m ps (drop (k + 1) pairs) (with_entry i p.1 es))) more
 
   pub unknown : row_place m p.0 ≡ None → entries_of m (take k pairs) (drop k pairs) es ≡ Err (UnknownName p.0)
   unfolding so_far
@@ -47,7 +53,8 @@ module _ (m : Model) (pairs : Pairs) (k : ℕ) (es : Entries) (p : Name × ℚ) 
   repeated i e f = at i true e f
 
   pub goes_on : (i : ℕ) → row_place m p.0 ≡ Some i → is_given p.0 (take k pairs) ≡ false
-      → entries_of m (take (k + 1) pairs) (drop (k + 1) pairs) (with_entry i p.1 es) ≡ entries_of m (take k pairs) (drop k pairs) es
+      → entries_of m (take (k + 1) pairs) (drop (k + 1) pairs) (with_entry i p.1 es)
+      ≡ entries_of m (take k pairs) (drop k pairs) es
   unfolding so_far behind
   goes_on i e f = sym (at i false e f)
 
@@ -59,5 +66,6 @@ read seen pairs k p e here = here ∙ ap (λ xs. get_or xs k p) e
 pub named : (seen pairs : Pairs) (k : ℕ) (p : Name × ℚ) (name : Name) → p ≡ get_or pairs k p → k < length pairs →
     seen ≡ pairs → IfSome (slice_get seen k) (λ q. name ≡ q.0) → name ≡ p.0
 named seen pairs k p name here l e h =
-    let at : slice_get seen k ≡ Some p = ap (λ xs. slice_get xs k) e ∙ slice_get-get_or pairs k p l ∙ ap Some (sym here) in
+    let at : slice_get seen k ≡ Some p =
+    ap (λ xs. slice_get xs k) e ∙ slice_get-get_or pairs k p l ∙ ap Some (sym here) in
     subst (λ o. IfSome o (λ q. name ≡ q.0)) at h

@@ -3,7 +3,7 @@ ghost use Rattle.std.specs.Prelude.{◌≡◌, [], All, IfOk};
 ghost use Rattle.spec_exact.specs.Narrow.{IsNarrow};
 ghost use Rattle.spec_model.specs.Model.{height};
 ghost use Rattle.spec_model.specs.Kept.{AreEntries};
-ghost use Rattle.spec_edit.specs.Edited as told;
+ghost use Rattle.spec_edit.specs.Edited as edited;
 ghost use Rattle.lp_edit.specs.Answer.{GivesEdited};
 
 use crate::edit::{EditError, EditFault, Pairs};
@@ -14,14 +14,14 @@ use std::alloc::Global;
 
 // Whether one of the pairs has this name.
 fn is_given(name: &[u8], pairs: &[(Name, Frac)]) -> bool
-    ensures { result ≡ told.is_given name.now pairs.now }
+    ensures { result ≡ edited.is_given name.now pairs.now }
 {
     pairs.iter().any(|p| are_same(p.0.as_slice(), name))
 }
 
 /// The entries of the pairs of a new column.
 pub(crate) fn entries_of(alloc: Global, model: &Model, pairs: Pairs) -> Result<Entries, EditError>
-    ensures answer { GivesEdited (told.entries_of model.now [] pairs []) result }
+    ensures answer { GivesEdited (edited.entries_of model.now [] pairs []) result }
     ensures kept { IfOk result (AreEntries (height model.now)) }
     ensures narrow { IfOk result (All (λ e. IsNarrow e.1)) }
 {

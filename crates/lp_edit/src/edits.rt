@@ -2,7 +2,7 @@
 ghost use Rattle.std.specs.Prelude.{◌≡◌, ◌<◌, true, false, IfOk};
 ghost use Rattle.spec_model.specs.Model.{width, height};
 ghost use Rattle.spec_edit.specs.Changes as changes;
-ghost use Rattle.spec_edit.specs.Edited as told;
+ghost use Rattle.spec_edit.specs.Edited as edited;
 ghost use Rattle.lp_edit.specs.Answer.{Applies, Leaves};
 ghost use Rattle.lp_edit.specs.Named.{at_row, at_column, at_entry};
 
@@ -19,7 +19,7 @@ const MAX_ROWS: u32 = 256;
 const MAX_COLUMNS: u32 = 512;
 
 fn row_named(model: &Model, name: Name) -> Result<u32, EditFault>
-    ensures value { result ≡ told.row_named model.now name }
+    ensures value { result ≡ edited.row_named model.now name }
     ensures inside { IfOk result (λ i. i < height model.now) }
 {
     match model.row_of(name.as_slice()) {
@@ -29,7 +29,7 @@ fn row_named(model: &Model, name: Name) -> Result<u32, EditFault>
 }
 
 fn column_named(model: &Model, name: Name) -> Result<u32, EditFault>
-    ensures value { result ≡ told.column_named model.now name }
+    ensures value { result ≡ edited.column_named model.now name }
     ensures inside { IfOk result (λ j. j < width model.now) }
 {
     match model.col_of(name.as_slice()) {
@@ -39,14 +39,14 @@ fn column_named(model: &Model, name: Name) -> Result<u32, EditFault>
 }
 
 fn is_row_taken(model: &Model, name: &[u8]) -> bool
-    ensures { result ≡ told.is_row_taken model.now name.now }
+    ensures { result ≡ edited.is_row_taken model.now name.now }
 {
     are_same(model.objective().as_slice(), name) || model.row_of(name).is_some()
 }
 
 #[tactic(auto, unfolding(spec_edit::specs::Edited::new_row))]
 fn add_row(model: &mut Model, row: Row) -> Result<(), EditError>
-    ensures { Leaves (told.new_row model.old row) true model.old model.new result }
+    ensures { Leaves (edited.new_row model.old row) true model.old model.new result }
 {
     if !is_row_name(row.name.as_slice()) {
         return Err(EditFault::BadName.into());
@@ -77,7 +77,7 @@ fn add_column(
     cost: Frac,
     pairs: Pairs,
 ) -> Result<(), EditError>
-    ensures { Leaves (told.new_column model.old name cost pairs) true model.old model.new result }
+    ensures { Leaves (edited.new_column model.old name cost pairs) true model.old model.new result }
 {
     if !is_name(name.as_slice()) {
         return Err(EditFault::BadName.into());
@@ -108,7 +108,8 @@ fn delete_column(model: &mut Model, name: Name) -> Result<(), EditError>
 }
 
 fn set_cost(model: &mut Model, name: Name, value: Frac) -> Result<(), EditError>
-    ensures { Leaves (at_column model.old name (λ j. changes.with_cost model.old j value)) false model.old model.new result }
+    ensures { Leaves (at_column model.old name (λ j. changes.with_cost model.old j value))
+        false model.old model.new result }
 {
     let j = column_named(model, name)?;
     model.set_cost(j, value);
@@ -116,7 +117,8 @@ fn set_cost(model: &mut Model, name: Name, value: Frac) -> Result<(), EditError>
 }
 
 fn set_coefficient(model: &mut Model, row: Name, column: Name, value: Frac) -> Result<(), EditError>
-    ensures { Leaves (at_entry model.old row column (λ i j. changes.with_coefficient model.old i j value)) true model.old model.new result }
+    ensures { Leaves (at_entry model.old row column (λ i j. changes.with_coefficient model.old i j value))
+        true model.old model.new result }
 {
     let i = row_named(model, row)?;
     let j = column_named(model, column)?;
@@ -127,7 +129,7 @@ fn set_coefficient(model: &mut Model, row: Name, column: Name, value: Frac) -> R
 // The objective's right side is the negative of its offset.
 #[tactic(auto, unfolding(spec_edit::specs::Edited::with_right_side))]
 fn set_right_side(model: &mut Model, name: Name, value: Frac) -> Result<(), EditError>
-    ensures { Leaves (told.with_right_side model.old name value) false model.old model.new result }
+    ensures { Leaves (edited.with_right_side model.old name value) false model.old model.new result }
 {
     if are_same(model.objective().as_slice(), name.as_slice()) {
         model.set_offset(neg(value));
@@ -139,7 +141,8 @@ fn set_right_side(model: &mut Model, name: Name, value: Frac) -> Result<(), Edit
 }
 
 fn set_range(model: &mut Model, name: Name, range: Option<Frac>) -> Result<(), EditError>
-    ensures { Leaves (at_row model.old name (λ i. changes.with_range model.old i range)) false model.old model.new result }
+    ensures { Leaves (at_row model.old name (λ i. changes.with_range model.old i range))
+        false model.old model.new result }
 {
     let i = row_named(model, name)?;
     model.set_range(i, range);
@@ -147,7 +150,8 @@ fn set_range(model: &mut Model, name: Name, range: Option<Frac>) -> Result<(), E
 }
 
 fn set_bounds(model: &mut Model, name: Name, bounds: ColumnBounds) -> Result<(), EditError>
-    ensures { Leaves (at_column model.old name (λ j. changes.with_bounds model.old j bounds)) false model.old model.new result }
+    ensures { Leaves (at_column model.old name (λ j. changes.with_bounds model.old j bounds))
+        false model.old model.new result }
 {
     let j = column_named(model, name)?;
     model.set_bounds(j, bounds.lower(), bounds.upper());

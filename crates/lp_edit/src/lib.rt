@@ -13,8 +13,6 @@
 mod column;
 mod edit;
 mod edits;
-#[cfg(test)]
-mod tests;
 
 pub use edit::{ColumnBounds, Edit, EditError, EditFault, Pairs};
 pub use edits::apply;

@@ -10,7 +10,5 @@
 
 mod draws;
 mod generator;
-#[cfg(test)]
-mod tests;
 
 pub use generator::make;

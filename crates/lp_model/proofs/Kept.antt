@@ -8,7 +8,8 @@ use Rattle.spec_model.specs.Model.{Model, Limits, ExactRow, ExactColumn, no_row,
 use Rattle.spec_model.specs.Kept.{IsModel}
 use Rattle.spec_edit.specs.Changes.{with_entry}
 use Rattle.spec_edit.specs.Edited.{IsKeptBound}
-use Rattle.spec_edit.proofs.Keeping.{with_cost-kept, with_coefficient-kept, with_bounds-kept, with_rhs-kept, with_range-kept}
+use Rattle.spec_edit.proofs.Keeping.{with_cost-kept, with_coefficient-kept}
+use Rattle.spec_edit.proofs.Keeping.{with_bounds-kept, with_rhs-kept, with_range-kept}
 
 -- ---- row i, which is r
 
@@ -19,12 +20,14 @@ module _ (m : Model) (i : ℕ) (r : ExactRow) (here : r ≡ get_or m.rows i r) (
   pub rhs_here : (v w : ℚ) → w ≡ v → IsModel m → IsNarrow v →
       IsModel (record m { rows = set m.rows i (record r { rhs = w }) })
   rhs_here v w e k narrow =
-      subst IsModel (ap₂ (λ r v. record m { rows = set m.rows i (record r { rhs = v }) }) (sym row_here) (sym e)) (with_rhs-kept m i v k l narrow)
+      subst IsModel (ap₂ (λ r v. record m { rows = set m.rows i (record r { rhs = v }) }) (sym row_here) (sym e))
+      (with_rhs-kept m i v k l narrow)
 
   pub range_here : (range given : Option ℚ) → given ≡ range → IsModel m → IfSome range IsNarrow →
       IsModel (record m { rows = set m.rows i (record r { range = given }) })
   range_here range given e k narrow =
-      subst IsModel (ap₂ (λ r v. record m { rows = set m.rows i (record r { range = v }) }) (sym row_here) (sym e)) (with_range-kept m i range k l narrow)
+      subst IsModel (ap₂ (λ r v. record m { rows = set m.rows i (record r { range = v }) }) (sym row_here) (sym e))
+      (with_range-kept m i range k l narrow)
 
 -- ---- column j, which is x
 
@@ -39,20 +42,29 @@ module _ (m : Model) (j : ℕ) (x : ExactColumn) (here : x ≡ get_or m.columns 
   pub cost_here : (v w : ℚ) → w ≡ v → IsModel m → IsNarrow v →
       IsModel (record m { columns = set m.columns j (record x { cost = w }) })
   cost_here v w e k narrow =
-      subst IsModel (ap₂ (λ x v. record m { columns = set m.columns j (record x { cost = v }) }) (sym column_here) (sym e)) (with_cost-kept m j v k l narrow)
+      subst IsModel
+      (ap₂ (λ x v. record m { columns = set m.columns j (record x { cost = v }) }) (sym column_here) (sym e))
+      (with_cost-kept m j v k l narrow)
 
   pub bounds_here : (lower upper a b : Option ℚ) → a ≡ lower → b ≡ upper → IsModel m → IsKeptBound lower →
       IsKeptBound upper → IsModel (record m { columns = set m.columns j (record x { lower = a; upper = b }) })
   bounds_here lower upper a b e f k p q =
       let given : Limits = record { lower = a; upper = b } in
-      let same : (let l : Limits = record { lower = lower; upper = upper } in l) ≡ given = ap₂ (λ a b. record { lower = a; upper = b }) (sym e) (sym f) in
-      subst IsModel (ap₂ (λ x (l : Limits). record m { columns = set m.columns j (record x { lower = l.lower; upper = l.upper }) }) (sym column_here) same)
+      let same : (let l : Limits = record { lower = lower; upper = upper } in l) ≡ given =
+      ap₂ (λ a b. record { lower = a; upper = b }) (sym e) (sym f) in
+      subst IsModel
+      (ap₂ (λ x (l : Limits). record m { columns = set m.columns j (record x { lower = l.lower; upper = l.upper }) })
+      (sym column_here) same)
       (with_bounds-kept m j (record { lower = lower; upper = upper }) k l p q)
 
-  pub entries_here : {T E : Type 0} (result : Result T E) (i : ℕ) (v : ℚ) (es : List (ℕ × ℚ)) → OnOk result (es ≡ with_entry i v x.entries) → OnErr result (es ≡ x.entries)
-      → i < height m → IsModel m → IsNarrow v → IsModel (record m { columns = set m.columns j (record x { entries = es }) })
+  pub entries_here : {T E : Type 0} (result : Result T E) (i : ℕ) (v : ℚ) (es : List (ℕ × ℚ)) →
+      OnOk result (es ≡ with_entry i v x.entries) → OnErr result (es ≡ x.entries)
+      → i < height m → IsModel m → IsNarrow v →
+      IsModel (record m { columns = set m.columns j (record x { entries = es }) })
   entries_here (Ok done) i v es e f p k narrow =
-      subst IsModel (ap (λ x. record m { columns = set m.columns j (record x { entries = with_entry i v x.entries }) }) (sym column_here) ∙ ap (λ es. record m { columns = set m.columns j (record x { entries = es }) }) (sym e))
+      subst IsModel (ap (λ x. record m { columns = set m.columns j (record x { entries = with_entry i v x.entries }) })
+      (sym column_here) ∙ ap (λ es. record m { columns = set m.columns j (record x { entries = es }) }) (sym e))
       (with_coefficient-kept m i j v k p l narrow)
   entries_here (Err fault) i v es e f p k narrow =
-      subst (λ cs. IsModel (record m { columns = cs })) (sym (ap (λ es. set m.columns j (record x { entries = es })) f ∙ stays)) k
+      subst (λ cs. IsModel (record m { columns = cs }))
+      (sym (ap (λ es. set m.columns j (record x { entries = es })) f ∙ stays)) k

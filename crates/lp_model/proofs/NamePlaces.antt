@@ -1,5 +1,7 @@
 -- Names among what has them: a row, a column, or a key.
-use Rattle.std.proofs.Common.{◌≡◌, ◌≢◌, ℕ, suc, ◌+◌, ◌<◌, Bool, true, false, ◌&&◌, ◌||◌, not, cond, nat_eq, ltb, Option, Some, None, List, [], ◌∷◌, ◌++◌, length, map, take, get_or, set, All, refl, sym, ap, ap₂, ◌∙◌, subst, arith, get_or-take}
+use Rattle.std.proofs.Common.{◌≡◌, ◌≢◌, ℕ, suc, ◌+◌, ◌<◌, Bool, true, false, ◌&&◌, ◌||◌, not, cond}
+use Rattle.std.proofs.Common.{nat_eq, ltb, Option, Some, None, List, [], ◌∷◌, ◌++◌, length, map, take}
+use Rattle.std.proofs.Common.{get_or, set, All, refl, sym, ap, ap₂, ◌∙◌, subst, arith, get_or-take}
 use Rattle.std.specs.Prelude.{IfSome}
 use Rattle.std.specs.List.{list_any, position, position_or_len, AllPairs, remove}
 use Rattle.std.specs.Cmp.Lexicographic.{pointwise}
@@ -52,7 +54,8 @@ module _ {X : Type 0} (p : X → Bool) (q : Name → Bool) (f : X → Name) (e :
 -- a name that no name of a list is
 pub other_names : (name : Name) (xs : List Name) → All (λ x. x ≢ name) xs → list_any (same name) xs ≡ false
 other_names name xs h =
-    list_any_none (same name) xs (All-weaker (λ x. x ≢ name) (λ x. same name x ≡ false) (λ x n. by x n (same name x) refl) xs h)
+    list_any_none (same name) xs
+    (All-weaker (λ x. x ≢ name) (λ x. same name x ≡ false) (λ x n. by x n (same name x) refl) xs h)
   where
     by : (x : Name) → x ≢ name → (t : Bool) → same name x ≡ t → t ≡ false
     by x n true e = absurd (n (sym (same_true name x e)))

@@ -1,5 +1,6 @@
 -- Where the entry of a row stands or belongs, by a binary search.
-use Rattle.std.proofs.Common.{◌≡◌, ℕ, ◌+◌, ◌<◌, ◌≤◌, List, length, get_or, take, drop, Ok, Err, Result, sym, ap, subst, arith, length-take, length-drop, get_or-take, get_or-drop}
+use Rattle.std.proofs.Common.{◌≡◌, ℕ, ◌+◌, ◌<◌, ◌≤◌, List, length, get_or, take, drop, Ok, Err, Result}
+use Rattle.std.proofs.Common.{sym, ap, subst, arith, length-take, length-drop, get_or-take, get_or-drop}
 use Rattle.std.specs.List.{AllPairs, All, HoldsAt}
 use Rattle.std.specs.List.Sorted.{IsSearchInRange, IsBinarySearchResult, IsNonDecreasingBy}
 use Rattle.std.specs.Ordering.{nat_cmp, ordering_index}
@@ -23,7 +24,8 @@ comparisons_rise : (es : Entries) (row : ℕ) → AreAscending es →
     IsNonDecreasingBy (λ e. ordering_index (nat_cmp e.0 row)) es
 comparisons_rise es row h =
     IsNonDecreasingBy-from_default (λ e. ordering_index (nat_cmp e.0 row)) es (0, 0ℚ) (λ i j le l.
-    let rises : (get_or es i (0, 0ℚ)).0 ≤ (get_or es j (0, 0ℚ)).0 = grind (arith, h i j (0, 0ℚ), λ (same : i ≡ j). ap (λ k. (get_or es k (0, 0ℚ)).0) same) in
+    let rises : (get_or es i (0, 0ℚ)).0 ≤ (get_or es j (0, 0ℚ)).0 =
+    grind (arith, h i j (0, 0ℚ), λ (same : i ≡ j). ap (λ k. (get_or es k (0, 0ℚ)).0) same) in
     grind (arith, nat_tests))
 
 all_before : (es : Entries) (k row : ℕ) → ((i : ℕ) (d : ℕ × ℚ) → i < k → i < length es → (get_or es i d).0 < row) →
@@ -50,7 +52,8 @@ searched es row h (Ok k) inside equal =
           record {
             before = all_before es k row (λ i d l m. subst (λ r. (get_or es i d).0 < r) (here d) (h i k d l inside));
             behind =
-                all_behind es (k + 1) row (λ i d l m. subst (λ r. r < (get_or es i d).0) (here d) (h k i d (omega arith) m));
+                all_behind es (k + 1) row
+                (λ i d l m. subst (λ r. r < (get_or es i d).0) (here d) (h k i d (omega arith) m));
           };
     }
 searched es row h (Err k) inside parted =

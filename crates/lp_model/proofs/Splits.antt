@@ -1,5 +1,7 @@
 -- A column's entries split at a row, and what changes of them leave.
-use Rattle.std.proofs.Common.{◌≡◌, ◌≢◌, ℕ, ◌+◌, ◌-◌, ◌<◌, Bool, true, false, not, cond, eqb, ltb, List, [], ◌∷◌, ◌++◌, map, length, get_or, set, take, drop, All, refl, sym, ap, ap₂, ◌∙◌, arith, eq-eqb, ne_eqb, add-one, drop-cons, append_assoc, append-nil}
+use Rattle.std.proofs.Common.{◌≡◌, ◌≢◌, ℕ, ◌+◌, ◌-◌, ◌<◌, Bool, true, false, not, cond, eqb, ltb, List}
+use Rattle.std.proofs.Common.{[], ◌∷◌, ◌++◌, map, length, get_or, set, take, drop, All, refl, sym, ap, ap₂}
+use Rattle.std.proofs.Common.{◌∙◌, arith, eq-eqb, ne_eqb, add-one, drop-cons, append_assoc, append-nil}
 use borrow.Author.Tests.{lt-ltb, le-ltb}
 use Rattle.std.specs.List.{filter, insert, remove}
 use Rattle.std.proofs.lemmas.List.{take-append-drop, take-set, drop-set, map-append}
@@ -46,24 +48,33 @@ module _ (i : ℕ) (front own back : Entries) (own_row : All (λ e. e.0 ≡ i) o
   below : filter (λ e. ltb e.0 i) (front ++ (own ++ back)) ≡ front
   below =
       three (λ e. ltb e.0 i) front own back front [] []
-      (filter-all (λ e. ltb e.0 i) front (All-weaker (λ e. e.0 < i) (λ e. ltb e.0 i ≡ true) (λ e l. lt-ltb e.0 i l) front split.before))
-      (filter-none (λ e. ltb e.0 i) own (All-weaker (λ e. e.0 ≡ i) (λ e. ltb e.0 i ≡ false) (λ e q. le-ltb e.0 i (omega arith)) own own_row))
-      (filter-none (λ e. ltb e.0 i) back (All-weaker (λ e. i < e.0) (λ e. ltb e.0 i ≡ false) (λ e l. le-ltb e.0 i (omega arith)) back split.behind))
+      (filter-all (λ e. ltb e.0 i) front
+      (All-weaker (λ e. e.0 < i) (λ e. ltb e.0 i ≡ true) (λ e l. lt-ltb e.0 i l) front split.before))
+      (filter-none (λ e. ltb e.0 i) own
+      (All-weaker (λ e. e.0 ≡ i) (λ e. ltb e.0 i ≡ false) (λ e q. le-ltb e.0 i (omega arith)) own own_row))
+      (filter-none (λ e. ltb e.0 i) back
+      (All-weaker (λ e. i < e.0) (λ e. ltb e.0 i ≡ false) (λ e l. le-ltb e.0 i (omega arith)) back split.behind))
       ∙ append-nil front
 
   above : filter (λ e. ltb i e.0) (front ++ (own ++ back)) ≡ back
   above =
       three (λ e. ltb i e.0) front own back [] [] back
-      (filter-none (λ e. ltb i e.0) front (All-weaker (λ e. e.0 < i) (λ e. ltb i e.0 ≡ false) (λ e l. le-ltb i e.0 (omega arith)) front split.before))
-      (filter-none (λ e. ltb i e.0) own (All-weaker (λ e. e.0 ≡ i) (λ e. ltb i e.0 ≡ false) (λ e q. le-ltb i e.0 (omega arith)) own own_row))
-      (filter-all (λ e. ltb i e.0) back (All-weaker (λ e. i < e.0) (λ e. ltb i e.0 ≡ true) (λ e l. lt-ltb i e.0 l) back split.behind))
+      (filter-none (λ e. ltb i e.0) front
+      (All-weaker (λ e. e.0 < i) (λ e. ltb i e.0 ≡ false) (λ e l. le-ltb i e.0 (omega arith)) front split.before))
+      (filter-none (λ e. ltb i e.0) own
+      (All-weaker (λ e. e.0 ≡ i) (λ e. ltb i e.0 ≡ false) (λ e q. le-ltb i e.0 (omega arith)) own own_row))
+      (filter-all (λ e. ltb i e.0) back
+      (All-weaker (λ e. i < e.0) (λ e. ltb i e.0 ≡ true) (λ e l. lt-ltb i e.0 l) back split.behind))
 
   others : filter (λ e. not (eqb e.0 i)) (front ++ (own ++ back)) ≡ front ++ back
   others =
       three (λ e. not (eqb e.0 i)) front own back front [] back
-      (filter-all (λ e. not (eqb e.0 i)) front (All-weaker (λ e. e.0 < i) (λ e. not (eqb e.0 i) ≡ true) (λ e l. ap not (ne_eqb e.0 i (λ q. omega arith))) front split.before))
-      (filter-none (λ e. not (eqb e.0 i)) own (All-weaker (λ e. e.0 ≡ i) (λ e. not (eqb e.0 i) ≡ false) (λ e q. ap not (eq-eqb e.0 i q)) own own_row))
-      (filter-all (λ e. not (eqb e.0 i)) back (All-weaker (λ e. i < e.0) (λ e. not (eqb e.0 i) ≡ true) (λ e l. ap not (ne_eqb e.0 i (λ q. omega arith))) back split.behind))
+      (filter-all (λ e. not (eqb e.0 i)) front (All-weaker (λ e. e.0 < i) (λ e. not (eqb e.0 i) ≡ true)
+      (λ e l. ap not (ne_eqb e.0 i (λ q. omega arith))) front split.before))
+      (filter-none (λ e. not (eqb e.0 i)) own
+      (All-weaker (λ e. e.0 ≡ i) (λ e. not (eqb e.0 i) ≡ false) (λ e q. ap not (eq-eqb e.0 i q)) own own_row))
+      (filter-all (λ e. not (eqb e.0 i)) back (All-weaker (λ e. i < e.0) (λ e. not (eqb e.0 i) ≡ true)
+      (λ e l. ap not (ne_eqb e.0 i (λ q. omega arith))) back split.behind))
 
   with_entry-parts : (v : ℚ) → with_entry i v (front ++ (own ++ back)) ≡ front ++ (entry_if i v ++ back)
   unfolding with_entry
@@ -74,8 +85,10 @@ module _ (i : ℕ) (front own back : Entries) (own_row : All (λ e. e.0 ≡ i) o
   without_entry-parts =
       ap (map (λ e. (renumbered i e.0, e.1))) others ∙ map-append (λ e. (renumbered i e.0, e.1)) front back
       ∙ ap₂ ◌++◌
-      (map-id (λ e. (renumbered i e.0, e.1)) front (All-weaker (λ e. e.0 < i) (λ e. (renumbered i e.0, e.1) ≡ e) (λ e l. rw (le-ltb i e.0 (omega arith)) refl) front split.before))
-      (map-same (λ e. (renumbered i e.0, e.1)) lower back (All-weaker (λ e. i < e.0) (λ e. (renumbered i e.0, e.1) ≡ lower e) (λ e l. rw (lt-ltb i e.0 l) refl) back split.behind))
+      (map-id (λ e. (renumbered i e.0, e.1)) front (All-weaker (λ e. e.0 < i)
+      (λ e. (renumbered i e.0, e.1) ≡ e) (λ e l. rw (le-ltb i e.0 (omega arith)) refl) front split.before))
+      (map-same (λ e. (renumbered i e.0, e.1)) lower back (All-weaker (λ e. i < e.0)
+      (λ e. (renumbered i e.0, e.1) ≡ lower e) (λ e l. rw (lt-ltb i e.0 l) refl) back split.behind))
 
 -- ---- the entry that is put
 
@@ -107,23 +120,27 @@ module _ (i k : ℕ) (es : Entries) (stands : StandsAt i k es) where
 
   put : (v : ℚ) → with_entry i v es ≡ take k es ++ (entry_if i v ++ drop (k + 1) es)
   put v =
-      ap (with_entry i v) (sym around) ∙ with_entry-parts i (take k es) (get_or es k (i, 0ℚ) ∷ []) (drop (k + 1) es) own stands.split v
+      ap (with_entry i v) (sym around)
+      ∙ with_entry-parts i (take k es) (get_or es k (i, 0ℚ) ∷ []) (drop (k + 1) es) own stands.split v
 
   pub remove-put : (v : ℚ) → v ≡ 0ℚ → remove es k ≡ with_entry i v es
   remove-put v e = sym (put v ∙ ap (λ xs. take k es ++ (xs ++ drop (k + 1) es)) (put-zero i v e) ∙ rw add-one refl)
 
   pub set-put : (v : ℚ) → v ≢ 0ℚ → set es k (i, v) ≡ with_entry i v es
   set-put v n =
-      set-parts es k (i, v) stands.inside ∙ sym (put v ∙ ap (λ xs. take k es ++ (xs ++ drop (k + 1) es)) (put-other i v n))
+      set-parts es k (i, v) stands.inside
+      ∙ sym (put v ∙ ap (λ xs. take k es ++ (xs ++ drop (k + 1) es)) (put-other i v n))
 
   pub without-own : without_entry i es ≡ take k es ++ map lower (drop (k + 1) es)
   without-own =
-      ap (without_entry i) (sym around) ∙ without_entry-parts i (take k es) (get_or es k (i, 0ℚ) ∷ []) (drop (k + 1) es) own stands.split
+      ap (without_entry i) (sym around)
+      ∙ without_entry-parts i (take k es) (get_or es k (i, 0ℚ) ∷ []) (drop (k + 1) es) own stands.split
 
 module _ (i k : ℕ) (es : Entries) (belongs : BelongsAt i k es) where
   put_between : (v : ℚ) → with_entry i v es ≡ take k es ++ (entry_if i v ++ drop k es)
   put_between v =
-      ap (with_entry i v) (sym (take-append-drop k es)) ∙ with_entry-parts i (take k es) [] (drop k es) (All-nil (λ e. e.0 ≡ i)) belongs.split v
+      ap (with_entry i v) (sym (take-append-drop k es))
+      ∙ with_entry-parts i (take k es) [] (drop k es) (All-nil (λ e. e.0 ≡ i)) belongs.split v
 
   pub same-put : (v : ℚ) → v ≡ 0ℚ → es ≡ with_entry i v es
   same-put v e =
@@ -134,4 +151,5 @@ module _ (i k : ℕ) (es : Entries) (belongs : BelongsAt i k es) where
 
   pub without-none : without_entry i es ≡ take k es ++ map lower (drop k es)
   without-none =
-      ap (without_entry i) (sym (take-append-drop k es)) ∙ without_entry-parts i (take k es) [] (drop k es) (All-nil (λ e. e.0 ≡ i)) belongs.split
+      ap (without_entry i) (sym (take-append-drop k es))
+      ∙ without_entry-parts i (take k es) [] (drop k es) (All-nil (λ e. e.0 ≡ i)) belongs.split

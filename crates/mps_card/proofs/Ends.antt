@@ -1,5 +1,6 @@
 -- Spaces at the ends of a text, and columns after the last field.
-use Rattle.std.proofs.Common.{◌≡◌, ℕ, suc, ◌+◌, ◌<◌, ◌≤◌, false, ◌&&◌, cond, List, [], ◌∷◌, ◌++◌, length, get_or, take, refl, sym, ap, ◌∙◌, arith, None, eqb}
+use Rattle.std.proofs.Common.{◌≡◌, ℕ, suc, ◌+◌, ◌<◌, ◌≤◌, false, ◌&&◌, cond, List, [], ◌∷◌}
+use Rattle.std.proofs.Common.{◌++◌, length, get_or, take, refl, sym, ap, ◌∙◌, arith, None, eqb}
 use Rattle.std.specs.List.{list_all}
 use Rattle.std.proofs.Math.Seq.{take-suc as take_suc}
 use Rattle.std.proofs.lemmas.Bool.{ne_eqb, and_right, lt-leb}
@@ -20,7 +21,8 @@ spaces_end (x ∷ xs) b h = ap (λ t. eqb x 32 && t) (spaces_end xs b h) ∙ and
 spaces_stay : (xs : List ℕ) (b : ℕ) → eqb b 32 ≡ false → without_end (xs ++ b ∷ []) ≡ xs ++ b ∷ []
 spaces_stay [] b h = rw h refl
 spaces_stay (x ∷ xs) b h =
-    ap (λ t. cond t [] (x ∷ without_end (xs ++ b ∷ []))) (spaces_end (x ∷ xs) b h) ∙ ap (λ ys. x ∷ ys) (spaces_stay xs b h)
+    ap (λ t. cond t [] (x ∷ without_end (xs ++ b ∷ []))) (spaces_end (x ∷ xs) b h)
+    ∙ ap (λ ys. x ∷ ys) (spaces_stay xs b h)
 
 -- after a byte that is no space nothing is removed
 pub spaces_stop : (xs : List ℕ) (n m : ℕ) → n ≡ suc m → n ≤ length xs → (get_or xs m 0 ≡ 32 → ⊥) →

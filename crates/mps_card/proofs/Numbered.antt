@@ -19,8 +19,10 @@ numbered-push n (x ∷ xs) w =
     (numbered-push (n + 1) xs w ∙ ap (λ k. numbered_from (n + 1) xs ++ field_of k w) (omega arith))
 
 pub next_word : (parts : List (List ℕ)) (w : List ℕ) →
-    numbered_from 1 (filter has_bytes parts) ++ field_of (length (numbered_from 1 (filter has_bytes parts)) + 1) w ≡ numbered_from 1 (filter has_bytes (parts ++ w ∷ []))
+    numbered_from 1 (filter has_bytes parts) ++ field_of (length (numbered_from 1 (filter has_bytes parts)) + 1) w
+    ≡ numbered_from 1 (filter has_bytes (parts ++ w ∷ []))
 next_word parts w =
-    ap (λ k. numbered_from 1 (filter has_bytes parts) ++ field_of (k + 1) w) (length-numbered 1 (filter has_bytes parts))
+    ap (λ k. numbered_from 1 (filter has_bytes parts) ++ field_of (k + 1) w)
+    (length-numbered 1 (filter has_bytes parts))
     ∙ sym (numbered-push 1 (filter has_bytes parts) w)
     ∙ ap (numbered_from 1) (sym (filter-append has_bytes parts (w ∷ [])))

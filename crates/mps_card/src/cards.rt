@@ -1,5 +1,5 @@
 // The cards of lines.
-ghost use Rattle.spec_mps.specs.Fields as told;
+ghost use Rattle.spec_mps.specs.Fields as field;
 ghost use Rattle.mps_card.specs.Answer.{GivesCard};
 
 use crate::columns::{column_fields, misplaced};
@@ -11,7 +11,7 @@ use std::alloc::Global;
 /// The card of a line in free form.
 #[tactic(auto, unfolding(spec_mps::specs::Fields::free_fields))]
 pub fn free(alloc: Global, line: &[u8]) -> Result<Card, CardFault>
-    ensures { GivesCard result (told.free_fields line.now) }
+    ensures { GivesCard result (field.free_fields line.now) }
 {
     if is_skipped(line) {
         return Ok(Card::Skip);
@@ -27,7 +27,7 @@ pub fn free(alloc: Global, line: &[u8]) -> Result<Card, CardFault>
 /// The card of a line in fixed form.
 #[tactic(auto, unfolding(spec_mps::specs::Fields::fixed_fields))]
 pub fn fixed(alloc: Global, line: &[u8]) -> Result<Card, CardFault>
-    ensures { GivesCard result (told.fixed_fields line.now) }
+    ensures { GivesCard result (field.fixed_fields line.now) }
 {
     if is_skipped(line) {
         return Ok(Card::Skip);

@@ -1,6 +1,6 @@
 // Fields by columns.
 ghost use Rattle.std.specs.Prelude.{◌≡◌, ◌+◌, ◌<◌, ◌≤◌, IfOk, take, drop};
-ghost use Rattle.spec_mps.specs.Fields as told;
+ghost use Rattle.spec_mps.specs.Fields as field;
 
 use crate::Fields;
 use std::alloc::{AllocError, Global};
@@ -9,7 +9,7 @@ use std::alloc::{AllocError, Global};
 const LAST_COLUMN: u32 = 62;
 
 fn is_beside(column: u32) -> bool
-    ensures { result ≡ told.is_beside column }
+    ensures { result ≡ field.is_beside column }
 {
     matches!(
         column,
@@ -18,14 +18,14 @@ fn is_beside(column: u32) -> bool
 }
 
 fn is_misplaced(column: u32, byte: u8) -> bool
-    ensures { result ≡ told.is_misplaced column byte }
+    ensures { result ≡ field.is_misplaced column byte }
 {
     column <= LAST_COLUMN && (byte == b'\t' || (is_beside(column) && byte != b' '))
 }
 
 /// The first column where such a byte may not stand.
 pub(crate) fn misplaced(line: &[u8]) -> Option<u32>
-    ensures { result ≡ told.misplaced_from 1 line.now }
+    ensures { result ≡ field.misplaced_from 1 line.now }
 {
     let mut column = 1;
     for byte in line {
@@ -41,7 +41,7 @@ pub(crate) fn misplaced(line: &[u8]) -> Option<u32>
 }
 
 fn without_front(text: &[u8]) -> &[u8]
-    ensures { result.now ≡ told.without_front text.now }
+    ensures { result.now ≡ field.without_front text.now }
 {
     for (at, byte) in text.iter().enumerate() {
         if *byte != b' ' {
@@ -52,7 +52,7 @@ fn without_front(text: &[u8]) -> &[u8]
 }
 
 fn without_end(text: &[u8]) -> &[u8]
-    ensures { result.now ≡ told.without_end text.now }
+    ensures { result.now ≡ field.without_end text.now }
 {
     for len in (1..=text.len()).rev() {
         if text[len - 1] != b' ' {
@@ -86,7 +86,7 @@ fn behind(line: &[u8], count: usize) -> &[u8]
 #[tactic(auto, unfolding(spec_mps::specs::Fields::in_columns))]
 fn in_columns(line: &[u8], first: usize, last: usize) -> &[u8]
     requires { 0 < first }
-    ensures { result.now ≡ told.in_columns first last line.now }
+    ensures { result.now ≡ field.in_columns first last line.now }
 {
     without_end(without_front(behind(first_bytes(line, last), first - 1)))
 }
@@ -94,7 +94,7 @@ fn in_columns(line: &[u8], first: usize, last: usize) -> &[u8]
 /// The fields of a card, none of whose bytes is misplaced.
 #[tactic(auto, unfolding(spec_mps::specs::Fields::column_fields))]
 pub(crate) fn column_fields(alloc: Global, line: &[u8]) -> Result<Fields, AllocError>
-    ensures { IfOk result (λ fields. fields ≡ told.column_fields line.now) }
+    ensures { IfOk result (λ fields. fields ≡ field.column_fields line.now) }
 {
     let mut fields = Fields::new(alloc);
     fields.push(alloc, 1, in_columns(line, 2, 3))?;

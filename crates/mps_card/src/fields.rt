@@ -1,6 +1,6 @@
 // The fields of a card.
 ghost use Rattle.std.specs.Prelude.{◌≡◌, ◌+◌, ◌≤◌, ◌^◌, ◌<◌, ℕ, List, [], ◌∷◌, ◌++◌, length, OnOk};
-ghost use Rattle.spec_mps.specs.Fields as told;
+ghost use Rattle.spec_mps.specs.Fields as card_field;
 
 use lp_base::Bytes;
 use smallvec::SmallVec;
@@ -16,9 +16,9 @@ pub struct Field {
 }
 
 impl Model for Field {
-    ghost use Rattle.spec_mps.specs.Fields as told;
+    ghost use Rattle.spec_mps.specs.Fields as card_field;
 
-    ghost Value = { told.Field };
+    ghost Value = { card_field.Field };
 
     ghost view = { λ f. record { number = f.number; text = f.text } };
 }
@@ -57,9 +57,9 @@ pub struct Fields {
 }
 
 impl Model for Fields {
-    ghost use Rattle.spec_mps.specs.Fields as told;
+    ghost use Rattle.spec_mps.specs.Fields as card_field;
 
-    ghost Value = { told.Fields };
+    ghost Value = { card_field.Fields };
 
     ghost view = { λ f. f.items.items };
 }
@@ -82,7 +82,7 @@ impl Fields {
 
     /// What stands in a field; no bytes where it is absent.
     pub fn text_at(&self, number: u32) -> &[u8]
-        ensures { result.now ≡ told.text_at number self.now }
+        ensures { result.now ≡ card_field.text_at number self.now }
     {
         for field in self.as_slice() {
             if field.number() == number {
@@ -94,7 +94,7 @@ impl Fields {
 
     /// Adds a field, unless nothing stands there.
     pub(crate) fn push(&mut self, alloc: Global, number: u32, text: &[u8]) -> Result<(), AllocError>
-        ensures { OnOk result (self.new ≡ self.old ++ told.field_of number text.now) }
+        ensures { OnOk result (self.new ≡ self.old ++ card_field.field_of number text.now) }
     {
         if text.is_empty() {
             return Ok(());
@@ -106,7 +106,7 @@ impl Fields {
 
     /// Adds a word with the next number, unless it is empty. A number past a `u32` counts as running out of memory.
     pub(crate) fn push_word(&mut self, alloc: Global, word: &[u8]) -> Result<(), AllocError>
-        ensures { OnOk result (self.new ≡ self.old ++ told.field_of (length self.old + 1) word.now) }
+        ensures { OnOk result (self.new ≡ self.old ++ card_field.field_of (length self.old + 1) word.now) }
     {
         let Ok(count) = u32::try_from(self.items.len()) else {
             return Err(AllocError);

@@ -14,8 +14,6 @@ mod columns;
 mod fault;
 mod fields;
 mod lines;
-#[cfg(test)]
-mod tests;
 mod words;
 
 pub use cards::{fixed, free};

@@ -3,27 +3,27 @@ ghost use Rattle.std.specs.Prelude.{◌≡◌};
 ghost use Rattle.std.specs.List.{list_all};
 ghost use Rattle.std.specs.Str.Lines.{strip_carriage_return};
 ghost use Rattle.spec_text.specs.Words as word;
-ghost use Rattle.spec_mps.specs.Cards as told;
+ghost use Rattle.spec_mps.specs.Cards as cards;
 
 use lp_base::is_blank;
 
 /// Whether the line is a comment, or has nothing but blanks.
 #[tactic(auto, unfolding(spec_mps::specs::Cards::is_skipped))]
 pub(crate) fn is_skipped(line: &[u8]) -> bool
-    ensures { result ≡ told.is_skipped line.now }
+    ensures { result ≡ cards.is_skipped line.now }
 {
     begins_with_star(line) || has_only_blanks(without_carriage_return(line))
 }
 
 fn begins_with_star(line: &[u8]) -> bool
-    ensures { result ≡ told.begins_with_star line.now }
+    ensures { result ≡ cards.begins_with_star line.now }
 {
     line.first() == Some(&b'*')
 }
 
 /// Whether the line is a data card, if it is not skipped.
 pub(crate) fn begins_with_blank(line: &[u8]) -> bool
-    ensures { result ≡ told.begins_with_blank line.now }
+    ensures { result ≡ cards.begins_with_blank line.now }
 {
     match line.first() {
         Some(b) => is_blank(*b),

@@ -1,6 +1,6 @@
 // Fields by words.
 ghost use Rattle.std.specs.Prelude.{◌≡◌, IfOk};
-ghost use Rattle.spec_mps.specs.Fields as told;
+ghost use Rattle.spec_mps.specs.Fields as field;
 
 use crate::Fields;
 use lp_base::is_blank;
@@ -8,7 +8,7 @@ use std::alloc::{AllocError, Global};
 
 /// The words of a line.
 pub(crate) fn word_fields(alloc: Global, line: &[u8]) -> Result<Fields, AllocError>
-    ensures { IfOk result (λ fields. fields ≡ told.word_fields line.now) }
+    ensures { IfOk result (λ fields. fields ≡ field.word_fields line.now) }
 {
     let mut fields = Fields::new(alloc);
     for word in line.split(|b| is_blank(*b)) {

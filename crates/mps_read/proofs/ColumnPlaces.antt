@@ -1,5 +1,7 @@
 -- Names of columns, of which the last one may be the one that cards are read of.
-use Rattle.std.proofs.Common.{◌≡◌, ◌≢◌, ℕ, ◌+◌, ◌<◌, ◌≤◌, Bool, true, false, ◌&&◌, cond, not, eqb, ltb, Option, Some, None, List, [], ◌∷◌, ◌++◌, length, map, All, refl, sym, ap, ◌∙◌, arith, ◌⊎◌, inl, inr, ⊎_elim}
+use Rattle.std.proofs.Common.{◌≡◌, ◌≢◌, ℕ, ◌+◌, ◌<◌, ◌≤◌, Bool, true, false, ◌&&◌, cond}
+use Rattle.std.proofs.Common.{not, eqb, ltb, Option, Some, None, List, [], ◌∷◌, ◌++◌, length}
+use Rattle.std.proofs.Common.{map, All, refl, sym, ap, ◌∙◌, arith, ◌⊎◌, inl, inr, ⊎_elim}
 use borrow.Author.Tests.{lt-ltb, le-ltb, eqb-true, eqb-false}
 use Rattle.std.specs.List.{list_any, position, position_or_len}
 use Rattle.std.proofs.lemmas.List.{length-append}
@@ -23,7 +25,8 @@ turned a b = sym (pointwise_is a b) ∙ pointwise_turned a b
 pub bounded_name : (lowered : Bool) (card : BoundCard) (c : ExactColumn) → (bounded lowered card c).name ≡ c.name
 bounded_name lowered (SetsUpper u) c = by (is_negative u && not lowered)
   where
-    by : (t : Bool) → (cond {A = ExactColumn} t (record c { lower = None; upper = u }) (record c { upper = u })).name ≡ c.name
+    by : (t : Bool) →
+        (cond {A = ExactColumn} t (record c { lower = None; upper = u }) (record c { upper = u })).name ≡ c.name
     by true = refl
     by false = refl
 bounded_name lowered (SetsLower l) c = refl
@@ -32,10 +35,12 @@ bounded_name lowered (SetsBoth l u) c = refl
 -- ---- a column by its name
 
 module _ (columns : ColumnsRead) (names : List Name) (kept : AreColumns columns names) (name : Name) where
-  pub has_named : list_any (same name) names ≡ list_any (λ (c : ExactColumn). same c.name name) (columns_with columns.whole columns.current)
+  pub has_named : list_any (same name) names
+      ≡ list_any (λ (c : ExactColumn). same c.name name) (columns_with columns.whole columns.current)
   has_named =
       ap (list_any (same name)) kept.named
-      ∙ sym (any_named (λ (c : ExactColumn). same c.name name) (same name) name_of (λ c. turned c.name name) (columns_with columns.whole columns.current))
+      ∙ sym (any_named (λ (c : ExactColumn). same c.name name) (same name) name_of
+      (λ c. turned c.name name) (columns_with columns.whole columns.current))
 
   -- the name of a new column is none of the names
   pub begin_new : (old : ColumnsRead) → columns ≡ old → old.current ≡ None →
@@ -44,8 +49,10 @@ module _ (columns : ColumnsRead) (names : List Name) (kept : AreColumns columns 
       let current : columns.current ≡ None = ap (λ (v : ColumnsRead). v.current) e ∙ closed in
       let whole : list_any (λ (c : ExactColumn). same c.name name) columns.whole ≡ false =
       ap (λ (v : ColumnsRead). list_any (λ (c : ExactColumn). same c.name name) v.whole) e ∙ new in
-      names_new name_of columns.whole names name name (kept.named ∙ ap (λ c. map name_of (columns_with columns.whole c)) current) refl
-      (All-weaker (λ (c : ExactColumn). same c.name name ≡ false) (λ c. c.name ≢ name) (λ c. same_false c.name name) columns.whole
+      names_new name_of columns.whole names name name
+      (kept.named ∙ ap (λ c. map name_of (columns_with columns.whole c)) current) refl
+      (All-weaker (λ (c : ExactColumn). same c.name name ≡ false)
+      (λ c. c.name ≢ name) (λ c. same_false c.name name) columns.whole
       (none_passes (λ (c : ExactColumn). same c.name name) columns.whole whole))
 
 -- ---- a place in a list with one more at its end
@@ -111,12 +118,14 @@ module _ (columns : ColumnsRead) (names : List Name) (kept : AreColumns columns 
       Some k ≡ position test columns.whole
   place_inside k e l = by columns.current (e ∙ all_placed)
     where
-      by : (c : Option ExactColumn) → Some k ≡ position test (columns_with columns.whole c) → Some k ≡ position test columns.whole
+      by : (c : Option ExactColumn) → Some k ≡ position test (columns_with columns.whole c) →
+          Some k ≡ position test columns.whole
       by None f = f
       by (Some c) f =
           ⊎_elim
           (λ (a : position test (columns.whole ++ c ∷ []) ≡ position test columns.whole). f ∙ a)
-          (λ (b : (position test (columns.whole ++ c ∷ []) ≡ Some (length columns.whole)) × (position test columns.whole ≡ None)).
+          (λ (b : (position test (columns.whole ++ c ∷ []) ≡ Some (length columns.whole))
+          × (position test columns.whole ≡ None)).
           absurd (let g : k ≡ length columns.whole = ap place_in (f ∙ b.0) in omega (arith, g, l)))
           (pushed test columns.whole c)
 
@@ -125,23 +134,29 @@ module _ (columns : ColumnsRead) (names : List Name) (kept : AreColumns columns 
   place_outside k e l = by columns.current (e ∙ all_placed)
     where
       not_inside : Some k ≡ position test columns.whole → ⊥
-      not_inside f = let g : k < length columns.whole = (position-Some test columns.whole k no_column (sym f)).0 in omega (arith, g, l)
+      not_inside f =
+          let g : k < length columns.whole = (position-Some test columns.whole k no_column (sym f)).0 in
+          omega (arith, g, l)
 
-      by : (c : Option ExactColumn) → Some k ≡ position test (columns_with columns.whole c) → None ≡ position test columns.whole
+      by : (c : Option ExactColumn) → Some k ≡ position test (columns_with columns.whole c) →
+          None ≡ position test columns.whole
       by None f = absurd (not_inside f)
       by (Some c) f =
           ⊎_elim
           (λ (a : position test (columns.whole ++ c ∷ []) ≡ position test columns.whole). absurd (not_inside (f ∙ a)))
-          (λ (b : (position test (columns.whole ++ c ∷ []) ≡ Some (length columns.whole)) × (position test columns.whole ≡ None)). sym b.1)
+          (λ (b : (position test (columns.whole ++ c ∷ []) ≡ Some (length columns.whole))
+          × (position test columns.whole ≡ None)). sym b.1)
           (pushed test columns.whole c)
 
   pub place_nowhere : None ≡ position (λ x. same x name) names → None ≡ position test columns.whole
   place_nowhere e = by columns.current (e ∙ all_placed)
     where
-      by : (c : Option ExactColumn) → None ≡ position test (columns_with columns.whole c) → None ≡ position test columns.whole
+      by : (c : Option ExactColumn) → None ≡ position test (columns_with columns.whole c) →
+          None ≡ position test columns.whole
       by None f = f
       by (Some c) f =
           ⊎_elim
           (λ (a : position test (columns.whole ++ c ∷ []) ≡ position test columns.whole). f ∙ a)
-          (λ (b : (position test (columns.whole ++ c ∷ []) ≡ Some (length columns.whole)) × (position test columns.whole ≡ None)). sym b.1)
+          (λ (b : (position test (columns.whole ++ c ∷ []) ≡ Some (length columns.whole))
+          × (position test columns.whole ≡ None)). sym b.1)
           (pushed test columns.whole c)

@@ -1,5 +1,6 @@
 -- An entry among those of a column, which stand in the order of their rows.
-use Rattle.std.proofs.Common.{◌≡◌, ℕ, zero, suc, ◌<◌, ◌≤◌, Bool, true, false, cond, ltb, List, [], ◌∷◌, length, get_or, Result, Ok, Err, refl, sym, ap, subst, ◌∙◌, arith}
+use Rattle.std.proofs.Common.{◌≡◌, ℕ, zero, suc, ◌<◌, ◌≤◌, Bool, true, false, cond, ltb, List, []}
+use Rattle.std.proofs.Common.{◌∷◌, length, get_or, Result, Ok, Err, refl, sym, ap, subst, ◌∙◌, arith}
 use borrow.Author.Tests.{lt-ltb, le-ltb, ltb-true, ltb-false}
 use Rattle.std.specs.List.{insert}
 use Rattle.std.specs.Prelude.{nat_le, OnOk, OnErr}
@@ -86,7 +87,8 @@ either_ordered (Err fault) i v es new k e f g h = subst IsOrdered (sym f) h
 -- what a search by halves finds
 pub place_parted : (i : ℕ) (v : ℚ) (es : Entries) → IsOrdered es → (k : ℕ) → k ≤ length es →
     (IsPartitionedBy (λ e. nat_le e.0 i) es →
-    IsPartitionPoint (λ e. nat_le e.0 i ≡ true) (λ e. nat_le e.0 i ≡ false) es k) → insert es k (i, v) ≡ put_entry i v es
+    IsPartitionPoint (λ e. nat_le e.0 i ≡ true) (λ e. nat_le e.0 i ≡ false) es k) →
+    insert es k (i, v) ≡ put_entry i v es
 place_parted i v es h k l found =
     let parted : IsPartitionedBy (λ e. nat_le e.0 i) es = λ a b d m n t.
     (let rises : (get_or es a d).0 ≤ (get_or es b d).0 = h a b d m n in grind (arith, nat_tests)) in

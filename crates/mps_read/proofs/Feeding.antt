@@ -10,7 +10,8 @@ use Rattle.mps_read.specs.Feeds.{Feeds}
 use Rattle.mps_read.specs.TextRead.{TextRead}
 
 pub refusal : (v old new : TextRead) (line : Line (List ℕ)) (fault : Fault) (answer : Feed) → v ≡ old →
-    ((outcome : Outcome) (style : Style) (new : TextRead) → Fails outcome fault → Feeds outcome style (v.lines + 1) new answer) →
+    ((outcome : Outcome) (style : Style) (new : TextRead) →
+    Fails outcome fault → Feeds outcome style (v.lines + 1) new answer) →
     Fails (step v.style v.state line) fault →
     Feeds (step old.style old.state line) old.style (old.lines + 1) new answer
 refusal v old new line fault answer e f h =

@@ -2,14 +2,15 @@ use Rattle.std.proofs.Common.{◌≡◌, [], take, drop, All}
 use Rattle.spec_exact.specs.Narrow.{IsNarrow}
 use Rattle.spec_model.specs.Model.{height}
 use Rattle.spec_model.specs.Kept.{AreEntries}
-use Rattle.spec_edit.specs.Edited as told
+use Rattle.spec_edit.specs.Edited as edited
 use Rattle.lp_edit.proofs.column.entries_of.Given as goal
 
 -- the pairs that were passed over are in the entries
 abbrev pub invariant-loop-place : goal.invariant-loop-place
 invariant-loop-place l =
     record {
-      answer : told.entries_of l.model (take l.place l.initial.pairs) (drop l.place l.initial.pairs) l.entries ≡ told.entries_of l.model [] l.initial.pairs [];
+      answer : edited.entries_of l.model (take l.place l.initial.pairs) (drop l.place l.initial.pairs) l.entries
+          ≡ edited.entries_of l.model [] l.initial.pairs [];
       kept : AreEntries (height l.model) l.entries;
       pairs : l.pairs ≡ l.initial.pairs;
       narrow : All (λ e. IsNarrow e.1) l.entries;

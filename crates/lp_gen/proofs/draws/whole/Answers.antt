@@ -1,5 +1,6 @@
 -- A whole number below 2 ^ 32 is a fraction of at most 127 bits.
-use Rattle.std.proofs.Common.{rules, ◌≡◌, ℕ, ◌^◌, ◌<◌, ◌≤◌, pos, Ok, ℤ, SFits, to_z, of_z, to_z-of_z, refl, sym, ap, ◌∙◌, arith}
+use Rattle.std.proofs.Common.{rules, ◌≡◌, ℕ, ◌^◌, ◌<◌, ◌≤◌, pos, Ok, ℤ, SFits}
+use Rattle.std.proofs.Common.{to_z, of_z, to_z-of_z, refl, sym, ap, ◌∙◌, arith}
 use Rattle.std.specs.Prelude.{Result}
 use mir.Syntax.{w128}
 use borrow.Author.Tests.{le-leb}

@@ -10,4 +10,5 @@ overflow_sub-row c =
 pub loop-at-preserved : goal.loop-at-preserved
 loop-at-preserved c =
     let within : c.loop-at.at < length c.args.entries.now = omega arith in
-    subst (AreLowered _ _ _) (sym c.set.ensures) (lowered-more _ _ _ _ c.loop-at.invariant c.at-row.result c.loop-at.auto.at within c.at-row.ensures)
+    subst (AreLowered _ _ _) (sym c.set.ensures)
+    (lowered-more _ _ _ _ c.loop-at.invariant c.at-row.result c.loop-at.auto.at within c.at-row.ensures)

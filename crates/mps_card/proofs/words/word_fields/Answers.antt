@@ -24,8 +24,11 @@ returns c =
     let same = c.into_iter-word-iterator.ensures.into_iter_gives in
     let split = c.split-word-items.ensures in
     let line = c.args.line.now in
-    let seen = seen_at_end c.loop-word.yielded _ c.loop-word.yielded_by _ _ c.in-None.is c.next.ensures.steps (λ x. x.now) (slice_split is_blank line)
-    (YieldsList-from_slice_split _ is_blank line (ap split_rest same ∙ split.rest) (ap split_done same ∙ split.done) (ap split_callee same ∙ split.closure) (λ x b q k. search rules)) in
+    let seen =
+    seen_at_end c.loop-word.yielded _ c.loop-word.yielded_by _ _ c.in-None.is c.next.ensures.steps
+    (λ x. x.now) (slice_split is_blank line)
+    (YieldsList-from_slice_split _ is_blank line (ap split_rest same ∙ split.rest)
+    (ap split_done same ∙ split.done) (ap split_callee same ∙ split.closure) (λ x b q k. search rules)) in
     c.loop-word.invariant ∙ ap (λ (parts : List (List ℕ)). numbered_from 1 (filter has_bytes parts)) seen
 
 pub loop-word-preserved : goal.loop-word-preserved
@@ -35,4 +38,5 @@ loop-word-preserved c =
     c.in_ok-push_word.ensures
     ∙ ap (λ (fields : Fields). fields ++ field_of (length fields + 1) word.now) c.loop-word.invariant
     ∙ next_word (map text c.loop-word.yielded) word.now
-    ∙ ap (λ (parts : List (List ℕ)). numbered_from 1 (filter has_bytes parts)) (sym (map-append text c.loop-word.yielded (word ∷ [])))
+    ∙ ap (λ (parts : List (List ℕ)). numbered_from 1 (filter has_bytes parts))
+    (sym (map-append text c.loop-word.yielded (word ∷ [])))

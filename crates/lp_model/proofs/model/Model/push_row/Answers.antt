@@ -12,7 +12,8 @@ pub with_name-names-requires : goal.with_name-names-requires
 with_name-names-requires c =
     names_new _ _ _ c.args.row.name _ c.take.ensures.value c.self.invariant.rows c.as_slice.ensures
     (All-tail (λ x. x ≢ c.args.row.name) _ _
-    (row_new _ c.args.row.name (subst (λ m. is_row_taken m c.args.row.name ≡ false) (sym c.self.view_is) c.requires.free)))
+    (row_new _ c.args.row.name
+    (subst (λ m. is_row_taken m c.args.row.name ≡ false) (sym c.self.view_is) c.requires.free)))
 
 pub invariant_of-self-2 : goal.invariant_of-self-2
 invariant_of-self-2 c =

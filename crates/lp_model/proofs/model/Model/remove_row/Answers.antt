@@ -9,7 +9,8 @@ use Rattle.lp_model.proofs.model.Model.remove_row.Goals as goal
 pub invariant_of-self : goal.invariant_of-self
 invariant_of-self c =
     let lowered_all =
-    mapped_back (lowered c.args.i) _ _ _ _ c.deref_mut.ensures.value c.deref_mut.ensures.len c.take_row_out_of.ensures in
+    mapped_back (lowered c.args.i) _ _ _ _ c.deref_mut.ensures.value
+    c.deref_mut.ensures.len c.take_row_out_of.ensures in
     record {
       model =
           rw (c.remove.ensures.items, lowered_all)

@@ -8,7 +8,8 @@ pub invariant_of-self : goal.invariant_of-self
 invariant_of-self c =
     record {
       model =
-          cost_here _ c.args.j c.index_mut.result.now c.index_mut.ensures.value (subst (λ m. c.args.j < width m) (sym c.self.view_is) c.requires)
+          cost_here _ c.args.j c.index_mut.result.now c.index_mut.ensures.value
+          (subst (λ m. c.args.j < width m) (sym c.self.view_is) c.requires)
           c.args.v c.narrow.result c.narrow.ensures.value c.self.invariant.model c.narrow.ensures.narrow;
       rows = c.self.invariant.rows;
       columns =

@@ -8,7 +8,8 @@ pub invariant_of-self : goal.invariant_of-self
 invariant_of-self c =
     record {
       model =
-          range_here _ c.args.i c.index_mut.result.now c.index_mut.ensures.value (subst (λ m. c.args.i < height m) (sym c.self.view_is) c.requires)
+          range_here _ c.args.i c.index_mut.result.now c.index_mut.ensures.value
+          (subst (λ m. c.args.i < height m) (sym c.self.view_is) c.requires)
           c.args.range c.narrow_if.result c.narrow_if.ensures.value c.self.invariant.model c.narrow_if.ensures.narrow;
       rows =
           names_set (λ (x : ExactRow). x.name) _ c.self.inside.rows.items c.args.i c.index_mut.result.now
