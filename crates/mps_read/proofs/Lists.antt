@@ -1,5 +1,6 @@
 -- One place of a list, and one number of a column.
-use Rattle.std.proofs.Common.{◌≡◌, ℕ, zero, suc, ◌<◌, ◌≤◌, Bool, true, false, List, [], ◌∷◌, length, reverse, ◌||◌, get_or, cond, refl, ap, ◌∙◌, arith}
+use Rattle.std.proofs.Common.{◌≡◌, ℕ, zero, suc, ◌<◌, ◌≤◌, Bool, true, false, List, [], ◌∷◌}
+use Rattle.std.proofs.Common.{length, reverse, ◌||◌, get_or, cond, refl, ap, ◌∙◌, arith}
 use Rattle.std.specs.List.{list_any}
 use Rattle.std.proofs.Math.ListN.{set}
 use Rattle.std.proofs.lemmas.List.{reverse-append}
@@ -40,7 +41,8 @@ number_put c i v n = go (eq_ℚ v 0ℚ) refl
 pub list_any-reverse : {X : Type 0} (p : X → Bool) (xs : List X) → list_any p (reverse xs) ≡ list_any p xs
 list_any-reverse p [] = refl
 list_any-reverse p (x ∷ xs) =
-    ap (list_any p) (reverse-append (x ∷ []) xs) ∙ list_any-append p (reverse xs) (x ∷ []) ∙ ap (λ t. t || (p x || false)) (list_any-reverse p xs) ∙ turned (list_any p xs) (p x)
+    ap (list_any p) (reverse-append (x ∷ []) xs) ∙ list_any-append p (reverse xs) (x ∷ [])
+    ∙ ap (λ t. t || (p x || false)) (list_any-reverse p xs) ∙ turned (list_any p xs) (p x)
   where
     turned : (s t : Bool) → (s || (t || false)) ≡ (t || s)
     turned true true = refl

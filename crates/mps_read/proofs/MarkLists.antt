@@ -1,5 +1,6 @@
 -- Lists of marks.
-use Rattle.std.proofs.Common.{◌≡◌, ℕ, false, ◌||◌, cond, nat_eq, Option, Some, None, List, [], ◌∷◌, ◌++◌, map, reverse, refl, sym, ap, ap₂, ◌∙◌}
+use Rattle.std.proofs.Common.{◌≡◌, ℕ, false, ◌||◌, cond, nat_eq, Option, Some, None}
+use Rattle.std.proofs.Common.{List, [], ◌∷◌, ◌++◌, map, reverse, refl, sym, ap, ap₂, ◌∙◌}
 use Rattle.std.specs.List.{list_any}
 use Rattle.std.specs.Option.{option_eq}
 use Rattle.std.proofs.lemmas.List.{map-append, reverse-append}
@@ -34,6 +35,7 @@ pub mark_pushed : (t : Target) (m : Option ℕ) (ks new : List (Option ℕ)) (ts
     reverse (map target_of ks) ≡ ts → is_among t ts ≡ false →
     new ≡ cond (list_any (option_eq nat_eq m) ks) ks (ks ++ m ∷ []) → reverse (map target_of new) ≡ t ∷ ts
 mark_pushed t m ks new ts e seen other made =
-    ap (λ xs. reverse (map target_of xs)) (made ∙ ap (λ b. cond b ks (ks ++ m ∷ [])) (among_marks t m ks ts e seen ∙ other))
+    ap (λ xs. reverse (map target_of xs))
+    (made ∙ ap (λ b. cond b ks (ks ++ m ∷ [])) (among_marks t m ks ts e seen ∙ other))
     ∙ ap reverse (map-append target_of ks (m ∷ [])) ∙ reverse-append (map target_of ks) (target_of m ∷ [])
     ∙ ap₂ ◌∷◌ (ap target_of e ∙ target_back t) seen

@@ -1,5 +1,6 @@
 -- Names that stand for nothing yet.
-use Rattle.std.proofs.Common.{◌≡◌, ◌≢◌, ℕ, zero, suc, ◌<◌, ◌≤◌, Bool, true, false, cond, ltb, Option, Some, None, List, [], ◌∷◌, ◌++◌, length, map, take, drop, get_or, All, refl, sym, ap, ◌∙◌, subst, arith}
+use Rattle.std.proofs.Common.{◌≡◌, ◌≢◌, ℕ, zero, suc, ◌<◌, ◌≤◌, Bool, true, false, cond, ltb, Option, Some, None, List}
+use Rattle.std.proofs.Common.{[], ◌∷◌, ◌++◌, length, map, take, drop, get_or, All, refl, sym, ap, ◌∙◌, subst, arith}
 use borrow.Author.Tests.{ltb-false}
 use Rattle.std.specs.List.{list_any, position, position_or_len}
 use Rattle.std.proofs.lemmas.List.{map-append, append-nil, drop_all, take_all}
@@ -46,14 +47,16 @@ unfolding place_of
 rows_new s name h =
     All-weaker (λ (r : ExactRow). same r.name name ≡ false) (λ r. r.name ≢ name) (λ r. same_false r.name name) s.rows
     (none_placed (λ (r : ExactRow). same r.name name) s.rows
-    (parts (is_objective s.objective name) (list_any (same name) s.dropped) (position (λ r. same r.name name) s.rows) h).1)
+    (parts (is_objective s.objective name) (list_any (same name) s.dropped)
+    (position (λ r. same r.name name) s.rows) h).1)
 
 pub dropped_new : (s : State) (name : Name) → place_of s name ≡ None → All (λ x. x ≢ name) s.dropped
 unfolding place_of
 dropped_new s name h =
     All-weaker (λ x. same name x ≡ false) (λ x. x ≢ name) (λ x e q. same_false name x e (sym q)) s.dropped
     (none_passes (same name) s.dropped
-    (parts (is_objective s.objective name) (list_any (same name) s.dropped) (position (λ r. same r.name name) s.rows) h).0)
+    (parts (is_objective s.objective name) (list_any (same name) s.dropped)
+    (position (λ r. same r.name name) s.rows) h).0)
 
 -- ---- names beside what has them
 
@@ -69,7 +72,8 @@ module _ {X : Type 0} (f : X → Name) where
   pub names_more : (xs new : List X) (names more : List Name) (x : X) (own : Name) → names ≡ map f xs → own ≡ f x →
       new ≡ xs ++ x ∷ [] → more ≡ names ++ own ∷ [] → more ≡ map f new
   names_more xs new names more x own e g k m =
-      m ∙ ap (λ ns. ns ++ own ∷ []) e ∙ ap (λ n. map f xs ++ n ∷ []) g ∙ sym (map-append f xs (x ∷ [])) ∙ sym (ap (map f) k)
+      m ∙ ap (λ ns. ns ++ own ∷ []) e ∙ ap (λ n. map f xs ++ n ∷ []) g
+      ∙ sym (map-append f xs (x ∷ [])) ∙ sym (ap (map f) k)
 
 -- ---- rows and columns that are changed in place
 
@@ -127,4 +131,5 @@ pub row_placed : (rows : List ExactRow) (names : List Name) (name : Name) → Ar
     position (λ x. same x name) names ≡ position (λ (r : ExactRow). same r.name name) rows
 row_placed rows names name h =
     ap (position (λ x. same x name)) h.named
-    ∙ sym (place_named (λ (r : ExactRow). same r.name name) (λ x. same x name) (λ (r : ExactRow). r.name) (λ r. refl) rows)
+    ∙ sym (place_named (λ (r : ExactRow). same r.name name)
+    (λ x. same x name) (λ (r : ExactRow). r.name) (λ r. refl) rows)

@@ -33,19 +33,22 @@ joined style s t n [] more l =
     let e : n ≡ n + 0 = omega arith in ap (λ u. judge style u n more) l ∙ ap (λ k. judge style t k more) e
 joined style s t n (line ∷ lines) more l =
     let e : n + 1 + length lines ≡ n + length (line ∷ lines) = omega arith in
-    ap (settled n (λ u. judge style u (n + 1) (lines ++ more))) l.1 ∙ joined style l.0 t (n + 1) lines more l.2 ∙ ap (λ k. judge style t k more) e
+    ap (settled n (λ u. judge style u (n + 1) (lines ++ more))) l.1
+    ∙ joined style l.0 t (n + 1) lines more l.2 ∙ ap (λ k. judge style t k more) e
 
 pub ends : (style : Style) (lines more : List (Line (List ℕ))) (line : Line (List ℕ)) (s : State) (m : Model) →
     Leads style start lines s → step style s line ≡ Ok (Done m) → Spells style (lines ++ line ∷ more) m
 ends style lines more line s m l h =
-    joined style start s 1 lines (line ∷ more) l ∙ ap (settled (1 + length lines) (λ u. judge style u (1 + length lines + 1) more)) h
+    joined style start s 1 lines (line ∷ more) l
+    ∙ ap (settled (1 + length lines) (λ u. judge style u (1 + length lines + 1) more)) h
 
 pub refuses : (style : Style) (lines more : List (Line (List ℕ))) (line : Line (List ℕ)) (s : State) (code : Code) →
     Leads style start lines s → step style s line ≡ Err code →
     Refuses style (lines ++ line ∷ more) (length lines + 1) code
 refuses style lines more line s code l h =
     let e : 1 + length lines ≡ length lines + 1 = omega arith in
-    joined style start s 1 lines (line ∷ more) l ∙ ap (settled (1 + length lines) (λ u. judge style u (1 + length lines + 1) more)) h ∙ ap (λ n. Refused n code) e
+    joined style start s 1 lines (line ∷ more) l
+    ∙ ap (settled (1 + length lines) (λ u. judge style u (1 + length lines + 1) more)) h ∙ ap (λ n. Refused n code) e
 
 -- so a model at the end may be kept
 pub end_kept : (style : Style) (s t : State) (line : Line (List ℕ)) → IsReached style s →
@@ -62,4 +65,5 @@ pub cut_off : (style : Style) (lines : List (Line (List ℕ))) (s : State) → L
     Refuses style lines (length lines + 1) code.Cut
 cut_off style lines s l =
     let e : 1 + length lines ≡ length lines + 1 = omega arith in
-    ap (judge style start 1) (sym (append-nil lines)) ∙ joined style start s 1 lines [] l ∙ ap (λ n. Refused n code.Cut) e
+    ap (judge style start 1) (sym (append-nil lines))
+    ∙ joined style start s 1 lines [] l ∙ ap (λ n. Refused n code.Cut) e

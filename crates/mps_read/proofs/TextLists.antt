@@ -1,5 +1,6 @@
 -- Lists of texts: their number, and those at the first places.
-use Rattle.std.proofs.Common.{◌≡◌, ◌≢◌, ℕ, suc, ◌%◌, ◌<◌, Bool, true, false, not, nat_eq, Option, Some, None, List, [], ◌∷◌, length, slice_get, refl, sym, ap, ap₂, ◌∙◌, arith, cond, Err}
+use Rattle.std.proofs.Common.{◌≡◌, ◌≢◌, ℕ, suc, ◌%◌, ◌<◌, Bool, true, false, not, nat_eq, Option, Some, None}
+use Rattle.std.proofs.Common.{List, [], ◌∷◌, length, slice_get, refl, sym, ap, ap₂, ◌∙◌, arith, cond, Err}
 use Rattle.std.specs.List.{filter}
 use Rattle.std.proofs.lemmas.List.{length-map}
 use Rattle.std.proofs.lemmas.Bool.Decides.{nat_tests}
@@ -38,7 +39,8 @@ pub even_fields : (fs : Fields) → length fs % 2 ≡ 0 →
     record { set = None; pairs = pairs_of (texts_of fs) } ≡ set_and_pairs (texts_of fs)
 unfolding set_and_pairs
 even_fields fs h =
-    sym (ap (λ b. set_and_pairs_by b (texts_of fs)) (is_even (texts_of fs) (ap (λ n. n % 2) (length-map fs (λ (f : Field). f.text)) ∙ h)) ∙ without_set (texts_of fs))
+    sym (ap (λ b. set_and_pairs_by b (texts_of fs))
+    (is_even (texts_of fs) (ap (λ n. n % 2) (length-map fs (λ (f : Field). f.text)) ∙ h)) ∙ without_set (texts_of fs))
 
 -- an odd one begins with it
 pub odd_fields : (fs : Fields) (t : List ℕ) (f : Field) (rest : Fields) → fs ≡ f ∷ rest → t ≡ f.text →
@@ -49,7 +51,8 @@ odd_fields fs t f rest e k h = rw (k, e) (begins f rest (λ z. h (ap (λ (xs : F
     begins : (f : Field) (rest : Fields) → length (f ∷ rest) % 2 ≢ 0 →
         record { set = Some f.text; pairs = pairs_of (texts_of rest) } ≡ set_and_pairs (texts_of (f ∷ rest))
     begins f rest h =
-        sym (ap (λ b. set_and_pairs_by b (texts_of (f ∷ rest))) (odd_is (texts_of (f ∷ rest)) (λ z. h (sym (ap (λ n. n % 2) (length-map (f ∷ rest) (λ (f : Field). f.text))) ∙ z))))
+        sym (ap (λ b. set_and_pairs_by b (texts_of (f ∷ rest))) (odd_is (texts_of (f ∷ rest))
+        (λ z. h (sym (ap (λ n. n % 2) (length-map (f ∷ rest) (λ (f : Field). f.text))) ∙ z))))
 
 -- less than two texts are no pair
 pub few_pairs : (fs : Fields) → length fs < 2 → pairs_of (texts_of fs) ≡ []
@@ -72,12 +75,18 @@ texts_places true (a ∷ b ∷ c ∷ d ∷ ts) = refl
 texts_places false (a ∷ b ∷ c ∷ d ∷ ts) = refl
 
 -- the texts after a kind
-pub bound_texts_are : (style : Style) (kind : BoundKind) (fs : Fields) (shape has_value : Bool) (a b c d : Option Name) (made : Check BoundTexts) → shape ≡ has_shape (bound_shapes style kind) fs → shape ≡ true → has_value ≡ takes_value kind →
-    a ≡ slice_get (texts_of (filter (λ f. is_read kind f.number) fs)) 0 → b ≡ slice_get (texts_of (filter (λ f. is_read kind f.number) fs)) 1 → c ≡ slice_get (texts_of (filter (λ f. is_read kind f.number) fs)) 2 →
-    d ≡ slice_get (texts_of (filter (λ f. is_read kind f.number) fs)) 3 → made ≡ texts_by has_value a b c d → made ≡ bound_texts style kind fs
+pub bound_texts_are : (style : Style) (kind : BoundKind) (fs : Fields)
+    (shape has_value : Bool) (a b c d : Option Name) (made : Check BoundTexts) →
+    shape ≡ has_shape (bound_shapes style kind) fs → shape ≡ true → has_value ≡ takes_value kind →
+    a ≡ slice_get (texts_of (filter (λ f. is_read kind f.number) fs)) 0 →
+    b ≡ slice_get (texts_of (filter (λ f. is_read kind f.number) fs)) 1 →
+    c ≡ slice_get (texts_of (filter (λ f. is_read kind f.number) fs)) 2 →
+    d ≡ slice_get (texts_of (filter (λ f. is_read kind f.number) fs)) 3 →
+    made ≡ texts_by has_value a b c d → made ≡ bound_texts style kind fs
 unfolding bound_texts
 bound_texts_are style kind fs shape has_value a b c d made es t ev ea eb ec ed e =
     let xs : List (List ℕ) = texts_of (filter (λ f. is_read kind f.number) fs) in
     e ∙ ap₂ (λ v x. texts_by v x b c d) ev ea ∙ ap₂ (λ x y. texts_by (takes_value kind) (slice_get xs 0) x y d) eb ec
-    ∙ ap (λ x. texts_by (takes_value kind) (slice_get xs 0) (slice_get xs 1) (slice_get xs 2) x) ed ∙ texts_places (takes_value kind) xs
+    ∙ ap (λ x. texts_by (takes_value kind) (slice_get xs 0) (slice_get xs 1) (slice_get xs 2) x) ed
+    ∙ texts_places (takes_value kind) xs
     ∙ sym (ap (λ (s : Bool). cond s (bound_texts_by (takes_value kind) xs) (Err code.CardShape)) (sym es ∙ t))

@@ -10,4 +10,5 @@ use Rattle.spec_mps.specs.Reader.{State, is_first, with_row}
 -- a row whose name is not taken
 abbrev pub put_row : State → RowType → Name → Check State
 put_row s type name =
-    must (is_first s type || nat_lt (length s.rows + length s.dropped) row_limit) code.Limit >>= λ _. Ok (with_row s type name)
+    must (is_first s type || nat_lt (length s.rows + length s.dropped) row_limit) code.Limit >>=
+    λ _. Ok (with_row s type name)

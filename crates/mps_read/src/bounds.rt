@@ -46,7 +46,8 @@ fn is_read(kind: BoundKind, number: u32) -> bool
 
 // What stands in one of the fields that are read, counted from 0.
 fn text_read(kind: BoundKind, fields: &[Field], place: usize) -> Option<&[u8]>
-    ensures { option_copied result ≡ slice_get (texts_of (filter (λ f. bounds.is_read kind f.number) fields.now)) place }
+    ensures { option_copied result
+        ≡ slice_get (texts_of (filter (λ f. bounds.is_read kind f.number) fields.now)) place }
 {
     let mut left = place;
     for field in fields {
@@ -68,7 +69,8 @@ fn texts_by<'a>(
     third: Option<&'a [u8]>,
     fourth: Option<&'a [u8]>,
 ) -> Result<BoundTexts<'a>, Code>
-    ensures { texts_made result ≡ seen.texts_by has_value (option_copied first.entry) (option_copied second.entry) (option_copied third.entry) (option_copied fourth.entry) }
+    ensures { texts_made result ≡ seen.texts_by has_value (option_copied first.entry)
+        (option_copied second.entry) (option_copied third.entry) (option_copied fourth.entry) }
 {
     let (set, column, value): (Option<&'a [u8]>, &'a [u8], &'a [u8]) = match (
         has_value, first, second, third, fourth,
@@ -135,7 +137,8 @@ impl Draft {
 
     #[tactic(auto, unfolding(spec_mps::specs::Bounds::use_bound))]
     fn use_bound(&mut self, alloc: Global, kind: BoundKind, texts: BoundTexts) -> Result<(), Fault>
-        ensures { GivesState (bounds.use_bound (state_of self.old) kind (texts_seen texts.entry)) (state_of self.new) result }
+        ensures { GivesState (bounds.use_bound (state_of self.old) kind (texts_seen texts.entry))
+            (state_of self.new) result }
     {
         let Some(place) = self.columns.place_of(texts.column) else {
             return Err(Fault::Code(Code::UnknownColumn));

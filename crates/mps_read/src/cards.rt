@@ -28,7 +28,8 @@ fn read_card(
 
 impl Draft {
     fn data_card(&mut self, alloc: Global, style: Style, fields: &Fields) -> Result<(), Fault>
-        ensures { GivesState (steps.data_card style (state_of self.old).part (state_of self.old) fields.now) (state_of self.new) result }
+        ensures { GivesState (steps.data_card style (state_of self.old).part (state_of self.old) fields.now)
+            (state_of self.new) result }
     {
         match self.part {
             None | Some(Section::Name | Section::End) => Err(Fault::Code(Code::CardShape)),
@@ -55,7 +56,8 @@ impl Draft {
     }
 
     fn text_line(&mut self, alloc: Global, style: Style, bytes: &[u8]) -> Result<Went, Fault>
-        ensures { Goes (steps.on_reading style (state_of self.old) (steps.reading_of style (state_of self.old).part bytes.now)) (state_of self.new) result }
+        ensures { Goes (steps.on_reading style (state_of self.old)
+            (steps.reading_of style (state_of self.old).part bytes.now)) (state_of self.new) result }
     {
         let card = read_card(alloc, style, self.part, bytes)?;
         self.on_card(alloc, style, &card)

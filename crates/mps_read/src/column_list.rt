@@ -84,7 +84,8 @@ impl Columns {
 
     /// No more cards are read of the column.
     pub(crate) fn close(&mut self) -> Result<(), AllocError>
-        ensures { OnOk result (self.new ≡ record { whole = columns_with self.old.whole self.old.current; current = None }) }
+        ensures { OnOk result
+            (self.new ≡ record { whole = columns_with self.old.whole self.old.current; current = None }) }
     {
         // Where there is room for the column, nothing more can fail.
         self.whole.reserve(1)?;
@@ -108,7 +109,8 @@ impl Columns {
 
     /// Puts a number of the column that cards are read of, if there is one.
     pub(crate) fn put_number(&mut self, target: Target, value: Frac) -> Result<(), AllocError>
-        ensures { OnOk result (self.new ≡ record (self.old) { current = option_map (λ c. with_number c target value) self.old.current }) }
+        ensures { OnOk result
+            (self.new ≡ record (self.old) { current = option_map (λ c. with_number c target value) self.old.current }) }
     {
         if let Some(column) = &mut self.current {
             put_number(column, target, value)?;
@@ -118,7 +120,8 @@ impl Columns {
 
     /// Lets a card act on the whole column at a place. Past the end there is none.
     pub(crate) fn bound_at(&mut self, place: usize, lowered: bool, card: &BoundCard)
-        ensures { self.new ≡ record (self.old) { whole = changed_at place (bounded lowered (bound_seen card.now)) self.old.whole } }
+        ensures { self.new ≡ record (self.old)
+            { whole = changed_at place (bounded lowered (bound_seen card.now)) self.old.whole } }
     {
         bound_at(&mut self.whole, place, lowered, card);
     }

@@ -65,7 +65,8 @@ impl Draft {
 
     /// No more cards are read of the column.
     pub(crate) fn close(&mut self) -> Result<(), AllocError>
-        ensures { OnOk result (state_of self.new ≡ record (state_of self.old) { columns = reader.whole_columns (state_of self.old); column = None }) }
+        ensures { OnOk result (state_of self.new
+            ≡ record (state_of self.old) { columns = reader.whole_columns (state_of self.old); column = None }) }
     {
         self.columns.close()
     }
@@ -105,7 +106,8 @@ impl Draft {
     }
 
     fn column_pairs(&mut self, fields: &[Field]) -> Result<(), Fault>
-        ensures { GivesState (reader.column_pairs (state_of self.old) (reader.pairs_of (texts_of fields.now))) (state_of self.new) result }
+        ensures { GivesState (reader.column_pairs (state_of self.old) (reader.pairs_of (texts_of fields.now)))
+            (state_of self.new) result }
     {
         let mut fields = fields;
         while let [row, value, more @ ..] = fields {

@@ -9,8 +9,8 @@
 //! | `Feeds` | that an answer is the one of the step of a line | specs/Feeds |
 //! | `Leads` | that lines lead from one state to another | specs/Leads |
 //!
-//! The rule of each line is the step of spec_mps; each section has a file of its own here. Rows and columns are found by
-//! the hashes of their names, so that the time for a card does not grow with how many there are.
+//! The rule of each line is the step of spec_mps; each section has a file of its own here. Rows and columns are found
+//! by the hashes of their names, so that the time for a card does not grow with how many there are.
 #![tactic(auto)]
 
 mod bound_card;
@@ -46,16 +46,20 @@ ghost use Rattle.mps_read.specs.Leads.{Leads};
 pub use reader::{Feed, Reader};
 pub use spec_mps::{Code, MpsFault, Style};
 
-/// The answers at the lines of a text, one by one, are the verdict on the text. After lines that lead to a state, a line
-/// leads further, or ends the text, which spells that model whatever follows, or is wrong, and refuses the text there.
+/// The answers at the lines of a text, one by one, are the verdict on the text. After lines that lead to a state, a
+/// line leads further, or ends the text, which spells that model whatever follows, or is wrong, and refuses the text
+/// there.
 /// Where no line follows, the line that would come next is wrong.
 pub fn answers_are_the_verdict()
     ensures longer { (style : Style) (lines : List (Line (List ℕ))) (line : Line (List ℕ)) (s t : State) →
         Leads style start lines s → step style s line ≡ Ok (More t) → Leads style start (lines ++ line ∷ []) t }
-    ensures spelled { (style : Style) (lines more : List (Line (List ℕ))) (line : Line (List ℕ)) (s : State) (m : Model) →
+    ensures spelled { (style : Style) (lines more : List (Line (List ℕ)))
+        (line : Line (List ℕ)) (s : State) (m : Model) →
         Leads style start lines s → step style s line ≡ Ok (Done m) → Spells style (lines ++ line ∷ more) m }
-    ensures refused { (style : Style) (lines more : List (Line (List ℕ))) (line : Line (List ℕ)) (s : State) (code : Code) →
-        Leads style start lines s → step style s line ≡ Err code → Refuses style (lines ++ line ∷ more) (length lines + 1) code }
+    ensures refused { (style : Style) (lines more : List (Line (List ℕ)))
+        (line : Line (List ℕ)) (s : State) (code : Code) →
+        Leads style start lines s → step style s line ≡ Err code →
+        Refuses style (lines ++ line ∷ more) (length lines + 1) code }
     ensures cut { (style : Style) (lines : List (Line (List ℕ))) (s : State) →
         Leads style start lines s → Refuses style lines (length lines + 1) code.Cut }
 {}

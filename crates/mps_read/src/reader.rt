@@ -49,7 +49,8 @@ impl marker::Model for Reader {
 }
 
 fn refused(fault: Fault, line: u32) -> Feed
-    ensures { (outcome : Outcome) (style : Style) (new : TextRead) → Fails outcome fault → Feeds outcome style line new result }
+    ensures { (outcome : Outcome) (style : Style) (new : TextRead) →
+        Fails outcome fault → Feeds outcome style line new result }
 {
     match fault {
         Fault::Code(code) => Feed::Refused(MpsFault { line, code }),
@@ -72,7 +73,8 @@ impl Reader {
     /// Takes the next line.
     pub fn feed(&mut self, alloc: Global, line: &Line) -> Feed
         requires { self.old.lines < 2 ^ 32 - 1 }
-        ensures { Feeds (step self.old.style self.old.state line.now) self.old.style (self.old.lines + 1) self.new result }
+        ensures { Feeds (step self.old.style self.old.state line.now) self.old.style
+            (self.old.lines + 1) self.new result }
     {
         let number = self.lines + 1;
         let draft = mem::replace(&mut self.draft, Draft::new(alloc));

@@ -66,7 +66,8 @@ pub(crate) fn is_used(first: &Option<Option<Name>>, set: Option<&[u8]>) -> bool
 impl Draft {
     /// This set is used from here on.
     pub(crate) fn use_set(&mut self, alloc: Global, set: Option<&[u8]>) -> Result<(), AllocError>
-        ensures { OnOk result (state_of self.new ≡ record (state_of self.old) { set = Some (option_copied set.entry) }) }
+        ensures { OnOk result
+            (state_of self.new ≡ record (state_of self.old) { set = Some (option_copied set.entry) }) }
     {
         self.set = Some(match set {
             Some(name) => Some(Name::from_slice(alloc, name)?),

@@ -46,7 +46,8 @@ impl Draft {
     }
 
     fn side_pairs(&mut self, fields: &[Field]) -> Result<(), Fault>
-        ensures { GivesState (side.side_pairs (state_of self.old) (reader.pairs_of (texts_of fields.now))) (state_of self.new) result }
+        ensures { GivesState (side.side_pairs (state_of self.old) (reader.pairs_of (texts_of fields.now)))
+            (state_of self.new) result }
     {
         let mut fields = fields;
         while let [row, value, more @ ..] = fields {
@@ -118,7 +119,8 @@ impl Draft {
     }
 
     fn range_pairs(&mut self, fields: &[Field]) -> Result<(), Fault>
-        ensures { GivesState (side.range_pairs (state_of self.old) (reader.pairs_of (texts_of fields.now))) (state_of self.new) result }
+        ensures { GivesState (side.range_pairs (state_of self.old) (reader.pairs_of (texts_of fields.now)))
+            (state_of self.new) result }
     {
         let mut fields = fields;
         while let [row, value, more @ ..] = fields {

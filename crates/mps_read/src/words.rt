@@ -72,7 +72,8 @@ pub(crate) fn row_type_of(word: &[u8]) -> Option<RowType>
     None
 }
 
-/// The kind of bounds that a word says. The kinds for columns of whole numbers and semi-continuous columns are not read.
+/// The kind of bounds that a word says. The kinds for columns of whole numbers and
+/// semi-continuous columns are not read.
 #[tactic(auto, unfolding(spec_mps::specs::Shapes::bound_kind_of))]
 pub(crate) fn bound_kind_of(word: &[u8]) -> Result<BoundKind, Code>
     ensures { result ≡ shapes.bound_kind_of word.now }

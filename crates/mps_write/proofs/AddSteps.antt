@@ -1,5 +1,6 @@
 -- Cards that are added in turn, and cards of each item of a list.
-use Rattle.std.proofs.Common.{◌≡◌, ℕ, ◌+◌, ◌<◌, ◌≤◌, Some, None, Ok, Err, List, [], ◌∷◌, ◌++◌, length, take, drop, get_or, refl, sym, subst, ◌∙◌, ap, append_assoc, append-nil, Option, Result}
+use Rattle.std.proofs.Common.{◌≡◌, ℕ, ◌+◌, ◌<◌, ◌≤◌, Some, None, Ok, Err, List, [], ◌∷◌, ◌++◌, length, take}
+use Rattle.std.proofs.Common.{drop, get_or, refl, sym, subst, ◌∙◌, ap, append_assoc, append-nil, Option, Result}
 use Rattle.std.specs.Prelude.{⊤, option_map, find, codes}
 use Rattle.std.specs.List.{flat_map}
 use Rattle.std.specs.Option.{option_or}
@@ -10,7 +11,9 @@ use Rattle.spec_model.specs.Model.{Model}
 use Rattle.spec_mps.specs.declared.style.Style.{Style}
 use Rattle.spec_mps.specs.declared.style.Style.TheVariants.{Free, Fixed}
 use Rattle.spec_mps.specs.Fields.{Field}
-use Rattle.spec_mps.specs.Written.{cards_of, name_card, sense_cards, rows_cards, columns_cards, sides_cards, ranges_cards, bounds_cards, section_card, fixed, too_wide, WrittenCards, cards_text, line_text, is_wide, data_fields}
+use Rattle.spec_mps.specs.Written.{cards_of, name_card, sense_cards, rows_cards, columns_cards}
+use Rattle.spec_mps.specs.Written.{sides_cards, ranges_cards, bounds_cards, section_card, fixed, too_wide}
+use Rattle.spec_mps.specs.Written.{WrittenCards, cards_text, line_text, is_wide, data_fields}
 use Rattle.mps_write.specs.declared.fault.WriteFault.{WriteFault}
 use Rattle.mps_write.specs.declared.fault.WriteFault.TheVariants.{TooWide, NoMemory}
 use Rattle.mps_write.specs.Adds.{Adds, IsAdded, Names, wide_in, GivesText, IsFixed, front_cards, back_cards}
@@ -27,21 +30,25 @@ first_some None y item h = cc
 first_some (Some f) y item h = h
 
 find_both : (cs ds : WrittenCards) →
-    find is_wide (flat_map data_fields (cs ++ ds)) ≡ option_or (find is_wide (flat_map data_fields cs)) (find is_wide (flat_map data_fields ds))
+    find is_wide (flat_map data_fields (cs ++ ds))
+    ≡ option_or (find is_wide (flat_map data_fields cs)) (find is_wide (flat_map data_fields ds))
 find_both cs ds =
-    ap (find is_wide) (flat_map-append data_fields cs ds) ∙ find-append is_wide (flat_map data_fields cs) (flat_map data_fields ds)
+    ap (find is_wide) (flat_map-append data_fields cs ds)
+    ∙ find-append is_wide (flat_map data_fields cs) (flat_map data_fields ds)
 
 pub wide_behind : (style : Style) (cs ds : WrittenCards) → wide_in style cs ≡ None →
     wide_in style (cs ++ ds) ≡ wide_in style ds
 wide_behind Free cs ds h = refl
 wide_behind Fixed cs ds h =
-    ap (option_map (λ f. f.text)) (find_both cs ds) ∙ first_none (find is_wide (flat_map data_fields cs)) (find is_wide (flat_map data_fields ds)) h
+    ap (option_map (λ f. f.text)) (find_both cs ds)
+    ∙ first_none (find is_wide (flat_map data_fields cs)) (find is_wide (flat_map data_fields ds)) h
 
 pub wide_first : (style : Style) (cs ds : WrittenCards) (item : List ℕ) → wide_in style cs ≡ Some item →
     wide_in style (cs ++ ds) ≡ Some item
 wide_first Free cs ds item h = h
 wide_first Fixed cs ds item h =
-    ap (option_map (λ f. f.text)) (find_both cs ds) ∙ first_some (find is_wide (flat_map data_fields cs)) (find is_wide (flat_map data_fields ds)) item h
+    ap (option_map (λ f. f.text)) (find_both cs ds)
+    ∙ first_some (find is_wide (flat_map data_fields cs)) (find is_wide (flat_map data_fields ds)) item h
 
 pub cards_text-append : (style : Style) (cs ds : WrittenCards) →
     cards_text style (cs ++ ds) ≡ cards_text style cs ++ cards_text style ds
@@ -59,7 +66,9 @@ joined style cs ds a b c h k =
     record {
       narrow = wide_behind style cs ds h.narrow ∙ k.narrow;
       text =
-          k.text ∙ ap (λ t. t ++ cards_text style ds) h.text ∙ append_assoc a (cards_text style cs) (cards_text style ds) ∙ ap (λ t. a ++ t) (sym (cards_text-append style cs ds));
+          k.text ∙ ap (λ t. t ++ cards_text style ds) h.text
+          ∙ append_assoc a (cards_text style cs) (cards_text style ds)
+          ∙ ap (λ t. a ++ t) (sym (cards_text-append style cs ds));
     }
 
 pub behind : (style : Style) (cs ds : WrittenCards) (a b : List ℕ) (fault : WriteFault) → IsAdded style cs a b →
@@ -79,10 +88,12 @@ goes_on style cs ds a b c (Err fault) h k = behind style cs ds a b fault h k
 
 -- ---- for each item of a list
 
-module _ {X : Type 0} (style : Style) (f : X → WrittenCards) (xs : List X) (i : ℕ) (d : X) (inside : i < length xs) where
+module _ {X : Type 0} (style : Style) (f : X → WrittenCards)
+    (xs : List X) (i : ℕ) (d : X) (inside : i < length xs) where
   next_cards : flat_map f (take (i + 1) xs) ≡ flat_map f (take i xs) ++ f (get_or xs i d)
   next_cards =
-      ap (flat_map f) (take_more xs i d inside) ∙ flat_map-append f (take i xs) (get_or xs i d ∷ []) ∙ ap (λ t. flat_map f (take i xs) ++ t) (append-nil (f (get_or xs i d)))
+      ap (flat_map f) (take_more xs i d inside) ∙ flat_map-append f (take i xs) (get_or xs i d ∷ [])
+      ∙ ap (λ t. flat_map f (take i xs) ++ t) (append-nil (f (get_or xs i d)))
 
   pub each_next : (a b c : List ℕ) → IsAdded style (flat_map f (take i xs)) a b →
       IsAdded style (f (get_or xs i d)) b c → IsAdded style (flat_map f (take (i + 1) xs)) a c
@@ -110,7 +121,8 @@ regroup a b c d e f g = simp append_assoc
 pub all_cards_of : (m : Model) → cards_of m ≡ front_cards m ++ back_cards m
 unfolding cards_of
 all_cards_of m =
-    regroup (name_card m.name ∷ sense_cards m.sense) (rows_cards m) (columns_cards m) (sides_cards m) (ranges_cards m) (bounds_cards m) (section_card (codes "ENDATA") ∷ [])
+    regroup (name_card m.name ∷ sense_cards m.sense) (rows_cards m) (columns_cards m)
+    (sides_cards m) (ranges_cards m) (bounds_cards m) (section_card (codes "ENDATA") ∷ [])
 
 -- ---- whole texts
 

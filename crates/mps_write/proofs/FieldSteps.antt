@@ -1,5 +1,6 @@
 -- Fields that are put in turn.
-use Rattle.std.proofs.Common.{◌≡◌, ℕ, ◌+◌, ◌<◌, ◌≤◌, true, false, Some, None, List, [], ◌∷◌, ◌++◌, length, take, drop, get_or, refl, sym, ◌∙◌, ap, map, Bor}
+use Rattle.std.proofs.Common.{◌≡◌, ℕ, ◌+◌, ◌<◌, ◌≤◌, true, false, Some, None, List, [], ◌∷◌}
+use Rattle.std.proofs.Common.{◌++◌, length, take, drop, get_or, refl, sym, ◌∙◌, ap, map, Bor}
 use Rattle.std.specs.Prelude.{option_map, find}
 use Rattle.std.proofs.lemmas.List.{take_all, take_more, take-append-drop, map-append, append-nil}
 use Rattle.std.proofs.lemmas.List.Folds.{find-append}
@@ -21,12 +22,14 @@ with_fields-append style line (f ∷ fs) gs = with_fields-append style (padded s
 wide_behind : (style : Style) (fs gs : Fields) → wide_field style fs ≡ None →
     wide_field style (fs ++ gs) ≡ wide_field style gs
 wide_behind style fs gs h =
-    ap (option_map (λ f. f.text)) (find-append (is_wide_in style) fs gs) ∙ first_none (find (is_wide_in style) fs) (find (is_wide_in style) gs) h
+    ap (option_map (λ f. f.text)) (find-append (is_wide_in style) fs gs)
+    ∙ first_none (find (is_wide_in style) fs) (find (is_wide_in style) gs) h
 
 wide_first : (style : Style) (fs gs : Fields) (item : List ℕ) → wide_field style fs ≡ Some item →
     wide_field style (fs ++ gs) ≡ Some item
 wide_first style fs gs item h =
-    ap (option_map (λ f. f.text)) (find-append (is_wide_in style) fs gs) ∙ first_some (find (is_wide_in style) fs) (find (is_wide_in style) gs) item h
+    ap (option_map (λ f. f.text)) (find-append (is_wide_in style) fs gs)
+    ∙ first_some (find (is_wide_in style) fs) (find (is_wide_in style) gs) item h
 
 wide_one : (style : Style) (f : Field) → is_wide_in style f ≡ true → wide_field style (f ∷ []) ≡ Some f.text
 wide_one style f h = rw h refl
@@ -37,16 +40,22 @@ narrow_one style f h = rw h refl
 abbrev pub seen : code.Field (Bor (List ℕ)) → Field
 seen f = record { number = f.number; text = f.text.now }
 
-module _ (style : Style) (fs : List (code.Field (Bor (List ℕ)))) (i : ℕ) (d : code.Field (Bor (List ℕ))) (inside : i < length fs) where
+module _ (style : Style) (fs : List (code.Field (Bor (List ℕ)))) (i : ℕ)
+    (d : code.Field (Bor (List ℕ))) (inside : i < length fs) where
   fields_next : fields_of (take (i + 1) fs) ≡ fields_of (take i fs) ++ seen (get_or fs i d) ∷ []
   fields_next = ap (map seen) (take_more fs i d inside) ∙ map-append seen (take i fs) (get_or fs i d ∷ [])
 
-  pub puts_next : (start line next : List ℕ) → wide_field style (fields_of (take i fs)) ≡ None → line ≡ with_fields style start (fields_of (take i fs))
-      → is_wide_in style (seen (get_or fs i d)) ≡ false → next ≡ padded style (get_or fs i d).number line ++ (get_or fs i d).text.now
-      → (wide_field style (fields_of (take (i + 1) fs)) ≡ None) × (next ≡ with_fields style start (fields_of (take (i + 1) fs)))
+  pub puts_next : (start line next : List ℕ) → wide_field style (fields_of (take i fs)) ≡ None →
+      line ≡ with_fields style start (fields_of (take i fs))
+      → is_wide_in style (seen (get_or fs i d)) ≡ false →
+      next ≡ padded style (get_or fs i d).number line ++ (get_or fs i d).text.now
+      → (wide_field style (fields_of (take (i + 1) fs)) ≡ None)
+      × (next ≡ with_fields style start (fields_of (take (i + 1) fs)))
   puts_next start line next narrow here room put = (
-    ap (wide_field style) fields_next ∙ wide_behind style (fields_of (take i fs)) (seen (get_or fs i d) ∷ []) narrow ∙ narrow_one style (seen (get_or fs i d)) room,
-    put ∙ ap (λ l. padded style (get_or fs i d).number l ++ (get_or fs i d).text.now) here ∙ sym (with_fields-append style start (fields_of (take i fs)) (seen (get_or fs i d) ∷ []))
+    ap (wide_field style) fields_next ∙ wide_behind style (fields_of (take i fs)) (seen (get_or fs i d) ∷ []) narrow
+        ∙ narrow_one style (seen (get_or fs i d)) room,
+    put ∙ ap (λ l. padded style (get_or fs i d).number l ++ (get_or fs i d).text.now) here
+        ∙ sym (with_fields-append style start (fields_of (take i fs)) (seen (get_or fs i d) ∷ []))
         ∙ ap (with_fields style start) (sym fields_next),
   )
 
@@ -56,14 +65,18 @@ module _ (style : Style) (fs : List (code.Field (Bor (List ℕ)))) (i : ℕ) (d 
   pub puts_stops : wide_field style (fields_of (take i fs)) ≡ None → is_wide_in style (seen (get_or fs i d)) ≡ true →
       wide_field style (fields_of fs) ≡ Some (get_or fs i d).text.now
   puts_stops narrow wide =
-      ap (wide_field style) fields_all ∙ wide_first style (fields_of (take (i + 1) fs)) (fields_of (drop (i + 1) fs)) (get_or fs i d).text.now
-      (ap (wide_field style) fields_next ∙ wide_behind style (fields_of (take i fs)) (seen (get_or fs i d) ∷ []) narrow ∙ wide_one style (seen (get_or fs i d)) wide)
+      ap (wide_field style) fields_all
+      ∙ wide_first style (fields_of (take (i + 1) fs)) (fields_of (drop (i + 1) fs)) (get_or fs i d).text.now
+      (ap (wide_field style) fields_next ∙ wide_behind style (fields_of (take i fs)) (seen (get_or fs i d) ∷ []) narrow
+      ∙ wide_one style (seen (get_or fs i d)) wide)
 
 pub puts_done : (style : Style) (fs : List (code.Field (Bor (List ℕ)))) (n : ℕ) (start line : List ℕ) → length fs ≤ n
     → wide_field style (fields_of (take n fs)) ≡ None → line ≡ with_fields style start (fields_of (take n fs))
     → (wide_field style (fields_of fs) ≡ None) × (line ≡ with_fields style start (fields_of fs))
-puts_done style fs n start line all narrow here =
-    (ap (λ gs. wide_field style (fields_of gs)) (sym (take_all n fs all)) ∙ narrow, here ∙ ap (λ gs. with_fields style start (fields_of gs)) (take_all n fs all))
+puts_done style fs n start line all narrow here = (
+  ap (λ gs. wide_field style (fields_of gs)) (sym (take_all n fs all)) ∙ narrow,
+  here ∙ ap (λ gs. with_fields style start (fields_of gs)) (take_all n fs all),
+)
 
 -- ---- a card of fields
 
@@ -82,11 +95,14 @@ card_stops style fs NoMemory h = tt
 
 -- a line feed after the line, and the line after the text
 pub card_done : (style : Style) (fs : Fields) (start line ended shown text next : List ℕ)
-    → (wide_field style fs ≡ None) × (line ≡ with_fields style start fs) → start ≡ [] → ended ≡ line ++ 10 ∷ [] → shown ≡ ended → next ≡ text ++ shown
+    → (wide_field style fs ≡ None) × (line ≡ with_fields style start fs) →
+    start ≡ [] → ended ≡ line ++ 10 ∷ [] → shown ≡ ended → next ≡ text ++ shown
     → IsAdded style (Data fs ∷ []) text next
 card_done style fs start line ended shown text next puts empty end same put =
     record {
       narrow = wide_card style fs ∙ puts.0;
       text =
-          put ∙ ap (λ t. text ++ t) (same ∙ end ∙ ap (λ l. l ++ 10 ∷ []) (puts.1 ∙ ap (λ l. with_fields style l fs) empty) ∙ sym (append-nil (with_fields style [] fs ++ 10 ∷ [])));
+          put
+          ∙ ap (λ t. text ++ t) (same ∙ end ∙ ap (λ l. l ++ 10 ∷ []) (puts.1 ∙ ap (λ l. with_fields style l fs) empty)
+          ∙ sym (append-nil (with_fields style [] fs ++ 10 ∷ [])));
     }

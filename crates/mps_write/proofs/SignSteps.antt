@@ -18,4 +18,5 @@ same_test v w false h = by (eq_ℚ v w) refl
 pub positive_test : (v : ℚ) → int_lt (pos 0) v.num ≡ lt_ℚ 0ℚ v
 unfolding lt_ℚ whole
 positive_test v =
-    ap₂ int_lt (by_ring (pos v.den ∷ []) (lit (pos 0)) (lit (pos 0) ⊗ v0) refl) (by_ring (v.num ∷ []) v0 (v0 ⊗ lit (pos 1)) refl)
+    ap₂ int_lt (by_ring (pos v.den ∷ []) (lit (pos 0)) (lit (pos 0) ⊗ v0) refl)
+    (by_ring (v.num ∷ []) v0 (v0 ⊗ lit (pos 1)) refl)

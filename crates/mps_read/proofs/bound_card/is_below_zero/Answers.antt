@@ -8,4 +8,5 @@ use Rattle.mps_read.proofs.bound_card.is_below_zero.Goals as goal
 pub returns-in-Some : goal.returns-in-Some
 returns-in-Some c =
     let fits : SFits w128 c.num.result = search rules in
-    ap (λ z. lt_z z (pos 0)) (to_z-of_z fits ∙ c.num.ensures.value) ∙ below_zero c.in-Some.bound ∙ ap is_negative (sym c.in-Some.is)
+    ap (λ z. lt_z z (pos 0)) (to_z-of_z fits ∙ c.num.ensures.value)
+    ∙ below_zero c.in-Some.bound ∙ ap is_negative (sym c.in-Some.is)

@@ -7,4 +7,5 @@ use Rattle.mps_read.proofs.bounds.text_read.Given as goal
 -- the fields that are left decide
 abbrev pub invariant-loop-field : goal.invariant-loop-field
 invariant-loop-field l =
-    slice_get (texts_of (filter (λ f. is_read l.kind f.number) (drop l.field-index l.fields))) l.left ≡ slice_get (texts_of (filter (λ f. is_read l.kind f.number) l.fields)) l.place
+    slice_get (texts_of (filter (λ f. is_read l.kind f.number) (drop l.field-index l.fields))) l.left
+    ≡ slice_get (texts_of (filter (λ f. is_read l.kind f.number) l.fields)) l.place

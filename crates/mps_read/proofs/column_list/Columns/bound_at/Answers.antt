@@ -17,7 +17,8 @@ invariant_of-self c =
           c.self.invariant.named
           ∙ sym (names_beside c.self.inside.whole.items _ c.self.inside.current
           (ap (map (λ (x : ExactColumn). x.name)) written
-          ∙ names_changed (λ (x : ExactColumn). x.name) c.args.place change (bounded_name c.args.lowered (bound_seen c.args.card.now))
+          ∙ names_changed (λ (x : ExactColumn). x.name) c.args.place change
+          (bounded_name c.args.lowered (bound_seen c.args.card.now))
           c.self.inside.whole.items));
       ordered = c.self.invariant.ordered;
     }

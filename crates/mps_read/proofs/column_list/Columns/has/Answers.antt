@@ -11,5 +11,6 @@ pub returns : goal.returns
 returns c =
     c.has.ensures ∙ has_named (record { whole = c.self.inside.whole.items; current = c.self.inside.current })
     c.self.inside.names c.self.invariant c.args.name.now
-    ∙ ap (λ (v : ColumnsRead). list_any (λ (x : ExactColumn). same x.name c.args.name.now) (columns_with v.whole v.current))
+    ∙ ap (λ (v : ColumnsRead). list_any (λ (x : ExactColumn). same x.name c.args.name.now)
+    (columns_with v.whole v.current))
     c.self.view_is

@@ -10,6 +10,7 @@ invariant_of-self c =
     record {
       named =
           (rw c.in-Some.is at c.self.invariant.named)
-          ∙ sym (names_current c.self.inside.whole.items c.in-Some.column c.put_number.new.column c.put_number.ensures.named);
+          ∙ sym (names_current c.self.inside.whole.items c.in-Some.column
+          c.put_number.new.column c.put_number.ensures.named);
       ordered = c.put_number.ensures.ordered;
     }

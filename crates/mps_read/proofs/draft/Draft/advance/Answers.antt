@@ -4,4 +4,5 @@ use Rattle.mps_read.proofs.draft.Draft.advance.Goals as goal
 
 pub finish-requires : goal.finish-requires
 finish-requires c =
-    end_kept c.args.style (state_of c.args.self) (state_of c.step.new.self) c.args.line.now c.requires (rw c.in-ToEnd.is at c.in_ok-step.ensures)
+    end_kept c.args.style (state_of c.args.self)
+    (state_of c.step.new.self) c.args.line.now c.requires (rw c.in-ToEnd.is at c.in_ok-step.ensures)

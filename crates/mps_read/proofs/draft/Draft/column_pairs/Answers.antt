@@ -7,4 +7,5 @@ use Rattle.mps_read.proofs.draft.Draft.column_pairs.Goals as goal
 pub returns : goal.returns
 returns c =
     let few : length c.loop-fields.fields.now < 2 = omega (arith, c.in_default.len_below) in
-    sym c.loop-fields.invariant ∙ ap (column_pairs (state_of c.loop-fields.self)) (few_pairs c.loop-fields.fields.now few)
+    sym c.loop-fields.invariant
+    ∙ ap (column_pairs (state_of c.loop-fields.self)) (few_pairs c.loop-fields.fields.now few)

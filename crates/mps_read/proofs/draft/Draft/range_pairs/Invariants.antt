@@ -8,7 +8,8 @@ use Rattle.mps_read.proofs.draft.Draft.range_pairs.Given as goal
 -- the pairs that are left decide
 abbrev pub invariant-loop-fields : goal.invariant-loop-fields
 invariant-loop-fields l =
-    range_pairs (state_of l.self) (pairs_of (texts_of l.fields)) ≡ range_pairs (state_of l.initial.self) (pairs_of (texts_of l.initial.fields))
+    range_pairs (state_of l.self) (pairs_of (texts_of l.fields))
+    ≡ range_pairs (state_of l.initial.self) (pairs_of (texts_of l.initial.fields))
 
 abbrev pub decreases-loop-fields : goal.decreases-loop-fields
 decreases-loop-fields l = length l.fields

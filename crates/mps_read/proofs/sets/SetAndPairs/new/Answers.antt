@@ -6,4 +6,5 @@ returns-then-fields-eq0 c = even_fields c.args.fields.now c.if-fields-eq0.true
 
 pub returns-in-Some : goal.returns-in-Some
 returns-in-Some c =
-    odd_fields c.args.fields.now c.text.result.now c.in-Some.set.now c.in-Some.pairs.now c.in-Some.ensures.cases.0 c.text.ensures c.if-fields-eq0.false
+    odd_fields c.args.fields.now c.text.result.now c.in-Some.set.now
+    c.in-Some.pairs.now c.in-Some.ensures.cases.0 c.text.ensures c.if-fields-eq0.false

@@ -4,4 +4,5 @@ use Rattle.mps_read.proofs.targets.Targets.has.Goals as goal
 
 pub returns : goal.returns
 returns c =
-    c.contains.ensures ∙ among_marks c.args.target _ c.self.inside.marks.keys c.args.self.now c.mark_of-mark.ensures c.self.view_is
+    c.contains.ensures
+    ∙ among_marks c.args.target _ c.self.inside.marks.keys c.args.self.now c.mark_of-mark.ensures c.self.view_is

@@ -15,4 +15,6 @@ pub returns : goal.returns
 unfolding bounds_cards
 returns c =
     rw (sym c.has_bounds.ensures ∙ c.if-not-has_bounds.false)
-    (goes_on c.args.self.now.style (section_card (codes "BOUNDS") ∷ []) (flat_map (λ k. bound_cards k.name k.lower k.upper) c.args.model.now.columns) _ _ _ c.column_bounds.result c.in_ok-section.ensures c.column_bounds.ensures)
+    (goes_on c.args.self.now.style (section_card (codes "BOUNDS") ∷ [])
+    (flat_map (λ k. bound_cards k.name k.lower k.upper) c.args.model.now.columns)
+    _ _ _ c.column_bounds.result c.in_ok-section.ensures c.column_bounds.ensures)

@@ -7,4 +7,5 @@ use Rattle.mps_write.proofs.line.Writer.column_bounds.Given as goal
 
 abbrev pub invariant-loop-j : goal.invariant-loop-j
 invariant-loop-j l =
-    IsAdded l.self.style (flat_map (λ c. bound_cards c.name c.lower c.upper) (take l.j l.model.columns)) l.initial.to l.to
+    IsAdded l.self.style
+    (flat_map (λ c. bound_cards c.name c.lower c.upper) (take l.j l.model.columns)) l.initial.to l.to

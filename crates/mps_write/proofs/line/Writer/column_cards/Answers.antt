@@ -11,14 +11,17 @@ loop-j-init c = nothing c.args.self.now.style c.args.to.now
 
 pub loop-j-preserved : goal.loop-j-preserved
 loop-j-preserved c =
-    each_next c.args.self.now.style (column_cards c.args.model.now) c.args.model.now.columns c.loop-j.j no_column (omega arith) _ _ _ c.loop-j.invariant c.in_ok-column.ensures
+    each_next c.args.self.now.style (column_cards c.args.model.now) c.args.model.now.columns c.loop-j.j no_column
+    (omega arith) _ _ _ c.loop-j.invariant c.in_ok-column.ensures
 
 pub returns-in_err-column : goal.returns-in_err-column
 returns-in_err-column c =
     let p = err_from_is_err_and c.from_residual.result c.from_residual.ensures.1 in
     rw (p.1, p.2)
-    (each_stops c.args.self.now.style (column_cards c.args.model.now) c.args.model.now.columns c.loop-j.j no_column (omega arith) _ _ c.in_err-column.field-0.0 c.loop-j.invariant c.in_err-column.ensures)
+    (each_stops c.args.self.now.style (column_cards c.args.model.now) c.args.model.now.columns c.loop-j.j no_column
+    (omega arith) _ _ c.in_err-column.field-0.0 c.loop-j.invariant c.in_err-column.ensures)
 
 pub returns : goal.returns
 returns c =
-    each_done c.args.self.now.style (column_cards c.args.model.now) c.args.model.now.columns c.loop-j.j _ _ (omega arith) c.loop-j.invariant
+    each_done c.args.self.now.style (column_cards c.args.model.now) c.args.model.now.columns c.loop-j.j _ _
+    (omega arith) c.loop-j.invariant

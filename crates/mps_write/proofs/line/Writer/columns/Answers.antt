@@ -9,4 +9,6 @@ use Rattle.mps_write.proofs.line.Writer.columns.Goals as goal
 pub returns : goal.returns
 unfolding columns_cards
 returns c =
-    goes_on c.args.self.now.style (section_card (codes "COLUMNS") ∷ []) (flat_map (column_cards c.args.model.now) c.args.model.now.columns) _ _ _ c.column_cards.result c.in_ok-section.ensures c.column_cards.ensures
+    goes_on c.args.self.now.style (section_card (codes "COLUMNS") ∷ [])
+    (flat_map (column_cards c.args.model.now) c.args.model.now.columns) _ _
+    _ c.column_cards.result c.in_ok-section.ensures c.column_cards.ensures

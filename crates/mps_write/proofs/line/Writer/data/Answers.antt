@@ -7,8 +7,10 @@ use Rattle.mps_write.proofs.line.Writer.data.Goals as goal
 pub returns-in_err-fields : goal.returns-in_err-fields
 returns-in_err-fields c =
     let p = err_from_is_err_and c.from_residual.result c.from_residual.ensures.1 in
-    rw (p.1, p.2) (card_stops c.args.self.now.style (fields_of c.args.fields.now) c.in_err-fields.field-0.0 c.in_err-fields.ensures)
+    rw (p.1, p.2)
+    (card_stops c.args.self.now.style (fields_of c.args.fields.now) c.in_err-fields.field-0.0 c.in_err-fields.ensures)
 
 pub returns : goal.returns
 returns c =
-    card_done c.args.self.now.style (fields_of c.args.fields.now) _ _ _ _ _ _ c.in_ok-fields.ensures c.new-line.ensures c.in_ok-push.ensures.ok c.as_slice.ensures c.in_ok-extend.ensures.ok
+    card_done c.args.self.now.style (fields_of c.args.fields.now) _ _ _ _ _ _ c.in_ok-fields.ensures
+    c.new-line.ensures c.in_ok-push.ensures.ok c.as_slice.ensures c.in_ok-extend.ensures.ok

@@ -8,4 +8,5 @@ use Rattle.mps_write.proofs.line.Writer.entries.Given as goal
 
 abbrev pub invariant-loop-i : goal.invariant-loop-i
 invariant-loop-i l =
-    IsAdded l.self.style (flat_map (λ e. number_card l.name (row l.model e.0).name e.1 ∷ []) (take l.i-index l.entries)) l.initial.to l.to
+    IsAdded l.self.style
+    (flat_map (λ e. number_card l.name (row l.model e.0).name e.1 ∷ []) (take l.i-index l.entries)) l.initial.to l.to

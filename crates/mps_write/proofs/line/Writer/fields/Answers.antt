@@ -8,13 +8,16 @@ loop-field-init c = (refl, refl)
 
 pub loop-field-preserved : goal.loop-field-preserved
 loop-field-preserved c =
-    puts_next c.args.self.now.style c.args.fields.now c.loop-field.field-index _ (omega arith) c.args.line.now c.loop-field.line c.place.new.line c.loop-field.invariant.0 c.loop-field.invariant.1
+    puts_next c.args.self.now.style c.args.fields.now c.loop-field.field-index _
+    (omega arith) c.args.line.now c.loop-field.line c.place.new.line c.loop-field.invariant.0 c.loop-field.invariant.1
     (sym c.is_wide.ensures ∙ c.if-is_wide.false) c.in_ok-place.ensures
 
 pub returns-then-is_wide : goal.returns-then-is_wide
 returns-then-is_wide c =
-    puts_stops c.args.self.now.style c.args.fields.now c.loop-field.field-index _ (omega arith) c.loop-field.invariant.0 (sym c.is_wide.ensures ∙ c.if-is_wide.true) ∙ ap Some (sym c.in_ok-from_slice.ensures)
+    puts_stops c.args.self.now.style c.args.fields.now c.loop-field.field-index _ (omega arith) c.loop-field.invariant.0
+    (sym c.is_wide.ensures ∙ c.if-is_wide.true) ∙ ap Some (sym c.in_ok-from_slice.ensures)
 
 pub returns : goal.returns
 returns c =
-    puts_done c.args.self.now.style c.args.fields.now c.loop-field.field-index c.args.line.now c.loop-field.line (omega arith) c.loop-field.invariant.0 c.loop-field.invariant.1
+    puts_done c.args.self.now.style c.args.fields.now c.loop-field.field-index c.args.line.now c.loop-field.line
+    (omega arith) c.loop-field.invariant.0 c.loop-field.invariant.1

@@ -15,4 +15,6 @@ pub returns : goal.returns
 unfolding ranges_cards
 returns c =
     rw (sym c.has_ranges.ensures ∙ c.if-not-has_ranges.false)
-    (goes_on c.args.self.now.style (section_card (codes "RANGES") ∷ []) (flat_map (λ r. range_cards r.name r.range) c.args.model.now.rows) _ _ _ c.row_ranges.result c.in_ok-section.ensures c.row_ranges.ensures)
+    (goes_on c.args.self.now.style (section_card (codes "RANGES") ∷ [])
+    (flat_map (λ r. range_cards r.name r.range) c.args.model.now.rows) _
+    _ _ c.row_ranges.result c.in_ok-section.ensures c.row_ranges.ensures)

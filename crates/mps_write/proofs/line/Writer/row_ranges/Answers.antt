@@ -11,14 +11,18 @@ loop-i-init c = nothing c.args.self.now.style c.args.to.now
 
 pub loop-i-preserved : goal.loop-i-preserved
 loop-i-preserved c =
-    each_next c.args.self.now.style (λ r. range_cards r.name r.range) c.args.model.now.rows c.loop-i.i no_row (omega arith) _ _ _ c.loop-i.invariant (rw (c.as_slice.ensures, c.row-row.ensures) at c.in_ok-range.ensures)
+    each_next c.args.self.now.style (λ r. range_cards r.name r.range) c.args.model.now.rows c.loop-i.i no_row
+    (omega arith) _ _ _ c.loop-i.invariant (rw (c.as_slice.ensures, c.row-row.ensures) at c.in_ok-range.ensures)
 
 pub returns-in_err-range : goal.returns-in_err-range
 returns-in_err-range c =
     let p = err_from_is_err_and c.from_residual.result c.from_residual.ensures.1 in
     rw (p.1, p.2)
-    (each_stops c.args.self.now.style (λ r. range_cards r.name r.range) c.args.model.now.rows c.loop-i.i no_row (omega arith) _ _ c.in_err-range.field-0.0 c.loop-i.invariant (rw (c.as_slice.ensures, c.row-row.ensures) at c.in_err-range.ensures))
+    (each_stops c.args.self.now.style (λ r. range_cards r.name r.range) c.args.model.now.rows c.loop-i.i no_row
+    (omega arith) _ _ c.in_err-range.field-0.0 c.loop-i.invariant
+    (rw (c.as_slice.ensures, c.row-row.ensures) at c.in_err-range.ensures))
 
 pub returns : goal.returns
 returns c =
-    each_done c.args.self.now.style (λ r. range_cards r.name r.range) c.args.model.now.rows c.loop-i.i _ _ (omega arith) c.loop-i.invariant
+    each_done c.args.self.now.style (λ r. range_cards r.name r.range) c.args.model.now.rows c.loop-i.i _ _
+    (omega arith) c.loop-i.invariant

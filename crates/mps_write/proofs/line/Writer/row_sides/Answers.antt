@@ -11,14 +11,18 @@ loop-i-init c = nothing c.args.self.now.style c.args.to.now
 
 pub loop-i-preserved : goal.loop-i-preserved
 loop-i-preserved c =
-    each_next c.args.self.now.style (λ r. side_cards r.name r.rhs) c.args.model.now.rows c.loop-i.i no_row (omega arith) _ _ _ c.loop-i.invariant (rw (c.as_slice.ensures, c.row-row.ensures) at c.in_ok-side.ensures)
+    each_next c.args.self.now.style (λ r. side_cards r.name r.rhs) c.args.model.now.rows c.loop-i.i no_row
+    (omega arith) _ _ _ c.loop-i.invariant (rw (c.as_slice.ensures, c.row-row.ensures) at c.in_ok-side.ensures)
 
 pub returns-in_err-side : goal.returns-in_err-side
 returns-in_err-side c =
     let p = err_from_is_err_and c.from_residual.result c.from_residual.ensures.1 in
     rw (p.1, p.2)
-    (each_stops c.args.self.now.style (λ r. side_cards r.name r.rhs) c.args.model.now.rows c.loop-i.i no_row (omega arith) _ _ c.in_err-side.field-0.0 c.loop-i.invariant (rw (c.as_slice.ensures, c.row-row.ensures) at c.in_err-side.ensures))
+    (each_stops c.args.self.now.style (λ r. side_cards r.name r.rhs) c.args.model.now.rows c.loop-i.i no_row
+    (omega arith) _ _ c.in_err-side.field-0.0 c.loop-i.invariant
+    (rw (c.as_slice.ensures, c.row-row.ensures) at c.in_err-side.ensures))
 
 pub returns : goal.returns
 returns c =
-    each_done c.args.self.now.style (λ r. side_cards r.name r.rhs) c.args.model.now.rows c.loop-i.i _ _ (omega arith) c.loop-i.invariant
+    each_done c.args.self.now.style (λ r. side_cards r.name r.rhs) c.args.model.now.rows c.loop-i.i _ _
+    (omega arith) c.loop-i.invariant
