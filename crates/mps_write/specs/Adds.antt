@@ -1,12 +1,15 @@
 -- What adding fields to a line, and cards to a text, says.
-use Rattle.std.specs.Prelude.{ℕ, ◌≡◌, ⊤, Bool, false, Option, Some, None, option_map, Result, Ok, Err, List, [], ◌∷◌, ◌++◌, map, find, codes}
+use Rattle.std.specs.Prelude.{ℕ, ◌≡◌, ⊤, Bool, false, Option, Some, None, option_map}
+use Rattle.std.specs.Prelude.{Result, Ok, Err, List, [], ◌∷◌, ◌++◌, map, find, codes}
 use Rattle.std.specs.Borrow.{Bor}
 use Rattle.spec_model.specs.Model.{Model}
 use Rattle.mps_write.specs.declared.line.Field as code
 use Rattle.spec_mps.specs.declared.style.Style.{Style}
 use Rattle.spec_mps.specs.declared.style.Style.TheVariants.{Free, Fixed}
 use Rattle.spec_mps.specs.Fields.{Field, Fields}
-use Rattle.spec_mps.specs.Written.{WrittenCards, cards_text, with_fields, is_wide, first_wide, name_card, sense_cards, rows_cards, columns_cards, sides_cards, ranges_cards, bounds_cards, section_card, too_wide, fixed}
+use Rattle.spec_mps.specs.Written.{WrittenCards, cards_text, with_fields, is_wide, first_wide}
+use Rattle.spec_mps.specs.Written.{name_card, sense_cards, rows_cards, columns_cards, sides_cards}
+use Rattle.spec_mps.specs.Written.{ranges_cards, bounds_cards, section_card, too_wide, fixed}
 use Rattle.mps_write.specs.declared.fault.WriteFault.{WriteFault}
 use Rattle.mps_write.specs.declared.fault.WriteFault.TheVariants.{TooWide, NoMemory}
 
