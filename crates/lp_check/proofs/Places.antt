@@ -20,24 +20,33 @@ unfolding certificate_for
 at_start m raw cert e = sym (ap (λ o. o >>= λ cert. put_all m [] raw.parts cert) e)
 
 -- the next part is put
-step_of : (m : Model) (raw : ExactRaw) (i : ℕ) (p : ExactPart) (cert : Certificate (List ℚ)) → i < length raw.parts → get_or raw.parts i p ≡ p
-    → put_all m (take i raw.parts) (drop i raw.parts) cert ≡ (put m (take i raw.parts) p cert >>= λ next. put_all m (take (i + 1) raw.parts) (drop (i + 1) raw.parts) next)
+step_of : (m : Model) (raw : ExactRaw) (i : ℕ) (p : ExactPart) (cert : Certificate (List ℚ)) →
+    i < length raw.parts → get_or raw.parts i p ≡ p
+    → put_all m (take i raw.parts) (drop i raw.parts) cert
+    ≡ (put m (take i raw.parts) p cert >>= λ next. put_all m (take (i + 1) raw.parts) (drop (i + 1) raw.parts) next)
 step_of m raw i p cert h g =
-    let next : drop i raw.parts ≡ p ∷ drop (i + 1) raw.parts = drop_more raw.parts i p h ∙ ap (λ q. q ∷ drop (i + 1) raw.parts) g in
-    let front : take i raw.parts ++ p ∷ [] ≡ take (i + 1) raw.parts = sym (take_more raw.parts i p h ∙ ap (λ q. take i raw.parts ++ q ∷ []) g) in
+    let next : drop i raw.parts ≡ p ∷ drop (i + 1) raw.parts =
+    drop_more raw.parts i p h ∙ ap (λ q. q ∷ drop (i + 1) raw.parts) g in
+    let front : take i raw.parts ++ p ∷ [] ≡ take (i + 1) raw.parts =
+    sym (take_more raw.parts i p h ∙ ap (λ q. take i raw.parts ++ q ∷ []) g) in
     ap (λ ps. put_all m (take i raw.parts) ps cert) next
     ∙ ap (λ b. put m (take i raw.parts) p cert >>= λ next. put_all m b (drop (i + 1) raw.parts) next) front
 
-pub one_more : (m : Model) (raw : ExactRaw) (i : ℕ) (p : ExactPart) (cert next : Certificate (List ℚ)) → i < length raw.parts → get_or raw.parts i p ≡ p
+pub one_more : (m : Model) (raw : ExactRaw) (i : ℕ) (p : ExactPart) (cert next : Certificate (List ℚ)) →
+    i < length raw.parts → get_or raw.parts i p ≡ p
     → IsOnTheWay m raw i cert → put m (take i raw.parts) p cert ≡ Ok next → IsOnTheWay m raw (i + 1) next
 one_more m raw i p cert next h g way e =
-    sym (step_of m raw i p cert h g ∙ ap (λ o. o >>= λ next. put_all m (take (i + 1) raw.parts) (drop (i + 1) raw.parts) next) e) ∙ way
+    sym (step_of m raw i p cert h g
+    ∙ ap (λ o. o >>= λ next. put_all m (take (i + 1) raw.parts) (drop (i + 1) raw.parts) next) e) ∙ way
 
-pub stopped : (m : Model) (raw : ExactRaw) (i : ℕ) (p : ExactPart) (cert : Certificate (List ℚ)) (error : SettleError) → i < length raw.parts → get_or raw.parts i p ≡ p
-    → IsOnTheWay m raw i cert → IsErrorOf (put m (take i raw.parts) p cert) error → IsErrorOf (certificate_for m raw) error
+pub stopped : (m : Model) (raw : ExactRaw) (i : ℕ) (p : ExactPart) (cert : Certificate (List ℚ)) (error : SettleError) →
+    i < length raw.parts → get_or raw.parts i p ≡ p
+    → IsOnTheWay m raw i cert → IsErrorOf (put m (take i raw.parts) p cert) error →
+    IsErrorOf (certificate_for m raw) error
 stopped m raw i p cert NoMemory h g way e = tt
 stopped m raw i p cert (Fault fault) h g way e =
-    sym way ∙ step_of m raw i p cert h g ∙ ap (λ o. o >>= λ next. put_all m (take (i + 1) raw.parts) (drop (i + 1) raw.parts) next) e
+    sym way ∙ step_of m raw i p cert h g
+    ∙ ap (λ o. o >>= λ next. put_all m (take (i + 1) raw.parts) (drop (i + 1) raw.parts) next) e
 
 pub blank_stopped : (m : Model) (raw : ExactRaw) (error : SettleError) → IsErrorOf (blank m raw.kind) error →
     IsErrorOf (certificate_for m raw) error

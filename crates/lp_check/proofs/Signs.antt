@@ -1,5 +1,6 @@
 -- Tests of fractions: by their signs, and of equality.
-use Rattle.std.proofs.Common.{◌≡◌, ◌↔◌, ℤ, pos, int_lt, int_cmp, Ordering, Less, Equal, Greater, Bool, true, false, cond, IsTrue, [], ◌∷◌, refl, sym, ap, ap₂, ◌∙◌, arith}
+use Rattle.std.proofs.Common.{◌≡◌, ◌↔◌, ℤ, pos, int_lt, int_cmp, Ordering, Less, Equal, Greater, Bool}
+use Rattle.std.proofs.Common.{true, false, cond, IsTrue, [], ◌∷◌, refl, sym, ap, ap₂, ◌∙◌, arith}
 use Rattle.std.proofs.lemmas.Int.{ints}
 use Rattle.spec_exact.specs.Fraction.{ℚ, 0ℚ, whole, lt_ℚ, eq_ℚ}
 use Rattle.spec_exact.specs.Limit.{sign}
@@ -30,13 +31,15 @@ pub below_zero : (v : ℚ) (o : Ordering) → o ≡ sign v → is_less o ≡ lt_
 unfolding lt_ℚ whole
 below_zero v o e =
     ap is_less e ∙ less_is v.num
-    ∙ ap₂ int_lt (by_ring (v.num ∷ []) v0 (v0 ⊗ lit (pos 1)) refl) (by_ring (pos v.den ∷ []) (lit (pos 0)) (lit (pos 0) ⊗ v0) refl)
+    ∙ ap₂ int_lt (by_ring (v.num ∷ []) v0 (v0 ⊗ lit (pos 1)) refl)
+    (by_ring (pos v.den ∷ []) (lit (pos 0)) (lit (pos 0) ⊗ v0) refl)
 
 pub above_zero : (v : ℚ) (o : Ordering) → o ≡ sign v → is_greater o ≡ lt_ℚ 0ℚ v
 unfolding lt_ℚ whole
 above_zero v o e =
     ap is_greater e ∙ greater_is v.num
-    ∙ ap₂ int_lt (by_ring (pos v.den ∷ []) (lit (pos 0)) (lit (pos 0) ⊗ v0) refl) (by_ring (v.num ∷ []) v0 (v0 ⊗ lit (pos 1)) refl)
+    ∙ ap₂ int_lt (by_ring (pos v.den ∷ []) (lit (pos 0)) (lit (pos 0) ⊗ v0) refl)
+    (by_ring (v.num ∷ []) v0 (v0 ⊗ lit (pos 1)) refl)
 
 -- a test that holds exactly where two fractions are equal
 pub same_is : (v w : ℚ) (b : Bool) → IsTrue b ↔ (v ≡ w) → b ≡ eq_ℚ v w

@@ -12,8 +12,8 @@
 //! | `RawCertificate`, `CertificateKind`, `Parts`, `Part`, `Letter` | a certificate as its text has it, with names | src/certificate, `spec_check` |
 //! | `SettleError`, `SettleFault` | why parts make no certificate of a model | src/settled, src/certificate |
 //!
-//! That an accepted certificate is true, and that a written one is read back, are laws of `spec_check`; the contracts here
-//! are equations with what the laws speak of.
+//! That an accepted certificate is true, and that a written one is read back, are laws of `spec_check`; the contracts
+//! here are equations with what the laws speak of.
 #![tactic(auto)]
 
 mod certificate;

@@ -1,6 +1,6 @@
 // A text of a certificate that is read line by line.
 ghost use Rattle.std.specs.Prelude.{◌≡◌, ◌+◌, ◌<◌, ◌-◌, ◌^◌, ◌++◌, ◌∷◌, [], None, IfOk, OnOk};
-ghost use Rattle.spec_check.specs.Text as told;
+ghost use Rattle.spec_check.specs.Text as certificate;
 ghost use Rattle.lp_check.specs.Feeds.{Feeds};
 
 use crate::certificate::{Parts, RawCertificate};
@@ -40,7 +40,7 @@ impl Model for CertReader {
 
 // A first line.
 fn open(alloc: Global, words: &Texts) -> Result<Progress, AllocError>
-    ensures { IfOk result (λ progress. progress ≡ told.opened (told.kind_of words.now)) }
+    ensures { IfOk result (λ progress. progress ≡ certificate.opened (certificate.kind_of words.now)) }
 {
     match kind_of(alloc, words)? {
         Some(kind) => Ok(Progress::More(RawCertificate {
@@ -53,7 +53,7 @@ fn open(alloc: Global, words: &Texts) -> Result<Progress, AllocError>
 
 // A line after the first.
 fn go_on(alloc: Global, mut raw: RawCertificate, words: &Texts) -> Result<Progress, AllocError>
-    ensures { IfOk result (λ progress. progress ≡ told.step_by_words (Some raw) words.now) }
+    ensures { IfOk result (λ progress. progress ≡ certificate.step_by_words (Some raw) words.now) }
 {
     if is_end(words) {
         return Ok(Progress::Done(raw));
@@ -74,7 +74,7 @@ fn advance(
     so_far: Option<RawCertificate>,
     line: &Line,
 ) -> Result<Progress, AllocError>
-    ensures { IfOk result (λ progress. progress ≡ told.step so_far line.now) }
+    ensures { IfOk result (λ progress. progress ≡ certificate.step so_far line.now) }
 {
     let Line::Text(bytes) = line else {
         return Ok(Progress::Unfit);
@@ -100,7 +100,7 @@ impl CertReader {
     /// Takes the next line.
     pub fn feed(&mut self, alloc: Global, line: &Line) -> CertFeed
         requires { self.old.lines < 2 ^ 32 - 1 }
-        ensures { Feeds (told.step self.old.raw line.now) (self.old.lines + 1) self.new result }
+        ensures { Feeds (certificate.step self.old.raw line.now) (self.old.lines + 1) self.new result }
     {
         let number = self.lines + 1;
         match advance(alloc, self.raw.take(), line) {

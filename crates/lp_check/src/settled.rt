@@ -1,7 +1,7 @@
 // The parts of a certificate, put to the rows and columns of a model.
 ghost use Rattle.std.specs.Prelude.{◌≡◌, ◌<◌, length, IfOk, IfSome, Ok};
 ghost use Rattle.spec_check.specs.Certificate.{IsFor};
-ghost use Rattle.spec_check.specs.Settle as told;
+ghost use Rattle.spec_check.specs.Settle as settling;
 ghost use Rattle.lp_check.specs.Answer.{Settles, Puts, IsPlace, IsInside, IsUnknown, IsRepeated};
 ghost use Rattle.lp_check.specs.declared.settled.SettleError.TheVariants.{NoMemory};
 
@@ -54,7 +54,7 @@ fn repeated(alloc: Global, name: &Name) -> SettleError
 // The certificate of this kind in which all numbers are 0.
 #[tactic(auto, unfolding(spec_check::specs::Settle::blank))]
 fn blank(alloc: Global, model: &Model, kind: &CertificateKind) -> Result<Certificate, SettleError>
-    ensures answer { Settles (told.blank model.now kind.now) result }
+    ensures answer { Settles (settling.blank model.now kind.now) result }
     ensures fits { IfOk result (IsFor model.now) }
 {
     let columns = model.cols() as usize;
@@ -80,7 +80,7 @@ fn blank(alloc: Global, model: &Model, kind: &CertificateKind) -> Result<Certifi
 
 // The column or the row that a part is for.
 fn place_of(model: &Model, letter: Letter, name: &[u8]) -> Option<u32>
-    ensures value { result ≡ told.place_of model.now letter name.now }
+    ensures value { result ≡ settling.place_of model.now letter name.now }
     ensures inside { IfSome result (IsPlace model.now letter) }
 {
     match letter {
@@ -92,7 +92,7 @@ fn place_of(model: &Model, letter: Letter, name: &[u8]) -> Option<u32>
 // Puts a number into its place.
 fn set(cert: &mut Certificate, letter: Letter, k: u32, value: Frac)
     requires { IsInside letter k cert.old }
-    ensures { cert.new ≡ told.with_value letter k value cert.old }
+    ensures { cert.new ≡ settling.with_value letter k value cert.old }
 {
     let k = k as usize;
     match cert {
@@ -116,14 +116,14 @@ fn set(cert: &mut Certificate, letter: Letter, k: u32, value: Frac)
 }
 
 fn is_same_letter(letter: Letter, other: Letter) -> bool
-    ensures { result ≡ told.same_letter letter other }
+    ensures { result ≡ settling.same_letter letter other }
 {
     letter == other
 }
 
 // Whether one of the parts has this letter and this name.
 fn is_given(part: &Part, parts: &[Part]) -> bool
-    ensures { result ≡ told.is_given part.now.letter part.now.name parts.now }
+    ensures { result ≡ settling.is_given part.now.letter part.now.name parts.now }
 {
     parts.iter().any(|p| is_same_letter(p.letter, part.letter)
         && are_same(p.name.as_slice(), part.name.as_slice()))
@@ -139,7 +139,7 @@ fn put(
     cert: &mut Certificate,
 ) -> Result<(), SettleError>
     requires { IsFor model.now cert.old }
-    ensures answer { Puts (told.put model.now before.now part.now cert.old) cert.new result }
+    ensures answer { Puts (settling.put model.now before.now part.now cert.old) cert.new result }
     ensures fits { IsFor model.now cert.new }
 {
     let Some(k) = place_of(model, part.letter, part.name.as_slice()) else {
@@ -159,7 +159,7 @@ pub fn settle(
     model: &Model,
     raw: &RawCertificate,
 ) -> Result<Certificate, SettleError>
-    ensures answer { Settles (told.certificate_for model.now raw.now) result }
+    ensures answer { Settles (settling.certificate_for model.now raw.now) result }
     ensures fits { IfOk result (IsFor model.now) }
 {
     let mut cert = blank(alloc, model, &raw.kind)?;

@@ -2,7 +2,7 @@
 ghost use Rattle.std.specs.Prelude.{◌≡◌, ◌++◌, length, IfOk, OnOk};
 ghost use Rattle.spec_model.specs.Model.{width, height};
 ghost use Rattle.spec_check.specs.Certificate.{IsFor};
-ghost use Rattle.spec_check.specs.TextWritten as told;
+ghost use Rattle.spec_check.specs.TextWritten as text_written;
 
 use crate::certificate::Certificate;
 use crate::steps::part;
@@ -13,7 +13,7 @@ use spec_check::Letter;
 use std::alloc::{AllocError, Global};
 
 fn letter_text(letter: Letter) -> &'static [u8]
-    ensures { result.now ≡ told.letter_text letter }
+    ensures { result.now ≡ text_written.letter_text letter }
 {
     match letter {
         Letter::X => b"x",
@@ -23,7 +23,7 @@ fn letter_text(letter: Letter) -> &'static [u8]
 }
 
 fn part_text(alloc: Global, letter: Letter, name: &[u8], value: Frac) -> Result<Bytes, AllocError>
-    ensures { IfOk result (λ text. text ≡ told.part_text letter name.now value) }
+    ensures { IfOk result (λ text. text ≡ text_written.part_text letter name.now value) }
 {
     let mut text = Bytes::from_slice(alloc, letter_text(letter))?;
     text.push(b' ')?;
@@ -41,7 +41,7 @@ fn add_part(
     value: Frac,
     lines: &mut Texts,
 ) -> Result<(), AllocError>
-    ensures { OnOk result (lines.new ≡ lines.old ++ told.part_lines letter name.now value) }
+    ensures { OnOk result (lines.new ≡ lines.old ++ text_written.part_lines letter name.now value) }
 {
     if !is_zero(value) {
         lines.push(part_text(alloc, letter, name, value)?)?;
@@ -57,7 +57,7 @@ fn add_columns(
     lines: &mut Texts,
 ) -> Result<(), AllocError>
     requires { length values.now ≡ width model.now }
-    ensures { OnOk result (lines.new ≡ lines.old ++ told.column_lines model.now letter values.now) }
+    ensures { OnOk result (lines.new ≡ lines.old ++ text_written.column_lines model.now letter values.now) }
 {
     for j in 0..model.cols() {
         let name = model.col(j).name.as_slice();
@@ -74,7 +74,7 @@ fn add_rows(
     lines: &mut Texts,
 ) -> Result<(), AllocError>
     requires { length values.now ≡ height model.now }
-    ensures { OnOk result (lines.new ≡ lines.old ++ told.row_lines model.now letter values.now) }
+    ensures { OnOk result (lines.new ≡ lines.old ++ text_written.row_lines model.now letter values.now) }
 {
     for i in 0..model.rows() {
         let name = model.row(i).name.as_slice();
@@ -85,7 +85,7 @@ fn add_rows(
 
 fn kind_text(alloc: Global, model: &Model, cert: &Certificate) -> Result<Bytes, AllocError>
     requires { IsFor model.now cert.now }
-    ensures { IfOk result (λ text. text ≡ told.kind_text model.now cert.now) }
+    ensures { IfOk result (λ text. text ≡ text_written.kind_text model.now cert.now) }
 {
     match cert {
         Certificate::Optimal { .. } => Bytes::from_slice(alloc, b"OPTIMAL"),
@@ -108,7 +108,7 @@ fn add_parts(
     lines: &mut Texts,
 ) -> Result<(), AllocError>
     requires { IsFor model.now cert.now }
-    ensures { OnOk result (lines.new ≡ lines.old ++ told.all_part_lines model.now cert.now) }
+    ensures { OnOk result (lines.new ≡ lines.old ++ text_written.all_part_lines model.now cert.now) }
 {
     match cert {
         Certificate::Optimal { x, y } => {
@@ -129,7 +129,7 @@ fn add_parts(
 #[tactic(auto, unfolding(spec_check::specs::TextWritten::certificate_lines))]
 pub fn cert_text(alloc: Global, model: &Model, cert: &Certificate) -> Result<Texts, AllocError>
     requires { IsFor model.now cert.now }
-    ensures { IfOk result (λ lines. lines ≡ told.certificate_lines model.now cert.now) }
+    ensures { IfOk result (λ lines. lines ≡ text_written.certificate_lines model.now cert.now) }
 {
     let mut lines = Texts::new(alloc);
     lines.push(kind_text(alloc, model, cert)?)?;

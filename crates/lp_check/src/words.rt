@@ -1,6 +1,6 @@
 // The words of a certificate's text.
 ghost use Rattle.std.specs.Prelude.{◌≡◌, [], ◌∷◌, IfOk};
-ghost use Rattle.spec_check.specs.Text as told;
+ghost use Rattle.spec_check.specs.Text as certificate;
 
 use crate::certificate::{CertificateKind, Part};
 use lp_base::{Name, Texts, are_same};
@@ -9,7 +9,7 @@ use std::alloc::{AllocError, Global};
 
 #[tactic(auto, unfolding(spec_check::specs::Text::letter_of))]
 fn letter_of(word: &[u8]) -> Option<Letter>
-    ensures { result ≡ told.letter_of word.now }
+    ensures { result ≡ certificate.letter_of word.now }
 {
     if are_same(word, b"x") {
         return Some(Letter::X);
@@ -25,7 +25,7 @@ fn letter_of(word: &[u8]) -> Option<Letter>
 
 // Whether parts with this letter stand in a certificate of this kind.
 fn takes(kind: &CertificateKind, letter: Letter) -> bool
-    ensures { result ≡ told.takes kind.now letter }
+    ensures { result ≡ certificate.takes kind.now letter }
 {
     match kind {
         CertificateKind::Optimal => letter != Letter::R,
@@ -38,7 +38,7 @@ fn takes(kind: &CertificateKind, letter: Letter) -> bool
 // The kind that one word says.
 #[tactic(auto, unfolding(spec_check::specs::Text::kind_of))]
 fn kind_by_word(word: &[u8]) -> Option<CertificateKind>
-    ensures { result ≡ told.kind_of (word.now ∷ []) }
+    ensures { result ≡ certificate.kind_of (word.now ∷ []) }
 {
     if are_same(word, b"OPTIMAL") {
         return Some(CertificateKind::Optimal);
@@ -55,7 +55,7 @@ fn kind_by_word(word: &[u8]) -> Option<CertificateKind>
 // The kind that the words of a first line say.
 #[tactic(auto, unfolding(spec_check::specs::Text::kind_of))]
 pub(crate) fn kind_of(alloc: Global, words: &Texts) -> Result<Option<CertificateKind>, AllocError>
-    ensures { IfOk result (λ kind. kind ≡ told.kind_of words.now) }
+    ensures { IfOk result (λ kind. kind ≡ certificate.kind_of words.now) }
 {
     match words.len() {
         1 => Ok(kind_by_word(words.at(0))),
@@ -74,7 +74,7 @@ pub(crate) fn part_of(
     kind: &CertificateKind,
     words: &Texts,
 ) -> Result<Option<Part>, AllocError>
-    ensures { IfOk result (λ part. part ≡ told.part_of kind.now words.now) }
+    ensures { IfOk result (λ part. part ≡ certificate.part_of kind.now words.now) }
 {
     if words.len() != 3 {
         return Ok(None);
@@ -99,7 +99,7 @@ pub(crate) fn part_of(
 /// Whether these words end a text of a certificate.
 #[tactic(auto, unfolding(spec_check::specs::Text::is_end))]
 pub fn is_end(words: &Texts) -> bool
-    ensures { result ≡ told.is_end words.now }
+    ensures { result ≡ certificate.is_end words.now }
 {
     words.len() == 1 && are_same(words.at(0), b"END")
 }

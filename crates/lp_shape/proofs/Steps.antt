@@ -1,5 +1,6 @@
 -- Words are made from the last column to the first, and lists of words from the first to the last.
-use Rattle.std.proofs.Common.{◌≡◌, ℕ, suc, ◌+◌, ◌-◌, ◌*◌, ◌^◌, ◌<◌, ◌≤◌, List, [], ◌∷◌, ◌++◌, length, take, set, get_or, Bool, true, false, cond, refl, sym, ap, ◌∙◌, arith}
+use Rattle.std.proofs.Common.{◌≡◌, ℕ, suc, ◌+◌, ◌-◌, ◌*◌, ◌^◌, ◌<◌, ◌≤◌, List, [], ◌∷◌, ◌++◌, length}
+use Rattle.std.proofs.Common.{take, set, get_or, Bool, true, false, cond, refl, sym, ap, ◌∙◌, arith}
 use Rattle.std.proofs.lemmas.List.{append_assoc, take_more_set, take_more, take_all}
 use Rattle.std.proofs.Math.Nat.{pow-le-pow_right}
 use Rattle.spec_simplex.specs.Run.{made}
@@ -15,17 +16,24 @@ pub column_more : (code : ℕ → ℕ) (c k word : ℕ) → 0 < k → k ≤ 32 �
     4 * word + code (c + (k - 1)) ≡ word_from code (c + (k - 1)) (32 - (k - 1))
 column_more code c k word h l e =
     (let z : 4 * word + code (c + (k - 1)) ≡ code (c + (k - 1)) + 4 * word = omega arith in z)
-    ∙ ap (λ w. code (c + (k - 1)) + 4 * w) (e ∙ (let z : c + k ≡ c + (k - 1) + 1 = omega (arith, h) in ap (λ d. word_from code d (32 - k)) z))
+    ∙ ap (λ w. code (c + (k - 1)) + 4 * w)
+    (e ∙ (let z : c + k ≡ c + (k - 1) + 1 = omega (arith, h) in ap (λ d. word_from code d (32 - k)) z))
     ∙ (let z : suc (32 - k) ≡ 32 - (k - 1) = omega (arith, h, l) in ap (word_from code (c + (k - 1))) z)
 
 -- before the last column there is room for it
 pub has_room : (code : ℕ → ℕ) → ((c : ℕ) → code c < 4) → (c k word : ℕ) → 0 < k →
     word ≡ word_from code (c + k) (32 - k) → word < 2 ^ 62
 has_room code small c k word h e =
-    omega (arith, e, word_fits code small (c + k) (32 - k), (let two : 0 < 2 = omega arith in pow-le-pow_right two {i = 2 * (32 - k)} {j = 62} (omega (arith, h))))
+    omega (
+      arith,
+      e,
+      word_fits code small (c + k) (32 - k),
+      (let two : 0 < 2 = omega arith in pow-le-pow_right two {i = 2 * (32 - k)} {j = 62} (omega (arith, h))),
+    )
 
 -- one more word after
-pub word_more : (words front : List ℕ) (f : ℕ → ℕ) (n k i w : ℕ) → i ≡ n + k → i < length words → take (n + k) words ≡ front ++ made k f → w ≡ f k →
+pub word_more : (words front : List ℕ) (f : ℕ → ℕ) (n k i w : ℕ) → i ≡ n + k →
+    i < length words → take (n + k) words ≡ front ++ made k f → w ≡ f k →
     take (n + (k + 1)) (set words i w) ≡ front ++ made (k + 1) f
 word_more words front f n k i w e h t v =
     (let z : n + (k + 1) ≡ i + 1 = omega (arith, e) in ap (λ j. take j (set words i w)) z)
@@ -57,11 +65,17 @@ count_more words c h =
 pub whole_word : (code : ℕ → ℕ) (c k word : ℕ) → k ≡ 0 → word ≡ word_from code (c + k) (32 - k) →
     word ≡ word_from code c 32
 whole_word code c k word z e =
-    e ∙ (let y : c + k ≡ c = omega (arith, z) in ap (λ d. word_from code d (32 - k)) y) ∙ (let y : 32 - k ≡ 32 = omega (arith, z) in ap (word_from code c) y)
+    e ∙ (let y : c + k ≡ c = omega (arith, z) in ap (λ d. word_from code d (32 - k)) y)
+    ∙ (let y : 32 - k ≡ 32 = omega (arith, z) in ap (word_from code c) y)
 
-pub count_step : (words : List ℕ) (c count : ℕ) → c < columns_of words → count ≡ basics_below (unpacked words) c → {b : Bool} → b ≡ is_basic (status_at words c) →
-    (b ≡ true → count + 1 ≡ basics_below (unpacked words) (c + 1)) × (b ≡ false → count ≡ basics_below (unpacked words) (c + 1))
-count_step words c count h e {b} t = (λ z. added 1 (ap (λ b. cond b 1 0) (sym t ∙ z)), λ z. (let y : count ≡ count + 0 = omega arith in y) ∙ added 0 (ap (λ b. cond b 1 0) (sym t ∙ z)))
+pub count_step : (words : List ℕ) (c count : ℕ) → c < columns_of words →
+    count ≡ basics_below (unpacked words) c → {b : Bool} → b ≡ is_basic (status_at words c) →
+    (b ≡ true → count + 1 ≡ basics_below (unpacked words) (c + 1))
+    × (b ≡ false → count ≡ basics_below (unpacked words) (c + 1))
+count_step words c count h e {b} t = (
+  λ z. added 1 (ap (λ b. cond b 1 0) (sym t ∙ z)),
+  λ z. (let y : count ≡ count + 0 = omega arith in y) ∙ added 0 (ap (λ b. cond b 1 0) (sym t ∙ z)),
+)
   where
     added : (n : ℕ) → cond (is_basic (status_at words c)) 1 0 ≡ n → count + n ≡ basics_below (unpacked words) (c + 1)
     added n z = omega (arith, e, z, count_more words c h)

@@ -1,13 +1,13 @@
 // The two bits of a column.
 ghost use Rattle.std.specs.Prelude.{◌≡◌, ◌+◌, ◌<◌, ◌/◌};
 ghost use Rattle.spec_simplex.specs.Tableau as tableau;
-ghost use Rattle.spec_shape.specs.Words as plain;
+ghost use Rattle.spec_shape.specs.Words as shape;
 
 use lp_form::{Basis, Form, Status};
 
 /// The bits for the bounds of column `c`, 0 where the form has no such column.
 pub fn form_code(form: &Form, c: u32) -> u64
-    ensures value { result ≡ plain.form_code form.now c }
+    ensures value { result ≡ shape.form_code form.now c }
     ensures small { result < 4 }
 {
     if c >= form.cols() + form.rows() {
@@ -22,7 +22,7 @@ pub fn form_code(form: &Form, c: u32) -> u64
 }
 
 fn status_code(status: Status) -> u64
-    ensures value { result ≡ plain.status_code status }
+    ensures value { result ≡ shape.status_code status }
     ensures small { result < 4 }
 {
     match status {
@@ -35,7 +35,7 @@ fn status_code(status: Status) -> u64
 
 /// The bits for the status of column `c`, 0 where the basis has no such column.
 pub fn basis_code(basis: &Basis, c: u32) -> u64
-    ensures value { result ≡ plain.basis_code basis.now c }
+    ensures value { result ≡ shape.basis_code basis.now c }
     ensures small { result < 4 }
 {
     if c as usize >= basis.len() {
@@ -47,7 +47,7 @@ pub fn basis_code(basis: &Basis, c: u32) -> u64
 /// The bits of column `c`, in words of which those of column 0 stand in word `first`.
 pub fn code_at(words: &[u64; 49], first: usize, c: u32) -> u64
     requires { first + c / 32 < 49 }
-    ensures value { result ≡ plain.code_at first words.now c }
+    ensures value { result ≡ shape.code_at first words.now c }
     ensures small { result < 4 }
 {
     (words[first + c as usize / 32] >> (2 * (c % 32))) % 4
@@ -55,8 +55,8 @@ pub fn code_at(words: &[u64; 49], first: usize, c: u32) -> u64
 
 /// The bits for the bounds of column `c`.
 pub fn bounds_at(words: &[u64; 49], c: u32) -> u64
-    requires { c < plain.places }
-    ensures value { result ≡ plain.bounds_at words.now c }
+    requires { c < shape.places }
+    ensures value { result ≡ shape.bounds_at words.now c }
     ensures small { result < 4 }
 {
     code_at(words, 1, c)
@@ -64,8 +64,8 @@ pub fn bounds_at(words: &[u64; 49], c: u32) -> u64
 
 /// The status of column `c`.
 pub fn status_at(words: &[u64; 49], c: u32) -> Status
-    requires { c < plain.places }
-    ensures { result ≡ plain.status_at words.now c }
+    requires { c < shape.places }
+    ensures { result ≡ shape.status_at words.now c }
 {
     match code_at(words, 25, c) {
         0 => Status::Basic,
@@ -77,21 +77,21 @@ pub fn status_at(words: &[u64; 49], c: u32) -> Status
 
 /// How many rows the words say that there are.
 pub fn rows_of(words: &[u64; 49]) -> u64
-    ensures { result ≡ plain.rows_of words.now }
+    ensures { result ≡ shape.rows_of words.now }
 {
     words[0] / 65536
 }
 
 /// How many structural columns the words say that there are.
 pub fn cols_of(words: &[u64; 49]) -> u64
-    ensures { result ≡ plain.cols_of words.now }
+    ensures { result ≡ shape.cols_of words.now }
 {
     words[0] % 65536
 }
 
 /// Whether a column with such bounds can have this status.
 pub fn suits(status: Status, bounds: u64) -> bool
-    ensures { result ≡ plain.suits status bounds }
+    ensures { result ≡ shape.suits status bounds }
 {
     match status {
         Status::Basic => true,

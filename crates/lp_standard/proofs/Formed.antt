@@ -1,5 +1,6 @@
 -- The form of a model from its parts, and why there is none.
-use Rattle.std.proofs.Common.{◌≡◌, ℕ, ◌+◌, ◌<◌, ◌≤◌, List, [], ◌∷◌, ◌++◌, length, take, get_or, map, replicate, Option, Result, Ok, Err, sym, subst, ap, ap₂, ◌∙◌, arith}
+use Rattle.std.proofs.Common.{◌≡◌, ℕ, ◌+◌, ◌<◌, ◌≤◌, List, [], ◌∷◌, ◌++◌, length, take, get_or, map}
+use Rattle.std.proofs.Common.{replicate, Option, Result, Ok, Err, sym, subst, ap, ap₂, ◌∙◌, arith}
 use Rattle.std.specs.Prelude.{All}
 use Rattle.std.proofs.lemmas.List.{length-append, length-map, length-replicate, map_more}
 use Rattle.spec_exact.specs.Fraction.{ℚ, 0ℚ}
@@ -23,11 +24,14 @@ entries_more xs j done e h g l =
     ap₂ (λ ys y. ys ++ y ∷ []) h g ∙ sym (map_more (λ (c : ExactColumn). c.entries) xs j no_column l)
 
 -- ---- the parts are those of a form
-module _ (m : Model) (limits : List (Option ℚ × Option ℚ)) (rows cols : ℕ) (entries : List (List (ℕ × ℚ))) (lower upper : List (Option ℚ)) (cost : List ℚ)
+module _ (m : Model) (limits : List (Option ℚ × Option ℚ)) (rows cols : ℕ)
+    (entries : List (List (ℕ × ℚ))) (lower upper : List (Option ℚ)) (cost : List ℚ)
     (a : rows ≡ height m) (b : cols ≡ width m) (c : entries ≡ map (λ c. c.entries) m.columns)
-    (d : lower ≡ map (λ c. c.lower) m.columns ++ map (λ l. l.0) limits) (e : upper ≡ map (λ c. c.upper) m.columns ++ map (λ l. l.1) limits)
+    (d : lower ≡ map (λ c. c.lower) m.columns ++ map (λ l. l.0) limits)
+    (e : upper ≡ map (λ c. c.upper) m.columns ++ map (λ l. l.1) limits)
     (f : cost ≡ map (λ c. least_cost m.sense c.cost) m.columns ++ replicate (height m) 0ℚ) where
-  pub parts_are : record { rows = rows; cols = cols; entries = entries; lower = lower; upper = upper; cost = cost } ≡ formed m limits
+  pub parts_are : record { rows = rows; cols = cols; entries = entries; lower = lower; upper = upper; cost = cost }
+      ≡ formed m limits
   parts_are = cc
 
   pub is_form : length limits ≡ height m → rows ≤ 256 → cols ≤ 512 → All (AreEntries (height m)) entries →
@@ -38,11 +42,39 @@ module _ (m : Model) (limits : List (Option ℚ × Option ℚ)) (rows cols : ℕ
         few_columns = i;
         all_entries = ap length c ∙ length-map m.columns (λ (c : ExactColumn). c.entries) ∙ sym b;
         all_lower =
-            omega (arith, ap length d, length-append (map (λ (c : ExactColumn). c.lower) m.columns) (map (λ (l : Option ℚ × Option ℚ). l.0) limits), length-map m.columns (λ (c : ExactColumn). c.lower), length-map limits (λ (l : Option ℚ × Option ℚ). l.0), a, b, g);
+            omega (
+              arith,
+              ap length d,
+              length-append (map (λ (c : ExactColumn). c.lower) m.columns)
+                  (map (λ (l : Option ℚ × Option ℚ). l.0) limits),
+              length-map m.columns (λ (c : ExactColumn). c.lower),
+              length-map limits (λ (l : Option ℚ × Option ℚ). l.0),
+              a,
+              b,
+              g,
+            );
         all_upper =
-            omega (arith, ap length e, length-append (map (λ (c : ExactColumn). c.upper) m.columns) (map (λ (l : Option ℚ × Option ℚ). l.1) limits), length-map m.columns (λ (c : ExactColumn). c.upper), length-map limits (λ (l : Option ℚ × Option ℚ). l.1), a, b, g);
+            omega (
+              arith,
+              ap length e,
+              length-append (map (λ (c : ExactColumn). c.upper) m.columns)
+                  (map (λ (l : Option ℚ × Option ℚ). l.1) limits),
+              length-map m.columns (λ (c : ExactColumn). c.upper),
+              length-map limits (λ (l : Option ℚ × Option ℚ). l.1),
+              a,
+              b,
+              g,
+            );
         all_costs =
-            omega (arith, ap length f, length-append (map (λ (c : ExactColumn). least_cost m.sense c.cost) m.columns) (replicate (height m) 0ℚ), length-map m.columns (λ (c : ExactColumn). least_cost m.sense c.cost), length-replicate (height m) 0ℚ, a, b);
+            omega (
+              arith,
+              ap length f,
+              length-append (map (λ (c : ExactColumn). least_cost m.sense c.cost) m.columns) (replicate (height m) 0ℚ),
+              length-map m.columns (λ (c : ExactColumn). least_cost m.sense c.cost),
+              length-replicate (height m) 0ℚ,
+              a,
+              b,
+            );
         columns = subst (λ n. All (AreEntries n) entries) (sym a) k;
       }
 
@@ -58,7 +90,8 @@ module _ (limit : Option ℕ) (m : Model) where
   limits_stop (stop.Past p) h = ap (λ o. refused_as fault.Past o >>= λ limits. after_limits limits) h
   limits_stop NoMemory h = tt
 
-  module _ (limits : List (Option ℚ × Option ℚ)) (r : list_run (height m) (λ i. limits_run limit (row m i)) ≡ Ok limits) where
+  module _ (limits : List (Option ℚ × Option ℚ))
+      (r : list_run (height m) (λ i. limits_run limit (row m i)) ≡ Ok limits) where
     from_limits : form_of limit m ≡ after_limits limits
     unfolding form_of
     from_limits = ap (λ o. refused_as fault.Past o >>= λ limits. after_limits limits) r

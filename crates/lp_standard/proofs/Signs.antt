@@ -1,5 +1,6 @@
 -- Tests of fractions by their signs.
-use Rattle.std.proofs.Common.{◌≡◌, ℤ, pos, int_lt, int_cmp, Ordering, Less, Equal, Greater, Bool, true, false, cond, [], ◌∷◌, refl, ap, ap₂, ◌∙◌}
+use Rattle.std.proofs.Common.{◌≡◌, ℤ, pos, int_lt, int_cmp, Ordering, Less, Equal, Greater}
+use Rattle.std.proofs.Common.{Bool, true, false, cond, [], ◌∷◌, refl, ap, ap₂, ◌∙◌}
 use Rattle.spec_exact.specs.Fraction.{ℚ, 0ℚ, whole, lt_ℚ}
 use Rattle.spec_exact.specs.Limit.{sign}
 use Rattle.spec_exact.proofs.Ring.{◌⊗◌, lit, v0}
@@ -23,4 +24,5 @@ pub below_zero : (v : ℚ) (o : Ordering) → o ≡ sign v → is_less o ≡ lt_
 unfolding lt_ℚ whole
 below_zero v o e =
     ap is_less e ∙ less_is v.num
-    ∙ ap₂ int_lt (by_ring (v.num ∷ []) v0 (v0 ⊗ lit (pos 1)) refl) (by_ring (pos v.den ∷ []) (lit (pos 0)) (lit (pos 0) ⊗ v0) refl)
+    ∙ ap₂ int_lt (by_ring (v.num ∷ []) v0 (v0 ⊗ lit (pos 1)) refl)
+    (by_ring (pos v.den ∷ []) (lit (pos 0)) (lit (pos 0) ⊗ v0) refl)

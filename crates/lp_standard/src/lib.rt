@@ -7,8 +7,6 @@
 mod fault;
 mod limits;
 mod standard;
-#[cfg(test)]
-mod tests;
 
 pub use fault::FormStop;
 pub use standard::form;

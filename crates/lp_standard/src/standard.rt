@@ -29,8 +29,10 @@ fn push_limits(all: &mut Vec<Limits>, limits: Limits) -> Result<(), AllocError>
 
 // The limits of all rows, the lower and the upper one of each.
 fn all_limits(alloc: Global, model: &Model) -> Result<Vec<Limits>, FormStop>
-    ensures ok { IfOk result (λ v. list_run (height model.now) (λ i. forms.limits_run (Some largest) (row model.now i)) ≡ Ok v.items) }
-    ensures err { IfErr result (IsStopOf (list_run (height model.now) (λ i. forms.limits_run (Some largest) (row model.now i)))) }
+    ensures ok { IfOk result
+        (λ v. list_run (height model.now) (λ i. forms.limits_run (Some largest) (row model.now i)) ≡ Ok v.items) }
+    ensures err { IfErr result
+        (IsStopOf (list_run (height model.now) (λ i. forms.limits_run (Some largest) (row model.now i)))) }
 {
     let mut all = Vec::new(alloc);
     for i in 0..model.rows() {
@@ -103,7 +105,8 @@ fn least_cost(sense: Sense, cost: Frac) -> Frac
 
 // The costs of all columns, and then 0 for each row.
 fn costs(alloc: Global, model: &Model) -> Result<Fracs, AllocError>
-    ensures { IfOk result (λ v. v ≡ map (λ c. forms.least_cost model.now.sense c.cost) model.now.columns ++ replicate (height model.now) 0ℚ) }
+    ensures { IfOk result (λ v.
+        v ≡ map (λ c. forms.least_cost model.now.sense c.cost) model.now.columns ++ replicate (height model.now) 0ℚ) }
 {
     let mut costs = Fracs::new(alloc);
     for j in 0..model.cols() {

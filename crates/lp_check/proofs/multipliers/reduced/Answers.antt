@@ -8,4 +8,5 @@ pub returns-in_err-rest : goal.returns-in_err-rest
 returns-in_err-rest c =
     let p = err_from_is_err_and c.from_residual.result c.from_residual.ensures.1 in
     let step = rw (c.entry.ensures, c.part.ensures) at c.in_err-rest.ensures in
-    rw (p.1, p.2, ← c.rows-i-end.ensures.value) (sym (from_stops _ _ _ _ _ _ c.loop-i-test.true c.loop-i.invariant (sym step)))
+    rw (p.1, p.2, ← c.rows-i-end.ensures.value)
+    (sym (from_stops _ _ _ _ _ _ c.loop-i-test.true c.loop-i.invariant (sym step)))

@@ -9,4 +9,5 @@ use Rattle.lp_check.proofs.multipliers.reduced.Given as goal
 -- what is left so far
 abbrev pub invariant-loop-i : goal.invariant-loop-i
 invariant-loop-i l =
-    run.each_from (signed l.model.sense (cost l.model l.j)) l.i (λ i d. run.less_product (Some largest) (part l.y i) (coefficient l.model i l.j) d) ≡ Ok l.rest
+    run.each_from (signed l.model.sense (cost l.model l.j)) l.i
+    (λ i d. run.less_product (Some largest) (part l.y i) (coefficient l.model i l.j) d) ≡ Ok l.rest

@@ -8,4 +8,5 @@ pub returns-in_err-sum : goal.returns-in_err-sum
 returns-in_err-sum c =
     let p = err_from_is_err_and c.from_residual.result c.from_residual.ensures.1 in
     let step = rw (c.entry.ensures, c.part.ensures) at c.in_err-sum.ensures in
-    rw (p.1, p.2, ← c.cols-j-end.ensures.value) (sym (from_stops _ _ _ _ _ _ c.loop-j-test.true c.loop-j.invariant (sym step)))
+    rw (p.1, p.2, ← c.cols-j-end.ensures.value)
+    (sym (from_stops _ _ _ _ _ _ c.loop-j-test.true c.loop-j.invariant (sym step)))

@@ -7,4 +7,5 @@ use Rattle.lp_check.proofs.point.columns_within.Goals as goal
 pub returns-in_err-column_within : goal.returns-in_err-column_within
 returns-in_err-column_within c =
     let p = err_from_is_err_and c.from_residual.result c.from_residual.ensures.1 in
-    rw (p.1, p.2, ← c.cols-j-end.ensures.value) (sym (each_stops _ _ _ _ c.loop-j-test.true c.loop-j.invariant (sym c.in_err-column_within.ensures)))
+    rw (p.1, p.2, ← c.cols-j-end.ensures.value)
+    (sym (each_stops _ _ _ _ c.loop-j-test.true c.loop-j.invariant (sym c.in_err-column_within.ensures)))

@@ -6,8 +6,11 @@ use Rattle.lp_check.proofs.text.add_part.Goals as goal
 
 pub returns-in_ok-push : goal.returns-in_ok-push
 returns-in_ok-push c =
-    one_line c.args.letter c.args.name.now c.args.value _ _ _ c.is_zero.result (same_is c.args.value 0ℚ c.is_zero.result c.is_zero.ensures) c.if-not-is_zero.true c.in_ok-push.ensures.ok c.in_ok-part_text.ensures
+    one_line c.args.letter c.args.name.now c.args.value _ _ _ c.is_zero.result
+    (same_is c.args.value 0ℚ c.is_zero.result c.is_zero.ensures)
+    c.if-not-is_zero.true c.in_ok-push.ensures.ok c.in_ok-part_text.ensures
 
 pub returns-else-not-is_zero : goal.returns-else-not-is_zero
 returns-else-not-is_zero c =
-    no_line c.args.letter c.args.name.now c.args.value _ c.is_zero.result (same_is c.args.value 0ℚ c.is_zero.result c.is_zero.ensures) c.if-not-is_zero.false
+    no_line c.args.letter c.args.name.now c.args.value _ c.is_zero.result
+    (same_is c.args.value 0ℚ c.is_zero.result c.is_zero.ensures) c.if-not-is_zero.false

@@ -7,18 +7,23 @@ use Rattle.lp_shape.proofs.packing.basis_word.Goals as goal
 
 pub overflow_mul-word : goal.overflow_mul-word
 overflow_mul-word c =
-    let h = has_room (basis_code c.args.basis.now) (basis_small c.args.basis.now) c.args.first c.loop-k.k c.loop-k.word (omega arith) c.loop-k.invariant in
+    let h =
+    has_room (basis_code c.args.basis.now)
+    (basis_small c.args.basis.now) c.args.first c.loop-k.k c.loop-k.word (omega arith) c.loop-k.invariant in
     omega (arith, h)
 
 pub overflow_add-word : goal.overflow_add-word
 overflow_add-word c =
-    let h = has_room (basis_code c.args.basis.now) (basis_small c.args.basis.now) c.args.first c.loop-k.k c.loop-k.word (omega arith) c.loop-k.invariant in
+    let h =
+    has_room (basis_code c.args.basis.now)
+    (basis_small c.args.basis.now) c.args.first c.loop-k.k c.loop-k.word (omega arith) c.loop-k.invariant in
     omega (arith, h, c.basis_code.ensures.small)
 
 pub loop-k-preserved : goal.loop-k-preserved
 loop-k-preserved c =
     ap (λ d. 4 * c.loop-k.word + d) c.basis_code.ensures.value
-    ∙ column_more (basis_code c.args.basis.now) c.args.first c.loop-k.k c.loop-k.word (omega arith) (omega arith) c.loop-k.invariant
+    ∙ column_more (basis_code c.args.basis.now) c.args.first c.loop-k.k c.loop-k.word
+    (omega arith) (omega arith) c.loop-k.invariant
 
 pub returns : goal.returns
 returns c =

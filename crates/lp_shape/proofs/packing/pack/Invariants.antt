@@ -11,4 +11,5 @@ invariant-loop-i l = (length l.words ≡ 49) × (take l.i l.words ≡ take l.i (
 -- the words of the statuses so far are there
 abbrev pub invariant-loop-w : goal.invariant-loop-w
 invariant-loop-w l =
-    (length l.words ≡ 49) × (take (25 + l.w) l.words ≡ shape_of l.form ++ made l.w (λ w. word_from (basis_code l.basis) (32 * w) 32))
+    (length l.words ≡ 49)
+    × (take (25 + l.w) l.words ≡ shape_of l.form ++ made l.w (λ w. word_from (basis_code l.basis) (32 * w) 32))

@@ -9,7 +9,8 @@ use Rattle.lp_shape.proofs.packing.shape.Goals as goal
 pub loop-w-preserved : goal.loop-w-preserved
 loop-w-preserved c = (
   length-set c.loop-w.words (1 + c.loop-w.w) c.form_word.result ∙ c.loop-w.invariant.0,
-  word_more c.loop-w.words ((65536 * c.args.form.now.rows + c.args.form.now.cols) ∷ []) (λ w. word_from (form_code c.args.form.now) (32 * w) 32) 1 c.loop-w.w (1 + c.loop-w.w) c.form_word.result
+  word_more c.loop-w.words ((65536 * c.args.form.now.rows + c.args.form.now.cols) ∷ [])
+      (λ w. word_from (form_code c.args.form.now) (32 * w) 32) 1 c.loop-w.w (1 + c.loop-w.w) c.form_word.result
       refl (omega (arith, c.loop-w.invariant.0)) c.loop-w.invariant.1 c.form_word.ensures,
 )
 
@@ -18,4 +19,5 @@ unfolding shape_of
 returns c =
     let all : c.loop-w.w ≡ 24 = omega arith in
     all_put c.loop-w.words (shape_of c.args.form.now) 1 c.loop-w.w 25 c.loop-w.invariant.0 (omega arith)
-    (c.loop-w.invariant.1 ∙ ap (λ k. ((65536 * c.args.form.now.rows + c.args.form.now.cols) ∷ []) ++ made k (λ w. word_from (form_code c.args.form.now) (32 * w) 32)) all)
+    (c.loop-w.invariant.1 ∙ ap (λ k. ((65536 * c.args.form.now.rows + c.args.form.now.cols) ∷ [])
+    ++ made k (λ w. word_from (form_code c.args.form.now) (32 * w) 32)) all)

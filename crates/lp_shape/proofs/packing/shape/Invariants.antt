@@ -7,4 +7,5 @@ use Rattle.lp_shape.proofs.packing.shape.Given as goal
 -- the words so far are there
 abbrev pub invariant-loop-w : goal.invariant-loop-w
 invariant-loop-w l =
-    (length l.words ≡ 25) × (take (1 + l.w) l.words ≡ ((65536 * l.form.rows + l.form.cols) ∷ []) ++ made l.w (λ w. word_from (form_code l.form) (32 * w) 32))
+    (length l.words ≡ 25) × (take (1 + l.w) l.words
+    ≡ ((65536 * l.form.rows + l.form.cols) ∷ []) ++ made l.w (λ w. word_from (form_code l.form) (32 * w) 32))

@@ -8,4 +8,5 @@ returns-in-Less c = below_zero c.args.v Less (sym c.in-Less.is ∙ c.sign.ensure
 
 pub returns-in-Equal : goal.returns-in-Equal
 returns-in-Equal c =
-    ⊎_elim (λ e. below_zero c.args.v Equal (sym e ∙ c.sign.ensures)) (λ e. below_zero c.args.v Greater (sym e ∙ c.sign.ensures)) c.in-Equal.is
+    ⊎_elim (λ e. below_zero c.args.v Equal (sym e ∙ c.sign.ensures))
+    (λ e. below_zero c.args.v Greater (sym e ∙ c.sign.ensures)) c.in-Equal.is

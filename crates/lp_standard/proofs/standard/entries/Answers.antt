@@ -16,5 +16,6 @@ loop-j-preserved c =
     record {
       items = c.in_ok-push.ensures.ok ∙ entries_more m.columns _ _ _ i.items (e ∙ c.entries.ensures.value) l;
       kept =
-          subst (All (AreEntries (height m))) (sym c.in_ok-push.ensures.ok) (All-push (AreEntries (height m)) _ _ i.kept (subst (AreEntries (height m)) (sym e) c.entries.ensures.kept));
+          subst (All (AreEntries (height m))) (sym c.in_ok-push.ensures.ok)
+          (All-push (AreEntries (height m)) _ _ i.kept (subst (AreEntries (height m)) (sym e) c.entries.ensures.kept));
     }

@@ -12,23 +12,27 @@ returns-in_err-limits-clause-err c =
 
 pub returns-in_err-first_clash-clause-err : goal.returns-in_err-first_clash-clause-err
 returns-in_err-first_clash-clause-err c =
-    let p = err_from_is_err_and c.from_residual-in_err-first_clash.result c.from_residual-in_err-first_clash.ensures.1 in
+    let p =
+    err_from_is_err_and c.from_residual-in_err-first_clash.result c.from_residual-in_err-first_clash.ensures.1 in
     rw (p.1, p.2) (clash_is _ _ _ c.in_ok-limits.ensures.ok _ (sym c.in_err-first_clash.ensures))
 
 pub new-requires : goal.new-requires
 new-requires c =
     let m = c.args.model.now in
-    is_form m c.in_ok-limits.limits.items _ _ _ _ _ _ c.rows.ensures.value c.cols.ensures.value c.in_ok-entries.ensures.value
+    is_form m c.in_ok-limits.limits.items _ _ _ _ _ _ c.rows.ensures.value
+    c.cols.ensures.value c.in_ok-entries.ensures.value
     (c.in_ok-lower.ensures ∙ ap (λ ls. map (λ c. c.lower) m.columns ++ map (λ l. l.0) ls) c.deref.ensures.value)
     (c.in_ok-upper.ensures ∙ ap (λ ls. map (λ c. c.upper) m.columns ++ map (λ l. l.1) ls) c.deref-2.ensures.value)
-    c.in_ok-cost.ensures (length-list_run _ _ _ c.in_ok-limits.ensures.ok) c.rows.ensures.bound c.cols.ensures.bound c.in_ok-entries.ensures.kept
+    c.in_ok-cost.ensures (length-list_run _ _ _ c.in_ok-limits.ensures.ok)
+    c.rows.ensures.bound c.cols.ensures.bound c.in_ok-entries.ensures.kept
 
 pub returns-clause-ok : goal.returns-clause-ok
 returns-clause-ok c =
     let m = c.args.model.now in
     form_is _ _ _ c.in_ok-limits.ensures.ok _ (sym c.in_ok-first_clash.ensures)
     (c.new.ensures
-    ∙ parts_are m c.in_ok-limits.limits.items _ _ _ _ _ _ c.rows.ensures.value c.cols.ensures.value c.in_ok-entries.ensures.value
+    ∙ parts_are m c.in_ok-limits.limits.items _ _ _ _ _ _
+    c.rows.ensures.value c.cols.ensures.value c.in_ok-entries.ensures.value
     (c.in_ok-lower.ensures ∙ ap (λ ls. map (λ c. c.lower) m.columns ++ map (λ l. l.0) ls) c.deref.ensures.value)
     (c.in_ok-upper.ensures ∙ ap (λ ls. map (λ c. c.upper) m.columns ++ map (λ l. l.1) ls) c.deref-2.ensures.value)
     c.in_ok-cost.ensures)

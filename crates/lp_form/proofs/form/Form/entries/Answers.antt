@@ -9,5 +9,6 @@ pub returns-clause-kept : goal.returns-clause-kept
 returns-clause-kept c =
     let f : Form = c.args.self.now in
     let g : IsForm f = subst IsForm c.self.view_is c.self.invariant in
-    subst (AreEntries f.rows) (sym (c.as_slice.ensures ∙ c.at.ensures ∙ ap (λ (h : Form). get_or h.entries c.args.j []) c.self.view_is))
+    subst (AreEntries f.rows)
+    (sym (c.as_slice.ensures ∙ c.at.ensures ∙ ap (λ (h : Form). get_or h.entries c.args.j []) c.self.view_is))
     (All-get_or (AreEntries f.rows) f.entries c.args.j [] (omega (arith, g.all_entries, c.requires)) g.columns)
