@@ -39,6 +39,9 @@ module _ (limit : Option ℕ) (t : Tableau) (s : IsSeated t) (x : Leaving) (h : 
         column = m.inside;
         nonbasic = m.nonbasic;
         entry = m.entry;
-        bound =
-            (out.bound, subst (λ k. NamesBound (passed_bound x.below) (lower_at t k) (upper_at t k) out.bound) (sym there.1) (passed x.below _ _ _ out.bound out.past));
+        bound = (
+          out.bound,
+          subst (λ k. NamesBound (passed_bound x.below) (lower_at t k) (upper_at t k) out.bound)
+              (sym there.1) (passed x.below _ _ _ out.bound out.past),
+        );
       }

@@ -1,5 +1,6 @@
 -- The column that enters is not basic, and has an entry.
-use Rattle.std.proofs.Common.{◌≡◌, ◌≢◌, ℕ, suc, ◌<◌, Option, Some, None, IfSome, Ok, Bool, true, false, cond, refl, sym, ap, ◌∙◌, subst}
+use Rattle.std.proofs.Common.{◌≡◌, ◌≢◌, ℕ, suc, ◌<◌, Option, Some, None, IfSome, Ok}
+use Rattle.std.proofs.Common.{Bool, true, false, cond, refl, sym, ap, ◌∙◌, subst}
 use Rattle.std.specs.declared.cmp.Ordering.{Ordering}
 use Rattle.std.specs.declared.cmp.Ordering.TheVariants.{Less, Equal, Greater}
 use Rattle.spec_exact.specs.Fraction.{ℚ, 0ℚ, whole, lt_ℚ, abs_ℚ}
@@ -7,7 +8,8 @@ use Rattle.spec_pivot.specs.declared.status.Status.{Status}
 use Rattle.spec_pivot.specs.declared.status.Status.TheVariants.{Basic, AtLower, AtUpper, AtZero}
 use Rattle.spec_simplex.specs.Run.{quotient_run, order_run}
 use Rattle.spec_simplex.specs.Step.{directed, way_by}
-use Rattle.spec_simplex.specs.Tableau.{Tableau, all_columns, entry_at, reduced_at, status_at, lower_at, upper_at, is_fixed}
+use Rattle.spec_simplex.specs.Tableau.{Tableau, all_columns, entry_at, reduced_at}
+use Rattle.spec_simplex.specs.Tableau.{status_at, lower_at, upper_at, is_fixed}
 use Rattle.spec_cold.proofs.Runs.{then_ok, steps_ok}
 use Rattle.spec_simplex.specs.declared.ends.Cheapest.{Cheapest}
 use Rattle.spec_simplex.specs.Dual.{dual_way_at, cheaper_by, cheaper_run, cheapest_by, cheapest_with, cheapest_run}
@@ -67,12 +69,15 @@ module _ (limit : Option ℕ) (t : Tableau) (p : ℕ) (below : Bool) where
           BestEnters t p below (suc k) next
       by None e h = let z : best ≡ next = cc in subst (BestEnters t p below (suc k)) z was
       by (Some up) e h =
-          let o = then_ok (quotient_run limit (abs_ℚ (reduced_at t k)) (abs_ℚ (entry_at t p k))) (λ ratio. cheaper_run limit (record { ratio = ratio; col = k }) best) next h in
+          let o =
+          then_ok (quotient_run limit (abs_ℚ (reduced_at t k)) (abs_ℚ (entry_at t p k)))
+          (λ ratio. cheaper_run limit (record { ratio = ratio; col = k }) best) next h in
           cheaper_enters (record { ratio = o.0; col = k }) best next
           (record {
             inside = l;
             nonbasic =
-                not_basic (is_fixed (lower_at t k) (upper_at t k)) (status_at t k) (directed below (entry_at t p k)) up e;
+                not_basic (is_fixed (lower_at t k) (upper_at t k))
+                (status_at t k) (directed below (entry_at t p k)) up e;
             entry = entry_there t p below k up e;
           })
           was o.2

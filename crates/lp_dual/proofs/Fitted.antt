@@ -6,7 +6,8 @@ use Rattle.spec_pivot.specs.Tableau.{Matrix}
 use Rattle.spec_pivot.specs.Simplex.{Bounds, Stands}
 use Rattle.spec_pivot.proofs.Kept.{not_basic}
 use Rattle.spec_simplex.specs.Step.{CanFlip}
-use Rattle.spec_simplex.specs.Tableau.{Tableau, all_columns, value_at, reduced_at, status_at, lower_at, upper_at, is_fixed}
+use Rattle.spec_simplex.specs.Tableau.{Tableau, all_columns, value_at, reduced_at}
+use Rattle.spec_simplex.specs.Tableau.{status_at, lower_at, upper_at, is_fixed}
 use Rattle.spec_cold.specs.Tables.{way}
 use Rattle.spec_simplex.specs.declared.ends.Fit.TheVariants.{Dual}
 use Rattle.spec_warm.specs.Based.{IsBased}
@@ -16,7 +17,8 @@ use Rattle.spec_warm.proofs.Fits.{fit_is}
 use Rattle.spec_warm.proofs.Flipped.{wrong}
 use Rattle.lp_dual.specs.Starts.{HasPlace, IsDualStart}
 
-module _ (limit : Option ℕ) (m n : ℕ) (f : Matrix) (cost : ℕ → ℚ) (b : Bounds) (t : Tableau) (s : IsBased m n f cost b t) (h : fit_run limit t ≡ Ok Dual) where
+module _ (limit : Option ℕ) (m n : ℕ) (f : Matrix) (cost : ℕ → ℚ) (b : Bounds)
+    (t : Tableau) (s : IsBased m n f cost b t) (h : fit_run limit t ≡ Ok Dual) where
   own : IsBased t.rows t.cols f cost b t
   own = own_counts m n f cost b t s
 
@@ -28,15 +30,24 @@ module _ (limit : Option ℕ) (m n : ℕ) (f : Matrix) (cost : ℕ → ℚ) (b :
     where
       stands : Stands (status_at t k) (lower_at t k) (upper_at t k) (value_at t k)
       stands =
-          subst₂ (λ low high. Stands (status_at t k) low high (value_at t k)) (sym (lower_same f cost b t own k l)) (sym (upper_same f cost b t own k l)) (own.tableau.stands k l)
+          subst₂ (λ low high. Stands (status_at t k) low high (value_at t k))
+          (sym (lower_same f cost b t own k l)) (sym (upper_same f cost b t own k l)) (own.tableau.stands k l)
 
       by : (c : Bool) → not c && needs_flip (status_at t k) (reduced_at t k) ≡ true →
           c || meets_need (status_at t k) (reduced_at t k) (lower_at t k) (upper_at t k) ≡ true → CanFlip t k
       by true e g = let z : false ≡ true = e in cc
       by false e g =
           let w = wrong (status_at t k) (reduced_at t k) (value_at t k) (lower_at t k) (upper_at t k) stands g e in
-          record { column = l; nonbasic = not_basic (way w.0) (status_at t k) w.1.can_move; lower = w.1.low; upper = w.1.high }
+          record {
+            column = l;
+            nonbasic = not_basic (way w.0) (status_at t k) w.1.can_move;
+            lower = w.1.low;
+            upper = w.1.high;
+          }
 
   pub can_start : IsDualStart t
   can_start =
-      record { seated = record { all_basic = s.whole.all_basic; all_statuses = s.whole.all_statuses; places = place }; flips = can_flip }
+      record {
+        seated = record { all_basic = s.whole.all_basic; all_statuses = s.whole.all_statuses; places = place };
+        flips = can_flip;
+      }

@@ -8,8 +8,10 @@ use Rattle.spec_exact.proofs.Ruleset.{ring}
 use Rattle.spec_pivot.specs.declared.status.Status.{Status}
 use Rattle.spec_pivot.specs.declared.status.Status.TheVariants.{Basic, AtLower, AtUpper, AtZero}
 use Rattle.spec_simplex.specs.Run.{difference_run, quotient_run}
-use Rattle.spec_simplex.specs.Step.{moved_run, shifted_run, turned_run, repriced_run, exchanged, turned, pivot_run, NamesBound, CanPivot}
-use Rattle.spec_simplex.specs.Tableau.{Tableau, all_columns, entry_at, basic_at, value_at, status_at, lower_at, upper_at, or_zero, stand}
+use Rattle.spec_simplex.specs.Step.{moved_run, shifted_run, turned_run, repriced_run}
+use Rattle.spec_simplex.specs.Step.{exchanged, turned, pivot_run, NamesBound, CanPivot}
+use Rattle.spec_simplex.specs.Tableau.{Tableau, all_columns, entry_at, basic_at, value_at}
+use Rattle.spec_simplex.specs.Tableau.{status_at, lower_at, upper_at, or_zero, stand}
 use Rattle.spec_cold.proofs.Runs.{then_ok}
 use Rattle.spec_simplex.specs.Dual.{dual_pivot_run}
 use Rattle.lp_primal.proofs.Ratios.{difference_ok, quotient_ok}
@@ -24,7 +26,8 @@ stands_there AtUpper lower upper v h = h ∙ ap (λ b. Some (or_zero b)) (sym h)
 stands_there AtZero lower upper v h = h
 
 pub can_pivot : (limit : Option ℕ) (t : Tableau) (p j : ℕ) (to : Status) (gap theta : ℚ) → CanEnter t p j to
-    → difference_run limit (value_at t (basic_at t p)) (stand to (lower_at t (basic_at t p)) (upper_at t (basic_at t p))) ≡ Ok gap
+    → difference_run limit (value_at t (basic_at t p))
+    (stand to (lower_at t (basic_at t p)) (upper_at t (basic_at t p))) ≡ Ok gap
     → quotient_run limit gap (entry_at t p j) ≡ Ok theta → CanPivot t p j theta to
 can_pivot limit t p j to gap theta c g q = record {
   place = c.place;
@@ -32,15 +35,19 @@ can_pivot limit t p j to gap theta c g q = record {
   nonbasic = c.nonbasic;
   entry = c.entry;
   lands =
-      subst (NamesBound to (lower_at t (basic_at t p)) (upper_at t (basic_at t p))) (sym landed) (stands_there to (lower_at t (basic_at t p)) (upper_at t (basic_at t p)) c.bound.0 c.bound.1);
+      subst (NamesBound to (lower_at t (basic_at t p)) (upper_at t (basic_at t p))) (sym landed)
+      (stands_there to (lower_at t (basic_at t p)) (upper_at t (basic_at t p)) c.bound.0 c.bound.1);
 }
   where
     less : (v b : ℚ) → v -ℚ (v -ℚ b) ≡ b
     less v b = simp ring
 
-    landed : value_at t (basic_at t p) -ℚ theta *ℚ entry_at t p j ≡ stand to (lower_at t (basic_at t p)) (upper_at t (basic_at t p))
+    landed : value_at t (basic_at t p) -ℚ theta *ℚ entry_at t p j
+        ≡ stand to (lower_at t (basic_at t p)) (upper_at t (basic_at t p))
     landed =
-        ap (λ x. value_at t (basic_at t p) -ℚ x) (quotient_ok limit gap (entry_at t p j) theta c.entry q ∙ difference_ok limit (value_at t (basic_at t p)) (stand to (lower_at t (basic_at t p)) (upper_at t (basic_at t p))) gap g)
+        ap (λ x. value_at t (basic_at t p) -ℚ x)
+        (quotient_ok limit gap (entry_at t p j) theta c.entry q ∙ difference_ok limit
+        (value_at t (basic_at t p)) (stand to (lower_at t (basic_at t p)) (upper_at t (basic_at t p))) gap g)
         ∙ less (value_at t (basic_at t p)) (stand to (lower_at t (basic_at t p)) (upper_at t (basic_at t p)))
 
 -- ---- what it leaves
@@ -50,7 +57,8 @@ names_no_basic AtLower lower upper v h e = cc
 names_no_basic AtUpper lower upper v h e = cc
 names_no_basic AtZero lower upper v h e = h
 
-module _ (t : Tableau) (s : IsSeated t) (p j : ℕ) (to : Status) (c : CanEnter t p j to) (values reduced : List ℚ) (rows : List (List ℚ)) where
+module _ (t : Tableau) (s : IsSeated t) (p j : ℕ) (to : Status)
+    (c : CanEnter t p j to) (values reduced : List ℚ) (rows : List (List ℚ)) where
   abbrev after : Tableau
   after = exchanged (turned t values rows reduced) p j to
 
@@ -62,17 +70,26 @@ module _ (t : Tableau) (s : IsSeated t) (p j : ℕ) (to : Status) (c : CanEnter 
     where
       same : k ≡ j → HasPlace after k
       same z =
-          record { place = p; inside = c.place; holds = get_or-set_same t.basic p j 0 (omega (arith, c.place, s.all_basic)) ∙ sym z }
+          record {
+            place = p;
+            inside = c.place;
+            holds = get_or-set_same t.basic p j 0 (omega (arith, c.place, s.all_basic)) ∙ sym z;
+          }
 
       other : k ≢ j → HasPlace after k
-      other n = record { place = seat.place; inside = seat.inside; holds = get_or-set_other t.basic p seat.place j 0 elsewhere ∙ seat.holds }
+      other n = record {
+        place = seat.place;
+        inside = seat.inside;
+        holds = get_or-set_other t.basic p seat.place j 0 elsewhere ∙ seat.holds;
+      }
         where
           still : get_or left k Basic ≡ Basic
           still = sym (get_or-set_other left j k Basic Basic n) ∙ e
 
           stays : k ≢ basic_at t p
           stays z = names_no_basic to (lower_at t (basic_at t p)) (upper_at t (basic_at t p)) c.bound.0 c.bound.1
-              (sym (get_or-set_same t.status (basic_at t p) to Basic (omega (arith, l, z, s.all_statuses))) ∙ ap (λ i. get_or left i Basic) (sym z) ∙ still)
+              (sym (get_or-set_same t.status (basic_at t p) to Basic (omega (arith, l, z, s.all_statuses)))
+              ∙ ap (λ i. get_or left i Basic) (sym z) ∙ still)
 
           seat : HasPlace t k
           seat = s.places k l (sym (get_or-set_other t.status (basic_at t p) k to Basic stays) ∙ still)
@@ -91,7 +108,9 @@ pub pivot_seated : (limit : Option ℕ) (t u : Tableau) (p j : ℕ) (to : Status
     dual_pivot_run limit t p j to ≡ Ok u → IsSeated u
 unfolding dual_pivot_run pivot_run
 pivot_seated limit t u p j to s c h =
-    let gap = then_ok (difference_run limit (value_at t (basic_at t p)) (stand to (lower_at t (basic_at t p)) (upper_at t (basic_at t p)))) _ u h in
+    let gap =
+    then_ok (difference_run limit (value_at t (basic_at t p))
+    (stand to (lower_at t (basic_at t p)) (upper_at t (basic_at t p)))) _ u h in
     let theta = then_ok (quotient_run limit gap.0 (entry_at t p j)) _ u gap.2 in
     let moved = then_ok (moved_run limit t j theta.0 (Some p)) _ u theta.2 in
     let shifted = then_ok (shifted_run limit moved.0 j theta.0) _ u moved.2 in

@@ -1,5 +1,6 @@
 -- The flips, column by column.
-use Rattle.std.proofs.Common.{◌≡◌, ◌≢◌, ℕ, ◌+◌, ◌<◌, ◌≤◌, List, Option, Result, Ok, Err, Bool, true, false, not, ◌&&◌, cond, refl, sym, ap, ◌∙◌, subst, arith}
+use Rattle.std.proofs.Common.{◌≡◌, ◌≢◌, ℕ, ◌+◌, ◌<◌, ◌≤◌, List, Option, Result, Ok, Err, Bool}
+use Rattle.std.proofs.Common.{true, false, not, ◌&&◌, cond, refl, sym, ap, ◌∙◌, subst, arith}
 use Rattle.std.proofs.lemmas.List.{get_or-set_same, get_or-set_other, length-set}
 use Rattle.spec_exact.specs.Fraction.{ℚ}
 use Rattle.spec_pivot.specs.declared.status.Status.{Status}
@@ -21,7 +22,8 @@ goes_to_bound : (up : Bool) → other_bound up ≢ Basic
 goes_to_bound true e = let z : AtUpper ≡ Basic = e in cc
 goes_to_bound false e = let z : AtLower ≡ Basic = e in cc
 
-module _ (t : Tableau) (s : IsSeated t) (j : ℕ) (inside : j < all_columns t) (to : Status) (bound : to ≢ Basic) (values : List ℚ) where
+module _ (t : Tableau) (s : IsSeated t) (j : ℕ) (inside : j < all_columns t)
+    (to : Status) (bound : to ≢ Basic) (values : List ℚ) where
   abbrev after : Tableau
   after = flipped t j to values
 
@@ -30,14 +32,16 @@ module _ (t : Tableau) (s : IsSeated t) (j : ℕ) (inside : j < all_columns t) (
 
   not_the_one : (k : ℕ) → status_at after k ≡ Basic → k ≢ j
   not_the_one k e z =
-      bound (sym (get_or-set_same t.status j to Basic (omega (arith, inside, s.all_statuses))) ∙ ap (status_at after) (sym z) ∙ e)
+      bound (sym (get_or-set_same t.status j to Basic (omega (arith, inside, s.all_statuses)))
+      ∙ ap (status_at after) (sym z) ∙ e)
 
   seated_after : IsSeated after
   seated_after = record {
     all_basic = s.all_basic;
     all_statuses = length-set t.status j to ∙ s.all_statuses;
     places =
-        λ k l e. let p : HasPlace t k = s.places k l (sym (status_other k (not_the_one k e)) ∙ e) in record { place = p.place; inside = p.inside; holds = p.holds };
+        λ k l e. let p : HasPlace t k = s.places k l (sym (status_other k (not_the_one k e)) ∙ e) in
+        record { place = p.place; inside = p.inside; holds = p.holds };
   }
 
   needs_other : (k : ℕ) → k ≢ j → needs_flip_at after k ≡ needs_flip_at t k
@@ -46,7 +50,12 @@ module _ (t : Tableau) (s : IsSeated t) (j : ℕ) (inside : j < all_columns t) (
 
   can_other : (k : ℕ) → k ≢ j → CanFlip t k → CanFlip after k
   can_other k n c =
-      record { column = c.column; nonbasic = λ e. c.nonbasic (sym (status_other k n) ∙ e); lower = c.lower; upper = c.upper }
+      record {
+        column = c.column;
+        nonbasic = λ e. c.nonbasic (sym (status_other k n) ∙ e);
+        lower = c.lower;
+        upper = c.upper;
+      }
 
 -- ---- all of them
 abbrev flip_at : Option ℕ → ℕ → ℕ → Reached → Result Reached (RunStop ℚ)
@@ -70,7 +79,8 @@ module _ (limit : Option ℕ) (budget : ℕ) (first : Tableau) where
       Flipping limit budget first (k + 1) r
   flips_pass k r v e = record {
     so_far =
-        steps_more k (flip_at limit budget) (begun first) r r v.so_far (ap (λ b. cond b (flip_next limit budget k r) (Ok r)) e);
+        steps_more k (flip_at limit budget) (begun first) r r v.so_far
+        (ap (λ b. cond b (flip_next limit budget k r) (Ok r)) e);
     columns = v.columns;
     seated = v.seated;
     late = λ j l. v.late j (omega (arith, l));
@@ -91,7 +101,8 @@ module _ (limit : Option ℕ) (budget : ℕ) (first : Tableau) where
   unfolding flips_run
   flips_end k r v e = ap (λ n. steps n (flip_at limit budget) (begun first)) (sym e) ∙ v.so_far
 
-  module _ (k : ℕ) (r : Reached) (v : Flipping limit budget first k r) (l : k < all_columns first) (e : needs_flip_at r.tableau k ≡ true) where
+  module _ (k : ℕ) (r : Reached) (v : Flipping limit budget first k r)
+      (l : k < all_columns first) (e : needs_flip_at r.tableau k ≡ true) where
     pub can_flip : CanFlip r.tableau k
     can_flip = v.late k (omega arith) (omega (arith, l, v.columns)) e
 
@@ -104,7 +115,8 @@ module _ (limit : Option ℕ) (budget : ℕ) (first : Tableau) where
       seated = subst IsSeated (sym same) (seated_after r.tableau v.seated k inside to n values);
       late = subst (λ u. (j : ℕ) → k + 1 ≤ j → j < all_columns u → needs_flip_at u j ≡ true → CanFlip u j) (sym same)
           (λ j a i d. let other : j ≢ k = (λ z. let y : ⊥ = omega (arith, a, z) in y) in
-          can_other r.tableau v.seated k inside to n values j other (v.late j (omega (arith, a)) i (sym (needs_other r.tableau v.seated k inside to n values j other) ∙ d)));
+          can_other r.tableau v.seated k inside to n values j other
+          (v.late j (omega (arith, a)) i (sym (needs_other r.tableau v.seated k inside to n values j other) ∙ d)));
     }
       where
         inside : k < all_columns r.tableau
@@ -121,5 +133,8 @@ module _ (limit : Option ℕ) (budget : ℕ) (first : Tableau) where
     pub flips_go_on : (q : Reached) → flip_next limit budget k r ≡ Ok q → Flipping limit budget first (k + 1) q
     flips_go_on q h =
         let o = by_spent _ q h in
-        let shape : IsFlip r.tableau k (other_bound (flip_way (status_at r.tableau k))) o.0 = flip_shape limit r.tableau o.0 k o.1 in
-        flip_late shape.values (other_bound (flip_way (status_at r.tableau k))) (goes_to_bound (flip_way (status_at r.tableau k))) q (ap (λ (r : Reached). r.tableau) (sym o.2) ∙ sym shape.is) h
+        let shape : IsFlip r.tableau k (other_bound (flip_way (status_at r.tableau k))) o.0 =
+        flip_shape limit r.tableau o.0 k o.1 in
+        flip_late shape.values (other_bound (flip_way (status_at r.tableau k)))
+        (goes_to_bound (flip_way (status_at r.tableau k))) q
+        (ap (λ (r : Reached). r.tableau) (sym o.2) ∙ sym shape.is) h

@@ -32,7 +32,8 @@ module _ (limit : Option ℕ) where
   run_spent (suc left) used t p j to h e = absurd (let z : ⊥ = omega (arith, e) in z)
 
   goes_on : (left used : ℕ) (t : Tableau) (p j : ℕ) (to : Status) → dual_choice_run limit t ≡ Ok (Pivot p j to) →
-      dual_from limit (suc left) used t ≡ (refused_as stop.Past (dual_pivot_run limit t p j to) >>= λ u. dual_from limit left (used + 1) u)
+      dual_from limit (suc left) used t
+      ≡ (refused_as stop.Past (dual_pivot_run limit t p j to) >>= λ u. dual_from limit left (used + 1) u)
   unfolding dual_from
   goes_on left used t p j to h =
       ap (λ o. refused_as stop.Past o >>= dual_end_or_next limit t used (λ u. dual_from limit left (used + 1) u)) h
@@ -41,10 +42,13 @@ module _ (limit : Option ℕ) where
   one_left : (budget used : ℕ) → used < budget → budget - used ≡ suc (budget - (used + 1))
   one_left budget used l = omega (arith, l)
 
-  module _ (budget used : ℕ) (t : Tableau) (p j : ℕ) (to : Status) (h : dual_choice_run limit t ≡ Ok (Pivot p j to)) (l : used < budget) where
-    one_step : dual_from limit (budget - used) used t ≡ (refused_as stop.Past (dual_pivot_run limit t p j to) >>= λ u. dual_from limit (budget - (used + 1)) (used + 1) u)
+  module _ (budget used : ℕ) (t : Tableau) (p j : ℕ) (to : Status)
+      (h : dual_choice_run limit t ≡ Ok (Pivot p j to)) (l : used < budget) where
+    one_step : dual_from limit (budget - used) used t ≡ (refused_as stop.Past (dual_pivot_run limit t p j to) >>=
+        λ u. dual_from limit (budget - (used + 1)) (used + 1) u)
     one_step =
-        ap (λ left. dual_from limit left used t) (one_left budget used l) ∙ goes_on (budget - (used + 1)) used t p j to h
+        ap (λ left. dual_from limit left used t) (one_left budget used l)
+        ∙ goes_on (budget - (used + 1)) used t p j to h
 
     pub step_refused : (e : Past ℚ) → dual_pivot_run limit t p j to ≡ Err e →
         dual_from limit (budget - used) used t ≡ Err (stop.Past e)

@@ -28,7 +28,8 @@ pub record IsDualStart (t : Tableau) : Type 0 where
   pub seated : IsSeated t
   pub flips : (k : ℕ) → k < all_columns t → needs_flip_at t k ≡ true → CanFlip t k
 
--- a dual pivot may be made: column j is not basic, its entry is not 0, and the leaving column has the bound that it goes to
+-- a dual pivot may be made: column j is not basic, its entry is not 0,
+-- and the leaving column has the bound that it goes to
 pub record CanEnter (t : Tableau) (p j : ℕ) (to : Status) : Type 0 where
   pub place : p < t.rows
   pub column : j < all_columns t

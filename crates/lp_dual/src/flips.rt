@@ -12,7 +12,8 @@ use lp_tableau::{RunStop, Tableau};
 // Column `k` goes to its other bound, if the budget has a flip left.
 fn flip_next(tab: &mut Tableau, used: &mut u64, budget: u64, k: u32) -> Result<(), RunStop>
     requires { CanFlip tab.old k }
-    ensures { Reaches (dual.flip_next (Some largest) budget k (record { tableau = tab.old; used = used.old })) tab.new used.new result }
+    ensures { Reaches (dual.flip_next (Some largest) budget k (record { tableau = tab.old; used = used.old }))
+        tab.new used.new result }
 {
     if *used >= budget {
         return Err(RunStop::Spent);

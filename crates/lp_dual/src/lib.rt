@@ -17,8 +17,6 @@ mod flips;
 mod leaving;
 mod needs;
 mod steps;
-#[cfg(test)]
-mod tests;
 
 ghost use Rattle.std.specs.Prelude.{◌≡◌, ℕ, Option, Ok};
 ghost use Rattle.spec_exact.specs.Fraction.{ℚ};

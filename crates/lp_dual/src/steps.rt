@@ -49,7 +49,8 @@ fn pivot(tab: &mut Tableau, place: u32, col: u32, to: Status) -> Result<(), Past
 // Steps up to an end.
 fn steps(tab: &mut Tableau, used: &mut u64, budget: u64) -> Result<DualEnd, RunStop>
     requires { IsSeated tab.old }
-    ensures runs { DualRuns (dual.dual_from (Some largest) (budget - used.old) used.old tab.old) tab.new used.new result }
+    ensures runs { DualRuns (dual.dual_from (Some largest) (budget - used.old) used.old tab.old)
+        tab.new used.new result }
     ensures inside { IfOk result (IsPlace tab.new) }
 {
     loop {

@@ -39,7 +39,12 @@ module _ (limit : Option ℕ) (t : Tableau) where
   at_place : (e : Entering) (x : Best ℚ) (place : Option ℕ) → MayEnter t (all_columns t) e →
       StopsBy t e x.ratio x.to place → CanMake t (choice_at e x place)
   at_place e x None m s =
-      record { column = m.inside; nonbasic = not_basic (is_fixed (lower_at t e.col) (upper_at t e.col)) _ (reduced_at t e.col) e.up m.way; lower = s.lower; upper = s.upper }
+      record {
+        column = m.inside;
+        nonbasic = not_basic (is_fixed (lower_at t e.col) (upper_at t e.col)) _ (reduced_at t e.col) e.up m.way;
+        lower = s.lower;
+        upper = s.upper;
+      }
   at_place e x (Some i) m s =
       record {
         place = s.place;
@@ -59,7 +64,8 @@ module _ (limit : Option ℕ) (t : Tableau) where
   by_entering None choice h g = let z : End Optimal ≡ choice = cc in subst (CanMake t) z tt
   by_entering (Some e) choice h g = by (then_ok (best_run limit t e) (λ best. Ok (choice_by e best)) choice g)
     where
-      by : (best : Option (Best ℚ)) × (best_run limit t e ≡ Ok best) × (◌≡◌ {A = Run (Choice ℚ)} (Ok (choice_by e best)) (Ok choice)) →
+      by : (best : Option (Best ℚ)) × (best_run limit t e ≡ Ok best)
+          × (◌≡◌ {A = Run (Choice ℚ)} (Ok (choice_by e best)) (Ok choice)) →
           CanMake t choice
       by (best, f, k) =
           let z : choice_by e best ≡ choice = cc in

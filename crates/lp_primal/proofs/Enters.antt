@@ -1,5 +1,6 @@
 -- The column that enters.
-use Rattle.std.proofs.Common.{◌≡◌, ◌≢◌, ℕ, zero, suc, ◌+◌, ◌-◌, ◌<◌, Option, Some, None, Bool, true, false, cond, refl, subst, ap, ap₂, ◌∙◌, arith}
+use Rattle.std.proofs.Common.{◌≡◌, ◌≢◌, ℕ, zero, suc, ◌+◌, ◌-◌, ◌<◌, Option, Some, None}
+use Rattle.std.proofs.Common.{Bool, true, false, cond, refl, subst, ap, ap₂, ◌∙◌, arith}
 use Rattle.spec_exact.specs.Fraction.{ℚ}
 use Rattle.spec_pivot.specs.declared.status.Status.{Status}
 use Rattle.spec_pivot.specs.declared.status.Status.TheVariants.{Basic, AtLower, AtUpper, AtZero}
@@ -11,7 +12,8 @@ use Rattle.spec_simplex.specs.Step.{way_by, way_at, or_enters, entering_below, e
 stays : (t : Tableau) (n d : ℕ) (e : Entering) → entering_below t n ≡ Some e → entering_below t (n + d) ≡ Some e
 stays t n zero e h = (let z : n + 0 ≡ n = omega arith in ap (entering_below t) z) ∙ h
 stays t n (suc d) e h =
-    (let z : n + suc d ≡ suc (n + d) = omega arith in ap (entering_below t) z) ∙ ap (λ o. or_enters o (n + d) (way_at t (n + d))) (stays t n d e h)
+    (let z : n + suc d ≡ suc (n + d) = omega arith in ap (entering_below t) z)
+    ∙ ap (λ o. or_enters o (n + d) (way_at t (n + d))) (stays t n d e h)
 
 pub none_more : (t : Tableau) (k : ℕ) → entering_below t k ≡ None → way_at t k ≡ None → entering_below t (k + 1) ≡ None
 none_more t k h g = (let z : k + 1 ≡ suc k = omega arith in ap (entering_below t) z) ∙ ap₂ (λ o w. or_enters o k w) h g
@@ -20,7 +22,8 @@ pub enters_at : (t : Tableau) (k n : ℕ) (up : Bool) → entering_below t k ≡
     entering_below t n ≡ Some (record { col = k; up = up })
 enters_at t k n up h l g =
     let z : suc k + (n - suc k) ≡ n = omega arith in
-    subst (λ i. entering_below t i ≡ Some (record { col = k; up = up })) z (stays t (suc k) (n - suc k) (record { col = k; up = up }) (ap₂ (λ o w. or_enters o k w) h g))
+    subst (λ i. entering_below t i ≡ Some (record { col = k; up = up })) z
+    (stays t (suc k) (n - suc k) (record { col = k; up = up }) (ap₂ (λ o w. or_enters o k w) h g))
 
 -- ---- what is known of it
 pub record MayEnter (t : Tableau) (n : ℕ) (e : Entering) : Type 0 where

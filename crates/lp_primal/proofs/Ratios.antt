@@ -1,6 +1,8 @@
--- What is known of the best of the ratio test: a position that stops the column has an entry there, and the move takes its
--- column to a bound; where the column stops itself, it has both bounds.
-use Rattle.std.proofs.Common.{◌≡◌, ◌≢◌, ℕ, zero, suc, ◌<◌, ◌≤◌, Option, Some, None, Result, Ok, Err, Bool, true, false, cond, int_lt, pos, nat_lt, Ordering, Less, Equal, Greater, refl, sym, subst, ap, ◌∙◌, arith}
+-- What is known of the best of the ratio test: a position that stops the column has an entry there, and the move takes
+-- its column to a bound; where the column stops itself, it has both bounds.
+use Rattle.std.proofs.Common.{◌≡◌, ◌≢◌, ℕ, zero, suc, ◌<◌, ◌≤◌, Option, Some, None, Result}
+use Rattle.std.proofs.Common.{Ok, Err, Bool, true, false, cond, int_lt, pos, nat_lt, Ordering}
+use Rattle.std.proofs.Common.{Less, Equal, Greater, refl, sym, subst, ap, ◌∙◌, arith}
 use Rattle.spec_exact.specs.Fraction.{ℚ, 0ℚ, ◌+ℚ◌, ◌-ℚ◌, ◌*ℚ◌, neg_ℚ, abs_ℚ, lt_ℚ, ◌<ℚ◌}
 use Rattle.spec_exact.specs.Limit.{div, sub}
 use Rattle.spec_exact.specs.Answer.{told}
@@ -17,7 +19,8 @@ use Rattle.spec_simplex.specs.declared.ends.Entering.{Entering}
 use Rattle.spec_simplex.specs.declared.ends.Best.{Best}
 use Rattle.spec_simplex.specs.Run.{Run, ◌>>=◌, difference_run, quotient_run, order_run, steps}
 use Rattle.spec_simplex.specs.Tableau.{Tableau, entry_at, basic_at, value_at, lower_at, upper_at}
-use Rattle.spec_simplex.specs.Step.{directed, other_bound, range_run, rise_run, fall_run, gap_run, better_by, better_run, with_gap, best_with, best_run, NamesBound}
+use Rattle.spec_simplex.specs.Step.{directed, other_bound, range_run, rise_run, fall_run, gap_run}
+use Rattle.spec_simplex.specs.Step.{better_by, better_run, with_gap, best_with, best_run, NamesBound}
 use Rattle.spec_simplex.proofs.Stops.{steps_stop}
 use Rattle.lp_primal.proofs.Signs.{negative_is}
 
@@ -95,9 +98,11 @@ moved_is up v r a = ap (λ x. v -ℚ x) (directed_times up r a)
 rises : (limit : Option ℕ) (up : Bool) (a : ℚ) (lower upper : Option ℚ) (v gap : ℚ) (to : Status) →
     directed up a <ℚ 0ℚ → rise_run limit upper v ≡ Ok (Some (gap, to)) → IsGap up a lower upper v gap to
 rises limit up a lower None v gap to d h = cc
-rises limit up a lower (Some u) v gap to d h = by (then_ok (difference_run limit u v) (λ g. Ok (Some (g, AtUpper))) (Some (gap, to)) h)
+rises limit up a lower (Some u) v gap to d h =
+    by (then_ok (difference_run limit u v) (λ g. Ok (Some (g, AtUpper))) (Some (gap, to)) h)
   where
-    by : (g : ℚ) × (difference_run limit u v ≡ Ok g) × (◌≡◌ {A = Run (Option (ℚ × Status))} (Ok (Some (g, AtUpper))) (Ok (Some (gap, to)))) →
+    by : (g : ℚ) × (difference_run limit u v ≡ Ok g)
+        × (◌≡◌ {A = Run (Option (ℚ × Status))} (Ok (Some (g, AtUpper))) (Ok (Some (gap, to)))) →
         IsGap up a lower (Some u) v gap to
     by (g, e, f) =
         let z : ◌≡◌ {A = ℚ × Status} (g, AtUpper) (gap, to) = cc in
@@ -107,15 +112,18 @@ rises limit up a lower (Some u) v gap to d h = by (then_ok (difference_run limit
         (record {
           entry = λ z. <ℚ_irrefl 0ℚ (subst (λ x. x <ℚ 0ℚ) (directed_zero up a z) d);
           lands =
-              λ r k. ap Some (sym (moved_is up v r a ∙ up_to v u r (directed up a) (ap (λ x. r *ℚ x) (sym (abs_falling up a d)) ∙ k ∙ sym same ∙ difference_ok limit u v g e)));
+              λ r k. ap Some (sym (moved_is up v r a ∙ up_to v u r (directed up a)
+              (ap (λ x. r *ℚ x) (sym (abs_falling up a d)) ∙ k ∙ sym same ∙ difference_ok limit u v g e)));
         })
 
 falls : (limit : Option ℕ) (up : Bool) (a : ℚ) (lower upper : Option ℚ) (v gap : ℚ) (to : Status) →
     0ℚ <ℚ directed up a → fall_run limit lower v ≡ Ok (Some (gap, to)) → IsGap up a lower upper v gap to
 falls limit up a None upper v gap to d h = cc
-falls limit up a (Some l) upper v gap to d h = by (then_ok (difference_run limit v l) (λ g. Ok (Some (g, AtLower))) (Some (gap, to)) h)
+falls limit up a (Some l) upper v gap to d h =
+    by (then_ok (difference_run limit v l) (λ g. Ok (Some (g, AtLower))) (Some (gap, to)) h)
   where
-    by : (g : ℚ) × (difference_run limit v l ≡ Ok g) × (◌≡◌ {A = Run (Option (ℚ × Status))} (Ok (Some (g, AtLower))) (Ok (Some (gap, to)))) →
+    by : (g : ℚ) × (difference_run limit v l ≡ Ok g)
+        × (◌≡◌ {A = Run (Option (ℚ × Status))} (Ok (Some (g, AtLower))) (Ok (Some (gap, to)))) →
         IsGap up a (Some l) upper v gap to
     by (g, e, f) =
         let z : ◌≡◌ {A = ℚ × Status} (g, AtLower) (gap, to) = cc in
@@ -125,7 +133,8 @@ falls limit up a (Some l) upper v gap to d h = by (then_ok (difference_run limit
         (record {
           entry = λ z. <ℚ_irrefl 0ℚ (subst (λ x. 0ℚ <ℚ x) (directed_zero up a z) d);
           lands =
-              λ r k. ap Some (sym (moved_is up v r a ∙ down_to v l r (directed up a) (ap (λ x. r *ℚ x) (sym (abs_rising up a d)) ∙ k ∙ sym same ∙ difference_ok limit v l g e)));
+              λ r k. ap Some (sym (moved_is up v r a ∙ down_to v l r (directed up a)
+              (ap (λ x. r *ℚ x) (sym (abs_rising up a d)) ∙ k ∙ sym same ∙ difference_ok limit v l g e)));
         })
 
 pub gap_is : (limit : Option ℕ) (up : Bool) (a : ℚ) (lower upper : Option ℚ) (v gap : ℚ) (to : Status) →
@@ -155,7 +164,8 @@ pub record HasBoth (t : Tableau) (j : ℕ) : Type 0 where
 pub record StopsAt (t : Tableau) (e : Entering) (r : ℚ) (to : Status) (i : ℕ) : Type 0 where
   pub place : i < t.rows
   pub entry : entry_at t i e.col ≢ 0ℚ
-  pub lands : NamesBound to (lower_at t (basic_at t i)) (upper_at t (basic_at t i)) (value_at t (basic_at t i) -ℚ directed e.up r *ℚ entry_at t i e.col)
+  pub lands : NamesBound to (lower_at t (basic_at t i)) (upper_at t (basic_at t i))
+      (value_at t (basic_at t i) -ℚ directed e.up r *ℚ entry_at t i e.col)
 
 abbrev pub StopsBy : Tableau → Entering → ℚ → Status → Option ℕ → Type 0
 StopsBy t e r to None = HasBoth t e.col
@@ -170,12 +180,17 @@ module _ (limit : Option ℕ) (t : Tableau) (e : Entering) where
       range_run limit e l u ≡ Ok best → IsBest t e best
   range_is None u best p q h = let z : None ≡ best = cc in subst (IsBest t e) z tt
   range_is (Some l) None best p q h = let z : None ≡ best = cc in subst (IsBest t e) z tt
-  range_is (Some l) (Some u) best p q h = by (then_ok (difference_run limit u l) (λ r. Ok (Some (record { ratio = r; col = e.col; place = None; to = other_bound e.up }))) best h)
+  range_is (Some l) (Some u) best p q h =
+      by (then_ok (difference_run limit u l)
+      (λ r. Ok (Some (record { ratio = r; col = e.col; place = None; to = other_bound e.up }))) best h)
     where
-      by : (r : ℚ) × (difference_run limit u l ≡ Ok r) × (◌≡◌ {A = Run (Option (Best ℚ))} (Ok (Some (record { ratio = r; col = e.col; place = None; to = other_bound e.up }))) (Ok best)) →
+      by : (r : ℚ) × (difference_run limit u l ≡ Ok r) × (◌≡◌ {A = Run (Option (Best ℚ))}
+          (Ok (Some (record { ratio = r; col = e.col; place = None; to = other_bound e.up }))) (Ok best)) →
           IsBest t e best
       by (r, f, g) =
-          let z : ◌≡◌ {A = Option (Best ℚ)} (Some (record { ratio = r; col = e.col; place = None; to = other_bound e.up })) best = cc in
+          let z : ◌≡◌ {A = Option (Best ℚ)}
+          (Some (record { ratio = r; col = e.col; place = None; to = other_bound e.up })) best =
+          cc in
           subst (IsBest t e) z (record { lower = (l, p); upper = (u, q) })
 
   one_of : (new old : Best ℚ) (o : Ordering) → IsBest t e (Some new) → IsBest t e (Some old) →
@@ -191,28 +206,41 @@ module _ (limit : Option ℕ) (t : Tableau) (e : Entering) where
   better_is : (new : Best ℚ) (old best : Option (Best ℚ)) → IsBest t e (Some new) → IsBest t e old →
       better_run limit new old ≡ Ok best → IsBest t e best
   better_is new None best p q h = let z : Some new ≡ best = cc in subst (IsBest t e) z p
-  better_is new (Some old) best p q h = by (then_ok (order_run limit new.ratio old.ratio) (λ o. Ok (Some (better_by new old o))) best h)
+  better_is new (Some old) best p q h =
+      by (then_ok (order_run limit new.ratio old.ratio) (λ o. Ok (Some (better_by new old o))) best h)
     where
-      by : (o : Ordering) × (order_run limit new.ratio old.ratio ≡ Ok o) × (◌≡◌ {A = Run (Option (Best ℚ))} (Ok (Some (better_by new old o))) (Ok best)) →
+      by : (o : Ordering) × (order_run limit new.ratio old.ratio ≡ Ok o)
+          × (◌≡◌ {A = Run (Option (Best ℚ))} (Ok (Some (better_by new old o))) (Ok best)) →
           IsBest t e best
       by (o, f, g) = let z : Some (better_by new old o) ≡ best = cc in subst (IsBest t e) z (one_of new old o p q)
 
   with_gap_is : (i : ℕ) (gap : Option (ℚ × Status)) (old best : Option (Best ℚ)) → i < t.rows
-      → gap_run limit e.up (entry_at t i e.col) (lower_at t (basic_at t i)) (upper_at t (basic_at t i)) (value_at t (basic_at t i)) ≡ Ok gap
+      → gap_run limit e.up (entry_at t i e.col) (lower_at t (basic_at t i))
+      (upper_at t (basic_at t i)) (value_at t (basic_at t i)) ≡ Ok gap
       → IsBest t e old → with_gap limit i (basic_at t i) (entry_at t i e.col) old gap ≡ Ok best → IsBest t e best
   with_gap_is i None old best l g q h = let z : old ≡ best = cc in subst (IsBest t e) z q
   with_gap_is i (Some (gap, to)) old best l g q h =
-      by (then_ok (quotient_run limit gap (abs_ℚ (entry_at t i e.col))) (λ r. better_run limit (record { ratio = r; col = basic_at t i; place = Some i; to = to }) old) best h)
+      by (then_ok (quotient_run limit gap (abs_ℚ (entry_at t i e.col)))
+      (λ r. better_run limit (record { ratio = r; col = basic_at t i; place = Some i; to = to }) old) best h)
     where
-      known : IsGap e.up (entry_at t i e.col) (lower_at t (basic_at t i)) (upper_at t (basic_at t i)) (value_at t (basic_at t i)) gap to
+      known : IsGap e.up (entry_at t i e.col) (lower_at t (basic_at t i))
+          (upper_at t (basic_at t i)) (value_at t (basic_at t i)) gap to
       known =
-          gap_is limit e.up (entry_at t i e.col) (lower_at t (basic_at t i)) (upper_at t (basic_at t i)) (value_at t (basic_at t i)) gap to g
+          gap_is limit e.up (entry_at t i e.col) (lower_at t (basic_at t i))
+          (upper_at t (basic_at t i)) (value_at t (basic_at t i)) gap to g
 
-      by : (r : ℚ) × (quotient_run limit gap (abs_ℚ (entry_at t i e.col)) ≡ Ok r) × (better_run limit (record { ratio = r; col = basic_at t i; place = Some i; to = to }) old ≡ Ok best) →
+      by : (r : ℚ) × (quotient_run limit gap (abs_ℚ (entry_at t i e.col)) ≡ Ok r)
+          × (better_run limit (record { ratio = r; col = basic_at t i; place = Some i; to = to }) old ≡ Ok best) →
           IsBest t e best
       by (r, f, k) =
           better_is (record { ratio = r; col = basic_at t i; place = Some i; to = to }) old best
-          (record { place = l; entry = known.entry; lands = known.lands r (quotient_ok limit gap (abs_ℚ (entry_at t i e.col)) r (abs_not_zero (entry_at t i e.col) known.entry) f) })
+          (record {
+            place = l;
+            entry = known.entry;
+            lands =
+                known.lands r (quotient_ok limit gap (abs_ℚ (entry_at t i e.col)) r
+                (abs_not_zero (entry_at t i e.col) known.entry) f);
+          })
           q k
 
   steps_are : (n : ℕ) (first best : Option (Best ℚ)) → n ≤ t.rows → IsBest t e first →
@@ -220,12 +248,16 @@ module _ (limit : Option ℕ) (t : Tableau) (e : Entering) where
   steps_are zero first best l p h = let z : first ≡ best = cc in subst (IsBest t e) z p
   steps_are (suc n) first best l p h =
       let b = then_ok (steps n (best_with limit t e) first) (λ b. best_with limit t e n b) best h in
-      let o = then_ok (gap_run limit e.up (entry_at t n e.col) (lower_at t (basic_at t n)) (upper_at t (basic_at t n)) (value_at t (basic_at t n))) (λ gap. with_gap limit n (basic_at t n) (entry_at t n e.col) b.0 gap) best b.2 in
+      let o =
+      then_ok (gap_run limit e.up (entry_at t n e.col) (lower_at t (basic_at t n)) (upper_at t (basic_at t n))
+      (value_at t (basic_at t n))) (λ gap. with_gap limit n (basic_at t n) (entry_at t n e.col) b.0 gap) best b.2 in
       with_gap_is n o.0 b.0 best (omega (arith, l)) o.1 (steps_are n first b.0 (omega (arith, l)) p b.1) o.2
 
   pub best_is : (best : Option (Best ℚ)) → best_run limit t e ≡ Ok best → IsBest t e best
   best_is best h =
-      let o = then_ok (range_run limit e (lower_at t e.col) (upper_at t e.col)) (λ first. steps t.rows (best_with limit t e) first) best h in
+      let o =
+      then_ok (range_run limit e (lower_at t e.col) (upper_at t e.col))
+      (λ first. steps t.rows (best_with limit t e) first) best h in
       steps_are t.rows o.0 best (omega arith) (range_is (lower_at t e.col) (upper_at t e.col) o.0 refl refl o.1) o.2
 
   -- a refusal at position i
@@ -234,4 +266,5 @@ module _ (limit : Option ℕ) (t : Tableau) (e : Entering) where
       steps i (best_with limit t e) first ≡ Ok best → i < t.rows → best_with limit t e i best ≡ Err p →
       best_run limit t e ≡ Err p
   best_refused i first best p h s l g =
-      ap (λ o. o >>= λ first. steps t.rows (best_with limit t e) first) h ∙ steps_stop i t.rows (best_with limit t e) first best p l s g
+      ap (λ o. o >>= λ first. steps t.rows (best_with limit t e) first) h
+      ∙ steps_stop i t.rows (best_with limit t e) first best p l s g

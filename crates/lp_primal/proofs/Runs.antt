@@ -1,5 +1,6 @@
 -- A run of steps by its first step.
-use Rattle.std.proofs.Common.{◌≡◌, ℕ, zero, suc, ◌+◌, ◌-◌, ◌<◌, ◌≤◌, Some, Option, Result, Ok, Err, refl, ap, ◌∙◌, arith}
+use Rattle.std.proofs.Common.{◌≡◌, ℕ, zero, suc, ◌+◌, ◌-◌, ◌<◌, ◌≤◌, Some}
+use Rattle.std.proofs.Common.{Option, Result, Ok, Err, refl, ap, ◌∙◌, arith}
 use Rattle.spec_exact.specs.Fraction.{ℚ}
 use Rattle.spec_exact.specs.declared.past.Past.{Past}
 use Rattle.spec_simplex.specs.declared.ends.PrimalEnd.{PrimalEnd}
@@ -52,7 +53,8 @@ module _ (limit : Option ℕ) where
   next_at t used next (Pivot p j theta to) n = refl
 
   goes_on : (left used : ℕ) (t : Tableau) (choice : Choice ℚ) → choice_run limit t ≡ Ok choice → GoesOn choice →
-      run_from limit (suc left) used t ≡ (refused_as stop.Past (done_run limit t choice) >>= λ u. run_from limit left (used + 1) u)
+      run_from limit (suc left) used t
+      ≡ (refused_as stop.Past (done_run limit t choice) >>= λ u. run_from limit left (used + 1) u)
   unfolding run_from
   goes_on left used t choice h n =
       ap (λ o. refused_as stop.Past o >>= end_or_next limit t used (λ u. run_from limit left (used + 1) u)) h

@@ -1,5 +1,6 @@
 -- Tests of fractions: by their signs, and of equality.
-use Rattle.std.proofs.Common.{◌≡◌, ◌↔◌, ℕ, ℤ, pos, int_lt, int_cmp, Ordering, Less, Equal, Greater, Option, Some, None, Ok, Bool, true, false, cond, IsTrue, [], ◌∷◌, refl, sym, ap, ap₂, ◌∙◌, arith}
+use Rattle.std.proofs.Common.{◌≡◌, ◌↔◌, ℕ, ℤ, pos, int_lt, int_cmp, Ordering, Less, Equal, Greater, Option, Some}
+use Rattle.std.proofs.Common.{None, Ok, Bool, true, false, cond, IsTrue, [], ◌∷◌, refl, sym, ap, ap₂, ◌∙◌, arith}
 use Rattle.std.proofs.lemmas.Int.{ints}
 use Rattle.spec_exact.specs.Fraction.{ℚ, 0ℚ, whole, lt_ℚ, eq_ℚ}
 use Rattle.spec_exact.specs.Limit.{sign}
@@ -40,12 +41,14 @@ greater_is n = by (int_lt n (pos 0)) (int_lt (pos 0) n) (λ e f. grind (arith, i
 pub negative_is : (v : ℚ) → int_lt v.num (pos 0) ≡ lt_ℚ v 0ℚ
 unfolding lt_ℚ whole
 negative_is v =
-    ap₂ int_lt (by_ring (v.num ∷ []) v0 (v0 ⊗ lit (pos 1)) refl) (by_ring (pos v.den ∷ []) (lit (pos 0)) (lit (pos 0) ⊗ v0) refl)
+    ap₂ int_lt (by_ring (v.num ∷ []) v0 (v0 ⊗ lit (pos 1)) refl)
+    (by_ring (pos v.den ∷ []) (lit (pos 0)) (lit (pos 0) ⊗ v0) refl)
 
 positive_is : (v : ℚ) → int_lt (pos 0) v.num ≡ lt_ℚ 0ℚ v
 unfolding lt_ℚ whole
 positive_is v =
-    ap₂ int_lt (by_ring (pos v.den ∷ []) (lit (pos 0)) (lit (pos 0) ⊗ v0) refl) (by_ring (v.num ∷ []) v0 (v0 ⊗ lit (pos 1)) refl)
+    ap₂ int_lt (by_ring (pos v.den ∷ []) (lit (pos 0)) (lit (pos 0) ⊗ v0) refl)
+    (by_ring (v.num ∷ []) v0 (v0 ⊗ lit (pos 1)) refl)
 
 -- by the sign, whether it is below and above 0
 pub below_zero : (v : ℚ) (o : Ordering) → o ≡ sign v → lt_ℚ v 0ℚ ≡ is_less o

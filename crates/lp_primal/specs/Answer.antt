@@ -36,7 +36,8 @@ abbrev pub StopsAt : ℕ → ℕ → Tableau → RunStop ℚ → Type 0
 StopsAt budget now t (Past p) = (choice_run (Some largest) t >>= done_run (Some largest) t) ≡ Err p
 StopsAt budget now t Spent = budget ≤ now
 
--- from t, before which `used` are counted, steps are made up to this stop, each is counted, and they are within the budget
+-- from t, before which `used` are counted, steps are made up to this stop, each is counted,
+-- and they are within the budget
 pub record StopsAfter (budget used : ℕ) (t : Tableau) (now : ℕ) (stop : RunStop ℚ) : Type 0 where
   pub count : ℕ
   pub last : Tableau

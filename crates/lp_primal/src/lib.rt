@@ -10,8 +10,6 @@ mod choice;
 mod entering;
 mod ratio;
 mod steps;
-#[cfg(test)]
-mod tests;
 
 pub use entering::{is_fixed, way};
 pub use ratio::{Best, Position, best_at, directed, range};

@@ -1,5 +1,6 @@
 -- The tableau of a basis, from its parts.
-use Rattle.std.proofs.Common.{◌≡◌, ℕ, zero, suc, ◌+◌, ◌<◌, List, ◌++◌, [], ◌∷◌, length, take, get_or, replicate, IfSome, Option, Some, None, Result, Ok, Err, false, cond, refl, sym, ap, ap₂, ◌∙◌, arith}
+use Rattle.std.proofs.Common.{◌≡◌, ℕ, zero, suc, ◌+◌, ◌<◌, List, ◌++◌, [], ◌∷◌, length, take, get_or, replicate}
+use Rattle.std.proofs.Common.{IfSome, Option, Some, None, Result, Ok, Err, false, cond, refl, sym, ap, ap₂, ◌∙◌, arith}
 use Rattle.std.specs.Prelude.{slice_set}
 use Rattle.std.proofs.Math.Seq.{take-append_seam}
 use Rattle.std.proofs.lemmas.List.{length-append, length-replicate}
@@ -18,7 +19,9 @@ use Rattle.spec_simplex.proofs.Stops.{steps_stop, length-made, All-made}
 use Rattle.spec_simplex.specs.Tableau.{is_basic}
 use Rattle.spec_simplex.specs.declared.ends.StartStop.{StartStop}
 use Rattle.spec_simplex.specs.declared.ends.StartStop.TheVariants as start
-use Rattle.spec_simplex.specs.Eliminate.{Elimination, equation, or_first, basis_status, basis_lower, basis_upper, basis_value, with_basis, eliminate_run, position_run, valued_run, with_values, filled_run, start_from}
+use Rattle.spec_simplex.specs.Eliminate.{Elimination, equation, or_first, basis_status, basis_lower}
+use Rattle.spec_simplex.specs.Eliminate.{basis_upper, basis_value, with_basis, eliminate_run}
+use Rattle.spec_simplex.specs.Eliminate.{position_run, valued_run, with_values, filled_run, start_from}
 use Rattle.lp_tableau.specs.declared.ends.BasisStop.{BasisStop}
 use Rattle.lp_tableau.specs.declared.ends.BasisStop.TheVariants as stop
 use Rattle.lp_tableau.specs.Grid.{IsGrid}
@@ -38,7 +41,8 @@ pub equations_are : (f : Form) (m : ℕ) (starts : List (RowStart ℚ)) → star
     made f.rows (start_row f starts) ≡ made f.rows (equation f)
 equations_are f m starts e =
     made_same f.rows (start_row f starts) (equation f)
-    (λ i. ap (λ s. made (f.cols + f.rows + f.rows) (start_entry f s i)) (ap (λ starts. start_at starts i) e ∙ all_within m i))
+    (λ i. ap (λ s. made (f.cols + f.rows + f.rows) (start_entry f s i))
+    (ap (λ starts. start_at starts i) e ∙ all_within m i))
 
 -- ---- the parts
 abbrev width_of : Form → ℕ
@@ -47,7 +51,8 @@ width_of f = f.cols + f.rows + f.rows
 more_by : {A : Type 0} (xs : List A) (n m : ℕ) (x : A) → length xs ≡ n → length (xs ++ replicate m x) ≡ n + m
 more_by xs n m x e = omega (arith, length-append xs (replicate m x), length-replicate m x, e)
 
-module _ (f : Form) (basis : List Status) (e : Elimination) (kept : IsForm f) (all : length basis ≡ f.cols + f.rows) (places : length e.basic ≡ f.rows) where
+module _ (f : Form) (basis : List Status) (e : Elimination) (kept : IsForm f)
+    (all : length basis ≡ f.cols + f.rows) (places : length e.basic ≡ f.rows) where
   pub statuses_length : length (basis_status f basis) ≡ width_of f
   statuses_length = more_by basis (f.cols + f.rows) f.rows AtLower all
 
@@ -70,7 +75,9 @@ module _ (f : Form) (basis : List Status) (e : Elimination) (kept : IsForm f) (a
     whole_rows = g.width;
     all_basic = length-made f.rows (λ i. or_first (get_or e.basic i None));
     in_range = All-made (λ k. k < width_of f) f.rows (λ i. or_first (get_or e.basic i None))
-        (λ i l. first_inside (get_or e.basic i None) (omega (arith, l)) (All-get_or (λ (o : Option ℕ). IfSome o (λ k. k < width_of f)) e.basic i None (omega (arith, l, places)) inside));
+        (λ i l. first_inside (get_or e.basic i None) (omega (arith, l))
+        (All-get_or (λ (o : Option ℕ). IfSome o (λ k. k < width_of f)) e.basic i None
+        (omega (arith, l, places)) inside));
     all_values = length-made (width_of f) (basis_value f basis);
     all_reduced = length-replicate (width_of f) 0ℚ;
     all_statuses = statuses_length;
@@ -78,18 +85,33 @@ module _ (f : Form) (basis : List Status) (e : Elimination) (kept : IsForm f) (a
     all_upper = uppers_length;
   }
 
-  values_are : (status : List Status) (lower upper : List (Option ℚ)) (value : List ℚ) → status ≡ basis_status f basis → lower ≡ basis_lower f → upper ≡ basis_upper f
+  values_are : (status : List Status) (lower upper : List (Option ℚ)) (value : List ℚ) →
+      status ≡ basis_status f basis → lower ≡ basis_lower f → upper ≡ basis_upper f
       → value ≡ made (length status) (stand_in status lower upper) → value ≡ made (width_of f) (basis_value f basis)
   values_are status lower upper value s l u v =
-      v ∙ ap₂ (λ n g. made n g) (ap length s ∙ statuses_length) (ap (λ status. stand_in status lower upper) s ∙ ap₂ (λ lower upper. stand_in (basis_status f basis) lower upper) l u)
+      v ∙ ap₂ (λ n g. made n g) (ap length s ∙ statuses_length) (ap (λ status. stand_in status lower upper) s
+      ∙ ap₂ (λ lower upper. stand_in (basis_status f basis) lower upper) l u)
 
   abbrev table : ℕ → ℕ → List ℕ → List ℚ → List ℚ → List Status → List (Option ℚ) → List (Option ℚ) → Tableau
   table rows cols basic value reduced status lower upper =
-      record { rows = rows; cols = cols; entries = e.rows; basic = basic; value = value; reduced = reduced; status = status; lower = lower; upper = upper }
+      record {
+        rows = rows;
+        cols = cols;
+        entries = e.rows;
+        basic = basic;
+        value = value;
+        reduced = reduced;
+        status = status;
+        lower = lower;
+        upper = upper;
+      }
 
-  pub based_is : (rows cols : ℕ) (basic : List ℕ) (value reduced : List ℚ) (status : List Status) (lower upper : List (Option ℚ))
-      → rows ≡ f.rows → cols ≡ f.cols → basic ≡ made (length e.basic) (λ i. or_first (get_or e.basic i None)) → value ≡ made (length status) (stand_in status lower upper) → reduced ≡ replicate (width_of f) 0ℚ
-      → status ≡ basis_status f basis → lower ≡ basis_lower f → upper ≡ basis_upper f → table rows cols basic value reduced status lower upper ≡ with_basis f basis e
+  pub based_is : (rows cols : ℕ) (basic : List ℕ) (value reduced : List ℚ)
+      (status : List Status) (lower upper : List (Option ℚ))
+      → rows ≡ f.rows → cols ≡ f.cols → basic ≡ made (length e.basic) (λ i. or_first (get_or e.basic i None)) →
+      value ≡ made (length status) (stand_in status lower upper) → reduced ≡ replicate (width_of f) 0ℚ
+      → status ≡ basis_status f basis → lower ≡ basis_lower f → upper ≡ basis_upper f →
+      table rows cols basic value reduced status lower upper ≡ with_basis f basis e
   based_is rows cols basic value reduced status lower upper r c b v d s l u =
       let w = values_are status lower upper value s l u v in
       let a = b ∙ ap (λ n. made n (λ i. or_first (get_or e.basic i None))) places in
@@ -100,10 +122,12 @@ module _ (limit : Option ℕ) (t : Tableau) where
   abbrev part : ℕ → ℕ → ℚ → Run ℚ
   part i k v = cond (is_basic (status_at t k)) (Ok v) (less_product limit (entry_at t i k) (value_at t k) v)
 
-  pub position_stops : (i k : ℕ) (v : ℚ) (e : Past ℚ) → k < all_columns t → steps k (part i) 0ℚ ≡ Ok v → is_basic (status_at t k) ≡ false
+  pub position_stops : (i k : ℕ) (v : ℚ) (e : Past ℚ) → k < all_columns t →
+      steps k (part i) 0ℚ ≡ Ok v → is_basic (status_at t k) ≡ false
       → less_product limit (entry_at t i k) (value_at t k) v ≡ Err e → position_run limit t i ≡ Err e
   position_stops i k v e l s n h =
-      steps_stop k (all_columns t) (part i) 0ℚ v e l s (ap (λ b. cond b (Ok v) (less_product limit (entry_at t i k) (value_at t k) v)) n ∙ h)
+      steps_stop k (all_columns t) (part i) 0ℚ v e l s
+      (ap (λ b. cond b (Ok v) (less_product limit (entry_at t i k) (value_at t k) v)) n ∙ h)
 
   abbrev fill_at : ℕ → List ℚ → Run (List ℚ)
   fill_at i values = position_run limit t i >>= λ v. Ok (slice_set values (basic_at t i) v)
@@ -155,7 +179,8 @@ module _ (limit : Option ℕ) (f : Form) (basis : List Status) where
     by_values (Err x) stop.Singular g h =
         let z : ◌≡◌ {A = Result (List ℚ) (StartStop ℚ)} (Err (start.Past x)) (Err start.Singular) = h in cc
     by_values (Err x) (stop.Past p) g h =
-        let z : ◌≡◌ {A = Result Tableau (StartStop ℚ)} (Err (start.Past x)) (Err (start.Past p)) = (let y : ◌≡◌ {A = Result (List ℚ) (StartStop ℚ)} (Err (start.Past x)) (Err (start.Past p)) = h in cc) in
+        let z : ◌≡◌ {A = Result Tableau (StartStop ℚ)} (Err (start.Past x)) (Err (start.Past p)) =
+        (let y : ◌≡◌ {A = Result (List ℚ) (StartStop ℚ)} (Err (start.Past x)) (Err (start.Past p)) = h in cc) in
         from_rows ∙ ap (λ o. refused_as start.Past (after_values o)) g ∙ z
     by_values o stop.NoMemory g h = tt
 
@@ -164,10 +189,12 @@ module _ (limit : Option ℕ) (f : Form) (basis : List Status) where
     values_stop s h = by_values (valued_run limit t) s refl h
 
     module _ (values costs : List ℚ) (v : valued_run limit t ≡ Ok values) (c : costs ≡ f.cost) where
-      from_values : start_from limit f basis ≡ refused_as start.Past (priced_run limit t costs >>= λ reduced. Ok (with_reduced (with_values t values) reduced))
+      from_values : start_from limit f basis ≡ refused_as start.Past
+          (priced_run limit t costs >>= λ reduced. Ok (with_reduced (with_values t values) reduced))
       from_values =
           from_rows ∙ ap (λ o. refused_as start.Past (after_values o)) v
-          ∙ ap (λ costs. refused_as start.Past (priced_run limit t costs >>= λ reduced. Ok (with_reduced (with_values t values) reduced))) (sym c)
+          ∙ ap (λ costs. refused_as start.Past
+          (priced_run limit t costs >>= λ reduced. Ok (with_reduced (with_values t values) reduced))) (sym c)
 
       abbrev last : Run (List ℚ) → Result Tableau (StartStop ℚ)
       last o = refused_as start.Past (o >>= λ reduced. Ok (with_reduced (with_values t values) reduced))

@@ -1,10 +1,13 @@
 -- The tableau that a form begins with, from its parts.
-use Rattle.std.proofs.Common.{◌≡◌, ℕ, zero, suc, ◌+◌, ◌-◌, ◌*◌, ◌<◌, ◌≤◌, List, [], ◌∷◌, ◌++◌, length, take, drop, map, replicate, Option, Some, Ok, Err, Bool, true, false, cond, refl, sym, subst, subst₂, ap, ap₂, ◌∙◌, arith, append_assoc, ⊎_elim, nat_eq, ne_eqb}
+use Rattle.std.proofs.Common.{◌≡◌, ℕ, zero, suc, ◌+◌, ◌-◌, ◌*◌, ◌<◌, ◌≤◌, List, [], ◌∷◌, ◌++◌, length, take}
+use Rattle.std.proofs.Common.{drop, map, replicate, Option, Some, Ok, Err, Bool, true, false, cond, refl}
+use Rattle.std.proofs.Common.{sym, subst, subst₂, ap, ap₂, ◌∙◌, arith, append_assoc, ⊎_elim, nat_eq, ne_eqb}
 use Rattle.std.proofs.Math.Nat.{zero-mul, suc-mul}
 use Rattle.std.proofs.Math.Seq.{take-length}
 use Rattle.std.specs.Prelude.{All}
 use Rattle.std.proofs.lemmas.Bool.{cases_eq, eq-eqb, le-ltb, lt-ltb}
-use Rattle.std.proofs.lemmas.List.{get_or-map, length-append, length-drop, length-map, length-replicate, take-append-le, drop-append-le}
+use Rattle.std.proofs.lemmas.List.{get_or-map, length-append, length-drop, length-map}
+use Rattle.std.proofs.lemmas.List.{length-replicate, take-append-le, drop-append-le}
 use Rattle.spec_exact.specs.Fraction.{ℚ, 0ℚ, 1ℚ}
 use Rattle.spec_exact.proofs.Ruleset.{neg-neg, neg-zero}
 use Rattle.spec_exact.specs.declared.past.Past.{Past}
@@ -14,7 +17,9 @@ use Rattle.spec_simplex.specs.declared.ends.RowStart.TheVariants.{Within, Below,
 use Rattle.spec_simplex.specs.Run.{Run, ◌>>=◌, list_run, made}
 use Rattle.spec_simplex.specs.Form.{Form, IsForm, form_entry}
 use Rattle.spec_simplex.specs.Tableau.{Tableau, IsTableauShape}
-use Rattle.spec_simplex.specs.Start.{row_start, first_costs, priced_run, with_reduced, start_of, begun, start_row, start_basic, start_entry, start_value, start_status, start_at, is_wanting, artificial_upper, one_at, logical_sign, structural_entry}
+use Rattle.spec_simplex.specs.Start.{row_start, first_costs, priced_run, with_reduced, start_of, begun}
+use Rattle.spec_simplex.specs.Start.{start_row, start_basic, start_entry, start_value, start_status, start_at}
+use Rattle.spec_simplex.specs.Start.{is_wanting, artificial_upper, one_at, logical_sign, structural_entry}
 use Rattle.spec_simplex.proofs.Stops.{length-made, All-made, get_or-made}
 use Rattle.lp_tableau.specs.Grid.{rows_of, flat, IsBlock}
 use Rattle.lp_tableau.specs.Begun.{is_below, start_front}
@@ -37,12 +42,14 @@ rows_of-append n zero (x ∷ xs) ys h g = absurd (omega (arith, h, zero-mul n))
 rows_of-append n (suc m) xs ys h g =
     let l : n ≤ length xs = omega (arith, h, suc-mul m n) in
     ap₂ (λ row rest. row ∷ rows_of n (suc m) rest) (take-append-le n xs ys l) (drop-append-le n xs ys l)
-    ∙ ap (λ rows. take n xs ∷ rows) (rows_of-append n m (drop n xs) ys (omega (arith, length-drop n xs, h, suc-mul m n)) g)
+    ∙ ap (λ rows. take n xs ∷ rows)
+    (rows_of-append n m (drop n xs) ys (omega (arith, length-drop n xs, h, suc-mul m n)) g)
 
 pub rows_of-flat : (n m : ℕ) (f : ℕ → List ℚ) → ((i : ℕ) → length (f i) ≡ n) → rows_of n m (flat m f) ≡ made m f
 rows_of-flat n zero f h = refl
 rows_of-flat n (suc m) f h =
-    rows_of-append n m (flat m f) (f m) (length-flat n m f h) (h m) ∙ ap (λ rows. rows ++ f m ∷ []) (rows_of-flat n m f h)
+    rows_of-append n m (flat m f) (f m) (length-flat n m f h) (h m)
+    ∙ ap (λ rows. rows ++ f m ∷ []) (rows_of-flat n m f h)
 
 -- ---- the tableau
 abbrev pub width_of : Form → ℕ
@@ -78,18 +85,31 @@ begun_shape f starts g e =
           All-made (λ row. length row ≡ width_of f) f.rows (start_row f starts) (λ i l. length-start_row f starts i);
       all_basic = length-made f.rows (start_basic f starts);
       in_range =
-          All-made (λ k. k < width_of f) f.rows (start_basic f starts) (λ i l. basic_inside f i (is_wanting (start_at starts i)) l);
+          All-made (λ k. k < width_of f) f.rows (start_basic f starts)
+          (λ i l. basic_inside f i (is_wanting (start_at starts i)) l);
       all_values = length-made (width_of f) (start_value f starts);
       all_reduced = length-replicate (width_of f) 0ℚ;
       all_statuses = length-made (width_of f) (start_status f starts);
       all_lower =
-          omega (arith, length-append f.lower (replicate f.rows (Some 0ℚ)), length-replicate {A = Option ℚ} f.rows (Some 0ℚ), g.all_lower);
+          omega (
+            arith,
+            length-append f.lower (replicate f.rows (Some 0ℚ)),
+            length-replicate {A = Option ℚ} f.rows (Some 0ℚ),
+            g.all_lower,
+          );
       all_upper =
-          omega (arith, length-append f.upper (map artificial_upper starts), length-map starts artificial_upper, g.all_upper, e);
+          omega (
+            arith,
+            length-append f.upper (map artificial_upper starts),
+            length-map starts artificial_upper,
+            g.all_upper,
+            e,
+          );
     }
 
 -- ---- the rows of the block, with their twins, are those of the tableau
-module _ (f : Form) (starts : List (RowStart ℚ)) (w m : ℕ) (xs : List ℚ) (a : w ≡ f.cols + f.rows) (b : m ≡ f.rows) (e : xs ≡ flat f.rows (start_front f starts)) where
+module _ (f : Form) (starts : List (RowStart ℚ)) (w m : ℕ) (xs : List ℚ)
+    (a : w ≡ f.cols + f.rows) (b : m ≡ f.rows) (e : xs ≡ flat f.rows (start_front f starts)) where
   pub grid_is : rows_of w m xs ≡ made f.rows (start_front f starts)
   grid_is =
       ap₂ (λ n m. rows_of n m xs) a b ∙ ap (rows_of (f.cols + f.rows) f.rows) e
@@ -162,38 +182,47 @@ module _ (f : Form) (starts : List (RowStart ℚ)) (l : length starts ≡ f.rows
   logical_is : (r : ℕ) → r < f.rows → start_entry f start i (f.cols + r) ≡ one_at i r (logical_sign start)
   logical_is r h =
       let z : (f.cols + r) - f.cols ≡ r = omega arith in
-      ap₂ (λ b d. cond b (structural_entry start (form_entry f i (f.cols + r))) (cond d (one_at i (f.cols + r - f.cols) (logical_sign start)) (one_at i (f.cols + r - (f.cols + f.rows)) 1ℚ)))
+      ap₂ (λ b d. cond b (structural_entry start (form_entry f i (f.cols + r)))
+      (cond d (one_at i (f.cols + r - f.cols) (logical_sign start)) (one_at i (f.cols + r - (f.cols + f.rows)) 1ℚ)))
       (le-ltb (f.cols + r) f.cols (omega arith)) (lt-ltb (f.cols + r) (f.cols + f.rows) (omega (arith, h)))
       ∙ ap (λ k. one_at i k (logical_sign start)) z
 
   artificial_is : (r : ℕ) → start_entry f start i (f.cols + f.rows + r) ≡ one_at i r 1ℚ
   artificial_is r =
       let z : (f.cols + f.rows + r) - (f.cols + f.rows) ≡ r = omega arith in
-      ap₂ (λ b d. cond b (structural_entry start (form_entry f i (f.cols + f.rows + r))) (cond d (one_at i (f.cols + f.rows + r - f.cols) (logical_sign start)) (one_at i (f.cols + f.rows + r - (f.cols + f.rows)) 1ℚ)))
+      ap₂ (λ b d. cond b (structural_entry start (form_entry f i (f.cols + f.rows + r)))
+      (cond d (one_at i (f.cols + f.rows + r - f.cols) (logical_sign start))
+      (one_at i (f.cols + f.rows + r - (f.cols + f.rows)) 1ℚ)))
       (le-ltb (f.cols + f.rows + r) f.cols (omega arith)) (le-ltb (f.cols + f.rows + r) (f.cols + f.rows) (omega arith))
       ∙ ap (λ k. one_at i k 1ℚ) z
 
   twin_is : (r : ℕ) → r < f.rows →
       twin f.cols (map is_below starts) (start_front f starts i) r ≡ start_entry f start i (f.cols + f.rows + r)
   twin_is r h =
-      ap₂ signed (get_or-map is_below starts r (Within 0ℚ) false (omega (arith, h, l))) (get_or-made (f.cols + f.rows) (start_entry f start i) (f.cols + r) 0ℚ (omega (arith, h)) ∙ logical_is r h)
+      ap₂ signed (get_or-map is_below starts r (Within 0ℚ) false (omega (arith, h, l)))
+      (get_or-made (f.cols + f.rows) (start_entry f start i) (f.cols + r) 0ℚ (omega (arith, h)) ∙ logical_is r h)
       ∙ one_is starts i r ∙ sym (artificial_is r)
 
   front_twins : with_twins f.cols (map is_below starts) (start_front f starts i) ≡ start_row f starts i
   front_twins =
       ap (λ xs. start_front f starts i ++ xs)
       (ap (λ n. made n (twin f.cols (map is_below starts) (start_front f starts i))) (length-map starts is_below ∙ l)
-      ∙ made_same f.rows (twin f.cols (map is_below starts) (start_front f starts i)) (λ r. start_entry f start i (f.cols + f.rows + r)) twin_is)
+      ∙ made_same f.rows (twin f.cols (map is_below starts) (start_front f starts i))
+      (λ r. start_entry f start i (f.cols + f.rows + r)) twin_is)
       ∙ sym (made_parts (f.cols + f.rows) f.rows (start_entry f start i))
 
-pub twins_are : (f : Form) (starts : List (RowStart ℚ)) (c : ℕ) (turned : List Bool) (grid : List (List ℚ)) → length starts ≡ f.rows → c ≡ f.cols → turned ≡ map is_below starts → grid ≡ made f.rows (start_front f starts) →
+pub twins_are : (f : Form) (starts : List (RowStart ℚ)) (c : ℕ) (turned : List Bool) (grid : List (List ℚ)) →
+    length starts ≡ f.rows → c ≡ f.cols → turned ≡ map is_below starts → grid ≡ made f.rows (start_front f starts) →
     twinned c turned grid ≡ made f.rows (start_row f starts)
 twins_are f starts c turned grid l ec et eg =
     ap₂ (λ k t. twinned k t grid) ec et ∙ ap (twinned f.cols (map is_below starts)) eg
     ∙ twinned_made f.cols (map is_below starts) f.rows (start_front f starts)
-    ∙ made_same f.rows (λ i. with_twins f.cols (map is_below starts) (start_front f starts i)) (start_row f starts) (λ i h. front_twins f starts l i)
+    ∙ made_same f.rows (λ i. with_twins f.cols (map is_below starts) (start_front f starts i))
+    (start_row f starts) (λ i h. front_twins f starts l i)
 
-pub is_twinned : (f : Form) (starts : List (RowStart ℚ)) (c m : ℕ) (turned : List Bool) (grid : List (List ℚ)) → IsForm f → length starts ≡ f.rows → c ≡ f.cols → m ≡ f.rows → turned ≡ map is_below starts → grid ≡ made f.rows (start_front f starts) →
+pub is_twinned : (f : Form) (starts : List (RowStart ℚ)) (c m : ℕ) (turned : List Bool) (grid : List (List ℚ)) →
+    IsForm f → length starts ≡ f.rows → c ≡ f.cols → m ≡ f.rows →
+    turned ≡ map is_below starts → grid ≡ made f.rows (start_front f starts) →
     IsTwinned c m turned grid
 is_twinned f starts c m turned grid g l ec em et eg =
     record {
@@ -203,15 +232,29 @@ is_twinned f starts c m turned grid g l ec em et eg =
       grid = record {
         height = ap length eg ∙ length-made f.rows (start_front f starts) ∙ sym em;
         width =
-            subst (All (λ row. length row ≡ c + m)) (sym eg) (All-made (λ row. length row ≡ c + m) f.rows (start_front f starts) (λ i h. length-start_front f starts i ∙ sym (ap₂ (λ x y. x + y) ec em)));
+            subst (All (λ row. length row ≡ c + m)) (sym eg) (All-made (λ row. length row ≡ c + m) f.rows
+            (start_front f starts) (λ i h. length-start_front f starts i ∙ sym (ap₂ (λ x y. x + y) ec em)));
       };
     }
 
-pub begun_is : (f : Form) (starts : List (RowStart ℚ)) (rows cols : ℕ) (entries : List (List ℚ)) (basic : List ℕ) (value reduced : List ℚ) (status : List Status) (lower upper : List (Option ℚ))
-    → rows ≡ f.rows → cols ≡ f.cols → entries ≡ made f.rows (start_row f starts) → basic ≡ made f.rows (start_basic f starts)
-    → value ≡ made (width_of f) (start_value f starts) → reduced ≡ replicate (width_of f) 0ℚ → status ≡ made (width_of f) (start_status f starts)
+pub begun_is : (f : Form) (starts : List (RowStart ℚ)) (rows cols : ℕ) (entries : List (List ℚ))
+    (basic : List ℕ) (value reduced : List ℚ) (status : List Status) (lower upper : List (Option ℚ))
+    → rows ≡ f.rows → cols ≡ f.cols → entries ≡ made f.rows (start_row f starts) →
+    basic ≡ made f.rows (start_basic f starts)
+    → value ≡ made (width_of f) (start_value f starts) →
+    reduced ≡ replicate (width_of f) 0ℚ → status ≡ made (width_of f) (start_status f starts)
     → lower ≡ f.lower ++ replicate f.rows (Some 0ℚ) → upper ≡ f.upper ++ map artificial_upper starts
-    → record { rows = rows; cols = cols; entries = entries; basic = basic; value = value; reduced = reduced; status = status; lower = lower; upper = upper } ≡ begun f starts
+    → record {
+      rows = rows;
+      cols = cols;
+      entries = entries;
+      basic = basic;
+      value = value;
+      reduced = reduced;
+      status = status;
+      lower = lower;
+      upper = upper;
+    } ≡ begun f starts
 begun_is f starts rows cols entries basic value reduced status lower upper a b c d e g h i j = cc
 
 -- ---- the start
@@ -225,11 +268,14 @@ module _ (limit : Option ℕ) (f : Form) where
   rows_stop (cold.Past p) h = ap (λ o. o >>= after_rows) h
   rows_stop cold.NoMemory h = tt
 
-  module _ (starts : List (RowStart ℚ)) (t : Tableau) (costs : List ℚ) (r : list_run f.rows (row_start limit f) ≡ Ok starts) (b : t ≡ begun f starts) (c : costs ≡ first_costs f starts) where
+  module _ (starts : List (RowStart ℚ)) (t : Tableau) (costs : List ℚ)
+      (r : list_run f.rows (row_start limit f) ≡ Ok starts)
+      (b : t ≡ begun f starts) (c : costs ≡ first_costs f starts) where
     from_rows : start_of limit f ≡ (priced_run limit t costs >>= λ reduced. Ok (with_reduced t reduced))
     unfolding start_of
     from_rows =
-        ap (λ o. o >>= after_rows) r ∙ sym (ap₂ (λ u cs. priced_run limit u cs >>= λ reduced. Ok (with_reduced u reduced)) b c)
+        ap (λ o. o >>= after_rows) r
+        ∙ sym (ap₂ (λ u cs. priced_run limit u cs >>= λ reduced. Ok (with_reduced u reduced)) b c)
 
     pub price_stops : (e : Past ℚ) → priced_run limit t costs ≡ Err e → start_of limit f ≡ Err e
     price_stops e h = from_rows ∙ ap (λ o. o >>= λ reduced. Ok (with_reduced t reduced)) h

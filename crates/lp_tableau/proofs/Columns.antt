@@ -1,5 +1,6 @@
 -- The coefficients of a form's columns, put into rows of zeros.
-use Rattle.std.proofs.Common.{◌≡◌, ◌≢◌, ℕ, ◌+◌, ◌*◌, ◌<◌, ◌≤◌, List, [], ◌∷◌, length, replicate, get_or, cond, ne_eqb, sym, subst, ap, ◌∙◌, arith, ⊎_elim}
+use Rattle.std.proofs.Common.{◌≡◌, ◌≢◌, ℕ, ◌+◌, ◌*◌, ◌<◌, ◌≤◌, List, [], ◌∷◌, length, replicate}
+use Rattle.std.proofs.Common.{get_or, cond, ne_eqb, sym, subst, ap, ◌∙◌, arith, ⊎_elim}
 use Rattle.std.proofs.Math.ListN.{set}
 use Rattle.std.proofs.lemmas.Bool.{cases_eq, cases_lt, eq-eqb}
 use Rattle.std.proofs.lemmas.List.{get_or-set_same, get_or-set_other, get_or-replicate, length-replicate}
@@ -17,7 +18,8 @@ use Rattle.lp_tableau.proofs.Rows.{length-rows_of, at-rows_of, inside, row_width
 module _ (rows : List (List ℚ)) (p k : ℕ) (v : ℚ) (h : p < length rows) where
   item_put : k < length (get_or rows p []) → at_place (with_item rows p k v) p k ≡ v
   item_put l =
-      ap (λ row. get_or row k 0ℚ) (get_or-set_same rows p (set (get_or rows p []) k v) [] h) ∙ get_or-set_same (get_or rows p []) k v 0ℚ l
+      ap (λ row. get_or row k 0ℚ) (get_or-set_same rows p (set (get_or rows p []) k v) [] h)
+      ∙ get_or-set_same (get_or rows p []) k v 0ℚ l
 
   row_stays : (i l : ℕ) → i ≢ p → at_place (with_item rows p k v) i l ≡ at_place rows i l
   row_stays i l n = ap (λ row. get_or row l 0ℚ) (get_or-set_other rows p i (set (get_or rows p []) k v) [] n)
@@ -26,7 +28,8 @@ module _ (rows : List (List ℚ)) (p k : ℕ) (v : ℚ) (h : p < length rows) wh
   column_stays i l n =
       ⊎_elim
       (λ (e : i ≡ p). subst (λ q. at_place (with_item rows p k v) q l ≡ at_place rows q l) (sym e)
-      (ap (λ row. get_or row l 0ℚ) (get_or-set_same rows p (set (get_or rows p []) k v) [] h) ∙ get_or-set_other (get_or rows p []) k l v 0ℚ n))
+      (ap (λ row. get_or row l 0ℚ) (get_or-set_same rows p (set (get_or rows p []) k v) [] h)
+      ∙ get_or-set_other (get_or rows p []) k l v 0ℚ n))
       (λ (e : i ≢ p). row_stays i l e)
       (cases_eq i p)
 
@@ -53,15 +56,19 @@ one_put f j entries rows r v l h o =
     record {
       shape = grid_set f.rows f.cols rows r j v o.shape h;
       done =
-          λ i k g m. column_stays rows r j v inside_r i k (λ e. absurd (let z : ⊥ = omega (arith, m, e) in z)) ∙ o.done i k g m;
+          λ i k g m. column_stays rows r j v inside_r i k (λ e. absurd (let z : ⊥ = omega (arith, m, e) in z))
+          ∙ o.done i k g m;
       column = λ i g.
           ⊎_elim
-          (λ (e : r ≡ i). subst (λ q. at_place (with_item rows r j v) q j ≡ v) e (item_put rows r j v inside_r (omega (arith, l, grid_row f.rows f.cols rows r o.shape h)))
+          (λ (e : r ≡ i). subst (λ q. at_place (with_item rows r j v) q j ≡ v) e
+          (item_put rows r j v inside_r (omega (arith, l, grid_row f.rows f.cols rows r o.shape h)))
           ∙ sym (ap (λ b. cond b v (entry_of entries i)) (eq-eqb r i e)))
-          (λ (n : r ≢ i). row_stays rows r j v inside_r i j (λ e. n (sym e)) ∙ o.column i g ∙ sym (ap (λ b. cond b v (entry_of entries i)) (ne_eqb r i n)))
+          (λ (n : r ≢ i). row_stays rows r j v inside_r i j (λ e. n (sym e))
+          ∙ o.column i g ∙ sym (ap (λ b. cond b v (entry_of entries i)) (ne_eqb r i n)))
           (cases_eq r i);
       rest =
-          λ i k g m. λ n. column_stays rows r j v inside_r i k (λ e. absurd (let z : ⊥ = omega (arith, m, e) in z)) ∙ o.rest i k g m n;
+          λ i k g m. λ n. column_stays rows r j v inside_r i k (λ e. absurd (let z : ⊥ = omega (arith, m, e) in z))
+          ∙ o.rest i k g m n;
     }
 
 pub all_put : (f : Form) (j : ℕ) (rows : List (List ℚ)) → HoldsPart f j (get_or f.entries j []) rows →
@@ -93,9 +100,11 @@ module _ (f : Form) (g : IsForm f) (xs : List ℚ) (e : xs ≡ replicate (f.rows
         shape = record {
           height = length-rows_of f.cols f.rows xs;
           width =
-              All-from_get_or (λ row. length row ≡ f.cols) (rows_of f.cols f.rows xs) [] (λ i h. row_width f.cols f.rows i xs (omega (arith, h, length-rows_of f.cols f.rows xs)) size);
+              All-from_get_or (λ row. length row ≡ f.cols) (rows_of f.cols f.rows xs) []
+              (λ i h. row_width f.cols f.rows i xs (omega (arith, h, length-rows_of f.cols f.rows xs)) size);
         };
         done = λ i k h l. absurd (let z : ⊥ = omega (arith, l) in z);
         rest =
-            λ i k h l m. at-rows_of f.cols f.rows i k xs h m ∙ ap (λ ys. get_or ys (i * f.cols + k) 0ℚ) e ∙ get_or-replicate (f.rows * f.cols) (i * f.cols + k) 0ℚ 0ℚ (inside f.cols f.rows i k h m);
+            λ i k h l m. at-rows_of f.cols f.rows i k xs h m ∙ ap (λ ys. get_or ys (i * f.cols + k) 0ℚ) e
+            ∙ get_or-replicate (f.rows * f.cols) (i * f.cols + k) 0ℚ 0ℚ (inside f.cols f.rows i k h m);
       }

@@ -1,8 +1,10 @@
 -- Lists whose items are replaced one after the other, from the start, and rows among rows.
-use Rattle.std.proofs.Common.{◌≡◌, ◌≢◌, ℕ, ◌+◌, ◌<◌, ◌≤◌, List, [], length, take, drop, get_or, Ok, Err, refl, sym, ap, ◌∙◌, subst, arith}
+use Rattle.std.proofs.Common.{◌≡◌, ◌≢◌, ℕ, ◌+◌, ◌<◌, ◌≤◌, List, [], length, take}
+use Rattle.std.proofs.Common.{drop, get_or, Ok, Err, refl, sym, ap, ◌∙◌, subst, arith}
 use Rattle.std.proofs.Math.ListN.{set}
 use Rattle.std.proofs.Math.Seq.{take-length}
-use Rattle.std.proofs.lemmas.List.{get_or_default, take_more_set, drop-set-lt, drop-drop, set-get_or, set-set, get_or-set_same, get_or-set_other, get_or-drop, length-set}
+use Rattle.std.proofs.lemmas.List.{get_or_default, take_more_set, drop-set-lt, drop-drop, set-get_or}
+use Rattle.std.proofs.lemmas.List.{set-set, get_or-set_same, get_or-set_other, get_or-drop, length-set}
 use Rattle.std.proofs.lemmas.List.Elements.{All-set, All-get_or}
 use Rattle.spec_exact.specs.Fraction.{ℚ, 0ℚ}
 use Rattle.spec_exact.specs.declared.past.Past.{Past}
@@ -39,7 +41,8 @@ all_done n f old new d e = d.done ∙ ap Ok (ap (λ k. take k new) (sym (d.len �
 pub as_before : (k : ℕ) (f : ℕ → Run ℚ) (old new : List ℚ) → IsDone k f old new → get_or new k 0ℚ ≡ get_or old k 0ℚ
 as_before k f old new d =
     let z : k + 0 ≡ k = omega arith in
-    ap (λ i. get_or new i 0ℚ) (sym z) ∙ sym (get_or-drop k new 0 0ℚ) ∙ ap (λ xs. get_or xs 0 0ℚ) d.rest ∙ get_or-drop k old 0 0ℚ ∙ ap (λ i. get_or old i 0ℚ) z
+    ap (λ i. get_or new i 0ℚ) (sym z) ∙ sym (get_or-drop k new 0 0ℚ)
+    ∙ ap (λ xs. get_or xs 0 0ℚ) d.rest ∙ get_or-drop k old 0 0ℚ ∙ ap (λ i. get_or old i 0ℚ) z
 
 -- ---- a row among rows
 pub record IsRowDone (p k : ℕ) (f : ℕ → Run ℚ) (old new : List (List ℚ)) : Type 0 where
@@ -60,7 +63,8 @@ one_row_done p k f old new v d h l e =
     let same : get_or (set new p r) p [] ≡ r = get_or-set_same new p r [] h in
     record {
       row =
-          subst (IsDone (k + 1) f (get_or old p [])) (sym same) (one_done k f (get_or old p []) (get_or new p []) v d.row l e);
+          subst (IsDone (k + 1) f (get_or old p [])) (sym same)
+          (one_done k f (get_or old p []) (get_or new p []) v d.row l e);
       frame =
           ap (λ rows. set rows p r) d.frame ∙ set-set old p (get_or new p []) r ∙ ap (λ row. set old p row) (sym same);
     }
@@ -69,7 +73,8 @@ one_row_done p k f old new v d h l e =
 pub row_all_done : (p n : ℕ) (f : ℕ → Run ℚ) (old new : List (List ℚ)) → IsRowDone p n f old new →
     length (get_or old p []) ≡ n → (list_run n f >>= λ row. Ok (set old p row)) ≡ Ok new
 row_all_done p n f old new d e =
-    ap (λ o. o >>= λ row. Ok (set old p row)) (all_done n f (get_or old p []) (get_or new p []) d.row e) ∙ ap Ok (sym d.frame)
+    ap (λ o. o >>= λ row. Ok (set old p row)) (all_done n f (get_or old p []) (get_or new p []) d.row e)
+    ∙ ap Ok (sym d.frame)
 
 pub row_stops : (p k n : ℕ) (f : ℕ → Run ℚ) (old new : List (List ℚ)) (e : Past ℚ) → IsRowDone p k f old new → k < n →
     f k ≡ Err e → (list_run n f >>= λ row. Ok (set old p row)) ≡ Err e
@@ -107,7 +112,8 @@ grid_set m n rows i k v g h =
     record {
       height = length-set rows i (set (get_or rows i []) k v) ∙ g.height;
       width =
-          All-set (λ row. length row ≡ n) rows i (set (get_or rows i []) k v) (length-set (get_or rows i []) k v ∙ grid_row m n rows i g h) g.width;
+          All-set (λ row. length row ≡ n) rows i (set (get_or rows i []) k v)
+          (length-set (get_or rows i []) k v ∙ grid_row m n rows i g h) g.width;
     }
 
 -- the end of a loop

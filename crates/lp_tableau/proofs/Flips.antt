@@ -15,23 +15,29 @@ module _ (limit : Option ℕ) (t : Tableau) (j : ℕ) where
   pub range_stops : (e : Past ℚ) → range ≡ Err e → flip_run limit t j ≡ Err e
   unfolding flip_run
   range_stops e h =
-      ap (λ o. o >>= λ range. moved_run limit t j (directed (flip_way (status_at t j)) range) None >>= λ values. Ok (flipped t j (other_bound (flip_way (status_at t j))) values)) h
+      ap (λ o. o >>= λ range. moved_run limit t j (directed (flip_way (status_at t j)) range) None >>=
+      λ values. Ok (flipped t j (other_bound (flip_way (status_at t j))) values)) h
 
   module _ (r : ℚ) (h : range ≡ Ok r) (up : Bool) (w : up ≡ flip_way (status_at t j)) where
-    from_range : flip_run limit t j ≡ (moved_run limit t j (directed up r) None >>= λ values. Ok (flipped t j (other_bound up) values))
+    from_range : flip_run limit t j
+        ≡ (moved_run limit t j (directed up r) None >>= λ values. Ok (flipped t j (other_bound up) values))
     unfolding flip_run
     from_range =
-        ap (λ o. o >>= λ range. moved_run limit t j (directed (flip_way (status_at t j)) range) None >>= λ values. Ok (flipped t j (other_bound (flip_way (status_at t j))) values)) h
-        ∙ ap (λ b. moved_run limit t j (directed b r) None >>= λ values. Ok (flipped t j (other_bound b) values)) (sym w)
+        ap (λ o. o >>= λ range. moved_run limit t j (directed (flip_way (status_at t j)) range) None >>=
+        λ values. Ok (flipped t j (other_bound (flip_way (status_at t j))) values)) h
+        ∙ ap (λ b. moved_run limit t j (directed b r) None >>= λ values. Ok (flipped t j (other_bound b) values))
+        (sym w)
 
     pub flip_stops : (theta : ℚ) (e : Past ℚ) → theta ≡ directed up r → moved_run limit t j theta None ≡ Err e →
         flip_run limit t j ≡ Err e
     flip_stops theta e d m =
-        from_range ∙ ap (λ o. o >>= λ values. Ok (flipped t j (other_bound up) values)) (ap (λ q. moved_run limit t j q None) (sym d) ∙ m)
+        from_range ∙ ap (λ o. o >>= λ values. Ok (flipped t j (other_bound up) values))
+        (ap (λ q. moved_run limit t j q None) (sym d) ∙ m)
 
     pub flip_made : (theta : ℚ) (to : Status) (u z : Tableau) → theta ≡ directed up r → to ≡ other_bound up →
         moved_run limit t j theta None ≡ Ok u.value → MovedFrom t u → z ≡ flipped u j to u.value →
         flip_run limit t j ≡ Ok z
     flip_made theta to u z d b m f e =
-        from_range ∙ ap (λ o. o >>= λ values. Ok (flipped t j (other_bound up) values)) (ap (λ q. moved_run limit t j q None) (sym d) ∙ m)
+        from_range ∙ ap (λ o. o >>= λ values. Ok (flipped t j (other_bound up) values))
+        (ap (λ q. moved_run limit t j q None) (sym d) ∙ m)
         ∙ ap (λ s. Ok (flipped t j s u.value)) (sym b) ∙ ap (λ x. Ok (flipped x j to u.value)) (sym f) ∙ ap Ok (sym e)

@@ -1,5 +1,6 @@
 -- The basic columns that move with one that is not basic.
-use Rattle.std.proofs.Common.{◌≡◌, ℕ, ◌+◌, ◌<◌, ◌≤◌, List, Option, Ok, Err, true, false, cond, sym, subst, ap, ◌∙◌, arith}
+use Rattle.std.proofs.Common.{◌≡◌, ℕ, ◌+◌, ◌<◌, ◌≤◌, List, Option, Ok, Err}
+use Rattle.std.proofs.Common.{true, false, cond, sym, subst, ap, ◌∙◌, arith}
 use Rattle.spec_exact.specs.Fraction.{ℚ}
 use Rattle.spec_exact.specs.declared.past.Past.{Past}
 use Rattle.spec_simplex.specs.Run.{Run, steps}

@@ -30,17 +30,23 @@ pub phase_two_gives : (limit : Option ℕ) (f : Form) (t u x : Tableau) (costs :
     GivesRun (phase_two_run limit f t) x r
 unfolding phase_two_run
 phase_two_gives limit f t u x costs (Ok v) e g h k =
-    let priced : priced_run limit (without_artificials t) f.cost ≡ Ok x.reduced = subst (λ w. priced_run limit w f.cost ≡ Ok x.reduced) e (subst (λ c. priced_run limit u c ≡ Ok x.reduced) g h) in
-    ap (λ o. o >>= λ reduced. Ok (with_reduced (without_artificials t) reduced)) priced ∙ ap Ok (sym (k ∙ ap (λ w. with_reduced w x.reduced) e))
+    let priced : priced_run limit (without_artificials t) f.cost ≡ Ok x.reduced =
+    subst (λ w. priced_run limit w f.cost ≡ Ok x.reduced) e (subst (λ c. priced_run limit u c ≡ Ok x.reduced) g h) in
+    ap (λ o. o >>= λ reduced. Ok (with_reduced (without_artificials t) reduced)) priced
+    ∙ ap Ok (sym (k ∙ ap (λ w. with_reduced w x.reduced) e))
 phase_two_gives limit f t u x costs (Err p) e g h k =
-    let priced : priced_run limit (without_artificials t) f.cost ≡ Err p = subst (λ w. priced_run limit w f.cost ≡ Err p) e (subst (λ c. priced_run limit u c ≡ Err p) g h) in
+    let priced : priced_run limit (without_artificials t) f.cost ≡ Err p =
+    subst (λ w. priced_run limit w f.cost ≡ Err p) e (subst (λ c. priced_run limit u c ≡ Err p) g h) in
     ap (λ o. o >>= λ reduced. Ok (with_reduced (without_artificials t) reduced)) priced
 
 -- a basic column of no cost is passed over
 abbrev pub less_basic : Tableau → List ℚ → ℕ → ℕ → ℚ → Run ℚ
 less_basic t costs k i d = less_product (Some largest) (cost_at costs (basic_at t i)) (entry_at t i k) d
 
-pub free_passed : (t : Tableau) (costs : List ℚ) (k i : ℕ) (d : ℚ) → steps i (less_basic t costs k) (cost_at costs k) ≡ Ok d → cost_at costs (basic_at t i) ≡ 0ℚ → IsWithin largest (entry_at t i k) → IsWithin largest d →
+pub free_passed : (t : Tableau) (costs : List ℚ) (k i : ℕ) (d : ℚ) →
+    steps i (less_basic t costs k) (cost_at costs k) ≡ Ok d →
+    cost_at costs (basic_at t i) ≡ 0ℚ → IsWithin largest (entry_at t i k) → IsWithin largest d →
     steps (i + 1) (less_basic t costs k) (cost_at costs k) ≡ Ok d
 free_passed t costs k i d h e v w =
-    steps_more i (less_basic t costs k) (cost_at costs k) d d h (less_no_times largest (cost_at costs (basic_at t i)) (entry_at t i k) d e v w)
+    steps_more i (less_basic t costs k) (cost_at costs k) d d h
+    (less_no_times largest (cost_at costs (basic_at t i)) (entry_at t i k) d e v w)

@@ -1,9 +1,11 @@
 -- The rows of a block.
-use Rattle.std.proofs.Common.{◌≡◌, ℕ, zero, suc, ◌+◌, ◌*◌, ◌<◌, ◌≤◌, List, [], ◌∷◌, length, take, drop, get_or, refl, sym, subst, ap, ap₂, ◌∙◌, arith}
+use Rattle.std.proofs.Common.{◌≡◌, ℕ, zero, suc, ◌+◌, ◌*◌, ◌<◌, ◌≤◌, List, [], ◌∷◌, length}
+use Rattle.std.proofs.Common.{take, drop, get_or, refl, sym, subst, ap, ap₂, ◌∙◌, arith}
 use Rattle.std.proofs.Math.ListN.{set}
 use Rattle.std.proofs.Math.Nat.{zero-mul, suc-mul, mul-le-mul_right}
 use Rattle.std.proofs.Math.Seq.{take-set-lt}
-use Rattle.std.proofs.lemmas.List.{drop-drop, drop-set-lt, drop-set-add, take-set-le, length-take-le, length-drop, get_or-take, get_or-drop}
+use Rattle.std.proofs.lemmas.List.{drop-drop, drop-set-lt, drop-set-add, take-set-le}
+use Rattle.std.proofs.lemmas.List.{length-take-le, length-drop, get_or-take, get_or-drop}
 use Rattle.spec_exact.specs.Fraction.{ℚ, 0ℚ, whole}
 use Rattle.spec_simplex.specs.Tableau.{at_place}
 use Rattle.std.proofs.Common.{⊎_elim}
@@ -27,12 +29,14 @@ pub row-rows_of : (n m i : ℕ) (xs : List ℚ) → i < m → get_or (rows_of n 
 row-rows_of n zero i xs h = absurd (omega arith)
 row-rows_of n (suc m) zero xs h = ap (λ k. take n (drop k xs)) (sym (zero-mul n))
 row-rows_of n (suc m) (suc i) xs h =
-    row-rows_of n m i (drop n xs) (omega arith) ∙ ap (take n) (drop-drop (i * n) n xs ∙ ap (λ k. drop k xs) (next_at n i))
+    row-rows_of n m i (drop n xs) (omega arith)
+    ∙ ap (take n) (drop-drop (i * n) n xs ∙ ap (λ k. drop k xs) (next_at n i))
 
 -- what stands in row i at column k
 pub at-rows_of : (n m i k : ℕ) (xs : List ℚ) → i < m → k < n → at_place (rows_of n m xs) i k ≡ get_or xs (i * n + k) 0ℚ
 at-rows_of n m i k xs h l =
-    ap (λ row. get_or row k 0ℚ) (row-rows_of n m i xs h) ∙ get_or-take n (drop (i * n) xs) k 0ℚ l ∙ get_or-drop (i * n) xs k 0ℚ
+    ap (λ row. get_or row k 0ℚ) (row-rows_of n m i xs h)
+    ∙ get_or-take n (drop (i * n) xs) k 0ℚ l ∙ get_or-drop (i * n) xs k 0ℚ
 
 -- a place of the block is a place of its row
 pub inside : (n m i k : ℕ) → i < m → k < n → i * n + k < m * n
@@ -47,11 +51,13 @@ pub set-rows_of : (n m i k : ℕ) (xs : List ℚ) (v : ℚ) → i < m → k < n 
 set-rows_of n zero i k xs v h l = absurd (omega arith)
 set-rows_of n (suc m) zero k xs v h l =
     let e : zero * n + k ≡ k = omega (arith, zero-mul n) in
-    ap (λ j. rows_of n (suc m) (set xs j v)) e ∙ ap₂ (λ row rows. row ∷ rows_of n m rows) (take-set-lt n xs k v l) (drop-set-lt n xs k v l)
+    ap (λ j. rows_of n (suc m) (set xs j v)) e
+    ∙ ap₂ (λ row rows. row ∷ rows_of n m rows) (take-set-lt n xs k v l) (drop-set-lt n xs k v l)
 set-rows_of n (suc m) (suc i) k xs v h l =
     let e : suc i * n + k ≡ n + (i * n + k) = omega (arith, suc-mul i n) in
     ap (λ j. rows_of n (suc m) (set xs j v)) e
-    ∙ ap₂ (λ row rows. row ∷ rows_of n m rows) (take-set-le n xs (n + (i * n + k)) v (omega arith)) (drop-set-add n xs (i * n + k) v)
+    ∙ ap₂ (λ row rows. row ∷ rows_of n m rows)
+    (take-set-le n xs (n + (i * n + k)) v (omega arith)) (drop-set-add n xs (i * n + k) v)
     ∙ ap (λ rows. take n xs ∷ rows) (set-rows_of n m i k (drop n xs) v (omega arith) l)
 
 -- all rows are as wide as the block asks for
@@ -59,7 +65,8 @@ pub row_width : (n m i : ℕ) (xs : List ℚ) → i < m → length xs ≡ m * n 
 row_width n m i xs h e =
     let s : suc i * n ≡ i * n + n = suc-mul i n in
     let g : suc i * n ≤ m * n = mul-le-mul_right n (omega arith) in
-    ap length (row-rows_of n m i xs h) ∙ length-take-le n (drop (i * n) xs) (omega (arith, length-drop (i * n) xs, s, g, e))
+    ap length (row-rows_of n m i xs h)
+    ∙ length-take-le n (drop (i * n) xs) (omega (arith, length-drop (i * n) xs, s, g, e))
 
 -- the place in a block of what stands in row i at column k
 pub record IsPlace (n m i k : ℕ) (xs : List ℚ) : Type 0 where
@@ -68,7 +75,8 @@ pub record IsPlace (n m i k : ℕ) (xs : List ℚ) : Type 0 where
   pub inside : i * n + k < length xs
 
 -- in a block that is seen as these rows
-module _ (n m i k : ℕ) (xs : List ℚ) (rows : List (List ℚ)) (e : rows_of n m xs ≡ rows) (b : IsBlock m n xs) (h : i < length rows) (l : k < length (get_or rows i [])) where
+module _ (n m i k : ℕ) (xs : List ℚ) (rows : List (List ℚ)) (e : rows_of n m xs ≡ rows)
+    (b : IsBlock m n xs) (h : i < length rows) (l : k < length (get_or rows i [])) where
   row_in : i < m
   row_in = omega (arith, h, length-rows_of n m xs, ap length e)
 
@@ -97,7 +105,8 @@ zero_within = record { num_fits = omega arith; den_fits = omega arith }
 
 pub within_item : (xs : List ℚ) (k : ℕ) → All (IsWithin largest) xs → IsWithin largest (get_or xs k 0ℚ)
 within_item xs k h =
-    ⊎_elim (λ l. All-get_or (IsWithin largest) xs k 0ℚ l h) (λ g. subst (IsWithin largest) (sym (get_or_past xs k 0ℚ g)) zero_within) (cases_lt k (length xs))
+    ⊎_elim (λ l. All-get_or (IsWithin largest) xs k 0ℚ l h)
+    (λ g. subst (IsWithin largest) (sym (get_or_past xs k 0ℚ g)) zero_within) (cases_lt k (length xs))
 
 within_rows : (n m : ℕ) (xs : List ℚ) (i k : ℕ) → All (IsWithin largest) xs →
     IsWithin largest (at_place (rows_of n m xs) i k)

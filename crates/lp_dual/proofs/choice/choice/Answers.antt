@@ -13,9 +13,12 @@ cheapest-requires c =
 
 pub returns-in-Some-2-clause-possible : goal.returns-in-Some-2-clause-possible
 returns-in-Some-2-clause-possible c =
-    subst₂ (λ i to. CanEnter c.args.tab.now i c.in-Some-2.best.col to) (sym c.place-place.ensures) (sym c.passed_bound.ensures)
-    (can_enter (Some largest) c.args.tab.now c.requires c.in-Some.out (sym c.in_ok-out.ensures ∙ ap Ok c.in-Some.is) c.in-Some-2.best
-    (ap (λ i. cheapest_run (Some largest) c.args.tab.now i c.in-Some.out.below) (sym c.place-place.ensures) ∙ sym c.in_ok-cheapest.ensures ∙ ap Ok c.in-Some-2.is))
+    subst₂ (λ i to. CanEnter c.args.tab.now i c.in-Some-2.best.col to)
+    (sym c.place-place.ensures) (sym c.passed_bound.ensures)
+    (can_enter (Some largest) c.args.tab.now c.requires c.in-Some.out
+    (sym c.in_ok-out.ensures ∙ ap Ok c.in-Some.is) c.in-Some-2.best
+    (ap (λ i. cheapest_run (Some largest) c.args.tab.now i c.in-Some.out.below) (sym c.place-place.ensures)
+    ∙ sym c.in_ok-cheapest.ensures ∙ ap Ok c.in-Some-2.is))
 
 pub returns-in-None-clause-possible : goal.returns-in-None-clause-possible
 returns-in-None-clause-possible c =

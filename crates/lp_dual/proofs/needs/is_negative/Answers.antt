@@ -8,4 +8,5 @@ returns-in-Less c = sym (below_zero _ Less (sym c.in-Less.is ∙ c.sign.ensures)
 
 pub returns-in-Equal : goal.returns-in-Equal
 returns-in-Equal c =
-    ⊎_elim (λ e. sym (below_zero _ Equal (sym e ∙ c.sign.ensures))) (λ e. sym (below_zero _ Greater (sym e ∙ c.sign.ensures))) c.in-Equal.is
+    ⊎_elim (λ e. sym (below_zero _ Equal (sym e ∙ c.sign.ensures)))
+    (λ e. sym (below_zero _ Greater (sym e ∙ c.sign.ensures))) c.in-Equal.is

@@ -8,4 +8,5 @@ returns-in-Greater c = sym (above_zero _ Greater (sym c.in-Greater.is ∙ c.sign
 
 pub returns-in-Less : goal.returns-in-Less
 returns-in-Less c =
-    ⊎_elim (λ e. sym (above_zero _ Less (sym e ∙ c.sign.ensures))) (λ e. sym (above_zero _ Equal (sym e ∙ c.sign.ensures))) c.in-Less.is
+    ⊎_elim (λ e. sym (above_zero _ Less (sym e ∙ c.sign.ensures)))
+    (λ e. sym (above_zero _ Equal (sym e ∙ c.sign.ensures))) c.in-Less.is

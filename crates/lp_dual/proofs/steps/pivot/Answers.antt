@@ -6,6 +6,9 @@ use Rattle.lp_dual.proofs.steps.pivot.Goals as goal
 
 pub pivot-requires : goal.pivot-requires
 pivot-requires c =
-    let gap = rw (c.stand.ensures, c.value.ensures, c.lower.ensures, c.upper.ensures, c.basic-out.ensures.value) at c.in_ok-gap.ensures in
+    let gap =
+    rw (c.stand.ensures, c.value.ensures, c.lower.ensures, c.upper.ensures, c.basic-out.ensures.value)
+    at c.in_ok-gap.ensures in
     let theta = rw (c.entry.ensures) at c.in_ok-theta.ensures in
-    can_pivot (Some largest) c.args.tab.now c.args.place c.args.col c.args.to c.in_ok-gap.gap c.in_ok-theta.theta c.requires (sym gap) (sym theta)
+    can_pivot (Some largest) c.args.tab.now c.args.place c.args.col c.args.to
+    c.in_ok-gap.gap c.in_ok-theta.theta c.requires (sym gap) (sym theta)

@@ -21,15 +21,20 @@ returns-in-End-clause-inside c = subst (CanTake c.loop-end.tab) c.in-End.is c.in
 
 pub returns-then-used-budget-clause-runs : goal.returns-then-used-budget-clause-runs
 returns-then-used-budget-clause-runs c =
-    c.loop-end.invariant.0 ∙ run_spent (Some largest) _ _ _ _ _ _ (sym c.in_ok-end.ensures.value ∙ ap Ok c.in-Pivot.is) (omega (arith, c.if-used-budget.true))
+    c.loop-end.invariant.0 ∙ run_spent (Some largest) _ _ _ _ _ _
+    (sym c.in_ok-end.ensures.value ∙ ap Ok c.in-Pivot.is) (omega (arith, c.if-used-budget.true))
 
 pub returns-in_err-pivot-in-Pivot-clause-runs : goal.returns-in_err-pivot-in-Pivot-clause-runs
 returns-in_err-pivot-in-Pivot-clause-runs c =
-    let p = err_from_is_err_and c.from_residual-in_err-pivot-in-Pivot.result c.from_residual-in_err-pivot-in-Pivot.ensures.1 in
-    rw (p.1, p.2) (c.loop-end.invariant.0 ∙ step_refused (Some largest) _ _ _ _ _ _ (sym c.in_ok-end.ensures.value ∙ ap Ok c.in-Pivot.is) c.if-used-budget.false _ c.in_err-pivot-in-Pivot.ensures)
+    let p =
+    err_from_is_err_and c.from_residual-in_err-pivot-in-Pivot.result c.from_residual-in_err-pivot-in-Pivot.ensures.1 in
+    rw (p.1, p.2) (c.loop-end.invariant.0 ∙ step_refused (Some largest) _ _ _ _ _ _
+    (sym c.in_ok-end.ensures.value ∙ ap Ok c.in-Pivot.is) c.if-used-budget.false _ c.in_err-pivot-in-Pivot.ensures)
 
 pub loop-end-preserved : goal.loop-end-preserved
 loop-end-preserved c = (
-  c.loop-end.invariant.0 ∙ step_done (Some largest) _ _ _ _ _ _ (sym c.in_ok-end.ensures.value ∙ ap Ok c.in-Pivot.is) c.if-used-budget.false _ c.in_ok-pivot-in-Pivot.ensures,
-  pivot_seated (Some largest) c.loop-end.tab _ _ _ _ c.loop-end.invariant.1 (subst (CanTake c.loop-end.tab) c.in-Pivot.is c.in_ok-end.ensures.possible) c.in_ok-pivot-in-Pivot.ensures,
+  c.loop-end.invariant.0 ∙ step_done (Some largest) _ _ _ _ _ _
+      (sym c.in_ok-end.ensures.value ∙ ap Ok c.in-Pivot.is) c.if-used-budget.false _ c.in_ok-pivot-in-Pivot.ensures,
+  pivot_seated (Some largest) c.loop-end.tab _ _ _ _ c.loop-end.invariant.1
+      (subst (CanTake c.loop-end.tab) c.in-Pivot.is c.in_ok-end.ensures.possible) c.in_ok-pivot-in-Pivot.ensures,
 )

@@ -8,7 +8,8 @@ use Rattle.lp_dual.proofs.steps.steps.Given as goal
 -- what is left of the run is the same run, and each basic column has a position
 abbrev pub invariant-loop-end : goal.invariant-loop-end
 invariant-loop-end l =
-    (dual_from (Some largest) (l.budget - l.fn.used) l.fn.used l.fn.tab ≡ dual_from (Some largest) (l.budget - l.used) l.used l.tab) × IsSeated l.tab
+    (dual_from (Some largest) (l.budget - l.fn.used) l.fn.used l.fn.tab
+    ≡ dual_from (Some largest) (l.budget - l.used) l.used l.tab) × IsSeated l.tab
 
 abbrev pub decreases-loop-end : goal.decreases-loop-end
 decreases-loop-end l = l.budget - l.used

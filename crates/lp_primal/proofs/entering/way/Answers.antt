@@ -25,4 +25,5 @@ returns-in-AtUpper c =
 pub returns-in-Basic-status : goal.returns-in-Basic-status
 returns-in-Basic-status c =
     let d = way_is c.args.status c.args.reduced Greater (sym c.in-Greater.is ∙ c.sign.ensures) in
-    ⊎_elim (λ e. ap (λ s. way_of s Greater) (sym e) ∙ d) (λ e. ap (λ s. way_of s Greater) (sym e) ∙ d) c.in-Basic-status.is
+    ⊎_elim (λ e. ap (λ s. way_of s Greater) (sym e) ∙ d)
+    (λ e. ap (λ s. way_of s Greater) (sym e) ∙ d) c.in-Basic-status.is

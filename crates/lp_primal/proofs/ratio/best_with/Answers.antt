@@ -7,6 +7,8 @@ use Rattle.lp_primal.proofs.ratio.best_with.Goals as goal
 pub returns : goal.returns
 returns c =
     c.best_at.ensures
-    ∙ position_is c.args.tab.now c.args.e c.args.i c.args.best c.basic-col.result c.entry.result c.lower.result c.upper.result c.value.result c.basic-col.ensures.value c.entry.ensures
-    (c.lower.ensures ∙ ap (lower_at c.args.tab.now) c.basic-col.ensures.value) (c.upper.ensures ∙ ap (upper_at c.args.tab.now) c.basic-col.ensures.value)
+    ∙ position_is c.args.tab.now c.args.e c.args.i c.args.best c.basic-col.result c.entry.result
+    c.lower.result c.upper.result c.value.result c.basic-col.ensures.value c.entry.ensures
+    (c.lower.ensures ∙ ap (lower_at c.args.tab.now) c.basic-col.ensures.value)
+    (c.upper.ensures ∙ ap (upper_at c.args.tab.now) c.basic-col.ensures.value)
     (c.value.ensures ∙ ap (value_at c.args.tab.now) c.basic-col.ensures.value)
