@@ -1,10 +1,12 @@
 -- An operation with the negative of an operand gives the negative, and is refused where that without it is.
-use Rattle.std.proofs.Common.{◌≡◌, ℕ, ◌*◌, ◌/◌, Option, Some, None, Ok, Err, Bool, true, false, ◌&&◌, cond, ℤ, pos, neg_ℤ, ◌+ℤ◌, ◌*ℤ◌, int_div, unsigned_abs, [], ◌∷◌, refl, sym, ap, ap₂, ◌∙◌}
+use Rattle.std.proofs.Common.{◌≡◌, ℕ, ◌*◌, ◌/◌, Option, Some, None, Ok, Err, Bool, true, false, ◌&&◌, cond, ℤ}
+use Rattle.std.proofs.Common.{pos, neg_ℤ, ◌+ℤ◌, ◌*ℤ◌, int_div, unsigned_abs, [], ◌∷◌, refl, sym, ap, ap₂, ◌∙◌}
 use Rattle.std.proofs.lemmas.Int.{unsigned_abs-mul}
 use Rattle.spec_exact.specs.Gcd.{gcd}
 use Rattle.spec_exact.specs.Quotients.{abs-int_div, abs-neg_ℤ}
 use Rattle.spec_exact.specs.Fraction.{ℚ, ◌+ℚ◌, ◌*ℚ◌, neg_ℚ, inverse}
-use Rattle.spec_exact.specs.Limit.{fits, left_num, right_num, whole_sum, sum_fits, product_num, product_den, product_fits, add, sub, mul, div}
+use Rattle.spec_exact.specs.Limit.{fits, left_num, right_num, whole_sum, sum_fits}
+use Rattle.spec_exact.specs.Limit.{product_num, product_den, product_fits, add, sub, mul, div}
 use Rattle.spec_exact.specs.Answer.{told}
 use Rattle.spec_exact.specs.declared.past.Op.{Op}
 use Rattle.spec_exact.specs.declared.past.Op.TheVariants.{Mul, Sub, Div}
@@ -17,9 +19,11 @@ use Rattle.spec_simplex.specs.Run.{Run, ◌>>=◌, product_run, difference_run, 
 
 -- ---- products
 product_size : (a : ℤ) (b : ℕ) (c : ℤ) (d : ℕ) →
-    unsigned_abs (product_num a b c d) ≡ unsigned_abs a / gcd (unsigned_abs a) d * (unsigned_abs c / gcd (unsigned_abs c) b)
+    unsigned_abs (product_num a b c d)
+    ≡ unsigned_abs a / gcd (unsigned_abs a) d * (unsigned_abs c / gcd (unsigned_abs c) b)
 product_size a b c d =
-    unsigned_abs-mul (int_div a (pos (gcd (unsigned_abs a) d))) (int_div c (pos (gcd (unsigned_abs c) b))) ∙ ap₂ (λ (m n : ℕ). m * n) (abs-int_div a _) (abs-int_div c _)
+    unsigned_abs-mul (int_div a (pos (gcd (unsigned_abs a) d))) (int_div c (pos (gcd (unsigned_abs c) b)))
+    ∙ ap₂ (λ (m n : ℕ). m * n) (abs-int_div a _) (abs-int_div c _)
 
 abbrev size_fits : Option ℕ → ℕ → ℕ → ℕ → ℕ → Bool
 size_fits limit a b c d = fits limit (a / gcd a d * (c / gcd c b)) && fits limit (b / gcd c b * (d / gcd a d))
@@ -47,14 +51,16 @@ mul_right_neg : (limit : Option ℕ) (v w : ℚ) → mul limit v (neg_ℚ w) ≡
 unfolding neg_ℚ
 mul_right_neg limit v w =
     mul_is limit v (neg_ℚ w)
-    ∙ ap₂ (λ (n : ℕ) (x : ℚ). cond (size_fits limit (unsigned_abs v.num) v.den n w.den) (Some x) None) (abs-neg_ℤ w.num) (*ℚ-neg v w)
+    ∙ ap₂ (λ (n : ℕ) (x : ℚ). cond (size_fits limit (unsigned_abs v.num) v.den n w.den) (Some x) None)
+    (abs-neg_ℤ w.num) (*ℚ-neg v w)
     ∙ sym (negated_cond _ (v *ℚ w)) ∙ ap negated (sym (mul_is limit v w))
 
 mul_left_neg : (limit : Option ℕ) (v w : ℚ) → mul limit (neg_ℚ v) w ≡ negated (mul limit v w)
 unfolding neg_ℚ
 mul_left_neg limit v w =
     mul_is limit (neg_ℚ v) w
-    ∙ ap₂ (λ (n : ℕ) (x : ℚ). cond (size_fits limit n v.den (unsigned_abs w.num) w.den) (Some x) None) (abs-neg_ℤ v.num) (neg-*ℚ v w)
+    ∙ ap₂ (λ (n : ℕ) (x : ℚ). cond (size_fits limit n v.den (unsigned_abs w.num) w.den) (Some x) None)
+    (abs-neg_ℤ v.num) (neg-*ℚ v w)
     ∙ sym (negated_cond _ (v *ℚ w)) ∙ ap negated (sym (mul_is limit v w))
 
 -- ---- differences
@@ -63,7 +69,8 @@ sum_sizes limit l r s b d =
     fits limit l && fits limit r && fits limit s && fits limit (b / gcd b d * (d / gcd s (gcd b d)))
 
 sum_fits_by : (limit : Option ℕ) (a : ℤ) (b : ℕ) (c : ℤ) (d : ℕ) →
-    sum_fits limit a b c d ≡ sum_sizes limit (unsigned_abs (left_num a b c d)) (unsigned_abs (right_num a b c d)) (unsigned_abs (whole_sum a b c d)) b d
+    sum_fits limit a b c d ≡ sum_sizes limit (unsigned_abs (left_num a b c d))
+    (unsigned_abs (right_num a b c d)) (unsigned_abs (whole_sum a b c d)) b d
 sum_fits_by limit a b c d = refl
 
 left_neg : (a : ℤ) (k : ℕ) → unsigned_abs (neg_ℤ a *ℤ pos k) ≡ unsigned_abs (a *ℤ pos k)
@@ -72,15 +79,18 @@ left_neg a k = unsigned_abs-mul (neg_ℤ a) (pos k) ∙ ap (λ n. n * k) (abs-ne
 whole_neg : (a c : ℤ) (m k : ℕ) →
     unsigned_abs (neg_ℤ a *ℤ pos m +ℤ neg_ℤ c *ℤ pos k) ≡ unsigned_abs (a *ℤ pos m +ℤ c *ℤ pos k)
 whole_neg a c m k =
-    ap unsigned_abs (by_ring (a ∷ c ∷ pos m ∷ pos k ∷ []) (minus v0 ⊗ v2 ⊕ minus v1 ⊗ v3) (minus (v0 ⊗ v2 ⊕ v1 ⊗ v3)) refl)
+    ap unsigned_abs
+    (by_ring (a ∷ c ∷ pos m ∷ pos k ∷ []) (minus v0 ⊗ v2 ⊕ minus v1 ⊗ v3) (minus (v0 ⊗ v2 ⊕ v1 ⊗ v3)) refl)
     ∙ abs-neg_ℤ (a *ℤ pos m +ℤ c *ℤ pos k)
 
 sum_fits_neg : (limit : Option ℕ) (a : ℤ) (b : ℕ) (c : ℤ) (d : ℕ) →
     sum_fits limit (neg_ℤ a) b (neg_ℤ c) d ≡ sum_fits limit a b c d
 sum_fits_neg limit a b c d =
     sum_fits_by limit (neg_ℤ a) b (neg_ℤ c) d
-    ∙ ap₂ (λ (l r : ℕ). sum_sizes limit l r (unsigned_abs (whole_sum (neg_ℤ a) b (neg_ℤ c) d)) b d) (left_neg a (d / gcd b d)) (left_neg c (b / gcd b d))
-    ∙ ap (λ (s : ℕ). sum_sizes limit (unsigned_abs (left_num a b c d)) (unsigned_abs (right_num a b c d)) s b d) (whole_neg a c (d / gcd b d) (b / gcd b d))
+    ∙ ap₂ (λ (l r : ℕ). sum_sizes limit l r (unsigned_abs (whole_sum (neg_ℤ a) b (neg_ℤ c) d)) b d)
+    (left_neg a (d / gcd b d)) (left_neg c (b / gcd b d))
+    ∙ ap (λ (s : ℕ). sum_sizes limit (unsigned_abs (left_num a b c d)) (unsigned_abs (right_num a b c d)) s b d)
+    (whole_neg a c (d / gcd b d) (b / gcd b d))
 
 add_is : (limit : Option ℕ) (v w : ℚ) →
     add limit v w ≡ cond (sum_fits limit v.num v.den w.num w.den) (Some (v +ℚ w)) None

@@ -1,5 +1,7 @@
 -- The elimination, column by column.
-use Rattle.std.proofs.Common.{◌≡◌, ◌≢◌, ℕ, zero, suc, ◌+◌, ◌-◌, ◌<◌, List, length, get_or, replicate, IfSome, Option, Some, None, Result, Ok, Err, Bool, true, false, not, ◌&&◌, cond, refl, sym, ap, ap₂, ◌∙◌, subst, arith}
+use Rattle.std.proofs.Common.{◌≡◌, ◌≢◌, ℕ, zero, suc, ◌+◌, ◌-◌, ◌<◌, List, length, get_or}
+use Rattle.std.proofs.Common.{replicate, IfSome, Option, Some, None, Result, Ok, Err, Bool, true}
+use Rattle.std.proofs.Common.{false, not, ◌&&◌, cond, refl, sym, ap, ap₂, ◌∙◌, subst, arith}
 use Rattle.std.specs.Prelude.{slice_set}
 use Rattle.std.proofs.lemmas.List.{length-replicate}
 use Rattle.std.proofs.lemmas.List.Elements.{All-nil, All-cons, All-set}
@@ -17,7 +19,8 @@ use Rattle.spec_simplex.proofs.Stops.{steps_more, steps_stop, length-made, All-m
 use Rattle.spec_simplex.specs.Tableau.{is_basic}
 use Rattle.spec_simplex.specs.declared.ends.StartStop.{StartStop}
 use Rattle.spec_simplex.specs.declared.ends.StartStop.TheVariants as start
-use Rattle.spec_simplex.specs.Eliminate.{Elimination, equation, unsolved, has_none, is_open, or_place, open_below, solved_by, solved_run, eliminate_run, basis_at}
+use Rattle.spec_simplex.specs.Eliminate.{Elimination, equation, unsolved, has_none, is_open, or_place}
+use Rattle.spec_simplex.specs.Eliminate.{open_below, solved_by, solved_run, eliminate_run, basis_at}
 use Rattle.lp_tableau.specs.declared.ends.BasisStop.{BasisStop}
 use Rattle.lp_tableau.specs.declared.ends.BasisStop.TheVariants as stop
 use Rattle.lp_tableau.specs.Grid.{IsGrid}
@@ -27,7 +30,8 @@ use Rattle.lp_tableau.specs.Based.{AreInside, StopsAt}
 stays : (e : Elimination) (j n d p : ℕ) → open_below e j n ≡ Some p → open_below e j (n + d) ≡ Some p
 stays e j n zero p h = (let z : n + 0 ≡ n = omega arith in ap (open_below e j) z) ∙ h
 stays e j n (suc d) p h =
-    (let z : n + suc d ≡ suc (n + d) = omega arith in ap (open_below e j) z) ∙ ap (λ o. or_place o (n + d) (is_open e j (n + d))) (stays e j n d p h)
+    (let z : n + suc d ≡ suc (n + d) = omega arith in ap (open_below e j) z)
+    ∙ ap (λ o. or_place o (n + d) (is_open e j (n + d))) (stays e j n d p h)
 
 pub none_more : (e : Elimination) (j k : ℕ) → open_below e j k ≡ None → is_open e j k ≡ false →
     open_below e j (k + 1) ≡ None
@@ -46,7 +50,8 @@ both false b h = let z : false ≡ true = h in cc
 
 pub open_entry : (e : Elimination) (j i : ℕ) → is_open e j i ≡ true → at_place e.rows i j ≢ 0ℚ
 open_entry e j i h z =
-    let f : eq_ℚ (at_place e.rows i j) 0ℚ ≡ false = both (has_none (get_or e.basic i None)) (eq_ℚ (at_place e.rows i j) 0ℚ) h in
+    let f : eq_ℚ (at_place e.rows i j) 0ℚ ≡ false =
+    both (has_none (get_or e.basic i None)) (eq_ℚ (at_place e.rows i j) 0ℚ) h in
     let g : true ≡ false = sym (eq_test (at_place e.rows i j) 0ℚ z) ∙ f in
     cc
 
@@ -82,7 +87,8 @@ abbrev solve_at : Option ℕ → Form → List Status → ℕ → Elimination �
 solve_at limit f basis j e = cond (is_basic (basis_at basis j)) (solved_run limit f e j) (Ok e)
 
 -- after the columns below j
-pub record Solving (limit : Option ℕ) (f : Form) (basis : List Status) (j : ℕ) (rows : List (List ℚ)) (basic : List (Option ℕ)) : Type 0 where
+pub record Solving (limit : Option ℕ) (f : Form) (basis : List Status)
+    (j : ℕ) (rows : List (List ℚ)) (basic : List (Option ℕ)) : Type 0 where
   pub so_far : steps j (solve_at limit f basis) (unsolved f) ≡ Ok (record { rows = rows; basic = basic })
   pub shape : IsGrid f.rows (f.cols + f.rows + f.rows) rows
   pub places : length basic ≡ f.rows
@@ -97,7 +103,8 @@ module _ (limit : Option ℕ) (f : Form) (basis : List Status) where
   unsolved_grid = record {
     height = length-made f.rows (equation f);
     width =
-        All-made (λ row. length row ≡ width_of f) f.rows (equation f) (λ i l. length-made (width_of f) (start_entry f (Within 0ℚ) i));
+        All-made (λ row. length row ≡ width_of f) f.rows (equation f)
+        (λ i l. length-made (width_of f) (start_entry f (Within 0ℚ) i));
   }
 
   pub solving_begins : (rows : List (List ℚ)) (basic : List (Option ℕ)) → rows ≡ (unsolved f).rows →
@@ -113,7 +120,9 @@ module _ (limit : Option ℕ) (f : Form) (basis : List Status) where
     pub solving_passes : is_basic (basis_at basis j) ≡ false → Solving limit f basis (j + 1) rows basic
     solving_passes h = record {
       so_far =
-          steps_more j (solve_at limit f basis) (unsolved f) _ _ v.so_far (ap (λ b. cond b (solved_run limit f (record { rows = rows; basic = basic }) j) (Ok (record { rows = rows; basic = basic }))) h);
+          steps_more j (solve_at limit f basis) (unsolved f) _ _ v.so_far
+          (ap (λ b. cond b (solved_run limit f (record { rows = rows; basic = basic }) j)
+          (Ok (record { rows = rows; basic = basic }))) h);
       shape = v.shape;
       places = v.places;
       inside = v.inside;
@@ -123,10 +132,13 @@ module _ (limit : Option ℕ) (f : Form) (basis : List Status) where
         solved_run limit f (record { rows = rows; basic = basic }) j ≡ o →
         solve_at limit f basis j (record { rows = rows; basic = basic }) ≡ o
     here o h g =
-        ap (λ b. cond b (solved_run limit f (record { rows = rows; basic = basic }) j) (Ok (record { rows = rows; basic = basic }))) h ∙ g
+        ap (λ b. cond b (solved_run limit f (record { rows = rows; basic = basic }) j)
+        (Ok (record { rows = rows; basic = basic }))) h ∙ g
 
-    pub solving_goes_on : (after : List (List ℚ)) (then : List (Option ℕ)) → is_basic (basis_at basis j) ≡ true → solved_run limit f (record { rows = rows; basic = basic }) j ≡ Ok (record { rows = after; basic = then })
-        → IsGrid f.rows (width_of f) after → length then ≡ f.rows → AreInside (width_of f) then → Solving limit f basis (j + 1) after then
+    pub solving_goes_on : (after : List (List ℚ)) (then : List (Option ℕ)) → is_basic (basis_at basis j) ≡ true →
+        solved_run limit f (record { rows = rows; basic = basic }) j ≡ Ok (record { rows = after; basic = then })
+        → IsGrid f.rows (width_of f) after → length then ≡ f.rows →
+        AreInside (width_of f) then → Solving limit f basis (j + 1) after then
     solving_goes_on after then h g s l i = record {
       so_far = steps_more j (solve_at limit f basis) (unsolved f) _ _ v.so_far (here _ h g);
       shape = s;

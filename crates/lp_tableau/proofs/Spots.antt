@@ -1,5 +1,6 @@
 -- The columns in which a row is not 0, and the operations with 0 that are passed over.
-use Rattle.std.proofs.Common.{◌≡◌, ℕ, zero, suc, ◌+◌, ◌-◌, ◌<◌, ◌≤◌, List, [], ◌∷◌, ◌++◌, length, take, drop, get_or, Some, Ok, sym, ap, ◌∙◌, subst, arith, ⊎_elim}
+use Rattle.std.proofs.Common.{◌≡◌, ℕ, zero, suc, ◌+◌, ◌-◌, ◌<◌, ◌≤◌, List, [], ◌∷◌, ◌++◌, length}
+use Rattle.std.proofs.Common.{take, drop, get_or, Some, Ok, sym, ap, ◌∙◌, subst, arith, ⊎_elim}
 use Rattle.std.proofs.Math.ListN.{set}
 use Rattle.std.proofs.lemmas.Bool.{cases_eq}
 use Rattle.std.proofs.lemmas.List.{set-get_or, take_more_set, drop_more, drop_all}
@@ -33,7 +34,8 @@ module _ (f : ℕ → Run ℚ) (old new : List ℚ) where
   pub one_kept : (k : ℕ) → IsDone k f old new → k < length new → f k ≡ Ok (get_or old k 0ℚ) → IsDone (k + 1) f old new
   one_kept k d h e =
       let g : set new k (get_or new k 0ℚ) ≡ new = set-get_or new k 0ℚ in
-      subst (IsDone (k + 1) f old) g (one_done k f old new (get_or new k 0ℚ) d h (e ∙ ap Ok (sym (as_before k f old new d))))
+      subst (IsDone (k + 1) f old) g
+      (one_done k f old new (get_or new k 0ℚ) d h (e ∙ ap Ok (sym (as_before k f old new d))))
 
   kept : (a d : ℕ) → IsDone a f old new → a + d ≤ length new →
       ((k : ℕ) → a ≤ k → k < a + d → f k ≡ Ok (get_or old k 0ℚ)) → IsDone (a + d) f old new
@@ -41,7 +43,8 @@ module _ (f : ℕ → Run ℚ) (old new : List ℚ) where
   kept a (suc n) d h e =
       let z : (a + n) + 1 ≡ a + suc n = omega arith in
       subst (λ i. IsDone i f old new) z
-      (one_kept (a + n) (kept a n d (omega (arith, h)) (λ k l g. e k l (omega (arith, g)))) (omega (arith, h)) (e (a + n) (omega arith) (omega arith)))
+      (one_kept (a + n) (kept a n d (omega (arith, h)) (λ k l g. e k l (omega (arith, g))))
+      (omega (arith, h)) (e (a + n) (omega arith) (omega arith)))
 
   pub all_kept : (a b : ℕ) → IsDone a f old new → a ≤ b → b ≤ length new →
       ((k : ℕ) → a ≤ k → k < b → f k ≡ Ok (get_or old k 0ℚ)) → IsDone b f old new
@@ -62,8 +65,10 @@ none_listed row = record { covers = λ k h g. absurd (omega (arith, g)) }
 more : (row : List ℚ) (a n : ℕ) (ks : List ℕ) → a ≤ n → Covers row a n ks → Covers row a (n + 1) (ks ++ n ∷ [])
 more row a n [] l c = (record { from = l; inside = omega arith; before = c }, λ k h g. absurd (omega (arith, h, g)))
 more row a n (k ∷ ks) l c =
-    let x : IsNext row a k n = c.0 in
-    (record { from = x.from; inside = omega (arith, x.inside); before = x.before }, more row (k + 1) n ks (omega (arith, x.inside)) c.1)
+    let x : IsNext row a k n = c.0 in (
+      record { from = x.from; inside = omega (arith, x.inside); before = x.before },
+      more row (k + 1) n ks (omega (arith, x.inside)) c.1,
+    )
 
 zero_more : (row : List ℚ) (a n : ℕ) (ks : List ℕ) → get_or row n 0ℚ ≡ 0ℚ → Covers row a n ks → Covers row a (n + 1) ks
 zero_more row a n [] e c =
@@ -76,7 +81,8 @@ zero_more row a n (k ∷ ks) e c =
 pub one_listed : (row : List ℚ) (n count : ℕ) (spots : List ℕ) → count < length spots →
     IsListed row n (take count spots) → IsListed row (n + 1) (take (count + 1) (set spots count n))
 one_listed row n count spots h c =
-    subst (IsListed row (n + 1)) (sym (take_more_set spots count n h)) (record { covers = more row 0 n (take count spots) (omega arith) c.covers })
+    subst (IsListed row (n + 1)) (sym (take_more_set spots count n h))
+    (record { covers = more row 0 n (take count spots) (omega arith) c.covers })
 
 pub zero_passed : (row : List ℚ) (n : ℕ) (spots : List ℕ) → IsListed row n spots → get_or row n 0ℚ ≡ 0ℚ →
     IsListed row (n + 1) spots
@@ -98,7 +104,8 @@ pub set_out : (n p : ℕ) (times : ℚ) (i : ℕ) (spots : List ℕ) (rows : Lis
 set_out n p times i spots rows c =
     record { so_far = 0; inside = omega arith; done = no_row_done i (cleared_at rows p times i) rows; ahead = c.covers }
 
-module _ (n p : ℕ) (times : ℚ) (i : ℕ) (old new : List (List ℚ)) (t : IsWithin largest times) (w : IsNarrowGrid old) where
+module _ (n p : ℕ) (times : ℚ) (i : ℕ) (old new : List (List ℚ))
+    (t : IsWithin largest times) (w : IsNarrowGrid old) where
   zero_kept : (k : ℕ) → at_place old p k ≡ 0ℚ → cleared_at old p times i k ≡ Ok (at_place old i k)
   zero_kept k e = less_times_no largest times (at_place old p k) (at_place old i k) e t (w.each i k)
 
@@ -107,7 +114,8 @@ module _ (n p : ℕ) (times : ℚ) (i : ℕ) (old new : List (List ℚ)) (t : Is
       IsRowDone i k (cleared_at old p times i) old new
   there k ks o e =
       let x : IsNext (get_or old p []) o.so_far k n = o.ahead.0 in
-      row_kept i o.so_far k (cleared_at old p times i) old new o.done x.from (omega (arith, e, x.inside)) (λ c l g. zero_kept c (x.before c l g))
+      row_kept i o.so_far k (cleared_at old p times i) old new o.done x.from
+      (omega (arith, e, x.inside)) (λ c l g. zero_kept c (x.before c l g))
 
   pub next_inside : (k : ℕ) (ks : List ℕ) → IsOnWay n p times i (k ∷ ks) old new → k < n
   next_inside k ks o = (let x : IsNext (get_or old p []) o.so_far k n = o.ahead.0 in x.inside)
@@ -116,23 +124,31 @@ module _ (n p : ℕ) (times : ℚ) (i : ℕ) (old new : List (List ℚ)) (t : Is
   pub gone_on : (k : ℕ) (ks : List ℕ) (next : List (List ℚ)) → IsOnWay n p times i (k ∷ ks) old new →
       IsRowDone i (k + 1) (cleared_at old p times i) old next → IsOnWay n p times i ks old next
   gone_on k ks next o d =
-      record { so_far = k + 1; inside = (let l : k < n = next_inside k ks o in omega (arith, l)); done = d; ahead = o.ahead.1 }
+      record {
+        so_far = k + 1;
+        inside = (let l : k < n = next_inside k ks o in omega (arith, l));
+        done = d;
+        ahead = o.ahead.1;
+      }
 
   -- at the end
   pub arrived : IsOnWay n p times i [] old new → length (get_or new i []) ≡ n →
       IsRowDone i n (cleared_at old p times i) old new
   arrived o e =
-      row_kept i o.so_far n (cleared_at old p times i) old new o.done o.inside (omega (arith, e)) (λ c l g. zero_kept c (o.ahead c l g))
+      row_kept i o.so_far n (cleared_at old p times i) old new o.done o.inside
+      (omega (arith, e)) (λ c l g. zero_kept c (o.ahead c l g))
 
 -- a row from which row p is taken no times stays
 pub none_cleared : (n p : ℕ) (times : ℚ) (i : ℕ) (rows : List (List ℚ)) → IsNarrowGrid rows → times ≡ 0ℚ →
     length (get_or rows i []) ≡ n → IsRowDone i n (cleared_at rows p times i) rows rows
 none_cleared n p times i rows w e h =
-    row_kept i 0 n (cleared_at rows p times i) rows rows (no_row_done i (cleared_at rows p times i) rows) (omega arith) (omega (arith, h))
+    row_kept i 0 n (cleared_at rows p times i) rows rows
+    (no_row_done i (cleared_at rows p times i) rows) (omega arith) (omega (arith, h))
     (λ k l g. less_no_times largest times (at_place rows p k) (at_place rows i k) e (w.each p k) (w.each i k))
 
 -- in a list of columns that is read from its start
-module _ (n p : ℕ) (times : ℚ) (i : ℕ) (old new : List (List ℚ)) (spots : List ℕ) (s : ℕ) (o : IsOnWay n p times i (drop s spots) old new) where
+module _ (n p : ℕ) (times : ℚ) (i : ℕ) (old new : List (List ℚ)) (spots : List ℕ)
+    (s : ℕ) (o : IsOnWay n p times i (drop s spots) old new) where
   pub at_spot : s < length spots → IsOnWay n p times i (get_or spots s 0 ∷ drop (s + 1) spots) old new
   at_spot h = subst (λ ks. IsOnWay n p times i ks old new) (drop_more spots s 0 h) o
 
@@ -143,5 +159,6 @@ module _ (n p : ℕ) (times : ℚ) (i : ℕ) (old new : List (List ℚ)) (spots 
 pub not_moved : (t : Tableau) (j : ℕ) (theta : ℚ) (i : ℕ) → entry_at t i j ≡ 0ℚ → IsWithin largest theta →
     IsWithin largest (get_or t.value (basic_at t i) 0ℚ) → moved_at (Some largest) t j theta i t.value ≡ Ok t.value
 not_moved t j theta i e h g =
-    ap (λ o. o >>= λ v. Ok (set t.value (basic_at t i) v)) (less_no_times largest (entry_at t i j) theta (get_or t.value (basic_at t i) 0ℚ) e h g)
+    ap (λ o. o >>= λ v. Ok (set t.value (basic_at t i) v))
+    (less_no_times largest (entry_at t i j) theta (get_or t.value (basic_at t i) 0ℚ) e h g)
     ∙ ap Ok (set-get_or t.value (basic_at t i) 0ℚ)

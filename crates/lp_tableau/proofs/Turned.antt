@@ -21,11 +21,13 @@ module _ (limit : Option ℕ) (m n : ℕ) (rows : List (List ℚ)) (p j : ℕ) w
   unfolding turned_run
   row_refused k scaled now e h s l d g =
       ap (λ o. o >>= λ scaled. steps m (turned_at limit n p j) scaled) h
-      ∙ steps_stop k m (turned_at limit n p j) scaled now e l s (ap (λ b. cond b (Ok now) (cleared_run limit n p j k now)) (ne_eqb k p d) ∙ g)
+      ∙ steps_stop k m (turned_at limit n p j) scaled now e l s
+      (ap (λ b. cond b (Ok now) (cleared_run limit n p j k now)) (ne_eqb k p d) ∙ g)
 
   pub rows_turned : (k : ℕ) (scaled now : List (List ℚ)) → scaled_run limit n rows p j ≡ Ok scaled →
       steps k (turned_at limit n p j) scaled ≡ Ok now → m ≤ k → k ≤ m → turned_run limit m n rows p j ≡ Ok now
   unfolding turned_run
   rows_turned k scaled now h s l g =
       let z : k ≡ m = omega arith in
-      ap (λ o. o >>= λ scaled. steps m (turned_at limit n p j) scaled) h ∙ subst (λ i. steps i (turned_at limit n p j) scaled ≡ Ok now) z s
+      ap (λ o. o >>= λ scaled. steps m (turned_at limit n p j) scaled) h
+      ∙ subst (λ i. steps i (turned_at limit n p j) scaled ≡ Ok now) z s

@@ -1,5 +1,6 @@
 -- Rows with a twin of each of their last items after them: the item itself, or its negative.
-use Rattle.std.specs.Prelude.{◌≡◌, ℕ, ◌+◌, ◌≤◌, List, [], ◌∷◌, ◌++◌, length, get_or, slice_set, Option, Ok, Bool, false, if◌then◌else◌}
+use Rattle.std.specs.Prelude.{◌≡◌, ℕ, ◌+◌, ◌≤◌, List, [], ◌∷◌, ◌++◌, length, get_or}
+use Rattle.std.specs.Prelude.{slice_set, Option, Ok, Bool, false, if◌then◌else◌}
 use Rattle.spec_exact.specs.Fraction.{ℚ, 0ℚ, neg_ℚ}
 use Rattle.spec_simplex.specs.Run.{Run, ◌>>=◌, made, list_run, quotient_run, less_product}
 use Rattle.spec_simplex.specs.Tableau.{at_place}
@@ -36,4 +37,5 @@ scaled_by limit n rows p by =
 -- row i less a multiple of row p
 unfoldable pub cleared_by : Option ℕ → ℕ → ℕ → ℚ → ℕ → List (List ℚ) → Run (List (List ℚ))
 cleared_by limit n p times i rows =
-    list_run n (λ k. less_product limit times (at_place rows p k) (at_place rows i k)) >>= λ row. Ok (slice_set rows i row)
+    list_run n (λ k. less_product limit times (at_place rows p k) (at_place rows i k)) >>=
+    λ row. Ok (slice_set rows i row)

@@ -52,7 +52,8 @@ fn or_first(column: Option<u32>) -> u32
 
 // The column of each position.
 fn columns(alloc: Global, basic: &[Option<u32>]) -> Result<Vec<u32>, AllocError>
-    ensures { IfOk result (λ v. v.items ≡ made (length basic.now) (λ i. elimination.or_first (get_or basic.now i None))) }
+    ensures { IfOk result
+        (λ v. v.items ≡ made (length basic.now) (λ i. elimination.or_first (get_or basic.now i None))) }
 {
     let mut columns = Vec::new(alloc);
     for i in 0..basic.len() {
@@ -111,7 +112,8 @@ fn begun(
     requires shape { IsGrid form.now.rows (form.now.cols + form.now.rows + form.now.rows) grid }
     requires places { length basic.now ≡ form.now.rows }
     requires inside { AreInside (form.now.cols + form.now.rows + form.now.rows) basic.now }
-    ensures { IfOk result (λ t. t ≡ elimination.with_basis form.now basis.now (record { rows = grid; basic = basic.now })) }
+    ensures { IfOk result
+        (λ t. t ≡ elimination.with_basis form.now basis.now (record { rows = grid; basic = basic.now })) }
 {
     let (height, cols) = (form.rows(), form.cols());
     let status = statuses(alloc, form, basis)?;

@@ -128,7 +128,8 @@ fn scale_twins(
     requires place { p < others }
     requires column { j < first + others + others }
     requires entry { at_place (twinned first turned.now grid.old) p j ≢ 0ℚ }
-    ensures rows { GivesRun (scaled_run (Some largest) (first + others + others) (twinned first turned.now grid.old) p j) (twinned first turned.now grid.new) result }
+    ensures rows { GivesRun (scaled_run (Some largest) (first + others + others)
+        (twinned first turned.now grid.old) p j) (twinned first turned.now grid.new) result }
     ensures shape { IsGrid others (first + others) grid.new }
 {
     let by = item(grid, first, others, turned, p as usize, j as usize);
@@ -154,7 +155,8 @@ fn clear_twins(
     requires row { i < others }
     requires other { i ≢ p }
     requires listed { IsListed (get_or grid.old p []) (first + others) spots.now }
-    ensures rows { GivesRun (cleared_run (Some largest) (first + others + others) p j i (twinned first turned.now grid.old)) (twinned first turned.now grid.new) result }
+    ensures rows { GivesRun (cleared_run (Some largest) (first + others + others) p j i
+        (twinned first turned.now grid.old)) (twinned first turned.now grid.new) result }
     ensures shape { IsGrid others (first + others) grid.new }
     ensures rest { get_or grid.new p [] ≡ get_or grid.old p [] }
 {
@@ -177,7 +179,8 @@ pub(crate) fn turn(
     requires place { p < others }
     requires column { j < first + others + others }
     requires entry { at_place (twinned first turned.now grid.old) p j ≢ 0ℚ }
-    ensures rows { GivesRun (turned_run (Some largest) others (first + others + others) (twinned first turned.now grid.old) p j) (twinned first turned.now grid.new) result }
+    ensures rows { GivesRun (turned_run (Some largest) others (first + others + others)
+        (twinned first turned.now grid.old) p j) (twinned first turned.now grid.new) result }
     ensures shape { IsGrid others (first + others) grid.new }
 {
     scale_twins(grid, first, others, turned, p, j)?;

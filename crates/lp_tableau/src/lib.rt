@@ -29,8 +29,6 @@ mod solve;
 pub mod start;
 mod steps;
 mod tableau;
-#[cfg(test)]
-mod tests;
 mod twins;
 
 pub use basis::start_from;

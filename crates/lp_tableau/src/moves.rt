@@ -1,7 +1,9 @@
 // How the basic columns move with one that is not basic, and flips.
 ghost use Rattle.std.specs.Prelude.{◌≡◌, ◌<◌, Some};
 ghost use Rattle.spec_simplex.specs.Tableau.{all_columns};
-ghost use Rattle.spec_simplex.specs.Step.{CanFlip, directed as directed_by, other_bound as other_bound_of, is_place as is_place_of, moved_at, moved_run, flip_way as flip_way_of, flipped, flip_run};
+ghost use Rattle.spec_simplex.specs.Step.{CanFlip, directed as directed_by, other_bound as other_bound_of};
+ghost use Rattle.spec_simplex.specs.Step.{is_place as is_place_of, moved_at};
+ghost use Rattle.spec_simplex.specs.Step.{moved_run, flip_way as flip_way_of, flipped, flip_run};
 ghost use Rattle.lp_frac.specs.Narrow.{largest};
 ghost use Rattle.lp_tableau.specs.Answer.{GivesRun};
 

@@ -18,7 +18,8 @@ fn reprice(reduced: &mut [Frac], grid: &Twins, height: u32, p: u32, j: u32) -> R
     requires shape { IsGrid height (length reduced.old) grid.now }
     requires place { p < height }
     requires column { j < length reduced.old }
-    ensures costs { GivesRun (repriced_run (Some largest) (length reduced.old) reduced.old grid.now p j) reduced.new result }
+    ensures costs { GivesRun (repriced_run (Some largest) (length reduced.old) reduced.old grid.now p j)
+        reduced.new result }
     ensures len { length reduced.new ≡ length reduced.old }
 {
     let times = reduced[j as usize];
@@ -51,7 +52,8 @@ impl Tableau {
         requires place { place < self.old.rows }
         requires column { col < all_columns self.old }
         requires entry { entry_at self.old place col ≢ 0ℚ }
-        ensures rows { GivesRun (turned_run (Some largest) self.old.rows (all_columns self.old) self.old.entries place col) self.new.entries result }
+        ensures rows { GivesRun (turned_run (Some largest) self.old.rows
+            (all_columns self.old) self.old.entries place col) self.new.entries result }
         ensures rest { self.new ≡ record self.old { entries = self.new.entries } }
     {
         let (rows, width) = (self.rows(), self.width());
@@ -61,7 +63,8 @@ impl Tableau {
     fn reprice(&mut self, place: u32, col: u32) -> Result<(), Past>
         requires place { place < self.old.rows }
         requires column { col < all_columns self.old }
-        ensures costs { GivesRun (repriced_run (Some largest) (all_columns self.old) self.old.reduced self.old.entries place col) self.new.reduced result }
+        ensures costs { GivesRun (repriced_run (Some largest)
+            (all_columns self.old) self.old.reduced self.old.entries place col) self.new.reduced result }
         ensures rest { self.new ≡ record self.old { reduced = self.new.reduced } }
     {
         let rows = self.rows();

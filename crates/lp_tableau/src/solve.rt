@@ -71,7 +71,8 @@ fn solve(grid: &mut Twins, basic: &mut [Option<u32>], form: &Form, j: u32) -> Re
     requires places { length basic.old ≡ form.now.rows }
     requires inside { AreInside (form.now.cols + form.now.rows + form.now.rows) basic.old }
     requires column { j < form.now.cols + form.now.rows + form.now.rows }
-    ensures solved { Solves (elimination.solved_run (Some largest) form.now (record { rows = grid.old; basic = basic.old }) j) grid.new basic.new result }
+    ensures solved { Solves (elimination.solved_run (Some largest) form.now
+        (record { rows = grid.old; basic = basic.old }) j) grid.new basic.new result }
     ensures shape { IsGrid form.now.rows (form.now.cols + form.now.rows + form.now.rows) grid.new }
     ensures places { length basic.new ≡ form.now.rows }
     ensures inside { AreInside (form.now.cols + form.now.rows + form.now.rows) basic.new }

@@ -1,5 +1,6 @@
 // The tableau that a form begins with.
-ghost use Rattle.std.specs.Prelude.{◌≡◌, ◌<◌, ◌≤◌, ◌+◌, ◌++◌, [], ◌∷◌, length, map, replicate, IfOk, IfErr, OnOk, Ok, Some};
+ghost use Rattle.std.specs.Prelude.{◌≡◌, ◌<◌, ◌≤◌, ◌+◌, ◌++◌, [], ◌∷◌, length};
+ghost use Rattle.std.specs.Prelude.{map, replicate, IfOk, IfErr, OnOk, Ok, Some};
 ghost use Rattle.spec_exact.specs.Fraction.{0ℚ};
 ghost use Rattle.spec_simplex.specs.Run.{list_run, made};
 ghost use Rattle.spec_simplex.specs.Form.{form_lower, form_upper};
@@ -361,7 +362,8 @@ pub fn basics(alloc: Global, form: &Form, starts: &[RowStart]) -> Result<Vec<u32
 /// The value of each column.
 pub fn values(alloc: Global, form: &Form, starts: &[RowStart]) -> Result<Vec<Frac>, AllocError>
     requires { length starts.now ≡ form.now.rows }
-    ensures { IfOk result (λ v. v.items ≡ made (form.now.cols + form.now.rows + form.now.rows) (starting.start_value form.now starts.now)) }
+    ensures { IfOk result (λ v.
+        v.items ≡ made (form.now.cols + form.now.rows + form.now.rows) (starting.start_value form.now starts.now)) }
 {
     let mut values = Vec::new(alloc);
     for k in 0..width(form) {
@@ -373,7 +375,8 @@ pub fn values(alloc: Global, form: &Form, starts: &[RowStart]) -> Result<Vec<Fra
 /// The status of each column.
 pub fn statuses(alloc: Global, form: &Form, starts: &[RowStart]) -> Result<Vec<Status>, AllocError>
     requires { length starts.now ≡ form.now.rows }
-    ensures { IfOk result (λ v. v.items ≡ made (form.now.cols + form.now.rows + form.now.rows) (starting.start_status form.now starts.now)) }
+    ensures { IfOk result (λ v.
+        v.items ≡ made (form.now.cols + form.now.rows + form.now.rows) (starting.start_status form.now starts.now)) }
 {
     let mut statuses = Vec::new(alloc);
     for k in 0..width(form) {

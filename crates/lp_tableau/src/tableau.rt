@@ -1,6 +1,7 @@
 // Tableaus and their readers.
 ghost use Rattle.std.specs.Prelude.{◌≡◌, ◌<◌, ◌≤◌};
-ghost use Rattle.spec_simplex.specs.Tableau.{IsTableauShape, all_columns, entry_at, basic_at, value_at, reduced_at, status_at, lower_at, upper_at};
+ghost use Rattle.spec_simplex.specs.Tableau.{IsTableauShape, all_columns, entry_at, basic_at};
+ghost use Rattle.spec_simplex.specs.Tableau.{value_at, reduced_at, status_at, lower_at, upper_at};
 
 use crate::twins::Twins;
 use lp_form::Status;

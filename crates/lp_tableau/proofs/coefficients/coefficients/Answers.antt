@@ -11,5 +11,6 @@ loop-j-init c =
     let f = c.args.form.now in
     let rows = c.rows.ensures.value in
     let cols = c.cols.ensures.value in
-    subst (HoldsColumns f 0) (sym (c.from_block-grid.ensures ∙ ap₂ (λ n m. rows_of n m c.in_ok-zeros.field-0.items) cols rows))
+    subst (HoldsColumns f 0)
+    (sym (c.from_block-grid.ensures ∙ ap₂ (λ n m. rows_of n m c.in_ok-zeros.field-0.items) cols rows))
     (zero_columns f c.rows.ensures.kept _ (c.in_ok-zeros.ensures ∙ ap₂ (λ m n. replicate (m * n) 0ℚ) rows cols))

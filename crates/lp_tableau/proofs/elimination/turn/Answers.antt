@@ -12,13 +12,17 @@ returns-in_err-scale_twins-clause-rows c =
 
 pub returns-in_err-clear_twins-clause-rows : goal.returns-in_err-clear_twins-clause-rows
 returns-in_err-clear_twins-clause-rows c =
-    let p = err_from_is_err_and c.from_residual-in_err-clear_twins.result c.from_residual-in_err-clear_twins.ensures.1 in
-    rw (p.1, p.2) (row_refused _ _ _ _ _ _ _ _ _ _ c.in_ok-scale_twins.ensures.rows c.loop-i.invariant.done c.loop-i-test.true c.if-i-p.true c.in_err-clear_twins.ensures.rows)
+    let p =
+    err_from_is_err_and c.from_residual-in_err-clear_twins.result c.from_residual-in_err-clear_twins.ensures.1 in
+    rw (p.1, p.2) (row_refused _ _ _ _ _ _ _ _ _ _ c.in_ok-scale_twins.ensures.rows
+    c.loop-i.invariant.done c.loop-i-test.true c.if-i-p.true c.in_err-clear_twins.ensures.rows)
 
 pub returns-clause-rows : goal.returns-clause-rows
 returns-clause-rows c =
-    rows_turned _ _ _ _ _ _ _ _ _ c.in_ok-scale_twins.ensures.rows c.loop-i.invariant.done c.loop-i-test.false c.loop-i.auto.i-end
+    rows_turned _ _ _ _ _ _ _ _ _ c.in_ok-scale_twins.ensures.rows
+    c.loop-i.invariant.done c.loop-i-test.false c.loop-i.auto.i-end
 
 pub clear_twins-requires-clause-listed : goal.clear_twins-requires-clause-listed
 clear_twins-requires-clause-listed c =
-    subst (λ row. IsListed row (c.args.first + c.args.others) (take c.list-count.result c.list-count.new.spots)) (sym c.loop-i.invariant.kept) c.list-count.ensures.listed
+    subst (λ row. IsListed row (c.args.first + c.args.others) (take c.list-count.result c.list-count.new.spots))
+    (sym c.loop-i.invariant.kept) c.list-count.ensures.listed

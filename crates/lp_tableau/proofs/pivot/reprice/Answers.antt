@@ -17,7 +17,8 @@ returns-in_err-reduced-clause-costs c =
     let a = item_is _ _ _ c.index-reduced-j.is c.requires.column in
     let b = item_is c.loop-k.reduced c.loop-k.k _ c.index-reduced-k.is (omega (arith, d.len, c.loop-k-test.true)) in
     let step = rw (a, c.at-entry.ensures, b, as_before _ _ _ _ d) at c.in_err-reduced.ensures in
-    rw (p.1, p.2) (list_stops c.loop-k.k (length c.args.reduced.now) _ _ _ (omega (arith, d.len, c.loop-k-test.true)) d.done (sym step))
+    rw (p.1, p.2) (list_stops c.loop-k.k (length c.args.reduced.now) _ _ _
+    (omega (arith, d.len, c.loop-k-test.true)) d.done (sym step))
 
 pub loop-k-preserved : goal.loop-k-preserved
 loop-k-preserved c =
@@ -31,12 +32,16 @@ pub loop-k-preserved-then-is_zero : goal.loop-k-preserved-then-is_zero
 loop-k-preserved-then-is_zero c =
     let d = c.loop-k.invariant in
     let a = item_is _ _ _ c.index-reduced-j.is c.requires.column in
-    let b = item_is c.loop-k.reduced c.loop-k.k _ c.index-reduced-k.is (omega (arith, d.len, c.loop-k-test.true)) ∙ as_before _ _ _ _ d in
+    let b =
+    item_is c.loop-k.reduced c.loop-k.k _ c.index-reduced-k.is (omega (arith, d.len, c.loop-k-test.true))
+    ∙ as_before _ _ _ _ d in
     let z = sym c.at-entry.ensures ∙ c.if-is_zero.ensures.0 refl in
-    one_kept _ _ _ _ d (omega (arith, d.len, c.loop-k-test.true)) (less_times_no largest _ _ _ z (subst (IsWithin largest) a c.within.ensures) (subst (IsWithin largest) b c.within-in-loop-k.ensures))
+    one_kept _ _ _ _ d (omega (arith, d.len, c.loop-k-test.true)) (less_times_no largest _ _ _ z
+    (subst (IsWithin largest) a c.within.ensures) (subst (IsWithin largest) b c.within-in-loop-k.ensures))
 
 pub returns-clause-costs : goal.returns-clause-costs
 unfolding repriced_run
 returns-clause-costs c =
     let d = c.loop-k.invariant in
-    list_finished c.loop-k.k (length c.args.reduced.now) _ _ _ d (omega (arith, d.len, c.loop-k-test.false)) (omega (arith, d.len, c.loop-k.auto.k-end)) refl
+    list_finished c.loop-k.k (length c.args.reduced.now) _ _ _ d
+    (omega (arith, d.len, c.loop-k-test.false)) (omega (arith, d.len, c.loop-k.auto.k-end)) refl

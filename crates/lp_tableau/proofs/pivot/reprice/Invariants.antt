@@ -10,4 +10,5 @@ use Rattle.lp_tableau.proofs.pivot.reprice.Given as goal
 -- the reduced costs are done so far
 abbrev pub invariant-loop-k : goal.invariant-loop-k
 invariant-loop-k l =
-    IsDone l.k (λ k. less_product (Some largest) (get_or l.fn.reduced l.j 0ℚ) (at_place l.grid l.p k) (get_or l.fn.reduced k 0ℚ)) l.fn.reduced l.reduced
+    IsDone l.k (λ k. less_product (Some largest) (get_or l.fn.reduced l.j 0ℚ)
+    (at_place l.grid l.p k) (get_or l.fn.reduced k 0ℚ)) l.fn.reduced l.reduced

@@ -7,8 +7,11 @@ use Rattle.lp_tableau.proofs.start.begun.Goals as goal
 
 pub returns : goal.returns
 returns c =
-    begun_is c.args.form.now c.args.starts.now _ _ _ _ _ _ _ _ _ c.rows-height.ensures.value c.cols.ensures.value c.in_ok-rows.ensures
-    c.in_ok-basics.ensures c.in_ok-values.ensures (c.in_ok-zeros.ensures ∙ ap (λ n. replicate n 0ℚ) c.width.ensures.value) c.in_ok-statuses.ensures c.in_ok-lowers.ensures c.in_ok-uppers.ensures
+    begun_is c.args.form.now c.args.starts.now _ _ _ _ _ _ _ _ _
+    c.rows-height.ensures.value c.cols.ensures.value c.in_ok-rows.ensures
+    c.in_ok-basics.ensures c.in_ok-values.ensures
+    (c.in_ok-zeros.ensures ∙ ap (λ n. replicate n 0ℚ) c.width.ensures.value)
+    c.in_ok-statuses.ensures c.in_ok-lowers.ensures c.in_ok-uppers.ensures
 
 pub invariant_of-result : goal.invariant_of-result
 invariant_of-result c =

@@ -7,4 +7,5 @@ use Rattle.lp_tableau.proofs.start.row_starts.Goals as goal
 pub returns-in_err-row_start-clause-err : goal.returns-in_err-row_start-clause-err
 returns-in_err-row_start-clause-err c =
     let p = err_from_is_err_and c.from_residual.result c.from_residual.ensures.1 in
-    rw (p.1, p.2, ← c.rows-i-end.ensures.value) (list_stops _ _ _ _ _ c.loop-i-test.true c.loop-i.invariant (sym c.in_err-row_start.ensures))
+    rw (p.1, p.2, ← c.rows-i-end.ensures.value)
+    (list_stops _ _ _ _ _ c.loop-i-test.true c.loop-i.invariant (sym c.in_err-row_start.ensures))

@@ -8,5 +8,9 @@ pub returns-in_err-sum : goal.returns-in_err-sum
 returns-in_err-sum c =
     let p = err_from_is_err_and c.from_residual.result c.from_residual.ensures.1 in
     let inside : c.loop-j.j < c.args.form.now.cols = omega (arith, c.loop-j-test.true, c.cols-j-end.ensures.value) in
-    let step = rw (c.at-coefficient.ensures ∙ c.requires.held.done c.args.i c.loop-j.j c.requires.row inside, c.first_value.ensures) at c.in_err-sum.ensures in
-    rw (p.1, p.2, ← c.cols-j-end.ensures.value) (sym (steps_stop _ _ _ _ _ _ c.loop-j-test.true c.loop-j.invariant (sym step)))
+    let step =
+    rw
+    (c.at-coefficient.ensures ∙ c.requires.held.done c.args.i c.loop-j.j c.requires.row inside, c.first_value.ensures)
+    at c.in_err-sum.ensures in
+    rw (p.1, p.2, ← c.cols-j-end.ensures.value)
+    (sym (steps_stop _ _ _ _ _ _ c.loop-j-test.true c.loop-j.invariant (sym step)))

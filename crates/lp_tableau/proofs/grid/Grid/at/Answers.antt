@@ -20,5 +20,6 @@ index-requires c =
 pub returns : goal.returns
 returns c =
     c.index.ensures
-    ∙ get_or_default _ _ _ 0ℚ (place_in _ _ _ _ _ _ c.self.view_is c.self.invariant.block c.requires.row c.requires.column).inside
+    ∙ get_or_default _ _ _ 0ℚ
+    (place_in _ _ _ _ _ _ c.self.view_is c.self.invariant.block c.requires.row c.requires.column).inside
     ∙ at_is _ _ _ _ _ _ c.self.view_is c.self.invariant.block c.requires.row c.requires.column

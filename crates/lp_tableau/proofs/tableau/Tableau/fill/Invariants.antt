@@ -10,4 +10,5 @@ use Rattle.lp_tableau.proofs.tableau.Tableau.fill.Given as goal
 -- the positions so far have their values
 abbrev pub invariant-loop-i : goal.invariant-loop-i
 invariant-loop-i l =
-    steps l.i (λ i values. position_run (Some largest) l.self i >>= λ v. Ok (slice_set values (basic_at l.self i) v)) l.self.value ≡ Ok l.values
+    steps l.i (λ i values. position_run (Some largest) l.self i >>= λ v. Ok (slice_set values (basic_at l.self i) v))
+    l.self.value ≡ Ok l.values

@@ -11,7 +11,8 @@ returns-in_err-move_values c =
 pub returns-in_err-shift : goal.returns-in_err-shift
 returns-in_err-shift c =
     let p = err_from_is_err_and c.from_residual-in_err-shift.result c.from_residual-in_err-shift.ensures.1 in
-    rw (p.1, p.2) (shift_stops _ _ _ _ _ _ c.move_values.new.self c.in_ok-move_values.ensures.moved _ c.in_err-shift.ensures.value)
+    rw (p.1, p.2)
+    (shift_stops _ _ _ _ _ _ c.move_values.new.self c.in_ok-move_values.ensures.moved _ c.in_err-shift.ensures.value)
 
 pub returns-in_err-turn_rows : goal.returns-in_err-turn_rows
 returns-in_err-turn_rows c =
@@ -26,7 +27,8 @@ returns-in_err-reprice c =
     let a = c.in_ok-move_values.ensures in
     let b = c.in_ok-shift.ensures in
     let r = c.in_ok-turn_rows.ensures in
-    rw (p.1, p.2) (reprice_stops _ _ _ _ _ _ _ a.moved _ b.value a.rest b.rest _ r.rows r.rest _ c.in_err-reprice.ensures.costs)
+    rw (p.1, p.2)
+    (reprice_stops _ _ _ _ _ _ _ a.moved _ b.value a.rest b.rest _ r.rows r.rest _ c.in_err-reprice.ensures.costs)
 
 pub returns : goal.returns
 returns c =

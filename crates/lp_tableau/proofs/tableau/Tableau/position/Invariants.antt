@@ -10,4 +10,5 @@ use Rattle.lp_tableau.proofs.tableau.Tableau.position.Given as goal
 -- the value so far
 abbrev pub invariant-loop-k : goal.invariant-loop-k
 invariant-loop-k l =
-    steps l.k (λ k v. cond (is_basic (status_at l.self k)) (Ok v) (less_product (Some largest) (entry_at l.self l.i k) (value_at l.self k) v)) 0ℚ ≡ Ok l.value
+    steps l.k (λ k v. cond (is_basic (status_at l.self k)) (Ok v)
+    (less_product (Some largest) (entry_at l.self l.i k) (value_at l.self k) v)) 0ℚ ≡ Ok l.value

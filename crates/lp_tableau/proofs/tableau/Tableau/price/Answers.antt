@@ -23,10 +23,12 @@ loop-k-preserved c =
     let i = c.loop-k.invariant in
     let s = c.width-k-end.ensures.shape in
     let w = c.width-k-end.ensures.value in
-    let inside : c.loop-k.k < length c.loop-k.self.reduced = omega (arith, c.loop-k-test.true, w, i.done.len, s.all_reduced) in
+    let inside : c.loop-k.k < length c.loop-k.self.reduced =
+    omega (arith, c.loop-k-test.true, w, i.done.len, s.all_reduced) in
     record {
       done =
-          subst (IsDone _ _ _) (sym (ap (λ t. t.reduced) c.set_reduced.ensures)) (one_done _ _ _ _ _ i.done inside (sym (reduced_same _ c.args.self.now c.loop-k.self _ _ i.rest) ∙ sym c.in_ok-cost.ensures));
+          subst (IsDone _ _ _) (sym (ap (λ t. t.reduced) c.set_reduced.ensures)) (one_done _ _ _ _ _ i.done inside
+          (sym (reduced_same _ c.args.self.now c.loop-k.self _ _ i.rest) ∙ sym c.in_ok-cost.ensures));
       rest = repriced_again c.args.self.now c.loop-k.self _ _ i.rest c.set_reduced.ensures;
     }
 
@@ -35,4 +37,5 @@ unfolding priced_run
 returns-clause-priced c =
     let s = c.width-k-end.ensures.shape in
     let w = c.width-k-end.ensures.value in
-    list_finished c.loop-k.k (all_columns c.args.self.now) _ _ _ c.loop-k.invariant.done (omega (arith, c.loop-k-test.false, w)) (omega (arith, c.loop-k.auto.k-end, w)) s.all_reduced
+    list_finished c.loop-k.k (all_columns c.args.self.now) _ _ _ c.loop-k.invariant.done
+    (omega (arith, c.loop-k-test.false, w)) (omega (arith, c.loop-k.auto.k-end, w)) s.all_reduced

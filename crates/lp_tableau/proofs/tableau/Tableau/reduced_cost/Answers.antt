@@ -9,10 +9,12 @@ pub loop-i-preserved-then-is_zero : goal.loop-i-preserved-then-is_zero
 loop-i-preserved-then-is_zero c =
     let z = rw (c.cost_at-cost.ensures, c.basic.ensures.value) at c.if-is_zero.ensures.0 refl in
     let w = rw c.entry-entry.ensures at c.within.ensures in
-    free_passed c.args.self.now c.args.costs.now c.args.k c.loop-i.i c.loop-i.rest c.loop-i.invariant z w c.within-in-loop-i.ensures
+    free_passed c.args.self.now c.args.costs.now c.args.k c.loop-i.i
+    c.loop-i.rest c.loop-i.invariant z w c.within-in-loop-i.ensures
 
 pub returns-in_err-rest : goal.returns-in_err-rest
 returns-in_err-rest c =
     let p = err_from_is_err_and c.from_residual.result c.from_residual.ensures.1 in
     let step = rw (c.cost_at-cost.ensures, c.basic.ensures.value, c.entry-entry.ensures) at c.in_err-rest.ensures in
-    rw (p.1, p.2, ← c.rows-i-end.ensures.value) (sym (steps_stop _ _ _ _ _ _ c.loop-i-test.true c.loop-i.invariant (sym step)))
+    rw (p.1, p.2, ← c.rows-i-end.ensures.value)
+    (sym (steps_stop _ _ _ _ _ _ c.loop-i-test.true c.loop-i.invariant (sym step)))

@@ -9,4 +9,5 @@ use Rattle.lp_tableau.proofs.tableau.Tableau.reduced_cost.Given as goal
 -- what is left so far
 abbrev pub invariant-loop-i : goal.invariant-loop-i
 invariant-loop-i l =
-    steps l.i (λ i d. less_product (Some largest) (cost_at l.costs (basic_at l.self i)) (entry_at l.self i l.k) d) (cost_at l.costs l.k) ≡ Ok l.rest
+    steps l.i (λ i d. less_product (Some largest) (cost_at l.costs (basic_at l.self i)) (entry_at l.self i l.k) d)
+    (cost_at l.costs l.k) ≡ Ok l.rest

@@ -9,7 +9,11 @@ turn-requires-clause-place c =
 
 pub turn-requires-clause-column : goal.turn-requires-clause-column
 turn-requires-clause-column c =
-    omega (arith, width_is _ _ _ _ _ c.self.view_is c.self.invariant _ _ c.requires.shape _ c.requires.place, c.requires.column)
+    omega (
+      arith,
+      width_is _ _ _ _ _ c.self.view_is c.self.invariant _ _ c.requires.shape _ c.requires.place,
+      c.requires.column,
+    )
 
 pub returns : goal.returns
 returns c =
