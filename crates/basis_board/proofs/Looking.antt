@@ -1,7 +1,8 @@
 -- What a look and a meeting come to.
 use Rattle.basis_board.specs.Rule.{Consistent}
-use Rattle.std.proofs.Common.{◌≡◌, ◌≢◌, ℕ, ◌*◌, ◌+◌, ◌-◌, ◌/◌, ◌%◌, ◌<◌, List, [], ◌∷◌, ◌++◌, length, take, set, get_or, refl, sym, ap, ◌∙◌, subst, ⊎_elim, arith, length-append, length-set}
-use Rattle.std.proofs.Common.{Bool, true, not, eqb, true≢false}
+use Rattle.std.proofs.Common.{◌≡◌, ◌≢◌, ℕ, ◌*◌, ◌+◌, ◌-◌, ◌/◌, ◌%◌, ◌<◌, List, [], ◌∷◌, ◌++◌}
+use Rattle.std.proofs.Common.{length, take, set, get_or, refl, sym, ap, ◌∙◌, subst, ⊎_elim}
+use Rattle.std.proofs.Common.{arith, length-append, length-set, Bool, true, not, eqb, true≢false}
 use Rattle.std.proofs.lemmas.Bool.{cases_eq}
 use Rattle.std.proofs.lemmas.Bool.Decides.{Decides-eqb}
 use Rattle.std.proofs.lemmas.Slice.Eq.{slice_eq-Decides}
@@ -16,7 +17,10 @@ use Rattle.basis_board.proofs.Totals.{each_map}
 
 pub meets : (v w u : View) (n : ℕ) → Learned (met v w) n u → Meets v w u
 meets v w u n h =
-    subst (λ (x : View). Meets v w x) (sym h.view) (record { view = refl; whole = λ all. (n, h.whole all, record { within = h.within; seen = h.seen; reads = h.reads; whole = h.whole }) })
+    subst (λ (x : View). Meets v w x) (sym h.view) (record {
+      view = refl;
+      whole = λ all. (n, h.whole all, record { within = h.within; seen = h.seen; reads = h.reads; whole = h.whole });
+    })
 
 pub each_both : {X : Type 0} (P Q R : X → Type 0) → ((x : X) → P x → Q x → R x) → (xs : List X) → Each P xs →
     Each Q xs → Each R xs
@@ -30,14 +34,20 @@ pub undone_at : (shape : List ℕ) (k i n : ℕ) (v w : View) → i ≡ 50 * k +
     PassesBy shape k v w
 undone_at shape k i n v w is z h =
     let g = saw_at k i n v w is h in
-    undone (each_map (λ p. p.0 ≡ k → n ≡ 1) (λ p. p.0 ≢ k) (λ p f e. (let one = f e in omega arith)) v.seen g.known) (g.not_done z)
+    undone (each_map (λ p. p.0 ≡ k → n ≡ 1) (λ p. p.0 ≢ k) (λ p f e. (let one = f e in omega arith)) v.seen g.known)
+    (g.not_done z)
 
 pub reads_none : (k i n : ℕ) (words : List ℕ) (v w : View) → i ≡ 50 * k + 50 → (n ≡ 0 → ⊥) → length words ≡ 49 →
     Saw (i / 50 - 1) v n w → Consistent w → IsReading k 0 words v w
 reads_none k i n words v w is one long h cons =
     let g = saw_at k i n v w is h in
     let b = g.bit in
-    record { long = long; view = g.yes (omega arith); consistent = cons; agrees = each_map (λ p. p.0 ≡ k → n ≡ 1) (AgreesWith k []) (λ p f e j l m. absurd (omega arith)) v.seen g.known }
+    record {
+      long = long;
+      view = g.yes (omega arith);
+      consistent = cons;
+      agrees = each_map (λ p. p.0 ≡ k → n ≡ 1) (AgreesWith k []) (λ p f e j l m. absurd (omega arith)) v.seen g.known;
+    }
 
 pub reads_on : (k i n m : ℕ) (words : List ℕ) (v u w : View) → i < 49 → m ≡ 50 * k + 1 + i → IsReading k i words v u →
     WordRead ((m - 1) / 50) ((m - 1) % 50) u n w → Consistent w → IsReading k (i + 1) (set words i n) v w
@@ -50,7 +60,8 @@ reads_on k i n m words v u w room is h g cons =
     let on_k : (m - 1) / 50 ≡ k = omega arith in
     let on_i : (m - 1) % 50 ≡ i = omega arith in
     let known = (subst (λ (z : View). Each (HasAt ((m - 1) / 50) ((m - 1) % 50) n) z.seen) h.view g.known).1 in
-    let known' : Each (HasAt k i n) v.seen = subst (λ (z : ℕ × ℕ). Each (HasAt z.0 z.1 n) v.seen) (λ j. (on_k j, on_i j)) known in
+    let known' : Each (HasAt k i n) v.seen =
+    subst (λ (z : ℕ × ℕ). Each (HasAt z.0 z.1 n) v.seen) (λ j. (on_k j, on_i j)) known in
     record {
       long = length-set words i n ∙ long;
       view = g.view ∙ ap (λ (z : View). reading z n) h.view ∙ ap (seeing v k) (sym next);
@@ -58,8 +69,10 @@ reads_on k i n m words v u w room is h g cons =
       agrees = subst (λ (l : List ℕ). Each (AgreesWith k l) v.seen) (sym next)
           (each_both (AgreesWith k xs) (HasAt k i n) (AgreesWith k (xs ++ n ∷ []))
           (λ p a b e j l q. ⊎_elim
-          (λ (same : j ≡ i). ap (λ (z : ℕ). get_or p.1 z 0) same ∙ (b e (omega arith) ∙ sym (get_or_push xs n 0 j (omega arith))))
-          (λ (apart : j ≡ i → ⊥). let before : j < length xs = omega arith in a e j before q ∙ sym (get_or_append_left xs (n ∷ []) 0 j before))
+          (λ (same : j ≡ i). ap (λ (z : ℕ). get_or p.1 z 0) same
+          ∙ (b e (omega arith) ∙ sym (get_or_push xs n 0 j (omega arith))))
+          (λ (apart : j ≡ i → ⊥). let before : j < length xs = omega arith in
+          a e j before q ∙ sym (get_or_append_left xs (n ∷ []) 0 j before))
           (cases_eq j i))
           v.seen h.agrees known');
     }
@@ -95,7 +108,12 @@ finds shape k words v w h =
     let r = h.read in
     let long = r.long in
     let all : take 49 words ≡ words = take_all 49 words (omega arith) in
-    record { view = r.view ∙ ap (seeing v k) all; shape_is = h.shape_is; formed = h.formed refl; agrees = subst (λ (l : List ℕ). Each (AgreesWith k l) v.seen) all r.agrees }
+    record {
+      view = r.view ∙ ap (seeing v k) all;
+      shape_is = h.shape_is;
+      formed = h.formed refl;
+      agrees = subst (λ (l : List ℕ). Each (AgreesWith k l) v.seen) all r.agrees;
+    }
 
 -- what a test of two slices by != tells
 pub differ : (xs ys : List ℕ) (r : Bool) → r ≡ not (pointwise eqb xs ys) → r ≡ true → xs ≢ ys

@@ -1,5 +1,6 @@
 -- The rule in plain words.
-use Rattle.std.proofs.Common.{◌≡◌, ◌≢◌, ℕ, zero, suc, ◌+◌, List, [], ◌∷◌, refl, sym, ap, ◌∙◌, subst, ⊎_elim, inl, inr, arith}
+use Rattle.std.proofs.Common.{◌≡◌, ◌≢◌, ℕ, zero, suc, ◌+◌, List, [], ◌∷◌, refl}
+use Rattle.std.proofs.Common.{sym, ap, ◌∙◌, subst, ⊎_elim, inl, inr, arith}
 use Rattle.std.proofs.lemmas.Bool.{cases_eq}
 use mathlib.Core.Option.{some, some-injective, some-ne-none}
 use lib.ListN.{get_elem?}
@@ -55,11 +56,21 @@ means places s r = record {
       let c = p.claimed l in
       let o = p.owned in
       ⊎_elim
-      (λ (d : done s.words k ≡ 1). inr (record { no_holder = no_view (holding k) s.views (omega arith); is_done = d; formed = p.formed d; owner = just_one (λ v. times k v.own) s.views (omega arith) }))
+      (λ (d : done s.words k ≡ 1). inr (record {
+        no_holder = no_view (holding k) s.views (omega arith);
+        is_done = d;
+        formed = p.formed d;
+        owner = just_one (λ v. times k v.own) s.views (omega arith);
+      }))
       (λ (n : done s.words k ≡ 1 → ⊥).
       let undone : done s.words k ≡ 0 = zero_bit (total (holding k) s.views) (done s.words k) c n in
       let h = just_one (holding k) s.views (omega arith) in
-      inl (record { holder = h; words = λ xs is. subst (HeldFits s.words) is (r.each_seat h.seat h.view h.there).held; undone = undone; in_no_own = no_view (λ v. times k v.own) s.views (omega arith) }))
+      inl (record {
+        holder = h;
+        words = λ xs is. subst (HeldFits s.words) is (r.each_seat h.seat h.view h.there).held;
+        undone = undone;
+        in_no_own = no_view (λ v. times k v.own) s.views (omega arith);
+      }))
       (cases_eq (done s.words k) 1);
   beyond =
       λ k l. let p = r.each_place k in let f = p.free l in (omega arith, no_view (holding k) s.views (omega arith));

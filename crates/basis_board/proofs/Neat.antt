@@ -1,5 +1,7 @@
 -- Views stay neat, and what the rule says of a view by itself.
-use Rattle.std.proofs.Common.{◌≡◌, ℕ, zero, suc, ◌+◌, ◌*◌, ◌<◌, ◌≤◌, List, [], ◌∷◌, ◌++◌, length, get_or, set, Some, refl, sym, ap, ◌∙◌, subst, ⊎_elim, inl, inr, arith, length-append, append_assoc, append-nil}
+use Rattle.std.proofs.Common.{◌≡◌, ℕ, zero, suc, ◌+◌, ◌*◌, ◌<◌, ◌≤◌, List, [], ◌∷◌, ◌++◌}
+use Rattle.std.proofs.Common.{length, get_or, set, Some, refl, sym, ap, ◌∙◌, subst, ⊎_elim}
+use Rattle.std.proofs.Common.{inl, inr, arith, length-append, append_assoc, append-nil}
 use Rattle.std.proofs.lemmas.Bool.{cases_lt}
 use mathlib.Core.Option.{some, some-ne-none}
 use lib.ListN.{get_elem?}
@@ -7,8 +9,10 @@ use Rattle.basis_board.specs.declared.seats.View.{View}
 use Rattle.basis_board.specs.declared.seats.Read.{Read}
 use Rattle.basis_board.specs.declared.seats.Read.TheVariants.{Count, Open, See, Claim, Lost, Done}
 use Rattle.spec_shape.specs.Words.{IsWellFormed}
-use Rattle.basis_board.specs.Board.{Each, Has, count, owning, noted, finished, opening_place, grown_seen, grown_reads, reading, met, cut_left, cut_right, first_view}
-use Rattle.basis_board.specs.Rule.{SeenFits, ReadFits, Kept, Agree, published_places, StandsIn, Neat, ReadAgrees, Consistent}
+use Rattle.basis_board.specs.Board.{Each, Has, count, owning, noted, finished, opening_place, grown_seen}
+use Rattle.basis_board.specs.Board.{grown_reads, reading, met, cut_left, cut_right, first_view}
+use Rattle.basis_board.specs.Rule.{SeenFits, ReadFits, Kept, Agree, published_places}
+use Rattle.basis_board.specs.Rule.{StandsIn, Neat, ReadAgrees, Consistent}
 use Rattle.basis_board.proofs.Totals.{total_at, each_map, each_append, has_left, has_right}
 use Rattle.basis_board.proofs.Frames.{St, shows_same}
 
@@ -27,18 +31,34 @@ neat_noted v r same stands n = record { published = n.published ∙ sym same; st
 
 pub neat_finished : (v : View) (k : ℕ) (xs : List ℕ) → Neat v → Neat (finished (Some (k, xs)) v)
 neat_finished v k xs n =
-    record { published = ap (λ (l : List ℕ). l ++ k ∷ []) n.published; stands = ((xs, inl refl, omega arith), each_map (StandsIn v.seen) (StandsIn ((k, xs) ∷ v.seen)) (stands_in v.seen ((k, xs) ∷ v.seen) (λ p h. inr h)) v.reads n.stands) }
+    record {
+      published = ap (λ (l : List ℕ). l ++ k ∷ []) n.published;
+      stands = (
+        (xs, inl refl, omega arith),
+        each_map (StandsIn v.seen) (StandsIn ((k, xs) ∷ v.seen))
+            (stands_in v.seen ((k, xs) ∷ v.seen) (λ p h. inr h)) v.reads n.stands,
+      );
+    }
 
 pub neat_opening : (v : View) (k : ℕ) → Neat v → Neat (opening_place v k)
 neat_opening v k n =
-    record { published = n.published; stands = (([], inl refl, omega arith), each_map (StandsIn v.seen) (StandsIn ((k, []) ∷ v.seen)) (stands_in v.seen ((k, []) ∷ v.seen) (λ p h. inr h)) v.reads n.stands) }
+    record {
+      published = n.published;
+      stands = (
+        ([], inl refl, omega arith),
+        each_map (StandsIn v.seen) (StandsIn ((k, []) ∷ v.seen))
+            (stands_in v.seen ((k, []) ∷ v.seen) (λ p h. inr h)) v.reads n.stands,
+      );
+    }
 
 -- the place that was seen last has one more word
 longer_in : (k b : ℕ) (xs : List ℕ) (rest : List (ℕ × List ℕ)) (j : ℕ) (n : ℕ) →
     (ys : List ℕ) × Has ((k, xs) ∷ rest) (j, ys) × (n ≤ length ys) →
     (ys : List ℕ) × Has ((k, xs ++ b ∷ []) ∷ rest) (j, ys) × (n ≤ length ys)
 longer_in k b xs rest j n h = ⊎_elim
-    (λ (e : (k, xs) ≡ (j, h.0)). let l : length xs ≡ length h.0 = ap (λ (p : ℕ × List ℕ). length p.1) e in let m = h.2 in let a : length (xs ++ b ∷ []) ≡ length xs + 1 = length-append xs (b ∷ []) in (xs ++ b ∷ [], inl (λ i. (((e i).0), xs ++ b ∷ [])), omega arith))
+    (λ (e : (k, xs) ≡ (j, h.0)). let l : length xs ≡ length h.0 = ap (λ (p : ℕ × List ℕ). length p.1) e in
+    let m = h.2 in let a : length (xs ++ b ∷ []) ≡ length xs + 1 = length-append xs (b ∷ []) in
+    (xs ++ b ∷ [], inl (λ i. (((e i).0), xs ++ b ∷ [])), omega arith))
     (λ (g : Has rest (j, h.0)). (h.0, inr g, h.2))
     h.1
 
@@ -56,11 +76,16 @@ pub neat_reading : (v : View) (k b : ℕ) (xs : List ℕ) (rest : List (ℕ × L
 neat_reading v k b xs rest old top last n =
     let now : grown_seen v.seen b ≡ (k, xs ++ b ∷ []) ∷ rest = ap (λ (l : List (ℕ × List ℕ)). grown_seen l b) top in
     let noted_now : grown_reads v.reads b ≡ See k (xs ++ b ∷ []) ∷ old = ap (λ (l : List Read). grown_reads l b) last in
-    let was : Each (StandsIn ((k, xs) ∷ rest)) (See k xs ∷ old) = subst (λ (z : List (ℕ × List ℕ) × List Read). Each (StandsIn z.0) z.1) (λ i. (top i, last i)) n.stands in
+    let was : Each (StandsIn ((k, xs) ∷ rest)) (See k xs ∷ old) =
+    subst (λ (z : List (ℕ × List ℕ) × List Read). Each (StandsIn z.0) z.1) (λ i. (top i, last i)) n.stands in
     record {
       published = n.published ∙ (ap published_places last ∙ ap published_places (sym noted_now));
-      stands = subst (λ (z : List (ℕ × List ℕ) × List Read). Each (StandsIn z.0) z.1) (λ i. (sym now i, sym noted_now i))
-          ((xs ++ b ∷ [], inl refl, omega arith), each_map (StandsIn ((k, xs) ∷ rest)) (StandsIn ((k, xs ++ b ∷ []) ∷ rest)) (stands_longer k b xs rest) old was.1);
+      stands =
+          subst (λ (z : List (ℕ × List ℕ) × List Read). Each (StandsIn z.0) z.1) (λ i. (sym now i, sym noted_now i)) (
+            (xs ++ b ∷ [], inl refl, omega arith),
+            each_map (StandsIn ((k, xs) ∷ rest)) (StandsIn ((k, xs ++ b ∷ []) ∷ rest))
+                (stands_longer k b xs rest) old was.1,
+          );
     }
 
 published-append : (xs ys : List Read) → published_places (xs ++ ys) ≡ published_places ys ++ published_places xs
@@ -71,13 +96,18 @@ published-append (See k zs ∷ xs) ys = published-append xs ys
 published-append (Claim k ∷ xs) ys = published-append xs ys
 published-append (Lost c ∷ xs) ys = published-append xs ys
 published-append (Done k zs ∷ xs) ys =
-    ap (λ (l : List ℕ). l ++ k ∷ []) (published-append xs ys) ∙ append_assoc (published_places ys) (published_places xs) (k ∷ [])
+    ap (λ (l : List ℕ). l ++ k ∷ []) (published-append xs ys)
+    ∙ append_assoc (published_places ys) (published_places xs) (k ∷ [])
 
 pub neat_met : (v w : View) → Neat v → Neat w → Neat (met v w)
 neat_met v w n m = record {
   published = (λ i. n.published i ++ m.published i) ∙ sym (published-append w.reads v.reads);
-  stands = each_append (StandsIn (v.seen ++ w.seen)) w.reads v.reads (each_map (StandsIn w.seen) (StandsIn (v.seen ++ w.seen)) (stands_in w.seen (v.seen ++ w.seen) (λ p. has_right v.seen w.seen p)) w.reads m.stands)
-      (each_map (StandsIn v.seen) (StandsIn (v.seen ++ w.seen)) (stands_in v.seen (v.seen ++ w.seen) (λ p. has_left v.seen w.seen p)) v.reads n.stands);
+  stands =
+      each_append (StandsIn (v.seen ++ w.seen)) w.reads v.reads
+      (each_map (StandsIn w.seen) (StandsIn (v.seen ++ w.seen))
+      (stands_in w.seen (v.seen ++ w.seen) (λ p. has_right v.seen w.seen p)) w.reads m.stands)
+      (each_map (StandsIn v.seen) (StandsIn (v.seen ++ w.seen))
+      (stands_in v.seen (v.seen ++ w.seen) (λ p. has_left v.seen w.seen p)) v.reads n.stands);
 }
 
 agree : (ws : List ℕ) (p q : ℕ × List ℕ) → SeenFits ws p → SeenFits ws q → Agree p q
@@ -99,15 +129,36 @@ at_here (z ∷ zs) (suc i) x y e = at_here zs i x y e
 
 pub consistent_left : (v : View) → Consistent v → Consistent (cut_left v)
 consistent_left v h =
-    record { neat = record { published = h.neat.published; stands = h.neat.stands }; agree = h.agree; reads_agree = h.reads_agree; formed = h.formed; own = h.own; once = h.once }
+    record {
+      neat = record { published = h.neat.published; stands = h.neat.stands };
+      agree = h.agree;
+      reads_agree = h.reads_agree;
+      formed = h.formed;
+      own = h.own;
+      once = h.once;
+    }
 
 pub consistent_right : (v : View) → Consistent v → Consistent (cut_right v)
 consistent_right v h =
-    record { neat = record { published = refl; stands = tt }; agree = h.agree; reads_agree = tt; formed = h.formed; own = tt; once = λ k. omega arith }
+    record {
+      neat = record { published = refl; stands = tt };
+      agree = h.agree;
+      reads_agree = tt;
+      formed = h.formed;
+      own = tt;
+      once = λ k. omega arith;
+    }
 
 pub consistent_first : (places : ℕ) → Consistent (first_view places)
 consistent_first places =
-    record { neat = record { published = refl; stands = tt }; agree = tt; reads_agree = tt; formed = tt; own = tt; once = λ k. omega arith }
+    record {
+      neat = record { published = refl; stands = tt };
+      agree = tt;
+      reads_agree = tt;
+      formed = tt;
+      own = tt;
+      once = λ k. omega arith;
+    }
 
 module _ (places : ℕ) where
   pub consistent : (s : St) → Kept places s → (id : ℕ) (v : View) → get_elem? s.views id ≡ some v → Consistent v
@@ -116,13 +167,17 @@ module _ (places : ℕ) where
       let f = r.each_seat id v at in record {
         neat = f.neat;
         agree =
-            each_map (SeenFits ws) (λ p. Each (Agree p) v.seen) (λ p a. each_map (SeenFits ws) (Agree p) (λ q c. agree ws p q a c) v.seen f.seen) v.seen f.seen;
+            each_map (SeenFits ws) (λ p. Each (Agree p) v.seen)
+            (λ p a. each_map (SeenFits ws) (Agree p) (λ q c. agree ws p q a c) v.seen f.seen) v.seen f.seen;
         reads_agree = each_map (ReadFits ws) (ReadAgrees v.seen) (read_agrees ws v.seen f.seen) v.reads f.reads;
         formed =
-            each_map (SeenFits ws) (λ p. length p.1 ≡ 49 → IsWellFormed p.1) (λ p a long. (let g = (r.each_place p.0).formed a.0 in subst IsWellFormed (shows_same ws p.0 g.0 p.1 (g.2.all ∙ sym long) g.1 a.1) g.2)) v.seen f.seen;
+            each_map (SeenFits ws) (λ p. length p.1 ≡ 49 → IsWellFormed p.1)
+            (λ p a long. (let g = (r.each_place p.0).formed a.0 in
+            subst IsWellFormed (shows_same ws p.0 g.0 p.1 (g.2.all ∙ sym long) g.1 a.1) g.2)) v.seen f.seen;
         own = f.own;
         once = λ k. (let p = r.each_place k in let o = p.owned in let t = total_at (owning k) s.views id v at in
-            ⊎_elim (λ (l : k < count ws). (let c = p.claimed l in omega arith)) (λ (l : count ws ≤ k). (let c = p.free l in omega arith)) (cases_lt k (count ws)));
+            ⊎_elim (λ (l : k < count ws). (let c = p.claimed l in omega arith))
+            (λ (l : count ws ≤ k). (let c = p.free l in omega arith)) (cases_lt k (count ws)));
       }
 
   -- the view after a step

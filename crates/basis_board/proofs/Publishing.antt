@@ -36,7 +36,8 @@ pub published_view : (v v1 v2 v3 w : View) (n e : ℕ) (xs : List ℕ) → Count
     v3 ≡ storing v2 n xs → w ≡ finished v3.held v3 → n < v.places → IsPublished v xs n w
 published_view v v1 v2 v3 w n e xs h g hit stored ended inside = record {
   view =
-      ended ∙ ap (λ (u : View). finished u.held u) (stored ∙ ap (λ u. storing u n xs) (g.won hit ∙ ap (λ u. claiming u n) h.view));
+      ended ∙ ap (λ (u : View). finished u.held u)
+      (stored ∙ ap (λ u. storing u n xs) (g.won hit ∙ ap (λ u. claiming u n) h.view));
   inside = inside;
   tells = tells v v1 n h;
 }

@@ -1,7 +1,8 @@
 -- The loads of a look.
 use Rattle.std.proofs.Common.{set}
 use Rattle.basis_board.proofs.Neat.{neat_noted, neat_opening, neat_reading, after}
-use Rattle.std.proofs.Common.{◌≡◌, ℕ, ◌+◌, ◌-◌, ◌*◌, ◌/◌, ◌%◌, ◌<◌, ◌≤◌, List, [], ◌∷◌, ◌++◌, length, get_or, sym, refl, ap, ◌∙◌, subst, ⊎_elim, inr, arith, length-append}
+use Rattle.std.proofs.Common.{◌≡◌, ℕ, ◌+◌, ◌-◌, ◌*◌, ◌/◌, ◌%◌, ◌<◌, ◌≤◌, List, [], ◌∷◌, ◌++◌, length}
+use Rattle.std.proofs.Common.{get_or, sym, refl, ap, ◌∙◌, subst, ⊎_elim, inr, arith, length-append}
 use Rattle.std.proofs.lemmas.Bool.{cases_lt, cases_eq}
 use Rattle.std.proofs.lemmas.List.{get_or_append_left, get_or_push}
 use mathlib.Core.Option.{none}
@@ -10,7 +11,8 @@ use Rattle.basis_board.specs.declared.seats.View.{View}
 use Rattle.basis_board.specs.declared.seats.Read.{Read}
 use Rattle.basis_board.specs.declared.seats.Read.TheVariants.{Open, See}
 use Rattle.spec_shape.specs.Words.{IsWellFormed}
-use Rattle.basis_board.specs.Board.{Each, Has, count, done, Shows, noted, opening_place, grown_seen, grown_reads, reading, head_words}
+use Rattle.basis_board.specs.Board.{Each, Has, count, done, Shows, noted, opening_place}
+use Rattle.basis_board.specs.Board.{grown_seen, grown_reads, reading, head_words}
 use Rattle.basis_board.specs.Rule.{SeenFits, OwnFits, ReadFits, Kept, saw, HasAt, word_read}
 use Rattle.basis_board.proofs.Totals.{each_map}
 use Rattle.basis_board.proofs.Frames.{shows_same, shows_none, unmoved}
@@ -27,10 +29,14 @@ module _ (places : ℕ) where
       let p = r.each_place k in
       let fits = r.each_seat id v at in
       let here : done ws k ≡ n = ap (λ (z : ℕ). get_or ws z 0) (sym is) in
-      let bit : n ≤ 1 = ⊎_elim (λ (l : k < count ws). (let c = p.claimed l in omega arith)) (λ (l : count ws ≤ k). (let c = p.free l in omega arith)) (cases_lt k (count ws)) in
-      let known : Each (λ (q : ℕ × List ℕ). q.0 ≡ i / 50 - 1 → n ≡ 1) v.seen = each_map (SeenFits ws) (λ (q : ℕ × List ℕ). q.0 ≡ i / 50 - 1 → n ≡ 1) (λ q f e. sym here ∙ (ap (done ws) (back ∙ sym e) ∙ f.0)) v.seen fits.seen in
+      let bit : n ≤ 1 = ⊎_elim (λ (l : k < count ws). (let c = p.claimed l in omega arith))
+      (λ (l : count ws ≤ k). (let c = p.free l in omega arith)) (cases_lt k (count ws)) in
+      let known : Each (λ (q : ℕ × List ℕ). q.0 ≡ i / 50 - 1 → n ≡ 1) v.seen =
+      each_map (SeenFits ws) (λ (q : ℕ × List ℕ). q.0 ≡ i / 50 - 1 → n ≡ 1)
+      (λ q f e. sym here ∙ (ap (done ws) (back ∙ sym e) ∙ f.0)) v.seen fits.seen in
       ⊎_elim
-      (λ (yes : n ≡ 1). let w : View = opening_place v k in let new : SeenFits ws (k, []) = (here ∙ yes, shows_none ws k) in
+      (λ (yes : n ≡ 1). let w : View = opening_place v k in
+      let new : SeenFits ws (k, []) = (here ∙ yes, shows_none ws k) in
       let kept = unmoved places s r i id me.1 v w at
       (record {
         on_board = fits.on_board;
@@ -46,26 +52,59 @@ module _ (places : ℕ) where
         keeps,
         tt,
         kept,
-        (record { bit = bit; yes = λ _. ap (opening_place v) back; not_done = λ z. absurd (omega arith); known = known }, refl, after places s (set ws i n) id v w at kept),
+        (
+          record {
+            bit = bit;
+            yes = λ _. ap (opening_place v) back;
+            not_done = λ z. absurd (omega arith);
+            known = known;
+          },
+          refl,
+          after places s (set ws i n) id v w at kept,
+        ),
       ))
       (λ (miss : n ≡ 1 → ⊥).
       let w : View = noted v (Open k) in
-      let kept = unmoved places s r i id me.1 v w at (record { on_board = fits.on_board; is_spent = λ z. absurd (omega arith); held = fits.held; seen = fits.seen; own = fits.own; reads = (tt, fits.reads); neat = neat_noted v (Open k) refl tt fits.neat }) refl refl refl in (
+      let kept = unmoved places s r i id me.1 v w at (record {
+        on_board = fits.on_board;
+        is_spent = λ z. absurd (omega arith);
+        held = fits.held;
+        seen = fits.seen;
+        own = fits.own;
+        reads = (tt, fits.reads);
+        neat = neat_noted v (Open k) refl tt fits.neat;
+      }) refl refl refl in (
         w,
         keeps,
         tt,
         kept,
-        (record { bit = bit; yes = λ e. absurd (miss e); not_done = λ _. ap (λ (z : ℕ). noted v (Open z)) back; known = known }, refl, after places s (set ws i n) id v w at kept),
+        (
+          record {
+            bit = bit;
+            yes = λ e. absurd (miss e);
+            not_done = λ _. ap (λ (z : ℕ). noted v (Open z)) back;
+            known = known;
+          },
+          refl,
+          after places s (set ws i n) id v w at kept,
+        ),
       ))
       (cases_eq n 1)
 
   own_grows : (k : ℕ) (xs : List ℕ) (b : ℕ) (rest : List (ℕ × List ℕ)) → length xs < 49 → (j : ℕ) →
       OwnFits ((k, xs) ∷ rest) j → OwnFits ((k, xs ++ b ∷ []) ∷ rest) j
-  own_grows k xs b rest short j f =
-      (f.0, ⊎_elim (λ (e : (k, xs) ≡ (j, f.0)). absurd (let l : length xs ≡ length f.0 = ap (λ (p : ℕ × List ℕ). length p.1) e in let m = f.2 in omega arith)) (λ (h : Has rest (j, f.0)). inr h) f.1, f.2)
+  own_grows k xs b rest short j f = (
+    f.0,
+    ⊎_elim (λ (e : (k, xs) ≡ (j, f.0)).
+        absurd (let l : length xs ≡ length f.0 = ap (λ (p : ℕ × List ℕ). length p.1) e in let m = f.2 in omega arith))
+        (λ (h : Has rest (j, f.0)). inr h) f.1,
+    f.2,
+  )
 
   -- kind 6
-  pub reads : (slots id : ℕ) (me : Me ℕ View) (i k : ℕ) (xs : List ℕ) (rest : List (ℕ × List ℕ)) (old : List Read) → me.0.seen ≡ (k, xs) ∷ rest → me.0.reads ≡ See k xs ∷ old → 0 < me.0.share → length xs < 49 → i ≡ 50 * k + 1 + length xs
+  pub reads : (slots id : ℕ) (me : Me ℕ View) (i k : ℕ) (xs : List ℕ) (rest : List (ℕ × List ℕ)) (old : List Read) →
+      me.0.seen ≡ (k, xs) ∷ rest → me.0.reads ≡ See k xs ∷ old →
+      0 < me.0.share → length xs < 49 → i ≡ 50 * k + 1 + length xs
       → Allows (Kept places) slots id me i (λ n. n) (word_read (step slots i 0 0 none) me)
   reads slots id me i k xs rest old top last share short is s r _ at _ =
       let v : View = me.0 in
@@ -92,7 +131,8 @@ module _ (places : ℕ) where
         held = fits.held;
         seen = subst (Each (SeenFits ws)) (sym now) (new, seen.1);
         own = subst (λ (l : List (ℕ × List ℕ)). Each (OwnFits l) v.own) (sym now)
-            (each_map (OwnFits ((k, xs) ∷ rest)) (OwnFits ((k, xs ++ n ∷ []) ∷ rest)) (own_grows k xs n rest short) v.own (subst (λ (l : List (ℕ × List ℕ)). Each (OwnFits l) v.own) top fits.own));
+            (each_map (OwnFits ((k, xs) ∷ rest)) (OwnFits ((k, xs ++ n ∷ []) ∷ rest)) (own_grows k xs n rest short)
+            v.own (subst (λ (l : List (ℕ × List ℕ)). Each (OwnFits l) v.own) top fits.own));
         reads = subst (Each (ReadFits ws)) (sym noted_now) (new, older.1);
         neat = neat_reading v k n xs rest old top last fits.neat;
       })
@@ -106,10 +146,12 @@ module _ (places : ℕ) where
             view = refl;
             known = each_map (SeenFits ws) (HasAt ((i - 1) / 50) ((i - 1) % 50) n)
                 (λ q f e l. let same : q.0 ≡ k = e ∙ sym on_k in let at_m : m < length q.1 = omega arith in
-                ap (λ (z : ℕ). get_or q.1 z 0) (sym on_m) ∙ (sym (f.1.same m at_m) ∙ (ap (λ (z : ℕ). get_or ws (50 * z + 1 + m) 0) same ∙ word)))
+                ap (λ (z : ℕ). get_or q.1 z 0) (sym on_m)
+                ∙ (sym (f.1.same m at_m) ∙ (ap (λ (z : ℕ). get_or ws (50 * z + 1 + m) 0) same ∙ word)))
                 v.seen fits.seen;
             formed =
-                λ whole. subst IsWellFormed (shows_same ws k formed.0 (head_words w.seen) (formed.2.all ∙ sym whole) formed.1 (subst (Shows ws k) (sym head) longer)) formed.2;
+                λ whole. subst IsWellFormed (shows_same ws k formed.0 (head_words w.seen)
+                (formed.2.all ∙ sym whole) formed.1 (subst (Shows ws k) (sym head) longer)) formed.2;
           },
           refl,
           after places s (set ws i n) id v w at kept,
@@ -118,10 +160,13 @@ module _ (places : ℕ) where
     where
       shows_more : (ws : List ℕ) (k : ℕ) (xs : List ℕ) (n : ℕ) → length xs < 49 →
           get_or ws (50 * k + 1 + length xs) 0 ≡ n → Shows ws k xs → Shows ws k (xs ++ n ∷ [])
-      shows_more ws k xs n short word h = let long : length (xs ++ n ∷ []) ≡ length xs + 1 = length-append xs (n ∷ []) in record {
-        short = omega arith;
-        same = λ j l. ⊎_elim
-            (λ (e : j ≡ length xs). ap (λ (z : ℕ). get_or ws (50 * k + 1 + z) 0) e ∙ (word ∙ sym (get_or_push xs n 0 j (sym e))))
-            (λ (e : j ≡ length xs → ⊥). let before : j < length xs = omega arith in h.same j before ∙ sym (get_or_append_left xs (n ∷ []) 0 j before))
-            (cases_eq j (length xs));
-      }
+      shows_more ws k xs n short word h =
+          let long : length (xs ++ n ∷ []) ≡ length xs + 1 = length-append xs (n ∷ []) in record {
+            short = omega arith;
+            same = λ j l. ⊎_elim
+                (λ (e : j ≡ length xs). ap (λ (z : ℕ). get_or ws (50 * k + 1 + z) 0) e
+                ∙ (word ∙ sym (get_or_push xs n 0 j (sym e))))
+                (λ (e : j ≡ length xs → ⊥). let before : j < length xs = omega arith in
+                h.same j before ∙ sym (get_or_append_left xs (n ∷ []) 0 j before))
+                (cases_eq j (length xs));
+          }

@@ -1,5 +1,6 @@
 -- The words of a board, and the views of its seats. This file names the plain structs only.
-use Rattle.std.specs.Prelude.{◌≡◌, ℕ, ◌+◌, ◌-◌, ◌*◌, ◌<◌, ◌≤◌, ◌==◌, ◌⊎◌, Bool, true, false, List, [], ◌∷◌, ◌++◌, length, slice_index, Option, Some, None}
+use Rattle.std.specs.Prelude.{◌≡◌, ℕ, ◌+◌, ◌-◌, ◌*◌, ◌<◌, ◌≤◌, ◌==◌, ◌⊎◌, Bool, true, false}
+use Rattle.std.specs.Prelude.{List, [], ◌∷◌, ◌++◌, length, slice_index, Option, Some, None}
 use Rattle.basis_board.specs.declared.seats.View.{View}
 use Rattle.basis_board.specs.declared.seats.Read.{Read}
 use Rattle.basis_board.specs.declared.seats.Read.TheVariants.{Count, See, Claim, Lost, Done}
@@ -26,7 +27,8 @@ one_if false = 0
 abbrev pub times : ℕ → List ℕ → ℕ
 times k xs = total (λ x. one_if (x == k)) xs
 
--- word 0 is the number of claimed places. Place k has its payload in words 50 k + 1 to 50 k + 49, and its done word is word 50 k + 50
+-- word 0 is the number of claimed places. Place k has its payload in words 50 k + 1 to 50 k + 49,
+-- and its done word is word 50 k + 50
 abbrev pub count : List ℕ → ℕ
 count ws = slice_index ws 0
 
@@ -115,7 +117,14 @@ cut_right v = record { places = v.places; share = 1; held = None; seen = v.seen;
 
 abbrev pub met : View → View → View
 met v w =
-    record { places = v.places; share = v.share + w.share; held = v.held; seen = v.seen ++ w.seen; own = v.own ++ w.own; reads = w.reads ++ v.reads }
+    record {
+      places = v.places;
+      share = v.share + w.share;
+      held = v.held;
+      seen = v.seen ++ w.seen;
+      own = v.own ++ w.own;
+      reads = w.reads ++ v.reads;
+    }
 
 -- the view, when the place k was read as done and then these words of it
 abbrev pub seeing : View → ℕ → List ℕ → View
@@ -127,4 +136,9 @@ storing v k xs = record v { held = Some (k, xs) }
 
 abbrev pub publishing : View → ℕ → List ℕ → View
 publishing v k xs =
-    record v { held = None; seen = (k, xs) ∷ v.seen; own = v.own ++ k ∷ []; reads = Done k xs ∷ Claim k ∷ Count k ∷ v.reads }
+    record v {
+      held = None;
+      seen = (k, xs) ∷ v.seen;
+      own = v.own ++ k ∷ [];
+      reads = Done k xs ∷ Claim k ∷ Count k ∷ v.reads;
+    }

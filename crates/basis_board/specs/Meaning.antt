@@ -33,8 +33,8 @@ pub record IsShown (s : State ℕ View) (k : ℕ) : Type 0 where
   pub formed : (xs : List ℕ) × Shows s.words k xs × IsWellFormed xs
   pub owner : JustOne (λ v. times k v.own) s.views
 
--- the view finds each place that it has seen done, and beginning with what it has seen of it; it has seen all words of a place
--- that it published
+-- the view finds each place that it has seen done, and beginning with what it has seen of it; it has seen all words of
+-- a place that it published
 pub record Remembers (s : State ℕ View) (v : View) : Type 0 where
   pub seen : (k : ℕ) (xs : List ℕ) → Has v.seen (k, xs) → (done s.words k ≡ 1) × Shows s.words k xs
   pub own : (k : ℕ) → Has v.own k → (xs : List ℕ) × Has v.seen (k, xs) × (length xs ≡ 49)

@@ -1,5 +1,6 @@
 -- The rule of the board, and what each step tells.
-use Rattle.std.specs.Prelude.{◌≡◌, ◌≢◌, ℕ, ◌+◌, ◌*◌, ◌-◌, ◌/◌, ◌%◌, ◌<◌, ◌≤◌, List, [], ◌∷◌, ◌++◌, length, slice_index, Option, Some, None}
+use Rattle.std.specs.Prelude.{◌≡◌, ◌≢◌, ℕ, ◌+◌, ◌*◌, ◌-◌, ◌/◌, ◌%◌, ◌<◌, ◌≤◌, List}
+use Rattle.std.specs.Prelude.{[], ◌∷◌, ◌++◌, length, slice_index, Option, Some, None}
 use mathlib.Core.Option.{some}
 use lib.ListN.{get_elem?}
 use Rattle.atomic_table.specs.Table.{State, Me, Step}
@@ -7,7 +8,8 @@ use Rattle.basis_board.specs.declared.seats.View.{View}
 use Rattle.basis_board.specs.declared.seats.Read.{Read}
 use Rattle.basis_board.specs.declared.seats.Read.TheVariants.{Count, Open, See, Lost, Done}
 use Rattle.spec_shape.specs.Words.{IsWellFormed}
-use Rattle.basis_board.specs.Board.{Each, Has, total, times, count, done, Shows, holding, owning, share_of, spent, noted, claiming, writing, finished, opening_place, reading, head_words, IsAtMost}
+use Rattle.basis_board.specs.Board.{Each, Has, total, times, count, done, Shows, holding, owning, share_of, spent}
+use Rattle.basis_board.specs.Board.{noted, claiming, writing, finished, opening_place, reading, head_words, IsAtMost}
 
 abbrev pub HeldFits : List ℕ → Option (ℕ × List ℕ) → Type 0
 HeldFits ws None = Unit {0}

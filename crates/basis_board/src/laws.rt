@@ -6,23 +6,25 @@ ghost use Rattle.basis_board.specs.Places.{AllTies};
 ghost use Rattle.basis_board.specs.Rule.{Consistent, OwnsBelow};
 ghost use Rattle.basis_board.specs.Seen.{words_of, IsPrefixOf};
 
-/// Each step that changes a word changes the places that the words spell as one event does, and each load finds what its
-/// event reads.
+/// Each step that changes a word changes the places that the words spell as one event does, and each load finds what
+/// its event reads.
 pub fn steps_are_events()
     ensures { AllTies }
 {}
 
-/// Each claimed place is claimed by one pass or done, a done place is well formed and was published by one pass, and every
-/// pass that has seen words of a place finds them there.
+/// Each claimed place is claimed by one pass or done, a done place is well formed and was published by one pass, and
+/// every pass that has seen words of a place finds them there.
 pub fn meaning()
     ensures { AllMeans }
 {}
 
 /// What a pass had seen of a place is a prefix of what it sees of it later, after a meeting too.
 pub fn seen_words_stay()
-    ensures later { (v : View) (more old : List (ℕ × List ℕ)) (k : ℕ) (words : List ℕ) → Consistent v → v.seen ≡ more ++ old →
+    ensures later { (v : View) (more old : List (ℕ × List ℕ)) (k : ℕ) (words : List ℕ) →
+        Consistent v → v.seen ≡ more ++ old →
         words_of k old ≡ Some words → (now : List ℕ) × (words_of k v.seen ≡ Some now) × IsPrefixOf words now }
-    ensures met { (v : View) (old more : List (ℕ × List ℕ)) (k : ℕ) (words : List ℕ) → Consistent v → v.seen ≡ old ++ more →
+    ensures met { (v : View) (old more : List (ℕ × List ℕ)) (k : ℕ) (words : List ℕ) →
+        Consistent v → v.seen ≡ old ++ more →
         words_of k old ≡ Some words → (now : List ℕ) × (words_of k v.seen ≡ Some now) × IsPrefixOf words now }
 {}
 

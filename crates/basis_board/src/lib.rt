@@ -10,11 +10,11 @@
 //! | `Kept` | the rule of the board's words, which each atomic step keeps | specs/Rule |
 //! | `board_of` | the places that the board's words spell | specs/Places |
 //!
-//! Every place that a pass has read as done shows it, and every other pass, the same well-formed words for good, whatever other
-//! threads do. Nothing is claimed of which of two publications wins a place, or when.
+//! Every place that a pass has read as done shows it, and every other pass, the same well-formed words for good,
+//! whatever other threads do. Nothing is claimed of which of two publications wins a place, or when.
 //!
-//! Word 0 of the board's table is the number of claimed places. Place k has its 49 words in words 50 k + 1 to 50 k + 49 and its
-//! done word, 0 or 1, in word 50 k + 50. Every access is one atomic step on one word.
+//! Word 0 of the board's table is the number of claimed places. Place k has its 49 words in words 50 k + 1 to 50 k + 49
+//! and its done word, 0 or 1, in word 50 k + 50. Every access is one atomic step on one word.
 #![tactic(auto)]
 
 mod board;

@@ -4,7 +4,8 @@ use std::alloc::Global;
 use std::collections::LinkedList;
 use std::marker::Model;
 
-/// What a pass read or did, one entry for each step, but for the words of a place, which stand with the entry of their place.
+/// What a pass read or did, one entry for each step, but for the words of a place,
+/// which stand with the entry of their place.
 pub enum Read {
     /// So many places were claimed.
     Count(u64),

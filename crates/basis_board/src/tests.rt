@@ -1,4 +1,4 @@
-// Passes of one board, on one thread and on two.
+// Passes of one board on two threads.
 ghost use Rattle.std.specs.Prelude.{◌≡◌};
 ghost use Rattle.spec_shape.specs.Words.{IsWellFormed};
 
@@ -8,7 +8,8 @@ use std::sync::atomic::{AtomicU64, Ordering};
 use std::test::Fail;
 use std::thread;
 
-// The words of a basis: one row with a lower limit alone, whose logical is at it, and one basic column with a lower bound alone.
+// The words of a basis: one row with a lower limit alone, whose logical is at it,
+// and one basic column with a lower bound alone.
 fn words() -> [u64; 49] {
     let mut words = [0u64; 49];
     words[0] = 65537;
@@ -22,25 +23,6 @@ fn shape() -> [u64; 25] {
     shape[0] = 65537;
     shape[1] = 5;
     shape
-}
-
-#[test]
-fn two_passes_of_one_thread(rt: HostRuntime) -> Result<(), Fail> {
-    let (board, mut pass) = Board::new(rt.alloc(), 2)?;
-    let (words, shape) = (words(), shape());
-    if !well_formed(&words) {
-        return Ok(assert!(rt; false));
-    }
-    let mut other = board.split(&mut pass);
-    assert!(rt; board.look(&mut other, &shape) == Look::NoneReady(0));
-    assert!(rt; board.publish(&mut pass, &words) == Put::Published(0));
-    assert!(rt; board.look(&mut other, &shape) == Look::Found(0, words));
-    assert!(rt; board.look(&mut other, &[0; 25]) == Look::NoneReady(1));
-    assert!(rt; board.publish(&mut other, &words) == Put::Published(1));
-    assert!(rt; board.publish(&mut other, &words) == Put::Full(2));
-    let mut both = board.meet(pass, other);
-    assert!(rt; board.look(&mut both, &shape) == Look::Found(1, words));
-    Ok(())
 }
 
 // The most turns that the second thread waits for the flag.
