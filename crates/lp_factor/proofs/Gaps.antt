@@ -1,6 +1,8 @@
 -- Runs over all places that do something at the places of some entries alone. Between two entries nothing is done,
 -- since an operand 0 is never refused.
-use Rattle.std.proofs.Common.{◌≡◌, ◌≢◌, ℕ, zero, suc, ◌+◌, ◌-◌, ◌<◌, ◌≤◌, List, [], ◌∷◌, length, take, get_or, set, slice_get, All, Some, Ok, Bool, true, false, cond, nat_eq, nat_lt, refl, sym, ap, ◌∙◌, subst, arith, eq-eqb, ne_eqb, lt-ltb, le-ltb, lit≤}
+use Rattle.std.proofs.Common.{◌≡◌, ◌≢◌, ℕ, zero, suc, ◌+◌, ◌-◌, ◌<◌, ◌≤◌, List, [], ◌∷◌, length, take}
+use Rattle.std.proofs.Common.{get_or, set, slice_get, All, Some, Ok, Bool, true, false, cond, nat_eq, nat_lt}
+use Rattle.std.proofs.Common.{refl, sym, ap, ◌∙◌, subst, arith, eq-eqb, ne_eqb, lt-ltb, le-ltb, lit≤}
 use Rattle.std.specs.List.{AllPairs}
 use Rattle.std.proofs.lemmas.List.{take_more, take_more_set, length-set, get_or-set_other}
 use Rattle.std.proofs.lemmas.List.Elements.{All-get_or, All-more, All-head, All-tail}
@@ -110,24 +112,30 @@ module _ (m : ℕ) (es : Entries) (h : AreEntries m es) where
       by true e = eq_if (entry_of es i) 0ℚ e
       by false e =
           let w =
-          found_entry es i (λ z. let y : true ≡ false = sym (eq_test (entry_of es i) 0ℚ z) ∙ e in cc) in absurd (n w.0 w.1 w.2)
+          found_entry es i (λ z. let y : true ≡ false = sym (eq_test (entry_of es i) 0ℚ z) ∙ e in cc) in
+          absurd (n w.0 w.1 w.2)
 
   -- before the first entry, and between two
   pub none_first : (i : ℕ) → i < bound m es 0 → entry_of es i ≡ 0ℚ
   none_first i l = is_zero_or i (λ c k e. by_eq c 0
-      (λ z. let y : i < row_at es 0 = subst (λ b. i < b) (bound_at 0 (subst (λ c. c < length es) z k)) l in let x : row_at es 0 ≡ i = ap (row_at es) (sym z) ∙ e in let w : ⊥ = omega (arith, y, x) in w)
-      (λ z. let y : i < row_at es 0 = subst (λ b. i < b) (bound_at 0 (omega (arith, k))) l in let x : row_at es 0 < row_at es c = in_order 0 c (omega (arith, z)) k in let w : ⊥ = omega (arith, y, x, e) in w))
+      (λ z. let y : i < row_at es 0 = subst (λ b. i < b) (bound_at 0 (subst (λ c. c < length es) z k)) l in
+      let x : row_at es 0 ≡ i = ap (row_at es) (sym z) ∙ e in let w : ⊥ = omega (arith, y, x) in w)
+      (λ z. let y : i < row_at es 0 = subst (λ b. i < b) (bound_at 0 (omega (arith, k))) l in
+      let x : row_at es 0 < row_at es c = in_order 0 c (omega (arith, z)) k in
+      let w : ⊥ = omega (arith, y, x, e) in w))
 
   pub none_between : (c i : ℕ) → c < length es → row_at es c < i → i < bound m es (c + 1) → entry_of es i ≡ 0ℚ
   none_between c i l after before =
       is_zero_or i (λ d k e. by_lt d (c + 1)
       (λ z. by_eq d c
       (λ y. let x : row_at es c ≡ i = ap (row_at es) (sym y) ∙ e in let w : ⊥ = omega (arith, after, x) in w)
-      (λ y. let x : row_at es d < row_at es c = in_order d c (omega (arith, z, y)) l in let w : ⊥ = omega (arith, after, x, e) in w))
+      (λ y. let x : row_at es d < row_at es c = in_order d c (omega (arith, z, y)) l in
+      let w : ⊥ = omega (arith, after, x, e) in w))
       (λ z. let y : i < row_at es (c + 1) = subst (λ b. i < b) (bound_at (c + 1) (omega (arith, z, k))) before in
       by_eq d (c + 1)
       (λ x. let v : row_at es (c + 1) ≡ i = ap (row_at es) (sym x) ∙ e in let w : ⊥ = omega (arith, y, v) in w)
-      (λ x. let v : row_at es (c + 1) < row_at es d = in_order (c + 1) d (omega (arith, z, x)) k in let w : ⊥ = omega (arith, y, v, e) in w)))
+      (λ x. let v : row_at es (c + 1) < row_at es d = in_order (c + 1) d (omega (arith, z, x)) k in
+      let w : ⊥ = omega (arith, y, v, e) in w)))
 
 -- ---- lists whose items are replaced in order
 -- the first b items are those of the run, and the others as they were
@@ -163,13 +171,15 @@ still f b (suc n) start w d l h =
     let before : DoneTo f (b + n) start w =
     still f b n start w d (omega (arith, l)) (λ i p q. h i p (omega (arith, q))) in
     subst (λ k. DoneTo f k start w) (let z : b + n + 1 ≡ b + suc n = omega arith in z)
-    (one_still f (b + n) start w before (omega (arith, l)) (h (b + n) (omega arith) (omega arith) ∙ ap Ok (sym (before.rest (b + n) (omega arith)))))
+    (one_still f (b + n) start w before (omega (arith, l))
+    (h (b + n) (omega arith) (omega arith) ∙ ap Ok (sym (before.rest (b + n) (omega arith)))))
 
 pub still_to : (f : ℕ → Run ℚ) (b c : ℕ) (start w : List ℚ) → DoneTo f b start w → b ≤ c → c ≤ length w →
     ((i : ℕ) → b ≤ i → i < c → f i ≡ Ok (get_or start i 0ℚ)) → DoneTo f c start w
 still_to f b c start w d p l h =
     let z : b + (c - b) ≡ c = omega (arith, p) in
-    subst (λ k. DoneTo f k start w) z (still f b (c - b) start w d (omega (arith, l, z)) (λ i q r. h i q (omega (arith, r, z))))
+    subst (λ k. DoneTo f k start w) z
+    (still f b (c - b) start w d (omega (arith, l, z)) (λ i q r. h i q (omega (arith, r, z))))
 
 pub whole_done : (f : ℕ → Run ℚ) (m : ℕ) (start w : List ℚ) → DoneTo f m start w → length start ≡ m →
     list_run m f ≡ Ok w
@@ -181,7 +191,8 @@ pub steps_still : {A : Type 0} (f : ℕ → A → Run A) (a s : A) (b n : ℕ) �
 steps_still f a s b zero h k = ap (λ i. steps i f a) (let z : b + 0 ≡ b = omega arith in z) ∙ h
 steps_still f a s b (suc n) h k =
     ap (λ i. steps i f a) (let z : b + suc n ≡ b + n + 1 = omega arith in z)
-    ∙ steps_more (b + n) f a s s (steps_still f a s b n h (λ i p q. k i p (omega (arith, q)))) (k (b + n) (omega arith) (omega arith))
+    ∙ steps_more (b + n) f a s s (steps_still f a s b n h (λ i p q. k i p (omega (arith, q))))
+    (k (b + n) (omega arith) (omega arith))
 
 pub steps_to : {A : Type 0} (f : ℕ → A → Run A) (a s : A) (b c : ℕ) → steps b f a ≡ Ok s → b ≤ c →
     ((i : ℕ) → b ≤ i → i < c → f i s ≡ Ok s) → steps c f a ≡ Ok s

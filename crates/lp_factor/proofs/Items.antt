@@ -1,5 +1,6 @@
 -- The items of a list that are not 0.
-use Rattle.std.proofs.Common.{◌≡◌, ◌≢◌, ℕ, ◌+◌, ◌<◌, ◌≤◌, List, [], ◌∷◌, ◌++◌, length, get_or, slice_get, All, Some, cond, nat_eq, refl, sym, ap, ◌∙◌, subst, arith, eq-eqb, ne_eqb}
+use Rattle.std.proofs.Common.{◌≡◌, ◌≢◌, ℕ, ◌+◌, ◌<◌, ◌≤◌, List, [], ◌∷◌, ◌++◌, length, get_or, slice_get}
+use Rattle.std.proofs.Common.{All, Some, cond, nat_eq, refl, sym, ap, ◌∙◌, subst, arith, eq-eqb, ne_eqb}
 use Rattle.std.proofs.lemmas.List.{ext_get_or}
 use Rattle.std.proofs.lemmas.List.Elements.{All-nil, All-push, All-get_or, All-weaker, All-head, All-tail}
 use Rattle.std.proofs.lemmas.List.Quantifiers.{all_pairs_push}
@@ -17,7 +18,11 @@ use Rattle.lp_factor.proofs.Gaps.{Entries}
 pub no_items : (column : List ℚ) → AreItems 0 column []
 no_items column = record {
   entries =
-      record { inside = All-nil _; ascending = λ i j d lt l. absurd (let z : ⊥ = omega (arith, l) in z); not_zero = All-nil _ };
+      record {
+        inside = All-nil _;
+        ascending = λ i j d lt l. absurd (let z : ⊥ = omega (arith, l) in z);
+        not_zero = All-nil _;
+      };
   read = λ i l. absurd (let z : ⊥ = omega (arith, l) in z);
   narrow = All-nil _;
 }
@@ -36,7 +41,8 @@ pushed_other (e ∷ es) n i v d = ap (cond (nat_eq e.0 i) e.1) (pushed_other es 
 pushed_own : (es : Entries) (n : ℕ) (v : ℚ) → All (λ e. e.0 ≢ n) es → entry_of (es ++ (n, v) ∷ []) n ≡ v
 pushed_own [] n v h = rw (eq-eqb n n refl) refl
 pushed_own (e ∷ es) n v h =
-    rw (ne_eqb e.0 n (All-head (λ (e : ℕ × ℚ). e.0 ≢ n) e es h)) (pushed_own es n v (All-tail (λ (e : ℕ × ℚ). e.0 ≢ n) e es h))
+    rw (ne_eqb e.0 n (All-head (λ (e : ℕ × ℚ). e.0 ≢ n) e es h))
+    (pushed_own es n v (All-tail (λ (e : ℕ × ℚ). e.0 ≢ n) e es h))
 
 pub skip_item : (n : ℕ) (column : List ℚ) (es : Entries) (x : ℚ) → AreItems n column es → slice_get column n ≡ Some x →
     x ≡ 0ℚ → AreItems (n + 1) column es
@@ -44,7 +50,8 @@ skip_item n column es x h e z = record {
   entries =
       record { inside = wider n es h.entries.inside; ascending = h.entries.ascending; not_zero = h.entries.not_zero };
   read = λ i l. by_eq i n
-      (λ d. subst (λ i. entry_of es i ≡ get_or column i 0ℚ) (sym d) (none_at n es (others n es h.entries.inside) ∙ sym (get_or_from_slice_get column n x 0ℚ e ∙ z)))
+      (λ d. subst (λ i. entry_of es i ≡ get_or column i 0ℚ) (sym d)
+      (none_at n es (others n es h.entries.inside) ∙ sym (get_or_from_slice_get column n x 0ℚ e ∙ z)))
       (λ d. h.read i (omega (arith, l, d)));
   narrow = h.narrow;
 }
@@ -55,11 +62,13 @@ push_item n column es now x h e z small same = subst (AreItems (n + 1) column) (
   entries = record {
     inside = All-push (λ (e : ℕ × ℚ). e.0 < n + 1) es (n, x) (wider n es h.entries.inside) (omega arith);
     ascending =
-        all_pairs_push (λ (d e : ℕ × ℚ). d.0 < e.0) es (n, x) h.entries.ascending (λ k d l. All-get_or (λ (e : ℕ × ℚ). e.0 < n) es k d l h.entries.inside);
+        all_pairs_push (λ (d e : ℕ × ℚ). d.0 < e.0) es (n, x) h.entries.ascending
+        (λ k d l. All-get_or (λ (e : ℕ × ℚ). e.0 < n) es k d l h.entries.inside);
     not_zero = All-push (λ (e : ℕ × ℚ). e.1 ≢ 0ℚ) es (n, x) h.entries.not_zero z;
   };
   read = λ i l. by_eq i n
-      (λ d. subst (λ i. entry_of (es ++ (n, x) ∷ []) i ≡ get_or column i 0ℚ) (sym d) (pushed_own es n x (others n es h.entries.inside) ∙ sym (get_or_from_slice_get column n x 0ℚ e)))
+      (λ d. subst (λ i. entry_of (es ++ (n, x) ∷ []) i ≡ get_or column i 0ℚ) (sym d)
+      (pushed_own es n x (others n es h.entries.inside) ∙ sym (get_or_from_slice_get column n x 0ℚ e)))
       (λ d. pushed_other es n i x (λ y. d (sym y)) ∙ h.read i (omega (arith, l, d)));
   narrow = All-push (λ (e : ℕ × ℚ). IsNarrow e.1) es (n, x) h.narrow small;
 })
@@ -70,10 +79,18 @@ pub pair_is : (n place : ℕ) (column : List ℚ) (es : Entries) → AreItems n 
 pair_is n place column es h e =
     ap (λ c. record { place = place; column = c })
     (ext_get_or 0ℚ (made n (λ i. entry_of es i)) column (length-made n (λ i. entry_of es i) ∙ e)
-    (λ i l. let l' : i < n = subst (λ k. i < k) (length-made n (λ i. entry_of es i)) l in get_or-made n (λ i. entry_of es i) i 0ℚ l' ∙ h.read i l'))
+    (λ i l. let l' : i < n = subst (λ k. i < k) (length-made n (λ i. entry_of es i)) l in
+    get_or-made n (λ i. entry_of es i) i 0ℚ l' ∙ h.read i l'))
 
 pub eta_is : (n place : ℕ) (column : List ℚ) (es : Entries) (pivot : ℚ) → AreItems n column es → n ≤ 256 → place < n →
     slice_get column place ≡ Some pivot → get_or column place 0ℚ ≢ 0ℚ → IsEta n place pivot es
 eta_is n place column es pivot h few l e z =
     let own : get_or column place 0ℚ ≡ pivot = get_or_from_slice_get column place pivot 0ℚ e in
-    record { few = few; inside = l; entries = h.entries; own = h.read place l ∙ own; not_zero = λ y. z (own ∙ y); narrow = h.narrow }
+    record {
+      few = few;
+      inside = l;
+      entries = h.entries;
+      own = h.read place l ∙ own;
+      not_zero = λ y. z (own ∙ y);
+      narrow = h.narrow;
+    }

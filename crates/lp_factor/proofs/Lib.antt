@@ -5,3 +5,4 @@ pub mod Items
 pub mod Solving
 pub mod Replacing
 pub mod Opens
+pub mod Columns

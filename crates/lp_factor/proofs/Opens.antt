@@ -1,5 +1,7 @@
 -- The place that a column finds.
-use Rattle.std.proofs.Common.{◌≡◌, ◌≢◌, ℕ, zero, suc, ◌+◌, ◌-◌, ◌<◌, List, length, get_or, set, slice_get, Option, Some, None, is_none, Result, Ok, Err, Bool, true, false, not, ◌&&◌, cond, refl, sym, ap, ap₂, ◌∙◌, subst, arith}
+use Rattle.std.proofs.Common.{◌≡◌, ◌≢◌, ℕ, zero, suc, ◌+◌, ◌-◌, ◌<◌, List, length, get_or, set}
+use Rattle.std.proofs.Common.{slice_get, Option, Some, None, is_none, Result, Ok, Err, Bool, true}
+use Rattle.std.proofs.Common.{false, not, ◌&&◌, cond, refl, sym, ap, ap₂, ◌∙◌, subst, arith}
 use Rattle.std.proofs.lemmas.Option.{get_or_from_slice_get}
 use Rattle.std.specs.Prelude.{IsTrue, ◌↔◌}
 use Rattle.spec_exact.specs.Fraction.{ℚ, 0ℚ, eq_ℚ}
@@ -18,7 +20,8 @@ use Rattle.lp_factor.specs.Answer.{Chooses, MakesFactors}
 use Rattle.spec_simplex.specs.Eliminate.{basis_at}
 use Rattle.spec_factor.specs.declared.stop.NoFactors.{NoFactors}
 use Rattle.spec_factor.specs.declared.stop.NoFactors.TheVariants as cause
-use Rattle.spec_factor.specs.Factors.{Chosen, is_open, or_open, open_place, with_pair, chosen_at, column_of, ftran_run, choose_run, none_chosen, choose_all, factors_of, factor_run}
+use Rattle.spec_factor.specs.Factors.{Chosen, is_open, or_open, open_place, with_pair, chosen_at, column_of}
+use Rattle.spec_factor.specs.Factors.{ftran_run, choose_run, none_chosen, choose_all, factors_of, factor_run}
 
 abbrev pub Columns : Type 0
 Columns = List (Option ℕ)
@@ -58,7 +61,8 @@ taken_is columns v i k e = ap (λ o. is_none o && not (eq_ℚ (get_or v i 0ℚ) 
 pub free_is : (columns : Columns) (v : List ℚ) (i : ℕ) (x : ℚ) (c : Bool) → get_or columns i None ≡ None →
     slice_get v i ≡ Some x → (IsTrue c ↔ (x ≡ 0ℚ)) → not c ≡ is_open columns v i
 free_is columns v i x c e g h =
-    sym (ap (λ o. is_none o && not (eq_ℚ (get_or v i 0ℚ) 0ℚ)) e ∙ ap (λ y. not (eq_ℚ y 0ℚ)) (get_or_from_slice_get v i x 0ℚ g) ∙ ap not (by (eq_ℚ x 0ℚ) c refl h))
+    sym (ap (λ o. is_none o && not (eq_ℚ (get_or v i 0ℚ) 0ℚ)) e
+    ∙ ap (λ y. not (eq_ℚ y 0ℚ)) (get_or_from_slice_get v i x 0ℚ g) ∙ ap not (by (eq_ℚ x 0ℚ) c refl h))
   where
     by : (d c : Bool) → eq_ℚ x 0ℚ ≡ d → (IsTrue c ↔ (x ≡ 0ℚ)) → eq_ℚ x 0ℚ ≡ c
     by true true e h = e
@@ -71,27 +75,32 @@ module _ (f : Form) (k : ℕ) (s : Chosen) (all : length s.columns ≡ f.rows) w
   pub choose_gives : (column z : List ℚ) (p : ℕ) (new : Chosen) → column ≡ column_of f k → length column ≡ f.rows →
       ftran_run (Some largest) (length column) s.pairs column ≡ Ok z →
       Some p ≡ open_place s.columns z (length s.columns)
-      → new ≡ record { pairs = with_pair s.pairs p z; columns = set s.columns p (Some k) } → choose_run (Some largest) f k s ≡ Ok new
+      → new ≡ record { pairs = with_pair s.pairs p z; columns = set s.columns p (Some k) } →
+      choose_run (Some largest) f k s ≡ Ok new
   choose_gives column z p new e long h found is =
-      ap (λ o. refused_as cause.Past o >>= λ v. chosen_at s k v (open_place s.columns v f.rows)) (ap₂ (λ n c. ftran_run (Some largest) n s.pairs c) (sym long) (sym e) ∙ h)
+      ap (λ o. refused_as cause.Past o >>= λ v. chosen_at s k v (open_place s.columns v f.rows))
+      (ap₂ (λ n c. ftran_run (Some largest) n s.pairs c) (sym long) (sym e) ∙ h)
       ∙ ap (chosen_at s k z) (ap (open_place s.columns z) (sym all) ∙ sym found) ∙ ap Ok (sym is)
 
   pub choose_refused : (column : List ℚ) (x : Past ℚ) → column ≡ column_of f k → length column ≡ f.rows →
       ftran_run (Some largest) (length column) s.pairs column ≡ Err x →
       choose_run (Some largest) f k s ≡ Err (cause.Past x)
   choose_refused column x e long h =
-      ap (λ o. refused_as cause.Past o >>= λ v. chosen_at s k v (open_place s.columns v f.rows)) (ap₂ (λ n c. ftran_run (Some largest) n s.pairs c) (sym long) (sym e) ∙ h)
+      ap (λ o. refused_as cause.Past o >>= λ v. chosen_at s k v (open_place s.columns v f.rows))
+      (ap₂ (λ n c. ftran_run (Some largest) n s.pairs c) (sym long) (sym e) ∙ h)
 
   pub choose_stuck : (column z : List ℚ) → column ≡ column_of f k → length column ≡ f.rows →
       ftran_run (Some largest) (length column) s.pairs column ≡ Ok z → None ≡ open_place s.columns z (length s.columns)
       → choose_run (Some largest) f k s ≡ Err cause.Singular
   choose_stuck column z e long h none =
-      ap (λ o. refused_as cause.Past o >>= λ v. chosen_at s k v (open_place s.columns v f.rows)) (ap₂ (λ n c. ftran_run (Some largest) n s.pairs c) (sym long) (sym e) ∙ h)
+      ap (λ o. refused_as cause.Past o >>= λ v. chosen_at s k v (open_place s.columns v f.rows))
+      (ap₂ (λ n c. ftran_run (Some largest) n s.pairs c) (sym long) (sym e) ∙ h)
       ∙ ap (chosen_at s k z) (ap (open_place s.columns z) (sym all) ∙ sym none)
 
 -- ---- the basic columns one by one
 pub record ChosenTo (f : Form) (basis : List Status) (n : ℕ) (s : Chosen) : Type 0 where
-  pub done : steps n (λ k s. cond (is_basic (basis_at basis k)) (choose_run (Some largest) f k s) (Ok s)) (none_chosen f) ≡ Ok s
+  pub done : steps n (λ k s. cond (is_basic (basis_at basis k)) (choose_run (Some largest) f k s) (Ok s))
+      (none_chosen f) ≡ Ok s
   pub all : length s.columns ≡ f.rows
 
 module _ (f : Form) (basis : List Status) where
@@ -109,7 +118,9 @@ module _ (f : Form) (basis : List Status) where
       ChosenTo f basis (k + 1) u
   one_more k s u status d e b h l = record {
     done =
-        steps_more k at (none_chosen f) s u d.done (ap (λ x. cond (is_basic x) (choose_run (Some largest) f k s) (Ok s)) (status_read k status e) ∙ ap (λ c. cond c (choose_run (Some largest) f k s) (Ok s)) b ∙ h);
+        steps_more k at (none_chosen f) s u d.done
+        (ap (λ x. cond (is_basic x) (choose_run (Some largest) f k s) (Ok s)) (status_read k status e)
+        ∙ ap (λ c. cond c (choose_run (Some largest) f k s) (Ok s)) b ∙ h);
     all = l ∙ d.all;
   }
 
@@ -117,7 +128,9 @@ module _ (f : Form) (basis : List Status) where
       is_basic status ≡ false → u ≡ s → ChosenTo f basis (k + 1) u
   passed_by k s u status d e b same = subst (ChosenTo f basis (k + 1)) (sym same) (record {
     done =
-        steps_more k at (none_chosen f) s s d.done (ap (λ x. cond (is_basic x) (choose_run (Some largest) f k s) (Ok s)) (status_read k status e) ∙ ap (λ c. cond c (choose_run (Some largest) f k s) (Ok s)) b);
+        steps_more k at (none_chosen f) s s d.done
+        (ap (λ x. cond (is_basic x) (choose_run (Some largest) f k s) (Ok s)) (status_read k status e)
+        ∙ ap (λ c. cond c (choose_run (Some largest) f k s) (Ok s)) b);
     all = d.all;
   })
 
@@ -127,7 +140,8 @@ module _ (f : Form) (basis : List Status) where
   unfolding factor_run choose_all
   factor_stops k s status x l d e b h =
       ap (λ o. o >>= λ s. Ok (factors_of s)) (steps_stop k (f.cols + f.rows) at (none_chosen f) s x l d.done
-      (ap (λ x. cond (is_basic x) (choose_run (Some largest) f k s) (Ok s)) (status_read k status e) ∙ ap (λ c. cond c (choose_run (Some largest) f k s) (Ok s)) b ∙ h))
+      (ap (λ x. cond (is_basic x) (choose_run (Some largest) f k s) (Ok s)) (status_read k status e)
+      ∙ ap (λ c. cond c (choose_run (Some largest) f k s) (Ok s)) b ∙ h))
 
   pub factor_gives : (n : ℕ) (s : Chosen) → n ≡ f.cols + f.rows → ChosenTo f basis n s →
       factor_run (Some largest) f basis ≡ Ok (factors_of s)

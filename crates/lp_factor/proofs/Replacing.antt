@@ -13,7 +13,8 @@ module _ (s : Factors) (p k : ℕ) (column : List ℚ) where
       → replace_run (Some largest) (length s.basic) s p k column ≡ Ok new
   unfolding replace_run
   replace_gives copied z new e h is =
-      ap (λ o. o >>= λ v. Ok (record { pairs = with_pair s.pairs p v; basic = set s.basic p k })) (ap (ftran_run (Some largest) (length s.basic) s.pairs) (sym e) ∙ h)
+      ap (λ o. o >>= λ v. Ok (record { pairs = with_pair s.pairs p v; basic = set s.basic p k }))
+      (ap (ftran_run (Some largest) (length s.basic) s.pairs) (sym e) ∙ h)
       ∙ ap Ok (sym is)
 
   pub replace_refused : (copied : List ℚ) (x : Past ℚ) → copied ≡ column →
@@ -21,4 +22,5 @@ module _ (s : Factors) (p k : ℕ) (column : List ℚ) where
       replace_run (Some largest) (length s.basic) s p k column ≡ Err x
   unfolding replace_run
   replace_refused copied x e h =
-      ap (λ o. o >>= λ v. Ok (record { pairs = with_pair s.pairs p v; basic = set s.basic p k })) (ap (ftran_run (Some largest) (length s.basic) s.pairs) (sym e) ∙ h)
+      ap (λ o. o >>= λ v. Ok (record { pairs = with_pair s.pairs p v; basic = set s.basic p k }))
+      (ap (ftran_run (Some largest) (length s.basic) s.pairs) (sym e) ∙ h)

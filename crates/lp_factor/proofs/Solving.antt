@@ -1,5 +1,6 @@
 -- Both solves, pair by pair.
-use Rattle.std.proofs.Common.{◌≡◌, ℕ, ◌+◌, ◌-◌, ◌<◌, ◌≤◌, List, [], ◌∷◌, ◌++◌, length, take, drop, get_or, All, Some, Ok, Err, refl, sym, ap, ap₂, ◌∙◌, subst, arith}
+use Rattle.std.proofs.Common.{◌≡◌, ℕ, ◌+◌, ◌-◌, ◌<◌, ◌≤◌, List, [], ◌∷◌, ◌++◌, length, take, drop}
+use Rattle.std.proofs.Common.{get_or, All, Some, Ok, Err, refl, sym, ap, ap₂, ◌∙◌, subst, arith}
 use Rattle.std.proofs.lemmas.List.{take_more, take_all, drop_all, drop_more, take-append-drop}
 use Rattle.std.proofs.lemmas.List.Elements.{All-get_or}
 use Rattle.spec_exact.specs.Fraction.{ℚ}
@@ -19,7 +20,8 @@ ftran-append m [] fs v w h = let e : v ≡ w = cc in ap (ftran_run (Some largest
 ftran-append m (e ∷ es) fs v w h = by (forward_run (Some largest) m e v) h (λ u k. ftran-append m es fs u w k)
   where
     by : (o : Run (List ℚ)) → (o >>= λ u. ftran_run (Some largest) m es u) ≡ Ok w →
-        ((u : List ℚ) → ftran_run (Some largest) m es u ≡ Ok w → ftran_run (Some largest) m (es ++ fs) u ≡ ftran_run (Some largest) m fs w)
+        ((u : List ℚ) → ftran_run (Some largest) m es u ≡ Ok w →
+        ftran_run (Some largest) m (es ++ fs) u ≡ ftran_run (Some largest) m fs w)
         → (o >>= λ u. ftran_run (Some largest) m (es ++ fs) u) ≡ ftran_run (Some largest) m fs w
     by (Ok u) h more = more u h
     by (Err p) h more = cc
@@ -34,7 +36,8 @@ pub record BackwardDone (m : ℕ) (pairs : List Pair) (v : List ℚ) (k : ℕ) (
   pub all : length w ≡ m
   pub narrow : All IsNarrow w
 
-module _ (m : ℕ) (pairs : List Pair) (ok : All (λ (e : Pair). length e.column ≡ m) pairs) (v : List ℚ) (same : length v ≡ m) where
+module _ (m : ℕ) (pairs : List Pair) (ok : All (λ (e : Pair). length e.column ≡ m) pairs)
+    (v : List ℚ) (same : length v ≡ m) where
   pub column_long : (k : ℕ) (e : Pair) (w : List ℚ) → e ≡ get_or pairs k e → k < length pairs → length w ≡ m →
       length e.column ≡ length w
   column_long k e w is l all =
@@ -61,7 +64,8 @@ module _ (m : ℕ) (pairs : List Pair) (ok : All (λ (e : Pair). length e.column
   ftran_stops k e w p is l d h =
       ap (λ es. ftran_run (Some largest) m es v) (split k e is l)
       ∙ ftran-append m (take k pairs) (e ∷ drop (k + 1) pairs) v w d.done
-      ∙ ap (λ o. o >>= λ x. ftran_run (Some largest) m (drop (k + 1) pairs) x) (subst (λ n. forward_run (Some largest) n e w ≡ Err p) d.all h)
+      ∙ ap (λ o. o >>= λ x. ftran_run (Some largest) m (drop (k + 1) pairs) x)
+      (subst (λ n. forward_run (Some largest) n e w ≡ Err p) d.all h)
     where
       split : (k : ℕ) (e : Pair) → e ≡ get_or pairs k e → k < length pairs →
           pairs ≡ take k pairs ++ e ∷ drop (k + 1) pairs
@@ -76,7 +80,11 @@ module _ (m : ℕ) (pairs : List Pair) (ok : All (λ (e : Pair). length e.column
   -- ---- btran
   pub btran_first : All IsNarrow v → BackwardDone m pairs v 0 v
   btran_first n =
-      record { done = ap (λ es. btran_run (Some largest) m es v) (drop_all (length pairs - 0) pairs (omega arith)); all = same; narrow = n }
+      record {
+        done = ap (λ es. btran_run (Some largest) m es v) (drop_all (length pairs - 0) pairs (omega arith));
+        all = same;
+        narrow = n;
+      }
 
   behind : (k : ℕ) (e : Pair) → k < length pairs → e ≡ get_or pairs (length pairs - 1 - k) e →
       drop (length pairs - (k + 1)) pairs ≡ e ∷ drop (length pairs - k) pairs
@@ -109,10 +117,13 @@ module _ (m : ℕ) (pairs : List Pair) (ok : All (λ (e : Pair). length e.column
   btran_stops k e w p is l d h =
       ap (λ es. btran_run (Some largest) m es v) (sym (take-append-drop (length pairs - (k + 1)) pairs))
       ∙ btran_stays (take (length pairs - (k + 1)) pairs) (drop (length pairs - (k + 1)) pairs) p
-      (ap (λ es. btran_run (Some largest) m es v) (behind k e l is) ∙ ap (λ o. o >>= λ x. backward_run (Some largest) m e x) d.done ∙ subst (λ n. backward_run (Some largest) n e w ≡ Err p) d.all h)
+      (ap (λ es. btran_run (Some largest) m es v) (behind k e l is)
+      ∙ ap (λ o. o >>= λ x. backward_run (Some largest) m e x) d.done
+      ∙ subst (λ n. backward_run (Some largest) n e w ≡ Err p) d.all h)
 
   pub btran_whole : (k : ℕ) (w : List ℚ) → length pairs ≤ k → BackwardDone m pairs v k w →
       btran_run (Some largest) m pairs v ≡ Ok w
   btran_whole k w l d =
-      ap (λ es. btran_run (Some largest) m es v) (let z : 0 ≡ length pairs - k = omega (arith, l) in ap (λ i. drop i pairs) z)
+      ap (λ es. btran_run (Some largest) m es v)
+      (let z : 0 ≡ length pairs - k = omega (arith, l) in ap (λ i. drop i pairs) z)
       ∙ d.done

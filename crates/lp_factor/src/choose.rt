@@ -1,9 +1,11 @@
 // Factoring the basic columns of a basis, one by one in the order of their numbers.
-ghost use Rattle.std.specs.Prelude.{◌≡◌, ◌≢◌, ◌+◌, ◌<◌, ◌≤◌, ℕ, List, Some, None, [], length, get_or, replicate, IfOk, IfSome, OnOk, map, unwrap_or, slice_set};
+ghost use Rattle.std.specs.Prelude.{◌≡◌, ◌≢◌, ◌+◌, ◌<◌, ◌≤◌, ℕ, List, Some, None, [], length, get_or};
+ghost use Rattle.std.specs.Prelude.{replicate, IfOk, IfSome, OnOk, map, unwrap_or, slice_set};
 ghost use Rattle.spec_exact.specs.Fraction.{ℚ, 0ℚ};
 ghost use Rattle.spec_simplex.specs.Tableau.{is_basic as is_basic_of};
 ghost use Rattle.spec_simplex.specs.Eliminate.{basics_below};
-ghost use Rattle.spec_factor.specs.Factors.{ftran_run, column_entry, column_of as column_by, is_open as is_open_of, open_place as open_place_of, with_pair, choose_run, factor_run};
+ghost use Rattle.spec_factor.specs.Factors.{ftran_run, column_of as column_by, is_open as is_open_of};
+ghost use Rattle.spec_factor.specs.Factors.{open_place as open_place_of, with_pair, choose_run, factor_run};
 ghost use Rattle.lp_frac.specs.Narrow.{largest};
 ghost use Rattle.lp_factor.specs.Answer.{GivesRun, Chooses, MakesFactors};
 ghost use Rattle.lp_factor.specs.Chosen.{AreChosen};
@@ -13,7 +15,7 @@ use crate::factors::Factors;
 use crate::solve::forward_all;
 use crate::stop::FactorStop;
 use lp_form::{Basis, Form, Status};
-use lp_frac::{Frac, Fracs, Past, is_zero, neg, one, zero};
+use lp_frac::{Fracs, Past, is_zero, neg, one};
 use std::alloc::{AllocError, Global};
 use std::marker::Model;
 
@@ -44,17 +46,26 @@ fn is_basic(status: Status) -> bool
     }
 }
 
-// What stands in row `i` of column `k` of the form's equations.
-fn entry(form: &Form, i: u32, k: u32) -> Frac
-    requires { i < form.now.rows }
-    ensures { result ≡ column_entry form.now i k }
+// The negatives of structural column `k`'s coefficients, in their rows.
+fn put_negatives(form: &Form, k: u32, column: &mut Fracs)
+    requires structural { k < form.now.cols }
+    requires zeros { column.old ≡ replicate form.now.rows 0ℚ }
+    ensures { column.new ≡ column_by form.now k }
 {
-    if k < form.cols() {
-        neg(form.entry(i, k))
-    } else if i == k - form.cols() {
-        one()
-    } else {
-        zero()
+    for (row, value) in form.entries(k) {
+        column.set(*row as usize, neg(*value));
+    }
+}
+
+// 1 in the row of logical column `k`. An artificial has nothing in any row.
+fn put_one(form: &Form, k: u32, column: &mut Fracs)
+    requires not_structural { form.now.cols ≤ k }
+    requires zeros { column.old ≡ replicate form.now.rows 0ℚ }
+    ensures { column.new ≡ column_by form.now k }
+{
+    let row = k - form.cols();
+    if row < form.rows() {
+        column.set(row as usize, one());
     }
 }
 
@@ -63,9 +74,11 @@ pub fn column_of(alloc: Global, form: &Form, k: u32) -> Result<Fracs, AllocError
     ensures value { IfOk result (λ c. c ≡ column_by form.now k) }
     ensures all { IfOk result (λ c. length c ≡ form.now.rows) }
 {
-    let mut column = Fracs::new(alloc);
-    for i in 0..form.rows() {
-        column.push(entry(form, i, k))?;
+    let mut column = Fracs::zeros(alloc, form.rows() as usize)?;
+    if k < form.cols() {
+        put_negatives(form, k, &mut column);
+    } else {
+        put_one(form, k, &mut column);
     }
     Ok(column)
 }

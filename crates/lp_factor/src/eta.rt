@@ -8,7 +8,7 @@ ghost use Rattle.lp_frac.specs.Narrow.{largest};
 ghost use Rattle.lp_factor.specs.Answer.{GivesRun};
 ghost use Rattle.lp_factor.specs.Eta.{AreItems};
 
-use crate::steps::{less_product, narrow};
+use crate::steps::{less_part, less_product, narrow};
 use lp_frac::{Entries, Frac, Fracs, Past, div, is_zero};
 use std::alloc::{AllocError, Global};
 use std::marker::Model;
@@ -102,7 +102,7 @@ impl Eta {
         let mut rest = narrow(v.at(place));
         for (row, value) in self.entries.as_slice() {
             if *row != self.place {
-                rest = narrow(less_product(v.at(*row as usize), *value, rest)?);
+                rest = narrow(less_part(v.at(*row as usize), *value, rest)?);
             }
         }
         let by = narrow(div(rest, self.pivot)?);

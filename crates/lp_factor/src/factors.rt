@@ -1,5 +1,6 @@
 // Factors of a basis, and both solves over them.
-ghost use Rattle.std.specs.Prelude.{◌≡◌, ◌≢◌, ◌<◌, ◌≤◌, ℕ, List, [], Some, Ok, IfOk, OnOk, length, get_or, slice_set, replicate};
+ghost use Rattle.std.specs.Prelude.{◌≡◌, ◌≢◌, ◌<◌, ◌≤◌, ℕ, List, [], Some, Ok, IfOk};
+ghost use Rattle.std.specs.Prelude.{OnOk, length, get_or, slice_set, replicate};
 ghost use Rattle.spec_exact.specs.Fraction.{ℚ, 0ℚ};
 ghost use Rattle.spec_factor.specs.Factors.{ftran_run, btran_run, replace_run, with_pair};
 ghost use Rattle.lp_frac.specs.Narrow.{largest};

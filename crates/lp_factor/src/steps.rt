@@ -4,7 +4,7 @@ ghost use Rattle.spec_exact.specs.Narrow.{IsNarrow};
 ghost use Rattle.spec_simplex.specs.Run as run;
 ghost use Rattle.lp_frac.specs.Narrow.{largest};
 
-use lp_frac::{Frac, Fracs, Past, den, num};
+use lp_frac::{Frac, Fracs, Past, den, is_zero, num};
 
 /// The same fraction. It does nothing: proofs call it for the fact that its parts have at most 127 bits.
 pub fn narrow(v: Frac) -> Frac
@@ -21,6 +21,19 @@ pub fn less_product(v: Frac, w: Frac, s: Frac) -> Result<Frac, Past>
     ensures { result ≡ run.less_product (Some largest) v w s }
 {
     lp_frac::less_product(v, w, s)
+}
+
+/// The same, where `v` is often 0: then nothing is taken off.
+#[inline(always)]
+pub(crate) fn less_part(v: Frac, w: Frac, s: Frac) -> Result<Frac, Past>
+    requires w_narrow { IsNarrow w }
+    requires s_narrow { IsNarrow s }
+    ensures { result ≡ run.less_product (Some largest) v w s }
+{
+    if is_zero(v) {
+        return Ok(s);
+    }
+    less_product(v, w, s)
 }
 
 /// The same of each fraction of a list as `narrow` of one.

@@ -5,7 +5,8 @@ use Rattle.lp_factor.proofs.choose.open_place.Goals as goal
 
 pub returns-then-is_open-clause-value : goal.returns-then-is_open-clause-value
 returns-then-is_open-clause-value c =
-    open_here c.args.columns.now c.args.v.now c.loop-i.i (length c.args.columns.now) c.loop-i.invariant (sym c.is_open.ensures ∙ c.if-is_open.true) c.loop-i-test.true
+    open_here c.args.columns.now c.args.v.now c.loop-i.i (length c.args.columns.now) c.loop-i.invariant
+    (sym c.is_open.ensures ∙ c.if-is_open.true) c.loop-i-test.true
 
 pub returns-then-is_open-clause-open : goal.returns-then-is_open-clause-open
 returns-then-is_open-clause-open c =

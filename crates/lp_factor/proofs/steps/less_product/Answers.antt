@@ -11,4 +11,5 @@ then_is (Err e) next = refl
 
 pub returns : goal.returns
 returns c =
-    c.less_product.ensures ∙ then_is (product_run (Some largest) c.args.v c.args.w) (difference_run (Some largest) c.args.s)
+    c.less_product.ensures
+    ∙ then_is (product_run (Some largest) c.args.v c.args.w) (difference_run (Some largest) c.args.s)

@@ -7,7 +7,8 @@ use Rattle.lp_factor.proofs.steps.tell_narrow.Goals as goal
 
 pub loop-i-preserved : goal.loop-i-preserved
 loop-i-preserved c =
-    read_narrow _ _ _ c.loop-i.invariant (omega (arith, c.loop-i-test.true, c.len-i-end.ensures)) c.at.ensures (subst IsNarrow c.narrow-item.ensures.value c.narrow-item.ensures.narrow)
+    read_narrow _ _ _ c.loop-i.invariant (omega (arith, c.loop-i-test.true, c.len-i-end.ensures)) c.at.ensures
+    (subst IsNarrow c.narrow-item.ensures.value c.narrow-item.ensures.narrow)
 
 pub returns : goal.returns
 returns c =
