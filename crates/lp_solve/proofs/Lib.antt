@@ -1,4 +1,5 @@
 pub mod BothPhases
+pub mod Factored
 pub mod Runs
 pub mod Solved
 pub mod WarmRuns

@@ -1,5 +1,5 @@
 -- The cold solve by its form, and certificates that fit their model.
-use Rattle.std.proofs.Common.{◌≡◌, ℕ, ◌<◌, Option, Result, Ok, Err, sym, subst, ap}
+use Rattle.std.proofs.Common.{◌≡◌, ℕ, ◌<◌, Option, Result, Ok, Err, refl, sym, subst, ap, ◌∙◌}
 use Rattle.spec_exact.specs.Fraction.{ℚ}
 use Rattle.spec_exact.specs.declared.past.Past.{Past}
 use Rattle.spec_model.specs.Model.{Model, width}
@@ -15,6 +15,7 @@ use Rattle.spec_cold.specs.declared.outcome.Cold.TheVariants as outcome
 use Rattle.spec_cold.specs.Accepted.{IsAccepted}
 use Rattle.spec_cold.specs.Cold.{ColdEnd, certificate_of, after_phases, after_form, cold}
 use Rattle.spec_cold.proofs.Solved.{end_accepted, clash_accepted}
+use Rattle.spec_solve.specs.Order.{cold_by, cold_over}
 use Rattle.lp_standard.specs.Answer.{IsFaultOf}
 use Rattle.lp_standard.specs.declared.fault.FormStop.{FormStop}
 use Rattle.lp_standard.specs.declared.fault.FormStop.TheVariants as form
@@ -41,6 +42,14 @@ module _ (limit : Option ℕ) (budget : ℕ) (m : Model) where
       after_form limit budget m o ≡ cold limit budget m
   unfolding cold
   cold_is o h = ap (after_form limit budget m) (sym h)
+
+  -- a model without a form has no run over factors
+  pub formless : (why : FormFault ℚ) → form_of limit m ≡ Err why →
+      after_form limit budget m (Err why) ≡ cold_over limit budget m
+  unfolding cold_over
+  formless why h =
+      cold_is (Err why) h
+      ∙ subst (λ o. cold limit budget m ≡ cold_by limit budget m o) (sym h) refl
 
   pub refused_from : (f : Form) (p : Past ℚ) → start_of limit f ≡ Err p →
       ◌≡◌ {A = ColdEnd} (outcome.Past p) (after_phases limit m (phases_run limit budget f))

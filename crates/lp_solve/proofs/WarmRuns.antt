@@ -31,7 +31,8 @@ use Rattle.spec_warm.specs.declared.ends.Route.TheVariants as route
 use Rattle.spec_warm.specs.declared.ends.Warm.TheVariants as warm
 use Rattle.spec_warm.specs.Based.{BeginsFrom}
 use Rattle.spec_warm.specs.Warm.{WarmResult, ByPrimal, ByDual, stopped_as, start_stop, run_stop, run_by, warm_run, warm_certificate, dual_certificate, after_form, warm as warm_start}
-use Rattle.spec_warm.specs.Solve.{SolveEnd, HasBasis, fall_of, solved_by, solve}
+use Rattle.spec_warm.specs.Solve.{SolveEnd, HasBasis, fall_of, solved_by}
+use Rattle.spec_solve.specs.Order.{cold_over, solve_over}
 use Rattle.spec_warm.proofs.Started.{start_begins_from}
 use Rattle.spec_warm.proofs.TrueEnds.{run_accepted}
 use Rattle.lp_frac.specs.Narrow.{largest}
@@ -41,7 +42,6 @@ use Rattle.lp_tableau.specs.declared.ends.BasisStop.TheVariants as stop
 use Rattle.lp_dual.specs.Starts.{IsDualStart}
 use Rattle.lp_dual.proofs.Fitted.{can_start}
 use Rattle.lp_solve.specs.Begun.{IsBegun}
-use Rattle.lp_solve.proofs.Solved.{cold_is}
 
 -- ---- stops as the code has them
 pub is_singular : {A : Type 0} (run : Result A (StartStop ℚ)) (s : BasisStop) → s ≡ stop.Singular → StopsAt run s →
@@ -96,16 +96,16 @@ module _ (limit : Option ℕ) (budget : ℕ) where
     warm_is = ap (after_form limit budget m basis) (sym formed)
 
     pub ends_warm : (answer : Known ℚ) (c : Certificate (List ℚ)) (left : Option (List Status)) (pivots : ℕ) (w : WarmResult) → w ≡ warm.Ended answer c left pivots → w ≡ after_form limit budget m basis (Ok f)
-        → ◌≡◌ {A = SolveEnd} (record { end = cold.Ended answer c left pivots; route = route.Warm }) (solve limit budget m (Some basis))
-    unfolding solve
-    ends_warm answer c left pivots w e h = ap (solved_by (colds.cold limit budget m)) (sym e ∙ h ∙ warm_is)
+        → ◌≡◌ {A = SolveEnd} (record { end = cold.Ended answer c left pivots; route = route.Warm }) (solve_over limit budget m (Some basis))
+    unfolding solve_over
+    ends_warm answer c left pivots w e h = ap (solved_by (cold_over limit budget m)) (sym e ∙ h ∙ warm_is)
 
-    pub falls : (s : WarmStop ℚ) (w : WarmResult) (end : colds.ColdEnd) → w ≡ warm.Stopped s → w ≡ after_form limit budget m basis (Ok f) → end ≡ colds.after_form limit budget m (Ok f)
-        → ◌≡◌ {A = SolveEnd} (record { end = end; route = route.Fell (fall_of s) }) (solve limit budget m (Some basis))
-    unfolding solve
+    pub falls : (s : WarmStop ℚ) (w : WarmResult) (end : colds.ColdEnd) → w ≡ warm.Stopped s → w ≡ after_form limit budget m basis (Ok f) → end ≡ cold_over limit budget m
+        → ◌≡◌ {A = SolveEnd} (record { end = end; route = route.Fell (fall_of s) }) (solve_over limit budget m (Some basis))
+    unfolding solve_over
     falls s w end e h g =
-        ap (λ (end : colds.ColdEnd). solved_by end (warm.Stopped s)) (g ∙ cold_is limit budget m (Ok f) formed)
-        ∙ ap (solved_by (colds.cold limit budget m)) (sym e ∙ h ∙ warm_is)
+        ap (λ (end : colds.ColdEnd). solved_by end (warm.Stopped s)) g
+        ∙ ap (solved_by (cold_over limit budget m)) (sym e ∙ h ∙ warm_is)
 
 -- ---- where nothing is handed
 pub nothing_handed : {B : Type 0} (limit : Option ℕ) (m : Model) (view : B → List Status) (handed : Option B) (why : FormFault ℚ) → form_of limit m ≡ Err why
@@ -123,11 +123,11 @@ fits_form limit m view (Some basis) f h fits =
     let is : fits.0 ≡ f = cc in
     subst (λ f. IsBasisOf f (view basis)) is fits.2
 
-pub solves_cold : {B : Type 0} (limit : Option ℕ) (budget : ℕ) (m : Model) (view : B → List Status) (handed : Option B) (end : colds.ColdEnd) → handed ≡ None → end ≡ colds.cold limit budget m
-    → ◌≡◌ {A = SolveEnd} (record { end = end; route = route.Cold }) (solve limit budget m (option_map view handed))
-unfolding solve
+pub solves_cold : {B : Type 0} (limit : Option ℕ) (budget : ℕ) (m : Model) (view : B → List Status) (handed : Option B) (end : colds.ColdEnd) → handed ≡ None → end ≡ cold_over limit budget m
+    → ◌≡◌ {A = SolveEnd} (record { end = end; route = route.Cold }) (solve_over limit budget m (option_map view handed))
+unfolding solve_over
 solves_cold limit budget m view handed end e h =
-    subst (λ handed. ◌≡◌ {A = SolveEnd} (record { end = end; route = route.Cold }) (solve limit budget m (option_map view handed))) (sym e)
+    subst (λ handed. ◌≡◌ {A = SolveEnd} (record { end = end; route = route.Cold }) (solve_over limit budget m (option_map view handed))) (sym e)
     (ap (λ (end : colds.ColdEnd). record { end = end; route = route.Cold }) h)
 
 -- ---- what is known of the tableau of a basis

@@ -4,10 +4,12 @@ ghost use Rattle.spec_simplex.specs.Eliminate.{IsBasisOf};
 ghost use Rattle.spec_simplex.specs.Form.{form_of};
 ghost use Rattle.spec_warm.specs.declared.ends.Route.TheVariants as route;
 ghost use Rattle.spec_warm.specs.Solve as solve;
+ghost use Rattle.spec_solve.specs.Order as order;
 ghost use Rattle.lp_frac.specs.Narrow.{largest};
 ghost use Rattle.lp_solve.specs.Fit.{IsFit};
 
-use crate::cold::{End, answered, from_form};
+use crate::cold::{End, answered};
+use crate::factors::cold_part;
 use crate::warm::{Warm, from_basis};
 use lp_check::Certificate;
 use lp_form::{Basis, Form};
@@ -34,7 +36,7 @@ fn fall(stop: WarmStop) -> Fall
     }
 }
 
-// From the basis, and where that stops cold.
+// From the basis, and where that stops from the start that each model has.
 fn warm_first(
     alloc: Global,
     budget: u64,
@@ -44,7 +46,7 @@ fn warm_first(
 ) -> Result<Solved, AllocError>
     requires formed { form_of (Some largest) model.now ≡ Ok form.now }
     requires fits { IsBasisOf form.now basis.now }
-    ensures answer { IfOk result (λ s. s ≡ solve.solve (Some largest) budget model.now (Some basis.now)) }
+    ensures answer { IfOk result (λ s. s ≡ order.solve_over (Some largest) budget model.now (Some basis.now)) }
     ensures narrow { IfOk result (λ s. IsFit model.now s.end) }
 {
     match from_basis(alloc, budget, model, form, basis)? {
@@ -63,7 +65,7 @@ fn warm_first(
             route: Route::Warm,
         }),
         Warm::Stopped(stop) => Ok(Solved {
-            end: from_form(alloc, budget, model, form)?,
+            end: cold_part(alloc, budget, model, form)?,
             route: Route::Fell(fall(stop)),
         }),
     }
@@ -90,18 +92,19 @@ pub fn solve_formed(
     requires formed { form_of (Some largest) model.now ≡ Ok form.now }
     requires fits { IfSome handed (λ basis. IsBasisOf form.now basis.now) }
     ensures answer { IfOk result
-        (λ s. s ≡ solve.solve (Some largest) budget model.now (option_map (λ basis. basis.now) handed.entry)) }
+        (λ s. s ≡ order.solve_over (Some largest) budget model.now (option_map (λ basis. basis.now) handed.entry)) }
     ensures narrow { IfOk result (λ s. IsFit model.now s.end) }
 {
     match handed {
         Some(basis) => warm_first(alloc, budget, model, form, basis),
-        None => Ok(cold(from_form(alloc, budget, model, form)?)),
+        None => Ok(cold(cold_part(alloc, budget, model, form)?)),
     }
 }
 
-/// Solves the model within a budget of pivots and flips, and has the certificate of the end checked: from the basis that
-/// is handed to it, if one is, by the method that this is fit for; and where nothing is handed, or the start from the
-/// basis stops, from the start that each model has, with the whole budget.
+/// Solves the model within a budget of pivots and flips, and has the certificate of the end checked: from the basis
+/// that is handed to it, if one is, by the method that this is fit for; and where nothing is handed, or the start from
+/// the basis stops, from the start that each model has, with the whole budget: over factors, and where these give up,
+/// with the whole budget again over whole tableaus, which alone decide what is refused.
 pub fn solve(
     alloc: Global,
     model: &Model,
@@ -110,7 +113,7 @@ pub fn solve(
 ) -> Result<Solved, AllocError>
     requires { IfSome handed (λ basis. solve.HasBasis (Some largest) model.now basis.now) }
     ensures answer { IfOk result
-        (λ s. s ≡ solve.solve (Some largest) budget model.now (option_map (λ basis. basis.now) handed.entry)) }
+        (λ s. s ≡ order.solve_over (Some largest) budget model.now (option_map (λ basis. basis.now) handed.entry)) }
     ensures narrow { IfOk result (λ s. IsFit model.now s.end) }
 {
     match form(alloc, model) {

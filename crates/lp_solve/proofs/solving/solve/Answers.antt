@@ -1,7 +1,7 @@
 -- By the form, or why there is none, where nothing can be handed.
 use Rattle.std.proofs.Common.{◌∙◌, Some}
 use Rattle.lp_frac.specs.Narrow.{largest}
-use Rattle.lp_solve.proofs.Solved.{form_stop, form_clash, cold_is, clash_fits}
+use Rattle.lp_solve.proofs.Solved.{form_stop, form_clash, formless, clash_fits}
 use Rattle.lp_solve.proofs.WarmRuns.{fits_form, nothing_handed, solves_cold}
 use Rattle.lp_solve.proofs.solving.solve.Goals as goal
 
@@ -17,10 +17,10 @@ returns-in-Err-Clash-clause-answer c =
     let stop = form_clash _ _ _ c.in-Err-Clash.field-0-is c.in-Err-Clash.ensures.err in
     let answered = rw c.in-Err-Clash.j-is at c.answered.ensures.answer in
     c.cold.ensures
-    ∙ solves_cold (Some largest) c.args.budget c.args.model.now _ c.args.handed _ (nothing_handed (Some largest) c.args.model.now _ c.args.handed _ stop c.requires) (answered ∙ cold_is _ _ _ _ stop)
+    ∙ solves_cold (Some largest) c.args.budget c.args.model.now _ c.args.handed _ (nothing_handed (Some largest) c.args.model.now _ c.args.handed _ stop c.requires) (answered ∙ formless _ _ _ _ stop)
 
 pub returns-in-Err-Past-clause-answer : goal.returns-in-Err-Past-clause-answer
 returns-in-Err-Past-clause-answer c =
     let stop = form_stop _ _ _ c.in-Err-Past.field-0-is c.in-Err-Past.ensures.err in
     let told = rw c.in-Err-Past.past-is at c.cold-in-Err-Past.ensures in
-    told ∙ solves_cold (Some largest) c.args.budget c.args.model.now _ c.args.handed _ (nothing_handed (Some largest) c.args.model.now _ c.args.handed _ stop c.requires) (cold_is _ _ _ _ stop)
+    told ∙ solves_cold (Some largest) c.args.budget c.args.model.now _ c.args.handed _ (nothing_handed (Some largest) c.args.model.now _ c.args.handed _ stop c.requires) (formless _ _ _ _ stop)

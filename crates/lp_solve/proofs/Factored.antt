@@ -1,0 +1,135 @@
+-- The run over factors and its check.
+use Rattle.std.proofs.Common.{◌≡◌, ◌⊎◌, inl, inr, ℕ, List, Option, Some, None, Result, Ok, Err, IfOk}
+use Rattle.std.proofs.Common.{refl, sym, ap, ◌∙◌, subst}
+use Rattle.spec_exact.specs.Fraction.{ℚ}
+use Rattle.spec_exact.specs.declared.past.Past.{Past}
+use Rattle.spec_model.specs.Model.{Model}
+use Rattle.spec_check.specs.declared.certificate.Certificate.{Certificate}
+use Rattle.spec_check.specs.declared.certificate.Known.{Known}
+use Rattle.spec_check.specs.Certificate.{IsFor}
+use Rattle.spec_pivot.specs.declared.status.Status.{Status}
+use Rattle.spec_simplex.specs.declared.ends.RunStop.{RunStop}
+use Rattle.spec_simplex.specs.Form.{Form, form_of}
+use Rattle.spec_simplex.specs.Phases.{PhasesEnd, phases_run}
+use Rattle.spec_cold.specs.declared.outcome.Cold.TheVariants as outcome
+use Rattle.spec_cold.specs.Accepted.{IsAccepted}
+use Rattle.spec_cold.specs.Cold.{ColdEnd, certificate_of, answered, cold, after_form}
+use Rattle.spec_cold.proofs.Solved.{end_accepted}
+use Rattle.spec_factor.specs.Over.{OverEnd, over_run, answer_of, answer_in, after_over, over_factors}
+use Rattle.spec_revised.proofs.OverCold.{form_without}
+use Rattle.spec_solve.specs.Order.{GivesUp, or_tableaus, cold_by, cold_over, solve_over}
+use Rattle.spec_warm.specs.Solve.{SolveEnd, solve}
+use Rattle.spec_solve.proofs.Orders.{solve_kept}
+use Rattle.lp_frac.specs.Narrow.{largest}
+use Rattle.lp_revised.specs.declared.cold_run.RunEnd.{RunEnd}
+use Rattle.lp_revised.specs.declared.stop.RevisedStop.{RevisedStop}
+use Rattle.lp_revised.specs.declared.stop.RevisedStop.TheVariants as revised
+use Rattle.lp_revised.specs.Answer.{StopsRevised}
+use Rattle.lp_revised.specs.Runs.{over_end}
+use Rattle.lp_solve.specs.Fit.{IsFit}
+use Rattle.lp_solve.proofs.Solved.{cold_is}
+
+module _ (budget : ℕ) (m : Model) (f : Form) (formed : form_of (Some largest) m ≡ Ok f) where
+  -- ---- the run over factors
+  -- its certificate is that of the run over whole tableaus without a limit
+  pub over_fits : (e : RunEnd) → answer_in (phases_run None budget f) ≡ Ok (over_end e) → IsFor m e.certificate
+  over_fits e = by (phases_run None budget f) refl
+    where
+      by : (o : Result PhasesEnd (RunStop ℚ)) → phases_run None budget f ≡ o → answer_in o ≡ Ok (over_end e) →
+          IsFor m e.certificate
+      by (Ok end) q h =
+          let a : IsAccepted None m (certificate_of end) =
+          end_accepted None budget m f end (form_without (Some largest) m f formed) q in
+          let same : answer_of end ≡ over_end e = cc in
+          subst (λ (o : OverEnd). IsFor m o.certificate) same a.fits
+      by (Err s) q h = let z : ◌≡◌ {A = Result OverEnd (RunStop ℚ)} (Err s) (Ok (over_end e)) = h in cc
+
+  pub over_ends : (e : RunEnd) (end : ColdEnd) → over_run (Some largest) budget f ≡ Ok (over_end e) →
+      end ≡ answered (Some largest) m e.certificate e.basis e.pivots → end ≡ over_factors (Some largest) budget m f
+  unfolding over_factors
+  over_ends e end h is = is ∙ sym (ap (after_over (Some largest) m) h)
+
+  pub past_stops : (s : RevisedStop) (p : Past ℚ) → s ≡ revised.Past p →
+      StopsRevised (over_run (Some largest) budget f) s →
+      ◌≡◌ {A = ColdEnd} (outcome.Past p) (over_factors (Some largest) budget m f)
+  unfolding over_factors
+  past_stops s p e h =
+      sym (ap (after_over (Some largest) m) (subst (StopsRevised (over_run (Some largest) budget f)) e h))
+
+  pub spent_stops : (s : RevisedStop) → s ≡ revised.Spent → StopsRevised (over_run (Some largest) budget f) s →
+      ◌≡◌ {A = ColdEnd} outcome.Spent (over_factors (Some largest) budget m f)
+  unfolding over_factors
+  spent_stops s e h =
+      sym (ap (after_over (Some largest) m) (subst (StopsRevised (over_run (Some largest) budget f)) e h))
+
+  -- ---- the cold part
+  part_is : cold_by (Some largest) budget m (Ok f) ≡ cold_over (Some largest) budget m
+  unfolding cold_over
+  part_is = ap (cold_by (Some largest) budget m) (sym formed)
+
+  or_is : (o : ColdEnd) → o ≡ over_factors (Some largest) budget m f →
+      or_tableaus o (cold (Some largest) budget m) ≡ cold_over (Some largest) budget m
+  or_is o h = ap (λ o. or_tableaus o (cold (Some largest) budget m)) h ∙ part_is
+
+  pub or_ended : (o : ColdEnd) (known : Known ℚ) (c : Certificate (List ℚ)) (basis : Option (List Status))
+      (pivots : ℕ) →
+      o ≡ outcome.Ended known c basis pivots → o ≡ over_factors (Some largest) budget m f →
+      o ≡ cold_over (Some largest) budget m
+  or_ended o known c basis pivots is h =
+      is ∙ or_is (outcome.Ended known c basis pivots) (sym is ∙ h)
+
+  -- after an end without an answer
+  pub or_given_up : {E : Type 0} (o : ColdEnd) (r : Result ColdEnd E) →
+      ((p : Past ℚ) × (o ≡ outcome.Past p)) ⊎ (o ≡ outcome.Spent) → o ≡ over_factors (Some largest) budget m f →
+      IfOk r (λ s. s ≡ after_form (Some largest) budget m (Ok f)) →
+      IfOk r (λ s. s ≡ cold_over (Some largest) budget m)
+  or_given_up o (Err e) why h is = tt
+  or_given_up o (Ok end) (inl past) h is =
+      is ∙ cold_is (Some largest) budget m (Ok f) formed ∙ or_is (outcome.Past past.0) (sym past.1 ∙ h)
+  or_given_up o (Ok end) (inr spent) h is =
+      is ∙ cold_is (Some largest) budget m (Ok f) formed ∙ or_is outcome.Spent (sym spent ∙ h)
+
+  -- ---- tableaus first
+  -- the cold part is the solve over them, or that one gives up
+  cold_kept : (cold_over (Some largest) budget m ≡ cold (Some largest) budget m)
+      ⊎ GivesUp (cold (Some largest) budget m)
+  unfolding solve_over solve
+  cold_kept = by (solve_kept (Some largest) budget m None)
+    where
+      by : (solve_over (Some largest) budget m None ≡ solve (Some largest) budget m None)
+          ⊎ GivesUp (solve (Some largest) budget m None).end →
+          (cold_over (Some largest) budget m ≡ cold (Some largest) budget m)
+          ⊎ GivesUp (cold (Some largest) budget m)
+      by (inl e) = inl (ap (λ (s : SolveEnd). s.end) e)
+      by (inr up) = inr up
+
+  -- what they answer
+  pub tableaus_ended : (o : ColdEnd) (known : Known ℚ) (c : Certificate (List ℚ)) (basis : Option (List Status))
+      (pivots : ℕ) →
+      o ≡ outcome.Ended known c basis pivots → o ≡ after_form (Some largest) budget m (Ok f) →
+      o ≡ cold_over (Some largest) budget m
+  tableaus_ended o known c basis pivots is h =
+      let whole : o ≡ cold (Some largest) budget m = h ∙ cold_is (Some largest) budget m (Ok f) formed in
+      whole ∙ kept cold_kept
+    where
+      kept : (cold_over (Some largest) budget m ≡ cold (Some largest) budget m)
+          ⊎ GivesUp (cold (Some largest) budget m) → cold (Some largest) budget m ≡ cold_over (Some largest) budget m
+      kept (inl e) = sym e
+      kept (inr up) =
+          absurd (subst GivesUp (sym (h ∙ cold_is (Some largest) budget m (Ok f) formed) ∙ is) up)
+
+  -- what they are refused, after an end over factors without an answer
+  pub refused_kept : (o refused : ColdEnd) → ((p : Past ℚ) × (o ≡ outcome.Past p)) ⊎ (o ≡ outcome.Spent) →
+      o ≡ over_factors (Some largest) budget m f → refused ≡ cold (Some largest) budget m →
+      refused ≡ cold_over (Some largest) budget m
+  refused_kept o refused (inl past) h is = is ∙ or_is (outcome.Past past.0) (sym past.1 ∙ h)
+  refused_kept o refused (inr spent) h is = is ∙ or_is outcome.Spent (sym spent ∙ h)
+
+  pub gives_up_is : (o : ColdEnd) → ((p : Past ℚ) × (o ≡ outcome.Past p)) ⊎ (o ≡ outcome.Spent) → GivesUp o
+  gives_up_is o (inl past) = subst GivesUp (sym past.1) tt
+  gives_up_is o (inr spent) = subst GivesUp (sym spent) tt
+
+  pub gives_up_fits : (o : ColdEnd) → GivesUp o → IsFit m o
+  gives_up_fits (outcome.Ended known c basis pivots) up = absurd up
+  gives_up_fits (outcome.Past p) up = tt
+  gives_up_fits outcome.Spent up = tt

@@ -1,0 +1,24 @@
+-- Each end of the run over factors, and a certificate that fits.
+use Rattle.lp_solve.proofs.Factored.{over_fits, over_ends, past_stops, spent_stops}
+use Rattle.lp_solve.proofs.factors.over_factors.Goals as goal
+
+pub answered-requires-clause-fits : goal.answered-requires-clause-fits
+answered-requires-clause-fits c =
+    over_fits c.args.budget c.args.model.now c.args.form.now c.requires c.in-Ok.end
+    (c.in-Ok.ensures.whole c.args.model.now c.requires)
+
+pub returns-in-Ok-clause-answer : goal.returns-in-Ok-clause-answer
+returns-in-Ok-clause-answer c =
+    over_ends c.args.budget c.args.model.now c.args.form.now c.requires c.in-Ok.end c.answered.result
+    c.in-Ok.ensures.run c.answered.ensures.answer
+
+pub returns-in-Err-Past-clause-answer : goal.returns-in-Err-Past-clause-answer
+returns-in-Err-Past-clause-answer c =
+    rw c.in-Err-Past.past-is
+    (past_stops c.args.budget c.args.model.now c.args.form.now c.requires c.in-Err-Past.field-0 _
+    c.in-Err-Past.field-0-is c.in-Err-Past.ensures.run)
+
+pub returns-in-Err-Spent-clause-answer : goal.returns-in-Err-Spent-clause-answer
+returns-in-Err-Spent-clause-answer c =
+    spent_stops c.args.budget c.args.model.now c.args.form.now c.requires c.in-Err-Spent.field-0
+    c.in-Err-Spent.field-0-is c.in-Err-Spent.ensures.run

@@ -1,0 +1,113 @@
+// The cold part of a solve: over factors and over whole tableaus.
+ghost use Rattle.std.specs.Prelude.{◌≡◌, IfOk, Ok, Some};
+ghost use Rattle.spec_simplex.specs.Form.{form_of};
+ghost use Rattle.spec_factor.specs.Over as over;
+ghost use Rattle.spec_cold.specs.Cold.{cold};
+ghost use Rattle.spec_solve.specs.Order.{GivesUp};
+ghost use Rattle.spec_solve.specs.Order as order;
+ghost use Rattle.lp_frac.specs.Narrow.{largest};
+ghost use Rattle.lp_solve.specs.Fit.{IsFit};
+
+use crate::cold::{End, answered, from_form};
+use lp_form::Form;
+use lp_model::Model;
+use lp_revised::RevisedStop;
+use std::alloc::{AllocError, Global};
+
+// The run over factors, and the check of the certificate that it ended with.
+fn over_factors(alloc: Global, budget: u64, model: &Model, form: &Form) -> Result<End, AllocError>
+    requires { form_of (Some largest) model.now ≡ Ok form.now }
+    ensures answer { IfOk result (λ s. s ≡ over.over_factors (Some largest) budget model.now form.now) }
+    ensures narrow { IfOk result (IsFit model.now) }
+{
+    match lp_revised::cold(alloc, form, budget) {
+        Ok(end) => Ok(answered(model, end.certificate, end.basis, end.pivots)),
+        Err(RevisedStop::Past(past)) => Ok(End::Past(past)),
+        Err(RevisedStop::Spent) => Ok(End::Spent),
+        Err(RevisedStop::NoMemory) => Err(AllocError),
+    }
+}
+
+// Over factors first.
+fn factors_first(alloc: Global, budget: u64, model: &Model, form: &Form) -> Result<End, AllocError>
+    requires { form_of (Some largest) model.now ≡ Ok form.now }
+    ensures answer { IfOk result (λ s. s ≡ order.cold_over (Some largest) budget model.now) }
+    ensures narrow { IfOk result (IsFit model.now) }
+{
+    let end = over_factors(alloc, budget, model, form)?;
+    match end {
+        End::Ended { .. } => Ok(end),
+        End::Past(_) | End::Spent => from_form(alloc, budget, model, form),
+    }
+}
+
+// Over factors, where the tableaus have ended so, without an answer.
+fn or_factors(
+    alloc: Global,
+    budget: u64,
+    model: &Model,
+    form: &Form,
+    refused: End,
+) -> Result<End, AllocError>
+    requires formed { form_of (Some largest) model.now ≡ Ok form.now }
+    requires tableaus { refused ≡ cold (Some largest) budget model.now }
+    requires gives_up { GivesUp refused }
+    ensures answer { IfOk result (λ s. s ≡ order.cold_over (Some largest) budget model.now) }
+    ensures narrow { IfOk result (IsFit model.now) }
+{
+    let end = over_factors(alloc, budget, model, form)?;
+    match end {
+        End::Ended { .. } => Ok(end),
+        End::Past(_) | End::Spent => Ok(refused),
+    }
+}
+
+// Over whole tableaus first. An answer of theirs is that of the factors too, if these have one.
+fn tableaus_first(alloc: Global, budget: u64, model: &Model, form: &Form) -> Result<End, AllocError>
+    requires { form_of (Some largest) model.now ≡ Ok form.now }
+    ensures answer { IfOk result (λ s. s ≡ order.cold_over (Some largest) budget model.now) }
+    ensures narrow { IfOk result (IsFit model.now) }
+{
+    let end = from_form(alloc, budget, model, form)?;
+    match end {
+        End::Ended { .. } => Ok(end),
+        End::Past(_) | End::Spent => or_factors(alloc, budget, model, form, end),
+    }
+}
+
+// The most entries of a column, and the fewest rows, of a model whose pivots are quicker over factors.
+const FEW_ENTRIES: usize = 4;
+
+const MANY_ROWS: u32 = 80;
+
+// Whether the run over factors is likely the quicker one: of large, sparse and wide models (docs/PERFORMANCE.md).
+fn suits_factors(form: &Form) -> bool {
+    if form.rows() < MANY_ROWS || 3 * form.cols() < 4 * form.rows() {
+        return false;
+    }
+    for j in 0..form.cols() {
+        if form.entries(j).len() > FEW_ENTRIES {
+            return false;
+        }
+    }
+    true
+}
+
+/// The run over factors and the one over whole tableaus, each with the whole budget: the answer of either, or what the
+/// tableaus are refused. Which of them comes first is a choice of speed alone.
+pub(crate) fn cold_part(
+    alloc: Global,
+    budget: u64,
+    model: &Model,
+    form: &Form,
+) -> Result<End, AllocError>
+    requires { form_of (Some largest) model.now ≡ Ok form.now }
+    ensures answer { IfOk result (λ s. s ≡ order.cold_over (Some largest) budget model.now) }
+    ensures narrow { IfOk result (IsFit model.now) }
+{
+    if suits_factors(form) {
+        factors_first(alloc, budget, model, form)
+    } else {
+        tableaus_first(alloc, budget, model, form)
+    }
+}
