@@ -1,0 +1,8 @@
+use Rattle.std.proofs.Common.{◌≡◌}
+use Rattle.spec_simplex.specs.Run.{made}
+use Rattle.spec_bas.specs.Steps.{status_of}
+use Rattle.lp_bas.proofs.marks.Marks.basis.Given as goal
+
+-- the statuses of the columns before this one
+abbrev pub invariant-loop-k : goal.invariant-loop-k
+invariant-loop-k l = l.items.items ≡ made l.k (status_of l.form l.self)

@@ -1,0 +1,36 @@
+-- What a line is answered.
+use Rattle.std.specs.Prelude.{◌+◌, ◌≡◌, Ok, Err, List}
+use Rattle.spec_pivot.specs.declared.status.Status.{Status}
+use Rattle.spec_simplex.specs.Form.{Form}
+use Rattle.spec_simplex.specs.Eliminate.{IsBasisOf}
+use Rattle.spec_bas.specs.declared.fault.BasFault.{BasFault}
+use Rattle.spec_bas.specs.Steps.{Outcome, More, Done}
+use Rattle.spec_bas.specs.Fits.{IsMarking}
+use Rattle.lp_bas.specs.declared.reader.BasFeed.{BasFeed}
+use Rattle.lp_bas.specs.declared.reader.BasFeed.TheVariants as feed
+use Rattle.lp_bas.specs.FileRead.{FileRead}
+
+-- the file continues
+pub record GoesOn (f : Form) (outcome : Outcome) (old new : FileRead) : Type 0 where
+  pub state : outcome ≡ Ok (More new.state)
+  pub lines : new.lines ≡ old.lines + 1
+  pub marking : IsMarking f new.state
+
+-- it has ended, with a basis of the form
+pub record Ends (f : Form) (outcome : Outcome) (old new : FileRead) (basis : List Status) : Type 0 where
+  pub state : outcome ≡ Ok (Done basis)
+  pub fits : IsBasisOf f basis
+  pub kept : new ≡ old
+
+-- the line is wrong
+pub record IsWrong (outcome : Outcome) (old new : FileRead) (fault : BasFault) : Type 0 where
+  pub state : outcome ≡ Err fault.code
+  pub line : fault.line ≡ old.lines + 1
+  pub kept : new ≡ old
+
+-- the answer at a line, of what its step leads to; if memory runs out it says nothing of that
+abbrev pub Feeds : Form → Outcome → FileRead → FileRead → BasFeed → Type 0
+Feeds f outcome old new feed.More = GoesOn f outcome old new
+Feeds f outcome old new (feed.Done basis) = Ends f outcome old new basis
+Feeds f outcome old new (feed.Refused fault) = IsWrong outcome old new fault
+Feeds f outcome old new feed.NoMemory = new ≡ old

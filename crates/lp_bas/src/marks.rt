@@ -1,0 +1,233 @@
+// What was read so far of a file: the statuses that cards gave.
+ghost use Rattle.std.specs.Prelude.{◌≡◌, ◌+◌, ◌<◌, IfOk, length};
+ghost use Rattle.spec_bas.specs.Steps as file;
+ghost use Rattle.spec_bas.specs.Fits.{HasSizeOf};
+ghost use Rattle.lp_bas.specs.Limits.{status_at};
+ghost use Rattle.lp_bas.specs.Steps.{IsStep, Advances};
+
+use crate::reading::{Card, Reading, reading_of};
+use crate::statuses::{Limit, lower_first, status_at, usual_status};
+use lp_base::Line;
+use lp_form::{Basis, Form, Status};
+use lp_model::Model;
+use spec_bas::BasCode;
+use std::alloc::{AllocError, Global};
+
+/// Why a line leads to nothing.
+#[derive(Clone, Copy, Debug, PartialEq, Eq)]
+pub(crate) enum StepFault {
+    Wrong(BasCode),
+    NoMemory,
+}
+
+impl From<AllocError> for StepFault {
+    ghost use Rattle.lp_bas.specs.declared.marks.StepFault.TheVariants as stop;
+
+    ghost from_gives = { λ _ fault. fault ≡ stop.NoMemory };
+
+    fn from(_: AllocError) -> Self {
+        StepFault::NoMemory
+    }
+}
+
+impl From<BasCode> for StepFault {
+    ghost use Rattle.lp_bas.specs.declared.marks.StepFault.TheVariants as stop;
+
+    ghost from_gives = { λ code fault. fault ≡ stop.Wrong code };
+
+    fn from(code: BasCode) -> Self {
+        StepFault::Wrong(code)
+    }
+}
+
+/// Whether there was a card, and the status that a card gave each structural and then each logical column.
+#[derive(Drop)]
+pub(crate) struct Marks {
+    begun: bool,
+    items: Vec<Option<Status>>,
+}
+
+impl std::marker::Model for Marks {
+    ghost use Rattle.spec_bas.specs.Steps as steps;
+
+    ghost Value = { steps.State };
+
+    ghost view = { λ m. record { begun = m.begun; marks = m.items.items } };
+}
+
+impl Marks {
+    /// There was no card.
+    pub fn new(alloc: Global, form: &Form) -> Result<Self, AllocError>
+        ensures { IfOk result (λ marks. marks ≡ file.start form.now) }
+    {
+        let columns = form.cols() + form.rows();
+        let items = vec![in alloc; None; columns as usize]?;
+        Ok(Marks {
+            begun: false,
+            items,
+        })
+    }
+
+    fn is_marked(&self, k: u32) -> bool
+        requires { k < length self.now.marks }
+        ensures { result ≡ file.is_marked self.now k }
+    {
+        self.items[k as usize].is_some()
+    }
+
+    fn mark(&mut self, k: u32, status: Status)
+        requires { k < length self.old.marks }
+        ensures { self.new ≡ file.mark k status self.old }
+    {
+        self.begun = true;
+        self.items[k as usize] = Some(status);
+    }
+
+    // `NAME`, before all other cards.
+    fn name(&mut self) -> Result<(), BasCode>
+        ensures { IsStep (file.named_step self.old) self.old self.new result }
+    {
+        if self.begun {
+            return Err(BasCode::Section);
+        }
+        self.begun = true;
+        Ok(())
+    }
+
+    // A column is basic, and a row stands at a limit.
+    #[tactic(auto, unfolding(spec_bas::specs::Steps::pair_step))]
+    fn pair(
+        &mut self,
+        model: &Model,
+        form: &Form,
+        column: &[u8],
+        row: &[u8],
+        limit: Limit,
+    ) -> Result<(), BasCode>
+        requires sizes { HasSizeOf model.now form.now }
+        requires all { length self.old.marks ≡ form.now.cols + form.now.rows }
+        ensures { IsStep (file.pair_step model.now form.now self.old column.now row.now (status_at limit form.now))
+            self.old self.new result }
+    {
+        let Some(j) = model.col_of(column) else {
+            return Err(BasCode::UnknownColumn);
+        };
+        let Some(i) = model.row_of(row) else {
+            return Err(BasCode::UnknownRow);
+        };
+        let k = form.logical(i);
+        if self.is_marked(j) || self.is_marked(k) {
+            return Err(BasCode::Repeated);
+        }
+        self.mark(j, Status::Basic);
+        self.mark(k, status_at(limit, form, k));
+        Ok(())
+    }
+
+    // A column stands at its upper bound.
+    #[tactic(auto, unfolding(spec_bas::specs::Steps::upper_step))]
+    fn upper(&mut self, model: &Model, form: &Form, column: &[u8]) -> Result<(), BasCode>
+        requires sizes { HasSizeOf model.now form.now }
+        requires all { length self.old.marks ≡ form.now.cols + form.now.rows }
+        ensures { IsStep (file.upper_step model.now form.now self.old column.now) self.old self.new result }
+    {
+        let Some(j) = model.col_of(column) else {
+            return Err(BasCode::UnknownColumn);
+        };
+        if self.is_marked(j) {
+            return Err(BasCode::Repeated);
+        }
+        if form.upper(j).is_none() {
+            return Err(BasCode::NoUpperBound);
+        }
+        self.mark(j, Status::AtUpper);
+        Ok(())
+    }
+
+    // A column stands where it does without a card.
+    #[tactic(auto, unfolding(spec_bas::specs::Steps::usual_step))]
+    fn usual(&mut self, model: &Model, form: &Form, column: &[u8]) -> Result<(), BasCode>
+        requires sizes { HasSizeOf model.now form.now }
+        requires all { length self.old.marks ≡ form.now.cols + form.now.rows }
+        ensures { IsStep (file.usual_step model.now form.now self.old column.now) self.old self.new result }
+    {
+        let Some(j) = model.col_of(column) else {
+            return Err(BasCode::UnknownColumn);
+        };
+        if self.is_marked(j) {
+            return Err(BasCode::Repeated);
+        }
+        self.mark(j, lower_first(form, j));
+        Ok(())
+    }
+
+    fn card(&mut self, model: &Model, form: &Form, card: &Card) -> Result<(), BasCode>
+        requires sizes { HasSizeOf model.now form.now }
+        requires all { length self.old.marks ≡ form.now.cols + form.now.rows }
+        ensures { IsStep (file.card_step model.now form.now self.old card.now) self.old self.new result }
+    {
+        match card {
+            Card::Xu { column, row } => {
+                self.pair(model, form, column.as_slice(), row.as_slice(), Limit::Upper)
+            }
+            Card::Xl { column, row } => {
+                self.pair(model, form, column.as_slice(), row.as_slice(), Limit::Lower)
+            }
+            Card::Ul { column } => self.upper(model, form, column.as_slice()),
+            Card::Ll { column } => self.usual(model, form, column.as_slice()),
+        }
+    }
+
+    // The status of column `k` in all.
+    fn status(&self, form: &Form, k: u32) -> Status
+        requires all { length self.now.marks ≡ form.now.cols + form.now.rows }
+        requires inside { k < form.now.cols + form.now.rows }
+        ensures { result ≡ file.status_of form.now self.now k }
+    {
+        match self.items[k as usize] {
+            Some(status) => status,
+            None => usual_status(form, k),
+        }
+    }
+
+    // The statuses of all columns.
+    #[tactic(auto, unfolding(spec_bas::specs::Steps::marked_basis))]
+    fn basis(&self, alloc: Global, form: &Form) -> Result<Basis, AllocError>
+        requires { length self.now.marks ≡ form.now.cols + form.now.rows }
+        ensures { IfOk result (λ basis. basis ≡ file.marked_basis form.now self.now) }
+    {
+        let mut items = Vec::new(alloc);
+        for k in 0..form.cols() + form.rows() {
+            items.push(self.status(form, k))?;
+        }
+        Ok(Basis::from_vec(items))
+    }
+
+    /// Takes the next line. There is a basis where the file ends with it.
+    #[tactic(auto, unfolding(spec_bas::specs::Steps::step))]
+    pub fn take(
+        &mut self,
+        alloc: Global,
+        model: &Model,
+        form: &Form,
+        line: &Line,
+    ) -> Result<Option<Basis>, StepFault>
+        requires sizes { HasSizeOf model.now form.now }
+        requires all { length self.old.marks ≡ form.now.cols + form.now.rows }
+        ensures { Advances (file.step model.now form.now self.old line.now) self.old self.new result }
+    {
+        match reading_of(alloc, line)? {
+            Reading::Skipped => Ok(None),
+            Reading::Named => {
+                self.name()?;
+                Ok(None)
+            }
+            Reading::Ends => Ok(Some(self.basis(alloc, form)?)),
+            Reading::Says(card) => {
+                self.card(model, form, &card)?;
+                Ok(None)
+            }
+            Reading::Wrong(code) => Err(StepFault::Wrong(code)),
+        }
+    }
+}

@@ -1,0 +1,70 @@
+// A basis file that is read line by line.
+ghost use Rattle.std.specs.Prelude.{◌≡◌, ◌+◌, ◌<◌, ◌-◌, ◌^◌, IfOk};
+ghost use Rattle.spec_bas.specs.Steps as steps;
+ghost use Rattle.spec_bas.specs.Fits.{HasSizeOf, IsMarking};
+ghost use Rattle.lp_bas.specs.Feeds.{Feeds};
+
+use crate::marks::{Marks, StepFault};
+use lp_base::Line;
+use lp_form::{Basis, Form};
+use lp_model::Model;
+use spec_bas::BasFault;
+use std::alloc::{AllocError, Global};
+
+/// What a line is answered.
+#[derive(Drop)]
+pub enum BasFeed {
+    /// The file continues.
+    More,
+    /// It has ended, and spells this basis.
+    Done(Basis),
+    /// It spells none, by this line.
+    Refused(BasFault),
+    NoMemory,
+}
+
+/// A basis file that is read line by line, for a model and its form. After any answer but `More` the reader is as it
+/// was before the line.
+#[derive(Drop)]
+pub struct BasReader {
+    marks: Marks,
+    lines: u32,
+}
+
+impl std::marker::Model for BasReader {
+    ghost use Rattle.lp_bas.specs.FileRead.{FileRead};
+
+    ghost Value = { FileRead };
+
+    ghost view = { λ r. record { state = r.marks; lines = r.lines } };
+}
+
+impl BasReader {
+    /// Nothing was read.
+    pub fn new(alloc: Global, form: &Form) -> Result<Self, AllocError>
+        ensures state { IfOk result (λ reader. reader ≡ record { state = steps.start form.now; lines = 0 }) }
+        ensures marking { IfOk result (λ reader. IsMarking form.now reader.state) }
+    {
+        let marks = Marks::new(alloc, form)?;
+        Ok(BasReader { marks, lines: 0 })
+    }
+
+    /// Takes the next line.
+    pub fn feed(&mut self, alloc: Global, model: &Model, form: &Form, line: &Line) -> BasFeed
+        requires sizes { HasSizeOf model.now form.now }
+        requires marking { IsMarking form.now self.old.state }
+        requires lines { self.old.lines < 2 ^ 32 - 1 }
+        ensures { Feeds form.now (steps.step model.now form.now self.old.state line.now) self.old self.new result }
+    {
+        let number = self.lines + 1;
+        match self.marks.take(alloc, model, form, line) {
+            Ok(None) => {
+                self.lines = number;
+                BasFeed::More
+            }
+            Ok(Some(basis)) => BasFeed::Done(basis),
+            Err(StepFault::Wrong(code)) => BasFeed::Refused(BasFault { line: number, code }),
+            Err(StepFault::NoMemory) => BasFeed::NoMemory,
+        }
+    }
+}

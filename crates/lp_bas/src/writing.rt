@@ -1,0 +1,217 @@
+// The file of a basis.
+ghost use Rattle.std.specs.Prelude.{◌≡◌, ◌<◌, ◌+◌, ◌++◌, ◌∷◌, [], All, IfOk, OnOk, codes, length, map};
+ghost use Rattle.std.specs.List.{zip};
+ghost use Rattle.spec_model.specs.Model.{width, height};
+ghost use Rattle.spec_simplex.specs.Tableau.{is_basic};
+ghost use Rattle.spec_simplex.specs.Eliminate.{basis_at};
+ghost use Rattle.spec_mps.specs.declared.style.Style.TheVariants as style;
+ghost use Rattle.spec_mps.specs.Written as text;
+ghost use Rattle.spec_bas.specs.Written as written;
+ghost use Rattle.spec_bas.specs.Fits.{HasSizeOf};
+ghost use Rattle.lp_bas.specs.Words.{pair_word};
+
+use lp_base::Bytes;
+use lp_form::{Basis, Form, Status};
+use lp_model::Model;
+use std::alloc::{AllocError, Global};
+
+fn is_basic(basis: &Basis, k: u32) -> bool
+    requires { k < length basis.now }
+    ensures { result ≡ is_basic (basis_at basis.now k) }
+{
+    match basis.at(k as usize) {
+        Status::Basic => true,
+        Status::AtLower | Status::AtUpper | Status::AtZero => false,
+    }
+}
+
+fn is_at_upper(basis: &Basis, k: u32) -> bool
+    requires { k < length basis.now }
+    ensures { result ≡ written.is_at_upper (basis_at basis.now k) }
+{
+    match basis.at(k as usize) {
+        Status::AtUpper => true,
+        Status::Basic | Status::AtLower | Status::AtZero => false,
+    }
+}
+
+// The columns of the model that are basic.
+fn basic_columns(alloc: Global, form: &Form, basis: &Basis) -> Result<Vec<u32>, AllocError>
+    requires { length basis.now ≡ form.now.cols + form.now.rows }
+    ensures { IfOk result (λ found. found.items ≡ written.basic_columns form.now basis.now) }
+{
+    let mut found = Vec::new(alloc);
+    for j in 0..form.cols() {
+        if is_basic(basis, j) {
+            found.push(j)?;
+        }
+    }
+    Ok(found)
+}
+
+// The rows whose logical columns are not basic.
+fn other_rows(alloc: Global, form: &Form, basis: &Basis) -> Result<Vec<u32>, AllocError>
+    requires { length basis.now ≡ form.now.cols + form.now.rows }
+    ensures { IfOk result (λ found. found.items ≡ written.other_rows form.now basis.now) }
+{
+    let mut found = Vec::new(alloc);
+    for i in 0..form.rows() {
+        if !is_basic(basis, form.logical(i)) {
+            found.push(i)?;
+        }
+    }
+    Ok(found)
+}
+
+// The columns of the model at their upper bounds.
+fn upper_columns(alloc: Global, form: &Form, basis: &Basis) -> Result<Vec<u32>, AllocError>
+    requires { length basis.now ≡ form.now.cols + form.now.rows }
+    ensures { IfOk result (λ found. found.items ≡ written.upper_columns form.now basis.now) }
+{
+    let mut found = Vec::new(alloc);
+    for j in 0..form.cols() {
+        if is_at_upper(basis, j) {
+            found.push(j)?;
+        }
+    }
+    Ok(found)
+}
+
+// The word of a pair whose row stands so.
+fn pair_word(row: Status) -> &'static [u8]
+    ensures { result.now ≡ pair_word row }
+{
+    match row {
+        Status::AtUpper => b"XU",
+        Status::Basic | Status::AtLower | Status::AtZero => b"XL",
+    }
+}
+
+// A word after a blank.
+fn push_word(word: &[u8], to: &mut Bytes) -> Result<(), AllocError>
+    ensures { OnOk result (to.new ≡ to.old ++ 32 ∷ word.now) }
+{
+    to.push(b' ')?;
+    to.extend(word)
+}
+
+// `NAME`, and the model's name, if it has one.
+fn push_name(name: &[u8], to: &mut Bytes) -> Result<(), AllocError>
+    ensures { OnOk result (to.new ≡ to.old ++ text.cards_text style.Free (text.name_card name.now ∷ [])) }
+{
+    to.extend(b"NAME")?;
+    if !name.is_empty() {
+        push_word(name, to)?;
+    }
+    to.push(b'\n')
+}
+
+fn push_pair(kind: &[u8], column: &[u8], row: &[u8], to: &mut Bytes) -> Result<(), AllocError>
+    ensures { OnOk result (to.new ≡ to.old ++ text.cards_text style.Free
+        (text.Data (written.pair_fields kind.now column.now row.now) ∷ [])) }
+{
+    push_word(kind, to)?;
+    push_word(column, to)?;
+    push_word(row, to)?;
+    to.push(b'\n')
+}
+
+fn push_upper(column: &[u8], to: &mut Bytes) -> Result<(), AllocError>
+    ensures { OnOk result (to.new ≡ to.old ++ text.cards_text style.Free
+        (text.Data (written.single_fields (codes "UL") column.now) ∷ [])) }
+{
+    push_word(b"UL", to)?;
+    push_word(column, to)?;
+    to.push(b'\n')
+}
+
+// The card of a column and a row.
+fn push_pair_of(
+    model: &Model,
+    form: &Form,
+    basis: &Basis,
+    j: u32,
+    i: u32,
+    to: &mut Bytes,
+) -> Result<(), AllocError>
+    requires sizes { HasSizeOf model.now form.now }
+    requires all { length basis.now ≡ form.now.cols + form.now.rows }
+    requires column { j < width model.now }
+    requires row { i < height model.now }
+    ensures { OnOk result (to.new ≡ to.old ++ text.cards_text style.Free
+        (written.written_card (written.pair_card model.now form.now basis.now (j, i)) ∷ [])) }
+{
+    let kind = pair_word(basis.at(form.logical(i) as usize));
+    let column = model.col(j).name.as_slice();
+    push_pair(kind, column, model.row(i).name.as_slice(), to)
+}
+
+// The cards of these columns and rows, side by side.
+fn push_pairs(
+    model: &Model,
+    form: &Form,
+    basis: &Basis,
+    columns: &[u32],
+    rows: &[u32],
+    to: &mut Bytes,
+) -> Result<(), AllocError>
+    requires sizes { HasSizeOf model.now form.now }
+    requires all { length basis.now ≡ form.now.cols + form.now.rows }
+    requires columns { All (λ j. j < width model.now) columns.now }
+    requires rows { All (λ i. i < height model.now) rows.now }
+    ensures { OnOk result (to.new ≡ to.old ++ text.cards_text style.Free
+        (map (λ pair. written.written_card (written.pair_card model.now form.now basis.now pair))
+        (zip columns.now rows.now))) }
+{
+    for at in 0..columns.len().min(rows.len()) {
+        push_pair_of(model, form, basis, columns[at], rows[at], to)?;
+    }
+    Ok(())
+}
+
+// The cards of columns at their upper bounds.
+fn push_uppers(model: &Model, columns: &[u32], to: &mut Bytes) -> Result<(), AllocError>
+    requires { All (λ j. j < width model.now) columns.now }
+    ensures { OnOk result (to.new ≡ to.old ++ text.cards_text style.Free
+        (map (λ j. written.written_card (written.upper_card model.now j)) columns.now)) }
+{
+    for j in columns {
+        push_upper(model.col(*j).name.as_slice(), to)?;
+    }
+    Ok(())
+}
+
+// The data cards.
+fn push_cards(
+    alloc: Global,
+    model: &Model,
+    form: &Form,
+    basis: &Basis,
+    to: &mut Bytes,
+) -> Result<(), AllocError>
+    requires sizes { HasSizeOf model.now form.now }
+    requires all { length basis.now ≡ form.now.cols + form.now.rows }
+    ensures { OnOk result (to.new ≡ to.old ++ text.cards_text style.Free
+        (map written.written_card (written.cards_of model.now form.now basis.now))) }
+{
+    let columns = basic_columns(alloc, form, basis)?;
+    let rows = other_rows(alloc, form, basis)?;
+    push_pairs(model, form, basis, &columns, &rows, to)?;
+    let upper = upper_columns(alloc, form, basis)?;
+    push_uppers(model, &upper, to)?;
+    Ok(())
+}
+
+/// The file of a basis: `NAME`, pairs of a basic column and a row that is not, columns at their upper bounds, `ENDATA`.
+#[tactic(auto, unfolding(spec_bas::specs::Written::bas_text, spec_bas::specs::Written::written_cards))]
+pub fn write(alloc: Global, model: &Model, form: &Form, basis: &Basis) -> Result<Bytes, AllocError>
+    requires sizes { HasSizeOf model.now form.now }
+    requires all { length basis.now ≡ form.now.cols + form.now.rows }
+    ensures { IfOk result (λ file. file ≡ written.bas_text model.now form.now basis.now) }
+{
+    let mut file = Bytes::new(alloc);
+    push_name(model.name().as_slice(), &mut file)?;
+    push_cards(alloc, model, form, basis, &mut file)?;
+    file.extend(b"ENDATA\n")?;
+    Ok(file)
+}
