@@ -91,7 +91,8 @@ pub(crate) fn push_answer(alloc: Global, answer: &Answer, to: &mut Bytes) -> Res
     }
 }
 
-fn fall_name(fall: Fall) -> &'static [u8]
+/// The word of why a warm start was given up.
+pub(crate) fn fall_name(fall: Fall) -> &'static [u8]
     ensures { result.now ≡ output.fall_text fall }
 {
     match fall {
@@ -153,7 +154,12 @@ fn push_publication(
     }
 }
 
-fn push_pivots(alloc: Global, pivots: Option<u64>, to: &mut Bytes) -> Result<(), AllocError>
+/// Writes a number of pivots after what is there.
+pub(crate) fn push_pivots(
+    alloc: Global,
+    pivots: Option<u64>,
+    to: &mut Bytes,
+) -> Result<(), AllocError>
     ensures { OnOk result (to.new ≡ to.old ++ output.pivots_text pivots) }
 {
     match pivots {

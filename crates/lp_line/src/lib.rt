@@ -8,14 +8,18 @@
 //! | `hear`, `Heard` | reads lines up to the one at which something is said | src/hearing, specs/Hearing |
 //! | `Stage`, `Step` | what was read so far, and where the next line leads | src/hearing, src/stages, src/script |
 //! | `take`, `Taken` | reads the lines of the next ask | src/taking, specs/Takes |
-//! | `places_of` | how many places a word of the command line gives | src/words |
+//! | `workers_of`, `places_of` | how many workers and places a word of the command line gives | src/words |
+//! | `seed_of` | the seed that a word of the command line gives | src/words |
+//! | `row_count_of`, `column_count_of` | how many rows and columns a word of the command line gives | src/words |
 //! | `print` | writes a session's reply | src/printing |
 //! | `print_said` | writes a reply without a session | src/printing |
 //! | `print_lines` | writes lines | src/printing |
+//! | `print_route`, `print_basis_fault` | writes how a solve from a basis went, and what is wrong with a basis file | src/bases |
 #![tactic(auto)]
 
 mod answers;
 mod asks;
+mod bases;
 mod body;
 mod command;
 mod edits;
@@ -26,15 +30,14 @@ mod refusals;
 mod script;
 mod stages;
 mod taking;
-#[cfg(test)]
-mod tests;
 mod words;
 
 pub use asks::{Addressed, Answer, Ask, Asked, Command, Plain, Refusal, Reply};
+pub use bases::{print_basis_fault, print_route};
 pub use command::read;
 pub use hearing::{Heard, Stage, Step, hear};
 pub use printing::{print, print_lines, print_said};
 pub use spec_server::{Addressing, How, LineFault, Publication};
 pub use stages::{CertificateSaid, TextSaid};
 pub use taking::{Taken, take};
-pub use words::places_of;
+pub use words::{column_count_of, places_of, row_count_of, seed_of, workers_of};
