@@ -16,6 +16,7 @@ use Rattle.basis_board.specs.declared.board.Look.{Look}
 use Rattle.basis_board.specs.declared.board.Look.TheVariants.{Found, NoneReady}
 use Rattle.basis_board.specs.declared.board.Put.{Put}
 use Rattle.basis_board.specs.Calls.{Looks, Puts}
+use Rattle.basis_board.specs.Rule.{Consistent}
 use Rattle.board_reads.specs.PassReads.{reads_of, looked_by, exact_put, AddsLook, AddsPut}
 use Rattle.board_reads.proofs.Tying.{looks_read, puts_read}
 use Rattle.lp_session.specs.Boarding.{AddsStep, StepCalls}
@@ -109,9 +110,9 @@ module _ (old : State) (asked : ExactAsk) (begun : Started ExactReply) (first : 
             (subst (λ places. PutReads places words (exact_put put) tried.made) (places_kept shape v w look called)
             tried.reads))
 
-        pub publishes_on : (tell : ExactPut) (replied : ExactReply) (third : Standing) → tell ≡ exact_put put →
+        pub publishes_so : (tell : ExactPut) (replied : ExactReply) (third : Standing) → tell ≡ exact_put put →
             PutFits second.state second.awaits tell replied third → AddsStep old asked v replied third.state u
-        publishes_on tell replied third e fits =
+        publishes_so tell replied third e fits =
             let so : PutFits old (WhatBecameOf awaits.pending) tell replied third =
             subst (λ (s : Standing). PutFits s.state s.awaits tell replied third) awaits.awaited fits in
             record {
@@ -139,12 +140,15 @@ module _ (old : State) (asked : ExactAsk) (begun : Started ExactReply) (first : 
             }
 
 -- ---- the calls
-pub calls_none : (v : View) → StepCalls v v
-calls_none v = inl refl
+pub publishes_formed : (old : State) (found : Looked) (worked : Next ExactReply) (new : Standing) (words : Words) →
+    NextFits old found worked new → worked ≡ next.Publish words → IsWellFormed words
+publishes_formed old found worked new words fits is =
+    let so : AwaitsPut old found words new = subst (λ worked. NextFits old found worked new) is fits in so.formed
 
-pub calls_look : (shape : Words) (look : Look) (v w : View) → Looks shape v look w → StepCalls v w
-calls_look shape look v w called = inr (shape, look, w, called, inl refl)
+pub calls_look : (shape : Words) (look : Look) (v w : View) → Looks shape v look w → Consistent w → StepCalls v w
+calls_look shape look v w called consistent = inr (shape, look, w, called, consistent, inl refl)
 
 pub calls_both : (shape : Words) (look : Look) (words : Words) (put : Put) (v w u : View) → Looks shape v look w →
-    Puts w words put u → StepCalls v u
-calls_both shape look words put v w u called puts = inr (shape, look, w, called, inr (words, put, puts))
+    Consistent w → IsWellFormed words → Puts w words put u → StepCalls v u
+calls_both shape look words put v w u called consistent formed puts =
+    inr (shape, look, w, called, consistent, inr (words, put, formed, puts))

@@ -21,8 +21,11 @@ use Rattle.spec_cold.specs.Cold.{ColdEnd, cold}
 use Rattle.spec_warm.specs.declared.ends.Warm.TheVariants as warm
 use Rattle.spec_warm.specs.Warm as warms
 use Rattle.spec_warm.specs.Warm.{WarmEnd, WarmResult, warm_run, warm as warm_start}
-use Rattle.spec_warm.specs.Solve.{SolveEnd, solved_by, solve}
+use Rattle.spec_warm.specs.Solve.{SolveEnd, solved_by}
 use Rattle.spec_warm.proofs.TrueEnds.{run_left, phases_left}
+use Rattle.spec_revised.proofs.OverCold.{form_without}
+use Rattle.spec_solve.specs.Order.{cold_over, solve_over}
+use Rattle.spec_solve.proofs.Orders.{part_ends}
 use Rattle.lp_session.specs.Stages.{LeavesBasis}
 
 -- each basis of the end is one of the form
@@ -67,6 +70,13 @@ module _ (limit : Option ℕ) (budget : ℕ) (m : Model) (f : Form) (formed : fo
       subst (λ o. ColdLeaves f (colds.after_form limit budget m o)) (sym formed)
       (by_phases (phases_run limit budget f) refl)
 
+module _ (limit : Option ℕ) (budget : ℕ) (m : Model) (f : Form) (formed : form_of limit m ≡ Ok f) where
+  -- the cold part of a solve ends as the cold solve without a limit
+  part_leaves : ColdLeaves f (cold_over limit budget m)
+  part_leaves = λ known c left pivots e.
+      cold_leaves None budget m f (form_without limit m f formed) known c left pivots
+      (part_ends limit budget m known c (Some left) pivots e)
+
   module _ (basis : List Status) (fits : IsBasisOf f basis) where
     by_run : (o : Result WarmEnd (WarmStop ℚ)) → warm_run limit budget f basis ≡ o →
         WarmLeaves f (warms.after_run limit m o)
@@ -83,16 +93,16 @@ module _ (limit : Option ℕ) (budget : ℕ) (m : Model) (f : Form) (formed : fo
         subst (λ o. WarmLeaves f (warms.after_form limit budget m basis o)) (sym formed)
         (by_run (warm_run limit budget f basis) refl)
 
-  by_warm : (w : WarmResult) → WarmLeaves f w → ColdLeaves f (solved_by (cold limit budget m) w).end
+  by_warm : (w : WarmResult) → WarmLeaves f w → ColdLeaves f (solved_by (cold_over limit budget m) w).end
   by_warm (warm.Ended answer c basis pivots) h = λ known d left n e.
       let g : basis ≡ Some left = cc in
       h answer c left pivots (ap (λ basis. warm.Ended answer c basis pivots) g)
-  by_warm (warm.Stopped s) h = cold_leaves
+  by_warm (warm.Stopped s) h = part_leaves
 
   solve_leaves : (handed : Option (List Status)) → IfSome handed (IsBasisOf f) →
-      ColdLeaves f (solve limit budget m handed).end
-  unfolding solve
-  solve_leaves None fits = cold_leaves
+      ColdLeaves f (solve_over limit budget m handed).end
+  unfolding solve_over
+  solve_leaves None fits = part_leaves
   solve_leaves (Some basis) fits = by_warm (warm_start limit budget m basis) (warm_leaves basis fits)
 
   leaves_by : (end : ColdEnd) → ColdLeaves f end → LeavesBasis f end
@@ -100,6 +110,6 @@ module _ (limit : Option ℕ) (budget : ℕ) (m : Model) (f : Form) (formed : fo
   leaves_by end h = tt
 
   pub leaves_basis : (handed : Option (List Status)) (s : SolveEnd) → IfSome handed (IsBasisOf f) →
-      s ≡ solve limit budget m handed → LeavesBasis f s.end
+      s ≡ solve_over limit budget m handed → LeavesBasis f s.end
   leaves_basis handed s fits e =
       leaves_by s.end (subst (λ (s : SolveEnd). ColdLeaves f s.end) (sym e) (solve_leaves handed fits))

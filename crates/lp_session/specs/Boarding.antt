@@ -1,5 +1,6 @@
 -- A step of a session over a board, which others may look at and publish on at the same time.
 use Rattle.std.specs.Prelude.{◌≡◌, ◌⊎◌, ◌++◌, List}
+use Rattle.spec_shape.specs.Words.{IsWellFormed}
 use Rattle.spec_reads.specs.Reads.{Words, ExactRead}
 use Rattle.spec_server.specs.Machine.{ExactAsk, ExactReply, State}
 use Rattle.spec_server.specs.Step.{AloneStep}
@@ -7,6 +8,7 @@ use Rattle.basis_board.specs.declared.seats.View.{View}
 use Rattle.basis_board.specs.declared.board.Look.{Look}
 use Rattle.basis_board.specs.declared.board.Put.{Put}
 use Rattle.basis_board.specs.Calls.{Looks, Puts}
+use Rattle.basis_board.specs.Rule.{Consistent}
 use Rattle.board_reads.specs.PassReads.{reads_of}
 
 -- the pass reads what the step does, and nothing else
@@ -16,11 +18,13 @@ pub record AddsStep (before : State) (asked : ExactAsk) (old : View) (replied : 
   pub step : AloneStep old.places before asked reads replied after
   pub all : reads_of new ≡ reads_of old ++ reads
 
--- at most one publication
+-- at most one publication, of well-formed words
 abbrev pub MayPut : View → View → Type 0
-MayPut old new = (new ≡ old) ⊎ ((words : Words) × (put : Put) × Puts old words put new)
+MayPut old new = (new ≡ old) ⊎ ((words : Words) × (put : Put) × IsWellFormed words × Puts old words put new)
 
 -- no call, or one look and then at most one publication
 abbrev pub StepCalls : View → View → Type 0
 StepCalls old new =
-    (new ≡ old) ⊎ ((shape : Words) × (look : Look) × (looked : View) × Looks shape old look looked × MayPut looked new)
+    (new ≡ old)
+    ⊎ ((shape : Words) × (look : Look) × (looked : View) × Looks shape old look looked × Consistent looked
+    × MayPut looked new)

@@ -1,4 +1,2 @@
-pub mod Sharing
 pub mod Stages
 pub mod Boarding
-pub mod Only

@@ -5,11 +5,9 @@ ghost use Rattle.spec_server.specs.Halves.{Nothing, at_rest, StartFits, MayBeFou
 ghost use Rattle.basis_board.specs.Id.{id_of};
 ghost use Rattle.basis_board.specs.Rule.{Consistent};
 ghost use Rattle.lp_session.specs.Boarding.{AddsStep, StepCalls};
-ghost use Rattle.lp_session.specs.Sharing.{SharesStep};
 
 use crate::boarding::{found_by, put_by};
 use crate::holding::Holding;
-use crate::places::Places;
 use crate::stage::{Begun, Stage, Worked};
 use basis_board::{Board, Pass};
 use lp_line::{Ask, Reply};
@@ -94,27 +92,8 @@ impl Session {
             .keep(pending.end, pending.how, Publication::Tried(put))
     }
 
-    /// Replies to what is asked, where the sessions of one script alone share the places.
-    pub fn step(&mut self, alloc: Global, places: &mut Places, ask: Ask) -> Reply
-        requires { self.old.awaits ≡ Nothing }
-        ensures step { SharesStep self.old.state ask places.old result self.new.state places.new }
-        ensures rests { self.new.awaits ≡ Nothing }
-    {
-        let shape = match self.start(alloc, ask) {
-            Started::Reply(reply) => return reply,
-            Started::Look(shape) => shape,
-        };
-        let found = places.look(&shape);
-        let words = match self.found(alloc, found) {
-            Next::Reply(reply) => return reply,
-            Next::Publish(words) => words,
-        };
-        let put = places.publish(&words);
-        self.put(put)
-    }
-
-    /// Replies to what is asked, over a board that others share, by a pass of it. Any session may take any pass.
-    pub fn step_on(&mut self, alloc: Global, board: &Board, pass: &mut Pass, ask: Ask) -> Reply
+    /// Replies to what is asked, over a board that others may share, by a pass of it. Any session may take any pass.
+    pub fn step(&mut self, alloc: Global, board: &Board, pass: &mut Pass, ask: Ask) -> Reply
         requires rests { self.old.awaits ≡ Nothing }
         requires board { pass.old.board ≡ id_of board.now }
         ensures step { AddsStep self.old.state ask pass.old.view result self.new.state pass.new.view }

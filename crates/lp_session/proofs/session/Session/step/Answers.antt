@@ -1,12 +1,23 @@
--- An answer whose basis was to be published.
-use Rattle.std.proofs.Common.{subst}
-use Rattle.lp_session.specs.Sharing.{Sharing, SharesPut}
-use Rattle.lp_session.proofs.Steps.{publishes_so}
+-- An answer after a look, and one whose basis was to be published.
+use Rattle.lp_session.proofs.Boards.{ends_so, publishes_so, publishes_formed, calls_look, calls_both}
 use Rattle.lp_session.proofs.session.Session.step.Goals as goal
+
+pub returns-in-Reply-found-clause-step : goal.returns-in-Reply-found-clause-step
+returns-in-Reply-found-clause-step c =
+    ends_so c.args.self.now.state c.args.ask c.start.result _ c.start.ensures c.args.pass.now.view _ c.in-Look.is _
+    c.look.result c.look.ensures.look _ c.found_by-found.ensures c.found.result _ c.found.ensures _ c.in-Reply-found.is
 
 pub returns-clause-step : goal.returns-clause-step
 returns-clause-step c =
-    publishes_so c.args.self.now.state c.args.ask c.args.places.now _ _ _ _ c.in-Look.is c.start.ensures _
-    c.look-found.ensures.look _ _ _ c.in-Publish.is c.found.ensures _ _ _
-    (subst (λ (s : Sharing). SharesPut c.in-Publish.words s c.publish-put.result c.publish-put.new.self)
-    c.look-found.ensures.kept c.publish-put.ensures) c.put.ensures
+    publishes_so c.args.self.now.state c.args.ask c.start.result _ c.start.ensures c.args.pass.now.view _ c.in-Look.is _
+    c.look.result c.look.ensures.look _ c.found_by-found.ensures c.found.result _ c.found.ensures _ c.in-Publish.is _
+    c.publish.result c.publish.ensures.put _ _ _ c.put_by-put.ensures c.put.ensures
+
+pub returns-in-Reply-found-clause-calls : goal.returns-in-Reply-found-clause-calls
+returns-in-Reply-found-clause-calls c =
+    calls_look _ c.look.result _ _ c.look.ensures.look c.look.ensures.consistent
+
+pub returns-clause-calls : goal.returns-clause-calls
+returns-clause-calls c =
+    calls_both _ c.look.result _ c.publish.result _ _ _ c.look.ensures.look c.look.ensures.consistent
+    (publishes_formed _ _ _ _ _ c.found.ensures c.in-Publish.is) c.publish.ensures.put

@@ -3,43 +3,37 @@ use Rattle.std.proofs.Common.{◌≡◌, ℕ, ◌+◌, ◌<◌, ◌≤◌, List,
 use Rattle.std.proofs.Common.{subst, ⊎_elim, inl, inr, arith, length-append}
 use Rattle.std.proofs.lemmas.Bool.{cases_lt}
 use Rattle.std.proofs.lemmas.List.{get_or_push, get_or_append_left}
-use Rattle.spec_shape.specs.Words.{IsWellFormed}
-use Rattle.spec_reads.specs.Reads.{Words}
+use Rattle.spec_reads.specs.Reads.{Words, basis_words}
 use Rattle.basis_board.specs.declared.seats.View.{View}
 use Rattle.basis_board.specs.declared.seats.Read.{Read}
 use Rattle.basis_board.specs.declared.seats.Read.TheVariants.{Count, Open, See, Claim, Lost, Done}
-use Rattle.basis_board.specs.Board.{Has}
-use Rattle.basis_board.specs.Rule.{published_places, Neat, OwnsBelow}
 use Rattle.basis_board.specs.declared.board.Look.{Look}
 use Rattle.basis_board.specs.declared.board.Look.TheVariants.{Found, NoneReady}
-use Rattle.basis_board.specs.declared.board.Put.{Put}
-use Rattle.basis_board.specs.declared.board.Put.TheVariants.{Published, Full, Raced}
-use Rattle.basis_board.specs.Calls.{SeesOther, Passed, IsDownTo, Looks, Puts}
+use Rattle.basis_board.specs.Board.{Has}
+use Rattle.basis_board.specs.Rule.{published_places, Neat, OwnsBelow}
+use Rattle.basis_board.specs.Calls.{Passed, IsDownTo, Looks}
 use Rattle.basis_board.proofs.Whole.{length_own}
-use Rattle.board_reads.specs.PassReads.{exact_put}
-use Rattle.spec_reads.specs.declared.read.Put.TheVariants as exact
-use Rattle.lp_session.specs.Only.{published_words, AreInOrder, sharing_of}
-use Rattle.lp_session.specs.Sharing.{Sharing, SharesPut}
-use Rattle.lp_session.proofs.Puts.{shares_full, shares_published}
+use Rattle.lp_places.specs.Only.{published_words, AreInOrder}
 
 -- ---- each place was published with the words that stand there
 abbrev Stands : List Read → ℕ → Type 0
 Stands reads k =
-    Has reads (Done k (get_or (published_words reads) k [])) × IsWellFormed (get_or (published_words reads) k [])
+    Has reads (Done k (get_or (published_words reads) k [])) ×
+    (length (get_or (published_words reads) k []) ≡ basis_words)
 
 module _ (words : Words) (reads : List Read) (j : ℕ) (place : j ≡ length (published_words reads))
-    (formed : IsWellFormed words) (k : ℕ) where
+    (sized : length words ≡ basis_words) (k : ℕ) where
   stands_before : k < length (published_words reads) → Stands reads k → Stands (Done j words ∷ reads) k
   stands_before before h =
       let e : get_or (published_words reads ++ words ∷ []) k [] ≡ get_or (published_words reads) k [] =
       get_or_append_left (published_words reads) (words ∷ []) [] k before in
-      (inr (subst (λ ws. Has reads (Done k ws)) (sym e) h.0), subst IsWellFormed (sym e) h.1)
+      (inr (subst (λ ws. Has reads (Done k ws)) (sym e) h.0), ap length e ∙ h.1)
 
   stands_here : k ≡ length (published_words reads) → Stands (Done j words ∷ reads) k
   stands_here here =
       let e : get_or (published_words reads ++ words ∷ []) k [] ≡ words =
       get_or_push (published_words reads) words [] k (sym here) in
-      (inl (ap₂ Done (place ∙ sym here) (sym e)), subst IsWellFormed (sym e) formed)
+      (inl (ap₂ Done (place ∙ sym here) (sym e)), ap length e ∙ sized)
 
 pub stands_at : (reads : List Read) → AreInOrder reads → (k : ℕ) → k < length (published_words reads) → Stands reads k
 stands_at [] order k l = absurd (omega (arith, l))
@@ -72,8 +66,14 @@ as_many (See j words ∷ reads) = as_many reads
 as_many (Claim j ∷ reads) = as_many reads
 as_many (Lost c ∷ reads) = as_many reads
 
-pub all_published : (v : View) (n : ℕ) → Neat v → OwnsBelow v n → n ≡ length (published_words v.reads)
-all_published v n neat owns = sym (length_own v n owns) ∙ ap length neat.published ∙ as_many v.reads
+abbrev pub OwnsAll : View → Type 0
+OwnsAll v = length v.own ≡ length (published_words v.reads)
+
+pub owns_all : (v : View) → Neat v → OwnsAll v
+owns_all v neat = ap length neat.published ∙ as_many v.reads
+
+pub all_published : (v : View) (n : ℕ) → OwnsAll v → OwnsBelow v n → n ≡ length (published_words v.reads)
+all_published v n all owns = sym (length_own v n owns) ∙ all
 
 -- ---- a look publishes nothing
 passed_words : (shape : Words) (c k : ℕ) (added reads : List Read) → Passed shape c k added →
@@ -96,48 +96,37 @@ passed_order shape c k (Claim j ∷ added) reads p order = absurd p.0
 passed_order shape c k (Lost n ∷ added) reads p order = absurd p.0
 passed_order shape c k (Done j words ∷ added) reads p order = absurd p.0
 
-abbrev with_done : ℕ → List Words → Sharing
-with_done places done = record { places = places; done = done }
+-- the pass has published what it had, and nothing else
+pub record Rests (v w : View) : Type 0 where
+  pub places : w.places ≡ v.places
+  pub share : w.share ≡ v.share
+  pub own : w.own ≡ v.own
+  pub words : published_words w.reads ≡ published_words v.reads
+  pub order : AreInOrder w.reads
 
-down_stays : (shape : Words) (c k : ℕ) (v w : View) → IsDownTo shape c k v w → AreInOrder v.reads →
-    (sharing_of w ≡ sharing_of v) × AreInOrder w.reads
-down_stays shape c k v w d order = (
-  ap sharing_of d.view
-      ∙ ap (with_done v.places)
-      (passed_words shape c k d.added (Count c ∷ v.reads) d.passed),
-  subst (λ (x : View). AreInOrder x.reads) (sym d.view)
-      (passed_order shape c k d.added (Count c ∷ v.reads) d.passed order),
-)
+down_rests : (shape : Words) (c k : ℕ) (v w : View) → IsDownTo shape c k v w → AreInOrder v.reads → Rests v w
+down_rests shape c k v w d order =
+    subst (Rests v) (sym d.view)
+    (record {
+      places = refl;
+      share = refl;
+      own = refl;
+      words = passed_words shape c k d.added (Count c ∷ v.reads) d.passed;
+      order = passed_order shape c k d.added (Count c ∷ v.reads) d.passed order;
+    })
 
-pub look_stays : (shape : Words) (v w : View) (look : Look) → Looks shape v look w → AreInOrder v.reads →
-    (sharing_of w ≡ sharing_of v) × AreInOrder w.reads
-look_stays shape v w (NoneReady c) d order = down_stays shape c 0 v w d order
-look_stays shape v w (Found k words) f order =
-    let h = down_stays shape f.count (k + 1) v f.before f.down order in (
-      ap sharing_of f.finds.view ∙ h.0,
-      subst (λ (x : View). AreInOrder x.reads) (sym f.finds.view) h.1,
-    )
+pub look_rests : (shape : Words) (v w : View) (look : Look) → Looks shape v look w → AreInOrder v.reads → Rests v w
+look_rests shape v w (NoneReady c) d order = down_rests shape c 0 v w d order
+look_rests shape v w (Found k words) f order =
+    let before = down_rests shape f.count (k + 1) v f.before f.down order in
+    subst (Rests v) (sym f.finds.view)
+    (record {
+      places = before.places;
+      share = before.share;
+      own = before.own;
+      words = before.words;
+      order = before.order;
+    })
 
--- ---- a publication
-pub put_shares : (words : Words) (v w : View) (put : Put) → Puts v words put w → Neat v → v.share ≡ 64 →
-    SharesPut words (sharing_of v) (exact_put put) (sharing_of w)
-put_shares words v w (Published k) p neat whole =
-    let all : k ≡ length (published_words v.reads) = all_published v k neat (p.tells.whole whole) in
-    subst (λ (x : View). SharesPut words (sharing_of v) (exact.Published k) (sharing_of x)) (sym p.view)
-    (shares_published words v.places k (published_words v.reads) (published_words v.reads ++ words ∷ []) all p.inside
-    refl)
-put_shares words v w (Full c) p neat whole =
-    let all : c ≡ length (published_words v.reads) = all_published v c neat (p.tells.whole whole) in
-    subst (λ (x : View). SharesPut words (sharing_of v) (exact.Full c) (sharing_of x)) (sym p.view)
-    (shares_full words (sharing_of v) c all p.all)
-put_shares words v w (Raced e) p neat whole = absurd (p.not_whole whole)
-
-pub put_order : (words : Words) (v w : View) (put : Put) → Puts v words put w → Neat v → v.share ≡ 64 →
-    IsWellFormed words → AreInOrder v.reads → AreInOrder w.reads
-put_order words v w (Published k) p neat whole formed order =
-    subst (λ (x : View). AreInOrder x.reads) (sym p.view)
-    (all_published v k neat (p.tells.whole whole), formed, order)
-put_order words v w (Full c) p neat whole formed order =
-    subst (λ (x : View). AreInOrder x.reads) (sym p.view) order
-put_order words v w (Raced e) p neat whole formed order =
-    subst (λ (x : View). AreInOrder x.reads) (sym p.view) order
+pub rests_own : (v w : View) → Rests v w → OwnsAll v → OwnsAll w
+rests_own v w rests all = ap length rests.own ∙ all ∙ sym (ap length rests.words)

@@ -1,14 +1,13 @@
 -- What holds of places as the code keeps them: a board with the only pass of it.
 use Rattle.std.specs.Prelude.{◌≡◌, ◌++◌, List, [], ◌∷◌, length}
 use Rattle.atomic_table.specs.Seated.{TableId}
-use Rattle.spec_shape.specs.Words.{IsWellFormed}
-use Rattle.spec_reads.specs.Reads.{Words}
+use Rattle.spec_reads.specs.Reads.{Words, basis_words}
 use Rattle.basis_board.specs.declared.seats.View.{View}
 use Rattle.basis_board.specs.declared.seats.Read.{Read}
 use Rattle.basis_board.specs.declared.seats.Read.TheVariants.{Done}
 use Rattle.basis_board.specs.Known.{Known}
 use Rattle.basis_board.specs.Rule.{Consistent}
-use Rattle.lp_session.specs.Sharing.{Sharing}
+use Rattle.lp_places.specs.Sharing.{Sharing}
 
 -- the words of the publications, the first one first
 abbrev pub published_words : List Read → List Words
@@ -16,10 +15,11 @@ published_words [] = []
 published_words (Done k words ∷ reads) = published_words reads ++ words ∷ []
 published_words (r ∷ reads) = published_words reads
 
--- each publication has the place after those of the earlier ones
+-- each publication has the place after those of the earlier ones, and as many words as a basis
 abbrev pub AreInOrder : List Read → Type 0
 AreInOrder [] = Unit {0}
-AreInOrder (Done k words ∷ reads) = (k ≡ length (published_words reads)) × IsWellFormed words × AreInOrder reads
+AreInOrder (Done k words ∷ reads) =
+    (k ≡ length (published_words reads)) × (length words ≡ basis_words) × AreInOrder reads
 AreInOrder (r ∷ reads) = AreInOrder reads
 
 abbrev pub sharing_of : View → Sharing

@@ -1,8 +1,7 @@
 -- Places that the sessions of one script share, and nobody else.
 use Rattle.std.specs.Prelude.{ℕ, ◌≡◌, List, map}
 use Rattle.spec_reads.specs.declared.place.Place.TheVariants as place
-use Rattle.spec_reads.specs.declared.read.Put.{Put}
-use Rattle.spec_reads.specs.Reads.{Words, ExactRead, Looked, LookReads, PutReads}
+use Rattle.spec_reads.specs.Reads.{Words, ExactRead}
 use Rattle.spec_reads.specs.Places.{ExactPlace, logged, Plays}
 use Rattle.spec_server.specs.Machine.{ExactAsk, ExactReply, State}
 use Rattle.spec_server.specs.Step.{AloneStep}
@@ -19,18 +18,6 @@ as_places done = map place.Done done
 pub record Shares (old : Sharing) (reads : List ExactRead) (new : Sharing) : Type 0 where
   pub places : new.places ≡ old.places
   pub played : (session : ℕ) → Plays old.places (as_places old.done) (logged session reads) (as_places new.done)
-
--- one look, which changes nothing
-pub record SharesLook (shape : Words) (now : Sharing) (found : Looked) : Type 0 where
-  pub reads : List ExactRead
-  pub look : LookReads shape reads found
-  pub shares : Shares now reads now
-
--- one put
-pub record SharesPut (words : Words) (old : Sharing) (put : Put) (new : Sharing) : Type 0 where
-  pub reads : List ExactRead
-  pub puts : PutReads old.places words put reads
-  pub shares : Shares old reads new
 
 -- one step of a session
 pub record SharesStep (before : State) (asked : ExactAsk) (old : Sharing) (replied : ExactReply) (after : State)

@@ -1,0 +1,62 @@
+-- Reads of a pass that places which are all done answer one after the other.
+use Rattle.std.proofs.Common.{◌≡◌, ℕ, List, [], ◌∷◌, ◌++◌, map, refl, sym, ap, ◌∙◌, subst, inl}
+use Rattle.std.specs.Prelude.{reverse}
+use Rattle.std.proofs.lemmas.List.{map-append, reverse-append, append_cancel_left}
+use Rattle.spec_reads.specs.Reads.{Words, ExactRead}
+use Rattle.spec_reads.specs.Places.{ExactPlace, Logged, logged, Answers, Plays}
+use Rattle.basis_board.specs.declared.seats.View.{View}
+use Rattle.basis_board.specs.declared.seats.Read.{Read}
+use Rattle.basis_board.specs.Board.{Each, Has}
+use Rattle.basis_board.proofs.Totals.{has_right}
+use Rattle.board_reads.specs.PassReads.{exact_read, reads_of}
+use Rattle.lp_places.specs.Sharing.{as_places}
+
+plays_append : (places : ℕ) (now middle last : List ExactPlace) (xs ys : List Logged) → Plays places now xs middle →
+    Plays places middle ys last → Plays places now (xs ++ ys) last
+plays_append places now middle last [] ys first second = subst (λ now. Plays places now ys last) first second
+plays_append places now middle last (x ∷ xs) ys first second =
+    (first.0, first.1, plays_append places first.0 middle last xs ys first.2 second)
+
+-- ---- reads of a pass, of which the newest stands first
+abbrev pub in_turn : List Read → List ExactRead
+in_turn reads = map exact_read (reverse reads)
+
+in_turn-append : (more old : List Read) → in_turn (more ++ old) ≡ in_turn old ++ in_turn more
+in_turn-append more old =
+    ap (map exact_read) (reverse-append more old) ∙ map-append exact_read (reverse old) (reverse more)
+
+-- what was read since
+pub reads_since : (v u : View) (more : List Read) (reads : List ExactRead) → u.reads ≡ more ++ v.reads →
+    reads_of u ≡ reads_of v ++ reads → in_turn more ≡ reads
+reads_since v u more reads e all =
+    append_cancel_left (reads_of v) (in_turn more) reads
+    (sym (in_turn-append more v.reads) ∙ sym (ap in_turn e) ∙ all)
+
+pub has_newest : (r : Read) (old : List Read) → Has (in_turn (r ∷ old)) (exact_read r)
+has_newest r old =
+    subst (λ reads. Has reads (exact_read r)) (sym (in_turn-append (r ∷ []) old))
+    (has_right (in_turn old) (exact_read r ∷ []) (exact_read r) (inl refl))
+
+-- ---- they are answered, whichever session makes them
+abbrev pub Played : ℕ → List Words → List Read → List Words → Type 0
+Played places done reads next =
+    (session : ℕ) → Plays places (as_places done) (logged session (in_turn reads)) (as_places next)
+
+pub played_on : (places : ℕ) (done middle next : List Words) (old more : List Read) → Played places done old middle →
+    Played places middle more next → Played places done (more ++ old) next
+played_on places done middle next old more first second = λ session.
+    subst (λ log. Plays places (as_places done) log (as_places next))
+    (sym (ap (logged session) (in_turn-append more old) ∙ map-append _ (in_turn old) (in_turn more)))
+    (plays_append places (as_places done) (as_places middle) (as_places next) (logged session (in_turn old))
+    (logged session (in_turn more)) (first session) (second session))
+
+-- a read that changes nothing
+abbrev pub Stays : ℕ → List Words → Read → Type 0
+Stays places done r = (session : ℕ) → Answers places (as_places done) session (exact_read r) (as_places done)
+
+pub played_each : (places : ℕ) (done : List Words) (reads : List Read) → Each (Stays places done) reads →
+    Played places done reads done
+played_each places done [] each = λ session. refl
+played_each places done (r ∷ reads) each =
+    played_on places done done done reads (r ∷ []) (played_each places done reads each.1)
+    (λ session. (as_places done, each.0 session, refl))

@@ -1,0 +1,27 @@
+// A solve with a basis that is handed to it.
+ghost use Rattle.std.specs.Prelude.{◌≡◌, IfOk, Ok, Some};
+ghost use Rattle.spec_simplex.specs.Form.{form_of};
+ghost use Rattle.spec_simplex.specs.Eliminate.{IsBasisOf};
+ghost use Rattle.spec_server.specs.Answers.{number_limit, IsSolved};
+ghost use Rattle.lp_session.specs.Stages.{LeavesBasis};
+
+use lp_form::{Basis, Form};
+use lp_model::Model;
+use lp_solve::{Solved, solve_formed};
+use std::alloc::{AllocError, Global};
+
+/// What a solve of a model ends with, within a budget of pivots and flips, from a basis of its form.
+pub fn solved_from_basis(
+    alloc: Global,
+    model: &Model,
+    budget: u32,
+    form: &Form,
+    basis: &Basis,
+) -> Result<Solved, AllocError>
+    requires formed { form_of (Some number_limit) model.now ≡ Ok form.now }
+    requires fits { IsBasisOf form.now basis.now }
+    ensures solved { IfOk result (λ solved. IsSolved model.now budget (Some basis.now) solved) }
+    ensures basis { IfOk result (λ solved. LeavesBasis form.now solved.end) }
+{
+    solve_formed(alloc, model, u64::from(budget), form, Some(basis))
+}
