@@ -1,0 +1,4 @@
+pub mod OneMore
+pub mod Dealing
+pub mod Gathering
+pub mod InAll

@@ -1,0 +1,219 @@
+-- One more ask of a worker.
+use Rattle.std.proofs.Common.{◌≡◌, ◌≢◌, ℕ, ◌+◌, ◌<◌, ◌≤◌, List, [], ◌∷◌, ◌++◌, Bool, true, false, nat_eq, cond, length}
+use Rattle.std.proofs.Common.{reverse, set, get_or, eqb-true, eq-eqb, refl, ap, sym, ◌∙◌, subst}
+use Rattle.std.proofs.Common.{inl, inr, append-nil, Some}
+use Rattle.std.specs.List.{All}
+use Rattle.std.proofs.lemmas.Grind.{flat_map-append}
+use Rattle.std.proofs.lemmas.List.{append_assoc, map-append, reverse-append, length-map}
+use Rattle.std.proofs.lemmas.List.{get_or-map, get_or-set_same, get_or-set_other, map-set}
+use Rattle.std.proofs.lemmas.List.Elements.{All-set, All-pop}
+use Rattle.spec_reads.specs.Reads.{Words, ExactRead}
+use Rattle.spec_server.specs.declared.asks.Asked.{Asked}
+use Rattle.spec_server.specs.Halves.{Standing, Nothing, at_rest}
+use Rattle.spec_server.specs.Machine.{ExactAsk, ExactReply, State, opening}
+use Rattle.spec_server.specs.Step.{AloneStep}
+use Rattle.spec_server.specs.Exchanges.{Exchange, AloneRun, of_session}
+use Rattle.spec_server.proofs.RunLemmas.{AloneRun-append, of_session-append, asked_in-append}
+use Rattle.spec_world.specs.Workers.{reads_in_all}
+use Rattle.basis_board.specs.declared.board.Board.{Board}
+use Rattle.basis_board.specs.declared.seats.View.{View}
+use Rattle.basis_board.specs.Known.{Known}
+use Rattle.basis_board.specs.declared.board.Look.{Look}
+use Rattle.basis_board.specs.declared.board.Look.TheVariants.{Found, NoneReady}
+use Rattle.basis_board.specs.declared.board.Put.{Put}
+use Rattle.basis_board.specs.declared.board.Put.TheVariants.{Published, Full, Raced}
+use Rattle.basis_board.specs.Calls.{Looks, Puts}
+use Rattle.basis_board.specs.Rule.{Consistent}
+use Rattle.board_reads.specs.Orderly.{IsOrderly}
+use Rattle.board_reads.specs.PassReads.{reads_of}
+use Rattle.board_reads.proofs.KeepOrder.{looks_keep, puts_keep}
+use Rattle.lp_session.specs.Boarding.{AddsStep, MayPut, StepCalls}
+use Rattle.lp_workers.specs.declared.worker.Worker.{Worker}
+use Rattle.lp_workers.specs.Workers.{states_of, state_at, IsHired, HaveHad, IsServing, IsReady}
+
+-- ---- the calls of a step
+looks_places : (shape : Words) (v w : View) (look : Look) → Looks shape v look w → w.places ≡ v.places
+looks_places shape v w (NoneReady c) d = ap (λ (x : View). x.places) d.view
+looks_places shape v w (Found k xs) f =
+    ap (λ (x : View). x.places) f.finds.view ∙ ap (λ (x : View). x.places) f.down.view
+
+puts_places : (words : Words) (v w : View) (put : Put) → Puts v words put w → w.places ≡ v.places
+puts_places words v w (Published k) p = ap (λ (x : View). x.places) p.view
+puts_places words v w (Full c) p = ap (λ (x : View). x.places) p.view
+puts_places words v w (Raced e) p = ap (λ (x : View). x.places) p.view
+
+may_put_places : (v w : View) → MayPut v w → w.places ≡ v.places
+may_put_places v w (inl e) = ap (λ (x : View). x.places) e
+may_put_places v w (inr p) = puts_places p.0 v w p.1 p.3
+
+pub calls_places : (v w : View) → StepCalls v w → w.places ≡ v.places
+calls_places v w (inl e) = ap (λ (x : View). x.places) e
+calls_places v w (inr c) = may_put_places c.2 w c.5 ∙ looks_places c.0 v c.2 c.1 c.3
+
+may_put_orderly : (v w : View) → Consistent v → MayPut v w → IsOrderly v → IsOrderly w
+may_put_orderly v w now (inl e) orderly = subst IsOrderly (sym e) orderly
+may_put_orderly v w now (inr p) orderly = puts_keep v now orderly p.0 w p.1 p.2 p.3
+
+pub calls_orderly : (v w : View) → Consistent v → StepCalls v w → IsOrderly v → IsOrderly w
+calls_orderly v w now (inl e) orderly = subst IsOrderly (sym e) orderly
+calls_orderly v w now (inr c) orderly =
+    may_put_orderly c.2 w c.4 c.5 (looks_keep v now orderly c.0 c.2 c.1 c.3)
+
+-- ---- one session takes the step, and the others stay
+not_equal : (a b : ℕ) → nat_eq a b ≡ false → b ≢ a
+not_equal a b e same =
+    let f : nat_eq a a ≡ false = ap (nat_eq a) (sym same) ∙ e in let g : nat_eq a a ≡ true = eq-eqb a a refl in cc
+
+abbrev exchange_of : Asked ExactAsk → List ExactRead → ExactReply → Exchange
+exchange_of asked reads reply = record { session = asked.session; ask = asked.ask; reads = reads; reply = reply }
+
+one_run : (places : ℕ) (old new : ℕ → State) (asked : Asked ExactAsk) (reads : List ExactRead) (reply : ExactReply) →
+    AloneStep places (old asked.session) asked.ask reads reply (new asked.session) →
+    ((session : ℕ) → session ≢ asked.session → new session ≡ old session) → (session : ℕ) →
+    AloneRun places (old session) (of_session session (exchange_of asked reads reply ∷ [])) (new session)
+one_run places old new asked reads reply step others session = by (nat_eq asked.session session) refl
+  where
+    by : (t : Bool) → nat_eq asked.session session ≡ t →
+        AloneRun places (old session) (cond t (exchange_of asked reads reply ∷ []) []) (new session)
+    by true e = (
+      new session,
+      subst (λ (s : ℕ). AloneStep places (old s) asked.ask reads reply (new s)) (eqb-true asked.session session e) step,
+      refl,
+    )
+    by false e = others session (not_equal asked.session session e)
+
+-- a session of those at rest
+pub rests : (all : List Standing) (k : ℕ) (standing : Standing) → k < length all → standing ≡ get_or all k standing →
+    All (λ (s : Standing). s.awaits ≡ Nothing) all → standing.awaits ≡ Nothing
+rests all k standing within is rest = ap (λ (s : Standing). s.awaits) is ∙ rest k standing within
+
+pub rests_more : (all : List Standing) (k : ℕ) (new : Standing) → new.awaits ≡ Nothing →
+    All (λ (s : Standing). s.awaits ≡ Nothing) all → All (λ (s : Standing). s.awaits ≡ Nothing) (set all k new)
+rests_more all k new e rest = All-set (λ (s : Standing). s.awaits ≡ Nothing) all k new e rest
+
+-- The session that is asked has this standing from now on.
+module _ (all : List Standing) (asked : Asked ExactAsk) (within : asked.session < length all)
+    (standing next : Standing) (is : standing ≡ get_or all asked.session standing) where
+  abbrev changed : List State
+  changed = states_of (set all asked.session next)
+
+  changed_is : changed ≡ set (states_of all) asked.session next.state
+  changed_is = map-set (λ session. session.state) all asked.session next
+
+  was : standing.state ≡ state_at (states_of all) asked.session
+  was = ap (λ (s : Standing). s.state) is
+      ∙ sym (get_or-map (λ session. session.state) all asked.session standing opening within)
+
+  new_state : state_at changed asked.session ≡ next.state
+  new_state =
+      ap (λ (states : List State). state_at states asked.session) changed_is
+      ∙ get_or-set_same (states_of all) asked.session next.state opening
+      (subst (λ (n : ℕ). asked.session < n) (sym (length-map all (λ session. session.state))) within)
+
+  others : (session : ℕ) → session ≢ asked.session → state_at changed session ≡ state_at (states_of all) session
+  others session other =
+      ap (λ (states : List State). state_at states session) changed_is
+      ∙ get_or-set_other (states_of all) asked.session session next.state opening other
+
+  module _ (v w : View) (reply : ExactReply) (adds : AddsStep standing.state asked.ask v reply next.state w) where
+    abbrev x : Exchange
+    x = exchange_of asked adds.reads reply
+
+    stepped : AloneStep v.places (state_at (states_of all) asked.session) asked.ask adds.reads reply
+        (state_at changed asked.session)
+    stepped =
+        subst (λ (s : State). AloneStep v.places s asked.ask adds.reads reply (state_at changed asked.session)) was
+        (subst (λ (s : State). AloneStep v.places standing.state asked.ask adds.reads reply s)
+        (sym new_state) adds.step)
+
+    module _ (asks : List (Asked ExactAsk)) (replies : List ExactReply) (had : HaveHad asks replies v all) where
+      abbrev xs : List Exchange
+      xs = had.exchanges
+
+      run_on : (session : ℕ) →
+          AloneRun v.places opening (of_session session (xs ++ x ∷ [])) (state_at changed session)
+      run_on session =
+          subst (λ (ys : List Exchange). AloneRun v.places opening ys (state_at changed session))
+          (sym (of_session-append session xs (x ∷ [])))
+          (AloneRun-append v.places opening (state_at (states_of all) session) (state_at changed session)
+          (of_session session xs) (of_session session (x ∷ [])) (had.runs session)
+          (one_run v.places (state_at (states_of all)) (state_at changed) asked adds.reads reply stepped others
+          session))
+
+      reads_on : reads_of w ≡ reads_in_all (xs ++ x ∷ [])
+      reads_on =
+          adds.all ∙ ap (λ rs. rs ++ adds.reads) had.reads
+          ∙ ap (λ rs. reads_in_all xs ++ rs) (sym (append-nil adds.reads))
+          ∙ sym (flat_map-append (λ (y : Exchange). y.reads) xs (x ∷ []))
+
+      pub had_more : StepCalls v w → Consistent v →
+          HaveHad (asks ++ asked ∷ []) (replies ++ reply ∷ []) w (set all asked.session next)
+      had_more calls now = record {
+        exchanges = xs ++ x ∷ [];
+        asked = asked_in-append xs (x ∷ []) ∙ ap (λ zs. zs ++ asked ∷ []) had.asked;
+        replied = map-append (λ (y : Exchange). y.reply) xs (x ∷ []) ∙ ap (λ zs. zs ++ reply ∷ []) had.replied;
+        runs = subst
+            (λ places. (session : ℕ) →
+            AloneRun places opening (of_session session (xs ++ x ∷ [])) (state_at changed session))
+            (sym (calls_places v w calls)) run_on;
+        reads = reads_on;
+        orderly = calls_orderly v w now calls had.orderly;
+      }
+
+-- ---- a worker whose asks and replies alone have changed
+module _ (board : Board) (w new : Worker) (pass : new.pass ≡ w.pass) (sessions : new.sessions ≡ w.sessions)
+    (solves : new.solves ≡ w.solves) where
+  pub hired_same : IsHired board w → IsHired board new
+  hired_same h = record {
+    of_board = ap (λ (k : Known). k.board) pass ∙ h.of_board;
+    places = ap (λ (k : Known). k.view.places) pass ∙ h.places;
+    share = ap (λ (k : Known). k.view.share) pass ∙ h.share;
+    consistent = subst (λ (k : Known). Consistent k.view) (sym pass) h.consistent;
+    all = ap (λ s. length s.items) sessions ∙ h.all;
+    counted = ap (λ s. length s.items) solves ∙ h.counted;
+    at_rest = subst (λ s. All (λ (x : Standing). x.awaits ≡ Nothing) s.items) (sym sessions) h.at_rest;
+  }
+
+-- ---- its turn, so far
+
+pub record Turning (board : Board) (held : List (Asked ExactAsk)) (w : Worker) : Type 0 where
+  pub done : List (Asked ExactAsk)
+  pub all : reverse held ≡ done ++ reverse w.asks.items
+  pub serving : IsServing board done w
+
+pub turn_begins : (board : Board) (w : Worker) → IsReady board w → Turning board w.asks.items w
+turn_begins board w ready = record { done = []; all = refl; serving = ready }
+
+module _ (board : Board) (held : List (Asked ExactAsk)) (w : Worker) (so : Turning board held w)
+    (asked : Asked ExactAsk) (popped : List (Asked ExactAsk)) (split : w.asks.items ≡ popped ++ asked ∷ []) where
+  low : All (λ (a : Asked ExactAsk). a.session ≤ 64) popped × (asked.session ≤ 64)
+  low = All-pop (λ (a : Asked ExactAsk). a.session ≤ 64) w.asks.items popped (Some asked) split so.serving.sessions
+
+  pub session_so : asked.session ≤ 64
+  session_so = low.1
+
+  pub turn_more : (reply : ExactReply) (next : Worker) → IsHired board next →
+      HaveHad (so.done ++ asked ∷ []) (w.replies.items ++ reply ∷ []) next.pass.view next.sessions.items →
+      next.asks.items ≡ popped → next.replies.items ≡ w.replies.items ++ reply ∷ [] →
+      next.replies.len + next.asks.len ≤ next.replies.cap → Turning board held next
+  turn_more reply next hired had asks replies room = record {
+    done = so.done ++ asked ∷ [];
+    all = so.all
+        ∙ ap (λ ys. so.done ++ reverse ys) split
+        ∙ ap (λ ys. so.done ++ ys) (reverse-append popped (asked ∷ []))
+        ∙ sym (append_assoc so.done (asked ∷ []) (reverse popped))
+        ∙ ap (λ ys. (so.done ++ asked ∷ []) ++ reverse ys) (sym asks);
+    serving = record {
+      hired = hired;
+      had = subst (λ rs. HaveHad (so.done ++ asked ∷ []) rs next.pass.view next.sessions.items) (sym replies) had;
+      room = room;
+      sessions = subst (All (λ (a : Asked ExactAsk). a.session ≤ 64)) (sym asks) low.0;
+    };
+  }
+
+-- when no ask is left
+pub turn_ends : (board : Board) (held : List (Asked ExactAsk)) (w : Worker) → Turning board held w →
+    w.asks.items ≡ [] → IsServing board (reverse held) w
+turn_ends board held w so none =
+    subst (λ asks. IsServing board asks w)
+    (sym (so.all ∙ ap (λ ys. so.done ++ reverse ys) none ∙ append-nil so.done)) so.serving

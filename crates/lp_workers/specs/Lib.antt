@@ -1,0 +1,3 @@
+pub mod AnswersAll
+pub mod Workers
+pub mod Dealt

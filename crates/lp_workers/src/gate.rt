@@ -1,0 +1,16 @@
+// What is told before each solve.
+use std::sync::Wait;
+
+/// Is told of each solve before it is made. It may wait, and answers nothing.
+pub trait Gate {
+    /// Before solve `nth` of a session, counted from 1.
+    fn before<R: Wait>(&self, rt: &R, session: u32, nth: u64);
+}
+
+/// Returns at once.
+#[derive(Clone, Copy, Debug)]
+pub struct NeverHolds;
+
+impl Gate for NeverHolds {
+    fn before<R: Wait>(&self, _rt: &R, _session: u32, _nth: u64) {}
+}

@@ -1,0 +1,102 @@
+// Two workers beside each other.
+ghost use Rattle.std.specs.Prelude.{◌≡◌, ◌≤◌, All, IfOk};
+
+use crate::{Gate, answer_all};
+use lp_base::Bytes;
+use lp_gen::make;
+use lp_line::{Ask, Asked, print_said};
+use spec_server::Plain;
+use std::alloc::{AllocError, Global};
+use std::sync::Wait;
+use std::sync::atomic::{AtomicU64, Ordering};
+use std::test::Fail;
+use std::thread;
+
+const REPLIES: &str =
+    "LOADED 1 1\nOPTIMAL 60.75\nOPTIMAL 60.75\nLOADED 1 1\nOPTIMAL 60.75\nOPTIMAL 60.75\n";
+
+// The most turns that a solve is held.
+const TURNS: u32 = 20_000_000;
+
+// Holds the first solve of session 2 until session 1 is about to solve, and the first one of session 1 until session 2
+// is about to solve again.
+#[derive(Drop)]
+struct Handshake {
+    one_began: AtomicU64,
+    two_goes_on: AtomicU64,
+    given_up: AtomicU64,
+}
+
+impl Handshake {
+    fn hold(&self, until: &AtomicU64) {
+        for _ in 0..TURNS {
+            if until.load(Ordering::SeqCst) == 1 {
+                return;
+            }
+            thread::yield_now();
+        }
+        self.given_up.store(1, Ordering::SeqCst);
+    }
+}
+
+impl Gate for Handshake {
+    fn before<R: Wait>(&self, _rt: &R, session: u32, nth: u64) {
+        if session == 1 && nth == 1 {
+            self.one_began.store(1, Ordering::SeqCst);
+            self.hold(&self.two_goes_on);
+        }
+        if session == 2 && nth == 1 {
+            self.hold(&self.one_began);
+        }
+        if session == 2 && nth == 2 {
+            self.two_goes_on.store(1, Ordering::SeqCst);
+        }
+    }
+}
+
+// To hold the greatest 9 C1 where 4 C1 is at most 27 and C1 at most 7.
+fn load(alloc: Global, session: u32) -> Result<Asked, AllocError>
+    ensures { IfOk result (λ asked. asked.session ≡ session) }
+{
+    let model = make(alloc, 4, 1, 1)?;
+    Ok(Asked {
+        session,
+        ask: Ask::Loaded(model),
+    })
+}
+
+fn solve(session: u32) -> Asked
+    ensures { result.session ≡ session }
+{
+    Asked {
+        session,
+        ask: Ask::Plain(Plain::Solve),
+    }
+}
+
+// Both sessions hold a model, and solve it twice.
+fn asks(alloc: Global) -> Result<Vec<Asked>, AllocError>
+    ensures { IfOk result (λ asks. All (λ asked. asked.session ≤ 64) asks.items) }
+{
+    let one = load(alloc, 1)?;
+    let two = load(alloc, 2)?;
+    Ok(std::vec![in alloc; one, solve(1), solve(1), two, solve(2), solve(2)]?)
+}
+
+#[test]
+fn two_workers_run_beside_each_other(rt: HostRuntime) -> Result<(), Fail> {
+    let alloc = rt.alloc();
+    let gate = Handshake {
+        one_began: AtomicU64::new(0),
+        two_goes_on: AtomicU64::new(0),
+        given_up: AtomicU64::new(0),
+    };
+    let replies = answer_all(&rt, alloc, asks(alloc)?, 2, 4, &gate)?;
+    let mut text = Bytes::new(alloc);
+    for reply in &replies {
+        print_said(alloc, reply, &mut text)?;
+    }
+    assert_eq!(rt; text.as_slice(), REPLIES.as_bytes());
+    assert_eq!(rt; gate.given_up.load(Ordering::SeqCst), 0);
+    Ok(())
+}
