@@ -1,0 +1,6 @@
+pub mod Streams
+pub mod Halt
+pub mod Answer
+pub mod Run
+pub mod Script
+pub mod Replies

@@ -1,0 +1,68 @@
+-- What the run of a script reads and writes.
+use Rattle.std.specs.Prelude.{ℕ, ◌≡◌, ◌≤◌, ◌⊎◌, List, map, Option, Result, Ok, Err}
+use Rattle.std.specs.Io.KnownBytes.{Consumes, Appends, IsAtEnd}
+use Rattle.spec_text.specs.Lines.{IsPrefixOf}
+use Rattle.spec_server.specs.declared.asks.Asked.{Asked}
+use Rattle.spec_server.specs.Machine.{ExactAsk}
+use Rattle.spec_server.specs.Exchanges.{Exchange, asked_in}
+use Rattle.spec_server.specs.Script.{Ending, Ended, Cut, script_of, ended_asks_of}
+use Rattle.spec_server.specs.Script as script
+use Rattle.spec_server.specs.Output.{script_out}
+use Rattle.spec_world.specs.Workers.{RunsBy}
+use Rattle.lp_script.specs.declared.halt.Halt.{Halt}
+use Rattle.lp_script.specs.declared.halt.Halt.TheVariants as halts
+use Rattle.lp_script.specs.Streams.{Streams}
+
+-- so many places may be shared, and so many workers may share them
+abbrev pub IsPlaces : ℕ → Type 0
+IsPlaces places = (1 ≤ places) × (places ≤ 1024)
+
+abbrev pub IsWorkers : ℕ → Type 0
+IsWorkers workers = (1 ≤ workers) × (workers ≤ 16)
+
+-- these are the asks of the lines that end among the bytes; or all asks of the script, where the input has ended
+abbrev pub AreAsked : Option (List ℕ) → List ℕ → List (Asked ExactAsk) → Type 0
+AreAsked after read asks = (asks ≡ ended_asks_of read) ⊎ ((asks ≡ (script_of read).asks) × IsAtEnd after)
+
+-- The bytes that were read; the exchanges of their asks, in which each session runs alone, by so many workers, and
+-- shares so many places with the others; and the bytes that were written, a prefix of the output of the exchanges.
+pub record Moves (workers places : ℕ) (s : Streams) : Type 0 where
+  pub read : List ℕ
+  pub exchanges : List Exchange
+  pub written : List ℕ
+  pub consumed : Consumes s.left_before s.left_after read
+  pub appended : Appends s.taken_before s.taken_after written
+  pub asks : AreAsked s.left_after read (map asked_in exchanges)
+  pub runs : RunsBy workers places exchanges
+  pub front : IsPrefixOf written (script_out exchanges)
+
+-- the whole output was written
+abbrev pub IsWhole : {workers places : ℕ} {s : Streams} → Moves workers places s → Type 0
+IsWhole moves = moves.written ≡ script_out moves.exchanges
+
+-- the bytes are a whole script with this end, the exchanges are those of its asks, and the whole output was written
+pub record EndsWith {workers places : ℕ} {s : Streams} (moves : Moves workers places s) (ending : Ending) : Type 0 where
+  pub script : script_of moves.read ≡ record { asks = map asked_in moves.exchanges; ending = ending }
+  pub whole : IsWhole moves
+
+-- nothing is left to be read
+pub record EndsInput {workers places : ℕ} {s : Streams}
+    (moves : Moves workers places s) (ending : Ending) : Type 0 where
+  pub ends : EndsWith moves ending
+  pub at_end : IsAtEnd s.left_after
+
+-- the exchanges are those of the lines that end among the bytes, and the whole output was written
+pub record BreaksOff {workers places : ℕ} {s : Streams} (moves : Moves workers places s) : Type 0 where
+  pub asks : map asked_in moves.exchanges ≡ ended_asks_of moves.read
+  pub whole : IsWhole moves
+
+abbrev pub EndsSo : {workers places : ℕ} {s : Streams} → Moves workers places s → Result (Unit {0}) Halt → Type 0
+EndsSo moves (Ok u) = EndsInput moves Ended
+EndsSo moves (Err halts.Cut) = EndsInput moves Cut
+EndsSo moves (Err halts.Over) = EndsWith moves script.Over
+EndsSo moves (Err halts.Read) = BreaksOff moves
+EndsSo moves (Err halts.Write) = Unit {0}
+EndsSo moves (Err halts.NoMemory) = Unit {0}
+
+abbrev pub Runs : ℕ → ℕ → Streams → Result (Unit {0}) Halt → Type 0
+Runs workers places s result = (moves : Moves workers places s) × EndsSo moves result

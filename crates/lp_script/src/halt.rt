@@ -1,0 +1,49 @@
+// What halts a command.
+ghost use Rattle.std.specs.Prelude.{◌≡◌};
+ghost use Rattle.lp_script.specs.declared.halt.Halt.TheVariants.{Write, NoMemory};
+
+use lp_base::{LineStop, WriteFault};
+use std::alloc::AllocError;
+
+/// Why a command halts before it has done all that is asked.
+#[derive(Clone, Copy, Debug, PartialEq, Eq)]
+pub enum Halt {
+    /// The source failed.
+    Read,
+    /// The sink failed.
+    Write,
+    NoMemory,
+    /// A script ends in the body of a command.
+    Cut,
+    /// The input is longer than may be read.
+    Over,
+}
+
+impl From<LineStop> for Halt {
+    ghost use Rattle.lp_script.specs.Halt.{halt_of};
+
+    ghost from_gives = { λ e halt. halt ≡ halt_of e };
+
+    fn from(stop: LineStop) -> Self {
+        match stop {
+            LineStop::Read => Halt::Read,
+            LineStop::NoMemory => Halt::NoMemory,
+        }
+    }
+}
+
+impl From<WriteFault> for Halt {
+    ghost from_gives = { λ _ halt. halt ≡ Write };
+
+    fn from(_: WriteFault) -> Self {
+        Halt::Write
+    }
+}
+
+impl From<AllocError> for Halt {
+    ghost from_gives = { λ _ halt. halt ≡ NoMemory };
+
+    fn from(_: AllocError) -> Self {
+        Halt::NoMemory
+    }
+}

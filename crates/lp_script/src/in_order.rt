@@ -1,0 +1,38 @@
+// The run of a script by one worker.
+ghost use Rattle.std.specs.Prelude.{IsErrOf};
+ghost use Rattle.lp_base.specs.Causes.{Rose};
+ghost use Rattle.lp_script.specs.Run.{IsPlaces, Runs};
+ghost use Rattle.lp_script.specs.Streams.{streams};
+
+use crate::answer::answer;
+use crate::halt::Halt;
+use crate::sessions::Sessions;
+use lp_base::{Lines, Sink, Source};
+use lp_line::{Addressing, Taken, take};
+use std::alloc::Global;
+
+/// Answers each ask of the script that the source gives before it reads the next one.
+/// The sessions share so many places.
+pub(crate) fn run_in_order<S: Source, K: Sink>(
+    alloc: Global,
+    places: u32,
+    src: &mut S,
+    out: &mut K,
+) -> Result<(), Halt>
+    requires { IsPlaces places }
+    ensures output { Runs 1 places
+        (streams (S.left src.old) (S.left src.new) (K.taken out.old) (K.taken out.new)) result }
+    ensures read { IsErrOf result Halt.Read → Rose (S.read_faults src.old) (S.read_faults src.new) }
+    ensures write { IsErrOf result Halt.Write → Rose (K.write_faults out.old) (K.write_faults out.new) }
+{
+    let mut lines = Lines::new(alloc)?;
+    let mut sessions = Sessions::new(alloc, places)?;
+    loop {
+        match take(alloc, Addressing::Numbered, &mut lines, src)? {
+            Taken::Ask(asked) => answer(alloc, &mut sessions, asked, out)?,
+            Taken::End => return Ok(()),
+            Taken::Cut => return Err(Halt::Cut),
+            Taken::Over => return Err(Halt::Over),
+        }
+    }
+}

@@ -1,0 +1,45 @@
+// The asks of a script, read to its end.
+ghost use Rattle.std.specs.Prelude.{IfOk, IsErrOf};
+ghost use Rattle.lp_base.specs.Causes.{Rose};
+ghost use Rattle.lp_script.specs.Script.{ReadsScript};
+
+use crate::halt::Halt;
+use lp_base::{LineStop, Lines, Source};
+use lp_line::{Addressing, Asked, Taken, take};
+use std::alloc::{AllocError, Global};
+
+/// The asks that were read whole, and why no more were.
+#[derive(Drop)]
+pub(crate) struct Script {
+    pub(crate) asks: Vec<Asked>,
+    pub(crate) end: Result<(), Halt>,
+}
+
+/// Reads the asks of a script up to its end, or to what halts it.
+pub(crate) fn read_script<S: Source>(alloc: Global, src: &mut S) -> Result<Script, AllocError>
+    ensures script { ReadsScript (S.left src.old) (S.left src.new) result }
+    ensures read { IfOk result (λ script.
+        IsErrOf script.end Halt.Read → Rose (S.read_faults src.old) (S.read_faults src.new)) }
+{
+    let mut lines = Lines::new(alloc)?;
+    let mut asks = Vec::new(alloc);
+    loop {
+        match take(alloc, Addressing::Numbered, &mut lines, src) {
+            Ok(Taken::Ask(asked)) => asks.push(asked)?,
+            Ok(Taken::End) => return Ok(Script { asks, end: Ok(()) }),
+            Ok(Taken::Cut) => return Ok(Script {
+                asks,
+                end: Err(Halt::Cut),
+            }),
+            Ok(Taken::Over) => return Ok(Script {
+                asks,
+                end: Err(Halt::Over),
+            }),
+            Err(LineStop::Read) => return Ok(Script {
+                asks,
+                end: Err(Halt::Read),
+            }),
+            Err(LineStop::NoMemory) => return Err(AllocError),
+        }
+    }
+}
