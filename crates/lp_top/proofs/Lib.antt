@@ -1,14 +1,12 @@
 -- Lemmas.
-pub mod Together
-pub mod Answering
-pub mod SoFar
-pub mod Moving
-pub mod Turns
 pub mod Heard
 pub mod CheckLines
 pub mod Telling
 pub mod Saying
 pub mod OptionLemmas
-pub mod PlacesGiven
+pub mod Asking
+pub mod Fitting
+pub mod Generating
 pub mod Solving
-pub mod SomeAnswers
+pub mod BasisLines
+pub mod BasisPrints

@@ -6,7 +6,7 @@ use Rattle.spec_text.specs.declared.line.Line.{Line}
 use Rattle.spec_mps.specs.declared.style.Style.{Style}
 use Rattle.spec_mps.specs.Reader.{start}
 use Rattle.spec_server.specs.declared.command_line.TextCommand.{TextCommand}
-use Rattle.spec_server.specs.declared.command_line.TextCommand.TheVariants.{Solve, Check}
+use Rattle.spec_server.specs.declared.command_line.TextCommand.TheVariants.{Solve, Check, Basis}
 use Rattle.spec_server.specs.Machine.{ExactReply}
 use Rattle.spec_server.specs.CheckOut.{said, CheckOut, check_code}
 use Rattle.spec_server.specs.SolveOut.{TextSaid, text_said, SolveOut, solve_code}
@@ -15,11 +15,14 @@ use Rattle.mps_read.specs.TextRead.{TextRead}
 use Rattle.lp_line.specs.Stages.{TextSays}
 use Rattle.lp_top.specs.declared.check.CheckStage.TheVariants as stage
 use Rattle.lp_top.specs.declared.exit_status.ExitStatus.{ExitStatus}
-use Rattle.lp_top.specs.declared.halt.Halt.{Halt}
-use Rattle.lp_top.specs.declared.halt.Halt.TheVariants as halts
+use Rattle.lp_script.specs.declared.halt.Halt.{Halt}
+use Rattle.lp_script.specs.declared.halt.Halt.TheVariants as halts
 use Rattle.lp_top.specs.Hearing.{Agrees, Hears, HearsSo, Prints, Says, SaysInPart, SaysSo}
+use Rattle.spec_server.specs.BasisOut.{BasisSaid, basis_said, BasisOut, basis_code}
+use Rattle.lp_top.specs.declared.basis.BasisStage.TheVariants as basis_stage
+use Rattle.lp_top.specs.Basis.{BasisSays}
 use Rattle.lp_top.specs.Stage.{CheckSays}
-use Rattle.lp_top.specs.Streams.{Streams, streams}
+use Rattle.lp_script.specs.Streams.{Streams, streams}
 use Rattle.lp_top.specs.TextCommands.{ReadsText}
 
 module _ {R : Type 0} (tells : List (Line (List ℕ)) → Option R) (Out : R → List ℕ → Type 0) (code_of : R → ℕ)
@@ -100,3 +103,13 @@ module _ (style : Style) (reader : TextRead) (begun : reader ≡ record { style 
       ReadsText command style s result
   check_reads command asked s result h =
       reads_as command Check style s result asked (h (said style) check_agrees)
+
+  basis_agrees : Agrees (BasisSays (basis_stage.Text reader)) (basis_said style)
+  basis_agrees lines answer h = subst (λ (r : TextRead). BasisSays (basis_stage.Text r) lines answer) begun h
+
+  pub basis_reads : (command : TextCommand) → command ≡ Basis → (s : Streams) (result : Result ExitStatus Halt) →
+      ((said : List (Line (List ℕ)) → Option BasisSaid) → Agrees (BasisSays (basis_stage.Text reader)) said →
+      SaysSo said BasisOut basis_code s result) →
+      ReadsText command style s result
+  basis_reads command asked s result h =
+      reads_as command Basis style s result asked (h (basis_said style) basis_agrees)

@@ -1,23 +1,25 @@
 -- What the top call tells.
-use Rattle.std.proofs.Common.{◌≡◌, ◌⊎◌, ℕ, List, Option, Some, Ok, Err, arith, sym, inl, inr, subst}
+use Rattle.std.proofs.Common.{◌≡◌, ◌⊎◌, ℕ, List, [], Option, Some, Ok, Err, arith, sym, inl, inr, subst}
+use Rattle.std.specs.Io.KnownBytes.{Consumes}
 use Rattle.spec_text.specs.declared.line.Line.{Line}
 use Rattle.spec_server.specs.declared.command_line.CommandLine.{CommandLine}
 use Rattle.spec_server.specs.declared.command_line.TextCommand.{TextCommand}
 use Rattle.spec_server.specs.TextOut.{said_of, MayWrite, code_of}
 use Rattle.spec_mps.specs.declared.style.Style.{Style}
-use Rattle.lp_top.specs.declared.halt.Halt.{Halt}
-use Rattle.lp_top.specs.declared.halt.Halt.TheVariants as halts
+use Rattle.lp_script.specs.declared.halt.Halt.{Halt}
+use Rattle.lp_script.specs.declared.halt.Halt.TheVariants as halts
+use Rattle.lp_top.specs.Generating.{Writes, WritesAll, TellsOfWriting}
 use Rattle.lp_top.specs.Hearing.{SaysSo, TellsOf}
-use Rattle.lp_top.specs.Run.{Moves, EndsSo}
-use Rattle.lp_top.specs.Halt.{code_behind}
-use Rattle.lp_top.specs.Streams.{Streams}
+use Rattle.lp_script.specs.Run.{Moves, EndsSo}
+use Rattle.lp_top.specs.Status.{code_behind}
+use Rattle.lp_script.specs.Streams.{Streams}
 use Rattle.lp_top.specs.TextCommands.{ReadsText, TellsOfText}
 use Rattle.lp_top.specs.Top.{Tells, Does}
 
 -- ---- a script
 
-module _ {places : ℕ} {s : Streams} where
-  told_stop : (moves : Moves places s) (stop : Halt) → EndsSo moves (Err stop) → Tells (code_behind stop) moves
+module _ {workers places : ℕ} {s : Streams} where
+  told_stop : (moves : Moves workers places s) (stop : Halt) → EndsSo moves (Err stop) → Tells (code_behind stop) moves
   told_stop moves halts.Read ends =
       record { done = λ e. absurd (omega arith); fault = λ e. ends; cut = λ e. absurd (omega arith); over = λ e. absurd (omega arith) }
   told_stop moves halts.Write ends =
@@ -29,12 +31,14 @@ module _ {places : ℕ} {s : Streams} where
   told_stop moves halts.Over ends =
       record { done = λ e. absurd (omega arith); fault = λ e. absurd (omega arith); cut = λ e. absurd (omega arith); over = λ e. ends }
 
-  pub run_done : ((moves : Moves places s) × EndsSo moves (Ok tt)) → (moves : Moves places s) × Tells 0 moves
+  pub run_done : ((moves : Moves workers places s) × EndsSo moves (Ok tt)) →
+      (moves : Moves workers places s) × Tells 0 moves
   run_done m =
       (m.0, record { done = λ e. m.1; fault = λ e. absurd (omega arith); cut = λ e. absurd (omega arith); over = λ e. absurd (omega arith) })
 
-  pub run_stopped : (stop : Halt) (code : ℕ) → code ≡ code_behind stop → ((moves : Moves places s) × EndsSo moves (Err stop)) →
-      (moves : Moves places s) × Tells code moves
+  pub run_stopped : (stop : Halt) (code : ℕ) → code ≡ code_behind stop →
+      ((moves : Moves workers places s) × EndsSo moves (Err stop)) →
+      (moves : Moves workers places s) × Tells code moves
   run_stopped stop code e m = (m.0, subst (λ n. Tells n m.0) (sym e) (told_stop m.0 stop m.1))
 
 -- ---- the commands that read a text
@@ -79,6 +83,27 @@ pub text_halted : (command : TextCommand) (style : Style) (s : Streams) (halt : 
     code ≡ code_behind halt → ReadsText command style s (Err halt) → TellsOfText command style s code
 text_halted command style s halt code e h =
     subst (λ n. TellsOfText command style s n) (sym e) (stop_told (said_of command style) (MayWrite command) (code_of command) s halt h)
+
+-- ---- the command that makes a model
+
+module _ {Out : List ℕ → Type 0} {s : Streams} (reads : Consumes s.left_before s.left_after []) where
+  pub generated : WritesAll Out s.taken_before s.taken_after → TellsOfWriting Out s 0
+  generated all =
+      record { reads = reads; done = λ e. all; sink = λ e. absurd (omega arith); memory = λ e. absurd (omega arith) }
+
+  writing_stopped : (halt : Halt) → Writes Out s.taken_before s.taken_after (Err halt) →
+      TellsOfWriting Out s (code_behind halt)
+  writing_stopped halts.Read h = absurd h
+  writing_stopped halts.Write h =
+      record { reads = reads; done = λ e. absurd (omega arith); sink = λ e. h; memory = λ e. absurd (omega arith) }
+  writing_stopped halts.NoMemory h =
+      record { reads = reads; done = λ e. absurd (omega arith); sink = λ e. absurd (omega arith); memory = λ e. h }
+  writing_stopped halts.Cut h = absurd h
+  writing_stopped halts.Over h = absurd h
+
+  pub not_generated : (halt : Halt) (code : ℕ) → code ≡ code_behind halt →
+      Writes Out s.taken_before s.taken_after (Err halt) → TellsOfWriting Out s code
+  not_generated halt code e h = subst (λ n. TellsOfWriting Out s n) (sym e) (writing_stopped halt h)
 
 -- by the command
 pub does_as : (asked is : CommandLine) (s : Streams) (code : ℕ) → asked ≡ is → Does (Some is) s code →

@@ -6,10 +6,10 @@ use Rattle.spec_text.specs.Lines.{lines_of, input_limit}
 use Rattle.spec_text.specs.declared.line.Line.{Line}
 use Rattle.spec_server.specs.Said.{IsSaid, IsUndecided}
 use Rattle.lp_base.specs.Beside.{Takes}
-use Rattle.lp_top.specs.declared.halt.Halt.{Halt}
-use Rattle.lp_top.specs.declared.halt.Halt.TheVariants as halts
+use Rattle.lp_script.specs.declared.halt.Halt.{Halt}
+use Rattle.lp_script.specs.declared.halt.Halt.TheVariants as halts
 use Rattle.lp_top.specs.declared.exit_status.ExitStatus.{ExitStatus}
-use Rattle.lp_top.specs.Streams.{Streams}
+use Rattle.lp_script.specs.Streams.{Streams}
 
 -- what may be said of lines is what this says of them
 abbrev pub Agrees : {R : Type 0} → (List (Line (List ℕ)) → Option R → Type 0) → (List (Line (List ℕ)) → Option R) →

@@ -1,9 +1,10 @@
-pub mod Streams
-pub mod Answer
-pub mod Run
-pub mod Halt
+pub mod Status
+pub mod Generating
 pub mod Top
 pub mod Hearing
 pub mod Stage
+pub mod FileAt
+pub mod Handed
+pub mod Basis
 pub mod TextCommands
 pub mod Words

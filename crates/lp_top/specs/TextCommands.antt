@@ -3,10 +3,10 @@ use Rattle.std.specs.Prelude.{Result, ℕ}
 use Rattle.spec_mps.specs.declared.style.Style.{Style}
 use Rattle.spec_server.specs.declared.command_line.TextCommand.{TextCommand}
 use Rattle.spec_server.specs.TextOut.{said_of, MayWrite, code_of}
-use Rattle.lp_top.specs.declared.halt.Halt.{Halt}
+use Rattle.lp_script.specs.declared.halt.Halt.{Halt}
 use Rattle.lp_top.specs.declared.exit_status.ExitStatus.{ExitStatus}
 use Rattle.lp_top.specs.Hearing.{SaysSo, TellsOf}
-use Rattle.lp_top.specs.Streams.{Streams}
+use Rattle.lp_script.specs.Streams.{Streams}
 
 abbrev pub ReadsText : TextCommand → Style → Streams → Result ExitStatus Halt → Type 0
 ReadsText command style s result = SaysSo (said_of command style) (MayWrite command) (code_of command) s result

@@ -1,0 +1,38 @@
+-- Where the reading of `basis` stands, as the definitions have it, and what is written of an end.
+use Rattle.std.specs.Prelude.{ℕ, ◌≡◌, ◌++◌, Option, List}
+use Rattle.spec_text.specs.declared.line.Line.{Line}
+use Rattle.spec_model.specs.Model.{Model}
+use Rattle.spec_warm.specs.Solve.{SolveEnd}
+use Rattle.spec_server.specs.Machine.{opening_budget, answer_of, lines_of_solved}
+use Rattle.spec_server.specs.Output.{ended_lines}
+use Rattle.spec_server.specs.declared.asks.Reply.TheVariants as reply
+use Rattle.spec_server.specs.CheckOut.{check_line}
+use Rattle.spec_server.specs.BasisOut as reading
+use Rattle.spec_server.specs.Said as said
+use Rattle.lp_line.specs.declared.hearing.Step.{Step}
+use Rattle.lp_line.specs.declared.hearing.Step.TheVariants as step
+use Rattle.lp_top.specs.declared.basis.BasisStage.{BasisStage}
+use Rattle.lp_top.specs.declared.basis.BasisStage.TheVariants as stage
+
+abbrev pub stage_of : BasisStage → reading.Stage
+stage_of (stage.Text reader) = reading.InText reader.style reader.state reader.lines
+stage_of (stage.File at) = reading.InFile at.model at.form at.state at.lines
+
+abbrev pub step_of : Step BasisStage reading.BasisSaid → said.Step reading.Stage reading.BasisSaid
+step_of (step.On next) = said.On (stage_of next)
+step_of (step.Says what) = said.Says what
+
+-- how many lines were read of the text, or of the file
+abbrev pub count_of : BasisStage → ℕ
+count_of (stage.Text reader) = reader.lines
+count_of (stage.File at) = at.lines
+
+-- what lines say after it
+abbrev pub BasisSays : BasisStage → List (Line (List ℕ)) → Option reading.BasisSaid → Type 0
+BasisSays stage lines answer = reading.basis_said_from (stage_of stage) lines ≡ answer
+
+-- ---- what is written of an end, but for its basis
+abbrev pub end_lines : Model → SolveEnd → List ℕ
+end_lines m solved =
+    check_line (reply.Answered (answer_of opening_budget solved.end)) ++ reading.route_line solved
+    ++ ended_lines (lines_of_solved m solved.end)
