@@ -3,14 +3,17 @@ ghost use Rattle.std.specs.Prelude.{◌≡◌, map, length, is_some, option_copi
 ghost use Rattle.std.specs.Prelude.{MatchOption, IfSome, ◌<◌, ◌∷◌};
 ghost use Rattle.std.specs.List.{list_any};
 ghost use Rattle.spec_text.specs.Words.{same};
-ghost use Rattle.spec_server.specs.CommandLine.{run_row, text_row, asked_by};
+ghost use Rattle.spec_server.specs.CommandLine.{run_row, text_row, generate_row, asked_by};
 ghost use Rattle.spec_server.specs.CommandLine as command_lines;
 ghost use Rattle.lp_top.specs.Words.{bytes_of, value_in, are_in, IsGiven};
 
 use lp_base::are_same;
-use lp_line::places_of;
+use lp_line::{column_count_of, places_of, row_count_of, seed_of, workers_of};
 use spec_mps::Style;
 use spec_server::{CommandLine, TextCommand};
+
+// How many workers run a script, unless it is said.
+const USUAL_WORKERS: u32 = 1;
 
 // How many places the sessions of a script share, unless it is said.
 const USUAL_PLACES: u32 = 256;
@@ -97,16 +100,32 @@ fn form_of(word: &[u8]) -> Option<Style>
     None
 }
 
-// A script is run, whose sessions share so many places.
+fn workers_given(word: Option<&[u8]>) -> Option<u32>
+    ensures { result ≡ command_lines.workers_given (option_copied word.entry) }
+{
+    match word {
+        Some(number) => workers_of(number),
+        None => Some(USUAL_WORKERS),
+    }
+}
+
+fn places_given(word: Option<&[u8]>) -> Option<u32>
+    ensures { result ≡ command_lines.places_given (option_copied word.entry) }
+{
+    match word {
+        Some(number) => places_of(number),
+        None => Some(USUAL_PLACES),
+    }
+}
+
+// A script is run by so many workers, and its sessions share so many places.
 fn run_line(words: &[String]) -> Option<CommandLine>
     ensures { result ≡ asked_by (map string_bytes words.now) run_row }
 {
-    let given = given_in(words, 0, &["--places"])?;
-    let places = match value_of(given.options, b"--places") {
-        Some(number) => places_of(number)?,
-        None => USUAL_PLACES,
-    };
-    Some(CommandLine::Run { places })
+    let given = given_in(words, 0, &["--workers", "--places"])?;
+    let workers = workers_given(value_of(given.options, b"--workers"))?;
+    let places = places_given(value_of(given.options, b"--places"))?;
+    Some(CommandLine::Run { workers, places })
 }
 
 // A text is read, in free form unless another is given.
@@ -119,6 +138,24 @@ fn text_line(command: TextCommand, words: &[String]) -> Option<CommandLine>
         None => Style::Free,
     };
     Some(CommandLine::Read(command, style))
+}
+
+// A model is made from a seed, with so many rows and columns.
+fn generate_line(words: &[String]) -> Option<CommandLine>
+    ensures { result ≡ asked_by (map string_bytes words.now) generate_row }
+{
+    let given = given_in(words, 3, &[])?;
+    let [seed, rows, columns] = given.plain else {
+        return None;
+    };
+    let seed = seed_of(seed.as_bytes())?;
+    let rows = row_count_of(rows.as_bytes())?;
+    let columns = column_count_of(columns.as_bytes())?;
+    Some(CommandLine::Generate {
+        seed,
+        rows,
+        columns,
+    })
 }
 
 /// What the words ask, if they are a command line.
@@ -138,6 +175,12 @@ pub(crate) fn command_line_of(words: &[String]) -> Option<CommandLine>
     }
     if are_same(word, b"check") {
         return text_line(TextCommand::Check, behind);
+    }
+    if are_same(word, b"basis") {
+        return text_line(TextCommand::Basis, behind);
+    }
+    if are_same(word, b"gen") {
+        return generate_line(behind);
     }
     None
 }

@@ -1,7 +1,7 @@
 // How a call of the program ended.
 ghost use Rattle.std.specs.Prelude.{◌≡◌};
 
-use crate::halt::Halt;
+use lp_script::Halt;
 
 /// The status that the program exits with.
 #[derive(Clone, Copy, Debug, PartialEq, Eq)]
@@ -34,7 +34,7 @@ impl ExitStatus {
 }
 
 impl From<Halt> for ExitStatus {
-    ghost use Rattle.lp_top.specs.Halt.{code_behind};
+    ghost use Rattle.lp_top.specs.Status.{code_behind};
 
     ghost from_gives = { λ halt status. status.code ≡ code_behind halt };
 

@@ -3,12 +3,12 @@ ghost use Rattle.std.specs.Prelude.{◌≡◌, ℕ, List, Option, OnOk, IfOk, Is
 ghost use Rattle.lp_base.specs.Causes.{Rose};
 ghost use Rattle.spec_text.specs.declared.line.Line.{Line as exact_line};
 ghost use Rattle.lp_top.specs.Hearing.{Agrees, HearsSo, Prints, SaysSo};
-ghost use Rattle.lp_top.specs.Streams.{streams};
+ghost use Rattle.lp_script.specs.Streams.{streams};
 
 use crate::exit_status::ExitStatus;
-use crate::halt::Halt;
 use lp_base::{Bytes, Lines, Sink, Source, send};
 use lp_line::{Heard, Stage, hear};
+use lp_script::Halt;
 use std::alloc::{AllocError, Global};
 
 /// What is said of an input, as it is written.

@@ -1,14 +1,15 @@
 // The commands that read the text of a model.
 ghost use Rattle.std.specs.Prelude.{◌≡◌, IsErrOf};
 ghost use Rattle.lp_base.specs.Causes.{Rose};
-ghost use Rattle.lp_top.specs.Streams.{streams};
+ghost use Rattle.lp_script.specs.Streams.{streams};
 ghost use Rattle.lp_top.specs.TextCommands.{ReadsText};
 
+use crate::basis::BasisStage;
 use crate::check::CheckStage;
 use crate::exit_status::ExitStatus;
-use crate::halt::Halt;
 use crate::hearing::say;
 use lp_base::{Sink, Source};
+use lp_script::Halt;
 use mps_read::Reader;
 use spec_mps::Style;
 use spec_server::TextCommand;
@@ -31,5 +32,6 @@ pub(crate) fn read_text<S: Source, K: Sink>(
     match command {
         TextCommand::Solve => say(alloc, text, src, out),
         TextCommand::Check => say(alloc, CheckStage::Text(text), src, out),
+        TextCommand::Basis => say(alloc, BasisStage::Text(text), src, out),
     }
 }
