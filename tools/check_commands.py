@@ -1,12 +1,12 @@
 #!/usr/bin/env python3
-"""Checks that the manual page and the completion name the commands and options that the program takes.
+"""Checks that the manual page, the usage and the completion name the commands and options that the program takes.
 
     check_commands.py
 
 The program takes those of the table `commands` in crates/spec_server/specs/CommandLine.antt. docs/lpd.1 has to describe
-each command with as many plain words, and each of its options. bash, completing by tools/lpd.bash, has to offer each
-command, then nothing for a plain word, and then the options that are not given yet. It prints what differs; the status is
-1 where something does.
+each command with as many plain words, and each of its options; the usage of crates/lpd/src/usage.rt has to name each
+command and option. bash, completing by tools/lpd.bash, has to offer each command, then nothing for a plain word, and
+then the options that are not given yet. It prints what differs; the status is 1 where something does.
 """
 import re
 import subprocess
@@ -16,6 +16,7 @@ from pathlib import Path
 TOP = Path(__file__).resolve().parent.parent
 TABLE = TOP / "crates" / "spec_server" / "specs" / "CommandLine.antt"
 PAGE = TOP / "docs" / "lpd.1"
+USAGE = TOP / "crates" / "lpd" / "src" / "usage.rt"
 COMPLETION = TOP / "tools" / "lpd.bash"
 ROW = re.compile(r"^(\w+)(?: \w+)* = record \{\s*plain = (\d+);\s*names = ([^;]*);", re.M)
 NAMES = re.compile(r'(?:codes "--[\w-]+" ∷ )*\[\]')
@@ -31,7 +32,7 @@ def taken():
         if not NAMES.fullmatch(" ".join(names.split())):
             raise ValueError(f"the options of {name} are not read: {names}")
         rows[name] = int(plain), set(re.findall(r'"([^"]+)"', names))
-    table = re.search(r"^commands = (.*?)\n\n", text, re.M | re.S)
+    table = re.search(r"^commands =\s+(.*?)\n\n", text, re.M | re.S)
     if not table or COMMAND.sub("", table[1]).split() != ["∷"] * len(COMMAND.findall(table[1])) + ["[]"]:
         raise ValueError("the table of commands is not read")
     commands = dict(COMMAND.findall(table[1]))
@@ -56,6 +57,26 @@ def described():
         if len(cells) == 3 and cells[1].startswith("--"):
             commands.setdefault(cells[0], (0, set()))[1].add(cells[1].split()[0])
     return commands
+
+
+def used():
+    """The options of each command that the usage names."""
+    tables = r"^const (?:COMMANDS|OPTIONS): [^=]*= \[(.*?)^\];"
+    commands, options = re.findall(tables, USAGE.read_text(encoding="utf-8"), re.M | re.S)
+    named = {command: set() for command in re.findall(r'\(\s*"([\w-]+)",', commands)}
+    for heading, option in re.findall(r'\(\s*"Options of ([\w, -]+)",\s*"([\w-]+)",', options):
+        for command in re.split(", | and ", heading):
+            named.setdefault(command, set()).add(f"--{option}")
+    return named
+
+
+def wrong_usage(commands):
+    """Where the usage names something else than what the program takes."""
+    found = used()
+    for command in sorted(commands.keys() | found.keys()):
+        wanted = commands.get(command, (0, None))[1]
+        if found.get(command) != wanted:
+            yield f"crates/lpd/src/usage.rt: of {command} it names {found.get(command)}, and not {wanted}"
 
 
 def completed(*words):
@@ -93,7 +114,7 @@ def main():
     except ValueError as error:
         print(f"{TABLE.relative_to(TOP)}: {error}")
         return 1
-    wrong = [*wrong_descriptions(commands), *wrong_completions(commands)]
+    wrong = [*wrong_descriptions(commands), *wrong_usage(commands), *wrong_completions(commands)]
     for what in wrong:
         print(what)
     return 1 if wrong else 0

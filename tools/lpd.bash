@@ -4,9 +4,11 @@
 
 # The commands: the plain words of each, as placeholders, and then its options.
 declare -A _lpd_commands=(
-    [run]="--places"
+    [run]="--workers --places"
     [solve]="--form"
     [check]="--form"
+    [basis]="--form"
+    [gen]="SEED ROWS COLS"
 )
 
 # The values of those options that take few.

@@ -1,0 +1,72 @@
+// What is written where the words are no command line: clap lays it out, and decides nothing about the words.
+use clap::{Arg, Command};
+use std::alloc::{AllocError, Global};
+
+// The commands, and what each does.
+const COMMANDS: [(&str, &str); 5] = [
+    ("run", "Run a script of up to 64 sessions"),
+    ("solve", "Solve the model of one text"),
+    (
+        "check",
+        "Check a certificate, which follows the text of its model",
+    ),
+    (
+        "basis",
+        "Solve a model from a basis file, which follows its text",
+    ),
+    (
+        "gen",
+        "SEED ROWS COLS: make a model from these numbers, and solve it",
+    ),
+];
+
+// The options, below the commands that have them: their names, their values and what they say.
+const OPTIONS: [(&str, &str, &str, &str); 3] = [
+    ("Options of run", "workers", "K", "Workers, 1 to 16; else 1"),
+    (
+        "Options of run",
+        "places",
+        "P",
+        "Places for bases, 1 to 1,024; else 256",
+    ),
+    (
+        "Options of solve, check and basis",
+        "form",
+        "FORM",
+        "The text's form, free or fixed; else free",
+    ),
+];
+
+const STATUSES: &str = "Statuses:
+  0  none of the others
+  2  the words are no command line
+  3  standard input could not be read
+  4  standard output could not be written
+  5  out of memory
+  6  standard input ended inside a body
+  8  standard input is longer than 67,108,864 bytes
+  9  the text was refused
+
+The manual is docs/lpd.1, which `man -l docs/lpd.1` shows.";
+
+/// The commands and their options, the statuses, and where the manual is.
+pub fn usage(alloc: Global) -> Result<String, AllocError> {
+    let mut program = Command::new(alloc, "lpd")
+        .about("Solve linear programs exactly, and check certificates")
+        .override_usage("lpd COMMAND [WORD]... [--OPTION VALUE]...")
+        .after_help(STATUSES)
+        .disable_help_flag(true)
+        .disable_help_subcommand(true);
+    for (name, what) in COMMANDS {
+        program = program.subcommand(Command::new(alloc, name).about(what))?;
+    }
+    for (commands, name, value, what) in OPTIONS {
+        let option = Arg::new(alloc, name)
+            .long(name)
+            .value_name(value)
+            .help(what)
+            .help_heading(commands);
+        program = program.arg(option)?;
+    }
+    program.render_help()
+}
