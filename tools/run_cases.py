@@ -4,10 +4,13 @@
     run_cases.py TABLE PROGRAM [WORD ..]
 
 A case begins with a line '== NAME: WORDS', where WORDS are those of the command line. The lines of its input follow a line
-'-- in', and those of its output a line '-- out'. A line '-- status N' after them gives the status, if it is not 0. In the
-input a line '%repeat N TEXT' stands for TEXT N times on one line, '%pad N TEXT' for TEXT with blanks up to N bytes, and
-'%cut' as the last line removes the line feed before it. Blank lines at the end of an output do not count, and lines that
-begin with '#' before a case's '-- in' are comments. It prints what differs, and at last 'N passed, N failed'.
+'-- in', and those of its output a line '-- out'. A line '-- status N' after them gives the status, if it is not 0, and a line
+'-- says TEXT' the first line on standard error, of which nothing is asked otherwise. In the input a line '%repeat N TEXT'
+stands for TEXT N times on one line, '%pad N TEXT' for TEXT with blanks up to N bytes, '%return TEXT' for TEXT with a carriage
+return behind it, '%lines N TEXT' for N lines, each with its number from 0 on in place of the '@' of TEXT, and '%cut' as the
+last line removes the line feed before it.
+Blank lines at the end of an output do not count, and lines that begin with '#' before a case's '-- in' are comments. It
+prints what differs, and at last 'N passed, N failed'.
 """
 import subprocess
 import sys
@@ -15,7 +18,7 @@ import sys
 
 class Case:
     def __init__(self, name, words):
-        self.name, self.words, self.status = name, words, 0
+        self.name, self.words, self.status, self.says = name, words, 0, None
         self.parts = {"in": [], "out": []}
 
 
@@ -31,6 +34,8 @@ def cases_of(table):
             part = cases[-1].parts[line[3:]]
         elif line.startswith("-- status "):
             cases[-1].status, part = int(line[10:]), None
+        elif line.startswith("-- says "):
+            cases[-1].says, part = line[8:], None
         elif part is not None:
             part.append(line)
         elif line and not line.startswith("#"):
@@ -42,16 +47,21 @@ def cases_of(table):
 
 
 def expanded(line):
-    """A line of an input as it is given to the program."""
+    """The lines that a line of an input stands for."""
+    if line.startswith("%lines "):
+        _, number, text = line.split(" ", 2)
+        return [text.replace("@", str(n)) for n in range(int(number))]
     if line.startswith(("%repeat ", "%pad ")):
         how, number, text = line.split(" ", 2)
-        return text * int(number) if how == "%repeat" else text.ljust(int(number))
-    return line
+        return [text * int(number) if how == "%repeat" else text.ljust(int(number))]
+    if line.startswith("%return "):
+        return [line[8:] + "\r"]
+    return [line]
 
 
 def bytes_of(lines):
     cut = bool(lines) and lines[-1] == "%cut"
-    text = "".join(expanded(line) + "\n" for line in lines[:-1 if cut else None])
+    text = "".join(whole + "\n" for line in lines[:-1 if cut else None] for whole in expanded(line))
     return (text[:-1] if cut else text).encode("latin-1")
 
 
@@ -75,6 +85,9 @@ def fault_of(case, program):
         return "no end within a minute"
     if run.returncode != case.status:
         return "expected the status %d, got %d" % (case.status, run.returncode)
+    said = run.stderr.decode("latin-1").split("\n")[0]
+    if case.says not in (None, said):
+        return "expected %r on standard error, got %r" % (case.says, said)
     return difference(bytes_of(case.parts["out"]), run.stdout)
 
 

@@ -6,6 +6,8 @@
 #include <stddef.h>
 #include <stdio.h>
 #include <stdlib.h>
+#include <sys/syscall.h>
+#include <unistd.h>
 
 static long refused_at = -1;
 static long requests;
@@ -58,4 +60,11 @@ int posix_memalign(void **block, size_t alignment, size_t size) {
 __attribute__((destructor)) static void tell(void) {
     if (getenv("FAULT_COUNT_TO"))
         dprintf((int)setting("FAULT_COUNT_TO"), "%ld\n", requests);
+}
+
+/* A program with threads may end by this call, which runs no destructor. */
+void _exit(int status) {
+    tell();
+    for (;;)
+        syscall(SYS_exit_group, status);
 }
