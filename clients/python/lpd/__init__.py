@@ -17,6 +17,7 @@ from .errors import (
     BadCommand,
     BadName,
     BadNumber,
+    BasisFault,
     CertificateFault,
     ConnectFailed,
     LimitReached,
@@ -39,6 +40,7 @@ from .errors import (
     Unexpected,
     UnknownName,
 )
+from .from_basis import FromBasis, solve_from
 from .link import Link
 from .model import Model, read_model
 from .program import Program, run
@@ -53,6 +55,7 @@ __all__ = [
     "BadName",
     "BadNumber",
     "Basis",
+    "BasisFault",
     "CertificateFault",
     "Certified",
     "Cold",
@@ -60,6 +63,7 @@ __all__ = [
     "Converted",
     "Fell",
     "Found",
+    "FromBasis",
     "Full",
     "Infeasible",
     "LimitReached",
@@ -105,4 +109,5 @@ __all__ = [
     "convert",
     "read_model",
     "run",
+    "solve_from",
 ]

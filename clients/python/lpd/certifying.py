@@ -1,30 +1,59 @@
-"""A floating point solver's answer, made exact: a certificate by exact steps from its basis, judged by the checkers."""
+"""A floating point solver's answer, made exact: by `lpd basis` from its basis, or by exact steps in Python from there
+where that has no answer. The certificate is judged by the checkers."""
 from __future__ import annotations
 
-from dataclasses import dataclass
+from dataclasses import dataclass, field
 from fractions import Fraction
-from typing import List, Optional
+from typing import List, Optional, Sequence, Tuple
 
+from .basis_file import basis_lines, reordered
 from .certificate import check_lines
-from .errors import CertificateFault, LpdError, TextFault
+from .dialects import PROFILE, written
+from .errors import CertificateFault, LpdError, ProgramEnded, TextFault
 from .exact import Basis, Simplex, certificate_lines
-from .floating import Claim, ask
+from .floating import NONE, Claim, ask
+from .from_basis import BAD_WORDS, FromBasis, solve_from
 from .model import Model, read_model
-from .replies import Accepted, Known, Optimal, Past
+from .replies import Accepted, Answer, Known, Optimal, Past, Spent
 from .session import Session
 
 TOO_WIDE = 10
+PROGRAM, PYTHON = "lpd", "python"
+WAYS = (PROGRAM, PYTHON)
+NO_BASIS = "it gives no basis, so the steps begin where the sums of all rows are basic"
 
 
 class NotCertified(LpdError):
     """A checker does not accept the certificate that was found."""
 
 
+class NotAnswered(LpdError):
+    """`lpd basis` has no answer: why, and, where it ended past 127 bits or its budget, that."""
+
+    def __init__(self, why: str, answer: Optional[Answer] = None) -> None:
+        self.answer = answer
+        super().__init__(f"lpd basis has no answer: {why}")
+
+
+@dataclass(frozen=True)
+class Exact:
+    """What is exactly true, its certificate, and the steps to it from the solver's basis. `way` is what took them:
+    PROGRAM, whose `start` says whether it began there (WARM, FELL and why, or COLD), or PYTHON. The notes say what of
+    the basis was not handed on, and why the program has no answer."""
+
+    known: Known
+    certificate: List[str]
+    steps: int
+    way: str
+    start: str = ""
+    notes: List[str] = field(default_factory=list)
+
+
 @dataclass(frozen=True)
 class Certified:
-    """What is exactly true, by a certificate; what the solver said; the exact steps from its basis. `narrow` says whether the
-    program's checker accepted the certificate; if not, `why` says which number does not fit it, and the checker in Python
-    alone accepted it."""
+    """What is exactly true, by a certificate; what the solver said; the steps from its basis, and what took them (see
+    `Exact`). `narrow` says whether the program's checker accepted the certificate; if not, `why` says which number does
+    not fit it, and the checker in Python alone accepted it."""
 
     known: Known
     certificate: List[str]
@@ -32,6 +61,9 @@ class Certified:
     steps: int
     narrow: bool
     why: str = ""
+    way: str = PYTHON
+    start: str = ""
+    notes: List[str] = field(default_factory=list)
 
     def off(self) -> Optional[Fraction]:
         """How much more the solver's value is than the exact one."""
@@ -59,8 +91,9 @@ def judged(text: str, certificate: List[str]) -> "tuple[Optional[Known], str]":
     return verdict.known, ""
 
 
-def certified(model: Model, claim: Claim) -> "tuple[Known, List[str], int]":
-    """What an accepted certificate shows, its lines, and the exact steps to it. An exact solver's own certificate is tried first."""
+def certified(model: Model, claim: Claim) -> Tuple[Known, List[str], int]:
+    """What an accepted certificate shows, its lines, and the exact steps to it in Python. An exact solver's own
+    certificate is tried first."""
     if claim.parts:
         lines = certificate_lines("OPTIMAL", claim.parts)
         verdict = check_lines(model, lines, wide=True)
@@ -74,12 +107,67 @@ def certified(model: Model, claim: Claim) -> "tuple[Known, List[str], int]":
     return verdict.known, lines, simplex.steps
 
 
-def certify(text: str, solver: str = "glpsol", seconds: Optional[float] = None) -> Certified:
-    """What is exactly true of the model that a text of the profile spells, whose numbers may have any width."""
+def answered(text: str, basis: Sequence[str]) -> FromBasis:
+    """What `lpd basis` answers from a basis file. Where it has no answer NotAnswered says why."""
+    try:
+        found = solve_from(text, basis)
+    except TextFault as fault:
+        if fault.fault != TOO_WIDE:
+            raise
+        raise NotAnswered(f"line {fault.line} of the model has a number past 127 bits") from None
+    except ProgramEnded as ended:
+        if ended.status != BAD_WORDS:
+            raise
+        raise NotAnswered("this program has no command basis") from None
+    if isinstance(found.answer, (Past, Spent)):
+        began = f" ({found.start})" if found.start.startswith("FELL") else ""
+        raise NotAnswered(f"it ends with {found.answer}{began}", found.answer)
+    return found
+
+
+def by_program(text: str, model: Model, basis: Basis, lines: Sequence[str], notes: List[str]) -> Exact:
+    """The answer of `lpd basis`, with a certificate that the checker in Python accepts. Where numbers pass 127 bits on the
+    way to the basis, it is asked once more with rows and columns in another order."""
+    try:
+        found = answered(text, lines)
+    except NotAnswered as failed:
+        if not isinstance(failed.answer, Past):
+            raise
+        found = answered(written(reordered(model, basis), PROFILE).text, lines)
+        notes = [*notes, f"{failed}, and answers with the rows and columns in another order"]
+    verdict = check_lines(model, found.certificate)
+    if not isinstance(verdict, Accepted) or verdict.known != found.answer:
+        said = f"the checker in Python says {verdict} to its certificate"
+        raise NotCertified(f"lpd basis answers {found.answer}, and {said}")
+    return Exact(verdict.known, found.certificate, found.pivots or 0, PROGRAM, found.start, notes)
+
+
+def made_exact(text: str, model: Model, claim: Claim, way: Optional[str] = None) -> Exact:
+    """What is exactly true of the model of a text, from a solver's basis: by `lpd basis`, and where it has no answer by
+    exact steps in Python, or only one of the two ways."""
+    notes: List[str] = []
+    if way != PYTHON:
+        basis = claim.basis or Basis()
+        lines, notes = basis_lines(model, basis)
+        try:
+            return by_program(text, model, basis, lines, notes)
+        except NotAnswered as failed:
+            if way == PROGRAM:
+                raise
+            notes.append(str(failed))
+    known, certificate, steps = certified(model, claim)
+    return Exact(known, certificate, steps, PYTHON, notes=notes)
+
+
+def certify(text: str, solver: str = "glpsol", seconds: Optional[float] = None, way: Optional[str] = None) -> Certified:
+    """What is exactly true of the model that a text of the profile spells, whose numbers may have any width: by `lpd
+    basis` from the solver's basis, or else by exact steps in Python; `way` names the one that alone is taken."""
     model = read_model(text, wide=True)
     claim = ask(solver, model, seconds)
-    known, lines, steps = certified(model, claim)
-    by_program, why = judged(text, lines)
-    if by_program is not None and by_program != known:
-        raise NotCertified(f"lpd check says {by_program}, and the checker in Python {known}")
-    return Certified(known, lines, claim, steps, by_program is not None, why)
+    found = made_exact(text, model, claim, way)
+    by_checker, why = judged(text, found.certificate)
+    if by_checker is not None and by_checker != found.known:
+        raise NotCertified(f"lpd check says {by_checker}, and the checker in Python {found.known}")
+    notes = ([] if claim.basis or solver == NONE else [NO_BASIS]) + found.notes
+    steps, narrow = found.steps, by_checker is not None
+    return Certified(found.known, found.certificate, claim, steps, narrow, why, found.way, found.start, notes)

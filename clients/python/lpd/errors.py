@@ -154,6 +154,18 @@ class CertificateFault(Refused):
         super().__init__(f"ERR 14 CERT {line}", f"line {line} of the certificate does not fit{stood}")
 
 
+class BasisFault(Refused):
+    """A file spells no basis of the model. `line` is its first wrong line, and `fault` the number of what is wrong."""
+
+    code = 17
+
+    def __init__(self, line: int, fault: int, text: Optional[str] = None) -> None:
+        self.line, self.fault, self.text = line, fault, text
+        what, self.hint = BASIS_FAULTS[fault]
+        stood = "" if text is None else f": {text.strip()[:120]!r}"
+        super().__init__(f"ERR 17 BAS {line} B{fault}", f"line {line} of the basis file: {what} (fault {fault}){stood}")
+
+
 class FaultWords(NamedTuple):
     what: str
     hint: str
@@ -181,6 +193,15 @@ FAULTS: Dict[int, FaultWords] = {
     17: FaultWords("this is no name", "A name is 1 to 64 bytes from ! to ~, and no row is named 'MARKER'."),
     18: FaultWords("a range of the objective", "The objective has no range: take the card out."),
     19: FaultWords("the text ends before ENDATA", "ENDATA, from column 1 on, is the last line of a text."),
+}
+BASIS_FAULTS: Dict[int, FaultWords] = {
+    1: FaultWords("unknown section", "A line that begins in column 1 is NAME, which comes first, or ENDATA."),
+    2: FaultWords("no card of a basis", "Cards are XU and XL with a column and a row, and UL and LL with a column."),
+    3: FaultWords("unknown column", "Columns are those of the model."),
+    4: FaultWords("unknown row", "Rows are those of the model, without its objective."),
+    5: FaultWords("this column or row has a card already", "Each has at most one card."),
+    6: FaultWords("this column has no upper bound", "Take the card out: then it is at its lower bound, or at 0."),
+    7: FaultWords("the file ends before ENDATA", "ENDATA, from column 1 on, is the last line of a basis file."),
 }
 STATUSES: Dict[Optional[int], str] = {
     0: "its input ended",
@@ -213,6 +234,8 @@ def refusal_of(words: Sequence[str], line: str, body: Sequence[str]) -> LpdError
 
     if code == "8":
         return TextFault(int(words[3]), int(last[1:]), stood(int(words[3])))
+    if code == "17":
+        return BasisFault(int(words[3]), int(last[1:]), stood(int(words[3])))
     if code == "14":
         return CertificateFault(int(last), stood(int(last)))
     named: Dict[str, Type[UnknownName]] = {"5": UnknownName, "6": NameTaken, "12": NameRepeated}

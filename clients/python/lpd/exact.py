@@ -95,10 +95,14 @@ class Factors:
 
 @dataclass
 class Basis:
-    """A status for each column and row by name. What is not named is at its lower bound if it is a column, and basic if a row."""
+    """A status for each column and row by name. What is not named is at its lower bound if it is a column, and basic if
+    a row. `alone` are the columns that are called basic with no row beside them that is not, and `unread` the cards of
+    its file that say something else."""
 
     columns: Dict[str, str] = field(default_factory=dict)
     rows: Dict[str, str] = field(default_factory=dict)
+    alone: List[str] = field(default_factory=list)
+    unread: List[str] = field(default_factory=list)
 
 
 class Move(NamedTuple):

@@ -10,10 +10,11 @@ from fractions import Fraction
 from pathlib import Path
 from typing import Callable, Dict, List, Optional, Tuple
 
+from .basis_file import read_bas
 from .dialects import DIALECTS, with_names, written
 from .errors import LpdError
 from .exact import BASIC, LOWER, UPPER, Basis
-from .model import Model
+from .model import Model, Row
 from .number_text import NotANumber, parse
 
 Parts = Dict[str, Fraction]
@@ -35,11 +36,13 @@ class Claim:
 
 @dataclass(frozen=True)
 class Solver:
-    """A solver with the words that it is run with behind those that read the model, and how its files are read."""
+    """A solver with the words that it is run with behind those that read the model, and how its files are read. With
+    `has_far_sides` it says of a row that it is at the upper limit where that is the one which is not the right side."""
 
     name: str
     arguments: Tuple[str, ...]
     read: Callable[[str, Path], Claim]
+    has_far_sides: bool = False
 
 
 def content(path: Path) -> str:
@@ -71,24 +74,6 @@ def read_glpsol(said: str, folder: Path) -> Claim:
     return claim
 
 
-def read_bas(text: str) -> Optional[Basis]:
-    """A basis in MPS: XU and XL exchange a column and a row, which is then at its upper or its lower limit."""
-    if not text:
-        return None
-    basis = Basis()
-    for line in text.splitlines():
-        words = line.split()
-        if line[:1] != " " or not words:
-            continue
-        if words[0] in ("XU", "XL"):
-            basis.columns[words[1]], basis.rows[words[2]] = BASIC, UPPER if words[0] == "XU" else LOWER
-        elif words[0] in ("UL", "LL"):
-            basis.columns[words[1]] = UPPER if words[0] == "UL" else LOWER
-        elif words[0] == "BS":
-            basis.columns[words[1]] = BASIC
-    return basis
-
-
 def read_coin(said: str, folder: Path) -> Claim:
     basis = read_bas(content(folder / "basis"))
     value = value_in(r"Optimal objective (\S+)", said)
@@ -97,6 +82,16 @@ def read_coin(said: str, folder: Path) -> Claim:
     is_infeasible = re.search("(?i)primal ?infeasible|problem is infeasible", said)
     is_open = re.search("(?i)dual ?infeasible|unbounded", said)
     return Claim("INFEASIBLE" if is_infeasible else "UNBOUNDED" if is_open else "no answer", None, basis)
+
+
+def read_lp_solve(said: str, folder: Path) -> Claim:
+    basis = read_bas(content(folder / "basis"))
+    value = value_in(r"Value of objective function: (\S+)", said)
+    if value is not None:
+        return Claim("OPTIMAL", value, basis)
+    ends = {"infeasible": "INFEASIBLE", "unbounded": "UNBOUNDED"}
+    found = re.search("problem is (infeasible|unbounded)", said)
+    return Claim(ends[found[1]] if found else "no answer", None, basis)
 
 
 def read_esolver(said: str, folder: Path) -> Claim:
@@ -151,6 +146,7 @@ SOLVERS = {
         Solver("glpsol", ("--nopresol", "-w", "solution"), read_glpsol),
         Solver("clp", ("-presolve", "off", "-primalsimplex", "-basisOut", "basis"), read_coin),
         Solver("cbc", ("-presolve", "off", "-initialSolve", "-basisOut", "basis"), read_coin),
+        Solver("lp_solve", ("-S3", "-wbas", "basis"), read_lp_solve, has_far_sides=True),
         Solver("esolver", ("-O", "solution", "-b", "basis"), read_esolver),
         # As HiGHS is documented; it was never run.
         Solver("highs", ("--presolve", "off", "--solver", "simplex", "--solution_file", "solution"), read_highs),
@@ -166,12 +162,23 @@ def command_of(solver: Solver, command: List[str]) -> List[str]:
     return [command[0], *solver.arguments, *command[1:]] if solver.name == "esolver" else [*command, *solver.arguments]
 
 
+def side_of(row: Row, status: str) -> str:
+    """At which limit a row is of which a solver with far sides says this."""
+    if status == BASIC:
+        return BASIC
+    lower, upper = row.limits()
+    is_upper = (row.rhs == upper) == (status == LOWER) if lower != upper else status == UPPER
+    return UPPER if is_upper else LOWER
+
+
 def renamed_back(claim: Claim, rows: Dict[str, str], columns: Dict[str, str], sense: int) -> Claim:
     """The claim with the names of the model. Prices are those of the objective as it is: a certificate has e times them."""
     basis = None
     if claim.basis:
-        of_columns = {columns[name]: status for name, status in claim.basis.columns.items() if name in columns}
-        basis = Basis(of_columns, {rows[name]: status for name, status in claim.basis.rows.items() if name in rows})
+        of_columns = {columns.get(name, name): status for name, status in claim.basis.columns.items()}
+        of_rows = {rows.get(name, name): status for name, status in claim.basis.rows.items()}
+        alone = [columns.get(name, name) for name in claim.basis.alone]
+        basis = Basis(of_columns, of_rows, alone, claim.basis.unread)
     parts: List[Tuple[str, Parts]] = []
     for letter, values in claim.parts:
         names, factor = (columns, 1) if letter == "x" else (rows, sense)
@@ -201,4 +208,7 @@ def ask(name: str, model: Model, seconds: Optional[float] = None) -> Claim:
         claim = solver.read((done.stdout + done.stderr).decode("latin-1"), folder)
     if claim.value is not None and DIALECTS[name].offset_sign == 0:
         claim.value += model.offset
+    if claim.basis and solver.has_far_sides:
+        known = [name for name in claim.basis.rows if name in plain.rows]
+        claim.basis.rows.update({name: side_of(plain.rows[name], claim.basis.rows[name]) for name in known})
     return renamed_back(claim, {new: old for old, new in rows.items()}, {new: old for old, new in columns.items()}, model.sense)

@@ -16,7 +16,7 @@ from typing import Any, Dict, Iterable, List, Optional
 import pulp  # type: ignore[import]
 
 from .certificate import matched, read_certificate
-from .certifying import TOO_WIDE, certified
+from .certifying import TOO_WIDE, made_exact
 from .dialects import PROFILE, written
 from .errors import LpdError, ProgramMissing, TextFault
 from .floating import CHOICES, ask
@@ -151,8 +151,8 @@ class LPD(pulp.LpSolver):  # type: ignore[misc]
             if not self.certify or fault.fault != TOO_WIDE:
                 raise
         if self.certify and (exact is None or not exact.certificate):
-            known, certificate, _ = certified(model, ask(self.certify, model))
-            return Exact(known, certificate, text, certified_with=self.certify)
+            found = made_exact(text, model, ask(self.certify, model))
+            return Exact(found.known, found.certificate, text, certified_with=self.certify)
         if exact is None:
             raise LpdError("there is no answer")
         return exact

@@ -15,12 +15,13 @@ from typing import Dict
 from unittest import mock
 
 import lpd
+from lpd.basis_file import read_bas
 from lpd.certificate import check_lines
 from lpd.certifying import certified, certify
 from lpd.conversion import Options, convert
 from lpd.dialects import PROFILE, written
 from lpd.exact import BASIC, LOWER, UPPER, Basis, Factors, Simplex, Vector
-from lpd.floating import SOLVERS, Claim, SolverMissing, ask, read_bas, read_highs, read_highs_basis
+from lpd.floating import SOLVERS, Claim, SolverMissing, ask, read_highs, read_highs_basis
 
 from .commands import command
 from .models import has_program, some_model
@@ -183,6 +184,9 @@ class BySolvers(unittest.TestCase):
 
     def test_cbc(self) -> None:
         self.by("cbc")
+
+    def test_lp_solve(self) -> None:
+        self.by("lp_solve")
 
     def test_esolver(self) -> None:
         self.by("esolver")

@@ -9,7 +9,7 @@ from dataclasses import dataclass
 from pathlib import Path
 from typing import Dict, List, Optional
 
-from ..certifying import Certified, certify
+from ..certifying import WAYS, Certified, NotAnswered, certify
 from ..conversion import Converted, Options, Question, convert
 from ..errors import LpdError, Refused
 from ..floating import CHOICES
@@ -65,6 +65,7 @@ def add(commands: "argparse._SubParsersAction[argparse.ArgumentParser]") -> None
     add_options(batch)
     batch.add_argument("--budget", type=int, metavar="N", help="makes at most N pivots and flips a model, up to 1000000 (10000)")
     batch.add_argument("--with", dest="solver", choices=CHOICES, help="certifies each model too, as the command certify does")
+    batch.add_argument("--by", dest="way", choices=WAYS, help="what makes its basis exact, as in the command certify")
     batch.add_argument("--seconds", type=float, metavar="N", help="how long the other solver may take for a model")
     output = batch.add_mutually_exclusive_group()
     output.add_argument("--json", action="store_true")
@@ -100,7 +101,10 @@ def result_of(path: Path, words: argparse.Namespace) -> Result:
         result.seconds = time.monotonic() - started
         if words.solver:
             started = time.monotonic()
-            result.certified = certify(wide.text, words.solver, words.seconds)
+            try:
+                result.certified = certify(wide.text, words.solver, words.seconds, words.way)
+            except NotAnswered as failed:
+                result.note = str(failed)
             result.certify_seconds = time.monotonic() - started
     except Question as question:
         result.answer, result.note = "ASKED", asked(question)

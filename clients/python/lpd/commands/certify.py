@@ -7,12 +7,12 @@ import time
 from fractions import Fraction
 from typing import Dict, Optional
 
-from ..certifying import Certified, certify
+from ..certifying import PYTHON, WAYS, Certified, NotAnswered, certify
 from ..conversion import Options
 from ..floating import CHOICES, NONE
 from ..number_text import rounded, shown
 from ..replies import Optimal
-from .common import add_options, converted, lines_text, options_of, read, status_of, with_decimals
+from .common import add_options, converted, lines_text, options_of, read, status_of, tell, with_decimals
 from .convert import put
 
 PYTHON_ALONE = 14
@@ -24,6 +24,8 @@ def add(commands: "argparse._SubParsersAction[argparse.ArgumentParser]") -> None
     certifies.add_argument("model", help="a file of MPS text, or - for standard input")
     certifies.add_argument("--with", dest="solver", choices=CHOICES, default="glpsol", help="the solver that is asked for a basis (glpsol), or none")
     certifies.add_argument("--seconds", type=float, metavar="N", help="how long the solver may take; then the exact steps begin at no basis of its own")
+    ways = "what makes its basis exact: lpd basis, or steps in Python (lpd, and python where that has no answer)"
+    certifies.add_argument("--by", dest="way", choices=WAYS, help=ways)
     certifies.add_argument("--form", choices=["free", "fixed"], help="the form of the text (the one that fits)")
     add_options(certifies)
     certifies.add_argument("--decimals", type=int, metavar="D", default=10, help="shows D decimals, rounded, beside fractions (10)")
@@ -55,9 +57,18 @@ def off_of(found: Certified) -> Optional[str]:
     return None if off is None else small(off)
 
 
+def steps_of(found: Certified) -> str:
+    """The steps from the solver's basis, and what took them."""
+    if found.way == PYTHON:
+        return f"{found.steps} exact steps in Python"
+    began = f", which gave the basis up ({found.start[5:]}) and began anew" if found.start.startswith("FELL") else ""
+    return f"{found.steps} pivots by lpd basis{began}"
+
+
 def as_json(found: Certified, solver: str, seconds: float) -> str:
     told: Dict[str, object] = {"answer": str(found.known), "solver": solver, "said": claim_of(found), "off": off_of(found)}
-    told.update({"steps": found.steps, "accepted_by_lpd_check": found.narrow, "why": found.why, "seconds": round(seconds, 3)})
+    told.update({"steps": found.steps, "by": found.way, "start": found.start, "notes": found.notes})
+    told.update({"accepted_by_lpd_check": found.narrow, "why": found.why, "seconds": round(seconds, 3)})
     return json.dumps({**told, "certificate": found.certificate}, indent=2)
 
 
@@ -65,8 +76,16 @@ def run(words: argparse.Namespace) -> int:
     started = time.monotonic()
     options = options_of(words)
     text = converted(words, read(words.model), Options(options.relax, options.no_set, options.no_bound, wide=True)).text
-    found = certify(text, words.solver, words.seconds)
+    try:
+        found = certify(text, words.solver, words.seconds, words.way)
+    except NotAnswered as failed:
+        if failed.answer is None:
+            raise
+        tell(f"lpd: {failed}")
+        return status_of(failed.answer)
     seconds = time.monotonic() - started
+    for note in found.notes:
+        tell(f"{words.solver}: {note}")
     if words.output:
         put(lines_text(found.certificate), words.output)
     if words.json:
@@ -78,6 +97,6 @@ def run(words: argparse.Namespace) -> int:
         print(f"exactly       {exact}")
         if found.off() is not None:
             print(f"off by        {off_of(found)}, as {words.solver} prints its value")
-        print(f"exact steps   {found.steps}")
+        print(f"from there    {steps_of(found)}")
         print(f"certificate   {judge_of(found)}")
     return status_of(found.known) if found.narrow else PYTHON_ALONE
