@@ -3,11 +3,11 @@
 
     certify.py FOLDER [--program PROGRAM] [--with SOLVER,..] [--optima FILE] [--seconds N] [--write PAGE]
 
-Each NAME.mps is converted into the profile, solved by lpd with the largest budget, and certified as the command `certify`
-of clients/python does, with each solver (glpsol and clp). FILE has a line 'NAME outcome optimum ..' for each model, its
-words parted by tabs, with which every answer is compared. Times are of the wall: of solve with both checks, and of each
-certificate with the other solver and with both checks in them. With --write the table takes the place of what stands
-between the two marks of PAGE.
+Each NAME.mps is converted into the profile, solved by lpd with the largest budget, and certified as the command `certify
+--by python` of clients/python does, with each solver (glpsol and clp). FILE has a line 'NAME outcome optimum ..' for
+each model, its words parted by tabs, with which every answer is compared. Times are of the wall: of solve with both
+checks, and of each certificate with the other solver and with both checks in them. With --write the table takes the
+place of what stands between the two marks of PAGE.
 """
 import argparse
 import os
@@ -21,7 +21,8 @@ from page import write
 TOP = pathlib.Path(__file__).resolve().parent.parent
 sys.path.insert(0, str(TOP / "clients" / "python"))
 
-from lpd.commands import batch  # noqa: E402  (the package of this repository)
+from lpd.certifying import PYTHON  # noqa: E402  (the package of this repository)
+from lpd.commands import batch  # noqa: E402
 from lpd.commands.certify import off_of  # noqa: E402
 from lpd.replies import Optimal  # noqa: E402
 
@@ -71,7 +72,8 @@ def measure(options, faults):
     """The lines of the table, with the counts before it."""
     optima, by_solver = optima_of(options.optima), {}
     for solver in options.solvers:
-        words = argparse.Namespace(form=None, relax=False, no_set=None, no_bound=None, budget=LARGEST, solver=solver, seconds=options.seconds)
+        words = argparse.Namespace(form=None, relax=False, no_set=None, no_bound=None, budget=LARGEST, solver=solver)
+        words.seconds, words.way = options.seconds, PYTHON
         by_solver[solver] = batch.results(pathlib.Path(options.folder), words)
     first = by_solver[options.solvers[0]]
     answered = sum(result.answer in ANSWERS for result in first)
