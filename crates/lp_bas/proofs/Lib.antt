@@ -1,3 +1,4 @@
 pub mod Chosen
+pub mod Marked
 pub mod Readings
 pub mod Added

@@ -1,5 +1,6 @@
 // What was read so far of a file: the statuses that cards gave.
 ghost use Rattle.std.specs.Prelude.{◌≡◌, ◌+◌, ◌<◌, IfOk, length};
+ghost use Rattle.spec_simplex.specs.Eliminate.{IsBasisOf};
 ghost use Rattle.spec_bas.specs.Steps as file;
 ghost use Rattle.spec_bas.specs.Fits.{HasSizeOf};
 ghost use Rattle.lp_bas.specs.Limits.{status_at};
@@ -193,14 +194,15 @@ impl Marks {
     // The statuses of all columns.
     #[tactic(auto, unfolding(spec_bas::specs::Steps::marked_basis))]
     fn basis(&self, alloc: Global, form: &Form) -> Result<Basis, AllocError>
-        requires { length self.now.marks ≡ form.now.cols + form.now.rows }
+        requires all { length self.now.marks ≡ form.now.cols + form.now.rows }
+        requires fits { IsBasisOf form.now (file.marked_basis form.now self.now) }
         ensures { IfOk result (λ basis. basis ≡ file.marked_basis form.now self.now) }
     {
         let mut items = Vec::new(alloc);
         for k in 0..form.cols() + form.rows() {
             items.push(self.status(form, k))?;
         }
-        Ok(Basis::from_vec(items))
+        Ok(Basis::from_vec(items, form.rows()))
     }
 
     /// Takes the next line. There is a basis where the file ends with it.
@@ -214,6 +216,7 @@ impl Marks {
     ) -> Result<Option<Basis>, StepFault>
         requires sizes { HasSizeOf model.now form.now }
         requires all { length self.old.marks ≡ form.now.cols + form.now.rows }
+        requires fits { IsBasisOf form.now (file.marked_basis form.now self.old) }
         ensures { Advances (file.step model.now form.now self.old line.now) self.old self.new result }
     {
         match reading_of(alloc, line)? {

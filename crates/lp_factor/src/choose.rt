@@ -14,7 +14,7 @@ use crate::eta::Eta;
 use crate::factors::Factors;
 use crate::solve::forward_all;
 use crate::stop::FactorStop;
-use lp_form::{Basis, Form, Status};
+use lp_form::{Form, Status, StatusList};
 use lp_frac::{Fracs, Past, is_zero, neg, one};
 use std::alloc::{AllocError, Global};
 use std::marker::Model;
@@ -191,8 +191,8 @@ fn basic_of(alloc: Global, columns: &[Option<u32>]) -> Result<Vec<u32>, AllocErr
     Ok(basic)
 }
 
-/// Factors of the basic columns of a basis of the form's structural and logical columns.
-pub fn factor(alloc: Global, form: &Form, basis: &Basis) -> Result<Factors, FactorStop>
+/// Factors of the basic columns by the statuses of the form's structural and logical columns.
+pub fn factor(alloc: Global, form: &Form, basis: &StatusList) -> Result<Factors, FactorStop>
     requires { length basis.now ≡ form.now.cols + form.now.rows }
     ensures run { MakesFactors (factor_run (Some largest) form.now basis.now) result }
     ensures all { IfOk result (λ s. length s.basic ≡ form.now.rows) }

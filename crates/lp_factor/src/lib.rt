@@ -22,8 +22,6 @@ mod factors;
 mod solve;
 mod steps;
 mod stop;
-#[cfg(test)]
-mod tests;
 
 pub use choose::{column_of, factor};
 pub use factors::Factors;

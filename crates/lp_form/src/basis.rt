@@ -1,47 +1,66 @@
 // Bases.
-ghost use Rattle.std.specs.Prelude.{◌≡◌, ◌==◌, ◌<◌, length, slice_get, Some};
+ghost use Rattle.std.specs.Prelude.{◌≡◌, ◌==◌, ◌<◌, ◌≤◌, List, length, slice_get, Some};
+ghost use Rattle.spec_pivot.specs.declared.status.Status.{Status as status};
+ghost use Rattle.spec_simplex.specs.Form.{Form as form};
+ghost use Rattle.spec_simplex.specs.Eliminate.{IsBasisOf};
+ghost use Rattle.lp_form.specs.Count.{basics};
 
 use spec_pivot::Status;
 use std::marker::Model;
 
-/// How each structural and then each logical column of a form stands.
+/// How each structural and then each logical column of a form stands, of which as many are basic as the form has rows.
 #[derive(Drop)]
 pub struct Basis {
-    items: Vec<Status>,
+    statuses: Vec<Status>,
+    rows: u32,
 }
 
 impl Model for Basis {
     ghost use Rattle.std.specs.Prelude.{List};
+    ghost use Rattle.std.specs.Prelude.{◌≡◌};
     ghost use Rattle.spec_pivot.specs.declared.status.Status.{Status};
+    ghost use Rattle.lp_form.specs.Count.{basics};
 
     ghost Value = { List Status };
 
-    ghost view = { λ b. b.items.items };
+    ghost view = { λ b. b.statuses.items };
+
+    ghost invariant = { λ b. basics b.statuses.items ≡ b.rows };
 }
 
 impl Basis {
-    pub fn from_vec(items: Vec<Status>) -> Self
-        ensures { result ≡ items.items }
+    /// The basis with these statuses, of which `rows` are basic.
+    pub fn from_vec(statuses: Vec<Status>, rows: u32) -> Self
+        requires { basics statuses.items ≡ rows }
+        ensures { result ≡ statuses.items }
     {
-        Basis { items }
+        Basis { statuses, rows }
+    }
+
+    /// How many columns are basic: the number of rows of each form that it is a basis of.
+    pub fn rows(&self) -> u32
+        ensures count { result ≡ basics self.now }
+        ensures bound { result ≤ length self.now }
+    {
+        self.rows
     }
 
     pub fn as_slice(&self) -> &[Status]
         ensures { result.now ≡ self.now }
     {
-        &self.items
+        &self.statuses
     }
 
     pub fn len(&self) -> usize
         ensures { result ≡ length self.now }
     {
-        self.items.len()
+        self.statuses.len()
     }
 
     pub fn is_empty(&self) -> bool
         ensures { result ≡ (length self.now == 0) }
     {
-        self.items.is_empty()
+        self.statuses.is_empty()
     }
 
     /// The status of column `k`, counted from 0.
@@ -49,6 +68,11 @@ impl Basis {
         requires { k < length self.now }
         ensures { slice_get self.now k ≡ Some result }
     {
-        self.items[k]
+        self.statuses[k]
     }
 }
+
+/// A basis of a form has as many basic columns as the form has rows, whatever the form.
+pub fn bases_have_their_rows()
+    ensures { (f : form) (basis : List status) → IsBasisOf f basis → basics basis ≡ f.rows }
+{}

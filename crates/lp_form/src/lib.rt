@@ -3,8 +3,8 @@
 //! | Item | What it is | Where |
 //! |---|---|---|
 //! | `Form` | columns with bounds and costs to be made least, the rows' sums among them | src/form |
-//! | `BoundList`, `Columns` | lists of optional fractions and of columns' entries, plain lists to contracts | src/lists |
-//! | `Basis`, `Status` | how each structural and logical column stands | src/basis, `spec_pivot` |
+//! | `BoundList`, `Columns`, `StatusList` | lists that are plain ones to contracts | src/lists |
+//! | `Basis`, `Status` | how each structural and logical column stands, as many basic as rows | src/basis, `spec_pivot` |
 //!
 //! Contracts see a form as the record of spec_simplex's specs/Form.
 #![tactic(auto)]
@@ -13,7 +13,7 @@ mod basis;
 mod form;
 mod lists;
 
-pub use basis::Basis;
+pub use basis::{Basis, bases_have_their_rows};
 pub use form::Form;
-pub use lists::{BoundList, Columns};
+pub use lists::{BoundList, Columns, StatusList};
 pub use spec_pivot::Status;

@@ -1,7 +1,9 @@
-// Lists that contracts see as plain lists: of optional fractions, and of the entries of columns.
-ghost use Rattle.std.specs.Prelude.{◌≡◌, ◌==◌, ◌<◌, [], ◌∷◌, ◌++◌, length, get_or, None, OnOk, OnErr};
+// Lists that contracts see as plain lists: of optional fractions, of the entries of columns, and of statuses.
+ghost use Rattle.std.specs.Prelude.{◌≡◌, ◌==◌, ◌<◌, [], ◌∷◌, ◌++◌, length, get_or, slice_get, Some, None};
+ghost use Rattle.std.specs.Prelude.{OnOk, OnErr};
 
 use lp_frac::{Entries, Frac};
+use spec_pivot::Status;
 use std::alloc::{AllocError, Global};
 use std::marker::Model;
 
@@ -132,5 +134,54 @@ impl Columns {
     {
         self.items.push(entries)?;
         Ok(())
+    }
+}
+
+/// The statuses of columns, of which any may be basic.
+#[derive(Drop)]
+pub struct StatusList {
+    items: Vec<Status>,
+}
+
+impl Model for StatusList {
+    ghost use Rattle.std.specs.Prelude.{List};
+    ghost use Rattle.spec_pivot.specs.declared.status.Status.{Status};
+
+    ghost Value = { List Status };
+
+    ghost view = { λ s. s.items.items };
+}
+
+impl StatusList {
+    pub fn from_vec(items: Vec<Status>) -> Self
+        ensures { result ≡ items.items }
+    {
+        StatusList { items }
+    }
+
+    pub fn into_vec(self) -> Vec<Status>
+        ensures { result.items ≡ self }
+    {
+        self.items
+    }
+
+    pub fn len(&self) -> usize
+        ensures { result ≡ length self.now }
+    {
+        self.items.len()
+    }
+
+    pub fn is_empty(&self) -> bool
+        ensures { result ≡ (length self.now == 0) }
+    {
+        self.items.is_empty()
+    }
+
+    /// The status of column `k`, counted from 0.
+    pub fn at(&self, k: usize) -> Status
+        requires { k < length self.now }
+        ensures { slice_get self.now k ≡ Some result }
+    {
+        self.items[k]
     }
 }

@@ -18,7 +18,7 @@ use crate::state::{Revised, RowStart};
 use crate::steps::StepsEnd;
 use crate::stop::RevisedStop;
 use lp_factor::Factors;
-use lp_form::{Basis, Form};
+use lp_form::{Form, StatusList};
 use lp_frac::Fracs;
 use lp_tableau::{ColdStop, PrimalEnd, start};
 use std::alloc::{AllocError, Global};
@@ -27,8 +27,8 @@ use std::alloc::{AllocError, Global};
 #[derive(Drop)]
 pub struct RunEnd {
     pub certificate: Certificate,
-    /// The basis of an optimal end.
-    pub basis: Option<Basis>,
+    /// The statuses of the basis of an optimal end.
+    pub basis: Option<StatusList>,
     /// How many pivots and flips were made.
     pub pivots: u64,
 }

@@ -13,7 +13,7 @@ use crate::select::Column;
 use crate::state::{Revised, RowStart};
 use crate::steps::StepsEnd;
 use lp_factor::narrow;
-use lp_form::Basis;
+use lp_form::StatusList;
 use lp_frac::{Frac, Fracs, neg, one, zero};
 use lp_primal::directed;
 use lp_tableau::PrimalEnd;
@@ -148,12 +148,12 @@ impl Revised {
         }
     }
 
-    // The basis of an end, which an optimal one has.
+    // The statuses of the basis of an end, which an optimal one has.
     pub(crate) fn basis_at(
         &self,
         alloc: Global,
         end: PrimalEnd,
-    ) -> Result<Option<Basis>, AllocError>
+    ) -> Result<Option<StatusList>, AllocError>
         ensures { IfOk result (λ b. b ≡ solves.basis_at self.now.bare end) }
     {
         match end {

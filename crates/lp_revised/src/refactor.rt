@@ -12,11 +12,11 @@ use crate::pricing::is_basic;
 use crate::state::Revised;
 use crate::stop::RevisedStop;
 use lp_factor::{FactorStop, Factors, factor};
-use lp_form::{Basis, Form, Status};
+use lp_form::{Form, Status, StatusList};
 use std::alloc::{AllocError, Global};
 
 // Factors of a basis. Basic columns that are dependent, which a run never has, count as a spent run.
-fn factors_of(alloc: Global, form: &Form, basis: &Basis) -> Result<Factors, RevisedStop>
+fn factors_of(alloc: Global, form: &Form, basis: &StatusList) -> Result<Factors, RevisedStop>
     requires { length basis.now ≡ form.now.cols + form.now.rows }
     ensures run { AnswersRevised (factor_stop (factor_run (Some largest) form.now basis.now)) result }
     ensures all { IfOk result (λ s. length s.basic ≡ form.now.rows) }
@@ -66,14 +66,14 @@ impl Revised {
     }
 
     // The statuses of the factors' columns.
-    pub(crate) fn factor_basis(&self, alloc: Global) -> Result<Basis, AllocError>
+    pub(crate) fn factor_basis(&self, alloc: Global) -> Result<StatusList, AllocError>
         ensures { IfOk result (λ b. b ≡ factor_basis self.now.bare) }
     {
         let mut list = Vec::new(alloc);
         for k in 0..self.form_columns() {
             list.push(self.basis_status(k))?;
         }
-        Ok(Basis::from_vec(list))
+        Ok(StatusList::from_vec(list))
     }
 
     // The columns of the positions, which are the places of these factors.

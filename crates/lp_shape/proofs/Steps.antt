@@ -3,13 +3,16 @@ use Rattle.std.proofs.Common.{◌≡◌, ℕ, suc, ◌+◌, ◌-◌, ◌*◌, �
 use Rattle.std.proofs.Common.{take, set, get_or, Bool, true, false, cond, refl, sym, ap, ◌∙◌, arith}
 use Rattle.std.proofs.lemmas.List.{append_assoc, take_more_set, take_more, take_all}
 use Rattle.std.proofs.Math.Nat.{pow-le-pow_right}
+use Rattle.spec_pivot.specs.declared.status.Status.{Status}
 use Rattle.spec_simplex.specs.Run.{made}
 use Rattle.spec_simplex.proofs.Stops.{made_more}
 use Rattle.spec_simplex.specs.Tableau.{is_basic}
 use Rattle.spec_simplex.specs.Eliminate.{basics_below}
-use Rattle.spec_shape.specs.Words.{word_from, columns_of, status_at, unpacked}
+use Rattle.spec_shape.specs.Words.{word_from, columns_of, rows_of, status_at, unpacked}
 use Rattle.spec_shape.proofs.Bases.{unpacked_at}
 use Rattle.spec_shape.proofs.Digits.{word_fits}
+use Rattle.lp_form.specs.Count.{basics}
+use Rattle.lp_form.proofs.Counted.{basics_made}
 
 -- one more column at the start
 pub column_more : (code : ℕ → ℕ) (c k word : ℕ) → 0 < k → k ≤ 32 → word ≡ word_from code (c + k) (32 - k) →
@@ -79,3 +82,12 @@ count_step words c count h e {b} t = (
   where
     added : (n : ℕ) → cond (is_basic (status_at words c)) 1 0 ≡ n → count + n ≡ basics_below (unpacked words) (c + 1)
     added n z = omega (arith, e, z, count_more words c h)
+
+-- of the statuses of all columns as many are basic as there are rows
+pub basics_unpacked : (words : List ℕ) (c : ℕ) (statuses : List Status) → statuses ≡ made c (status_at words) →
+    c ≡ columns_of words → basics_below (unpacked words) (columns_of words) ≡ rows_of words →
+    basics statuses ≡ rows_of words
+unfolding unpacked
+basics_unpacked words c statuses is all count =
+    ap basics (is ∙ ap (λ c. made c (status_at words)) all)
+    ∙ basics_made (columns_of words) (status_at words) (rows_of words) count

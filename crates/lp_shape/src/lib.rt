@@ -13,8 +13,6 @@
 mod codes;
 mod formed;
 mod packing;
-#[cfg(test)]
-mod tests;
 mod unpacking;
 
 pub use formed::well_formed;

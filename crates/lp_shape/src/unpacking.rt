@@ -17,5 +17,5 @@ pub fn unpack(alloc: Global, words: &[u64; 49]) -> Result<Basis, AllocError>
     for c in 0..columns {
         statuses.push(status_at(words, c))?;
     }
-    Ok(Basis::from_vec(statuses))
+    Ok(Basis::from_vec(statuses, rows_of(words) as u32))
 }

@@ -10,7 +10,8 @@ use Rattle.spec_simplex.specs.Form.{Form}
 use Rattle.spec_simplex.specs.Run.{◌>>=◌, refused_as, list_run}
 use Rattle.spec_simplex.specs.Tableau.{Tableau}
 use Rattle.spec_simplex.specs.Start.{row_start, begun, first_costs, priced_run, with_reduced, start_of}
-use Rattle.spec_simplex.specs.Phases.{PrimalEnded, PhasesEnd, Infeasible, Finished, wants_phase_one, is_stuck, phase_one, phase_two, phase_two_run, run_from, phases_run}
+use Rattle.spec_simplex.specs.Phases.{PrimalEnded, PhasesEnd, Infeasible, Finished, wants_phase_one, is_stuck}
+use Rattle.spec_simplex.specs.Phases.{phase_one, phase_two, phase_two_run, run_from, phases_run}
 use Rattle.spec_cold.proofs.Runs.{then_ok}
 use Rattle.lp_solve.proofs.Runs.{IsAsLarge, IsEnd, run_ends}
 
@@ -18,7 +19,8 @@ module _ (limit : Option ℕ) (budget : ℕ) (f : Form) where
   pub start_refused : (p : Past ℚ) → start_of limit f ≡ Err p → phases_run limit budget f ≡ Err (stop.Past p)
   unfolding phases_run
   start_refused p h =
-      ap (λ o. refused_as stop.Past o >>= λ t. phase_one limit budget t >>= λ one. cond (is_stuck one.tableau) (Ok (Infeasible one.tableau one.used)) (phase_two limit budget f one)) h
+      ap (λ o. refused_as stop.Past o >>= λ t. phase_one limit budget t >>= λ one. cond (is_stuck one.tableau)
+      (Ok (Infeasible one.tableau one.used)) (phase_two limit budget f one)) h
 
   module _ (t : Tableau) (start : start_of limit f ≡ Ok t) where
     abbrev after_one : PrimalEnded → Result PhasesEnd (RunStop ℚ)
@@ -51,7 +53,8 @@ module _ (limit : Option ℕ) (budget : ℕ) (f : Form) where
     pub first_stops : (s : RunStop ℚ) → phase_one limit budget t ≡ Err s → phases_run limit budget f ≡ Err s
     first_stops s h = from_start ∙ ap (λ o. o >>= after_one) h
 
-    module _ (end : PrimalEnd) (u : Tableau) (used : ℕ) (first : phase_one limit budget t ≡ Ok (record { end = end; tableau = u; used = used })) where
+    module _ (end : PrimalEnd) (u : Tableau) (used : ℕ)
+        (first : phase_one limit budget t ≡ Ok (record { end = end; tableau = u; used = used })) where
       abbrev one : PrimalEnded
       one = record { end = end; tableau = u; used = used }
 
@@ -74,12 +77,14 @@ module _ (limit : Option ℕ) (budget : ℕ) (f : Form) where
         pub second_refused : (p : Past ℚ) → phase_two_run limit f u ≡ Err p →
             phases_run limit budget f ≡ Err (stop.Past p)
         second_refused p h =
-            goes_on ∙ ap (λ o. refused_as stop.Past o >>= λ t. run_from limit (budget - used) used t >>= λ two. Ok (Finished two)) h
+            goes_on ∙ ap (λ o. refused_as stop.Past o >>= λ t. run_from limit (budget - used) used t >>= λ two. Ok
+            (Finished two)) h
 
         module _ (v : Tableau) (second : phase_two_run limit f u ≡ Ok v) where
           from_second : phases_run limit budget f ≡ (run_from limit (budget - used) used v >>= λ two. Ok (Finished two))
           from_second =
-              goes_on ∙ ap (λ o. refused_as stop.Past o >>= λ t. run_from limit (budget - used) used t >>= λ two. Ok (Finished two)) second
+              goes_on ∙ ap (λ o. refused_as stop.Past o >>= λ t. run_from limit (budget - used) used t >>= λ two. Ok
+              (Finished two)) second
 
           pub second_stops : (s : RunStop ℚ) → run_from limit (budget - used) used v ≡ Err s →
               phases_run limit budget f ≡ Err s

@@ -1,5 +1,5 @@
 -- The run over factors and its check.
-use Rattle.std.proofs.Common.{◌≡◌, ◌⊎◌, inl, inr, ℕ, List, Option, Some, None, Result, Ok, Err, IfOk}
+use Rattle.std.proofs.Common.{◌≡◌, ◌⊎◌, inl, inr, ℕ, List, Option, Some, None, Result, Ok, Err, IfOk, IfSome}
 use Rattle.std.proofs.Common.{refl, sym, ap, ◌∙◌, subst}
 use Rattle.spec_exact.specs.Fraction.{ℚ}
 use Rattle.spec_exact.specs.declared.past.Past.{Past}
@@ -10,6 +10,7 @@ use Rattle.spec_check.specs.Certificate.{IsFor}
 use Rattle.spec_pivot.specs.declared.status.Status.{Status}
 use Rattle.spec_simplex.specs.declared.ends.RunStop.{RunStop}
 use Rattle.spec_simplex.specs.Form.{Form, form_of}
+use Rattle.spec_simplex.specs.Eliminate.{IsBasisOf}
 use Rattle.spec_simplex.specs.Phases.{PhasesEnd, phases_run}
 use Rattle.spec_cold.specs.declared.outcome.Cold.TheVariants as outcome
 use Rattle.spec_cold.specs.Accepted.{IsAccepted}
@@ -27,6 +28,7 @@ use Rattle.lp_revised.specs.declared.stop.RevisedStop.TheVariants as revised
 use Rattle.lp_revised.specs.Answer.{StopsRevised}
 use Rattle.lp_revised.specs.Runs.{over_end}
 use Rattle.lp_solve.specs.Fit.{IsFit}
+use Rattle.lp_solve.proofs.Left.{phases_leave}
 use Rattle.lp_solve.proofs.Solved.{cold_is}
 
 module _ (budget : ℕ) (m : Model) (f : Form) (formed : form_of (Some largest) m ≡ Ok f) where
@@ -42,6 +44,19 @@ module _ (budget : ℕ) (m : Model) (f : Form) (formed : form_of (Some largest) 
           end_accepted None budget m f end (form_without (Some largest) m f formed) q in
           let same : answer_of end ≡ over_end e = cc in
           subst (λ (o : OverEnd). IsFor m o.certificate) same a.fits
+      by (Err s) q h = let z : ◌≡◌ {A = Result OverEnd (RunStop ℚ)} (Err s) (Ok (over_end e)) = h in cc
+
+  -- its basis is one of the form
+  pub over_leaves : (e : RunEnd) → answer_in (phases_run None budget f) ≡ Ok (over_end e) →
+      IfSome e.basis (λ basis. IsBasisOf f basis)
+  over_leaves e = by (phases_run None budget f) refl
+    where
+      by : (o : Result PhasesEnd (RunStop ℚ)) → phases_run None budget f ≡ o → answer_in o ≡ Ok (over_end e) →
+          IfSome e.basis (λ basis. IsBasisOf f basis)
+      by (Ok end) q h =
+          let same : answer_of end ≡ over_end e = cc in
+          subst (λ (o : OverEnd). IfSome o.basis (λ basis. IsBasisOf f basis)) same
+          (phases_leave None budget m f (form_without (Some largest) m f formed) end q)
       by (Err s) q h = let z : ◌≡◌ {A = Result OverEnd (RunStop ℚ)} (Err s) (Ok (over_end e)) = h in cc
 
   pub over_ends : (e : RunEnd) (end : ColdEnd) → over_run (Some largest) budget f ≡ Ok (over_end e) →

@@ -1,5 +1,6 @@
 pub mod BothPhases
 pub mod Factored
+pub mod Left
 pub mod Runs
 pub mod Solved
 pub mod WarmRuns

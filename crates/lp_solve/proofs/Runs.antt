@@ -12,7 +12,9 @@ use Rattle.spec_simplex.specs.declared.ends.RunStop.{RunStop}
 use Rattle.spec_simplex.specs.declared.ends.RunStop.TheVariants as stop
 use Rattle.spec_simplex.specs.Run.{refused_as, difference_run}
 use Rattle.spec_simplex.specs.Tableau.{Tableau, all_columns, lower_at, upper_at, status_at, or_zero}
-use Rattle.spec_simplex.specs.Step.{directed, other_bound, entering, best_run, choice_at, choice_by, choice_of, choice_run, moved_run, flip_way, flipped, flip_run, shifted_run, turned_run, repriced_run, turned, exchanged, pivot_run}
+use Rattle.spec_simplex.specs.Step.{directed, other_bound, entering, best_run, choice_at, choice_by, choice_of}
+use Rattle.spec_simplex.specs.Step.{choice_run, moved_run, flip_way, flipped, flip_run, shifted_run, turned_run}
+use Rattle.spec_simplex.specs.Step.{repriced_run, turned, exchanged, pivot_run}
 use Rattle.spec_simplex.specs.Phases.{PrimalEnded, end_or_spent, end_or_next, run_from}
 use Rattle.spec_cold.proofs.Runs.{then_ok, refused_ok}
 use Rattle.lp_primal.proofs.Enters.{MayEnter, may_enter}
@@ -90,7 +92,8 @@ module _ (limit : Option ℕ) where
   ends_here : (t : Tableau) (used : ℕ) (e : PrimalEnded) (choice : Choice ℚ) → choice_run limit t ≡ Ok choice →
       end_or_spent t used choice ≡ Ok e → IsEnd t e
   ends_here t used e (End end) c h =
-      ends_at t used e end c (let z : ◌≡◌ {A = PrimalEnded} (record { end = end; tableau = t; used = used }) e = cc in z)
+      ends_at t used e end c (let z : ◌≡◌ {A = PrimalEnded} (record { end = end; tableau = t; used = used }) e = cc in
+      z)
   ends_here t used e (Flip j) c h = let z : ◌≡◌ {A = Result PrimalEnded (RunStop ℚ)} (Err stop.Spent) (Ok e) = h in cc
   ends_here t used e (Pivot p j theta to) c h =
       let z : ◌≡◌ {A = Result PrimalEnded (RunStop ℚ)} (Err stop.Spent) (Ok e) = h in cc
@@ -101,21 +104,26 @@ module _ (limit : Option ℕ) where
       let o = then_ok (refused_as stop.Past (choice_run limit t)) (end_or_spent t used) e h in
       ends_here t used e o.0 (refused_ok stop.Past (choice_run limit t) o.0 o.1) o.2
   run_ends (suc left) used t e h =
-      let o = then_ok (refused_as stop.Past (choice_run limit t)) (end_or_next limit t used (λ u. run_from limit left (used + 1) u)) e h in
+      let o = then_ok (refused_as stop.Past (choice_run limit t))
+      (end_or_next limit t used (λ u. run_from limit left (used + 1) u)) e h in
       go o.0 (refused_ok stop.Past (choice_run limit t) o.0 o.1) o.2 (λ u g. run_ends left (used + 1) u e g)
     where
-      go : (choice : Choice ℚ) → choice_run limit t ≡ Ok choice → end_or_next limit t used (λ u. run_from limit left (used + 1) u) choice ≡ Ok e
+      go : (choice : Choice ℚ) → choice_run limit t ≡ Ok choice → end_or_next limit t used
+          (λ u. run_from limit left (used + 1) u) choice ≡ Ok e
           → ((u : Tableau) → run_from limit left (used + 1) u ≡ Ok e → IsEnd u e) → IsEnd t e
       go (End end) c h more = ends_here t used e (End end) c h
       go (Flip j) c h more =
           let o = then_ok (refused_as stop.Past (flip_run limit t j)) (λ u. run_from limit left (used + 1) u) e h in
           on_from t o.0 e (flip_keeps t o.0 j (refused_ok stop.Past (flip_run limit t j) o.0 o.1)) (more o.0 o.2)
       go (Pivot p j theta to) c h more =
-          let o = then_ok (refused_as stop.Past (pivot_run limit t p j theta to)) (λ u. run_from limit left (used + 1) u) e h in
-          on_from t o.0 e (pivot_keeps t o.0 p j theta to (refused_ok stop.Past (pivot_run limit t p j theta to) o.0 o.1)) (more o.0 o.2)
+          let o = then_ok (refused_as stop.Past (pivot_run limit t p j theta to))
+          (λ u. run_from limit left (used + 1) u) e h in
+          on_from t o.0 e (pivot_keeps t o.0 p j theta to (refused_ok stop.Past (pivot_run limit t p j theta to) o.0
+          o.1)) (more o.0 o.2)
 
   pub run_inside : (left used : ℕ) (t : Tableau) (end : PrimalEnd) (u : Tableau) (after : ℕ) →
       run_from limit left used t ≡ Ok (record { end = end; tableau = u; used = after }) → IsInside u (Some end)
   run_inside left used t end u after h =
-      let e : IsEnd t (record { end = end; tableau = u; used = after }) = run_ends left used t (record { end = end; tableau = u; used = after }) h in
+      let e : IsEnd t (record { end = end; tableau = u; used = after }) = run_ends left used t
+      (record { end = end; tableau = u; used = after }) h in
       e.inside

@@ -1,5 +1,6 @@
 -- The warm start part by part, from the tableau of a basis.
-use Rattle.std.proofs.Common.{◌≡◌, ℕ, ◌+◌, ◌≤◌, List, length, Option, Some, None, IfSome, option_map, Result, Ok, Err, refl, ap, sym, subst, ◌∙◌, arith}
+use Rattle.std.proofs.Common.{◌≡◌, ℕ, ◌+◌, ◌≤◌, List, length, Option, Some, None, IfSome, option_map, Result, Ok, Err}
+use Rattle.std.proofs.Common.{refl, ap, sym, subst, ◌∙◌, arith}
 use Rattle.spec_exact.specs.Fraction.{ℚ}
 use Rattle.spec_exact.specs.declared.past.Past.{Past}
 use Rattle.spec_model.specs.Model.{Model}
@@ -30,7 +31,8 @@ use Rattle.spec_cold.proofs.Solved.{form_proper}
 use Rattle.spec_warm.specs.declared.ends.Route.TheVariants as route
 use Rattle.spec_warm.specs.declared.ends.Warm.TheVariants as warm
 use Rattle.spec_warm.specs.Based.{BeginsFrom}
-use Rattle.spec_warm.specs.Warm.{WarmResult, ByPrimal, ByDual, stopped_as, start_stop, run_stop, run_by, warm_run, warm_certificate, dual_certificate, after_form, warm as warm_start}
+use Rattle.spec_warm.specs.Warm.{WarmResult, ByPrimal, ByDual, stopped_as, start_stop, run_stop, run_by, warm_run}
+use Rattle.spec_warm.specs.Warm.{warm_certificate, dual_certificate, dual_basis, after_form, warm as warm_start}
 use Rattle.spec_warm.specs.Solve.{SolveEnd, HasBasis, fall_of, solved_by}
 use Rattle.spec_solve.specs.Order.{cold_over, solve_over}
 use Rattle.spec_warm.proofs.Started.{start_begins_from}
@@ -42,6 +44,7 @@ use Rattle.lp_tableau.specs.declared.ends.BasisStop.TheVariants as stop
 use Rattle.lp_dual.specs.Starts.{IsDualStart}
 use Rattle.lp_dual.proofs.Fitted.{can_start}
 use Rattle.lp_solve.specs.Begun.{IsBegun}
+use Rattle.lp_solve.proofs.Left.{warm_leaves}
 
 -- ---- stops as the code has them
 pub is_singular : {A : Type 0} (run : Result A (StartStop ℚ)) (s : BasisStop) → s ≡ stop.Singular → StopsAt run s →
@@ -75,13 +78,16 @@ module _ (limit : Option ℕ) (budget : ℕ) where
       warm_run limit budget f basis ≡ Err (start_stop s)
   unfolding warm_run
   start_stops f basis s h =
-      ap (λ o. stopped_as start_stop o >>= λ t. refused_as fall.Past (fit_run limit t) >>= λ fit. run_by limit budget t fit) h
+      ap (λ o. stopped_as start_stop o >>= λ t. refused_as fall.Past (fit_run limit t) >>= λ fit. run_by limit budget t
+      fit) h
 
   module _ (f : Form) (basis : List Status) (t : Tableau) (starts : start_from limit f basis ≡ Ok t) where
-    from_start : warm_run limit budget f basis ≡ (refused_as fall.Past (fit_run limit t) >>= λ fit. run_by limit budget t fit)
+    from_start : warm_run limit budget f basis ≡ (refused_as fall.Past (fit_run limit t) >>= λ fit. run_by limit budget
+        t fit)
     unfolding warm_run
     from_start =
-        ap (λ o. stopped_as start_stop o >>= λ t. refused_as fall.Past (fit_run limit t) >>= λ fit. run_by limit budget t fit) starts
+        ap (λ o. stopped_as start_stop o >>= λ t. refused_as fall.Past (fit_run limit t) >>= λ fit. run_by limit budget
+        t fit) starts
 
     pub fit_refused : (p : Past ℚ) → fit_run limit t ≡ Err p → warm_run limit budget f basis ≡ Err (fall.Past p)
     fit_refused p h = from_start ∙ ap (λ o. refused_as fall.Past o >>= λ fit. run_by limit budget t fit) h
@@ -95,20 +101,25 @@ module _ (limit : Option ℕ) (budget : ℕ) where
     unfolding warm_start
     warm_is = ap (after_form limit budget m basis) (sym formed)
 
-    pub ends_warm : (answer : Known ℚ) (c : Certificate (List ℚ)) (left : Option (List Status)) (pivots : ℕ) (w : WarmResult) → w ≡ warm.Ended answer c left pivots → w ≡ after_form limit budget m basis (Ok f)
-        → ◌≡◌ {A = SolveEnd} (record { end = cold.Ended answer c left pivots; route = route.Warm }) (solve_over limit budget m (Some basis))
+    pub ends_warm : (answer : Known ℚ) (c : Certificate (List ℚ)) (left : Option (List Status)) (pivots : ℕ)
+        (w : WarmResult) → w ≡ warm.Ended answer c left pivots → w ≡ after_form limit budget m basis (Ok f)
+        → ◌≡◌ {A = SolveEnd} (record { end = cold.Ended answer c left pivots; route = route.Warm })
+        (solve_over limit budget m (Some basis))
     unfolding solve_over
     ends_warm answer c left pivots w e h = ap (solved_by (cold_over limit budget m)) (sym e ∙ h ∙ warm_is)
 
-    pub falls : (s : WarmStop ℚ) (w : WarmResult) (end : colds.ColdEnd) → w ≡ warm.Stopped s → w ≡ after_form limit budget m basis (Ok f) → end ≡ cold_over limit budget m
-        → ◌≡◌ {A = SolveEnd} (record { end = end; route = route.Fell (fall_of s) }) (solve_over limit budget m (Some basis))
+    pub falls : (s : WarmStop ℚ) (w : WarmResult) (end : colds.ColdEnd) → w ≡ warm.Stopped s → w ≡ after_form limit
+        budget m basis (Ok f) → end ≡ cold_over limit budget m
+        → ◌≡◌ {A = SolveEnd} (record { end = end; route = route.Fell (fall_of s) })
+        (solve_over limit budget m (Some basis))
     unfolding solve_over
     falls s w end e h g =
         ap (λ (end : colds.ColdEnd). solved_by end (warm.Stopped s)) g
         ∙ ap (solved_by (cold_over limit budget m)) (sym e ∙ h ∙ warm_is)
 
 -- ---- where nothing is handed
-pub nothing_handed : {B : Type 0} (limit : Option ℕ) (m : Model) (view : B → List Status) (handed : Option B) (why : FormFault ℚ) → form_of limit m ≡ Err why
+pub nothing_handed : {B : Type 0} (limit : Option ℕ) (m : Model) (view : B → List Status) (handed : Option B)
+    (why : FormFault ℚ) → form_of limit m ≡ Err why
     → IfSome handed (λ basis. HasBasis limit m (view basis)) → handed ≡ None
 nothing_handed limit m view None why h fits = refl
 nothing_handed limit m view (Some basis) why h fits =
@@ -123,11 +134,13 @@ fits_form limit m view (Some basis) f h fits =
     let is : fits.0 ≡ f = cc in
     subst (λ f. IsBasisOf f (view basis)) is fits.2
 
-pub solves_cold : {B : Type 0} (limit : Option ℕ) (budget : ℕ) (m : Model) (view : B → List Status) (handed : Option B) (end : colds.ColdEnd) → handed ≡ None → end ≡ cold_over limit budget m
+pub solves_cold : {B : Type 0} (limit : Option ℕ) (budget : ℕ) (m : Model) (view : B → List Status) (handed : Option B)
+    (end : colds.ColdEnd) → handed ≡ None → end ≡ cold_over limit budget m
     → ◌≡◌ {A = SolveEnd} (record { end = end; route = route.Cold }) (solve_over limit budget m (option_map view handed))
 unfolding solve_over
 solves_cold limit budget m view handed end e h =
-    subst (λ handed. ◌≡◌ {A = SolveEnd} (record { end = end; route = route.Cold }) (solve_over limit budget m (option_map view handed))) (sym e)
+    subst (λ handed. ◌≡◌ {A = SolveEnd} (record { end = end; route = route.Cold })
+    (solve_over limit budget m (option_map view handed))) (sym e)
     (ap (λ (end : colds.ColdEnd). record { end = end; route = route.Cold }) h)
 
 -- ---- what is known of the tableau of a basis
@@ -140,7 +153,9 @@ form_costs limit m f e =
 module _ (m : Model) (t : Tableau) (kind : Fit) (k : IsBegun m t kind) where
   pub can_run : kind ≡ fit.Dual → IsDualStart t
   can_run e =
-      let s : BeginsFrom k.form t = start_begins_from (Some largest) k.form k.basis t (form_proper (Some largest) m k.form k.formed) k.fits (form_costs (Some largest) m k.form k.formed) k.starts in
+      let s : BeginsFrom k.form t = start_begins_from (Some largest) k.form k.basis t
+      (form_proper (Some largest) m k.form k.formed) k.fits (form_costs (Some largest) m k.form k.formed) k.starts
+      in
       can_start (Some largest) _ _ _ _ _ t s.based (k.fit ∙ ap Ok e)
 
   runs : (budget : ℕ) → warm_run (Some largest) budget k.form k.basis ≡ run_by (Some largest) budget t kind
@@ -149,11 +164,34 @@ module _ (m : Model) (t : Tableau) (kind : Fit) (k : IsBegun m t kind) where
 pub primal_fits : (budget : ℕ) (m : Model) (t : Tableau) (e : PrimalEnded) → IsBegun m t fit.Primal →
     run_from (Some largest) budget 0 t ≡ Ok e → IsFor m (colds.certificate_at e.tableau e.end)
 primal_fits budget m t e k h =
-    let a : IsAccepted (Some largest) m (warm_certificate (ByPrimal e)) = run_accepted (Some largest) budget m k.form k.basis (ByPrimal e) k.formed k.fits (runs m t fit.Primal k budget ∙ primal_ends (Some largest) budget t e h) in
+    let a : IsAccepted (Some largest) m (warm_certificate (ByPrimal e)) = run_accepted (Some largest) budget m k.form
+    k.basis (ByPrimal e) k.formed k.fits (runs m t fit.Primal k budget ∙ primal_ends (Some largest) budget t e h) in
     a.fits
 
 pub dual_fits : (budget : ℕ) (m : Model) (t : Tableau) (e : DualEnded) → IsBegun m t fit.Dual →
     dual_run (Some largest) budget t ≡ Ok e → IsFor m (dual_certificate e.tableau e.end)
 dual_fits budget m t e k h =
-    let a : IsAccepted (Some largest) m (warm_certificate (ByDual e)) = run_accepted (Some largest) budget m k.form k.basis (ByDual e) k.formed k.fits (runs m t fit.Dual k budget ∙ dual_ends (Some largest) budget t e h) in
+    let a : IsAccepted (Some largest) m (warm_certificate (ByDual e)) = run_accepted (Some largest) budget m k.form
+    k.basis (ByDual e) k.formed k.fits (runs m t fit.Dual k budget ∙ dual_ends (Some largest) budget t e h) in
     a.fits
+
+-- ---- the bases that are left
+same_form : (m : Model) (f g : Form) → form_of (Some largest) m ≡ Ok f → form_of (Some largest) m ≡ Ok g → f ≡ g
+same_form m f g h k = let z : ◌≡◌ {A = Result Form (FormFault ℚ)} (Ok f) (Ok g) = sym h ∙ k in cc
+
+module _ (budget : ℕ) (m : Model) (f : Form) (t : Tableau) (formed : form_of (Some largest) m ≡ Ok f) where
+  pub primal_leaves : (e : PrimalEnded) → IsBegun m t fit.Primal → run_from (Some largest) budget 0 t ≡ Ok e →
+      IfSome (colds.basis_at e.tableau e.end) (λ basis. IsBasisOf f basis)
+  primal_leaves e k h =
+      subst (λ f. IfSome (colds.basis_at e.tableau e.end) (λ basis. IsBasisOf f basis))
+      (same_form m k.form f k.formed formed)
+      (warm_leaves (Some largest) budget m k.form k.formed k.basis (ByPrimal e) k.fits
+      (runs m t fit.Primal k budget ∙ primal_ends (Some largest) budget t e h))
+
+  pub dual_leaves : (e : DualEnded) → IsBegun m t fit.Dual → dual_run (Some largest) budget t ≡ Ok e →
+      IfSome (dual_basis e.tableau e.end) (λ basis. IsBasisOf f basis)
+  dual_leaves e k h =
+      subst (λ f. IfSome (dual_basis e.tableau e.end) (λ basis. IsBasisOf f basis))
+      (same_form m k.form f k.formed formed)
+      (warm_leaves (Some largest) budget m k.form k.formed k.basis (ByDual e) k.fits
+      (runs m t fit.Dual k budget ∙ dual_ends (Some largest) budget t e h))

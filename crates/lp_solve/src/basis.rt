@@ -1,12 +1,13 @@
 // The bases of ends.
-ghost use Rattle.std.specs.Prelude.{◌≡◌, ◌<◌, ◌++◌, ◌∷◌, [], IfOk, OnOk};
+ghost use Rattle.std.specs.Prelude.{◌≡◌, ◌<◌, ◌++◌, ◌∷◌, [], IfOk, IfSome, OnOk};
+ghost use Rattle.spec_simplex.specs.Eliminate.{IsBasisOf};
 ghost use Rattle.spec_simplex.specs.Run.{made};
 ghost use Rattle.spec_simplex.specs.Tableau.{form_columns, is_basic as basic_of};
 ghost use Rattle.spec_cold.specs.Cold as cold;
 ghost use Rattle.spec_warm.specs.Warm as warm;
 
 use lp_dual::DualEnd;
-use lp_form::{Basis, Status};
+use lp_form::{Basis, Form, Status, StatusList};
 use lp_tableau::{PrimalEnd, Tableau};
 use std::alloc::{AllocError, Global};
 
@@ -39,22 +40,22 @@ fn push_status(statuses: &mut Vec<Status>, status: Status) -> Result<(), AllocEr
 }
 
 // The statuses of the model's columns and of the rows' logicals.
-fn statuses(alloc: Global, tab: &Tableau) -> Result<Basis, AllocError>
+fn statuses(alloc: Global, tab: &Tableau) -> Result<StatusList, AllocError>
     ensures { IfOk result (λ b. b ≡ made (form_columns tab.now) (cold.basis_status tab.now)) }
 {
     let mut statuses = Vec::new(alloc);
     for k in 0..tab.cols() + tab.rows() {
         push_status(&mut statuses, basis_status(tab, k))?;
     }
-    Ok(Basis::from_vec(statuses))
+    Ok(StatusList::from_vec(statuses))
 }
 
-// The basis of an end by the primal method, which an optimal one has.
+// The statuses of the basis of an end by the primal method, which an optimal one has.
 pub(crate) fn basis_at(
     alloc: Global,
     tab: &Tableau,
     end: PrimalEnd,
-) -> Result<Option<Basis>, AllocError>
+) -> Result<Option<StatusList>, AllocError>
     ensures { IfOk result (λ b. b ≡ cold.basis_at tab.now end) }
 {
     match end {
@@ -63,16 +64,27 @@ pub(crate) fn basis_at(
     }
 }
 
-// The basis of an end by the dual method.
+// The statuses of the basis of an end by the dual method.
 pub(crate) fn dual_basis(
     alloc: Global,
     tab: &Tableau,
     end: DualEnd,
-) -> Result<Option<Basis>, AllocError>
+) -> Result<Option<StatusList>, AllocError>
     ensures { IfOk result (λ b. b ≡ warm.dual_basis tab.now end) }
 {
     match end {
         DualEnd::Optimal => Ok(Some(statuses(alloc, tab)?)),
         DualEnd::Infeasible { .. } => Ok(None),
+    }
+}
+
+// The basis of the form that these statuses are.
+pub(crate) fn basis_of(form: &Form, statuses: Option<StatusList>) -> Option<Basis>
+    requires { IfSome statuses (λ basis. IsBasisOf form.now basis) }
+    ensures { result ≡ statuses }
+{
+    match statuses {
+        Some(statuses) => Some(Basis::from_vec(statuses.into_vec(), form.rows())),
+        None => None,
     }
 }

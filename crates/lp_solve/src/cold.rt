@@ -1,17 +1,18 @@
 // The cold solve of a model from its form.
-ghost use Rattle.std.specs.Prelude.{◌≡◌, IfOk, Ok, Some};
+ghost use Rattle.std.specs.Prelude.{◌≡◌, IfOk, IfSome, Ok, Some};
 ghost use Rattle.spec_check.specs.Certificate.{IsFor, IsNarrowCertificate};
+ghost use Rattle.spec_simplex.specs.Eliminate.{IsBasisOf};
 ghost use Rattle.spec_simplex.specs.Form.{form_of};
 ghost use Rattle.spec_cold.specs.Cold as cold;
 ghost use Rattle.lp_frac.specs.Narrow.{largest};
 ghost use Rattle.lp_solve.specs.Ends.{end_of, IsInside};
 ghost use Rattle.lp_solve.specs.Fit.{IsFit};
 
-use crate::basis::basis_at;
+use crate::basis::{basis_at, basis_of};
 use crate::certificate::{certificate_at, infeasible};
 use crate::phases::{Ended, phases};
 use lp_check::{Certificate, Verdict, check};
-use lp_form::{Basis, Form};
+use lp_form::{Basis, Form, StatusList};
 use lp_frac::{Frac, Fracs};
 use lp_model::Model;
 use lp_tableau::{ColdStop, RunStop, start_cold};
@@ -57,8 +58,8 @@ fn certificate(alloc: Global, ended: &Ended) -> Result<Certificate, AllocError>
     }
 }
 
-// The basis of what both phases ended with, which an optimal end has.
-fn basis(alloc: Global, ended: &Ended) -> Result<Option<Basis>, AllocError>
+// The statuses of the basis of what both phases ended with, which an optimal end has.
+fn statuses(alloc: Global, ended: &Ended) -> Result<Option<StatusList>, AllocError>
     ensures { IfOk result (λ b. b ≡ cold.basis_of (end_of ended.now)) }
 {
     match ended.end {
@@ -68,15 +69,16 @@ fn basis(alloc: Global, ended: &Ended) -> Result<Option<Basis>, AllocError>
 }
 
 // The answer of what both phases ended with.
-fn finished(alloc: Global, model: &Model, ended: &Ended) -> Result<End, AllocError>
+fn finished(alloc: Global, model: &Model, form: &Form, ended: &Ended) -> Result<End, AllocError>
     requires inside { IsInside ended.now.tab ended.now.end }
     requires fits { IsFor model.now (cold.certificate_of (end_of ended.now)) }
+    requires based { IfSome (cold.basis_of (end_of ended.now)) (λ basis. IsBasisOf form.now basis) }
     ensures answer { IfOk result (λ s. s ≡ cold.after_phases (Some largest) model.now (Ok (end_of ended.now))) }
     ensures narrow { IfOk result (IsFit model.now) }
 {
     let certificate = certificate(alloc, ended)?;
-    let basis = basis(alloc, ended)?;
-    Ok(answered(model, certificate, basis, ended.used))
+    let statuses = statuses(alloc, ended)?;
+    Ok(answered(model, certificate, basis_of(form, statuses), ended.used))
 }
 
 /// Both phases from the form of the model, and the check of the certificate that they ended with.
@@ -96,7 +98,7 @@ pub(crate) fn from_form(
         Err(ColdStop::NoMemory) => return Err(AllocError),
     };
     match phases(tab, form, budget) {
-        Ok(ended) => finished(alloc, model, &ended),
+        Ok(ended) => finished(alloc, model, form, &ended),
         Err(RunStop::Past(past)) => Ok(End::Past(past)),
         Err(RunStop::Spent) => Ok(End::Spent),
     }

@@ -24,8 +24,6 @@ mod cold;
 mod factors;
 mod phases;
 mod solving;
-#[cfg(test)]
-mod tests;
 mod warm;
 
 pub use cold::End;

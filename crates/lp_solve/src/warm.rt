@@ -9,7 +9,7 @@ ghost use Rattle.lp_frac.specs.Narrow.{largest};
 ghost use Rattle.lp_solve.specs.Begun.{IsBegun};
 ghost use Rattle.lp_solve.specs.Fit.{IsWarmFit};
 
-use crate::basis::{basis_at, dual_basis};
+use crate::basis::{basis_at, basis_of, dual_basis};
 use crate::certificate::{certificate_at, dual_certificate};
 use lp_check::{Certificate, Verdict, check};
 use lp_dual::{Fit, fit};
@@ -58,9 +58,11 @@ fn by_primal(
     alloc: Global,
     budget: u64,
     model: &Model,
+    form: &Form,
     mut tab: Tableau,
 ) -> Result<Warm, AllocError>
-    requires { IsBegun model.now tab fitted.Primal }
+    requires formed { form_of (Some largest) model.now ≡ Ok form.now }
+    requires begun { IsBegun model.now tab fitted.Primal }
     ensures answer { IfOk result
         (λ w. w ≡ warm.after_run (Some largest) model.now (warm.run_by (Some largest) budget tab fitted.Primal)) }
     ensures narrow { IfOk result (IsWarmFit model.now) }
@@ -69,16 +71,23 @@ fn by_primal(
     match lp_primal::run(&mut tab, &mut used, budget) {
         Ok(end) => {
             let certificate = certificate_at(alloc, &tab, end)?;
-            let basis = basis_at(alloc, &tab, end)?;
-            Ok(answered(model, certificate, basis, used))
+            let statuses = basis_at(alloc, &tab, end)?;
+            Ok(answered(model, certificate, basis_of(form, statuses), used))
         }
         Err(stop) => Ok(Warm::Stopped(run_stop(stop))),
     }
 }
 
 // The dual method from a tableau that is fit for it.
-fn by_dual(alloc: Global, budget: u64, model: &Model, mut tab: Tableau) -> Result<Warm, AllocError>
-    requires { IsBegun model.now tab fitted.Dual }
+fn by_dual(
+    alloc: Global,
+    budget: u64,
+    model: &Model,
+    form: &Form,
+    mut tab: Tableau,
+) -> Result<Warm, AllocError>
+    requires formed { form_of (Some largest) model.now ≡ Ok form.now }
+    requires begun { IsBegun model.now tab fitted.Dual }
     ensures answer { IfOk result
         (λ w. w ≡ warm.after_run (Some largest) model.now (warm.run_by (Some largest) budget tab fitted.Dual)) }
     ensures narrow { IfOk result (IsWarmFit model.now) }
@@ -87,8 +96,8 @@ fn by_dual(alloc: Global, budget: u64, model: &Model, mut tab: Tableau) -> Resul
     match lp_dual::run(&mut tab, &mut used, budget) {
         Ok(end) => {
             let certificate = dual_certificate(alloc, &tab, end)?;
-            let basis = dual_basis(alloc, &tab, end)?;
-            Ok(answered(model, certificate, basis, used))
+            let statuses = dual_basis(alloc, &tab, end)?;
+            Ok(answered(model, certificate, basis_of(form, statuses), used))
         }
         Err(stop) => Ok(Warm::Stopped(run_stop(stop))),
     }
@@ -114,8 +123,8 @@ pub(crate) fn from_basis(
         Err(BasisStop::NoMemory) => return Err(AllocError),
     };
     match fit(&tab) {
-        Ok(Fit::Primal) => by_primal(alloc, budget, model, tab),
-        Ok(Fit::Dual) => by_dual(alloc, budget, model, tab),
+        Ok(Fit::Primal) => by_primal(alloc, budget, model, form, tab),
+        Ok(Fit::Dual) => by_dual(alloc, budget, model, form, tab),
         Ok(Fit::Unfit) => Ok(Warm::Stopped(WarmStop::Unfit)),
         Err(past) => Ok(Warm::Stopped(WarmStop::Past(past))),
     }

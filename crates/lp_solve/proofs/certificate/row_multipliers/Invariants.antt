@@ -9,4 +9,5 @@ use Rattle.lp_solve.proofs.certificate.row_multipliers.Given as goal
 -- the entries so far are there, each of at most 127 bits
 abbrev pub invariant-loop-i : goal.invariant-loop-i
 invariant-loop-i l =
-    (l.multipliers ≡ made l.i (λ i. directed l.below (entry_at l.tab l.place (l.tab.cols + i)))) × All IsNarrow l.multipliers
+    (l.multipliers ≡ made l.i (λ i. directed l.below (entry_at l.tab l.place (l.tab.cols + i)))) × All IsNarrow
+    l.multipliers

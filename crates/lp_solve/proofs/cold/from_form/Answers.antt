@@ -1,10 +1,16 @@
--- A refusal in the start, and a certificate that fits.
+-- A refusal in the start, a certificate that fits, and a basis of the form.
 use Rattle.lp_solve.proofs.Solved.{start_stop, refused_from, end_fits}
+use Rattle.lp_solve.proofs.Left.{phases_leave}
 use Rattle.lp_solve.proofs.cold.from_form.Goals as goal
 
 pub returns-in-Err-Past-clause-answer : goal.returns-in-Err-Past-clause-answer
 returns-in-Err-Past-clause-answer c =
-    rw c.in-Err-Past.past-is (refused_from _ _ _ _ _ (start_stop _ _ _ c.in-Err-Past.field-0-is c.in-Err-Past.ensures.err))
+    rw c.in-Err-Past.past-is (refused_from _ _ _ _ _
+    (start_stop _ _ _ c.in-Err-Past.field-0-is c.in-Err-Past.ensures.err))
 
 pub finished-requires-clause-fits : goal.finished-requires-clause-fits
 finished-requires-clause-fits c = end_fits _ c.args.budget _ _ _ c.requires c.in-Ok-phases.ensures.answer
+
+pub finished-requires-clause-based : goal.finished-requires-clause-based
+finished-requires-clause-based c =
+    phases_leave _ c.args.budget c.args.model.now c.args.form.now c.requires _ c.in-Ok-phases.ensures.answer

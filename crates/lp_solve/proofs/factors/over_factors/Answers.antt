@@ -1,6 +1,11 @@
--- Each end of the run over factors, and a certificate that fits.
-use Rattle.lp_solve.proofs.Factored.{over_fits, over_ends, past_stops, spent_stops}
+-- Each end of the run over factors, with a certificate that fits, and a basis of the form.
+use Rattle.lp_solve.proofs.Factored.{over_fits, over_leaves, over_ends, past_stops, spent_stops}
 use Rattle.lp_solve.proofs.factors.over_factors.Goals as goal
+
+pub basis_of-requires : goal.basis_of-requires
+basis_of-requires c =
+    over_leaves c.args.budget c.args.model.now c.args.form.now c.requires c.in-Ok.end
+    (c.in-Ok.ensures.whole c.args.model.now c.requires)
 
 pub answered-requires-clause-fits : goal.answered-requires-clause-fits
 answered-requires-clause-fits c =
@@ -10,7 +15,7 @@ answered-requires-clause-fits c =
 pub returns-in-Ok-clause-answer : goal.returns-in-Ok-clause-answer
 returns-in-Ok-clause-answer c =
     over_ends c.args.budget c.args.model.now c.args.form.now c.requires c.in-Ok.end c.answered.result
-    c.in-Ok.ensures.run c.answered.ensures.answer
+    c.in-Ok.ensures.run (rw c.basis_of.ensures at c.answered.ensures.answer)
 
 pub returns-in-Err-Past-clause-answer : goal.returns-in-Err-Past-clause-answer
 returns-in-Err-Past-clause-answer c =

@@ -13,6 +13,7 @@ returns-in-Ended-clause-answer c =
 pub or_factors-requires : goal.or_factors-requires
 or_factors-requires c = record {
   formed = c.requires;
-  tableaus = c.in_ok-end.ensures.answer ∙ cold_is (Some largest) c.args.budget c.args.model.now (Ok c.args.form.now) c.requires;
+  tableaus = c.in_ok-end.ensures.answer ∙ cold_is (Some largest) c.args.budget c.args.model.now (Ok c.args.form.now)
+      c.requires;
   gives_up = gives_up_is c.args.budget c.args.model.now c.args.form.now c.requires c.in_ok-end.end c.in-Past.is;
 }

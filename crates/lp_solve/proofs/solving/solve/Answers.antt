@@ -10,17 +10,21 @@ solve_formed-requires-clause-fits c = fits_form _ _ _ _ _ c.in-Ok.ensures.ok c.r
 
 pub answered-requires-clause-fits : goal.answered-requires-clause-fits
 answered-requires-clause-fits c =
-    rw c.in-Err-Clash.j-is (clash_fits _ c.args.budget _ _ (form_clash _ _ _ c.in-Err-Clash.field-0-is c.in-Err-Clash.ensures.err))
+    rw c.in-Err-Clash.j-is (clash_fits _ c.args.budget _ _
+    (form_clash _ _ _ c.in-Err-Clash.field-0-is c.in-Err-Clash.ensures.err))
 
 pub returns-in-Err-Clash-clause-answer : goal.returns-in-Err-Clash-clause-answer
 returns-in-Err-Clash-clause-answer c =
     let stop = form_clash _ _ _ c.in-Err-Clash.field-0-is c.in-Err-Clash.ensures.err in
     let answered = rw c.in-Err-Clash.j-is at c.answered.ensures.answer in
     c.cold.ensures
-    ∙ solves_cold (Some largest) c.args.budget c.args.model.now _ c.args.handed _ (nothing_handed (Some largest) c.args.model.now _ c.args.handed _ stop c.requires) (answered ∙ formless _ _ _ _ stop)
+    ∙ solves_cold (Some largest) c.args.budget c.args.model.now _ c.args.handed _
+    (nothing_handed (Some largest) c.args.model.now _ c.args.handed _ stop c.requires)
+    (answered ∙ formless _ _ _ _ stop)
 
 pub returns-in-Err-Past-clause-answer : goal.returns-in-Err-Past-clause-answer
 returns-in-Err-Past-clause-answer c =
     let stop = form_stop _ _ _ c.in-Err-Past.field-0-is c.in-Err-Past.ensures.err in
     let told = rw c.in-Err-Past.past-is at c.cold-in-Err-Past.ensures in
-    told ∙ solves_cold (Some largest) c.args.budget c.args.model.now _ c.args.handed _ (nothing_handed (Some largest) c.args.model.now _ c.args.handed _ stop c.requires) (formless _ _ _ _ stop)
+    told ∙ solves_cold (Some largest) c.args.budget c.args.model.now _ c.args.handed _
+    (nothing_handed (Some largest) c.args.model.now _ c.args.handed _ stop c.requires) (formless _ _ _ _ stop)

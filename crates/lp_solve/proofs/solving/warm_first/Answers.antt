@@ -6,9 +6,11 @@ use Rattle.lp_solve.proofs.solving.warm_first.Goals as goal
 
 pub returns-in-Ended-clause-answer : goal.returns-in-Ended-clause-answer
 returns-in-Ended-clause-answer c =
-    ends_warm (Some largest) c.args.budget c.args.model.now c.args.form.now c.args.basis.now c.requires.formed _ _ _ _ _ c.in-Ended.is c.in_ok-answer.ensures.answer
+    ends_warm (Some largest) c.args.budget c.args.model.now c.args.form.now c.args.basis.now c.requires.formed _ _ _ _
+    _ c.in-Ended.is c.in_ok-answer.ensures.answer
 
 pub returns-in_ok-cold_part-in-Stopped-clause-answer : goal.returns-in_ok-cold_part-in-Stopped-clause-answer
 returns-in_ok-cold_part-in-Stopped-clause-answer c =
     rw c.fall.ensures
-    (falls (Some largest) c.args.budget c.args.model.now c.args.form.now c.args.basis.now c.requires.formed _ _ _ c.in-Stopped.is c.in_ok-answer.ensures.answer c.in_ok-cold_part-in-Stopped.ensures.answer)
+    (falls (Some largest) c.args.budget c.args.model.now c.args.form.now c.args.basis.now c.requires.formed _ _ _
+    c.in-Stopped.is c.in_ok-answer.ensures.answer c.in_ok-cold_part-in-Stopped.ensures.answer)

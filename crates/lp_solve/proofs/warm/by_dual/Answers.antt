@@ -1,20 +1,34 @@
--- The end of the run, its certificate, and a stop.
-use Rattle.std.proofs.Common.{refl, ap, sym, ◌∙◌, subst, Some}
+-- The end of the run, its certificate and basis, and a stop.
+use Rattle.std.proofs.Common.{refl, ap, sym, ◌∙◌, subst, List, Option, Some, IfSome}
 use Rattle.spec_check.specs.Certificate.{IsFor}
+use Rattle.spec_pivot.specs.declared.status.Status.{Status}
+use Rattle.spec_simplex.specs.Eliminate.{IsBasisOf}
 use Rattle.spec_warm.specs.Warm.{after_run}
 use Rattle.lp_frac.specs.Narrow.{largest}
-use Rattle.lp_solve.proofs.WarmRuns.{can_run, dual_ends, dual_fits}
+use Rattle.lp_solve.proofs.WarmRuns.{can_run, dual_ends, dual_fits, dual_leaves}
 use Rattle.lp_solve.proofs.warm.by_dual.Goals as goal
 
 pub run-requires-clause-ready : goal.run-requires-clause-ready
-run-requires-clause-ready c = can_run _ _ _ c.requires refl
+run-requires-clause-ready c = can_run _ _ _ c.requires.begun refl
+
+pub basis_of-requires : goal.basis_of-requires
+basis_of-requires c =
+    subst (λ (o : Option (List Status)). IfSome o (λ basis. IsBasisOf c.args.form.now basis))
+    (sym c.in_ok-statuses-in-Ok.ensures)
+    (dual_leaves c.args.budget c.args.model.now c.args.form.now c.args.tab c.requires.formed
+    (record { end = c.in-Ok.end; tableau = c.run.new.tab; used = c.run.new.used }) c.requires.begun
+    c.in-Ok.ensures.runs)
 
 pub answered-requires-clause-fits : goal.answered-requires-clause-fits
 answered-requires-clause-fits c =
     subst (IsFor c.args.model.now) (sym (c.in_ok-certificate-in-Ok.ensures.value))
-    (dual_fits _ _ _ (record { end = c.in-Ok.end; tableau = c.run.new.tab; used = c.run.new.used }) c.requires c.in-Ok.ensures.runs)
+    (dual_fits _ _ _ (record { end = c.in-Ok.end; tableau = c.run.new.tab; used = c.run.new.used }) c.requires.begun
+    c.in-Ok.ensures.runs)
 
 pub returns-in-Ok-clause-answer : goal.returns-in-Ok-clause-answer
 returns-in-Ok-clause-answer c =
-    rw (c.in_ok-certificate-in-Ok.ensures.value, c.in_ok-basis-in-Ok.ensures) at c.answered.ensures.answer
-    ∙ ap (after_run (Some largest) c.args.model.now) (sym (dual_ends (Some largest) c.args.budget c.args.tab (record { end = c.in-Ok.end; tableau = c.run.new.tab; used = c.run.new.used }) c.in-Ok.ensures.runs))
+    rw (c.in_ok-certificate-in-Ok.ensures.value, c.basis_of.ensures, c.in_ok-statuses-in-Ok.ensures) at
+    c.answered.ensures.answer
+    ∙ ap (after_run (Some largest) c.args.model.now)
+    (sym (dual_ends (Some largest) c.args.budget c.args.tab
+    (record { end = c.in-Ok.end; tableau = c.run.new.tab; used = c.run.new.used }) c.in-Ok.ensures.runs))

@@ -1,22 +1,37 @@
--- The end of the run, its certificate, and a stop.
-use Rattle.std.proofs.Common.{ap, sym, ◌∙◌, subst, Some}
+-- The end of the run, its certificate and basis, and a stop.
+use Rattle.std.proofs.Common.{ap, sym, ◌∙◌, subst, List, Option, Some, IfSome}
 use Rattle.spec_check.specs.Certificate.{IsFor}
+use Rattle.spec_pivot.specs.declared.status.Status.{Status}
+use Rattle.spec_simplex.specs.Eliminate.{IsBasisOf}
 use Rattle.spec_warm.specs.Warm.{after_run}
 use native.Mathlib.Numerals.{unary_clauses}
 use Rattle.lp_frac.specs.Narrow.{largest}
 use Rattle.lp_solve.proofs.Runs.{run_inside}
-use Rattle.lp_solve.proofs.WarmRuns.{primal_ends, primal_fits}
+use Rattle.lp_solve.proofs.WarmRuns.{primal_ends, primal_fits, primal_leaves}
 use Rattle.lp_solve.proofs.warm.by_primal.Goals as goal
 
 pub certificate_at-requires : goal.certificate_at-requires
 certificate_at-requires c = run_inside _ _ _ _ _ _ _ c.in-Ok.ensures.ended
 
+pub basis_of-requires : goal.basis_of-requires
+basis_of-requires c =
+    subst (λ (o : Option (List Status)). IfSome o (λ basis. IsBasisOf c.args.form.now basis))
+    (sym c.in_ok-statuses-in-Ok.ensures)
+    (primal_leaves c.args.budget c.args.model.now c.args.form.now c.args.tab c.requires.formed
+    (record { end = c.in-Ok.end; tableau = c.run.new.tab; used = c.run.new.used }) c.requires.begun
+    (simp unary_clauses at c.in-Ok.ensures.ended))
+
 pub answered-requires-clause-fits : goal.answered-requires-clause-fits
 answered-requires-clause-fits c =
     subst (IsFor c.args.model.now) (sym (c.in_ok-certificate-in-Ok.ensures.value))
-    (primal_fits _ _ _ (record { end = c.in-Ok.end; tableau = c.run.new.tab; used = c.run.new.used }) c.requires (simp unary_clauses at c.in-Ok.ensures.ended))
+    (primal_fits _ _ _ (record { end = c.in-Ok.end; tableau = c.run.new.tab; used = c.run.new.used }) c.requires.begun
+    (simp unary_clauses at c.in-Ok.ensures.ended))
 
 pub returns-in-Ok-clause-answer : goal.returns-in-Ok-clause-answer
 returns-in-Ok-clause-answer c =
-    rw (c.in_ok-certificate-in-Ok.ensures.value, c.in_ok-basis-in-Ok.ensures) at c.answered.ensures.answer
-    ∙ ap (after_run (Some largest) c.args.model.now) (sym (primal_ends (Some largest) c.args.budget c.args.tab (record { end = c.in-Ok.end; tableau = c.run.new.tab; used = c.run.new.used }) (simp unary_clauses at c.in-Ok.ensures.ended)))
+    rw (c.in_ok-certificate-in-Ok.ensures.value, c.basis_of.ensures, c.in_ok-statuses-in-Ok.ensures) at
+    c.answered.ensures.answer
+    ∙ ap (after_run (Some largest) c.args.model.now)
+    (sym (primal_ends (Some largest) c.args.budget c.args.tab
+    (record { end = c.in-Ok.end; tableau = c.run.new.tab; used = c.run.new.used })
+    (simp unary_clauses at c.in-Ok.ensures.ended)))

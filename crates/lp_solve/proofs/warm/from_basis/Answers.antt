@@ -10,32 +10,38 @@ use Rattle.lp_solve.proofs.warm.from_basis.Goals as goal
 pub returns-in-Err-Singular-clause-answer : goal.returns-in-Err-Singular-clause-answer
 returns-in-Err-Singular-clause-answer c =
     ap (after_run (Some largest) c.args.model.now)
-    (sym (start_stops (Some largest) c.args.budget c.args.form.now c.args.basis.now begun.Singular (is_singular _ _ c.in-Err-Singular.field-0-is c.in-Err-Singular.ensures.err)))
+    (sym (start_stops (Some largest) c.args.budget c.args.form.now c.args.basis.now begun.Singular
+    (is_singular _ _ c.in-Err-Singular.field-0-is c.in-Err-Singular.ensures.err)))
 
 pub returns-in-Err-Past-clause-answer : goal.returns-in-Err-Past-clause-answer
 returns-in-Err-Past-clause-answer c =
     rw c.in-Err-Past.past-is
     (ap (after_run (Some largest) c.args.model.now)
-    (sym (start_stops (Some largest) c.args.budget c.args.form.now c.args.basis.now (begun.Past _) (is_past _ _ _ c.in-Err-Past.field-0-is c.in-Err-Past.ensures.err))))
+    (sym (start_stops (Some largest) c.args.budget c.args.form.now c.args.basis.now (begun.Past _)
+    (is_past _ _ _ c.in-Err-Past.field-0-is c.in-Err-Past.ensures.err))))
 
 pub returns-in-Ok-Primal-clause-answer : goal.returns-in-Ok-Primal-clause-answer
 returns-in-Ok-Primal-clause-answer c =
     subst (λ run. IfOk c.by_primal.result (λ w. w ≡ after_run (Some largest) c.args.model.now run))
-    (sym (runs_by (Some largest) c.args.budget c.args.form.now c.args.basis.now c.in-Ok.tab c.in-Ok.ensures.ok fit.Primal (sym c.fit.ensures ∙ c.in-Ok-Primal.is ∙ ap Ok c.in-Ok-Primal.field-0-is)))
+    (sym (runs_by (Some largest) c.args.budget c.args.form.now c.args.basis.now c.in-Ok.tab c.in-Ok.ensures.ok
+    fit.Primal (sym c.fit.ensures ∙ c.in-Ok-Primal.is ∙ ap Ok c.in-Ok-Primal.field-0-is)))
     c.by_primal.ensures.answer
 
 pub returns-in-Ok-Dual-clause-answer : goal.returns-in-Ok-Dual-clause-answer
 returns-in-Ok-Dual-clause-answer c =
     subst (λ run. IfOk c.by_dual.result (λ w. w ≡ after_run (Some largest) c.args.model.now run))
-    (sym (runs_by (Some largest) c.args.budget c.args.form.now c.args.basis.now c.in-Ok.tab c.in-Ok.ensures.ok fit.Dual (sym c.fit.ensures ∙ c.in-Ok-Dual.is ∙ ap Ok c.in-Ok-Dual.field-0-is)))
+    (sym (runs_by (Some largest) c.args.budget c.args.form.now c.args.basis.now c.in-Ok.tab c.in-Ok.ensures.ok fit.Dual
+    (sym c.fit.ensures ∙ c.in-Ok-Dual.is ∙ ap Ok c.in-Ok-Dual.field-0-is)))
     c.by_dual.ensures.answer
 
 pub returns-in-Ok-Unfit-clause-answer : goal.returns-in-Ok-Unfit-clause-answer
 returns-in-Ok-Unfit-clause-answer c =
     ap (after_run (Some largest) c.args.model.now)
-    (sym (runs_by (Some largest) c.args.budget c.args.form.now c.args.basis.now c.in-Ok.tab c.in-Ok.ensures.ok fit.Unfit (sym c.fit.ensures ∙ c.in-Ok-Unfit.is ∙ ap Ok c.in-Ok-Unfit.field-0-is)))
+    (sym (runs_by (Some largest) c.args.budget c.args.form.now c.args.basis.now c.in-Ok.tab c.in-Ok.ensures.ok
+    fit.Unfit (sym c.fit.ensures ∙ c.in-Ok-Unfit.is ∙ ap Ok c.in-Ok-Unfit.field-0-is)))
 
 pub returns-in-Err-clause-answer : goal.returns-in-Err-clause-answer
 returns-in-Err-clause-answer c =
     ap (after_run (Some largest) c.args.model.now)
-    (sym (fit_refused (Some largest) c.args.budget c.args.form.now c.args.basis.now c.in-Ok.tab c.in-Ok.ensures.ok _ (sym c.fit.ensures ∙ c.in-Err.is)))
+    (sym (fit_refused (Some largest) c.args.budget c.args.form.now c.args.basis.now c.in-Ok.tab c.in-Ok.ensures.ok _
+    (sym c.fit.ensures ∙ c.in-Err.is)))
