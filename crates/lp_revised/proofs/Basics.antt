@@ -1,5 +1,6 @@
 -- The places of factors have columns of the form.
-use Rattle.std.proofs.Common.{◌≡◌, ℕ, ◌+◌, ◌<◌, List, length, replicate, set, All, Option, Some, None, Ok, Bool, true, false, cond, sym, subst, arith}
+use Rattle.std.proofs.Common.{◌≡◌, ℕ, ◌+◌, ◌<◌, List, length, replicate, set, All, Option, Some, None, Ok, Bool, true}
+use Rattle.std.proofs.Common.{false, cond, sym, subst, arith}
 use Rattle.std.specs.Prelude.{unwrap_or}
 use Rattle.std.proofs.lemmas.List.{get_or-replicate, length-replicate}
 use Rattle.std.proofs.lemmas.List.Elements.{All-from_get_or, All-set, All-map}
@@ -11,7 +12,8 @@ use Rattle.spec_simplex.specs.Eliminate.{basis_at}
 use Rattle.spec_simplex.specs.Tableau.{is_basic}
 use Rattle.spec_cold.proofs.Runs.{then_ok, steps_ok}
 use Rattle.spec_factor.specs.declared.stop.NoFactors.TheVariants as stop
-use Rattle.spec_factor.specs.Factors.{Factors, Chosen, column_of, ftran_run, open_place, with_pair, chosen_at, choose_run, none_chosen, choose_all, factors_of, factor_run}
+use Rattle.spec_factor.specs.Factors.{Factors, Chosen, column_of, ftran_run, open_place, with_pair, chosen_at}
+use Rattle.spec_factor.specs.Factors.{choose_run, none_chosen, choose_all, factors_of, factor_run}
 
 module _ (limit : Option ℕ) (f : Form) (basis : List Status) where
   abbrev Inside : Option ℕ → Type 0
@@ -31,7 +33,8 @@ module _ (limit : Option ℕ) (f : Form) (basis : List Status) where
       by : (b : Bool) → cond b (choose_run limit f k s) (Ok s) ≡ Ok u → All Inside u.columns
       by true e =
           let w =
-          then_ok (refused_as stop.Past (ftran_run limit f.rows s.pairs (column_of f k))) (λ v. chosen_at s k v (open_place s.columns v f.rows)) u e in
+          then_ok (refused_as stop.Past (ftran_run limit f.rows s.pairs (column_of f k)))
+          (λ v. chosen_at s k v (open_place s.columns v f.rows)) u e in
           chosen_inside k s u w.0 (open_place s.columns w.0 f.rows) l h w.2
       by false e = let w : s ≡ u = cc in subst (λ (c : Chosen). All Inside c.columns) w h
 
@@ -44,13 +47,16 @@ module _ (limit : Option ℕ) (f : Form) (basis : List Status) where
   none_inside : All Inside nones
   none_inside =
       All-from_get_or Inside nones None
-      (λ i l. subst Inside (sym (get_or-replicate f.rows i None None (omega (arith, l, long)))) (omega (arith, l, long)))
+      (λ i l. subst Inside (sym (get_or-replicate f.rows i None None (omega (arith, l, long))))
+      (omega (arith, l, long)))
 
   pub basics_inside : (s : Factors) → factor_run limit f basis ≡ Ok s → All (λ k. k < f.cols + f.rows) s.basic
   unfolding factor_run choose_all
   basics_inside s h =
       let w = then_ok (choose_all limit f basis (f.cols + f.rows)) (λ c. Ok (factors_of c)) s h in
       let all : All Inside w.0.columns =
-      steps_ok (λ _ (c : Chosen). All Inside c.columns) (f.cols + f.rows) _ (none_chosen f) w.0 w.1 none_inside (λ k x y l p e. step_inside k x y l p e) in
+      steps_ok (λ _ (c : Chosen). All Inside c.columns) (f.cols + f.rows) _ (none_chosen f) w.0 w.1 none_inside
+      (λ k x y l p e. step_inside k x y l p e) in
       let z : ◌≡◌ {A = Factors} (factors_of w.0) s = cc in
-      subst (λ (x : Factors). All (λ k. k < f.cols + f.rows) x.basic) z (All-map (λ k. k < f.cols + f.rows) (λ o. unwrap_or o 0) w.0.columns all)
+      subst (λ (x : Factors). All (λ k. k < f.cols + f.rows) x.basic) z
+      (All-map (λ k. k < f.cols + f.rows) (λ o. unwrap_or o 0) w.0.columns all)

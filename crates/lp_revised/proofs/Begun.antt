@@ -13,12 +13,23 @@ use Rattle.lp_tableau.proofs.Begun.{begun_shape}
 use Rattle.lp_revised.specs.State.{IsState}
 
 module _ (f : Form) (starts : List (RowStart ℚ)) where
-  pub begun_is : (rows cols : ℕ) (basic : List ℕ) (value : List ℚ) (status : List Status) (lower upper : List (Option ℚ)) →
+  pub begun_is : (rows cols : ℕ) (basic : List ℕ) (value : List ℚ) (status : List Status)
+      (lower upper : List (Option ℚ)) →
       rows ≡ f.rows → cols ≡ f.cols → basic ≡ made f.rows (start_basic f starts) →
       value ≡ made (f.cols + f.rows + f.rows) (start_value f starts) →
       status ≡ made (f.cols + f.rows + f.rows) (start_status f starts) → lower ≡ f.lower ++ replicate f.rows (Some 0ℚ) →
       upper ≡ f.upper ++ map artificial_upper starts →
-      record { rows = rows; cols = cols; entries = []; basic = basic; value = value; reduced = []; status = status; lower = lower; upper = upper }
+      record {
+        rows = rows;
+        cols = cols;
+        entries = [];
+        basic = basic;
+        value = value;
+        reduced = [];
+        status = status;
+        lower = lower;
+        upper = upper;
+      }
       ≡ bare_of (begun f starts)
   begun_is rows cols basic value status lower upper a b c d e g h = cc
 
@@ -26,9 +37,11 @@ module _ (f : Form) (starts : List (RowStart ℚ)) where
       t ≡ bare_of (begun f starts) → places ≡ f.rows →
       IsState places (record { bare = t; pairs = pairs; replaced = 0 })
   begun_state t pairs places k l e p =
-      subst (λ t. IsState places (record { bare = t; pairs = pairs; replaced = 0 })) (sym e) (by (begun_shape f starts k l))
+      subst (λ t. IsState places (record { bare = t; pairs = pairs; replaced = 0 })) (sym e)
+      (by (begun_shape f starts k l))
     where
-      by : IsTableauShape (begun f starts) → IsState places (record { bare = bare_of (begun f starts); pairs = pairs; replaced = 0 })
+      by : IsTableauShape (begun f starts) → IsState places
+          (record { bare = bare_of (begun f starts); pairs = pairs; replaced = 0 })
       by g = record {
         few_rows = g.few_rows;
         few_columns = g.few_columns;

@@ -1,5 +1,6 @@
 -- The entering column: once one enters no more are priced.
-use Rattle.std.proofs.Common.{◌≡◌, ℕ, zero, suc, ◌+◌, ◌-◌, ◌<◌, List, Option, Some, None, Ok, Err, Bool, ap, ◌∙◌, subst, arith}
+use Rattle.std.proofs.Common.{◌≡◌, ℕ, zero, suc, ◌+◌, ◌-◌, ◌<◌, List, Option, Some, None, Ok, Err, Bool, ap, ◌∙◌, subst}
+use Rattle.std.proofs.Common.{arith}
 use Rattle.spec_exact.specs.Fraction.{ℚ}
 use Rattle.spec_exact.specs.declared.past.Past.{Past}
 use Rattle.spec_simplex.specs.declared.ends.Entering.{Entering}
@@ -39,7 +40,8 @@ module _ (f : Form) (costs y : List ℚ) (t : Tableau) where
       let z : k + 1 + (all_columns t - (k + 1)) ≡ all_columns t = omega (arith, l) in
       subst (λ i. steps i priced_at None ≡ Ok (Some (record { col = k; up = up }))) z
       (stays (k + 1) (all_columns t - (k + 1)) (record { col = k; up = up })
-      (steps_more k priced_at None None (Some (record { col = k; up = up })) h (ap (λ o. o >>= λ way. Ok (or_enters None k way)) g)))
+      (steps_more k priced_at None None (Some (record { col = k; up = up })) h
+      (ap (λ o. o >>= λ way. Ok (or_enters None k way)) g)))
 
   pub none_enters : (k : ℕ) → steps k priced_at None ≡ Ok None → k ≡ all_columns t →
       entering_run (Some largest) f costs y t ≡ Ok None

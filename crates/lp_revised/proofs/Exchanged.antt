@@ -18,7 +18,12 @@ use Rattle.lp_revised.proofs.Flipped.{moves_are}
 module _ (starts : List (RowStart ℚ)) (s : Revised) (z : List ℚ) (p j : ℕ) (theta : ℚ) (to : Status) where
   abbrev new_state : List ℚ → Revised
   new_state shifted =
-      record { bare = exchanged (turned s.bare shifted [] []) p j to; pairs = with_pair s.pairs p z; replaced = suc s.replaced }
+      record {
+        bare = exchanged (turned s.bare shifted [] []) p j to;
+        pairs = with_pair s.pairs p z;
+        replaced = suc
+            s.replaced;
+      }
 
   abbrev after_moves : List ℚ → Run Revised
   after_moves values = shifted_run (Some largest) values j theta >>= λ shifted. Ok (new_state shifted)
@@ -35,14 +40,32 @@ module _ (starts : List (RowStart ℚ)) (s : Revised) (z : List ℚ) (p j : ℕ)
 
     pub exchanges : (v w x : Revised) → s.bare ≡ bare_of s.bare → WithValues s u →
         shifted_run (Some largest) u.bare.value j theta ≡ Ok v.bare.value → WithValues u v
-        → w ≡ record { bare = v.bare; pairs = with_pair v.pairs p z; replaced = v.replaced + 1 } → x ≡ record w { bare = exchanged w.bare p j to } → whole ≡ Ok x
+        → w ≡ record { bare = v.bare; pairs = with_pair v.pairs p z; replaced = v.replaced + 1 } → x ≡ record w
+        { bare = exchanged w.bare p j to } → whole ≡ Ok x
     exchanges v w x b f h g r is =
         let values : List ℚ = v.bare.value in
         ap (λ o. o >>= after_moves) m ∙ ap (λ o. o >>= λ shifted. Ok (new_state shifted)) h
-        ∙ ap (λ n. Ok (record { bare = exchanged (turned s.bare values [] []) p j to; pairs = with_pair s.pairs p z; replaced = n })) (let z : suc s.replaced ≡ s.replaced + 1 = omega arith in z)
-        ∙ ap (λ (t : Tableau). Ok (record { bare = exchanged (record t { value = values }) p j to; pairs = with_pair s.pairs p z; replaced = s.replaced + 1 })) (sym b)
-        ∙ ap (λ (y : Revised). Ok (record { bare = exchanged (record y.bare { value = values }) p j to; pairs = with_pair y.pairs p z; replaced = y.replaced + 1 })) (sym f)
-        ∙ ap (λ (y : Revised). Ok (record { bare = exchanged y.bare p j to; pairs = with_pair y.pairs p z; replaced = y.replaced + 1 })) (sym g)
+        ∙ ap (λ n. Ok (record {
+          bare = exchanged (turned s.bare values [] []) p j to;
+          pairs = with_pair s.pairs p z;
+          replaced = n;
+        })) (let z : suc s.replaced ≡ s.replaced + 1 = omega arith in z)
+        ∙ ap (λ (t : Tableau). Ok
+        (record {
+          bare = exchanged (record t { value = values }) p j to;
+          pairs = with_pair s.pairs p z;
+          replaced =
+              s.replaced + 1;
+        })) (sym b)
+        ∙ ap (λ (y : Revised). Ok
+        (record {
+          bare = exchanged (record y.bare { value = values }) p j to;
+          pairs = with_pair y.pairs p z;
+          replaced =
+              y.replaced + 1;
+        })) (sym f)
+        ∙ ap (λ (y : Revised). Ok
+        (record { bare = exchanged y.bare p j to; pairs = with_pair y.pairs p z; replaced = y.replaced + 1 })) (sym g)
         ∙ ap (λ (y : Revised). Ok (record y { bare = exchanged y.bare p j to })) (sym r) ∙ ap Ok (sym is)
 
   abbrev new_factors : List ℚ → Factors
@@ -50,16 +73,23 @@ module _ (starts : List (RowStart ℚ)) (s : Revised) (z : List ℚ) (p j : ℕ)
 
   abbrev with_factors : List ℚ → Factors → Run Revised
   with_factors shifted factors =
-      Ok (record { bare = exchanged (turned s.bare shifted [] []) p j to; pairs = factors.pairs; replaced = suc s.replaced })
+      Ok (record {
+        bare = exchanged (turned s.bare shifted [] []) p j to;
+        pairs = factors.pairs;
+        replaced = suc
+            s.replaced;
+      })
 
   abbrev by_solve : Run (List ℚ) → List ℚ → Run Revised
   by_solve solve values =
-      shifted_run (Some largest) values j theta >>= λ shifted. (solve >>= λ v. Ok (new_factors v)) >>= λ factors. with_factors shifted factors
+      shifted_run (Some largest) values j theta >>= λ shifted. (solve >>= λ v. Ok (new_factors v)) >>= λ factors.
+      with_factors shifted factors
 
   -- the exchange of the definition, where z is the column's solution
   pub exchange_is : (f : Form) → ftran_run (Some largest) s.bare.rows s.pairs (column_of f j) ≡ Ok z →
       exchange_run (Some largest) f s (seen starts s.bare j z) p j theta to ≡ whole
   unfolding exchange_run replace_run
   exchange_is f h =
-      ap (λ o. o >>= by_solve (ftran_run (Some largest) s.bare.rows s.pairs (column_of f j))) (sym (moves_are starts s z theta (Some p) j))
+      ap (λ o. o >>= by_solve (ftran_run (Some largest) s.bare.rows s.pairs (column_of f j)))
+      (sym (moves_are starts s z theta (Some p) j))
       ∙ ap (λ o. moves_by starts s.bare z theta (Some p) s.bare.rows >>= by_solve o) h

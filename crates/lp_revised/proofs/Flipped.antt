@@ -1,5 +1,6 @@
 -- The basic columns that move with one that is given by places, and flips.
-use Rattle.std.proofs.Common.{◌≡◌, ℕ, zero, suc, ◌<◌, List, get_or, set, Option, Some, None, Result, Ok, Err, Bool, false, cond, refl, sym, ap, ◌∙◌, arith}
+use Rattle.std.proofs.Common.{◌≡◌, ℕ, zero, suc, ◌<◌, List, get_or, set, Option, Some, None, Result, Ok, Err, Bool}
+use Rattle.std.proofs.Common.{false, cond, refl, sym, ap, ◌∙◌, arith}
 use Rattle.spec_exact.specs.Fraction.{ℚ, 0ℚ}
 use Rattle.spec_exact.specs.declared.past.Past.{Past}
 use Rattle.spec_pivot.specs.declared.status.Status.{Status}
@@ -42,8 +43,11 @@ module _ (starts : List (RowStart ℚ)) (s : Revised) (z : List ℚ) (theta : �
       moves_by starts s.bare z theta but s.bare.rows ≡ moved_run (Some largest) (seen starts s.bare j z) j theta but
   unfolding moved_run
   moves_are j =
-      steps_same s.bare.rows step_by (λ i values. cond (is_place but i) (Ok values) (moved_at (Some largest) (seen starts s.bare j z) j theta i values)) s.bare.value
-      (λ i values l. ap (λ a. cond (is_place but i) (Ok values) (less_product (Some largest) a theta (get_or values (basic_at s.bare i) 0ℚ) >>= λ v. Ok (set values (basic_at s.bare i) v))) (sym (seen_at starts s.bare j z i l)))
+      steps_same s.bare.rows step_by (λ i values. cond (is_place but i) (Ok values)
+      (moved_at (Some largest) (seen starts s.bare j z) j theta i values)) s.bare.value
+      (λ i values l. ap (λ a. cond (is_place but i) (Ok values)
+      (less_product (Some largest) a theta (get_or values (basic_at s.bare i) 0ℚ) >>= λ v. Ok
+      (set values (basic_at s.bare i) v))) (sym (seen_at starts s.bare j z i l)))
 
 module _ (starts : List (RowStart ℚ)) (s : Revised) (z : List ℚ) (j : ℕ) where
   abbrev sight : Tableau
@@ -56,7 +60,8 @@ module _ (starts : List (RowStart ℚ)) (s : Revised) (z : List ℚ) (j : ℕ) w
   unfolding flip_over_run
   flip_refused p h = ap (λ o. o >>= λ u. Ok (record s { bare = bare_of u })) (range_stops (Some largest) sight j p h)
 
-  module _ (r : ℚ) (h : range ≡ Ok r) (up : Bool) (w : up ≡ flip_way (status_at s.bare j)) (theta : ℚ) (d : theta ≡ directed up r) where
+  module _ (r : ℚ) (h : range ≡ Ok r) (up : Bool) (w : up ≡ flip_way (status_at s.bare j)) (theta : ℚ)
+      (d : theta ≡ directed up r) where
     pub flip_moves_refused : (p : Past ℚ) → moves_by starts s.bare z theta None s.bare.rows ≡ Err p →
         flip_over_run (Some largest) s sight j ≡ Err p
     unfolding flip_over_run
@@ -71,6 +76,7 @@ module _ (starts : List (RowStart ℚ)) (s : Revised) (z : List ℚ) (j : ℕ) w
     flips to u new t b m e is =
         let v = u.bare.value in
         ap (λ o. o >>= λ u. Ok (record s { bare = bare_of u }))
-        (flip_made (Some largest) sight j r h up w theta to (record sight { value = v }) (flipped (record sight { value = v }) j to v) d t (sym (moves_are starts s z theta None j) ∙ m) refl refl)
+        (flip_made (Some largest) sight j r h up w theta to (record sight { value = v })
+        (flipped (record sight { value = v }) j to v) d t (sym (moves_are starts s z theta None j) ∙ m) refl refl)
         ∙ ap (λ (x : Tableau). Ok (record s { bare = flipped (record x { value = v }) j to v })) (sym b)
         ∙ ap (λ (x : Revised). Ok (record x { bare = flipped x.bare j to v })) (sym e) ∙ ap Ok (sym is)

@@ -1,5 +1,6 @@
 -- A run of steps over factors by its first step.
-use Rattle.std.proofs.Common.{◌≡◌, ◌≢◌, ℕ, zero, suc, ◌+◌, ◌-◌, ◌<◌, List, Option, get_or, Some, None, Result, Ok, Err, refl, sym, ap, ◌∙◌, subst, arith}
+use Rattle.std.proofs.Common.{◌≡◌, ◌≢◌, ℕ, zero, suc, ◌+◌, ◌-◌, ◌<◌, List, Option, get_or, Some, None, Result, Ok, Err}
+use Rattle.std.proofs.Common.{refl, sym, ap, ◌∙◌, subst, arith}
 use Rattle.spec_exact.specs.Fraction.{ℚ, 0ℚ}
 use Rattle.spec_pivot.specs.declared.status.Status.{Status}
 use Rattle.spec_simplex.specs.declared.ends.RowStart.{RowStart}
@@ -56,7 +57,12 @@ module _ (f : Form) (starts : List (RowStart ℚ)) (costs : List ℚ) where
   module _ (s : Revised) (selected : Selected) (h : seen_from s ≡ Ok (selection_of starts s.bare selected)) where
     abbrev shown_by : Choice ℚ → Selection
     shown_by choice =
-        record { multipliers = selected.multipliers; tableau = tableau_of starts s.bare selected.column; choice = choice }
+        record {
+          multipliers = selected.multipliers;
+          tableau = tableau_of starts s.bare selected.column;
+          choice =
+              choice;
+        }
 
     pub run_ends : (left used : ℕ) (end : PrimalEnd) → selected.choice ≡ End end →
         from left used s ≡ Ok (record { end = end; state = s; selection = shown_by (End end); used = used })
@@ -64,7 +70,8 @@ module _ (f : Form) (starts : List (RowStart ℚ)) (costs : List ℚ) where
     run_ends zero used end c =
         ap (λ o. refused_as cause.Past o >>= λ x. over_or_spent s used x x.choice) (h ∙ ap (λ c. Ok (shown_by c)) c)
     run_ends (suc left) used end c =
-        ap (λ o. refused_as cause.Past o >>= λ x. over_or_next (Some largest) f s used (λ u. from left (used + 1) u) x x.choice)
+        ap (λ o. refused_as cause.Past o >>= λ x. over_or_next (Some largest) f s used (λ u. from left (used + 1) u) x
+        x.choice)
         (h ∙ ap (λ c. Ok (shown_by c)) c)
 
     spent_at : (used : ℕ) (x : Selection) (choice : Choice ℚ) → GoesOn choice →
@@ -90,7 +97,8 @@ module _ (f : Form) (starts : List (RowStart ℚ)) (costs : List ℚ) where
         from (suc left) used s ≡ (made_run f starts s selected.column selected.choice >>= λ u. from left (used + 1) u)
     unfolding over_from
     goes_on left used n =
-        ap (λ o. refused_as cause.Past o >>= λ x. over_or_next (Some largest) f s used (λ u. from left (used + 1) u) x x.choice) h
+        ap (λ o. refused_as cause.Past o >>= λ x. over_or_next (Some largest) f s used (λ u. from left (used + 1) u) x
+        x.choice) h
         ∙ next_at used (λ u. from left (used + 1) u) selected.choice selected.choice n
 
     -- where `used` of the budget are spent, and it is more
@@ -108,7 +116,8 @@ module _ (f : Form) (starts : List (RowStart ℚ)) (costs : List ℚ) where
         StopsRevised (from (budget - used) used s) e
     step_stops budget used e n l g =
         subst (λ r. StopsRevised r e) (sym (one_step budget used n l))
-        (stops_after (made_run f starts s selected.column selected.choice) (λ u. from (budget - (used + 1)) (used + 1) u) e g)
+        (stops_after (made_run f starts s selected.column selected.choice)
+        (λ u. from (budget - (used + 1)) (used + 1) u) e g)
 
     pub step_done : (budget used : ℕ) (u : Revised) → GoesOn selected.choice → used < budget →
         made_run f starts s selected.column selected.choice ≡ Ok u →
@@ -117,7 +126,8 @@ module _ (f : Form) (starts : List (RowStart ℚ)) (costs : List ℚ) where
         one_step budget used n l ∙ ap (λ o. o >>= λ u. from (budget - (used + 1)) (used + 1) u) g
 
 -- ---- what is done with a column that enters
-module _ (f : Form) (starts : List (RowStart ℚ)) (s : Revised) (c : Column) (choice : Choice ℚ) (can : CanDo f s (Some c) choice) where
+module _ (f : Form) (starts : List (RowStart ℚ)) (s : Revised) (c : Column) (choice : Choice ℚ)
+    (can : CanDo f s (Some c) choice) where
   pub solved_as : IsSolved f s c
   solved_as = can.0
 
@@ -141,7 +151,8 @@ module _ (f : Form) (starts : List (RowStart ℚ)) (s : Revised) (c : Column) (c
       ≡ pivot_over_run (Some largest) f s (seen starts s.bare c.number c.solved) p c.number theta to
   pivots_it p j theta to e =
       ap (made_run f starts s (Some c)) e
-      ∙ ap (λ j. pivot_over_run (Some largest) f s (seen starts s.bare c.number c.solved) p j theta to) (may_do p j theta to e).0
+      ∙ ap (λ j. pivot_over_run (Some largest) f s (seen starts s.bare c.number c.solved) p j theta to)
+      (may_do p j theta to e).0
 
   pub place_inside : (p j : ℕ) (theta : ℚ) (to : Status) → choice ≡ Pivot p j theta to → p < s.bare.rows
   place_inside p j theta to e = (may_do p j theta to e).1

@@ -17,7 +17,8 @@ use Rattle.lp_revised.specs.Moved.{exchanged_by}
 use Rattle.lp_revised.proofs.Exchanged.{exchange_is}
 use Rattle.lp_revised.proofs.Renewed.{stops_after}
 
-module _ (f : Form) (starts : List (RowStart ℚ)) (s : Revised) (z : List ℚ) (p j : ℕ) (theta : ℚ) (to : Status) (h : ftran_run (Some largest) s.bare.rows s.pairs (column_of f j) ≡ Ok z) where
+module _ (f : Form) (starts : List (RowStart ℚ)) (s : Revised) (z : List ℚ) (p j : ℕ) (theta : ℚ) (to : Status)
+    (h : ftran_run (Some largest) s.bare.rows s.pairs (column_of f j) ≡ Ok z) where
   abbrev exchange : Result Revised (RunStop ℚ)
   exchange = refused_as cause.Past (exchanged_by starts s z p j theta to)
 
@@ -26,7 +27,8 @@ module _ (f : Form) (starts : List (RowStart ℚ)) (s : Revised) (z : List ℚ) 
 
   from_exchange : (exchange >>= λ u. refreshed_run (Some largest) f u) ≡ whole
   from_exchange =
-      ap (λ o. refused_as cause.Past o >>= λ u. refreshed_run (Some largest) f u) (sym (exchange_is starts s z p j theta to f h))
+      ap (λ o. refused_as cause.Past o >>= λ u. refreshed_run (Some largest) f u)
+      (sym (exchange_is starts s z p j theta to f h))
 
   pub no_exchange : (e : RevisedStop) → StopsRevised exchange e → StopsRevised whole e
   no_exchange e k =
@@ -35,4 +37,5 @@ module _ (f : Form) (starts : List (RowStart ℚ)) (s : Revised) (z : List ℚ) 
   pub pivots : (u new : Revised) (result : Result ⊤ RevisedStop) → exchange ≡ Ok u →
       LeavesRevised (refreshed_run (Some largest) f u) new result → LeavesRevised whole new result
   pivots u new result k l =
-      subst (λ r. LeavesRevised r new result) (ap (λ o. o >>= λ u. refreshed_run (Some largest) f u) (sym k) ∙ from_exchange) l
+      subst (λ r. LeavesRevised r new result) (ap (λ o. o >>= λ u. refreshed_run (Some largest) f u) (sym k) ∙
+      from_exchange) l

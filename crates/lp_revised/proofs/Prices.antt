@@ -1,5 +1,6 @@
 -- Reduced costs over a column's entries alone: where the entry is 0 nothing happens.
-use Rattle.std.proofs.Common.{◌≡◌, ◌≢◌, ℕ, ◌+◌, ◌-◌, ◌<◌, ◌≤◌, List, [], length, get_or, All, Some, Ok, Err, refl, sym, ap, ap₂, ◌∙◌, subst, arith, eq-eqb, ne_eqb, lt-ltb, le-ltb}
+use Rattle.std.proofs.Common.{◌≡◌, ◌≢◌, ℕ, ◌+◌, ◌-◌, ◌<◌, ◌≤◌, List, [], length, get_or, All, Some, Ok, Err, refl, sym}
+use Rattle.std.proofs.Common.{ap, ap₂, ◌∙◌, subst, arith, eq-eqb, ne_eqb, lt-ltb, le-ltb}
 use Rattle.std.proofs.lemmas.List.{get_or_default}
 use Rattle.std.proofs.lemmas.List.Elements.{All-get_or}
 use Rattle.spec_exact.specs.Fraction.{ℚ, 0ℚ, 1ℚ, neg_ℚ}
@@ -15,7 +16,8 @@ use Rattle.spec_simplex.proofs.Stops.{steps_more, steps_stop}
 use Rattle.spec_factor.specs.Factors.{column_entry}
 use Rattle.spec_factor.specs.Revised.{price_run}
 use Rattle.lp_frac.specs.Narrow.{largest}
-use Rattle.lp_factor.proofs.Gaps.{Entries, row_at, value_at, bound, less_zero_right, entry_there, row_inside, bound_at, bound_end, bound_least, next_bound, none_first, none_between, steps_to}
+use Rattle.lp_factor.proofs.Gaps.{Entries, row_at, value_at, bound, less_zero_right, entry_there, row_inside, bound_at}
+use Rattle.lp_factor.proofs.Gaps.{bound_end, bound_least, next_bound, none_first, none_between, steps_to}
 
 abbrev pub price_at : Form → List ℚ → ℕ → ℕ → ℚ → Run ℚ
 price_at f y k i d = less_product (Some largest) (get_or y i 0ℚ) (column_entry f i k) d
@@ -42,7 +44,8 @@ module _ (f : Form) (costs y : List ℚ) (k : ℕ) (all : length y ≡ f.rows) (
     pub priced_first : (d : ℚ) → d ≡ cost_at costs k → IsNarrow d → PricedTo f costs y k es 0 d
     priced_first d e n = record {
       done = steps_to (price_at f y k) (cost_at costs k) d 0 (bound f.rows es 0) (ap Ok (sym e)) (omega arith)
-          (λ i _ l. let b = bound_least f.rows es h 0 in skipped i d (omega (arith, l, b)) (nothing i (none_first f.rows es h i l)) n);
+          (λ i _ l. let b = bound_least f.rows es h 0 in skipped i d (omega (arith, l, b))
+          (nothing i (none_first f.rows es h i l)) n);
       narrow = n;
     }
 
@@ -59,7 +62,8 @@ module _ (f : Form) (costs y : List ℚ) (k : ℕ) (all : length y ≡ f.rows) (
       pub item_in : item.0 < length y
       item_in = subst (λ n. item.0 < n) (sym all) (subst (λ r. r < f.rows) row_is (row_inside f.rows es h c here))
 
-      module _ (d : ℚ) (so_far : PricedTo f costs y k es c d) (x v : ℚ) (x_is : x ≡ get_or y item.0 x) (v_is : v ≡ neg_ℚ item.1) where
+      module _ (d : ℚ) (so_far : PricedTo f costs y k es c d) (x v : ℚ) (x_is : x ≡ get_or y item.0 x)
+          (v_is : v ≡ neg_ℚ item.1) where
         step_is : (r : Run ℚ) → less_product (Some largest) x v d ≡ r → price_at f y k (row_at es c) d ≡ r
         step_is r e =
             ap₂ (λ a b. less_product (Some largest) a b d)
@@ -74,7 +78,8 @@ module _ (f : Form) (costs y : List ℚ) (k : ℕ) (all : length y ≡ f.rows) (
         pub priced_stop : (p : Past ℚ) → less_product (Some largest) x v d ≡ Err p →
             price_run (Some largest) f costs y k ≡ Err p
         priced_stop p e =
-            steps_stop (row_at es c) f.rows (price_at f y k) (cost_at costs k) d p (row_inside f.rows es h c here) before (step_is (Err p) e)
+            steps_stop (row_at es c) f.rows (price_at f y k) (cost_at costs k) d p (row_inside f.rows es h c here)
+            before (step_is (Err p) e)
 
         pub priced_next : (r : ℚ) → less_product (Some largest) x v d ≡ Ok r → IsNarrow r →
             PricedTo f costs y k es (c + 1) r
@@ -82,8 +87,10 @@ module _ (f : Form) (costs y : List ℚ) (k : ℕ) (all : length y ≡ f.rows) (
           done =
               let l : row_at es c < bound f.rows es (c + 1) = next_bound f.rows es h c here in
               steps_to (price_at f y k) (cost_at costs k) r (row_at es c + 1) (bound f.rows es (c + 1))
-              (steps_more (row_at es c) (price_at f y k) (cost_at costs k) d r before (step_is (Ok r) e)) (omega (arith, l))
-              (λ i p q. let b = bound_least f.rows es h (c + 1) in skipped i r (omega (arith, q, b)) (nothing i (none_between f.rows es h c i here (omega (arith, p)) q)) n);
+              (steps_more (row_at es c) (price_at f y k) (cost_at costs k) d r before (step_is (Ok r) e))
+              (omega (arith, l))
+              (λ i p q. let b = bound_least f.rows es h (c + 1) in skipped i r (omega (arith, q, b))
+              (nothing i (none_between f.rows es h c i here (omega (arith, p)) q)) n);
           narrow = n;
         }
 
@@ -93,36 +100,38 @@ module _ (f : Form) (costs y : List ℚ) (k : ℕ) (all : length y ≡ f.rows) (
         subst (λ b. steps b (price_at f y k) (cost_at costs k) ≡ Ok d) (bound_end f.rows es h c l) p.done
 
   -- ---- a logical column
-  module _ (r : ℕ) (r_is : r ≡ k - f.cols) (out : f.cols ≤ k) (d : ℚ) (d_is : d ≡ cost_at costs k) (n : IsNarrow d) where
-    own : column_entry f r k ≡ 1ℚ
-    own = rw (le-ltb k f.cols out, eq-eqb r (k - f.cols) r_is) refl
+  module _ (r : ℕ) (r_is : r ≡ k - f.cols) (out : f.cols ≤ k) (d : ℚ) (d_is : d ≡ cost_at costs k) (n : IsNarrow d)
+    where
+      own : column_entry f r k ≡ 1ℚ
+      own = rw (le-ltb k f.cols out, eq-eqb r (k - f.cols) r_is) refl
 
-    other : (i : ℕ) → i ≢ r → column_entry f i k ≡ 0ℚ
-    other i e = rw (le-ltb k f.cols out, ne_eqb i (k - f.cols) (λ z. e (z ∙ sym r_is))) refl
+      other : (i : ℕ) → i ≢ r → column_entry f i k ≡ 0ℚ
+      other i e = rw (le-ltb k f.cols out, ne_eqb i (k - f.cols) (λ z. e (z ∙ sym r_is))) refl
 
-    -- an artificial has nothing in any row
-    pub priced_nothing : f.rows ≤ r → price_run (Some largest) f costs y k ≡ Ok d
-    priced_nothing l =
-        steps_to (price_at f y k) (cost_at costs k) d 0 f.rows (ap Ok (sym d_is)) (omega arith)
-        (λ i _ q. skipped i d q (other i (λ z. let w : ⊥ = omega (arith, q, l, z) in w)) n)
+      -- an artificial has nothing in any row
+      pub priced_nothing : f.rows ≤ r → price_run (Some largest) f costs y k ≡ Ok d
+      priced_nothing l =
+          steps_to (price_at f y k) (cost_at costs k) d 0 f.rows (ap Ok (sym d_is)) (omega arith)
+          (λ i _ q. skipped i d q (other i (λ z. let w : ⊥ = omega (arith, q, l, z) in w)) n)
 
-    module _ (here : r < f.rows) (x v : ℚ) (x_is : x ≡ get_or y r x) (v_is : v ≡ 1ℚ) where
-      begun : steps r (price_at f y k) (cost_at costs k) ≡ Ok d
-      begun =
-          steps_to (price_at f y k) (cost_at costs k) d 0 r (ap Ok (sym d_is)) (omega arith)
-          (λ i _ q. skipped i d (omega (arith, q, here)) (other i (λ z. let w : ⊥ = omega (arith, q, z) in w)) n)
+      module _ (here : r < f.rows) (x v : ℚ) (x_is : x ≡ get_or y r x) (v_is : v ≡ 1ℚ) where
+        begun : steps r (price_at f y k) (cost_at costs k) ≡ Ok d
+        begun =
+            steps_to (price_at f y k) (cost_at costs k) d 0 r (ap Ok (sym d_is)) (omega arith)
+            (λ i _ q. skipped i d (omega (arith, q, here)) (other i (λ z. let w : ⊥ = omega (arith, q, z) in w)) n)
 
-      step_own : (o : Run ℚ) → less_product (Some largest) x v d ≡ o → price_at f y k r d ≡ o
-      step_own o e =
-          ap₂ (λ a b. less_product (Some largest) a b d)
-          (sym (x_is ∙ get_or_default y r x 0ℚ (subst (λ m. r < m) (sym all) here))) (own ∙ sym v_is) ∙ e
+        step_own : (o : Run ℚ) → less_product (Some largest) x v d ≡ o → price_at f y k r d ≡ o
+        step_own o e =
+            ap₂ (λ a b. less_product (Some largest) a b d)
+            (sym (x_is ∙ get_or_default y r x 0ℚ (subst (λ m. r < m) (sym all) here))) (own ∙ sym v_is) ∙ e
 
-      pub logical_stop : (p : Past ℚ) → less_product (Some largest) x v d ≡ Err p →
-          price_run (Some largest) f costs y k ≡ Err p
-      logical_stop p e = steps_stop r f.rows (price_at f y k) (cost_at costs k) d p here begun (step_own (Err p) e)
+        pub logical_stop : (p : Past ℚ) → less_product (Some largest) x v d ≡ Err p →
+            price_run (Some largest) f costs y k ≡ Err p
+        logical_stop p e = steps_stop r f.rows (price_at f y k) (cost_at costs k) d p here begun (step_own (Err p) e)
 
-      pub logical_priced : (w : ℚ) → less_product (Some largest) x v d ≡ Ok w → IsNarrow w →
-          price_run (Some largest) f costs y k ≡ Ok w
-      logical_priced w e m =
-          steps_to (price_at f y k) (cost_at costs k) w (r + 1) f.rows (steps_more r (price_at f y k) (cost_at costs k) d w begun (step_own (Ok w) e)) (omega (arith, here))
-          (λ i p q. skipped i w q (other i (λ z. let u : ⊥ = omega (arith, p, z) in u)) m)
+        pub logical_priced : (w : ℚ) → less_product (Some largest) x v d ≡ Ok w → IsNarrow w →
+            price_run (Some largest) f costs y k ≡ Ok w
+        logical_priced w e m =
+            steps_to (price_at f y k) (cost_at costs k) w (r + 1) f.rows (steps_more r (price_at f y k) (cost_at costs k)
+            d w begun (step_own (Ok w) e)) (omega (arith, here))
+            (λ i p q. skipped i w q (other i (λ z. let u : ⊥ = omega (arith, p, z) in u)) m)

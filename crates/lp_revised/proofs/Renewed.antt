@@ -30,20 +30,29 @@ pub basis_long : (t : Tableau) (f : Form) (basis : List Status) → basis ≡ fa
 basis_long t f basis b r c = ap length b ∙ length-made (form_columns t) (basis_status t) ∙ sym (ap₂ (λ m n. m + n) c r)
 
 module _ (f : Form) (now : Revised) (basis : List Status) (b : basis ≡ factor_basis now.bare) where
-  by_basis : (factor_stop (factor_run (Some largest) f basis) >>= λ s. Ok (refactored now.bare s)) ≡ refactor_run (Some largest) f now.bare
+  by_basis : (factor_stop (factor_run (Some largest) f basis) >>= λ s. Ok (refactored now.bare s)) ≡ refactor_run
+      (Some largest) f now.bare
   unfolding refactor_run
   by_basis = ap (λ basis. factor_stop (factor_run (Some largest) f basis) >>= λ s. Ok (refactored now.bare s)) b
 
   pub no_factors : (e : RevisedStop) → StopsRevised (factor_stop (factor_run (Some largest) f basis)) e →
       StopsRevised (refactor_run (Some largest) f now.bare) e
   no_factors e h =
-      subst (λ r. StopsRevised r e) by_basis (stops_after (factor_stop (factor_run (Some largest) f basis)) (λ s. Ok (refactored now.bare s)) e h)
+      subst (λ r. StopsRevised r e) by_basis (stops_after (factor_stop (factor_run (Some largest) f basis))
+      (λ s. Ok (refactored now.bare s)) e h)
 
   pub renewed : (old : Revised) (factors : Factors) (items : List ℕ) → old ≡ now →
       factor_stop (factor_run (Some largest) f basis) ≡ Ok factors →
       items ≡ map (λ k. standing now.bare k) factors.basic
-      → refactor_run (Some largest) f now.bare ≡ Ok (record { bare = record old.bare { basic = items }; pairs = factors.pairs; replaced = 0 })
+      → refactor_run (Some largest) f now.bare ≡ Ok
+      (record { bare = record old.bare { basic = items }; pairs = factors.pairs; replaced = 0 })
   renewed old factors items v h i =
       sym by_basis ∙ ap (λ o. o >>= λ s. Ok (refactored now.bare s)) h
-      ∙ ap (λ (y : Revised). Ok (record { bare = record y.bare { basic = map (λ k. standing now.bare k) factors.basic }; pairs = factors.pairs; replaced = 0 })) (sym v)
-      ∙ ap (λ items. Ok (record { bare = record old.bare { basic = items }; pairs = factors.pairs; replaced = 0 })) (sym i)
+      ∙ ap (λ (y : Revised). Ok
+      (record {
+        bare = record y.bare { basic = map (λ k. standing now.bare k) factors.basic };
+        pairs = factors.pairs;
+        replaced = 0;
+      })) (sym v)
+      ∙ ap (λ items. Ok (record { bare = record old.bare { basic = items }; pairs = factors.pairs; replaced = 0 }))
+      (sym i)

@@ -10,6 +10,7 @@ use Rattle.spec_factor.specs.Revised.{seen_entry, seen}
 pub seen_at : (starts : List (RowStart ℚ)) (t : Tableau) (j : ℕ) (z : List ℚ) (p : ℕ) → p < t.rows →
     entry_at (seen starts t j z) p j ≡ seen_entry starts t z p
 seen_at starts t j z p l =
-    ap (λ xs. get_or xs j 0ℚ) (get_or-made t.rows (λ p. made (suc j) (λ k. cond (nat_eq k j) (seen_entry starts t z p) 0ℚ)) p [] l)
+    ap (λ xs. get_or xs j 0ℚ)
+    (get_or-made t.rows (λ p. made (suc j) (λ k. cond (nat_eq k j) (seen_entry starts t z p) 0ℚ)) p [] l)
     ∙ get_or-made (suc j) (λ k. cond (nat_eq k j) (seen_entry starts t z p) 0ℚ) j 0ℚ (omega arith)
     ∙ rw (eq-eqb j j refl) refl

@@ -16,7 +16,8 @@ use Rattle.spec_simplex.specs.Run.{Run, ◌>>=◌, refused_as}
 use Rattle.spec_simplex.specs.Tableau.{Tableau, basic_at}
 use Rattle.spec_simplex.specs.Step.{best_run, choice_by}
 use Rattle.spec_factor.specs.Factors.{column_of, ftran_run}
-use Rattle.spec_factor.specs.Revised.{Revised, sign_of, seen, multipliers_run, entering_run, Selection, selection_with, selection_run}
+use Rattle.spec_factor.specs.Revised.{Revised, sign_of, seen, multipliers_run, entering_run, Selection, selection_with}
+use Rattle.spec_factor.specs.Revised.{selection_run}
 use Rattle.lp_frac.specs.Narrow.{largest}
 use Rattle.lp_primal.proofs.Ratios.{StopsBy, best_is}
 use Rattle.lp_revised.specs.declared.stop.RevisedStop.{RevisedStop}
@@ -45,8 +46,13 @@ pub entry_there : (starts : List (RowStart ℚ)) (t : Tableau) (z : List ℚ) (e
     → (p < t.rows) × (get_or z p 0ℚ ≢ 0ℚ)
 entry_there starts t z e best p h is =
     let known : StopsBy (seen starts t e.col z) e best.ratio best.to (Some p) =
-    subst (StopsBy (seen starts t e.col z) e best.ratio best.to) is (best_is (Some largest) (seen starts t e.col z) e (Some best) h) in
-    (known.place, λ w. known.entry (seen_at starts t e.col z p known.place ∙ ap (λ x. sign_of starts t (basic_at t p) *ℚ x) w ∙ *ℚ_zero (sign_of starts t (basic_at t p))))
+    subst (StopsBy (seen starts t e.col z) e best.ratio best.to) is (best_is (Some largest) (seen starts t e.col z) e
+    (Some best) h) in (
+      known.place,
+      λ w. known.entry
+          (seen_at starts t e.col z p known.place ∙ ap (λ x. sign_of starts t (basic_at t p) *ℚ x) w ∙ *ℚ_zero
+          (sign_of starts t (basic_at t p))),
+    )
 
 module _ (f : Form) (starts : List (RowStart ℚ)) (costs : List ℚ) (s : Revised) where
   abbrev whole : Run Selection
@@ -61,7 +67,8 @@ module _ (f : Form) (starts : List (RowStart ℚ)) (costs : List ℚ) (s : Revis
   unfolding selection_run
   no_multipliers e h = stops_on (multipliers_run (Some largest) starts costs s) on_from e h
 
-  module _ (y : List ℚ) (y_is : refused_as {E = RunStop ℚ} cause.Past (multipliers_run (Some largest) starts costs s) ≡ Ok y) where
+  module _ (y : List ℚ) (y_is : refused_as {E = RunStop ℚ} cause.Past (multipliers_run (Some largest) starts costs s) ≡
+      Ok y) where
     from_y : whole ≡ on_from y
     unfolding selection_run
     from_y = ap (λ o. o >>= on_from) (gives (multipliers_run (Some largest) starts costs s) y y_is)
@@ -108,7 +115,8 @@ module _ (f : Form) (starts : List (RowStart ℚ)) (costs : List ℚ) (s : Revis
         selected choice h = from_z ∙ by (best_run (Some largest) (seen starts s.bare e.col z) e) h
           where
             by : (o : Run (Option (Best ℚ))) → (o >>= λ best. Ok (choice_by e best)) ≡ Ok choice →
-                (o >>= λ best. Ok (sees_with z best)) ≡ Ok (record { multipliers = y; tableau = seen starts s.bare e.col z; choice = choice })
+                (o >>= λ best. Ok (sees_with z best)) ≡ Ok
+                (record { multipliers = y; tableau = seen starts s.bare e.col z; choice = choice })
             by (Ok b) h =
                 let w : choice_by e b ≡ choice = cc in
                 ap (λ c. Ok (record { multipliers = y; tableau = seen starts s.bare e.col z; choice = c })) w

@@ -36,8 +36,10 @@ module _ (starts : List (RowStart ℚ)) (t : Tableau) (k : ℕ) (v : ℚ) where
   pub above_as_it_is : (g : ℚ) → sign_of starts t k ≡ logical_sign (Above g) → v ≡ sign_of starts t k *ℚ v
   above_as_it_is g e = one_times v ∙ ap (λ a. a *ℚ v) (sym e)
 
-pub multipliers_are : (starts : List (RowStart ℚ)) (costs : List ℚ) (s : Revised) (places : ℕ) (pairs : List Pair) (list : List ℚ) (r : Run (List ℚ))
-    → places ≡ s.bare.rows → pairs ≡ s.pairs → list ≡ basic_costs starts costs s.bare → btran_run (Some largest) places pairs list ≡ r → multipliers_run (Some largest) starts costs s ≡ r
+pub multipliers_are : (starts : List (RowStart ℚ)) (costs : List ℚ) (s : Revised) (places : ℕ) (pairs : List Pair)
+    (list : List ℚ) (r : Run (List ℚ))
+    → places ≡ s.bare.rows → pairs ≡ s.pairs → list ≡ basic_costs starts costs s.bare → btran_run (Some largest) places
+    pairs list ≡ r → multipliers_run (Some largest) starts costs s ≡ r
 unfolding multipliers_run
 multipliers_are starts costs s places pairs list r p q l h =
     ap (λ m. btran_run (Some largest) m s.pairs (basic_costs starts costs s.bare)) (sym p)

@@ -36,7 +36,8 @@ module _ (budget : ℕ) (m : Model) (f : Form) (formed : form_of (Some largest) 
       (λ p. absurd (n p.0 (sym h ∙ p.1)))
       ((over_agrees (Some largest) budget f).same)
 
-  pub ends_whole : (result : Result RunEnd RevisedStop) → EndsOver limited result → EndsWhole (phases_run None budget f) result
+  pub ends_whole : (result : Result RunEnd RevisedStop) → EndsOver limited result → EndsWhole
+      (phases_run None budget f) result
   ends_whole (Ok e) h =
       is_whole (Ok (over_end e)) h (λ p z. let y : ◌≡◌ {A = Outcome} (Ok (over_end e)) (Err (cause.Past p)) = z in cc)
   ends_whole (Err (stop.Past p)) h = tt

@@ -27,8 +27,6 @@ mod select;
 mod state;
 mod steps;
 mod stop;
-#[cfg(test)]
-mod tests;
 
 pub use cold_run::{RunEnd, cold};
 pub use ends::Certificate;

@@ -24,7 +24,8 @@ pub returns-in_err-refactor-clause-run : goal.returns-in_err-refactor-clause-run
 returns-in_err-refactor-clause-run c =
     let p = err_from_is_err_and c.from_residual-in_err-refactor.result c.from_residual-in_err-refactor.ensures.1 in
     let b = c.in_ok-state.ensures ∙ ap (λ v. bare_of (begun c.args.form.now v)) c.deref.ensures.value in
-    rw (p.1, p.2) (factors_stop c.args.budget c.args.form.now c.in_ok-starts.starts.items c.in_ok-state.state c.in_ok-starts.ensures.ok b
+    rw (p.1, p.2) (factors_stop c.args.budget c.args.form.now c.in_ok-starts.starts.items c.in_ok-state.state
+    c.in_ok-starts.ensures.ok b
     c.in_err-refactor.field-0.0 c.in_err-refactor.ensures.run)
 
 pub phases-requires-clause-starts : goal.phases-requires-clause-starts
@@ -35,16 +36,20 @@ phases-requires-clause-starts c =
 pub returns-clause-run : goal.returns-clause-run
 returns-clause-run c =
     let b = c.in_ok-state.ensures ∙ ap (λ v. bare_of (begun c.args.form.now v)) c.deref.ensures.value in
-    runs_whole c.args.budget c.args.form.now c.in_ok-starts.starts.items c.in_ok-state.state c.in_ok-starts.ensures.ok b c.refactor.new.self
+    runs_whole c.args.budget c.args.form.now c.in_ok-starts.starts.items c.in_ok-state.state c.in_ok-starts.ensures.ok
+    b c.refactor.new.self
     c.phases.result c.in_ok-refactor.ensures.run
-    (subst (λ v. EndsOver (over_phases (Some largest) c.args.budget c.args.form.now v c.refactor.new.self) c.phases.result)
+    (subst (λ v. EndsOver (over_phases (Some largest) c.args.budget c.args.form.now v c.refactor.new.self)
+    c.phases.result)
     c.deref-2.ensures.value c.phases.ensures.run)
 
 pub returns-in_err-starts-clause-whole : goal.returns-in_err-starts-clause-whole
-returns-in_err-starts-clause-whole c m e = ends_whole c.args.budget m c.args.form.now e _ (returns-in_err-starts-clause-run c)
+returns-in_err-starts-clause-whole c m e = ends_whole c.args.budget m c.args.form.now e _
+    (returns-in_err-starts-clause-run c)
 
 pub returns-in_err-refactor-clause-whole : goal.returns-in_err-refactor-clause-whole
-returns-in_err-refactor-clause-whole c m e = ends_whole c.args.budget m c.args.form.now e _ (returns-in_err-refactor-clause-run c)
+returns-in_err-refactor-clause-whole c m e = ends_whole c.args.budget m c.args.form.now e _
+    (returns-in_err-refactor-clause-run c)
 
 pub returns-clause-whole : goal.returns-clause-whole
 returns-clause-whole c m e = ends_whole c.args.budget m c.args.form.now e c.phases.result (returns-clause-run c)

@@ -10,4 +10,5 @@ use Rattle.lp_revised.proofs.state.Revised.basic_costs.Given as goal
 -- the costs of the positions so far
 abbrev pub invariant-loop-place : goal.invariant-loop-place
 invariant-loop-place l =
-    l.list ≡ made l.place (λ p. sign_of l.starts l.self.bare (basic_at l.self.bare p) *ℚ cost_at l.costs (basic_at l.self.bare p))
+    l.list ≡ made l.place (λ p. sign_of l.starts l.self.bare (basic_at l.self.bare p) *ℚ cost_at l.costs
+    (basic_at l.self.bare p))

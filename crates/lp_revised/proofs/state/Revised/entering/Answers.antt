@@ -8,13 +8,17 @@ pub returns-in_err-up-clause-value : goal.returns-in_err-up-clause-value
 returns-in_err-up-clause-value c =
     let p = err_from_is_err_and c.from_residual.result c.from_residual.ensures.1 in
     rw (p.1, p.2)
-    (sym (way_refused c.args.form.now c.args.costs.now c.args.y.now c.args.self.now.bare c.loop-col.col _ c.loop-col.invariant (omega (arith, c.loop-col-test.true, c.width-col-end.ensures.value)) (sym c.in_err-up.ensures)))
+    (sym (way_refused c.args.form.now c.args.costs.now c.args.y.now c.args.self.now.bare c.loop-col.col _
+    c.loop-col.invariant (omega (arith, c.loop-col-test.true, c.width-col-end.ensures.value))
+    (sym c.in_err-up.ensures)))
 
 pub returns-in-Some-clause-value : goal.returns-in-Some-clause-value
 returns-in-Some-clause-value c =
     let step = rw c.in-Some.is at c.in_ok-up.ensures in
-    sym (enters c.args.form.now c.args.costs.now c.args.y.now c.args.self.now.bare c.loop-col.col c.in-Some.up c.loop-col.invariant (omega (arith, c.loop-col-test.true, c.width-col-end.ensures.value)) (sym step))
+    sym (enters c.args.form.now c.args.costs.now c.args.y.now c.args.self.now.bare c.loop-col.col c.in-Some.up
+    c.loop-col.invariant (omega (arith, c.loop-col-test.true, c.width-col-end.ensures.value)) (sym step))
 
 pub returns-clause-value : goal.returns-clause-value
 returns-clause-value c =
-    sym (none_enters c.args.form.now c.args.costs.now c.args.y.now c.args.self.now.bare c.loop-col.col c.loop-col.invariant (omega (arith, c.loop-col-test.false, c.loop-col.auto.col-end, c.width-col-end.ensures.value)))
+    sym (none_enters c.args.form.now c.args.costs.now c.args.y.now c.args.self.now.bare c.loop-col.col
+    c.loop-col.invariant (omega (arith, c.loop-col-test.false, c.loop-col.auto.col-end, c.width-col-end.ensures.value)))

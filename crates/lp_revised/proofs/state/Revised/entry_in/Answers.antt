@@ -8,4 +8,5 @@ pub returns : goal.returns
 returns c =
     c.entry.ensures
     ∙ ap (λ z. seen_entry c.args.starts.now c.args.self.now.bare z c.args.place) c.as_slice.ensures
-    ∙ sym (seen_at c.args.starts.now c.args.self.now.bare c.args.column.now.number c.args.column.now.solved c.args.place c.requires.place)
+    ∙ sym (seen_at c.args.starts.now c.args.self.now.bare c.args.column.now.number c.args.column.now.solved
+    c.args.place c.requires.place)
