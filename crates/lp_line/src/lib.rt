@@ -8,9 +8,7 @@
 //! | `hear`, `Heard` | reads lines up to the one at which something is said | src/hearing, specs/Hearing |
 //! | `Stage`, `Step` | what was read so far, and where the next line leads | src/hearing, src/stages, src/script |
 //! | `take`, `Taken` | reads the lines of the next ask | src/taking, specs/Takes |
-//! | `workers_of`, `places_of` | how many workers and places a word of the command line gives | src/words |
-//! | `seed_of` | the seed that a word of the command line gives | src/words |
-//! | `row_count_of`, `column_count_of` | how many rows and columns a word of the command line gives | src/words |
+//! | `number_to` | the number that a word gives | src/words |
 //! | `print` | writes a session's reply | src/printing |
 //! | `print_said` | writes a reply without a session | src/printing |
 //! | `print_lines` | writes lines | src/printing |
@@ -40,4 +38,4 @@ pub use printing::{print, print_lines, print_said};
 pub use spec_server::{Addressing, How, LineFault, Publication};
 pub use stages::{CertificateSaid, TextSaid};
 pub use taking::{Taken, take};
-pub use words::{column_count_of, places_of, row_count_of, seed_of, workers_of};
+pub use words::number_to;

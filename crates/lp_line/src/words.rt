@@ -1,7 +1,6 @@
-// The words of command lines.
+// The words of lines.
 ghost use Rattle.std.specs.Prelude.{◌≡◌, ◌≤◌};
 ghost use Rattle.spec_server.specs.Command as commands;
-ghost use Rattle.spec_server.specs.CommandLine as command_lines;
 ghost use Rattle.lp_line.specs.EditWords as edits;
 
 use lp_base::are_same;
@@ -23,8 +22,8 @@ fn begins_with_zero(text: &[u8]) -> bool
     }
 }
 
-// A number from 1 to the last one, of at most this many digits.
-fn number_to(last: u32, digits: usize, text: &[u8]) -> Option<u32>
+/// A number from 1 to the last one, of at most this many digits.
+pub fn number_to(last: u32, digits: usize, text: &[u8]) -> Option<u32>
     requires { last ≤ 1000000 }
     ensures { result ≡ commands.number_to last digits text.now }
 {
@@ -58,49 +57,6 @@ pub(crate) fn budget_of(word: &[u8]) -> Option<u32>
     ensures { result ≡ commands.budget_of word.now }
 {
     number_to(1_000_000, 7, word)
-}
-
-/// How many workers a word gives, 1 to 16.
-#[tactic(auto, unfolding(spec_server::specs::CommandLine::workers_of))]
-pub fn workers_of(word: &[u8]) -> Option<u32>
-    ensures { result ≡ command_lines.workers_of word.now }
-{
-    number_to(16, 2, word)
-}
-
-/// How many places a word gives, 1 to 1,024.
-#[tactic(auto, unfolding(spec_server::specs::CommandLine::places_of))]
-pub fn places_of(word: &[u8]) -> Option<u32>
-    ensures { result ≡ command_lines.places_of word.now }
-{
-    number_to(1024, 7, word)
-}
-
-/// The seed that a word gives, 0 to 1,000,000.
-#[tactic(auto, unfolding(spec_server::specs::CommandLine::seed_of))]
-pub fn seed_of(word: &[u8]) -> Option<u32>
-    ensures { result ≡ command_lines.seed_of word.now }
-{
-    if are_same(word, b"0") {
-        return Some(0);
-    }
-    number_to(1_000_000, 7, word)
-}
-
-/// How many rows a word gives, 1 to 256.
-#[tactic(auto, unfolding(spec_server::specs::CommandLine::row_count_of))]
-pub fn row_count_of(word: &[u8]) -> Option<u32>
-    ensures { result ≡ command_lines.row_count_of word.now }
-{
-    number_to(256, 3, word)
-}
-
-/// How many columns a word gives, 1 to 512.
-#[tactic(auto, unfolding(spec_server::specs::CommandLine::column_count_of))]
-pub fn column_count_of(word: &[u8]) -> Option<u32>
-    ensures { result ≡ command_lines.column_count_of word.now }
-{
-    number_to(512, 3, word)
 }
 
 /// The form that a word names.

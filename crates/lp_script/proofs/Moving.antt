@@ -23,7 +23,7 @@ use Rattle.lp_base.specs.Taking.{ReadsAll, ReadsFront, ReadsPart}
 use Rattle.lp_script.specs.declared.halt.Halt.{Halt}
 use Rattle.lp_script.specs.declared.halt.Halt.TheVariants as halts
 use Rattle.lp_script.specs.Run.{Moves, EndsWith, EndsInput, BreaksOff, EndsSo}
-use Rattle.lp_script.specs.Streams.{Streams, streams}
+use Rattle.spec_server.specs.Streams.{Streams, streams}
 use Rattle.lp_script.proofs.SoFar.{IsSoFar, goes_on}
 
 -- ---- scripts by their length

@@ -24,7 +24,7 @@ use Rattle.lp_script.specs.declared.halt.Halt.TheVariants as halts
 use Rattle.lp_script.specs.Replies.{lines_of_reply, replies_out}
 use Rattle.lp_script.specs.Run.{Moves, EndsSo}
 use Rattle.lp_script.specs.Script.{IsRead, ReadsSome}
-use Rattle.lp_script.specs.Streams.{streams}
+use Rattle.spec_server.specs.Streams.{streams}
 use Rattle.lp_script.proofs.Moving.{moves_in_part, moves_broken_off, moves_all, moves_past, whole_front}
 
 -- ---- the replies as they are written

@@ -1,4 +1,3 @@
-pub mod Streams
 pub mod Halt
 pub mod Answer
 pub mod Run

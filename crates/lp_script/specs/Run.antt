@@ -11,7 +11,7 @@ use Rattle.spec_server.specs.Output.{script_out}
 use Rattle.spec_world.specs.Workers.{RunsBy}
 use Rattle.lp_script.specs.declared.halt.Halt.{Halt}
 use Rattle.lp_script.specs.declared.halt.Halt.TheVariants as halts
-use Rattle.lp_script.specs.Streams.{Streams}
+use Rattle.spec_server.specs.Streams.{Streams}
 
 -- so many places may be shared, and so many workers may share them
 abbrev pub IsPlaces : ℕ → Type 0

@@ -2,7 +2,7 @@
 ghost use Rattle.std.specs.Prelude.{IsErrOf};
 ghost use Rattle.lp_base.specs.Causes.{Rose};
 ghost use Rattle.lp_script.specs.Run.{IsPlaces, Runs};
-ghost use Rattle.lp_script.specs.Streams.{streams};
+ghost use Rattle.spec_server.specs.Streams.{streams};
 
 use crate::answer::answer;
 use crate::halt::Halt;

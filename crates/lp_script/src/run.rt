@@ -2,7 +2,7 @@
 ghost use Rattle.std.specs.Prelude.{IsErrOf};
 ghost use Rattle.lp_base.specs.Causes.{Rose};
 ghost use Rattle.lp_script.specs.Run.{IsPlaces, IsWorkers, Runs};
-ghost use Rattle.lp_script.specs.Streams.{streams};
+ghost use Rattle.spec_server.specs.Streams.{streams};
 
 use crate::halt::Halt;
 use crate::in_order::run_in_order;

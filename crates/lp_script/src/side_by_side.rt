@@ -5,7 +5,7 @@ ghost use Rattle.lp_base.specs.Beside.{Takes};
 ghost use Rattle.lp_base.specs.Causes.{Rose};
 ghost use Rattle.lp_script.specs.Replies.{replies_out};
 ghost use Rattle.lp_script.specs.Run.{IsPlaces, IsWorkers, Runs};
-ghost use Rattle.lp_script.specs.Streams.{streams};
+ghost use Rattle.spec_server.specs.Streams.{streams};
 
 use crate::answer::write_reply;
 use crate::halt::Halt;

@@ -1,7 +1,7 @@
 -- One worker answers each ask before the next one is read.
 use Rattle.std.proofs.Common.{ℕ, subst, sym}
 use Rattle.lp_script.specs.Run.{Runs}
-use Rattle.lp_script.specs.Streams.{streams}
+use Rattle.spec_server.specs.Streams.{streams}
 use Rattle.lp_script.proofs.run.run_script.Goals as goal
 
 pub returns-then-workers-eq1-clause-output : goal.returns-then-workers-eq1-clause-output

@@ -1,0 +1,3 @@
+-- Lemmas.
+pub mod OptionLemmas
+pub mod Asking

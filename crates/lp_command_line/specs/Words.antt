@@ -1,0 +1,40 @@
+-- The words of a command line, as they are cut up.
+use Rattle.std.specs.Prelude.{ℕ, ◌≡◌, ◌&&◌, Bool, true, false, not, List, [], ◌∷◌, map, Option, Some, None, is_some}
+use Rattle.std.specs.Prelude.{string_bytes, if◌then◌else◌}
+use Rattle.spec_text.specs.Words.{same}
+use denote.Ref.{Bor}
+use Rattle.spec_program.specs.CommandLine.{Options, Address, in_pairs, is_one_of}
+use Rattle.spec_program.specs.CommandLine as command_lines
+use Rattle.lp_command_line.specs.declared.line.Given.{Given}
+use Rattle.lp_command_line.specs.declared.listening.Serving.{Serving}
+
+abbrev pub bytes_of : List (Bor (List ℕ)) → List (List ℕ)
+bytes_of names = map (λ name. name.now) names
+
+-- the value after an option's name, option by option
+abbrev pub value_in : List ℕ → List (List ℕ) → Option (List ℕ)
+value_in name (option ∷ value ∷ words) = if same name option then Some value else value_in name words
+value_in name words = None
+
+-- it has one of these names, and is not given again in the words after it
+abbrev pub is_new_option : List ℕ → List (List ℕ) → List (List ℕ) → Bool
+is_new_option option names behind = is_one_of option names && not (is_some (value_in option behind))
+
+-- whether the words are options with these names, none of them given twice, option by option
+abbrev pub are_in : List (List ℕ) → List (List ℕ) → Bool
+are_in names [] = true
+are_in names (option ∷ []) = false
+are_in names (option ∷ value ∷ words) = if is_new_option option names words then are_in names words else false
+
+-- what the words give, by their plain words and the words of their options
+abbrev pub IsGiven : Option command_lines.Given → Option Given → Type 0
+IsGiven is None = is ≡ None
+IsGiven is (Some given) =
+    (options : Options) ×
+    (is ≡ Some (record { plain = map string_bytes given.plain.now; options = options })) ×
+    (in_pairs (map string_bytes given.options.now) ≡ Some options)
+
+-- where a server listens, as the code has it
+abbrev pub planned : Option Serving → Option Address
+planned None = None
+planned (Some serving) = Some (record { address = string_bytes serving.address.now; workers = serving.workers })

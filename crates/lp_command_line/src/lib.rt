@@ -1,0 +1,15 @@
+//! The words of the program's command line.
+//!
+//! | Item | What it is | Where |
+//! |---|---|---|
+//! | `command_line_of` | what the words ask, if they are a command line | src/line |
+//! | `plan`, `Serving` | at which address a server listens, and for how many workers | src/listening |
+//! | `IsGiven`, `are_in` | the words as they are cut up | specs/Words |
+#![tactic(auto)]
+
+mod line;
+mod listening;
+mod numbers;
+
+pub use line::command_line_of;
+pub use listening::{Serving, plan};

@@ -1,0 +1,196 @@
+-- The numbers of a command line are within their limits.
+use Rattle.std.proofs.Common.{◌≡◌, ℕ, ◌+◌, ◌-◌, ◌*◌, ◌≤◌, Bool, true, false, ◌&&◌, not, cond, nat_le, nat_lt, arith}
+use Rattle.std.proofs.Common.{List, [], ◌∷◌, length, Option, Some, None, refl, subst, ⊎_elim}
+use Rattle.std.specs.Prelude.{codes, option_map, option_and_then}
+use Rattle.std.specs.List.{list_all}
+use Rattle.std.proofs.lemmas.Bool.{leb-true, eqb-false, and_parts, not-true, cases_lt}
+use Rattle.spec_text.specs.Words.{same}
+use Rattle.spec_mps.specs.declared.style.Style.{Style}
+use Rattle.spec_mps.specs.NumberText.{spelled_from}
+use Rattle.spec_mps.specs.Shapes.{look_up}
+use Rattle.spec_server.specs.Command.{is_digit, begins_with_zero, number_to}
+use Rattle.spec_program.specs.CommandLine.{Word, Given, given_in, form_given, workers_of, workers_given, places_of}
+use Rattle.spec_program.specs.CommandLine.{places_given, links_of, links_given, seed_of, row_count_of, column_count_of}
+use Rattle.spec_program.specs.CommandLine.{Options, Row, is_address, run_by, run_row, text_row, generate_by}
+use Rattle.spec_program.specs.CommandLine.{generate_with, generate_row, serve_by, serve_with, serve_row, asked_by}
+use Rattle.spec_program.specs.CommandLine.{command_line_of}
+use Rattle.spec_program.specs.declared.command_line.CommandLine.{CommandLine}
+use Rattle.spec_program.specs.declared.command_line.CommandLine.TheVariants.{Run, Read, Generate, Serve}
+use Rattle.spec_program.specs.declared.command_line.TextCommand.{TextCommand}
+use Rattle.spec_program.specs.declared.command_line.TextCommand.TheVariants.{Solve, Check, Basis}
+use Rattle.spec_program.specs.Fits.{IsWorkers, IsPlaces, IsLinks, Fits}
+
+-- ---- numbers
+
+pub none_is_not : {A : Type 0} (a : A) → ◌≡◌ {A = Option A} None (Some a) → ⊥
+none_is_not a e = cc
+
+-- five tests say yes, where a number is given
+all_five : (s t u v w : Bool) (k n : ℕ) → cond (s && t && u && v && w) (Some k) None ≡ Some n →
+    (u ≡ true) × (v ≡ true) × (w ≡ true) × (k ≡ n)
+all_five true true true true true k n e = let same : k ≡ n = cc in (refl, refl, refl, same)
+all_five true true true true false k n e = absurd (none_is_not n e)
+all_five true true true false w k n e = absurd (none_is_not n e)
+all_five true true false v w k n e = absurd (none_is_not n e)
+all_five true false u v w k n e = absurd (none_is_not n e)
+all_five false t u v w k n e = absurd (none_is_not n e)
+
+no_less : (n : ℕ) (digits : List ℕ) → n ≤ spelled_from n digits
+no_less n [] = omega arith
+no_less n (b ∷ bs) = omega (arith, no_less (n * 10 + (b - 48)) bs)
+
+number-within : (last digits : ℕ) (text : List ℕ) (n : ℕ) → number_to last digits text ≡ Some n → (1 ≤ n) × (n ≤ last)
+number-within last digits [] n e = absurd (none_is_not n e)
+number-within last digits (b ∷ bs) n e =
+    let tests = all_five (nat_lt 0 (length (b ∷ bs))) (nat_le (length (b ∷ bs)) digits) (list_all is_digit (b ∷ bs))
+    (not (begins_with_zero (b ∷ bs))) (nat_le (spelled_from 0 (b ∷ bs)) last) (spelled_from 0 (b ∷ bs)) n e in
+    let digit : is_digit b ≡ true = (and_parts (is_digit b) (list_all is_digit bs) tests.0).0 in
+    let low : 48 ≤ b = leb-true 48 b (and_parts (nat_le 48 b) (nat_le b 57) digit).0 in
+    let other : b ≡ 48 → ⊥ = eqb-false b 48 (not-true (begins_with_zero (b ∷ bs)) tests.1) in
+    let high : 49 ≤ b = ⊎_elim (λ h. h) (λ h. absurd (other (omega (arith, low, h)))) (cases_lt 48 b) in
+    let more = no_less (0 * 10 + (b - 48)) bs in
+    let within = leb-true (spelled_from 0 (b ∷ bs)) last tests.2 in
+    let same = tests.3 in
+    (omega (arith, high, more, same), omega (arith, within, same))
+
+workers-within : (given : Option Word) (k : ℕ) → workers_given given ≡ Some k → IsWorkers k
+unfolding workers_of
+workers-within None k e = let same : 1 ≡ k = cc in (omega (arith, same), omega (arith, same))
+workers-within (Some word) k e = number-within 16 2 word k e
+
+places-within : (given : Option Word) (n : ℕ) → places_given given ≡ Some n → IsPlaces n
+unfolding places_of
+places-within None n e = let same : 256 ≡ n = cc in (omega (arith, same), omega (arith, same))
+places-within (Some word) n e = number-within 1024 7 word n e
+
+links-within : (given : Option Word) (n : ℕ) → links_given given ≡ Some n → IsLinks n
+unfolding links_of
+links-within None n e = let same : 1 ≡ n = cc in (omega (arith, same), omega (arith, same))
+links-within (Some word) n e = number-within 1000 4 word n e
+
+rows-within : (word : Word) (n : ℕ) → row_count_of word ≡ Some n → n ≤ 256
+unfolding row_count_of
+rows-within word n e = (number-within 256 3 word n e).1
+
+columns-within : (word : Word) (n : ℕ) → column_count_of word ≡ Some n → n ≤ 512
+unfolding column_count_of
+columns-within word n e = (number-within 512 3 word n e).1
+
+-- ---- commands
+
+row-fits : (row : Row) (words : List Word) (command : CommandLine) →
+    ((given : Given) → row.asks given ≡ Some command → Fits command) → asked_by words row ≡ Some command →
+    Fits command
+row-fits row words command fits e = by (given_in row.plain row.names words) e
+  where
+    by : (given : Option Given) → option_and_then row.asks given ≡ Some command → Fits command
+    by None h = absurd (none_is_not command h)
+    by (Some given) h = fits given h
+
+run_by-fits : (workers places : Option ℕ) (command : CommandLine) →
+    ((k : ℕ) → workers ≡ Some k → IsWorkers k) → ((n : ℕ) → places ≡ Some n → IsPlaces n) →
+    run_by workers places ≡ Some command → Fits command
+run_by-fits None places command w p e = absurd (none_is_not command e)
+run_by-fits (Some k) None command w p e = absurd (none_is_not command e)
+run_by-fits (Some k) (Some n) command w p e =
+    let same : Run k n ≡ command = cc in subst Fits same (w k refl, p n refl)
+
+run-fits : (words : List Word) (command : CommandLine) → asked_by words run_row ≡ Some command → Fits command
+run-fits words command e =
+    row-fits run_row words command
+    (λ given h. run_by-fits (workers_given (look_up (codes "--workers") given.options))
+    (places_given (look_up (codes "--places") given.options)) command
+    (workers-within (look_up (codes "--workers") given.options))
+    (places-within (look_up (codes "--places") given.options)) h) e
+
+read-fits : (asked : TextCommand) (style : Option Style) (command : CommandLine) →
+    option_map (Read asked) style ≡ Some command → Fits command
+read-fits asked None command e = absurd (none_is_not command e)
+read-fits asked (Some style) command e = let same : Read asked style ≡ command = cc in subst Fits same tt
+
+text-fits : (asked : TextCommand) (words : List Word) (command : CommandLine) →
+    asked_by words (text_row asked) ≡ Some command → Fits command
+text-fits asked words command e =
+    row-fits (text_row asked) words command
+    (λ given h. read-fits asked (form_given (look_up (codes "--form") given.options)) command h) e
+
+generate_by-fits : (seed rows columns : Option ℕ) (command : CommandLine) →
+    ((n : ℕ) → rows ≡ Some n → n ≤ 256) → ((n : ℕ) → columns ≡ Some n → n ≤ 512) →
+    generate_by seed rows columns ≡ Some command → Fits command
+generate_by-fits None rows columns command r c e = absurd (none_is_not command e)
+generate_by-fits (Some s) None columns command r c e = absurd (none_is_not command e)
+generate_by-fits (Some s) (Some n) None command r c e = absurd (none_is_not command e)
+generate_by-fits (Some s) (Some n) (Some k) command r c e =
+    let same : Generate s n k ≡ command = cc in subst Fits same (r n refl, c k refl)
+
+generate_with-fits : (words : List Word) (command : CommandLine) → generate_with words ≡ Some command → Fits command
+generate_with-fits [] command e = absurd (none_is_not command e)
+generate_with-fits (seed ∷ []) command e = absurd (none_is_not command e)
+generate_with-fits (seed ∷ rows ∷ []) command e = absurd (none_is_not command e)
+generate_with-fits (seed ∷ rows ∷ columns ∷ []) command e =
+    generate_by-fits (seed_of seed) (row_count_of rows) (column_count_of columns) command (rows-within rows)
+    (columns-within columns) e
+generate_with-fits (seed ∷ rows ∷ columns ∷ word ∷ words) command e = absurd (none_is_not command e)
+
+generate-fits : (words : List Word) (command : CommandLine) → asked_by words generate_row ≡ Some command → Fits command
+generate-fits words command e =
+    row-fits generate_row words command (λ given h. generate_with-fits given.plain command h) e
+
+serve_by-fits : (workers each places : Option ℕ) (command : CommandLine) →
+    ((k : ℕ) → workers ≡ Some k → IsWorkers k) → ((c : ℕ) → each ≡ Some c → IsLinks c) →
+    ((n : ℕ) → places ≡ Some n → IsPlaces n) → serve_by workers each places ≡ Some command → Fits command
+serve_by-fits None each places command w l p e = absurd (none_is_not command e)
+serve_by-fits (Some k) None places command w l p e = absurd (none_is_not command e)
+serve_by-fits (Some k) (Some c) None command w l p e = absurd (none_is_not command e)
+serve_by-fits (Some k) (Some c) (Some n) command w l p e =
+    let same : Serve k c n ≡ command = cc in subst Fits same (w k refl, l c refl, p n refl)
+
+serve_with-fits : (words : List Word) (options : Options) (command : CommandLine) →
+    serve_with words options ≡ Some command → Fits command
+serve_with-fits [] options command e = absurd (none_is_not command e)
+serve_with-fits (address ∷ word ∷ words) options command e = absurd (none_is_not command e)
+serve_with-fits (address ∷ []) options command e =
+    by (is_address address) (workers_given workers) (links_given each) (places_given places) (workers-within workers)
+    (links-within each) (places-within places) e
+  where
+    workers : Option Word
+    workers = look_up (codes "--workers") options
+
+    each : Option Word
+    each = look_up (codes "--each") options
+
+    places : Option Word
+    places = look_up (codes "--places") options
+
+    by : (t : Bool) (k c n : Option ℕ) → ((v : ℕ) → k ≡ Some v → IsWorkers v) → ((v : ℕ) → c ≡ Some v → IsLinks v) →
+        ((v : ℕ) → n ≡ Some v → IsPlaces v) → cond t (serve_by k c n) None ≡ Some command → Fits command
+    by true k c n w l p h = serve_by-fits k c n command w l p h
+    by false k c n w l p h = absurd (none_is_not command h)
+
+serve-fits : (words : List Word) (command : CommandLine) → asked_by words serve_row ≡ Some command → Fits command
+serve-fits words command e =
+    row-fits serve_row words command (λ given h. serve_with-fits given.plain given.options command h) e
+
+-- the row of a command's word, by whether it is each of the words
+abbrev pub row_of : Bool → Bool → Bool → Bool → Bool → Bool → Option Row
+row_of r s c b g v =
+    cond r (Some run_row)
+    (cond s (Some (text_row Solve))
+    (cond c (Some (text_row Check))
+    (cond b (Some (text_row Basis)) (cond g (Some generate_row) (cond v (Some serve_row) None)))))
+
+pub command-fits : (words : List Word) (command : CommandLine) → command_line_of words ≡ Some command → Fits command
+unfolding command_line_of
+command-fits [] command e = absurd (none_is_not command e)
+command-fits (word ∷ words) command e =
+    by (same word (codes "run")) (same word (codes "solve")) (same word (codes "check")) (same word (codes "basis"))
+    (same word (codes "gen")) (same word (codes "serve")) e
+  where
+    by : (r s c b g v : Bool) → option_and_then (asked_by words) (row_of r s c b g v) ≡ Some command → Fits command
+    by true s c b g v h = run-fits words command h
+    by false true c b g v h = text-fits Solve words command h
+    by false false true b g v h = text-fits Check words command h
+    by false false false true g v h = text-fits Basis words command h
+    by false false false false true v h = generate-fits words command h
+    by false false false false false true h = serve-fits words command h
+    by false false false false false false h = absurd (none_is_not command h)

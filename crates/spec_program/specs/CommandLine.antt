@@ -1,0 +1,216 @@
+-- The command lines of the program: the word of a command, its plain words, and after them its options, each a name and
+-- a value, in any order and each at most once.
+use Rattle.std.specs.Prelude.{ℕ, ◌==◌, ◌&&◌, Bool, true, false, not, Option, Some, None, option_map, option_and_then}
+use Rattle.std.specs.Prelude.{List, [], ◌∷◌}
+use Rattle.std.specs.Prelude.{length, map, take, drop, nat_le, codes, if◌then◌else◌}
+use Rattle.std.specs.List.{list_all, list_any}
+use Rattle.spec_text.specs.Words.{same}
+use Rattle.spec_mps.specs.declared.style.Style.{Style}
+use Rattle.spec_mps.specs.declared.style.Style.TheVariants.{Free, Fixed}
+use Rattle.spec_mps.specs.Shapes.{look_up}
+use Rattle.spec_program.specs.declared.command_line.CommandLine.{CommandLine}
+use Rattle.spec_program.specs.declared.command_line.CommandLine.TheVariants.{Run, Read, Generate, Serve}
+use Rattle.spec_program.specs.declared.command_line.TextCommand.{TextCommand}
+use Rattle.spec_program.specs.declared.command_line.TextCommand.TheVariants.{Solve, Check, Basis}
+use Rattle.spec_server.specs.Command.{number_to}
+
+abbrev pub Word : Type 0
+Word = List ℕ
+
+-- ---- options
+
+-- the options that are given: their names and their values
+abbrev pub Options : Type 0
+Options = List (Word × Word)
+
+abbrev pub OptionNames : Type 0
+OptionNames = List Word
+
+-- the words two by two; nothing where the last name has no value
+abbrev pub in_pairs : List Word → Option Options
+in_pairs [] = Some []
+in_pairs (name ∷ []) = None
+in_pairs (name ∷ value ∷ words) = option_map (λ pairs. (name, value) ∷ pairs) (in_pairs words)
+
+abbrev pub is_one_of : Word → OptionNames → Bool
+is_one_of name names = list_any (λ other. same name other) names
+
+abbrev pub are_distinct : OptionNames → Bool
+are_distinct [] = true
+are_distinct (name ∷ names) = not (is_one_of name names) && are_distinct names
+
+-- each has one of these names, and no two have the same
+abbrev pub are_options_of : OptionNames → Options → Bool
+are_options_of names options =
+    list_all (λ option. is_one_of option.0 names) options && are_distinct (map (λ option. option.0) options)
+
+-- the options that the words give; nothing where they are no options with these names
+unfoldable pub options_in : OptionNames → List Word → Option Options
+options_in names words =
+    option_and_then (λ options. if are_options_of names options then Some options else None) (in_pairs words)
+
+-- what is given after a command's word
+pub record Given : Type 0 where
+  pub plain : List Word
+  pub options : Options
+
+-- so many plain words, and options with these names after them
+unfoldable pub given_in : ℕ → OptionNames → List Word → Option Given
+given_in plain names words =
+    if nat_le plain (length words)
+    then option_map (λ options. record { plain = take plain words; options = options })
+    (options_in names (drop plain words))
+    else None
+
+-- ---- the table of commands
+
+abbrev pub form_of : Word → Option Style
+form_of word = look_up word ((codes "free", Free) ∷ (codes "fixed", Fixed) ∷ [])
+
+-- the form that a text is read in, if its word is one; the free one unless another is given
+abbrev pub form_given : Option Word → Option Style
+form_given None = Some Free
+form_given (Some word) = form_of word
+
+-- a script is run by so many workers, unless another number is given
+abbrev pub usual_workers : ℕ
+usual_workers = 1
+
+-- how many workers a word gives, from 1 to 16, in at most 2 digits
+unfoldable pub workers_of : Word → Option ℕ
+workers_of word = number_to 16 2 word
+
+abbrev pub workers_given : Option Word → Option ℕ
+workers_given None = Some usual_workers
+workers_given (Some word) = workers_of word
+
+-- so many places are shared by the sessions of a script, unless another number is given
+abbrev pub usual_places : ℕ
+usual_places = 256
+
+-- how many places a word gives, from 1 to 1,024, in at most 7 digits
+unfoldable pub places_of : Word → Option ℕ
+places_of word = number_to 1024 7 word
+
+abbrev pub places_given : Option Word → Option ℕ
+places_given None = Some usual_places
+places_given (Some word) = places_of word
+
+-- so many links are served by each worker, one after the other, unless another number is given
+abbrev pub usual_links : ℕ
+usual_links = 1
+
+-- how many links a word gives, from 1 to 1,000, in at most 4 digits
+unfoldable pub links_of : Word → Option ℕ
+links_of word = number_to 1000 4 word
+
+abbrev pub links_given : Option Word → Option ℕ
+links_given None = Some usual_links
+links_given (Some word) = links_of word
+
+-- a word that may name an address: it is not empty, and does not begin as an option does
+abbrev pub is_address : Word → Bool
+is_address [] = false
+is_address (b ∷ bs) = not (b == 45)
+
+-- the number that a model is made from, up to 1,000,000; 0 is one too
+unfoldable pub seed_of : Word → Option ℕ
+seed_of word = if same word (codes "0") then Some 0 else number_to 1000000 7 word
+
+-- how many rows and columns it has, from 1 to the most that a model may have
+unfoldable pub row_count_of : Word → Option ℕ
+row_count_of word = number_to 256 3 word
+
+unfoldable pub column_count_of : Word → Option ℕ
+column_count_of word = number_to 512 3 word
+
+-- a command: how many plain words it has, the names of its options, and what it asks with these
+pub record Row : Type 0 where
+  pub plain : ℕ
+  pub names : OptionNames
+  pub asks : Given → Option CommandLine
+
+abbrev pub run_by : Option ℕ → Option ℕ → Option CommandLine
+run_by workers places = option_and_then (λ k. option_map (Run k) places) workers
+
+abbrev pub run_row : Row
+run_row = record {
+  plain = 0;
+  names = codes "--workers" ∷ codes "--places" ∷ [];
+  asks = λ given. run_by (workers_given (look_up (codes "--workers") given.options))
+      (places_given (look_up (codes "--places") given.options));
+}
+
+abbrev pub text_row : TextCommand → Row
+text_row command = record {
+  plain = 0;
+  names = codes "--form" ∷ [];
+  asks = λ given. option_map (Read command) (form_given (look_up (codes "--form") given.options));
+}
+
+abbrev pub generate_by : Option ℕ → Option ℕ → Option ℕ → Option CommandLine
+generate_by seed rows columns =
+    option_and_then (λ s. option_and_then (λ r. option_map (Generate s r) columns) rows) seed
+
+-- a seed, and how many rows and columns
+abbrev pub generate_with : List Word → Option CommandLine
+generate_with (seed ∷ rows ∷ columns ∷ []) = generate_by (seed_of seed) (row_count_of rows) (column_count_of columns)
+generate_with words = None
+
+abbrev pub generate_row : Row
+generate_row = record { plain = 3; names = []; asks = λ given. generate_with given.plain }
+
+abbrev pub serve_by : Option ℕ → Option ℕ → Option ℕ → Option CommandLine
+serve_by workers each places =
+    option_and_then (λ k. option_and_then (λ c. option_map (Serve k c) places) each) workers
+
+-- an address, and the numbers of workers, of links for each of them, and of places
+abbrev pub serve_with : List Word → Options → Option CommandLine
+serve_with (address ∷ []) options =
+    if is_address address
+    then serve_by (workers_given (look_up (codes "--workers") options))
+    (links_given (look_up (codes "--each") options)) (places_given (look_up (codes "--places") options))
+    else None
+serve_with words options = None
+
+abbrev pub serve_row : Row
+serve_row = record {
+  plain = 1;
+  names = codes "--workers" ∷ codes "--each" ∷ codes "--places" ∷ [];
+  asks = λ given. serve_with given.plain given.options;
+}
+
+abbrev pub commands : List (Word × Row)
+commands =
+    (codes "run", run_row)
+    ∷ (codes "solve", text_row Solve)
+    ∷ (codes "check", text_row Check)
+    ∷ (codes "basis", text_row Basis)
+    ∷ (codes "gen", generate_row)
+    ∷ (codes "serve", serve_row)
+    ∷ []
+
+-- what the words after a command's word ask
+abbrev pub asked_by : List Word → Row → Option CommandLine
+asked_by words row = option_and_then row.asks (given_in row.plain row.names words)
+
+-- what the words after the program's name ask
+unfoldable pub command_line_of : List Word → Option CommandLine
+command_line_of [] = None
+command_line_of (word ∷ words) = option_and_then (asked_by words) (look_up word commands)
+
+-- ---- servers
+
+-- where a server listens, and how many workers serve there
+pub record Address : Type 0 where
+  pub address : Word
+  pub workers : ℕ
+
+-- the address is the word after the command's; other command lines have none
+abbrev pub served_at : List Word → Option CommandLine → Option Address
+served_at (word ∷ address ∷ words) (Some (Serve workers each places)) =
+    Some (record { address = address; workers = workers })
+served_at words command = None
+
+unfoldable pub address_of : List Word → Option Address
+address_of words = served_at words (command_line_of words)

@@ -1,0 +1,4 @@
+pub mod CommandLine
+pub mod Fits
+pub mod TextOut
+pub mod GenOut

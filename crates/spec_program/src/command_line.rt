@@ -1,0 +1,38 @@
+// The command lines of the program.
+use spec_mps::Style;
+
+/// A command that reads the text of a model, and says something of it.
+#[derive(Clone, Copy, Debug, PartialEq, Eq)]
+pub enum TextCommand {
+    /// To solve the model.
+    Solve,
+    /// To check the certificate after the text.
+    Check,
+    /// To solve the model from the basis of the file after the text.
+    Basis,
+}
+
+/// What the words of a command line ask.
+#[derive(Clone, Copy, Debug, PartialEq, Eq)]
+pub enum CommandLine {
+    /// To run the script that the source gives with so many workers, and so many places that its sessions share.
+    Run {
+        workers: u32,
+        places: u32,
+    },
+    /// To read the text in this form that the source gives.
+    Read(TextCommand, Style),
+    /// To make the model of this seed with so many rows and columns, and to solve it.
+    Generate {
+        seed: u32,
+        rows: u32,
+        columns: u32,
+    },
+    /// To serve sessions over links: so many workers, each of which serves so many links one after the other, and so
+    /// many places that all sessions share. At which address is said by the words alone.
+    Serve {
+        workers: u32,
+        each: u32,
+        places: u32,
+    },
+}

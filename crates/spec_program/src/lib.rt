@@ -1,0 +1,33 @@
+//! The command lines of the program.
+//!
+//! | Item | What it is | Where |
+//! |---|---|---|
+//! | `CommandLine`, `TextCommand` | what a command line asks | src/command_line |
+//! | `command_line_of` | what the words of one ask, by the table of commands | specs/CommandLine |
+//! | `Fits` | the numbers that a command line may have | specs/Fits |
+//! | `address_of` | where a server listens, and for how many workers | specs/CommandLine |
+//! | `said_of`, `MayWrite`, `code_of` | what a command that reads a text says of it, and writes, with its status | specs/TextOut |
+//! | `GenOut` | what the command `gen` writes of the model that it makes | specs/GenOut |
+#![tactic(auto)]
+
+mod command_line;
+
+ghost use Rattle.std.specs.Prelude.{◌≡◌, ℕ, List, Some};
+ghost use Rattle.spec_program.specs.CommandLine.{Word, command_line_of, address_of};
+ghost use Rattle.spec_program.specs.Fits.{Fits};
+ghost use Rattle.spec_program.specs.declared.command_line.CommandLine.{CommandLine as exact_line};
+ghost use Rattle.spec_program.specs.declared.command_line.CommandLine.TheVariants as lines;
+
+pub use command_line::{CommandLine, TextCommand};
+
+/// What words ask has no numbers but those that a command line may have.
+pub fn command_lines_fit()
+    ensures { (words : List Word) (command : exact_line) → command_line_of words ≡ Some command → Fits command }
+{}
+
+/// A command line that serves has an address, and as many workers as that says.
+pub fn servers_have_addresses()
+    ensures { (words : List Word) (workers each places : ℕ) →
+        command_line_of words ≡ Some (lines.Serve workers each places) →
+        (address : Word) × (address_of words ≡ Some (record { address = address; workers = workers })) }
+{}
