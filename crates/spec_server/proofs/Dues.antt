@@ -141,7 +141,8 @@ module _ (places : ℕ) (state : State) where
   solve_goes_on m (Ok f) is held kept = record {
     looked = Count 0 ∷ [];
     found = None;
-    worked = worked_with state None (part_end state.budget m (Ok f)) how.Cold (words_of_end f (part_end state.budget m (Ok f)));
+    worked = worked_with state None (part_end state.budget m (Ok f)) how.Cold
+        (words_of_end f (part_end state.budget m (Ok f)));
     look = record { count = 0; seen = []; down = (refl, refl); all = refl };
     works = inl (record {
       model = m;

@@ -14,8 +14,14 @@ use Rattle.spec_server.specs.Answers.{MayAnswer}
 use Rattle.spec_server.specs.Machine.{verdict_on}
 use Rattle.spec_server.specs.HandedBack.{IsAcceptedBack}
 
-pub accepted_back : (m : Model) (budget : ℕ) (known : Known ℚ) (cert : Certificate (List ℚ)) (basis : Option (List Status)) (pivots : ℕ) →
+pub accepted_back : (m : Model) (budget : ℕ) (known : Known ℚ) (cert : Certificate (List ℚ))
+    (basis : Option (List Status)) (pivots : ℕ) →
     IsModel m → MayAnswer m budget (Ended known cert basis pivots) → IsAcceptedBack m known cert
 accepted_back m budget known cert basis pivots kept h =
     let r = read_back m cert kept h.0 h.1 in
-    record { raw = r.raw; spelled = r.spelled; accepted = ap (verdict_on m) r.settled ∙ ap (λ run. reply.Checked (verdict_of run)) h.2 }
+    record {
+      raw = r.raw;
+      spelled = r.spelled;
+      accepted = ap (verdict_on m) r.settled ∙ ap
+          (λ run. reply.Checked (verdict_of run)) h.2;
+    }

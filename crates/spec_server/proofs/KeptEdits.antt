@@ -1,5 +1,6 @@
 -- The edits that lines ask for have numbers of at most 127 bits, and bounds that are less than 10 ^ 20 from 0.
-use Rattle.std.proofs.Common.{◌≡◌, ℕ, Bool, true, false, cond, Option, Some, None, Ok, Err, IfOk, IfSome, List, [], ◌∷◌, refl}
+use Rattle.std.proofs.Common.{◌≡◌, ℕ, Bool, true, false, cond, Option, Some, None, Ok, Err, IfOk, IfSome, List, [], ◌∷◌}
+use Rattle.std.proofs.Common.{refl}
 use Rattle.std.specs.Prelude.{All, codes}
 use Rattle.std.proofs.lemmas.List.Elements.{All-nil, All-cons}
 use Rattle.spec_text.specs.Words.{same}
@@ -16,8 +17,10 @@ use Rattle.spec_mps.specs.BoundText as bound
 use Rattle.spec_mps.proofs.BoundLemmas.{bound_is_within, abs_from_within}
 use Rattle.spec_mps.proofs.NarrowNumbers.{number_narrow, bound_narrow}
 use Rattle.spec_server.specs.declared.command.EditWord.{EditWord}
-use Rattle.spec_server.specs.declared.command.EditWord.TheVariants.{AddRow, DelRow, AddCol, DelCol, SetCost, SetCoef, SetRhs, SetRange, SetBound, Sense as SenseWord}
-use Rattle.spec_server.specs.EditCommand.{Reads, ◌>>=◌, as_read, number_in, kind_in, sense_in, range_in, lower_by, lower_in, upper_by, upper_in, two_by_two, numbers_in, column_in, edit_by}
+use Rattle.spec_server.specs.declared.command.EditWord.TheVariants.{AddRow, DelRow, AddCol, DelCol, SetCost, SetCoef}
+use Rattle.spec_server.specs.declared.command.EditWord.TheVariants.{SetRhs, SetRange, SetBound, Sense as SenseWord}
+use Rattle.spec_server.specs.EditCommand.{Reads, ◌>>=◌, as_read, number_in, kind_in, sense_in, range_in, lower_by}
+use Rattle.spec_server.specs.EditCommand.{lower_in, upper_by, upper_in, two_by_two, numbers_in, column_in, edit_by}
 
 -- what is read next, by what holds of the value that was read before
 then_kept : {A B : Type 0} (P : A → Type 0) (Q : B → Type 0) (read : Reads A) (next : A → Reads B) → IfOk read P →
@@ -69,7 +72,8 @@ value_kept text = by (bound_of text) refl
 
 lower_kept : (text : List ℕ) → IfOk (lower_in text) IsKeptBound
 unfolding lower_in
-lower_kept text = then_kept IsKeptValue IsKeptBound (as_read (bound_answer (bound_of text))) lower_by (value_kept text) by
+lower_kept text = then_kept IsKeptValue IsKeptBound (as_read (bound_answer (bound_of text))) lower_by (value_kept text)
+    by
   where
     by : (v : BoundValue ℚ) → IsKeptValue v → IfOk (lower_by v) IsKeptBound
     by (value.Finite v) h = h
@@ -78,7 +82,8 @@ lower_kept text = then_kept IsKeptValue IsKeptBound (as_read (bound_answer (boun
 
 upper_kept : (text : List ℕ) → IfOk (upper_in text) IsKeptBound
 unfolding upper_in
-upper_kept text = then_kept IsKeptValue IsKeptBound (as_read (bound_answer (bound_of text))) upper_by (value_kept text) by
+upper_kept text = then_kept IsKeptValue IsKeptBound (as_read (bound_answer (bound_of text))) upper_by (value_kept text)
+    by
   where
     by : (v : BoundValue ℚ) → IsKeptValue v → IfOk (upper_by v) IsKeptBound
     by (value.Finite v) h = h

@@ -1,5 +1,7 @@
--- The certificate of a cold solve at the limit of the server, of a model whose numbers are of at most 127 bits, has such numbers.
-use Rattle.std.proofs.Common.{◌≡◌, ◌+◌, ◌-◌, ℕ, zero, suc, Bool, true, false, cond, Option, Some, None, Result, Ok, Err, List, nat_eq, refl, subst}
+-- The certificate of a cold solve at the limit of the server, of a model whose numbers are of at most 127 bits, has
+-- such numbers.
+use Rattle.std.proofs.Common.{◌≡◌, ◌+◌, ◌-◌, ℕ, zero, suc, Bool, true, false, cond, Option, Some, None, Result, Ok, Err}
+use Rattle.std.proofs.Common.{List, nat_eq, refl, subst}
 use Rattle.std.specs.Prelude.{All}
 use Rattle.std.proofs.lemmas.List.Elements.{All-set}
 use Rattle.spec_exact.specs.Fraction.{ℚ, 0ℚ, 1ℚ, neg_ℚ}
@@ -28,10 +30,13 @@ use Rattle.spec_simplex.specs.Form.{Form, form_of}
 use Rattle.spec_simplex.specs.Tableau.{Tableau, form_columns, basic_at, entry_at, value_at, reduced_at}
 use Rattle.spec_simplex.specs.Start.{priced_run, with_reduced, start_of}
 use Rattle.spec_simplex.specs.Step.{directed, choice_run, flip_run, pivot_run}
-use Rattle.spec_simplex.specs.Phases.{PrimalEnded, end_or_spent, end_or_next, run_from, fixed_at_zero, without_artificials, phase_two_run, wants_phase_one, is_stuck, phase_one, phase_two, PhasesEnd, Infeasible, Finished, phases_run}
+use Rattle.spec_simplex.specs.Phases.{PrimalEnded, end_or_spent, end_or_next, run_from, fixed_at_zero}
+use Rattle.spec_simplex.specs.Phases.{without_artificials, phase_two_run, wants_phase_one, is_stuck, phase_one}
+use Rattle.spec_simplex.specs.Phases.{phase_two, PhasesEnd, Infeasible, Finished, phases_run}
 use Rattle.spec_simplex.proofs.Stops.{All-made}
 use Rattle.spec_cold.specs.declared.outcome.Cold.TheVariants as outcome
-use Rattle.spec_cold.specs.Cold.{ColdEnd, point, multipliers, moves_below, moves_by, certificate_at, certificate_of, basis_of, pivots_of, checked, after_phases, after_form, cold}
+use Rattle.spec_cold.specs.Cold.{ColdEnd, point, multipliers, moves_below, moves_by, certificate_at, certificate_of}
+use Rattle.spec_cold.specs.Cold.{basis_of, pivots_of, checked, after_phases, after_form, cold}
 use Rattle.spec_cold.proofs.Runs.{then_ok, refused_ok}
 use Rattle.spec_server.specs.Answers.{number_limit}
 use Rattle.spec_server.proofs.NarrowSteps.{NarrowBound, AreNarrow, number_at, place_narrow, flip_narrow, pivot_narrow}
@@ -47,7 +52,8 @@ spent_narrow t used (End end) e h n =
 spent_narrow t used (Flip j) e h n = cc
 spent_narrow t used (Pivot p j theta to) e h n = cc
 
-next_narrow : (t : Tableau) (used : ℕ) (next : Tableau → Result PrimalEnded (Spending ℚ)) (choice : Choice ℚ) (e : PrimalEnded) → end_or_next (Some number_limit) t used next choice ≡ Ok e → AreNarrow t
+next_narrow : (t : Tableau) (used : ℕ) (next : Tableau → Result PrimalEnded (Spending ℚ)) (choice : Choice ℚ)
+    (e : PrimalEnded) → end_or_next (Some number_limit) t used next choice ≡ Ok e → AreNarrow t
     → ((u : Tableau) → next u ≡ Ok e → AreNarrow u → AreNarrow e.tableau) → AreNarrow e.tableau
 next_narrow t used next (End end) e h n k =
     let same : ◌≡◌ {A = PrimalEnded} (record { end = end; tableau = t; used = used }) e = cc in
@@ -57,7 +63,8 @@ next_narrow t used next (Flip j) e h n k =
     k o.0 o.2 (flip_narrow t o.0 j (refused_ok stop.Past (flip_run (Some number_limit) t j) o.0 o.1) n)
 next_narrow t used next (Pivot p j theta to) e h n k =
     let o = then_ok (refused_as stop.Past (pivot_run (Some number_limit) t p j theta to)) next e h in
-    k o.0 o.2 (pivot_narrow t o.0 p j theta to (refused_ok stop.Past (pivot_run (Some number_limit) t p j theta to) o.0 o.1) n)
+    k o.0 o.2 (pivot_narrow t o.0 p j theta to (refused_ok stop.Past (pivot_run (Some number_limit) t p j theta to) o.0
+    o.1) n)
 
 run_narrow : (left used : ℕ) (t : Tableau) (e : PrimalEnded) → run_from (Some number_limit) left used t ≡ Ok e →
     AreNarrow t → AreNarrow e.tableau
@@ -67,7 +74,8 @@ run_narrow zero used t e h n =
     spent_narrow t used o.0 e o.2 n
 run_narrow (suc left) used t e h n =
     let next : Tableau → Result PrimalEnded (Spending ℚ) = λ u. run_from (Some number_limit) left (used + 1) u in
-    let o = then_ok (refused_as stop.Past (choice_run (Some number_limit) t)) (end_or_next (Some number_limit) t used next) e h in
+    let o = then_ok (refused_as stop.Past (choice_run (Some number_limit) t))
+    (end_or_next (Some number_limit) t used next) e h in
     next_narrow t used next o.0 e o.2 n (λ u q k. run_narrow left (used + 1) u e q k)
 
 -- ---- both phases
@@ -116,7 +124,8 @@ two_phases_narrow budget f one e h k n =
     let p = then_ok (run_from (Some number_limit) (budget - one.used) one.used o.0) (λ two. Ok (Finished two)) e o.2 in
     let same : Finished p.0 ≡ e = cc in
     subst NarrowEnd same
-    (run_narrow (budget - one.used) one.used o.0 p.0 p.1 (two_narrow f one.tableau o.0 (refused_ok stop.Past (phase_two_run (Some number_limit) f one.tableau) o.0 o.1) k n))
+    (run_narrow (budget - one.used) one.used o.0 p.0 p.1
+    (two_narrow f one.tableau o.0 (refused_ok stop.Past (phase_two_run (Some number_limit) f one.tableau) o.0 o.1) k n))
 
 phases_narrow : (budget : ℕ) (f : Form) (e : PhasesEnd) → phases_run (Some number_limit) budget f ≡ Ok e →
     IsNarrowForm f → NarrowEnd e
@@ -150,7 +159,8 @@ moves_narrow t j up k (suc m) n = by (nat_eq (basic_at t m) k) (moves_narrow t j
     by : (c : Bool) → IsNarrow (moves_below t j up k m) →
         IsNarrow (cond c (neg_ℚ (directed up (entry_at t m j))) (moves_below t j up k m))
     by true h =
-        neg_narrow (directed up (entry_at t m j)) (directed_narrow up (entry_at t m j) (place_narrow t.entries n.entries m j))
+        neg_narrow (directed up (entry_at t m j))
+        (directed_narrow up (entry_at t m j) (place_narrow t.entries n.entries m j))
     by false h = h
 
 pub point_narrow : (t : Tableau) → AreNarrow t → All IsNarrow (point t)
@@ -189,7 +199,8 @@ module _ (known : Known ℚ) (cert : Certificate (List ℚ)) (basis : Option (Li
   by_phases : (m : Model) (o : Result PhasesEnd (Spending ℚ)) → IsThisEnd (after_phases (Some number_limit) m o) →
       ((p : PhasesEnd) → o ≡ Ok p → NarrowEnd p) → IsNarrowCertificate cert
   by_phases m (Ok p) e h =
-      by_check (certificate_of p) (basis_of p) (pivots_of p) (check_run (Some number_limit) m (certificate_of p)) e (certificate_narrow p (h p refl))
+      by_check (certificate_of p) (basis_of p) (pivots_of p) (check_run (Some number_limit) m (certificate_of p)) e
+      (certificate_narrow p (h p refl))
   by_phases m (Err (stop.Past p)) e h =
       let z : ◌≡◌ {A = ColdEnd} (outcome.Past p) (outcome.Ended known cert basis pivots) = e in cc
   by_phases m (Err stop.Spent) e h =
@@ -209,4 +220,5 @@ module _ (known : Known ℚ) (cert : Certificate (List ℚ)) (basis : Option (Li
       cold (Some number_limit) budget m ≡ outcome.Ended known cert basis pivots → IsNarrowCertificate cert
   unfolding cold
   cold_narrow budget m kept e =
-      by_form budget m (form_of (Some number_limit) m) e (λ f q. form_narrow m f q (record { rows = kept.narrow_rows; columns = kept.narrow_columns }))
+      by_form budget m (form_of (Some number_limit) m) e
+      (λ f q. form_narrow m f q (record { rows = kept.narrow_rows; columns = kept.narrow_columns }))

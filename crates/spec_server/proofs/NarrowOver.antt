@@ -1,5 +1,5 @@
--- The certificate of a run over factors at the limit of the server, of a model whose numbers are of at most 127 bits, has
--- such numbers.
+-- The certificate of a run over factors at the limit of the server, of a model whose numbers are of at most 127 bits,
+-- has such numbers.
 use Rattle.std.proofs.Common.{◌≡◌, ◌+◌, ◌-◌, ℕ, zero, suc, Bool, true, false, cond, Option, Some, None, Result, Ok, Err}
 use Rattle.std.proofs.Common.{List, [], ◌∷◌, get_or, set, nat_eq, refl, sym, subst}
 use Rattle.std.specs.Prelude.{All, nat_lt}
@@ -41,7 +41,8 @@ use Rattle.spec_factor.specs.Revised.{replacements, refreshed_run, basic_costs, 
 use Rattle.spec_factor.specs.Revised.{seen_entry, seen, Selection, selection_with, selection_run, flip_over_run}
 use Rattle.spec_factor.specs.Revised.{factors_at, exchange_run, pivot_over_run}
 use Rattle.spec_factor.specs.Over.{RevisedEnded, over_or_spent, over_or_next, over_from, nothing_seen, over_one}
-use Rattle.spec_factor.specs.Over.{second_state, OverEnd, negatives, stuck_answer, over_certificate, end_answer, over_two}
+use Rattle.spec_factor.specs.Over.{second_state, OverEnd, negatives, stuck_answer, over_certificate, end_answer}
+use Rattle.spec_factor.specs.Over.{over_two}
 use Rattle.spec_factor.specs.Over.{over_phases, over_run, after_over, over_factors}
 use Rattle.spec_server.specs.Answers.{number_limit}
 use Rattle.spec_server.proofs.NarrowRuns.{quotient_narrow, less_narrow, all_given}
@@ -78,7 +79,8 @@ backward_narrow : (m : ℕ) (e : Pair) (v w : List ℚ) → backward_run (Some n
     All IsNarrow v → All IsNarrow w
 unfolding backward_run
 backward_narrow m e v w h n =
-    let o = then_ok (steps m (λ i s. cond (nat_eq i e.place) (Ok s) (less_product (Some number_limit) (get_or v i 0ℚ) (pair_at e i) s)) (get_or v e.place 0ℚ)) _ w h in
+    let o = then_ok (steps m (λ i s. cond (nat_eq i e.place) (Ok s) (less_product (Some number_limit) (get_or v i 0ℚ)
+    (pair_at e i) s)) (get_or v e.place 0ℚ)) _ w h in
     let p = then_ok (quotient_run (Some number_limit) o.0 (pair_at e e.place)) (λ q. Ok (set v e.place q)) w o.2 in
     let z : set v e.place p.0 ≡ w = cc in
     subst (All IsNarrow) z
@@ -148,10 +150,13 @@ module _ (f : Form) (starts : List (RowStart ℚ)) (form : IsNarrowForm f) where
   with_narrow s y (Some e) selection h n k =
       let o = then_ok (ftran_run (Some number_limit) s.bare.rows s.pairs (column_of f e.col)) _ selection h in
       let p = then_ok (best_run (Some number_limit) (seen starts s.bare e.col o.0) e) _ selection o.2 in
-      let z : ◌≡◌ {A = Selection} (record { multipliers = y; tableau = seen starts s.bare e.col o.0; choice = choice_by e p.0 }) selection = cc in
+      let z : ◌≡◌ {A = Selection}
+      (record { multipliers = y; tableau = seen starts s.bare e.col o.0; choice = choice_by e p.0 }) selection = cc
+      in
       subst NarrowSelection z (record {
         multipliers = k;
-        tableau = seen_narrow starts s.bare e.col o.0 n (ftran_narrow s.bare.rows s.pairs (column_of f e.col) o.0 o.1 (column_narrow f e.col form));
+        tableau = seen_narrow starts s.bare e.col o.0 n (ftran_narrow s.bare.rows s.pairs (column_of f e.col) o.0 o.1
+            (column_narrow f e.col form));
       })
 
   selection_narrow : (costs : List ℚ) (s : Revised) (selection : Selection) →
@@ -163,13 +168,21 @@ module _ (f : Form) (starts : List (RowStart ℚ)) (form : IsNarrowForm f) where
       let p = then_ok (entering_run (Some number_limit) f costs o.0 s.bare) _ selection o.2 in
       with_narrow s o.0 p.0 selection p.2 n
       (btran_narrow s.bare.rows s.pairs (basic_costs starts costs s.bare) o.0 o.1
-      (All-made IsNarrow s.bare.rows _ (λ p l. signed_narrow starts s.bare (basic_at s.bare p) (cost_at costs (basic_at s.bare p)) (number_at costs c (basic_at s.bare p)))))
+      (All-made IsNarrow s.bare.rows _ (λ p l. signed_narrow starts s.bare (basic_at s.bare p)
+      (cost_at costs (basic_at s.bare p)) (number_at costs c (basic_at s.bare p)))))
 
   -- ---- the flip and the pivot
 
   bare_narrow : (t : Tableau) → AreNarrow t → AreNarrow (bare_of t)
   bare_narrow t n =
-      record { entries = All-nil (All IsNarrow); value = n.value; reduced = All-nil IsNarrow; lower = n.lower; upper = n.upper }
+      record {
+        entries = All-nil (All IsNarrow);
+        value = n.value;
+        reduced = All-nil IsNarrow;
+        lower = n.lower;
+        upper =
+            n.upper;
+      }
 
   flip_over_narrow : (s u : Revised) (t : Tableau) (j : ℕ) → flip_over_run (Some number_limit) s t j ≡ Ok u →
       AreNarrow t → NarrowState u
@@ -186,7 +199,9 @@ module _ (f : Form) (starts : List (RowStart ℚ)) (form : IsNarrowForm f) where
       let a = then_ok (moved_run (Some number_limit) t j theta (Some p)) _ u h in
       let b = then_ok (shifted_run (Some number_limit) a.0 j theta) _ u a.2 in
       let c = then_ok (replace_run (Some number_limit) s.bare.rows (factors_at s) p j (column_of f j)) _ u b.2 in
-      let z : ◌≡◌ {A = Revised} (record { bare = exchanged (turned s.bare b.0 [] []) p j to; pairs = c.0.pairs; replaced = suc s.replaced }) u = cc in
+      let z : ◌≡◌ {A = Revised}
+      (record { bare = exchanged (turned s.bare b.0 [] []) p j to; pairs = c.0.pairs; replaced = suc s.replaced })
+      u = cc in
       subst NarrowState z
       (exchanged_narrow (turned s.bare b.0 [] []) p j to
       (record {
@@ -201,7 +216,8 @@ module _ (f : Form) (starts : List (RowStart ℚ)) (form : IsNarrowForm f) where
       NarrowState u
   unfolding refactor_run
   refactor_narrow t u h n =
-      let o = then_ok (factor_stop (factor_run (Some number_limit) f (factor_basis t))) (λ s. Ok (refactored t s)) u h in
+      let o = then_ok (factor_stop (factor_run (Some number_limit) f (factor_basis t))) (λ s. Ok (refactored t s)) u h
+      in
       let z : refactored t o.0 ≡ u = cc in
       subst NarrowState z
       (record { entries = n.entries; value = n.value; reduced = n.reduced; lower = n.lower; upper = n.upper })
@@ -218,7 +234,8 @@ module _ (f : Form) (starts : List (RowStart ℚ)) (form : IsNarrowForm f) where
   pivot_over_narrow s u t p j theta to h n k =
       let o = then_ok (refused_as stop.Past (exchange_run (Some number_limit) f s t p j theta to)) _ u h in
       refreshed_narrow o.0 u o.2
-      (exchange_narrow s o.0 t p j theta to (refused_ok stop.Past (exchange_run (Some number_limit) f s t p j theta to) o.0 o.1) n k)
+      (exchange_narrow s o.0 t p j theta to (refused_ok stop.Past (exchange_run (Some number_limit) f s t p j theta to)
+      o.0 o.1) n k)
 
   -- ---- steps up to an end
 
@@ -233,7 +250,9 @@ module _ (f : Form) (starts : List (RowStart ℚ)) (form : IsNarrowForm f) where
 
   spent_narrow : (s : Revised) (used : ℕ) (selection : Selection) (choice : Choice ℚ) (e : RevisedEnded) →
       over_or_spent s used selection choice ≡ Ok e → NarrowState s → NarrowSelection selection → NarrowEnded e
-  spent_narrow s used selection (End end) e h n k = ended_narrow s used selection end e (let z : ◌≡◌ {A = RevisedEnded} (record { end = end; state = s; selection = selection; used = used }) e = cc in z) n k
+  spent_narrow s used selection (End end) e h n k = ended_narrow s used selection end e
+      (let z : ◌≡◌ {A = RevisedEnded} (record { end = end; state = s; selection = selection; used = used }) e = cc in
+      z) n k
   spent_narrow s used selection (Flip j) e h n k = cc
   spent_narrow s used selection (Pivot p j theta to) e h n k = cc
 
@@ -241,11 +260,14 @@ module _ (f : Form) (starts : List (RowStart ℚ)) (form : IsNarrowForm f) where
       (choice : Choice ℚ) (e : RevisedEnded) →
       over_or_next (Some number_limit) f s used next selection choice ≡ Ok e → NarrowState s →
       NarrowSelection selection → ((u : Revised) → next u ≡ Ok e → NarrowState u → NarrowEnded e) → NarrowEnded e
-  next_narrow s used next selection (End end) e h n k go = ended_narrow s used selection end e (let z : ◌≡◌ {A = RevisedEnded} (record { end = end; state = s; selection = selection; used = used }) e = cc in z) n k
+  next_narrow s used next selection (End end) e h n k go = ended_narrow s used selection end e
+      (let z : ◌≡◌ {A = RevisedEnded} (record { end = end; state = s; selection = selection; used = used }) e = cc in
+      z) n k
   next_narrow s used next selection (Flip j) e h n k go =
       let o = then_ok (refused_as stop.Past (flip_over_run (Some number_limit) s selection.tableau j)) next e h in
       go o.0 o.2
-      (flip_over_narrow s o.0 selection.tableau j (refused_ok stop.Past (flip_over_run (Some number_limit) s selection.tableau j) o.0 o.1) k.tableau)
+      (flip_over_narrow s o.0 selection.tableau j
+      (refused_ok stop.Past (flip_over_run (Some number_limit) s selection.tableau j) o.0 o.1) k.tableau)
   next_narrow s used next selection (Pivot p j theta to) e h n k go =
       let o = then_ok (pivot_over_run (Some number_limit) f s selection.tableau p j theta to) next e h in
       go o.0 o.2 (pivot_over_narrow s o.0 selection.tableau p j theta to o.1 n k.tableau)
@@ -255,14 +277,19 @@ module _ (f : Form) (starts : List (RowStart ℚ)) (form : IsNarrowForm f) where
       NarrowEnded e
   unfolding over_from
   from_narrow costs zero used s e h c n =
-      let o = then_ok (refused_as stop.Past (selection_run (Some number_limit) f starts costs s)) (λ selection. over_or_spent s used selection selection.choice) e h in
+      let o = then_ok (refused_as stop.Past (selection_run (Some number_limit) f starts costs s))
+      (λ selection. over_or_spent s used selection selection.choice) e h in
       spent_narrow s used o.0 o.0.choice e o.2 n
-      (selection_narrow costs s o.0 (refused_ok stop.Past (selection_run (Some number_limit) f starts costs s) o.0 o.1) c n)
+      (selection_narrow costs s o.0 (refused_ok stop.Past (selection_run (Some number_limit) f starts costs s) o.0 o.1)
+      c n)
   from_narrow costs (suc left) used s e h c n =
-      let next : Revised → Result RevisedEnded (RunStop ℚ) = λ u. over_from (Some number_limit) f starts costs left (used + 1) u in
-      let o = then_ok (refused_as stop.Past (selection_run (Some number_limit) f starts costs s)) (λ selection. over_or_next (Some number_limit) f s used next selection selection.choice) e h in
+      let next : Revised → Result RevisedEnded (RunStop ℚ) = λ u. over_from (Some number_limit) f starts costs left
+      (used + 1) u in
+      let o = then_ok (refused_as stop.Past (selection_run (Some number_limit) f starts costs s))
+      (λ selection. over_or_next (Some number_limit) f s used next selection selection.choice) e h in
       next_narrow s used next o.0 o.0.choice e o.2 n
-      (selection_narrow costs s o.0 (refused_ok stop.Past (selection_run (Some number_limit) f starts costs s) o.0 o.1) c n)
+      (selection_narrow costs s o.0 (refused_ok stop.Past (selection_run (Some number_limit) f starts costs s) o.0 o.1)
+      c n)
       (λ u q k. from_narrow costs left (used + 1) u e q c k)
 
   -- ---- both phases
@@ -277,7 +304,8 @@ module _ (f : Form) (starts : List (RowStart ℚ)) (form : IsNarrowForm f) where
           (Ok (record { end = Optimal; state = s; selection = nothing_seen s; used = 0 })) ≡ Ok e → NarrowEnded e
       by true q = from_narrow (first_costs f starts) budget 0 s e q c n
       by false q =
-          let z : ◌≡◌ {A = RevisedEnded} (record { end = Optimal; state = s; selection = nothing_seen s; used = 0 }) e = cc in
+          let z : ◌≡◌ {A = RevisedEnded} (record { end = Optimal; state = s; selection = nothing_seen s; used = 0 })
+          e = cc in
           ended_narrow s 0 (nothing_seen s) Optimal e z n (record { multipliers = All-nil IsNarrow; tableau = n })
 
   second_narrow : (s : Revised) → NarrowState s → NarrowState (second_state s)
@@ -311,9 +339,11 @@ module _ (f : Form) (starts : List (RowStart ℚ)) (form : IsNarrowForm f) where
   two_narrow_phases : (budget : ℕ) (one : RevisedEnded) (a : OverEnd) →
       over_two (Some number_limit) budget f starts one ≡ Ok a → NarrowEnded one → NarrowAnswer a
   two_narrow_phases budget one a h n =
-      let o = then_ok (over_from (Some number_limit) f starts f.cost (budget - one.used) one.used (second_state one.state)) (λ two. Ok (end_answer two)) a h in
+      let o = then_ok (over_from (Some number_limit) f starts f.cost (budget - one.used) one.used
+      (second_state one.state)) (λ two. Ok (end_answer two)) a h in
       let z : end_answer o.0 ≡ a = cc in
-      let k = from_narrow f.cost (budget - one.used) one.used (second_state one.state) o.0 o.1 form.cost (second_narrow one.state n.state) in
+      let k = from_narrow f.cost (budget - one.used) one.used (second_state one.state) o.0 o.1 form.cost
+      (second_narrow one.state n.state) in
       subst NarrowAnswer z (certificate_by o.0.state.bare o.0.selection o.0.end k.state k.selection)
 
   phases_narrow : (budget : ℕ) (s : Revised) (a : OverEnd) →
@@ -338,9 +368,12 @@ run_narrow budget f a h n =
     let o = then_ok (refused_as stop.Past (list_run f.rows (row_start (Some number_limit) f))) _ a h in
     let p = then_ok (refactor_run (Some number_limit) f (bare_of (begun f o.0))) _ a o.2 in
     let starts : All NarrowStart o.0 =
-    all_given NarrowStart f.rows (row_start (Some number_limit) f) o.0 (refused_ok stop.Past (list_run f.rows (row_start (Some number_limit) f)) o.0 o.1) (λ i s l q. row_start_narrow f i s q) in
+    all_given NarrowStart f.rows (row_start (Some number_limit) f) o.0
+    (refused_ok stop.Past (list_run f.rows (row_start (Some number_limit) f)) o.0 o.1)
+    (λ i s l q. row_start_narrow f i s q) in
     phases_narrow f o.0 n budget p.0 a p.2 (first_costs_narrow f o.0 n starts)
-    (refactor_narrow f o.0 n (bare_of (begun f o.0)) p.0 p.1 (bare_narrow f o.0 n (begun f o.0) (begun_narrow f o.0 n starts)))
+    (refactor_narrow f o.0 n (bare_of (begun f o.0)) p.0 p.1
+    (bare_narrow f o.0 n (begun f o.0) (begun_narrow f o.0 n starts)))
 
 -- ---- the whole run
 
@@ -351,7 +384,8 @@ module _ (known : Known ℚ) (cert : Certificate (List ℚ)) (basis : Option (Li
   by_run : (m : Model) (r : Result OverEnd (RunStop ℚ)) → IsThisEnd (after_over (Some number_limit) m r) →
       ((a : OverEnd) → r ≡ Ok a → IsNarrowCertificate a.certificate) → IsNarrowCertificate cert
   by_run m (Ok a) e h =
-      by_check known cert basis pivots a.certificate a.basis a.pivots (check_run (Some number_limit) m a.certificate) e (h a refl)
+      by_check known cert basis pivots a.certificate a.basis a.pivots (check_run (Some number_limit) m a.certificate) e
+      (h a refl)
   by_run m (Err (stop.Past p)) e h =
       let z : ◌≡◌ {A = ColdEnd} (outcome.Past p) (outcome.Ended known cert basis pivots) = e in cc
   by_run m (Err stop.Spent) e h =
@@ -362,4 +396,5 @@ module _ (known : Known ℚ) (cert : Certificate (List ℚ)) (basis : Option (Li
   unfolding over_factors
   over_narrow budget m f formed kept e =
       by_run m (over_run (Some number_limit) budget f) e
-      (λ a q. run_narrow budget f a q (form_narrow m f formed (record { rows = kept.narrow_rows; columns = kept.narrow_columns })))
+      (λ a q. run_narrow budget f a q
+      (form_narrow m f formed (record { rows = kept.narrow_rows; columns = kept.narrow_columns })))

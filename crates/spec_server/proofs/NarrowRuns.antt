@@ -1,5 +1,6 @@
 -- At the limit of the server operations give fractions of at most 127 bits, and so do runs of them.
-use Rattle.std.proofs.Common.{◌≡◌, ◌≤◌, ◌<◌, ◌/◌, ℕ, zero, suc, ◌&&◌, Bool, true, false, cond, Option, Some, None, Ok, List, get_or, ℤ, pos, int_div, unsigned_abs, refl, sym, subst, arith}
+use Rattle.std.proofs.Common.{◌≡◌, ◌≤◌, ◌<◌, ◌/◌, ℕ, zero, suc, ◌&&◌, Bool, true, false, cond, Option, Some, None, Ok}
+use Rattle.std.proofs.Common.{List, get_or, ℤ, pos, int_div, unsigned_abs, refl, sym, subst, arith}
 use Rattle.std.specs.Prelude.{All}
 use Rattle.std.proofs.Math.Nat.{div-le_self}
 use Rattle.std.proofs.lemmas.Bool.{and_parts}
@@ -7,13 +8,15 @@ use borrow.Author.Tests.{leb-true}
 use Rattle.spec_exact.specs.Fraction.{ℚ, over, neg_ℚ, inverse}
 use Rattle.spec_exact.specs.Gcd.{gcd}
 use Rattle.spec_exact.specs.Quotients.{abs-int_div}
-use Rattle.spec_exact.specs.Limit.{fits, left_num, right_num, whole_sum, sum_common, sum_num, sum_den, sum_fits, product_num, product_den, product_fits, add, sub, mul, div}
+use Rattle.spec_exact.specs.Limit.{fits, left_num, right_num, whole_sum, sum_common, sum_num, sum_den, sum_fits}
+use Rattle.spec_exact.specs.Limit.{product_num, product_den, product_fits, add, sub, mul, div}
 use Rattle.spec_exact.specs.Narrow.{IsNarrow}
 use Rattle.spec_exact.specs.Answer.{told}
 use Rattle.spec_exact.specs.declared.past.Op.{Op}
 use Rattle.spec_exact.specs.declared.past.Op.TheVariants.{Add, Sub, Div}
 use Rattle.spec_mps.proofs.NarrowNumbers.{zero_narrow}
-use Rattle.spec_simplex.specs.Run.{Run, sum_run, difference_run, product_run, quotient_run, plus_product, less_product, list_run}
+use Rattle.spec_simplex.specs.Run.{Run, sum_run, difference_run, product_run, quotient_run, plus_product, less_product}
+use Rattle.spec_simplex.specs.Run.{list_run}
 use Rattle.spec_cold.proofs.Runs.{then_ok, list_ok}
 use Rattle.spec_server.specs.Answers.{number_limit}
 
@@ -51,21 +54,26 @@ unfolding add
 add_narrow v w x e =
     let s = some_if (sum_fits (Some number_limit) v.num v.den w.num w.den) _ x e in
     let t =
-    last_two (fits (Some number_limit) (unsigned_abs (left_num v.num v.den w.num w.den))) (fits (Some number_limit) (unsigned_abs (right_num v.num v.den w.num w.den)))
-    (fits (Some number_limit) (unsigned_abs (whole_sum v.num v.den w.num w.den))) (fits (Some number_limit) (sum_den v.num v.den w.num w.den)) s.0 in
+    last_two (fits (Some number_limit) (unsigned_abs (left_num v.num v.den w.num w.den)))
+    (fits (Some number_limit) (unsigned_abs (right_num v.num v.den w.num w.den)))
+    (fits (Some number_limit) (unsigned_abs (whole_sum v.num v.den w.num w.den)))
+    (fits (Some number_limit) (sum_den v.num v.den w.num w.den)) s.0 in
     subst IsNarrow s.1
     (over_narrow (sum_num v.num v.den w.num w.den) (sum_den v.num v.den w.num w.den)
-    (divided (whole_sum v.num v.den w.num w.den) (sum_common v.num v.den w.num w.den) (leb-true (unsigned_abs (whole_sum v.num v.den w.num w.den)) number_limit t.0))
+    (divided (whole_sum v.num v.den w.num w.den) (sum_common v.num v.den w.num w.den)
+    (leb-true (unsigned_abs (whole_sum v.num v.den w.num w.den)) number_limit t.0))
     (leb-true (sum_den v.num v.den w.num w.den) number_limit t.1))
 
 mul_narrow : (v w x : ℚ) → mul (Some number_limit) v w ≡ Some x → IsNarrow x
 unfolding mul
 mul_narrow v w x e =
     let s = some_if (product_fits (Some number_limit) v.num v.den w.num w.den) _ x e in
-    let t = and_parts (fits (Some number_limit) (unsigned_abs (product_num v.num v.den w.num w.den))) (fits (Some number_limit) (product_den v.num v.den w.num w.den)) s.0 in
+    let t = and_parts (fits (Some number_limit) (unsigned_abs (product_num v.num v.den w.num w.den)))
+    (fits (Some number_limit) (product_den v.num v.den w.num w.den)) s.0 in
     subst IsNarrow s.1
     (over_narrow (product_num v.num v.den w.num w.den) (product_den v.num v.den w.num w.den)
-    (leb-true (unsigned_abs (product_num v.num v.den w.num w.den)) number_limit t.0) (leb-true (product_den v.num v.den w.num w.den) number_limit t.1))
+    (leb-true (unsigned_abs (product_num v.num v.den w.num w.den)) number_limit t.0)
+    (leb-true (product_den v.num v.den w.num w.den) number_limit t.1))
 
 sub_narrow : (v w x : ℚ) → sub (Some number_limit) v w ≡ Some x → IsNarrow x
 unfolding sub

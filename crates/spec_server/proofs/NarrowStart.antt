@@ -1,6 +1,7 @@
--- Where a model's numbers are of at most 127 bits, so are those of its form and of the tableau that the form begins with, at the
--- limit of the server.
-use Rattle.std.proofs.Common.{◌≡◌, ◌+◌, ◌-◌, ℕ, suc, Bool, true, false, cond, Option, Some, None, Ok, List, [], ◌∷◌, get_or, map, replicate, nat_eq, subst, arith}
+-- Where a model's numbers are of at most 127 bits, so are those of its form and of the tableau that the form begins
+-- with, at the limit of the server.
+use Rattle.std.proofs.Common.{◌≡◌, ◌+◌, ◌-◌, ℕ, suc, Bool, true, false, cond, Option, Some, None, Ok, List, [], ◌∷◌}
+use Rattle.std.proofs.Common.{get_or, map, replicate, nat_eq, subst, arith}
 use Rattle.std.specs.Prelude.{All, nat_lt}
 use Rattle.std.specs.declared.cmp.Ordering.{Ordering}
 use Rattle.std.specs.declared.cmp.Ordering.TheVariants.{Less, Equal, Greater}
@@ -17,15 +18,22 @@ use Rattle.spec_mps.proofs.NarrowNumbers.{zero_narrow, neg_narrow}
 use Rattle.spec_simplex.specs.declared.ends.FormFault.TheVariants as fault
 use Rattle.spec_simplex.specs.declared.ends.RowStart.{RowStart}
 use Rattle.spec_simplex.specs.declared.ends.RowStart.TheVariants.{Within, Below, Above}
-use Rattle.spec_simplex.specs.Run.{◌>>=◌, refused_as, sum_run, difference_run, order_run, plus_product, less_product, steps, list_run}
-use Rattle.spec_simplex.specs.Form.{Form, form_entry, form_lower, form_upper, equation_limits, limits_by, limits_run, column_clash, least_cost, formed, form_of}
+use Rattle.spec_simplex.specs.Run.{◌>>=◌, refused_as, sum_run, difference_run, order_run, plus_product, less_product}
+use Rattle.spec_simplex.specs.Run.{steps, list_run}
+use Rattle.spec_simplex.specs.Form.{Form, form_entry, form_lower, form_upper, equation_limits, limits_by, limits_run}
+use Rattle.spec_simplex.specs.Form.{column_clash, least_cost, formed, form_of}
 use Rattle.spec_simplex.specs.Tableau.{Tableau, all_columns, entry_at, basic_at}
-use Rattle.spec_simplex.specs.Start.{first_status, first_value, row_sum, below_by, below_run, above_by, above_run, within_or_above, row_start_by, row_start, logical_value, logical_sign, structural_entry, artificial_value, artificial_upper, start_at, by_column, one_at, start_entry, start_value, start_row, begun, cost_at, reduced_run, priced_run, with_reduced, first_cost, first_costs, start_of}
+use Rattle.spec_simplex.specs.Start.{first_status, first_value, row_sum, below_by, below_run, above_by, above_run}
+use Rattle.spec_simplex.specs.Start.{within_or_above, row_start_by, row_start, logical_value, logical_sign}
+use Rattle.spec_simplex.specs.Start.{structural_entry, artificial_value, artificial_upper, start_at, by_column, one_at}
+use Rattle.spec_simplex.specs.Start.{start_entry, start_value, start_row, begun, cost_at, reduced_run, priced_run}
+use Rattle.spec_simplex.specs.Start.{with_reduced, first_cost, first_costs, start_of}
 use Rattle.spec_simplex.proofs.Stops.{All-made}
 use Rattle.spec_cold.proofs.Runs.{then_ok, refused_ok, steps_ok}
 use Rattle.spec_server.specs.Answers.{number_limit}
 use Rattle.spec_server.proofs.NarrowRuns.{sum_narrow, difference_narrow, plus_narrow, less_narrow, all_given}
-use Rattle.spec_server.proofs.NarrowSteps.{NarrowBound, AreNarrow, at, number_at, bound_at, or_zero_narrow, stand_narrow}
+use Rattle.spec_server.proofs.NarrowSteps.{NarrowBound, AreNarrow, at, number_at, bound_at, or_zero_narrow}
+use Rattle.spec_server.proofs.NarrowSteps.{stand_narrow}
 
 pub one_narrow : IsNarrow 1ℚ
 unfolding whole
@@ -51,7 +59,8 @@ NarrowPair p = NarrowBound p.0 × NarrowBound p.1
 
 equation_narrow : (b r : ℚ) (p : Pair) → equation_limits (Some number_limit) b r ≡ Ok p → IsNarrow b → NarrowPair p
 equation_narrow b r p h n =
-    let o = then_ok (sum_run (Some number_limit) b r) (λ c. Ok (cond (lt_ℚ r 0ℚ) (Some c, Some b) (Some b, Some c))) p h in
+    let o = then_ok (sum_run (Some number_limit) b r) (λ c. Ok (cond (lt_ℚ r 0ℚ) (Some c, Some b) (Some b, Some c))) p
+    h in
     let e : cond (lt_ℚ r 0ℚ) (Some o.0, Some b) (Some b, Some o.0) ≡ p = cc in
     subst NarrowPair e (by (lt_ℚ r 0ℚ) o.0 (sum_narrow b r o.0 o.1))
   where
@@ -83,22 +92,28 @@ formed_narrow m ls n h = record {
   entries =
       All-map (All (λ e. IsNarrow e.1)) (λ (c : ExactColumn). c.entries) m.columns (λ k d l. (n.columns k d l).entries);
   lower = All-append NarrowBound (map (λ (c : ExactColumn). c.lower) m.columns) (map (λ (p : Pair). p.0) ls)
-      (All-map NarrowBound (λ (c : ExactColumn). c.lower) m.columns (λ k d l. (n.columns k d l).lower)) (All-map NarrowBound (λ (p : Pair). p.0) ls (λ k d l. (h k d l).0));
+      (All-map NarrowBound (λ (c : ExactColumn). c.lower) m.columns (λ k d l. (n.columns k d l).lower))
+      (All-map NarrowBound (λ (p : Pair). p.0) ls (λ k d l. (h k d l).0));
   upper = All-append NarrowBound (map (λ (c : ExactColumn). c.upper) m.columns) (map (λ (p : Pair). p.1) ls)
-      (All-map NarrowBound (λ (c : ExactColumn). c.upper) m.columns (λ k d l. (n.columns k d l).upper)) (All-map NarrowBound (λ (p : Pair). p.1) ls (λ k d l. (h k d l).1));
+      (All-map NarrowBound (λ (c : ExactColumn). c.upper) m.columns (λ k d l. (n.columns k d l).upper))
+      (All-map NarrowBound (λ (p : Pair). p.1) ls (λ k d l. (h k d l).1));
   cost = All-append IsNarrow (map (λ (c : ExactColumn). least_cost m.sense c.cost) m.columns) (replicate (height m) 0ℚ)
-      (All-map IsNarrow (λ (c : ExactColumn). least_cost m.sense c.cost) m.columns (λ k d l. least_narrow m.sense (get_or m.columns k d).cost (n.columns k d l).cost)) (All-replicate IsNarrow (height m) 0ℚ zero_narrow);
+      (All-map IsNarrow (λ (c : ExactColumn). least_cost m.sense c.cost) m.columns
+      (λ k d l. least_narrow m.sense (get_or m.columns k d).cost (n.columns k d l).cost))
+      (All-replicate IsNarrow (height m) 0ℚ zero_narrow);
 }
 
 pub form_narrow : (m : Model) (f : Form) → form_of (Some number_limit) m ≡ Ok f → IsNarrowModel m → IsNarrowForm f
 unfolding form_of
 form_narrow m f h n =
-    let o = then_ok (refused_as fault.Past (list_run (height m) (λ i. limits_run (Some number_limit) (row m i)))) (λ ls. steps (width m) (λ j _. column_clash (Some number_limit) m j) tt >>= λ _. Ok (formed m ls)) f h in
+    let o = then_ok (refused_as fault.Past (list_run (height m) (λ i. limits_run (Some number_limit) (row m i))))
+    (λ ls. steps (width m) (λ j _. column_clash (Some number_limit) m j) tt >>= λ _. Ok (formed m ls)) f h in
     let p = then_ok (steps (width m) (λ j _. column_clash (Some number_limit) m j) tt) (λ _. Ok (formed m o.0)) f o.2 in
     let e : formed m o.0 ≡ f = cc in
     subst IsNarrowForm e
     (formed_narrow m o.0 n
-    (all_given NarrowPair (height m) (λ i. limits_run (Some number_limit) (row m i)) o.0 (refused_ok fault.Past _ o.0 o.1)
+    (all_given NarrowPair (height m) (λ i. limits_run (Some number_limit) (row m i)) o.0
+    (refused_ok fault.Past _ o.0 o.1)
     (λ i q l g. limits_narrow (row m i).kind (row m i).rhs (row m i).range q g (n.rows i no_row l).rhs)))
 
 entry_narrow : (es : List (ℕ × ℚ)) (i : ℕ) → All (λ e. IsNarrow e.1) es → IsNarrow (entry_of es i)
@@ -111,7 +126,8 @@ entry_narrow (e ∷ es) i h = by (nat_eq e.0 i) (entry_narrow es i (λ k d l. h 
 
 pub form_entry_narrow : (f : Form) → IsNarrowForm f → (i j : ℕ) → IsNarrow (form_entry f i j)
 form_entry_narrow f n i j =
-    entry_narrow (get_or f.entries j []) i (at (All (λ e. IsNarrow e.1)) f.entries [] n.entries (All-nil (λ (e : ℕ × ℚ). IsNarrow e.1)) j)
+    entry_narrow (get_or f.entries j []) i (at (All (λ e. IsNarrow e.1)) f.entries [] n.entries
+    (All-nil (λ (e : ℕ × ℚ). IsNarrow e.1)) j)
 
 -- ---- what rows begin with
 
@@ -122,7 +138,8 @@ NarrowStart (Above gap) = IsNarrow gap
 
 sum_of_row : (f : Form) (i : ℕ) (v : ℚ) → row_sum (Some number_limit) f i ≡ Ok v → IsNarrow v
 sum_of_row f i v h =
-    steps_ok (λ _ s. IsNarrow s) f.cols (λ j s. plus_product (Some number_limit) (form_entry f i j) (first_value f j) s) 0ℚ v h zero_narrow
+    steps_ok (λ _ s. IsNarrow s) f.cols (λ j s. plus_product (Some number_limit) (form_entry f i j) (first_value f j)
+    s) 0ℚ v h zero_narrow
     (λ j s t l k q. plus_narrow (form_entry f i j) (first_value f j) s t q)
 
 below_narrow : (lower : Option ℚ) (v : ℚ) (gap : Option ℚ) → below_run (Some number_limit) lower v ≡ Ok gap →
@@ -171,7 +188,8 @@ pub row_start_narrow : (f : Form) (i : ℕ) (s : RowStart ℚ) → row_start (So
 row_start_narrow f i s h =
     let o = then_ok (row_sum (Some number_limit) f i) _ s h in
     let p = then_ok (below_run (Some number_limit) (form_lower f (f.cols + i)) o.0) _ s o.2 in
-    start_by_narrow (form_upper f (f.cols + i)) o.0 p.0 s p.2 (sum_of_row f i o.0 o.1) (below_narrow (form_lower f (f.cols + i)) o.0 p.0 p.1)
+    start_by_narrow (form_upper f (f.cols + i)) o.0 p.0 s p.2 (sum_of_row f i o.0 o.1)
+    (below_narrow (form_lower f (f.cols + i)) o.0 p.0 p.1)
 
 -- ---- the tableau
 
@@ -231,38 +249,47 @@ module _ (f : Form) (starts : List (RowStart ℚ)) (n : IsNarrowForm f) (h : All
 
   first_narrow : (k : ℕ) → IsNarrow (first_value f k)
   first_narrow k =
-      stand_narrow (first_status (form_lower f k) (form_upper f k)) (form_lower f k) (form_upper f k) (lower_narrow k) (upper_narrow k)
+      stand_narrow (first_status (form_lower f k) (form_upper f k)) (form_lower f k) (form_upper f k) (lower_narrow k)
+      (upper_narrow k)
 
   at_start : (r : ℕ) → NarrowStart (start_at starts r)
   at_start r = at NarrowStart starts (Within 0ℚ) h zero_narrow r
 
   start_entry_narrow : (i k : ℕ) → IsNarrow (start_entry f (start_at starts i) i k)
   start_entry_narrow i k =
-      by_column_narrow f k (structural_entry (start_at starts i) (form_entry f i k)) (λ r. one_at i r (logical_sign (start_at starts i))) (λ r. one_at i r 1ℚ)
+      by_column_narrow f k (structural_entry (start_at starts i) (form_entry f i k))
+      (λ r. one_at i r (logical_sign (start_at starts i))) (λ r. one_at i r 1ℚ)
       (structural_narrow (start_at starts i) (form_entry f i k) (form_entry_narrow f n i k))
-      (λ r. one_at_narrow i r (logical_sign (start_at starts i)) (sign_narrow (start_at starts i))) (λ r. one_at_narrow i r 1ℚ one_narrow)
+      (λ r. one_at_narrow i r (logical_sign (start_at starts i)) (sign_narrow (start_at starts i)))
+      (λ r. one_at_narrow i r 1ℚ one_narrow)
 
   start_value_narrow : (k : ℕ) → IsNarrow (start_value f starts k)
   start_value_narrow k =
-      by_column_narrow f k (first_value f k) (λ r. logical_value (start_at starts r) (form_lower f k) (form_upper f k)) (λ r. artificial_value (start_at starts r))
+      by_column_narrow f k (first_value f k) (λ r. logical_value (start_at starts r) (form_lower f k) (form_upper f k))
+      (λ r. artificial_value (start_at starts r))
       (first_narrow k)
-      (λ r. logical_narrow (start_at starts r) (form_lower f k) (form_upper f k) (at_start r) (lower_narrow k) (upper_narrow k)) (λ r. artificial_narrow (start_at starts r) (at_start r))
+      (λ r. logical_narrow (start_at starts r) (form_lower f k) (form_upper f k) (at_start r) (lower_narrow k)
+      (upper_narrow k)) (λ r. artificial_narrow (start_at starts r) (at_start r))
 
   pub begun_narrow : AreNarrow (begun f starts)
   begun_narrow = record {
     entries = All-made (All IsNarrow) f.rows (start_row f starts)
-        (λ i l. All-made IsNarrow (f.cols + f.rows + f.rows) (start_entry f (start_at starts i) i) (λ k q. start_entry_narrow i k));
+        (λ i l. All-made IsNarrow (f.cols + f.rows + f.rows) (start_entry f (start_at starts i) i)
+        (λ k q. start_entry_narrow i k));
     value = All-made IsNarrow (f.cols + f.rows + f.rows) (start_value f starts) (λ k l. start_value_narrow k);
     reduced = All-replicate IsNarrow (f.cols + f.rows + f.rows) 0ℚ zero_narrow;
     lower =
-        All-append NarrowBound f.lower (replicate f.rows (Some 0ℚ)) n.lower (All-replicate NarrowBound f.rows (Some 0ℚ) zero_narrow);
+        All-append NarrowBound f.lower (replicate f.rows (Some 0ℚ)) n.lower
+        (All-replicate NarrowBound f.rows (Some 0ℚ) zero_narrow);
     upper =
-        All-append NarrowBound f.upper (map artificial_upper starts) n.upper (All-map NarrowBound artificial_upper starts (λ k d l. artificial_bound (get_or starts k d)));
+        All-append NarrowBound f.upper (map artificial_upper starts) n.upper
+        (All-map NarrowBound artificial_upper starts (λ k d l. artificial_bound (get_or starts k d)));
   }
 
   pub first_costs_narrow : All IsNarrow (first_costs f starts)
   first_costs_narrow =
-      All-append IsNarrow (replicate (f.cols + f.rows) 0ℚ) (map first_cost starts) (All-replicate IsNarrow (f.cols + f.rows) 0ℚ zero_narrow)
+      All-append IsNarrow (replicate (f.cols + f.rows) 0ℚ) (map first_cost starts)
+      (All-replicate IsNarrow (f.cols + f.rows) 0ℚ zero_narrow)
       (All-map IsNarrow first_cost starts (λ k d l. first_cost_narrow (get_or starts k d)))
 
 -- reduced costs
@@ -272,7 +299,8 @@ unfolding priced_run
 priced_narrow t costs reduced h n =
     all_given IsNarrow (all_columns t) (reduced_run (Some number_limit) t costs) reduced h
     (λ k d l q.
-    steps_ok (λ _ d. IsNarrow d) t.rows (λ i d. less_product (Some number_limit) (cost_at costs (basic_at t i)) (entry_at t i k) d) (cost_at costs k) d q (number_at costs n k)
+    steps_ok (λ _ d. IsNarrow d) t.rows (λ i d. less_product (Some number_limit) (cost_at costs (basic_at t i))
+    (entry_at t i k) d) (cost_at costs k) d q (number_at costs n k)
     (λ i x y l p r. less_narrow (cost_at costs (basic_at t i)) (entry_at t i k) x y r))
 
 pub start_narrow : (f : Form) (t : Tableau) → start_of (Some number_limit) f ≡ Ok t → IsNarrowForm f → AreNarrow t
@@ -280,7 +308,8 @@ unfolding start_of
 start_narrow f t h n =
     let o = then_ok (list_run f.rows (row_start (Some number_limit) f)) _ t h in
     let p = then_ok (priced_run (Some number_limit) (begun f o.0) (first_costs f o.0)) _ t o.2 in
-    let starts : All NarrowStart o.0 = all_given NarrowStart f.rows (row_start (Some number_limit) f) o.0 o.1 (λ i s l q. row_start_narrow f i s q) in
+    let starts : All NarrowStart o.0 = all_given NarrowStart f.rows (row_start (Some number_limit) f) o.0 o.1
+    (λ i s l q. row_start_narrow f i s q) in
     let b : AreNarrow (begun f o.0) = begun_narrow f o.0 n starts in
     let e : with_reduced (begun f o.0) p.0 ≡ t = cc in
     subst AreNarrow e

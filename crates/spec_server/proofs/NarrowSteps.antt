@@ -1,5 +1,6 @@
 -- The numbers of a tableau, of at most 127 bits, stay so in each step of the method at the limit of the server.
-use Rattle.std.proofs.Common.{◌≡◌, ℕ, Bool, true, false, cond, Option, Some, None, Ok, List, [], length, get_or, set, sym, subst, ⊎_elim}
+use Rattle.std.proofs.Common.{◌≡◌, ℕ, Bool, true, false, cond, Option, Some, None, Ok, List, [], length, get_or, set}
+use Rattle.std.proofs.Common.{sym, subst, ⊎_elim}
 use Rattle.std.specs.Prelude.{All, IfSome, nat_eq}
 use Rattle.std.proofs.lemmas.Bool.{cases_lt}
 use Rattle.std.proofs.lemmas.List.{get_or_past}
@@ -10,8 +11,11 @@ use Rattle.spec_mps.proofs.NarrowNumbers.{zero_narrow}
 use Rattle.spec_pivot.specs.declared.status.Status.{Status}
 use Rattle.spec_pivot.specs.declared.status.Status.TheVariants.{Basic, AtLower, AtUpper, AtZero}
 use Rattle.spec_simplex.specs.Run.{Run, difference_run, list_run, less_product, quotient_run, sum_run}
-use Rattle.spec_simplex.specs.Tableau.{Tableau, all_columns, at_place, entry_at, basic_at, status_at, lower_at, upper_at, is_artificial, or_zero, stand}
-use Rattle.spec_simplex.specs.Step.{directed, other_bound, is_place, moved_at, moved_run, flip_way, flipped, flip_run, scaled_run, cleared_run, turned_run, repriced_run, leave_bound, exchanged, turned, shifted_run, pivot_run}
+use Rattle.spec_simplex.specs.Tableau.{Tableau, all_columns, at_place, entry_at, basic_at, status_at, lower_at}
+use Rattle.spec_simplex.specs.Tableau.{upper_at, is_artificial, or_zero, stand}
+use Rattle.spec_simplex.specs.Step.{directed, other_bound, is_place, moved_at, moved_run, flip_way, flipped, flip_run}
+use Rattle.spec_simplex.specs.Step.{scaled_run, cleared_run, turned_run, repriced_run, leave_bound, exchanged, turned}
+use Rattle.spec_simplex.specs.Step.{shifted_run, pivot_run}
 use Rattle.spec_cold.proofs.Runs.{then_ok, steps_ok}
 use Rattle.spec_server.specs.Answers.{number_limit}
 use Rattle.spec_server.proofs.NarrowRuns.{sum_narrow, quotient_narrow, less_narrow, all_given}
@@ -55,15 +59,18 @@ stand_narrow AtZero lower upper h k = zero_narrow
 moved_at_narrow : (t : Tableau) (j : ℕ) (theta : ℚ) (i : ℕ) (xs ys : List ℚ) →
     moved_at (Some number_limit) t j theta i xs ≡ Ok ys → All IsNarrow xs → All IsNarrow ys
 moved_at_narrow t j theta i xs ys h n =
-    let o = then_ok (less_product (Some number_limit) (entry_at t i j) theta (get_or xs (basic_at t i) 0ℚ)) (λ v. Ok (set xs (basic_at t i) v)) ys h in
+    let o = then_ok (less_product (Some number_limit) (entry_at t i j) theta (get_or xs (basic_at t i) 0ℚ))
+    (λ v. Ok (set xs (basic_at t i) v)) ys h in
     let e : set xs (basic_at t i) o.0 ≡ ys = cc in
-    subst (All IsNarrow) e (All-set IsNarrow xs (basic_at t i) o.0 (less_narrow (entry_at t i j) theta (get_or xs (basic_at t i) 0ℚ) o.0 o.1) n)
+    subst (All IsNarrow) e (All-set IsNarrow xs (basic_at t i) o.0
+    (less_narrow (entry_at t i j) theta (get_or xs (basic_at t i) 0ℚ) o.0 o.1) n)
 
 pub moved_narrow : (t : Tableau) (j : ℕ) (theta : ℚ) (but : Option ℕ) (values : List ℚ) →
     moved_run (Some number_limit) t j theta but ≡ Ok values → All IsNarrow t.value → All IsNarrow values
 unfolding moved_run
 moved_narrow t j theta but values h n =
-    steps_ok (λ _ xs. All IsNarrow xs) t.rows (λ i xs. cond (is_place but i) (Ok xs) (moved_at (Some number_limit) t j theta i xs)) t.value values h n
+    steps_ok (λ _ xs. All IsNarrow xs) t.rows
+    (λ i xs. cond (is_place but i) (Ok xs) (moved_at (Some number_limit) t j theta i xs)) t.value values h n
     (λ i xs ys l p. by (is_place but i) i xs ys p)
   where
     by : (c : Bool) (i : ℕ) (xs ys : List ℚ) → All IsNarrow xs →
@@ -83,7 +90,8 @@ flip_narrow t u j h n =
     subst AreNarrow e
     (record {
       entries = n.entries;
-      value = All-set IsNarrow p.0 j (stand to (lower_at t j) (upper_at t j)) (stand_narrow to (lower_at t j) (upper_at t j) (bound_at t.lower n.lower j) (bound_at t.upper n.upper j))
+      value = All-set IsNarrow p.0 j (stand to (lower_at t j) (upper_at t j))
+          (stand_narrow to (lower_at t j) (upper_at t j) (bound_at t.lower n.lower j) (bound_at t.upper n.upper j))
           (moved_narrow t j _ None p.0 p.1 n.value);
       reduced = n.reduced;
       lower = n.lower;
@@ -96,25 +104,32 @@ scaled_narrow : (n : ℕ) (rows new : List (List ℚ)) (p j : ℕ) → scaled_ru
     All (All IsNarrow) rows → All (All IsNarrow) new
 unfolding scaled_run
 scaled_narrow n rows new p j h k =
-    let o = then_ok (list_run n (λ k. quotient_run (Some number_limit) (at_place rows p k) (at_place rows p j))) (λ row. Ok (set rows p row)) new h in
+    let o = then_ok (list_run n (λ k. quotient_run (Some number_limit) (at_place rows p k) (at_place rows p j)))
+    (λ row. Ok (set rows p row)) new h in
     let e : set rows p o.0 ≡ new = cc in
-    subst (All (All IsNarrow)) e (All-set (All IsNarrow) rows p o.0 (all_given IsNarrow n _ o.0 o.1 (λ i x l q. quotient_narrow (at_place rows p i) (at_place rows p j) x q)) k)
+    subst (All (All IsNarrow)) e
+    (All-set (All IsNarrow) rows p o.0
+    (all_given IsNarrow n _ o.0 o.1 (λ i x l q. quotient_narrow (at_place rows p i) (at_place rows p j) x q)) k)
 
 cleared_narrow : (n p j i : ℕ) (rows new : List (List ℚ)) → cleared_run (Some number_limit) n p j i rows ≡ Ok new →
     All (All IsNarrow) rows → All (All IsNarrow) new
 unfolding cleared_run
 cleared_narrow n p j i rows new h k =
-    let o = then_ok (list_run n (λ k. less_product (Some number_limit) (at_place rows i j) (at_place rows p k) (at_place rows i k))) (λ row. Ok (set rows i row)) new h in
+    let o = then_ok (list_run n (λ k. less_product (Some number_limit) (at_place rows i j) (at_place rows p k)
+    (at_place rows i k))) (λ row. Ok (set rows i row)) new h in
     let e : set rows i o.0 ≡ new = cc in
     subst (All (All IsNarrow)) e
-    (All-set (All IsNarrow) rows i o.0 (all_given IsNarrow n _ o.0 o.1 (λ k x l q. less_narrow (at_place rows i j) (at_place rows p k) (at_place rows i k) x q)) k)
+    (All-set (All IsNarrow) rows i o.0
+    (all_given IsNarrow n _ o.0 o.1 (λ k x l q. less_narrow (at_place rows i j) (at_place rows p k) (at_place rows i k)
+    x q)) k)
 
 turned_narrow : (m n : ℕ) (rows new : List (List ℚ)) (p j : ℕ) → turned_run (Some number_limit) m n rows p j ≡ Ok new →
     All (All IsNarrow) rows → All (All IsNarrow) new
 unfolding turned_run
 turned_narrow m n rows new p j h k =
     let o = then_ok (scaled_run (Some number_limit) n rows p j) _ new h in
-    steps_ok (λ _ rows. All (All IsNarrow) rows) m (λ i rows. cond (nat_eq i p) (Ok rows) (cleared_run (Some number_limit) n p j i rows)) o.0 new o.2
+    steps_ok (λ _ rows. All (All IsNarrow) rows) m
+    (λ i rows. cond (nat_eq i p) (Ok rows) (cleared_run (Some number_limit) n p j i rows)) o.0 new o.2
     (scaled_narrow n rows o.0 p j o.1 k)
     (λ i xs ys l q. by (nat_eq i p) i xs ys q)
   where
@@ -127,9 +142,11 @@ repriced_narrow : (n : ℕ) (reduced : List ℚ) (rows : List (List ℚ)) (p j :
     repriced_run (Some number_limit) n reduced rows p j ≡ Ok new → All IsNarrow new
 unfolding repriced_run
 repriced_narrow n reduced rows p j new h =
-    all_given IsNarrow n _ new h (λ k x l q. less_narrow (get_or reduced j 0ℚ) (at_place rows p k) (get_or reduced k 0ℚ) x q)
+    all_given IsNarrow n _ new h (λ k x l q. less_narrow (get_or reduced j 0ℚ) (at_place rows p k)
+    (get_or reduced k 0ℚ) x q)
 
-pub shifted_narrow : (values new : List ℚ) (j : ℕ) (theta : ℚ) → shifted_run (Some number_limit) values j theta ≡ Ok new →
+pub shifted_narrow : (values new : List ℚ) (j : ℕ) (theta : ℚ) → shifted_run (Some number_limit) values j theta ≡ Ok
+    new →
     All IsNarrow values → All IsNarrow new
 unfolding shifted_run
 shifted_narrow values new j theta h n =
@@ -151,7 +168,9 @@ exchanged_narrow t p j to n =
     record {
       entries = n.entries;
       value =
-          All-set IsNarrow t.value q (stand to (lower_at t q) (upper_at t q)) (stand_narrow to (lower_at t q) (upper_at t q) (bound_at t.lower n.lower q) (bound_at t.upper n.upper q)) n.value;
+          All-set IsNarrow t.value q (stand to (lower_at t q) (upper_at t q))
+          (stand_narrow to (lower_at t q) (upper_at t q) (bound_at t.lower n.lower q) (bound_at t.upper n.upper q))
+          n.value;
       reduced = n.reduced;
       lower = leave_narrow t q t.lower n.lower;
       upper = leave_narrow t q t.upper n.upper;

@@ -1,5 +1,7 @@
--- The lines of a written certificate are short, and of spaces and printed bytes; and what the lines of a text of such lines are.
-use Rattle.std.proofs.Common.{◌≡◌, ◌≢◌, ℕ, zero, suc, ◌≤◌, ◌<◌, Bool, true, false, cond, None, List, [], ◌∷◌, ◌++◌, length, map, refl, ap, ◌∙◌, append_assoc, length-append, arith}
+-- The lines of a written certificate are short, and of spaces and printed bytes; and what the lines of a text of such
+-- lines are.
+use Rattle.std.proofs.Common.{◌≡◌, ◌≢◌, ℕ, zero, suc, ◌≤◌, ◌<◌, Bool, true, false, cond, None, List, [], ◌∷◌, ◌++◌}
+use Rattle.std.proofs.Common.{length, map, refl, ap, ◌∙◌, append_assoc, length-append, arith}
 use Rattle.std.specs.Prelude.{codes, nat_le, All}
 use Rattle.std.specs.List.{flat_map, list_all}
 use Rattle.std.proofs.lemmas.Bool.{and_parts}
@@ -13,7 +15,8 @@ use Rattle.spec_exact.specs.Fraction.{ℚ, 0ℚ, eq_ℚ}
 use Rattle.spec_exact.specs.Narrow.{IsNarrow}
 use Rattle.spec_model.specs.declared.parts.Sense.TheVariants.{Min}
 use Rattle.spec_model.specs.Model.{Model, Name, ExactColumn, no_row, no_column, width, height, row, column, part}
-use Rattle.spec_model.specs.Kept.{IsModel, IsKeptColumn, IsNarrowRow, IsNarrowColumn, is_name, is_row_name, is_model_name}
+use Rattle.spec_model.specs.Kept.{IsModel, IsKeptColumn, IsNarrowRow, IsNarrowColumn, is_name, is_row_name}
+use Rattle.spec_model.specs.Kept.{is_model_name}
 use Rattle.spec_mps.specs.NumberWritten.{number_text}
 use Rattle.spec_mps.specs.Written.{cards_of, rows_cards, columns_cards, section_card}
 use Rattle.spec_mps.proofs.NarrowNumbers.{zero_narrow}
@@ -25,7 +28,8 @@ use Rattle.spec_check.specs.declared.certificate.Letter.TheVariants.{X, Y, R}
 use Rattle.spec_check.specs.declared.certificate.Certificate.{Certificate}
 use Rattle.spec_check.specs.declared.certificate.Certificate.TheVariants.{Optimal, Infeasible, Clash, Unbounded}
 use Rattle.spec_check.specs.Certificate.{IsFor, IsNarrowCertificate}
-use Rattle.spec_check.specs.TextWritten.{letter_text, part_text, part_lines, lines_below, column_lines, row_lines, kind_text, all_part_lines, certificate_lines}
+use Rattle.spec_check.specs.TextWritten.{letter_text, part_text, part_lines, lines_below, column_lines, row_lines}
+use Rattle.spec_check.specs.TextWritten.{kind_text, all_part_lines, certificate_lines}
 
 -- ---- lines one after the other
 
@@ -58,7 +62,15 @@ ended_lines_behind {X} f (x ∷ xs) more h =
 -- a model with this column and cost alone
 abbrev with_cost : Name → ℚ → Model
 with_cost name v =
-    record { name = []; sense = Min; objective = codes "N"; offset = 0ℚ; rows = []; columns = record { name = name; cost = v; lower = None; upper = None; entries = [] } ∷ [] }
+    record {
+      name = [];
+      sense = Min;
+      objective = codes "N";
+      offset = 0ℚ;
+      rows = [];
+      columns = record
+          { name = name; cost = v; lower = None; upper = None; entries = [] } ∷ [];
+    }
 
 cost_kept : (name : Name) (v : ℚ) → is_name name ≡ true → IsNarrow v → IsModel (with_cost name v)
 unfolding is_name is_row_name is_model_name
@@ -71,14 +83,26 @@ cost_kept name v h n =
       objective = refl;
       rows = λ k d l. absurd (omega arith);
       columns = All-cons (IsKeptColumn 0) c []
-          (record { name = h; lower = tt; upper = tt; entries = record { inside = λ k d l. absurd (omega arith); ascending = λ i k d p l. absurd (omega arith); not_zero = λ k d l. absurd (omega arith) } })
+          (record {
+            name = h;
+            lower = tt;
+            upper = tt;
+            entries = record {
+              inside = λ k d l. absurd (omega arith);
+              ascending = λ i k d p l. absurd (omega arith);
+              not_zero = λ k d l.
+                  absurd (omega arith);
+            };
+          })
           (All-nil (IsKeptColumn 0));
       rows_distinct = λ i k d p l. absurd (omega arith);
       columns_distinct = λ i k d p l. absurd (omega arith);
       offset = zero_narrow;
       narrow_rows = All-nil IsNarrowRow;
       narrow_columns =
-          All-cons IsNarrowColumn c [] (record { cost = n; lower = tt; upper = tt; entries = λ k d l. absurd (omega arith) }) (All-nil IsNarrowColumn);
+          All-cons IsNarrowColumn c []
+          (record { cost = n; lower = tt; upper = tt; entries = λ k d l. absurd (omega arith) })
+          (All-nil IsNarrowColumn);
     }
 
 pub record AreShort (name : Name) (v : ℚ) : Type 0 where
@@ -110,7 +134,11 @@ words_plain a b c h k l =
     let x = h.fits in
     let y = k.fits in
     let z = l.fits in
-    record { short = omega arith; plain = plain_both a (32 ∷ (b ++ 32 ∷ c)) h.plain (plain_both b (32 ∷ c) k.plain l.plain) }
+    record {
+      short = omega arith;
+      plain = plain_both a (32 ∷ (b ++ 32 ∷ c)) h.plain
+          (plain_both b (32 ∷ c) k.plain l.plain);
+    }
 
 part_plain : (letter : Letter) (name : Name) (v : ℚ) → is_name name ≡ true → IsNarrow v →
     All IsPlainLine (part_lines letter name v)
@@ -120,9 +148,11 @@ part_plain letter name v h n = by (eq_ℚ v 0ℚ)
     by true = All-nil IsPlainLine
     by false =
         let s = both_short name v h n in
-        All-cons IsPlainLine (part_text letter name v) [] (words_plain (letter_text letter) name (number_text v) (letter_short letter) s.short_name s.short_number) (All-nil IsPlainLine)
+        All-cons IsPlainLine (part_text letter name v) [] (words_plain (letter_text letter) name (number_text v)
+        (letter_short letter) s.short_name s.short_number) (All-nil IsPlainLine)
 
-below_plain : (letter : Letter) (names : ℕ → Name) (values : List ℚ) (n : ℕ) → ((k : ℕ) → k < n → is_name (names k) ≡ true) → ((k : ℕ) → k < n → IsNarrow (part values k))
+below_plain : (letter : Letter) (names : ℕ → Name) (values : List ℚ) (n : ℕ) →
+    ((k : ℕ) → k < n → is_name (names k) ≡ true) → ((k : ℕ) → k < n → IsNarrow (part values k))
     → All IsPlainLine (lines_below letter names values n)
 below_plain letter names values zero h k = All-nil IsPlainLine
 below_plain letter names values (suc n) h k =
@@ -156,7 +186,8 @@ module _ (m : Model) (kept : IsModel m) where
       All-append IsPlainLine (column_lines m X x) (row_lines m Y y) (columns_plain X x f.0 n.0) (rows_plain Y y f.1 n.1)
   parts_plain (Infeasible y) f n = rows_plain Y y f n
   parts_plain (Unbounded x r) f n =
-      All-append IsPlainLine (column_lines m X x) (column_lines m R r) (columns_plain X x f.0 n.0) (columns_plain R r f.1 n.1)
+      All-append IsPlainLine (column_lines m X x) (column_lines m R r) (columns_plain X x f.0 n.0)
+      (columns_plain R r f.1 n.1)
   parts_plain (Clash j) f n = All-nil IsPlainLine
 
   clash_plain : (name : Name) → IsShort name → IsPlainLine (codes "CLASH" ++ 32 ∷ name)

@@ -1,5 +1,6 @@
 -- The models that a script's asks hold may be kept, and so may the numbers of its edits.
-use Rattle.std.proofs.Common.{◌≡◌, ℕ, Bool, true, false, cond, Option, Some, None, List, [], ◌∷◌, ◌++◌, length, take, refl}
+use Rattle.std.proofs.Common.{◌≡◌, ℕ, Bool, true, false, cond, Option, Some, None, List, [], ◌∷◌, ◌++◌, length, take}
+use Rattle.std.proofs.Common.{refl}
 use Rattle.std.specs.Prelude.{nat_le}
 use Rattle.std.proofs.lemmas.List.Elements.{All-nil, All-cons, All-append}
 use Rattle.spec_text.specs.declared.line.Line.{Line}
@@ -19,8 +20,10 @@ use Rattle.spec_server.specs.declared.command.Command.TheVariants.{Load, Check, 
 use Rattle.spec_server.specs.Addressing.{addressed_in}
 use Rattle.spec_server.specs.Command.{ExactCommand}
 use Rattle.spec_server.specs.Machine.{ExactAsk, IsKeptAsk, AreKept}
-use Rattle.spec_server.specs.Script.{Pending, Between, Text, Certificate, Script, Over, ends_text, ends_certificate, ask_of_verdict, ask_of_judgement}
-use Rattle.spec_server.specs.Script.{pending_after_line, asks_of_command, asks_by, asks_of_line, asks_from, ended_asks_of, script_of, ending_by, pending_after}
+use Rattle.spec_server.specs.Script.{Pending, Between, Text, Certificate, Script, Over, ends_text, ends_certificate}
+use Rattle.spec_server.specs.Script.{ask_of_verdict, ask_of_judgement}
+use Rattle.spec_server.specs.Script.{pending_after_line, asks_of_command, asks_by, asks_of_line, asks_from}
+use Rattle.spec_server.specs.Script.{ended_asks_of, script_of, ending_by, pending_after}
 use Rattle.spec_server.proofs.ScriptLemmas.{IsKeptCommand, IsKeptLine, line_is_kept}
 
 none_kept : AreKept []
@@ -56,7 +59,8 @@ if_kept false session asked h = none_kept
 line_kept : (addressing : Addressing) (p : Pending) (next : Line (List ℕ)) → AreKept (asks_of_line addressing p next)
 line_kept addressing Between next = asks_kept (addressed_in addressing next) (line_is_kept addressing next)
 line_kept addressing (Text session form body) next =
-    if_kept (ends_text next) session _ (verdict_kept form (body ++ next ∷ []) (judge form start 1 (body ++ next ∷ [])) refl)
+    if_kept (ends_text next) session _ (verdict_kept form (body ++ next ∷ []) (judge form start 1 (body ++ next ∷ []))
+    refl)
 line_kept addressing (Certificate session body) next =
     if_kept (ends_certificate next) session _ (judgement_kept (certificate.judge None 1 (body ++ next ∷ [])))
 
@@ -65,7 +69,8 @@ lines_kept : (addressing : Addressing) (p : Pending) (lines : List (Line (List �
 lines_kept addressing p [] = none_kept
 lines_kept addressing p (next ∷ lines) =
     let after : Pending = pending_after_line addressing p next in
-    All-append (λ (a : Asked ExactAsk). IsKeptAsk a.ask) (asks_of_line addressing p next) (asks_from addressing after lines)
+    All-append (λ (a : Asked ExactAsk). IsKeptAsk a.ask) (asks_of_line addressing p next)
+    (asks_from addressing after lines)
     (line_kept addressing p next) (lines_kept addressing after lines)
 
 pub script_kept : (bytes : List ℕ) → AreKept (script_of bytes).asks
@@ -74,7 +79,11 @@ script_kept bytes = by (nat_le (length bytes) input_limit)
   where
     by : (t : Bool)
         → AreKept (cond {A = Script} t
-        (record { asks = asks_from Numbered Between (lines_of bytes); ending = ending_by (pending_after Numbered Between (lines_of bytes)) })
+        (record {
+          asks = asks_from Numbered Between (lines_of bytes);
+          ending = ending_by
+              (pending_after Numbered Between (lines_of bytes));
+        })
         (record { asks = ended_asks_of bytes; ending = Over })).asks
     by true = lines_kept Numbered Between (lines_of bytes)
     by false = lines_kept Numbered Between (ended_lines_of (take input_limit bytes))

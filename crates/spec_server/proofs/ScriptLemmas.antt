@@ -1,5 +1,7 @@
 -- A script's asks, line by line.
-use Rattle.std.proofs.Common.{◌≡◌, ◌≤◌, ℕ, Bool, true, false, ◌&&◌, not, cond, Option, Some, None, Ok, Err, IfOk, List, [], ◌∷◌, ◌++◌, length, nat_le, nat_lt, refl, sym, ap, ◌∙◌, subst, append_assoc, arith, leb-true}
+use Rattle.std.proofs.Common.{◌≡◌, ◌≤◌, ℕ, Bool, true, false, ◌&&◌, not, cond, Option, Some, None, Ok, Err, IfOk, List}
+use Rattle.std.proofs.Common.{[], ◌∷◌, ◌++◌, length, nat_le, nat_lt, refl, sym, ap, ◌∙◌, subst, append_assoc, arith}
+use Rattle.std.proofs.Common.{leb-true}
 use Rattle.std.specs.List.{list_all}
 use Rattle.spec_text.specs.declared.line.Line.{Line}
 use Rattle.spec_text.specs.declared.line.Line.TheVariants as line
@@ -16,20 +18,24 @@ use Rattle.spec_server.specs.declared.command.CommandWord.{CommandWord}
 use Rattle.spec_server.specs.declared.command.CommandWord.TheVariants as command_word
 use Rattle.spec_server.specs.Machine.{ExactAsk, IsKeptPlain}
 use Rattle.spec_server.specs.EditCommand.{Reads, edit_by}
-use Rattle.spec_server.specs.Command.{ExactCommand, is_digit, begins_with_zero, session_of, budget_of, style_of, command_word_of}
+use Rattle.spec_server.specs.Command.{ExactCommand, is_digit, begins_with_zero, session_of, budget_of, style_of}
+use Rattle.spec_server.specs.Command.{command_word_of}
 use Rattle.spec_server.specs.Command.{load_by, write_by, budget_by, change_by, command_with, command_at, command_of}
 use Rattle.spec_server.specs.Addressing.{addressed_to, addressed_from, addressed_by, addressed_in, begins_with_hash}
 use Rattle.spec_server.specs.Script.{Pending, Between, Text, Certificate, ends_text, ends_certificate, begun, begun_by}
-use Rattle.spec_server.specs.Script.{pending_after_line, asks_of_command, asks_by, asks_of_line, asks_from, pending_after}
+use Rattle.spec_server.specs.Script.{pending_after_line, asks_of_command, asks_by, asks_of_line, asks_from}
+use Rattle.spec_server.specs.Script.{pending_after}
 use Rattle.spec_server.proofs.KeptEdits.{edit_kept}
 
 pub asks_from-append : (addressing : Addressing) (p : Pending) (ls ms : List (Line (List ℕ))) →
-    asks_from addressing p (ls ++ ms) ≡ asks_from addressing p ls ++ asks_from addressing (pending_after addressing p ls) ms
+    asks_from addressing p (ls ++ ms) ≡ asks_from addressing p ls ++ asks_from addressing
+    (pending_after addressing p ls) ms
 asks_from-append addressing p [] ms = refl
 asks_from-append addressing p (l ∷ ls) ms =
     let after : Pending = pending_after_line addressing p l in
     ap (λ zs. asks_of_line addressing p l ++ zs) (asks_from-append addressing after ls ms)
-    ∙ sym (append_assoc (asks_of_line addressing p l) (asks_from addressing after ls) (asks_from addressing (pending_after addressing after ls) ms))
+    ∙ sym (append_assoc (asks_of_line addressing p l) (asks_from addressing after ls)
+    (asks_from addressing (pending_after addressing after ls) ms))
 
 pub pending_after-append : (addressing : Addressing) (p : Pending) (ls ms : List (Line (List ℕ))) →
     pending_after addressing p (ls ++ ms) ≡ pending_after addressing (pending_after addressing p ls) ms
@@ -70,7 +76,8 @@ unfolding session_of
 session_small word session e =
     let s = some_number _ (spelled_from 0 word) session e in
     subst (λ n. n ≤ 64) s.1
-    (leb-true (spelled_from 0 word) 64 (last_test (nat_lt 0 (length word)) (nat_le (length word) 2) (list_all is_digit word) (not (begins_with_zero word)) (nat_le (spelled_from 0 word) 64) s.0))
+    (leb-true (spelled_from 0 word) 64 (last_test (nat_lt 0 (length word)) (nat_le (length word) 2)
+    (list_all is_digit word) (not (begins_with_zero word)) (nat_le (spelled_from 0 word) 64) s.0))
 
 load_kept : (form : Option Style) → IsKeptCommand (load_by form)
 load_kept None = tt
@@ -140,7 +147,8 @@ choice false a b h k = k
 pub line_is_kept : (addressing : Addressing) (next : Line (List ℕ)) → IsKeptLine (addressed_in addressing next)
 unfolding addressed_in
 line_is_kept addressing (line.Text bytes) =
-    choice (begins_with_hash bytes) None (addressed_by addressing (words_of bytes)) tt (words_kept addressing (words_of bytes))
+    choice (begins_with_hash bytes) None (addressed_by addressing (words_of bytes)) tt
+    (words_kept addressing (words_of bytes))
 line_is_kept addressing (line.Long len) = (omega arith, tt)
 line_is_kept addressing line.End = tt
 line_is_kept addressing line.Over = tt
@@ -193,7 +201,8 @@ addressed_asked None a h e = absurd (none_asked a e)
 addressed_asked (Some addressed) a h e = command_asked addressed.session addressed.command a h.0 e
 
 body_asked : (t : Bool) (session : ℕ) (asked : ExactAsk) (a : Asked ExactAsk) → session ≤ 64 →
-    ◌≡◌ {A = List (Asked ExactAsk)} (cond t (record { session = session; ask = asked } ∷ []) []) (a ∷ []) → a.session ≤ 64
+    ◌≡◌ {A = List (Asked ExactAsk)} (cond t (record { session = session; ask = asked } ∷ []) []) (a ∷ []) → a.session ≤
+    64
 body_asked true session asked a h e = subst (λ (b : Asked ExactAsk). b.session ≤ 64) (first_asked _ a e) h
 body_asked false session asked a h e = absurd (none_asked a e)
 
@@ -205,7 +214,9 @@ line_asked addressing (Text session form body) next a h e = body_asked (ends_tex
 line_asked addressing (Certificate session body) next a h e = body_asked (ends_certificate next) session _ a h e
 
 -- an ask is one of session 0 to 64
-pub asked_session : (addressing : Addressing) (lines : List (Line (List ℕ))) (next : Line (List ℕ)) (a : Asked ExactAsk) →
+pub asked_session : (addressing : Addressing) (lines : List (Line (List ℕ))) (next : Line (List ℕ))
+    (a : Asked ExactAsk) →
     asks_of_line addressing (pending_after addressing Between lines) next ≡ a ∷ [] → a.session ≤ 64
 asked_session addressing lines next a e =
-    line_asked addressing (pending_after addressing Between lines) next a (pending_numbered addressing Between lines tt) e
+    line_asked addressing (pending_after addressing Between lines) next a
+    (pending_numbered addressing Between lines tt) e

@@ -1,5 +1,6 @@
 -- A text of a model is whole at a line that begins in column 1 with the word ENDATA, and at no other line.
-use Rattle.std.proofs.Common.{◌≡◌, ℕ, Bool, true, false, ◌&&◌, not, cond, Option, Some, None, Ok, Err, List, [], ◌∷◌, refl, ap, ◌∙◌}
+use Rattle.std.proofs.Common.{◌≡◌, ℕ, Bool, true, false, ◌&&◌, not, cond, Option, Some, None, Ok, Err, List, [], ◌∷◌}
+use Rattle.std.proofs.Common.{refl, ap, ◌∙◌}
 use Rattle.std.specs.Prelude.{codes}
 use Rattle.spec_text.specs.declared.line.Line.{Line}
 use Rattle.spec_text.specs.declared.line.Line.TheVariants as line
@@ -13,10 +14,12 @@ use Rattle.spec_mps.specs.declared.section.Section.{Section}
 use Rattle.spec_mps.specs.declared.section.Section.TheVariants as section
 use Rattle.spec_mps.specs.Cards.{is_skipped, begins_with_blank}
 use Rattle.spec_mps.specs.Checks.{Check}
-use Rattle.spec_mps.specs.Fields.{Fields, CardReading, Is, Misplaced, misplaced_from, column_fields, placed, numbered_from, word_fields, free_fields, fixed_fields, text_at}
+use Rattle.spec_mps.specs.Fields.{Fields, CardReading, Is, Misplaced, misplaced_from, column_fields, placed}
+use Rattle.spec_mps.specs.Fields.{numbered_from, word_fields, free_fields, fixed_fields, text_at}
 use Rattle.spec_mps.specs.Shapes.{section_of}
 use Rattle.spec_mps.specs.Reader.{State}
-use Rattle.spec_mps.specs.Steps.{Done, More, Outcome, has_begun, may_follow, begun, headed, more, begin, section_card, data_card, on_reading, reading_of, step}
+use Rattle.spec_mps.specs.Steps.{Done, More, Outcome, has_begun, may_follow, begun, headed, more, begin, section_card}
+use Rattle.spec_mps.specs.Steps.{data_card, on_reading, reading_of, step}
 use Rattle.spec_mps.proofs.CheckSteps.{must_ok, need_ok}
 use Rattle.spec_server.specs.Script.{begins_with_word, ends_text}
 
@@ -74,7 +77,8 @@ unfolding free_fields
 free_heading bytes fields h = by (is_skipped bytes) (begins_with_blank bytes) refl h
   where
     by : (s b : Bool) → begins_with_blank bytes ≡ b →
-        cond s (Is card.Skip) (cond b (Is (card.Given (word_fields bytes))) (Is (card.Section (word_fields bytes)))) ≡ Is (card.Section fields) →
+        cond s (Is card.Skip) (cond b (Is (card.Given (word_fields bytes))) (Is (card.Section (word_fields bytes)))) ≡
+        Is (card.Section fields) →
         IsHeading bytes fields
     by true b e h = cc
     by false true e h = absurd (not_given (word_fields bytes) fields h)
@@ -86,7 +90,8 @@ unfolding fixed_fields
 fixed_heading bytes fields h = by (is_skipped bytes) (begins_with_blank bytes) refl h
   where
     by : (s b : Bool) → begins_with_blank bytes ≡ b →
-        cond s (Is card.Skip) (cond b (placed (misplaced_from 1 bytes) (column_fields bytes)) (Is (card.Section (word_fields bytes)))) ≡ Is (card.Section fields) →
+        cond s (Is card.Skip) (cond b (placed (misplaced_from 1 bytes) (column_fields bytes))
+        (Is (card.Section (word_fields bytes)))) ≡ Is (card.Section fields) →
         IsHeading bytes fields
     by true b e h = cc
     by false true e h = absurd (placed_given (misplaced_from 1 bytes) (column_fields bytes) fields h)
@@ -102,12 +107,16 @@ heading Fixed part bytes fields h = fixed_heading bytes fields h
 is_endata : (word : List ℕ) → section_of word ≡ Some section.End → same word (codes "ENDATA") ≡ true
 unfolding section_of
 is_endata word h =
-    by (same word (codes "NAME")) (same word (codes "OBJSENSE")) (same word (codes "ROWS")) (same word (codes "COLUMNS")) (same word (codes "RHS")) (same word (codes "RANGES")) (same word (codes "BOUNDS"))
+    by (same word (codes "NAME")) (same word (codes "OBJSENSE")) (same word (codes "ROWS"))
+    (same word (codes "COLUMNS")) (same word (codes "RHS")) (same word (codes "RANGES")) (same word (codes "BOUNDS"))
     (same word (codes "ENDATA")) h
   where
     by : (a b c d e f g t : Bool)
-        → cond {A = Option Section} a (Some section.Name) (cond b (Some section.Sense) (cond c (Some section.Rows) (cond d (Some section.Columns)
-        (cond e (Some section.RightSides) (cond f (Some section.Ranges) (cond g (Some section.Bounds) (cond t (Some section.End) None))))))) ≡ Some section.End
+        → cond {A = Option Section} a (Some section.Name)
+        (cond b (Some section.Sense) (cond c (Some section.Rows) (cond d (Some section.Columns)
+        (cond e (Some section.RightSides)
+        (cond f (Some section.Ranges) (cond g (Some section.Bounds) (cond t (Some section.End) None))))))) ≡ Some
+        section.End
         → t ≡ true
     by true b c d e f g t h = cc
     by false true c d e f g t h = cc

@@ -1,5 +1,6 @@
 -- Of the lines of a model's written text the last one alone ends the text.
-use Rattle.std.proofs.Common.{◌≡◌, ℕ, ◌-◌, Bool, true, false, not, ◌&&◌, cond, Option, Some, None, List, [], ◌∷◌, ◌++◌, length, get_or, map, replicate, refl, ap}
+use Rattle.std.proofs.Common.{◌≡◌, ℕ, ◌-◌, Bool, true, false, not, ◌&&◌, cond, Option, Some, None, List, [], ◌∷◌, ◌++◌}
+use Rattle.std.proofs.Common.{length, get_or, map, replicate, refl, ap}
 use Rattle.std.specs.Prelude.{codes, All}
 use Rattle.std.specs.List.{flat_map, list_any}
 use Rattle.std.proofs.lemmas.List.Elements.{All-nil, All-cons, All-append, All-map}
@@ -14,7 +15,11 @@ use Rattle.spec_mps.specs.declared.style.Style.TheVariants.{Free, Fixed}
 use Rattle.spec_mps.specs.Cards.{begins_with_blank}
 use Rattle.spec_mps.specs.Fields.{Fields}
 use Rattle.spec_mps.specs.NumberWritten.{number_text}
-use Rattle.spec_mps.specs.Written.{WrittenCard, WrittenCards, Data, field_at, section_card, type_card, number_card, bound_card, unbound_card, name_card, sense_cards, kind_word, row_card, rows_cards, column_cards, columns_cards, side_cards, sides_cards, range_cards, has_range, ranges_cards, bound_cards, has_bounds, bounds_cards, first_column, with_fields, line_text}
+use Rattle.spec_mps.specs.Written.{WrittenCard, WrittenCards, Data, field_at, section_card, type_card, number_card}
+use Rattle.spec_mps.specs.Written.{bound_card, unbound_card, name_card, sense_cards, kind_word, row_card, rows_cards}
+use Rattle.spec_mps.specs.Written.{column_cards, columns_cards, side_cards, sides_cards, range_cards, has_range}
+use Rattle.spec_mps.specs.Written.{ranges_cards, bound_cards, has_bounds, bounds_cards, first_column, with_fields}
+use Rattle.spec_mps.specs.Written.{line_text}
 use Rattle.spec_server.specs.Script.{begins_with_word, ends_text}
 
 module _ (style : Style) where
@@ -61,7 +66,8 @@ module _ (style : Style) where
   number_inner group name v = from_second group (field_at 3 name ∷ field_at 4 (number_text v) ∷ [])
 
   bound_inner : (kind : List ℕ) (name : Name) (v : ℚ) → IsInner (bound_card kind name v)
-  bound_inner kind name v = from_first kind (field_at 2 (codes "BND") ∷ field_at 3 name ∷ field_at 4 (number_text v) ∷ [])
+  bound_inner kind name v = from_first kind (field_at 2 (codes "BND") ∷ field_at 3 name ∷ field_at 4 (number_text v) ∷
+      [])
 
   unbound_inner : (kind : List ℕ) (name : Name) → IsInner (unbound_card kind name)
   unbound_inner kind name = from_first kind (field_at 2 (codes "BND") ∷ field_at 3 name ∷ [])
@@ -120,18 +126,23 @@ module _ (style : Style) where
   rows_all : (m : Model) → AreInner (rows_cards m)
   unfolding rows_cards
   rows_all m =
-      All-cons IsInner (section_card (codes "ROWS")) (type_card (codes "N") m.objective ∷ map row_card m.rows) rows_inner
+      All-cons IsInner (section_card (codes "ROWS")) (type_card (codes "N") m.objective ∷ map row_card m.rows)
+      rows_inner
       (All-cons IsInner (type_card (codes "N") m.objective) (map row_card m.rows) (type_inner (codes "N") m.objective)
-      (All-map IsInner row_card m.rows (λ k d l. type_inner (kind_word (get_or m.rows k d).kind) (get_or m.rows k d).name)))
+      (All-map IsInner row_card m.rows (λ k d l. type_inner (kind_word (get_or m.rows k d).kind)
+      (get_or m.rows k d).name)))
 
   column_all : (m : Model) (c : ExactColumn) → AreInner (column_cards m c)
   column_all m c =
-      All-cons IsInner (number_card c.name m.objective c.cost) (map (λ e. number_card c.name (row m e.0).name e.1) c.entries) (number_inner c.name m.objective c.cost)
-      (All-map IsInner (λ (e : ℕ × ℚ). number_card c.name (row m e.0).name e.1) c.entries (λ k d l. number_inner c.name (row m (get_or c.entries k d).0).name (get_or c.entries k d).1))
+      All-cons IsInner (number_card c.name m.objective c.cost) (map (λ e. number_card c.name (row m e.0).name e.1)
+      c.entries) (number_inner c.name m.objective c.cost)
+      (All-map IsInner (λ (e : ℕ × ℚ). number_card c.name (row m e.0).name e.1) c.entries
+      (λ k d l. number_inner c.name (row m (get_or c.entries k d).0).name (get_or c.entries k d).1))
 
   columns_all : (m : Model) → AreInner (columns_cards m)
   unfolding columns_cards
-  columns_all m = All-cons IsInner (section_card (codes "COLUMNS")) (flat_map (column_cards m) m.columns) columns_inner (each (column_cards m) m.columns (column_all m))
+  columns_all m = All-cons IsInner (section_card (codes "COLUMNS")) (flat_map (column_cards m) m.columns) columns_inner
+      (each (column_cards m) m.columns (column_all m))
 
   side_all : (name : Name) (v : ℚ) → AreInner (side_cards name v)
   side_all name v = by (eq_ℚ v 0ℚ)
@@ -143,8 +154,10 @@ module _ (style : Style) where
   sides_all : (m : Model) → AreInner (sides_cards m)
   unfolding sides_cards
   sides_all m =
-      All-cons IsInner (section_card (codes "RHS")) (side_cards m.objective (neg_ℚ m.offset) ++ flat_map (λ (r : ExactRow). side_cards r.name r.rhs) m.rows) sides_inner
-      (All-append IsInner (side_cards m.objective (neg_ℚ m.offset)) (flat_map (λ (r : ExactRow). side_cards r.name r.rhs) m.rows) (side_all m.objective (neg_ℚ m.offset))
+      All-cons IsInner (section_card (codes "RHS")) (side_cards m.objective (neg_ℚ m.offset) ++ flat_map
+      (λ (r : ExactRow). side_cards r.name r.rhs) m.rows) sides_inner
+      (All-append IsInner (side_cards m.objective (neg_ℚ m.offset))
+      (flat_map (λ (r : ExactRow). side_cards r.name r.rhs) m.rows) (side_all m.objective (neg_ℚ m.offset))
       (each (λ (r : ExactRow). side_cards r.name r.rhs) m.rows (λ r. side_all r.name r.rhs)))
 
   range_all : (name : Name) (o : Option ℚ) → AreInner (range_cards name o)
@@ -156,15 +169,18 @@ module _ (style : Style) where
   ranges_all m = by (list_any has_range m.rows)
     where
       by : (t : Bool) →
-          AreInner (cond t (section_card (codes "RANGES") ∷ flat_map (λ (r : ExactRow). range_cards r.name r.range) m.rows) [])
+          AreInner (cond t (section_card (codes "RANGES") ∷ flat_map (λ (r : ExactRow). range_cards r.name r.range)
+          m.rows) [])
       by true =
-          All-cons IsInner (section_card (codes "RANGES")) (flat_map (λ (r : ExactRow). range_cards r.name r.range) m.rows) ranges_inner
+          All-cons IsInner (section_card (codes "RANGES")) (flat_map (λ (r : ExactRow). range_cards r.name r.range)
+          m.rows) ranges_inner
           (each (λ (r : ExactRow). range_cards r.name r.range) m.rows (λ r. range_all r.name r.range))
       by false = none
 
   bound_all : (name : Name) (lower upper : Option ℚ) → AreInner (bound_cards name lower upper)
   bound_all name None None = one (unbound_card (codes "FR") name) (unbound_inner (codes "FR") name)
-  bound_all name None (Some u) = two (unbound_card (codes "MI") name) (bound_card (codes "UP") name u) (unbound_inner (codes "MI") name) (bound_inner (codes "UP") name u)
+  bound_all name None (Some u) = two (unbound_card (codes "MI") name) (bound_card (codes "UP") name u)
+      (unbound_inner (codes "MI") name) (bound_inner (codes "UP") name u)
   bound_all name (Some l) None = by (eq_ℚ l 0ℚ)
     where
       by : (t : Bool) → AreInner (cond t [] (bound_card (codes "LO") name l ∷ []))
@@ -173,35 +189,44 @@ module _ (style : Style) where
   bound_all name (Some l) (Some u) = by (eq_ℚ l u) (eq_ℚ l 0ℚ && lt_ℚ 0ℚ u)
     where
       by : (s t : Bool) →
-          AreInner (cond s (bound_card (codes "FX") name l ∷ []) (cond t (bound_card (codes "UP") name u ∷ []) (bound_card (codes "LO") name l ∷ bound_card (codes "UP") name u ∷ [])))
+          AreInner (cond s (bound_card (codes "FX") name l ∷ []) (cond t (bound_card (codes "UP") name u ∷ [])
+          (bound_card (codes "LO") name l ∷ bound_card (codes "UP") name u ∷ [])))
       by true t = one (bound_card (codes "FX") name l) (bound_inner (codes "FX") name l)
       by false true = one (bound_card (codes "UP") name u) (bound_inner (codes "UP") name u)
-      by false false = two (bound_card (codes "LO") name l) (bound_card (codes "UP") name u) (bound_inner (codes "LO") name l) (bound_inner (codes "UP") name u)
+      by false false = two (bound_card (codes "LO") name l) (bound_card (codes "UP") name u)
+          (bound_inner (codes "LO") name l) (bound_inner (codes "UP") name u)
 
   bounds_all : (m : Model) → AreInner (bounds_cards m)
   unfolding bounds_cards
   bounds_all m = by (list_any has_bounds m.columns)
     where
       by : (t : Bool) →
-          AreInner (cond t (section_card (codes "BOUNDS") ∷ flat_map (λ (c : ExactColumn). bound_cards c.name c.lower c.upper) m.columns) [])
+          AreInner (cond t (section_card (codes "BOUNDS") ∷ flat_map (λ (c : ExactColumn). bound_cards c.name c.lower
+          c.upper) m.columns) [])
       by true =
-          All-cons IsInner (section_card (codes "BOUNDS")) (flat_map (λ (c : ExactColumn). bound_cards c.name c.lower c.upper) m.columns) bounds_inner
-          (each (λ (c : ExactColumn). bound_cards c.name c.lower c.upper) m.columns (λ c. bound_all c.name c.lower c.upper))
+          All-cons IsInner (section_card (codes "BOUNDS"))
+          (flat_map (λ (c : ExactColumn). bound_cards c.name c.lower c.upper) m.columns) bounds_inner
+          (each (λ (c : ExactColumn). bound_cards c.name c.lower c.upper) m.columns
+          (λ c. bound_all c.name c.lower c.upper))
       by false = none
 
 -- the cards before ENDATA
 abbrev pub inner_cards : Model → WrittenCards
 inner_cards m =
-    name_card m.name ∷ sense_cards m.sense ++ rows_cards m ++ columns_cards m ++ sides_cards m ++ ranges_cards m ++ bounds_cards m
+    name_card m.name ∷ sense_cards m.sense ++ rows_cards m ++ columns_cards m ++ sides_cards m ++ ranges_cards m ++
+    bounds_cards m
 
 pub inner_lines : (style : Style) (m : Model) →
     All (λ card. ends_text (Text (line_text style card)) ≡ false) (inner_cards m)
 inner_lines style m =
     let P : WrittenCard → Type 0 = λ card. ends_text (Text (line_text style card)) ≡ false in
     let start : WrittenCards = name_card m.name ∷ sense_cards m.sense in
-    let a = All-cons P (name_card m.name) (sense_cards m.sense) (name_inner style style m.name) (sense_all style m.sense) in
+    let a = All-cons P (name_card m.name) (sense_cards m.sense) (name_inner style style m.name)
+    (sense_all style m.sense) in
     let b = All-append P start (rows_cards m) a (rows_all style m) in
     let c = All-append P (start ++ rows_cards m) (columns_cards m) b (columns_all style m) in
     let d = All-append P (start ++ rows_cards m ++ columns_cards m) (sides_cards m) c (sides_all style m) in
-    let e = All-append P (start ++ rows_cards m ++ columns_cards m ++ sides_cards m) (ranges_cards m) d (ranges_all style m) in
-    All-append P (start ++ rows_cards m ++ columns_cards m ++ sides_cards m ++ ranges_cards m) (bounds_cards m) e (bounds_all style m)
+    let e = All-append P (start ++ rows_cards m ++ columns_cards m ++ sides_cards m) (ranges_cards m) d
+    (ranges_all style m) in
+    All-append P (start ++ rows_cards m ++ columns_cards m ++ sides_cards m ++ ranges_cards m) (bounds_cards m) e
+    (bounds_all style m)

@@ -1,5 +1,7 @@
 -- The text of a model that may be kept, with the lines of a certificate after it, is no longer than an input may be.
-use Rattle.std.proofs.Common.{◌≡◌, ℕ, zero, suc, ◌+◌, ◌-◌, ◌*◌, ◌≤◌, ◌<◌, ◌==◌, ◌&&◌, Bool, true, false, cond, Option, Some, None, List, [], ◌∷◌, ◌++◌, length, take, map, get_or, replicate, refl, ap, ◌∙◌, length-append, arith}
+use Rattle.std.proofs.Common.{◌≡◌, ℕ, zero, suc, ◌+◌, ◌-◌, ◌*◌, ◌≤◌, ◌<◌, ◌==◌, ◌&&◌, Bool, true, false, cond, Option}
+use Rattle.std.proofs.Common.{Some, None, List, [], ◌∷◌, ◌++◌, length, take, map, get_or, replicate, refl, ap, ◌∙◌}
+use Rattle.std.proofs.Common.{length-append, arith}
 use Rattle.std.specs.Prelude.{codes, All, AllPairs}
 use Rattle.std.specs.List.{flat_map, list_any}
 use Rattle.std.proofs.lemmas.List.{length-replicate}
@@ -16,7 +18,10 @@ use Rattle.spec_mps.specs.declared.style.Style.{Style}
 use Rattle.spec_mps.specs.declared.style.Style.TheVariants.{Free, Fixed}
 use Rattle.spec_mps.specs.Fields.{Fields}
 use Rattle.spec_mps.specs.NumberWritten.{number_text}
-use Rattle.spec_mps.specs.Written.{WrittenCard, WrittenCards, Head, Data, cards_of, name_card, sense_cards, rows_cards, columns_cards, sides_cards, ranges_cards, bounds_cards, section_card, number_card, bound_card, row_card, column_cards, side_cards, range_cards, bound_cards, has_range, has_bounds, first_column, padded, with_fields, line_text, cards_text}
+use Rattle.spec_mps.specs.Written.{WrittenCard, WrittenCards, Head, Data, cards_of, name_card, sense_cards, rows_cards}
+use Rattle.spec_mps.specs.Written.{columns_cards, sides_cards, ranges_cards, bounds_cards, section_card, number_card}
+use Rattle.spec_mps.specs.Written.{bound_card, row_card, column_cards, side_cards, range_cards, bound_cards, has_range}
+use Rattle.spec_mps.specs.Written.{has_bounds, first_column, padded, with_fields, line_text, cards_text}
 use Rattle.spec_mps.proofs.WrittenShort.{IsShortCard, cards_short}
 use Rattle.spec_mps.proofs.NarrowNumbers.{zero_narrow}
 use Rattle.spec_check.specs.declared.certificate.Letter.{Letter}
@@ -24,7 +29,8 @@ use Rattle.spec_check.specs.declared.certificate.Letter.TheVariants.{X, Y, R}
 use Rattle.spec_check.specs.declared.certificate.Certificate.{Certificate}
 use Rattle.spec_check.specs.declared.certificate.Certificate.TheVariants.{Optimal, Infeasible, Clash, Unbounded}
 use Rattle.spec_check.specs.Certificate.{IsFor, IsNarrowCertificate}
-use Rattle.spec_check.specs.TextWritten.{letter_text, part_text, part_lines, lines_below, column_lines, row_lines, kind_text, all_part_lines, certificate_lines}
+use Rattle.spec_check.specs.TextWritten.{letter_text, part_text, part_lines, lines_below, column_lines, row_lines}
+use Rattle.spec_check.specs.TextWritten.{kind_text, all_part_lines, certificate_lines}
 use Rattle.spec_server.specs.Output.{ended_lines}
 use Rattle.spec_server.proofs.PlainLines.{both_short, column_named, row_named}
 
@@ -59,7 +65,8 @@ blanks_len k line = length-append line (replicate k 32) ∙ ap (λ m. length lin
 blanks_fit : (column size : ℕ) (line : List ℕ) → column ≤ 50 → length line ≤ size → 49 ≤ size →
     length (line ++ replicate (column - 1 - length line) 32) ≤ size
 blanks_fit column size line c h w =
-    let e : length (line ++ replicate (column - 1 - length line) 32) ≡ length line + (column - 1 - length line) = blanks_len (column - 1 - length line) line in
+    let e : length (line ++ replicate (column - 1 - length line) 32) ≡ length line + (column - 1 - length line) =
+    blanks_len (column - 1 - length line) line in
     omega arith
 
 padded_fits : (style : Style) (n size : ℕ) (line : List ℕ) → length line ≤ size → 49 ≤ size →
@@ -116,7 +123,8 @@ card_fits style (Head start (a ∷ b ∷ [])) h =
 card_fits style (Head start (a ∷ b ∷ c ∷ [])) h =
     head_fits style start (a ∷ b ∷ c ∷ []) h.0.fits (h.1.0.fits, (h.1.1.0.fits, (h.1.1.1.0.fits, tt))) h.2
 card_fits style (Head start (a ∷ b ∷ c ∷ d ∷ [])) h =
-    head_fits style start (a ∷ b ∷ c ∷ d ∷ []) h.0.fits (h.1.0.fits, (h.1.1.0.fits, (h.1.1.1.0.fits, (h.1.1.1.1.0.fits, tt)))) h.2
+    head_fits style start (a ∷ b ∷ c ∷ d ∷ []) h.0.fits
+    (h.1.0.fits, (h.1.1.0.fits, (h.1.1.1.0.fits, (h.1.1.1.1.0.fits, tt)))) h.2
 card_fits style (Head start (a ∷ b ∷ c ∷ d ∷ e ∷ fs)) h = absurd (let few = h.2 in omega arith)
 
 -- ---- cards
@@ -188,7 +196,8 @@ columns_weigh : (m : Model) → IsModel m →
     weights (columns_cards m) ≤ 505 + (454 + 454 * length m.rows) * length m.columns
 unfolding columns_cards
 columns_weigh m kept =
-    let w = weights-flat_map (column_cards m) (454 + 454 * length m.rows) m.columns (λ k d l. column_weighs m (length m.rows) (get_or m.columns k d) (kept.columns k d l)) in
+    let w = weights-flat_map (column_cards m) (454 + 454 * length m.rows) m.columns
+    (λ k d l. column_weighs m (length m.rows) (get_or m.columns k d) (kept.columns k d l)) in
     omega arith
 
 side_weighs : (name : Name) (v : ℚ) → weights (side_cards name v) ≤ 454
@@ -202,8 +211,10 @@ sides_weigh : (m : Model) → weights (sides_cards m) ≤ 959 + 454 * length m.r
 unfolding sides_cards
 sides_weigh m =
     let s = side_weighs m.objective (neg_ℚ m.offset) in
-    let a = weights-append (side_cards m.objective (neg_ℚ m.offset)) (flat_map (λ (r : ExactRow). side_cards r.name r.rhs) m.rows) in
-    let w = weights-flat_map (λ (r : ExactRow). side_cards r.name r.rhs) 454 m.rows (λ k d l. side_weighs (get_or m.rows k d).name (get_or m.rows k d).rhs) in
+    let a = weights-append (side_cards m.objective (neg_ℚ m.offset))
+    (flat_map (λ (r : ExactRow). side_cards r.name r.rhs) m.rows) in
+    let w = weights-flat_map (λ (r : ExactRow). side_cards r.name r.rhs) 454 m.rows
+    (λ k d l. side_weighs (get_or m.rows k d).name (get_or m.rows k d).rhs) in
     omega arith
 
 range_weighs : (name : Name) (o : Option ℚ) → weights (range_cards name o) ≤ 454
@@ -215,9 +226,11 @@ unfolding ranges_cards
 ranges_weigh m = by (list_any has_range m.rows)
   where
     by : (t : Bool) →
-        weights (cond t (section_card (codes "RANGES") ∷ flat_map (λ (r : ExactRow). range_cards r.name r.range) m.rows) []) ≤ 505 + 454 * length m.rows
+        weights (cond t (section_card (codes "RANGES") ∷ flat_map (λ (r : ExactRow). range_cards r.name r.range)
+        m.rows) []) ≤ 505 + 454 * length m.rows
     by true =
-        let w = weights-flat_map (λ (r : ExactRow). range_cards r.name r.range) 454 m.rows (λ k d l. range_weighs (get_or m.rows k d).name (get_or m.rows k d).range) in
+        let w = weights-flat_map (λ (r : ExactRow). range_cards r.name r.range) 454 m.rows
+        (λ k d l. range_weighs (get_or m.rows k d).name (get_or m.rows k d).range) in
         omega arith
     by false = omega arith
 
@@ -232,7 +245,8 @@ bound_weighs name (Some l) None = by (eq_ℚ l 0ℚ)
 bound_weighs name (Some l) (Some u) = by (eq_ℚ l u) (eq_ℚ l 0ℚ && lt_ℚ 0ℚ u)
   where
     by : (s t : Bool) →
-        weights (cond s (bound_card (codes "FX") name l ∷ []) (cond t (bound_card (codes "UP") name u ∷ []) (bound_card (codes "LO") name l ∷ bound_card (codes "UP") name u ∷ []))) ≤ 908
+        weights (cond s (bound_card (codes "FX") name l ∷ []) (cond t (bound_card (codes "UP") name u ∷ [])
+        (bound_card (codes "LO") name l ∷ bound_card (codes "UP") name u ∷ []))) ≤ 908
     by true t = omega arith
     by false true = omega arith
     by false false = omega arith
@@ -242,9 +256,12 @@ unfolding bounds_cards
 bounds_weigh m = by (list_any has_bounds m.columns)
   where
     by : (t : Bool) →
-        weights (cond t (section_card (codes "BOUNDS") ∷ flat_map (λ (c : ExactColumn). bound_cards c.name c.lower c.upper) m.columns) []) ≤ 505 + 908 * length m.columns
+        weights (cond t (section_card (codes "BOUNDS") ∷ flat_map (λ (c : ExactColumn). bound_cards c.name c.lower
+        c.upper) m.columns) []) ≤ 505 + 908 * length m.columns
     by true =
-        let w = weights-flat_map (λ (c : ExactColumn). bound_cards c.name c.lower c.upper) 908 m.columns (λ k d l. bound_weighs (get_or m.columns k d).name (get_or m.columns k d).lower (get_or m.columns k d).upper) in
+        let w = weights-flat_map (λ (c : ExactColumn). bound_cards c.name c.lower c.upper) 908 m.columns
+        (λ k d l. bound_weighs (get_or m.columns k d).name (get_or m.columns k d).lower
+        (get_or m.columns k d).upper) in
         omega arith
     by false = omega arith
 
@@ -262,8 +279,10 @@ cards_weigh m kept =
     let b = weights-append (start ++ rows_cards m) (columns_cards m) in
     let c = weights-append (start ++ rows_cards m ++ columns_cards m) (sides_cards m) in
     let d = weights-append (start ++ rows_cards m ++ columns_cards m ++ sides_cards m) (ranges_cards m) in
-    let e = weights-append (start ++ rows_cards m ++ columns_cards m ++ sides_cards m ++ ranges_cards m) (bounds_cards m) in
-    let f = weights-append (start ++ rows_cards m ++ columns_cards m ++ sides_cards m ++ ranges_cards m ++ bounds_cards m) (section_card (codes "ENDATA") ∷ []) in
+    let e = weights-append (start ++ rows_cards m ++ columns_cards m ++ sides_cards m ++ ranges_cards m)
+    (bounds_cards m) in
+    let f = weights-append (start ++ rows_cards m ++ columns_cards m ++ sides_cards m ++ ranges_cards m ++ bounds_cards
+    m) (section_card (codes "ENDATA") ∷ []) in
     let sense = sense_weighs m.sense in
     let rows = rows_weigh m in
     let columns = columns_weigh m kept in
@@ -327,7 +346,8 @@ part_fits letter name v h n = by (eq_ℚ v 0ℚ)
         let o = size_one (part_text letter name v) in
         omega arith
 
-below_fit : (letter : Letter) (names : ℕ → Name) (values : List ℚ) (n : ℕ) → ((k : ℕ) → k < n → is_name (names k) ≡ true) → ((k : ℕ) → k < n → IsNarrow (part values k))
+below_fit : (letter : Letter) (names : ℕ → Name) (values : List ℚ) (n : ℕ) →
+    ((k : ℕ) → k < n → is_name (names k) ≡ true) → ((k : ℕ) → k < n → IsNarrow (part values k))
     → size (lines_below letter names values n) ≤ 204 * n
 below_fit letter names values zero h k = let z = size_none in omega arith
 below_fit letter names values (suc n) h k =
@@ -393,7 +413,8 @@ module _ (m : Model) (kept : IsModel m) where
       let end = size_one (codes "END") in
       omega arith
 
-pub text_fits : (style : Style) (m : Model) → IsModel m → (cert : Certificate (List ℚ)) → IsFor m cert → IsNarrowCertificate cert →
+pub text_fits : (style : Style) (m : Model) → IsModel m → (cert : Certificate (List ℚ)) → IsFor m cert →
+    IsNarrowCertificate cert →
     length (cards_text style (cards_of m) ++ ended_lines (certificate_lines m cert)) ≤ input_limit
 unfolding size
 text_fits style m kept cert f n =

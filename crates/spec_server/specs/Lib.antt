@@ -9,11 +9,9 @@ pub mod Command
 pub mod Addressing
 pub mod EditCommand
 pub mod Script
+pub mod Streams
 pub mod Said
 pub mod CheckOut
 pub mod SolveOut
 pub mod BasisOut
-pub mod TextOut
-pub mod GenOut
-pub mod CommandLine
 pub mod Halves

@@ -8,7 +8,6 @@
 //! | `Command`, `command_of` | what the words of a line ask its session | src/command, specs/Command |
 //! | `Addressing`, `addressed_in` | whether lines name sessions, and which | src/addressing, specs/Addressing |
 //! | `edit_by` | the edit that a line's words ask for | specs/EditCommand |
-//! | `CommandLine`, `command_line_of` | what the words of a command line ask | src/command_line, specs/CommandLine |
 //! | `Pending` | what the lines of a script have begun | specs/Script |
 //! | `MayAnswer`, `HowFits`, `IsSolved` | what a solve may end with, and how it was found | specs/Answers |
 //! | `LastFits` | what holds of the last answer that a session keeps | specs/LastFits |
@@ -22,13 +21,12 @@
 //! | `RunAlone` | the exchanges of many sessions, each on its own | specs/Exchanges |
 //! | `RunFits` | those, with what they read of the places that they share | specs/Exchanges |
 //! | `script_of` | the asks of a script and how it ends, by its bytes | specs/Script |
+//! | `Streams` | what a source has left and a sink has taken, before a call and after it | specs/Streams |
 //! | `IsSaid` | what a step from line to line says of an input | specs/Said |
 //! | `said`, `check_line` | what the command `check` says of its input, and the line that it writes | specs/CheckOut |
 //! | `text_said`, `SolveOut` | what the command `solve` reads, and what it writes of it | specs/SolveOut |
 //! | `basis_said`, `BasisOut` | what the command `basis` reads, and what it writes of it | specs/BasisOut |
 //! | `BasisFault` | why it has no model to solve | src/basis |
-//! | `said_of`, `MayWrite`, `code_of` | the same for each command that reads a text, with its status | specs/TextOut |
-//! | `GenOut` | what the command `gen` writes of the model that it makes | specs/GenOut |
 //! | `script_out` | what is written of the replies | specs/Output |
 #![tactic(auto)]
 
@@ -71,7 +69,6 @@ mod answer;
 mod asks;
 mod basis;
 mod command;
-mod command_line;
 mod halves;
 
 pub use addressing::{Addressed, Addressing};
@@ -79,7 +76,6 @@ pub use answer::{Answer, How, LastAnswer, Publication};
 pub use asks::{Ask, Asked, Refusal, Reply};
 pub use basis::BasisFault;
 pub use command::{Command, CommandWord, EditWord, LineFault, Plain};
-pub use command_line::{CommandLine, TextCommand};
 pub use halves::{Next, Started};
 
 /// What a session says of a certificate with a yes is true of the model that it holds.

@@ -1,0 +1,13 @@
+-- The bytes that a source has left, and those that a sink has taken, where they tell of them, before a call and after
+-- it.
+use Rattle.std.specs.Prelude.{ℕ, List, Option}
+
+pub record Streams : Type 0 where
+  pub left_before : Option (List ℕ)
+  pub left_after : Option (List ℕ)
+  pub taken_before : Option (List ℕ)
+  pub taken_after : Option (List ℕ)
+
+abbrev pub streams : Option (List ℕ) → Option (List ℕ) → Option (List ℕ) → Option (List ℕ) → Streams
+streams before after taken now =
+    record { left_before = before; left_after = after; taken_before = taken; taken_after = now }
