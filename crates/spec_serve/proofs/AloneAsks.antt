@@ -1,0 +1,111 @@
+-- Lines that name no session ask session 0.
+use Rattle.std.proofs.Common.{◌≡◌, ℕ, Bool, true, false, cond, Option, Some, None, List, [], ◌∷◌, ◌++◌, refl, subst}
+use Rattle.spec_text.specs.declared.line.Line.{Line}
+use Rattle.spec_text.specs.declared.line.Line.TheVariants as line
+use Rattle.spec_text.specs.Words.{words_of}
+use Rattle.spec_edit.specs.Edited.{ExactEdit}
+use Rattle.spec_server.specs.declared.asks.Asked.{Asked}
+use Rattle.spec_server.specs.declared.addressing.Addressed.{Addressed}
+use Rattle.spec_server.specs.declared.addressing.Addressing.TheVariants.{Alone}
+use Rattle.spec_server.specs.declared.command.Command.TheVariants.{Load, Check, Plain, Bad}
+use Rattle.spec_server.specs.Command.{ExactCommand}
+use Rattle.spec_server.specs.Machine.{ExactAsk}
+use Rattle.spec_server.specs.Addressing.{addressed_by, addressed_in, begins_with_hash}
+use Rattle.spec_server.specs.Script.{Pending, Between, Text, Certificate, ends_text, ends_certificate, begun, begun_by}
+use Rattle.spec_server.specs.Script.{pending_after_line, asks_of_command, asks_by, asks_of_line, asks_from}
+
+-- ---- what is session 0's
+
+abbrev IsAlone : Asked ExactAsk → Type 0
+IsAlone asked = asked.session ≡ 0
+
+abbrev AreAlone : List (Asked ExactAsk) → Type 0
+AreAlone [] = Unit {0}
+AreAlone (asked ∷ asks) = IsAlone asked × AreAlone asks
+
+abbrev IsPendingAlone : Pending → Type 0
+IsPendingAlone Between = Unit {0}
+IsPendingAlone (Text session form body) = session ≡ 0
+IsPendingAlone (Certificate session body) = session ≡ 0
+
+abbrev IsLineAlone : Option (Addressed ExactEdit) → Type 0
+IsLineAlone None = Unit {0}
+IsLineAlone (Some addressed) = addressed.session ≡ 0
+
+AreAlone-append : (xs ys : List (Asked ExactAsk)) → AreAlone xs → AreAlone ys → AreAlone (xs ++ ys)
+AreAlone-append [] ys h k = k
+AreAlone-append (x ∷ xs) ys h k = (h.0, AreAlone-append xs ys h.1 k)
+
+-- ---- a line between two commands
+
+words_alone : (words : List (List ℕ)) → IsLineAlone (addressed_by Alone words)
+words_alone [] = tt
+words_alone (word ∷ words) = refl
+
+text_alone : (t : Bool) (found : Option (Addressed ExactEdit)) → IsLineAlone found → IsLineAlone (cond t None found)
+text_alone true found h = tt
+text_alone false found h = h
+
+line_alone : (next : Line (List ℕ)) → IsLineAlone (addressed_in Alone next)
+unfolding addressed_in
+line_alone (line.Text bytes) =
+    text_alone (begins_with_hash bytes) (addressed_by Alone (words_of bytes)) (words_alone (words_of bytes))
+line_alone (line.Long len) = refl
+line_alone line.End = tt
+line_alone line.Over = tt
+
+begun_alone : (session : ℕ) (c : ExactCommand) → session ≡ 0 → IsPendingAlone (begun session c)
+begun_alone session (Load form) h = h
+begun_alone session Check h = h
+begun_alone session (Plain asked) h = tt
+begun_alone session (Bad fault) h = tt
+
+begun_by_alone : (found : Option (Addressed ExactEdit)) → IsLineAlone found → IsPendingAlone (begun_by found)
+begun_by_alone None h = tt
+begun_by_alone (Some addressed) h = begun_alone addressed.session addressed.command h
+
+command_alone : (session : ℕ) (c : ExactCommand) → session ≡ 0 → AreAlone (asks_of_command session c)
+command_alone session (Load form) h = tt
+command_alone session Check h = tt
+command_alone session (Plain asked) h = (h, tt)
+command_alone session (Bad fault) h = (h, tt)
+
+asks_by_alone : (found : Option (Addressed ExactEdit)) → IsLineAlone found → AreAlone (asks_by found)
+asks_by_alone None h = tt
+asks_by_alone (Some addressed) h = command_alone addressed.session addressed.command h
+
+-- ---- any line
+
+pending_alone : (t : Bool) (p : Pending) → IsPendingAlone p → IsPendingAlone (cond t Between p)
+pending_alone true p h = tt
+pending_alone false p h = h
+
+body_alone : (t : Bool) (asked : Asked ExactAsk) → IsAlone asked → AreAlone (cond t (asked ∷ []) [])
+body_alone true asked h = (h, tt)
+body_alone false asked h = tt
+
+after_line_alone : (p : Pending) (next : Line (List ℕ)) → IsPendingAlone p →
+    IsPendingAlone (pending_after_line Alone p next)
+after_line_alone Between next h = begun_by_alone (addressed_in Alone next) (line_alone next)
+after_line_alone (Text session form body) next h =
+    pending_alone (ends_text next) (Text session form (body ++ next ∷ [])) h
+after_line_alone (Certificate session body) next h =
+    pending_alone (ends_certificate next) (Certificate session (body ++ next ∷ [])) h
+
+of_line_alone : (p : Pending) (next : Line (List ℕ)) → IsPendingAlone p → AreAlone (asks_of_line Alone p next)
+of_line_alone Between next h = asks_by_alone (addressed_in Alone next) (line_alone next)
+of_line_alone (Text session form body) next h = body_alone (ends_text next) (record { session = session; ask = _ }) h
+of_line_alone (Certificate session body) next h =
+    body_alone (ends_certificate next) (record { session = session; ask = _ }) h
+
+asks_alone : (p : Pending) (lines : List (Line (List ℕ))) → IsPendingAlone p → AreAlone (asks_from Alone p lines)
+asks_alone p [] h = tt
+asks_alone p (next ∷ lines) h =
+    let after : Pending = pending_after_line Alone p next in
+    AreAlone-append (asks_of_line Alone p next) (asks_from Alone after lines) (of_line_alone p next h)
+    (asks_alone after lines (after_line_alone p next h))
+
+-- the one ask of some lines
+pub asked_alone : (lines : List (Line (List ℕ))) (asked : Asked ExactAsk) →
+    asks_from Alone Between lines ≡ asked ∷ [] → asked.session ≡ 0
+asked_alone lines asked e = (subst AreAlone e (asks_alone Between lines tt)).0

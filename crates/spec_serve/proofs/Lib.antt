@@ -1,0 +1,5 @@
+-- Lemmas.
+pub mod Apart
+pub mod UpToQuit
+pub mod AloneAsks
+pub mod LinkAsks

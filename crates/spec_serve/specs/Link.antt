@@ -1,0 +1,105 @@
+-- What a link asks: its lines name no session, and it ends at the first QUIT.
+use Rattle.std.specs.Prelude.{ℕ, ◌≡◌, ◌⊎◌, ◌++◌, Bool, true, false, Option, List, [], ◌∷◌, length, take, map, nat_le}
+use Rattle.std.specs.Prelude.{if◌then◌else◌}
+use Rattle.std.specs.List.{flat_map, list_any}
+use Rattle.std.specs.Io.KnownBytes.{Consumes, Appends, IsAtEnd}
+use Rattle.spec_text.specs.Lines.{lines_of, ended_lines_of, input_limit, IsPrefixOf}
+use Rattle.spec_server.specs.declared.addressing.Addressing.TheVariants.{Alone}
+use Rattle.spec_server.specs.declared.asks.Ask.TheVariants as ask
+use Rattle.spec_server.specs.declared.asks.Asked.{Asked}
+use Rattle.spec_server.specs.declared.command.Plain.TheVariants as command
+use Rattle.spec_server.specs.Machine.{ExactAsk, State, opening}
+use Rattle.spec_server.specs.Exchanges.{Exchange, asked_in, AloneRun}
+use Rattle.spec_server.specs.Output.{reply_lines}
+use Rattle.spec_server.specs.Script.{Between, Script, Ending, Ended, Cut, Over, asks_from, pending_after, ending_by}
+use Rattle.spec_server.specs.Streams.{Streams}
+use Rattle.spec_serve.specs.declared.link_end.LinkEnd.{LinkEnd}
+use Rattle.spec_serve.specs.declared.link_end.LinkEnd.TheVariants as end
+
+-- ---- what is asked
+
+abbrev pub is_quit : ExactAsk → Bool
+is_quit (ask.Plain command.Quit) = true
+is_quit other = false
+
+abbrev pub quits : List (Asked ExactAsk) → Bool
+quits asks = list_any (λ asked. is_quit asked.ask) asks
+
+-- the asks up to the first QUIT, with it
+abbrev pub up_to_quit : List (Asked ExactAsk) → List (Asked ExactAsk)
+up_to_quit [] = []
+up_to_quit (asked ∷ asks) = asked ∷ (if is_quit asked.ask then [] else up_to_quit asks)
+
+-- a link that has said QUIT has ended
+abbrev pub until_quit : Script → Script
+until_quit s = record { asks = up_to_quit s.asks; ending = if quits s.asks then Ended else s.ending }
+
+-- the asks of the lines that end among these bytes, as far as a link may be read
+unfoldable pub ended_link_asks_of : List ℕ → List (Asked ExactAsk)
+ended_link_asks_of bytes = up_to_quit (asks_from Alone Between (ended_lines_of (take input_limit bytes)))
+
+-- the asks of the lines of all these bytes, and how they end
+abbrev pub all_asks_of : List ℕ → Script
+all_asks_of bytes =
+    if nat_le (length bytes) input_limit
+    then record {
+      asks = asks_from Alone Between (lines_of bytes);
+      ending = ending_by (pending_after Alone Between (lines_of bytes));
+    }
+    else record { asks = asks_from Alone Between (ended_lines_of (take input_limit bytes)); ending = Over }
+
+unfoldable pub link_asks_of : List ℕ → Script
+link_asks_of bytes = until_quit (all_asks_of bytes)
+
+-- ---- what is written
+
+abbrev pub link_out : List Exchange → List ℕ
+link_out xs = flat_map (λ x. reply_lines Alone x.session x.reply) xs
+
+-- ---- the service of a link
+
+-- these are the first of all
+abbrev pub AreFirstOf : {X : Type 0} → List X → List X → Type 0
+AreFirstOf {X} first all = (more : List X) × (all ≡ first ++ more)
+
+-- it holds of all the bytes that the link sends: they were read, and no more come, or whatever follows them
+abbrev pub HoldsOfAll : Option (List ℕ) → List ℕ → (List ℕ → Type 0) → Type 0
+HoldsOfAll after read P = (IsAtEnd after × P read) ⊎ ((more : List ℕ) → P (read ++ more))
+
+-- The bytes that were read; the exchanges of the link's session, which runs alone from its opening, of the first asks of
+-- the link; and the bytes that were written, a prefix of what is written of the exchanges.
+pub record LinkMoves (places : ℕ) (s : Streams) (exchanges : List Exchange) : Type 0 where
+  pub read : List ℕ
+  pub written : List ℕ
+  pub last : State
+  pub consumed : Consumes s.left_before s.left_after read
+  pub appended : Appends s.taken_before s.taken_after written
+  pub asks : HoldsOfAll s.left_after read (λ bytes. AreFirstOf (map asked_in exchanges) (link_asks_of bytes).asks)
+  pub runs : AloneRun places opening exchanges last
+  pub front : IsPrefixOf written (link_out exchanges)
+
+-- all was written, and the exchanges are those of all that the link asks, which ends so
+pub record EndsLink {places : ℕ} {s : Streams} {exchanges : List Exchange} (moves : LinkMoves places s exchanges)
+    (ending : Ending) : Type 0 where
+  pub asked : HoldsOfAll s.left_after moves.read
+      (λ bytes. link_asks_of bytes ≡ record { asks = map asked_in exchanges; ending = ending })
+  pub whole : moves.written ≡ link_out exchanges
+
+-- all was written, and the exchanges are those of the lines that end among the bytes that were read
+pub record BreaksLink {places : ℕ} {s : Streams} {exchanges : List Exchange} (moves : LinkMoves places s exchanges) :
+    Type 0 where
+  pub asked : map asked_in exchanges ≡ ended_link_asks_of moves.read
+  pub whole : moves.written ≡ link_out exchanges
+
+-- what an end says
+abbrev pub EndsLinkSo : {places : ℕ} {s : Streams} {exchanges : List Exchange} → LinkMoves places s exchanges →
+    LinkEnd → Type 0
+EndsLinkSo moves end.Done = EndsLink moves Ended
+EndsLinkSo moves end.Cut = EndsLink moves Cut
+EndsLinkSo moves end.Over = EndsLink moves Over
+EndsLinkSo moves end.Read = BreaksLink moves
+EndsLinkSo moves end.Write = Unit {0}
+EndsLinkSo moves end.NoMemory = Unit {0}
+
+abbrev pub ServesLink : ℕ → Streams → List Exchange → LinkEnd → Type 0
+ServesLink places s exchanges end = (moves : LinkMoves places s exchanges) × EndsLinkSo moves end
