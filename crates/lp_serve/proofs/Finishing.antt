@@ -1,0 +1,162 @@
+-- What a server has done when all its workers have.
+use Rattle.std.proofs.Common.{◌≡◌, ℕ, ◌<◌, ◌≤◌, ◌⊎◌, List, [], ◌∷◌, suc, length, map, take, drop, ◌++◌, true, false}
+use Rattle.std.proofs.Common.{Option, Ok, Err, Result}
+use Rattle.std.proofs.Common.{refl, sym, ap, ◌∙◌, subst, inl, inr, arith, append-nil}
+use Rattle.std.specs.List.{All, AllByRecursion}
+use Rattle.std.specs.Result.{IsErrAnd}
+use Rattle.std.specs.Io.KnownBytes.{Appends}
+use Rattle.std.proofs.KnownBytes.{Appends-nil}
+use Rattle.std.proofs.lemmas.List.{length-map, drop_all, take_all}
+use Rattle.std.proofs.lemmas.List.Elements.{All-from_recursion}
+use Rattle.spec_server.specs.Machine.{opening}
+use Rattle.spec_serve.specs.Lines.{serve_out}
+use Rattle.spec_serve.specs.Links.{exchanges_from}
+use Rattle.spec_world.specs.Workers.{RunsBy}
+use Rattle.spec_world.proofs.ManyFromOne.{one_runs_by}
+use Rattle.basis_board.specs.declared.board.Board.{Board}
+use Rattle.basis_board.specs.Known.{Known}
+use Rattle.lp_base.specs.Beside.{Takes}
+use Rattle.lp_link.specs.Listening.{ListenerState}
+use Rattle.lp_serve.specs.declared.fault.ServeFault.{ServeFault}
+use Rattle.lp_serve.specs.declared.fault.ServeFault.TheVariants as fault
+use Rattle.lp_serve.specs.declared.worker.Worker.{Worker}
+use Rattle.lp_serve.specs.Gathering.{passes_of, nets_of, shares_of, IsOf, Met}
+use Rattle.lp_serve.specs.Serving.{Served, Serves, Writes, exchanges_of, ends_of}
+use Rattle.lp_serve.specs.Workers.{IsReady, ends_in}
+use Rattle.lp_serve.proofs.AllServed.{AreServed, ServesEach, all_served, as_many, ends_are, passes_are, each_listened}
+use Rattle.lp_serve.proofs.AllServed.{states_of, failed_in, some_failed, all_whole}
+use Rattle.lp_serve.proofs.RunsOver.{all_run}
+
+-- a list in whose room as many items were written
+pub written_back : {X : Type 0} (n : ℕ) (old new : List X) → n ≡ length old → length new ≡ length old →
+    take n (new ++ drop (length new) old) ≡ new
+written_back n old new whole same =
+    ap (λ ys. take n (new ++ ys)) (drop_all (length new) old (omega (arith, same)))
+    ∙ ap (take n) (append-nil new) ∙ take_all n new (omega (arith, whole, same))
+
+pub served_now : {N : Type 0} (state : N → ListenerState) (board : Board) (each n : ℕ)
+    (old slice new : List (Worker N)) → n ≡ length old → slice ≡ old → length new ≡ length slice →
+    ServesEach state board each slice new →
+    (length (take n (new ++ drop (length new) old)) ≡ length old)
+    × ServesEach state board each old (take n (new ++ drop (length new) old))
+served_now state board each n old slice new whole is kept serves =
+    let back = written_back n old new whole (kept ∙ ap length is) in (
+      ap length back ∙ kept ∙ ap length is,
+      subst (ServesEach state board each old) (sym back)
+          (subst (λ ws. ServesEach state board each ws new) is serves),
+    )
+
+module _ {N : Type 0} (state : N → ListenerState) (board : Board) (each : ℕ) (olds news : List (Worker N))
+    (same : length news ≡ length olds) (ready : All (IsReady board each) olds)
+    (serves : ServesEach state board each olds news) where
+  abbrev links : List (List Served)
+  links = (all_served state board each olds news same ready serves).0
+
+  abbrev so : AreServed state board each olds news (all_served state board each olds news same ready serves).0
+  so = (all_served state board each olds news same ready serves).1
+
+  pub are_of : All (IsOf board) (passes_of news)
+  are_of = All-from_recursion (IsOf board) (passes_of news) (passes_are state board each olds news links so)
+
+  module _ (some : 0 < length olds) (whole : shares_of (passes_of olds) ≡ 64) (met : Option Known)
+      (is_met : Met board (passes_of news) met) (first last : List N) (gave : nets_of olds ≡ first)
+      (back : last ≡ nets_of news) (places : ℕ) (made : board.places ≡ places) (before after : Option (List ℕ)) where
+    many : length links ≡ length olds
+    many = as_many state board each olds news links so
+
+    listeners : length (states_of state board each olds) ≡ length olds
+    listeners = length-map (nets_of olds) state ∙ length-map olds (λ (w : Worker N). w.net)
+
+    serves_so : (result : Result (Unit {0}) ServeFault) →
+        Writes each (states_of state board each olds) (states_of state board each news) links before after result →
+        Serves places each (map state first) (map state last) before after result
+    serves_so result writes =
+        subst (λ ns. Serves places each (map state ns) (map state last) before after result) gave
+        (subst (λ ns. Serves places each (map state (nets_of olds)) (map state ns) before after result) (sym back)
+        (subst
+        (λ n. Serves n each (states_of state board each olds) (states_of state board each news) before after result)
+        made (record {
+          served = links;
+          listeners = many ∙ sym listeners;
+          listened = inl
+              (λ i l. each_listened state board each olds news links so i (omega (arith, l, listeners)));
+          runs = all_run state board each olds news links so (omega (arith, some, many)) whole met is_met;
+          writes = writes;
+        })))
+
+    pub when_ok : Appends before after (serve_out (map ends_in news)) → failed_in state board each news ≡ false →
+        Serves places each (map state first) (map state last) before after (Ok tt)
+    when_ok appends none =
+        serves_so (Ok tt) (
+          subst (λ ends. Appends before after (serve_out ends)) (ends_are state board each olds news links so) appends,
+          All-from_recursion (λ (ls : List Served). length ls ≡ each) links
+              (all_whole state board each olds news links so none),
+        )
+
+    pub when_accept : Appends before after (serve_out (map ends_in news)) → failed_in state board each news ≡ true →
+        Serves places each (map state first) (map state last) before after (Err fault.Accept)
+    when_accept appends failed =
+        let one = some_failed state board each olds news links so failed in
+        serves_so (Err fault.Accept) (
+          subst (λ ends. Appends before after (serve_out ends)) (ends_are state board each olds news links so) appends,
+          (one.0, omega (arith, one.1, listeners), one.2),
+        )
+
+    pub when_err : (why : ServeFault) → (why ≡ fault.Write) ⊎ (why ≡ fault.NoMemory) →
+        Takes before after (serve_out (map ends_in news)) →
+        Serves places each (map state first) (map state last) before after (Err why)
+    when_err why (inl e) takes =
+        subst (λ w. Serves places each (map state first) (map state last) before after (Err w)) (sym e)
+        (serves_so (Err fault.Write)
+        (subst (λ ends. Takes before after (serve_out ends)) (ends_are state board each olds news links so) takes))
+    when_err why (inr e) takes =
+        subst (λ w. Serves places each (map state first) (map state last) before after (Err w)) (sym e)
+        (serves_so (Err fault.NoMemory)
+        (subst (λ ends. Takes before after (serve_out ends)) (ends_are state board each olds news links so) takes))
+
+-- why a call has failed
+pub err_of : (result : Result (Unit {0}) ServeFault) (P : ServeFault → Type 0) → IsErrAnd result P →
+    (why : ServeFault) × (result ≡ Err why) × P why
+err_of (Ok u) P so = absurd so
+err_of (Err why) P so = (why, refl, so)
+
+-- ---- there is no memory for the workers
+
+none_served : List ListenerState → List (List Served)
+none_served [] = []
+none_served (old ∷ olds) = [] ∷ none_served olds
+
+as_many_none : (olds : List ListenerState) → length (none_served olds) ≡ length olds
+unfolding none_served
+as_many_none [] = refl
+as_many_none (old ∷ olds) = ap suc (as_many_none olds)
+
+none_had : (n i : ℕ) (olds : List ListenerState) → exchanges_from n i (exchanges_of (none_served olds)) ≡ []
+unfolding none_served
+none_had n i [] = refl
+none_had n i (old ∷ olds) = none_had n (suc i) olds
+
+all_none : (olds : List ListenerState) → AllByRecursion (λ (links : List Served). links ≡ []) (none_served olds)
+unfolding none_served
+all_none [] = tt
+all_none (old ∷ olds) = (refl, all_none olds)
+
+pub when_unserved : (places each : ℕ) (states : List ListenerState) (taken : Option (List ℕ)) →
+    Serves places each states states taken taken (Err fault.NoMemory)
+when_unserved places each states taken =
+    let n = length (exchanges_of (none_served states)) in record {
+      served = none_served states;
+      listeners = as_many_none states;
+      listened = inr (record {
+        because = refl;
+        same = refl;
+        none = All-from_recursion (λ (links : List Served). links ≡ []) (none_served states) (all_none states);
+      });
+      runs = subst (RunsBy n places) (sym (none_had n 0 states))
+          (one_runs_by places n [] (record { alone = λ session. (opening, refl); last = []; played = refl }));
+      writes = record {
+        bytes = [];
+        front = (serve_out (ends_of (none_served states)), refl);
+        taken = Appends-nil taken;
+      };
+    }

@@ -1,0 +1,14 @@
+-- Lemmas.
+pub mod LinkRuns
+pub mod OnlyPass
+pub mod Turning
+pub mod Hiring
+pub mod AllServed
+pub mod RunsOver
+pub mod EndLines
+pub mod Finishing
+pub mod LinkReading
+pub mod LinkSteps
+pub mod LinkTurns
+pub mod LinkLoop
+pub mod NextAsk

@@ -1,0 +1,204 @@
+-- The turn of a worker, link by link.
+use Rattle.std.proofs.Common.{◌≡◌, ℕ, suc, ◌+◌, ◌<◌, ◌≤◌, List, [], ◌∷◌, ◌++◌, length, map, true, false, Option, Some}
+use Rattle.std.proofs.Common.{None}
+use Rattle.std.proofs.Common.{refl, sym, ap, ◌∙◌, subst, inl, inr, arith, append-nil, length-append}
+use Rattle.std.specs.Prelude.{vec_capacity}
+use Rattle.std.specs.List.{All}
+use Rattle.std.proofs.lemmas.List.{append_assoc, map-append}
+use Rattle.std.proofs.lemmas.List.Elements.{All-push, All-nil}
+use Rattle.spec_server.specs.Streams.{streams}
+use Rattle.spec_serve.specs.declared.link_end.LinkEnd.{LinkEnd}
+use Rattle.spec_serve.specs.declared.link_end.LinkEnd.TheVariants as end
+use Rattle.basis_board.specs.declared.board.Board.{Board}
+use Rattle.basis_board.specs.Id.{id_of}
+use Rattle.basis_board.specs.Known.{Known}
+use Rattle.basis_board.specs.Rule.{Consistent}
+use Rattle.lp_base.specs.Causes.{Rose}
+use Rattle.lp_link.specs.LinkState.{LinkState, IsNothing}
+use Rattle.lp_link.specs.Listening.{ListenerState, Grows, HasOneOut, AreNoMore}
+use Rattle.spec_serve.specs.Link.{ServesLink}
+use Rattle.lp_serve.specs.Service.{ServesBy}
+use Rattle.lp_serve.specs.Serving.{Served, IsServed, Listened, streams_of}
+use Rattle.lp_serve.specs.Workers.{IsReady, LinkSteps, ServedLinks, HasServed}
+use Rattle.lp_serve.specs.declared.worker.Worker.{Worker}
+use Rattle.lp_serve.proofs.LinkRuns.{links_places, links_more}
+
+-- ---- what grows
+
+grows_none : (known : Option (List LinkState)) → Grows known known []
+grows_none None = refl
+grows_none (Some list) = ap Some (sym (append-nil list))
+
+grows_more : (a b c : Option (List LinkState)) (xs ys : List LinkState) → Grows a b xs → Grows b c ys →
+    Grows a c (xs ++ ys)
+grows_more None None c xs ys first second = second
+grows_more None (Some b) c xs ys first second = cc
+grows_more (Some a) b c xs ys first second = by (subst (λ known. Grows known c ys) first second)
+  where
+    by : c ≡ Some ((a ++ xs) ++ ys) → c ≡ Some (a ++ (xs ++ ys))
+    by e = e ∙ ap Some (append_assoc a xs ys)
+
+-- a link that was just given has not come back
+pub one_out : (handed now returned : Option (List LinkState)) (x : LinkState) → AreNoMore returned handed →
+    Grows handed now (x ∷ []) → HasOneOut now returned
+one_out handed None returned x few grows = none returned
+  where
+    none : (returned : Option (List LinkState)) → HasOneOut None returned
+    none returned = tt
+one_out None (Some now) returned x few grows = cc
+one_out (Some handed) (Some now) None x few grows = tt
+one_out (Some handed) (Some now) (Some returned) x few grows =
+    subst (λ known. HasOneOut known (Some returned)) (sym grows)
+    (omega (arith, few, length-append handed (x ∷ [])))
+
+module _ {N : Type 0} (state : N → ListenerState) (board : Board) (each : ℕ) (begun : Worker N) where
+  -- so many links were served, and none was wanting
+  pub record Turning (index : ℕ) (now : Worker N) : Type 0 where
+    pub links : List Served
+    pub of_board : now.pass.board ≡ id_of board
+    pub share : now.pass.view.share ≡ begun.pass.view.share
+    pub consistent : Consistent now.pass.view
+    pub places : now.pass.view.places ≡ board.places
+    pub handed : Grows (state begun.net).handed (state now.net).handed (map (λ (x : Served). x.given) links)
+    pub returned : Grows (state begun.net).returned (state now.net).returned (map (λ (x : Served). x.back) links)
+    pub served : All (IsServed board.places) links
+    pub many : length links ≡ index
+    pub ends : now.ends.items ≡ map (λ (x : Served). x.ended) links
+    pub steps : LinkSteps begun.pass.view links now.pass.view
+    pub later : (state begun.net).accept_faults ≤ (state now.net).accept_faults
+    pub well : now.has_failed ≡ false
+    pub room : each ≤ vec_capacity now.ends
+
+  pub turn_begins : IsReady board each begun → Turning 0 begun
+  turn_begins ready = record {
+    links = [];
+    of_board = ready.of_board;
+    share = refl;
+    consistent = ready.consistent;
+    places = ready.places;
+    handed = grows_none (state begun.net).handed;
+    returned = grows_none (state begun.net).returned;
+    served = All-nil (IsServed board.places);
+    many = refl;
+    ends = ready.none;
+    steps = refl;
+    later = omega arith;
+    well = ready.well;
+    room = ready.room;
+  }
+
+  pub turn_ends : (now : Worker N) → Turning each now → HasServed state board each begun now
+  turn_ends now so = record {
+    links = so.links;
+    served = record {
+      of_board = so.of_board;
+      share = so.share;
+      consistent = so.consistent;
+      listened = record {
+        handed = so.handed;
+        returned = so.returned;
+        served = so.served;
+        few = omega (arith, so.many);
+        all = inl so.many;
+        later = so.later;
+      };
+      ends = so.ends;
+      steps = so.steps;
+      all = λ well. so.many;
+      failed = λ failed. (let h : false ≡ true = sym so.well ∙ failed in cc);
+    };
+  }
+
+  module _ (index : ℕ) (now : Worker N) (so : Turning index now) (next : Worker N) (within : index < each) where
+    -- the listener has failed
+    pub turn_fails : next.pass ≡ now.pass → next.ends ≡ now.ends →
+        (state next.net).handed ≡ (state now.net).handed → (state next.net).returned ≡ (state now.net).returned →
+        (state now.net).accept_faults ≤ (state next.net).accept_faults →
+        Rose (state now.net).accept_faults (state next.net).accept_faults → next.has_failed ≡ true →
+        HasServed state board each begun next
+    turn_fails pass ends handed returned later rose failed =
+        let risen : Rose (state begun.net).accept_faults (state next.net).accept_faults =
+        omega (arith, so.later, rose) in record {
+          links = so.links;
+          served = record {
+            of_board = ap (λ (k : Known). k.board) pass ∙ so.of_board;
+            share = ap (λ (k : Known). k.view.share) pass ∙ so.share;
+            consistent = subst (λ (k : Known). Consistent k.view) (sym pass) so.consistent;
+            listened = record {
+              handed = subst (λ known. Grows (state begun.net).handed known (map (λ (x : Served). x.given) so.links))
+                  (sym handed) so.handed;
+              returned = subst
+                  (λ known. Grows (state begun.net).returned known (map (λ (x : Served). x.back) so.links))
+                  (sym returned) so.returned;
+              served = so.served;
+              few = omega (arith, so.many, within);
+              all = inr risen;
+              later = omega (arith, so.later, later);
+            };
+            ends = ap (λ v. v.items) ends ∙ so.ends;
+            steps = subst (λ (k : Known). LinkSteps begun.pass.view so.links k.view) (sym pass) so.steps;
+            all = λ well. (let h : true ≡ false = sym failed ∙ well in cc);
+            failed = λ failed. risen;
+          };
+        }
+
+    -- the listener gave one more link, it was served and came back
+    module _ (met : N) (given back : LinkState) (ended : LinkEnd)
+        (serves : ServesBy (streams given.source.left back.source.left given.sink.taken back.sink.taken)
+        now.pass.view next.pass.view ended) where
+      abbrev one : Served
+      one = record { given = given; back = back; exchanges = serves.exchanges; ended = ended }
+
+      abbrev links_now : List Served
+      links_now = so.links ++ one ∷ []
+
+      pub turn_more : IsNothing given.sink.taken →
+          (ended ≡ end.Read → Rose given.source.read_faults back.source.read_faults) →
+          (ended ≡ end.Write → Rose given.sink.write_faults back.sink.write_faults) →
+          next.pass.board ≡ now.pass.board → next.pass.view.share ≡ now.pass.view.share →
+          (Consistent now.pass.view → Consistent next.pass.view) →
+          Grows (state now.net).handed (state met).handed (given ∷ []) →
+          (state met).returned ≡ (state now.net).returned →
+          (state now.net).accept_faults ≤ (state met).accept_faults →
+          (state next.net).handed ≡ (state met).handed →
+          Grows (state met).returned (state next.net).returned (back ∷ []) →
+          (state next.net).accept_faults ≡ (state met).accept_faults →
+          next.ends.items ≡ now.ends.items ++ ended ∷ [] → each ≤ vec_capacity next.ends →
+          next.has_failed ≡ now.has_failed → Turning (index + 1) next
+      turn_more fresh read write of_board share consistent gives kept later handed takes faults ends room well =
+          record {
+            links = links_now;
+            of_board = of_board ∙ so.of_board;
+            share = share ∙ so.share;
+            consistent = consistent so.consistent;
+            places = links_places begun.pass.view links_now next.pass.view steps
+                ∙ sym (links_places begun.pass.view so.links now.pass.view so.steps) ∙ so.places;
+            handed = subst (λ known. Grows (state begun.net).handed known (map (λ (x : Served). x.given) links_now))
+                (sym handed)
+                (subst (Grows (state begun.net).handed (state met).handed)
+                (sym (map-append (λ (x : Served). x.given) so.links (one ∷ [])))
+                (grows_more (state begun.net).handed (state now.net).handed (state met).handed
+                (map (λ (x : Served). x.given) so.links) (given ∷ []) so.handed gives));
+            returned = subst (Grows (state begun.net).returned (state next.net).returned)
+                (sym (map-append (λ (x : Served). x.back) so.links (one ∷ [])))
+                (grows_more (state begun.net).returned (state now.net).returned (state next.net).returned
+                (map (λ (x : Served). x.back) so.links) (back ∷ []) so.returned
+                (subst (λ known. Grows known (state next.net).returned (back ∷ [])) kept takes));
+            served = All-push (IsServed board.places) so.links one so.served (record {
+              fresh = fresh;
+              serves = subst (λ places. ServesLink places (streams_of one) serves.exchanges ended) so.places
+                  serves.serves;
+              read = read;
+              write = write;
+            });
+            many = omega (arith, so.many, length-append so.links (one ∷ []));
+            ends = ends ∙ ap (λ es. es ++ ended ∷ []) so.ends
+                ∙ sym (map-append (λ (x : Served). x.ended) so.links (one ∷ []));
+            steps = steps;
+            later = omega (arith, so.later, later, faults);
+            well = well ∙ so.well;
+            room = room;
+          }
+        where
+          steps : LinkSteps begun.pass.view (so.links ++ one ∷ []) next.pass.view
+          steps = links_more begun.pass.view now.pass.view next.pass.view so.links one serves.last so.steps serves.steps

@@ -1,0 +1,4 @@
+pub mod Service
+pub mod Serving
+pub mod Workers
+pub mod Gathering

@@ -1,0 +1,57 @@
+-- The service of one link: the steps of its session, with the calls of a pass, and what is read and written of it.
+use Rattle.std.specs.Prelude.{ℕ, ◌≡◌, ◌++◌, List, [], ◌∷◌, Option, Result, Ok, Err}
+use Rattle.spec_reads.specs.Reads.{ExactRead}
+use Rattle.spec_server.specs.declared.addressing.Addressing.TheVariants.{Alone}
+use Rattle.spec_server.specs.Exchanges.{Exchange}
+use Rattle.spec_server.specs.Machine.{ExactAsk, State, opening}
+use Rattle.spec_server.specs.Step.{AloneStep}
+use Rattle.spec_server.specs.Streams.{Streams}
+use Rattle.spec_serve.specs.declared.link_end.LinkEnd.{LinkEnd}
+use Rattle.spec_serve.specs.declared.link_end.LinkEnd.TheVariants as end
+use Rattle.spec_serve.specs.Link.{ServesLink}
+use Rattle.basis_board.specs.declared.seats.View.{View}
+use Rattle.basis_board.specs.Rule.{Consistent}
+use Rattle.board_reads.specs.PassReads.{reads_of}
+use Rattle.lp_base.specs.LinesState.{LinesState}
+use Rattle.lp_base.specs.declared.lines.LineStop.TheVariants as stop
+use Rattle.lp_line.specs.Takes.{TakesNext, TakesMore}
+use Rattle.lp_line.specs.declared.taking.Taken.TheVariants as taken
+use Rattle.lp_session.specs.Boarding.{StepCalls}
+
+-- ---- the steps of a session
+
+-- one step, by calls of the pass that had this view and has that one
+pub record StepBy (v : View) (old : State) (x : Exchange) (w : View) (new : State) : Type 0 where
+  pub step : AloneStep v.places old x.ask x.reads x.reply new
+  pub reads : reads_of w ≡ reads_of v ++ x.reads
+  pub calls : StepCalls v w
+  pub consistent : Consistent v → Consistent w
+
+-- one after the other
+abbrev pub Steps : View → State → List Exchange → View → State → Type 0
+Steps v old [] w new = (w ≡ v) × (new ≡ old)
+Steps v old (x ∷ xs) w new =
+    (u : View) × (middle : State) × StepBy v old x u middle × Steps u middle xs w new
+
+-- ---- the asks of a link
+
+-- as `take` reads them; a link ends where none comes
+abbrev pub TakesAsk : Option (List ℕ) → Option (List ℕ) → LinesState → LinesState → Result ExactAsk LinkEnd → Type 0
+TakesAsk before after old new (Ok asked) =
+    TakesNext Alone before after old new (Ok (taken.Ask (record { session = 0; ask = asked })))
+    × TakesMore old new (Ok (taken.Ask (record { session = 0; ask = asked })))
+TakesAsk before after old new (Err end.Done) = TakesNext Alone before after old new (Ok taken.End)
+TakesAsk before after old new (Err end.Cut) = TakesNext Alone before after old new (Ok taken.Cut)
+TakesAsk before after old new (Err end.Over) = TakesNext Alone before after old new (Ok taken.Over)
+TakesAsk before after old new (Err end.Read) = TakesNext Alone before after old new (Err stop.Read)
+TakesAsk before after old new (Err end.NoMemory) = TakesNext Alone before after old new (Err stop.NoMemory)
+TakesAsk before after old new (Err end.Write) = ⊥
+
+-- ---- the whole service
+
+-- the exchanges of the link, whose steps the pass made and no others
+pub record ServesBy (s : Streams) (v w : View) (ended : LinkEnd) : Type 0 where
+  pub exchanges : List Exchange
+  pub last : State
+  pub serves : ServesLink v.places s exchanges ended
+  pub steps : Steps v opening exchanges w last

@@ -1,0 +1,95 @@
+-- What a server does with the links of its listeners, each of which is served by a worker of its own.
+use Rattle.std.specs.Prelude.{ℕ, ◌≡◌, ◌≤◌, ◌<◌, ◌⊎◌, List, [], All, length, map, slice_index_or}
+use Rattle.std.specs.Prelude.{Option, None, Result, Ok, Err}
+use Rattle.std.specs.Io.KnownBytes.{Appends}
+use Rattle.spec_server.specs.Exchanges.{Exchange}
+use Rattle.spec_server.specs.Streams.{Streams, streams}
+use Rattle.spec_serve.specs.declared.link_end.LinkEnd.{LinkEnd}
+use Rattle.spec_serve.specs.declared.link_end.LinkEnd.TheVariants as end
+use Rattle.spec_serve.specs.Lines.{serve_out}
+use Rattle.spec_serve.specs.Link.{ServesLink}
+use Rattle.spec_serve.specs.Links.{RunsOver}
+use Rattle.lp_base.specs.Beside.{Takes}
+use Rattle.lp_base.specs.Causes.{Rose}
+use Rattle.lp_link.specs.LinkState.{LinkState, IsNothing}
+use Rattle.lp_link.specs.Listening.{Grows, ListenerState}
+use Rattle.lp_serve.specs.declared.fault.ServeFault.{ServeFault}
+use Rattle.lp_serve.specs.declared.fault.ServeFault.TheVariants as fault
+
+-- ---- one link
+
+-- as it was given and as it came back, with what its session had, and how it ended
+pub record Served : Type 0 where
+  pub given : LinkState
+  pub back : LinkState
+  pub exchanges : List Exchange
+  pub ended : LinkEnd
+
+abbrev pub streams_of : Served → Streams
+streams_of x = streams x.given.source.left x.back.source.left x.given.sink.taken x.back.sink.taken
+
+-- its session was served, from a link to which nothing was written; and no fault is told that did not happen
+pub record IsServed (places : ℕ) (x : Served) : Type 0 where
+  pub fresh : IsNothing x.given.sink.taken
+  pub serves : ServesLink places (streams_of x) x.exchanges x.ended
+  pub read : x.ended ≡ end.Read → Rose x.given.source.read_faults x.back.source.read_faults
+  pub write : x.ended ≡ end.Write → Rose x.given.sink.write_faults x.back.sink.write_faults
+
+-- ---- one listener
+
+-- It gave these links and they came back, one after the other: so many, or fewer where it has failed.
+pub record Listened (places each : ℕ) (old new : ListenerState) (links : List Served) : Type 0 where
+  pub handed : Grows old.handed new.handed (map (λ (x : Served). x.given) links)
+  pub returned : Grows old.returned new.returned (map (λ (x : Served). x.back) links)
+  pub served : All (IsServed places) links
+  pub few : length links ≤ each
+  pub all : (length links ≡ each) ⊎ Rose old.accept_faults new.accept_faults
+  pub later : old.accept_faults ≤ new.accept_faults
+
+-- ---- all of them
+
+abbrev pub ends_of : List (List Served) → List (List LinkEnd)
+ends_of served = map (λ links. map (λ (x : Served). x.ended) links) served
+
+abbrev pub exchanges_of : List (List Served) → List (List (List Exchange))
+exchanges_of served = map (λ links. map (λ (x : Served). x.exchanges) links) served
+
+-- a state for one that is not there
+abbrev pub no_listener : ListenerState
+no_listener = record { handed = None; returned = None; accept_faults = 0 }
+
+-- some listener has failed
+abbrev pub SomeFailed : List ListenerState → List ListenerState → Type 0
+SomeFailed olds news =
+    (i : ℕ) × (i < length olds)
+    × Rose (slice_index_or olds i no_listener).accept_faults (slice_index_or news i no_listener).accept_faults
+
+-- what was written, by the answer: a line for each link, or a prefix of them
+abbrev pub Writes : ℕ → List ListenerState → List ListenerState → List (List Served) → Option (List ℕ) →
+    Option (List ℕ) → Result (Unit {0}) ServeFault → Type 0
+Writes each olds news served before after (Ok u) =
+    Appends before after (serve_out (ends_of served)) × All (λ links. length links ≡ each) served
+Writes each olds news served before after (Err fault.Accept) =
+    Appends before after (serve_out (ends_of served)) × SomeFailed olds news
+Writes each olds news served before after (Err fault.Write) = Takes before after (serve_out (ends_of served))
+Writes each olds news served before after (Err fault.NoMemory) = Takes before after (serve_out (ends_of served))
+
+-- there was no memory for the workers, and no link was given
+pub record IsUnserved (olds news : List ListenerState) (served : List (List Served))
+    (result : Result (Unit {0}) ServeFault) : Type 0 where
+  pub because : result ≡ Err fault.NoMemory
+  pub same : news ≡ olds
+  pub none : All (λ links. links ≡ []) served
+
+-- The links of each listener, one list for each of them. Their sessions had their exchanges over so many places, by as
+-- many workers as there are listeners.
+pub record Serves (places each : ℕ) (olds news : List ListenerState) (before after : Option (List ℕ))
+    (result : Result (Unit {0}) ServeFault) : Type 0 where
+  pub served : List (List Served)
+  pub listeners : length served ≡ length olds
+  pub listened : ((i : ℕ) → i < length olds →
+      Listened places each (slice_index_or olds i no_listener) (slice_index_or news i no_listener)
+      (slice_index_or served i []))
+      ⊎ IsUnserved olds news served result
+  pub runs : RunsOver places (exchanges_of served)
+  pub writes : Writes each olds news served before after result

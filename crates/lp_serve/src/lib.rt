@@ -1,0 +1,25 @@
+//! Sessions over links: one link after the other by each worker, and all over one board.
+//!
+//! | Item | What it is | Where |
+//! |---|---|---|
+//! | `serve_link` | serves the session of one link | src/link |
+//! | `serve` | serves the links of many listeners, each by a worker of its own | src/serving |
+//! | `ServeFault` | why not all links were served, or not all was said of them | src/fault |
+//! | `Worker` | what one thread has: a listener, a pass, and how its links ended | src/worker |
+//! | `IsReady`, `HasServed` | a worker before its turn and after it | specs/Workers |
+//! | `IsFree`, `Met` | passes as they are given to workers, and as they come together again | specs/Gathering |
+//! | `Steps`, `ServesBy` | the steps of a link's session, by the calls of a pass | specs/Service |
+//! | `Served`, `Serves` | links as they were given and came back, and what a server does with them | specs/Serving |
+#![tactic(auto)]
+
+mod ends;
+mod fault;
+mod gather;
+mod link;
+mod serving;
+mod worker;
+
+pub use fault::ServeFault;
+pub use link::serve_link;
+pub use serving::serve;
+pub use spec_serve::LinkEnd;

@@ -1,0 +1,106 @@
+// The session of one link.
+ghost use Rattle.std.specs.Prelude.{◌≡◌, ◌⊎◌, ◌≤◌, IfErr, OnOk, IsErrOf};
+ghost use Rattle.std.specs.Io.KnownBytes.{Appends};
+ghost use Rattle.basis_board.specs.Id.{id_of};
+ghost use Rattle.basis_board.specs.Rule.{Consistent};
+ghost use Rattle.lp_base.specs.Beside.{Takes};
+ghost use Rattle.lp_base.specs.Causes.{Rose};
+ghost use Rattle.lp_link.specs.LinkState.{sink_of, source_of};
+ghost use Rattle.lp_serve.specs.Service.{ServesBy, TakesAsk};
+ghost use Rattle.spec_serve.specs.Link as links;
+ghost use Rattle.spec_server.specs.Output.{reply_lines};
+ghost use Rattle.spec_server.specs.Streams.{streams};
+ghost use Rattle.spec_server.specs.declared.addressing.Addressing.TheVariants.{Alone};
+
+use basis_board::{Board, Pass};
+use lp_base::{Bytes, LineStop, Lines, send};
+use lp_line::{Addressing, Ask, Plain, Reply, Taken, print, take};
+use lp_link::Link;
+use lp_session::Session;
+use spec_serve::LinkEnd;
+use std::alloc::Global;
+
+// Whether a session is asked to end.
+fn is_quit(ask: &Ask) -> bool
+    ensures { result ≡ links.is_quit ask.now }
+{
+    match ask {
+        Ask::Plain(Plain::Quit) => true,
+        _ => false,
+    }
+}
+
+// Reads the next ask. Where none comes, the link ends.
+fn next_ask<L: Link>(alloc: Global, lines: &mut Lines, link: &mut L) -> Result<Ask, LinkEnd>
+    ensures asks { TakesAsk (L.left link.old) (L.left link.new) lines.old lines.new result }
+    ensures cause { (L.read_faults link.old ≤ L.read_faults link.new)
+        × (IsErrOf result LinkEnd.Read → Rose (L.read_faults link.old) (L.read_faults link.new)) }
+    ensures beside { sink_of (L.taken link.new) (L.write_faults link.new)
+        ≡ sink_of (L.taken link.old) (L.write_faults link.old) }
+{
+    match take(alloc, Addressing::Alone, lines, link) {
+        Ok(Taken::Ask(asked)) => Ok(asked.ask),
+        Ok(Taken::End) => Err(LinkEnd::Done),
+        Ok(Taken::Cut) => Err(LinkEnd::Cut),
+        Ok(Taken::Over) => Err(LinkEnd::Over),
+        Err(LineStop::Read) => Err(LinkEnd::Read),
+        Err(LineStop::NoMemory) => Err(LinkEnd::NoMemory),
+    }
+}
+
+// Sends a reply.
+fn send_reply<L: Link>(alloc: Global, reply: &Reply, link: &mut L) -> Result<(), LinkEnd>
+    ensures ok { OnOk result (Appends (L.taken link.old) (L.taken link.new) (reply_lines Alone 0 reply.now)) }
+    ensures part { Takes (L.taken link.old) (L.taken link.new) (reply_lines Alone 0 reply.now) }
+    ensures ends { IfErr result (λ end. (end ≡ LinkEnd.Write) ⊎ (end ≡ LinkEnd.NoMemory)) }
+    ensures cause { (L.write_faults link.old ≤ L.write_faults link.new)
+        × (IsErrOf result LinkEnd.Write → Rose (L.write_faults link.old) (L.write_faults link.new)) }
+    ensures beside { source_of (L.left link.new) (L.read_faults link.new)
+        ≡ source_of (L.left link.old) (L.read_faults link.old) }
+{
+    let mut line = Bytes::new(alloc);
+    if print(alloc, Addressing::Alone, 0, reply, &mut line).is_err() {
+        return Err(LinkEnd::NoMemory);
+    }
+    match send(link, line.as_slice()) {
+        Ok(()) => Ok(()),
+        Err(_) => Err(LinkEnd::Write),
+    }
+}
+
+/// Serves the session of a link over a board that others may share: each reply is sent before the next command is read.
+pub fn serve_link<L: Link>(alloc: Global, link: &mut L, board: &Board, pass: &mut Pass) -> LinkEnd
+    requires board { pass.old.board ≡ id_of board.now }
+    ensures serves { ServesBy
+        (streams (L.left link.old) (L.left link.new) (L.taken link.old) (L.taken link.new))
+        pass.old.view pass.new.view result }
+    ensures read { (L.read_faults link.old ≤ L.read_faults link.new)
+        × (result ≡ LinkEnd.Read → Rose (L.read_faults link.old) (L.read_faults link.new)) }
+    ensures write { (L.write_faults link.old ≤ L.write_faults link.new)
+        × (result ≡ LinkEnd.Write → Rose (L.write_faults link.old) (L.write_faults link.new)) }
+    ensures board { pass.new.board ≡ pass.old.board }
+    ensures consistent { Consistent pass.old.view → Consistent pass.new.view }
+    ensures share { (pass.new.view).share ≡ (pass.old.view).share }
+{
+    let Ok(mut lines) = Lines::new(alloc) else {
+        return LinkEnd::NoMemory;
+    };
+    let mut session = Session::new();
+    loop {
+        let ask = match next_ask(alloc, &mut lines, link) {
+            Ok(ask) => ask,
+            Err(end) => return end,
+        };
+        let quits = is_quit(&ask);
+        let sent = {
+            let reply = session.step(alloc, board, pass, ask);
+            send_reply(alloc, &reply, link)
+        };
+        if let Err(end) = sent {
+            return end;
+        }
+        if quits {
+            return LinkEnd::Done;
+        }
+    }
+}
