@@ -1,0 +1,3 @@
+-- Lemmas.
+pub mod Solving
+pub mod BasisPrints

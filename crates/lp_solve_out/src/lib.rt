@@ -1,0 +1,18 @@
+//! What commands write of the models that they solve.
+//!
+//! | Item | What it is | Where |
+//! |---|---|---|
+//! | `print_solved` | writes what a solve of a model ends with | src/solve |
+//! | `Handed`, `Start` | a model, and the basis from which it is solved | src/basis_start |
+//! | `print_handed` | writes what a solve from the basis of a file ends with | src/basis_out |
+//! | `print_fault` | writes what is wrong with a text or a basis file | src/basis_out |
+//! | `Prints` | what is put after what was printed before | specs/Prints |
+#![tactic(auto)]
+
+mod basis_out;
+mod basis_start;
+mod solve;
+
+pub use basis_out::{print_fault, print_handed};
+pub use basis_start::{Handed, Start};
+pub use solve::print_solved;
