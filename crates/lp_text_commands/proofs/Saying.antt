@@ -1,0 +1,116 @@
+-- What is written of what is said of an input.
+use Rattle.std.proofs.Common.{◌≡◌, ℕ, List, [], ◌++◌, Option, Result, Err, ap, sym, ◌∙◌, subst}
+use Rattle.std.specs.Io.KnownBytes.{Appends}
+use Rattle.std.proofs.KnownBytes.{Appends-nil}
+use Rattle.spec_text.specs.declared.line.Line.{Line}
+use Rattle.spec_mps.specs.declared.style.Style.{Style}
+use Rattle.spec_mps.specs.Reader.{start}
+use Rattle.spec_program.specs.declared.command_line.TextCommand.{TextCommand}
+use Rattle.spec_program.specs.declared.command_line.TextCommand.TheVariants.{Solve, Check, Basis}
+use Rattle.spec_server.specs.Machine.{ExactReply}
+use Rattle.spec_server.specs.CheckOut.{said, CheckOut, check_code}
+use Rattle.spec_server.specs.SolveOut.{TextSaid, text_said, SolveOut, solve_code}
+use Rattle.lp_base.specs.Beside.{Takes}
+use Rattle.mps_read.specs.TextRead.{TextRead}
+use Rattle.lp_line.specs.Stages.{TextSays}
+use Rattle.lp_text_commands.specs.declared.check.CheckStage.TheVariants as stage
+use Rattle.lp_text_commands.specs.declared.exit_status.ExitStatus.{ExitStatus}
+use Rattle.lp_script.specs.declared.halt.Halt.{Halt}
+use Rattle.lp_script.specs.declared.halt.Halt.TheVariants as halts
+use Rattle.lp_solve_out.specs.Prints.{Prints}
+use Rattle.lp_text_commands.specs.Hearing.{Agrees, Hears, HearsSo, Says, SaysInPart, SaysSo}
+use Rattle.spec_server.specs.BasisOut.{BasisSaid, basis_said, BasisOut, basis_code}
+use Rattle.lp_text_commands.specs.declared.basis.BasisStage.TheVariants as basis_stage
+use Rattle.lp_text_commands.specs.Basis.{BasisSays}
+use Rattle.lp_text_commands.specs.Stage.{CheckSays}
+use Rattle.spec_server.specs.Streams.{Streams, streams}
+use Rattle.lp_text_commands.specs.TextCommands.{ReadsText}
+
+module _ {R : Type 0} (tells : List (Line (List ℕ)) → Option R) (Out : R → List ℕ → Type 0) (code_of : R → ℕ)
+    (before after taken : Option (List ℕ)) where
+  halts_so : (halt : Halt) → HearsSo tells before after (Err halt) →
+      SaysSo tells Out code_of (streams before after taken taken) (Err halt)
+  halts_so halts.Read h = (h, Appends-nil taken)
+  halts_so halts.Over h = (h, Appends-nil taken)
+  halts_so halts.NoMemory h = (h, Appends-nil taken)
+  halts_so halts.Write h = absurd h
+  halts_so halts.Cut h = absurd h
+
+  -- where nothing is said, nothing is written
+  pub says_nothing : (halt : Halt) → HearsSo tells before after (Err halt) →
+      (result : Result ExitStatus Halt) (got : Halt) → result ≡ Err got → got ≡ halt →
+      SaysSo tells Out code_of (streams before after taken taken) result
+  says_nothing halt h result got is same =
+      subst (λ (r : Result ExitStatus Halt). SaysSo tells Out code_of (streams before after taken taken) r)
+      (sym (is ∙ ap Err same)) (halts_so halt h)
+
+  -- where memory is wanting for what is said, nothing is written
+  pub says_none : (what : R) → Hears tells before after what →
+      (result : Result ExitStatus Halt) (got : Halt) → result ≡ Err got → got ≡ halts.NoMemory →
+      SaysSo tells Out code_of (streams before after taken taken) result
+  says_none what h result got is same =
+      says_nothing halts.NoMemory (record { read = h.read; consumed = h.consumed }) result got is same
+
+  module _ (what : R) (h : Hears tells before after what) (none text piece : List ℕ) (is_none : none ≡ [])
+      (printed : Prints (Out what) none text) (whole : piece ≡ text) (now : Option (List ℕ)) where
+    same : piece ≡ printed.output
+    same = whole ∙ printed.behind ∙ ap (λ bs. bs ++ printed.output) is_none
+
+    pub says : Appends taken now piece → (code : ℕ) → code ≡ code_of what →
+        Says tells Out code_of (streams before after taken now) code
+    says written code is =
+        record {
+          what = what;
+          hears = h;
+          output = printed.output;
+          is_output = printed.is_output;
+          written = subst (Appends taken now) same written;
+          status = is;
+        }
+
+    pub says_in_part : Takes taken now piece → SaysInPart tells Out (streams before after taken now)
+    says_in_part written =
+        record {
+          what = what;
+          hears = h;
+          output = printed.output;
+          is_output = printed.is_output;
+          written = subst (Takes taken now) same written;
+        }
+
+-- ---- from the start of a text on
+
+reads_as : (command is : TextCommand) (style : Style) (s : Streams) (result : Result ExitStatus Halt) → command ≡ is →
+    ReadsText is style s result → ReadsText command style s result
+reads_as command is style s result e h = subst (λ (asked : TextCommand). ReadsText asked style s result) (sym e) h
+
+module _ (style : Style) (reader : TextRead) (begun : reader ≡ record { style = style; state = start; lines = 0 }) where
+  text_agrees : Agrees (TextSays reader) (text_said style)
+  text_agrees lines answer h = subst (λ (r : TextRead). TextSays r lines answer) begun h
+
+  check_agrees : Agrees (CheckSays (stage.Text reader)) (said style)
+  check_agrees lines answer h = subst (λ (r : TextRead). CheckSays (stage.Text r) lines answer) begun h
+
+  pub solve_reads : (command : TextCommand) → command ≡ Solve → (s : Streams) (result : Result ExitStatus Halt) →
+      ((said : List (Line (List ℕ)) → Option TextSaid) → Agrees (TextSays reader) said →
+      SaysSo said SolveOut solve_code s result) →
+      ReadsText command style s result
+  solve_reads command asked s result h =
+      reads_as command Solve style s result asked (h (text_said style) text_agrees)
+
+  pub check_reads : (command : TextCommand) → command ≡ Check → (s : Streams) (result : Result ExitStatus Halt) →
+      ((said : List (Line (List ℕ)) → Option ExactReply) → Agrees (CheckSays (stage.Text reader)) said →
+      SaysSo said CheckOut check_code s result) →
+      ReadsText command style s result
+  check_reads command asked s result h =
+      reads_as command Check style s result asked (h (said style) check_agrees)
+
+  basis_agrees : Agrees (BasisSays (basis_stage.Text reader)) (basis_said style)
+  basis_agrees lines answer h = subst (λ (r : TextRead). BasisSays (basis_stage.Text r) lines answer) begun h
+
+  pub basis_reads : (command : TextCommand) → command ≡ Basis → (s : Streams) (result : Result ExitStatus Halt) →
+      ((said : List (Line (List ℕ)) → Option BasisSaid) → Agrees (BasisSays (basis_stage.Text reader)) said →
+      SaysSo said BasisOut basis_code s result) →
+      ReadsText command style s result
+  basis_reads command asked s result h =
+      reads_as command Basis style s result asked (h (basis_said style) basis_agrees)

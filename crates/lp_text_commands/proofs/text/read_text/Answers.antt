@@ -1,0 +1,17 @@
+-- From the start of a text on.
+use Rattle.lp_text_commands.proofs.Saying.{solve_reads, check_reads, basis_reads}
+use Rattle.lp_text_commands.proofs.text.read_text.Goals as goal
+
+pub returns-in-Solve-clause-output : goal.returns-in-Solve-clause-output
+returns-in-Solve-clause-output g c =
+    solve_reads c.args.style c.new-text.result c.new-text.ensures c.args.command c.in-Solve.is _ _ c.say.ensures.output
+
+pub returns-in-Check-clause-output : goal.returns-in-Check-clause-output
+returns-in-Check-clause-output g c =
+    check_reads c.args.style c.new-text.result c.new-text.ensures c.args.command c.in-Check.is _ _
+    c.say-in-Check.ensures.output
+
+pub returns-in-Basis-clause-output : goal.returns-in-Basis-clause-output
+returns-in-Basis-clause-output g c =
+    basis_reads c.args.style c.new-text.result c.new-text.ensures c.args.command c.in-Basis.is _ _
+    c.say-in-Basis.ensures.output

@@ -1,0 +1,19 @@
+-- Where the reading of a basis file stands, for a model and its form.
+use Rattle.std.specs.Prelude.{ℕ, ◌≡◌, Some, Ok}
+use Rattle.spec_model.specs.Model.{Model}
+use Rattle.spec_simplex.specs.Form.{Form, form_of}
+use Rattle.spec_bas.specs.Steps as file
+use Rattle.spec_bas.specs.Fits.{IsMarking}
+use Rattle.spec_server.specs.Answers.{number_limit}
+
+-- a model, its form, what was read of the file so far, and of how many lines
+pub record FileAt : Type 0 where
+  pub model : Model
+  pub form : Form
+  pub state : file.State
+  pub lines : ℕ
+
+-- the form is that of the model, and what was read gives a basis of it
+pub record IsFileAt (at : FileAt) : Type 0 where
+  pub formed : form_of (Some number_limit) at.model ≡ Ok at.form
+  pub marking : IsMarking at.form at.state

@@ -1,0 +1,6 @@
+pub mod Status
+pub mod Hearing
+pub mod Stage
+pub mod FileAt
+pub mod Basis
+pub mod TextCommands

@@ -1,0 +1,117 @@
+// The basis file that follows the text of its model.
+ghost use Rattle.std.specs.Prelude.{◌≡◌, ◌<◌, ◌-◌, ◌^◌, IfOk, Some, refl};
+ghost use Rattle.spec_simplex.specs.Form.{form_of};
+ghost use Rattle.spec_server.specs.Answers.{number_limit};
+ghost use Rattle.spec_server.specs.BasisOut.{InText, InFile, begun_file, basis_step};
+ghost use Rattle.lp_text_commands.specs.Basis.{step_of, count_of, BasisSays};
+
+use crate::basis_file::FileStage;
+use lp_bas::{BasFeed, BasReader};
+use lp_base::Line;
+use lp_line::{Stage, Step};
+use lp_model::Model;
+use lp_solve_out::{Handed, Start};
+use lp_standard::{FormStop, form};
+use mps_read::{Feed, Reader};
+use spec_server::BasisFault;
+use std::alloc::{AllocError, Global};
+
+/// What the text and the file say: a model to solve, or what is wrong.
+pub(crate) type BasisSaid = Result<Handed, BasisFault>;
+
+/// In the text of a model, or in the basis file after it.
+#[derive(Drop)]
+pub(crate) enum BasisStage {
+    Text(Reader),
+    File(FileStage),
+}
+
+impl Stage for BasisStage {
+    type Said = BasisSaid;
+
+    ghost says = { BasisSays };
+
+    ghost count = { count_of };
+
+    ghost silent = { λ _. refl };
+
+    fn advance(
+        self,
+        alloc: Global,
+        line: &Line,
+    ) -> Result<Step<BasisStage, BasisSaid>, AllocError> {
+        match self {
+            BasisStage::Text(reader) => text_line(alloc, reader, line),
+            BasisStage::File(file) => file_line(alloc, file, line),
+        }
+    }
+}
+
+// A file is read where the model has a form.
+fn begin_file(alloc: Global, model: Model) -> Result<Step<BasisStage, BasisSaid>, AllocError>
+    ensures { IfOk result (λ step. step_of step ≡ begun_file model (form_of (Some number_limit) model)) }
+{
+    match form(alloc, &model) {
+        Ok(form) => {
+            let reader = BasReader::new(alloc, &form)?;
+            Ok(Step::On(BasisStage::File(FileStage {
+                model,
+                form,
+                reader,
+            })))
+        }
+        Err(FormStop::Clash(_) | FormStop::Past(_)) => {
+            Ok(Step::Says(Ok(Handed { model, start: None })))
+        }
+        Err(FormStop::NoMemory) => Err(AllocError),
+    }
+}
+
+// A line of the text.
+#[tactic(auto, unfolding(spec_server::specs::BasisOut::basis_step))]
+fn text_line(
+    alloc: Global,
+    mut reader: Reader,
+    line: &Line,
+) -> Result<Step<BasisStage, BasisSaid>, AllocError>
+    requires { reader.lines < 2 ^ 32 - 1 }
+    ensures { IfOk result (λ step. step_of step ≡ basis_step (InText reader.style reader.state reader.lines) line.now) }
+{
+    match reader.feed(alloc, line) {
+        Feed::More => Ok(Step::On(BasisStage::Text(reader))),
+        Feed::Done(model) => begin_file(alloc, model),
+        Feed::Refused(fault) => Ok(Step::Says(Err(BasisFault::Text(fault)))),
+        Feed::NoMemory => Err(AllocError),
+    }
+}
+
+// A line of the file.
+#[tactic(auto, unfolding(spec_server::specs::BasisOut::basis_step))]
+fn file_line(
+    alloc: Global,
+    file: FileStage,
+    line: &Line,
+) -> Result<Step<BasisStage, BasisSaid>, AllocError>
+    requires { file.lines < 2 ^ 32 - 1 }
+    ensures { IfOk result
+        (λ step. step_of step ≡ basis_step (InFile file.model file.form file.state file.lines) line.now) }
+{
+    let FileStage {
+        model,
+        form,
+        mut reader,
+    } = file;
+    match reader.feed(alloc, &model, &form, line) {
+        BasFeed::More => Ok(Step::On(BasisStage::File(FileStage {
+            model,
+            form,
+            reader,
+        }))),
+        BasFeed::Done(basis) => {
+            let start = Some(Start { form, basis });
+            Ok(Step::Says(Ok(Handed { model, start })))
+        }
+        BasFeed::Refused(fault) => Ok(Step::Says(Err(BasisFault::File(fault)))),
+        BasFeed::NoMemory => Err(AllocError),
+    }
+}

@@ -1,0 +1,108 @@
+// The check of a certificate that follows the text of its model.
+ghost use Rattle.std.specs.Prelude.{◌≡◌, ◌<◌, ◌-◌, ◌^◌, IfOk, refl};
+ghost use Rattle.spec_server.specs.CheckOut.{InText, InCertificate, check_step, check_code, CheckOut};
+ghost use Rattle.lp_text_commands.specs.Stage.{step_of, count_of, CheckSays};
+
+use crate::exit_status::ExitStatus;
+use crate::hearing::Output;
+use lp_base::{Bytes, Line};
+use lp_check::{CertFeed, CertReader};
+use lp_line::{Refusal, Reply, Stage, Step, print_said};
+use lp_model::Model;
+use lp_session::verdict_on;
+use mps_read::{Feed, Reader};
+use std::alloc::{AllocError, Global};
+
+/// In the text of a model, or in the certificate after it.
+#[derive(Drop)]
+pub(crate) enum CheckStage {
+    Text(Reader),
+    Certificate { model: Model, reader: CertReader },
+}
+
+impl Stage for CheckStage {
+    type Said = Reply;
+
+    ghost says = { CheckSays };
+
+    ghost count = { count_of };
+
+    ghost silent = { λ _. refl };
+
+    fn advance(self, alloc: Global, line: &Line) -> Result<Step<CheckStage, Reply>, AllocError> {
+        match self {
+            CheckStage::Text(reader) => text_line(alloc, reader, line),
+            CheckStage::Certificate { model, reader } => {
+                certificate_line(alloc, model, reader, line)
+            }
+        }
+    }
+}
+
+impl Output for Reply {
+    ghost may_write = { CheckOut };
+
+    ghost code = { check_code };
+
+    fn print(self, alloc: Global, to: &mut Bytes) -> Result<ExitStatus, AllocError> {
+        print_said(alloc, &self, to)?;
+        Ok(status_of(&self))
+    }
+}
+
+fn status_of(reply: &Reply) -> ExitStatus
+    ensures { result.code ≡ check_code reply.now }
+{
+    match reply {
+        Reply::Refused(_) => ExitStatus::REFUSED,
+        Reply::Loaded(_, _)
+        | Reply::Written(_)
+        | Reply::Done
+        | Reply::Answered(_)
+        | Reply::Certified(_)
+        | Reply::Found { .. }
+        | Reply::Checked(_)
+        | Reply::Bye
+        | Reply::Memory => ExitStatus::DONE,
+    }
+}
+
+// A line of the text.
+#[tactic(auto, unfolding(spec_server::specs::CheckOut::check_step))]
+fn text_line(
+    alloc: Global,
+    mut reader: Reader,
+    line: &Line,
+) -> Result<Step<CheckStage, Reply>, AllocError>
+    requires { reader.lines < 2 ^ 32 - 1 }
+    ensures { IfOk result (λ step. step_of step ≡ check_step (InText reader.style reader.state reader.lines) line.now) }
+{
+    match reader.feed(alloc, line) {
+        Feed::More => Ok(Step::On(CheckStage::Text(reader))),
+        Feed::Done(model) => Ok(Step::On(CheckStage::Certificate {
+            model,
+            reader: CertReader::new(),
+        })),
+        Feed::Refused(fault) => Ok(Step::Says(Reply::Refused(Refusal::Misspelled(fault)))),
+        Feed::NoMemory => Err(AllocError),
+    }
+}
+
+// A line of the certificate.
+#[tactic(auto, unfolding(spec_server::specs::CheckOut::check_step))]
+fn certificate_line(
+    alloc: Global,
+    model: Model,
+    mut reader: CertReader,
+    line: &Line,
+) -> Result<Step<CheckStage, Reply>, AllocError>
+    requires { reader.lines < 2 ^ 32 - 1 }
+    ensures { IfOk result (λ step. step_of step ≡ check_step (InCertificate model reader.raw reader.lines) line.now) }
+{
+    match reader.feed(alloc, line) {
+        CertFeed::More => Ok(Step::On(CheckStage::Certificate { model, reader })),
+        CertFeed::Done(raw) => Ok(Step::Says(verdict_on(alloc, &model, &raw)?)),
+        CertFeed::Refused(unfit) => Ok(Step::Says(Reply::Refused(Refusal::Unfit(unfit)))),
+        CertFeed::NoMemory => Err(AllocError),
+    }
+}

@@ -1,0 +1,68 @@
+// What is said of an input that is read from its start on, and what is written of that.
+ghost use Rattle.std.specs.Prelude.{◌≡◌, ℕ, List, Option, OnOk, IfOk, IsErrOf};
+ghost use Rattle.lp_base.specs.Causes.{Rose};
+ghost use Rattle.spec_text.specs.declared.line.Line.{Line as exact_line};
+ghost use Rattle.lp_solve_out.specs.Prints.{Prints};
+ghost use Rattle.lp_text_commands.specs.Hearing.{Agrees, HearsSo, SaysSo};
+ghost use Rattle.spec_server.specs.Streams.{streams};
+
+use crate::exit_status::ExitStatus;
+use lp_base::{Bytes, Lines, Sink, Source, send};
+use lp_line::{Heard, Stage, hear};
+use lp_script::Halt;
+use std::alloc::{AllocError, Global};
+
+/// What is said of an input, as it is written.
+pub(crate) trait Output: Drop {
+    // what may be written of it, and the status of it
+    ghost may_write: { Self → List ℕ → Type 0 };
+
+    ghost code: { Self → ℕ };
+
+    /// Writes it after what is there, and tells the status.
+    fn print(self, alloc: Global, to: &mut Bytes) -> Result<ExitStatus, AllocError>
+        ensures output { OnOk result (Prints (may_write self) to.old to.new) }
+        ensures status { IfOk result (λ status. status.code ≡ code self) };
+}
+
+/// What is said of the input that the source gives.
+pub(crate) fn hear_input<S: Source, T: Stage>(
+    alloc: Global,
+    first: T,
+    src: &mut S,
+) -> Result<T::Said, Halt>
+    requires { T.count first ≡ 0 }
+    ensures output { (said : List (exact_line (List ℕ)) → Option T.Said) → Agrees (T.says first) said →
+        HearsSo said (S.left src.old) (S.left src.new) result }
+    ensures read { IsErrOf result Halt.Read → Rose (S.read_faults src.old) (S.read_faults src.new) }
+    ensures no_write { IsErrOf result Halt.Write → ⊥ }
+{
+    let mut lines = Lines::new(alloc)?;
+    match hear(alloc, first, &mut lines, src)? {
+        Heard::Says(said) => Ok(said),
+        Heard::Over => Err(Halt::Over),
+    }
+}
+
+/// Reads the input that the source gives, and writes what is said of it.
+pub(crate) fn say<S: Source, K: Sink, T: Stage>(
+    alloc: Global,
+    first: T,
+    src: &mut S,
+    out: &mut K,
+) -> Result<ExitStatus, Halt>
+where
+    T::Said: Output,
+    requires { T.count first ≡ 0 }
+    ensures output { (said : List (exact_line (List ℕ)) → Option T.Said) → Agrees (T.says first) said →
+        SaysSo said T.Said.may_write T.Said.code
+        (streams (S.left src.old) (S.left src.new) (K.taken out.old) (K.taken out.new)) result }
+    ensures read { IsErrOf result Halt.Read → Rose (S.read_faults src.old) (S.read_faults src.new) }
+    ensures write { IsErrOf result Halt.Write → Rose (K.write_faults out.old) (K.write_faults out.new) }
+{
+    let said = hear_input(alloc, first, src)?;
+    let mut text = Bytes::new(alloc);
+    let status = said.print(alloc, &mut text)?;
+    send(out, text.as_slice())?;
+    Ok(status)
+}

@@ -1,0 +1,49 @@
+// What is said of a text, and of a text and a basis file after it, as it is written.
+ghost use Rattle.spec_server.specs.SolveOut.{SolveOut, solve_code};
+ghost use Rattle.spec_server.specs.BasisOut.{BasisOut, basis_code};
+
+use crate::basis::BasisSaid;
+use crate::exit_status::ExitStatus;
+use crate::hearing::Output;
+use lp_base::Bytes;
+use lp_line::{Refusal, Reply, TextSaid, print_said};
+use lp_solve_out::{print_fault, print_handed, print_solved};
+use std::alloc::{AllocError, Global};
+
+impl Output for TextSaid {
+    ghost may_write = { SolveOut };
+
+    ghost code = { solve_code };
+
+    fn print(self, alloc: Global, to: &mut Bytes) -> Result<ExitStatus, AllocError> {
+        match self {
+            Ok(model) => {
+                print_solved(alloc, &model, to)?;
+                Ok(ExitStatus::DONE)
+            }
+            Err(fault) => {
+                print_said(alloc, &Reply::Refused(Refusal::Misspelled(fault)), to)?;
+                Ok(ExitStatus::REFUSED)
+            }
+        }
+    }
+}
+
+impl Output for BasisSaid {
+    ghost may_write = { BasisOut };
+
+    ghost code = { basis_code };
+
+    fn print(self, alloc: Global, to: &mut Bytes) -> Result<ExitStatus, AllocError> {
+        match self {
+            Ok(handed) => {
+                print_handed(alloc, &handed, to)?;
+                Ok(ExitStatus::DONE)
+            }
+            Err(fault) => {
+                print_fault(alloc, fault, to)?;
+                Ok(ExitStatus::REFUSED)
+            }
+        }
+    }
+}

@@ -1,0 +1,37 @@
+// The commands that read the text of a model.
+ghost use Rattle.std.specs.Prelude.{◌≡◌, IsErrOf};
+ghost use Rattle.lp_base.specs.Causes.{Rose};
+ghost use Rattle.spec_server.specs.Streams.{streams};
+ghost use Rattle.lp_text_commands.specs.TextCommands.{ReadsText};
+
+use crate::basis::BasisStage;
+use crate::check::CheckStage;
+use crate::exit_status::ExitStatus;
+use crate::hearing::say;
+use lp_base::{Sink, Source};
+use lp_script::Halt;
+use mps_read::Reader;
+use spec_mps::Style;
+use spec_program::TextCommand;
+use std::alloc::Global;
+
+/// Reads the text that the source gives, and writes what the command says of it.
+pub fn read_text<S: Source, K: Sink>(
+    alloc: Global,
+    command: TextCommand,
+    style: Style,
+    src: &mut S,
+    out: &mut K,
+) -> Result<ExitStatus, Halt>
+    ensures output { ReadsText command style
+        (streams (S.left src.old) (S.left src.new) (K.taken out.old) (K.taken out.new)) result }
+    ensures read { IsErrOf result Halt.Read → Rose (S.read_faults src.old) (S.read_faults src.new) }
+    ensures write { IsErrOf result Halt.Write → Rose (K.write_faults out.old) (K.write_faults out.new) }
+{
+    let text = Reader::new(alloc, style);
+    match command {
+        TextCommand::Solve => say(alloc, text, src, out),
+        TextCommand::Check => say(alloc, CheckStage::Text(text), src, out),
+        TextCommand::Basis => say(alloc, BasisStage::Text(text), src, out),
+    }
+}
