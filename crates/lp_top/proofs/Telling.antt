@@ -2,18 +2,18 @@
 use Rattle.std.proofs.Common.{◌≡◌, ◌⊎◌, ℕ, List, [], Option, Some, Ok, Err, arith, sym, inl, inr, subst}
 use Rattle.std.specs.Io.KnownBytes.{Consumes}
 use Rattle.spec_text.specs.declared.line.Line.{Line}
-use Rattle.spec_server.specs.declared.command_line.CommandLine.{CommandLine}
-use Rattle.spec_server.specs.declared.command_line.TextCommand.{TextCommand}
-use Rattle.spec_server.specs.TextOut.{said_of, MayWrite, code_of}
+use Rattle.spec_program.specs.declared.command_line.CommandLine.{CommandLine}
+use Rattle.spec_program.specs.declared.command_line.TextCommand.{TextCommand}
+use Rattle.spec_program.specs.TextOut.{said_of, MayWrite, code_of}
 use Rattle.spec_mps.specs.declared.style.Style.{Style}
 use Rattle.lp_script.specs.declared.halt.Halt.{Halt}
 use Rattle.lp_script.specs.declared.halt.Halt.TheVariants as halts
-use Rattle.lp_top.specs.Generating.{Writes, WritesAll, TellsOfWriting}
-use Rattle.lp_top.specs.Hearing.{SaysSo, TellsOf}
+use Rattle.lp_generate.specs.Generating.{Writes, WritesAll, TellsOfWriting}
+use Rattle.lp_text_commands.specs.Hearing.{SaysSo, TellsOf}
 use Rattle.lp_script.specs.Run.{Moves, EndsSo}
-use Rattle.lp_top.specs.Status.{code_behind}
-use Rattle.lp_script.specs.Streams.{Streams}
-use Rattle.lp_top.specs.TextCommands.{ReadsText, TellsOfText}
+use Rattle.lp_text_commands.specs.Status.{code_behind}
+use Rattle.spec_server.specs.Streams.{Streams}
+use Rattle.lp_text_commands.specs.TextCommands.{ReadsText, TellsOfText}
 use Rattle.lp_top.specs.Top.{Tells, Does}
 
 -- ---- a script
@@ -21,20 +21,55 @@ use Rattle.lp_top.specs.Top.{Tells, Does}
 module _ {workers places : ℕ} {s : Streams} where
   told_stop : (moves : Moves workers places s) (stop : Halt) → EndsSo moves (Err stop) → Tells (code_behind stop) moves
   told_stop moves halts.Read ends =
-      record { done = λ e. absurd (omega arith); fault = λ e. ends; cut = λ e. absurd (omega arith); over = λ e. absurd (omega arith) }
+      record {
+        done = λ e. absurd (omega arith);
+        fault = λ e. ends;
+        cut = λ e. absurd (omega arith);
+        over = λ e. absurd
+            (omega arith);
+      }
   told_stop moves halts.Write ends =
-      record { done = λ e. absurd (omega arith); fault = λ e. absurd (omega arith); cut = λ e. absurd (omega arith); over = λ e. absurd (omega arith) }
+      record {
+        done = λ e. absurd (omega arith);
+        fault = λ e. absurd (omega arith);
+        cut = λ e. absurd (omega arith);
+        over = λ e. absurd (omega arith);
+      }
   told_stop moves halts.NoMemory ends =
-      record { done = λ e. absurd (omega arith); fault = λ e. absurd (omega arith); cut = λ e. absurd (omega arith); over = λ e. absurd (omega arith) }
+      record {
+        done = λ e. absurd (omega arith);
+        fault = λ e. absurd (omega arith);
+        cut = λ e. absurd (omega arith);
+        over = λ e. absurd (omega arith);
+      }
   told_stop moves halts.Cut ends =
-      record { done = λ e. absurd (omega arith); fault = λ e. absurd (omega arith); cut = λ e. ends; over = λ e. absurd (omega arith) }
+      record {
+        done = λ e. absurd (omega arith);
+        fault = λ e. absurd (omega arith);
+        cut = λ e. ends;
+        over = λ e. absurd
+            (omega arith);
+      }
   told_stop moves halts.Over ends =
-      record { done = λ e. absurd (omega arith); fault = λ e. absurd (omega arith); cut = λ e. absurd (omega arith); over = λ e. ends }
+      record {
+        done = λ e. absurd (omega arith);
+        fault = λ e. absurd (omega arith);
+        cut = λ e. absurd (omega arith);
+        over = λ e. ends;
+      }
 
   pub run_done : ((moves : Moves workers places s) × EndsSo moves (Ok tt)) →
       (moves : Moves workers places s) × Tells 0 moves
-  run_done m =
-      (m.0, record { done = λ e. m.1; fault = λ e. absurd (omega arith); cut = λ e. absurd (omega arith); over = λ e. absurd (omega arith) })
+  run_done m = (
+    m.0,
+    record {
+      done = λ e. m.1;
+      fault = λ e. absurd (omega arith);
+      cut = λ e. absurd (omega arith);
+      over = λ e.
+          absurd (omega arith);
+    },
+  )
 
   pub run_stopped : (stop : Halt) (code : ℕ) → code ≡ code_behind stop →
       ((moves : Moves workers places s) × EndsSo moves (Err stop)) →
@@ -47,7 +82,8 @@ not_done : (n : ℕ) → ¬ (n ≡ 0) → ¬ (n ≡ 9) → (n ≡ 0) ⊎ (n ≡ 
 not_done n a b (inl e) = a e
 not_done n a b (inr e) = b e
 
-module _ {R : Type 0} (said : List (Line (List ℕ)) → Option R) (Out : R → List ℕ → Type 0) (code_of : R → ℕ) (s : Streams) where
+module _ {R : Type 0} (said : List (Line (List ℕ)) → Option R) (Out : R → List ℕ → Type 0) (code_of : R → ℕ)
+    (s : Streams) where
   stop_told : (halt : Halt) → SaysSo said Out code_of s (Err halt) → TellsOf said Out code_of s (code_behind halt)
   stop_told halts.Read h = record {
     done = λ e. absurd (not_done 3 (λ z. omega (arith, z)) (λ z. omega (arith, z)) e);
@@ -82,7 +118,8 @@ module _ {R : Type 0} (said : List (Line (List ℕ)) → Option R) (Out : R → 
 pub text_halted : (command : TextCommand) (style : Style) (s : Streams) (halt : Halt) (code : ℕ) →
     code ≡ code_behind halt → ReadsText command style s (Err halt) → TellsOfText command style s code
 text_halted command style s halt code e h =
-    subst (λ n. TellsOfText command style s n) (sym e) (stop_told (said_of command style) (MayWrite command) (code_of command) s halt h)
+    subst (λ n. TellsOfText command style s n) (sym e) (stop_told (said_of command style) (MayWrite command)
+    (code_of command) s halt h)
 
 -- ---- the command that makes a model
 

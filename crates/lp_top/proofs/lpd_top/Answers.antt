@@ -1,8 +1,8 @@
 -- The numbers that a command line gives.
 use Rattle.std.proofs.Common.{sym, ◌∙◌}
-use Rattle.lp_top.proofs.Fitting.{command-fits}
+use Rattle.spec_program.proofs.Fitting.{command-fits}
 use Rattle.lp_top.proofs.lpd_top.Goals as goal
 
-pub obey-requires-after_bounds : goal.obey-requires-after_bounds
-obey-requires-after_bounds g c = λ lives bounds.
+pub obey-requires-clause-fits : goal.obey-requires-clause-fits
+obey-requires-clause-fits g c = λ lives bounds.
     command-fits _ c.in-Some.command (sym c.command_line_of.ensures ∙ c.in-Some.is)

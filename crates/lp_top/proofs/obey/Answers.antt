@@ -1,16 +1,16 @@
 -- By the command, and what it is answered.
 use Rattle.std.proofs.Common.{subst}
-use Rattle.spec_server.specs.declared.command_line.CommandLine.TheVariants.{Run, Read, Generate}
+use Rattle.spec_program.specs.declared.command_line.CommandLine.TheVariants.{Run, Read, Generate}
 use Rattle.std.proofs.KnownBytes.{Consumes-nil}
-use Rattle.lp_top.specs.Top.{Fits}
+use Rattle.spec_program.specs.Fits.{Fits}
 use Rattle.lp_top.proofs.Telling.{run_done, run_stopped, text_halted, generated, not_generated, does_as}
 use Rattle.lp_top.proofs.obey.Goals as goal
 
 pub run_script-requires-clause-workers : goal.run_script-requires-clause-workers
-run_script-requires-clause-workers g c = λ lives bounds. (subst Fits c.in-Run.is c.requires).0
+run_script-requires-clause-workers g c = λ lives bounds. (subst Fits c.in-Run.is c.requires.fits).0
 
 pub run_script-requires-clause-places : goal.run_script-requires-clause-places
-run_script-requires-clause-places g c = λ lives bounds. (subst Fits c.in-Run.is c.requires).1
+run_script-requires-clause-places g c = λ lives bounds. (subst Fits c.in-Run.is c.requires.fits).1
 
 pub returns-in-Ok-clause-output : goal.returns-in-Ok-clause-output
 returns-in-Ok-clause-output g c =

@@ -1,8 +1,0 @@
--- The form has the model's rows and columns.
-use Rattle.std.proofs.Common.{Some}
-use Rattle.spec_bas.proofs.Sizes.{sized}
-use Rattle.spec_server.specs.Answers.{number_limit}
-use Rattle.lp_top.proofs.basis.file_line.Goals as goal
-
-pub feed-requires-clause-sizes : goal.feed-requires-clause-sizes
-feed-requires-clause-sizes c = sized (Some number_limit) _ _ c.file.invariant.formed

@@ -1,8 +1,0 @@
--- What a solve ends with, where there is no form.
-use Rattle.lp_top.proofs.BasisPrints.{prints_formless}
-use Rattle.lp_top.proofs.handed.print_formless.Goals as goal
-
-pub returns : goal.returns
-returns c =
-    prints_formless c.args.model.now c.requires.0 c.in_ok-solved.solved c.args.to.now c.print_end.new.to c.requires.1
-    c.in_ok-solved.ensures c.in_ok-print_end.ensures
