@@ -1,10 +1,2 @@
 pub mod Status
-pub mod Generating
 pub mod Top
-pub mod Hearing
-pub mod Stage
-pub mod FileAt
-pub mod Handed
-pub mod Basis
-pub mod TextCommands
-pub mod Words

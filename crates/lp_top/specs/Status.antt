@@ -1,12 +1,14 @@
--- The status of what halts a command.
-use Rattle.std.specs.Prelude.{ℕ}
-use Rattle.lp_script.specs.declared.halt.Halt.{Halt}
-use Rattle.lp_script.specs.declared.halt.Halt.TheVariants as halts
+-- The status of what keeps a server from its end.
+use Rattle.std.specs.Prelude.{ℕ, Result, Ok, Err}
+use Rattle.lp_serve.specs.declared.fault.ServeFault.{ServeFault}
+use Rattle.lp_serve.specs.declared.fault.ServeFault.TheVariants as faults
 
 -- its code
-abbrev pub code_behind : Halt → ℕ
-code_behind halts.Read = 3
-code_behind halts.Write = 4
-code_behind halts.NoMemory = 5
-code_behind halts.Cut = 6
-code_behind halts.Over = 8
+abbrev pub code_of_fault : ServeFault → ℕ
+code_of_fault faults.Accept = 7
+code_of_fault faults.Write = 4
+code_of_fault faults.NoMemory = 5
+
+abbrev pub code_of_service : Result (Unit {0}) ServeFault → ℕ
+code_of_service (Ok u) = 0
+code_of_service (Err fault) = code_of_fault fault

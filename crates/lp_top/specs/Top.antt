@@ -1,22 +1,19 @@
 -- What the top call reads and writes, by its status.
-use Rattle.std.specs.Prelude.{ℕ, ◌≡◌, ◌≤◌, ◌⊎◌, [], Option, Some, None}
+use Rattle.std.specs.Prelude.{ℕ, ◌≡◌, ◌⊎◌, List, [], Option, Some, None, Result}
 use Rattle.std.specs.Io.KnownBytes.{Consumes, Appends}
-use Rattle.spec_server.specs.declared.command_line.CommandLine.{CommandLine}
-use Rattle.spec_server.specs.declared.command_line.CommandLine.TheVariants.{Run, Read, Generate}
-use Rattle.spec_model.specs.Kept.{row_limit, column_limit}
-use Rattle.spec_server.specs.GenOut.{GenOut}
+use Rattle.spec_program.specs.declared.command_line.CommandLine.{CommandLine}
+use Rattle.spec_program.specs.declared.command_line.CommandLine.TheVariants.{Run, Read, Generate, Serve}
+use Rattle.spec_program.specs.GenOut.{GenOut}
 use Rattle.spec_server.specs.Script.{Ended, Cut}
 use Rattle.spec_server.specs.Script as script
-use Rattle.lp_top.specs.Generating.{TellsOfWriting}
-use Rattle.lp_script.specs.Run.{IsPlaces, IsWorkers, Moves, EndsInput, EndsWith, BreaksOff}
-use Rattle.lp_script.specs.Streams.{Streams}
-use Rattle.lp_top.specs.TextCommands.{TellsOfText}
-
--- a command line has no numbers but those that its command can be done with
-abbrev pub Fits : CommandLine → Type 0
-Fits (Run workers places) = IsWorkers workers × IsPlaces places
-Fits (Read command style) = Unit {0}
-Fits (Generate seed rows columns) = (rows ≤ row_limit) × (columns ≤ column_limit)
+use Rattle.lp_generate.specs.Generating.{TellsOfWriting}
+use Rattle.lp_link.specs.Listening.{ListenerState}
+use Rattle.lp_script.specs.Run.{Moves, EndsInput, EndsWith, BreaksOff}
+use Rattle.lp_serve.specs.Serving.{Serves}
+use Rattle.lp_serve.specs.declared.fault.ServeFault.{ServeFault}
+use Rattle.lp_top.specs.Status.{code_of_service}
+use Rattle.spec_server.specs.Streams.{Streams}
+use Rattle.lp_text_commands.specs.TextCommands.{TellsOfText}
 
 -- the statuses of a command line
 abbrev pub IsStatus : Option CommandLine → ℕ → Type 0
@@ -26,6 +23,7 @@ IsStatus (Some (Run workers places)) code =
 IsStatus (Some (Read command style)) code =
     (code ≡ 0) ⊎ (code ≡ 3) ⊎ (code ≡ 4) ⊎ (code ≡ 5) ⊎ (code ≡ 8) ⊎ (code ≡ 9)
 IsStatus (Some (Generate seed rows columns)) code = (code ≡ 0) ⊎ (code ≡ 4) ⊎ (code ≡ 5)
+IsStatus (Some (Serve workers each places)) code = (code ≡ 0) ⊎ (code ≡ 4) ⊎ (code ≡ 5) ⊎ (code ≡ 7)
 
 -- what a status says of the bytes that a script's run read and wrote
 pub record Tells {workers places : ℕ} {s : Streams} (code : ℕ) (moves : Moves workers places s) : Type 0 where
@@ -40,3 +38,22 @@ Does None s code = Consumes s.left_before s.left_after [] × Appends s.taken_bef
 Does (Some (Run workers places)) s code = (moves : Moves workers places s) × Tells code moves
 Does (Some (Read command style)) s code = TellsOfText command style s code
 Does (Some (Generate seed rows columns)) s code = TellsOfWriting (GenOut seed rows columns) s code
+Does (Some (Serve workers each places)) s code = Consumes s.left_before s.left_after []
+
+-- ---- with the listeners of a server
+
+-- a server has as many listeners as workers; other commands need none
+abbrev pub HasListeners : Option CommandLine → ℕ → Type 0
+HasListeners (Some (Serve workers each places)) count = count ≡ workers
+HasListeners other count = Unit {0}
+
+-- what a server does with its links and writes of them, by its status
+pub record TellsOfLinks (places each : ℕ) (s : Streams) (olds news : List ListenerState) (code : ℕ) : Type 0 where
+  pub result : Result (Unit {0}) ServeFault
+  pub serves : Serves places each olds news s.taken_before s.taken_after result
+  pub status : code ≡ code_of_service result
+
+-- no other command uses a listener
+abbrev pub DoesOver : Option CommandLine → Streams → List ListenerState → List ListenerState → ℕ → Type 0
+DoesOver (Some (Serve workers each places)) s olds news code = TellsOfLinks places each s olds news code
+DoesOver other s olds news code = news ≡ olds

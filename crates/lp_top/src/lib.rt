@@ -2,57 +2,79 @@
 //!
 //! | Item | What it is | Where |
 //! |---|---|---|
-//! | `lpd_top` | runs a command line over a source and a sink | here |
-//! | `ExitStatus` | how that ended | src/exit_status |
+//! | `lpd_top` | runs a command line over a source, a sink and listeners | here |
+//! | `ExitStatus` | how that ended | `lp_text_commands` |
+//! | `Serving`, `plan` | which listeners a command line needs | `lp_command_line` |
+//! | `Does`, `DoesOver` | what a command line reads and writes, and does over its listeners | specs/Top |
 //!
-//! What it reads and writes is stated by specs/Top, of a script by specs/Run and of a text by specs/Hearing, in the
-//! words of the server's definitions.
+//! specs/Top says of a script what `lp_script` does, of a text what `lp_text_commands`, of a generated model what
+//! `lp_generate`, and of a server what `lp_serve`, in the words of the server's definitions.
 #![tactic(auto)]
 
-mod basis;
-mod basis_file;
-mod check;
-mod command_line;
-mod exit_status;
-mod generate;
-mod handed;
-mod hearing;
-mod solve;
-#[cfg(test)]
-mod tests;
-mod text;
-
-ghost use Rattle.std.specs.Prelude.{◌≡◌, ◌↔◌, map, string_bytes, Some, None};
+ghost use Rattle.std.specs.Prelude.{◌≡◌, ◌↔◌, map, string_bytes, vec_len, Some, None};
 ghost use Rattle.lp_base.specs.Causes.{Rose};
-ghost use Rattle.spec_server.specs.CommandLine.{command_line_of};
-ghost use Rattle.lp_script.specs.Streams.{streams};
-ghost use Rattle.lp_top.specs.Top.{Does, Fits, IsStatus};
+ghost use Rattle.spec_program.specs.CommandLine.{command_line_of};
+ghost use Rattle.spec_server.specs.Streams.{streams};
+ghost use Rattle.spec_program.specs.Fits.{Fits};
+ghost use Rattle.lp_link.specs.Listening.{listener_of};
+ghost use Rattle.lp_serve.specs.Serving.{SomeFailed};
+ghost use Rattle.lp_top.specs.Status.{code_of_fault};
+ghost use Rattle.lp_top.specs.Top.{Does, DoesOver, HasListeners, IsStatus};
 
-pub use exit_status::ExitStatus;
 use lp_base::{Sink, Source};
+use lp_command_line::command_line_of;
+pub use lp_command_line::{Serving, plan};
+use lp_generate::generate;
+use lp_link::Listen;
 use lp_script::run_script;
 pub use lp_script::{Gate, NeverHolds};
-use spec_server::CommandLine;
+use lp_serve::{ServeFault, serve};
+pub use lp_text_commands::ExitStatus;
+use lp_text_commands::read_text;
+use spec_program::CommandLine;
 use std::alloc::Global;
 use std::sync::Wait;
 use std::thread::Threads;
 
-/// All that the program does. The words are those of the command line, without the program's own name.
-pub fn lpd_top<R: Threads + Wait + Sync, S: Source, K: Sink, G: Gate + Sync>(
+/// All that the program does. The words are those of the command line, without the program's own name. The listeners
+/// are those of a server; other commands leave them alone.
+pub fn lpd_top<
+    R: Threads + Wait + Sync,
+    S: Source,
+    K: Sink,
+    N: Listen + Send + Drop,
+    G: Gate + Sync,
+>(
     rt: &R,
     alloc: Global,
     words: &[String],
     src: &mut S,
     out: &mut K,
+    nets: &mut Vec<N>,
     gate: &G,
 ) -> ExitStatus
+where
+    N::Link: Send,
+    requires nets { HasListeners (command_line_of (map string_bytes words.now)) (vec_len nets.old) }
+
     // For some bytes that were read and written: of a script, what was written is the output of a run in which each
     // session replies as if it were alone with what it reads of the places, which nobody else writes; there are as many
-    // workers and places as the command line says; whole or in part as the status says. Of the text of a model, what was
-    // written is what the command may write of what its lines say, as far as an input may be read. Of a generated model,
-    // it is its size and what a solve of it may end with, and nothing is read.
+    // workers and places as the command line says; whole or in part as the status says. Of the text of a model, what
+    // was written is what the command may write of what its lines say, as far as an input may be read. Of a generated
+    // model, it is its size and what a solve of it may end with, and nothing is read. A server reads nothing of the
+    // source either.
     ensures output { Does (command_line_of (map string_bytes words.now))
         (streams (S.left src.old) (S.left src.new) (K.taken out.old) (K.taken out.new)) result.code }
+
+    // Of a server, each listener's links came back in the order in which they were given, so many unless the listener
+    // failed; to each was written what its session replies, as if it were alone with what it reads of the places, to
+    // what the link asks; and how they ended was written to the sink. No other command uses a listener.
+    ensures links { DoesOver (command_line_of (map string_bytes words.now))
+        (streams (S.left src.old) (S.left src.new) (K.taken out.old) (K.taken out.new))
+        (map (listener_of N.handed N.returned N.accept_faults) nets.old.items)
+        (map (listener_of N.handed N.returned N.accept_faults) nets.new.items) result.code }
+    ensures nets { vec_len nets.new ≡ vec_len nets.old }
+
     ensures codes { IsStatus (command_line_of (map string_bytes words.now)) result.code }
 
     // The words are refused exactly if they are no command line.
@@ -61,28 +83,43 @@ pub fn lpd_top<R: Threads + Wait + Sync, S: Source, K: Sink, G: Gate + Sync>(
     // No fault is reported that did not happen.
     ensures read { result.code ≡ 3 → Rose (S.read_faults src.old) (S.read_faults src.new) }
     ensures write { result.code ≡ 4 → Rose (K.write_faults out.old) (K.write_faults out.new) }
+    ensures accept { result.code ≡ 7 → SomeFailed
+        (map (listener_of N.handed N.returned N.accept_faults) nets.old.items)
+        (map (listener_of N.handed N.returned N.accept_faults) nets.new.items) }
 {
-    match command_line::command_line_of(words) {
+    match command_line_of(words) {
         None => ExitStatus::BAD_COMMAND_LINE,
-        Some(command) => obey(rt, alloc, command, src, out, gate),
+        Some(command) => obey(rt, alloc, command, src, out, nets, gate),
     }
 }
 
 // Does what a command line asks.
-fn obey<R: Threads + Wait + Sync, S: Source, K: Sink, G: Gate + Sync>(
+fn obey<R: Threads + Wait + Sync, S: Source, K: Sink, N: Listen + Send + Drop, G: Gate + Sync>(
     rt: &R,
     alloc: Global,
     command: CommandLine,
     src: &mut S,
     out: &mut K,
+    nets: &mut Vec<N>,
     gate: &G,
 ) -> ExitStatus
-    requires { Fits command }
+where
+    N::Link: Send,
+    requires fits { Fits command }
+    requires nets { HasListeners (Some command) (vec_len nets.old) }
     ensures output { Does (Some command)
         (streams (S.left src.old) (S.left src.new) (K.taken out.old) (K.taken out.new)) result.code }
+    ensures links { DoesOver (Some command)
+        (streams (S.left src.old) (S.left src.new) (K.taken out.old) (K.taken out.new))
+        (map (listener_of N.handed N.returned N.accept_faults) nets.old.items)
+        (map (listener_of N.handed N.returned N.accept_faults) nets.new.items) result.code }
+    ensures nets { vec_len nets.new ≡ vec_len nets.old }
     ensures codes { IsStatus (Some command) result.code }
     ensures read { result.code ≡ 3 → Rose (S.read_faults src.old) (S.read_faults src.new) }
     ensures write { result.code ≡ 4 → Rose (K.write_faults out.old) (K.write_faults out.new) }
+    ensures accept { result.code ≡ 7 → SomeFailed
+        (map (listener_of N.handed N.returned N.accept_faults) nets.old.items)
+        (map (listener_of N.handed N.returned N.accept_faults) nets.new.items) }
 {
     match command {
         CommandLine::Run { workers, places } => {
@@ -92,7 +129,7 @@ fn obey<R: Threads + Wait + Sync, S: Source, K: Sink, G: Gate + Sync>(
             }
         }
         CommandLine::Read(command, style) => {
-            match text::read_text(alloc, command, style, src, out) {
+            match read_text(alloc, command, style, src, out) {
                 Ok(status) => status,
                 Err(halt) => ExitStatus::from(halt),
             }
@@ -101,9 +138,27 @@ fn obey<R: Threads + Wait + Sync, S: Source, K: Sink, G: Gate + Sync>(
             seed,
             rows,
             columns,
-        } => match generate::generate(alloc, seed, rows, columns, out) {
+        } => match generate(alloc, seed, rows, columns, out) {
             Ok(()) => ExitStatus::DONE,
             Err(halt) => ExitStatus::from(halt),
         },
+        CommandLine::Serve {
+            workers: _,
+            each,
+            places,
+        } => match serve(rt, alloc, nets, each, places, out) {
+            Ok(()) => ExitStatus::DONE,
+            Err(fault) => status_of_fault(fault),
+        },
+    }
+}
+
+fn status_of_fault(fault: ServeFault) -> ExitStatus
+    ensures { result.code ≡ code_of_fault fault }
+{
+    match fault {
+        ServeFault::Accept => ExitStatus::ACCEPT,
+        ServeFault::Write => ExitStatus::WRITE,
+        ServeFault::NoMemory => ExitStatus::NO_MEMORY,
     }
 }
