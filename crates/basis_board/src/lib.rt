@@ -21,8 +21,6 @@ mod board;
 mod laws;
 mod seats;
 mod steps;
-#[cfg(test)]
-mod tests;
 
 pub use board::{Board, Look, Put};
 pub use laws::{meaning, seen_words_stay, steps_are_events, whole_passes_own_all};

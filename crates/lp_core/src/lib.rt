@@ -12,8 +12,6 @@
 
 mod seat;
 mod stage;
-#[cfg(test)]
-mod tests;
 mod world;
 
 pub use world::World;

@@ -20,8 +20,6 @@ mod holding;
 mod session;
 mod solved;
 mod stage;
-#[cfg(test)]
-mod tests;
 mod verdict;
 mod working;
 

@@ -17,8 +17,6 @@ mod deal;
 mod gate;
 mod gather;
 mod serving;
-#[cfg(test)]
-mod tests;
 mod worker;
 
 pub use gate::{Gate, NeverHolds};

@@ -1,10 +1,10 @@
 // Two workers beside each other.
 ghost use Rattle.std.specs.Prelude.{◌≡◌, ◌≤◌, All, IfOk};
 
-use crate::{Gate, answer_all};
 use lp_base::Bytes;
 use lp_gen::make;
 use lp_line::{Ask, Asked, print_said};
+use lp_workers::{Gate, answer_all};
 use spec_server::Plain;
 use std::alloc::{AllocError, Global};
 use std::sync::Wait;

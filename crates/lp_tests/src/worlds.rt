@@ -1,5 +1,5 @@
 // Sessions of a world that publish at the same time.
-use crate::World;
+use lp_core::World;
 use lp_gen::make;
 use lp_line::{Ask, Plain, Reply};
 use spec_reads::Put;

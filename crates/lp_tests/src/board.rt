@@ -1,8 +1,9 @@
 // Passes of one board on two threads.
 ghost use Rattle.std.specs.Prelude.{◌≡◌};
+ghost use Rattle.basis_board.specs.Id.{id_of};
 ghost use Rattle.spec_shape.specs.Words.{IsWellFormed};
 
-use crate::{Board, Look, Pass, Put};
+use basis_board::{Board, Look, Pass, Put};
 use lp_shape::well_formed;
 use std::sync::atomic::{AtomicU64, Ordering};
 use std::test::Fail;
@@ -29,7 +30,7 @@ fn shape() -> [u64; 25] {
 const TURNS: u32 = 100_000_000;
 
 fn first(board: &Board, mut pass: Pass, words: &[u64; 49], flag: &AtomicU64) -> (Pass, Put)
-    requires board { pass.board ≡ board.now.table.shared.table_id }
+    requires board { pass.board ≡ id_of board.now }
     requires formed { IsWellFormed words.now }
     ensures { result.0.board ≡ pass.board }
 {
@@ -44,7 +45,7 @@ fn second(
     words: &[u64; 49],
     flag: &AtomicU64,
 ) -> (Pass, Look, Put, Put)
-    requires board { pass.board ≡ board.now.table.shared.table_id }
+    requires board { pass.board ≡ id_of board.now }
     requires formed { IsWellFormed words.now }
     ensures { result.0.board ≡ pass.board }
 {

@@ -1,0 +1,27 @@
+//! Tests of crates below, of what no program or case runs. Each stands here and not beside what it tests, since a crate
+//! with tests is proved a second time with them.
+//!
+//! | Item | What it tests | Where |
+//! |---|---|---|
+//! | `shapes` | words and shapes that `lp_shape` tells apart | src/shapes |
+//! | `factors`, `revised` | factors of one place, and each end of a run over factors | src/factors, src/revised |
+//! | `board` | passes of one board on two threads | src/board |
+//! | `worlds` | sessions of a world that publish at the same time | src/worlds |
+//! | `workers` | two workers beside each other | src/workers |
+//! | `links` | two links in memory that one worker serves, and a listener without a link | src/links |
+#![tactic(auto)]
+
+#[cfg(test)]
+mod board;
+#[cfg(test)]
+mod factors;
+#[cfg(test)]
+mod links;
+#[cfg(test)]
+mod revised;
+#[cfg(test)]
+mod shapes;
+#[cfg(test)]
+mod workers;
+#[cfg(test)]
+mod worlds;
