@@ -3,7 +3,7 @@
 
     check_commands.py
 
-The program takes those of the table `commands` in crates/spec_server/specs/CommandLine.antt. docs/lpd.1 has to describe
+The program takes those of the table `commands` in crates/spec_program/specs/CommandLine.antt. docs/lpd.1 has to describe
 each command with as many plain words, and each of its options; the usage of crates/lpd/src/usage.rt has to name each
 command and option. bash, completing by tools/lpd.bash, has to offer each command, then nothing for a plain word, and
 then the options that are not given yet. It prints what differs; the status is 1 where something does.
@@ -14,7 +14,7 @@ import sys
 from pathlib import Path
 
 TOP = Path(__file__).resolve().parent.parent
-TABLE = TOP / "crates" / "spec_server" / "specs" / "CommandLine.antt"
+TABLE = TOP / "crates" / "spec_program" / "specs" / "CommandLine.antt"
 PAGE = TOP / "docs" / "lpd.1"
 USAGE = TOP / "crates" / "lpd" / "src" / "usage.rt"
 COMPLETION = TOP / "tools" / "lpd.bash"

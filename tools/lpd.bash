@@ -9,6 +9,7 @@ declare -A _lpd_commands=(
     [check]="--form"
     [basis]="--form"
     [gen]="SEED ROWS COLS"
+    [serve]="ADDRESS --workers --each --places"
 )
 
 # The values of those options that take few.

@@ -1,59 +1,60 @@
-//! The program: standard input is the source, and standard output the sink.
+//! The program: standard input is the source, standard output the sink, and a server's links come from a TCP socket.
 #![tactic(auto)]
 
+mod listening;
 mod outside;
+#[cfg(test)]
+mod tests;
+mod told;
 mod usage;
 
-use lp_top::{ExitStatus, NeverHolds, lpd_top};
+use listening::{listen, nets_at, wanted};
+use lp_top::{ExitStatus, NeverHolds, lpd_top, plan};
 use outside::{StdSink, StdSource};
-use std::alloc::Global;
+use std::alloc::{AllocError, Global};
 use std::io::ErrorKind;
 use std::process::ExitCode;
 use std::{env, io};
-use usage::usage;
+use told::tell;
 
 fn main(rt: HostRuntime) -> ExitCode {
     let alloc = rt.alloc();
-    let status = match words_of(&rt, alloc) {
-        Ok(words) => {
+    let words = match words_of(&rt, alloc) {
+        Ok(words) => words,
+        Err(error) => return end(&rt, alloc, status_of(&error), None),
+    };
+    let serving = plan(&words);
+    let socket = match serving {
+        Some(serving) => listen(&rt, serving.address),
+        None => None,
+    };
+    let status = match nets_at(alloc, wanted(&words), socket.as_ref()) {
+        Ok(mut nets) => {
             let mut source = StdSource::new(rt.stdin());
             let mut sink = StdSink::new(rt.stdout());
-            lpd_top(&rt, alloc, &words, &mut source, &mut sink, &NeverHolds)
+            lpd_top(
+                &rt,
+                alloc,
+                &words,
+                &mut source,
+                &mut sink,
+                &mut nets,
+                &NeverHolds,
+            )
         }
-        Err(error) if error.kind() == ErrorKind::OutOfMemory => ExitStatus::NO_MEMORY,
-        Err(_) => ExitStatus::BAD_COMMAND_LINE,
+        Err(AllocError) => ExitStatus::NO_MEMORY,
     };
-    let _ = tell(&rt, alloc, status);
-    ExitCode::from(status.code)
-}
-
-// Writes on standard error what happened, if not all was done, and the usage after a bad command line. Where memory runs
-// out or a write fails, no more is written.
-fn tell(rt: &HostRuntime, alloc: Global, status: ExitStatus) -> io::Result<()> {
-    let Some(what) = what_happened(status) else {
-        return Ok(());
-    };
-    eprintln!(rt; "lpd: {what}")?;
-    if status == ExitStatus::BAD_COMMAND_LINE {
-        let text = usage(alloc)?;
-        eprint!(rt; "{text}")?;
-    }
-    Ok(())
-}
-
-fn what_happened(status: ExitStatus) -> Option<&'static str> {
-    match status {
-        ExitStatus::BAD_COMMAND_LINE => Some("bad command line"),
-        ExitStatus::READ => Some("standard input could not be read (status 3)"),
-        ExitStatus::WRITE => Some("standard output could not be written (status 4)"),
-        ExitStatus::NO_MEMORY => Some("out of memory (status 5)"),
-        ExitStatus::CUT => Some("standard input ended inside a body (status 6)"),
-        ExitStatus::OVER => Some("standard input is longer than 67,108,864 bytes (status 8)"),
-        ExitStatus::REFUSED => {
-            Some("the text was refused; the reason is on standard output (status 9)")
-        }
+    let unbound = match serving {
+        Some(serving) if socket.is_none() => Some(serving.address),
         _ => None,
-    }
+    };
+    end(&rt, alloc, status, unbound)
+}
+
+// Says what happened, and gives the status.
+fn end(rt: &HostRuntime, alloc: Global, status: ExitStatus, unbound: Option<&String>) -> ExitCode {
+    let _ = tell(rt, alloc, status, unbound);
+    ExitCode::from(status.code)
 }
 
 // The words of the command line, without the program's own name. Words that are no text fail all together.
@@ -63,4 +64,12 @@ fn words_of(rt: &HostRuntime, alloc: Global) -> io::Result<Vec<String>> {
         words.push(word)?;
     }
     Ok(words)
+}
+
+// The status where the words could not be read.
+fn status_of(error: &io::Error) -> ExitStatus {
+    match error.kind() {
+        ErrorKind::OutOfMemory => ExitStatus::NO_MEMORY,
+        _ => ExitStatus::BAD_COMMAND_LINE,
+    }
 }

@@ -1,5 +1,5 @@
-// The real source and sink. They count their faults, and tell of the bytes what std tells. What a signal interrupts is no fault:
-// it is tried again, up to 2 ^ 32 - 1 times.
+// The real source and sink. They count their faults, and tell of the bytes what std tells. What a signal interrupts is
+// no fault: it is tried again, up to 2 ^ 32 - 1 times.
 ghost use Rattle.lp_base.specs.Beside.{no_sink, no_source};
 
 use lp_base::{Failed, Sink, Source};

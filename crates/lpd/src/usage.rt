@@ -3,7 +3,7 @@ use clap::{Arg, Command};
 use std::alloc::{AllocError, Global};
 
 // The commands, and what each does.
-const COMMANDS: [(&str, &str); 5] = [
+const COMMANDS: [(&str, &str); 6] = [
     ("run", "Run a script of up to 64 sessions"),
     ("solve", "Solve the model of one text"),
     (
@@ -18,16 +18,31 @@ const COMMANDS: [(&str, &str); 5] = [
         "gen",
         "SEED ROWS COLS: make a model from these numbers, and solve it",
     ),
+    (
+        "serve",
+        "ADDRESS: listen at this TCP address, and serve a session on each link",
+    ),
 ];
 
 // The options, below the commands that have them: their names, their values and what they say.
-const OPTIONS: [(&str, &str, &str, &str); 3] = [
-    ("Options of run", "workers", "K", "Workers, 1 to 16; else 1"),
+const OPTIONS: [(&str, &str, &str, &str); 4] = [
     (
-        "Options of run",
+        "Options of run and serve",
+        "workers",
+        "K",
+        "Workers, 1 to 16; else 1",
+    ),
+    (
+        "Options of run and serve",
         "places",
         "P",
         "Places for bases, 1 to 1,024; else 256",
+    ),
+    (
+        "Options of serve",
+        "each",
+        "C",
+        "Links that each worker serves, 1 to 1,000; else 1",
     ),
     (
         "Options of solve, check and basis",
@@ -44,6 +59,7 @@ const STATUSES: &str = "Statuses:
   4  standard output could not be written
   5  out of memory
   6  standard input ended inside a body
+  7  a server cannot listen, or a link could not be accepted
   8  standard input is longer than 67,108,864 bytes
   9  the text was refused
 

@@ -5,4 +5,5 @@ use Rattle.lpd.proofs.outside.StdSinkSink.write.Given as goal
 
 abbrev pub invariant-loop : goal.invariant-loop
 invariant-loop g l =
-    Keeps (g.W.Write.contents l.initial.self.inner) (g.W.Write.contents l.self.inner) × (l.self.faults ≡ l.initial.self.faults)
+    Keeps (g.W.Write.contents l.initial.self.inner) (g.W.Write.contents l.self.inner) ×
+    (l.self.faults ≡ l.initial.self.faults)

@@ -5,4 +5,5 @@ use Rattle.lpd.proofs.outside.StdSourceSource.read.Given as goal
 
 abbrev pub invariant-loop : goal.invariant-loop
 invariant-loop g l =
-    Keeps (g.R.Read.remaining l.initial.self.inner) (g.R.Read.remaining l.self.inner) × (l.self.faults ≡ l.initial.self.faults)
+    Keeps (g.R.Read.remaining l.initial.self.inner) (g.R.Read.remaining l.self.inner) ×
+    (l.self.faults ≡ l.initial.self.faults)

@@ -1,0 +1,46 @@
+// Where a server listens.
+ghost use Rattle.std.specs.Prelude.{◌≡◌, map, string_bytes, vec_len, IfOk};
+ghost use Rattle.spec_program.specs.CommandLine.{command_line_of};
+ghost use Rattle.lp_top.specs.Top.{HasListeners};
+
+use lp_net::TcpNet;
+use lp_top::plan;
+use std::alloc::{AllocError, Global};
+use std::net::TcpListener;
+
+/// The socket of a server, at this address. Where it is bound, that is said on standard error, with the address as it
+/// was bound; a fault of that write changes nothing.
+pub fn listen(rt: &HostRuntime, address: &String) -> Option<TcpListener> {
+    let Ok(socket) = TcpListener::bind(rt, address) else {
+        return None;
+    };
+    if let Ok(bound) = socket.local_addr() {
+        let _ = eprintln!(rt; "lpd: listening on {bound}");
+    }
+    Some(socket)
+}
+
+/// How many listeners a command line wants: one for each worker of a server, and else none.
+pub fn wanted(words: &[String]) -> u32
+    ensures { HasListeners (command_line_of (map string_bytes words.now)) result }
+{
+    match plan(words) {
+        Some(serving) => serving.workers,
+        None => 0,
+    }
+}
+
+/// So many listeners, all of one socket.
+pub fn nets_at<'a>(
+    alloc: Global,
+    count: u32,
+    socket: Option<&'a TcpListener>,
+) -> Result<Vec<TcpNet<'a>>, AllocError>
+    ensures { IfOk result (λ nets. vec_len nets ≡ count) }
+{
+    let mut nets = Vec::new(alloc);
+    for index in 0..count {
+        nets.push(TcpNet::new(socket))?;
+    }
+    Ok(nets)
+}

@@ -1,0 +1,114 @@
+// Two links over loopback, each served by a worker of its own. Each client waits for what the other one reads.
+use lp_base::MemSink;
+use lp_net::TcpNet;
+use lp_serve::serve;
+use std::io::{Read, Write};
+use std::net::{Net, TcpListener, TcpStream};
+use std::sync::atomic::{AtomicU64, Ordering};
+use std::test::Fail;
+use std::time::{Clock, Duration};
+use std::{io, thread};
+
+const LOAD: &str =
+    "LOAD FREE\nNAME a\nROWS\n N cost\n G R1\nCOLUMNS\n x cost 1 R1 1\nRHS\n R1 1\nENDATA\n";
+
+// The most turns that a client waits for the other, of a millisecond or more.
+const TURNS: u32 = 10_000;
+
+// The most seconds that a client waits for a reply.
+const PATIENCE: u64 = 30;
+
+// What a client has read.
+#[derive(Drop)]
+struct Heard {
+    loaded: AtomicU64,
+    solved: AtomicU64,
+}
+
+impl Heard {
+    fn new() -> Self {
+        Heard {
+            loaded: AtomicU64::new(0),
+            solved: AtomicU64::new(0),
+        }
+    }
+}
+
+// Whether that came within so many turns.
+fn comes<R: Clock>(rt: &R, awaited: &AtomicU64) -> bool {
+    for _ in 0..TURNS {
+        if awaited.load(Ordering::SeqCst) == 1 {
+            return true;
+        }
+        thread::sleep(rt, Duration::from_millis(1));
+    }
+    false
+}
+
+// Whether the next bytes of the stream are these.
+fn hears(mut stream: &TcpStream, reply: &str) -> bool {
+    let mut byte = [0];
+    for expected in reply.as_bytes() {
+        if stream.read_exact(&mut byte).is_err() || byte[0] != *expected {
+            return false;
+        }
+    }
+    true
+}
+
+// Whether the text is answered by this reply.
+fn is_answered(mut stream: &TcpStream, text: &str, reply: &str) -> bool {
+    stream.write_all(text.as_bytes()).is_ok() && hears(stream, reply)
+}
+
+// A client, which solves its model only once what it waits for has come. Whether it read every reply; it closes its
+// link at the first that it did not.
+fn talk<R: Clock>(rt: &R, stream: TcpStream, heard: &Heard, awaited: &AtomicU64) -> bool {
+    if !is_answered(&stream, LOAD, "LOADED 1 1\n") {
+        return false;
+    }
+    heard.loaded.store(1, Ordering::SeqCst);
+    if !comes(rt, awaited) || !is_answered(&stream, "SOLVE\n", "OPTIMAL 1\n") {
+        return false;
+    }
+    heard.solved.store(1, Ordering::SeqCst);
+    is_answered(&stream, "QUIT\n", "BYE\n")
+}
+
+// A client's stream, to a socket that has not accepted it yet.
+fn connected<R>(rt: &R, socket: &TcpListener) -> io::Result<TcpStream>
+where
+    R: Net<Listener = TcpListener, Stream = TcpStream>,
+{
+    let stream = TcpStream::connect(rt, socket.local_addr()?)?;
+    stream.set_read_timeout(Some(Duration::from_secs(PATIENCE)))?;
+    Ok(stream)
+}
+
+#[test]
+fn two_links_are_served_beside_each_other(rt: HostRuntime) -> Result<(), Fail> {
+    let alloc = rt.alloc();
+    let first = TcpListener::bind(&rt, "127.0.0.1:0")?;
+    let second = TcpListener::bind(&rt, "127.0.0.1:0")?;
+    let one = connected(&rt, &first)?;
+    let two = connected(&rt, &second)?;
+    let (heard_one, heard_two) = (Heard::new(), Heard::new());
+    let mut nets = vec![in alloc; TcpNet::new(Some(&first)), TcpNet::new(Some(&second))]?;
+    let mut out = MemSink::new(alloc, Vec::new(alloc));
+    let (served, (one_did, two_did)) = thread::join(
+        &rt,
+        || serve(&rt, alloc, &mut nets, 1, 4, &mut out),
+        || {
+            thread::join(
+                &rt,
+                || talk(&rt, one, &heard_one, &heard_two.loaded),
+                || talk(&rt, two, &heard_two, &heard_one.solved),
+            )
+        },
+    );
+    assert!(rt; one_did);
+    assert!(rt; two_did);
+    served?;
+    assert_eq!(rt; out.written(), b"1 1 DONE\n2 1 DONE\n".as_slice());
+    Ok(())
+}
