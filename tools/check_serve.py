@@ -1,0 +1,360 @@
+#!/usr/bin/env python3
+"""Has lpd serve links on 127.0.0.1, and checks what good and bad peers see of it.
+
+    check_serve.py PROGRAM [WORD ..]
+
+It starts 'PROGRAM WORD .. serve' some times, each time for as many links as it makes itself, and checks that
+
+- two workers serve links at once, which wait for each other's replies; each reply comes before the next command is sent;
+  and what one link has published another one finds;
+- a bad peer (one that closes within a line, a body or a reply, sends too much or no text, never reads, or resets) ends
+  its own link alone: another link is served meanwhile, a later one finds the same basis, and the server goes on;
+- at its end the server writes how each link ended, and another one can listen at the same address at once;
+- where it cannot listen or accept, where its words are no command line, and where its output cannot be written, its status
+  says so.
+
+It prints what is wrong, and its status is 1 where something is. It takes some seconds, and a minute at most.
+"""
+from __future__ import annotations
+
+import resource
+import re
+import select
+import signal
+import socket
+import struct
+import subprocess
+import sys
+import tempfile
+from types import TracebackType
+from typing import Callable, Iterator, List, NoReturn, Optional, Set, Tuple, Type
+
+from check_talk import MODEL, SESSION
+from talk import Ended, Link
+
+HOST = "127.0.0.1"
+# How many seconds a reply, a line of the server and its end may take, and all of the checks.
+SECONDS, ALL_SECONDS = 20.0, 60
+# How long a server that takes nothing more is watched.
+STILL = 0.3
+# The most bytes of one link that are read.
+MOST = 2**26
+LISTENING = re.compile(rf"lpd: listening on {re.escape(HOST)}:(\d+)\n")
+LOAD = b"LOAD FREE\n" + MODEL.encode()
+LOADED, SOLVED = b"LOADED 1 1\n", b"OPTIMAL 6\n"
+TEXT = b"TEXT 10\nNAME talk\nROWS\n N cost\n G R1\nCOLUMNS\n x cost 2\n x R1 1\nRHS\n RHS R1 3\nENDATA\n"
+COLD, WARM = b"HOW COLD PIVOTS 1 PUBLISHED 0\n", b"HOW BASIS 0 PIVOTS 0 SAME\n"
+# A model of some kilobytes, so that the replies to WRITE fill what a link holds.
+COLUMNS = b"".join(b" column%d cost %d\n" % (i, i) for i in range(1, 501))
+WIDE, WIDE_LOADED = b"LOAD FREE\nROWS\n N cost\nCOLUMNS\n" + COLUMNS + b"ENDATA\n", b"LOADED 0 500\n"
+Peer = Callable[[Link], Iterator[None]]
+
+
+class Wrong(Exception):
+    """What is wrong."""
+
+
+class Server:
+    """A program that serves. As a context manager it ends the program."""
+
+    def __init__(self, command: List[str], workers: int, each: int, port: int = 0, output: Optional[str] = None) -> None:
+        self.output = open(output, "wb") if output else tempfile.TemporaryFile()
+        words = [*command, "serve", f"{HOST}:{port}", "--workers", str(workers), "--each", str(each)]
+        self.program = subprocess.Popen(words, bufsize=0, stdout=self.output, stderr=subprocess.PIPE)
+        try:
+            self.port = self.port_said()
+        except Wrong:
+            self.__exit__(None, None, None)
+            raise
+
+    def port_said(self) -> int:
+        assert self.program.stderr is not None
+        ready, _, _ = select.select([self.program.stderr], [], [], SECONDS)
+        line = self.program.stderr.readline().decode("latin-1") if ready else ""
+        found = LISTENING.fullmatch(line)
+        if not found:
+            raise Wrong(f"the server says {line!r}, and not where it listens")
+        return int(found[1])
+
+    def __enter__(self) -> Server:
+        return self
+
+    def __exit__(self, kind: Optional[Type[BaseException]], error: Optional[BaseException], trace: Optional[TracebackType]) -> None:
+        self.output.close()
+        if self.program.poll() is None:
+            self.program.kill()
+            self.program.wait()
+
+    def link(self) -> Link:
+        return Link(HOST, self.port, SECONDS)
+
+    def end(self) -> Tuple[int, str, str]:
+        """Its status, and what it wrote, when it has ended."""
+        try:
+            _, told = self.program.communicate(timeout=SECONDS)
+        except subprocess.TimeoutExpired:
+            raise Wrong("the server does not end after its links") from None
+        written = b""
+        if self.output.readable():
+            self.output.seek(0)
+            written = self.output.read()
+        return self.program.returncode, written.decode("latin-1"), told.decode("latin-1")
+
+
+def expect(what: str, got: object, *wanted: object) -> None:
+    if got not in wanted:
+        raise Wrong(f"{what}: expected {' or '.join(map(shown, wanted))}, got {shown(got)}")
+
+
+def shown(what: object) -> str:
+    text = repr(what)
+    return text if len(text) <= 200 else text[:200] + " .."
+
+
+def ask(link: Link, *pairs: Tuple[bytes, bytes]) -> None:
+    """Sends each command when the reply to the one before has come."""
+    for command, reply in pairs:
+        expect(command.split(b"\n", 1)[0].decode("latin-1")[:40], link.ask(command), reply)
+
+
+def ends(link: Link) -> None:
+    """No more comes."""
+    expect("the end of a link", link.line(), b"")
+
+
+# ---- good peers
+
+
+def check_workers(command: List[str]) -> None:
+    """The second link is loaded before the first is solved, and solved after that."""
+    with Server(command, 2, 1) as server:
+        with server.link() as one, server.link() as other:
+            ask(one, (LOAD, LOADED))
+            ask(other, (LOAD, LOADED))
+            ask(one, (b"SOLVE\n", SOLVED), (b"HOW\n", COLD))
+            ask(other, (b"SOLVE\n", SOLVED), (b"HOW\n", WARM), (b"QUIT\n", b"BYE\n"))
+            ends(other)
+            ask(one, (b"SOLVE\n", SOLVED), (b"HOW\n", WARM), (b"WRITE FREE\n", TEXT), (b"QUIT\n", b"BYE\n"))
+            ends(one)
+        expect("the server's end", server.end(), (0, "1 1 DONE\n2 1 DONE\n", ""))
+
+
+def check_session(command: List[str]) -> None:
+    """The session that a program is also asked over FIFOs. Then another server listens where this one did."""
+    port = 0
+    for _ in range(2):
+        with Server(command, 1, 1, port) as server:
+            port = server.port
+            with server.link() as link:
+                ask(link, *((text[2:].encode(), reply[2:].encode()) for text, reply in SESSION))
+                ends(link)
+            expect("the server's end", server.end(), (0, "1 1 DONE\n", ""))
+
+
+# ---- bad peers: each yields where another link has to be served
+
+
+def says_nothing(link: Link) -> Iterator[None]:
+    yield
+
+
+def ends_in_a_line(link: Link) -> Iterator[None]:
+    ask(link, (LOAD, LOADED))
+    link.send(b"SOLVE")
+    yield
+    link.close_asks()
+    expect("the reply to a line without an end", link.reply(), SOLVED)
+    ends(link)
+
+
+def closes_in_a_line(link: Link) -> Iterator[None]:
+    ask(link, (LOAD, LOADED))
+    link.send(b"SOLVE")
+    yield
+
+
+def closes_in_a_text(link: Link) -> Iterator[None]:
+    link.send(LOAD[: len(LOAD) // 2])
+    yield
+
+
+def closes_in_a_certificate(link: Link) -> Iterator[None]:
+    ask(link, (LOAD, LOADED))
+    link.send(b"CHECK\nOPTIMAL\nx x 3\n")
+    yield
+
+
+def sends_too_much(link: Link) -> Iterator[None]:
+    link.send(b"x" * MOST)
+    yield
+    link.send(b"x")
+    ends(link)
+
+
+def sends_too_much_at_last(link: Link) -> Iterator[None]:
+    ask(link, (LOAD, LOADED), (b"SOLVE\n", SOLVED))
+    link.send(b"x" * (MOST - len(LOAD) - len(b"SOLVE\n")))
+    yield
+    link.send(b"x")
+    ends(link)
+
+
+def sends_no_text(link: Link) -> Iterator[None]:
+    wrong = b"ERR 1 WORD\n"
+    ask(link, (bytes(range(11, 256)) + b"\n", wrong), (b"\0\n", wrong), (b"\xff" * 20000 + b"\n", b"ERR 11 LONG\n"))
+    yield
+    ask(link, (b"GET / HTTP/1.1\n", wrong), (b"1 SOLVE\n", wrong), (b"SOLVE\xa0\n", wrong), (b"SOLVE\n", b"ERR 4 NOMODEL\n"))
+    link.close_asks()
+    ends(link)
+
+
+def never_reads(link: Link) -> Iterator[None]:
+    """It asks until the server, which waits to write a reply, takes nothing more."""
+    ask(link, (WIDE, WIDE_LOADED))
+    link.socket.setsockopt(socket.SOL_SOCKET, socket.SO_RCVBUF, 1)
+    link.socket.setblocking(False)
+    while select.select([], [link.socket], [], STILL)[1]:
+        link.socket.send(b"WRITE FREE\n" * 4096)
+    yield
+    reset(link)
+
+
+def closes_in_a_reply(link: Link) -> Iterator[None]:
+    """The replies are more than a link holds, and one of them has begun to come."""
+    ask(link, (WIDE, WIDE_LOADED))
+    link.socket.setsockopt(socket.SOL_SOCKET, socket.SO_RCVBUF, 1)
+    link.send(b"WRITE FREE\n" * 4096)
+    expect("the first bytes of a reply", link.socket.recv(4), b"TEXT")
+    yield
+
+
+def resets(link: Link) -> Iterator[None]:
+    yield
+    reset(link)
+
+
+def reset(link: Link) -> None:
+    link.socket.setsockopt(socket.SOL_SOCKET, socket.SO_LINGER, struct.pack("ii", 1, 0))
+    link.socket.close()
+
+
+# Bad peers, and the words that may tell how their links ended.
+PEERS: List[Tuple[Peer, Set[str]]] = [
+    (says_nothing, {"DONE"}),
+    (ends_in_a_line, {"DONE"}),
+    (closes_in_a_line, {"DONE"}),
+    (closes_in_a_text, {"CUT"}),
+    (closes_in_a_certificate, {"CUT"}),
+    (sends_too_much, {"OVER"}),
+    (sends_too_much_at_last, {"OVER"}),
+    (sends_no_text, {"DONE"}),
+    (never_reads, {"READ", "WRITE"}),
+    (closes_in_a_reply, {"READ", "WRITE"}),
+    (resets, {"READ"}),
+]
+
+
+def check_peers(command: List[str]) -> None:
+    """One worker serves a good link from the first peer to the last, so the other one serves each peer and a link after it."""
+    each = 2 * len(PEERS)
+    with Server(command, 2, each) as server:
+        with server.link() as good:
+            ask(good, (LOAD, LOADED), (b"SOLVE\n", SOLVED), (b"HOW\n", COLD))
+            for peer, _ in PEERS:
+                try:
+                    meet(server, peer, good)
+                except (Wrong, Ended, OSError) as error:
+                    raise Wrong(f"a peer that {peer.__name__.replace('_', ' ')}: {error}") from None
+            ask(good, (b"QUIT\n", b"BYE\n"))
+        for _ in range(each - 1):
+            with server.link() as link:
+                ask(link, (b"QUIT\n", b"BYE\n"))
+        status, lines, told = server.end()
+        expect("the status, and what is told", (status, told), (0, ""))
+        check_lines(lines, each)
+
+
+def meet(server: Server, peer: Peer, good: Link) -> None:
+    """The good link is served beside the peer, and one after it."""
+    with server.link() as link:
+        for _ in peer(link):
+            ask(good, (b"SETRHS R1 4\n", b"OK\n"), (b"SOLVE\n", b"OPTIMAL 8\n"), (b"SETRHS R1 3\n", b"OK\n"))
+    with server.link() as later:
+        ask(later, (LOAD, LOADED), (b"SOLVE\n", SOLVED), (b"HOW\n", WARM), (b"QUIT\n", b"BYE\n"))
+    ask(good, (b"SOLVE\n", SOLVED), (b"HOW\n", WARM))
+
+
+def check_lines(lines: str, each: int) -> None:
+    """The lines at the end: of one worker, which served good links alone, and of the one that also served the peers."""
+    words = [line.split(" ") for line in lines.splitlines()]
+    expect("the links of the lines", [word[:-1] for word in words], [[w, str(n)] for w in "12" for n in range(1, each + 1)])
+    parts = [[word[-1] for word in words[:each]], [word[-1] for word in words[each:]]]
+    good = parts[0] if set(parts[0]) == {"DONE"} else parts[1]
+    other = parts[1] if good is parts[0] else parts[0]
+    expect("the words of a worker with good links", set(good), {"DONE"})
+    for (peer, allowed), word, after in zip(PEERS, other[::2], other[1::2]):
+        expect(f"the word of a peer that {peer.__name__.replace('_', ' ')}", word, *sorted(allowed))
+        expect("the word of a link after that", after, "DONE")
+
+
+# ---- servers that end otherwise
+
+
+def check_accept(command: List[str]) -> None:
+    """A worker that can open no more files cannot accept a second link."""
+    with Server(command, 1, 2) as server:
+        with server.link() as link:
+            ask(link, (LOAD, LOADED))
+            resource.prlimit(server.program.pid, resource.RLIMIT_NOFILE, (0, 0))
+            ask(link, (b"QUIT\n", b"BYE\n"))
+        status, lines, told = server.end()
+    expect("the end of a server that cannot accept", (status, lines, told.count("(status 7)\n")), (7, "1 1 DONE\n", 1))
+
+
+def check_output(command: List[str]) -> None:
+    with Server(command, 1, 1, output="/dev/full") as server:
+        with server.link() as link:
+            ask(link, (b"QUIT\n", b"BYE\n"))
+        status, _, told = server.end()
+    expect("the end of a server that cannot write", (status, told.count("(status 4)\n")), (4, 1))
+
+
+def check_words(command: List[str]) -> None:
+    """An address that another program has, what is none, and words that are no command line."""
+    with socket.create_server((HOST, 0)) as taken:
+        for address in (f"{HOST}:{taken.getsockname()[1]}", "nowhere", f"{HOST}:65536"):
+            done = run(command, address)
+            told = f"lpd: cannot listen on {address} (status 7)\n"
+            expect(f"serve {address}", (done.returncode, done.stdout, done.stderr), (7, "", told))
+    free = f"{HOST}:0"
+    refused = [(), ("",), ("--workers", "2"), (free, "1"), (free, "--workers", "0"), (free, "--workers", "17")]
+    refused += [(free, "--each", "0"), (free, "--each", "1001"), (free, "--places", "1025"), (free, "--form", "free")]
+    for words in refused:
+        expect(" ".join(["serve", *words]), run(command, *words).returncode, 2)
+
+
+def run(command: List[str], *words: str) -> subprocess.CompletedProcess[str]:
+    return subprocess.run([*command, "serve", *words], capture_output=True, text=True, timeout=SECONDS)
+
+
+def out_of_time(*_: object) -> NoReturn:
+    raise Wrong(f"the checks are not done within {ALL_SECONDS} seconds")
+
+
+def main(command: List[str]) -> int:
+    if not command:
+        sys.exit(__doc__)
+    signal.signal(signal.SIGALRM, out_of_time)
+    signal.alarm(ALL_SECONDS)
+    faults = 0
+    for check in (check_workers, check_session, check_peers, check_accept, check_output, check_words):
+        try:
+            check(command)
+        except (Wrong, Ended, OSError, subprocess.TimeoutExpired) as error:
+            faults += 1
+            print(f"{check.__name__}: {error}")
+    return 1 if faults else 0
+
+
+if __name__ == "__main__":
+    sys.exit(main(sys.argv[1:]))

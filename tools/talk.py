@@ -1,0 +1,184 @@
+#!/usr/bin/env python3
+"""Talks with `lpd serve`: sends the commands of one session over a link, and prints the replies.
+
+    talk.py HOST:PORT [--timeout SECONDS] [--ca FILE] < SCRIPT
+
+The script has the commands of docs/PROTOCOL.md without a session's number. Each is sent, a LOAD or a CHECK with its body,
+and its whole reply is printed before the next one is sent. With --ca the link is encrypted, and the certificate of the
+other side has to be one that FILE vouches for. Connecting, and each reply, may take SECONDS (60).
+
+The status is 0 after BYE, and where the script ended and each command has its reply. It is 1 where there is no link, where
+the link ended early, and where a reply did not come in time; a line on standard error says which.
+"""
+from __future__ import annotations
+
+import argparse
+import re
+import socket
+import ssl
+import sys
+import time
+from types import TracebackType
+from typing import Iterable, Iterator, Optional, Type
+
+SECONDS = 60.0
+# A longer line is answered, whatever it says, and has no body.
+LONGEST = 16384
+PIECE = 2**16
+LOADS = ([b"LOAD", b"FREE"], [b"LOAD", b"FIXED"])
+FOLLOWED = re.compile(rb"(?:TEXT|CERT) (\d{1,9})\n")
+
+
+class Ended(Exception):
+    """There is no link any more, or no reply in time."""
+
+
+class Link:
+    """One session. As a context manager it closes the link."""
+
+    def __init__(self, host: str, port: int, seconds: float = SECONDS, ca: Optional[str] = None) -> None:
+        self.seconds, self.end, self.rest = seconds, time.monotonic() + seconds, b""
+        try:
+            self.socket = socket.create_connection((host, port), seconds)
+            self.socket.setsockopt(socket.IPPROTO_TCP, socket.TCP_NODELAY, 1)
+            if ca:
+                self.socket = ssl.create_default_context(cafile=ca).wrap_socket(self.socket, server_hostname=host)
+        except OSError as error:
+            raise Ended(f"there is no link to {host}:{port}: {error}") from None
+
+    def __enter__(self) -> Link:
+        return self
+
+    def __exit__(self, kind: Optional[Type[BaseException]], error: Optional[BaseException], trace: Optional[TracebackType]) -> None:
+        self.socket.close()
+
+    def send(self, command: bytes) -> None:
+        """Sends the lines of one command, whose reply may take some seconds from now on."""
+        self.end = time.monotonic() + self.seconds
+        try:
+            self.socket.settimeout(self.seconds)
+            self.socket.sendall(command)
+        except OSError as error:
+            raise Ended(f"the link ended before a command was sent: {error}") from None
+
+    def close_asks(self) -> None:
+        """Says that no more commands come."""
+        try:
+            self.socket.shutdown(socket.SHUT_WR)
+        except OSError:
+            pass  # the link has ended already, as the next read will find
+
+    def line(self) -> bytes:
+        """The next line that comes, or what came of it before the link ended."""
+        while b"\n" not in self.rest:
+            try:
+                self.socket.settimeout(max(0.001, self.end - time.monotonic()))
+                piece = self.socket.recv(PIECE)
+            except socket.timeout:
+                raise Ended(f"no whole reply came within {self.seconds:g} seconds") from None
+            except OSError as error:
+                raise Ended(f"the link ended before the reply came: {error}") from None
+            if not piece:
+                line, self.rest = self.rest, b""
+                return line
+            self.rest += piece
+        line, _, self.rest = self.rest.partition(b"\n")
+        return line + b"\n"
+
+    def reply(self) -> bytes:
+        """The next reply: its line, and those that follow it."""
+        lines = [self.whole_line()]
+        followed = FOLLOWED.fullmatch(lines[0])
+        lines += (self.whole_line() for _ in range(int(followed[1]) if followed else 0))
+        return b"".join(lines)
+
+    def whole_line(self) -> bytes:
+        line = self.line()
+        if not line.endswith(b"\n"):
+            raise Ended("the link ended before the reply came")
+        return line
+
+    def ask(self, command: bytes) -> bytes:
+        """The reply to a command."""
+        self.send(command)
+        return self.reply()
+
+
+def words_of(line: bytes) -> list[bytes]:
+    return re.split(rb"[ \t]+", re.sub(rb"\r?\n?\Z", b"", line).strip(b" \t"))
+
+
+def ends_body(words: list[bytes], line: bytes) -> bool:
+    """Whether the line is the last one of the body of a command with these words."""
+    if words == [b"CHECK"]:
+        return words_of(line) == [b"END"]
+    return line[:1] not in b" \t" and words_of(line)[0] == b"ENDATA"
+
+
+def is_long(line: bytes) -> bool:
+    return len(line.rstrip(b"\r\n")) > LONGEST
+
+
+def body(words: list[bytes], lines: Iterator[bytes]) -> Iterator[bytes]:
+    """The lines of the body that belongs to a command with these words. An empty line stands for an end that is missing."""
+    if words not in LOADS and words != [b"CHECK"]:
+        return
+    for line in lines:
+        yield line
+        if not is_long(line) and ends_body(words, line):
+            return
+    yield b""
+
+
+def commands(lines: Iterable[bytes]) -> Iterator[tuple[bytes, bool]]:
+    """Each command of a script that has a reply, with its body, and whether it is whole. Lines that are skipped stay out."""
+    lines = iter(lines)
+    for line in lines:
+        words = words_of(line)
+        if is_long(line):
+            yield line, line.endswith(b"\n")
+        elif words != [b""] and not line.startswith(b"#"):
+            parts = [line, *body(words, lines)]
+            yield b"".join(parts), parts[-1].endswith(b"\n")
+
+
+def talk(link: Link, script: Iterable[bytes]) -> None:
+    for command, is_whole in commands(script):
+        link.send(command)
+        if not is_whole:
+            link.close_asks()
+        reply = link.reply()
+        sys.stdout.buffer.write(reply)
+        sys.stdout.buffer.flush()
+        if reply == b"BYE\n":
+            return
+    link.close_asks()
+    if link.line():
+        raise Ended("more came than the replies to the commands")
+
+
+def address_of(word: str) -> tuple[str, int]:
+    host, _, port = word.rpartition(":")
+    if not host or not port.isdecimal():
+        raise argparse.ArgumentTypeError(f"{word} is no HOST:PORT")
+    return host.strip("[]"), int(port)
+
+
+def main() -> int:
+    options = argparse.ArgumentParser(description=__doc__, formatter_class=argparse.RawDescriptionHelpFormatter)
+    options.add_argument("address", metavar="HOST:PORT", type=address_of)
+    options.add_argument("--timeout", metavar="SECONDS", type=float, default=SECONDS)
+    options.add_argument("--ca", metavar="FILE")
+    given = options.parse_args()
+    host, port = given.address
+    try:
+        with Link(host, port, given.timeout, given.ca) as link:
+            talk(link, sys.stdin.buffer)
+    except Ended as why:
+        print(f"talk.py: {why}", file=sys.stderr)
+        return 1
+    return 0
+
+
+if __name__ == "__main__":
+    sys.exit(main())
