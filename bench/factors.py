@@ -1,17 +1,18 @@
 #!/usr/bin/env python3
 """Measures the time of a pivot on made models that are dense, sparse, or a staircase, for one program or more.
 
-    factors.py [--program [NAME=]PROGRAM ..] [--only NAME,..] [--runs N] [--seconds N] [--write PAGE]
+    factors.py [--program [NAME=]PROGRAM ..] [--models FOLDER] [--only NAME,..] [--runs N] [--seconds N] [--write PAGE]
 
 Dense models have 10 to 60 rows and as many columns, of which each row has a third; sparse ones 50 to 256 rows and up to
 340 columns with 3 entries each; staircases are plans of 10 to 80 periods of three rows each, which stock links. Their
-entries are small, so that most ways to the optimum stay within 127 bits. Each program solves each model in a session
-with the largest budget, and so does esolver (Debian's qsopt-ex) where it is on the path; all that answer have to answer
-the same.
+entries are small, so that most ways to the optimum stay within 127 bits. With --models those of FOLDER take the place
+of the made ones. Each program solves each model in a session with the largest budget, and so does esolver (Debian's
+qsopt-ex) where it is on the path; all that answer have to answer the same.
 
-Times are of the processor, for the whole process, the least of N runs (3); the time of a pivot is that of the solve and
-its check, less that of a session which loads the text alone, over the pivots and flips, where it is at least 2 ms. With
---write the table and its summary take the place of what stands between the two marks of PAGE.
+Times are of the processor, for the whole process, the least of N runs (3), in which the programs take turns; the time
+of a pivot is that of the solve and its check, less that of a session which loads the text alone, over the pivots and
+flips, where it is at least 2 ms. With --write the table and its summary take the place of what stands between the two
+marks of PAGE.
 """
 import argparse
 import pathlib
@@ -22,10 +23,11 @@ from dataclasses import dataclass
 from fractions import Fraction
 
 from page import write
-from solvers import LARGEST, PROGRAM, Esolver, Model, least, session
+from solvers import LARGEST, PROGRAM, Esolver, Model, least, models_of, session
 from workers import plan
 
 BEGIN, END = "<!-- measured by bench/factors.py -->", "<!-- end of the factors -->"
+ANSWERS = ("OPTIMAL", "INFEASIBLE", "UNBOUNDED")
 SHORTEST = 0.002
 DENSE = [10, 15, 20, 30, 40, 50, 60]
 SPARSE = [(50, 60), (50, 100), (80, 100), (80, 160), (120, 150), (180, 200), (256, 280), (256, 340)]
@@ -80,21 +82,28 @@ class Measured:
     solving: float
 
     def cells(self):
-        yield self.answer.split()[0]
-        yield "" if self.pivots is None else str(self.pivots)
         yield f"{self.spent * 1e3:.1f}"
         yield f"{self.solving / self.pivots * 1e6:.1f}" if self.pivots and self.solving >= SHORTEST else ""
 
 
-def by_lpd(options, program, model):
-    def solve(*commands):
-        return least(options.runs, lambda: session(program, "free", model.data, commands, options.seconds))
-
-    lines, spent = solve(f"BUDGET {LARGEST}", "SOLVE", "HOW")
-    if lines is None:
-        return Measured("TIME", None, options.seconds, 0)
-    pivots = lines[3].split(" PIVOTS ")[1].split()[0]
-    return Measured(lines[2][2:], None if pivots == "-" else int(pivots), spent, spent - solve()[1])
+def by_lpd(options, model):
+    """What each program answers, and what it takes at the least."""
+    tasks = {(name, cut): [] for name in options.programs for cut in ("solve", "load")}
+    answers = {}
+    for _ in range(options.runs):
+        for name, cut in [task for task in tasks if answers.get(task[0], True) is not None]:
+            commands = [f"BUDGET {LARGEST}", "SOLVE", "HOW"] if cut == "solve" else []
+            lines, spent = session(options.programs[name], model.form, model.data, commands, options.seconds)
+            if cut == "solve":
+                answers[name] = lines
+            tasks[name, cut].append(spent)
+    for name, lines in answers.items():
+        if lines is None:
+            yield name, Measured("TIME", None, options.seconds, 0)
+            continue
+        pivots = lines[3].split(" PIVOTS ")[1].split()[0]
+        spent, loading = min(tasks[name, "solve"]), min(tasks[name, "load"])
+        yield name, Measured(lines[2][2:], None if pivots == "-" else int(pivots), spent, spent - loading)
 
 
 def by_esolver(options, model):
@@ -102,15 +111,7 @@ def by_esolver(options, model):
     with tempfile.TemporaryDirectory() as place:
         (pathlib.Path(place) / "model.mps").write_text(model.text())
         answer, spent = least(options.runs, lambda: Esolver().solve(pathlib.Path(place), options.seconds))
-    return answer, spent
-
-
-def differ(measured, theirs):
-    """Whether two answers differ."""
-    words = measured.answer.split()
-    if words[0] in ("PAST", "SPENT", "TIME") or theirs[0] in ("TIME", "FAILED"):
-        return False
-    return words[0] != theirs[0] or words[0] == "OPTIMAL" and Fraction(words[1]) != theirs[1]
+    return (answer[0], *map(model.value, answer[1:])), spent
 
 
 def row(cells):
@@ -120,27 +121,31 @@ def row(cells):
 def measure(options, models, faults):
     """The lines of the table, and for each program what it took for each model."""
     has_esolver = Esolver.is_there()
-    heads = [head for name in options.programs for head in (name, "Pivots", "ms", "µs a pivot")]
-    lines = [row(["Model", "Rows", "Columns", "Entries", *heads, *["esolver, ms"] * bool(has_esolver)])]
-    lines.append("|---" * lines[0].count(" | ") + "|---|")
+    heads = [head for name in options.programs for head in (f"{name}, ms", "µs a pivot")]
+    heads = ["Model", "Rows", "Columns", "Entries", "Answer", "Pivots", *heads, *["esolver, ms"] * bool(has_esolver)]
+    lines = [row(heads)]
+    lines.append("|---" * len(heads) + "|")
     print("\n".join(lines), flush=True)
     found = {}
     for model in models:
         plain = model.plain
         sizes = [len(plain.rows), len(plain.columns), sum(len(column.entries) for column in plain.columns.values())]
         cells = [model.name, *map(str, sizes)]
-        known = by_esolver(options, model) if has_esolver else None
-        for name, program in options.programs.items():
-            one = by_lpd(options, program, model)
+        theirs, spent = by_esolver(options, model) if has_esolver else (("NONE",), None)
+        known = theirs if theirs[0] in ANSWERS else None
+        ours = dict(by_lpd(options, model))
+        for told in (lambda one: one.answer.split()[0], lambda one: "" if one.pivots is None else str(one.pivots)):
+            cells.append(" / ".join(dict.fromkeys(map(told, ours.values()))))
+        for name, one in ours.items():
             found.setdefault(name, {})[model.name] = one
             cells += one.cells()
-            words = one.answer.split()
-            if known is None and words[0] not in ("PAST", "TIME"):
-                known = (words[0], *map(Fraction, words[1:])), None
-            if known and differ(one, known[0]):
-                faults.append(f"{model.name}: {name} says {one.answer}, and another {' '.join(map(str, known[0]))}")
+            word, *value = one.answer.split()
+            answer = (word, *map(Fraction, value)) if word in ANSWERS else None
+            known = known or answer
+            if answer and answer != known:
+                faults.append(f"{model.name}: {name} says {one.answer}, and another {' '.join(map(str, known))}")
         if has_esolver:
-            cells.append("TIME" if known[1] is None else f"{known[1] * 1e3:.1f}")
+            cells.append("TIME" if spent is None else f"{spent * 1e3:.1f}")
         lines.append(row(cells))
         print(lines[-1], flush=True)
     return lines, found
@@ -166,6 +171,7 @@ def named(text):
 def main():
     options = argparse.ArgumentParser(description=__doc__, formatter_class=argparse.RawDescriptionHelpFormatter)
     options.add_argument("--program", dest="programs", type=named, nargs="+", default=[named(PROGRAM)])
+    options.add_argument("--models")
     options.add_argument("--only")
     options.add_argument("--runs", type=int, default=3)
     options.add_argument("--seconds", type=int, default=60)
@@ -173,6 +179,8 @@ def main():
     options = options.parse_args()
     options.programs = dict(options.programs)
     models = [*map(dense, DENSE), *(sparse(*shape) for shape in SPARSE), *map(staircase, STAIRCASES)]
+    if options.models:
+        models = [*models_of(options.models)]
     wanted = options.only.split(",") if options.only else [model.name for model in models]
     faults = []
     lines, found = measure(options, [model for model in models if model.name in wanted], faults)

@@ -64,6 +64,7 @@ fn fall(lower: Option<Frac>, value: Frac) -> Result<Option<(Frac, Status)>, Past
 }
 
 // The gap of a basic column with these bounds, whose position has this entry.
+#[inline(always)]
 fn gap(
     up: bool,
     entry: Frac,
@@ -109,6 +110,7 @@ pub struct Position {
 }
 
 /// The best so far, with one position, where the entering column rises (`up`) or falls.
+#[inline(always)]
 pub fn best_at(up: bool, at: Position, best: Option<Best>) -> Result<Option<Best>, Past>
     ensures { result ≡ best_at_of up at.place at.col at.entry at.lower at.upper at.value best }
 {

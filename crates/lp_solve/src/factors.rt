@@ -8,6 +8,7 @@ ghost use Rattle.spec_solve.specs.Order as order;
 ghost use Rattle.lp_frac.specs.Narrow.{largest};
 ghost use Rattle.lp_solve.specs.Fit.{IsFit};
 
+use crate::basis::basis_of;
 use crate::cold::{End, answered, from_form};
 use lp_form::Form;
 use lp_model::Model;
@@ -21,7 +22,12 @@ fn over_factors(alloc: Global, budget: u64, model: &Model, form: &Form) -> Resul
     ensures narrow { IfOk result (IsFit model.now) }
 {
     match lp_revised::cold(alloc, form, budget) {
-        Ok(end) => Ok(answered(model, end.certificate, end.basis, end.pivots)),
+        Ok(end) => Ok(answered(
+            model,
+            end.certificate,
+            basis_of(form, end.basis),
+            end.pivots,
+        )),
         Err(RevisedStop::Past(past)) => Ok(End::Past(past)),
         Err(RevisedStop::Spent) => Ok(End::Spent),
         Err(RevisedStop::NoMemory) => Err(AllocError),
@@ -75,22 +81,21 @@ fn tableaus_first(alloc: Global, budget: u64, model: &Model, form: &Form) -> Res
     }
 }
 
-// The most entries of a column, and the fewest rows, of a model whose pivots are quicker over factors.
-const FEW_ENTRIES: usize = 4;
-
+// The fewest rows, and the most entries of a column on average, of a model whose pivots are quicker over factors.
 const MANY_ROWS: u32 = 80;
 
-// Whether the run over factors is likely the quicker one: of large, sparse and wide models (docs/PERFORMANCE.md).
+const FEW_ENTRIES: usize = 3;
+
+// Whether the run over factors is likely the quicker one: of large and sparse models (docs/PERFORMANCE.md).
 fn suits_factors(form: &Form) -> bool {
-    if form.rows() < MANY_ROWS || 3 * form.cols() < 4 * form.rows() {
+    if form.rows() < MANY_ROWS {
         return false;
     }
+    let mut entries: usize = 0;
     for j in 0..form.cols() {
-        if form.entries(j).len() > FEW_ENTRIES {
-            return false;
-        }
+        entries = entries.saturating_add(form.entries(j).len());
     }
-    true
+    entries <= FEW_ENTRIES * form.cols() as usize
 }
 
 /// The run over factors and the one over whole tableaus, each with the whole budget: the answer of either, or what the
