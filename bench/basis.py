@@ -21,7 +21,7 @@ import sys
 from dataclasses import dataclass, replace
 from fractions import Fraction
 
-from page import write
+from page import ended
 from solvers import PROGRAM, TOP, least, run, session
 
 sys.path.insert(0, str(TOP / "clients" / "python"))
@@ -188,11 +188,7 @@ def main():
     faults = []
     lines = measure(options, faults)
     print("\n".join(lines[: len(options.solvers)]))
-    if options.write:
-        write(options.write, BEGIN, END, lines)
-    for fault in faults:
-        print(f"FAULT: {fault}", file=sys.stderr)
-    return 1 if faults else 0
+    return ended(options.write, BEGIN, END, lines, faults)
 
 
 if __name__ == "__main__":

@@ -29,7 +29,7 @@ import tempfile
 import threading
 import time
 
-from page import write
+from page import ended, shown
 from serve import load_of
 from solvers import PROGRAM, TOP
 
@@ -176,16 +176,11 @@ def main():
     for name in ("haproxy", "openssl"):
         if not shutil.which(name):
             sys.exit(f"{name} is not on the path")
-    lines = []
     with tempfile.TemporaryDirectory(prefix="lpd-proxy-") as place:
         room = pathlib.Path(place)
         make_certificate(room)
-        for line in table(options, room):
-            print(line, flush=True)
-            lines.append(line)
-    if options.write:
-        write(options.write, BEGIN, END, lines)
-    return 0
+        lines = shown(table(options, room))
+    return ended(options.write, BEGIN, END, lines)
 
 
 if __name__ == "__main__":

@@ -17,6 +17,7 @@ the two marks of PAGE.
 from __future__ import annotations
 
 import argparse
+import itertools
 import asyncio
 import multiprocessing
 import os
@@ -26,7 +27,7 @@ import socket
 import sys
 import time
 
-from page import write
+from page import ended, shown
 from solvers import PROGRAM, TOP
 
 sys.path.insert(0, str(TOP / "tools"))
@@ -179,13 +180,8 @@ def main():
     options.add_argument("--write", type=pathlib.Path)
     options = options.parse_args()
     options.program = options.program.split()
-    lines = []
-    for line in [*solve_table(options), "", *link_table(options)]:
-        print(line, flush=True)
-        lines.append(line)
-    if options.write:
-        write(options.write, BEGIN, END, lines)
-    return 0
+    lines = shown(itertools.chain(solve_table(options), [""], link_table(options)))
+    return ended(options.write, BEGIN, END, lines)
 
 
 if __name__ == "__main__":

@@ -23,7 +23,7 @@ import tempfile
 import time
 from dataclasses import dataclass
 
-from page import write
+from page import ended
 from solvers import PROGRAM, run
 
 BEGIN, END = "<!-- measured by bench/workers.py -->", "<!-- end of the workers -->"
@@ -190,11 +190,7 @@ def main():
     options.program = options.program.split()
     faults = []
     lines = measure(options, faults)
-    if options.write:
-        write(options.write, BEGIN, END, lines)
-    for fault in faults:
-        print(f"FAULT: {fault}", file=sys.stderr)
-    return 1 if faults else 0
+    return ended(options.write, BEGIN, END, lines, faults)
 
 
 if __name__ == "__main__":
