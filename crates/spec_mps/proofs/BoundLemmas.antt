@@ -1,12 +1,12 @@
 -- Bounds and their texts.
 use Rattle.std.proofs.Common.{◌≡◌, Bool, true, false, cond, not, Option, Some, None, List}
-use Rattle.std.proofs.Common.{ℕ, pos, ℤ, ◌*ℤ◌, ◌≤ℤ◌, ◌<ℤ◌, refl, sym, ap, ◌∙◌, subst, arith}
+use Rattle.std.proofs.Common.{ℕ, pos, refl, sym, ap, ◌∙◌, subst}
 use Rattle.std.specs.Prelude.{int_lt}
-use borrow.Author.Differences.{lt-true, lt-false, at_most_in, below_in, ints}
-use Rattle.spec_exact.specs.Fraction.{ℚ, 0ℚ, whole, neg_ℚ, abs_ℚ, lt_ℚ, ◌≤ℚ◌, ◌<ℚ◌}
-use Rattle.spec_exact.proofs.Order.{lt_if, lt_test, from_num, ≤ℚ_trans}
+use Rattle.spec_exact.specs.Fraction.{ℚ, 0ℚ, neg_ℚ, abs_ℚ, lt_ℚ, ◌≤ℚ◌, ◌<ℚ◌}
+use Rattle.spec_exact.proofs.Order.{lt_if, lt_test, by_le, <ℚ-le, ≤ℚ_trans}
 use Rattle.spec_exact.proofs.Strict.{≤ℚ-<ℚ_trans, <ℚ-≤ℚ_trans, neg_mono, neg_strict}
 use Rattle.spec_exact.proofs.Ruleset.{neg-neg, neg-zero}
+use Rattle.spec_exact.proofs.Sizes.{abs_above, abs_below}
 use Rattle.spec_mps.specs.NumberText.{NumberParts, NumberReading, Is, Wide, parts_of, value_of}
 use Rattle.spec_mps.specs.NumberText.{is_narrow, number_by, number_of, is_negative, without_sign}
 use Rattle.spec_mps.specs.NumberText as number
@@ -20,16 +20,6 @@ pub record IsWithin (limit q : ℚ) : Type 0 where
   pub above : neg_ℚ limit <ℚ q
   pub below : q <ℚ limit
 
-num_positive : (q : ℚ) → int_lt q.num (pos 0) ≡ false → 0ℚ ≤ℚ q
-num_positive q e = from_num q (at_most_in _ _ (lt-false q.num (pos 0) e))
-
-num_negative : (q : ℚ) → int_lt q.num (pos 0) ≡ true → q ≤ℚ 0ℚ
-unfolding whole
-num_negative q e = record { at_most = by q.num q.den (below_in _ _ (lt-true q.num (pos 0) e)) }
-  where
-    by : (n : ℤ) (d : ℕ) → n <ℤ pos 0 → (n *ℤ pos 1) ≤ℤ (pos 0 *ℤ pos d)
-    by n d h = omega (arith, ints)
-
 negative_turned : (q : ℚ) → q ≤ℚ 0ℚ → 0ℚ ≤ℚ neg_ℚ q
 negative_turned q h = subst (λ x. x ≤ℚ neg_ℚ q) neg-zero (neg_mono q 0ℚ h)
 
@@ -37,22 +27,25 @@ positive_turned : (q : ℚ) → 0ℚ ≤ℚ q → neg_ℚ q ≤ℚ 0ℚ
 positive_turned q h = subst (λ x. neg_ℚ q ≤ℚ x) neg-zero (neg_mono 0ℚ q h)
 
 pub within_from_abs : (limit q : ℚ) → abs_ℚ q <ℚ limit → IsWithin limit q
-within_from_abs limit q h = by (int_lt q.num (pos 0)) refl h
+within_from_abs limit q h = by_le 0ℚ q positive negative
   where
-    by : (t : Bool) → int_lt q.num (pos 0) ≡ t → cond t (neg_ℚ q) q <ℚ limit → IsWithin limit q
-    by true e h =
-        let n = num_negative q e in
-        record {
-          above = subst (λ x. neg_ℚ limit <ℚ x) (neg-neg q) (neg_strict _ _ h);
-          below = ≤ℚ-<ℚ_trans q (neg_ℚ q) limit (≤ℚ_trans q 0ℚ (neg_ℚ q) n (negative_turned q n)) h;
-        }
-    by false e h =
-        let n = num_positive q e in
+    positive : 0ℚ ≤ℚ q → IsWithin limit q
+    positive n =
+        let l : q <ℚ limit = subst (λ x. x <ℚ limit) (abs_above q n) h in
         record {
           above =
-              <ℚ-≤ℚ_trans (neg_ℚ limit) (neg_ℚ q) q (neg_strict _ _ h)
+              <ℚ-≤ℚ_trans (neg_ℚ limit) (neg_ℚ q) q (neg_strict _ _ l)
               (≤ℚ_trans (neg_ℚ q) 0ℚ q (positive_turned q n) n);
-          below = h;
+          below = l;
+        }
+
+    negative : q <ℚ 0ℚ → IsWithin limit q
+    negative s =
+        let l : neg_ℚ q <ℚ limit = subst (λ x. x <ℚ limit) (abs_below q s) h in
+        let n : q ≤ℚ 0ℚ = <ℚ-le q 0ℚ s in
+        record {
+          above = subst (λ x. neg_ℚ limit <ℚ x) (neg-neg q) (neg_strict _ _ l);
+          below = ≤ℚ-<ℚ_trans q (neg_ℚ q) limit (≤ℚ_trans q 0ℚ (neg_ℚ q) n (negative_turned q n)) l;
         }
 
 pub abs_from_within : (limit q : ℚ) → IsWithin limit q → abs_ℚ q <ℚ limit
