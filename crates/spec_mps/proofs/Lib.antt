@@ -6,11 +6,13 @@ pub mod DigitLemmas
 pub mod RoundTrip
 pub mod BoundLemmas
 pub mod CheckSteps
+pub mod CardsDid
+pub mod BoundsSet
+pub mod NarrowNumbers
+pub mod NarrowSoFar
 pub mod SoundRows
 pub mod SoundColumns
 pub mod SoundCards
-pub mod NarrowNumbers
-pub mod NarrowCards
 pub mod SpelledKept
 pub mod WrittenCards
 pub mod WrittenSteps

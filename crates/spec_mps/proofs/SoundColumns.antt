@@ -4,10 +4,10 @@ use Rattle.std.proofs.Common.{Option, Some, None, option_map, List, [], ◌∷�
 use Rattle.std.proofs.Common.{All, IfSome, IsTrue, refl, sym, ap, ◌∙◌, subst, arith, length-append}
 use Rattle.std.specs.List.{AllPairs}
 use Rattle.std.proofs.lemmas.List.{map-append, length-map}
-use Rattle.std.proofs.lemmas.List.Elements.{All-nil, All-cons, All-head, All-tail, All-push, All-weaker}
+use Rattle.std.proofs.lemmas.List.Elements.{All-nil, All-push, All-weaker}
 use Rattle.std.proofs.lemmas.List.Quantifiers.{all_pairs_push}
 use Rattle.std.proofs.lemmas.Int.{ints}
-use Rattle.spec_exact.specs.Fraction.{ℚ, 0ℚ, whole, eq_ℚ}
+use Rattle.spec_exact.specs.Fraction.{ℚ, 0ℚ, whole, eq_ℚ, abs_ℚ, ◌<ℚ◌}
 use Rattle.spec_exact.proofs.Same.{eq_test}
 use Rattle.spec_model.specs.Model.{Name, ExactColumn}
 use Rattle.spec_model.specs.Kept.{IsKeptColumn, IsBound, is_name}
@@ -16,6 +16,9 @@ use Rattle.spec_mps.specs.declared.target.Target.TheVariants.{Objective, Row}
 use Rattle.spec_mps.specs.Reader.{is_among, new_column, columns_with, put_entry, with_number}
 use Rattle.spec_mps.specs.Sides.{changed_at}
 use Rattle.spec_mps.specs.Bounds.{BoundCard, SetsUpper, SetsLower, SetsBoth, is_negative, bounded}
+use Rattle.spec_mps.specs.BoundText.{infinite}
+use Rattle.spec_mps.proofs.BoundsSet.{SetsAll}
+use Rattle.spec_mps.proofs.NarrowSoFar.{changed_all}
 use Rattle.spec_mps.proofs.Entries.{Climbs, climbs_more, climbs_higher, climbs_put, climbs_entries}
 
 abbrev pub column_names : List ExactColumn → List Name
@@ -216,10 +219,8 @@ with_pair n columns column paired t v i f s =
 -- ---- bounds
 
 -- its bounds are finite
-abbrev pub IsSmall : BoundCard → Type 0
-IsSmall (SetsUpper u) = IsBound u
-IsSmall (SetsLower l) = IsBound l
-IsSmall (SetsBoth l u) = IsBound l × IsBound u
+abbrev IsSmall : BoundCard → Type 0
+IsSmall card = SetsAll (λ q. abs_ℚ q <ℚ infinite) card
 
 bounded_name : (lowered : Bool) (card : BoundCard) (c : ExactColumn) → (bounded lowered card c).name ≡ c.name
 bounded_name lowered (SetsUpper u) c = go (is_negative u && not lowered)
@@ -248,16 +249,6 @@ changed_names place lowered card [] = refl
 changed_names zero lowered card (c ∷ cs) = ap (λ name. name ∷ column_names cs) (bounded_name lowered card c)
 changed_names (suc place) lowered card (c ∷ cs) = ap (λ names. c.name ∷ names) (changed_names place lowered card cs)
 
-changed_kept : (n place : ℕ) (lowered : Bool) (card : BoundCard) (columns : List ExactColumn) → IsSmall card →
-    All (IsKeptColumn n) columns → All (IsKeptColumn n) (changed_at place (bounded lowered card) columns)
-changed_kept n place lowered card [] small h = h
-changed_kept n zero lowered card (c ∷ cs) small h =
-    All-cons (IsKeptColumn n) (bounded lowered card c) cs
-    (bounded_kept n lowered card c small (All-head (IsKeptColumn n) c cs h)) (All-tail (IsKeptColumn n) c cs h)
-changed_kept n (suc place) lowered card (c ∷ cs) small h =
-    All-cons (IsKeptColumn n) c (changed_at place (bounded lowered card) cs) (All-head (IsKeptColumn n) c cs h)
-    (changed_kept n place lowered card cs small (All-tail (IsKeptColumn n) c cs h))
-
 names_with : (columns others : List ExactColumn) (column : Option ExactColumn) →
     column_names columns ≡ column_names others →
     column_names (columns_with columns column) ≡ column_names (columns_with others column)
@@ -278,6 +269,8 @@ with_bounds n place lowered card columns column paired small s =
     record {
       few = subst (λ names. length names ≤ 512) (sym e) s.few;
       distinct = subst (AllPairs (λ x y. x ≢ y)) (sym e) s.distinct;
-      each = changed_kept n place lowered card columns small s.each;
+      each =
+          changed_all (IsKeptColumn n) place (bounded lowered card) columns
+          (λ c k. bounded_kept n lowered card c small k) s.each;
       last = s.last;
     }

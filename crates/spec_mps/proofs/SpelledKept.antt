@@ -1,5 +1,5 @@
 -- What a text spells is a model that may be kept.
-use Rattle.std.proofs.Common.{◌≡◌, ℕ, ◌+◌, Option, Some, is_none, is_some, Ok, Err, List, []}
+use Rattle.std.proofs.Common.{◌≡◌, ℕ, ◌+◌, Option, Some, is_some, Ok, Err, List, []}
 use Rattle.std.proofs.Common.{◌∷◌, length, map, All, IsTrue, refl, subst, arith, ◌&&◌, not}
 use Rattle.std.proofs.lemmas.List.{length-map}
 use Rattle.std.proofs.lemmas.List.Elements.{All-nil, All-cons, All-head, All-tail}
@@ -15,7 +15,7 @@ use Rattle.spec_mps.specs.declared.section.Section.TheVariants as section
 use Rattle.spec_mps.specs.declared.style.Style.{Style}
 use Rattle.spec_mps.specs.Fields.{Fields, CardReading, Is, Misplaced, text_at}
 use Rattle.spec_mps.specs.Checks.{Check}
-use Rattle.spec_mps.specs.Shapes.{section_of, sense_of, shaped}
+use Rattle.spec_mps.specs.Shapes.{section_of, shaped}
 use Rattle.spec_mps.specs.Reader.{State, start, whole_columns}
 use Rattle.spec_mps.specs.Steps.{take_sense, sense_card, has_begun, may_follow, begun, sense_beside, headed, Progress}
 use Rattle.spec_mps.specs.Steps.{More, Done, Outcome, more, model_by, finished, begin, section_card, data_card}
@@ -25,84 +25,49 @@ use Rattle.spec_mps.proofs.SoundRows.{SoundRows, no_rows, with_name}
 use Rattle.spec_mps.proofs.SoundColumns.{no_columns, closed, close_column}
 use Rattle.spec_mps.proofs.SoundCards.{IsSound, row_names, rows_card_sound, columns_card_sound}
 use Rattle.spec_mps.proofs.SoundCards.{rhs_card_sound, ranges_card_sound, bounds_card_sound}
-use Rattle.spec_mps.proofs.NarrowCards.{AreNarrow, none_narrow, whole_narrow, rows_card_narrow, columns_card_narrow}
-use Rattle.spec_mps.proofs.NarrowCards.{rhs_card_narrow, ranges_card_narrow, bounds_card_narrow}
-
--- what was read is as a model has it, and its numbers are of 127 bits
-record IsSoFar (s : State) : Type 0 where
-  sound : IsSound s
-  narrow : AreNarrow s
+use Rattle.spec_mps.proofs.NarrowSoFar.{none_narrow, closed_narrow}
+use Rattle.spec_mps.proofs.CardsDid.{sense_did}
 
 -- ---- sections
 
-take_sense_sound : (s : State) (text : List ℕ) (t : State) → take_sense s text ≡ Ok t → IsSoFar s → IsSoFar t
-unfolding take_sense
-take_sense_sound s text t h so =
-    let a = need_ok (sense_of text) code.CardShape _ t h in
-    let b = must_ok (is_none s.sense) code.CardShape _ t a.2 in
-    subst IsSoFar (same_ok _ t b.1)
-    (record {
-      sound = record { rows = so.sound.rows; columns = so.sound.columns };
-      narrow =
-          record {
-            offset = so.narrow.offset;
-            rows = so.narrow.rows;
-            columns = so.narrow.columns;
-            column = so.narrow.column;
-          };
-    })
+take_sense_sound : (s : State) (text : List ℕ) (t : State) → take_sense s text ≡ Ok t → IsSound s → IsSound t
+take_sense_sound s text t h sound =
+    subst IsSound (sense_did s text t h).3
+    (record { rows = sound.rows; columns = sound.columns; narrow = sound.narrow })
 
 sense_card_sound : (style : Style) (s : State) (fields : Fields) (t : State) → sense_card style s fields ≡ Ok t →
-    IsSoFar s → IsSoFar t
+    IsSound s → IsSound t
 unfolding sense_card
-sense_card_sound style s fields t h so =
+sense_card_sound style s fields t h sound =
     let a = step_ok (shaped style section.Sense fields) _ t h in
-    take_sense_sound s (text_at 1 fields) t a.2 so
+    take_sense_sound s (text_at 1 fields) t a.2 sound
 
-begun_sound : (s : State) (part : Section) → IsSoFar s → IsSoFar (begun s part)
-begun_sound s part so =
+begun_sound : (s : State) (part : Section) → IsSound s → IsSound (begun s part)
+begun_sound s part sound =
     record {
-      sound =
-          record {
-            rows = so.sound.rows;
-            columns = closed (length (row_names s.rows)) s.columns s.column s.paired so.sound.columns;
-          };
-      narrow =
-          record {
-            offset = so.narrow.offset;
-            rows = so.narrow.rows;
-            columns = whole_narrow s.columns s.column so.narrow.columns so.narrow.column;
-            column = tt;
-          };
+      rows = sound.rows;
+      columns = closed (length (row_names s.rows)) s.columns s.column s.paired sound.columns;
+      narrow = closed_narrow s.offset s.rows s.columns s.column sound.narrow;
     }
 
-sense_beside_sound : (s : State) (word : List ℕ) (t : State) → sense_beside s word ≡ Ok t → IsSoFar s → IsSoFar t
-sense_beside_sound s [] t h so = subst IsSoFar (same_ok s t h) so
-sense_beside_sound s (b ∷ bs) t h so = take_sense_sound s (b ∷ bs) t h so
+sense_beside_sound : (s : State) (word : List ℕ) (t : State) → sense_beside s word ≡ Ok t → IsSound s → IsSound t
+sense_beside_sound s [] t h sound = subst IsSound (same_ok s t h) sound
+sense_beside_sound s (b ∷ bs) t h sound = take_sense_sound s (b ∷ bs) t h sound
 
-headed_sound : (s : State) (part : Section) (word : List ℕ) (t : State) → headed s part word ≡ Ok t → IsSoFar s →
-    IsSoFar t
-headed_sound s section.Name word t h so =
+headed_sound : (s : State) (part : Section) (word : List ℕ) (t : State) → headed s part word ≡ Ok t → IsSound s →
+    IsSound t
+headed_sound s section.Name word t h sound =
     let a = must_ok (is_model_name word) code.Name _ t h in
-    subst IsSoFar (same_ok _ t a.1)
+    subst IsSound (same_ok _ t a.1)
     (record {
-      sound =
-          record {
-            rows = with_name s.name s.objective (row_names s.rows) word a.0 so.sound.rows;
-            columns = so.sound.columns;
-          };
-      narrow =
-          record {
-            offset = so.narrow.offset;
-            rows = so.narrow.rows;
-            columns = so.narrow.columns;
-            column = so.narrow.column;
-          };
+      rows = with_name s.name s.objective (row_names s.rows) word a.0 sound.rows;
+      columns = sound.columns;
+      narrow = sound.narrow;
     })
-headed_sound s section.Sense word t h so = sense_beside_sound s word t h so
-headed_sound s section.Columns word t h so =
-    let a = must_ok (is_some s.objective) code.NoObjective _ t h in subst IsSoFar (same_ok s t a.1) so
-headed_sound s part word t h so = subst IsSoFar (same_ok s t h) so
+headed_sound s section.Sense word t h sound = sense_beside_sound s word t h sound
+headed_sound s section.Columns word t h sound =
+    let a = must_ok (is_some s.objective) code.NoObjective _ t h in subst IsSound (same_ok s t a.1) sound
+headed_sound s part word t h sound = subst IsSound (same_ok s t h) sound
 
 -- ---- the model
 
@@ -111,11 +76,11 @@ All-unmap P f [] h = All-nil (λ y. P (f y))
 All-unmap P f (y ∷ ys) h =
     All-cons (λ y. P (f y)) y ys (All-head P (f y) (map f ys) h) (All-unmap P f ys (All-tail P (f y) (map f ys) h))
 
-model_kept : (s : State) (objective : Name) → s.objective ≡ Some objective → IsSoFar s → IsModel (model_by s objective)
+model_kept : (s : State) (objective : Name) → s.objective ≡ Some objective → IsSound s → IsModel (model_by s objective)
 unfolding model_by
-model_kept s objective e so =
-    let r = subst (λ o. SoundRows s.name o (row_names s.rows)) e so.sound.rows in
-    let c = so.sound.columns in
+model_kept s objective e sound =
+    let r = subst (λ o. SoundRows s.name o (row_names s.rows)) e sound.rows in
+    let c = sound.columns in
     let size : length (row_names s.rows) ≡ length s.rows = length-map s.rows (λ (r : ExactRow). r.name) in
     record {
       few_rows = omega (arith, r.few);
@@ -128,110 +93,93 @@ model_kept s objective e so =
           (close_column (length (row_names s.rows)) s.paired s.columns s.column c.each c.last);
       rows_distinct = r.distinct;
       columns_distinct = c.distinct;
-      offset = so.narrow.offset;
-      narrow_rows = so.narrow.rows;
-      narrow_columns = whole_narrow s.columns s.column so.narrow.columns so.narrow.column;
+      offset = sound.narrow.offset;
+      narrow_rows = sound.narrow.rows;
+      narrow_columns = (closed_narrow s.offset s.rows s.columns s.column sound.narrow).columns;
     }
 
 -- ---- one line
 
 abbrev IsSoundProgress : Progress → Type 0
-IsSoundProgress (More s) = IsSoFar s
+IsSoundProgress (More s) = IsSound s
 IsSoundProgress (Done m) = IsModel m
 
-more_sound : (check : Check State) (p : Progress) → more check ≡ Ok p → ((t : State) → check ≡ Ok t → IsSoFar t) →
+more_sound : (check : Check State) (p : Progress) → more check ≡ Ok p → ((t : State) → check ≡ Ok t → IsSound t) →
     IsSoundProgress p
 more_sound check p h f =
     let a = step_ok check (λ s. Ok (More s)) p h in
     subst IsSoundProgress (same_ok (More a.0) p a.2) (f a.0 a.1)
 
-finished_sound : (s : State) (p : Progress) → finished s ≡ Ok p → IsSoFar s → IsSoundProgress p
+finished_sound : (s : State) (p : Progress) → finished s ≡ Ok p → IsSound s → IsSoundProgress p
 unfolding finished
-finished_sound s p h so =
+finished_sound s p h sound =
     let a = need_ok s.objective code.NoObjective _ p h in
-    subst IsSoundProgress (same_ok (Done (model_by s a.0)) p a.2) (model_kept s a.0 a.1 so)
+    subst IsSoundProgress (same_ok (Done (model_by s a.0)) p a.2) (model_kept s a.0 a.1 sound)
 
-begin_sound : (s : State) (part : Section) (word : List ℕ) (p : Progress) → begin s part word ≡ Ok p → IsSoFar s →
+begin_sound : (s : State) (part : Section) (word : List ℕ) (p : Progress) → begin s part word ≡ Ok p → IsSound s →
     IsSoundProgress p
-begin_sound s section.End word p h so = finished_sound s p h so
-begin_sound s part word p h so =
-    more_sound _ p h (λ t k. headed_sound (begun s part) part word t k (begun_sound s part so))
+begin_sound s section.End word p h sound = finished_sound s p h sound
+begin_sound s part word p h sound =
+    more_sound _ p h (λ t k. headed_sound (begun s part) part word t k (begun_sound s part sound))
 
-section_card_sound : (s : State) (fields : Fields) (p : Progress) → section_card s fields ≡ Ok p → IsSoFar s →
+section_card_sound : (s : State) (fields : Fields) (p : Progress) → section_card s fields ≡ Ok p → IsSound s →
     IsSoundProgress p
 unfolding section_card
-section_card_sound s fields p h so =
+section_card_sound s fields p h sound =
     let a = need_ok (section_of (text_at 1 fields)) code.UnknownSection _ p h in
     let b = must_ok (may_follow s.seen a.0 && not (has_begun s.seen a.0)) code.SectionOrder _ p a.2 in
-    begin_sound s a.0 (text_at 2 fields) p b.1 so
+    begin_sound s a.0 (text_at 2 fields) p b.1 sound
 
 data_card_sound : (style : Style) (part : Option Section) (s : State) (fields : Fields) (t : State) →
-    data_card style part s fields ≡ Ok t → IsSoFar s → IsSoFar t
-data_card_sound style (Some section.Sense) s fields t h so = sense_card_sound style s fields t h so
-data_card_sound style (Some section.Rows) s fields t h so =
-    record {
-      sound = rows_card_sound style s fields t h so.sound;
-      narrow = rows_card_narrow style s fields t h so.narrow;
-    }
-data_card_sound style (Some section.Columns) s fields t h so =
-    record {
-      sound = columns_card_sound style s fields t h so.sound;
-      narrow = columns_card_narrow style s fields t h so.narrow;
-    }
-data_card_sound style (Some section.RightSides) s fields t h so =
-    record { sound = rhs_card_sound style s fields t h so.sound; narrow = rhs_card_narrow style s fields t h so.narrow }
-data_card_sound style (Some section.Ranges) s fields t h so =
-    record {
-      sound = ranges_card_sound style s fields t h so.sound;
-      narrow = ranges_card_narrow style s fields t h so.narrow;
-    }
-data_card_sound style (Some section.Bounds) s fields t h so =
-    record {
-      sound = bounds_card_sound style s fields t h so.sound;
-      narrow = bounds_card_narrow style s fields t h so.narrow;
-    }
-data_card_sound style part s fields t h so = absurd (cc)
+    data_card style part s fields ≡ Ok t → IsSound s → IsSound t
+data_card_sound style (Some section.Sense) s fields t h sound = sense_card_sound style s fields t h sound
+data_card_sound style (Some section.Rows) s fields t h sound = rows_card_sound style s fields t h sound
+data_card_sound style (Some section.Columns) s fields t h sound = columns_card_sound style s fields t h sound
+data_card_sound style (Some section.RightSides) s fields t h sound = rhs_card_sound style s fields t h sound
+data_card_sound style (Some section.Ranges) s fields t h sound = ranges_card_sound style s fields t h sound
+data_card_sound style (Some section.Bounds) s fields t h sound = bounds_card_sound style s fields t h sound
+data_card_sound style part s fields t h sound = absurd (cc)
 
-card_sound : (style : Style) (s : State) (c : Card Fields) (p : Progress) → on_card style s c ≡ Ok p → IsSoFar s →
+card_sound : (style : Style) (s : State) (c : Card Fields) (p : Progress) → on_card style s c ≡ Ok p → IsSound s →
     IsSoundProgress p
-card_sound style s card.Skip p h so = subst IsSoundProgress (same_ok (More s) p h) so
-card_sound style s (card.Section fields) p h so = section_card_sound s fields p h so
-card_sound style s (card.Given fields) p h so = more_sound _ p h (λ t k. data_card_sound style s.part s fields t k so)
+card_sound style s card.Skip p h sound = subst IsSoundProgress (same_ok (More s) p h) sound
+card_sound style s (card.Section fields) p h sound = section_card_sound s fields p h sound
+card_sound style s (card.Given fields) p h sound = more_sound _ p h (λ t k. data_card_sound style s.part s fields t k sound)
 
 reading_sound : (style : Style) (s : State) (reading : CardReading) (p : Progress) → on_reading style s reading ≡ Ok p →
-    IsSoFar s → IsSoundProgress p
-reading_sound style s (Is c) p h so = card_sound style s c p h so
-reading_sound style s (Misplaced column) p h so = absurd (cc)
+    IsSound s → IsSoundProgress p
+reading_sound style s (Is c) p h sound = card_sound style s c p h sound
+reading_sound style s (Misplaced column) p h sound = absurd (cc)
 
-step_sound : (style : Style) (s : State) (l : Line (List ℕ)) (p : Progress) → step style s l ≡ Ok p → IsSoFar s →
+step_sound : (style : Style) (s : State) (l : Line (List ℕ)) (p : Progress) → step style s l ≡ Ok p → IsSound s →
     IsSoundProgress p
 unfolding step
-step_sound style s (line.Text bytes) p h so = reading_sound style s (reading_of style s.part bytes) p h so
-step_sound style s (line.Long len) p h so = absurd (cc)
-step_sound style s line.End p h so = absurd (cc)
-step_sound style s line.Over p h so = absurd (cc)
+step_sound style s (line.Text bytes) p h sound = reading_sound style s (reading_of style s.part bytes) p h sound
+step_sound style s (line.Long len) p h sound = absurd (cc)
+step_sound style s line.End p h sound = absurd (cc)
+step_sound style s line.Over p h sound = absurd (cc)
 
 -- ---- a whole text
 
-start_sound : IsSoFar start
-start_sound = record { sound = record { rows = no_rows; columns = no_columns }; narrow = none_narrow }
+start_sound : IsSound start
+start_sound = record { rows = no_rows; columns = no_columns; narrow = none_narrow }
 
 same_spelled : (m o : Model) → Spelled m ≡ Spelled o → m ≡ o
 same_spelled m o h = cc
 
 settled_kept : (n : ℕ) (next : State → Verdict) (o : Outcome) (m : Model) → settled n next o ≡ Spelled m →
-    ((p : Progress) → o ≡ Ok p → IsSoundProgress p) → ((t : State) → next t ≡ Spelled m → IsSoFar t → IsModel m) →
+    ((p : Progress) → o ≡ Ok p → IsSoundProgress p) → ((t : State) → next t ≡ Spelled m → IsSound t → IsModel m) →
     IsModel m
 settled_kept n next (Ok (More t)) m h f g = g t h (f (More t) refl)
 settled_kept n next (Ok (Done d)) m h f g = subst IsModel (same_spelled d m h) (f (Done d) refl)
 settled_kept n next (Err fault) m h f g = absurd (cc)
 
 judged_kept : (style : Style) (lines : List (Line (List ℕ))) (s : State) (n : ℕ) (m : Model) →
-    judge style s n lines ≡ Spelled m → IsSoFar s → IsModel m
-judged_kept style [] s n m h so = absurd (cc)
-judged_kept style (l ∷ lines) s n m h so =
+    judge style s n lines ≡ Spelled m → IsSound s → IsModel m
+judged_kept style [] s n m h sound = absurd (cc)
+judged_kept style (l ∷ lines) s n m h sound =
     settled_kept n (λ t. judge style t (n + 1) lines) (step style s l) m h
-    (λ p k. step_sound style s l p k so) (λ t k. judged_kept style lines t (n + 1) m k)
+    (λ p k. step_sound style s l p k sound) (λ t k. judged_kept style lines t (n + 1) m k)
 
 -- a spelled model may be kept
 pub spelled_kept : (style : Style) (lines : List (Line (List ℕ))) (m : Model) → Spells style lines m → IsModel m
