@@ -1,19 +1,19 @@
 -- Data cards of a written text, in fixed form, are read as their fields.
-use Rattle.std.proofs.Common.{◌≡◌, ℕ, zero, suc, ◌+◌, ◌-◌, ◌≤◌, ◌&&◌, Bool, true, false, None, List, []}
+use Rattle.std.proofs.Common.{◌≡◌, ℕ, zero, suc, ◌+◌, ◌-◌, ◌≤◌, ◌&&◌, not, Bool, true, false, None, List, []}
 use Rattle.std.proofs.Common.{◌∷◌, ◌++◌, length, refl, sym, ap, ◌∙◌, append_assoc, length-append, arith}
 use Rattle.std.specs.List.{list_all}
 use Rattle.std.proofs.lemmas.List.{append-nil, take-append-le, length-replicate}
 use Rattle.std.proofs.lemmas.List.Folds.{list_all-append}
-use borrow.Author.Tests.{ne_eqb}
+use borrow.Author.Count.{below_more}
 use Rattle.spec_text.specs.Words.{is_blank}
 use Rattle.spec_model.specs.Kept.{is_printable}
 use Rattle.spec_mps.specs.declared.card.Card.TheVariants.{Given}
 use Rattle.spec_mps.specs.declared.style.Style.TheVariants.{Fixed}
 use Rattle.spec_mps.specs.Cards.{is_skipped, begins_with_blank, begins_with_star}
-use Rattle.spec_mps.specs.Fields.{Fields, Is, field_of, in_columns, column_fields, fixed_fields, misplaced_from}
+use Rattle.spec_mps.specs.Fields.{Fields, Is, field_of, in_columns, column_fields, fixed_fields, misplaced_from, is_beside}
 use Rattle.spec_mps.specs.Written.{Data, field_at, first_column, with_fields, line_text}
 use Rattle.spec_mps.specs.NumberWritten.{IsWord}
-use Rattle.spec_mps.proofs.Steps.{both}
+use Rattle.spec_mps.proofs.Steps.{both, negated}
 use Rattle.spec_mps.proofs.WrittenWords.{is_plain, plain_text, stripped_plain, no_blank}
 use Rattle.spec_mps.proofs.WrittenColumns.{IsPrinted, blanks, HasNoneBeside, column_read}
 use Rattle.spec_mps.proofs.WrittenColumns.{column_last, column_past, placed_blanks, placed_text}
@@ -70,73 +70,30 @@ whole_placed line h = ap (misplaced_from 1) (sym (append-nil line)) ∙ h []
 
 -- ---- the columns of the fields
 
+-- none of so many columns from the first one is beside the fields
+abbrev are_inside : ℕ → ℕ → Bool
+are_inside first zero = true
+are_inside first (suc size) = not (is_beside (first + size)) && are_inside first size
+
+none_beside : (first size : ℕ) → are_inside first size ≡ true → HasNoneBeside first size
+none_beside first zero h k a b = absurd (omega arith)
+none_beside first (suc size) h k a b =
+    let p = both (not (is_beside (first + size))) (are_inside first size) h in
+    below_more (λ c. first ≤ c → is_beside c ≡ false) (first + size)
+    (λ c less above. none_beside first size p.1 c above less)
+    (λ above. negated (is_beside (first + size)) p.0) k (omega arith) a
+
 pub none_1 : HasNoneBeside 2 2
-none_1 k a b =
-    rw (
-      ne_eqb k 1 (λ e. omega arith),
-      ne_eqb k 4 (λ e. omega arith),
-      ne_eqb k 13 (λ e. omega arith),
-      ne_eqb k 14 (λ e. omega arith),
-      ne_eqb k 23 (λ e. omega arith),
-      ne_eqb k 24 (λ e. omega arith),
-      ne_eqb k 37 (λ e. omega arith),
-      ne_eqb k 38 (λ e. omega arith),
-      ne_eqb k 39 (λ e. omega arith),
-      ne_eqb k 48 (λ e. omega arith),
-      ne_eqb k 49 (λ e. omega arith),
-      ne_eqb k 62 (λ e. omega arith),
-    ) refl
+none_1 = none_beside 2 2 refl
 
 pub none_2 : HasNoneBeside 5 8
-none_2 k a b =
-    rw (
-      ne_eqb k 1 (λ e. omega arith),
-      ne_eqb k 4 (λ e. omega arith),
-      ne_eqb k 13 (λ e. omega arith),
-      ne_eqb k 14 (λ e. omega arith),
-      ne_eqb k 23 (λ e. omega arith),
-      ne_eqb k 24 (λ e. omega arith),
-      ne_eqb k 37 (λ e. omega arith),
-      ne_eqb k 38 (λ e. omega arith),
-      ne_eqb k 39 (λ e. omega arith),
-      ne_eqb k 48 (λ e. omega arith),
-      ne_eqb k 49 (λ e. omega arith),
-      ne_eqb k 62 (λ e. omega arith),
-    ) refl
+none_2 = none_beside 5 8 refl
 
 pub none_3 : HasNoneBeside 15 8
-none_3 k a b =
-    rw (
-      ne_eqb k 1 (λ e. omega arith),
-      ne_eqb k 4 (λ e. omega arith),
-      ne_eqb k 13 (λ e. omega arith),
-      ne_eqb k 14 (λ e. omega arith),
-      ne_eqb k 23 (λ e. omega arith),
-      ne_eqb k 24 (λ e. omega arith),
-      ne_eqb k 37 (λ e. omega arith),
-      ne_eqb k 38 (λ e. omega arith),
-      ne_eqb k 39 (λ e. omega arith),
-      ne_eqb k 48 (λ e. omega arith),
-      ne_eqb k 49 (λ e. omega arith),
-      ne_eqb k 62 (λ e. omega arith),
-    ) refl
+none_3 = none_beside 15 8 refl
 
 pub none_4 : HasNoneBeside 25 12
-none_4 k a b =
-    rw (
-      ne_eqb k 1 (λ e. omega arith),
-      ne_eqb k 4 (λ e. omega arith),
-      ne_eqb k 13 (λ e. omega arith),
-      ne_eqb k 14 (λ e. omega arith),
-      ne_eqb k 23 (λ e. omega arith),
-      ne_eqb k 24 (λ e. omega arith),
-      ne_eqb k 37 (λ e. omega arith),
-      ne_eqb k 38 (λ e. omega arith),
-      ne_eqb k 39 (λ e. omega arith),
-      ne_eqb k 48 (λ e. omega arith),
-      ne_eqb k 49 (λ e. omega arith),
-      ne_eqb k 62 (λ e. omega arith),
-    ) refl
+none_4 = none_beside 25 12 refl
 
 -- ---- a line that begins with a blank and has a word is a data card
 
