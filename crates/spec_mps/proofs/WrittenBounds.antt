@@ -1,5 +1,5 @@
 -- The cards of BOUNDS of a written text are read as a column's bounds.
-use Rattle.std.proofs.Common.{◌≡◌, ℕ, ◌||◌, ◌&&◌, Bool, true, false, cond, Option, Some, None, Ok, List, []}
+use Rattle.std.proofs.Common.{◌≡◌, ℕ, ◌≤◌, ◌||◌, ◌&&◌, Bool, true, false, cond, Option, Some, None, Ok, List, []}
 use Rattle.std.proofs.Common.{◌∷◌, ◌++◌, length, map, get_or, refl, sym, ap, ◌∙◌, subst, inl, inr, ◌⊎◌, arith}
 use Rattle.std.specs.Prelude.{codes, IfSome}
 use Rattle.std.specs.List.{position}
@@ -15,7 +15,7 @@ use Rattle.spec_mps.specs.declared.style.Style.{Style}
 use Rattle.spec_mps.specs.declared.style.Style.TheVariants.{Free, Fixed}
 use Rattle.spec_mps.specs.declared.section.Section.TheVariants as section
 use Rattle.spec_mps.specs.declared.bound_kind.BoundKind.{BoundKind}
-use Rattle.spec_mps.specs.declared.bound_kind.BoundKind.TheVariants.{Up, Lo, Fx, Fr, Mi}
+use Rattle.spec_mps.specs.declared.bound_kind.BoundKind.TheVariants.{Up, Lo, Fx, Fr, Mi, Pl}
 use Rattle.spec_mps.specs.declared.number.BoundValue.TheVariants as value
 use Rattle.spec_mps.specs.BoundText.{bound_answer, infinite}
 use Rattle.spec_mps.specs.NumberWritten.{number_text, IsWord}
@@ -25,7 +25,7 @@ use Rattle.spec_mps.specs.Fields.{Fields, text_at}
 use Rattle.spec_mps.specs.Reader.{State}
 use Rattle.spec_mps.specs.Sides.{is_used, changed_at}
 use Rattle.spec_mps.specs.Bounds.{BoundCard, SetsUpper, SetsLower, SetsBoth, BoundTexts, upper_card}
-use Rattle.spec_mps.specs.Bounds.{lower_card, both_card, bound_in, bound_texts, use_bound}
+use Rattle.spec_mps.specs.Bounds.{lower_card, both_card, bound_in, bound_texts, use_bound, takes_value}
 use Rattle.spec_mps.specs.Bounds.{bounds_card, bounded, sets_lower, with_bound, bound_card as card_of}
 use Rattle.spec_mps.specs.Steps.{more}
 use Rattle.spec_mps.specs.Written.{WrittenCards, Data, field_at, bound_card, unbound_card, bound_cards, line_text}
@@ -100,16 +100,46 @@ put_behind s done c more before b after set card e =
 
 -- ---- the kinds
 
-kind_item : (style : Style) (a b : ℕ) → IsWord (a ∷ b ∷ []) → IsItem style 2 (a ∷ b ∷ [])
-kind_item Free a b h = record { word = h; room = tt }
-kind_item Fixed a b h = record { word = h; room = omega arith }
+abbrev pub bound_word : BoundKind → List ℕ
+bound_word Up = codes "UP"
+bound_word Lo = codes "LO"
+bound_word Fx = codes "FX"
+bound_word Fr = codes "FR"
+bound_word Mi = codes "MI"
+bound_word Pl = codes "PL"
 
-abbrev number_fields : List ℕ → Name → ℚ → Fields
+-- what a card of a kind sets, with this value if it takes one
+abbrev pub says : BoundKind → ℚ → BoundCard
+says Up q = SetsUpper (Some q)
+says Lo q = SetsLower (Some q)
+says Fx q = SetsBoth (Some q) (Some q)
+says Fr q = SetsBoth None None
+says Mi q = SetsLower None
+says Pl q = SetsUpper None
+
+word_is : (kind : BoundKind) → IsWord (bound_word kind)
+word_is Up = record { some = refl; printable = refl }
+word_is kind = record { some = refl; printable = refl }
+
+word_known : (kind : BoundKind) → bound_kind_of (bound_word kind) ≡ Ok kind
+unfolding bound_kind_of
+word_known Up = refl
+word_known kind = refl
+
+kind_item : (style : Style) (kind : BoundKind) → IsItem style 2 (bound_word kind)
+kind_item Free kind = record { word = word_is kind; room = tt }
+kind_item Fixed kind = record { word = word_is kind; room = fits kind }
+  where
+    fits : (kind : BoundKind) → length (bound_word kind) ≤ 2
+    fits Up = omega arith
+    fits kind = omega arith
+
+abbrev number_fields : BoundKind → Name → ℚ → Fields
 number_fields kind name q =
-    field_at 1 kind ∷ field_at 2 (codes "BND") ∷ field_at 3 name ∷ field_at 4 (number_text q) ∷ []
+    field_at 1 (bound_word kind) ∷ field_at 2 (codes "BND") ∷ field_at 3 name ∷ field_at 4 (number_text q) ∷ []
 
-abbrev name_fields : List ℕ → Name → Fields
-name_fields kind name = field_at 1 kind ∷ field_at 2 (codes "BND") ∷ field_at 3 name ∷ []
+abbrev name_fields : BoundKind → Name → Fields
+name_fields kind name = field_at 1 (bound_word kind) ∷ field_at 2 (codes "BND") ∷ field_at 3 name ∷ []
 
 -- a number that is a bound
 pub record IsBoundNumber (q : ℚ) : Type 0 where
@@ -122,155 +152,52 @@ bound_reads q h =
     ap (λ r. coded (bound_answer r)) (number_is_bound (number_text q) q
     (read_written q h.narrow.top h.narrow.bottom) (within_from_abs infinite q h.small))
 
--- a kind with a value, and what its card does
-record IsValueKind (word : List ℕ) (kind : BoundKind) (says : ℚ → BoundCard) : Type 0 where
-  pub item : (style : Style) → IsItem style 2 word
-  pub known : (style : Style) (name : Name) (q : ℚ) →
-      bound_kind_of (text_at 1 (read_as style (number_fields word name q))) ≡ Ok kind
-  pub shape : (style : Style) (name : Name) (q : ℚ) →
-      bound_texts style kind (read_as style (number_fields word name q))
-      ≡ Ok (record { set = Some (codes "BND"); column = name; value = number_text q })
-  pub is : (q : ℚ) → IsBoundNumber q → card_of kind (number_text q) ≡ Ok (says q)
+-- a kind that takes a value
+value_known : (style : Style) (kind : BoundKind) (name : Name) (q : ℚ) →
+    bound_kind_of (text_at 1 (read_as style (number_fields kind name q))) ≡ Ok kind
+value_known Free kind name q = word_known kind
+value_known Fixed kind name q = word_known kind
+
+value_shape : (style : Style) (kind : BoundKind) (name : Name) (q : ℚ) → takes_value kind ≡ true →
+    bound_texts style kind (read_as style (number_fields kind name q))
+    ≡ Ok (record { set = Some (codes "BND"); column = name; value = number_text q })
+unfolding bound_texts has_shape
+value_shape style Fr name q h = cc
+value_shape style Mi name q h = cc
+value_shape style Pl name q h = cc
+value_shape Free kind name q h = refl
+value_shape Fixed kind name q h = refl
+
+value_is : (kind : BoundKind) (q : ℚ) → takes_value kind ≡ true → IsBoundNumber q →
+    card_of kind (number_text q) ≡ Ok (says kind q)
+unfolding card_of
+value_is Up q t h = ap (λ r. r >>= upper_card) (bound_reads q h)
+value_is Lo q t h = ap (λ r. r >>= lower_card) (bound_reads q h)
+value_is Fx q t h = ap (λ r. r >>= both_card) (bound_reads q h)
+value_is kind q t h = cc
 
 -- a kind without one
-record IsNameKind (word : List ℕ) (kind : BoundKind) (says : BoundCard) : Type 0 where
-  pub item : (style : Style) → IsItem style 2 word
-  pub known : (style : Style) (name : Name) →
-      bound_kind_of (text_at 1 (read_as style (name_fields word name))) ≡ Ok kind
-  pub shape : (style : Style) (name : Name) →
-      bound_texts style kind (read_as style (name_fields word name))
-      ≡ Ok (record { set = Some (codes "BND"); column = name; value = [] })
-  pub is : card_of kind [] ≡ Ok says
+name_known : (style : Style) (kind : BoundKind) (name : Name) →
+    bound_kind_of (text_at 1 (read_as style (name_fields kind name))) ≡ Ok kind
+name_known Free kind name = word_known kind
+name_known Fixed kind name = word_known kind
 
-up_known : (style : Style) (name : Name) (q : ℚ) →
-    bound_kind_of (text_at 1 (read_as style (number_fields (codes "UP") name q))) ≡ Ok Up
-unfolding bound_kind_of
-up_known Free name q = refl
-up_known Fixed name q = refl
-
-up_shape : (style : Style) (name : Name) (q : ℚ) →
-    bound_texts style Up (read_as style (number_fields (codes "UP") name q))
-    ≡ Ok (record { set = Some (codes "BND"); column = name; value = number_text q })
-unfolding bound_texts has_shape
-up_shape Free name q = refl
-up_shape Fixed name q = refl
-
-up_is : (q : ℚ) → IsBoundNumber q → card_of Up (number_text q) ≡ Ok (SetsUpper (Some q))
-unfolding card_of
-up_is q h = ap (λ r. r >>= upper_card) (bound_reads q h)
-
-up_kind : IsValueKind (codes "UP") Up (λ q. SetsUpper (Some q))
-up_kind =
-    record {
-      item = λ style. kind_item style 85 80 (record { some = refl; printable = refl });
-      known = up_known;
-      shape = up_shape;
-      is = up_is;
-    }
-
-lo_known : (style : Style) (name : Name) (q : ℚ) →
-    bound_kind_of (text_at 1 (read_as style (number_fields (codes "LO") name q))) ≡ Ok Lo
-unfolding bound_kind_of
-lo_known Free name q = refl
-lo_known Fixed name q = refl
-
-lo_shape : (style : Style) (name : Name) (q : ℚ) →
-    bound_texts style Lo (read_as style (number_fields (codes "LO") name q))
-    ≡ Ok (record { set = Some (codes "BND"); column = name; value = number_text q })
-unfolding bound_texts has_shape
-lo_shape Free name q = refl
-lo_shape Fixed name q = refl
-
-lo_is : (q : ℚ) → IsBoundNumber q → card_of Lo (number_text q) ≡ Ok (SetsLower (Some q))
-unfolding card_of
-lo_is q h = ap (λ r. r >>= lower_card) (bound_reads q h)
-
-lo_kind : IsValueKind (codes "LO") Lo (λ q. SetsLower (Some q))
-lo_kind =
-    record {
-      item = λ style. kind_item style 76 79 (record { some = refl; printable = refl });
-      known = lo_known;
-      shape = lo_shape;
-      is = lo_is;
-    }
-
-fx_known : (style : Style) (name : Name) (q : ℚ) →
-    bound_kind_of (text_at 1 (read_as style (number_fields (codes "FX") name q))) ≡ Ok Fx
-unfolding bound_kind_of
-fx_known Free name q = refl
-fx_known Fixed name q = refl
-
-fx_shape : (style : Style) (name : Name) (q : ℚ) →
-    bound_texts style Fx (read_as style (number_fields (codes "FX") name q))
-    ≡ Ok (record { set = Some (codes "BND"); column = name; value = number_text q })
-unfolding bound_texts has_shape
-fx_shape Free name q = refl
-fx_shape Fixed name q = refl
-
-fx_is : (q : ℚ) → IsBoundNumber q → card_of Fx (number_text q) ≡ Ok (SetsBoth (Some q) (Some q))
-unfolding card_of
-fx_is q h = ap (λ r. r >>= both_card) (bound_reads q h)
-
-fx_kind : IsValueKind (codes "FX") Fx (λ q. SetsBoth (Some q) (Some q))
-fx_kind =
-    record {
-      item = λ style. kind_item style 70 88 (record { some = refl; printable = refl });
-      known = fx_known;
-      shape = fx_shape;
-      is = fx_is;
-    }
-
-fr_known : (style : Style) (name : Name) →
-    bound_kind_of (text_at 1 (read_as style (name_fields (codes "FR") name))) ≡ Ok Fr
-unfolding bound_kind_of
-fr_known Free name = refl
-fr_known Fixed name = refl
-
-fr_shape : (style : Style) (name : Name) →
-    bound_texts style Fr (read_as style (name_fields (codes "FR") name))
+name_shape : (style : Style) (kind : BoundKind) (name : Name) → takes_value kind ≡ false →
+    bound_texts style kind (read_as style (name_fields kind name))
     ≡ Ok (record { set = Some (codes "BND"); column = name; value = [] })
 unfolding bound_texts has_shape
-fr_shape Free name = refl
-fr_shape Fixed name = refl
+name_shape style Up name h = cc
+name_shape style Lo name h = cc
+name_shape style Fx name h = cc
+name_shape Free kind name h = refl
+name_shape Fixed kind name h = refl
 
-fr_is : card_of Fr [] ≡ Ok (SetsBoth None None)
+name_is : (kind : BoundKind) → takes_value kind ≡ false → card_of kind [] ≡ Ok (says kind 0ℚ)
 unfolding card_of
-fr_is = refl
-
-fr_kind : IsNameKind (codes "FR") Fr (SetsBoth None None)
-fr_kind =
-    record {
-      item = λ style. kind_item style 70 82 (record { some = refl; printable = refl });
-      known = fr_known;
-      shape = fr_shape;
-      is = fr_is;
-    }
-
-mi_known : (style : Style) (name : Name) →
-    bound_kind_of (text_at 1 (read_as style (name_fields (codes "MI") name))) ≡ Ok Mi
-unfolding bound_kind_of
-mi_known Free name = refl
-mi_known Fixed name = refl
-
-mi_shape : (style : Style) (name : Name) →
-    bound_texts style Mi (read_as style (name_fields (codes "MI") name))
-    ≡ Ok (record { set = Some (codes "BND"); column = name; value = [] })
-unfolding bound_texts has_shape
-mi_shape Free name = refl
-mi_shape Fixed name = refl
-
-mi_is : card_of Mi [] ≡ Ok (SetsLower None)
-unfolding card_of
-mi_is = refl
-
-mi_kind : IsNameKind (codes "MI") Mi (SetsLower None)
-mi_kind =
-    record {
-      item = λ style. kind_item style 77 73 (record { some = refl; printable = refl });
-      known = mi_known;
-      shape = mi_shape;
-      is = mi_is;
-    }
+name_is Up h = cc
+name_is Lo h = cc
+name_is Fx h = cc
+name_is kind h = refl
 
 -- ---- a card that is read where the column is
 
@@ -288,34 +215,36 @@ set_there s done c d more before b after card e change =
 
 value_goes : (style : Style) (s : State) (done : List ExactColumn) (c d : ExactColumn)
     (more : List ExactColumn) (before : List Bool) (b : Bool) (after : List Bool)
-    (set : Option (Option Name)) (word : List ℕ) (kind : BoundKind) (says : ℚ → BoundCard) (q : ℚ)
-    → s.part ≡ Some section.Bounds → AreBefore c.name done before →
-    is_used set (Some (codes "BND")) ≡ true → IsValueKind word kind says → IsItem style 8 c.name →
-    IsItem style 12 (number_text q) → IsBoundNumber q → bounded b (says q) c ≡ d
-    → Goes style (spot s done c more before b after set) (bound_card word c.name q ∷ [])
-    (spot s done d more before (b || sets_lower (says q)) after used_set)
-value_goes style s done c d more before b after set word kind says q e place used k name number h change =
+    (set : Option (Option Name)) (kind : BoundKind) (q : ℚ) → s.part ≡ Some section.Bounds →
+    AreBefore c.name done before → is_used set (Some (codes "BND")) ≡ true
+    → takes_value kind ≡ true → IsItem style 8 c.name →
+    IsItem style 12 (number_text q) → IsBoundNumber q → bounded b (says kind q) c ≡ d
+    → Goes style (spot s done c more before b after set) (bound_card (bound_word kind) c.name q ∷ [])
+    (spot s done d more before (b || sets_lower (says kind q)) after used_set)
+value_goes style s done c d more before b after set kind q e place used takes name number h change =
     bound_step style (spot s done c more before b after set)
-    (spot s done d more before (b || sets_lower (says q)) after used_set) (number_fields word c.name q) kind
-    (record { set = Some (codes "BND"); column = c.name; value = number_text q }) (length done) (says q) e
-    ((cards_are_read_back style).bounds word c.name (number_text q) (k.item style) name number) (k.known style c.name q)
-    (k.shape style c.name q) used (place_behind (λ x. x.name) c.name done c more place.absent refl) (k.is q h)
-    (set_there s done c d more before b after (says q) place.alike change)
+    (spot s done d more before (b || sets_lower (says kind q)) after used_set) (number_fields kind c.name q) kind
+    (record { set = Some (codes "BND"); column = c.name; value = number_text q }) (length done) (says kind q) e
+    ((cards_are_read_back style).bounds (bound_word kind) c.name (number_text q) (kind_item style kind) name number)
+    (value_known style kind c.name q) (value_shape style kind c.name q takes) used
+    (place_behind (λ x. x.name) c.name done c more place.absent refl) (value_is kind q takes h)
+    (set_there s done c d more before b after (says kind q) place.alike change)
 
 name_goes : (style : Style) (s : State) (done : List ExactColumn) (c d : ExactColumn)
     (more : List ExactColumn) (before : List Bool) (b : Bool) (after : List Bool)
-    (set : Option (Option Name)) (word : List ℕ) (kind : BoundKind) (says : BoundCard)
-    → s.part ≡ Some section.Bounds → AreBefore c.name done before → is_used set (Some (codes "BND")) ≡ true →
-    IsNameKind word kind says → IsItem style 8 c.name → bounded b says c ≡ d
-    → Goes style (spot s done c more before b after set) (unbound_card word c.name ∷ [])
-    (spot s done d more before (b || sets_lower says) after used_set)
-name_goes style s done c d more before b after set word kind says e place used k name change =
+    (set : Option (Option Name)) (kind : BoundKind) → s.part ≡ Some section.Bounds →
+    AreBefore c.name done before → is_used set (Some (codes "BND")) ≡ true → takes_value kind ≡ false →
+    IsItem style 8 c.name → bounded b (says kind 0ℚ) c ≡ d
+    → Goes style (spot s done c more before b after set) (unbound_card (bound_word kind) c.name ∷ [])
+    (spot s done d more before (b || sets_lower (says kind 0ℚ)) after used_set)
+name_goes style s done c d more before b after set kind e place used takes name change =
     bound_step style (spot s done c more before b after set)
-    (spot s done d more before (b || sets_lower says) after used_set) (name_fields word c.name) kind
-    (record { set = Some (codes "BND"); column = c.name; value = [] }) (length done) says e
-    ((cards_are_read_back style).without_number word c.name (k.item style) name) (k.known style c.name)
-    (k.shape style c.name) used (place_behind (λ x. x.name) c.name done c more place.absent refl) k.is
-    (set_there s done c d more before b after says place.alike change)
+    (spot s done d more before (b || sets_lower (says kind 0ℚ)) after used_set) (name_fields kind c.name) kind
+    (record { set = Some (codes "BND"); column = c.name; value = [] }) (length done) (says kind 0ℚ) e
+    ((cards_are_read_back style).without_number (bound_word kind) c.name (kind_item style kind) name)
+    (name_known style kind c.name) (name_shape style kind c.name takes) used
+    (place_behind (λ x. x.name) c.name done c more place.absent refl) (name_is kind takes)
+    (set_there s done c d more before b after (says kind 0ℚ) place.alike change)
 
 -- ---- room
 
@@ -379,7 +308,7 @@ column_bounded style s done c more before after set e place used word None None 
   true,
   used_set,
   name_goes style s done (bare_column c) (record c { lower = None; upper = None }) more before false after set
-      (codes "FR") Fr (SetsBoth None None) e place used fr_kind
+      Fr e place used refl
       (record { word = word; room = name_room style (codes "FR") c.name room }) refl,
   refl,
 )
@@ -391,11 +320,11 @@ column_bounded style s done c more before after set e place used word None (Some
     let free : ExactColumn = record c { lower = None; upper = None } in
     let first =
     name_goes style s done (bare_column c) free more before false after set
-    (codes "MI") Mi (SetsLower None) e place used mi_kind name refl in
+    Mi e place used refl name refl in
     let second =
     value_goes style s done free (record c { lower = None; upper = Some u }) more before true after used_set
-    (codes "UP") Up (λ q. SetsUpper (Some q)) u e
-    (record { absent = place.absent; alike = place.alike }) refl up_kind name (number_item style u hu.narrow back.1) hu
+    Up u e
+    (record { absent = place.absent; alike = place.alike }) refl refl name (number_item style u hu.narrow back.1) hu
     (upper_lowered free u) in (
       true,
       used_set,
@@ -426,7 +355,7 @@ column_bounded style s done c more before after set e place used word (Some l) N
           true,
           used_set,
           value_goes style s done (bare_column c) (record c { lower = Some l; upper = None }) more
-              before false after set (codes "LO") Lo (λ q. SetsLower (Some q)) l e place used lo_kind
+              before false after set Lo l e place used refl
               (record { word = word; room = r.0 }) (number_item style l hl.narrow r.1) hl refl,
           refl,
         )
@@ -449,8 +378,7 @@ column_bounded style s done c more before after set e place used word (Some l) (
         ap (λ x. record c { lower = Some x; upper = Some u }) (sym (eq_if l 0ℚ p.0)) in (
           false,
           used_set,
-          value_goes style s done (bare_column c) whole more before false after set (codes "UP") Up
-              (λ q. SetsUpper (Some q)) u e place used up_kind (record { word = word; room = r.0 })
+          value_goes style s done (bare_column c) whole more before false after set Up u e place used refl (record { word = word; room = r.0 })
               (number_item style u hu.narrow r.1) hu (upper_positive (bare_column c) u p.1 ∙ same),
           refl,
         )
@@ -464,11 +392,9 @@ column_bounded style s done c more before after set e place used word (Some l) (
         let name : IsItem style 8 c.name = record { word = word; room = front.0 } in
         let low : ExactColumn = record c { lower = Some l; upper = None } in
         let first =
-        value_goes style s done (bare_column c) low more before false after set (codes "LO") Lo
-        (λ q. SetsLower (Some q)) l e place used lo_kind name (number_item style l hl.narrow front.1) hl refl in
+        value_goes style s done (bare_column c) low more before false after set Lo l e place used refl name (number_item style l hl.narrow front.1) hl refl in
         let second =
-        value_goes style s done low whole more before true after used_set (codes "UP") Up
-        (λ q. SetsUpper (Some q)) u e (record { absent = place.absent; alike = place.alike }) refl up_kind name
+        value_goes style s done low whole more before true after used_set Up u e (record { absent = place.absent; alike = place.alike }) refl refl name
         (number_item style u hu.narrow back.1) hu (upper_lowered low u) in (
           true,
           used_set,
@@ -489,7 +415,7 @@ column_bounded style s done c more before after set e place used word (Some l) (
           true,
           used_set,
           value_goes style s done (bare_column c) whole more before false after set
-              (codes "FX") Fx (λ q. SetsBoth (Some q) (Some q)) l e place used fx_kind
+              Fx l e place used refl
               (record { word = word; room = r.0 }) (number_item style l hl.narrow r.1) hl same,
           refl,
         )
