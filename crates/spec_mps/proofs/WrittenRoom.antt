@@ -50,20 +50,43 @@ pub room_back : (style : Style) (cs ds : WrittenCards) → RoomFor style (cs ++ 
 room_back Free cs ds h = tt
 room_back Fixed cs ds h = back_narrow cs ds h
 
-columns_narrow : (m : Model) → too_wide m ≡ None → first_wide (columns_cards m) ≡ None
-unfolding too_wide cards_of
-columns_narrow m h =
+-- what a model's sections need
+pub record HasItsRoom (style : Style) (m : Model) : Type 0 where
+  pub rows : RoomFor style (rows_cards m)
+  pub columns : RoomFor style (columns_cards m)
+  pub sides : RoomFor style (sides_cards m)
+  pub ranges : RoomFor style (ranges_cards m)
+  pub bounds : RoomFor style (bounds_cards m)
+
+whole_room : (style : Style) (m : Model) → Fits style m → RoomFor style (cards_of m)
+unfolding too_wide
+whole_room Free m fits = tt
+whole_room Fixed m fits = fits
+
+pub room_of : (style : Style) (m : Model) → Fits style m → HasItsRoom style m
+unfolding cards_of
+room_of style m fits =
     let start : WrittenCards = name_card m.name ∷ sense_cards m.sense in
     let a =
-    front_narrow (start ++ rows_cards m ++ columns_cards m ++ sides_cards m ++ ranges_cards m ++ bounds_cards m)
-    (section_card (codes "ENDATA") ∷ []) h in
+    room_front style (start ++ rows_cards m ++ columns_cards m ++ sides_cards m ++ ranges_cards m ++ bounds_cards m)
+    (section_card (codes "ENDATA") ∷ []) (whole_room style m fits) in
     let b =
-    front_narrow (start ++ rows_cards m ++ columns_cards m ++ sides_cards m ++ ranges_cards m) (bounds_cards m) a in
-    let c = front_narrow (start ++ rows_cards m ++ columns_cards m ++ sides_cards m) (ranges_cards m) b in
-    let d = front_narrow (start ++ rows_cards m ++ columns_cards m) (sides_cards m) c in
-    back_narrow (start ++ rows_cards m) (columns_cards m) d
+    room_front style (start ++ rows_cards m ++ columns_cards m ++ sides_cards m ++ ranges_cards m) (bounds_cards m) a in
+    let c = room_front style (start ++ rows_cards m ++ columns_cards m ++ sides_cards m) (ranges_cards m) b in
+    let d = room_front style (start ++ rows_cards m ++ columns_cards m) (sides_cards m) c in
+    let e = room_front style (start ++ rows_cards m) (columns_cards m) d in
+    record {
+      rows = room_back style start (rows_cards m) e;
+      columns = room_back style (start ++ rows_cards m) (columns_cards m) d;
+      sides = room_back style (start ++ rows_cards m ++ columns_cards m) (sides_cards m) c;
+      ranges = room_back style (start ++ rows_cards m ++ columns_cards m ++ sides_cards m) (ranges_cards m) b;
+      bounds =
+          room_back style (start ++ rows_cards m ++ columns_cards m ++ sides_cards m ++ ranges_cards m)
+          (bounds_cards m) a;
+    }
 
 pub room_for_columns : (style : Style) (m : Model) → Fits style m → RoomFor style (flat_map (column_cards m) m.columns)
 unfolding columns_cards
-room_for_columns Free m h = tt
-room_for_columns Fixed m h = columns_narrow m h
+room_for_columns style m h =
+    room_back style (section_card (codes "COLUMNS") ∷ []) (flat_map (column_cards m) m.columns)
+    (room_of style m h).columns

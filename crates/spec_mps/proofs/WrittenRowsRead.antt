@@ -12,38 +12,25 @@ use Rattle.spec_mps.specs.declared.row_type.RowType.TheVariants.{Unlimited}
 use Rattle.spec_mps.specs.Shapes.{row_type_of}
 use Rattle.spec_mps.specs.Reader.{State, place_of}
 use Rattle.spec_mps.specs.Steps.{begun}
-use Rattle.spec_mps.specs.Written.{WrittenCards, cards_of, name_card, sense_cards, rows_cards}
-use Rattle.spec_mps.specs.Written.{columns_cards, sides_cards, ranges_cards, bounds_cards, section_card}
-use Rattle.spec_mps.specs.Written.{type_card, row_card, field_at, data_fields, first_wide, too_wide}
+use Rattle.spec_mps.specs.Written.{rows_cards}
+use Rattle.spec_mps.specs.Written.{section_card}
+use Rattle.spec_mps.specs.Written.{type_card, row_card, field_at, data_fields}
 use Rattle.spec_mps.proofs.WrittenCards.{IsItem}
 use Rattle.spec_mps.proofs.WrittenSteps.{Fits, Goes, HasNoRows, RowsAreRead, bare_row, with_rows_of}
 use Rattle.spec_mps.proofs.WrittenHeadings.{rows_step}
 use Rattle.spec_mps.proofs.WrittenRows.{AreFresh, goes_one, goes_then, type_step, objective_added, rows_go, names_of}
-use Rattle.spec_mps.proofs.WrittenNames.{row_name_word, fresh_names, front_narrow}
-use Rattle.spec_mps.proofs.WrittenNames.{back_narrow, field_narrow, RoomForRows, rows_known}
-
-rows_narrow : (m : Model) → too_wide m ≡ None → first_wide (rows_cards m) ≡ None
-unfolding too_wide cards_of
-rows_narrow m h =
-    let start : WrittenCards = name_card m.name ∷ sense_cards m.sense in
-    let a =
-    front_narrow (start ++ rows_cards m ++ columns_cards m ++ sides_cards m ++ ranges_cards m ++ bounds_cards m)
-    (section_card (codes "ENDATA") ∷ []) h in
-    let b =
-    front_narrow (start ++ rows_cards m ++ columns_cards m ++ sides_cards m ++ ranges_cards m) (bounds_cards m) a in
-    let c = front_narrow (start ++ rows_cards m ++ columns_cards m ++ sides_cards m) (ranges_cards m) b in
-    let d = front_narrow (start ++ rows_cards m ++ columns_cards m) (sides_cards m) c in
-    let e = front_narrow (start ++ rows_cards m) (columns_cards m) d in
-    back_narrow start (rows_cards m) e
+use Rattle.spec_mps.proofs.WrittenRoom.{room_of}
+use Rattle.spec_mps.proofs.WrittenNames.{row_name_word, fresh_names}
+use Rattle.spec_mps.proofs.WrittenNames.{field_narrow, RoomForRows, rows_known}
 
 -- the objective's card has room, and so have those of the rows
-room_of : (style : Style) (m : Model) → is_row_name m.objective ≡ true → Fits style m →
+room_for_rows : (style : Style) (m : Model) → is_row_name m.objective ≡ true → Fits style m →
     IsItem style 8 m.objective × RoomForRows style m.rows
 unfolding rows_cards
-room_of Free m h fits = (record { word = row_name_word m.objective h; room = tt }, tt)
-room_of Fixed m h fits =
+room_for_rows Free m h fits = (record { word = row_name_word m.objective h; room = tt }, tt)
+room_for_rows Fixed m h fits =
     let rest = flat_map data_fields (map row_card m.rows) in
-    let a = field_narrow (field_at 1 (codes "N")) (field_at 2 m.objective ∷ rest) (rows_narrow m fits) in
+    let a = field_narrow (field_at 1 (codes "N")) (field_at 2 m.objective ∷ rest) (room_of Fixed m fits).rows in
     let b = field_narrow (field_at 2 m.objective) rest a.1 in
     (record { word = row_name_word m.objective h; room = ltb-false 8 (length m.objective) b.0 }, b.1)
 
@@ -64,7 +51,7 @@ unfolding rows_cards
 rows_are_read style m kept fits s none =
     let one : State = begun s section.Rows in
     let two : State = record one { objective = Some m.objective } in
-    let room = room_of style m kept.objective fits in
+    let room = room_for_rows style m kept.objective fits in
     let heading : Goes style s (section_card (codes "ROWS") ∷ []) one =
     goes_one style s one (section_card (codes "ROWS")) (rows_step style s none.no_section) in
     let objective : Goes style one (type_card (codes "N") m.objective ∷ []) two =

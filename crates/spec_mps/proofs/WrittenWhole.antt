@@ -1,5 +1,5 @@
 -- The text that a model is written as spells that model.
-use Rattle.std.proofs.Common.{◌≡◌, ◌↔◌, ℕ, ◌+◌, None, List, [], ◌∷◌, ◌++◌, length}
+use Rattle.std.proofs.Common.{◌≡◌, ◌↔◌, ℕ, ◌+◌, false, Option, Some, None, List, [], ◌∷◌, ◌++◌, length}
 use Rattle.std.proofs.Common.{get_or, refl, sym, ap, ◌∙◌, subst, append_assoc}
 use Rattle.std.specs.Prelude.{codes}
 use Rattle.std.proofs.lemmas.List.{map-append}
@@ -9,12 +9,15 @@ use Rattle.spec_text.specs.declared.line.Line.TheVariants.{Text}
 use Rattle.spec_exact.specs.Fraction.{neg_ℚ}
 use Rattle.spec_model.specs.declared.parts.Sense.{Sense}
 use Rattle.spec_model.specs.declared.parts.Sense.TheVariants.{Min, Max}
-use Rattle.spec_model.specs.Model.{Model}
+use Rattle.spec_model.specs.Model.{Model, Name}
+use Rattle.spec_mps.specs.declared.section.Section.{Section}
+use Rattle.spec_mps.specs.declared.section.Section.TheVariants as section
+use Rattle.spec_mps.specs.declared.section.Seen.{Seen}
 use Rattle.spec_model.specs.Kept.{IsModel}
 use Rattle.spec_mps.specs.declared.style.Style.{Style}
 use Rattle.spec_mps.specs.declared.style.Style.TheVariants.{Free, Fixed}
 use Rattle.spec_mps.specs.Reader.{State, start}
-use Rattle.spec_mps.specs.Steps.{Verdict, Spelled, Spells, judge, settled}
+use Rattle.spec_mps.specs.Steps.{Verdict, Spelled, Spells, judge, settled, with_section, sense_or_min}
 use Rattle.spec_mps.specs.Written.{WrittenCards, cards_of, cards_text, name_card, sense_cards}
 use Rattle.spec_mps.specs.Written.{rows_cards, columns_cards, sides_cards, ranges_cards, bounds_cards}
 use Rattle.spec_mps.specs.Written.{section_card, side_cards, line_text, too_wide, free, fixed}
@@ -24,7 +27,7 @@ use Rattle.spec_mps.proofs.WrittenLines.{has_its_lines}
 use Rattle.spec_mps.proofs.WrittenStart.{start_is_read}
 use Rattle.spec_mps.proofs.WrittenRowsRead.{rows_are_read}
 use Rattle.spec_mps.proofs.WrittenGoes.{goes_append}
-use Rattle.spec_mps.proofs.WrittenRoom.{RoomFor, room_front, room_back}
+use Rattle.spec_mps.proofs.WrittenRoom.{room_back, room_of}
 use Rattle.spec_mps.proofs.WrittenFacts.{HasNoSides, HasNoRanges, IsWhole}
 use Rattle.spec_mps.proofs.WrittenSides.{sides_of}
 use Rattle.spec_mps.proofs.WrittenSidesRead.{sides_are_read}
@@ -34,62 +37,63 @@ use Rattle.spec_mps.proofs.WrittenShort.{cards_short, plain_line}
 
 -- ---- the states
 
-rows_first : (name : List ℕ) (sense : Sense) → HasNoRows (with_start_of name sense)
-rows_first name Min = record { no_section = refl; no_objective = refl; none_dropped = refl; no_row = refl }
-rows_first name Max = record { no_section = refl; no_objective = refl; none_dropped = refl; no_row = refl }
+-- a name and a sense alone, after some sections
+abbrev started : Option Section → Seen → Name → Option Sense → State
+started part seen name sense = record start { part = part; seen = seen; name = name; sense = sense }
+
+record IsFresh (seen : Seen) : Type 0 where
+  rows : seen.rows ≡ false
+  columns : seen.columns ≡ false
+  right_sides : seen.right_sides ≡ false
+  ranges : seen.ranges ≡ false
+  bounds : seen.bounds ≡ false
+
+-- what holds of each such state, holds of the one before ROWS
+at_start : (P : State → Type 0) (name : Name) (sense : Sense) →
+    ((part : Option Section) (seen : Seen) (o : Option Sense) → IsFresh seen → sense_or_min o ≡ sense →
+    P (started part seen name o)) → P (with_start_of name sense)
+at_start P name Min f =
+    f (Some section.Name) (with_section start.seen section.Name) None
+    (record { rows = refl; columns = refl; right_sides = refl; ranges = refl; bounds = refl }) refl
+at_start P name Max f =
+    f (Some section.Sense) (with_section (with_section start.seen section.Name) section.Sense) (Some Max)
+    (record { rows = refl; columns = refl; right_sides = refl; ranges = refl; bounds = refl }) refl
+
+rows_first : (name : Name) (sense : Sense) → HasNoRows (with_start_of name sense)
+rows_first name sense =
+    at_start HasNoRows name sense
+    (λ part seen o fresh e.
+    record { no_section = fresh.rows; no_objective = refl; none_dropped = refl; no_row = refl })
 
 columns_then : (m : Model) (sense : Sense) → HasNoColumns (with_rows_of (with_start_of m.name sense) m) m
-columns_then m Min =
+columns_then m sense =
+    at_start (λ s. HasNoColumns (with_rows_of s m) m) m.name sense (λ part seen o fresh e.
     record {
       rows_are_read = refl;
-      no_section = refl;
-      no_sides = refl;
+      no_section = fresh.columns;
+      no_sides = fresh.right_sides;
       objective = refl;
       none_dropped = refl;
       rows = refl;
       no_column = refl;
       none_open = refl;
       none_lowered = refl;
-    }
-columns_then m Max =
-    record {
-      rows_are_read = refl;
-      no_section = refl;
-      no_sides = refl;
-      objective = refl;
-      none_dropped = refl;
-      rows = refl;
-      no_column = refl;
-      none_open = refl;
-      none_lowered = refl;
-    }
+    })
 
-sides_then : (m : Model) (sense : Sense) → sense ≡ m.sense →
-    HasNoSides (with_columns_of (with_rows_of (with_start_of m.name sense) m) m) m
-sides_then m Min e =
+sides_then : (m : Model) → HasNoSides (with_columns_of (with_rows_of (with_start_of m.name m.sense) m) m) m
+sides_then m =
+    at_start (λ s. HasNoSides (with_columns_of (with_rows_of s m) m) m) m.name m.sense (λ part seen o fresh e.
     record {
       known =
           record { name = refl; sense = e; objective = refl; none_dropped = refl; may_follow = refl; none_open = refl };
-      unbounded = record { no_bounds = refl; columns = refl; none_lowered = refl };
+      unbounded = record { no_bounds = fresh.bounds; columns = refl; none_lowered = refl };
       part = refl;
-      no_ranges = refl;
+      no_ranges = fresh.ranges;
       offset = refl;
       rows = refl;
       none_paired = refl;
       no_set = refl;
-    }
-sides_then m Max e =
-    record {
-      known =
-          record { name = refl; sense = e; objective = refl; none_dropped = refl; may_follow = refl; none_open = refl };
-      unbounded = record { no_bounds = refl; columns = refl; none_lowered = refl };
-      part = refl;
-      no_ranges = refl;
-      offset = refl;
-      rows = refl;
-      none_paired = refl;
-      no_set = refl;
-    }
+    })
 
 -- ---- the cards
 
@@ -99,35 +103,6 @@ regroup a c r s = append_assoc a (c ++ r) s ∙ ap (λ l. a ++ l) (append_assoc 
 
 abbrev sides : Model → WrittenCards
 sides m = side_cards m.objective (neg_ℚ m.offset) ++ sides_of m.rows
-
--- what has room
-record HasItsRoom (style : Style) (m : Model) : Type 0 where
-  pub sides : RoomFor style (sides_cards m)
-  pub ranges : RoomFor style (ranges_cards m)
-  pub bounds : RoomFor style (bounds_cards m)
-
-whole_room : (style : Style) (m : Model) → Fits style m → RoomFor style (cards_of m)
-unfolding too_wide
-whole_room Free m fits = tt
-whole_room Fixed m fits = fits
-
-room_of : (style : Style) (m : Model) → Fits style m → HasItsRoom style m
-unfolding cards_of
-room_of style m fits =
-    let start : WrittenCards = name_card m.name ∷ sense_cards m.sense in
-    let a =
-    room_front style (start ++ rows_cards m ++ columns_cards m ++ sides_cards m ++ ranges_cards m ++ bounds_cards m)
-    (section_card (codes "ENDATA") ∷ []) (whole_room style m fits) in
-    let b =
-    room_front style (start ++ rows_cards m ++ columns_cards m ++ sides_cards m ++ ranges_cards m) (bounds_cards m) a in
-    let c = room_front style (start ++ rows_cards m ++ columns_cards m ++ sides_cards m) (ranges_cards m) b in
-    record {
-      sides = room_back style (start ++ rows_cards m ++ columns_cards m) (sides_cards m) c;
-      ranges = room_back style (start ++ rows_cards m ++ columns_cards m ++ sides_cards m) (ranges_cards m) b;
-      bounds =
-          room_back style (start ++ rows_cards m ++ columns_cards m ++ sides_cards m ++ ranges_cards m)
-          (bounds_cards m) a;
-    }
 
 -- the cards before ENDATA
 abbrev body : Model → WrittenCards
@@ -149,7 +124,7 @@ sides_goes style m kept fits columns_are_read =
     let columns = columns_are_read b (columns_then m m.sense) in
     let right =
     sides_are_read style m kept (room_back style heading (sides m) (room_of style m fits).sides) c
-    (sides_then m m.sense refl) in
+    (sides_then m) in
     let to_rows = goes_append style start a b first (rows_cards m) (start_is_read style m kept) rows in
     let to_columns = goes_append style start b c (first ++ rows_cards m) (columns_cards m ++ heading) to_rows columns in
     let to_sides =
