@@ -34,7 +34,7 @@ use Rattle.spec_mps.proofs.DigitLemmas.{length-last}
 use Rattle.spec_mps.proofs.RoundTrip.{found_place}
 use Rattle.spec_mps.proofs.WrittenNumbers.{number_word}
 use Rattle.spec_mps.proofs.WrittenWords.{is_plain, plain_text}
-use Rattle.spec_mps.proofs.WrittenSidesRead.{neg_narrow}
+use Rattle.spec_mps.proofs.NarrowNumbers.{neg_narrow}
 
 -- ---- lines
 
@@ -47,7 +47,7 @@ abbrev AreShort : Fields → Type 0
 AreShort [] = Unit {0}
 AreShort (f ∷ fs) = IsShort f.text × AreShort fs
 
-column_small : (n : ℕ) → first_column n ≤ 50
+pub column_small : (n : ℕ) → first_column n ≤ 50
 column_small n = by (n == 1) (n == 2) (n == 3) (n == 4) (n == 5)
   where
     by : (a b c d e : Bool) → cond a 2 (cond b 5 (cond c 15 (cond d 25 (cond e 40 50)))) ≤ 50
@@ -58,7 +58,7 @@ column_small n = by (n == 1) (n == 2) (n == 3) (n == 4) (n == 5)
     by false false false false true = omega arith
     by false false false false false = omega arith
 
-blanks_len : (k : ℕ) (line : List ℕ) → length (line ++ replicate k 32) ≡ length line + k
+pub blanks_len : (k : ℕ) (line : List ℕ) → length (line ++ replicate k 32) ≡ length line + k
 blanks_len k line = length-append line (replicate k 32) ∙ ap (λ m. length line + m) (length-replicate k 32)
 
 up_to : (column : ℕ) (line : List ℕ) → column ≤ 50 →
@@ -122,7 +122,7 @@ plain_line style (Data fields) h =
 
 -- ---- names
 
-name_short : (name : Name) → is_name name ≡ true → IsShort name
+pub name_short : (name : Name) → is_name name ≡ true → IsShort name
 unfolding is_name
 name_short name h =
     let p = both (nat_lt 0 (length name) && nat_le (length name) 64) (list_all is_printable name) h in
@@ -134,7 +134,7 @@ row_name_short : (name : Name) → is_row_name name ≡ true → IsShort name
 unfolding is_row_name
 row_name_short name h = name_short name (both _ _ h).0
 
-model_name_short : (name : Name) → is_model_name name ≡ true → IsShort name
+pub model_name_short : (name : Name) → is_model_name name ≡ true → IsShort name
 unfolding is_model_name
 model_name_short name h =
     let p = both (nat_le (length name) 64) (list_all is_printable name) h in

@@ -1,10 +1,9 @@
 -- The whole section RHS of a written text, after its heading.
-use Rattle.std.proofs.Common.{◌≡◌, zero, suc, ◌≤◌, Bool, true, false, cond, Some, Ok, List, []}
-use Rattle.std.proofs.Common.{◌∷◌, ◌++◌, map, ℤ, pos, negsuc, refl, sym, ap, ◌∙◌, subst, arith}
-use Rattle.std.specs.Prelude.{codes, IsTrue, unsigned_abs, neg_ℤ}
+use Rattle.std.proofs.Common.{◌≡◌, suc, Bool, true, false, cond, Some, Ok, List, []}
+use Rattle.std.proofs.Common.{◌∷◌, ◌++◌, map, refl, sym, ap, ◌∙◌, subst, arith}
+use Rattle.std.specs.Prelude.{codes, IsTrue}
 use Rattle.std.specs.List.{All}
 use Rattle.spec_exact.specs.Fraction.{ℚ, 0ℚ, neg_ℚ, eq_ℚ}
-use Rattle.spec_exact.specs.Narrow.{IsNarrow, widest}
 use Rattle.spec_exact.proofs.Same.{eq_if}
 use Rattle.spec_exact.proofs.Ruleset.{neg-neg, neg-zero}
 use Rattle.spec_model.specs.Model.{Model, ExactRow}
@@ -16,6 +15,7 @@ use Rattle.spec_mps.specs.declared.target.Place.TheVariants.{Kept}
 use Rattle.spec_mps.specs.Reader.{State}
 use Rattle.spec_mps.specs.Sides.{is_used, put_side}
 use Rattle.spec_mps.specs.Written.{number_card, side_cards}
+use Rattle.spec_mps.proofs.NarrowNumbers.{neg_narrow}
 use Rattle.spec_mps.proofs.WrittenSteps.{Goes, bare_row}
 use Rattle.spec_mps.proofs.WrittenRows.{names_of, goes_then}
 use Rattle.spec_mps.proofs.WrittenNames.{row_name_word, fresh_names}
@@ -85,15 +85,6 @@ rows_sided style m kept room s h =
     )
 
 -- ---- the objective
-
-abs_neg : (z : ℤ) → unsigned_abs (neg_ℤ z) ≡ unsigned_abs z
-abs_neg (pos zero) = refl
-abs_neg (pos (suc n)) = refl
-abs_neg (negsuc n) = refl
-
-pub neg_narrow : (q : ℚ) → IsNarrow q → IsNarrow (neg_ℚ q)
-unfolding neg_ℚ
-neg_narrow q h = record { top = subst (λ n. n ≤ widest) (sym (abs_neg q.num)) h.top; bottom = h.bottom }
 
 offset_put : (s : State) (b : ℚ) → s.paired ≡ [] →
     put_side s (Kept Objective) b ≡ Ok (record s { offset = neg_ℚ b; paired = Objective ∷ s.paired })
