@@ -11,7 +11,7 @@ use Rattle.spec_mps.specs.declared.style.Style.{Style}
 use Rattle.spec_mps.specs.declared.style.Style.TheVariants.{Free, Fixed}
 use Rattle.spec_mps.specs.Fields.{Fields, numbers_of, texts_of}
 use Rattle.spec_mps.specs.Checks.{Check}
-use Rattle.spec_mps.specs.Shapes.{look_up, bound_kind_of, bound_shapes, has_shape}
+use Rattle.spec_mps.specs.Shapes.{bound_kinds, look_up, bound_kind_of, bound_shapes, has_shape}
 use Rattle.spec_mps.specs.Bounds.{BoundTexts, takes_value, is_read, bound_texts_by, bound_texts}
 use Rattle.spec_mps.proofs.CheckSteps.{need_ok, same_ok, same_some}
 use Rattle.spec_meaning.specs.BoundCards.{kind_of, has_value, bound_texts_on}
@@ -32,9 +32,9 @@ AllSay [] = Unit {0}
 AllSay (x ∷ xs) = ((kind : BoundKind) → x.1 ≡ Ok kind → x.0 ≡ kind_word kind) × AllSay xs
 
 looked_up : (word : List ℕ) (kind : BoundKind) (found : Check BoundKind) (table : List (List ℕ × Check BoundKind)) →
-    AllSay table → look_up word table ≡ Some found → found ≡ Ok kind → word ≡ kind_word kind
-looked_up word kind found [] a h e = absurd (cc)
-looked_up word kind found (x ∷ xs) a h e = go (same word x.0) refl (looked_up word kind found xs a.1) h
+    look_up word table ≡ Some found → AllSay table → found ≡ Ok kind → word ≡ kind_word kind
+looked_up word kind found [] h a e = absurd (cc)
+looked_up word kind found (x ∷ xs) h a e = go (same word x.0) refl (λ k. looked_up word kind found xs k a.1) h
   where
     go : (b : Bool) → same word x.0 ≡ b → (look_up word xs ≡ Some found → found ≡ Ok kind → word ≡ kind_word kind) →
         cond b (Some x.1) (look_up word xs) ≡ Some found → word ≡ kind_word kind
@@ -45,25 +45,11 @@ word_of : (kind : BoundKind) (other : BoundKind) → (let r : Check BoundKind = 
     kind_word kind ≡ kind_word other
 word_of kind other h = ap kind_word (same_ok kind other h)
 
-kinds : List (List ℕ × Check BoundKind)
-kinds =
-    (codes "UP", Ok Up)
-    ∷ (codes "LO", Ok Lo)
-    ∷ (codes "FX", Ok Fx)
-    ∷ (codes "FR", Ok Fr)
-    ∷ (codes "MI", Ok Mi)
-    ∷ (codes "PL", Ok Pl)
-    ∷ (codes "BV", Err code.Integer)
-    ∷ (codes "LI", Err code.Integer)
-    ∷ (codes "UI", Err code.Integer)
-    ∷ (codes "SC", Err code.SemiContinuous)
-    ∷ []
-
 word_is : (word : List ℕ) (kind : BoundKind) → bound_kind_of word ≡ Ok kind → word ≡ kind_word kind
-unfolding bound_kind_of kinds
+unfolding bound_kind_of
 word_is word kind h =
-    let a = need_ok (look_up word kinds) code.BoundKind (λ k. k) kind h in
-    looked_up word kind a.0 kinds (
+    let a = need_ok (look_up word bound_kinds) code.BoundKind (λ k. k) kind h in
+    looked_up word kind a.0 bound_kinds a.1 (
       word_of Up,
       (
         word_of Lo,
@@ -78,7 +64,7 @@ word_is word kind h =
           ),
         ),
       ),
-    ) a.1 a.2
+    ) a.2
 
 kind_of_word : (kind : BoundKind) → kind_of (kind_word kind) ≡ Some kind
 unfolding kind_of

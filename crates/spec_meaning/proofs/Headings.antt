@@ -1,6 +1,6 @@
 -- Lines that begin sections, and the order of these.
 use Rattle.std.proofs.Common.{sym, ◌≡◌, ℕ, Bool, true, false, not, ◌&&◌, ◌||◌, cond, Option, Some}
-use Rattle.std.proofs.Common.{None, option_map, List, [], ◌∷◌, ◌++◌, refl, ap, ◌∙◌, append-nil, codes}
+use Rattle.std.proofs.Common.{None, option_map, List, [], ◌∷◌, ◌++◌, refl, ap, ◌∙◌, append-nil}
 use Rattle.std.specs.List.{find}
 use Rattle.spec_text.specs.Words.{same}
 use Rattle.spec_text.proofs.WordLemmas.{same_true}
@@ -10,7 +10,7 @@ use Rattle.spec_mps.specs.declared.section.Section.{Section}
 use Rattle.spec_mps.specs.declared.section.Section.TheVariants as section
 use Rattle.spec_mps.specs.Cards.{is_skipped, begins_with_blank}
 use Rattle.spec_mps.specs.Fields.{Fields, word_fields, text_at}
-use Rattle.spec_mps.specs.Shapes.{look_up, section_of}
+use Rattle.spec_mps.specs.Shapes.{look_up, section_words, section_of}
 use Rattle.spec_mps.proofs.CheckSteps.{same_some}
 use Rattle.spec_meaning.specs.TextCards.{Lines, bytes_of, section_word, is_heading, begins}
 use Rattle.spec_meaning.proofs.SoFar.{before, behind, is_section, or_else, titled, lines_by}
@@ -22,49 +22,19 @@ abbrev AllSay : List (List ℕ × Section) → Type 0
 AllSay [] = Unit {0}
 AllSay (x ∷ xs) = (x.0 ≡ section_word x.1) × AllSay xs
 
-looked_up : (word : List ℕ) (part : Section) (table : List (List ℕ × Section)) → AllSay table →
-    look_up word table ≡ Some part → word ≡ section_word part
-looked_up word part [] a h = absurd (cc)
-looked_up word part (x ∷ xs) a h = go (same word x.0) refl (looked_up word part xs a.1) h
+looked_up : (word : List ℕ) (part : Section) (table : List (List ℕ × Section)) → look_up word table ≡ Some part →
+    AllSay table → word ≡ section_word part
+looked_up word part [] h a = absurd (cc)
+looked_up word part (x ∷ xs) h a = go (same word x.0) refl (λ k. looked_up word part xs k a.1) h
   where
     go : (b : Bool) → same word x.0 ≡ b → (look_up word xs ≡ Some part → word ≡ section_word part) →
         cond b (Some x.1) (look_up word xs) ≡ Some part → word ≡ section_word part
     go true e f k = same_true word x.0 e ∙ a.0 ∙ ap section_word (same_some x.1 part k)
     go false e f k = f k
 
-abbrev sections : List (List ℕ × Section)
-sections =
-    (codes "NAME", section.Name)
-    ∷ (codes "OBJSENSE", section.Sense)
-    ∷ (codes "ROWS", section.Rows)
-    ∷ (codes "COLUMNS", section.Columns)
-    ∷ (codes "RHS", section.RightSides)
-    ∷ (codes "RANGES", section.Ranges)
-    ∷ (codes "BOUNDS", section.Bounds)
-    ∷ (codes "ENDATA", section.End)
-    ∷ []
-
 pub word_is : (word : List ℕ) (part : Section) → section_of word ≡ Some part → word ≡ section_word part
 unfolding section_of
-word_is word part h = looked_up word part sections (refl, (refl, (refl, (refl, (refl, (refl, (refl, (refl, tt)))))))) h
-
-words_differ : (p q : Section) → same (section_word p) (section_word q) ≡ is_section (Some p) q
-words_differ section.Name section.Name = refl
-words_differ section.Name q = refl
-words_differ section.Sense section.Name = refl
-words_differ section.Sense q = refl
-words_differ section.Rows section.Name = refl
-words_differ section.Rows q = refl
-words_differ section.Columns section.Name = refl
-words_differ section.Columns q = refl
-words_differ section.RightSides section.Name = refl
-words_differ section.RightSides q = refl
-words_differ section.Ranges section.Name = refl
-words_differ section.Ranges q = refl
-words_differ section.Bounds section.Name = refl
-words_differ section.Bounds q = refl
-words_differ section.End section.Name = refl
-words_differ section.End q = refl
+word_is word part h = looked_up word part section_words h (refl, (refl, (refl, (refl, (refl, (refl, (refl, (refl, tt))))))))
 
 -- ---- a line that begins a section
 
@@ -81,8 +51,7 @@ heading_is l part e f h =
       heading = g;
       begins_one = λ q.
           ap (λ t. t && same (text_at 1 (word_fields (bytes_of l))) (section_word q)) g
-          ∙ ap (λ word. same word (section_word q)) (word_is (text_at 1 (word_fields (bytes_of l))) part h)
-          ∙ words_differ part q;
+          ∙ ap (λ word. same word (section_word q)) (word_is (text_at 1 (word_fields (bytes_of l))) part h);
     }
 
 -- not ENDATA

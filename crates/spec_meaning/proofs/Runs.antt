@@ -1,6 +1,6 @@
 -- What holds of each state and the cards so far, holds of the last one and all cards of the text.
 use Rattle.std.proofs.Common.{◌≡◌, ℕ, ◌+◌, Bool, true, false, not, ◌&&◌, Option, Some, None, Ok, Err, List}
-use Rattle.std.proofs.Common.{[], ◌∷◌, ◌++◌, refl, sym, ap, ◌∙◌, subst, subst₂, option_map, is_none, is_some}
+use Rattle.std.proofs.Common.{[], ◌∷◌, ◌++◌, refl, sym, ap, ◌∙◌, subst, subst₂, option_map, is_some}
 use Rattle.std.specs.List.{find}
 use Rattle.spec_text.specs.declared.line.Line.{Line}
 use Rattle.spec_model.specs.Model.{Model, Name}
@@ -12,17 +12,19 @@ use Rattle.spec_mps.specs.declared.section.Section.TheVariants as section
 use Rattle.spec_mps.specs.declared.section.Seen.{Seen}
 use Rattle.spec_mps.specs.Cards.{is_skipped, begins_with_blank}
 use Rattle.spec_mps.specs.Fields.{Fields, word_fields, text_at}
-use Rattle.spec_mps.specs.Shapes.{section_of, sense_of}
+use Rattle.spec_mps.specs.Shapes.{section_of}
 use Rattle.spec_mps.specs.Reader.{State, start}
 use Rattle.spec_mps.specs.Steps.{take_sense, has_begun, with_section, may_follow, begun, sense_beside}
 use Rattle.spec_mps.specs.Steps.{headed, Progress, More, Done, Outcome, more, model_by, finished}
 use Rattle.spec_mps.specs.Steps.{begin, section_card, data_card, step, Spelled, settled, judge, Spells}
 use Rattle.spec_mps.proofs.Steps.{both, negated}
 use Rattle.spec_mps.proofs.CheckSteps.{step_ok, must_ok, need_ok, same_ok}
+use Rattle.spec_mps.proofs.CardsDid.{sense_did}
 use Rattle.spec_meaning.specs.TextCards.{Lines, bytes_of, is_heading, begins, lines_up_to_end}
 use Rattle.spec_meaning.specs.TextCards.{lines_in, fields_in, cards_in, title_of}
 use Rattle.spec_meaning.proofs.Frames.{Leads, card_leads}
-use Rattle.spec_meaning.proofs.SoFar.{before, behind, before_is, behind_is, is_section, SoFar, nothing}
+use Rattle.spec_meaning.proofs.SoFar.{before, behind, before_is, behind_is, is_section, same_section, SoFar}
+use Rattle.spec_meaning.proofs.SoFar.{nothing}
 use Rattle.spec_meaning.proofs.SoFar.{with_card, or_else, with_title, cards_to_come, title_to_come, cards_of}
 use Rattle.spec_meaning.proofs.SoFar.{whole, skipped_plain, data_plain, title_plain, cards_skip, cards_data}
 use Rattle.spec_meaning.proofs.Headings.{IsHeading, heading_is, cards_begin, title_begin, cards_end, title_end}
@@ -65,24 +67,14 @@ pub record Ends (Inv : SoFar → State → Type 0) (c : SoFar) (m : Model) : Typ
 
 pub stays : (part : Section) (s t : State) → Leads part s t → (t.part ≡ s.part) × (t.seen ≡ s.seen)
 stays section.Name s t h = (ap (λ (u : State). u.part) h, ap (λ (u : State). u.seen) h)
-stays section.Sense s t h = (ap (λ (u : State). u.part) h, ap (λ (u : State). u.seen) h)
-stays section.Rows s t h = (ap (λ (u : State). u.part) h, ap (λ (u : State). u.seen) h)
-stays section.Columns s t h = (ap (λ (u : State). u.part) h, ap (λ (u : State). u.seen) h)
-stays section.RightSides s t h = (ap (λ (u : State). u.part) h, ap (λ (u : State). u.seen) h)
-stays section.Ranges s t h = (ap (λ (u : State). u.part) h, ap (λ (u : State). u.seen) h)
-stays section.Bounds s t h = (ap (λ (u : State). u.part) h, ap (λ (u : State). u.seen) h)
-stays section.End s t h = (ap (λ (u : State). u.part) h, ap (λ (u : State). u.seen) h)
+stays part s t h = (ap (λ (u : State). u.part) h, ap (λ (u : State). u.seen) h)
 
 -- but for the name and the sense
 abbrev pub untitled : State → State
 untitled s = record s { name = []; sense = None }
 
 took : (s : State) (word : List ℕ) (t : State) → take_sense s word ≡ Ok t → untitled t ≡ untitled s
-unfolding take_sense
-took s word t h =
-    let a = need_ok (sense_of word) code.CardShape _ t h in
-    let b = must_ok (is_none s.sense) code.CardShape _ t a.2 in
-    subst (λ u. untitled u ≡ untitled s) (same_ok _ t b.1) refl
+took s word t h = subst (λ u. untitled u ≡ untitled s) (sense_did s word t h).3 refl
 
 took_beside : (s : State) (word : List ℕ) (t : State) → sense_beside s word ≡ Ok t → untitled t ≡ untitled s
 took_beside s [] t h = subst (λ u. untitled u ≡ untitled s) (same_ok s t h) refl
@@ -138,100 +130,10 @@ whole_data c style here seen l lines h b =
       bounds = card seen.bounds section.Bounds c.bounds i;
     }
 
--- none of what a section begins with has begun
-record IsNew (part : Section) (seen : Seen) : Type 0 where
-  name : is_section (Some part) section.Name ≡ true → seen.name ≡ false
-  sense : is_section (Some part) section.Sense ≡ true → seen.sense ≡ false
-  rows : is_section (Some part) section.Rows ≡ true → seen.rows ≡ false
-  columns : is_section (Some part) section.Columns ≡ true → seen.columns ≡ false
-  right_sides : is_section (Some part) section.RightSides ≡ true → seen.right_sides ≡ false
-  ranges : is_section (Some part) section.Ranges ≡ true → seen.ranges ≡ false
-  bounds : is_section (Some part) section.Bounds ≡ true → seen.bounds ≡ false
-
-never : {A : Type 0} → false ≡ true → A
-never h = absurd (cc)
-
-is_new : (part : Section) (seen : Seen) → has_begun seen part ≡ false → IsNew part seen
-is_new section.Name seen h =
-    record {
-      name = λ e. h;
-      sense = never;
-      rows = never;
-      columns = never;
-      right_sides = never;
-      ranges = never;
-      bounds = never;
-    }
-is_new section.Sense seen h =
-    record {
-      name = never;
-      sense = λ e. h;
-      rows = never;
-      columns = never;
-      right_sides = never;
-      ranges = never;
-      bounds = never;
-    }
-is_new section.Rows seen h =
-    record {
-      name = never;
-      sense = never;
-      rows = λ e. h;
-      columns = never;
-      right_sides = never;
-      ranges = never;
-      bounds = never;
-    }
-is_new section.Columns seen h =
-    record {
-      name = never;
-      sense = never;
-      rows = never;
-      columns = λ e. h;
-      right_sides = never;
-      ranges = never;
-      bounds = never;
-    }
-is_new section.RightSides seen h =
-    record {
-      name = never;
-      sense = never;
-      rows = never;
-      columns = never;
-      right_sides = λ e. h;
-      ranges = never;
-      bounds = never;
-    }
-is_new section.Ranges seen h =
-    record {
-      name = never;
-      sense = never;
-      rows = never;
-      columns = never;
-      right_sides = never;
-      ranges = λ e. h;
-      bounds = never;
-    }
-is_new section.Bounds seen h =
-    record {
-      name = never;
-      sense = never;
-      rows = never;
-      columns = never;
-      right_sides = never;
-      ranges = never;
-      bounds = λ e. h;
-    }
-is_new section.End seen h =
-    record {
-      name = never;
-      sense = never;
-      rows = never;
-      columns = never;
-      right_sides = never;
-      ranges = never;
-      bounds = never;
-    }
+-- a section that has not begun, by its name or as this one
+is_new : (part q : Section) (seen : Seen) → has_begun seen part ≡ false → is_section (Some part) q ≡ true →
+    has_begun seen q ≡ false
+is_new part q seen h e = subst (λ p. has_begun seen p ≡ false) (same_section part q e) h
 
 whole_heading : (c : SoFar) (style : Style) (here : Option Section)
     (part : Section) (seen : Seen) (l : Line (List ℕ)) (lines : Lines) →
@@ -239,26 +141,26 @@ whole_heading : (c : SoFar) (style : Style) (here : Option Section)
     whole (with_title part (word_fields (bytes_of l)) c) style (Some part) (with_section seen part) lines
     ≡ whole c style here seen (l ∷ lines)
 whole_heading c style here part seen l lines h e new o =
-    let n = is_new part seen new in
+    let n = λ (q : Section). is_new part q seen new in
     ap (λ later. whole (with_title part (word_fields (bytes_of l)) c) style (Some part) later lines)
     (one_more seen part)
     ∙ λ i.
     record {
-      name_title = sym (title_begin seen.name part section.Name l lines c.name_title h e n.name) i;
-      sense_title = sym (title_begin seen.sense part section.Sense l lines c.sense_title h e n.sense) i;
+      name_title = sym (title_begin seen.name part section.Name l lines c.name_title h e (n section.Name)) i;
+      sense_title = sym (title_begin seen.sense part section.Sense l lines c.sense_title h e (n section.Sense)) i;
       senses =
-          c.senses ++ sym (cards_begin style here seen.sense part section.Sense l lines h e o.told.senses n.sense) i;
-      rows = c.rows ++ sym (cards_begin style here seen.rows part section.Rows l lines h e o.told.rows n.rows) i;
+          c.senses ++ sym (cards_begin style here seen.sense part section.Sense l lines h e o.told.senses (n section.Sense)) i;
+      rows = c.rows ++ sym (cards_begin style here seen.rows part section.Rows l lines h e o.told.rows (n section.Rows)) i;
       columns =
           c.columns
-          ++ sym (cards_begin style here seen.columns part section.Columns l lines h e o.told.columns n.columns) i;
+          ++ sym (cards_begin style here seen.columns part section.Columns l lines h e o.told.columns (n section.Columns)) i;
       right_sides =
           c.right_sides ++ sym (cards_begin style here seen.right_sides part
-          section.RightSides l lines h e o.told.right_sides n.right_sides) i;
+          section.RightSides l lines h e o.told.right_sides (n section.RightSides)) i;
       ranges =
-          c.ranges ++ sym (cards_begin style here seen.ranges part section.Ranges l lines h e o.told.ranges n.ranges) i;
+          c.ranges ++ sym (cards_begin style here seen.ranges part section.Ranges l lines h e o.told.ranges (n section.Ranges)) i;
       bounds =
-          c.bounds ++ sym (cards_begin style here seen.bounds part section.Bounds l lines h e o.told.bounds n.bounds) i;
+          c.bounds ++ sym (cards_begin style here seen.bounds part section.Bounds l lines h e o.told.bounds (n section.Bounds)) i;
     }
 
 whole_end : (c : SoFar) (style : Style) (here : Option Section) (seen : Seen) (l : Line (List ℕ)) (lines : Lines) →

@@ -1,17 +1,19 @@
 -- The cards of a text so far, and those that are still to come.
-use Rattle.std.proofs.Common.{◌≡◌, ℕ, ◌+◌, Bool, true, false, not, ◌&&◌, cond, eqb, eqb→eq}
+use Rattle.std.proofs.Common.{◌≡◌, ℕ, ◌+◌, Bool, true, false, not, ◌&&◌, cond}
 use Rattle.std.proofs.Common.{Option, Some, None, option_map, List, [], ◌∷◌, ◌++◌, map, take, drop}
-use Rattle.std.proofs.Common.{refl, sym, ap, ◌∙◌, subst, append_assoc, add-one, add_comm, T}
+use Rattle.std.proofs.Common.{refl, sym, ap, ◌∙◌, append_assoc, add-one, add_comm}
 use Rattle.std.specs.List.{filter, find, before_first, after_first, position_or_len}
 use Rattle.spec_text.specs.Words.{same}
+use Rattle.spec_text.proofs.WordLemmas.{same_true}
 use Rattle.spec_text.specs.declared.line.Line.{Line}
 use Rattle.spec_mps.specs.declared.style.Style.{Style}
-use Rattle.spec_mps.specs.declared.style.Style.TheVariants.{Free, Fixed}
 use Rattle.spec_mps.specs.declared.section.Section.{Section}
 use Rattle.spec_mps.specs.declared.section.Section.TheVariants as section
 use Rattle.spec_mps.specs.declared.section.Seen.{Seen}
 use Rattle.spec_mps.specs.Cards.{is_skipped, begins_with_blank}
-use Rattle.spec_mps.specs.Fields.{Fields, word_fields, column_fields, text_at}
+use Rattle.spec_mps.specs.Fields.{Fields, word_fields, text_at}
+use Rattle.spec_mps.specs.Shapes.{section_of}
+use Rattle.spec_mps.proofs.CheckSteps.{same_some}
 use Rattle.spec_meaning.specs.TextCards.{Lines, bytes_of, section_word, is_heading, begins, fields_in}
 
 -- ---- the elements before and after the first that passes a test
@@ -42,39 +44,25 @@ pub behind_is : {A : Type 0} (test : A → Bool) (xs : List A) → after_first t
 behind_is test [] = refl
 behind_is test (x ∷ xs) = drop_more (test x) (position_or_len test xs) x xs (behind test xs) (behind_is test xs)
 
--- ---- sections by their numbers
-
-abbrev pub section_number : Section → ℕ
-section_number section.Name = 0
-section_number section.Sense = 1
-section_number section.Rows = 2
-section_number section.Columns = 3
-section_number section.RightSides = 4
-section_number section.Ranges = 5
-section_number section.Bounds = 6
-section_number section.End = 7
+-- ---- sections by their words
 
 abbrev pub is_section : Option Section → Section → Bool
 is_section None part = false
-is_section (Some here) part = eqb (section_number here) (section_number part)
+is_section (Some here) part = same (section_word here) (section_word part)
 
-abbrev fields_by : Style → Bool → List ℕ → Fields
-fields_by Free sense bytes = word_fields bytes
-fields_by Fixed true bytes = word_fields bytes
-fields_by Fixed false bytes = column_fields bytes
+section_back : (part : Section) → section_of (section_word part) ≡ Some part
+unfolding section_of
+section_back section.Name = refl
+section_back part = refl
 
-fields_as : (style : Style) (part : Section) (bytes : List ℕ) →
-    fields_in style part bytes ≡ fields_by style (eqb (section_number part) 1) bytes
-fields_as Free part bytes = refl
-fields_as Fixed section.Sense bytes = refl
-fields_as Fixed part bytes = refl
+pub same_section : (p q : Section) → is_section (Some p) q ≡ true → p ≡ q
+same_section p q h =
+    same_some p q
+    (sym (section_back p) ∙ ap section_of (same_true (section_word p) (section_word q) h) ∙ section_back q)
 
 fields_same : (style : Style) (p q : Section) (bytes : List ℕ) → is_section (Some p) q ≡ true →
     fields_in style p bytes ≡ fields_in style q bytes
-fields_same style p q bytes h =
-    fields_as style p bytes
-    ∙ ap (λ n. fields_by style (eqb n 1) bytes) (eqb→eq (section_number p) (section_number q) (subst T (sym h) tt))
-    ∙ sym (fields_as style q bytes)
+fields_same style p q bytes h = ap (λ part. fields_in style part bytes) (same_section p q h)
 
 -- ---- the cards so far
 

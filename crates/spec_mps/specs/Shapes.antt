@@ -24,10 +24,10 @@ abbrev pub look_up : {A : Type 0} → List ℕ → List (List ℕ × A) → Opti
 look_up word [] = None
 look_up word (line ∷ lines) = if same word line.0 then Some line.1 else look_up word lines
 
-unfoldable pub section_of : List ℕ → Option Section
-section_of word =
-    look_up word
-    ((codes "NAME", section.Name)
+-- the words that begin sections
+abbrev pub section_words : List (List ℕ × Section)
+section_words =
+    (codes "NAME", section.Name)
     ∷ (codes "OBJSENSE", section.Sense)
     ∷ (codes "ROWS", section.Rows)
     ∷ (codes "COLUMNS", section.Columns)
@@ -35,7 +35,10 @@ section_of word =
     ∷ (codes "RANGES", section.Ranges)
     ∷ (codes "BOUNDS", section.Bounds)
     ∷ (codes "ENDATA", section.End)
-    ∷ [])
+    ∷ []
+
+unfoldable pub section_of : List ℕ → Option Section
+section_of word = look_up word section_words
 
 unfoldable pub sense_of : List ℕ → Option Sense
 sense_of word =
@@ -46,11 +49,10 @@ row_type_of word =
     look_up word
     ((codes "N", Unlimited) ∷ (codes "L", Limited L) ∷ (codes "G", Limited G) ∷ (codes "E", Limited E) ∷ [])
 
--- a kind that is read, or why it is not
-unfoldable pub bound_kind_of : List ℕ → Check BoundKind
-bound_kind_of word =
-    need (look_up word
-    ((codes "UP", Ok Up)
+-- kinds that are read, and why others are not
+abbrev pub bound_kinds : List (List ℕ × Check BoundKind)
+bound_kinds =
+    (codes "UP", Ok Up)
     ∷ (codes "LO", Ok Lo)
     ∷ (codes "FX", Ok Fx)
     ∷ (codes "FR", Ok Fr)
@@ -60,7 +62,10 @@ bound_kind_of word =
     ∷ (codes "LI", Err code.Integer)
     ∷ (codes "UI", Err code.Integer)
     ∷ (codes "SC", Err code.SemiContinuous)
-    ∷ [])) code.BoundKind >>= λ kind. kind
+    ∷ []
+
+unfoldable pub bound_kind_of : List ℕ → Check BoundKind
+bound_kind_of word = need (look_up word bound_kinds) code.BoundKind >>= λ kind. kind
 
 -- ---- shapes: lists of the numbers of a card's fields
 
