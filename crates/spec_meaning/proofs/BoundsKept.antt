@@ -20,8 +20,8 @@ use Rattle.spec_mps.specs.Bounds.{BoundCard, BoundTexts, bounded, sets_lower, wi
 use Rattle.spec_mps.proofs.CheckSteps.{same_some}
 use Rattle.spec_meaning.specs.NumberCards.{is_same_set}
 use Rattle.spec_meaning.specs.BoundCards.{kind_of, bound_by, bound_on, used_bounds, bounds_of_column}
-use Rattle.spec_meaning.proofs.Frames.{changed_unseen, BoundDid, UsedBound, SkippedBound}
-use Rattle.spec_meaning.proofs.Frames.{BoundsDid, bounds_did, bounded_name}
+use Rattle.spec_mps.proofs.CardsDid.{BoundDid, UsedBound, SkippedBound, BoundsDid, bounds_did}
+use Rattle.spec_meaning.proofs.Frames.{changed_unseen, bounded_name}
 use Rattle.spec_meaning.proofs.SoFar.{is_section}
 use Rattle.spec_meaning.proofs.Order.{not_both}
 use Rattle.spec_meaning.proofs.SetsKept.{same_set_itself, same_set_true, same_as}

@@ -29,7 +29,8 @@ use Rattle.spec_mps.proofs.CheckSteps.{must_ok, same_ok}
 use Rattle.spec_mps.proofs.SpelledKept.{spelled_kept}
 use Rattle.spec_meaning.specs.TextCards.{Lines, cards_in}
 use Rattle.spec_meaning.specs.BoundCards.{bounds_of_column, upper_of, lower_of}
-use Rattle.spec_meaning.proofs.Frames.{Leads, card_leads, Opens, Same, New, columns_did, column_pairs_keep}
+use Rattle.spec_mps.proofs.CardsDid.{pairs_keep, column_puts, Opens, Same, New, columns_did}
+use Rattle.spec_meaning.proofs.Frames.{Leads, card_leads}
 use Rattle.spec_meaning.proofs.SoFar.{is_section, SoFar, with_card}
 use Rattle.spec_meaning.proofs.Order.{IsOrdered, not_both}
 use Rattle.spec_meaning.proofs.Runs.{IsKept, spelled_by, stays, headed_leads}
@@ -97,7 +98,7 @@ unset_push (b ∷ lowered) (suc j) h = unset_push lowered j (λ i. h (suc i))
 opens_new : (s : State) (name : Name) (t : State) → Opens s name t → AreNew (whole_columns s) s.lowered →
     AreNew (whole_columns t) t.lowered
 opens_new s name t (Same known same) k = subst (λ (u : State). AreNew (whole_columns u) u.lowered) same k
-opens_new s name t (New other free new) k =
+opens_new s name t (New other free few new) k =
     subst (λ (u : State). AreNew (whole_columns u) u.lowered) new
     (record {
       bounds = All-push IsNew (whole_columns s) (new_column name) k.bounds (refl, refl);
@@ -111,57 +112,20 @@ columns_new : (style : Style) (s : State) (card : Fields) (t : State) → column
     AreNew (whole_columns s) s.lowered → AreNew (whole_columns t) t.lowered
 columns_new style s card t h k =
     let d = columns_did style s card t h in
-    column_pairs_keep (λ done u. AreNew (whole_columns u) u.lowered)
-    (λ done u pair place v w p e n. enter_new u place v w e n)
+    pairs_keep enter _ column_puts (λ done u. AreNew (whole_columns u) u.lowered)
+    (λ done u pair w p n. enter_new u p.place p.value w p.did n)
     (pairs_of d.more) [] d.between t d.pairs (opens_new s d.name d.between d.opens k)
 
 -- ---- cards of other sections
 
-record BoundsStay (s t : State) : Type 0 where
-  columns : t.columns ≡ s.columns
-  column : t.column ≡ s.column
-  lowered : t.lowered ≡ s.lowered
+abbrev bounds_view : State → List ExactColumn × Option ExactColumn × List Bool
+bounds_view s = (s.columns, s.column, s.lowered)
 
 bounds_stay : (part : Section) (s t : State) → is_section (Some part) section.Columns ≡ false →
-    is_section (Some part) section.Bounds ≡ false → Leads part s t → BoundsStay s t
+    is_section (Some part) section.Bounds ≡ false → Leads part s t → bounds_view t ≡ bounds_view s
 bounds_stay section.Columns s t e f h = absurd (cc)
 bounds_stay section.Bounds s t e f h = absurd (cc)
-bounds_stay section.Name s t e f h =
-    record {
-      columns = ap (λ (u : State). u.columns) h;
-      column = ap (λ (u : State). u.column) h;
-      lowered = ap (λ (u : State). u.lowered) h;
-    }
-bounds_stay section.Sense s t e f h =
-    record {
-      columns = ap (λ (u : State). u.columns) h;
-      column = ap (λ (u : State). u.column) h;
-      lowered = ap (λ (u : State). u.lowered) h;
-    }
-bounds_stay section.Rows s t e f h =
-    record {
-      columns = ap (λ (u : State). u.columns) h;
-      column = ap (λ (u : State). u.column) h;
-      lowered = ap (λ (u : State). u.lowered) h;
-    }
-bounds_stay section.RightSides s t e f h =
-    record {
-      columns = ap (λ (u : State). u.columns) h;
-      column = ap (λ (u : State). u.column) h;
-      lowered = ap (λ (u : State). u.lowered) h;
-    }
-bounds_stay section.Ranges s t e f h =
-    record {
-      columns = ap (λ (u : State). u.columns) h;
-      column = ap (λ (u : State). u.column) h;
-      lowered = ap (λ (u : State). u.lowered) h;
-    }
-bounds_stay section.End s t e f h =
-    record {
-      columns = ap (λ (u : State). u.columns) h;
-      column = ap (λ (u : State). u.column) h;
-      lowered = ap (λ (u : State). u.lowered) h;
-    }
+bounds_stay part s t e f h = ap bounds_view h
 
 bounds_same : (style : Style) (cards : List Fields) (s t : State) → (t.seen.bounds ≡ false → s.seen.bounds ≡ false) →
     whole_columns t ≡ whole_columns s → t.lowered ≡ s.lowered →
@@ -199,7 +163,7 @@ bounds_at_card style c s t part card o here h columns k =
     let st = stays part s t leads in
     let b = bounds_stay part s t refl refl leads in
     bounds_same style c.bounds s t (λ f. sym (ap (λ (x : Seen). x.bounds) st.1) ∙ f)
-    (λ i. columns_with (b.columns i) (b.column i)) b.lowered
+    (λ i. columns_with (b i).0 (b i).1) (λ i. (b i).2)
     (λ f. not_both (is_section t.part section.Bounds) f (ap (λ p. is_section p section.Bounds) (st.0 ∙ here))) k
 
 -- ---- sections that begin

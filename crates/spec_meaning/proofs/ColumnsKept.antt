@@ -26,8 +26,7 @@ use Rattle.spec_mps.proofs.Names.{none_pass}
 use Rattle.spec_mps.proofs.CheckSteps.{step_ok, must_ok, same_ok}
 use Rattle.spec_meaning.specs.NumberCards.{Pairs, IsTheNumber, texts_for}
 use Rattle.spec_meaning.specs.ColumnCards.{column_on, numbers_on, named_columns, pairs_of_column}
-use Rattle.spec_meaning.proofs.Frames as frames
-use Rattle.spec_meaning.proofs.Frames.{Opens, Same, New, ColumnsDid, columns_did, column_pairs_keep}
+use Rattle.spec_mps.proofs.CardsDid.{PairDid, pairs_keep, column_puts, Opens, Same, New, columns_did}
 use Rattle.spec_meaning.proofs.SoFar.{is_section}
 use Rattle.spec_meaning.proofs.Order.{not_both}
 use Rattle.spec_meaning.proofs.RowViews.{RowView, row_view, place_in, place_by_view}
@@ -126,13 +125,15 @@ record IsReading (view : RowView) (old : Pairs) (name : Name)
   non_zero : AreNonZero column.entries
 
 one_pair : (view : RowView) (old : Pairs) (name : Name) (columns : List ExactColumn)
-    (done : Pairs) (s : State) (pair : List ℕ × List ℕ) (place : Place) (v : ℚ) (t : State) →
-    frames.Pairs s pair place v → enter s place v ≡ Ok t → IsReading view old name columns done s →
-    IsReading view old name columns (done ++ pair ∷ []) t
+    (done : Pairs) (s : State) (pair : List ℕ × List ℕ) (t : State) → PairDid enter s pair t →
+    IsReading view old name columns done s → IsReading view old name columns (done ++ pair ∷ []) t
 unfolding enter
-one_pair view old name columns done s pair place v t p h k = by place h at
+one_pair view old name columns done s pair t p k = by p.place p.did at
   where
-    at : place_in view pair.0 ≡ Some place
+    v : ℚ
+    v = p.value
+
+    at : place_in view pair.0 ≡ Some p.place
     at = ap (λ w. place_in w pair.0) (sym k.tells.view_is) ∙ sym (place_by_view s pair.0) ∙ p.place_is
 
     push : (place : Place) (u : State) → place_in view pair.0 ≡ Some place → Put ℚ open_at s place v u →
@@ -308,7 +309,7 @@ opens : (cards : List Fields) (card : Fields) (s u : State) → Opens s (column_
     IsOpened (row_view s) cards card u
 opens cards card s u (Same known same) k =
     subst (IsOpened (row_view s) cards card) same (opened_again cards card s s.column refl known k.last k)
-opens cards card s u (New other free new) k =
+opens cards card s u (New other free few new) k =
     subst (IsOpened (row_view s) cards card) new (opened_new cards card s (negated _ free) k)
 
 -- ---- a card of COLUMNS
@@ -378,7 +379,7 @@ columns_card_says style cards card s t seen here h k =
     let opened = opens cards card s d.between (subst (λ n. Opens s n d.between) (sym c.column_is) d.opens) k in
     let old = pairs_of_column (column_on card) cards in
     let r =
-    column_pairs_keep (IsReading (row_view s) old (column_on card) d.between.columns)
+    pairs_keep enter _ column_puts (IsReading (row_view s) old (column_on card) d.between.columns)
     (one_pair (row_view s) old (column_on card) d.between.columns)
     (pairs_of d.more) [] d.between t d.pairs opened.reading in
     finish cards card s d.between t seen here opened

@@ -8,6 +8,7 @@ pub mod RowsKept
 pub mod TitlesKept
 pub mod PairsKept
 pub mod SetsKept
+pub mod NumbersKept
 pub mod SidesKept
 pub mod RangesKept
 pub mod ColumnLemmas

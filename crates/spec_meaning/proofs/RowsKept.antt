@@ -25,7 +25,8 @@ use Rattle.spec_mps.specs.Steps.{data_card, Spells, model_by}
 use Rattle.spec_mps.proofs.Steps.{none_if}
 use Rattle.spec_meaning.specs.RowCards.{unlimited, limited, unlimited_rows, limited_rows}
 use Rattle.spec_meaning.specs.TextCards.{Lines, cards_in}
-use Rattle.spec_meaning.proofs.Frames.{card_leads, rows_did}
+use Rattle.spec_mps.proofs.CardsDid.{rows_did}
+use Rattle.spec_meaning.proofs.Frames.{card_leads}
 use Rattle.spec_meaning.proofs.SoFar.{SoFar, with_card}
 use Rattle.spec_meaning.proofs.Order.{not_both}
 use Rattle.spec_meaning.proofs.Runs.{IsKept, spelled_by}

@@ -1,5 +1,5 @@
 -- The name and the sense are what NAME and OBJSENSE say.
-use Rattle.std.proofs.Common.{cond, ◌≡◌, ℕ, Bool, true, false, Option, Some, None, is_none, is_some, Ok, List, []}
+use Rattle.std.proofs.Common.{cond, ◌≡◌, ℕ, Bool, true, false, Option, Some, None, is_some, Ok, List, []}
 use Rattle.std.proofs.Common.{◌∷◌, ◌++◌, map, refl, sym, ap, ◌∙◌, subst, subst₂, append_assoc, codes, inl, inr}
 use Rattle.std.specs.List.{filter}
 use Rattle.std.proofs.lemmas.List.{map-append}
@@ -20,7 +20,8 @@ use Rattle.spec_mps.specs.Reader.{State}
 use Rattle.spec_mps.specs.Steps.{take_sense, sense_card, has_begun, with_section, begun}
 use Rattle.spec_mps.specs.Steps.{sense_beside, headed, data_card, sense_or_min, model_by, Spells}
 use Rattle.spec_mps.proofs.Steps.{none_if}
-use Rattle.spec_mps.proofs.CheckSteps.{step_ok, must_ok, need_ok, same_ok, same_some}
+use Rattle.spec_mps.proofs.CardsDid.{sense_did}
+use Rattle.spec_mps.proofs.CheckSteps.{step_ok, must_ok, same_ok, same_some}
 use Rattle.spec_meaning.specs.RowCards.{second_word, sense_words, IsSenseWord, IsSenseOf}
 use Rattle.spec_meaning.specs.TextCards.{Lines, cards_in, title_of}
 use Rattle.spec_meaning.proofs.Frames.{Leads, card_leads}
@@ -39,11 +40,7 @@ record NameSays (title : Option Fields) (begun : Bool) (name : Name) : Type 0 wh
   name_is : name ≡ second_word title
 
 took_name : (s : State) (word : List ℕ) (t : State) → take_sense s word ≡ Ok t → t.name ≡ s.name
-unfolding take_sense
-took_name s word t h =
-    let a = need_ok (sense_of word) code.CardShape _ t h in
-    let b = must_ok (is_none s.sense) code.CardShape _ t a.2 in
-    sym (ap (λ (u : State). u.name) (same_ok _ t b.1))
+took_name s word t h = sym (ap (λ (u : State). u.name) (sense_did s word t h).3)
 
 took_name_beside : (s : State) (word : List ℕ) (t : State) → sense_beside s word ≡ Ok t → t.name ≡ s.name
 took_name_beside s [] t h = sym (ap (λ (u : State). u.name) (same_ok s t h))
@@ -115,11 +112,8 @@ record SenseSays (title : Option Fields) (cards : List Fields) (begun : Bool) (s
 
 took_sense : (s : State) (word : List ℕ) (t : State) → take_sense s word ≡ Ok t →
     (x : Sense) × (sense_of word ≡ Some x) × (s.sense ≡ None) × (t.sense ≡ Some x)
-unfolding take_sense
 took_sense s word t h =
-    let a = need_ok (sense_of word) code.CardShape _ t h in
-    let b = must_ok (is_none s.sense) code.CardShape _ t a.2 in
-    (a.0, a.1, none_if s.sense b.0, sym (ap (λ (u : State). u.sense) (same_ok _ t b.1)))
+    let d = sense_did s word t h in (d.0, d.1, none_if s.sense d.2, sym (ap (λ (u : State). u.sense) d.3))
 
 -- where there is none yet, no word said one
 unsaid : (words : List (List ℕ)) (sense : Option Sense) → sense ≡ None → SenseIs words sense → words ≡ []
