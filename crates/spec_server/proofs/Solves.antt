@@ -27,7 +27,7 @@ use Rattle.spec_warm.proofs.TrueEnds as warm_ends
 use Rattle.spec_factor.specs.Over.{over_factors}
 use Rattle.spec_solve.specs.Order.{GivesUp, cold_by, cold_over, solve_over}
 use Rattle.spec_solve.proofs.Orders.{part_true, part_ends, tableaus_give_up, factors_give_up}
-use Rattle.spec_server.specs.Answers.{number_limit, enough_pivots, MayAnswer, ColdFits, WarmFits, IsRefused, IsSolved}
+use Rattle.spec_server.specs.Answers.{number_limit, enough_pivots, MayAnswer, ColdFits, WarmFits, IsSolved}
 
 -- ---- the cold solve
 
@@ -71,17 +71,6 @@ module _ (m : Model) (budget : ℕ) where
   cold_how (Ended known c basis pivots) e = part_ends (Some number_limit) budget m known c basis pivots e
   cold_how (Past p) e = tt
   cold_how Spent e = tt
-
-  refused_gives_up : (end : ColdEnd) → IsRefused end → GivesUp end
-  refused_gives_up (Ended known c basis pivots) h = h
-  refused_gives_up (Past p) h = tt
-  refused_gives_up Spent h = tt
-
-  cold_by_factors : (f : Form) → form_of (Some number_limit) m ≡ Ok f →
-      IsRefused (cold_over (Some number_limit) budget m) → GivesUp (over_factors (Some number_limit) budget m f)
-  cold_by_factors f e h =
-      factors_give_up (Some number_limit) budget m f e
-      (refused_gives_up (cold_over (Some number_limit) budget m) h)
 
   -- ---- a model without a form
 
@@ -132,7 +121,7 @@ module _ (m : Model) (budget : ℕ) where
     may_answer = cold_may end e fit;
     how_fits = (refl, cold_how end e);
     without_form = λ why no_form. sym e ∙ formless_same why no_form;
-    by_factors = λ f formed h. cold_by_factors f formed (subst IsRefused (sym e) h);
+    by_factors = λ f formed h. factors_give_up (Some number_limit) budget m f formed (subst GivesUp (sym e) h);
   }
 
   -- ---- the solve from a basis of the form
@@ -160,10 +149,10 @@ module _ (m : Model) (budget : ℕ) where
     warm_how (warm.Stopped stop) = (refl, cold_how (cold_over (Some number_limit) budget m) refl)
 
     warm_by_factors : (result : WarmResult) (f : Form) → form_of (Some number_limit) m ≡ Ok f →
-        IsRefused (solved_by (cold_over (Some number_limit) budget m) result).end →
+        GivesUp (solved_by (cold_over (Some number_limit) budget m) result).end →
         GivesUp (over_factors (Some number_limit) budget m f)
     warm_by_factors (warm.Ended known c left pivots) f e h = absurd h
-    warm_by_factors (warm.Stopped stop) f e h = cold_by_factors f e h
+    warm_by_factors (warm.Stopped stop) f e h = factors_give_up (Some number_limit) budget m f e h
 
     abbrev warm_solve : SolveEnd
     warm_solve = solved_by (cold_over (Some number_limit) budget m) (warm_start (Some number_limit) budget m basis)

@@ -52,12 +52,6 @@ abbrev pub HowFits : Model → ℕ → Option (List Status) → SolveEnd → Typ
 HowFits m budget None solved = (solved.route ≡ route.Cold) × ColdFits m budget solved.end
 HowFits m budget (Some basis) solved = WarmFits m budget (warm_start (Some number_limit) budget m basis) solved
 
--- nothing is known: an operation is past the limit, or the budget is spent
-abbrev pub IsRefused : ColdEnd → Type 0
-IsRefused (Ended known certificate basis pivots) = ⊥
-IsRefused (Past p) = Unit {0}
-IsRefused Spent = Unit {0}
-
 -- What a solve of a model may end with, within a budget and with this basis handed to it, if one is. Where the model
 -- has no form at the limit, because bounds clash or an operation is refused, it is what the cold solve at the limit
 -- ends with: nothing else is tried. Where the model has a form, the run over factors is always tried: nothing is known
@@ -67,5 +61,5 @@ pub record IsSolved (m : Model) (budget : ℕ) (handed : Option (List Status)) (
   pub how_fits : HowFits m budget handed solved
   pub without_form : (fault : FormFault ℚ) → form_of (Some number_limit) m ≡ Err fault →
       solved.end ≡ cold (Some number_limit) budget m
-  pub by_factors : (f : Form) → form_of (Some number_limit) m ≡ Ok f → IsRefused solved.end →
+  pub by_factors : (f : Form) → form_of (Some number_limit) m ≡ Ok f → GivesUp solved.end →
       GivesUp (over_factors (Some number_limit) budget m f)
