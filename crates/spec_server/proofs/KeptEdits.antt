@@ -70,25 +70,23 @@ value_kept text = by (bound_of text) refl
     by bound.Shape e = tt
     by bound.Wide e = tt
 
+-- as a lower bound, and as an upper one
+bound_by_kept : (v : BoundValue ℚ) → IsKeptValue v → IfOk (lower_by v) IsKeptBound × IfOk (upper_by v) IsKeptBound
+bound_by_kept (value.Finite v) h = (h, h)
+bound_by_kept value.MinusInf h = ((tt, tt), tt)
+bound_by_kept value.PlusInf h = (tt, (tt, tt))
+
 lower_kept : (text : List ℕ) → IfOk (lower_in text) IsKeptBound
 unfolding lower_in
-lower_kept text = then_kept IsKeptValue IsKeptBound (as_read (bound_answer (bound_of text))) lower_by (value_kept text)
-    by
-  where
-    by : (v : BoundValue ℚ) → IsKeptValue v → IfOk (lower_by v) IsKeptBound
-    by (value.Finite v) h = h
-    by value.MinusInf h = (tt, tt)
-    by value.PlusInf h = tt
+lower_kept text =
+    then_kept IsKeptValue IsKeptBound (as_read (bound_answer (bound_of text))) lower_by (value_kept text)
+    (λ v h. (bound_by_kept v h).0)
 
 upper_kept : (text : List ℕ) → IfOk (upper_in text) IsKeptBound
 unfolding upper_in
-upper_kept text = then_kept IsKeptValue IsKeptBound (as_read (bound_answer (bound_of text))) upper_by (value_kept text)
-    by
-  where
-    by : (v : BoundValue ℚ) → IsKeptValue v → IfOk (upper_by v) IsKeptBound
-    by (value.Finite v) h = h
-    by value.PlusInf h = (tt, tt)
-    by value.MinusInf h = tt
+upper_kept text =
+    then_kept IsKeptValue IsKeptBound (as_read (bound_answer (bound_of text))) upper_by (value_kept text)
+    (λ v h. (bound_by_kept v h).1)
 
 -- ---- pairs
 

@@ -18,7 +18,7 @@ use Rattle.spec_mps.proofs.NarrowNumbers.{zero_narrow, neg_narrow}
 use Rattle.spec_simplex.specs.declared.ends.FormFault.TheVariants as fault
 use Rattle.spec_simplex.specs.declared.ends.RowStart.{RowStart}
 use Rattle.spec_simplex.specs.declared.ends.RowStart.TheVariants.{Within, Below, Above}
-use Rattle.spec_simplex.specs.Run.{◌>>=◌, refused_as, sum_run, difference_run, order_run, plus_product, less_product}
+use Rattle.spec_simplex.specs.Run.{Run, ◌>>=◌, refused_as, sum_run, difference_run, order_run, plus_product, less_product}
 use Rattle.spec_simplex.specs.Run.{steps, list_run}
 use Rattle.spec_simplex.specs.Form.{Form, form_entry, form_lower, form_upper, equation_limits, limits_by, limits_run}
 use Rattle.spec_simplex.specs.Form.{column_clash, least_cost, formed, form_of}
@@ -142,35 +142,38 @@ sum_of_row f i v h =
     s) 0ℚ v h zero_narrow
     (λ j s t l k q. plus_narrow (form_entry f i j) (first_value f j) s t q)
 
+-- no gap, and one that is a difference
+no_gap : (gap : Option ℚ) → (let r : Run (Option ℚ) = Ok None in r) ≡ Ok gap → NarrowBound gap
+no_gap gap h = let e : None ≡ gap = cc in subst NarrowBound e tt
+
+some_gap : (v w : ℚ) (gap : Option ℚ) →
+    (difference_run (Some number_limit) v w >>= λ gap. Ok (Some gap)) ≡ Ok gap → NarrowBound gap
+some_gap v w gap h =
+    let g = then_ok (difference_run (Some number_limit) v w) (λ gap. Ok (Some gap)) gap h in
+    let e : Some g.0 ≡ gap = cc in
+    subst NarrowBound e (difference_narrow v w g.0 g.1)
+
 below_narrow : (lower : Option ℚ) (v : ℚ) (gap : Option ℚ) → below_run (Some number_limit) lower v ≡ Ok gap →
     NarrowBound gap
-below_narrow None v gap h = let e : None ≡ gap = cc in subst NarrowBound e tt
+below_narrow None v gap h = no_gap gap h
 below_narrow (Some l) v gap h =
-    let o = then_ok (order_run (Some number_limit) v l) (λ o. below_by (Some number_limit) l v o) gap h in
-    by o.0 o.2
+    let o = then_ok (order_run (Some number_limit) v l) (λ o. below_by (Some number_limit) l v o) gap h in by o.0 o.2
   where
     by : (o : Ordering) → below_by (Some number_limit) l v o ≡ Ok gap → NarrowBound gap
-    by Less q =
-        let g = then_ok (difference_run (Some number_limit) l v) (λ gap. Ok (Some gap)) gap q in
-        let e : Some g.0 ≡ gap = cc in
-        subst NarrowBound e (difference_narrow l v g.0 g.1)
-    by Equal q = let e : None ≡ gap = cc in subst NarrowBound e tt
-    by Greater q = let e : None ≡ gap = cc in subst NarrowBound e tt
+    by Less q = some_gap l v gap q
+    by Equal q = no_gap gap q
+    by Greater q = no_gap gap q
 
 above_narrow : (upper : Option ℚ) (v : ℚ) (gap : Option ℚ) → above_run (Some number_limit) upper v ≡ Ok gap →
     NarrowBound gap
-above_narrow None v gap h = let e : None ≡ gap = cc in subst NarrowBound e tt
+above_narrow None v gap h = no_gap gap h
 above_narrow (Some u) v gap h =
-    let o = then_ok (order_run (Some number_limit) v u) (λ o. above_by (Some number_limit) u v o) gap h in
-    by o.0 o.2
+    let o = then_ok (order_run (Some number_limit) v u) (λ o. above_by (Some number_limit) u v o) gap h in by o.0 o.2
   where
     by : (o : Ordering) → above_by (Some number_limit) u v o ≡ Ok gap → NarrowBound gap
-    by Less q = let e : None ≡ gap = cc in subst NarrowBound e tt
-    by Equal q = let e : None ≡ gap = cc in subst NarrowBound e tt
-    by Greater q =
-        let g = then_ok (difference_run (Some number_limit) v u) (λ gap. Ok (Some gap)) gap q in
-        let e : Some g.0 ≡ gap = cc in
-        subst NarrowBound e (difference_narrow v u g.0 g.1)
+    by Greater q = some_gap v u gap q
+    by Less q = no_gap gap q
+    by Equal q = no_gap gap q
 
 start_by_narrow : (upper : Option ℚ) (v : ℚ) (gap : Option ℚ) (s : RowStart ℚ) →
     row_start_by (Some number_limit) upper v gap ≡ Ok s → IsNarrow v → NarrowBound gap → NarrowStart s

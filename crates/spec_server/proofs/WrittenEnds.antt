@@ -80,29 +80,17 @@ module _ (style : Style) where
   name_inner Free (b ∷ bs) = refl
   name_inner Fixed (b ∷ bs) = refl
 
-  rows_inner : IsInner (section_card (codes "ROWS"))
-  unfolding ends_text words_of
-  rows_inner = refl
+  record AreHeadingsInner : Type 0 where
+    rows : IsInner (section_card (codes "ROWS"))
+    columns : IsInner (section_card (codes "COLUMNS"))
+    sides : IsInner (section_card (codes "RHS"))
+    ranges : IsInner (section_card (codes "RANGES"))
+    bounds : IsInner (section_card (codes "BOUNDS"))
+    sense : IsInner (section_card (codes "OBJSENSE MAX"))
 
-  columns_inner : IsInner (section_card (codes "COLUMNS"))
+  headings_inner : AreHeadingsInner
   unfolding ends_text words_of
-  columns_inner = refl
-
-  sides_inner : IsInner (section_card (codes "RHS"))
-  unfolding ends_text words_of
-  sides_inner = refl
-
-  ranges_inner : IsInner (section_card (codes "RANGES"))
-  unfolding ends_text words_of
-  ranges_inner = refl
-
-  bounds_inner : IsInner (section_card (codes "BOUNDS"))
-  unfolding ends_text words_of
-  bounds_inner = refl
-
-  sense_inner : IsInner (section_card (codes "OBJSENSE MAX"))
-  unfolding ends_text words_of
-  sense_inner = refl
+  headings_inner = record { rows = refl; columns = refl; sides = refl; ranges = refl; bounds = refl; sense = refl }
 
   -- ---- all cards before ENDATA
 
@@ -121,13 +109,13 @@ module _ (style : Style) where
 
   sense_all : (sense : Sense) → AreInner (sense_cards sense)
   sense_all Min = none
-  sense_all Max = one (section_card (codes "OBJSENSE MAX")) sense_inner
+  sense_all Max = one (section_card (codes "OBJSENSE MAX")) headings_inner.sense
 
   rows_all : (m : Model) → AreInner (rows_cards m)
   unfolding rows_cards
   rows_all m =
       All-cons IsInner (section_card (codes "ROWS")) (type_card (codes "N") m.objective ∷ map row_card m.rows)
-      rows_inner
+      headings_inner.rows
       (All-cons IsInner (type_card (codes "N") m.objective) (map row_card m.rows) (type_inner (codes "N") m.objective)
       (All-map IsInner row_card m.rows (λ k d l. type_inner (kind_word (get_or m.rows k d).kind)
       (get_or m.rows k d).name)))
@@ -141,7 +129,7 @@ module _ (style : Style) where
 
   columns_all : (m : Model) → AreInner (columns_cards m)
   unfolding columns_cards
-  columns_all m = All-cons IsInner (section_card (codes "COLUMNS")) (flat_map (column_cards m) m.columns) columns_inner
+  columns_all m = All-cons IsInner (section_card (codes "COLUMNS")) (flat_map (column_cards m) m.columns) headings_inner.columns
       (each (column_cards m) m.columns (column_all m))
 
   side_all : (name : Name) (v : ℚ) → AreInner (side_cards name v)
@@ -155,7 +143,7 @@ module _ (style : Style) where
   unfolding sides_cards
   sides_all m =
       All-cons IsInner (section_card (codes "RHS")) (side_cards m.objective (neg_ℚ m.offset) ++ flat_map
-      (λ (r : ExactRow). side_cards r.name r.rhs) m.rows) sides_inner
+      (λ (r : ExactRow). side_cards r.name r.rhs) m.rows) headings_inner.sides
       (All-append IsInner (side_cards m.objective (neg_ℚ m.offset))
       (flat_map (λ (r : ExactRow). side_cards r.name r.rhs) m.rows) (side_all m.objective (neg_ℚ m.offset))
       (each (λ (r : ExactRow). side_cards r.name r.rhs) m.rows (λ r. side_all r.name r.rhs)))
@@ -173,7 +161,7 @@ module _ (style : Style) where
           m.rows) [])
       by true =
           All-cons IsInner (section_card (codes "RANGES")) (flat_map (λ (r : ExactRow). range_cards r.name r.range)
-          m.rows) ranges_inner
+          m.rows) headings_inner.ranges
           (each (λ (r : ExactRow). range_cards r.name r.range) m.rows (λ r. range_all r.name r.range))
       by false = none
 
@@ -205,7 +193,7 @@ module _ (style : Style) where
           c.upper) m.columns) [])
       by true =
           All-cons IsInner (section_card (codes "BOUNDS"))
-          (flat_map (λ (c : ExactColumn). bound_cards c.name c.lower c.upper) m.columns) bounds_inner
+          (flat_map (λ (c : ExactColumn). bound_cards c.name c.lower c.upper) m.columns) headings_inner.bounds
           (each (λ (c : ExactColumn). bound_cards c.name c.lower c.upper) m.columns
           (λ c. bound_all c.name c.lower c.upper))
       by false = none
