@@ -21,5 +21,6 @@ pub mod TextEnds
 pub mod WrittenEnds
 pub mod PlainLines
 pub mod WrittenLengths
+pub mod CertificateLengths
 pub mod WrittenChecks
 pub mod Sessions

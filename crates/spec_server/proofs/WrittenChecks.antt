@@ -42,7 +42,8 @@ use Rattle.spec_server.specs.CheckOut.{said}
 use Rattle.spec_server.proofs.PlainLines.{ended_lines_behind, certificate_plain}
 use Rattle.spec_server.proofs.TextEnds.{done_ends}
 use Rattle.spec_server.proofs.WrittenEnds.{inner_cards, inner_lines}
-use Rattle.spec_server.proofs.WrittenLengths.{take_behind, text_fits}
+use Rattle.spec_server.proofs.WrittenLengths.{take_behind}
+use Rattle.spec_server.proofs.CertificateLengths.{text_fits}
 
 -- ---- a text of which the last line alone ends it
 
