@@ -4,17 +4,16 @@ use Rattle.std.proofs.Common.{◌≡◌, ℕ, true, cond, List, [], ◌∷◌, �
 use Rattle.spec_exact.specs.Fraction.{ℚ}
 use Rattle.spec_model.specs.Model.{Model}
 use Rattle.spec_check.specs.declared.certificate.Known.{Known}
-use Rattle.spec_check.specs.declared.certificate.Verdict.TheVariants as verdict
 use Rattle.spec_check.specs.Certificate.{Holds}
-use Rattle.spec_server.specs.declared.answer.Answer.TheVariants as answer
-use Rattle.spec_server.specs.declared.asks.Reply.TheVariants as reply
-use Rattle.spec_server.specs.Machine.{ExactReply, State, opening}
+use Rattle.spec_server.specs.Machine.{ExactAsk, ExactReply, State, opening}
+use Rattle.spec_reads.specs.Reads.{ExactRead}
 use Rattle.spec_server.specs.Step.{AloneStep}
 use Rattle.spec_server.specs.Exchanges.{Exchange, AloneRun, of_session, RunAlone}
 use Rattle.spec_server.proofs.RunLemmas.{of_session-append}
 use Rattle.spec_truth.specs.ModelThen.{model_then}
 use Rattle.spec_truth.proofs.HeldThen.{holds_then}
 use Rattle.spec_truth.proofs.Shown.{IsShown, shown_holds}
+use Rattle.spec_truth.proofs.ReplyLines.{answer_to, yes_to}
 use Rattle.spec_truth.proofs.TrueReplies.{IsShownOfHeld, answer_is_shown, yes_is_shown}
 
 -- ---- the step of one exchange in a run
@@ -71,34 +70,40 @@ pub record IsShownThen (before : List Exchange) (x : Exchange) (what : Known ℚ
   pub is_held : model_then x.session before ≡ Some model
   pub shown : IsShown model what
 
-with_reply : (places : ℕ) (before : List Exchange) (x : Exchange) (replied : ExactReply)
-    (s : StepsThen places before x) →
-    x.reply ≡ replied → AloneStep places s.old x.ask x.reads replied s.new
-with_reply places before x replied s is =
-    subst (λ (r : ExactReply). AloneStep places s.old x.ask x.reads r s.new) is s.step
-
-then_shown : (places : ℕ) (before : List Exchange) (x : Exchange) (what : Known ℚ) (s : StepsThen places before x) →
-    IsShownOfHeld s.old.model what → IsShownThen before x what
-then_shown places before x what s h = record { model = h.model; is_held = sym s.held ∙ h.is_held; shown = h.shown }
+-- by what is shown where a step replies what says so
+module _ (says : Known ℚ → ExactReply)
+    (shows : (places : ℕ) (old new : State) (asked : ExactAsk) (reads : List ExactRead) (what : Known ℚ) →
+    AloneStep places old asked reads (says what) new → IsShownOfHeld old.model what) where
+  said_then : (places : ℕ) (before behind : List Exchange) (x : Exchange) (what : Known ℚ) →
+      RunAlone places (before ++ x ∷ behind) → x.reply ≡ says what → IsShownThen before x what
+  said_then places before behind x what fits is =
+      let s = steps_then places before behind x fits in
+      let h =
+      shows places s.old s.new x.ask x.reads what
+      (subst (λ (r : ExactReply). AloneStep places s.old x.ask x.reads r s.new) is s.step) in
+      record { model = h.model; is_held = sym s.held ∙ h.is_held; shown = h.shown }
 
 pub answered_then : (places : ℕ) (before behind : List Exchange) (x : Exchange) (what : Known ℚ) →
-    RunAlone places (before ++ x ∷ behind) →
-    x.reply ≡ reply.Answered (answer.Known what) → IsShownThen before x what
-answered_then places before behind x what fits is =
-    let s = steps_then places before behind x fits in
-    then_shown places before x what s
-    (answer_is_shown places s.old s.new x.ask x.reads what
-    (with_reply places before x (reply.Answered (answer.Known what)) s is))
+    RunAlone places (before ++ x ∷ behind) → x.reply ≡ answer_to what → IsShownThen before x what
+answered_then = said_then answer_to answer_is_shown
 
 pub accepted_then : (places : ℕ) (before behind : List Exchange) (x : Exchange) (what : Known ℚ) →
-    RunAlone places (before ++ x ∷ behind) →
-    x.reply ≡ reply.Checked (verdict.Yes what) → IsShownThen before x what
-accepted_then places before behind x what fits is =
-    let s = steps_then places before behind x fits in
-    then_shown places before x what s
-    (yes_is_shown places s.old s.new x.ask x.reads what
-    (with_reply places before x (reply.Checked (verdict.Yes what)) s is))
+    RunAlone places (before ++ x ∷ behind) → x.reply ≡ yes_to what → IsShownThen before x what
+accepted_then = said_then yes_to yes_is_shown
 
-pub true_then : (before : List Exchange) (x : Exchange) (what : Known ℚ) → IsShownThen before x what →
+-- and true of it
+true_then : (before : List Exchange) (x : Exchange) (what : Known ℚ) → IsShownThen before x what →
     (m : Model) × (model_then x.session before ≡ Some m) × Holds m what
 true_then before x what h = (h.model, h.is_held, shown_holds h.model what h.shown)
+
+pub answered_holds : (places : ℕ) (before behind : List Exchange) (x : Exchange) (what : Known ℚ) →
+    RunAlone places (before ++ x ∷ behind) → x.reply ≡ answer_to what →
+    (m : Model) × (model_then x.session before ≡ Some m) × Holds m what
+answered_holds places before behind x what fits is =
+    true_then before x what (answered_then places before behind x what fits is)
+
+pub accepted_holds : (places : ℕ) (before behind : List Exchange) (x : Exchange) (what : Known ℚ) →
+    RunAlone places (before ++ x ∷ behind) → x.reply ≡ yes_to what →
+    (m : Model) × (model_then x.session before ≡ Some m) × Holds m what
+accepted_holds places before behind x what fits is =
+    true_then before x what (accepted_then places before behind x what fits is)

@@ -1,16 +1,10 @@
-use Rattle.spec_check.specs.declared.certificate.Known.TheVariants as known
-use Rattle.spec_truth.proofs.TrueRuns.{accepted_then, true_then}
+use Rattle.spec_check.specs.declared.certificate.Known.TheVariants.{Optimal, Infeasible, Unbounded}
+use Rattle.spec_truth.proofs.TrueRuns.{accepted_holds}
 use Rattle.spec_truth.proofs.yes_is_true_of_the_model_then.Goals as goal
 
 pub returns : goal.returns
 returns c = record {
-  optimal =
-      λ places before behind x v fits is. true_then before x (known.Optimal v)
-      (accepted_then places before behind x (known.Optimal v) fits is);
-  infeasible =
-      λ places before behind x fits is. true_then before x known.Infeasible
-      (accepted_then places before behind x known.Infeasible fits is);
-  unbounded =
-      λ places before behind x fits is. true_then before x known.Unbounded
-      (accepted_then places before behind x known.Unbounded fits is);
+  optimal = λ places before behind x v. accepted_holds places before behind x (Optimal v);
+  infeasible = λ places before behind x. accepted_holds places before behind x Infeasible;
+  unbounded = λ places before behind x. accepted_holds places before behind x Unbounded;
 }
