@@ -118,9 +118,10 @@ in_text style s n (line ∷ lines) what h = by (text.step style s line) refl h (
     by (Err code) is e more =
         absurd (no_yes (refusal.Misspelled (record { line = n + 1; code = code })) what e)
 
-pub certified : (style : Style) (lines : List (Line (List ℕ))) (what : Known ℚ) →
-    said style lines ≡ Some (yes_to what) → IsCertified style lines (λ m. IsShown m what)
-certified style lines what h =
+-- with what follows of the model
+pub certified : (style : Style) (lines : List (Line (List ℕ))) (what : Known ℚ) (IsSo : Model → Type 0) →
+    ((m : Model) → IsShown m what → IsSo m) → said style lines ≡ Some (yes_to what) → IsCertified style lines IsSo
+certified style lines what IsSo go h =
     let t = in_text style start 0 lines what h in
     let c = in_certificate t.model None 0 t.behind what t.yes in
     record {
@@ -133,29 +134,9 @@ certified style lines what h =
       spelled = t.judged;
       raw = c.raw;
       certified = c.judged;
-      is_so = c.shown;
-    }
-
--- ---- what is so of the model
-
-pub but_so : (style : Style) (lines : List (Line (List ℕ))) (A B : Model → Type 0) → ((m : Model) → A m → B m) →
-    IsCertified style lines A → IsCertified style lines B
-but_so style lines A B go c =
-    record {
-      front = c.front;
-      last = c.last;
-      behind = c.behind;
-      cut = c.cut;
-      undecided = c.undecided;
-      model = c.model;
-      spelled = c.spelled;
-      raw = c.raw;
-      certified = c.certified;
-      is_so = go c.model c.is_so;
+      is_so = go t.model c.shown;
     }
 
 pub yes_holds : (style : Style) (lines : List (Line (List ℕ))) (what : Known ℚ) →
     said style lines ≡ Some (yes_to what) → IsCertified style lines (λ m. Holds m what)
-yes_holds style lines what h =
-    but_so style lines (λ m. IsShown m what) (λ m. Holds m what) (λ m s. shown_holds m what s)
-    (certified style lines what h)
+yes_holds style lines what h = certified style lines what (λ m. Holds m what) (λ m s. shown_holds m what s) h

@@ -11,10 +11,10 @@ use Rattle.spec_server.specs.Machine.{ExactReply}
 use Rattle.spec_server.specs.Output.{reply_text}
 use Rattle.spec_server.specs.CheckOut.{said, check_line}
 use Rattle.spec_truth.specs.Certified.{IsCertified}
-use Rattle.spec_truth.proofs.Shown.{IsShown, shown_holds, value_fits}
+use Rattle.spec_truth.proofs.Shown.{IsShown, value_fits}
 use Rattle.spec_truth.proofs.AnswerLines.{read_back}
 use Rattle.spec_truth.proofs.ReplyLines as reply_lines
-use Rattle.spec_truth.proofs.CertifiedTexts.{certified, but_so, yes_holds}
+use Rattle.spec_truth.proofs.CertifiedTexts.{certified, yes_holds}
 
 same_end : (a b : List ℕ) → a ++ 10 ∷ [] ≡ b ++ 10 ∷ [] → a ≡ b
 same_end [] [] e = refl
@@ -38,11 +38,11 @@ pub optimal_line : (style : Style) (lines : List (Line (List ℕ))) (is : ExactR
     lines (λ m. IsOptimal m v)
 optimal_line style lines is text h e =
     let y = reply_lines.optimal_yes is text (line_of is (codes "YES OPTIMAL " ++ text) e) in
-    let c = certified style lines (known.Optimal y.0) (h ∙ ap Some y.1) in (
+    let is_yes = h ∙ ap Some y.1 in
+    let c = certified style lines (known.Optimal y.0) (λ m. IsShown m (known.Optimal y.0)) (λ m s. s) is_yes in (
       y.0,
       ap number_of (sym y.2) ∙ read_back y.0 (value_fits c.model y.0 c.is_so),
-      but_so style lines (λ m. IsShown m (known.Optimal y.0)) (λ m. IsOptimal m y.0)
-          (λ m s. shown_holds m (known.Optimal y.0) s) c,
+      yes_holds style lines (known.Optimal y.0) is_yes,
     )
 
 pub infeasible_line : (style : Style) (lines : List (Line (List ℕ))) (is : ExactReply) → said style lines ≡ Some is →
