@@ -11,8 +11,17 @@ use Rattle.spec_simplex.specs.Eliminate.{basics_below}
 use Rattle.spec_shape.specs.Words.{word_from, columns_of, rows_of, status_at, unpacked}
 use Rattle.spec_shape.proofs.Bases.{unpacked_at}
 use Rattle.spec_shape.proofs.Digits.{word_fits}
+use Rattle.spec_shape.proofs.Places.{form_small, basis_small}
 use Rattle.lp_form.specs.Count.{basics}
 use Rattle.lp_form.proofs.Counted.{basics_made}
+use Rattle.lp_shape.specs.Coded.{code_of}
+use Rattle.lp_shape.specs.declared.packing.Coded.{Coded}
+use Rattle.lp_shape.specs.declared.packing.Coded.TheVariants.{Bounds, Statuses}
+
+-- each column has two bits
+pub code_small : (columns : Coded) (c : ℕ) → code_of columns c < 4
+code_small (Bounds form) c = form_small form.now c
+code_small (Statuses basis) c = basis_small basis.now c
 
 -- one more column at the start
 pub column_more : (code : ℕ → ℕ) (c k word : ℕ) → 0 < k → k ≤ 32 → word ≡ word_from code (c + k) (32 - k) →

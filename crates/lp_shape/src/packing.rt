@@ -1,30 +1,36 @@
 // The words of shapes and bases.
 ghost use Rattle.std.specs.Prelude.{◌≡◌, ◌+◌, ◌<◌, ◌≤◌, ◌↔◌, IsTrue, length};
-ghost use Rattle.spec_shape.specs.Words.{form_code as bounds, basis_code as statuses, word_from, shape_of, packed};
+ghost use Rattle.spec_shape.specs.Words.{word_from, shape_of, packed};
+ghost use Rattle.lp_shape.specs.Coded.{code_of};
 
 use crate::codes::{basis_code, form_code};
 use lp_form::{Basis, Form};
 
-// The word of the 32 columns from column `first`, with the bits for their bounds.
-fn form_word(form: &Form, first: u32) -> u64
-    requires { first ≤ 1000 }
-    ensures { result ≡ word_from (bounds form.now) first 32 }
-{
-    let mut word = 0;
-    for k in (0..32).rev() {
-        word = 4 * word + form_code(form, first + k);
-    }
-    word
+/// What has two bits for each column: a form for the bounds, a basis for the statuses.
+#[derive(Clone, Copy)]
+pub(crate) enum Coded<'a> {
+    Bounds(&'a Form),
+    Statuses(&'a Basis),
 }
 
-// The word of the 32 columns from column `first`, with the bits for their statuses.
-fn basis_word(basis: &Basis, first: u32) -> u64
+fn code(columns: &Coded, c: u32) -> u64
+    ensures value { result ≡ code_of columns.now c }
+    ensures small { result < 4 }
+{
+    match columns {
+        Coded::Bounds(form) => form_code(form, c),
+        Coded::Statuses(basis) => basis_code(basis, c),
+    }
+}
+
+// The word of the 32 columns from column `first`.
+fn word_of(columns: &Coded, first: u32) -> u64
     requires { first ≤ 1000 }
-    ensures { result ≡ word_from (statuses basis.now) first 32 }
+    ensures { result ≡ word_from (code_of columns.now) first 32 }
 {
     let mut word = 0;
     for k in (0..32).rev() {
-        word = 4 * word + basis_code(basis, first + k);
+        word = 4 * word + code(columns, first + k);
     }
     word
 }
@@ -34,10 +40,11 @@ fn basis_word(basis: &Basis, first: u32) -> u64
 pub fn shape(form: &Form) -> [u64; 25]
     ensures { result ≡ shape_of form.now }
 {
+    let columns = Coded::Bounds(form);
     let mut words = [0u64; 25];
     words[0] = 65536 * form.rows() as u64 + form.cols() as u64;
     for w in 0..24 {
-        words[1 + w] = form_word(form, 32 * w as u32);
+        words[1 + w] = word_of(&columns, 32 * w as u32);
     }
     words
 }
@@ -48,12 +55,13 @@ pub fn pack(form: &Form, basis: &Basis) -> [u64; 49]
     ensures { result ≡ packed form.now basis.now }
 {
     let shape = shape(form);
+    let columns = Coded::Statuses(basis);
     let mut words = [0u64; 49];
     for i in 0..25 {
         words[i] = shape[i];
     }
     for w in 0..24 {
-        words[25 + w] = basis_word(basis, 32 * w as u32);
+        words[25 + w] = word_of(&columns, 32 * w as u32);
     }
     words
 }

@@ -26,10 +26,10 @@ loop-w-init c =
 
 pub loop-w-preserved : goal.loop-w-preserved
 loop-w-preserved c = (
-  length-set c.loop-w.words (25 + c.loop-w.w) c.basis_word.result ∙ c.loop-w.invariant.0,
+  length-set c.loop-w.words (25 + c.loop-w.w) c.word_of.result ∙ c.loop-w.invariant.0,
   word_more c.loop-w.words (shape_of c.args.form.now)
-      (λ w. word_from (basis_code c.args.basis.now) (32 * w) 32) 25 c.loop-w.w (25 + c.loop-w.w) c.basis_word.result
-      refl (omega (arith, c.loop-w.invariant.0)) c.loop-w.invariant.1 c.basis_word.ensures,
+      (λ w. word_from (basis_code c.args.basis.now) (32 * w) 32) 25 c.loop-w.w (25 + c.loop-w.w) c.word_of.result
+      refl (omega (arith, c.loop-w.invariant.0)) c.loop-w.invariant.1 c.word_of.ensures,
 )
 
 pub returns : goal.returns

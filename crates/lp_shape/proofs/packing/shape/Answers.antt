@@ -8,10 +8,10 @@ use Rattle.lp_shape.proofs.packing.shape.Goals as goal
 
 pub loop-w-preserved : goal.loop-w-preserved
 loop-w-preserved c = (
-  length-set c.loop-w.words (1 + c.loop-w.w) c.form_word.result ∙ c.loop-w.invariant.0,
+  length-set c.loop-w.words (1 + c.loop-w.w) c.word_of.result ∙ c.loop-w.invariant.0,
   word_more c.loop-w.words ((65536 * c.args.form.now.rows + c.args.form.now.cols) ∷ [])
-      (λ w. word_from (form_code c.args.form.now) (32 * w) 32) 1 c.loop-w.w (1 + c.loop-w.w) c.form_word.result
-      refl (omega (arith, c.loop-w.invariant.0)) c.loop-w.invariant.1 c.form_word.ensures,
+      (λ w. word_from (form_code c.args.form.now) (32 * w) 32) 1 c.loop-w.w (1 + c.loop-w.w) c.word_of.result
+      refl (omega (arith, c.loop-w.invariant.0)) c.loop-w.invariant.1 c.word_of.ensures,
 )
 
 pub returns : goal.returns

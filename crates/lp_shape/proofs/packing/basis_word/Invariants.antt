@@ -1,8 +1,0 @@
--- The loop over the columns, from the last to the first.
-use Rattle.std.proofs.Common.{◌≡◌, ◌+◌, ◌-◌}
-use Rattle.spec_shape.specs.Words.{basis_code, word_from}
-use Rattle.lp_shape.proofs.packing.basis_word.Given as goal
-
--- the columns from k on are there
-abbrev pub invariant-loop-k : goal.invariant-loop-k
-invariant-loop-k l = l.word ≡ word_from (basis_code l.basis) (l.first + l.k) (32 - l.k)
