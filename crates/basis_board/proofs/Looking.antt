@@ -19,7 +19,7 @@ pub meets : (v w u : View) (n : ℕ) → Learned (met v w) n u → Meets v w u
 meets v w u n h =
     subst (λ (x : View). Meets v w x) (sym h.view) (record {
       view = refl;
-      whole = λ all. (n, h.whole all, record { within = h.within; seen = h.seen; reads = h.reads; whole = h.whole });
+      whole = λ all. (n, h.tells.whole all, h.tells);
     })
 
 pub each_both : {X : Type 0} (P Q R : X → Type 0) → ((x : X) → P x → Q x → R x) → (xs : List X) → Each P xs →

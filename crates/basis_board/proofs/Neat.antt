@@ -11,7 +11,7 @@ use Rattle.basis_board.specs.declared.seats.Read.TheVariants.{Count, Open, See, 
 use Rattle.spec_shape.specs.Words.{IsWellFormed}
 use Rattle.basis_board.specs.Board.{Each, Has, count, owning, noted, finished, opening_place, grown_seen}
 use Rattle.basis_board.specs.Board.{grown_reads, reading, met, cut_left, cut_right, first_view}
-use Rattle.basis_board.specs.Rule.{SeenFits, ReadFits, Kept, Agree, published_places}
+use Rattle.basis_board.specs.Rule.{SeenFits, ReadFits, Fits, Kept, Agree, published_places}
 use Rattle.basis_board.specs.Rule.{StandsIn, Neat, ReadAgrees, Consistent}
 use Rattle.basis_board.proofs.Totals.{total_at, each_map, each_append, has_left, has_right}
 use Rattle.basis_board.proofs.Frames.{St, shows_same}
@@ -25,9 +25,24 @@ stands_in seen more into (Claim k) h = tt
 stands_in seen more into (Lost c) h = tt
 stands_in seen more into (Done k xs) h = (h.0, into (k, h.0) h.1, h.2)
 
-pub neat_noted : (v : View) (r : Read) → published_places (r ∷ v.reads) ≡ published_places v.reads → StandsIn v.seen r →
+neat_noted : (v : View) (r : Read) → published_places (r ∷ v.reads) ≡ published_places v.reads → StandsIn v.seen r →
     Neat v → Neat (noted v r)
 neat_noted v r same stands n = record { published = n.published ∙ sym same; stands = (stands, n.stands) }
+
+-- a read that fits the words, and stands in no place
+pub fits_noted : (places : ℕ) (ws : List ℕ) (v : View) (r : Read) → 0 < v.share → ReadFits ws r →
+    published_places (r ∷ v.reads) ≡ published_places v.reads → StandsIn v.seen r → Fits places ws v →
+    Fits places ws (noted v r)
+fits_noted places ws v r share fits same stands f =
+    record {
+      on_board = f.on_board;
+      is_spent = λ z. absurd (omega arith);
+      held = f.held;
+      seen = f.seen;
+      own = f.own;
+      reads = (fits, f.reads);
+      neat = neat_noted v r same stands f.neat;
+    }
 
 pub neat_finished : (v : View) (k : ℕ) (xs : List ℕ) → Neat v → Neat (finished (Some (k, xs)) v)
 neat_finished v k xs n =

@@ -1,10 +1,10 @@
 -- The loads of a look.
-use Rattle.std.proofs.Common.{set}
-use Rattle.basis_board.proofs.Neat.{neat_noted, neat_opening, neat_reading, after}
+use Rattle.std.proofs.Common.{set, take}
+use Rattle.basis_board.proofs.Neat.{fits_noted, neat_opening, neat_reading, after}
 use Rattle.std.proofs.Common.{◌≡◌, ℕ, ◌+◌, ◌-◌, ◌*◌, ◌/◌, ◌%◌, ◌<◌, ◌≤◌, List, [], ◌∷◌, ◌++◌, length}
 use Rattle.std.proofs.Common.{get_or, sym, refl, ap, ◌∙◌, subst, ⊎_elim, inr, arith, length-append}
 use Rattle.std.proofs.lemmas.Bool.{cases_lt, cases_eq}
-use Rattle.std.proofs.lemmas.List.{get_or_append_left, get_or_push}
+use Rattle.std.proofs.lemmas.List.{get_or_append_left, get_or_push, length-take}
 use mathlib.Core.Option.{none}
 use Rattle.atomic_table.specs.Table.{Me, step, keeps, Allows}
 use Rattle.basis_board.specs.declared.seats.View.{View}
@@ -14,6 +14,7 @@ use Rattle.spec_shape.specs.Words.{IsWellFormed}
 use Rattle.basis_board.specs.Board.{Each, Has, count, done, Shows, noted, opening_place}
 use Rattle.basis_board.specs.Board.{grown_seen, grown_reads, reading, head_words}
 use Rattle.basis_board.specs.Rule.{SeenFits, OwnFits, ReadFits, Kept, saw, HasAt, word_read}
+use Rattle.basis_board.specs.Calls.{IsReading}
 use Rattle.basis_board.proofs.Totals.{each_map}
 use Rattle.basis_board.proofs.Frames.{shows_same, shows_none, unmoved}
 
@@ -65,15 +66,8 @@ module _ (places : ℕ) where
       ))
       (λ (miss : n ≡ 1 → ⊥).
       let w : View = noted v (Open k) in
-      let kept = unmoved places s r i id me.1 v w at (record {
-        on_board = fits.on_board;
-        is_spent = λ z. absurd (omega arith);
-        held = fits.held;
-        seen = fits.seen;
-        own = fits.own;
-        reads = (tt, fits.reads);
-        neat = neat_noted v (Open k) refl tt fits.neat;
-      }) refl refl refl in (
+      let kept = unmoved places s r i id me.1 v w at
+      (fits_noted places ws v (Open k) share tt refl tt fits) refl refl refl in (
         w,
         keeps,
         tt,
@@ -102,7 +96,7 @@ module _ (places : ℕ) where
   )
 
   -- kind 6
-  pub reads : (slots id : ℕ) (me : Me ℕ View) (i k : ℕ) (xs : List ℕ) (rest : List (ℕ × List ℕ)) (old : List Read) →
+  reads : (slots id : ℕ) (me : Me ℕ View) (i k : ℕ) (xs : List ℕ) (rest : List (ℕ × List ℕ)) (old : List Read) →
       me.0.seen ≡ (k, xs) ∷ rest → me.0.reads ≡ See k xs ∷ old →
       0 < me.0.share → length xs < 49 → i ≡ 50 * k + 1 + length xs
       → Allows (Kept places) slots id me i (λ n. n) (word_read (step slots i 0 0 none) me)
@@ -170,3 +164,14 @@ module _ (places : ℕ) where
                 h.same j before ∙ sym (get_or_append_left xs (n ∷ []) 0 j before))
                 (cases_eq j (length xs));
           }
+
+  -- the next word of a place of which j words were read
+  pub reads_next : (slots id : ℕ) (me : Me ℕ View) (v : View) (words : List ℕ) (i k j : ℕ) → IsReading k j words v me.0 →
+      0 < v.share → j < 49 → i ≡ 50 * k + 1 + j
+      → Allows (Kept places) slots id me i (λ n. n) (word_read (step slots i 0 0 none) me)
+  reads_next slots id me v words i k j h share room is =
+      let long = h.long in
+      let size : length (take j words) ≡ j = omega (arith, length-take j words) in
+      let same = ap (λ v. v.share) h.view in
+      reads slots id me i k (take j words) v.seen v.reads (ap (λ v. v.seen) h.view) (ap (λ v. v.reads) h.view)
+      (omega arith) (omega arith) (omega arith)

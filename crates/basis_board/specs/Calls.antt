@@ -9,21 +9,15 @@ use Rattle.basis_board.specs.declared.board.Put.TheVariants.{Published, Full, Ra
 use Rattle.basis_board.specs.declared.board.Look.{Look}
 use Rattle.basis_board.specs.declared.board.Look.TheVariants.{Found, NoneReady}
 use Rattle.spec_shape.specs.Words.{IsWellFormed}
-use Rattle.basis_board.specs.Board.{Each, IsAtMost, noted, seeing, publishing, met}
+use Rattle.basis_board.specs.Board.{Each, noted, seeing, publishing, met}
 use Rattle.basis_board.specs.Rule.{OwnsBelow, Consistent}
+pub use Rattle.basis_board.specs.Rule.{CountTells}
 
 abbrev pub known : Seat ℕ View → View
 known s = s.me.0
 
 abbrev pub IsSameSeat : Seat ℕ View → Seat ℕ View → Type 0
 IsSameSeat s t = (t.table_id ≡ s.table_id) × (t.id ≡ s.id) × (t.me.1 ≡ s.me.1)
-
--- what a read of the count tells
-pub record CountTells (v : View) (n : ℕ) : Type 0 where
-  pub within : n ≤ v.places
-  pub seen : Each (λ p. p.0 < n) v.seen
-  pub reads : Each (IsAtMost n) v.reads
-  pub whole : v.share ≡ 64 → OwnsBelow v n
 
 pub record IsPublished (v : View) (xs : List ℕ) (k : ℕ) (w : View) : Type 0 where
   pub view : w ≡ publishing v k xs

@@ -94,22 +94,23 @@ pub record Consistent (v : View) : Type 0 where
 abbrev pub OwnsBelow : View → ℕ → Type 0
 OwnsBelow v n = (k : ℕ) → (k < n → times k v.own ≡ 1) × (n ≤ k → times k v.own ≡ 0)
 
--- a load of the count
-pub record Counted (v : View) (n : ℕ) (w : View) : Type 0 where
-  pub view : w ≡ noted v (Count n)
+-- what a read of the count tells
+pub record CountTells (v : View) (n : ℕ) : Type 0 where
   pub within : n ≤ v.places
   pub seen : Each (λ p. p.0 < n) v.seen
   pub reads : Each (IsAtMost n) v.reads
   pub whole : v.share ≡ 64 → OwnsBelow v n
 
+-- a load of the count
+pub record Counted (v : View) (n : ℕ) (w : View) : Type 0 where
+  pub view : w ≡ noted v (Count n)
+  pub tells : CountTells v n
+
 -- a compare-exchange of the count from c
 pub record Claimed (c : ℕ) (v : View) (n : ℕ) (w : View) : Type 0 where
   pub won : n ≡ c → w ≡ claiming v c
   pub lost : n ≢ c → (w ≡ noted v (Lost n)) × (c < n)
-  pub within : n ≤ v.places
-  pub seen : Each (λ p. p.0 < n) v.seen
-  pub reads : Each (IsAtMost n) v.reads
-  pub whole : v.share ≡ 64 → OwnsBelow v n
+  pub tells : CountTells v n
 
 abbrev pub counted : Step ℕ → Me ℕ View → ℕ → Me ℕ View → Type 0
 counted st m n m' = Counted m.0 n m'.0 × (m'.1 ≡ m.1) × Consistent m'.0
@@ -143,10 +144,7 @@ pub record WordRead (k m : ℕ) (v : View) (n : ℕ) (w : View) : Type 0 where
 -- the load of word 0 after a join
 pub record Learned (v : View) (n : ℕ) (w : View) : Type 0 where
   pub view : w ≡ v
-  pub within : n ≤ v.places
-  pub seen : Each (λ p. p.0 < n) v.seen
-  pub reads : Each (IsAtMost n) v.reads
-  pub whole : v.share ≡ 64 → OwnsBelow v n
+  pub tells : CountTells v n
 
 abbrev pub saw : Step ℕ → Me ℕ View → ℕ → Me ℕ View → Type 0
 saw st m n m' = Saw (st.word / 50 - 1) m.0 n m'.0 × (m'.1 ≡ m.1) × Consistent m'.0
