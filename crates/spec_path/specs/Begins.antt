@@ -1,0 +1,25 @@
+-- The equations of a form, and what holds of the tableau that it begins with.
+use Rattle.std.specs.Prelude.{◌≡◌, ℕ, ◌+◌, ◌<◌, List, length, Some}
+use Rattle.spec_exact.specs.Fraction.{ℚ, ◌*ℚ◌, ◌≤ℚ◌, neg_ℚ}
+use Rattle.spec_pivot.specs.Tableau.{Matrix, delta}
+use Rattle.spec_simplex.specs.declared.ends.RowStart.{RowStart}
+use Rattle.spec_simplex.specs.Form.{Form, form_entry, form_lower, form_upper}
+use Rattle.spec_simplex.specs.Start.{start_at, logical_sign, by_column, cost_at, first_costs}
+use Rattle.spec_simplex.specs.Tableau.{Tableau}
+use Rattle.spec_path.specs.Tables.{bounds_of, IsTableauOf}
+
+-- row r says that its logical, less the row's sum, and its artificial with a sign make 0
+abbrev pub form_rows : Form → List (RowStart ℚ) → Matrix
+form_rows f starts r k =
+    by_column f k (neg_ℚ (form_entry f r k)) (λ i. delta r i) (λ i. logical_sign (start_at starts r) *ℚ delta r i)
+
+-- a bound or none of each column, and no lower one is above the upper one
+pub record IsProper (f : Form) : Type 0 where
+  pub all_lower : length f.lower ≡ f.cols + f.rows
+  pub all_upper : length f.upper ≡ f.cols + f.rows
+  pub ordered : (k : ℕ) (l u : ℚ) → k < f.cols + f.rows → form_lower f k ≡ Some l → form_upper f k ≡ Some u → l ≤ℚ u
+
+-- a tableau of the form's equations and the costs of phase one, with each value within its bounds
+pub record Begins (f : Form) (t : Tableau) : Type 0 where
+  pub starts : List (RowStart ℚ)
+  pub tableau : IsTableauOf f.rows f.cols (form_rows f starts) (cost_at (first_costs f starts)) (bounds_of t) t

@@ -1,0 +1,72 @@
+-- A tableau of lists, as one of functions of an index, and what a choice of the run means for it.
+use Rattle.std.specs.Prelude.{◌≡◌, ◌⊎◌, ℕ, ◌+◌, ◌<◌, ◌≤◌, Option, None, Ok, []}
+use Rattle.std.specs.Prelude.{length, get_or, Some, Bool, true, false, if◌then◌else◌}
+use Rattle.spec_exact.specs.Fraction.{ℚ, 0ℚ}
+use Rattle.spec_pivot.specs.declared.status.Status.TheVariants.{Basic}
+use Rattle.spec_pivot.specs.declared.status.Way.{Way}
+use Rattle.spec_pivot.specs.declared.status.Way.TheVariants.{Up, Down}
+use Rattle.spec_pivot.specs.Tableau.{Matrix}
+use Rattle.spec_pivot.specs.Simplex.{Bounds, Table, IsTableau, IsWithin, IsEligible, Label, IsStep}
+use Rattle.spec_pivot.specs.Ratio.{GoesOn}
+use Rattle.spec_simplex.specs.declared.ends.PrimalEnd.TheVariants.{Optimal, Unbounded}
+use Rattle.spec_simplex.specs.declared.ends.Choice.{Choice}
+use Rattle.spec_simplex.specs.declared.ends.Choice.TheVariants.{End, Flip, Pivot}
+use Rattle.spec_simplex.specs.Tableau.{Tableau, form_columns, all_columns, is_artificial, entry_at}
+use Rattle.spec_simplex.specs.Tableau.{basic_at, value_at, reduced_at, status_at, lower_at, upper_at}
+use Rattle.spec_simplex.specs.Step.{flip_run, pivot_run}
+
+abbrev pub table_of : Tableau → Table
+table_of t =
+    record { entry = entry_at t; basic = basic_at t; value = value_at t; reduced = reduced_at t; status = status_at t }
+
+-- artificial columns never enter
+abbrev pub bounds_of : Tableau → Bounds
+bounds_of t = record { lower = lower_at t; upper = upper_at t; barred = is_artificial t }
+
+abbrev pub way : Bool → Way
+way up = if up then Up else Down
+
+-- as many of each as there are positions and columns
+pub record IsWhole (t : Tableau) : Type 0 where
+  pub all_rows : length t.entries ≡ t.rows
+  pub whole_rows : (i : ℕ) → i < t.rows → length (get_or t.entries i []) ≡ all_columns t
+  pub all_basic : length t.basic ≡ t.rows
+  pub all_values : length t.value ≡ all_columns t
+  pub all_reduced : length t.reduced ≡ all_columns t
+  pub all_statuses : length t.status ≡ all_columns t
+  pub all_lower : length t.lower ≡ all_columns t
+  pub all_upper : length t.upper ≡ all_columns t
+
+-- the bounds of a tableau are these, but an artificial that is not basic is fixed at 0
+pub record KeepsBounds (b : Bounds) (t : Tableau) : Type 0 where
+  pub lower : (k : ℕ) → k < all_columns t → lower_at t k ≡ b.lower k
+  pub upper : (k : ℕ) → k < form_columns t → upper_at t k ≡ b.upper k
+  pub entering : (k : ℕ) → k < form_columns t → b.barred k ≡ false
+  pub barred : (k : ℕ) → form_columns t ≤ k → b.barred k ≡ true
+  pub zero : (k : ℕ) → form_columns t ≤ k → k < all_columns t → b.lower k ≡ Some 0ℚ
+  pub top : (k : ℕ) → form_columns t ≤ k → k < all_columns t → (b.upper k ≡ None) ⊎ (b.upper k ≡ Some 0ℚ)
+  pub basic : (k : ℕ) → k < all_columns t → status_at t k ≡ Basic → upper_at t k ≡ b.upper k
+  pub fixed : (k : ℕ) → form_columns t ≤ k → k < all_columns t → ¬ (status_at t k ≡ Basic) → upper_at t k ≡ Some 0ℚ
+
+-- a tableau of m positions, n columns of the model and these rows, costs and bounds, with each value within its bounds
+pub record IsTableauOf (m n : ℕ) (f : Matrix) (cost : ℕ → ℚ) (b : Bounds) (t : Tableau) : Type 0 where
+  pub rows : t.rows ≡ m
+  pub cols : t.cols ≡ n
+  pub whole : IsWhole t
+  pub tableau : IsTableau m (n + m + m) f cost b (table_of t)
+  pub within : IsWithin (n + m + m) b (table_of t)
+  pub bounds : KeepsBounds b t
+
+-- a step by the rule leads from one tableau to another of the same rows, costs and bounds
+pub record StepsTo (m n : ℕ) (f : Matrix) (cost : ℕ → ℚ) (b : Bounds) (t u : Tableau) : Type 0 where
+  pub label : Label
+  pub step : IsStep m (n + m + m) b label (table_of t) (table_of u)
+  pub after : IsTableauOf m n f cost b u
+
+-- no column is eligible; a column enters and is never stopped; or what the flip or the pivot gives is a step away
+abbrev pub IsMeant : ℕ → ℕ → Matrix → (ℕ → ℚ) → Bounds → Option ℕ → Tableau → Choice ℚ → Type 0
+IsMeant m n f cost b limit t (End Optimal) = (w : Way) (k : ℕ) → k < n + m + m → ¬ (IsEligible b (table_of t) w k)
+IsMeant m n f cost b limit t (End (Unbounded j up)) = GoesOn m (n + m + m) b (table_of t) (way up) j
+IsMeant m n f cost b limit t (Flip j) = (u : Tableau) → flip_run limit t j ≡ Ok u → StepsTo m n f cost b t u
+IsMeant m n f cost b limit t (Pivot p j theta to) =
+    (u : Tableau) → pivot_run limit t p j theta to ≡ Ok u → StepsTo m n f cost b t u
