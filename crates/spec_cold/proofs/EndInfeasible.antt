@@ -24,11 +24,12 @@ use Rattle.spec_simplex.specs.declared.ends.RowStart.{RowStart}
 use Rattle.spec_simplex.specs.declared.ends.RowStart.TheVariants.{Within, Below, Above}
 use Rattle.spec_simplex.specs.Form.{formed}
 use Rattle.spec_simplex.specs.Start.{start_at, cost_at, first_cost, first_costs, artificial_upper}
-use Rattle.spec_cold.specs.Begins.{form_rows}
-use Rattle.spec_cold.proofs.Columns.{sum_by_kind}
-use Rattle.spec_cold.proofs.Formed.{Limited}
-use Rattle.spec_cold.proofs.PhaseTwo.{stands_zero}
-use Rattle.spec_cold.proofs.EndTight.{HasBounds, tight_structural, tight_logical, weight_at, column_at}
+use Rattle.spec_path.specs.Begins.{form_rows}
+use Rattle.spec_path.proofs.Columns.{sum_by_kind}
+use Rattle.spec_path.proofs.Formed.{Limited}
+use Rattle.spec_path.proofs.PhaseTwo.{stands_zero}
+use Rattle.spec_path.proofs.Formed.{HasBounds}
+use Rattle.spec_cold.proofs.EndTight.{tight_structural, tight_logical, weight_at, column_at}
 use Rattle.spec_cold.proofs.EndRay.{allowed, falls}
 
 -- ---- multipliers and the limits at which values stand

@@ -12,9 +12,11 @@ use Rattle.spec_pivot.specs.Simplex.{Bounds, Table, IsInside, IsWithin, IsEligib
 use Rattle.spec_simplex.specs.declared.ends.RowStart.{RowStart}
 use Rattle.spec_simplex.specs.Form.{formed}
 use Rattle.spec_simplex.specs.Start.{cost_at}
-use Rattle.spec_cold.specs.Begins.{form_rows}
-use Rattle.spec_cold.proofs.Formed.{Limited, cost_structural, cost_other}
-use Rattle.spec_cold.proofs.EndTight.{HasBounds, within_structural, within_logical, tight_structural}
+use Rattle.spec_path.specs.Begins.{form_rows}
+use Rattle.spec_path.proofs.Formed.{Limited, cost_other}
+use Rattle.spec_cold.proofs.Formed.{cost_structural}
+use Rattle.spec_path.proofs.Formed.{HasBounds}
+use Rattle.spec_cold.proofs.EndTight.{within_structural, within_logical, tight_structural}
 use Rattle.spec_cold.proofs.EndTight.{tight_logical, weight_at, column_at, logical_is_row}
 
 pub zero_inside : (l u : Option ℚ) (v : ℚ) → l ≡ Some 0ℚ → u ≡ Some 0ℚ → IsInside l u v → v ≡ 0ℚ

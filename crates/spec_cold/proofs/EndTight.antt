@@ -21,12 +21,13 @@ use Rattle.spec_pivot.proofs.Fixed.{fixed_or_not}
 use Rattle.spec_pivot.proofs.Pivot.{sum_below-delta}
 use Rattle.spec_pivot.proofs.Values.{zero_at_basic}
 use Rattle.spec_simplex.specs.declared.ends.RowStart.{RowStart}
-use Rattle.spec_simplex.specs.Form.{Form, form_lower, form_upper, formed}
-use Rattle.spec_cold.specs.Begins.{form_rows}
-use Rattle.spec_cold.proofs.Columns.{sum_by_kind}
-use Rattle.spec_cold.proofs.Equations.{row_structural, row_logical}
-use Rattle.spec_cold.proofs.Formed.{Limited, entry_is, lower_structural, upper_structural, lower_logical, upper_logical}
-use Rattle.spec_cold.proofs.Begun.{delta_sym}
+use Rattle.spec_simplex.specs.Form.{Form, formed}
+use Rattle.spec_path.specs.Begins.{form_rows}
+use Rattle.spec_path.proofs.Columns.{sum_by_kind}
+use Rattle.spec_path.proofs.Equations.{row_structural, row_logical}
+use Rattle.spec_path.proofs.Formed.{Limited, entry_is, lower_structural, upper_structural, lower_logical, upper_logical}
+use Rattle.spec_path.proofs.Formed.{HasBounds}
+use Rattle.spec_path.proofs.Begun.{delta_sym}
 
 abbrev pub limits_at : Bounds → ℕ → Limits
 limits_at b k = record { lower = b.lower k; upper = b.upper k }
@@ -72,12 +73,6 @@ module _ (b : Bounds) (t : Table) (k : ℕ) (stands : Stands (t.status k) (b.low
 
   tight : IsTight (limits_at b k) (t.reduced k) (t.value k)
   tight = record { above = above; below = below }
-
--- the bounds of a form, but for those of the artificial columns
-pub record HasBounds (f : Form) (b : Bounds) : Type 0 where
-  pub lower : (k : ℕ) → k < f.cols + f.rows → b.lower k ≡ form_lower f k
-  pub upper : (k : ℕ) → k < f.cols + f.rows → b.upper k ≡ form_upper f k
-  pub entering : (k : ℕ) → k < f.cols + f.rows → b.barred k ≡ false
 
 module _ (m : Model) (ls : List (Option ℚ × Option ℚ)) (h : Limited m ls) (starts : List (RowStart ℚ)) where
   abbrev f : Form

@@ -17,10 +17,12 @@ use Rattle.spec_pivot.proofs.Ray.{form_ray}
 use Rattle.spec_simplex.specs.declared.ends.RowStart.{RowStart}
 use Rattle.spec_simplex.specs.Form.{formed}
 use Rattle.spec_simplex.specs.Start.{cost_at}
-use Rattle.spec_cold.specs.Begins.{form_rows}
-use Rattle.spec_cold.proofs.Columns.{sum_by_kind}
-use Rattle.spec_cold.proofs.Formed.{Limited, cost_structural, cost_other}
-use Rattle.spec_cold.proofs.EndTight.{HasBounds, bounds_structural, bounds_logical, limits_at, logical_is_row}
+use Rattle.spec_path.specs.Begins.{form_rows}
+use Rattle.spec_path.proofs.Columns.{sum_by_kind}
+use Rattle.spec_path.proofs.Formed.{Limited, cost_other}
+use Rattle.spec_cold.proofs.Formed.{cost_structural}
+use Rattle.spec_path.proofs.Formed.{HasBounds}
+use Rattle.spec_cold.proofs.EndTight.{bounds_structural, bounds_logical, limits_at, logical_is_row}
 use Rattle.spec_cold.proofs.EndOptimal.{point_feasible}
 use Rattle.spec_cold.proofs.EndRay.{allowed, falls}
 

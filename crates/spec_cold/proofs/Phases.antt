@@ -24,16 +24,16 @@ use Rattle.spec_simplex.specs.Start.{cost_at, first_costs, start_of}
 use Rattle.spec_simplex.specs.Tableau.{Tableau, form_columns, is_artificial, basic_at, value_at, lower_at, upper_at}
 use Rattle.spec_simplex.specs.Phases.{PrimalEnded, wants_phase_one, is_stuck, phase_one, phase_two}
 use Rattle.spec_simplex.specs.Phases.{phase_two_run, run_from, PhasesEnd, Infeasible, Finished, phases_run}
-use Rattle.spec_cold.specs.Tables.{way, table_of, bounds_of, IsTableauOf, IsMeant}
-use Rattle.spec_cold.specs.Begins.{form_rows}
+use Rattle.spec_path.specs.Tables.{way, table_of, bounds_of, IsTableauOf, IsMeant}
+use Rattle.spec_path.specs.Begins.{form_rows}
 use Rattle.spec_cold.specs.Cold.{multipliers, certificate_at, certificate_of}
-use Rattle.spec_cold.proofs.Runs.{then_ok, refused_ok}
-use Rattle.spec_cold.proofs.Walks.{IsEnd, run_ends, run_spent, few, stand_still}
-use Rattle.spec_cold.proofs.Walks.{never_spent, ThenErr, first, second, then_err}
-use Rattle.spec_cold.proofs.Begun.{Started, start_is_tableau}
-use Rattle.spec_cold.proofs.PhaseTwo.{IsSecond, second_phase, some_of}
-use Rattle.spec_cold.proofs.Formed.{Limited, cost_length, formed_proper}
-use Rattle.spec_cold.proofs.EndTight.{HasBounds}
+use Rattle.spec_path.proofs.Runs.{then_ok, refused_ok}
+use Rattle.spec_path.proofs.Walks.{IsEnd, run_ends, run_spent, few, stand_still}
+use Rattle.spec_path.proofs.Walks.{never_spent, ThenErr, first, second, then_err}
+use Rattle.spec_path.proofs.Begun.{Started, start_is_tableau}
+use Rattle.spec_path.proofs.PhaseTwo.{IsSecond, second_phase, some_of}
+use Rattle.spec_path.proofs.Formed.{Limited, cost_length, formed_proper}
+use Rattle.spec_path.proofs.Formed.{HasBounds}
 use Rattle.spec_cold.proofs.EndInfeasible.{never_goes_on, infeasible_checks}
 use Rattle.spec_cold.proofs.Shown.{Shows, multipliers_length, multiplier_at, primal_shows}
 

@@ -15,12 +15,12 @@ use Rattle.spec_simplex.specs.Start.{cost_at}
 use Rattle.spec_simplex.specs.Tableau.{Tableau, value_at, reduced_at}
 use Rattle.spec_simplex.specs.Phases.{PrimalEnded}
 use Rattle.spec_simplex.proofs.Stops.{length-made}
-use Rattle.spec_cold.specs.Tables.{way, table_of, IsTableauOf, IsMeant}
-use Rattle.spec_cold.specs.Begins.{form_rows}
+use Rattle.spec_path.specs.Tables.{way, table_of, IsTableauOf, IsMeant}
+use Rattle.spec_path.specs.Begins.{form_rows}
 use Rattle.spec_cold.specs.Cold.{point, multipliers, moves_by, moves_below, direction, certificate_at}
-use Rattle.spec_cold.proofs.Runs.{get_or-made}
-use Rattle.spec_cold.proofs.Formed.{Limited}
-use Rattle.spec_cold.proofs.EndTight.{HasBounds}
+use Rattle.spec_path.proofs.Runs.{get_or-made}
+use Rattle.spec_path.proofs.Formed.{Limited}
+use Rattle.spec_path.proofs.Formed.{HasBounds}
 use Rattle.spec_cold.proofs.EndOptimal.{optimal_checks}
 use Rattle.spec_cold.proofs.EndUnbounded.{unbounded_checks}
 use Rattle.spec_cold.proofs.Directions.{moves_are}

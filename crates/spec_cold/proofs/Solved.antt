@@ -21,16 +21,13 @@ use Rattle.spec_simplex.specs.declared.ends.RunStop.TheVariants as stop
 use Rattle.spec_simplex.specs.Form.{Form, form_of}
 use Rattle.spec_simplex.specs.Phases.{PhasesEnd, phases_run}
 use Rattle.spec_cold.specs.declared.outcome.Cold.TheVariants as outcome
-use Rattle.spec_cold.specs.Begins.{IsProper}
 use Rattle.spec_cold.specs.Cold.{ColdEnd, certificate_of, basis_of, pivots_of}
 use Rattle.spec_cold.specs.Cold.{checked, answered, after_phases, after_form, cold}
 use Rattle.spec_cold.specs.Accepted.{IsAccepted}
-use Rattle.spec_cold.proofs.Formed.{form_is, formed_proper, clash_is}
+use Rattle.spec_path.proofs.Formed.{form_is}
+use Rattle.spec_cold.proofs.Formed.{clash_is}
 use Rattle.spec_cold.proofs.Phases.{phases_show, phases_enough}
 use Rattle.spec_cold.proofs.Shown.{Shows}
-
-pub form_proper : (limit : Option ℕ) (m : Model) (f : Form) → form_of limit m ≡ Ok f → IsProper f
-form_proper limit m f e = let o = form_is limit m f e in subst IsProper o.2 (formed_proper m o.0 o.1)
 
 pub accepted : (limit : Option ℕ) (m : Model) (c : Certificate (List ℚ)) → Shows m c → IsAccepted limit m c
 accepted limit m c s = record {

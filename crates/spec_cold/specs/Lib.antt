@@ -1,4 +1,2 @@
 pub mod Accepted
-pub mod Begins
 pub mod Cold
-pub mod Tables

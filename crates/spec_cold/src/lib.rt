@@ -6,21 +6,17 @@
 //! | `cold` | the cold solve of a model, at a limit and within a budget | specs/Cold |
 //! | `certificate_of`, `basis_of` | the certificate and the basis of what both phases end with | specs/Cold |
 //! | `IsAccepted`, `IsAnswered` | what is promised of a certificate and of an answer | specs/Accepted |
-//! | `table_of`, `bounds_of` | a tableau of lists, by the numbers of positions and columns | specs/Tables |
-//! | `IsTableauOf` | a tableau of these rows, costs and bounds, with each value within its bounds | specs/Tables |
-//! | `IsMeant` | what a choice of the run means for a tableau | specs/Tables |
-//! | `form_rows`, `IsProper`, `Begins` | a form's equations, and the tableau that it begins with | specs/Begins |
 //!
 //! The functions here have the laws as their contracts. Each law holds at every limit: a run at a limit that gives a
 //! result gives the exact one.
 //!
-//! The run on lists is that of `spec_simplex`, the steps on functions of an index are those of `spec_pivot`, and the
-//! certificates and their checker those of `spec_check`.
+//! The run on lists is that of `spec_simplex`, what its steps mean is said in `spec_path`, and the certificates and their
+//! checker are those of `spec_check`.
 #![tactic(auto)]
 
 mod outcome;
 
-ghost use Rattle.std.specs.Prelude.{◌≡◌, ◌⊎◌, ◌+◌, ◌*◌, ◌^◌, ◌≤◌, ℕ, List, length, Option, None, Ok, Err, false};
+ghost use Rattle.std.specs.Prelude.{◌≡◌, ◌⊎◌, ◌+◌, ◌*◌, ◌^◌, ◌≤◌, ℕ, List, Option, None, Ok, Err};
 ghost use Rattle.spec_exact.specs.Fraction.{ℚ};
 ghost use Rattle.spec_exact.specs.declared.past.Past.{Past};
 ghost use Rattle.spec_model.specs.Model.{Model, width, height};
@@ -30,46 +26,15 @@ ghost use Rattle.spec_check.specs.declared.certificate.Known.{Known};
 ghost use Rattle.spec_check.specs.Certificate.{Holds};
 ghost use Rattle.spec_check.specs.Run.{check_run};
 ghost use Rattle.spec_pivot.specs.declared.status.Status.{Status};
-ghost use Rattle.spec_pivot.specs.Tableau.{Matrix};
-ghost use Rattle.spec_pivot.specs.Simplex.{Bounds};
-ghost use Rattle.spec_simplex.specs.declared.ends.Choice.{Choice};
 ghost use Rattle.spec_simplex.specs.declared.ends.FormFault.TheVariants as fault;
 ghost use Rattle.spec_simplex.specs.declared.ends.RunStop.TheVariants as stop;
 ghost use Rattle.spec_simplex.specs.Form.{Form, form_of};
-ghost use Rattle.spec_simplex.specs.Tableau.{Tableau};
-ghost use Rattle.spec_simplex.specs.Start.{cost_at, start_of};
-ghost use Rattle.spec_simplex.specs.Step.{choice_run};
-ghost use Rattle.spec_simplex.specs.Phases.{PhasesEnd, is_stuck, phase_two_run, phases_run};
+ghost use Rattle.spec_simplex.specs.Phases.{PhasesEnd, phases_run};
 ghost use Rattle.spec_cold.specs.declared.outcome.Cold.TheVariants as outcome;
-ghost use Rattle.spec_cold.specs.Tables.{bounds_of, IsTableauOf, IsMeant};
-ghost use Rattle.spec_cold.specs.Begins.{IsProper, Begins};
 ghost use Rattle.spec_cold.specs.Cold.{cold, certificate_of};
 ghost use Rattle.spec_cold.specs.Accepted.{IsAccepted, IsAnswered};
 
 pub use outcome::Cold;
-
-/// A choice of the run means what the rule of the least index says: its flips and pivots are steps by the rule to
-/// tableaus of the same rows, costs and bounds; where it ends, no column is eligible,
-/// or the one that enters is never stopped.
-pub fn steps_mean_pivots()
-    ensures { (limit : Option ℕ) (m n : ℕ) (f : Matrix) (cost : ℕ → ℚ) (b : Bounds) (t : Tableau) (choice : Choice ℚ) →
-        IsTableauOf m n f cost b t → choice_run limit t ≡ Ok choice → IsMeant m n f cost b limit t choice }
-{}
-
-/// The form of a model begins with a tableau of the form's equations, with each value within its bounds.
-pub fn starts_are_tableaus()
-    ensures forms { (limit : Option ℕ) (m : Model) (f : Form) → form_of limit m ≡ Ok f → IsProper f }
-    ensures starts { (limit : Option ℕ) (f : Form) (t : Tableau) → IsProper f → start_of limit f ≡ Ok t → Begins f t }
-{}
-
-/// Where phase one leaves no artificial that is not 0, phase two begins with a tableau of the same rows and of its own
-/// costs, with each value within its bounds.
-pub fn phase_two_goes_on()
-    ensures { (limit : Option ℕ) (form : Form) (m n : ℕ) (f : Matrix) (cost : ℕ → ℚ) (b : Bounds) (t u : Tableau) →
-        IsTableauOf m n f cost b t → is_stuck t ≡ false →
-        length form.cost ≤ n + m + m → phase_two_run limit form t ≡ Ok u →
-        IsTableauOf m n f (cost_at form.cost) (bounds_of u) u }
-{}
 
 /// The certificate of what both phases end with, or of a clash, is accepted without a limit, and at a limit unless an
 /// operation is refused.

@@ -17,9 +17,10 @@ use Rattle.spec_cold.specs.declared.outcome.Cold.TheVariants as outcome
 use Rattle.spec_cold.specs.Accepted.{IsAccepted}
 use Rattle.spec_cold.specs.Cold.{ColdEnd, certificate_of, basis_of, pivots_of}
 use Rattle.spec_cold.specs.Cold.{checked, answered, after_phases, after_form, cold}
-use Rattle.spec_cold.proofs.Formed.{form_is, cost_length, cost_other}
-use Rattle.spec_cold.proofs.LimitStart.{form_agrees}
-use Rattle.spec_cold.proofs.Solved.{form_proper, end_accepted}
+use Rattle.spec_path.proofs.Formed.{form_is, cost_length, cost_other}
+use Rattle.spec_path.proofs.LimitStart.{form_agrees}
+use Rattle.spec_path.proofs.Formed.{form_proper}
+use Rattle.spec_cold.proofs.Solved.{end_accepted}
 use Rattle.spec_factor.specs.Over.{over_run, answer_in, after_over, over_factors}
 use Rattle.spec_revised.specs.Same.{HasCosts}
 use Rattle.spec_revised.proofs.OverLimits.{over_agrees}

@@ -23,16 +23,16 @@ use Rattle.spec_simplex.specs.Start.{cost_at, first_cost, first_costs, priced_ru
 use Rattle.spec_simplex.specs.Tableau.{Tableau, is_artificial, basic_at, value_at}
 use Rattle.spec_simplex.specs.Phases.{PrimalEnded, run_from, without_artificials, phase_two_run, wants_phase_one}
 use Rattle.spec_simplex.specs.Phases.{is_stuck, phase_one, phase_two, PhasesEnd, Infeasible, Finished, phases_run}
-use Rattle.spec_cold.specs.Tables.{bounds_of, IsTableauOf}
-use Rattle.spec_cold.specs.Begins.{form_rows, IsProper}
+use Rattle.spec_path.specs.Tables.{bounds_of, IsTableauOf}
+use Rattle.spec_path.specs.Begins.{form_rows, IsProper}
 use Rattle.spec_cold.specs.Cold.{multipliers, basis_at, certificate_at}
-use Rattle.spec_cold.proofs.Runs.{then_ok, IsListOf, list_ok, get_or-made}
-use Rattle.spec_cold.proofs.Refusals.{agrees_list}
-use Rattle.spec_cold.proofs.LimitStart.{row_start_agrees, priced_agrees}
-use Rattle.spec_cold.proofs.LimitPhases.{two_agrees}
-use Rattle.spec_cold.proofs.RowStarts.{RowBegins, first_sum, start_is}
-use Rattle.spec_cold.proofs.Begun.{begun_is}
-use Rattle.spec_cold.proofs.PhaseTwo.{some_of, second_phase}
+use Rattle.spec_path.proofs.Runs.{then_ok, IsListOf, list_ok, get_or-made}
+use Rattle.spec_path.proofs.Refusals.{agrees_list}
+use Rattle.spec_path.proofs.LimitStart.{row_start_agrees, priced_agrees}
+use Rattle.spec_path.proofs.LimitPhases.{two_agrees}
+use Rattle.spec_path.proofs.RowStarts.{RowBegins, first_sum, start_is}
+use Rattle.spec_path.proofs.Begun.{begun_is}
+use Rattle.spec_path.proofs.PhaseTwo.{some_of, second_phase}
 use Rattle.spec_factor.specs.Factors.{Pair, column_entry}
 use Rattle.spec_factor.specs.Basis.{IsPair, StandsFor, basis_of}
 use Rattle.spec_factor.specs.Revised.{Revised, bare_of, factor_column, refactor_run}

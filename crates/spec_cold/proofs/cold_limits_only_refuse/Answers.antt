@@ -1,4 +1,4 @@
-use Rattle.spec_cold.proofs.LimitPhases.{cold_same, never_past}
+use Rattle.spec_cold.proofs.LimitCold.{cold_same, never_past}
 use Rattle.spec_cold.proofs.cold_limits_only_refuse.Goals as goal
 
 pub returns : goal.returns

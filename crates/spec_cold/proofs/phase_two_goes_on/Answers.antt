@@ -1,5 +1,0 @@
-use Rattle.spec_cold.proofs.PhaseTwo.{second_phase}
-use Rattle.spec_cold.proofs.phase_two_goes_on.Goals as goal
-
-pub returns : goal.returns
-returns c = λ limit form m n f cost b t u s free few h. (second_phase limit form m n f cost b t u s free few h).tableau
