@@ -20,7 +20,7 @@ use Rattle.spec_model.specs.Kept.{AreEntries}
 use Rattle.spec_pivot.proofs.Pivot.{by_eq}
 use Rattle.spec_simplex.specs.Run.{Run, ◌>>=◌, difference_run, less_product, steps, list_run}
 use Rattle.spec_simplex.proofs.Stops.{list_more, steps_more}
-use Rattle.spec_cold.proofs.Lists.{by_lt}
+use Rattle.spec_path.proofs.Lists.{by_lt}
 use Rattle.lp_frac.specs.Narrow.{largest}
 
 abbrev pub Entries : Type 0

@@ -26,8 +26,8 @@ use Rattle.spec_simplex.specs.Dual.{DualEnded, dual_run}
 use Rattle.spec_cold.specs.declared.outcome.Cold.TheVariants as cold
 use Rattle.spec_cold.specs.Accepted.{IsAccepted}
 use Rattle.spec_cold.specs.Cold as colds
-use Rattle.spec_cold.proofs.Formed.{form_is, cost_length}
-use Rattle.spec_cold.proofs.Solved.{form_proper}
+use Rattle.spec_path.proofs.Formed.{form_is, cost_length}
+use Rattle.spec_path.proofs.Formed.{form_proper}
 use Rattle.spec_warm.specs.declared.ends.Route.TheVariants as route
 use Rattle.spec_warm.specs.declared.ends.Warm.TheVariants as warm
 use Rattle.spec_warm.specs.Based.{BeginsFrom}

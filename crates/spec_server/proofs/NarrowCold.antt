@@ -37,7 +37,7 @@ use Rattle.spec_simplex.proofs.Stops.{All-made}
 use Rattle.spec_cold.specs.declared.outcome.Cold.TheVariants as outcome
 use Rattle.spec_cold.specs.Cold.{ColdEnd, point, multipliers, moves_below, moves_by, certificate_at, certificate_of}
 use Rattle.spec_cold.specs.Cold.{basis_of, pivots_of, checked, after_phases, after_form, cold}
-use Rattle.spec_cold.proofs.Runs.{then_ok, refused_ok}
+use Rattle.spec_path.proofs.Runs.{then_ok, refused_ok}
 use Rattle.spec_server.specs.Answers.{number_limit}
 use Rattle.spec_server.proofs.NarrowSteps.{NarrowBound, AreNarrow, number_at, place_narrow, flip_narrow, pivot_narrow}
 use Rattle.spec_server.proofs.NarrowStart.{IsNarrowForm, one_narrow, form_narrow, start_narrow, priced_narrow}

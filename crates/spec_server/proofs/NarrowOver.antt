@@ -33,7 +33,7 @@ use Rattle.spec_simplex.specs.Tableau.{Tableau, form_columns, is_artificial, bas
 use Rattle.spec_simplex.proofs.Stops.{All-made}
 use Rattle.spec_cold.specs.declared.outcome.Cold.TheVariants as outcome
 use Rattle.spec_cold.specs.Cold.{ColdEnd, moves_by}
-use Rattle.spec_cold.proofs.Runs.{then_ok, refused_ok}
+use Rattle.spec_path.proofs.Runs.{then_ok, refused_ok}
 use Rattle.spec_factor.specs.Factors.{Pair, pair_at, column_entry, column_of, forward_run, ftran_run}
 use Rattle.spec_factor.specs.Factors.{backward_run, btran_run, factor_run, replace_run}
 use Rattle.spec_factor.specs.Revised.{Revised, bare_of, sign_of, factor_basis, factor_stop, refactored, refactor_run}

@@ -29,7 +29,7 @@ use Rattle.spec_simplex.specs.Start.{structural_entry, artificial_value, artific
 use Rattle.spec_simplex.specs.Start.{start_entry, start_value, start_row, begun, cost_at, reduced_run, priced_run}
 use Rattle.spec_simplex.specs.Start.{with_reduced, first_cost, first_costs, start_of}
 use Rattle.spec_simplex.proofs.Stops.{All-made}
-use Rattle.spec_cold.proofs.Runs.{then_ok, refused_ok, steps_ok}
+use Rattle.spec_path.proofs.Runs.{then_ok, refused_ok, steps_ok}
 use Rattle.spec_server.specs.Answers.{number_limit}
 use Rattle.spec_server.proofs.NarrowRuns.{sum_narrow, difference_narrow, plus_narrow, less_narrow, all_given}
 use Rattle.spec_server.proofs.NarrowSteps.{NarrowBound, AreNarrow, at, number_at, bound_at, or_zero_narrow}

@@ -17,7 +17,7 @@ use Rattle.spec_simplex.specs.Form.{Form, form_of}
 use Rattle.spec_cold.specs.declared.outcome.Cold.TheVariants.{Ended, Past, Spent}
 use Rattle.spec_cold.specs.Cold.{ColdEnd, checked, cold}
 use Rattle.spec_cold.proofs.Solved as colds
-use Rattle.spec_cold.proofs.LimitPhases.{cold_same}
+use Rattle.spec_cold.proofs.LimitCold.{cold_same}
 use Rattle.spec_warm.specs.declared.ends.Route.TheVariants as route
 use Rattle.spec_warm.specs.declared.ends.Warm.TheVariants as warms
 use Rattle.spec_warm.specs.Warm.{WarmResult, warm}

@@ -20,14 +20,14 @@ use Rattle.spec_simplex.specs.Run.{made}
 use Rattle.spec_simplex.specs.Start.{logical_sign, start_at}
 use Rattle.spec_simplex.specs.Tableau.{Tableau, form_columns, basic_at, entry_at, value_at, status_at}
 use Rattle.spec_simplex.proofs.Stops.{length-made}
-use Rattle.spec_cold.specs.Begins.{form_rows}
+use Rattle.spec_path.specs.Begins.{form_rows}
 use Rattle.spec_simplex.specs.Tableau.{is_basic}
 use Rattle.spec_cold.specs.Cold as cold
-use Rattle.spec_cold.specs.Tables.{table_of}
-use Rattle.spec_cold.proofs.Begun.{delta_sym, sign_square}
-use Rattle.spec_cold.proofs.EndTight.{HasBounds}
-use Rattle.spec_cold.proofs.Equations.{row_logical, row_artificial}
-use Rattle.spec_cold.proofs.Runs.{get_or-made}
+use Rattle.spec_path.specs.Tables.{table_of}
+use Rattle.spec_path.proofs.Begun.{delta_sym, sign_square}
+use Rattle.spec_path.proofs.Formed.{HasBounds}
+use Rattle.spec_path.proofs.Equations.{row_logical, row_artificial}
+use Rattle.spec_path.proofs.Runs.{get_or-made}
 use Rattle.spec_simplex.specs.Eliminate.{basis_at, basics_below, CanStand, IsBasisOf}
 use Rattle.spec_warm.proofs.Counts.{basic_if, basic_test, nonbasic_test}
 use Rattle.spec_warm.proofs.Members.{count, count_same, count_split, count_either}

@@ -10,10 +10,11 @@ use Rattle.spec_model.specs.Model.{Model, width, height, bounds, limits, coeffic
 use Rattle.spec_check.specs.Checks.{priced, IsTight, turned_limits, rows_ask, columns_give, ChecksInfeasible}
 use Rattle.spec_pivot.specs.Simplex.{Bounds}
 use Rattle.spec_simplex.specs.Form.{formed}
-use Rattle.spec_cold.proofs.Columns.{sum_by_kind}
-use Rattle.spec_cold.proofs.Formed.{Limited}
+use Rattle.spec_path.proofs.Columns.{sum_by_kind}
+use Rattle.spec_path.proofs.Formed.{Limited}
 use Rattle.spec_cold.proofs.EndInfeasible.{tight_turned, has_limit, asked_is}
-use Rattle.spec_cold.proofs.EndTight.{HasBounds, limits_at, bounds_structural, bounds_logical, weight_at, column_at}
+use Rattle.spec_path.proofs.Formed.{HasBounds}
+use Rattle.spec_cold.proofs.EndTight.{limits_at, bounds_structural, bounds_logical, weight_at, column_at}
 use Rattle.spec_dual.specs.Dual.{Refutes}
 use Rattle.spec_warm.specs.Based.{equations}
 

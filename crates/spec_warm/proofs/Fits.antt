@@ -15,8 +15,8 @@ use Rattle.spec_pivot.proofs.Pivot.{by_eq}
 use Rattle.spec_simplex.specs.Run.{Run, order_run}
 use Rattle.spec_simplex.specs.Tableau.{Tableau, all_columns, value_at, status_at, lower_at, upper_at}
 use Rattle.spec_simplex.specs.Tableau.{is_basic}
-use Rattle.spec_cold.specs.Tables.{way}
-use Rattle.spec_cold.proofs.Runs.{then_ok, order_ok, steps_ok}
+use Rattle.spec_path.specs.Tables.{way}
+use Rattle.spec_path.proofs.Runs.{then_ok, order_ok, steps_ok}
 use Rattle.spec_dual.specs.Dual.{Suits, IsPast}
 use Rattle.spec_simplex.specs.declared.ends.Fit.{Fit}
 use Rattle.spec_simplex.specs.declared.ends.Fit.TheVariants.{Primal, Dual, Unfit}

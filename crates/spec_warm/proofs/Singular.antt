@@ -18,7 +18,7 @@ use Rattle.spec_simplex.specs.Form.{Form}
 use Rattle.spec_simplex.specs.Run.{Run, ◌>>=◌, refused_as, steps}
 use Rattle.spec_simplex.specs.Tableau.{at_place}
 use Rattle.spec_simplex.specs.Tableau.{is_basic}
-use Rattle.spec_cold.proofs.Begun.{delta_sym}
+use Rattle.spec_path.proofs.Begun.{delta_sym}
 use Rattle.spec_simplex.specs.declared.ends.StartStop.{StartStop}
 use Rattle.spec_simplex.specs.declared.ends.StartStop.TheVariants as stop
 use Rattle.spec_warm.specs.Based.{equations, IsDependent}

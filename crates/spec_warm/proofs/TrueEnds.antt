@@ -22,7 +22,7 @@ use Rattle.spec_simplex.specs.Start.{cost_at}
 use Rattle.spec_simplex.specs.Tableau.{form_columns}
 use Rattle.spec_cold.specs.Cold as cold
 use Rattle.spec_cold.specs.Accepted.{IsAccepted}
-use Rattle.spec_cold.proofs.Formed.{form_is}
+use Rattle.spec_path.proofs.Formed.{form_is}
 use Rattle.spec_cold.proofs.Phases.{phases_finish}
 use Rattle.spec_cold.proofs.Solved.{IsTrueEnd, accepted, clash_accepted}
 use Rattle.spec_warm.specs.declared.ends.Warm.TheVariants as outcome

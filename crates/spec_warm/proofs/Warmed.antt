@@ -20,15 +20,15 @@ use Rattle.spec_simplex.specs.Tableau.{Tableau, form_columns, all_columns, entry
 use Rattle.spec_simplex.specs.Tableau.{value_at, status_at, lower_at, upper_at}
 use Rattle.spec_simplex.specs.Phases.{PrimalEnded, run_from}
 use Rattle.spec_simplex.proofs.Stops.{length-made}
-use Rattle.spec_cold.specs.Tables.{way, table_of, bounds_of, IsTableauOf}
+use Rattle.spec_path.specs.Tables.{way, table_of, bounds_of, IsTableauOf}
 use Rattle.spec_cold.specs.Cold as cold
-use Rattle.spec_cold.proofs.Runs.{then_ok, refused_ok, get_or-made}
-use Rattle.spec_cold.proofs.Lists.{by_lt}
-use Rattle.spec_cold.proofs.Flips.{directed_is}
-use Rattle.spec_cold.proofs.Formed.{Limited, cost_length, formed_proper}
-use Rattle.spec_cold.proofs.EndTight.{HasBounds}
+use Rattle.spec_path.proofs.Runs.{then_ok, refused_ok, get_or-made}
+use Rattle.spec_path.proofs.Lists.{by_lt}
+use Rattle.spec_path.proofs.Flips.{directed_is}
+use Rattle.spec_path.proofs.Formed.{Limited, cost_length, formed_proper}
+use Rattle.spec_path.proofs.Formed.{HasBounds}
 use Rattle.spec_cold.proofs.Shown.{Shows, primal_shows}
-use Rattle.spec_cold.proofs.Walks.{run_ends}
+use Rattle.spec_path.proofs.Walks.{run_ends}
 use Rattle.spec_dual.specs.Dual.{IsOrdered, row_of}
 use Rattle.spec_dual.proofs.Optimal.{none_eligible, within_where_basic}
 use Rattle.spec_dual.proofs.Refuted.{stops, row_refutes}

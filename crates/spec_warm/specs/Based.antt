@@ -10,8 +10,8 @@ use Rattle.spec_pivot.specs.Simplex.{Bounds, IsInside, IsTableau}
 use Rattle.spec_simplex.specs.Form.{Form, form_lower, form_upper}
 use Rattle.spec_simplex.specs.Start.{cost_at}
 use Rattle.spec_simplex.specs.Tableau.{Tableau, value_at, status_at, lower_at, upper_at}
-use Rattle.spec_cold.specs.Tables.{way, table_of, bounds_of, IsWhole, KeepsBounds}
-use Rattle.spec_cold.specs.Begins.{form_rows}
+use Rattle.spec_path.specs.Tables.{way, table_of, bounds_of, IsWhole, KeepsBounds}
+use Rattle.spec_path.specs.Begins.{form_rows}
 use Rattle.spec_dual.specs.Dual.{IsDualFeasible, Leaves, IsCandidate, IsCheapest}
 use Rattle.spec_simplex.specs.declared.ends.DualEnd.TheVariants.{Optimal, Infeasible}
 use Rattle.spec_simplex.specs.declared.ends.DualChoice.{DualChoice}

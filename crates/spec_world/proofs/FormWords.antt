@@ -24,8 +24,8 @@ use Rattle.spec_simplex.specs.Eliminate.{IsBasisOf}
 use Rattle.spec_simplex.specs.Phases.{PhasesEnd, phases_run}
 use Rattle.spec_cold.specs.declared.outcome.Cold.TheVariants.{Ended}
 use Rattle.spec_cold.specs.Cold.{ColdEnd, certificate_of, basis_of, pivots_of, checked, after_phases, after_form, cold}
-use Rattle.spec_cold.proofs.Formed.{form_is}
-use Rattle.spec_cold.proofs.LimitStart.{form_agrees}
+use Rattle.spec_path.proofs.Formed.{form_is}
+use Rattle.spec_path.proofs.LimitStart.{form_agrees}
 use Rattle.spec_warm.specs.declared.ends.Warm.TheVariants as outcome
 use Rattle.spec_warm.specs.Warm as warms
 use Rattle.spec_warm.specs.Warm.{WarmEnd, WarmResult, warm_run, warm_certificate, warm_basis, warm_pivots, warm}
