@@ -3,8 +3,8 @@ use Rattle.std.proofs.Common.{◌≡◌, ℕ, zero, suc, Bool, true, false, Opti
 use Rattle.std.proofs.Common.{sym, ap, ◌∙◌, subst, cond, inl, inr}
 use Rattle.spec_check.specs.declared.certificate.Known.TheVariants as known
 use Rattle.spec_simplex.specs.Form.{Form}
-use Rattle.spec_cold.specs.declared.outcome.Cold.TheVariants.{Ended, Past, Spent}
-use Rattle.spec_cold.specs.Cold.{ColdEnd}
+use Rattle.spec_check.specs.declared.solve_end.SolveEnd.TheVariants.{Ended, Past, Spent}
+use Rattle.spec_cold.specs.Cold.{ExactSolveEnd}
 use Rattle.spec_shape.proofs.Places.{packed_length}
 use Rattle.spec_reads.specs.declared.read.Put.{Put}
 use Rattle.spec_reads.specs.declared.read.Put.TheVariants.{Published, Full, Raced}
@@ -54,7 +54,7 @@ put_sized places words (Full c) reads sized p = subst (Each IsSized) (sym p.1) (
 put_sized places words (Raced e) reads sized p = subst (Each IsSized) (sym p.2) (tt, (tt, tt))
 
 -- ---- what is to be published is a basis
-end_sized : (f : Form) (end : ColdEnd) → IfSome (words_of_end f end) (λ words. length words ≡ basis_words)
+end_sized : (f : Form) (end : ExactSolveEnd) → IfSome (words_of_end f end) (λ words. length words ≡ basis_words)
 end_sized f (Ended (known.Optimal v) certificate (Some basis) pivots) = packed_length f basis
 end_sized f (Ended (known.Optimal v) certificate None pivots) = tt
 end_sized f (Ended known.Infeasible certificate basis pivots) = tt
@@ -67,7 +67,7 @@ words_of (Ends replied next) = []
 words_of (Publishes pending) = pending.words
 
 module _ (old : State) (found : Looked) (pending : Pending) where
-  worked_sized : (end : ColdEnd) (how : How) (words : Option Words) →
+  worked_sized : (end : ExactSolveEnd) (how : How) (words : Option Words) →
       IfSome words (λ words. length words ≡ basis_words) →
       Publishes pending ≡ worked_with old found end how words → length pending.words ≡ basis_words
   worked_sized end how None sized e = cc

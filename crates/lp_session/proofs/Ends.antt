@@ -5,8 +5,8 @@ use Rattle.spec_check.specs.declared.certificate.Known.TheVariants as known
 use Rattle.spec_pivot.specs.declared.status.Status.{Status}
 use Rattle.spec_simplex.specs.Form.{Form, IsForm, form_of}
 use Rattle.spec_simplex.specs.Eliminate.{IsBasisOf}
-use Rattle.spec_cold.specs.declared.outcome.Cold.TheVariants.{Ended, Past, Spent}
-use Rattle.spec_cold.specs.Cold.{ColdEnd}
+use Rattle.spec_check.specs.declared.solve_end.SolveEnd.TheVariants.{Ended, Past, Spent}
+use Rattle.spec_cold.specs.Cold.{ExactSolveEnd}
 use Rattle.spec_warm.specs.Solve.{SolveEnd, HasBasis}
 use Rattle.spec_solve.specs.Order.{solve_over}
 use Rattle.spec_shape.specs.Words.{IsWellFormed, packed, unpacked}
@@ -43,7 +43,7 @@ module _ {E : Type 0} (m : Model) (handed : Option (List Status)) (r : Result So
       by (Ok s) e = leaves_basis (Some number_limit) given m f formed handed s fits e
       by (Err why) e = tt
 
-pub end_of : (model : Option Model) (m : Model) (budget : ℕ) (end : ColdEnd) → model ≡ Some m → MayAnswer m budget end →
+pub end_of : (model : Option Model) (m : Model) (budget : ℕ) (end : ExactSolveEnd) → model ≡ Some m → MayAnswer m budget end →
     IsEndOf model end
 end_of model m budget end e may = subst (λ model. IsEndOf model end) (sym e) (budget, may)
 
@@ -59,7 +59,7 @@ pub found_handed : (found : Looked) (place : Found Words) (basis : List Status) 
 found_handed found place basis e b = ap Some b ∙ sym (ap handed_by e)
 
 -- ---- the words of an optimum
-pub left_formed : (f : Form) (end : ColdEnd) (words : Words) → IsForm f → LeavesBasis f end →
+pub left_formed : (f : Form) (end : ExactSolveEnd) (words : Words) → IsForm f → LeavesBasis f end →
     Some words ≡ words_of_end f end → IsWellFormed words
 left_formed f (Ended (known.Optimal v) c (Some left) pivots) words is leaves e =
     let same : words ≡ packed f left = cc in subst IsWellFormed (sym same) (packed_fits f is left leaves)

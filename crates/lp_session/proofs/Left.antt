@@ -15,9 +15,9 @@ use Rattle.spec_simplex.specs.declared.ends.WarmStop.TheVariants as fall
 use Rattle.spec_simplex.specs.Form.{Form, form_of}
 use Rattle.spec_simplex.specs.Eliminate.{IsBasisOf}
 use Rattle.spec_simplex.specs.Phases.{PhasesEnd, phases_run}
-use Rattle.spec_cold.specs.declared.outcome.Cold.TheVariants.{Ended, Past, Spent}
+use Rattle.spec_check.specs.declared.solve_end.SolveEnd.TheVariants.{Ended, Past, Spent}
 use Rattle.spec_cold.specs.Cold as colds
-use Rattle.spec_cold.specs.Cold.{ColdEnd, cold}
+use Rattle.spec_cold.specs.Cold.{ExactSolveEnd, cold}
 use Rattle.spec_warm.specs.declared.ends.Warm.TheVariants as warm
 use Rattle.spec_warm.specs.Warm as warms
 use Rattle.spec_warm.specs.Warm.{WarmEnd, WarmResult, warm_run, warm as warm_start}
@@ -29,7 +29,7 @@ use Rattle.spec_solve.proofs.Orders.{part_ends}
 use Rattle.lp_session.specs.Stages.{LeavesBasis}
 
 -- each basis of the end is one of the form
-abbrev ColdLeaves : Form → ColdEnd → Type 0
+abbrev ColdLeaves : Form → ExactSolveEnd → Type 0
 ColdLeaves f end = (known : Known ℚ) (c : Certificate (List ℚ)) (left : List Status) (pivots : ℕ) →
     end ≡ Ended known c (Some left) pivots → IsBasisOf f left
 
@@ -42,9 +42,9 @@ module _ (f : Form) (c : Certificate (List ℚ)) (basis : Option (List Status)) 
   cold_checked : (r : Run (Known ℚ)) → ColdLeaves f (colds.checked c basis pivots r)
   cold_checked (Ok answer) = λ known d left n e. leaves left (let z : basis ≡ Some left = cc in z)
   cold_checked (Err (check.Past p)) = λ known d left n e.
-      let z : ◌≡◌ {A = ColdEnd} (Past p) (Ended known d (Some left) n) = e in cc
+      let z : ◌≡◌ {A = ExactSolveEnd} (Past p) (Ended known d (Some left) n) = e in cc
   cold_checked (Err (check.No k)) = λ known d left n e.
-      let z : ◌≡◌ {A = ColdEnd} Spent (Ended known d (Some left) n) = e in cc
+      let z : ◌≡◌ {A = ExactSolveEnd} Spent (Ended known d (Some left) n) = e in cc
 
   warm_checked : (r : Run (Known ℚ)) → WarmLeaves f (warms.checked c basis pivots r)
   warm_checked (Ok answer) = λ known d left n e. leaves left (let z : basis ≡ Some left = cc in z)
@@ -60,9 +60,9 @@ module _ (limit : Option ℕ) (budget : ℕ) (m : Model) (f : Form) (formed : fo
       cold_checked f (colds.certificate_of e) (colds.basis_of e) (colds.pivots_of e)
       (λ left r. phases_left limit budget m f e left formed q r) (check_run limit m (colds.certificate_of e))
   by_phases (Err (stop.Past p)) q = λ known d left n e.
-      let z : ◌≡◌ {A = ColdEnd} (Past p) (Ended known d (Some left) n) = e in cc
+      let z : ◌≡◌ {A = ExactSolveEnd} (Past p) (Ended known d (Some left) n) = e in cc
   by_phases (Err stop.Spent) q = λ known d left n e.
-      let z : ◌≡◌ {A = ColdEnd} Spent (Ended known d (Some left) n) = e in cc
+      let z : ◌≡◌ {A = ExactSolveEnd} Spent (Ended known d (Some left) n) = e in cc
 
   cold_leaves : ColdLeaves f (cold limit budget m)
   unfolding cold
@@ -105,7 +105,7 @@ module _ (limit : Option ℕ) (budget : ℕ) (m : Model) (f : Form) (formed : fo
   solve_leaves None fits = part_leaves
   solve_leaves (Some basis) fits = by_warm (warm_start limit budget m basis) (warm_leaves basis fits)
 
-  leaves_by : (end : ColdEnd) → ColdLeaves f end → LeavesBasis f end
+  leaves_by : (end : ExactSolveEnd) → ColdLeaves f end → LeavesBasis f end
   leaves_by (Ended (known.Optimal v) c (Some left) pivots) h = h (known.Optimal v) c left pivots refl
   leaves_by end h = tt
 

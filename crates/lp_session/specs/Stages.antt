@@ -4,8 +4,8 @@ use Rattle.spec_model.specs.Model.{Model}
 use Rattle.spec_check.specs.declared.certificate.Known.TheVariants as known
 use Rattle.spec_simplex.specs.Form.{Form, form_of}
 use Rattle.spec_simplex.specs.Eliminate.{IsBasisOf}
-use Rattle.spec_cold.specs.declared.outcome.Cold.TheVariants as cold
-use Rattle.spec_cold.specs.Cold.{ColdEnd}
+use Rattle.spec_check.specs.declared.solve_end.SolveEnd.TheVariants as cold
+use Rattle.spec_cold.specs.Cold.{ExactSolveEnd}
 use Rattle.spec_warm.specs.Solve.{SolveEnd}
 use Rattle.spec_shape.specs.Words.{IsWellFormed, shape_of}
 use Rattle.spec_reads.specs.Reads.{Looked, front}
@@ -27,7 +27,7 @@ IsFormHeld None f = ⊥
 IsFormHeld (Some m) f = form_of (Some number_limit) m ≡ Ok f
 
 -- it may be answered so, within some budget
-abbrev pub IsEndOf : Option Model → ColdEnd → Type 0
+abbrev pub IsEndOf : Option Model → ExactSolveEnd → Type 0
 IsEndOf None end = ⊥
 IsEndOf (Some m) end = (budget : ℕ) × MayAnswer m budget end
 
@@ -36,7 +36,7 @@ abbrev pub FitsForm : Form → Looked → Type 0
 FitsForm f found = IfSome found (λ place. IsWellFormed place.words × (front place.words ≡ shape_of f))
 
 -- the basis of an optimum is one of the form
-abbrev pub LeavesBasis : Form → ColdEnd → Type 0
+abbrev pub LeavesBasis : Form → ExactSolveEnd → Type 0
 LeavesBasis f (cold.Ended (known.Optimal v) certificate (Some basis) pivots) = IsBasisOf f basis
 LeavesBasis f other = Unit {0}
 

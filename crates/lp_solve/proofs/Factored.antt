@@ -12,9 +12,9 @@ use Rattle.spec_simplex.specs.declared.ends.RunStop.{RunStop}
 use Rattle.spec_simplex.specs.Form.{Form, form_of}
 use Rattle.spec_simplex.specs.Eliminate.{IsBasisOf}
 use Rattle.spec_simplex.specs.Phases.{PhasesEnd, phases_run}
-use Rattle.spec_cold.specs.declared.outcome.Cold.TheVariants as outcome
+use Rattle.spec_check.specs.declared.solve_end.SolveEnd.TheVariants as outcome
 use Rattle.spec_cold.specs.Accepted.{IsAccepted}
-use Rattle.spec_cold.specs.Cold.{ColdEnd, certificate_of, answered, cold, after_form}
+use Rattle.spec_cold.specs.Cold.{ExactSolveEnd, certificate_of, answered, cold, after_form}
 use Rattle.spec_cold.proofs.Solved.{end_accepted}
 use Rattle.spec_factor.specs.Over.{OverEnd, over_run, answer_of, answer_in, after_over, over_factors}
 use Rattle.spec_revised.proofs.OverCold.{form_without}
@@ -59,20 +59,20 @@ module _ (budget : ℕ) (m : Model) (f : Form) (formed : form_of (Some largest) 
           (phases_leave None budget m f (form_without (Some largest) m f formed) end q)
       by (Err s) q h = let z : ◌≡◌ {A = Result OverEnd (RunStop ℚ)} (Err s) (Ok (over_end e)) = h in cc
 
-  pub over_ends : (e : RunEnd) (end : ColdEnd) → over_run (Some largest) budget f ≡ Ok (over_end e) →
+  pub over_ends : (e : RunEnd) (end : ExactSolveEnd) → over_run (Some largest) budget f ≡ Ok (over_end e) →
       end ≡ answered (Some largest) m e.certificate e.basis e.pivots → end ≡ over_factors (Some largest) budget m f
   unfolding over_factors
   over_ends e end h is = is ∙ sym (ap (after_over (Some largest) m) h)
 
   pub past_stops : (s : RevisedStop) (p : Past ℚ) → s ≡ revised.Past p →
       StopsRevised (over_run (Some largest) budget f) s →
-      ◌≡◌ {A = ColdEnd} (outcome.Past p) (over_factors (Some largest) budget m f)
+      ◌≡◌ {A = ExactSolveEnd} (outcome.Past p) (over_factors (Some largest) budget m f)
   unfolding over_factors
   past_stops s p e h =
       sym (ap (after_over (Some largest) m) (subst (StopsRevised (over_run (Some largest) budget f)) e h))
 
   pub spent_stops : (s : RevisedStop) → s ≡ revised.Spent → StopsRevised (over_run (Some largest) budget f) s →
-      ◌≡◌ {A = ColdEnd} outcome.Spent (over_factors (Some largest) budget m f)
+      ◌≡◌ {A = ExactSolveEnd} outcome.Spent (over_factors (Some largest) budget m f)
   unfolding over_factors
   spent_stops s e h =
       sym (ap (after_over (Some largest) m) (subst (StopsRevised (over_run (Some largest) budget f)) e h))
@@ -82,11 +82,11 @@ module _ (budget : ℕ) (m : Model) (f : Form) (formed : form_of (Some largest) 
   unfolding cold_over
   part_is = ap (cold_by (Some largest) budget m) (sym formed)
 
-  or_is : (o : ColdEnd) → o ≡ over_factors (Some largest) budget m f →
+  or_is : (o : ExactSolveEnd) → o ≡ over_factors (Some largest) budget m f →
       or_tableaus o (cold (Some largest) budget m) ≡ cold_over (Some largest) budget m
   or_is o h = ap (λ o. or_tableaus o (cold (Some largest) budget m)) h ∙ part_is
 
-  pub or_ended : (o : ColdEnd) (known : Known ℚ) (c : Certificate (List ℚ)) (basis : Option (List Status))
+  pub or_ended : (o : ExactSolveEnd) (known : Known ℚ) (c : Certificate (List ℚ)) (basis : Option (List Status))
       (pivots : ℕ) →
       o ≡ outcome.Ended known c basis pivots → o ≡ over_factors (Some largest) budget m f →
       o ≡ cold_over (Some largest) budget m
@@ -94,7 +94,7 @@ module _ (budget : ℕ) (m : Model) (f : Form) (formed : form_of (Some largest) 
       is ∙ or_is (outcome.Ended known c basis pivots) (sym is ∙ h)
 
   -- after an end without an answer
-  pub or_given_up : {E : Type 0} (o : ColdEnd) (r : Result ColdEnd E) →
+  pub or_given_up : {E : Type 0} (o : ExactSolveEnd) (r : Result ExactSolveEnd E) →
       ((p : Past ℚ) × (o ≡ outcome.Past p)) ⊎ (o ≡ outcome.Spent) → o ≡ over_factors (Some largest) budget m f →
       IfOk r (λ s. s ≡ after_form (Some largest) budget m (Ok f)) →
       IfOk r (λ s. s ≡ cold_over (Some largest) budget m)
@@ -119,7 +119,7 @@ module _ (budget : ℕ) (m : Model) (f : Form) (formed : form_of (Some largest) 
       by (inr up) = inr up
 
   -- what they answer
-  pub tableaus_ended : (o : ColdEnd) (known : Known ℚ) (c : Certificate (List ℚ)) (basis : Option (List Status))
+  pub tableaus_ended : (o : ExactSolveEnd) (known : Known ℚ) (c : Certificate (List ℚ)) (basis : Option (List Status))
       (pivots : ℕ) →
       o ≡ outcome.Ended known c basis pivots → o ≡ after_form (Some largest) budget m (Ok f) →
       o ≡ cold_over (Some largest) budget m
@@ -134,17 +134,17 @@ module _ (budget : ℕ) (m : Model) (f : Form) (formed : form_of (Some largest) 
           absurd (subst GivesUp (sym (h ∙ cold_is (Some largest) budget m (Ok f) formed) ∙ is) up)
 
   -- what they are refused, after an end over factors without an answer
-  pub refused_kept : (o refused : ColdEnd) → ((p : Past ℚ) × (o ≡ outcome.Past p)) ⊎ (o ≡ outcome.Spent) →
+  pub refused_kept : (o refused : ExactSolveEnd) → ((p : Past ℚ) × (o ≡ outcome.Past p)) ⊎ (o ≡ outcome.Spent) →
       o ≡ over_factors (Some largest) budget m f → refused ≡ cold (Some largest) budget m →
       refused ≡ cold_over (Some largest) budget m
   refused_kept o refused (inl past) h is = is ∙ or_is (outcome.Past past.0) (sym past.1 ∙ h)
   refused_kept o refused (inr spent) h is = is ∙ or_is outcome.Spent (sym spent ∙ h)
 
-  pub gives_up_is : (o : ColdEnd) → ((p : Past ℚ) × (o ≡ outcome.Past p)) ⊎ (o ≡ outcome.Spent) → GivesUp o
+  pub gives_up_is : (o : ExactSolveEnd) → ((p : Past ℚ) × (o ≡ outcome.Past p)) ⊎ (o ≡ outcome.Spent) → GivesUp o
   gives_up_is o (inl past) = subst GivesUp (sym past.1) tt
   gives_up_is o (inr spent) = subst GivesUp (sym spent) tt
 
-  pub gives_up_fits : (o : ColdEnd) → GivesUp o → IsFit m o
+  pub gives_up_fits : (o : ExactSolveEnd) → GivesUp o → IsFit m o
   gives_up_fits (outcome.Ended known c basis pivots) up = absurd up
   gives_up_fits (outcome.Past p) up = tt
   gives_up_fits outcome.Spent up = tt

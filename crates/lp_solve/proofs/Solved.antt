@@ -11,9 +11,9 @@ use Rattle.spec_simplex.specs.Form.{Form, form_of}
 use Rattle.spec_simplex.specs.Run.{Run}
 use Rattle.spec_simplex.specs.Start.{start_of}
 use Rattle.spec_simplex.specs.Phases.{PhasesEnd, phases_run}
-use Rattle.spec_cold.specs.declared.outcome.Cold.TheVariants as outcome
+use Rattle.spec_check.specs.declared.solve_end.SolveEnd.TheVariants as outcome
 use Rattle.spec_cold.specs.Accepted.{IsAccepted}
-use Rattle.spec_cold.specs.Cold.{ColdEnd, certificate_of, after_phases, after_form, cold}
+use Rattle.spec_cold.specs.Cold.{ExactSolveEnd, certificate_of, after_phases, after_form, cold}
 use Rattle.spec_cold.proofs.Solved.{end_accepted, clash_accepted}
 use Rattle.spec_solve.specs.Order.{cold_by, cold_over}
 use Rattle.lp_standard.specs.Answer.{IsFaultOf}
@@ -52,7 +52,7 @@ module _ (limit : Option ℕ) (budget : ℕ) (m : Model) where
       ∙ subst (λ o. cold limit budget m ≡ cold_by limit budget m o) (sym h) refl
 
   pub refused_from : (f : Form) (p : Past ℚ) → start_of limit f ≡ Err p →
-      ◌≡◌ {A = ColdEnd} (outcome.Past p) (after_phases limit m (phases_run limit budget f))
+      ◌≡◌ {A = ExactSolveEnd} (outcome.Past p) (after_phases limit m (phases_run limit budget f))
   refused_from f p h = ap (after_phases limit m) (sym (start_refused limit budget f p h))
 
   pub end_fits : (f : Form) (e : PhasesEnd) → form_of limit m ≡ Ok f → phases_run limit budget f ≡ Ok e →

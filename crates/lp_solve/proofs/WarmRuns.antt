@@ -23,7 +23,7 @@ use Rattle.spec_simplex.specs.Phases.{PrimalEnded, run_from}
 use Rattle.spec_simplex.specs.Eliminate.{IsBasisOf, start_from}
 use Rattle.spec_simplex.specs.Fit.{fit_run}
 use Rattle.spec_simplex.specs.Dual.{DualEnded, dual_run}
-use Rattle.spec_cold.specs.declared.outcome.Cold.TheVariants as cold
+use Rattle.spec_check.specs.declared.solve_end.SolveEnd.TheVariants as cold
 use Rattle.spec_cold.specs.Accepted.{IsAccepted}
 use Rattle.spec_cold.specs.Cold as colds
 use Rattle.spec_path.proofs.Formed.{form_is, cost_length}
@@ -108,13 +108,13 @@ module _ (limit : Option ℕ) (budget : ℕ) where
     unfolding solve_over
     ends_warm answer c left pivots w e h = ap (solved_by (cold_over limit budget m)) (sym e ∙ h ∙ warm_is)
 
-    pub falls : (s : WarmStop ℚ) (w : WarmResult) (end : colds.ColdEnd) → w ≡ warm.Stopped s → w ≡ after_form limit
+    pub falls : (s : WarmStop ℚ) (w : WarmResult) (end : colds.ExactSolveEnd) → w ≡ warm.Stopped s → w ≡ after_form limit
         budget m basis (Ok f) → end ≡ cold_over limit budget m
         → ◌≡◌ {A = SolveEnd} (record { end = end; route = route.Fell (fall_of s) })
         (solve_over limit budget m (Some basis))
     unfolding solve_over
     falls s w end e h g =
-        ap (λ (end : colds.ColdEnd). solved_by end (warm.Stopped s)) g
+        ap (λ (end : colds.ExactSolveEnd). solved_by end (warm.Stopped s)) g
         ∙ ap (solved_by (cold_over limit budget m)) (sym e ∙ h ∙ warm_is)
 
 -- ---- where nothing is handed
@@ -135,13 +135,13 @@ fits_form limit m view (Some basis) f h fits =
     subst (λ f. IsBasisOf f (view basis)) is fits.2
 
 pub solves_cold : {B : Type 0} (limit : Option ℕ) (budget : ℕ) (m : Model) (view : B → List Status) (handed : Option B)
-    (end : colds.ColdEnd) → handed ≡ None → end ≡ cold_over limit budget m
+    (end : colds.ExactSolveEnd) → handed ≡ None → end ≡ cold_over limit budget m
     → ◌≡◌ {A = SolveEnd} (record { end = end; route = route.Cold }) (solve_over limit budget m (option_map view handed))
 unfolding solve_over
 solves_cold limit budget m view handed end e h =
     subst (λ handed. ◌≡◌ {A = SolveEnd} (record { end = end; route = route.Cold })
     (solve_over limit budget m (option_map view handed))) (sym e)
-    (ap (λ (end : colds.ColdEnd). record { end = end; route = route.Cold }) h)
+    (ap (λ (end : colds.ExactSolveEnd). record { end = end; route = route.Cold }) h)
 
 -- ---- what is known of the tableau of a basis
 form_costs : (limit : Option ℕ) (m : Model) (f : Form) → form_of limit m ≡ Ok f →

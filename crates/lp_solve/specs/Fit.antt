@@ -1,13 +1,13 @@
 -- What holds of the certificate of an answer.
 use Rattle.spec_model.specs.Model.{Model}
 use Rattle.spec_check.specs.Certificate.{IsFor, IsNarrowCertificate}
-use Rattle.spec_cold.specs.declared.outcome.Cold.TheVariants.{Ended, Past, Spent}
-use Rattle.spec_cold.specs.Cold.{ColdEnd}
+use Rattle.spec_check.specs.declared.solve_end.SolveEnd.TheVariants.{Ended, Past, Spent}
+use Rattle.spec_cold.specs.Cold.{ExactSolveEnd}
 use Rattle.spec_warm.specs.declared.ends.Warm.TheVariants as warm
 use Rattle.spec_warm.specs.Warm.{WarmResult}
 
 -- it is one for the model, and its numbers are of at most 127 bits
-abbrev pub IsFit : Model → ColdEnd → Type 0
+abbrev pub IsFit : Model → ExactSolveEnd → Type 0
 IsFit m (Ended answer certificate basis pivots) = IsFor m certificate × IsNarrowCertificate certificate
 IsFit m (Past p) = Unit {0}
 IsFit m Spent = Unit {0}

@@ -20,7 +20,7 @@ use std::alloc::{AllocError, Global};
 
 /// What a solve ends with: an answer (`Ended`), the first operation that is past 127 bits (`Past`), or that the budget
 /// is spent (`Spent`).
-pub type End = spec_cold::Cold<Frac, Fracs, Basis>;
+pub type End = spec_check::SolveEnd<Frac, Fracs, Basis>;
 
 /// The certificate with what the checker says of it. It never says no.
 pub(crate) fn answered(

@@ -3,6 +3,7 @@
 //! | Item | What it is | Where |
 //! |---|---|---|
 //! | `Certificate`, `Known`, `Verdict` | what is given, and what is said of it | src/certificate |
+//! | `SolveEnd` | how a solve ends: with an answer, a refused operation or a spent budget | src/solve_end |
 //! | `RawCertificate`, `Part`, `SettleFault` | a certificate as its text has it, and why it is not one of a model | src/certificate |
 //! | `shown`, `Holds` | what a certificate would show | specs/Certificate |
 //! | `Checks` | the conditions, in no order | specs/Checks |
@@ -20,6 +21,7 @@
 
 mod certificate;
 mod progress;
+mod solve_end;
 
 ghost use Rattle.std.specs.Prelude.{◌≡◌, ◌+◌, ◌++◌, ◌∷◌, [], ℕ, List, length, Option, Some, None, Ok};
 ghost use Rattle.spec_text.specs.declared.line.Line.{Line};
@@ -41,6 +43,7 @@ pub use certificate::{
     Verdict,
 };
 pub use progress::Progress;
+pub use solve_end::SolveEnd;
 
 /// What an accepted certificate shows is true.
 pub fn certificates_are_sound()

@@ -15,8 +15,8 @@ use Rattle.spec_simplex.specs.declared.ends.RunStop.{RunStop}
 use Rattle.spec_simplex.specs.declared.ends.RunStop.TheVariants as stop
 use Rattle.spec_simplex.specs.Form.{Form, form_of}
 use Rattle.spec_simplex.specs.Phases.{PhasesEnd, phases_run}
-use Rattle.spec_cold.specs.declared.outcome.Cold.TheVariants as outcome
-use Rattle.spec_cold.specs.Cold.{ColdEnd, certificate_of, basis_of, pivots_of}
+use Rattle.spec_check.specs.declared.solve_end.SolveEnd.TheVariants as outcome
+use Rattle.spec_cold.specs.Cold.{ExactSolveEnd, certificate_of, basis_of, pivots_of}
 use Rattle.spec_cold.specs.Cold.{checked, answered, after_phases, after_form, cold}
 use Rattle.spec_cold.specs.Accepted.{IsAccepted, IsAnswered}
 use Rattle.spec_path.proofs.LimitStart.{form_agrees}
@@ -24,7 +24,7 @@ use Rattle.spec_cold.proofs.Solved.{end_accepted, clash_accepted, enough, ended_
 use Rattle.spec_path.proofs.LimitPhases.{phases_agree}
 
 module _ (limit : Option ℕ) (budget : ℕ) (m : Model) where
-  abbrev Same : ColdEnd → ColdEnd → Type 0
+  abbrev Same : ExactSolveEnd → ExactSolveEnd → Type 0
   Same o u = (o ≡ u) ⊎ ((p : Past ℚ) × (o ≡ outcome.Past p))
 
   answers_agree : (c : Certificate (List ℚ)) (basis : Option (List Status)) (pivots : ℕ) → IsAccepted limit m c →
@@ -68,7 +68,7 @@ module _ (limit : Option ℕ) (budget : ℕ) (m : Model) where
 checked_never_past : (m : Model) (c : Certificate (List ℚ)) (basis : Option (List Status)) (pivots : ℕ) →
     IsAccepted None m c → (p : Past ℚ) → ¬ (answered None m c basis pivots ≡ outcome.Past p)
 checked_never_past m c basis pivots a p e =
-    let z : ◌≡◌ {A = ColdEnd} (outcome.Ended (shown m c) c basis pivots) (outcome.Past p) =
+    let z : ◌≡◌ {A = ExactSolveEnd} (outcome.Ended (shown m c) c basis pivots) (outcome.Past p) =
     sym (ap (checked c basis pivots) a.accepted) ∙ e in
     cc
 
@@ -83,7 +83,7 @@ never_past budget m p = by (form_of None m) refl (form_agrees None m).exact
         checked_never_past m (certificate_of end) (basis_of end)
         (pivots_of end) (end_accepted None budget m f end e q) p
     with_phases f e (Err (stop.Past v)) q n = absurd (n v refl)
-    with_phases f e (Err stop.Spent) q n = λ z. let y : ◌≡◌ {A = ColdEnd} outcome.Spent (outcome.Past p) = z in cc
+    with_phases f e (Err stop.Spent) q n = λ z. let y : ◌≡◌ {A = ExactSolveEnd} outcome.Spent (outcome.Past p) = z in cc
 
     by : (o : Result Form (FormFault ℚ)) → form_of None m ≡ o → ((p : Past ℚ) → o ≢ Err (fault.Past p)) →
         ¬ (after_form None budget m o ≡ outcome.Past p)
@@ -94,7 +94,7 @@ never_past budget m p = by (form_of None m) refl (form_agrees None m).exact
 pub answers : (budget : ℕ) (m : Model) → 2 * 3 ^ (width m + 2 * height m) ≤ budget → IsAnswered budget m
 answers budget m enough_ = by (cold None budget m) refl
   where
-    by : (e : ColdEnd) → cold None budget m ≡ e → IsAnswered budget m
+    by : (e : ExactSolveEnd) → cold None budget m ≡ e → IsAnswered budget m
     by (outcome.Ended answer c basis pivots) e =
         record {
           answer = answer;

@@ -20,8 +20,8 @@ use Rattle.spec_simplex.specs.declared.ends.RunStop.{RunStop as Spending}
 use Rattle.spec_simplex.specs.declared.ends.RunStop.TheVariants as stop
 use Rattle.spec_simplex.specs.Form.{Form, form_of}
 use Rattle.spec_simplex.specs.Phases.{PhasesEnd, phases_run}
-use Rattle.spec_cold.specs.declared.outcome.Cold.TheVariants as outcome
-use Rattle.spec_cold.specs.Cold.{ColdEnd, certificate_of, basis_of, pivots_of}
+use Rattle.spec_check.specs.declared.solve_end.SolveEnd.TheVariants as outcome
+use Rattle.spec_cold.specs.Cold.{ExactSolveEnd, certificate_of, basis_of, pivots_of}
 use Rattle.spec_cold.specs.Cold.{checked, answered, after_phases, after_form, cold}
 use Rattle.spec_cold.specs.Accepted.{IsAccepted}
 use Rattle.spec_path.proofs.Formed.{form_is}
@@ -53,7 +53,7 @@ pub record IsTrueEnd (limit : Option ℕ) (m : Model) (answer : Known ℚ) (c : 
   pub accepted : IsAccepted limit m c
   pub checks : check_run limit m c ≡ Ok answer
 
-module _ (limit : Option ℕ) (budget : ℕ) (m : Model) (P : ColdEnd → Type 0)
+module _ (limit : Option ℕ) (budget : ℕ) (m : Model) (P : ExactSolveEnd → Type 0)
     (ended : (answer : Known ℚ) (c : Certificate (List ℚ)) (basis : Option (List Status)) (pivots : ℕ) →
     IsTrueEnd limit m answer c → P (outcome.Ended answer c basis pivots))
     (past : (p : Past ℚ) → P (outcome.Past p))
@@ -98,16 +98,16 @@ ended_is_true limit budget m answer c basis pivots =
     ap (check_run limit m) (sym same_certificate) ∙ t.checks ∙ ap Ok same_answer in
     let r = run_sound limit m c answer (subst (IsFor m) same_certificate t.accepted.fits) checks in
     (subst (Holds m) (sym r.1) (checks_hold m c r.0), checks))
-    (λ p e. let z : ◌≡◌ {A = ColdEnd} (outcome.Past p) (outcome.Ended answer c basis pivots) = e in cc)
-    (λ f p q e. let z : ◌≡◌ {A = ColdEnd} outcome.Spent (outcome.Ended answer c basis pivots) = e in cc)
+    (λ p e. let z : ◌≡◌ {A = ExactSolveEnd} (outcome.Past p) (outcome.Ended answer c basis pivots) = e in cc)
+    (λ f p q e. let z : ◌≡◌ {A = ExactSolveEnd} outcome.Spent (outcome.Ended answer c basis pivots) = e in cc)
 
 pub spent_is_spent : (limit : Option ℕ) (budget : ℕ) (m : Model) → cold limit budget m ≡ outcome.Spent →
     (f : Form) × (form_of limit m ≡ Ok f) × (phases_run limit budget f ≡ Err stop.Spent)
 spent_is_spent limit budget m =
     by_end limit budget m
     (λ e. e ≡ outcome.Spent → (f : Form) × (form_of limit m ≡ Ok f) × (phases_run limit budget f ≡ Err stop.Spent))
-    (λ a d basis pivots t e. let z : ◌≡◌ {A = ColdEnd} (outcome.Ended a d basis pivots) outcome.Spent = e in cc)
-    (λ p e. let z : ◌≡◌ {A = ColdEnd} (outcome.Past p) outcome.Spent = e in cc)
+    (λ a d basis pivots t e. let z : ◌≡◌ {A = ExactSolveEnd} (outcome.Ended a d basis pivots) outcome.Spent = e in cc)
+    (λ p e. let z : ◌≡◌ {A = ExactSolveEnd} (outcome.Past p) outcome.Spent = e in cc)
     (λ f p q e. (f, p, q))
 
 pub enough : (limit : Option ℕ) (budget : ℕ) (m : Model) → 2 * 3 ^ (width m + 2 * height m) ≤ budget →

@@ -8,7 +8,7 @@ use Rattle.spec_check.specs.Certificate.{IsFor, Holds, shown}
 use Rattle.spec_check.specs.Checks.{Checks}
 use Rattle.spec_check.specs.Run.{Agrees, check_run}
 use Rattle.spec_pivot.specs.declared.status.Status.{Status}
-use Rattle.spec_cold.specs.declared.outcome.Cold.TheVariants.{Ended}
+use Rattle.spec_check.specs.declared.solve_end.SolveEnd.TheVariants.{Ended}
 use Rattle.spec_cold.specs.Cold.{cold}
 
 -- it is one for the model, its conditions hold, and the checker says yes, or at a limit that an operation is refused

@@ -24,11 +24,11 @@ use Rattle.spec_simplex.specs.Tableau.{Tableau, form_columns, basic_at, entry_at
 use Rattle.spec_simplex.specs.Tableau.{value_at, reduced_at, status_at, is_basic}
 use Rattle.spec_simplex.specs.Step.{directed}
 use Rattle.spec_simplex.specs.Phases.{PhasesEnd, Infeasible, Finished, phases_run}
-use Rattle.spec_cold.specs.declared.outcome.Cold.{Cold}
-use Rattle.spec_cold.specs.declared.outcome.Cold.TheVariants as outcome
+use Rattle.spec_check.specs.declared.solve_end.SolveEnd.{SolveEnd}
+use Rattle.spec_check.specs.declared.solve_end.SolveEnd.TheVariants as outcome
 
-abbrev pub ColdEnd : Type 0
-ColdEnd = Cold ℚ (List ℚ) (List Status)
+abbrev pub ExactSolveEnd : Type 0
+ExactSolveEnd = SolveEnd ℚ (List ℚ) (List Status)
 
 -- ---- certificates of ends
 -- the values of the model's columns
@@ -81,24 +81,24 @@ pivots_of (Finished e) = e.used
 
 -- ---- the certificate is checked, at the same limit
 -- A certificate of an end is always accepted, or an operation is refused: so the last case never comes.
-abbrev pub checked : Certificate (List ℚ) → Option (List Status) → ℕ → Result (Known ℚ) (CheckStop ℚ) → ColdEnd
+abbrev pub checked : Certificate (List ℚ) → Option (List Status) → ℕ → Result (Known ℚ) (CheckStop ℚ) → ExactSolveEnd
 checked certificate basis pivots (Ok answer) = outcome.Ended answer certificate basis pivots
 checked certificate basis pivots (Err (check.Past p)) = outcome.Past p
 checked certificate basis pivots (Err (check.No n)) = outcome.Spent
 
-abbrev pub answered : Option ℕ → Model → Certificate (List ℚ) → Option (List Status) → ℕ → ColdEnd
+abbrev pub answered : Option ℕ → Model → Certificate (List ℚ) → Option (List Status) → ℕ → ExactSolveEnd
 answered limit m certificate basis pivots = checked certificate basis pivots (check_run limit m certificate)
 
 -- ---- the whole solve
-abbrev pub after_phases : Option ℕ → Model → Result PhasesEnd (Spending ℚ) → ColdEnd
+abbrev pub after_phases : Option ℕ → Model → Result PhasesEnd (Spending ℚ) → ExactSolveEnd
 after_phases limit m (Ok e) = answered limit m (certificate_of e) (basis_of e) (pivots_of e)
 after_phases limit m (Err (stop.Past p)) = outcome.Past p
 after_phases limit m (Err stop.Spent) = outcome.Spent
 
-abbrev pub after_form : Option ℕ → ℕ → Model → Result Form (FormFault ℚ) → ColdEnd
+abbrev pub after_form : Option ℕ → ℕ → Model → Result Form (FormFault ℚ) → ExactSolveEnd
 after_form limit budget m (Ok f) = after_phases limit m (phases_run limit budget f)
 after_form limit budget m (Err (fault.Clash j)) = answered limit m (certificate.Clash j) None 0
 after_form limit budget m (Err (fault.Past p)) = outcome.Past p
 
-unfoldable pub cold : Option ℕ → ℕ → Model → ColdEnd
+unfoldable pub cold : Option ℕ → ℕ → Model → ExactSolveEnd
 cold limit budget m = after_form limit budget m (form_of limit m)

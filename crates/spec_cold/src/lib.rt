@@ -2,7 +2,7 @@
 //!
 //! | Item | What it is | Where |
 //! |---|---|---|
-//! | `Cold` | how a cold solve ends | src/outcome |
+//! | `ExactSolveEnd` | how a solve ends, in exact numbers | specs/Cold |
 //! | `cold` | the cold solve of a model, at a limit and within a budget | specs/Cold |
 //! | `certificate_of`, `basis_of` | the certificate and the basis of what both phases end with | specs/Cold |
 //! | `IsAccepted`, `IsAnswered` | what is promised of a certificate and of an answer | specs/Accepted |
@@ -13,8 +13,6 @@
 //! The run on lists is that of `spec_simplex`, what its steps mean is said in `spec_path`, and the certificates and their
 //! checker are those of `spec_check`.
 #![tactic(auto)]
-
-mod outcome;
 
 ghost use Rattle.std.specs.Prelude.{◌≡◌, ◌⊎◌, ◌+◌, ◌*◌, ◌^◌, ◌≤◌, ℕ, List, Option, None, Ok, Err};
 ghost use Rattle.spec_exact.specs.Fraction.{ℚ};
@@ -30,11 +28,9 @@ ghost use Rattle.spec_simplex.specs.declared.ends.FormFault.TheVariants as fault
 ghost use Rattle.spec_simplex.specs.declared.ends.RunStop.TheVariants as stop;
 ghost use Rattle.spec_simplex.specs.Form.{Form, form_of};
 ghost use Rattle.spec_simplex.specs.Phases.{PhasesEnd, phases_run};
-ghost use Rattle.spec_cold.specs.declared.outcome.Cold.TheVariants as outcome;
+ghost use Rattle.spec_check.specs.declared.solve_end.SolveEnd.TheVariants as outcome;
 ghost use Rattle.spec_cold.specs.Cold.{cold, certificate_of};
 ghost use Rattle.spec_cold.specs.Accepted.{IsAccepted, IsAnswered};
-
-pub use outcome::Cold;
 
 /// The certificate of what both phases end with, or of a clash, is accepted without a limit, and at a limit unless an
 /// operation is refused.

@@ -17,8 +17,8 @@ use Rattle.spec_simplex.specs.Run.{◌>>=◌, refused_as, list_run, made}
 use Rattle.spec_simplex.specs.Tableau.{Tableau}
 use Rattle.spec_simplex.specs.Start.{row_start, begun, first_costs}
 use Rattle.spec_simplex.specs.Phases.{PhasesEnd, without_artificials, wants_phase_one, is_stuck}
-use Rattle.spec_cold.specs.declared.outcome.Cold.TheVariants as outcome
-use Rattle.spec_cold.specs.Cold.{ColdEnd, point, direction, basis_at, certificate_of, basis_of, pivots_of, answered}
+use Rattle.spec_check.specs.declared.solve_end.SolveEnd.TheVariants as outcome
+use Rattle.spec_cold.specs.Cold.{ExactSolveEnd, point, direction, basis_at, certificate_of, basis_of, pivots_of, answered}
 use Rattle.spec_factor.specs.Revised.{Revised, bare_of, refactor_run, Selection}
 use Rattle.spec_factor.specs.Revised.{selection_run, flip_over_run, pivot_over_run}
 
@@ -124,10 +124,10 @@ answer_in (Ok e) = Ok (answer_of e)
 answer_in (Err s) = Err s
 
 -- ---- the check, at the same limit, of a model that has this form
-abbrev pub after_over : Option ℕ → Model → Result OverEnd (RunStop ℚ) → ColdEnd
+abbrev pub after_over : Option ℕ → Model → Result OverEnd (RunStop ℚ) → ExactSolveEnd
 after_over limit m (Ok a) = answered limit m a.certificate a.basis a.pivots
 after_over limit m (Err (stop.Past p)) = outcome.Past p
 after_over limit m (Err stop.Spent) = outcome.Spent
 
-unfoldable pub over_factors : Option ℕ → ℕ → Model → Form → ColdEnd
+unfoldable pub over_factors : Option ℕ → ℕ → Model → Form → ExactSolveEnd
 over_factors limit budget m f = after_over limit m (over_run limit budget f)

@@ -2,7 +2,7 @@
 -- nothing.
 use Rattle.std.specs.Prelude.{ℕ, ◌≡◌, None, List, [], ◌∷◌, ◌++◌, length, sum_by, codes, decimal}
 use Rattle.spec_model.specs.Model.{Model, width, height}
-use Rattle.spec_cold.specs.Cold.{ColdEnd}
+use Rattle.spec_cold.specs.Cold.{ExactSolveEnd}
 use Rattle.spec_gen.specs.Generated.{generated}
 use Rattle.spec_warm.specs.Solve.{SolveEnd}
 use Rattle.spec_server.specs.declared.asks.Reply.TheVariants as reply
@@ -27,7 +27,7 @@ size_text m =
     ++ 10 ∷ []
 
 -- it, the answer's line, and the line of the pivots and flips behind it
-unfoldable pub generated_lines : Model → ColdEnd → List ℕ
+unfoldable pub generated_lines : Model → ExactSolveEnd → List ℕ
 generated_lines m solved =
     size_text m
     ++ check_line (reply.Answered (answer_of opening_budget solved))

@@ -13,9 +13,9 @@ use Rattle.spec_simplex.specs.declared.ends.RunStop.{RunStop}
 use Rattle.spec_simplex.specs.declared.ends.RunStop.TheVariants as stop
 use Rattle.spec_simplex.specs.Form.{Form, form_of}
 use Rattle.spec_simplex.specs.Phases.{PhasesEnd, phases_run}
-use Rattle.spec_cold.specs.declared.outcome.Cold.TheVariants as outcome
+use Rattle.spec_check.specs.declared.solve_end.SolveEnd.TheVariants as outcome
 use Rattle.spec_cold.specs.Accepted.{IsAccepted}
-use Rattle.spec_cold.specs.Cold.{ColdEnd, certificate_of, basis_of, pivots_of}
+use Rattle.spec_cold.specs.Cold.{ExactSolveEnd, certificate_of, basis_of, pivots_of}
 use Rattle.spec_cold.specs.Cold.{checked, answered, after_phases, after_form, cold}
 use Rattle.spec_path.proofs.Formed.{form_is, cost_length, cost_other}
 use Rattle.spec_path.proofs.LimitStart.{form_agrees}
@@ -44,7 +44,7 @@ module _ (limit : Option ℕ) (budget : ℕ) (m : Model) (f : Form) (formed : fo
   pub run_is : over_run None budget f ≡ answer_in (phases_run None budget f)
   run_is = over_is f (form_proper limit m f formed) (form_costs limit m f formed) budget
 
-  abbrev Same : ColdEnd → ColdEnd → Type 0
+  abbrev Same : ExactSolveEnd → ExactSolveEnd → Type 0
   Same o u = (o ≡ u) ⊎ ((p : Past ℚ) × (o ≡ outcome.Past p))
 
   answers_same : (c : Certificate (List ℚ)) (basis : Option (List Status)) (pivots : ℕ) → IsAccepted limit m c →

@@ -28,7 +28,7 @@ ghost use Rattle.spec_simplex.specs.Start.{cost_at};
 ghost use Rattle.spec_simplex.specs.Step.{choice_run};
 ghost use Rattle.spec_simplex.specs.Tableau.{Tableau};
 ghost use Rattle.spec_simplex.specs.Phases.{done_run, phases_run};
-ghost use Rattle.spec_cold.specs.declared.outcome.Cold.TheVariants as outcome;
+ghost use Rattle.spec_check.specs.declared.solve_end.SolveEnd.TheVariants as outcome;
 ghost use Rattle.spec_path.specs.Tables.{table_of, IsTableauOf};
 ghost use Rattle.spec_path.specs.Begins.{form_rows};
 ghost use Rattle.spec_cold.specs.Cold.{cold};

@@ -8,8 +8,8 @@ use Rattle.spec_check.specs.declared.certificate.Known.{Known}
 use Rattle.spec_check.specs.declared.certificate.Known.TheVariants.{Optimal, Infeasible, Unbounded}
 use Rattle.spec_check.specs.Certificate.{Holds}
 use Rattle.spec_pivot.specs.declared.status.Status.{Status}
-use Rattle.spec_cold.specs.declared.outcome.Cold.TheVariants as outcome
-use Rattle.spec_cold.specs.Cold.{ColdEnd, cold}
+use Rattle.spec_check.specs.declared.solve_end.SolveEnd.TheVariants as outcome
+use Rattle.spec_cold.specs.Cold.{ExactSolveEnd, cold}
 use Rattle.spec_cold.proofs.Solved.{ended_is_true}
 use Rattle.spec_reads.specs.Reads.{ExactRead}
 use Rattle.spec_server.specs.declared.asks.Ask.TheVariants as ask
@@ -37,15 +37,15 @@ one_truth m Unbounded Unbounded p q = refl
 module _ (budget : ℕ) (m : Model) (known : Known ℚ) (cert : Certificate (List ℚ))
     (basis : Option (List Status)) (pivots : ℕ)
     (found : cold (Some number_limit) budget m ≡ outcome.Ended known cert basis pivots) where
-  answers_known : (end : ColdEnd) → MayAnswer m budget end → answer_of budget end ≡ answer.Known known
+  answers_known : (end : ExactSolveEnd) → MayAnswer m budget end → answer_of budget end ≡ answer.Known known
   answers_known (outcome.Ended other c b n) h =
       ap answer.Known
       (one_truth m other known (ended_true m budget other c b n h)
       (ended_is_true (Some number_limit) budget m known cert basis pivots found).0)
   answers_known (outcome.Past p) h =
-      let z : ◌≡◌ {A = ColdEnd} (outcome.Past p) (outcome.Ended known cert basis pivots) = sym h ∙ found in cc
+      let z : ◌≡◌ {A = ExactSolveEnd} (outcome.Past p) (outcome.Ended known cert basis pivots) = sym h ∙ found in cc
   answers_known outcome.Spent h =
-      let z : ◌≡◌ {A = ColdEnd} outcome.Spent (outcome.Ended known cert basis pivots) = sym h.0 ∙ found in cc
+      let z : ◌≡◌ {A = ExactSolveEnd} outcome.Spent (outcome.Ended known cert basis pivots) = sym h.0 ∙ found in cc
 
 pub solve_answers : (places : ℕ) (old new : State) (reads : List ExactRead) (replied : ExactReply) (m : Model)
     (known : Known ℚ) (cert : Certificate (List ℚ)) (basis : Option (List Status)) (pivots : ℕ) →

@@ -20,8 +20,8 @@ use Rattle.spec_edit.specs.Edited.{ExactEdit, OrFault, IsKeptEdit, edited}
 use Rattle.spec_edit.proofs.EditsKeep.{edited-kept}
 use Rattle.spec_simplex.specs.declared.ends.FormFault.{FormFault}
 use Rattle.spec_simplex.specs.Form.{Form, form_of}
-use Rattle.spec_cold.specs.Cold.{ColdEnd, cold}
-use Rattle.spec_cold.specs.declared.outcome.Cold.TheVariants.{Ended, Past, Spent}
+use Rattle.spec_cold.specs.Cold.{ExactSolveEnd, cold}
+use Rattle.spec_check.specs.declared.solve_end.SolveEnd.TheVariants.{Ended, Past, Spent}
 use Rattle.spec_warm.specs.declared.ends.Route.TheVariants as route
 use Rattle.spec_factor.specs.Over.{over_factors}
 use Rattle.spec_solve.specs.Order.{or_tableaus, cold_by, cold_over}
@@ -48,7 +48,7 @@ use Rattle.spec_server.specs.Step.{GoesOn, AloneStep}
 
 -- its certificate has narrow numbers, whichever of both runs ended with it
 or_narrow : (known : Known ℚ) (c : Certificate (List ℚ)) (basis : Option (List Status)) (pivots : ℕ) (budget : ℕ)
-    (m : Model) (f : Form) (o : ColdEnd) →
+    (m : Model) (f : Form) (o : ExactSolveEnd) →
     form_of (Some number_limit) m ≡ Ok f → IsModel m → over_factors (Some number_limit) budget m f ≡ o →
     or_tableaus o (cold (Some number_limit) budget m) ≡ Ended known c basis pivots → IsNarrowCertificate c
 or_narrow known c basis pivots budget m f (Ended a d b n) formed kept q e =
@@ -57,7 +57,7 @@ or_narrow known c basis pivots budget m f (Past p) formed kept q e = cold_narrow
 or_narrow known c basis pivots budget m f Spent formed kept q e = cold_narrow known c basis pivots budget m kept e
 
 -- the end of the cold part, by the model's form
-abbrev part_end : ℕ → Model → Result Form (FormFault ℚ) → ColdEnd
+abbrev part_end : ℕ → Model → Result Form (FormFault ℚ) → ExactSolveEnd
 part_end budget m o = cold_by (Some number_limit) budget m o
 
 part_is : (budget : ℕ) (m : Model) (o : Result Form (FormFault ℚ)) → form_of (Some number_limit) m ≡ o →
@@ -84,11 +84,11 @@ abbrev put_ends : ℕ → Option Words → Publication
 put_ends places None = publication.Nothing
 put_ends places (Some words) = publication.Tried (Full places)
 
-abbrev solve_reads : ℕ → ColdEnd → Result Form (FormFault ℚ) → List ExactRead
+abbrev solve_reads : ℕ → ExactSolveEnd → Result Form (FormFault ℚ) → List ExactRead
 solve_reads places end (Ok f) = Count 0 ∷ put_reads places (words_of_end f end)
 solve_reads places end (Err why) = []
 
-abbrev solve_ends : ℕ → ColdEnd → Result Form (FormFault ℚ) → Publication
+abbrev solve_ends : ℕ → ExactSolveEnd → Result Form (FormFault ℚ) → Publication
 solve_ends places end (Ok f) = put_ends places (words_of_end f end)
 solve_ends places end (Err why) = publication.Nothing
 
@@ -116,7 +116,7 @@ IsKeptDue state (Solves m) = (state.model ≡ Some m) × IsModel m
 
 module _ (places : ℕ) (state : State) where
   -- after the look
-  concludes : (end : ColdEnd) (words : Option Words) →
+  concludes : (end : ExactSolveEnd) (words : Option Words) →
       Concludes places state (worked_with state None end how.Cold words) (Count 0 ∷ [])
       (Count 0 ∷ put_reads places words) (answered state end)
       (with_answer state end how.Cold (put_ends places words))

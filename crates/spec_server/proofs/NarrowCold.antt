@@ -34,8 +34,8 @@ use Rattle.spec_simplex.specs.Phases.{PrimalEnded, end_or_spent, end_or_next, ru
 use Rattle.spec_simplex.specs.Phases.{without_artificials, phase_two_run, wants_phase_one, is_stuck, phase_one}
 use Rattle.spec_simplex.specs.Phases.{phase_two, PhasesEnd, Infeasible, Finished, phases_run}
 use Rattle.spec_simplex.proofs.Stops.{All-made}
-use Rattle.spec_cold.specs.declared.outcome.Cold.TheVariants as outcome
-use Rattle.spec_cold.specs.Cold.{ColdEnd, point, multipliers, moves_below, moves_by, certificate_at, certificate_of}
+use Rattle.spec_check.specs.declared.solve_end.SolveEnd.TheVariants as outcome
+use Rattle.spec_cold.specs.Cold.{ExactSolveEnd, point, multipliers, moves_below, moves_by, certificate_at, certificate_of}
 use Rattle.spec_cold.specs.Cold.{basis_of, pivots_of, checked, after_phases, after_form, cold}
 use Rattle.spec_path.proofs.Runs.{then_ok, refused_ok}
 use Rattle.spec_server.specs.Answers.{number_limit}
@@ -182,19 +182,19 @@ certificate_narrow (Finished e) n = end_narrow e.tableau e.end n
 -- ---- the whole solve
 
 module _ (known : Known ℚ) (cert : Certificate (List ℚ)) (basis : Option (List Status)) (pivots : ℕ) where
-  abbrev IsThisEnd : ColdEnd → Type 0
+  abbrev IsThisEnd : ExactSolveEnd → Type 0
   IsThisEnd o = o ≡ outcome.Ended known cert basis pivots
 
   pub by_check : (c : Certificate (List ℚ)) (b : Option (List Status)) (n : ℕ) (run : Result (Known ℚ) (CheckStop ℚ)) →
       IsThisEnd (checked c b n run) → IsNarrowCertificate c → IsNarrowCertificate cert
   by_check c b n (Ok a) e h =
-      let z : ◌≡◌ {A = ColdEnd} (outcome.Ended a c b n) (outcome.Ended known cert basis pivots) = e in
+      let z : ◌≡◌ {A = ExactSolveEnd} (outcome.Ended a c b n) (outcome.Ended known cert basis pivots) = e in
       let same : c ≡ cert = cc in
       subst IsNarrowCertificate same h
   by_check c b n (Err (check.Past p)) e h =
-      let z : ◌≡◌ {A = ColdEnd} (outcome.Past p) (outcome.Ended known cert basis pivots) = e in cc
+      let z : ◌≡◌ {A = ExactSolveEnd} (outcome.Past p) (outcome.Ended known cert basis pivots) = e in cc
   by_check c b n (Err (check.No k)) e h =
-      let z : ◌≡◌ {A = ColdEnd} outcome.Spent (outcome.Ended known cert basis pivots) = e in cc
+      let z : ◌≡◌ {A = ExactSolveEnd} outcome.Spent (outcome.Ended known cert basis pivots) = e in cc
 
   by_phases : (m : Model) (o : Result PhasesEnd (Spending ℚ)) → IsThisEnd (after_phases (Some number_limit) m o) →
       ((p : PhasesEnd) → o ≡ Ok p → NarrowEnd p) → IsNarrowCertificate cert
@@ -202,9 +202,9 @@ module _ (known : Known ℚ) (cert : Certificate (List ℚ)) (basis : Option (Li
       by_check (certificate_of p) (basis_of p) (pivots_of p) (check_run (Some number_limit) m (certificate_of p)) e
       (certificate_narrow p (h p refl))
   by_phases m (Err (stop.Past p)) e h =
-      let z : ◌≡◌ {A = ColdEnd} (outcome.Past p) (outcome.Ended known cert basis pivots) = e in cc
+      let z : ◌≡◌ {A = ExactSolveEnd} (outcome.Past p) (outcome.Ended known cert basis pivots) = e in cc
   by_phases m (Err stop.Spent) e h =
-      let z : ◌≡◌ {A = ColdEnd} outcome.Spent (outcome.Ended known cert basis pivots) = e in cc
+      let z : ◌≡◌ {A = ExactSolveEnd} outcome.Spent (outcome.Ended known cert basis pivots) = e in cc
 
   by_form : (budget : ℕ) (m : Model) (o : Result Form (FormFault ℚ)) →
       IsThisEnd (after_form (Some number_limit) budget m o) → ((f : Form) → o ≡ Ok f → IsNarrowForm f) →
@@ -214,7 +214,7 @@ module _ (known : Known ℚ) (cert : Certificate (List ℚ)) (basis : Option (Li
   by_form budget m (Err (fault.Clash j)) e h =
       by_check (certificate.Clash j) None 0 (check_run (Some number_limit) m (certificate.Clash j)) e tt
   by_form budget m (Err (fault.Past p)) e h =
-      let z : ◌≡◌ {A = ColdEnd} (outcome.Past p) (outcome.Ended known cert basis pivots) = e in cc
+      let z : ◌≡◌ {A = ExactSolveEnd} (outcome.Past p) (outcome.Ended known cert basis pivots) = e in cc
 
   pub cold_narrow : (budget : ℕ) (m : Model) → IsModel m →
       cold (Some number_limit) budget m ≡ outcome.Ended known cert basis pivots → IsNarrowCertificate cert

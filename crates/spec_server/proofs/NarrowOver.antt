@@ -31,8 +31,8 @@ use Rattle.spec_simplex.specs.Step.{moved_run, shifted_run, flip_run, best_run, 
 use Rattle.spec_simplex.specs.Phases.{wants_phase_one, is_stuck}
 use Rattle.spec_simplex.specs.Tableau.{Tableau, form_columns, is_artificial, basic_at}
 use Rattle.spec_simplex.proofs.Stops.{All-made}
-use Rattle.spec_cold.specs.declared.outcome.Cold.TheVariants as outcome
-use Rattle.spec_cold.specs.Cold.{ColdEnd, moves_by}
+use Rattle.spec_check.specs.declared.solve_end.SolveEnd.TheVariants as outcome
+use Rattle.spec_cold.specs.Cold.{ExactSolveEnd, moves_by}
 use Rattle.spec_path.proofs.Runs.{then_ok, refused_ok}
 use Rattle.spec_factor.specs.Factors.{Pair, pair_at, column_entry, column_of, forward_run, ftran_run}
 use Rattle.spec_factor.specs.Factors.{backward_run, btran_run, factor_run, replace_run}
@@ -378,7 +378,7 @@ run_narrow budget f a h n =
 -- ---- the whole run
 
 module _ (known : Known ℚ) (cert : Certificate (List ℚ)) (basis : Option (List Status)) (pivots : ℕ) where
-  abbrev IsThisEnd : ColdEnd → Type 0
+  abbrev IsThisEnd : ExactSolveEnd → Type 0
   IsThisEnd o = o ≡ outcome.Ended known cert basis pivots
 
   by_run : (m : Model) (r : Result OverEnd (RunStop ℚ)) → IsThisEnd (after_over (Some number_limit) m r) →
@@ -387,9 +387,9 @@ module _ (known : Known ℚ) (cert : Certificate (List ℚ)) (basis : Option (Li
       by_check known cert basis pivots a.certificate a.basis a.pivots (check_run (Some number_limit) m a.certificate) e
       (h a refl)
   by_run m (Err (stop.Past p)) e h =
-      let z : ◌≡◌ {A = ColdEnd} (outcome.Past p) (outcome.Ended known cert basis pivots) = e in cc
+      let z : ◌≡◌ {A = ExactSolveEnd} (outcome.Past p) (outcome.Ended known cert basis pivots) = e in cc
   by_run m (Err stop.Spent) e h =
-      let z : ◌≡◌ {A = ColdEnd} outcome.Spent (outcome.Ended known cert basis pivots) = e in cc
+      let z : ◌≡◌ {A = ExactSolveEnd} outcome.Spent (outcome.Ended known cert basis pivots) = e in cc
 
   pub over_narrow : (budget : ℕ) (m : Model) (f : Form) → form_of (Some number_limit) m ≡ Ok f → IsModel m →
       over_factors (Some number_limit) budget m f ≡ outcome.Ended known cert basis pivots → IsNarrowCertificate cert

@@ -12,7 +12,7 @@ use Rattle.spec_check.specs.declared.certificate.Verdict.TheVariants.{Yes}
 use Rattle.spec_check.specs.Certificate.{Holds}
 use Rattle.spec_check.specs.TextWritten.{certificate_lines}
 use Rattle.spec_pivot.specs.declared.status.Status.{Status}
-use Rattle.spec_cold.specs.declared.outcome.Cold.TheVariants.{Ended}
+use Rattle.spec_check.specs.declared.solve_end.SolveEnd.TheVariants.{Ended}
 use Rattle.spec_reads.specs.Reads.{ExactRead}
 use Rattle.spec_server.specs.declared.asks.Asked.{Asked}
 use Rattle.spec_server.specs.declared.asks.Reply.TheVariants as reply

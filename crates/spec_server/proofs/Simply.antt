@@ -6,7 +6,7 @@ use Rattle.spec_model.specs.Model.{Model}
 use Rattle.spec_edit.specs.Edited.{ExactEdit, OrFault, edited}
 use Rattle.spec_simplex.specs.declared.ends.FormFault.{FormFault}
 use Rattle.spec_simplex.specs.Form.{Form, form_of}
-use Rattle.spec_cold.specs.Cold.{ColdEnd, cold}
+use Rattle.spec_cold.specs.Cold.{ExactSolveEnd, cold}
 use Rattle.spec_reads.specs.Reads.{Words, ExactRead, Looked}
 use Rattle.spec_server.specs.declared.answer.How.{How}
 use Rattle.spec_server.specs.declared.answer.How.TheVariants as how
@@ -25,7 +25,7 @@ use Rattle.spec_server.proofs.Solves.{formless_may}
 
 -- a solve replies its answer, and the session keeps it
 pub record SolveStep (old : State) (m : Model) (replied : ExactReply) (new : State) : Type 0 where
-  pub end : ColdEnd
+  pub end : ExactSolveEnd
   pub how : How
   pub publication : Publication
   pub held : old.model ≡ Some m
@@ -75,13 +75,13 @@ module _ (old : State) (m : Model) where
 -- ---- what a solve goes on to
 
 -- the reply is its answer, and the state keeps it
-record KeepsAnswer (old : State) (end : ColdEnd) (how : How) (replied : ExactReply) (new : State) : Type 0 where
+record KeepsAnswer (old : State) (end : ExactSolveEnd) (how : How) (replied : ExactReply) (new : State) : Type 0 where
   publication : Publication
   answer : replied ≡ answered old end
   kept : new ≡ with_answer old end how publication
 
 module _ (places : ℕ) (old : State) (looked reads : List ExactRead) (replied : ExactReply) (new : State) where
-  worked_keeps : (found : Looked) (end : ColdEnd) (how : How) (words : Option Words) →
+  worked_keeps : (found : Looked) (end : ExactSolveEnd) (how : How) (words : Option Words) →
       Concludes places old (worked_with old found end how words) looked reads replied new →
       KeepsAnswer old end how replied new
   worked_keeps found end how None c = record { publication = publication.Nothing; answer = c.1; kept = c.2 }

@@ -16,8 +16,8 @@ use Rattle.spec_simplex.specs.declared.ends.FormFault.{FormFault}
 use Rattle.spec_simplex.specs.declared.ends.FormFault.TheVariants as fault
 use Rattle.spec_simplex.specs.Form.{Form, form_of}
 use Rattle.spec_simplex.specs.Eliminate.{IsBasisOf}
-use Rattle.spec_cold.specs.declared.outcome.Cold.TheVariants.{Ended, Past, Spent}
-use Rattle.spec_cold.specs.Cold.{ColdEnd, checked, after_form, cold}
+use Rattle.spec_check.specs.declared.solve_end.SolveEnd.TheVariants.{Ended, Past, Spent}
+use Rattle.spec_cold.specs.Cold.{ExactSolveEnd, checked, after_form, cold}
 use Rattle.spec_cold.proofs.Solved.{by_end, enough}
 use Rattle.spec_warm.specs.declared.ends.Route.TheVariants as route
 use Rattle.spec_warm.specs.declared.ends.Warm.TheVariants as warm
@@ -46,28 +46,28 @@ pub cold_fits : (limit : Option ℕ) (budget : ℕ) (m : Model) (known : Known �
 cold_fits limit budget m known c basis pivots =
     by_end limit budget m (λ e. e ≡ Ended known c basis pivots → IsFor m c)
     (λ a d basis' pivots' t e. let same : d ≡ c = cc in subst (IsFor m) same t.accepted.fits)
-    (λ p e. let z : ◌≡◌ {A = ColdEnd} (Past p) (Ended known c basis pivots) = e in cc)
-    (λ f p q e. let z : ◌≡◌ {A = ColdEnd} Spent (Ended known c basis pivots) = e in cc)
+    (λ p e. let z : ◌≡◌ {A = ExactSolveEnd} (Past p) (Ended known c basis pivots) = e in cc)
+    (λ f p q e. let z : ◌≡◌ {A = ExactSolveEnd} Spent (Ended known c basis pivots) = e in cc)
 
 -- where a solve ends so, its certificate is one for the model, of narrow numbers
-abbrev pub HasFitEnd : Model → ColdEnd → Type 0
+abbrev pub HasFitEnd : Model → ExactSolveEnd → Type 0
 HasFitEnd m end = (known : Known ℚ) (c : Certificate (List ℚ)) (basis : Option (List Status)) (pivots : ℕ) →
     end ≡ Ended known c basis pivots → IsFor m c × IsNarrowCertificate c
 
 module _ (m : Model) (budget : ℕ) where
   -- a solve over whole tableaus gives up as the cold part does
-  given_up : (end : ColdEnd) → cold_over (Some number_limit) budget m ≡ end → GivesUp end →
+  given_up : (end : ExactSolveEnd) → cold_over (Some number_limit) budget m ≡ end → GivesUp end →
       cold (Some number_limit) budget m ≡ end
   given_up end e h = sym (tableaus_give_up (Some number_limit) budget m (subst GivesUp (sym e) h)) ∙ e
 
-  cold_may : (end : ColdEnd) → cold_over (Some number_limit) budget m ≡ end → HasFitEnd m end → MayAnswer m budget end
+  cold_may : (end : ExactSolveEnd) → cold_over (Some number_limit) budget m ≡ end → HasFitEnd m end → MayAnswer m budget end
   cold_may (Ended known c basis pivots) e fit =
       let f = fit known c basis pivots refl in
       (f.0, f.1, (part_true (Some number_limit) budget m known c basis pivots e).2)
   cold_may (Past p) e fit = given_up (Past p) e tt
   cold_may Spent e fit = let tableaus = given_up Spent e tt in (tableaus, spent_is_below m budget tableaus)
 
-  cold_how : (end : ColdEnd) → cold_over (Some number_limit) budget m ≡ end → ColdFits m budget end
+  cold_how : (end : ExactSolveEnd) → cold_over (Some number_limit) budget m ≡ end → ColdFits m budget end
   cold_how (Ended known c basis pivots) e = part_ends (Some number_limit) budget m known c basis pivots e
   cold_how (Past p) e = tt
   cold_how Spent e = tt
@@ -115,7 +115,7 @@ module _ (m : Model) (budget : ℕ) where
 
   -- ---- with nothing handed
 
-  pub cold_solved : (end : ColdEnd) → cold_over (Some number_limit) budget m ≡ end → HasFitEnd m end →
+  pub cold_solved : (end : ExactSolveEnd) → cold_over (Some number_limit) budget m ≡ end → HasFitEnd m end →
       IsSolved m budget None (record { end = end; route = route.Cold })
   cold_solved end e fit = record {
     may_answer = cold_may end e fit;

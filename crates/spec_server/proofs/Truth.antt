@@ -13,8 +13,8 @@ use Rattle.spec_check.specs.Text.{ExactRaw}
 use Rattle.spec_check.specs.Settle.{Settled, certificate_for}
 use Rattle.spec_check.specs.Run.{Run, check_run, verdict_of}
 use Rattle.spec_pivot.specs.declared.status.Status.{Status}
-use Rattle.spec_cold.specs.declared.outcome.Cold.TheVariants as outcome
-use Rattle.spec_cold.specs.Cold.{ColdEnd}
+use Rattle.spec_check.specs.declared.solve_end.SolveEnd.TheVariants as outcome
+use Rattle.spec_cold.specs.Cold.{ExactSolveEnd}
 use Rattle.spec_check.proofs.Fits.{settled_fits}
 use Rattle.spec_check.proofs.RunSound.{run_sound}
 use Rattle.spec_check.proofs.Sound.{checks_hold}
@@ -89,7 +89,7 @@ ended_true m budget known cert basis pivots h =
     let sound = run_sound (Some number_limit) m cert known h.0 h.2 in
     subst (Holds m) (sym sound.1) (checks_hold m cert sound.0)
 
-solved_true : (m : Model) (budget : ℕ) (solved : ColdEnd) (said : Known ℚ) → MayAnswer m budget solved →
+solved_true : (m : Model) (budget : ℕ) (solved : ExactSolveEnd) (said : Known ℚ) → MayAnswer m budget solved →
     answer.Known said ≡ answer_of budget solved → Holds m said
 solved_true m budget (outcome.Ended known cert basis pivots) said h e =
     subst (Holds m) (sym (knowns_same said known e)) (ended_true m budget known cert basis pivots h)

@@ -30,7 +30,7 @@ use Rattle.spec_check.specs.Text as certificate
 use Rattle.spec_check.specs.TextWritten.{certificate_lines}
 use Rattle.spec_check.proofs.ReadBack.{read_back}
 use Rattle.spec_pivot.specs.declared.status.Status.{Status}
-use Rattle.spec_cold.specs.declared.outcome.Cold.TheVariants.{Ended}
+use Rattle.spec_check.specs.declared.solve_end.SolveEnd.TheVariants.{Ended}
 use Rattle.spec_server.specs.declared.asks.Reply.TheVariants as reply
 use Rattle.spec_server.specs.Answers.{MayAnswer}
 use Rattle.spec_server.specs.Machine.{verdict_on}

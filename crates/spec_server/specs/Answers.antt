@@ -7,8 +7,8 @@ use Rattle.spec_check.specs.Run.{check_run}
 use Rattle.spec_pivot.specs.declared.status.Status.{Status}
 use Rattle.spec_simplex.specs.declared.ends.FormFault.{FormFault}
 use Rattle.spec_simplex.specs.Form.{Form, form_of}
-use Rattle.spec_cold.specs.declared.outcome.Cold.TheVariants.{Ended, Past, Spent}
-use Rattle.spec_cold.specs.Cold.{ColdEnd, cold}
+use Rattle.spec_check.specs.declared.solve_end.SolveEnd.TheVariants.{Ended, Past, Spent}
+use Rattle.spec_cold.specs.Cold.{ExactSolveEnd, cold}
 use Rattle.spec_warm.specs.declared.ends.Route.TheVariants as route
 use Rattle.spec_warm.specs.declared.ends.Warm.TheVariants as warm
 use Rattle.spec_warm.specs.Warm.{WarmResult, warm as warm_start}
@@ -28,14 +28,14 @@ enough_pivots m = 2 * 3 ^ (width m + 2 * height m)
 -- bits, so that its text can be read back. An operation is past the limit, or the budget is spent, only where it is so
 -- of the cold solve; and a budget is spent only where it is below the number that is enough. It names the model and the
 -- budget alone.
-abbrev pub MayAnswer : Model → ℕ → ColdEnd → Type 0
+abbrev pub MayAnswer : Model → ℕ → ExactSolveEnd → Type 0
 MayAnswer m budget (Ended known certificate basis pivots) =
     IsFor m certificate × IsNarrowCertificate certificate × (check_run (Some number_limit) m certificate ≡ Ok known)
 MayAnswer m budget (Past p) = cold (Some number_limit) budget m ≡ Past p
 MayAnswer m budget Spent = (cold (Some number_limit) budget m ≡ Spent) × (budget < enough_pivots m)
 
 -- if a solve starts cold, what is known, its certificate, basis and pivots are those of the cold solve without a limit
-abbrev pub ColdFits : Model → ℕ → ColdEnd → Type 0
+abbrev pub ColdFits : Model → ℕ → ExactSolveEnd → Type 0
 ColdFits m budget (Ended known certificate basis pivots) = cold None budget m ≡ Ended known certificate basis pivots
 ColdFits m budget (Past p) = Unit {0}
 ColdFits m budget Spent = Unit {0}

@@ -11,8 +11,8 @@ use Rattle.spec_check.specs.declared.certificate.Known.TheVariants as known
 use Rattle.spec_pivot.specs.declared.status.Status.{Status}
 use Rattle.spec_simplex.specs.declared.ends.FormFault.{FormFault}
 use Rattle.spec_simplex.specs.Form.{Form, form_of}
-use Rattle.spec_cold.specs.declared.outcome.Cold.TheVariants.{Ended}
-use Rattle.spec_cold.specs.Cold.{ColdEnd}
+use Rattle.spec_check.specs.declared.solve_end.SolveEnd.TheVariants.{Ended}
+use Rattle.spec_cold.specs.Cold.{ExactSolveEnd}
 use Rattle.spec_warm.specs.declared.ends.Route.{Route}
 use Rattle.spec_warm.specs.declared.ends.Route.TheVariants as route
 use Rattle.spec_warm.specs.Solve.{SolveEnd}
@@ -86,7 +86,7 @@ route_line solved =
     route_text solved.route ++ codes " PIVOTS " ++ pivots_text (pivots_of_solved solved.end) ++ 10 ∷ []
 
 -- after an optimum its basis, as a file
-abbrev pub final_text : Model → Result Form (FormFault ℚ) → ColdEnd → List ℕ
+abbrev pub final_text : Model → Result Form (FormFault ℚ) → ExactSolveEnd → List ℕ
 final_text m (Ok f) (Ended (known.Optimal v) certificate (Some basis) pivots) = bas_text m f basis
 final_text m form end = []
 

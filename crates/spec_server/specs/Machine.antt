@@ -18,8 +18,8 @@ use Rattle.spec_edit.specs.declared.edit.EditFault.TheVariants as edit
 use Rattle.spec_edit.specs.Edited.{ExactEdit, OrFault, edited}
 use Rattle.spec_edit.specs.Edited as edits
 use Rattle.spec_pivot.specs.declared.status.Status.{Status}
-use Rattle.spec_cold.specs.declared.outcome.Cold.TheVariants as outcome
-use Rattle.spec_cold.specs.Cold.{ColdEnd}
+use Rattle.spec_check.specs.declared.solve_end.SolveEnd.TheVariants as outcome
+use Rattle.spec_cold.specs.Cold.{ExactSolveEnd}
 use Rattle.spec_server.specs.declared.answer.Answer.{Answer}
 use Rattle.spec_server.specs.declared.answer.Answer.TheVariants as answer
 use Rattle.spec_server.specs.declared.answer.LastAnswer.{LastAnswer}
@@ -103,18 +103,18 @@ write_reply None form = reply.Refused refusal.NoModel
 write_reply (Some m) form = text_reply m form
 
 -- the answer of a solve within a budget
-abbrev pub answer_of : ℕ → ColdEnd → Answer ℚ
+abbrev pub answer_of : ℕ → ExactSolveEnd → Answer ℚ
 answer_of budget (outcome.Ended known certificate basis pivots) = answer.Known known
 answer_of budget (outcome.Past p) = answer.Past p
 answer_of budget outcome.Spent = answer.Spent budget
 
 -- the lines of its certificate; none where it knows nothing of the model
-abbrev pub lines_of_solved : Model → ColdEnd → List (List ℕ)
+abbrev pub lines_of_solved : Model → ExactSolveEnd → List (List ℕ)
 lines_of_solved m (outcome.Ended known certificate basis pivots) = certificate_lines m certificate
 lines_of_solved m (outcome.Past p) = []
 lines_of_solved m outcome.Spent = []
 
-abbrev pub pivots_of_solved : ColdEnd → Option ℕ
+abbrev pub pivots_of_solved : ExactSolveEnd → Option ℕ
 pivots_of_solved (outcome.Ended known certificate basis pivots) = Some pivots
 pivots_of_solved (outcome.Past p) = None
 pivots_of_solved outcome.Spent = None

@@ -6,7 +6,7 @@ use Rattle.spec_mps.specs.declared.fault.MpsFault.{MpsFault}
 use Rattle.spec_mps.specs.declared.style.Style.{Style}
 use Rattle.spec_mps.specs.Reader.{State, start}
 use Rattle.spec_mps.specs.Steps as text
-use Rattle.spec_cold.specs.Cold.{ColdEnd}
+use Rattle.spec_cold.specs.Cold.{ExactSolveEnd}
 use Rattle.spec_warm.specs.Solve.{SolveEnd}
 use Rattle.spec_server.specs.declared.asks.Reply.TheVariants as reply
 use Rattle.spec_server.specs.declared.asks.Refusal.TheVariants as refusal
@@ -41,7 +41,7 @@ text_said style lines = said_by (text_step style) (record { state = start; lines
 -- ---- what is written
 
 -- the answer's line, and the lines of its certificate
-unfoldable pub solved_lines : Model → ColdEnd → List ℕ
+unfoldable pub solved_lines : Model → ExactSolveEnd → List ℕ
 solved_lines m solved =
     check_line (reply.Answered (answer_of opening_budget solved)) ++ ended_lines (lines_of_solved m solved)
 

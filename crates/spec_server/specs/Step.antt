@@ -10,8 +10,8 @@ use Rattle.spec_check.specs.declared.certificate.Known.TheVariants as known
 use Rattle.spec_pivot.specs.declared.status.Status.{Status}
 use Rattle.spec_simplex.specs.declared.ends.FormFault.{FormFault}
 use Rattle.spec_simplex.specs.Form.{Form, form_of}
-use Rattle.spec_cold.specs.declared.outcome.Cold.TheVariants.{Ended}
-use Rattle.spec_cold.specs.Cold.{ColdEnd, cold}
+use Rattle.spec_check.specs.declared.solve_end.SolveEnd.TheVariants.{Ended}
+use Rattle.spec_cold.specs.Cold.{ExactSolveEnd, cold}
 use Rattle.spec_warm.specs.declared.ends.Route.{Route}
 use Rattle.spec_warm.specs.declared.ends.Route.TheVariants as route
 use Rattle.spec_warm.specs.Solve.{SolveEnd}
@@ -34,11 +34,11 @@ pub data Begun : Type 0 where
   Looks : (shape : Words) → Begun
 
 -- the line of an answer
-abbrev pub answered : State → ColdEnd → ExactReply
+abbrev pub answered : State → ExactSolveEnd → ExactReply
 answered old end = reply.Answered (answer_of old.budget end)
 
 -- the state that keeps it
-abbrev pub with_answer : State → ColdEnd → How → Publication → State
+abbrev pub with_answer : State → ExactSolveEnd → How → Publication → State
 with_answer old end how publication =
     record old { last = Some (record { solved = end; how = how; publication = publication }) }
 
@@ -46,7 +46,7 @@ with_answer old end how publication =
 abbrev pub solve_begun : State → Model → Result Form (FormFault ℚ) → Begun
 solve_begun old m (Ok f) = Looks (shape_of f)
 solve_begun old m (Err fault) =
-    let end : ColdEnd = cold (Some number_limit) old.budget m in
+    let end : ExactSolveEnd = cold (Some number_limit) old.budget m in
     Answers (answered old end) (with_answer old end how.Cold publication.Nothing)
 
 abbrev pub begun_by : State → Due → Begun
@@ -62,7 +62,7 @@ Begins old asked begun =
 
 -- an answer whose basis is to be published, in these words
 pub record Pending : Type 0 where
-  pub end : ColdEnd
+  pub end : ExactSolveEnd
   pub how : How
   pub words : Words
 
@@ -91,12 +91,12 @@ is_found None words = false
 is_found (Some place) words = same words place.words
 
 -- the words of the basis of an optimum
-abbrev pub words_of_end : Form → ColdEnd → Option Words
+abbrev pub words_of_end : Form → ExactSolveEnd → Option Words
 words_of_end f (Ended (known.Optimal v) certificate (Some basis) pivots) = Some (packed f basis)
 words_of_end f other = None
 
 -- the basis of an optimum is published, unless it is the one that was found
-abbrev pub worked_with : State → Looked → ColdEnd → How → Option Words → Worked
+abbrev pub worked_with : State → Looked → ExactSolveEnd → How → Option Words → Worked
 worked_with old found end how None = Ends (answered old end) (with_answer old end how publication.Nothing)
 worked_with old found end how (Some words) =
     if is_found found words

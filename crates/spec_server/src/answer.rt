@@ -1,6 +1,5 @@
 // What a solve answers, over the type F of numbers, L of lists of numbers and B of bases.
-use spec_check::Known;
-use spec_cold::Cold;
+use spec_check::{Known, SolveEnd};
 use spec_exact::Past;
 use spec_reads::Put;
 use spec_warm::Fall;
@@ -43,7 +42,7 @@ pub enum Publication {
 #[derive(Drop)]
 pub struct LastAnswer<F: Debug, L, B> {
     /// What the solve ended with.
-    pub solved: Cold<F, L, B>,
+    pub solved: SolveEnd<F, L, B>,
     pub how: How,
     pub publication: Publication,
 }

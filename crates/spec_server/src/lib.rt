@@ -44,7 +44,7 @@ ghost use Rattle.spec_check.specs.Certificate.{Holds};
 ghost use Rattle.spec_check.specs.Text.{ExactRaw};
 ghost use Rattle.spec_check.specs.TextWritten.{certificate_lines};
 ghost use Rattle.spec_pivot.specs.declared.status.Status.{Status};
-ghost use Rattle.spec_cold.specs.declared.outcome.Cold.TheVariants as outcome;
+ghost use Rattle.spec_check.specs.declared.solve_end.SolveEnd.TheVariants as outcome;
 ghost use Rattle.spec_cold.specs.Cold.{cold};
 ghost use Rattle.spec_server.specs.declared.answer.Answer.TheVariants as answer;
 ghost use Rattle.spec_server.specs.declared.asks.Ask.TheVariants as ask;

@@ -14,8 +14,8 @@ use Rattle.spec_simplex.specs.declared.ends.FormFault.{FormFault}
 use Rattle.spec_simplex.specs.declared.ends.RunStop.{RunStop}
 use Rattle.spec_simplex.specs.declared.ends.RunStop.TheVariants as stop
 use Rattle.spec_simplex.specs.Form.{Form, form_of}
-use Rattle.spec_cold.specs.declared.outcome.Cold.TheVariants.{Ended, Past, Spent}
-use Rattle.spec_cold.specs.Cold.{ColdEnd, checked, cold}
+use Rattle.spec_check.specs.declared.solve_end.SolveEnd.TheVariants.{Ended, Past, Spent}
+use Rattle.spec_cold.specs.Cold.{ExactSolveEnd, checked, cold}
 use Rattle.spec_cold.proofs.Solved as colds
 use Rattle.spec_cold.proofs.LimitCold.{cold_same}
 use Rattle.spec_warm.specs.declared.ends.Route.TheVariants as route
@@ -26,29 +26,29 @@ use Rattle.spec_factor.specs.Over.{OverEnd, over_run, after_over, over_factors}
 use Rattle.spec_revised.proofs.OverCold.{over_same}
 use Rattle.spec_solve.specs.Order.{GivesUp, or_tableaus, cold_by, cold_over, solve_over}
 
-abbrev Same : ColdEnd → ColdEnd → Type 0
+abbrev Same : ExactSolveEnd → ExactSolveEnd → Type 0
 Same o u = (o ≡ u) ⊎ ((p : Refused ℚ) × (o ≡ Past p))
 
 -- ---- one end or another
 
-or_same : (o other exact : ColdEnd) → Same o exact → Same other exact → Same (or_tableaus o other) exact
+or_same : (o other exact : ExactSolveEnd) → Same o exact → Same other exact → Same (or_tableaus o other) exact
 or_same (Ended known c basis pivots) other exact g h = g
 or_same (Past p) other exact g h = h
 or_same Spent other exact g h = h
 
-pub or_gives_up : (o other : ColdEnd) → GivesUp (or_tableaus o other) → GivesUp o × (or_tableaus o other ≡ other)
+pub or_gives_up : (o other : ExactSolveEnd) → GivesUp (or_tableaus o other) → GivesUp o × (or_tableaus o other ≡ other)
 or_gives_up (Ended known c basis pivots) other h = absurd h
 or_gives_up (Past p) other h = (tt, refl)
 or_gives_up Spent other h = (tt, refl)
 
 ended_same : (known : Known ℚ) (c : Certificate (List ℚ)) (basis : Option (List Status)) (pivots : ℕ)
-    (exact : ColdEnd) →
+    (exact : ExactSolveEnd) →
     Same (Ended known c basis pivots) exact → Ended known c basis pivots ≡ exact
 ended_same known c basis pivots exact (inl e) = e
 ended_same known c basis pivots exact (inr h) =
-    let z : ◌≡◌ {A = ColdEnd} (Ended known c basis pivots) (Past h.0) = h.1 in cc
+    let z : ◌≡◌ {A = ExactSolveEnd} (Ended known c basis pivots) (Past h.0) = h.1 in cc
 
-or_kept : (o other exact : ColdEnd) → Same o exact → Same other exact → (or_tableaus o other ≡ other) ⊎ GivesUp other
+or_kept : (o other exact : ExactSolveEnd) → Same o exact → Same other exact → (or_tableaus o other ≡ other) ⊎ GivesUp other
 or_kept (Past p) other exact g h = inl refl
 or_kept Spent other exact g h = inl refl
 or_kept (Ended known c basis pivots) (Past p) exact g h = inr tt
@@ -60,25 +60,25 @@ or_kept (Ended known c basis pivots) (Ended known' c' basis' pivots') exact g h 
 
 module _ (limit : Option ℕ) (budget : ℕ) (m : Model) (known : Known ℚ) (cert : Certificate (List ℚ))
     (left : Option (List Status)) (pivots : ℕ) where
-  abbrev IsThis : ColdEnd → Type 0
+  abbrev IsThis : ExactSolveEnd → Type 0
   IsThis end = end ≡ Ended known cert left pivots
 
   checked_says : (c : Certificate (List ℚ)) (basis : Option (List Status)) (n : ℕ) (r : Run (Known ℚ)) →
       check_run limit m c ≡ r → IsThis (checked c basis n r) → check_run limit m cert ≡ Ok known
   checked_says c basis n (Ok answer) q e =
-      let z : ◌≡◌ {A = ColdEnd} (Ended answer c basis n) (Ended known cert left pivots) = e in
+      let z : ◌≡◌ {A = ExactSolveEnd} (Ended answer c basis n) (Ended known cert left pivots) = e in
       let same_certificate : c ≡ cert = cc in
       let same_answer : answer ≡ known = cc in
       ap (check_run limit m) (sym same_certificate) ∙ q ∙ ap Ok same_answer
   checked_says c basis n (Err (check.Past p)) q e =
-      let z : ◌≡◌ {A = ColdEnd} (Past p) (Ended known cert left pivots) = e in cc
+      let z : ◌≡◌ {A = ExactSolveEnd} (Past p) (Ended known cert left pivots) = e in cc
   checked_says c basis n (Err (check.No k)) q e =
-      let z : ◌≡◌ {A = ColdEnd} Spent (Ended known cert left pivots) = e in cc
+      let z : ◌≡◌ {A = ExactSolveEnd} Spent (Ended known cert left pivots) = e in cc
 
   after_says : (r : Result OverEnd (RunStop ℚ)) → IsThis (after_over limit m r) → check_run limit m cert ≡ Ok known
   after_says (Ok a) e = checked_says a.certificate a.basis a.pivots (check_run limit m a.certificate) refl e
-  after_says (Err (stop.Past p)) e = let z : ◌≡◌ {A = ColdEnd} (Past p) (Ended known cert left pivots) = e in cc
-  after_says (Err stop.Spent) e = let z : ◌≡◌ {A = ColdEnd} Spent (Ended known cert left pivots) = e in cc
+  after_says (Err (stop.Past p)) e = let z : ◌≡◌ {A = ExactSolveEnd} (Past p) (Ended known cert left pivots) = e in cc
+  after_says (Err stop.Spent) e = let z : ◌≡◌ {A = ExactSolveEnd} Spent (Ended known cert left pivots) = e in cc
 
   over_says : (f : Form) → IsThis (over_factors limit budget m f) → check_run limit m cert ≡ Ok known
   unfolding over_factors
@@ -87,7 +87,7 @@ module _ (limit : Option ℕ) (budget : ℕ) (m : Model) (known : Known ℚ) (ce
   tableaus_say : IsThis (cold limit budget m) → check_run limit m cert ≡ Ok known
   tableaus_say e = (colds.ended_is_true limit budget m known cert left pivots e).1
 
-  or_says : (f : Form) (o : ColdEnd) → over_factors limit budget m f ≡ o →
+  or_says : (f : Form) (o : ExactSolveEnd) → over_factors limit budget m f ≡ o →
       IsThis (or_tableaus o (cold limit budget m)) → check_run limit m cert ≡ Ok known
   or_says f (Ended known' c basis n) q e = over_says f (q ∙ e)
   or_says f (Past p) q e = tableaus_say e
@@ -126,8 +126,8 @@ module _ (limit : Option ℕ) (budget : ℕ) (m : Model) where
   part_fits known cert left pivots =
       colds.by_end None budget m (λ e. e ≡ Ended known cert left pivots → IsFor m cert)
       (λ a d basis' pivots' t e. let same : d ≡ cert = cc in subst (IsFor m) same t.accepted.fits)
-      (λ p e. let z : ◌≡◌ {A = ColdEnd} (Past p) (Ended known cert left pivots) = e in cc)
-      (λ f p q e. let z : ◌≡◌ {A = ColdEnd} Spent (Ended known cert left pivots) = e in cc)
+      (λ p e. let z : ◌≡◌ {A = ExactSolveEnd} (Past p) (Ended known cert left pivots) = e in cc)
+      (λ f p q e. let z : ◌≡◌ {A = ExactSolveEnd} Spent (Ended known cert left pivots) = e in cc)
 
   pub part_true : (known : Known ℚ) (cert : Certificate (List ℚ)) (left : Option (List Status)) (pivots : ℕ) →
       cold_over limit budget m ≡ Ended known cert left pivots →
@@ -155,7 +155,7 @@ module _ (limit : Option ℕ) (budget : ℕ) (m : Model) where
       (or_gives_up (over_factors limit budget m f) (cold limit budget m)
       (subst (λ o. GivesUp (cold_by limit budget m o)) e h)).0
 
-  abbrev Kept : ColdEnd → Type 0
+  abbrev Kept : ExactSolveEnd → Type 0
   Kept end = (end ≡ cold limit budget m) ⊎ GivesUp (cold limit budget m)
 
   by_kept : (o : Result Form (FormFault ℚ)) → form_of limit m ≡ o → Kept (cold_by limit budget m o)

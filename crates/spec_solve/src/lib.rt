@@ -22,7 +22,7 @@ ghost use Rattle.spec_check.specs.Certificate.{IsFor, Holds};
 ghost use Rattle.spec_check.specs.Run.{check_run};
 ghost use Rattle.spec_pivot.specs.declared.status.Status.{Status};
 ghost use Rattle.spec_simplex.specs.Form.{Form, form_of};
-ghost use Rattle.spec_cold.specs.declared.outcome.Cold.TheVariants as outcome;
+ghost use Rattle.spec_check.specs.declared.solve_end.SolveEnd.TheVariants as outcome;
 ghost use Rattle.spec_cold.specs.Cold.{cold};
 ghost use Rattle.spec_warm.specs.Solve.{solve};
 ghost use Rattle.spec_factor.specs.Over.{over_factors};

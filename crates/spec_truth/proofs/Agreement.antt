@@ -5,8 +5,8 @@ use Rattle.spec_exact.specs.Fraction.{ℚ}
 use Rattle.spec_exact.specs.declared.past.Past.{Past as Refused}
 use Rattle.spec_model.specs.Model.{Model}
 use Rattle.spec_edit.specs.Edited.{ExactEdit, OrFault, edited}
-use Rattle.spec_cold.specs.declared.outcome.Cold.TheVariants.{Ended, Past, Spent}
-use Rattle.spec_cold.specs.Cold.{ColdEnd}
+use Rattle.spec_check.specs.declared.solve_end.SolveEnd.TheVariants.{Ended, Past, Spent}
+use Rattle.spec_cold.specs.Cold.{ExactSolveEnd}
 use Rattle.spec_reads.specs.Reads.{ExactRead}
 use Rattle.spec_server.specs.declared.answer.Answer.TheVariants as answer
 use Rattle.spec_server.specs.declared.asks.Ask.TheVariants as ask
@@ -24,14 +24,14 @@ use Rattle.spec_truth.specs.Agree.{IsWon, MayDiffer, IsSameBut, RepliesAgree, Ha
 
 -- ---- answers
 
-past_same : (p q : Refused ℚ) → ◌≡◌ {A = ColdEnd} (Past p) (Past q) → p ≡ q
+past_same : (p q : Refused ℚ) → ◌≡◌ {A = ExactSolveEnd} (Past p) (Past q) → p ≡ q
 past_same p q e = cc
 
-past_is_not_spent : (p : Refused ℚ) → ◌≡◌ {A = ColdEnd} (Past p) Spent → ⊥
+past_is_not_spent : (p : Refused ℚ) → ◌≡◌ {A = ExactSolveEnd} (Past p) Spent → ⊥
 past_is_not_spent p e = cc
 
 -- two solves of a model within one budget give the same answer, or one of them knows an answer where the other does not
-answers_same_but : (m : Model) (budget : ℕ) (a b : ColdEnd) → MayAnswer m budget a → MayAnswer m budget b →
+answers_same_but : (m : Model) (budget : ℕ) (a b : ExactSolveEnd) → MayAnswer m budget a → MayAnswer m budget b →
     (answer_of budget a ≡ answer_of budget b) ⊎ IsWon (answer_of budget a) (answer_of budget b)
 answers_same_but m budget (Ended k c left n) (Ended l d other j) p q =
     inl (ap answer.Known (one_truth m k l (ended_true m budget k c left n p) (ended_true m budget l d other j q)))

@@ -26,8 +26,8 @@ use Rattle.spec_check.proofs.Sound.{checks_hold}
 use Rattle.spec_check.proofs.InfeasibleSound.{infeasible_ok, clash_ok}
 use Rattle.spec_check.proofs.UnboundedSound.{unbounded_ok}
 use Rattle.spec_check.proofs.StepsSound.{after_ok, step_ok, ok_same}
-use Rattle.spec_cold.specs.declared.outcome.Cold.TheVariants as outcome
-use Rattle.spec_cold.specs.Cold.{ColdEnd}
+use Rattle.spec_check.specs.declared.solve_end.SolveEnd.TheVariants as outcome
+use Rattle.spec_cold.specs.Cold.{ExactSolveEnd}
 use Rattle.spec_server.specs.declared.answer.Answer.{Answer}
 use Rattle.spec_server.specs.declared.answer.Answer.TheVariants as answer
 use Rattle.spec_server.specs.declared.asks.Reply.TheVariants as reply
@@ -112,7 +112,7 @@ IsShownBy m (answer.Known what) = IsShown m what
 IsShownBy m (answer.Past p) = Unit {0}
 IsShownBy m (answer.Spent budget) = Unit {0}
 
-pub answer_shown : (m : Model) (budget : ℕ) (solved : ColdEnd) → MayAnswer m budget solved →
+pub answer_shown : (m : Model) (budget : ℕ) (solved : ExactSolveEnd) → MayAnswer m budget solved →
     IsShownBy m (answer_of budget solved)
 answer_shown m budget (outcome.Ended what cert basis pivots) h = record { cert = cert; fits = h.0; says = h.2 }
 answer_shown m budget (outcome.Past p) h = tt

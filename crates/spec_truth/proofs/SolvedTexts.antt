@@ -8,7 +8,7 @@ use Rattle.spec_model.specs.Truth.{IsOptimal, IsInfeasible, IsUnbounded}
 use Rattle.spec_mps.specs.declared.style.Style.{Style}
 use Rattle.spec_mps.specs.NumberText.{Is, number_of}
 use Rattle.spec_mps.specs.Steps.{Spells}
-use Rattle.spec_cold.specs.Cold.{ColdEnd}
+use Rattle.spec_cold.specs.Cold.{ExactSolveEnd}
 use Rattle.spec_server.specs.declared.answer.Answer.{Answer}
 use Rattle.spec_server.specs.declared.asks.Reply.TheVariants as reply
 use Rattle.spec_server.specs.Machine.{opening_budget, answer_of, lines_of_solved}
@@ -26,7 +26,7 @@ record IsAnswered (m : Model) (written : List ℕ) : Type 0 where
   line : written ≡ answer_text answer ++ 10 ∷ behind
   shown : IsShownBy m answer
 
-solved_begins : (m : Model) (solved : ColdEnd) →
+solved_begins : (m : Model) (solved : ExactSolveEnd) →
     solved_lines m solved ≡ answer_text (answer_of opening_budget solved) ++ 10 ∷ ended_lines (lines_of_solved m solved)
 unfolding solved_lines check_line reply_text
 solved_begins m solved =

@@ -8,8 +8,8 @@ use Rattle.spec_simplex.specs.declared.ends.WarmStop.{WarmStop}
 use Rattle.spec_simplex.specs.declared.ends.WarmStop.TheVariants as stop
 use Rattle.spec_simplex.specs.Form.{Form, form_of}
 use Rattle.spec_simplex.specs.Eliminate.{IsBasisOf}
-use Rattle.spec_cold.specs.declared.outcome.Cold.TheVariants as cold
-use Rattle.spec_cold.specs.Cold.{ColdEnd, cold as cold_solve}
+use Rattle.spec_check.specs.declared.solve_end.SolveEnd.TheVariants as cold
+use Rattle.spec_cold.specs.Cold.{ExactSolveEnd, cold as cold_solve}
 use Rattle.spec_warm.specs.declared.ends.Fall.{Fall}
 use Rattle.spec_warm.specs.declared.ends.Fall.TheVariants as fall
 use Rattle.spec_warm.specs.declared.ends.Route.TheVariants.{Cold, Warm, Fell}
@@ -32,7 +32,7 @@ fall_of (stop.Past p) = fall.Past
 fall_of stop.Spent = fall.Spent
 
 -- by how the warm start ended, and how the cold solve ends
-abbrev pub solved_by : ColdEnd → WarmResult → SolveEnd
+abbrev pub solved_by : ExactSolveEnd → WarmResult → SolveEnd
 solved_by other (warm.Ended answer certificate basis pivots) =
     record { end = cold.Ended answer certificate basis pivots; route = Warm }
 solved_by other (warm.Stopped stop) = record { end = other; route = Fell (fall_of stop) }

@@ -1,7 +1,6 @@
 // How a warm start and a solve end, over the types F of numbers, L of lists of numbers and B of bases.
 
-use spec_check::{Certificate, Known};
-use spec_cold::Cold;
+use spec_check::{Certificate, Known, SolveEnd};
 use spec_simplex::WarmStop;
 use std::fmt::Debug;
 
@@ -46,6 +45,6 @@ pub enum Route {
 /// How a solve ends, of which a basis may be handed.
 #[derive(Drop)]
 pub struct Solved<F: Debug, L, B> {
-    pub end: Cold<F, L, B>,
+    pub end: SolveEnd<F, L, B>,
     pub route: Route,
 }

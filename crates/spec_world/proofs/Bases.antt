@@ -4,8 +4,8 @@ use Rattle.std.proofs.Common.{cond}
 use Rattle.spec_model.specs.Model.{Model}
 use Rattle.spec_check.specs.declared.certificate.Known.TheVariants as known
 use Rattle.spec_simplex.specs.Form.{Form, form_of}
-use Rattle.spec_cold.specs.declared.outcome.Cold.TheVariants.{Ended, Past, Spent}
-use Rattle.spec_cold.specs.Cold.{ColdEnd}
+use Rattle.spec_check.specs.declared.solve_end.SolveEnd.TheVariants.{Ended, Past, Spent}
+use Rattle.spec_cold.specs.Cold.{ExactSolveEnd}
 use Rattle.spec_warm.specs.Solve.{SolveEnd}
 use Rattle.spec_shape.specs.Words.{packed}
 use Rattle.spec_reads.specs.declared.read.Read.TheVariants as read
@@ -34,7 +34,7 @@ module _ (state : State) (pending : Pending) (looked : List ExactRead) (found : 
     (formed : form_of (Some number_limit) model ≡ Ok form)
     (is_solved : IsSolved model state.budget (handed_by found) solved)
     (reads : x.reads ≡ looked ++ read.Count k ∷ read.Claim k ∷ read.Done k pending.words ∷ []) where
-  puts : (end : ColdEnd) → solved.end ≡ end →
+  puts : (end : ExactSolveEnd) → solved.end ≡ end →
       Publishes pending ≡ worked_with state found end (how_by found solved.route) (words_of_end form end) →
       PutsBasis state x k pending.words
   puts (Ended (known.Optimal v) certificate (Some basis) pivots) is e = record {

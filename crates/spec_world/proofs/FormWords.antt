@@ -22,8 +22,8 @@ use Rattle.spec_simplex.specs.declared.ends.WarmStop.{WarmStop}
 use Rattle.spec_simplex.specs.Form.{Form, IsForm, least_cost, formed, form_of}
 use Rattle.spec_simplex.specs.Eliminate.{IsBasisOf}
 use Rattle.spec_simplex.specs.Phases.{PhasesEnd, phases_run}
-use Rattle.spec_cold.specs.declared.outcome.Cold.TheVariants.{Ended}
-use Rattle.spec_cold.specs.Cold.{ColdEnd, certificate_of, basis_of, pivots_of, checked, after_phases, after_form, cold}
+use Rattle.spec_check.specs.declared.solve_end.SolveEnd.TheVariants.{Ended}
+use Rattle.spec_cold.specs.Cold.{ExactSolveEnd, certificate_of, basis_of, pivots_of, checked, after_phases, after_form, cold}
 use Rattle.spec_path.proofs.Formed.{form_is}
 use Rattle.spec_path.proofs.LimitStart.{form_agrees}
 use Rattle.spec_warm.specs.declared.ends.Warm.TheVariants as outcome
@@ -138,7 +138,7 @@ module _ (known : Known ℚ) (c : Certificate (List ℚ)) (left : List Status) (
     from_basis : (basis : List Status) → IsBasisOf f basis → (r : WarmResult) →
         warm (Some number_limit) budget m basis ≡ r → WarmFits m budget r solved → IsBasisOf f left
     from_basis basis fits (outcome.Ended k d other n) q h =
-        let same : ◌≡◌ {A = ColdEnd} (Ended k d other n) (Ended known c (Some left) pivots) =
+        let same : ◌≡◌ {A = ExactSolveEnd} (Ended k d other n) (Ended known c (Some left) pivots) =
         sym (ap (λ (s : SolveEnd). s.end) h) ∙ is in
         warm_left (Some number_limit) budget m basis f p fits (q ∙ (let z = same in cc))
     from_basis basis fits (outcome.Stopped s) q h = from_cold h.1

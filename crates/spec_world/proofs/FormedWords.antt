@@ -10,8 +10,8 @@ use Rattle.spec_pivot.specs.declared.status.Status.{Status}
 use Rattle.spec_simplex.specs.declared.ends.FormFault.{FormFault}
 use Rattle.spec_simplex.specs.Form.{Form, IsForm, form_of}
 use Rattle.spec_simplex.specs.Eliminate.{IsBasisOf}
-use Rattle.spec_cold.specs.declared.outcome.Cold.TheVariants.{Ended, Past, Spent}
-use Rattle.spec_cold.specs.Cold.{ColdEnd}
+use Rattle.spec_check.specs.declared.solve_end.SolveEnd.TheVariants.{Ended, Past, Spent}
+use Rattle.spec_cold.specs.Cold.{ExactSolveEnd}
 use Rattle.spec_shape.specs.Words.{shape_of, packed, unpacked, IsWellFormed}
 use Rattle.spec_shape.proofs.Bases.{packed_fits, unpacked_fits}
 use Rattle.spec_reads.specs.declared.read.Read.TheVariants as read
@@ -81,7 +81,7 @@ handed_fits f is (Some p) formed shaped basis e =
 module _ (state : State) (found : Looked) (pending : Pending) (s : SolvesWith state found (Publishes pending))
     (is : IsForm s.form)
     (fits : (basis : List Status) → handed_by found ≡ Some basis → IsBasisOf s.form basis) where
-  by_end : (end : ColdEnd) → s.solved.end ≡ end →
+  by_end : (end : ExactSolveEnd) → s.solved.end ≡ end →
       Publishes pending ≡ worked_with state found end (how_by found s.solved.route) (words_of_end s.form end) →
       IsWellFormed pending.words
   by_end (Ended (known.Optimal v) certificate (Some basis) pivots) e w =

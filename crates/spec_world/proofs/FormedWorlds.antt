@@ -4,7 +4,7 @@ use Rattle.std.proofs.Common.{length, Option, Some, None, IfSome, refl, sym, ap,
 use Rattle.std.proofs.lemmas.Bool.{eqb-false}
 use Rattle.spec_model.specs.Model.{Model}
 use Rattle.spec_model.specs.Kept.{IsModel}
-use Rattle.spec_cold.specs.Cold.{ColdEnd}
+use Rattle.spec_cold.specs.Cold.{ExactSolveEnd}
 use Rattle.spec_shape.specs.Words.{IsWellFormed}
 use Rattle.spec_reads.specs.declared.place.Place.TheVariants as place
 use Rattle.spec_reads.specs.declared.read.Put.TheVariants.{Full, Raced}
@@ -54,7 +54,7 @@ record IsFormedLeft (left : Left) : Type 0 where
 
 -- ---- what a solve leaves of the model
 
-worked_model : (old : State) (found : Looked) (end : ColdEnd) (how : How) (words : Option Words) (replied : ExactReply)
+worked_model : (old : State) (found : Looked) (end : ExactSolveEnd) (how : How) (words : Option Words) (replied : ExactReply)
     (next : State) → Ends replied next ≡ worked_with old found end how words → next.model ≡ old.model
 worked_model old found end how None replied next e = cc
 worked_model old found end how (Some words) replied next e = by (is_found found words) e

@@ -1,12 +1,12 @@
-// How a cold solve ends, over the type F of numbers, L of lists of numbers and B of bases.
+// How a solve ends, over the type F of numbers, L of lists of numbers and B of bases.
 
-use spec_check::{Certificate, Known};
+use crate::certificate::{Certificate, Known};
 use spec_exact::Past;
 use std::fmt::Debug;
 
-/// How a cold solve ends.
+/// How a solve ends.
 #[derive(Drop)]
-pub enum Cold<F: Debug, L, B> {
+pub enum SolveEnd<F: Debug, L, B> {
     /// With an answer, and the certificate that was accepted for it.
     Ended {
         answer: Known<F>,
