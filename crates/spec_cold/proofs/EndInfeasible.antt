@@ -24,7 +24,7 @@ use Rattle.spec_simplex.specs.declared.ends.RowStart.{RowStart}
 use Rattle.spec_simplex.specs.declared.ends.RowStart.TheVariants.{Within, Below, Above}
 use Rattle.spec_simplex.specs.Form.{formed}
 use Rattle.spec_simplex.specs.Start.{start_at, cost_at, first_cost, first_costs, artificial_upper}
-use Rattle.spec_path.specs.Begins.{form_rows}
+use Rattle.spec_path.specs.Begins.{form_rows, signs_of}
 use Rattle.spec_path.proofs.Columns.{sum_by_kind}
 use Rattle.spec_path.proofs.Formed.{Limited}
 use Rattle.spec_path.proofs.PhaseTwo.{stands_zero}
@@ -98,7 +98,7 @@ module _ (m : Model) (ls : List (Option ℚ × Option ℚ)) (h : Limited m ls) (
     (artificial : (i : ℕ) → i < height m → (b.lower (width m + height m + i) ≡ Some 0ℚ)
     × (b.upper (width m + height m + i) ≡ artificial_upper (start_at starts i)))
     (t : Table) (g : IsTableau (height m) (width m + height m + height m)
-    (form_rows (formed m ls) starts) (cost_at (first_costs (formed m ls) starts)) b t) where
+    (form_rows (formed m ls) (signs_of starts)) (cost_at (first_costs (formed m ls) starts)) b t) where
   abbrev w : ℕ
   w = width m
 
@@ -109,7 +109,7 @@ module _ (m : Model) (ls : List (Option ℚ × Option ℚ)) (h : Limited m ls) (
   n = width m + height m + height m
 
   abbrev F : ℕ → ℕ → ℚ
-  F = form_rows (formed m ls) starts
+  F = form_rows (formed m ls) (signs_of starts)
 
   abbrev costs : ℕ → ℚ
   costs = cost_at (first_costs (formed m ls) starts)
@@ -162,16 +162,16 @@ module _ (m : Model) (ls : List (Option ℚ × Option ℚ)) (h : Limited m ls) (
     row_tight : (i : ℕ) → i < r → IsTight (limits m i) (part y i) (v (w + i))
     row_tight i p =
         subst (λ a. IsTight (limits m i) a (v (w + i))) (sym (y_at i p))
-        (tight_logical m ls h starts b bs t within costs g none i p)
+        (tight_logical m ls h (signs_of starts) b bs t within costs g none i p)
 
     multiplier : (i : ℕ) → i < r → part y i ≡ neg_ℚ (g.costs.weights i)
     multiplier i p =
         y_at i p
-        ∙ weight_at m ls h starts costs d g.costs.weights g.costs.less i p (cost_before (w + i) (omega (arith, p)))
+        ∙ weight_at m ls h (signs_of starts) costs d g.costs.weights g.costs.less i p (cost_before (w + i) (omega (arith, p)))
 
     priced_at : (j : ℕ) → j < w → d j ≡ neg_ℚ (priced m y j)
     priced_at j p =
-        column_at m ls h starts costs d g.costs.weights g.costs.less j p
+        column_at m ls h (signs_of starts) costs d g.costs.weights g.costs.less j p
         ∙ ap₂ (λ a c. a -ℚ c) (cost_before j (omega (arith, p))) (sum_below_same r _
         (λ i. part y i *ℚ coefficient m i j) (λ i q. ap (λ a. a *ℚ coefficient m i j) (sym (multiplier i q))))
         ∙ zero-+ℚ _
@@ -179,7 +179,7 @@ module _ (m : Model) (ls : List (Option ℚ × Option ℚ)) (h : Limited m ls) (
     column_tight : (j : ℕ) → j < w → IsTight (turned_limits (bounds m j)) (priced m y j) (v j)
     column_tight j p =
         tight_turned (bounds m j) (d j) (priced m y j) (v j) (priced_at j p)
-        (tight_structural m ls h starts b bs t within costs g none j p)
+        (tight_structural m ls h (signs_of starts) b bs t within costs g none j p)
 
     A : ℚ
     A = sum_below w (λ j. d j *ℚ v j)

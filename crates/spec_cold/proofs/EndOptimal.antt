@@ -9,7 +9,6 @@ use Rattle.spec_model.specs.Truth.{IsBetween, IsFeasible}
 use Rattle.spec_check.specs.Checks.{reduced, IsTight, ChecksOptimal}
 use Rattle.spec_pivot.specs.declared.status.Way.{Way}
 use Rattle.spec_pivot.specs.Simplex.{Bounds, Table, IsInside, IsWithin, IsEligible, IsTableau}
-use Rattle.spec_simplex.specs.declared.ends.RowStart.{RowStart}
 use Rattle.spec_simplex.specs.Form.{formed}
 use Rattle.spec_simplex.specs.Start.{cost_at}
 use Rattle.spec_path.specs.Begins.{form_rows}
@@ -24,10 +23,10 @@ zero_inside l u v p q i =
     ≤ℚ_antisym v 0ℚ (subst (λ o. IfSome o (λ k. v ≤ℚ k)) q i.upper) (subst (λ o. IfSome o (λ k. k ≤ℚ v)) p i.lower)
 
 module _ (m : Model) (ls : List (Option ℚ × Option ℚ)) (h : Limited m ls)
-    (starts : List (RowStart ℚ)) (b : Bounds) (bs : HasBounds (formed m ls) b)
+    (signs : ℕ → ℚ) (b : Bounds) (bs : HasBounds (formed m ls) b)
     (fixed : (i : ℕ) → i < height m →
     (b.lower (width m + height m + i) ≡ Some 0ℚ) × (b.upper (width m + height m + i) ≡ Some 0ℚ))
-    (t : Table) (g : IsTableau (height m) (width m + height m + height m) (form_rows (formed m ls) starts)
+    (t : Table) (g : IsTableau (height m) (width m + height m + height m) (form_rows (formed m ls) signs)
     (cost_at (formed m ls).cost) b t) (within : IsWithin (width m + height m + height m) b t) where
   pub artificial_zero : (i : ℕ) → i < height m → t.value (width m + height m + i) ≡ 0ℚ
   artificial_zero i l =
@@ -40,15 +39,15 @@ module _ (m : Model) (ls : List (Option ℚ × Option ℚ)) (h : Limited m ls)
     row_value i p =
         sum_below_same (width m) _ (λ j. coefficient m i j *ℚ t.value j)
         (λ j q. ap (λ a. coefficient m i j *ℚ a) (x_at j q))
-        ∙ logical_is_row m ls h starts t.value artificial_zero i p (g.solves i p)
+        ∙ logical_is_row m ls h signs t.value artificial_zero i p (g.solves i p)
 
     pub point_feasible : IsFeasible m x
     point_feasible = record {
       one_each = x_length;
       columns =
-          λ j p. subst (IsBetween (bounds m j)) (sym (x_at j p)) (within_structural m ls h starts b bs t within j p);
+          λ j p. subst (IsBetween (bounds m j)) (sym (x_at j p)) (within_structural m ls h signs b bs t within j p);
       rows =
-          λ i p. subst (IsBetween (limits m i)) (sym (row_value i p)) (within_logical m ls h starts b bs t within i p);
+          λ i p. subst (IsBetween (limits m i)) (sym (row_value i p)) (within_logical m ls h signs b bs t within i p);
     }
 
     module _ (y : List ℚ) (y_at : (i : ℕ) → i < height m → part y i ≡ t.reduced (width m + i))
@@ -58,12 +57,12 @@ module _ (m : Model) (ls : List (Option ℚ × Option ℚ)) (h : Limited m ls)
 
       multiplier : (i : ℕ) → i < height m → part y i ≡ neg_ℚ (g.costs.weights i)
       multiplier i p =
-          y_at i p ∙ weight_at m ls h starts
+          y_at i p ∙ weight_at m ls h signs
           (cost_at (formed m ls).cost) t.reduced g.costs.weights g.costs.less i p (cost_other m ls h i)
 
       reduced_at : (j : ℕ) → j < width m → t.reduced j ≡ reduced m y j
       reduced_at j p =
-          column_at m ls h starts (cost_at (formed m ls).cost) t.reduced g.costs.weights g.costs.less j p
+          column_at m ls h signs (cost_at (formed m ls).cost) t.reduced g.costs.weights g.costs.less j p
           ∙ ap₂ (λ a c. a -ℚ c) (cost_structural m ls h j p)
           (sum_below_same (height m) _ _ (λ i q. ap (λ a. a *ℚ coefficient m i j) (sym (multiplier i q))))
 
@@ -72,8 +71,8 @@ module _ (m : Model) (ls : List (Option ℚ × Option ℚ)) (h : Limited m ls)
         feasible = point_feasible;
         columns =
             λ j p. subst₂ (IsTight (bounds m j)) (reduced_at j p) (sym (x_at j p))
-            (tight_structural m ls h starts b bs t within (cost_at (formed m ls).cost) g none j p);
+            (tight_structural m ls h signs b bs t within (cost_at (formed m ls).cost) g none j p);
         rows =
             λ i p. subst₂ (IsTight (limits m i)) (sym (y_at i p)) (sym (row_value i p))
-            (tight_logical m ls h starts b bs t within (cost_at (formed m ls).cost) g none i p);
+            (tight_logical m ls h signs b bs t within (cost_at (formed m ls).cost) g none i p);
       }

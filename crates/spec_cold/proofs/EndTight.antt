@@ -20,7 +20,6 @@ use Rattle.spec_pivot.specs.Simplex.{Bounds, Table, IsFixed, Stands, CanMove, Is
 use Rattle.spec_pivot.proofs.Fixed.{fixed_or_not}
 use Rattle.spec_pivot.proofs.Pivot.{sum_below-delta}
 use Rattle.spec_pivot.proofs.Values.{zero_at_basic}
-use Rattle.spec_simplex.specs.declared.ends.RowStart.{RowStart}
 use Rattle.spec_simplex.specs.Form.{Form, formed}
 use Rattle.spec_path.specs.Begins.{form_rows}
 use Rattle.spec_path.proofs.Columns.{sum_by_kind}
@@ -74,7 +73,7 @@ module _ (b : Bounds) (t : Table) (k : ℕ) (stands : Stands (t.status k) (b.low
   tight : IsTight (limits_at b k) (t.reduced k) (t.value k)
   tight = record { above = above; below = below }
 
-module _ (m : Model) (ls : List (Option ℚ × Option ℚ)) (h : Limited m ls) (starts : List (RowStart ℚ)) where
+module _ (m : Model) (ls : List (Option ℚ × Option ℚ)) (h : Limited m ls) (signs : ℕ → ℚ) where
   abbrev f : Form
   f = formed m ls
 
@@ -85,7 +84,7 @@ module _ (m : Model) (ls : List (Option ℚ × Option ℚ)) (h : Limited m ls) (
   r = height m
 
   abbrev F : ℕ → ℕ → ℚ
-  F = form_rows f starts
+  F = form_rows f signs
 
   module _ (b : Bounds) (bs : HasBounds f b) where
     pub bounds_structural : (P : Limits → Type 0) (j : ℕ) → j < w → P (limits_at b j) → P (bounds m j)
@@ -137,14 +136,14 @@ module _ (m : Model) (ls : List (Option ℚ × Option ℚ)) (h : Limited m ls) (
     weight_at i p e =
         less (w + i) ∙ ap₂ (λ a c. a -ℚ c) e
         (sum_below_same r _ (λ s. delta i s *ℚ weights s)
-        (λ s q. ap (λ a. weights s *ℚ a) (row_logical f starts s i p ∙ delta_sym s i) ∙ *ℚ_comm (weights s) (delta i s))
+        (λ s q. ap (λ a. weights s *ℚ a) (row_logical f signs s i p ∙ delta_sym s i) ∙ *ℚ_comm (weights s) (delta i s))
         ∙ sum_below-delta r i weights p)
         ∙ zero-+ℚ _
 
     pub column_at : (j : ℕ) → j < w → d j ≡ cost j -ℚ sum_below r (λ i. neg_ℚ (weights i) *ℚ coefficient m i j)
     column_at j p =
         less j ∙ ap (λ s. cost j -ℚ s) (sum_below_same r _ _ (λ i q. ap (λ a. weights i *ℚ a)
-        (row_structural f starts i j p ∙ ap neg_ℚ (entry_is m ls h i j)) ∙ swap_sign (weights i) (coefficient m i j)))
+        (row_structural f signs i j p ∙ ap neg_ℚ (entry_is m ls h i j)) ∙ swap_sign (weights i) (coefficient m i j)))
       where
         swap_sign : (w a : ℚ) → w *ℚ neg_ℚ a ≡ neg_ℚ w *ℚ a
         swap_sign w a = simp ring
@@ -158,10 +157,10 @@ module _ (m : Model) (ls : List (Option ℚ × Option ℚ)) (h : Limited m ls) (
       ∙ ap₂ ◌+ℚ◌
       (ap₂ ◌+ℚ◌
       (sum_below_same w _ (λ j. neg_ℚ 1ℚ *ℚ (coefficient m i j *ℚ z j))
-      (λ j q. ap (λ a. a *ℚ z j) (row_structural f starts i j q ∙ ap neg_ℚ (entry_is m ls h i j))
+      (λ j q. ap (λ a. a *ℚ z j) (row_structural f signs i j q ∙ ap neg_ℚ (entry_is m ls h i j))
       ∙ minus (coefficient m i j) (z j))
       ∙ sym (*ℚ-sum_below (neg_ℚ 1ℚ) w _))
-      (sum_below_same r _ (λ s. delta i s *ℚ z (w + s)) (λ s q. ap (λ a. a *ℚ z (w + s)) (row_logical f starts i s q))
+      (sum_below_same r _ (λ s. delta i s *ℚ z (w + s)) (λ s q. ap (λ a. a *ℚ z (w + s)) (row_logical f signs i s q))
       ∙ sum_below-delta r i (λ s. z (w + s)) p))
       (sum_below_none r _ (λ s q. ap (λ a. F i (w + r + s) *ℚ a) (none s q) ∙ *ℚ_zero _)))
       ∙ solves)

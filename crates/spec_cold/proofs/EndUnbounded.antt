@@ -14,7 +14,6 @@ use Rattle.spec_pivot.specs.Simplex.{Bounds, Table, IsWithin, IsTableau, ray}
 use Rattle.spec_pivot.specs.Ratio.{GoesOn}
 use Rattle.spec_pivot.proofs.Kept.{j_outside}
 use Rattle.spec_pivot.proofs.Ray.{form_ray}
-use Rattle.spec_simplex.specs.declared.ends.RowStart.{RowStart}
 use Rattle.spec_simplex.specs.Form.{formed}
 use Rattle.spec_simplex.specs.Start.{cost_at}
 use Rattle.spec_path.specs.Begins.{form_rows}
@@ -34,10 +33,10 @@ zero_allowed l u r p q a =
     ≤ℚ_antisym r 0ℚ z.upper z.lower
 
 module _ (m : Model) (ls : List (Option ℚ × Option ℚ)) (h : Limited m ls)
-    (starts : List (RowStart ℚ)) (b : Bounds) (bs : HasBounds (formed m ls) b)
+    (signs : ℕ → ℚ) (b : Bounds) (bs : HasBounds (formed m ls) b)
     (fixed : (i : ℕ) → i < height m →
     (b.lower (width m + height m + i) ≡ Some 0ℚ) × (b.upper (width m + height m + i) ≡ Some 0ℚ))
-    (t : Table) (g : IsTableau (height m) (width m + height m + height m) (form_rows (formed m ls) starts)
+    (t : Table) (g : IsTableau (height m) (width m + height m + height m) (form_rows (formed m ls) signs)
     (cost_at (formed m ls).cost) b t) (within : IsWithin (width m + height m + height m) b t)
     (way : Way) (j : ℕ) (e : GoesOn (height m) (width m + height m + height m) b t way j)
     (x y : List ℚ) (x_length : length x ≡ width m) (x_at : (j : ℕ) → j < width m → part x j ≡ t.value j)
@@ -46,7 +45,7 @@ module _ (m : Model) (ls : List (Option ℚ × Option ℚ)) (h : Limited m ls)
   n = width m + height m + height m
 
   abbrev F : ℕ → ℕ → ℚ
-  F = form_rows (formed m ls) starts
+  F = form_rows (formed m ls) signs
 
   abbrev costs : ℕ → ℚ
   costs = cost_at (formed m ls).cost
@@ -65,7 +64,7 @@ module _ (m : Model) (ls : List (Option ℚ × Option ℚ)) (h : Limited m ls)
   row_ray : (i : ℕ) → i < height m → activity m y i ≡ z (width m + i)
   row_ray i p =
       sum_below_same (width m) _ (λ k. coefficient m i k *ℚ z k) (λ k q. ap (λ a. coefficient m i k *ℚ a) (y_at k q))
-      ∙ logical_is_row m ls h starts z still i p (form_ray (height m) t g.units way j
+      ∙ logical_is_row m ls h signs z still i p (form_ray (height m) t g.units way j
       (j_outside (height m) n F costs b t g way j e.enters) n e.enters.in_range g.in_range F g.back i p)
 
   cost_is : sum_below n (λ k. costs k *ℚ z k) ≡ signed m.sense (cost_of m y)
@@ -87,12 +86,12 @@ module _ (m : Model) (ls : List (Option ℚ × Option ℚ)) (h : Limited m ls)
 
   pub unbounded_checks : ChecksUnbounded m x y
   unbounded_checks = record {
-    feasible = point_feasible m ls h starts b bs fixed t g within x x_length x_at;
+    feasible = point_feasible m ls h signs b bs fixed t g within x x_length x_at;
     columns =
         λ k p. subst (Allows (bounds m k)) (sym (y_at k p))
-        (bounds_structural m ls h starts b bs (λ l. Allows l (z k)) k p (allowed_at k (omega (arith, p))));
+        (bounds_structural m ls h signs b bs (λ l. Allows l (z k)) k p (allowed_at k (omega (arith, p))));
     rows =
-        λ i p. subst (Allows (limits m i)) (sym (row_ray i p)) (bounds_logical m ls h starts b bs
+        λ i p. subst (Allows (limits m i)) (sym (row_ray i p)) (bounds_logical m ls h signs b bs
         (λ l. Allows l (z (width m + i))) i p (allowed_at (width m + i) (omega (arith, p))));
     better = subst (λ a. a <ℚ 0ℚ) cost_is (falls (height m) n F costs b t g way j e);
   }

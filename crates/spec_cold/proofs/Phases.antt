@@ -25,7 +25,7 @@ use Rattle.spec_simplex.specs.Tableau.{Tableau, form_columns, is_artificial, bas
 use Rattle.spec_simplex.specs.Phases.{PrimalEnded, wants_phase_one, is_stuck, phase_one, phase_two}
 use Rattle.spec_simplex.specs.Phases.{phase_two_run, run_from, PhasesEnd, Infeasible, Finished, phases_run}
 use Rattle.spec_path.specs.Tables.{way, table_of, bounds_of, IsTableauOf, IsMeant}
-use Rattle.spec_path.specs.Begins.{form_rows}
+use Rattle.spec_path.specs.Begins.{form_rows, signs_of}
 use Rattle.spec_cold.specs.Cold.{multipliers, certificate_at, certificate_of}
 use Rattle.spec_path.proofs.Runs.{then_ok, refused_ok}
 use Rattle.spec_path.proofs.Walks.{IsEnd, run_ends, run_spent, few, stand_still}
@@ -57,7 +57,7 @@ module _ (limit : Option ℕ) (m : Model) (ls : List (Option ℚ × Option ℚ))
   -- ---- phase one
   module _ (t : Tableau) (s : Started f t) where
     abbrev F : ℕ → ℕ → ℚ
-    F = form_rows f s.starts
+    F = form_rows f (signs_of s.starts)
 
     abbrev first_cost_at : ℕ → ℚ
     first_cost_at = cost_at (first_costs f s.starts)
@@ -180,7 +180,7 @@ module _ (limit : Option ℕ) (m : Model) (ls : List (Option ℚ × Option ℚ))
 
       end_shows : (e : PrimalEnded) (used : ℕ) → IsEnd limit r w F (cost_at f.cost) (bounds_of u) u used e →
           Shows m (certificate_at e.tableau e.end)
-      end_shows e used d = primal_shows m ls h s.starts (bounds_of u) second_bounds second_fixed limit e d.after d.end
+      end_shows e used d = primal_shows m ls h (signs_of s.starts) (bounds_of u) second_bounds second_fixed limit e d.after d.end
 
   -- ---- both phases
   pub phases_show : (budget : ℕ) (end : PhasesEnd) → phases_run limit budget f ≡ Ok end → Shows m (certificate_of end)
@@ -215,7 +215,7 @@ module _ (limit : Option ℕ) (m : Model) (ls : List (Option ℚ × Option ℚ))
     pub starts : List (RowStart ℚ)
     pub bounds : Bounds
     pub bounded : HasBounds (formed m ls) bounds
-    pub after : IsTableauOf (height m) (width m) (form_rows (formed m ls) starts)
+    pub after : IsTableauOf (height m) (width m) (form_rows (formed m ls) (signs_of starts))
         (cost_at (formed m ls).cost) bounds e.tableau
 
   abbrev pub EndsOn : PhasesEnd → Type 0

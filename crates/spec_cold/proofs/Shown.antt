@@ -9,7 +9,6 @@ use Rattle.spec_pivot.specs.Simplex.{Bounds}
 use Rattle.spec_simplex.specs.declared.ends.PrimalEnd.{PrimalEnd}
 use Rattle.spec_simplex.specs.declared.ends.PrimalEnd.TheVariants.{Optimal, Unbounded}
 use Rattle.spec_simplex.specs.declared.ends.Choice.TheVariants.{End}
-use Rattle.spec_simplex.specs.declared.ends.RowStart.{RowStart}
 use Rattle.spec_simplex.specs.Form.{formed}
 use Rattle.spec_simplex.specs.Start.{cost_at}
 use Rattle.spec_simplex.specs.Tableau.{Tableau, value_at, reduced_at}
@@ -53,7 +52,7 @@ module _ (m n : ℕ) (f : ℕ → ℕ → ℚ) (cost : ℕ → ℚ) (b : Bounds)
       get_or-made t.cols (moves_by t j up) 0ℚ k (omega (arith, l, s.cols)) ∙ ap (moves_below t j up k) s.rows
 
 module _ (m : Model) (ls : List (Option ℚ × Option ℚ)) (h : Limited m ls)
-    (starts : List (RowStart ℚ)) (b : Bounds) (bs : HasBounds (formed m ls) b)
+    (signs : ℕ → ℚ) (b : Bounds) (bs : HasBounds (formed m ls) b)
     (fixed : (i : ℕ) → i < height m →
     (b.lower (width m + height m + i) ≡ Some 0ℚ) × (b.upper (width m + height m + i) ≡ Some 0ℚ)) where
   abbrev r : ℕ
@@ -63,7 +62,7 @@ module _ (m : Model) (ls : List (Option ℚ × Option ℚ)) (h : Limited m ls)
   w = width m
 
   abbrev F : ℕ → ℕ → ℚ
-  F = form_rows (formed m ls) starts
+  F = form_rows (formed m ls) signs
 
   abbrev costs : ℕ → ℚ
   costs = cost_at (formed m ls).cost
@@ -76,14 +75,14 @@ module _ (m : Model) (ls : List (Option ℚ × Option ℚ)) (h : Limited m ls)
       by Optimal none = record {
         for = (point_length r w F costs b e.tableau after, multipliers_length r w F costs b e.tableau after);
         checks =
-            optimal_checks m ls h starts b bs fixed (table_of e.tableau) after.tableau after.within (point e.tableau)
+            optimal_checks m ls h signs b bs fixed (table_of e.tableau) after.tableau after.within (point e.tableau)
             (point_length r w F costs b e.tableau after) (point_at r w F costs b e.tableau after)
             (multipliers e.tableau) (multiplier_at r w F costs b e.tableau after) none;
       }
       by (Unbounded j up) g = record {
         for = (point_length r w F costs b e.tableau after, direction_length r w F costs b e.tableau after j up);
         checks =
-            unbounded_checks m ls h starts b bs fixed (table_of e.tableau) after.tableau after.within
+            unbounded_checks m ls h signs b bs fixed (table_of e.tableau) after.tableau after.within
             (way up) j g (point e.tableau) (direction e.tableau j up)
             (point_length r w F costs b e.tableau after) (point_at r w F costs b e.tableau after)
             (λ k l. direction_at r w F costs b e.tableau after j up k l

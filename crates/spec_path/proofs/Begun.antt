@@ -29,7 +29,7 @@ use Rattle.spec_simplex.specs.Tableau.{Tableau, basic_at, entry_at, value_at, re
 use Rattle.spec_simplex.specs.Tableau.{status_at, lower_at, upper_at, or_zero, stand}
 use Rattle.spec_simplex.proofs.Stops.{length-made}
 use Rattle.spec_path.specs.Tables.{bounds_of, IsWhole, KeepsBounds, IsTableauOf}
-use Rattle.spec_path.specs.Begins.{form_rows, IsProper, Begins}
+use Rattle.spec_path.specs.Begins.{form_rows, signs_of, IsProper, Begins}
 use Rattle.spec_path.proofs.Runs.{then_ok, IsListOf, list_ok, get_or-made}
 use Rattle.spec_path.proofs.Lists.{by_lt, past_row}
 use Rattle.spec_path.proofs.Columns.{structural_at, logical_at, artificial_at, by_kind, sum_by_kind}
@@ -150,7 +150,7 @@ module _ (f : Form) (proper : IsProper f) (starts : List (RowStart ℚ)) (all : 
   s i = start_at starts i
 
   abbrev F : Matrix
-  F = form_rows f starts
+  F = form_rows f (signs_of starts)
 
   abbrev sign_at : ℕ → ℚ
   sign_at i = logical_sign (start_at starts i)
@@ -212,13 +212,13 @@ module _ (f : Form) (proper : IsProper f) (starts : List (RowStart ℚ)) (all : 
   signed i k h =
       by_kind f.cols f.rows k
       (λ l. start_structural i k l ∙ structural_sign (s i) (form_entry f i k)
-      ∙ ap (λ a. sign_at i *ℚ a) (sym (row_structural f starts i k l)))
+      ∙ ap (λ a. sign_at i *ℚ a) (sym (row_structural f (signs_of starts) i k l)))
       (λ r l e. subst (λ k. start_entry f (s i) i k ≡ sign_at i *ℚ F i k) (sym e)
-      (start_logical i r l ∙ one_is i r (sign_at i) ∙ ap (λ a. sign_at i *ℚ a) (sym (row_logical f starts i r l))))
+      (start_logical i r l ∙ one_is i r (sign_at i) ∙ ap (λ a. sign_at i *ℚ a) (sym (row_logical f (signs_of starts) i r l))))
       (λ r e. subst (λ k. start_entry f (s i) i k ≡ sign_at i *ℚ F i k) (sym e)
       (start_artificial i r ∙ one_is i r 1ℚ ∙ one-*ℚ (delta i r)
       ∙ sym (twice (sign_at i) (delta i r) (sign_square (s i)))
-      ∙ ap (λ a. sign_at i *ℚ a) (sym (row_artificial f starts i r))))
+      ∙ ap (λ a. sign_at i *ℚ a) (sym (row_artificial f (signs_of starts) i r))))
 
   entry_past : (i k : ℕ) → i < f.rows → n ≤ k → entry_at t i k ≡ 0ℚ
   entry_past i k h l = past_row t.entries i k n (row_length i h) l
@@ -227,7 +227,7 @@ module _ (f : Form) (proper : IsProper f) (starts : List (RowStart ℚ)) (all : 
   entry_sign i k h =
       by_lt k n
       (λ l. entry_is i k h l ∙ signed i k h)
-      (λ l. entry_past i k h l ∙ sym (ap (λ a. sign_at i *ℚ a) (row_past f starts i k h l) ∙ *ℚ_zero _))
+      (λ l. entry_past i k h l ∙ sym (ap (λ a. sign_at i *ℚ a) (row_past f (signs_of starts) i k h l) ∙ *ℚ_zero _))
 
   diagonal : (i : ℕ) → i < f.rows → (g : ℕ → ℚ) →
       sum_below f.rows (λ r. (delta i r *ℚ sign_at i) *ℚ g r) ≡ sign_at i *ℚ g i
@@ -433,14 +433,14 @@ module _ (f : Form) (proper : IsProper f) (starts : List (RowStart ℚ)) (all : 
       structural : sum_below f.cols (λ k. F i k *ℚ value_at t k) ≡ neg_ℚ (first_sum f i)
       structural =
           sum_below_same f.cols _ (λ k. neg_ℚ 1ℚ *ℚ (form_entry f i k *ℚ first_value f k)) (λ k l.
-          ap₂ ◌*ℚ◌ (row_structural f starts i k l) (value_structural k l) ∙ minus (form_entry f i k) (first_value f k))
+          ap₂ ◌*ℚ◌ (row_structural f (signs_of starts) i k l) (value_structural k l) ∙ minus (form_entry f i k) (first_value f k))
           ∙ sym (*ℚ-sum_below (neg_ℚ 1ℚ) f.cols _) ∙ negative (first_sum f i)
 
       logical : sum_below f.rows (λ r. F i (f.cols + r) *ℚ value_at t (f.cols + r))
           ≡ logical_value (s i) (form_lower f (f.cols + i)) (form_upper f (f.cols + i))
       logical =
           sum_below_same f.rows _ (λ r. delta i r *ℚ value_at t (f.cols + r))
-          (λ r l. ap (λ a. a *ℚ value_at t (f.cols + r)) (row_logical f starts i r l))
+          (λ r l. ap (λ a. a *ℚ value_at t (f.cols + r)) (row_logical f (signs_of starts) i r l))
           ∙ sum_below-delta f.rows i (λ r. value_at t (f.cols + r)) h ∙ value_logical i h
 
       turn : (c d v : ℚ) → (c *ℚ d) *ℚ v ≡ d *ℚ (c *ℚ v)
@@ -450,7 +450,7 @@ module _ (f : Form) (proper : IsProper f) (starts : List (RowStart ℚ)) (all : 
           ≡ sign_at i *ℚ artificial_value (s i)
       artificial =
           sum_below_same f.rows _ (λ r. delta i r *ℚ (sign_at i *ℚ value_at t (f.cols + f.rows + r)))
-          (λ r l. ap (λ a. a *ℚ value_at t (f.cols + f.rows + r)) (row_artificial f starts i r)
+          (λ r l. ap (λ a. a *ℚ value_at t (f.cols + f.rows + r)) (row_artificial f (signs_of starts) i r)
           ∙ turn (sign_at i) (delta i r) (value_at t (f.cols + f.rows + r)))
           ∙ sum_below-delta f.rows i (λ r. sign_at i *ℚ value_at t (f.cols + f.rows + r)) h
           ∙ ap (λ a. sign_at i *ℚ a) (value_artificial i h)
@@ -548,7 +548,7 @@ module _ (f : Form) (proper : IsProper f) (starts : List (RowStart ℚ)) (all : 
 -- what is known of the start
 pub record Started (f : Form) (t : Tableau) : Type 0 where
   pub starts : List (RowStart ℚ)
-  pub tableau : IsTableauOf f.rows f.cols (form_rows f starts) (cost_at (first_costs f starts)) (bounds_of t) t
+  pub tableau : IsTableauOf f.rows f.cols (form_rows f (signs_of starts)) (cost_at (first_costs f starts)) (bounds_of t) t
   pub all : length starts ≡ f.rows
   pub lower : (k : ℕ) → k < f.cols + f.rows → lower_at t k ≡ form_lower f k
   pub upper : (k : ℕ) → k < f.cols + f.rows → upper_at t k ≡ form_upper f k

@@ -8,10 +8,13 @@ use Rattle.spec_simplex.specs.Start.{start_at, logical_sign, by_column, cost_at,
 use Rattle.spec_simplex.specs.Tableau.{Tableau}
 use Rattle.spec_path.specs.Tables.{bounds_of, IsTableauOf}
 
--- row r says that its logical, less the row's sum, and its artificial with a sign make 0
-abbrev pub form_rows : Form → List (RowStart ℚ) → Matrix
-form_rows f starts r k =
-    by_column f k (neg_ℚ (form_entry f r k)) (λ i. delta r i) (λ i. logical_sign (start_at starts r) *ℚ delta r i)
+-- row r says that its logical, less the row's sum, and its artificial with this sign make 0
+abbrev pub form_rows : Form → (ℕ → ℚ) → Matrix
+form_rows f signs r k = by_column f k (neg_ℚ (form_entry f r k)) (λ i. delta r i) (λ i. signs r *ℚ delta r i)
+
+-- the signs of the artificials of rows that begin so
+abbrev pub signs_of : List (RowStart ℚ) → ℕ → ℚ
+signs_of starts r = logical_sign (start_at starts r)
 
 -- a bound or none of each column, and no lower one is above the upper one
 pub record IsProper (f : Form) : Type 0 where
@@ -22,4 +25,4 @@ pub record IsProper (f : Form) : Type 0 where
 -- a tableau of the form's equations and the costs of phase one, with each value within its bounds
 pub record Begins (f : Form) (t : Tableau) : Type 0 where
   pub starts : List (RowStart ℚ)
-  pub tableau : IsTableauOf f.rows f.cols (form_rows f starts) (cost_at (first_costs f starts)) (bounds_of t) t
+  pub tableau : IsTableauOf f.rows f.cols (form_rows f (signs_of starts)) (cost_at (first_costs f starts)) (bounds_of t) t

@@ -24,7 +24,7 @@ use Rattle.spec_simplex.specs.Tableau.{Tableau, is_artificial, basic_at, value_a
 use Rattle.spec_simplex.specs.Phases.{PrimalEnded, run_from, without_artificials, phase_two_run, wants_phase_one}
 use Rattle.spec_simplex.specs.Phases.{is_stuck, phase_one, phase_two, PhasesEnd, Infeasible, Finished, phases_run}
 use Rattle.spec_path.specs.Tables.{bounds_of, IsTableauOf}
-use Rattle.spec_path.specs.Begins.{form_rows, IsProper}
+use Rattle.spec_path.specs.Begins.{form_rows, signs_of, IsProper}
 use Rattle.spec_cold.specs.Cold.{multipliers, basis_at, certificate_at}
 use Rattle.spec_path.proofs.Runs.{then_ok, IsListOf, list_ok, get_or-made}
 use Rattle.spec_path.proofs.Refusals.{agrees_list}
@@ -103,7 +103,7 @@ module _ (f : Form) (starts : List (RowStart ℚ)) (costs : HasCosts f) (budget 
   record FirstEnd (e : PrimalEnded) (o : RevisedEnded) : Type 0 where
     costs_there : ℕ → ℚ
     bounds : Bounds
-    after : IsTableauOf f.rows f.cols (form_rows f starts) costs_there bounds e.tableau
+    after : IsTableauOf f.rows f.cols (form_rows f (signs_of starts)) costs_there bounds e.tableau
     used : o.used ≡ e.used
     goes : GoesWith f e.tableau o.state
     stuck : is_stuck e.tableau ≡ true → negatives o.state.bare.rows o.selection.multipliers ≡ multipliers e.tableau
@@ -144,7 +144,7 @@ module _ (f : Form) (starts : List (RowStart ℚ)) (costs : HasCosts f) (budget 
       let a = there_is (phase_two_run None f e.tableau) (two_agrees None f e.tableau) in
       let second =
       second_phase None f f.rows f.cols
-      (form_rows f starts) h.costs_there h.bounds e.tableau a.0 h.after free few a.1 in
+      (form_rows f (signs_of starts)) h.costs_there h.bounds e.tableau a.0 h.after free few a.1 in
       let goes : GoesWith f a.0 (second_state o.state) = next_goes e o h a.0 a.1 in
       by a.0 (run_same f starts f.cost (bounds_of a.0) few costs.free
       (budget - e.used) e.used a.0 (second_state o.state) second.tableau goes)
@@ -172,7 +172,7 @@ module _ (f : Form) (starts : List (RowStart ℚ)) (costs : HasCosts f) (budget 
   first_same e o h =
       ap (λ c. cond c (Ok (stuck_answer o)) (over_two None budget f starts o))
       (ap (λ (s : Revised). is_stuck s.bare) h.goes.same ∙ same_stuck f
-      (form_rows f starts) h.costs_there h.bounds e.tableau h.after h.goes.basic h.goes.pairs h.goes.places)
+      (form_rows f (signs_of starts)) h.costs_there h.bounds e.tableau h.after h.goes.basic h.goes.pairs h.goes.places)
       ∙ by (is_stuck e.tableau) refl
     where
       by : (c : Bool) → is_stuck e.tableau ≡ c →
@@ -185,7 +185,7 @@ module _ (f : Form) (starts : List (RowStart ℚ)) (costs : HasCosts f) (budget 
 
   -- ---- both phases, from a start
   module _ (all : length starts ≡ f.rows) (b : Bounds) (t : Tableau)
-      (st : IsTableauOf f.rows f.cols (form_rows f starts) (cost_at (first_costs f starts)) b t)
+      (st : IsTableauOf f.rows f.cols (form_rows f (signs_of starts)) (cost_at (first_costs f starts)) b t)
       (s : Revised) (g : GoesWith f t s) where
     first_few : length (first_costs f starts) ≤ f.cols + f.rows + f.rows
     first_few =
@@ -209,7 +209,7 @@ module _ (f : Form) (starts : List (RowStart ℚ)) (costs : HasCosts f) (budget 
         ap (λ c. cond c (over_from None f starts (first_costs f starts) budget 0 s)
         (Ok (record { end = Optimal; state = s; selection = nothing_seen s; used = 0 })) >>= λ one. after_over one)
         (ap (λ (s : Revised). wants_phase_one s.bare) g.same
-        ∙ same_wants f (form_rows f starts) (cost_at (first_costs f starts)) b t st g.basic g.pairs g.places)
+        ∙ same_wants f (form_rows f (signs_of starts)) (cost_at (first_costs f starts)) b t st g.basic g.pairs g.places)
         ∙ by (wants_phase_one t) refl
       where
         wanted : Both f starts (first_costs f starts) b first_few first_free
@@ -304,10 +304,10 @@ module _ (f : Form) (proper : IsProper f) (costs : HasCosts f) where
       there_is (priced_run None (begun f starts) (first_costs f starts))
       (priced_agrees None (begun f starts) (first_costs f starts)) in
       let t : Tableau = with_reduced (begun f starts) c.0 in
-      let st : IsTableauOf f.rows f.cols (form_rows f starts) (cost_at (first_costs f starts)) (bounds_of t) t =
+      let st : IsTableauOf f.rows f.cols (form_rows f (signs_of starts)) (cost_at (first_costs f starts)) (bounds_of t) t =
       begun_is f proper starts l.all begins c.0 None c.1 in
       let g : GoesWith f t (state t t.basic [] 0) =
-      starts_with f (form_rows f starts) (cost_at (first_costs f starts)) (bounds_of t) t st (start_rows starts c.0) in
+      starts_with f (form_rows f (signs_of starts)) (cost_at (first_costs f starts)) (bounds_of t) t st (start_rows starts c.0) in
       let s = refactored_goes f t (state t t.basic [] 0) refl refl g in
       ap (λ r. refused_as stop.Past r >>= λ starts. refactor_run None f (bare_of (begun f starts)) >>=
       λ s. over_phases None budget f starts s) a.1

@@ -16,7 +16,7 @@ use Rattle.spec_simplex.specs.Tableau.{Tableau}
 use Rattle.spec_simplex.specs.Step.{choice_run, flip_run, pivot_run}
 use Rattle.spec_simplex.specs.Phases.{PrimalEnded, end_or_spent, end_or_next, run_from, done_run}
 use Rattle.spec_path.specs.Tables.{IsTableauOf}
-use Rattle.spec_path.specs.Begins.{form_rows}
+use Rattle.spec_path.specs.Begins.{form_rows, signs_of}
 use Rattle.spec_cold.specs.Cold.{multipliers, certificate_at}
 use Rattle.spec_path.proofs.LimitStart.{choice_agrees, flip_agrees, pivot_agrees}
 use Rattle.spec_path.proofs.Steps.{choice_is_meant}
@@ -35,7 +35,7 @@ module _ (f : Form) (starts : List (RowStart ℚ)) (costs : List ℚ)
     (b : Bounds) (few : length costs ≤ f.cols + f.rows + f.rows)
     (free : (i : ℕ) → i < f.rows → cost_at costs (f.cols + i) ≡ 0ℚ) where
   abbrev Is : Tableau → Type 0
-  Is t = IsTableauOf f.rows f.cols (form_rows f starts) (cost_at costs) b t
+  Is t = IsTableauOf f.rows f.cols (form_rows f (signs_of starts)) (cost_at costs) b t
 
   -- ---- the same end
   pub record SameEnd (e : PrimalEnded) (o : RevisedEnded) : Type 0 where
@@ -68,7 +68,7 @@ module _ (f : Form) (starts : List (RowStart ℚ)) (costs : List ℚ)
         (l : SelectionRuns f starts costs b t st few basic pairs g None selection) where
       same : SameChoice t w c selection.choice
       same =
-          same_choice f.rows f.cols (form_rows f starts) (cost_at costs) b t w st
+          same_choice f.rows f.cols (form_rows f (signs_of starts)) (cost_at costs) b t w st
           (W_is f starts costs b t st few basic pairs g) (λ k _. refl) None None c selection.choice c_ok l.choice
 
       sees : (d : Choice ℚ) → selection.choice ≡ d →
@@ -120,10 +120,10 @@ module _ (f : Form) (starts : List (RowStart ℚ)) (costs : List ℚ)
           after : (u : Tableau) (d : Choice ℚ) → c ≡ d → done_run None t d ≡ Ok u → Is u
           after u (End end) e h = let z : t ≡ u = cc in subst Is z st
           after u (Flip j) e h =
-              (choice_is_meant None f.rows f.cols (form_rows f starts)
+              (choice_is_meant None f.rows f.cols (form_rows f (signs_of starts))
               (cost_at costs) b t (Flip j) st (c_ok ∙ ap Ok e) u h).after
           after u (Pivot p j theta to) e h =
-              (choice_is_meant None f.rows f.cols (form_rows f starts)
+              (choice_is_meant None f.rows f.cols (form_rows f (signs_of starts))
               (cost_at costs) b t (Pivot p j theta to) st (c_ok ∙ ap Ok e) u h).after
 
           by : (d : Choice ℚ) → c ≡ d → SameChoice t w d selection.choice →

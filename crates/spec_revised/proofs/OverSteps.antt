@@ -28,7 +28,7 @@ use Rattle.spec_simplex.specs.Step.{flipped, flip_run, shifted_run, exchanged, t
 use Rattle.spec_simplex.specs.Phases.{done_run}
 use Rattle.spec_simplex.proofs.Stops.{length-made, get_or-made}
 use Rattle.spec_path.specs.Tables.{way, table_of, IsTableauOf}
-use Rattle.spec_path.specs.Begins.{form_rows}
+use Rattle.spec_path.specs.Begins.{form_rows, signs_of}
 use Rattle.spec_path.proofs.Runs.{then_ok}
 use Rattle.spec_path.proofs.Enters.{an_entering}
 use Rattle.spec_path.proofs.Refusals.{Agrees, as_it_is}
@@ -147,11 +147,11 @@ places_as f t u basic pairs e h =
 
 -- ---- the steps
 module _ (f : Form) (starts : List (RowStart ℚ)) (costs : List ℚ) (b : Bounds)
-    (t : Tableau) (st : IsTableauOf f.rows f.cols (form_rows f starts) (cost_at costs) b t)
+    (t : Tableau) (st : IsTableauOf f.rows f.cols (form_rows f (signs_of starts)) (cost_at costs) b t)
     (few : length costs ≤ f.cols + f.rows + f.rows)
     (basic : List ℕ) (pairs : List Pair) (g : Places f t basic pairs) (replaced_before : ℕ) where
   abbrev F : ℕ → ℕ → ℚ
-  F = form_rows f starts
+  F = form_rows f (signs_of starts)
 
   abbrev w : Tableau
   w = W f starts costs b t st few basic pairs g

@@ -24,7 +24,7 @@ use Rattle.spec_simplex.specs.Step.{directed, choice_run}
 use Rattle.spec_simplex.specs.Tableau.{Tableau, basic_at, entry_at, reduced_at, status_at}
 use Rattle.spec_cold.specs.Cold.{point, multipliers, moves_below, moves_by, direction, certificate_at, basis_at}
 use Rattle.spec_path.specs.Tables.{way, table_of, IsTableauOf}
-use Rattle.spec_path.specs.Begins.{form_rows}
+use Rattle.spec_path.specs.Begins.{form_rows, signs_of}
 use Rattle.spec_path.proofs.Moved.{at_position}
 use Rattle.spec_cold.proofs.Directions.{moves_are}
 use Rattle.spec_path.proofs.Equations.{row_logical}
@@ -88,14 +88,14 @@ moves_same v u j up k s (suc n) h =
     (moves_same v u j up k s n (omega (arith, h)))
 
 module _ (f : Form) (starts : List (RowStart ℚ)) (costs : List ℚ) (b : Bounds)
-    (t : Tableau) (st : IsTableauOf f.rows f.cols (form_rows f starts) (cost_at costs) b t)
+    (t : Tableau) (st : IsTableauOf f.rows f.cols (form_rows f (signs_of starts)) (cost_at costs) b t)
     (few : length costs ≤ f.cols + f.rows + f.rows)
     (free : (i : ℕ) → i < f.rows → cost_at costs (f.cols + i) ≡ 0ℚ)
     (basic : List ℕ) (pairs : List Pair) (g : Places f t basic pairs) where
   abbrev w : Tableau
   w = W f starts costs b t st few basic pairs g
 
-  w_is : IsTableauOf f.rows f.cols (form_rows f starts) (cost_at costs) b w
+  w_is : IsTableauOf f.rows f.cols (form_rows f (signs_of starts)) (cost_at costs) b w
   w_is = W_is f starts costs b t st few basic pairs g
 
   -- ---- multipliers: logicals cost nothing
@@ -105,7 +105,7 @@ module _ (f : Form) (starts : List (RowStart ℚ)) (costs : List ℚ) (b : Bound
   price_logical i l =
       ap₂ (λ a c. a -ℚ c) (free i l)
       (sum_below_same f.rows _ (λ r. delta i r *ℚ y r)
-      (λ r _. ap (λ a. y r *ℚ a) (row_logical f starts r i l ∙ delta_sym r i) ∙ *ℚ_comm (y r) (delta i r))
+      (λ r _. ap (λ a. y r *ℚ a) (row_logical f (signs_of starts) r i l ∙ delta_sym r i) ∙ *ℚ_comm (y r) (delta i r))
       ∙ sum_below-delta f.rows i y l)
       ∙ nought (y i)
     where
@@ -122,7 +122,7 @@ module _ (f : Form) (starts : List (RowStart ℚ)) (costs : List ℚ) (b : Bound
       (λ i l. let l' : i < f.rows = subst (λ n. i < n) st.rows l in
       ap neg_ℚ (is.each i l') ∙ sym (price_logical i l')
       ∙ sym (price_is f starts costs t basic pairs b st few g (f.cols + i))
-      ∙ sym ((both f.rows f.cols (form_rows f starts) (cost_at costs) b t w st w_is (λ k _. refl)).reduced (f.cols + i))
+      ∙ sym ((both f.rows f.cols (form_rows f (signs_of starts)) (cost_at costs) b t w st w_is (λ k _. refl)).reduced (f.cols + i))
       ∙ ap (λ n. reduced_at t (n + i)) (sym st.cols))
 
   -- ---- the direction
@@ -135,12 +135,12 @@ module _ (f : Form) (starts : List (RowStart ℚ)) (costs : List ℚ) (b : Bound
     where
       enters_t : Enters (f.cols + f.rows + f.rows) b (table_of t) (way up) j
       enters_t =
-          (choice_is_meant None f.rows f.cols (form_rows f starts)
+          (choice_is_meant None f.rows f.cols (form_rows f (signs_of starts))
           (cost_at costs) b t (End (Unbounded j up)) st ct).enters
 
       enters_w : Enters (f.cols + f.rows + f.rows) b (table_of w) (way up) j
       enters_w =
-          (choice_is_meant limit2 f.rows f.cols (form_rows f starts)
+          (choice_is_meant limit2 f.rows f.cols (form_rows f (signs_of starts))
           (cost_at costs) b w (End (Unbounded j up)) w_is cw).enters
 
       cols_same : v.cols ≡ t.cols
@@ -151,12 +151,12 @@ module _ (f : Form) (starts : List (RowStart ℚ)) (costs : List ℚ) (b : Bound
           ap (moves_below v j up k) s.same.rows
           ∙ moves_same v w j up k s.same w.rows (let z : t.rows ≤ t.rows = omega arith in z)
           ∙ ap (moves_below w j up k) st.rows
-          ∙ moves_are f.rows (f.cols + f.rows + f.rows) (form_rows f starts)
+          ∙ moves_are f.rows (f.cols + f.rows + f.rows) (form_rows f (signs_of starts))
           (cost_at costs) b w j up w_is.tableau enters_w k
-          ∙ sym (rays_same f.rows f.cols (form_rows f starts)
+          ∙ sym (rays_same f.rows f.cols (form_rows f (signs_of starts))
           (cost_at costs) b t w st w_is (λ k _. refl) (way up) j enters_t enters_w k)
           ∙ sym (moves_are f.rows (f.cols + f.rows + f.rows)
-          (form_rows f starts) (cost_at costs) b t j up st.tableau enters_t k)
+          (form_rows f (signs_of starts)) (cost_at costs) b t j up st.tableau enters_t k)
           ∙ ap (moves_below t j up k) (sym st.rows)
 
   -- ---- the certificate and the basis

@@ -26,7 +26,7 @@ use Rattle.spec_simplex.specs.Step.{with_gap, best_with, best_run, choice_at, ch
 use Rattle.spec_simplex.proofs.Stops.{length-made, get_or-made}
 use Rattle.spec_simplex.specs.Tableau.{is_basic}
 use Rattle.spec_path.specs.Tables.{IsTableauOf}
-use Rattle.spec_path.specs.Begins.{form_rows}
+use Rattle.spec_path.specs.Begins.{form_rows, signs_of}
 use Rattle.spec_path.proofs.Runs.{then_ok, less_ok, steps_ok}
 use Rattle.spec_path.proofs.Lists.{by_lt}
 use Rattle.spec_path.proofs.Enters.{an_entering, fixed_test}
@@ -89,7 +89,7 @@ best_same limit t u e s =
     by (Err p) = refl
 
 module _ (f : Form) (starts : List (RowStart ℚ)) (costs : List ℚ) (b : Bounds)
-    (t : Tableau) (st : IsTableauOf f.rows f.cols (form_rows f starts) (cost_at costs) b t)
+    (t : Tableau) (st : IsTableauOf f.rows f.cols (form_rows f (signs_of starts)) (cost_at costs) b t)
     (few : length costs ≤ f.cols + f.rows + f.rows)
     (basic : List ℕ) (pairs : List Pair) (g : Places f t basic pairs) where
   abbrev pub bare : Tableau
@@ -98,7 +98,7 @@ module _ (f : Form) (starts : List (RowStart ℚ)) (costs : List ℚ) (b : Bound
   abbrev pub W : Tableau
   W = whole f starts costs t basic pairs
 
-  pub W_is : IsTableauOf f.rows f.cols (form_rows f starts) (cost_at costs) b W
+  pub W_is : IsTableauOf f.rows f.cols (form_rows f (signs_of starts)) (cost_at costs) b W
   W_is = whole_is f starts costs t basic pairs b st few g
 
   -- ---- multipliers
@@ -224,7 +224,7 @@ module _ (f : Form) (starts : List (RowStart ℚ)) (costs : List ℚ) (b : Bound
               seen_at j z p q'
               ∙ ap (λ a. sign_of starts t (get_or basic p 0) *ℚ a)
               (solved f t.status limit pairs j z g.stands.sound h' p q'
-              ∙ forward_same f.rows pairs (λ r. column_entry f r j) (λ r. form_rows f starts r j) g.stands.sound
+              ∙ forward_same f.rows pairs (λ r. column_entry f r j) (λ r. form_rows f (signs_of starts) r j) g.stands.sound
               (λ r _. sym (plain_is f starts t st.rows st.cols r j l)) p q')
               ∙ sym (entry_is f starts costs t basic pairs b st few g p j q');
           basic = refl;

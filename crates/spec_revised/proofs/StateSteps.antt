@@ -13,7 +13,7 @@ use Rattle.spec_simplex.specs.Step.{choice_run}
 use Rattle.spec_simplex.specs.Tableau.{Tableau}
 use Rattle.spec_simplex.specs.Phases.{done_run}
 use Rattle.spec_path.specs.Tables.{IsTableauOf}
-use Rattle.spec_path.specs.Begins.{form_rows}
+use Rattle.spec_path.specs.Begins.{form_rows, signs_of}
 use Rattle.spec_path.proofs.Steps.{choice_is_meant}
 use Rattle.spec_factor.specs.Revised.{Revised, Selection, selection_run, flip_over_run}
 use Rattle.spec_factor.specs.Revised.{replacements, refactor_run, refreshed_run, exchange_run}
@@ -32,7 +32,7 @@ goes_on f t s rows cols g = by (nat_eq s.replaced replacements)
     by false = (s, refl, g)
 
 module _ (f : Form) (starts : List (RowStart ℚ)) (costs : List ℚ) (b : Bounds)
-    (t : Tableau) (st : IsTableauOf f.rows f.cols (form_rows f starts) (cost_at costs) b t)
+    (t : Tableau) (st : IsTableauOf f.rows f.cols (form_rows f (signs_of starts)) (cost_at costs) b t)
     (few : length costs ≤ f.cols + f.rows + f.rows)
     (s : Revised) (g : GoesWith f t s) where
   abbrev w : Tableau
@@ -47,7 +47,7 @@ module _ (f : Form) (starts : List (RowStart ℚ)) (costs : List ℚ) (b : Bound
   chosen : (limit other : Option ℕ) (c : Choice ℚ) (selection : Selection) → choice_run other t ≡ Ok c →
       selection_run limit f starts costs s ≡ Ok selection → SameChoice t w c selection.choice
   chosen limit other c selection h k =
-      same_choice f.rows f.cols (form_rows f starts) (cost_at costs) b t w st
+      same_choice f.rows f.cols (form_rows f (signs_of starts)) (cost_at costs) b t w st
       (W_is f starts costs b t st few g.basic g.pairs g.places)
       (λ k _. refl) other limit c selection.choice h ((selected limit selection k).choice)
 
@@ -64,13 +64,13 @@ module _ (f : Form) (starts : List (RowStart ℚ)) (costs : List ℚ) (b : Bound
       (read_as c selection.choice (chosen limit other c selection h k))
 
   after : (c : Choice ℚ) (u : Tableau) → choice_run None t ≡ Ok c → done_run None t c ≡ Ok u →
-      IsTableauOf f.rows f.cols (form_rows f starts) (cost_at costs) b u
+      IsTableauOf f.rows f.cols (form_rows f (signs_of starts)) (cost_at costs) b u
   after (End end) u c_ok h =
-      let z : t ≡ u = cc in subst (IsTableauOf f.rows f.cols (form_rows f starts) (cost_at costs) b) z st
+      let z : t ≡ u = cc in subst (IsTableauOf f.rows f.cols (form_rows f (signs_of starts)) (cost_at costs) b) z st
   after (Flip j) u c_ok h =
-      (choice_is_meant None f.rows f.cols (form_rows f starts) (cost_at costs) b t (Flip j) st c_ok u h).after
+      (choice_is_meant None f.rows f.cols (form_rows f (signs_of starts)) (cost_at costs) b t (Flip j) st c_ok u h).after
   after (Pivot p j theta to) u c_ok h =
-      (choice_is_meant None f.rows f.cols (form_rows f starts)
+      (choice_is_meant None f.rows f.cols (form_rows f (signs_of starts))
       (cost_at costs) b t (Pivot p j theta to) st c_ok u h).after
 
   sees : (selection : Selection) (d : Choice ℚ) → selection_run None f starts costs s ≡ Ok selection →

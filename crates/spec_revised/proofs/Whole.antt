@@ -20,7 +20,7 @@ use Rattle.spec_simplex.specs.Start.{logical_sign, start_at, cost_at}
 use Rattle.spec_simplex.specs.Tableau.{Tableau, form_columns, all_columns, is_artificial, entry_at, reduced_at}
 use Rattle.spec_simplex.proofs.Stops.{length-made, get_or-made}
 use Rattle.spec_path.specs.Tables.{IsTableauOf}
-use Rattle.spec_path.specs.Begins.{form_rows}
+use Rattle.spec_path.specs.Begins.{form_rows, signs_of}
 use Rattle.spec_path.proofs.Columns.{by_kind}
 use Rattle.spec_path.proofs.Equations.{row_structural, row_logical, row_artificial, row_past}
 use Rattle.spec_path.proofs.Lists.{by_lt, past_row}
@@ -46,7 +46,7 @@ twice c d e = sym (*ℚ_assoc c c d) ∙ ap (λ a. a *ℚ d) e ∙ one-*ℚ d
 -- ---- columns of the equations, up to the sign
 module _ (f : Form) (starts : List (RowStart ℚ)) (t : Tableau) (rows : t.rows ≡ f.rows) (cols : t.cols ≡ f.cols) where
   abbrev F : Matrix
-  F = form_rows f starts
+  F = form_rows f (signs_of starts)
 
   pub signs_square : (k : ℕ) → sign_of starts t k *ℚ sign_of starts t k ≡ 1ℚ
   signs_square k = by (is_artificial t k)
@@ -74,8 +74,8 @@ module _ (f : Form) (starts : List (RowStart ℚ)) (t : Tableau) (rows : t.rows 
   pub plain_is : (r k : ℕ) → k < f.cols + f.rows → F r k ≡ column_entry f r k
   plain_is r k l =
       by_kind f.cols f.rows k
-      (λ h. row_structural f starts r k h ∙ sym (rw (lt-ltb k f.cols h) refl))
-      (λ i h e. subst (λ k. F r k ≡ column_entry f r k) (sym e) (row_logical f starts r i h ∙ sym (column_logical r i)))
+      (λ h. row_structural f (signs_of starts) r k h ∙ sym (rw (lt-ltb k f.cols h) refl))
+      (λ i h e. subst (λ k. F r k ≡ column_entry f r k) (sym e) (row_logical f (signs_of starts) r i h ∙ sym (column_logical r i)))
       (λ i e. let z : ⊥ = omega (arith, l, e) in absurd z)
 
   pub column_is : (r k : ℕ) → F r k ≡ sign_of starts t k *ℚ column_entry f r (factor_column t k)
@@ -93,7 +93,7 @@ module _ (f : Form) (starts : List (RowStart ℚ)) (t : Tableau) (rows : t.rows 
           F r (f.cols + f.rows + i)
           ≡ sign_of starts t (f.cols + f.rows + i) *ℚ column_entry f r (factor_column t (f.cols + f.rows + i))
       artificial i =
-          row_artificial f starts r i
+          row_artificial f (signs_of starts) r i
           ∙ by_eq r i
           (λ e. ap (λ r'. logical_sign (start_at starts r') *ℚ delta r i) e)
           (λ d. ap (λ a. logical_sign (start_at starts r) *ℚ a) (delta_other r i d) ∙ *ℚ_zero _
@@ -123,7 +123,7 @@ module _ (f : Form) (starts : List (RowStart ℚ)) (costs : List ℚ)
   N = f.cols + f.rows + f.rows
 
   abbrev pub equations : Matrix
-  equations = form_rows f starts
+  equations = form_rows f (signs_of starts)
 
   abbrev pub column : ℕ → ℕ
   column p = get_or basic p 0
@@ -207,7 +207,7 @@ module _ (f : Form) (starts : List (RowStart ℚ)) (costs : List ℚ)
     row_none : (i k : ℕ) → i < m → N ≤ k → row i k ≡ 0ℚ
     row_none i k l h =
         row_forth i k l
-        ∙ sum_below_none m _ (λ s q. ap (λ a. (sign i *ℚ part_of i s) *ℚ a) (row_past f starts s k q h) ∙ *ℚ_zero _)
+        ∙ sum_below_none m _ (λ s q. ap (λ a. (sign i *ℚ part_of i s) *ℚ a) (row_past f (signs_of starts) s k q h) ∙ *ℚ_zero _)
 
     -- ---- reduced costs
     price_basic : (q : ℕ) → q < m → price (column q) ≡ 0ℚ
@@ -231,7 +231,7 @@ module _ (f : Form) (starts : List (RowStart ℚ)) (costs : List ℚ)
     unfolding price
     price_none k h =
         ap₂ (λ a c. a -ℚ c) (get_or_past costs k 0ℚ (omega (arith, few, h)))
-        (sum_below_none m _ (λ r q. ap (λ a. multiplier r *ℚ a) (row_past f starts r k q h) ∙ *ℚ_zero _)) ∙ +ℚ_neg 0ℚ
+        (sum_below_none m _ (λ r q. ap (λ a. multiplier r *ℚ a) (row_past f (signs_of starts) r k q h) ∙ *ℚ_zero _)) ∙ +ℚ_neg 0ℚ
 
     -- ---- read from the lists
     pub whole_length : (p : ℕ) → p < m → length (get_or whole.entries p []) ≡ N

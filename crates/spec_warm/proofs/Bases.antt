@@ -14,17 +14,15 @@ use Rattle.spec_pivot.specs.Simplex.{Bounds, Stands, IsTableau}
 use Rattle.spec_pivot.proofs.Pivot.{delta_same, delta_other, sum_below-delta}
 use Rattle.spec_pivot.proofs.Unique.{apart}
 use Rattle.spec_pivot.proofs.Values.{by_basic}
-use Rattle.spec_simplex.specs.declared.ends.RowStart.{RowStart}
 use Rattle.spec_simplex.specs.Form.{Form, form_lower, form_upper}
 use Rattle.spec_simplex.specs.Run.{made}
-use Rattle.spec_simplex.specs.Start.{logical_sign, start_at}
 use Rattle.spec_simplex.specs.Tableau.{Tableau, form_columns, basic_at, entry_at, value_at, status_at}
 use Rattle.spec_simplex.proofs.Stops.{length-made}
 use Rattle.spec_path.specs.Begins.{form_rows}
 use Rattle.spec_simplex.specs.Tableau.{is_basic}
 use Rattle.spec_cold.specs.Cold as cold
 use Rattle.spec_path.specs.Tables.{table_of}
-use Rattle.spec_path.proofs.Begun.{delta_sym, sign_square}
+use Rattle.spec_path.proofs.Begun.{delta_sym}
 use Rattle.spec_path.proofs.Formed.{HasBounds}
 use Rattle.spec_path.proofs.Equations.{row_logical, row_artificial}
 use Rattle.spec_path.proofs.Runs.{get_or-made}
@@ -43,9 +41,9 @@ basics_count : (basis : List Status) (n : ℕ) → basics_below basis n ≡ coun
 basics_count basis zero = refl
 basics_count basis (suc n) = ap (λ c. c + cond (is_basic (basis_at basis n)) 1 0) (basics_count basis n)
 
-module _ (f : Form) (starts : List (RowStart ℚ)) (cost : ℕ → ℚ) (b : Bounds)
+module _ (f : Form) (signs : ℕ → ℚ) (squares : (i : ℕ) → signs i *ℚ signs i ≡ 1ℚ) (cost : ℕ → ℚ) (b : Bounds)
     (bs : HasBounds f b) (t : Tableau) (rows : t.rows ≡ f.rows) (cols : t.cols ≡ f.cols)
-    (g : IsTableau f.rows (f.cols + f.rows + f.rows) (form_rows f starts) cost b (table_of t)) where
+    (g : IsTableau f.rows (f.cols + f.rows + f.rows) (form_rows f signs) cost b (table_of t)) where
   abbrev n : ℕ
   n = f.cols + f.rows + f.rows
 
@@ -79,18 +77,18 @@ module _ (f : Form) (starts : List (RowStart ℚ)) (cost : ℕ → ℚ) (b : Bou
   logical_entry r i h l =
       g.forth.1 r (f.cols + i) h
       ∙ sum_below_same f.rows _ (λ s. delta i s *ℚ g.forth.0 r s) (λ s q.
-      ap (λ a. g.forth.0 r s *ℚ a) (row_logical f starts s i l ∙ delta_sym s i) ∙ *ℚ_comm (g.forth.0 r s) (delta i s))
+      ap (λ a. g.forth.0 r s *ℚ a) (row_logical f signs s i l ∙ delta_sym s i) ∙ *ℚ_comm (g.forth.0 r s) (delta i s))
       ∙ sum_below-delta f.rows i (g.forth.0 r) l
 
   artificial_entry : (r i : ℕ) → r < f.rows → i < f.rows →
-      entry_at t r (f.cols + f.rows + i) ≡ logical_sign (start_at starts i) *ℚ g.forth.0 r i
+      entry_at t r (f.cols + f.rows + i) ≡ signs i *ℚ g.forth.0 r i
   artificial_entry r i h l =
       g.forth.1 r (f.cols + f.rows + i) h
-      ∙ sum_below_same f.rows _ (λ s. delta i s *ℚ (logical_sign (start_at starts s) *ℚ g.forth.0 r s))
+      ∙ sum_below_same f.rows _ (λ s. delta i s *ℚ (signs s *ℚ g.forth.0 r s))
       (λ s q. ap (λ a. g.forth.0 r s *ℚ a)
-      (row_artificial f starts s i ∙ ap (λ d. logical_sign (start_at starts s) *ℚ d) (delta_sym s i))
-      ∙ turn (g.forth.0 r s) (logical_sign (start_at starts s)) (delta i s))
-      ∙ sum_below-delta f.rows i (λ s. logical_sign (start_at starts s) *ℚ g.forth.0 r s) l
+      (row_artificial f signs s i ∙ ap (λ d. signs s *ℚ d) (delta_sym s i))
+      ∙ turn (g.forth.0 r s) (signs s) (delta i s))
+      ∙ sum_below-delta f.rows i (λ s. signs s *ℚ g.forth.0 r s) l
     where
       turn : (w c d : ℚ) → w *ℚ (c *ℚ d) ≡ d *ℚ (c *ℚ w)
       turn w c d = *ℚ_comm w (c *ℚ d) ∙ ap (λ a. a *ℚ w) (*ℚ_comm c d) ∙ *ℚ_assoc d c w
@@ -103,10 +101,10 @@ module _ (f : Form) (starts : List (RowStart ℚ)) (cost : ℕ → ℚ) (b : Bou
       (λ e. let z : f.cols + f.rows + i ≡ f.cols + i = sym w.2 ∙ ap (basic_at t) e ∙ v.2 in omega (arith, h, z)) in
       let one : g.forth.0 v.0 i ≡ 1ℚ =
       sym (logical_entry v.0 i v.1 h) ∙ ap (entry_at t v.0) (sym v.2) ∙ g.units v.0 v.0 v.1 v.1 ∙ delta_same v.0 in
-      let none : logical_sign (start_at starts i) *ℚ g.forth.0 v.0 i ≡ 0ℚ =
+      let none : signs i *ℚ g.forth.0 v.0 i ≡ 0ℚ =
       sym (artificial_entry v.0 i v.1 h) ∙ ap (entry_at t v.0) (sym w.2)
       ∙ g.units w.0 v.0 w.1 v.1 ∙ delta_other w.0 v.0 other in
-      clash (logical_sign (start_at starts i)) (g.forth.0 v.0 i) (sign_square (start_at starts i)) one none
+      clash (signs i) (g.forth.0 v.0 i) (squares i) one none
     where
       clash : (s a : ℚ) → s *ℚ s ≡ 1ℚ → a ≡ 1ℚ → s *ℚ a ≡ 0ℚ → ⊥
       clash s a e one none =

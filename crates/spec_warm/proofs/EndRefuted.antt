@@ -1,6 +1,6 @@
 -- A row of the form's equations that shows that no values solve them within the bounds is a certificate of the model.
-use Rattle.std.proofs.Common.{◌≡◌, ℕ, ◌+◌, ◌<◌, List, [], Option, Some, refl, sym, ap, ◌∙◌, subst, subst₂, arith}
-use Rattle.spec_exact.specs.Fraction.{ℚ, ◌+ℚ◌, ◌-ℚ◌, ◌*ℚ◌, neg_ℚ, 0ℚ, ◌<ℚ◌}
+use Rattle.std.proofs.Common.{◌≡◌, ℕ, ◌+◌, ◌<◌, List, Option, Some, refl, sym, ap, ◌∙◌, subst, subst₂, arith}
+use Rattle.spec_exact.specs.Fraction.{ℚ, ◌+ℚ◌, ◌-ℚ◌, ◌*ℚ◌, neg_ℚ, 0ℚ, 1ℚ, ◌<ℚ◌}
 use Rattle.spec_exact.specs.Sums.{sum_below}
 use Rattle.spec_exact.proofs.Field.{+ℚ_zero, *ℚ_zero}
 use Rattle.spec_exact.proofs.Ruleset.{ring, zero-+ℚ, zero-*ℚ, neg-neg}
@@ -41,11 +41,11 @@ module _ (m : Model) (ls : List (Option ℚ × Option ℚ)) (h : Limited m ls) (
       turn w f = simp ring
 
   multiplier : (i : ℕ) → i < r → part y i ≡ neg_ℚ (neg_ℚ (refutes.weights i))
-  multiplier i p = y_at i p ∙ weight_at m ls h [] (λ _. 0ℚ) a (λ i. neg_ℚ (refutes.weights i)) less i p refl
+  multiplier i p = y_at i p ∙ weight_at m ls h (λ _. 1ℚ) (λ _. 0ℚ) a (λ i. neg_ℚ (refutes.weights i)) less i p refl
 
   priced_at : (j : ℕ) → j < w → a j ≡ neg_ℚ (priced m y j)
   priced_at j p =
-      column_at m ls h [] (λ _. 0ℚ) a (λ i. neg_ℚ (refutes.weights i)) less j p
+      column_at m ls h (λ _. 1ℚ) (λ _. 0ℚ) a (λ i. neg_ℚ (refutes.weights i)) less j p
       ∙ ap (λ c. 0ℚ -ℚ c) (sum_below_same r _ (λ i. part y i *ℚ coefficient m i j)
       (λ i q. ap (λ a. a *ℚ coefficient m i j) (sym (multiplier i q))))
       ∙ zero-+ℚ _
@@ -56,13 +56,13 @@ module _ (m : Model) (ls : List (Option ℚ × Option ℚ)) (h : Limited m ls) (
   row_tight : (i : ℕ) → i < r → IsTight (limits m i) (part y i) (stops (w + i))
   row_tight i p =
       subst (λ d. IsTight (limits m i) d (stops (w + i))) (sym (y_at i p))
-      (bounds_logical m ls h [] b bs (λ x. IsTight x (a (w + i)) (stops (w + i))) i p
+      (bounds_logical m ls h (λ _. 1ℚ) b bs (λ x. IsTight x (a (w + i)) (stops (w + i))) i p
       (tight_at (w + i) (omega (arith, p))))
 
   column_tight : (j : ℕ) → j < w → IsTight (turned_limits (bounds m j)) (priced m y j) (stops j)
   column_tight j p =
       tight_turned (bounds m j) (a j) (priced m y j) (stops j) (priced_at j p)
-      (bounds_structural m ls h [] b bs (λ x. IsTight x (a j) (stops j)) j p (tight_at j (omega (arith, p))))
+      (bounds_structural m ls h (λ _. 1ℚ) b bs (λ x. IsTight x (a j) (stops j)) j p (tight_at j (omega (arith, p))))
 
   A : ℚ
   A = sum_below w (λ j. a j *ℚ stops j)

@@ -18,10 +18,12 @@ use Rattle.spec_simplex.specs.declared.ends.PrimalEnd.TheVariants as primal
 use Rattle.spec_simplex.specs.Form.{Form, formed, form_of}
 use Rattle.spec_simplex.specs.Phases.{PhasesEnd, Infeasible, Finished, phases_run}
 use Rattle.spec_simplex.specs.Run.{made}
-use Rattle.spec_simplex.specs.Start.{cost_at}
+use Rattle.spec_simplex.specs.Start.{cost_at, start_at}
 use Rattle.spec_simplex.specs.Tableau.{form_columns}
 use Rattle.spec_cold.specs.Cold as cold
 use Rattle.spec_cold.specs.Accepted.{IsAccepted}
+use Rattle.spec_path.specs.Begins.{signs_of}
+use Rattle.spec_path.proofs.Begun.{sign_square}
 use Rattle.spec_path.proofs.Formed.{form_is}
 use Rattle.spec_cold.proofs.Phases.{phases_finish}
 use Rattle.spec_cold.proofs.Solved.{IsTrueEnd, accepted, clash_accepted}
@@ -60,7 +62,7 @@ phases_left limit budget m f (Finished e) left p q r =
     let o = form_is limit m f p in
     let d = phases_finish limit m o.0 o.1 budget (Finished e) (ap (phases_run limit budget) o.2 ∙ q) in
     subst (λ f. IsBasisOf f left) o.2
-    (by e.end r (basis_fits (formed m o.0) d.starts
+    (by e.end r (basis_fits (formed m o.0) (signs_of d.starts) (λ i. sign_square (start_at d.starts i))
     (cost_at (formed m o.0).cost) d.bounds d.bounded e.tableau d.after.rows d.after.cols d.after.tableau))
   where
     by : {f : Form} (end : PrimalEnd) → cold.basis_at e.tableau end ≡ Some left →

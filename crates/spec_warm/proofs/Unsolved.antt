@@ -18,21 +18,18 @@ use Rattle.spec_warm.specs.Based.{equations}
 use Rattle.spec_simplex.specs.Eliminate.{equation, unsolved}
 
 module _ (f : Form) where
-  sign_one : (i : ℕ) → logical_sign (start_at [] i) ≡ 1ℚ
-  sign_one i = ap logical_sign (get_or_past [] i (Within 0ℚ) (omega arith))
-
   abbrev one : ℕ → ℕ → ℚ
   one i r = one_at i r 1ℚ
 
   equation_is : (i k : ℕ) → start_entry f (Within 0ℚ) i k ≡ equations f i k
   equation_is i k =
       by_kind f.cols f.rows k
-      (λ h. structural_at f (neg_ℚ (form_entry f i k)) (one i) (one i) k h ∙ sym (row_structural f [] i k h))
+      (λ h. structural_at f (neg_ℚ (form_entry f i k)) (one i) (one i) k h ∙ sym (row_structural f (λ _. 1ℚ) i k h))
       (λ r h e. subst (λ k. start_entry f (Within 0ℚ) i k ≡ equations f i k) (sym e)
-      (logical_at f (neg_ℚ (form_entry f i (f.cols + r))) (one i) (one i) r h ∙ sym (row_logical f [] i r h)))
+      (logical_at f (neg_ℚ (form_entry f i (f.cols + r))) (one i) (one i) r h ∙ sym (row_logical f (λ _. 1ℚ) i r h)))
       (λ r e. subst (λ k. start_entry f (Within 0ℚ) i k ≡ equations f i k) (sym e)
       (artificial_at f (neg_ℚ (form_entry f i (f.cols + f.rows + r))) (one i) (one i) r
-      ∙ sym (row_artificial f [] i r ∙ ap (λ s. s *ℚ delta i r) (sign_one i) ∙ one-*ℚ (delta i r))))
+      ∙ sym (row_artificial f (λ _. 1ℚ) i r ∙ one-*ℚ (delta i r))))
 
   pub unsolved_length : (i : ℕ) → i < f.rows → length (get_or (unsolved f).rows i []) ≡ f.cols + f.rows + f.rows
   unsolved_length i h =
@@ -45,7 +42,7 @@ module _ (f : Form) where
       (λ l. ap (λ row. get_or row k 0ℚ) (get_or-made f.rows (equation f) [] i h)
       ∙ get_or-made (f.cols + f.rows + f.rows) (start_entry f (Within 0ℚ) i) 0ℚ k l ∙ equation_is i k)
       (λ l. past_row (unsolved f).rows i k (f.cols + f.rows + f.rows) (unsolved_length i h) l
-      ∙ sym (row_past f [] i k h l))
+      ∙ sym (row_past f (λ _. 1ℚ) i k h l))
 
   pub unsolved_forth : Spans f.rows (at_place (unsolved f).rows) (equations f)
   unsolved_forth = (delta, λ i k h. unsolved_entry i k h ∙ sym (sum_below-delta f.rows i (λ r. equations f r k) h))

@@ -1,7 +1,8 @@
 -- What a warm start ends with shows what it says of the model.
-use Rattle.std.proofs.Common.{◌≡◌, ℕ, ◌+◌, ◌-◌, ◌<◌, ◌≤◌, List, [], Option, Some, None}
+use Rattle.std.proofs.Common.{◌≡◌, ℕ, ◌+◌, ◌-◌, ◌<◌, ◌≤◌, List, Option, Some, None}
 use Rattle.std.proofs.Common.{Result, Ok, Err, Bool, true, sym, ap, ◌∙◌, subst, subst₂, arith}
-use Rattle.spec_exact.specs.Fraction.{ℚ, 0ℚ, ◌≤ℚ◌}
+use Rattle.spec_exact.specs.Fraction.{ℚ, 0ℚ, 1ℚ, ◌≤ℚ◌}
+use Rattle.spec_exact.proofs.Field.{*ℚ_one}
 use Rattle.spec_exact.proofs.Order.{≤ℚ_refl}
 use Rattle.spec_model.specs.Model.{Model, width, height}
 use Rattle.spec_check.specs.declared.certificate.Certificate.TheVariants as certificate
@@ -140,7 +141,7 @@ module _ (limit : Option ℕ) (m : Model) (ls : List (Option ℚ × Option ℚ))
   dual_shows : (u : Tableau) (end : DualEnd) → IsReady r w F costs (bounds_of t) u →
       IsDualMeant r w (bounds_of t) u (End end) → Shows m (dual_certificate u end)
   dual_shows u Optimal d inside =
-      primal_shows m ls h [] (bounds_of t) bounded fixed limit
+      primal_shows m ls h (λ _. 1ℚ) (bounds_of t) bounded fixed limit
       (record { end = primal.Optimal; tableau = u; used = 0 }) (whole u d.based inside)
       (none_eligible (w + r + r) (bounds_of t) (table_of u) d.feasible)
   dual_shows u (Infeasible p below) d k = stuck_shows u p below d k
@@ -176,7 +177,7 @@ module _ (limit : Option ℕ) (m : Model) (ls : List (Option ℚ × Option ℚ))
       run_ends limit r w F costs (bounds_of t) some_label budget 0 t e
       (whole t s.based (λ k l. inside k (omega (arith, l, s.based.rows, s.based.cols)))) ok in
       record {
-        shows = primal_shows m ls h [] (bounds_of t) bounded fixed limit e d.after d.end;
+        shows = primal_shows m ls h (λ _. 1ℚ) (bounds_of t) bounded fixed limit e d.after d.end;
         based =
             record {
               rows = d.after.rows;
@@ -222,7 +223,7 @@ module _ (limit : Option ℕ) (m : Model) (ls : List (Option ℚ × Option ℚ))
   fits_at u d left e =
       let z : made (form_columns u) (cold.basis_status u) ≡ left = cc in
       subst (IsBasisOf (formed m ls)) z
-      (basis_fits (formed m ls) [] costs (bounds_of t) bounded u d.rows d.cols d.tableau)
+      (basis_fits (formed m ls) (λ _. 1ℚ) (λ _. *ℚ_one 1ℚ) costs (bounds_of t) bounded u d.rows d.cols d.tableau)
 
   pub basis_left : (e : WarmEnd) → IsEndOf e → (left : List Status) → warm_basis e ≡ Some left →
       IsBasisOf (formed m ls) left

@@ -1,6 +1,6 @@
 -- What holds of the tableau of a basis and of those that the dual method makes of it,
 -- and what a choice of that method means.
-use Rattle.std.specs.Prelude.{◌≡◌, ◌≢◌, ℕ, List, ◌+◌, ◌<◌, ◌≤◌, [], Some, Bool}
+use Rattle.std.specs.Prelude.{◌≡◌, ◌≢◌, ℕ, List, ◌+◌, ◌<◌, ◌≤◌, Some, Bool}
 use Rattle.spec_exact.specs.Fraction.{ℚ, 0ℚ, 1ℚ, ◌*ℚ◌}
 use Rattle.spec_exact.specs.Sums.{sum_below}
 use Rattle.spec_pivot.specs.declared.status.Status.{Status}
@@ -36,7 +36,7 @@ pub record IsReady (m n : ℕ) (f : Matrix) (cost : ℕ → ℚ) (b : Bounds) (t
 
 -- the equations of a form, in which each artificial has the sign of its logical
 abbrev pub equations : Form → Matrix
-equations f = form_rows f []
+equations f = form_rows f (λ r. 1ℚ)
 
 -- a tableau of the form's equations, costs and bounds
 pub record BeginsFrom (f : Form) (t : Tableau) : Type 0 where
