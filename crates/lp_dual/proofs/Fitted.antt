@@ -23,7 +23,7 @@ module _ (limit : Option ℕ) (m n : ℕ) (f : Matrix) (cost : ℕ → ℚ) (b :
   own = own_counts m n f cost b t s
 
   place : (k : ℕ) → k < all_columns t → status_at t k ≡ Basic → HasPlace t k
-  place k l e = let p = own.tableau.placed k l e in record { place = p.0; inside = p.1; holds = p.2 }
+  place k l e = let p = own.tableau.tableau.placed k l e in record { place = p.0; inside = p.1; holds = p.2 }
 
   can_flip : (k : ℕ) → k < all_columns t → needs_flip_at t k ≡ true → CanFlip t k
   can_flip k l e = by (is_fixed (lower_at t k) (upper_at t k)) e (fit_is limit t Dual h k l)
@@ -31,7 +31,7 @@ module _ (limit : Option ℕ) (m n : ℕ) (f : Matrix) (cost : ℕ → ℚ) (b :
       stands : Stands (status_at t k) (lower_at t k) (upper_at t k) (value_at t k)
       stands =
           subst₂ (λ low high. Stands (status_at t k) low high (value_at t k))
-          (sym (lower_same f cost b t own k l)) (sym (upper_same f cost b t own k l)) (own.tableau.stands k l)
+          (sym (lower_same f cost b t own k l)) (sym (upper_same f cost b t own k l)) (own.tableau.tableau.stands k l)
 
       by : (c : Bool) → not c && needs_flip (status_at t k) (reduced_at t k) ≡ true →
           c || meets_need (status_at t k) (reduced_at t k) (lower_at t k) (upper_at t k) ≡ true → CanFlip t k
@@ -48,6 +48,6 @@ module _ (limit : Option ℕ) (m n : ℕ) (f : Matrix) (cost : ℕ → ℚ) (b :
   pub can_start : IsDualStart t
   can_start =
       record {
-        seated = record { all_basic = s.whole.all_basic; all_statuses = s.whole.all_statuses; places = place };
+        seated = record { all_basic = s.tableau.whole.all_basic; all_statuses = s.tableau.whole.all_statuses; places = place };
         flips = can_flip;
       }

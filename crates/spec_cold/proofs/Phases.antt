@@ -24,7 +24,7 @@ use Rattle.spec_simplex.specs.Start.{cost_at, first_costs, start_of}
 use Rattle.spec_simplex.specs.Tableau.{Tableau, form_columns, is_artificial, basic_at, value_at, lower_at, upper_at}
 use Rattle.spec_simplex.specs.Phases.{PrimalEnded, wants_phase_one, is_stuck, phase_one, phase_two}
 use Rattle.spec_simplex.specs.Phases.{phase_two_run, run_from, PhasesEnd, Infeasible, Finished, phases_run}
-use Rattle.spec_path.specs.Tables.{way, table_of, bounds_of, IsTableauOf, IsMeant}
+use Rattle.spec_path.specs.Tables.{way, table_of, bounds_of, IsTableauOf, IsWithinBounds, IsMeant}
 use Rattle.spec_path.specs.Begins.{form_rows, signs_of}
 use Rattle.spec_cold.specs.Cold.{multipliers, certificate_at, certificate_of}
 use Rattle.spec_path.proofs.Runs.{then_ok, refused_ok}
@@ -73,6 +73,7 @@ module _ (limit : Option ℕ) (m : Model) (ls : List (Option ℚ × Option ℚ))
     -- what is known of phase one's end
     record IsFirst (one : PrimalEnded) : Type 0 where
       after : IsTableauOf r w F first_cost_at (bounds_of t) one.tableau
+      within : IsWithinBounds r w (bounds_of t) one.tableau
       none : wants_phase_one t ≡ true → (way : Way) (k : ℕ) → k < w + r + r →
           ¬ (IsEligible (bounds_of t) (table_of one.tableau) way k)
       not_wanted : wants_phase_one t ≡ false → is_stuck one.tableau ≡ false
@@ -98,9 +99,10 @@ module _ (limit : Option ℕ) (m : Model) (ls : List (Option ℚ × Option ℚ))
             IsFirst one
         by true e ok =
             let o : IsEnd limit r w F first_cost_at (bounds_of t) t 0 one =
-            run_ends limit r w F first_cost_at (bounds_of t) some_label budget 0 t one s.tableau ok in
+            run_ends limit r w F first_cost_at (bounds_of t) some_label budget 0 t one s.tableau s.within ok in
             record {
               after = o.after;
+              within = o.within;
               none = λ _. none one.end o.end;
               not_wanted = λ z. let y : true ≡ false = sym e ∙ z in cc;
               few_used =
@@ -117,11 +119,12 @@ module _ (limit : Option ℕ) (m : Model) (ls : List (Option ℚ × Option ℚ))
                 absurd
                 (never_goes_on m ls h s.starts s.all (bounds_of t) first_bounds s.artificial (table_of one.tableau)
                 ((run_ends limit r w F first_cost_at
-                (bounds_of t) some_label budget 0 t one s.tableau ok).after).tableau (way up) j g)
+                (bounds_of t) some_label budget 0 t one s.tableau s.within ok).after).tableau (way up) j g)
         by false e ok =
             let z : ◌≡◌ {A = PrimalEnded} (record { end = Optimal; tableau = t; used = 0 }) one = cc in
             subst IsFirst z (record {
               after = s.tableau;
+              within = s.within;
               none = λ y. let x : false ≡ true = sym e ∙ y in cc;
               not_wanted = λ _. never_stuck e;
               few_used =
@@ -151,7 +154,7 @@ module _ (limit : Option ℕ) (m : Model) (ls : List (Option ℚ × Option ℚ))
           for = multipliers_length r w F first_cost_at (bounds_of t) u o.after;
           checks =
               infeasible_checks m ls h s.starts s.all (bounds_of t) first_bounds s.artificial
-              (table_of u) o.after.tableau o.after.within (o.none (wanted_where_stuck one o p)) (multipliers u)
+              (table_of u) o.after.tableau o.within (o.none (wanted_where_stuck one o p)) (multipliers u)
               (multiplier_at r w F first_cost_at (bounds_of t) u o.after)
               (k - (w + r)) (omega (arith, k_least, o.after.rows, o.after.cols, k_in))
               (λ z. not_zero (value_at u k) (ap (value_at u) (sym k_is) ∙ z) two.1);
@@ -166,7 +169,7 @@ module _ (limit : Option ℕ) (m : Model) (ls : List (Option ℚ × Option ℚ))
       two : IsSecond r w F f.cost (bounds_of t) u
       two =
           second_phase limit f r w F first_cost_at
-          (bounds_of t) one.tableau u o.after free (omega (arith, cost_length m ls h)) ok
+          (bounds_of t) one.tableau u o.after o.within free (omega (arith, cost_length m ls h)) ok
 
       second_bounds : HasBounds f (bounds_of u)
       second_bounds = record {
@@ -180,7 +183,7 @@ module _ (limit : Option ℕ) (m : Model) (ls : List (Option ℚ × Option ℚ))
 
       end_shows : (e : PrimalEnded) (used : ℕ) → IsEnd limit r w F (cost_at f.cost) (bounds_of u) u used e →
           Shows m (certificate_at e.tableau e.end)
-      end_shows e used d = primal_shows m ls h (signs_of s.starts) (bounds_of u) second_bounds second_fixed limit e d.after d.end
+      end_shows e used d = primal_shows m ls h (signs_of s.starts) (bounds_of u) second_bounds second_fixed limit e d.after d.within d.end
 
   -- ---- both phases
   pub phases_show : (budget : ℕ) (end : PhasesEnd) → phases_run limit budget f ≡ Ok end → Shows m (certificate_of end)
@@ -207,7 +210,7 @@ module _ (limit : Option ℕ) (m : Model) (ls : List (Option ℚ × Option ℚ))
           let z : Finished c.0 ≡ end = cc in
           let d =
           run_ends limit r w (F t s) (cost_at f.cost) (bounds_of a.0) some_label
-          (budget - one.used) one.used a.0 c.0 (two t s one o e a.0 p).tableau c.1 in
+          (budget - one.used) one.used a.0 c.0 (two t s one o e a.0 p).tableau (two t s one o e a.0 p).within c.1 in
           subst (λ end. Shows m (certificate_of end)) z (end_shows t s one o e a.0 p c.0 one.used d)
 
   -- the tableau that phase two ends with
@@ -231,7 +234,7 @@ module _ (limit : Option ℕ) (m : Model) (ls : List (Option ℚ × Option ℚ))
       let z : Finished c.0 ≡ end = cc in
       let d =
       run_ends limit r w (F t s) (cost_at f.cost) (bounds_of a.0) some_label
-      (budget - one.used) one.used a.0 c.0 (two t s one o p a.0 q).tableau c.1 in
+      (budget - one.used) one.used a.0 c.0 (two t s one o p a.0 q).tableau (two t s one o p a.0 q).within c.1 in
       subst EndsOn z
       (record { starts = s.starts; bounds = bounds_of a.0; bounded = second_bounds t s one o p a.0 q; after = d.after })
 
@@ -261,7 +264,7 @@ module _ (limit : Option ℕ) (m : Model) (ls : List (Option ℚ × Option ℚ))
       by true ok =
           let q : budget < 3 ^ (w + r + r) =
           few r w (F t s) (first_cost_at t s) (bounds_of t) t budget s.tableau
-          (run_spent limit r w (F t s) (first_cost_at t s) (bounds_of t) some_label budget 0 t s.tableau ok) in
+          (run_spent limit r w (F t s) (first_cost_at t s) (bounds_of t) some_label budget 0 t s.tableau s.within ok) in
           omega (arith, q, enough)
       by false ok =
           let z : ◌≡◌ {A = Result PrimalEnded (RunStop ℚ)}
@@ -284,7 +287,7 @@ module _ (limit : Option ℕ) (m : Model) (ls : List (Option ℚ × Option ℚ))
               let z : IsSecond r w (F t s) f.cost (bounds_of t) u = two t s one o free u p in
               let q : budget - one.used < 3 ^ (w + r + r) =
               few r w (F t s) (cost_at f.cost) (bounds_of u) u (budget - one.used) z.tableau (run_spent limit r w
-              (F t s) (cost_at f.cost) (bounds_of u) some_label (budget - one.used) one.used u z.tableau e) in
+              (F t s) (cost_at f.cost) (bounds_of u) some_label (budget - one.used) one.used u z.tableau z.within e) in
               let x : one.used < 3 ^ (w + r + r) = o.few_used in
               omega (arith, q, x, enough)
           finish (second e p ok) =

@@ -14,7 +14,7 @@ use Rattle.spec_simplex.specs.Start.{cost_at}
 use Rattle.spec_simplex.specs.Tableau.{Tableau, value_at, reduced_at}
 use Rattle.spec_simplex.specs.Phases.{PrimalEnded}
 use Rattle.spec_simplex.proofs.Stops.{length-made}
-use Rattle.spec_path.specs.Tables.{way, table_of, IsTableauOf, IsMeant}
+use Rattle.spec_path.specs.Tables.{way, table_of, IsTableauOf, IsWithinBounds, IsMeant}
 use Rattle.spec_path.specs.Begins.{form_rows}
 use Rattle.spec_cold.specs.Cold.{point, multipliers, moves_by, moves_below, direction, certificate_at}
 use Rattle.spec_path.proofs.Runs.{get_or-made}
@@ -68,21 +68,21 @@ module _ (m : Model) (ls : List (Option ℚ × Option ℚ)) (h : Limited m ls)
   costs = cost_at (formed m ls).cost
 
   pub primal_shows : (limit : Option ℕ) (e : PrimalEnded) → IsTableauOf r w F costs b e.tableau →
-      IsMeant r w F costs b limit e.tableau (End e.end) → Shows m (certificate_at e.tableau e.end)
-  primal_shows limit e after = by e.end
+      IsWithinBounds r w b e.tableau → IsMeant r w F costs b limit e.tableau (End e.end) → Shows m (certificate_at e.tableau e.end)
+  primal_shows limit e after within = by e.end
     where
       by : (end : PrimalEnd) → IsMeant r w F costs b limit e.tableau (End end) → Shows m (certificate_at e.tableau end)
       by Optimal none = record {
         for = (point_length r w F costs b e.tableau after, multipliers_length r w F costs b e.tableau after);
         checks =
-            optimal_checks m ls h signs b bs fixed (table_of e.tableau) after.tableau after.within (point e.tableau)
+            optimal_checks m ls h signs b bs fixed (table_of e.tableau) after.tableau within (point e.tableau)
             (point_length r w F costs b e.tableau after) (point_at r w F costs b e.tableau after)
             (multipliers e.tableau) (multiplier_at r w F costs b e.tableau after) none;
       }
       by (Unbounded j up) g = record {
         for = (point_length r w F costs b e.tableau after, direction_length r w F costs b e.tableau after j up);
         checks =
-            unbounded_checks m ls h signs b bs fixed (table_of e.tableau) after.tableau after.within
+            unbounded_checks m ls h signs b bs fixed (table_of e.tableau) after.tableau within
             (way up) j g (point e.tableau) (direction e.tableau j up)
             (point_length r w F costs b e.tableau after) (point_at r w F costs b e.tableau after)
             (λ k l. direction_at r w F costs b e.tableau after j up k l

@@ -28,7 +28,7 @@ use Rattle.spec_simplex.specs.Start.{with_reduced, cost_at, first_cost, first_co
 use Rattle.spec_simplex.specs.Tableau.{Tableau, basic_at, entry_at, value_at, reduced_at}
 use Rattle.spec_simplex.specs.Tableau.{status_at, lower_at, upper_at, or_zero, stand}
 use Rattle.spec_simplex.proofs.Stops.{length-made}
-use Rattle.spec_path.specs.Tables.{bounds_of, IsWhole, KeepsBounds, IsTableauOf}
+use Rattle.spec_path.specs.Tables.{bounds_of, IsWhole, KeepsBounds, IsTableauOf, IsWithinBounds}
 use Rattle.spec_path.specs.Begins.{form_rows, signs_of, IsProper, Begins}
 use Rattle.spec_path.proofs.Runs.{then_ok, IsListOf, list_ok, get_or-made}
 use Rattle.spec_path.proofs.Lists.{by_lt, past_row}
@@ -402,8 +402,8 @@ module _ (f : Form) (proper : IsProper f) (starts : List (RowStart ℚ)) (all : 
       subst (λ l. IsInside l (upper_at t k) (value_at t k)) (sym c)
       (subst (λ u. IsInside l u (value_at t k)) (sym d) (subst (IsInside l u) (sym e) h))
 
-  inside : (k : ℕ) → k < n → InsideAt k
-  inside k h =
+  pub begun_within : IsWithinBounds f.rows f.cols (bounds_of t) t
+  begun_within k h =
       by_column_kind InsideAt k h
       (λ l. inside_by k (form_lower f k) (form_upper f k) (first_value f k)
       (lower_before k (omega (arith, l))) (upper_before k (omega (arith, l))) (value_structural k l)
@@ -524,7 +524,6 @@ module _ (f : Form) (proper : IsProper f) (starts : List (RowStart ℚ)) (all : 
           stands = stands;
           solves = solves;
         };
-    within = inside;
     bounds = keeps;
   }
 
@@ -549,6 +548,7 @@ module _ (f : Form) (proper : IsProper f) (starts : List (RowStart ℚ)) (all : 
 pub record Started (f : Form) (t : Tableau) : Type 0 where
   pub starts : List (RowStart ℚ)
   pub tableau : IsTableauOf f.rows f.cols (form_rows f (signs_of starts)) (cost_at (first_costs f starts)) (bounds_of t) t
+  pub within : IsWithinBounds f.rows f.cols (bounds_of t) t
   pub all : length starts ≡ f.rows
   pub lower : (k : ℕ) → k < f.cols + f.rows → lower_at t k ≡ form_lower f k
   pub upper : (k : ℕ) → k < f.cols + f.rows → upper_at t k ≡ form_upper f k
@@ -570,6 +570,7 @@ start_is_tableau limit f t proper h =
     subst (Started f) z (record {
       starts = o.0;
       tableau = begun_is f proper o.0 l.all begins p.0 limit p.1;
+      within = begun_within f proper o.0 l.all begins p.0;
       all = l.all;
       lower = lower_before f proper o.0 l.all begins p.0;
       upper = upper_before f proper o.0 l.all begins p.0;
@@ -579,4 +580,5 @@ start_is_tableau limit f t proper h =
 
 pub start_begins : (limit : Option ℕ) (f : Form) (t : Tableau) → IsProper f → start_of limit f ≡ Ok t → Begins f t
 start_begins limit f t proper h =
-    let s : Started f t = start_is_tableau limit f t proper h in record { starts = s.starts; tableau = s.tableau }
+    let s : Started f t = start_is_tableau limit f t proper h in
+    record { starts = s.starts; tableau = s.tableau; within = s.within }

@@ -20,7 +20,7 @@ use Rattle.spec_simplex.specs.Start.{cost_at, priced_run, with_reduced}
 use Rattle.spec_simplex.specs.Tableau.{Tableau, form_columns, all_columns, is_artificial, basic_at}
 use Rattle.spec_simplex.specs.Tableau.{entry_at, value_at, reduced_at, status_at, lower_at, upper_at}
 use Rattle.spec_simplex.specs.Phases.{fixed_at_zero, without_artificials, phase_two_run, is_stuck}
-use Rattle.spec_path.specs.Tables.{bounds_of, IsTableauOf}
+use Rattle.spec_path.specs.Tables.{bounds_of, IsTableauOf, IsWithinBounds}
 use Rattle.spec_path.proofs.Runs.{then_ok}
 use Rattle.spec_path.proofs.Lists.{by_lt, past_row}
 use Rattle.spec_path.proofs.Priced.{priced_length, priced_agrees}
@@ -149,11 +149,11 @@ module _ (m n : ℕ) (f : Matrix) (cost : ℕ → ℚ) (b : Bounds) (t : Tableau
           (zero_stands (status_at t k) (b.lower k) (b.upper k) (value_at t k)
           (s.bounds.zero k (after_all k h) (in_all k l)) (zero k h l) (s.tableau.stands k l)))
 
-      inside : (k : ℕ) → k < n + m + m → IsInside (lower_at u k) (upper_at u k) (value_at t k)
-      inside k l =
+      inside : IsWithinBounds m n b t → IsWithinBounds m n (bounds_of u) u
+      inside within k l =
           by_lt k (n + m)
           (λ h. subst₂ (λ x y. IsInside x y (value_at t k)) (sym (lower_same k (before_all k h)))
-          (sym (upper_same k (before_all k h))) (s.within k l))
+          (sym (upper_same k (before_all k h))) (within k l))
           (λ h. subst₂ (λ x y. IsInside x y (value_at t k))
           (sym (read_after t.lower s.whole.all_lower k (after_all k h) (in_all k l)))
           (sym (read_after t.upper s.whole.all_upper k (after_all k h) (in_all k l)))
@@ -184,7 +184,6 @@ module _ (m n : ℕ) (f : Matrix) (cost : ℕ → ℚ) (b : Bounds) (t : Tableau
           stands = stands;
           solves = s.tableau.solves;
         };
-        within = inside;
         bounds = record {
           lower = λ k l. refl;
           upper = λ k l. refl;
@@ -200,27 +199,30 @@ module _ (m n : ℕ) (f : Matrix) (cost : ℕ → ℚ) (b : Bounds) (t : Tableau
 -- what is known of phase two's start
 pub record IsSecond (m n : ℕ) (f : Matrix) (costs : List ℚ) (b : Bounds) (u : Tableau) : Type 0 where
   pub tableau : IsTableauOf m n f (cost_at costs) (bounds_of u) u
+  pub within : IsWithinBounds m n (bounds_of u) u
   pub lower : (k : ℕ) → k < n + m → lower_at u k ≡ b.lower k
   pub upper : (k : ℕ) → k < n + m → upper_at u k ≡ b.upper k
   pub zero : (k : ℕ) → n + m ≤ k → k < n + m + m → (lower_at u k ≡ Some 0ℚ) × (upper_at u k ≡ Some 0ℚ)
 
 pub second_phase : (limit : Option ℕ) (form : Form) (m n : ℕ) (f : Matrix) (cost : ℕ → ℚ) (b : Bounds) (t u : Tableau) →
-    IsTableauOf m n f cost b t → is_stuck t ≡ false
+    IsTableauOf m n f cost b t → IsWithinBounds m n b t → is_stuck t ≡ false
     → length form.cost ≤ n + m + m → phase_two_run limit form t ≡ Ok u → IsSecond m n f form.cost b u
 unfolding phase_two_run
-second_phase limit form m n f cost b t u s free few h =
+second_phase limit form m n f cost b t u s within free few h =
     let o = then_ok (priced_run limit (without_artificials t) form.cost) _ u h in
     let z : with_reduced (without_artificials t) o.0 ≡ u = cc in
+    let zero = not_stuck_zero m n f cost b t s free in
+    let length = priced_length limit (without_artificials t) form.cost o.0 o.1 in
+    let agrees : AgreesWith m f (basic_at t) (cost_at form.cost) (λ k. get_or o.0 k 0ℚ) =
+    subst (λ m. AgreesWith m f (basic_at t) (cost_at form.cost) (λ k. get_or o.0 k 0ℚ)) s.rows
+    (priced_agrees limit (without_artificials t) form.cost o.0 o.1 (omega (arith, few, s.rows, s.cols))
+    (λ i k l q. past_row t.entries i k (all_columns t) (s.whole.whole_rows i l) q) f
+    (subst (λ m. Spans m (entry_at t) f) (sym s.rows) s.tableau.forth)
+    (subst (λ m. IsUnit m (entry_at t) (basic_at t)) (sym s.rows) s.tableau.units)
+    (λ i l. in_all m n f cost b t s (basic_at t i) (s.tableau.in_range i (omega (arith, l, s.rows))))) in
     subst (IsSecond m n f form.cost b) z (record {
-      tableau =
-          second m n f cost b t s o.0 (not_stuck_zero m n f cost b t s free)
-          (priced_length limit (without_artificials t) form.cost o.0 o.1) (cost_at form.cost)
-          (subst (λ m. AgreesWith m f (basic_at t) (cost_at form.cost) (λ k. get_or o.0 k 0ℚ)) s.rows
-          (priced_agrees limit (without_artificials t) form.cost o.0 o.1 (omega (arith, few, s.rows, s.cols))
-          (λ i k l q. past_row t.entries i k (all_columns t) (s.whole.whole_rows i l) q) f
-          (subst (λ m. Spans m (entry_at t) f) (sym s.rows) s.tableau.forth)
-          (subst (λ m. IsUnit m (entry_at t) (basic_at t)) (sym s.rows) s.tableau.units)
-          (λ i l. in_all m n f cost b t s (basic_at t i) (s.tableau.in_range i (omega (arith, l, s.rows))))));
+      tableau = second m n f cost b t s o.0 zero length (cost_at form.cost) agrees;
+      within = inside m n f cost b t s o.0 zero length (cost_at form.cost) agrees within;
       lower = λ k l. lower_same m n f cost b t s o.0 k (before_all m n f cost b t s k l);
       upper = λ k l. upper_same m n f cost b t s o.0 k (before_all m n f cost b t s k l);
       zero =

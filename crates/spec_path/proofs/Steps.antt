@@ -21,7 +21,7 @@ use Rattle.spec_simplex.specs.declared.ends.Choice.TheVariants.{End}
 use Rattle.spec_simplex.specs.Tableau.{Tableau, all_columns, status_at}
 use Rattle.spec_simplex.specs.Step.{entering, directed, other_bound, best_run, choice_at, choice_by}
 use Rattle.spec_simplex.specs.Step.{choice_of, choice_run, flip_way, flip_run, pivot_run}
-use Rattle.spec_path.specs.Tables.{way, table_of, IsWhole, KeepsBounds, IsTableauOf, StepsTo, IsMeant}
+use Rattle.spec_path.specs.Tables.{way, table_of, IsWhole, KeepsBounds, IsTableauOf, IsWithinBounds, StepsTo, IsMeant}
 use Rattle.spec_path.proofs.Runs.{then_ok}
 use Rattle.spec_path.proofs.Enters.{no_entering, an_entering}
 use Rattle.spec_path.proofs.Pivots.{Leaves, pivot_leaves}
@@ -59,9 +59,9 @@ module _ (limit : Option ℕ) (t : Tableau) (w : IsWhole t) (f : Matrix) (cost :
       tableau =
           subst (IsTableau t.rows (all_columns t) f cost b) (sym left.table)
           (step_kept t.rows (all_columns t) f cost b l (table_of t) v g step);
-      within = subst (IsWithin (all_columns t) b) (sym left.table) inside;
       bounds = left.bounds;
     };
+    within = subst (IsWithin (all_columns t) b) (sym left.table) inside;
   }
 
   module _ (e : Entering) (enters : Enters (all_columns t) b (table_of t) (way e.up) e.col) where
@@ -141,10 +141,11 @@ module _ (limit : Option ℕ) (t : Tableau) (w : IsWhole t) (f : Matrix) (cost :
 
 pub choice_is_meant : (limit : Option ℕ) (m n : ℕ) (f : Matrix)
     (cost : ℕ → ℚ) (b : Bounds) (t : Tableau) (choice : Choice ℚ) →
-    IsTableauOf m n f cost b t → choice_run limit t ≡ Ok choice → IsMeant m n f cost b limit t choice
-choice_is_meant limit m n f cost b t choice s h =
+    IsTableauOf m n f cost b t → IsWithinBounds m n b t → choice_run limit t ≡ Ok choice →
+    IsMeant m n f cost b limit t choice
+choice_is_meant limit m n f cost b t choice s inside h =
     subst₂ (λ m n. IsMeant m n f cost b limit t choice) s.rows s.cols
     (chosen limit t s.whole f cost b
     (subst₂ (λ m n. IsTableau m (n + m + m) f cost b (table_of t)) (sym s.rows) (sym s.cols) s.tableau)
-    (subst₂ (λ m n. IsWithin (n + m + m) b (table_of t)) (sym s.rows) (sym s.cols) s.within)
+    (subst₂ (λ m n. IsWithin (n + m + m) b (table_of t)) (sym s.rows) (sym s.cols) inside)
     s.bounds choice h)

@@ -13,7 +13,7 @@ use Rattle.spec_simplex.specs.Run.{Run, ◌>>=◌, refused_as}
 use Rattle.spec_simplex.specs.Tableau.{Tableau}
 use Rattle.spec_simplex.specs.Step.{choice_run, flip_run, pivot_run}
 use Rattle.spec_simplex.specs.Phases.{PrimalEnded, end_or_spent, end_or_next, run_from}
-use Rattle.spec_path.specs.Tables.{table_of, IsTableauOf, StepsTo, IsMeant}
+use Rattle.spec_path.specs.Tables.{table_of, IsTableauOf, IsWithinBounds, StepsTo, IsMeant}
 use Rattle.spec_path.proofs.Runs.{then_ok, refused_ok}
 use Rattle.spec_path.proofs.Steps.{choice_is_meant}
 
@@ -78,6 +78,7 @@ few m n f cost b t length s w =
 pub record IsEnd (limit : Option ℕ) (m n : ℕ) (f : Matrix) (cost : ℕ → ℚ)
     (b : Bounds) (t : Tableau) (used : ℕ) (e : PrimalEnded) : Type 0 where
   pub after : IsTableauOf m n f cost b e.tableau
+  pub within : IsWithinBounds m n b e.tableau
   pub end : IsMeant m n f cost b limit e.tableau (End e.end)
   pub length : ℕ
   pub count : e.used ≡ used + length
@@ -85,18 +86,19 @@ pub record IsEnd (limit : Option ℕ) (m n : ℕ) (f : Matrix) (cost : ℕ → �
 
 module _ (limit : Option ℕ) (m n : ℕ) (f : Matrix) (cost : ℕ → ℚ) (b : Bounds) (l : Label) where
   ends_here : (t : Tableau) (used : ℕ) (e : PrimalEnded) (choice : Choice ℚ) → IsTableauOf m n f cost b t →
-      choice_run limit t ≡ Ok choice → end_or_spent t used choice ≡ Ok e → IsEnd limit m n f cost b t used e
-  ends_here t used e (End end) s c h =
+      IsWithinBounds m n b t → choice_run limit t ≡ Ok choice → end_or_spent t used choice ≡ Ok e → IsEnd limit m n f cost b t used e
+  ends_here t used e (End end) s i c h =
       let z : ◌≡◌ {A = PrimalEnded} (record { end = end; tableau = t; used = used }) e = cc in
       subst (IsEnd limit m n f cost b t used) z (record {
         after = s;
-        end = choice_is_meant limit m n f cost b t (End end) s c;
+        within = i;
+        end = choice_is_meant limit m n f cost b t (End end) s i c;
         length = 0;
         count = omega arith;
         walk = stand_still m n b t l;
       })
-  ends_here t used e (Flip j) s c h = let z : ◌≡◌ {A = Result PrimalEnded (RunStop ℚ)} (Err stop.Spent) (Ok e) = h in cc
-  ends_here t used e (Pivot p j theta to) s c h =
+  ends_here t used e (Flip j) s i c h = let z : ◌≡◌ {A = Result PrimalEnded (RunStop ℚ)} (Err stop.Spent) (Ok e) = h in cc
+  ends_here t used e (Pivot p j theta to) s i c h =
       let z : ◌≡◌ {A = Result PrimalEnded (RunStop ℚ)} (Err stop.Spent) (Ok e) = h in cc
 
   on_from : (t u : Tableau) (used : ℕ) (e : PrimalEnded) → StepsTo m n f cost b t u →
@@ -104,6 +106,7 @@ module _ (limit : Option ℕ) (m n : ℕ) (f : Matrix) (cost : ℕ → ℚ) (b :
   on_from t u used e step r =
       record {
         after = r.after;
+        within = r.within;
         end = r.end;
         length = suc r.length;
         count = omega (arith, r.count);
@@ -111,57 +114,57 @@ module _ (limit : Option ℕ) (m n : ℕ) (f : Matrix) (cost : ℕ → ℚ) (b :
       }
 
   pub run_ends : (left used : ℕ) (t : Tableau) (e : PrimalEnded) → IsTableauOf m n f cost b t →
-      run_from limit left used t ≡ Ok e → IsEnd limit m n f cost b t used e
+      IsWithinBounds m n b t → run_from limit left used t ≡ Ok e → IsEnd limit m n f cost b t used e
   unfolding run_from
-  run_ends zero used t e s h =
+  run_ends zero used t e s i h =
       let o = then_ok (refused_as stop.Past (choice_run limit t)) (end_or_spent t used) e h in
-      ends_here t used e o.0 s (refused_ok stop.Past (choice_run limit t) o.0 o.1) o.2
-  run_ends (suc left) used t e s h =
+      ends_here t used e o.0 s i (refused_ok stop.Past (choice_run limit t) o.0 o.1) o.2
+  run_ends (suc left) used t e s i h =
       let o =
       then_ok (refused_as stop.Past (choice_run limit t))
       (end_or_next limit t used (λ u. run_from limit left (used + 1) u)) e h in
-      go o.0 (refused_ok stop.Past (choice_run limit t) o.0 o.1) o.2 (λ u q g. run_ends left (used + 1) u e q g)
+      go o.0 (refused_ok stop.Past (choice_run limit t) o.0 o.1) o.2 (λ u q r g. run_ends left (used + 1) u e q r g)
     where
       go : (choice : Choice ℚ) → choice_run limit t ≡ Ok choice →
           end_or_next limit t used (λ u. run_from limit left (used + 1) u) choice ≡ Ok e
-          → ((u : Tableau) → IsTableauOf m n f cost b u → run_from limit left (used + 1) u ≡ Ok e →
+          → ((u : Tableau) → IsTableauOf m n f cost b u → IsWithinBounds m n b u → run_from limit left (used + 1) u ≡ Ok e →
           IsEnd limit m n f cost b u (used + 1) e) → IsEnd limit m n f cost b t used e
-      go (End end) c h more = ends_here t used e (End end) s c h
+      go (End end) c h more = ends_here t used e (End end) s i c h
       go (Flip j) c h more =
           let o = then_ok (refused_as stop.Past (flip_run limit t j)) (λ u. run_from limit left (used + 1) u) e h in
           let step : StepsTo m n f cost b t o.0 =
-          choice_is_meant limit m n f cost b t (Flip j) s c o.0 (refused_ok stop.Past (flip_run limit t j) o.0 o.1) in
-          on_from t o.0 used e step (more o.0 step.after o.2)
+          choice_is_meant limit m n f cost b t (Flip j) s i c o.0 (refused_ok stop.Past (flip_run limit t j) o.0 o.1) in
+          on_from t o.0 used e step (more o.0 step.after step.within o.2)
       go (Pivot p j theta to) c h more =
           let o =
           then_ok (refused_as stop.Past (pivot_run limit t p j theta to)) (λ u. run_from limit left (used + 1) u) e h in
           let step : StepsTo m n f cost b t o.0 =
-          choice_is_meant limit m n f cost b t (Pivot p j theta to) s c o.0
+          choice_is_meant limit m n f cost b t (Pivot p j theta to) s i c o.0
           (refused_ok stop.Past (pivot_run limit t p j theta to) o.0 o.1) in
-          on_from t o.0 used e step (more o.0 step.after o.2)
+          on_from t o.0 used e step (more o.0 step.after step.within o.2)
 
   -- where the budget is spent, as many steps were made as it has
-  pub run_spent : (left used : ℕ) (t : Tableau) → IsTableauOf m n f cost b t →
+  pub run_spent : (left used : ℕ) (t : Tableau) → IsTableauOf m n f cost b t → IsWithinBounds m n b t →
       run_from limit left used t ≡ Err stop.Spent → Walk m n b t left
   unfolding run_from
-  run_spent zero used t s h = stand_still m n b t l
-  run_spent (suc left) used t s h =
+  run_spent zero used t s i h = stand_still m n b t l
+  run_spent (suc left) used t s i h =
       by (then_err (refused_as stop.Past (choice_run limit t))
       (end_or_next limit t used (λ u. run_from limit left (used + 1) u)) stop.Spent h)
-      (λ u q g. run_spent left (used + 1) u q g)
+      (λ u q r g. run_spent left (used + 1) u q r g)
     where
       made : (o : Run Tableau) → ((u : Tableau) → o ≡ Ok u → StepsTo m n f cost b t u) →
           ThenErr (refused_as stop.Past o) (λ u. run_from limit left (used + 1) u) stop.Spent
-          → ((u : Tableau) → IsTableauOf m n f cost b u →
+          → ((u : Tableau) → IsTableauOf m n f cost b u → IsWithinBounds m n b u →
           run_from limit left (used + 1) u ≡ Err stop.Spent → Walk m n b u left) → Walk m n b t (suc left)
       made o steps (first e) more = absurd (never_spent o e)
       made o steps (second u e g) more =
           let step : StepsTo m n f cost b t u = steps u (refused_ok stop.Past o u e) in
-          step_first m n b t u left step.label step.step (more u step.after g)
+          step_first m n b t u left step.label step.step (more u step.after step.within g)
 
       go : (choice : Choice ℚ) → choice_run limit t ≡ Ok choice →
           end_or_next limit t used (λ u. run_from limit left (used + 1) u) choice ≡ Err stop.Spent
-          → ((u : Tableau) → IsTableauOf m n f cost b u →
+          → ((u : Tableau) → IsTableauOf m n f cost b u → IsWithinBounds m n b u →
           run_from limit left (used + 1) u ≡ Err stop.Spent → Walk m n b u left) → Walk m n b t (suc left)
       go (End end) c h more =
           let z : ◌≡◌ {A = Result PrimalEnded (RunStop ℚ)}
@@ -169,17 +172,17 @@ module _ (limit : Option ℕ) (m n : ℕ) (f : Matrix) (cost : ℕ → ℚ) (b :
           h in
           cc
       go (Flip j) c h more =
-          made (flip_run limit t j) (choice_is_meant limit m n f cost b t (Flip j) s c)
+          made (flip_run limit t j) (choice_is_meant limit m n f cost b t (Flip j) s i c)
           (then_err (refused_as stop.Past (flip_run limit t j)) (λ u. run_from limit left (used + 1) u) stop.Spent h)
           more
       go (Pivot p j theta to) c h more =
-          made (pivot_run limit t p j theta to) (choice_is_meant limit m n f cost b t (Pivot p j theta to) s c)
+          made (pivot_run limit t p j theta to) (choice_is_meant limit m n f cost b t (Pivot p j theta to) s i c)
           (then_err (refused_as stop.Past (pivot_run limit t p j theta to))
           (λ u. run_from limit left (used + 1) u) stop.Spent h) more
 
       by : ThenErr (refused_as stop.Past (choice_run limit t))
           (end_or_next limit t used (λ u. run_from limit left (used + 1) u)) stop.Spent
-          → ((u : Tableau) → IsTableauOf m n f cost b u →
+          → ((u : Tableau) → IsTableauOf m n f cost b u → IsWithinBounds m n b u →
           run_from limit left (used + 1) u ≡ Err stop.Spent → Walk m n b u left) → Walk m n b t (suc left)
       by (first e) more = absurd (never_spent (choice_run limit t) e)
       by (second choice e g) more = go choice (refused_ok stop.Past (choice_run limit t) choice e) g more

@@ -6,7 +6,7 @@ use Rattle.spec_simplex.specs.declared.ends.RowStart.{RowStart}
 use Rattle.spec_simplex.specs.Form.{Form, form_entry, form_lower, form_upper}
 use Rattle.spec_simplex.specs.Start.{start_at, logical_sign, by_column, cost_at, first_costs}
 use Rattle.spec_simplex.specs.Tableau.{Tableau}
-use Rattle.spec_path.specs.Tables.{bounds_of, IsTableauOf}
+use Rattle.spec_path.specs.Tables.{bounds_of, IsTableauOf, IsWithinBounds}
 
 -- row r says that its logical, less the row's sum, and its artificial with this sign make 0
 abbrev pub form_rows : Form → (ℕ → ℚ) → Matrix
@@ -26,3 +26,4 @@ pub record IsProper (f : Form) : Type 0 where
 pub record Begins (f : Form) (t : Tableau) : Type 0 where
   pub starts : List (RowStart ℚ)
   pub tableau : IsTableauOf f.rows f.cols (form_rows f (signs_of starts)) (cost_at (first_costs f starts)) (bounds_of t) t
+  pub within : IsWithinBounds f.rows f.cols (bounds_of t) t

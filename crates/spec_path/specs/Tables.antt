@@ -48,20 +48,24 @@ pub record KeepsBounds (b : Bounds) (t : Tableau) : Type 0 where
   pub basic : (k : ℕ) → k < all_columns t → status_at t k ≡ Basic → upper_at t k ≡ b.upper k
   pub fixed : (k : ℕ) → form_columns t ≤ k → k < all_columns t → ¬ (status_at t k ≡ Basic) → upper_at t k ≡ Some 0ℚ
 
--- a tableau of m positions, n columns of the model and these rows, costs and bounds, with each value within its bounds
+-- a tableau of m positions, n columns of the model and these rows, costs and bounds
 pub record IsTableauOf (m n : ℕ) (f : Matrix) (cost : ℕ → ℚ) (b : Bounds) (t : Tableau) : Type 0 where
   pub rows : t.rows ≡ m
   pub cols : t.cols ≡ n
   pub whole : IsWhole t
   pub tableau : IsTableau m (n + m + m) f cost b (table_of t)
-  pub within : IsWithin (n + m + m) b (table_of t)
   pub bounds : KeepsBounds b t
 
--- a step by the rule leads from one tableau to another of the same rows, costs and bounds
+-- each value of the tableau is within these bounds
+abbrev pub IsWithinBounds : ℕ → ℕ → Bounds → Tableau → Type 0
+IsWithinBounds m n b t = IsWithin (n + m + m) b (table_of t)
+
+-- a step by the rule leads from one tableau to another of the same rows, costs and bounds, with each value within these
 pub record StepsTo (m n : ℕ) (f : Matrix) (cost : ℕ → ℚ) (b : Bounds) (t u : Tableau) : Type 0 where
   pub label : Label
   pub step : IsStep m (n + m + m) b label (table_of t) (table_of u)
   pub after : IsTableauOf m n f cost b u
+  pub within : IsWithinBounds m n b u
 
 -- no column is eligible; a column enters and is never stopped; or what the flip or the pivot gives is a step away
 abbrev pub IsMeant : ℕ → ℕ → Matrix → (ℕ → ℚ) → Bounds → Option ℕ → Tableau → Choice ℚ → Type 0

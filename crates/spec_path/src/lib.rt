@@ -3,7 +3,7 @@
 //! | Item | What it is | Where |
 //! |---|---|---|
 //! | `table_of`, `bounds_of` | a tableau of lists, by the numbers of positions and columns | specs/Tables |
-//! | `IsTableauOf` | a tableau of these rows, costs and bounds, with each value within its bounds | specs/Tables |
+//! | `IsTableauOf`, `IsWithinBounds` | a tableau of these rows, costs and bounds; that each value is within them | specs/Tables |
 //! | `IsMeant` | what a choice of the run means for a tableau | specs/Tables |
 //! | `form_rows`, `IsProper`, `Begins` | a form's equations, and the tableau that it begins with | specs/Begins |
 //!
@@ -25,7 +25,7 @@ ghost use Rattle.spec_simplex.specs.Tableau.{Tableau};
 ghost use Rattle.spec_simplex.specs.Start.{cost_at, start_of};
 ghost use Rattle.spec_simplex.specs.Step.{choice_run};
 ghost use Rattle.spec_simplex.specs.Phases.{is_stuck, phase_two_run};
-ghost use Rattle.spec_path.specs.Tables.{bounds_of, IsTableauOf, IsMeant};
+ghost use Rattle.spec_path.specs.Tables.{bounds_of, IsTableauOf, IsWithinBounds, IsMeant};
 ghost use Rattle.spec_path.specs.Begins.{IsProper, Begins};
 
 /// A choice of the run means what the rule of the least index says: its flips and pivots are steps by the rule to
@@ -33,7 +33,8 @@ ghost use Rattle.spec_path.specs.Begins.{IsProper, Begins};
 /// or the one that enters is never stopped.
 pub fn steps_mean_pivots()
     ensures { (limit : Option ℕ) (m n : ℕ) (f : Matrix) (cost : ℕ → ℚ) (b : Bounds) (t : Tableau) (choice : Choice ℚ) →
-        IsTableauOf m n f cost b t → choice_run limit t ≡ Ok choice → IsMeant m n f cost b limit t choice }
+        IsTableauOf m n f cost b t → IsWithinBounds m n b t → choice_run limit t ≡ Ok choice →
+        IsMeant m n f cost b limit t choice }
 {}
 
 /// The form of a model begins with a tableau of the form's equations, with each value within its bounds.
@@ -46,7 +47,7 @@ pub fn starts_are_tableaus()
 /// costs, with each value within its bounds.
 pub fn phase_two_goes_on()
     ensures { (limit : Option ℕ) (form : Form) (m n : ℕ) (f : Matrix) (cost : ℕ → ℚ) (b : Bounds) (t u : Tableau) →
-        IsTableauOf m n f cost b t → is_stuck t ≡ false →
+        IsTableauOf m n f cost b t → IsWithinBounds m n b t → is_stuck t ≡ false →
         length form.cost ≤ n + m + m → phase_two_run limit form t ≡ Ok u →
-        IsTableauOf m n f (cost_at form.cost) (bounds_of u) u }
+        IsTableauOf m n f (cost_at form.cost) (bounds_of u) u × IsWithinBounds m n (bounds_of u) u }
 {}

@@ -23,7 +23,7 @@ use Rattle.spec_simplex.specs.Start.{cost_at, first_cost, first_costs, priced_ru
 use Rattle.spec_simplex.specs.Tableau.{Tableau, is_artificial, basic_at, value_at}
 use Rattle.spec_simplex.specs.Phases.{PrimalEnded, run_from, without_artificials, phase_two_run, wants_phase_one}
 use Rattle.spec_simplex.specs.Phases.{is_stuck, phase_one, phase_two, PhasesEnd, Infeasible, Finished, phases_run}
-use Rattle.spec_path.specs.Tables.{bounds_of, IsTableauOf}
+use Rattle.spec_path.specs.Tables.{bounds_of, IsTableauOf, IsWithinBounds}
 use Rattle.spec_path.specs.Begins.{form_rows, signs_of, IsProper}
 use Rattle.spec_cold.specs.Cold.{multipliers, basis_at, certificate_at}
 use Rattle.spec_path.proofs.Runs.{then_ok, IsListOf, list_ok, get_or-made}
@@ -31,7 +31,7 @@ use Rattle.spec_path.proofs.Refusals.{agrees_list}
 use Rattle.spec_path.proofs.LimitStart.{row_start_agrees, priced_agrees}
 use Rattle.spec_path.proofs.LimitPhases.{two_agrees}
 use Rattle.spec_path.proofs.RowStarts.{RowBegins, first_sum, start_is}
-use Rattle.spec_path.proofs.Begun.{begun_is}
+use Rattle.spec_path.proofs.Begun.{begun_is, begun_within}
 use Rattle.spec_path.proofs.PhaseTwo.{some_of, second_phase}
 use Rattle.spec_factor.specs.Factors.{Pair, column_entry}
 use Rattle.spec_factor.specs.Basis.{IsPair, StandsFor, basis_of}
@@ -104,6 +104,7 @@ module _ (f : Form) (starts : List (RowStart ℚ)) (costs : HasCosts f) (budget 
     costs_there : ℕ → ℚ
     bounds : Bounds
     after : IsTableauOf f.rows f.cols (form_rows f (signs_of starts)) costs_there bounds e.tableau
+    within : IsWithinBounds f.rows f.cols bounds e.tableau
     used : o.used ≡ e.used
     goes : GoesWith f e.tableau o.state
     stuck : is_stuck e.tableau ≡ true → negatives o.state.bare.rows o.selection.multipliers ≡ multipliers e.tableau
@@ -144,10 +145,10 @@ module _ (f : Form) (starts : List (RowStart ℚ)) (costs : HasCosts f) (budget 
       let a = there_is (phase_two_run None f e.tableau) (two_agrees None f e.tableau) in
       let second =
       second_phase None f f.rows f.cols
-      (form_rows f (signs_of starts)) h.costs_there h.bounds e.tableau a.0 h.after free few a.1 in
+      (form_rows f (signs_of starts)) h.costs_there h.bounds e.tableau a.0 h.after h.within free few a.1 in
       let goes : GoesWith f a.0 (second_state o.state) = next_goes e o h a.0 a.1 in
       by a.0 (run_same f starts f.cost (bounds_of a.0) few costs.free
-      (budget - e.used) e.used a.0 (second_state o.state) second.tableau goes)
+      (budget - e.used) e.used a.0 (second_state o.state) (second.tableau, second.within) goes)
       ∙ sym (ap (λ r. answer_in
       (refused_as stop.Past r >>= λ t. run_from None (budget - e.used) e.used t >>= λ two. Ok (Finished two))) a.1)
     where
@@ -186,7 +187,7 @@ module _ (f : Form) (starts : List (RowStart ℚ)) (costs : HasCosts f) (budget 
   -- ---- both phases, from a start
   module _ (all : length starts ≡ f.rows) (b : Bounds) (t : Tableau)
       (st : IsTableauOf f.rows f.cols (form_rows f (signs_of starts)) (cost_at (first_costs f starts)) b t)
-      (s : Revised) (g : GoesWith f t s) where
+      (inside : IsWithinBounds f.rows f.cols b t) (s : Revised) (g : GoesWith f t s) where
     first_few : length (first_costs f starts) ≤ f.cols + f.rows + f.rows
     first_few =
         omega (
@@ -221,7 +222,8 @@ module _ (f : Form) (starts : List (RowStart ℚ)) (costs : HasCosts f) (budget 
             ∙ first_same e o (record {
               costs_there = cost_at (first_costs f starts);
               bounds = b;
-              after = z.after;
+              after = z.after.0;
+              within = z.after.1;
               used = z.used;
               goes = z.goes;
               stuck = λ _. z.multipliers;
@@ -235,13 +237,14 @@ module _ (f : Form) (starts : List (RowStart ℚ)) (costs : HasCosts f) (budget 
             (Ok (record { end = Optimal; state = s; selection = nothing_seen s; used = 0 })) >>= λ one. after_over one)
             ≡ answer_in (cond c (run_from None budget 0 t) (Ok (record { end = Optimal; tableau = t; used = 0 })) >>=
             λ one. after_first one)
-        by true e = wanted (run_same f starts (first_costs f starts) b first_few first_free budget 0 t s st g)
+        by true e = wanted (run_same f starts (first_costs f starts) b first_few first_free budget 0 t s (st, inside) g)
         by false e =
             first_same (record { end = Optimal; tableau = t; used = 0 })
             (record { end = Optimal; state = s; selection = nothing_seen s; used = 0 }) (record {
               costs_there = cost_at (first_costs f starts);
               bounds = b;
               after = st;
+              within = inside;
               used = refl;
               goes = g;
               stuck = λ z. let y : true ≡ false = sym (wants_where_stuck t z) ∙ e in cc;
@@ -312,7 +315,8 @@ module _ (f : Form) (proper : IsProper f) (costs : HasCosts f) where
       ap (λ r. refused_as stop.Past r >>= λ starts. refactor_run None f (bare_of (begun f starts)) >>=
       λ s. over_phases None budget f starts s) a.1
       ∙ ap (λ r. r >>= λ s. over_phases None budget f starts s) s.1
-      ∙ phases_same f starts costs budget l.all (bounds_of t) t st s.0 s.2
+      ∙ phases_same f starts costs budget l.all (bounds_of t) t st
+      (begun_within f proper starts l.all begins c.0) s.0 s.2
       ∙ sym (ap
       (λ r. answer_in (refused_as stop.Past (r >>= λ starts. priced_run None (begun f starts) (first_costs f starts) >>=
       λ reduced. Ok (with_reduced (begun f starts) reduced)) >>= λ t. phase_one None budget t >>=

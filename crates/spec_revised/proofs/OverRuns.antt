@@ -15,7 +15,7 @@ use Rattle.spec_simplex.specs.Start.{cost_at}
 use Rattle.spec_simplex.specs.Tableau.{Tableau}
 use Rattle.spec_simplex.specs.Step.{choice_run, flip_run, pivot_run}
 use Rattle.spec_simplex.specs.Phases.{PrimalEnded, end_or_spent, end_or_next, run_from, done_run}
-use Rattle.spec_path.specs.Tables.{IsTableauOf}
+use Rattle.spec_path.specs.Tables.{IsTableauOf, IsWithinBounds}
 use Rattle.spec_path.specs.Begins.{form_rows, signs_of}
 use Rattle.spec_cold.specs.Cold.{multipliers, certificate_at}
 use Rattle.spec_path.proofs.LimitStart.{choice_agrees, flip_agrees, pivot_agrees}
@@ -35,7 +35,8 @@ module _ (f : Form) (starts : List (RowStart ℚ)) (costs : List ℚ)
     (b : Bounds) (few : length costs ≤ f.cols + f.rows + f.rows)
     (free : (i : ℕ) → i < f.rows → cost_at costs (f.cols + i) ≡ 0ℚ) where
   abbrev Is : Tableau → Type 0
-  Is t = IsTableauOf f.rows f.cols (form_rows f (signs_of starts)) (cost_at costs) b t
+  Is t =
+      IsTableauOf f.rows f.cols (form_rows f (signs_of starts)) (cost_at costs) b t × IsWithinBounds f.rows f.cols b t
 
   -- ---- the same end
   pub record SameEnd (e : PrimalEnded) (o : RevisedEnded) : Type 0 where
@@ -62,18 +63,18 @@ module _ (f : Form) (starts : List (RowStart ℚ)) (costs : List ℚ)
     now = state t basic pairs replaced
 
     abbrev w : Tableau
-    w = W f starts costs b t st few basic pairs g
+    w = W f starts costs b t st.0 few basic pairs g
 
     module _ (c : Choice ℚ) (c_ok : choice_run None t ≡ Ok c) (selection : Selection)
-        (l : SelectionRuns f starts costs b t st few basic pairs g None selection) where
+        (l : SelectionRuns f starts costs b t st.0 few basic pairs g None selection) where
       same : SameChoice t w c selection.choice
       same =
-          same_choice f.rows f.cols (form_rows f (signs_of starts)) (cost_at costs) b t w st
-          (W_is f starts costs b t st few basic pairs g) (λ k _. refl) None None c selection.choice c_ok l.choice
+          same_choice f.rows f.cols (form_rows f (signs_of starts)) (cost_at costs) b t w st.0
+          (W_is f starts costs b t st.0 few basic pairs g) (λ k _. refl) None None c selection.choice c_ok l.choice
 
       sees : (d : Choice ℚ) → selection.choice ≡ d →
-          SeesFor f starts costs b t st few basic pairs g None d selection.tableau
-      sees d e = subst (λ d. SeesFor f starts costs b t st few basic pairs g None d selection.tableau) e l.sees
+          SeesFor f starts costs b t st.0 few basic pairs g None d selection.tableau
+      sees d e = subst (λ d. SeesFor f starts costs b t st.0 few basic pairs g None d selection.tableau) e l.sees
 
       at_end : (used : ℕ) (end : PrimalEnd) → c ≡ End end → selection.choice ≡ End end
           → Both (Ok (record { end = end; tableau = t; used = used }))
@@ -86,9 +87,9 @@ module _ (f : Form) (starts : List (RowStart ℚ)) (costs : List ℚ)
             used = refl;
             goes = record { basic = basic; pairs = pairs; replaced = replaced; same = refl; places = g };
             certificate =
-                certificate_same f starts costs b t st few free basic pairs g selection end l (c_ok ∙ ap Ok e) d;
+                certificate_same f starts costs b t st.0 st.1 few free basic pairs g selection end l (c_ok ∙ ap Ok e) d;
             multipliers =
-                negatives_are f starts costs b t st few free basic pairs g selection.multipliers l.multipliers;
+                negatives_are f starts costs b t st.0 st.1 few free basic pairs g selection.multipliers l.multipliers;
           })
 
       -- where no budget is left
@@ -107,7 +108,7 @@ module _ (f : Form) (starts : List (RowStart ℚ)) (costs : List ℚ)
       refreshed u s su h = by (nat_eq s.replaced replacements)
         where
           by : (test : Bool) → (v : Revised) × (cond test (refactor_run None f s.bare) (Ok s) ≡ Ok v) × GoesWith f u v
-          by true = refactored_goes f u s su.rows su.cols h
+          by true = refactored_goes f u s su.0.rows su.0.cols h
           by false = (s, refl, h)
 
       -- with one more step
@@ -120,11 +121,13 @@ module _ (f : Form) (starts : List (RowStart ℚ)) (costs : List ℚ)
           after : (u : Tableau) (d : Choice ℚ) → c ≡ d → done_run None t d ≡ Ok u → Is u
           after u (End end) e h = let z : t ≡ u = cc in subst Is z st
           after u (Flip j) e h =
-              (choice_is_meant None f.rows f.cols (form_rows f (signs_of starts))
-              (cost_at costs) b t (Flip j) st (c_ok ∙ ap Ok e) u h).after
+              let o =
+              choice_is_meant None f.rows f.cols (form_rows f (signs_of starts))
+              (cost_at costs) b t (Flip j) st.0 st.1 (c_ok ∙ ap Ok e) u h in (o.after, o.within)
           after u (Pivot p j theta to) e h =
-              (choice_is_meant None f.rows f.cols (form_rows f (signs_of starts))
-              (cost_at costs) b t (Pivot p j theta to) st (c_ok ∙ ap Ok e) u h).after
+              let o =
+              choice_is_meant None f.rows f.cols (form_rows f (signs_of starts))
+              (cost_at costs) b t (Pivot p j theta to) st.0 st.1 (c_ok ∙ ap Ok e) u h in (o.after, o.within)
 
           by : (d : Choice ℚ) → c ≡ d → SameChoice t w d selection.choice →
               Both (end_or_next None t used r d) (over_or_next None f now used q selection selection.choice)
@@ -134,8 +137,8 @@ module _ (f : Form) (starts : List (RowStart ℚ)) (costs : List ℚ)
               let a = there_is (flip_run None t j) (flip_agrees None t j) in
               let su : Is a.0 = after a.0 (Flip j) e a.1 in
               let o =
-              flip_goes f starts costs b t st few basic pairs g replaced j selection.tableau
-              (sees (Flip j) s) (l.choice ∙ ap Ok s) (Flip j) a.0 refl (c_ok ∙ ap Ok e) a.1 su in
+              flip_goes f starts costs b t st.0 st.1 few basic pairs g replaced j selection.tableau
+              (sees (Flip j) s) (l.choice ∙ ap Ok s) (Flip j) a.0 refl (c_ok ∙ ap Ok e) a.1 su.0 in
               both_as _ _ _ _
               (ap (λ x. refused_as stop.Past x >>= r) a.1)
               (ap (over_or_next None f now used q selection) s ∙ ap (λ x. refused_as stop.Past x >>= q) o.1)
@@ -144,9 +147,9 @@ module _ (f : Form) (starts : List (RowStart ℚ)) (costs : List ℚ)
               let a = there_is (pivot_run None t p j theta to) (pivot_agrees None t p j theta to) in
               let su : Is a.0 = after a.0 (Pivot p j theta to) e a.1 in
               let o =
-              pivot_goes f starts costs b t st few basic pairs g replaced s.0 j theta to selection.tableau
+              pivot_goes f starts costs b t st.0 st.1 few basic pairs g replaced s.0 j theta to selection.tableau
               (sees (Pivot s.0 j theta to) s.3) (l.choice ∙ ap Ok s.3) (Pivot p j theta to) a.0
-              (s.0, s.1, s.2, refl) (c_ok ∙ ap Ok e) a.1 su in
+              (s.0, s.1, s.2, refl) (c_ok ∙ ap Ok e) a.1 su.0 in
               let v = refreshed a.0 o.0 su o.2 in
               both_as _ _ _ _
               (ap (λ x. refused_as stop.Past x >>= r) a.1)
@@ -158,10 +161,10 @@ module _ (f : Form) (starts : List (RowStart ℚ)) (costs : List ℚ)
     chosen = there_is (choice_run None t) (choice_agrees None t)
 
     pub selected : (selection : Selection) × (selection_run None f starts costs now ≡ Ok selection)
-        × SelectionRuns f starts costs b t st few basic pairs g None selection
+        × SelectionRuns f starts costs b t st.0 few basic pairs g None selection
     selected =
         let a = there_is (selection_run None f starts costs now) (selection_agrees None f starts costs now) in
-        (a.0, a.1, selection_ok f starts costs b t st few basic pairs g None replaced a.0 a.1)
+        (a.0, a.1, selection_ok f starts costs b t st.0 few basic pairs g None replaced a.0 a.1)
 
   -- ---- all steps
   pub run_same : (left used : ℕ) (t : Tableau) (s : Revised) → Is t → GoesWith f t s →

@@ -27,7 +27,7 @@ use Rattle.spec_simplex.specs.Step.{choice_of, choice_run, is_place, moved_at, m
 use Rattle.spec_simplex.specs.Step.{flipped, flip_run, shifted_run, exchanged, turned, pivot_run}
 use Rattle.spec_simplex.specs.Phases.{done_run}
 use Rattle.spec_simplex.proofs.Stops.{length-made, get_or-made}
-use Rattle.spec_path.specs.Tables.{way, table_of, IsTableauOf}
+use Rattle.spec_path.specs.Tables.{way, table_of, IsTableauOf, IsWithinBounds}
 use Rattle.spec_path.specs.Begins.{form_rows, signs_of}
 use Rattle.spec_path.proofs.Runs.{then_ok}
 use Rattle.spec_path.proofs.Enters.{an_entering}
@@ -72,9 +72,10 @@ pub record ChosenPivot (b : Bounds) (t : Tableau) (p j : ℕ) : Type 0 where
   pub to : Status
   pub pivots : Pivots t.rows (all_columns t) b (table_of t) way j p ratio to
 
-module _ (m n : ℕ) (F : ℕ → ℕ → ℚ) (cost : ℕ → ℚ) (b : Bounds) (t : Tableau) (st : IsTableauOf m n F cost b t) where
+module _ (m n : ℕ) (F : ℕ → ℕ → ℚ) (cost : ℕ → ℚ) (b : Bounds) (t : Tableau) (st : IsTableauOf m n F cost b t)
+    (inside : IsWithinBounds m n b t) where
   own_within : IsWithin (all_columns t) b (table_of t)
-  own_within = subst (λ n. IsWithin n b (table_of t)) (sym (columns_are m n F cost b t st)) st.within
+  own_within = subst (λ n. IsWithin n b (table_of t)) (sym (columns_are m n F cost b t st)) inside
 
   pub chosen_pivot : (limit : Option ℕ) (p j : ℕ) (theta : ℚ) (to : Status) →
       choice_run limit t ≡ Ok (Pivot p j theta to) → ChosenPivot b t p j
@@ -148,7 +149,7 @@ places_as f t u basic pairs e h =
 -- ---- the steps
 module _ (f : Form) (starts : List (RowStart ℚ)) (costs : List ℚ) (b : Bounds)
     (t : Tableau) (st : IsTableauOf f.rows f.cols (form_rows f (signs_of starts)) (cost_at costs) b t)
-    (few : length costs ≤ f.cols + f.rows + f.rows)
+    (inside : IsWithinBounds f.rows f.cols b t) (few : length costs ≤ f.cols + f.rows + f.rows)
     (basic : List ℕ) (pairs : List Pair) (g : Places f t basic pairs) (replaced_before : ℕ) where
   abbrev F : ℕ → ℕ → ℚ
   F = form_rows f (signs_of starts)
@@ -192,7 +193,7 @@ module _ (f : Form) (starts : List (RowStart ℚ)) (costs : List ℚ) (b : Bound
         let o : Flipped None w j u = flip_out None w j u h in
         let to : Status = other_bound (flip_way (status_at w j)) in
         let after : IsTableauOf f.rows f.cols F (cost_at costs) b u =
-        (choice_is_meant None f.rows f.cols F (cost_at costs) b w (Flip j) w_is chosen u h).after in
+        (choice_is_meant None f.rows f.cols F (cost_at costs) b w (Flip j) w_is inside chosen u h).after in
         let seen_j : Tableau = seen starts (bare_with t basic) j sight.column in
         let same : SameColumn seen_j w j = subst (λ v. SameColumn v w j) sight.sight sight.same in
         let run : flip_run None seen_j j ≡ Ok (flipped seen_j j to o.values) =
@@ -229,7 +230,7 @@ module _ (f : Form) (starts : List (RowStart ℚ)) (costs : List ℚ) (b : Bound
       (sight : Sees f starts costs b t st few basic pairs g None j v)
       (chosen : choice_run None w ≡ Ok (Pivot p j theta to)) where
     by_rule : ChosenPivot b w p j
-    by_rule = chosen_pivot f.rows f.cols F (cost_at costs) b w w_is None p j theta to chosen
+    by_rule = chosen_pivot f.rows f.cols F (cost_at costs) b w w_is inside None p j theta to chosen
 
     p_in : p < f.rows
     p_in = subst (λ n. p < n) w_is.rows by_rule.pivots.position
@@ -316,7 +317,7 @@ module _ (f : Form) (starts : List (RowStart ℚ)) (costs : List ℚ) (b : Bound
         let o : Pivoted None w p j theta to u = pivot_out None w p j theta to u h in
         let next : Tableau = exchanged (turned w o.shifted o.rows o.reduced) p j to in
         let after : IsTableauOf f.rows f.cols F (cost_at costs) b u =
-        (choice_is_meant None f.rows f.cols F (cost_at costs) b w (Pivot p j theta to) w_is chosen u h).after in
+        (choice_is_meant None f.rows f.cols F (cost_at costs) b w (Pivot p j theta to) w_is inside chosen u h).after in
         let after' : IsTableauOf f.rows f.cols F (cost_at costs) b next =
         subst (IsTableauOf f.rows f.cols F (cost_at costs) b) (sym o.is) after in
         let replace' : replace_run None t.rows (factors_at now) p j (column_of f j)

@@ -23,7 +23,7 @@ use Rattle.spec_simplex.specs.Start.{cost_at}
 use Rattle.spec_simplex.specs.Step.{directed, choice_run}
 use Rattle.spec_simplex.specs.Tableau.{Tableau, basic_at, entry_at, reduced_at, status_at}
 use Rattle.spec_cold.specs.Cold.{point, multipliers, moves_below, moves_by, direction, certificate_at, basis_at}
-use Rattle.spec_path.specs.Tables.{way, table_of, IsTableauOf}
+use Rattle.spec_path.specs.Tables.{way, table_of, IsTableauOf, IsWithinBounds}
 use Rattle.spec_path.specs.Begins.{form_rows, signs_of}
 use Rattle.spec_path.proofs.Moved.{at_position}
 use Rattle.spec_cold.proofs.Directions.{moves_are}
@@ -89,7 +89,7 @@ moves_same v u j up k s (suc n) h =
 
 module _ (f : Form) (starts : List (RowStart ℚ)) (costs : List ℚ) (b : Bounds)
     (t : Tableau) (st : IsTableauOf f.rows f.cols (form_rows f (signs_of starts)) (cost_at costs) b t)
-    (few : length costs ≤ f.cols + f.rows + f.rows)
+    (inside : IsWithinBounds f.rows f.cols b t) (few : length costs ≤ f.cols + f.rows + f.rows)
     (free : (i : ℕ) → i < f.rows → cost_at costs (f.cols + i) ≡ 0ℚ)
     (basic : List ℕ) (pairs : List Pair) (g : Places f t basic pairs) where
   abbrev w : Tableau
@@ -136,12 +136,12 @@ module _ (f : Form) (starts : List (RowStart ℚ)) (costs : List ℚ) (b : Bound
       enters_t : Enters (f.cols + f.rows + f.rows) b (table_of t) (way up) j
       enters_t =
           (choice_is_meant None f.rows f.cols (form_rows f (signs_of starts))
-          (cost_at costs) b t (End (Unbounded j up)) st ct).enters
+          (cost_at costs) b t (End (Unbounded j up)) st inside ct).enters
 
       enters_w : Enters (f.cols + f.rows + f.rows) b (table_of w) (way up) j
       enters_w =
           (choice_is_meant limit2 f.rows f.cols (form_rows f (signs_of starts))
-          (cost_at costs) b w (End (Unbounded j up)) w_is cw).enters
+          (cost_at costs) b w (End (Unbounded j up)) w_is inside cw).enters
 
       cols_same : v.cols ≡ t.cols
       cols_same = ap (λ (v : Tableau). v.cols) s.sight

@@ -12,7 +12,7 @@ use Rattle.spec_simplex.specs.Start.{cost_at}
 use Rattle.spec_simplex.specs.Step.{choice_run}
 use Rattle.spec_simplex.specs.Tableau.{Tableau}
 use Rattle.spec_simplex.specs.Phases.{done_run}
-use Rattle.spec_path.specs.Tables.{IsTableauOf}
+use Rattle.spec_path.specs.Tables.{IsTableauOf, IsWithinBounds}
 use Rattle.spec_path.specs.Begins.{form_rows, signs_of}
 use Rattle.spec_path.proofs.Steps.{choice_is_meant}
 use Rattle.spec_factor.specs.Revised.{Revised, Selection, selection_run, flip_over_run}
@@ -63,15 +63,15 @@ module _ (f : Form) (starts : List (RowStart ℚ)) (costs : List ℚ) (b : Bound
       subst (λ (s : Revised). SameChoice t s.bare c selection.choice) (sym g.same)
       (read_as c selection.choice (chosen limit other c selection h k))
 
-  after : (c : Choice ℚ) (u : Tableau) → choice_run None t ≡ Ok c → done_run None t c ≡ Ok u →
+  after : IsWithinBounds f.rows f.cols b t → (c : Choice ℚ) (u : Tableau) → choice_run None t ≡ Ok c → done_run None t c ≡ Ok u →
       IsTableauOf f.rows f.cols (form_rows f (signs_of starts)) (cost_at costs) b u
-  after (End end) u c_ok h =
+  after inside (End end) u c_ok h =
       let z : t ≡ u = cc in subst (IsTableauOf f.rows f.cols (form_rows f (signs_of starts)) (cost_at costs) b) z st
-  after (Flip j) u c_ok h =
-      (choice_is_meant None f.rows f.cols (form_rows f (signs_of starts)) (cost_at costs) b t (Flip j) st c_ok u h).after
-  after (Pivot p j theta to) u c_ok h =
+  after inside (Flip j) u c_ok h =
+      (choice_is_meant None f.rows f.cols (form_rows f (signs_of starts)) (cost_at costs) b t (Flip j) st inside c_ok u h).after
+  after inside (Pivot p j theta to) u c_ok h =
       (choice_is_meant None f.rows f.cols (form_rows f (signs_of starts))
-      (cost_at costs) b t (Pivot p j theta to) st c_ok u h).after
+      (cost_at costs) b t (Pivot p j theta to) st inside c_ok u h).after
 
   sees : (selection : Selection) (d : Choice ℚ) → selection_run None f starts costs s ≡ Ok selection →
       selection.choice ≡ d → SeesFor f starts costs b t st few g.basic g.pairs g.places None d selection.tableau
@@ -79,23 +79,23 @@ module _ (f : Form) (starts : List (RowStart ℚ)) (costs : List ℚ) (b : Bound
       subst (λ d. SeesFor f starts costs b t st few g.basic g.pairs g.places None d selection.tableau) e
       ((selected None selection k).sees)
 
-  pub state_flip : (u : Tableau) (c : Choice ℚ) (selection : Selection) (j : ℕ) → choice_run None t ≡ Ok c →
+  pub state_flip : IsWithinBounds f.rows f.cols b t → (u : Tableau) (c : Choice ℚ) (selection : Selection) (j : ℕ) → choice_run None t ≡ Ok c →
       selection_run None f starts costs s ≡ Ok selection → selection.choice ≡ Flip j → done_run None t c ≡ Ok u
       → (v : Revised) × (flip_over_run None s selection.tableau j ≡ Ok v) × GoesWith f u v
-  state_flip u c selection j h k e done =
+  state_flip inside u c selection j h k e done =
       subst (λ s. (v : Revised) × (flip_over_run None s selection.tableau j ≡ Ok v) × GoesWith f u v) (sym g.same)
-      (flip_goes f starts costs b t st few g.basic g.pairs g.places g.replaced j selection.tableau
+      (flip_goes f starts costs b t st inside few g.basic g.pairs g.places g.replaced j selection.tableau
       (sees selection (Flip j) k e) ((selected None selection k).choice ∙ ap Ok e) c u
-      (subst (SameChoice t w c) e (chosen None None c selection h k)) h done (after c u h done))
+      (subst (SameChoice t w c) e (chosen None None c selection h k)) h done (after inside c u h done))
 
-  pub state_pivot : (u : Tableau) (c : Choice ℚ) (selection : Selection) (p j : ℕ) (theta : ℚ) (to : Status) →
+  pub state_pivot : IsWithinBounds f.rows f.cols b t → (u : Tableau) (c : Choice ℚ) (selection : Selection) (p j : ℕ) (theta : ℚ) (to : Status) →
       choice_run None t ≡ Ok c → selection_run None f starts costs s ≡ Ok selection →
       selection.choice ≡ Pivot p j theta to
       → done_run None t c ≡ Ok u →
       (v : Revised) × (exchange_run None f s selection.tableau p j theta to ≡ Ok v) × GoesWith f u v
-  state_pivot u c selection p j theta to h k e done =
+  state_pivot inside u c selection p j theta to h k e done =
       subst (λ s. (v : Revised) × (exchange_run None f s selection.tableau p j theta to ≡ Ok v) × GoesWith f u v)
       (sym g.same)
-      (pivot_goes f starts costs b t st few g.basic g.pairs g.places g.replaced p j theta to selection.tableau
+      (pivot_goes f starts costs b t st inside few g.basic g.pairs g.places g.replaced p j theta to selection.tableau
       (sees selection (Pivot p j theta to) k e) ((selected None selection k).choice ∙ ap Ok e) c u
-      (subst (SameChoice t w c) e (chosen None None c selection h k)) h done (after c u h done))
+      (subst (SameChoice t w c) e (chosen None None c selection h k)) h done (after inside c u h done))

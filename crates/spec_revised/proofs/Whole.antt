@@ -281,7 +281,6 @@ module _ (f : Form) (starts : List (RowStart ℚ)) (costs : List ℚ)
         stands = st.tableau.stands;
         solves = st.tableau.solves;
       };
-      within = st.within;
       bounds = record {
         lower = st.bounds.lower;
         upper = st.bounds.upper;

@@ -12,23 +12,23 @@ use Rattle.spec_warm.specs.Based.{IsBased}
 -- with the counts of the tableau itself
 pub own_counts : (m n : ℕ) (f : Matrix) (cost : ℕ → ℚ) (b : Bounds) (t : Tableau) → IsBased m n f cost b t →
     IsBased t.rows t.cols f cost b t
-own_counts m n f cost b t s = subst₂ (λ m n. IsBased m n f cost b t) (sym s.rows) (sym s.cols) s
+own_counts m n f cost b t s = subst₂ (λ m n. IsBased m n f cost b t) (sym s.tableau.rows) (sym s.tableau.cols) s
 
 pub given_counts : (m n : ℕ) (f : Matrix) (cost : ℕ → ℚ) (b : Bounds) (t u : Tableau) → IsBased m n f cost b t →
     IsBased t.rows t.cols f cost b u → IsBased m n f cost b u
-given_counts m n f cost b t u s = subst₂ (λ m n. IsBased m n f cost b u) s.rows s.cols
+given_counts m n f cost b t u s = subst₂ (λ m n. IsBased m n f cost b u) s.tableau.rows s.tableau.cols
 
 module _ (f : Matrix) (cost : ℕ → ℚ) (b : Bounds) (t : Tableau) (s : IsBased t.rows t.cols f cost b t) where
   pub lower_same : (k : ℕ) → k < all_columns t → lower_at t k ≡ b.lower k
-  lower_same k h = s.bounds.lower k h
+  lower_same k h = s.tableau.bounds.lower k h
 
   pub upper_same : (k : ℕ) → k < all_columns t → upper_at t k ≡ b.upper k
   upper_same k h =
       by_lt k (form_columns t)
-      (λ l. s.bounds.upper k l)
+      (λ l. s.tableau.bounds.upper k l)
       (λ l. by_basic (status_at t k)
-      (λ e. s.bounds.basic k h e)
-      (λ e. s.bounds.fixed k l h e ∙ sym (s.top k l h)))
+      (λ e. s.tableau.bounds.basic k h e)
+      (λ e. s.tableau.bounds.fixed k l h e ∙ sym (s.top k l h)))
 
   pub fixed_is : (k : ℕ) → k < all_columns t → is_fixed (lower_at t k) (upper_at t k) ≡ true → IsFixed b k
   fixed_is k h e =
@@ -43,7 +43,7 @@ module _ (f : Matrix) (cost : ℕ → ℚ) (b : Bounds) (t : Tableau) (s : IsBas
 
   -- artificials are fixed
   pub free_before : (k : ℕ) → k < all_columns t → ¬ (IsFixed b k) → k < form_columns t
-  free_before k h free = by_lt k (form_columns t) (λ l. l) (λ l. absurd (free (0ℚ, s.bounds.zero k l h, s.top k l h)))
+  free_before k h free = by_lt k (form_columns t) (λ l. l) (λ l. absurd (free (0ℚ, s.tableau.bounds.zero k l h, s.top k l h)))
 
   pub free_open : (k : ℕ) → k < all_columns t → ¬ (IsFixed b k) → b.barred k ≡ false
-  free_open k h free = s.bounds.entering k (free_before k h free)
+  free_open k h free = s.tableau.bounds.entering k (free_before k h free)

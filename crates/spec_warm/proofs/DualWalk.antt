@@ -19,35 +19,35 @@ use Rattle.spec_warm.proofs.Stepped.{choice_meant, pivot_ready, pivot_table}
 
 module _ (limit : Option ℕ) (m n : ℕ) (f : Matrix) (cost : ℕ → ℚ) (b : Bounds) where
   own_ready : (t : Tableau) → IsReady m n f cost b t → IsReady t.rows t.cols f cost b t
-  own_ready t s = subst₂ (λ m n. IsReady m n f cost b t) (sym s.based.rows) (sym s.based.cols) s
+  own_ready t s = subst₂ (λ m n. IsReady m n f cost b t) (sym s.based.tableau.rows) (sym s.based.tableau.cols) s
 
   pub ready_meant : (t : Tableau) (choice : DualChoice) → IsReady m n f cost b t → dual_choice_run limit t ≡ Ok choice →
       IsDualMeant m n b t choice
   ready_meant t choice s h =
-      subst₂ (λ m n. IsDualMeant m n b t choice) s.based.rows s.based.cols
+      subst₂ (λ m n. IsDualMeant m n b t choice) s.based.tableau.rows s.based.tableau.cols
       (choice_meant limit f cost b t (own_ready t s).based choice h)
 
   pub ready_next : (t u : Tableau) (p j : ℕ) (below : Bool) → IsReady m n f cost b t → IsDualStep m n b t p j below →
       dual_pivot_run limit t p j (passed_bound below) ≡ Ok u → IsReady m n f cost b u
   ready_next t u p j below s d h =
-      subst₂ (λ m n. IsReady m n f cost b u) s.based.rows s.based.cols
+      subst₂ (λ m n. IsReady m n f cost b u) s.based.tableau.rows s.based.tableau.cols
       (pivot_ready limit f cost b t (own_ready t s).based (own_ready t s).feasible p j below
-      (subst₂ (λ m n. IsDualStep m n b t p j below) (sym s.based.rows) (sym s.based.cols) d) u h)
+      (subst₂ (λ m n. IsDualStep m n b t p j below) (sym s.based.tableau.rows) (sym s.based.tableau.cols) d) u h)
 
   pub next_table : (t u : Tableau) (p j : ℕ) (below : Bool) → IsReady m n f cost b t →
       (d : IsDualStep m n b t p j below) → dual_pivot_run limit t p j (passed_bound below) ≡ Ok u
       → table_of u ≡ after_dual m (table_of t) (way below) p j d.bound
   next_table t u p j below s d h =
       pivot_table limit f cost b t (own_ready t s).based (own_ready t s).feasible p j below own u h
-      ∙ ap (λ m. after_dual m (table_of t) (way below) p j d.bound) s.based.rows
+      ∙ ap (λ m. after_dual m (table_of t) (way below) p j d.bound) s.based.tableau.rows
     where
       own : IsDualStep t.rows t.cols b t p j below
       own = record {
         bound = d.bound;
-        leaves = subst (λ m. Leaves m b (table_of t) (way below) p d.bound) (sym s.based.rows) d.leaves;
+        leaves = subst (λ m. Leaves m b (table_of t) (way below) p d.bound) (sym s.based.tableau.rows) d.leaves;
         cheapest =
             subst₂ (λ m n. IsCheapest (n + m + m) b (table_of t) (way below) p j)
-            (sym s.based.rows) (sym s.based.cols) d.cheapest;
+            (sym s.based.tableau.rows) (sym s.based.tableau.cols) d.cheapest;
       }
 
   -- what is known of an end

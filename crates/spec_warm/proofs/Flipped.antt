@@ -108,28 +108,30 @@ module _ (limit : Option ℕ) (f : Matrix) (cost : ℕ → ℚ) (b : Bounds) (t 
     to_nonbasic = other_nonbasic up;
     lands =
         subst₂ (λ to r. Stands to (b.lower j) (b.upper j) (value_at t j +ℚ range *ℚ r))
-        (ahead_is up) (sym (ray_at t.rows (table_of t) s.tableau.units (way up) j
-        (outside t.rows (all_columns t) f cost b (table_of t) s.tableau j nonbasic)))
+        (ahead_is up) (sym (ray_at t.rows (table_of t) s.tableau.tableau.units (way up) j
+        (outside t.rows (all_columns t) f cost b (table_of t) s.tableau.tableau j nonbasic)))
         (whole_range wrongly.low.0 wrongly.high.0 (value_at t j) (b.lower j) (b.upper j) (way up) (status_at t j)
         (sym (lower_same f cost b t s j j_in) ∙ wrongly.low.1)
-        (sym (upper_same f cost b t s j j_in) ∙ wrongly.high.1) wrongly.can_move (s.tableau.stands j j_in));
+        (sym (upper_same f cost b t s j j_in) ∙ wrongly.high.1) wrongly.can_move (s.tableau.tableau.stands j j_in));
   }
 
   left : Leaves b t u (after_flip t.rows (table_of t) (way up) j range (other_bound up))
   left =
-      flip_leaves limit t s.whole f cost b s.tableau s.bounds up j range crosses
+      flip_leaves limit t s.tableau.whole f cost b s.tableau.tableau s.tableau.bounds up j range crosses
       (free_open f cost b t s j j_in free) u wrongly.way_is
       (sym (ap₂ (λ u l. or_zero u -ℚ or_zero l) wrongly.high.1 wrongly.low.1)) ok
 
   pub flip_based : IsBased t.rows t.cols f cost b u
   flip_based = record {
-    rows = left.rows;
-    cols = left.cols;
-    whole = left.whole;
-    tableau = subst (IsTableau t.rows (all_columns t) f cost b) (sym left.table)
-        (flip_kept t.rows (all_columns t) f cost b (table_of t) s.tableau
-        (way up) j j_in nonbasic range (other_bound up) (other_nonbasic up) crosses.lands);
-    bounds = left.bounds;
+    tableau = record {
+      rows = left.rows;
+      cols = left.cols;
+      whole = left.whole;
+      tableau = subst (IsTableau t.rows (all_columns t) f cost b) (sym left.table)
+          (flip_kept t.rows (all_columns t) f cost b (table_of t) s.tableau.tableau
+          (way up) j j_in nonbasic range (other_bound up) (other_nonbasic up) crosses.lands);
+      bounds = left.bounds;
+    };
     top = s.top;
   }
 
@@ -139,7 +141,7 @@ module _ (limit : Option ℕ) (f : Matrix) (cost : ℕ → ℚ) (b : Bounds) (t 
   pub flip_status : status_at u j ≡ other_bound up
   flip_status =
       ap (λ u. status_at u j) (sym shape.is)
-      ∙ get_or-set_same t.status j (other_bound up) Basic (omega (arith, s.whole.all_statuses, j_in))
+      ∙ get_or-set_same t.status j (other_bound up) Basic (omega (arith, s.tableau.whole.all_statuses, j_in))
 
   pub flip_other : (k : ℕ) → k ≢ j → status_at u k ≡ status_at t k
   flip_other k d = ap (λ u. status_at u k) (sym shape.is) ∙ get_or-set_other t.status j k (other_bound up) Basic d
@@ -186,7 +188,7 @@ module _ (limit : Option ℕ) (budget m n : ℕ) (f : Matrix) (cost : ℕ → �
               → c || meets_need (status_at r.tableau i) (reduced_at r.tableau i) (lower_at r.tableau i)
               (upper_at r.tableau i) ≡ true → Suits (status_at r.tableau i) (reduced_at r.tableau i)
           by true c h g =
-              absurd (free (fixed_is f cost b r.tableau s i (omega (arith, i_in, v.based.rows, v.based.cols)) c))
+              absurd (free (fixed_is f cost b r.tableau s i (omega (arith, i_in, v.based.tableau.rows, v.based.tableau.cols)) c))
           by false c h g =
               met_suits (status_at r.tableau i) (reduced_at r.tableau i)
               (lower_at r.tableau i) (upper_at r.tableau i) g h
@@ -200,7 +202,7 @@ module _ (limit : Option ℕ) (budget m n : ℕ) (f : Matrix) (cost : ℕ → �
       s = own_counts m n f cost b r.tableau v.based
 
       inside : i < all_columns r.tableau
-      inside = omega (arith, i_in, v.based.rows, v.based.cols)
+      inside = omega (arith, i_in, v.based.tableau.rows, v.based.tableau.cols)
 
       goes : (up : Bool) → ¬ (IsFixed b i) →
           IsWrong (status_at r.tableau i) (reduced_at r.tableau i) (lower_at r.tableau i) (upper_at r.tableau i) up →
@@ -232,7 +234,7 @@ module _ (limit : Option ℕ) (budget m n : ℕ) (f : Matrix) (cost : ℕ → �
           (value_at r.tableau i) (lower_at r.tableau i) (upper_at r.tableau i)
           (subst₂ (λ l u. Stands (status_at r.tableau i) l u (value_at r.tableau i))
           (sym (lower_same f cost b r.tableau s i inside))
-          (sym (upper_same f cost b r.tableau s i inside)) (s.tableau.stands i inside)) g h in
+          (sym (upper_same f cost b r.tableau s i inside)) (s.tableau.tableau.stands i inside)) g h in
           goes w.0 (not_fixed_is f cost b r.tableau s i inside c) w.1
 
   next : (i : ℕ) (x y : Reached) → i < n + m + m → Flipping i x → needs_flip_at x.tableau i ≡ true → (c : Bool) →
@@ -257,7 +259,7 @@ module _ (limit : Option ℕ) (budget m n : ℕ) (f : Matrix) (cost : ℕ → �
       IsReady m n f cost b r.tableau
   unfolding flips_run
   flips_ready t r s met h =
-      let z : all_columns t ≡ n + m + m = omega (arith, s.rows, s.cols) in
+      let z : all_columns t ≡ n + m + m = omega (arith, s.tableau.rows, s.tableau.cols) in
       let v : Flipping (n + m + m) r =
       steps_ok Flipping (n + m + m) (λ k r. cond (needs_flip_at r.tableau k) (flip_next limit budget k r) (Ok r))
       (record { tableau = t; used = 0 }) r

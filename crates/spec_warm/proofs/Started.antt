@@ -191,25 +191,27 @@ module _ (limit : Option ℕ) (f : Form) (proper : IsProper f) (basis : List Sta
 
     based : IsBased f.rows f.cols (equations f) (cost_at f.cost) (bounds_of u) u
     based = record {
-      rows = refl;
-      cols = refl;
-      whole = whole;
       tableau = record {
-        in_range = in_range;
-        forth = s.forth;
-        back = s.back;
-        units = units;
-        costs =
-            priced_agrees limit t f.cost reduced reduced_ok few
-            (λ i k h l. past_row e.rows i k n (s.whole_rows i h) l) (equations f) s.forth units in_range;
-        marked = marked;
-        placed = placed;
-        stands = stands;
-        solves =
-            combined f.rows n (equations f) (entry_at t) s.back (λ k. get_or values k 0ℚ)
-            (valued_solves limit t all_values units in_range marked zero values values_ok);
+        rows = refl;
+        cols = refl;
+        whole = whole;
+        tableau = record {
+          in_range = in_range;
+          forth = s.forth;
+          back = s.back;
+          units = units;
+          costs =
+              priced_agrees limit t f.cost reduced reduced_ok few
+              (λ i k h l. past_row e.rows i k n (s.whole_rows i h) l) (equations f) s.forth units in_range;
+          marked = marked;
+          placed = placed;
+          stands = stands;
+          solves =
+              combined f.rows n (equations f) (entry_at t) s.back (λ k. get_or values k 0ℚ)
+              (valued_solves limit t all_values units in_range marked zero values values_ok);
+        };
+        bounds = keeps;
       };
-      bounds = keeps;
       top = upper_zero;
     }
 

@@ -41,7 +41,7 @@ module _ (limit : Option ℕ) (f : Matrix) (cost : ℕ → ℚ) (b : Bounds)
   leaves_at : (x : Leaving) (l : IsLeaving t (all_columns t) x) →
       Leaves t.rows b (table_of t) (way x.below) (place_of t x.col) l.bound
   leaves_at x l =
-      let w = s.tableau.placed x.col l.inside l.basic in
+      let w = s.tableau.tableau.placed x.col l.inside l.basic in
       let at = place_is t x.col t.rows w.0 w.1 w.2 in
       record {
         position = at.0;
@@ -102,7 +102,7 @@ module _ (limit : Option ℕ) (f : Matrix) (cost : ℕ → ℚ) (b : Bounds)
     to = bound_behind (way below)
 
     q_in : q < all_columns t
-    q_in = s.tableau.in_range p d.leaves.position
+    q_in = s.tableau.tableau.in_range p d.leaves.position
 
     -- where the leaving column goes
     bound_is : stand to (lower_at t (basic_at t p)) (upper_at t (basic_at t p)) ≡ d.bound
@@ -129,8 +129,8 @@ module _ (limit : Option ℕ) (f : Matrix) (cost : ℕ → ℚ) (b : Bounds)
         then_ok (difference_run limit (value_at t (basic_at t p))
         (stand to (lower_at t (basic_at t p)) (upper_at t (basic_at t p)))) _ u h in
         let c = then_ok (quotient_run limit a.0 (entry_at t p j)) _ u a.2 in
-        pivot_leaves limit t s.whole f cost b s.tableau s.bounds Up j p (shift (table_of t) p j d.bound) to
-        (dual_exchanges t.rows (all_columns t) f cost b (table_of t) s.tableau
+        pivot_leaves limit t s.tableau.whole f cost b s.tableau.tableau s.tableau.bounds Up j p (shift (table_of t) p j d.bound) to
+        (dual_exchanges t.rows (all_columns t) f cost b (table_of t) s.tableau.tableau
         (way below) p j d.bound d.leaves d.cheapest.in_range d.cheapest.candidate)
         (free_open f cost b t s j d.cheapest.in_range d.cheapest.candidate.not_fixed) u
         (subst (λ theta. pivot_run limit t p j theta to ≡ Ok u)
@@ -140,18 +140,20 @@ module _ (limit : Option ℕ) (f : Matrix) (cost : ℕ → ℚ) (b : Bounds)
         IsReady t.rows t.cols f cost b u
     ready u l = record {
       based = record {
-        rows = l.rows;
-        cols = l.cols;
-        whole = l.whole;
-        tableau = subst (IsTableau t.rows (all_columns t) f cost b) (sym l.table)
-            (dual_kept t.rows (all_columns t) f cost b (table_of t) s.tableau
-            (way below) p j d.bound d.leaves d.cheapest.in_range d.cheapest.candidate);
-        bounds = l.bounds;
+        tableau = record {
+          rows = l.rows;
+          cols = l.cols;
+          whole = l.whole;
+          tableau = subst (IsTableau t.rows (all_columns t) f cost b) (sym l.table)
+              (dual_kept t.rows (all_columns t) f cost b (table_of t) s.tableau.tableau
+              (way below) p j d.bound d.leaves d.cheapest.in_range d.cheapest.candidate);
+          bounds = l.bounds;
+        };
         top = s.top;
       };
       feasible =
           subst (IsDualFeasible (all_columns t) b) (sym l.table) (feasible_kept t.rows (all_columns t) f cost b
-          (table_of t) s.tableau feasible (way below) p j d.bound d.leaves d.cheapest);
+          (table_of t) s.tableau.tableau feasible (way below) p j d.bound d.leaves d.cheapest);
     }
 
     pub pivot_ready : (u : Tableau) → dual_pivot_run limit t p j (passed_bound below) ≡ Ok u →

@@ -21,7 +21,7 @@ use Rattle.spec_simplex.specs.Tableau.{Tableau, form_columns, all_columns, entry
 use Rattle.spec_simplex.specs.Tableau.{value_at, status_at, lower_at, upper_at}
 use Rattle.spec_simplex.specs.Phases.{PrimalEnded, run_from}
 use Rattle.spec_simplex.proofs.Stops.{length-made}
-use Rattle.spec_path.specs.Tables.{way, table_of, bounds_of, IsTableauOf}
+use Rattle.spec_path.specs.Tables.{way, table_of, bounds_of, IsTableauOf, IsWithinBounds}
 use Rattle.spec_cold.specs.Cold as cold
 use Rattle.spec_path.proofs.Runs.{then_ok, refused_ok, get_or-made}
 use Rattle.spec_path.proofs.Lists.{by_lt}
@@ -87,13 +87,13 @@ module _ (limit : Option ℕ) (m : Model) (ls : List (Option ℚ × Option ℚ))
       record {
         lower = s.lower;
         upper = s.upper;
-        entering = λ k l. s.based.bounds.entering k (omega (arith, l, s.based.rows, s.based.cols));
+        entering = λ k l. s.based.tableau.bounds.entering k (omega (arith, l, s.based.tableau.rows, s.based.tableau.cols));
       }
 
   lower_zero : (k : ℕ) → w + r ≤ k → k < w + r + r → lower_at t k ≡ Some 0ℚ
   lower_zero k l q =
-      s.based.bounds.zero k (omega (arith, l, s.based.rows, s.based.cols))
-      (omega (arith, q, s.based.rows, s.based.cols))
+      s.based.tableau.bounds.zero k (omega (arith, l, s.based.tableau.rows, s.based.tableau.cols))
+      (omega (arith, q, s.based.tableau.rows, s.based.tableau.cols))
 
   fixed : (i : ℕ) → i < r → (lower_at t (w + r + i) ≡ Some 0ℚ) × (upper_at t (w + r + i) ≡ Some 0ℚ)
   fixed i l = (
@@ -109,40 +109,34 @@ module _ (limit : Option ℕ) (m : Model) (ls : List (Option ℚ × Option ℚ))
       let y : Some 0ℚ ≡ Some u = sym (s.based.top k z k_in) ∙ q in
       let x' : 0ℚ ≡ l = cc in let y' : 0ℚ ≡ u = cc in subst₂ ◌≤ℚ◌ x' y' (≤ℚ_refl 0ℚ))
 
-  -- where each basic value is within its bounds, the tableau is one for the primal method
-  whole : (u : Tableau) → IsBased r w F costs (bounds_of t) u →
+  -- where each basic value is within its bounds, each value is
+  all_within : (u : Tableau) → IsBased r w F costs (bounds_of t) u →
       ((k : ℕ) → k < w + r + r → status_at u k ≡ Basic → IsInside (lower_at t k) (upper_at t k) (value_at u k)) →
-      IsTableauOf r w F costs (bounds_of t) u
-  whole u d inside = record {
-    rows = d.rows;
-    cols = d.cols;
-    whole = d.whole;
-    tableau = d.tableau;
-    within = within_where_basic r (w + r + r) F costs (bounds_of t) (table_of u) d.tableau ordered inside;
-    bounds = d.bounds;
-  }
+      IsWithinBounds r w (bounds_of t) u
+  all_within u d inside =
+      within_where_basic r (w + r + r) F costs (bounds_of t) (table_of u) d.tableau.tableau ordered inside
 
   -- ---- the dual method
   stuck_shows : (u : Tableau) (p : ℕ) (below : Bool) → IsReady r w F costs (bounds_of t) u →
       IsStuck r w (bounds_of t) u p below → Shows m (certificate.Infeasible (row_multipliers u p below))
   stuck_shows u p below d k = record {
-    for = length-made u.rows (λ i. directed below (entry_at u p (u.cols + i))) ∙ d.based.rows;
+    for = length-made u.rows (λ i. directed below (entry_at u p (u.cols + i))) ∙ d.based.tableau.rows;
     checks =
         refuted_checks m ls h (bounds_of t) bounded fixed (row_of (table_of u) (way below) p)
-        (stops r (w + r + r) F costs (bounds_of t) (table_of u) d.based.tableau (way below) p k.bound k.leaves k.none)
+        (stops r (w + r + r) F costs (bounds_of t) (table_of u) d.based.tableau.tableau (way below) p k.bound k.leaves k.none)
         (row_refutes r (w + r + r) F costs (bounds_of t)
-        (table_of u) d.based.tableau (way below) p k.bound k.leaves k.none)
+        (table_of u) d.based.tableau.tableau (way below) p k.bound k.leaves k.none)
         (row_multipliers u p below)
         (λ i l. get_or-made u.rows (λ i. directed below (entry_at u p (u.cols + i))) 0ℚ i
-        (omega (arith, l, d.based.rows))
-        ∙ ap (λ n. directed below (entry_at u p (n + i))) d.based.cols ∙ directed_is below (entry_at u p (w + i)));
+        (omega (arith, l, d.based.tableau.rows))
+        ∙ ap (λ n. directed below (entry_at u p (n + i))) d.based.tableau.cols ∙ directed_is below (entry_at u p (w + i)));
   }
 
   dual_shows : (u : Tableau) (end : DualEnd) → IsReady r w F costs (bounds_of t) u →
       IsDualMeant r w (bounds_of t) u (End end) → Shows m (dual_certificate u end)
   dual_shows u Optimal d inside =
       primal_shows m ls h (λ _. 1ℚ) (bounds_of t) bounded fixed limit
-      (record { end = primal.Optimal; tableau = u; used = 0 }) (whole u d.based inside)
+      (record { end = primal.Optimal; tableau = u; used = 0 }) d.based.tableau (all_within u d.based inside)
       (none_eligible (w + r + r) (bounds_of t) (table_of u) d.feasible)
   dual_shows u (Infeasible p below) d k = stuck_shows u p below d k
 
@@ -164,7 +158,7 @@ module _ (limit : Option ℕ) (m : Model) (ls : List (Option ℚ × Option ℚ))
       let o = then_ok (flips_run limit budget t) (λ r. dual_from limit (budget - r.used) r.used r.tableau) e ok in
       let d =
       flips_ready limit budget r w F costs (bounds_of t) t o.0 s.based
-      (λ k l. met k (omega (arith, l, s.based.rows, s.based.cols))) o.1 in
+      (λ k l. met k (omega (arith, l, s.based.tableau.rows, s.based.tableau.cols))) o.1 in
       let g : IsDualEnd limit r w F costs (bounds_of t) e =
       dual_ends limit r w F costs (bounds_of t) (budget - o.0.used) o.0.used o.0.tableau e d o.2 in
       record { shows = dual_shows e.tableau e.end g.after g.end; based = g.after.based }
@@ -175,18 +169,10 @@ module _ (limit : Option ℕ) (m : Model) (ls : List (Option ℚ × Option ℚ))
   by_primal budget e inside ok =
       let d =
       run_ends limit r w F costs (bounds_of t) some_label budget 0 t e
-      (whole t s.based (λ k l. inside k (omega (arith, l, s.based.rows, s.based.cols)))) ok in
+      s.based.tableau (all_within t s.based (λ k l. inside k (omega (arith, l, s.based.tableau.rows, s.based.tableau.cols)))) ok in
       record {
-        shows = primal_shows m ls h (λ _. 1ℚ) (bounds_of t) bounded fixed limit e d.after d.end;
-        based =
-            record {
-              rows = d.after.rows;
-              cols = d.after.cols;
-              whole = d.after.whole;
-              tableau = d.after.tableau;
-              bounds = d.after.bounds;
-              top = s.based.top;
-            };
+        shows = primal_shows m ls h (λ _. 1ℚ) (bounds_of t) bounded fixed limit e d.after d.within d.end;
+        based = record { tableau = d.after; top = s.based.top };
       }
 
   primal_end : (budget : ℕ) (o : PrimalEnded) (e : WarmEnd) → ByPrimal o ≡ e → FitIs t fit.Primal →
@@ -223,7 +209,7 @@ module _ (limit : Option ℕ) (m : Model) (ls : List (Option ℚ × Option ℚ))
   fits_at u d left e =
       let z : made (form_columns u) (cold.basis_status u) ≡ left = cc in
       subst (IsBasisOf (formed m ls)) z
-      (basis_fits (formed m ls) (λ _. 1ℚ) (λ _. *ℚ_one 1ℚ) costs (bounds_of t) bounded u d.rows d.cols d.tableau)
+      (basis_fits (formed m ls) (λ _. 1ℚ) (λ _. *ℚ_one 1ℚ) costs (bounds_of t) bounded u d.tableau.rows d.tableau.cols d.tableau.tableau)
 
   pub basis_left : (e : WarmEnd) → IsEndOf e → (left : List Status) → warm_basis e ≡ Some left →
       IsBasisOf (formed m ls) left

@@ -6,11 +6,11 @@ use Rattle.spec_exact.specs.Sums.{sum_below}
 use Rattle.spec_pivot.specs.declared.status.Status.{Status}
 use Rattle.spec_pivot.specs.declared.status.Status.TheVariants.{Basic}
 use Rattle.spec_pivot.specs.Tableau.{Matrix}
-use Rattle.spec_pivot.specs.Simplex.{Bounds, IsInside, IsTableau}
+use Rattle.spec_pivot.specs.Simplex.{Bounds, IsInside}
 use Rattle.spec_simplex.specs.Form.{Form, form_lower, form_upper}
 use Rattle.spec_simplex.specs.Start.{cost_at}
 use Rattle.spec_simplex.specs.Tableau.{Tableau, value_at, status_at, lower_at, upper_at}
-use Rattle.spec_path.specs.Tables.{way, table_of, bounds_of, IsWhole, KeepsBounds}
+use Rattle.spec_path.specs.Tables.{way, table_of, bounds_of, IsTableauOf}
 use Rattle.spec_path.specs.Begins.{form_rows}
 use Rattle.spec_dual.specs.Dual.{IsDualFeasible, Leaves, IsCandidate, IsCheapest}
 use Rattle.spec_simplex.specs.declared.ends.DualEnd.TheVariants.{Optimal, Infeasible}
@@ -19,14 +19,10 @@ use Rattle.spec_simplex.specs.declared.ends.DualChoice.TheVariants.{End, Pivot}
 use Rattle.spec_simplex.specs.Dual.{passed_bound}
 use Rattle.spec_simplex.specs.Eliminate.{basis_at}
 
--- a tableau of m positions, n columns of the model and these rows, costs and bounds, in which artificials are fixed at
--- 0; its basic values may be outside their bounds
+-- a tableau of these rows, costs and bounds in which artificials are fixed at 0; its basic values may be outside their
+-- bounds
 pub record IsBased (m n : ℕ) (f : Matrix) (cost : ℕ → ℚ) (b : Bounds) (t : Tableau) : Type 0 where
-  pub rows : t.rows ≡ m
-  pub cols : t.cols ≡ n
-  pub whole : IsWhole t
-  pub tableau : IsTableau m (n + m + m) f cost b (table_of t)
-  pub bounds : KeepsBounds b t
+  pub tableau : IsTableauOf m n f cost b t
   pub top : (k : ℕ) → n + m ≤ k → k < n + m + m → b.upper k ≡ Some 0ℚ
 
 -- and each reduced cost has the sign that belongs to its status

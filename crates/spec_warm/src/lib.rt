@@ -36,7 +36,7 @@ ghost use Rattle.spec_simplex.specs.Phases.{PhasesEnd, phases_run};
 ghost use Rattle.spec_cold.specs.Accepted.{IsAccepted};
 ghost use Rattle.spec_cold.specs.Cold.{basis_of};
 ghost use Rattle.spec_path.specs.Begins.{IsProper};
-ghost use Rattle.spec_path.specs.Tables.{way, table_of, IsTableauOf};
+ghost use Rattle.spec_path.specs.Tables.{way, table_of, IsTableauOf, IsWithinBounds};
 ghost use Rattle.spec_dual.specs.Dual.{IsOrdered, after_dual};
 ghost use Rattle.spec_simplex.specs.declared.ends.DualChoice.{DualChoice};
 ghost use Rattle.spec_simplex.specs.declared.ends.Fit.TheVariants as fit;
@@ -70,7 +70,7 @@ pub fn singular_bases_depend()
 pub fn fits_mean_methods()
     ensures primal { (limit : Option ℕ) (m n : ℕ) (f : Matrix) (cost : ℕ → ℚ) (b : Bounds) (t : Tableau) →
         IsBased m n f cost b t → IsOrdered (n + m + m) b →
-        fit_run limit t ≡ Ok fit.Primal → IsTableauOf m n f cost b t }
+        fit_run limit t ≡ Ok fit.Primal → IsTableauOf m n f cost b t × IsWithinBounds m n b t }
     ensures dual { (limit : Option ℕ) (m n : ℕ) (f : Matrix) (cost : ℕ → ℚ)
         (b : Bounds) (t : Tableau) (budget : ℕ) (r : Reached) →
         IsBased m n f cost b t → fit_run limit t ≡ Ok fit.Dual →

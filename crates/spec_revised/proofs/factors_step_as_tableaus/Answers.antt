@@ -6,9 +6,10 @@ returns c = record {
   choice =
       λ limit other f starts costs b t s c selection st few g.
       state_choice f starts costs b t st few s g limit other c selection;
-  flip = λ f starts costs b t u s c selection j st few g. state_flip f starts costs b t st few s g u c selection j;
+  flip = λ f starts costs b t u s c selection j st inside few g.
+      state_flip f starts costs b t st few s g inside u c selection j;
   pivot =
-      λ f starts costs b t u s c selection p j theta to st few g.
-      state_pivot f starts costs b t st few s g u c selection p j theta to;
+      λ f starts costs b t u s c selection p j theta to st inside few g.
+      state_pivot f starts costs b t st few s g inside u c selection p j theta to;
   refresh = goes_on;
 }
