@@ -33,16 +33,16 @@ use Rattle.spec_cold.proofs.EndTight.{tight_structural, tight_logical, weight_at
 use Rattle.spec_cold.proofs.EndRay.{allowed, falls}
 
 -- ---- multipliers and the limits at which values stand
-pub tight_turned : (l : Limits) (d p v : ℚ) → d ≡ neg_ℚ p → IsTight l d v → IsTight (turned_limits l) p v
+tight_turned : (l : Limits) (d p v : ℚ) → d ≡ neg_ℚ p → IsTight l d v → IsTight (turned_limits l) p v
 tight_turned l d p v e t = record {
   above = λ h. t.below (subst₂ ◌<ℚ◌ (sym e) neg-zero (neg_strict 0ℚ p h));
   below = λ h. t.above (subst₂ ◌<ℚ◌ neg-zero (sym e) (neg_strict p 0ℚ h));
 }
 
-pub has_limit : (l : Limits) (d v : ℚ) → IsTight l d v → HasLimit l d
+has_limit : (l : Limits) (d v : ℚ) → IsTight l d v → HasLimit l d
 has_limit l d v t = record { above = λ h. (v, t.above h); below = λ h. (v, t.below h) }
 
-pub asked_is : (l : Limits) (d v : ℚ) → IsTight l d v → d *ℚ asked l d ≡ d *ℚ v
+asked_is : (l : Limits) (d v : ℚ) → IsTight l d v → d *ℚ asked l d ≡ d *ℚ v
 asked_is l d v t = by (lt_ℚ 0ℚ d) (lt_ℚ d 0ℚ) refl refl
   where
     by : (a b : Bool) → lt_ℚ 0ℚ d ≡ a → lt_ℚ d 0ℚ ≡ b →
@@ -52,6 +52,55 @@ asked_is l d v t = by (lt_ℚ 0ℚ d) (lt_ℚ d 0ℚ) refl refl
     by false false p q =
         let e : d ≡ 0ℚ = ≤ℚ_antisym d 0ℚ (le_if_not 0ℚ d p) (le_if_not d 0ℚ q) in
         ap (λ z. z *ℚ 0ℚ) e ∙ zero-*ℚ 0ℚ ∙ sym (ap (λ z. z *ℚ v) e ∙ zero-*ℚ v)
+
+-- numbers for the columns and the rows that stand at the limits of values, with sums above 0 together
+module _ (m : Model) (y : List ℚ) (d v : ℕ → ℚ) (y_at : (i : ℕ) → i < height m → part y i ≡ d (width m + i))
+    (priced_at : (j : ℕ) → j < width m → d j ≡ neg_ℚ (priced m y j))
+    (rows : (i : ℕ) → i < height m → IsTight (limits m i) (d (width m + i)) (v (width m + i)))
+    (columns : (j : ℕ) → j < width m → IsTight (bounds m j) (d j) (v j)) where
+  abbrev of_columns : ℚ
+  of_columns = sum_below (width m) (λ j. d j *ℚ v j)
+
+  abbrev of_rows : ℚ
+  of_rows = sum_below (height m) (λ i. d (width m + i) *ℚ v (width m + i))
+
+  row_tight : (i : ℕ) → i < height m → IsTight (limits m i) (part y i) (v (width m + i))
+  row_tight i p = subst (λ a. IsTight (limits m i) a (v (width m + i))) (sym (y_at i p)) (rows i p)
+
+  column_tight : (j : ℕ) → j < width m → IsTight (turned_limits (bounds m j)) (priced m y j) (v j)
+  column_tight j p = tight_turned (bounds m j) (d j) (priced m y j) (v j) (priced_at j p) (columns j p)
+
+  asks_is : rows_ask m y ≡ of_rows
+  asks_is =
+      sum_below_same (height m) _ _ (λ i p. asked_is (limits m i) (part y i) (v (width m + i)) (row_tight i p)
+      ∙ ap (λ a. a *ℚ v (width m + i)) (y_at i p))
+
+  gives_is : columns_give m y ≡ neg_ℚ of_columns
+  gives_is =
+      sum_below_same (width m) _ (λ j. neg_ℚ (d j *ℚ v j))
+      (λ j p. asked_is (turned_limits (bounds m j)) (priced m y j) (v j) (column_tight j p)
+      ∙ turn (priced m y j) (d j) (v j) (priced_at j p))
+      ∙ sym (neg-sum_below (width m) (λ j. d j *ℚ v j))
+    where
+      turn : (p d v : ℚ) → d ≡ neg_ℚ p → p *ℚ v ≡ neg_ℚ (d *ℚ v)
+      turn p d v e = close p v ∙ ap (λ a. neg_ℚ (a *ℚ v)) (sym e)
+        where
+          close : (p v : ℚ) → p *ℚ v ≡ neg_ℚ (neg_ℚ p *ℚ v)
+          close p v = simp ring
+
+  apart : (a c : ℚ) → 0ℚ <ℚ (a +ℚ c) → neg_ℚ a <ℚ c
+  apart a c p = subst₂ ◌<ℚ◌ (zero-+ℚ (neg_ℚ a)) (close a c) (+ℚ_strict 0ℚ (a +ℚ c) (neg_ℚ a) p)
+    where
+      close : (a c : ℚ) → (a +ℚ c) +ℚ neg_ℚ a ≡ c
+      close a c = simp ring
+
+  pub checks_by_values : 0ℚ <ℚ (sum_below (width m) (λ j. d j *ℚ v j)
+      +ℚ sum_below (height m) (λ i. d (width m + i) *ℚ v (width m + i))) → ChecksInfeasible m y
+  checks_by_values above = record {
+    rows = λ i p. has_limit (limits m i) (part y i) (v (width m + i)) (row_tight i p);
+    columns = λ j p. has_limit (turned_limits (bounds m j)) (priced m y j) (v j) (column_tight j p);
+    less = subst₂ ◌<ℚ◌ (sym gives_is) (sym asks_is) (apart of_columns of_rows above);
+  }
 
 -- ---- sums
 sum_least : (n : ℕ) (f : ℕ → ℚ) → ((i : ℕ) → i < n → 0ℚ ≤ℚ f i) → 0ℚ ≤ℚ sum_below n f
@@ -159,11 +208,6 @@ module _ (m : Model) (ls : List (Option ℚ × Option ℚ)) (h : Limited m ls) (
     abbrev v : ℕ → ℚ
     v = t.value
 
-    row_tight : (i : ℕ) → i < r → IsTight (limits m i) (part y i) (v (w + i))
-    row_tight i p =
-        subst (λ a. IsTight (limits m i) a (v (w + i))) (sym (y_at i p))
-        (tight_logical m ls h (signs_of starts) b bs t within costs g none i p)
-
     multiplier : (i : ℕ) → i < r → part y i ≡ neg_ℚ (g.costs.weights i)
     multiplier i p =
         y_at i p
@@ -176,11 +220,6 @@ module _ (m : Model) (ls : List (Option ℚ × Option ℚ)) (h : Limited m ls) (
         (λ i. part y i *ℚ coefficient m i j) (λ i q. ap (λ a. a *ℚ coefficient m i j) (sym (multiplier i q))))
         ∙ zero-+ℚ _
 
-    column_tight : (j : ℕ) → j < w → IsTight (turned_limits (bounds m j)) (priced m y j) (v j)
-    column_tight j p =
-        tight_turned (bounds m j) (d j) (priced m y j) (v j) (priced_at j p)
-        (tight_structural m ls h (signs_of starts) b bs t within costs g none j p)
-
     A : ℚ
     A = sum_below w (λ j. d j *ℚ v j)
 
@@ -190,26 +229,6 @@ module _ (m : Model) (ls : List (Option ℚ × Option ℚ)) (h : Limited m ls) (
     -- what the artificials cost
     U : ℚ
     U = sum_below r (λ i. first_cost (start_at starts i) *ℚ v (w + r + i))
-
-    asks_is : rows_ask m y ≡ B
-    unfolding B
-    asks_is =
-        sum_below_same r _ _
-        (λ i p. asked_is (limits m i) (part y i) (v (w + i)) (row_tight i p) ∙ ap (λ a. a *ℚ v (w + i)) (y_at i p))
-
-    gives_is : columns_give m y ≡ neg_ℚ A
-    unfolding A
-    gives_is =
-        sum_below_same w _ (λ j. neg_ℚ (d j *ℚ v j))
-        (λ j p. asked_is (turned_limits (bounds m j)) (priced m y j) (v j) (column_tight j p)
-        ∙ turn (priced m y j) (d j) (v j) (priced_at j p))
-        ∙ sym (neg-sum_below w (λ j. d j *ℚ v j))
-      where
-        turn : (p d v : ℚ) → d ≡ neg_ℚ p → p *ℚ v ≡ neg_ℚ (d *ℚ v)
-        turn p d v e = close p v ∙ ap (λ a. neg_ℚ (a *ℚ v)) (sym e)
-          where
-            close : (p v : ℚ) → p *ℚ v ≡ neg_ℚ (neg_ℚ p *ℚ v)
-            close p v = simp ring
 
     -- a nonbasic artificial is 0, and a basic one has no reduced cost
     no_part : (i : ℕ) → i < r → d (w + r + i) *ℚ v (w + r + i) ≡ 0ℚ
@@ -243,15 +262,10 @@ module _ (m : Model) (ls : List (Option ℚ × Option ℚ)) (h : Limited m ls) (
         sum_positive r _ (λ i p. cost_least (start_at starts i) (v (w + r + i)) (inside_at i p).lower) r0 r0_in
         (cost_positive (start_at starts r0) (v (w + r + r0)) (inside_at r0 r0_in) not_zero)
 
-    apart : (a c : ℚ) → 0ℚ <ℚ (a +ℚ c) → neg_ℚ a <ℚ c
-    apart a c p = subst₂ ◌<ℚ◌ (zero-+ℚ (neg_ℚ a)) (close a c) (+ℚ_strict 0ℚ (a +ℚ c) (neg_ℚ a) p)
-      where
-        close : (a c : ℚ) → (a +ℚ c) +ℚ neg_ℚ a ≡ c
-        close a c = simp ring
-
     pub infeasible_checks : ChecksInfeasible m y
-    infeasible_checks = record {
-      rows = λ i p. has_limit (limits m i) (part y i) (v (w + i)) (row_tight i p);
-      columns = λ j p. has_limit (turned_limits (bounds m j)) (priced m y j) (v j) (column_tight j p);
-      less = subst₂ ◌<ℚ◌ (sym gives_is) (sym asks_is) (apart A B (subst (λ z. 0ℚ <ℚ z) (sym balance) above_zero));
-    }
+    unfolding A B
+    infeasible_checks =
+        checks_by_values m y d v y_at priced_at
+        (tight_logical m ls h (signs_of starts) b bs t within costs g none)
+        (tight_structural m ls h (signs_of starts) b bs t within costs g none)
+        (subst (λ z. 0ℚ <ℚ z) (sym balance) above_zero)

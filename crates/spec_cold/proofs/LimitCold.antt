@@ -7,7 +7,6 @@ use Rattle.spec_model.specs.Model.{Model, width, height}
 use Rattle.spec_check.specs.declared.certificate.Certificate.{Certificate}
 use Rattle.spec_check.specs.Certificate.{shown}
 use Rattle.spec_check.specs.Run.{check_run}
-use Rattle.spec_check.specs.Run as check
 use Rattle.spec_pivot.specs.declared.status.Status.{Status}
 use Rattle.spec_simplex.specs.declared.ends.FormFault.{FormFault}
 use Rattle.spec_simplex.specs.declared.ends.FormFault.TheVariants as fault
@@ -20,7 +19,7 @@ use Rattle.spec_cold.specs.Cold.{ExactSolveEnd, certificate_of, basis_of, pivots
 use Rattle.spec_cold.specs.Cold.{checked, answered, after_phases, after_form, cold}
 use Rattle.spec_cold.specs.Accepted.{IsAccepted, IsAnswered}
 use Rattle.spec_path.proofs.LimitStart.{form_agrees}
-use Rattle.spec_cold.proofs.Solved.{end_accepted, clash_accepted, enough, ended_is_true}
+use Rattle.spec_cold.proofs.Solved.{same_or_refused, end_accepted, clash_accepted, enough, ended_is_true}
 use Rattle.spec_path.proofs.LimitPhases.{phases_agree}
 
 module _ (limit : Option ℕ) (budget : ℕ) (m : Model) where
@@ -29,12 +28,7 @@ module _ (limit : Option ℕ) (budget : ℕ) (m : Model) where
 
   answers_agree : (c : Certificate (List ℚ)) (basis : Option (List Status)) (pivots : ℕ) → IsAccepted limit m c →
       Same (answered limit m c basis pivots) (answered None m c basis pivots)
-  unfolding check.Agrees
-  answers_agree c basis pivots a =
-      ⊎_elim
-      (λ e. inl (ap (checked c basis pivots) (e ∙ sym a.accepted)))
-      (λ p. inr (p.0, ap (checked c basis pivots) p.1))
-      a.limited
+  answers_agree c basis pivots a = same_or_refused limit m c a (checked c basis pivots)
 
   phases_same : (f : Form) → form_of limit m ≡ Ok f →
       Same (after_phases limit m (phases_run limit budget f)) (after_phases None m (phases_run None budget f))

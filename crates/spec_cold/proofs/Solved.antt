@@ -1,5 +1,5 @@
 -- What a cold solve ends with is true.
-use Rattle.std.proofs.Common.{◌≡◌, ⊎_elim, ℕ, ◌+◌, ◌*◌, ◌^◌, ◌≤◌, List, Option, None}
+use Rattle.std.proofs.Common.{◌≡◌, ◌⊎◌, inl, inr, ⊎_elim, ℕ, ◌+◌, ◌*◌, ◌^◌, ◌≤◌, List, Option, None}
 use Rattle.std.proofs.Common.{Result, Ok, Err, refl, sym, ap, ◌∙◌, subst, arith}
 use Rattle.spec_exact.specs.Fraction.{ℚ}
 use Rattle.spec_exact.specs.declared.past.Past.{Past}
@@ -7,6 +7,8 @@ use Rattle.spec_model.specs.Model.{Model, width, height}
 use Rattle.spec_check.specs.declared.certificate.Certificate.{Certificate}
 use Rattle.spec_check.specs.declared.certificate.Certificate.TheVariants as certificate
 use Rattle.spec_check.specs.declared.certificate.Known.{Known}
+use Rattle.spec_check.specs.declared.certificate.CheckStop.{CheckStop}
+use Rattle.spec_check.specs.declared.certificate.CheckStop.TheVariants as check
 use Rattle.spec_check.specs.Certificate.{IsFor, shown, Holds}
 use Rattle.spec_check.specs.Run.{Agrees, check_run}
 use Rattle.spec_check.proofs.RunAgrees.{run_agrees}
@@ -49,6 +51,22 @@ clash_accepted limit m j e =
     let c = clash_is limit m j e in accepted limit m (certificate.Clash j) (record { for = c.inside; checks = c })
 
 -- ---- by what the checker says
+-- the check of an accepted certificate says what it shows, or that an operation is refused
+pub by_accepted : (limit : Option ℕ) (m : Model) (c : Certificate (List ℚ)) → IsAccepted limit m c →
+    (P : Result (Known ℚ) (CheckStop ℚ) → Type 0) → (check_run limit m c ≡ Ok (shown m c) → P (Ok (shown m c))) →
+    ((p : Past ℚ) → P (Err (check.Past p))) → P (check_run limit m c)
+unfolding Agrees
+by_accepted limit m c a P says past =
+    ⊎_elim (λ e. subst P (sym e) (says e)) (λ p. subst P (sym p.1) (past p.0)) a.limited
+
+-- what is made of it is what is made of the check without a limit, or of a refused operation
+pub same_or_refused : {E : Type 0} (limit : Option ℕ) (m : Model) (c : Certificate (List ℚ)) → IsAccepted limit m c →
+    (f : Result (Known ℚ) (CheckStop ℚ) → E) →
+    (f (check_run limit m c) ≡ f (check_run None m c)) ⊎ ((p : Past ℚ) × (f (check_run limit m c) ≡ f (Err (check.Past p))))
+same_or_refused limit m c a f =
+    by_accepted limit m c a (λ o. (f o ≡ f (check_run None m c)) ⊎ ((p : Past ℚ) × (f o ≡ f (Err (check.Past p)))))
+    (λ e. inl (ap f (sym a.accepted))) (λ p. inr (p, refl))
+
 pub record IsTrueEnd (limit : Option ℕ) (m : Model) (answer : Known ℚ) (c : Certificate (List ℚ)) : Type 0 where
   pub accepted : IsAccepted limit m c
   pub checks : check_run limit m c ≡ Ok answer
@@ -60,13 +78,9 @@ module _ (limit : Option ℕ) (budget : ℕ) (m : Model) (P : ExactSolveEnd → 
     (spent : (f : Form) → form_of limit m ≡ Ok f → phases_run limit budget f ≡ Err stop.Spent → P outcome.Spent) where
   by_check : (c : Certificate (List ℚ)) (basis : Option (List Status)) (pivots : ℕ) → IsAccepted limit m c →
       P (answered limit m c basis pivots)
-  unfolding Agrees
   by_check c basis pivots a =
-      ⊎_elim
-      (λ e. subst (λ o. P (checked c basis pivots o)) (sym e)
-      (ended (shown m c) c basis pivots (record { accepted = a; checks = e })))
-      (λ p. subst (λ o. P (checked c basis pivots o)) (sym p.1) (past p.0))
-      a.limited
+      by_accepted limit m c a (λ o. P (checked c basis pivots o))
+      (λ e. ended (shown m c) c basis pivots (record { accepted = a; checks = e })) past
 
   pub by_end : P (cold limit budget m)
   unfolding cold

@@ -78,20 +78,6 @@ next_statuses limit limit2 t u (Pivot p j theta to) d v w same e h k =
     ∙ sym (pivot_status limit2 u same.0 j theta to w k')
 
 -- ---- where the statuses are the same, so are all columns
-fields : Tableau → (r c : ℕ) → List ℚ → List Status → List (Option ℚ) → List (Option ℚ) → List ℕ → Tableau
-fields t r c v s l h basic =
-    record {
-      rows = r;
-      cols = c;
-      entries = [];
-      basic = basic;
-      value = v;
-      reduced = [];
-      status = s;
-      lower = l;
-      upper = h;
-    }
-
 module _ (m n : ℕ) (f : Matrix) (cost : ℕ → ℚ) (b : Bounds) (t u : Tableau)
     (st : IsTableauOf m n f cost b t) (su : IsTableauOf m n f cost b u) (same : t.status ≡ u.status) where
   pub statuses : SameStatuses (n + m + m) (table_of t) (table_of u)
@@ -119,11 +105,13 @@ module _ (m n : ℕ) (f : Matrix) (cost : ℕ → ℚ) (b : Bounds) (t u : Table
       (λ k l. same_upper m n f cost b t u st su statuses k (inside k (subst (λ n. k < n) st.whole.all_upper l)))
 
   pub bare_same : (basic : List ℕ) → bare_with t basic ≡ bare_with u basic
-  unfolding fields
   bare_same basic =
-      ap₂ (λ r c. fields t r c t.value t.status t.lower t.upper basic) (st.rows ∙ sym su.rows) (st.cols ∙ sym su.cols)
-      ∙ ap₂ (λ v s. fields t u.rows u.cols v s t.lower t.upper basic) values_same same
-      ∙ ap₂ (λ l h. fields t u.rows u.cols u.value u.status l h basic) lower_same upper_same
+      let r : t.rows ≡ u.rows = st.rows ∙ sym su.rows in
+      let c : t.cols ≡ u.cols = st.cols ∙ sym su.cols in
+      let v : t.value ≡ u.value = values_same in
+      let l : t.lower ≡ u.lower = lower_same in
+      let h : t.upper ≡ u.upper = upper_same in
+      cc
 
 -- ---- by their statuses one by one
 pub next_same : (m n : ℕ) (f : Matrix) (cost : ℕ → ℚ) (b : Bounds)

@@ -20,7 +20,7 @@ use Rattle.spec_cold.specs.Cold.{checked, answered, after_phases, after_form, co
 use Rattle.spec_path.proofs.Formed.{form_is, cost_length, cost_other}
 use Rattle.spec_path.proofs.LimitStart.{form_agrees}
 use Rattle.spec_path.proofs.Formed.{form_proper}
-use Rattle.spec_cold.proofs.Solved.{end_accepted}
+use Rattle.spec_cold.proofs.Solved.{same_or_refused, end_accepted}
 use Rattle.spec_factor.specs.Over.{over_run, answer_in, after_over, over_factors}
 use Rattle.spec_revised.specs.Same.{HasCosts}
 use Rattle.spec_revised.proofs.OverLimits.{over_agrees}
@@ -49,12 +49,7 @@ module _ (limit : Option ℕ) (budget : ℕ) (m : Model) (f : Form) (formed : fo
 
   answers_same : (c : Certificate (List ℚ)) (basis : Option (List Status)) (pivots : ℕ) → IsAccepted limit m c →
       Same (answered limit m c basis pivots) (answered None m c basis pivots)
-  unfolding check.Agrees
-  answers_same c basis pivots a =
-      ⊎_elim
-      (λ e. inl (ap (checked c basis pivots) (e ∙ sym a.accepted)))
-      (λ p. inr (p.0, ap (checked c basis pivots) p.1))
-      a.limited
+  answers_same c basis pivots a = same_or_refused limit m c a (checked c basis pivots)
 
   -- what is accepted without a limit is accepted at one, unless an operation is refused
   accepted_at : (e : PhasesEnd) → phases_run None budget f ≡ Ok e → IsAccepted limit m (certificate_of e)

@@ -48,6 +48,18 @@ module _ (m n : ℕ) (f : Matrix) (cost : ℕ → ℚ) (b : Bounds) (t : Tableau
       (λ e. subst P
       (sym (s.bounds.fixed k (omega (arith, h, s.rows, s.cols)) (omega (arith, l, s.rows, s.cols)) e)) (other h e)))
 
+  -- the ratio test of a run is the scan over positions
+  scan_is : (e : Entering) → Enters (all_columns t) b (table_of t) (way e.up) e.col → (limit : Option ℕ) →
+      (best : Option (Best ℚ)) → best_run limit t e ≡ Ok best →
+      best_of m b (table_of t) (way e.up) e.col ≡ option_map plain best
+  scan_is e enters limit best h =
+      subst (λ m. best_of m b (table_of t) (way e.up) e.col ≡ option_map plain best) s.rows (by best h)
+    where
+      by : (best : Option (Best ℚ)) → best_run limit t e ≡ Ok best →
+          best_of t.rows b (table_of t) (way e.up) e.col ≡ option_map plain best
+      by None h = no_best limit t s.whole f cost b own_table s.bounds e enters h
+      by (Some x) h = a_best limit t s.whole f cost b own_table s.bounds e enters x h
+
 module _ (m n : ℕ) (f : Matrix) (cost : ℕ → ℚ) (b : Bounds) (t u : Tableau) (st : IsTableauOf m n f cost b t)
     (su : IsTableauOf m n f cost b u) (same : SameStatuses (n + m + m) (table_of t) (table_of u)) where
   pub both : SameTableau m (n + m + m) (table_of t) (table_of u)
@@ -158,29 +170,11 @@ module _ (m n : ℕ) (f : Matrix) (cost : ℕ → ℚ) (b : Bounds) (t u : Table
     module _ (limit limit2 : Option ℕ) where
       scan_t : (best : Option (Best ℚ)) → best_run limit t e ≡ Ok best →
           scan m (rooms t) (basic_at t) start ≡ option_map plain best
-      scan_t best h = subst (λ m. best_of m b (table_of t) (way e.up) e.col ≡ option_map plain best) st.rows (by best h)
-        where
-          by : (best : Option (Best ℚ)) → best_run limit t e ≡ Ok best →
-              best_of t.rows b (table_of t) (way e.up) e.col ≡ option_map plain best
-          by None h =
-              no_best limit t st.whole f cost b (own_table m n f cost b t st) st.bounds e
-              (an_entering b t st.bounds e there) h
-          by (Some x) h =
-              a_best limit t st.whole f cost b (own_table m n f cost b t st) st.bounds e
-              (an_entering b t st.bounds e there) x h
+      scan_t = scan_is m n f cost b t st e (an_entering b t st.bounds e there) limit
 
       scan_u : (best : Option (Best ℚ)) → best_run limit2 u e ≡ Ok best →
           scan m (rooms u) (basic_at u) start ≡ option_map plain best
-      scan_u best h = subst (λ m. best_of m b (table_of u) (way e.up) e.col ≡ option_map plain best) su.rows (by best h)
-        where
-          by : (best : Option (Best ℚ)) → best_run limit2 u e ≡ Ok best →
-              best_of u.rows b (table_of u) (way e.up) e.col ≡ option_map plain best
-          by None h =
-              no_best limit2 u su.whole f cost b (own_table m n f cost b u su) su.bounds e
-              (an_entering b u su.bounds e (sym same_entering ∙ there)) h
-          by (Some x) h =
-              a_best limit2 u su.whole f cost b (own_table m n f cost b u su) su.bounds e
-              (an_entering b u su.bounds e (sym same_entering ∙ there)) x h
+      scan_u = scan_is m n f cost b u su e (an_entering b u su.bounds e (sym same_entering ∙ there)) limit2
 
       -- where both find a best
       with_bests : (x y : Best ℚ) → best_run limit t e ≡ Ok (Some x) → best_run limit2 u e ≡ Ok (Some y) →

@@ -12,7 +12,7 @@ use Rattle.spec_pivot.specs.Simplex.{Bounds}
 use Rattle.spec_simplex.specs.Form.{formed}
 use Rattle.spec_path.proofs.Columns.{sum_by_kind}
 use Rattle.spec_path.proofs.Formed.{Limited}
-use Rattle.spec_cold.proofs.EndInfeasible.{tight_turned, has_limit, asked_is}
+use Rattle.spec_cold.proofs.EndInfeasible.{checks_by_values}
 use Rattle.spec_path.proofs.Formed.{HasBounds}
 use Rattle.spec_cold.proofs.EndTight.{limits_at, bounds_structural, bounds_logical, weight_at, column_at}
 use Rattle.spec_dual.specs.Dual.{Refutes}
@@ -53,42 +53,11 @@ module _ (m : Model) (ls : List (Option ℚ × Option ℚ)) (h : Limited m ls) (
   tight_at : (k : ℕ) → k < w + r + r → IsTight (limits_at b k) (a k) (stops k)
   tight_at k l = record { above = refutes.above k l; below = refutes.below k l }
 
-  row_tight : (i : ℕ) → i < r → IsTight (limits m i) (part y i) (stops (w + i))
-  row_tight i p =
-      subst (λ d. IsTight (limits m i) d (stops (w + i))) (sym (y_at i p))
-      (bounds_logical m ls h (λ _. 1ℚ) b bs (λ x. IsTight x (a (w + i)) (stops (w + i))) i p
-      (tight_at (w + i) (omega (arith, p))))
-
-  column_tight : (j : ℕ) → j < w → IsTight (turned_limits (bounds m j)) (priced m y j) (stops j)
-  column_tight j p =
-      tight_turned (bounds m j) (a j) (priced m y j) (stops j) (priced_at j p)
-      (bounds_structural m ls h (λ _. 1ℚ) b bs (λ x. IsTight x (a j) (stops j)) j p (tight_at j (omega (arith, p))))
-
   A : ℚ
   A = sum_below w (λ j. a j *ℚ stops j)
 
   B : ℚ
   B = sum_below r (λ i. a (w + i) *ℚ stops (w + i))
-
-  asks_is : rows_ask m y ≡ B
-  unfolding B
-  asks_is =
-      sum_below_same r _ _ (λ i p. asked_is (limits m i) (part y i) (stops (w + i)) (row_tight i p)
-      ∙ ap (λ d. d *ℚ stops (w + i)) (y_at i p))
-
-  gives_is : columns_give m y ≡ neg_ℚ A
-  unfolding A
-  gives_is =
-      sum_below_same w _ (λ j. neg_ℚ (a j *ℚ stops j))
-      (λ j p. asked_is (turned_limits (bounds m j)) (priced m y j) (stops j) (column_tight j p)
-      ∙ turn (priced m y j) (a j) (stops j) (priced_at j p))
-      ∙ sym (neg-sum_below w (λ j. a j *ℚ stops j))
-    where
-      turn : (p d v : ℚ) → d ≡ neg_ℚ p → p *ℚ v ≡ neg_ℚ (d *ℚ v)
-      turn p d v e = close p v ∙ ap (λ a. neg_ℚ (a *ℚ v)) (sym e)
-        where
-          close : (p v : ℚ) → p *ℚ v ≡ neg_ℚ (neg_ℚ p *ℚ v)
-          close p v = simp ring
 
   -- artificials stop at 0
   no_part : (i : ℕ) → i < r → a (w + r + i) *ℚ stops (w + r + i) ≡ 0ℚ
@@ -110,15 +79,12 @@ module _ (m : Model) (ls : List (Option ℚ × Option ℚ)) (h : Limited m ls) (
       ∙ ap (λ z. (sum_below w (λ j. a j *ℚ stops j) +ℚ sum_below r (λ i. a (w + i) *ℚ stops (w + i))) +ℚ z)
       (sum_below_none r _ no_part) ∙ +ℚ_zero _
 
-  apart : (a c : ℚ) → 0ℚ <ℚ (a +ℚ c) → neg_ℚ a <ℚ c
-  apart a c p = subst₂ ◌<ℚ◌ (zero-+ℚ (neg_ℚ a)) (close a c) (+ℚ_strict 0ℚ (a +ℚ c) (neg_ℚ a) p)
-    where
-      close : (a c : ℚ) → (a +ℚ c) +ℚ neg_ℚ a ≡ c
-      close a c = simp ring
-
   pub refuted_checks : ChecksInfeasible m y
-  refuted_checks = record {
-    rows = λ i p. has_limit (limits m i) (part y i) (stops (w + i)) (row_tight i p);
-    columns = λ j p. has_limit (turned_limits (bounds m j)) (priced m y j) (stops j) (column_tight j p);
-    less = subst₂ ◌<ℚ◌ (sym gives_is) (sym asks_is) (apart A B (subst (λ z. 0ℚ <ℚ z) balance refutes.positive));
-  }
+  unfolding A B
+  refuted_checks =
+      checks_by_values m y a stops y_at priced_at
+      (λ i p. bounds_logical m ls h (λ _. 1ℚ) b bs (λ x. IsTight x (a (w + i)) (stops (w + i))) i p
+      (tight_at (w + i) (omega (arith, p))))
+      (λ j p. bounds_structural m ls h (λ _. 1ℚ) b bs (λ x. IsTight x (a j) (stops j)) j p
+      (tight_at j (omega (arith, p))))
+      (subst (λ z. 0ℚ <ℚ z) balance refutes.positive)

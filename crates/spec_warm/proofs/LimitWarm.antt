@@ -8,7 +8,6 @@ use Rattle.spec_check.specs.declared.certificate.Certificate.{Certificate}
 use Rattle.spec_check.specs.declared.certificate.Certificate.TheVariants as certificate
 use Rattle.spec_check.specs.Certificate.{shown}
 use Rattle.spec_check.specs.Run.{check_run}
-use Rattle.spec_check.specs.Run as check
 use Rattle.spec_pivot.specs.declared.status.Status.{Status}
 use Rattle.spec_simplex.specs.declared.ends.FormFault.{FormFault}
 use Rattle.spec_simplex.specs.declared.ends.FormFault.TheVariants as fault
@@ -20,7 +19,7 @@ use Rattle.spec_cold.specs.Accepted.{IsAccepted}
 use Rattle.spec_path.proofs.Refusals.{Agrees, agrees_ok, agrees_err, agrees_then, agrees_as}
 use Rattle.spec_path.proofs.LimitStart.{form_agrees}
 use Rattle.spec_path.proofs.LimitPhases.{run_agrees}
-use Rattle.spec_cold.proofs.Solved.{clash_accepted}
+use Rattle.spec_cold.proofs.Solved.{same_or_refused, clash_accepted}
 use Rattle.spec_simplex.specs.declared.ends.Fit.{Fit}
 use Rattle.spec_simplex.specs.declared.ends.Fit.TheVariants as fit
 use Rattle.spec_simplex.specs.declared.ends.StartStop.{StartStop}
@@ -92,12 +91,7 @@ module _ (limit : Option ℕ) (budget : ℕ) (m : Model) (basis : List Status) (
 
   answers_agree : (c : Certificate (List ℚ)) (left : Option (List Status)) (pivots : ℕ) → IsAccepted limit m c →
       Same (answered limit m c left pivots) (answered None m c left pivots)
-  unfolding check.Agrees
-  answers_agree c left pivots a =
-      ⊎_elim
-      (λ e. inl (ap (checked c left pivots) (e ∙ sym a.accepted)))
-      (λ p. inr (p.0, ap (checked c left pivots) p.1))
-      a.limited
+  answers_agree c left pivots a = same_or_refused limit m c a (checked c left pivots)
 
   runs_same : (f : Form) → form_of limit m ≡ Ok f →
       Same (after_run limit m (warm_run limit budget f basis)) (after_run None m (warm_run None budget f basis))

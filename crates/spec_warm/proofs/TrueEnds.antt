@@ -26,7 +26,7 @@ use Rattle.spec_path.specs.Begins.{signs_of}
 use Rattle.spec_path.proofs.Begun.{sign_square}
 use Rattle.spec_path.proofs.Formed.{form_is}
 use Rattle.spec_cold.proofs.Phases.{phases_finish}
-use Rattle.spec_cold.proofs.Solved.{IsTrueEnd, accepted, clash_accepted}
+use Rattle.spec_cold.proofs.Solved.{IsTrueEnd, by_accepted, accepted, clash_accepted}
 use Rattle.spec_warm.specs.declared.ends.Warm.TheVariants as outcome
 use Rattle.spec_simplex.specs.declared.ends.WarmStop.{WarmStop}
 use Rattle.spec_simplex.specs.declared.ends.WarmStop.TheVariants as fall
@@ -81,13 +81,9 @@ module _ (limit : Option ℕ) (budget : ℕ) (m : Model) (basis : List Status)
     warm_run limit budget f basis ≡ Err s → P (outcome.Stopped s)) where
   by_check : (c : Certificate (List ℚ)) (left : Option (List Status)) (pivots : ℕ) → IsAccepted limit m c →
       P (answered limit m c left pivots)
-  unfolding Agrees
   by_check c left pivots a =
-      ⊎_elim
-      (λ e. subst (λ o. P (checked c left pivots o)) (sym e)
-      (ended (shown m c) c left pivots (record { accepted = a; checks = e })))
-      (λ p. subst (λ o. P (checked c left pivots o)) (sym p.1) (past p.0))
-      a.limited
+      by_accepted limit m c a (λ o. P (checked c left pivots o))
+      (λ e. ended (shown m c) c left pivots (record { accepted = a; checks = e })) past
 
   pub by_end : P (warm limit budget m basis)
   unfolding warm
