@@ -43,7 +43,7 @@ pub record WantsMemory (old : State) (replied : ExactReply) (new : State) : Type
   pub memory : replied ≡ reply.Memory
   pub stays : new ≡ old
 
--- ---- the model that is to be solved is the one that is held
+-- ---- only the command SOLVE has a solve for its due, and of the model that is held
 
 module _ (old : State) (m : Model) where
   solve_held : (held : Option Model) → solve_due old held ≡ Solves m → held ≡ Some m
@@ -58,9 +58,10 @@ module _ (old : State) (m : Model) where
   change_held None edit e = cc
   change_held (Some n) edit e = edit_held (edited n edit) e
 
-  due_held : (asked : ExactAsk) → due old asked ≡ Solves m → old.model ≡ Some m
+  pub due_held : (asked : ExactAsk) → due old asked ≡ Solves m →
+      (asked ≡ ask.Plain command.Solve) × (old.model ≡ Some m)
   due_held (ask.Plain (command.Write form)) e = cc
-  due_held (ask.Plain command.Solve) e = solve_held old.model e
+  due_held (ask.Plain command.Solve) e = (refl, solve_held old.model e)
   due_held (ask.Plain command.Cert) e = cc
   due_held (ask.Plain command.How) e = cc
   due_held (ask.Plain (command.Budget n)) e = cc
@@ -138,7 +139,7 @@ module _ (places : ℕ) (old : State) (reads : List ExactRead) (replied : ExactR
       Does old what replied new ⊎ WantsMemory old replied new
   due_simply asked (Replies stated next) e g = inl (g.1, g.2)
   due_simply asked (Solves m) e g =
-      solve_simply m (form_of (Some number_limit) m) refl (due_held old m asked e) g
+      solve_simply m (form_of (Some number_limit) m) refl (due_held old m asked e).1 g
 
   pub step_simply : (asked : ExactAsk) → AloneStep places old asked reads replied new →
       Does old (due old asked) replied new ⊎ WantsMemory old replied new
