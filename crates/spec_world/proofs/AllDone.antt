@@ -14,7 +14,7 @@ use Rattle.spec_server.specs.Step as step
 use Rattle.spec_server.specs.Exchanges.{Exchange, AloneRun, of_session, log_of}
 use Rattle.spec_world.proofs.Places.{with_same, with_other, logged-append}
 use Rattle.spec_world.proofs.Stays.{look_stays}
-use Rattle.spec_world.proofs.Running.{Plays-split}
+use Rattle.spec_world.proofs.Places.{Plays-split}
 use Rattle.spec_world.proofs.OneWorker.{own_part, other_part}
 
 abbrev pub NoneClaimed : List ExactPlace → Type 0

@@ -9,17 +9,19 @@ use Rattle.spec_reads.specs.declared.read.Put.{Put}
 use Rattle.spec_reads.specs.declared.read.Put.TheVariants.{Published, Full, Raced}
 use Rattle.spec_reads.specs.declared.read.Read.TheVariants as read
 use Rattle.spec_reads.specs.Reads.{ExactRead, Looked, basis_words, shape_words, front, has_shape, shown, SeenBy}
-use Rattle.spec_reads.specs.Reads.{SeesDown, PutReads}
+use Rattle.spec_reads.specs.Reads.{SeesDown, PutReads, LookReads}
 use Rattle.spec_reads.specs.Places.{ExactPlace, place_at, with_place, IsShown, Logged, Plays, logged}
-use Rattle.spec_server.specs.Machine.{State}
-use Rattle.spec_server.specs.Step.{Pending, answered, after_put}
+use Rattle.spec_server.specs.Machine.{ExactReply, State}
+use Rattle.spec_server.specs.Step.{Pending, answered, after_put, Worked, Ends, Publishes, Works, Concludes}
 use Rattle.spec_server.specs.Exchanges.{Exchange}
 use Rattle.spec_world.specs.declared.event.Act.TheVariants as act
-use Rattle.spec_world.specs.World.{Server, ExactAct, Stage, Idle, Sees, Solving, Puts, Claims, Writes, Session, World}
+use Rattle.spec_world.specs.World.{Server, ExactAct, Stage, Idle, Counts, Sees, Solving, Puts, Claims, Writes, Session, World}
 use Rattle.spec_world.specs.World.{has_session, fits_stage, Left, Leaves, solve, ended, looking, read_of, seen_left}
-use Rattle.spec_world.specs.World.{done_left}
+use Rattle.spec_world.specs.World.{done_left, counted_left, worked_left}
+use Rattle.spec_world.proofs.Places.{logged-append, Plays-split}
 use Rattle.spec_world.proofs.Acts.{front_front}
 use Rattle.spec_world.proofs.Held.{Leads, leads_nowhere, leads_by}
+use Rattle.spec_world.proofs.Stays.{sees_stay}
 
 -- ---- what is shown of a place
 
@@ -218,3 +220,79 @@ module _ (server : Server) (old : World) (me : ℕ) (there : has_session server 
     sees_lead (suc k) reads (read.Claim c ∷ rest) last d plays l = absurd d
     sees_lead (suc k) reads (read.Lost c ∷ rest) last d plays l = absurd d
     sees_lead (suc k) reads (read.Done j words ∷ rest) last d plays l = absurd d
+
+  -- ---- the whole of what a solve reads
+
+  abbrev final : List ExactRead → ExactReply → State → Session
+  final reads replied new = ended me (at Idle) solve reads replied new
+
+  module _ (now last : List ExactPlace) (shape : List ℕ) (found : Looked) (looked reads : List ExactRead)
+      (replied : ExactReply) (new : State) (look : LookReads shape looked found) where
+    -- the reads of the look
+    counted : (middle : List ExactPlace) → Plays server.places now (log looked) middle →
+        (look.count ≡ length now) × (middle ≡ now)
+    counted middle plays =
+        let p : Plays server.places now (log (read.Count look.count ∷ look.seen)) middle =
+        subst (λ rs. Plays server.places now (log rs) middle) look.all plays in
+        (p.1.0, sees_stay server.places me shape look.count look.seen found p.0 middle look.down p.2 ∙ p.1.1)
+
+    -- from the look on
+    works_lead : (worked : Worked) → Works state found worked →
+        Concludes server.places state worked looked reads replied new → Plays server.places now (log reads) last →
+        Goes (Solving found looked) now (final reads replied new) last
+    works_lead (Ends stated next) works c plays =
+        let same : last ≡ now = (counted last (subst (λ rs. Plays server.places now (log rs) last) c.0 plays)).1 in
+        subst (λ ps. Goes (Solving found looked) now (final reads replied new) ps) (sym same)
+        (subst (λ rs. Goes (Solving found looked) now (final rs replied new) now) (sym c.0)
+        (subst (λ t. Goes (Solving found looked) now (final looked t new) now) (sym c.1)
+        (subst (λ s. Goes (Solving found looked) now (final looked stated s) now) (sym c.2)
+        (leads_by server old me there (at (Solving found looked)) now act.Work
+        (worked_left me now (at (Solving found looked)) looked (Ends stated next))
+        (final looked stated next) now refl (Ends stated next, works, refl)
+        (leads_nowhere server old me there (final looked stated next) now)))))
+    works_lead (Publishes pending) works c plays =
+        let p = Plays-split server.places now last (log looked) (log c.tried)
+        (subst (λ rs. Plays server.places now rs last) (ap log c.all ∙ logged-append me looked c.tried) plays) in
+        let same : p.0 ≡ now = (counted p.0 p.1).1 in
+        subst (λ rs. Goes (Solving found looked) now (final rs replied new) last) (sym c.all)
+        (subst (λ t. Goes (Solving found looked) now (final (looked ++ c.tried) t new) last) (sym c.answer)
+        (subst (λ s. Goes (Solving found looked) now (final (looked ++ c.tried) (answered state pending.end) s) last)
+        (sym c.kept)
+        (leads_by server old me there (at (Solving found looked)) now act.Work
+        (worked_left me now (at (Solving found looked)) looked (Publishes pending)) _ last refl
+        (Publishes pending, works, refl)
+        (put_leads now last pending looked c.tried c.put c.puts
+        (subst (λ ps. Plays server.places ps (log c.tried) last) same p.2)))))
+
+    -- the whole of it
+    look_leads : (first : length now ≡ look.count) → Plays server.places now (log looked) now →
+        Goes (Solving found looked) now (final reads replied new) last →
+        Goes (Counts shape) now (final reads replied new) last
+    look_leads first plays l =
+        let p : Plays server.places now (log (read.Count look.count ∷ look.seen)) now =
+        subst (λ rs. Plays server.places now (log rs) now) look.all plays in
+        leads_by server old me there (at (Counts shape)) now act.Count (counted_left now (at (Counts shape)) shape)
+        (final reads replied new) last refl refl
+        (subst (λ n. Goes (looking shape n (read.Count n ∷ [])) now (final reads replied new) last) (sym first)
+        (sees_lead shape found now (final reads replied new) last look.count
+        (read.Count look.count ∷ []) look.seen now look.down
+        (subst (λ ps. Plays server.places ps (log look.seen) now) p.1.1 p.2)
+        (subst (λ rs. Goes (Solving found rs) now (final reads replied new) last) look.all l)))
+
+    looked_first : (worked : Worked) → Concludes server.places state worked looked reads replied new →
+        Plays server.places now (log reads) last →
+        (middle : List ExactPlace) × Plays server.places now (log looked) middle
+    looked_first (Ends stated next) c plays = (last, subst (λ rs. Plays server.places now (log rs) last) c.0 plays)
+    looked_first (Publishes pending) c plays =
+        let p = Plays-split server.places now last (log looked) (log c.tried)
+        (subst (λ rs. Plays server.places now rs last) (ap log c.all ∙ logged-append me looked c.tried) plays) in
+        (p.0, p.1)
+
+    pub look_runs : (worked : Worked) → Works state found worked →
+        Concludes server.places state worked looked reads replied new → Plays server.places now (log reads) last →
+        Goes (Counts shape) now (final reads replied new) last
+    look_runs worked works c plays =
+        let p = looked_first worked c plays in
+        let f = counted p.0 p.1 in
+        look_leads (sym f.0) (subst (λ ps. Plays server.places now (log looked) ps) f.1 p.1)
+        (works_lead worked works c plays)

@@ -9,7 +9,8 @@ use Rattle.spec_world.specs.declared.event.Act.TheVariants as act
 use Rattle.spec_world.specs.World.{Server, Idle, Session, World, opening_world, ended}
 use Rattle.spec_world.specs.Together.{by_session, AskRuns, Together, HaveSessions}
 use Rattle.spec_world.proofs.Held.{holding, holds_own, holds_other}
-use Rattle.spec_world.proofs.Running.{Plays-split, RunsTo, step_runs}
+use Rattle.spec_world.proofs.Places.{Plays-split}
+use Rattle.spec_world.proofs.Running.{RunsTo, step_runs}
 
 -- the world after the ask of this exchange
 record AskEnds (server : Server) (old : World) (x : Exchange) (state : State) (last : List ExactPlace) : Type 0 where

@@ -148,3 +148,8 @@ plays_keep_done places now last [] k words p h = subst (λ ps. place_at ps k ≡
 plays_keep_done places now last (x ∷ log) k words p h =
     plays_keep_done places p.0 last log k words p.2
     (answers_keep places x.session now p.0 x.read k (Done words) p.1 (λ e. cc) h)
+
+pub Plays-split : (places : ℕ) (now last : List ExactPlace) (xs ys : List Logged) → Plays places now (xs ++ ys) last →
+    (middle : List ExactPlace) × Plays places now xs middle × Plays places middle ys last
+Plays-split places now last [] ys p = (now, refl, p)
+Plays-split places now last (x ∷ xs) ys p = let r = Plays-split places p.0 last xs ys p.2 in (r.0, (p.0, p.1, r.1), r.2)
