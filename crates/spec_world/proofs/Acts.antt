@@ -94,14 +94,14 @@ module _ (server : Server) (me : ℕ) (now : List ExactPlace) (state : State) (f
       (now, (refl, refl), refl) (omega arith) (looking_reads shape (length now) (read.Count (length now) ∷ []))
       (looking_going shape (length now) (read.Count (length now) ∷ [])) (λ k words e. cc)
 
-  -- a place that is read as done
-  seen_done : (shape : List ℕ) (k : ℕ) (reads : List ExactRead) (payload words : List ℕ) →
+  -- a place that is read as done, whatever place the act names
+  seen_done : (j : ℕ) (shape : List ℕ) (k : ℕ) (reads : List ExactRead) (payload words : List ℕ) →
       IsSeeing now state shape k reads → place_at now k ≡ Some (place.Done payload) →
       IsShown payload words → (has_shape shape words ≡ true → words ≡ payload) →
       (has_shape shape words ≡ false → front words ≡ words) →
-      Moved server me now (session (Sees shape k reads)) (act.See k)
+      Moved server me now (session (Sees shape k reads)) (act.See j)
       (seen_left now (session (Sees shape k reads)) shape k reads (read.Seen k words))
-  seen_done shape k reads payload words h at shows alls fronts = by (has_shape shape words) refl
+  seen_done j shape k reads payload words h at shows alls fronts = by (has_shape shape words) refl
     where
       made : ExactRead
       made = read.Seen k words
@@ -110,7 +110,7 @@ module _ (server : Server) (me : ℕ) (now : List ExactPlace) (state : State) (f
       after = reads ++ made ∷ []
 
       by : (t : Bool) → has_shape shape words ≡ t →
-          Moved server me now (session (Sees shape k reads)) (act.See k)
+          Moved server me now (session (Sees shape k reads)) (act.See j)
           (record {
             session = session
                 (cond t (Solving (Some (record { place = k; words = words })) (reads ++ read.Seen k words ∷ []))
@@ -121,7 +121,7 @@ module _ (server : Server) (me : ℕ) (now : List ExactPlace) (state : State) (f
             replied = None;
           })
       by true e =
-          goes_on server me now state (Sees shape k reads) finished (act.See k)
+          goes_on server me now state (Sees shape k reads) finished (act.See j)
           (Solving (Some (record { place = k; words = words })) (reads ++ read.Seen k words ∷ [])) now
           (read.Seen k words ∷ []) run
           (record {
@@ -130,42 +130,42 @@ module _ (server : Server) (me : ℕ) (now : List ExactPlace) (state : State) (f
             look =
                 looks_find shape k words reads h.look (ap length (alls e) ∙ sized k payload at) e;
           })
-          (now, (payload, at, shows, refl), refl) (omega arith) refl refl (λ j ws d. cc)
+          (now, (payload, at, shows, refl), refl) (omega arith) refl refl (λ i ws d. cc)
       by false e =
           let b = h.below in
-          goes_on server me now state (Sees shape k reads) finished (act.See k)
+          goes_on server me now state (Sees shape k reads) finished (act.See j)
           (looking shape k (reads ++ read.Seen k words ∷ [])) now (read.Seen k words ∷ []) run
           (looking_fits server me now state shape k (reads ++ read.Seen k words ∷ []) h.begins
           (looks_past shape k reads (read.Seen k words) h.look (looks_over shape k words e (fronts e)))
           (omega arith))
           (now, (payload, at, shows, refl), refl) (omega arith)
           (looking_reads shape k (reads ++ read.Seen k words ∷ []))
-          (looking_going shape k (reads ++ read.Seen k words ∷ [])) (λ j ws d. cc)
+          (looking_going shape k (reads ++ read.Seen k words ∷ [])) (λ i ws d. cc)
 
-  seen_place : (shape : List ℕ) (k : ℕ) (reads : List ExactRead) (p : ExactPlace) → IsSeeing now state shape k reads →
-      place_at now k ≡ Some p →
-      Moved server me now (session (Sees shape k reads)) (act.See k)
+  seen_place : (j : ℕ) (shape : List ℕ) (k : ℕ) (reads : List ExactRead) (p : ExactPlace) →
+      IsSeeing now state shape k reads → place_at now k ≡ Some p →
+      Moved server me now (session (Sees shape k reads)) (act.See j)
       (seen_left now (session (Sees shape k reads)) shape k reads (read_of shape k (Some p)))
-  seen_place shape k reads (place.Claimed owner) h at =
+  seen_place j shape k reads (place.Claimed owner) h at =
       let b = h.below in
-      goes_on server me now state (Sees shape k reads) finished (act.See k)
+      goes_on server me now state (Sees shape k reads) finished (act.See j)
       (looking shape k (reads ++ read.NotDone k ∷ [])) now (read.NotDone k ∷ []) run
       (looking_fits server me now state shape k (reads ++ read.NotDone k ∷ []) h.begins
       (looks_past shape k reads (read.NotDone k) h.look (λ rest found d. (refl, d))) (omega arith))
       (now, (owner, at, refl), refl) (omega arith) (looking_reads shape k (reads ++ read.NotDone k ∷ []))
-      (looking_going shape k (reads ++ read.NotDone k ∷ [])) (λ j ws d. cc)
-  seen_place shape k reads (place.Done payload) h at =
-      seen_done shape k reads payload (shown shape payload) h at (shown_so shape payload) (shown_all shape payload)
+      (looking_going shape k (reads ++ read.NotDone k ∷ [])) (λ i ws d. cc)
+  seen_place j shape k reads (place.Done payload) h at =
+      seen_done j shape k reads payload (shown shape payload) h at (shown_so shape payload) (shown_all shape payload)
       (shown_front shape payload)
 
-  seen_moved : (shape : List ℕ) (k : ℕ) (reads : List ExactRead) → IsSeeing now state shape k reads →
-      Moved server me now (session (Sees shape k reads)) (act.See k)
+  seen_moved : (j : ℕ) (shape : List ℕ) (k : ℕ) (reads : List ExactRead) → IsSeeing now state shape k reads →
+      Moved server me now (session (Sees shape k reads)) (act.See j)
       (seen_left now (session (Sees shape k reads)) shape k reads (read_of shape k (place_at now k)))
-  seen_moved shape k reads h =
+  seen_moved j shape k reads h =
       let there = place_some now k h.below in
-      subst (λ p. Moved server me now (session (Sees shape k reads)) (act.See k)
+      subst (λ p. Moved server me now (session (Sees shape k reads)) (act.See j)
       (seen_left now (session (Sees shape k reads)) shape k reads (read_of shape k p)))
-      (sym there.1) (seen_place shape k reads there.0 h there.1)
+      (sym there.1) (seen_place j shape k reads there.0 h there.1)
 
   worked_moved : (found : Looked) (reads : List ExactRead) (worked : Worked) → IsSolving state found reads →
       Works state found worked →
@@ -194,20 +194,6 @@ module _ (server : Server) (me : ℕ) (now : List ExactPlace) (state : State) (f
 
   -- ---- all of them
 
-  -- an act asks nothing, whatever place it reads
-  any_place : (k j : ℕ) (s : Session) (left : Left) → Moved server me now s (act.See k) left →
-      Moved server me now s (act.See j) left
-  any_place k j s left m = record {
-    run = m.run;
-    stage = m.stage;
-    answered = m.answered;
-    few = m.few;
-    reads = m.reads;
-    asks = m.asks;
-    grows = m.grows;
-    published = m.published;
-  }
-
   pub act_moved : (stage : Stage) (a : ExactAct) (left : Left) → Leaves server me now (session stage) stage a left →
       StageFits server me now state stage → Moved server me now (session stage) a left
   act_moved Idle (act.Ask asked) left h fits =
@@ -216,7 +202,7 @@ module _ (server : Server) (me : ℕ) (now : List ExactPlace) (state : State) (f
       subst (Moved server me now (session (Counts shape)) act.Count) (sym h) (counted_moved shape fits)
   act_moved (Sees shape k reads) (act.See j) left h fits =
       subst (Moved server me now (session (Sees shape k reads)) (act.See j)) (sym h)
-      (any_place k j _ _ (seen_moved shape k reads fits))
+      (seen_moved j shape k reads fits)
   act_moved (Solving found reads) act.Work left h fits =
       subst (Moved server me now (session (Solving found reads)) act.Work) (sym h.2)
       (worked_moved found reads h.0 fits h.1)
