@@ -5,6 +5,7 @@
 //! | `Source`, `Sink` | where bytes come from, and where they go | src/outside |
 //! | `send` | writes all of a piece | src/outside |
 //! | `MemSource`, `MemSink` | both in memory, which fail at the calls that are listed | src/memory |
+//! | `Calls` | numbers calls, and says which of them fail | src/calls |
 //! | `Lines`, `Line` | the lines of a source, one by one | src/lines |
 //! | `Bytes`, `Name`, `Texts` | lists of bytes, and a list of them | src/bytes |
 //! | `words` | the words of a line | src/word |
@@ -15,6 +16,7 @@
 #![tactic(auto)]
 
 mod bytes;
+mod calls;
 mod lines;
 mod memory;
 mod outside;
@@ -22,6 +24,7 @@ mod part;
 mod word;
 
 pub use bytes::{Bytes, Name, Texts, are_same};
+pub use calls::Calls;
 pub use lines::{Line, LineStop, Lines};
 pub use memory::{MemSink, MemSource};
 pub use outside::{Failed, Sink, Source, WriteFault, send};

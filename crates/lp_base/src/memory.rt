@@ -5,60 +5,13 @@ ghost use Rattle.std.specs.List.{Contains};
 ghost use Rattle.std.specs.Io.{ReadsAtMost, WritesAtMost};
 ghost use Rattle.std.specs.Io.KnownBytes.{ReadConsumes, WriteAppends};
 ghost use Rattle.lp_base.specs.Beside.{no_sink, no_source};
-ghost use Rattle.lp_base.specs.Causes.{Rose, HasCause};
+ghost use Rattle.lp_base.specs.Causes.{HasCause};
 ghost use Rattle.lp_base.specs.Memory.{unread, unread_pieces, next_read, failing_reads, source_faults};
 ghost use Rattle.lp_base.specs.Memory.{bytes_taken, next_write, failing_writes, sink_faults};
 ghost use Rattle.lp_base.specs.Pieces.{filled, pieces_left, bytes_of, first_given, left_behind};
 
-use crate::{Failed, Sink, Source, Texts};
+use crate::{Calls, Failed, Sink, Source, Texts};
 use std::alloc::Global;
-
-// Numbers calls, from 1, and says which of them fail.
-#[derive(Drop)]
-struct Calls {
-    fails: Vec<u64>,
-    // The number of the next call, which stays at the end of its type.
-    next: u64,
-    faults: u64,
-}
-
-impl Calls {
-    fn new(fails: Vec<u64>) -> Self
-        ensures { result ≡ record { fails = fails; next = 1; faults = 0 } }
-    {
-        Calls {
-            fails,
-            next: 1,
-            faults: 0,
-        }
-    }
-
-    // Counts a call, which fails where it is listed.
-    fn begin(&mut self) -> Result<(), Failed>
-        ensures fails { self.new.fails ≡ self.old.fails }
-        ensures next { self.new.next ≡ min (self.old.next + 1) (2 ^ 64 - 1) }
-        ensures listed { IsErr result ↔ Contains self.old.fails.items self.old.next }
-        ensures cause { HasCause self.old.faults self.new.faults result }
-    {
-        let is_listed = self.fails.contains(&self.next);
-        self.next = self.next.saturating_add(1);
-        if is_listed {
-            return Err(self.fail());
-        }
-        Ok(())
-    }
-
-    // Counts a fault.
-    fn fail(&mut self) -> Failed
-        ensures fails { self.new.fails ≡ self.old.fails }
-        ensures next { self.new.next ≡ self.old.next }
-        ensures later { self.old.faults ≤ self.new.faults }
-        ensures rose { Rose self.old.faults self.new.faults }
-    {
-        self.faults = self.faults.saturating_add(1);
-        Failed
-    }
-}
 
 /// Gives one piece per read, cut where the buffer is shorter; empty pieces are skipped.
 /// The reads whose number is listed fail, and no others.

@@ -9,7 +9,6 @@
 //! | `LinkState` | what is known of a link | specs/LinkState |
 #![tactic(auto)]
 
-mod calls;
 mod link;
 mod listen;
 mod mem_link;

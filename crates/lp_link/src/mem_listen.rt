@@ -9,9 +9,8 @@ ghost use Rattle.lp_base.specs.Causes.{HasCause};
 ghost use Rattle.lp_link.specs.Listening.{HandsOver};
 ghost use Rattle.lp_link.specs.Memory.{mem_link_state, IsUnwritten};
 
-use crate::calls::Calls;
 use crate::{Listen, MemLink};
-use lp_base::Failed;
+use lp_base::{Calls, Failed};
 use std::alloc::{AllocError, Global};
 use std::collections::VecDeque;
 use std::snapshot::Snapshot;
