@@ -272,41 +272,35 @@ told_over {mid} {old} {read} {bytes} {lines} t over =
     )
 
 -- ---- how much more was read
+-- the lines that were taken, a part of the next one, and little after it
+more_behind : {mid : Option (List ℕ)} {old : LinesState} {read : List ℕ} {lines : List (Line (List ℕ))} →
+    TakesLines mid at_start read old lines → old.ended ≡ false → (bytes part rest : List ℕ) →
+    old.ahead ++ bytes ≡ part ++ rest → All (λ b. b ≢ 10) part → length rest ≤ 4096 →
+    ReadsLittleMore (read ++ bytes) lines
+more_behind t live bytes part rest cut plain near = record {
+  raw = t.raw;
+  part = part;
+  ahead = rest;
+  cut = read_so_far t bytes ∙ ap (λ xs. t.raw ++ xs) cut;
+  taken = begins_whole (begun t live);
+  plain = plain;
+  near = near;
+}
+
 more_at_fault : {mid : Option (List ℕ)} {old new : LinesState} {read bytes : List ℕ} {lines : List (Line (List ℕ))} →
     TakesLines mid at_start read old lines → IsBrokenOff old bytes new → ReadsLittleMore (read ++ bytes) lines
-more_at_fault {old = old} {bytes = bytes} t broken = record {
-  raw = t.raw;
-  part = old.ahead ++ bytes;
-  ahead = [];
-  cut = read_so_far t bytes ∙ ap (λ xs. t.raw ++ xs) (sym (append-nil (old.ahead ++ bytes)));
-  taken = begins_whole (begun t broken.live);
-  plain = broken.plain;
-  near = omega arith;
-}
+more_at_fault {old = old} {bytes = bytes} t broken =
+    let part = old.ahead ++ bytes in
+    more_behind t broken.live bytes part [] (sym (append-nil part)) broken.plain (omega arith)
 
 more_at_over : {mid : Option (List ℕ)} {old : LinesState} {read bytes : List ℕ} {lines : List (Line (List ℕ))} →
     TakesLines mid at_start read old lines → IsOver old bytes → ReadsLittleMore (read ++ bytes) lines
-more_at_over {bytes = bytes} t over = record {
-  raw = t.raw;
-  part = over.raw;
-  ahead = over.rest;
-  cut = read_so_far t bytes ∙ ap (λ xs. t.raw ++ xs) over.cut;
-  taken = begins_whole (begun t over.live);
-  plain = over.plain;
-  near = over.near;
-}
+more_at_over {bytes = bytes} t over = more_behind t over.live bytes over.raw over.rest over.cut over.plain over.near
 
 more_at_want : {mid : Option (List ℕ)} {old : LinesState} {read bytes : List ℕ} {lines : List (Line (List ℕ))} →
     TakesLines mid at_start read old lines → IsGivenUp old bytes → ReadsLittleMore (read ++ bytes) lines
-more_at_want {bytes = bytes} t given_up = record {
-  raw = t.raw;
-  part = given_up.raw;
-  ahead = given_up.rest;
-  cut = read_so_far t bytes ∙ ap (λ xs. t.raw ++ xs) given_up.cut;
-  taken = begins_whole (begun t given_up.live);
-  plain = given_up.plain;
-  near = given_up.near;
-}
+more_at_want {bytes = bytes} t given_up =
+    more_behind t given_up.live bytes given_up.raw given_up.rest given_up.cut given_up.plain given_up.near
 
 more_now : {after : Option (List ℕ)} {new : LinesState} {read : List ℕ} {lines : List (Line (List ℕ))} →
     TakesLines after at_start read new lines → new.ended ≡ false → ReadsLittleMore read lines
