@@ -186,9 +186,16 @@ module _ (limit : Option ℕ) (m : Model) (ls : List (Option ℚ × Option ℚ))
       end_shows e used d = primal_shows m ls h (signs_of s.starts) (bounds_of u) second_bounds second_fixed limit e d.after d.within d.end
 
   -- ---- both phases
-  pub phases_show : (budget : ℕ) (end : PhasesEnd) → phases_run limit budget f ≡ Ok end → Shows m (certificate_of end)
+  -- they end with an artificial that is not 0, or with phase two
+  by_phases : (budget : ℕ) (P : PhasesEnd → Type 0) →
+      ((t : Tableau) (s : Started f t) (one : PrimalEnded) → IsFirst t s one → is_stuck one.tableau ≡ true →
+      P (Infeasible one.tableau one.used))
+      → ((t : Tableau) (s : Started f t) (one : PrimalEnded) (o : IsFirst t s one)
+      (free : is_stuck one.tableau ≡ false) (u : Tableau) → phase_two_run limit f one.tableau ≡ Ok u →
+      (e : PrimalEnded) → IsEnd limit r w (F t s) (cost_at f.cost) (bounds_of u) u one.used e → P (Finished e))
+      → (end : PhasesEnd) → phases_run limit budget f ≡ Ok end → P end
   unfolding phases_run
-  phases_show budget end ok =
+  by_phases budget P stuck finished end ok =
       let a = then_ok (refused_as stop.Past (start_of limit f)) _ end ok in
       let s : Started f a.0 =
       start_is_tableau limit f a.0 (formed_proper m ls h) (refused_ok stop.Past (start_of limit f) a.0 a.1) in
@@ -198,20 +205,23 @@ module _ (limit : Option ℕ) (m : Model) (ls : List (Option ℚ × Option ℚ))
     where
       by : (t : Tableau) (s : Started f t) (one : PrimalEnded) → IsFirst t s one → (c : Bool) →
           is_stuck one.tableau ≡ c →
-          cond c (Ok (Infeasible one.tableau one.used)) (phase_two limit budget f one) ≡ Ok end →
-          Shows m (certificate_of end)
-      by t s one o true e ok =
-          let z : Infeasible one.tableau one.used ≡ end = cc in
-          subst (λ end. Shows m (certificate_of end)) z (stuck_shows t s one o e)
+          cond c (Ok (Infeasible one.tableau one.used)) (phase_two limit budget f one) ≡ Ok end → P end
+      by t s one o true e ok = let z : Infeasible one.tableau one.used ≡ end = cc in subst P z (stuck t s one o e)
       by t s one o false e ok =
           let a = then_ok (refused_as stop.Past (phase_two_run limit f one.tableau)) _ end ok in
           let p = refused_ok stop.Past (phase_two_run limit f one.tableau) a.0 a.1 in
           let c = then_ok (run_from limit (budget - one.used) one.used a.0) _ end a.2 in
           let z : Finished c.0 ≡ end = cc in
+          let start = two t s one o e a.0 p in
           let d =
           run_ends limit r w (F t s) (cost_at f.cost) (bounds_of a.0) some_label
-          (budget - one.used) one.used a.0 c.0 (two t s one o e a.0 p).tableau (two t s one o e a.0 p).within c.1 in
-          subst (λ end. Shows m (certificate_of end)) z (end_shows t s one o e a.0 p c.0 one.used d)
+          (budget - one.used) one.used a.0 c.0 start.tableau start.within c.1 in
+          subst P z (finished t s one o e a.0 p c.0 d)
+
+  pub phases_show : (budget : ℕ) (end : PhasesEnd) → phases_run limit budget f ≡ Ok end → Shows m (certificate_of end)
+  phases_show budget =
+      by_phases budget (λ end. Shows m (certificate_of end)) stuck_shows
+      (λ t s one o free u ok e. end_shows t s one o free u ok e one.used)
 
   -- the tableau that phase two ends with
   pub record FinishedOn (e : PrimalEnded) : Type 0 where
@@ -225,34 +235,15 @@ module _ (limit : Option ℕ) (m : Model) (ls : List (Option ℚ × Option ℚ))
   EndsOn (Infeasible t used) = Unit {0}
   EndsOn (Finished e) = FinishedOn e
 
-  finish_on : (t : Tableau) (s : Started f t) (one : PrimalEnded) → IsFirst t s one → is_stuck one.tableau ≡ false →
-      (budget : ℕ) (end : PhasesEnd) → phase_two limit budget f one ≡ Ok end → EndsOn end
-  finish_on t s one o p budget end ok =
-      let a = then_ok (refused_as stop.Past (phase_two_run limit f one.tableau)) _ end ok in
-      let q = refused_ok stop.Past (phase_two_run limit f one.tableau) a.0 a.1 in
-      let c = then_ok (run_from limit (budget - one.used) one.used a.0) _ end a.2 in
-      let z : Finished c.0 ≡ end = cc in
-      let d =
-      run_ends limit r w (F t s) (cost_at f.cost) (bounds_of a.0) some_label
-      (budget - one.used) one.used a.0 c.0 (two t s one o p a.0 q).tableau (two t s one o p a.0 q).within c.1 in
-      subst EndsOn z
-      (record { starts = s.starts; bounds = bounds_of a.0; bounded = second_bounds t s one o p a.0 q; after = d.after })
-
   pub phases_finish : (budget : ℕ) (end : PhasesEnd) → phases_run limit budget f ≡ Ok end → EndsOn end
-  unfolding phases_run
-  phases_finish budget end ok =
-      let a = then_ok (refused_as stop.Past (start_of limit f)) _ end ok in
-      let s : Started f a.0 =
-      start_is_tableau limit f a.0 (formed_proper m ls h) (refused_ok stop.Past (start_of limit f) a.0 a.1) in
-      let c = then_ok (phase_one limit budget a.0) _ end a.2 in
-      let one : IsFirst a.0 s c.0 = first_ends a.0 s budget c.0 c.1 in
-      by a.0 s c.0 one (is_stuck c.0.tableau) refl c.2
-    where
-      by : (t : Tableau) (s : Started f t) (one : PrimalEnded) → IsFirst t s one → (c : Bool) →
-          is_stuck one.tableau ≡ c →
-          cond c (Ok (Infeasible one.tableau one.used)) (phase_two limit budget f one) ≡ Ok end → EndsOn end
-      by t s one o true p ok = let z : Infeasible one.tableau one.used ≡ end = cc in subst EndsOn z tt
-      by t s one o false p ok = finish_on t s one o p budget end ok
+  phases_finish budget =
+      by_phases budget EndsOn (λ t s one o e. tt)
+      (λ t s one o free u ok e d. record {
+        starts = s.starts;
+        bounds = bounds_of u;
+        bounded = second_bounds t s one o free u ok;
+        after = d.after;
+      })
 
   -- ---- a budget that is enough
   enough_first : (t : Tableau) (s : Started f t) (budget : ℕ) → 3 ^ (w + r + r) ≤ budget →

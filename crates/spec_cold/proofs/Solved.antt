@@ -99,6 +99,15 @@ module _ (limit : Option ℕ) (budget : ℕ) (m : Model) (P : ExactSolveEnd → 
       with_form (Err (fault.Past v)) p = past v
 
 -- ---- the laws
+-- a true end with this answer and this certificate
+pub end_is_true : (limit : Option ℕ) (m : Model) (a answer : Known ℚ) (d c : Certificate (List ℚ)) →
+    IsTrueEnd limit m a d → a ≡ answer → d ≡ c → Holds m answer × (check_run limit m c ≡ Ok answer)
+end_is_true limit m a answer d c t same_answer same_certificate =
+    let checks : check_run limit m c ≡ Ok answer =
+    ap (check_run limit m) (sym same_certificate) ∙ t.checks ∙ ap Ok same_answer in
+    let r = run_sound limit m c answer (subst (IsFor m) same_certificate t.accepted.fits) checks in
+    (subst (Holds m) (sym r.1) (checks_hold m c r.0), checks)
+
 pub ended_is_true : (limit : Option ℕ) (budget : ℕ) (m : Model) (answer : Known ℚ) (c : Certificate (List ℚ))
     (basis : Option (List Status)) (pivots : ℕ) → cold limit budget m ≡ outcome.Ended answer c basis pivots
     → Holds m answer × (check_run limit m c ≡ Ok answer)
@@ -106,12 +115,7 @@ ended_is_true limit budget m answer c basis pivots =
     by_end limit budget m
     (λ e. e ≡ outcome.Ended answer c basis pivots → Holds m answer × (check_run limit m c ≡ Ok answer))
     (λ a d basis' pivots' t e.
-    let same_answer : a ≡ answer = cc in
-    let same_certificate : d ≡ c = cc in
-    let checks : check_run limit m c ≡ Ok answer =
-    ap (check_run limit m) (sym same_certificate) ∙ t.checks ∙ ap Ok same_answer in
-    let r = run_sound limit m c answer (subst (IsFor m) same_certificate t.accepted.fits) checks in
-    (subst (Holds m) (sym r.1) (checks_hold m c r.0), checks))
+    let x : a ≡ answer = cc in let z : d ≡ c = cc in end_is_true limit m a answer d c t x z)
     (λ p e. let z : ◌≡◌ {A = ExactSolveEnd} (outcome.Past p) (outcome.Ended answer c basis pivots) = e in cc)
     (λ f p q e. let z : ◌≡◌ {A = ExactSolveEnd} outcome.Spent (outcome.Ended answer c basis pivots) = e in cc)
 

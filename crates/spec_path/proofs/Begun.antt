@@ -136,6 +136,17 @@ row_solved l u v (Above g) (above a e h) = ap (λ z. (neg_ℚ v +ℚ z) +ℚ 1�
     none : (v a : ℚ) → (neg_ℚ v +ℚ a) +ℚ 1ℚ *ℚ (v -ℚ a) ≡ 0ℚ
     none v a = simp ring
 
+pub first_few : (f : Form) (starts : List (RowStart ℚ)) → length starts ≡ f.rows →
+    length (first_costs f starts) ≤ f.cols + f.rows + f.rows
+first_few f starts all =
+    omega (
+      arith,
+      length-append (replicate (f.cols + f.rows) 0ℚ) (map first_cost starts),
+      length-replicate (f.cols + f.rows) 0ℚ,
+      length-map starts first_cost,
+      all,
+    )
+
 module _ (f : Form) (proper : IsProper f) (starts : List (RowStart ℚ)) (all : length starts ≡ f.rows)
     (begins : (i : ℕ) → i < f.rows →
     RowBegins (form_lower f (f.cols + i)) (form_upper f (f.cols + i)) (first_sum f i) (start_at starts i))
@@ -532,17 +543,7 @@ module _ (f : Form) (proper : IsProper f) (starts : List (RowStart ℚ)) (all : 
   begun_is limit h =
       tableau_of (cost_at (first_costs f starts))
       (priced_length limit (begun f starts) (first_costs f starts) reduced h)
-      (priced_agrees limit (begun f starts) (first_costs f starts) reduced h few entry_past F forth units in_range)
-    where
-      few : length (first_costs f starts) ≤ f.cols + f.rows + f.rows
-      few =
-          omega (
-            arith,
-            length-append (replicate (f.cols + f.rows) 0ℚ) (map first_cost starts),
-            length-replicate (f.cols + f.rows) 0ℚ,
-            length-map starts first_cost,
-            all,
-          )
+      (priced_agrees limit (begun f starts) (first_costs f starts) reduced h (first_few f starts all) entry_past F forth units in_range)
 
 -- what is known of the start
 pub record Started (f : Form) (t : Tableau) : Type 0 where

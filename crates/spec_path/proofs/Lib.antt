@@ -1,4 +1,5 @@
 pub mod Runs
+pub mod Orders
 pub mod Lists
 pub mod Turned
 pub mod Moved

@@ -10,9 +10,10 @@ use Rattle.spec_exact.proofs.Order.{≤ℚ_refl, <ℚ-le}
 use Rattle.spec_simplex.specs.declared.ends.RowStart.{RowStart}
 use Rattle.spec_simplex.specs.declared.ends.RowStart.TheVariants.{Within, Below, Above}
 use Rattle.spec_simplex.specs.Form.{Form, form_entry, form_lower, form_upper}
-use Rattle.spec_simplex.specs.Run.{◌>>=◌, difference_run, order_run, plus_product}
+use Rattle.spec_simplex.specs.Run.{Run, ◌>>=◌, difference_run, order_run, plus_product}
 use Rattle.spec_simplex.specs.Start.{first_value, row_sum, below_by, below_run, above_by}
 use Rattle.spec_simplex.specs.Start.{above_run, within_or_above, row_start_by, row_start}
+use Rattle.spec_path.proofs.Orders.{by_order, given}
 use Rattle.spec_path.proofs.Runs.{then_ok, difference_ok, order_ok, plus_ok, steps_ok}
 
 abbrev pub first_sum : Form → ℕ → ℚ
@@ -24,72 +25,45 @@ pub data RowBegins (l u : Option ℚ) (v : ℚ) : RowStart ℚ → Type 0 where
   below : (a : ℚ) → l ≡ Some a → v <ℚ a → RowBegins l u v (Below (a -ℚ v))
   above : (a : ℚ) → u ≡ Some a → a <ℚ v → RowBegins l u v (Above (v -ℚ a))
 
-not_less : (v w : ℚ) (o : Ordering) → o ≡ order v w → ¬ (o ≡ Less) → w ≤ℚ v
-not_less v w Less e n = absurd (n refl)
-not_less v w Equal e n = subst (λ a. w ≤ℚ a) (sym ((order_equal v w).0 (sym e))) (≤ℚ_refl w)
-not_less v w Greater e n = <ℚ-le w v ((order_greater v w).0 (sym e))
+-- the gap to a limit, where the sum is past it
+data Gap (o : Option ℚ) (beside past : ℚ → Type 0) (gap : ℚ → ℚ) : Option ℚ → Type 0 where
+  none : ((a : ℚ) → o ≡ Some a → beside a) → Gap o beside past gap None
+  some : (a : ℚ) → o ≡ Some a → past a → Gap o beside past gap (Some (gap a))
 
-not_greater : (v w : ℚ) (o : Ordering) → o ≡ order v w → ¬ (o ≡ Greater) → v ≤ℚ w
-not_greater v w Less e n = <ℚ-le v w ((order_less v w).0 (sym e))
-not_greater v w Equal e n = subst (λ a. v ≤ℚ a) ((order_equal v w).0 (sym e)) (≤ℚ_refl v)
-not_greater v w Greater e n = absurd (n refl)
+module _ (a : ℚ) (beside past : ℚ → Type 0) (gap : ℚ → ℚ) (g : Option ℚ) where
+  no_gap : beside a → ◌≡◌ {A = Run (Option ℚ)} (Ok None) (Ok g) → Gap (Some a) beside past gap g
+  no_gap h e =
+      given (Gap (Some a) beside past gap) None g e (none (λ c z. let y : a ≡ c = cc in subst beside y h))
 
--- a gap to the lower limit, and to the upper one
-data BelowGap (l : Option ℚ) (v : ℚ) : Option ℚ → Type 0 where
-  none : ((a : ℚ) → l ≡ Some a → a ≤ℚ v) → BelowGap l v None
-  some : (a : ℚ) → l ≡ Some a → v <ℚ a → BelowGap l v (Some (a -ℚ v))
+  a_gap : (limit : Option ℕ) (v w : ℚ) → gap a ≡ v -ℚ w → past a →
+      (difference_run limit v w >>= λ x. Ok (Some x)) ≡ Ok g → Gap (Some a) beside past gap g
+  a_gap limit v w is h e =
+      let o = then_ok (difference_run limit v w) (λ x. Ok (Some x)) g e in
+      let z : Some o.0 ≡ g = cc in
+      subst (Gap (Some a) beside past gap) (ap Some (is ∙ sym (difference_ok limit v w o.0 o.1)) ∙ z) (some a refl h)
+
+-- to the lower limit, and to the upper one
+abbrev BelowGap : Option ℚ → ℚ → Option ℚ → Type 0
+BelowGap l v = Gap l (λ a. a ≤ℚ v) (λ a. v <ℚ a) (λ a. a -ℚ v)
+
+abbrev AboveGap : Option ℚ → ℚ → Option ℚ → Type 0
+AboveGap u v = Gap u (λ a. v ≤ℚ a) (λ a. a <ℚ v) (λ a. v -ℚ a)
 
 below_is : (limit : Option ℕ) (l : Option ℚ) (v : ℚ) (gap : Option ℚ) → below_run limit l v ≡ Ok gap → BelowGap l v gap
-below_is limit None v gap h =
-    let e : None ≡ gap = cc in subst (BelowGap None v) e (none (λ a z. let y : None ≡ Some a = z in cc))
+below_is limit None v gap h = given (BelowGap None v) None gap h (none (λ a z. let y : None ≡ Some a = z in cc))
 below_is limit (Some l) v gap h =
-    let o = then_ok (order_run limit v l) (λ o. below_by limit l v o) gap h in
-    go o.0 (order_ok limit v l o.0 o.1) o.2
-  where
-    same : (a : ℚ) → Some l ≡ Some a → l ≡ a
-    same a e = cc
-
-    go : (o : Ordering) → o ≡ order v l → below_by limit l v o ≡ Ok gap → BelowGap (Some l) v gap
-    go Less e h =
-        let p = then_ok (difference_run limit l v) (λ gap. Ok (Some gap)) gap h in
-        let z : Some p.0 ≡ gap = cc in
-        subst (BelowGap (Some l) v) (ap Some (sym (difference_ok limit l v p.0 p.1)) ∙ z)
-        (some l refl ((order_less v l).0 (sym e)))
-    go Equal e h =
-        let z : None ≡ gap = cc in
-        subst (BelowGap (Some l) v) z (none (λ a y. subst (λ a. a ≤ℚ v) (same a y) (not_less v l Equal e (λ k. cc))))
-    go Greater e h =
-        let z : None ≡ gap = cc in
-        subst (BelowGap (Some l) v) z (none (λ a y. subst (λ a. a ≤ℚ v) (same a y) (not_less v l Greater e (λ k. cc))))
-
-data AboveGap (u : Option ℚ) (v : ℚ) : Option ℚ → Type 0 where
-  none_above : ((a : ℚ) → u ≡ Some a → v ≤ℚ a) → AboveGap u v None
-  some_above : (a : ℚ) → u ≡ Some a → a <ℚ v → AboveGap u v (Some (v -ℚ a))
+    by_order limit v l (below_by limit l v) gap (BelowGap (Some l) v gap) h
+    (a_gap l (λ a. a ≤ℚ v) (λ a. v <ℚ a) (λ a. a -ℚ v) gap limit l v refl)
+    (λ e. no_gap l (λ a. a ≤ℚ v) (λ a. v <ℚ a) (λ a. a -ℚ v) gap (subst (λ a. a ≤ℚ v) e (≤ℚ_refl v)))
+    (λ p. no_gap l (λ a. a ≤ℚ v) (λ a. v <ℚ a) (λ a. a -ℚ v) gap (<ℚ-le l v p))
 
 above_is : (limit : Option ℕ) (u : Option ℚ) (v : ℚ) (gap : Option ℚ) → above_run limit u v ≡ Ok gap → AboveGap u v gap
-above_is limit None v gap h =
-    let e : None ≡ gap = cc in subst (AboveGap None v) e (none_above (λ a z. let y : None ≡ Some a = z in cc))
+above_is limit None v gap h = given (AboveGap None v) None gap h (none (λ a z. let y : None ≡ Some a = z in cc))
 above_is limit (Some u) v gap h =
-    let o = then_ok (order_run limit v u) (λ o. above_by limit u v o) gap h in
-    go o.0 (order_ok limit v u o.0 o.1) o.2
-  where
-    same : (a : ℚ) → Some u ≡ Some a → u ≡ a
-    same a e = cc
-
-    go : (o : Ordering) → o ≡ order v u → above_by limit u v o ≡ Ok gap → AboveGap (Some u) v gap
-    go Greater e h =
-        let p = then_ok (difference_run limit v u) (λ gap. Ok (Some gap)) gap h in
-        let z : Some p.0 ≡ gap = cc in
-        subst (AboveGap (Some u) v) (ap Some (sym (difference_ok limit v u p.0 p.1)) ∙ z)
-        (some_above u refl ((order_greater v u).0 (sym e)))
-    go Equal e h =
-        let z : None ≡ gap = cc in
-        subst (AboveGap (Some u) v) z
-        (none_above (λ a y. subst (λ a. v ≤ℚ a) (same a y) (not_greater v u Equal e (λ k. cc))))
-    go Less e h =
-        let z : None ≡ gap = cc in
-        subst (AboveGap (Some u) v) z
-        (none_above (λ a y. subst (λ a. v ≤ℚ a) (same a y) (not_greater v u Less e (λ k. cc))))
+    by_order limit v u (above_by limit u v) gap (AboveGap (Some u) v gap) h
+    (λ p. no_gap u (λ a. v ≤ℚ a) (λ a. a <ℚ v) (λ a. v -ℚ a) gap (<ℚ-le v u p))
+    (λ e. no_gap u (λ a. v ≤ℚ a) (λ a. a <ℚ v) (λ a. v -ℚ a) gap (subst (λ a. v ≤ℚ a) e (≤ℚ_refl v)))
+    (a_gap u (λ a. v ≤ℚ a) (λ a. a <ℚ v) (λ a. v -ℚ a) gap limit v u refl)
 
 sum_is : (limit : Option ℕ) (f : Form) (i : ℕ) (v : ℚ) → row_sum limit f i ≡ Ok v → v ≡ first_sum f i
 sum_is limit f i v h =
@@ -106,8 +80,8 @@ start_by limit l u v None s (none low) h =
     subst (RowBegins l u v) z (go o.0 (above_is limit u v o.0 o.1))
   where
     go : (gap : Option ℚ) → AboveGap u v gap → RowBegins l u v (within_or_above v gap)
-    go None (none_above high) = within low high
-    go (Some g) (some_above a e h) = above a e h
+    go None (none high) = within low high
+    go (Some g) (some a e h) = above a e h
 start_by limit l u v (Some g) s (some a e lt) h =
     let z : Below (a -ℚ v) ≡ s = cc in subst (RowBegins l u v) z (below a e lt)
 

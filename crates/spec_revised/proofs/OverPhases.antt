@@ -31,7 +31,7 @@ use Rattle.spec_path.proofs.Refusals.{agrees_list}
 use Rattle.spec_path.proofs.LimitStart.{row_start_agrees, priced_agrees}
 use Rattle.spec_path.proofs.LimitPhases.{two_agrees}
 use Rattle.spec_path.proofs.RowStarts.{RowBegins, first_sum, start_is}
-use Rattle.spec_path.proofs.Begun.{begun_is, begun_within}
+use Rattle.spec_path.proofs.Begun.{first_few, begun_is, begun_within}
 use Rattle.spec_path.proofs.PhaseTwo.{some_of, second_phase}
 use Rattle.spec_factor.specs.Factors.{Pair, column_entry}
 use Rattle.spec_factor.specs.Basis.{IsPair, StandsFor, basis_of}
@@ -188,16 +188,6 @@ module _ (f : Form) (starts : List (RowStart ℚ)) (costs : HasCosts f) (budget 
   module _ (all : length starts ≡ f.rows) (b : Bounds) (t : Tableau)
       (st : IsTableauOf f.rows f.cols (form_rows f (signs_of starts)) (cost_at (first_costs f starts)) b t)
       (inside : IsWithinBounds f.rows f.cols b t) (s : Revised) (g : GoesWith f t s) where
-    first_few : length (first_costs f starts) ≤ f.cols + f.rows + f.rows
-    first_few =
-        omega (
-          arith,
-          length-append (replicate (f.cols + f.rows) 0ℚ) (map first_cost starts),
-          length-replicate (f.cols + f.rows) 0ℚ,
-          length-map starts first_cost,
-          all,
-        )
-
     first_free : (i : ℕ) → i < f.rows → cost_at (first_costs f starts) (f.cols + i) ≡ 0ℚ
     first_free i l =
         get_or_append_left (replicate (f.cols + f.rows) 0ℚ) (map first_cost starts) 0ℚ
@@ -213,7 +203,7 @@ module _ (f : Form) (starts : List (RowStart ℚ)) (costs : HasCosts f) (budget 
         ∙ same_wants f (form_rows f (signs_of starts)) (cost_at (first_costs f starts)) b t st g.basic g.pairs g.places)
         ∙ by (wants_phase_one t) refl
       where
-        wanted : Both f starts (first_costs f starts) b first_few first_free
+        wanted : Both f starts (first_costs f starts) b (first_few f starts all) first_free
             (run_from None budget 0 t) (over_from None f starts (first_costs f starts) budget 0 s)
             → (over_from None f starts (first_costs f starts) budget 0 s >>= λ one. after_over one)
             ≡ answer_in (run_from None budget 0 t >>= λ one. after_first one)
@@ -237,7 +227,7 @@ module _ (f : Form) (starts : List (RowStart ℚ)) (costs : HasCosts f) (budget 
             (Ok (record { end = Optimal; state = s; selection = nothing_seen s; used = 0 })) >>= λ one. after_over one)
             ≡ answer_in (cond c (run_from None budget 0 t) (Ok (record { end = Optimal; tableau = t; used = 0 })) >>=
             λ one. after_first one)
-        by true e = wanted (run_same f starts (first_costs f starts) b first_few first_free budget 0 t s (st, inside) g)
+        by true e = wanted (run_same f starts (first_costs f starts) b (first_few f starts all) first_free budget 0 t s (st, inside) g)
         by false e =
             first_same (record { end = Optimal; tableau = t; used = 0 })
             (record { end = Optimal; state = s; selection = nothing_seen s; used = 0 }) (record {

@@ -16,6 +16,7 @@ use Rattle.spec_simplex.specs.Run.{Run, order_run}
 use Rattle.spec_simplex.specs.Tableau.{Tableau, all_columns, value_at, status_at, lower_at, upper_at}
 use Rattle.spec_simplex.specs.Tableau.{is_basic}
 use Rattle.spec_path.specs.Tables.{way}
+use Rattle.spec_path.proofs.Orders.{by_order, given}
 use Rattle.spec_path.proofs.Runs.{then_ok, order_ok, steps_ok}
 use Rattle.spec_dual.specs.Dual.{Suits, IsPast}
 use Rattle.spec_simplex.specs.declared.ends.Fit.{Fit}
@@ -38,26 +39,18 @@ AboveIs u v false = IfSome u (λ c. v ≤ℚ c)
 below_is : (limit : Option ℕ) (l : Option ℚ) (v : ℚ) (c : Bool) → below_lower limit l v ≡ Ok c → BelowIs l v c
 below_is limit None v c h = let z : false ≡ c = cc in subst (BelowIs None v) z tt
 below_is limit (Some a) v c h =
-    let o = then_ok (order_run limit v a) (λ o. Ok (is_less o)) c h in
-    let z : is_less o.0 ≡ c = cc in
-    subst (BelowIs (Some a) v) z (by o.0 (order_ok limit v a o.0 o.1))
-  where
-    by : (o : Ordering) → o ≡ order v a → BelowIs (Some a) v (is_less o)
-    by Less e = (a, refl, (order_less v a).0 (sym e))
-    by Equal e = subst (λ x. a ≤ℚ x) (sym ((order_equal v a).0 (sym e))) (≤ℚ_refl a)
-    by Greater e = <ℚ-le a v ((order_greater v a).0 (sym e))
+    by_order limit v a (λ o. Ok (is_less o)) c (BelowIs (Some a) v c) h
+    (λ p e. given (BelowIs (Some a) v) true c e (a, refl, p))
+    (λ p e. given (BelowIs (Some a) v) false c e (subst (λ x. a ≤ℚ x) (sym p) (≤ℚ_refl a)))
+    (λ p e. given (BelowIs (Some a) v) false c e (<ℚ-le a v p))
 
 above_is : (limit : Option ℕ) (u : Option ℚ) (v : ℚ) (c : Bool) → above_upper limit u v ≡ Ok c → AboveIs u v c
 above_is limit None v c h = let z : false ≡ c = cc in subst (AboveIs None v) z tt
 above_is limit (Some a) v c h =
-    let o = then_ok (order_run limit v a) (λ o. Ok (is_greater o)) c h in
-    let z : is_greater o.0 ≡ c = cc in
-    subst (AboveIs (Some a) v) z (by o.0 (order_ok limit v a o.0 o.1))
-  where
-    by : (o : Ordering) → o ≡ order v a → AboveIs (Some a) v (is_greater o)
-    by Less e = <ℚ-le v a ((order_less v a).0 (sym e))
-    by Equal e = subst (λ x. x ≤ℚ a) (sym ((order_equal v a).0 (sym e))) (≤ℚ_refl a)
-    by Greater e = (a, refl, (order_greater v a).0 (sym e))
+    by_order limit v a (λ o. Ok (is_greater o)) c (AboveIs (Some a) v c) h
+    (λ p e. given (AboveIs (Some a) v) false c e (<ℚ-le v a p))
+    (λ p e. given (AboveIs (Some a) v) false c e (subst (λ x. x ≤ℚ a) (sym p) (≤ℚ_refl a)))
+    (λ p e. given (AboveIs (Some a) v) true c e (a, refl, p))
 
 -- within both bounds, or past one of them
 abbrev OutsideIs : Option ℚ → Option ℚ → ℚ → Option Bool → Type 0

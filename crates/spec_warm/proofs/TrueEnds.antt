@@ -26,7 +26,7 @@ use Rattle.spec_path.specs.Begins.{signs_of}
 use Rattle.spec_path.proofs.Begun.{sign_square}
 use Rattle.spec_path.proofs.Formed.{form_is}
 use Rattle.spec_cold.proofs.Phases.{phases_finish}
-use Rattle.spec_cold.proofs.Solved.{IsTrueEnd, by_accepted, accepted, clash_accepted}
+use Rattle.spec_cold.proofs.Solved.{IsTrueEnd, by_accepted, end_is_true, accepted, clash_accepted}
 use Rattle.spec_warm.specs.declared.ends.Warm.TheVariants as outcome
 use Rattle.spec_simplex.specs.declared.ends.WarmStop.{WarmStop}
 use Rattle.spec_simplex.specs.declared.ends.WarmStop.TheVariants as fall
@@ -110,12 +110,7 @@ ended_is_true limit budget m basis answer c left pivots fits =
     by_end limit budget m basis fits
     (λ e. e ≡ outcome.Ended answer c left pivots → Holds m answer × (check_run limit m c ≡ Ok answer))
     (λ a d left' pivots' t e.
-    let same_answer : a ≡ answer = cc in
-    let same_certificate : d ≡ c = cc in
-    let checks : check_run limit m c ≡ Ok answer =
-    ap (check_run limit m) (sym same_certificate) ∙ t.checks ∙ ap Ok same_answer in
-    let r = run_sound limit m c answer (subst (IsFor m) same_certificate t.accepted.fits) checks in
-    (subst (Holds m) (sym r.1) (checks_hold m c r.0), checks))
+    let x : a ≡ answer = cc in let z : d ≡ c = cc in end_is_true limit m a answer d c t x z)
     (λ p e. let z : ◌≡◌ {A = WarmResult} (outcome.Stopped (fall.Past p)) (outcome.Ended answer c left pivots) = e in cc)
     (λ f s p q e. let z : ◌≡◌ {A = WarmResult} (outcome.Stopped s) (outcome.Ended answer c left pivots) = e in cc)
 
