@@ -1,8 +1,7 @@
 -- What the run of a script is where it halts, by the exchanges of the lines that were read.
-use Rattle.std.proofs.Common.{◌≡◌, ℕ, ◌^◌, ◌≤◌, ◌<◌, ◌⊎◌, take, List, [], ◌++◌, length, map, Result, Err}
-use Rattle.std.proofs.Common.{Bool, true, false, cond, nat_le, ap, sym, ◌∙◌, append_assoc, append-nil, refl, inl, inr}
-use Rattle.std.proofs.Common.{Option, subst, ⊎_elim, le-leb}
-use Rattle.std.proofs.lemmas.Bool.{lt-leb}
+use Rattle.std.proofs.Common.{◌≡◌, ℕ, ◌^◌, ◌<◌, ◌⊎◌, take, List, [], ◌++◌, length, map, Result, Err}
+use Rattle.std.proofs.Common.{ap, sym, ◌∙◌, append_assoc, append-nil, refl, inl, inr}
+use Rattle.std.proofs.Common.{Option, subst, ⊎_elim}
 use Rattle.std.specs.Io.KnownBytes.{Appends}
 use Rattle.std.proofs.KnownBytes.{Consumes-nil, Appends-nil}
 use Rattle.spec_text.specs.Lines.{lines_of, ended_lines_of, input_limit, IsPrefixOf}
@@ -17,6 +16,7 @@ use Rattle.spec_server.specs.Script.{ended_asks_of}
 use Rattle.spec_server.specs.Script as script
 use Rattle.spec_server.specs.Output.{script_out}
 use Rattle.spec_server.proofs.RunLemmas.{script_out-append}
+use Rattle.spec_server.proofs.ScriptBytes.{with_asks, script_within, script_past}
 use Rattle.spec_world.specs.Workers.{RunsBy}
 use Rattle.spec_world.proofs.ManyFromOne.{one_runs_by}
 use Rattle.lp_base.specs.Taking.{ReadsAll, ReadsFront, ReadsPart}
@@ -28,29 +28,8 @@ use Rattle.lp_script.proofs.SoFar.{IsSoFar, goes_on}
 
 -- ---- scripts by their length
 
--- one that may be read, by its asks
-abbrev with_asks : List ℕ → List (Asked ExactAsk) → Script
-with_asks read asks = record { asks = asks; ending = ending_by (pending_after Numbered Between (lines_of read)) }
-
-abbrev whole_script : List ℕ → Script
-whole_script read = with_asks read (asks_from Numbered Between (lines_of read))
-
--- one that is too long
-abbrev long_script : List ℕ → Script
-long_script read = record { asks = ended_asks_of read; ending = script.Over }
-
-script_by : (read : List ℕ) (t : Bool) → nat_le (length read) input_limit ≡ t →
-    script_of read ≡ cond t (whole_script read) (long_script read)
-unfolding script_of
-script_by read t e = ap (λ (b : Bool). cond b (whole_script read) (long_script read)) e
-
-pub script_within : (read : List ℕ) → length read ≤ 2 ^ 26 → script_of read ≡ whole_script read
-script_within read h = script_by read true (le-leb (length read) input_limit h)
-
-pub script_past : (read : List ℕ) → 2 ^ 26 < length read → script_of read ≡ long_script read
-script_past read h = script_by read false (lt-leb (length read) input_limit h)
-
-ended_asks : (read : List ℕ) → ended_asks_of read ≡ asks_from Numbered Between (ended_lines_of (take input_limit read))
+ended_asks : (read : List ℕ) →
+    ended_asks_of Numbered read ≡ asks_from Numbered Between (ended_lines_of (take input_limit read))
 unfolding ended_asks_of
 ended_asks read = refl
 
@@ -105,7 +84,7 @@ module _ {workers places : ℕ} {left_before left_after taken_before taken_after
         asks = inr (
           on.asks
               ∙ ap (asks_from Numbered Between) (sym all.all)
-              ∙ sym (ap (λ (s : Script). s.asks) (script_within all.read all.bound)),
+              ∙ sym (ap (λ (s : Script). s.asks) (script_within Numbered all.read all.bound)),
           all.at_end,
         );
         runs = one_runs_by places workers (exchanges ++ on.others) on.runs;
@@ -123,7 +102,7 @@ module _ {workers places : ℕ} {left_before left_after taken_before taken_after
       (moves : Moves workers places (streams left_before left_after taken_before taken_after)) ×
       (moves.read ≡ r.read) × (written ≡ script_out exchanges → BreaksOff moves)
   moves_broken_off r =
-      let ended : map asked_in exchanges ≡ ended_asks_of r.read =
+      let ended : map asked_in exchanges ≡ ended_asks_of Numbered r.read =
       asks ∙ ap (asks_from Numbered Between) (sym r.ended) ∙ sym (ended_asks r.read) in (
         record {
           read = r.read;
@@ -149,9 +128,9 @@ module _ {workers places : ℕ} {left_before left_after taken_before taken_after
       asks ∙ ap (asks_from Numbered Between) (sym all.all) in
       let ends_so : ending_by (pending_after Numbered Between (lines_of all.read)) ≡ ending =
       ap (λ (ls : List (Line (List ℕ))). ending_by (pending_after Numbered Between ls)) all.all ∙ ends in
-      let is : script_of all.read ≡ record { asks = map asked_in exchanges; ending = ending } =
-      script_within all.read all.bound
-      ∙ ap (λ (zs : List (Asked ExactAsk)). with_asks all.read zs) (sym all_asks)
+      let is : script_of Numbered all.read ≡ record { asks = map asked_in exchanges; ending = ending } =
+      script_within Numbered all.read all.bound
+      ∙ ap (with_asks Numbered all.read) (sym all_asks)
       ∙ ap (λ (e : Ending). record { asks = map asked_in exchanges; ending = e }) ends_so in (
         record {
           read = all.read;
@@ -175,7 +154,7 @@ module _ {workers places : ℕ} {left_before left_after taken_before taken_after
       let past_so : 2 ^ 26 < length m.0.read = subst (λ (read : List ℕ). 2 ^ 26 < length read) (sym m.1) past in (
         m.0,
         λ whole. record {
-          script = script_past m.0.read past_so
+          script = script_past Numbered m.0.read past_so
               ∙ ap (λ (zs : List (Asked ExactAsk)). record { asks = zs; ending = script.Over }) (sym (m.2 whole).asks);
           whole = (m.2 whole).whole;
         },

@@ -2,6 +2,7 @@
 use Rattle.std.specs.Prelude.{ℕ, ◌≡◌, ◌≤◌, ◌⊎◌, List, map, Option, Result, Ok, Err}
 use Rattle.std.specs.Io.KnownBytes.{Consumes, Appends, IsAtEnd}
 use Rattle.spec_text.specs.Lines.{IsPrefixOf}
+use Rattle.spec_server.specs.declared.addressing.Addressing.TheVariants.{Numbered}
 use Rattle.spec_server.specs.declared.asks.Asked.{Asked}
 use Rattle.spec_server.specs.Machine.{ExactAsk}
 use Rattle.spec_server.specs.Exchanges.{Exchange, asked_in}
@@ -22,7 +23,8 @@ IsWorkers workers = (1 ≤ workers) × (workers ≤ 16)
 
 -- these are the asks of the lines that end among the bytes; or all asks of the script, where the input has ended
 abbrev pub AreAsked : Option (List ℕ) → List ℕ → List (Asked ExactAsk) → Type 0
-AreAsked after read asks = (asks ≡ ended_asks_of read) ⊎ ((asks ≡ (script_of read).asks) × IsAtEnd after)
+AreAsked after read asks =
+    (asks ≡ ended_asks_of Numbered read) ⊎ ((asks ≡ (script_of Numbered read).asks) × IsAtEnd after)
 
 -- The bytes that were read; the exchanges of their asks, in which each session runs alone, by so many workers, and
 -- shares so many places with the others; and the bytes that were written, a prefix of the output of the exchanges.
@@ -42,7 +44,7 @@ IsWhole moves = moves.written ≡ script_out moves.exchanges
 
 -- the bytes are a whole script with this end, the exchanges are those of its asks, and the whole output was written
 pub record EndsWith {workers places : ℕ} {s : Streams} (moves : Moves workers places s) (ending : Ending) : Type 0 where
-  pub script : script_of moves.read ≡ record { asks = map asked_in moves.exchanges; ending = ending }
+  pub script : script_of Numbered moves.read ≡ record { asks = map asked_in moves.exchanges; ending = ending }
   pub whole : IsWhole moves
 
 -- nothing is left to be read
@@ -53,7 +55,7 @@ pub record EndsInput {workers places : ℕ} {s : Streams}
 
 -- the exchanges are those of the lines that end among the bytes, and the whole output was written
 pub record BreaksOff {workers places : ℕ} {s : Streams} (moves : Moves workers places s) : Type 0 where
-  pub asks : map asked_in moves.exchanges ≡ ended_asks_of moves.read
+  pub asks : map asked_in moves.exchanges ≡ ended_asks_of Numbered moves.read
   pub whole : IsWhole moves
 
 abbrev pub EndsSo : {workers places : ℕ} {s : Streams} → Moves workers places s → Result (Unit {0}) Halt → Type 0

@@ -1,7 +1,7 @@
 -- What a link asks, by the lines that were read of it.
-use Rattle.std.proofs.Common.{◌≡◌, ℕ, ◌^◌, ◌≤◌, ◌<◌, ◌-◌, ◌+◌, Bool, true, false, cond, nat_le, List, [], ◌∷◌, ◌++◌}
-use Rattle.std.proofs.Common.{length, take, ap, sym, ◌∙◌, append-nil, subst, le-leb, arith, ⊎_elim, length-append}
-use Rattle.std.proofs.lemmas.Bool.{lt-leb, cases_lt}
+use Rattle.std.proofs.Common.{◌≡◌, ℕ, ◌^◌, ◌≤◌, ◌<◌, ◌-◌, ◌+◌, true, false, List, [], ◌∷◌, ◌++◌}
+use Rattle.std.proofs.Common.{length, take, ap, sym, ◌∙◌, append-nil, subst, arith, ⊎_elim, length-append}
+use Rattle.std.proofs.lemmas.Bool.{cases_lt}
 use Rattle.std.proofs.lemmas.List.{take-append-le}
 use Rattle.std.proofs.Math.Seq.{take-append-add}
 use Rattle.spec_text.specs.Lines.{lines_of, ended_lines_of, input_limit}
@@ -10,8 +10,10 @@ use Rattle.spec_server.specs.declared.addressing.Addressing.TheVariants.{Alone}
 use Rattle.spec_server.specs.declared.asks.Asked.{Asked}
 use Rattle.spec_server.specs.Machine.{ExactAsk}
 use Rattle.spec_server.specs.Script.{Between, Script, Ending, Ended, Over, asks_from, pending_after, ending_by}
+use Rattle.spec_server.specs.Script.{ended_asks_of, script_of}
+use Rattle.spec_server.proofs.ScriptBytes.{with_asks, script_within, script_past}
 use Rattle.spec_server.proofs.ScriptLemmas.{asks_from-append}
-use Rattle.spec_serve.specs.Link.{is_quit, quits, up_to_quit, until_quit, all_asks_of, link_asks_of, ended_link_asks_of}
+use Rattle.spec_serve.specs.Link.{is_quit, quits, up_to_quit, until_quit, link_asks_of, ended_link_asks_of}
 use Rattle.spec_serve.specs.Link.{AreFirstOf}
 use Rattle.spec_serve.proofs.UpToQuit.{up_to_quit_none, until_quit_none, first_before_quit, first_with_last}
 use Rattle.spec_serve.proofs.UpToQuit.{until_quit_last}
@@ -19,33 +21,12 @@ use Rattle.spec_serve.proofs.UpToQuit.{until_quit_last}
 abbrev pub asks_of_lines : List (Line (List ℕ)) → List (Asked ExactAsk)
 asks_of_lines lines = asks_from Alone Between lines
 
--- ---- by the length of what is sent
-
-abbrev short_asks : List ℕ → Script
-short_asks bytes = record {
-  asks = asks_of_lines (lines_of bytes);
-  ending = ending_by (pending_after Alone Between (lines_of bytes));
-}
-
-abbrev long_asks : List ℕ → Script
-long_asks bytes = record { asks = asks_of_lines (ended_lines_of (take input_limit bytes)); ending = Over }
-
-all_by : (bytes : List ℕ) (t : Bool) → nat_le (length bytes) input_limit ≡ t →
-    all_asks_of bytes ≡ cond t (short_asks bytes) (long_asks bytes)
-all_by bytes t e = ap (λ (b : Bool). cond b (short_asks bytes) (long_asks bytes)) e
-
-all_within : (bytes : List ℕ) → length bytes ≤ 2 ^ 26 → all_asks_of bytes ≡ short_asks bytes
-all_within bytes h = all_by bytes true (le-leb (length bytes) input_limit h)
-
-all_past : (bytes : List ℕ) → 2 ^ 26 < length bytes → all_asks_of bytes ≡ long_asks bytes
-all_past bytes h = all_by bytes false (lt-leb (length bytes) input_limit h)
-
 -- ---- the first asks of all
 
 pub record AsksBegin (asks : List (Asked ExactAsk)) (bytes : List ℕ) : Type 0 where
   pub rest : List (Asked ExactAsk)
   pub ending : Ending
-  pub is : all_asks_of bytes ≡ record { asks = asks ++ rest; ending = ending }
+  pub is : script_of Alone bytes ≡ record { asks = asks ++ rest; ending = ending }
 
 -- no more bytes come
 pub begins_whole : (read : List ℕ) (lines : List (Line (List ℕ))) → lines_of read ≡ lines → length read ≤ 2 ^ 26 →
@@ -53,10 +34,8 @@ pub begins_whole : (read : List ℕ) (lines : List (Line (List ℕ))) → lines_
 begins_whole read lines all within = record {
   rest = [];
   ending = ending_by (pending_after Alone Between (lines_of read));
-  is = all_within read within
-      ∙ ap (λ (zs : List (Asked ExactAsk)).
-      let so : Script = record { asks = zs; ending = ending_by (pending_after Alone Between (lines_of read)) } in so)
-      (ap asks_of_lines all ∙ sym (append-nil (asks_of_lines lines)));
+  is = script_within Alone read within
+      ∙ ap (with_asks Alone read) (ap asks_of_lines all ∙ sym (append-nil (asks_of_lines lines)));
 }
 
 -- these lines come first, whatever bytes follow those that were read
@@ -67,14 +46,14 @@ module _ (raw : List ℕ) (lines : List (Line (List ℕ))) (within : length raw 
   after_lines more = asks_from Alone (pending_after Alone Between lines) more
 
   begins_long : (more : List ℕ) → 2 ^ 26 < length (raw ++ more) → AsksBegin (asks_of_lines lines) (raw ++ more)
-  unfolding after_lines
+  unfolding after_lines ended_asks_of
   begins_long more past =
       let n : ℕ = input_limit - length raw in
       let room : input_limit ≡ length raw + n = omega arith in
       record {
         rest = after_lines (ended_lines_of (take n more));
         ending = Over;
-        is = all_past (raw ++ more) past
+        is = script_past Alone (raw ++ more) past
             ∙ ap (λ (ls : List (Line (List ℕ))).
             let so : Script = record { asks = asks_of_lines ls; ending = Over } in so)
             (ap (λ (k : ℕ). ended_lines_of (take k (raw ++ more))) room
@@ -87,12 +66,11 @@ module _ (raw : List ℕ) (lines : List (Line (List ℕ))) (within : length raw 
   begins_short : (more : List ℕ) → length (raw ++ more) ≤ 2 ^ 26 → AsksBegin (asks_of_lines lines) (raw ++ more)
   unfolding after_lines
   begins_short more short =
-      let ending : Ending = ending_by (pending_after Alone Between (lines_of (raw ++ more))) in
       record {
         rest = after_lines (lines_of more);
-        ending = ending;
-        is = all_within (raw ++ more) short
-            ∙ ap (λ (zs : List (Asked ExactAsk)). let so : Script = record { asks = zs; ending = ending } in so)
+        ending = ending_by (pending_after Alone Between (lines_of (raw ++ more)));
+        is = script_within Alone (raw ++ more) short
+            ∙ ap (with_asks Alone (raw ++ more))
             (ap asks_of_lines (all more) ∙ asks_from-append Alone Between lines (lines_of more));
       }
 
@@ -137,7 +115,7 @@ pub asks_at_end : (read : List ℕ) (lines : List (Line (List ℕ))) → lines_o
 unfolding link_asks_of
 asks_at_end read lines all within none =
     ap until_quit
-    (all_within read within
+    (script_within Alone read within
     ∙ ap (λ (ls : List (Line (List ℕ))).
     let so : Script = record { asks = asks_of_lines ls; ending = ending_by (pending_after Alone Between ls) } in so)
     all)
@@ -148,11 +126,11 @@ asks_at_end read lines all within none =
 pub asks_past : (read : List ℕ) (lines : List (Line (List ℕ))) → ended_lines_of (take input_limit read) ≡ lines →
     2 ^ 26 < length read → quits (asks_of_lines lines) ≡ false → (more : List ℕ) →
     link_asks_of (read ++ more) ≡ record { asks = asks_of_lines lines; ending = Over }
-unfolding link_asks_of
+unfolding link_asks_of ended_asks_of
 asks_past read lines ended past none more =
     let longer : 2 ^ 26 < length (read ++ more) = omega (arith, length-append read more) in
     ap until_quit
-    (all_past (read ++ more) longer
+    (script_past Alone (read ++ more) longer
     ∙ ap (λ (ls : List (Line (List ℕ))).
     let so : Script = record { asks = asks_of_lines ls; ending = Over } in so)
     (ap ended_lines_of (take-append-le input_limit read more (omega arith)) ∙ ended))
@@ -161,7 +139,7 @@ asks_past read lines ended past none more =
 -- by the lines that end
 pub ended_asks : (read : List ℕ) (lines : List (Line (List ℕ))) → ended_lines_of (take input_limit read) ≡ lines →
     quits (asks_of_lines lines) ≡ false → asks_of_lines lines ≡ ended_link_asks_of read
-unfolding ended_link_asks_of
+unfolding ended_link_asks_of ended_asks_of
 ended_asks read lines ended none =
     sym (up_to_quit_none (asks_of_lines lines) none)
     ∙ ap (λ (ls : List (Line (List ℕ))). up_to_quit (asks_of_lines ls)) (sym ended)

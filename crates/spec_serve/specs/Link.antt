@@ -1,9 +1,9 @@
 -- What a link asks: its lines name no session, and it ends at the first QUIT.
-use Rattle.std.specs.Prelude.{ℕ, ◌≡◌, ◌⊎◌, ◌++◌, Bool, true, false, Option, List, [], ◌∷◌, length, take, map, nat_le}
+use Rattle.std.specs.Prelude.{ℕ, ◌≡◌, ◌⊎◌, ◌++◌, Bool, true, false, Option, List, [], ◌∷◌, map}
 use Rattle.std.specs.Prelude.{if◌then◌else◌}
 use Rattle.std.specs.List.{flat_map, list_any}
 use Rattle.std.specs.Io.KnownBytes.{Consumes, Appends, IsAtEnd}
-use Rattle.spec_text.specs.Lines.{lines_of, ended_lines_of, input_limit, IsPrefixOf}
+use Rattle.spec_text.specs.Lines.{IsPrefixOf}
 use Rattle.spec_server.specs.declared.addressing.Addressing.TheVariants.{Alone}
 use Rattle.spec_server.specs.declared.asks.Ask.TheVariants as ask
 use Rattle.spec_server.specs.declared.asks.Asked.{Asked}
@@ -11,7 +11,7 @@ use Rattle.spec_server.specs.declared.command.Plain.TheVariants as command
 use Rattle.spec_server.specs.Machine.{ExactAsk, State, opening}
 use Rattle.spec_server.specs.Exchanges.{Exchange, asked_in, AloneRun}
 use Rattle.spec_server.specs.Output.{reply_lines}
-use Rattle.spec_server.specs.Script.{Between, Script, Ending, Ended, Cut, Over, asks_from, pending_after, ending_by}
+use Rattle.spec_server.specs.Script.{Script, Ending, Ended, Cut, Over, ended_asks_of, script_of}
 use Rattle.spec_server.specs.Streams.{Streams}
 use Rattle.spec_serve.specs.declared.link_end.LinkEnd.{LinkEnd}
 use Rattle.spec_serve.specs.declared.link_end.LinkEnd.TheVariants as end
@@ -36,20 +36,11 @@ until_quit s = record { asks = up_to_quit s.asks; ending = if quits s.asks then 
 
 -- the asks of the lines that end among these bytes, as far as a link may be read
 unfoldable pub ended_link_asks_of : List ℕ → List (Asked ExactAsk)
-ended_link_asks_of bytes = up_to_quit (asks_from Alone Between (ended_lines_of (take input_limit bytes)))
+ended_link_asks_of bytes = up_to_quit (ended_asks_of Alone bytes)
 
 -- the asks of the lines of all these bytes, and how they end
-abbrev pub all_asks_of : List ℕ → Script
-all_asks_of bytes =
-    if nat_le (length bytes) input_limit
-    then record {
-      asks = asks_from Alone Between (lines_of bytes);
-      ending = ending_by (pending_after Alone Between (lines_of bytes));
-    }
-    else record { asks = asks_from Alone Between (ended_lines_of (take input_limit bytes)); ending = Over }
-
 unfoldable pub link_asks_of : List ℕ → Script
-link_asks_of bytes = until_quit (all_asks_of bytes)
+link_asks_of bytes = until_quit (script_of Alone bytes)
 
 -- ---- what is written
 

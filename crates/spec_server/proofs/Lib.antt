@@ -13,6 +13,7 @@ pub mod RunLemmas
 pub mod Answered
 pub mod KeptEdits
 pub mod ScriptLemmas
+pub mod ScriptBytes
 pub mod ScriptKept
 pub mod Truth
 pub mod CheckLemmas

@@ -1,6 +1,6 @@
 -- The models that a script's asks hold may be kept, and so may the numbers of its edits.
 use Rattle.std.proofs.Common.{◌≡◌, ℕ, Bool, true, false, cond, Option, Some, None, List, [], ◌∷◌, ◌++◌, length, take}
-use Rattle.std.proofs.Common.{refl}
+use Rattle.std.proofs.Common.{refl, sym, subst}
 use Rattle.std.specs.Prelude.{nat_le}
 use Rattle.std.proofs.lemmas.List.Elements.{All-nil, All-cons, All-append}
 use Rattle.spec_text.specs.declared.line.Line.{Line}
@@ -15,15 +15,15 @@ use Rattle.spec_server.specs.declared.asks.Asked.{Asked}
 use Rattle.spec_edit.specs.Edited.{ExactEdit}
 use Rattle.spec_server.specs.declared.addressing.Addressed.{Addressed}
 use Rattle.spec_server.specs.declared.addressing.Addressing.{Addressing}
-use Rattle.spec_server.specs.declared.addressing.Addressing.TheVariants.{Numbered}
 use Rattle.spec_server.specs.declared.command.Command.TheVariants.{Load, Check, Plain, Bad}
 use Rattle.spec_server.specs.Addressing.{addressed_in}
 use Rattle.spec_server.specs.Command.{ExactCommand}
 use Rattle.spec_server.specs.Machine.{ExactAsk, IsKeptAsk, AreKept}
-use Rattle.spec_server.specs.Script.{Pending, Between, Text, Certificate, Script, Over, ends_text, ends_certificate}
+use Rattle.spec_server.specs.Script.{Pending, Between, Text, Certificate, Script, ends_text, ends_certificate}
 use Rattle.spec_server.specs.Script.{ask_of_verdict, ask_of_judgement}
 use Rattle.spec_server.specs.Script.{pending_after_line, asks_of_command, asks_by, asks_of_line, asks_from}
-use Rattle.spec_server.specs.Script.{ended_asks_of, script_of, ending_by, pending_after}
+use Rattle.spec_server.specs.Script.{ended_asks_of, script_of}
+use Rattle.spec_server.proofs.ScriptBytes.{whole_script, long_script, script_by}
 use Rattle.spec_server.proofs.ScriptLemmas.{IsKeptCommand, IsKeptLine, line_is_kept}
 
 none_kept : AreKept []
@@ -73,17 +73,13 @@ lines_kept addressing p (next ∷ lines) =
     (asks_from addressing after lines)
     (line_kept addressing p next) (lines_kept addressing after lines)
 
-pub script_kept : (bytes : List ℕ) → AreKept (script_of bytes).asks
-unfolding script_of ended_asks_of
-script_kept bytes = by (nat_le (length bytes) input_limit)
+pub script_kept : (addressing : Addressing) (bytes : List ℕ) → AreKept (script_of addressing bytes).asks
+unfolding ended_asks_of
+script_kept addressing bytes =
+    subst (λ (s : Script). AreKept s.asks)
+    (sym (script_by addressing bytes (nat_le (length bytes) input_limit) refl))
+    (by (nat_le (length bytes) input_limit))
   where
-    by : (t : Bool)
-        → AreKept (cond {A = Script} t
-        (record {
-          asks = asks_from Numbered Between (lines_of bytes);
-          ending = ending_by
-              (pending_after Numbered Between (lines_of bytes));
-        })
-        (record { asks = ended_asks_of bytes; ending = Over })).asks
-    by true = lines_kept Numbered Between (lines_of bytes)
-    by false = lines_kept Numbered Between (ended_lines_of (take input_limit bytes))
+    by : (t : Bool) → AreKept (cond t (whole_script addressing bytes) (long_script addressing bytes)).asks
+    by true = lines_kept addressing Between (lines_of bytes)
+    by false = lines_kept addressing Between (ended_lines_of (take input_limit bytes))

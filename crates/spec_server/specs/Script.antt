@@ -16,7 +16,6 @@ use Rattle.spec_server.specs.declared.asks.Ask.TheVariants as ask
 use Rattle.spec_server.specs.declared.asks.Asked.{Asked}
 use Rattle.spec_server.specs.declared.addressing.Addressed.{Addressed}
 use Rattle.spec_server.specs.declared.addressing.Addressing.{Addressing}
-use Rattle.spec_server.specs.declared.addressing.Addressing.TheVariants.{Numbered}
 use Rattle.spec_server.specs.declared.command.Command.TheVariants.{Load, Check, Plain, Bad}
 use Rattle.spec_server.specs.Addressing.{addressed_in}
 use Rattle.spec_server.specs.Command.{ExactCommand}
@@ -129,14 +128,14 @@ pub record Script : Type 0 where
   pub ending : Ending
 
 -- the asks of the lines that end among these bytes, as far as a script may be read
-unfoldable pub ended_asks_of : List ℕ → List (Asked ExactAsk)
-ended_asks_of bytes = asks_from Numbered Between (ended_lines_of (take input_limit bytes))
+unfoldable pub ended_asks_of : Addressing → List ℕ → List (Asked ExactAsk)
+ended_asks_of addressing bytes = asks_from addressing Between (ended_lines_of (take input_limit bytes))
 
-unfoldable pub script_of : List ℕ → Script
-script_of bytes =
+unfoldable pub script_of : Addressing → List ℕ → Script
+script_of addressing bytes =
     if nat_le (length bytes) input_limit
     then record {
-      asks = asks_from Numbered Between (lines_of bytes);
-      ending = ending_by (pending_after Numbered Between (lines_of bytes));
+      asks = asks_from addressing Between (lines_of bytes);
+      ending = ending_by (pending_after addressing Between (lines_of bytes));
     }
-    else record { asks = ended_asks_of bytes; ending = Over }
+    else record { asks = ended_asks_of addressing bytes; ending = Over }

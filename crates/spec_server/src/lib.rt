@@ -20,7 +20,7 @@
 //! | `AloneRun` | the runs of the one-session machine | specs/Exchanges |
 //! | `RunAlone` | the exchanges of many sessions, each on its own | specs/Exchanges |
 //! | `RunFits` | those, with what they read of the places that they share | specs/Exchanges |
-//! | `script_of` | the asks of a script and how it ends, by its bytes | specs/Script |
+//! | `script_of` | the asks of a script and how it ends, by its bytes and by whether its lines name sessions | specs/Script |
 //! | `Streams` | what a source has left and a sink has taken, before a call and after it | specs/Streams |
 //! | `IsSaid` | what a step from line to line says of an input | specs/Said |
 //! | `said`, `check_line` | what the command `check` says of its input, and the line that it writes | specs/CheckOut |
@@ -59,6 +59,7 @@ ghost use Rattle.spec_server.specs.Machine.{ExactAsk, ExactReply, ExactLastAnswe
 ghost use Rattle.spec_server.specs.Machine.{is_memory, State, opening};
 ghost use Rattle.spec_server.specs.Step.{AloneStep};
 ghost use Rattle.spec_server.specs.Exchanges.{Exchange, asked_in, AloneRun, RunAlone};
+ghost use Rattle.spec_server.specs.declared.addressing.Addressing.TheVariants.{Numbered};
 ghost use Rattle.spec_server.specs.Script.{script_of};
 ghost use Rattle.spec_server.specs.Output.{ended_lines};
 ghost use Rattle.spec_server.specs.Said.{IsSaidEarly};
@@ -162,5 +163,5 @@ pub fn asks_have_a_run()
 /// The models that a script's asks are to hold may be kept, and its edits have numbers and bounds that a kept model may
 /// have.
 pub fn scripts_ask_kept_models()
-    ensures { (bytes : List ℕ) → AreKept (script_of bytes).asks }
+    ensures { (bytes : List ℕ) → AreKept (script_of Numbered bytes).asks }
 {}

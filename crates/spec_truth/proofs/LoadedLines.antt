@@ -1,8 +1,6 @@
 -- A model that a script asks to hold is spelled by the lines after a command LOAD.
 use Rattle.std.proofs.Common.{◌≡◌, ℕ, Bool, true, false, cond, List, [], ◌∷◌, ◌++◌, Option, Some, None, refl, sym, ◌∙◌}
 use Rattle.std.proofs.Common.{ap, ◌⊎◌, inl, inr, append_assoc, append-nil, ◌≤◌, length, take}
-use Rattle.std.specs.Prelude.{nat_le}
-use borrow.Author.Tests.{le-leb}
 use Rattle.spec_text.specs.Lines.{lines_of, ended_lines_of, input_limit}
 use Rattle.spec_text.specs.declared.line.Line.{Line}
 use Rattle.spec_edit.specs.Edited.{ExactEdit}
@@ -23,7 +21,8 @@ use Rattle.spec_server.specs.Machine.{ExactAsk}
 use Rattle.spec_server.specs.Script.{ends_text, ends_certificate, ask_of_verdict, ask_of_judgement, Pending, Between}
 use Rattle.spec_server.specs.Script.{Text, Certificate, begun, begun_by, pending_after_line, pending_after}
 use Rattle.spec_server.specs.Script.{asks_of_command, asks_by, asks_of_line, asks_from, ended_asks_of, script_of}
-use Rattle.spec_server.specs.Script.{Script, Over, ending_by}
+use Rattle.spec_server.specs.Script.{Script}
+use Rattle.spec_server.proofs.ScriptBytes.{script_within}
 use Rattle.spec_truth.specs.LoadedFrom.{IsLoadedFrom}
 
 abbrev pub Asks : Type 0
@@ -343,24 +342,15 @@ module _ (addressing : Addressing) where
 -- ---- the bytes of a script
 
 pub loaded_from_ended : (bytes : List ℕ) (before behind : Asks) (session : ℕ) (m : Model) →
-    ended_asks_of bytes ≡ before ++ loaded session m ∷ behind →
+    ended_asks_of Numbered bytes ≡ before ++ loaded session m ∷ behind →
     IsLoadedFrom Numbered (ended_lines_of (take input_limit bytes)) before session m
 unfolding ended_asks_of
 loaded_from_ended bytes before behind session m e =
     loaded_from Numbered (ended_lines_of (take input_limit bytes)) before behind session m e
 
 pub loaded_from_whole : (bytes : List ℕ) (before behind : Asks) (session : ℕ) (m : Model) →
-    length bytes ≤ input_limit → (script_of bytes).asks ≡ before ++ loaded session m ∷ behind →
+    length bytes ≤ input_limit → (script_of Numbered bytes).asks ≡ before ++ loaded session m ∷ behind →
     IsLoadedFrom Numbered (lines_of bytes) before session m
-unfolding script_of
 loaded_from_whole bytes before behind session m h e =
-    by (nat_le (length bytes) input_limit) (le-leb (length bytes) input_limit h) e
-  where
-    by : (t : Bool) → t ≡ true →
-        (cond {A = Script} t (record {
-          asks = asks_from Numbered Between (lines_of bytes);
-          ending = ending_by (pending_after Numbered Between (lines_of bytes));
-        }) (record { asks = ended_asks_of bytes; ending = Over })).asks ≡ before ++ loaded session m ∷ behind →
-        IsLoadedFrom Numbered (lines_of bytes) before session m
-    by true is k = loaded_from Numbered (lines_of bytes) before behind session m k
-    by false is k = cc
+    loaded_from Numbered (lines_of bytes) before behind session m
+    (ap (λ (s : Script). s.asks) (sym (script_within Numbered bytes h)) ∙ e)

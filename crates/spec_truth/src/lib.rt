@@ -72,11 +72,11 @@ pub fn loaded_models_are_spelled()
         asks_from addressing Between lines ≡ before ++ record { session = session; ask = ask.Loaded m } ∷ behind →
         IsLoadedFrom addressing lines before session m }
     ensures ended { (bytes : List ℕ) (before behind : List (asked_of ExactAsk)) (session : ℕ) (m : Model) →
-        ended_asks_of bytes ≡ before ++ record { session = session; ask = ask.Loaded m } ∷ behind →
+        ended_asks_of Numbered bytes ≡ before ++ record { session = session; ask = ask.Loaded m } ∷ behind →
         IsLoadedFrom Numbered (ended_lines_of (take input_limit bytes)) before session m }
     ensures whole { (bytes : List ℕ) (before behind : List (asked_of ExactAsk)) (session : ℕ) (m : Model) →
         length bytes ≤ input_limit →
-        (script_of bytes).asks ≡ before ++ record { session = session; ask = ask.Loaded m } ∷ behind →
+        (script_of Numbered bytes).asks ≡ before ++ record { session = session; ask = ask.Loaded m } ∷ behind →
         IsLoadedFrom Numbered (lines_of bytes) before session m }
 {}
 
