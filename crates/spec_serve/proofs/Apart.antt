@@ -1,12 +1,11 @@
 -- The exchanges of the links that workers served, apart by worker and by session.
-use Rattle.std.proofs.Common.{◌≡◌, ◌≢◌, ℕ, zero, suc, ◌+◌, ◌*◌, ◌<◌, ◌≤◌, ◌%◌, List, [], ◌∷◌, ◌++◌, Bool, true, false}
+use Rattle.std.proofs.Common.{◌≡◌, ◌≢◌, ℕ, zero, suc, ◌+◌, ◌<◌, ◌≤◌, ◌%◌, List, [], ◌∷◌, ◌++◌, Bool, true, false}
 use Rattle.std.proofs.Common.{nat_eq, cond, length, get_or, eqb-true, eq-eqb, refl, ap, sym, ◌∙◌, subst, arith}
 use Rattle.std.proofs.Common.{append-nil}
 use Rattle.std.specs.List.{filter, flat_map, AllByRecursion}
 use Rattle.std.proofs.lemmas.Grind.{flat_map-append}
 use Rattle.std.proofs.lemmas.List.Elements.{filter-append}
 use Rattle.std.proofs.lemmas.Nat.{mod-mul-add}
-use Rattle.spec_reads.specs.Reads.{ExactRead}
 use Rattle.spec_server.specs.Machine.{State, opening}
 use Rattle.spec_server.specs.Exchanges.{Exchange, AloneRun, of_session, RunAlone}
 use Rattle.spec_world.specs.Workers.{reads_in_all, exchanges_of_worker}

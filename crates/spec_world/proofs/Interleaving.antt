@@ -2,12 +2,10 @@
 use Rattle.std.proofs.Common.{◌≡◌, ℕ, ◌<◌, ◌%◌, Bool, true, false, List, [], ◌∷◌, ◌++◌, map, refl, sym, ap, ◌∙◌, subst}
 use Rattle.std.proofs.Common.{nat_eq, eqb-true, cond}
 use Rattle.std.proofs.lemmas.Bool.{eq-eqb}
-use Rattle.std.specs.List.{filter, flat_map}
-use Rattle.spec_reads.specs.Reads.{ExactRead}
 use Rattle.spec_reads.specs.Orders.{InPairs, AreInOrder, AreBacked}
 use Rattle.spec_server.specs.declared.asks.Asked.{Asked}
-use Rattle.spec_server.specs.Machine.{ExactAsk, State, opening}
-use Rattle.spec_server.specs.Exchanges.{Exchange, asked_in, AloneRun, of_session, RunAlone}
+use Rattle.spec_server.specs.Machine.{ExactAsk, opening}
+use Rattle.spec_server.specs.Exchanges.{Exchange, asked_in, AloneRun, of_session}
 use Rattle.spec_world.specs.Workers.{reads_in_all, reads_of_worker, exchanges_of_worker, asks_of_worker, Interleaves}
 use Rattle.spec_world.specs.Workers.{HasServedAlone, ManyFits}
 

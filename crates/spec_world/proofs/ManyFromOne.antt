@@ -9,7 +9,7 @@ use Rattle.spec_reads.specs.declared.place.Place.TheVariants as place
 use Rattle.spec_reads.specs.declared.read.Read.TheVariants.{Count, NotDone, Seen, Claim, Lost, Done}
 use Rattle.spec_reads.specs.Reads.{ExactRead}
 use Rattle.spec_reads.specs.Places.{ExactPlace, place_at, Answers, Logged, Plays, logged}
-use Rattle.spec_reads.specs.Orders.{InPairs, AreInOrder, published_by, published_in, IsBacked, AreBacked}
+use Rattle.spec_reads.specs.Orders.{InPairs, AreInOrder, published_by, published_in, IsBacked}
 use Rattle.spec_server.specs.Machine.{opening}
 use Rattle.spec_server.specs.Exchanges.{Exchange, log_of, RunFits}
 use Rattle.spec_world.specs.Workers.{reads_in_all, reads_of_worker, ManyFits, RunsBy}
