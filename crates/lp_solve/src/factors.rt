@@ -81,21 +81,41 @@ fn tableaus_first(alloc: Global, budget: u64, model: &Model, form: &Form) -> Res
     }
 }
 
-// The fewest rows, and the most entries of a column on average, of a model whose pivots are quicker over factors.
-const MANY_ROWS: u32 = 80;
+// How many entries of a column are counted at the most, on average.
+const COUNTED: usize = 3;
 
-const FEW_ENTRIES: usize = 3;
+// How many counted entries beyond two a row there are in a model whose pivots are quicker over factors.
+const BEYOND: usize = 180;
 
-// Whether the run over factors is likely the quicker one: of large and sparse models (docs/PERFORMANCE.md).
-fn suits_factors(form: &Form) -> bool {
-    if form.rows() < MANY_ROWS {
-        return false;
-    }
+// The fewest rows of a model whose pivots are quicker over factors though it has no more columns than rows.
+const MANY_ROWS: u32 = 48;
+
+// How many entries the columns have together.
+fn entry_count(form: &Form) -> usize {
     let mut entries: usize = 0;
     for j in 0..form.cols() {
         entries = entries.saturating_add(form.entries(j).len());
     }
-    entries <= FEW_ENTRIES * form.cols() as usize
+    entries
+}
+
+// Whether there are many columns beside those of a basis, which has one a row. Each pivot of a tableau changes them
+// all; over factors those up to the one that enters are priced. More than three entries a column fill both alike.
+fn has_columns_beside(form: &Form, entries: usize) -> bool {
+    entries.min(COUNTED * form.cols() as usize) >= 2 * form.rows() as usize + BEYOND
+}
+
+// Whether a basis takes in most columns, which have at most two and three quarters entries on average. Where they
+// stand in chains of equations, their tableau fills with wide fractions, and their factors stay sparse.
+fn has_few_sparse_columns(form: &Form, entries: usize) -> bool {
+    let (rows, cols) = (form.rows(), form.cols());
+    rows >= MANY_ROWS && cols <= rows && entries <= 11 * cols as usize / 4
+}
+
+// Whether the run over factors is likely the quicker one, by the size of the model alone (docs/PERFORMANCE.md).
+fn suits_factors(form: &Form) -> bool {
+    let entries = entry_count(form);
+    has_columns_beside(form, entries) || has_few_sparse_columns(form, entries)
 }
 
 /// The run over factors and the one over whole tableaus, each with the whole budget: the answer of either, or what the
