@@ -5,15 +5,23 @@ ghost use Rattle.spec_model.specs.Model.{row, column, width, height};
 ghost use Rattle.spec_mps.specs.NumberWritten as number_written;
 ghost use Rattle.spec_mps.specs.Written as written;
 ghost use Rattle.mps_write.specs.Adds.{Adds};
+ghost use Rattle.mps_write.specs.RowNumbers.{number_cards};
 
 use crate::fault::WriteFault;
 use crate::line::{Field, Writer};
 use crate::signs::{is_equal, is_up_from_zero, is_zero};
 use lp_base::Bytes;
 use lp_frac::{Frac, neg};
-use lp_model::{Kind, Model};
+use lp_model::{Kind, Model, Row};
 use lp_numtext::number_text;
 use std::alloc::{AllocError, Global};
+
+/// A number that a row has besides its entries.
+#[derive(Clone, Copy)]
+pub(crate) enum RowNumber {
+    Side,
+    Range,
+}
 
 /// The word of a kind of rows.
 fn kind_word(kind: Kind) -> &'static [u8]
@@ -153,18 +161,26 @@ impl Writer {
     {
         self.section(b"RHS", to)?;
         self.side(model.objective().as_slice(), &neg(model.offset()), to)?;
-        self.row_sides(model, to)
+        self.row_numbers(RowNumber::Side, model, to)
     }
 
-    fn row_sides(&self, model: &Model, to: &mut Bytes) -> Result<(), WriteFault>
-        ensures { Adds self.now.style
-            (flat_map (λ r. written.side_cards r.name r.rhs) model.now.rows) to.old to.new result }
+    // The numbers of all rows.
+    fn row_numbers(&self, which: RowNumber, model: &Model, to: &mut Bytes) -> Result<(), WriteFault>
+        ensures { Adds self.now.style (flat_map (λ r. number_cards which r) model.now.rows) to.old to.new result }
     {
         for i in 0..model.rows() {
-            let row = model.row(i);
-            self.side(row.name.as_slice(), &row.rhs, to)?;
+            self.row_number(which, model.row(i), to)?;
         }
         Ok(())
+    }
+
+    fn row_number(&self, which: RowNumber, row: &Row, to: &mut Bytes) -> Result<(), WriteFault>
+        ensures { Adds self.now.style (number_cards which row.now) to.old to.new result }
+    {
+        match which {
+            RowNumber::Side => self.side(row.name.as_slice(), &row.rhs, to),
+            RowNumber::Range => self.range(row.name.as_slice(), row.range, to),
+        }
     }
 
     fn side(&self, name: &[u8], value: &Frac, to: &mut Bytes) -> Result<(), WriteFault>
@@ -184,18 +200,7 @@ impl Writer {
             return Ok(());
         }
         self.section(b"RANGES", to)?;
-        self.row_ranges(model, to)
-    }
-
-    fn row_ranges(&self, model: &Model, to: &mut Bytes) -> Result<(), WriteFault>
-        ensures { Adds self.now.style
-            (flat_map (λ r. written.range_cards r.name r.range) model.now.rows) to.old to.new result }
-    {
-        for i in 0..model.rows() {
-            let row = model.row(i);
-            self.range(row.name.as_slice(), row.range, to)?;
-        }
-        Ok(())
+        self.row_numbers(RowNumber::Range, model, to)
     }
 
     fn range(&self, name: &[u8], range: Option<Frac>, to: &mut Bytes) -> Result<(), WriteFault>

@@ -17,4 +17,4 @@ returns c =
     rw (sym c.has_ranges.ensures ∙ c.if-not-has_ranges.false)
     (goes_on c.args.self.now.style (section_card (codes "RANGES") ∷ [])
     (flat_map (λ r. range_cards r.name r.range) c.args.model.now.rows) _
-    _ _ c.row_ranges.result c.in_ok-section.ensures c.row_ranges.ensures)
+    _ _ c.row_numbers.result c.in_ok-section.ensures c.row_numbers.ensures)

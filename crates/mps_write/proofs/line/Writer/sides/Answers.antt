@@ -26,6 +26,6 @@ returns c =
     let h = rw (c.as_slice.ensures, c.objective.ensures, c.neg.ensures, c.offset.ensures) at c.in_ok-side.ensures in
     goes_on c.args.self.now.style (section_card (codes "RHS") ∷ [])
     (side_cards c.args.model.now.objective (neg_ℚ c.args.model.now.offset)
-    ++ flat_map (λ r. side_cards r.name r.rhs) c.args.model.now.rows) _ _ _ c.row_sides.result c.in_ok-section.ensures
+    ++ flat_map (λ r. side_cards r.name r.rhs) c.args.model.now.rows) _ _ _ c.row_numbers.result c.in_ok-section.ensures
     (goes_on c.args.self.now.style (side_cards c.args.model.now.objective (neg_ℚ c.args.model.now.offset))
-    (flat_map (λ r. side_cards r.name r.rhs) c.args.model.now.rows) _ _ _ c.row_sides.result h c.row_sides.ensures)
+    (flat_map (λ r. side_cards r.name r.rhs) c.args.model.now.rows) _ _ _ c.row_numbers.result h c.row_numbers.ensures)
