@@ -24,9 +24,11 @@ use Rattle.spec_mps.specs.Steps.{has_begun, with_section, begun, headed, data_ca
 use Rattle.spec_mps.proofs.CardsDid.{rows_did, PairDid, PutsPairs, pairs_keep, SetDid, Used, Skipped}
 use Rattle.spec_meaning.specs.NumberCards.{Pairs, texts_for, side_of, set_on, pairs_on, used_pairs}
 use Rattle.spec_meaning.proofs.Frames.{Leads, card_leads, changed_unseen}
-use Rattle.spec_meaning.proofs.SoFar.{is_section, same_section, pushed}
+use Rattle.spec_meaning.proofs.SoFar.{is_section, same_section, begun_elsewhere, pushed, SoFar, nothing}
+use Rattle.spec_meaning.proofs.SoFar.{with_card, with_title}
 use Rattle.spec_meaning.proofs.Order.{IsOrdered}
-use Rattle.spec_meaning.proofs.Runs.{stays, headed_leads}
+use Rattle.spec_meaning.proofs.Runs.{IsKept, both_kept, stays, headed_leads}
+use Rattle.spec_meaning.proofs.RowsKept.{RowsSay, rows_kept}
 use Rattle.spec_meaning.proofs.RowViews.{RowView, labels, many_labels, row_view, rows_stay, rows_stay_headed}
 use Rattle.spec_meaning.proofs.RowViews.{place_in, place_by_view, place_name}
 use Rattle.spec_meaning.proofs.PairsKept.{Put, PutAt, put_set, Tells, tells_push, number_is}
@@ -128,8 +130,6 @@ pub record GivesNumbers (V : Type 0) (value_of : State → Target → V)
       has_begun s.seen part ≡ false
   pub not_rows : is_section (Some section.Rows) part ≡ false
   pub now : (seen : Seen) → has_begun (with_section seen part) part ≡ true
-  pub otherwise : (p : Section) (seen : Seen) → is_section (Some p) part ≡ false →
-      has_begun (with_section seen p) part ≡ has_begun seen part
 
 record Reads (V : Type 0) (value_of : State → Target → V) (IsNumber : List (List ℕ) → V → Type 0)
     (view : RowView) (old : Pairs) (set : Option Name) (done : Pairs) (u : State) : Type 0 where
@@ -213,7 +213,7 @@ module _ {V : Type 0} {value_of : State → Target → V} {IsNumber : List (List
           (ap (λ x. has_begun x part) st.1) (rows_stay p s t not_rows leads)
           (g.stay p s t not_rows e leads) (ap (λ q. is_section q part) (st.0 ∙ here) ∙ e)
 
-  pub at_card : (style : Style) (cards : List Fields) (s t : State) (p : Section) (card : Fields) →
+  at_card : (style : Style) (cards : List Fields) (s t : State) (p : Section) (card : Fields) →
       IsOrdered s.part s.seen → s.part ≡ Some p → data_card style (Some p) s card ≡ Ok t → NumbersSay cards s →
       NumbersSay (pushed (is_section (Some p) part) cards card) t
   at_card style cards s t section.Rows card o here h k =
@@ -227,7 +227,7 @@ module _ {V : Type 0} {value_of : State → Target → V} {IsNumber : List (List
       (ap (λ q. is_section q part) (st.0 ∙ here) ∙ g.not_rows))
   at_card style cards s t p card o here h k = beside_rows style cards s t p card refl o here h k
 
-  pub at_heading : (cards : List Fields) (s t : State) (p : Section) (word : List ℕ) → has_begun s.seen p ≡ false →
+  at_heading : (cards : List Fields) (s t : State) (p : Section) (word : List ℕ) → has_begun s.seen p ≡ false →
       headed (begun s p) p word ≡ Ok t → NumbersSay cards s → NumbersSay cards t
   at_heading cards s t p word new h k = by (is_section (Some p) part) refl
     where
@@ -244,11 +244,11 @@ module _ {V : Type 0} {value_of : State → Target → V} {IsNumber : List (List
           (ap (λ (x : State). x.set) (headed_leads (begun s p) p word t h))
       by false e =
           says_same value_of IsNumber part (λ x. has_begun x part) cards s t k
-          (ap (λ x. has_begun x part) seen ∙ g.otherwise p s.seen e)
+          (ap (λ x. has_begun x part) seen ∙ begun_elsewhere p part s.seen e)
           (rows_stay_headed s p word t h) (g.stay_headed s p word t h)
           (ap (λ (x : State). is_section x.part part) (headed_leads (begun s p) p word t h) ∙ e)
 
-  pub at_start : NumbersSay [] start
+  at_start : NumbersSay [] start
   at_start =
       record {
         none = λ h. (refl, g.none_first);
@@ -258,3 +258,21 @@ module _ {V : Type 0} {value_of : State → Target → V} {IsNumber : List (List
     where
       no_place : {x : Place} → None ≡ Some x → ⊥
       no_place e = cc
+
+  -- with the names of rows
+  pub numbers_kept : (cards : SoFar → List Fields) → cards nothing ≡ [] →
+      ((p : Section) (words : Fields) (c : SoFar) → cards (with_title p words c) ≡ cards c) →
+      ((p : Section) (card : Fields) (c : SoFar) →
+      cards (with_card p card c) ≡ pushed (is_section (Some p) part) (cards c) card) → (style : Style) →
+      IsKept style (λ c s. RowsSay c.rows (row_view s) × NumbersSay (cards c) s)
+  numbers_kept cards none same more style =
+      both_kept style (λ c s. RowsSay c.rows (row_view s)) (λ c s. NumbersSay (cards c) s) (rows_kept style)
+      (record {
+        at_start = subst (λ l. NumbersSay l start) (sym none) at_start;
+        at_heading =
+            λ c s t p words o new h k. subst (λ l. NumbersSay l t) (sym (same p words c))
+            (at_heading (cards c) s t p (text_at 2 words) new h k);
+        at_card =
+            λ c s t p card o here h k. subst (λ l. NumbersSay l t) (sym (more p card c))
+            (at_card style (cards c) s t p card o here h k);
+      })

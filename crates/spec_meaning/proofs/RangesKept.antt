@@ -9,17 +9,16 @@ use Rattle.spec_mps.specs.declared.row_type.RowType.{RowType}
 use Rattle.spec_mps.specs.declared.row_type.RowType.TheVariants.{Unlimited, Limited}
 use Rattle.spec_mps.specs.declared.section.Section.{Section}
 use Rattle.spec_mps.specs.declared.section.Section.TheVariants as section
-use Rattle.spec_mps.specs.declared.section.Seen.{Seen}
 use Rattle.spec_mps.specs.declared.style.Style.{Style}
 use Rattle.spec_mps.specs.declared.target.Target.{Target}
 use Rattle.spec_mps.specs.declared.target.Target.TheVariants.{Objective, Row}
 use Rattle.spec_mps.specs.declared.target.Place.{Place}
 use Rattle.spec_mps.specs.declared.target.Place.TheVariants.{Kept, Dropped}
-use Rattle.spec_mps.specs.Fields.{Fields, text_at, texts_of}
+use Rattle.spec_mps.specs.Fields.{Fields, texts_of}
 use Rattle.spec_mps.specs.Shapes.{shaped}
 use Rattle.spec_mps.specs.Reader.{State, start, is_among, new_row, with_row, place_of}
 use Rattle.spec_mps.specs.Sides.{put_range, range_pairs, ranges_card}
-use Rattle.spec_mps.specs.Steps.{has_begun, with_section, begun, headed, model_by, Spells}
+use Rattle.spec_mps.specs.Steps.{has_begun, begun, headed, model_by, Spells}
 use Rattle.spec_mps.proofs.Steps.{negated}
 use Rattle.spec_mps.proofs.CheckSteps.{step_ok, must_ok, same_ok}
 use Rattle.spec_meaning.specs.NumberCards.{IsTheRange, texts_for, side_of, used_pairs}
@@ -27,14 +26,13 @@ use Rattle.spec_meaning.specs.TextCards.{Lines, cards_in}
 use Rattle.spec_mps.proofs.CardsDid.{put_ranged, range_puts, SetDid, ranges_did}
 use Rattle.spec_meaning.proofs.Frames.{Leads, without_side}
 use Rattle.spec_meaning.proofs.SoFar.{is_section}
-use Rattle.spec_meaning.proofs.Runs.{IsKept, both_kept, spelled_by, headed_leads}
+use Rattle.spec_meaning.proofs.Runs.{IsKept, spelled_by, headed_leads}
 use Rattle.spec_meaning.proofs.RowViews.{row_view}
 use Rattle.spec_meaning.proofs.RowViews.{objective_place}
 use Rattle.spec_meaning.proofs.PairsKept.{Put, PutNowhere}
 use Rattle.spec_meaning.proofs.SetsKept.{range_is, Says}
-use Rattle.spec_meaning.proofs.NumbersKept.{row_put, viewed_row, pushed_row, GivesNumbers}
-use Rattle.spec_meaning.proofs.NumbersKept.{at_start, at_heading, at_card}
-use Rattle.spec_meaning.proofs.RowsKept.{RowsSay, rows_kept, row_place}
+use Rattle.spec_meaning.proofs.NumbersKept.{row_put, viewed_row, pushed_row, GivesNumbers, numbers_kept}
+use Rattle.spec_meaning.proofs.RowsKept.{RowsSay, row_place}
 
 -- the range of a target; the objective has none
 abbrev pub range_at : State → Target → Option ℚ
@@ -99,11 +97,6 @@ no_ranges : (x : Target) → range_at start x ≡ None
 no_ranges Objective = refl
 no_ranges (Row i) = refl
 
-other_section : (p : Section) (seen : Seen) → is_section (Some p) section.Ranges ≡ false →
-    (with_section seen p).ranges ≡ seen.ranges
-other_section section.Ranges seen e = absurd (cc)
-other_section p seen e = refl
-
 ranges_give : GivesNumbers (Option ℚ) range_at IsTheRange (λ v. Some v) section.Ranges put_ranged range_pairs
 ranges_give =
     record {
@@ -120,23 +113,12 @@ ranges_give =
       later = λ s o at. (o.ends_later (o.at_rows at)).ranges;
       not_rows = refl;
       now = λ seen. refl;
-      otherwise = other_section;
-    }
-
-ranges_kept : (style : Style) → IsKept style (λ c s. RangesSay c.ranges s)
-ranges_kept style =
-    record {
-      at_start = at_start ranges_give;
-      at_heading = λ c s t p words o new h k. at_heading ranges_give c.ranges s t p (text_at 2 words) new h k;
-      at_card = λ c s t p card o here h k. at_card ranges_give style c.ranges s t p card o here h k;
     }
 
 -- ---- the model
 
 rows_and_ranges : (style : Style) → IsKept style (λ c s. RowsSay c.rows (row_view s) × RangesSay c.ranges s)
-rows_and_ranges style =
-    both_kept style (λ c s. RowsSay c.rows (row_view s))
-    (λ c s. RangesSay c.ranges s) (rows_kept style) (ranges_kept style)
+rows_and_ranges = numbers_kept ranges_give (λ c. c.ranges) refl (λ p words c. refl) (λ p card c. refl)
 
 pub range_said : (style : Style) (lines : Lines) (m : Model) → Spells style lines m → (i : ℕ) → i < height m →
     IsTheRange (texts_for (row m i).name (used_pairs (cards_in style section.Ranges lines))) (row m i).range

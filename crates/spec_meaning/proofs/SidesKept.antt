@@ -10,17 +10,16 @@ use Rattle.spec_mps.specs.declared.row_type.RowType.{RowType}
 use Rattle.spec_mps.specs.declared.row_type.RowType.TheVariants.{Unlimited, Limited}
 use Rattle.spec_mps.specs.declared.section.Section.{Section}
 use Rattle.spec_mps.specs.declared.section.Section.TheVariants as section
-use Rattle.spec_mps.specs.declared.section.Seen.{Seen}
 use Rattle.spec_mps.specs.declared.style.Style.{Style}
 use Rattle.spec_mps.specs.declared.target.Target.{Target}
 use Rattle.spec_mps.specs.declared.target.Target.TheVariants.{Objective, Row}
 use Rattle.spec_mps.specs.declared.target.Place.{Place}
 use Rattle.spec_mps.specs.declared.target.Place.TheVariants.{Kept, Dropped}
-use Rattle.spec_mps.specs.Fields.{Fields, text_at, texts_of}
+use Rattle.spec_mps.specs.Fields.{Fields, texts_of}
 use Rattle.spec_mps.specs.Shapes.{shaped}
 use Rattle.spec_mps.specs.Reader.{State, start, is_among, same_target, new_row, with_row, place_of}
 use Rattle.spec_mps.specs.Sides.{put_side, side_pairs, rhs_card}
-use Rattle.spec_mps.specs.Steps.{has_begun, with_section, begun, headed, model_by, Spells}
+use Rattle.spec_mps.specs.Steps.{has_begun, begun, headed, model_by, Spells}
 use Rattle.spec_mps.proofs.Steps.{negated}
 use Rattle.spec_mps.proofs.CheckSteps.{step_ok, must_ok, same_ok}
 use Rattle.spec_meaning.specs.NumberCards.{IsTheNumber, texts_for, side_of, used_pairs}
@@ -28,14 +27,13 @@ use Rattle.spec_meaning.specs.TextCards.{Lines, cards_in}
 use Rattle.spec_mps.proofs.CardsDid.{side_puts, SetDid, rhs_did}
 use Rattle.spec_meaning.proofs.Frames.{Leads, without_range}
 use Rattle.spec_meaning.proofs.SoFar.{is_section}
-use Rattle.spec_meaning.proofs.Runs.{IsKept, both_kept, spelled_by, headed_leads}
+use Rattle.spec_meaning.proofs.Runs.{IsKept, spelled_by, headed_leads}
 use Rattle.spec_meaning.proofs.RowViews.{row_view}
 use Rattle.spec_meaning.proofs.RowViews.{objective_place}
 use Rattle.spec_meaning.proofs.PairsKept.{Put, PutNowhere, PutAt}
 use Rattle.spec_meaning.proofs.SetsKept.{side_is, Says}
-use Rattle.spec_meaning.proofs.NumbersKept.{row_put, viewed_row, pushed_row, GivesNumbers}
-use Rattle.spec_meaning.proofs.NumbersKept.{at_start, at_heading, at_card}
-use Rattle.spec_meaning.proofs.RowsKept.{RowsSay, rows_kept, row_place}
+use Rattle.spec_meaning.proofs.NumbersKept.{row_put, viewed_row, pushed_row, GivesNumbers, numbers_kept}
+use Rattle.spec_meaning.proofs.RowsKept.{RowsSay, row_place}
 
 -- the right side of a target; that of the objective is the offset negated
 abbrev pub side_at : State → Target → ℚ
@@ -109,11 +107,6 @@ no_sides : (x : Target) → side_at start x ≡ 0ℚ
 no_sides Objective = neg-zero
 no_sides (Row i) = refl
 
-other_section : (p : Section) (seen : Seen) → is_section (Some p) section.RightSides ≡ false →
-    (with_section seen p).right_sides ≡ seen.right_sides
-other_section section.RightSides seen e = absurd (cc)
-other_section p seen e = refl
-
 sides_give : GivesNumbers ℚ side_at IsTheNumber (λ v. v) section.RightSides put_side side_pairs
 sides_give =
     record {
@@ -130,24 +123,12 @@ sides_give =
       later = λ s o at. (o.ends_later (o.at_rows at)).right_sides;
       not_rows = refl;
       now = λ seen. refl;
-      otherwise = other_section;
-    }
-
-sides_kept : (style : Style) → IsKept style (λ c s. SidesSay c.right_sides s)
-sides_kept style =
-    record {
-      at_start = at_start sides_give;
-      at_heading = λ c s t p words o new h k. at_heading sides_give c.right_sides s t p (text_at 2 words) new h k;
-      at_card = λ c s t p card o here h k. at_card sides_give style c.right_sides s t p card o here h k;
     }
 
 -- ---- the model
 
--- with the names of rows
 rows_and_sides : (style : Style) → IsKept style (λ c s. RowsSay c.rows (row_view s) × SidesSay c.right_sides s)
-rows_and_sides style =
-    both_kept style (λ c s. RowsSay c.rows (row_view s))
-    (λ c s. SidesSay c.right_sides s) (rows_kept style) (sides_kept style)
+rows_and_sides = numbers_kept sides_give (λ c. c.right_sides) refl (λ p words c. refl) (λ p card c. refl)
 
 pub right_side_said : (style : Style) (lines : Lines) (m : Model) → Spells style lines m → (i : ℕ) → i < height m →
     IsTheNumber (texts_for (row m i).name (used_pairs (cards_in style section.RightSides lines))) (row m i).rhs

@@ -13,6 +13,7 @@ use Rattle.spec_mps.specs.declared.section.Seen.{Seen}
 use Rattle.spec_mps.specs.Cards.{is_skipped, begins_with_blank}
 use Rattle.spec_mps.specs.Fields.{Fields, word_fields, text_at}
 use Rattle.spec_mps.specs.Shapes.{section_of}
+use Rattle.spec_mps.specs.Steps.{has_begun, with_section}
 use Rattle.spec_mps.proofs.CheckSteps.{same_some}
 use Rattle.spec_meaning.specs.TextCards.{Lines, bytes_of, section_word, is_heading, begins, fields_in}
 
@@ -59,6 +60,18 @@ pub same_section : (p q : Section) → is_section (Some p) q ≡ true → p ≡ 
 same_section p q h =
     same_some p q
     (sym (section_back p) ∙ ap section_of (same_true (section_word p) (section_word q) h) ∙ section_back q)
+
+-- a section that begins is no other
+pub begun_elsewhere : (p q : Section) (seen : Seen) → is_section (Some p) q ≡ false →
+    has_begun (with_section seen p) q ≡ has_begun seen q
+begun_elsewhere section.Name section.Name seen e = absurd (cc)
+begun_elsewhere section.Sense section.Sense seen e = absurd (cc)
+begun_elsewhere section.Rows section.Rows seen e = absurd (cc)
+begun_elsewhere section.Columns section.Columns seen e = absurd (cc)
+begun_elsewhere section.RightSides section.RightSides seen e = absurd (cc)
+begun_elsewhere section.Ranges section.Ranges seen e = absurd (cc)
+begun_elsewhere section.Bounds section.Bounds seen e = absurd (cc)
+begun_elsewhere p q seen e = refl
 
 fields_same : (style : Style) (p q : Section) (bytes : List ℕ) → is_section (Some p) q ≡ true →
     fields_in style p bytes ≡ fields_in style q bytes
