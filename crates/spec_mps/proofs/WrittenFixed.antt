@@ -222,120 +222,108 @@ six_fields : (line k a b c : List ℕ) → in_columns 2 3 line ≡ k → in_colu
 unfolding column_fields
 six_fields line k a b c c1 c2 c3 c4 c5 c6 = rw (c1, c2, c3, c4, c5, c6, append-nil, append-nil) refl
 
+-- what stands in the first four fields of a line, which has nothing behind them
+cut_read : (line k a b c : List ℕ) (limit : ℕ) (fs : Fields) → IsEnded line limit → limit ≤ 36 →
+    begins_with_star line ≡ false → begins_with_blank line ≡ true → in_columns 2 3 line ≡ k →
+    in_columns 5 12 line ≡ a → in_columns 15 22 line ≡ b → in_columns 25 36 line ≡ c
+    → field_of 1 k ++ field_of 2 a ++ field_of 3 b ++ field_of 4 c ≡ fs → fixed_fields line ≡ Is (Given fs)
+cut_read line k a b c limit fs end few star blank c1 c2 c3 c4 e =
+    let short = end.short in
+    by_columns line fs star blank end.plain end.word end.placed
+    (six_fields line k a b c c1 c2 c3 c4 (column_past line 40 47 (omega arith)) (column_past line 50 61 (omega arith))
+    ∙ e)
+
 -- a type and a name
 pub type_card_read : (k a : List ℕ) → IsCell 2 2 k → IsCell 5 8 a
     → fixed_fields (line_text Fixed (Data (field_at 1 k ∷ field_at 2 a ∷ [])))
     ≡ Is (Given (field_at 1 k ∷ field_at 2 a ∷ []))
 type_card_read k a hk ha =
-    let front : IsFront (cell 4 (32 ∷ []) k) 4 = cell_front (32 ∷ []) k 1 2 2 4 one_blank refl hk (omega arith) in
+    let two : List ℕ = cell 4 (32 ∷ []) k in
+    let line : List ℕ = two ++ a in
+    let front : IsFront two 4 = cell_front (32 ∷ []) k 1 2 2 4 one_blank refl hk (omega arith) in
+    let end : IsEnded line 12 = ended two a 4 5 8 12 front refl ha refl in
     let long = front.long in
-    let line : List ℕ = cell 4 (32 ∷ []) k ++ a in
-    let end : IsEnded line 12 = ended (cell 4 (32 ∷ []) k) a 4 5 8 12 front refl ha refl in
     let short = end.short in
-    let c1 : in_columns 2 3 line ≡ k =
-    within 2 3 (cell 4 (32 ∷ []) k) a (omega arith)
-    ∙ cell_is (32 ∷ []) k 1 2 3 2 4 one_blank refl refl hk (omega arith) in
-    let c2 : in_columns 5 12 line ≡ a = last_is (cell 4 (32 ∷ []) k) a 4 5 12 8 front refl refl ha in
-    let c3 : in_columns 15 22 line ≡ [] = column_past line 15 22 (omega arith) in
-    let c4 : in_columns 25 36 line ≡ [] = column_past line 25 36 (omega arith) in
-    let c5 : in_columns 40 47 line ≡ [] = column_past line 40 47 (omega arith) in
-    let c6 : in_columns 50 61 line ≡ [] = column_past line 50 61 (omega arith) in
-    let e : column_fields line ≡ field_at 1 k ∷ field_at 2 a ∷ [] =
-    six_fields line k a [] [] c1 c2 c3 c4 c5 c6 ∙ rw (a_field 1 k hk.word, a_field 2 a ha.word) refl in
-    by_columns line (field_at 1 k ∷ field_at 2 a ∷ []) refl refl end.plain end.word end.placed e
+    cut_read line k a [] [] 12 (field_at 1 k ∷ field_at 2 a ∷ []) end (omega arith) refl refl
+    (within 2 3 two a (omega arith) ∙ cell_is (32 ∷ []) k 1 2 3 2 4 one_blank refl refl hk (omega arith))
+    (last_is two a 4 5 12 8 front refl refl ha) (column_past line 15 22 (omega arith))
+    (column_past line 25 36 (omega arith)) (rw (a_field 1 k hk.word, a_field 2 a ha.word) refl)
+
+-- the first two fields, with blanks after them
+record HasTwo (k a line : List ℕ) : Type 0 where
+  front : IsFront line 14
+  first : in_columns 2 3 line ≡ k
+  second : in_columns 5 12 line ≡ a
+
+-- a set alone
+group_cell : (a : List ℕ) → IsCell 5 8 a → HasTwo [] a (cell 14 (32 ∷ 32 ∷ 32 ∷ 32 ∷ []) a)
+unfolding in_columns
+group_cell a ha =
+    let start : List ℕ = 32 ∷ 32 ∷ 32 ∷ 32 ∷ [] in
+    record {
+      front = cell_front start a 4 5 8 14 four_blanks refl ha (omega arith);
+      first = cell_keeps start a 2 3 14 (omega arith);
+      second = cell_is start a 4 5 12 8 14 four_blanks refl refl ha (omega arith);
+    }
+
+-- a kind and a set
+kind_cells : (k a : List ℕ) → IsCell 2 2 k → IsCell 5 8 a → HasTwo k a (cell 14 (cell 4 (32 ∷ []) k) a)
+kind_cells k a hk ha =
+    let two : List ℕ = cell 4 (32 ∷ []) k in
+    let front : IsFront two 4 = cell_front (32 ∷ []) k 1 2 2 4 one_blank refl hk (omega arith) in
+    let long = front.long in
+    record {
+      front = cell_front two a 4 5 8 14 front refl ha (omega arith);
+      first =
+          cell_keeps two a 2 3 14 (omega arith)
+          ∙ cell_is (32 ∷ []) k 1 2 3 2 4 one_blank refl refl hk (omega arith);
+      second = cell_is two a 4 5 12 8 14 front refl refl ha (omega arith);
+    }
+
+-- then a name and a number
+four_read : (three k a b c : List ℕ) (fs : Fields) → HasTwo k a three → IsCell 15 8 b → IsCell 25 12 c →
+    begins_with_star (cell 24 three b ++ c) ≡ false → begins_with_blank (cell 24 three b ++ c) ≡ true →
+    field_of 1 k ++ field_of 2 a ++ field_of 3 b ++ field_of 4 c ≡ fs
+    → fixed_fields (cell 24 three b ++ c) ≡ Is (Given fs)
+four_read three k a b c fs h hb hc star blank e =
+    let four : List ℕ = cell 24 three b in
+    let f4 : IsFront four 24 = cell_front three b 14 15 8 24 h.front refl hb (omega arith) in
+    let l3 = h.front.long in
+    let l4 = f4.long in
+    cut_read (four ++ c) k a b c 36 fs (ended four c 24 25 12 36 f4 refl hc refl) (omega arith) star blank
+    (within 2 3 four c (omega arith) ∙ cell_keeps three b 2 3 24 (omega arith) ∙ h.first)
+    (within 5 12 four c (omega arith) ∙ cell_keeps three b 5 12 24 (omega arith) ∙ h.second)
+    (within 15 22 four c (omega arith) ∙ cell_is three b 14 15 22 8 24 h.front refl refl hb (omega arith))
+    (last_is four c 24 25 36 12 f4 refl refl hc) e
 
 -- a column or a set, a row and a number
 pub number_card_read : (a b c : List ℕ) → IsCell 5 8 a → IsCell 15 8 b → IsCell 25 12 c
     → fixed_fields (line_text Fixed (Data (field_at 2 a ∷ field_at 3 b ∷ field_at 4 c ∷ [])))
     ≡ Is (Given (field_at 2 a ∷ field_at 3 b ∷ field_at 4 c ∷ []))
-unfolding in_columns
 number_card_read a b c ha hb hc =
-    let start : List ℕ = 32 ∷ 32 ∷ 32 ∷ 32 ∷ [] in
-    let three : List ℕ = cell 14 start a in
-    let four : List ℕ = cell 24 three b in
-    let line : List ℕ = four ++ c in
-    let f3 : IsFront three 14 = cell_front start a 4 5 8 14 four_blanks refl ha (omega arith) in
-    let f4 : IsFront four 24 = cell_front three b 14 15 8 24 f3 refl hb (omega arith) in
-    let end : IsEnded line 36 = ended four c 24 25 12 36 f4 refl hc refl in
-    let l3 = f3.long in
-    let l4 = f4.long in
-    let short = end.short in
-    let c1 : in_columns 2 3 line ≡ [] =
-    within 2 3 four c (omega arith) ∙ cell_keeps three b 2 3 24 (omega arith)
-    ∙ cell_keeps start a 2 3 14 (omega arith) in
-    let c2 : in_columns 5 12 line ≡ a =
-    within 5 12 four c (omega arith) ∙ cell_keeps three b 5 12 24 (omega arith)
-    ∙ cell_is start a 4 5 12 8 14 four_blanks refl refl ha (omega arith) in
-    let c3 : in_columns 15 22 line ≡ b =
-    within 15 22 four c (omega arith) ∙ cell_is three b 14 15 22 8 24 f3 refl refl hb (omega arith) in
-    let c4 : in_columns 25 36 line ≡ c = last_is four c 24 25 36 12 f4 refl refl hc in
-    let c5 : in_columns 40 47 line ≡ [] = column_past line 40 47 (omega arith) in
-    let c6 : in_columns 50 61 line ≡ [] = column_past line 50 61 (omega arith) in
-    let e : column_fields line ≡ field_at 2 a ∷ field_at 3 b ∷ field_at 4 c ∷ [] =
-    six_fields line [] a b c c1 c2 c3 c4 c5 c6
-    ∙ rw (a_field 2 a ha.word, a_field 3 b hb.word, a_field 4 c hc.word) refl in
-    by_columns line (field_at 2 a ∷ field_at 3 b ∷ field_at 4 c ∷ []) refl refl end.plain end.word end.placed e
+    four_read (cell 14 (32 ∷ 32 ∷ 32 ∷ 32 ∷ []) a) [] a b c (field_at 2 a ∷ field_at 3 b ∷ field_at 4 c ∷ [])
+    (group_cell a ha) hb hc refl refl (rw (a_field 2 a ha.word, a_field 3 b hb.word, a_field 4 c hc.word) refl)
 
 -- a kind of bounds, a set and a column
 pub unbound_card_read : (k a b : List ℕ) → IsCell 2 2 k → IsCell 5 8 a → IsCell 15 8 b
     → fixed_fields (line_text Fixed (Data (field_at 1 k ∷ field_at 2 a ∷ field_at 3 b ∷ [])))
     ≡ Is (Given (field_at 1 k ∷ field_at 2 a ∷ field_at 3 b ∷ []))
 unbound_card_read k a b hk ha hb =
-    let start : List ℕ = 32 ∷ [] in
-    let two : List ℕ = cell 4 start k in
-    let three : List ℕ = cell 14 two a in
-    let line : List ℕ = three ++ b in
-    let f2 : IsFront two 4 = cell_front start k 1 2 2 4 one_blank refl hk (omega arith) in
-    let f3 : IsFront three 14 = cell_front two a 4 5 8 14 f2 refl ha (omega arith) in
-    let end : IsEnded line 22 = ended three b 14 15 8 22 f3 refl hb refl in
-    let l2 = f2.long in
-    let l3 = f3.long in
+    let three : List ℕ = cell 14 (cell 4 (32 ∷ []) k) a in
+    let h : HasTwo k a three = kind_cells k a hk ha in
+    let long = h.front.long in
+    let end : IsEnded (three ++ b) 22 = ended three b 14 15 8 22 h.front refl hb refl in
     let short = end.short in
-    let c1 : in_columns 2 3 line ≡ k =
-    within 2 3 three b (omega arith) ∙ cell_keeps two a 2 3 14 (omega arith)
-    ∙ cell_is start k 1 2 3 2 4 one_blank refl refl hk (omega arith) in
-    let c2 : in_columns 5 12 line ≡ a =
-    within 5 12 three b (omega arith) ∙ cell_is two a 4 5 12 8 14 f2 refl refl ha (omega arith) in
-    let c3 : in_columns 15 22 line ≡ b = last_is three b 14 15 22 8 f3 refl refl hb in
-    let c4 : in_columns 25 36 line ≡ [] = column_past line 25 36 (omega arith) in
-    let c5 : in_columns 40 47 line ≡ [] = column_past line 40 47 (omega arith) in
-    let c6 : in_columns 50 61 line ≡ [] = column_past line 50 61 (omega arith) in
-    let e : column_fields line ≡ field_at 1 k ∷ field_at 2 a ∷ field_at 3 b ∷ [] =
-    six_fields line k a b [] c1 c2 c3 c4 c5 c6
-    ∙ rw (a_field 1 k hk.word, a_field 2 a ha.word, a_field 3 b hb.word) refl in
-    by_columns line (field_at 1 k ∷ field_at 2 a ∷ field_at 3 b ∷ []) refl refl end.plain end.word end.placed e
+    cut_read (three ++ b) k a b [] 22 (field_at 1 k ∷ field_at 2 a ∷ field_at 3 b ∷ []) end (omega arith) refl refl
+    (within 2 3 three b (omega arith) ∙ h.first) (within 5 12 three b (omega arith) ∙ h.second)
+    (last_is three b 14 15 22 8 h.front refl refl hb) (column_past (three ++ b) 25 36 (omega arith))
+    (rw (a_field 1 k hk.word, a_field 2 a ha.word, a_field 3 b hb.word) refl)
 
 -- .. and a number
 pub bound_card_read : (k a b c : List ℕ) → IsCell 2 2 k → IsCell 5 8 a → IsCell 15 8 b → IsCell 25 12 c
     → fixed_fields (line_text Fixed (Data (field_at 1 k ∷ field_at 2 a ∷ field_at 3 b ∷ field_at 4 c ∷ [])))
     ≡ Is (Given (field_at 1 k ∷ field_at 2 a ∷ field_at 3 b ∷ field_at 4 c ∷ []))
 bound_card_read k a b c hk ha hb hc =
-    let start : List ℕ = 32 ∷ [] in
-    let two : List ℕ = cell 4 start k in
-    let three : List ℕ = cell 14 two a in
-    let four : List ℕ = cell 24 three b in
-    let line : List ℕ = four ++ c in
-    let f2 : IsFront two 4 = cell_front start k 1 2 2 4 one_blank refl hk (omega arith) in
-    let f3 : IsFront three 14 = cell_front two a 4 5 8 14 f2 refl ha (omega arith) in
-    let f4 : IsFront four 24 = cell_front three b 14 15 8 24 f3 refl hb (omega arith) in
-    let end : IsEnded line 36 = ended four c 24 25 12 36 f4 refl hc refl in
-    let l2 = f2.long in
-    let l3 = f3.long in
-    let l4 = f4.long in
-    let short = end.short in
-    let c1 : in_columns 2 3 line ≡ k =
-    within 2 3 four c (omega arith) ∙ cell_keeps three b 2 3 24 (omega arith)
-    ∙ cell_keeps two a 2 3 14 (omega arith) ∙ cell_is start k 1 2 3 2 4 one_blank refl refl hk (omega arith) in
-    let c2 : in_columns 5 12 line ≡ a =
-    within 5 12 four c (omega arith) ∙ cell_keeps three b 5 12 24 (omega arith)
-    ∙ cell_is two a 4 5 12 8 14 f2 refl refl ha (omega arith) in
-    let c3 : in_columns 15 22 line ≡ b =
-    within 15 22 four c (omega arith) ∙ cell_is three b 14 15 22 8 24 f3 refl refl hb (omega arith) in
-    let c4 : in_columns 25 36 line ≡ c = last_is four c 24 25 36 12 f4 refl refl hc in
-    let c5 : in_columns 40 47 line ≡ [] = column_past line 40 47 (omega arith) in
-    let c6 : in_columns 50 61 line ≡ [] = column_past line 50 61 (omega arith) in
-    let e : column_fields line ≡ field_at 1 k ∷ field_at 2 a ∷ field_at 3 b ∷ field_at 4 c ∷ [] =
-    six_fields line k a b c c1 c2 c3 c4 c5 c6
-    ∙ rw (a_field 1 k hk.word, a_field 2 a ha.word, a_field 3 b hb.word, a_field 4 c hc.word) refl in
-    by_columns line
-    (field_at 1 k ∷ field_at 2 a ∷ field_at 3 b ∷ field_at 4 c ∷ []) refl refl end.plain end.word end.placed e
+    four_read (cell 14 (cell 4 (32 ∷ []) k) a) k a b c
+    (field_at 1 k ∷ field_at 2 a ∷ field_at 3 b ∷ field_at 4 c ∷ []) (kind_cells k a hk ha) hb hc refl refl
+    (rw (a_field 1 k hk.word, a_field 2 a ha.word, a_field 3 b hb.word, a_field 4 c hc.word) refl)
