@@ -29,9 +29,11 @@ pub mod WrittenLines
 pub mod WrittenBehind
 pub mod WrittenParts
 pub mod WrittenFacts
+pub mod WrittenRowNumbers
 pub mod WrittenSides
 pub mod WrittenSidesRead
 pub mod WrittenRanges
+pub mod WrittenKinds
 pub mod WrittenBounds
 pub mod WrittenBoundsRead
 pub mod WrittenShort

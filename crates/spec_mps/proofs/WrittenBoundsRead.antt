@@ -27,8 +27,9 @@ use Rattle.spec_mps.proofs.WrittenNames.{name_word, fresh}
 use Rattle.spec_mps.proofs.WrittenGoes.{goes_append}
 use Rattle.spec_mps.proofs.WrittenHeadings.{bounds_step, heading_step}
 use Rattle.spec_mps.proofs.WrittenRoom.{RoomFor, room_front, room_back}
-use Rattle.spec_mps.proofs.WrittenFacts.{HasNoBounds, IsWhole}
-use Rattle.spec_mps.proofs.WrittenBounds.{IsBoundNumber, IsBounded, bounding, spot, column_names, column_bounded}
+use Rattle.spec_mps.proofs.WrittenFacts.{start_closed, HasNoBounds, IsWhole}
+use Rattle.spec_mps.proofs.WrittenKinds.{IsBoundNumber}
+use Rattle.spec_mps.proofs.WrittenBounds.{IsBounded, bounding, spot, column_names, column_bounded}
 
 -- ---- the columns
 
@@ -152,15 +153,7 @@ bounds_are_read style m kept room s h = by (list_any has_bounds m.columns) refl
           t,
           goes_then style s one t (section_card (codes "BOUNDS")) (bounds_of m.columns) heading (here g.0 g.1 g.2),
           record {
-            known =
-                record {
-                  name = k.name;
-                  sense = k.sense;
-                  objective = k.objective;
-                  none_dropped = k.none_dropped;
-                  may_follow = k.may_follow;
-                  none_open = refl;
-                };
+            known = start_closed s m k;
             offset = h.offset;
             rows = h.rows;
             columns = refl;

@@ -1,7 +1,8 @@
 -- What is known before each section after COLUMNS of a written text, and at its end.
-use Rattle.std.proofs.Common.{◌≡◌, true, false, Some, None, [], map}
+use Rattle.std.proofs.Common.{◌≡◌, Bool, true, false, Option, Some, None, List, [], map, refl}
 use Rattle.spec_exact.specs.Fraction.{0ℚ}
-use Rattle.spec_model.specs.Model.{Model, ExactRow}
+use Rattle.spec_model.specs.declared.parts.Sense.{Sense}
+use Rattle.spec_model.specs.Model.{Model, Name, ExactRow, ExactColumn}
 use Rattle.spec_mps.specs.declared.section.Section.TheVariants as section
 use Rattle.spec_mps.specs.Reader.{State}
 use Rattle.spec_mps.specs.Steps.{sense_or_min}
@@ -11,20 +12,41 @@ use Rattle.spec_mps.proofs.WrittenSteps.{bare_row, bare_column}
 abbrev pub rangeless : ExactRow → ExactRow
 rangeless r = record r { range = None }
 
--- what no later section changes
-pub record HasStart (s : State) (m : Model) : Type 0 where
-  pub name : s.name ≡ m.name
-  pub sense : sense_or_min s.sense ≡ m.sense
-  pub objective : s.objective ≡ Some m.objective
-  pub none_dropped : s.dropped ≡ []
-  pub may_follow : s.seen.columns ≡ true
-  pub none_open : s.column ≡ None
+-- what no later section changes: the name, the sense, the objective, the dropped rows, that COLUMNS has begun, and the
+-- column that cards are read of
+pub record IsStart (n : Name) (sense_read : Option Sense) (o : Option Name) (dropped : List Name)
+    (begun : Bool) (column : Option ExactColumn) (m : Model) : Type 0 where
+  pub name : n ≡ m.name
+  pub sense : sense_or_min sense_read ≡ m.sense
+  pub objective : o ≡ Some m.objective
+  pub none_dropped : dropped ≡ []
+  pub may_follow : begun ≡ true
+  pub none_open : column ≡ None
+
+abbrev pub HasStart : State → Model → Type 0
+HasStart s m = IsStart s.name s.sense s.objective s.dropped s.seen.columns s.column m
+
+-- as a section begins
+pub start_closed : (s : State) (m : Model) → HasStart s m →
+    IsStart s.name s.sense s.objective s.dropped s.seen.columns None m
+start_closed s m k =
+    record {
+      name = k.name;
+      sense = k.sense;
+      objective = k.objective;
+      none_dropped = k.none_dropped;
+      may_follow = k.may_follow;
+      none_open = refl;
+    }
 
 -- no column has its bounds
-pub record IsUnbounded (s : State) (m : Model) : Type 0 where
-  pub no_bounds : s.seen.bounds ≡ false
-  pub columns : s.columns ≡ map bare_column m.columns
-  pub none_lowered : s.lowered ≡ map (λ c. false) m.columns
+pub record HasNoneBounded (begun : Bool) (cs : List ExactColumn) (ls : List Bool) (m : Model) : Type 0 where
+  pub no_bounds : begun ≡ false
+  pub columns : cs ≡ map bare_column m.columns
+  pub none_lowered : ls ≡ map (λ c. false) m.columns
+
+abbrev pub IsUnbounded : State → Model → Type 0
+IsUnbounded s m = HasNoneBounded s.seen.bounds s.columns s.lowered m
 
 -- after the heading RHS
 pub record HasNoSides (s : State) (m : Model) : Type 0 where

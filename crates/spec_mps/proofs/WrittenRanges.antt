@@ -1,37 +1,36 @@
 -- The section RANGES of a written text is read as the rows' ranges.
-use Rattle.std.proofs.Common.{◌≡◌, ℕ, suc, ◌+◌, Bool, true, false, cond, Option, Some, None, Ok, List, [], ◌∷◌}
-use Rattle.std.proofs.Common.{◌++◌, length, map, refl, sym, ap, ◌∙◌, subst, append_assoc, length-append, arith}
-use Rattle.std.specs.Prelude.{codes, IsTrue, IfSome, is_some}
-use Rattle.std.specs.List.{All, flat_map, list_any}
-use Rattle.std.proofs.lemmas.List.{map-append}
+use Rattle.std.proofs.Common.{◌≡◌, ℕ, Bool, true, false, cond, Option, Some, None, Ok, List, [], ◌∷◌}
+use Rattle.std.proofs.Common.{◌++◌, length, map, refl, sym, ap, ◌∙◌, subst, arith}
+use Rattle.std.specs.Prelude.{codes, IfSome, is_some}
+use Rattle.std.specs.List.{flat_map, list_any}
 use Rattle.spec_exact.specs.Fraction.{ℚ}
 use Rattle.spec_exact.specs.Narrow.{IsNarrow}
 use Rattle.spec_model.specs.Model.{Name, Model, ExactRow}
-use Rattle.spec_model.specs.Kept.{IsModel, IsNarrowRow, is_row_name}
+use Rattle.spec_model.specs.Kept.{IsModel, IsNarrowRow}
 use Rattle.spec_mps.specs.declared.style.Style.{Style}
 use Rattle.spec_mps.specs.declared.style.Style.TheVariants.{Free, Fixed}
 use Rattle.spec_mps.specs.declared.section.Section.TheVariants as section
 use Rattle.spec_mps.specs.declared.target.Target.{Target}
 use Rattle.spec_mps.specs.declared.target.Target.TheVariants.{Row}
 use Rattle.spec_mps.specs.declared.target.Place.TheVariants.{Kept}
-use Rattle.spec_mps.specs.NumberWritten.{number_text}
+use Rattle.spec_mps.specs.NumberWritten.{IsWord, number_text}
 use Rattle.spec_mps.specs.Shapes.{shaped, has_shape}
 use Rattle.spec_mps.specs.Reader.{State, place_of, number_in, is_among}
 use Rattle.spec_mps.specs.Sides.{is_used, changed_at, set_and_pairs, put_range, range_pair, ranges_by, ranges_card}
 use Rattle.spec_mps.specs.Steps.{begun, more}
 use Rattle.spec_mps.specs.Written.{WrittenCards, number_card, range_cards}
-use Rattle.spec_mps.specs.Written.{ranges_cards, has_range, section_card, line_text}
-use Rattle.spec_mps.proofs.WrittenCards.{IsItem, read_as}
+use Rattle.spec_mps.specs.Written.{ranges_cards, has_range, section_card}
+use Rattle.spec_mps.proofs.WrittenCards.{read_as}
 use Rattle.spec_mps.proofs.WrittenSteps.{Goes}
-use Rattle.spec_mps.proofs.WrittenBack.{cards_are_read_back}
 use Rattle.spec_mps.proofs.WrittenRows.{or_parts, IsAbsent, AreFresh, names_of, goes_one, goes_none, goes_then}
-use Rattle.spec_mps.proofs.WrittenNames.{row_name_word, fresh_names}
+use Rattle.spec_mps.proofs.WrittenNames.{fresh_names}
 use Rattle.spec_mps.proofs.WrittenBehind.{changed_behind}
-use Rattle.spec_mps.proofs.WrittenParts.{number_fields, given_step, IsNumberCard, number_card_of}
+use Rattle.spec_mps.proofs.WrittenParts.{number_fields, IsNumberCard, number_card_of}
 use Rattle.spec_mps.proofs.WrittenHeadings.{ranges_step}
-use Rattle.spec_mps.proofs.WrittenRoom.{RoomFor, room_front, room_back}
-use Rattle.spec_mps.proofs.WrittenFacts.{rangeless, HasNoRanges, HasNoBounds}
-use Rattle.spec_mps.proofs.WrittenSides.{IsUnpaired, unpaired_next, unpaired_later, place_of_row, Sides}
+use Rattle.spec_mps.proofs.WrittenRoom.{RoomFor, room_back}
+use Rattle.spec_mps.proofs.WrittenFacts.{rangeless, start_closed, HasNoRanges, HasNoBounds}
+use Rattle.spec_mps.proofs.WrittenRowNumbers.{number_goes, IsUnpaired, unpaired_next, unpaired_later, place_of_row}
+use Rattle.spec_mps.proofs.WrittenRowNumbers.{RowsGo, RowGoes, AllNeed, rows_go, rows_known}
 
 -- ---- one card
 
@@ -41,10 +40,6 @@ range_shape : (style : Style) (name : Name) (text : List ℕ) →
 unfolding shaped has_shape
 range_shape Free name text = refl
 range_shape Fixed name text = refl
-
-group_item : (style : Style) → IsItem style 8 (codes "RNG")
-group_item Free = record { word = record { some = refl; printable = refl }; room = tt }
-group_item Fixed = record { word = record { some = refl; printable = refl }; room = omega arith }
 
 range_card_read : (style : Style) (s t : State) (name : Name) (text : List ℕ) (i : ℕ) (v : ℚ) →
     is_used s.set (Some (codes "RNG")) ≡ true →
@@ -61,13 +56,8 @@ range_goes : (style : Style) (s t : State) (name : Name) (v : ℚ) (i : ℕ) →
     put_range (record s { set = Some (Some (codes "RNG")) }) (Some i) v ≡ Ok t →
     Goes style s (number_card (codes "RNG") name v ∷ []) t
 range_goes style s t name v i e card used there put =
-    let read =
-    ((cards_are_read_back style).numbers (codes "RNG") name
-    (number_text v) (group_item style) card.row card.number).read in
-    goes_one style s t (number_card (codes "RNG") name v)
-    (given_step style s section.Ranges (line_text style (number_card (codes "RNG") name v))
-    (read_as style (number_fields (codes "RNG") name (number_text v))) e refl read
-    ∙ ap more (range_card_read style s t name (number_text v) i v used there card.reads put))
+    number_goes style s t section.Ranges 82 78 71 name v e refl (record { some = refl; printable = refl }) card
+    (range_card_read style s t name (number_text v) i v used there card.reads put)
 
 -- ---- the rows
 
@@ -80,10 +70,9 @@ range_put s n v h = rw h refl
 abbrev ranges_of : List ExactRow → WrittenCards
 ranges_of rows = flat_map (λ r. range_cards r.name r.range) rows
 
--- what each row's cards need
-abbrev AreRanges : Style → List ExactRow → Type 0
-AreRanges style [] = Unit {0}
-AreRanges style (r ∷ rows) = ((v : ℚ) → r.range ≡ Some v → IsNumberCard style r.name v) × AreRanges style rows
+-- a row that has a range has room for its card
+abbrev NeedsRange : Style → ExactRow → Type 0
+NeedsRange style r = (v : ℚ) → r.range ≡ Some v → IsNumberCard style r.name v
 
 one_range : (style : Style) (s : State) (objective : Name) (done : List ExactRow) (r : ExactRow)
     (v : ℚ) (more : List ExactRow) (paired : List Target) (set : Option (Option Name)) →
@@ -114,101 +103,59 @@ one_range style s objective done r v more paired set e o d card absent unpaired 
     (put ∙ ap (λ rows.
     Ok (record s { rows = rows; paired = Row (length done) ∷ paired; set = Some (Some (codes "RNG")) })) changed)
 
-names_next : (objective : Name) (rows : List ExactRow) (r : ExactRow) →
-    (objective ∷ names_of rows) ++ r.name ∷ [] ≡ objective ∷ names_of (rows ++ r ∷ [])
-names_next objective rows r = ap (λ l. objective ∷ l) (sym (map-append (λ q. q.name) rows (r ∷ [])))
+as_they_are : (rows : List ExactRow) → map (λ r. r) rows ≡ rows
+as_they_are [] = refl
+as_they_are (r ∷ rows) = ap (λ l. r ∷ l) (as_they_are rows)
 
-ranges_go : (style : Style) (s : State) (objective : Name) (done rest : List ExactRow)
+ranges_go : (style : Style) (s : State) (objective : Name) (rows : List ExactRow)
     (paired : List Target) (set : Option (Option Name)) → s.part ≡ Some section.Ranges →
-    s.objective ≡ Some objective → s.dropped ≡ [] → AreRanges style rest
-    → AreFresh (objective ∷ names_of done) (names_of rest) →
-    IsUnpaired (length done) paired → is_used set (Some (codes "RNG")) ≡ true
-    → Sides style s (done ++ map rangeless rest) (ranges_of rest) (done ++ rest) paired set
-ranges_go style s objective done [] paired set e o d known fresh unpaired used =
-    (paired, set, goes_none style (record s { rows = done ++ []; paired = paired; set = set }))
-ranges_go style s objective done (r ∷ rest) paired set e o d known fresh unpaired used =
-    by (λ p q h k. on p q
-    (ranges_go style s objective next rest p q e o d known.1 fresh_next (subst (λ n. IsUnpaired n p) (sym longer) h) k))
-    r.range refl
+    s.objective ≡ Some objective → s.dropped ≡ [] → AllNeed (NeedsRange style) rows
+    → AreFresh (objective ∷ []) (names_of rows) → IsUnpaired 0 paired → is_used set (Some (codes "RNG")) ≡ true
+    → RowsGo style s (map rangeless rows) (ranges_of rows) rows paired set
+ranges_go style s objective rows paired set e o d known fresh unpaired used =
+    subst (λ l. RowsGo style s (map rangeless rows) (ranges_of rows) l paired set) (as_they_are rows)
+    (rows_go style s objective (codes "RNG") rangeless (λ r. r) (λ r. range_cards r.name r.range) (NeedsRange style)
+    (λ r. refl) (λ done r more p q k f u v. row_goes done r more p q k f u v r.range refl)
+    [] rows paired set known fresh unpaired used)
   where
-    next : List ExactRow
-    next = done ++ r ∷ []
-
-    longer : length next ≡ length done + 1
-    longer = length-append done (r ∷ [])
-
-    fresh_next : AreFresh (objective ∷ names_of next) (names_of rest)
-    fresh_next = subst (λ seen. AreFresh seen (names_of rest)) (names_next objective done r) fresh.1
-
-    on : (p : List Target) (q : Option (Option Name)) →
-        Sides style s (next ++ map rangeless rest) (ranges_of rest) (next ++ rest) p q →
-        Sides style s (done ++ r ∷ map rangeless rest) (ranges_of rest) (done ++ r ∷ rest) p q
-    on p q rec =
-        let a = append_assoc done (r ∷ []) (map rangeless rest) in
-        let b = append_assoc done (r ∷ []) rest in
-        subst (λ l. Sides style s l (ranges_of rest) (done ++ r ∷ rest) p q) a
-        (subst (λ l. Sides style s (next ++ map rangeless rest) (ranges_of rest) l p q) b rec)
-
-    by : ((p : List Target) (q : Option (Option Name)) → IsUnpaired (length done + 1) p → is_used q (Some (codes "RNG"))
-        ≡ true → Sides style s (done ++ r ∷ map rangeless rest) (ranges_of rest) (done ++ r ∷ rest) p q)
-        → (x : Option ℚ) → r.range ≡ x → Sides style s (done ++ rangeless r ∷ map rangeless rest)
-        (range_cards r.name x ++ ranges_of rest) (done ++ r ∷ rest) paired set
-    by later None z =
-        let same : r ≡ rangeless r = ap (λ x. record r { range = x }) z in
-        subst (λ x. Sides style s (done ++ x ∷ map rangeless rest) (ranges_of rest) (done ++ r ∷ rest) paired set) same
-        (later paired set (unpaired_later (length done) paired unpaired) used)
-    by later (Some v) z =
-        let rec =
-        later (Row (length done) ∷ paired) (Some (Some (codes "RNG")))
-        (unpaired_next (length done) paired unpaired) refl in
-        let same : record r { range = Some v } ≡ r = ap (λ x. record r { range = x }) (sym z) in
-        let first : Goes style
-        (record s { rows = done ++ rangeless r ∷ map rangeless rest; paired = paired; set = set })
-        (number_card (codes "RNG") r.name v ∷ [])
-        (record s {
-          rows = done ++ r ∷ map rangeless rest;
-          paired = Row (length done) ∷ paired;
-          set = Some (Some (codes "RNG"));
-        }) =
-        subst
-        (λ x. Goes style (record s { rows = done ++ rangeless r ∷ map rangeless rest; paired = paired; set = set })
-        (number_card (codes "RNG") r.name v ∷ [])
-        (record s {
-          rows = done ++ x ∷ map rangeless rest;
-          paired = Row (length done) ∷ paired;
-          set = Some (Some (codes "RNG"));
-        })) same
-        (one_range style s objective done r v (map rangeless rest) paired set e o d
-        (known.0 v z) fresh.0 unpaired used) in (
-          rec.0,
-          rec.1,
-          goes_then style (record s { rows = done ++ rangeless r ∷ map rangeless rest; paired = paired; set = set })
+    row_goes : (done : List ExactRow) (r : ExactRow) (more : List ExactRow)
+        (paired : List Target) (set : Option (Option Name)) → NeedsRange style r →
+        IsAbsent r.name (objective ∷ names_of done) → IsUnpaired (length done) paired →
+        is_used set (Some (codes "RNG")) ≡ true → (x : Option ℚ) → r.range ≡ x →
+        RowGoes style s (codes "RNG") done (rangeless r) r more (range_cards r.name x) paired set
+    row_goes done r more paired set known fresh unpaired used None z =
+        let start : State = record s { rows = done ++ rangeless r ∷ more; paired = paired; set = set } in
+        let same : rangeless r ≡ r = ap (λ x. record r { range = x }) (sym z) in (
+          paired,
+          set,
+          subst (λ x. Goes style start [] (record s { rows = done ++ x ∷ more; paired = paired; set = set })) same
+              (goes_none style start),
+          unpaired_later (length done) paired unpaired,
+          used,
+        )
+    row_goes done r more paired set known fresh unpaired used (Some v) z =
+        let start : State = record s { rows = done ++ rangeless r ∷ more; paired = paired; set = set } in
+        let same : record r { range = Some v } ≡ r = ap (λ x. record r { range = x }) (sym z) in (
+          Row (length done) ∷ paired,
+          Some (Some (codes "RNG")),
+          subst (λ x. Goes style start (number_card (codes "RNG") r.name v ∷ [])
               (record s {
-                rows = done ++ r ∷ map rangeless rest;
+                rows = done ++ x ∷ more;
                 paired = Row (length done) ∷ paired;
                 set = Some (Some (codes "RNG"));
-              }) (record s { rows = done ++ r ∷ rest; paired = rec.0; set = rec.1 })
-              (number_card (codes "RNG") r.name v) (ranges_of rest) first rec.2,
+              })) same
+              (one_range style s objective done r v more paired set e o d (known v z) fresh unpaired used),
+          unpaired_next (length done) paired unpaired,
+          refl,
         )
 
 -- ---- the section, which is there where a row has a range
 
-ranges_known : (style : Style) (rows : List ExactRow) → All (λ r. IsTrue (is_row_name r.name)) rows →
-    All IsNarrowRow rows → RoomFor style (ranges_of rows) → AreRanges style rows
-ranges_known style [] names narrow room = tt
-ranges_known style (r ∷ rows) names narrow room = (
-  card,
-  ranges_known style rows (λ i d a. names (suc i) d (omega arith)) (λ i d a. narrow (suc i) d (omega arith))
-      (room_back style (range_cards r.name r.range) (ranges_of rows) room),
-)
-  where
-    card : (v : ℚ) → r.range ≡ Some v → IsNumberCard style r.name v
-    card v z =
-        let here : RoomFor style (range_cards r.name r.range) =
-        room_front style (range_cards r.name r.range) (ranges_of rows) room in
-        let h : IsNarrowRow r = narrow 0 r (omega arith) in
-        number_card_of style (codes "RNG") r.name v (row_name_word r.name (names 0 r (omega arith)))
-        (subst (λ x. IfSome x IsNarrow) z h.range) (subst (λ x. RoomFor style (range_cards r.name x)) z here)
+range_known : (style : Style) (r : ExactRow) → IsWord r.name → IsNarrowRow r →
+    RoomFor style (range_cards r.name r.range) → NeedsRange style r
+range_known style r word h room v z =
+    number_card_of style (codes "RNG") r.name v word (subst (λ x. IfSome x IsNarrow) z h.range)
+    (subst (λ x. RoomFor style (range_cards r.name x)) z room)
 
 none_ranged : (rows : List ExactRow) → list_any has_range rows ≡ false → map rangeless rows ≡ rows
 none_ranged [] h = refl
@@ -229,10 +176,11 @@ ranges_are_read style m kept room s h = by (list_any has_range m.rows) refl
     one : State
     one = begun s section.Ranges
 
-    ranged : RoomFor style (ranges_of m.rows) → Sides style one (map rangeless m.rows) (ranges_of m.rows) m.rows [] None
+    ranged : RoomFor style (ranges_of m.rows) → RowsGo style one (map rangeless m.rows) (ranges_of m.rows) m.rows [] None
     ranged r =
-        ranges_go style one m.objective [] m.rows [] None refl h.known.objective h.known.none_dropped
-        (ranges_known style m.rows kept.rows kept.narrow_rows r)
+        ranges_go style one m.objective m.rows [] None refl h.known.objective h.known.none_dropped
+        (rows_known style (λ r. range_cards r.name r.range) (NeedsRange style)
+        (range_known style) m.rows kept.rows kept.narrow_rows r)
         (fresh_names m.objective (names_of m.rows) kept.rows_distinct) (λ i k. refl) refl
 
     by : (t : Bool) → list_any has_range m.rows ≡ t →
@@ -241,7 +189,7 @@ ranges_are_read style m kept room s h = by (list_any has_range m.rows) refl
         let there : RoomFor style (section_card (codes "RANGES") ∷ ranges_of m.rows) =
         subst (λ t. RoomFor style (cond t (section_card (codes "RANGES") ∷ ranges_of m.rows) [])) z room in
         let go =
-        subst (λ rows. Sides style one rows (ranges_of m.rows) m.rows [] None) (sym h.rows)
+        subst (λ rows. RowsGo style one rows (ranges_of m.rows) m.rows [] None) (sym h.rows)
         (ranged (room_back style (section_card (codes "RANGES") ∷ []) (ranges_of m.rows) there)) in
         let t : State = record one { rows = m.rows; paired = go.0; set = go.1 } in
         let k = h.known in
@@ -251,15 +199,7 @@ ranges_are_read style m kept room s h = by (list_any has_range m.rows) refl
           t,
           goes_then style s one t (section_card (codes "RANGES")) (ranges_of m.rows) heading go.2,
           record {
-            known =
-                record {
-                  name = k.name;
-                  sense = k.sense;
-                  objective = k.objective;
-                  none_dropped = k.none_dropped;
-                  may_follow = k.may_follow;
-                  none_open = refl;
-                };
+            known = start_closed s m k;
             unbounded =
                 record { no_bounds = u.no_bounds; columns = rw k.none_open u.columns; none_lowered = u.none_lowered };
             offset = h.offset;

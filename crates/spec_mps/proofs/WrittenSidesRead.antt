@@ -1,17 +1,17 @@
 -- The whole section RHS of a written text, after its heading.
-use Rattle.std.proofs.Common.{◌≡◌, suc, Bool, true, false, cond, Some, Ok, List, []}
-use Rattle.std.proofs.Common.{◌∷◌, ◌++◌, map, refl, sym, ap, ◌∙◌, subst, arith}
-use Rattle.std.specs.Prelude.{codes, IsTrue}
-use Rattle.std.specs.List.{All}
+use Rattle.std.proofs.Common.{◌≡◌, Bool, true, false, cond, Some, Ok, []}
+use Rattle.std.proofs.Common.{◌∷◌, ◌++◌, map, refl, sym, ap, ◌∙◌, subst}
+use Rattle.std.specs.Prelude.{codes}
 use Rattle.spec_exact.specs.Fraction.{ℚ, 0ℚ, neg_ℚ, eq_ℚ}
 use Rattle.spec_exact.proofs.Same.{eq_if}
 use Rattle.spec_exact.proofs.Ruleset.{neg-neg, neg-zero}
 use Rattle.spec_model.specs.Model.{Model, ExactRow}
-use Rattle.spec_model.specs.Kept.{IsModel, IsNarrowRow, is_row_name}
+use Rattle.spec_model.specs.Kept.{IsModel, IsNarrowRow}
 use Rattle.spec_mps.specs.declared.style.Style.{Style}
 use Rattle.spec_mps.specs.declared.section.Section.TheVariants as section
 use Rattle.spec_mps.specs.declared.target.Target.TheVariants.{Objective}
 use Rattle.spec_mps.specs.declared.target.Place.TheVariants.{Kept}
+use Rattle.spec_mps.specs.NumberWritten.{IsWord}
 use Rattle.spec_mps.specs.Reader.{State}
 use Rattle.spec_mps.specs.Sides.{is_used, put_side}
 use Rattle.spec_mps.specs.Written.{number_card, side_cards}
@@ -22,26 +22,16 @@ use Rattle.spec_mps.proofs.WrittenNames.{row_name_word, fresh_names}
 use Rattle.spec_mps.proofs.WrittenParts.{IsNumberCard, number_card_of}
 use Rattle.spec_mps.proofs.WrittenRoom.{RoomFor, room_front, room_back}
 use Rattle.spec_mps.proofs.WrittenFacts.{rangeless, HasStart, IsUnbounded, HasNoSides, HasNoRanges}
-use Rattle.spec_mps.proofs.WrittenSides.{AreSides, IsUnpaired, Sides, sides_of, side_goes, sides_go, place_of_objective}
+use Rattle.spec_mps.proofs.WrittenRowNumbers.{IsUnpaired, RowsGo, rows_known}
+use Rattle.spec_mps.proofs.WrittenSides.{NeedsSide, sides_of, side_goes, sides_go, place_of_objective}
 
 -- ---- the rows
 
-sides_known : (style : Style) (rows : List ExactRow) → All (λ r. IsTrue (is_row_name r.name)) rows →
-    All IsNarrowRow rows → RoomFor style (sides_of rows) → AreSides style rows
-sides_known style [] names narrow room = tt
-sides_known style (r ∷ rows) names narrow room = (
-  card,
-  sides_known style rows (λ i d a. names (suc i) d (omega arith)) (λ i d a. narrow (suc i) d (omega arith))
-      (room_back style (side_cards r.name r.rhs) (sides_of rows) room),
-)
-  where
-    card : eq_ℚ r.rhs 0ℚ ≡ false → IsNumberCard style r.name r.rhs
-    card z =
-        let here : RoomFor style (side_cards r.name r.rhs) =
-        room_front style (side_cards r.name r.rhs) (sides_of rows) room in
-        let h : IsNarrowRow r = narrow 0 r (omega arith) in
-        number_card_of style (codes "RHS") r.name r.rhs (row_name_word r.name (names 0 r (omega arith))) h.rhs
-        (subst (λ t. RoomFor style (cond t [] (number_card (codes "RHS") r.name r.rhs ∷ []))) z here)
+side_known : (style : Style) (r : ExactRow) → IsWord r.name → IsNarrowRow r →
+    RoomFor style (side_cards r.name r.rhs) → NeedsSide style r
+side_known style r word h room z =
+    number_card_of style (codes "RHS") r.name r.rhs word h.rhs
+    (subst (λ t. RoomFor style (cond t [] (number_card (codes "RHS") r.name r.rhs ∷ []))) z room)
 
 -- the offset is known, and no row has a right side
 record HasOffset (s : State) (m : Model) : Type 0 where
@@ -57,27 +47,19 @@ record HasOffset (s : State) (m : Model) : Type 0 where
 rows_sided : (style : Style) (m : Model) → IsModel m → RoomFor style (sides_of m.rows) → (s : State) → HasOffset s m →
     (t : State) × Goes style s (sides_of m.rows) t × HasNoRanges t m
 rows_sided style m kept room s h =
-    let known = sides_known style m.rows kept.rows kept.narrow_rows room in
-    let go : Sides style s (map bare_row m.rows) (sides_of m.rows) (map rangeless m.rows) s.paired s.set =
-    sides_go style s m.objective [] m.rows s.paired s.set h.part h.known.objective h.known.none_dropped known
+    let known =
+    rows_known style (λ r. side_cards r.name r.rhs) (NeedsSide style)
+    (side_known style) m.rows kept.rows kept.narrow_rows room in
+    let go : RowsGo style s (map bare_row m.rows) (sides_of m.rows) (map rangeless m.rows) s.paired s.set =
+    sides_go style s m.objective m.rows s.paired s.set h.part h.known.objective h.known.none_dropped known
     (fresh_names m.objective (names_of m.rows) kept.rows_distinct) h.unpaired h.used in
-    let here : Sides style s s.rows (sides_of m.rows) (map rangeless m.rows) s.paired s.set =
-    subst (λ rows. Sides style s rows (sides_of m.rows) (map rangeless m.rows) s.paired s.set) (sym h.rows) go in
-    let k = h.known in
-    let u = h.unbounded in (
+    let here : RowsGo style s s.rows (sides_of m.rows) (map rangeless m.rows) s.paired s.set =
+    subst (λ rows. RowsGo style s rows (sides_of m.rows) (map rangeless m.rows) s.paired s.set) (sym h.rows) go in (
       record s { rows = map rangeless m.rows; paired = here.0; set = here.1 },
       here.2,
       record {
-        known =
-            record {
-              name = k.name;
-              sense = k.sense;
-              objective = k.objective;
-              none_dropped = k.none_dropped;
-              may_follow = k.may_follow;
-              none_open = k.none_open;
-            };
-        unbounded = record { no_bounds = u.no_bounds; columns = u.columns; none_lowered = u.none_lowered };
+        known = h.known;
+        unbounded = h.unbounded;
         no_ranges = h.no_ranges;
         offset = h.offset;
         rows = refl;
@@ -108,24 +90,11 @@ sides_are_read style m kept room s h = by (eq_ℚ (neg_ℚ m.offset) 0ℚ) refl
     one : State
     one = record s { offset = neg_ℚ (neg_ℚ m.offset); paired = Objective ∷ s.paired; set = Some (Some (codes "RHS")) }
 
-    known_one : HasStart one m
-    known_one =
-        let k = h.known in
-        record {
-          name = k.name;
-          sense = k.sense;
-          objective = k.objective;
-          none_dropped = k.none_dropped;
-          may_follow = k.may_follow;
-          none_open = k.none_open;
-        }
-
     has_one : HasOffset one m
     has_one =
-        let u = h.unbounded in
         record {
-          known = known_one;
-          unbounded = record { no_bounds = u.no_bounds; columns = u.columns; none_lowered = u.none_lowered };
+          known = h.known;
+          unbounded = h.unbounded;
           part = h.part;
           no_ranges = h.no_ranges;
           offset = neg-neg m.offset;
