@@ -171,9 +171,9 @@ above_narrow (Some u) v gap h =
     let o = then_ok (order_run (Some number_limit) v u) (λ o. above_by (Some number_limit) u v o) gap h in by o.0 o.2
   where
     by : (o : Ordering) → above_by (Some number_limit) u v o ≡ Ok gap → NarrowBound gap
-    by Greater q = some_gap v u gap q
     by Less q = no_gap gap q
     by Equal q = no_gap gap q
+    by Greater q = some_gap v u gap q
 
 start_by_narrow : (upper : Option ℚ) (v : ℚ) (gap : Option ℚ) (s : RowStart ℚ) →
     row_start_by (Some number_limit) upper v gap ≡ Ok s → IsNarrow v → NarrowBound gap → NarrowStart s
