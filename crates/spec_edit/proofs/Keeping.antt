@@ -31,6 +31,46 @@ name_of_column c = c.name
 abbrev Distinct : List Name → Type 0
 Distinct = AllPairs (λ x y. x ≢ y)
 
+-- ---- other rows or columns
+
+-- other rows that fit the columns, another sense and another offset
+other_rows-kept : (m : Model) (sense : Sense) (offset : ℚ) (rows : List ExactRow) → IsModel m → IsNarrow offset →
+    length rows ≤ row_limit → All (λ r. IsTrue (is_row_name r.name)) rows →
+    All (IsKeptColumn (length rows)) m.columns → Distinct (m.objective ∷ map name_of_row rows) → All IsNarrowRow rows →
+    IsModel (record m { sense = sense; offset = offset; rows = rows })
+other_rows-kept m sense offset rows k narrow few named fit distinct narrow_rows =
+    record {
+      few_rows = few;
+      few_columns = k.few_columns;
+      name = k.name;
+      objective = k.objective;
+      rows = named;
+      columns = fit;
+      rows_distinct = distinct;
+      columns_distinct = k.columns_distinct;
+      offset = narrow;
+      narrow_rows = narrow_rows;
+      narrow_columns = k.narrow_columns;
+    }
+
+other_columns-kept : (m : Model) (columns : List ExactColumn) → IsModel m → length columns ≤ column_limit →
+    All (IsKeptColumn (height m)) columns → Distinct (map name_of_column columns) → All IsNarrowColumn columns →
+    IsModel (record m { columns = columns })
+other_columns-kept m columns k few kept distinct narrow =
+    record {
+      few_rows = k.few_rows;
+      few_columns = few;
+      name = k.name;
+      objective = k.objective;
+      rows = k.rows;
+      columns = kept;
+      rows_distinct = k.rows_distinct;
+      columns_distinct = distinct;
+      offset = k.offset;
+      narrow_rows = k.narrow_rows;
+      narrow_columns = narrow;
+    }
+
 -- ---- one more row or column
 
 -- more rows do no harm to a column
@@ -52,43 +92,23 @@ pub with_row-kept : (m : Model) (r : ExactRow) → IsModel m → height m < row_
     is_row_taken m r.name ≡ false → IsNarrowRow r → IsModel (with_row m r)
 with_row-kept m r k few named new narrow =
     let one_more : length (m.rows ++ r ∷ []) ≡ length m.rows + 1 = length-append m.rows (r ∷ []) in
-    record {
-      few_rows = omega arith;
-      few_columns = k.few_columns;
-      name = k.name;
-      objective = k.objective;
-      rows = All-push (λ (r : ExactRow). IsTrue (is_row_name r.name)) m.rows r k.rows named;
-      columns =
-          All-weaker (IsKeptColumn (length m.rows)) (IsKeptColumn (length (m.rows ++ r ∷ [])))
-          (higher _ _ (omega arith)) m.columns k.columns;
-      rows_distinct =
-          subst Distinct (ap (λ names. m.objective ∷ names) (sym (map-append name_of_row m.rows (r ∷ []))))
-          (all_pairs_push (λ x y. x ≢ y) (m.objective ∷ row_names m) r.name k.rows_distinct (row_new m r.name new));
-      columns_distinct = k.columns_distinct;
-      offset = k.offset;
-      narrow_rows = All-push IsNarrowRow m.rows r k.narrow_rows narrow;
-      narrow_columns = k.narrow_columns;
-    }
+    other_rows-kept m m.sense m.offset (m.rows ++ r ∷ []) k k.offset (omega arith)
+    (All-push (λ (r : ExactRow). IsTrue (is_row_name r.name)) m.rows r k.rows named)
+    (All-weaker (IsKeptColumn (length m.rows)) (IsKeptColumn (length (m.rows ++ r ∷ [])))
+    (higher _ _ (omega arith)) m.columns k.columns)
+    (subst Distinct (ap (λ names. m.objective ∷ names) (sym (map-append name_of_row m.rows (r ∷ []))))
+    (all_pairs_push (λ x y. x ≢ y) (m.objective ∷ row_names m) r.name k.rows_distinct (row_new m r.name new)))
+    (All-push IsNarrowRow m.rows r k.narrow_rows narrow)
 
 pub with_column-kept : (m : Model) (c : ExactColumn) → IsModel m → width m < column_limit →
     is_column_taken m c.name ≡ false → IsKeptColumn (height m) c → IsNarrowColumn c → IsModel (with_column m c)
 with_column-kept m c k few new kept narrow =
     let one_more : length (m.columns ++ c ∷ []) ≡ length m.columns + 1 = length-append m.columns (c ∷ []) in
-    record {
-      few_rows = k.few_rows;
-      few_columns = omega arith;
-      name = k.name;
-      objective = k.objective;
-      rows = k.rows;
-      columns = All-push (IsKeptColumn (length m.rows)) m.columns c k.columns kept;
-      rows_distinct = k.rows_distinct;
-      columns_distinct =
-          subst Distinct (sym (map-append name_of_column m.columns (c ∷ [])))
-          (all_pairs_push (λ x y. x ≢ y) (column_names m) c.name k.columns_distinct (column_new m c.name new));
-      offset = k.offset;
-      narrow_rows = k.narrow_rows;
-      narrow_columns = All-push IsNarrowColumn m.columns c k.narrow_columns narrow;
-    }
+    other_columns-kept m (m.columns ++ c ∷ []) k (omega arith)
+    (All-push (IsKeptColumn (length m.rows)) m.columns c k.columns kept)
+    (subst Distinct (sym (map-append name_of_column m.columns (c ∷ [])))
+    (all_pairs_push (λ x y. x ≢ y) (column_names m) c.name k.columns_distinct (column_new m c.name new)))
+    (All-push IsNarrowColumn m.columns c k.narrow_columns narrow)
 
 -- ---- one row or column less
 
@@ -135,22 +155,12 @@ without_row-kept m i k l =
 pub without_column-kept : (m : Model) (j : ℕ) → IsModel m → j < width m → IsModel (without_column m j)
 without_column-kept m j k l =
     let one_less : length (remove m.columns j) + 1 ≡ length m.columns = length-remove m.columns j l in
-    record {
-      few_rows = k.few_rows;
-      few_columns = omega arith;
-      name = k.name;
-      objective = k.objective;
-      rows = k.rows;
-      columns = All-remove (IsKeptColumn (length m.rows)) m.columns j k.columns;
-      rows_distinct = k.rows_distinct;
-      columns_distinct =
-          subst Distinct (sym (map-remove name_of_column m.columns j))
-          (all_pairs_remove (λ x y. x ≢ y) (column_names m) j
-          (omega (arith, length-map m.columns name_of_column)) k.columns_distinct);
-      offset = k.offset;
-      narrow_rows = k.narrow_rows;
-      narrow_columns = All-remove IsNarrowColumn m.columns j k.narrow_columns;
-    }
+    other_columns-kept m (remove m.columns j) k (omega (arith, k.few_columns))
+    (All-remove (IsKeptColumn (length m.rows)) m.columns j k.columns)
+    (subst Distinct (sym (map-remove name_of_column m.columns j))
+    (all_pairs_remove (λ x y. x ≢ y) (column_names m) j
+    (omega (arith, length-map m.columns name_of_column)) k.columns_distinct))
+    (All-remove IsNarrowColumn m.columns j k.narrow_columns)
 
 -- ---- a row or a column that is changed
 
@@ -158,42 +168,23 @@ pub changed_row-kept : (m : Model) (i : ℕ) (change : ExactRow → ExactRow) �
     (change (row m i)).name ≡ (row m i).name → IsNarrowRow (change (row m i)) → IsModel (changed_row change m i)
 changed_row-kept m i change k l named narrow =
     let long : length (set m.rows i (change (row m i))) ≡ length m.rows = length-set m.rows i (change (row m i)) in
-    record {
-      few_rows = omega (arith, k.few_rows);
-      few_columns = k.few_columns;
-      name = k.name;
-      objective = k.objective;
-      rows =
-          All-set (λ (r : ExactRow). IsTrue (is_row_name r.name)) m.rows i (change (row m i))
-          (subst (λ name. IsTrue (is_row_name name)) (sym named) (k.rows i no_row l)) k.rows;
-      columns = subst (λ n. All (IsKeptColumn n) m.columns) (sym long) k.columns;
-      rows_distinct =
-          subst (λ names. Distinct (m.objective ∷ names)) (sym (row_names-changed m i change l named)) k.rows_distinct;
-      columns_distinct = k.columns_distinct;
-      offset = k.offset;
-      narrow_rows = All-set IsNarrowRow m.rows i (change (row m i)) narrow k.narrow_rows;
-      narrow_columns = k.narrow_columns;
-    }
+    other_rows-kept m m.sense m.offset (set m.rows i (change (row m i))) k k.offset (omega (arith, k.few_rows))
+    (All-set (λ (r : ExactRow). IsTrue (is_row_name r.name)) m.rows i (change (row m i))
+    (subst (λ name. IsTrue (is_row_name name)) (sym named) (k.rows i no_row l)) k.rows)
+    (subst (λ n. All (IsKeptColumn n) m.columns) (sym long) k.columns)
+    (subst (λ names. Distinct (m.objective ∷ names)) (sym (row_names-changed m i change l named)) k.rows_distinct)
+    (All-set IsNarrowRow m.rows i (change (row m i)) narrow k.narrow_rows)
 
 pub changed_column-kept : (m : Model) (j : ℕ) (change : ExactColumn → ExactColumn) → IsModel m → j < width m →
     (change (column m j)).name ≡ (column m j).name → IsKeptColumn (height m) (change (column m j)) →
     IsNarrowColumn (change (column m j)) → IsModel (changed_column change m j)
 changed_column-kept m j change k l named kept narrow =
-    let long : length (set m.columns j (change (column m j))) ≡ length m.columns =
-    length-set m.columns j (change (column m j)) in
-    record {
-      few_rows = k.few_rows;
-      few_columns = omega (arith, k.few_columns);
-      name = k.name;
-      objective = k.objective;
-      rows = k.rows;
-      columns = All-set (IsKeptColumn (length m.rows)) m.columns j (change (column m j)) kept k.columns;
-      rows_distinct = k.rows_distinct;
-      columns_distinct = subst Distinct (sym (column_names-changed m j change l named)) k.columns_distinct;
-      offset = k.offset;
-      narrow_rows = k.narrow_rows;
-      narrow_columns = All-set IsNarrowColumn m.columns j (change (column m j)) narrow k.narrow_columns;
-    }
+    let changed : List ExactColumn = set m.columns j (change (column m j)) in
+    let long : length changed ≡ length m.columns = length-set m.columns j (change (column m j)) in
+    other_columns-kept m changed k (omega (arith, k.few_columns))
+    (All-set (IsKeptColumn (length m.rows)) m.columns j (change (column m j)) kept k.columns)
+    (subst Distinct (sym (column_names-changed m j change l named)) k.columns_distinct)
+    (All-set IsNarrowColumn m.columns j (change (column m j)) narrow k.narrow_columns)
 
 -- ---- costs, coefficients and bounds
 
@@ -246,34 +237,14 @@ with_range-kept m i range k l narrow =
     changed_row-kept m i (λ (r : ExactRow). record r { range = range }) k l refl
     (record { rhs = (k.narrow_rows i no_row l).rhs; range = narrow })
 
+-- the rows as they are, with another sense and another offset
+same_rows-kept : (m : Model) (sense : Sense) (v : ℚ) → IsModel m → IsNarrow v →
+    IsModel (record m { sense = sense; offset = v })
+same_rows-kept m sense v k narrow =
+    other_rows-kept m sense v m.rows k narrow k.few_rows k.rows k.columns k.rows_distinct k.narrow_rows
+
 pub with_offset-kept : (m : Model) (v : ℚ) → IsModel m → IsNarrow v → IsModel (with_offset m v)
-with_offset-kept m v k narrow =
-    record {
-      few_rows = k.few_rows;
-      few_columns = k.few_columns;
-      name = k.name;
-      objective = k.objective;
-      rows = k.rows;
-      columns = k.columns;
-      rows_distinct = k.rows_distinct;
-      columns_distinct = k.columns_distinct;
-      offset = narrow;
-      narrow_rows = k.narrow_rows;
-      narrow_columns = k.narrow_columns;
-    }
+with_offset-kept m v k narrow = same_rows-kept m m.sense v k narrow
 
 pub with_sense-kept : (m : Model) (sense : Sense) → IsModel m → IsModel (with_sense m sense)
-with_sense-kept m sense k =
-    record {
-      few_rows = k.few_rows;
-      few_columns = k.few_columns;
-      name = k.name;
-      objective = k.objective;
-      rows = k.rows;
-      columns = k.columns;
-      rows_distinct = k.rows_distinct;
-      columns_distinct = k.columns_distinct;
-      offset = k.offset;
-      narrow_rows = k.narrow_rows;
-      narrow_columns = k.narrow_columns;
-    }
+with_sense-kept m sense k = same_rows-kept m sense m.offset k k.offset
