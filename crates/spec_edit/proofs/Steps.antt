@@ -31,35 +31,29 @@ same_ok a b h = cc
 
 -- ---- what is found by a name
 
-pub record AtRow (m n : Model) (change : ℕ → Model) : Type 0 where
+-- a change at one of so many places makes this model
+pub record AtPlace (count : ℕ) (n : Model) (change : ℕ → Model) : Type 0 where
   pub place : ℕ
-  pub inside : place < height m
+  pub inside : place < count
   pub model : change place ≡ n
 
-pub record AtColumn (m n : Model) (change : ℕ → Model) : Type 0 where
-  pub place : ℕ
-  pub inside : place < width m
-  pub model : change place ≡ n
+at_place : (found : OrFault ℕ) (count : ℕ) (n : Model) (change : ℕ → Model) → ((k : ℕ) → found ≡ Ok k → k < count) →
+    (found >>= λ k. Ok (change k)) ≡ Ok n → AtPlace count n change
+at_place found count n change within h =
+    let a = step_ok found _ n h in record { place = a.0; inside = within a.0 a.1; model = same_ok (change a.0) n a.2 }
+
+row_inside : (m : Model) (name : Name) (i : ℕ) → row_named m name ≡ Ok i → i < height m
+row_inside m name i h = (row_known m name i (known_ok (row_place m name) name i h)).0
 
 pub at_row : (m n : Model) (name : Name) (change : ℕ → Model) → (row_named m name >>= λ i. Ok (change i)) ≡ Ok n →
-    AtRow m n change
-at_row m n name change h =
-    let a = step_ok (row_named m name) _ n h in
-    record {
-      place = a.0;
-      inside = (row_known m name a.0 (known_ok (row_place m name) name a.0 a.1)).0;
-      model = same_ok (change a.0) n a.2;
-    }
+    AtPlace (height m) n change
+at_row m n name change h = at_place (row_named m name) (height m) n change (row_inside m name) h
 
 pub at_column : (m n : Model) (name : Name) (change : ℕ → Model) → (column_named m name >>= λ j. Ok (change j)) ≡ Ok n →
-    AtColumn m n change
+    AtPlace (width m) n change
 at_column m n name change h =
-    let a = step_ok (column_named m name) _ n h in
-    record {
-      place = a.0;
-      inside = (column_known m name a.0 (known_ok (column_place m name) name a.0 a.1)).0;
-      model = same_ok (change a.0) n a.2;
-    }
+    at_place (column_named m name) (width m) n change
+    (λ j e. (column_known m name j (known_ok (column_place m name) name j e)).0) h
 
 pub record AtEntry (m n : Model) (change : ℕ → ℕ → Model) : Type 0 where
   pub row : ℕ
@@ -76,18 +70,18 @@ at_entry m n row column change h =
     record {
       row = a.0;
       column = s.place;
-      row_inside = (row_known m row a.0 (known_ok (row_place m row) row a.0 a.1)).0;
+      row_inside = row_inside m row a.0 a.1;
       column_inside = s.inside;
       model = s.model;
     }
 
 -- the objective's right side, or that of a row
 pub right_side-ok : (m n : Model) (name : Name) (v : ℚ) → with_right_side m name v ≡ Ok n →
-    (with_offset m (neg_ℚ v) ≡ n) ⊎ AtRow m n (λ i. with_rhs m i v)
+    (with_offset m (neg_ℚ v) ≡ n) ⊎ AtPlace (height m) n (λ i. with_rhs m i v)
 unfolding with_right_side
 right_side-ok m n name v h = by (same m.objective name) h
   where
     by : (t : Bool) → cond t (Ok (with_offset m (neg_ℚ v))) (row_named m name >>= λ i. Ok (with_rhs m i v)) ≡ Ok n →
-        (with_offset m (neg_ℚ v) ≡ n) ⊎ AtRow m n (λ i. with_rhs m i v)
+        (with_offset m (neg_ℚ v) ≡ n) ⊎ AtPlace (height m) n (λ i. with_rhs m i v)
     by true e = inl (same_ok (with_offset m (neg_ℚ v)) n e)
     by false e = inr (at_row m n name (λ i. with_rhs m i v) e)
