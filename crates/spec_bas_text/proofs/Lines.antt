@@ -12,6 +12,7 @@ use Rattle.spec_text.specs.Lines.{lines_of}
 use Rattle.spec_text.specs.Words.{words_of}
 use Rattle.spec_model.specs.Model.{Model, Name, no_row, no_column}
 use Rattle.spec_model.specs.Kept.{IsModel, is_name, is_row_name, is_model_name, is_printable}
+use Rattle.spec_model.proofs.NamePlaces.{column_name, row_name}
 use Rattle.spec_pivot.specs.declared.status.Status.{Status}
 use Rattle.spec_pivot.specs.declared.status.Status.TheVariants.{Basic, AtLower, AtUpper, AtZero}
 use Rattle.spec_simplex.specs.Form.{Form, form_of}
@@ -38,7 +39,6 @@ use Rattle.spec_bas.specs.Written.{upper_card, basic_columns, other_rows, upper_
 use Rattle.spec_bas.proofs.Sizes.{sized}
 use Rattle.spec_bas.proofs.Fitting.{one_basis}
 use Rattle.spec_bas_text.proofs.Chosen.{all_zip, chosen_all}
-use Rattle.spec_bas_text.proofs.Places.{column_name, row_name}
 use Rattle.spec_bas_text.proofs.Meaning.{cards_mean}
 
 -- ---- names

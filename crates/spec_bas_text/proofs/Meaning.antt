@@ -9,6 +9,7 @@ use Rattle.std.proofs.lemmas.List.{append-nil}
 use Rattle.spec_exact.specs.Fraction.{ℚ}
 use Rattle.spec_model.specs.Model.{Model, Name}
 use Rattle.spec_model.specs.Kept.{IsModel, row_place, column_place}
+use Rattle.spec_model.proofs.NamePlaces.{column_name, row_name, column_at, row_at}
 use Rattle.spec_pivot.specs.declared.status.Status.{Status}
 use Rattle.spec_pivot.specs.declared.status.Status.TheVariants.{Basic, AtLower, AtUpper, AtZero}
 use Rattle.spec_simplex.specs.Form.{Form, form_lower, form_upper}
@@ -22,7 +23,7 @@ use Rattle.spec_bas.specs.Written.{is_at_upper, basic_columns, other_rows, upper
 use Rattle.spec_bas.specs.Written.{cards_of}
 use Rattle.spec_bas_text.proofs.Chosen.{all_front, all_back, all_named, all_zip, pairs_append, pairs_map, chosen_all}
 use Rattle.spec_bas_text.proofs.Chosen.{chosen_missing, chosen_once, basics_chosen, others_chosen}
-use Rattle.spec_bas_text.proofs.Places.{column_name, row_name, column_at, row_at, named_once, unnamed}
+use Rattle.spec_bas_text.proofs.Places.{named_once, unnamed}
 
 -- ---- statuses
 

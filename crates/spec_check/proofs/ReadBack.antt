@@ -1,15 +1,16 @@
 -- A written certificate is read back.
-use Rattle.std.proofs.Common.{◌≡◌, ℕ, ◌<◌, true, Some, None, List, [], ◌∷◌, ◌++◌, length}
+use Rattle.std.proofs.Common.{◌≡◌, ℕ, ◌<◌, true, false, Some, None, Ok, List, [], ◌∷◌, ◌++◌, length}
 use Rattle.std.proofs.Common.{map, refl, sym, ap, ◌∙◌, subst, append_assoc, arith}
-use Rattle.std.specs.Prelude.{codes, All}
+use Rattle.std.specs.Prelude.{codes, All, slice_set}
 use Rattle.std.proofs.lemmas.List.{map-append}
 use Rattle.spec_text.specs.declared.line.Line.{Line}
 use Rattle.spec_text.specs.declared.line.Line.TheVariants.{Text}
 use Rattle.spec_text.specs.Words.{words_of}
 use Rattle.spec_exact.specs.Fraction.{ℚ, 0ℚ}
 use Rattle.spec_exact.specs.Narrow.{IsNarrow}
-use Rattle.spec_model.specs.Model.{Model, width, height, part}
+use Rattle.spec_model.specs.Model.{Model, Name, width, height, part}
 use Rattle.spec_model.specs.Kept.{IsModel}
+use Rattle.spec_model.proofs.NamePlaces.{column_name, row_name, column_at}
 use Rattle.spec_mps.specs.NumberWritten.{IsWord}
 use Rattle.spec_mps.proofs.WrittenWords.{parts_word, parts_word_then}
 use Rattle.spec_check.specs.declared.certificate.Letter.{Letter}
@@ -21,12 +22,11 @@ use Rattle.spec_check.specs.Certificate.{IsFor, IsNarrowCertificate}
 use Rattle.spec_check.specs.declared.progress.Progress.TheVariants.{More, Done}
 use Rattle.spec_check.specs.Text.{ExactPart, ExactRaw, ExactKind, kind_of, takes}
 use Rattle.spec_check.specs.Text.{is_end, step_by_words, step, Leads, Spells}
-use Rattle.spec_check.specs.Settle.{◌>>=◌, zeros, blank, put_all, certificate_for}
-use Rattle.spec_check.specs.TextWritten.{lines_below, kind_text, all_part_lines, certificate_lines}
+use Rattle.spec_check.specs.Settle.{◌>>=◌, zeros, blank, with_value, same_letter, put_all, certificate_for}
+use Rattle.spec_check.specs.TextWritten.{lines_below, column_lines, kind_text, all_part_lines, certificate_lines}
 use Rattle.spec_check.specs.TextRead.{IsReadBack}
 use Rattle.spec_check.proofs.TextSteps.{goes_on, ends, with_parts, parts_below, parts_lead}
-use Rattle.spec_check.proofs.NamesKnown.{column_name, row_name, column_word, column_at}
-use Rattle.spec_check.proofs.NamesKnown.{columns_named, rays_named, rows_named}
+use Rattle.spec_check.proofs.NamesKnown.{AreNames, column_word, columns_named, rays_named, rows_named}
 use Rattle.spec_check.proofs.PartsPlaced.{put_more, free_at_first, free_behind, filled}
 
 abbrev raw_of : ExactKind → List ExactPart → ExactRaw
@@ -99,30 +99,46 @@ narrow_at xs n e h k p = h k 0ℚ (omega (arith, e, p))
 
 -- ---- the four kinds
 
-optimal_back : (m : Model) (x y : List ℚ) → IsModel m → IsFor m (Optimal x y) → IsNarrowCertificate (Optimal x y) →
-    IsReadBack m (Optimal x y)
-unfolding blank certificate_for
-optimal_back m x y h f n =
-    let start : ExactRaw = raw_of kind.Optimal [] in
+-- with a list for the columns, below the letter X, and a list for n names, below another letter
+two_back : (m : Model) (k : ExactKind) (b : Letter) (names : ℕ → Name) (n : ℕ)
+    (cert : List ℚ → List ℚ → Certificate (List ℚ)) (x y : List ℚ) → IsModel m → AreNames m b n names →
+    (length x ≡ width m) × (length y ≡ n) → All IsNarrow x × All IsNarrow y →
+    takes k X ≡ true → takes k b ≡ true → same_letter X b ≡ false →
+    step None (Text (kind_text m (cert x y))) ≡ More (raw_of k []) →
+    all_part_lines m (cert x y) ≡ column_lines m X x ++ lines_below b names y n →
+    blank m k ≡ Ok (cert (zeros (width m)) (zeros n)) →
+    ((u z : List ℚ) (j : ℕ) (v : ℚ) → with_value X j v (cert z u) ≡ cert (slice_set z j v) u) →
+    ((u z : List ℚ) (j : ℕ) (v : ℚ) → with_value b j v (cert u z) ≡ cert u (slice_set z j v)) → IsReadBack m (cert x y)
+unfolding certificate_for
+two_back m k b names n cert x y h named f narrow first second apart begins lines blank_is fills_x fills_y =
+    let start : ExactRaw = raw_of k [] in
     let xs : List ExactPart = parts_below X (column_name m) x (width m) in
-    let ys : List ExactPart = parts_below Y (row_name m) y (height m) in
-    let raw : ExactRaw = raw_of kind.Optimal (xs ++ ys) in
+    let ys : List ExactPart = parts_below b names y n in
+    let raw : ExactRaw = raw_of k (xs ++ ys) in
     record {
       raw = raw;
-      spelled = whole m (Optimal x y) raw (
+      spelled = whole m (cert x y) raw (
         start,
-        optimal_step,
-        two_lead start X Y (column_name m) (row_name m) x y (width m) (height m) refl refl
-            (columns_named m h).words (narrow_at x (width m) f.0 n.0)
-            (rows_named m h).words (narrow_at y (height m) f.1 n.1),
+        begins,
+        subst (λ ls. Leads (Some start) (map Text ls) (Some raw)) (sym lines)
+            (two_lead start X b (column_name m) names x y (width m) n first second
+            (columns_named m h).words (narrow_at x (width m) f.0 narrow.0)
+            named.words (narrow_at y n f.1 narrow.1)),
       );
-      settled = put_more m [] xs ys (Optimal (zeros (width m)) (zeros (height m)))
+      settled = ap (λ o. o >>= λ next. put_all m [] (xs ++ ys) next) blank_is
+          ∙ put_more m [] xs ys (cert (zeros (width m)) (zeros n))
           ∙ ap (λ o. o >>= λ next. put_all m xs ys next)
           (filled m X (width m) (column_name m) (columns_named m h) x f.0
-          (λ z. Optimal z (zeros (height m))) (λ z k v. refl) [] (free_at_first X))
-          ∙ filled m Y (height m) (row_name m) (rows_named m h) y f.1 (λ z. Optimal x z)
-          (λ z k v. refl) xs (free_behind Y X (column_name m) x (width m) refl);
+          (λ z. cert z (zeros n)) (fills_x (zeros n)) [] (free_at_first X))
+          ∙ filled m b n names named y f.1 (cert x) (fills_y x) xs (free_behind b X (column_name m) x (width m) apart);
     }
+
+optimal_back : (m : Model) (x y : List ℚ) → IsModel m → IsFor m (Optimal x y) → IsNarrowCertificate (Optimal x y) →
+    IsReadBack m (Optimal x y)
+unfolding blank
+optimal_back m x y h f n =
+    two_back m kind.Optimal Y (row_name m) (height m) Optimal x y h (rows_named m h) f n refl refl refl
+    optimal_step refl refl (λ u z j v. refl) (λ u z j v. refl)
 
 infeasible_back : (m : Model) (y : List ℚ) → IsModel m → IsFor m (Infeasible y) → IsNarrowCertificate (Infeasible y) →
     IsReadBack m (Infeasible y)
@@ -145,28 +161,10 @@ infeasible_back m y h f n =
 
 unbounded_back : (m : Model) (x r : List ℚ) → IsModel m → IsFor m (Unbounded x r) →
     IsNarrowCertificate (Unbounded x r) → IsReadBack m (Unbounded x r)
-unfolding blank certificate_for
+unfolding blank
 unbounded_back m x r h f n =
-    let start : ExactRaw = raw_of kind.Unbounded [] in
-    let xs : List ExactPart = parts_below X (column_name m) x (width m) in
-    let rs : List ExactPart = parts_below R (column_name m) r (width m) in
-    let raw : ExactRaw = raw_of kind.Unbounded (xs ++ rs) in
-    record {
-      raw = raw;
-      spelled = whole m (Unbounded x r) raw (
-        start,
-        unbounded_step,
-        two_lead start X R (column_name m) (column_name m) x r (width m) (width m) refl refl
-            (columns_named m h).words (narrow_at x (width m) f.0 n.0)
-            (columns_named m h).words (narrow_at r (width m) f.1 n.1),
-      );
-      settled = put_more m [] xs rs (Unbounded (zeros (width m)) (zeros (width m)))
-          ∙ ap (λ o. o >>= λ next. put_all m xs rs next)
-          (filled m X (width m) (column_name m) (columns_named m h) x f.0
-          (λ z. Unbounded z (zeros (width m))) (λ z k v. refl) [] (free_at_first X))
-          ∙ filled m R (width m) (column_name m) (rays_named m h) r f.1 (λ z. Unbounded x z)
-          (λ z k v. refl) xs (free_behind R X (column_name m) x (width m) refl);
-    }
+    two_back m kind.Unbounded R (column_name m) (width m) Unbounded x r h (rays_named m h) f n refl refl refl
+    unbounded_step refl refl (λ u z j v. refl) (λ u z j v. refl)
 
 clash_back : (m : Model) (j : ℕ) → IsModel m → IsFor m (Clash j) → IsReadBack m (Clash j)
 unfolding blank certificate_for

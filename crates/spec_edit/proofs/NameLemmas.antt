@@ -1,11 +1,10 @@
 -- Names that stand for a row or a column, and names that stand for none.
-use Rattle.std.proofs.Common.{◌≡◌, ◌≢◌, ℕ, suc, ◌<◌, ◌≤◌, Bool, true, false, cond, ltb, Some, None}
-use Rattle.std.proofs.Common.{List, [], ◌∷◌, length, get_or, All, refl, sym, ◌∙◌, arith, ⊎_elim}
+use Rattle.std.proofs.Common.{◌≡◌, ◌≢◌, ℕ, ◌<◌, ◌≤◌, Bool, true, false, cond, ltb, Some, None}
+use Rattle.std.proofs.Common.{List, ◌∷◌, length, All, refl, sym, arith, ⊎_elim}
 use borrow.Author.Tests.{ltb-false}
 use Rattle.std.specs.Prelude.{is_some}
 use Rattle.std.specs.List.{position, position_or_len}
 use Rattle.std.proofs.lemmas.Bool.{or_parts, cases_order}
-use Rattle.std.proofs.lemmas.List.{get_or-map, length-map}
 use Rattle.std.proofs.lemmas.List.Elements.{All-cons, All-map, All-weaker}
 use Rattle.std.proofs.lemmas.List.Sums.{fails_before_first}
 use Rattle.std.proofs.lemmas.List.Quantifiers.{position-Some}
@@ -13,6 +12,7 @@ use Rattle.spec_text.specs.Words.{same}
 use Rattle.spec_text.proofs.WordLemmas.{same_true, same_false}
 use Rattle.spec_model.specs.Model.{Model, Name, ExactRow, ExactColumn, no_row, no_column, width, height, row, column}
 use Rattle.spec_model.specs.Kept.{IsModel, row_names, column_names, row_place, column_place}
+use Rattle.spec_model.proofs.NamePlaces.{rows_differ}
 use Rattle.spec_edit.specs.Changes.{changed_row, changed_column}
 use Rattle.spec_edit.specs.Edited.{is_row_taken, is_column_taken}
 use Rattle.spec_edit.proofs.ListLemmas.{map-set_unseen}
@@ -76,10 +76,4 @@ one_row m i j k p q e =
     (⊎_elim (λ l. absurd (apart i j l p q e)) (λ l. absurd (apart j i l q p (sym e)))) (cases_order i j)
   where
     apart : (a b : ℕ) → a < b → a < height m → b < height m → (row m a).name ≡ (row m b).name → ⊥
-    apart a b l p q e =
-        let long : length (row_names m) ≡ height m = length-map m.rows (λ (r : ExactRow). r.name) in
-        let f : get_or (row_names m) a [] ≡ (row m a).name =
-        get_or-map (λ (r : ExactRow). r.name) m.rows a no_row [] p in
-        let g : get_or (row_names m) b [] ≡ (row m b).name =
-        get_or-map (λ (r : ExactRow). r.name) m.rows b no_row [] q in
-        k.rows_distinct (suc a) (suc b) [] (omega arith) (omega arith) (f ∙ e ∙ sym g)
+    apart a b l p q e = same_false (row m a).name (row m b).name (rows_differ m k a b l q) e

@@ -1,0 +1,59 @@
+-- The names of a kept model's rows and columns stand for them, and none is there twice.
+use Rattle.std.proofs.Common.{◌≡◌, ◌≢◌, ℕ, suc, ◌<◌, Bool, true, false, cond, ltb, Some, None, List, []}
+use Rattle.std.proofs.Common.{length, map, get_or, refl, ap, ◌∙◌, subst₂, arith}
+use Rattle.std.specs.List.{AllPairs, position}
+use Rattle.std.proofs.lemmas.List.{get_or-map, length-map}
+use Rattle.std.proofs.lemmas.List.Sums.{position_or_len_is}
+use borrow.Author.Tests.{lt-ltb}
+use Rattle.spec_text.specs.Words.{same}
+use Rattle.spec_text.proofs.WordLemmas.{same-refl, same_true}
+use Rattle.spec_model.specs.Model.{Model, Name, ExactRow, ExactColumn, no_row, no_column, width, height, row, column}
+use Rattle.spec_model.specs.Kept.{IsModel, row_place, column_place}
+
+abbrev pub column_name : Model → ℕ → Name
+column_name m j = (column m j).name
+
+abbrev pub row_name : Model → ℕ → Name
+row_name m i = (row m i).name
+
+not_same : (a b : Name) → a ≢ b → same a b ≡ false
+not_same a b h = by (same a b) refl
+  where
+    by : (t : Bool) → same a b ≡ t → same a b ≡ false
+    by true e = absurd (h (same_true a b e))
+    by false e = e
+
+-- things with names of which no two are the same
+module _ {A : Type 0} (name : A → Name) (xs : List A) (d : A) (once : AllPairs (λ x y. x ≢ y) (map name xs)) where
+  differ : (i k : ℕ) → i < k → k < length xs → same (name (get_or xs i d)) (name (get_or xs k d)) ≡ false
+  differ i k p q =
+      not_same (name (get_or xs i d)) (name (get_or xs k d))
+      (subst₂ ◌≢◌ (get_or-map name xs i d [] (omega arith)) (get_or-map name xs k d [] q)
+      (once i k [] p (omega (arith, length-map xs name))))
+
+  place_at : (i : ℕ) → i < length xs → position (λ x. same (name x) (name (get_or xs i d))) xs ≡ Some i
+  place_at i p =
+      ap (λ n. cond (ltb n (length xs)) (Some n) None)
+      (position_or_len_is (λ x. same (name x) (name (get_or xs i d))) xs i d (omega arith)
+      (λ k l. differ k i l p) (λ l. same-refl (name (get_or xs i d))))
+      ∙ rw (lt-ltb i (length xs) p) refl
+
+-- names of rows differ from each other too, and not from that of the objective alone
+rows_once : (m : Model) → IsModel m → AllPairs (λ x y. x ≢ y) (map (λ (r : ExactRow). r.name) m.rows)
+rows_once m h = λ i k d p q. h.rows_distinct (suc i) (suc k) d (omega arith) (omega arith)
+
+pub columns_differ : (m : Model) → IsModel m → (i k : ℕ) → i < k → k < width m →
+    same (column_name m i) (column_name m k) ≡ false
+columns_differ m h = differ (λ (c : ExactColumn). c.name) m.columns no_column h.columns_distinct
+
+pub rows_differ : (m : Model) → IsModel m → (i k : ℕ) → i < k → k < height m →
+    same (row_name m i) (row_name m k) ≡ false
+rows_differ m h = differ (λ (r : ExactRow). r.name) m.rows no_row (rows_once m h)
+
+pub column_at : (m : Model) → IsModel m → (j : ℕ) → j < width m → column_place m (column_name m j) ≡ Some j
+unfolding column_place
+column_at m h = place_at (λ (c : ExactColumn). c.name) m.columns no_column h.columns_distinct
+
+pub row_at : (m : Model) → IsModel m → (i : ℕ) → i < height m → row_place m (row_name m i) ≡ Some i
+unfolding row_place
+row_at m h = place_at (λ (r : ExactRow). r.name) m.rows no_row (rows_once m h)
