@@ -1,5 +1,4 @@
--- Runs over places in order, step by step: one more place, and a stop at a place,
--- which stays so at the places after it.
+-- Runs over places in order: a stop at a place stays so at the places after it.
 use Rattle.std.proofs.Common.{◌≡◌, ℕ, zero, suc, ◌+◌, ◌-◌, ◌<◌, Ok, Err, subst, ap, ◌∙◌, arith}
 use Rattle.std.specs.Prelude.{⊤}
 use Rattle.spec_exact.specs.Fraction.{ℚ}
@@ -30,12 +29,3 @@ pub from_stops : (s : ℚ) (k n : ℕ) (f : ℕ → ℚ → Run ℚ) (t : ℚ) (
 from_stops s k n f t e p h g =
     subst (λ i. each_from s i f ≡ Err e) (let z : suc k + (n - suc k) ≡ n = omega arith in z)
     (from_stays s (suc k) (n - suc k) f e (ap (λ o. o >>= λ u. f k u) h ∙ g))
-
--- one more place
-pub each_more : (k : ℕ) (f : ℕ → Run ⊤) → each k f ≡ Ok tt → f k ≡ Ok tt → each (k + 1) f ≡ Ok tt
-each_more k f h g = (let z : k + 1 ≡ suc k = omega arith in ap (λ i. each i f) z) ∙ ap (λ o. o >>= λ _. f k) h ∙ g
-
-pub from_more : (s : ℚ) (k : ℕ) (f : ℕ → ℚ → Run ℚ) (t u : ℚ) → each_from s k f ≡ Ok t → f k t ≡ Ok u →
-    each_from s (k + 1) f ≡ Ok u
-from_more s k f t u h g =
-    (let z : k + 1 ≡ suc k = omega arith in ap (λ i. each_from s i f) z) ∙ ap (λ o. o >>= λ v. f k v) h ∙ g
