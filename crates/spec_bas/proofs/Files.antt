@@ -17,7 +17,7 @@ use Rattle.spec_bas.specs.Steps.{upper_step, usual_step, card_step, more, on_rea
 use Rattle.spec_bas.specs.Steps.{Outcome}
 use Rattle.spec_bas.specs.Fits.{HasSizeOf}
 use Rattle.spec_bas.specs.Spelled.{HasCards, SpellsBasis, readings_of, unless_skipped}
-use Rattle.spec_bas.proofs.Marks.{pair_taken, upper_taken, usual_taken}
+use Rattle.spec_bas.proofs.MarkSteps.{pair_taken, upper_taken, usual_taken}
 use Rattle.spec_bas.proofs.Spelling.{LeadTo, lead_from, from_lead, start_forth, start_back}
 
 -- ---- that there was a card changes nothing but for NAME

@@ -10,7 +10,8 @@ use Rattle.spec_bas.specs.Steps.{State, Verdict, Spelled, Refused, Outcome, More
 use Rattle.spec_bas.specs.Steps.{Refuses}
 use Rattle.spec_bas.specs.Fits.{HasSizeOf, IsMarking}
 use Rattle.spec_bas.specs.Spelled.{SpellsBasis}
-use Rattle.spec_bas.proofs.Marks.{start_marks, step_keeps, step_fits}
+use Rattle.spec_bas.proofs.Marks.{start_marks}
+use Rattle.spec_bas.proofs.MarkSteps.{step_keeps, step_fits}
 use Rattle.spec_bas.proofs.Files.{gives_spells, spells_gives}
 
 module _ (m : Model) (f : Form) (size : HasSizeOf m f) where

@@ -1,4 +1,5 @@
 pub mod Marks
+pub mod MarkSteps
 pub mod Sizes
 pub mod Parts
 pub mod Spelling

@@ -1,17 +1,14 @@
 -- What the lines of a file give is what their cards spell.
-use Rattle.std.proofs.Common.{◌≡◌, ◌≢◌, ℕ, suc, ◌+◌, ◌-◌, ◌<◌, ◌≤◌, ◌⊎◌, inl, inr, Bool, true, false, not, cond, List}
+use Rattle.std.proofs.Common.{◌≡◌, ◌≢◌, ℕ, ◌+◌, ◌-◌, ◌<◌, ◌≤◌, ◌⊎◌, inl, inr, false, List}
 use Rattle.std.proofs.Common.{[], ◌∷◌, length, get_or}
 use Rattle.std.proofs.Common.{Some, None, is_some, Ok, All, refl, sym, ap, ◌∙◌, subst, arith}
 use Rattle.std.proofs.lemmas.Bool.{cases_lt}
 use Rattle.std.proofs.lemmas.List.{ext_get_or, get_or-replicate}
-use Rattle.std.specs.List.{position, position_or_len}
-use Rattle.std.specs.Prelude.{nat_lt}
-use borrow.Author.Tests.{ltb-true}
 use Rattle.spec_text.specs.Words.{same}
-use Rattle.spec_text.proofs.WordLemmas.{same_is_equal}
 use Rattle.spec_exact.specs.Fraction.{ℚ}
-use Rattle.spec_model.specs.Model.{Model, Name, ExactRow, ExactColumn, width, height, no_row, no_column}
+use Rattle.spec_model.specs.Model.{Model, Name, width, height}
 use Rattle.spec_model.specs.Kept.{row_place, column_place}
+use Rattle.spec_model.proofs.NamePlaces.{row_inside, column_inside, row_one, column_one}
 use Rattle.spec_pivot.specs.declared.status.Status.{Status}
 use Rattle.spec_pivot.specs.declared.status.Status.TheVariants.{Basic, AtUpper}
 use Rattle.spec_simplex.specs.Form.{Form, form_upper}
@@ -22,54 +19,10 @@ use Rattle.spec_bas.specs.Steps.{State, start, mark, is_marked, marked_basis, st
 use Rattle.spec_bas.specs.Steps.{upper_first, pair_step, upper_step, usual_step, card_step}
 use Rattle.spec_bas.specs.Fits.{HasSizeOf}
 use Rattle.spec_bas.specs.Spelled.{Means, IsPair, IsUpper, IsUsual, AreCardsOf, columns_on, rows_on}
-use Rattle.spec_bas.proofs.Marks.{marked_at, marked_length, column_inside, row_inside, pair_taken, upper_taken}
-use Rattle.spec_bas.proofs.Marks.{usual_taken, usual_column, usual_row, start_none, mark_length}
+use Rattle.spec_bas.proofs.Marks.{marked_at, marked_length, usual_column, usual_row, start_none, mark_length}
+use Rattle.spec_bas.proofs.MarkSteps.{pair_taken, upper_taken, usual_taken}
 use Rattle.spec_bas.proofs.Parts.{Part, part_aside, part_beside, part_stands, part_more, part_free, part_less}
 use Rattle.spec_bas.proofs.Parts.{marked_other, all_cons, all_rest, all_first}
-
--- ---- names by their places
-
-passes_at : {A : Type 0} (p : A → Bool) (xs : List A) (i : ℕ) (d : A) → position_or_len p xs ≡ i → i < length xs →
-    p (get_or xs i d) ≡ true
-passes_at p [] i d e l = absurd (omega arith)
-passes_at {A} p (x ∷ xs) i d e l = by (p x) refl e (λ g. passes_at p xs (position_or_len p xs) d refl g)
-  where
-    by : (c : Bool) → p x ≡ c → cond (not c) (1 + position_or_len p xs) 0 ≡ i →
-        (position_or_len p xs < length xs → p (get_or xs (position_or_len p xs) d) ≡ true) → p
-        (get_or (x ∷ xs) i d) ≡ true
-    by true a e rest = ap (λ k. p (get_or (x ∷ xs) k d)) (sym e) ∙ a
-    by false a e rest =
-        let z : i ≡ suc (position_or_len p xs) = omega (arith, e) in
-        ap (λ k. p (get_or (x ∷ xs) k d)) z ∙ rest (omega (arith, z, l))
-
-found_at : {A : Type 0} (p : A → Bool) (xs : List A) (i : ℕ) (d : A) → position p xs ≡ Some i → p (get_or xs i d) ≡ true
-found_at p xs i d h = by (nat_lt (position_or_len p xs) (length xs)) refl h
-  where
-    by : (c : Bool) → nat_lt (position_or_len p xs) (length xs) ≡ c →
-        cond c (Some (position_or_len p xs)) None ≡ Some i → p (get_or xs i d) ≡ true
-    by true e h =
-        let l = ltb-true (position_or_len p xs) (length xs) e in
-        let z : position_or_len p xs ≡ i = cc in
-        passes_at p xs i d z (omega (arith, l, z))
-    by false e h = cc
-
-same_found : {A : Type 0} (name_of : A → Name) (xs : List A) (d : A) (a b : Name) (i : ℕ) →
-    position (λ x. same (name_of x) a) xs ≡ Some i → position (λ x. same (name_of x) b) xs ≡ Some i → a ≡ b
-same_found name_of xs d a b i p q =
-    let x = name_of (get_or xs i d) in
-    let e : same x a ≡ true = found_at (λ y. same (name_of y) a) xs i d p in
-    let g : same x b ≡ true = found_at (λ y. same (name_of y) b) xs i d q in
-    sym ((same_is_equal x a).0 e) ∙ (same_is_equal x b).0 g
-
-pub column_one : (m : Model) (a b : Name) (j : ℕ) → column_place m a ≡ Some j → column_place m b ≡ Some j → a ≡ b
-unfolding column_place
-column_one m a b j p q = same_found (λ (c : ExactColumn). c.name) m.columns no_column a b j p q
-
-pub row_one : (m : Model) (a b : Name) (i : ℕ) → row_place m a ≡ Some i → row_place m b ≡ Some i → a ≡ b
-unfolding row_place
-row_one m a b i p q = same_found (λ (r : ExactRow). r.name) m.rows no_row a b i p q
-
--- ---- card by card
 
 -- the cards lead from these marks to this basis
 abbrev pub LeadTo : Model → Form → State → List ExactCard → List Status → Type 0

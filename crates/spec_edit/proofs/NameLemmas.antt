@@ -7,9 +7,8 @@ use Rattle.std.specs.List.{position, position_or_len}
 use Rattle.std.proofs.lemmas.Bool.{or_parts, cases_order}
 use Rattle.std.proofs.lemmas.List.Elements.{All-cons, All-map, All-weaker}
 use Rattle.std.proofs.lemmas.List.Sums.{fails_before_first}
-use Rattle.std.proofs.lemmas.List.Quantifiers.{position-Some}
 use Rattle.spec_text.specs.Words.{same}
-use Rattle.spec_text.proofs.WordLemmas.{same_true, same_false}
+use Rattle.spec_text.proofs.WordLemmas.{same_false}
 use Rattle.spec_model.specs.Model.{Model, Name, ExactRow, ExactColumn, no_row, no_column, width, height, row, column}
 use Rattle.spec_model.specs.Kept.{IsModel, row_names, column_names, row_place, column_place}
 use Rattle.spec_model.proofs.NamePlaces.{rows_differ}
@@ -53,21 +52,6 @@ column_new m name h =
     All-map (λ x. x ≢ name) (λ (c : ExactColumn). c.name) m.columns
     (All-weaker (λ (c : ExactColumn). same c.name name ≡ false) (λ c. c.name ≢ name)
     (λ c. same_false c.name name) m.columns (position-None (λ (c : ExactColumn). same c.name name) m.columns h))
-
--- ---- names that are known
-
-pub row_known : (m : Model) (name : Name) (i : ℕ) → row_place m name ≡ Some i → (i < height m) × ((row m i).name ≡ name)
-unfolding row_place
-row_known m name i h =
-    let p = position-Some (λ (r : ExactRow). same r.name name) m.rows i no_row h in
-    (p.0, same_true (row m i).name name p.1)
-
-pub column_known : (m : Model) (name : Name) (j : ℕ) → column_place m name ≡ Some j →
-    (j < width m) × ((column m j).name ≡ name)
-unfolding column_place
-column_known m name j h =
-    let p = position-Some (λ (c : ExactColumn). same c.name name) m.columns j no_column h in
-    (p.0, same_true (column m j).name name p.1)
 
 -- a name is that of one row
 pub one_row : (m : Model) (i j : ℕ) → IsModel m → i < height m → j < height m → (row m i).name ≡ (row m j).name → i ≡ j

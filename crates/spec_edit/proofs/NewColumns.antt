@@ -12,7 +12,7 @@ use Rattle.spec_model.specs.Kept.{IsModel, IsBound, IsKeptColumn, IsNarrowColumn
 use Rattle.spec_model.specs.Kept.{AreEntries, is_name, column_limit, row_place}
 use Rattle.spec_edit.specs.Changes.{with_entry, with_column}
 use Rattle.spec_edit.specs.Edited.{Pairs, row_named, is_given, entries_of, column_of, is_column_taken, new_column}
-use Rattle.spec_edit.proofs.NameLemmas.{row_known}
+use Rattle.spec_model.proofs.NamePlaces.{row_inside}
 use Rattle.spec_edit.proofs.Steps.{step_ok, test_ok, known_ok, same_ok}
 use Rattle.spec_edit.proofs.Keeping.{with_column-kept, with_entry-kept, with_entry-narrow}
 
@@ -38,7 +38,7 @@ entries_of-kept m before [] es out h k = subst (AreEntries (height m)) (same_ok 
 entries_of-kept m before (p ∷ pairs) es out h k =
     let s = puts_pair m before p pairs es out h in
     entries_of-kept m (before ++ p ∷ []) pairs (with_entry s.place p.1 es) out s.rest
-    (with_entry-kept (height m) s.place p.1 es k (row_known m p.0 s.place s.names).0)
+    (with_entry-kept (height m) s.place p.1 es k (row_inside m p.0 s.place s.names))
 
 pub entries_of-narrow : (m : Model) (before pairs : Pairs) (es out : List (ℕ × ℚ)) →
     entries_of m before pairs es ≡ Ok out → All (λ e. IsNarrow e.1) es → All (λ p. IsNarrow p.1) pairs →

@@ -4,10 +4,10 @@ use Rattle.spec_text.specs.Words.{same}
 use Rattle.spec_exact.specs.Fraction.{ℚ, neg_ℚ}
 use Rattle.spec_model.specs.Model.{Model, Name, width, height}
 use Rattle.spec_model.specs.Kept.{row_place, column_place}
+use Rattle.spec_model.proofs.NamePlaces.{row_inside, column_inside}
 use Rattle.spec_edit.specs.declared.edit.EditFault.{EditFault}
 use Rattle.spec_edit.specs.Changes.{with_rhs, with_offset}
 use Rattle.spec_edit.specs.Edited.{OrFault, ◌>>=◌, known, row_named, column_named, with_right_side}
-use Rattle.spec_edit.proofs.NameLemmas.{row_known, column_known}
 
 -- a step that goes on had a value
 pub step_ok : {A B : Type 0} (o : OrFault A) (f : A → OrFault B) (b : B) → (o >>= f) ≡ Ok b →
@@ -42,18 +42,18 @@ at_place : (found : OrFault ℕ) (count : ℕ) (n : Model) (change : ℕ → Mod
 at_place found count n change within h =
     let a = step_ok found _ n h in record { place = a.0; inside = within a.0 a.1; model = same_ok (change a.0) n a.2 }
 
-row_inside : (m : Model) (name : Name) (i : ℕ) → row_named m name ≡ Ok i → i < height m
-row_inside m name i h = (row_known m name i (known_ok (row_place m name) name i h)).0
+named_inside : (m : Model) (name : Name) (i : ℕ) → row_named m name ≡ Ok i → i < height m
+named_inside m name i h = row_inside m name i (known_ok (row_place m name) name i h)
 
 pub at_row : (m n : Model) (name : Name) (change : ℕ → Model) → (row_named m name >>= λ i. Ok (change i)) ≡ Ok n →
     AtPlace (height m) n change
-at_row m n name change h = at_place (row_named m name) (height m) n change (row_inside m name) h
+at_row m n name change h = at_place (row_named m name) (height m) n change (named_inside m name) h
 
 pub at_column : (m n : Model) (name : Name) (change : ℕ → Model) → (column_named m name >>= λ j. Ok (change j)) ≡ Ok n →
     AtPlace (width m) n change
 at_column m n name change h =
     at_place (column_named m name) (width m) n change
-    (λ j e. (column_known m name j (known_ok (column_place m name) name j e)).0) h
+    (λ j e. column_inside m name j (known_ok (column_place m name) name j e)) h
 
 pub record AtEntry (m n : Model) (change : ℕ → ℕ → Model) : Type 0 where
   pub row : ℕ
@@ -70,7 +70,7 @@ at_entry m n row column change h =
     record {
       row = a.0;
       column = s.place;
-      row_inside = row_inside m row a.0 a.1;
+      row_inside = named_inside m row a.0 a.1;
       column_inside = s.inside;
       model = s.model;
     }

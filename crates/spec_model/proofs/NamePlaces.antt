@@ -1,8 +1,9 @@
 -- The names of a kept model's rows and columns stand for them, and none is there twice.
 use Rattle.std.proofs.Common.{◌≡◌, ◌≢◌, ℕ, suc, ◌<◌, Bool, true, false, cond, ltb, Some, None, List, []}
-use Rattle.std.proofs.Common.{length, map, get_or, refl, ap, ◌∙◌, subst₂, arith}
+use Rattle.std.proofs.Common.{length, map, get_or, refl, sym, ap, ◌∙◌, subst₂, arith}
 use Rattle.std.specs.List.{AllPairs, position}
 use Rattle.std.proofs.lemmas.List.{get_or-map, length-map}
+use Rattle.std.proofs.lemmas.List.Quantifiers.{position-Some}
 use Rattle.std.proofs.lemmas.List.Sums.{position_or_len_is}
 use borrow.Author.Tests.{lt-ltb}
 use Rattle.spec_text.specs.Words.{same}
@@ -57,3 +58,31 @@ column_at m h = place_at (λ (c : ExactColumn). c.name) m.columns no_column h.co
 pub row_at : (m : Model) → IsModel m → (i : ℕ) → i < height m → row_place m (row_name m i) ≡ Some i
 unfolding row_place
 row_at m h = place_at (λ (r : ExactRow). r.name) m.rows no_row (rows_once m h)
+
+-- ---- names that are known
+
+pub row_known : (m : Model) (name : Name) (i : ℕ) → row_place m name ≡ Some i → (i < height m) × ((row m i).name ≡ name)
+unfolding row_place
+row_known m name i h =
+    let p = position-Some (λ (r : ExactRow). same r.name name) m.rows i no_row h in
+    (p.0, same_true (row m i).name name p.1)
+
+pub column_known : (m : Model) (name : Name) (j : ℕ) → column_place m name ≡ Some j →
+    (j < width m) × ((column m j).name ≡ name)
+unfolding column_place
+column_known m name j h =
+    let p = position-Some (λ (c : ExactColumn). same c.name name) m.columns j no_column h in
+    (p.0, same_true (column m j).name name p.1)
+
+pub row_inside : (m : Model) (name : Name) (i : ℕ) → row_place m name ≡ Some i → i < height m
+row_inside m name i h = (row_known m name i h).0
+
+pub column_inside : (m : Model) (name : Name) (j : ℕ) → column_place m name ≡ Some j → j < width m
+column_inside m name j h = (column_known m name j h).0
+
+-- one name has the place
+pub row_one : (m : Model) (a b : Name) (i : ℕ) → row_place m a ≡ Some i → row_place m b ≡ Some i → a ≡ b
+row_one m a b i p q = sym (row_known m a i p).1 ∙ (row_known m b i q).1
+
+pub column_one : (m : Model) (a b : Name) (j : ℕ) → column_place m a ≡ Some j → column_place m b ≡ Some j → a ≡ b
+column_one m a b j p q = sym (column_known m a j p).1 ∙ (column_known m b j q).1

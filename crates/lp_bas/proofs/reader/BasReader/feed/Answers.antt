@@ -1,7 +1,7 @@
 use Rattle.std.proofs.Common.{◌≡◌, ◌+◌, ℕ, Ok, refl, sym, subst, ap}
 use Rattle.spec_bas.specs.Steps.{State, More, Done, step}
 use Rattle.spec_bas.specs.Fits.{IsMarking}
-use Rattle.spec_bas.proofs.Marks.{step_keeps, step_fits}
+use Rattle.spec_bas.proofs.MarkSteps.{step_keeps, step_fits}
 use Rattle.lp_bas.specs.FileRead.{FileRead}
 use Rattle.lp_bas.specs.Feeds.{GoesOn, Ends}
 use Rattle.lp_bas.specs.Steps.{Advances}
