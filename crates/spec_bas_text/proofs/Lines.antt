@@ -1,12 +1,11 @@
 -- The lines of a written file are its cards, and the file spells the basis that it is written from.
-use Rattle.std.proofs.Common.{◌≡◌, ◌↔◌, ℕ, ◌+◌, ◌<◌, ◌≤◌, ◌&&◌, inr, true, false, Option, Some, Ok}
+use Rattle.std.proofs.Common.{◌≡◌, ◌↔◌, ℕ, ◌+◌, ◌<◌, inr, true, false, Option, Some, Ok}
 use Rattle.std.proofs.Common.{List, [], ◌∷◌, ◌++◌, length, map, All, refl, sym, ap, ◌∙◌, subst, arith}
 use Rattle.std.proofs.Common.{append_assoc}
-use Rattle.std.specs.Prelude.{codes, nat_lt, nat_le}
+use Rattle.std.specs.Prelude.{codes, nat_le}
 use Rattle.std.specs.List.{list_all, zip}
 use Rattle.std.proofs.lemmas.List.{append-nil, map-append}
 use Rattle.std.proofs.lemmas.List.Elements.{All-nil, All-cons, All-append, All-map, All-weaker, All-tail}
-use borrow.Author.Tests.{leb-true}
 use Rattle.spec_text.specs.declared.line.Line.TheVariants.{Text}
 use Rattle.spec_text.specs.Lines.{lines_of}
 use Rattle.spec_text.specs.Words.{words_of}
@@ -24,10 +23,10 @@ use Rattle.spec_mps.specs.NumberWritten.{IsWord}
 use Rattle.spec_mps.specs.Written.{WrittenCard, name_card, section_card, line_text, with_fields}
 use Rattle.spec_mps.proofs.Steps.{both}
 use Rattle.spec_mps.proofs.WrittenNames.{name_word}
-use Rattle.spec_mps.proofs.WrittenWords.{AreWords, joined, words_of_joined, parts_word, parts_word_then, plain_text}
+use Rattle.spec_mps.proofs.WrittenWords.{AreWords, joined, words_of_joined, parts_word, parts_word_then}
 use Rattle.spec_mps.proofs.WrittenWords.{stripped_plain, is_plain}
 use Rattle.spec_mps.proofs.WrittenSteps.{IsPlainLine, card_lines}
-use Rattle.spec_mps.proofs.WrittenShort.{IsShort, IsShortCard, plain_line}
+use Rattle.spec_mps.proofs.WrittenShort.{IsShortCard, plain_line, name_short, model_name_short}
 use Rattle.spec_mps.proofs.WrittenLines.{has_its_lines}
 use Rattle.spec_bas.specs.declared.card.Card.TheVariants.{Xu, Xl, Ul, Ll}
 use Rattle.spec_bas.specs.declared.card.Reading.TheVariants.{Named, Ends, Says}
@@ -43,14 +42,6 @@ use Rattle.spec_bas_text.proofs.Meaning.{cards_mean}
 
 -- ---- names
 
-name_short : (name : Name) → is_name name ≡ true → IsShort name
-unfolding is_name
-name_short name h =
-    let p = both (nat_lt 0 (length name) && nat_le (length name) 64) (list_all is_printable name) h in
-    let q = both (nat_lt 0 (length name)) (nat_le (length name) 64) p.0 in
-    let l : length name ≤ 64 = leb-true (length name) 64 q.1 in
-    record { fits = omega arith; plain = plain_text name p.1 }
-
 is_row : (name : Name) → is_row_name name ≡ true → is_name name ≡ true
 unfolding is_row_name
 is_row name h = (both _ _ h).0
@@ -59,13 +50,6 @@ model_name_word : (b : ℕ) (bs : Name) → is_model_name (b ∷ bs) ≡ true �
 unfolding is_model_name
 model_name_word b bs h =
     record { some = refl; printable = (both (nat_le (length (b ∷ bs)) 64) (list_all is_printable (b ∷ bs)) h).1 }
-
-model_name_short : (name : Name) → is_model_name name ≡ true → IsShort name
-unfolding is_model_name
-model_name_short name h =
-    let p = both (nat_le (length name) 64) (list_all is_printable name) h in
-    let l : length name ≤ 64 = leb-true (length name) 64 p.0 in
-    record { fits = omega arith; plain = plain_text name p.1 }
 
 -- the names on a card are names
 abbrev HasNames : ExactCard → Type 0
