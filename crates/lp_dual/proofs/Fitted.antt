@@ -48,6 +48,10 @@ module _ (limit : Option ℕ) (m n : ℕ) (f : Matrix) (cost : ℕ → ℚ) (b :
   pub can_start : IsDualStart t
   can_start =
       record {
-        seated = record { all_basic = s.tableau.whole.all_basic; all_statuses = s.tableau.whole.all_statuses; places = place };
+        seated = record {
+          all_basic = s.tableau.whole.all_basic;
+          all_statuses = s.tableau.whole.all_statuses;
+          places = place;
+        };
         flips = can_flip;
       }

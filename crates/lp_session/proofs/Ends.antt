@@ -43,7 +43,8 @@ module _ {E : Type 0} (m : Model) (handed : Option (List Status)) (r : Result So
       by (Ok s) e = leaves_basis (Some number_limit) given m f formed handed s fits e
       by (Err why) e = tt
 
-pub end_of : (model : Option Model) (m : Model) (budget : ℕ) (end : ExactSolveEnd) → model ≡ Some m → MayAnswer m budget end →
+pub end_of : (model : Option Model) (m : Model) (budget : ℕ) (end : ExactSolveEnd) → model ≡ Some m →
+    MayAnswer m budget end →
     IsEndOf model end
 end_of model m budget end e may = subst (λ model. IsEndOf model end) (sym e) (budget, may)
 

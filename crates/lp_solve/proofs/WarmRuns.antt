@@ -108,7 +108,8 @@ module _ (limit : Option ℕ) (budget : ℕ) where
     unfolding solve_over
     ends_warm answer c left pivots w e h = ap (solved_by (cold_over limit budget m)) (sym e ∙ h ∙ warm_is)
 
-    pub falls : (s : WarmStop ℚ) (w : WarmResult) (end : colds.ExactSolveEnd) → w ≡ warm.Stopped s → w ≡ after_form limit
+    pub falls : (s : WarmStop ℚ) (w : WarmResult) (end : colds.ExactSolveEnd) → w ≡ warm.Stopped s →
+        w ≡ after_form limit
         budget m basis (Ok f) → end ≡ cold_over limit budget m
         → ◌≡◌ {A = SolveEnd} (record { end = end; route = route.Fell (fall_of s) })
         (solve_over limit budget m (Some basis))

@@ -23,7 +23,7 @@ use Rattle.spec_cold.proofs.Formed.{cost_structural}
 use Rattle.spec_path.proofs.Formed.{HasBounds}
 use Rattle.spec_cold.proofs.EndTight.{bounds_structural, bounds_logical, limits_at, logical_is_row}
 use Rattle.spec_cold.proofs.EndOptimal.{point_feasible}
-use Rattle.spec_cold.proofs.EndRay.{allowed, falls}
+use Rattle.spec_path.proofs.Rays.{allowed, falls}
 
 zero_allowed : (l u : Option ℚ) (r : ℚ) → l ≡ Some 0ℚ → u ≡ Some 0ℚ → Allows (record { lower = l; upper = u }) r →
     r ≡ 0ℚ
@@ -54,7 +54,8 @@ module _ (m : Model) (ls : List (Option ℚ × Option ℚ)) (h : Limited m ls)
   z = ray (height m) t way j
 
   allowed_at : (k : ℕ) → k < n → Allows (limits_at b k) (z k)
-  allowed_at k p = allowed (height m) n F costs b t g way j e k p
+  allowed_at k p =
+      let a = allowed (height m) n F costs b t g way j e k p in record { lower = a.lower; upper = a.upper }
 
   still : (i : ℕ) → i < height m → z (width m + height m + i) ≡ 0ℚ
   still i p =

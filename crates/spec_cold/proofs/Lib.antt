@@ -1,7 +1,6 @@
 pub mod Formed
 pub mod EndTight
 pub mod EndOptimal
-pub mod EndRay
 pub mod EndUnbounded
 pub mod EndInfeasible
 pub mod Directions

@@ -68,7 +68,8 @@ module _ (m : Model) (ls : List (Option ℚ × Option ℚ)) (h : Limited m ls)
   costs = cost_at (formed m ls).cost
 
   pub primal_shows : (limit : Option ℕ) (e : PrimalEnded) → IsTableauOf r w F costs b e.tableau →
-      IsWithinBounds r w b e.tableau → IsMeant r w F costs b limit e.tableau (End e.end) → Shows m (certificate_at e.tableau e.end)
+      IsWithinBounds r w b e.tableau → IsMeant r w F costs b limit e.tableau (End e.end) →
+      Shows m (certificate_at e.tableau e.end)
   primal_shows limit e after within = by e.end
     where
       by : (end : PrimalEnd) → IsMeant r w F costs b limit e.tableau (End end) → Shows m (certificate_at e.tableau end)

@@ -28,7 +28,8 @@ use Rattle.spec_cold.specs.Cold.{checked, answered, after_phases, after_form, co
 use Rattle.spec_cold.specs.Accepted.{IsAccepted}
 use Rattle.spec_path.proofs.Formed.{form_is}
 use Rattle.spec_cold.proofs.Formed.{clash_is}
-use Rattle.spec_cold.proofs.Phases.{phases_show, phases_enough}
+use Rattle.spec_path.proofs.Phases.{phases_enough}
+use Rattle.spec_cold.proofs.Phases.{phases_show}
 use Rattle.spec_cold.proofs.Shown.{Shows}
 
 pub accepted : (limit : Option ℕ) (m : Model) (c : Certificate (List ℚ)) → Shows m c → IsAccepted limit m c
@@ -62,7 +63,8 @@ by_accepted limit m c a P says past =
 -- what is made of it is what is made of the check without a limit, or of a refused operation
 pub same_or_refused : {E : Type 0} (limit : Option ℕ) (m : Model) (c : Certificate (List ℚ)) → IsAccepted limit m c →
     (f : Result (Known ℚ) (CheckStop ℚ) → E) →
-    (f (check_run limit m c) ≡ f (check_run None m c)) ⊎ ((p : Past ℚ) × (f (check_run limit m c) ≡ f (Err (check.Past p))))
+    (f (check_run limit m c) ≡ f (check_run None m c)) ⊎ ((p : Past ℚ) × (f (check_run limit m c) ≡ f (Err
+    (check.Past p))))
 same_or_refused limit m c a f =
     by_accepted limit m c a (λ o. (f o ≡ f (check_run None m c)) ⊎ ((p : Past ℚ) × (f o ≡ f (Err (check.Past p)))))
     (λ e. inl (ap f (sym a.accepted))) (λ p. inr (p, refl))

@@ -225,7 +225,8 @@ module _ (f : Form) (proper : IsProper f) (starts : List (RowStart ℚ)) (all : 
       (λ l. start_structural i k l ∙ structural_sign (s i) (form_entry f i k)
       ∙ ap (λ a. sign_at i *ℚ a) (sym (row_structural f (signs_of starts) i k l)))
       (λ r l e. subst (λ k. start_entry f (s i) i k ≡ sign_at i *ℚ F i k) (sym e)
-      (start_logical i r l ∙ one_is i r (sign_at i) ∙ ap (λ a. sign_at i *ℚ a) (sym (row_logical f (signs_of starts) i r l))))
+      (start_logical i r l ∙ one_is i r (sign_at i)
+      ∙ ap (λ a. sign_at i *ℚ a) (sym (row_logical f (signs_of starts) i r l))))
       (λ r e. subst (λ k. start_entry f (s i) i k ≡ sign_at i *ℚ F i k) (sym e)
       (start_artificial i r ∙ one_is i r 1ℚ ∙ one-*ℚ (delta i r)
       ∙ sym (twice (sign_at i) (delta i r) (sign_square (s i)))
@@ -444,7 +445,8 @@ module _ (f : Form) (proper : IsProper f) (starts : List (RowStart ℚ)) (all : 
       structural : sum_below f.cols (λ k. F i k *ℚ value_at t k) ≡ neg_ℚ (first_sum f i)
       structural =
           sum_below_same f.cols _ (λ k. neg_ℚ 1ℚ *ℚ (form_entry f i k *ℚ first_value f k)) (λ k l.
-          ap₂ ◌*ℚ◌ (row_structural f (signs_of starts) i k l) (value_structural k l) ∙ minus (form_entry f i k) (first_value f k))
+          ap₂ ◌*ℚ◌ (row_structural f (signs_of starts) i k l) (value_structural k l)
+          ∙ minus (form_entry f i k) (first_value f k))
           ∙ sym (*ℚ-sum_below (neg_ℚ 1ℚ) f.cols _) ∙ negative (first_sum f i)
 
       logical : sum_below f.rows (λ r. F i (f.cols + r) *ℚ value_at t (f.cols + r))
@@ -543,12 +545,14 @@ module _ (f : Form) (proper : IsProper f) (starts : List (RowStart ℚ)) (all : 
   begun_is limit h =
       tableau_of (cost_at (first_costs f starts))
       (priced_length limit (begun f starts) (first_costs f starts) reduced h)
-      (priced_agrees limit (begun f starts) (first_costs f starts) reduced h (first_few f starts all) entry_past F forth units in_range)
+      (priced_agrees limit (begun f starts) (first_costs f starts) reduced h
+      (first_few f starts all) entry_past F forth units in_range)
 
 -- what is known of the start
 pub record Started (f : Form) (t : Tableau) : Type 0 where
   pub starts : List (RowStart ℚ)
-  pub tableau : IsTableauOf f.rows f.cols (form_rows f (signs_of starts)) (cost_at (first_costs f starts)) (bounds_of t) t
+  pub tableau : IsTableauOf f.rows f.cols (form_rows f (signs_of starts)) (cost_at (first_costs f starts))
+      (bounds_of t) t
   pub within : IsWithinBounds f.rows f.cols (bounds_of t) t
   pub all : length starts ≡ f.rows
   pub lower : (k : ℕ) → k < f.cols + f.rows → lower_at t k ≡ form_lower f k

@@ -21,3 +21,6 @@ pub mod Formed
 pub mod Refusals
 pub mod LimitStart
 pub mod LimitPhases
+pub mod Rays
+pub mod FirstPhase
+pub mod Phases

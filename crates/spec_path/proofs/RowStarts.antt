@@ -1,20 +1,16 @@
 -- How each row begins.
 use Rattle.std.proofs.Common.{◌≡◌, ℕ, ◌+◌, Option, Some, None, Ok, refl, sym, ap, ◌∙◌, subst}
-use Rattle.std.specs.declared.cmp.Ordering.{Ordering}
-use Rattle.std.specs.declared.cmp.Ordering.TheVariants.{Less, Equal, Greater}
 use Rattle.spec_exact.specs.Fraction.{ℚ, 0ℚ, ◌+ℚ◌, ◌-ℚ◌, ◌*ℚ◌, ◌≤ℚ◌, ◌<ℚ◌}
-use Rattle.spec_exact.specs.Limit.{order}
 use Rattle.spec_exact.specs.Sums.{sum_below}
-use Rattle.spec_exact.proofs.Compare.{order_less, order_equal, order_greater}
 use Rattle.spec_exact.proofs.Order.{≤ℚ_refl, <ℚ-le}
 use Rattle.spec_simplex.specs.declared.ends.RowStart.{RowStart}
 use Rattle.spec_simplex.specs.declared.ends.RowStart.TheVariants.{Within, Below, Above}
 use Rattle.spec_simplex.specs.Form.{Form, form_entry, form_lower, form_upper}
-use Rattle.spec_simplex.specs.Run.{Run, ◌>>=◌, difference_run, order_run, plus_product}
+use Rattle.spec_simplex.specs.Run.{Run, ◌>>=◌, difference_run, plus_product}
 use Rattle.spec_simplex.specs.Start.{first_value, row_sum, below_by, below_run, above_by}
 use Rattle.spec_simplex.specs.Start.{above_run, within_or_above, row_start_by, row_start}
 use Rattle.spec_path.proofs.Orders.{by_order, given}
-use Rattle.spec_path.proofs.Runs.{then_ok, difference_ok, order_ok, plus_ok, steps_ok}
+use Rattle.spec_path.proofs.Runs.{then_ok, difference_ok, plus_ok, steps_ok}
 
 abbrev pub first_sum : Form → ℕ → ℚ
 first_sum f i = sum_below f.cols (λ j. form_entry f i j *ℚ first_value f j)

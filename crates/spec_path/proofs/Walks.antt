@@ -86,7 +86,8 @@ pub record IsEnd (limit : Option ℕ) (m n : ℕ) (f : Matrix) (cost : ℕ → �
 
 module _ (limit : Option ℕ) (m n : ℕ) (f : Matrix) (cost : ℕ → ℚ) (b : Bounds) (l : Label) where
   ends_here : (t : Tableau) (used : ℕ) (e : PrimalEnded) (choice : Choice ℚ) → IsTableauOf m n f cost b t →
-      IsWithinBounds m n b t → choice_run limit t ≡ Ok choice → end_or_spent t used choice ≡ Ok e → IsEnd limit m n f cost b t used e
+      IsWithinBounds m n b t → choice_run limit t ≡ Ok choice → end_or_spent t used choice ≡ Ok e →
+      IsEnd limit m n f cost b t used e
   ends_here t used e (End end) s i c h =
       let z : ◌≡◌ {A = PrimalEnded} (record { end = end; tableau = t; used = used }) e = cc in
       subst (IsEnd limit m n f cost b t used) z (record {
@@ -97,7 +98,8 @@ module _ (limit : Option ℕ) (m n : ℕ) (f : Matrix) (cost : ℕ → ℚ) (b :
         count = omega arith;
         walk = stand_still m n b t l;
       })
-  ends_here t used e (Flip j) s i c h = let z : ◌≡◌ {A = Result PrimalEnded (RunStop ℚ)} (Err stop.Spent) (Ok e) = h in cc
+  ends_here t used e (Flip j) s i c h = let z : ◌≡◌ {A = Result PrimalEnded (RunStop ℚ)} (Err stop.Spent)
+      (Ok e) = h in cc
   ends_here t used e (Pivot p j theta to) s i c h =
       let z : ◌≡◌ {A = Result PrimalEnded (RunStop ℚ)} (Err stop.Spent) (Ok e) = h in cc
 
@@ -127,7 +129,8 @@ module _ (limit : Option ℕ) (m n : ℕ) (f : Matrix) (cost : ℕ → ℚ) (b :
     where
       go : (choice : Choice ℚ) → choice_run limit t ≡ Ok choice →
           end_or_next limit t used (λ u. run_from limit left (used + 1) u) choice ≡ Ok e
-          → ((u : Tableau) → IsTableauOf m n f cost b u → IsWithinBounds m n b u → run_from limit left (used + 1) u ≡ Ok e →
+          → ((u : Tableau) → IsTableauOf m n f cost b u → IsWithinBounds m n b u →
+          run_from limit left (used + 1) u ≡ Ok e →
           IsEnd limit m n f cost b u (used + 1) e) → IsEnd limit m n f cost b t used e
       go (End end) c h more = ends_here t used e (End end) s i c h
       go (Flip j) c h more =

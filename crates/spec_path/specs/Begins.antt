@@ -25,5 +25,6 @@ pub record IsProper (f : Form) : Type 0 where
 -- a tableau of the form's equations and the costs of phase one, with each value within its bounds
 pub record Begins (f : Form) (t : Tableau) : Type 0 where
   pub starts : List (RowStart ℚ)
-  pub tableau : IsTableauOf f.rows f.cols (form_rows f (signs_of starts)) (cost_at (first_costs f starts)) (bounds_of t) t
+  pub tableau : IsTableauOf f.rows f.cols (form_rows f (signs_of starts)) (cost_at (first_costs f starts))
+      (bounds_of t) t
   pub within : IsWithinBounds f.rows f.cols (bounds_of t) t

@@ -5,7 +5,8 @@
 //! | `table_of`, `bounds_of` | a tableau of lists, by the numbers of positions and columns | specs/Tables |
 //! | `IsTableauOf`, `IsWithinBounds` | a tableau of these rows, costs and bounds; that each value is within them | specs/Tables |
 //! | `IsMeant` | what a choice of the run means for a tableau | specs/Tables |
-//! | `form_rows`, `IsProper`, `Begins` | a form's equations, and the tableau that it begins with | specs/Begins |
+//! | `form_rows`, `signs_of` | a form's equations, and the signs of their artificials in a start | specs/Begins |
+//! | `IsProper`, `Begins` | what holds of a form, and of the tableau that it begins with | specs/Begins |
 //!
 //! The functions here have the laws as their contracts. Each law holds at every limit: a run at a limit that gives a
 //! result gives the exact one.

@@ -1,5 +1,5 @@
 -- After the same step two tableaus of one basis have the same columns again.
-use Rattle.std.proofs.Common.{◌≡◌, ℕ, ◌+◌, ◌<◌, List, [], get_or, set, Option, Some, None, Ok, sym, ap, ap₂, ◌∙◌, subst}
+use Rattle.std.proofs.Common.{◌≡◌, ℕ, ◌+◌, ◌<◌, List, get_or, set, Option, Some, None, Ok, sym, ap, ap₂, ◌∙◌, subst}
 use Rattle.std.proofs.lemmas.List.{ext_get_or}
 use Rattle.spec_exact.specs.Fraction.{ℚ, 0ℚ}
 use Rattle.spec_pivot.specs.declared.status.Status.{Status}

@@ -1,8 +1,7 @@
 -- Without a limit, the cold run over factors ends as the one on whole tableaus does.
-use Rattle.std.proofs.Common.{◌≡◌, ℕ, ◌+◌, ◌-◌, ◌<◌, ◌≤◌, List, [], length, get_or, map, replicate, Option, None}
+use Rattle.std.proofs.Common.{◌≡◌, ℕ, ◌+◌, ◌-◌, ◌<◌, ◌≤◌, List, [], length, get_or, map, Option, None}
 use Rattle.std.proofs.Common.{Result, Ok, Bool, true, false, not, ◌&&◌, cond, refl, sym, ap, ap₂, ◌∙◌, subst, arith}
-use Rattle.std.proofs.lemmas.List.{length-append, length-map, length-replicate}
-use Rattle.std.proofs.lemmas.List.{get_or_append_left, get_or-replicate, get_or-map}
+use Rattle.std.proofs.lemmas.List.{get_or-map}
 use Rattle.std.proofs.lemmas.List.Elements.{All-nil}
 use Rattle.std.specs.List.{list_any}
 use Rattle.std.proofs.lemmas.List.Folds.{list_any_at}
@@ -19,7 +18,7 @@ use Rattle.spec_simplex.specs.declared.ends.RunStop.TheVariants as stop
 use Rattle.spec_simplex.specs.Form.{Form}
 use Rattle.spec_simplex.specs.Run.{◌>>=◌, refused_as, list_run}
 use Rattle.spec_simplex.specs.Start.{row_start, begun, is_wanting, start_at, start_basic, with_reduced}
-use Rattle.spec_simplex.specs.Start.{cost_at, first_cost, first_costs, priced_run, start_of}
+use Rattle.spec_simplex.specs.Start.{cost_at, first_costs, priced_run, start_of}
 use Rattle.spec_simplex.specs.Tableau.{Tableau, is_artificial, basic_at, value_at}
 use Rattle.spec_simplex.specs.Phases.{PrimalEnded, run_from, without_artificials, phase_two_run, wants_phase_one}
 use Rattle.spec_simplex.specs.Phases.{is_stuck, phase_one, phase_two, PhasesEnd, Infeasible, Finished, phases_run}
@@ -31,6 +30,7 @@ use Rattle.spec_path.proofs.Refusals.{agrees_list}
 use Rattle.spec_path.proofs.LimitStart.{row_start_agrees, priced_agrees}
 use Rattle.spec_path.proofs.LimitPhases.{two_agrees}
 use Rattle.spec_path.proofs.RowStarts.{RowBegins, first_sum, start_is}
+use Rattle.spec_path.proofs.FirstPhase.{cost_before}
 use Rattle.spec_path.proofs.Begun.{first_few, begun_is, begun_within}
 use Rattle.spec_path.proofs.PhaseTwo.{some_of, second_phase}
 use Rattle.spec_factor.specs.Factors.{Pair, column_entry}
@@ -189,10 +189,7 @@ module _ (f : Form) (starts : List (RowStart ℚ)) (costs : HasCosts f) (budget 
       (st : IsTableauOf f.rows f.cols (form_rows f (signs_of starts)) (cost_at (first_costs f starts)) b t)
       (inside : IsWithinBounds f.rows f.cols b t) (s : Revised) (g : GoesWith f t s) where
     first_free : (i : ℕ) → i < f.rows → cost_at (first_costs f starts) (f.cols + i) ≡ 0ℚ
-    first_free i l =
-        get_or_append_left (replicate (f.cols + f.rows) 0ℚ) (map first_cost starts) 0ℚ
-        (f.cols + i) (omega (arith, l, length-replicate (f.cols + f.rows) 0ℚ))
-        ∙ get_or-replicate (f.cols + f.rows) (f.cols + i) 0ℚ 0ℚ (omega (arith, l))
+    first_free i l = cost_before f starts (f.cols + i) (omega (arith, l))
 
     pub phases_same : over_phases None budget f starts s
         ≡ answer_in (phase_one None budget t >>= λ one. after_first one)
@@ -227,7 +224,9 @@ module _ (f : Form) (starts : List (RowStart ℚ)) (costs : HasCosts f) (budget 
             (Ok (record { end = Optimal; state = s; selection = nothing_seen s; used = 0 })) >>= λ one. after_over one)
             ≡ answer_in (cond c (run_from None budget 0 t) (Ok (record { end = Optimal; tableau = t; used = 0 })) >>=
             λ one. after_first one)
-        by true e = wanted (run_same f starts (first_costs f starts) b (first_few f starts all) first_free budget 0 t s (st, inside) g)
+        by true e =
+            wanted (run_same f starts (first_costs f starts) b (first_few f starts all) first_free
+            budget 0 t s (st, inside) g)
         by false e =
             first_same (record { end = Optimal; tableau = t; used = 0 })
             (record { end = Optimal; state = s; selection = nothing_seen s; used = 0 }) (record {
@@ -297,10 +296,12 @@ module _ (f : Form) (proper : IsProper f) (costs : HasCosts f) where
       there_is (priced_run None (begun f starts) (first_costs f starts))
       (priced_agrees None (begun f starts) (first_costs f starts)) in
       let t : Tableau = with_reduced (begun f starts) c.0 in
-      let st : IsTableauOf f.rows f.cols (form_rows f (signs_of starts)) (cost_at (first_costs f starts)) (bounds_of t) t =
+      let st : IsTableauOf f.rows f.cols (form_rows f (signs_of starts)) (cost_at (first_costs f starts))
+      (bounds_of t) t =
       begun_is f proper starts l.all begins c.0 None c.1 in
       let g : GoesWith f t (state t t.basic [] 0) =
-      starts_with f (form_rows f (signs_of starts)) (cost_at (first_costs f starts)) (bounds_of t) t st (start_rows starts c.0) in
+      starts_with f (form_rows f (signs_of starts)) (cost_at (first_costs f starts)) (bounds_of t) t st
+      (start_rows starts c.0) in
       let s = refactored_goes f t (state t t.basic [] 0) refl refl g in
       ap (λ r. refused_as stop.Past r >>= λ starts. refactor_run None f (bare_of (begun f starts)) >>=
       λ s. over_phases None budget f starts s) a.1

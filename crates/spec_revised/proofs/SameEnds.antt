@@ -122,7 +122,8 @@ module _ (f : Form) (starts : List (RowStart ℚ)) (costs : List ℚ) (b : Bound
       (λ i l. let l' : i < f.rows = subst (λ n. i < n) st.rows l in
       ap neg_ℚ (is.each i l') ∙ sym (price_logical i l')
       ∙ sym (price_is f starts costs t basic pairs b st few g (f.cols + i))
-      ∙ sym ((both f.rows f.cols (form_rows f (signs_of starts)) (cost_at costs) b t w st w_is (λ k _. refl)).reduced (f.cols + i))
+      ∙ sym ((both f.rows f.cols (form_rows f (signs_of starts)) (cost_at costs) b t w st w_is
+      (λ k _. refl)).reduced (f.cols + i))
       ∙ ap (λ n. reduced_at t (n + i)) (sym st.cols))
 
   -- ---- the direction

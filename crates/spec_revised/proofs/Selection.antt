@@ -224,7 +224,8 @@ module _ (f : Form) (starts : List (RowStart ℚ)) (costs : List ℚ) (b : Bound
               seen_at j z p q'
               ∙ ap (λ a. sign_of starts t (get_or basic p 0) *ℚ a)
               (solved f t.status limit pairs j z g.stands.sound h' p q'
-              ∙ forward_same f.rows pairs (λ r. column_entry f r j) (λ r. form_rows f (signs_of starts) r j) g.stands.sound
+              ∙ forward_same f.rows pairs (λ r. column_entry f r j) (λ r. form_rows f
+              (signs_of starts) r j) g.stands.sound
               (λ r _. sym (plain_is f starts t st.rows st.cols r j l)) p q')
               ∙ sym (entry_is f starts costs t basic pairs b st few g p j q');
           basic = refl;

@@ -63,12 +63,14 @@ module _ (f : Form) (starts : List (RowStart ℚ)) (costs : List ℚ) (b : Bound
       subst (λ (s : Revised). SameChoice t s.bare c selection.choice) (sym g.same)
       (read_as c selection.choice (chosen limit other c selection h k))
 
-  after : IsWithinBounds f.rows f.cols b t → (c : Choice ℚ) (u : Tableau) → choice_run None t ≡ Ok c → done_run None t c ≡ Ok u →
+  after : IsWithinBounds f.rows f.cols b t → (c : Choice ℚ) (u : Tableau) → choice_run None t ≡ Ok c →
+      done_run None t c ≡ Ok u →
       IsTableauOf f.rows f.cols (form_rows f (signs_of starts)) (cost_at costs) b u
   after inside (End end) u c_ok h =
       let z : t ≡ u = cc in subst (IsTableauOf f.rows f.cols (form_rows f (signs_of starts)) (cost_at costs) b) z st
   after inside (Flip j) u c_ok h =
-      (choice_is_meant None f.rows f.cols (form_rows f (signs_of starts)) (cost_at costs) b t (Flip j) st inside c_ok u h).after
+      (choice_is_meant None f.rows f.cols (form_rows f (signs_of starts)) (cost_at costs) b t
+      (Flip j) st inside c_ok u h).after
   after inside (Pivot p j theta to) u c_ok h =
       (choice_is_meant None f.rows f.cols (form_rows f (signs_of starts))
       (cost_at costs) b t (Pivot p j theta to) st inside c_ok u h).after
@@ -79,7 +81,8 @@ module _ (f : Form) (starts : List (RowStart ℚ)) (costs : List ℚ) (b : Bound
       subst (λ d. SeesFor f starts costs b t st few g.basic g.pairs g.places None d selection.tableau) e
       ((selected None selection k).sees)
 
-  pub state_flip : IsWithinBounds f.rows f.cols b t → (u : Tableau) (c : Choice ℚ) (selection : Selection) (j : ℕ) → choice_run None t ≡ Ok c →
+  pub state_flip : IsWithinBounds f.rows f.cols b t → (u : Tableau) (c : Choice ℚ) (selection : Selection) (j : ℕ) →
+      choice_run None t ≡ Ok c →
       selection_run None f starts costs s ≡ Ok selection → selection.choice ≡ Flip j → done_run None t c ≡ Ok u
       → (v : Revised) × (flip_over_run None s selection.tableau j ≡ Ok v) × GoesWith f u v
   state_flip inside u c selection j h k e done =
@@ -88,7 +91,8 @@ module _ (f : Form) (starts : List (RowStart ℚ)) (costs : List ℚ) (b : Bound
       (sees selection (Flip j) k e) ((selected None selection k).choice ∙ ap Ok e) c u
       (subst (SameChoice t w c) e (chosen None None c selection h k)) h done (after inside c u h done))
 
-  pub state_pivot : IsWithinBounds f.rows f.cols b t → (u : Tableau) (c : Choice ℚ) (selection : Selection) (p j : ℕ) (theta : ℚ) (to : Status) →
+  pub state_pivot : IsWithinBounds f.rows f.cols b t →
+      (u : Tableau) (c : Choice ℚ) (selection : Selection) (p j : ℕ) (theta : ℚ) (to : Status) →
       choice_run None t ≡ Ok c → selection_run None f starts costs s ≡ Ok selection →
       selection.choice ≡ Pivot p j theta to
       → done_run None t c ≡ Ok u →

@@ -75,7 +75,8 @@ module _ (f : Form) (starts : List (RowStart ℚ)) (t : Tableau) (rows : t.rows 
   plain_is r k l =
       by_kind f.cols f.rows k
       (λ h. row_structural f (signs_of starts) r k h ∙ sym (rw (lt-ltb k f.cols h) refl))
-      (λ i h e. subst (λ k. F r k ≡ column_entry f r k) (sym e) (row_logical f (signs_of starts) r i h ∙ sym (column_logical r i)))
+      (λ i h e. subst (λ k. F r k ≡ column_entry f r k) (sym e) (row_logical f (signs_of starts) r i h
+      ∙ sym (column_logical r i)))
       (λ i e. let z : ⊥ = omega (arith, l, e) in absurd z)
 
   pub column_is : (r k : ℕ) → F r k ≡ sign_of starts t k *ℚ column_entry f r (factor_column t k)
@@ -207,7 +208,8 @@ module _ (f : Form) (starts : List (RowStart ℚ)) (costs : List ℚ)
     row_none : (i k : ℕ) → i < m → N ≤ k → row i k ≡ 0ℚ
     row_none i k l h =
         row_forth i k l
-        ∙ sum_below_none m _ (λ s q. ap (λ a. (sign i *ℚ part_of i s) *ℚ a) (row_past f (signs_of starts) s k q h) ∙ *ℚ_zero _)
+        ∙ sum_below_none m _ (λ s q. ap (λ a. (sign i *ℚ part_of i s) *ℚ a) (row_past f (signs_of starts) s k q h)
+        ∙ *ℚ_zero _)
 
     -- ---- reduced costs
     price_basic : (q : ℕ) → q < m → price (column q) ≡ 0ℚ
@@ -231,7 +233,8 @@ module _ (f : Form) (starts : List (RowStart ℚ)) (costs : List ℚ)
     unfolding price
     price_none k h =
         ap₂ (λ a c. a -ℚ c) (get_or_past costs k 0ℚ (omega (arith, few, h)))
-        (sum_below_none m _ (λ r q. ap (λ a. multiplier r *ℚ a) (row_past f (signs_of starts) r k q h) ∙ *ℚ_zero _)) ∙ +ℚ_neg 0ℚ
+        (sum_below_none m _ (λ r q. ap (λ a. multiplier r *ℚ a) (row_past f (signs_of starts) r k q h)
+        ∙ *ℚ_zero _)) ∙ +ℚ_neg 0ℚ
 
     -- ---- read from the lists
     pub whole_length : (p : ℕ) → p < m → length (get_or whole.entries p []) ≡ N

@@ -35,7 +35,8 @@ use Rattle.spec_simplex.specs.Phases.{without_artificials, phase_two_run, wants_
 use Rattle.spec_simplex.specs.Phases.{phase_two, PhasesEnd, Infeasible, Finished, phases_run}
 use Rattle.spec_simplex.proofs.Stops.{All-made}
 use Rattle.spec_check.specs.declared.solve_end.SolveEnd.TheVariants as outcome
-use Rattle.spec_cold.specs.Cold.{ExactSolveEnd, point, multipliers, moves_below, moves_by, certificate_at, certificate_of}
+use Rattle.spec_cold.specs.Cold.{ExactSolveEnd, point, multipliers, moves_below, moves_by, certificate_at}
+use Rattle.spec_cold.specs.Cold.{certificate_of}
 use Rattle.spec_cold.specs.Cold.{basis_of, pivots_of, checked, after_phases, after_form, cold}
 use Rattle.spec_path.proofs.Runs.{then_ok, refused_ok}
 use Rattle.spec_server.specs.Answers.{number_limit}

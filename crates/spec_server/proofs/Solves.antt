@@ -60,7 +60,8 @@ module _ (m : Model) (budget : ℕ) where
       cold (Some number_limit) budget m ≡ end
   given_up end e h = sym (tableaus_give_up (Some number_limit) budget m (subst GivesUp (sym e) h)) ∙ e
 
-  cold_may : (end : ExactSolveEnd) → cold_over (Some number_limit) budget m ≡ end → HasFitEnd m end → MayAnswer m budget end
+  cold_may : (end : ExactSolveEnd) → cold_over (Some number_limit) budget m ≡ end → HasFitEnd m end →
+      MayAnswer m budget end
   cold_may (Ended known c basis pivots) e fit =
       let f = fit known c basis pivots refl in
       (f.0, f.1, (part_true (Some number_limit) budget m known c basis pivots e).2)

@@ -48,7 +48,8 @@ ended_same known c basis pivots exact (inl e) = e
 ended_same known c basis pivots exact (inr h) =
     let z : ◌≡◌ {A = ExactSolveEnd} (Ended known c basis pivots) (Past h.0) = h.1 in cc
 
-or_kept : (o other exact : ExactSolveEnd) → Same o exact → Same other exact → (or_tableaus o other ≡ other) ⊎ GivesUp other
+or_kept : (o other exact : ExactSolveEnd) → Same o exact → Same other exact →
+    (or_tableaus o other ≡ other) ⊎ GivesUp other
 or_kept (Past p) other exact g h = inl refl
 or_kept Spent other exact g h = inl refl
 or_kept (Ended known c basis pivots) (Past p) exact g h = inr tt

@@ -43,7 +43,8 @@ module _ (f : Matrix) (cost : ℕ → ℚ) (b : Bounds) (t : Tableau) (s : IsBas
 
   -- artificials are fixed
   pub free_before : (k : ℕ) → k < all_columns t → ¬ (IsFixed b k) → k < form_columns t
-  free_before k h free = by_lt k (form_columns t) (λ l. l) (λ l. absurd (free (0ℚ, s.tableau.bounds.zero k l h, s.top k l h)))
+  free_before k h free = by_lt k (form_columns t) (λ l. l) (λ l. absurd (free
+      (0ℚ, s.tableau.bounds.zero k l h, s.top k l h)))
 
   pub free_open : (k : ℕ) → k < all_columns t → ¬ (IsFixed b k) → b.barred k ≡ false
   free_open k h free = s.tableau.bounds.entering k (free_before k h free)

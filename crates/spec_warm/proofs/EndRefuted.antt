@@ -1,13 +1,13 @@
 -- A row of the form's equations that shows that no values solve them within the bounds is a certificate of the model.
-use Rattle.std.proofs.Common.{◌≡◌, ℕ, ◌+◌, ◌<◌, List, Option, Some, refl, sym, ap, ◌∙◌, subst, subst₂, arith}
+use Rattle.std.proofs.Common.{◌≡◌, ℕ, ◌+◌, ◌<◌, List, Option, Some, refl, sym, ap, ◌∙◌, subst, arith}
 use Rattle.spec_exact.specs.Fraction.{ℚ, ◌+ℚ◌, ◌-ℚ◌, ◌*ℚ◌, neg_ℚ, 0ℚ, 1ℚ, ◌<ℚ◌}
 use Rattle.spec_exact.specs.Sums.{sum_below}
 use Rattle.spec_exact.proofs.Field.{+ℚ_zero, *ℚ_zero}
 use Rattle.spec_exact.proofs.Ruleset.{ring, zero-+ℚ, zero-*ℚ, neg-neg}
-use Rattle.spec_exact.proofs.Strict.{by_sign, +ℚ_strict}
+use Rattle.spec_exact.proofs.Strict.{by_sign}
 use Rattle.spec_exact.proofs.Sums.{sum_below_same, sum_below_none, neg-sum_below}
-use Rattle.spec_model.specs.Model.{Model, width, height, bounds, limits, coefficient, part}
-use Rattle.spec_check.specs.Checks.{priced, IsTight, turned_limits, rows_ask, columns_give, ChecksInfeasible}
+use Rattle.spec_model.specs.Model.{Model, width, height, coefficient, part}
+use Rattle.spec_check.specs.Checks.{priced, IsTight, ChecksInfeasible}
 use Rattle.spec_pivot.specs.Simplex.{Bounds}
 use Rattle.spec_simplex.specs.Form.{formed}
 use Rattle.spec_path.proofs.Columns.{sum_by_kind}

@@ -1,23 +1,19 @@
 -- The first basic column that is outside its bounds, and what the fit of a tableau means.
 use Rattle.std.proofs.Common.{◌≡◌, ℕ, zero, suc, ◌<◌, Option, Some, None, IfSome, Ok, Bool, true}
 use Rattle.std.proofs.Common.{false, ◌&&◌, cond, option_map, refl, sym, ap, ◌∙◌, subst, arith}
-use Rattle.std.specs.declared.cmp.Ordering.{Ordering}
-use Rattle.std.specs.declared.cmp.Ordering.TheVariants.{Less, Equal, Greater}
 use Rattle.spec_exact.specs.Fraction.{ℚ, 0ℚ, ◌≤ℚ◌, ◌<ℚ◌}
-use Rattle.spec_exact.specs.Limit.{order}
-use Rattle.spec_exact.proofs.Compare.{order_less, order_equal, order_greater}
 use Rattle.spec_exact.proofs.Order.{≤ℚ_refl, <ℚ-le, le_if_not}
 use Rattle.spec_exact.proofs.Same.{eq_if}
 use Rattle.spec_pivot.specs.declared.status.Status.{Status}
 use Rattle.spec_pivot.specs.declared.status.Status.TheVariants.{Basic, AtLower, AtUpper, AtZero}
 use Rattle.spec_pivot.specs.Simplex.{IsInside}
 use Rattle.spec_pivot.proofs.Pivot.{by_eq}
-use Rattle.spec_simplex.specs.Run.{Run, order_run}
+use Rattle.spec_simplex.specs.Run.{Run}
 use Rattle.spec_simplex.specs.Tableau.{Tableau, all_columns, value_at, status_at, lower_at, upper_at}
 use Rattle.spec_simplex.specs.Tableau.{is_basic}
 use Rattle.spec_path.specs.Tables.{way}
 use Rattle.spec_path.proofs.Orders.{by_order, given}
-use Rattle.spec_path.proofs.Runs.{then_ok, order_ok, steps_ok}
+use Rattle.spec_path.proofs.Runs.{then_ok, steps_ok}
 use Rattle.spec_dual.specs.Dual.{Suits, IsPast}
 use Rattle.spec_simplex.specs.declared.ends.Fit.{Fit}
 use Rattle.spec_simplex.specs.declared.ends.Fit.TheVariants.{Primal, Dual, Unfit}

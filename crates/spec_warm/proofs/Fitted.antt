@@ -36,4 +36,5 @@ module _ (limit : Option ℕ) (m n : ℕ) (f : Matrix) (cost : ℕ → ℚ)
   pub dual_fit : (budget : ℕ) (r : Reached) → fit_run limit t ≡ Ok Dual → flips_run limit budget t ≡ Ok r →
       IsReady m n f cost b r.tableau
   dual_fit budget r h =
-      flips_ready limit budget m n f cost b t r s (λ k l. fit_is limit t Dual h k (omega (arith, l, s.tableau.rows, s.tableau.cols)))
+      flips_ready limit budget m n f cost b t r s (λ k l. fit_is limit t Dual h k (omega
+      (arith, l, s.tableau.rows, s.tableau.cols)))

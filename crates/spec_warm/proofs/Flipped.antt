@@ -188,7 +188,8 @@ module _ (limit : Option ℕ) (budget m n : ℕ) (f : Matrix) (cost : ℕ → �
               → c || meets_need (status_at r.tableau i) (reduced_at r.tableau i) (lower_at r.tableau i)
               (upper_at r.tableau i) ≡ true → Suits (status_at r.tableau i) (reduced_at r.tableau i)
           by true c h g =
-              absurd (free (fixed_is f cost b r.tableau s i (omega (arith, i_in, v.based.tableau.rows, v.based.tableau.cols)) c))
+              absurd (free (fixed_is f cost b r.tableau s i (omega
+              (arith, i_in, v.based.tableau.rows, v.based.tableau.cols)) c))
           by false c h g =
               met_suits (status_at r.tableau i) (reduced_at r.tableau i)
               (lower_at r.tableau i) (upper_at r.tableau i) g h

@@ -129,7 +129,8 @@ module _ (limit : Option ℕ) (f : Matrix) (cost : ℕ → ℚ) (b : Bounds)
         then_ok (difference_run limit (value_at t (basic_at t p))
         (stand to (lower_at t (basic_at t p)) (upper_at t (basic_at t p)))) _ u h in
         let c = then_ok (quotient_run limit a.0 (entry_at t p j)) _ u a.2 in
-        pivot_leaves limit t s.tableau.whole f cost b s.tableau.tableau s.tableau.bounds Up j p (shift (table_of t) p j d.bound) to
+        pivot_leaves limit t s.tableau.whole f cost b s.tableau.tableau s.tableau.bounds Up j p (shift
+        (table_of t) p j d.bound) to
         (dual_exchanges t.rows (all_columns t) f cost b (table_of t) s.tableau.tableau
         (way below) p j d.bound d.leaves d.cheapest.in_range d.cheapest.candidate)
         (free_open f cost b t s j d.cheapest.in_range d.cheapest.candidate.not_fixed) u

@@ -1,15 +1,13 @@
 -- What a warm start ends with is true.
-use Rattle.std.proofs.Common.{◌≡◌, ◌≢◌, ⊎_elim, ℕ, List, Option, Some, None, Result, Ok, Err, refl, sym, ap, ◌∙◌, subst}
+use Rattle.std.proofs.Common.{◌≡◌, ◌≢◌, ℕ, List, Option, Some, None, Result, Ok, Err, refl, sym, ap, ◌∙◌, subst}
 use Rattle.spec_exact.specs.Fraction.{ℚ}
 use Rattle.spec_exact.specs.declared.past.Past.{Past}
 use Rattle.spec_model.specs.Model.{Model}
 use Rattle.spec_check.specs.declared.certificate.Certificate.{Certificate}
 use Rattle.spec_check.specs.declared.certificate.Certificate.TheVariants as certificate
 use Rattle.spec_check.specs.declared.certificate.Known.{Known}
-use Rattle.spec_check.specs.Certificate.{IsFor, shown, Holds}
-use Rattle.spec_check.specs.Run.{Agrees, check_run}
-use Rattle.spec_check.proofs.RunSound.{run_sound}
-use Rattle.spec_check.proofs.Sound.{checks_hold}
+use Rattle.spec_check.specs.Certificate.{shown, Holds}
+use Rattle.spec_check.specs.Run.{check_run}
 use Rattle.spec_pivot.specs.declared.status.Status.{Status}
 use Rattle.spec_simplex.specs.declared.ends.FormFault.{FormFault}
 use Rattle.spec_simplex.specs.declared.ends.FormFault.TheVariants as fault
@@ -25,7 +23,7 @@ use Rattle.spec_cold.specs.Accepted.{IsAccepted}
 use Rattle.spec_path.specs.Begins.{signs_of}
 use Rattle.spec_path.proofs.Begun.{sign_square}
 use Rattle.spec_path.proofs.Formed.{form_is}
-use Rattle.spec_cold.proofs.Phases.{phases_finish}
+use Rattle.spec_path.proofs.Phases.{phases_finish}
 use Rattle.spec_cold.proofs.Solved.{IsTrueEnd, by_accepted, end_is_true, accepted, clash_accepted}
 use Rattle.spec_warm.specs.declared.ends.Warm.TheVariants as outcome
 use Rattle.spec_simplex.specs.declared.ends.WarmStop.{WarmStop}

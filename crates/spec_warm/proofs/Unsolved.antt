@@ -1,13 +1,12 @@
 -- Elimination begins with the form's equations, in which each artificial has the sign of its logical.
-use Rattle.std.proofs.Common.{◌≡◌, ℕ, ◌+◌, ◌<◌, [], length, get_or, sym, ap, ◌∙◌, subst, arith}
-use Rattle.std.proofs.lemmas.List.{get_or_past}
-use Rattle.spec_exact.specs.Fraction.{ℚ, 0ℚ, 1ℚ, ◌*ℚ◌, neg_ℚ}
+use Rattle.std.proofs.Common.{◌≡◌, ℕ, ◌+◌, ◌<◌, [], length, get_or, sym, ap, ◌∙◌, subst}
+use Rattle.spec_exact.specs.Fraction.{ℚ, 0ℚ, 1ℚ, neg_ℚ}
 use Rattle.spec_exact.proofs.Ruleset.{one-*ℚ}
 use Rattle.spec_pivot.specs.Tableau.{Spans, delta}
 use Rattle.spec_pivot.proofs.Pivot.{sum_below-delta}
 use Rattle.spec_simplex.specs.declared.ends.RowStart.TheVariants.{Within}
 use Rattle.spec_simplex.specs.Form.{Form, form_entry}
-use Rattle.spec_simplex.specs.Start.{logical_sign, start_at, one_at, start_entry}
+use Rattle.spec_simplex.specs.Start.{one_at, start_entry}
 use Rattle.spec_simplex.specs.Tableau.{at_place}
 use Rattle.spec_simplex.proofs.Stops.{length-made}
 use Rattle.spec_path.proofs.Runs.{get_or-made}

@@ -21,7 +21,7 @@ use Rattle.spec_simplex.specs.Tableau.{Tableau, form_columns, all_columns, entry
 use Rattle.spec_simplex.specs.Tableau.{value_at, status_at, lower_at, upper_at}
 use Rattle.spec_simplex.specs.Phases.{PrimalEnded, run_from}
 use Rattle.spec_simplex.proofs.Stops.{length-made}
-use Rattle.spec_path.specs.Tables.{way, table_of, bounds_of, IsTableauOf, IsWithinBounds}
+use Rattle.spec_path.specs.Tables.{way, table_of, bounds_of, IsWithinBounds}
 use Rattle.spec_cold.specs.Cold as cold
 use Rattle.spec_path.proofs.Runs.{then_ok, refused_ok, get_or-made}
 use Rattle.spec_path.proofs.Lists.{by_lt}
@@ -87,7 +87,8 @@ module _ (limit : Option ℕ) (m : Model) (ls : List (Option ℚ × Option ℚ))
       record {
         lower = s.lower;
         upper = s.upper;
-        entering = λ k l. s.based.tableau.bounds.entering k (omega (arith, l, s.based.tableau.rows, s.based.tableau.cols));
+        entering = λ k l. s.based.tableau.bounds.entering k (omega
+            (arith, l, s.based.tableau.rows, s.based.tableau.cols));
       }
 
   lower_zero : (k : ℕ) → w + r ≤ k → k < w + r + r → lower_at t k ≡ Some 0ℚ
@@ -123,13 +124,15 @@ module _ (limit : Option ℕ) (m : Model) (ls : List (Option ℚ × Option ℚ))
     for = length-made u.rows (λ i. directed below (entry_at u p (u.cols + i))) ∙ d.based.tableau.rows;
     checks =
         refuted_checks m ls h (bounds_of t) bounded fixed (row_of (table_of u) (way below) p)
-        (stops r (w + r + r) F costs (bounds_of t) (table_of u) d.based.tableau.tableau (way below) p k.bound k.leaves k.none)
+        (stops r (w + r + r) F costs (bounds_of t) (table_of u) d.based.tableau.tableau
+        (way below) p k.bound k.leaves k.none)
         (row_refutes r (w + r + r) F costs (bounds_of t)
         (table_of u) d.based.tableau.tableau (way below) p k.bound k.leaves k.none)
         (row_multipliers u p below)
         (λ i l. get_or-made u.rows (λ i. directed below (entry_at u p (u.cols + i))) 0ℚ i
         (omega (arith, l, d.based.tableau.rows))
-        ∙ ap (λ n. directed below (entry_at u p (n + i))) d.based.tableau.cols ∙ directed_is below (entry_at u p (w + i)));
+        ∙ ap (λ n. directed below (entry_at u p (n + i))) d.based.tableau.cols
+        ∙ directed_is below (entry_at u p (w + i)));
   }
 
   dual_shows : (u : Tableau) (end : DualEnd) → IsReady r w F costs (bounds_of t) u →
@@ -169,7 +172,8 @@ module _ (limit : Option ℕ) (m : Model) (ls : List (Option ℚ × Option ℚ))
   by_primal budget e inside ok =
       let d =
       run_ends limit r w F costs (bounds_of t) some_label budget 0 t e
-      s.based.tableau (all_within t s.based (λ k l. inside k (omega (arith, l, s.based.tableau.rows, s.based.tableau.cols)))) ok in
+      s.based.tableau (all_within t s.based (λ k l. inside k (omega
+      (arith, l, s.based.tableau.rows, s.based.tableau.cols)))) ok in
       record {
         shows = primal_shows m ls h (λ _. 1ℚ) (bounds_of t) bounded fixed limit e d.after d.within d.end;
         based = record { tableau = d.after; top = s.based.top };
@@ -209,7 +213,8 @@ module _ (limit : Option ℕ) (m : Model) (ls : List (Option ℚ × Option ℚ))
   fits_at u d left e =
       let z : made (form_columns u) (cold.basis_status u) ≡ left = cc in
       subst (IsBasisOf (formed m ls)) z
-      (basis_fits (formed m ls) (λ _. 1ℚ) (λ _. *ℚ_one 1ℚ) costs (bounds_of t) bounded u d.tableau.rows d.tableau.cols d.tableau.tableau)
+      (basis_fits (formed m ls) (λ _. 1ℚ) (λ _. *ℚ_one 1ℚ) costs
+      (bounds_of t) bounded u d.tableau.rows d.tableau.cols d.tableau.tableau)
 
   pub basis_left : (e : WarmEnd) → IsEndOf e → (left : List Status) → warm_basis e ≡ Some left →
       IsBasisOf (formed m ls) left

@@ -23,7 +23,8 @@ use Rattle.spec_simplex.specs.Form.{Form, IsForm, least_cost, formed, form_of}
 use Rattle.spec_simplex.specs.Eliminate.{IsBasisOf}
 use Rattle.spec_simplex.specs.Phases.{PhasesEnd, phases_run}
 use Rattle.spec_check.specs.declared.solve_end.SolveEnd.TheVariants.{Ended}
-use Rattle.spec_cold.specs.Cold.{ExactSolveEnd, certificate_of, basis_of, pivots_of, checked, after_phases, after_form, cold}
+use Rattle.spec_cold.specs.Cold.{ExactSolveEnd, certificate_of, basis_of, pivots_of, checked, after_phases, after_form}
+use Rattle.spec_cold.specs.Cold.{cold}
 use Rattle.spec_path.proofs.Formed.{form_is}
 use Rattle.spec_path.proofs.LimitStart.{form_agrees}
 use Rattle.spec_warm.specs.declared.ends.Warm.TheVariants as outcome

@@ -54,7 +54,8 @@ record IsFormedLeft (left : Left) : Type 0 where
 
 -- ---- what a solve leaves of the model
 
-worked_model : (old : State) (found : Looked) (end : ExactSolveEnd) (how : How) (words : Option Words) (replied : ExactReply)
+worked_model : (old : State) (found : Looked) (end : ExactSolveEnd) (how : How) (words : Option Words)
+    (replied : ExactReply)
     (next : State) → Ends replied next ≡ worked_with old found end how words → next.model ≡ old.model
 worked_model old found end how None replied next e = cc
 worked_model old found end how (Some words) replied next e = by (is_found found words) e

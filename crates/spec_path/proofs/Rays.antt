@@ -6,8 +6,6 @@ use Rattle.spec_exact.specs.Sums.{sum_below}
 use Rattle.spec_exact.proofs.Order.{≤ℚ_refl, <ℚ-le, lt_if, le_if_not}
 use Rattle.spec_exact.proofs.Ruleset.{neg-zero}
 use Rattle.spec_exact.proofs.Strict.{zero-lt-one, neg_strict}
-use Rattle.spec_model.specs.Model.{Limits}
-use Rattle.spec_check.specs.Checks.{Allows}
 use Rattle.spec_pivot.specs.declared.status.Status.{Status}
 use Rattle.spec_pivot.specs.declared.status.Status.TheVariants.{Basic, AtLower, AtUpper, AtZero}
 use Rattle.spec_pivot.specs.declared.status.Way.{Way}
@@ -19,7 +17,11 @@ use Rattle.spec_pivot.proofs.Pivot.{by_eq}
 use Rattle.spec_pivot.proofs.Kept.{outside, j_outside}
 use Rattle.spec_pivot.proofs.Ray.{ray_at, ray_still, cost_ray}
 use Rattle.spec_pivot.proofs.Values.{by_basic, ray_cost, better}
-use Rattle.spec_cold.proofs.EndTight.{limits_at}
+
+-- no bound stops a move by r
+pub record IsFree (l u : Option ℚ) (r : ℚ) : Type 0 where
+  pub lower : IfSome l (λ _. 0ℚ ≤ℚ r)
+  pub upper : IfSome u (λ _. r ≤ℚ 0ℚ)
 
 -- ---- what stops nothing
 if_none : (P : ℚ → Type 0) (o : Option ℚ) → o ≡ None → IfSome o P
@@ -33,13 +35,13 @@ map_none : (f : ℚ → ℚ) (o : Option ℚ) → option_map f o ≡ None → o 
 map_none f None e = refl
 map_none f (Some k) e = cc
 
-room_none : (b : Bounds) (k : ℕ) (v r : ℚ) → room b k v r ≡ None → Allows (limits_at b k) r
+room_none : (b : Bounds) (k : ℕ) (v r : ℚ) → room b k v r ≡ None → IsFree (b.lower k) (b.upper k) r
 room_none b k v r e = by (lt_ℚ 0ℚ r) (lt_ℚ r 0ℚ) refl refl e
   where
     by : (s t : Bool) → lt_ℚ 0ℚ r ≡ s → lt_ℚ r 0ℚ ≡ t →
         cond s (option_map (λ u. (u -ℚ v) *ℚ inverse r) (b.upper k))
         (cond t (option_map (λ l. (v -ℚ l) *ℚ inverse (neg_ℚ r)) (b.lower k)) None) ≡ None →
-        Allows (limits_at b k) r
+        IsFree (b.lower k) (b.upper k) r
     by true t p q h = record {
       lower = if_all (λ _. 0ℚ ≤ℚ r) (b.lower k) (λ _. <ℚ-le 0ℚ r (lt_if 0ℚ r p));
       upper = if_none (λ _. r ≤ℚ 0ℚ) (b.upper k) (map_none _ (b.upper k) h);
@@ -53,11 +55,11 @@ room_none b k v r e = by (lt_ℚ 0ℚ r) (lt_ℚ r 0ℚ) refl refl e
       upper = if_all (λ _. r ≤ℚ 0ℚ) (b.upper k) (λ _. le_if_not 0ℚ r p);
     }
 
-still_allowed : (l : Limits) (r : ℚ) → r ≡ 0ℚ → Allows l r
-still_allowed l r e =
-    subst (Allows l) (sym e) (record {
-      lower = if_all (λ _. 0ℚ ≤ℚ 0ℚ) l.lower (λ _. ≤ℚ_refl 0ℚ);
-      upper = if_all (λ _. 0ℚ ≤ℚ 0ℚ) l.upper (λ _. ≤ℚ_refl 0ℚ);
+still_allowed : (l u : Option ℚ) (r : ℚ) → r ≡ 0ℚ → IsFree l u r
+still_allowed l u r e =
+    subst (IsFree l u) (sym e) (record {
+      lower = if_all (λ _. 0ℚ ≤ℚ 0ℚ) l (λ _. ≤ℚ_refl 0ℚ);
+      upper = if_all (λ _. 0ℚ ≤ℚ 0ℚ) u (λ _. ≤ℚ_refl 0ℚ);
     })
 
 below-zero : neg_ℚ 1ℚ <ℚ 0ℚ
@@ -65,7 +67,7 @@ below-zero = subst (λ a. neg_ℚ 1ℚ <ℚ a) neg-zero (neg_strict 0ℚ 1ℚ ze
 
 -- the entering column itself
 own_allowed : (l u : Option ℚ) (v : ℚ) (way : Way) (s : Status) → CanMove way s → Stands s l u v →
-    (l ≡ None) ⊎ (u ≡ None) → Allows (record { lower = l; upper = u }) (sign way)
+    (l ≡ None) ⊎ (u ≡ None) → IsFree l u (sign way)
 own_allowed l u v Up AtLower c s o = record {
   lower = if_all (λ _. 0ℚ ≤ℚ 1ℚ) l (λ _. <ℚ-le 0ℚ 1ℚ zero-lt-one);
   upper = if_none (λ _. 1ℚ ≤ℚ 0ℚ) u (⊎_elim (λ n. let z : Some v ≡ None = sym s ∙ n in cc) (λ n. n) o);
@@ -88,17 +90,17 @@ own_allowed l u v Down AtLower c s o = absurd c
 
 module _ (m n : ℕ) (f : Matrix) (c : ℕ → ℚ) (b : Bounds) (t : Table)
     (g : IsTableau m n f c b t) (way : Way) (j : ℕ) (e : GoesOn m n b t way j) where
-  pub allowed : (k : ℕ) → k < n → Allows (limits_at b k) (ray m t way j k)
+  pub allowed : (k : ℕ) → k < n → IsFree (b.lower k) (b.upper k) (ray m t way j k)
   allowed k h =
       by_basic (t.status k)
-      (λ s. let q = g.placed k h s in subst (λ k. Allows (limits_at b k) (ray m t way j k)) q.2
+      (λ s. let q = g.placed k h s in subst (λ k. IsFree (b.lower k) (b.upper k) (ray m t way j k)) q.2
       (room_none b (t.basic q.0) (t.value (t.basic q.0)) (ray m t way j (t.basic q.0)) (e.others q.0 q.1)))
       (λ s. by_eq j k
-      (λ o. subst (λ k. Allows (limits_at b k) (ray m t way j k)) o
-      (subst (Allows (limits_at b j)) (sym (ray_at m t g.units way j (j_outside m n f c b t g way j e.enters)))
+      (λ o. subst (λ k. IsFree (b.lower k) (b.upper k) (ray m t way j k)) o
+      (subst (IsFree (b.lower j) (b.upper j)) (sym (ray_at m t g.units way j (j_outside m n f c b t g way j e.enters)))
       (own_allowed (b.lower j) (b.upper j) (t.value j) way
       (t.status j) e.enters.eligible.status (g.stands j e.enters.in_range) e.own)))
-      (λ o. still_allowed (limits_at b k) (ray m t way j k)
+      (λ o. still_allowed (b.lower k) (b.upper k) (ray m t way j k)
       (ray_still m t g.units way j (j_outside m n f c b t g way j e.enters) k o (outside m n f c b t g k s))))
 
   pub falls : sum_below n (λ k. c k *ℚ ray m t way j k) <ℚ 0ℚ
