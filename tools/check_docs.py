@@ -4,8 +4,9 @@
     check_docs.py
 
 Each path in backquotes in README.md and docs/*.md has to exist, each link has to lead to a file, and each name in
-backquotes in docs/READING.md and docs/PROOFS.md has to be a crate or stand in the sources of one. It prints what is
-missing; the status is 1 where something is.
+backquotes in docs/READING.md and docs/PROOFS.md has to be a crate or stand in the sources of one. Each crate stands in one
+layer of the drawing in docs/ARCHITECTURE.md, and names in crates.txt only crates of its layer and of those below. It prints
+what is missing; the status is 1 where something is.
 """
 import re
 import sys
@@ -38,6 +39,31 @@ def missing_in(document, names):
                 yield quoted
 
 
+def layers():
+    """The layer of each crate, counted from the top of the drawing."""
+    text = (TOP / "docs" / "ARCHITECTURE.md").read_text(encoding="utf-8")
+    drawing = text.partition("## The crates")[2].partition("```\n")[2].partition("```")[0]
+    layer, found = 0, {}
+    for line in drawing.splitlines():
+        # a line of a layer begins with its name, and goes on in lines that begin behind it
+        layer += bool(re.match(r"  \S", line))
+        found |= {name: layer for name in re.findall(r"\b(?:\w+_\w+|lpd)\b", line)}
+    return found
+
+
+def misplaced():
+    """Why the drawing of the layers is not that of crates.txt."""
+    layer = layers()
+    for line in (TOP / "crates.txt").read_text(encoding="utf-8").splitlines():
+        crate, _, below = line.partition("#")[0].partition(":")
+        crate = (crate.split() or [""])[0]
+        if crate and crate not in layer:
+            yield f"no layer for {crate}"
+        for name in below.split():
+            if layer.get(name, 99) < layer.get(crate, 0):
+                yield f"{crate} names {name}, of a layer above its own"
+
+
 def main():
     names = set(re.findall(r"[\w◌-]+", sources())) | {path.name for path in (TOP / "crates").iterdir()}
     named = {TOP / "docs" / "READING.md", TOP / "docs" / "PROOFS.md"}
@@ -45,7 +71,10 @@ def main():
     missing = [(document, what) for document in documents for what in missing_in(document, names if document in named else None)]
     for document, what in missing:
         print(f"{document.relative_to(TOP)}: there is no {what}")
-    return 1 if missing else 0
+    wrong = [*misplaced()]
+    for what in wrong:
+        print(f"docs/ARCHITECTURE.md: {what}")
+    return 1 if missing or wrong else 0
 
 
 if __name__ == "__main__":
