@@ -1,15 +1,14 @@
 -- The columns, their costs and their coefficients are what COLUMNS says.
-use Rattle.std.proofs.Common.{◌≡◌, ◌≢◌, ℕ, Bool, true, false, not, ◌||◌, cond, eqb, Option, Some}
+use Rattle.std.proofs.Common.{◌≡◌, ℕ, Bool, true, false, not, ◌||◌, cond, Option, Some}
 use Rattle.std.proofs.Common.{None, option_map, Ok, List, [], ◌∷◌, ◌++◌, map, refl, sym, ap, ◌∙◌, subst}
-use Rattle.std.proofs.Common.{subst₂, get_or, arith, append_assoc, append-nil, All, IfSome, codes}
+use Rattle.std.proofs.Common.{subst₂, get_or, append_assoc, append-nil, All, IfSome, codes}
 use Rattle.std.specs.List.{list_any}
 use Rattle.std.proofs.lemmas.List.{map-append}
 use Rattle.std.proofs.lemmas.List.Elements.{All-push, All-map}
 use Rattle.spec_text.specs.Words.{same}
 use Rattle.spec_text.proofs.WordLemmas.{same_true, same-refl}
-use Rattle.spec_exact.specs.Fraction.{ℚ, 0ℚ, eq_ℚ}
-use Rattle.spec_exact.proofs.Same.{eq_if, eq_test}
-use Rattle.spec_model.specs.Model.{Name, ExactColumn, entry_of}
+use Rattle.spec_exact.specs.Fraction.{ℚ, 0ℚ}
+use Rattle.spec_model.specs.Model.{Name, ExactColumn}
 use Rattle.spec_mps.specs.declared.fault.Code.TheVariants as code
 use Rattle.spec_mps.specs.declared.section.Section.TheVariants as section
 use Rattle.spec_mps.specs.declared.style.Style.{Style}
@@ -19,8 +18,8 @@ use Rattle.spec_mps.specs.declared.target.Place.{Place}
 use Rattle.spec_mps.specs.declared.target.Place.TheVariants.{Kept, Dropped}
 use Rattle.spec_mps.specs.Fields.{Fields, text_at, texts_of}
 use Rattle.spec_mps.specs.Shapes.{shaped}
-use Rattle.spec_mps.specs.Reader.{State, is_among, same_target, new_column, columns_with, whole_columns}
-use Rattle.spec_mps.specs.Reader.{is_open, put_entry, with_number, enter, pairs_of, columns_card, marker_field}
+use Rattle.spec_mps.specs.Reader.{State, is_among, new_column, columns_with, whole_columns}
+use Rattle.spec_mps.specs.Reader.{is_open, with_number, enter, pairs_of, columns_card, marker_field}
 use Rattle.spec_mps.proofs.Steps.{negated}
 use Rattle.spec_mps.proofs.Names.{none_pass}
 use Rattle.spec_mps.proofs.CheckSteps.{step_ok, must_ok, same_ok}
@@ -32,63 +31,8 @@ use Rattle.spec_meaning.proofs.Order.{not_both}
 use Rattle.spec_meaning.proofs.RowViews.{RowView, row_view, place_in, place_by_view}
 use Rattle.spec_meaning.proofs.PairsKept.{Put, PutNowhere, PutAt, Tells, tells_push, number_is, texts_none}
 use Rattle.spec_meaning.proofs.ColumnLemmas.{IsColumn, column_is, pairs_push, is_named, named_push, firsts_push}
-use Rattle.spec_meaning.proofs.ColumnLemmas.{not_named, unnamed_pairs, AreNonZero, put_non_zero, put_here, put_there}
-
--- ---- numbers of a column
-
-abbrev pub number_at : ExactColumn → Target → ℚ
-number_at c Objective = c.cost
-number_at c (Row i) = entry_of c.entries i
-
-abbrev pub open_number : Option ExactColumn → Target → ℚ
-open_number None t = 0ℚ
-open_number (Some c) t = number_at c t
-
-abbrev pub open_at : State → Target → ℚ
-open_at s t = open_number s.column t
-
-number_here : (c : ExactColumn) (x : Target) (v : ℚ) → AreNonZero c.entries → number_at c x ≡ 0ℚ →
-    number_at (with_number c x v) x ≡ v
-number_here c Objective v z e = refl
-number_here c (Row i) v z e = by (eq_ℚ v 0ℚ) refl
-  where
-    by : (b : Bool) → eq_ℚ v 0ℚ ≡ b → number_at (cond b c (record c { entries = put_entry i v c.entries })) (Row i) ≡ v
-    by true f = e ∙ sym (eq_if v 0ℚ f)
-    by false f = put_here i v c.entries z e
-
-number_there : (c : ExactColumn) (x y : Target) (v : ℚ) → same_target y x ≡ false →
-    number_at (with_number c x v) y ≡ number_at c y
-number_there c Objective Objective v h = absurd (cc)
-number_there c Objective (Row j) v h = refl
-number_there c (Row i) y v h = by (eq_ℚ v 0ℚ) y h
-  where
-    by : (b : Bool) (y : Target) → same_target y (Row i) ≡ false →
-        number_at (cond b c (record c { entries = put_entry i v c.entries })) y ≡ number_at c y
-    by true y h = refl
-    by false Objective h = refl
-    by false (Row j) h = put_there i j v c.entries (turned h)
-      where
-        turned : eqb j i ≡ false → eqb i j ≡ false
-        turned e = grind (arith, e)
-
-number_name : (c : ExactColumn) (x : Target) (v : ℚ) → (with_number c x v).name ≡ c.name
-number_name c Objective v = refl
-number_name c (Row i) v = by (eq_ℚ v 0ℚ)
-  where
-    by : (b : Bool) → (cond b c (record c { entries = put_entry i v c.entries })).name ≡ c.name
-    by true = refl
-    by false = refl
-
-number_non_zero : (c : ExactColumn) (x : Target) (v : ℚ) → AreNonZero c.entries → AreNonZero (with_number c x v).entries
-number_non_zero c Objective v z = z
-number_non_zero c (Row i) v z = by (eq_ℚ v 0ℚ) refl
-  where
-    differs : eq_ℚ v 0ℚ ≡ false → v ≢ 0ℚ
-    differs e g = let h : eq_ℚ v 0ℚ ≡ true = eq_test v 0ℚ g in cc
-
-    by : (b : Bool) → eq_ℚ v 0ℚ ≡ b → AreNonZero (cond b c (record c { entries = put_entry i v c.entries })).entries
-    by true f = z
-    by false f = put_non_zero i v c.entries (differs f) z
+use Rattle.spec_meaning.proofs.ColumnLemmas.{not_named, unnamed_pairs, AreNonZero}
+use Rattle.spec_meaning.proofs.ColumnNumbers.{number_at, open_number, open_at, number_here, number_there, number_name, number_non_zero}
 
 -- ---- what the cards say of columns
 

@@ -2,6 +2,7 @@ pub mod Frames
 pub mod SoFar
 pub mod Headings
 pub mod Order
+pub mod AllCards
 pub mod Runs
 pub mod RowViews
 pub mod RowsKept
@@ -12,6 +13,7 @@ pub mod NumbersKept
 pub mod SidesKept
 pub mod RangesKept
 pub mod ColumnLemmas
+pub mod ColumnNumbers
 pub mod ColumnsKept
 pub mod ColumnsSaid
 pub mod BoundTextsRead
