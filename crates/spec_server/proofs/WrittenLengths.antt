@@ -1,10 +1,9 @@
 -- The text of a model that may be kept, by its bytes.
-use Rattle.std.proofs.Common.{◌≡◌, ℕ, suc, ◌+◌, ◌-◌, ◌*◌, ◌≤◌, ◌<◌, ◌==◌, ◌&&◌, Bool, true, false, cond, Option}
+use Rattle.std.proofs.Common.{◌≡◌, ℕ, suc, ◌+◌, ◌-◌, ◌*◌, ◌≤◌, ◌<◌, ◌&&◌, Bool, true, false, cond, Option}
 use Rattle.std.proofs.Common.{Some, None, List, [], ◌∷◌, ◌++◌, length, take, map, get_or, replicate, ap, ◌∙◌}
 use Rattle.std.proofs.Common.{length-append, arith}
 use Rattle.std.specs.Prelude.{codes, All, AllPairs}
 use Rattle.std.specs.List.{flat_map, list_any}
-use Rattle.std.proofs.lemmas.List.{length-replicate}
 use Rattle.std.proofs.Math.Seq.{take-append-add}
 use Rattle.std.proofs.Math.Nat.{mul-le-mul}
 use Rattle.spec_exact.specs.Fraction.{ℚ, 0ℚ, eq_ℚ, neg_ℚ, lt_ℚ}
@@ -19,7 +18,7 @@ use Rattle.spec_mps.specs.Written.{WrittenCard, WrittenCards, Head, Data, cards_
 use Rattle.spec_mps.specs.Written.{columns_cards, sides_cards, ranges_cards, bounds_cards, section_card, number_card}
 use Rattle.spec_mps.specs.Written.{bound_card, row_card, column_cards, side_cards, range_cards, bound_cards, has_range}
 use Rattle.spec_mps.specs.Written.{has_bounds, first_column, padded, with_fields, line_text, cards_text}
-use Rattle.spec_mps.proofs.WrittenShort.{IsShortCard, cards_short}
+use Rattle.spec_mps.proofs.WrittenShort.{IsShortCard, cards_short, column_small, blanks_len}
 
 -- a text that is no longer than the limit, with more after it
 pub take_behind : (limit : ℕ) (xs more : List ℕ) → length xs ≤ limit →
@@ -34,20 +33,6 @@ abbrev AllFit : Fields → Type 0
 AllFit [] = Unit {0}
 AllFit (f ∷ fs) = (length f.text ≤ 100) × AllFit fs
 
-first_small : (n : ℕ) → first_column n ≤ 50
-first_small n = by (n == 1) (n == 2) (n == 3) (n == 4) (n == 5)
-  where
-    by : (a b c d e : Bool) → cond a 2 (cond b 5 (cond c 15 (cond d 25 (cond e 40 50)))) ≤ 50
-    by true b c d e = omega arith
-    by false true c d e = omega arith
-    by false false true d e = omega arith
-    by false false false true e = omega arith
-    by false false false false true = omega arith
-    by false false false false false = omega arith
-
-blanks_len : (k : ℕ) (line : List ℕ) → length (line ++ replicate k 32) ≡ length line + k
-blanks_len k line = length-append line (replicate k 32) ∙ ap (λ m. length line + m) (length-replicate k 32)
-
 -- blanks up to a column add nothing to a line that goes past it
 blanks_fit : (column size : ℕ) (line : List ℕ) → column ≤ 50 → length line ≤ size → 49 ≤ size →
     length (line ++ replicate (column - 1 - length line) 32) ≤ size
@@ -59,7 +44,7 @@ blanks_fit column size line c h w =
 padded_fits : (style : Style) (n size : ℕ) (line : List ℕ) → length line ≤ size → 49 ≤ size →
     length (padded style n line) ≤ size + 1
 padded_fits Free n size line h w = let a = length-append line (32 ∷ []) in omega arith
-padded_fits Fixed n size line h w = let b = blanks_fit (first_column n) size line (first_small n) h w in omega arith
+padded_fits Fixed n size line h w = let b = blanks_fit (first_column n) size line (column_small n) h w in omega arith
 
 fields_fit : (style : Style) (size : ℕ) (line : List ℕ) (fs : Fields) → AllFit fs → length line ≤ size → 49 ≤ size →
     length (with_fields style line fs) ≤ size + 101 * length fs
