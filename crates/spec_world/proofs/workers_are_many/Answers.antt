@@ -1,4 +1,4 @@
-use Rattle.std.proofs.Common.{ℕ, ◌<◌, ◌%◌, arith}
+use Rattle.std.proofs.Common.{arith}
 use Rattle.spec_world.proofs.Interleaving.{interleaved, many_fit}
 use Rattle.spec_world.proofs.workers_are_many.Goals as goal
 
