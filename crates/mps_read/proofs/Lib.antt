@@ -5,5 +5,6 @@ pub mod Lists
 pub mod MarkLists
 pub mod NewNames
 pub mod Runs
+pub mod SameNumbers
 pub mod Signs
 pub mod TextLists

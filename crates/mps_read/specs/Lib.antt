@@ -7,6 +7,7 @@ pub mod Finished
 pub mod Leads
 pub mod Marks
 pub mod Named
+pub mod Numbers
 pub mod Parts
 pub mod TextRead
 pub mod Sets

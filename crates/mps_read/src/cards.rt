@@ -6,6 +6,7 @@ ghost use Rattle.mps_read.specs.Draft.{state_of};
 
 use crate::draft::Draft;
 use crate::fault::{Fault, Went};
+use crate::numbers::Numbers;
 use lp_base::Line;
 use mps_card::{Card, CardFault, Fields, fixed, free};
 use spec_mps::{Code, Section, Style};
@@ -36,8 +37,8 @@ impl Draft {
             Some(Section::Sense) => self.sense_card(style, fields),
             Some(Section::Rows) => self.rows_card(alloc, style, fields),
             Some(Section::Columns) => self.columns_card(alloc, style, fields),
-            Some(Section::RightSides) => self.rhs_card(alloc, style, fields),
-            Some(Section::Ranges) => self.ranges_card(alloc, style, fields),
+            Some(Section::RightSides) => self.set_card(alloc, Numbers::Sides, style, fields),
+            Some(Section::Ranges) => self.set_card(alloc, Numbers::Ranges, style, fields),
             Some(Section::Bounds) => self.bounds_card(alloc, style, fields),
         }
     }

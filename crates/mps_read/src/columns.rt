@@ -2,20 +2,19 @@
 ghost use Rattle.std.specs.Prelude.{◌≡◌, ◌∷◌, ◌++◌, [], Bool, false, None, Some, OnOk};
 ghost use Rattle.std.specs.List.{list_any};
 ghost use Rattle.spec_text.specs.Words.{same};
-ghost use Rattle.spec_mps.specs.declared.target.Place.TheVariants as place;
 ghost use Rattle.spec_mps.specs.Fields.{texts_of};
 ghost use Rattle.spec_mps.specs.Reader as reader;
 ghost use Rattle.mps_read.specs.Answer.{GivesState};
 ghost use Rattle.mps_read.specs.Draft.{state_of};
 
-use crate::draft::{Draft, number_in};
+use crate::draft::Draft;
 use crate::fault::Fault;
+use crate::numbers::Numbers;
 use crate::shapes::has_shape;
 use lp_base::are_same;
-use lp_frac::Frac;
 use lp_model::is_name;
 use mps_card::{Field, Fields};
-use spec_mps::{Code, Place, Section, Style, Target};
+use spec_mps::{Code, Section, Style};
 use std::alloc::{AllocError, Global};
 
 const MAX_COLUMNS: usize = 512;
@@ -60,7 +59,7 @@ impl Draft {
             return Err(Fault::Code(Code::Name));
         }
         self.open(alloc, name.text())?;
-        self.column_pairs(pairs)
+        self.pairs(Numbers::Entries, pairs)
     }
 
     /// No more cards are read of the column.
@@ -102,45 +101,6 @@ impl Draft {
         self.columns.begin(alloc, name)?;
         self.lowered.push(false)?;
         self.paired.clear();
-        Ok(())
-    }
-
-    fn column_pairs(&mut self, fields: &[Field]) -> Result<(), Fault>
-        ensures { GivesState (reader.column_pairs (state_of self.old) (reader.pairs_of (texts_of fields.now)))
-            (state_of self.new) result }
-    {
-        let mut fields = fields;
-        while let [row, value, more @ ..] = fields {
-            self.column_pair(row.text(), value.text())?;
-            fields = more;
-        }
-        Ok(())
-    }
-
-    #[tactic(auto, unfolding(spec_mps::specs::Reader::column_pair, spec_mps::specs::Reader::enter))]
-    fn column_pair(&mut self, name: &[u8], text: &[u8]) -> Result<(), Fault>
-        ensures { GivesState (reader.column_pair (state_of self.old) name.now text.now) (state_of self.new) result }
-    {
-        let Some(place) = self.place_of(name) else {
-            return Err(Fault::Code(Code::UnknownRow));
-        };
-        let value = number_in(text)?;
-        match place {
-            Place::Dropped => Ok(()),
-            Place::Kept(target) => self.enter(target, value),
-        }
-    }
-
-    // A number of the column that is read, at a target that had none.
-    #[tactic(auto, unfolding(spec_mps::specs::Reader::enter))]
-    fn enter(&mut self, target: Target, value: Frac) -> Result<(), Fault>
-        ensures { GivesState (reader.enter (state_of self.old) (place.Kept target) value) (state_of self.new) result }
-    {
-        if self.paired.has(target) {
-            return Err(Fault::Code(Code::EntryRepeated));
-        }
-        self.columns.put_number(target, value)?;
-        self.paired.push(target)?;
         Ok(())
     }
 }

@@ -22,6 +22,7 @@ mod columns;
 mod draft;
 mod fault;
 mod finish;
+mod numbers;
 mod reader;
 mod row_list;
 mod rows;

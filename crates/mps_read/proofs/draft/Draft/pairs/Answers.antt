@@ -1,11 +1,11 @@
 use Rattle.std.proofs.Common.{◌∙◌, ◌<◌, length, sym, ap, arith}
-use Rattle.spec_mps.specs.Reader.{column_pairs}
 use Rattle.mps_read.specs.Draft.{state_of}
+use Rattle.mps_read.specs.Numbers.{pairs_by}
 use Rattle.mps_read.proofs.TextLists.{few_pairs}
-use Rattle.mps_read.proofs.draft.Draft.column_pairs.Goals as goal
+use Rattle.mps_read.proofs.draft.Draft.pairs.Goals as goal
 
 pub returns : goal.returns
 returns c =
     let few : length c.loop-fields.fields.now < 2 = omega (arith, c.in_default.len_below) in
     sym c.loop-fields.invariant
-    ∙ ap (column_pairs (state_of c.loop-fields.self)) (few_pairs c.loop-fields.fields.now few)
+    ∙ ap (pairs_by c.args.what (state_of c.loop-fields.self)) (few_pairs c.loop-fields.fields.now few)

@@ -1,0 +1,87 @@
+-- What is said once of the numbers of rows is what the definition says of those of each section.
+use Rattle.std.proofs.Common.{◌≡◌, ℕ, Some, Ok, Err, List, [], ◌∷◌, cond, refl, ap, ◌∙◌}
+use Rattle.spec_model.specs.Model.{Name}
+use Rattle.spec_mps.specs.declared.fault.Code.TheVariants as code
+use Rattle.spec_mps.specs.declared.style.Style.{Style}
+use Rattle.spec_mps.specs.declared.section.Section.TheVariants as section
+use Rattle.spec_mps.specs.Shapes.{shaped}
+use Rattle.spec_mps.specs.declared.target.Target.TheVariants.{Objective, Row}
+use Rattle.spec_mps.specs.declared.target.Place.{Place}
+use Rattle.spec_mps.specs.declared.target.Place.TheVariants.{Kept, Dropped}
+use Rattle.spec_mps.specs.Fields.{Fields}
+use Rattle.spec_mps.specs.Checks.{Check, ◌>>=◌, need}
+use Rattle.spec_mps.specs.Reader.{State, place_of, number_in, enter, column_pair, column_pairs}
+use Rattle.spec_mps.specs.Sides.{SetAndPairs, put_side, side_pair, side_pairs, rhs_by, rhs_card, ranged_row}
+use Rattle.spec_mps.specs.Sides.{is_used, set_and_pairs, put_range, range_pair, range_pairs, ranges_by, ranges_card}
+use Rattle.mps_read.specs.declared.numbers.Numbers.TheVariants.{Entries, Sides, Ranges}
+use Rattle.mps_read.specs.Numbers.{place_by, pair_by, pairs_by, set_by, set_card}
+
+-- two checks in turn
+next : {A : Type 0} (a b : Check A) (f g : A → Check State) → a ≡ b → ((x : A) → f x ≡ g x) → (a >>= f) ≡ (b >>= g)
+next (Ok x) b f g e h = h x ∙ ap (λ c. c >>= g) e
+next (Err code) b f g e h = ap (λ c. c >>= g) e
+
+-- ---- one by one
+
+entry_is : (s : State) (name : Name) (text : List ℕ) → pair_by Entries s name text ≡ column_pair s name text
+unfolding column_pair enter
+entry_is s name text = next (need (place_of s name) code.UnknownRow) _ _ _ refl by
+  where
+    by : (p : Place) → place_by Entries s text p ≡ (number_in text >>= λ v. enter s p v)
+    by Dropped = refl
+    by (Kept t) = refl
+
+side_is : (s : State) (name : Name) (text : List ℕ) → pair_by Sides s name text ≡ side_pair s name text
+unfolding side_pair put_side
+side_is s name text = next (need (place_of s name) code.UnknownRow) _ _ _ refl by
+  where
+    by : (p : Place) → place_by Sides s text p ≡ (number_in text >>= λ v. put_side s p v)
+    by Dropped = refl
+    by (Kept Objective) = refl
+    by (Kept (Row i)) = refl
+
+range_is : (s : State) (name : Name) (text : List ℕ) → pair_by Ranges s name text ≡ range_pair s name text
+unfolding range_pair put_range
+range_is s name text = next (need (place_of s name) code.UnknownRow) _ _ _ refl by
+  where
+    by : (p : Place) → place_by Ranges s text p ≡ (ranged_row p >>= λ row. number_in text >>= λ v. put_range s row v)
+    by Dropped = refl
+    by (Kept Objective) = refl
+    by (Kept (Row i)) = refl
+
+-- ---- in turn
+
+pub entries_are : (s : State) (ps : List (List ℕ × List ℕ)) → pairs_by Entries s ps ≡ column_pairs s ps
+entries_are s [] = refl
+entries_are s (p ∷ ps) = next _ _ _ _ (entry_is s p.0 p.1) (λ t. entries_are t ps)
+
+sides_are : (s : State) (ps : List (List ℕ × List ℕ)) → pairs_by Sides s ps ≡ side_pairs s ps
+sides_are s [] = refl
+sides_are s (p ∷ ps) = next _ _ _ _ (side_is s p.0 p.1) (λ t. sides_are t ps)
+
+ranges_are : (s : State) (ps : List (List ℕ × List ℕ)) → pairs_by Ranges s ps ≡ range_pairs s ps
+ranges_are s [] = refl
+ranges_are s (p ∷ ps) = next _ _ _ _ (range_is s p.0 p.1) (λ t. ranges_are t ps)
+
+-- ---- on cards
+
+side_set : (s : State) (card : SetAndPairs) → set_by Sides s card ≡ rhs_by s card
+unfolding rhs_by
+side_set s card =
+    ap (λ c. cond (is_used s.set card.set) c (Ok s)) (sides_are (record s { set = Some card.set }) card.pairs)
+
+range_set : (s : State) (card : SetAndPairs) → set_by Ranges s card ≡ ranges_by s card
+unfolding ranges_by
+range_set s card =
+    ap (λ c. cond (is_used s.set card.set) c (Ok s)) (ranges_are (record s { set = Some card.set }) card.pairs)
+
+pub rhs_card_is : (style : Style) (s : State) (fields : Fields) → set_card Sides style s fields ≡ rhs_card style s fields
+unfolding rhs_card
+rhs_card_is style s fields =
+    next (shaped style section.RightSides fields) _ _ _ refl (λ texts. side_set s (set_and_pairs texts))
+
+pub ranges_card_is : (style : Style) (s : State) (fields : Fields) →
+    set_card Ranges style s fields ≡ ranges_card style s fields
+unfolding ranges_card
+ranges_card_is style s fields =
+    next (shaped style section.Ranges fields) _ _ _ refl (λ texts. range_set s (set_and_pairs texts))
