@@ -5,6 +5,7 @@ ghost use Rattle.spec_bas.specs.Steps as file;
 ghost use Rattle.spec_bas.specs.Fits.{HasSizeOf};
 ghost use Rattle.lp_bas.specs.Limits.{status_at};
 ghost use Rattle.lp_bas.specs.Steps.{IsStep, Advances};
+ghost use Rattle.lp_bas.specs.Single.{single_step, put_step};
 
 use crate::reading::{Card, Reading, reading_of};
 use crate::statuses::{Limit, lower_first, status_at, usual_status};
@@ -39,6 +40,13 @@ impl From<BasCode> for StepFault {
     fn from(code: BasCode) -> Self {
         StepFault::Wrong(code)
     }
+}
+
+/// Where a card without a row lets a column stand.
+#[derive(Clone, Copy)]
+pub(crate) enum Stands {
+    AtUpper,
+    Usual,
 }
 
 /// Whether there was a card, and the status that a card gave each structural and then each logical column.
@@ -125,12 +133,17 @@ impl Marks {
         Ok(())
     }
 
-    // A column stands at its upper bound.
-    #[tactic(auto, unfolding(spec_bas::specs::Steps::upper_step))]
-    fn upper(&mut self, model: &Model, form: &Form, column: &[u8]) -> Result<(), BasCode>
+    // A column stands at its upper bound, or where it does without a card.
+    fn single(
+        &mut self,
+        model: &Model,
+        form: &Form,
+        column: &[u8],
+        stands: Stands,
+    ) -> Result<(), BasCode>
         requires sizes { HasSizeOf model.now form.now }
         requires all { length self.old.marks ≡ form.now.cols + form.now.rows }
-        ensures { IsStep (file.upper_step model.now form.now self.old column.now) self.old self.new result }
+        ensures { IsStep (single_step stands model.now form.now self.old column.now) self.old self.new result }
     {
         let Some(j) = model.col_of(column) else {
             return Err(BasCode::UnknownColumn);
@@ -138,30 +151,30 @@ impl Marks {
         if self.is_marked(j) {
             return Err(BasCode::Repeated);
         }
-        if form.upper(j).is_none() {
-            return Err(BasCode::NoUpperBound);
-        }
-        self.mark(j, Status::AtUpper);
-        Ok(())
+        self.put(form, j, stands)
     }
 
-    // A column stands where it does without a card.
-    #[tactic(auto, unfolding(spec_bas::specs::Steps::usual_step))]
-    fn usual(&mut self, model: &Model, form: &Form, column: &[u8]) -> Result<(), BasCode>
-        requires sizes { HasSizeOf model.now form.now }
+    fn put(&mut self, form: &Form, j: u32, stands: Stands) -> Result<(), BasCode>
         requires all { length self.old.marks ≡ form.now.cols + form.now.rows }
-        ensures { IsStep (file.usual_step model.now form.now self.old column.now) self.old self.new result }
+        requires column { j < form.now.cols }
+        ensures { IsStep (put_step stands form.now self.old j) self.old self.new result }
     {
-        let Some(j) = model.col_of(column) else {
-            return Err(BasCode::UnknownColumn);
-        };
-        if self.is_marked(j) {
-            return Err(BasCode::Repeated);
+        match stands {
+            Stands::Usual => {
+                self.mark(j, lower_first(form, j));
+                Ok(())
+            }
+            Stands::AtUpper => {
+                if form.upper(j).is_none() {
+                    return Err(BasCode::NoUpperBound);
+                }
+                self.mark(j, Status::AtUpper);
+                Ok(())
+            }
         }
-        self.mark(j, lower_first(form, j));
-        Ok(())
     }
 
+    #[tactic(auto, unfolding(spec_bas::specs::Steps::upper_step, spec_bas::specs::Steps::usual_step))]
     fn card(&mut self, model: &Model, form: &Form, card: &Card) -> Result<(), BasCode>
         requires sizes { HasSizeOf model.now form.now }
         requires all { length self.old.marks ≡ form.now.cols + form.now.rows }
@@ -174,8 +187,8 @@ impl Marks {
             Card::Xl { column, row } => {
                 self.pair(model, form, column.as_slice(), row.as_slice(), Limit::Lower)
             }
-            Card::Ul { column } => self.upper(model, form, column.as_slice()),
-            Card::Ll { column } => self.usual(model, form, column.as_slice()),
+            Card::Ul { column } => self.single(model, form, column.as_slice(), Stands::AtUpper),
+            Card::Ll { column } => self.single(model, form, column.as_slice(), Stands::Usual),
         }
     }
 

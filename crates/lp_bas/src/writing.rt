@@ -9,6 +9,7 @@ ghost use Rattle.spec_mps.specs.Written as text;
 ghost use Rattle.spec_bas.specs.Written as written;
 ghost use Rattle.spec_bas.specs.Fits.{HasSizeOf};
 ghost use Rattle.lp_bas.specs.Words.{pair_word};
+ghost use Rattle.lp_bas.specs.Listed.{is_listed};
 
 use lp_base::Bytes;
 use lp_form::{Basis, Form, Status};
@@ -35,14 +36,32 @@ fn is_at_upper(basis: &Basis, k: u32) -> bool
     }
 }
 
-// The columns of the model that are basic.
-fn basic_columns(alloc: Global, form: &Form, basis: &Basis) -> Result<Vec<u32>, AllocError>
+/// Which columns are listed.
+#[derive(Clone, Copy)]
+pub(crate) enum Listed {
+    Basic,
+    AtUpper,
+}
+
+fn is_listed(which: Listed, basis: &Basis, k: u32) -> bool
+    requires { k < length basis.now }
+    ensures { result ≡ is_listed which (basis_at basis.now k) }
+{
+    match which {
+        Listed::Basic => is_basic(basis, k),
+        Listed::AtUpper => is_at_upper(basis, k),
+    }
+}
+
+// The columns of the model that stand so.
+fn columns(alloc: Global, form: &Form, basis: &Basis, which: Listed) -> Result<Vec<u32>, AllocError>
     requires { length basis.now ≡ form.now.cols + form.now.rows }
-    ensures { IfOk result (λ found. found.items ≡ written.basic_columns form.now basis.now) }
+    ensures { IfOk result
+        (λ found. found.items ≡ written.chosen form.now.cols (λ j. is_listed which (basis_at basis.now j))) }
 {
     let mut found = Vec::new(alloc);
     for j in 0..form.cols() {
-        if is_basic(basis, j) {
+        if is_listed(which, basis, j) {
             found.push(j)?;
         }
     }
@@ -58,20 +77,6 @@ fn other_rows(alloc: Global, form: &Form, basis: &Basis) -> Result<Vec<u32>, All
     for i in 0..form.rows() {
         if !is_basic(basis, form.logical(i)) {
             found.push(i)?;
-        }
-    }
-    Ok(found)
-}
-
-// The columns of the model at their upper bounds.
-fn upper_columns(alloc: Global, form: &Form, basis: &Basis) -> Result<Vec<u32>, AllocError>
-    requires { length basis.now ≡ form.now.cols + form.now.rows }
-    ensures { IfOk result (λ found. found.items ≡ written.upper_columns form.now basis.now) }
-{
-    let mut found = Vec::new(alloc);
-    for j in 0..form.cols() {
-        if is_at_upper(basis, j) {
-            found.push(j)?;
         }
     }
     Ok(found)
@@ -194,10 +199,10 @@ fn push_cards(
     ensures { OnOk result (to.new ≡ to.old ++ text.cards_text style.Free
         (map written.written_card (written.cards_of model.now form.now basis.now))) }
 {
-    let columns = basic_columns(alloc, form, basis)?;
+    let basic = columns(alloc, form, basis, Listed::Basic)?;
     let rows = other_rows(alloc, form, basis)?;
-    push_pairs(model, form, basis, &columns, &rows, to)?;
-    let upper = upper_columns(alloc, form, basis)?;
+    push_pairs(model, form, basis, &basic, &rows, to)?;
+    let upper = columns(alloc, form, basis, Listed::AtUpper)?;
     push_uppers(model, &upper, to)?;
     Ok(())
 }

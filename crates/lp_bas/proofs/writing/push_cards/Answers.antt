@@ -6,7 +6,7 @@ use Rattle.lp_bas.proofs.writing.push_cards.Goals as goal
 
 pub push_pairs-requires-clause-columns : goal.push_pairs-requires-clause-columns
 push_pairs-requires-clause-columns c =
-    subst (All (λ j. j < width c.args.model.now)) (sym (c.deref.ensures.value ∙ c.in_ok-columns.ensures))
+    subst (All (λ j. j < width c.args.model.now)) (sym (c.deref.ensures.value ∙ c.in_ok-basic.ensures))
     (chosen_inside _ c.args.form.now.cols (width c.args.model.now) (omega arith))
 
 pub push_pairs-requires-clause-rows : goal.push_pairs-requires-clause-rows
@@ -23,6 +23,6 @@ pub returns : goal.returns
 returns c =
     all_cards c.args.model.now c.args.form.now c.args.basis.now c.deref.result.now c.deref-2.result.now
     c.deref-3.result.now
-    c.args.to.now c.push_pairs.new.to c.push_uppers.new.to (c.deref.ensures.value ∙ c.in_ok-columns.ensures)
+    c.args.to.now c.push_pairs.new.to c.push_uppers.new.to (c.deref.ensures.value ∙ c.in_ok-basic.ensures)
     (c.deref-2.ensures.value ∙ c.in_ok-rows.ensures) (c.deref-3.ensures.value ∙ c.in_ok-upper.ensures)
     c.in_ok-push_pairs.ensures c.in_ok-push_uppers.ensures

@@ -1,0 +1,11 @@
+-- Which columns are listed.
+use Rattle.std.specs.Prelude.{Bool}
+use Rattle.spec_pivot.specs.declared.status.Status.{Status}
+use Rattle.spec_simplex.specs.Tableau.{is_basic}
+use Rattle.spec_bas.specs.Written.{is_at_upper}
+use Rattle.lp_bas.specs.declared.writing.Listed.{Listed}
+use Rattle.lp_bas.specs.declared.writing.Listed.TheVariants.{Basic, AtUpper}
+
+abbrev pub is_listed : Listed → Status → Bool
+is_listed Basic status = is_basic status
+is_listed AtUpper status = is_at_upper status
