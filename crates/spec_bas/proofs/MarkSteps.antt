@@ -8,7 +8,7 @@ use Rattle.spec_model.specs.Kept.{row_place, column_place}
 use Rattle.spec_pivot.specs.declared.status.Status.{Status}
 use Rattle.spec_pivot.specs.declared.status.Status.TheVariants.{Basic, AtUpper}
 use Rattle.spec_simplex.specs.Form.{Form, form_lower, form_upper}
-use Rattle.spec_simplex.specs.Run.{◌>>=◌}
+use Rattle.spec_exact.specs.Run.{◌>>=◌}
 use Rattle.spec_simplex.specs.Tableau.{is_basic}
 use Rattle.spec_simplex.specs.Eliminate.{CanStand, IsBasisOf}
 use Rattle.spec_bas.specs.declared.fault.BasCode.TheVariants as code

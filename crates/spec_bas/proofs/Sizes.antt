@@ -5,7 +5,7 @@ use Rattle.spec_model.specs.Model.{Model, width, height, row}
 use Rattle.spec_simplex.specs.declared.ends.FormFault.{FormFault}
 use Rattle.spec_simplex.specs.declared.ends.FormFault.TheVariants as fault
 use Rattle.spec_simplex.specs.Form.{Form, form_of, formed, limits_run, column_clash}
-use Rattle.spec_simplex.specs.Run.{◌>>=◌, refused_as, list_run, steps}
+use Rattle.spec_exact.specs.Run.{◌>>=◌, refused_as, list_run, steps}
 use Rattle.spec_bas.specs.Fits.{HasSizeOf}
 
 sized_by : (m : Model) (f : Form) (o : Result (List (Option ℚ × Option ℚ)) (FormFault ℚ))

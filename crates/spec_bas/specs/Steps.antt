@@ -9,7 +9,7 @@ use Rattle.spec_model.specs.Kept.{row_place, column_place}
 use Rattle.spec_pivot.specs.declared.status.Status.{Status}
 use Rattle.spec_pivot.specs.declared.status.Status.TheVariants.{Basic, AtLower, AtUpper, AtZero}
 use Rattle.spec_simplex.specs.Form.{Form, form_lower, form_upper}
-use Rattle.spec_simplex.specs.Run.{◌>>=◌, made}
+use Rattle.spec_exact.specs.Run.{◌>>=◌, made}
 use Rattle.spec_simplex.specs.Start.{first_status}
 use Rattle.spec_bas.specs.declared.fault.BasCode.{BasCode}
 use Rattle.spec_bas.specs.declared.fault.BasCode.TheVariants as code

@@ -7,10 +7,10 @@ use Rattle.std.proofs.lemmas.Bool.{cases_eq}
 use Rattle.std.proofs.lemmas.List.Elements.{All-nil, All-cons, All-tail, All-append, All-map, filter-append}
 use Rattle.std.proofs.lemmas.List.Kept.{AllPairs-cons, AllPairs-filter}
 use Rattle.spec_pivot.specs.declared.status.Status.{Status}
-use Rattle.spec_simplex.specs.Run.{made}
+use Rattle.spec_exact.specs.Run.{made}
 use Rattle.spec_simplex.specs.Tableau.{is_basic}
 use Rattle.spec_simplex.specs.Eliminate.{basis_at, basics_below}
-use Rattle.spec_simplex.proofs.Stops.{length-made, get_or-made}
+use Rattle.spec_exact.proofs.Stops.{length-made, get_or-made}
 use Rattle.spec_bas.specs.Written.{chosen}
 
 -- ---- lists

@@ -1,6 +1,7 @@
 -- Where the conditions that no point is feasible hold, the run without a limit says yes.
 use Rattle.std.proofs.Common.{◌≡◌, ℕ, List, Option, Some, None, Ok, Bool, true, false, cond}
 use Rattle.std.proofs.Common.{Ordering, Less, Equal, Greater, refl, sym, ap, ap₂, ◌∙◌, subst}
+use Rattle.std.specs.Ordering.{is_lt, is_gt}
 use Rattle.spec_exact.specs.Fraction.{ℚ, 0ℚ, ◌+ℚ◌, ◌*ℚ◌, ◌<ℚ◌, lt_ℚ}
 use Rattle.spec_exact.specs.Limit.{compare, order}
 use Rattle.spec_exact.specs.declared.past.Op.TheVariants.{Cmp}
@@ -9,11 +10,12 @@ use Rattle.spec_exact.proofs.Ruleset.{zero-+ℚ}
 use Rattle.spec_exact.proofs.Order.{clash_ℚ, <ℚ-le, lt_if}
 use Rattle.spec_exact.proofs.Strict.{<ℚ_irrefl}
 use Rattle.spec_exact.proofs.Compare.{order_less, order_equal, order_greater}
+use Rattle.spec_exact.specs.Run.{◌>>=◌}
 use Rattle.spec_model.specs.Model.{Model, Limits, width, height, bounds, limits, row, coefficient, part}
 use Rattle.spec_check.specs.declared.certificate.Known.TheVariants as known
 use Rattle.spec_check.specs.Checks.{priced, asked, or_zero, HasLimit, turned_limits}
 use Rattle.spec_check.specs.Checks.{rows_ask, columns_give, ChecksInfeasible, ChecksClash}
-use Rattle.spec_check.specs.Run.{Run, ◌>>=◌, step, need, lower_run, upper_run, is_less, is_greater}
+use Rattle.spec_check.specs.Run.{Run, step, need, lower_run, upper_run}
 use Rattle.spec_check.specs.Run.{weighed_at, weighed, row_asks_run, priced_run, column_gives_run}
 use Rattle.spec_check.specs.Run.{rows_ask_run, columns_give_run, infeasible_run, crossed_run, clash_run}
 use Rattle.spec_check.proofs.StepsComplete.{then_ok, need_true, from_all, plus_all}
@@ -72,12 +74,12 @@ column_all m y j s h =
     (sum_all (height m) (λ i. part y i) (λ i. coefficient m i j))
     (weighed_all 2 (turned_limits (bounds m j)) (priced m y j) s h)
 
-less_test : (o : Ordering) (v k : ℚ) → order v k ≡ o → v <ℚ k → is_less o ≡ true
+less_test : (o : Ordering) (v k : ℚ) → order v k ≡ o → v <ℚ k → is_lt o ≡ true
 less_test Less v k e h = refl
 less_test Equal v k e h = absurd (<ℚ_irrefl k (subst (λ z. z <ℚ k) ((order_equal v k).0 e) h))
 less_test Greater v k e h = clash_ℚ v k h (<ℚ-le k v ((order_greater v k).0 e))
 
-greater_test : (o : Ordering) (v k : ℚ) → order v k ≡ o → k <ℚ v → is_greater o ≡ true
+greater_test : (o : Ordering) (v k : ℚ) → order v k ≡ o → k <ℚ v → is_gt o ≡ true
 greater_test Less v k e h = clash_ℚ k v h (<ℚ-le v k ((order_less v k).0 e))
 greater_test Equal v k e h = absurd (<ℚ_irrefl k (subst (λ z. k <ℚ z) ((order_equal v k).0 e) h))
 greater_test Greater v k e h = refl
@@ -92,9 +94,9 @@ infeasible_all m y h =
     (λ j. priced m y j *ℚ asked (turned_limits (bounds m j)) (priced m y j))
     (λ j u p. column_all m y j u (h.columns j p)) ∙ ap Ok (zero-+ℚ _))
     (then_ok (step Cmp (columns_give m y) (rows_ask m y) (compare None (columns_give m y) (rows_ask m y)))
-    (order (columns_give m y) (rows_ask m y)) (λ o. need 3 (is_less o) >>= λ _. Ok known.Infeasible)
+    (order (columns_give m y) (rows_ask m y)) (λ o. need 3 (is_lt o) >>= λ _. Ok known.Infeasible)
     known.Infeasible (ordered (columns_give m y) (rows_ask m y))
-    (then_ok (need 3 (is_less (order (columns_give m y) (rows_ask m y)))) tt (λ _. Ok known.Infeasible) known.Infeasible
+    (then_ok (need 3 (is_lt (order (columns_give m y) (rows_ask m y)))) tt (λ _. Ok known.Infeasible) known.Infeasible
     (need_true 3 _ (less_test (order (columns_give m y) (rows_ask m y)) (columns_give m y) (rows_ask m y) refl h.less))
     refl)))
 
@@ -103,6 +105,6 @@ clash_all m j h =
     ap₂ (λ l u. crossed_run None l u >>= λ _. Ok known.Infeasible) h.lower h.upper
     ∙ then_ok (crossed_run None (Some h.low) (Some h.high)) tt (λ _. Ok known.Infeasible) known.Infeasible
     (then_ok (step Cmp h.low h.high (compare None h.low h.high))
-    (order h.low h.high) (λ o. need 1 (is_greater o)) tt (ordered h.low h.high)
+    (order h.low h.high) (λ o. need 1 (is_gt o)) tt (ordered h.low h.high)
     (need_true 1 _ (greater_test (order h.low h.high) h.low h.high refl h.crossed)))
     refl

@@ -2,6 +2,7 @@
 use Rattle.std.proofs.Common.{◌≡◌, ℕ, ◌<◌, List, Option, Some, None, Ok, Bool}
 use Rattle.std.proofs.Common.{true, false, cond, refl, sym, ap, ◌∙◌, subst}
 use Rattle.std.specs.Prelude.{⊤}
+use Rattle.std.specs.Ordering.{is_lt, is_gt}
 use Rattle.spec_exact.specs.Fraction.{ℚ, 0ℚ, ◌+ℚ◌, ◌*ℚ◌, ◌<ℚ◌, lt_ℚ}
 use Rattle.spec_exact.specs.Sums.{sum_below}
 use Rattle.spec_exact.specs.Limit.{compare}
@@ -9,13 +10,14 @@ use Rattle.spec_exact.specs.declared.past.Op.TheVariants.{Cmp}
 use Rattle.spec_exact.proofs.Field.{+ℚ_zero, *ℚ_zero}
 use Rattle.spec_exact.proofs.Ruleset.{zero-+ℚ}
 use Rattle.spec_exact.proofs.Order.{clash_ℚ, <ℚ-le, lt_if, le_if_not, lt_test, not_lt_test}
+use Rattle.spec_exact.specs.Run.{◌>>=◌, steps}
 use Rattle.spec_model.specs.Model.{Model, Limits, width, height, bounds, limits, row, coefficient, part}
 use Rattle.spec_check.specs.declared.certificate.Known.{Known}
 use Rattle.spec_check.specs.declared.certificate.Known.TheVariants as known
 use Rattle.spec_check.specs.Checks.{priced, asked, or_zero, HasLimit, turned_limits}
 use Rattle.spec_check.specs.Checks.{rows_ask, ChecksInfeasible, ChecksClash}
-use Rattle.spec_check.specs.Run.{Run, ◌>>=◌, step, need, each_from, lower_run, upper_run, is_less}
-use Rattle.spec_check.specs.Run.{is_greater, weighed_at, weighed, row_asks_run, priced_run, column_gives_run}
+use Rattle.spec_check.specs.Run.{Run, step, need, lower_run, upper_run}
+use Rattle.spec_check.specs.Run.{weighed_at, weighed, row_asks_run, priced_run, column_gives_run}
 use Rattle.spec_check.specs.Run.{rows_ask_run, columns_give_run, infeasible_run, crossed_run, clash_run}
 use Rattle.spec_check.proofs.StepsSound.{after_ok, need_ok, ok_same, sum_ok, some_ok_at, plus_ok}
 use Rattle.spec_check.proofs.StepsSound.{products_ok, lower_ok, upper_ok, less_from, greater_from, compared}
@@ -96,7 +98,7 @@ column_ok limit m y j s u e =
 
 -- a number that each of them changes by what it weighs
 total_ok : (n : ℕ) (f : ℕ → ℚ → Run ℚ) (l : ℕ → Limits) (d : ℕ → ℚ) →
-    ((k : ℕ) (s u : ℚ) → f k s ≡ Ok u → Weighed (l k) (d k) s u) → (v : ℚ) → each_from 0ℚ n f ≡ Ok v
+    ((k : ℕ) (s u : ℚ) → f k s ≡ Ok u → Weighed (l k) (d k) s u) → (v : ℚ) → steps n f 0ℚ ≡ Ok v
     → ((k : ℕ) → k < n → HasLimit (l k) (d k)) × (v ≡ sum_below n (λ k. d k *ℚ asked (l k) (d k)))
 total_ok n f l d h v e = (
   λ k p. let a = some_ok_at 0ℚ n f v e k p in (h k a.0 a.1 a.2).there,
@@ -110,8 +112,8 @@ infeasible_ok limit m y said e =
     let b = after_ok (columns_give_run limit m y) _ said a.2 in
     let c =
     after_ok (step Cmp b.0 a.0 (compare limit b.0 a.0))
-    (λ o. need 3 (is_less o) >>= λ _. Ok known.Infeasible) said b.2 in
-    let d = after_ok (need 3 (is_less c.0)) (λ _. Ok known.Infeasible) said c.2 in
+    (λ o. need 3 (is_lt o) >>= λ _. Ok known.Infeasible) said b.2 in
+    let d = after_ok (need 3 (is_lt c.0)) (λ _. Ok known.Infeasible) said c.2 in
     let rows = total_ok (height m) (row_asks_run limit m y) (limits m) (λ i. part y i) (row_ok limit m y) a.0 a.1 in
     let columns =
     total_ok (width m) (column_gives_run limit m y)
@@ -121,7 +123,7 @@ infeasible_ok limit m y said e =
         columns = columns.0;
         less =
             subst (λ z. z <ℚ rows_ask m y) columns.1 (subst (λ z. b.0 <ℚ z) rows.1
-            (less_from c.0 b.0 a.0 (compared limit b.0 a.0 c.0 c.1) (need_ok 3 (is_less c.0) d.0 d.1)));
+            (less_from c.0 b.0 a.0 (compared limit b.0 a.0 c.0 c.1) (need_ok 3 (is_lt c.0) d.0 d.1)));
       },
       sym (ok_same known.Infeasible said d.2),
     )
@@ -137,12 +139,12 @@ clash_ok limit m j said p e =
     by None u f g t h = cc
     by (Some l) None f g t h = cc
     by (Some l) (Some u) f g t h =
-        let a = after_ok (step Cmp l u (compare limit l u)) (λ o. need 1 (is_greater o)) t h in
+        let a = after_ok (step Cmp l u (compare limit l u)) (λ o. need 1 (is_gt o)) t h in
         record {
           inside = p;
           low = l;
           high = u;
           lower = f;
           upper = g;
-          crossed = greater_from a.0 l u (compared limit l u a.0 a.1) (need_ok 1 (is_greater a.0) t a.2);
+          crossed = greater_from a.0 l u (compared limit l u a.0 a.1) (need_ok 1 (is_gt a.0) t a.2);
         }

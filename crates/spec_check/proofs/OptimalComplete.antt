@@ -6,11 +6,12 @@ use Rattle.spec_exact.specs.Limit.{add}
 use Rattle.spec_exact.specs.declared.past.Op.TheVariants.{Add}
 use Rattle.spec_exact.proofs.Order.{lt_if}
 use Rattle.spec_exact.proofs.Sums.{neg-sum_below}
+use Rattle.spec_exact.specs.Run.{◌>>=◌}
 use Rattle.spec_model.specs.Model.{Model, width, height, bounds, limits, row, cost}
 use Rattle.spec_model.specs.Model.{coefficient, activity, part, cost_of, value_of}
 use Rattle.spec_check.specs.declared.certificate.Known.TheVariants as known
 use Rattle.spec_check.specs.Checks.{signed, reduced, IsTight, ChecksOptimal}
-use Rattle.spec_check.specs.Run.{Run, ◌>>=◌, step, need, each, less_product, lower_run, upper_run}
+use Rattle.spec_check.specs.Run.{Run, step, need, each, less_product, lower_run, upper_run}
 use Rattle.spec_check.specs.Run.{stands_at, is_tight, columns_run, activity_run, rows_run, reduced_run}
 use Rattle.spec_check.specs.Run.{column_tight_run, row_tight_run, cost_run, value_run, optimal_run}
 use Rattle.spec_check.proofs.StepsComplete.{then_ok, need_true, each_all, from_all, added, less_all, sum_all, lower_all}

@@ -1,6 +1,6 @@
 -- At a limit the run is the run without one, or an operation is refused.
 use Rattle.std.proofs.Common.{◌≡◌, inl, inr, ⊎_elim, ℕ, zero, suc, List, Option, Some, None}
-use Rattle.std.proofs.Common.{Ok, Err, Bool, true, false, cond, refl, sym, ap, ◌∙◌, subst}
+use Rattle.std.proofs.Common.{Ok, Err, Bool, true, false, cond, refl, sym, ap, ◌∙◌, subst, subst₂}
 use Rattle.std.specs.Prelude.{⊤}
 use Rattle.spec_exact.specs.Fraction.{ℚ, 0ℚ, ◌+ℚ◌, ◌-ℚ◌, ◌*ℚ◌, lt_ℚ, abs_ℚ}
 use Rattle.spec_exact.specs.Limit.{add, sub, mul, compare, order}
@@ -8,18 +8,20 @@ use Rattle.spec_exact.specs.declared.past.Op.{Op}
 use Rattle.spec_exact.specs.declared.past.Op.TheVariants.{Add, Sub, Mul, Cmp}
 use Rattle.spec_exact.proofs.Limit.{add_gives, add_unlimited, sub_gives, sub_unlimited, mul_gives, mul_unlimited}
 use Rattle.spec_exact.proofs.Compare.{compare_gives, compare_unlimited}
+use Rattle.spec_exact.specs.Run.{◌>>=◌, steps}
 use Rattle.spec_model.specs.declared.parts.Kind.{Kind}
 use Rattle.spec_model.specs.declared.parts.Kind.TheVariants.{L, G, E}
 use Rattle.spec_model.specs.Model.{Model, ExactRow, Limits, width, height, bounds, row, cost, coefficient, part}
 use Rattle.spec_check.specs.declared.certificate.Certificate.{Certificate}
 use Rattle.spec_check.specs.declared.certificate.Certificate.TheVariants.{Optimal, Infeasible, Clash, Unbounded}
 use Rattle.spec_check.specs.Checks.{signed, turned_limits}
-use Rattle.spec_check.specs.Run.{Run, Agrees, ◌>>=◌, step, each, each_from, plus_product, less_product}
+use Rattle.spec_check.specs.Run.{Run, Agrees, step, each, plus_product, less_product}
 use Rattle.spec_check.specs.Run.{sum_run, some_run, lower_by_run, upper_by_run, lower_run, upper_run, at_least}
 use Rattle.spec_check.specs.Run.{at_most, column_within_run, activity_run, row_within_run, reduced_run}
 use Rattle.spec_check.specs.Run.{column_tight_run, row_tight_run, value_run, optimal_run, check_run}
 use Rattle.spec_check.specs.Run.{weighed_at, weighed, row_asks_run, priced_run, column_gives_run, infeasible_run}
 use Rattle.spec_check.specs.Run.{crossed_run, clash_run, row_allows_run, better_run, unbounded_run}
+use Rattle.spec_check.proofs.Stops.{plus_is, less_is}
 
 same : {A : Type 0} (o : Run A) → Agrees o o
 unfolding Agrees
@@ -53,11 +55,11 @@ each_agrees : (n : ℕ) (f g : ℕ → Run ⊤) → ((i : ℕ) → Agrees (f i) 
 each_agrees zero f g h = same (Ok tt)
 each_agrees (suc n) f g h = after_agrees (each n f) (each n g) (λ _. f n) (λ _. g n) (each_agrees n f g h) (λ _. h n)
 
-each_from_agrees : (s : ℚ) (n : ℕ) (f g : ℕ → ℚ → Run ℚ) → ((i : ℕ) (u : ℚ) → Agrees (f i u) (g i u)) →
-    Agrees (each_from s n f) (each_from s n g)
-each_from_agrees s zero f g h = same (Ok s)
-each_from_agrees s (suc n) f g h =
-    after_agrees (each_from s n f) (each_from s n g) (λ u. f n u) (λ u. g n u) (each_from_agrees s n f g h) (λ u. h n u)
+steps_agrees : (s : ℚ) (n : ℕ) (f g : ℕ → ℚ → Run ℚ) → ((i : ℕ) (u : ℚ) → Agrees (f i u) (g i u)) →
+    Agrees (steps n f s) (steps n g s)
+steps_agrees s zero f g h = same (Ok s)
+steps_agrees s (suc n) f g h =
+    after_agrees (steps n f s) (steps n g s) (λ u. f n u) (λ u. g n u) (steps_agrees s n f g h) (λ u. h n u)
 
 module _ (limit : Option ℕ) where
   add_agrees : (v w : ℚ) → Agrees (step Add v w (add limit v w)) (step Add v w (add None v w))
@@ -78,13 +80,17 @@ module _ (limit : Option ℕ) where
       (λ x e. compare_gives limit v w x e) (compare_unlimited v w)
 
   plus_agrees : (v w s : ℚ) → Agrees (plus_product limit v w s) (plus_product None v w s)
-  plus_agrees v w s = after_agrees _ _ _ _ (mul_agrees v w) (λ p. add_agrees s p)
+  plus_agrees v w s =
+      subst₂ Agrees (sym (plus_is limit v w s)) (sym (plus_is None v w s))
+      (after_agrees _ _ _ _ (mul_agrees v w) (λ p. add_agrees s p))
 
   less_agrees : (v w s : ℚ) → Agrees (less_product limit v w s) (less_product None v w s)
-  less_agrees v w s = after_agrees _ _ _ _ (mul_agrees v w) (λ p. sub_agrees s p)
+  less_agrees v w s =
+      subst₂ Agrees (sym (less_is limit v w s)) (sym (less_is None v w s))
+      (after_agrees _ _ _ _ (mul_agrees v w) (λ p. sub_agrees s p))
 
   sum_agrees : (n : ℕ) (f g : ℕ → ℚ) → Agrees (sum_run limit n f g) (sum_run None n f g)
-  sum_agrees n f g = each_from_agrees 0ℚ n _ _ (λ k s. plus_agrees (f k) (g k) s)
+  sum_agrees n f g = steps_agrees 0ℚ n _ _ (λ k s. plus_agrees (f k) (g k) s)
 
   -- a row's limits
   some_agrees : (o u : Run ℚ) → Agrees o u → Agrees (some_run o) (some_run u)
@@ -137,7 +143,7 @@ module _ (limit : Option ℕ) where
   -- complementary multipliers
   reduced_agrees : (m : Model) (y : List ℚ) (j : ℕ) → Agrees (reduced_run limit m y j) (reduced_run None m y j)
   reduced_agrees m y j =
-      each_from_agrees (signed m.sense (cost m j)) (height m) _ _ (λ i d. less_agrees (part y i) (coefficient m i j) d)
+      steps_agrees (signed m.sense (cost m j)) (height m) _ _ (λ i d. less_agrees (part y i) (coefficient m i j) d)
 
   column_tight_agrees : (m : Model) (x y : List ℚ) (j : ℕ) →
       Agrees (column_tight_run limit m x y j) (column_tight_run None m x y j)
@@ -193,8 +199,8 @@ module _ (limit : Option ℕ) where
 
   infeasible_agrees : (m : Model) (y : List ℚ) → Agrees (infeasible_run limit m y) (infeasible_run None m y)
   infeasible_agrees m y =
-      after_agrees _ _ _ _ (each_from_agrees 0ℚ (height m) _ _ (row_asks_agrees m y)) (λ asked.
-      after_agrees _ _ _ _ (each_from_agrees 0ℚ (width m) _ _ (column_gives_agrees m y)) (λ given.
+      after_agrees _ _ _ _ (steps_agrees 0ℚ (height m) _ _ (row_asks_agrees m y)) (λ asked.
+      after_agrees _ _ _ _ (steps_agrees 0ℚ (width m) _ _ (column_gives_agrees m y)) (λ given.
       after_agrees _ _ _ _ (compare_agrees given asked) (λ o. same _)))
 
   crossed_agrees : (l u : Option ℚ) → Agrees (crossed_run limit l u) (crossed_run None l u)

@@ -2,6 +2,7 @@
 use Rattle.std.proofs.Common.{◌≡◌, ℕ, zero, suc, ◌<◌, List, Option, Some, None, Ok, IfSome, Bool, true}
 use Rattle.std.proofs.Common.{false, not, cond, Ordering, Less, Equal, Greater, refl, sym, ap, ◌∙◌, arith}
 use Rattle.std.specs.Prelude.{⊤}
+use Rattle.std.specs.Ordering.{is_lt, is_gt}
 use Rattle.spec_exact.specs.Fraction.{ℚ, 0ℚ, ◌+ℚ◌, ◌-ℚ◌, ◌*ℚ◌, ◌≤ℚ◌, lt_ℚ, abs_ℚ}
 use Rattle.spec_exact.specs.Sums.{sum_below}
 use Rattle.spec_exact.specs.Limit.{add, sub, mul, compare, order}
@@ -13,16 +14,18 @@ use Rattle.spec_exact.proofs.Order.{clash_ℚ, lt_if}
 use Rattle.spec_exact.proofs.Limit.{add_unlimited, sub_unlimited, mul_unlimited}
 use Rattle.spec_exact.proofs.Compare.{compare_unlimited, order_less, order_greater}
 use Rattle.spec_exact.proofs.Same.{eq_test}
+use Rattle.spec_exact.specs.Run.{◌>>=◌, steps}
 use Rattle.spec_model.specs.declared.parts.Kind.{Kind}
 use Rattle.spec_model.specs.declared.parts.Kind.TheVariants.{L, G, E}
 use Rattle.spec_model.specs.Model.{Model, ExactRow, Limits, limits_by, limits_of, from_to, width}
 use Rattle.spec_model.specs.Model.{height, bounds, limits, row, coefficient, activity, part}
 use Rattle.spec_model.specs.Truth.{IsBetween, IsFeasible}
 use Rattle.spec_check.specs.Checks.{IsTight}
-use Rattle.spec_check.specs.Run.{Run, ◌>>=◌, step, need, each, each_from, plus_product, less_product}
+use Rattle.spec_check.specs.Run.{Run, step, need, each, plus_product, less_product}
 use Rattle.spec_check.specs.Run.{sum_run, some_run, lower_by_run, upper_by_run, lower_run, upper_run}
-use Rattle.spec_check.specs.Run.{is_less, is_greater, at_least, at_most, stands_at, is_tight}
+use Rattle.spec_check.specs.Run.{at_least, at_most, stands_at, is_tight}
 use Rattle.spec_check.specs.Run.{column_within_run, columns_run, activity_run, row_within_run, rows_run}
+use Rattle.spec_check.proofs.Stops.{plus_is, less_is}
 
 pub then_ok : {A B : Type 0} (o : Run A) (a : A) (next : A → Run B) (b : B) → o ≡ Ok a → next a ≡ Ok b →
     (o >>= next) ≡ Ok b
@@ -41,10 +44,10 @@ each_all (suc n) f h =
     then_ok (each n f) tt (λ _. f n) tt (each_all n f (λ i p. h i (omega (arith, p)))) (h n (omega arith))
 
 pub from_all : (s : ℚ) (n : ℕ) (f : ℕ → ℚ → Run ℚ) (t : ℕ → ℚ) → ((k : ℕ) (u : ℚ) → k < n → f k u ≡ Ok (u +ℚ t k)) →
-    each_from s n f ≡ Ok (s +ℚ sum_below n t)
+    steps n f s ≡ Ok (s +ℚ sum_below n t)
 from_all s zero f t h = ap Ok (sym (+ℚ_zero s))
 from_all s (suc n) f t h =
-    then_ok (each_from s n f) (s +ℚ sum_below n t) (λ u. f n u)
+    then_ok (steps n f s) (s +ℚ sum_below n t) (λ u. f n u)
     (s +ℚ sum_below (suc n) t) (from_all s n f t (λ k u p. h k u (omega (arith, p))))
     (h n (s +ℚ sum_below n t) (omega arith) ∙ ap Ok (+ℚ_assoc s (sum_below n t) (t n)))
 
@@ -59,12 +62,14 @@ multiplied v w = comes Mul v w (mul None v w) (v *ℚ w) (mul_unlimited v w)
 
 pub plus_all : (v w s : ℚ) → plus_product None v w s ≡ Ok (s +ℚ v *ℚ w)
 plus_all v w s =
-    then_ok (step Mul v w (mul None v w)) (v *ℚ w) (λ p. step Add s p (add None s p))
+    plus_is None v w s
+    ∙ then_ok (step Mul v w (mul None v w)) (v *ℚ w) (λ p. step Add s p (add None s p))
     (s +ℚ v *ℚ w) (multiplied v w) (added s (v *ℚ w))
 
 pub less_all : (v w s : ℚ) → less_product None v w s ≡ Ok (s -ℚ v *ℚ w)
 less_all v w s =
-    then_ok (step Mul v w (mul None v w)) (v *ℚ w) (λ p. step Sub s p (sub None s p))
+    less_is None v w s
+    ∙ then_ok (step Mul v w (mul None v w)) (v *ℚ w) (λ p. step Sub s p (sub None s p))
     (s -ℚ v *ℚ w) (multiplied v w) (taken s (v *ℚ w))
 
 pub sum_all : (n : ℕ) (f g : ℕ → ℚ) → sum_run None n f g ≡ Ok (sum_below n (λ k. f k *ℚ g k))
@@ -114,12 +119,12 @@ upper_all r = upper_by_all r.kind r.rhs r.range
 pub ordered : (v k : ℚ) → step Cmp v k (compare None v k) ≡ Ok (order v k)
 ordered v k = comes Cmp v k (compare None v k) (order v k) (compare_unlimited v k)
 
-pub not_less_test : (o : Ordering) (v k : ℚ) → order v k ≡ o → k ≤ℚ v → not (is_less o) ≡ true
+pub not_less_test : (o : Ordering) (v k : ℚ) → order v k ≡ o → k ≤ℚ v → not (is_lt o) ≡ true
 not_less_test Less v k e h = clash_ℚ v k ((order_less v k).0 e) h
 not_less_test Equal v k e h = refl
 not_less_test Greater v k e h = refl
 
-pub not_greater_test : (o : Ordering) (v k : ℚ) → order v k ≡ o → v ≤ℚ k → not (is_greater o) ≡ true
+pub not_greater_test : (o : Ordering) (v k : ℚ) → order v k ≡ o → v ≤ℚ k → not (is_gt o) ≡ true
 not_greater_test Less v k e h = refl
 not_greater_test Equal v k e h = refl
 not_greater_test Greater v k e h = clash_ℚ k v ((order_greater v k).0 e) h
@@ -127,13 +132,13 @@ not_greater_test Greater v k e h = clash_ℚ k v ((order_greater v k).0 e) h
 pub least_all : (n : ℕ) (o : Option ℚ) (v : ℚ) → IfSome o (λ k. k ≤ℚ v) → at_least n None o v ≡ Ok tt
 least_all n None v h = refl
 least_all n (Some k) v h =
-    then_ok (step Cmp v k (compare None v k)) (order v k) (λ o. need n (not (is_less o))) tt
+    then_ok (step Cmp v k (compare None v k)) (order v k) (λ o. need n (not (is_lt o))) tt
     (ordered v k) (need_true n _ (not_less_test (order v k) v k refl h))
 
 pub most_all : (n : ℕ) (o : Option ℚ) (v : ℚ) → IfSome o (λ k. v ≤ℚ k) → at_most n None o v ≡ Ok tt
 most_all n None v h = refl
 most_all n (Some k) v h =
-    then_ok (step Cmp v k (compare None v k)) (order v k) (λ o. need n (not (is_greater o))) tt
+    then_ok (step Cmp v k (compare None v k)) (order v k) (λ o. need n (not (is_gt o))) tt
     (ordered v k) (need_true n _ (not_greater_test (order v k) v k refl h))
 
 pub stands_test : (o : Option ℚ) (v : ℚ) → o ≡ Some v → stands_at o v ≡ true

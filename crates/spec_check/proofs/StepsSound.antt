@@ -4,6 +4,7 @@ use Rattle.std.proofs.Common.{Ok, Err, IfSome, Bool, true, false, not, cond, Ord
 use Rattle.std.proofs.Common.{Equal, Greater, refl, sym, ap, ◌∙◌, subst, arith, ⊎_elim}
 use Rattle.std.specs.Prelude.{⊤}
 use Rattle.std.proofs.lemmas.Bool.{cases_lt}
+use Rattle.std.specs.Ordering.{is_lt, is_gt}
 use Rattle.spec_exact.specs.Fraction.{ℚ, 0ℚ, ◌+ℚ◌, ◌-ℚ◌, ◌*ℚ◌, ◌≤ℚ◌, ◌<ℚ◌, lt_ℚ, abs_ℚ}
 use Rattle.spec_exact.specs.Sums.{sum_below}
 use Rattle.spec_exact.specs.Limit.{add, sub, mul, compare, order}
@@ -15,16 +16,18 @@ use Rattle.spec_exact.proofs.Order.{≤ℚ_refl, <ℚ-le, lt_test, not_lt_test}
 use Rattle.spec_exact.proofs.Limit.{add_gives, sub_gives, mul_gives}
 use Rattle.spec_exact.proofs.Compare.{compare_gives, order_less, order_equal, order_greater}
 use Rattle.spec_exact.proofs.Same.{eq_if}
+use Rattle.spec_exact.specs.Run.{◌>>=◌, steps}
 use Rattle.spec_model.specs.declared.parts.Kind.{Kind}
 use Rattle.spec_model.specs.declared.parts.Kind.TheVariants.{L, G, E}
 use Rattle.spec_model.specs.Model.{Model, ExactRow, Limits, limits_by, limits_of, from_to, width}
 use Rattle.spec_model.specs.Model.{height, bounds, limits, row, coefficient, activity, part}
 use Rattle.spec_model.specs.Truth.{IsBetween, IsFeasible}
 use Rattle.spec_check.specs.Checks.{IsTight}
-use Rattle.spec_check.specs.Run.{Run, ◌>>=◌, step, need, each, each_from, plus_product, less_product}
+use Rattle.spec_check.specs.Run.{Run, step, need, each, plus_product, less_product}
 use Rattle.spec_check.specs.Run.{sum_run, some_run, lower_by_run, upper_by_run, lower_run, upper_run}
-use Rattle.spec_check.specs.Run.{is_less, is_greater, at_least, at_most, stands_at, is_tight}
+use Rattle.spec_check.specs.Run.{at_least, at_most, stands_at, is_tight}
 use Rattle.spec_check.specs.Run.{column_within_run, columns_run, activity_run, row_within_run, rows_run}
+use Rattle.spec_check.proofs.Stops.{plus_is, less_is}
 
 -- ---- what a yes came from
 pub after_ok : {A B : Type 0} (o : Run A) (next : A → Run B) (b : B) → (o >>= next) ≡ Ok b →
@@ -55,31 +58,33 @@ each_ok (suc n) f u e i h =
 
 -- each one adds its term
 pub sum_ok : (s : ℚ) (n : ℕ) (f : ℕ → ℚ → Run ℚ) (t : ℕ → ℚ) →
-    ((k : ℕ) (u v : ℚ) → k < n → f k u ≡ Ok v → v ≡ u +ℚ t k) → (v : ℚ) → each_from s n f ≡ Ok v →
+    ((k : ℕ) (u v : ℚ) → k < n → f k u ≡ Ok v → v ≡ u +ℚ t k) → (v : ℚ) → steps n f s ≡ Ok v →
     v ≡ s +ℚ sum_below n t
 sum_ok s zero f t h v e = sym (ok_same s v e) ∙ sym (+ℚ_zero s)
 sum_ok s (suc n) f t h v e =
-    let a = after_ok (each_from s n f) (λ u. f n u) v e in
+    let a = after_ok (steps n f s) (λ u. f n u) v e in
     h n a.0 v (omega arith) a.2 ∙ ap (λ u. u +ℚ t n) (sum_ok s n f t (λ k u w p. h k u w (omega (arith, p))) a.0 a.1)
     ∙ +ℚ_assoc s (sum_below n t) (t n)
 
 -- each one was reached
-pub some_ok_at : (s : ℚ) (n : ℕ) (f : ℕ → ℚ → Run ℚ) (v : ℚ) → each_from s n f ≡ Ok v → (k : ℕ) → k < n →
+pub some_ok_at : (s : ℚ) (n : ℕ) (f : ℕ → ℚ → Run ℚ) (v : ℚ) → steps n f s ≡ Ok v → (k : ℕ) → k < n →
     (u : ℚ) × (w : ℚ) × (f k u ≡ Ok w)
 some_ok_at s zero f v e k h = absurd (let z : ⊥ = omega (arith, h) in z)
 some_ok_at s (suc n) f v e k h =
-    let a = after_ok (each_from s n f) (λ u. f n u) v e in
+    let a = after_ok (steps n f s) (λ u. f n u) v e in
     last k n h (λ p. some_ok_at s n f a.0 a.1 k p) (λ p. (a.0, v, subst (λ j. f j a.0 ≡ Ok v) (sym p) a.2))
 
 pub plus_ok : (limit : Option ℕ) (v w s u : ℚ) → plus_product limit v w s ≡ Ok u → u ≡ s +ℚ v *ℚ w
 plus_ok limit v w s u e =
-    let a = after_ok (step Mul v w (mul limit v w)) (λ p. step Add s p (add limit s p)) u e in
+    let a =
+    after_ok (step Mul v w (mul limit v w)) (λ p. step Add s p (add limit s p)) u (sym (plus_is limit v w s) ∙ e) in
     add_gives limit s a.0 u (step_ok Add s a.0 (add limit s a.0) u a.2)
     ∙ ap (λ p. s +ℚ p) (mul_gives limit v w a.0 (step_ok Mul v w (mul limit v w) a.0 a.1))
 
 pub less_ok : (limit : Option ℕ) (v w s u : ℚ) → less_product limit v w s ≡ Ok u → u ≡ s -ℚ v *ℚ w
 less_ok limit v w s u e =
-    let a = after_ok (step Mul v w (mul limit v w)) (λ p. step Sub s p (sub limit s p)) u e in
+    let a =
+    after_ok (step Mul v w (mul limit v w)) (λ p. step Sub s p (sub limit s p)) u (sym (less_is limit v w s) ∙ e) in
     sub_gives limit s a.0 u (step_ok Sub s a.0 (sub limit s a.0) u a.2)
     ∙ ap (λ p. s -ℚ p) (mul_gives limit v w a.0 (step_ok Mul v w (mul limit v w) a.0 a.1))
 
@@ -138,22 +143,22 @@ pub upper_ok : (limit : Option ℕ) (r : ExactRow) (l : Option ℚ) → upper_ru
 upper_ok limit r l e = upper_by_ok limit r.kind r.rhs r.range l e
 
 -- ---- comparisons
-pub least_from : (o : Ordering) (v k : ℚ) → o ≡ order v k → not (is_less o) ≡ true → k ≤ℚ v
+pub least_from : (o : Ordering) (v k : ℚ) → o ≡ order v k → not (is_lt o) ≡ true → k ≤ℚ v
 least_from Less v k e t = cc
 least_from Equal v k e t = subst (λ z. k ≤ℚ z) (sym ((order_equal v k).0 (sym e))) (≤ℚ_refl k)
 least_from Greater v k e t = <ℚ-le k v ((order_greater v k).0 (sym e))
 
-pub most_from : (o : Ordering) (v k : ℚ) → o ≡ order v k → not (is_greater o) ≡ true → v ≤ℚ k
+pub most_from : (o : Ordering) (v k : ℚ) → o ≡ order v k → not (is_gt o) ≡ true → v ≤ℚ k
 most_from Less v k e t = <ℚ-le v k ((order_less v k).0 (sym e))
 most_from Equal v k e t = subst (λ z. v ≤ℚ z) ((order_equal v k).0 (sym e)) (≤ℚ_refl v)
 most_from Greater v k e t = cc
 
-pub less_from : (o : Ordering) (v k : ℚ) → o ≡ order v k → is_less o ≡ true → v <ℚ k
+pub less_from : (o : Ordering) (v k : ℚ) → o ≡ order v k → is_lt o ≡ true → v <ℚ k
 less_from Less v k e t = (order_less v k).0 (sym e)
 less_from Equal v k e t = cc
 less_from Greater v k e t = cc
 
-pub greater_from : (o : Ordering) (v k : ℚ) → o ≡ order v k → is_greater o ≡ true → k <ℚ v
+pub greater_from : (o : Ordering) (v k : ℚ) → o ≡ order v k → is_gt o ≡ true → k <ℚ v
 greater_from Less v k e t = cc
 greater_from Equal v k e t = cc
 greater_from Greater v k e t = (order_greater v k).0 (sym e)
@@ -165,15 +170,15 @@ pub at_least_ok : (n : ℕ) (limit : Option ℕ) (o : Option ℚ) (v : ℚ) (u :
     IfSome o (λ k. k ≤ℚ v)
 at_least_ok n limit None v u e = tt
 at_least_ok n limit (Some k) v u e =
-    let a = after_ok (step Cmp v k (compare limit v k)) (λ o. need n (not (is_less o))) u e in
-    least_from a.0 v k (compared limit v k a.0 a.1) (need_ok n (not (is_less a.0)) u a.2)
+    let a = after_ok (step Cmp v k (compare limit v k)) (λ o. need n (not (is_lt o))) u e in
+    least_from a.0 v k (compared limit v k a.0 a.1) (need_ok n (not (is_lt a.0)) u a.2)
 
 pub at_most_ok : (n : ℕ) (limit : Option ℕ) (o : Option ℚ) (v : ℚ) (u : ⊤) → at_most n limit o v ≡ Ok u →
     IfSome o (λ k. v ≤ℚ k)
 at_most_ok n limit None v u e = tt
 at_most_ok n limit (Some k) v u e =
-    let a = after_ok (step Cmp v k (compare limit v k)) (λ o. need n (not (is_greater o))) u e in
-    most_from a.0 v k (compared limit v k a.0 a.1) (need_ok n (not (is_greater a.0)) u a.2)
+    let a = after_ok (step Cmp v k (compare limit v k)) (λ o. need n (not (is_gt o))) u e in
+    most_from a.0 v k (compared limit v k a.0 a.1) (need_ok n (not (is_gt a.0)) u a.2)
 
 pub stands_from : (o : Option ℚ) (v : ℚ) → stands_at o v ≡ true → o ≡ Some v
 stands_from None v e = cc

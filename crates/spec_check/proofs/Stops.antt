@@ -1,31 +1,22 @@
--- Runs over places in order: a stop at a place stays so at the places after it.
-use Rattle.std.proofs.Common.{◌≡◌, ℕ, zero, suc, ◌+◌, ◌-◌, ◌<◌, Ok, Err, subst, ap, ◌∙◌, arith}
+-- Two operations are steps one after the other, and a stop at a place stops the run over the places.
+use Rattle.std.proofs.Common.{◌≡◌, ℕ, ◌<◌, Option, Ok, Err}
 use Rattle.std.specs.Prelude.{⊤}
 use Rattle.spec_exact.specs.Fraction.{ℚ}
+use Rattle.spec_exact.specs.Limit.{add, sub, mul}
+use Rattle.spec_exact.specs.declared.past.Op.TheVariants.{Add, Sub, Mul}
+use Rattle.spec_exact.specs.Run.{◌>>=◌, product_run, sum_run, difference_run}
+use Rattle.spec_exact.proofs.Stops.{refused_then, steps_stop}
 use Rattle.spec_check.specs.declared.certificate.CheckStop.{CheckStop}
-use Rattle.spec_check.specs.Run.{Run, ◌>>=◌, each, each_from}
+use Rattle.spec_check.specs.declared.certificate.CheckStop.TheVariants as stop
+use Rattle.spec_check.specs.Run.{Run, step, each, plus_product, less_product}
 
-each_stays : (n d : ℕ) (f : ℕ → Run ⊤) (e : CheckStop ℚ) → each n f ≡ Err e → each (n + d) f ≡ Err e
-each_stays n zero f e h = (let z : n + 0 ≡ n = omega arith in ap (λ k. each k f) z) ∙ h
-each_stays n (suc d) f e h =
-    (let z : n + suc d ≡ suc (n + d) = omega arith in ap (λ k. each k f) z)
-    ∙ ap (λ o. o >>= λ _. f (n + d)) (each_stays n d f e h)
+pub plus_is : (limit : Option ℕ) (v w s : ℚ) →
+    plus_product limit v w s ≡ (step Mul v w (mul limit v w) >>= λ p. step Add s p (add limit s p))
+plus_is limit v w s = refused_then stop.Past (product_run limit v w) (sum_run limit s)
 
-from_stays : (s : ℚ) (n d : ℕ) (f : ℕ → ℚ → Run ℚ) (e : CheckStop ℚ) → each_from s n f ≡ Err e →
-    each_from s (n + d) f ≡ Err e
-from_stays s n zero f e h = (let z : n + 0 ≡ n = omega arith in ap (λ k. each_from s k f) z) ∙ h
-from_stays s n (suc d) f e h =
-    (let z : n + suc d ≡ suc (n + d) = omega arith in ap (λ k. each_from s k f) z)
-    ∙ ap (λ o. o >>= λ t. f (n + d) t) (from_stays s n d f e h)
+pub less_is : (limit : Option ℕ) (v w s : ℚ) →
+    less_product limit v w s ≡ (step Mul v w (mul limit v w) >>= λ p. step Sub s p (sub limit s p))
+less_is limit v w s = refused_then stop.Past (product_run limit v w) (difference_run limit s)
 
--- a stop at place k stops the run over n places
 pub each_stops : (k n : ℕ) (f : ℕ → Run ⊤) (e : CheckStop ℚ) → k < n → each k f ≡ Ok tt → f k ≡ Err e → each n f ≡ Err e
-each_stops k n f e p h g =
-    subst (λ i. each i f ≡ Err e) (let z : suc k + (n - suc k) ≡ n = omega arith in z)
-    (each_stays (suc k) (n - suc k) f e (ap (λ o. o >>= λ _. f k) h ∙ g))
-
-pub from_stops : (s : ℚ) (k n : ℕ) (f : ℕ → ℚ → Run ℚ) (t : ℚ) (e : CheckStop ℚ) → k < n → each_from s k f ≡ Ok t →
-    f k t ≡ Err e → each_from s n f ≡ Err e
-from_stops s k n f t e p h g =
-    subst (λ i. each_from s i f ≡ Err e) (let z : suc k + (n - suc k) ≡ n = omega arith in z)
-    (from_stays s (suc k) (n - suc k) f e (ap (λ o. o >>= λ u. f k u) h ∙ g))
+each_stops k n f e p h g = steps_stop k n (λ i _. f i) tt tt e p h g

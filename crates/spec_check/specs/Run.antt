@@ -1,13 +1,15 @@
 -- The checker's run: the sums and tests of the conditions, in their order, under a limit.
-use Rattle.std.specs.Prelude.{◌≡◌, ◌⊎◌, ℕ, zero, suc, ⊤, List, Option, Some, None}
-use Rattle.std.specs.Prelude.{Result, Ok, Err, Bool, true, false, not, cond, ok_or}
-use Rattle.std.specs.declared.cmp.Ordering.{Ordering}
-use Rattle.std.specs.declared.cmp.Ordering.TheVariants.{Less, Equal, Greater}
+use Rattle.std.specs.Prelude.{◌≡◌, ◌⊎◌, ℕ, ⊤, List, Option, Some, None}
+use Rattle.std.specs.Prelude.{Result, Ok, Err, Bool, true, false, not, cond}
+use Rattle.std.specs.Ordering.{is_lt, is_gt}
 use Rattle.spec_exact.specs.Fraction.{ℚ, 0ℚ, abs_ℚ, lt_ℚ, eq_ℚ}
-use Rattle.spec_exact.specs.Limit.{add, sub, mul, compare}
+use Rattle.spec_exact.specs.Limit.{add, sub, compare}
+use Rattle.spec_exact.specs.Answer.{told}
 use Rattle.spec_exact.specs.declared.past.Op.{Op}
-use Rattle.spec_exact.specs.declared.past.Op.TheVariants.{Add, Sub, Mul, Cmp}
+use Rattle.spec_exact.specs.declared.past.Op.TheVariants.{Add, Sub, Cmp}
 use Rattle.spec_exact.specs.declared.past.Past.{Past}
+use Rattle.spec_exact.specs.Run.{◌>>=◌, refused_as, steps}
+use Rattle.spec_exact.specs.Run as exact
 use Rattle.spec_model.specs.declared.parts.Kind.{Kind}
 use Rattle.spec_model.specs.declared.parts.Kind.TheVariants.{L, G, E}
 use Rattle.spec_model.specs.Model.{Model, ExactRow, Limits, width, height, bounds, row, cost, coefficient, part}
@@ -25,15 +27,9 @@ use Rattle.spec_check.specs.Checks.{signed, turned_limits}
 abbrev pub Run : Type 0 → Type 0
 Run A = Result A (CheckStop ℚ)
 
--- go on with a result
-infixl 1 ◌>>=◌
-abbrev pub ◌>>=◌ : {A B : Type 0} → Run A → (A → Run B) → Run B
-(Ok a) >>= next = next a
-(Err e) >>= next = Err e
-
 -- an operation, or its refusal
 abbrev pub step : {A : Type 0} → Op → ℚ → ℚ → Option A → Run A
-step op v w answer = ok_or answer (stop.Past (record { op = op; a = v; b = w }))
+step op v w answer = refused_as stop.Past (told op v w answer)
 
 -- condition n asks that the test holds
 abbrev pub need : ℕ → Bool → Run ⊤
@@ -42,24 +38,18 @@ need n false = Err (stop.No n)
 
 -- f 0, f 1 .. f (n - 1)
 abbrev pub each : ℕ → (ℕ → Run ⊤) → Run ⊤
-each zero f = Ok tt
-each (suc n) f = each n f >>= λ _. f n
-
--- the same, with a number that each of them changes
-abbrev pub each_from : ℚ → ℕ → (ℕ → ℚ → Run ℚ) → Run ℚ
-each_from s zero f = Ok s
-each_from s (suc n) f = each_from s n f >>= λ t. f n t
+each n f = steps n (λ k _. f k) tt
 
 -- s and v * w more, or less
 abbrev pub plus_product : Option ℕ → ℚ → ℚ → ℚ → Run ℚ
-plus_product limit v w s = step Mul v w (mul limit v w) >>= λ p. step Add s p (add limit s p)
+plus_product limit v w s = refused_as stop.Past (exact.plus_product limit v w s)
 
 abbrev pub less_product : Option ℕ → ℚ → ℚ → ℚ → Run ℚ
-less_product limit v w s = step Mul v w (mul limit v w) >>= λ p. step Sub s p (sub limit s p)
+less_product limit v w s = refused_as stop.Past (exact.less_product limit v w s)
 
 -- a sum of products
 abbrev pub sum_run : Option ℕ → ℕ → (ℕ → ℚ) → (ℕ → ℚ) → Run ℚ
-sum_run limit n f g = each_from 0ℚ n (λ k s. plus_product limit (f k) (g k) s)
+sum_run limit n f g = steps n (λ k s. plus_product limit (f k) (g k) s) 0ℚ
 
 -- ---- a row's limits, each by one operation where the range asks for it
 abbrev pub some_run : Run ℚ → Run (Option ℚ)
@@ -86,24 +76,14 @@ abbrev pub upper_run : Option ℕ → ExactRow → Run (Option ℚ)
 upper_run limit r = upper_by_run limit r.kind r.rhs r.range
 
 -- ---- tests
-abbrev pub is_less : Ordering → Bool
-is_less Less = true
-is_less Equal = false
-is_less Greater = false
-
-abbrev pub is_greater : Ordering → Bool
-is_greater Less = false
-is_greater Equal = false
-is_greater Greater = true
-
 -- v is at least, and at most, a limit
 abbrev pub at_least : ℕ → Option ℕ → Option ℚ → ℚ → Run ⊤
 at_least n limit None v = Ok tt
-at_least n limit (Some k) v = step Cmp v k (compare limit v k) >>= λ o. need n (not (is_less o))
+at_least n limit (Some k) v = step Cmp v k (compare limit v k) >>= λ o. need n (not (is_lt o))
 
 abbrev pub at_most : ℕ → Option ℕ → Option ℚ → ℚ → Run ⊤
 at_most n limit None v = Ok tt
-at_most n limit (Some k) v = step Cmp v k (compare limit v k) >>= λ o. need n (not (is_greater o))
+at_most n limit (Some k) v = step Cmp v k (compare limit v k) >>= λ o. need n (not (is_gt o))
 
 -- the limit is there, and is v
 abbrev pub stands_at : Option ℚ → ℚ → Bool
@@ -136,7 +116,7 @@ rows_run limit m x = each (height m) (row_within_run limit m x)
 -- ---- complementary multipliers: conditions 3 and 4
 abbrev pub reduced_run : Option ℕ → Model → List ℚ → ℕ → Run ℚ
 reduced_run limit m y j =
-    each_from (signed m.sense (cost m j)) (height m) (λ i d. less_product limit (part y i) (coefficient m i j) d)
+    steps (height m) (λ i d. less_product limit (part y i) (coefficient m i j) d) (signed m.sense (cost m j))
 
 abbrev pub column_tight_run : Option ℕ → Model → List ℚ → List ℚ → ℕ → Run ⊤
 column_tight_run limit m x y j = reduced_run limit m y j >>= λ d. need 3 (is_tight (bounds m j) d (part x j))
@@ -187,22 +167,22 @@ abbrev pub column_gives_run : Option ℕ → Model → List ℚ → ℕ → ℚ 
 column_gives_run limit m y j s = priced_run limit m y j >>= λ g. weighed 2 limit (turned_limits (bounds m j)) g s
 
 abbrev pub rows_ask_run : Option ℕ → Model → List ℚ → Run ℚ
-rows_ask_run limit m y = each_from 0ℚ (height m) (row_asks_run limit m y)
+rows_ask_run limit m y = steps (height m) (row_asks_run limit m y) 0ℚ
 
 abbrev pub columns_give_run : Option ℕ → Model → List ℚ → Run ℚ
-columns_give_run limit m y = each_from 0ℚ (width m) (column_gives_run limit m y)
+columns_give_run limit m y = steps (width m) (column_gives_run limit m y) 0ℚ
 
 abbrev pub infeasible_run : Option ℕ → Model → List ℚ → Run (Known ℚ)
 infeasible_run limit m y =
     rows_ask_run limit m y >>= λ asked. columns_give_run limit m y >>= λ given.
-    step Cmp given asked (compare limit given asked) >>= λ o. need 3 (is_less o) >>= λ _. Ok known.Infeasible
+    step Cmp given asked (compare limit given asked) >>= λ o. need 3 (is_lt o) >>= λ _. Ok known.Infeasible
 
 -- ---- a column whose lower bound is above its upper bound
 
 abbrev pub crossed_run : Option ℕ → Option ℚ → Option ℚ → Run ⊤
 crossed_run limit None upper = Err (stop.No 1)
 crossed_run limit (Some l) None = Err (stop.No 1)
-crossed_run limit (Some l) (Some u) = step Cmp l u (compare limit l u) >>= λ o. need 1 (is_greater o)
+crossed_run limit (Some l) (Some u) = step Cmp l u (compare limit l u) >>= λ o. need 1 (is_gt o)
 
 abbrev pub clash_run : Option ℕ → Model → ℕ → Run (Known ℚ)
 clash_run limit m j = crossed_run limit (bounds m j).lower (bounds m j).upper >>= λ _. Ok known.Infeasible

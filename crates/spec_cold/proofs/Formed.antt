@@ -13,7 +13,7 @@ use Rattle.spec_model.specs.Model.{height, row, column, bounds, cost}
 use Rattle.spec_check.specs.Checks.{signed, ChecksClash}
 use Rattle.spec_simplex.specs.declared.ends.FormFault.{FormFault}
 use Rattle.spec_simplex.specs.declared.ends.FormFault.TheVariants as fault
-use Rattle.spec_simplex.specs.Run.{Run, ◌>>=◌, refused_as, order_run, steps, list_run}
+use Rattle.spec_exact.specs.Run.{Run, ◌>>=◌, refused_as, order_run, steps, list_run}
 use Rattle.spec_simplex.specs.Form.{Form, form_cost, limits_run}
 use Rattle.spec_simplex.specs.Form.{clash_by, bounds_clash, column_clash, least_cost, formed, form_of}
 use Rattle.spec_path.proofs.Runs.{refused_ok, order_ok}

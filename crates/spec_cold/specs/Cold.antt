@@ -18,7 +18,7 @@ use Rattle.spec_simplex.specs.declared.ends.PrimalEnd.{PrimalEnd}
 use Rattle.spec_simplex.specs.declared.ends.PrimalEnd.TheVariants.{Optimal, Unbounded}
 use Rattle.spec_simplex.specs.declared.ends.RunStop.{RunStop as Spending}
 use Rattle.spec_simplex.specs.declared.ends.RunStop.TheVariants as stop
-use Rattle.spec_simplex.specs.Run.{made}
+use Rattle.spec_exact.specs.Run.{made}
 use Rattle.spec_simplex.specs.Form.{Form, form_of}
 use Rattle.spec_simplex.specs.Tableau.{Tableau, form_columns, basic_at, entry_at}
 use Rattle.spec_simplex.specs.Tableau.{value_at, reduced_at, status_at, is_basic}

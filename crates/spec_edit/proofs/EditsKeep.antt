@@ -5,6 +5,7 @@ use Rattle.std.proofs.lemmas.Bool.{not-false}
 use Rattle.spec_exact.specs.Fraction.{ℚ, neg_ℚ}
 use Rattle.spec_exact.specs.Narrow.{IsNarrow, widest}
 use Rattle.spec_exact.specs.Quotients.{abs-neg_ℤ}
+use Rattle.spec_exact.proofs.Narrow.{neg_narrow}
 use Rattle.spec_model.specs.Model.{Model, Name, ExactRow, height}
 use Rattle.spec_model.specs.Kept.{IsModel, IsNarrowRow, is_row_name, row_limit}
 use Rattle.spec_edit.specs.declared.edit.Edit.TheVariants.{AddRow, DelRow, AddCol, DelCol, SetCost}
@@ -26,10 +27,6 @@ new_row-kept m n r k narrow h =
     let c = test_ok (leb row_limit (height m)) _ _ n b.1 in
     subst IsModel (same_ok (with_row m r) n c.1)
     (with_row-kept m r k (leb-false row_limit (height m) c.0) (not-false (is_row_name r.name) a.0) b.0 narrow)
-
-neg_narrow : (q : ℚ) → IsNarrow q → IsNarrow (neg_ℚ q)
-unfolding neg_ℚ
-neg_narrow q h = record { top = subst (λ k. k ≤ widest) (sym (abs-neg_ℤ q.num)) h.top; bottom = h.bottom }
 
 right_side-kept : (m n : Model) (name : Name) (v : ℚ) → IsModel m → IsNarrow v → with_right_side m name v ≡ Ok n →
     IsModel n

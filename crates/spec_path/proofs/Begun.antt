@@ -19,7 +19,7 @@ use Rattle.spec_pivot.proofs.Pivot.{by_eq, delta_other, sum_below-delta}
 use Rattle.spec_simplex.specs.declared.ends.RowStart.{RowStart}
 use Rattle.spec_simplex.specs.declared.ends.RowStart.TheVariants.{Within, Below, Above}
 use Rattle.spec_simplex.specs.Form.{Form, form_entry, form_lower, form_upper}
-use Rattle.spec_simplex.specs.Run.{list_run}
+use Rattle.spec_exact.specs.Run.{list_run}
 use Rattle.spec_simplex.specs.Start.{first_status, first_value, row_start, logical_status, logical_value}
 use Rattle.spec_simplex.specs.Start.{logical_sign, structural_entry, artificial_status, artificial_value}
 use Rattle.spec_simplex.specs.Start.{artificial_upper, is_wanting, start_at, one_at, start_entry}
@@ -27,7 +27,7 @@ use Rattle.spec_simplex.specs.Start.{start_basic, start_value, start_status, sta
 use Rattle.spec_simplex.specs.Start.{with_reduced, cost_at, first_cost, first_costs, priced_run, start_of}
 use Rattle.spec_simplex.specs.Tableau.{Tableau, basic_at, entry_at, value_at, reduced_at}
 use Rattle.spec_simplex.specs.Tableau.{status_at, lower_at, upper_at, or_zero, stand}
-use Rattle.spec_simplex.proofs.Stops.{length-made}
+use Rattle.spec_exact.proofs.Stops.{length-made}
 use Rattle.spec_path.specs.Tables.{bounds_of, IsWhole, KeepsBounds, IsTableauOf, IsWithinBounds}
 use Rattle.spec_path.specs.Begins.{form_rows, signs_of, IsProper, Begins}
 use Rattle.spec_path.proofs.Runs.{then_ok, IsListOf, list_ok, get_or-made}

@@ -18,7 +18,7 @@ use Rattle.spec_pivot.specs.Simplex.{Bounds}
 use Rattle.spec_pivot.proofs.Pivot.{by_eq}
 use Rattle.spec_simplex.specs.declared.ends.FormFault.{FormFault}
 use Rattle.spec_simplex.specs.declared.ends.FormFault.TheVariants as fault
-use Rattle.spec_simplex.specs.Run.{◌>>=◌, refused_as, order_run, steps, list_run}
+use Rattle.spec_exact.specs.Run.{◌>>=◌, refused_as, order_run, steps, list_run}
 use Rattle.spec_simplex.specs.Form.{Form, form_entry, form_lower, form_upper, form_cost, limits_run}
 use Rattle.spec_simplex.specs.Form.{clash_by, bounds_clash, column_clash, least_cost, formed, form_of}
 use Rattle.spec_path.specs.Begins.{IsProper}

@@ -12,7 +12,7 @@ use Rattle.spec_pivot.proofs.Unique.{apart}
 use Rattle.spec_pivot.proofs.Kept.{outside}
 use Rattle.spec_pivot.proofs.Ray.{ray_basic, ray_still}
 use Rattle.spec_pivot.proofs.Values.{by_basic}
-use Rattle.spec_simplex.specs.Run.{less_product}
+use Rattle.spec_exact.specs.Run.{less_product}
 use Rattle.spec_simplex.specs.Tableau.{Tableau, all_columns, basic_at, entry_at, value_at}
 use Rattle.spec_simplex.specs.Step.{is_place, moved_at, moved_run}
 use Rattle.spec_path.specs.Tables.{table_of, IsWhole}

@@ -5,7 +5,7 @@ use Rattle.std.specs.declared.cmp.Ordering.TheVariants.{Less, Equal, Greater}
 use Rattle.spec_exact.specs.Fraction.{ℚ, ◌<ℚ◌}
 use Rattle.spec_exact.specs.Limit.{order}
 use Rattle.spec_exact.proofs.Compare.{order_less, order_equal, order_greater}
-use Rattle.spec_simplex.specs.Run.{Run, ◌>>=◌, order_run}
+use Rattle.spec_exact.specs.Run.{Run, ◌>>=◌, order_run}
 use Rattle.spec_path.proofs.Runs.{then_ok, order_ok}
 
 pub by_order : {B : Type 0} (limit : Option ℕ) (v w : ℚ) (k : Ordering → Run B) (b : B) (P : Type 0) →

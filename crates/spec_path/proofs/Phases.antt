@@ -16,7 +16,7 @@ use Rattle.spec_simplex.specs.declared.ends.RowStart.{RowStart}
 use Rattle.spec_simplex.specs.declared.ends.RunStop.{RunStop}
 use Rattle.spec_simplex.specs.declared.ends.RunStop.TheVariants as stop
 use Rattle.spec_simplex.specs.Form.{Form, formed}
-use Rattle.spec_simplex.specs.Run.{◌>>=◌, refused_as}
+use Rattle.spec_exact.specs.Run.{◌>>=◌, refused_as}
 use Rattle.spec_simplex.specs.Start.{cost_at, first_costs, start_of}
 use Rattle.spec_simplex.specs.Tableau.{Tableau, is_artificial, basic_at, value_at, lower_at, upper_at}
 use Rattle.spec_simplex.specs.Phases.{PrimalEnded, wants_phase_one, is_stuck, phase_one, phase_two}

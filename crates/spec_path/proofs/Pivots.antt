@@ -13,7 +13,7 @@ use Rattle.spec_pivot.specs.Simplex.{Bounds, Table, IsTableau, sign, moved, stat
 use Rattle.spec_pivot.proofs.Pivot.{by_eq, pivot_row_zero}
 use Rattle.spec_pivot.proofs.Kept.{outside}
 use Rattle.spec_pivot.proofs.Ray.{ray_at}
-use Rattle.spec_simplex.specs.Run.{sum_run, less_product}
+use Rattle.spec_exact.specs.Run.{sum_run, less_product}
 use Rattle.spec_simplex.specs.Tableau.{Tableau, form_columns, all_columns, is_artificial, at_place, basic_at}
 use Rattle.spec_simplex.specs.Tableau.{entry_at, value_at, reduced_at, status_at, lower_at, upper_at, stand}
 use Rattle.spec_simplex.specs.Step.{moved_run, shifted_run, turned_run, repriced_run}

@@ -9,7 +9,7 @@ use Rattle.spec_exact.proofs.Sums.{sum_below_same, sum_below_none, exchange}
 use Rattle.spec_pivot.specs.Tableau.{Matrix, Spans, IsUnit}
 use Rattle.spec_pivot.specs.Simplex.{AgreesWith}
 use Rattle.spec_pivot.proofs.Unique.{weight}
-use Rattle.spec_simplex.specs.Run.{less_product}
+use Rattle.spec_exact.specs.Run.{less_product}
 use Rattle.spec_simplex.specs.Start.{cost_at, reduced_run, priced_run}
 use Rattle.spec_simplex.specs.Tableau.{Tableau, all_columns, basic_at, entry_at}
 use Rattle.spec_path.proofs.Runs.{less_ok, steps_ok, IsListOf, list_ok}

@@ -11,8 +11,8 @@ use Rattle.spec_exact.specs.declared.past.Past.{Past}
 use Rattle.spec_exact.proofs.Limit.{add_gives, sub_gives, mul_gives, div_gives, add_unlimited}
 use Rattle.spec_exact.proofs.Limit.{sub_unlimited, mul_unlimited, div_unlimited}
 use Rattle.spec_exact.proofs.Compare.{compare_gives, compare_unlimited}
-use Rattle.spec_simplex.specs.Run.{Run, ◌>>=◌, refused_as, sum_run, difference_run, product_run}
-use Rattle.spec_simplex.specs.Run.{quotient_run, order_run, plus_product, less_product, steps, list_run}
+use Rattle.spec_exact.specs.Run.{Run, ◌>>=◌, refused_as, sum_run, difference_run, product_run}
+use Rattle.spec_exact.specs.Run.{quotient_run, order_run, plus_product, less_product, steps, list_run}
 
 -- by which errors are refusals
 pub record Agrees {A E : Type 0} (kind : Past ℚ → E) (o u : Result A E) : Type 0 where

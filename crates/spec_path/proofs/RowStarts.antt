@@ -6,7 +6,7 @@ use Rattle.spec_exact.proofs.Order.{≤ℚ_refl, <ℚ-le}
 use Rattle.spec_simplex.specs.declared.ends.RowStart.{RowStart}
 use Rattle.spec_simplex.specs.declared.ends.RowStart.TheVariants.{Within, Below, Above}
 use Rattle.spec_simplex.specs.Form.{Form, form_entry, form_lower, form_upper}
-use Rattle.spec_simplex.specs.Run.{Run, ◌>>=◌, difference_run, plus_product}
+use Rattle.spec_exact.specs.Run.{Run, ◌>>=◌, difference_run, plus_product}
 use Rattle.spec_simplex.specs.Start.{first_value, row_sum, below_by, below_run, above_by}
 use Rattle.spec_simplex.specs.Start.{above_run, within_or_above, row_start_by, row_start}
 use Rattle.spec_path.proofs.Orders.{by_order, given}

@@ -15,9 +15,9 @@ use Rattle.spec_exact.specs.declared.past.Past.{Past}
 use Rattle.spec_exact.proofs.Limit.{add_gives, sub_gives, mul_gives, div_gives}
 use Rattle.spec_exact.proofs.Compare.{compare_gives}
 use Rattle.spec_pivot.proofs.Pivot.{by_eq}
-use Rattle.spec_simplex.specs.Run.{Run, ◌>>=◌, refused_as, sum_run, difference_run, product_run, quotient_run}
-use Rattle.spec_simplex.specs.Run.{order_run, plus_product, less_product, steps, list_run, made}
-use Rattle.spec_simplex.proofs.Stops.{length-made}
+use Rattle.spec_exact.specs.Run.{Run, ◌>>=◌, refused_as, sum_run, difference_run, product_run, quotient_run}
+use Rattle.spec_exact.specs.Run.{order_run, plus_product, less_product, steps, list_run, made}
+use Rattle.spec_exact.proofs.Stops.{length-made}
 
 -- ---- one after the other
 pub then_ok : {A B E : Type 0} (o : Result A E) (f : A → Result B E) (b : B) → (o >>= f) ≡ Ok b →

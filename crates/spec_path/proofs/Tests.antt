@@ -19,7 +19,7 @@ use Rattle.spec_pivot.proofs.Kept.{j_outside}
 use Rattle.spec_pivot.proofs.Ray.{ray_basic}
 use Rattle.spec_simplex.specs.declared.ends.Entering.{Entering}
 use Rattle.spec_simplex.specs.declared.ends.Best.{Best}
-use Rattle.spec_simplex.specs.Run.{difference_run, quotient_run, order_run, steps}
+use Rattle.spec_exact.specs.Run.{difference_run, quotient_run, order_run, steps}
 use Rattle.spec_simplex.specs.Tableau.{Tableau, form_columns, all_columns, basic_at}
 use Rattle.spec_simplex.specs.Tableau.{entry_at, value_at, lower_at, upper_at, or_zero}
 use Rattle.spec_simplex.specs.Step.{directed, other_bound, range_run, rise_run, fall_run, gap_run}

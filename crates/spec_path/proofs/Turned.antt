@@ -7,7 +7,7 @@ use Rattle.spec_exact.specs.Fraction.{ℚ, 0ℚ, ◌-ℚ◌, ◌*ℚ◌, inverse
 use Rattle.spec_exact.proofs.Ruleset.{ring}
 use Rattle.spec_pivot.specs.Tableau.{Matrix, pivot_row, pivoted}
 use Rattle.spec_pivot.proofs.Pivot.{by_eq, pivoted_at, pivoted_off, kept}
-use Rattle.spec_simplex.specs.Run.{◌>>=◌, less_product, quotient_run, steps, list_run}
+use Rattle.spec_exact.specs.Run.{◌>>=◌, less_product, quotient_run, steps, list_run}
 use Rattle.spec_simplex.specs.Tableau.{at_place}
 use Rattle.spec_simplex.specs.Step.{scaled_run, cleared_run, turned_run}
 use Rattle.spec_path.proofs.Runs.{then_ok, quotient_ok, less_ok, steps_ok, IsListOf, list_ok}
@@ -66,7 +66,7 @@ module _ (limit : Option ℕ) (m n : ℕ) (rows : List (List ℚ)) (all : length
           })
       go false c h =
           let z : i ≢ p = eqb-false i p c in
-          let f : ℕ → Rattle.spec_simplex.specs.Run.Run ℚ =
+          let f : ℕ → Rattle.spec_exact.specs.Run.Run ℚ =
           (λ k. less_product limit (at_place x i j) (at_place x p k) (at_place x i k)) in
           let o = then_ok (list_run n f) (λ row. Ok (set x i row)) y h in
           let l : IsListOf n f 0ℚ o.0 = list_ok n f 0ℚ o.0 o.1 in

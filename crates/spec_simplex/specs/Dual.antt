@@ -9,7 +9,7 @@ use Rattle.spec_pivot.specs.declared.status.Status.{Status}
 use Rattle.spec_pivot.specs.declared.status.Status.TheVariants.{AtLower, AtUpper}
 use Rattle.spec_simplex.specs.declared.ends.RunStop.{RunStop}
 use Rattle.spec_simplex.specs.declared.ends.RunStop.TheVariants as stop
-use Rattle.spec_simplex.specs.Run.{Run, ◌>>=◌, refused_as, difference_run, quotient_run, order_run, steps}
+use Rattle.spec_exact.specs.Run.{Run, ◌>>=◌, refused_as, difference_run, quotient_run, order_run, steps}
 use Rattle.spec_simplex.specs.Step.{directed, way_by, flip_run, pivot_run}
 use Rattle.spec_simplex.specs.Tableau.{Tableau, all_columns, entry_at, basic_at, value_at}
 use Rattle.spec_simplex.specs.Tableau.{reduced_at, status_at, lower_at, upper_at, is_fixed, stand}

@@ -9,7 +9,7 @@ use Rattle.spec_pivot.specs.declared.status.Status.{Status}
 use Rattle.spec_pivot.specs.declared.status.Status.TheVariants.{Basic, AtLower, AtUpper, AtZero}
 use Rattle.spec_simplex.specs.declared.ends.RowStart.TheVariants.{Within}
 use Rattle.spec_simplex.specs.Form.{Form, form_lower, form_upper}
-use Rattle.spec_simplex.specs.Run.{Run, ◌>>=◌, refused_as, less_product, steps, made}
+use Rattle.spec_exact.specs.Run.{Run, ◌>>=◌, refused_as, less_product, steps, made}
 use Rattle.spec_simplex.specs.Start.{start_entry, priced_run, with_reduced}
 use Rattle.spec_simplex.specs.Step.{turned_run}
 use Rattle.spec_simplex.specs.Tableau.{Tableau, all_columns, at_place, entry_at, basic_at, value_at, status_at, stand}

@@ -1,12 +1,11 @@
 -- Which method the tableau of a basis is fit for, at a limit.
 use Rattle.std.specs.Prelude.{ℕ, zero, suc, Option, Some, None, Ok, Bool, true}
 use Rattle.std.specs.Prelude.{false, not, ◌&&◌, ◌||◌, option_map, if◌then◌else◌}
-use Rattle.std.specs.declared.cmp.Ordering.{Ordering}
-use Rattle.std.specs.declared.cmp.Ordering.TheVariants.{Less, Equal, Greater}
+use Rattle.std.specs.Ordering.{is_lt, is_gt}
 use Rattle.spec_exact.specs.Fraction.{ℚ, 0ℚ, eq_ℚ, lt_ℚ}
 use Rattle.spec_pivot.specs.declared.status.Status.{Status}
 use Rattle.spec_pivot.specs.declared.status.Status.TheVariants.{Basic, AtLower, AtUpper, AtZero}
-use Rattle.spec_simplex.specs.Run.{Run, ◌>>=◌, order_run, steps}
+use Rattle.spec_exact.specs.Run.{Run, ◌>>=◌, order_run, steps}
 use Rattle.spec_simplex.specs.Tableau.{Tableau, all_columns, value_at, reduced_at}
 use Rattle.spec_simplex.specs.Tableau.{status_at, lower_at, upper_at, is_fixed, is_basic}
 use Rattle.spec_simplex.specs.declared.ends.Fit.{Fit}
@@ -14,23 +13,13 @@ use Rattle.spec_simplex.specs.declared.ends.Fit.TheVariants.{Primal, Dual, Unfit
 use Rattle.spec_simplex.specs.declared.ends.Leaving.{Leaving}
 
 -- ---- the first basic column that is outside its bounds
-abbrev pub is_less : Ordering → Bool
-is_less Less = true
-is_less Equal = false
-is_less Greater = false
-
-abbrev pub is_greater : Ordering → Bool
-is_greater Less = false
-is_greater Equal = false
-is_greater Greater = true
-
 abbrev pub below_lower : Option ℕ → Option ℚ → ℚ → Run Bool
 below_lower limit None v = Ok false
-below_lower limit (Some l) v = order_run limit v l >>= λ o. Ok (is_less o)
+below_lower limit (Some l) v = order_run limit v l >>= λ o. Ok (is_lt o)
 
 abbrev pub above_upper : Option ℕ → Option ℚ → ℚ → Run Bool
 above_upper limit None v = Ok false
-above_upper limit (Some u) v = order_run limit v u >>= λ o. Ok (is_greater o)
+above_upper limit (Some u) v = order_run limit v u >>= λ o. Ok (is_gt o)
 
 -- a value that is below the lower bound is not compared with the upper one
 abbrev pub outside_by : Option ℕ → Option ℚ → ℚ → Bool → Run (Option Bool)

@@ -16,7 +16,7 @@ use Rattle.spec_model.specs.Model.{Model, ExactRow, width, height, row, column, 
 use Rattle.spec_model.specs.Kept.{AreEntries, row_limit, column_limit}
 use Rattle.spec_simplex.specs.declared.ends.FormFault.{FormFault}
 use Rattle.spec_simplex.specs.declared.ends.FormFault.TheVariants as fault
-use Rattle.spec_simplex.specs.Run.{Run, ◌>>=◌, refused_as, sum_run, difference_run, order_run, steps, list_run}
+use Rattle.spec_exact.specs.Run.{Run, ◌>>=◌, refused_as, sum_run, difference_run, order_run, steps, list_run}
 
 pub record Form : Type 0 where
   pub rows : ℕ

@@ -10,7 +10,7 @@ use Rattle.spec_simplex.specs.declared.ends.Choice.{Choice}
 use Rattle.spec_simplex.specs.declared.ends.Choice.TheVariants.{End, Flip, Pivot}
 use Rattle.spec_simplex.specs.declared.ends.RunStop.{RunStop}
 use Rattle.spec_simplex.specs.declared.ends.RunStop.TheVariants as stop
-use Rattle.spec_simplex.specs.Run.{Run, ◌>>=◌, refused_as}
+use Rattle.spec_exact.specs.Run.{Run, ◌>>=◌, refused_as}
 use Rattle.spec_simplex.specs.Tableau.{Tableau, form_columns, is_artificial, value_at}
 use Rattle.spec_simplex.specs.Start.{priced_run, with_reduced, start_of}
 use Rattle.spec_simplex.specs.Step.{choice_run, flip_run, pivot_run}

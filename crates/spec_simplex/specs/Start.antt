@@ -10,8 +10,8 @@ use Rattle.spec_pivot.specs.declared.status.Status.TheVariants.{Basic, AtLower, 
 use Rattle.spec_simplex.specs.Form.{Form, form_entry, form_lower, form_upper}
 use Rattle.spec_simplex.specs.declared.ends.RowStart.{RowStart}
 use Rattle.spec_simplex.specs.declared.ends.RowStart.TheVariants.{Within, Below, Above}
-use Rattle.spec_simplex.specs.Run.{Run, ◌>>=◌, difference_run, order_run}
-use Rattle.spec_simplex.specs.Run.{plus_product, less_product, steps, list_run, made}
+use Rattle.spec_exact.specs.Run.{Run, ◌>>=◌, difference_run, order_run}
+use Rattle.spec_exact.specs.Run.{plus_product, less_product, steps, list_run, made}
 use Rattle.spec_simplex.specs.Tableau.{Tableau, all_columns, basic_at, entry_at, or_zero, stand}
 
 -- ---- the structural columns

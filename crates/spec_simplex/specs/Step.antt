@@ -11,8 +11,8 @@ use Rattle.spec_simplex.specs.declared.ends.Best.{Best}
 use Rattle.spec_simplex.specs.declared.ends.PrimalEnd.TheVariants.{Optimal, Unbounded}
 use Rattle.spec_simplex.specs.declared.ends.Choice.{Choice}
 use Rattle.spec_simplex.specs.declared.ends.Choice.TheVariants.{End, Flip, Pivot}
-use Rattle.spec_simplex.specs.Run.{Run, ◌>>=◌, sum_run, difference_run, quotient_run}
-use Rattle.spec_simplex.specs.Run.{order_run, less_product, steps, list_run}
+use Rattle.spec_exact.specs.Run.{Run, ◌>>=◌, sum_run, difference_run, quotient_run}
+use Rattle.spec_exact.specs.Run.{order_run, less_product, steps, list_run}
 use Rattle.spec_simplex.specs.Tableau.{Tableau, all_columns, at_place, entry_at, basic_at, value_at, reduced_at}
 use Rattle.spec_simplex.specs.Tableau.{status_at, lower_at, upper_at, is_artificial, is_fixed, or_zero, stand}
 

@@ -10,7 +10,13 @@ use Rattle.std.proofs.Math.ListN.{get_or-append}
 use Rattle.std.proofs.Math.Seq.{get_or-append_seam}
 use Rattle.spec_exact.specs.Fraction.{ℚ}
 use Rattle.spec_exact.specs.declared.past.Past.{Past}
-use Rattle.spec_simplex.specs.Run.{Run, ◌>>=◌, steps, list_run, made}
+use Rattle.spec_exact.specs.Run.{Run, ◌>>=◌, refused_as, steps, list_run, made}
+
+-- a refusal as another kind of error, by each of two parts of a run
+pub refused_then : {A B E : Type 0} (kind : Past ℚ → E) (o : Run A) (next : A → Run B) →
+    refused_as kind (o >>= next) ≡ (refused_as kind o >>= λ a. refused_as kind (next a))
+refused_then kind (Ok a) next = refl
+refused_then kind (Err e) next = refl
 
 next_is : (k : ℕ) → k + 1 ≡ suc k
 next_is k = omega arith
