@@ -4,7 +4,7 @@ use Rattle.std.proofs.Common.{sym, ap, subst, ◌∙◌, arith}
 use Rattle.std.proofs.Common.{append-nil}
 use Rattle.std.proofs.lemmas.List.Elements.{All-nil, All-push}
 use Rattle.std.proofs.lemmas.List.Elements.{filter-append}
-use Rattle.spec_simplex.specs.Run.{made}
+use Rattle.spec_exact.specs.Run.{made}
 use Rattle.spec_bas.specs.Written.{chosen}
 
 chosen_suc : (test : ℕ → Bool) (k : ℕ) → chosen (suc k) test ≡ chosen k test ++ cond (test k) (k ∷ []) []

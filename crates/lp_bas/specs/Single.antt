@@ -5,7 +5,7 @@ use Rattle.spec_model.specs.Kept.{column_place}
 use Rattle.spec_pivot.specs.declared.status.Status.TheVariants.{AtUpper}
 use Rattle.spec_simplex.specs.Form.{Form, form_upper}
 use Rattle.spec_bas.specs.declared.fault.BasCode.TheVariants as code
-use Rattle.spec_simplex.specs.Run.{◌>>=◌}
+use Rattle.spec_exact.specs.Run.{◌>>=◌}
 use Rattle.spec_bas.specs.Steps.{State, Check, need, must, is_marked, mark, lower_first}
 use Rattle.lp_bas.specs.declared.marks.Stands.{Stands}
 use Rattle.lp_bas.specs.declared.marks.Stands.TheVariants as stands

@@ -16,9 +16,9 @@ use Rattle.spec_pivot.specs.declared.status.Status.TheVariants.{Basic, AtLower, 
 use Rattle.spec_pivot.specs.Tableau.{Matrix, delta}
 use Rattle.spec_pivot.proofs.Pivot.{by_eq, delta_other, sum_below-delta}
 use Rattle.spec_pivot.proofs.Values.{by_basic}
-use Rattle.spec_simplex.specs.Run.{refused_as}
+use Rattle.spec_exact.specs.Run.{refused_as}
 use Rattle.spec_simplex.specs.Form.{Form}
-use Rattle.spec_simplex.proofs.Stops.{length-made, get_or-made}
+use Rattle.spec_exact.proofs.Stops.{length-made, get_or-made}
 use Rattle.spec_simplex.specs.Tableau.{is_basic}
 use Rattle.spec_path.proofs.Runs.{then_ok, refused_ok, steps_ok}
 use Rattle.spec_path.proofs.Lists.{by_lt}

@@ -14,7 +14,7 @@ use Rattle.spec_pivot.specs.declared.status.Status.{Status}
 use Rattle.spec_pivot.specs.declared.status.Status.TheVariants.{Basic}
 use Rattle.spec_pivot.specs.Tableau.{delta}
 use Rattle.spec_pivot.proofs.Pivot.{delta_same, delta_other}
-use Rattle.spec_simplex.specs.Run.{Run, refused_as, steps}
+use Rattle.spec_exact.specs.Run.{Run, refused_as, steps}
 use Rattle.spec_simplex.specs.Form.{Form}
 use Rattle.spec_simplex.specs.Tableau.{is_basic}
 use Rattle.spec_path.proofs.Runs.{then_ok, refused_ok, steps_ok}

@@ -9,7 +9,7 @@ use Rattle.std.specs.Prelude.{slice_set, Option, Some, None, is_none, unwrap_or,
 use Rattle.std.specs.Prelude.{Err, Bool, true, false, not, ◌&&◌, nat_lt, nat_eq, if◌then◌else◌}
 use Rattle.spec_exact.specs.Fraction.{ℚ, 0ℚ, 1ℚ, neg_ℚ, eq_ℚ}
 use Rattle.spec_pivot.specs.declared.status.Status.{Status}
-use Rattle.spec_simplex.specs.Run.{Run, ◌>>=◌, refused_as, quotient_run, less_product, steps, list_run, made}
+use Rattle.spec_exact.specs.Run.{Run, ◌>>=◌, refused_as, quotient_run, less_product, steps, list_run, made}
 use Rattle.spec_simplex.specs.Form.{Form, form_entry}
 use Rattle.spec_simplex.specs.Start.{one_at}
 use Rattle.spec_simplex.specs.Tableau.{is_basic}

@@ -13,7 +13,7 @@ use Rattle.spec_simplex.specs.declared.ends.Choice.TheVariants.{End, Flip, Pivot
 use Rattle.spec_simplex.specs.declared.ends.RunStop.{RunStop}
 use Rattle.spec_simplex.specs.declared.ends.RunStop.TheVariants as stop
 use Rattle.spec_simplex.specs.Form.{Form}
-use Rattle.spec_simplex.specs.Run.{◌>>=◌, refused_as, list_run, made}
+use Rattle.spec_exact.specs.Run.{◌>>=◌, refused_as, list_run, made}
 use Rattle.spec_simplex.specs.Tableau.{Tableau}
 use Rattle.spec_simplex.specs.Start.{row_start, begun, first_costs}
 use Rattle.spec_simplex.specs.Phases.{PhasesEnd, without_artificials, wants_phase_one, is_stuck}

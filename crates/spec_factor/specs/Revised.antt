@@ -13,7 +13,7 @@ use Rattle.spec_simplex.specs.declared.ends.Choice.TheVariants.{End}
 use Rattle.spec_simplex.specs.declared.ends.RunStop.{RunStop}
 use Rattle.spec_simplex.specs.declared.ends.RunStop.TheVariants as stop
 use Rattle.spec_simplex.specs.Form.{Form}
-use Rattle.spec_simplex.specs.Run.{Run, ◌>>=◌, refused_as, less_product, steps, made}
+use Rattle.spec_exact.specs.Run.{Run, ◌>>=◌, refused_as, less_product, steps, made}
 use Rattle.spec_simplex.specs.Tableau.{Tableau, form_columns, all_columns, is_artificial}
 use Rattle.spec_simplex.specs.Tableau.{basic_at, status_at, lower_at, upper_at, is_fixed}
 use Rattle.spec_simplex.specs.Start.{logical_sign, start_at, cost_at}

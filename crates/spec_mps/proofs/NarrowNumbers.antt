@@ -37,10 +37,6 @@ over_narrow n (suc d) h k =
     let size : unsigned_abs (int_div n (pos g)) ≡ unsigned_abs n / g = abs-int_div n g in
     record { top = subst (λ k. k ≤ widest) (sym size) (omega arith); bottom = omega arith }
 
-pub neg_narrow : (q : ℚ) → IsNarrow q → IsNarrow (neg_ℚ q)
-unfolding neg_ℚ
-neg_narrow q h = record { top = subst (λ k. k ≤ widest) (sym (abs-neg_ℤ q.num)) h.top; bottom = h.bottom }
-
 -- ---- numbers
 
 signed_size : (negative : Bool) (n : ℕ) → unsigned_abs (signed negative n) ≡ n

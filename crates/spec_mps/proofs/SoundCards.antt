@@ -11,6 +11,7 @@ use Rattle.std.proofs.lemmas.List.Quantifiers.{position-Some}
 use Rattle.spec_text.specs.Words.{same}
 use Rattle.spec_exact.specs.Fraction.{ℚ, abs_ℚ, ◌<ℚ◌}
 use Rattle.spec_exact.specs.Narrow.{IsNarrow}
+use Rattle.spec_exact.proofs.Narrow.{neg_narrow}
 use Rattle.spec_model.specs.Model.{Name, ExactRow, ExactColumn, no_row}
 use Rattle.spec_model.specs.Kept.{IsNarrowRow, is_name, is_row_name}
 use Rattle.spec_mps.specs.declared.fault.Code.TheVariants as code
@@ -37,7 +38,7 @@ use Rattle.spec_mps.proofs.CardsDid.{rows_did, PairDid, pairs_keep, column_puts,
 use Rattle.spec_mps.proofs.CardsDid.{Opens, Same, New, columns_did, rhs_did, ranges_did, set_keeps}
 use Rattle.spec_mps.proofs.CardsDid.{BoundDid, UsedBound, SkippedBound, bounds_did}
 use Rattle.spec_mps.proofs.BoundsSet.{SetsAll, card_sets}
-use Rattle.spec_mps.proofs.NarrowNumbers.{neg_narrow, bound_narrow}
+use Rattle.spec_mps.proofs.NarrowNumbers.{bound_narrow}
 use Rattle.spec_mps.proofs.NarrowSoFar.{AreNarrow, in_narrow, more_narrow, new_narrow, entered_narrow}
 use Rattle.spec_mps.proofs.NarrowSoFar.{offset_narrow, row_narrow, bounds_narrow}
 use Rattle.spec_mps.proofs.SoundRows.{SoundRows, with_objective, push_row}

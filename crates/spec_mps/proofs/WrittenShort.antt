@@ -12,6 +12,7 @@ use Rattle.std.proofs.Math.Nat.{div-le_self}
 use borrow.Author.Tests.{leb-true}
 use Rattle.spec_exact.specs.Fraction.{ℚ, 0ℚ, neg_ℚ, eq_ℚ, lt_ℚ}
 use Rattle.spec_exact.specs.Narrow.{IsNarrow, widest}
+use Rattle.spec_exact.proofs.Narrow.{neg_narrow}
 use Rattle.spec_model.specs.declared.parts.Kind.{Kind}
 use Rattle.spec_model.specs.declared.parts.Kind.TheVariants.{L, G, E}
 use Rattle.spec_model.specs.declared.parts.Sense.{Sense}
@@ -34,7 +35,6 @@ use Rattle.spec_mps.proofs.DigitLemmas.{length-last}
 use Rattle.spec_mps.proofs.RoundTrip.{found_place}
 use Rattle.spec_mps.proofs.WrittenNumbers.{number_word}
 use Rattle.spec_mps.proofs.WrittenWords.{is_plain, plain_text}
-use Rattle.spec_mps.proofs.NarrowNumbers.{neg_narrow}
 
 -- ---- lines
 

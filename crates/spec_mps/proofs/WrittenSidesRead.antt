@@ -5,6 +5,7 @@ use Rattle.std.specs.Prelude.{codes}
 use Rattle.spec_exact.specs.Fraction.{ℚ, 0ℚ, neg_ℚ, eq_ℚ}
 use Rattle.spec_exact.proofs.Same.{eq_if}
 use Rattle.spec_exact.proofs.Ruleset.{neg-neg, neg-zero}
+use Rattle.spec_exact.proofs.Narrow.{neg_narrow}
 use Rattle.spec_model.specs.Model.{Model, ExactRow}
 use Rattle.spec_model.specs.Kept.{IsModel, IsNarrowRow}
 use Rattle.spec_mps.specs.declared.style.Style.{Style}
@@ -15,7 +16,6 @@ use Rattle.spec_mps.specs.NumberWritten.{IsWord}
 use Rattle.spec_mps.specs.Reader.{State}
 use Rattle.spec_mps.specs.Sides.{is_used, put_side}
 use Rattle.spec_mps.specs.Written.{number_card, side_cards}
-use Rattle.spec_mps.proofs.NarrowNumbers.{neg_narrow}
 use Rattle.spec_mps.proofs.WrittenSteps.{Goes, bare_row}
 use Rattle.spec_mps.proofs.WrittenRows.{names_of, goes_then}
 use Rattle.spec_mps.proofs.WrittenNames.{row_name_word, fresh_names}

@@ -8,7 +8,7 @@ use Rattle.spec_pivot.specs.Tableau.{Matrix}
 use Rattle.spec_pivot.specs.Simplex.{Bounds, SameStatuses}
 use Rattle.spec_simplex.specs.declared.ends.Choice.{Choice}
 use Rattle.spec_simplex.specs.declared.ends.Choice.TheVariants.{End, Flip, Pivot}
-use Rattle.spec_simplex.specs.Run.{difference_run}
+use Rattle.spec_exact.specs.Run.{difference_run}
 use Rattle.spec_simplex.specs.Tableau.{Tableau, all_columns, basic_at, status_at, lower_at, upper_at, or_zero}
 use Rattle.spec_simplex.specs.Step.{directed, other_bound, moved_run, flip_way, flipped, flip_run}
 use Rattle.spec_simplex.specs.Step.{shifted_run, turned_run, repriced_run, exchanged, turned, pivot_run}

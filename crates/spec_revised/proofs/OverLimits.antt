@@ -11,7 +11,7 @@ use Rattle.spec_simplex.specs.declared.ends.Choice.TheVariants.{End, Flip, Pivot
 use Rattle.spec_simplex.specs.declared.ends.RunStop.{RunStop}
 use Rattle.spec_simplex.specs.declared.ends.RunStop.TheVariants as stop
 use Rattle.spec_simplex.specs.Form.{Form}
-use Rattle.spec_simplex.specs.Run.{Run, ◌>>=◌}
+use Rattle.spec_exact.specs.Run.{Run, ◌>>=◌}
 use Rattle.spec_simplex.specs.Start.{row_start, begun, first_costs, cost_at}
 use Rattle.spec_simplex.specs.Tableau.{Tableau, all_columns, status_at, lower_at, upper_at, is_fixed}
 use Rattle.spec_simplex.specs.Phases.{wants_phase_one, is_stuck}

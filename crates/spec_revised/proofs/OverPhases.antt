@@ -16,7 +16,7 @@ use Rattle.spec_simplex.specs.declared.ends.PrimalEnd.TheVariants.{Optimal}
 use Rattle.spec_simplex.specs.declared.ends.RunStop.{RunStop}
 use Rattle.spec_simplex.specs.declared.ends.RunStop.TheVariants as stop
 use Rattle.spec_simplex.specs.Form.{Form}
-use Rattle.spec_simplex.specs.Run.{◌>>=◌, refused_as, list_run}
+use Rattle.spec_exact.specs.Run.{◌>>=◌, refused_as, list_run}
 use Rattle.spec_simplex.specs.Start.{row_start, begun, is_wanting, start_at, start_basic, with_reduced}
 use Rattle.spec_simplex.specs.Start.{cost_at, first_costs, priced_run, start_of}
 use Rattle.spec_simplex.specs.Tableau.{Tableau, is_artificial, basic_at, value_at}

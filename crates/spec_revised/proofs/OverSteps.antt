@@ -19,14 +19,14 @@ use Rattle.spec_simplex.specs.declared.ends.PrimalEnd.TheVariants.{Optimal, Unbo
 use Rattle.spec_simplex.specs.declared.ends.Choice.{Choice}
 use Rattle.spec_simplex.specs.declared.ends.Choice.TheVariants.{End, Flip, Pivot}
 use Rattle.spec_simplex.specs.Form.{Form}
-use Rattle.spec_simplex.specs.Run.{Run, ◌>>=◌, less_product, steps}
+use Rattle.spec_exact.specs.Run.{Run, ◌>>=◌, less_product, steps}
 use Rattle.spec_simplex.specs.Start.{cost_at}
 use Rattle.spec_simplex.specs.Tableau.{Tableau, all_columns, basic_at, entry_at, status_at}
 use Rattle.spec_simplex.specs.Step.{entering, directed, other_bound, best_run, choice_at, choice_by}
 use Rattle.spec_simplex.specs.Step.{choice_of, choice_run, is_place, moved_at, moved_run, flip_way}
 use Rattle.spec_simplex.specs.Step.{flipped, flip_run, shifted_run, exchanged, turned, pivot_run}
 use Rattle.spec_simplex.specs.Phases.{done_run}
-use Rattle.spec_simplex.proofs.Stops.{length-made, get_or-made}
+use Rattle.spec_exact.proofs.Stops.{length-made, get_or-made}
 use Rattle.spec_path.specs.Tables.{way, table_of, IsTableauOf, IsWithinBounds}
 use Rattle.spec_path.specs.Begins.{form_rows, signs_of}
 use Rattle.spec_path.proofs.Runs.{then_ok}

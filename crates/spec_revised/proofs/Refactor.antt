@@ -12,9 +12,9 @@ use Rattle.spec_pivot.specs.declared.status.Status.TheVariants.{Basic}
 use Rattle.spec_pivot.specs.Tableau.{Matrix, delta}
 use Rattle.spec_pivot.proofs.Pivot.{delta_same, delta_other}
 use Rattle.spec_simplex.specs.Form.{Form}
-use Rattle.spec_simplex.specs.Run.{◌>>=◌}
+use Rattle.spec_exact.specs.Run.{◌>>=◌}
 use Rattle.spec_simplex.specs.Tableau.{Tableau, form_columns, all_columns, status_at}
-use Rattle.spec_simplex.proofs.Stops.{get_or-made}
+use Rattle.spec_exact.proofs.Stops.{get_or-made}
 use Rattle.spec_cold.specs.Cold.{basis_status}
 use Rattle.spec_simplex.specs.Tableau.{is_basic}
 use Rattle.spec_path.proofs.Lists.{by_lt}

@@ -15,10 +15,10 @@ use Rattle.spec_pivot.proofs.Pivot.{by_eq, delta_same, delta_other, sum_below-de
 use Rattle.spec_simplex.specs.declared.ends.RowStart.{RowStart}
 use Rattle.spec_simplex.specs.declared.ends.RowStart.TheVariants.{Within, Below, Above}
 use Rattle.spec_simplex.specs.Form.{Form}
-use Rattle.spec_simplex.specs.Run.{made}
+use Rattle.spec_exact.specs.Run.{made}
 use Rattle.spec_simplex.specs.Start.{logical_sign, start_at, cost_at}
 use Rattle.spec_simplex.specs.Tableau.{Tableau, form_columns, all_columns, is_artificial, entry_at, reduced_at}
-use Rattle.spec_simplex.proofs.Stops.{length-made, get_or-made}
+use Rattle.spec_exact.proofs.Stops.{length-made, get_or-made}
 use Rattle.spec_path.specs.Tables.{IsTableauOf}
 use Rattle.spec_path.specs.Begins.{form_rows, signs_of}
 use Rattle.spec_path.proofs.Columns.{by_kind}

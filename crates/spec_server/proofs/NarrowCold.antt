@@ -15,7 +15,7 @@ use Rattle.spec_check.specs.declared.certificate.CheckStop.{CheckStop}
 use Rattle.spec_check.specs.declared.certificate.CheckStop.TheVariants as check
 use Rattle.spec_check.specs.Certificate.{IsNarrowCertificate}
 use Rattle.spec_check.specs.Run.{check_run}
-use Rattle.spec_mps.proofs.NarrowNumbers.{zero_narrow, neg_narrow}
+use Rattle.spec_mps.proofs.NarrowNumbers.{zero_narrow}
 use Rattle.spec_pivot.specs.declared.status.Status.{Status}
 use Rattle.spec_simplex.specs.declared.ends.Choice.{Choice}
 use Rattle.spec_simplex.specs.declared.ends.Choice.TheVariants.{End, Flip, Pivot}
@@ -25,7 +25,7 @@ use Rattle.spec_simplex.specs.declared.ends.PrimalEnd.{PrimalEnd}
 use Rattle.spec_simplex.specs.declared.ends.PrimalEnd.TheVariants.{Optimal, Unbounded}
 use Rattle.spec_simplex.specs.declared.ends.RunStop.{RunStop as Spending}
 use Rattle.spec_simplex.specs.declared.ends.RunStop.TheVariants as stop
-use Rattle.spec_simplex.specs.Run.{refused_as}
+use Rattle.spec_exact.specs.Run.{refused_as}
 use Rattle.spec_simplex.specs.Form.{Form, form_of}
 use Rattle.spec_simplex.specs.Tableau.{Tableau, form_columns, basic_at, entry_at, value_at, reduced_at}
 use Rattle.spec_simplex.specs.Start.{priced_run, with_reduced, start_of}
@@ -33,7 +33,8 @@ use Rattle.spec_simplex.specs.Step.{directed, choice_run, flip_run, pivot_run}
 use Rattle.spec_simplex.specs.Phases.{PrimalEnded, end_or_spent, end_or_next, run_from, fixed_at_zero}
 use Rattle.spec_simplex.specs.Phases.{without_artificials, phase_two_run, wants_phase_one, is_stuck, phase_one}
 use Rattle.spec_simplex.specs.Phases.{phase_two, PhasesEnd, Infeasible, Finished, phases_run}
-use Rattle.spec_simplex.proofs.Stops.{All-made}
+use Rattle.spec_exact.proofs.Stops.{All-made}
+use Rattle.spec_exact.proofs.Narrow.{neg_narrow}
 use Rattle.spec_check.specs.declared.solve_end.SolveEnd.TheVariants as outcome
 use Rattle.spec_cold.specs.Cold.{ExactSolveEnd, point, multipliers, moves_below, moves_by, certificate_at}
 use Rattle.spec_cold.specs.Cold.{certificate_of}

@@ -13,7 +13,7 @@ use Rattle.spec_check.specs.declared.certificate.Certificate.{Certificate}
 use Rattle.spec_check.specs.declared.certificate.Known.{Known}
 use Rattle.spec_check.specs.Certificate.{IsNarrowCertificate}
 use Rattle.spec_check.specs.Run.{check_run}
-use Rattle.spec_mps.proofs.NarrowNumbers.{zero_narrow, neg_narrow}
+use Rattle.spec_mps.proofs.NarrowNumbers.{zero_narrow}
 use Rattle.spec_pivot.specs.declared.status.Status.{Status}
 use Rattle.spec_simplex.specs.declared.ends.Choice.{Choice}
 use Rattle.spec_simplex.specs.declared.ends.Choice.TheVariants.{End, Flip, Pivot}
@@ -24,13 +24,14 @@ use Rattle.spec_simplex.specs.declared.ends.RowStart.{RowStart}
 use Rattle.spec_simplex.specs.declared.ends.RowStart.TheVariants.{Within, Below, Above}
 use Rattle.spec_simplex.specs.declared.ends.RunStop.{RunStop}
 use Rattle.spec_simplex.specs.declared.ends.RunStop.TheVariants as stop
-use Rattle.spec_simplex.specs.Run.{refused_as, less_product, quotient_run, steps, list_run}
+use Rattle.spec_exact.specs.Run.{refused_as, less_product, quotient_run, steps, list_run}
 use Rattle.spec_simplex.specs.Form.{Form, form_entry, form_of}
 use Rattle.spec_simplex.specs.Start.{row_start, begun, cost_at, first_costs, logical_sign, one_at, start_at}
 use Rattle.spec_simplex.specs.Step.{moved_run, shifted_run, flip_run, best_run, choice_by, exchanged, turned}
 use Rattle.spec_simplex.specs.Phases.{wants_phase_one, is_stuck}
 use Rattle.spec_simplex.specs.Tableau.{Tableau, form_columns, is_artificial, basic_at}
-use Rattle.spec_simplex.proofs.Stops.{All-made}
+use Rattle.spec_exact.proofs.Stops.{All-made}
+use Rattle.spec_exact.proofs.Narrow.{neg_narrow}
 use Rattle.spec_check.specs.declared.solve_end.SolveEnd.TheVariants as outcome
 use Rattle.spec_cold.specs.Cold.{ExactSolveEnd, moves_by}
 use Rattle.spec_path.proofs.Runs.{then_ok, refused_ok}

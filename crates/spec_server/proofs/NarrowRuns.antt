@@ -15,8 +15,8 @@ use Rattle.spec_exact.specs.Answer.{told}
 use Rattle.spec_exact.specs.declared.past.Op.{Op}
 use Rattle.spec_exact.specs.declared.past.Op.TheVariants.{Add, Sub, Div}
 use Rattle.spec_mps.proofs.NarrowNumbers.{zero_narrow}
-use Rattle.spec_simplex.specs.Run.{Run, sum_run, difference_run, product_run, quotient_run, plus_product, less_product}
-use Rattle.spec_simplex.specs.Run.{list_run}
+use Rattle.spec_exact.specs.Run.{Run, sum_run, difference_run, product_run, quotient_run, plus_product, less_product}
+use Rattle.spec_exact.specs.Run.{list_run}
 use Rattle.spec_path.proofs.Runs.{then_ok, list_ok}
 use Rattle.spec_server.specs.Answers.{number_limit}
 

@@ -14,12 +14,12 @@ use Rattle.spec_model.specs.declared.parts.Kind.{Kind}
 use Rattle.spec_model.specs.declared.parts.Kind.TheVariants.{L, G, E}
 use Rattle.spec_model.specs.Model.{Model, ExactColumn, no_row, width, height, row, entry_of}
 use Rattle.spec_model.specs.Kept.{IsNarrowRow, IsNarrowColumn}
-use Rattle.spec_mps.proofs.NarrowNumbers.{zero_narrow, neg_narrow}
+use Rattle.spec_mps.proofs.NarrowNumbers.{zero_narrow}
 use Rattle.spec_simplex.specs.declared.ends.FormFault.TheVariants as fault
 use Rattle.spec_simplex.specs.declared.ends.RowStart.{RowStart}
 use Rattle.spec_simplex.specs.declared.ends.RowStart.TheVariants.{Within, Below, Above}
-use Rattle.spec_simplex.specs.Run.{Run, ◌>>=◌, refused_as, sum_run, difference_run, order_run, plus_product, less_product}
-use Rattle.spec_simplex.specs.Run.{steps, list_run}
+use Rattle.spec_exact.specs.Run.{Run, ◌>>=◌, refused_as, sum_run, difference_run, order_run, plus_product, less_product}
+use Rattle.spec_exact.specs.Run.{steps, list_run}
 use Rattle.spec_simplex.specs.Form.{Form, form_entry, form_lower, form_upper, equation_limits, limits_by, limits_run}
 use Rattle.spec_simplex.specs.Form.{column_clash, least_cost, formed, form_of}
 use Rattle.spec_simplex.specs.Tableau.{Tableau, all_columns, entry_at, basic_at}
@@ -28,7 +28,8 @@ use Rattle.spec_simplex.specs.Start.{within_or_above, row_start_by, row_start, l
 use Rattle.spec_simplex.specs.Start.{structural_entry, artificial_value, artificial_upper, start_at, by_column, one_at}
 use Rattle.spec_simplex.specs.Start.{start_entry, start_value, start_row, begun, cost_at, reduced_run, priced_run}
 use Rattle.spec_simplex.specs.Start.{with_reduced, first_cost, first_costs, start_of}
-use Rattle.spec_simplex.proofs.Stops.{All-made}
+use Rattle.spec_exact.proofs.Stops.{All-made}
+use Rattle.spec_exact.proofs.Narrow.{neg_narrow}
 use Rattle.spec_path.proofs.Runs.{then_ok, refused_ok, steps_ok}
 use Rattle.spec_server.specs.Answers.{number_limit}
 use Rattle.spec_server.proofs.NarrowRuns.{sum_narrow, difference_narrow, plus_narrow, less_narrow, all_given}

@@ -10,7 +10,7 @@ use Rattle.spec_exact.specs.Narrow.{IsNarrow}
 use Rattle.spec_mps.proofs.NarrowNumbers.{zero_narrow}
 use Rattle.spec_pivot.specs.declared.status.Status.{Status}
 use Rattle.spec_pivot.specs.declared.status.Status.TheVariants.{Basic, AtLower, AtUpper, AtZero}
-use Rattle.spec_simplex.specs.Run.{Run, difference_run, list_run, less_product, quotient_run, sum_run}
+use Rattle.spec_exact.specs.Run.{Run, difference_run, list_run, less_product, quotient_run, sum_run}
 use Rattle.spec_simplex.specs.Tableau.{Tableau, all_columns, at_place, entry_at, basic_at, status_at, lower_at}
 use Rattle.spec_simplex.specs.Tableau.{upper_at, is_artificial, or_zero, stand}
 use Rattle.spec_simplex.specs.Step.{directed, other_bound, is_place, moved_at, moved_run, flip_way, flipped, flip_run}

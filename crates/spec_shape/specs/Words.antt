@@ -11,7 +11,7 @@ use Rattle.spec_model.specs.Kept.{row_limit, column_limit}
 use Rattle.spec_pivot.specs.declared.status.Status.{Status}
 use Rattle.spec_pivot.specs.declared.status.Status.TheVariants.{Basic, AtLower, AtUpper, AtZero}
 use Rattle.spec_simplex.specs.Form.{Form, form_lower, form_upper}
-use Rattle.spec_simplex.specs.Run.{made}
+use Rattle.spec_exact.specs.Run.{made}
 use Rattle.spec_simplex.specs.Eliminate.{basis_at, basics_below}
 
 -- ---- two bits for each column

@@ -15,9 +15,9 @@ use Rattle.spec_pivot.proofs.Pivot.{delta_same, delta_other, sum_below-delta}
 use Rattle.spec_pivot.proofs.Unique.{apart}
 use Rattle.spec_pivot.proofs.Values.{by_basic}
 use Rattle.spec_simplex.specs.Form.{Form, form_lower, form_upper}
-use Rattle.spec_simplex.specs.Run.{made}
+use Rattle.spec_exact.specs.Run.{made}
 use Rattle.spec_simplex.specs.Tableau.{Tableau, form_columns, basic_at, entry_at, value_at, status_at}
-use Rattle.spec_simplex.proofs.Stops.{length-made}
+use Rattle.spec_exact.proofs.Stops.{length-made}
 use Rattle.spec_path.specs.Begins.{form_rows}
 use Rattle.spec_simplex.specs.Tableau.{is_basic}
 use Rattle.spec_cold.specs.Cold as cold

@@ -14,7 +14,7 @@ use Rattle.spec_pivot.specs.declared.status.Status.TheVariants.{Basic, AtLower, 
 use Rattle.spec_pivot.specs.Tableau.{Matrix}
 use Rattle.spec_pivot.specs.Simplex.{Bounds}
 use Rattle.spec_pivot.proofs.Pivot.{by_eq}
-use Rattle.spec_simplex.specs.Run.{quotient_run, order_run}
+use Rattle.spec_exact.specs.Run.{quotient_run, order_run}
 use Rattle.spec_simplex.specs.Step.{directed, way_by}
 use Rattle.spec_simplex.specs.Tableau.{Tableau, all_columns, basic_at, entry_at}
 use Rattle.spec_simplex.specs.Tableau.{reduced_at, status_at, lower_at, upper_at, is_fixed}

@@ -5,7 +5,7 @@ use Rattle.spec_pivot.specs.Tableau.{Matrix}
 use Rattle.spec_pivot.specs.Simplex.{Bounds}
 use Rattle.spec_simplex.specs.declared.ends.RunStop.{RunStop}
 use Rattle.spec_simplex.specs.declared.ends.RunStop.TheVariants as stop
-use Rattle.spec_simplex.specs.Run.{refused_as}
+use Rattle.spec_exact.specs.Run.{refused_as}
 use Rattle.spec_simplex.specs.Tableau.{Tableau}
 use Rattle.spec_path.specs.Tables.{way, table_of}
 use Rattle.spec_path.proofs.Runs.{then_ok, refused_ok}

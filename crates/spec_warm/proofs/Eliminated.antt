@@ -11,10 +11,10 @@ use Rattle.spec_pivot.specs.declared.status.Status.TheVariants.{Basic}
 use Rattle.spec_pivot.specs.Tableau.{Spans, delta, pivoted}
 use Rattle.spec_pivot.proofs.Pivot.{by_eq, delta_other, forth, back, kept, new_unit, Spans_trans}
 use Rattle.spec_simplex.specs.Form.{Form}
-use Rattle.spec_simplex.specs.Run.{refused_as, steps}
+use Rattle.spec_exact.specs.Run.{refused_as, steps}
 use Rattle.spec_simplex.specs.Step.{turned_run}
 use Rattle.spec_simplex.specs.Tableau.{at_place}
-use Rattle.spec_simplex.proofs.Stops.{length-made}
+use Rattle.spec_exact.proofs.Stops.{length-made}
 use Rattle.spec_simplex.specs.Tableau.{is_basic}
 use Rattle.spec_path.proofs.Runs.{then_ok, refused_ok, steps_ok}
 use Rattle.spec_path.proofs.Turned.{turned_rows, turned_whole, turned_entry}

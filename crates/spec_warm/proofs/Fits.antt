@@ -8,7 +8,7 @@ use Rattle.spec_pivot.specs.declared.status.Status.{Status}
 use Rattle.spec_pivot.specs.declared.status.Status.TheVariants.{Basic, AtLower, AtUpper, AtZero}
 use Rattle.spec_pivot.specs.Simplex.{IsInside}
 use Rattle.spec_pivot.proofs.Pivot.{by_eq}
-use Rattle.spec_simplex.specs.Run.{Run}
+use Rattle.spec_exact.specs.Run.{Run}
 use Rattle.spec_simplex.specs.Tableau.{Tableau, all_columns, value_at, status_at, lower_at, upper_at}
 use Rattle.spec_simplex.specs.Tableau.{is_basic}
 use Rattle.spec_path.specs.Tables.{way}
@@ -18,7 +18,8 @@ use Rattle.spec_dual.specs.Dual.{Suits, IsPast}
 use Rattle.spec_simplex.specs.declared.ends.Fit.{Fit}
 use Rattle.spec_simplex.specs.declared.ends.Fit.TheVariants.{Primal, Dual, Unfit}
 use Rattle.spec_simplex.specs.declared.ends.Leaving.{Leaving}
-use Rattle.spec_simplex.specs.Fit.{is_less, is_greater, below_lower, above_upper, outside_by}
+use Rattle.std.specs.Ordering.{is_lt, is_gt}
+use Rattle.spec_simplex.specs.Fit.{below_lower, above_upper, outside_by}
 use Rattle.spec_simplex.specs.Fit.{outside_run, leaving_at, leaving_with, leaving_run, needs_flip}
 use Rattle.spec_simplex.specs.Fit.{meets_need, meets_need_at, all_meet, fit_by, fit_run}
 use Rattle.spec_warm.proofs.Counts.{basic_if, basic_test}
@@ -35,7 +36,7 @@ AboveIs u v false = IfSome u (λ c. v ≤ℚ c)
 below_is : (limit : Option ℕ) (l : Option ℚ) (v : ℚ) (c : Bool) → below_lower limit l v ≡ Ok c → BelowIs l v c
 below_is limit None v c h = let z : false ≡ c = cc in subst (BelowIs None v) z tt
 below_is limit (Some a) v c h =
-    by_order limit v a (λ o. Ok (is_less o)) c (BelowIs (Some a) v c) h
+    by_order limit v a (λ o. Ok (is_lt o)) c (BelowIs (Some a) v c) h
     (λ p e. given (BelowIs (Some a) v) true c e (a, refl, p))
     (λ p e. given (BelowIs (Some a) v) false c e (subst (λ x. a ≤ℚ x) (sym p) (≤ℚ_refl a)))
     (λ p e. given (BelowIs (Some a) v) false c e (<ℚ-le a v p))
@@ -43,7 +44,7 @@ below_is limit (Some a) v c h =
 above_is : (limit : Option ℕ) (u : Option ℚ) (v : ℚ) (c : Bool) → above_upper limit u v ≡ Ok c → AboveIs u v c
 above_is limit None v c h = let z : false ≡ c = cc in subst (AboveIs None v) z tt
 above_is limit (Some a) v c h =
-    by_order limit v a (λ o. Ok (is_greater o)) c (AboveIs (Some a) v c) h
+    by_order limit v a (λ o. Ok (is_gt o)) c (AboveIs (Some a) v c) h
     (λ p e. given (AboveIs (Some a) v) false c e (<ℚ-le v a p))
     (λ p e. given (AboveIs (Some a) v) false c e (subst (λ x. x ≤ℚ a) (sym p) (≤ℚ_refl a)))
     (λ p e. given (AboveIs (Some a) v) true c e (a, refl, p))

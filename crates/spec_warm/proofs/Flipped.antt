@@ -15,7 +15,7 @@ use Rattle.spec_pivot.proofs.Ray.{ray_at}
 use Rattle.spec_pivot.proofs.Steps.{whole_range}
 use Rattle.spec_simplex.specs.declared.ends.RunStop.{RunStop}
 use Rattle.spec_simplex.specs.declared.ends.RunStop.TheVariants as stop
-use Rattle.spec_simplex.specs.Run.{refused_as, difference_run, steps}
+use Rattle.spec_exact.specs.Run.{refused_as, difference_run, steps}
 use Rattle.spec_simplex.specs.Step.{directed, other_bound, moved_run, flip_way, flipped, flip_run}
 use Rattle.spec_simplex.specs.Tableau.{Tableau, all_columns, value_at, reduced_at}
 use Rattle.spec_simplex.specs.Tableau.{status_at, lower_at, upper_at, or_zero, is_fixed}

@@ -15,7 +15,7 @@ use Rattle.spec_pivot.specs.Tableau.{delta}
 use Rattle.spec_pivot.proofs.Pivot.{by_eq, delta_same, delta_other, sum_below-delta}
 use Rattle.spec_pivot.proofs.Values.{combined}
 use Rattle.spec_simplex.specs.Form.{Form}
-use Rattle.spec_simplex.specs.Run.{Run, ◌>>=◌, refused_as, steps}
+use Rattle.spec_exact.specs.Run.{Run, ◌>>=◌, refused_as, steps}
 use Rattle.spec_simplex.specs.Tableau.{at_place}
 use Rattle.spec_simplex.specs.Tableau.{is_basic}
 use Rattle.spec_path.proofs.Begun.{delta_sym}

@@ -7,7 +7,7 @@ use Rattle.spec_pivot.specs.declared.status.Status.{Status}
 use Rattle.spec_pivot.specs.declared.status.Way.TheVariants.{Up}
 use Rattle.spec_pivot.specs.Tableau.{Matrix}
 use Rattle.spec_pivot.specs.Simplex.{Bounds, IsInside, IsTableau}
-use Rattle.spec_simplex.specs.Run.{difference_run, quotient_run}
+use Rattle.spec_exact.specs.Run.{difference_run, quotient_run}
 use Rattle.spec_simplex.specs.Step.{pivot_run}
 use Rattle.spec_simplex.specs.Tableau.{Tableau, all_columns, basic_at, entry_at, value_at, lower_at, upper_at, stand}
 use Rattle.spec_path.specs.Tables.{way, table_of}

@@ -15,7 +15,7 @@ use Rattle.spec_simplex.specs.declared.ends.PrimalEnd.{PrimalEnd}
 use Rattle.spec_simplex.specs.declared.ends.PrimalEnd.TheVariants as primal
 use Rattle.spec_simplex.specs.Form.{Form, formed, form_of}
 use Rattle.spec_simplex.specs.Phases.{PhasesEnd, Infeasible, Finished, phases_run}
-use Rattle.spec_simplex.specs.Run.{made}
+use Rattle.spec_exact.specs.Run.{made}
 use Rattle.spec_simplex.specs.Start.{cost_at, start_at}
 use Rattle.spec_simplex.specs.Tableau.{form_columns}
 use Rattle.spec_cold.specs.Cold as cold

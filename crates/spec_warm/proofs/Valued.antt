@@ -12,7 +12,7 @@ use Rattle.spec_pivot.specs.Tableau.{IsUnit}
 use Rattle.spec_pivot.proofs.Pivot.{by_eq}
 use Rattle.spec_pivot.proofs.Rows.{row_at}
 use Rattle.spec_pivot.proofs.Unique.{apart}
-use Rattle.spec_simplex.specs.Run.{◌>>=◌, less_product}
+use Rattle.spec_exact.specs.Run.{◌>>=◌, less_product}
 use Rattle.spec_simplex.specs.Tableau.{Tableau, all_columns, basic_at, entry_at, value_at, status_at}
 use Rattle.spec_simplex.specs.Tableau.{is_basic}
 use Rattle.spec_path.proofs.Runs.{then_ok, less_ok, steps_ok}

@@ -14,13 +14,13 @@ use Rattle.spec_pivot.specs.Simplex as kind
 use Rattle.spec_simplex.specs.declared.ends.PrimalEnd.{PrimalEnd}
 use Rattle.spec_simplex.specs.declared.ends.PrimalEnd.TheVariants as primal
 use Rattle.spec_simplex.specs.Form.{formed}
-use Rattle.spec_simplex.specs.Run.{refused_as, made}
+use Rattle.spec_exact.specs.Run.{refused_as, made}
 use Rattle.spec_simplex.specs.Start.{cost_at}
 use Rattle.spec_simplex.specs.Step.{directed}
 use Rattle.spec_simplex.specs.Tableau.{Tableau, form_columns, all_columns, entry_at}
 use Rattle.spec_simplex.specs.Tableau.{value_at, status_at, lower_at, upper_at}
 use Rattle.spec_simplex.specs.Phases.{PrimalEnded, run_from}
-use Rattle.spec_simplex.proofs.Stops.{length-made}
+use Rattle.spec_exact.proofs.Stops.{length-made}
 use Rattle.spec_path.specs.Tables.{way, table_of, bounds_of, IsWithinBounds}
 use Rattle.spec_cold.specs.Cold as cold
 use Rattle.spec_path.proofs.Runs.{then_ok, refused_ok, get_or-made}

@@ -15,7 +15,7 @@ use Rattle.spec_simplex.specs.declared.ends.FormFault.TheVariants as fault
 use Rattle.spec_simplex.specs.declared.ends.PrimalEnd.TheVariants as primal
 use Rattle.spec_simplex.specs.declared.ends.RunStop.{RunStop}
 use Rattle.spec_simplex.specs.declared.ends.RunStop.TheVariants as stop
-use Rattle.spec_simplex.specs.Run.{◌>>=◌, refused_as, made}
+use Rattle.spec_exact.specs.Run.{◌>>=◌, refused_as, made}
 use Rattle.spec_simplex.specs.Form.{Form, form_of}
 use Rattle.spec_simplex.specs.Step.{directed}
 use Rattle.spec_simplex.specs.Tableau.{Tableau, entry_at}

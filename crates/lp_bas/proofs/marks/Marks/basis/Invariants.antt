@@ -1,5 +1,5 @@
 use Rattle.std.proofs.Common.{◌≡◌}
-use Rattle.spec_simplex.specs.Run.{made}
+use Rattle.spec_exact.specs.Run.{made}
 use Rattle.spec_bas.specs.Steps.{status_of}
 use Rattle.lp_bas.proofs.marks.Marks.basis.Given as goal
 
