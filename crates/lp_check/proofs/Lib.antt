@@ -1,4 +1,3 @@
 pub mod Inside
 pub mod Lines
 pub mod Places
-pub mod Signs

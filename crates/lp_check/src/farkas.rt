@@ -7,8 +7,8 @@ ghost use Rattle.lp_frac.specs.Narrow.{largest};
 
 use crate::certificate::{CheckStop, Known};
 use crate::limits::{lower_limit, upper_limit};
-use crate::steps::{is_greater, is_less, is_negative, is_positive, need, part, plus_product};
-use lp_frac::{Frac, Fracs, cmp, zero};
+use crate::steps::{need, part, plus_product};
+use lp_frac::{Frac, Fracs, cmp, is_negative, is_positive, zero};
 use lp_model::Model;
 
 // `d` times a limit that condition `n` asks for, onto `s`.
@@ -98,7 +98,7 @@ pub(crate) fn infeasible(model: &Model, y: &Fracs) -> Result<Known, CheckStop>
 {
     let asked = rows_ask(model, y)?;
     let given = columns_give(model, y)?;
-    need(3, is_less(cmp(given, asked)?))?;
+    need(3, cmp(given, asked)?.is_lt())?;
     Ok(Known::Infeasible)
 }
 
@@ -107,7 +107,7 @@ fn crossed(lower: Option<Frac>, upper: Option<Frac>) -> Result<(), CheckStop>
     ensures { result ≡ run.crossed_run (Some largest) lower upper }
 {
     match (lower, upper) {
-        (Some(lower), Some(upper)) => need(1, is_greater(cmp(lower, upper)?)),
+        (Some(lower), Some(upper)) => need(1, cmp(lower, upper)?.is_gt()),
         _ => Err(CheckStop::No(1)),
     }
 }

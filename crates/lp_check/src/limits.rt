@@ -4,8 +4,7 @@ ghost use Rattle.spec_check.specs.Run as run;
 ghost use Rattle.lp_frac.specs.Narrow.{largest};
 
 use crate::certificate::CheckStop;
-use crate::steps::is_negative;
-use lp_frac::{Frac, abs, add, sub};
+use lp_frac::{Frac, abs, add, is_negative, sub};
 use lp_model::{Kind, Row};
 
 // The least that the row's sum may be, if there is one.

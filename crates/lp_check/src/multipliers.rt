@@ -8,8 +8,8 @@ ghost use Rattle.lp_frac.specs.Narrow.{largest};
 use crate::certificate::CheckStop;
 use crate::limits::{lower_limit, upper_limit};
 use crate::point::activity;
-use crate::steps::{is_negative, is_positive, less_product, need, part, stands_at};
-use lp_frac::{Frac, Fracs, neg};
+use crate::steps::{less_product, need, part, stands_at};
+use lp_frac::{Frac, Fracs, is_negative, is_positive, neg};
 use lp_model::{Column, Model, Sense};
 
 // The cost to be made least.

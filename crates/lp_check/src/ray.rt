@@ -8,8 +8,8 @@ use crate::certificate::CheckStop;
 use crate::limits::{lower_limit, upper_limit};
 use crate::multipliers::signed;
 use crate::point::{activity, cost};
-use crate::steps::{is_negative, is_positive, need, part};
-use lp_frac::{Frac, Fracs};
+use crate::steps::{need, part};
+use lp_frac::{Frac, Fracs, is_negative, is_positive};
 use lp_model::Model;
 
 // `r` is not below 0, where a lower limit is there.

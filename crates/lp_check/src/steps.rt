@@ -1,12 +1,11 @@
-// The steps of a run: operations on fractions, and tests against one limit.
+// The steps of a run: two operations on fractions, and tests against one limit.
 ghost use Rattle.std.specs.Prelude.{◌≡◌, ◌<◌, Some, length};
-ghost use Rattle.spec_exact.specs.Fraction.{lt_ℚ, 0ℚ};
 ghost use Rattle.spec_model.specs.Model.{part as part_of};
 ghost use Rattle.spec_check.specs.Run as run;
 ghost use Rattle.lp_frac.specs.Narrow.{largest};
 
 use crate::certificate::CheckStop;
-use lp_frac::{Frac, Fracs, add, are_same, cmp, mul, sign, sub};
+use lp_frac::{Frac, Fracs, are_same, cmp};
 use std::cmp::Ordering;
 
 // The number at `k`, counted from 0.
@@ -17,30 +16,11 @@ pub(crate) fn part(z: &Fracs, k: u32) -> Frac
     z.at(k as usize)
 }
 
-pub(crate) fn is_negative(v: Frac) -> bool
-    ensures { result ≡ lt_ℚ v 0ℚ }
-{
-    match sign(v) {
-        Ordering::Less => true,
-        Ordering::Equal | Ordering::Greater => false,
-    }
-}
-
-pub(crate) fn is_positive(v: Frac) -> bool
-    ensures { result ≡ lt_ℚ 0ℚ v }
-{
-    match sign(v) {
-        Ordering::Less | Ordering::Equal => false,
-        Ordering::Greater => true,
-    }
-}
-
 // `v * w` onto `s`.
 pub(crate) fn plus_product(v: Frac, w: Frac, s: Frac) -> Result<Frac, CheckStop>
     ensures { result ≡ run.plus_product (Some largest) v w s }
 {
-    let product = mul(v, w)?;
-    let sum = add(s, product)?;
+    let sum = lp_frac::plus_product(v, w, s)?;
     Ok(sum)
 }
 
@@ -48,8 +28,7 @@ pub(crate) fn plus_product(v: Frac, w: Frac, s: Frac) -> Result<Frac, CheckStop>
 pub(crate) fn less_product(v: Frac, w: Frac, s: Frac) -> Result<Frac, CheckStop>
     ensures { result ≡ run.less_product (Some largest) v w s }
 {
-    let product = mul(v, w)?;
-    let rest = sub(s, product)?;
+    let rest = lp_frac::less_product(v, w, s)?;
     Ok(rest)
 }
 
@@ -93,23 +72,5 @@ pub(crate) fn stands_at(limit: Option<Frac>, v: Frac) -> bool
     match limit {
         None => false,
         Some(k) => are_same(k, v),
-    }
-}
-
-pub(crate) fn is_less(order: Ordering) -> bool
-    ensures { result ≡ run.is_less order }
-{
-    match order {
-        Ordering::Less => true,
-        Ordering::Equal | Ordering::Greater => false,
-    }
-}
-
-pub(crate) fn is_greater(order: Ordering) -> bool
-    ensures { result ≡ run.is_greater order }
-{
-    match order {
-        Ordering::Less | Ordering::Equal => false,
-        Ordering::Greater => true,
     }
 }

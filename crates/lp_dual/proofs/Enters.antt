@@ -6,7 +6,7 @@ use Rattle.std.specs.declared.cmp.Ordering.TheVariants.{Less, Equal, Greater}
 use Rattle.spec_exact.specs.Fraction.{ℚ, 0ℚ, whole, lt_ℚ, abs_ℚ}
 use Rattle.spec_pivot.specs.declared.status.Status.{Status}
 use Rattle.spec_pivot.specs.declared.status.Status.TheVariants.{Basic, AtLower, AtUpper, AtZero}
-use Rattle.spec_simplex.specs.Run.{quotient_run, order_run}
+use Rattle.spec_exact.specs.Run.{quotient_run, order_run}
 use Rattle.spec_simplex.specs.Step.{directed, way_by}
 use Rattle.spec_simplex.specs.Tableau.{Tableau, all_columns, entry_at, reduced_at}
 use Rattle.spec_simplex.specs.Tableau.{status_at, lower_at, upper_at, is_fixed}

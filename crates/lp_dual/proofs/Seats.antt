@@ -7,7 +7,7 @@ use Rattle.spec_exact.specs.Fraction.{ℚ, ◌-ℚ◌, ◌*ℚ◌}
 use Rattle.spec_exact.proofs.Ruleset.{ring}
 use Rattle.spec_pivot.specs.declared.status.Status.{Status}
 use Rattle.spec_pivot.specs.declared.status.Status.TheVariants.{Basic, AtLower, AtUpper, AtZero}
-use Rattle.spec_simplex.specs.Run.{difference_run, quotient_run}
+use Rattle.spec_exact.specs.Run.{difference_run, quotient_run}
 use Rattle.spec_simplex.specs.Step.{moved_run, shifted_run, turned_run, repriced_run}
 use Rattle.spec_simplex.specs.Step.{exchanged, turned, pivot_run, NamesBound, CanPivot}
 use Rattle.spec_simplex.specs.Tableau.{Tableau, all_columns, entry_at, basic_at, value_at}

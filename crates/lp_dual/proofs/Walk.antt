@@ -4,7 +4,7 @@ use Rattle.spec_exact.specs.Fraction.{ℚ}
 use Rattle.spec_exact.specs.declared.past.Past.{Past}
 use Rattle.spec_pivot.specs.declared.status.Status.{Status}
 use Rattle.spec_simplex.specs.declared.ends.RunStop.TheVariants as stop
-use Rattle.spec_simplex.specs.Run.{◌>>=◌, refused_as}
+use Rattle.spec_exact.specs.Run.{◌>>=◌, refused_as}
 use Rattle.spec_simplex.specs.Tableau.{Tableau}
 use Rattle.spec_simplex.specs.declared.ends.DualEnd.{DualEnd}
 use Rattle.spec_simplex.specs.declared.ends.DualChoice.TheVariants.{End, Pivot}

@@ -6,8 +6,8 @@ ghost use Rattle.spec_simplex.specs.Dual as dual;
 ghost use Rattle.lp_frac.specs.Narrow.{largest};
 
 use lp_frac::{Frac, Past, abs, cmp, div};
-use lp_primal::{directed, is_fixed, way};
-use lp_tableau::Tableau;
+use lp_primal::{is_fixed, way};
+use lp_tableau::{Tableau, directed};
 use std::cmp::Ordering;
 
 // The least ratio so far.

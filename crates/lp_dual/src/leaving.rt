@@ -1,42 +1,13 @@
 // Which basic column is outside its bounds.
 ghost use Rattle.std.specs.Prelude.{◌≡◌, ◌<◌, Some};
 ghost use Rattle.spec_simplex.specs.Tableau.{all_columns};
-ghost use Rattle.spec_simplex.specs.Tableau.{is_basic as is_basic_of};
 ghost use Rattle.spec_simplex.specs.Fit as fit;
 ghost use Rattle.lp_frac.specs.Narrow.{largest};
 
-use lp_form::Status;
+use lp_form::is_basic;
 use lp_frac::{Frac, Past, cmp};
 use lp_tableau::Tableau;
 use spec_simplex::Leaving;
-use std::cmp::Ordering;
-
-pub(crate) fn is_basic(status: Status) -> bool
-    ensures { result ≡ is_basic_of status }
-{
-    match status {
-        Status::Basic => true,
-        Status::AtLower | Status::AtUpper | Status::AtZero => false,
-    }
-}
-
-fn is_less(order: Ordering) -> bool
-    ensures { result ≡ fit.is_less order }
-{
-    match order {
-        Ordering::Less => true,
-        Ordering::Equal | Ordering::Greater => false,
-    }
-}
-
-fn is_greater(order: Ordering) -> bool
-    ensures { result ≡ fit.is_greater order }
-{
-    match order {
-        Ordering::Greater => true,
-        Ordering::Less | Ordering::Equal => false,
-    }
-}
 
 // Whether `v` is below the bound.
 fn below_lower(bound: Option<Frac>, v: Frac) -> Result<bool, Past>
@@ -44,7 +15,7 @@ fn below_lower(bound: Option<Frac>, v: Frac) -> Result<bool, Past>
 {
     match bound {
         None => Ok(false),
-        Some(l) => Ok(is_less(cmp(v, l)?)),
+        Some(l) => Ok(cmp(v, l)?.is_lt()),
     }
 }
 
@@ -54,7 +25,7 @@ fn above_upper(bound: Option<Frac>, v: Frac) -> Result<bool, Past>
 {
     match bound {
         None => Ok(false),
-        Some(u) => Ok(is_greater(cmp(v, u)?)),
+        Some(u) => Ok(cmp(v, u)?.is_gt()),
     }
 }
 

@@ -1,35 +1,16 @@
 // Which method a tableau is fit for.
 ghost use Rattle.std.specs.Prelude.{◌≡◌, ◌<◌, Some};
-ghost use Rattle.spec_exact.specs.Fraction.{0ℚ, lt_ℚ, eq_ℚ};
+ghost use Rattle.spec_exact.specs.Fraction.{0ℚ, eq_ℚ};
 ghost use Rattle.spec_simplex.specs.Tableau.{all_columns};
 ghost use Rattle.spec_simplex.specs.Fit as spec;
 ghost use Rattle.lp_frac.specs.Narrow.{largest};
 
 use crate::leaving::leaving;
 use lp_form::Status;
-use lp_frac::{Frac, Past, are_same, sign, zero};
+use lp_frac::{Frac, Past, are_same, is_negative, is_positive, zero};
 use lp_primal::is_fixed;
 use lp_tableau::Tableau;
 use spec_simplex::{Fit, Leaving};
-use std::cmp::Ordering;
-
-fn is_negative(v: Frac) -> bool
-    ensures { result ≡ lt_ℚ v 0ℚ }
-{
-    match sign(v) {
-        Ordering::Less => true,
-        Ordering::Equal | Ordering::Greater => false,
-    }
-}
-
-fn is_positive(v: Frac) -> bool
-    ensures { result ≡ lt_ℚ 0ℚ v }
-{
-    match sign(v) {
-        Ordering::Greater => true,
-        Ordering::Less | Ordering::Equal => false,
-    }
-}
 
 fn is_zero(v: Frac) -> bool
     ensures { result ≡ eq_ℚ v 0ℚ }

@@ -1,7 +1,6 @@
 // The flips, and then steps up to an end.
 ghost use Rattle.std.specs.Prelude.{◌≡◌, ◌-◌, IfOk, Some};
 ghost use Rattle.spec_simplex.specs.Dual as dual;
-ghost use Rattle.spec_simplex.specs.Tableau.{or_zero as or_zero_of, stand as stand_of};
 ghost use Rattle.lp_frac.specs.Narrow.{largest};
 ghost use Rattle.lp_tableau.specs.Answer.{GivesRun};
 ghost use Rattle.lp_dual.specs.Starts.{IsDualStart, IsSeated, CanEnter, IsPlace};
@@ -10,29 +9,9 @@ ghost use Rattle.lp_dual.specs.Answer.{DualRuns};
 use crate::choice::choice;
 use crate::flips::flips;
 use lp_form::Status;
-use lp_frac::{Frac, Past, div, sub, zero};
-use lp_tableau::{RunStop, Tableau};
+use lp_frac::{Past, div, sub};
+use lp_tableau::{RunStop, Tableau, stand};
 use spec_simplex::{DualChoice, DualEnd};
-
-fn or_zero(bound: Option<Frac>) -> Frac
-    ensures { result ≡ or_zero_of bound }
-{
-    match bound {
-        Some(v) => v,
-        None => zero(),
-    }
-}
-
-// Where a column of this status stands, between these bounds.
-fn stand(status: Status, lower: Option<Frac>, upper: Option<Frac>) -> Frac
-    ensures { result ≡ stand_of status lower upper }
-{
-    match status {
-        Status::AtLower => or_zero(lower),
-        Status::AtUpper => or_zero(upper),
-        Status::Basic | Status::AtZero => zero(),
-    }
-}
 
 // Column `col` moves by what brings the one at the position to its bound `to`, and takes the position.
 #[tactic(auto, unfolding(spec_simplex::specs::Dual::dual_pivot_run))]

@@ -7,7 +7,7 @@ use Rattle.spec_exact.proofs.Ruleset.{neg-zero}
 use Rattle.spec_model.specs.Model.{entry_of}
 use Rattle.spec_model.specs.Kept.{AreEntries}
 use Rattle.spec_simplex.specs.Form.{Form}
-use Rattle.spec_simplex.specs.Run.{Run, ◌>>=◌, list_run, made}
+use Rattle.spec_exact.specs.Run.{Run, ◌>>=◌, list_run, made}
 use Rattle.spec_factor.specs.Factors.{column_entry, column_of}
 use Rattle.lp_factor.proofs.Gaps.{Entries, row_at, value_at, bound, entry_there, row_inside, bound_at, bound_end}
 use Rattle.lp_factor.proofs.Gaps.{bound_least, next_bound, none_first, none_between}

@@ -7,8 +7,8 @@ use Rattle.std.proofs.lemmas.Option.{get_or_from_slice_get}
 use Rattle.spec_exact.specs.Fraction.{ℚ, 0ℚ}
 use Rattle.spec_exact.specs.Narrow.{IsNarrow}
 use Rattle.spec_exact.specs.declared.past.Past.{Past}
-use Rattle.spec_simplex.specs.Run.{Run, quotient_run, less_product}
-use Rattle.spec_simplex.proofs.Stops.{length-made}
+use Rattle.spec_exact.specs.Run.{Run, quotient_run, less_product}
+use Rattle.spec_exact.proofs.Stops.{length-made}
 use Rattle.spec_model.specs.Model.{entry_of}
 use Rattle.lp_frac.specs.Narrow.{largest}
 use Rattle.spec_factor.specs.Factors.{Pair, forward_run, backward_run}

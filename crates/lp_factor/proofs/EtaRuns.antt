@@ -8,8 +8,8 @@ use Rattle.spec_exact.specs.Narrow.{IsNarrow}
 use Rattle.spec_exact.specs.declared.past.Past.{Past}
 use Rattle.spec_model.specs.Model.{entry_of}
 use Rattle.spec_pivot.proofs.Pivot.{by_eq}
-use Rattle.spec_simplex.specs.Run.{Run, ◌>>=◌, quotient_run, less_product, steps, list_run}
-use Rattle.spec_simplex.proofs.Stops.{get_or-made, list_stops, steps_more, steps_stop}
+use Rattle.spec_exact.specs.Run.{Run, ◌>>=◌, quotient_run, less_product, steps, list_run}
+use Rattle.spec_exact.proofs.Stops.{get_or-made, list_stops, steps_more, steps_stop}
 use Rattle.lp_frac.specs.Narrow.{largest}
 use Rattle.spec_factor.specs.Factors.{Pair, pair_at, forward_run, backward_run}
 use Rattle.lp_factor.specs.Eta.{IsEta, pair_of}

@@ -18,8 +18,8 @@ use Rattle.spec_exact.proofs.Zero.{sub_right, mul_left, mul_right}
 use Rattle.spec_model.specs.Model.{entry_of}
 use Rattle.spec_model.specs.Kept.{AreEntries}
 use Rattle.spec_pivot.proofs.Pivot.{by_eq}
-use Rattle.spec_simplex.specs.Run.{Run, ◌>>=◌, difference_run, less_product, steps, list_run}
-use Rattle.spec_simplex.proofs.Stops.{list_more, steps_more}
+use Rattle.spec_exact.specs.Run.{Run, ◌>>=◌, difference_run, less_product, steps, list_run}
+use Rattle.spec_exact.proofs.Stops.{list_more, steps_more}
 use Rattle.spec_path.proofs.Lists.{by_lt}
 use Rattle.lp_frac.specs.Narrow.{largest}
 

@@ -9,8 +9,8 @@ use Rattle.spec_exact.specs.Fraction.{ℚ, 0ℚ}
 use Rattle.spec_exact.specs.Narrow.{IsNarrow}
 use Rattle.spec_model.specs.Model.{entry_of}
 use Rattle.spec_pivot.proofs.Pivot.{by_eq}
-use Rattle.spec_simplex.specs.Run.{made}
-use Rattle.spec_simplex.proofs.Stops.{length-made, get_or-made}
+use Rattle.spec_exact.specs.Run.{made}
+use Rattle.spec_exact.proofs.Stops.{length-made, get_or-made}
 use Rattle.spec_edit.proofs.Coefficients.{none_at}
 use Rattle.lp_factor.specs.Eta.{IsEta, AreItems, pair_of}
 use Rattle.lp_factor.proofs.Gaps.{Entries}

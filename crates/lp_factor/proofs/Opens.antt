@@ -9,8 +9,8 @@ use Rattle.spec_exact.specs.declared.past.Past.{Past}
 use Rattle.spec_exact.proofs.Same.{eq_test, eq_if}
 use Rattle.std.proofs.lemmas.List.{length-replicate}
 use Rattle.spec_pivot.specs.declared.status.Status.{Status}
-use Rattle.spec_simplex.specs.Run.{◌>>=◌, refused_as, steps}
-use Rattle.spec_simplex.proofs.Stops.{steps_more, steps_stop}
+use Rattle.spec_exact.specs.Run.{◌>>=◌, refused_as, steps}
+use Rattle.spec_exact.proofs.Stops.{steps_more, steps_stop}
 use Rattle.spec_simplex.specs.Tableau.{is_basic}
 use Rattle.spec_simplex.specs.Form.{Form}
 use Rattle.lp_frac.specs.Narrow.{largest}

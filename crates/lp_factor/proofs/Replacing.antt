@@ -2,7 +2,7 @@
 use Rattle.std.proofs.Common.{◌≡◌, ℕ, List, length, set, Some, Ok, Err, sym, ap, ◌∙◌}
 use Rattle.spec_exact.specs.Fraction.{ℚ}
 use Rattle.spec_exact.specs.declared.past.Past.{Past}
-use Rattle.spec_simplex.specs.Run.{◌>>=◌}
+use Rattle.spec_exact.specs.Run.{◌>>=◌}
 use Rattle.lp_frac.specs.Narrow.{largest}
 use Rattle.spec_factor.specs.Factors.{Factors, ftran_run, with_pair, replace_run}
 

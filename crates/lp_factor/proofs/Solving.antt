@@ -6,7 +6,7 @@ use Rattle.std.proofs.lemmas.List.Elements.{All-get_or}
 use Rattle.spec_exact.specs.Fraction.{ℚ}
 use Rattle.spec_exact.specs.Narrow.{IsNarrow}
 use Rattle.spec_exact.specs.declared.past.Past.{Past}
-use Rattle.spec_simplex.specs.Run.{Run, ◌>>=◌}
+use Rattle.spec_exact.specs.Run.{Run, ◌>>=◌}
 use Rattle.lp_frac.specs.Narrow.{largest}
 use Rattle.spec_factor.specs.Factors.{Pair, forward_run, ftran_run, backward_run, btran_run}
 

@@ -7,7 +7,7 @@ use Rattle.spec_exact.specs.Coded.{fraction_code}
 use Rattle.spec_exact.specs.Narrow.{IsNarrow}
 use Rattle.spec_model.specs.Model.{entry_of}
 use Rattle.spec_model.specs.Kept.{AreEntries, row_limit}
-use Rattle.spec_simplex.specs.Run.{made}
+use Rattle.spec_exact.specs.Run.{made}
 use Rattle.spec_factor.specs.Factors.{Pair, Factors}
 
 -- the pair of a place and of a column with these entries, by places

@@ -2,7 +2,6 @@
 ghost use Rattle.std.specs.Prelude.{◌≡◌, ◌≢◌, ◌+◌, ◌<◌, ◌≤◌, ℕ, List, Some, None, [], length, get_or};
 ghost use Rattle.std.specs.Prelude.{replicate, IfOk, IfSome, OnOk, map, unwrap_or, slice_set};
 ghost use Rattle.spec_exact.specs.Fraction.{ℚ, 0ℚ};
-ghost use Rattle.spec_simplex.specs.Tableau.{is_basic as is_basic_of};
 ghost use Rattle.spec_simplex.specs.Eliminate.{basics_below};
 ghost use Rattle.spec_factor.specs.Factors.{ftran_run, column_of as column_by, is_open as is_open_of};
 ghost use Rattle.spec_factor.specs.Factors.{open_place as open_place_of, with_pair, choose_run, factor_run};
@@ -14,7 +13,7 @@ use crate::eta::Eta;
 use crate::factors::Factors;
 use crate::solve::forward_all;
 use crate::stop::FactorStop;
-use lp_form::{Form, Status, StatusList};
+use lp_form::{Form, StatusList, is_basic};
 use lp_frac::{Fracs, Past, is_zero, neg, one};
 use std::alloc::{AllocError, Global};
 use std::marker::Model;
@@ -35,15 +34,6 @@ impl Model for Chosen {
     ghost view = { λ s. record { pairs = s.etas.items; columns = s.columns.items } };
 
     ghost invariant = { λ s. AreChosen (record { pairs = s.etas.items; columns = s.columns.items }) };
-}
-
-fn is_basic(status: Status) -> bool
-    ensures { result ≡ is_basic_of status }
-{
-    match status {
-        Status::Basic => true,
-        Status::AtLower | Status::AtUpper | Status::AtZero => false,
-    }
 }
 
 // The negatives of structural column `k`'s coefficients, in their rows.

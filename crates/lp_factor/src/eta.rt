@@ -8,8 +8,8 @@ ghost use Rattle.lp_frac.specs.Narrow.{largest};
 ghost use Rattle.lp_factor.specs.Answer.{GivesRun};
 ghost use Rattle.lp_factor.specs.Eta.{AreItems};
 
-use crate::steps::{less_part, less_product, narrow};
-use lp_frac::{Entries, Frac, Fracs, Past, div, is_zero};
+use crate::steps::{less_part, narrow};
+use lp_frac::{Entries, Frac, Fracs, Past, div, is_zero, less_product};
 use std::alloc::{AllocError, Global};
 use std::marker::Model;
 

@@ -7,7 +7,6 @@
 //! | `Factors::replace` | another column in one place | src/factors |
 //! | `Factors::replace_solved` | the same, where the column's solution is at hand | src/factors |
 //! | `column_of` | a column of the form's equations, by rows | src/choose |
-//! | `less_product` | a product off a number | src/steps |
 //! | `narrow`, `tell_narrow` | the fact that numbers have at most 127 bits | src/steps |
 //! | `FactorStop` | why a basis has no factors | src/stop |
 //!
@@ -25,5 +24,5 @@ mod stop;
 
 pub use choose::{column_of, factor};
 pub use factors::Factors;
-pub use steps::{less_product, narrow, tell_narrow};
+pub use steps::{narrow, tell_narrow};
 pub use stop::FactorStop;

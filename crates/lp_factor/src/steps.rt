@@ -1,10 +1,10 @@
-// Pairs of operations, and what is known of fractions.
+// A product taken off a number, and what is known of fractions.
 ghost use Rattle.std.specs.Prelude.{◌≡◌, Some, All};
 ghost use Rattle.spec_exact.specs.Narrow.{IsNarrow};
-ghost use Rattle.spec_simplex.specs.Run as run;
+ghost use Rattle.spec_exact.specs.Run as run;
 ghost use Rattle.lp_frac.specs.Narrow.{largest};
 
-use lp_frac::{Frac, Fracs, Past, den, is_zero, num};
+use lp_frac::{Frac, Fracs, Past, den, is_zero, less_product, num};
 
 /// The same fraction. It does nothing: proofs call it for the fact that its parts have at most 127 bits.
 pub fn narrow(v: Frac) -> Frac
@@ -15,15 +15,7 @@ pub fn narrow(v: Frac) -> Frac
     v
 }
 
-/// `s` less `v * w`.
-#[inline(always)]
-pub fn less_product(v: Frac, w: Frac, s: Frac) -> Result<Frac, Past>
-    ensures { result ≡ run.less_product (Some largest) v w s }
-{
-    lp_frac::less_product(v, w, s)
-}
-
-/// The same, where `v` is often 0: then nothing is taken off.
+/// `s` less `v * w`, where `v` is often 0: then nothing is taken off.
 #[inline(always)]
 pub(crate) fn less_part(v: Frac, w: Frac, s: Frac) -> Result<Frac, Past>
     requires w_narrow { IsNarrow w }

@@ -2,6 +2,7 @@
 use Rattle.std.proofs.Common.{◌≡◌, Some, Ok}
 use Rattle.spec_model.specs.Model.{cost, coefficient, part}
 use Rattle.spec_check.specs.Checks.{signed}
+use Rattle.spec_exact.specs.Run.{steps}
 use Rattle.spec_check.specs.Run as run
 use Rattle.lp_frac.specs.Narrow.{largest}
 use Rattle.lp_check.proofs.multipliers.reduced.Given as goal
@@ -9,5 +10,6 @@ use Rattle.lp_check.proofs.multipliers.reduced.Given as goal
 -- what is left so far
 abbrev pub invariant-loop-i : goal.invariant-loop-i
 invariant-loop-i l =
-    run.each_from (signed l.model.sense (cost l.model l.j)) l.i
-    (λ i d. run.less_product (Some largest) (part l.y i) (coefficient l.model i l.j) d) ≡ Ok l.rest
+    steps l.i (λ i d. run.less_product (Some largest) (part l.y i) (coefficient l.model i l.j) d)
+    (signed l.model.sense (cost l.model l.j))
+    ≡ Ok l.rest

@@ -1,6 +1,6 @@
 -- A line, unless the number is 0.
 use Rattle.spec_exact.specs.Fraction.{0ℚ}
-use Rattle.lp_check.proofs.Signs.{same_is}
+use Rattle.spec_exact.proofs.Same.{same_is}
 use Rattle.lp_check.proofs.Lines.{no_line, one_line}
 use Rattle.lp_check.proofs.text.add_part.Goals as goal
 

@@ -4,7 +4,7 @@ use Rattle.std.proofs.lemmas.Result.{err_from_is_err_and}
 use Rattle.spec_simplex.specs.Tableau.{all_columns}
 use Rattle.spec_simplex.specs.Dual.{cheapest_with}
 use Rattle.lp_frac.specs.Narrow.{largest}
-use Rattle.spec_simplex.proofs.Stops.{steps_stop}
+use Rattle.spec_exact.proofs.Stops.{steps_stop}
 use Rattle.lp_dual.proofs.candidates.cheapest.Goals as goal
 
 pub returns-in_err-best : goal.returns-in_err-best

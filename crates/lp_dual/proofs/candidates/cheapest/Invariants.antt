@@ -1,6 +1,6 @@
 -- The loop over the columns.
 use Rattle.std.proofs.Common.{◌≡◌, Some, None, Ok}
-use Rattle.spec_simplex.specs.Run.{steps}
+use Rattle.spec_exact.specs.Run.{steps}
 use Rattle.spec_simplex.specs.Dual.{cheapest_with}
 use Rattle.lp_frac.specs.Narrow.{largest}
 use Rattle.lp_dual.proofs.candidates.cheapest.Given as goal

@@ -1,6 +1,6 @@
 -- Where the first operand is 0.
 use Rattle.std.proofs.Common.{sym, ap, ◌∙◌, Some}
-use Rattle.spec_simplex.specs.Run.{less_product}
+use Rattle.spec_exact.specs.Run.{less_product}
 use Rattle.lp_frac.specs.Narrow.{largest}
 use Rattle.lp_factor.proofs.Gaps.{less_zero_left}
 use Rattle.lp_factor.proofs.steps.less_part.Goals as goal
