@@ -10,14 +10,15 @@ use Rattle.spec_exact.specs.GcdLaws.{gcd_is}
 use Rattle.spec_exact.specs.Quotients.{abs-int_div, abs-neg_ℤ, positive_part, coprime_parts}
 use Rattle.spec_exact.specs.Fraction.{ℚ, over, ◌+ℚ◌, ◌*ℚ◌, ◌-ℚ◌, neg_ℚ}
 use Rattle.spec_exact.specs.Limit.{fits, left_num, right_num, add, sub, mul}
-use Rattle.spec_exact.specs.Answer.{told, then_of}
+use Rattle.spec_exact.specs.Answer.{told}
+use Rattle.spec_exact.specs.Run.{◌>>=◌, difference_run, less_product}
 use Rattle.spec_exact.specs.declared.past.Op.TheVariants.{Mul, Sub}
 use Rattle.spec_exact.proofs.Ring.{◌⊕◌, ◌⊖◌, ◌⊗◌, minus, v0, v1, v2, v3, v4, v5}
 use Rattle.spec_exact.proofs.Whole.{by_ring}
 use Rattle.spec_exact.proofs.Fraction.{over-same, over_cross, exact_quotient}
 use Rattle.spec_exact.proofs.Limit.{product_exact, sum_exact}
 use Rattle.lp_frac.specs.Narrow.{largest}
-use Rattle.lp_frac.specs.Less.{IsSmall, IsShort, IsShortProduct, less_product_of, less_num, less_den}
+use Rattle.lp_frac.specs.Less.{IsSmall, IsShort, IsShortProduct, less_num, less_den}
 
 test : (n k : ℕ) → n ≤ k → k ≤ largest → fits (Some largest) n ≡ true
 test n k h g = le-leb n largest (le_trans h g)
@@ -116,14 +117,14 @@ less_exact v w s =
 pub less_fits : (v w s : ℚ) → unsigned_abs v.num * unsigned_abs w.num ≤ largest → v.den * w.den ≤ largest →
     unsigned_abs s.num * (v.den * w.den) + unsigned_abs v.num * unsigned_abs w.num * s.den ≤ largest →
     s.den * (v.den * w.den) ≤ largest →
-    less_product_of (Some largest) v w s
+    less_product (Some largest) v w s
     ≡ Ok (over (less_num v.num v.den w.num w.den s.num s.den) (less_den v.den w.den s.den))
 less_fits v w s h k l m =
     let b = product_below v w in
     let top : unsigned_abs s.num * (v *ℚ w).den + unsigned_abs (v *ℚ w).num * s.den ≤ largest =
     omega (arith, l, mul-le-mul_left (unsigned_abs s.num) b.den, mul-le-mul_right s.den b.num) in
     let low : s.den * (v *ℚ w).den ≤ largest = omega (arith, m, mul-le-mul_left s.den b.den) in
-    ap (λ o. then_of (told Mul v w o) (λ p. told Sub s p (sub (Some largest) s p))) (mul_fits v w h k)
+    ap (λ o. told Mul v w o >>= difference_run (Some largest) s) (mul_fits v w h k)
     ∙ ap (told Sub s (v *ℚ w)) (sub_fits s (v *ℚ w) top low)
     ∙ ap Ok (less_exact v w s)
 
@@ -177,7 +178,7 @@ scaled_same e f n k p q hf hk hp h =
 
 pub less_short : (v w s x : ℚ) (n e : ℤ) (k f : ℕ) → IsShortProduct n k v w →
     IsShort e f s → x ≡ over (e *ℤ pos k -ℤ n *ℤ pos f) (k * f) →
-    less_product_of (Some largest) v w s ≡ Ok x
+    less_product (Some largest) v w s ≡ Ok x
 less_short v w s x n e k f hp hs ex =
     let left : unsigned_abs e * k ≤ 9223372036854775808 * 9223372036854775807 = mul-le-mul hs.num_size hp.den_size in
     let right : unsigned_abs n * f ≤ 9223372036854775808 * 9223372036854775807 = mul-le-mul hp.num_size hs.den_size in
@@ -190,15 +191,15 @@ less_short v w s x n e k f hp hs ex =
   where
     at : (t : ℕ) (m : ℤ) (l : ℕ) (g : ℤ) (h : ℕ) → unsigned_abs m ≡ t → n ≡ m → k ≡ l → e ≡ g → f ≡ h →
         (t ≤ largest → l ≤ largest → unsigned_abs g * l + t * h ≤ largest → h * l ≤ largest →
-        less_product_of (Some largest) v w s ≡ Ok (over (g *ℤ pos l -ℤ m *ℤ pos h) (l * h))) →
+        less_product (Some largest) v w s ≡ Ok (over (g *ℤ pos l -ℤ m *ℤ pos h) (l * h))) →
         unsigned_abs n ≤ largest → k ≤ largest → unsigned_abs e * k + unsigned_abs n * f ≤ largest → f * k ≤ largest →
-        less_product_of (Some largest) v w s ≡ Ok (over (e *ℤ pos k -ℤ n *ℤ pos f) (k * f))
+        less_product (Some largest) v w s ≡ Ok (over (e *ℤ pos k -ℤ n *ℤ pos f) (k * f))
     at t m l g h et en ek ee ef = rw (en, ek, ee, ef, sym et) (λ y. y)
 
 -- of small parts
 pub less_small : (v w s x : ℚ) (a c e : ℤ) (b d f : ℕ) (n : ℤ) (k : ℕ) → IsSmall a b v → IsSmall c d w →
     IsSmall e f s → n ≡ a *ℤ c → k ≡ b * d → x ≡ over (e *ℤ pos k -ℤ n *ℤ pos f) (k * f) →
-    less_product_of (Some largest) v w s ≡ Ok x
+    less_product (Some largest) v w s ≡ Ok x
 less_small v w s x a c e b d f n k hv hw hs en ek ex =
     let tops : unsigned_abs a * unsigned_abs c ≤ 2147483648 * 2147483648 = mul-le-mul hv.num_size hw.num_size in
     let lows : b * d ≤ 4294967295 * 4294967295 = mul-le-mul hv.den_size hw.den_size in
@@ -213,10 +214,10 @@ less_small v w s x a c e b d f n k hv hw hs en ek ex =
     at : (p : ℤ) (q : ℕ) (k : ℤ) (l : ℕ) (m : ℤ) (n : ℕ) → a ≡ p → b ≡ q → c ≡ k → d ≡ l → e ≡ m → f ≡ n →
         (unsigned_abs p * unsigned_abs k ≤ largest → q * l ≤ largest →
         unsigned_abs m * (q * l) + unsigned_abs p * unsigned_abs k * n ≤ largest → n * (q * l) ≤ largest →
-        less_product_of (Some largest) v w s ≡ Ok (over (less_num p q k l m n) (less_den q l n))) →
+        less_product (Some largest) v w s ≡ Ok (over (less_num p q k l m n) (less_den q l n))) →
         unsigned_abs a * unsigned_abs c ≤ largest → b * d ≤ largest →
         unsigned_abs e * (b * d) + unsigned_abs a * unsigned_abs c * f ≤ largest → f * (b * d) ≤ largest →
-        less_product_of (Some largest) v w s ≡ Ok (over (less_num a b c d e f) (less_den b d f))
+        less_product (Some largest) v w s ≡ Ok (over (less_num a b c d e f) (less_den b d f))
     at p q k l m n ea eb ec ed ee ef = rw (ea, eb, ec, ed, ee, ef) (λ h. h)
 
 -- 0 over any denominator

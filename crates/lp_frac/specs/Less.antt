@@ -1,14 +1,6 @@
 -- A product taken off a number.
-use Rattle.std.specs.Prelude.{◌≡◌, ◌<◌, ◌≤◌, unsigned_abs, ℕ, ◌*◌, ℤ, pos, ◌-ℤ◌, ◌*ℤ◌, Option, Result}
+use Rattle.std.specs.Prelude.{◌≡◌, ◌<◌, ◌≤◌, unsigned_abs, ℕ, ◌*◌, ℤ, pos, ◌-ℤ◌, ◌*ℤ◌}
 use Rattle.spec_exact.specs.Fraction.{ℚ}
-use Rattle.spec_exact.specs.Limit.{mul, sub}
-use Rattle.spec_exact.specs.declared.past.Past.{Past}
-use Rattle.spec_exact.specs.declared.past.Op.TheVariants.{Mul, Sub}
-use Rattle.spec_exact.specs.Answer.{told, then_of}
-
--- v * w, and then s less that; the first of the two that is refused is the answer
-abbrev pub less_product_of : Option ℕ → ℚ → ℚ → ℚ → Result ℚ (Past ℚ)
-less_product_of limit v w s = then_of (told Mul v w (mul limit v w)) (λ p. told Sub s p (sub limit s p))
 
 -- e / f less (a / b) (c / d), over the product of the denominators
 abbrev pub less_num : ℤ → ℕ → ℤ → ℕ → ℤ → ℕ → ℤ

@@ -9,14 +9,14 @@
 //! |---|---|---|
 //! | `Frac`, `Frac::new`, `zero`, `one` | a fraction; one of two whole numbers; 0 and 1 | src/frac, src/lists, src/readers |
 //! | `add` `sub` `mul` `div` `cmp` | the operations that can be refused | src/operations |
-//! | `neg` `abs` `sign` `num` `den` `is_zero` `are_same` | the ones that never are | src/readers |
-//! | `less_product` | a product taken off a number, as the product and then the difference | src/less |
+//! | `neg` `abs` `sign` `num` `den` `is_zero` `is_negative` `is_positive` `are_same` | the ones that never are | src/readers |
+//! | `plus_product`, `less_product` | a product, and then its sum with a number, or what is left of the number | src/less |
 //! | `within` `all_within` | that the parts of a fraction, or of all of a list, are within the limit | src/readers |
 //! | `Past`, `Op` | a refusal, and the operation that it names | src/frac |
 //! | `FracFault` | why two whole numbers make no fraction | src/frac |
 //! | `Fracs`, `Entries` | lists of fractions and of a column's entries, plain lists to contracts | src/lists |
 //!
-//! Contracts above cite `largest` of specs/Narrow and the operations of spec_exact's specs/Limit.
+//! Contracts above cite `largest` of specs/Narrow, and the operations of specs/Limit and specs/Run of spec_exact.
 #![tactic(auto)]
 
 mod divisors;
@@ -32,7 +32,10 @@ mod short;
 mod small;
 
 pub use frac::{Frac, FracFault, LARGEST, Op, Past};
-pub use less::less_product;
+pub use less::{less_product, plus_product};
 pub use lists::{Entries, Fracs};
 pub use operations::{add, cmp, div, mul, sub};
-pub use readers::{abs, all_within, are_same, den, is_zero, neg, num, one, sign, within, zero};
+pub use readers::{
+    abs, all_within, are_same, den, is_negative, is_positive, is_zero, neg, num, one, sign, within,
+    zero,
+};

@@ -1,6 +1,6 @@
 // Operations that are never refused: the parts, the sign, the negative and the magnitude.
 ghost use Rattle.std.specs.Prelude.{◌≡◌, ◌≢◌, ◌≤◌, unsigned_abs, pos, IsTrue, ◌↔◌, All};
-ghost use Rattle.spec_exact.specs.Fraction.{neg_ℚ, abs_ℚ, 0ℚ, 1ℚ, inverse};
+ghost use Rattle.spec_exact.specs.Fraction.{neg_ℚ, abs_ℚ, 0ℚ, 1ℚ, inverse, eq_ℚ, lt_ℚ};
 ghost use Rattle.spec_exact.specs.Limit.{sign as sign_of};
 ghost use Rattle.spec_exact.specs.Laws.{IsWithin};
 ghost use Rattle.lp_frac.specs.Narrow.{largest};
@@ -75,6 +75,20 @@ pub fn sign(v: Frac) -> Ordering
     v.top().cmp(&0)
 }
 
+/// Whether `v` is below 0.
+pub fn is_negative(v: Frac) -> bool
+    ensures { result ≡ lt_ℚ v 0ℚ }
+{
+    v.top() < 0
+}
+
+/// Whether `v` is above 0.
+pub fn is_positive(v: Frac) -> bool
+    ensures { result ≡ lt_ℚ 0ℚ v }
+{
+    v.top() > 0
+}
+
 /// The fraction 0.
 pub fn zero() -> Frac
     ensures { result ≡ 0ℚ }
@@ -91,7 +105,8 @@ pub fn one() -> Frac
 
 /// Whether the two are one fraction. `==` answers the same; contracts say it of this function.
 pub fn are_same(v: Frac, w: Frac) -> bool
-    ensures { IsTrue result ↔ (v ≡ w) }
+    ensures same { IsTrue result ↔ (v ≡ w) }
+    ensures test { result ≡ eq_ℚ v w }
 {
     v == w
 }

@@ -1,8 +1,9 @@
 // A product taken off a number, where the parts of all three and of the product have 64 bits.
 ghost use Rattle.std.specs.Prelude.{◌≡◌, ◌<◌, ◌≤◌, ◌*◌, Some, IfSome, Ok, ◌*ℤ◌, ◌-ℤ◌, pos, unsigned_abs};
 ghost use Rattle.spec_exact.specs.Fraction.{over};
+ghost use Rattle.spec_exact.specs.Run.{less_product};
 ghost use Rattle.lp_frac.specs.Narrow.{largest};
-ghost use Rattle.lp_frac.specs.Less.{IsShort, IsShortProduct, IsNumerator, IsDenominator, less_product_of};
+ghost use Rattle.lp_frac.specs.Less.{IsShort, IsShortProduct, IsNumerator, IsDenominator};
 
 use crate::frac::Frac;
 use crate::lowest::{lowest, scales, short_lowest};
@@ -135,7 +136,7 @@ fn difference(e: i64, f: u64, n: i64, k: u64) -> Frac
 // `s` less `v * w`, where all parts and those of the product have 64 bits.
 // e/f - (a/b) (c/d) = e/f - n/k, n = a c, k = b d
 pub(crate) fn short_less(v: Frac, w: Frac, s: Frac) -> Option<Frac>
-    ensures { IfSome result (λ x. less_product_of (Some largest) v w s ≡ Ok x) }
+    ensures { IfSome result (λ x. less_product (Some largest) v w s ≡ Ok x) }
 {
     let Some((e, f)) = short(s) else {
         return None;

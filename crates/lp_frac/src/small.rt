@@ -1,8 +1,9 @@
 // A product taken off a number, where the parts of all three have 32 bits.
 ghost use Rattle.std.specs.Prelude.{◌≡◌, ◌<◌, ◌≤◌, ◌*◌, Some, IfSome, Ok, ◌*ℤ◌, ◌-ℤ◌, pos, unsigned_abs};
 ghost use Rattle.spec_exact.specs.Fraction.{over};
+ghost use Rattle.spec_exact.specs.Run.{less_product};
 ghost use Rattle.lp_frac.specs.Narrow.{largest};
-ghost use Rattle.lp_frac.specs.Less.{IsSmall, IsTerm, less_product_of};
+ghost use Rattle.lp_frac.specs.Less.{IsSmall, IsTerm};
 
 use crate::frac::Frac;
 use crate::lowest::{scales, short_lowest};
@@ -125,7 +126,7 @@ fn small_difference(e: i32, f: u64, n: i64, k: u64) -> Option<Frac>
 // e/f - (a/b) (c/d) = e/f - n/k, n = a c, k = b d
 #[inline(always)]
 pub(crate) fn small_less(v: Frac, w: Frac, s: Frac) -> Option<Frac>
-    ensures { IfSome result (λ x. less_product_of (Some largest) v w s ≡ Ok x) }
+    ensures { IfSome result (λ x. less_product (Some largest) v w s ≡ Ok x) }
 {
     let Some((a, b)) = small(v) else {
         return None;

@@ -7,7 +7,7 @@ use Rattle.spec_simplex.specs.declared.ends.Best.{Best}
 use Rattle.spec_simplex.specs.declared.ends.PrimalEnd.TheVariants.{Optimal, Unbounded}
 use Rattle.spec_simplex.specs.declared.ends.Choice.{Choice}
 use Rattle.spec_simplex.specs.declared.ends.Choice.TheVariants.{End}
-use Rattle.spec_simplex.specs.Run.{Run, ◌>>=◌}
+use Rattle.spec_exact.specs.Run.{Run, ◌>>=◌}
 use Rattle.spec_simplex.specs.Tableau.{Tableau, all_columns, reduced_at, lower_at, upper_at, is_fixed}
 use Rattle.spec_simplex.specs.Step.{entering, best_run, choice_at, choice_by, choice_of, choice_run, CanMake}
 use Rattle.lp_primal.proofs.Enters.{MayEnter, may_enter, not_basic}

@@ -17,12 +17,12 @@ use Rattle.spec_pivot.specs.declared.status.Status.{Status}
 use Rattle.spec_pivot.specs.declared.status.Status.TheVariants.{AtLower, AtUpper}
 use Rattle.spec_simplex.specs.declared.ends.Entering.{Entering}
 use Rattle.spec_simplex.specs.declared.ends.Best.{Best}
-use Rattle.spec_simplex.specs.Run.{Run, ◌>>=◌, difference_run, quotient_run, order_run, steps}
+use Rattle.spec_exact.specs.Run.{Run, ◌>>=◌, difference_run, quotient_run, order_run, steps}
 use Rattle.spec_simplex.specs.Tableau.{Tableau, entry_at, basic_at, value_at, lower_at, upper_at}
 use Rattle.spec_simplex.specs.Step.{directed, other_bound, range_run, rise_run, fall_run, gap_run}
 use Rattle.spec_simplex.specs.Step.{better_by, better_run, with_gap, best_with, best_run, NamesBound}
-use Rattle.spec_simplex.proofs.Stops.{steps_stop}
-use Rattle.lp_primal.proofs.Signs.{negative_is}
+use Rattle.spec_exact.proofs.Stops.{steps_stop}
+use Rattle.spec_exact.proofs.Signs.{negative_test}
 
 -- ---- results of operations
 pub then_ok : {A B E : Type 0} (o : Result A E) (next : A → Result B E) (b : B) → (o >>= next) ≡ Ok b →
@@ -42,10 +42,10 @@ quotient_ok limit v w x n h = div_exact limit v w x n (told_ok Div v w (div limi
 
 -- ---- magnitudes
 abs_above : (x : ℚ) → 0ℚ <ℚ x → abs_ℚ x ≡ x
-abs_above x h = ap (λ b. cond b (neg_ℚ x) x) (negative_is x ∙ not_lt_test x 0ℚ (<ℚ-le 0ℚ x h))
+abs_above x h = ap (λ b. cond b (neg_ℚ x) x) (negative_test x ∙ not_lt_test x 0ℚ (<ℚ-le 0ℚ x h))
 
 abs_below : (x : ℚ) → x <ℚ 0ℚ → abs_ℚ x ≡ neg_ℚ x
-abs_below x h = ap (λ b. cond b (neg_ℚ x) x) (negative_is x ∙ lt_test x 0ℚ h)
+abs_below x h = ap (λ b. cond b (neg_ℚ x) x) (negative_test x ∙ lt_test x 0ℚ h)
 
 turned_up : (x : ℚ) → neg_ℚ x <ℚ 0ℚ → 0ℚ <ℚ x
 turned_up x h =

@@ -2,7 +2,7 @@
 use Rattle.std.specs.Prelude.{ℕ, Option, Some, Bool}
 use Rattle.spec_exact.specs.Fraction.{ℚ}
 use Rattle.spec_simplex.specs.declared.ends.Best.{Best}
-use Rattle.spec_simplex.specs.Run.{Run, ◌>>=◌}
+use Rattle.spec_exact.specs.Run.{Run, ◌>>=◌}
 use Rattle.spec_simplex.specs.Step.{gap_run, with_gap}
 use Rattle.lp_frac.specs.Narrow.{largest}
 

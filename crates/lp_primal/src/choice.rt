@@ -4,9 +4,9 @@ ghost use Rattle.spec_simplex.specs.Step.{choice_run, CanMake};
 ghost use Rattle.lp_frac.specs.Narrow.{largest};
 
 use crate::entering::entering;
-use crate::ratio::{best, directed};
+use crate::ratio::best;
 use lp_frac::{Frac, Past};
-use lp_tableau::{PrimalEnd, Tableau};
+use lp_tableau::{PrimalEnd, Tableau, directed};
 
 pub(crate) type Choice = spec_simplex::Choice<Frac>;
 

@@ -7,26 +7,13 @@ ghost use Rattle.lp_frac.specs.Narrow.{largest};
 ghost use Rattle.lp_primal.specs.Ratio.{best_at as best_at_of};
 
 use lp_form::Status;
-use lp_frac::{Frac, Past, abs, cmp, div, neg, sign, sub};
-use lp_tableau::Tableau;
+use lp_frac::{Frac, Past, abs, cmp, div, sign, sub};
+use lp_tableau::{Tableau, directed, other_bound};
 use spec_simplex::Entering;
 use std::cmp::Ordering;
 
 /// The least ratio so far.
 pub type Best = spec_simplex::Best<Frac>;
-
-/// `v`, or its negative where `up` is false.
-pub fn directed(up: bool, v: Frac) -> Frac
-    ensures { result ≡ step.directed up v }
-{
-    if up { v } else { neg(v) }
-}
-
-fn other_bound(up: bool) -> Status
-    ensures { result ≡ step.other_bound up }
-{
-    if up { Status::AtUpper } else { Status::AtLower }
-}
 
 /// How far the entering column itself may move, where it has both bounds.
 pub fn range(e: Entering, lower: Option<Frac>, upper: Option<Frac>) -> Result<Option<Best>, Past>

@@ -7,7 +7,7 @@ use Rattle.std.proofs.lemmas.List.Elements.{All-from_get_or, All-set, All-map}
 use Rattle.spec_exact.specs.Fraction.{ℚ}
 use Rattle.spec_pivot.specs.declared.status.Status.{Status}
 use Rattle.spec_simplex.specs.Form.{Form}
-use Rattle.spec_simplex.specs.Run.{refused_as}
+use Rattle.spec_exact.specs.Run.{refused_as}
 use Rattle.spec_simplex.specs.Eliminate.{basis_at}
 use Rattle.spec_simplex.specs.Tableau.{is_basic}
 use Rattle.spec_path.proofs.Runs.{then_ok, steps_ok}

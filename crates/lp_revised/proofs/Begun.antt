@@ -4,7 +4,7 @@ use Rattle.spec_exact.specs.Fraction.{ℚ, 0ℚ}
 use Rattle.spec_pivot.specs.declared.status.Status.{Status}
 use Rattle.spec_simplex.specs.declared.ends.RowStart.{RowStart}
 use Rattle.spec_simplex.specs.Form.{Form, IsForm}
-use Rattle.spec_simplex.specs.Run.{made}
+use Rattle.spec_exact.specs.Run.{made}
 use Rattle.spec_simplex.specs.Start.{start_basic, start_value, start_status, artificial_upper, begun}
 use Rattle.spec_simplex.specs.Tableau.{Tableau, IsTableauShape}
 use Rattle.spec_factor.specs.Factors.{Pair}

@@ -5,10 +5,10 @@ use Rattle.spec_exact.specs.Fraction.{ℚ}
 use Rattle.spec_exact.specs.declared.past.Past.{Past}
 use Rattle.spec_simplex.specs.declared.ends.Entering.{Entering}
 use Rattle.spec_simplex.specs.Form.{Form}
-use Rattle.spec_simplex.specs.Run.{Run, ◌>>=◌, steps}
+use Rattle.spec_exact.specs.Run.{Run, ◌>>=◌, steps}
 use Rattle.spec_simplex.specs.Tableau.{Tableau, all_columns}
 use Rattle.spec_simplex.specs.Step.{or_enters}
-use Rattle.spec_simplex.proofs.Stops.{steps_more, steps_stop}
+use Rattle.spec_exact.proofs.Stops.{steps_more, steps_stop}
 use Rattle.spec_factor.specs.Revised.{way_run, or_priced, entering_run}
 use Rattle.lp_frac.specs.Narrow.{largest}
 

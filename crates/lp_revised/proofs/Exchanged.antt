@@ -5,7 +5,7 @@ use Rattle.spec_exact.specs.declared.past.Past.{Past}
 use Rattle.spec_pivot.specs.declared.status.Status.{Status}
 use Rattle.spec_simplex.specs.declared.ends.RowStart.{RowStart}
 use Rattle.spec_simplex.specs.Form.{Form}
-use Rattle.spec_simplex.specs.Run.{Run, ◌>>=◌}
+use Rattle.spec_exact.specs.Run.{Run, ◌>>=◌}
 use Rattle.spec_simplex.specs.Tableau.{Tableau}
 use Rattle.spec_simplex.specs.Step.{shifted_run, exchanged, turned}
 use Rattle.spec_factor.specs.Factors.{Factors, with_pair, column_of, ftran_run, replace_run}

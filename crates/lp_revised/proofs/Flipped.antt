@@ -5,10 +5,10 @@ use Rattle.spec_exact.specs.Fraction.{ℚ, 0ℚ}
 use Rattle.spec_exact.specs.declared.past.Past.{Past}
 use Rattle.spec_pivot.specs.declared.status.Status.{Status}
 use Rattle.spec_simplex.specs.declared.ends.RowStart.{RowStart}
-use Rattle.spec_simplex.specs.Run.{Run, ◌>>=◌, difference_run, less_product, steps}
+use Rattle.spec_exact.specs.Run.{Run, ◌>>=◌, difference_run, less_product, steps}
 use Rattle.spec_simplex.specs.Tableau.{Tableau, basic_at, status_at, lower_at, upper_at, or_zero}
 use Rattle.spec_simplex.specs.Step.{directed, other_bound, is_place, moved_at, moved_run, flip_way, flipped}
-use Rattle.spec_simplex.proofs.Stops.{steps_stop}
+use Rattle.spec_exact.proofs.Stops.{steps_stop}
 use Rattle.spec_factor.specs.Revised.{Revised, bare_of, seen, flip_over_run}
 use Rattle.lp_frac.specs.Narrow.{largest}
 use Rattle.lp_tableau.proofs.Flips.{range_stops, flip_stops, flip_made}

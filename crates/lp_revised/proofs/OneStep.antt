@@ -11,7 +11,7 @@ use Rattle.spec_simplex.specs.declared.ends.Choice.TheVariants.{End, Flip, Pivot
 use Rattle.spec_simplex.specs.declared.ends.RunStop.{RunStop}
 use Rattle.spec_simplex.specs.declared.ends.RunStop.TheVariants as cause
 use Rattle.spec_simplex.specs.Form.{Form}
-use Rattle.spec_simplex.specs.Run.{Run, ◌>>=◌, refused_as}
+use Rattle.spec_exact.specs.Run.{Run, ◌>>=◌, refused_as}
 use Rattle.spec_factor.specs.Revised.{Revised, seen, Selection, selection_run, flip_over_run, pivot_over_run}
 use Rattle.spec_factor.specs.Over.{RevisedEnded, over_or_spent, over_or_next, over_from}
 use Rattle.lp_frac.specs.Narrow.{largest}

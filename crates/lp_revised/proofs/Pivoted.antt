@@ -7,7 +7,7 @@ use Rattle.spec_simplex.specs.declared.ends.RowStart.{RowStart}
 use Rattle.spec_simplex.specs.declared.ends.RunStop.{RunStop}
 use Rattle.spec_simplex.specs.declared.ends.RunStop.TheVariants as cause
 use Rattle.spec_simplex.specs.Form.{Form}
-use Rattle.spec_simplex.specs.Run.{◌>>=◌, refused_as}
+use Rattle.spec_exact.specs.Run.{◌>>=◌, refused_as}
 use Rattle.spec_factor.specs.Factors.{column_of, ftran_run}
 use Rattle.spec_factor.specs.Revised.{Revised, seen, pivot_over_run, refreshed_run}
 use Rattle.lp_frac.specs.Narrow.{largest}

@@ -10,9 +10,9 @@ use Rattle.spec_exact.proofs.Ruleset.{neg-zero}
 use Rattle.spec_model.specs.Model.{entry_of}
 use Rattle.spec_model.specs.Kept.{AreEntries}
 use Rattle.spec_simplex.specs.Form.{Form}
-use Rattle.spec_simplex.specs.Run.{Run, less_product, steps}
+use Rattle.spec_exact.specs.Run.{Run, less_product, steps}
 use Rattle.spec_simplex.specs.Start.{cost_at}
-use Rattle.spec_simplex.proofs.Stops.{steps_more, steps_stop}
+use Rattle.spec_exact.proofs.Stops.{steps_more, steps_stop}
 use Rattle.spec_factor.specs.Factors.{column_entry}
 use Rattle.spec_factor.specs.Revised.{price_run}
 use Rattle.lp_frac.specs.Narrow.{largest}

@@ -5,9 +5,9 @@ use Rattle.spec_pivot.specs.declared.status.Status.{Status}
 use Rattle.spec_simplex.specs.declared.ends.RunStop.{RunStop}
 use Rattle.spec_simplex.specs.declared.ends.RunStop.TheVariants as cause
 use Rattle.spec_simplex.specs.Form.{Form}
-use Rattle.spec_simplex.specs.Run.{◌>>=◌}
+use Rattle.spec_exact.specs.Run.{◌>>=◌}
 use Rattle.spec_simplex.specs.Tableau.{Tableau, form_columns}
-use Rattle.spec_simplex.proofs.Stops.{length-made}
+use Rattle.spec_exact.proofs.Stops.{length-made}
 use Rattle.spec_cold.specs.Cold.{basis_status}
 use Rattle.spec_factor.specs.Factors.{Factors, factor_run}
 use Rattle.spec_factor.specs.Revised.{Revised, standing, factor_basis, factor_stop, refactored, refactor_run}

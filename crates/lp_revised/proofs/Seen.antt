@@ -2,9 +2,9 @@
 use Rattle.std.proofs.Common.{◌≡◌, ℕ, suc, ◌<◌, List, [], get_or, cond, nat_eq, refl, ap, ◌∙◌, arith, eq-eqb}
 use Rattle.spec_exact.specs.Fraction.{ℚ, 0ℚ}
 use Rattle.spec_simplex.specs.declared.ends.RowStart.{RowStart}
-use Rattle.spec_simplex.specs.Run.{made}
+use Rattle.spec_exact.specs.Run.{made}
 use Rattle.spec_simplex.specs.Tableau.{Tableau, entry_at}
-use Rattle.spec_simplex.proofs.Stops.{get_or-made}
+use Rattle.spec_exact.proofs.Stops.{get_or-made}
 use Rattle.spec_factor.specs.Revised.{seen_entry, seen}
 
 pub seen_at : (starts : List (RowStart ℚ)) (t : Tableau) (j : ℕ) (z : List ℚ) (p : ℕ) → p < t.rows →

@@ -12,7 +12,7 @@ use Rattle.spec_simplex.specs.declared.ends.Choice.TheVariants.{End}
 use Rattle.spec_simplex.specs.declared.ends.RunStop.{RunStop}
 use Rattle.spec_simplex.specs.declared.ends.RunStop.TheVariants as cause
 use Rattle.spec_simplex.specs.Form.{Form}
-use Rattle.spec_simplex.specs.Run.{Run, ◌>>=◌, refused_as}
+use Rattle.spec_exact.specs.Run.{Run, ◌>>=◌, refused_as}
 use Rattle.spec_simplex.specs.Tableau.{Tableau, basic_at}
 use Rattle.spec_simplex.specs.Step.{best_run, choice_by}
 use Rattle.spec_factor.specs.Factors.{column_of, ftran_run}

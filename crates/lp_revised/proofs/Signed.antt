@@ -6,7 +6,7 @@ use Rattle.spec_exact.specs.Fraction.{ℚ, 0ℚ, ◌*ℚ◌, neg_ℚ}
 use Rattle.spec_exact.proofs.Ruleset.{one-*ℚ, neg-*ℚ}
 use Rattle.spec_simplex.specs.declared.ends.RowStart.{RowStart}
 use Rattle.spec_simplex.specs.declared.ends.RowStart.TheVariants.{Within, Below, Above}
-use Rattle.spec_simplex.specs.Run.{Run}
+use Rattle.spec_exact.specs.Run.{Run}
 use Rattle.spec_simplex.specs.Start.{start_at, logical_sign}
 use Rattle.spec_simplex.specs.Tableau.{Tableau, form_columns}
 use Rattle.spec_factor.specs.Factors.{Pair, btran_run}

@@ -10,7 +10,7 @@ use Rattle.spec_simplex.specs.declared.ends.PrimalEnd.TheVariants.{Optimal}
 use Rattle.spec_simplex.specs.declared.ends.RunStop.{RunStop}
 use Rattle.spec_simplex.specs.declared.ends.RunStop.TheVariants as cause
 use Rattle.spec_simplex.specs.Form.{Form}
-use Rattle.spec_simplex.specs.Run.{◌>>=◌, refused_as, list_run}
+use Rattle.spec_exact.specs.Run.{◌>>=◌, refused_as, list_run}
 use Rattle.spec_simplex.specs.Start.{row_start, begun, first_costs}
 use Rattle.spec_simplex.specs.Phases.{wants_phase_one, is_stuck}
 use Rattle.spec_cold.specs.Cold.{basis_at}

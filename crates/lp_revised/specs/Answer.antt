@@ -3,7 +3,7 @@ use Rattle.std.specs.Prelude.{◌≡◌, ⊤, Result, Ok, Err}
 use Rattle.spec_exact.specs.Fraction.{ℚ}
 use Rattle.spec_simplex.specs.declared.ends.RunStop.{RunStop}
 use Rattle.spec_simplex.specs.declared.ends.RunStop.TheVariants as cause
-use Rattle.spec_simplex.specs.Run.{Run, refused_as}
+use Rattle.spec_exact.specs.Run.{Run, refused_as}
 use Rattle.lp_revised.specs.declared.stop.RevisedStop.{RevisedStop}
 use Rattle.lp_revised.specs.declared.stop.RevisedStop.TheVariants as stop
 

@@ -2,7 +2,7 @@
 use Rattle.std.specs.Prelude.{◌≡◌, ℕ, suc, List, [], slice_set, get_or, Option, Some, Ok, if◌then◌else◌}
 use Rattle.spec_exact.specs.Fraction.{ℚ, 0ℚ}
 use Rattle.spec_simplex.specs.declared.ends.RowStart.{RowStart}
-use Rattle.spec_simplex.specs.Run.{Run, ◌>>=◌, less_product, steps}
+use Rattle.spec_exact.specs.Run.{Run, ◌>>=◌, less_product, steps}
 use Rattle.spec_simplex.specs.Tableau.{Tableau, basic_at}
 use Rattle.spec_pivot.specs.declared.status.Status.{Status}
 use Rattle.spec_simplex.specs.Step.{is_place, shifted_run, exchanged, turned}

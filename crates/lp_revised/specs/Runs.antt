@@ -9,7 +9,7 @@ use Rattle.spec_simplex.specs.declared.ends.PrimalEnd.TheVariants.{Optimal, Unbo
 use Rattle.spec_simplex.specs.declared.ends.RunStop.{RunStop}
 use Rattle.spec_simplex.specs.declared.ends.RunStop.TheVariants as cause
 use Rattle.spec_simplex.specs.Form.{Form}
-use Rattle.spec_simplex.specs.Run.{◌>>=◌, refused_as}
+use Rattle.spec_exact.specs.Run.{◌>>=◌, refused_as}
 use Rattle.spec_simplex.specs.Tableau.{Tableau}
 use Rattle.spec_simplex.specs.Phases.{PhasesEnd}
 use Rattle.spec_factor.specs.Revised.{Revised, Selection, flip_over_run, pivot_over_run}

@@ -8,7 +8,7 @@ use Rattle.spec_simplex.specs.declared.ends.Choice.{Choice}
 use Rattle.spec_simplex.specs.declared.ends.Choice.TheVariants.{End, Flip, Pivot}
 use Rattle.spec_simplex.specs.declared.ends.RunStop.TheVariants as cause
 use Rattle.spec_simplex.specs.Form.{Form}
-use Rattle.spec_simplex.specs.Run.{Run, ◌>>=◌, refused_as}
+use Rattle.spec_exact.specs.Run.{Run, ◌>>=◌, refused_as}
 use Rattle.spec_simplex.specs.Tableau.{Tableau, all_columns}
 use Rattle.spec_simplex.specs.Step.{best_run, choice_by}
 use Rattle.spec_factor.specs.Factors.{column_of, ftran_run}

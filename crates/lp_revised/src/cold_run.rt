@@ -3,7 +3,7 @@ ghost use Rattle.std.specs.Prelude.{◌≡◌, ◌<◌, Ok, Some, None, IfOk, If
 ghost use Rattle.spec_model.specs.Model.{Model};
 ghost use Rattle.spec_check.specs.Certificate.{IsNarrowCertificate};
 ghost use Rattle.spec_simplex.specs.declared.ends.RunStop.TheVariants as cause;
-ghost use Rattle.spec_simplex.specs.Run.{list_run, refused_as};
+ghost use Rattle.spec_exact.specs.Run.{list_run, refused_as};
 ghost use Rattle.spec_simplex.specs.Start as starting;
 ghost use Rattle.spec_simplex.specs.Form.{form_of};
 ghost use Rattle.spec_simplex.specs.Phases.{phases_run};

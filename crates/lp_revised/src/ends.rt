@@ -15,8 +15,7 @@ use crate::steps::StepsEnd;
 use lp_factor::narrow;
 use lp_form::StatusList;
 use lp_frac::{Frac, Fracs, neg, one, zero};
-use lp_primal::directed;
-use lp_tableau::PrimalEnd;
+use lp_tableau::{PrimalEnd, directed};
 use std::alloc::{AllocError, Global};
 
 /// The certificate of an end.

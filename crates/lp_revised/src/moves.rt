@@ -8,11 +8,9 @@ ghost use Rattle.lp_factor.specs.Answer.{GivesRun};
 ghost use Rattle.lp_revised.specs.Moved.{WithValues, moved_by, moves_by};
 
 use crate::state::{Revised, RowStart};
-use lp_factor::less_product;
 use lp_form::Status;
-use lp_frac::{Frac, Past, sub};
-use lp_primal::directed;
-use lp_tableau::{flip_way, is_place, or_zero, other_bound, stand};
+use lp_frac::{Frac, Past, less_product, sub};
+use lp_tableau::{directed, flip_way, is_place, or_zero, other_bound, stand};
 
 impl Revised {
     // The column at position `i` moves with the entering one, which is `solved` by places.

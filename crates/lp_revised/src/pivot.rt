@@ -2,7 +2,7 @@
 ghost use Rattle.std.specs.Prelude.{◌≡◌, ◌≢◌, ◌<◌, ◌+◌, Some, OnOk, get_or, length};
 ghost use Rattle.spec_exact.specs.Fraction.{0ℚ};
 ghost use Rattle.spec_simplex.specs.Tableau.{all_columns};
-ghost use Rattle.spec_simplex.specs.Run.{refused_as};
+ghost use Rattle.spec_exact.specs.Run.{refused_as};
 ghost use Rattle.spec_simplex.specs.declared.ends.RunStop.TheVariants as cause;
 ghost use Rattle.spec_simplex.specs.Step.{shifted_run, exchanged};
 ghost use Rattle.spec_factor.specs.Factors.{with_pair};

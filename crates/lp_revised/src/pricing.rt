@@ -2,15 +2,14 @@
 ghost use Rattle.std.specs.Prelude.{◌≡◌, ◌<◌, ◌≤◌, ◌+◌, Some, All, IfSome, IfOk, length};
 ghost use Rattle.spec_exact.specs.Narrow.{IsNarrow};
 ghost use Rattle.spec_simplex.specs.Tableau.{all_columns};
-ghost use Rattle.spec_simplex.specs.Tableau.{is_basic as is_basic_of};
 ghost use Rattle.spec_factor.specs.Revised.{price_run, way_run, entering_run};
 ghost use Rattle.lp_frac.specs.Narrow.{largest};
 
 use crate::costs::cost;
 use crate::state::Revised;
-use lp_factor::{less_product, narrow};
-use lp_form::{Form, Status};
-use lp_frac::{Frac, Past, neg, one};
+use lp_factor::narrow;
+use lp_form::{Form, is_basic};
+use lp_frac::{Frac, Past, less_product, neg, one};
 use lp_primal::{is_fixed, way};
 use spec_simplex::Entering;
 
@@ -53,15 +52,6 @@ fn price(form: &Form, costs: &[Frac], y: &[Frac], k: u32) -> Result<Frac, Past>
         price_logical(form, costs, y, k)
     } else {
         Ok(narrow(cost(costs, k)))
-    }
-}
-
-pub(crate) fn is_basic(status: Status) -> bool
-    ensures { result ≡ is_basic_of status }
-{
-    match status {
-        Status::Basic => true,
-        Status::AtLower | Status::AtUpper | Status::AtZero => false,
     }
 }
 

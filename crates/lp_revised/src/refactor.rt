@@ -8,11 +8,10 @@ ghost use Rattle.spec_factor.specs.Revised.{standing as standing_of, factor_basi
 ghost use Rattle.lp_frac.specs.Narrow.{largest};
 ghost use Rattle.lp_revised.specs.Answer.{AnswersRevised, LeavesRevised};
 
-use crate::pricing::is_basic;
 use crate::state::Revised;
 use crate::stop::RevisedStop;
 use lp_factor::{FactorStop, Factors, factor};
-use lp_form::{Form, Status, StatusList};
+use lp_form::{Form, Status, StatusList, is_basic};
 use std::alloc::{AllocError, Global};
 
 // Factors of a basis. Basic columns that are dependent, which a run never has, count as a spent run.

@@ -12,8 +12,7 @@ use crate::stop::RevisedStop;
 use lp_factor::column_of;
 use lp_form::Form;
 use lp_frac::{Frac, Fracs, Past};
-use lp_primal::directed;
-use lp_tableau::PrimalEnd;
+use lp_tableau::{PrimalEnd, directed};
 use spec_simplex::Entering;
 use std::alloc::Global;
 

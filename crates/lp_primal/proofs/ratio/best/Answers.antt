@@ -3,7 +3,7 @@ use Rattle.std.proofs.Common.{sym, Some, arith}
 use Rattle.std.proofs.lemmas.Result.{err_from_is_err_and}
 use Rattle.spec_simplex.specs.Step.{best_with}
 use Rattle.lp_frac.specs.Narrow.{largest}
-use Rattle.spec_simplex.proofs.Stops.{steps_more}
+use Rattle.spec_exact.proofs.Stops.{steps_more}
 use Rattle.lp_primal.proofs.Ratios.{best_refused}
 use Rattle.lp_primal.proofs.ratio.best.Goals as goal
 

@@ -1,7 +1,7 @@
 -- The loop over the positions.
 use Rattle.std.proofs.Common.{◌≡◌}
 use Rattle.spec_exact.specs.Fraction.{◌*ℚ◌}
-use Rattle.spec_simplex.specs.Run.{made}
+use Rattle.spec_exact.specs.Run.{made}
 use Rattle.spec_simplex.specs.Start.{cost_at}
 use Rattle.spec_simplex.specs.Tableau.{basic_at}
 use Rattle.spec_factor.specs.Revised.{sign_of}

@@ -1,6 +1,6 @@
 -- The loop over the columns.
 use Rattle.std.proofs.Common.{◌≡◌, None, Ok}
-use Rattle.spec_simplex.specs.Run.{steps}
+use Rattle.spec_exact.specs.Run.{steps}
 use Rattle.lp_revised.proofs.Entered.{priced_at}
 use Rattle.lp_revised.proofs.state.Revised.entering.Given as goal
 

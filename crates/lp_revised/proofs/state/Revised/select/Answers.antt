@@ -1,7 +1,7 @@
 -- A stop in each part, none that enters, and the whole.
 use Rattle.std.proofs.Common.{sym, ap}
 use Rattle.std.proofs.lemmas.Result.{err_from_is_err_and}
-use Rattle.spec_simplex.specs.Run.{refused_as}
+use Rattle.spec_exact.specs.Run.{refused_as}
 use Rattle.spec_simplex.specs.declared.ends.RunStop.TheVariants as cause
 use Rattle.lp_revised.proofs.Sights.{no_multipliers, no_entering, none_enters, not_solved, not_chosen, selected}
 use Rattle.lp_revised.proofs.state.Revised.select.Goals as goal
