@@ -4,8 +4,8 @@ use Rattle.std.proofs.Common.{take, set, get_or, Bool, true, false, cond, refl, 
 use Rattle.std.proofs.lemmas.List.{append_assoc, take_more_set, take_more, take_all}
 use Rattle.std.proofs.Math.Nat.{pow-le-pow_right}
 use Rattle.spec_pivot.specs.declared.status.Status.{Status}
-use Rattle.spec_simplex.specs.Run.{made}
-use Rattle.spec_simplex.proofs.Stops.{made_more}
+use Rattle.spec_exact.specs.Run.{made}
+use Rattle.spec_exact.proofs.Stops.{made_more}
 use Rattle.spec_simplex.specs.Tableau.{is_basic}
 use Rattle.spec_simplex.specs.Eliminate.{basics_below}
 use Rattle.spec_shape.specs.Words.{word_from, columns_of, rows_of, status_at, unpacked}

@@ -7,7 +7,7 @@ use Rattle.spec_simplex.specs.declared.ends.PrimalEnd.TheVariants.{Optimal}
 use Rattle.spec_simplex.specs.declared.ends.RunStop.{RunStop}
 use Rattle.spec_simplex.specs.declared.ends.RunStop.TheVariants as stop
 use Rattle.spec_simplex.specs.Form.{Form}
-use Rattle.spec_simplex.specs.Run.{◌>>=◌, refused_as, list_run}
+use Rattle.spec_exact.specs.Run.{◌>>=◌, refused_as, list_run}
 use Rattle.spec_simplex.specs.Tableau.{Tableau}
 use Rattle.spec_simplex.specs.Start.{row_start, begun, first_costs, priced_run, with_reduced, start_of}
 use Rattle.spec_simplex.specs.Phases.{PrimalEnded, PhasesEnd, Infeasible, Finished, wants_phase_one, is_stuck}

@@ -10,7 +10,7 @@ use Rattle.spec_simplex.specs.declared.ends.Choice.{Choice}
 use Rattle.spec_simplex.specs.declared.ends.Choice.TheVariants.{End, Flip, Pivot}
 use Rattle.spec_simplex.specs.declared.ends.RunStop.{RunStop}
 use Rattle.spec_simplex.specs.declared.ends.RunStop.TheVariants as stop
-use Rattle.spec_simplex.specs.Run.{refused_as, difference_run}
+use Rattle.spec_exact.specs.Run.{refused_as, difference_run}
 use Rattle.spec_simplex.specs.Tableau.{Tableau, all_columns, lower_at, upper_at, status_at, or_zero}
 use Rattle.spec_simplex.specs.Step.{directed, other_bound, entering, best_run, choice_at, choice_by, choice_of}
 use Rattle.spec_simplex.specs.Step.{choice_run, moved_run, flip_way, flipped, flip_run, shifted_run, turned_run}

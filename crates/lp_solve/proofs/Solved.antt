@@ -8,7 +8,7 @@ use Rattle.spec_check.specs.Certificate.{IsFor}
 use Rattle.spec_simplex.specs.declared.ends.FormFault.{FormFault}
 use Rattle.spec_simplex.specs.declared.ends.FormFault.TheVariants as fault
 use Rattle.spec_simplex.specs.Form.{Form, form_of}
-use Rattle.spec_simplex.specs.Run.{Run}
+use Rattle.spec_exact.specs.Run.{Run}
 use Rattle.spec_simplex.specs.Start.{start_of}
 use Rattle.spec_simplex.specs.Phases.{PhasesEnd, phases_run}
 use Rattle.spec_check.specs.declared.solve_end.SolveEnd.TheVariants as outcome

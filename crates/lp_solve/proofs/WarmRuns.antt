@@ -16,7 +16,7 @@ use Rattle.spec_simplex.specs.declared.ends.StartStop.TheVariants as begun
 use Rattle.spec_simplex.specs.declared.ends.RunStop.{RunStop}
 use Rattle.spec_simplex.specs.declared.ends.WarmStop.{WarmStop}
 use Rattle.spec_simplex.specs.declared.ends.WarmStop.TheVariants as fall
-use Rattle.spec_simplex.specs.Run.{◌>>=◌, refused_as}
+use Rattle.spec_exact.specs.Run.{◌>>=◌, refused_as}
 use Rattle.spec_simplex.specs.Form.{Form, form_of}
 use Rattle.spec_simplex.specs.Tableau.{Tableau}
 use Rattle.spec_simplex.specs.Phases.{PrimalEnded, run_from}

@@ -1,24 +1,15 @@
 // The bases of ends.
 ghost use Rattle.std.specs.Prelude.{◌≡◌, ◌<◌, ◌++◌, ◌∷◌, [], IfOk, IfSome, OnOk};
 ghost use Rattle.spec_simplex.specs.Eliminate.{IsBasisOf};
-ghost use Rattle.spec_simplex.specs.Run.{made};
-ghost use Rattle.spec_simplex.specs.Tableau.{form_columns, is_basic as basic_of};
+ghost use Rattle.spec_exact.specs.Run.{made};
+ghost use Rattle.spec_simplex.specs.Tableau.{form_columns};
 ghost use Rattle.spec_cold.specs.Cold as cold;
 ghost use Rattle.spec_warm.specs.Warm as warm;
 
 use lp_dual::DualEnd;
-use lp_form::{Basis, Form, Status, StatusList};
+use lp_form::{Basis, Form, Status, StatusList, is_basic};
 use lp_tableau::{PrimalEnd, Tableau};
 use std::alloc::{AllocError, Global};
-
-fn is_basic(status: Status) -> bool
-    ensures { result ≡ basic_of status }
-{
-    match status {
-        Status::Basic => true,
-        Status::AtLower | Status::AtUpper | Status::AtZero => false,
-    }
-}
 
 // The status of column `k`. A logical whose row's artificial is basic counts as basic in its place.
 fn basis_status(tab: &Tableau, k: u32) -> Status

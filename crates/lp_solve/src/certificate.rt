@@ -4,7 +4,6 @@ ghost use Rattle.spec_exact.specs.Narrow.{IsNarrow};
 ghost use Rattle.spec_check.specs.declared.certificate.Certificate.TheVariants as certificates;
 ghost use Rattle.spec_check.specs.Certificate.{IsNarrowCertificate};
 ghost use Rattle.spec_simplex.specs.Tableau.{all_columns};
-ghost use Rattle.spec_simplex.specs.Step.{directed as directed_of};
 ghost use Rattle.spec_cold.specs.Cold as cold;
 ghost use Rattle.spec_warm.specs.Warm as warm;
 ghost use Rattle.lp_dual.specs.Starts.{IsPlace};
@@ -13,7 +12,7 @@ ghost use Rattle.lp_solve.specs.Ends.{IsInside};
 use lp_check::Certificate;
 use lp_dual::DualEnd;
 use lp_frac::{Frac, Fracs, LARGEST, den, neg, num, one, zero};
-use lp_tableau::{PrimalEnd, Tableau};
+use lp_tableau::{PrimalEnd, Tableau, directed};
 use std::alloc::{AllocError, Global};
 
 // Puts a fraction at the end, whose parts have at most 127 bits as those of each one.
@@ -49,13 +48,6 @@ fn multipliers(alloc: Global, tab: &Tableau) -> Result<Fracs, AllocError>
         push(&mut multipliers, tab.reduced(tab.cols() + i))?;
     }
     Ok(multipliers)
-}
-
-// `v`, or its negative where the entering column falls.
-fn directed(up: bool, v: Frac) -> Frac
-    ensures { result ≡ directed_of up v }
-{
-    if up { v } else { neg(v) }
 }
 
 // How column `k` moves while column `j` enters and rises or falls by 1.

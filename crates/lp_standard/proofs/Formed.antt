@@ -8,7 +8,7 @@ use Rattle.spec_model.specs.Model.{Model, ExactColumn, width, height, row, no_co
 use Rattle.spec_model.specs.Kept.{AreEntries}
 use Rattle.spec_simplex.specs.declared.ends.FormFault.{FormFault}
 use Rattle.spec_simplex.specs.declared.ends.FormFault.TheVariants as fault
-use Rattle.spec_simplex.specs.Run.{◌>>=◌, refused_as, list_run, steps}
+use Rattle.spec_exact.specs.Run.{◌>>=◌, refused_as, list_run, steps}
 use Rattle.spec_simplex.specs.Form.{Form, IsForm, limits_run, column_clash, least_cost, formed, form_of}
 use Rattle.lp_standard.specs.Answer.{IsFaultOf, IsStopOf}
 use Rattle.lp_standard.specs.Fault.{stop_of}

@@ -3,7 +3,7 @@ use Rattle.std.specs.Prelude.{◌≡◌, ⊤, Result, Err}
 use Rattle.spec_exact.specs.Fraction.{ℚ}
 use Rattle.spec_simplex.specs.declared.ends.FormFault.{FormFault}
 use Rattle.spec_simplex.specs.declared.ends.FormFault.TheVariants as fault
-use Rattle.spec_simplex.specs.Run.{Run}
+use Rattle.spec_exact.specs.Run.{Run}
 use Rattle.lp_standard.specs.declared.fault.FormStop.{FormStop}
 use Rattle.lp_standard.specs.declared.fault.FormStop.TheVariants.{Clash, Past, NoMemory}
 

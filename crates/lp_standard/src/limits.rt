@@ -1,23 +1,13 @@
 // The limits of a row, with one operation where it has a range, and bounds that clash.
 ghost use Rattle.std.specs.Prelude.{◌≡◌, Some};
-ghost use Rattle.spec_exact.specs.Fraction.{lt_ℚ, 0ℚ};
 ghost use Rattle.spec_simplex.specs.Form as forms;
 ghost use Rattle.lp_frac.specs.Narrow.{largest};
 
-use lp_frac::{Frac, Past, abs, add, cmp, sign, sub};
+use lp_frac::{Frac, Past, abs, add, cmp, is_negative, sub};
 use lp_model::{Kind, Row};
 use std::cmp::Ordering;
 
 type FormFault = spec_simplex::FormFault<Frac>;
-
-fn is_negative(v: Frac) -> bool
-    ensures { result ≡ lt_ℚ v 0ℚ }
-{
-    match sign(v) {
-        Ordering::Less => true,
-        Ordering::Equal | Ordering::Greater => false,
-    }
-}
 
 // The least and the most that the sum of an equation with a range may be.
 fn around(rhs: Frac, range: Frac) -> Result<(Option<Frac>, Option<Frac>), Past>

@@ -3,7 +3,7 @@ ghost use Rattle.std.specs.Prelude.{◌≡◌, [], ◌∷◌, ◌++◌, map, rep
 ghost use Rattle.spec_exact.specs.Fraction.{0ℚ};
 ghost use Rattle.spec_model.specs.Model.{width, height, row};
 ghost use Rattle.spec_model.specs.Kept.{AreEntries};
-ghost use Rattle.spec_simplex.specs.Run.{list_run, steps};
+ghost use Rattle.spec_exact.specs.Run.{list_run, steps};
 ghost use Rattle.spec_simplex.specs.Form as forms;
 ghost use Rattle.lp_frac.specs.Narrow.{largest};
 ghost use Rattle.lp_standard.specs.Answer.{IsFaultOf, IsStopOf};

@@ -1,7 +1,7 @@
 -- One more word of the shape or of the statuses, and all of them.
 use Rattle.std.proofs.Common.{◌≡◌, ◌+◌, ◌*◌, ◌++◌, take, get_or, slice_set, ap, ◌∙◌, refl, sym, arith}
 use Rattle.std.proofs.lemmas.List.{take_all, length-set, append-nil}
-use Rattle.spec_simplex.specs.Run.{made}
+use Rattle.spec_exact.specs.Run.{made}
 use Rattle.spec_shape.specs.Words.{basis_code, word_from, shape_of, packed}
 use Rattle.spec_shape.proofs.Places.{shape_length}
 use Rattle.lp_shape.proofs.Steps.{word_more, copied_more, all_put}

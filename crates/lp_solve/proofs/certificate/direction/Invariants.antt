@@ -1,7 +1,7 @@
 -- The loop over the columns.
 use Rattle.std.proofs.Common.{◌≡◌, All}
 use Rattle.spec_exact.specs.Narrow.{IsNarrow}
-use Rattle.spec_simplex.specs.Run.{made}
+use Rattle.spec_exact.specs.Run.{made}
 use Rattle.spec_cold.specs.Cold.{moves_by}
 use Rattle.lp_solve.proofs.certificate.direction.Given as goal
 

@@ -1,7 +1,7 @@
 -- The loop over the columns.
 use Rattle.std.proofs.Common.{◌≡◌, All}
 use Rattle.spec_exact.specs.Narrow.{IsNarrow}
-use Rattle.spec_simplex.specs.Run.{made}
+use Rattle.spec_exact.specs.Run.{made}
 use Rattle.spec_simplex.specs.Tableau.{value_at}
 use Rattle.lp_solve.proofs.certificate.point.Given as goal
 

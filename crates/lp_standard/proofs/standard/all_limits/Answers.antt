@@ -1,7 +1,7 @@
 -- A refused row stops the run.
 use Rattle.std.proofs.Common.{sym}
 use Rattle.std.proofs.lemmas.Result.{err_from_is_err_and}
-use Rattle.spec_simplex.proofs.Stops.{list_stops}
+use Rattle.spec_exact.proofs.Stops.{list_stops}
 use Rattle.lp_standard.proofs.standard.all_limits.Goals as goal
 
 pub returns-in_err-limits-clause-err : goal.returns-in_err-limits-clause-err

@@ -1,6 +1,6 @@
 -- The loop over the columns.
 use Rattle.std.proofs.Common.{◌≡◌, Some, Ok}
-use Rattle.spec_simplex.specs.Run.{steps}
+use Rattle.spec_exact.specs.Run.{steps}
 use Rattle.spec_simplex.specs.Form.{column_clash}
 use Rattle.lp_frac.specs.Narrow.{largest}
 use Rattle.lp_standard.proofs.standard.first_clash.Given as goal
