@@ -12,10 +12,10 @@ use Rattle.spec_pivot.specs.declared.status.Status.TheVariants.{AtLower}
 use Rattle.spec_simplex.specs.declared.ends.RowStart.{RowStart}
 use Rattle.spec_simplex.specs.declared.ends.RowStart.TheVariants.{Within}
 use Rattle.spec_simplex.specs.Form.{Form, IsForm}
-use Rattle.spec_simplex.specs.Run.{Run, ◌>>=◌, refused_as, less_product, steps, made}
+use Rattle.spec_exact.specs.Run.{Run, ◌>>=◌, refused_as, less_product, steps, made}
 use Rattle.spec_simplex.specs.Start.{start_entry, start_at, start_row, priced_run, with_reduced}
 use Rattle.spec_simplex.specs.Tableau.{Tableau, IsTableauShape, all_columns, entry_at, basic_at, value_at, status_at}
-use Rattle.spec_simplex.proofs.Stops.{steps_stop, length-made, All-made}
+use Rattle.spec_exact.proofs.Stops.{steps_stop, length-made, All-made}
 use Rattle.spec_simplex.specs.Tableau.{is_basic}
 use Rattle.spec_simplex.specs.declared.ends.StartStop.{StartStop}
 use Rattle.spec_simplex.specs.declared.ends.StartStop.TheVariants as start

@@ -14,13 +14,13 @@ use Rattle.spec_exact.specs.declared.past.Past.{Past}
 use Rattle.spec_pivot.specs.declared.status.Status.{Status}
 use Rattle.spec_simplex.specs.declared.ends.RowStart.{RowStart}
 use Rattle.spec_simplex.specs.declared.ends.RowStart.TheVariants.{Within, Below, Above}
-use Rattle.spec_simplex.specs.Run.{Run, ◌>>=◌, list_run, made}
+use Rattle.spec_exact.specs.Run.{Run, ◌>>=◌, list_run, made}
 use Rattle.spec_simplex.specs.Form.{Form, IsForm, form_entry}
 use Rattle.spec_simplex.specs.Tableau.{Tableau, IsTableauShape}
 use Rattle.spec_simplex.specs.Start.{row_start, first_costs, priced_run, with_reduced, start_of, begun}
 use Rattle.spec_simplex.specs.Start.{start_row, start_basic, start_entry, start_value, start_status, start_at}
 use Rattle.spec_simplex.specs.Start.{is_wanting, artificial_upper, one_at, logical_sign, structural_entry}
-use Rattle.spec_simplex.proofs.Stops.{length-made, All-made, get_or-made}
+use Rattle.spec_exact.proofs.Stops.{length-made, All-made, get_or-made}
 use Rattle.lp_tableau.specs.Grid.{rows_of, flat, IsBlock}
 use Rattle.lp_tableau.specs.Begun.{is_below, start_front}
 use Rattle.lp_tableau.specs.Twins.{signed, twin, with_twins, twinned, IsTwinned}

@@ -3,7 +3,7 @@ use Rattle.std.proofs.Common.{◌≡◌, ℕ, Option, None, Ok, Err, Bool, sym, 
 use Rattle.spec_exact.specs.Fraction.{ℚ}
 use Rattle.spec_exact.specs.declared.past.Past.{Past}
 use Rattle.spec_pivot.specs.declared.status.Status.{Status}
-use Rattle.spec_simplex.specs.Run.{Run, ◌>>=◌, difference_run}
+use Rattle.spec_exact.specs.Run.{Run, ◌>>=◌, difference_run}
 use Rattle.spec_simplex.specs.Tableau.{Tableau, status_at, lower_at, upper_at, or_zero}
 use Rattle.spec_simplex.specs.Step.{directed, other_bound, flip_way, moved_run, flipped, flip_run}
 use Rattle.lp_tableau.proofs.Moved.{MovedFrom}

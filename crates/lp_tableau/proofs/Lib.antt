@@ -5,7 +5,6 @@ pub mod Moved
 pub mod Pivots
 pub mod Priced
 pub mod Rows
-pub mod Same
 pub mod Signs
 pub mod Spots
 pub mod Turned

@@ -3,10 +3,10 @@ use Rattle.std.proofs.Common.{◌≡◌, ℕ, ◌+◌, ◌<◌, ◌≤◌, List,
 use Rattle.std.proofs.Common.{true, false, cond, sym, subst, ap, ◌∙◌, arith}
 use Rattle.spec_exact.specs.Fraction.{ℚ}
 use Rattle.spec_exact.specs.declared.past.Past.{Past}
-use Rattle.spec_simplex.specs.Run.{Run, steps}
+use Rattle.spec_exact.specs.Run.{Run, steps}
 use Rattle.spec_simplex.specs.Tableau.{Tableau}
 use Rattle.spec_simplex.specs.Step.{is_place, moved_at, moved_run}
-use Rattle.spec_simplex.proofs.Stops.{steps_more, steps_stop}
+use Rattle.spec_exact.proofs.Stops.{steps_more, steps_stop}
 
 -- u is t but for its values
 abbrev pub MovedFrom : Tableau → Tableau → Type 0

@@ -4,8 +4,8 @@ use Rattle.std.specs.Prelude.{⊤}
 use Rattle.spec_exact.specs.Fraction.{ℚ, 0ℚ}
 use Rattle.spec_exact.specs.Laws.{IsWithin}
 use Rattle.spec_exact.specs.declared.past.Past.{Past}
-use Rattle.spec_simplex.specs.Run.{Run, ◌>>=◌, steps, less_product}
-use Rattle.spec_simplex.proofs.Stops.{steps_more}
+use Rattle.spec_exact.specs.Run.{Run, ◌>>=◌, steps, less_product}
+use Rattle.spec_exact.proofs.Stops.{steps_more}
 use Rattle.lp_frac.specs.Narrow.{largest}
 use Rattle.spec_simplex.specs.Form.{Form}
 use Rattle.spec_simplex.specs.Tableau.{Tableau, basic_at, entry_at}

@@ -15,7 +15,7 @@ use Rattle.spec_exact.proofs.Whole.{by_ring}
 use Rattle.spec_exact.proofs.Limit.{product_exact, sum_exact}
 use Rattle.spec_exact.proofs.Ruleset.{neg-+ℚ, *ℚ-neg, neg-*ℚ}
 use Rattle.lp_tableau.specs.Twins.{signed}
-use Rattle.spec_simplex.specs.Run.{Run, ◌>>=◌, product_run, difference_run, quotient_run, less_product}
+use Rattle.spec_exact.specs.Run.{Run, ◌>>=◌, product_run, difference_run, quotient_run, less_product}
 
 -- ---- products
 product_size : (a : ℤ) (b : ℕ) (c : ℤ) (d : ℕ) →

@@ -9,7 +9,7 @@ use Rattle.spec_exact.specs.Laws.{IsWithin}
 use Rattle.spec_exact.specs.declared.past.Op.TheVariants.{Mul, Sub}
 use Rattle.spec_exact.specs.Answer.{told}
 use Rattle.spec_exact.proofs.Zero.{mul_left, mul_right, sub_right}
-use Rattle.spec_simplex.specs.Run.{Run, ◌>>=◌, difference_run, less_product}
+use Rattle.spec_exact.specs.Run.{Run, ◌>>=◌, difference_run, less_product}
 use Rattle.spec_simplex.specs.Tableau.{Tableau, at_place, entry_at, basic_at}
 use Rattle.spec_simplex.specs.Step.{moved_at}
 use Rattle.lp_frac.specs.Narrow.{largest}

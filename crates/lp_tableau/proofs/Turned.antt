@@ -2,9 +2,9 @@
 use Rattle.std.proofs.Common.{◌≡◌, ℕ, ◌<◌, ◌≤◌, List, Option, Ok, Err, nat_eq, ne_eqb, cond, subst, ap, ◌∙◌, arith}
 use Rattle.spec_exact.specs.Fraction.{ℚ}
 use Rattle.spec_exact.specs.declared.past.Past.{Past}
-use Rattle.spec_simplex.specs.Run.{Run, ◌>>=◌, steps}
+use Rattle.spec_exact.specs.Run.{Run, ◌>>=◌, steps}
 use Rattle.spec_simplex.specs.Step.{scaled_run, cleared_run, turned_run}
-use Rattle.spec_simplex.proofs.Stops.{steps_stop}
+use Rattle.spec_exact.proofs.Stops.{steps_stop}
 
 -- what is done at row i
 abbrev pub turned_at : Option ℕ → ℕ → ℕ → ℕ → ℕ → List (List ℚ) → Run (List (List ℚ))

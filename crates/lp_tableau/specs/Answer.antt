@@ -2,7 +2,7 @@
 use Rattle.std.specs.Prelude.{◌≡◌, ⊤, Result, Ok, Err}
 use Rattle.spec_exact.specs.Fraction.{ℚ}
 use Rattle.spec_exact.specs.declared.past.Past.{Past}
-use Rattle.spec_simplex.specs.Run.{Run}
+use Rattle.spec_exact.specs.Run.{Run}
 use Rattle.lp_tableau.specs.declared.ends.ColdStop.{ColdStop}
 use Rattle.lp_tableau.specs.declared.ends.ColdStop.TheVariants as cold
 

@@ -2,7 +2,7 @@
 use Rattle.std.specs.Prelude.{◌≡◌, ℕ, ◌+◌, ◌≤◌, List, [], ◌∷◌, ◌++◌, length, get_or}
 use Rattle.std.specs.Prelude.{slice_set, Option, Ok, Bool, false, if◌then◌else◌}
 use Rattle.spec_exact.specs.Fraction.{ℚ, 0ℚ, neg_ℚ}
-use Rattle.spec_simplex.specs.Run.{Run, ◌>>=◌, made, list_run, quotient_run, less_product}
+use Rattle.spec_exact.specs.Run.{Run, ◌>>=◌, made, list_run, quotient_run, less_product}
 use Rattle.spec_simplex.specs.Tableau.{at_place}
 use Rattle.lp_tableau.specs.Grid.{IsGrid}
 

@@ -2,7 +2,7 @@
 ghost use Rattle.std.specs.Prelude.{◌≡◌, ◌<◌, ◌+◌, ◌++◌, IfOk, IfErr, Ok, Some, None, length, get_or, replicate};
 ghost use Rattle.spec_exact.specs.Fraction.{0ℚ};
 ghost use Rattle.spec_pivot.specs.declared.status.Status.TheVariants.{AtLower};
-ghost use Rattle.spec_simplex.specs.Run.{made, refused_as};
+ghost use Rattle.spec_exact.specs.Run.{made, refused_as};
 ghost use Rattle.spec_simplex.specs.Tableau.{all_columns};
 ghost use Rattle.spec_simplex.specs.declared.ends.StartStop.TheVariants as start;
 ghost use Rattle.spec_simplex.specs.Eliminate as elimination;
@@ -13,13 +13,13 @@ ghost use Rattle.lp_tableau.specs.Based.{AreInside, StopsAt, stand_in};
 
 use crate::coefficients::coefficients;
 use crate::ends::BasisStop;
-use crate::solve::{eliminate, is_basic};
+use crate::solve::eliminate;
 use crate::start::{lowers, rows, width, zeros};
-use crate::steps::{less_product, stand};
+use crate::steps::stand;
 use crate::tableau::Tableau;
 use crate::twins::Twins;
-use lp_form::{Basis, Form, Status};
-use lp_frac::{Frac, Past, zero};
+use lp_form::{Basis, Form, Status, is_basic};
+use lp_frac::{Frac, Past, less_product, zero};
 use std::alloc::{AllocError, Global};
 
 // The form's equations, in which each artificial has the sign of its logical.

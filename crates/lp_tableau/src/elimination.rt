@@ -9,8 +9,7 @@ ghost use Rattle.lp_tableau.specs.Grid.{IsGrid, IsListed};
 ghost use Rattle.lp_tableau.specs.Twins.{signed as signed_of, twinned, scaled_by, cleared_by};
 
 use crate::grid::Grid;
-use crate::steps::less_product;
-use lp_frac::{Frac, Past, div, is_zero, neg, within};
+use lp_frac::{Frac, Past, div, is_zero, less_product, neg, within};
 
 // `v`, or its negative.
 fn signed(is_turned: bool, v: Frac) -> Frac

@@ -7,7 +7,7 @@
 //! | `start_from` | the tableau of a basis | src/basis |
 //! | `Tableau::pivot`, `flip`, `phase_two` | the changes, each exact or refused as `spec_simplex` has it | src/pivot, src/moves, src/price |
 //! | `Tableau::wants_phase_one`, `is_stuck` | what the phases ask: a basic artificial, and one that is not 0 | src/phases |
-//! | `or_zero`, `stand`, `flip_way`, `other_bound`, `is_place` | where columns stand, and what moves in a flip | src/steps, src/moves |
+//! | `or_zero`, `stand`, `directed`, `flip_way`, `other_bound`, `is_place` | where columns stand, and what moves in a flip | src/steps, src/moves |
 //! | `PrimalEnd`, `RunStop` | how a run of steps ends, and why it does not | src/ends |
 //! | `ColdStop`, `BasisStop` | why a form has no start, and a basis no tableau | src/ends |
 //!
@@ -33,7 +33,7 @@ mod twins;
 
 pub use basis::start_from;
 pub use ends::{BasisStop, ColdStop, PrimalEnd, RunStop};
-pub use moves::{flip_way, is_place, other_bound};
+pub use moves::{directed, flip_way, is_place, other_bound};
 pub use start::start_cold;
 pub use steps::{or_zero, stand};
 pub use tableau::Tableau;

@@ -7,13 +7,14 @@ ghost use Rattle.spec_simplex.specs.Step.{moved_run, flip_way as flip_way_of, fl
 ghost use Rattle.lp_frac.specs.Narrow.{largest};
 ghost use Rattle.lp_tableau.specs.Answer.{GivesRun};
 
-use crate::steps::{less_product, or_zero, stand};
+use crate::steps::{or_zero, stand};
 use crate::tableau::Tableau;
 use lp_form::Status;
-use lp_frac::{Frac, Past, is_zero, neg, sub, within};
+use lp_frac::{Frac, Past, is_zero, less_product, neg, sub, within};
 
-// `v`, or its negative where the entering column falls.
-fn directed(up: bool, v: Frac) -> Frac
+/// `v`, or its negative where the entering column falls.
+#[inline(always)]
+pub fn directed(up: bool, v: Frac) -> Frac
     ensures { result ≡ directed_by up v }
 {
     if up { v } else { neg(v) }

@@ -7,11 +7,11 @@ ghost use Rattle.lp_frac.specs.Narrow.{largest};
 ghost use Rattle.lp_tableau.specs.Answer.{GivesRun};
 ghost use Rattle.lp_tableau.specs.Grid.{IsGrid};
 
-use crate::steps::{less_product, stand};
+use crate::steps::stand;
 use crate::tableau::Tableau;
 use crate::twins::Twins;
 use lp_form::Status;
-use lp_frac::{Frac, Past, add, is_zero, within, zero};
+use lp_frac::{Frac, Past, add, is_zero, less_product, within, zero};
 
 // The reduced costs less row `p`, as often as makes that of column `j` 0.
 fn reprice(reduced: &mut [Frac], grid: &Twins, height: u32, p: u32, j: u32) -> Result<(), Past>

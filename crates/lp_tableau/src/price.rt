@@ -7,10 +7,9 @@ ghost use Rattle.spec_simplex.specs.Phases.{is_stuck, without_artificials, phase
 ghost use Rattle.lp_frac.specs.Narrow.{largest};
 ghost use Rattle.lp_tableau.specs.Answer.{GivesRun};
 
-use crate::steps::less_product;
 use crate::tableau::Tableau;
 use lp_form::Form;
-use lp_frac::{Frac, Past, is_zero, within, zero};
+use lp_frac::{Frac, Past, is_zero, less_product, within, zero};
 
 // The cost of column `k`, 0 where none stands.
 fn cost_at(costs: &[Frac], k: u32) -> Frac

@@ -11,17 +11,8 @@ ghost use Rattle.lp_tableau.specs.Based.{IsOpenAt, AreInside, Solves};
 use crate::ends::BasisStop;
 use crate::start::width;
 use crate::twins::Twins;
-use lp_form::{Basis, Form, Status};
+use lp_form::{Basis, Form, is_basic};
 use lp_frac::{Frac, are_same, zero};
-
-pub(crate) fn is_basic(status: Status) -> bool
-    ensures { result ≡ is_basic_of status }
-{
-    match status {
-        Status::Basic => true,
-        Status::AtLower | Status::AtUpper | Status::AtZero => false,
-    }
-}
 
 fn has_none(column: Option<u32>) -> bool
     ensures { result ≡ elimination.has_none column }

@@ -2,7 +2,7 @@
 ghost use Rattle.std.specs.Prelude.{◌≡◌, ◌<◌, ◌≤◌, ◌+◌, ◌++◌, [], ◌∷◌, length};
 ghost use Rattle.std.specs.Prelude.{map, replicate, IfOk, IfErr, OnOk, Ok, Some};
 ghost use Rattle.spec_exact.specs.Fraction.{0ℚ};
-ghost use Rattle.spec_simplex.specs.Run.{list_run, made};
+ghost use Rattle.spec_exact.specs.Run.{list_run, made};
 ghost use Rattle.spec_simplex.specs.Form.{form_lower, form_upper};
 ghost use Rattle.spec_simplex.specs.Start as starting;
 ghost use Rattle.lp_frac.specs.Narrow.{largest};
@@ -13,11 +13,11 @@ ghost use Rattle.lp_tableau.specs.Begun.{HoldsColumns, is_below, start_front};
 use crate::coefficients::coefficients;
 use crate::ends::ColdStop;
 use crate::grid::Grid;
-use crate::steps::{or_zero, plus_product, stand};
+use crate::steps::{or_zero, stand};
 use crate::tableau::Tableau;
 use crate::twins::Twins;
 use lp_form::{Form, Status};
-use lp_frac::{Frac, Past, cmp, neg, one, sub, zero};
+use lp_frac::{Frac, Past, cmp, neg, one, plus_product, sub, zero};
 use std::alloc::{AllocError, Global};
 use std::cmp::Ordering;
 

@@ -1,28 +1,9 @@
-// Pairs of operations, and where a column stands.
-ghost use Rattle.std.specs.Prelude.{◌≡◌, Some};
-ghost use Rattle.spec_exact.specs.Fraction.{lt_ℚ, 0ℚ};
-ghost use Rattle.spec_simplex.specs.Run as run;
+// Where a column stands.
+ghost use Rattle.std.specs.Prelude.{◌≡◌};
 ghost use Rattle.spec_simplex.specs.Tableau.{or_zero as or_zero_of, stand as stand_of};
-ghost use Rattle.lp_frac.specs.Narrow.{largest};
 
 use lp_form::Status;
-use lp_frac::{Frac, Past, add, mul, zero};
-
-// `v * w` onto `s`.
-pub(crate) fn plus_product(v: Frac, w: Frac, s: Frac) -> Result<Frac, Past>
-    ensures { result ≡ run.plus_product (Some largest) v w s }
-{
-    let product = mul(v, w)?;
-    add(s, product)
-}
-
-// `v * w` off `s`.
-#[inline(always)]
-pub(crate) fn less_product(v: Frac, w: Frac, s: Frac) -> Result<Frac, Past>
-    ensures { result ≡ run.less_product (Some largest) v w s }
-{
-    lp_frac::less_product(v, w, s)
-}
+use lp_frac::{Frac, zero};
 
 /// The bound, or 0 where there is none.
 pub fn or_zero(bound: Option<Frac>) -> Frac

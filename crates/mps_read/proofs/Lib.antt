@@ -6,5 +6,4 @@ pub mod MarkLists
 pub mod NewNames
 pub mod Runs
 pub mod SameNumbers
-pub mod Signs
 pub mod TextLists

@@ -5,7 +5,7 @@ ghost use Rattle.spec_mps.specs.Bounds as bounds;
 ghost use Rattle.spec_mps.specs.Sides.{changed_at};
 ghost use Rattle.mps_read.specs.BoundSeen.{bound_seen, bound_made};
 
-use lp_frac::{Frac, num};
+use lp_frac::{Frac, is_negative};
 use lp_model::Column;
 use lp_numtext::{BoundValue, read_bound};
 use spec_mps::{BoundKind, Code};
@@ -73,7 +73,7 @@ fn is_below_zero(bound: &Option<Frac>) -> bool
     ensures { result ≡ bounds.is_negative bound.now }
 {
     match bound {
-        Some(bound) => num(*bound) < 0,
+        Some(bound) => is_negative(*bound),
         None => false,
     }
 }

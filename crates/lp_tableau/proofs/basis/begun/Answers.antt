@@ -2,7 +2,7 @@
 use Rattle.std.proofs.Common.{◌≡◌, sym, subst, ap, ap₂, ◌∙◌, length, replicate}
 use Rattle.spec_exact.specs.Fraction.{0ℚ}
 use Rattle.spec_simplex.specs.Tableau.{IsTableauShape}
-use Rattle.spec_simplex.specs.Run.{made}
+use Rattle.spec_exact.specs.Run.{made}
 use Rattle.spec_simplex.specs.Eliminate.{with_basis}
 use Rattle.lp_tableau.specs.Based.{stand_in}
 use Rattle.lp_tableau.proofs.Based.{statuses_length, lowers_length, uppers_length, based_is, based_shape}

@@ -1,6 +1,6 @@
 -- The loop over the positions.
 use Rattle.std.proofs.Common.{◌≡◌, None, get_or}
-use Rattle.spec_simplex.specs.Run.{made}
+use Rattle.spec_exact.specs.Run.{made}
 use Rattle.spec_simplex.specs.Eliminate.{or_first}
 use Rattle.lp_tableau.proofs.basis.columns.Given as goal
 

@@ -1,6 +1,6 @@
 -- The loop over the columns.
 use Rattle.std.proofs.Common.{Some}
-use Rattle.spec_simplex.specs.Run.{quotient_run}
+use Rattle.spec_exact.specs.Run.{quotient_run}
 use Rattle.spec_simplex.specs.Tableau.{at_place}
 use Rattle.lp_frac.specs.Narrow.{largest}
 use Rattle.lp_tableau.specs.Grid.{IsGrid}

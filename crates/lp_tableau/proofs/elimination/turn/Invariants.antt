@@ -1,6 +1,6 @@
 -- The loop over the rows.
 use Rattle.std.proofs.Common.{◌≡◌, ◌+◌, [], Some, Ok, nat_eq, cond, get_or}
-use Rattle.spec_simplex.specs.Run.{steps}
+use Rattle.spec_exact.specs.Run.{steps}
 use Rattle.spec_simplex.specs.Step.{cleared_run}
 use Rattle.lp_frac.specs.Narrow.{largest}
 use Rattle.lp_tableau.specs.Grid.{IsGrid}

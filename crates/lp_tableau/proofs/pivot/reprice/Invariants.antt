@@ -1,7 +1,7 @@
 -- The loop over the columns.
 use Rattle.std.proofs.Common.{Some, get_or}
 use Rattle.spec_exact.specs.Fraction.{0ℚ}
-use Rattle.spec_simplex.specs.Run.{less_product}
+use Rattle.spec_exact.specs.Run.{less_product}
 use Rattle.spec_simplex.specs.Tableau.{at_place}
 use Rattle.lp_frac.specs.Narrow.{largest}
 use Rattle.lp_tableau.proofs.Done.{IsDone}

@@ -1,6 +1,6 @@
 -- The loop over the rows.
 use Rattle.std.proofs.Common.{◌≡◌}
-use Rattle.spec_simplex.specs.Run.{made}
+use Rattle.spec_exact.specs.Run.{made}
 use Rattle.spec_simplex.specs.Start.{start_basic}
 use Rattle.lp_tableau.proofs.start.basics.Given as goal
 

@@ -1,6 +1,6 @@
 -- The loop over the rows.
 use Rattle.std.proofs.Common.{◌≡◌, Some, Ok}
-use Rattle.spec_simplex.specs.Run.{list_run}
+use Rattle.spec_exact.specs.Run.{list_run}
 use Rattle.spec_simplex.specs.Start.{row_start}
 use Rattle.lp_frac.specs.Narrow.{largest}
 use Rattle.lp_tableau.proofs.start.row_starts.Given as goal

@@ -1,7 +1,7 @@
 -- The loop over the columns.
 use Rattle.std.proofs.Common.{◌≡◌, Some, Ok}
 use Rattle.spec_exact.specs.Fraction.{0ℚ}
-use Rattle.spec_simplex.specs.Run.{steps, plus_product}
+use Rattle.spec_exact.specs.Run.{steps, plus_product}
 use Rattle.spec_simplex.specs.Form.{form_entry}
 use Rattle.spec_simplex.specs.Start.{first_value}
 use Rattle.lp_frac.specs.Narrow.{largest}

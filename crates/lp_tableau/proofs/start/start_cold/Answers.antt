@@ -2,7 +2,7 @@
 use Rattle.std.proofs.Common.{ap, ◌∙◌, length}
 use Rattle.std.proofs.lemmas.Result.{err_from_is_err_and}
 use Rattle.spec_simplex.specs.Start.{begun, first_costs}
-use Rattle.spec_simplex.proofs.Stops.{length-list_run}
+use Rattle.spec_exact.proofs.Stops.{length-list_run}
 use Rattle.lp_tableau.proofs.Begun.{rows_stop, price_stops, started}
 use Rattle.lp_tableau.proofs.start.start_cold.Goals as goal
 

@@ -1,7 +1,7 @@
 -- The loop over the positions.
 use Rattle.std.proofs.Common.{◌≡◌, Some, Ok}
 use Rattle.std.specs.Prelude.{slice_set}
-use Rattle.spec_simplex.specs.Run.{◌>>=◌, steps}
+use Rattle.spec_exact.specs.Run.{◌>>=◌, steps}
 use Rattle.spec_simplex.specs.Tableau.{basic_at}
 use Rattle.spec_simplex.specs.Eliminate.{position_run}
 use Rattle.lp_frac.specs.Narrow.{largest}

@@ -1,6 +1,6 @@
 -- The loop over the positions.
 use Rattle.std.proofs.Common.{◌≡◌, Some, Ok}
-use Rattle.spec_simplex.specs.Run.{steps}
+use Rattle.spec_exact.specs.Run.{steps}
 use Rattle.lp_frac.specs.Narrow.{largest}
 use Rattle.lp_tableau.proofs.Moved.{MovedFrom, move_at}
 use Rattle.lp_tableau.proofs.tableau.Tableau.move_values.Given as goal

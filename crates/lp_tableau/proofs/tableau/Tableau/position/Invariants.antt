@@ -1,7 +1,7 @@
 -- The loop over the columns.
 use Rattle.std.proofs.Common.{◌≡◌, Some, Ok, cond}
 use Rattle.spec_exact.specs.Fraction.{0ℚ}
-use Rattle.spec_simplex.specs.Run.{steps, less_product}
+use Rattle.spec_exact.specs.Run.{steps, less_product}
 use Rattle.spec_simplex.specs.Tableau.{entry_at, value_at, status_at}
 use Rattle.spec_simplex.specs.Tableau.{is_basic}
 use Rattle.lp_frac.specs.Narrow.{largest}

@@ -1,6 +1,6 @@
 -- The loop over the positions.
 use Rattle.std.proofs.Common.{◌≡◌, Some, Ok}
-use Rattle.spec_simplex.specs.Run.{steps, less_product}
+use Rattle.spec_exact.specs.Run.{steps, less_product}
 use Rattle.spec_simplex.specs.Tableau.{entry_at, basic_at}
 use Rattle.spec_simplex.specs.Start.{cost_at}
 use Rattle.lp_frac.specs.Narrow.{largest}
