@@ -1,3 +1,2 @@
 pub mod AddSteps
 pub mod FieldSteps
-pub mod SignSteps

@@ -9,9 +9,9 @@ ghost use Rattle.mps_write.specs.RowNumbers.{number_cards};
 
 use crate::fault::WriteFault;
 use crate::line::{Field, Writer};
-use crate::signs::{is_equal, is_up_from_zero, is_zero};
+use crate::signs::{is_up_from_zero, is_zero};
 use lp_base::Bytes;
-use lp_frac::{Frac, neg};
+use lp_frac::{Frac, are_same, neg};
 use lp_model::{Kind, Model, Row};
 use lp_numtext::number_text;
 use std::alloc::{AllocError, Global};
@@ -288,7 +288,7 @@ impl Writer {
     ) -> Result<(), WriteFault>
         ensures { Adds self.now.style (written.bound_cards name.now (Some lower) (Some upper)) to.old to.new result }
     {
-        if is_equal(lower, upper) {
+        if are_same(lower, upper) {
             return self.bound_card(b"FX", name, &lower, to);
         }
         if is_up_from_zero(lower, upper) {

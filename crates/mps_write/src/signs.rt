@@ -2,25 +2,12 @@
 ghost use Rattle.std.specs.Prelude.{◌≡◌, ◌&&◌};
 ghost use Rattle.spec_exact.specs.Fraction.{0ℚ, eq_ℚ, lt_ℚ};
 
-use lp_frac::{Frac, are_same, num, zero};
-
-/// Whether the two are one fraction.
-pub fn is_equal(v: Frac, w: Frac) -> bool
-    ensures { result ≡ eq_ℚ v w }
-{
-    are_same(v, w)
-}
+use lp_frac::{Frac, are_same, is_positive, zero};
 
 pub fn is_zero(v: Frac) -> bool
     ensures { result ≡ eq_ℚ v 0ℚ }
 {
-    is_equal(v, zero())
-}
-
-pub fn is_positive(v: Frac) -> bool
-    ensures { result ≡ lt_ℚ 0ℚ v }
-{
-    num(v) > 0
+    are_same(v, zero())
 }
 
 /// A lower bound 0, and an upper bound above it.
