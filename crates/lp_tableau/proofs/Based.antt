@@ -1,5 +1,5 @@
 -- The tableau of a basis, from its parts.
-use Rattle.std.proofs.Common.{◌≡◌, ℕ, zero, suc, ◌+◌, ◌<◌, List, ◌++◌, [], ◌∷◌, length, take, get_or, replicate}
+use Rattle.std.proofs.Common.{◌≡◌, ℕ, ◌+◌, ◌<◌, List, ◌++◌, length, take, get_or, replicate}
 use Rattle.std.proofs.Common.{IfSome, Option, Some, None, Result, Ok, Err, false, cond, refl, sym, ap, ap₂, ◌∙◌, arith}
 use Rattle.std.specs.Prelude.{slice_set}
 use Rattle.std.proofs.Math.Seq.{take-append_seam}
@@ -9,40 +9,21 @@ use Rattle.spec_exact.specs.Fraction.{ℚ, 0ℚ}
 use Rattle.spec_exact.specs.declared.past.Past.{Past}
 use Rattle.spec_pivot.specs.declared.status.Status.{Status}
 use Rattle.spec_pivot.specs.declared.status.Status.TheVariants.{AtLower}
-use Rattle.spec_simplex.specs.declared.ends.RowStart.{RowStart}
-use Rattle.spec_simplex.specs.declared.ends.RowStart.TheVariants.{Within}
 use Rattle.spec_simplex.specs.Form.{Form, IsForm}
 use Rattle.spec_exact.specs.Run.{Run, ◌>>=◌, refused_as, less_product, steps, made}
-use Rattle.spec_simplex.specs.Start.{start_entry, start_at, start_row, priced_run, with_reduced}
+use Rattle.spec_simplex.specs.Start.{priced_run, with_reduced}
 use Rattle.spec_simplex.specs.Tableau.{Tableau, IsTableauShape, all_columns, entry_at, basic_at, value_at, status_at}
 use Rattle.spec_exact.proofs.Stops.{steps_stop, length-made, All-made}
 use Rattle.spec_simplex.specs.Tableau.{is_basic}
 use Rattle.spec_simplex.specs.declared.ends.StartStop.{StartStop}
 use Rattle.spec_simplex.specs.declared.ends.StartStop.TheVariants as start
-use Rattle.spec_simplex.specs.Eliminate.{Elimination, equation, or_first, basis_status, basis_lower}
+use Rattle.spec_simplex.specs.Eliminate.{Elimination, or_first, basis_status, basis_lower}
 use Rattle.spec_simplex.specs.Eliminate.{basis_upper, basis_value, with_basis, eliminate_run}
 use Rattle.spec_simplex.specs.Eliminate.{position_run, valued_run, with_values, filled_run, start_from}
 use Rattle.lp_tableau.specs.declared.ends.BasisStop.{BasisStop}
 use Rattle.lp_tableau.specs.declared.ends.BasisStop.TheVariants as stop
 use Rattle.lp_tableau.specs.Grid.{IsGrid}
 use Rattle.lp_tableau.specs.Based.{AreInside, StopsAt, stand_in}
-
--- ---- the equations are rows that begin within their limits
-made_same : {A : Type 0} (n : ℕ) (f g : ℕ → A) → ((i : ℕ) → f i ≡ g i) → made n f ≡ made n g
-made_same zero f g h = refl
-made_same (suc n) f g h = ap₂ (λ xs x. xs ++ x ∷ []) (made_same n f g h) (h n)
-
-all_within : (m i : ℕ) → get_or (replicate m (Within 0ℚ)) i (Within 0ℚ) ≡ Within 0ℚ
-all_within zero i = refl
-all_within (suc m) zero = refl
-all_within (suc m) (suc i) = all_within m i
-
-pub equations_are : (f : Form) (m : ℕ) (starts : List (RowStart ℚ)) → starts ≡ replicate m (Within 0ℚ) →
-    made f.rows (start_row f starts) ≡ made f.rows (equation f)
-equations_are f m starts e =
-    made_same f.rows (start_row f starts) (equation f)
-    (λ i. ap (λ s. made (f.cols + f.rows + f.rows) (start_entry f s i))
-    (ap (λ starts. start_at starts i) e ∙ all_within m i))
 
 -- ---- the parts
 abbrev width_of : Form → ℕ
@@ -61,6 +42,15 @@ module _ (f : Form) (basis : List Status) (e : Elimination) (kept : IsForm f)
 
   pub uppers_length : length (basis_upper f) ≡ width_of f
   uppers_length = more_by f.upper (f.cols + f.rows) f.rows (Some 0ℚ) kept.all_upper
+
+  -- as many bounds as statuses
+  pub lowers_beside : (lower : List (Option ℚ)) (status : List Status) → lower ≡ basis_lower f →
+      status ≡ basis_status f basis → length lower ≡ length status
+  lowers_beside lower status l s = ap length l ∙ lowers_length ∙ sym (ap length s ∙ statuses_length)
+
+  pub uppers_beside : (upper : List (Option ℚ)) (status : List Status) → upper ≡ basis_upper f →
+      status ≡ basis_status f basis → length upper ≡ length status
+  uppers_beside upper status u s = ap length u ∙ uppers_length ∙ sym (ap length s ∙ statuses_length)
 
   first_inside : (o : Option ℕ) → 0 < width_of f → IfSome o (λ k. k < width_of f) → or_first o < width_of f
   first_inside None l h = l
@@ -150,6 +140,16 @@ pub written_back : (n : ℕ) (new front rest now : List (Option ℕ)) (m : ℕ) 
 written_back n new front rest now m e f l k =
     let z : n ≡ length new = omega (arith, l, ap length f, length-replicate {A = Option ℕ} m None, k) in
     e ∙ ap (λ i. take i (new ++ rest)) z ∙ take-append_seam new rest
+
+-- the tableau of columns that were lent so
+pub lent_is : (f : Form) (basis : List Status) (rows : List (List ℚ)) (t : Tableau) (n : ℕ)
+    (new front rest now : List (Option ℕ)) (m : ℕ) → t ≡ with_basis f basis (record { rows = rows; basic = now }) →
+    now ≡ take n (new ++ rest) → front ≡ replicate m None → length front ≡ n → length new ≡ m →
+    t ≡ with_basis f basis (record { rows = rows; basic = new })
+lent_is f basis rows t n new front rest now m b e g l k =
+    b
+    ∙ ap (λ basic. with_basis f basis (record { rows = rows; basic = basic }))
+    (written_back n new front rest now m e g l k)
 
 module _ (limit : Option ℕ) (f : Form) (basis : List Status) where
   abbrev after_rows : Result Elimination (StartStop ℚ) → Result Tableau (StartStop ℚ)

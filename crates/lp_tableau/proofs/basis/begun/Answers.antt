@@ -5,26 +5,20 @@ use Rattle.spec_simplex.specs.Tableau.{IsTableauShape}
 use Rattle.spec_exact.specs.Run.{made}
 use Rattle.spec_simplex.specs.Eliminate.{with_basis}
 use Rattle.lp_tableau.specs.Based.{stand_in}
-use Rattle.lp_tableau.proofs.Based.{statuses_length, lowers_length, uppers_length, based_is, based_shape}
+use Rattle.lp_tableau.proofs.Based.{lowers_beside, uppers_beside, based_is, based_shape}
 use Rattle.lp_tableau.proofs.basis.begun.Goals as goal
 
 pub values-requires-clause-lower : goal.values-requires-clause-lower
 values-requires-clause-lower c =
-    ap length (c.deref-2.ensures.value ∙ c.in_ok-lower.ensures)
-    ∙ lowers_length _ _ (record { rows = c.args.grid; basic = c.args.basic.now })
-    c.rows-height.ensures.kept c.requires.statuses c.requires.places
-    ∙ sym (ap length (c.deref.ensures.value ∙ c.in_ok-status.ensures)
-    ∙ statuses_length _ _ (record { rows = c.args.grid; basic = c.args.basic.now })
-    c.rows-height.ensures.kept c.requires.statuses c.requires.places)
+    lowers_beside _ _ (record { rows = c.args.grid; basic = c.args.basic.now })
+    c.rows-height.ensures.kept c.requires.statuses c.requires.places _ _
+    (c.deref-2.ensures.value ∙ c.in_ok-lower.ensures) (c.deref.ensures.value ∙ c.in_ok-status.ensures)
 
 pub values-requires-clause-upper : goal.values-requires-clause-upper
 values-requires-clause-upper c =
-    ap length (c.deref-3.ensures.value ∙ c.in_ok-upper.ensures)
-    ∙ uppers_length _ _ (record { rows = c.args.grid; basic = c.args.basic.now })
-    c.rows-height.ensures.kept c.requires.statuses c.requires.places
-    ∙ sym (ap length (c.deref.ensures.value ∙ c.in_ok-status.ensures)
-    ∙ statuses_length _ _ (record { rows = c.args.grid; basic = c.args.basic.now })
-    c.rows-height.ensures.kept c.requires.statuses c.requires.places)
+    uppers_beside _ _ (record { rows = c.args.grid; basic = c.args.basic.now })
+    c.rows-height.ensures.kept c.requires.statuses c.requires.places _ _
+    (c.deref-3.ensures.value ∙ c.in_ok-upper.ensures) (c.deref.ensures.value ∙ c.in_ok-status.ensures)
 
 pub returns : goal.returns
 returns c =

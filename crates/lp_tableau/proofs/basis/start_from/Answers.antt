@@ -1,9 +1,8 @@
 -- A stop in the rows, one in the values, one in the reduced costs, and the tableau.
-use Rattle.std.proofs.Common.{ap, ◌∙◌, Some}
+use Rattle.std.proofs.Common.{◌∙◌, Some}
 use Rattle.std.proofs.lemmas.Result.{err_from_is_err_and}
-use Rattle.spec_simplex.specs.Eliminate.{with_basis}
 use Rattle.lp_frac.specs.Narrow.{largest}
-use Rattle.lp_tableau.proofs.Based.{written_back, rows_stop, values_stop, price_stop, based}
+use Rattle.lp_tableau.proofs.Based.{lent_is, rows_stop, values_stop, price_stop, based}
 use Rattle.lp_tableau.proofs.basis.start_from.Goals as goal
 
 pub returns-in_err-eliminate-clause-err : goal.returns-in_err-eliminate-clause-err
@@ -15,10 +14,9 @@ pub returns-in_err-values-clause-err : goal.returns-in_err-values-clause-err
 returns-in_err-values-clause-err c =
     let p = err_from_is_err_and c.from_residual-in_err-values.result c.from_residual-in_err-values.ensures.1 in
     let b =
-    c.in_ok-tab.ensures
-    ∙ ap (λ basic. with_basis c.args.form.now c.args.basis.now (record { rows = c.eliminate.new.grid; basic = basic }))
-    (written_back _ c.eliminate.new.basic _ _ _ _ c.deref.ensures.value
-    (c.deref_mut.ensures.value ∙ c.in_ok-basic.ensures) c.deref_mut.ensures.len c.in_ok-eliminate.ensures.places) in
+    lent_is c.args.form.now c.args.basis.now c.eliminate.new.grid c.in_ok-tab.tab _ c.eliminate.new.basic _ _ _ _
+    c.in_ok-tab.ensures c.deref.ensures.value (c.deref_mut.ensures.value ∙ c.in_ok-basic.ensures)
+    c.deref_mut.ensures.len c.in_ok-eliminate.ensures.places in
     rw (p.1, p.2) (values_stop (Some largest) c.args.form.now c.args.basis.now _
     c.in_ok-tab.tab c.in_ok-eliminate.ensures.solved b _ c.in_err-values.ensures.err)
 
@@ -26,20 +24,18 @@ pub returns-in_err-price-clause-err : goal.returns-in_err-price-clause-err
 returns-in_err-price-clause-err c =
     let p = err_from_is_err_and c.from_residual-in_err-price.result c.from_residual-in_err-price.ensures.1 in
     let b =
-    c.in_ok-tab.ensures
-    ∙ ap (λ basic. with_basis c.args.form.now c.args.basis.now (record { rows = c.eliminate.new.grid; basic = basic }))
-    (written_back _ c.eliminate.new.basic _ _ _ _ c.deref.ensures.value
-    (c.deref_mut.ensures.value ∙ c.in_ok-basic.ensures) c.deref_mut.ensures.len c.in_ok-eliminate.ensures.places) in
+    lent_is c.args.form.now c.args.basis.now c.eliminate.new.grid c.in_ok-tab.tab _ c.eliminate.new.basic _ _ _ _
+    c.in_ok-tab.ensures c.deref.ensures.value (c.deref_mut.ensures.value ∙ c.in_ok-basic.ensures)
+    c.deref_mut.ensures.len c.in_ok-eliminate.ensures.places in
     rw (p.1, p.2) (price_stop (Some largest) c.args.form.now c.args.basis.now _ c.in_ok-tab.tab
     c.in_ok-eliminate.ensures.solved b _ _ c.in_ok-values.ensures.ok c.costs.ensures _ c.in_err-price.ensures.priced)
 
 pub returns-clause-ok : goal.returns-clause-ok
 returns-clause-ok c =
     let b =
-    c.in_ok-tab.ensures
-    ∙ ap (λ basic. with_basis c.args.form.now c.args.basis.now (record { rows = c.eliminate.new.grid; basic = basic }))
-    (written_back _ c.eliminate.new.basic _ _ _ _ c.deref.ensures.value
-    (c.deref_mut.ensures.value ∙ c.in_ok-basic.ensures) c.deref_mut.ensures.len c.in_ok-eliminate.ensures.places) in
+    lent_is c.args.form.now c.args.basis.now c.eliminate.new.grid c.in_ok-tab.tab _ c.eliminate.new.basic _ _ _ _
+    c.in_ok-tab.ensures c.deref.ensures.value (c.deref_mut.ensures.value ∙ c.in_ok-basic.ensures)
+    c.deref_mut.ensures.len c.in_ok-eliminate.ensures.places in
     based (Some largest) c.args.form.now c.args.basis.now _ c.in_ok-tab.tab
     c.in_ok-eliminate.ensures.solved b _ _ c.in_ok-values.ensures.ok c.costs.ensures
     c.price.new.self _ c.in_ok-price.ensures.priced c.in_ok-price.ensures.rest c.set_values.ensures
