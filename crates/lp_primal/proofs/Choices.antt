@@ -4,7 +4,7 @@ use Rattle.spec_exact.specs.Fraction.{ℚ}
 use Rattle.spec_exact.specs.declared.past.Past.{Past}
 use Rattle.spec_simplex.specs.declared.ends.Entering.{Entering}
 use Rattle.spec_simplex.specs.declared.ends.Best.{Best}
-use Rattle.spec_simplex.specs.declared.ends.PrimalEnd.TheVariants.{Optimal, Unbounded}
+use Rattle.spec_simplex.specs.declared.ends.PrimalEnd.TheVariants.{Optimal}
 use Rattle.spec_simplex.specs.declared.ends.Choice.{Choice}
 use Rattle.spec_simplex.specs.declared.ends.Choice.TheVariants.{End}
 use Rattle.spec_exact.specs.Run.{Run, ◌>>=◌}
@@ -26,9 +26,6 @@ module _ (limit : Option ℕ) (t : Tableau) where
 
     pub refused : (p : Past ℚ) → best_run limit t e ≡ Err p → choice_run limit t ≡ Err p
     refused p g = from_best ∙ ap (λ o. o >>= λ best. Ok (choice_by e best)) g
-
-    pub nothing_stops : best_run limit t e ≡ Ok None → choice_run limit t ≡ Ok (End (Unbounded e.col e.up))
-    nothing_stops g = from_best ∙ ap (λ o. o >>= λ best. Ok (choice_by e best)) g
 
     pub best_stops : (x : Best ℚ) (place : Option ℕ) → best_run limit t e ≡ Ok (Some x) → x.place ≡ place →
         choice_run limit t ≡ Ok (choice_at e x place)

@@ -10,7 +10,7 @@ use Rattle.spec_model.specs.Model.{entry_of}
 use Rattle.spec_simplex.specs.Form.{Form, IsForm, form_entry}
 use Rattle.spec_simplex.specs.Tableau.{at_place}
 use Rattle.lp_tableau.specs.Begun.{HoldsColumns}
-use Rattle.lp_tableau.specs.Grid.{rows_of, IsBlock, IsGrid}
+use Rattle.lp_tableau.specs.Grid.{rows_of, IsGrid}
 use Rattle.lp_tableau.proofs.Done.{with_item, grid_row, row_inside, grid_set}
 use Rattle.lp_tableau.proofs.Rows.{length-rows_of, at-rows_of, inside, row_width}
 
@@ -39,15 +39,6 @@ pub record HoldsPart (f : Form) (j : ℕ) (entries : List (ℕ × ℚ)) (rows : 
   pub done : (i k : ℕ) → i < f.rows → k < j → at_place rows i k ≡ form_entry f i k
   pub column : (i : ℕ) → i < f.rows → at_place rows i j ≡ entry_of entries i
   pub rest : (i k : ℕ) → i < f.rows → j < k → k < f.cols → at_place rows i k ≡ 0ℚ
-
-pub none_put : (f : Form) (j : ℕ) (rows : List (List ℚ)) → j < f.cols → HoldsColumns f j rows → HoldsPart f j [] rows
-none_put f j rows l o =
-    record {
-      shape = o.shape;
-      done = o.done;
-      column = λ i h. o.rest i j h (omega arith) l;
-      rest = λ i k h g. o.rest i k h (omega (arith, g));
-    }
 
 pub one_put : (f : Form) (j : ℕ) (entries : List (ℕ × ℚ)) (rows : List (List ℚ)) (r : ℕ) (v : ℚ) → j < f.cols →
     r < f.rows → HoldsPart f j entries rows → HoldsPart f j ((r, v) ∷ entries) (with_item rows r j v)
@@ -90,9 +81,6 @@ all_put f j rows o =
 module _ (f : Form) (g : IsForm f) (xs : List ℚ) (e : xs ≡ replicate (f.rows * f.cols) 0ℚ) where
   size : length xs ≡ f.rows * f.cols
   size = ap length e ∙ length-replicate (f.rows * f.cols) 0ℚ
-
-  pub zero_block : IsBlock f.rows f.cols xs
-  zero_block = record { few_rows = g.few_rows; few_columns = omega (arith, g.few_columns); size = size }
 
   pub zero_columns : HoldsColumns f 0 (rows_of f.cols f.rows xs)
   zero_columns =

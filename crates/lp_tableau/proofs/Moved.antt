@@ -1,12 +1,12 @@
 -- The basic columns that move with one that is not basic.
-use Rattle.std.proofs.Common.{◌≡◌, ℕ, ◌+◌, ◌<◌, ◌≤◌, List, Option, Ok, Err}
+use Rattle.std.proofs.Common.{◌≡◌, ℕ, ◌<◌, ◌≤◌, List, Option, Ok, Err}
 use Rattle.std.proofs.Common.{true, false, cond, sym, subst, ap, ◌∙◌, arith}
 use Rattle.spec_exact.specs.Fraction.{ℚ}
 use Rattle.spec_exact.specs.declared.past.Past.{Past}
 use Rattle.spec_exact.specs.Run.{Run, steps}
 use Rattle.spec_simplex.specs.Tableau.{Tableau}
 use Rattle.spec_simplex.specs.Step.{is_place, moved_at, moved_run}
-use Rattle.spec_exact.proofs.Stops.{steps_more, steps_stop}
+use Rattle.spec_exact.proofs.Stops.{steps_stop}
 
 -- u is t but for its values
 abbrev pub MovedFrom : Tableau → Tableau → Type 0
@@ -23,17 +23,6 @@ module _ (limit : Option ℕ) (t : Tableau) (j : ℕ) (theta : ℚ) (but : Optio
 
   pub not_moved : (i : ℕ) (values : List ℚ) → is_place but i ≡ true → move_at limit t j theta but i values ≡ Ok values
   not_moved i values b = ap (λ b. cond b (Ok values) (moved_at limit t j theta i values)) b
-
-  pub one_passed : (i : ℕ) (values : List ℚ) → steps i (move_at limit t j theta but) t.value ≡ Ok values →
-      is_place but i ≡ true → steps (i + 1) (move_at limit t j theta but) t.value ≡ Ok values
-  one_passed i values s b = steps_more i (move_at limit t j theta but) t.value values values s (not_moved i values b)
-
-  pub one_moved : (u : Tableau) (i : ℕ) (values : List ℚ) → steps i (move_at limit t j theta but) t.value ≡ Ok u.value →
-      MovedFrom t u → is_place but i ≡ false → moved_at limit u j theta i u.value ≡ Ok values →
-      steps (i + 1) (move_at limit t j theta but) t.value ≡ Ok values
-  one_moved u i values s e b g =
-      steps_more i (move_at limit t j theta but) t.value u.value values s
-      (ap (λ b. cond b (Ok u.value) (moved_at limit t j theta i u.value)) b ∙ (let z = at_same u i e in sym z) ∙ g)
 
   pub move_refused : (u : Tableau) (i : ℕ) (p : Past ℚ) → steps i (move_at limit t j theta but) t.value ≡ Ok u.value →
       MovedFrom t u → i < t.rows → is_place but i ≡ false → moved_at limit u j theta i u.value ≡ Err p →

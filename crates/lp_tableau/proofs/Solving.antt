@@ -6,7 +6,6 @@ use Rattle.std.specs.Prelude.{slice_set}
 use Rattle.std.proofs.lemmas.List.{length-replicate}
 use Rattle.std.proofs.lemmas.List.Elements.{All-nil, All-cons, All-set}
 use Rattle.spec_exact.specs.Fraction.{ℚ, 0ℚ, eq_ℚ}
-use Rattle.spec_exact.specs.declared.past.Past.{Past}
 use Rattle.spec_exact.proofs.Same.{eq_test}
 use Rattle.spec_pivot.specs.declared.status.Status.{Status}
 use Rattle.spec_simplex.specs.declared.ends.RowStart.TheVariants.{Within}
@@ -69,10 +68,6 @@ module _ (limit : Option ℕ) (f : Form) (rows : List (List ℚ)) (basic : List 
   module _ (p : ℕ) (h : Some p ≡ open_below now j f.rows) where
     abbrev placed : Run (List (List ℚ)) → Result Elimination (StartStop ℚ)
     placed o = refused_as start.Past (o >>= λ rows. Ok (record { rows = rows; basic = slice_set basic p (Some j) }))
-
-    pub is_refused : (e : Past ℚ) → turned_run limit f.rows (width_of f) rows p j ≡ Err e →
-        solved_run limit f now j ≡ Err (start.Past e)
-    is_refused e g = ap (solved_by limit f now j) (sym h) ∙ ap placed g
 
     pub is_solved : (after : List (List ℚ)) → turned_run limit f.rows (width_of f) rows p j ≡ Ok after →
         solved_run limit f now j ≡ Ok (record { rows = after; basic = slice_set basic p (Some j) })

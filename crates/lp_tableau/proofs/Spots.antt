@@ -59,9 +59,6 @@ row_kept p a b f old new d l h e =
     record { row = all_kept f (get_or old p []) (get_or new p []) a b d.row l h e; frame = d.frame }
 
 -- ---- the list of columns
-pub none_listed : (row : List ℚ) → IsListed row 0 []
-none_listed row = record { covers = λ k h g. absurd (omega (arith, g)) }
-
 more : (row : List ℚ) (a n : ℕ) (ks : List ℕ) → a ≤ n → Covers row a n ks → Covers row a (n + 1) (ks ++ n ∷ [])
 more row a n [] l c = (record { from = l; inside = omega arith; before = c }, λ k h g. absurd (omega (arith, h, g)))
 more row a n (k ∷ ks) l c =
