@@ -34,6 +34,22 @@ module _ (m : Model) (limits : List (Option ℚ × Option ℚ)) (rows cols : ℕ
       ≡ formed m limits
   parts_are = cc
 
+  -- the bounds of the columns and of the rows
+  bounds_length : (of_column : ExactColumn → Option ℚ) (of_row : Option ℚ × Option ℚ → Option ℚ)
+      (xs : List (Option ℚ)) → xs ≡ map of_column m.columns ++ map of_row limits → length limits ≡ height m →
+      length xs ≡ cols + rows
+  bounds_length of_column of_row xs h g =
+      omega (
+        arith,
+        ap length h,
+        length-append (map of_column m.columns) (map of_row limits),
+        length-map m.columns of_column,
+        length-map limits of_row,
+        a,
+        b,
+        g,
+      )
+
   pub is_form : length limits ≡ height m → rows ≤ 256 → cols ≤ 512 → All (AreEntries (height m)) entries →
       IsForm (record { rows = rows; cols = cols; entries = entries; lower = lower; upper = upper; cost = cost })
   is_form g h i k =
@@ -41,30 +57,8 @@ module _ (m : Model) (limits : List (Option ℚ × Option ℚ)) (rows cols : ℕ
         few_rows = h;
         few_columns = i;
         all_entries = ap length c ∙ length-map m.columns (λ (c : ExactColumn). c.entries) ∙ sym b;
-        all_lower =
-            omega (
-              arith,
-              ap length d,
-              length-append (map (λ (c : ExactColumn). c.lower) m.columns)
-                  (map (λ (l : Option ℚ × Option ℚ). l.0) limits),
-              length-map m.columns (λ (c : ExactColumn). c.lower),
-              length-map limits (λ (l : Option ℚ × Option ℚ). l.0),
-              a,
-              b,
-              g,
-            );
-        all_upper =
-            omega (
-              arith,
-              ap length e,
-              length-append (map (λ (c : ExactColumn). c.upper) m.columns)
-                  (map (λ (l : Option ℚ × Option ℚ). l.1) limits),
-              length-map m.columns (λ (c : ExactColumn). c.upper),
-              length-map limits (λ (l : Option ℚ × Option ℚ). l.1),
-              a,
-              b,
-              g,
-            );
+        all_lower = bounds_length (λ c. c.lower) (λ l. l.0) lower d g;
+        all_upper = bounds_length (λ c. c.upper) (λ l. l.1) upper e g;
         all_costs =
             omega (
               arith,
