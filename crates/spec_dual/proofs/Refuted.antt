@@ -81,49 +81,38 @@ module _ (m n : ℕ) (f : Matrix) (cost : ℕ → ℚ) (b : Bounds) (t : Table)
   own_below Down lo up v h k = h.0
 
   -- ---- the other columns
-  other_above : (k : ℕ) → k < n → k ≢ t.basic p → 0ℚ <ℚ row k → b.lower k ≡ Some (t.value k)
-  other_above k h o a =
-      ⊎_elim
-      (λ fixed. fixed_lower (b.lower k) (b.upper k) (t.status k)
-      (t.value k) fixed.0 fixed.1 fixed.2 nonbasic (g.stands k h))
-      (λ free. go (t.status k) refl free)
-      (fixed_or_not b k)
+  -- one in which the row is not 0 is fixed, or stands at a bound at which it does not help
+  by_place : {P : Type 0} (k : ℕ) → k < n → k ≢ t.basic p → ¬ (row k ≡ 0ℚ) →
+      (¬ (t.status k ≡ Basic) → IsFixed b k → P) → (t.status k ≡ AtLower → ¬ (Helps AtLower (row k)) → P)
+      → (t.status k ≡ AtUpper → ¬ (Helps AtUpper (row k)) → P) → P
+  by_place {P} k h o nonzero if_fixed at_lower at_upper =
+      ⊎_elim (if_fixed nonbasic) (λ free. go (t.status k) refl (idle free (t.status k))) (fixed_or_not b k)
     where
       nonbasic : ¬ (t.status k ≡ Basic)
-      nonbasic s = <ℚ_irrefl 0ℚ (subst (λ x. 0ℚ <ℚ x) (basic_entry k h o s) a)
+      nonbasic s = nonzero (basic_entry k h o s)
 
-      go : (s : Status) → t.status k ≡ s → ¬ (IsFixed b k) → b.lower k ≡ Some (t.value k)
-      go Basic e free = absurd (nonbasic e)
-      go AtLower e free = subst (λ s. Stands s (b.lower k) (b.upper k) (t.value k)) e (g.stands k h)
-      go AtUpper e free =
-          absurd (none k h (record { not_fixed = free; helps = subst (λ s. Helps s (row k)) (sym e) a }))
-      go AtZero e free =
-          absurd (none k h (record {
-            not_fixed = free;
-            helps = subst (λ s. Helps s (row k)) (sym e) (λ z. <ℚ_irrefl 0ℚ (subst (λ x. 0ℚ <ℚ x) z a));
-          }))
+      idle : ¬ (IsFixed b k) → (s : Status) → t.status k ≡ s → ¬ (Helps s (row k))
+      idle free s e helps = none k h (record { not_fixed = free; helps = subst (λ s. Helps s (row k)) (sym e) helps })
+
+      go : (s : Status) → t.status k ≡ s → (t.status k ≡ s → ¬ (Helps s (row k))) → P
+      go Basic e useless = absurd (nonbasic e)
+      go AtLower e useless = at_lower e (useless e)
+      go AtUpper e useless = at_upper e (useless e)
+      go AtZero e useless = absurd (useless e nonzero)
+
+  other_above : (k : ℕ) → k < n → k ≢ t.basic p → 0ℚ <ℚ row k → b.lower k ≡ Some (t.value k)
+  other_above k h o a =
+      by_place k h o (λ z. <ℚ_irrefl 0ℚ (subst (λ x. 0ℚ <ℚ x) z a))
+      (λ s x. fixed_lower (b.lower k) (b.upper k) (t.status k) (t.value k) x.0 x.1 x.2 s (g.stands k h))
+      (λ e _. subst (λ s. Stands s (b.lower k) (b.upper k) (t.value k)) e (g.stands k h))
+      (λ _ useless. absurd (useless a))
 
   other_below : (k : ℕ) → k < n → k ≢ t.basic p → row k <ℚ 0ℚ → b.upper k ≡ Some (t.value k)
   other_below k h o a =
-      ⊎_elim
-      (λ fixed. fixed_upper (b.lower k) (b.upper k) (t.status k)
-      (t.value k) fixed.0 fixed.1 fixed.2 nonbasic (g.stands k h))
-      (λ free. go (t.status k) refl free)
-      (fixed_or_not b k)
-    where
-      nonbasic : ¬ (t.status k ≡ Basic)
-      nonbasic s = <ℚ_irrefl 0ℚ (subst (λ x. x <ℚ 0ℚ) (basic_entry k h o s) a)
-
-      go : (s : Status) → t.status k ≡ s → ¬ (IsFixed b k) → b.upper k ≡ Some (t.value k)
-      go Basic e free = absurd (nonbasic e)
-      go AtUpper e free = subst (λ s. Stands s (b.lower k) (b.upper k) (t.value k)) e (g.stands k h)
-      go AtLower e free =
-          absurd (none k h (record { not_fixed = free; helps = subst (λ s. Helps s (row k)) (sym e) a }))
-      go AtZero e free =
-          absurd (none k h (record {
-            not_fixed = free;
-            helps = subst (λ s. Helps s (row k)) (sym e) (λ z. <ℚ_irrefl 0ℚ (subst (λ x. x <ℚ 0ℚ) z a));
-          }))
+      by_place k h o (λ z. <ℚ_irrefl 0ℚ (subst (λ x. x <ℚ 0ℚ) z a))
+      (λ s x. fixed_upper (b.lower k) (b.upper k) (t.status k) (t.value k) x.0 x.1 x.2 s (g.stands k h))
+      (λ _ useless. absurd (useless a))
+      (λ e _. subst (λ s. Stands s (b.lower k) (b.upper k) (t.value k)) e (g.stands k h))
 
   -- ---- the sum: 0 at the tableau's values, and more at the bounds
   at_values : sum_below n (λ k. row k *ℚ t.value k) ≡ 0ℚ
