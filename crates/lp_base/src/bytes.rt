@@ -1,8 +1,8 @@
 // Lists that contracts see as lists.
-ghost use Rattle.std.specs.Prelude.{◌≡◌, ◌↔◌, ℕ, ◌<◌, List, [], ◌∷◌, ◌++◌, length};
-ghost use Rattle.std.specs.Prelude.{slice_get, ◌==◌, IsTrue, IfOk, OnOk, OnErr};
+ghost use Rattle.std.specs.Prelude.{◌≡◌, ◌↔◌, ◌==◌, ℕ, List, [], ◌∷◌, ◌++◌, length, IsTrue, IfOk, OnOk, OnErr};
 ghost use Rattle.spec_text.specs.Words.{same};
 
+use lp_list::Items;
 use std::alloc::{AllocError, Global};
 use std::fmt;
 use std::marker::Model;
@@ -127,59 +127,7 @@ impl fmt::Debug for Name {
 }
 
 /// A list of texts, each of them a list of bytes.
-#[derive(Drop)]
-pub struct Texts {
-    items: Vec<Bytes>,
-}
-
-impl Model for Texts {
-    ghost Value = { List (List ℕ) };
-
-    ghost view = { λ t. t.items.items };
-}
-
-impl Texts {
-    pub fn new(alloc: Global) -> Self
-        ensures { result ≡ [] }
-    {
-        Texts {
-            items: Vec::new(alloc),
-        }
-    }
-
-    pub fn push(&mut self, text: Bytes) -> Result<(), AllocError>
-        ensures ok { OnOk result (self.new ≡ self.old ++ text ∷ []) }
-        ensures err { OnErr result (self.new ≡ self.old) }
-    {
-        self.items.push(text)?;
-        Ok(())
-    }
-
-    pub fn len(&self) -> usize
-        ensures { result ≡ length self.now }
-    {
-        self.items.len()
-    }
-
-    pub fn is_empty(&self) -> bool
-        ensures { result ≡ (length self.now == 0) }
-    {
-        self.items.is_empty()
-    }
-
-    pub fn at(&self, index: usize) -> &[u8]
-        requires { index < length self.now }
-        ensures { slice_get self.now index ≡ Some result.now }
-    {
-        self.items[index].as_slice()
-    }
-
-    pub fn as_slice(&self) -> &[Bytes]
-        ensures { result.now ≡ self.now }
-    {
-        &self.items
-    }
-}
+pub type Texts = Items<Bytes>;
 
 /// Whether two texts have the same bytes.
 pub fn are_same(a: &[u8], b: &[u8]) -> bool

@@ -51,7 +51,7 @@ impl MemSource {
         ensures calls { self.new.calls ≡ self.old.calls }
     {
         while self.piece < self.pieces.len() {
-            let piece = self.pieces.at(self.piece);
+            let piece = self.pieces.get(self.piece).as_slice();
             if self.from < piece.len() {
                 let count = copy_front(&piece[self.from..], buf);
                 self.from += count;

@@ -1,10 +1,7 @@
 // Certificates and verdicts, with names and numbers as the code holds them.
-ghost use Rattle.std.specs.Prelude.{◌≡◌, ◌==◌, ◌<◌, [], ◌∷◌, ◌++◌, length, OnOk, OnErr};
-
 use lp_base::Name;
 use lp_frac::{Frac, Fracs};
-use std::alloc::{AllocError, Global};
-use std::marker::Model;
+use lp_list::Items;
 
 /// A certificate of one model, whose lists have a number for each column or row.
 pub type Certificate = spec_check::Certificate<Fracs>;
@@ -31,60 +28,4 @@ pub type RawCertificate = spec_check::RawCertificate<Name, Parts>;
 pub type SettleFault = spec_check::SettleFault<Name>;
 
 /// The parts of a certificate, in order.
-#[derive(Drop)]
-pub struct Parts {
-    items: Vec<Part>,
-}
-
-impl Model for Parts {
-    ghost use Rattle.std.specs.Prelude.{List};
-    ghost use Rattle.spec_check.specs.Text.{ExactPart};
-
-    ghost Value = { List ExactPart };
-
-    ghost view = { λ p. p.items.items };
-}
-
-impl Parts {
-    /// The empty list. It takes no memory until something is put in.
-    pub fn new(alloc: Global) -> Self
-        ensures { result ≡ [] }
-    {
-        Parts {
-            items: Vec::new(alloc),
-        }
-    }
-
-    pub fn from_vec(items: Vec<Part>) -> Self
-        ensures { result ≡ items.items }
-    {
-        Parts { items }
-    }
-
-    /// Adds a part at the end.
-    pub fn push(&mut self, part: Part) -> Result<(), AllocError>
-        ensures ok { OnOk result (self.new ≡ self.old ++ part ∷ []) }
-        ensures err { OnErr result (self.new ≡ self.old) }
-    {
-        self.items.push(part)?;
-        Ok(())
-    }
-
-    pub fn len(&self) -> usize
-        ensures { result ≡ length self.now }
-    {
-        self.items.len()
-    }
-
-    pub fn is_empty(&self) -> bool
-        ensures { result ≡ (length self.now == 0) }
-    {
-        self.items.is_empty()
-    }
-
-    pub fn as_slice(&self) -> &[Part]
-        ensures { result.now ≡ self.now }
-    {
-        &self.items
-    }
-}
+pub type Parts = Items<Part>;

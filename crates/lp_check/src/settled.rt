@@ -7,7 +7,7 @@ ghost use Rattle.lp_check.specs.declared.settled.SettleError.TheVariants.{NoMemo
 
 use crate::certificate::{Certificate, CertificateKind, Part, RawCertificate, SettleFault};
 use lp_base::{Name, are_same};
-use lp_frac::{Frac, Fracs};
+use lp_frac::{Frac, Fracs, zeros};
 use lp_model::Model;
 use spec_check::Letter;
 use std::alloc::{AllocError, Global};
@@ -61,15 +61,15 @@ fn blank(alloc: Global, model: &Model, kind: &CertificateKind) -> Result<Certifi
     let rows = model.rows() as usize;
     match kind {
         CertificateKind::Optimal => Ok(Certificate::Optimal {
-            x: Fracs::zeros(alloc, columns)?,
-            y: Fracs::zeros(alloc, rows)?,
+            x: zeros(alloc, columns)?,
+            y: zeros(alloc, rows)?,
         }),
         CertificateKind::Infeasible => Ok(Certificate::Infeasible {
-            y: Fracs::zeros(alloc, rows)?,
+            y: zeros(alloc, rows)?,
         }),
         CertificateKind::Unbounded => Ok(Certificate::Unbounded {
-            x: Fracs::zeros(alloc, columns)?,
-            r: Fracs::zeros(alloc, columns)?,
+            x: zeros(alloc, columns)?,
+            r: zeros(alloc, columns)?,
         }),
         CertificateKind::Clash(name) => match model.col_of(name.as_slice()) {
             Some(j) => Ok(Certificate::Clash(j)),

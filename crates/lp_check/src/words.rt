@@ -58,9 +58,9 @@ pub(crate) fn kind_of(alloc: Global, words: &Texts) -> Result<Option<Certificate
     ensures { IfOk result (λ kind. kind ≡ certificate.kind_of words.now) }
 {
     match words.len() {
-        1 => Ok(kind_by_word(words.at(0))),
-        2 if are_same(words.at(0), b"CLASH") => {
-            let name = Name::from_slice(alloc, words.at(1))?;
+        1 => Ok(kind_by_word(words.get(0).as_slice())),
+        2 if are_same(words.get(0).as_slice(), b"CLASH") => {
+            let name = Name::from_slice(alloc, words.get(1).as_slice())?;
             Ok(Some(CertificateKind::Clash(name)))
         }
         _ => Ok(None),
@@ -79,16 +79,16 @@ pub(crate) fn part_of(
     if words.len() != 3 {
         return Ok(None);
     }
-    let Some(letter) = letter_of(words.at(0)) else {
+    let Some(letter) = letter_of(words.get(0).as_slice()) else {
         return Ok(None);
     };
     if !takes(kind, letter) {
         return Ok(None);
     }
-    let Ok(value) = lp_numtext::read(words.at(2)) else {
+    let Ok(value) = lp_numtext::read(words.get(2).as_slice()) else {
         return Ok(None);
     };
-    let name = Name::from_slice(alloc, words.at(1))?;
+    let name = Name::from_slice(alloc, words.get(1).as_slice())?;
     Ok(Some(Part {
         letter,
         name,
@@ -101,5 +101,5 @@ pub(crate) fn part_of(
 pub fn is_end(words: &Texts) -> bool
     ensures { result ≡ certificate.is_end words.now }
 {
-    words.len() == 1 && are_same(words.at(0), b"END")
+    words.len() == 1 && are_same(words.get(0).as_slice(), b"END")
 }

@@ -14,7 +14,7 @@ use crate::factors::Factors;
 use crate::solve::forward_all;
 use crate::stop::FactorStop;
 use lp_form::{Form, StatusList, is_basic};
-use lp_frac::{Fracs, Past, is_zero, neg, one};
+use lp_frac::{Fracs, Past, is_zero, neg, one, zeros};
 use std::alloc::{AllocError, Global};
 use std::marker::Model;
 
@@ -64,7 +64,7 @@ pub fn column_of(alloc: Global, form: &Form, k: u32) -> Result<Fracs, AllocError
     ensures value { IfOk result (λ c. c ≡ column_by form.now k) }
     ensures all { IfOk result (λ c. length c ≡ form.now.rows) }
 {
-    let mut column = Fracs::zeros(alloc, form.rows() as usize)?;
+    let mut column = zeros(alloc, form.rows() as usize)?;
     if k < form.cols() {
         put_negatives(form, k, &mut column);
     } else {

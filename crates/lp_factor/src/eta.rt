@@ -22,7 +22,7 @@ fn entries_of(alloc: Global, column: &Fracs) -> Result<Entries, AllocError>
     for i in 0..column.len() {
         let value = narrow(column.at(i));
         if !is_zero(value) {
-            entries.push(i as u32, value)?;
+            entries.push((i as u32, value))?;
         }
     }
     Ok(entries)

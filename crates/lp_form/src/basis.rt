@@ -1,5 +1,5 @@
 // Bases.
-ghost use Rattle.std.specs.Prelude.{◌≡◌, ◌==◌, ◌<◌, ◌≤◌, List, length, slice_get, Some};
+ghost use Rattle.std.specs.Prelude.{◌≡◌, ◌<◌, ◌≤◌, List, length, slice_get, Some};
 ghost use Rattle.spec_pivot.specs.declared.status.Status.{Status as status};
 ghost use Rattle.spec_simplex.specs.Form.{Form as form};
 ghost use Rattle.spec_simplex.specs.Eliminate.{IsBasisOf};
@@ -49,18 +49,6 @@ impl Basis {
         ensures { result.now ≡ self.now }
     {
         &self.statuses
-    }
-
-    pub fn len(&self) -> usize
-        ensures { result ≡ length self.now }
-    {
-        self.statuses.len()
-    }
-
-    pub fn is_empty(&self) -> bool
-        ensures { result ≡ (length self.now == 0) }
-    {
-        self.statuses.is_empty()
     }
 
     /// The status of column `k`, counted from 0.

@@ -112,24 +112,27 @@ impl Form {
     }
 
     /// The coefficient of structural column `j` in row `i`.
+    #[tactic(auto, using(std::proofs::lemmas::Option::get_or_from_slice_get))]
     pub fn entry(&self, i: u32, j: u32) -> Frac
         requires i_in_range { i < self.now.rows }
         requires j_in_range { j < self.now.cols }
         ensures { result ≡ form_entry self.now i j }
     {
-        entry_at(self.entries.at(j as usize).as_slice(), i)
+        entry_at(self.entries.get(j as usize).as_slice(), i)
     }
 
     /// The entries of structural column `j`: rows, each with its coefficient.
+    #[tactic(auto, using(std::proofs::lemmas::Option::get_or_from_slice_get))]
     pub fn entries(&self, j: u32) -> &[(u32, Frac)]
         requires { j < self.now.cols }
         ensures value { result.now ≡ get_or self.now.entries j [] }
         ensures kept { AreEntries self.now.rows result.now }
     {
-        self.entries.at(j as usize).as_slice()
+        self.entries.get(j as usize).as_slice()
     }
 
     /// The lower bound of structural or logical column `k`.
+    #[tactic(auto, using(std::proofs::lemmas::Option::get_or_from_slice_get))]
     pub fn lower(&self, k: u32) -> Option<Frac>
         requires { k < self.now.cols + self.now.rows }
         ensures { result ≡ form_lower self.now k }
@@ -138,6 +141,7 @@ impl Form {
     }
 
     /// The upper bound of structural or logical column `k`.
+    #[tactic(auto, using(std::proofs::lemmas::Option::get_or_from_slice_get))]
     pub fn upper(&self, k: u32) -> Option<Frac>
         requires { k < self.now.cols + self.now.rows }
         ensures { result ≡ form_upper self.now k }

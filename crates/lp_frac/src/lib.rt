@@ -7,14 +7,14 @@
 //!
 //! | Item | What it is | Where |
 //! |---|---|---|
-//! | `Frac`, `Frac::new`, `zero`, `one` | a fraction; one of two whole numbers; 0 and 1 | src/frac, src/lists, src/readers |
+//! | `Frac`, `Frac::new`, `zero`, `one` | a fraction; one of two whole numbers; 0 and 1 | src/frac, src/readers |
 //! | `add` `sub` `mul` `div` `cmp` | the operations that can be refused | src/operations |
 //! | `neg` `abs` `sign` `num` `den` `is_zero` `is_negative` `is_positive` `are_same` | the ones that never are | src/readers |
 //! | `plus_product`, `less_product` | a product, and then its sum with a number, or what is left of the number | src/less |
 //! | `within` `all_within` | that the parts of a fraction, or of all of a list, are within the limit | src/readers |
 //! | `Past`, `Op` | a refusal, and the operation that it names | src/frac |
 //! | `FracFault` | why two whole numbers make no fraction | src/frac |
-//! | `Fracs`, `Entries` | lists of fractions and of a column's entries, plain lists to contracts | src/lists |
+//! | `Fracs`, `Entries`, `zeros` | lists of fractions, and of a column's entries; a list of zeros | src/lists |
 //!
 //! Contracts above cite `largest` of specs/Narrow, and the operations of specs/Limit and specs/Run of spec_exact.
 #![tactic(auto)]
@@ -33,7 +33,7 @@ mod small;
 
 pub use frac::{Frac, FracFault, LARGEST, Op, Past};
 pub use less::{less_product, plus_product};
-pub use lists::{Entries, Fracs};
+pub use lists::{Entries, Fracs, zeros};
 pub use operations::{add, cmp, div, mul, sub};
 pub use readers::{
     abs, all_within, are_same, den, is_negative, is_positive, is_zero, neg, num, one, sign, within,

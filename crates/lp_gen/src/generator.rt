@@ -36,7 +36,7 @@ fn entries(alloc: Global, draws: &mut Draws, rows: u32) -> Result<Entries, Alloc
     let mut entries = Entries::new(alloc);
     for row in 0..rows {
         if draws.draw() % 3 == 0 {
-            entries.push(row, draws.number_from(1, 9))?;
+            entries.push((row, draws.number_from(1, 9)))?;
         }
     }
     Ok(entries)

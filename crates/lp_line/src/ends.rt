@@ -19,7 +19,7 @@ fn begins_with_blank(text: &[u8]) -> bool
 fn begins_with_word(words: &Texts, word: &[u8]) -> bool
     ensures { result ≡ script.begins_with_word word.now words.now }
 {
-    !words.is_empty() && are_same(words.at(0), word)
+    !words.is_empty() && are_same(words.get(0).as_slice(), word)
 }
 
 /// Whether a line is the last one of a text of a model.

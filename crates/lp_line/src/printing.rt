@@ -71,7 +71,7 @@ pub fn print_lines(lines: &Texts, to: &mut Bytes) -> Result<(), AllocError>
     ensures kept { IsPrefixOf to.old to.new }
 {
     for index in 0..lines.len() {
-        to.extend(lines.at(index))?;
+        to.extend(lines.get(index).as_slice())?;
         to.push(b'\n')?;
     }
     Ok(())

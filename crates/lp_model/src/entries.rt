@@ -23,7 +23,7 @@ pub fn put_entry(entries: &mut Entries, row: u32, value: Frac) -> Result<(), All
             if gone {
                 entries.remove(place);
             } else {
-                entries.set(place, row, value);
+                entries.set(place, (row, value));
             }
             Ok(())
         }
@@ -31,7 +31,7 @@ pub fn put_entry(entries: &mut Entries, row: u32, value: Frac) -> Result<(), All
             if gone {
                 Ok(())
             } else {
-                entries.insert(place, row, value)
+                entries.insert(place, (row, value))
             }
         }
     }
@@ -67,6 +67,6 @@ fn lower_rows(entries: &mut Entries, place: usize)
 {
     for at in place..entries.len() {
         let (row, value) = entries.at(at);
-        entries.set(at, row - 1, value);
+        entries.set(at, (row - 1, value));
     }
 }

@@ -38,7 +38,7 @@ pub fn basis_code(basis: &Basis, c: u32) -> u64
     ensures value { result ≡ shape.basis_code basis.now c }
     ensures small { result < 4 }
 {
-    if c as usize >= basis.len() {
+    if c as usize >= basis.as_slice().len() {
         return 0;
     }
     status_code(basis.at(c as usize))

@@ -42,7 +42,7 @@ fn the_least_of_the_column(rt: HostRuntime) -> Result<(), Fail> {
     let Some(basis) = &end.basis else {
         panic!(rt; "a basis is wanted")
     };
-    assert!(rt; basis.len() == 2 && basis.at(0) == Status::Basic && basis.at(1) == Status::AtLower);
+    assert!(rt; basis.as_slice().len() == 2 && basis.at(0) == Status::Basic && basis.at(1) == Status::AtLower);
     assert_eq!(rt; end.pivots, 1);
     assert_eq!(rt; cold(rt.alloc(), &form, 0).err(), Some(RevisedStop::Spent));
     Ok(())

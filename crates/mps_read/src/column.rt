@@ -50,7 +50,7 @@ fn put_entry(entries: &mut Entries, row: u32, value: Frac) -> Result<(), AllocEr
     ensures ordered { IsNonDecreasingBy (λ e. e.0) entries.new }
 {
     let place = place_for(entries.as_slice(), row);
-    entries.insert(place, row, value)
+    entries.insert(place, (row, value))
 }
 
 // Before the first entry of a later row.

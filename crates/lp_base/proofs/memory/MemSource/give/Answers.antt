@@ -1,5 +1,5 @@
 -- The piece that is read next, cut where there is room.
-use Rattle.std.proofs.Common.{◌≡◌, ◌<◌, ◌-◌, List, ℕ, take, drop, arith, length, sym, ◌∙◌, ap, length-drop}
+use Rattle.std.proofs.Common.{Some, ◌≡◌, ◌<◌, ◌-◌, List, ℕ, take, drop, arith, length, sym, ◌∙◌, ap, length-drop}
 use Rattle.lp_base.specs.Pieces.{bytes_of, first_given, left_behind}
 use Rattle.lp_base.proofs.PieceLemmas.{next_piece, no_pieces, taken_first, left_then, given_bytes, take_least, rest_of}
 use Rattle.lp_base.proofs.memory.MemSource.give.Goals as goal
@@ -9,13 +9,14 @@ returns-then-self-piece-clause-first c =
     let s = c.loop-self.self in
     let room = length c.args.buf.now in
     let n = c.copy_front-count.result in
-    let bytes = c.at-piece.result.now in
+    let bytes = c.as_slice-piece.result.now in
+    let at = c.get.ensures ∙ ap Some (sym c.as_slice-piece.ensures) in
     let front : take (length bytes - s.from) (drop s.from bytes) ≡ drop s.from bytes = rest_of s.from bytes in
     let count = c.copy_front-count.ensures.count in
     c.copy_front-count.ensures.copied
     ∙ ap (λ (xs : List ℕ). take n xs) front
     ∙ take_least room n (drop s.from bytes) (omega (arith, count, ap length front))
-    ∙ sym (taken_first s.pieces s.piece s.from room bytes c.at-piece.ensures (omega arith))
+    ∙ sym (taken_first s.pieces s.piece s.from room bytes at (omega arith))
     ∙ ap (first_given room) c.loop-self.invariant.left
 
 pub returns-then-self-piece-clause-behind : goal.returns-then-self-piece-clause-behind
@@ -23,11 +24,12 @@ returns-then-self-piece-clause-behind c =
     let s = c.loop-self.self in
     let room = length c.args.buf.now in
     let n = c.copy_front-count.result in
-    let bytes = c.at-piece.result.now in
+    let bytes = c.as_slice-piece.result.now in
+    let at = c.get.ensures ∙ ap Some (sym c.as_slice-piece.ensures) in
     let len : length (take (length bytes - s.from) (drop s.from bytes)) ≡ length bytes - s.from =
     ap length (rest_of s.from bytes) ∙ length-drop s.from bytes in
     let count = c.copy_front-count.ensures.count in
-    left_then s.pieces s.piece s.from room n bytes c.at-piece.ensures (omega arith) (omega (arith, count, len))
+    left_then s.pieces s.piece s.from room n bytes at (omega arith) (omega (arith, count, len))
     ∙ ap (left_behind room) c.loop-self.invariant.left
 
 pub returns-then-self-piece-clause-bytes : goal.returns-then-self-piece-clause-bytes
@@ -38,7 +40,7 @@ returns-then-self-piece-clause-bytes c =
 pub returns-then-self-piece-clause-end : goal.returns-then-self-piece-clause-end
 returns-then-self-piece-clause-end c =
     let s = c.loop-self.self in
-    let bytes = c.at-piece.result.now in
+    let bytes = c.as_slice-piece.result.now in
     let some : 0 < length bytes - s.from = omega arith in
     let len : length (take (length bytes - s.from) (drop s.from bytes)) ≡ length bytes - s.from =
     ap length (rest_of s.from bytes) ∙ length-drop s.from bytes in
@@ -67,9 +69,10 @@ returns-clause-end c =
 pub loop-self-preserved : goal.loop-self-preserved
 loop-self-preserved c =
     let s = c.loop-self.self in
+    let at = c.get.ensures ∙ ap Some (sym c.as_slice-piece.ensures) in
     record {
       left =
-          next_piece s.pieces s.piece s.from c.at-piece.result.now c.at-piece.ensures (omega arith)
+          next_piece s.pieces s.piece s.from c.as_slice-piece.result.now at (omega arith)
           ∙ c.loop-self.invariant.left;
       calls = cc;
     }

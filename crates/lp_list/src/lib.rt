@@ -1,0 +1,127 @@
+//! Lists that contracts see as plain lists.
+//!
+//! | Item | What it is | Where |
+//! |---|---|---|
+//! | `Items` | a list of items of one type, which a contract sees as the plain list of them | src/lib |
+//!
+//! The lists of the crates above are this one at the type of their items, under names of their own.
+#![tactic(auto)]
+
+ghost use Rattle.std.specs.Prelude.{◌≡◌, ◌==◌, ◌<◌, ◌≤◌, [], ◌∷◌, ◌++◌, length, slice_get, slice_set, OnOk, OnErr};
+ghost use Rattle.std.specs.List.{insert, remove};
+
+use std::alloc::{AllocError, Global};
+use std::marker::Model;
+
+/// A list of items, which a contract sees as the plain list of them.
+#[derive(Drop)]
+pub struct Items<T> {
+    items: Vec<T>,
+}
+
+impl<T> Model for Items<T> {
+    ghost use Rattle.std.specs.Prelude.{List};
+    ghost use Rattle.std.specs.Coded.{coded_list};
+
+    ghost Value = { List T };
+
+    ghost coded = { coded_list T.code };
+
+    ghost view = { λ i. i.items.items };
+}
+
+impl<T> Items<T> {
+    /// The empty list. It takes no memory until something is put in.
+    pub fn new(alloc: Global) -> Self
+        ensures { result ≡ [] }
+    {
+        Items {
+            items: Vec::new(alloc),
+        }
+    }
+
+    pub fn from_vec(items: Vec<T>) -> Self
+        ensures { result ≡ items.items }
+    {
+        Items { items }
+    }
+
+    pub fn into_vec(self) -> Vec<T>
+        ensures { result.items ≡ self }
+    {
+        self.items
+    }
+
+    pub fn as_slice(&self) -> &[T]
+        ensures { result.now ≡ self.now }
+    {
+        &self.items
+    }
+
+    pub fn len(&self) -> usize
+        ensures { result ≡ length self.now }
+    {
+        self.items.len()
+    }
+
+    pub fn is_empty(&self) -> bool
+        ensures { result ≡ (length self.now == 0) }
+    {
+        self.items.is_empty()
+    }
+
+    /// The item at `i`, counted from 0.
+    pub fn get(&self, i: usize) -> &T
+        requires { i < length self.now }
+        ensures { slice_get self.now i ≡ Some result.now }
+    {
+        &self.items[i]
+    }
+}
+
+impl<T: Drop> Items<T> {
+    /// Adds an item at the end.
+    pub fn push(&mut self, item: T) -> Result<(), AllocError>
+        ensures ok { OnOk result (self.new ≡ self.old ++ item ∷ []) }
+        ensures err { OnErr result (self.new ≡ self.old) }
+    {
+        self.items.push(item)?;
+        Ok(())
+    }
+
+    /// Puts an item at `place` and moves those from there on up by one.
+    pub fn insert(&mut self, place: usize, item: T) -> Result<(), AllocError>
+        requires { place ≤ length self.old }
+        ensures ok { OnOk result (self.new ≡ insert self.old place item) }
+        ensures err { OnErr result (self.new ≡ self.old) }
+    {
+        self.items.insert(place, item)?;
+        Ok(())
+    }
+
+    /// Takes the item at `place` out and moves those after it down by one.
+    pub fn remove(&mut self, place: usize)
+        requires { place < length self.old }
+        ensures { self.new ≡ remove self.old place }
+    {
+        self.items.remove(place);
+    }
+
+    /// Puts `item` in place of the one at `i`.
+    pub fn set(&mut self, i: usize, item: T)
+        requires { i < length self.old }
+        ensures { self.new ≡ slice_set self.old i item }
+    {
+        self.items[i] = item;
+    }
+}
+
+impl<T: Copy> Items<T> {
+    /// The item at `i`, counted from 0.
+    pub fn at(&self, i: usize) -> T
+        requires { i < length self.now }
+        ensures { slice_get self.now i ≡ Some result }
+    {
+        self.items[i]
+    }
+}
