@@ -1,5 +1,6 @@
 -- Lemmas.
 mod KeptLemmas
+pub mod LastBytes
 mod PieceLemmas
 mod RunSteps
 mod SoFar
