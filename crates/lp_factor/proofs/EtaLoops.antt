@@ -18,7 +18,7 @@ use Rattle.lp_factor.proofs.EtaRuns.{ForwardTo, BackwardTo, forward_first, forwa
 use Rattle.lp_factor.proofs.EtaRuns.{forward_ends, forward_by, forward_nothing, forward_refused, backward_first}
 use Rattle.lp_factor.proofs.EtaRuns.{backward_other, backward_own, backward_stops, backward_ends, backward_refused}
 
-module _ (m place : ℕ) (pivot : ℚ) (es : Entries) (now : Pair) (view : pair_of m place es ≡ now)
+module _ {m place : ℕ} {pivot : ℚ} {es : Entries} {now : Pair} (view : pair_of m place es ≡ now)
     (h : IsEta m place pivot es) (v : List ℚ) (same : length now.column ≡ length v) where
   pub long : length v ≡ m
   long = sym same ∙ ap (λ (e : Pair). length e.column) (sym view) ∙ length-made m (λ i. entry_of es i)
@@ -38,7 +38,7 @@ module _ (m place : ℕ) (pivot : ℚ) (es : Entries) (now : Pair) (view : pair_
   own x e = get_or_from_slice_get v place x 0ℚ e
 
   -- the entry that the loop has
-  module _ (items : Entries) (all_items : items ≡ es) (c : ℕ) (item : ℕ × ℚ)
+  module _ {items : Entries} (all_items : items ≡ es) (c : ℕ) {item : ℕ × ℚ}
       (is : item ≡ get_or items c item) (c_in : c < length items) where
     c_here : c < length es
     c_here = subst (λ xs. c < length xs) all_items c_in
@@ -60,8 +60,8 @@ module _ (m place : ℕ) (pivot : ℚ) (es : Entries) (now : Pair) (view : pair_
         subst IsNarrow value_is (All-get_or (λ (e : ℕ × ℚ). IsNarrow e.1) es c (0, 0ℚ) c_here h.narrow)
 
     -- ---- ftran
-    module _ (narrow : All IsNarrow v) (q : ℚ) (narrow_q : IsNarrow q) (x0 : ℚ) (x0_is : slice_get v place ≡ Some x0)
-        (q_is : quotient_run (Some largest) x0 pivot ≡ Ok q) (w : List ℚ) (d : ForwardTo m place es v q c w) where
+    module _ (narrow : All IsNarrow v) {q : ℚ} (narrow_q : IsNarrow q) {x0 : ℚ} (x0_is : slice_get v place ≡ Some x0)
+        (q_is : quotient_run (Some largest) x0 pivot ≡ Ok q) {w : List ℚ} (d : ForwardTo m place es v q c w) where
       q_own : quotient_run (Some largest) (get_or v place 0ℚ) pivot ≡ Ok q
       q_own = ap (λ a. quotient_run (Some largest) a pivot) (own x0 x0_is) ∙ q_is
 
@@ -98,7 +98,7 @@ module _ (m place : ℕ) (pivot : ℚ) (es : Entries) (now : Pair) (view : pair_
           })
 
     -- ---- btran
-    module _ (narrow : All IsNarrow v) (s : ℚ) (d : BackwardTo m place es v c s) where
+    module _ (narrow : All IsNarrow v) {s : ℚ} (d : BackwardTo m place es v c s) where
       back_is : (x : ℚ) (r : Run ℚ) → slice_get v item.0 ≡ Some x → less_product (Some largest) x item.1 s ≡ r →
           less_product (Some largest) (get_or v (row_at es c) 0ℚ) (value_at es c) s ≡ r
       back_is x r e k =
@@ -130,54 +130,54 @@ module _ (m place : ℕ) (pivot : ℚ) (es : Entries) (now : Pair) (view : pair_
           })
 
   -- ---- before and after the loops
-  pub forward_starts : (narrow : All IsNarrow v) (q : ℚ) (w : List ℚ) → IsNarrow q → w ≡ set v place q →
+  pub forward_starts : (narrow : All IsNarrow v) {q : ℚ} {w : List ℚ} → IsNarrow q → w ≡ set v place q →
       ForwardTo m place es v q 0 w
-  forward_starts narrow q w narrow_q e =
+  forward_starts narrow {q} {w} narrow_q e =
       subst (ForwardTo m place es v q 0) (sym e) (record {
         done = forward_first m place pivot es h v q long narrow narrow_q;
         narrow = All-set IsNarrow v place q narrow_q narrow;
       })
 
-  pub forward_zero : (narrow : All IsNarrow v) (q x : ℚ) (w : List ℚ) → IsNarrow q → slice_get v place ≡ Some x →
+  pub forward_zero : (narrow : All IsNarrow v) {q x : ℚ} {w : List ℚ} → IsNarrow q → slice_get v place ≡ Some x →
       quotient_run (Some largest) x pivot ≡ Ok q → q ≡ 0ℚ → w ≡ set v place q →
       forward_run (Some largest) (length v) now v ≡ Ok w
-  forward_zero narrow q x w narrow_q e k z is =
+  forward_zero narrow {q} {x} {w} narrow_q e k z is =
       as_forward (Ok w) (forward_by m place pivot es h v q long narrow narrow_q
       (ap (λ a. quotient_run (Some largest) a pivot) (own x e) ∙ k)
       ∙ forward_nothing m place pivot es h v q long narrow narrow_q z ∙ ap Ok (sym is))
 
-  pub forward_not : (x : ℚ) (p : Past ℚ) → slice_get v place ≡ Some x → quotient_run (Some largest) x pivot ≡ Err p →
+  pub forward_not : {x : ℚ} {p : Past ℚ} → slice_get v place ≡ Some x → quotient_run (Some largest) x pivot ≡ Err p →
       forward_run (Some largest) (length v) now v ≡ Err p
-  forward_not x p e k =
+  forward_not {x} {p} e k =
       as_forward (Err p)
       (forward_refused m place pivot es h v p (ap (λ a. quotient_run (Some largest) a pivot) (own x e) ∙ k))
 
-  pub forward_whole : (narrow : All IsNarrow v) (q x : ℚ) (c : ℕ) (w : List ℚ) → IsNarrow q →
+  pub forward_whole : (narrow : All IsNarrow v) {q x : ℚ} (c : ℕ) {w : List ℚ} → IsNarrow q →
       slice_get v place ≡ Some x → quotient_run (Some largest) x pivot ≡ Ok q → length es ≤ c →
       ForwardTo m place es v q c w
       → forward_run (Some largest) (length v) now v ≡ Ok w
-  forward_whole narrow q x c w narrow_q e k l d =
+  forward_whole narrow {q} {x} c {w} narrow_q e k l d =
       as_forward (Ok w) (forward_by m place pivot es h v q long narrow narrow_q
       (ap (λ a. quotient_run (Some largest) a pivot) (own x e) ∙ k)
       ∙ forward_ends m place pivot es h v q long narrow narrow_q c w l d.done)
 
-  pub forward_long : (q : ℚ) (c : ℕ) (w : List ℚ) → ForwardTo m place es v q c w → length w ≡ length v
-  forward_long q c w d = d.done.all ∙ length-set v place q
+  pub forward_long : {q : ℚ} {c : ℕ} {w : List ℚ} → ForwardTo m place es v q c w → length w ≡ length v
+  forward_long {q} d = d.done.all ∙ length-set v place q
 
-  pub backward_starts : (narrow : All IsNarrow v) (x : ℚ) → slice_get v place ≡ Some x → IsNarrow x →
+  pub backward_starts : (narrow : All IsNarrow v) {x : ℚ} → slice_get v place ≡ Some x → IsNarrow x →
       BackwardTo m place es v 0 x
-  backward_starts narrow x e n =
+  backward_starts narrow {x} e n =
       let z : get_or v place 0ℚ ≡ x = own x e in
       record { done = backward_first m place pivot es h v long narrow (subst IsNarrow (sym z) n) ∙ ap Ok z; narrow = n }
 
-  pub backward_not : (narrow : All IsNarrow v) (c : ℕ) (s : ℚ) (p : Past ℚ) → length es ≤ c →
+  pub backward_not : (narrow : All IsNarrow v) (c : ℕ) {s : ℚ} {p : Past ℚ} → length es ≤ c →
       BackwardTo m place es v c s → quotient_run (Some largest) s pivot ≡ Err p →
       backward_run (Some largest) (length v) now v ≡ Err p
-  backward_not narrow c s p l d k =
+  backward_not narrow c {s} {p} l d k =
       as_backward (Err p) (backward_refused m place pivot es h v long narrow c s p l d.done k)
 
-  pub backward_whole : (narrow : All IsNarrow v) (c : ℕ) (s q : ℚ) (w : List ℚ) → length es ≤ c →
+  pub backward_whole : (narrow : All IsNarrow v) (c : ℕ) {s q : ℚ} {w : List ℚ} → length es ≤ c →
       BackwardTo m place es v c s → quotient_run (Some largest) s pivot ≡ Ok q → w ≡ set v place q →
       backward_run (Some largest) (length v) now v ≡ Ok w
-  backward_whole narrow c s q w l d k e =
+  backward_whole narrow c {s} {q} {w} l d k e =
       as_backward (Ok w) (backward_ends m place pivot es h v long narrow c s q l d.done k ∙ ap Ok (sym e))
