@@ -10,7 +10,7 @@ use Rattle.spec_simplex.specs.Tableau.{Tableau, IsTableauShape}
 use Rattle.spec_factor.specs.Factors.{Pair}
 use Rattle.spec_factor.specs.Revised.{bare_of}
 use Rattle.lp_tableau.proofs.Begun.{begun_shape}
-use Rattle.lp_revised.specs.State.{IsState}
+use Rattle.lp_revised.specs.State.{IsState, state_of}
 
 module _ (f : Form) (starts : List (RowStart ℚ)) where
   pub begun_is : (rows cols : ℕ) (basic : List ℕ) (value : List ℚ) (status : List Status)
@@ -19,18 +19,7 @@ module _ (f : Form) (starts : List (RowStart ℚ)) where
       value ≡ made (f.cols + f.rows + f.rows) (start_value f starts) →
       status ≡ made (f.cols + f.rows + f.rows) (start_status f starts) → lower ≡ f.lower ++ replicate f.rows (Some 0ℚ) →
       upper ≡ f.upper ++ map artificial_upper starts →
-      record {
-        rows = rows;
-        cols = cols;
-        entries = [];
-        basic = basic;
-        value = value;
-        reduced = [];
-        status = status;
-        lower = lower;
-        upper = upper;
-      }
-      ≡ bare_of (begun f starts)
+      (state_of rows cols basic value status lower upper [] 0).bare ≡ bare_of (begun f starts)
   begun_is rows cols basic value status lower upper a b c d e g h = cc
 
   pub begun_state : (t : Tableau) (pairs : List Pair) (places : ℕ) → IsForm f → length starts ≡ f.rows →

@@ -1,5 +1,5 @@
 -- Signs of columns, and the multipliers.
-use Rattle.std.proofs.Common.{◌≡◌, ℕ, ◌-◌, ◌<◌, ◌≤◌, List, length, get_or, Some, sym, ap, ◌∙◌, le-leb}
+use Rattle.std.proofs.Common.{◌≡◌, ℕ, ◌-◌, ◌<◌, ◌≤◌, List, length, get_or, Some, sym, ap, ◌∙◌, subst, le-leb}
 use Rattle.std.proofs.lemmas.Bool.{lt-leb}
 use Rattle.std.proofs.lemmas.List.{get_or_default}
 use Rattle.spec_exact.specs.Fraction.{ℚ, 0ℚ, ◌*ℚ◌, neg_ℚ}
@@ -21,11 +21,12 @@ module _ (starts : List (RowStart ℚ)) (t : Tableau) (k : ℕ) (v : ℚ) where
   of_form l = rw (lt-leb (form_columns t) k l) (one_times v)
 
   -- the start that was read
-  pub of_start : (s : RowStart ℚ) (i : ℕ) → form_columns t ≤ k → i ≡ k - form_columns t → i < length starts →
-      s ≡ get_or starts i s → sign_of starts t k ≡ logical_sign s
-  of_start s i l e h is =
-      rw (le-leb (form_columns t) k l)
-      (ap logical_sign (ap (start_at starts) (sym e) ∙ sym (is ∙ get_or_default starts i s (Within 0ℚ) h)))
+  pub of_start : (s : RowStart ℚ) (first : ℕ) → first ≡ form_columns t → first ≤ k → k - first < length starts →
+      s ≡ get_or starts (k - first) s → sign_of starts t k ≡ logical_sign s
+  of_start s first e l h is =
+      rw (le-leb (form_columns t) k (subst (λ n. n ≤ k) e l))
+      (ap logical_sign (ap (λ n. start_at starts (k - n)) (sym e)
+      ∙ sym (is ∙ get_or_default starts (k - first) s (Within 0ℚ) h)))
 
   pub turned : (g x : ℚ) → sign_of starts t k ≡ logical_sign (Below g) → x ≡ neg_ℚ v → x ≡ sign_of starts t k *ℚ v
   turned g x e is = is ∙ ap neg_ℚ (one_times v) ∙ sym (neg-*ℚ (logical_sign (Within 0ℚ)) v) ∙ ap (λ a. a *ℚ v) (sym e)

@@ -1,8 +1,32 @@
 -- What holds of a state of the run over factors.
-use Rattle.std.specs.Prelude.{◌≡◌, ℕ, ◌<◌, ◌≤◌, length, All}
+use Rattle.std.specs.Prelude.{◌≡◌, ℕ, ◌<◌, ◌≤◌, List, [], length, All, Option}
+use Rattle.spec_exact.specs.Fraction.{ℚ}
 use Rattle.spec_model.specs.Kept.{row_limit, column_limit}
+use Rattle.spec_pivot.specs.declared.status.Status.{Status}
 use Rattle.spec_simplex.specs.Tableau.{all_columns}
+use Rattle.spec_factor.specs.Factors.{Pair}
 use Rattle.spec_factor.specs.Revised.{Revised, replacements}
+
+-- the state of these parts, which keeps neither rows nor reduced costs
+abbrev pub state_of : ℕ → ℕ → List ℕ → List ℚ → List Status → List (Option ℚ) → List (Option ℚ) → List Pair → ℕ →
+    Revised
+state_of rows cols basic value status lower upper pairs replaced =
+    record {
+      bare =
+          record {
+            rows = rows;
+            cols = cols;
+            entries = [];
+            basic = basic;
+            value = value;
+            reduced = [];
+            status = status;
+            lower = lower;
+            upper = upper;
+          };
+      pairs = pairs;
+      replaced = replaced;
+    }
 
 -- as many of each as there are positions and columns, and as many places of the factors as positions
 pub record IsState (places : ℕ) (s : Revised) : Type 0 where

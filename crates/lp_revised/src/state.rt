@@ -31,43 +31,17 @@ pub struct Revised {
 }
 
 impl Model for Revised {
-    ghost use Rattle.std.specs.Prelude.{[], length};
+    ghost use Rattle.std.specs.Prelude.{length};
     ghost use Rattle.spec_factor.specs.Revised as states;
-    ghost use Rattle.lp_revised.specs.State.{IsState};
+    ghost use Rattle.lp_revised.specs.State.{IsState, state_of};
 
     ghost Value = { states.Revised };
 
-    ghost view = { λ s. record {
-      bare = record {
-        rows = s.rows;
-        cols = s.cols;
-        entries = [];
-        basic = s.basic.items;
-        value = s.value.items;
-        reduced = [];
-        status = s.status.items;
-        lower = s.lower.items;
-        upper = s.upper.items;
-      };
-      pairs = s.factors.pairs;
-      replaced = s.replaced;
-    } };
+    ghost view = { λ s. state_of s.rows s.cols s.basic.items s.value.items s.status.items s.lower.items s.upper.items
+        s.factors.pairs s.replaced };
 
-    ghost invariant = { λ s. IsState (length s.factors.basic) (record {
-      bare = record {
-        rows = s.rows;
-        cols = s.cols;
-        entries = [];
-        basic = s.basic.items;
-        value = s.value.items;
-        reduced = [];
-        status = s.status.items;
-        lower = s.lower.items;
-        upper = s.upper.items;
-      };
-      pairs = s.factors.pairs;
-      replaced = s.replaced;
-    }) };
+    ghost invariant = { λ s. IsState (length s.factors.basic) (state_of s.rows s.cols s.basic.items s.value.items
+        s.status.items s.lower.items s.upper.items s.factors.pairs s.replaced) };
 }
 
 impl Revised {

@@ -1,5 +1,5 @@
 -- By the start of an artificial's row.
-use Rattle.std.proofs.Common.{◌-◌, ap, ◌∙◌, arith, ⊎_elim}
+use Rattle.std.proofs.Common.{ap, ◌∙◌, arith, ⊎_elim}
 use Rattle.spec_simplex.specs.Start.{logical_sign}
 use Rattle.lp_revised.proofs.Signed.{of_form, of_start, turned, within_as_it_is, above_as_it_is}
 use Rattle.lp_revised.proofs.state.Revised.signed.Goals as goal
@@ -12,9 +12,7 @@ returns-then-col-first c =
 pub returns-in-Below : goal.returns-in-Below
 returns-in-Below c =
     let s = of_start c.args.starts.now c.args.self.now.bare c.args.col c.args.v c.index-starts-col.result
-    (c.args.col - c.form_columns-first.result)
-    (omega (arith, c.form_columns-first.ensures.value, c.if-col-first.false))
-    (ap (λ n. c.args.col - n) c.form_columns-first.ensures.value)
+    c.form_columns-first.result c.form_columns-first.ensures.value c.if-col-first.false
     (omega (arith, c.form_columns-first.ensures.value, c.if-col-first.false, c.requires.all, c.requires.column))
     c.index-starts-col.is in
     turned c.args.starts.now c.args.self.now.bare c.args.col c.args.v c.in-Below.field-0 c.neg.result
@@ -23,9 +21,7 @@ returns-in-Below c =
 pub returns-in-Within : goal.returns-in-Within
 returns-in-Within c =
     let s = of_start c.args.starts.now c.args.self.now.bare c.args.col c.args.v c.index-starts-col.result
-    (c.args.col - c.form_columns-first.result)
-    (omega (arith, c.form_columns-first.ensures.value, c.if-col-first.false))
-    (ap (λ n. c.args.col - n) c.form_columns-first.ensures.value)
+    c.form_columns-first.result c.form_columns-first.ensures.value c.if-col-first.false
     (omega (arith, c.form_columns-first.ensures.value, c.if-col-first.false, c.requires.all, c.requires.column))
     c.index-starts-col.is in
     ⊎_elim
