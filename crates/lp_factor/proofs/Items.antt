@@ -15,18 +15,6 @@ use Rattle.spec_edit.proofs.Coefficients.{none_at}
 use Rattle.lp_factor.specs.Eta.{IsEta, AreItems, pair_of}
 use Rattle.lp_factor.proofs.Gaps.{Entries}
 
-pub no_items : (column : List ℚ) → AreItems 0 column []
-no_items column = record {
-  entries =
-      record {
-        inside = All-nil _;
-        ascending = λ i j d lt l. absurd (let z : ⊥ = omega (arith, l) in z);
-        not_zero = All-nil _;
-      };
-  read = λ i l. absurd (let z : ⊥ = omega (arith, l) in z);
-  narrow = All-nil _;
-}
-
 wider : (n : ℕ) (es : Entries) → All (λ e. e.0 < n) es → All (λ e. e.0 < n + 1) es
 wider n es h = All-weaker (λ (e : ℕ × ℚ). e.0 < n) (λ e. e.0 < n + 1) (λ e l. omega (arith, l)) es h
 
@@ -81,16 +69,3 @@ pair_is n place column es h e =
     (ext_get_or 0ℚ (made n (λ i. entry_of es i)) column (length-made n (λ i. entry_of es i) ∙ e)
     (λ i l. let l' : i < n = subst (λ k. i < k) (length-made n (λ i. entry_of es i)) l in
     get_or-made n (λ i. entry_of es i) i 0ℚ l' ∙ h.read i l'))
-
-pub eta_is : (n place : ℕ) (column : List ℚ) (es : Entries) (pivot : ℚ) → AreItems n column es → n ≤ 256 → place < n →
-    slice_get column place ≡ Some pivot → get_or column place 0ℚ ≢ 0ℚ → IsEta n place pivot es
-eta_is n place column es pivot h few l e z =
-    let own : get_or column place 0ℚ ≡ pivot = get_or_from_slice_get column place pivot 0ℚ e in
-    record {
-      few = few;
-      inside = l;
-      entries = h.entries;
-      own = h.read place l ∙ own;
-      not_zero = λ y. z (own ∙ y);
-      narrow = h.narrow;
-    }

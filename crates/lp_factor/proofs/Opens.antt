@@ -54,10 +54,6 @@ opened columns v i h e = by (get_or columns i None) h
     by None h = let z : false ≡ true = sym (ap not (eq_test (get_or v i 0ℚ) 0ℚ e)) ∙ h in cc
     by (Some k) h = let z : false ≡ true = h in cc
 
--- the tests of a place
-pub taken_is : (columns : Columns) (v : List ℚ) (i k : ℕ) → get_or columns i None ≡ Some k → is_open columns v i ≡ false
-taken_is columns v i k e = ap (λ o. is_none o && not (eq_ℚ (get_or v i 0ℚ) 0ℚ)) e
-
 pub free_is : (columns : Columns) (v : List ℚ) (i : ℕ) (x : ℚ) (c : Bool) → get_or columns i None ≡ None →
     slice_get v i ≡ Some x → (IsTrue c ↔ (x ≡ 0ℚ)) → not c ≡ is_open columns v i
 free_is columns v i x c e g h =
@@ -69,33 +65,6 @@ free_is columns v i x c e g h =
     by false false e h = e
     by true false e h = let z : false ≡ true = h.1 (eq_if x 0ℚ e) in cc
     by false true e h = let z : true ≡ false = sym (eq_test x 0ℚ (h.0 refl)) ∙ e in cc
-
--- ---- the choice of a place
-module _ (f : Form) (k : ℕ) (s : Chosen) (all : length s.columns ≡ f.rows) where
-  pub choose_gives : (column z : List ℚ) (p : ℕ) (new : Chosen) → column ≡ column_of f k → length column ≡ f.rows →
-      ftran_run (Some largest) (length column) s.pairs column ≡ Ok z →
-      Some p ≡ open_place s.columns z (length s.columns)
-      → new ≡ record { pairs = with_pair s.pairs p z; columns = set s.columns p (Some k) } →
-      choose_run (Some largest) f k s ≡ Ok new
-  choose_gives column z p new e long h found is =
-      ap (λ o. refused_as cause.Past o >>= λ v. chosen_at s k v (open_place s.columns v f.rows))
-      (ap₂ (λ n c. ftran_run (Some largest) n s.pairs c) (sym long) (sym e) ∙ h)
-      ∙ ap (chosen_at s k z) (ap (open_place s.columns z) (sym all) ∙ sym found) ∙ ap Ok (sym is)
-
-  pub choose_refused : (column : List ℚ) (x : Past ℚ) → column ≡ column_of f k → length column ≡ f.rows →
-      ftran_run (Some largest) (length column) s.pairs column ≡ Err x →
-      choose_run (Some largest) f k s ≡ Err (cause.Past x)
-  choose_refused column x e long h =
-      ap (λ o. refused_as cause.Past o >>= λ v. chosen_at s k v (open_place s.columns v f.rows))
-      (ap₂ (λ n c. ftran_run (Some largest) n s.pairs c) (sym long) (sym e) ∙ h)
-
-  pub choose_stuck : (column z : List ℚ) → column ≡ column_of f k → length column ≡ f.rows →
-      ftran_run (Some largest) (length column) s.pairs column ≡ Ok z → None ≡ open_place s.columns z (length s.columns)
-      → choose_run (Some largest) f k s ≡ Err cause.Singular
-  choose_stuck column z e long h none =
-      ap (λ o. refused_as cause.Past o >>= λ v. chosen_at s k v (open_place s.columns v f.rows))
-      (ap₂ (λ n c. ftran_run (Some largest) n s.pairs c) (sym long) (sym e) ∙ h)
-      ∙ ap (chosen_at s k z) (ap (open_place s.columns z) (sym all) ∙ sym none)
 
 -- ---- the basic columns one by one
 pub record ChosenTo (f : Form) (basis : List Status) (n : ℕ) (s : Chosen) : Type 0 where

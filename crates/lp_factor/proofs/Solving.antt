@@ -38,14 +38,6 @@ pub record BackwardDone (m : ℕ) (pairs : List Pair) (v : List ℚ) (k : ℕ) (
 
 module _ (m : ℕ) (pairs : List Pair) (ok : All (λ (e : Pair). length e.column ≡ m) pairs)
     (v : List ℚ) (same : length v ≡ m) where
-  pub column_long : (k : ℕ) (e : Pair) (w : List ℚ) → e ≡ get_or pairs k e → k < length pairs → length w ≡ m →
-      length e.column ≡ length w
-  column_long k e w is l all =
-      ap (λ (e : Pair). length e.column) is ∙ All-get_or (λ (e : Pair). length e.column ≡ m) pairs k e l ok ∙ sym all
-
-  pub ftran_first : All IsNarrow v → ForwardDone m pairs v 0 v
-  ftran_first n = record { done = refl; all = same; narrow = n }
-
   pub ftran_next : (k : ℕ) (e : Pair) (w u : List ℚ) → e ≡ get_or pairs k e → k < length pairs →
       ForwardDone m pairs v k w → forward_run (Some largest) (length w) e w ≡ Ok u → length u ≡ length w →
       All IsNarrow u → ForwardDone m pairs v (k + 1) u
@@ -73,19 +65,7 @@ module _ (m : ℕ) (pairs : List Pair) (ok : All (λ (e : Pair). length e.column
           sym (take-append-drop k pairs)
           ∙ ap (λ xs. take k pairs ++ xs) (drop_more pairs k e l ∙ ap (λ x. x ∷ drop (k + 1) pairs) (sym is))
 
-  pub ftran_whole : (k : ℕ) (w : List ℚ) → length pairs ≤ k → ForwardDone m pairs v k w →
-      ftran_run (Some largest) m pairs v ≡ Ok w
-  ftran_whole k w l d = ap (λ es. ftran_run (Some largest) m es v) (sym (take_all k pairs l)) ∙ d.done
-
   -- ---- btran
-  pub btran_first : All IsNarrow v → BackwardDone m pairs v 0 v
-  btran_first n =
-      record {
-        done = ap (λ es. btran_run (Some largest) m es v) (drop_all (length pairs - 0) pairs (omega arith));
-        all = same;
-        narrow = n;
-      }
-
   behind : (k : ℕ) (e : Pair) → k < length pairs → e ≡ get_or pairs (length pairs - 1 - k) e →
       drop (length pairs - (k + 1)) pairs ≡ e ∷ drop (length pairs - k) pairs
   behind k e l is =
@@ -93,18 +73,6 @@ module _ (m : ℕ) (pairs : List Pair) (ok : All (λ (e : Pair). length e.column
       let y : length pairs - 1 - k + 1 ≡ length pairs - k = omega (arith, l) in
       ap (λ i. drop i pairs) z ∙ drop_more pairs (length pairs - 1 - k) e (omega (arith, l))
       ∙ ap₂ (λ x i. x ∷ drop i pairs) (sym is) y
-
-  pub btran_next : (k : ℕ) (e : Pair) (w u : List ℚ) → e ≡ get_or pairs (length pairs - 1 - k) e → k < length pairs →
-      BackwardDone m pairs v k w → backward_run (Some largest) (length w) e w ≡ Ok u → length u ≡ length w →
-      All IsNarrow u → BackwardDone m pairs v (k + 1) u
-  btran_next k e w u is l d h long n = record {
-    done =
-        ap (λ es. btran_run (Some largest) m es v) (behind k e l is)
-        ∙ ap (λ o. o >>= λ x. backward_run (Some largest) m e x) d.done
-        ∙ subst (λ n. backward_run (Some largest) n e w ≡ Ok u) d.all h;
-    all = long ∙ d.all;
-    narrow = n;
-  }
 
   btran_stays : (es fs : List Pair) (p : Past ℚ) → btran_run (Some largest) m fs v ≡ Err p →
       btran_run (Some largest) m (es ++ fs) v ≡ Err p
@@ -120,10 +88,3 @@ module _ (m : ℕ) (pairs : List Pair) (ok : All (λ (e : Pair). length e.column
       (ap (λ es. btran_run (Some largest) m es v) (behind k e l is)
       ∙ ap (λ o. o >>= λ x. backward_run (Some largest) m e x) d.done
       ∙ subst (λ n. backward_run (Some largest) n e w ≡ Err p) d.all h)
-
-  pub btran_whole : (k : ℕ) (w : List ℚ) → length pairs ≤ k → BackwardDone m pairs v k w →
-      btran_run (Some largest) m pairs v ≡ Ok w
-  btran_whole k w l d =
-      ap (λ es. btran_run (Some largest) m es v)
-      (let z : 0 ≡ length pairs - k = omega (arith, l) in ap (λ i. drop i pairs) z)
-      ∙ d.done
