@@ -1,6 +1,6 @@
 -- The flips, column by column.
 use Rattle.std.proofs.Common.{◌≡◌, ◌≢◌, ℕ, ◌+◌, ◌<◌, ◌≤◌, List, Option, Result, Ok, Err, Bool}
-use Rattle.std.proofs.Common.{true, false, not, ◌&&◌, cond, refl, sym, ap, ◌∙◌, subst, arith}
+use Rattle.std.proofs.Common.{true, false, not, ◌&&◌, cond, sym, ap, ◌∙◌, subst, arith}
 use Rattle.std.proofs.lemmas.List.{get_or-set_same, get_or-set_other, length-set}
 use Rattle.spec_exact.specs.Fraction.{ℚ}
 use Rattle.spec_pivot.specs.declared.status.Status.{Status}
@@ -15,7 +15,7 @@ use Rattle.spec_path.proofs.Runs.{then_ok, refused_ok}
 use Rattle.spec_simplex.specs.Dual.{Reached, one_more, flip_by, flip_next, flips_run}
 use Rattle.spec_simplex.specs.Fit.{needs_flip, needs_flip_at}
 use Rattle.spec_warm.proofs.Flipped.{IsFlip, flip_shape}
-use Rattle.lp_dual.specs.Starts.{HasPlace, IsSeated, IsDualStart}
+use Rattle.lp_dual.specs.Starts.{HasPlace, IsSeated}
 
 -- ---- one flip
 goes_to_bound : (up : Bool) → other_bound up ≢ Basic
@@ -72,9 +72,6 @@ pub record Flipping (limit : Option ℕ) (budget : ℕ) (first : Tableau) (k : �
   pub late : (j : ℕ) → k ≤ j → j < all_columns r.tableau → needs_flip_at r.tableau j ≡ true → CanFlip r.tableau j
 
 module _ (limit : Option ℕ) (budget : ℕ) (first : Tableau) where
-  pub flips_begin : IsDualStart first → Flipping limit budget first 0 (begun first)
-  flips_begin g = record { so_far = refl; columns = refl; seated = g.seated; late = λ j l i e. g.flips j i e }
-
   pub flips_pass : (k : ℕ) (r : Reached) → Flipping limit budget first k r → needs_flip_at r.tableau k ≡ false →
       Flipping limit budget first (k + 1) r
   flips_pass k r v e = record {
