@@ -31,13 +31,7 @@ module _ (starts : List (RowStart ℚ)) (s : Revised) (z : List ℚ) (p j : ℕ)
   abbrev whole : Run Revised
   whole = exchanged_by starts s z p j theta to
 
-  pub moves_refused : (e : Past ℚ) → moves_by starts s.bare z theta (Some p) s.bare.rows ≡ Err e → whole ≡ Err e
-  moves_refused e h = ap (λ o. o >>= after_moves) h
-
   module _ (u : Revised) (m : moves_by starts s.bare z theta (Some p) s.bare.rows ≡ Ok u.bare.value) where
-    pub shift_refused : (e : Past ℚ) → shifted_run (Some largest) u.bare.value j theta ≡ Err e → whole ≡ Err e
-    shift_refused e h = ap (λ o. o >>= after_moves) m ∙ ap (λ o. o >>= λ shifted. Ok (new_state shifted)) h
-
     pub exchanges : (v w x : Revised) → s.bare ≡ bare_of s.bare → WithValues s u →
         shifted_run (Some largest) u.bare.value j theta ≡ Ok v.bare.value → WithValues u v
         → w ≡ record { bare = v.bare; pairs = with_pair v.pairs p z; replaced = v.replaced + 1 } → x ≡ record w

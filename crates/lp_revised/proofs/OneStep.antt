@@ -128,31 +128,12 @@ module _ (f : Form) (starts : List (RowStart ℚ)) (costs : List ℚ) where
 -- ---- what is done with a column that enters
 module _ (f : Form) (starts : List (RowStart ℚ)) (s : Revised) (c : Column) (choice : Choice ℚ)
     (can : CanDo f s (Some c) choice) where
-  pub solved_as : IsSolved f s c
-  solved_as = can.0
-
-  pub flips_it : (j : ℕ) → choice ≡ Flip j →
-      made_run f starts s (Some c) choice
-      ≡ refused_as cause.Past (flip_over_run (Some largest) s (seen starts s.bare c.number c.solved) c.number)
-  flips_it j e =
-      let k : j ≡ c.number = (subst (CanDo f s (Some c)) e can).1 in
-      ap (made_run f starts s (Some c)) e
-      ∙ ap (λ j. refused_as cause.Past (flip_over_run (Some largest) s (seen starts s.bare c.number c.solved) j)) k
-
   may_do : (p j : ℕ) (theta : ℚ) (to : Status) → choice ≡ Pivot p j theta to →
       (j ≡ c.number) × (p < s.bare.rows) × (get_or c.solved p 0ℚ ≢ 0ℚ)
   may_do p j theta to e = by (subst (CanDo f s (Some c)) e can)
     where
       by : CanDo f s (Some c) (Pivot p j theta to) → (j ≡ c.number) × (p < s.bare.rows) × (get_or c.solved p 0ℚ ≢ 0ℚ)
       by (solved, m) = m
-
-  pub pivots_it : (p j : ℕ) (theta : ℚ) (to : Status) → choice ≡ Pivot p j theta to →
-      made_run f starts s (Some c) choice
-      ≡ pivot_over_run (Some largest) f s (seen starts s.bare c.number c.solved) p c.number theta to
-  pivots_it p j theta to e =
-      ap (made_run f starts s (Some c)) e
-      ∙ ap (λ j. pivot_over_run (Some largest) f s (seen starts s.bare c.number c.solved) p j theta to)
-      (may_do p j theta to e).0
 
   pub place_inside : (p j : ℕ) (theta : ℚ) (to : Status) → choice ≡ Pivot p j theta to → p < s.bare.rows
   place_inside p j theta to e = (may_do p j theta to e).1

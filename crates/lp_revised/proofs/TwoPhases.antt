@@ -37,13 +37,6 @@ module _ (budget : ℕ) (f : Form) (starts : List (RowStart ℚ)) (s : Revised) 
       ∙ sym (ap (λ b. cond b (over_from (Some largest) f starts (first_costs f starts) budget 0 s)
       (Ok (record { end = Optimal; state = s; selection = nothing_seen s; used = 0 }))) w)
 
-  pub first_runs : (costs : List ℚ) (used : ℕ) (u : Revised) (now : ℕ) (result : Result StepsEnd RevisedStop) →
-      wants_phase_one s.bare ≡ true → costs ≡ first_costs f starts → used ≡ 0 →
-      RunsOver (over_from (Some largest) f starts costs (budget - used) used s) starts u now result →
-      RunsOver (over_one (Some largest) budget f starts s) starts u now result
-  first_runs costs used u now result w c z h =
-      subst (λ r. RunsOver r starts u now result) (first_is costs used w c z) h
-
   pub first_skipped : (used : ℕ) → wants_phase_one s.bare ≡ false → used ≡ 0 →
       over_one (Some largest) budget f starts s ≡ Ok
       (record { end = Optimal; state = s; selection = nothing_seen s; used = used })

@@ -57,17 +57,9 @@ is_past run s p e h = subst (StopsAt run) e h
 
 module _ (limit : Option ℕ) (budget : ℕ) where
   -- ---- each method
-  pub primal_stops : (t : Tableau) (s : RunStop ℚ) → run_from limit budget 0 t ≡ Err s →
-      run_by limit budget t fit.Primal ≡ Err (run_stop s)
-  primal_stops t s h = ap (λ o. stopped_as run_stop o >>= λ e. Ok (ByPrimal e)) h
-
   pub primal_ends : (t : Tableau) (e : PrimalEnded) → run_from limit budget 0 t ≡ Ok e →
       run_by limit budget t fit.Primal ≡ Ok (ByPrimal e)
   primal_ends t e h = ap (λ o. stopped_as run_stop o >>= λ e. Ok (ByPrimal e)) h
-
-  pub dual_stops : (t : Tableau) (s : RunStop ℚ) → dual_run limit budget t ≡ Err s →
-      run_by limit budget t fit.Dual ≡ Err (run_stop s)
-  dual_stops t s h = ap (λ o. stopped_as run_stop o >>= λ e. Ok (ByDual e)) h
 
   pub dual_ends : (t : Tableau) (e : DualEnded) → dual_run limit budget t ≡ Ok e →
       run_by limit budget t fit.Dual ≡ Ok (ByDual e)
