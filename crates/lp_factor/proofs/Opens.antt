@@ -14,8 +14,9 @@ use Rattle.spec_exact.proofs.Stops.{steps_more, steps_stop}
 use Rattle.spec_simplex.specs.Tableau.{is_basic}
 use Rattle.spec_simplex.specs.Form.{Form}
 use Rattle.lp_frac.specs.Narrow.{largest}
-use Rattle.lp_factor.specs.declared.stop.FactorStop.{FactorStop}
-use Rattle.lp_factor.specs.declared.stop.FactorStop.TheVariants as stop
+use Rattle.lp_frac.specs.declared.stop.Stop.{Stop}
+use Rattle.lp_form.specs.declared.stop.Singular.{Singular}
+use Rattle.lp_frac.specs.declared.stop.Stop.TheVariants as stop
 use Rattle.lp_factor.specs.Answer.{Chooses, MakesFactors}
 use Rattle.spec_simplex.specs.Eliminate.{basis_at}
 use Rattle.spec_factor.specs.declared.stop.NoFactors.{NoFactors}
@@ -119,10 +120,10 @@ module _ (f : Form) (basis : List Status) where
       ap (λ n. steps n at (none_chosen f) >>= λ s. Ok (factors_of s)) (sym e)
       ∙ ap (λ o. o >>= λ s. Ok (factors_of s)) d.done
 
-  pub factor_refused : (k : ℕ) (s u : Chosen) (status : Status) (e : FactorStop) → k < f.cols + f.rows →
+  pub factor_refused : (k : ℕ) (s u : Chosen) (status : Status) (e : Stop Singular) → k < f.cols + f.rows →
       ChosenTo f basis k s → slice_get basis k ≡ Some status → is_basic status ≡ true →
       Chooses (choose_run (Some largest) f k s) u (Err e)
       → MakesFactors (factor_run (Some largest) f basis) (Err e)
-  factor_refused k s u status stop.Singular l d e b h = factor_stops k s status cause.Singular l d e b h
+  factor_refused k s u status (stop.Cause why) l d e b h = factor_stops k s status cause.Singular l d e b h
   factor_refused k s u status (stop.Past p) l d e b h = factor_stops k s status (cause.Past p) l d e b h
   factor_refused k s u status stop.NoMemory l d e b h = tt

@@ -5,8 +5,9 @@ use Rattle.spec_exact.specs.declared.past.Past.{Past}
 use Rattle.spec_exact.specs.Run.{Run}
 use Rattle.spec_factor.specs.declared.stop.NoFactors.{NoFactors}
 use Rattle.spec_factor.specs.declared.stop.NoFactors.TheVariants as cause
-use Rattle.lp_factor.specs.declared.stop.FactorStop.{FactorStop}
-use Rattle.lp_factor.specs.declared.stop.FactorStop.TheVariants as stop
+use Rattle.lp_frac.specs.declared.stop.Stop.{Stop}
+use Rattle.lp_form.specs.declared.stop.Singular.{Singular}
+use Rattle.lp_frac.specs.declared.stop.Stop.TheVariants as stop
 
 -- the run gives x, or it is refused with the answer
 abbrev pub GivesRun : {A : Type 0} → Run A → A → Result ⊤ (Past ℚ) → Type 0
@@ -14,26 +15,26 @@ GivesRun run x (Ok u) = run ≡ Ok x
 GivesRun run x (Err p) = run ≡ Err p
 
 -- the run is refused with this stop, or memory was wanting
-abbrev pub StopsFactors : {A : Type 0} → Run A → FactorStop → Type 0
-StopsFactors run stop.Singular = ⊥
+abbrev pub StopsFactors : {A : Type 0} → Run A → Stop Singular → Type 0
+StopsFactors run (stop.Cause why) = ⊥
 StopsFactors run (stop.Past p) = run ≡ Err p
 StopsFactors run stop.NoMemory = ⊤
 
 -- the run gives x, or it is refused with the answer
-abbrev pub GivesFactors : {A : Type 0} → Run A → A → Result ⊤ FactorStop → Type 0
+abbrev pub GivesFactors : {A : Type 0} → Run A → A → Result ⊤ (Stop Singular) → Type 0
 GivesFactors run x (Ok u) = run ≡ Ok x
 GivesFactors run x (Err e) = StopsFactors run e
 
 -- the making gives x, or it is refused with the stop, or memory was wanting
-abbrev pub Chooses : {A : Type 0} → Result A (NoFactors ℚ) → A → Result ⊤ FactorStop → Type 0
+abbrev pub Chooses : {A : Type 0} → Result A (NoFactors ℚ) → A → Result ⊤ (Stop Singular) → Type 0
 Chooses run x (Ok u) = run ≡ Ok x
-Chooses run x (Err stop.Singular) = run ≡ Err cause.Singular
+Chooses run x (Err (stop.Cause why)) = run ≡ Err cause.Singular
 Chooses run x (Err (stop.Past p)) = run ≡ Err (cause.Past p)
 Chooses run x (Err stop.NoMemory) = ⊤
 
 -- the same of what a call answers
-abbrev pub MakesFactors : {A : Type 0} → Result A (NoFactors ℚ) → Result A FactorStop → Type 0
+abbrev pub MakesFactors : {A : Type 0} → Result A (NoFactors ℚ) → Result A (Stop Singular) → Type 0
 MakesFactors run (Ok x) = run ≡ Ok x
-MakesFactors run (Err stop.Singular) = run ≡ Err cause.Singular
+MakesFactors run (Err (stop.Cause why)) = run ≡ Err cause.Singular
 MakesFactors run (Err (stop.Past p)) = run ≡ Err (cause.Past p)
 MakesFactors run (Err stop.NoMemory) = ⊤

@@ -12,9 +12,8 @@ ghost use Rattle.lp_factor.specs.Chosen.{AreChosen};
 use crate::eta::Eta;
 use crate::factors::Factors;
 use crate::solve::forward_all;
-use crate::stop::FactorStop;
-use lp_form::{Form, StatusList, is_basic};
-use lp_frac::{Fracs, Past, is_zero, neg, one, zeros};
+use lp_form::{BasisStop, Form, Singular, StatusList, is_basic};
+use lp_frac::{Fracs, Past, Stop, is_zero, neg, one, zeros};
 use std::alloc::{AllocError, Global};
 use std::marker::Model;
 
@@ -152,7 +151,7 @@ impl Chosen {
     }
 
     // Column `k` takes the least place that is open for it.
-    fn choose(&mut self, alloc: Global, form: &Form, k: u32) -> Result<(), FactorStop>
+    fn choose(&mut self, alloc: Global, form: &Form, k: u32) -> Result<(), BasisStop>
         requires column { k < form.now.cols + form.now.rows }
         requires all { length self.old.columns ≡ form.now.rows }
         ensures run { Chooses (choose_run (Some largest) form.now k self.old) self.new result }
@@ -165,7 +164,7 @@ impl Chosen {
                 self.put(alloc, place, k, &v)?;
                 Ok(())
             }
-            None => Err(FactorStop::Singular),
+            None => Err(Stop::Cause(Singular)),
         }
     }
 }
@@ -182,7 +181,7 @@ fn basic_of(alloc: Global, columns: &[Option<u32>]) -> Result<Vec<u32>, AllocErr
 }
 
 /// Factors of the basic columns by the statuses of the form's structural and logical columns.
-pub fn factor(alloc: Global, form: &Form, basis: &StatusList) -> Result<Factors, FactorStop>
+pub fn factor(alloc: Global, form: &Form, basis: &StatusList) -> Result<Factors, BasisStop>
     requires { length basis.now ≡ form.now.cols + form.now.rows }
     ensures run { MakesFactors (factor_run (Some largest) form.now basis.now) result }
     ensures all { IfOk result (λ s. length s.basic ≡ form.now.rows) }

@@ -9,7 +9,7 @@ ghost use Rattle.lp_factor.specs.Eta.{AreFactorsOf};
 
 use crate::eta::Eta;
 use crate::solve::{backward_all, forward_all};
-use crate::stop::FactorStop;
+use lp_form::BasisStop;
 use lp_frac::{Fracs, Past};
 use std::alloc::{AllocError, Global};
 use std::marker::Model;
@@ -97,7 +97,7 @@ impl Factors {
         place: u32,
         col: u32,
         column: &Fracs,
-    ) -> Result<(), FactorStop>
+    ) -> Result<(), BasisStop>
         requires place { place < length self.old.basic }
         requires all { length column.now ≡ length self.old.basic }
         requires entry { (z : List ℚ) →

@@ -8,7 +8,6 @@
 //! | `Factors::replace_solved` | the same, where the column's solution is at hand | src/factors |
 //! | `column_of` | a column of the form's equations, by rows | src/choose |
 //! | `narrow`, `tell_narrow` | the fact that numbers have at most 127 bits | src/steps |
-//! | `FactorStop` | why a basis has no factors | src/stop |
 //!
 //! Each is exact, or refused as `spec_factor` has it. A pair is held as the items of its column that are not 0: what
 //! has an operand 0 is never refused, so leaving it out changes nothing. Contracts see factors as the record of
@@ -20,9 +19,7 @@ mod eta;
 mod factors;
 mod solve;
 mod steps;
-mod stop;
 
 pub use choose::{column_of, factor};
 pub use factors::Factors;
 pub use steps::{narrow, tell_narrow};
-pub use stop::FactorStop;

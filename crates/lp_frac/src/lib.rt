@@ -15,6 +15,7 @@
 //! | `Past`, `Op` | a refusal, and the operation that it names | src/frac |
 //! | `FracFault` | why two whole numbers make no fraction | src/frac |
 //! | `Fracs`, `Entries`, `zeros` | lists of fractions, and of a column's entries; a list of zeros | src/lists |
+//! | `Stop` | why something is not made of fractions | src/stop |
 //!
 //! Contracts above cite `largest` of specs/Narrow, and the operations of specs/Limit and specs/Run of spec_exact.
 #![tactic(auto)]
@@ -30,6 +31,7 @@ mod readers;
 mod reduced;
 mod short;
 mod small;
+mod stop;
 
 pub use frac::{Frac, FracFault, LARGEST, Op, Past};
 pub use less::{less_product, plus_product};
@@ -39,3 +41,4 @@ pub use readers::{
     abs, all_within, are_same, den, is_negative, is_positive, is_zero, neg, num, one, sign, within,
     zero,
 };
+pub use stop::Stop;

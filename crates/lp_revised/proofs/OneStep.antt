@@ -17,7 +17,8 @@ use Rattle.spec_factor.specs.Over.{RevisedEnded, over_or_spent, over_or_next, ov
 use Rattle.lp_frac.specs.Narrow.{largest}
 use Rattle.lp_revised.specs.declared.select.Column.{Column}
 use Rattle.lp_revised.specs.declared.select.Selected.{Selected}
-use Rattle.lp_revised.specs.declared.stop.RevisedStop.{RevisedStop}
+use Rattle.lp_frac.specs.declared.stop.Stop.{Stop}
+use Rattle.lp_revised.specs.declared.stop.Spent.{Spent}
 use Rattle.lp_revised.specs.Answer.{StopsRevised}
 use Rattle.lp_revised.specs.Selecting.{CanDo, IsSolved, tableau_of, selection_of}
 use Rattle.lp_revised.specs.Runs.{EndsWith, made_run}
@@ -45,7 +46,7 @@ module _ (f : Form) (starts : List (RowStart ℚ)) (costs : List ℚ) where
   abbrev from : ℕ → ℕ → Revised → Result RevisedEnded (RunStop ℚ)
   from left used s = over_from (Some largest) f starts costs left used s
 
-  pub run_refused : (left used : ℕ) (s : Revised) (e : RevisedStop) →
+  pub run_refused : (left used : ℕ) (s : Revised) (e : Stop Spent) →
       StopsRevised (refused_as cause.Past (seen_from s)) e → StopsRevised (from left used s) e
   unfolding over_from
   run_refused zero used s e h =
@@ -111,7 +112,7 @@ module _ (f : Form) (starts : List (RowStart ℚ)) (costs : List ℚ) where
     one_step budget used n l =
         ap (λ left. from left used s) (one_left budget used l) ∙ goes_on (budget - (used + 1)) used n
 
-    pub step_stops : (budget used : ℕ) (e : RevisedStop) → GoesOn selected.choice → used < budget →
+    pub step_stops : (budget used : ℕ) (e : Stop Spent) → GoesOn selected.choice → used < budget →
         StopsRevised (made_run f starts s selected.column selected.choice) e →
         StopsRevised (from (budget - used) used s) e
     step_stops budget used e n l g =

@@ -11,7 +11,8 @@ use Rattle.spec_exact.specs.Run.{◌>>=◌, refused_as}
 use Rattle.spec_factor.specs.Factors.{column_of, ftran_run}
 use Rattle.spec_factor.specs.Revised.{Revised, seen, pivot_over_run, refreshed_run}
 use Rattle.lp_frac.specs.Narrow.{largest}
-use Rattle.lp_revised.specs.declared.stop.RevisedStop.{RevisedStop}
+use Rattle.lp_frac.specs.declared.stop.Stop.{Stop}
+use Rattle.lp_revised.specs.declared.stop.Spent.{Spent}
 use Rattle.lp_revised.specs.Answer.{StopsRevised, LeavesRevised}
 use Rattle.lp_revised.specs.Moved.{exchanged_by}
 use Rattle.lp_revised.proofs.Exchanged.{exchange_is}
@@ -30,11 +31,11 @@ module _ (f : Form) (starts : List (RowStart ℚ)) (s : Revised) (z : List ℚ) 
       ap (λ o. refused_as cause.Past o >>= λ u. refreshed_run (Some largest) f u)
       (sym (exchange_is starts s z p j theta to f h))
 
-  pub no_exchange : (e : RevisedStop) → StopsRevised exchange e → StopsRevised whole e
+  pub no_exchange : (e : Stop Spent) → StopsRevised exchange e → StopsRevised whole e
   no_exchange e k =
       subst (λ r. StopsRevised r e) from_exchange (stops_after exchange (λ u. refreshed_run (Some largest) f u) e k)
 
-  pub pivots : (u new : Revised) (result : Result ⊤ RevisedStop) → exchange ≡ Ok u →
+  pub pivots : (u new : Revised) (result : Result ⊤ (Stop Spent)) → exchange ≡ Ok u →
       LeavesRevised (refreshed_run (Some largest) f u) new result → LeavesRevised whole new result
   pivots u new result k l =
       subst (λ r. LeavesRevised r new result) (ap (λ o. o >>= λ u. refreshed_run (Some largest) f u) (sym k) ∙

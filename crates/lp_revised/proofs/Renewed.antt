@@ -12,18 +12,19 @@ use Rattle.spec_cold.specs.Cold.{basis_status}
 use Rattle.spec_factor.specs.Factors.{Factors, factor_run}
 use Rattle.spec_factor.specs.Revised.{Revised, standing, factor_basis, factor_stop, refactored, refactor_run}
 use Rattle.lp_frac.specs.Narrow.{largest}
-use Rattle.lp_revised.specs.declared.stop.RevisedStop.{RevisedStop}
-use Rattle.lp_revised.specs.declared.stop.RevisedStop.TheVariants as stop
+use Rattle.lp_frac.specs.declared.stop.Stop.{Stop}
+use Rattle.lp_revised.specs.declared.stop.Spent.{Spent}
+use Rattle.lp_frac.specs.declared.stop.Stop.TheVariants as stop
 use Rattle.lp_revised.specs.Answer.{StopsRevised}
 
 -- a run that stops stops what goes on from it
-pub stops_after : {A B : Type 0} (run : Result A (RunStop ℚ)) (next : A → Result B (RunStop ℚ)) (e : RevisedStop) →
+pub stops_after : {A B : Type 0} (run : Result A (RunStop ℚ)) (next : A → Result B (RunStop ℚ)) (e : Stop Spent) →
     StopsRevised run e → StopsRevised (run >>= next) e
 stops_after (Ok a) next (stop.Past p) h = cc
-stops_after (Ok a) next stop.Spent h = cc
+stops_after (Ok a) next (stop.Cause why) h = cc
 stops_after run next stop.NoMemory h = tt
 stops_after (Err q) next (stop.Past p) h = let w : q ≡ cause.Past p = cc in ap (λ e. Err e) w
-stops_after (Err q) next stop.Spent h = let w : q ≡ cause.Spent = cc in ap (λ e. Err e) w
+stops_after (Err q) next (stop.Cause why) h = let w : q ≡ cause.Spent = cc in ap (λ e. Err e) w
 
 pub basis_long : (t : Tableau) (f : Form) (basis : List Status) → basis ≡ factor_basis t → f.rows ≡ t.rows →
     f.cols ≡ t.cols → length basis ≡ f.cols + f.rows
@@ -35,7 +36,7 @@ module _ (f : Form) (now : Revised) (basis : List Status) (b : basis ≡ factor_
   unfolding refactor_run
   by_basis = ap (λ basis. factor_stop (factor_run (Some largest) f basis) >>= λ s. Ok (refactored now.bare s)) b
 
-  pub no_factors : (e : RevisedStop) → StopsRevised (factor_stop (factor_run (Some largest) f basis)) e →
+  pub no_factors : (e : Stop Spent) → StopsRevised (factor_stop (factor_run (Some largest) f basis)) e →
       StopsRevised (refactor_run (Some largest) f now.bare) e
   no_factors e h =
       subst (λ r. StopsRevised r e) by_basis (stops_after (factor_stop (factor_run (Some largest) f basis))

@@ -20,21 +20,22 @@ use Rattle.spec_factor.specs.Revised.{Revised, sign_of, seen, multipliers_run, e
 use Rattle.spec_factor.specs.Revised.{selection_run}
 use Rattle.lp_frac.specs.Narrow.{largest}
 use Rattle.lp_primal.proofs.Ratios.{StopsBy, best_is}
-use Rattle.lp_revised.specs.declared.stop.RevisedStop.{RevisedStop}
-use Rattle.lp_revised.specs.declared.stop.RevisedStop.TheVariants as stop
+use Rattle.lp_frac.specs.declared.stop.Stop.{Stop}
+use Rattle.lp_revised.specs.declared.stop.Spent.{Spent}
+use Rattle.lp_frac.specs.declared.stop.Stop.TheVariants as stop
 use Rattle.lp_revised.specs.Answer.{StopsRevised}
 use Rattle.lp_revised.specs.Selecting.{choice_seen}
 use Rattle.lp_revised.proofs.Seen.{seen_at}
 
 -- a run that stops stops what goes on from it
-pub stops_on : {A B : Type 0} (run : Run A) (next : A → Run B) (e : RevisedStop) →
+pub stops_on : {A B : Type 0} (run : Run A) (next : A → Run B) (e : Stop Spent) →
     StopsRevised (refused_as cause.Past run) e → StopsRevised (refused_as cause.Past (run >>= next)) e
 stops_on (Ok a) next (stop.Past p) h = cc
-stops_on (Ok a) next stop.Spent h = cc
+stops_on (Ok a) next (stop.Cause why) h = cc
 stops_on run next stop.NoMemory h = tt
 stops_on (Err q) next (stop.Past p) h =
     let w : ◌≡◌ {A = RunStop ℚ} (cause.Past q) (cause.Past p) = cc in ap (λ e. Err e) w
-stops_on (Err q) next stop.Spent h = cc
+stops_on (Err q) next (stop.Cause why) h = cc
 
 pub gives : {A : Type 0} (run : Run A) (a : A) → refused_as {E = RunStop ℚ} cause.Past run ≡ Ok a → run ≡ Ok a
 gives (Ok b) a h = cc
@@ -61,7 +62,7 @@ module _ (f : Form) (starts : List (RowStart ℚ)) (costs : List ℚ) (s : Revis
   abbrev on_from : List ℚ → Run Selection
   on_from y = entering_run (Some largest) f costs y s.bare >>= λ e. selection_with (Some largest) f starts s y e
 
-  pub no_multipliers : (e : RevisedStop) →
+  pub no_multipliers : (e : Stop Spent) →
       StopsRevised (refused_as cause.Past (multipliers_run (Some largest) starts costs s)) e →
       StopsRevised (refused_as cause.Past whole) e
   unfolding selection_run
@@ -93,7 +94,7 @@ module _ (f : Form) (starts : List (RowStart ℚ)) (costs : List ℚ) (s : Revis
       from_e : whole ≡ (solve >>= after_solve)
       from_e = from_y ∙ ap (λ o. o >>= λ e. selection_with (Some largest) f starts s y e) e_is
 
-      pub not_solved : (x : RevisedStop) → StopsRevised (refused_as cause.Past solve) x →
+      pub not_solved : (x : Stop Spent) → StopsRevised (refused_as cause.Past solve) x →
           StopsRevised (refused_as cause.Past whole) x
       not_solved x h =
           subst (λ r. StopsRevised (refused_as cause.Past r) x) (sym from_e) (stops_on solve after_solve x h)

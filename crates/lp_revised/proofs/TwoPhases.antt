@@ -20,7 +20,8 @@ use Rattle.spec_factor.specs.Over.{over_certificate, second_state, stuck_answer,
 use Rattle.lp_frac.specs.Narrow.{largest}
 use Rattle.lp_revised.specs.declared.cold_run.RunEnd.{RunEnd}
 use Rattle.lp_revised.specs.declared.steps.StepsEnd.{StepsEnd}
-use Rattle.lp_revised.specs.declared.stop.RevisedStop.{RevisedStop}
+use Rattle.lp_frac.specs.declared.stop.Stop.{Stop}
+use Rattle.lp_revised.specs.declared.stop.Spent.{Spent}
 use Rattle.lp_revised.specs.Answer.{StopsRevised}
 use Rattle.lp_revised.specs.Runs.{RunsOver, EndsOver, ended_of, second_run, selection_at}
 use Rattle.lp_revised.proofs.Renewed.{stops_after}
@@ -49,7 +50,7 @@ module _ (budget : ℕ) (f : Form) (starts : List (RowStart ℚ)) (s : Revised) 
   abbrev after_one : RevisedEnded → Result OverEnd (RunStop ℚ)
   after_one one = cond (is_stuck one.state.bare) (Ok (stuck_answer one)) (over_two (Some largest) budget f starts one)
 
-  pub first_stops : (e : RevisedStop) → StopsRevised (over_one (Some largest) budget f starts s) e →
+  pub first_stops : (e : Stop Spent) → StopsRevised (over_one (Some largest) budget f starts s) e →
       StopsRevised (over_phases (Some largest) budget f starts s) e
   first_stops e h = stops_after (over_one (Some largest) budget f starts s) after_one e h
 
@@ -69,7 +70,7 @@ module _ (budget : ℕ) (f : Form) (starts : List (RowStart ℚ)) (s : Revised) 
         ∙ ap (λ (z : List ℚ). Ok (record { certificate = certificate.Infeasible z; basis = None; pivots = used }))
         (sym (e ∙ ap (λ m. negatives m one.multipliers) r))
 
-    pub then_second : (result : Result RunEnd RevisedStop) → is_stuck u.bare ≡ false →
+    pub then_second : (result : Result RunEnd (Stop Spent)) → is_stuck u.bare ≡ false →
         EndsOver (second_run budget f starts used u) result → EndsOver (over_phases (Some largest) budget f starts s)
         result
     then_second result t g =
@@ -87,7 +88,7 @@ module _ (budget : ℕ) (f : Form) (starts : List (RowStart ℚ)) (used : ℕ) (
       ∙ ap (λ costs. over_from (Some largest) f starts costs (budget - used) used (second_state s) >>= λ two. Ok
       (end_answer two)) c)
 
-  pub second_stops : (e : RevisedStop) →
+  pub second_stops : (e : Stop Spent) →
       StopsRevised (over_from (Some largest) f starts costs (budget - used) used t) e →
       StopsRevised (second_run budget f starts used s) e
   second_stops e h =
@@ -111,7 +112,7 @@ module _ (budget : ℕ) (f : Form) where
   after_rows starts =
       refactor_run (Some largest) f (bare_of (begun f starts)) >>= λ s. over_phases (Some largest) budget f starts s
 
-  pub rows_stop : (e : RevisedStop) →
+  pub rows_stop : (e : Stop Spent) →
       StopsRevised (refused_as cause.Past (list_run f.rows (row_start (Some largest) f))) e →
       StopsRevised (over_run (Some largest) budget f) e
   unfolding over_run
@@ -126,13 +127,13 @@ module _ (budget : ℕ) (f : Form) where
         ap (λ o. refused_as cause.Past o >>= after_rows) h
         ∙ sym (ap (λ t. refactor_run (Some largest) f t >>= λ s. over_phases (Some largest) budget f starts s) b)
 
-    pub factors_stop : (e : RevisedStop) → StopsRevised (refactor_run (Some largest) f s.bare) e →
+    pub factors_stop : (e : Stop Spent) → StopsRevised (refactor_run (Some largest) f s.bare) e →
         StopsRevised (over_run (Some largest) budget f) e
     factors_stop e k =
         subst (λ r. StopsRevised r e) (sym from_rows)
         (stops_after (refactor_run (Some largest) f s.bare) (λ s. over_phases (Some largest) budget f starts s) e k)
 
-    pub runs_whole : (u : Revised) (result : Result RunEnd RevisedStop) → refactor_run (Some largest) f s.bare ≡ Ok u →
+    pub runs_whole : (u : Revised) (result : Result RunEnd (Stop Spent)) → refactor_run (Some largest) f s.bare ≡ Ok u →
         EndsOver (over_phases (Some largest) budget f starts u) result → EndsOver (over_run (Some largest) budget f)
         result
     runs_whole u result k g =

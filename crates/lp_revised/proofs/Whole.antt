@@ -12,8 +12,9 @@ use Rattle.spec_revised.proofs.OverCold.{run_is}
 use Rattle.spec_revised.proofs.OverLimits.{over_agrees}
 use Rattle.lp_frac.specs.Narrow.{largest}
 use Rattle.lp_revised.specs.declared.cold_run.RunEnd.{RunEnd}
-use Rattle.lp_revised.specs.declared.stop.RevisedStop.{RevisedStop}
-use Rattle.lp_revised.specs.declared.stop.RevisedStop.TheVariants as stop
+use Rattle.lp_frac.specs.declared.stop.Stop.{Stop}
+use Rattle.lp_revised.specs.declared.stop.Spent.{Spent}
+use Rattle.lp_frac.specs.declared.stop.Stop.TheVariants as stop
 use Rattle.lp_revised.specs.Runs.{EndsOver, EndsWhole, over_end}
 
 abbrev Outcome : Type 0
@@ -36,12 +37,12 @@ module _ (budget : ℕ) (m : Model) (f : Form) (formed : form_of (Some largest) 
       (λ p. absurd (n p.0 (sym h ∙ p.1)))
       ((over_agrees (Some largest) budget f).same)
 
-  pub ends_whole : (result : Result RunEnd RevisedStop) → EndsOver limited result → EndsWhole
+  pub ends_whole : (result : Result RunEnd (Stop Spent)) → EndsOver limited result → EndsWhole
       (phases_run None budget f) result
   ends_whole (Ok e) h =
       is_whole (Ok (over_end e)) h (λ p z. let y : ◌≡◌ {A = Outcome} (Ok (over_end e)) (Err (cause.Past p)) = z in cc)
   ends_whole (Err (stop.Past p)) h = tt
-  ends_whole (Err stop.Spent) h =
+  ends_whole (Err (stop.Cause why)) h =
       is_spent (phases_run None budget f)
       (is_whole (Err cause.Spent) h (λ p z. let y : ◌≡◌ {A = Outcome} (Err cause.Spent) (Err (cause.Past p)) = z in cc))
   ends_whole (Err stop.NoMemory) h = tt

@@ -4,25 +4,26 @@ use Rattle.spec_exact.specs.Fraction.{ℚ}
 use Rattle.spec_simplex.specs.declared.ends.RunStop.{RunStop}
 use Rattle.spec_simplex.specs.declared.ends.RunStop.TheVariants as cause
 use Rattle.spec_exact.specs.Run.{Run, refused_as}
-use Rattle.lp_revised.specs.declared.stop.RevisedStop.{RevisedStop}
-use Rattle.lp_revised.specs.declared.stop.RevisedStop.TheVariants as stop
+use Rattle.lp_frac.specs.declared.stop.Stop.{Stop}
+use Rattle.lp_revised.specs.declared.stop.Spent.{Spent}
+use Rattle.lp_frac.specs.declared.stop.Stop.TheVariants as stop
 
 -- the run stops so, or memory was wanting
-abbrev pub StopsRevised : {A : Type 0} → Result A (RunStop ℚ) → RevisedStop → Type 0
+abbrev pub StopsRevised : {A : Type 0} → Result A (RunStop ℚ) → Stop Spent → Type 0
 StopsRevised run (stop.Past p) = run ≡ Err (cause.Past p)
-StopsRevised run stop.Spent = run ≡ Err cause.Spent
+StopsRevised run (stop.Cause why) = run ≡ Err cause.Spent
 StopsRevised run stop.NoMemory = ⊤
 
 -- the run gives the answer, or stops so, or memory was wanting
-abbrev pub AnswersRevised : {A : Type 0} → Result A (RunStop ℚ) → Result A RevisedStop → Type 0
+abbrev pub AnswersRevised : {A : Type 0} → Result A (RunStop ℚ) → Result A (Stop Spent) → Type 0
 AnswersRevised run (Ok x) = run ≡ Ok x
 AnswersRevised run (Err e) = StopsRevised run e
 
 -- the same of a run that is never spent
-abbrev pub TellsRevised : {A : Type 0} → Run A → Result A RevisedStop → Type 0
+abbrev pub TellsRevised : {A : Type 0} → Run A → Result A (Stop Spent) → Type 0
 TellsRevised run result = AnswersRevised (refused_as cause.Past run) result
 
 -- the run leaves x
-abbrev pub LeavesRevised : {A : Type 0} → Result A (RunStop ℚ) → A → Result ⊤ RevisedStop → Type 0
+abbrev pub LeavesRevised : {A : Type 0} → Result A (RunStop ℚ) → A → Result ⊤ (Stop Spent) → Type 0
 LeavesRevised run x (Ok u) = run ≡ Ok x
 LeavesRevised run x (Err e) = StopsRevised run e

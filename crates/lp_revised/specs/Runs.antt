@@ -18,8 +18,9 @@ use Rattle.lp_frac.specs.Narrow.{largest}
 use Rattle.lp_revised.specs.declared.cold_run.RunEnd.{RunEnd}
 use Rattle.lp_revised.specs.declared.select.Column.{Column}
 use Rattle.lp_revised.specs.declared.steps.StepsEnd.{StepsEnd}
-use Rattle.lp_revised.specs.declared.stop.RevisedStop.{RevisedStop}
-use Rattle.lp_revised.specs.declared.stop.RevisedStop.TheVariants as stop
+use Rattle.lp_frac.specs.declared.stop.Stop.{Stop}
+use Rattle.lp_revised.specs.declared.stop.Spent.{Spent}
+use Rattle.lp_frac.specs.declared.stop.Stop.TheVariants as stop
 use Rattle.lp_revised.specs.Answer.{StopsRevised}
 use Rattle.lp_revised.specs.Selecting.{tableau_of}
 
@@ -48,7 +49,7 @@ EndsWith t (Some c) Optimal = ⊥
 EndsWith t (Some c) (Unbounded j up) = (c.number ≡ j) × (length c.solved ≡ t.rows)
 
 -- the steps end so, with this state and this count, or stop so, or memory was wanting
-abbrev pub RunsOver : Result RevisedEnded (RunStop ℚ) → List (RowStart ℚ) → Revised → ℕ → Result StepsEnd RevisedStop →
+abbrev pub RunsOver : Result RevisedEnded (RunStop ℚ) → List (RowStart ℚ) → Revised → ℕ → Result StepsEnd (Stop Spent) →
     Type 0
 RunsOver answer starts s used (Ok e) = answer ≡ Ok (ended_of starts s used e)
 RunsOver answer starts s used (Err e) = StopsRevised answer e
@@ -57,7 +58,7 @@ abbrev pub over_end : RunEnd → OverEnd
 over_end e = record { certificate = e.certificate; basis = e.basis; pivots = e.pivots }
 
 -- both phases end so, or stop so, or memory was wanting
-abbrev pub EndsOver : Result OverEnd (RunStop ℚ) → Result RunEnd RevisedStop → Type 0
+abbrev pub EndsOver : Result OverEnd (RunStop ℚ) → Result RunEnd (Stop Spent) → Type 0
 EndsOver answer (Ok e) = answer ≡ Ok (over_end e)
 EndsOver answer (Err e) = StopsRevised answer e
 
@@ -67,8 +68,8 @@ second_run budget f starts used s =
     over_from (Some largest) f starts f.cost (budget - used) used (second_state s) >>= λ two. Ok (end_answer two)
 
 -- without a limit the run on whole tableaus ends so, or is spent too
-abbrev pub EndsWhole : Result PhasesEnd (RunStop ℚ) → Result RunEnd RevisedStop → Type 0
+abbrev pub EndsWhole : Result PhasesEnd (RunStop ℚ) → Result RunEnd (Stop Spent) → Type 0
 EndsWhole whole (Ok e) = answer_in whole ≡ Ok (over_end e)
 EndsWhole whole (Err (stop.Past p)) = Unit {0}
-EndsWhole whole (Err stop.Spent) = whole ≡ Err cause.Spent
+EndsWhole whole (Err (stop.Cause why)) = whole ≡ Err cause.Spent
 EndsWhole whole (Err stop.NoMemory) = Unit {0}

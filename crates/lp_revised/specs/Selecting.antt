@@ -16,7 +16,8 @@ use Rattle.spec_factor.specs.Revised.{Revised, seen, Selection}
 use Rattle.lp_frac.specs.Narrow.{largest}
 use Rattle.lp_revised.specs.declared.select.Selected.{Selected}
 use Rattle.lp_revised.specs.declared.select.Column.{Column}
-use Rattle.lp_revised.specs.declared.stop.RevisedStop.{RevisedStop}
+use Rattle.lp_frac.specs.declared.stop.Stop.{Stop}
+use Rattle.lp_revised.specs.declared.stop.Spent.{Spent}
 use Rattle.lp_revised.specs.Answer.{StopsRevised}
 
 -- what a step does with the entering column, which is z by places
@@ -51,6 +52,6 @@ selection_of starts t l =
     record { multipliers = l.multipliers; tableau = tableau_of starts t l.column; choice = l.choice }
 
 -- the run sees this, or is refused so, or memory was wanting
-abbrev pub Selects : Run Selection → List (RowStart ℚ) → Tableau → Result Selected RevisedStop → Type 0
+abbrev pub Selects : Run Selection → List (RowStart ℚ) → Tableau → Result Selected (Stop Spent) → Type 0
 Selects run starts t (Ok l) = run ≡ Ok (selection_of starts t l)
 Selects run starts t (Err e) = StopsRevised (refused_as cause.Past run) e

@@ -19,8 +19,8 @@ use crate::steps::StepsEnd;
 use crate::stop::RevisedStop;
 use lp_factor::Factors;
 use lp_form::{Form, StatusList};
-use lp_frac::Fracs;
-use lp_tableau::{ColdStop, PrimalEnd, start};
+use lp_frac::{Fracs, Stop};
+use lp_tableau::{PrimalEnd, start};
 use std::alloc::{AllocError, Global};
 
 /// What a run over factors ends with.
@@ -41,8 +41,8 @@ fn row_starts(alloc: Global, form: &Form) -> Result<Vec<RowStart>, RevisedStop>
 {
     match start::starts(alloc, form) {
         Ok(starts) => Ok(starts),
-        Err(ColdStop::Past(past)) => Err(RevisedStop::Past(past)),
-        Err(ColdStop::NoMemory) => Err(RevisedStop::NoMemory),
+        Err(Stop::Past(past)) => Err(Stop::Past(past)),
+        Err(Stop::NoMemory) => Err(Stop::NoMemory),
     }
 }
 

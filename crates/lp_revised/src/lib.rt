@@ -4,7 +4,7 @@
 //! |---|---|---|
 //! | `cold`, `RunEnd` | the cold run over factors within a budget, and what it ends with | src/cold_run |
 //! | `Certificate` | the certificate of an end | src/ends |
-//! | `RevisedStop` | why a run does not end by itself | src/stop |
+//! | `RevisedStop`, `Spent` | why a run does not end by itself | src/stop |
 //! | `Revised`, `RowStart` | a state of the run; how a row began, which fixes the sign of its artificial | src/state |
 //! | `Revised::select`, `Selected` | what a step sees and chooses | src/select |
 //! | `Revised::flip`, `pivot`, `refactor` | the changes, and factors taken anew | src/moves, src/pivot, src/refactor |
@@ -30,4 +30,4 @@ mod stop;
 
 pub use cold_run::{RunEnd, cold};
 pub use ends::Certificate;
-pub use stop::RevisedStop;
+pub use stop::{RevisedStop, Spent};

@@ -9,9 +9,10 @@ ghost use Rattle.lp_frac.specs.Narrow.{largest};
 ghost use Rattle.lp_revised.specs.Answer.{AnswersRevised, LeavesRevised};
 
 use crate::state::Revised;
-use crate::stop::RevisedStop;
-use lp_factor::{FactorStop, Factors, factor};
+use crate::stop::{RevisedStop, Spent};
+use lp_factor::{Factors, factor};
 use lp_form::{Form, Status, StatusList, is_basic};
+use lp_frac::Stop;
 use std::alloc::{AllocError, Global};
 
 // Factors of a basis. Basic columns that are dependent, which a run never has, count as a spent run.
@@ -23,9 +24,9 @@ fn factors_of(alloc: Global, form: &Form, basis: &StatusList) -> Result<Factors,
 {
     match factor(alloc, form, basis) {
         Ok(factors) => Ok(factors),
-        Err(FactorStop::Singular) => Err(RevisedStop::Spent),
-        Err(FactorStop::Past(p)) => Err(RevisedStop::Past(p)),
-        Err(FactorStop::NoMemory) => Err(RevisedStop::NoMemory),
+        Err(Stop::Cause(_)) => Err(Stop::Cause(Spent)),
+        Err(Stop::Past(p)) => Err(Stop::Past(p)),
+        Err(Stop::NoMemory) => Err(Stop::NoMemory),
     }
 }
 

@@ -9,9 +9,9 @@ ghost use Rattle.lp_revised.specs.Runs.{EndsWith, made_run, RunsOver};
 
 use crate::select::{Choice, Column, Selected};
 use crate::state::{Revised, RowStart};
-use crate::stop::RevisedStop;
+use crate::stop::{RevisedStop, Spent};
 use lp_form::Form;
-use lp_frac::{Frac, Fracs};
+use lp_frac::{Frac, Fracs, Stop};
 use lp_tableau::PrimalEnd;
 use std::alloc::Global;
 
@@ -115,7 +115,7 @@ impl Revised {
                 });
             }
             if *used >= budget {
-                return Err(RevisedStop::Spent);
+                return Err(Stop::Cause(Spent));
             }
             self.make(alloc, form, starts, &selected)?;
             *used += 1;

@@ -14,10 +14,11 @@ use crate::working::{how_by, is_found, solved_from, words_of_end};
 use lp_check::RawCertificate;
 use lp_edit::{Edit, EditError, EditFault, apply};
 use lp_form::Form;
+use lp_frac::Stop;
 use lp_line::{Ask, Refusal, Reply};
 use lp_model::Model;
 use lp_solve::End;
-use lp_standard::{FormStop, form};
+use lp_standard::form;
 use mps_write::{WriteFault, fixed, free};
 use spec_mps::Style;
 use spec_reads::Found;
@@ -130,8 +131,8 @@ impl Holding {
         };
         match form(alloc, model) {
             Ok(form) => Begun::Look(form),
-            Err(FormStop::NoMemory) => Begun::Reply(Reply::Memory),
-            Err(FormStop::Clash(_) | FormStop::Past(_)) => {
+            Err(Stop::NoMemory) => Begun::Reply(Reply::Memory),
+            Err(Stop::Cause(_) | Stop::Past(_)) => {
                 let Ok(solved) = solved_within(alloc, model, self.budget) else {
                     return Begun::Reply(Reply::Memory);
                 };

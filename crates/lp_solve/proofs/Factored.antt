@@ -23,8 +23,9 @@ use Rattle.spec_warm.specs.Solve.{SolveEnd, solve}
 use Rattle.spec_solve.proofs.Orders.{solve_kept}
 use Rattle.lp_frac.specs.Narrow.{largest}
 use Rattle.lp_revised.specs.declared.cold_run.RunEnd.{RunEnd}
-use Rattle.lp_revised.specs.declared.stop.RevisedStop.{RevisedStop}
-use Rattle.lp_revised.specs.declared.stop.RevisedStop.TheVariants as revised
+use Rattle.lp_frac.specs.declared.stop.Stop.{Stop}
+use Rattle.lp_revised.specs.declared.stop.Spent.{Spent}
+use Rattle.lp_frac.specs.declared.stop.Stop.TheVariants as revised
 use Rattle.lp_revised.specs.Answer.{StopsRevised}
 use Rattle.lp_revised.specs.Runs.{over_end}
 use Rattle.lp_solve.specs.Fit.{IsFit}
@@ -64,17 +65,18 @@ module _ (budget : ℕ) (m : Model) (f : Form) (formed : form_of (Some largest) 
   unfolding over_factors
   over_ends e end h is = is ∙ sym (ap (after_over (Some largest) m) h)
 
-  pub past_stops : (s : RevisedStop) (p : Past ℚ) → s ≡ revised.Past p →
+  pub past_stops : (s : Stop Spent) (p : Past ℚ) → s ≡ revised.Past p →
       StopsRevised (over_run (Some largest) budget f) s →
       ◌≡◌ {A = ExactSolveEnd} (outcome.Past p) (over_factors (Some largest) budget m f)
   unfolding over_factors
   past_stops s p e h =
       sym (ap (after_over (Some largest) m) (subst (StopsRevised (over_run (Some largest) budget f)) e h))
 
-  pub spent_stops : (s : RevisedStop) → s ≡ revised.Spent → StopsRevised (over_run (Some largest) budget f) s →
+  pub spent_stops : (s : Stop Spent) (why : Spent) → s ≡ revised.Cause why →
+      StopsRevised (over_run (Some largest) budget f) s →
       ◌≡◌ {A = ExactSolveEnd} outcome.Spent (over_factors (Some largest) budget m f)
   unfolding over_factors
-  spent_stops s e h =
+  spent_stops s why e h =
       sym (ap (after_over (Some largest) m) (subst (StopsRevised (over_run (Some largest) budget f)) e h))
 
   -- ---- the cold part

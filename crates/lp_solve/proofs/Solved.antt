@@ -17,24 +17,25 @@ use Rattle.spec_cold.specs.Cold.{ExactSolveEnd, certificate_of, after_phases, af
 use Rattle.spec_cold.proofs.Solved.{end_accepted, clash_accepted}
 use Rattle.spec_solve.specs.Order.{cold_by, cold_over}
 use Rattle.lp_standard.specs.Answer.{IsFaultOf}
-use Rattle.lp_standard.specs.declared.fault.FormStop.{FormStop}
-use Rattle.lp_standard.specs.declared.fault.FormStop.TheVariants as form
+use Rattle.lp_frac.specs.declared.stop.Stop.{Stop}
+use Rattle.lp_standard.specs.declared.fault.Clash.{Clash}
 use Rattle.lp_tableau.specs.Answer.{Stops}
-use Rattle.lp_tableau.specs.declared.ends.ColdStop.{ColdStop}
-use Rattle.lp_tableau.specs.declared.ends.ColdStop.TheVariants as start
+use Rattle.std.specs.declared.convert.Infallible.{Infallible}
+use Rattle.lp_frac.specs.declared.stop.Stop.TheVariants as stop
 use Rattle.lp_solve.proofs.BothPhases.{start_refused}
 
 -- ---- stops as the code has them
-pub start_stop : {A : Type 0} (run : Run A) (s : ColdStop) (p : Past ℚ) → s ≡ start.Past p → Stops run s → run ≡ Err p
+pub start_stop : {A : Type 0} (run : Run A) (s : Stop Infallible) (p : Past ℚ) → s ≡ stop.Past p → Stops run s →
+    run ≡ Err p
 start_stop run s p e h = subst (Stops run) e h
 
-pub form_stop : {A : Type 0} (run : Result A (FormFault ℚ)) (s : FormStop) (p : Past ℚ) → s ≡ form.Past p →
+pub form_stop : {A : Type 0} (run : Result A (FormFault ℚ)) (s : Stop Clash) (p : Past ℚ) → s ≡ stop.Past p →
     IsFaultOf run s → run ≡ Err (fault.Past p)
 form_stop run s p e h = subst (IsFaultOf run) e h
 
-pub form_clash : {A : Type 0} (run : Result A (FormFault ℚ)) (s : FormStop) (j : ℕ) → s ≡ form.Clash j →
-    IsFaultOf run s → run ≡ Err (fault.Clash j)
-form_clash run s j e h = subst (IsFaultOf run) e h
+pub form_clash : {A : Type 0} (run : Result A (FormFault ℚ)) (s : Stop Clash) (clash : Clash) → s ≡ stop.Cause clash →
+    IsFaultOf run s → run ≡ Err (fault.Clash clash.column)
+form_clash run s clash e h = subst (IsFaultOf run) e h
 
 -- ---- the solve
 module _ (limit : Option ℕ) (budget : ℕ) (m : Model) where

@@ -39,19 +39,20 @@ use Rattle.spec_warm.proofs.Started.{start_begins_from}
 use Rattle.spec_warm.proofs.TrueEnds.{run_accepted}
 use Rattle.lp_frac.specs.Narrow.{largest}
 use Rattle.lp_tableau.specs.Based.{StopsAt}
-use Rattle.lp_tableau.specs.declared.ends.BasisStop.{BasisStop}
-use Rattle.lp_tableau.specs.declared.ends.BasisStop.TheVariants as stop
+use Rattle.lp_frac.specs.declared.stop.Stop.{Stop}
+use Rattle.lp_form.specs.declared.stop.Singular.{Singular}
+use Rattle.lp_frac.specs.declared.stop.Stop.TheVariants as stop
 use Rattle.lp_dual.specs.Starts.{IsDualStart}
 use Rattle.lp_dual.proofs.Fitted.{can_start}
 use Rattle.lp_solve.specs.Begun.{IsBegun}
 use Rattle.lp_solve.proofs.Left.{warm_leaves}
 
 -- ---- stops as the code has them
-pub is_singular : {A : Type 0} (run : Result A (StartStop ℚ)) (s : BasisStop) → s ≡ stop.Singular → StopsAt run s →
-    run ≡ Err begun.Singular
-is_singular run s e h = subst (StopsAt run) e h
+pub is_singular : {A : Type 0} (run : Result A (StartStop ℚ)) (s : Stop Singular) (why : Singular) →
+    s ≡ stop.Cause why → StopsAt run s → run ≡ Err begun.Singular
+is_singular run s why e h = subst (StopsAt run) e h
 
-pub is_past : {A : Type 0} (run : Result A (StartStop ℚ)) (s : BasisStop) (p : Past ℚ) → s ≡ stop.Past p →
+pub is_past : {A : Type 0} (run : Result A (StartStop ℚ)) (s : Stop Singular) (p : Past ℚ) → s ≡ stop.Past p →
     StopsAt run s → run ≡ Err (begun.Past p)
 is_past run s p e h = subst (StopsAt run) e h
 

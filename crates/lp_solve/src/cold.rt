@@ -13,9 +13,9 @@ use crate::certificate::{certificate_at, infeasible};
 use crate::phases::{Ended, phases};
 use lp_check::{Certificate, Verdict, check};
 use lp_form::{Basis, Form, StatusList};
-use lp_frac::{Frac, Fracs};
+use lp_frac::{Frac, Fracs, Stop};
 use lp_model::Model;
-use lp_tableau::{ColdStop, RunStop, start_cold};
+use lp_tableau::{RunStop, start_cold};
 use std::alloc::{AllocError, Global};
 
 /// What a solve ends with: an answer (`Ended`), the first operation that is past 127 bits (`Past`), or that the budget
@@ -94,8 +94,8 @@ pub(crate) fn from_form(
 {
     let tab = match start_cold(alloc, form) {
         Ok(tab) => tab,
-        Err(ColdStop::Past(past)) => return Ok(End::Past(past)),
-        Err(ColdStop::NoMemory) => return Err(AllocError),
+        Err(Stop::Past(past)) => return Ok(End::Past(past)),
+        Err(Stop::NoMemory) => return Err(AllocError),
     };
     match phases(tab, form, budget) {
         Ok(ended) => finished(alloc, model, form, &ended),

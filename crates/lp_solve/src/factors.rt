@@ -11,8 +11,8 @@ ghost use Rattle.lp_solve.specs.Fit.{IsFit};
 use crate::basis::basis_of;
 use crate::cold::{End, answered, from_form};
 use lp_form::Form;
+use lp_frac::Stop;
 use lp_model::Model;
-use lp_revised::RevisedStop;
 use std::alloc::{AllocError, Global};
 
 // The run over factors, and the check of the certificate that it ended with.
@@ -28,9 +28,9 @@ fn over_factors(alloc: Global, budget: u64, model: &Model, form: &Form) -> Resul
             basis_of(form, end.basis),
             end.pivots,
         )),
-        Err(RevisedStop::Past(past)) => Ok(End::Past(past)),
-        Err(RevisedStop::Spent) => Ok(End::Spent),
-        Err(RevisedStop::NoMemory) => Err(AllocError),
+        Err(Stop::Past(past)) => Ok(End::Past(past)),
+        Err(Stop::Cause(_)) => Ok(End::Spent),
+        Err(Stop::NoMemory) => Err(AllocError),
     }
 }
 

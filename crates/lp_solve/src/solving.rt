@@ -13,9 +13,9 @@ use crate::factors::cold_part;
 use crate::warm::{Warm, from_basis};
 use lp_check::Certificate;
 use lp_form::{Basis, Form};
-use lp_frac::{Frac, Fracs};
+use lp_frac::{Frac, Fracs, Stop};
 use lp_model::Model;
-use lp_standard::{FormStop, form};
+use lp_standard::form;
 use spec_warm::{Fall, Route};
 use std::alloc::{AllocError, Global};
 
@@ -118,8 +118,11 @@ pub fn solve(
 {
     match form(alloc, model) {
         Ok(form) => solve_formed(alloc, model, budget, &form, handed),
-        Err(FormStop::Clash(j)) => Ok(cold(answered(model, Certificate::Clash(j), None, 0))),
-        Err(FormStop::Past(past)) => Ok(cold(End::Past(past))),
-        Err(FormStop::NoMemory) => Err(AllocError),
+        Err(Stop::Cause(clash)) => {
+            let certificate = Certificate::Clash(clash.column);
+            Ok(cold(answered(model, certificate, None, 0)))
+        }
+        Err(Stop::Past(past)) => Ok(cold(End::Past(past))),
+        Err(Stop::NoMemory) => Err(AllocError),
     }
 }

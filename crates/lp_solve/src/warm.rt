@@ -14,9 +14,9 @@ use crate::certificate::{certificate_at, dual_certificate};
 use lp_check::{Certificate, Verdict, check};
 use lp_dual::{Fit, fit};
 use lp_form::{Basis, Form};
-use lp_frac::{Frac, Fracs};
+use lp_frac::{Frac, Fracs, Stop};
 use lp_model::Model;
-use lp_tableau::{BasisStop, RunStop, Tableau, start_from};
+use lp_tableau::{RunStop, Tableau, start_from};
 use std::alloc::{AllocError, Global};
 
 type WarmStop = spec_simplex::WarmStop<Frac>;
@@ -118,9 +118,9 @@ pub(crate) fn from_basis(
 {
     let tab = match start_from(alloc, form, basis) {
         Ok(tab) => tab,
-        Err(BasisStop::Singular) => return Ok(Warm::Stopped(WarmStop::Singular)),
-        Err(BasisStop::Past(past)) => return Ok(Warm::Stopped(WarmStop::Past(past))),
-        Err(BasisStop::NoMemory) => return Err(AllocError),
+        Err(Stop::Cause(_)) => return Ok(Warm::Stopped(WarmStop::Singular)),
+        Err(Stop::Past(past)) => return Ok(Warm::Stopped(WarmStop::Past(past))),
+        Err(Stop::NoMemory) => return Err(AllocError),
     };
     match fit(&tab) {
         Ok(Fit::Primal) => by_primal(alloc, budget, model, form, tab),

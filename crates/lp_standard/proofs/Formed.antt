@@ -12,9 +12,10 @@ use Rattle.spec_exact.specs.Run.{◌>>=◌, refused_as, list_run, steps}
 use Rattle.spec_simplex.specs.Form.{Form, IsForm, limits_run, column_clash, least_cost, formed, form_of}
 use Rattle.lp_standard.specs.Answer.{IsFaultOf, IsStopOf}
 use Rattle.lp_standard.specs.Fault.{stop_of}
-use Rattle.lp_standard.specs.declared.fault.FormStop.{FormStop}
-use Rattle.lp_standard.specs.declared.fault.FormStop.TheVariants.{Clash, NoMemory}
-use Rattle.lp_standard.specs.declared.fault.FormStop.TheVariants as stop
+use Rattle.lp_frac.specs.declared.stop.Stop.{Stop}
+use Rattle.lp_standard.specs.declared.fault.Clash.{Clash}
+use Rattle.lp_frac.specs.declared.stop.Stop.TheVariants.{Cause, NoMemory}
+use Rattle.lp_frac.specs.declared.stop.Stop.TheVariants as stop
 
 -- ---- one column more
 pub entries_more : (xs : List ExactColumn) (j : ℕ) (done : List (List (ℕ × ℚ))) (e : List (ℕ × ℚ)) →
@@ -77,10 +78,10 @@ module _ (limit : Option ℕ) (m : Model) where
   abbrev after_limits : List (Option ℚ × Option ℚ) → Result Form (FormFault ℚ)
   after_limits limits = steps (width m) (λ j _. column_clash limit m j) tt >>= λ _. Ok (formed m limits)
 
-  pub limits_stop : (s : FormStop) → IsStopOf (list_run (height m) (λ i. limits_run limit (row m i))) s →
+  pub limits_stop : (s : Stop Clash) → IsStopOf (list_run (height m) (λ i. limits_run limit (row m i))) s →
       IsFaultOf (form_of limit m) s
   unfolding form_of
-  limits_stop (Clash j) h = absurd h
+  limits_stop (Cause clash) h = absurd h
   limits_stop (stop.Past p) h = ap (λ o. refused_as fault.Past o >>= λ limits. after_limits limits) h
   limits_stop NoMemory h = tt
 

@@ -8,5 +8,5 @@ mod fault;
 mod limits;
 mod standard;
 
-pub use fault::FormStop;
+pub use fault::{Clash, FormStop};
 pub use standard::form;

@@ -8,7 +8,7 @@ ghost use Rattle.spec_simplex.specs.Form as forms;
 ghost use Rattle.lp_frac.specs.Narrow.{largest};
 ghost use Rattle.lp_standard.specs.Answer.{IsFaultOf, IsStopOf};
 
-use crate::fault::FormStop;
+use crate::fault::{FormStop, stop_of};
 use crate::limits::{clash, limits};
 use lp_form::{BoundList, Columns, Form};
 use lp_frac::{Entries, Frac, Fracs, neg, zero};
@@ -126,7 +126,9 @@ pub fn form(alloc: Global, model: &Model) -> Result<Form, FormStop>
     ensures err { IfErr result (IsFaultOf (forms.form_of (Some largest) model.now)) }
 {
     let limits = all_limits(alloc, model)?;
-    first_clash(model)?;
+    if let Err(fault) = first_clash(model) {
+        return Err(stop_of(fault));
+    }
     let entries = entries(alloc, model)?;
     let lower = lowers(alloc, model, &limits)?;
     let upper = uppers(alloc, model, &limits)?;

@@ -20,8 +20,9 @@ use Rattle.spec_simplex.specs.declared.ends.StartStop.TheVariants as start
 use Rattle.spec_simplex.specs.Eliminate.{Elimination, or_first, basis_status, basis_lower}
 use Rattle.spec_simplex.specs.Eliminate.{basis_upper, basis_value, with_basis, eliminate_run}
 use Rattle.spec_simplex.specs.Eliminate.{position_run, valued_run, with_values, filled_run, start_from}
-use Rattle.lp_tableau.specs.declared.ends.BasisStop.{BasisStop}
-use Rattle.lp_tableau.specs.declared.ends.BasisStop.TheVariants as stop
+use Rattle.lp_frac.specs.declared.stop.Stop.{Stop}
+use Rattle.lp_form.specs.declared.stop.Singular.{Singular}
+use Rattle.lp_frac.specs.declared.stop.Stop.TheVariants as stop
 use Rattle.lp_tableau.specs.Grid.{IsGrid}
 use Rattle.lp_tableau.specs.Based.{AreInside, StopsAt, stand_in}
 
@@ -155,9 +156,9 @@ module _ (limit : Option ℕ) (f : Form) (basis : List Status) where
   abbrev after_rows : Result Elimination (StartStop ℚ) → Result Tableau (StartStop ℚ)
   after_rows o = o >>= λ e. refused_as start.Past (filled_run limit f (with_basis f basis e))
 
-  pub rows_stop : (s : BasisStop) → StopsAt (eliminate_run limit f basis) s → StopsAt (start_from limit f basis) s
+  pub rows_stop : (s : Stop Singular) → StopsAt (eliminate_run limit f basis) s → StopsAt (start_from limit f basis) s
   unfolding start_from
-  rows_stop stop.Singular h = ap after_rows h
+  rows_stop (stop.Cause why) h = ap after_rows h
   rows_stop (stop.Past p) h = ap after_rows h
   rows_stop stop.NoMemory h = tt
 
@@ -170,13 +171,13 @@ module _ (limit : Option ℕ) (f : Form) (basis : List Status) where
     after_values o =
         o >>= λ values. priced_run limit t f.cost >>= λ reduced. Ok (with_reduced (with_values t values) reduced)
 
-    by_values : (o : Run (List ℚ)) (s : BasisStop) → valued_run limit t ≡ o → StopsAt (refused_as start.Past o) s →
+    by_values : (o : Run (List ℚ)) (s : Stop Singular) → valued_run limit t ≡ o → StopsAt (refused_as start.Past o) s →
         StopsAt (start_from limit f basis) s
-    by_values (Ok values) stop.Singular g h =
+    by_values (Ok values) (stop.Cause why) g h =
         let z : ◌≡◌ {A = Result (List ℚ) (StartStop ℚ)} (Ok values) (Err start.Singular) = h in cc
     by_values (Ok values) (stop.Past p) g h =
         let z : ◌≡◌ {A = Result (List ℚ) (StartStop ℚ)} (Ok values) (Err (start.Past p)) = h in cc
-    by_values (Err x) stop.Singular g h =
+    by_values (Err x) (stop.Cause why) g h =
         let z : ◌≡◌ {A = Result (List ℚ) (StartStop ℚ)} (Err (start.Past x)) (Err start.Singular) = h in cc
     by_values (Err x) (stop.Past p) g h =
         let z : ◌≡◌ {A = Result Tableau (StartStop ℚ)} (Err (start.Past x)) (Err (start.Past p)) =
@@ -184,7 +185,7 @@ module _ (limit : Option ℕ) (f : Form) (basis : List Status) where
         from_rows ∙ ap (λ o. refused_as start.Past (after_values o)) g ∙ z
     by_values o stop.NoMemory g h = tt
 
-    pub values_stop : (s : BasisStop) → StopsAt (refused_as start.Past (valued_run limit t)) s →
+    pub values_stop : (s : Stop Singular) → StopsAt (refused_as start.Past (valued_run limit t)) s →
         StopsAt (start_from limit f basis) s
     values_stop s h = by_values (valued_run limit t) s refl h
 

@@ -25,8 +25,9 @@ use Rattle.lp_tableau.specs.Grid.{rows_of, flat, IsBlock}
 use Rattle.lp_tableau.specs.Begun.{is_below, start_front}
 use Rattle.lp_tableau.specs.Twins.{signed, twin, with_twins, twinned, IsTwinned}
 use Rattle.lp_tableau.specs.Answer.{Stops}
-use Rattle.lp_tableau.specs.declared.ends.ColdStop.{ColdStop}
-use Rattle.lp_tableau.specs.declared.ends.ColdStop.TheVariants as cold
+use Rattle.lp_frac.specs.declared.stop.Stop.{Stop}
+use Rattle.std.specs.declared.convert.Infallible.{Infallible}
+use Rattle.lp_frac.specs.declared.stop.Stop.TheVariants as cold
 use Rattle.lp_tableau.proofs.Pivots.{RepricedFrom}
 
 -- ---- a block of rows
@@ -263,8 +264,9 @@ module _ (limit : Option ℕ) (f : Form) where
   after_rows starts =
       priced_run limit (begun f starts) (first_costs f starts) >>= λ reduced. Ok (with_reduced (begun f starts) reduced)
 
-  pub rows_stop : (s : ColdStop) → Stops (list_run f.rows (row_start limit f)) s → Stops (start_of limit f) s
+  pub rows_stop : (s : Stop Infallible) → Stops (list_run f.rows (row_start limit f)) s → Stops (start_of limit f) s
   unfolding start_of
+  rows_stop (cold.Cause never) h = absurd h
   rows_stop (cold.Past p) h = ap (λ o. o >>= after_rows) h
   rows_stop cold.NoMemory h = tt
 

@@ -20,8 +20,9 @@ use Rattle.spec_simplex.specs.declared.ends.StartStop.{StartStop}
 use Rattle.spec_simplex.specs.declared.ends.StartStop.TheVariants as start
 use Rattle.spec_simplex.specs.Eliminate.{Elimination, equation, unsolved, has_none, is_open, or_place}
 use Rattle.spec_simplex.specs.Eliminate.{open_below, solved_by, solved_run, eliminate_run, basis_at}
-use Rattle.lp_tableau.specs.declared.ends.BasisStop.{BasisStop}
-use Rattle.lp_tableau.specs.declared.ends.BasisStop.TheVariants as stop
+use Rattle.lp_frac.specs.declared.stop.Stop.{Stop}
+use Rattle.lp_form.specs.declared.stop.Singular.{Singular}
+use Rattle.lp_frac.specs.declared.stop.Stop.TheVariants as stop
 use Rattle.lp_tableau.specs.Grid.{IsGrid}
 use Rattle.lp_tableau.specs.Based.{AreInside, StopsAt}
 
@@ -146,10 +147,10 @@ module _ (limit : Option ℕ) (f : Form) (basis : List Status) where
     unfolding eliminate_run
     stopped e l h g = steps_stop j (f.cols + f.rows) (solve_at limit f basis) (unsolved f) _ e l v.so_far (here _ h g)
 
-    pub solving_stops : (s : BasisStop) → j < f.cols + f.rows → is_basic (basis_at basis j) ≡ true →
+    pub solving_stops : (s : Stop Singular) → j < f.cols + f.rows → is_basic (basis_at basis j) ≡ true →
         StopsAt (solved_run limit f (record { rows = rows; basic = basic }) j) s →
         StopsAt (eliminate_run limit f basis) s
-    solving_stops stop.Singular l h g = stopped start.Singular l h g
+    solving_stops (stop.Cause why) l h g = stopped start.Singular l h g
     solving_stops (stop.Past p) l h g = stopped (start.Past p) l h g
     solving_stops stop.NoMemory l h g = tt
 

@@ -7,17 +7,19 @@ use Rattle.spec_simplex.specs.Tableau.{at_place, stand}
 use Rattle.spec_simplex.specs.declared.ends.StartStop.{StartStop}
 use Rattle.spec_simplex.specs.declared.ends.StartStop.TheVariants as start
 use Rattle.spec_simplex.specs.Eliminate.{Elimination}
-use Rattle.lp_tableau.specs.declared.ends.BasisStop.{BasisStop}
-use Rattle.lp_tableau.specs.declared.ends.BasisStop.TheVariants as stop
+use Rattle.lp_frac.specs.declared.stop.Stop.{Stop}
+use Rattle.lp_form.specs.declared.stop.Singular.{Singular}
+use Rattle.lp_frac.specs.declared.stop.Stop.TheVariants as stop
 
 -- the run stops so, or memory ran out
-abbrev pub StopsAt : {A : Type 0} → Result A (StartStop ℚ) → BasisStop → Type 0
-StopsAt run stop.Singular = run ≡ Err start.Singular
+abbrev pub StopsAt : {A : Type 0} → Result A (StartStop ℚ) → Stop Singular → Type 0
+StopsAt run (stop.Cause why) = run ≡ Err start.Singular
 StopsAt run (stop.Past p) = run ≡ Err (start.Past p)
 StopsAt run stop.NoMemory = ⊤
 
 -- the elimination gives these rows and columns, or stops so
-abbrev pub Solves : Result Elimination (StartStop ℚ) → List (List ℚ) → List (Option ℕ) → Result ⊤ BasisStop → Type 0
+abbrev pub Solves : Result Elimination (StartStop ℚ) → List (List ℚ) → List (Option ℕ) → Result ⊤ (Stop Singular) →
+    Type 0
 Solves run rows basic (Ok u) = run ≡ Ok (record { rows = rows; basic = basic })
 Solves run rows basic (Err s) = StopsAt run s
 

@@ -12,13 +12,12 @@ ghost use Rattle.lp_tableau.specs.Grid.{IsGrid};
 ghost use Rattle.lp_tableau.specs.Based.{AreInside, StopsAt, stand_in};
 
 use crate::coefficients::coefficients;
-use crate::ends::BasisStop;
 use crate::solve::eliminate;
 use crate::start::{lowers, rows, width, zeros};
 use crate::steps::stand;
 use crate::tableau::Tableau;
 use crate::twins::Twins;
-use lp_form::{Basis, Form, Status, is_basic};
+use lp_form::{Basis, BasisStop, Form, Status, is_basic};
 use lp_frac::{Frac, Past, less_product, zero};
 use std::alloc::{AllocError, Global};
 

@@ -9,7 +9,7 @@
 //! | `Tableau::wants_phase_one`, `is_stuck` | what the phases ask: a basic artificial, and one that is not 0 | src/phases |
 //! | `or_zero`, `stand`, `directed`, `flip_way`, `other_bound`, `is_place` | where columns stand, and what moves in a flip | src/steps, src/moves |
 //! | `PrimalEnd`, `RunStop` | how a run of steps ends, and why it does not | src/ends |
-//! | `ColdStop`, `BasisStop` | why a form has no start, and a basis no tableau | src/ends |
+//! | `ColdStop` | why a form has no start | src/ends |
 //!
 //! Rows are kept one after the other in one block, which never grows, and without the artificial columns: each is its
 //! row's logical or the negative of it all through. Contracts see a tableau as the record of spec_simplex's
@@ -32,7 +32,7 @@ mod tableau;
 mod twins;
 
 pub use basis::start_from;
-pub use ends::{BasisStop, ColdStop, PrimalEnd, RunStop};
+pub use ends::{ColdStop, PrimalEnd, RunStop};
 pub use moves::{directed, flip_way, is_place, other_bound};
 pub use start::start_cold;
 pub use steps::{or_zero, stand};

@@ -8,11 +8,10 @@ ghost use Rattle.lp_frac.specs.Narrow.{largest};
 ghost use Rattle.lp_tableau.specs.Grid.{IsGrid};
 ghost use Rattle.lp_tableau.specs.Based.{IsOpenAt, AreInside, Solves};
 
-use crate::ends::BasisStop;
 use crate::start::width;
 use crate::twins::Twins;
-use lp_form::{Basis, Form, is_basic};
-use lp_frac::{Frac, are_same, zero};
+use lp_form::{Basis, BasisStop, Form, Singular, is_basic};
+use lp_frac::{Frac, Stop, are_same, zero};
 
 fn has_none(column: Option<u32>) -> bool
     ensures { result ≡ elimination.has_none column }
@@ -69,7 +68,7 @@ fn solve(grid: &mut Twins, basic: &mut [Option<u32>], form: &Form, j: u32) -> Re
     ensures inside { AreInside (form.now.cols + form.now.rows + form.now.rows) basic.new }
 {
     let Some(p) = open(grid, basic, form, j) else {
-        return Err(BasisStop::Singular);
+        return Err(Stop::Cause(Singular));
     };
     grid.turn(form.rows(), width(form), p, j)?;
     basic[p as usize] = Some(j);

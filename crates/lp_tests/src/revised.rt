@@ -1,7 +1,7 @@
 // The ends of one column in one row of at least 1.
 use lp_form::{BoundList, Columns, Form, Status};
-use lp_frac::{Entries, Frac, Fracs, neg, one, zero};
-use lp_revised::{Certificate, RevisedStop, cold};
+use lp_frac::{Entries, Frac, Fracs, Stop, neg, one, zero};
+use lp_revised::{Certificate, Spent, cold};
 use std::alloc::Global;
 use std::process::Abort;
 use std::test::Fail;
@@ -42,9 +42,13 @@ fn the_least_of_the_column(rt: HostRuntime) -> Result<(), Fail> {
     let Some(basis) = &end.basis else {
         panic!(rt; "a basis is wanted")
     };
-    assert!(rt; basis.as_slice().len() == 2 && basis.at(0) == Status::Basic && basis.at(1) == Status::AtLower);
+    assert!(rt;
+        basis.as_slice().len() == 2
+            && basis.at(0) == Status::Basic
+            && basis.at(1) == Status::AtLower
+    );
     assert_eq!(rt; end.pivots, 1);
-    assert_eq!(rt; cold(rt.alloc(), &form, 0).err(), Some(RevisedStop::Spent));
+    assert_eq!(rt; cold(rt.alloc(), &form, 0).err(), Some(Stop::Cause(Spent)));
     Ok(())
 }
 

@@ -8,10 +8,11 @@ ghost use Rattle.lp_text_commands.specs.Basis.{step_of, count_of, BasisSays};
 use crate::basis_file::FileStage;
 use lp_bas::{BasFeed, BasReader};
 use lp_base::Line;
+use lp_frac::Stop;
 use lp_line::{Stage, Step};
 use lp_model::Model;
 use lp_solve_out::{Handed, Start};
-use lp_standard::{FormStop, form};
+use lp_standard::form;
 use mps_read::{Feed, Reader};
 use spec_server::BasisFault;
 use std::alloc::{AllocError, Global};
@@ -60,10 +61,8 @@ fn begin_file(alloc: Global, model: Model) -> Result<Step<BasisStage, BasisSaid>
                 reader,
             })))
         }
-        Err(FormStop::Clash(_) | FormStop::Past(_)) => {
-            Ok(Step::Says(Ok(Handed { model, start: None })))
-        }
-        Err(FormStop::NoMemory) => Err(AllocError),
+        Err(Stop::Cause(_) | Stop::Past(_)) => Ok(Step::Says(Ok(Handed { model, start: None }))),
+        Err(Stop::NoMemory) => Err(AllocError),
     }
 }
 

@@ -23,7 +23,7 @@ returns-in-Err-Past-clause-answer c =
     (past_stops c.args.budget c.args.model.now c.args.form.now c.requires c.in-Err-Past.field-0 _
     c.in-Err-Past.field-0-is c.in-Err-Past.ensures.run)
 
-pub returns-in-Err-Spent-clause-answer : goal.returns-in-Err-Spent-clause-answer
-returns-in-Err-Spent-clause-answer c =
-    spent_stops c.args.budget c.args.model.now c.args.form.now c.requires c.in-Err-Spent.field-0
-    c.in-Err-Spent.field-0-is c.in-Err-Spent.ensures.run
+pub returns-in-Err-Cause-clause-answer : goal.returns-in-Err-Cause-clause-answer
+returns-in-Err-Cause-clause-answer c =
+    spent_stops c.args.budget c.args.model.now c.args.form.now c.requires c.in-Err-Cause.field-0 _
+    c.in-Err-Cause.field-0-is c.in-Err-Cause.ensures.run

@@ -10,13 +10,13 @@ solve_formed-requires-clause-fits c = fits_form _ _ _ _ _ c.in-Ok.ensures.ok c.r
 
 pub answered-requires-clause-fits : goal.answered-requires-clause-fits
 answered-requires-clause-fits c =
-    rw c.in-Err-Clash.j-is (clash_fits _ c.args.budget _ _
-    (form_clash _ _ _ c.in-Err-Clash.field-0-is c.in-Err-Clash.ensures.err))
+    rw c.in-Err-Cause.clash-is (clash_fits _ c.args.budget _ _
+    (form_clash _ _ _ c.in-Err-Cause.field-0-is c.in-Err-Cause.ensures.err))
 
-pub returns-in-Err-Clash-clause-answer : goal.returns-in-Err-Clash-clause-answer
-returns-in-Err-Clash-clause-answer c =
-    let stop = form_clash _ _ _ c.in-Err-Clash.field-0-is c.in-Err-Clash.ensures.err in
-    let answered = rw c.in-Err-Clash.j-is at c.answered.ensures.answer in
+pub returns-in-Err-Cause-clause-answer : goal.returns-in-Err-Cause-clause-answer
+returns-in-Err-Cause-clause-answer c =
+    let stop = form_clash _ _ _ c.in-Err-Cause.field-0-is c.in-Err-Cause.ensures.err in
+    let answered = rw c.in-Err-Cause.clash-is at c.answered.ensures.answer in
     c.cold.ensures
     ∙ solves_cold (Some largest) c.args.budget c.args.model.now _ c.args.handed _
     (nothing_handed (Some largest) c.args.model.now _ c.args.handed _ stop c.requires)

@@ -7,11 +7,11 @@ use Rattle.lp_frac.specs.Narrow.{largest}
 use Rattle.lp_solve.proofs.WarmRuns.{is_singular, is_past, start_stops, fit_refused, runs_by}
 use Rattle.lp_solve.proofs.warm.from_basis.Goals as goal
 
-pub returns-in-Err-Singular-clause-answer : goal.returns-in-Err-Singular-clause-answer
-returns-in-Err-Singular-clause-answer c =
+pub returns-in-Err-Cause-clause-answer : goal.returns-in-Err-Cause-clause-answer
+returns-in-Err-Cause-clause-answer c =
     ap (after_run (Some largest) c.args.model.now)
     (sym (start_stops (Some largest) c.args.budget c.args.form.now c.args.basis.now begun.Singular
-    (is_singular _ _ c.in-Err-Singular.field-0-is c.in-Err-Singular.ensures.err)))
+    (is_singular _ _ _ c.in-Err-Cause.field-0-is c.in-Err-Cause.ensures.err)))
 
 pub returns-in-Err-Past-clause-answer : goal.returns-in-Err-Past-clause-answer
 returns-in-Err-Past-clause-answer c =

@@ -10,11 +10,9 @@ returns-in_err-limits-clause-err c =
     let p = err_from_is_err_and c.from_residual.result c.from_residual.ensures.1 in
     rw (p.1, p.2) (limits_stop _ _ _ c.in_err-limits.ensures.err)
 
-pub returns-in_err-first_clash-clause-err : goal.returns-in_err-first_clash-clause-err
-returns-in_err-first_clash-clause-err c =
-    let p =
-    err_from_is_err_and c.from_residual-in_err-first_clash.result c.from_residual-in_err-first_clash.ensures.1 in
-    rw (p.1, p.2) (clash_is _ _ _ c.in_ok-limits.ensures.ok _ (sym c.in_err-first_clash.ensures))
+pub returns-in-Err-clause-err : goal.returns-in-Err-clause-err
+returns-in-Err-clause-err c =
+    rw c.stop_of.ensures (clash_is _ _ _ c.in_ok-limits.ensures.ok _ (sym c.first_clash.ensures ∙ c.in-Err.is))
 
 pub new-requires : goal.new-requires
 new-requires c =
@@ -29,7 +27,7 @@ new-requires c =
 pub returns-clause-ok : goal.returns-clause-ok
 returns-clause-ok c =
     let m = c.args.model.now in
-    form_is _ _ _ c.in_ok-limits.ensures.ok _ (sym c.in_ok-first_clash.ensures)
+    form_is _ _ _ c.in_ok-limits.ensures.ok _ (sym c.first_clash.ensures ∙ c.in_default.is)
     (c.new.ensures
     ∙ parts_are m c.in_ok-limits.limits.items _ _ _ _ _ _
     c.rows.ensures.value c.cols.ensures.value c.in_ok-entries.ensures.value

@@ -1,0 +1,37 @@
+// Why something is not made of fractions.
+ghost use Rattle.std.specs.Prelude.{◌≡◌};
+ghost use Rattle.lp_frac.specs.declared.stop.Stop.TheVariants as stop;
+
+use crate::frac::Past;
+use std::alloc::AllocError;
+use std::fmt::{Debug, Display};
+use thiserror::Error;
+
+/// Why something is not made: for a cause of its own, for an operation that is refused, or for want of memory.
+#[derive(Clone, Copy, Debug, PartialEq, Eq, Error)]
+#[error_bound(C: Debug + Display)]
+pub enum Stop<C> {
+    #[error("{0}")]
+    Cause(C),
+    /// The operation that is past 127 bits.
+    #[error("{0}")]
+    Past(Past),
+    #[error("out of memory")]
+    NoMemory,
+}
+
+impl<C> From<Past> for Stop<C> {
+    ghost from_gives = { λ p e. e ≡ stop.Past p };
+
+    fn from(p: Past) -> Self {
+        Stop::Past(p)
+    }
+}
+
+impl<C> From<AllocError> for Stop<C> {
+    ghost from_gives = { λ _ e. e ≡ stop.NoMemory };
+
+    fn from(_: AllocError) -> Self {
+        Stop::NoMemory
+    }
+}
