@@ -12,7 +12,7 @@ use Rattle.spec_server.specs.declared.halves.Started.TheVariants as started
 use Rattle.spec_server.specs.declared.halves.Next.TheVariants as goes
 use Rattle.spec_server.specs.Machine.{ExactAsk}
 use Rattle.spec_server.specs.Halves.{Awaits, Nothing, WhatIsFound, WhatBecameOf, Standing, StartFits, MayBeFound}
-use Rattle.spec_server.specs.Halves.{NextFits, IsPutAwaited, PutFits}
+use Rattle.spec_server.specs.Halves.{NextFits, PutFits}
 use Rattle.spec_server.specs.Machine.{ExactReply, State}
 use Rattle.spec_server.specs.Step.{Pending, answered, after_put}
 use Rattle.spec_world.specs.declared.event.Act.TheVariants as act
@@ -20,53 +20,15 @@ use Rattle.spec_world.specs.declared.event.StepEnd.TheVariants.{Quiet, Replied}
 use Rattle.spec_world.specs.World.{ExactAct, ExactEnd}
 use Rattle.lp_core.specs.declared.stage.Stage.{Stage}
 use Rattle.lp_core.specs.declared.stage.Stage.TheVariants as stage
-use Rattle.lp_core.specs.Stages.{is_idle_in, counts_in, sees_in, shape_in, solving_in, puts_in, claims_in, writes_in}
-use Rattle.lp_core.specs.Stages.{words_in, looking_at}
+use Rattle.lp_core.specs.Stages.{looking_at}
 use Rattle.lp_core.specs.Looks.{seen_at, words_at}
 use Rattle.lp_core.specs.Looks as looks
-use Rattle.lp_core.specs.Core.{AreFormed, IsPending, with_pending, Step, Idle, Counts, Sees, Solving, Puts, Claims}
+use Rattle.lp_core.specs.Core.{AreFormed, IsPending, with_pending, Step, Idle, Puts, Claims}
 use Rattle.lp_core.specs.Core.{Writes, step_of, Agrees, Kept, ActFits}
 use Rattle.lp_core.proofs.Acts.{reply_fits, look_fits, count_fits, see_fits, ends_fit, publishes_fit, full_fits}
 use Rattle.lp_core.proofs.Acts.{claims_fit, wins_fit, raced_fits, done_fits}
 
 -- ---- the step, by the stage
-
-idle_step : (st : Stage) (aw : Awaits) → is_idle_in st ≡ true → step_of st aw ≡ Idle
-idle_step stage.Idle aw e = refl
-idle_step (stage.Counts shape) aw e = cc
-idle_step (stage.Sees shape k) aw e = cc
-idle_step (stage.Solving found) aw e = cc
-idle_step (stage.Puts words) aw e = cc
-idle_step (stage.Claims words c) aw e = cc
-idle_step (stage.Writes words k) aw e = cc
-
-counts_step : (st : Stage) (aw : Awaits) (shape : List ℕ) → counts_in st ≡ Some shape → step_of st aw ≡ Counts shape
-counts_step stage.Idle aw shape e = cc
-counts_step (stage.Counts other) aw shape e = cc
-counts_step (stage.Sees other k) aw shape e = cc
-counts_step (stage.Solving found) aw shape e = cc
-counts_step (stage.Puts words) aw shape e = cc
-counts_step (stage.Claims words c) aw shape e = cc
-counts_step (stage.Writes words k) aw shape e = cc
-
-sees_step : (st : Stage) (aw : Awaits) (shape : List ℕ) (k : ℕ) → sees_in st ≡ Some k → shape_in st ≡ Some shape →
-    step_of st aw ≡ Sees shape k
-sees_step stage.Idle aw shape k e f = cc
-sees_step (stage.Counts other) aw shape k e f = cc
-sees_step (stage.Sees other j) aw shape k e f = cc
-sees_step (stage.Solving found) aw shape k e f = cc
-sees_step (stage.Puts words) aw shape k e f = cc
-sees_step (stage.Claims words c) aw shape k e f = cc
-sees_step (stage.Writes words j) aw shape k e f = cc
-
-solving_step : (st : Stage) (aw : Awaits) (found : Looked) → solving_in st ≡ Some found → step_of st aw ≡ Solving found
-solving_step stage.Idle aw found e = cc
-solving_step (stage.Counts other) aw found e = cc
-solving_step (stage.Sees other j) aw found e = cc
-solving_step (stage.Solving other) aw found e = cc
-solving_step (stage.Puts words) aw found e = cc
-solving_step (stage.Claims words c) aw found e = cc
-solving_step (stage.Writes words j) aw found e = cc
 
 -- what is pending, at a stage of a put
 pub record HasPending (aw : Awaits) (words : Words) (step : Pending → Step) (is : Step) : Type 0 where
@@ -76,56 +38,37 @@ pub record HasPending (aw : Awaits) (words : Words) (step : Pending → Step) (i
   pub formed : IsWellFormed words
   pub step_so : is ≡ step pending
 
--- it is pending, whichever put it is
-has_pending : (aw : Awaits) (other words : Words) (step : Pending → Step) → IsPending aw other → other ≡ words →
+has_pending : (aw : Awaits) (words : Words) (step : Pending → Step) → IsPending aw words →
     HasPending aw words step (with_pending aw step)
-has_pending Nothing other words step a same = absurd a
-has_pending (WhatIsFound shape) other words step a same = absurd a
-has_pending (WhatBecameOf pending) other words step a same = record {
+has_pending Nothing words step a = absurd a
+has_pending (WhatIsFound shape) words step a = absurd a
+has_pending (WhatBecameOf pending) words step a = record {
   pending = pending;
   awaited = refl;
-  words_so = a.0 ∙ same;
-  formed = subst IsWellFormed same a.1;
+  words_so = a.0;
+  formed = a.1;
   step_so = refl;
 }
 
-puts_step : (st : Stage) (aw : Awaits) (words : Words) → puts_in st ≡ Some words → Agrees st aw →
+-- it is pending, at a stage of which that agrees with what is awaited
+at_stage : (st put : Stage) (aw : Awaits) (words : Words) (step : Pending → Step) → st ≡ put → Agrees st aw →
+    (Agrees put aw → HasPending aw words step (step_of put aw)) → HasPending aw words step (step_of st aw)
+at_stage st put aw words step e a here =
+    subst (λ t. HasPending aw words step (step_of t aw)) (sym e) (here (subst (λ t. Agrees t aw) e a))
+
+puts_step : (st : Stage) (aw : Awaits) (words : Words) → st ≡ stage.Puts words → Agrees st aw →
     HasPending aw words Puts (step_of st aw)
-puts_step stage.Idle aw words e a = cc
-puts_step (stage.Counts other) aw words e a = cc
-puts_step (stage.Sees other j) aw words e a = cc
-puts_step (stage.Solving other) aw words e a = cc
-puts_step (stage.Puts other) aw words e a = let same : other ≡ words = cc in has_pending aw other words Puts a same
-puts_step (stage.Claims other c) aw words e a = cc
-puts_step (stage.Writes other j) aw words e a = cc
+puts_step st aw words e a = at_stage st (stage.Puts words) aw words Puts e a (has_pending aw words Puts)
 
-claims_step : (st : Stage) (aw : Awaits) (words : Words) (c : ℕ) → claims_in st ≡ Some c → words_in st ≡ Some words →
-    Agrees st aw → HasPending aw words (λ p. Claims p c) (step_of st aw)
-claims_step stage.Idle aw words c e f a = cc
-claims_step (stage.Counts other) aw words c e f a = cc
-claims_step (stage.Sees other j) aw words c e f a = cc
-claims_step (stage.Solving other) aw words c e f a = cc
-claims_step (stage.Puts other) aw words c e f a = cc
-claims_step (stage.Claims other d) aw words c e f a =
-    let same : other ≡ words = cc in
-    let at : d ≡ c = cc in
-    subst (λ n. HasPending aw words (λ p. Claims p n) (with_pending aw (λ p. Claims p d))) at
-    (has_pending aw other words (λ p. Claims p d) a same)
-claims_step (stage.Writes other j) aw words c e f a = cc
+claims_step : (st : Stage) (aw : Awaits) (words : Words) (c : ℕ) → st ≡ stage.Claims words c → Agrees st aw →
+    HasPending aw words (λ p. Claims p c) (step_of st aw)
+claims_step st aw words c e a =
+    at_stage st (stage.Claims words c) aw words (λ p. Claims p c) e a (has_pending aw words (λ p. Claims p c))
 
-writes_step : (st : Stage) (aw : Awaits) (words : Words) (k : ℕ) → writes_in st ≡ Some k → words_in st ≡ Some words →
-    Agrees st aw → HasPending aw words (λ p. Writes p k) (step_of st aw)
-writes_step stage.Idle aw words k e f a = cc
-writes_step (stage.Counts other) aw words k e f a = cc
-writes_step (stage.Sees other j) aw words k e f a = cc
-writes_step (stage.Solving other) aw words k e f a = cc
-writes_step (stage.Puts other) aw words k e f a = cc
-writes_step (stage.Claims other d) aw words k e f a = cc
-writes_step (stage.Writes other d) aw words k e f a =
-    let same : other ≡ words = cc in
-    let at : d ≡ k = cc in
-    subst (λ n. HasPending aw words (λ p. Writes p n) (with_pending aw (λ p. Writes p d))) at
-    (has_pending aw other words (λ p. Writes p d) a same)
+writes_step : (st : Stage) (aw : Awaits) (words : Words) (k : ℕ) → st ≡ stage.Writes words k → Agrees st aw →
+    HasPending aw words (λ p. Writes p k) (step_of st aw)
+writes_step st aw words k e a =
+    at_stage st (stage.Writes words k) aw words (λ p. Writes p k) e a (has_pending aw words (λ p. Writes p k))
 
 -- ---- acts
 
@@ -142,53 +85,52 @@ module _ (limit me : ℕ) (now : List ExactPlace) (old : Kept) (x : State) (st :
       ActFits limit me here now a end new next → ActFits limit me old now a end new next
   at_old a end new next h = subst (λ o. ActFits limit me o now a end new next) view h
 
-  pub ask_replies : (asked : ExactAsk) (replied : ExactReply) (s : Standing) → is_idle_in st ≡ true →
+  pub ask_replies : (asked : ExactAsk) (replied : ExactReply) (s : Standing) → st ≡ stage.Idle →
       StartFits x asked (started.Reply replied) s →
       ActFits limit me old now (act.Ask asked) (Replied me replied) (kept_of s st) now
   ask_replies asked replied s idle fits =
       at_old (act.Ask asked) (Replied me replied) (kept_of s st) now
       (subst (λ step. ActFits limit me here now (act.Ask asked) (Replied me replied)
-      (record { state = s.state; step = step }) now) (sym (idle_step st s.awaits idle))
-      (reply_fits limit me now here asked replied s.state (idle_step st aw idle) fits.0))
+      (record { state = s.state; step = step }) now) (sym (ap (λ t. step_of t s.awaits) idle))
+      (reply_fits limit me now here asked replied s.state (ap (λ t. step_of t aw) idle) fits.0))
 
-  pub ask_looks : (asked : ExactAsk) (shape : Words) (s : Standing) → is_idle_in st ≡ true →
+  pub ask_looks : (asked : ExactAsk) (shape : Words) (s : Standing) → st ≡ stage.Idle →
       StartFits x asked (started.Look shape) s →
       ActFits limit me old now (act.Ask asked) Quiet (kept_of s (stage.Counts shape)) now
   ask_looks asked shape s idle fits =
       at_old (act.Ask asked) Quiet (kept_of s (stage.Counts shape)) now
       (subst (λ (y : Standing). ActFits limit me here now (act.Ask asked) Quiet (kept_of y (stage.Counts shape)) now)
-      (sym fits.1) (look_fits limit me now here asked shape (idle_step st aw idle) fits.0))
+      (sym fits.1) (look_fits limit me now here asked shape (ap (λ t. step_of t aw) idle) fits.0))
 
-  pub counts_on : (shape : Words) (st' : Stage) → counts_in st ≡ Some shape → st' ≡ looking_at shape (length now) →
+  pub counts_on : (shape : Words) (st' : Stage) → st ≡ stage.Counts shape → st' ≡ looking_at shape (length now) →
       ActFits limit me old now act.Count Quiet (record { state = x; step = step_of st' aw }) now
   counts_on shape st' counts is =
       at_old act.Count Quiet (record { state = x; step = step_of st' aw }) now
       (subst (λ y. ActFits limit me here now act.Count Quiet (record { state = x; step = step_of y aw }) now) (sym is)
-      (count_fits limit me now here shape aw (counts_step st aw shape counts)))
+      (count_fits limit me now here shape aw (ap (λ t. step_of t aw) counts)))
 
-  pub sees_on : (shape : Words) (k j : ℕ) (words : Option Words) (st' : Stage) → sees_in st ≡ Some k →
-      shape_in st ≡ Some shape → j ≡ k → words ≡ words_at now k → st' ≡ seen_at shape k words →
+  pub sees_on : (shape : Words) (k j : ℕ) (words : Option Words) (st' : Stage) → st ≡ stage.Sees shape k → j ≡ k → words ≡ words_at now k → st' ≡ seen_at shape k words →
       ActFits limit me old now (act.See j) Quiet (record { state = x; step = step_of st' aw }) now
-  sees_on shape k j words st' sees shapes same read is =
+  sees_on shape k j words st' sees same read is =
       at_old (act.See j) Quiet (record { state = x; step = step_of st' aw }) now
       (subst (λ y. ActFits limit me here now (act.See j) Quiet (record { state = x; step = step_of y aw }) now)
       (sym (is ∙ ap (seen_at shape k) read))
-      (see_fits limit me now here shape k j aw (sees_step st aw shape k sees shapes) same))
+      (see_fits limit me now here shape k j aw (ap (λ t. step_of t aw) sees) same))
 
-  pub works_reply : (found : Looked) (replied : ExactReply) (s : Standing) → solving_in st ≡ Some found →
+  pub works_reply : (found : Looked) (replied : ExactReply) (s : Standing) → st ≡ stage.Solving found →
       NextFits x found (goes.Reply replied) s →
       ActFits limit me old now act.Work (Replied me replied) (kept_of s stage.Idle) now
   works_reply found replied s solving fits =
       at_old act.Work (Replied me replied) (kept_of s stage.Idle) now
-      (ends_fit limit me now here found replied s.state (solving_step st aw found solving) fits.0)
+      (ends_fit limit me now here found replied s.state (ap (λ t. step_of t aw) solving) fits.0)
 
-  pub works_publish : (found : Looked) (words : Words) (s : Standing) → solving_in st ≡ Some found →
+  pub works_publish : (found : Looked) (words : Words) (s : Standing) → st ≡ stage.Solving found →
       NextFits x found (goes.Publish words) s →
       ActFits limit me old now act.Work Quiet (kept_of s (stage.Puts words)) now
   works_publish found words s solving p =
       at_old act.Work Quiet (kept_of s (stage.Puts words)) now
       (subst (λ (y : Standing). ActFits limit me here now act.Work Quiet (kept_of y (stage.Puts words)) now)
-      (sym p.awaited) (publishes_fit limit me now here found p.pending (solving_step st aw found solving) p.works))
+      (sym p.awaited) (publishes_fit limit me now here found p.pending (ap (λ t. step_of t aw) solving) p.works))
 
   -- ---- puts
 
@@ -206,7 +148,7 @@ module _ (limit me : ℕ) (now : List ExactPlace) (old : Kept) (x : State) (st :
         (subst (λ (y : Standing). ActFits limit me here now a (Replied me (answered x pending.end))
         (kept_of y stage.Idle) next) (sym p.1) h))
 
-    pub puts_full : (words : Words) → puts_in st ≡ Some words → Agrees st aw → length now ≡ limit →
+    pub puts_full : (words : Words) → st ≡ stage.Puts words → Agrees st aw → length now ≡ limit →
         PutFits x aw (Full (length now)) r s →
         ActFits limit me old now act.Count (Replied me r) (kept_of s stage.Idle) now
     puts_full words is agrees full puts =
@@ -214,28 +156,27 @@ module _ (limit me : ℕ) (now : List ExactPlace) (old : Kept) (x : State) (st :
         put_ends act.Count (Full (length now)) now p.pending p.awaited puts
         (full_fits limit me now here p.pending p.step_so full)
 
-    pub puts_raced : (words : Words) (c n : ℕ) → claims_in st ≡ Some c → words_in st ≡ Some words → Agrees st aw →
+    pub puts_raced : (words : Words) (c n : ℕ) → st ≡ stage.Claims words c → Agrees st aw →
         n ≡ length now → (n ≡ c → ⊥) → PutFits x aw (Raced n) r s →
         ActFits limit me old now act.Claim (Replied me r) (kept_of s stage.Idle) now
-    puts_raced words c n is is_words agrees counted lost puts =
-        let p = claims_step st aw words c is is_words agrees in
+    puts_raced words c n is agrees counted lost puts =
+        let p = claims_step st aw words c is agrees in
         put_ends act.Claim (Raced (length now)) now p.pending p.awaited
         (subst (λ m. PutFits x aw (Raced m) r s) counted puts)
         (raced_fits limit me now here p.pending c p.step_so (subst (λ m. m ≡ c → ⊥) counted lost))
 
-    pub puts_done : (words : Words) (k : ℕ) (next : List ExactPlace) → writes_in st ≡ Some k →
-        words_in st ≡ Some words → Agrees st aw → PutFits x aw (Published k) r s →
+    pub puts_done : (words : Words) (k : ℕ) (next : List ExactPlace) → st ≡ stage.Writes words k → Agrees st aw → PutFits x aw (Published k) r s →
         next ≡ with_place now k (place.Done words) →
         ActFits limit me old now act.Done (Replied me r) (kept_of s stage.Idle) next
-    puts_done words k next is is_words agrees puts places =
-        let p = writes_step st aw words k is is_words agrees in
+    puts_done words k next is agrees puts places =
+        let p = writes_step st aw words k is agrees in
         put_ends act.Done (Published k) next p.pending p.awaited puts
         (subst (λ ps. ActFits limit me here now act.Done (Replied me (answered x p.pending.end))
         (record { state = after_put x p.pending (Published k); step = Idle }) ps)
         (sym (places ∙ ap (λ ws. with_place now k (place.Done ws)) (sym p.words_so)))
         (done_fits limit me now here p.pending k p.step_so))
 
-  pub puts_claim : (words : Words) → puts_in st ≡ Some words → Agrees st aw → (length now ≡ limit → ⊥) →
+  pub puts_claim : (words : Words) → st ≡ stage.Puts words → Agrees st aw → (length now ≡ limit → ⊥) →
       ActFits limit me old now act.Count Quiet
       (record { state = x; step = step_of (stage.Claims words (length now)) aw }) now
   puts_claim words is agrees room =
@@ -245,11 +186,10 @@ module _ (limit me : ℕ) (now : List ExactPlace) (old : Kept) (x : State) (st :
       (record { state = x; step = step_of (stage.Claims words (length now)) w }) now) (sym p.awaited)
       (claims_fit limit me now here p.pending p.step_so room))
 
-  pub claims_win : (words : Words) (c : ℕ) (next : List ExactPlace) → claims_in st ≡ Some c →
-      words_in st ≡ Some words → Agrees st aw → length now ≡ c → next ≡ now ++ place.Claimed me ∷ [] →
+  pub claims_win : (words : Words) (c : ℕ) (next : List ExactPlace) → st ≡ stage.Claims words c → Agrees st aw → length now ≡ c → next ≡ now ++ place.Claimed me ∷ [] →
       ActFits limit me old now act.Claim Quiet (record { state = x; step = step_of (stage.Writes words c) aw }) next
-  claims_win words c next is is_words agrees won places =
-      let p = claims_step st aw words c is is_words agrees in
+  claims_win words c next is agrees won places =
+      let p = claims_step st aw words c is agrees in
       at_old act.Claim Quiet (record { state = x; step = step_of (stage.Writes words c) aw }) next
       (subst (λ ps. ActFits limit me here now act.Claim Quiet
       (record { state = x; step = step_of (stage.Writes words c) aw }) ps) (sym places)
@@ -260,25 +200,9 @@ module _ (limit me : ℕ) (now : List ExactPlace) (old : Kept) (x : State) (st :
 -- ---- what the session awaits afterwards
 
 -- where it is in a look
-pub counts_agree : (st : Stage) (aw : Awaits) (shape : Words) → counts_in st ≡ Some shape → Agrees st aw →
+pub sees_agree : (st : Stage) (aw : Awaits) (shape : Words) (k : ℕ) → st ≡ stage.Sees shape k → Agrees st aw →
     aw ≡ WhatIsFound shape
-counts_agree stage.Idle aw shape e a = cc
-counts_agree (stage.Counts other) aw shape e a = let same : other ≡ shape = cc in a ∙ ap WhatIsFound same
-counts_agree (stage.Sees other k) aw shape e a = cc
-counts_agree (stage.Solving found) aw shape e a = cc
-counts_agree (stage.Puts words) aw shape e a = cc
-counts_agree (stage.Claims words c) aw shape e a = cc
-counts_agree (stage.Writes words k) aw shape e a = cc
-
-pub sees_agree : (st : Stage) (aw : Awaits) (shape : Words) → shape_in st ≡ Some shape → Agrees st aw →
-    aw ≡ WhatIsFound shape
-sees_agree stage.Idle aw shape e a = cc
-sees_agree (stage.Counts other) aw shape e a = cc
-sees_agree (stage.Sees other k) aw shape e a = let same : other ≡ shape = cc in a ∙ ap WhatIsFound same
-sees_agree (stage.Solving found) aw shape e a = cc
-sees_agree (stage.Puts words) aw shape e a = cc
-sees_agree (stage.Claims words c) aw shape e a = cc
-sees_agree (stage.Writes words k) aw shape e a = cc
+sees_agree st aw shape k e a = subst (λ t. Agrees t aw) e a
 
 pub looking_agrees : (shape : Words) (n : ℕ) (st : Stage) (aw : Awaits) → aw ≡ WhatIsFound shape →
     st ≡ looking_at shape n → Agrees st aw
@@ -307,45 +231,11 @@ seen_agrees shape k now words st aw e formed read is =
     by (Some (place.Done ws)) at = by_shape ws at (has_shape shape ws) refl
 
 -- a put goes on with the same words
-pub puts_agree : (st : Stage) (aw : Awaits) (words : Words) → puts_in st ≡ Some words → Agrees st aw →
+pub writes_agree : (st : Stage) (aw : Awaits) (words : Words) (k : ℕ) → st ≡ stage.Writes words k → Agrees st aw →
     IsPending aw words
-puts_agree stage.Idle aw words e a = cc
-puts_agree (stage.Counts other) aw words e a = cc
-puts_agree (stage.Sees other k) aw words e a = cc
-puts_agree (stage.Solving found) aw words e a = cc
-puts_agree (stage.Puts other) aw words e a = let same : other ≡ words = cc in subst (IsPending aw) same a
-puts_agree (stage.Claims other c) aw words e a = cc
-puts_agree (stage.Writes other k) aw words e a = cc
-
-pub words_agree : (st : Stage) (aw : Awaits) (words : Words) → words_in st ≡ Some words → Agrees st aw →
-    IsPending aw words
-words_agree stage.Idle aw words e a = cc
-words_agree (stage.Counts other) aw words e a = cc
-words_agree (stage.Sees other k) aw words e a = cc
-words_agree (stage.Solving found) aw words e a = cc
-words_agree (stage.Puts other) aw words e a = cc
-words_agree (stage.Claims other c) aw words e a = let same : other ≡ words = cc in subst (IsPending aw) same a
-words_agree (stage.Writes other k) aw words e a = let same : other ≡ words = cc in subst (IsPending aw) same a
+writes_agree st aw words k e a = subst (λ t. Agrees t aw) e a
 
 pub pending_formed : (aw : Awaits) (words : Words) → IsPending aw words → IsWellFormed words
 pending_formed Nothing words p = absurd p
 pending_formed (WhatIsFound shape) words p = absurd p
 pending_formed (WhatBecameOf pending) words p = p.1
-
-pub pending_awaited : (aw : Awaits) (words : Words) → IsPending aw words → IsPutAwaited aw
-pending_awaited Nothing words p = absurd p
-pending_awaited (WhatIsFound shape) words p = absurd p
-pending_awaited (WhatBecameOf pending) words p = tt
-
-pub published_agrees : (x : State) (found : Looked) (words : Words) (s : Standing) →
-    NextFits x found (goes.Publish words) s →
-    IsPending s.awaits words
-published_agrees x found words s p =
-    subst (λ (y : Standing). IsPending y.awaits words) (sym p.awaited) (p.words_so, p.formed)
-
-pub put_rests : (x : State) (aw : Awaits) (put : Put) (r : ExactReply) (s : Standing) (words : Words) →
-    IsPending aw words →
-    PutFits x aw put r s → s.awaits ≡ Nothing
-put_rests x Nothing put r s words p h = absurd p
-put_rests x (WhatIsFound shape) put r s words p h = absurd p
-put_rests x (WhatBecameOf pending) put r s words p h = ap (λ (y : Standing). y.awaits) h.1

@@ -131,9 +131,9 @@ module _ (held : List Kept) (places : List ExactPlace) (limit me : ℕ) (from : 
           by_act w a end new next shows (fits_stage (w.sessions me).stage a) refl
           (fits (length held) (w.sessions me) keeps)
 
-  -- an act that only reads the places
-  pub reads_step : (core : Core) (a e : ExactAct) (end : ExactEnd) (new : Kept) (seen : List ExactPlace) →
-      old ≡ core → e ≡ a → seen ≡ places → ActFits limit me kept seen a end new seen →
-      StepFits core (record { session = me; act = e }) end (after new places)
-  reads_step core a e end new seen view same all fits =
-      act_steps core a e end new places view same (subst (λ ps. ActFits limit me kept ps a end new ps) all fits)
+-- an act that only reads the places
+pub reads_fit : (limit me : ℕ) (old new : Kept) (now seen : List ExactPlace) (a e : ExactAct) (end : ExactEnd) → e ≡ a →
+    seen ≡ now → ActFits limit me old seen a end new seen → ActFits limit me old now e end new now
+reads_fit limit me old new now seen a e end same all fits =
+    subst (λ b. ActFits limit me old now b end new now) (sym same)
+    (subst (λ ps. ActFits limit me old ps a end new ps) all fits)

@@ -14,7 +14,7 @@ use lp_line::{Ask, Reply};
 use lp_session::Session;
 use spec_reads::{Found, Place, Put};
 use spec_server::{Next, Started};
-use spec_world::StepEnd;
+use spec_world::{Act, StepEnd};
 use std::alloc::Global;
 use std::marker::Model;
 
@@ -86,8 +86,37 @@ impl Seat {
         }
     }
 
-    /// It is asked.
-    pub fn ask(
+    /// It does what the act says.
+    pub fn act(
+        &mut self,
+        alloc: Global,
+        me: u32,
+        limit: u32,
+        places: &mut Vec<Place<[u64; 49]>>,
+        act: Act<Ask>,
+    ) -> StepEnd<Reply>
+        requires below { IsBelow limit self.old.step }
+        requires few { length places.old.items ≤ limit }
+        requires room { limit ≤ vec_capacity places.old }
+        requires formed { AreFormed places.old.items }
+        ensures fits { ActFits limit me self.old places.old.items act result self.new places.new.items }
+        ensures below { IsBelow limit self.new.step }
+        ensures few { length places.new.items ≤ limit }
+        ensures room { limit ≤ vec_capacity places.new }
+        ensures formed { AreFormed places.new.items }
+    {
+        match act {
+            Act::Ask(ask) => self.ask(alloc, me, limit, places.as_slice(), ask),
+            Act::Count => self.count(me, limit, places.as_slice()),
+            Act::See(place) => self.see(me, limit, places.as_slice(), place),
+            Act::Work => self.work(alloc, me, limit, places.as_slice()),
+            Act::Claim => self.claim(me, limit, places),
+            Act::Done => self.done(me, limit, places),
+        }
+    }
+
+    // It is asked.
+    fn ask(
         &mut self,
         alloc: Global,
         me: u32,
@@ -98,9 +127,9 @@ impl Seat {
         ensures fits { ActFits limit me self.old places.now (acts.Ask ask) result self.new places.now }
         ensures below { IsBelow limit self.old.step → IsBelow limit self.new.step }
     {
-        if !self.stage.is_idle() {
+        let Stage::Idle = self.stage else {
             return StepEnd::Not;
-        }
+        };
         match self.session.start(alloc, ask) {
             Started::Reply(reply) => StepEnd::Replied(me, reply),
             Started::Look(shape) => {
@@ -110,45 +139,38 @@ impl Seat {
         }
     }
 
-    /// It reads how many places are claimed.
-    pub fn count(&mut self, me: u32, limit: u32, places: &[Place<[u64; 49]>]) -> StepEnd<Reply>
+    // It reads how many places are claimed.
+    fn count(&mut self, me: u32, limit: u32, places: &[Place<[u64; 49]>]) -> StepEnd<Reply>
         requires { length places.now ≤ limit }
         ensures fits { ActFits limit me self.old places.now acts.Count result self.new places.now }
         ensures below { IsBelow limit self.old.step → IsBelow limit self.new.step }
     {
         let count = places.len() as u32;
-        if let Some(shape) = self.stage.counts() {
-            self.stage = looking(shape, count);
-            return StepEnd::Quiet;
+        match self.stage {
+            Stage::Counts(shape) => {
+                self.stage = looking(shape, count);
+                StepEnd::Quiet
+            }
+            Stage::Puts(words) => {
+                if count == limit {
+                    let reply = self.session.put(Put::Full(count));
+                    self.stage = Stage::Idle;
+                    return StepEnd::Replied(me, reply);
+                }
+                self.stage = Stage::Claims(words, count);
+                StepEnd::Quiet
+            }
+            _ => StepEnd::Not,
         }
-        let Some(words) = self.stage.puts() else {
-            return StepEnd::Not;
-        };
-        if count == limit {
-            let reply = self.session.put(Put::Full(count));
-            self.stage = Stage::Idle;
-            return StepEnd::Replied(me, reply);
-        }
-        self.stage = Stage::Claims(words, count);
-        StepEnd::Quiet
     }
 
-    /// It reads this place.
-    pub fn see(
-        &mut self,
-        me: u32,
-        limit: u32,
-        places: &[Place<[u64; 49]>],
-        at: u32,
-    ) -> StepEnd<Reply>
+    // It reads this place.
+    fn see(&mut self, me: u32, limit: u32, places: &[Place<[u64; 49]>], at: u32) -> StepEnd<Reply>
         requires formed { AreFormed places.now }
         ensures fits { ActFits limit me self.old places.now (acts.See at) result self.new places.now }
         ensures below { IsBelow limit self.old.step → IsBelow limit self.new.step }
     {
-        let Some(place) = self.stage.sees() else {
-            return StepEnd::Not;
-        };
-        let Some(shape) = self.stage.shape() else {
+        let Stage::Sees(shape, place) = self.stage else {
             return StepEnd::Not;
         };
         if at != place {
@@ -158,8 +180,8 @@ impl Seat {
         StepEnd::Quiet
     }
 
-    /// It solves.
-    pub fn work(
+    // It solves.
+    fn work(
         &mut self,
         alloc: Global,
         me: u32,
@@ -169,7 +191,7 @@ impl Seat {
         ensures fits { ActFits limit me self.old places.now acts.Work result self.new places.now }
         ensures below { IsBelow limit self.old.step → IsBelow limit self.new.step }
     {
-        let Some(found) = self.stage.solving() else {
+        let Stage::Solving(found) = self.stage else {
             return StepEnd::Not;
         };
         match self.session.found(alloc, found) {
@@ -184,13 +206,8 @@ impl Seat {
         }
     }
 
-    /// It claims a place.
-    pub fn claim(
-        &mut self,
-        me: u32,
-        limit: u32,
-        places: &mut Vec<Place<[u64; 49]>>,
-    ) -> StepEnd<Reply>
+    // It claims a place.
+    fn claim(&mut self, me: u32, limit: u32, places: &mut Vec<Place<[u64; 49]>>) -> StepEnd<Reply>
         requires below { IsBelow limit self.old.step }
         requires few { length places.old.items ≤ limit }
         requires room { limit ≤ vec_capacity places.old }
@@ -201,10 +218,7 @@ impl Seat {
         ensures room { limit ≤ vec_capacity places.new }
         ensures formed { AreFormed places.new.items }
     {
-        let Some(count) = self.stage.claims() else {
-            return StepEnd::Not;
-        };
-        let Some(words) = self.stage.words() else {
+        let Stage::Claims(words, count) = self.stage else {
             return StepEnd::Not;
         };
         let claimed = places.len() as u32;
@@ -218,13 +232,8 @@ impl Seat {
         StepEnd::Quiet
     }
 
-    /// It writes its place.
-    pub fn done(
-        &mut self,
-        me: u32,
-        limit: u32,
-        places: &mut Vec<Place<[u64; 49]>>,
-    ) -> StepEnd<Reply>
+    // It writes its place.
+    fn done(&mut self, me: u32, limit: u32, places: &mut Vec<Place<[u64; 49]>>) -> StepEnd<Reply>
         requires room { limit ≤ vec_capacity places.old }
         requires few { length places.old.items ≤ limit }
         requires formed { AreFormed places.old.items }
@@ -234,10 +243,7 @@ impl Seat {
         ensures room { limit ≤ vec_capacity places.new }
         ensures formed { AreFormed places.new.items }
     {
-        let Some(place) = self.stage.writes() else {
-            return StepEnd::Not;
-        };
-        let Some(words) = self.stage.words() else {
+        let Stage::Writes(words, place) = self.stage else {
             return StepEnd::Not;
         };
         write(places, place, words);

@@ -6,7 +6,7 @@ ghost use Rattle.lp_core.specs.Core.{StepFits, Follows};
 use crate::seat::Seat;
 use lp_line::{Ask, Reply};
 use spec_reads::Place;
-use spec_world::{Act, Event, StepEnd};
+use spec_world::{Event, StepEnd};
 use std::alloc::{AllocError, Global};
 use std::marker::Model;
 
@@ -70,13 +70,6 @@ impl World {
             return StepEnd::Not;
         }
         let seat = &mut self.seats[number - 1];
-        match act {
-            Act::Ask(ask) => seat.ask(alloc, session, self.limit, &self.places, ask),
-            Act::Count => seat.count(session, self.limit, &self.places),
-            Act::See(place) => seat.see(session, self.limit, &self.places, place),
-            Act::Work => seat.work(alloc, session, self.limit, &self.places),
-            Act::Claim => seat.claim(session, self.limit, &mut self.places),
-            Act::Done => seat.done(session, self.limit, &mut self.places),
-        }
+        seat.act(alloc, session, self.limit, &mut self.places, act)
     }
 }
