@@ -49,57 +49,52 @@ module _ {N : Type 0} (state : N → ListenerState) (board : Board) (each : ℕ)
       (λ i d l. ready (suc i) d (omega (arith, l))) (λ i d l. serves (suc i) d (omega (arith, l))) in
       (first.links ∷ rest.0, (ready 0 old (omega arith), first.served, rest.1))
 
+  -- what holds of none, and of one more whose links were served
+  by_each : (P : List (Worker N) → List (Worker N) → List (List Served) → Type 0) → P [] [] [] →
+      ((old new : Worker N) (links : List Served) (olds news : List (Worker N)) (served : List (List Served)) →
+      IsReady board each old → ServedLinks state board each old new links → P olds news served →
+      P (old ∷ olds) (new ∷ news) (links ∷ served)) →
+      (olds news : List (Worker N)) (served : List (List Served)) → AreServed olds news served → P olds news served
+  by_each P none more [] [] [] so = none
+  by_each P none more [] [] (links ∷ served) so = absurd so
+  by_each P none more [] (new ∷ news) served so = absurd so
+  by_each P none more (old ∷ olds) [] served so = absurd so
+  by_each P none more (old ∷ olds) (new ∷ news) [] so = absurd so
+  by_each P none more (old ∷ olds) (new ∷ news) (links ∷ served) so =
+      more old new links olds news served so.0 so.1 (by_each P none more olds news served so.2)
+
   -- ---- how many there are, how they ended, and what the passes have
 
   pub as_many : (olds news : List (Worker N)) (served : List (List Served)) → AreServed olds news served →
       length served ≡ length olds
-  as_many [] [] [] so = refl
-  as_many [] [] (links ∷ served) so = absurd so
-  as_many [] (new ∷ news) served so = absurd so
-  as_many (old ∷ olds) [] served so = absurd so
-  as_many (old ∷ olds) (new ∷ news) [] so = absurd so
-  as_many (old ∷ olds) (new ∷ news) (links ∷ served) so = ap suc (as_many olds news served so.2)
+  as_many =
+      by_each (λ olds news served. length served ≡ length olds) refl
+      (λ old new links olds news served ready so rest. ap suc rest)
 
   pub news_many : (olds news : List (Worker N)) (served : List (List Served)) → AreServed olds news served →
       length news ≡ length served
-  news_many [] [] [] so = refl
-  news_many [] [] (links ∷ served) so = absurd so
-  news_many [] (new ∷ news) served so = absurd so
-  news_many (old ∷ olds) [] served so = absurd so
-  news_many (old ∷ olds) (new ∷ news) [] so = absurd so
-  news_many (old ∷ olds) (new ∷ news) (links ∷ served) so = ap suc (news_many olds news served so.2)
+  news_many =
+      by_each (λ olds news served. length news ≡ length served) refl
+      (λ old new links olds news served ready so rest. ap suc rest)
 
   pub ends_are : (olds news : List (Worker N)) (served : List (List Served)) → AreServed olds news served →
       map ends_in news ≡ ends_of served
-  ends_are [] [] [] so = refl
-  ends_are [] [] (links ∷ served) so = absurd so
-  ends_are [] (new ∷ news) served so = absurd so
-  ends_are (old ∷ olds) [] served so = absurd so
-  ends_are (old ∷ olds) (new ∷ news) [] so = absurd so
-  ends_are (old ∷ olds) (new ∷ news) (links ∷ served) so =
-      ap (λ es. es ∷ map ends_in news) so.1.ends
-      ∙ ap (λ all. map (λ (x : Served). x.ended) links ∷ all) (ends_are olds news served so.2)
+  ends_are =
+      by_each (λ olds news served. map ends_in news ≡ ends_of served) refl
+      (λ old new links olds news served ready so rest. ap (λ es. es ∷ map ends_in news) so.ends
+      ∙ ap (λ all. map (λ (x : Served). x.ended) links ∷ all) rest)
 
   pub shares_are : (olds news : List (Worker N)) (served : List (List Served)) → AreServed olds news served →
       shares_of (passes_of news) ≡ shares_of (passes_of olds)
-  shares_are [] [] [] so = refl
-  shares_are [] [] (links ∷ served) so = absurd so
-  shares_are [] (new ∷ news) served so = absurd so
-  shares_are (old ∷ olds) [] served so = absurd so
-  shares_are (old ∷ olds) (new ∷ news) [] so = absurd so
-  shares_are (old ∷ olds) (new ∷ news) (links ∷ served) so =
-      let rest = shares_are olds news served so.2 in
-      let share = so.1.share in omega (arith, rest, share)
+  shares_are =
+      by_each (λ olds news served. shares_of (passes_of news) ≡ shares_of (passes_of olds)) refl
+      (λ old new links olds news served ready so rest. let share = so.share in omega (arith, rest, share))
 
   pub passes_are : (olds news : List (Worker N)) (served : List (List Served)) → AreServed olds news served →
       AllByRecursion (IsOf board) (passes_of news)
-  passes_are [] [] [] so = tt
-  passes_are [] [] (links ∷ served) so = absurd so
-  passes_are [] (new ∷ news) served so = absurd so
-  passes_are (old ∷ olds) [] served so = absurd so
-  passes_are (old ∷ olds) (new ∷ news) [] so = absurd so
-  passes_are (old ∷ olds) (new ∷ news) (links ∷ served) so =
-      ((so.1.of_board, so.1.consistent), passes_are olds news served so.2)
+  passes_are =
+      by_each (λ olds news served. AllByRecursion (IsOf board) (passes_of news)) tt
+      (λ old new links olds news served ready so rest. ((so.of_board, so.consistent), rest))
 
   -- ---- one worker
 
@@ -136,57 +131,54 @@ module _ {N : Type 0} (state : N → ListenerState) (board : Board) (each : ℕ)
 
   pub reads_are : (olds news : List (Worker N)) (served : List (List Served)) → AreServed olds news served →
       reads_of_all (passes_of news) ≡ flat_map (flat_map reads_in_all) (exchanges_of served)
-  reads_are [] [] [] so = refl
-  reads_are [] [] (links ∷ served) so = absurd so
-  reads_are [] (new ∷ news) served so = absurd so
-  reads_are (old ∷ olds) [] served so = absurd so
-  reads_are (old ∷ olds) (new ∷ news) [] so = absurd so
-  reads_are (old ∷ olds) (new ∷ news) (links ∷ served) so =
-      ap (λ rs. rs ++ reads_of_all (passes_of news)) (reads_now old new links so.0 so.1)
-      ∙ ap (λ rs. flat_map reads_in_all (exchanges_in links) ++ rs) (reads_are olds news served so.2)
+  reads_are =
+      by_each (λ olds news served. reads_of_all (passes_of news)
+      ≡ flat_map (flat_map reads_in_all) (exchanges_of served)) refl
+      (λ old new links olds news served ready so rest. ap (λ rs. rs ++ reads_of_all (passes_of news))
+      (reads_now old new links ready so)
+      ∙ ap (λ rs. flat_map reads_in_all (exchanges_in links) ++ rs) rest)
 
   pub reads_whole : (olds news : List (Worker N)) (served : List (List Served)) → AreServed olds news served →
       All IsWhole (reads_of_all (passes_of news))
-  reads_whole [] [] [] so = All-nil IsWhole
-  reads_whole [] [] (links ∷ served) so = absurd so
-  reads_whole [] (new ∷ news) served so = absurd so
-  reads_whole (old ∷ olds) [] served so = absurd so
-  reads_whole (old ∷ olds) (new ∷ news) [] so = absurd so
-  reads_whole (old ∷ olds) (new ∷ news) (links ∷ served) so =
-      All-append IsWhole (reads_of new.pass.view) (reads_of_all (passes_of news))
-      (All-from_recursion IsWhole (reads_of new.pass.view) (orderly_now old new links so.0 so.1).whole)
-      (reads_whole olds news served so.2)
+  reads_whole =
+      by_each (λ olds news served. All IsWhole (reads_of_all (passes_of news))) (All-nil IsWhole)
+      (λ old new links olds news served ready so rest. All-append IsWhole (reads_of new.pass.view)
+      (reads_of_all (passes_of news))
+      (All-from_recursion IsWhole (reads_of new.pass.view) (orderly_now old new links ready so).whole) rest)
+
+  abbrev EachAlone : List (List Served) → Type 0
+  EachAlone served = (n w i : ℕ) → 0 < n → i < length served →
+      HasServedAlone board.places (exchanges_of_links n w 0 (get_or (exchanges_of served) i []))
 
   pub each_alone : (olds news : List (Worker N)) (served : List (List Served)) → AreServed olds news served →
-      (n w i : ℕ) → 0 < n → i < length served →
-      HasServedAlone board.places (exchanges_of_links n w 0 (get_or (exchanges_of served) i []))
-  each_alone [] [] [] so n w i some l = absurd (omega (arith, l))
-  each_alone [] [] (links ∷ served) so n w i some l = absurd so
-  each_alone [] (new ∷ news) served so n w i some l = absurd so
-  each_alone (old ∷ olds) [] served so n w i some l = absurd so
-  each_alone (old ∷ olds) (new ∷ news) [] so n w i some l = absurd so
-  each_alone (old ∷ olds) (new ∷ news) (links ∷ served) so n w zero some l =
-      served_alone old new links so.0 so.1 n w some
-  each_alone (old ∷ olds) (new ∷ news) (links ∷ served) so n w (suc i) some l =
-      each_alone olds news served so.2 n w i some (omega (arith, l))
+      EachAlone served
+  each_alone = by_each (λ olds news served. EachAlone served) (λ n w i some l. absurd (omega (arith, l))) more
+    where
+      more : (old new : Worker N) (links : List Served) (olds news : List (Worker N)) (served : List (List Served)) →
+          IsReady board each old → ServedLinks state board each old new links → EachAlone served →
+          EachAlone (links ∷ served)
+      more old new links olds news served ready so rest n w zero some l = served_alone old new links ready so n w some
+      more old new links olds news served ready so rest n w (suc i) some l = rest n w i some (omega (arith, l))
 
   -- ---- the listeners
 
   abbrev pub states_of : List (Worker N) → List ListenerState
   states_of workers = map state (nets_of workers)
 
-  pub each_listened : (olds news : List (Worker N)) (served : List (List Served)) → AreServed olds news served →
-      (i : ℕ) → i < length olds →
+  abbrev EachListened : List (Worker N) → List (Worker N) → List (List Served) → Type 0
+  EachListened olds news served = (i : ℕ) → i < length olds →
       Listened board.places each (get_or (states_of olds) i no_listener) (get_or (states_of news) i no_listener)
       (get_or served i [])
-  each_listened [] [] [] so i l = absurd (omega (arith, l))
-  each_listened [] [] (links ∷ served) so i l = absurd so
-  each_listened [] (new ∷ news) served so i l = absurd so
-  each_listened (old ∷ olds) [] served so i l = absurd so
-  each_listened (old ∷ olds) (new ∷ news) [] so i l = absurd so
-  each_listened (old ∷ olds) (new ∷ news) (links ∷ served) so zero l = so.1.listened
-  each_listened (old ∷ olds) (new ∷ news) (links ∷ served) so (suc i) l =
-      each_listened olds news served so.2 i (omega (arith, l))
+
+  pub each_listened : (olds news : List (Worker N)) (served : List (List Served)) → AreServed olds news served →
+      EachListened olds news served
+  each_listened = by_each EachListened (λ i l. absurd (omega (arith, l))) more
+    where
+      more : (old new : Worker N) (links : List Served) (olds news : List (Worker N)) (served : List (List Served)) →
+          IsReady board each old → ServedLinks state board each old new links → EachListened olds news served →
+          EachListened (old ∷ olds) (new ∷ news) (links ∷ served)
+      more old new links olds news served ready so rest zero l = so.listened
+      more old new links olds news served ready so rest (suc i) l = rest i (omega (arith, l))
 
   abbrev pub failed_in : List (Worker N) → Bool
   failed_in workers = list_any (λ (w : Worker N). w.has_failed) workers
@@ -199,31 +191,27 @@ module _ {N : Type 0} (state : N → ListenerState) (board : Board) (each : ℕ)
 
   pub some_failed : (olds news : List (Worker N)) (served : List (List Served)) → AreServed olds news served →
       failed_in news ≡ true → Fails olds news
-  some_failed [] [] [] so e = cc
-  some_failed [] [] (links ∷ served) so e = absurd so
-  some_failed [] (new ∷ news) served so e = absurd so
-  some_failed (old ∷ olds) [] served so e = absurd so
-  some_failed (old ∷ olds) (new ∷ news) [] so e = absurd so
-  some_failed (old ∷ olds) (new ∷ news) (links ∷ served) so e =
-      by new.has_failed refl e (some_failed olds news served so.2)
+  some_failed =
+      by_each (λ olds news served. failed_in news ≡ true → Fails olds news) (λ e. cc)
+      (λ old new links olds news served ready so rest e. by old new links olds news so new.has_failed refl e rest)
     where
-      by : (t : Bool) → new.has_failed ≡ t → (t || failed_in news) ≡ true →
-          (failed_in news ≡ true → Fails olds news) → Fails (old ∷ olds) (new ∷ news)
-      by true here e more = (0, omega arith, so.1.failed here)
-      by false here e more = let m = more e in (suc m.0, omega (arith, m.1), m.2)
+      by : (old new : Worker N) (links : List Served) (olds news : List (Worker N)) →
+          ServedLinks state board each old new links → (t : Bool) → new.has_failed ≡ t →
+          (t || failed_in news) ≡ true → (failed_in news ≡ true → Fails olds news) → Fails (old ∷ olds) (new ∷ news)
+      by old new links olds news so true here e more = (0, omega arith, so.failed here)
+      by old new links olds news so false here e more = let m = more e in (suc m.0, omega (arith, m.1), m.2)
+
+  abbrev AreWhole : List (List Served) → Type 0
+  AreWhole served = AllByRecursion (λ links. length links ≡ each) served
 
   pub all_whole : (olds news : List (Worker N)) (served : List (List Served)) → AreServed olds news served →
-      failed_in news ≡ false → AllByRecursion (λ links. length links ≡ each) served
-  all_whole [] [] [] so e = tt
-  all_whole [] [] (links ∷ served) so e = absurd so
-  all_whole [] (new ∷ news) served so e = absurd so
-  all_whole (old ∷ olds) [] served so e = absurd so
-  all_whole (old ∷ olds) (new ∷ news) [] so e = absurd so
-  all_whole (old ∷ olds) (new ∷ news) (links ∷ served) so e =
-      by new.has_failed refl e (all_whole olds news served so.2)
+      failed_in news ≡ false → AreWhole served
+  all_whole =
+      by_each (λ olds news served. failed_in news ≡ false → AreWhole served) (λ e. tt)
+      (λ old new links olds news served ready so rest e. by old new links news served so new.has_failed refl e rest)
     where
-      by : (t : Bool) → new.has_failed ≡ t → (t || failed_in news) ≡ false →
-          (failed_in news ≡ false → AllByRecursion (λ links. length links ≡ each) served) →
-          (length links ≡ each) × AllByRecursion (λ links. length links ≡ each) served
-      by true here e more = let h : true ≡ false = e in cc
-      by false here e more = (so.1.all here, more e)
+      by : (old new : Worker N) (links : List Served) (news : List (Worker N)) (served : List (List Served)) →
+          ServedLinks state board each old new links → (t : Bool) → new.has_failed ≡ t →
+          (t || failed_in news) ≡ false → (failed_in news ≡ false → AreWhole served) → AreWhole (links ∷ served)
+      by old new links news served so true here e more = let h : true ≡ false = e in cc
+      by old new links news served so false here e more = (so.all here, more e)

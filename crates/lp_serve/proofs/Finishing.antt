@@ -3,6 +3,7 @@ use Rattle.std.proofs.Common.{◌≡◌, ℕ, ◌<◌, ◌≤◌, ◌⊎◌, Lis
 use Rattle.std.proofs.Common.{Option, Ok, Err, Result}
 use Rattle.std.proofs.Common.{refl, sym, ap, ◌∙◌, subst, inl, inr, arith, append-nil}
 use Rattle.std.specs.List.{All, AllByRecursion}
+use Rattle.std.specs.Prelude.{Bool, OnOk, IfErr, IsErrOf}
 use Rattle.std.specs.Result.{IsErrAnd}
 use Rattle.std.specs.Io.KnownBytes.{Appends}
 use Rattle.std.proofs.KnownBytes.{Appends-nil}
@@ -21,7 +22,7 @@ use Rattle.lp_serve.specs.declared.fault.ServeFault.{ServeFault}
 use Rattle.lp_serve.specs.declared.fault.ServeFault.TheVariants as fault
 use Rattle.lp_serve.specs.declared.worker.Worker.{Worker}
 use Rattle.lp_serve.specs.Gathering.{passes_of, nets_of, shares_of, IsOf, Met}
-use Rattle.lp_serve.specs.Serving.{Served, Serves, Writes, exchanges_of, ends_of}
+use Rattle.lp_serve.specs.Serving.{Served, Serves, Writes, exchanges_of, ends_of, ended_with}
 use Rattle.lp_serve.specs.Workers.{IsReady, ends_in}
 use Rattle.lp_serve.proofs.AllServed.{AreServed, ServesEach, all_served, as_many, ends_are, passes_are, each_listened}
 use Rattle.lp_serve.proofs.AllServed.{states_of, failed_in, some_failed, all_whole}
@@ -84,7 +85,7 @@ module _ {N : Type 0} (state : N → ListenerState) (board : Board) (each : ℕ)
           writes = writes;
         })))
 
-    pub when_ok : Appends before after (serve_out (map ends_in news)) → failed_in state board each news ≡ false →
+    when_ok : Appends before after (serve_out (map ends_in news)) → failed_in state board each news ≡ false →
         Serves places each (map state first) (map state last) before after (Ok tt)
     when_ok appends none =
         serves_so (Ok tt) (
@@ -93,7 +94,7 @@ module _ {N : Type 0} (state : N → ListenerState) (board : Board) (each : ℕ)
               (all_whole state board each olds news links so none),
         )
 
-    pub when_accept : Appends before after (serve_out (map ends_in news)) → failed_in state board each news ≡ true →
+    when_accept : Appends before after (serve_out (map ends_in news)) → failed_in state board each news ≡ true →
         Serves places each (map state first) (map state last) before after (Err fault.Accept)
     when_accept appends failed =
         let one = some_failed state board each olds news links so failed in
@@ -102,7 +103,7 @@ module _ {N : Type 0} (state : N → ListenerState) (board : Board) (each : ℕ)
           (one.0, omega (arith, one.1, listeners), one.2),
         )
 
-    pub when_err : (why : ServeFault) → (why ≡ fault.Write) ⊎ (why ≡ fault.NoMemory) →
+    when_err : (why : ServeFault) → (why ≡ fault.Write) ⊎ (why ≡ fault.NoMemory) →
         Takes before after (serve_out (map ends_in news)) →
         Serves places each (map state first) (map state last) before after (Err why)
     when_err why (inl e) takes =
@@ -114,8 +115,24 @@ module _ {N : Type 0} (state : N → ListenerState) (board : Board) (each : ℕ)
         (serves_so (Err fault.NoMemory)
         (subst (λ ends. Takes before after (serve_out ends)) (ends_are state board each olds news links so) takes))
 
+    pub when_ended : (said : Result (Unit {0}) ServeFault) (failed : Bool) →
+        OnOk said (Appends before after (serve_out (map ends_in news))) →
+        Takes before after (serve_out (map ends_in news)) →
+        IfErr said (λ why. (why ≡ fault.Write) ⊎ (why ≡ fault.NoMemory)) → failed_in state board each news ≡ failed →
+        Serves places each (map state first) (map state last) before after (ended_with said failed)
+    when_ended (Err why) failed appends takes stops e = when_err why stops takes
+    when_ended (Ok u) true appends takes stops e = when_accept appends e
+    when_ended (Ok u) false appends takes stops e = when_ok appends e
+
+-- a fault of the writing is told
+pub ended_write : (said : Result (Unit {0}) ServeFault) (failed : Bool) →
+    IsErrOf (ended_with said failed) fault.Write → IsErrOf said fault.Write
+ended_write (Err why) failed e = e
+ended_write (Ok u) true e = cc
+ended_write (Ok u) false e = e
+
 -- why a call has failed
-pub err_of : (result : Result (Unit {0}) ServeFault) (P : ServeFault → Type 0) → IsErrAnd result P →
+err_of : (result : Result (Unit {0}) ServeFault) (P : ServeFault → Type 0) → IsErrAnd result P →
     (why : ServeFault) × (result ≡ Err why) × P why
 err_of (Ok u) P so = absurd so
 err_of (Err why) P so = (why, refl, so)
@@ -141,7 +158,7 @@ unfolding none_served
 all_none [] = tt
 all_none (old ∷ olds) = (refl, all_none olds)
 
-pub when_unserved : (places each : ℕ) (states : List ListenerState) (taken : Option (List ℕ)) →
+when_unserved : (places each : ℕ) (states : List ListenerState) (taken : Option (List ℕ)) →
     Serves places each states states taken taken (Err fault.NoMemory)
 when_unserved places each states taken =
     let n = length (exchanges_of (none_served states)) in record {
@@ -160,3 +177,13 @@ when_unserved places each states taken =
         taken = Appends-nil taken;
       };
     }
+
+-- a call has failed before any link was served
+pub unserved : (places each : ℕ) (olds news : List ListenerState) (taken : Option (List ℕ))
+    (result : Result (Unit {0}) ServeFault) → IsErrAnd result (λ why. why ≡ fault.NoMemory) → news ≡ olds →
+    Serves places each olds news taken taken result
+unserved places each olds news taken result stop same =
+    let why = err_of result _ stop in
+    subst (λ r. Serves places each olds news taken taken r) (sym (why.1 ∙ ap Err why.2))
+    (subst (λ ns. Serves places each olds ns taken taken (Err fault.NoMemory)) (sym same)
+    (when_unserved places each olds taken))

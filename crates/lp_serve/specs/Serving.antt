@@ -1,6 +1,6 @@
 -- What a server does with the links of its listeners, each of which is served by a worker of its own.
 use Rattle.std.specs.Prelude.{ℕ, ◌≡◌, ◌≤◌, ◌<◌, ◌⊎◌, List, [], All, length, map, slice_index_or}
-use Rattle.std.specs.Prelude.{Option, None, Result, Ok, Err}
+use Rattle.std.specs.Prelude.{Option, None, Result, Ok, Err, Bool, true, false}
 use Rattle.std.specs.Io.KnownBytes.{Appends}
 use Rattle.spec_server.specs.Exchanges.{Exchange}
 use Rattle.spec_server.specs.Streams.{Streams, streams}
@@ -93,3 +93,9 @@ pub record Serves (places each : ℕ) (olds news : List ListenerState) (before a
       ⊎ IsUnserved olds news served result
   pub runs : RunsOver places (exchanges_of served)
   pub writes : Writes each olds news served before after result
+
+-- how a service ends, by how the writing did and by whether a listener has failed
+abbrev pub ended_with : Result (Unit {0}) ServeFault → Bool → Result (Unit {0}) ServeFault
+ended_with (Err why) failed = Err why
+ended_with (Ok u) true = Err fault.Accept
+ended_with (Ok u) false = Ok tt

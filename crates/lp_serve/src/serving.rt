@@ -3,7 +3,8 @@ ghost use Rattle.std.specs.Prelude.{◌≡◌, ◌≤◌, ◌<◌, ℕ, All, IsE
 ghost use Rattle.std.specs.List.{list_any};
 ghost use Rattle.lp_base.specs.Causes.{Rose};
 ghost use Rattle.lp_link.specs.Listening.{listener_of};
-ghost use Rattle.lp_serve.specs.Serving.{Serves};
+ghost use Rattle.lp_serve.specs.Gathering.{passes_of, IsOf};
+ghost use Rattle.lp_serve.specs.Serving.{Serves, ended_with};
 ghost use Rattle.lp_serve.specs.Workers.{IsReady, HasServed};
 ghost use Rattle.lp_serve.specs.declared.worker.Worker.{Worker as exact_worker};
 
@@ -46,11 +47,46 @@ where
     );
 }
 
+// The same of workers in a list of their own.
+fn work_all<R: Threads + Wait + Sync, N: Listen + Send + Drop>(
+    rt: &R,
+    alloc: Global,
+    board: &Board,
+    workers: &mut Vec<Worker<N>>,
+    each: u32,
+)
+where
+    N::Link: Send,
+    requires { All (IsReady board.now each) workers.old.items }
+    ensures many { length workers.new.items ≡ length workers.old.items }
+    ensures served { (i : ℕ) (d : exact_worker N) → i < length workers.old.items →
+        HasServed (listener_of N.handed N.returned N.accept_faults) board.now each
+        (slice_index_or workers.old.items i d) (slice_index_or workers.new.items i d) }
+    ensures passes { All (IsOf board.now) (passes_of workers.new.items) }
+{
+    work(rt, alloc, board, workers.as_mut_slice(), each);
+}
+
 // Whether some listener failed.
 fn some_failed<N>(workers: &[Worker<N>]) -> bool
     ensures { result ≡ list_any (λ (worker : exact_worker N). worker.has_failed) workers.now }
 {
     workers.iter().any(|worker| worker.has_failed)
+}
+
+// A sink that failed goes before a listener that did.
+fn ended(said: Result<(), ServeFault>, has_failed: bool) -> Result<(), ServeFault>
+    ensures { result ≡ ended_with said has_failed }
+{
+    match said {
+        Err(fault) => Err(fault),
+        Ok(()) => {
+            if has_failed {
+                return Err(ServeFault::Accept);
+            }
+            Ok(())
+        }
+    }
 }
 
 /// Serves so many links of each listener, one after the other, each listener by a worker of its own. Their sessions
@@ -79,13 +115,9 @@ where
     let (board, first) = Board::new(alloc, places)?;
     let desks = desks(alloc, &board, first, nets.len(), each)?;
     let mut workers = hire(alloc, nets, desks)?;
-    work(rt, alloc, &board, workers.as_mut_slice(), each);
+    work_all(rt, alloc, &board, &mut workers, each);
     let said = write_ends(alloc, workers.as_slice(), out);
     let has_failed = some_failed(workers.as_slice());
     let _whole = dismiss(&board, workers, nets);
-    said?;
-    if has_failed {
-        return Err(ServeFault::Accept);
-    }
-    Ok(())
+    ended(said, has_failed)
 }
