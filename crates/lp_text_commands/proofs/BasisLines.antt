@@ -17,10 +17,11 @@ use Rattle.spec_server.specs.BasisOut as reading
 use Rattle.spec_server.specs.BasisOut.{basis_step}
 use Rattle.spec_server.specs.Said as said
 use Rattle.lp_line.specs.declared.hearing.Step.{Step}
-use Rattle.lp_line.specs.declared.hearing.Step.TheVariants as step
 use Rattle.lp_line.specs.Hearing.{Leads}
 use Rattle.lp_text_commands.specs.declared.basis.BasisStage.{BasisStage}
 use Rattle.lp_text_commands.specs.declared.basis.BasisStage.TheVariants as stage
+use Rattle.lp_text_commands.proofs.LeadingOn as on
+use Rattle.lp_text_commands.proofs.LeadingOn.{on_same}
 use Rattle.lp_text_commands.specs.Basis.{stage_of, step_of, count_of, BasisSays}
 
 -- ---- a line counts for one
@@ -28,9 +29,6 @@ use Rattle.lp_text_commands.specs.Basis.{stage_of, step_of, count_of, BasisSays}
 abbrev lines_in : reading.Stage → ℕ
 lines_in (reading.InText style s n) = n
 lines_in (reading.InFile m f s n) = n
-
-on_same : (a b : reading.Stage) → ◌≡◌ {A = said.Step reading.Stage reading.BasisSaid} (said.On a) (said.On b) → a ≡ b
-on_same a b e = cc
 
 begun_counts : (m : Model) (n : ℕ) (o : Result Form (FormFault ℚ)) (next : reading.Stage) →
     reading.begun_file m o ≡ said.On next → lines_in next ≤ n
@@ -59,11 +57,6 @@ count_is : (at : BasisStage) → lines_in (stage_of at) ≡ count_of at
 count_is (stage.Text reader) = refl
 count_is (stage.File at) = refl
 
-counted : (at next : BasisStage) (line : Line (List ℕ)) → basis_step (stage_of at) line ≡ said.On (stage_of next) →
-    count_of next ≤ count_of at + 1
-counted at next line e =
-    let h = step_counts (stage_of at) (stage_of next) line e in omega (arith, h, count_is at, count_is next)
-
 -- ---- at the end of the input something is said
 
 end_says : (at next : reading.Stage) → basis_step at End ≡ said.On next → ⊥
@@ -71,25 +64,12 @@ unfolding basis_step text.step file.step reading_of
 end_says (reading.InText style s n) next e = cc
 end_says (reading.InFile m f s n) next e = cc
 
--- ---- what a step leads to is what the line leads to
-
-leads : (at : BasisStage) (line : Line (List ℕ)) (made : Step BasisStage reading.BasisSaid) →
-    step_of made ≡ basis_step (stage_of at) line → Leads BasisSays count_of at line made
-leads at line (step.On next) e = record {
-  behind = λ more answer h. ap (λ st. said.follow st (λ s. reading.basis_said_from s more)) (sym e) ∙ h;
-  counts = counted at next line (sym e);
-  no_end = λ h. end_says (stage_of at) (stage_of next) (ap (basis_step (stage_of at)) (sym h) ∙ sym e);
-}
-leads at line (step.Says what) e = λ more. ap (λ st. said.follow st (λ s. reading.basis_said_from s more)) (sym e)
-
 -- from the stage that self is
 pub leads_from : {E : Type 0} (self at : BasisStage) (line : Line (List ℕ))
     (result : Result (Step BasisStage reading.BasisSaid) E) →
     self ≡ at → IfOk result (λ made. step_of made ≡ basis_step (stage_of at) line) →
     IfOk result (Leads BasisSays count_of self line)
-leads_from self at line (Ok made) is e =
-    leads self line made (e ∙ ap (λ (s : BasisStage). basis_step (stage_of s) line) (sym is))
-leads_from self at line (Err why) is e = tt
+leads_from = on.leads_from stage_of basis_step count_of lines_in count_is step_counts end_says
 
 -- ---- where a line leads, by what was made of it
 

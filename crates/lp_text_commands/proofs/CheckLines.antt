@@ -12,10 +12,11 @@ use Rattle.spec_server.specs.CheckOut as reading
 use Rattle.spec_server.specs.CheckOut.{check_step}
 use Rattle.spec_server.proofs.CheckLemmas.{end_says}
 use Rattle.lp_line.specs.declared.hearing.Step.{Step}
-use Rattle.lp_line.specs.declared.hearing.Step.TheVariants as step
 use Rattle.lp_line.specs.Hearing.{Leads}
 use Rattle.lp_text_commands.specs.declared.check.CheckStage.{CheckStage}
 use Rattle.lp_text_commands.specs.declared.check.CheckStage.TheVariants as stage
+use Rattle.lp_text_commands.proofs.LeadingOn as on
+use Rattle.lp_text_commands.proofs.LeadingOn.{on_same}
 use Rattle.lp_text_commands.specs.Stage.{stage_of, step_of, count_of, CheckSays}
 
 -- ---- a line counts for one
@@ -23,9 +24,6 @@ use Rattle.lp_text_commands.specs.Stage.{stage_of, step_of, count_of, CheckSays}
 abbrev lines_in : reading.Stage → ℕ
 lines_in (reading.InText style s n) = n
 lines_in (reading.InCertificate m raw n) = n
-
-on_same : (a b : reading.Stage) → ◌≡◌ {A = reading.Step reading.Stage ExactReply} (reading.On a) (reading.On b) → a ≡ b
-on_same a b e = cc
 
 text_counts : (style : Style) (n : ℕ) (o : text.Outcome) (next : reading.Stage) →
     reading.behind_text style n o ≡ reading.On next → lines_in next ≤ n
@@ -50,27 +48,9 @@ count_is : (at : CheckStage) → lines_in (stage_of at) ≡ count_of at
 count_is (stage.Text reader) = refl
 count_is (stage.Certificate model reader) = refl
 
-counted : (at next : CheckStage) (line : Line (List ℕ)) → check_step (stage_of at) line ≡ reading.On (stage_of next) →
-    count_of next ≤ count_of at + 1
-counted at next line e =
-    let h = step_counts (stage_of at) (stage_of next) line e in omega (arith, h, count_is at, count_is next)
-
--- ---- what a step leads to is what the line leads to
-
-pub leads : (at : CheckStage) (line : Line (List ℕ)) (made : Step CheckStage ExactReply) →
-    step_of made ≡ check_step (stage_of at) line → Leads CheckSays count_of at line made
-leads at line (step.On next) e = record {
-  behind = λ more answer h. ap (λ st. reading.follow st (λ s. reading.said_from s more)) (sym e) ∙ h;
-  counts = counted at next line (sym e);
-  no_end = λ h. end_says (stage_of at) (stage_of next) (ap (check_step (stage_of at)) (sym h) ∙ sym e);
-}
-leads at line (step.Says reply) e = λ more. ap (λ st. reading.follow st (λ s. reading.said_from s more)) (sym e)
-
 -- from the stage that self is
 pub leads_from : {E : Type 0} (self at : CheckStage) (line : Line (List ℕ))
     (result : Result (Step CheckStage ExactReply) E) →
     self ≡ at → IfOk result (λ made. step_of made ≡ check_step (stage_of at) line) →
     IfOk result (Leads CheckSays count_of self line)
-leads_from self at line (Ok made) is e =
-    leads self line made (e ∙ ap (λ (s : CheckStage). check_step (stage_of s) line) (sym is))
-leads_from self at line (Err why) is e = tt
+leads_from = on.leads_from stage_of check_step count_of lines_in count_is step_counts end_says

@@ -20,6 +20,8 @@ use std::alloc::{AllocError, Global};
 /// What the text and the file say: a model to solve, or what is wrong.
 pub(crate) type BasisSaid = Result<Handed, BasisFault>;
 
+type BasisStep = Step<BasisStage, BasisSaid>;
+
 /// In the text of a model, or in the basis file after it.
 #[derive(Drop)]
 pub(crate) enum BasisStage {
@@ -36,11 +38,7 @@ impl Stage for BasisStage {
 
     ghost silent = { λ _. refl };
 
-    fn advance(
-        self,
-        alloc: Global,
-        line: &Line,
-    ) -> Result<Step<BasisStage, BasisSaid>, AllocError> {
+    fn advance(self, alloc: Global, line: &Line) -> Result<BasisStep, AllocError> {
         match self {
             BasisStage::Text(reader) => text_line(alloc, reader, line),
             BasisStage::File(file) => file_line(alloc, file, line),
@@ -49,7 +47,7 @@ impl Stage for BasisStage {
 }
 
 // A file is read where the model has a form.
-fn begin_file(alloc: Global, model: Model) -> Result<Step<BasisStage, BasisSaid>, AllocError>
+fn begin_file(alloc: Global, model: Model) -> Result<BasisStep, AllocError>
     ensures { IfOk result (λ step. step_of step ≡ begun_file model (form_of (Some number_limit) model)) }
 {
     match form(alloc, &model) {
@@ -68,11 +66,7 @@ fn begin_file(alloc: Global, model: Model) -> Result<Step<BasisStage, BasisSaid>
 
 // A line of the text.
 #[tactic(auto, unfolding(spec_server::specs::BasisOut::basis_step))]
-fn text_line(
-    alloc: Global,
-    mut reader: Reader,
-    line: &Line,
-) -> Result<Step<BasisStage, BasisSaid>, AllocError>
+fn text_line(alloc: Global, mut reader: Reader, line: &Line) -> Result<BasisStep, AllocError>
     requires { reader.lines < 2 ^ 32 - 1 }
     ensures { IfOk result (λ step. step_of step ≡ basis_step (InText reader.style reader.state reader.lines) line.now) }
 {
@@ -86,11 +80,7 @@ fn text_line(
 
 // A line of the file.
 #[tactic(auto, unfolding(spec_server::specs::BasisOut::basis_step))]
-fn file_line(
-    alloc: Global,
-    file: FileStage,
-    line: &Line,
-) -> Result<Step<BasisStage, BasisSaid>, AllocError>
+fn file_line(alloc: Global, file: FileStage, line: &Line) -> Result<BasisStep, AllocError>
     requires { file.lines < 2 ^ 32 - 1 }
     ensures { IfOk result
         (λ step. step_of step ≡ basis_step (InFile file.model file.form file.state file.lines) line.now) }

@@ -13,6 +13,8 @@ use lp_session::verdict_on;
 use mps_read::{Feed, Reader};
 use std::alloc::{AllocError, Global};
 
+type CheckStep = Step<CheckStage, Reply>;
+
 /// In the text of a model, or in the certificate after it.
 #[derive(Drop)]
 pub(crate) enum CheckStage {
@@ -29,7 +31,7 @@ impl Stage for CheckStage {
 
     ghost silent = { λ _. refl };
 
-    fn advance(self, alloc: Global, line: &Line) -> Result<Step<CheckStage, Reply>, AllocError> {
+    fn advance(self, alloc: Global, line: &Line) -> Result<CheckStep, AllocError> {
         match self {
             CheckStage::Text(reader) => text_line(alloc, reader, line),
             CheckStage::Certificate { model, reader } => {
@@ -69,11 +71,7 @@ fn status_of(reply: &Reply) -> ExitStatus
 
 // A line of the text.
 #[tactic(auto, unfolding(spec_server::specs::CheckOut::check_step))]
-fn text_line(
-    alloc: Global,
-    mut reader: Reader,
-    line: &Line,
-) -> Result<Step<CheckStage, Reply>, AllocError>
+fn text_line(alloc: Global, mut reader: Reader, line: &Line) -> Result<CheckStep, AllocError>
     requires { reader.lines < 2 ^ 32 - 1 }
     ensures { IfOk result (λ step. step_of step ≡ check_step (InText reader.style reader.state reader.lines) line.now) }
 {
@@ -95,7 +93,7 @@ fn certificate_line(
     model: Model,
     mut reader: CertReader,
     line: &Line,
-) -> Result<Step<CheckStage, Reply>, AllocError>
+) -> Result<CheckStep, AllocError>
     requires { reader.lines < 2 ^ 32 - 1 }
     ensures { IfOk result (λ step. step_of step ≡ check_step (InCertificate model reader.raw reader.lines) line.now) }
 {

@@ -1,14 +1,9 @@
 -- A line of the text, and one of the file.
-use Rattle.lp_text_commands.specs.declared.basis.BasisStage.TheVariants as stage
 use Rattle.lp_text_commands.proofs.BasisLines.{leads_from}
 use Rattle.lp_text_commands.proofs.basis.BasisStageStage.advance.Goals as goal
 
 pub returns-in-Text : goal.returns-in-Text
-returns-in-Text c =
-    leads_from c.args.self
-    (stage.Text c.in-Text.reader) c.args.line.now c.text_line.result c.in-Text.is c.text_line.ensures
+returns-in-Text c = leads_from _ _ _ c.text_line.result c.in-Text.is c.text_line.ensures
 
 pub returns-in-File : goal.returns-in-File
-returns-in-File c =
-    leads_from c.args.self
-    (stage.File c.in-File.file) c.args.line.now c.file_line.result c.in-File.is c.file_line.ensures
+returns-in-File c = leads_from _ _ _ c.file_line.result c.in-File.is c.file_line.ensures
