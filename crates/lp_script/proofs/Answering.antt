@@ -1,44 +1,22 @@
 -- The exchange of one ask.
-use Rattle.std.proofs.Common.{◌≡◌, ◌≢◌, ℕ, List, [], ◌∷◌, Bool, true, false, nat_eq, cond, eqb-true, eq-eqb}
-use Rattle.std.proofs.Common.{ap, sym, ◌∙◌, append-nil, refl, subst}
+use Rattle.std.proofs.Common.{◌≡◌, ℕ, List, [], ◌∷◌, Bool, true, false, nat_eq, cond, eqb-true}
+use Rattle.std.proofs.Common.{append-nil, refl, subst}
 use Rattle.spec_reads.specs.Reads.{ExactRead}
 use Rattle.spec_reads.specs.Places.{logged}
 use Rattle.spec_server.specs.declared.addressing.Addressing.TheVariants.{Numbered}
 use Rattle.spec_server.specs.declared.asks.Asked.{Asked}
 use Rattle.spec_server.specs.Machine.{ExactAsk, ExactReply, State}
 use Rattle.spec_server.specs.Step.{AloneStep}
-use Rattle.spec_server.specs.Exchanges.{Exchange, AloneRun, of_session, log_of}
+use Rattle.spec_server.specs.Exchanges.{AloneRun, of_session, log_of}
 use Rattle.spec_server.specs.Output.{reply_lines, script_out}
 use Rattle.spec_server.proofs.RunLemmas.{updated}
-
-not_equal : (a b : ℕ) → nat_eq a b ≡ false → b ≢ a
-not_equal a b e same =
-    let f : nat_eq a a ≡ false = ap (nat_eq a) (sym same) ∙ e in let g : nat_eq a a ≡ true = eq-eqb a a refl in cc
-
-abbrev pub exchange_of : Asked ExactAsk → List ExactRead → ExactReply → Exchange
-exchange_of asked reads reply = record { session = asked.session; ask = asked.ask; reads = reads; reply = reply }
+use Rattle.lp_workers.proofs.OneMore.{exchange_of}
 
 -- a step of the session that is asked
 abbrev pub StepAt : ℕ → (ℕ → State) → Asked ExactAsk → List ExactRead → ExactReply → State → Type 0
 StepAt places old asked reads reply new = AloneStep places (old asked.session) asked.ask reads reply new
 
--- after it the other sessions are as they were
-pub one_run : (places : ℕ) (old new : ℕ → State) (asked : Asked ExactAsk) (reads : List ExactRead)
-    (reply : ExactReply) → StepAt places old asked reads reply (new asked.session) →
-    ((session : ℕ) → session ≢ asked.session → new session ≡ old session) → (session : ℕ) →
-    AloneRun places (old session) (of_session session (exchange_of asked reads reply ∷ [])) (new session)
-one_run places old new asked reads reply step others session = by (nat_eq asked.session session) refl
-  where
-    by : (t : Bool) → nat_eq asked.session session ≡ t →
-        AloneRun places (old session) (cond t (exchange_of asked reads reply ∷ []) []) (new session)
-    by true e = (
-      new session,
-      subst (λ (s : ℕ). AloneStep places (old s) asked.ask reads reply (new s)) (eqb-true asked.session session e) step,
-      refl,
-    )
-    by false e = others session (not_equal asked.session session e)
-
--- the same where the session's state is given
+-- after it the other sessions are as they were, where the session's state is given
 pub one_run_to : (places : ℕ) (old : ℕ → State) (asked : Asked ExactAsk) (reads : List ExactRead) (reply : ExactReply)
     (state : State) → StepAt places old asked reads reply state → (session : ℕ) →
     AloneRun places (old session) (of_session session (exchange_of asked reads reply ∷ []))

@@ -64,10 +64,11 @@ not_equal : (a b : ℕ) → nat_eq a b ≡ false → b ≢ a
 not_equal a b e same =
     let f : nat_eq a a ≡ false = ap (nat_eq a) (sym same) ∙ e in let g : nat_eq a a ≡ true = eq-eqb a a refl in cc
 
-abbrev exchange_of : Asked ExactAsk → List ExactRead → ExactReply → Exchange
+abbrev pub exchange_of : Asked ExactAsk → List ExactRead → ExactReply → Exchange
 exchange_of asked reads reply = record { session = asked.session; ask = asked.ask; reads = reads; reply = reply }
 
-one_run : (places : ℕ) (old new : ℕ → State) (asked : Asked ExactAsk) (reads : List ExactRead) (reply : ExactReply) →
+-- after it the other sessions are as they were
+pub one_run : (places : ℕ) (old new : ℕ → State) (asked : Asked ExactAsk) (reads : List ExactRead) (reply : ExactReply) →
     AloneStep places (old asked.session) asked.ask reads reply (new asked.session) →
     ((session : ℕ) → session ≢ asked.session → new session ≡ old session) → (session : ℕ) →
     AloneRun places (old session) (of_session session (exchange_of asked reads reply ∷ [])) (new session)
