@@ -8,7 +8,7 @@ use Rattle.spec_program.specs.CommandLine as command_lines
 use Rattle.spec_program.specs.CommandLine.{Options, workers_given, links_given, places_given, is_address, run_by}
 use Rattle.spec_program.specs.CommandLine.{run_row, serve_by, serve_with, serve_row, asked_by}
 use Rattle.lp_command_line.specs.declared.line.Given.{Given}
-use Rattle.lp_command_line.specs.Words.{value_in, IsGiven}
+use Rattle.lp_command_line.specs.Words.{value_in, serve_in, IsGiven}
 use Rattle.lp_command_line.proofs.OptionLemmas.{value-look_up}
 
 pub asks-run : (words : List (List ℕ)) (given : Given) (worker_word place_word : Option (List ℕ))
@@ -57,40 +57,20 @@ module _ (words : List (List ℕ)) (given : Given)
       ap (option_and_then serve_row.asks) is_given.1 ∙ many-plain string_bytes given.plain.now is_given.0 many
 
   -- by the options that are given
-  abbrev value : List ℕ → Option (List ℕ)
-  value name = look_up name is_given.0
-
-  value-is : (name : List ℕ) (word : Option (List ℕ)) → word ≡ value_in name (map string_bytes given.options.now) →
-      value name ≡ word
-  value-is name word is =
-      sym (is ∙ value-look_up name (map string_bytes given.options.now) is_given.0 is_given.2)
+  value-is : (name : List ℕ) → look_up name is_given.0 ≡ value_in name (map string_bytes given.options.now)
+  value-is name = sym (value-look_up name (map string_bytes given.options.now) is_given.0 is_given.2)
 
   abbrev by_address : Bool → Option CommandLine
   by_address test =
       cond test
-      (serve_by (workers_given (value (codes "--workers"))) (links_given (value (codes "--each")))
-      (places_given (value (codes "--places"))))
+      (serve_by (workers_given (look_up (codes "--workers") is_given.0))
+      (links_given (look_up (codes "--each") is_given.0)) (places_given (look_up (codes "--places") is_given.0)))
       None
 
   pub asks-serve : (address : List ℕ) → map string_bytes given.plain.now ≡ address ∷ [] →
-      is_address address ≡ true → (worker_word link_word place_word : Option (List ℕ))
-      (workers each places : Option ℕ) →
-      worker_word ≡ value_in (codes "--workers") (map string_bytes given.options.now) →
-      link_word ≡ value_in (codes "--each") (map string_bytes given.options.now) →
-      place_word ≡ value_in (codes "--places") (map string_bytes given.options.now) →
-      workers_given worker_word ≡ workers → links_given link_word ≡ each → places_given place_word ≡ places →
-      asked_by words serve_row ≡ serve_by workers each places
-  asks-serve address is_plain holds worker_word link_word place_word workers each places w l p are_workers are_links
-      are_places =
+      is_address address ≡ true → asked_by words serve_row ≡ serve_in (map string_bytes given.options.now)
+  asks-serve address is_plain holds =
       ap (option_and_then serve_row.asks) is_given.1
       ∙ ap (λ (plain : List (List ℕ)). serve_with plain is_given.0) is_plain
       ∙ ap by_address holds
-      ∙ ap (λ v. serve_by (workers_given v) (links_given (value (codes "--each")))
-      (places_given (value (codes "--places")))) (value-is (codes "--workers") worker_word w)
-      ∙ ap (λ v. serve_by (workers_given worker_word) (links_given v) (places_given (value (codes "--places"))))
-      (value-is (codes "--each") link_word l)
-      ∙ ap (λ v. serve_by (workers_given worker_word) (links_given link_word) (places_given v))
-      (value-is (codes "--places") place_word p)
-      ∙ ap (λ k. serve_by k (links_given link_word) (places_given place_word)) are_workers
-      ∙ ap (λ c. serve_by workers c (places_given place_word)) are_links
-      ∙ ap (λ n. serve_by workers each n) are_places
+      ∙ rw (value-is (codes "--workers"), value-is (codes "--each"), value-is (codes "--places")) refl

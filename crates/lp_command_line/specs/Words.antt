@@ -1,9 +1,11 @@
 -- The words of a command line, as they are cut up.
 use Rattle.std.specs.Prelude.{ℕ, ◌≡◌, ◌&&◌, Bool, true, false, not, List, [], ◌∷◌, map, Option, Some, None, is_some}
-use Rattle.std.specs.Prelude.{string_bytes, if◌then◌else◌}
+use Rattle.std.specs.Prelude.{codes, string_bytes, if◌then◌else◌}
 use Rattle.spec_text.specs.Words.{same}
 use denote.Ref.{Bor}
+use Rattle.spec_program.specs.declared.command_line.CommandLine.{CommandLine}
 use Rattle.spec_program.specs.CommandLine.{Options, Address, in_pairs, is_one_of}
+use Rattle.spec_program.specs.CommandLine.{serve_by, workers_given, links_given, places_given}
 use Rattle.spec_program.specs.CommandLine as command_lines
 use Rattle.lp_command_line.specs.declared.line.Given.{Given}
 use Rattle.lp_command_line.specs.declared.listening.Serving.{Serving}
@@ -38,3 +40,9 @@ IsGiven is (Some given) =
 abbrev pub planned : Option Serving → Option Address
 planned None = None
 planned (Some serving) = Some (record { address = string_bytes serving.address.now; workers = serving.workers })
+
+-- the numbers of a server, by options
+abbrev pub serve_in : List (List ℕ) → Option CommandLine
+serve_in options =
+    serve_by (workers_given (value_in (codes "--workers") options)) (links_given (value_in (codes "--each") options))
+    (places_given (value_in (codes "--places") options))

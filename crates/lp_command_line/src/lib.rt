@@ -9,7 +9,6 @@
 
 mod line;
 mod listening;
-mod numbers;
 
 pub use line::command_line_of;
 pub use listening::{Serving, plan};

@@ -5,10 +5,10 @@ ghost use Rattle.std.specs.List.{list_any};
 ghost use Rattle.spec_text.specs.Words.{same};
 ghost use Rattle.spec_program.specs.CommandLine.{run_row, text_row, generate_row, serve_row, asked_by};
 ghost use Rattle.spec_program.specs.CommandLine as command_lines;
-ghost use Rattle.lp_command_line.specs.Words.{bytes_of, value_in, are_in, IsGiven};
+ghost use Rattle.lp_command_line.specs.Words.{bytes_of, value_in, are_in, serve_in, IsGiven};
 
-use crate::numbers::{column_count_of, links_of, places_of, row_count_of, seed_of, workers_of};
 use lp_base::are_same;
+use lp_line::number_to;
 use spec_mps::Style;
 use spec_program::{CommandLine, TextCommand};
 
@@ -103,29 +103,32 @@ fn form_of(word: &[u8]) -> Option<Style>
     None
 }
 
+#[tactic(auto, unfolding(spec_program::specs::CommandLine::workers_of))]
 fn workers_given(word: Option<&[u8]>) -> Option<u32>
     ensures { result ≡ command_lines.workers_given (option_copied word.entry) }
 {
     match word {
-        Some(number) => workers_of(number),
+        Some(number) => number_to(16, 2, number),
         None => Some(USUAL_WORKERS),
     }
 }
 
+#[tactic(auto, unfolding(spec_program::specs::CommandLine::places_of))]
 fn places_given(word: Option<&[u8]>) -> Option<u32>
     ensures { result ≡ command_lines.places_given (option_copied word.entry) }
 {
     match word {
-        Some(number) => places_of(number),
+        Some(number) => number_to(1024, 7, number),
         None => Some(USUAL_PLACES),
     }
 }
 
+#[tactic(auto, unfolding(spec_program::specs::CommandLine::links_of))]
 fn links_given(word: Option<&[u8]>) -> Option<u32>
     ensures { result ≡ command_lines.links_given (option_copied word.entry) }
 {
     match word {
-        Some(number) => links_of(number),
+        Some(number) => number_to(1000, 4, number),
         None => Some(USUAL_LINKS),
     }
 }
@@ -152,7 +155,19 @@ fn text_line(command: TextCommand, words: &[String]) -> Option<CommandLine>
     Some(CommandLine::Read(command, style))
 }
 
+// The number that a model is made from; 0 is one too.
+#[tactic(auto, unfolding(spec_program::specs::CommandLine::seed_of))]
+fn seed_of(word: &[u8]) -> Option<u32>
+    ensures { result ≡ command_lines.seed_of word.now }
+{
+    if are_same(word, b"0") {
+        return Some(0);
+    }
+    number_to(1_000_000, 7, word)
+}
+
 // A model is made from a seed, with so many rows and columns.
+#[tactic(auto, unfolding(spec_program::specs::CommandLine::row_count_of, spec_program::specs::CommandLine::column_count_of))]
 fn generate_line(words: &[String]) -> Option<CommandLine>
     ensures { result ≡ asked_by (map string_bytes words.now) generate_row }
 {
@@ -161,8 +176,8 @@ fn generate_line(words: &[String]) -> Option<CommandLine>
         return None;
     };
     let seed = seed_of(seed.as_bytes())?;
-    let rows = row_count_of(rows.as_bytes())?;
-    let columns = column_count_of(columns.as_bytes())?;
+    let rows = number_to(256, 3, rows.as_bytes())?;
+    let columns = number_to(512, 3, columns.as_bytes())?;
     Some(CommandLine::Generate {
         seed,
         rows,
@@ -179,6 +194,20 @@ fn is_address(word: &[u8]) -> bool
     }
 }
 
+// The numbers of a server, by the options that are given.
+fn serve_with(options: &[String]) -> Option<CommandLine>
+    ensures { result ≡ serve_in (map string_bytes options.now) }
+{
+    let workers = workers_given(value_of(options, b"--workers"))?;
+    let each = links_given(value_of(options, b"--each"))?;
+    let places = places_given(value_of(options, b"--places"))?;
+    Some(CommandLine::Serve {
+        workers,
+        each,
+        places,
+    })
+}
+
 // Sessions are served at an address, by so many workers, which serve so many links each, over so many places.
 fn serve_line(words: &[String]) -> Option<CommandLine>
     ensures { result ≡ asked_by (map string_bytes words.now) serve_row }
@@ -190,14 +219,7 @@ fn serve_line(words: &[String]) -> Option<CommandLine>
     if !is_address(address.as_bytes()) {
         return None;
     }
-    let workers = workers_given(value_of(given.options, b"--workers"))?;
-    let each = links_given(value_of(given.options, b"--each"))?;
-    let places = places_given(value_of(given.options, b"--places"))?;
-    Some(CommandLine::Serve {
-        workers,
-        each,
-        places,
-    })
+    serve_with(given.options)
 }
 
 /// What the words ask, if they are a command line.
