@@ -3,7 +3,7 @@ ghost use Rattle.std.specs.Prelude.{◌≡◌, IfOk};
 ghost use Rattle.spec_mps.specs.Fields.{texts_of};
 ghost use Rattle.spec_bas.specs.Cards as cards;
 
-use lp_base::{Line, Name, are_same};
+use lp_base::{Line, Name, are_same, by_word};
 use mps_card::{CardFault, Field, Fields, free};
 use spec_bas::BasCode;
 use std::alloc::{AllocError, Global};
@@ -25,13 +25,11 @@ fn pair_of(
 {
     let column = Name::from_slice(alloc, column)?;
     let row = Name::from_slice(alloc, row)?;
-    if are_same(kind, b"XU") {
-        return Ok(Some(Card::Xu { column, row }));
-    }
-    if are_same(kind, b"XL") {
-        return Ok(Some(Card::Xl { column, row }));
-    }
-    Ok(None)
+    by_word!(kind, {
+        b"XU" => Ok(Some(Card::Xu { column, row })),
+        b"XL" => Ok(Some(Card::Xl { column, row })),
+        _ => Ok(None),
+    })
 }
 
 // A kind with a column alone.
@@ -39,13 +37,11 @@ fn single_of(alloc: Global, kind: &[u8], column: &[u8]) -> Result<Option<Card>, 
     ensures { IfOk result (λ card. card ≡ cards.single_of kind.now column.now) }
 {
     let column = Name::from_slice(alloc, column)?;
-    if are_same(kind, b"UL") {
-        return Ok(Some(Card::Ul { column }));
-    }
-    if are_same(kind, b"LL") {
-        return Ok(Some(Card::Ll { column }));
-    }
-    Ok(None)
+    by_word!(kind, {
+        b"UL" => Ok(Some(Card::Ul { column })),
+        b"LL" => Ok(Some(Card::Ll { column })),
+        _ => Ok(None),
+    })
 }
 
 // The card that words say, if they say one.

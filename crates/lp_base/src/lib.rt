@@ -8,7 +8,7 @@
 //! | `Calls` | numbers calls, and says which of them fail | src/calls |
 //! | `Lines`, `Line` | the lines of a source, one by one | src/lines |
 //! | `Bytes`, `Name`, `Texts` | lists of bytes, and a list of them | src/bytes |
-//! | `words` | the words of a line | src/word |
+//! | `words`, `by_word` | the words of a line, and what stands beside a word in a table | src/word |
 //! | `Rose`, `HasCause` | a fault was counted | specs/Causes |
 //! | `ReadsLines` | the lines that several calls took, and of which bytes | specs/Taking |
 //! | `ReadsAll`, `ReadsFront` | what was read in all, where a reader stops | specs/Taking |

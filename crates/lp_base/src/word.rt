@@ -5,6 +5,14 @@ ghost use Rattle.spec_text.specs.Words as text;
 use crate::{Bytes, Texts};
 use std::alloc::{AllocError, Global};
 
+/// What stands beside the first text that a word is, or else the last value.
+#[macro_export]
+macro_rules! by_word {
+    ($word:expr, { $($($text:literal)|+ => $value:expr,)+ _ => $other:expr $(,)? }) => {
+        $(if $($crate::are_same($word, $text))||+ { $value } else)+ { $other }
+    };
+}
+
 /// Whether a byte stands between words: a space or a tab.
 pub fn is_blank(b: u8) -> bool
     ensures { result ≡ text.is_blank b }

@@ -3,7 +3,7 @@ ghost use Rattle.std.specs.Prelude.{◌≡◌, [], ◌∷◌, IfOk};
 ghost use Rattle.spec_check.specs.Text as certificate;
 
 use crate::certificate::{CertificateKind, Part};
-use lp_base::{Name, Texts, are_same};
+use lp_base::{Name, Texts, are_same, by_word};
 use spec_check::Letter;
 use std::alloc::{AllocError, Global};
 
@@ -11,16 +11,12 @@ use std::alloc::{AllocError, Global};
 fn letter_of(word: &[u8]) -> Option<Letter>
     ensures { result ≡ certificate.letter_of word.now }
 {
-    if are_same(word, b"x") {
-        return Some(Letter::X);
-    }
-    if are_same(word, b"y") {
-        return Some(Letter::Y);
-    }
-    if are_same(word, b"r") {
-        return Some(Letter::R);
-    }
-    None
+    by_word!(word, {
+        b"x" => Some(Letter::X),
+        b"y" => Some(Letter::Y),
+        b"r" => Some(Letter::R),
+        _ => None,
+    })
 }
 
 // Whether parts with this letter stand in a certificate of this kind.
@@ -40,16 +36,12 @@ fn takes(kind: &CertificateKind, letter: Letter) -> bool
 fn kind_by_word(word: &[u8]) -> Option<CertificateKind>
     ensures { result ≡ certificate.kind_of (word.now ∷ []) }
 {
-    if are_same(word, b"OPTIMAL") {
-        return Some(CertificateKind::Optimal);
-    }
-    if are_same(word, b"INFEASIBLE") {
-        return Some(CertificateKind::Infeasible);
-    }
-    if are_same(word, b"UNBOUNDED") {
-        return Some(CertificateKind::Unbounded);
-    }
-    None
+    by_word!(word, {
+        b"OPTIMAL" => Some(CertificateKind::Optimal),
+        b"INFEASIBLE" => Some(CertificateKind::Infeasible),
+        b"UNBOUNDED" => Some(CertificateKind::Unbounded),
+        _ => None,
+    })
 }
 
 // The kind that the words of a first line say.

@@ -7,7 +7,7 @@ ghost use Rattle.spec_program.specs.CommandLine.{run_row, text_row, generate_row
 ghost use Rattle.spec_program.specs.CommandLine as command_lines;
 ghost use Rattle.lp_command_line.specs.Words.{bytes_of, value_in, are_in, serve_in, IsGiven};
 
-use lp_base::are_same;
+use lp_base::{are_same, by_word};
 use lp_line::number_to;
 use spec_mps::Style;
 use spec_program::{CommandLine, TextCommand};
@@ -94,13 +94,11 @@ fn given_in<'a>(words: &'a [String], plain: usize, names: &[&str]) -> Option<Giv
 fn form_of(word: &[u8]) -> Option<Style>
     ensures { result ≡ command_lines.form_of word.now }
 {
-    if are_same(word, b"free") {
-        return Some(Style::Free);
-    }
-    if are_same(word, b"fixed") {
-        return Some(Style::Fixed);
-    }
-    None
+    by_word!(word, {
+        b"free" => Some(Style::Free),
+        b"fixed" => Some(Style::Fixed),
+        _ => None,
+    })
 }
 
 #[tactic(auto, unfolding(spec_program::specs::CommandLine::workers_of))]
@@ -231,23 +229,13 @@ pub fn command_line_of(words: &[String]) -> Option<CommandLine>
         return None;
     };
     let word = word.as_bytes();
-    if are_same(word, b"run") {
-        return run_line(behind);
-    }
-    if are_same(word, b"solve") {
-        return text_line(TextCommand::Solve, behind);
-    }
-    if are_same(word, b"check") {
-        return text_line(TextCommand::Check, behind);
-    }
-    if are_same(word, b"basis") {
-        return text_line(TextCommand::Basis, behind);
-    }
-    if are_same(word, b"gen") {
-        return generate_line(behind);
-    }
-    if are_same(word, b"serve") {
-        return serve_line(behind);
-    }
-    None
+    by_word!(word, {
+        b"run" => run_line(behind),
+        b"solve" => text_line(TextCommand::Solve, behind),
+        b"check" => text_line(TextCommand::Check, behind),
+        b"basis" => text_line(TextCommand::Basis, behind),
+        b"gen" => generate_line(behind),
+        b"serve" => serve_line(behind),
+        _ => None,
+    })
 }

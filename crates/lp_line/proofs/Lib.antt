@@ -3,7 +3,6 @@ pub mod HearTurns
 pub mod StageLines
 pub mod ScriptTurns
 pub mod AskTurns
-pub mod EditWordLemmas
 pub mod SmallBounds
 pub mod Stops
 pub mod PairsLeft

@@ -1,5 +1,4 @@
 pub mod Body
-pub mod EditWords
 pub mod GivesWords
 pub mod Hearing
 pub mod Script

@@ -7,7 +7,7 @@ ghost use Rattle.spec_server.specs.EditCommand as edit_command;
 ghost use Rattle.lp_line.specs.GivesWords.{GivesWords};
 ghost use Rattle.lp_line.specs.declared.edits.EditStop.TheVariants.{Fault, NoMemory};
 
-use lp_base::{Bytes, Name, are_same};
+use lp_base::{Bytes, Name, are_same, by_word};
 use lp_edit::{ColumnBounds, Edit, Pairs};
 use lp_frac::Frac;
 use lp_model::{Kind, Sense};
@@ -62,16 +62,12 @@ fn kind_in(word: &Bytes) -> Result<Kind, LineFault>
     ensures { result ≡ edit_command.kind_in word.now }
 {
     let word = word.as_slice();
-    if are_same(word, b"L") {
-        return Ok(Kind::L);
-    }
-    if are_same(word, b"G") {
-        return Ok(Kind::G);
-    }
-    if are_same(word, b"E") {
-        return Ok(Kind::E);
-    }
-    Err(LineFault::Word)
+    by_word!(word, {
+        b"L" => Ok(Kind::L),
+        b"G" => Ok(Kind::G),
+        b"E" => Ok(Kind::E),
+        _ => Err(LineFault::Word),
+    })
 }
 
 #[tactic(auto, unfolding(spec_server::specs::EditCommand::sense_in))]
@@ -79,13 +75,11 @@ fn sense_in(word: &Bytes) -> Result<Sense, LineFault>
     ensures { result ≡ edit_command.sense_in word.now }
 {
     let word = word.as_slice();
-    if are_same(word, b"MIN") {
-        return Ok(Sense::Min);
-    }
-    if are_same(word, b"MAX") {
-        return Ok(Sense::Max);
-    }
-    Err(LineFault::Word)
+    by_word!(word, {
+        b"MIN" => Ok(Sense::Min),
+        b"MAX" => Ok(Sense::Max),
+        _ => Err(LineFault::Word),
+    })
 }
 
 #[tactic(auto, unfolding(spec_server::specs::EditCommand::range_in))]

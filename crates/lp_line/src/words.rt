@@ -1,9 +1,8 @@
 // The words of lines.
 ghost use Rattle.std.specs.Prelude.{◌≡◌, ◌≤◌};
 ghost use Rattle.spec_server.specs.Command as commands;
-ghost use Rattle.lp_line.specs.EditWords as edits;
 
-use lp_base::are_same;
+use lp_base::by_word;
 use spec_mps::Style;
 use spec_server::{CommandWord, EditWord};
 
@@ -64,51 +63,11 @@ pub(crate) fn budget_of(word: &[u8]) -> Option<u32>
 pub(crate) fn style_of(word: &[u8]) -> Option<Style>
     ensures { result ≡ commands.style_of word.now }
 {
-    if are_same(word, b"FREE") {
-        return Some(Style::Free);
-    }
-    if are_same(word, b"FIXED") {
-        return Some(Style::Fixed);
-    }
-    None
-}
-
-// The command word of an edit.
-#[tactic(auto, unfolding(crate::specs::EditWords::edit_word_of))]
-fn edit_word_of(word: &[u8]) -> Option<EditWord>
-    ensures { result ≡ edits.edit_word_of word.now }
-{
-    if are_same(word, b"ADDROW") {
-        return Some(EditWord::AddRow);
-    }
-    if are_same(word, b"DELROW") {
-        return Some(EditWord::DelRow);
-    }
-    if are_same(word, b"ADDCOL") {
-        return Some(EditWord::AddCol);
-    }
-    if are_same(word, b"DELCOL") {
-        return Some(EditWord::DelCol);
-    }
-    if are_same(word, b"SETCOST") {
-        return Some(EditWord::SetCost);
-    }
-    if are_same(word, b"SETCOEF") {
-        return Some(EditWord::SetCoef);
-    }
-    if are_same(word, b"SETRHS") {
-        return Some(EditWord::SetRhs);
-    }
-    if are_same(word, b"SETRANGE") {
-        return Some(EditWord::SetRange);
-    }
-    if are_same(word, b"SETBOUND") {
-        return Some(EditWord::SetBound);
-    }
-    if are_same(word, b"SENSE") {
-        return Some(EditWord::Sense);
-    }
-    None
+    by_word!(word, {
+        b"FREE" => Some(Style::Free),
+        b"FIXED" => Some(Style::Fixed),
+        _ => None,
+    })
 }
 
 /// The command word that a word is.
@@ -116,32 +75,25 @@ fn edit_word_of(word: &[u8]) -> Option<EditWord>
 pub(crate) fn command_word_of(word: &[u8]) -> Option<CommandWord>
     ensures { result ≡ commands.command_word_of word.now }
 {
-    if are_same(word, b"LOAD") {
-        return Some(CommandWord::Load);
-    }
-    if are_same(word, b"WRITE") {
-        return Some(CommandWord::Write);
-    }
-    if are_same(word, b"SOLVE") {
-        return Some(CommandWord::Solve);
-    }
-    if are_same(word, b"CERT") {
-        return Some(CommandWord::Cert);
-    }
-    if are_same(word, b"HOW") {
-        return Some(CommandWord::How);
-    }
-    if are_same(word, b"BUDGET") {
-        return Some(CommandWord::Budget);
-    }
-    if are_same(word, b"CHECK") {
-        return Some(CommandWord::Check);
-    }
-    if are_same(word, b"QUIT") {
-        return Some(CommandWord::Quit);
-    }
-    match edit_word_of(word) {
-        Some(which) => Some(CommandWord::Edit(which)),
-        None => None,
-    }
+    by_word!(word, {
+        b"LOAD" => Some(CommandWord::Load),
+        b"WRITE" => Some(CommandWord::Write),
+        b"SOLVE" => Some(CommandWord::Solve),
+        b"CERT" => Some(CommandWord::Cert),
+        b"HOW" => Some(CommandWord::How),
+        b"BUDGET" => Some(CommandWord::Budget),
+        b"CHECK" => Some(CommandWord::Check),
+        b"QUIT" => Some(CommandWord::Quit),
+        b"ADDROW" => Some(CommandWord::Edit(EditWord::AddRow)),
+        b"DELROW" => Some(CommandWord::Edit(EditWord::DelRow)),
+        b"ADDCOL" => Some(CommandWord::Edit(EditWord::AddCol)),
+        b"DELCOL" => Some(CommandWord::Edit(EditWord::DelCol)),
+        b"SETCOST" => Some(CommandWord::Edit(EditWord::SetCost)),
+        b"SETCOEF" => Some(CommandWord::Edit(EditWord::SetCoef)),
+        b"SETRHS" => Some(CommandWord::Edit(EditWord::SetRhs)),
+        b"SETRANGE" => Some(CommandWord::Edit(EditWord::SetRange)),
+        b"SETBOUND" => Some(CommandWord::Edit(EditWord::SetBound)),
+        b"SENSE" => Some(CommandWord::Edit(EditWord::Sense)),
+        _ => None,
+    })
 }
