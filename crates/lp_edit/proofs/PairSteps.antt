@@ -1,5 +1,5 @@
 -- What a pair of a new column does to the entries of those before it.
-use Rattle.std.proofs.Common.{◌≡◌, ℕ, suc, ◌+◌, ◌<◌, Bool, true, false, cond, Option, Some, None, Err, List, []}
+use Rattle.std.proofs.Common.{◌≡◌, ℕ, ◌+◌, ◌<◌, Bool, true, false, cond, Option, Some, None, Err, List, []}
 use Rattle.std.proofs.Common.{◌∷◌, ◌++◌, length, get_or, take, drop, IfSome, sym, ap, ap₂, ◌∙◌, subst, add-one}
 use Rattle.std.specs.List.{slice_get}
 use Rattle.std.proofs.lemmas.Option.{slice_get-get_or}
@@ -37,7 +37,7 @@ module _ (m : Model) (pairs : Pairs) (k : ℕ) (es : Entries) (p : Name × ℚ)
       ∙ ap (λ ps. known (row_place m p.0) p.0 >>= λ i. cond (is_given p.0 (take k pairs))
       (Err (Repeated p.0)) (entries_of m ps (drop (k + 1) pairs) (with_entry i p.1 es))) more
 
-  pub unknown : row_place m p.0 ≡ None → entries_of m (take k pairs) (drop k pairs) es ≡ Err (UnknownName p.0)
+  unknown : row_place m p.0 ≡ None → entries_of m (take k pairs) (drop k pairs) es ≡ Err (UnknownName p.0)
   unfolding so_far
   unknown e = step ∙ ap (λ o. known o p.0 >>= λ i. cond (is_given p.0 (take k pairs)) (Err (Repeated p.0)) (behind i)) e
 
@@ -47,25 +47,50 @@ module _ (m : Model) (pairs : Pairs) (k : ℕ) (es : Entries) (p : Name × ℚ)
       step ∙ ap (λ o. known o p.0 >>= λ i. cond (is_given p.0 (take k pairs)) (Err (Repeated p.0)) (behind i)) e
       ∙ ap (λ t. cond t (Err (Repeated p.0)) (behind i)) f
 
-  pub repeated : (i : ℕ) → row_place m p.0 ≡ Some i → is_given p.0 (take k pairs) ≡ true →
+  repeated : (i : ℕ) → row_place m p.0 ≡ Some i → is_given p.0 (take k pairs) ≡ true →
       entries_of m (take k pairs) (drop k pairs) es ≡ Err (Repeated p.0)
   unfolding so_far
   repeated i e f = at i true e f
 
-  pub goes_on : (i : ℕ) → row_place m p.0 ≡ Some i → is_given p.0 (take k pairs) ≡ false
+  goes_on : (i : ℕ) → row_place m p.0 ≡ Some i → is_given p.0 (take k pairs) ≡ false
       → entries_of m (take (k + 1) pairs) (drop (k + 1) pairs) (with_entry i p.1 es)
       ≡ entries_of m (take k pairs) (drop k pairs) es
   unfolding so_far behind
   goes_on i e f = sym (at i false e f)
 
--- what is read of a list that is the same
-pub read : (seen pairs : Pairs) (k : ℕ) (p : Name × ℚ) → seen ≡ pairs → p ≡ get_or seen k p → p ≡ get_or pairs k p
-read seen pairs k p e here = here ∙ ap (λ xs. get_or xs k p) e
+-- so it is where the pair, its name and its row were read: of the list as it is now, found is the row of that name
+module _ (m : Model) (seen pairs : Pairs) (k : ℕ) (es : Entries) (p : Name × ℚ) (name : Name) (found : Option ℕ)
+    (whole : seen ≡ pairs) (at_place : p ≡ get_or seen k p) (l : k < length pairs)
+    (called : name ≡ p.0) (looked : found ≡ row_place m name) where
+  here : p ≡ get_or pairs k p
+  here = at_place ∙ ap (λ xs. get_or xs k p) whole
 
--- the name of the pair at k
-pub named : (seen pairs : Pairs) (k : ℕ) (p : Name × ℚ) (name : Name) → p ≡ get_or pairs k p → k < length pairs →
-    seen ≡ pairs → IfSome (slice_get seen k) (λ q. name ≡ q.0) → name ≡ p.0
-named seen pairs k p name here l e h =
-    let at : slice_get seen k ≡ Some p =
-    ap (λ xs. slice_get xs k) e ∙ slice_get-get_or pairs k p l ∙ ap Some (sym here) in
-    subst (λ o. IfSome o (λ q. name ≡ q.0)) at h
+  place : (o : Option ℕ) → found ≡ o → row_place m p.0 ≡ o
+  place o e = sym (ap (row_place m) called) ∙ sym looked ∙ e
+
+  -- the name that is taken out of the list is that of the pair
+  module _ (list : Pairs) (taken : Name) (whole_then : list ≡ pairs)
+      (of_pair : IfSome (slice_get list k) (λ q. taken ≡ q.0)) where
+    named : p.0 ≡ taken
+    named =
+        let at : slice_get list k ≡ Some p =
+        ap (λ xs. slice_get xs k) whole_then ∙ slice_get-get_or pairs k p l ∙ ap Some (sym here) in
+        sym (subst (λ o. IfSome o (λ q. taken ≡ q.0)) at of_pair)
+
+    pub unknown_read : found ≡ None → entries_of m (take k pairs) (drop k pairs) es ≡ Err (UnknownName taken)
+    unknown_read e = unknown m pairs k es p here l (place None e) ∙ ap (λ n. Err (UnknownName n)) named
+
+    pub repeated_read : (i : ℕ) → found ≡ Some i → is_given p.0 (take k pairs) ≡ true →
+        entries_of m (take k pairs) (drop k pairs) es ≡ Err (Repeated taken)
+    repeated_read i e f = repeated m pairs k es p here l i (place (Some i) e) f ∙ ap (λ n. Err (Repeated n)) named
+
+  pub read_on : (i : ℕ) → found ≡ Some i → is_given p.0 (take k pairs) ≡ false
+      → entries_of m (take (k + 1) pairs) (drop (k + 1) pairs) (with_entry i p.1 es)
+      ≡ entries_of m (take k pairs) (drop k pairs) es
+  read_on i e f = goes_on m pairs k es p here l i (place (Some i) e) f
+
+-- whether one of the first k pairs has a name, as it was asked
+pub given_so : (name again : Name) (pairs list : Pairs) (k : ℕ) (answer t : Bool) → again ≡ name → list ≡ pairs →
+    answer ≡ is_given again (take k list) → answer ≡ t → is_given name (take k pairs) ≡ t
+given_so name again pairs list k answer t e f g h =
+    sym (ap₂ (λ n ps. is_given n (take k ps)) e f) ∙ sym g ∙ h

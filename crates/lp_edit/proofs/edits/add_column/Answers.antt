@@ -1,6 +1,6 @@
-use Rattle.std.proofs.Common.{Some, None, IsTrue, sym, ap, ◌∙◌}
+use Rattle.std.proofs.Common.{IsTrue, sym, ap, ◌∙◌}
 use Rattle.spec_model.specs.Model.{height}
-use Rattle.spec_model.specs.Kept.{IsKeptColumn, is_name}
+use Rattle.spec_model.specs.Kept.{is_name}
 use Rattle.spec_edit.proofs.NewColumns.{column_of-kept}
 use Rattle.lp_edit.proofs.edits.add_column.Goals as goal
 
