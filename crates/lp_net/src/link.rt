@@ -1,11 +1,10 @@
-// A TCP stream as a link. It counts its faults, and tells nothing of the bytes. What a signal interrupts is no fault:
-// it is tried again, up to 2 ^ 32 - 1 times.
+// A TCP stream as a link. It counts its faults, and tells nothing of the bytes.
 ghost use Rattle.std.specs.Prelude.{None, refl};
 ghost use Rattle.lp_link.specs.LinkState.{sink_of, source_of};
 
+use crate::again::{counted, read_again, write_again};
 use lp_base::{Failed, Sink, Source};
 use lp_link::Link;
-use std::io::{ErrorKind, Read, Write};
 use std::net::TcpStream;
 
 /// A TCP stream as a link. A call that a signal interrupts is tried again, and a write that takes nothing is a fault.
@@ -34,15 +33,8 @@ impl Source for TcpLink {
     ghost beside_reads = { λ link. sink_of None link.write_faults };
 
     fn read(&mut self, buf: &mut [u8]) -> Result<usize, Failed> {
-        for _ in 0..u32::MAX {
-            match self.stream.read(buf) {
-                Ok(count) => return Ok(count),
-                Err(error) if error.kind() == ErrorKind::Interrupted => {}
-                Err(_) => break,
-            }
-        }
-        self.read_faults = self.read_faults.saturating_add(1);
-        Err(Failed)
+        let read = read_again(&mut self.stream, buf);
+        counted(read, &mut self.read_faults)
     }
 }
 
@@ -54,15 +46,8 @@ impl Sink for TcpLink {
     ghost beside_writes = { λ link. source_of None link.read_faults };
 
     fn write(&mut self, piece: &[u8]) -> Result<usize, Failed> {
-        for _ in 0..u32::MAX {
-            match self.stream.write(piece) {
-                Ok(count) if count > 0 => return Ok(count),
-                Err(error) if error.kind() == ErrorKind::Interrupted => {}
-                _ => break,
-            }
-        }
-        self.write_faults = self.write_faults.saturating_add(1);
-        Err(Failed)
+        let written = write_again(&mut self.stream, piece);
+        counted(written, &mut self.write_faults)
     }
 }
 
