@@ -10,7 +10,7 @@ mod usage;
 
 use listening::{listen, nets_at, wanted};
 use lp_top::{ExitStatus, NeverHolds, lpd_top, plan};
-use outside::{StdSink, StdSource};
+use outside::Counted;
 use std::alloc::{AllocError, Global};
 use std::io::ErrorKind;
 use std::process::ExitCode;
@@ -30,8 +30,8 @@ fn main(rt: HostRuntime) -> ExitCode {
     };
     let status = match nets_at(alloc, wanted(&words), socket.as_ref()) {
         Ok(mut nets) => {
-            let mut source = StdSource::new(rt.stdin());
-            let mut sink = StdSink::new(rt.stdout());
+            let mut source = Counted::new(rt.stdin());
+            let mut sink = Counted::new(rt.stdout());
             lpd_top(
                 &rt,
                 alloc,

@@ -1,24 +1,25 @@
 // The real source and sink. They count their faults, and tell of the bytes what std tells. What a signal interrupts is
-// no fault: it is tried again, up to 2 ^ 32 - 1 times.
+// no fault.
 ghost use Rattle.lp_base.specs.Beside.{no_sink, no_source};
 
 use lp_base::{Failed, Sink, Source};
-use std::io::{ErrorKind, Read, Write};
+use lp_net::{counted, read_again, write_again};
+use std::io::{Read, Write};
 
-/// A reader as a source. A read that a signal interrupts is tried again.
+/// A reader as a source, and a writer as a sink.
 #[derive(Drop)]
-pub struct StdSource<R> {
-    inner: R,
+pub struct Counted<T> {
+    inner: T,
     faults: u64,
 }
 
-impl<R> StdSource<R> {
-    pub fn new(inner: R) -> Self {
-        StdSource { inner, faults: 0 }
+impl<T> Counted<T> {
+    pub fn new(inner: T) -> Self {
+        Counted { inner, faults: 0 }
     }
 }
 
-impl<R: Read> Source for StdSource<R> {
+impl<R: Read> Source for Counted<R> {
     ghost left = { λ s. R.remaining s.inner };
 
     ghost read_faults = { λ s. s.faults };
@@ -26,32 +27,12 @@ impl<R: Read> Source for StdSource<R> {
     ghost beside_reads = { λ _. no_sink };
 
     fn read(&mut self, buf: &mut [u8]) -> Result<usize, Failed> {
-        for _ in 0..u32::MAX {
-            match self.inner.read(buf) {
-                Ok(count) => return Ok(count),
-                Err(error) if error.kind() == ErrorKind::Interrupted => {}
-                Err(_) => break,
-            }
-        }
-        self.faults = self.faults.saturating_add(1);
-        Err(Failed)
+        let read = read_again(&mut self.inner, buf);
+        counted(read, &mut self.faults)
     }
 }
 
-/// A writer as a sink. A write that a signal interrupts is tried again, and one that takes nothing is a fault.
-#[derive(Drop)]
-pub struct StdSink<W> {
-    inner: W,
-    faults: u64,
-}
-
-impl<W> StdSink<W> {
-    pub fn new(inner: W) -> Self {
-        StdSink { inner, faults: 0 }
-    }
-}
-
-impl<W: Write> Sink for StdSink<W> {
+impl<W: Write> Sink for Counted<W> {
     ghost taken = { λ s. W.contents s.inner };
 
     ghost write_faults = { λ s. s.faults };
@@ -59,14 +40,7 @@ impl<W: Write> Sink for StdSink<W> {
     ghost beside_writes = { λ _. no_source };
 
     fn write(&mut self, piece: &[u8]) -> Result<usize, Failed> {
-        for _ in 0..u32::MAX {
-            match self.inner.write(piece) {
-                Ok(count) if count > 0 => return Ok(count),
-                Err(error) if error.kind() == ErrorKind::Interrupted => {}
-                _ => break,
-            }
-        }
-        self.faults = self.faults.saturating_add(1);
-        Err(Failed)
+        let written = write_again(&mut self.inner, piece);
+        counted(written, &mut self.faults)
     }
 }

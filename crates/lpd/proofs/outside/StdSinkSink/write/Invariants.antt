@@ -1,9 +1,0 @@
--- A write that is tried again has appended nothing.
-use Rattle.std.proofs.Common.{◌≡◌}
-use Rattle.std.specs.Io.KnownBytes.{Keeps}
-use Rattle.lpd.proofs.outside.StdSinkSink.write.Given as goal
-
-abbrev pub invariant-loop : goal.invariant-loop
-invariant-loop g l =
-    Keeps (g.W.Write.contents l.initial.self.inner) (g.W.Write.contents l.self.inner) ×
-    (l.self.faults ≡ l.initial.self.faults)
