@@ -109,7 +109,8 @@ module _ (limit me : ℕ) (now : List ExactPlace) (old : Kept) (x : State) (st :
       (subst (λ y. ActFits limit me here now act.Count Quiet (record { state = x; step = step_of y aw }) now) (sym is)
       (count_fits limit me now here shape aw (ap (λ t. step_of t aw) counts)))
 
-  pub sees_on : (shape : Words) (k j : ℕ) (words : Option Words) (st' : Stage) → st ≡ stage.Sees shape k → j ≡ k → words ≡ words_at now k → st' ≡ seen_at shape k words →
+  pub sees_on : (shape : Words) (k j : ℕ) (words : Option Words) (st' : Stage) → st ≡ stage.Sees shape k → j ≡ k →
+      words ≡ words_at now k → st' ≡ seen_at shape k words →
       ActFits limit me old now (act.See j) Quiet (record { state = x; step = step_of st' aw }) now
   sees_on shape k j words st' sees same read is =
       at_old (act.See j) Quiet (record { state = x; step = step_of st' aw }) now
@@ -165,7 +166,8 @@ module _ (limit me : ℕ) (now : List ExactPlace) (old : Kept) (x : State) (st :
         (subst (λ m. PutFits x aw (Raced m) r s) counted puts)
         (raced_fits limit me now here p.pending c p.step_so (subst (λ m. m ≡ c → ⊥) counted lost))
 
-    pub puts_done : (words : Words) (k : ℕ) (next : List ExactPlace) → st ≡ stage.Writes words k → Agrees st aw → PutFits x aw (Published k) r s →
+    pub puts_done : (words : Words) (k : ℕ) (next : List ExactPlace) → st ≡ stage.Writes words k → Agrees st aw →
+        PutFits x aw (Published k) r s →
         next ≡ with_place now k (place.Done words) →
         ActFits limit me old now act.Done (Replied me r) (kept_of s stage.Idle) next
     puts_done words k next is agrees puts places =
@@ -186,7 +188,8 @@ module _ (limit me : ℕ) (now : List ExactPlace) (old : Kept) (x : State) (st :
       (record { state = x; step = step_of (stage.Claims words (length now)) w }) now) (sym p.awaited)
       (claims_fit limit me now here p.pending p.step_so room))
 
-  pub claims_win : (words : Words) (c : ℕ) (next : List ExactPlace) → st ≡ stage.Claims words c → Agrees st aw → length now ≡ c → next ≡ now ++ place.Claimed me ∷ [] →
+  pub claims_win : (words : Words) (c : ℕ) (next : List ExactPlace) → st ≡ stage.Claims words c → Agrees st aw →
+      length now ≡ c → next ≡ now ++ place.Claimed me ∷ [] →
       ActFits limit me old now act.Claim Quiet (record { state = x; step = step_of (stage.Writes words c) aw }) next
   claims_win words c next is agrees won places =
       let p = claims_step st aw words c is agrees in

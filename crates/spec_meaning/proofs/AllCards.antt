@@ -78,18 +78,23 @@ whole_heading c style here part seen l lines h e new o =
       name_title = sym (title_begin seen.name part section.Name l lines c.name_title h e (n section.Name)) i;
       sense_title = sym (title_begin seen.sense part section.Sense l lines c.sense_title h e (n section.Sense)) i;
       senses =
-          c.senses ++ sym (cards_begin style here seen.sense part section.Sense l lines h e o.told.senses (n section.Sense)) i;
-      rows = c.rows ++ sym (cards_begin style here seen.rows part section.Rows l lines h e o.told.rows (n section.Rows)) i;
+          c.senses
+          ++ sym (cards_begin style here seen.sense part section.Sense l lines h e o.told.senses (n section.Sense)) i;
+      rows =
+          c.rows ++ sym (cards_begin style here seen.rows part section.Rows l lines h e o.told.rows (n section.Rows)) i;
       columns =
           c.columns
-          ++ sym (cards_begin style here seen.columns part section.Columns l lines h e o.told.columns (n section.Columns)) i;
+          ++ sym (cards_begin style here seen.columns part
+          section.Columns l lines h e o.told.columns (n section.Columns)) i;
       right_sides =
           c.right_sides ++ sym (cards_begin style here seen.right_sides part
           section.RightSides l lines h e o.told.right_sides (n section.RightSides)) i;
       ranges =
-          c.ranges ++ sym (cards_begin style here seen.ranges part section.Ranges l lines h e o.told.ranges (n section.Ranges)) i;
+          c.ranges
+          ++ sym (cards_begin style here seen.ranges part section.Ranges l lines h e o.told.ranges (n section.Ranges)) i;
       bounds =
-          c.bounds ++ sym (cards_begin style here seen.bounds part section.Bounds l lines h e o.told.bounds (n section.Bounds)) i;
+          c.bounds
+          ++ sym (cards_begin style here seen.bounds part section.Bounds l lines h e o.told.bounds (n section.Bounds)) i;
     }
 
 pub whole_end : (c : SoFar) (style : Style) (here : Option Section) (seen : Seen) (l : Line (List ℕ)) (lines : Lines) →

@@ -54,7 +54,8 @@ number_name c (Row i) v = by (eq_ℚ v 0ℚ)
     by true = refl
     by false = refl
 
-pub number_non_zero : (c : ExactColumn) (x : Target) (v : ℚ) → AreNonZero c.entries → AreNonZero (with_number c x v).entries
+pub number_non_zero : (c : ExactColumn) (x : Target) (v : ℚ) → AreNonZero c.entries →
+    AreNonZero (with_number c x v).entries
 number_non_zero c Objective v z = z
 number_non_zero c (Row i) v z = by (eq_ℚ v 0ℚ) refl
   where

@@ -32,7 +32,8 @@ use Rattle.spec_meaning.proofs.RowViews.{RowView, row_view, place_in, place_by_v
 use Rattle.spec_meaning.proofs.PairsKept.{Put, PutNowhere, PutAt, Tells, tells_push, number_is, texts_none}
 use Rattle.spec_meaning.proofs.ColumnLemmas.{IsColumn, column_is, pairs_push, is_named, named_push, firsts_push}
 use Rattle.spec_meaning.proofs.ColumnLemmas.{not_named, unnamed_pairs, AreNonZero}
-use Rattle.spec_meaning.proofs.ColumnNumbers.{number_at, open_number, open_at, number_here, number_there, number_name, number_non_zero}
+use Rattle.spec_meaning.proofs.ColumnNumbers.{number_at, open_number, open_at, number_here, number_there}
+use Rattle.spec_meaning.proofs.ColumnNumbers.{number_name, number_non_zero}
 
 -- ---- what the cards say of columns
 

@@ -34,7 +34,8 @@ looked_up word part (x ∷ xs) h a = go (same word x.0) refl (λ k. looked_up wo
 
 pub word_is : (word : List ℕ) (part : Section) → section_of word ≡ Some part → word ≡ section_word part
 unfolding section_of
-word_is word part h = looked_up word part section_words h (refl, (refl, (refl, (refl, (refl, (refl, (refl, (refl, tt))))))))
+word_is word part h =
+    looked_up word part section_words h (refl, (refl, (refl, (refl, (refl, (refl, (refl, (refl, tt))))))))
 
 -- ---- a line that begins a section
 
