@@ -13,8 +13,6 @@ mod link;
 mod listen;
 mod mem_link;
 mod mem_listen;
-#[cfg(test)]
-mod tests;
 
 pub use link::Link;
 pub use listen::Listen;

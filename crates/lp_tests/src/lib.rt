@@ -8,7 +8,8 @@
 //! | `board` | passes of one board on two threads | src/board |
 //! | `worlds` | sessions of a world that publish at the same time | src/worlds |
 //! | `workers` | two workers beside each other | src/workers |
-//! | `links` | two links in memory that one worker serves, and a listener without a link | src/links |
+//! | `links` | two links in memory that one worker serves, one that comes back, and a listener without a link | src/links |
+//! | `tcp` | two links over loopback, each served by a worker of its own | src/tcp |
 #![tactic(auto)]
 
 #[cfg(test)]
@@ -21,6 +22,8 @@ mod links;
 mod revised;
 #[cfg(test)]
 mod shapes;
+#[cfg(test)]
+mod tcp;
 #[cfg(test)]
 mod workers;
 #[cfg(test)]

@@ -1,9 +1,9 @@
-// Two links, and none, before one worker.
+// Two links before one worker, one that comes back, and none.
 ghost use Rattle.std.specs.Prelude.{IfOk};
 ghost use Rattle.lp_link.specs.Memory.{IsUnwritten};
 
-use lp_base::{Bytes, MemSink, Texts};
-use lp_link::{MemLink, MemListen};
+use lp_base::{Bytes, MemSink, Sink, Source, Texts};
+use lp_link::{Listen, MemLink, MemListen};
 use lp_serve::{ServeFault, serve};
 use std::alloc::{AllocError, Global};
 use std::test::Fail;
@@ -54,5 +54,27 @@ fn no_link_comes(rt: HostRuntime) -> Result<(), Fail> {
     let served = serve(&rt, alloc, &mut nets, 1, 4, &mut out);
     assert_eq!(rt; served, Err(ServeFault::Accept));
     assert!(rt; out.written().is_empty());
+    Ok(())
+}
+
+#[test]
+fn a_link_comes_back(rt: HostRuntime) -> Result<(), Fail> {
+    let alloc = rt.alloc();
+    let links = std::vec![in alloc; link(alloc, b"one")?, link(alloc, b"two")?]?;
+    let mut net = MemListen::new(alloc, links, std::vec![in alloc; 2]?)?;
+    let Ok(mut first) = net.accept() else {
+        return Ok(assert!(rt; false));
+    };
+    let mut text = [0; 8];
+    assert_eq!(rt; first.read(&mut text), Ok(3));
+    assert_eq!(rt; &text[..3], b"one".as_slice());
+    assert_eq!(rt; first.write(b"reply"), Ok(5));
+    net.give_back(first);
+    assert!(rt; net.accept().is_err());
+    assert!(rt; net.accept().is_ok());
+    assert!(rt; net.accept().is_err());
+    let back = net.links_back();
+    assert_eq!(rt; back.len(), 1);
+    assert_eq!(rt; back[0].written(), b"reply".as_slice());
     Ok(())
 }

@@ -3,8 +3,6 @@
 
 mod listening;
 mod outside;
-#[cfg(test)]
-mod tests;
 mod told;
 mod usage;
 
