@@ -4,6 +4,7 @@
     gate.py [--write PAGE] [--words WORD ..]     runs `rt ci` at the top of the tree, with these words, and measures it
     gate.py [--write PAGE] --watch FOLDER        measures the run that goes on in that copy of the tree, until it ends
     gate.py [--write PAGE] --read FILE           makes the table of the times that an earlier run wrote
+    gate.py --beside COMMIT=FILE ..              gives the table a column of what such a run of that commit took in all
 
 A run from nothing is one on a machine that kept nothing, or with `--words=--anew`. Twice a second the processes of the
 run are looked up under /proc, and the time that each took is put down to its crate: a check in the tree's own folder is
@@ -107,21 +108,33 @@ def read(file):
     return times
 
 
-def table(times):
+def by_crate(times, beside):
+    """What each crate took by column: by kind, in all, and in all at each of the other commits."""
     crates = defaultdict(Counter)
     for (crate, kind), seconds in times.items():
         crates[crate][kind] += seconds
-    order = sorted(crates, key=lambda crate: -sum(crates[crate].values()))
+        crates[crate]["all"] += seconds
+    for commit, then in beside.items():
+        for (crate, _), seconds in then.items():
+            crates[crate][commit] += seconds
+    return crates
+
+
+def table(times, beside):
+    crates = by_crate(times, beside)
+    order = sorted(crates, key=lambda crate: -max(crates[crate][column] for column in ("all", *beside)))
     if len(order) > ROWS:
-        others = sum((crates.pop(crate) for crate in order[ROWS:]), Counter())
-        crates[f"{len(order) - ROWS} others"] = others
-        order = [*order[:ROWS], f"{len(order) - ROWS} others"]
+        last = f"{len(order) - ROWS} others"
+        crates[last] = sum((crates.pop(crate) for crate in order[ROWS:]), Counter())
+        order = [*order[:ROWS], last]
     whole = sum(crates.values(), Counter())
-    lines = ["| Crate | " + " | ".join(f"{kind}, s" for kind in KINDS) + " | all, s |", "|---|" + "---|" * (len(KINDS) + 1)]
+    columns = [*KINDS, "all", *beside]
+    heads = [*KINDS, "all", *(f"all at {commit}" for commit in beside)]
+    lines = ["| Crate | " + " | ".join(f"{head}, s" for head in heads) + " |", "|---|" + "---|" * len(columns)]
     for crate in order:
-        cells = [f"{crates[crate][kind]:.0f}" if crates[crate][kind] >= 0.5 else "" for kind in KINDS]
-        lines.append(f"| {crate if ' ' in crate or '(' in crate else f'`{crate}`'} | " + " | ".join(cells) + f" | {sum(crates[crate].values()):.0f} |")
-    lines.append("| **minutes** | " + " | ".join(f"{whole[kind] / 60:.1f}" for kind in KINDS) + f" | {sum(whole.values()) / 60:.1f} |")
+        cells = [f"{crates[crate][column]:.0f}" if crates[crate][column] >= 0.5 else "" for column in columns]
+        lines.append(f"| {crate if ' ' in crate or '(' in crate else f'`{crate}`'} | " + " | ".join(cells) + " |")
+    lines.append("| **minutes** | " + " | ".join(f"{whole[column] / 60:.1f}" for column in columns) + " |")
     return lines
 
 
@@ -130,8 +143,10 @@ def main():
     parser.add_argument("--words", nargs="*", default=[])
     parser.add_argument("--watch", type=Path)
     parser.add_argument("--read", type=Path)
+    parser.add_argument("--beside", action="append", default=[], metavar="COMMIT=FILE")
     parser.add_argument("--write", type=Path)
     given = parser.parse_args()
+    beside = {commit: read(file) for commit, file in (it.split("=", 1) for it in given.beside)}
     status = 0
     if given.read:
         times = read(given.read)
@@ -144,7 +159,7 @@ def main():
     for (crate, kind), seconds in times.most_common():
         print(f"{crate}\t{kind}\t{seconds:.2f}")
     if given.write:
-        write(given.write, BEGIN, END, table(times))
+        write(given.write, BEGIN, END, table(times, beside))
     return status
 
 
