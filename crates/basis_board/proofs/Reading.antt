@@ -166,8 +166,8 @@ module _ (places : ℕ) where
           }
 
   -- the next word of a place of which j words were read
-  pub reads_next : (slots id : ℕ) (me : Me ℕ View) (v : View) (words : List ℕ) (i k j : ℕ) → IsReading k j words v me.0 →
-      0 < v.share → j < 49 → i ≡ 50 * k + 1 + j
+  pub reads_next : (slots id : ℕ) (me : Me ℕ View) (v : View) (words : List ℕ) (i k j : ℕ) →
+      IsReading k j words v me.0 → 0 < v.share → j < 49 → i ≡ 50 * k + 1 + j
       → Allows (Kept places) slots id me i (λ n. n) (word_read (step slots i 0 0 none) me)
   reads_next slots id me v words i k j h share room is =
       let long = h.long in

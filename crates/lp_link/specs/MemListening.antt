@@ -32,7 +32,8 @@ abbrev pub listen_faults : MemListen → ℕ
 listen_faults net = net.calls.faults
 
 -- no more links came back than it gave
-pub few_by_lengths : (net : MemListen) → AreNoMore (Some (map mem_link_state (links_returned net))) (Some (links_given net))
+pub few_by_lengths : (net : MemListen) →
+    AreNoMore (Some (map mem_link_state (links_returned net))) (Some (links_given net))
 few_by_lengths net = omega (
   arith,
   length-map (links_returned net) mem_link_state,

@@ -25,7 +25,8 @@ pub trait Listen {
 
     /// Waits for the next link. Nothing was written to it yet.
     fn accept(&mut self) -> Result<Self::Link, Failed>
-        ensures handed { HandsOver (state_of Self.Link.left Self.Link.read_faults Self.Link.taken Self.Link.write_faults)
+        ensures handed { HandsOver
+            (state_of Self.Link.left Self.Link.read_faults Self.Link.taken Self.Link.write_faults)
             (handed self.old) (handed self.new) result }
         ensures returned { returned self.new ≡ returned self.old }
         ensures cause { HasCause (accept_faults self.old) (accept_faults self.new) result };

@@ -1,5 +1,6 @@
 // A link in memory.
-ghost use Rattle.std.specs.Prelude.{◌≡◌, ◌↔◌, ◌+◌, ◌-◌, ◌^◌, [], length, min, take, refl, Some, IsErr, OnOk, OnErr, IfOk};
+ghost use Rattle.std.specs.Prelude.{◌≡◌, ◌↔◌, ◌+◌, ◌-◌, ◌^◌, [], length, min, take, refl};
+ghost use Rattle.std.specs.Prelude.{Some, IsErr, OnOk, OnErr, IfOk};
 ghost use Rattle.std.specs.List.{Contains};
 ghost use Rattle.std.specs.Io.{ReadsAtMost, WritesAtMost};
 ghost use Rattle.std.specs.Io.KnownBytes.{ReadConsumes, WriteAppends};
@@ -80,7 +81,8 @@ impl Sink for MemLink {
     fn write(&mut self, piece: &[u8]) -> Result<usize, Failed>
         ensures bound { WritesAtMost result piece.now }
         ensures all { IfOk result (λ n. n ≡ length piece.now) }
-        ensures bytes { WriteAppends (Some (bytes_taken self.old.sink)) (Some (bytes_taken self.new.sink)) result piece.now }
+        ensures bytes { WriteAppends (Some (bytes_taken self.old.sink)) (Some (bytes_taken self.new.sink)) result
+            piece.now }
         ensures cause { HasCause (sink_faults self.old.sink) (sink_faults self.new.sink) result }
         ensures next { next_write self.new.sink ≡ min (next_write self.old.sink + 1) (2 ^ 64 - 1) }
         ensures fails { failing_writes self.new.sink ≡ failing_writes self.old.sink }

@@ -68,7 +68,8 @@ abbrev pub exchange_of : Asked ExactAsk → List ExactRead → ExactReply → Ex
 exchange_of asked reads reply = record { session = asked.session; ask = asked.ask; reads = reads; reply = reply }
 
 -- after it the other sessions are as they were
-pub one_run : (places : ℕ) (old new : ℕ → State) (asked : Asked ExactAsk) (reads : List ExactRead) (reply : ExactReply) →
+pub one_run : (places : ℕ) (old new : ℕ → State) (asked : Asked ExactAsk) (reads : List ExactRead)
+    (reply : ExactReply) →
     AloneStep places (old asked.session) asked.ask reads reply (new asked.session) →
     ((session : ℕ) → session ≢ asked.session → new session ≡ old session) → (session : ℕ) →
     AloneRun places (old session) (of_session session (exchange_of asked reads reply ∷ [])) (new session)

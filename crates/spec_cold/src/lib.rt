@@ -10,8 +10,8 @@
 //! The functions here have the laws as their contracts. Each law holds at every limit: a run at a limit that gives a
 //! result gives the exact one.
 //!
-//! The run on lists is that of `spec_simplex`, what its steps mean is said in `spec_path`, and the certificates and their
-//! checker are those of `spec_check`.
+//! The run on lists is that of `spec_simplex`, what its steps mean is said in `spec_path`, and the certificates and
+//! their checker are those of `spec_check`.
 #![tactic(auto)]
 
 ghost use Rattle.std.specs.Prelude.{◌≡◌, ◌⊎◌, ◌+◌, ◌*◌, ◌^◌, ◌≤◌, ℕ, List, Option, None, Ok, Err};

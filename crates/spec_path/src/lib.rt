@@ -11,8 +11,8 @@
 //! The functions here have the laws as their contracts. Each law holds at every limit: a run at a limit that gives a
 //! result gives the exact one.
 //!
-//! The run on lists is that of `spec_simplex`, and the steps on functions of an index are those of `spec_pivot`. Nothing
-//! here names a certificate or its check.
+//! The run on lists is that of `spec_simplex`, and the steps on functions of an index are those of `spec_pivot`.
+//! Nothing here names a certificate or its check.
 #![tactic(auto)]
 
 ghost use Rattle.std.specs.Prelude.{◌≡◌, ◌+◌, ◌≤◌, ℕ, length, Option, Ok, false};

@@ -13,8 +13,8 @@ abbrev pub InPairs : {X : Type 0} → (X → X → Type 0) → List X → Type 0
 InPairs R [] = Unit {0}
 InPairs R (x ∷ xs) = AllByRecursion (R x) xs × InPairs R xs
 
--- what an earlier read says of a later one: the count never falls, and a place that was done, or was published, is below
--- each count and done ever after
+-- what an earlier read says of a later one: the count never falls, and a place that was done, or was published, is
+-- below each count and done ever after
 abbrev pub AreInOrder : ExactRead → ExactRead → Type 0
 AreInOrder (Count c) (Count d) = c ≤ d
 AreInOrder (Count c) (Lost d) = c ≤ d

@@ -66,14 +66,16 @@ pub fn factors_step_as_tableaus()
         SameChoice t s.bare c selection.choice }
     ensures flip { (f : Form) (starts : List (RowStart ℚ)) (costs : List ℚ) (b : Bounds) (t u : Tableau)
         (s : Revised) (c : Choice ℚ) (selection : Selection) (j : ℕ) →
-        IsTableauOf f.rows f.cols (form_rows f (signs_of starts)) (cost_at costs) b t → IsWithinBounds f.rows f.cols b t →
+        IsTableauOf f.rows f.cols (form_rows f (signs_of starts)) (cost_at costs) b t →
+        IsWithinBounds f.rows f.cols b t →
         length costs ≤ f.cols + f.rows + f.rows → GoesWith f t s →
         choice_run None t ≡ Ok c → selection_run None f starts costs s ≡ Ok selection → selection.choice ≡ Flip j →
         done_run None t c ≡ Ok u →
         (v : Revised) × (flip_over_run None s selection.tableau j ≡ Ok v) × GoesWith f u v }
     ensures pivot { (f : Form) (starts : List (RowStart ℚ)) (costs : List ℚ) (b : Bounds) (t u : Tableau)
         (s : Revised) (c : Choice ℚ) (selection : Selection) (p j : ℕ) (theta : ℚ) (to : Status) →
-        IsTableauOf f.rows f.cols (form_rows f (signs_of starts)) (cost_at costs) b t → IsWithinBounds f.rows f.cols b t →
+        IsTableauOf f.rows f.cols (form_rows f (signs_of starts)) (cost_at costs) b t →
+        IsWithinBounds f.rows f.cols b t →
         length costs ≤ f.cols + f.rows + f.rows → GoesWith f t s →
         choice_run None t ≡ Ok c → selection_run None f starts costs s ≡ Ok selection →
         selection.choice ≡ Pivot p j theta to → done_run None t c ≡ Ok u →

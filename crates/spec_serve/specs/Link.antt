@@ -57,8 +57,8 @@ AreFirstOf {X} first all = (more : List X) × (all ≡ first ++ more)
 abbrev pub HoldsOfAll : Option (List ℕ) → List ℕ → (List ℕ → Type 0) → Type 0
 HoldsOfAll after read P = (IsAtEnd after × P read) ⊎ ((more : List ℕ) → P (read ++ more))
 
--- The bytes that were read; the exchanges of the link's session, which runs alone from its opening, of the first asks of
--- the link; and the bytes that were written, a prefix of what is written of the exchanges.
+-- The bytes that were read; the exchanges of the link's session, which runs alone from its opening, of the first asks
+-- of the link; and the bytes that were written, a prefix of what is written of the exchanges.
 pub record LinkMoves (places : ℕ) (s : Streams) (exchanges : List Exchange) : Type 0 where
   pub read : List ℕ
   pub written : List ℕ

@@ -129,8 +129,9 @@ module _ (style : Style) where
 
   columns_all : (m : Model) → AreInner (columns_cards m)
   unfolding columns_cards
-  columns_all m = All-cons IsInner (section_card (codes "COLUMNS")) (flat_map (column_cards m) m.columns) headings_inner.columns
-      (each (column_cards m) m.columns (column_all m))
+  columns_all m =
+      All-cons IsInner (section_card (codes "COLUMNS")) (flat_map (column_cards m) m.columns)
+      headings_inner.columns (each (column_cards m) m.columns (column_all m))
 
   side_all : (name : Name) (v : ℚ) → AreInner (side_cards name v)
   side_all name v = by (eq_ℚ v 0ℚ)

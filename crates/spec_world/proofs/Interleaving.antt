@@ -87,7 +87,8 @@ module _ (workers : ℕ) where
             (exchanges_of_worker workers worker rest.exchanges)) same
             ∙ ap
             (λ xs. cond (nat_eq own worker) (own_next.first ∷ xs) xs) (rest.parts worker)
-            ∙ ap (λ b. cond b (own_next.first ∷ cond b own_next.rest (had worker)) (cond b own_next.rest (had worker))) e
+            ∙ ap
+            (λ b. cond b (own_next.first ∷ cond b own_next.rest (had worker)) (cond b own_next.rest (had worker))) e
             ∙ so t e
 
   pub interleaved : (asks : List (Asked ExactAsk)) (had : ℕ → List Exchange) →

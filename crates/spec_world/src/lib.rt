@@ -123,8 +123,8 @@ pub fn one_worker_is_many()
     ensures { (places workers : ℕ) (xs : List Exchange) → RunFits places xs → RunsBy workers places xs }
 {}
 
-/// What workers had beside each other, each with its own asks, stands in the order of the asks; and then it is what many
-/// workers may reply, if each answered its own asks alone and in order, and all that was read is backed.
+/// What workers had beside each other, each with its own asks, stands in the order of the asks; and then it is what
+/// many workers may reply, if each answered its own asks alone and in order, and all that was read is backed.
 pub fn workers_are_many()
     ensures interleave { (workers : ℕ) (asks : List (Asked ExactAsk)) (had : ℕ → List Exchange) →
         ((worker : ℕ) → map asked_in (had worker) ≡ asks_of_worker workers worker asks) →
@@ -135,8 +135,8 @@ pub fn workers_are_many()
 {}
 
 /// Two runs of the same asks, by any numbers of workers and with any numbers of places, give each session the same
-/// replies, but for how answers were found, the lines of certificates, and answers in place of a refused operation or of
-/// a spent budget.
+/// replies, but for how answers were found, the lines of certificates, and answers in place of a refused operation or
+/// of a spent budget.
 pub fn workers_agree()
     ensures { (workers workers' places places' session : ℕ) (xs ys : List Exchange) →
         RunsBy workers places xs → RunsBy workers' places' ys → map asked_in xs ≡ map asked_in ys →
