@@ -1,6 +1,6 @@
 -- What a data card of each section did to what was read so far.
-use Rattle.std.proofs.Common.{◌≡◌, ℕ, ◌+◌, Bool, true, false, not, ◌||◌, cond, ltb, Option, Some, is_none}
-use Rattle.std.proofs.Common.{Ok, Err, List, [], ◌∷◌, ◌++◌, length, refl, sym, ◌∙◌, subst, codes, append-nil, append_assoc}
+use Rattle.std.proofs.Common.{◌≡◌, ℕ, ◌+◌, Bool, true, false, not, ◌||◌, cond, ltb, Option, Some, is_none, Ok, Err}
+use Rattle.std.proofs.Common.{List, [], ◌∷◌, ◌++◌, length, refl, sym, ◌∙◌, subst, codes, append-nil, append_assoc}
 use Rattle.std.specs.List.{list_any, position}
 use Rattle.spec_text.specs.Words.{same}
 use Rattle.spec_exact.specs.Fraction.{ℚ}
@@ -18,13 +18,14 @@ use Rattle.spec_mps.specs.Fields.{Fields, text_at, texts_of}
 use Rattle.spec_mps.specs.Checks.{Check, ◌>>=◌, must, need}
 use Rattle.spec_mps.specs.Shapes.{sense_of, row_type_of, bound_kind_of, has_shape, shapes_of, shaped}
 use Rattle.spec_mps.specs.Reader.{State, place_of, number_in, is_first, with_row, add_row, rows_card, new_column}
-use Rattle.spec_mps.specs.Reader.{whole_columns, is_open, opened, enter, column_pair, pairs_of, column_pairs}
+use Rattle.spec_mps.specs.Reader.{whole_columns, is_open, opened, enter, column_pair, pairs_of, in_turn, column_pairs}
 use Rattle.spec_mps.specs.Reader.{column_by, marker_field, columns_card}
-use Rattle.spec_mps.specs.Sides.{SetAndPairs, set_and_pairs, is_used, put_side, side_pair, side_pairs, rhs_by, rhs_card}
-use Rattle.spec_mps.specs.Sides.{ranged_row, put_range, range_pair, range_pairs, ranges_by, ranges_card}
+use Rattle.spec_mps.specs.Sides.{SetAndPairs, set_and_pairs, is_used, put_side, side_pair, side_pairs, rhs_card}
+use Rattle.spec_mps.specs.Sides.{ranged_row, put_range, range_pair, range_pairs, ranges_card}
 use Rattle.spec_mps.specs.Bounds.{BoundCard, bound_card, BoundTexts, bound_texts, with_bound, use_bound, bounds_card}
-use Rattle.spec_mps.specs.Steps.{take_sense}
+use Rattle.spec_mps.specs.Steps.{take_sense, data_card}
 use Rattle.spec_mps.proofs.CheckSteps.{step_ok, must_ok, need_ok, same_ok}
+use Rattle.spec_mps.proofs.Sets.{Sets, Sides, Ranges, part_of, pair_of, card_is}
 
 -- the texts of a card that has a shape of its section
 pub shaped_texts : (style : Style) (part : Section) (fields : Fields) (texts : List (List ℕ)) →
@@ -158,6 +159,15 @@ pub range_puts : PutsPairs put_ranged range_pairs
 range_puts =
     puts_by put_ranged (λ s pair. range_pair s pair.0 pair.1) range_pairs same_ok (λ s pair pairs. refl) range_did
 
+-- what the number of a pair does at a place
+abbrev pub put_of : Sets → State → Place → ℚ → Check State
+put_of Sides = put_side
+put_of Ranges = put_ranged
+
+pub puts_of : (sets : Sets) → PutsPairs (put_of sets) (in_turn (pair_of sets))
+puts_of Sides = side_puts
+puts_of Ranges = range_puts
+
 -- ---- COLUMNS
 
 -- a new column, or the one that is read
@@ -245,25 +255,27 @@ set_did s card does t h = go (is_used s.set card.set) refl h
     go true e k = Used e k
     go false e k = Skipped e (same_ok s t k)
 
+pub card_did : (sets : Sets) (style : Style) (s : State) (fields : Fields) (t : State) →
+    data_card style (Some (part_of sets)) s fields ≡ Ok t →
+    SetDid s (set_and_pairs (texts_of fields)) (in_turn (pair_of sets)) t
+card_did sets style s fields t h =
+    let a = step_ok (shaped style (part_of sets) fields) _ t (sym (card_is sets style s fields) ∙ h) in
+    subst (λ x. SetDid s (set_and_pairs x) (in_turn (pair_of sets)) t)
+    (sym (shaped_texts style (part_of sets) fields a.0 a.1))
+    (set_did s (set_and_pairs a.0) (in_turn (pair_of sets)) t a.2)
+
 pub rhs_did : (style : Style) (s : State) (fields : Fields) (t : State) → rhs_card style s fields ≡ Ok t →
     SetDid s (set_and_pairs (texts_of fields)) side_pairs t
-unfolding rhs_card rhs_by
-rhs_did style s fields t h =
-    let a = step_ok (shaped style section.RightSides fields) _ t h in
-    subst (λ x. SetDid s (set_and_pairs x) side_pairs t)
-    (sym (shaped_texts style section.RightSides fields a.0 a.1)) (set_did s (set_and_pairs a.0) side_pairs t a.2)
+rhs_did = card_did Sides
 
 pub ranges_did : (style : Style) (s : State) (fields : Fields) (t : State) → ranges_card style s fields ≡ Ok t →
     SetDid s (set_and_pairs (texts_of fields)) range_pairs t
-unfolding ranges_card ranges_by
-ranges_did style s fields t h =
-    let a = step_ok (shaped style section.Ranges fields) _ t h in
-    subst (λ x. SetDid s (set_and_pairs x) range_pairs t)
-    (sym (shaped_texts style section.Ranges fields a.0 a.1)) (set_did s (set_and_pairs a.0) range_pairs t a.2)
+ranges_did = card_did Ranges
 
 -- what a card's set and each of its pairs keep, the card keeps
 pub set_keeps : (put : State → Place → ℚ → Check State) (run : State → List (List ℕ × List ℕ) → Check State) →
-    PutsPairs put run → (K : State → Type 0) → ((s : State) (set : Option Name) → K s → K (record s { set = Some set })) →
+    PutsPairs put run → (K : State → Type 0) →
+    ((s : State) (set : Option Name) → K s → K (record s { set = Some set })) →
     ((s : State) (pair : List ℕ × List ℕ) (t : State) → PairDid put s pair t → K s → K t) →
     (s : State) (card : SetAndPairs) (t : State) → SetDid s card run t → K s → K t
 set_keeps put run puts K of_set of_pair s card t (Used used did) k =

@@ -6,6 +6,7 @@ pub mod DigitLemmas
 pub mod RoundTrip
 pub mod BoundLemmas
 pub mod CheckSteps
+pub mod Sets
 pub mod CardsDid
 pub mod BoundsSet
 pub mod NarrowNumbers
@@ -30,6 +31,8 @@ pub mod WrittenBehind
 pub mod WrittenParts
 pub mod WrittenFacts
 pub mod WrittenRowNumbers
+pub mod WrittenSections
+pub mod WrittenSets
 pub mod WrittenSides
 pub mod WrittenSidesRead
 pub mod WrittenRanges

@@ -273,7 +273,8 @@ with_bound_sound s place card small narrow sound =
           with_bounds (length (row_names s.rows)) place
           (get_or s.lowered place false) card s.columns s.column s.paired small sound.columns;
       narrow =
-          bounds_narrow s.offset s.rows s.columns s.column sound.narrow place (get_or s.lowered place false) card narrow;
+          bounds_narrow s.offset s.rows s.columns s.column sound.narrow place
+          (get_or s.lowered place false) card narrow;
     }
 
 bound_sound : (s : State) (kind : BoundKind) (texts : BoundTexts) (t : State) → BoundDid s kind texts t → IsSound s →

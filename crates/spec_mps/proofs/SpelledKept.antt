@@ -144,7 +144,8 @@ card_sound : (style : Style) (s : State) (c : Card Fields) (p : Progress) → on
     IsSoundProgress p
 card_sound style s card.Skip p h sound = subst IsSoundProgress (same_ok (More s) p h) sound
 card_sound style s (card.Section fields) p h sound = section_card_sound s fields p h sound
-card_sound style s (card.Given fields) p h sound = more_sound _ p h (λ t k. data_card_sound style s.part s fields t k sound)
+card_sound style s (card.Given fields) p h sound =
+    more_sound _ p h (λ t k. data_card_sound style s.part s fields t k sound)
 
 reading_sound : (style : Style) (s : State) (reading : CardReading) (p : Progress) → on_reading style s reading ≡ Ok p →
     IsSound s → IsSoundProgress p

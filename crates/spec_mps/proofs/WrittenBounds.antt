@@ -273,8 +273,9 @@ column_bounded style s done c more before after set e place used word (Some l) (
         ap (λ x. record c { lower = Some x; upper = Some u }) (sym (eq_if l 0ℚ p.0)) in (
           false,
           used_set,
-          value_goes style s done (bare_column c) whole more before false after set Up u e place used refl (record { word = word; room = r.0 })
-              (number_item style u hu.narrow r.1) hu (upper_positive (bare_column c) u p.1 ∙ same),
+          value_goes style s done (bare_column c) whole more before false after set Up u e place used refl
+              (record { word = word; room = r.0 }) (number_item style u hu.narrow r.1) hu
+              (upper_positive (bare_column c) u p.1 ∙ same),
           refl,
         )
     two false z room =
@@ -287,9 +288,11 @@ column_bounded style s done c more before after set e place used word (Some l) (
         let name : IsItem style 8 c.name = record { word = word; room = front.0 } in
         let low : ExactColumn = record c { lower = Some l; upper = None } in
         let first =
-        value_goes style s done (bare_column c) low more before false after set Lo l e place used refl name (number_item style l hl.narrow front.1) hl refl in
+        value_goes style s done (bare_column c) low more before false after set Lo l e place used refl name
+        (number_item style l hl.narrow front.1) hl refl in
         let second =
-        value_goes style s done low whole more before true after used_set Up u e (record { absent = place.absent; alike = place.alike }) refl refl name
+        value_goes style s done low whole more before true after used_set Up u e
+        (record { absent = place.absent; alike = place.alike }) refl refl name
         (number_item style u hu.narrow back.1) hu (upper_lowered low u) in (
           true,
           used_set,

@@ -1,5 +1,5 @@
 -- The whole section BOUNDS of a written text, and the end.
-use Rattle.std.proofs.Common.{◌≡◌, ℕ, suc, not, Bool, true, false, cond, Option, Some, None, Ok, List, [], ◌∷◌}
+use Rattle.std.proofs.Common.{◌≡◌, ℕ, suc, not, Bool, true, false, Option, Some, None, Ok, List, [], ◌∷◌}
 use Rattle.std.proofs.Common.{◌++◌, length, map, refl, sym, ap, ◌∙◌, subst, append_assoc, length-append, arith}
 use Rattle.std.specs.Prelude.{codes, IfSome}
 use Rattle.std.specs.List.{All, flat_map, list_any}
@@ -22,10 +22,11 @@ use Rattle.spec_mps.specs.Steps.{Done, begun, finished, model_by, step}
 use Rattle.spec_mps.specs.Steps.{section_card as on_section}
 use Rattle.spec_mps.specs.Written.{WrittenCards, bound_cards, bounds_cards, has_bounds, is_usual, section_card}
 use Rattle.spec_mps.proofs.WrittenSteps.{Goes, bare_column}
-use Rattle.spec_mps.proofs.WrittenRows.{or_parts, AreFresh, goes_one, goes_none, goes_then}
+use Rattle.spec_mps.proofs.WrittenRows.{or_parts, AreFresh, goes_one, goes_none}
 use Rattle.spec_mps.proofs.WrittenNames.{name_word, fresh}
 use Rattle.spec_mps.proofs.WrittenGoes.{goes_append}
 use Rattle.spec_mps.proofs.WrittenHeadings.{bounds_step, heading_step}
+use Rattle.spec_mps.proofs.WrittenSections.{section_read}
 use Rattle.spec_mps.proofs.WrittenRoom.{RoomFor, room_front, room_back}
 use Rattle.spec_mps.proofs.WrittenFacts.{start_closed, HasNoBounds, IsWhole}
 use Rattle.spec_mps.proofs.WrittenKinds.{IsBoundNumber}
@@ -116,7 +117,11 @@ none_bounded (c ∷ columns) h =
 pub bounds_are_read : (style : Style) (m : Model) → IsModel m → RoomFor style (bounds_cards m) → (s : State) →
     HasNoBounds s m → (t : State) × Goes style s (bounds_cards m) t × IsWhole t m
 unfolding bounds_cards
-bounds_are_read style m kept room s h = by (list_any has_bounds m.columns) refl
+bounds_are_read style m kept room s h =
+    section_read style s one (section_card (codes "BOUNDS")) (bounds_of m.columns) (λ t. IsWhole t m)
+    (goes_one style s one (section_card (codes "BOUNDS"))
+    (bounds_step style s h.known.may_follow h.unbounded.no_bounds))
+    some (list_any has_bounds m.columns) room none
   where
     one : State
     one = begun s section.Bounds
@@ -139,36 +144,22 @@ bounds_are_read style m kept room s h = by (list_any has_bounds m.columns) refl
         (subst (λ cs. Goes style (bounding one cs (map (λ c. false) m.columns) None)
         (bounds_of m.columns) (bounding one m.columns bs q)) (sym none_open) g)
 
-    by : (t : Bool) → list_any has_bounds m.columns ≡ t →
-        (u : State) × Goes style s (cond t (section_card (codes "BOUNDS") ∷ bounds_of m.columns) []) u × IsWhole u m
-    by true z =
-        let there : RoomFor style (section_card (codes "BOUNDS") ∷ bounds_of m.columns) =
-        subst (λ t. RoomFor style (cond t (section_card (codes "BOUNDS") ∷ bounds_of m.columns) [])) z room in
-        let g = go (room_back style (section_card (codes "BOUNDS") ∷ []) (bounds_of m.columns) there) in
-        let t : State = bounding one m.columns g.0 g.1 in
-        let k = h.known in
-        let heading : Goes style s (section_card (codes "BOUNDS") ∷ []) one =
-        goes_one style s one (section_card (codes "BOUNDS"))
-        (bounds_step style s k.may_follow h.unbounded.no_bounds) in (
-          t,
-          goes_then style s one t (section_card (codes "BOUNDS")) (bounds_of m.columns) heading (here g.0 g.1 g.2),
-          record {
-            known = start_closed s m k;
-            offset = h.offset;
-            rows = h.rows;
-            columns = refl;
-          },
+    some : RoomFor style (bounds_of m.columns) → (t : State) × Goes style one (bounds_of m.columns) t × IsWhole t m
+    some r =
+        let g = go r in (
+          bounding one m.columns g.0 g.1,
+          here g.0 g.1 g.2,
+          record { known = start_closed s m h.known; offset = h.offset; rows = h.rows; columns = refl },
         )
-    by false z = (
-      s,
-      goes_none style s,
-      record {
-        known = h.known;
-        offset = h.offset;
-        rows = h.rows;
-        columns = h.unbounded.columns ∙ none_bounded m.columns z;
-      },
-    )
+
+    none : list_any has_bounds m.columns ≡ false → IsWhole s m
+    none z =
+        record {
+          known = h.known;
+          offset = h.offset;
+          rows = h.rows;
+          columns = h.unbounded.columns ∙ none_bounded m.columns z;
+        }
 
 -- ---- the end
 

@@ -10,7 +10,8 @@ use Rattle.spec_model.specs.Kept.{is_printable}
 use Rattle.spec_mps.specs.declared.card.Card.TheVariants.{Given}
 use Rattle.spec_mps.specs.declared.style.Style.TheVariants.{Fixed}
 use Rattle.spec_mps.specs.Cards.{is_skipped, begins_with_blank, begins_with_star}
-use Rattle.spec_mps.specs.Fields.{Fields, Is, field_of, in_columns, column_fields, fixed_fields, misplaced_from, is_beside}
+use Rattle.spec_mps.specs.Fields.{Fields, Is, field_of, in_columns, column_fields, fixed_fields, misplaced_from}
+use Rattle.spec_mps.specs.Fields.{is_beside}
 use Rattle.spec_mps.specs.Written.{Data, field_at, first_column, with_fields, line_text}
 use Rattle.spec_mps.specs.NumberWritten.{IsWord}
 use Rattle.spec_mps.proofs.Steps.{both, negated}

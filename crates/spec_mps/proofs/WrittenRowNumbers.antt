@@ -1,54 +1,27 @@
--- The rows of a written text get numbers, each by its card, one section after another.
-use Rattle.std.proofs.Common.{◌≡◌, ℕ, suc, ◌+◌, ◌≤◌, true, false, Option, Some, Ok, List, [], ◌∷◌, ◌++◌}
+-- The rows of a written text get numbers, one after another.
+use Rattle.std.proofs.Common.{◌≡◌, ℕ, suc, ◌+◌, ◌≤◌, true, false, Option, Some, List, [], ◌∷◌, ◌++◌}
 use Rattle.std.proofs.Common.{length, map, refl, sym, ap, ◌∙◌, subst, append_assoc, length-append, arith}
 use Rattle.std.specs.Prelude.{IsTrue}
 use Rattle.std.specs.List.{All, flat_map, list_any}
 use Rattle.std.proofs.lemmas.List.{map-append}
 use borrow.Author.Tests.{ne_eqb}
 use Rattle.spec_text.specs.Words.{same}
-use Rattle.spec_exact.specs.Fraction.{ℚ}
 use Rattle.spec_model.specs.Model.{Name, ExactRow}
 use Rattle.spec_model.specs.Kept.{IsNarrowRow, is_row_name}
 use Rattle.spec_mps.specs.declared.style.Style.{Style}
-use Rattle.spec_mps.specs.declared.style.Style.TheVariants.{Free, Fixed}
-use Rattle.spec_mps.specs.declared.section.Section.{Section}
 use Rattle.spec_mps.specs.declared.target.Target.{Target}
 use Rattle.spec_mps.specs.declared.target.Target.TheVariants.{Row}
 use Rattle.spec_mps.specs.declared.target.Place.TheVariants.{Kept}
-use Rattle.spec_mps.specs.NumberWritten.{IsWord, number_text}
+use Rattle.spec_mps.specs.NumberWritten.{IsWord}
 use Rattle.spec_mps.specs.Reader.{State, place_of, is_among}
 use Rattle.spec_mps.specs.Sides.{is_used}
-use Rattle.spec_mps.specs.Steps.{more, data_card}
-use Rattle.spec_mps.specs.Written.{WrittenCards, number_card, line_text}
-use Rattle.spec_mps.proofs.WrittenCards.{IsItem, read_as}
+use Rattle.spec_mps.specs.Written.{WrittenCards}
 use Rattle.spec_mps.proofs.WrittenSteps.{Goes}
-use Rattle.spec_mps.proofs.WrittenBack.{cards_are_read_back}
-use Rattle.spec_mps.proofs.WrittenRows.{or_parts, IsAbsent, AreFresh, names_of, goes_one, goes_none}
+use Rattle.spec_mps.proofs.WrittenRows.{or_parts, IsAbsent, AreFresh, names_of, goes_none}
 use Rattle.spec_mps.proofs.WrittenGoes.{goes_append}
 use Rattle.spec_mps.proofs.WrittenNames.{row_name_word}
 use Rattle.spec_mps.proofs.WrittenBehind.{place_behind}
-use Rattle.spec_mps.proofs.WrittenParts.{number_fields, has_numbers, given_step, IsNumberCard}
 use Rattle.spec_mps.proofs.WrittenRoom.{RoomFor, room_front, room_back}
-
--- ---- one card
-
-set_item : (style : Style) (a b c : ℕ) → IsWord (a ∷ b ∷ c ∷ []) → IsItem style 8 (a ∷ b ∷ c ∷ [])
-set_item Free a b c h = record { word = h; room = tt }
-set_item Fixed a b c h = record { word = h; room = omega arith }
-
--- the card of a set of three letters
-pub number_goes : (style : Style) (s t : State) (part : Section) (a b c : ℕ) (name : Name) (v : ℚ) →
-    s.part ≡ Some part → has_numbers part ≡ true → IsWord (a ∷ b ∷ c ∷ []) → IsNumberCard style name v
-    → data_card style (Some part) s (read_as style (number_fields (a ∷ b ∷ c ∷ []) name (number_text v))) ≡ Ok t →
-    Goes style s (number_card (a ∷ b ∷ c ∷ []) name v ∷ []) t
-number_goes style s t part a b c name v e numbers word card read =
-    let group : Name = a ∷ b ∷ c ∷ [] in
-    let back =
-    ((cards_are_read_back style).numbers group name
-    (number_text v) (set_item style a b c word) card.row card.number).read in
-    goes_one style s t (number_card group name v)
-    (given_step style s part (line_text style (number_card group name v))
-    (read_as style (number_fields group name (number_text v))) e numbers back ∙ ap more read)
 
 -- ---- where a row is
 

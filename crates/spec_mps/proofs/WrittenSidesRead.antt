@@ -1,29 +1,32 @@
 -- The whole section RHS of a written text, after its heading.
-use Rattle.std.proofs.Common.{◌≡◌, Bool, true, false, cond, Some, Ok, []}
+use Rattle.std.proofs.Common.{◌≡◌, ℕ, Bool, true, false, cond, Some, Ok, List, []}
 use Rattle.std.proofs.Common.{◌∷◌, ◌++◌, map, refl, sym, ap, ◌∙◌, subst}
 use Rattle.std.specs.Prelude.{codes}
 use Rattle.spec_exact.specs.Fraction.{ℚ, 0ℚ, neg_ℚ, eq_ℚ}
 use Rattle.spec_exact.proofs.Same.{eq_if}
 use Rattle.spec_exact.proofs.Ruleset.{neg-neg, neg-zero}
 use Rattle.spec_exact.proofs.Narrow.{neg_narrow}
-use Rattle.spec_model.specs.Model.{Model, ExactRow}
+use Rattle.spec_model.specs.Model.{Model, Name, ExactRow}
 use Rattle.spec_model.specs.Kept.{IsModel, IsNarrowRow}
 use Rattle.spec_mps.specs.declared.style.Style.{Style}
 use Rattle.spec_mps.specs.declared.section.Section.TheVariants as section
 use Rattle.spec_mps.specs.declared.target.Target.TheVariants.{Objective}
 use Rattle.spec_mps.specs.declared.target.Place.TheVariants.{Kept}
-use Rattle.spec_mps.specs.NumberWritten.{IsWord}
-use Rattle.spec_mps.specs.Reader.{State}
-use Rattle.spec_mps.specs.Sides.{is_used, put_side}
+use Rattle.spec_mps.specs.NumberWritten.{IsWord, number_text}
+use Rattle.spec_mps.specs.Reader.{State, place_of, number_in}
+use Rattle.spec_mps.specs.Sides.{is_used, put_side, side_pair}
 use Rattle.spec_mps.specs.Written.{number_card, side_cards}
+use Rattle.spec_mps.proofs.Sets.{Sides}
 use Rattle.spec_mps.proofs.WrittenSteps.{Goes, bare_row}
 use Rattle.spec_mps.proofs.WrittenRows.{names_of, goes_then}
 use Rattle.spec_mps.proofs.WrittenNames.{row_name_word, fresh_names}
+use Rattle.spec_mps.proofs.WrittenPlaces.{same_itself}
 use Rattle.spec_mps.proofs.WrittenParts.{IsNumberCard, number_card_of}
 use Rattle.spec_mps.proofs.WrittenRoom.{RoomFor, room_front, room_back}
 use Rattle.spec_mps.proofs.WrittenFacts.{rangeless, HasStart, IsUnbounded, HasNoSides, HasNoRanges}
 use Rattle.spec_mps.proofs.WrittenRowNumbers.{IsUnpaired, RowsGo, rows_known}
-use Rattle.spec_mps.proofs.WrittenSides.{NeedsSide, sides_of, side_goes, sides_go, place_of_objective}
+use Rattle.spec_mps.proofs.WrittenSets.{card_goes}
+use Rattle.spec_mps.proofs.WrittenSides.{NeedsSide, sides_of, sides_go}
 
 -- ---- the rows
 
@@ -68,10 +71,16 @@ rows_sided style m kept room s h =
 
 -- ---- the objective
 
-offset_put : (s : State) (b : ℚ) → s.paired ≡ [] →
-    put_side s (Kept Objective) b ≡ Ok (record s { offset = neg_ℚ b; paired = Objective ∷ s.paired })
-unfolding put_side
-offset_put s b h = rw h refl
+place_of_objective : (s : State) (objective : Name) → s.objective ≡ Some objective →
+    place_of s objective ≡ Some (Kept Objective)
+unfolding place_of
+place_of_objective s objective o = rw (o, same_itself objective) refl
+
+offset_put : (s : State) (objective : Name) (text : List ℕ) (b : ℚ) → s.objective ≡ Some objective →
+    number_in text ≡ Ok b → s.paired ≡ [] →
+    side_pair s objective text ≡ Ok (record s { offset = neg_ℚ b; paired = Objective ∷ s.paired })
+unfolding side_pair put_side
+offset_put s objective text b o reads h = rw (place_of_objective s objective o, reads, h) refl
 
 no_offset : (q : ℚ) → eq_ℚ (neg_ℚ q) 0ℚ ≡ true → q ≡ 0ℚ
 no_offset q e = sym (neg-neg q) ∙ ap neg_ℚ (eq_if (neg_ℚ q) 0ℚ e) ∙ neg-zero
@@ -112,9 +121,9 @@ sides_are_read style m kept room s h = by (eq_ℚ (neg_ℚ m.offset) 0ℚ) refl
         number_card_of style (codes "RHS") m.objective (neg_ℚ m.offset)
         (row_name_word m.objective kept.objective) (neg_narrow m.offset kept.offset)
         (subst (λ t. RoomFor style (cond t [] (number_card (codes "RHS") m.objective (neg_ℚ m.offset) ∷ []))) z here) in
-        side_goes style s one m.objective (neg_ℚ m.offset) (Kept Objective) h.part is used
-        (place_of_objective (record s { set = Some (Some (codes "RHS")) }) m.objective h.known.objective)
-        (offset_put (record s { set = Some (Some (codes "RHS")) }) (neg_ℚ m.offset) h.none_paired)
+        card_goes Sides style s one m.objective (neg_ℚ m.offset) h.part is used
+        (offset_put (record s { set = Some (Some (codes "RHS")) }) m.objective (number_text (neg_ℚ m.offset))
+        (neg_ℚ m.offset) h.known.objective is.reads h.none_paired)
 
     by : (t : Bool) → eq_ℚ (neg_ℚ m.offset) 0ℚ ≡ t →
         (u : State)

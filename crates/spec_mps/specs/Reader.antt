@@ -186,9 +186,13 @@ pairs_of [] = []
 pairs_of (a ∷ []) = []
 pairs_of (a ∷ b ∷ more) = (a, b) ∷ pairs_of more
 
+-- what is done with a row's name and the text of a number, done with each pair in turn
+abbrev pub in_turn : (State → Name → List ℕ → Check State) → State → List (List ℕ × List ℕ) → Check State
+in_turn take s [] = Ok s
+in_turn take s (pair ∷ pairs) = take s pair.0 pair.1 >>= λ t. in_turn take t pairs
+
 abbrev pub column_pairs : State → List (List ℕ × List ℕ) → Check State
-column_pairs s [] = Ok s
-column_pairs s (pair ∷ pairs) = column_pair s pair.0 pair.1 >>= λ t. column_pairs t pairs
+column_pairs = in_turn column_pair
 
 -- a column's name, and pairs of a row's name and a number
 abbrev pub column_by : State → List (List ℕ) → Check State

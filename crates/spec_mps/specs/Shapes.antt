@@ -69,34 +69,34 @@ bound_kind_of word = need (look_up word bound_kinds) code.BoundKind >>= λ kind.
 
 -- ---- shapes: lists of the numbers of a card's fields
 
+-- a set, which may be absent, and one pair or two
+abbrev pub set_shapes : Style → List (List ℕ)
+set_shapes Free = (1 ∷ 2 ∷ []) ∷ (1 ∷ 2 ∷ 3 ∷ []) ∷ (1 ∷ 2 ∷ 3 ∷ 4 ∷ []) ∷ (1 ∷ 2 ∷ 3 ∷ 4 ∷ 5 ∷ []) ∷ []
+set_shapes Fixed = (3 ∷ 4 ∷ []) ∷ (2 ∷ 3 ∷ 4 ∷ []) ∷ (3 ∷ 4 ∷ 5 ∷ 6 ∷ []) ∷ (2 ∷ 3 ∷ 4 ∷ 5 ∷ 6 ∷ []) ∷ []
+
+abbrev pub shapes_of : Style → Section → List (List ℕ)
+shapes_of style section.Name = []
+shapes_of style section.Sense = (1 ∷ []) ∷ []
+shapes_of style section.Rows = (1 ∷ 2 ∷ []) ∷ []
+shapes_of Free section.Columns = (1 ∷ 2 ∷ 3 ∷ []) ∷ (1 ∷ 2 ∷ 3 ∷ 4 ∷ 5 ∷ []) ∷ []
+shapes_of Fixed section.Columns = (2 ∷ 3 ∷ 4 ∷ []) ∷ (2 ∷ 3 ∷ 4 ∷ 5 ∷ 6 ∷ []) ∷ []
+shapes_of style section.RightSides = set_shapes style
+shapes_of style section.Ranges = set_shapes style
+shapes_of Free section.Bounds = (1 ∷ 2 ∷ 3 ∷ []) ∷ (1 ∷ 2 ∷ 3 ∷ 4 ∷ []) ∷ []
+shapes_of Fixed section.Bounds = (1 ∷ 3 ∷ 4 ∷ []) ∷ (1 ∷ 2 ∷ 3 ∷ 4 ∷ []) ∷ []
+shapes_of style section.End = []
+
+-- those of each form
 abbrev pub free_shapes : Section → List (List ℕ)
-free_shapes section.Name = []
-free_shapes section.Sense = (1 ∷ []) ∷ []
-free_shapes section.Rows = (1 ∷ 2 ∷ []) ∷ []
-free_shapes section.Columns = (1 ∷ 2 ∷ 3 ∷ []) ∷ (1 ∷ 2 ∷ 3 ∷ 4 ∷ 5 ∷ []) ∷ []
-free_shapes section.RightSides = (1 ∷ 2 ∷ []) ∷ (1 ∷ 2 ∷ 3 ∷ []) ∷ (1 ∷ 2 ∷ 3 ∷ 4 ∷ []) ∷ (1 ∷ 2 ∷ 3 ∷ 4 ∷ 5 ∷ []) ∷ []
-free_shapes section.Ranges = (1 ∷ 2 ∷ []) ∷ (1 ∷ 2 ∷ 3 ∷ []) ∷ (1 ∷ 2 ∷ 3 ∷ 4 ∷ []) ∷ (1 ∷ 2 ∷ 3 ∷ 4 ∷ 5 ∷ []) ∷ []
-free_shapes section.Bounds = (1 ∷ 2 ∷ 3 ∷ []) ∷ (1 ∷ 2 ∷ 3 ∷ 4 ∷ []) ∷ []
-free_shapes section.End = []
+free_shapes part = shapes_of Free part
 
 abbrev pub fixed_shapes : Section → List (List ℕ)
-fixed_shapes section.Name = []
-fixed_shapes section.Sense = (1 ∷ []) ∷ []
-fixed_shapes section.Rows = (1 ∷ 2 ∷ []) ∷ []
-fixed_shapes section.Columns = (2 ∷ 3 ∷ 4 ∷ []) ∷ (2 ∷ 3 ∷ 4 ∷ 5 ∷ 6 ∷ []) ∷ []
-fixed_shapes section.RightSides = (3 ∷ 4 ∷ []) ∷ (2 ∷ 3 ∷ 4 ∷ []) ∷ (3 ∷ 4 ∷ 5 ∷ 6 ∷ []) ∷ (2 ∷ 3 ∷ 4 ∷ 5 ∷ 6 ∷ []) ∷ []
-fixed_shapes section.Ranges = (3 ∷ 4 ∷ []) ∷ (2 ∷ 3 ∷ 4 ∷ []) ∷ (3 ∷ 4 ∷ 5 ∷ 6 ∷ []) ∷ (2 ∷ 3 ∷ 4 ∷ 5 ∷ 6 ∷ []) ∷ []
-fixed_shapes section.Bounds = (1 ∷ 3 ∷ 4 ∷ []) ∷ (1 ∷ 2 ∷ 3 ∷ 4 ∷ []) ∷ []
-fixed_shapes section.End = []
+fixed_shapes part = shapes_of Fixed part
 
 -- a card in BOUNDS whose kind takes no value; field 4 may stand there in fixed form
 abbrev pub unvalued_shapes : Style → List (List ℕ)
 unvalued_shapes Free = (1 ∷ 2 ∷ []) ∷ (1 ∷ 2 ∷ 3 ∷ []) ∷ []
 unvalued_shapes Fixed = (1 ∷ 3 ∷ []) ∷ (1 ∷ 2 ∷ 3 ∷ []) ∷ (1 ∷ 3 ∷ 4 ∷ []) ∷ (1 ∷ 2 ∷ 3 ∷ 4 ∷ []) ∷ []
-
-abbrev pub shapes_of : Style → Section → List (List ℕ)
-shapes_of Free part = free_shapes part
-shapes_of Fixed part = fixed_shapes part
 
 abbrev pub bound_shapes : Style → BoundKind → List (List ℕ)
 bound_shapes style Up = shapes_of style section.Bounds

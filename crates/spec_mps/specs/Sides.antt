@@ -6,6 +6,7 @@ use Rattle.spec_exact.specs.Fraction.{ℚ, neg_ℚ}
 use Rattle.spec_model.specs.Model.{Name}
 use Rattle.spec_mps.specs.declared.fault.Code.TheVariants as code
 use Rattle.spec_mps.specs.declared.style.Style.{Style}
+use Rattle.spec_mps.specs.declared.section.Section.{Section}
 use Rattle.spec_mps.specs.declared.section.Section.TheVariants as section
 use Rattle.spec_mps.specs.declared.target.Target.{Target}
 use Rattle.spec_mps.specs.declared.target.Target.TheVariants.{Objective, Row}
@@ -14,7 +15,7 @@ use Rattle.spec_mps.specs.declared.target.Place.TheVariants.{Kept, Dropped}
 use Rattle.spec_mps.specs.Fields.{Fields}
 use Rattle.spec_mps.specs.Checks.{Check, ◌>>=◌, must, need}
 use Rattle.spec_mps.specs.Shapes.{shaped}
-use Rattle.spec_mps.specs.Reader.{State, place_of, number_in, is_among, pairs_of}
+use Rattle.spec_mps.specs.Reader.{State, place_of, number_in, is_among, pairs_of, in_turn}
 
 -- ---- sets: the set of a section's first card is used, and cards of other sets are skipped
 
@@ -52,7 +53,17 @@ changed_at i change [] = []
 changed_at zero change (x ∷ xs) = change x ∷ xs
 changed_at (suc i) change (x ∷ xs) = x ∷ changed_at i change xs
 
--- ---- RHS: shape, then for each pair the row, the number, a number that is there already
+-- what is done with the pairs of a card of the set that is used; a card of another set is skipped
+abbrev pub if_used : (State → List (List ℕ × List ℕ) → Check State) → State → SetAndPairs → Check State
+if_used take s card = if is_used s.set card.set then take (record s { set = Some card.set }) card.pairs else Ok s
+
+-- a card: its shape, its set, then each pair
+abbrev pub set_card : Section → (State → SetAndPairs → Check State) → Style → State → Fields → Check State
+set_card part take style s fields = do
+  texts ← shaped style part fields
+  take s (set_and_pairs texts)
+
+-- ---- a pair of RHS: the row, the number, a number that is there already
 
 -- a right side of the objective is subtracted from its value
 abbrev pub with_side : State → Target → ℚ → State
@@ -71,19 +82,7 @@ side_pair s name text = do
   b ← number_in text
   put_side s place b
 
-abbrev pub side_pairs : State → List (List ℕ × List ℕ) → Check State
-side_pairs s [] = Ok s
-side_pairs s (pair ∷ pairs) = side_pair s pair.0 pair.1 >>= λ t. side_pairs t pairs
-
-unfoldable pub rhs_by : State → SetAndPairs → Check State
-rhs_by s card = if is_used s.set card.set then side_pairs (record s { set = Some card.set }) card.pairs else Ok s
-
-unfoldable pub rhs_card : Style → State → Fields → Check State
-rhs_card style s fields = do
-  texts ← shaped style section.RightSides fields
-  rhs_by s (set_and_pairs texts)
-
--- ---- RANGES: the same, and the objective, which comes after the row, has none
+-- ---- a pair of RANGES: the same, and the objective, which comes after the row, has none
 
 -- a row that may have a range, `None` for one that is dropped
 abbrev pub ranged_row : Place → Check (Option ℕ)
@@ -104,14 +103,22 @@ range_pair s name text = do
   v ← number_in text
   put_range s row v
 
+-- ---- the cards of both
+
+abbrev pub side_pairs : State → List (List ℕ × List ℕ) → Check State
+side_pairs = in_turn side_pair
+
 abbrev pub range_pairs : State → List (List ℕ × List ℕ) → Check State
-range_pairs s [] = Ok s
-range_pairs s (pair ∷ pairs) = range_pair s pair.0 pair.1 >>= λ t. range_pairs t pairs
+range_pairs = in_turn range_pair
+
+unfoldable pub rhs_by : State → SetAndPairs → Check State
+rhs_by s card = if_used side_pairs s card
 
 unfoldable pub ranges_by : State → SetAndPairs → Check State
-ranges_by s card = if is_used s.set card.set then range_pairs (record s { set = Some card.set }) card.pairs else Ok s
+ranges_by s card = if_used range_pairs s card
+
+unfoldable pub rhs_card : Style → State → Fields → Check State
+rhs_card style s fields = set_card section.RightSides rhs_by style s fields
 
 unfoldable pub ranges_card : Style → State → Fields → Check State
-ranges_card style s fields = do
-  texts ← shaped style section.Ranges fields
-  ranges_by s (set_and_pairs texts)
+ranges_card style s fields = set_card section.Ranges ranges_by style s fields
