@@ -91,10 +91,12 @@ whole_heading c style here part seen l lines h e new o =
           section.RightSides l lines h e o.told.right_sides (n section.RightSides)) i;
       ranges =
           c.ranges
-          ++ sym (cards_begin style here seen.ranges part section.Ranges l lines h e o.told.ranges (n section.Ranges)) i;
+          ++ sym (cards_begin style here seen.ranges part
+          section.Ranges l lines h e o.told.ranges (n section.Ranges)) i;
       bounds =
           c.bounds
-          ++ sym (cards_begin style here seen.bounds part section.Bounds l lines h e o.told.bounds (n section.Bounds)) i;
+          ++ sym (cards_begin style here seen.bounds part
+          section.Bounds l lines h e o.told.bounds (n section.Bounds)) i;
     }
 
 pub whole_end : (c : SoFar) (style : Style) (here : Option Section) (seen : Seen) (l : Line (List ℕ)) (lines : Lines) →

@@ -9,6 +9,7 @@ pub mod RowsKept
 pub mod TitlesKept
 pub mod PairsKept
 pub mod SetsKept
+pub mod SetSections
 pub mod NumbersKept
 pub mod SidesKept
 pub mod RangesKept

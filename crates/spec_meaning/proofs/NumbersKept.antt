@@ -1,15 +1,16 @@
 -- Cards of RHS or of RANGES give numbers to rows, and the state has them.
-use Rattle.std.proofs.Common.{◌≡◌, ◌≢◌, ℕ, zero, suc, ◌<◌, Bool, true, false, eqb, eq-eqb, Option}
-use Rattle.std.proofs.Common.{Some, None, Ok, List, [], ◌∷◌, ◌++◌, length, map, refl}
+use Rattle.std.proofs.Common.{◌≡◌, ◌≢◌, ℕ, zero, suc, ◌<◌, Bool, true, false, cond, eqb, eq-eqb, Option}
+use Rattle.std.proofs.Common.{Some, None, is_none, Ok, List, [], ◌∷◌, ◌++◌, length, map, refl}
 use Rattle.std.proofs.Common.{sym, ap, ◌∙◌, subst, get_or, arith, append_assoc, append-nil}
 use Rattle.std.proofs.Math.ListN.{get_or-map}
-use Rattle.spec_exact.specs.Fraction.{ℚ}
+use Rattle.spec_exact.specs.Fraction.{ℚ, 0ℚ}
 use Rattle.spec_model.specs.declared.parts.Kind.{Kind}
-use Rattle.spec_model.specs.Model.{Name, ExactRow, no_row}
+use Rattle.spec_model.specs.declared.parts.Kind.TheVariants.{L}
+use Rattle.spec_model.specs.Model.{Model, Name, ExactRow, no_row, row, height}
 use Rattle.spec_mps.specs.declared.row_type.RowType.{RowType}
+use Rattle.spec_mps.specs.declared.row_type.RowType.TheVariants.{Unlimited, Limited}
 use Rattle.spec_mps.specs.declared.section.Section.{Section}
 use Rattle.spec_mps.specs.declared.section.Section.TheVariants as section
-use Rattle.spec_mps.specs.declared.section.Seen.{Seen}
 use Rattle.spec_mps.specs.declared.style.Style.{Style}
 use Rattle.spec_mps.specs.declared.target.Target.{Target}
 use Rattle.spec_mps.specs.declared.target.Target.TheVariants.{Objective, Row}
@@ -18,23 +19,31 @@ use Rattle.spec_mps.specs.declared.target.Place.TheVariants.{Kept}
 use Rattle.spec_mps.specs.NumberText.{Is, number_of}
 use Rattle.spec_mps.specs.Fields.{Fields, text_at, texts_of}
 use Rattle.spec_mps.specs.Checks.{Check}
-use Rattle.spec_mps.specs.Reader.{State, start, is_among, same_target, with_row, place_of}
+use Rattle.spec_mps.specs.Reader.{State, start, is_among, same_target, new_row, with_row, place_of, in_turn}
 use Rattle.spec_mps.specs.Sides.{is_used, changed_at}
-use Rattle.spec_mps.specs.Steps.{has_begun, with_section, begun, headed, data_card}
-use Rattle.spec_mps.proofs.CardsDid.{rows_did, PairDid, PutsPairs, pairs_keep, SetDid, Used, Skipped}
+use Rattle.spec_mps.specs.Steps.{has_begun, with_section, begun, headed, data_card, model_by, Spells}
+use Rattle.spec_mps.proofs.CardsDid.{rows_did, PairDid, pairs_keep, put_of, puts_of, SetDid, Used, Skipped}
+use Rattle.spec_mps.proofs.Sets.{Sets, part_of, pair_of}
 use Rattle.spec_meaning.specs.NumberCards.{Pairs, texts_for, side_of, set_on, pairs_on, used_pairs}
+use Rattle.spec_meaning.specs.TextCards.{Lines, cards_in}
 use Rattle.spec_meaning.proofs.Frames.{Leads, card_leads, changed_unseen}
-use Rattle.spec_meaning.proofs.SoFar.{is_section, same_section, begun_elsewhere, pushed, SoFar, nothing}
-use Rattle.spec_meaning.proofs.SoFar.{with_card, with_title}
+use Rattle.spec_meaning.proofs.SoFar.{is_section, same_section, begun_elsewhere, pushed}
 use Rattle.spec_meaning.proofs.Order.{IsOrdered}
-use Rattle.spec_meaning.proofs.Runs.{IsKept, both_kept, stays, headed_leads}
-use Rattle.spec_meaning.proofs.RowsKept.{RowsSay, rows_kept}
+use Rattle.spec_meaning.proofs.Runs.{IsKept, both_kept, spelled_by, stays, headed_leads}
+use Rattle.spec_meaning.proofs.RowsKept.{RowsSay, rows_kept, row_place}
 use Rattle.spec_meaning.proofs.RowViews.{RowView, labels, many_labels, row_view, rows_stay, rows_stay_headed}
-use Rattle.spec_meaning.proofs.RowViews.{place_in, place_by_view, place_name}
+use Rattle.spec_meaning.proofs.RowViews.{place_in, place_by_view, place_name, objective_place}
 use Rattle.spec_meaning.proofs.PairsKept.{Put, PutAt, put_set, Tells, tells_push, number_is}
 use Rattle.spec_meaning.proofs.SetsKept.{Says, says_same, says_before, says_begun, says_used, says_skipped}
+use Rattle.spec_meaning.proofs.SetSections.{part_told, part_later, part_not_rows, part_now}
+use Rattle.spec_meaning.proofs.SetSections.{set_cards, cards_first, cards_titled, cards_more, cards_all, set_card_did}
 
--- ---- a number of a row
+-- ---- numbers of targets
+
+-- that of the objective by the offset, and that of a row by the row
+abbrev pub number_at : {V : Type 0} → (ℚ → V) → (ExactRow → V) → State → Target → V
+number_at of_offset of_row s Objective = of_offset s.offset
+number_at of_offset of_row s (Row i) = of_row (get_or s.rows i no_row)
 
 changed_here : (change : ExactRow → ExactRow) (rows : List ExactRow) (i : ℕ) → i < length rows →
     get_or (changed_at i change rows) i no_row ≡ change (get_or rows i no_row)
@@ -63,15 +72,12 @@ abbrev label_of : ExactRow → Kind × Name
 label_of r = (r.kind, r.name)
 
 -- a change of one row alone, which keeps its kind and its name
-pub row_put : {V : Type 0} (value_of : State → Target → V) (f : ExactRow → V) →
-    ((u : State) (j : ℕ) → value_of u (Row j) ≡ f (get_or u.rows j no_row)) →
-    ((u : State) (rows : List ExactRow) (paired : List Target) →
-    value_of (record u { rows = rows; paired = paired }) Objective ≡ value_of u Objective) →
-    (change : ExactRow → ExactRow) (v : V) → ((r : ExactRow) → label_of (change r) ≡ label_of r) →
-    ((r : ExactRow) → f (change r) ≡ v) → (s : State) (name : Name) (i : ℕ) →
-    place_of s name ≡ Some (Kept (Row i)) → is_among (Row i) s.paired ≡ false → Put V value_of s
-    (Kept (Row i)) v (record s { rows = changed_at i change s.rows; paired = Row i ∷ s.paired })
-row_put {V} value_of f of_row of_objective change v label is s name i at new =
+pub row_put : {V : Type 0} (of_offset : ℚ → V) (of_row : ExactRow → V) (change : ExactRow → ExactRow) (v : V) →
+    ((r : ExactRow) → label_of (change r) ≡ label_of r) → ((r : ExactRow) → of_row (change r) ≡ v) → (s : State)
+    (name : Name) (i : ℕ) → place_of s name ≡ Some (Kept (Row i)) → is_among (Row i) s.paired ≡ false →
+    Put V (number_at of_offset of_row) s (Kept (Row i)) v
+    (record s { rows = changed_at i change s.rows; paired = Row i ∷ s.paired })
+row_put of_offset of_row change v label is s name i at new =
     PutAt (Row i) refl new refl refl view here elsewhere
   where
     after : State
@@ -82,13 +88,13 @@ row_put {V} value_of f of_row of_objective change v label is s name i at new =
         ap (λ rows. (let w : RowView = record { objective = s.objective; dropped = s.dropped; rows = rows } in w))
         (changed_unseen label_of change i s.rows label)
 
-    here : value_of after (Row i) ≡ v
-    here = of_row after i ∙ ap f (changed_here change s.rows i (row_inside s name i at)) ∙ is (get_or s.rows i no_row)
+    here : number_at of_offset of_row after (Row i) ≡ v
+    here = ap of_row (changed_here change s.rows i (row_inside s name i at)) ∙ is (get_or s.rows i no_row)
 
-    elsewhere : (x : Target) → same_target x (Row i) ≡ false → value_of after x ≡ value_of s x
-    elsewhere Objective ne = of_objective s _ _
-    elsewhere (Row j) ne =
-        of_row after j ∙ ap f (changed_there change s.rows i j (apart j i ne)) ∙ sym (of_row s j)
+    elsewhere : (x : Target) → same_target x (Row i) ≡ false →
+        number_at of_offset of_row after x ≡ number_at of_offset of_row s x
+    elsewhere Objective ne = refl
+    elsewhere (Row j) ne = ap of_row (changed_there change s.rows i j (apart j i ne))
 
 -- what two lists of rows show alike
 pub viewed_row : {A : Type 0} (f : ExactRow → A) (view : ExactRow → ExactRow) → view no_row ≡ no_row →
@@ -108,39 +114,42 @@ pushed_row f P (r ∷ rows) new (suc i) p h = pushed_row f P rows new i p (λ j.
 
 -- ---- a section whose cards give numbers
 
-pub record GivesNumbers (V : Type 0) (value_of : State → Target → V)
-    (IsNumber : List (List ℕ) → V → Type 0) (of_number : ℚ → V) (part : Section)
-    (put : State → Place → ℚ → Check State) (run : State → Pairs → Check State) : Type 0 where
+pub record GivesNumbers (V : Type 0) (of_offset : ℚ → V) (of_row : ExactRow → V)
+    (IsNumber : List (List ℕ) → V → Type 0) (of_number : ℚ → V) (sets : Sets) : Type 0 where
   pub one : (text : List ℕ) (v : ℚ) → number_of text ≡ Is v → IsNumber (text ∷ []) (of_number v)
-  pub puts : PutsPairs put run
+  pub no_offset : IsNumber [] (of_offset 0ℚ)
+  pub no_number : (kind : Kind) (name : Name) → IsNumber [] (of_row (new_row kind name))
   pub did : (s : State) (name : Name) (place : Place) (v : ℚ) (t : State) → place_of s name ≡ Some place →
-      put s place v ≡ Ok t → Put V value_of s place (of_number v) t
-  pub card_did : (style : Style) (s : State) (card : Fields) (t : State) → data_card style (Some part) s card ≡ Ok t →
-      SetDid s (side_of (texts_of card)) run t
+      put_of sets s place v ≡ Ok t → Put V (number_at of_offset of_row) s place (of_number v) t
   pub stay : (p : Section) (s t : State) → is_section (Some p) section.Rows ≡ false →
-      is_section (Some p) part ≡ false → Leads p s t → (x : Target) → value_of t x ≡ value_of s x
-  pub stay_headed : (s : State) (p : Section) (word : List ℕ) (t : State) → headed (begun s p) p word ≡ Ok t →
-      (x : Target) → value_of t x ≡ value_of s x
-  pub row_added : (s : State) (type : RowType) (name : Name) → ((x : Target) → IsNumber [] (value_of s x)) →
-      (x : Target) → IsNumber [] (value_of (with_row s type name) x)
-  pub of_set : (s : State) (set : Option Name) (x : Target) → value_of (record s { set = Some set }) x ≡ value_of s x
-  pub none_first : (x : Target) → IsNumber [] (value_of start x)
-  pub told : (s : State) → IsOrdered s.part s.seen → is_section s.part part ≡ true → has_begun s.seen part ≡ true
-  pub later : (s : State) → IsOrdered s.part s.seen → is_section s.part section.Rows ≡ true →
-      has_begun s.seen part ≡ false
-  pub not_rows : is_section (Some section.Rows) part ≡ false
-  pub now : (seen : Seen) → has_begun (with_section seen part) part ≡ true
+      is_section (Some p) (part_of sets) ≡ false → Leads p s t → (x : Target) →
+      number_at of_offset of_row t x ≡ number_at of_offset of_row s x
 
 record Reads (V : Type 0) (value_of : State → Target → V) (IsNumber : List (List ℕ) → V → Type 0)
     (view : RowView) (old : Pairs) (set : Option Name) (done : Pairs) (u : State) : Type 0 where
   tells : Tells V value_of IsNumber view (old ++ done) u
   set_is : u.set ≡ Some set
 
-module _ {V : Type 0} {value_of : State → Target → V} {IsNumber : List (List ℕ) → V → Type 0}
-    {of_number : ℚ → V} {part : Section} {put : State → Place → ℚ → Check State}
-    {run : State → Pairs → Check State} (g : GivesNumbers V value_of IsNumber of_number part put run) where
+module _ {V : Type 0} {of_offset : ℚ → V} {of_row : ExactRow → V} {IsNumber : List (List ℕ) → V → Type 0}
+    {of_number : ℚ → V} {sets : Sets} (g : GivesNumbers V of_offset of_row IsNumber of_number sets) where
+  abbrev value_of : State → Target → V
+  value_of = number_at of_offset of_row
+
+  abbrev part : Section
+  part = part_of sets
+
+  abbrev put : State → Place → ℚ → Check State
+  put = put_of sets
+
+  abbrev run : State → Pairs → Check State
+  run = in_turn (pair_of sets)
+
   abbrev NumbersSay : List Fields → State → Type 0
   NumbersSay cards s = Says V value_of IsNumber part (λ seen. has_begun seen part) cards s
+
+  of_set : (s : State) (set : Option Name) (x : Target) → value_of (record s { set = Some set }) x ≡ value_of s x
+  of_set s set Objective = refl
+  of_set s set (Row i) = refl
 
   one_pair : (view : RowView) (old : Pairs) (set : Option Name) (done : Pairs) (s : State)
       (pair : List ℕ × List ℕ) (t : State) → PairDid put s pair t → Reads V value_of IsNumber view old set done s →
@@ -171,11 +180,11 @@ module _ {V : Type 0} {value_of : State → Target → V} {IsNumber : List (List
         view_is = refl;
         numbers =
             λ name x at. subst (IsNumber (texts_for name (used_pairs cards)))
-            (sym (g.of_set s (set_on card) x)) (k.numbers name x at);
+            (sym (of_set s (set_on card) x)) (k.numbers name x at);
         unpaired = d.unpaired;
       }) in
       let r =
-      pairs_keep put run g.puts (Reads V value_of IsNumber (row_view s) (used_pairs cards) (set_on card))
+      pairs_keep put run (puts_of sets) (Reads V value_of IsNumber (row_view s) (used_pairs cards) (set_on card))
       (one_pair (row_view s) (used_pairs cards) (set_on card)) (pairs_on card) []
       (record s { set = Some (set_on card) }) t did (record { tells = first; set_is = refl }) in
       says_used value_of IsNumber part (λ seen. has_begun seen part) cards s t k card seen
@@ -193,6 +202,31 @@ module _ {V : Type 0} {value_of : State → Target → V} {IsNumber : List (List
 
   -- ---- all steps
 
+  stay_headed : (s : State) (p : Section) (word : List ℕ) (t : State) → headed (begun s p) p word ≡ Ok t →
+      (x : Target) → value_of t x ≡ value_of s x
+  stay_headed s p word t h Objective = ap (λ (u : State). of_offset u.offset) (headed_leads (begun s p) p word t h)
+  stay_headed s p word t h (Row i) =
+      ap (λ (u : State). of_row (get_or u.rows i no_row)) (headed_leads (begun s p) p word t h)
+
+  -- a row that is added has no number, and the others keep theirs
+  row_added : (s : State) (type : RowType) (name : Name) → ((x : Target) → IsNumber [] (value_of s x)) →
+      (x : Target) → IsNumber [] (value_of (with_row s type name) x)
+  row_added s Unlimited name h x = go (is_none s.objective) x
+    where
+      go : (b : Bool) (x : Target) → IsNumber []
+          (value_of (cond b (record s { objective = Some name }) (record s { dropped = s.dropped ++ name ∷ [] })) x)
+      go true Objective = h Objective
+      go true (Row i) = h (Row i)
+      go false Objective = h Objective
+      go false (Row i) = h (Row i)
+  row_added s (Limited kind) name h Objective = h Objective
+  row_added s (Limited kind) name h (Row i) =
+      pushed_row of_row (IsNumber []) s.rows (new_row kind name) i (g.no_number kind name) (λ j. h (Row j))
+
+  none_first : (x : Target) → IsNumber [] (value_of start x)
+  none_first Objective = g.no_offset
+  none_first (Row i) = g.no_number L []
+
   beside_rows : (style : Style) (cards : List Fields) (s t : State) (p : Section) (card : Fields) →
       is_section (Some p) section.Rows ≡ false → IsOrdered s.part s.seen → s.part ≡ Some p →
       data_card style (Some p) s card ≡ Ok t → NumbersSay cards s →
@@ -205,8 +239,9 @@ module _ {V : Type 0} {value_of : State → Target → V} {IsNumber : List (List
       by : (b : Bool) → is_section (Some p) part ≡ b → NumbersSay (pushed b cards card) t
       by true e =
           let at : is_section s.part part ≡ true = ap (λ q. is_section q part) here ∙ e in
-          card_says cards card s t (g.told s o at) at (stays p s t leads).1
-          (g.card_did style s card t (subst (λ q. data_card style (Some q) s card ≡ Ok t) (same_section p part e) h)) k
+          card_says cards card s t (part_told sets s o at) at (stays p s t leads).1
+          (set_card_did sets style s card t
+          (subst (λ q. data_card style (Some q) s card ≡ Ok t) (same_section p part e) h)) k
       by false e =
           let st = stays p s t leads in
           says_same value_of IsNumber part (λ x. has_begun x part) cards s t k
@@ -218,13 +253,13 @@ module _ {V : Type 0} {value_of : State → Target → V} {IsNumber : List (List
       NumbersSay (pushed (is_section (Some p) part) cards card) t
   at_card style cards s t section.Rows card o here h k =
       let st = stays section.Rows s t (card_leads style section.Rows s card t h) in
-      let new : has_begun s.seen part ≡ false = g.later s o (ap (λ q. is_section q section.Rows) here) in
+      let new : has_begun s.seen part ≡ false = part_later sets s o (ap (λ q. is_section q section.Rows) here) in
       let d = rows_did style s card t h in
-      subst (λ b. NumbersSay (pushed b cards card) t) (sym g.not_rows)
+      subst (λ b. NumbersSay (pushed b cards card) t) (sym (part_not_rows sets))
       (says_before value_of IsNumber part (λ x. has_begun x part) cards s t k new (ap (λ x. has_begun x part) st.1)
       (subst (λ u. (x : Target) → IsNumber [] (value_of u x)) d.new
-      (g.row_added s d.type (text_at 2 card) (k.none new).1))
-      (ap (λ q. is_section q part) (st.0 ∙ here) ∙ g.not_rows))
+      (row_added s d.type (text_at 2 card) (k.none new).1))
+      (ap (λ q. is_section q part) (st.0 ∙ here) ∙ part_not_rows sets))
   at_card style cards s t p card o here h k = beside_rows style cards s t p card refl o here h k
 
   at_heading : (cards : List Fields) (s t : State) (p : Section) (word : List ℕ) → has_begun s.seen p ≡ false →
@@ -239,19 +274,20 @@ module _ {V : Type 0} {value_of : State → Target → V} {IsNumber : List (List
           let same = same_section p part e in
           says_begun value_of IsNumber part (λ x. has_begun x part) cards s t k
           (subst (λ q. has_begun s.seen q ≡ false) same new)
-          (ap (λ x. has_begun x part) seen ∙ ap (λ q. has_begun (with_section s.seen q) part) same ∙ g.now s.seen)
-          (rows_stay_headed s p word t h) (g.stay_headed s p word t h)
+          (ap (λ x. has_begun x part) seen ∙ ap (λ q. has_begun (with_section s.seen q) part) same
+          ∙ part_now sets s.seen)
+          (rows_stay_headed s p word t h) (stay_headed s p word t h)
           (ap (λ (x : State). x.set) (headed_leads (begun s p) p word t h))
       by false e =
           says_same value_of IsNumber part (λ x. has_begun x part) cards s t k
           (ap (λ x. has_begun x part) seen ∙ begun_elsewhere p part s.seen e)
-          (rows_stay_headed s p word t h) (g.stay_headed s p word t h)
+          (rows_stay_headed s p word t h) (stay_headed s p word t h)
           (ap (λ (x : State). is_section x.part part) (headed_leads (begun s p) p word t h) ∙ e)
 
   at_start : NumbersSay [] start
   at_start =
       record {
-        none = λ h. (refl, g.none_first);
+        none = λ h. (refl, none_first);
         numbers = λ name x h. absurd (no_place h);
         during = λ h. absurd (cc);
       }
@@ -260,19 +296,39 @@ module _ {V : Type 0} {value_of : State → Target → V} {IsNumber : List (List
       no_place e = cc
 
   -- with the names of rows
-  pub numbers_kept : (cards : SoFar → List Fields) → cards nothing ≡ [] →
-      ((p : Section) (words : Fields) (c : SoFar) → cards (with_title p words c) ≡ cards c) →
-      ((p : Section) (card : Fields) (c : SoFar) →
-      cards (with_card p card c) ≡ pushed (is_section (Some p) part) (cards c) card) → (style : Style) →
-      IsKept style (λ c s. RowsSay c.rows (row_view s) × NumbersSay (cards c) s)
-  numbers_kept cards none same more style =
-      both_kept style (λ c s. RowsSay c.rows (row_view s)) (λ c s. NumbersSay (cards c) s) (rows_kept style)
+  numbers_kept : (style : Style) →
+      IsKept style (λ c s. RowsSay c.rows (row_view s) × NumbersSay (set_cards sets c) s)
+  numbers_kept style =
+      both_kept style (λ c s. RowsSay c.rows (row_view s)) (λ c s. NumbersSay (set_cards sets c) s) (rows_kept style)
       (record {
-        at_start = subst (λ l. NumbersSay l start) (sym none) at_start;
+        at_start = subst (λ l. NumbersSay l start) (sym (cards_first sets)) at_start;
         at_heading =
-            λ c s t p words o new h k. subst (λ l. NumbersSay l t) (sym (same p words c))
-            (at_heading (cards c) s t p (text_at 2 words) new h k);
+            λ c s t p words o new h k. subst (λ l. NumbersSay l t) (sym (cards_titled sets p words c))
+            (at_heading (set_cards sets c) s t p (text_at 2 words) new h k);
         at_card =
-            λ c s t p card o here h k. subst (λ l. NumbersSay l t) (sym (more p card c))
-            (at_card style (cards c) s t p card o here h k);
+            λ c s t p card o here h k. subst (λ l. NumbersSay l t) (sym (cards_more sets p card c))
+            (at_card style (set_cards sets c) s t p card o here h k);
       })
+
+  -- ---- the model
+
+  pub row_said : (style : Style) (lines : Lines) (m : Model) → Spells style lines m → (i : ℕ) → i < height m →
+      IsNumber (texts_for (row m i).name (used_pairs (cards_in style (part_of sets) lines))) (of_row (row m i))
+  unfolding model_by
+  row_said style lines m h =
+      let cards = cards_in style (part_of sets) lines in
+      let e = spelled_by style _ (numbers_kept style) lines m h in
+      let k : NumbersSay cards e.last = subst (λ l. NumbersSay l e.last) (cards_all sets style lines) e.holds.1 in
+      subst (λ (m : Model). (i : ℕ) → i < height m →
+      IsNumber (texts_for (row m i).name (used_pairs cards)) (of_row (row m i))) e.model_is
+      (λ i l. k.numbers (get_or e.last.rows i no_row).name (Row i) (row_place e.last i e.holds.0.placed l))
+
+  pub objective_said : (style : Style) (lines : Lines) (m : Model) → Spells style lines m →
+      IsNumber (texts_for m.objective (used_pairs (cards_in style (part_of sets) lines))) (of_offset m.offset)
+  unfolding model_by
+  objective_said style lines m h =
+      let cards = cards_in style (part_of sets) lines in
+      let e = spelled_by style _ (numbers_kept style) lines m h in
+      let k : NumbersSay cards e.last = subst (λ l. NumbersSay l e.last) (cards_all sets style lines) e.holds.1 in
+      subst (λ (m : Model). IsNumber (texts_for m.objective (used_pairs cards)) (of_offset m.offset)) e.model_is
+      (k.numbers e.objective Objective (objective_place (row_view e.last) e.objective e.objective_is))

@@ -7,7 +7,6 @@ use Rattle.spec_text.specs.Words.{same}
 use Rattle.spec_text.proofs.WordLemmas.{same_true, same-refl}
 use Rattle.spec_model.specs.Model.{Name}
 use Rattle.spec_mps.specs.declared.section.Section.{Section}
-use Rattle.spec_mps.specs.declared.section.Section.TheVariants as section
 use Rattle.spec_mps.specs.declared.section.Seen.{Seen}
 use Rattle.spec_mps.specs.declared.style.Style.{Style}
 use Rattle.spec_mps.specs.declared.style.Style.TheVariants.{Free, Fixed}
@@ -15,9 +14,10 @@ use Rattle.spec_mps.specs.declared.target.Target.{Target}
 use Rattle.spec_mps.specs.declared.target.Place.TheVariants.{Kept}
 use Rattle.spec_mps.specs.declared.fault.Code.TheVariants as code
 use Rattle.spec_mps.specs.Fields.{Fields, numbers_of, texts_of}
-use Rattle.spec_mps.specs.Shapes.{has_shape, shapes_of, shaped}
+use Rattle.spec_mps.specs.Shapes.{has_shape, shapes_of, set_shapes, shaped}
 use Rattle.spec_mps.specs.Reader.{State, is_among}
 use Rattle.spec_mps.specs.Sides.{set_and_pairs, same_set, is_used}
+use Rattle.spec_mps.proofs.Sets.{Sets, part_of, shapes_are}
 use Rattle.spec_meaning.specs.NumberCards.{is_same_set, texts_for, side_of, set_on, pairs_on, used_pairs}
 use Rattle.spec_meaning.proofs.SoFar.{is_section}
 use Rattle.spec_meaning.proofs.Order.{not_both}
@@ -76,39 +76,26 @@ side_by_count (a ∷ b ∷ c ∷ d ∷ e ∷ f ∷ more) h = absurd (omega (arit
 count : (n : ℕ) → 2 ≤ n → n ≤ 5 → IsSideCount n
 count n h k = (h, k)
 
-counts_side : (style : Style) (fields : Fields) → has_shape (shapes_of style section.RightSides) fields ≡ true →
+four_counts : AllLengths IsSideCount (set_shapes Free)
+four_counts = (
+  count 2 (omega arith) (omega arith),
+  (
+    count 3 (omega arith) (omega arith),
+    (count 4 (omega arith) (omega arith), (count 5 (omega arith) (omega arith), tt)),
+  ),
+)
+
+counts_side : (style : Style) (fields : Fields) → has_shape (set_shapes style) fields ≡ true →
     IsSideCount (length (texts_of fields))
-counts_side Free fields h =
-    shape_length IsSideCount _ fields (
-      count 2 (omega arith) (omega arith),
-      (
-        count 3 (omega arith) (omega arith),
-        (count 4 (omega arith) (omega arith), (count 5 (omega arith) (omega arith), tt)),
-      ),
-    ) h
-counts_side Fixed fields h =
-    shape_length IsSideCount _ fields (
-      count 2 (omega arith) (omega arith),
-      (
-        count 3 (omega arith) (omega arith),
-        (count 4 (omega arith) (omega arith), (count 5 (omega arith) (omega arith), tt)),
-      ),
-    ) h
+counts_side Free fields h = shape_length IsSideCount _ fields four_counts h
+counts_side Fixed fields h = shape_length IsSideCount _ fields four_counts h
 
-counts_range : (style : Style) (fields : Fields) → has_shape (shapes_of style section.Ranges) fields ≡ true →
-    IsSideCount (length (texts_of fields))
-counts_range Free fields h = counts_side Free fields h
-counts_range Fixed fields h = counts_side Fixed fields h
-
-pub side_is : (style : Style) (fields : Fields) (texts : List (List ℕ)) →
-    shaped style section.RightSides fields ≡ Ok texts → side_of (texts_of fields) ≡ set_and_pairs (texts_of fields)
-side_is style fields texts h =
-    side_by_count (texts_of fields) (counts_side style fields (has_its_shape style section.RightSides fields texts h))
-
-pub range_is : (style : Style) (fields : Fields) (texts : List (List ℕ)) →
-    shaped style section.Ranges fields ≡ Ok texts → side_of (texts_of fields) ≡ set_and_pairs (texts_of fields)
-range_is style fields texts h =
-    side_by_count (texts_of fields) (counts_range style fields (has_its_shape style section.Ranges fields texts h))
+pub side_is : (sets : Sets) (style : Style) (fields : Fields) (texts : List (List ℕ)) →
+    shaped style (part_of sets) fields ≡ Ok texts → side_of (texts_of fields) ≡ set_and_pairs (texts_of fields)
+side_is sets style fields texts h =
+    side_by_count (texts_of fields)
+    (counts_side style fields (subst (λ shapes. has_shape shapes fields ≡ true) (shapes_are sets style)
+    (has_its_shape style (part_of sets) fields texts h)))
 
 -- ---- the set of the first card
 

@@ -9,7 +9,8 @@
 //! | `named_columns` | the columns that cards name, by their first mention | specs/ColumnCards |
 //! | `pairs_of_column` | the pairs on the cards of a column | specs/ColumnCards |
 //! | `used_pairs` | the pairs of RHS or RANGES in the set that is used | specs/NumberCards |
-//! | `texts_for`, `IsTheNumber`, `IsTheRange` | the texts beside a name, and the number of the only one | specs/NumberCards |
+//! | `texts_for` | the texts beside a name | specs/NumberCards |
+//! | `IsTheNumber`, `IsTheRange` | the number that is the only text | specs/NumberCards |
 //! | `bounds_of_column` | the cards of a column in the set that BOUNDS uses | specs/BoundCards |
 //! | `lower_of`, `upper_of` | the bounds that cards make together | specs/BoundCards |
 //! | `Means` | all of this | specs/Meaning |
