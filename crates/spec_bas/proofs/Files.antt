@@ -199,7 +199,8 @@ module _ (m : Model) (f : Form) where
         given_by Ends cards (inr g) l = let z : Ends ∷ readings_of front ≡ Named ∷ map Says cards = g.1 in cc
         given_by (Wrong why) [] (inl g) l = cc
         given_by (Wrong why) (card ∷ cards) (inl g) l = cc
-        given_by (Wrong why) cards (inr g) l = let z : Wrong why ∷ readings_of front ≡ Named ∷ map Says cards = g.1 in cc
+        given_by (Wrong why) cards (inr g) l =
+            let z : Wrong why ∷ readings_of front ≡ Named ∷ map Says cards = g.1 in cc
 
       given : (front : List (Line (List ℕ))) (n : ℕ) (s : State) (cards : List ExactCard) → Before s.begun front cards →
           LeadTo m f s cards b → judge m f s n (front ++ last ∷ behind) ≡ Spelled b
