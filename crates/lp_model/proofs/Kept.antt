@@ -1,33 +1,49 @@
 -- What a change of a field leaves, as the fields say it: a model that may be kept.
-use Rattle.std.proofs.Common.{◌≡◌, ℕ, ◌<◌, List, Option, Result, Ok, Err, get_or, set, IfSome, sym, ap, ap₂, ◌∙◌, subst}
+use Rattle.std.proofs.Common.{◌≡◌, ℕ, ◌<◌, List, Option, Result, Ok, Err, get_or, set, IfSome}
+use Rattle.std.proofs.Common.{refl, sym, ap, ap₂, ◌∙◌, subst}
 use Rattle.std.specs.Prelude.{OnOk, OnErr}
 use Rattle.std.proofs.lemmas.List.{get_or_default, set-get_or}
 use Rattle.spec_exact.specs.Fraction.{ℚ}
 use Rattle.spec_exact.specs.Narrow.{IsNarrow}
-use Rattle.spec_model.specs.Model.{Model, Limits, ExactRow, ExactColumn, no_row, no_column, width, height}
+use Rattle.spec_model.specs.Model.{Model, Name, Limits, ExactRow, ExactColumn, no_row, no_column, width, height}
 use Rattle.spec_model.specs.Kept.{IsModel}
 use Rattle.spec_edit.specs.Changes.{with_entry}
 use Rattle.spec_edit.specs.Edited.{IsKeptBound}
 use Rattle.spec_edit.proofs.Keeping.{with_cost-kept, with_coefficient-kept}
 use Rattle.spec_edit.proofs.Keeping.{with_bounds-kept, with_rhs-kept, with_range-kept}
+use Rattle.lp_model.specs.Indexed.{IsIndexed}
+use Rattle.lp_model.proofs.NamePlaces.{names_set}
 
--- ---- row i, which is r
+-- ---- row i, which is r, of a model that keeps the names of its rows and columns
 
-module _ (m : Model) (i : ℕ) (r : ExactRow) (here : r ≡ get_or m.rows i r) (l : i < height m) where
+module _ (m : Model) (by_row by_column : Option (List Name)) (kept : IsIndexed m by_row by_column) (i : ℕ)
+    (r : ExactRow) (here : r ≡ get_or m.rows i r) (l : i < height m) where
   row_here : r ≡ get_or m.rows i no_row
   row_here = here ∙ get_or_default m.rows i r no_row l
 
-  pub rhs_here : (v w : ℚ) → w ≡ v → IsModel m → IsNarrow v →
-      IsModel (record m { rows = set m.rows i (record r { rhs = w }) })
-  rhs_here v w e k narrow =
-      subst IsModel (ap₂ (λ r v. record m { rows = set m.rows i (record r { rhs = v }) }) (sym row_here) (sym e))
-      (with_rhs-kept m i v k l narrow)
+  -- the row becomes x, which has its name
+  row_set : (x : ExactRow) → x.name ≡ r.name → IsModel (record m { rows = set m.rows i x }) →
+      IsIndexed (record m { rows = set m.rows i x }) by_row by_column
+  row_set x e k =
+      record {
+        model = k;
+        rows = names_set (λ (x : ExactRow). x.name) by_row m.rows i r x here l e kept.rows;
+        columns = kept.columns;
+      }
 
-  pub range_here : (range given : Option ℚ) → given ≡ range → IsModel m → IfSome range IsNarrow →
-      IsModel (record m { rows = set m.rows i (record r { range = given }) })
-  range_here range given e k narrow =
-      subst IsModel (ap₂ (λ r v. record m { rows = set m.rows i (record r { range = v }) }) (sym row_here) (sym e))
-      (with_range-kept m i range k l narrow)
+  pub rhs_here : (v w : ℚ) → w ≡ v → IsNarrow v →
+      IsIndexed (record m { rows = set m.rows i (record r { rhs = w }) }) by_row by_column
+  rhs_here v w e narrow =
+      row_set (record r { rhs = w }) refl
+      (subst IsModel (ap₂ (λ r v. record m { rows = set m.rows i (record r { rhs = v }) }) (sym row_here) (sym e))
+      (with_rhs-kept m i v kept.model l narrow))
+
+  pub range_here : (range given : Option ℚ) → given ≡ range → IfSome range IsNarrow →
+      IsIndexed (record m { rows = set m.rows i (record r { range = given }) }) by_row by_column
+  range_here range given e narrow =
+      row_set (record r { range = given }) refl
+      (subst IsModel (ap₂ (λ r v. record m { rows = set m.rows i (record r { range = v }) }) (sym row_here) (sym e))
+      (with_range-kept m i range kept.model l narrow))
 
 -- ---- column j, which is x
 
