@@ -7,6 +7,7 @@ ghost use Rattle.spec_exact.specs.Run.{list_run, steps};
 ghost use Rattle.spec_simplex.specs.Form as forms;
 ghost use Rattle.lp_frac.specs.Narrow.{largest};
 ghost use Rattle.lp_standard.specs.Answer.{IsFaultOf, IsStopOf};
+ghost use Rattle.lp_standard.specs.Side.{on_side};
 
 use crate::fault::{FormStop, stop_of};
 use crate::limits::{clash, limits};
@@ -65,32 +66,42 @@ fn entries(alloc: Global, model: &Model) -> Result<Columns, AllocError>
     Ok(entries)
 }
 
-// The lower bounds of all columns, and then the lower limits of all rows.
-fn lowers(alloc: Global, model: &Model, limits: &[Limits]) -> Result<BoundList, AllocError>
-    ensures { IfOk result (λ v. v ≡ map (λ c. c.lower) model.now.columns ++ map (λ l. l.0) limits.now) }
-{
-    let mut lowers = BoundList::new(alloc);
-    for j in 0..model.cols() {
-        lowers.push(model.col(j).lower)?;
-    }
-    for (lower, _) in limits {
-        lowers.push(*lower)?;
-    }
-    Ok(lowers)
+// Which of two limits is meant.
+#[derive(Clone, Copy)]
+enum Side {
+    Lower,
+    Upper,
 }
 
-// The upper bounds of all columns, and then the upper limits of all rows.
-fn uppers(alloc: Global, model: &Model, limits: &[Limits]) -> Result<BoundList, AllocError>
-    ensures { IfOk result (λ v. v ≡ map (λ c. c.upper) model.now.columns ++ map (λ l. l.1) limits.now) }
+// The limit on this side.
+fn on_side(side: Side, lower: Option<Frac>, upper: Option<Frac>) -> Option<Frac>
+    ensures { result ≡ on_side side lower upper }
 {
-    let mut uppers = BoundList::new(alloc);
+    match side {
+        Side::Lower => lower,
+        Side::Upper => upper,
+    }
+}
+
+// The bounds on this side of all columns, and then the limits on it of all rows.
+fn bounds(
+    alloc: Global,
+    model: &Model,
+    limits: &[Limits],
+    side: Side,
+) -> Result<BoundList, AllocError>
+    ensures { IfOk result (λ v. v
+        ≡ map (λ c. on_side side c.lower c.upper) model.now.columns ++ map (λ l. on_side side l.0 l.1) limits.now) }
+{
+    let mut bounds = BoundList::new(alloc);
     for j in 0..model.cols() {
-        uppers.push(model.col(j).upper)?;
+        let column = model.col(j);
+        bounds.push(on_side(side, column.lower, column.upper))?;
     }
-    for (_, upper) in limits {
-        uppers.push(*upper)?;
+    for (lower, upper) in limits {
+        bounds.push(on_side(side, *lower, *upper))?;
     }
-    Ok(uppers)
+    Ok(bounds)
 }
 
 // The cost to be made least.
@@ -130,8 +141,8 @@ pub fn form(alloc: Global, model: &Model) -> Result<Form, FormStop>
         return Err(stop_of(fault));
     }
     let entries = entries(alloc, model)?;
-    let lower = lowers(alloc, model, &limits)?;
-    let upper = uppers(alloc, model, &limits)?;
+    let lower = bounds(alloc, model, &limits, Side::Lower)?;
+    let upper = bounds(alloc, model, &limits, Side::Upper)?;
     let cost = costs(alloc, model)?;
     Ok(Form::new(model.rows(), model.cols(), entries, lower, upper, cost))
 }
