@@ -1,4 +1,5 @@
 -- Lemmas.
+pub mod BlankParts
 mod KeptLemmas
 pub mod LastBytes
 mod PieceLemmas
