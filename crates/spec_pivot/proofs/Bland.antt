@@ -1,6 +1,6 @@
 -- Two tableaus of a cycle, of which in one the greatest of the columns that come and go leaves,
 -- and in the other it enters.
-use Rattle.std.proofs.Common.{◌≡◌, ℕ, zero, suc, ◌<◌, ◌≢◌, ◌⊎◌, Some, None, refl}
+use Rattle.std.proofs.Common.{◌≡◌, ℕ, zero, suc, ◌<◌, ◌≢◌, ◌⊎◌, Option, Some, None, refl}
 use Rattle.std.proofs.Common.{sym, ap, ◌∙◌, subst, arith, inl, inr, ⊎_elim}
 use Rattle.spec_exact.specs.Fraction.{ℚ, ◌+ℚ◌, ◌*ℚ◌, 0ℚ, ◌≤ℚ◌, ◌<ℚ◌}
 use Rattle.spec_exact.specs.Sums.{sum_below}
@@ -12,8 +12,10 @@ use Rattle.spec_exact.proofs.Sums.{sum_below_same}
 use Rattle.spec_pivot.specs.Tableau.{delta}
 use Rattle.spec_pivot.specs.declared.status.Status.{Status}
 use Rattle.spec_pivot.specs.declared.status.Status.TheVariants.{Basic, AtLower, AtUpper, AtZero}
+use Rattle.spec_pivot.specs.declared.status.Way.{Way}
 use Rattle.spec_pivot.specs.declared.status.Way.TheVariants.{Up, Down}
-use Rattle.spec_pivot.specs.Simplex.{Bounds, IsFixed, MayEnter, CanMove, Stands, IsBlocked}
+use Rattle.spec_pivot.specs.Simplex.{Bounds, IsFixed, MayEnter, CanMove, Improves, Stands, IsBlocked}
+use Rattle.spec_pivot.specs.Ratio.{bound_ahead}
 use Rattle.spec_pivot.proofs.Pivot.{by_eq, delta_same, delta_other, sum_below-delta}
 
 -- a sum below 0 has a term below 0
@@ -43,40 +45,64 @@ negative_product a b h f g =
     (λ e. clash_ℚ _ _ h (subst (λ x. 0ℚ ≤ℚ x) (sym (ap (λ y. a *ℚ y) e ∙ *ℚ_zero a)) (≤ℚ_refl 0ℚ))))
     (λ e. clash_ℚ _ _ h (subst (λ x. 0ℚ ≤ℚ x) (sym (ap (λ y. y *ℚ b) e ∙ zero-*ℚ b)) (≤ℚ_refl 0ℚ)))
 
+-- ---- both ways: up towards an upper bound, and down towards a lower one
+-- a column that changes by r a unit moves that way
+abbrev pub Goes : Way → ℚ → Type 0
+Goes Up r = 0ℚ <ℚ r
+Goes Down r = r <ℚ 0ℚ
+
+-- the bound that lies that way
+abbrev pub ahead : Way → Bounds → ℕ → Option ℚ
+ahead Up b k = b.upper k
+ahead Down b k = b.lower k
+
+none_improves : (way : Way) (d : ℚ) → d ≡ 0ℚ → ¬ (Improves way d)
+none_improves Up d e p = <ℚ_irrefl 0ℚ (subst (λ a. a <ℚ 0ℚ) e p)
+none_improves Down d e p = <ℚ_irrefl 0ℚ (subst (λ a. 0ℚ <ℚ a) e p)
+
+none_goes : (way : Way) (r : ℚ) → r ≡ 0ℚ → ¬ (Goes way r)
+none_goes Up r e p = <ℚ_irrefl 0ℚ (subst (λ a. 0ℚ <ℚ a) e p)
+none_goes Down r e p = <ℚ_irrefl 0ℚ (subst (λ a. a <ℚ 0ℚ) e p)
+
 -- what is known of a column that can move and does not stand fixed
-rise_under_upper : (b : Bounds) (k : ℕ) (v : ℚ) (s : Status) → ¬ (IsFixed b k) → Stands s (b.lower k) (b.upper k) v →
-    CanMove Up s → b.upper k ≡ Some v → ⊥
-rise_under_upper b k v Basic n st c e = c
-rise_under_upper b k v AtLower n st c e = n (v, st, e)
-rise_under_upper b k v AtUpper n st c e = c
-rise_under_upper b k v AtZero n st c e = let z : None ≡ Some v = sym st.1 ∙ e in cc
+not_at_bound : (way : Way) (b : Bounds) (k : ℕ) (v : ℚ) (s : Status) → ¬ (IsFixed b k) →
+    Stands s (b.lower k) (b.upper k) v → CanMove way s → ahead way b k ≡ Some v → ⊥
+not_at_bound Up b k v Basic n st c e = c
+not_at_bound Up b k v AtLower n st c e = n (v, st, e)
+not_at_bound Up b k v AtUpper n st c e = c
+not_at_bound Up b k v AtZero n st c e = let z : None ≡ Some v = sym st.1 ∙ e in cc
+not_at_bound Down b k v Basic n st c e = c
+not_at_bound Down b k v AtLower n st c e = c
+not_at_bound Down b k v AtUpper n st c e = n (v, e, st)
+not_at_bound Down b k v AtZero n st c e = let z : None ≡ Some v = sym st.0 ∙ e in cc
 
-fall_over_lower : (b : Bounds) (k : ℕ) (v : ℚ) (s : Status) → ¬ (IsFixed b k) → Stands s (b.lower k) (b.upper k) v →
-    CanMove Down s → b.lower k ≡ Some v → ⊥
-fall_over_lower b k v Basic n st c e = c
-fall_over_lower b k v AtLower n st c e = c
-fall_over_lower b k v AtUpper n st c e = n (v, e, st)
-fall_over_lower b k v AtZero n st c e = let z : None ≡ Some v = sym st.0 ∙ e in cc
+by_status : {P : Type 0} (way : Way) (s : Status) → (s ≡ Basic → P) → (¬ (s ≡ Basic) → CanMove way s → P) →
+    (¬ (s ≡ Basic) → s ≡ bound_ahead way → P) → P
+by_status way Basic f g h = f refl
+by_status Up AtLower f g h = g (λ e. cc) tt
+by_status Up AtUpper f g h = h (λ e. cc) refl
+by_status Up AtZero f g h = g (λ e. cc) tt
+by_status Down AtLower f g h = h (λ e. cc) refl
+by_status Down AtUpper f g h = g (λ e. cc) tt
+by_status Down AtZero f g h = g (λ e. cc) tt
 
-by_status : {P : Type 0} (s : Status) → (s ≡ Basic → P) → (¬ (s ≡ Basic) → CanMove Up s → P) →
-    (¬ (s ≡ Basic) → (s ≡ AtUpper) → P) → P
-by_status Basic f g h = f refl
-by_status AtLower f g h = g (λ e. cc) tt
-by_status AtUpper f g h = h (λ e. cc) refl
-by_status AtZero f g h = g (λ e. cc) tt
+no_move : (way : Way) (s : Status) → CanMove way s → s ≡ bound_ahead way → ⊥
+no_move Up s c e = subst (CanMove Up) e c
+no_move Down s c e = subst (CanMove Down) e c
 
-by_status_down : {P : Type 0} (s : Status) → (s ≡ Basic → P) → (¬ (s ≡ Basic) → CanMove Down s → P) →
-    (¬ (s ≡ Basic) → (s ≡ AtLower) → P) → P
-by_status_down Basic f g h = f refl
-by_status_down AtLower f g h = h (λ e. cc) refl
-by_status_down AtUpper f g h = g (λ e. cc) tt
-by_status_down AtZero f g h = g (λ e. cc) tt
+stands_ahead : (way : Way) (b : Bounds) (k : ℕ) (v : ℚ) (s : Status) → s ≡ bound_ahead way →
+    Stands s (b.lower k) (b.upper k) v → ahead way b k ≡ Some v
+stands_ahead Up b k v s e = subst (λ s. Stands s (b.lower k) (b.upper k) v) e
+stands_ahead Down b k v s e = subst (λ s. Stands s (b.lower k) (b.upper k) v) e
 
-not_up : (s : Status) → CanMove Up s → s ≡ AtUpper → ⊥
-not_up s c e = subst (CanMove Up) e c
+-- a column is blocked at the bound ahead of it, and at no other
+blocked_ahead : (way : Way) (b : Bounds) (k : ℕ) (v r : ℚ) → Goes way r → IsBlocked b k v r → ahead way b k ≡ Some v
+blocked_ahead Up b k v r p = ⊎_elim (λ u. u.1) (λ l. clash_ℚ _ _ p (<ℚ-le _ _ l.0))
+blocked_ahead Down b k v r p = ⊎_elim (λ u. clash_ℚ _ _ p (<ℚ-le _ _ u.0)) (λ l. l.1)
 
-not_down : (s : Status) → CanMove Down s → s ≡ AtLower → ⊥
-not_down s c e = subst (CanMove Down) e c
+blocked_back : (way : Way) (b : Bounds) (k : ℕ) (v r : ℚ) → Goes way r → ahead way b k ≡ Some v → IsBlocked b k v r
+blocked_back Up b k v r p e = inl (p, e)
+blocked_back Down b k v r p e = inr (p, e)
 
 -- one side of the pair: j enters, moving every column by the ray, and g leaves
 pub record Leaving (n : ℕ) (b : Bounds) (x : ℕ → ℚ) (d : ℕ → ℚ) (s : ℕ → Status) (r : ℕ → ℚ) (j g : ℕ) : Type 0 where
@@ -85,8 +111,7 @@ pub record Leaving (n : ℕ) (b : Bounds) (x : ℕ → ℚ) (d : ℕ → ℚ) (s
   pub still : (k : ℕ) → k < n → ¬ (s k ≡ Basic) → k ≢ j → r k ≡ 0ℚ
   pub stands : (k : ℕ) → k < n → Stands (s k) (b.lower k) (b.upper k) (x k)
   pub may_enter : MayEnter b j
-  pub rises : 0ℚ <ℚ r j → CanMove Up (s j)
-  pub falls : r j <ℚ 0ℚ → CanMove Down (s j)
+  pub can_move : (way : Way) → Goes way (r j) → CanMove way (s j)
   pub better : (d j *ℚ r j) <ℚ 0ℚ
   pub blocked : IsBlocked b g (x g) (r g)
   pub least : (k : ℕ) → k < g → s k ≡ Basic → ¬ (IsBlocked b k (x k) (r k))
@@ -97,10 +122,8 @@ pub record Entering (n : ℕ) (b : Bounds) (x : ℕ → ℚ) (d : ℕ → ℚ) (
   pub zero_at_basic : (k : ℕ) → k < n → s k ≡ Basic → d k ≡ 0ℚ
   pub stands : (k : ℕ) → k < n → Stands (s k) (b.lower k) (b.upper k) (x k)
   pub may_enter : MayEnter b g
-  pub rises : d g <ℚ 0ℚ → CanMove Up (s g)
-  pub falls : 0ℚ <ℚ d g → CanMove Down (s g)
-  pub least_up : (k : ℕ) → k < g → MayEnter b k → CanMove Up (s k) → ¬ (d k <ℚ 0ℚ)
-  pub least_down : (k : ℕ) → k < g → MayEnter b k → CanMove Down (s k) → ¬ (0ℚ <ℚ d k)
+  pub can_move : (way : Way) → Improves way (d g) → CanMove way (s g)
+  pub least : (k : ℕ) (way : Way) → k < g → MayEnter b k → CanMove way (s k) → ¬ (Improves way (d k))
 
 module _ (n : ℕ) (b : Bounds) (x d e : ℕ → ℚ) (s u : ℕ → Status) (r : ℕ → ℚ)
     (j g : ℕ) (D : Leaving n b x d s r j g) (E : Entering n b x e u g)
@@ -117,59 +140,31 @@ module _ (n : ℕ) (b : Bounds) (x d e : ℕ → ℚ) (s u : ℕ → Status) (r 
       go AtUpper q o = absurd (n (D.still k h (λ z. let w : AtUpper ≡ Basic = sym q ∙ z in cc) o))
       go AtZero q o = absurd (n (D.still k h (λ z. let w : AtZero ≡ Basic = sym q ∙ z in cc) o))
 
-  -- up past an upper bound
-  up_case : (k : ℕ) → k < n → e k <ℚ 0ℚ → 0ℚ <ℚ r k → ⊥
-  up_case k h p q =
-      by_status (u k)
-      (λ z. <ℚ_irrefl 0ℚ (subst (λ a. a <ℚ 0ℚ) (E.zero_at_basic k h z) p))
-      (λ z c. let mv = moves k h way z in
+  -- no column moves the way in which it would lower the other side's cost
+  one_way : (way : Way) (k : ℕ) → k < n → Improves way (e k) → Goes way (r k) → ⊥
+  one_way way k h p q =
+      by_status way (u k)
+      (λ z. none_improves way (e k) (E.zero_at_basic k h z) p)
+      (λ z c. let mv = moves k h outside z in
       ⊎_elim
-      (λ lt. E.least_up k lt mv.1 c p)
-      (λ o. ⊎_elim
-      (λ bl. rise_under_upper b k (x k) (u k) mv.1.1 (E.stands k h) c
-      (subst (λ g. b.upper g ≡ Some (x g)) (sym o) bl.1))
-      (λ bl. clash_ℚ _ _ q (<ℚ-le _ _ (subst (λ g. r g <ℚ 0ℚ) (sym o) bl.0)))
-      D.blocked)
+      (λ lt. E.least k way lt mv.1 c p)
+      (λ o. not_at_bound way b k (x k) (u k) mv.1.1 (E.stands k h) c
+      (blocked_ahead way b k (x k) (r k) q (subst (λ g. IsBlocked b g (x g) (r g)) (sym o) D.blocked)))
       mv.0)
-      (λ z a. let mv = moves k h way z in
-      let top : b.upper k ≡ Some (x k) = subst (λ v. Stands v (b.lower k) (b.upper k) (x k)) a (E.stands k h) in
+      (λ z a. let mv = moves k h outside z in
+      let at : ahead way b k ≡ Some (x k) = stands_ahead way b k (x k) (u k) a (E.stands k h) in
       ⊎_elim
       (λ lt. ⊎_elim
-      (λ bs. D.least k lt bs (inl (q, top)))
-      (λ o. rise_under_upper b k (x k) (s k) mv.1.1 (D.stands k h)
-      (subst (λ j. CanMove Up (s j)) (sym o) (D.rises (subst (λ j. 0ℚ <ℚ r j) o q))) top)
-      way)
-      (λ o. not_up (u k) (subst (λ g. CanMove Up (u g)) (sym o) (E.rises (subst (λ g. e g <ℚ 0ℚ) o p))) a)
+      (λ bs. D.least k lt bs (blocked_back way b k (x k) (r k) q at))
+      (λ o. not_at_bound way b k (x k) (s k) mv.1.1 (D.stands k h)
+      (subst (λ j. CanMove way (s j)) (sym o) (D.can_move way (subst (λ j. Goes way (r j)) o q))) at)
+      outside)
+      (λ o. no_move way (u k)
+      (subst (λ g. CanMove way (u g)) (sym o) (E.can_move way (subst (λ g. Improves way (e g)) o p))) a)
       mv.0)
     where
-      way : (s k ≡ Basic) ⊎ (k ≡ j)
-      way = moving k h (λ z. <ℚ_irrefl 0ℚ (subst (λ a. 0ℚ <ℚ a) z q))
-
-  down_case : (k : ℕ) → k < n → 0ℚ <ℚ e k → r k <ℚ 0ℚ → ⊥
-  down_case k h p q =
-      by_status_down (u k)
-      (λ z. <ℚ_irrefl 0ℚ (subst (λ a. 0ℚ <ℚ a) (E.zero_at_basic k h z) p))
-      (λ z c. let mv = moves k h way z in
-      ⊎_elim
-      (λ lt. E.least_down k lt mv.1 c p)
-      (λ o. ⊎_elim
-      (λ bl. clash_ℚ _ _ q (<ℚ-le _ _ (subst (λ g. 0ℚ <ℚ r g) (sym o) bl.0)))
-      (λ bl. fall_over_lower b k (x k) (u k) mv.1.1 (E.stands k h) c (subst (λ g. b.lower g ≡ Some (x g)) (sym o) bl.1))
-      D.blocked)
-      mv.0)
-      (λ z a. let mv = moves k h way z in
-      let bottom : b.lower k ≡ Some (x k) = subst (λ v. Stands v (b.lower k) (b.upper k) (x k)) a (E.stands k h) in
-      ⊎_elim
-      (λ lt. ⊎_elim
-      (λ bs. D.least k lt bs (inr (q, bottom)))
-      (λ o. fall_over_lower b k (x k) (s k) mv.1.1 (D.stands k h)
-      (subst (λ j. CanMove Down (s j)) (sym o) (D.falls (subst (λ j. r j <ℚ 0ℚ) o q))) bottom)
-      way)
-      (λ o. not_down (u k) (subst (λ g. CanMove Down (u g)) (sym o) (E.falls (subst (λ g. 0ℚ <ℚ e g) o p))) a)
-      mv.0)
-    where
-      way : (s k ≡ Basic) ⊎ (k ≡ j)
-      way = moving k h (λ z. <ℚ_irrefl 0ℚ (subst (λ a. a <ℚ 0ℚ) z q))
+      outside : (s k ≡ Basic) ⊎ (k ≡ j)
+      outside = moving k h (λ z. none_goes way (r k) z q)
 
   -- the sum of the reduced costs along the ray is the entering column's part
   ray_cost : sum_below n (λ k. d k *ℚ r k) ≡ d j *ℚ r j
@@ -200,4 +195,4 @@ module _ (n : ℕ) (b : Bounds) (x d e : ℕ → ℚ) (s u : ℕ → Status) (r 
   pub no_pair : sum_below n (λ k. d k *ℚ r k) ≡ sum_below n (λ k. e k *ℚ r k) → ⊥
   no_pair same =
       let t = negative_term n (λ k. e k *ℚ r k) (subst (λ a. a <ℚ 0ℚ) (sym ray_cost ∙ same) D.better) in
-      negative_product (e t.0) (r t.0) t.2 (up_case t.0 t.1) (down_case t.0 t.1)
+      negative_product (e t.0) (r t.0) t.2 (one_way Up t.0 t.1) (one_way Down t.0 t.1)

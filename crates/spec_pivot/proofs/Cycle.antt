@@ -20,7 +20,7 @@ use Rattle.spec_pivot.proofs.Pivot.{by_eq}
 use Rattle.spec_pivot.proofs.Ray.{ray_at, ray_still, cost_ray}
 use Rattle.spec_pivot.proofs.Kept.{outside, j_outside, flip_kept, pivot_kept, status_j, status_left, status_other}
 use Rattle.spec_pivot.proofs.Values.{by_basic, zero_at_basic, same_values, better, cost_along}
-use Rattle.spec_pivot.proofs.Bland.{Leaving, Entering, no_pair}
+use Rattle.spec_pivot.proofs.Bland.{Goes, Leaving, Entering, no_pair}
 
 plus_negative : (a s d : ℚ) → 0ℚ <ℚ s → d <ℚ 0ℚ → (a +ℚ s *ℚ d) <ℚ a
 plus_negative a s d p h =
@@ -269,23 +269,16 @@ module _ (m n : ℕ) (f : Matrix) (cost : ℕ → ℚ) (b : Bounds) where
                 λ k p. subst (λ v. Stands ((t i).status k) (b.lower k) (b.upper k) v)
                 (same_value i (omega arith) k) (g.stands k p);
             may_enter = s.rule.enters.eligible.may_enter;
-            rises = λ p. up (l i).way s.rule.enters.eligible.status s.rule.enters.eligible.improves p;
-            falls = λ p. down (l i).way s.rule.enters.eligible.status s.rule.enters.eligible.improves p;
-            least_up = λ k p q r z. s.rule.enters.least k Up p (record { may_enter = q; status = r; improves = z });
-            least_down = λ k p q r z. s.rule.enters.least k Down p (record { may_enter = q; status = r; improves = z });
+            can_move = λ w p. can_move (l i).way w s.rule.enters.eligible.status s.rule.enters.eligible.improves p;
+            least = λ k w p q r z. s.rule.enters.least k w p (record { may_enter = q; status = r; improves = z });
           }
         where
-          up : (w : Way) → CanMove w ((t i).status (l i).column) →
-              Improves w ((t i).reduced (l i).column) → (t i).reduced (l i).column <ℚ 0ℚ
-              → CanMove Up ((t i).status (l i).column)
-          up Up c z p = c
-          up Down c z p = clash_ℚ _ _ z (<ℚ-le _ _ p)
-
-          down : (w : Way) → CanMove w ((t i).status (l i).column) →
-              Improves w ((t i).reduced (l i).column) → 0ℚ <ℚ (t i).reduced (l i).column
-              → CanMove Down ((t i).status (l i).column)
-          down Up c z p = clash_ℚ _ _ z (<ℚ-le _ _ p)
-          down Down c z p = c
+          can_move : (v w : Way) → CanMove v ((t i).status (l i).column) → Improves v ((t i).reduced (l i).column) →
+              Improves w ((t i).reduced (l i).column) → CanMove w ((t i).status (l i).column)
+          can_move Up Up c z p = c
+          can_move Up Down c z p = clash_ℚ _ _ z (<ℚ-le _ _ p)
+          can_move Down Up c z p = clash_ℚ _ _ z (<ℚ-le _ _ p)
+          can_move Down Down c z p = c
 
       ray_of : ℕ → ℕ → ℚ
       ray_of i = ray m (t i) (l i).way (l i).column
@@ -311,8 +304,7 @@ module _ (m n : ℕ) (f : Matrix) (cost : ℕ → ℚ) (b : Bounds) where
                 λ k p. subst (λ v. Stands ((t i).status k) (b.lower k) (b.upper k) v)
                 (same_value i (omega arith) k) (g.stands k p);
             may_enter = s.rule.enters.eligible.may_enter;
-            rises = λ p. up (l i).way s.rule.enters.eligible.status (subst (λ a. 0ℚ <ℚ a) at p);
-            falls = λ p. down (l i).way s.rule.enters.eligible.status (subst (λ a. a <ℚ 0ℚ) at p);
+            can_move = λ w p. can_move (l i).way w s.rule.enters.eligible.status (subst (Goes w) at p);
             better =
                 subst (λ a. ((t i).reduced (l i).column *ℚ a) <ℚ 0ℚ) (sym at)
                 (better m n f cost b (t i) g (l i).way (l i).column s.rule.enters);
@@ -333,14 +325,12 @@ module _ (m n : ℕ) (f : Matrix) (cost : ℕ → ℚ) (b : Bounds) where
           below : neg_ℚ 1ℚ <ℚ 0ℚ
           below = subst (λ a. neg_ℚ 1ℚ <ℚ a) neg-zero (neg_strict 0ℚ 1ℚ zero-lt-one)
 
-          up : (w : Way) → CanMove w ((t i).status (l i).column) → 0ℚ <ℚ sign w → CanMove Up ((t i).status (l i).column)
-          up Up c p = c
-          up Down c p = clash_ℚ _ _ p (<ℚ-le _ _ below)
-
-          down : (w : Way) → CanMove w ((t i).status (l i).column) → sign w <ℚ 0ℚ →
-              CanMove Down ((t i).status (l i).column)
-          down Up c p = clash_ℚ _ _ p (<ℚ-le _ _ zero-lt-one)
-          down Down c p = c
+          can_move : (v w : Way) → CanMove v ((t i).status (l i).column) → Goes w (sign v) →
+              CanMove w ((t i).status (l i).column)
+          can_move Up Up c p = c
+          can_move Up Down c p = clash_ℚ _ _ p (<ℚ-le _ _ zero-lt-one)
+          can_move Down Up c p = clash_ℚ _ _ p (<ℚ-le _ _ below)
+          can_move Down Down c p = c
 
       one_sum : (i a : ℕ) → i < len → a < len →
           sum_below n (λ k. (t i).reduced k *ℚ ray_of i k) ≡ sum_below n (λ k. (t a).reduced k *ℚ ray_of i k)

@@ -6,6 +6,7 @@ pub mod Fixed
 pub mod Instance
 pub mod Moves
 pub mod Kept
+pub mod OneRow
 pub mod Pivot
 pub mod Ratio
 pub mod Ray
