@@ -1,72 +1,32 @@
 -- A dual step that is there. There are two columns x and s, of which x is at least 0 and s at least 1, and one row s -
 -- x = 0, and x is to be least. At first s is basic and 0, so it leaves to its bound, and x enters.
 -- Where the row is s + x = 0 none can.
-use Rattle.std.proofs.Common.{◌≡◌, ℕ, zero, suc, ◌<◌, Option, Some, None, false, refl, sym, subst, subst₂, arith}
+use Rattle.std.proofs.Common.{◌≡◌, ℕ, zero, suc, ◌<◌, Some, None, refl, sym, subst, arith}
 use Rattle.spec_exact.specs.Fraction.{ℚ, ◌+ℚ◌, ◌-ℚ◌, ◌*ℚ◌, neg_ℚ, 0ℚ, 1ℚ, ◌≤ℚ◌, ◌<ℚ◌}
-use Rattle.spec_exact.specs.Sums.{sum_below}
 use Rattle.spec_exact.proofs.Order.{≤ℚ_refl, <ℚ-le, clash_ℚ}
 use Rattle.spec_exact.proofs.Ruleset.{ring, neg-zero}
 use Rattle.spec_exact.proofs.Strict.{zero-lt-one, neg_strict}
-use Rattle.spec_pivot.specs.declared.status.Status.{Status}
-use Rattle.spec_pivot.specs.declared.status.Status.TheVariants.{Basic, AtLower}
 use Rattle.spec_pivot.specs.declared.status.Way.TheVariants.{Up}
-use Rattle.spec_pivot.specs.Tableau.{Matrix, delta}
-use Rattle.spec_pivot.specs.Simplex.{Bounds, Stands, Table, IsTableau}
-use Rattle.spec_pivot.proofs.Pivot.{Spans_refl}
+use Rattle.spec_pivot.specs.Tableau.{Matrix}
+use Rattle.spec_pivot.specs.Simplex.{Bounds, Table, IsTableau}
+use Rattle.spec_pivot.proofs.OneRow
+use Rattle.spec_pivot.proofs.OneRow.{entries, costs, lowest, bounds}
 use Rattle.spec_dual.specs.Dual.{IsDualFeasible, Leaves, IsCandidate, ratio, IsCheapest, Refutes}
 
 abbrev pub f : Matrix
-f i zero = neg_ℚ 1ℚ
-f i (suc k) = 1ℚ
+f = entries (neg_ℚ 1ℚ)
 
 abbrev pub cost : ℕ → ℚ
-cost zero = 1ℚ
-cost (suc k) = 0ℚ
-
-abbrev least : ℕ → Option ℚ
-least zero = Some 0ℚ
-least (suc k) = Some 1ℚ
+cost = costs 1ℚ
 
 abbrev pub b : Bounds
-b = record { lower = least; upper = λ k. None; barred = λ k. false }
-
-abbrev status : ℕ → Status
-status zero = AtLower
-status (suc k) = Basic
+b = bounds 1ℚ
 
 abbrev pub opening : Table
-opening =
-    record {
-      entry = f;
-      basic = λ i. 1;
-      value = λ k. 0ℚ;
-      reduced = λ k. cost k -ℚ sum_below 1 (λ r. 0ℚ *ℚ f r k);
-      status = status;
-    }
-
-only_zero : (i : ℕ) → i < 1 → i ≡ 0
-only_zero i h = omega arith
+opening = OneRow.opening (neg_ℚ 1ℚ) 1ℚ
 
 pub is_tableau : IsTableau 1 2 f cost b opening
-is_tableau = record {
-  in_range = λ i h. omega arith;
-  forth = Spans_refl 1 f;
-  back = Spans_refl 1 f;
-  units = λ i r h k. subst₂ (λ i r. 1ℚ ≡ delta i r) (sym (only_zero i h)) (sym (only_zero r k)) refl;
-  costs = record { weights = λ r. 0ℚ; less = λ k. refl; at_basic = λ i h. simp ring };
-  marked = λ i h. refl;
-  placed = λ k h e. place k h e;
-  stands = λ k h. stand k;
-  solves = λ i h. simp ring;
-}
-  where
-    place : (k : ℕ) → k < 2 → status k ≡ Basic → (i : ℕ) × (i < 1) × (1 ≡ k)
-    place zero h e = cc
-    place (suc k) h e = (0, omega arith, omega arith)
-
-    stand : (k : ℕ) → Stands (status k) (least k) None 0ℚ
-    stand zero = refl
-    stand (suc k) = tt
+is_tableau = OneRow.is_tableau (neg_ℚ 1ℚ) 1ℚ 1ℚ
 
 pub feasible : IsDualFeasible 2 b opening
 feasible zero h free = subst (λ a. 0ℚ ≤ℚ a) (sym cost_is) (<ℚ-le 0ℚ 1ℚ zero-lt-one)
@@ -113,7 +73,7 @@ refutes = record {
   positive = subst (λ a. 0ℚ <ℚ a) (sym sum_is) zero-lt-one;
 }
   where
-    at : (k : ℕ) → least k ≡ Some (stops k)
+    at : (k : ℕ) → lowest 1ℚ k ≡ Some (stops k)
     at zero = refl
     at (suc k) = refl
 
