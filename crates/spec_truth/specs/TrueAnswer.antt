@@ -1,4 +1,5 @@
--- What a solve's answer says of a model, and the width of its value.
+-- What the text of a reply says, what a solve's answer says of a model, and the width of its value.
+use Rattle.std.specs.Prelude.{ℕ, ◌≡◌, ◌⊎◌, List, ◌++◌, codes}
 use Rattle.spec_exact.specs.Fraction.{ℚ}
 use Rattle.spec_exact.specs.Narrow.{IsNarrow}
 use Rattle.spec_model.specs.Model.{Model}
@@ -7,6 +8,12 @@ use Rattle.spec_check.specs.declared.certificate.Known.{Known}
 use Rattle.spec_check.specs.declared.certificate.Known.TheVariants as known
 use Rattle.spec_server.specs.declared.answer.Answer.{Answer}
 use Rattle.spec_server.specs.declared.answer.Answer.TheVariants as answer
+use Rattle.spec_server.specs.Machine.{ExactReply}
+use Rattle.spec_server.specs.Output.{reply_text}
+
+-- its text is this, or this behind the word YES, as that of a yes to a certificate is
+abbrev pub Says : ExactReply → List ℕ → Type 0
+Says replied text = (reply_text replied ≡ text) ⊎ (reply_text replied ≡ codes "YES " ++ text)
 
 -- PAST and SPENT say nothing of it
 abbrev pub IsTrueOf : Model → Answer ℚ → Type 0

@@ -5,6 +5,7 @@
 //! | `after_exchange` | what an ask with its reply makes of a session's model | specs/ModelThen |
 //! | `model_then` | the model of a session after exchanges: that of its last LOAD, as edited since | specs/ModelThen |
 //! | `IsLoadedFrom` | the lines that spell a model that a session is to hold | specs/LoadedFrom |
+//! | `Says` | that a reply's text is this, perhaps behind the word YES | specs/TrueAnswer |
 //! | `IsTrueOf` | that what an answer says of a model is so | specs/TrueAnswer |
 //! | `IsNarrowKnown` | that a known value is of at most 127 bits | specs/TrueAnswer |
 //! | `IsCertified` | lines of a model and a certificate after it, and what is so of the model | specs/Certified |
@@ -25,6 +26,7 @@ ghost use Rattle.spec_mps.specs.NumberText.{Is, number_of};
 ghost use Rattle.spec_mps.specs.NumberWritten.{number_text};
 ghost use Rattle.spec_mps.specs.Steps.{Spells, Refuses};
 ghost use Rattle.spec_edit.specs.Edited.{ExactEdit, edited};
+ghost use Rattle.spec_check.specs.Certificate.{Holds};
 ghost use Rattle.spec_check.specs.declared.certificate.Known.{Known};
 ghost use Rattle.spec_check.specs.declared.certificate.Known.TheVariants as known;
 ghost use Rattle.spec_check.specs.declared.certificate.Verdict.TheVariants as verdict;
@@ -46,7 +48,7 @@ ghost use Rattle.spec_server.specs.SolveOut.{TextSaid, text_said, SolveOut};
 ghost use Rattle.spec_truth.specs.Certified.{IsCertified};
 ghost use Rattle.spec_truth.specs.LoadedFrom.{IsLoadedFrom};
 ghost use Rattle.spec_truth.specs.ModelThen.{model_then};
-ghost use Rattle.spec_truth.specs.TrueAnswer.{IsTrueOf, IsNarrowKnown};
+ghost use Rattle.spec_truth.specs.TrueAnswer.{Says, IsTrueOf, IsNarrowKnown};
 
 /// A session holds the model that its asks and replies say.
 pub fn sessions_hold_the_model_then()
@@ -82,50 +84,29 @@ pub fn loaded_models_are_spelled()
 
 /// In each run of sessions, an answer to a solve is true of the model that the session has then.
 pub fn answers_are_true_of_the_model_then()
-    ensures optimal { (places : ℕ) (before behind : List Exchange) (x : Exchange) (v : ℚ) →
-        RunAlone places (before ++ x ∷ behind) → x.reply ≡ reply.Answered (answer.Known (known.Optimal v)) →
-        (m : Model) × (model_then x.session before ≡ Some m) × IsOptimal m v }
-    ensures infeasible { (places : ℕ) (before behind : List Exchange) (x : Exchange) →
-        RunAlone places (before ++ x ∷ behind) → x.reply ≡ reply.Answered (answer.Known known.Infeasible) →
-        (m : Model) × (model_then x.session before ≡ Some m) × IsInfeasible m }
-    ensures unbounded { (places : ℕ) (before behind : List Exchange) (x : Exchange) →
-        RunAlone places (before ++ x ∷ behind) → x.reply ≡ reply.Answered (answer.Known known.Unbounded) →
-        (m : Model) × (model_then x.session before ≡ Some m) × IsUnbounded m }
+    ensures { (places : ℕ) (before behind : List Exchange) (x : Exchange) (what : Known ℚ) →
+        RunAlone places (before ++ x ∷ behind) → x.reply ≡ reply.Answered (answer.Known what) →
+        (m : Model) × (model_then x.session before ≡ Some m) × Holds m what }
 {}
 
 /// In each run of sessions, what a yes to a certificate says is true of the model that the session has then.
 pub fn yes_is_true_of_the_model_then()
-    ensures optimal { (places : ℕ) (before behind : List Exchange) (x : Exchange) (v : ℚ) →
-        RunAlone places (before ++ x ∷ behind) → x.reply ≡ reply.Checked (verdict.Yes (known.Optimal v)) →
-        (m : Model) × (model_then x.session before ≡ Some m) × IsOptimal m v }
-    ensures infeasible { (places : ℕ) (before behind : List Exchange) (x : Exchange) →
-        RunAlone places (before ++ x ∷ behind) → x.reply ≡ reply.Checked (verdict.Yes known.Infeasible) →
-        (m : Model) × (model_then x.session before ≡ Some m) × IsInfeasible m }
-    ensures unbounded { (places : ℕ) (before behind : List Exchange) (x : Exchange) →
-        RunAlone places (before ++ x ∷ behind) → x.reply ≡ reply.Checked (verdict.Yes known.Unbounded) →
-        (m : Model) × (model_then x.session before ≡ Some m) × IsUnbounded m }
+    ensures { (places : ℕ) (before behind : List Exchange) (x : Exchange) (what : Known ℚ) →
+        RunAlone places (before ++ x ∷ behind) → x.reply ≡ reply.Checked (verdict.Yes what) →
+        (m : Model) × (model_then x.session before ≡ Some m) × Holds m what }
 {}
 
-/// In each run of sessions, the text of a reply alone says what is true of the model that the session has then: after
-/// the word OPTIMAL stands the text of the optimal value.
+/// In each run of sessions, the text of a reply alone says what is true of the model that the session has then, as an
+/// answer or behind the word YES: after the word OPTIMAL stands the text of the optimal value.
 pub fn reply_texts_are_true_of_the_model_then()
     ensures optimal { (places : ℕ) (before behind : List Exchange) (x : Exchange) (text : List ℕ) →
-        RunAlone places (before ++ x ∷ behind) → reply_text x.reply ≡ codes "OPTIMAL " ++ text →
+        RunAlone places (before ++ x ∷ behind) → Says x.reply (codes "OPTIMAL " ++ text) →
         (v : ℚ) × (number_of text ≡ Is v) × ((m : Model) × (model_then x.session before ≡ Some m) × IsOptimal m v) }
     ensures infeasible { (places : ℕ) (before behind : List Exchange) (x : Exchange) →
-        RunAlone places (before ++ x ∷ behind) → reply_text x.reply ≡ codes "INFEASIBLE" →
+        RunAlone places (before ++ x ∷ behind) → Says x.reply (codes "INFEASIBLE") →
         (m : Model) × (model_then x.session before ≡ Some m) × IsInfeasible m }
     ensures unbounded { (places : ℕ) (before behind : List Exchange) (x : Exchange) →
-        RunAlone places (before ++ x ∷ behind) → reply_text x.reply ≡ codes "UNBOUNDED" →
-        (m : Model) × (model_then x.session before ≡ Some m) × IsUnbounded m }
-    ensures yes_optimal { (places : ℕ) (before behind : List Exchange) (x : Exchange) (text : List ℕ) →
-        RunAlone places (before ++ x ∷ behind) → reply_text x.reply ≡ codes "YES OPTIMAL " ++ text →
-        (v : ℚ) × (number_of text ≡ Is v) × ((m : Model) × (model_then x.session before ≡ Some m) × IsOptimal m v) }
-    ensures yes_infeasible { (places : ℕ) (before behind : List Exchange) (x : Exchange) →
-        RunAlone places (before ++ x ∷ behind) → reply_text x.reply ≡ codes "YES INFEASIBLE" →
-        (m : Model) × (model_then x.session before ≡ Some m) × IsInfeasible m }
-    ensures yes_unbounded { (places : ℕ) (before behind : List Exchange) (x : Exchange) →
-        RunAlone places (before ++ x ∷ behind) → reply_text x.reply ≡ codes "YES UNBOUNDED" →
+        RunAlone places (before ++ x ∷ behind) → Says x.reply (codes "UNBOUNDED") →
         (m : Model) × (model_then x.session before ≡ Some m) × IsUnbounded m }
 {}
 
