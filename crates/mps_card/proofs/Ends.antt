@@ -1,9 +1,6 @@
 -- Spaces at the ends of a text, and columns after the last field.
-use Rattle.std.proofs.Common.{◌≡◌, ℕ, suc, ◌+◌, ◌<◌, ◌≤◌, false, ◌&&◌, cond, List, [], ◌∷◌}
-use Rattle.std.proofs.Common.{◌++◌, length, get_or, take, refl, sym, ap, ◌∙◌, arith, None, eqb}
-use Rattle.std.specs.List.{list_all}
-use Rattle.std.proofs.Math.Seq.{take-suc as take_suc}
-use Rattle.std.proofs.lemmas.Bool.{ne_eqb, and_right, lt-leb}
+use Rattle.std.proofs.Common.{◌≡◌, ℕ, suc, ◌+◌, ◌<◌, ◌≤◌, List, [], ◌∷◌, length, get_or, take, refl, arith, None}
+use Rattle.std.proofs.lemmas.Bool.{lt-leb}
 use Rattle.spec_mps.specs.Fields.{without_end, misplaced_from}
 use Rattle.lp_base.proofs.LastBytes as last
 
