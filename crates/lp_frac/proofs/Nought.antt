@@ -1,34 +1,26 @@
 -- What an operation gives where a numerator is 0.
-use Rattle.std.proofs.Common.{◌≡◌, ◌≤◌, ℕ, ℤ, pos, unsigned_abs, Some, ap, ◌∙◌, sym, subst}
+use Rattle.std.proofs.Common.{◌≡◌, ℕ, ℤ, of_z, Some, ap, ◌∙◌}
+use mir.Syntax.{w128}
 use Rattle.spec_exact.specs.Fraction.{ℚ, 0ℚ}
 use Rattle.spec_exact.specs.Limit.{add, mul}
-use Rattle.spec_exact.specs.Laws.{IsWithin}
-use Rattle.spec_exact.proofs.Field.{zero_from_num}
 use Rattle.spec_exact.proofs.Zero.{add_left, add_right, mul_left, mul_right}
 use Rattle.lp_frac.specs.Narrow.{largest}
+use Rattle.lp_frac.specs.Steps.{AreParts}
+use Rattle.lp_frac.proofs.Read.{zero_read, within_read}
 
-within : (v : ℚ) (a : ℤ) (b : ℕ) → a ≡ v.num → b ≡ v.den → unsigned_abs a ≤ largest → b ≤ largest → IsWithin largest v
-within v a b ea eb h k =
-    record { num_fits = subst (λ (z : ℤ). unsigned_abs z ≤ largest) ea h; den_fits = subst (λ n. n ≤ largest) eb k }
-
-module _ (v w : ℚ) (a c : ℤ) (b d : ℕ) (ea : a ≡ v.num) (eb : b ≡ v.den) (ec : c ≡ w.num) (ed : d ≡ w.den)
-    (ha : unsigned_abs a ≤ largest) (hb : b ≤ largest) (hc : unsigned_abs c ≤ largest) (hd : d ≤ largest) where
-  pub add_onto_zero : a ≡ pos 0 → add (Some largest) v w ≡ Some w
+module _ {v w : ℚ} {a c : ℤ} {b d : ℕ} (hv : AreParts a b v) (hw : AreParts c d w) where
+  pub add_onto_zero : of_z w128 a ≡ 0 → add (Some largest) v w ≡ Some w
   add_onto_zero e =
-      ap (λ (x : ℚ). add (Some largest) x w) (zero_from_num v (sym ea ∙ e))
-      ∙ add_left largest w (within w c d ec ed hc hd)
+      ap (λ (x : ℚ). add (Some largest) x w) (zero_read hv e) ∙ add_left largest w (within_read hw)
 
-  pub add_zero : c ≡ pos 0 → add (Some largest) v w ≡ Some v
+  pub add_zero : of_z w128 c ≡ 0 → add (Some largest) v w ≡ Some v
   add_zero e =
-      ap (λ (x : ℚ). add (Some largest) v x) (zero_from_num w (sym ec ∙ e))
-      ∙ add_right largest v (within v a b ea eb ha hb)
+      ap (λ (x : ℚ). add (Some largest) v x) (zero_read hw e) ∙ add_right largest v (within_read hv)
 
-  pub zero_times : a ≡ pos 0 → mul (Some largest) v w ≡ Some 0ℚ
+  pub zero_times : of_z w128 a ≡ 0 → mul (Some largest) v w ≡ Some 0ℚ
   zero_times e =
-      ap (λ (x : ℚ). mul (Some largest) x w) (zero_from_num v (sym ea ∙ e))
-      ∙ mul_left largest w (within w c d ec ed hc hd)
+      ap (λ (x : ℚ). mul (Some largest) x w) (zero_read hv e) ∙ mul_left largest w (within_read hw)
 
-  pub times_zero : c ≡ pos 0 → mul (Some largest) v w ≡ Some 0ℚ
+  pub times_zero : of_z w128 c ≡ 0 → mul (Some largest) v w ≡ Some 0ℚ
   times_zero e =
-      ap (λ (x : ℚ). mul (Some largest) v x) (zero_from_num w (sym ec ∙ e))
-      ∙ mul_right largest v (within v a b ea eb ha hb)
+      ap (λ (x : ℚ). mul (Some largest) v x) (zero_read hw e) ∙ mul_right largest v (within_read hv)

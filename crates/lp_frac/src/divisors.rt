@@ -2,9 +2,10 @@
 //
 // Numbers of 64 bits take steps of 64 bits. Where one of the two is longer, one remainder makes
 // it short; where both are, they take steps of 128 bits until one is short.
-ghost use Rattle.std.specs.Prelude.{◌≡◌, ◌≢◌, ◌<◌, ◌≤◌, ◌%◌, ◌/◌, ◌^◌, ℕ};
+ghost use Rattle.std.specs.Prelude.{◌≡◌, ◌≢◌, ◌<◌, ◌≤◌, ◌%◌, ◌^◌, ℕ};
 ghost use Rattle.std.specs.Int.{abs_diff, trailing_zeros, w64, w128};
 ghost use Rattle.spec_exact.specs.Gcd.{gcd};
+ghost use Rattle.lp_frac.specs.OddPart.{IsOddPart};
 
 // The largest number of 64 bits.
 const SHORT: u128 = u64::MAX as u128;
@@ -12,10 +13,7 @@ const SHORT: u128 = u64::MAX as u128;
 // A number without its factors 2.
 fn odd_part(n: u64) -> u64
     requires { 0 < n }
-    ensures value { result ≡ n / 2 ^ trailing_zeros w64 n }
-    ensures odd { result % 2 ≡ 1 }
-    ensures size { result ≤ n }
-    ensures common { (a : ℕ) → a % 2 ≡ 1 → gcd a result ≡ gcd a n }
+    ensures { IsOddPart n (trailing_zeros w64 n) result }
 {
     n >> n.trailing_zeros()
 }
@@ -108,10 +106,7 @@ fn half_common(a: u128, b: u128) -> u128
 // A long number without its factors 2.
 fn long_odd_part(n: u128) -> u128
     requires { 0 < n }
-    ensures value { result ≡ n / 2 ^ trailing_zeros w128 n }
-    ensures odd { result % 2 ≡ 1 }
-    ensures size { result ≤ n }
-    ensures common { (a : ℕ) → a % 2 ≡ 1 → gcd a result ≡ gcd a n }
+    ensures { IsOddPart n (trailing_zeros w128 n) result }
 {
     n >> n.trailing_zeros()
 }

@@ -1,0 +1,27 @@
+-- What the code reads of a fraction.
+use Rattle.std.proofs.Common.{◌≡◌, ◌<◌, ℕ, ℤ, pos, negsuc, SFits, to_z, of_z, to_z-of_z, ap, ◌∙◌, sym, subst, arith}
+use Rattle.std.proofs.Common.{◌≤◌, unsigned_abs}
+use mir.Syntax.{w128}
+use Rattle.spec_exact.specs.Fraction.{ℚ, 0ℚ}
+use Rattle.spec_exact.specs.Laws.{IsWithin}
+use Rattle.spec_exact.proofs.Field.{zero_from_num}
+use Rattle.lp_frac.specs.Narrow.{largest}
+use Rattle.lp_frac.specs.Steps.{AreParts}
+
+fits : (num : ℤ) → unsigned_abs num ≤ largest → SFits w128 num
+fits (pos n) h = let k : n < 170141183460469231731687303715884105728 = omega (arith, h) in record { sfits = k }
+fits (negsuc n) h = let k : n < 170141183460469231731687303715884105728 = omega (arith, h) in record { sfits = k }
+
+module _ {num : ℤ} {den : ℕ} {v : ℚ} (h : AreParts num den v) where
+  pub num_read : to_z w128 (of_z w128 num) ≡ v.num
+  num_read = to_z-of_z (fits num h.num_size) ∙ h.num_is
+
+  pub zero_read : of_z w128 num ≡ 0 → v ≡ 0ℚ
+  zero_read e = zero_from_num v (sym num_read ∙ ap (to_z w128) e)
+
+  pub within_read : IsWithin largest v
+  within_read =
+      record {
+        num_fits = subst (λ (z : ℤ). unsigned_abs z ≤ largest) h.num_is h.num_size;
+        den_fits = subst (λ n. n ≤ largest) h.den_is h.den_size;
+      }
