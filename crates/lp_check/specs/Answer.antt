@@ -1,13 +1,14 @@
 -- What putting a certificate to a model says.
 use Rattle.std.specs.Prelude.{◌≡◌, ◌<◌, ℕ, ⊤, List, length, Result, Ok, Err}
 use Rattle.spec_exact.specs.Fraction.{ℚ}
-use Rattle.spec_model.specs.Model.{Model, Name, width, height}
+use Rattle.spec_model.specs.Model.{Model, Name}
 use Rattle.spec_check.specs.declared.certificate.Certificate.{Certificate}
 use Rattle.spec_check.specs.declared.certificate.Certificate.TheVariants.{Optimal, Infeasible, Unbounded}
 use Rattle.spec_check.specs.declared.certificate.Letter.{Letter}
 use Rattle.spec_check.specs.declared.certificate.Letter.TheVariants.{X, Y, R}
 use Rattle.spec_check.specs.declared.certificate.SettleFault.TheVariants.{UnknownName, Repeated}
 use Rattle.spec_check.specs.Settle.{Settled}
+use Rattle.lp_check.specs.Letters.{count_of}
 use Rattle.lp_check.specs.declared.settled.SettleError.{SettleError}
 use Rattle.lp_check.specs.declared.settled.SettleError.TheVariants.{Fault, NoMemory}
 
@@ -28,9 +29,7 @@ Puts answer after (Err error) = IsErrorOf answer error
 
 -- a place among the columns, or among the rows
 abbrev pub IsPlace : Model → Letter → ℕ → Type 0
-IsPlace m X k = k < width m
-IsPlace m Y k = k < height m
-IsPlace m R k = k < width m
+IsPlace m letter k = k < count_of m letter
 
 -- a place in the list of the letter
 abbrev pub IsInside : Letter → ℕ → Certificate (List ℚ) → Type 0

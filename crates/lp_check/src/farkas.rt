@@ -21,6 +21,19 @@ fn weighed_at(n: u32, d: Frac, limit: Option<Frac>, s: Frac) -> Result<Frac, Che
     }
 }
 
+// `$d` times the limit that its sign asks for in condition `$n`, onto `$sum`. The other limit is not taken.
+macro_rules! weighed {
+    ($n:literal, $d:expr, $above:expr, $below:expr, $sum:expr) => {
+        if is_positive($d) {
+            weighed_at($n, $d, $above, $sum)
+        } else if is_negative($d) {
+            weighed_at($n, $d, $below, $sum)
+        } else {
+            Ok($sum)
+        }
+    };
+}
+
 // What row `i` asks for with its multiplier, onto `sum`.
 fn row_asks(model: &Model, y: &Fracs, i: u32, sum: Frac) -> Result<Frac, CheckStop>
     requires inside { i < height model.now }
@@ -28,13 +41,8 @@ fn row_asks(model: &Model, y: &Fracs, i: u32, sum: Frac) -> Result<Frac, CheckSt
     ensures { result ≡ run.row_asks_run (Some largest) model.now y.now i sum }
 {
     let multiplier = part(y, i);
-    if is_positive(multiplier) {
-        weighed_at(1, multiplier, lower_limit(model.row(i))?, sum)
-    } else if is_negative(multiplier) {
-        weighed_at(1, multiplier, upper_limit(model.row(i))?, sum)
-    } else {
-        Ok(sum)
-    }
+    let row = model.row(i);
+    weighed!(1, multiplier, lower_limit(row)?, upper_limit(row)?, sum)
 }
 
 // Condition 1: what all rows ask for.
@@ -70,13 +78,7 @@ fn column_gives(model: &Model, y: &Fracs, j: u32, sum: Frac) -> Result<Frac, Che
 {
     let column = model.col(j);
     let priced = priced(model, y, j)?;
-    if is_positive(priced) {
-        weighed_at(2, priced, column.upper, sum)
-    } else if is_negative(priced) {
-        weighed_at(2, priced, column.lower, sum)
-    } else {
-        Ok(sum)
-    }
+    weighed!(2, priced, column.upper, column.lower, sum)
 }
 
 // Condition 2: the most that all columns give.

@@ -1,8 +1,9 @@
 // The text of a certificate.
 ghost use Rattle.std.specs.Prelude.{◌≡◌, ◌++◌, length, IfOk, OnOk};
-ghost use Rattle.spec_model.specs.Model.{width, height};
 ghost use Rattle.spec_check.specs.Certificate.{IsFor};
 ghost use Rattle.spec_check.specs.TextWritten as text_written;
+ghost use Rattle.lp_check.specs.Answer.{IsPlace};
+ghost use Rattle.lp_check.specs.Letters.{count_of, name_at, value_lines};
 
 use crate::certificate::Certificate;
 use crate::steps::part;
@@ -49,36 +50,41 @@ fn add_part(
     Ok(())
 }
 
-fn add_columns(
-    alloc: Global,
-    model: &Model,
-    letter: Letter,
-    values: &Fracs,
-    lines: &mut Texts,
-) -> Result<(), AllocError>
-    requires { length values.now ≡ width model.now }
-    ensures { OnOk result (lines.new ≡ lines.old ++ text_written.column_lines model.now letter values.now) }
+// How many columns, or rows, have a number with this letter.
+fn count_of(model: &Model, letter: Letter) -> u32
+    ensures { result ≡ count_of model.now letter }
 {
-    for j in 0..model.cols() {
-        let name = model.col(j).name.as_slice();
-        add_part(alloc, letter, name, part(values, j), lines)?;
+    match letter {
+        Letter::X | Letter::R => model.cols(),
+        Letter::Y => model.rows(),
     }
-    Ok(())
 }
 
-fn add_rows(
+// The name of the column, or of the row, at `k`.
+fn name_at(model: &Model, letter: Letter, k: u32) -> &[u8]
+    requires { IsPlace model.now letter k }
+    ensures { result.now ≡ name_at model.now letter k }
+{
+    match letter {
+        Letter::X | Letter::R => model.col(k).name.as_slice(),
+        Letter::Y => model.row(k).name.as_slice(),
+    }
+}
+
+// Adds the lines of the numbers with this letter.
+fn add_values(
     alloc: Global,
     model: &Model,
     letter: Letter,
     values: &Fracs,
     lines: &mut Texts,
 ) -> Result<(), AllocError>
-    requires { length values.now ≡ height model.now }
-    ensures { OnOk result (lines.new ≡ lines.old ++ text_written.row_lines model.now letter values.now) }
+    requires { length values.now ≡ count_of model.now letter }
+    ensures { OnOk result (lines.new ≡ lines.old ++ value_lines model.now letter values.now) }
 {
-    for i in 0..model.rows() {
-        let name = model.row(i).name.as_slice();
-        add_part(alloc, letter, name, part(values, i), lines)?;
+    for k in 0..count_of(model, letter) {
+        let name = name_at(model, letter, k);
+        add_part(alloc, letter, name, part(values, k), lines)?;
     }
     Ok(())
 }
@@ -112,13 +118,13 @@ fn add_parts(
 {
     match cert {
         Certificate::Optimal { x, y } => {
-            add_columns(alloc, model, Letter::X, x, lines)?;
-            add_rows(alloc, model, Letter::Y, y, lines)
+            add_values(alloc, model, Letter::X, x, lines)?;
+            add_values(alloc, model, Letter::Y, y, lines)
         }
-        Certificate::Infeasible { y } => add_rows(alloc, model, Letter::Y, y, lines),
+        Certificate::Infeasible { y } => add_values(alloc, model, Letter::Y, y, lines),
         Certificate::Unbounded { x, r } => {
-            add_columns(alloc, model, Letter::X, x, lines)?;
-            add_columns(alloc, model, Letter::R, r, lines)
+            add_values(alloc, model, Letter::X, x, lines)?;
+            add_values(alloc, model, Letter::R, r, lines)
         }
         Certificate::Clash(_) => Ok(()),
     }

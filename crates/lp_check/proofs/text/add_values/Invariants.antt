@@ -1,0 +1,9 @@
+-- The loop over the columns, or over the rows.
+use Rattle.std.proofs.Common.{◌≡◌, ◌++◌}
+use Rattle.spec_check.specs.TextWritten.{lines_below}
+use Rattle.lp_check.specs.Letters.{name_at}
+use Rattle.lp_check.proofs.text.add_values.Given as goal
+
+-- the lines of those so far follow the first
+abbrev pub invariant-loop-k : goal.invariant-loop-k
+invariant-loop-k l = l.lines ≡ l.fn.lines ++ lines_below l.letter (name_at l.model l.letter) l.values l.k

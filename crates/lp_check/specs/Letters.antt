@@ -1,0 +1,21 @@
+-- The columns, or the rows, that have a number with a letter.
+use Rattle.std.specs.Prelude.{ℕ, List}
+use Rattle.spec_exact.specs.Fraction.{ℚ}
+use Rattle.spec_model.specs.Model.{Model, Name, width, height, row, column}
+use Rattle.spec_check.specs.declared.certificate.Letter.{Letter}
+use Rattle.spec_check.specs.declared.certificate.Letter.TheVariants.{X, Y, R}
+use Rattle.spec_check.specs.TextWritten.{lines_below}
+
+abbrev pub count_of : Model → Letter → ℕ
+count_of m X = width m
+count_of m Y = height m
+count_of m R = width m
+
+abbrev pub name_at : Model → Letter → ℕ → Name
+name_at m X = λ j. (column m j).name
+name_at m Y = λ i. (row m i).name
+name_at m R = λ j. (column m j).name
+
+-- the lines of their numbers
+abbrev pub value_lines : Model → Letter → List ℚ → List (List ℕ)
+value_lines m letter values = lines_below letter (name_at m letter) values (count_of m letter)
