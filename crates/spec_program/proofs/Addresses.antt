@@ -1,5 +1,5 @@
 -- A command line that serves has an address, and no other has.
-use Rattle.std.proofs.Common.{◌≡◌, ℕ, Bool, true, false, cond, List, [], ◌∷◌, Option, Some, None, refl, ap, sym, ◌∙◌}
+use Rattle.std.proofs.Common.{◌≡◌, ℕ, Bool, true, false, List, [], ◌∷◌, Option, Some, None, ap}
 use Rattle.std.proofs.Common.{subst}
 use Rattle.std.specs.Prelude.{codes, option_map, option_and_then}
 use Rattle.spec_text.specs.Words.{same}
@@ -7,7 +7,7 @@ use Rattle.spec_mps.specs.declared.style.Style.{Style}
 use Rattle.spec_mps.specs.Shapes.{look_up}
 use Rattle.spec_program.specs.CommandLine.{Word, Given, given_in, form_given, workers_given, places_given, seed_of}
 use Rattle.spec_program.specs.CommandLine.{row_count_of, column_count_of, Row, run_by, run_row, text_row, generate_by}
-use Rattle.spec_program.specs.CommandLine.{generate_with, generate_row, serve_row, asked_by, command_line_of, Address}
+use Rattle.spec_program.specs.CommandLine.{generate_with, generate_row, serve_row, asked_by, command_line_of}
 use Rattle.spec_program.specs.CommandLine.{served_at, address_of}
 use Rattle.spec_program.specs.declared.command_line.CommandLine.{CommandLine}
 use Rattle.spec_program.specs.declared.command_line.CommandLine.TheVariants.{Run, Read, Generate, Serve}

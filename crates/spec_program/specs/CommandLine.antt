@@ -67,10 +67,14 @@ given_in plain names words =
 abbrev pub form_of : Word → Option Style
 form_of word = look_up word ((codes "free", Free) ∷ (codes "fixed", Fixed) ∷ [])
 
+-- what is given by a word; the usual unless there is one
+abbrev pub given_or : {A : Type 0} → A → (Word → Option A) → Option Word → Option A
+given_or usual of None = Some usual
+given_or usual of (Some word) = of word
+
 -- the form that a text is read in, if its word is one; the free one unless another is given
 abbrev pub form_given : Option Word → Option Style
-form_given None = Some Free
-form_given (Some word) = form_of word
+form_given = given_or Free form_of
 
 -- a script is run by so many workers, unless another number is given
 abbrev pub usual_workers : ℕ
@@ -81,8 +85,7 @@ unfoldable pub workers_of : Word → Option ℕ
 workers_of word = number_to 16 2 word
 
 abbrev pub workers_given : Option Word → Option ℕ
-workers_given None = Some usual_workers
-workers_given (Some word) = workers_of word
+workers_given = given_or usual_workers workers_of
 
 -- so many places are shared by the sessions of a script, unless another number is given
 abbrev pub usual_places : ℕ
@@ -93,8 +96,7 @@ unfoldable pub places_of : Word → Option ℕ
 places_of word = number_to 1024 7 word
 
 abbrev pub places_given : Option Word → Option ℕ
-places_given None = Some usual_places
-places_given (Some word) = places_of word
+places_given = given_or usual_places places_of
 
 -- so many links are served by each worker, one after the other, unless another number is given
 abbrev pub usual_links : ℕ
@@ -105,8 +107,7 @@ unfoldable pub links_of : Word → Option ℕ
 links_of word = number_to 1000 4 word
 
 abbrev pub links_given : Option Word → Option ℕ
-links_given None = Some usual_links
-links_given (Some word) = links_of word
+links_given = given_or usual_links links_of
 
 -- a word that may name an address: it is not empty, and does not begin as an option does
 abbrev pub is_address : Word → Bool
