@@ -31,7 +31,8 @@ pub fn print_route(
     pivots: Option<u64>,
     to: &mut Bytes,
 ) -> Result<(), AllocError>
-    ensures { OnOk result (to.new ≡ to.old ++ (route_text route ++ codes " PIVOTS " ++ output.pivots_text pivots ++ 10 ∷ [])) }
+    ensures { OnOk result (to.new ≡
+        to.old ++ (route_text route ++ codes " PIVOTS " ++ output.pivots_text pivots ++ 10 ∷ [])) }
 {
     push_route(route, to)?;
     to.extend(b" PIVOTS ")?;

@@ -132,6 +132,6 @@ module _ (f : Form) (costs y : List ℚ) (k : ℕ) (all : length y ≡ f.rows) (
         pub logical_priced : (w : ℚ) → less_product (Some largest) x v d ≡ Ok w → IsNarrow w →
             price_run (Some largest) f costs y k ≡ Ok w
         logical_priced w e m =
-            steps_to (price_at f y k) (cost_at costs k) w (r + 1) f.rows (steps_more r (price_at f y k) (cost_at costs k)
-            d w begun (step_own (Ok w) e)) (omega (arith, here))
+            steps_to (price_at f y k) (cost_at costs k) w (r + 1) f.rows
+            (steps_more r (price_at f y k) (cost_at costs k) d w begun (step_own (Ok w) e)) (omega (arith, here))
             (λ i p q. skipped i w q (other i (λ z. let u : ⊥ = omega (arith, p, z) in u)) m)

@@ -4,7 +4,8 @@ ghost use Rattle.spec_cold.specs.Cold.{basis_status as basis_status_of};
 ghost use Rattle.spec_simplex.specs.Tableau.{is_basic as is_basic_of};
 ghost use Rattle.spec_simplex.specs.Tableau.{all_columns, status_at, form_columns as form_columns_of};
 ghost use Rattle.spec_factor.specs.Factors.{factor_run};
-ghost use Rattle.spec_factor.specs.Revised.{standing as standing_of, factor_basis, factor_stop, refactor_run, refreshed_run, replacements};
+ghost use Rattle.spec_factor.specs.Revised.{standing as standing_of, factor_basis, factor_stop, refactor_run};
+ghost use Rattle.spec_factor.specs.Revised.{refreshed_run, replacements};
 ghost use Rattle.lp_frac.specs.Narrow.{largest};
 ghost use Rattle.lp_revised.specs.Answer.{AnswersRevised, LeavesRevised};
 

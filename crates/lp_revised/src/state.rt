@@ -1,7 +1,8 @@
 // States of the run over factors, and their readers.
 ghost use Rattle.std.specs.Prelude.{◌≡◌, ◌<◌, ◌≤◌, length};
 ghost use Rattle.spec_exact.specs.Fraction.{◌*ℚ◌};
-ghost use Rattle.spec_simplex.specs.Tableau.{all_columns, form_columns as form_columns_of, basic_at, value_at, status_at, lower_at, upper_at};
+ghost use Rattle.spec_simplex.specs.Tableau.{all_columns, form_columns as form_columns_of, basic_at, value_at};
+ghost use Rattle.spec_simplex.specs.Tableau.{status_at, lower_at, upper_at};
 ghost use Rattle.spec_factor.specs.Revised.{sign_of};
 
 use lp_factor::Factors;
