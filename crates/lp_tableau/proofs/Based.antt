@@ -24,6 +24,7 @@ use Rattle.lp_frac.specs.declared.stop.Stop.{Stop}
 use Rattle.lp_form.specs.declared.stop.Singular.{Singular}
 use Rattle.lp_frac.specs.declared.stop.Stop.TheVariants as stop
 use Rattle.lp_tableau.specs.Grid.{IsGrid}
+use Rattle.lp_tableau.specs.Parts.{tableau_of}
 use Rattle.lp_tableau.specs.Based.{AreInside, StopsAt, stand_in}
 
 -- ---- the parts
@@ -83,26 +84,12 @@ module _ (f : Form) (basis : List Status) (e : Elimination) (kept : IsForm f)
       v ∙ ap₂ (λ n g. made n g) (ap length s ∙ statuses_length) (ap (λ status. stand_in status lower upper) s
       ∙ ap₂ (λ lower upper. stand_in (basis_status f basis) lower upper) l u)
 
-  abbrev table : ℕ → ℕ → List ℕ → List ℚ → List ℚ → List Status → List (Option ℚ) → List (Option ℚ) → Tableau
-  table rows cols basic value reduced status lower upper =
-      record {
-        rows = rows;
-        cols = cols;
-        entries = e.rows;
-        basic = basic;
-        value = value;
-        reduced = reduced;
-        status = status;
-        lower = lower;
-        upper = upper;
-      }
-
   pub based_is : (rows cols : ℕ) (basic : List ℕ) (value reduced : List ℚ)
       (status : List Status) (lower upper : List (Option ℚ))
       → rows ≡ f.rows → cols ≡ f.cols → basic ≡ made (length e.basic) (λ i. or_first (get_or e.basic i None)) →
       value ≡ made (length status) (stand_in status lower upper) → reduced ≡ replicate (width_of f) 0ℚ
       → status ≡ basis_status f basis → lower ≡ basis_lower f → upper ≡ basis_upper f →
-      table rows cols basic value reduced status lower upper ≡ with_basis f basis e
+      tableau_of rows cols e.rows basic value reduced status lower upper ≡ with_basis f basis e
   based_is rows cols basic value reduced status lower upper r c b v d s l u =
       let w = values_are status lower upper value s l u v in
       let a = b ∙ ap (λ n. made n (λ i. or_first (get_or e.basic i None))) places in

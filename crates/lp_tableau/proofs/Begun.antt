@@ -22,6 +22,7 @@ use Rattle.spec_simplex.specs.Start.{start_row, start_basic, start_entry, start_
 use Rattle.spec_simplex.specs.Start.{is_wanting, artificial_upper, one_at, logical_sign, structural_entry}
 use Rattle.spec_exact.proofs.Stops.{length-made, All-made, get_or-made}
 use Rattle.lp_tableau.specs.Grid.{rows_of, flat, IsBlock}
+use Rattle.lp_tableau.specs.Parts.{tableau_of}
 use Rattle.lp_tableau.specs.Begun.{is_below, start_front}
 use Rattle.lp_tableau.specs.Twins.{signed, twin, with_twins, twinned, IsTwinned}
 use Rattle.lp_tableau.specs.Answer.{Stops}
@@ -245,17 +246,7 @@ pub begun_is : (f : Form) (starts : List (RowStart ℚ)) (rows cols : ℕ) (entr
     → value ≡ made (width_of f) (start_value f starts) →
     reduced ≡ replicate (width_of f) 0ℚ → status ≡ made (width_of f) (start_status f starts)
     → lower ≡ f.lower ++ replicate f.rows (Some 0ℚ) → upper ≡ f.upper ++ map artificial_upper starts
-    → record {
-      rows = rows;
-      cols = cols;
-      entries = entries;
-      basic = basic;
-      value = value;
-      reduced = reduced;
-      status = status;
-      lower = lower;
-      upper = upper;
-    } ≡ begun f starts
+    → tableau_of rows cols entries basic value reduced status lower upper ≡ begun f starts
 begun_is f starts rows cols entries basic value reduced status lower upper a b c d e g h i j = cc
 
 -- ---- the start

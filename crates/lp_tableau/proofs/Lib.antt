@@ -1,4 +1,5 @@
 pub mod Begun
+pub mod Budget
 pub mod Done
 pub mod Flips
 pub mod Moved

@@ -74,29 +74,32 @@ pub record IsPlace (n m i k : ℕ) (xs : List ℚ) : Type 0 where
   pub place : i * n + k ≤ 263168
   pub inside : i * n + k < length xs
 
+pub place_in : (n m i k : ℕ) (xs : List ℚ) → IsBlock m n xs → i < m → k < n → IsPlace n m i k xs
+place_in n m i k xs b h l =
+    let g : i * n ≤ 256 * n = mul-le-mul_right n (omega (arith, h, b.few_rows)) in
+    record {
+      row = omega (arith, g, b.few_columns);
+      place = omega (arith, g, b.few_columns, l);
+      inside = omega (arith, inside n m i k h l, b.size);
+    }
+
 -- in a block that is seen as these rows
+pub row_in : (n m i : ℕ) (xs : List ℚ) (rows : List (List ℚ)) → rows_of n m xs ≡ rows → i < length rows → i < m
+row_in n m i xs rows e h = omega (arith, h, length-rows_of n m xs, ap length e)
+
 module _ (n m i k : ℕ) (xs : List ℚ) (rows : List (List ℚ)) (e : rows_of n m xs ≡ rows)
     (b : IsBlock m n xs) (h : i < length rows) (l : k < length (get_or rows i [])) where
-  row_in : i < m
-  row_in = omega (arith, h, length-rows_of n m xs, ap length e)
+  row : i < m
+  row = row_in n m i xs rows e h
 
-  column_in : k < n
-  column_in = omega (arith, l, row_width n m i xs row_in b.size, ap (λ rows. length (get_or rows i [])) e)
-
-  pub place_in : IsPlace n m i k xs
-  place_in =
-      let g : i * n ≤ 256 * n = mul-le-mul_right n (omega (arith, row_in, b.few_rows)) in
-      record {
-        row = omega (arith, g, b.few_columns);
-        place = omega (arith, g, b.few_columns, column_in);
-        inside = omega (arith, inside n m i k row_in column_in, b.size);
-      }
+  pub column_in : k < n
+  column_in = omega (arith, l, row_width n m i xs row b.size, ap (λ rows. length (get_or rows i [])) e)
 
   pub at_is : get_or xs (i * n + k) 0ℚ ≡ at_place rows i k
-  at_is = sym (at-rows_of n m i k xs row_in column_in) ∙ ap (λ rows. at_place rows i k) e
+  at_is = sym (at-rows_of n m i k xs row column_in) ∙ ap (λ rows. at_place rows i k) e
 
   pub set_is : (v : ℚ) → rows_of n m (set xs (i * n + k) v) ≡ set rows i (set (get_or rows i []) k v)
-  set_is v = set-rows_of n m i k xs v row_in column_in ∙ ap (λ rows. set rows i (set (get_or rows i []) k v)) e
+  set_is v = set-rows_of n m i k xs v row column_in ∙ ap (λ rows. set rows i (set (get_or rows i []) k v)) e
 
 -- ---- fractions within the limit
 zero_within : IsWithin largest 0ℚ

@@ -6,6 +6,10 @@ use Rattle.spec_exact.specs.Laws.{IsWithin}
 use Rattle.spec_simplex.specs.Tableau.{at_place}
 use Rattle.lp_frac.specs.Narrow.{largest}
 
+-- what stands in each row, column by column
+abbrev pub Rows : Type 0
+Rows = List (List ℚ)
+
 -- the first m rows of width n
 abbrev pub rows_of : ℕ → ℕ → List ℚ → List (List ℚ)
 rows_of n zero items = []

@@ -1,5 +1,6 @@
 pub mod Answer
 pub mod Grid
+pub mod Parts
 pub mod Twins
 pub mod Begun
 pub mod Based

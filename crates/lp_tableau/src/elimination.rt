@@ -2,7 +2,7 @@
 ghost use Rattle.std.specs.Prelude.{◌≡◌, ◌≢◌, ◌<◌, ◌≤◌, ◌+◌, [], Some, length, get_or, take};
 ghost use Rattle.spec_exact.specs.Fraction.{0ℚ};
 ghost use Rattle.spec_simplex.specs.Tableau.{at_place};
-ghost use Rattle.spec_simplex.specs.Step.{scaled_run, cleared_run, turned_run};
+ghost use Rattle.spec_simplex.specs.Step.{cleared_run, turned_run};
 ghost use Rattle.lp_frac.specs.Narrow.{largest};
 ghost use Rattle.lp_tableau.specs.Answer.{GivesRun};
 ghost use Rattle.lp_tableau.specs.Grid.{IsGrid, IsListed};
@@ -112,29 +112,6 @@ fn clear(
     Ok(())
 }
 
-// Row `p` over its entry in column `j`.
-fn scale_twins(
-    grid: &mut Grid,
-    first: u32,
-    others: u32,
-    turned: &[bool],
-    p: u32,
-    j: u32,
-) -> Result<(), Past>
-    requires shape { IsGrid others (first + others) grid.old }
-    requires few { first + others ≤ 1024 }
-    requires twins { length turned.now ≡ others }
-    requires place { p < others }
-    requires column { j < first + others + others }
-    requires entry { at_place (twinned first turned.now grid.old) p j ≢ 0ℚ }
-    ensures rows { GivesRun (scaled_run (Some largest) (first + others + others)
-        (twinned first turned.now grid.old) p j) (twinned first turned.now grid.new) result }
-    ensures shape { IsGrid others (first + others) grid.new }
-{
-    let by = item(grid, first, others, turned, p as usize, j as usize);
-    scale(grid, others, first + others, p, by)
-}
-
 // Row `i` less row `p`, as often as makes its entry in column `j` 0.
 fn clear_twins(
     grid: &mut Grid,
@@ -182,7 +159,8 @@ pub(crate) fn turn(
         (twinned first turned.now grid.old) p j) (twinned first turned.now grid.new) result }
     ensures shape { IsGrid others (first + others) grid.new }
 {
-    scale_twins(grid, first, others, turned, p, j)?;
+    let by = item(grid, first, others, turned, p as usize, j as usize);
+    scale(grid, others, first + others, p, by)?;
     let mut spots = [0; 1024];
     let count = list(&mut spots, grid, others, first + others, p);
     for i in 0..others {

@@ -1,5 +1,5 @@
 // Rows of fractions of one width, kept one after the other in one block.
-ghost use Rattle.std.specs.Prelude.{◌≡◌, ◌<◌, [], length, get_or, slice_set};
+ghost use Rattle.std.specs.Prelude.{◌≡◌, ◌<◌, ◌+◌, ◌*◌, [], length, get_or, slice_set};
 ghost use Rattle.spec_simplex.specs.Tableau.{at_place};
 ghost use Rattle.lp_tableau.specs.Grid.{IsBlock, IsNarrowGrid, rows_of};
 
@@ -14,15 +14,24 @@ pub(crate) struct Grid {
 }
 
 impl Model for Grid {
-    ghost use Rattle.std.specs.Prelude.{List};
-    ghost use Rattle.spec_exact.specs.Fraction.{ℚ};
-    ghost use Rattle.lp_tableau.specs.Grid.{IsHeld, rows_of};
+    ghost use Rattle.lp_tableau.specs.Grid.{Rows, IsHeld, rows_of};
 
-    ghost Value = { List (List ℚ) };
+    ghost Value = { Rows };
 
     ghost view = { λ g. rows_of g.width g.height g.block.items };
 
     ghost invariant = { λ g. IsHeld g.height g.width g.block.items };
+}
+
+// Where row `i` of a block of rows has column `k`.
+fn spot(block: &[Frac], height: usize, width: usize, i: usize, k: usize) -> usize
+    requires block { IsBlock height width block.now }
+    requires row { i < height }
+    requires column { k < width }
+    ensures place { result ≡ i * width + k }
+    ensures inside { result < length block.now }
+{
+    i * width + k
 }
 
 impl Grid {
@@ -44,7 +53,7 @@ impl Grid {
         requires column { k < length (get_or self.now i []) }
         ensures { result ≡ at_place self.now i k }
     {
-        self.block[i * self.width + k]
+        self.block[spot(&self.block, self.height, self.width, i, k)]
     }
 
     pub(crate) fn set(&mut self, i: usize, k: usize, value: Frac)
@@ -53,7 +62,8 @@ impl Grid {
         ensures { self.new ≡ slice_set self.old i (slice_set (get_or self.old i []) k value) }
     {
         within(value);
-        self.block[i * self.width + k] = value;
+        let place = spot(&self.block, self.height, self.width, i, k);
+        self.block[place] = value;
     }
 
     // That all fractions are within the limit. It does nothing.

@@ -3,7 +3,7 @@
 //! | Item | What it is | Where |
 //! |---|---|---|
 //! | `Tableau`, `start_cold` | a tableau; the one that a form begins with | src/tableau, src/start |
-//! | `start` | the parts of that tableau that need no rows, by columns and by rows of the form | src/start |
+//! | `start` | the parts of that tableau that need no rows, by columns and by rows of the form | src/start, src/row_starts |
 //! | `start_from` | the tableau of a basis | src/basis |
 //! | `Tableau::pivot`, `flip`, `phase_two` | the changes, each exact or refused as `spec_simplex` has it | src/pivot, src/moves, src/price |
 //! | `Tableau::wants_phase_one`, `is_stuck` | what the phases ask: a basic artificial, and one that is not 0 | src/phases |
@@ -25,6 +25,7 @@ mod moves;
 mod phases;
 mod pivot;
 mod price;
+mod row_starts;
 mod solve;
 pub mod start;
 mod steps;

@@ -87,7 +87,7 @@ impl Tableau {
     }
 
     // Column `col` stands at the bound `to`.
-    fn put_at(&mut self, col: u32, to: Status)
+    pub(crate) fn put_at(&mut self, col: u32, to: Status)
         requires { col < all_columns self.old }
         ensures { self.new ≡ flipped self.old col to self.old.value }
     {

@@ -7,11 +7,10 @@ ghost use Rattle.lp_frac.specs.Narrow.{largest};
 ghost use Rattle.lp_tableau.specs.Answer.{GivesRun};
 ghost use Rattle.lp_tableau.specs.Grid.{IsGrid};
 
-use crate::steps::stand;
 use crate::tableau::Tableau;
 use crate::twins::Twins;
 use lp_form::Status;
-use lp_frac::{Frac, Past, add, is_zero, less_product, within, zero};
+use lp_frac::{Frac, Past, add, is_zero, less_product, within};
 
 // The reduced costs less row `p`, as often as makes that of column `j` 0.
 fn reprice(reduced: &mut [Frac], grid: &Twins, height: u32, p: u32, j: u32) -> Result<(), Past>
@@ -78,16 +77,13 @@ impl Tableau {
         requires column { col < all_columns self.old }
         ensures { self.new ≡ exchanged self.old place col to }
     {
-        let leaving = self.basic(place) as usize;
-        let artificials = (self.cols + self.rows) as usize;
-        let value = stand(to, self.lower[leaving], self.upper[leaving]);
+        let leaving = self.basic(place);
+        let artificials = self.cols + self.rows;
+        self.put_at(leaving, to);
         self.basic[place as usize] = col;
-        self.value[leaving] = value;
-        self.status[leaving] = to;
         self.status[col as usize] = Status::Basic;
         if leaving >= artificials {
-            self.lower[leaving] = Some(zero());
-            self.upper[leaving] = Some(zero());
+            self.fix(leaving);
         }
     }
 

@@ -61,7 +61,7 @@ impl Tableau {
     }
 
     // Column `k` has the bounds 0 and 0.
-    fn fix(&mut self, k: u32)
+    pub(crate) fn fix(&mut self, k: u32)
         requires { k < all_columns self.old }
         ensures { self.new ≡ record self.old {
           lower = slice_set self.old.lower k (Some 0ℚ);

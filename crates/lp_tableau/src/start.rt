@@ -1,9 +1,7 @@
 // The tableau that a form begins with.
-ghost use Rattle.std.specs.Prelude.{◌≡◌, ◌<◌, ◌≤◌, ◌+◌, ◌++◌, [], ◌∷◌, length};
-ghost use Rattle.std.specs.Prelude.{map, replicate, IfOk, IfErr, OnOk, Ok, Some};
+ghost use Rattle.std.specs.Prelude.{◌≡◌, ◌<◌, ◌≤◌, ◌+◌, ◌++◌, length, map, replicate, IfOk, IfErr, OnOk, Ok, Some};
 ghost use Rattle.spec_exact.specs.Fraction.{0ℚ};
 ghost use Rattle.spec_exact.specs.Run.{list_run, made};
-ghost use Rattle.spec_simplex.specs.Form.{form_lower, form_upper};
 ghost use Rattle.spec_simplex.specs.Start as starting;
 ghost use Rattle.lp_frac.specs.Narrow.{largest};
 ghost use Rattle.lp_tableau.specs.Answer.{Stops};
@@ -13,110 +11,40 @@ ghost use Rattle.lp_tableau.specs.Begun.{HoldsColumns, is_below, start_front};
 use crate::coefficients::coefficients;
 use crate::ends::ColdStop;
 use crate::grid::Grid;
-use crate::steps::{or_zero, stand};
+pub use crate::row_starts::RowStart;
+use crate::row_starts::{first_status, first_value, row_starts};
+use crate::steps::or_zero;
 use crate::tableau::Tableau;
 use crate::twins::Twins;
 use lp_form::{Form, Status};
-use lp_frac::{Frac, Past, cmp, neg, one, plus_product, sub, zero};
+use lp_frac::{Frac, neg, one, zero};
 use std::alloc::{AllocError, Global};
-use std::cmp::Ordering;
 
-/// How a row begins.
-pub type RowStart = spec_simplex::RowStart<Frac>;
-
-fn first_status(form: &Form, j: u32) -> Status
-    requires { j < form.now.cols }
-    ensures { result ≡ starting.first_status (form_lower form.now j) (form_upper form.now j) }
-{
-    match (form.lower(j), form.upper(j)) {
-        (Some(_), _) => Status::AtLower,
-        (None, Some(_)) => Status::AtUpper,
-        (None, None) => Status::AtZero,
-    }
+// One of three, by whether column `k` is structural, logical or artificial; the latter two by their rows.
+macro_rules! by_column {
+    ($form:expr, $k:expr, $structural:expr, $row:ident => $logical:expr, $artificial:expr) => {{
+        let (cols, both) = ($form.cols(), $form.cols() + $form.rows());
+        if $k < cols {
+            $structural
+        } else if $k < both {
+            let $row = $k - cols;
+            $logical
+        } else {
+            let $row = $k - both;
+            $artificial
+        }
+    }};
 }
 
-// Where structural column `j` begins.
-fn first_value(form: &Form, j: u32) -> Frac
-    requires { j < form.now.cols }
-    ensures { result ≡ starting.first_value form.now j }
-{
-    stand(first_status(form, j), form.lower(j), form.upper(j))
-}
-
-// The sum of row `i` there.
-fn row_sum(form: &Form, coefficients: &Grid, i: u32) -> Result<Frac, Past>
-    requires held { HoldsColumns form.now form.now.cols coefficients.now }
-    requires row { i < form.now.rows }
-    ensures { result ≡ starting.row_sum (Some largest) form.now i }
-{
-    let mut sum = zero();
-    for j in 0..form.cols() {
-        let coefficient = coefficients.at(i as usize, j as usize);
-        sum = plus_product(coefficient, first_value(form, j), sum)?;
-    }
-    Ok(sum)
-}
-
-// How much `v` is below the bound, if it is.
-fn below(bound: Option<Frac>, v: Frac) -> Result<Option<Frac>, Past>
-    ensures { result ≡ starting.below_run (Some largest) bound v }
-{
-    match bound {
-        None => Ok(None),
-        Some(l) => match cmp(v, l)? {
-            Ordering::Less => Ok(Some(sub(l, v)?)),
-            Ordering::Equal | Ordering::Greater => Ok(None),
-        },
-    }
-}
-
-// How much `v` is above the bound, if it is.
-fn above(bound: Option<Frac>, v: Frac) -> Result<Option<Frac>, Past>
-    ensures { result ≡ starting.above_run (Some largest) bound v }
-{
-    match bound {
-        None => Ok(None),
-        Some(u) => match cmp(v, u)? {
-            Ordering::Less | Ordering::Equal => Ok(None),
-            Ordering::Greater => Ok(Some(sub(v, u)?)),
-        },
-    }
-}
-
-fn row_start(form: &Form, coefficients: &Grid, i: u32) -> Result<RowStart, Past>
-    requires held { HoldsColumns form.now form.now.cols coefficients.now }
-    requires row { i < form.now.rows }
-    ensures { result ≡ starting.row_start (Some largest) form.now i }
-{
-    let v = row_sum(form, coefficients, i)?;
-    let logical = form.logical(i);
-    if let Some(gap) = below(form.lower(logical), v)? {
-        return Ok(RowStart::Below(gap));
-    }
-    match above(form.upper(logical), v)? {
-        Some(gap) => Ok(RowStart::Above(gap)),
-        None => Ok(RowStart::Within(v)),
-    }
-}
-
-fn push_start(starts: &mut Vec<RowStart>, start: RowStart) -> Result<(), AllocError>
-    ensures { OnOk result (starts.new.items ≡ starts.old.items ++ start ∷ []) }
-{
-    starts.push(start)?;
-    Ok(())
-}
-
-// How all rows begin, in order.
-fn row_starts(alloc: Global, form: &Form, coefficients: &Grid) -> Result<Vec<RowStart>, ColdStop>
-    requires { HoldsColumns form.now form.now.cols coefficients.now }
-    ensures ok { IfOk result (λ v. list_run form.now.rows (starting.row_start (Some largest) form.now) ≡ Ok v.items) }
-    ensures err { IfErr result (Stops (list_run form.now.rows (starting.row_start (Some largest) form.now))) }
-{
-    let mut starts = Vec::new(alloc);
-    for i in 0..form.rows() {
-        push_start(&mut starts, row_start(form, coefficients, i)?)?;
-    }
-    Ok(starts)
+// The list of what stands for each `i` of a range.
+macro_rules! listed {
+    ($alloc:expr, $i:ident in $range:expr => $item:expr) => {{
+        let mut list = Vec::new($alloc);
+        for $i in $range {
+            list.push($item)?;
+        }
+        Ok(list)
+    }};
 }
 
 fn logical_value(start: RowStart, lower: Option<Frac>, upper: Option<Frac>) -> Frac
@@ -208,14 +136,13 @@ fn entry(form: &Form, coefficients: &Grid, starts: &[RowStart], i: u32, k: u32) 
     ensures { result ≡ starting.start_entry form.now (starting.start_at starts.now i) i k }
 {
     let start = starts[i as usize];
-    let (cols, both) = (form.cols(), form.cols() + form.rows());
-    if k < cols {
-        structural_entry(start, coefficients.at(i as usize, k as usize))
-    } else if k < both {
-        one_at(i, k - cols, logical_sign(start))
-    } else {
-        one_at(i, k - both, one())
-    }
+    by_column!(
+        form,
+        k,
+        structural_entry(start, coefficients.at(i as usize, k as usize)),
+        row => one_at(i, row, logical_sign(start)),
+        one_at(i, row, one())
+    )
 }
 
 fn basic(form: &Form, starts: &[RowStart], i: u32) -> u32
@@ -235,14 +162,13 @@ fn value(form: &Form, starts: &[RowStart], k: u32) -> Frac
     requires starts { length starts.now ≡ form.now.rows }
     ensures { result ≡ starting.start_value form.now starts.now k }
 {
-    let (cols, both) = (form.cols(), form.cols() + form.rows());
-    if k < cols {
-        first_value(form, k)
-    } else if k < both {
-        logical_value(starts[(k - cols) as usize], form.lower(k), form.upper(k))
-    } else {
-        artificial_value(starts[(k - both) as usize])
-    }
+    by_column!(
+        form,
+        k,
+        first_value(form, k),
+        row => logical_value(starts[row as usize], form.lower(k), form.upper(k)),
+        artificial_value(starts[row as usize])
+    )
 }
 
 fn status(form: &Form, starts: &[RowStart], k: u32) -> Status
@@ -250,14 +176,13 @@ fn status(form: &Form, starts: &[RowStart], k: u32) -> Status
     requires starts { length starts.now ≡ form.now.rows }
     ensures { result ≡ starting.start_status form.now starts.now k }
 {
-    let (cols, both) = (form.cols(), form.cols() + form.rows());
-    if k < cols {
-        first_status(form, k)
-    } else if k < both {
-        logical_status(starts[(k - cols) as usize])
-    } else {
-        artificial_status(starts[(k - both) as usize])
-    }
+    by_column!(
+        form,
+        k,
+        first_status(form, k),
+        row => logical_status(starts[row as usize]),
+        artificial_status(starts[row as usize])
+    )
 }
 
 // How many columns a row is kept over: all but the artificial ones.
@@ -323,11 +248,7 @@ fn is_negative(start: RowStart) -> bool
 fn turns(alloc: Global, starts: &[RowStart]) -> Result<Vec<bool>, AllocError>
     ensures { IfOk result (λ v. v.items ≡ map is_below starts.now) }
 {
-    let mut turns = Vec::new(alloc);
-    for start in starts {
-        turns.push(is_negative(*start))?;
-    }
-    Ok(turns)
+    listed!(alloc, start in starts => is_negative(*start))
 }
 
 // The rows of the tableau.
@@ -352,11 +273,7 @@ pub fn basics(alloc: Global, form: &Form, starts: &[RowStart]) -> Result<Vec<u32
     requires { length starts.now ≡ form.now.rows }
     ensures { IfOk result (λ v. v.items ≡ made form.now.rows (starting.start_basic form.now starts.now)) }
 {
-    let mut basics = Vec::new(alloc);
-    for i in 0..form.rows() {
-        basics.push(basic(form, starts, i))?;
-    }
-    Ok(basics)
+    listed!(alloc, i in 0..form.rows() => basic(form, starts, i))
 }
 
 /// The value of each column.
@@ -365,11 +282,7 @@ pub fn values(alloc: Global, form: &Form, starts: &[RowStart]) -> Result<Vec<Fra
     ensures { IfOk result (λ v.
         v.items ≡ made (form.now.cols + form.now.rows + form.now.rows) (starting.start_value form.now starts.now)) }
 {
-    let mut values = Vec::new(alloc);
-    for k in 0..width(form) {
-        values.push(value(form, starts, k))?;
-    }
-    Ok(values)
+    listed!(alloc, k in 0..width(form) => value(form, starts, k))
 }
 
 /// The status of each column.
@@ -378,11 +291,7 @@ pub fn statuses(alloc: Global, form: &Form, starts: &[RowStart]) -> Result<Vec<S
     ensures { IfOk result (λ v.
         v.items ≡ made (form.now.cols + form.now.rows + form.now.rows) (starting.start_status form.now starts.now)) }
 {
-    let mut statuses = Vec::new(alloc);
-    for k in 0..width(form) {
-        statuses.push(status(form, starts, k))?;
-    }
-    Ok(statuses)
+    listed!(alloc, k in 0..width(form) => status(form, starts, k))
 }
 
 /// The lower bound of each column.

@@ -27,32 +27,15 @@ pub struct Tableau {
 
 impl Model for Tableau {
     ghost use Rattle.spec_simplex.specs.Tableau as tableaus;
+    ghost use Rattle.lp_tableau.specs.Parts.{tableau_of};
 
     ghost Value = { tableaus.Tableau };
 
-    ghost view = { λ t. record {
-      rows = t.rows;
-      cols = t.cols;
-      entries = t.grid;
-      basic = t.basic.items;
-      value = t.value.items;
-      reduced = t.reduced.items;
-      status = t.status.items;
-      lower = t.lower.items;
-      upper = t.upper.items;
-    } };
+    ghost view = { λ t. tableau_of t.rows t.cols t.grid t.basic.items t.value.items t.reduced.items t.status.items
+        t.lower.items t.upper.items };
 
-    ghost invariant = { λ t. tableaus.IsTableauShape (record {
-      rows = t.rows;
-      cols = t.cols;
-      entries = t.grid;
-      basic = t.basic.items;
-      value = t.value.items;
-      reduced = t.reduced.items;
-      status = t.status.items;
-      lower = t.lower.items;
-      upper = t.upper.items;
-    }) };
+    ghost invariant = { λ t. tableaus.IsTableauShape (tableau_of t.rows t.cols t.grid t.basic.items t.value.items
+        t.reduced.items t.status.items t.lower.items t.upper.items) };
 }
 
 impl Tableau {

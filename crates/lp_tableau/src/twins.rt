@@ -25,11 +25,10 @@ pub(crate) struct Twins {
 }
 
 impl Model for Twins {
-    ghost use Rattle.std.specs.Prelude.{List};
-    ghost use Rattle.spec_exact.specs.Fraction.{ℚ};
+    ghost use Rattle.lp_tableau.specs.Grid.{Rows};
     ghost use Rattle.lp_tableau.specs.Twins.{IsTwinned, twinned};
 
-    ghost Value = { List (List ℚ) };
+    ghost Value = { Rows };
 
     ghost view = { λ t. twinned t.first t.turned.items t.grid };
 

@@ -5,6 +5,7 @@ use Rattle.spec_simplex.specs.Tableau.{IsTableauShape}
 use Rattle.spec_exact.specs.Run.{made}
 use Rattle.spec_simplex.specs.Eliminate.{with_basis}
 use Rattle.lp_tableau.specs.Based.{stand_in}
+use Rattle.lp_tableau.specs.Parts.{tableau_of}
 use Rattle.lp_tableau.proofs.Based.{lowers_beside, uppers_beside, based_is, based_shape}
 use Rattle.lp_tableau.proofs.basis.begun.Goals as goal
 
@@ -22,17 +23,10 @@ values-requires-clause-upper c =
 
 pub returns : goal.returns
 returns c =
-    subst (λ rows. record {
-      rows = c.rows-height.result;
-      cols = c.cols-cols.result;
-      entries = rows;
-      basic = c.in_ok-columns.field-0.items;
-      value = c.in_ok-value.value.items;
-      reduced = c.in_ok-zeros.field-0.items;
-      status = c.in_ok-status.status.items;
-      lower = c.in_ok-lower.lower.items;
-      upper = c.in_ok-upper.upper.items;
-    } ≡ with_basis c.args.form.now c.args.basis.now (record { rows = c.args.grid; basic = c.args.basic.now }))
+    subst (λ rows. tableau_of c.rows-height.result c.cols-cols.result rows c.in_ok-columns.field-0.items
+    c.in_ok-value.value.items c.in_ok-zeros.field-0.items c.in_ok-status.status.items c.in_ok-lower.lower.items
+    c.in_ok-upper.upper.items
+    ≡ with_basis c.args.form.now c.args.basis.now (record { rows = c.args.grid; basic = c.args.basic.now }))
     (sym c.grid.view_is)
     (based_is c.args.form.now c.args.basis.now
     (record { rows = c.args.grid; basic = c.args.basic.now }) c.rows-height.ensures.kept c.requires.statuses

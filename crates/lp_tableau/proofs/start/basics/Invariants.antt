@@ -6,4 +6,4 @@ use Rattle.lp_tableau.proofs.start.basics.Given as goal
 
 -- the positions so far are there
 abbrev pub invariant-loop-i : goal.invariant-loop-i
-invariant-loop-i l = l.basics.items ≡ made l.i (start_basic l.form l.starts)
+invariant-loop-i l = l.list.items ≡ made l.i (start_basic l.form l.starts)

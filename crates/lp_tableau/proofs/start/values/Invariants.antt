@@ -6,4 +6,4 @@ use Rattle.lp_tableau.proofs.start.values.Given as goal
 
 -- the columns so far are there
 abbrev pub invariant-loop-k : goal.invariant-loop-k
-invariant-loop-k l = l.values.items ≡ made l.k (start_value l.form l.starts)
+invariant-loop-k l = l.list.items ≡ made l.k (start_value l.form l.starts)

@@ -1,19 +1,15 @@
 -- The place in the block.
-use Rattle.std.proofs.Common.{arith}
-use Rattle.lp_tableau.proofs.Rows.{place_in, set_is}
+use Rattle.lp_tableau.proofs.Rows.{row_in, column_in, set_is}
 use Rattle.lp_tableau.proofs.grid.Grid.set.Goals as goal
 
-pub overflow_mul-i : goal.overflow_mul-i
-overflow_mul-i c =
-    omega (arith, (place_in _ _ _ _ _ _ c.self.view_is c.self.invariant.block c.requires.row c.requires.column).row)
+pub spot-place-requires-clause-row : goal.spot-place-requires-clause-row
+spot-place-requires-clause-row c = row_in _ _ _ _ _ c.self.view_is c.requires.row
 
-pub overflow_add-i : goal.overflow_add-i
-overflow_add-i c =
-    omega (arith, (place_in _ _ _ _ _ _ c.self.view_is c.self.invariant.block c.requires.row c.requires.column).place)
-
-pub index_mut-requires : goal.index_mut-requires
-index_mut-requires c =
-    omega (arith, (place_in _ _ _ _ _ _ c.self.view_is c.self.invariant.block c.requires.row c.requires.column).inside)
+pub spot-place-requires-clause-column : goal.spot-place-requires-clause-column
+spot-place-requires-clause-column c =
+    column_in _ _ _ _ _ _ c.self.view_is c.self.invariant.block c.requires.row c.requires.column
 
 pub returns : goal.returns
-returns c = set_is _ _ _ _ _ _ c.self.view_is c.self.invariant.block c.requires.row c.requires.column c.args.value
+returns c =
+    rw c.spot-place.ensures.place
+    (set_is _ _ _ _ _ _ c.self.view_is c.self.invariant.block c.requires.row c.requires.column c.args.value)

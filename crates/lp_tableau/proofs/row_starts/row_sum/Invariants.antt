@@ -5,7 +5,7 @@ use Rattle.spec_exact.specs.Run.{steps, plus_product}
 use Rattle.spec_simplex.specs.Form.{form_entry}
 use Rattle.spec_simplex.specs.Start.{first_value}
 use Rattle.lp_frac.specs.Narrow.{largest}
-use Rattle.lp_tableau.proofs.start.row_sum.Given as goal
+use Rattle.lp_tableau.proofs.row_starts.row_sum.Given as goal
 
 -- the sum so far
 abbrev pub invariant-loop-j : goal.invariant-loop-j

@@ -3,7 +3,7 @@ use Rattle.std.proofs.Common.{◌≡◌, Some, Ok}
 use Rattle.spec_exact.specs.Run.{list_run}
 use Rattle.spec_simplex.specs.Start.{row_start}
 use Rattle.lp_frac.specs.Narrow.{largest}
-use Rattle.lp_tableau.proofs.start.row_starts.Given as goal
+use Rattle.lp_tableau.proofs.row_starts.row_starts.Given as goal
 
 -- the rows so far are there
 abbrev pub invariant-loop-i : goal.invariant-loop-i

@@ -2,7 +2,7 @@
 use Rattle.std.proofs.Common.{sym}
 use Rattle.std.proofs.lemmas.Result.{err_from_is_err_and}
 use Rattle.spec_exact.proofs.Stops.{list_stops}
-use Rattle.lp_tableau.proofs.start.row_starts.Goals as goal
+use Rattle.lp_tableau.proofs.row_starts.row_starts.Goals as goal
 
 pub returns-in_err-row_start-clause-err : goal.returns-in_err-row_start-clause-err
 returns-in_err-row_start-clause-err c =

@@ -2,7 +2,7 @@
 use Rattle.std.proofs.Common.{◌<◌, sym, ◌∙◌, arith}
 use Rattle.std.proofs.lemmas.Result.{err_from_is_err_and}
 use Rattle.spec_exact.proofs.Stops.{steps_stop}
-use Rattle.lp_tableau.proofs.start.row_sum.Goals as goal
+use Rattle.lp_tableau.proofs.row_starts.row_sum.Goals as goal
 
 pub returns-in_err-sum : goal.returns-in_err-sum
 returns-in_err-sum c =
