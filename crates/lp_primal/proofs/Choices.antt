@@ -27,10 +27,8 @@ module _ (limit : Option ℕ) (t : Tableau) where
     pub refused : (p : Past ℚ) → best_run limit t e ≡ Err p → choice_run limit t ≡ Err p
     refused p g = from_best ∙ ap (λ o. o >>= λ best. Ok (choice_by e best)) g
 
-    pub best_stops : (x : Best ℚ) (place : Option ℕ) → best_run limit t e ≡ Ok (Some x) → x.place ≡ place →
-        choice_run limit t ≡ Ok (choice_at e x place)
-    best_stops x place g k =
-        from_best ∙ ap (λ o. o >>= λ best. Ok (choice_by e best)) g ∙ ap (λ p. Ok (choice_at e x p)) k
+    pub chosen_is : (best : Option (Best ℚ)) → best_run limit t e ≡ Ok best → choice_run limit t ≡ Ok (choice_by e best)
+    chosen_is best g = from_best ∙ ap (λ o. o >>= λ best. Ok (choice_by e best)) g
 
   -- ---- it may be done
   at_place : (e : Entering) (x : Best ℚ) (place : Option ℕ) → MayEnter t (all_columns t) e →

@@ -1,14 +1,35 @@
 // What a step does.
 ghost use Rattle.std.specs.Prelude.{◌≡◌, IfOk, Some};
-ghost use Rattle.spec_simplex.specs.Step.{choice_run, CanMake};
+ghost use Rattle.spec_simplex.specs.Step.{choice_by, choice_run, CanMake};
 ghost use Rattle.lp_frac.specs.Narrow.{largest};
 
 use crate::entering::entering;
-use crate::ratio::best;
+use crate::ratio::{Best, best};
 use lp_frac::{Frac, Past};
 use lp_tableau::{PrimalEnd, Tableau, directed};
+use spec_simplex::Entering;
 
-pub(crate) type Choice = spec_simplex::Choice<Frac>;
+/// What a step does.
+pub type Choice = spec_simplex::Choice<Frac>;
+
+/// What is done with the column that enters, where this is the least ratio.
+pub fn chosen(e: Entering, best: Option<Best>) -> Choice
+    ensures { result ≡ choice_by e best }
+{
+    let Some(best) = best else {
+        let (col, up) = (e.col, e.up);
+        return Choice::End(PrimalEnd::Unbounded { col, up });
+    };
+    match best.place {
+        None => Choice::Flip { col: e.col },
+        Some(place) => Choice::Pivot {
+            place,
+            col: e.col,
+            theta: directed(e.up, best.ratio),
+            to: best.to,
+        },
+    }
+}
 
 // The flip or the pivot that comes next, or the end.
 #[tactic(auto, unfolding(spec_simplex::specs::Step::choice_run))]
@@ -19,17 +40,5 @@ pub(crate) fn choice(tab: &Tableau) -> Result<Choice, Past>
     let Some(e) = entering(tab) else {
         return Ok(Choice::End(PrimalEnd::Optimal));
     };
-    let Some(best) = best(tab, e)? else {
-        let (col, up) = (e.col, e.up);
-        return Ok(Choice::End(PrimalEnd::Unbounded { col, up }));
-    };
-    match best.place {
-        None => Ok(Choice::Flip { col: e.col }),
-        Some(place) => Ok(Choice::Pivot {
-            place,
-            col: e.col,
-            theta: directed(e.up, best.ratio),
-            to: best.to,
-        }),
-    }
+    Ok(chosen(e, best(tab, e)?))
 }
