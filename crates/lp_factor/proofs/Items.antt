@@ -1,8 +1,8 @@
 -- The items of a list that are not 0.
-use Rattle.std.proofs.Common.{◌≡◌, ◌≢◌, ℕ, ◌+◌, ◌<◌, ◌≤◌, List, [], ◌∷◌, ◌++◌, length, get_or, slice_get}
+use Rattle.std.proofs.Common.{◌≡◌, ◌≢◌, ℕ, ◌+◌, ◌<◌, List, [], ◌∷◌, ◌++◌, length, get_or, slice_get}
 use Rattle.std.proofs.Common.{All, Some, cond, nat_eq, refl, sym, ap, ◌∙◌, subst, arith, eq-eqb, ne_eqb}
 use Rattle.std.proofs.lemmas.List.{ext_get_or}
-use Rattle.std.proofs.lemmas.List.Elements.{All-nil, All-push, All-get_or, All-weaker, All-head, All-tail}
+use Rattle.std.proofs.lemmas.List.Elements.{All-push, All-get_or, All-weaker, All-head, All-tail}
 use Rattle.std.proofs.lemmas.List.Quantifiers.{all_pairs_push}
 use Rattle.std.proofs.lemmas.Option.{get_or_from_slice_get}
 use Rattle.spec_exact.specs.Fraction.{ℚ, 0ℚ}
@@ -12,7 +12,7 @@ use Rattle.spec_pivot.proofs.Pivot.{by_eq}
 use Rattle.spec_exact.specs.Run.{made}
 use Rattle.spec_exact.proofs.Stops.{length-made, get_or-made}
 use Rattle.spec_edit.proofs.Coefficients.{none_at}
-use Rattle.lp_factor.specs.Eta.{IsEta, AreItems, pair_of}
+use Rattle.lp_factor.specs.Eta.{AreItems, pair_of}
 use Rattle.lp_factor.proofs.Gaps.{Entries}
 
 wider : (n : ℕ) (es : Entries) → All (λ e. e.0 < n) es → All (λ e. e.0 < n + 1) es

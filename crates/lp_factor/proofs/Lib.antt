@@ -3,6 +3,5 @@ pub mod EtaRuns
 pub mod EtaLoops
 pub mod Items
 pub mod Solving
-pub mod Replacing
 pub mod Opens
 pub mod Columns

@@ -1,15 +1,14 @@
 -- The place that a column finds.
-use Rattle.std.proofs.Common.{◌≡◌, ◌≢◌, ℕ, zero, suc, ◌+◌, ◌-◌, ◌<◌, List, length, get_or, set}
+use Rattle.std.proofs.Common.{◌≡◌, ◌≢◌, ℕ, zero, suc, ◌+◌, ◌-◌, ◌<◌, List, length, get_or}
 use Rattle.std.proofs.Common.{slice_get, Option, Some, None, is_none, Result, Ok, Err, Bool, true}
 use Rattle.std.proofs.Common.{false, not, ◌&&◌, cond, refl, sym, ap, ap₂, ◌∙◌, subst, arith}
 use Rattle.std.proofs.lemmas.Option.{get_or_from_slice_get}
 use Rattle.std.specs.Prelude.{IsTrue, ◌↔◌}
 use Rattle.spec_exact.specs.Fraction.{ℚ, 0ℚ, eq_ℚ}
-use Rattle.spec_exact.specs.declared.past.Past.{Past}
 use Rattle.spec_exact.proofs.Same.{eq_test, eq_if}
 use Rattle.std.proofs.lemmas.List.{length-replicate}
 use Rattle.spec_pivot.specs.declared.status.Status.{Status}
-use Rattle.spec_exact.specs.Run.{◌>>=◌, refused_as, steps}
+use Rattle.spec_exact.specs.Run.{◌>>=◌, steps}
 use Rattle.spec_exact.proofs.Stops.{steps_more, steps_stop}
 use Rattle.spec_simplex.specs.Tableau.{is_basic}
 use Rattle.spec_simplex.specs.Form.{Form}
@@ -21,8 +20,8 @@ use Rattle.lp_factor.specs.Answer.{Chooses, MakesFactors}
 use Rattle.spec_simplex.specs.Eliminate.{basis_at}
 use Rattle.spec_factor.specs.declared.stop.NoFactors.{NoFactors}
 use Rattle.spec_factor.specs.declared.stop.NoFactors.TheVariants as cause
-use Rattle.spec_factor.specs.Factors.{Chosen, is_open, or_open, open_place, with_pair, chosen_at, column_of}
-use Rattle.spec_factor.specs.Factors.{ftran_run, choose_run, none_chosen, choose_all, factors_of, factor_run}
+use Rattle.spec_factor.specs.Factors.{Chosen, is_open, or_open, open_place}
+use Rattle.spec_factor.specs.Factors.{choose_run, none_chosen, choose_all, factors_of, factor_run}
 
 abbrev pub Columns : Type 0
 Columns = List (Option ℕ)

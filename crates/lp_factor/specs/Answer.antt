@@ -14,17 +14,6 @@ abbrev pub GivesRun : {A : Type 0} → Run A → A → Result ⊤ (Past ℚ) →
 GivesRun run x (Ok u) = run ≡ Ok x
 GivesRun run x (Err p) = run ≡ Err p
 
--- the run is refused with this stop, or memory was wanting
-abbrev pub StopsFactors : {A : Type 0} → Run A → Stop Singular → Type 0
-StopsFactors run (stop.Cause why) = ⊥
-StopsFactors run (stop.Past p) = run ≡ Err p
-StopsFactors run stop.NoMemory = ⊤
-
--- the run gives x, or it is refused with the answer
-abbrev pub GivesFactors : {A : Type 0} → Run A → A → Result ⊤ (Stop Singular) → Type 0
-GivesFactors run x (Ok u) = run ≡ Ok x
-GivesFactors run x (Err e) = StopsFactors run e
-
 -- the making gives x, or it is refused with the stop, or memory was wanting
 abbrev pub Chooses : {A : Type 0} → Result A (NoFactors ℚ) → A → Result ⊤ (Stop Singular) → Type 0
 Chooses run x (Ok u) = run ≡ Ok x

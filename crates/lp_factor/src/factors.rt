@@ -1,26 +1,17 @@
 // Factors of a basis, and both solves over them.
-ghost use Rattle.std.specs.Prelude.{◌≡◌, ◌≢◌, ◌<◌, ◌≤◌, ℕ, List, [], Some, Ok, IfOk};
+ghost use Rattle.std.specs.Prelude.{◌≡◌, ◌≢◌, ◌<◌, ◌≤◌, [], Some, IfOk};
 ghost use Rattle.std.specs.Prelude.{OnOk, length, get_or, slice_set, replicate};
-ghost use Rattle.spec_exact.specs.Fraction.{ℚ, 0ℚ};
-ghost use Rattle.spec_factor.specs.Factors.{ftran_run, btran_run, replace_run, with_pair};
+ghost use Rattle.spec_exact.specs.Fraction.{0ℚ};
+ghost use Rattle.spec_factor.specs.Factors.{ftran_run, btran_run, with_pair};
 ghost use Rattle.lp_frac.specs.Narrow.{largest};
-ghost use Rattle.lp_factor.specs.Answer.{GivesRun, GivesFactors};
+ghost use Rattle.lp_factor.specs.Answer.{GivesRun};
 ghost use Rattle.lp_factor.specs.Eta.{AreFactorsOf};
 
 use crate::eta::Eta;
 use crate::solve::{backward_all, forward_all};
-use lp_form::BasisStop;
 use lp_frac::{Fracs, Past};
 use std::alloc::{AllocError, Global};
 use std::marker::Model;
-
-// The same list.
-fn copy(alloc: Global, list: &Fracs) -> Result<Fracs, AllocError>
-    ensures { IfOk result (λ v. v ≡ list.now) }
-{
-    let items = Vec::from_slice(alloc, list.as_slice())?;
-    Ok(Fracs::from_vec(items))
-}
 
 /// Factors of a basis in product form: a list of pairs, each held as the items of its column that
 /// are not 0, and the basic column of each place.
@@ -87,29 +78,6 @@ impl Factors {
         ensures all { length v.new ≡ length v.old }
     {
         backward_all(&self.etas, v)
-    }
-
-    /// Puts column `col`, the list `column` by rows, in a place. Its solution is not 0 there. After a
-    /// stop the factors are spent.
-    pub fn replace(
-        &mut self,
-        alloc: Global,
-        place: u32,
-        col: u32,
-        column: &Fracs,
-    ) -> Result<(), BasisStop>
-        requires place { place < length self.old.basic }
-        requires all { length column.now ≡ length self.old.basic }
-        requires entry { (z : List ℚ) →
-            ftran_run (Some largest) (length self.old.basic) self.old.pairs column.now ≡ Ok z → get_or z place 0ℚ ≢ 0ℚ }
-        ensures run { GivesFactors (replace_run (Some largest) (length self.old.basic) self.old place col column.now)
-            self.new result }
-        ensures places { length self.new.basic ≡ length self.old.basic }
-    {
-        let mut solved = copy(alloc, column)?;
-        self.ftran(&mut solved)?;
-        self.replace_solved(alloc, place, col, &solved)?;
-        Ok(())
     }
 
     /// Puts column `col`, whose solution by `ftran` is `solved`, in a place, where that is not 0. After a

@@ -4,8 +4,7 @@
 //! |---|---|---|
 //! | `factor`, `Factors` | factors of the basic columns of a basis, in product form | src/choose, src/factors |
 //! | `Factors::ftran`, `btran` | the solutions for the basis's columns and for its rows | src/factors |
-//! | `Factors::replace` | another column in one place | src/factors |
-//! | `Factors::replace_solved` | the same, where the column's solution is at hand | src/factors |
+//! | `Factors::replace_solved` | another column, whose solution is at hand, in one place | src/factors |
 //! | `column_of` | a column of the form's equations, by rows | src/choose |
 //! | `narrow`, `tell_narrow` | the fact that numbers have at most 127 bits | src/steps |
 //!
