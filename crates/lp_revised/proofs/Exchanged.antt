@@ -1,7 +1,6 @@
 -- A pivot's exchange, part by part.
-use Rattle.std.proofs.Common.{◌≡◌, ℕ, suc, ◌+◌, List, [], Some, Ok, Err, sym, ap, ◌∙◌, arith}
+use Rattle.std.proofs.Common.{◌≡◌, ℕ, suc, ◌+◌, List, [], Some, Ok, sym, ap, ◌∙◌, arith}
 use Rattle.spec_exact.specs.Fraction.{ℚ}
-use Rattle.spec_exact.specs.declared.past.Past.{Past}
 use Rattle.spec_pivot.specs.declared.status.Status.{Status}
 use Rattle.spec_simplex.specs.declared.ends.RowStart.{RowStart}
 use Rattle.spec_simplex.specs.Form.{Form}

@@ -1,30 +1,20 @@
 -- The basic columns that move with one that is given by places, and flips.
-use Rattle.std.proofs.Common.{◌≡◌, ℕ, zero, suc, ◌<◌, List, get_or, set, Option, Some, None, Result, Ok, Err, Bool}
-use Rattle.std.proofs.Common.{false, cond, refl, sym, ap, ◌∙◌, arith}
+use Rattle.std.proofs.Common.{◌≡◌, ℕ, ◌<◌, List, get_or, set, Option, Some, None, Ok, Err, Bool}
+use Rattle.std.proofs.Common.{false, cond, refl, sym, ap, ◌∙◌}
 use Rattle.spec_exact.specs.Fraction.{ℚ, 0ℚ}
 use Rattle.spec_exact.specs.declared.past.Past.{Past}
 use Rattle.spec_pivot.specs.declared.status.Status.{Status}
 use Rattle.spec_simplex.specs.declared.ends.RowStart.{RowStart}
-use Rattle.spec_exact.specs.Run.{Run, ◌>>=◌, difference_run, less_product, steps}
+use Rattle.spec_exact.specs.Run.{Run, ◌>>=◌, difference_run, less_product}
 use Rattle.spec_simplex.specs.Tableau.{Tableau, basic_at, status_at, lower_at, upper_at, or_zero}
 use Rattle.spec_simplex.specs.Step.{directed, other_bound, is_place, moved_at, moved_run, flip_way, flipped}
 use Rattle.spec_exact.proofs.Stops.{steps_stop}
 use Rattle.spec_factor.specs.Revised.{Revised, bare_of, seen, flip_over_run}
+use Rattle.spec_revised.proofs.Selection.{steps_same}
 use Rattle.lp_frac.specs.Narrow.{largest}
 use Rattle.lp_tableau.proofs.Flips.{range_stops, flip_stops, flip_made}
 use Rattle.lp_revised.specs.Moved.{WithValues, moved_by, moves_by}
 use Rattle.lp_revised.proofs.Seen.{seen_at}
-
--- steps that are the same one by one
-steps_same : {A E : Type 0} (n : ℕ) (f g : ℕ → A → Result A E) (a : A) → ((i : ℕ) (x : A) → i < n → f i x ≡ g i x) →
-    steps n f a ≡ steps n g a
-steps_same zero f g a h = refl
-steps_same (suc n) f g a h =
-    ap (λ o. o >>= λ b. f n b) (steps_same n f g a (λ i x l. h i x (omega (arith, l)))) ∙ by (steps n g a)
-  where
-    by : (o : Result _ _) → (o >>= λ b. f n b) ≡ (o >>= λ b. g n b)
-    by (Ok b) = h n b (omega arith)
-    by (Err e) = refl
 
 module _ (starts : List (RowStart ℚ)) (s : Revised) (z : List ℚ) (theta : ℚ) (but : Option ℕ) where
   abbrev step_by : ℕ → List ℚ → Run (List ℚ)

@@ -12,7 +12,7 @@ use Rattle.spec_simplex.specs.declared.ends.RunStop.{RunStop}
 use Rattle.spec_simplex.specs.declared.ends.RunStop.TheVariants as cause
 use Rattle.spec_simplex.specs.Form.{Form}
 use Rattle.spec_exact.specs.Run.{Run, ◌>>=◌, refused_as}
-use Rattle.spec_factor.specs.Revised.{Revised, seen, Selection, selection_run, flip_over_run, pivot_over_run}
+use Rattle.spec_factor.specs.Revised.{Revised, Selection, selection_run}
 use Rattle.spec_factor.specs.Over.{RevisedEnded, over_or_spent, over_or_next, over_from}
 use Rattle.lp_frac.specs.Narrow.{largest}
 use Rattle.lp_revised.specs.declared.select.Column.{Column}
@@ -20,7 +20,7 @@ use Rattle.lp_revised.specs.declared.select.Selected.{Selected}
 use Rattle.lp_frac.specs.declared.stop.Stop.{Stop}
 use Rattle.lp_revised.specs.declared.stop.Spent.{Spent}
 use Rattle.lp_revised.specs.Answer.{StopsRevised}
-use Rattle.lp_revised.specs.Selecting.{CanDo, IsSolved, tableau_of, selection_of}
+use Rattle.lp_revised.specs.Selecting.{CanDo, tableau_of, selection_of}
 use Rattle.lp_revised.specs.Runs.{EndsWith, made_run}
 use Rattle.lp_revised.proofs.Renewed.{stops_after}
 

@@ -1,5 +1,5 @@
 -- What a step sees, part by part, and that it may be done.
-use Rattle.std.proofs.Common.{◌≡◌, ◌≢◌, ℕ, ◌<◌, List, get_or, Option, Some, None, Ok, Err, sym, ap, ◌∙◌, subst}
+use Rattle.std.proofs.Common.{◌≡◌, ◌≢◌, ℕ, ◌<◌, List, get_or, Option, Some, None, Ok, Err, refl, sym, ap, ◌∙◌, subst}
 use Rattle.spec_exact.specs.Fraction.{ℚ, 0ℚ, ◌*ℚ◌}
 use Rattle.spec_exact.specs.declared.past.Past.{Past}
 use Rattle.spec_exact.proofs.Field.{*ℚ_zero}
@@ -14,7 +14,7 @@ use Rattle.spec_simplex.specs.declared.ends.RunStop.TheVariants as cause
 use Rattle.spec_simplex.specs.Form.{Form}
 use Rattle.spec_exact.specs.Run.{Run, ◌>>=◌, refused_as}
 use Rattle.spec_simplex.specs.Tableau.{Tableau, basic_at}
-use Rattle.spec_simplex.specs.Step.{best_run, choice_by}
+use Rattle.spec_simplex.specs.Step.{best_run, choice_at, choice_by}
 use Rattle.spec_factor.specs.Factors.{column_of, ftran_run}
 use Rattle.spec_factor.specs.Revised.{Revised, sign_of, seen, multipliers_run, entering_run, Selection, selection_with}
 use Rattle.spec_factor.specs.Revised.{selection_run}
@@ -24,7 +24,7 @@ use Rattle.lp_frac.specs.declared.stop.Stop.{Stop}
 use Rattle.lp_revised.specs.declared.stop.Spent.{Spent}
 use Rattle.lp_frac.specs.declared.stop.Stop.TheVariants as stop
 use Rattle.lp_revised.specs.Answer.{StopsRevised}
-use Rattle.lp_revised.specs.Selecting.{choice_seen}
+use Rattle.lp_revised.specs.Selecting.{choice_seen, MayDo}
 use Rattle.lp_revised.proofs.Seen.{seen_at}
 
 -- a run that stops stops what goes on from it
@@ -42,7 +42,7 @@ gives (Ok b) a h = cc
 gives (Err q) a h = cc
 
 -- the place of a pivot has an entry
-pub entry_there : (starts : List (RowStart ℚ)) (t : Tableau) (z : List ℚ) (e : Entering) (best : Best ℚ) (p : ℕ) →
+entry_there : (starts : List (RowStart ℚ)) (t : Tableau) (z : List ℚ) (e : Entering) (best : Best ℚ) (p : ℕ) →
     best_run (Some largest) (seen starts t e.col z) e ≡ Ok (Some best) → best.place ≡ Some p
     → (p < t.rows) × (get_or z p 0ℚ ≢ 0ℚ)
 entry_there starts t z e best p h is =
@@ -54,6 +54,16 @@ entry_there starts t z e best p h is =
           (seen_at starts t e.col z p known.place ∙ ap (λ x. sign_of starts t (basic_at t p) *ℚ x) w ∙ *ℚ_zero
           (sign_of starts t (basic_at t p))),
     )
+
+-- what is chosen by the least ratio may be done
+pub may_do : (starts : List (RowStart ℚ)) (t : Tableau) (z : List ℚ) (e : Entering) (best : Option (Best ℚ)) →
+    best_run (Some largest) (seen starts t e.col z) e ≡ Ok best → MayDo t z e.col (choice_by e best)
+may_do starts t z e None h = refl
+may_do starts t z e (Some x) h = by x.place refl
+  where
+    by : (place : Option ℕ) → x.place ≡ place → MayDo t z e.col (choice_at e x place)
+    by None is = refl
+    by (Some p) is = let w = entry_there starts t z e x p h is in (refl, w.0, w.1)
 
 module _ (f : Form) (starts : List (RowStart ℚ)) (costs : List ℚ) (s : Revised) where
   abbrev whole : Run Selection

@@ -23,7 +23,7 @@ use Rattle.lp_revised.specs.declared.steps.StepsEnd.{StepsEnd}
 use Rattle.lp_frac.specs.declared.stop.Stop.{Stop}
 use Rattle.lp_revised.specs.declared.stop.Spent.{Spent}
 use Rattle.lp_revised.specs.Answer.{StopsRevised}
-use Rattle.lp_revised.specs.Runs.{RunsOver, EndsOver, ended_of, second_run, selection_at}
+use Rattle.lp_revised.specs.Runs.{EndsOver, ended_of, second_run, selection_at}
 use Rattle.lp_revised.proofs.Renewed.{stops_after}
 
 module _ (budget : ℕ) (f : Form) (starts : List (RowStart ℚ)) (s : Revised) where

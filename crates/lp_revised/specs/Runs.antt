@@ -54,6 +54,12 @@ abbrev pub RunsOver : Result RevisedEnded (RunStop ℚ) → List (RowStart ℚ) 
 RunsOver answer starts s used (Ok e) = answer ≡ Ok (ended_of starts s used e)
 RunsOver answer starts s used (Err e) = StopsRevised answer e
 
+-- the same where the answer has the count
+abbrev pub RunsFirst : Result RevisedEnded (RunStop ℚ) → List (RowStart ℚ) → Revised →
+    Result (StepsEnd × ℕ) (Stop Spent) → Type 0
+RunsFirst answer starts s (Ok (e, used)) = answer ≡ Ok (ended_of starts s used e)
+RunsFirst answer starts s (Err e) = StopsRevised answer e
+
 abbrev pub over_end : RunEnd → OverEnd
 over_end e = record { certificate = e.certificate; basis = e.basis; pivots = e.pivots }
 

@@ -11,7 +11,7 @@ ghost use Rattle.spec_factor.specs.Revised.{bare_of, replacements};
 ghost use Rattle.spec_factor.specs.Over.{over_one, over_phases, over_run};
 ghost use Rattle.lp_frac.specs.Narrow.{largest};
 ghost use Rattle.lp_revised.specs.Answer.{StopsRevised};
-ghost use Rattle.lp_revised.specs.Runs.{RunsOver, EndsOver, EndsWhole, second_run};
+ghost use Rattle.lp_revised.specs.Runs.{RunsFirst, EndsOver, EndsWhole, second_run};
 
 use crate::ends::{Certificate, negatives_of};
 use crate::state::{Revised, RowStart};
@@ -65,35 +65,36 @@ fn begun(alloc: Global, form: &Form, starts: &[RowStart]) -> Result<Revised, All
 }
 
 impl Revised {
-    // Phase one, where it is wanted.
+    // Phase one, where it is wanted, and how many pivots and flips it took.
     fn phase_one(
         &mut self,
         alloc: Global,
         form: &Form,
         starts: &[RowStart],
-        used: &mut u64,
         budget: u64,
-    ) -> Result<StepsEnd, RevisedStop>
+    ) -> Result<(StepsEnd, u64), RevisedStop>
         requires rows { form.now.rows ≡ self.old.bare.rows }
         requires cols { form.now.cols ≡ self.old.bare.cols }
         requires starts { length starts.now ≡ self.old.bare.rows }
         requires few { self.old.replaced < replacements }
-        requires unused { used.old ≡ 0 }
-        ensures run { RunsOver (over_one (Some largest) budget form.now starts.now self.old) starts.now self.new
-            used.new result }
+        ensures run { RunsFirst (over_one (Some largest) budget form.now starts.now self.old) starts.now self.new
+            result }
         ensures rows { OnOk result (self.new.bare.rows ≡ self.old.bare.rows) }
         ensures cols { OnOk result (self.new.bare.cols ≡ self.old.bare.cols) }
         ensures fresh { OnOk result (self.new.replaced < replacements) }
     {
+        let mut used = 0;
         if self.wants_phase_one() {
             let costs = start::first_costs(alloc, form, starts)?;
-            self.run(alloc, form, starts, &costs, used, budget)
+            let end = self.run(alloc, form, starts, &costs, &mut used, budget)?;
+            Ok((end, used))
         } else {
-            Ok(StepsEnd {
+            let end = StepsEnd {
                 end: PrimalEnd::Optimal,
                 multipliers: Fracs::new(alloc),
                 column: None,
-            })
+            };
+            Ok((end, used))
         }
     }
 
@@ -140,8 +141,7 @@ impl Revised {
         ensures run { EndsOver (over_phases (Some largest) budget form.now starts.now self.old) result }
         ensures narrow { IfOk result (λ e. IsNarrowCertificate e.certificate) }
     {
-        let mut used = 0;
-        let one = self.phase_one(alloc, form, starts, &mut used, budget)?;
+        let (one, used) = self.phase_one(alloc, form, starts, budget)?;
         if self.is_stuck() {
             return Ok(RunEnd {
                 certificate: Certificate::Infeasible {

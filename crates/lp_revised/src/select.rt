@@ -12,7 +12,8 @@ use crate::stop::RevisedStop;
 use lp_factor::column_of;
 use lp_form::Form;
 use lp_frac::{Frac, Fracs, Past};
-use lp_tableau::{PrimalEnd, directed};
+use lp_primal::chosen;
+use lp_tableau::PrimalEnd;
 use spec_simplex::Entering;
 use std::alloc::Global;
 
@@ -56,19 +57,7 @@ impl Revised {
         ensures value { result ≡ choice_seen starts.now self.now.bare solved.now e }
         ensures possible { IfOk result (MayDo self.now.bare solved.now e.col) }
     {
-        let Some(best) = self.best(starts, solved, e)? else {
-            let (col, up) = (e.col, e.up);
-            return Ok(Choice::End(PrimalEnd::Unbounded { col, up }));
-        };
-        match best.place {
-            None => Ok(Choice::Flip { col: e.col }),
-            Some(place) => Ok(Choice::Pivot {
-                place,
-                col: e.col,
-                theta: directed(e.up, best.ratio),
-                to: best.to,
-            }),
-        }
+        Ok(chosen(e, self.best(starts, solved, e)?))
     }
 
     /// The multipliers, the column that enters, and what is done with it.

@@ -13,12 +13,12 @@ returns-in_err-one-clause-run c =
 pub returns-then-is_stuck-clause-run : goal.returns-then-is_stuck-clause-run
 returns-then-is_stuck-clause-run c =
     is_infeasible c.args.budget c.args.form.now c.args.starts.now c.args.self.now c.phase_one.new.self
-    c.phase_one.new.used c.in_ok-one.one
+    c.in_ok-one.used c.in_ok-one.one
     c.in_ok-one.ensures.run _ _ (sym c.is_stuck.ensures ∙ c.if-is_stuck.true) c.rows.ensures.value
     c.in_ok-negatives_of.ensures.value
 
 pub returns-clause-run : goal.returns-clause-run
 returns-clause-run c =
     then_second c.args.budget c.args.form.now c.args.starts.now c.args.self.now c.phase_one.new.self
-    c.phase_one.new.used c.in_ok-one.one
+    c.in_ok-one.used c.in_ok-one.one
     c.in_ok-one.ensures.run c.phase_two.result (sym c.is_stuck.ensures ∙ c.if-is_stuck.false) c.phase_two.ensures.run
