@@ -1,7 +1,7 @@
 -- Cards that are added in turn, and cards of each item of a list.
 use Rattle.std.proofs.Common.{◌≡◌, ℕ, ◌+◌, ◌<◌, ◌≤◌, Some, None, Ok, Err, List, [], ◌∷◌, ◌++◌, length, take}
 use Rattle.std.proofs.Common.{drop, get_or, refl, sym, subst, ◌∙◌, ap, append_assoc, append-nil, Option, Result}
-use Rattle.std.specs.Prelude.{⊤, option_map, find, codes}
+use Rattle.std.specs.Prelude.{⊤, Bool, true, false, option_map, find, codes, if◌then◌else◌}
 use Rattle.std.specs.List.{flat_map}
 use Rattle.std.specs.Option.{option_or}
 use Rattle.std.proofs.lemmas.List.{take_all, take_more, take-append-drop}
@@ -13,7 +13,7 @@ use Rattle.spec_mps.specs.declared.style.Style.TheVariants.{Free, Fixed}
 use Rattle.spec_mps.specs.Fields.{Field}
 use Rattle.spec_mps.specs.Written.{cards_of, name_card, sense_cards, rows_cards, columns_cards}
 use Rattle.spec_mps.specs.Written.{sides_cards, ranges_cards, bounds_cards, section_card, fixed, too_wide}
-use Rattle.spec_mps.specs.Written.{WrittenCards, cards_text, line_text, is_wide, data_fields}
+use Rattle.spec_mps.specs.Written.{WrittenCard, WrittenCards, cards_text, line_text, is_wide, data_fields}
 use Rattle.mps_write.specs.declared.fault.WriteFault.{WriteFault}
 use Rattle.mps_write.specs.declared.fault.WriteFault.TheVariants.{TooWide, NoMemory}
 use Rattle.mps_write.specs.Adds.{Adds, IsAdded, Names, wide_in, GivesText, IsFixed, front_cards, back_cards}
@@ -85,6 +85,19 @@ pub goes_on : (style : Style) (cs ds : WrittenCards) (a b c : List ℕ) (result 
     IsAdded style cs a b → Adds style ds b c result → Adds style (cs ++ ds) a c result
 goes_on style cs ds a b c (Ok done) h k = joined style cs ds a b c h k
 goes_on style cs ds a b c (Err fault) h k = behind style cs ds a b fault h k
+
+-- ---- a section that is written only where it is wanted, which a call has answered by r
+
+pub section_none : {style : Style} {a : List ℕ} {r wanted : Bool} (cards : WrittenCards) → r ≡ wanted → r ≡ false →
+    IsAdded style (if wanted then cards else []) a a
+section_none {style} {a} cards same is = rw (sym same ∙ is) (nothing style a)
+
+pub section_some : {style : Style} {a b : List ℕ} {r wanted : Bool} {card : WrittenCard} (cards : WrittenCards)
+    (c : List ℕ) (result : Result ⊤ WriteFault) → r ≡ wanted → r ≡ true →
+    IsAdded style (card ∷ []) a b → Adds style cards b c result →
+    Adds style (if wanted then card ∷ cards else []) a c result
+section_some {style} {a} {b} {card = card} cards c result same is h k =
+    rw (sym same ∙ is) (goes_on style (card ∷ []) cards a b c result h k)
 
 -- ---- for each item of a list
 
