@@ -75,7 +75,8 @@ unfolding ranges_by
 range_set s card =
     ap (λ c. cond (is_used s.set card.set) c (Ok s)) (ranges_are (record s { set = Some card.set }) card.pairs)
 
-pub rhs_card_is : (style : Style) (s : State) (fields : Fields) → set_card Sides style s fields ≡ rhs_card style s fields
+pub rhs_card_is : (style : Style) (s : State) (fields : Fields) →
+    set_card Sides style s fields ≡ rhs_card style s fields
 unfolding rhs_card
 rhs_card_is style s fields =
     next (shaped style section.RightSides fields) _ _ _ refl (λ texts. side_set s (set_and_pairs texts))

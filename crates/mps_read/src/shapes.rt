@@ -1,6 +1,7 @@
 // Which fields a card of a section has.
 ghost use Rattle.std.specs.Prelude.{◌≡◌};
 ghost use Rattle.spec_text.specs.Words.{same};
+ghost use Rattle.spec_mps.specs.declared.section.Section.TheVariants as part;
 ghost use Rattle.spec_mps.specs.Fields.{numbers_of};
 ghost use Rattle.spec_mps.specs.Shapes as shapes;
 
@@ -24,55 +25,61 @@ fn has_numbers(fields: &[Field], numbers: &[u32]) -> bool
     rest.is_empty()
 }
 
+// A column, and one or two pairs of a row's name and a number.
 #[tactic(auto, unfolding(spec_mps::specs::Shapes::has_shape))]
-fn has_free_shape(section: Section, fields: &[Field]) -> bool
-    ensures { result ≡ shapes.has_shape (shapes.free_shapes section) fields.now }
+fn has_entry_shape(style: Style, fields: &[Field]) -> bool
+    ensures { result ≡ shapes.has_shape (shapes.shapes_of style part.Columns) fields.now }
 {
-    match section {
-        Section::Name | Section::End => false,
-        Section::Sense => has_numbers(fields, &[1]),
-        Section::Rows => has_numbers(fields, &[1, 2]),
-        Section::Columns => {
-            has_numbers(fields, &[1, 2, 3]) || has_numbers(fields, &[1, 2, 3, 4, 5])
-        }
-        Section::RightSides | Section::Ranges => {
+    match style {
+        Style::Free => has_numbers(fields, &[1, 2, 3]) || has_numbers(fields, &[1, 2, 3, 4, 5]),
+        Style::Fixed => has_numbers(fields, &[2, 3, 4]) || has_numbers(fields, &[2, 3, 4, 5, 6]),
+    }
+}
+
+// A set or none, and one or two pairs of a row's name and a number.
+#[tactic(auto, unfolding(spec_mps::specs::Shapes::has_shape))]
+fn has_set_shape(style: Style, fields: &[Field]) -> bool
+    ensures { result ≡ shapes.has_shape (shapes.set_shapes style) fields.now }
+{
+    match style {
+        Style::Free => {
             has_numbers(fields, &[1, 2])
                 || has_numbers(fields, &[1, 2, 3])
                 || has_numbers(fields, &[1, 2, 3, 4])
                 || has_numbers(fields, &[1, 2, 3, 4, 5])
         }
-        Section::Bounds => has_numbers(fields, &[1, 2, 3]) || has_numbers(fields, &[1, 2, 3, 4]),
-    }
-}
-
-#[tactic(auto, unfolding(spec_mps::specs::Shapes::has_shape))]
-fn has_fixed_shape(section: Section, fields: &[Field]) -> bool
-    ensures { result ≡ shapes.has_shape (shapes.fixed_shapes section) fields.now }
-{
-    match section {
-        Section::Name | Section::End => false,
-        Section::Sense => has_numbers(fields, &[1]),
-        Section::Rows => has_numbers(fields, &[1, 2]),
-        Section::Columns => {
-            has_numbers(fields, &[2, 3, 4]) || has_numbers(fields, &[2, 3, 4, 5, 6])
-        }
-        Section::RightSides | Section::Ranges => {
+        Style::Fixed => {
             has_numbers(fields, &[3, 4])
                 || has_numbers(fields, &[2, 3, 4])
                 || has_numbers(fields, &[3, 4, 5, 6])
                 || has_numbers(fields, &[2, 3, 4, 5, 6])
         }
-        Section::Bounds => has_numbers(fields, &[1, 3, 4]) || has_numbers(fields, &[1, 2, 3, 4]),
+    }
+}
+
+// A kind, a set or none, a column and a value.
+#[tactic(auto, unfolding(spec_mps::specs::Shapes::has_shape))]
+fn has_valued_shape(style: Style, fields: &[Field]) -> bool
+    ensures { result ≡ shapes.has_shape (shapes.shapes_of style part.Bounds) fields.now }
+{
+    match style {
+        Style::Free => has_numbers(fields, &[1, 2, 3]) || has_numbers(fields, &[1, 2, 3, 4]),
+        Style::Fixed => has_numbers(fields, &[1, 3, 4]) || has_numbers(fields, &[1, 2, 3, 4]),
     }
 }
 
 /// Whether a card of this section may have these fields.
+#[tactic(auto, unfolding(spec_mps::specs::Shapes::has_shape))]
 pub(crate) fn has_shape(style: Style, section: Section, fields: &[Field]) -> bool
     ensures { result ≡ shapes.has_shape (shapes.shapes_of style section) fields.now }
 {
-    match style {
-        Style::Free => has_free_shape(section, fields),
-        Style::Fixed => has_fixed_shape(section, fields),
+    match section {
+        Section::Name | Section::End => false,
+        Section::Sense => has_numbers(fields, &[1]),
+        Section::Rows => has_numbers(fields, &[1, 2]),
+        Section::Columns => has_entry_shape(style, fields),
+        Section::RightSides | Section::Ranges => has_set_shape(style, fields),
+        Section::Bounds => has_valued_shape(style, fields),
     }
 }
 
