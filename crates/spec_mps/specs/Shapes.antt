@@ -86,13 +86,6 @@ shapes_of Free section.Bounds = (1 ∷ 2 ∷ 3 ∷ []) ∷ (1 ∷ 2 ∷ 3 ∷ 4 
 shapes_of Fixed section.Bounds = (1 ∷ 3 ∷ 4 ∷ []) ∷ (1 ∷ 2 ∷ 3 ∷ 4 ∷ []) ∷ []
 shapes_of style section.End = []
 
--- those of each form
-abbrev pub free_shapes : Section → List (List ℕ)
-free_shapes part = shapes_of Free part
-
-abbrev pub fixed_shapes : Section → List (List ℕ)
-fixed_shapes part = shapes_of Fixed part
-
 -- a card in BOUNDS whose kind takes no value; field 4 may stand there in fixed form
 abbrev pub unvalued_shapes : Style → List (List ℕ)
 unvalued_shapes Free = (1 ∷ 2 ∷ []) ∷ (1 ∷ 2 ∷ 3 ∷ []) ∷ []
