@@ -19,7 +19,7 @@ pub struct Board {
 }
 
 /// What a look found.
-#[derive(Clone, Copy, PartialEq, Eq, Debug)]
+#[derive(Clone, Copy, PartialEq, Eq)]
 pub enum Look {
     /// The newest done place of the shape, and its words.
     Found(u32, [u64; 49]),
@@ -28,7 +28,7 @@ pub enum Look {
 }
 
 /// What a publication came to.
-#[derive(Clone, Copy, PartialEq, Eq, Debug)]
+#[derive(Clone, Copy, Debug, PartialEq, Eq)]
 pub enum Put {
     /// The words stand at this place.
     Published(u32),

@@ -16,7 +16,7 @@ use spec_bas::BasCode;
 use std::alloc::{AllocError, Global};
 
 /// Why a line leads to nothing.
-#[derive(Clone, Copy, Debug, PartialEq, Eq)]
+#[derive(Clone, Copy)]
 pub(crate) enum StepFault {
     Wrong(BasCode),
     NoMemory,

@@ -6,7 +6,7 @@ ghost use Rattle.lp_bas.specs.Limits.{status_at};
 use lp_form::{Form, Status};
 
 /// The limit of a row at which it is to stand.
-#[derive(Clone, Copy, Debug, PartialEq, Eq)]
+#[derive(Clone, Copy)]
 pub(crate) enum Limit {
     Lower,
     Upper,

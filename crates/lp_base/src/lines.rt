@@ -26,7 +26,7 @@ const BUFFER_LEN: usize = 4_096;
 pub type Line = spec_text::Line<Bytes>;
 
 /// Why no line is given.
-#[derive(Clone, Copy, Debug, PartialEq, Eq, Error)]
+#[derive(Clone, Copy, Debug, Error)]
 pub enum LineStop {
     #[error("the source failed")]
     Read,

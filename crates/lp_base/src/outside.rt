@@ -8,7 +8,7 @@ ghost use Rattle.lp_base.specs.Beside.{SinkState, SourceState, Takes};
 use thiserror::Error;
 
 /// The outside failed.
-#[derive(Clone, Copy, Debug, PartialEq, Eq, Error)]
+#[derive(Clone, Copy, Debug, Error)]
 #[error("the outside failed")]
 pub struct Failed;
 
@@ -52,7 +52,7 @@ pub trait Sink {
 }
 
 /// The sink failed before it took all.
-#[derive(Clone, Copy, Debug, PartialEq, Eq, Error)]
+#[derive(Clone, Copy, Debug, Error)]
 #[error("the sink failed")]
 pub struct WriteFault;
 

@@ -5,7 +5,7 @@ ghost use Rattle.lp_core.specs.Stages.{looking_at};
 use spec_reads::Found;
 
 /// Where a session is in its ask.
-#[derive(Clone, Copy, Debug, PartialEq, Eq)]
+#[derive(Clone, Copy)]
 pub enum Stage {
     /// No ask is being answered.
     Idle,

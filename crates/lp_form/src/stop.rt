@@ -3,7 +3,7 @@ use lp_frac::Stop;
 use thiserror::Error;
 
 /// A basic column depends on those before it.
-#[derive(Clone, Copy, Debug, PartialEq, Eq, Error)]
+#[derive(Clone, Copy, Debug, Error)]
 #[error("expected independent basic columns, but one depends on those before it")]
 pub struct Singular;
 

@@ -8,7 +8,7 @@ use std::fmt::{Debug, Display};
 use thiserror::Error;
 
 /// Why something is not made: for a cause of its own, for an operation that is refused, or for want of memory.
-#[derive(Clone, Copy, Debug, PartialEq, Eq, Error)]
+#[derive(Clone, Copy, Debug, Error)]
 #[error_bound(C: Debug + Display)]
 pub enum Stop<C> {
     #[error("{0}")]

@@ -3,7 +3,7 @@ use lp_frac::Stop;
 use thiserror::Error;
 
 /// As many pivots and flips were made as the budget has.
-#[derive(Clone, Copy, Debug, PartialEq, Eq, Error)]
+#[derive(Clone, Copy, Debug, Error)]
 #[error("the budget is spent")]
 pub struct Spent;
 

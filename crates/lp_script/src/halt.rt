@@ -6,7 +6,7 @@ use lp_base::{LineStop, WriteFault};
 use std::alloc::AllocError;
 
 /// Why a command halts before it has done all that is asked.
-#[derive(Clone, Copy, Debug, PartialEq, Eq)]
+#[derive(Clone, Copy)]
 pub enum Halt {
     /// The source failed.
     Read,

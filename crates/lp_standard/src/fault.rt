@@ -8,7 +8,7 @@ use thiserror::Error;
 type FormFault = spec_simplex::FormFault<Frac>;
 
 /// The first column whose lower bound is greater than its upper one.
-#[derive(Clone, Copy, Debug, PartialEq, Eq, Error)]
+#[derive(Clone, Copy, Debug, Error)]
 #[error("expected bounds with a number between them, but those of column {column} clash")]
 pub struct Clash {
     pub column: u32,

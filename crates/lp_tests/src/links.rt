@@ -35,7 +35,7 @@ fn links_are_served(rt: HostRuntime) -> Result<(), Fail> {
     let net = MemListen::new(alloc, links, Vec::new(alloc))?;
     let mut nets = std::vec![in alloc; net]?;
     let mut out = MemSink::new(alloc, Vec::new(alloc));
-    assert_eq!(rt; serve(&rt, alloc, &mut nets, 2, 4, &mut out), Ok(()));
+    serve(&rt, alloc, &mut nets, 2, 4, &mut out)?;
     let [first, second] = nets[0].links_back() else {
         return Ok(assert!(rt; false));
     };
@@ -52,7 +52,7 @@ fn no_link_comes(rt: HostRuntime) -> Result<(), Fail> {
     let mut nets = std::vec![in alloc; net]?;
     let mut out = MemSink::new(alloc, Vec::new(alloc));
     let served = serve(&rt, alloc, &mut nets, 1, 4, &mut out);
-    assert_eq!(rt; served, Err(ServeFault::Accept));
+    assert!(rt; matches!(served, Err(ServeFault::Accept)));
     assert!(rt; out.written().is_empty());
     Ok(())
 }
@@ -66,9 +66,9 @@ fn a_link_comes_back(rt: HostRuntime) -> Result<(), Fail> {
         return Ok(assert!(rt; false));
     };
     let mut text = [0; 8];
-    assert_eq!(rt; first.read(&mut text), Ok(3));
+    assert!(rt; matches!(first.read(&mut text), Ok(3)));
     assert_eq!(rt; &text[..3], b"one".as_slice());
-    assert_eq!(rt; first.write(b"reply"), Ok(5));
+    assert!(rt; matches!(first.write(b"reply"), Ok(5)));
     net.give_back(first);
     assert!(rt; net.accept().is_err());
     assert!(rt; net.accept().is_ok());

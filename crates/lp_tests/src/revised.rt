@@ -48,7 +48,7 @@ fn the_least_of_the_column(rt: HostRuntime) -> Result<(), Fail> {
             && basis.at(1) == Status::AtLower
     );
     assert_eq!(rt; end.pivots, 1);
-    assert_eq!(rt; cold(rt.alloc(), &form, 0).err(), Some(Stop::Cause(Spent)));
+    assert!(rt; matches!(cold(rt.alloc(), &form, 0), Err(Stop::Cause(Spent))));
     Ok(())
 }
 

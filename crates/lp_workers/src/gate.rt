@@ -8,7 +8,7 @@ pub trait Gate {
 }
 
 /// Returns at once.
-#[derive(Clone, Copy, Debug)]
+#[derive(Clone, Copy)]
 pub struct NeverHolds;
 
 impl Gate for NeverHolds {

@@ -6,7 +6,7 @@ use std::alloc::AllocError;
 use thiserror::Error;
 
 /// Why a line has no card.
-#[derive(Clone, Copy, Debug, PartialEq, Eq, Error)]
+#[derive(Clone, Copy, Debug, Error)]
 pub enum CardFault {
     /// The first column, from 1 on, with a byte that may not stand there in fixed form.
     #[error("a byte may not stand in column {0}")]

@@ -9,7 +9,7 @@ use spec_mps::Code;
 use std::alloc::AllocError;
 
 /// What is wrong with a line, or that there is no memory.
-#[derive(Clone, Copy, Debug, PartialEq, Eq)]
+#[derive(Clone, Copy)]
 pub(crate) enum Fault {
     Code(Code),
     NoMemory,
@@ -43,7 +43,7 @@ impl From<CardFault> for Fault {
 }
 
 /// Whether more lines are read, or the text has ended.
-#[derive(Clone, Copy, Debug, PartialEq, Eq)]
+#[derive(Clone, Copy)]
 pub(crate) enum Went {
     On,
     ToEnd,

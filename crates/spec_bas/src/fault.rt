@@ -2,7 +2,7 @@
 use thiserror::Error;
 
 /// What is wrong with a line of a basis file.
-#[derive(Clone, Copy, Debug, PartialEq, Eq, Error)]
+#[derive(Clone, Copy, Debug, Error)]
 pub enum BasCode {
     #[error("there is no such section, or NAME may not stand here")]
     Section,
@@ -21,7 +21,7 @@ pub enum BasCode {
 }
 
 /// The first line of a basis file that is wrong, counted from 1, and what is wrong with it.
-#[derive(Clone, Copy, Debug, PartialEq, Eq, Error)]
+#[derive(Clone, Copy, Debug, Error)]
 #[error("line {line}: {code}")]
 pub struct BasFault {
     pub line: u32,

@@ -7,7 +7,7 @@ use std::fmt::Debug;
 use thiserror::Error;
 
 /// What a part of a certificate is a number of: a column's value, a row's multiplier, or a column's part in a ray.
-#[derive(Clone, Copy, Debug, PartialEq, Eq)]
+#[derive(Clone, Copy)]
 pub enum Letter {
     X,
     Y,
@@ -64,7 +64,7 @@ pub enum Certificate<L> {
 }
 
 /// What a certificate shows.
-#[derive(Clone, Copy, Debug, PartialEq, Eq)]
+#[derive(Clone, Copy)]
 pub enum Known<F> {
     /// The optimal value.
     Optimal(F),
@@ -73,7 +73,7 @@ pub enum Known<F> {
 }
 
 /// Why a certificate shows nothing.
-#[derive(Clone, Copy, Debug, PartialEq, Eq)]
+#[derive(Clone, Copy)]
 pub enum CheckStop<F: Debug> {
     /// The number of the condition that fails.
     No(u32),
@@ -90,7 +90,7 @@ impl<F: Debug> From<Past<F>> for CheckStop<F> {
 }
 
 /// What a check of a certificate says.
-#[derive(Clone, Copy, Debug, PartialEq, Eq)]
+#[derive(Clone, Copy)]
 pub enum Verdict<F: Debug> {
     Yes(Known<F>),
     No(u32),

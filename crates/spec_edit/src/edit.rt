@@ -40,7 +40,7 @@ pub enum Edit<N, F, P, B> {
 }
 
 /// What there is so much of that none may be added.
-#[derive(Clone, Copy, Debug, PartialEq, Eq)]
+#[derive(Clone, Copy, Debug)]
 pub enum Which {
     Rows,
     Columns,

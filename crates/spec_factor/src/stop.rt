@@ -4,7 +4,7 @@ use spec_exact::Past;
 use std::fmt::Debug;
 
 /// Why a basis has no factors.
-#[derive(Clone, Copy, Debug, PartialEq, Eq)]
+#[derive(Clone, Copy)]
 pub enum NoFactors<F: Debug> {
     /// A basic column depends on those before it.
     Singular,

@@ -1,14 +1,14 @@
 // The parts of a model, over the type N of names, F of numbers and E of a column's entries.
 
 /// Whether the objective is to be least or greatest.
-#[derive(Clone, Copy, Debug, PartialEq, Eq)]
+#[derive(Clone, Copy)]
 pub enum Sense {
     Min,
     Max,
 }
 
 /// A row's sum is at most (`L`), at least (`G`) or equal to (`E`) its right side.
-#[derive(Clone, Copy, Debug, PartialEq, Eq)]
+#[derive(Clone, Copy)]
 pub enum Kind {
     L,
     G,

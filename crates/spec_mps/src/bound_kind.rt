@@ -1,7 +1,7 @@
 // The kinds of bounds.
 
 /// The kind of a card in `BOUNDS`.
-#[derive(Clone, Copy, Debug, PartialEq, Eq)]
+#[derive(Clone, Copy)]
 pub enum BoundKind {
     /// `UP`: the upper bound.
     Up,

@@ -6,7 +6,7 @@ use crate::number::NumFault;
 use thiserror::Error;
 
 /// What is wrong with a line of a text.
-#[derive(Clone, Copy, Debug, PartialEq, Eq, Error)]
+#[derive(Clone, Copy, Debug, Error)]
 pub enum Code {
     #[error("this section may not stand here")]
     SectionOrder,
@@ -60,7 +60,7 @@ impl From<NumFault> for Code {
 }
 
 /// The first line of a text that is wrong, counted from 1, and what is wrong with it.
-#[derive(Clone, Copy, Debug, PartialEq, Eq, Error)]
+#[derive(Clone, Copy, Debug, Error)]
 #[error("line {line}: {code}")]
 pub struct MpsFault {
     pub line: u32,

@@ -2,7 +2,7 @@
 use thiserror::Error;
 
 /// Why a text is no number.
-#[derive(Clone, Copy, Debug, PartialEq, Eq, Error)]
+#[derive(Clone, Copy, Debug, Error)]
 pub enum NumFault {
     /// It is neither a decimal nor a quotient.
     #[error("this is no number")]
@@ -13,7 +13,7 @@ pub enum NumFault {
 }
 
 /// A bound of a column.
-#[derive(Clone, Copy, Debug, PartialEq, Eq)]
+#[derive(Clone, Copy)]
 pub enum BoundValue<F> {
     /// Of a size below 10^20.
     Finite(F),

@@ -2,7 +2,7 @@
 use spec_model::Kind;
 
 /// The type of a row in `ROWS`.
-#[derive(Clone, Copy, Debug, PartialEq, Eq)]
+#[derive(Clone, Copy)]
 pub enum RowType {
     /// `N`: the objective, or a row that is dropped.
     Unlimited,

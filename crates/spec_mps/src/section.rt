@@ -1,7 +1,7 @@
 // The sections of a text.
 
 /// A section, by the word that begins it.
-#[derive(Clone, Copy, Debug, PartialEq, Eq)]
+#[derive(Clone, Copy)]
 pub enum Section {
     /// `NAME`
     Name,
@@ -22,7 +22,7 @@ pub enum Section {
 }
 
 /// Which sections have begun.
-#[derive(Clone, Copy, Debug, PartialEq, Eq)]
+#[derive(Clone, Copy)]
 pub struct Seen {
     pub name: bool,
     pub sense: bool,

@@ -1,7 +1,7 @@
 // The two forms of texts.
 
 /// How the fields of a line are separated.
-#[derive(Clone, Copy, Debug, PartialEq, Eq)]
+#[derive(Clone, Copy)]
 pub enum Style {
     /// By spaces and tabs.
     Free,

@@ -1,7 +1,7 @@
 // Where a column of a tableau stands, and which way a column moves.
 
 /// A basic column has the value that the rows give it; any other one stands at a bound, or at 0 where it has none.
-#[derive(Clone, Copy, Debug, PartialEq, Eq)]
+#[derive(Clone, Copy)]
 pub enum Status {
     Basic,
     AtLower,
@@ -11,7 +11,7 @@ pub enum Status {
 }
 
 /// The way in which an entering column moves.
-#[derive(Clone, Copy, Debug, PartialEq, Eq)]
+#[derive(Clone, Copy)]
 pub enum Way {
     Up,
     Down,

@@ -2,7 +2,7 @@
 use spec_mps::Style;
 
 /// A command that reads the text of a model, and says something of it.
-#[derive(Clone, Copy, Debug, PartialEq, Eq)]
+#[derive(Clone, Copy)]
 pub enum TextCommand {
     /// To solve the model.
     Solve,
@@ -13,7 +13,7 @@ pub enum TextCommand {
 }
 
 /// What the words of a command line ask.
-#[derive(Clone, Copy, Debug, PartialEq, Eq)]
+#[derive(Clone, Copy)]
 pub enum CommandLine {
     /// To run the script that the source gives with so many workers, and so many places that its sessions share.
     Run {

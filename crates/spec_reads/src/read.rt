@@ -1,7 +1,7 @@
 // What is read and written of what sessions share, over the type W of words.
 
 /// One read or write of the places, all at once.
-#[derive(Clone, Copy, Debug, PartialEq, Eq)]
+#[derive(Clone, Copy)]
 pub enum Read<W> {
     /// So many places were claimed.
     Count(u32),
@@ -29,7 +29,7 @@ pub enum Put {
 }
 
 /// A place that a look found, and its words.
-#[derive(Clone, Copy, Debug, PartialEq, Eq)]
+#[derive(Clone, Copy)]
 pub struct Found<W> {
     pub place: u32,
     pub words: W,

@@ -1,7 +1,7 @@
 // How the service of a link ends.
 
 /// How the service of a link ended.
-#[derive(Clone, Copy, Debug, PartialEq, Eq)]
+#[derive(Clone, Copy)]
 pub enum LinkEnd {
     /// The session said QUIT, or the link ended between two commands.
     Done,

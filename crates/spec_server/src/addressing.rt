@@ -3,7 +3,7 @@
 use crate::command::Command;
 
 /// Whether the lines of an input name sessions.
-#[derive(Clone, Copy, Debug, PartialEq, Eq)]
+#[derive(Clone, Copy)]
 pub enum Addressing {
     /// Each command and each reply begins with the number of its session.
     Numbered,

@@ -6,7 +6,7 @@ use spec_warm::Fall;
 use std::fmt::Debug;
 
 /// What a solve answers.
-#[derive(Clone, Copy, Debug, PartialEq, Eq)]
+#[derive(Clone, Copy)]
 pub enum Answer<F: Debug> {
     /// What is known of the model, by a certificate.
     Known(Known<F>),
@@ -17,7 +17,7 @@ pub enum Answer<F: Debug> {
 }
 
 /// How an answer was found.
-#[derive(Clone, Copy, Debug, PartialEq, Eq)]
+#[derive(Clone, Copy)]
 pub enum How {
     /// From the start that each model has.
     Cold,
@@ -28,7 +28,7 @@ pub enum How {
 }
 
 /// What was given to other sessions of an answer.
-#[derive(Clone, Copy, Debug, PartialEq, Eq)]
+#[derive(Clone, Copy)]
 pub enum Publication {
     /// It is no optimum.
     Nothing,

@@ -4,7 +4,7 @@ use spec_mps::MpsFault;
 use thiserror::Error;
 
 /// Why there is no model to solve from a basis.
-#[derive(Clone, Copy, Debug, PartialEq, Eq, Error)]
+#[derive(Clone, Copy, Debug, Error)]
 pub enum BasisFault {
     /// The text spells no model.
     #[error("the text of the model: {0}")]

@@ -2,7 +2,7 @@
 use spec_mps::Style;
 
 /// A command word.
-#[derive(Clone, Copy, Debug, PartialEq, Eq)]
+#[derive(Clone, Copy)]
 pub enum CommandWord {
     Load,
     Write,
@@ -16,7 +16,7 @@ pub enum CommandWord {
 }
 
 /// The command word of an edit.
-#[derive(Clone, Copy, Debug, PartialEq, Eq)]
+#[derive(Clone, Copy)]
 pub enum EditWord {
     AddRow,
     DelRow,
@@ -50,7 +50,7 @@ pub enum Plain<E> {
 }
 
 /// Why a line is no command.
-#[derive(Clone, Copy, Debug, PartialEq, Eq)]
+#[derive(Clone, Copy)]
 pub enum LineFault {
     /// A word, or the count of words.
     Word,

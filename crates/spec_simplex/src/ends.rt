@@ -8,7 +8,7 @@ use std::fmt::Debug;
 use thiserror::Error;
 
 /// Why a model has no form.
-#[derive(Clone, Copy, Debug, PartialEq, Eq, Error)]
+#[derive(Clone, Copy, Debug, Error)]
 pub enum FormFault<F: Debug> {
     /// The first column whose lower bound is greater than its upper one.
     #[error("expected bounds with a number between them, but those of column {0} clash")]
@@ -19,7 +19,7 @@ pub enum FormFault<F: Debug> {
 }
 
 /// How a row begins, by its sum where each structural column stands at its first place.
-#[derive(Clone, Copy, Debug, PartialEq, Eq)]
+#[derive(Clone, Copy)]
 pub enum RowStart<F> {
     /// The sum is within the row's limits.
     Within(F),
@@ -30,14 +30,14 @@ pub enum RowStart<F> {
 }
 
 /// A column that enters, and whether its value rises.
-#[derive(Clone, Copy, Debug, PartialEq, Eq)]
+#[derive(Clone, Copy)]
 pub struct Entering {
     pub col: u32,
     pub up: bool,
 }
 
 /// The least ratio so far, and the column that it stops.
-#[derive(Clone, Copy, Debug, PartialEq, Eq)]
+#[derive(Clone, Copy)]
 pub struct Best<F> {
     pub ratio: F,
     pub col: u32,
@@ -48,7 +48,7 @@ pub struct Best<F> {
 }
 
 /// How a run of the primal method ends.
-#[derive(Clone, Copy, Debug, PartialEq, Eq)]
+#[derive(Clone, Copy)]
 pub enum PrimalEnd {
     /// No column may enter.
     Optimal,
@@ -57,7 +57,7 @@ pub enum PrimalEnd {
 }
 
 /// What a step does.
-#[derive(Clone, Copy, Debug, PartialEq, Eq)]
+#[derive(Clone, Copy)]
 pub enum Choice<F> {
     End(PrimalEnd),
     /// The column goes to its other bound.
@@ -74,7 +74,7 @@ pub enum Choice<F> {
 }
 
 /// Why a run does not end by itself.
-#[derive(Clone, Copy, Debug, PartialEq, Eq)]
+#[derive(Clone, Copy)]
 pub enum RunStop<F: Debug> {
     /// The operation that is past the limit.
     Past(Past<F>),
@@ -91,7 +91,7 @@ impl<F: Debug> From<Past<F>> for RunStop<F> {
 }
 
 /// Why a basis has no tableau.
-#[derive(Clone, Copy, Debug, PartialEq, Eq)]
+#[derive(Clone, Copy)]
 pub enum StartStop<F: Debug> {
     /// A basic column depends on those before it.
     Singular,
@@ -100,7 +100,7 @@ pub enum StartStop<F: Debug> {
 }
 
 /// The method that a tableau is fit for.
-#[derive(Clone, Copy, Debug, PartialEq, Eq)]
+#[derive(Clone, Copy)]
 pub enum Fit {
     /// Each value is within its bounds.
     Primal,
@@ -110,21 +110,21 @@ pub enum Fit {
 }
 
 /// A basic column that is outside its bounds, below the lower one or above the upper one.
-#[derive(Clone, Copy, Debug, PartialEq, Eq)]
+#[derive(Clone, Copy)]
 pub struct Leaving {
     pub col: u32,
     pub below: bool,
 }
 
 /// The least ratio so far, and its column.
-#[derive(Clone, Copy, Debug, PartialEq, Eq)]
+#[derive(Clone, Copy)]
 pub struct Cheapest<F> {
     pub ratio: F,
     pub col: u32,
 }
 
 /// How a run of the dual method ends.
-#[derive(Clone, Copy, Debug, PartialEq, Eq)]
+#[derive(Clone, Copy)]
 pub enum DualEnd {
     /// Each value is within its bounds.
     Optimal,
@@ -133,7 +133,7 @@ pub enum DualEnd {
 }
 
 /// What a dual step does.
-#[derive(Clone, Copy, Debug, PartialEq, Eq)]
+#[derive(Clone, Copy)]
 pub enum DualChoice {
     End(DualEnd),
     /// The column takes the position, whose column leaves to the bound `to`.
@@ -141,7 +141,7 @@ pub enum DualChoice {
 }
 
 /// Why a warm start does not end with an answer.
-#[derive(Clone, Copy, Debug, PartialEq, Eq)]
+#[derive(Clone, Copy)]
 pub enum WarmStop<F: Debug> {
     /// The basis has no tableau.
     Singular,

@@ -19,7 +19,7 @@ pub enum Warm<F: Debug, L, B> {
 }
 
 /// Why a solve gave a warm start up.
-#[derive(Clone, Copy, Debug, PartialEq, Eq)]
+#[derive(Clone, Copy)]
 pub enum Fall {
     /// The basis has no tableau.
     Singular,
@@ -32,7 +32,7 @@ pub enum Fall {
 }
 
 /// From where a solve found what it ended with.
-#[derive(Clone, Copy, Debug, PartialEq, Eq)]
+#[derive(Clone, Copy)]
 pub enum Route {
     /// From the start that each model has: no basis was handed.
     Cold,
