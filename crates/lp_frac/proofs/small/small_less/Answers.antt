@@ -1,9 +1,20 @@
 -- By the parts.
-use Rattle.std.proofs.Common.{rules, SFits, to_z-of_z}
+use Rattle.std.proofs.Common.{◌<◌, rules, SFits, to_z-of_z, subst, sym}
+use Rattle.std.proofs.Math.Nat.{mul-pos}
 use Rattle.std.proofs.lemmas.Option.{IfSome_then}
 use mir.Syntax.{w32, w64}
 use Rattle.lp_frac.proofs.Exact.{less_small}
 use Rattle.lp_frac.proofs.small.small_less.Goals as goal
+
+pub small_difference-requires-clause-n_size : goal.small_difference-requires-clause-n_size
+small_difference-requires-clause-n_size c =
+    let n : SFits w64 c.small_product.result = search rules in
+    simp to_z-of_z c.small_product.ensures.size
+
+pub small_difference-requires-clause-k_positive : goal.small_difference-requires-clause-k_positive
+small_difference-requires-clause-k_positive c =
+    subst (λ k. 0 < k) (sym c.small_product_den.ensures)
+    (mul-pos c.in-Some.ensures.positive c.in-Some-small.ensures.positive)
 
 pub returns : goal.returns
 returns c =
