@@ -1,8 +1,11 @@
-// What a line leads to, and the model of a text that has ended.
-ghost use Rattle.std.specs.Prelude.{◌≡◌, [], Option, Some, None, IfOk};
+// What a line leads to, and the model of a text that has ended. A draft is let go by `drop`, so that the drop of its
+// parts is proved once.
+ghost use Rattle.std.specs.Prelude.{◌≡◌, [], Option, Some, None, Ok, IfOk, IfErr};
+ghost use Rattle.spec_model.specs.Kept.{IsModel};
 ghost use Rattle.spec_mps.specs.Steps as steps;
 ghost use Rattle.mps_read.specs.Draft.{state_of, name_of};
 ghost use Rattle.mps_read.specs.Advances.{Advances};
+ghost use Rattle.mps_read.specs.Answer.{Fails};
 ghost use Rattle.mps_read.specs.Finished.{Ends, IsKept};
 ghost use Rattle.mps_read.specs.Leads.{IsReached};
 
@@ -49,39 +52,76 @@ impl Draft {
         requires { IsReached style (state_of self) }
         ensures { Advances (steps.step style (state_of self) line.now) result }
     {
-        match self.step(alloc, style, line)? {
-            Went::On => Ok(Progress::More(self)),
-            Went::ToEnd => Ok(Progress::Done(self.finish(alloc)?)),
+        match self.step(alloc, style, line) {
+            Ok(Went::On) => Ok(Progress::More(self)),
+            Ok(Went::ToEnd) => self.end(alloc),
+            Err(fault) => {
+                drop(self);
+                Err(fault)
+            }
+        }
+    }
+
+    // The text has ended.
+    fn end(self, alloc: Global) -> Result<Progress, Fault>
+        requires { IsKept (steps.finished (state_of self)) }
+        ensures { Advances (steps.finished (state_of self)) result }
+    {
+        match self.finish(alloc) {
+            Ok(model) => Ok(Progress::Done(model)),
+            Err(fault) => Err(fault),
         }
     }
 
     /// The model, if there is an objective.
-    #[tactic(auto, unfolding(spec_mps::specs::Steps::finished, spec_mps::specs::Steps::model_by))]
     fn finish(mut self, alloc: Global) -> Result<Model, Fault>
         requires { IsKept (steps.finished (state_of self)) }
         ensures { Ends (steps.finished (state_of self)) result }
     {
+        match self.take_names(alloc) {
+            Ok((name, objective)) => Ok(self.into_model(name, objective)),
+            Err(fault) => {
+                drop(self);
+                Err(fault)
+            }
+        }
+    }
+
+    // The names of the model and of its objective, if there is one. The last column is whole then.
+    #[tactic(auto, unfolding(spec_mps::specs::Steps::finished, spec_mps::specs::Steps::model_by))]
+    fn take_names(&mut self, alloc: Global) -> Result<(Name, Name), Fault>
+        ensures ended { IfOk result (λ names. steps.finished (state_of self.old)
+            ≡ Ok (steps.Done (steps.model_by (record (state_of self.new) { name = names.0; column = None }) names.1))) }
+        ensures failed { IfErr result (λ fault. Fails (steps.finished (state_of self.old)) fault) }
+    {
         self.close()?;
+        let Some(objective) = self.objective.take() else {
+            return Err(Fault::Code(Code::NoObjective));
+        };
+        let name = name_or_none(alloc, self.name.take())?;
+        Ok((name, objective))
+    }
+
+    // The model of what was read, with these names and the columns that are whole.
+    #[tactic(auto, unfolding(spec_mps::specs::Steps::model_by))]
+    fn into_model(self, name: Name, objective: Name) -> Model
+        requires { IsModel (steps.model_by (record (state_of self) { name = name; column = None }) objective) }
+        ensures { result ≡ steps.model_by (record (state_of self) { name = name; column = None }) objective }
+    {
         let Draft {
-            name,
             sense,
-            objective,
             offset,
             rows,
             columns,
             ..
         } = self;
-        let Some(objective) = objective else {
-            return Err(Fault::Code(Code::NoObjective));
-        };
-        let name = name_or_none(alloc, name)?;
-        Ok(Model::new(
+        Model::new(
             name,
             sense_or_min(sense),
             objective,
             offset,
             rows.into_vec(),
             columns.into_vec(),
-        ))
+        )
     }
 }

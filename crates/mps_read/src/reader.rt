@@ -80,7 +80,8 @@ impl Reader {
         let draft = mem::replace(&mut self.draft, Draft::new(alloc));
         match draft.advance(alloc, self.style, line) {
             Ok(Progress::More(draft)) => {
-                self.draft = draft;
+                // Not assigned, so that the old draft is dropped by a call.
+                drop(mem::replace(&mut self.draft, draft));
                 self.lines = number;
                 Feed::More
             }

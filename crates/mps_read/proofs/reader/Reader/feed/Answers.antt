@@ -13,9 +13,10 @@ invariant_of-self c =
     let went : step c.self.inside.style (state_of c.replace-draft.result) c.args.line.now
     ≡ Ok (More (state_of c.in-Ok-More.draft)) =
     rw c.in-Ok-More.field-0-is at c.in-Ok-More.ensures in
-    more_reached c.self.inside.style (state_of c.self.inside.draft)
+    subst (IsReached c.self.inside.style) (sym (ap (λ d. state_of d) c.replace.ensures.after))
+    (more_reached c.self.inside.style (state_of c.self.inside.draft)
     (state_of c.in-Ok-More.draft) c.args.line.now c.self.invariant
-    (ap (λ d. step c.self.inside.style (state_of d) c.args.line.now) (sym c.replace-draft.ensures.value) ∙ went)
+    (ap (λ d. step c.self.inside.style (state_of d) c.args.line.now) (sym c.replace-draft.ensures.value) ∙ went))
 
 pub invariant_of-self-in-Ok-Done : goal.invariant_of-self-in-Ok-Done
 invariant_of-self-in-Ok-Done c =
