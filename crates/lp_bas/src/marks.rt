@@ -240,7 +240,9 @@ impl Marks {
             }
             Reading::Ends => Ok(Some(self.basis(alloc, form)?)),
             Reading::Says(card) => {
-                self.card(model, form, &card)?;
+                let marked = self.card(model, form, &card);
+                drop(card);
+                marked?;
                 Ok(None)
             }
             Reading::Wrong(code) => Err(StepFault::Wrong(code)),
