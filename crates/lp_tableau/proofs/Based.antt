@@ -34,15 +34,14 @@ width_of f = f.cols + f.rows + f.rows
 more_by : {A : Type 0} (xs : List A) (n m : ℕ) (x : A) → length xs ≡ n → length (xs ++ replicate m x) ≡ n + m
 more_by xs n m x e = omega (arith, length-append xs (replicate m x), length-replicate m x, e)
 
-module _ (f : Form) (basis : List Status) (e : Elimination) (kept : IsForm f)
-    (all : length basis ≡ f.cols + f.rows) (places : length e.basic ≡ f.rows) where
-  pub statuses_length : length (basis_status f basis) ≡ width_of f
+module _ (f : Form) (basis : List Status) (kept : IsForm f) (all : length basis ≡ f.cols + f.rows) where
+  statuses_length : length (basis_status f basis) ≡ width_of f
   statuses_length = more_by basis (f.cols + f.rows) f.rows AtLower all
 
-  pub lowers_length : length (basis_lower f) ≡ width_of f
+  lowers_length : length (basis_lower f) ≡ width_of f
   lowers_length = more_by f.lower (f.cols + f.rows) f.rows (Some 0ℚ) kept.all_lower
 
-  pub uppers_length : length (basis_upper f) ≡ width_of f
+  uppers_length : length (basis_upper f) ≡ width_of f
   uppers_length = more_by f.upper (f.cols + f.rows) f.rows (Some 0ℚ) kept.all_upper
 
   -- as many bounds as statuses
@@ -54,6 +53,15 @@ module _ (f : Form) (basis : List Status) (e : Elimination) (kept : IsForm f)
       status ≡ basis_status f basis → length upper ≡ length status
   uppers_beside upper status u s = ap length u ∙ uppers_length ∙ sym (ap length s ∙ statuses_length)
 
+  pub values_are : (status : List Status) (lower upper : List (Option ℚ)) (value : List ℚ) →
+      status ≡ basis_status f basis → lower ≡ basis_lower f → upper ≡ basis_upper f
+      → value ≡ made (length status) (stand_in status lower upper) → value ≡ made (width_of f) (basis_value f basis)
+  values_are status lower upper value s l u v =
+      v ∙ ap₂ (λ n g. made n g) (ap length s ∙ statuses_length) (ap (λ status. stand_in status lower upper) s
+      ∙ ap₂ (λ lower upper. stand_in (basis_status f basis) lower upper) l u)
+
+module _ (f : Form) (basis : List Status) (e : Elimination) (kept : IsForm f)
+    (all : length basis ≡ f.cols + f.rows) (places : length e.basic ≡ f.rows) where
   first_inside : (o : Option ℕ) → 0 < width_of f → IfSome o (λ k. k < width_of f) → or_first o < width_of f
   first_inside None l h = l
   first_inside (Some k) l h = h
@@ -72,28 +80,20 @@ module _ (f : Form) (basis : List Status) (e : Elimination) (kept : IsForm f)
         (omega (arith, l, places)) inside));
     all_values = length-made (width_of f) (basis_value f basis);
     all_reduced = length-replicate (width_of f) 0ℚ;
-    all_statuses = statuses_length;
-    all_lower = lowers_length;
-    all_upper = uppers_length;
+    all_statuses = statuses_length f basis kept all;
+    all_lower = lowers_length f basis kept all;
+    all_upper = uppers_length f basis kept all;
   }
-
-  values_are : (status : List Status) (lower upper : List (Option ℚ)) (value : List ℚ) →
-      status ≡ basis_status f basis → lower ≡ basis_lower f → upper ≡ basis_upper f
-      → value ≡ made (length status) (stand_in status lower upper) → value ≡ made (width_of f) (basis_value f basis)
-  values_are status lower upper value s l u v =
-      v ∙ ap₂ (λ n g. made n g) (ap length s ∙ statuses_length) (ap (λ status. stand_in status lower upper) s
-      ∙ ap₂ (λ lower upper. stand_in (basis_status f basis) lower upper) l u)
 
   pub based_is : (rows cols : ℕ) (basic : List ℕ) (value reduced : List ℚ)
       (status : List Status) (lower upper : List (Option ℚ))
       → rows ≡ f.rows → cols ≡ f.cols → basic ≡ made (length e.basic) (λ i. or_first (get_or e.basic i None)) →
-      value ≡ made (length status) (stand_in status lower upper) → reduced ≡ replicate (width_of f) 0ℚ
+      value ≡ made (width_of f) (basis_value f basis) → reduced ≡ replicate (width_of f) 0ℚ
       → status ≡ basis_status f basis → lower ≡ basis_lower f → upper ≡ basis_upper f →
       tableau_of rows cols e.rows basic value reduced status lower upper ≡ with_basis f basis e
   based_is rows cols basic value reduced status lower upper r c b v d s l u =
-      let w = values_are status lower upper value s l u v in
       let a = b ∙ ap (λ n. made n (λ i. or_first (get_or e.basic i None))) places in
-      rw (r, c, a, w, d, s, l, u) refl
+      rw (r, c, a, v, d, s, l, u) refl
 
 -- ---- the values of the basic columns
 module _ (limit : Option ℕ) (t : Tableau) where

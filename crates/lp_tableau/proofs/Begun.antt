@@ -7,7 +7,7 @@ use Rattle.std.proofs.Math.Seq.{take-length}
 use Rattle.std.specs.Prelude.{All}
 use Rattle.std.proofs.lemmas.Bool.{cases_eq, eq-eqb, le-ltb, lt-ltb}
 use Rattle.std.proofs.lemmas.List.{get_or-map, length-append, length-drop, length-map}
-use Rattle.std.proofs.lemmas.List.{length-replicate, take-append-le, drop-append-le}
+use Rattle.std.proofs.lemmas.List.{length-replicate, get_or-replicate, take-append-le, drop-append-le}
 use Rattle.spec_exact.specs.Fraction.{ℚ, 0ℚ, 1ℚ}
 use Rattle.spec_exact.proofs.Ruleset.{neg-neg, neg-zero}
 use Rattle.spec_exact.specs.declared.past.Past.{Past}
@@ -19,6 +19,7 @@ use Rattle.spec_simplex.specs.Form.{Form, IsForm, form_entry}
 use Rattle.spec_simplex.specs.Tableau.{Tableau, IsTableauShape}
 use Rattle.spec_simplex.specs.Start.{row_start, first_costs, priced_run, with_reduced, start_of, begun}
 use Rattle.spec_simplex.specs.Start.{start_row, start_basic, start_entry, start_value, start_status, start_at}
+use Rattle.spec_simplex.specs.Eliminate.{equation}
 use Rattle.spec_simplex.specs.Start.{is_wanting, artificial_upper, one_at, logical_sign, structural_entry}
 use Rattle.spec_exact.proofs.Stops.{length-made, All-made, get_or-made}
 use Rattle.lp_tableau.specs.Grid.{rows_of, flat, IsBlock}
@@ -124,6 +125,14 @@ made_same : {A : Type 0} (n : ℕ) (f g : ℕ → A) → ((i : ℕ) → i < n �
 made_same zero f g h = refl
 made_same (suc n) f g h =
     ap₂ (λ xs x. xs ++ x ∷ []) (made_same n f g (λ i l. h i (omega (arith, l)))) (h n (omega arith))
+
+-- where each row is within its limits
+pub equations_are : (f : Form) (starts : List (RowStart ℚ)) → starts ≡ replicate f.rows (Within 0ℚ) →
+    made f.rows (start_row f starts) ≡ made f.rows (equation f)
+equations_are f starts e =
+    made_same f.rows (start_row f starts) (equation f)
+    (λ i l. ap (λ s. made (width_of f) (start_entry f s i))
+    (ap (λ xs. start_at xs i) e ∙ get_or-replicate f.rows i (Within 0ℚ) (Within 0ℚ) l))
 
 append_none : (xs : List ℚ) → xs ++ [] ≡ xs
 append_none [] = refl

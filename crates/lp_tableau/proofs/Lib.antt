@@ -2,6 +2,7 @@ pub mod Begun
 pub mod Budget
 pub mod Done
 pub mod Flips
+pub mod Lists
 pub mod Moved
 pub mod Pivots
 pub mod Priced

@@ -3,6 +3,7 @@ ghost use Rattle.std.specs.Prelude.{◌≡◌, ◌<◌, ◌+◌, ◌++◌, IfOk,
 ghost use Rattle.spec_exact.specs.Fraction.{0ℚ};
 ghost use Rattle.spec_pivot.specs.declared.status.Status.TheVariants.{AtLower};
 ghost use Rattle.spec_exact.specs.Run.{made, refused_as};
+ghost use Rattle.spec_simplex.specs.Form.{IsForm};
 ghost use Rattle.spec_simplex.specs.Tableau.{all_columns};
 ghost use Rattle.spec_simplex.specs.declared.ends.StartStop.TheVariants as start;
 ghost use Rattle.spec_simplex.specs.Eliminate as elimination;
@@ -15,7 +16,7 @@ use crate::coefficients::coefficients;
 use crate::solve::eliminate;
 use crate::start::{lowers, rows, width, zeros};
 use crate::steps::stand;
-use crate::tableau::Tableau;
+use crate::tableau::{ColumnLists, Tableau};
 use crate::twins::Twins;
 use lp_form::{Basis, BasisStop, Form, Status, is_basic};
 use lp_frac::{Frac, Past, less_product, zero};
@@ -99,6 +100,28 @@ fn values(
     Ok(values)
 }
 
+// The lists of the tableau by columns, without the values of basic columns and without reduced costs.
+fn lists(alloc: Global, form: &Form, basis: &Basis) -> Result<ColumnLists, AllocError>
+    requires kept { IsForm form.now }
+    requires statuses { length basis.now ≡ form.now.cols + form.now.rows }
+    ensures value { IfOk result (λ l.
+        l.value.items ≡ made (form.now.cols + form.now.rows + form.now.rows) (elimination.basis_value form.now basis.now)) }
+    ensures reduced { IfOk result (λ l. l.reduced.items ≡ replicate (form.now.cols + form.now.rows + form.now.rows) 0ℚ) }
+    ensures status { IfOk result (λ l. l.status.items ≡ elimination.basis_status form.now basis.now) }
+    ensures lower { IfOk result (λ l. l.lower.items ≡ elimination.basis_lower form.now) }
+    ensures upper { IfOk result (λ l. l.upper.items ≡ elimination.basis_upper form.now) }
+{
+    let status = statuses(alloc, form, basis)?;
+    let (lower, upper) = (lowers(alloc, form)?, uppers(alloc, form)?);
+    Ok(ColumnLists {
+        value: values(alloc, &status, &lower, &upper)?,
+        reduced: zeros(alloc, width(form) as usize)?,
+        status,
+        lower,
+        upper,
+    })
+}
+
 // The tableau of these rows without the values of basic columns and without reduced costs.
 fn begun(
     alloc: Global,
@@ -115,20 +138,9 @@ fn begun(
         (λ t. t ≡ elimination.with_basis form.now basis.now (record { rows = grid; basic = basic.now })) }
 {
     let (height, cols) = (form.rows(), form.cols());
-    let status = statuses(alloc, form, basis)?;
-    let (lower, upper) = (lowers(alloc, form)?, uppers(alloc, form)?);
-    let value = values(alloc, &status, &lower, &upper)?;
-    Ok(Tableau {
-        rows: height,
-        cols,
-        grid,
-        basic: columns(alloc, basic)?,
-        value,
-        reduced: zeros(alloc, width(form) as usize)?,
-        status,
-        lower,
-        upper,
-    })
+    let basic = columns(alloc, basic)?;
+    let lists = lists(alloc, form, basis)?;
+    Ok(Tableau::from_parts(height, cols, grid, basic, lists))
 }
 
 impl Tableau {

@@ -14,7 +14,7 @@ use crate::grid::Grid;
 pub use crate::row_starts::RowStart;
 use crate::row_starts::{first_status, first_value, row_starts};
 use crate::steps::or_zero;
-use crate::tableau::Tableau;
+use crate::tableau::{ColumnLists, Tableau};
 use crate::twins::Twins;
 use lp_form::{Form, Status};
 use lp_frac::{Frac, neg, one, zero};
@@ -338,6 +338,26 @@ pub fn first_costs(alloc: Global, form: &Form, starts: &[RowStart]) -> Result<Ve
     Ok(costs)
 }
 
+// The lists of the tableau by columns, without reduced costs.
+fn lists(alloc: Global, form: &Form, starts: &[RowStart]) -> Result<ColumnLists, AllocError>
+    requires { length starts.now ≡ form.now.rows }
+    ensures value { IfOk result (λ l.
+        l.value.items ≡ made (form.now.cols + form.now.rows + form.now.rows) (starting.start_value form.now starts.now)) }
+    ensures reduced { IfOk result (λ l. l.reduced.items ≡ replicate (form.now.cols + form.now.rows + form.now.rows) 0ℚ) }
+    ensures status { IfOk result (λ l.
+        l.status.items ≡ made (form.now.cols + form.now.rows + form.now.rows) (starting.start_status form.now starts.now)) }
+    ensures lower { IfOk result (λ l. l.lower.items ≡ form.now.lower ++ replicate form.now.rows (Some 0ℚ)) }
+    ensures upper { IfOk result (λ l. l.upper.items ≡ form.now.upper ++ map starting.artificial_upper starts.now) }
+{
+    Ok(ColumnLists {
+        value: values(alloc, form, starts)?,
+        reduced: zeros(alloc, width(form) as usize)?,
+        status: statuses(alloc, form, starts)?,
+        lower: lowers(alloc, form)?,
+        upper: uppers(alloc, form, starts)?,
+    })
+}
+
 // The tableau without reduced costs.
 fn begun(
     alloc: Global,
@@ -349,18 +369,11 @@ fn begun(
     requires starts { length starts.now ≡ form.now.rows }
     ensures { IfOk result (λ t. t ≡ starting.begun form.now starts.now) }
 {
-    let (height, width) = (form.rows(), width(form) as usize);
-    Ok(Tableau {
-        rows: height,
-        cols: form.cols(),
-        grid: rows(alloc, form, coefficients, starts)?,
-        basic: basics(alloc, form, starts)?,
-        value: values(alloc, form, starts)?,
-        reduced: zeros(alloc, width)?,
-        status: statuses(alloc, form, starts)?,
-        lower: lowers(alloc, form)?,
-        upper: uppers(alloc, form, starts)?,
-    })
+    let (height, cols) = (form.rows(), form.cols());
+    let basic = basics(alloc, form, starts)?;
+    let lists = lists(alloc, form, starts)?;
+    let grid = rows(alloc, form, coefficients, starts)?;
+    Ok(Tableau::from_parts(height, cols, grid, basic, lists))
 }
 
 /// How all rows begin, in order, with each structural column at its first place.

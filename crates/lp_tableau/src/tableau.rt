@@ -2,6 +2,7 @@
 ghost use Rattle.std.specs.Prelude.{◌≡◌, ◌<◌, ◌≤◌};
 ghost use Rattle.spec_simplex.specs.Tableau.{IsTableauShape, all_columns, entry_at, basic_at};
 ghost use Rattle.spec_simplex.specs.Tableau.{value_at, reduced_at, status_at, lower_at, upper_at};
+ghost use Rattle.lp_tableau.specs.Parts.{tableau_of};
 
 use crate::twins::Twins;
 use lp_form::Status;
@@ -38,7 +39,42 @@ impl Model for Tableau {
         t.reduced.items t.status.items t.lower.items t.upper.items) };
 }
 
+// What a tableau has for each column.
+#[derive(Drop)]
+pub(crate) struct ColumnLists {
+    pub(crate) value: Vec<Frac>,
+    pub(crate) reduced: Vec<Frac>,
+    pub(crate) status: Vec<Status>,
+    pub(crate) lower: Vec<Option<Frac>>,
+    pub(crate) upper: Vec<Option<Frac>>,
+}
+
 impl Tableau {
+    pub(crate) fn from_parts(
+        rows: u32,
+        cols: u32,
+        grid: Twins,
+        basic: Vec<u32>,
+        lists: ColumnLists,
+    ) -> Tableau
+        requires { IsTableauShape (tableau_of rows cols grid basic.items lists.value.items lists.reduced.items
+            lists.status.items lists.lower.items lists.upper.items) }
+        ensures { result ≡ tableau_of rows cols grid basic.items lists.value.items lists.reduced.items
+            lists.status.items lists.lower.items lists.upper.items }
+    {
+        Tableau {
+            rows,
+            cols,
+            grid,
+            basic,
+            value: lists.value,
+            reduced: lists.reduced,
+            status: lists.status,
+            lower: lists.lower,
+            upper: lists.upper,
+        }
+    }
+
     /// How many positions there are.
     pub fn rows(&self) -> u32
         ensures value { result ≡ self.now.rows }
