@@ -12,7 +12,7 @@ use Rattle.spec_server.specs.declared.command.Command.TheVariants as command
 use Rattle.spec_server.specs.Addressing.{addressed_in}
 use Rattle.spec_server.specs.Command.{ExactCommand}
 use Rattle.spec_server.specs.Machine.{ExactAsk}
-use Rattle.spec_server.specs.Said.{Step, On, Says, follow, said_by}
+use Rattle.spec_server.specs.Said.{said_by}
 use Rattle.spec_server.specs.Script.{Pending, Between, Text, Certificate, Ending, Ended, Cut, Over, ending_by}
 use Rattle.spec_server.specs.Script.{ends_text, ends_certificate}
 use Rattle.spec_server.specs.Script.{begun, begun_by, asks_of_command, asks_by, asks_of_line, pending_after_line}
@@ -27,7 +27,7 @@ use Rattle.lp_line.specs.declared.script.ScriptStage.TheVariants as stage
 use Rattle.lp_line.specs.declared.taking.Taken.{Taken}
 use Rattle.lp_line.specs.declared.taking.Taken.TheVariants as taken
 use Rattle.lp_line.specs.Hearing.{IsGiven, AreGiven, HearsAt, HearsUntil, HearsAtEnd, HearsNext}
-use Rattle.lp_line.specs.Script.{taken_at, behind_asks, script_step, ScriptSays}
+use Rattle.lp_line.specs.Script.{taken_at, script_step, ScriptSays}
 use Rattle.lp_line.specs.Takes.{TakesNone, TakesNext, TakesMore}
 use Rattle.lp_line.proofs.ScriptTurns.{behind_step}
 

@@ -14,13 +14,12 @@ use Rattle.spec_server.specs.declared.addressing.Addressed.{Addressed}
 use Rattle.spec_server.specs.declared.addressing.Addressing.{Addressing}
 use Rattle.spec_server.specs.declared.asks.Asked.{Asked}
 use Rattle.spec_server.specs.Addressing.{addressed_in}
-use Rattle.spec_server.specs.Command.{ExactCommand}
 use Rattle.spec_server.specs.Machine.{ExactAsk}
-use Rattle.spec_server.specs.Said.{Step, On, Says, follow, said_by}
+use Rattle.spec_server.specs.Said.{Step, follow, said_by}
 use Rattle.spec_server.specs.SolveOut.{TextSaid, behind_line, text_step}
 use Rattle.spec_server.specs.Script.{Pending, Between, Text, Certificate, ends_text, ends_certificate, ask_of_verdict}
 use Rattle.spec_server.specs.Script.{ask_of_judgement}
-use Rattle.spec_server.specs.Script.{begun, begun_by, asks_of_command, asks_by, pending_after_line, asks_of_line}
+use Rattle.spec_server.specs.Script.{begun_by, asks_by, pending_after_line, asks_of_line}
 use Rattle.mps_read.specs.TextRead.{TextRead}
 use Rattle.lp_check.specs.CertificateRead as certificate_reading
 use Rattle.lp_line.specs.declared.body.Body.{Body}

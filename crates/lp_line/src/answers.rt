@@ -20,6 +20,19 @@ pub(crate) fn push_number(alloc: Global, number: u64, to: &mut Bytes) -> Result<
     to.extend(digits.as_bytes())
 }
 
+/// Writes a word and a number after what is there.
+pub(crate) fn push_numbered(
+    alloc: Global,
+    word: &[u8],
+    number: u64,
+    to: &mut Bytes,
+) -> Result<(), AllocError>
+    ensures { OnOk result (to.new ≡ to.old ++ (word.now ++ decimal number)) }
+{
+    to.extend(word)?;
+    push_number(alloc, number, to)
+}
+
 fn op_name(op: Op) -> &'static [u8]
     ensures { result.now ≡ output.op_text op }
 {
@@ -69,10 +82,7 @@ pub(crate) fn push_verdict(
             to.extend(b"YES ")?;
             push_known(alloc, known, to)
         }
-        Verdict::No(condition) => {
-            to.extend(b"NO ")?;
-            push_number(alloc, u64::from(*condition), to)
-        }
+        Verdict::No(condition) => push_numbered(alloc, b"NO ", u64::from(*condition), to),
         Verdict::Past(past) => push_past(alloc, past, to),
     }
 }
@@ -84,10 +94,7 @@ pub(crate) fn push_answer(alloc: Global, answer: &Answer, to: &mut Bytes) -> Res
     match answer {
         Answer::Known(known) => push_known(alloc, known, to),
         Answer::Past(past) => push_past(alloc, past, to),
-        Answer::Spent(budget) => {
-            to.extend(b"SPENT ")?;
-            push_number(alloc, *budget, to)
-        }
+        Answer::Spent(budget) => push_numbered(alloc, b"SPENT ", *budget, to),
     }
 }
 
@@ -108,13 +115,9 @@ fn push_how(alloc: Global, how: How, to: &mut Bytes) -> Result<(), AllocError>
 {
     match how {
         How::Cold => to.extend(b"COLD"),
-        How::Basis(place) => {
-            to.extend(b"BASIS ")?;
-            push_number(alloc, u64::from(place), to)
-        }
+        How::Basis(place) => push_numbered(alloc, b"BASIS ", u64::from(place), to),
         How::Fell(place, fall) => {
-            to.extend(b"FELL ")?;
-            push_number(alloc, u64::from(place), to)?;
+            push_numbered(alloc, b"FELL ", u64::from(place), to)?;
             to.extend(b" ")?;
             to.extend(fall_name(fall))
         }
@@ -125,18 +128,9 @@ fn push_put(alloc: Global, put: Put, to: &mut Bytes) -> Result<(), AllocError>
     ensures { OnOk result (to.new ≡ to.old ++ output.put_text put) }
 {
     match put {
-        Put::Published(place) => {
-            to.extend(b"PUBLISHED ")?;
-            push_number(alloc, u64::from(place), to)
-        }
-        Put::Raced(claimed) => {
-            to.extend(b"RACED ")?;
-            push_number(alloc, u64::from(claimed), to)
-        }
-        Put::Full(claimed) => {
-            to.extend(b"FULL ")?;
-            push_number(alloc, u64::from(claimed), to)
-        }
+        Put::Published(place) => push_numbered(alloc, b"PUBLISHED ", u64::from(place), to),
+        Put::Raced(claimed) => push_numbered(alloc, b"RACED ", u64::from(claimed), to),
+        Put::Full(claimed) => push_numbered(alloc, b"FULL ", u64::from(claimed), to),
     }
 }
 

@@ -5,7 +5,7 @@ ghost use Rattle.spec_server.specs.Output as output;
 ghost use Rattle.spec_server.specs.BasisOut.{route_text, basis_fault_line};
 ghost use Rattle.spec_server.specs.declared.basis.BasisFault.TheVariants as faults;
 
-use crate::answers::{fall_name, push_number, push_pivots};
+use crate::answers::{fall_name, push_numbered, push_pivots};
 use lp_base::Bytes;
 use spec_bas::{BasCode, BasFault};
 use spec_warm::Route;
@@ -60,9 +60,7 @@ fn code_number(code: BasCode) -> u64
 pub fn print_basis_fault(alloc: Global, fault: BasFault, to: &mut Bytes) -> Result<(), AllocError>
     ensures { OnOk result (to.new ≡ to.old ++ basis_fault_line (faults.File fault)) }
 {
-    to.extend(b"ERR 17 BAS ")?;
-    push_number(alloc, u64::from(fault.line), to)?;
-    to.extend(b" B")?;
-    push_number(alloc, code_number(fault.code), to)?;
+    push_numbered(alloc, b"ERR 17 BAS ", u64::from(fault.line), to)?;
+    push_numbered(alloc, b" B", code_number(fault.code), to)?;
     to.extend(b"\n")
 }

@@ -60,10 +60,14 @@ pub fn hear<S: Source, T: Stage>(
     loop {
         match lines.next(source)? {
             Line::Over => return Ok(Heard::Over),
-            line => match stage.advance(alloc, &line)? {
-                Step::On(next) => stage = next,
-                Step::Says(said) => return Ok(Heard::Says(said)),
-            },
+            line => {
+                let step = stage.advance(alloc, &line);
+                drop(line);
+                match step? {
+                    Step::On(next) => stage = next,
+                    Step::Says(said) => return Ok(Heard::Says(said)),
+                }
+            }
         }
     }
 }

@@ -4,7 +4,7 @@ ghost use Rattle.spec_text.specs.Lines.{IsPrefixOf};
 ghost use Rattle.spec_server.specs.CheckOut.{check_line};
 ghost use Rattle.spec_server.specs.Output as output;
 
-use crate::answers::{push_answer, push_found, push_number, push_verdict};
+use crate::answers::{push_answer, push_found, push_number, push_numbered, push_verdict};
 use crate::asks::Reply;
 use crate::refusals::push_refusal;
 use lp_base::{Bytes, Texts};
@@ -26,21 +26,15 @@ fn push_reply(alloc: Global, reply: &Reply, to: &mut Bytes) -> Result<(), AllocE
 {
     match reply {
         Reply::Loaded(rows, columns) => {
-            to.extend(b"LOADED ")?;
-            push_number(alloc, u64::from(*rows), to)?;
-            to.extend(b" ")?;
-            push_number(alloc, u64::from(*columns), to)
+            push_numbered(alloc, b"LOADED ", u64::from(*rows), to)?;
+            push_numbered(alloc, b" ", u64::from(*columns), to)
         }
         Reply::Written(text) => {
-            to.extend(b"TEXT ")?;
-            push_number(alloc, count_of_lines(text.as_slice()) as u64, to)
+            push_numbered(alloc, b"TEXT ", count_of_lines(text.as_slice()) as u64, to)
         }
         Reply::Done => to.extend(b"OK"),
         Reply::Answered(answer) => push_answer(alloc, answer, to),
-        Reply::Certified(lines) => {
-            to.extend(b"CERT ")?;
-            push_number(alloc, lines.len() as u64, to)
-        }
+        Reply::Certified(lines) => push_numbered(alloc, b"CERT ", lines.len() as u64, to),
         Reply::Found {
             how,
             pivots,

@@ -1,9 +1,9 @@
 // Refusals as they are written.
-ghost use Rattle.std.specs.Prelude.{◌≡◌, ◌++◌, OnOk};
+ghost use Rattle.std.specs.Prelude.{◌≡◌, ◌++◌, OnOk, codes, decimal};
 ghost use Rattle.spec_mps.specs.Checks as checks;
 ghost use Rattle.spec_server.specs.Output as output;
 
-use crate::answers::push_number;
+use crate::answers::push_numbered;
 use crate::asks::Refusal;
 use lp_base::Bytes;
 use lp_edit::Which;
@@ -53,10 +53,8 @@ fn code_number(code: Code) -> u64
 fn push_fault(alloc: Global, fault: MpsFault, to: &mut Bytes) -> Result<(), AllocError>
     ensures { OnOk result (to.new ≡ to.old ++ output.fault_text fault) }
 {
-    to.extend(b"MPS ")?;
-    push_number(alloc, u64::from(fault.line), to)?;
-    to.extend(b" M")?;
-    push_number(alloc, code_number(fault.code), to)
+    push_numbered(alloc, b"MPS ", u64::from(fault.line), to)?;
+    push_numbered(alloc, b" M", code_number(fault.code), to)
 }
 
 // What is too wide for fixed form.
@@ -86,6 +84,23 @@ fn which_name(which: Which) -> &'static [u8]
     }
 }
 
+fn push_limit(alloc: Global, which: Which, count: u32, to: &mut Bytes) -> Result<(), AllocError>
+    ensures { OnOk result (to.new ≡ to.old ++
+        (codes "7 LIMIT " ++ output.which_text which ++ codes " " ++ decimal count)) }
+{
+    to.extend(b"7 LIMIT ")?;
+    to.extend(which_name(which))?;
+    push_numbered(alloc, b" ", u64::from(count), to)
+}
+
+// A word, and the name of which it speaks.
+fn push_named(word: &[u8], name: &[u8], to: &mut Bytes) -> Result<(), AllocError>
+    ensures { OnOk result (to.new ≡ to.old ++ (word.now ++ name.now)) }
+{
+    to.extend(word)?;
+    to.extend(name)
+}
+
 /// Writes a refusal after what is there.
 pub(crate) fn push_refusal(
     alloc: Global,
@@ -97,20 +112,9 @@ pub(crate) fn push_refusal(
     match refusal {
         Refusal::Bad(fault) => to.extend(line_fault_name(*fault)),
         Refusal::NoModel => to.extend(b"4 NOMODEL"),
-        Refusal::Name(name) => {
-            to.extend(b"5 NAME ")?;
-            to.extend(name.as_slice())
-        }
-        Refusal::Taken(name) => {
-            to.extend(b"6 TAKEN ")?;
-            to.extend(name.as_slice())
-        }
-        Refusal::Limit(which, count) => {
-            to.extend(b"7 LIMIT ")?;
-            to.extend(which_name(*which))?;
-            to.extend(b" ")?;
-            push_number(alloc, u64::from(*count), to)
-        }
+        Refusal::Name(name) => push_named(b"5 NAME ", name.as_slice(), to),
+        Refusal::Taken(name) => push_named(b"6 TAKEN ", name.as_slice(), to),
+        Refusal::Limit(which, count) => push_limit(alloc, *which, *count, to),
         Refusal::BadName => to.extend(b"13 BADNAME"),
         Refusal::NoAnswer => to.extend(b"9 NOANSWER"),
         Refusal::Repeated(name) => {
@@ -121,10 +125,7 @@ pub(crate) fn push_refusal(
             to.extend(b"8 ")?;
             push_fault(alloc, *fault, to)
         }
-        Refusal::Unfit(line) => {
-            to.extend(b"14 CERT ")?;
-            push_number(alloc, u64::from(*line), to)
-        }
+        Refusal::Unfit(line) => push_numbered(alloc, b"14 CERT ", u64::from(*line), to),
         Refusal::FixedWide(item) => {
             to.extend(b"10 ")?;
             push_item(item, to)

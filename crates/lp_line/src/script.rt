@@ -1,4 +1,5 @@
 // A script, line by line.
+// What owns much is let go by a call of `drop`: one step of a proof, where the end of a scope is one for each part.
 ghost use Rattle.std.specs.Prelude.{◌≡◌, ◌≢◌, ◌<◌, ◌+◌, ◌-◌, ◌^◌, IfOk};
 ghost use Rattle.spec_text.specs.declared.line.Line.TheVariants.{End};
 ghost use Rattle.spec_server.specs.Script.{ask_of_verdict, ask_of_judgement};
@@ -50,7 +51,11 @@ impl Stage for ScriptStage {
 
     fn advance(self, alloc: Global, line: &Line) -> Result<Step<ScriptStage, Taken>, AllocError> {
         match line {
-            Line::End => Ok(Step::Says(end_of(&self))),
+            Line::End => {
+                let end = end_of(&self);
+                drop(self);
+                Ok(Step::Says(end))
+            }
             Line::Text(_) | Line::Long(_) | Line::Over => line_in(alloc, self, line),
         }
     }
@@ -153,7 +158,10 @@ fn line_of_text(
     requires given { line.now ≢ End }
     ensures { IfOk result (Leads ScriptSays lines_in (stage.Text session body) line.now) }
 {
-    let ends = ends_text(alloc, line)?;
+    let Ok(ends) = ends_text(alloc, line) else {
+        drop(body);
+        return Err(AllocError);
+    };
     let body = pass(alloc, body, line)?;
     if !ends {
         return Ok(Step::On(ScriptStage::Text { session, body }));
@@ -173,7 +181,10 @@ fn line_of_certificate(
     requires given { line.now ≢ End }
     ensures { IfOk result (Leads ScriptSays lines_in (stage.Certificate session body) line.now) }
 {
-    let ends = ends_certificate(alloc, line)?;
+    let Ok(ends) = ends_certificate(alloc, line) else {
+        drop(body);
+        return Err(AllocError);
+    };
     let body = pass(alloc, body, line)?;
     if !ends {
         return Ok(Step::On(ScriptStage::Certificate { session, body }));
