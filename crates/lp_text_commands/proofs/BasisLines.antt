@@ -1,12 +1,11 @@
 -- Where the lines of a text and of a basis file after it lead.
-use Rattle.std.proofs.Common.{◌≡◌, ℕ, ◌+◌, ◌≤◌, Some, Result, Ok, Err, List, arith, ap, sym, ◌∙◌, refl, subst}
+use Rattle.std.proofs.Common.{◌≡◌, ℕ, ◌+◌, ◌≤◌, Some, Result, Ok, Err, List, arith, refl, subst}
 use Rattle.std.specs.Prelude.{IfOk}
 use Rattle.spec_text.specs.declared.line.Line.{Line}
 use Rattle.spec_text.specs.declared.line.Line.TheVariants.{End}
 use Rattle.spec_exact.specs.Fraction.{ℚ}
 use Rattle.spec_model.specs.Model.{Model}
 use Rattle.spec_mps.specs.declared.style.Style.{Style}
-use Rattle.spec_mps.specs.Reader.{State}
 use Rattle.spec_mps.specs.Steps as text
 use Rattle.spec_simplex.specs.declared.ends.FormFault.{FormFault}
 use Rattle.spec_simplex.specs.Form.{Form, form_of}
@@ -70,15 +69,3 @@ pub leads_from : {E : Type 0} (self at : BasisStage) (line : Line (List ℕ))
     self ≡ at → IfOk result (λ made. step_of made ≡ basis_step (stage_of at) line) →
     IfOk result (Leads BasisSays count_of self line)
 leads_from = on.leads_from stage_of basis_step count_of lines_in count_is step_counts end_says
-
--- ---- where a line leads, by what was made of it
-
-module _ {E : Type 0} (m : Model) (made : Result (Step BasisStage reading.BasisSaid) E) where
-  -- the text has ended
-  pub behind_done : (style : Style) (s : State) (n : ℕ) (line : Line (List ℕ)) →
-      text.step style s line ≡ Ok (text.Done m) →
-      IfOk made (λ made. step_of made ≡ reading.begun_file m (form_of (Some number_limit) m)) →
-      IfOk made (λ made. step_of made ≡ basis_step (reading.InText style s n) line)
-  unfolding basis_step
-  behind_done style s n line e =
-      subst (λ o. IfOk made (λ made. step_of made ≡ reading.behind_text style (n + 1) o)) (sym e)

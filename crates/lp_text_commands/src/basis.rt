@@ -1,5 +1,5 @@
 // The basis file that follows the text of its model.
-ghost use Rattle.std.specs.Prelude.{◌≡◌, ◌<◌, ◌-◌, ◌^◌, IfOk, Some, refl};
+ghost use Rattle.std.specs.Prelude.{◌≡◌, ◌<◌, ◌-◌, ◌^◌, IfOk, Ok, Some, refl};
 ghost use Rattle.spec_simplex.specs.Form.{form_of};
 ghost use Rattle.spec_server.specs.Answers.{number_limit};
 ghost use Rattle.spec_server.specs.BasisOut.{InText, InFile, begun_file, basis_step};
@@ -8,6 +8,7 @@ ghost use Rattle.lp_text_commands.specs.Basis.{step_of, count_of, BasisSays};
 use crate::basis_file::FileStage;
 use lp_bas::{BasFeed, BasReader};
 use lp_base::Line;
+use lp_form::Form;
 use lp_frac::Stop;
 use lp_line::{Stage, Step};
 use lp_model::Model;
@@ -51,16 +52,31 @@ fn begin_file(alloc: Global, model: Model) -> Result<BasisStep, AllocError>
     ensures { IfOk result (λ step. step_of step ≡ begun_file model (form_of (Some number_limit) model)) }
 {
     match form(alloc, &model) {
-        Ok(form) => {
-            let reader = BasReader::new(alloc, &form)?;
-            Ok(Step::On(BasisStage::File(FileStage {
-                model,
-                form,
-                reader,
-            })))
-        }
+        Ok(form) => open_file(alloc, model, form),
         Err(Stop::Cause(_) | Stop::Past(_)) => Ok(Step::Says(Ok(Handed { model, start: None }))),
-        Err(Stop::NoMemory) => Err(AllocError),
+        Err(Stop::NoMemory) => {
+            drop(model);
+            Err(AllocError)
+        }
+    }
+}
+
+// At the start of a file.
+fn open_file(alloc: Global, model: Model, form: Form) -> Result<BasisStep, AllocError>
+    requires { form_of (Some number_limit) model ≡ Ok form }
+    ensures { IfOk result (λ step. step_of step ≡ begun_file model (Ok form)) }
+{
+    match BasReader::new(alloc, &form) {
+        Ok(reader) => Ok(Step::On(BasisStage::File(FileStage {
+            model,
+            form,
+            reader,
+        }))),
+        Err(AllocError) => {
+            drop(form);
+            drop(model);
+            Err(AllocError)
+        }
     }
 }
 
@@ -70,12 +86,14 @@ fn text_line(alloc: Global, mut reader: Reader, line: &Line) -> Result<BasisStep
     requires { reader.lines < 2 ^ 32 - 1 }
     ensures { IfOk result (λ step. step_of step ≡ basis_step (InText reader.style reader.state reader.lines) line.now) }
 {
-    match reader.feed(alloc, line) {
-        Feed::More => Ok(Step::On(BasisStage::Text(reader))),
+    let step = match reader.feed(alloc, line) {
+        Feed::More => return Ok(Step::On(BasisStage::Text(reader))),
         Feed::Done(model) => begin_file(alloc, model),
         Feed::Refused(fault) => Ok(Step::Says(Err(BasisFault::Text(fault)))),
         Feed::NoMemory => Err(AllocError),
-    }
+    };
+    drop(reader);
+    step
 }
 
 // A line of the file.
@@ -90,17 +108,22 @@ fn file_line(alloc: Global, file: FileStage, line: &Line) -> Result<BasisStep, A
         form,
         mut reader,
     } = file;
-    match reader.feed(alloc, &model, &form, line) {
-        BasFeed::More => Ok(Step::On(BasisStage::File(FileStage {
+    let step = match reader.feed(alloc, &model, &form, line) {
+        BasFeed::More => return Ok(Step::On(BasisStage::File(FileStage {
             model,
             form,
             reader,
         }))),
         BasFeed::Done(basis) => {
+            drop(reader);
             let start = Some(Start { form, basis });
-            Ok(Step::Says(Ok(Handed { model, start })))
+            return Ok(Step::Says(Ok(Handed { model, start })));
         }
         BasFeed::Refused(fault) => Ok(Step::Says(Err(BasisFault::File(fault)))),
         BasFeed::NoMemory => Err(AllocError),
-    }
+    };
+    drop(model);
+    drop(form);
+    drop(reader);
+    step
 }

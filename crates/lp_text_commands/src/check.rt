@@ -1,12 +1,14 @@
 // The check of a certificate that follows the text of its model.
 ghost use Rattle.std.specs.Prelude.{◌≡◌, ◌<◌, ◌-◌, ◌^◌, IfOk, refl};
-ghost use Rattle.spec_server.specs.CheckOut.{InText, InCertificate, check_step, check_code, CheckOut};
+ghost use Rattle.spec_check.specs.Settle.{certificate_for};
+ghost use Rattle.spec_server.specs.CheckOut.{InText, InCertificate, Says, check_step, check_code, CheckOut};
+ghost use Rattle.spec_server.specs.Machine as machine;
 ghost use Rattle.lp_text_commands.specs.Stage.{step_of, count_of, CheckSays};
 
 use crate::exit_status::ExitStatus;
 use crate::hearing::Output;
 use lp_base::{Bytes, Line};
-use lp_check::{CertFeed, CertReader};
+use lp_check::{CertFeed, CertReader, RawCertificate};
 use lp_line::{Refusal, Reply, Stage, Step, print_said};
 use lp_model::Model;
 use lp_session::verdict_on;
@@ -47,8 +49,11 @@ impl Output for Reply {
     ghost code = { check_code };
 
     fn print(self, alloc: Global, to: &mut Bytes) -> Result<ExitStatus, AllocError> {
-        print_said(alloc, &self, to)?;
-        Ok(status_of(&self))
+        let status = status_of(&self);
+        let printed = print_said(alloc, &self, to);
+        drop(self);
+        printed?;
+        Ok(status)
     }
 }
 
@@ -75,15 +80,17 @@ fn text_line(alloc: Global, mut reader: Reader, line: &Line) -> Result<CheckStep
     requires { reader.lines < 2 ^ 32 - 1 }
     ensures { IfOk result (λ step. step_of step ≡ check_step (InText reader.style reader.state reader.lines) line.now) }
 {
-    match reader.feed(alloc, line) {
-        Feed::More => Ok(Step::On(CheckStage::Text(reader))),
+    let step = match reader.feed(alloc, line) {
+        Feed::More => return Ok(Step::On(CheckStage::Text(reader))),
         Feed::Done(model) => Ok(Step::On(CheckStage::Certificate {
             model,
             reader: CertReader::new(),
         })),
         Feed::Refused(fault) => Ok(Step::Says(Reply::Refused(Refusal::Misspelled(fault)))),
         Feed::NoMemory => Err(AllocError),
-    }
+    };
+    drop(reader);
+    step
 }
 
 // A line of the certificate.
@@ -97,10 +104,22 @@ fn certificate_line(
     requires { reader.lines < 2 ^ 32 - 1 }
     ensures { IfOk result (λ step. step_of step ≡ check_step (InCertificate model reader.raw reader.lines) line.now) }
 {
-    match reader.feed(alloc, line) {
-        CertFeed::More => Ok(Step::On(CheckStage::Certificate { model, reader })),
-        CertFeed::Done(raw) => Ok(Step::Says(verdict_on(alloc, &model, &raw)?)),
+    let step = match reader.feed(alloc, line) {
+        CertFeed::More => return Ok(Step::On(CheckStage::Certificate { model, reader })),
+        CertFeed::Done(raw) => verdict(alloc, &model, raw),
         CertFeed::Refused(unfit) => Ok(Step::Says(Reply::Refused(Refusal::Unfit(unfit)))),
         CertFeed::NoMemory => Err(AllocError),
-    }
+    };
+    drop(model);
+    drop(reader);
+    step
+}
+
+// The verdict on a certificate that was read whole.
+fn verdict(alloc: Global, model: &Model, raw: RawCertificate) -> Result<CheckStep, AllocError>
+    ensures { IfOk result (λ step. step_of step ≡ Says (machine.verdict_on model.now (certificate_for model.now raw))) }
+{
+    let said = verdict_on(alloc, model, &raw);
+    drop(raw);
+    Ok(Step::Says(said?))
 }

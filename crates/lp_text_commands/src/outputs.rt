@@ -6,7 +6,7 @@ use crate::basis::BasisSaid;
 use crate::exit_status::ExitStatus;
 use crate::hearing::Output;
 use lp_base::Bytes;
-use lp_line::{Refusal, Reply, TextSaid, print_said};
+use lp_line::{Refusal, Reply, TextSaid};
 use lp_solve_out::{print_fault, print_handed, print_solved};
 use std::alloc::{AllocError, Global};
 
@@ -18,13 +18,12 @@ impl Output for TextSaid {
     fn print(self, alloc: Global, to: &mut Bytes) -> Result<ExitStatus, AllocError> {
         match self {
             Ok(model) => {
-                print_solved(alloc, &model, to)?;
+                let printed = print_solved(alloc, &model, to);
+                drop(model);
+                printed?;
                 Ok(ExitStatus::DONE)
             }
-            Err(fault) => {
-                print_said(alloc, &Reply::Refused(Refusal::Misspelled(fault)), to)?;
-                Ok(ExitStatus::REFUSED)
-            }
+            Err(fault) => Reply::Refused(Refusal::Misspelled(fault)).print(alloc, to),
         }
     }
 }
@@ -37,7 +36,9 @@ impl Output for BasisSaid {
     fn print(self, alloc: Global, to: &mut Bytes) -> Result<ExitStatus, AllocError> {
         match self {
             Ok(handed) => {
-                print_handed(alloc, &handed, to)?;
+                let printed = print_handed(alloc, &handed, to);
+                drop(handed);
+                printed?;
                 Ok(ExitStatus::DONE)
             }
             Err(fault) => {
