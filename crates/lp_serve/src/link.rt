@@ -5,9 +5,12 @@ ghost use Rattle.basis_board.specs.Id.{id_of};
 ghost use Rattle.basis_board.specs.Rule.{Consistent};
 ghost use Rattle.lp_base.specs.Beside.{Takes};
 ghost use Rattle.lp_base.specs.Causes.{Rose};
+ghost use Rattle.lp_base.specs.LinesState.{at_start};
 ghost use Rattle.lp_link.specs.LinkState.{sink_of, source_of};
 ghost use Rattle.lp_serve.specs.Service.{ServesBy, TakesAsk};
 ghost use Rattle.spec_serve.specs.Link as links;
+ghost use Rattle.spec_server.specs.Halves.{at_rest};
+ghost use Rattle.spec_server.specs.Machine.{opening};
 ghost use Rattle.spec_server.specs.Output.{reply_lines};
 ghost use Rattle.spec_server.specs.Streams.{streams};
 ghost use Rattle.spec_server.specs.declared.addressing.Addressing.TheVariants.{Alone};
@@ -68,6 +71,47 @@ fn send_reply<L: Link>(alloc: Global, reply: &Reply, link: &mut L) -> Result<(),
     }
 }
 
+// Answers the asks of a link, from the start of its lines and of its session.
+fn serve_asks<L: Link>(
+    alloc: Global,
+    link: &mut L,
+    board: &Board,
+    pass: &mut Pass,
+    lines: &mut Lines,
+    session: &mut Session,
+) -> LinkEnd
+    requires board { pass.old.board ≡ id_of board.now }
+    requires lines { lines.old ≡ at_start }
+    requires session { session.old ≡ at_rest opening }
+    ensures serves { ServesBy
+        (streams (L.left link.old) (L.left link.new) (L.taken link.old) (L.taken link.new))
+        pass.old.view pass.new.view result }
+    ensures read { (L.read_faults link.old ≤ L.read_faults link.new)
+        × (result ≡ LinkEnd.Read → Rose (L.read_faults link.old) (L.read_faults link.new)) }
+    ensures write { (L.write_faults link.old ≤ L.write_faults link.new)
+        × (result ≡ LinkEnd.Write → Rose (L.write_faults link.old) (L.write_faults link.new)) }
+    ensures board { pass.new.board ≡ pass.old.board }
+    ensures consistent { Consistent pass.old.view → Consistent pass.new.view }
+    ensures share { (pass.new.view).share ≡ (pass.old.view).share }
+{
+    loop {
+        let ask = match next_ask(alloc, lines, link) {
+            Ok(ask) => ask,
+            Err(end) => return end,
+        };
+        let quits = is_quit(&ask);
+        let reply = session.step(alloc, board, pass, ask);
+        let sent = send_reply(alloc, &reply, link);
+        drop(reply);
+        if let Err(end) = sent {
+            return end;
+        }
+        if quits {
+            return LinkEnd::Done;
+        }
+    }
+}
+
 /// Serves the session of a link over a board that others may share: each reply is sent before the next command is read.
 pub fn serve_link<L: Link>(alloc: Global, link: &mut L, board: &Board, pass: &mut Pass) -> LinkEnd
     requires board { pass.old.board ≡ id_of board.now }
@@ -86,21 +130,8 @@ pub fn serve_link<L: Link>(alloc: Global, link: &mut L, board: &Board, pass: &mu
         return LinkEnd::NoMemory;
     };
     let mut session = Session::new();
-    loop {
-        let ask = match next_ask(alloc, &mut lines, link) {
-            Ok(ask) => ask,
-            Err(end) => return end,
-        };
-        let quits = is_quit(&ask);
-        let sent = {
-            let reply = session.step(alloc, board, pass, ask);
-            send_reply(alloc, &reply, link)
-        };
-        if let Err(end) = sent {
-            return end;
-        }
-        if quits {
-            return LinkEnd::Done;
-        }
-    }
+    let end = serve_asks(alloc, link, board, pass, &mut lines, &mut session);
+    drop(session);
+    drop(lines);
+    end
 }

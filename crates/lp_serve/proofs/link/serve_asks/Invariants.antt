@@ -3,7 +3,7 @@ use Rattle.std.proofs.Common.{◌≡◌, ◌-◌, ◌^◌, ◌≤◌}
 use Rattle.spec_server.specs.Halves.{Nothing}
 use Rattle.basis_board.specs.Rule.{Consistent}
 use Rattle.lp_serve.proofs.LinkTurns.{Turn}
-use Rattle.lp_serve.proofs.link.serve_link.Given as goal
+use Rattle.lp_serve.proofs.link.serve_asks.Given as goal
 
 abbrev pub invariant-loop-ask : goal.invariant-loop-ask
 invariant-loop-ask g l = record {
