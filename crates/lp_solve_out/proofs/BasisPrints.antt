@@ -1,7 +1,6 @@
 -- What is written of a solve from the basis of a file.
-use Rattle.std.proofs.Common.{◌≡◌, ℕ, List, [], ◌++◌, Option, Some, None, Result, Ok, Err, OnOk, ap, sym, ◌∙◌, refl}
-use Rattle.std.proofs.Common.{◌∷◌, append_assoc, append-nil}
-use Rattle.std.specs.Prelude.{codes}
+use Rattle.std.proofs.Common.{◌≡◌, ℕ, List, [], ◌++◌, Some, None, Result, Ok, Err, OnOk, ap, sym, ◌∙◌, refl}
+use Rattle.std.proofs.Common.{append_assoc, append-nil}
 use Rattle.spec_exact.specs.Fraction.{ℚ}
 use Rattle.spec_model.specs.Model.{Model}
 use Rattle.spec_simplex.specs.declared.ends.FormFault.{FormFault}
@@ -12,58 +11,39 @@ use Rattle.spec_server.specs.declared.asks.Reply.TheVariants as reply
 use Rattle.spec_server.specs.declared.asks.Refusal.TheVariants as refusal
 use Rattle.spec_server.specs.declared.basis.BasisFault.{BasisFault}
 use Rattle.spec_server.specs.declared.basis.BasisFault.TheVariants as fault
-use Rattle.spec_server.specs.declared.answer.Answer.{Answer}
 use Rattle.spec_server.specs.Answers.{IsSolved, number_limit}
-use Rattle.spec_server.specs.Machine.{opening_budget, answer_of, lines_of_solved, pivots_of_solved}
-use Rattle.spec_server.specs.Output.{ended_lines, pivots_text}
+use Rattle.spec_server.specs.Machine.{opening_budget}
 use Rattle.spec_server.specs.CheckOut.{check_line}
-use Rattle.spec_server.specs.BasisOut.{Handed, BasisOut, basis_fault_line, basis_lines, route_line, route_text}
+use Rattle.spec_server.specs.BasisOut.{Handed, BasisOut, basis_fault_line, basis_lines}
 use Rattle.spec_server.specs.BasisOut.{final_text}
 use Rattle.lp_solve_out.specs.Ends.{end_lines}
 use Rattle.lp_solve_out.specs.Prints.{Prints}
 
--- an end without its basis
-pub prints_end : (m : Model) (solved : SolveEnd) (answer : Answer ℚ) (pivots : Option ℕ) (lines : List (List ℕ))
-    (a b c d : List ℕ) → answer ≡ answer_of opening_budget solved.end → pivots ≡ pivots_of_solved solved.end →
-    lines ≡ lines_of_solved m solved.end → b ≡ a ++ check_line (reply.Answered answer) →
-    c ≡ b ++ (route_text solved.route ++ codes " PIVOTS " ++ pivots_text pivots ++ 10 ∷ []) →
-    d ≡ c ++ ended_lines lines → d ≡ a ++ end_lines m solved
-prints_end m solved answer pivots lines a b c d is_answer are_pivots are_lines p q r =
-    let x : List ℕ = check_line (reply.Answered (answer_of opening_budget solved.end)) in
-    let y : List ℕ = route_line solved in
-    let z : List ℕ = ended_lines (lines_of_solved m solved.end) in
-    let first : b ≡ a ++ x = p ∙ ap (λ (v : Answer ℚ). a ++ check_line (reply.Answered v)) is_answer in
-    let second : c ≡ b ++ y =
-    q ∙ ap (λ n. b ++ (route_text solved.route ++ codes " PIVOTS " ++ pivots_text n ++ 10 ∷ [])) are_pivots in
-    r
-    ∙ ap (λ ls. c ++ ended_lines ls) are_lines
-    ∙ ap (λ t. t ++ z) (second ∙ ap (λ t. t ++ y) first ∙ append_assoc a x y)
-    ∙ append_assoc a (x ++ y) z
-
 -- the whole
-pub prints_basis : (handed : Handed) (form : Result Form (FormFault ℚ)) (solved : SolveEnd) (a b c : List ℕ) →
-    form_of (Some number_limit) handed.model ≡ form → IsSolved handed.model opening_budget handed.basis solved →
-    b ≡ a ++ end_lines handed.model solved → c ≡ b ++ final_text handed.model form solved.end →
-    Prints (BasisOut (Ok handed)) a c
+pub prints_basis : {T E : Type 0} (handed : Handed) (form : Result Form (FormFault ℚ)) (solved : SolveEnd)
+    (before after : List ℕ) (result : Result T E) → form_of (Some number_limit) handed.model ≡ form →
+    IsSolved handed.model opening_budget handed.basis solved →
+    OnOk result (after ≡ before ++ (end_lines handed.model solved ++ final_text handed.model form solved.end)) →
+    OnOk result (Prints (BasisOut (Ok handed)) before after)
 unfolding basis_lines
-prints_basis handed form solved a b c formed is p q =
+prints_basis handed form solved before after (Ok u) formed is lines =
     let m = handed.model in
-    let w : List ℕ = final_text m (form_of (Some number_limit) m) solved.end in
     record {
       output = basis_lines m solved;
       is_output = (solved, is, refl);
-      behind = q
-          ∙ ap (λ o. b ++ final_text m o solved.end) (sym formed)
-          ∙ ap (λ t. t ++ w) p
-          ∙ append_assoc a (end_lines m solved) w;
+      behind = lines ∙ ap (λ o. before ++ (end_lines m solved ++ final_text m o solved.end)) (sym formed);
     }
+prints_basis handed form solved before after (Err why) formed is lines = tt
 
 -- nothing is written of a basis where there is no form
-pub prints_formless : (m : Model) (why : FormFault ℚ) (solved : SolveEnd) (a b : List ℕ) →
-    form_of (Some number_limit) m ≡ Err why → IsSolved m opening_budget None solved → b ≡ a ++ end_lines m solved →
-    Prints (BasisOut (Ok (record { model = m; basis = None }))) a b
-prints_formless m why solved a b formless is p =
-    prints_basis (record { model = m; basis = None }) (Err why) solved a b b formless is p (sym (append-nil b))
+pub prints_formless : {T E : Type 0} (m : Model) (why : FormFault ℚ) (solved : SolveEnd) (before after : List ℕ)
+    (result : Result T E) → form_of (Some number_limit) m ≡ Err why → IsSolved m opening_budget None solved →
+    OnOk result (after ≡ before ++ end_lines m solved) →
+    OnOk result (Prints (BasisOut (Ok (record { model = m; basis = None }))) before after)
+prints_formless {E = E} m why solved before after (Ok u) formless is lines =
+    prints_basis {E = E} (record { model = m; basis = None }) (Err why) solved before after (Ok u) formless is
+    (lines ∙ sym (append-nil (before ++ end_lines m solved)) ∙ append_assoc before (end_lines m solved) [])
+prints_formless m why solved before after (Err u) formless is lines = tt
 
 -- ---- a fault
 

@@ -1,23 +1,28 @@
 // The solve of a model from the basis of a file.
-ghost use Rattle.std.specs.Prelude.{◌≡◌, ◌++◌, ℕ, IfOk, OnOk, Ok, Some};
+ghost use Rattle.std.specs.Prelude.{◌≡◌, ◌++◌, OnOk, Ok, Some};
 ghost use Rattle.spec_simplex.specs.Form.{form_of};
 ghost use Rattle.spec_server.specs.Answers.{number_limit, MayAnswer};
 ghost use Rattle.spec_server.specs.Machine.{opening_budget, pivots_of_solved};
 ghost use Rattle.spec_server.specs.BasisOut.{BasisOut, final_text};
+ghost use Rattle.spec_server.specs.CheckOut.{check_line};
+ghost use Rattle.spec_server.specs.declared.asks.Reply.TheVariants as replies;
+ghost use Rattle.spec_server.specs.declared.asks.Refusal.TheVariants as refusals;
 ghost use Rattle.lp_session.specs.Stages.{LeavesBasis};
 ghost use Rattle.lp_solve_out.specs.Ends.{end_lines};
 ghost use Rattle.lp_solve_out.specs.Handed.{handed_of, IsStartOf};
 ghost use Rattle.lp_solve_out.specs.Prints.{Prints};
 
 use crate::basis_start::{Handed, Start};
+use crate::solve::{print_answer, print_certificate};
 use lp_bas::write;
 use lp_base::Bytes;
 use lp_check::Known;
 use lp_form::Form;
-use lp_line::{Refusal, Reply, print_basis_fault, print_lines, print_route, print_said};
+use lp_line::{Refusal, Reply, print_basis_fault, print_route, print_said};
 use lp_model::Model;
-use lp_session::{OPENING_BUDGET, answer_of, certificate_lines, solved_from_basis, solved_within};
+use lp_session::{OPENING_BUDGET, solved_from_basis, solved_within};
 use lp_solve::{End, Solved};
+use spec_mps::MpsFault;
 use spec_server::BasisFault;
 use std::alloc::{AllocError, Global};
 
@@ -26,9 +31,18 @@ pub fn print_fault(alloc: Global, fault: BasisFault, to: &mut Bytes) -> Result<(
     ensures { OnOk result (Prints (BasisOut (Err fault)) to.old to.new) }
 {
     match fault {
-        BasisFault::Text(why) => print_said(alloc, &Reply::Refused(Refusal::Misspelled(why)), to),
+        BasisFault::Text(why) => print_misspelled(alloc, why, to),
         BasisFault::File(why) => print_basis_fault(alloc, why, to),
     }
+}
+
+fn print_misspelled(alloc: Global, why: MpsFault, to: &mut Bytes) -> Result<(), AllocError>
+    ensures { OnOk result (to.new ≡ to.old ++ check_line (replies.Refused (refusals.Misspelled why))) }
+{
+    let reply = Reply::Refused(Refusal::Misspelled(why));
+    let printed = print_said(alloc, &reply, to);
+    drop(reply);
+    printed
 }
 
 /// Writes what a solve of the model ends with.
@@ -47,9 +61,26 @@ fn print_from(alloc: Global, model: &Model, start: &Start, to: &mut Bytes) -> Re
     ensures { OnOk result (Prints (BasisOut (Ok (handed_of model.now (Some start.now)))) to.old to.new) }
 {
     let solved = solved_from_basis(alloc, model, OPENING_BUDGET, &start.form, &start.basis)?;
-    print_end(alloc, model, &solved, to)?;
-    print_final(alloc, model, &start.form, &solved.end, to)?;
-    Ok(())
+    let printed = print_whole(alloc, model, &start.form, &solved, to);
+    drop(solved);
+    printed
+}
+
+// Writes what a solve ended with, and its basis.
+fn print_whole(
+    alloc: Global,
+    model: &Model,
+    form: &Form,
+    solved: &Solved,
+    to: &mut Bytes,
+) -> Result<(), AllocError>
+    requires formed { form_of (Some number_limit) model.now ≡ Ok form.now }
+    requires basis { LeavesBasis form.now solved.now.end }
+    requires may { MayAnswer model.now opening_budget solved.now.end }
+    ensures { OnOk result (to.new ≡ to.old ++ (end_lines model.now solved.now ++ final_text model.now (Ok form.now) solved.now.end)) }
+{
+    print_end(alloc, model, solved, to)?;
+    print_final(alloc, model, form, &solved.end, to)
 }
 
 // A model without a form.
@@ -58,8 +89,9 @@ fn print_formless(alloc: Global, model: &Model, to: &mut Bytes) -> Result<(), Al
     ensures { OnOk result (Prints (BasisOut (Ok (handed_of model.now None))) to.old to.new) }
 {
     let solved = solved_within(alloc, model, OPENING_BUDGET)?;
-    print_end(alloc, model, &solved, to)?;
-    Ok(())
+    let printed = print_end(alloc, model, &solved, to);
+    drop(solved);
+    printed
 }
 
 fn pivots_of(end: &End) -> Option<u64>
@@ -81,12 +113,9 @@ fn print_end(
     requires { MayAnswer model.now opening_budget solved.now.end }
     ensures { OnOk result (to.new ≡ to.old ++ end_lines model.now solved.now) }
 {
-    let answer = answer_of(OPENING_BUDGET, &solved.end);
-    print_said(alloc, &Reply::Answered(answer), to)?;
+    print_answer(alloc, &solved.end, to)?;
     print_route(alloc, solved.route, pivots_of(&solved.end), to)?;
-    let certificate = certificate_lines(alloc, model, &solved.end)?;
-    print_lines(&certificate, to)?;
-    Ok(())
+    print_certificate(alloc, model, &solved.end, to)
 }
 
 // Writes the basis of an optimum, as a file.
@@ -108,8 +137,7 @@ fn print_final(
             ..
         } => {
             let file = write(alloc, model, form, basis)?;
-            to.extend(file.as_slice())?;
-            Ok(())
+            to.extend(file.as_slice())
         }
         End::Ended { .. } | End::Past(_) | End::Spent => Ok(()),
     }

@@ -1,12 +1,18 @@
 // The solve of a model.
-ghost use Rattle.std.specs.Prelude.{Ok, OnOk};
-ghost use Rattle.spec_server.specs.SolveOut.{SolveOut};
+ghost use Rattle.std.specs.Prelude.{◌≡◌, ◌++◌, ℕ, Ok, OnOk};
+ghost use Rattle.spec_server.specs.Answers.{MayAnswer};
+ghost use Rattle.spec_server.specs.CheckOut.{check_line};
+ghost use Rattle.spec_server.specs.Machine as machine;
+ghost use Rattle.spec_server.specs.Output.{ended_lines};
+ghost use Rattle.spec_server.specs.SolveOut.{SolveOut, solved_lines};
+ghost use Rattle.spec_server.specs.declared.asks.Reply.TheVariants as replies;
 ghost use Rattle.lp_solve_out.specs.Prints.{Prints};
 
 use lp_base::Bytes;
 use lp_line::{Reply, print_lines, print_said};
 use lp_model::Model;
 use lp_session::{OPENING_BUDGET, answer_of, certificate_lines, solved_within};
+use lp_solve::End;
 use std::alloc::{AllocError, Global};
 
 /// Writes what a solve of the model ends with.
@@ -14,7 +20,41 @@ pub fn print_solved(alloc: Global, model: &Model, to: &mut Bytes) -> Result<(), 
     ensures { OnOk result (Prints (SolveOut (Ok model.now)) to.old to.new) }
 {
     let solved = solved_within(alloc, model, OPENING_BUDGET)?;
-    let answer = answer_of(OPENING_BUDGET, &solved.end);
-    print_said(alloc, &Reply::Answered(answer), to)?;
-    print_lines(&certificate_lines(alloc, model, &solved.end)?, to)
+    let printed = print_end(alloc, model, &solved.end, to);
+    drop(solved);
+    printed
+}
+
+// Writes the answer that a solve ended with, and its certificate.
+#[tactic(auto, unfolding(spec_server::specs::SolveOut::solved_lines))]
+fn print_end(alloc: Global, model: &Model, end: &End, to: &mut Bytes) -> Result<(), AllocError>
+    requires { MayAnswer model.now machine.opening_budget end.now }
+    ensures { OnOk result (to.new ≡ to.old ++ solved_lines model.now end.now) }
+{
+    print_answer(alloc, end, to)?;
+    print_certificate(alloc, model, end, to)
+}
+
+/// Writes the line of the answer that a solve within the budget of a new session ended with.
+pub fn print_answer(alloc: Global, end: &End, to: &mut Bytes) -> Result<(), AllocError>
+    ensures { OnOk result (to.new ≡ to.old ++ check_line (replies.Answered (machine.answer_of machine.opening_budget end.now))) }
+{
+    let reply = Reply::Answered(answer_of(OPENING_BUDGET, end));
+    let printed = print_said(alloc, &reply, to);
+    drop(reply);
+    printed
+}
+
+/// Writes the lines of the certificate of a solve, none where it knows nothing of the model.
+pub(crate) fn print_certificate(
+    alloc: Global,
+    model: &Model,
+    end: &End,
+    to: &mut Bytes,
+) -> Result<(), AllocError>
+    requires { (budget : ℕ) × MayAnswer model.now budget end.now }
+    ensures { OnOk result (to.new ≡ to.old ++ ended_lines (machine.lines_of_solved model.now end.now)) }
+{
+    let lines = certificate_lines(alloc, model, end)?;
+    print_lines(&lines, to)
 }

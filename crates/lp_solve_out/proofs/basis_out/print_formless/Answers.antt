@@ -4,5 +4,5 @@ use Rattle.lp_solve_out.proofs.basis_out.print_formless.Goals as goal
 
 pub returns : goal.returns
 returns c =
-    prints_formless c.args.model.now c.requires.0 c.in_ok-solved.solved c.args.to.now c.print_end.new.to c.requires.1
-    c.in_ok-solved.ensures c.in_ok-print_end.ensures
+    prints_formless c.args.model.now c.requires.0 c.in_ok-solved.solved c.args.to.now c.print_end-printed.new.to
+    c.print_end-printed.result c.requires.1 c.in_ok-solved.ensures c.print_end-printed.ensures

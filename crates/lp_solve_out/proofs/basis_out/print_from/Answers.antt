@@ -7,5 +7,5 @@ use Rattle.lp_solve_out.proofs.basis_out.print_from.Goals as goal
 pub returns : goal.returns
 returns c =
     prints_basis (handed_of c.args.model.now (Some c.args.start.now)) (Ok c.args.start.now.form) c.in_ok-solved.solved
-    c.args.to.now c.print_end.new.to c.print_final.new.to c.requires.0 c.in_ok-solved.ensures.solved
-    c.in_ok-print_end.ensures c.in_ok-print_final.ensures
+    c.args.to.now c.print_whole-printed.new.to c.print_whole-printed.result c.requires.0 c.in_ok-solved.ensures.solved
+    c.print_whole-printed.ensures
