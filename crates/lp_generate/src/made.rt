@@ -1,21 +1,20 @@
 // The model that is made from a seed, and what a solve of it ends with.
-ghost use Rattle.std.specs.Prelude.{◌≡◌, ◌≤◌, ◌++◌, ◌∷◌, [], codes, IsErrOf, OnOk};
+ghost use Rattle.std.specs.Prelude.{◌≡◌, ◌≤◌, ◌++◌, ◌∷◌, [], codes, IfOk, IsErrOf, OnOk};
 ghost use Rattle.lp_base.specs.Causes.{Rose};
 ghost use Rattle.spec_model.specs.Kept.{row_limit, column_limit};
 ghost use Rattle.spec_model.specs.Model.{height};
-ghost use Rattle.spec_program.specs.GenOut.{entry_count, size_text, GenOut, SolvedOut};
+ghost use Rattle.spec_program.specs.GenOut.{entry_count, generated_lines, size_text, GenOut, SolvedOut};
 ghost use Rattle.spec_server.specs.Machine.{pivots_of_solved};
 ghost use Rattle.spec_server.specs.Output.{pivots_text};
 ghost use Rattle.lp_generate.specs.Generating.{Writes};
-ghost use Rattle.lp_solve_out.specs.Prints.{Prints};
 
 use lp_base::{Bytes, Sink, send};
 use lp_gen::make;
-use lp_line::{Reply, print_said};
 use lp_model::Model;
 use lp_script::Halt;
-use lp_session::{OPENING_BUDGET, answer_of, solved_within};
+use lp_session::{OPENING_BUDGET, solved_within};
 use lp_solve::End;
+use lp_solve_out::print_answer;
 use std::alloc::{AllocError, Global};
 
 /// Makes the model of this seed, with so many rows and columns, and writes its size and what a solve of it ends with.
@@ -32,22 +31,33 @@ pub fn generate<K: Sink>(
     ensures write { IsErrOf result Halt.Write → Rose (K.write_faults out.old) (K.write_faults out.new) }
 {
     let model = make(alloc, seed, rows, columns)?;
-    let mut text = Bytes::new(alloc);
-    print_generated(alloc, &model, &mut text)?;
+    let text = generated_text(alloc, &model);
+    drop(model);
+    let text = text?;
     send(out, text.as_slice())?;
     Ok(())
 }
 
-// Writes the size of a model, and what a solve of it ends with.
-#[tactic(auto, unfolding(spec_program::specs::GenOut::generated_lines))]
-fn print_generated(alloc: Global, model: &Model, to: &mut Bytes) -> Result<(), AllocError>
-    ensures { OnOk result (Prints (SolvedOut model.now) to.old to.new) }
+// The size of a model, and what a solve of it ends with.
+fn generated_text(alloc: Global, model: &Model) -> Result<Bytes, AllocError>
+    ensures { IfOk result (SolvedOut model.now) }
 {
     let solved = solved_within(alloc, model, OPENING_BUDGET)?;
-    let answer = answer_of(OPENING_BUDGET, &solved.end);
-    print_size(alloc, model, to)?;
-    print_said(alloc, &Reply::Answered(answer), to)?;
-    print_pivots(alloc, &solved.end, to)
+    let text = ended_text(alloc, model, &solved.end);
+    drop(solved);
+    text
+}
+
+// The size of a model, and what a solve of it ended with.
+#[tactic(auto, unfolding(spec_program::specs::GenOut::generated_lines))]
+fn ended_text(alloc: Global, model: &Model, end: &End) -> Result<Bytes, AllocError>
+    ensures { IfOk result (λ text. text ≡ generated_lines model.now end.now) }
+{
+    let mut text = Bytes::new(alloc);
+    print_size(alloc, model, &mut text)?;
+    print_answer(alloc, end, &mut text)?;
+    print_pivots(alloc, end, &mut text)?;
+    Ok(text)
 }
 
 #[tactic(auto, unfolding(spec_program::specs::GenOut::size_text))]
