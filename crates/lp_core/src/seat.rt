@@ -128,6 +128,7 @@ impl Seat {
         ensures below { IsBelow limit self.old.step → IsBelow limit self.new.step }
     {
         let Stage::Idle = self.stage else {
+            drop(ask);
             return StepEnd::Not;
         };
         match self.session.start(alloc, ask) {

@@ -67,6 +67,7 @@ impl World {
         let Event { session, act } = event;
         let number = session as usize;
         if number == 0 || number > self.seats.len() {
+            drop(act);
             return StepEnd::Not;
         }
         let seat = &mut self.seats[number - 1];

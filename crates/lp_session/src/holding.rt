@@ -24,7 +24,7 @@ use spec_mps::Style;
 use spec_reads::Found;
 use spec_server::{How, Plain, Publication};
 use std::alloc::Global;
-use std::marker;
+use std::{marker, mem};
 
 /// The pivots and flips that a solve of a new session may make.
 pub const OPENING_BUDGET: u32 = 10_000;
@@ -79,8 +79,8 @@ impl Holding {
         ensures { step.Begins self.old (asks.Loaded model) (step.Answers result self.new) }
     {
         let reply = Reply::Loaded(model.rows(), model.cols());
-        self.last = None; // the old model's
-        self.model = Some(model);
+        drop(self.last.take()); // the old model's
+        drop(self.model.replace(model));
         reply
     }
 
@@ -98,7 +98,7 @@ impl Holding {
                 Begun::Reply(Reply::Done)
             }
             Plain::Quit => {
-                *self = Holding::new();
+                drop(mem::replace(self, Holding::new()));
                 Begun::Reply(Reply::Bye)
             }
             Plain::Change(edit) => Begun::Reply(self.change(alloc, edit)),
@@ -114,7 +114,7 @@ impl Holding {
         };
         match apply(alloc, model, edit) {
             Ok(()) => {
-                self.last = None; // of the model before the edit
+                drop(self.last.take()); // of the model before the edit
                 Reply::Done
             }
             Err(EditError::Fault(fault)) => Reply::Refused(refusal_of(fault)),

@@ -56,7 +56,7 @@ impl Session {
             Begun::Reply(reply) => Started::Reply(reply),
             Begun::Look(form) => {
                 let shape = shape(&form);
-                self.stage = Stage::Looking(form);
+                drop(mem::replace(&mut self.stage, Stage::Looking(form)));
                 Started::Look(shape)
             }
         }
@@ -70,11 +70,13 @@ impl Session {
         let Stage::Looking(form) = mem::replace(&mut self.stage, Stage::Rest) else {
             unreachable!()
         };
-        match self.holding.work(alloc, &form, found) {
+        let worked = self.holding.work(alloc, &form, found);
+        drop(form);
+        match worked {
             Worked::Reply(reply) => Next::Reply(reply),
             Worked::Publish(pending) => {
                 let words = pending.words;
-                self.stage = Stage::Publishing(pending);
+                drop(mem::replace(&mut self.stage, Stage::Publishing(pending)));
                 Next::Publish(words)
             }
         }
