@@ -41,8 +41,14 @@ pub(crate) fn answered(
             basis,
             pivots,
         },
-        Verdict::Past(past) => End::Past(past),
-        Verdict::No(_) => End::Spent,
+        Verdict::Past(past) => {
+            drop(certificate);
+            End::Past(past)
+        }
+        Verdict::No(_) => {
+            drop(certificate);
+            End::Spent
+        }
     }
 }
 
@@ -98,7 +104,11 @@ pub(crate) fn from_form(
         Err(Stop::NoMemory) => return Err(AllocError),
     };
     match phases(tab, form, budget) {
-        Ok(ended) => finished(alloc, model, form, &ended),
+        Ok(ended) => {
+            let end = finished(alloc, model, form, &ended);
+            drop(ended);
+            end
+        }
         Err(RunStop::Past(past)) => Ok(End::Past(past)),
         Err(RunStop::Spent) => Ok(End::Spent),
     }

@@ -4,7 +4,7 @@ ghost use Rattle.spec_simplex.specs.Start.{start_of};
 ghost use Rattle.spec_simplex.specs.Phases as phases;
 ghost use Rattle.lp_frac.specs.Narrow.{largest};
 ghost use Rattle.lp_primal.specs.Answer.{Runs};
-ghost use Rattle.lp_solve.specs.Ends.{Ends, IsInside};
+ghost use Rattle.lp_solve.specs.Ends.{Ends, EndsAt, IsInside};
 
 use lp_form::Form;
 use lp_primal::run;
@@ -31,26 +31,39 @@ fn phase_one(tab: &mut Tableau, used: &mut u64, budget: u64) -> Result<PrimalEnd
     }
 }
 
-/// Both phases from the tableau that the form begins with. They share the budget.
+// Both phases from the tableau that the form begins with. They share the budget.
+fn both_phases(
+    tab: &mut Tableau,
+    used: &mut u64,
+    form: &Form,
+    budget: u64,
+) -> Result<Option<PrimalEnd>, RunStop>
+    requires unused { used.old ≡ 0 }
+    requires start { start_of (Some largest) form.now ≡ Ok tab.old }
+    ensures answer { EndsAt (phases.phases_run (Some largest) budget form.now) tab.new used.new result }
+    ensures inside { IfOk result (IsInside tab.new) }
+{
+    phase_one(tab, used, budget)?;
+    if tab.is_stuck() {
+        return Ok(None);
+    }
+    tab.phase_two(form)?;
+    let end = run(tab, used, budget)?;
+    Ok(Some(end))
+}
+
+/// Both phases from the tableau that the form begins with, and the tableau that they left.
 pub(crate) fn phases(mut tab: Tableau, form: &Form, budget: u64) -> Result<Ended, RunStop>
     requires { start_of (Some largest) form.now ≡ Ok tab }
     ensures answer { Ends (phases.phases_run (Some largest) budget form.now) result }
     ensures inside { IfOk result (λ e. IsInside e.tab e.end) }
 {
     let mut used = 0;
-    phase_one(&mut tab, &mut used, budget)?;
-    if tab.is_stuck() {
-        return Ok(Ended {
-            tab,
-            used,
-            end: None,
-        });
+    match both_phases(&mut tab, &mut used, form, budget) {
+        Ok(end) => Ok(Ended { tab, used, end }),
+        Err(stop) => {
+            drop(tab);
+            Err(stop)
+        }
     }
-    tab.phase_two(form)?;
-    let end = run(&mut tab, &mut used, budget)?;
-    Ok(Ended {
-        tab,
-        used,
-        end: Some(end),
-    })
 }

@@ -3,6 +3,7 @@ ghost use Rattle.std.specs.Prelude.{◌≡◌, IfOk, Ok, Some};
 ghost use Rattle.spec_check.specs.Certificate.{IsFor, IsNarrowCertificate};
 ghost use Rattle.spec_simplex.specs.declared.ends.Fit.TheVariants as fitted;
 ghost use Rattle.spec_simplex.specs.Eliminate.{IsBasisOf};
+ghost use Rattle.spec_simplex.specs.Eliminate as eliminated;
 ghost use Rattle.spec_simplex.specs.Form.{form_of};
 ghost use Rattle.spec_warm.specs.Warm as warm;
 ghost use Rattle.lp_frac.specs.Narrow.{largest};
@@ -48,8 +49,14 @@ fn answered(model: &Model, certificate: Certificate, basis: Option<Basis>, pivot
             basis,
             pivots,
         },
-        Verdict::Past(past) => Warm::Stopped(WarmStop::Past(past)),
-        Verdict::No(_) => Warm::Stopped(WarmStop::Spent),
+        Verdict::Past(past) => {
+            drop(certificate);
+            Warm::Stopped(WarmStop::Past(past))
+        }
+        Verdict::No(_) => {
+            drop(certificate);
+            Warm::Stopped(WarmStop::Spent)
+        }
     }
 }
 
@@ -59,19 +66,19 @@ fn by_primal(
     budget: u64,
     model: &Model,
     form: &Form,
-    mut tab: Tableau,
+    tab: &mut Tableau,
 ) -> Result<Warm, AllocError>
     requires formed { form_of (Some largest) model.now ≡ Ok form.now }
-    requires begun { IsBegun model.now tab fitted.Primal }
+    requires begun { IsBegun model.now tab.old fitted.Primal }
     ensures answer { IfOk result
-        (λ w. w ≡ warm.after_run (Some largest) model.now (warm.run_by (Some largest) budget tab fitted.Primal)) }
+        (λ w. w ≡ warm.after_run (Some largest) model.now (warm.run_by (Some largest) budget tab.old fitted.Primal)) }
     ensures narrow { IfOk result (IsWarmFit model.now) }
 {
     let mut used = 0;
-    match lp_primal::run(&mut tab, &mut used, budget) {
+    match lp_primal::run(tab, &mut used, budget) {
         Ok(end) => {
-            let certificate = certificate_at(alloc, &tab, end)?;
-            let statuses = basis_at(alloc, &tab, end)?;
+            let statuses = basis_at(alloc, tab, end)?;
+            let certificate = certificate_at(alloc, tab, end)?;
             Ok(answered(model, certificate, basis_of(form, statuses), used))
         }
         Err(stop) => Ok(Warm::Stopped(run_stop(stop))),
@@ -84,22 +91,45 @@ fn by_dual(
     budget: u64,
     model: &Model,
     form: &Form,
-    mut tab: Tableau,
+    tab: &mut Tableau,
 ) -> Result<Warm, AllocError>
     requires formed { form_of (Some largest) model.now ≡ Ok form.now }
-    requires begun { IsBegun model.now tab fitted.Dual }
+    requires begun { IsBegun model.now tab.old fitted.Dual }
     ensures answer { IfOk result
-        (λ w. w ≡ warm.after_run (Some largest) model.now (warm.run_by (Some largest) budget tab fitted.Dual)) }
+        (λ w. w ≡ warm.after_run (Some largest) model.now (warm.run_by (Some largest) budget tab.old fitted.Dual)) }
     ensures narrow { IfOk result (IsWarmFit model.now) }
 {
     let mut used = 0;
-    match lp_dual::run(&mut tab, &mut used, budget) {
+    match lp_dual::run(tab, &mut used, budget) {
         Ok(end) => {
-            let certificate = dual_certificate(alloc, &tab, end)?;
-            let statuses = dual_basis(alloc, &tab, end)?;
+            let statuses = dual_basis(alloc, tab, end)?;
+            let certificate = dual_certificate(alloc, tab, end)?;
             Ok(answered(model, certificate, basis_of(form, statuses), used))
         }
         Err(stop) => Ok(Warm::Stopped(run_stop(stop))),
+    }
+}
+
+// The method that the tableau of the basis is fit for, and the check of the certificate that this ended with.
+fn from_tableau(
+    alloc: Global,
+    budget: u64,
+    model: &Model,
+    form: &Form,
+    basis: &Basis,
+    tab: &mut Tableau,
+) -> Result<Warm, AllocError>
+    requires formed { form_of (Some largest) model.now ≡ Ok form.now }
+    requires fits { IsBasisOf form.now basis.now }
+    requires starts { eliminated.start_from (Some largest) form.now basis.now ≡ Ok tab.old }
+    ensures answer { IfOk result (λ w. w ≡ warm.after_form (Some largest) budget model.now basis.now (Ok form.now)) }
+    ensures narrow { IfOk result (IsWarmFit model.now) }
+{
+    match fit(tab) {
+        Ok(Fit::Primal) => by_primal(alloc, budget, model, form, tab),
+        Ok(Fit::Dual) => by_dual(alloc, budget, model, form, tab),
+        Ok(Fit::Unfit) => Ok(Warm::Stopped(WarmStop::Unfit)),
+        Err(past) => Ok(Warm::Stopped(WarmStop::Past(past))),
     }
 }
 
@@ -116,16 +146,14 @@ pub(crate) fn from_basis(
     ensures answer { IfOk result (λ w. w ≡ warm.after_form (Some largest) budget model.now basis.now (Ok form.now)) }
     ensures narrow { IfOk result (IsWarmFit model.now) }
 {
-    let tab = match start_from(alloc, form, basis) {
-        Ok(tab) => tab,
-        Err(Stop::Cause(_)) => return Ok(Warm::Stopped(WarmStop::Singular)),
-        Err(Stop::Past(past)) => return Ok(Warm::Stopped(WarmStop::Past(past))),
-        Err(Stop::NoMemory) => return Err(AllocError),
-    };
-    match fit(&tab) {
-        Ok(Fit::Primal) => by_primal(alloc, budget, model, form, tab),
-        Ok(Fit::Dual) => by_dual(alloc, budget, model, form, tab),
-        Ok(Fit::Unfit) => Ok(Warm::Stopped(WarmStop::Unfit)),
-        Err(past) => Ok(Warm::Stopped(WarmStop::Past(past))),
+    match start_from(alloc, form, basis) {
+        Ok(mut tab) => {
+            let warm = from_tableau(alloc, budget, model, form, basis, &mut tab);
+            drop(tab);
+            warm
+        }
+        Err(Stop::Cause(_)) => Ok(Warm::Stopped(WarmStop::Singular)),
+        Err(Stop::Past(past)) => Ok(Warm::Stopped(WarmStop::Past(past))),
+        Err(Stop::NoMemory) => Err(AllocError),
     }
 }

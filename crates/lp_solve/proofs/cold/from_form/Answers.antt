@@ -8,9 +8,9 @@ returns-in-Err-Past-clause-answer c =
     rw c.in-Err-Past.past-is (refused_from _ _ _ _ _
     (start_stop _ _ _ c.in-Err-Past.field-0-is c.in-Err-Past.ensures.err))
 
-pub finished-requires-clause-fits : goal.finished-requires-clause-fits
-finished-requires-clause-fits c = end_fits _ c.args.budget _ _ _ c.requires c.in-Ok-phases.ensures.answer
+pub finished-end-requires-clause-fits : goal.finished-end-requires-clause-fits
+finished-end-requires-clause-fits c = end_fits _ c.args.budget _ _ _ c.requires c.in-Ok-phases.ensures.answer
 
-pub finished-requires-clause-based : goal.finished-requires-clause-based
-finished-requires-clause-based c =
+pub finished-end-requires-clause-based : goal.finished-end-requires-clause-based
+finished-end-requires-clause-based c =
     phases_leave _ c.args.budget c.args.model.now c.args.form.now c.requires _ c.in-Ok-phases.ensures.answer

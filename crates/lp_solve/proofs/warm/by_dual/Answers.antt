@@ -15,7 +15,7 @@ pub basis_of-requires : goal.basis_of-requires
 basis_of-requires c =
     subst (λ (o : Option (List Status)). IfSome o (λ basis. IsBasisOf c.args.form.now basis))
     (sym c.in_ok-statuses-in-Ok.ensures)
-    (dual_leaves c.args.budget c.args.model.now c.args.form.now c.args.tab c.requires.formed
+    (dual_leaves c.args.budget c.args.model.now c.args.form.now c.args.tab.now c.requires.formed
     (record { end = c.in-Ok.end; tableau = c.run.new.tab; used = c.run.new.used }) c.requires.begun
     c.in-Ok.ensures.runs)
 
@@ -25,10 +25,10 @@ answered-requires-clause-fits c =
     (dual_fits _ _ _ (record { end = c.in-Ok.end; tableau = c.run.new.tab; used = c.run.new.used }) c.requires.begun
     c.in-Ok.ensures.runs)
 
-pub returns-in-Ok-clause-answer : goal.returns-in-Ok-clause-answer
-returns-in-Ok-clause-answer c =
+pub returns-in_ok-certificate-in-Ok-clause-answer : goal.returns-in_ok-certificate-in-Ok-clause-answer
+returns-in_ok-certificate-in-Ok-clause-answer c =
     rw (c.in_ok-certificate-in-Ok.ensures.value, c.basis_of.ensures, c.in_ok-statuses-in-Ok.ensures) at
     c.answered.ensures.answer
     ∙ ap (after_run (Some largest) c.args.model.now)
-    (sym (dual_ends (Some largest) c.args.budget c.args.tab
+    (sym (dual_ends (Some largest) c.args.budget c.args.tab.now
     (record { end = c.in-Ok.end; tableau = c.run.new.tab; used = c.run.new.used }) c.in-Ok.ensures.runs))

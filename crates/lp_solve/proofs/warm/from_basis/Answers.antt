@@ -1,10 +1,9 @@
--- A stop of the start, a refusal of the fit, and each method.
-use Rattle.std.proofs.Common.{◌≡◌, IfOk, Ok, Some, ap, sym, ◌∙◌, subst}
-use Rattle.spec_simplex.specs.declared.ends.Fit.TheVariants as fit
+-- A stop of the start.
+use Rattle.std.proofs.Common.{Some, ap, sym}
 use Rattle.spec_simplex.specs.declared.ends.StartStop.TheVariants as begun
 use Rattle.spec_warm.specs.Warm.{after_run}
 use Rattle.lp_frac.specs.Narrow.{largest}
-use Rattle.lp_solve.proofs.WarmRuns.{is_singular, is_past, start_stops, fit_refused, runs_by}
+use Rattle.lp_solve.proofs.WarmRuns.{is_singular, is_past, start_stops}
 use Rattle.lp_solve.proofs.warm.from_basis.Goals as goal
 
 pub returns-in-Err-Cause-clause-answer : goal.returns-in-Err-Cause-clause-answer
@@ -19,29 +18,3 @@ returns-in-Err-Past-clause-answer c =
     (ap (after_run (Some largest) c.args.model.now)
     (sym (start_stops (Some largest) c.args.budget c.args.form.now c.args.basis.now (begun.Past _)
     (is_past _ _ _ c.in-Err-Past.field-0-is c.in-Err-Past.ensures.err))))
-
-pub returns-in-Ok-Primal-clause-answer : goal.returns-in-Ok-Primal-clause-answer
-returns-in-Ok-Primal-clause-answer c =
-    subst (λ run. IfOk c.by_primal.result (λ w. w ≡ after_run (Some largest) c.args.model.now run))
-    (sym (runs_by (Some largest) c.args.budget c.args.form.now c.args.basis.now c.in-Ok.tab c.in-Ok.ensures.ok
-    fit.Primal (sym c.fit.ensures ∙ c.in-Ok-Primal.is ∙ ap Ok c.in-Ok-Primal.field-0-is)))
-    c.by_primal.ensures.answer
-
-pub returns-in-Ok-Dual-clause-answer : goal.returns-in-Ok-Dual-clause-answer
-returns-in-Ok-Dual-clause-answer c =
-    subst (λ run. IfOk c.by_dual.result (λ w. w ≡ after_run (Some largest) c.args.model.now run))
-    (sym (runs_by (Some largest) c.args.budget c.args.form.now c.args.basis.now c.in-Ok.tab c.in-Ok.ensures.ok fit.Dual
-    (sym c.fit.ensures ∙ c.in-Ok-Dual.is ∙ ap Ok c.in-Ok-Dual.field-0-is)))
-    c.by_dual.ensures.answer
-
-pub returns-in-Ok-Unfit-clause-answer : goal.returns-in-Ok-Unfit-clause-answer
-returns-in-Ok-Unfit-clause-answer c =
-    ap (after_run (Some largest) c.args.model.now)
-    (sym (runs_by (Some largest) c.args.budget c.args.form.now c.args.basis.now c.in-Ok.tab c.in-Ok.ensures.ok
-    fit.Unfit (sym c.fit.ensures ∙ c.in-Ok-Unfit.is ∙ ap Ok c.in-Ok-Unfit.field-0-is)))
-
-pub returns-in-Err-clause-answer : goal.returns-in-Err-clause-answer
-returns-in-Err-clause-answer c =
-    ap (after_run (Some largest) c.args.model.now)
-    (sym (fit_refused (Some largest) c.args.budget c.args.form.now c.args.basis.now c.in-Ok.tab c.in-Ok.ensures.ok _
-    (sym c.fit.ensures ∙ c.in-Err.is)))
