@@ -6,45 +6,45 @@ use crate::number::NumFault;
 use thiserror::Error;
 
 /// What is wrong with a line of a text.
-#[derive(Clone, Copy, Debug, Error)]
+#[derive(Clone, Copy, Debug)]
 pub enum Code {
-    #[error("this section may not stand here")]
+    /// This section may not stand here.
     SectionOrder,
-    #[error("there is no such section")]
+    /// There is no such section.
     UnknownSection,
-    #[error("these are not the fields of a card of this section")]
+    /// These are not the fields of a card of this section.
     CardShape,
-    #[error("there is no such type of rows")]
+    /// There is no such type of rows.
     RowType,
-    #[error("a row has this name already")]
+    /// A row has this name already.
     RowTaken,
-    #[error("there is no such row")]
+    /// There is no such row.
     UnknownRow,
-    #[error("a column has this name already, and its cards do not stand together")]
+    /// A column has this name already, and its cards do not stand together.
     ColumnTaken,
-    #[error("this row has a number already")]
+    /// This row has a number already.
     EntryRepeated,
-    #[error("this is no number")]
+    /// This is no number.
     NumberShape,
-    #[error("this number is past 127 bits")]
+    /// This number is past 127 bits.
     NumberWide,
-    #[error("there is no such kind of bounds, or not with this value")]
+    /// There is no such kind of bounds, or not with this value.
     BoundKind,
-    #[error("columns of whole numbers are not read")]
+    /// Columns of whole numbers are not read.
     Integer,
-    #[error("semi-continuous columns are not read")]
+    /// Semi-continuous columns are not read.
     SemiContinuous,
-    #[error("there is no such column")]
+    /// There is no such column.
     UnknownColumn,
-    #[error("there is no row of type N")]
+    /// There is no row of type N.
     NoObjective,
-    #[error("there are too many rows or columns, or this line is too long")]
+    /// There are too many rows or columns, or this line is too long.
     Limit,
-    #[error("this is no name")]
+    /// This is no name.
     Name,
-    #[error("the objective has no range")]
+    /// The objective has no range.
     RangeOnObjective,
-    #[error("the text ends before ENDATA")]
+    /// The text ends before ENDATA.
     Cut,
 }
 
@@ -61,7 +61,7 @@ impl From<NumFault> for Code {
 
 /// The first line of a text that is wrong, counted from 1, and what is wrong with it.
 #[derive(Clone, Copy, Debug, Error)]
-#[error("line {line}: {code}")]
+#[error("line {line}: {code:?}")]
 pub struct MpsFault {
     pub line: u32,
     pub code: Code,
