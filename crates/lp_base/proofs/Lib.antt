@@ -1,4 +1,5 @@
 -- Lemmas.
+pub mod Ahead
 pub mod BlankParts
 mod KeptLemmas
 pub mod LastBytes

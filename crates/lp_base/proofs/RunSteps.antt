@@ -38,6 +38,30 @@ passed_count old new count moved within =
       length-drop count old.ahead,
     )
 
+-- the bytes that are looked at, and a place in them
+module _ (old : LinesState) (ahead : List ℕ) (is : ahead ≡ take (2 ^ 26 - old.given) old.ahead)
+    (room : old.given < 2 ^ 26) where
+  len_is : length ahead ≡ min (2 ^ 26 - old.given) (length old.ahead)
+  len_is = ap length is ∙ length-take (2 ^ 26 - old.given) old.ahead
+
+  pub ahead_some : length ahead ≤ length old.ahead
+  ahead_some = omega (arith, len_is)
+
+  pub ahead_room : old.given + length ahead ≤ 2 ^ 26
+  ahead_room = omega (arith, len_is, room)
+
+  pub at_some : (at : ℕ) → at < length ahead → at + 1 ≤ length old.ahead
+  at_some at h = omega (arith, ahead_some, h)
+
+  pub at_room : (at : ℕ) → at < length ahead → old.given + (at + 1) ≤ 2 ^ 26
+  at_room at h = omega (arith, ahead_room, h)
+
+  pub ahead_fits : (len : ℕ) → len ≤ old.given → len + length ahead < 2 ^ 64
+  ahead_fits len h = omega (arith, ahead_room, h)
+
+  pub front_fits : (len at : ℕ) → len ≤ old.given → len + length (take at ahead) < 2 ^ 64
+  front_fits len at h = omega (arith, ahead_room, length-take at ahead, h)
+
 -- a line feed was found after the run
 pub run_found : (old new : LinesState) (before after : Part) (ahead : List ℕ) (at : ℕ) →
     ahead ≡ take (2 ^ 26 - old.given) old.ahead → at < length ahead → slice_index ahead at ≡ 10 →

@@ -1,6 +1,7 @@
 -- What each exit gives, by the line so far.
 use Rattle.std.proofs.Common.{◌∙◌, sym, refl, true, false, arith}
 use Rattle.std.proofs.lemmas.Result.{err_from_is_err_and}
+use Rattle.std.proofs.Math.Nat.{le_trans}
 use Rattle.lp_base.proofs.SoFar.{SoFar-read, SoFar-run, gives_ended, gives_over, gives_last, gives_no_memory}
 use Rattle.lp_base.proofs.SoFar.{gives_err, breaks_off, still_ahead, stays, has_some, has_none, run_with, not_both}
 use Rattle.lp_base.proofs.lines.Lines.next.Goals as goal
@@ -80,3 +81,56 @@ returns-clause-line g c =
 pub returns-clause-held : goal.returns-clause-held
 returns-clause-held g c =
     λ has. stays (c.loop-line.invariant.held has) (c.has_more.ensures.held (still_ahead c.loop-line.invariant.read has))
+
+pub returns-in_err-has_more-clause-later : goal.returns-in_err-has_more-clause-later
+returns-in_err-has_more-clause-later g c = le_trans c.loop-line.invariant.later c.has_more.ensures.cause.later
+
+pub returns-in_err-has_more-clause-beside : goal.returns-in_err-has_more-clause-beside
+returns-in_err-has_more-clause-beside g c = c.has_more.ensures.beside ∙ c.loop-line.invariant.beside
+
+pub returns-then-is_full-clause-later : goal.returns-then-is_full-clause-later
+returns-then-is_full-clause-later g c = le_trans c.loop-line.invariant.later c.has_more.ensures.cause.later
+
+pub returns-then-is_full-clause-beside : goal.returns-then-is_full-clause-beside
+returns-then-is_full-clause-beside g c = c.has_more.ensures.beside ∙ c.loop-line.invariant.beside
+
+pub returns-in_err-take_run-clause-later : goal.returns-in_err-take_run-clause-later
+returns-in_err-take_run-clause-later g c = le_trans c.loop-line.invariant.later c.has_more.ensures.cause.later
+
+pub returns-in_err-take_run-clause-beside : goal.returns-in_err-take_run-clause-beside
+returns-in_err-take_run-clause-beside g c = c.has_more.ensures.beside ∙ c.loop-line.invariant.beside
+
+pub returns-then-branch-2-clause-later : goal.returns-then-branch-2-clause-later
+returns-then-branch-2-clause-later g c = le_trans c.loop-line.invariant.later c.has_more.ensures.cause.later
+
+pub returns-then-branch-2-clause-beside : goal.returns-then-branch-2-clause-beside
+returns-then-branch-2-clause-beside g c = c.has_more.ensures.beside ∙ c.loop-line.invariant.beside
+
+pub returns-clause-later : goal.returns-clause-later
+returns-clause-later g c = le_trans c.loop-line.invariant.later c.has_more.ensures.cause.later
+
+pub returns-clause-beside : goal.returns-clause-beside
+returns-clause-beside g c = c.has_more.ensures.beside ∙ c.loop-line.invariant.beside
+
+pub returns-in_err-has_more-clause-ended : goal.returns-in_err-has_more-clause-ended
+returns-in_err-has_more-clause-ended g c =
+    λ e. absurd (not_both c.in_err-has_more.ensures.moved.2 (c.loop-line.invariant.read.ended ∙ e))
+
+pub returns-in_err-has_more-clause-read : goal.returns-in_err-has_more-clause-read
+returns-in_err-has_more-clause-read g c =
+    λ e. omega (arith, c.in_err-has_more.ensures.cause.failed, c.loop-line.invariant.later)
+
+pub returns-then-is_full-clause-ended : goal.returns-then-is_full-clause-ended
+returns-then-is_full-clause-ended g c =
+    λ e. absurd (not_both (has_some _ _ _ _ _ c.if-branch.true c.in_ok-has_more.ensures.moved.4).1
+    (c.loop-line.invariant.read.ended ∙ e))
+
+pub returns-in_err-take_run-clause-ended : goal.returns-in_err-take_run-clause-ended
+returns-in_err-take_run-clause-ended g c =
+    λ e. absurd (not_both (has_some _ _ _ _ _ c.if-branch.true c.in_ok-has_more.ensures.moved.4).1
+    (c.loop-line.invariant.read.ended ∙ e))
+
+pub returns-then-branch-2-clause-ended : goal.returns-then-branch-2-clause-ended
+returns-then-branch-2-clause-ended g c =
+    λ e. absurd (not_both (has_some _ _ _ _ _ c.if-branch.true c.in_ok-has_more.ensures.moved.4).1
+    (c.loop-line.invariant.read.ended ∙ e))
