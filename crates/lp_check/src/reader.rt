@@ -1,6 +1,7 @@
 // A text of a certificate that is read line by line.
-ghost use Rattle.std.specs.Prelude.{◌≡◌, ◌+◌, ◌<◌, ◌-◌, ◌^◌, ◌++◌, ◌∷◌, [], None, IfOk, OnOk};
+ghost use Rattle.std.specs.Prelude.{◌≡◌, ◌+◌, ◌<◌, ◌-◌, ◌^◌, ◌++◌, ◌∷◌, [], None, IfOk, OnOk, if◌then◌else◌};
 ghost use Rattle.spec_check.specs.Text as certificate;
+ghost use Rattle.spec_check.specs.declared.progress.Progress.TheVariants.{More, Unfit};
 ghost use Rattle.lp_check.specs.Feeds.{Feeds};
 
 use crate::certificate::{Parts, RawCertificate};
@@ -51,6 +52,20 @@ fn open(alloc: Global, words: &Texts) -> Result<Progress, AllocError>
     }
 }
 
+// Adds the part that the words of a line say. Whether they say one.
+fn add_part(alloc: Global, raw: &mut RawCertificate, words: &Texts) -> Result<bool, AllocError>
+    ensures { IfOk result (λ is_part. (if is_part then More raw.new else Unfit)
+        ≡ certificate.with_part raw.old (certificate.part_of raw.old.kind words.now)) }
+{
+    match part_of(alloc, &raw.kind, words)? {
+        Some(part) => {
+            raw.parts.push(part)?;
+            Ok(true)
+        }
+        None => Ok(false),
+    }
+}
+
 // A line after the first.
 fn go_on(alloc: Global, mut raw: RawCertificate, words: &Texts) -> Result<Progress, AllocError>
     ensures { IfOk result (λ progress. progress ≡ certificate.step_by_words (Some raw) words.now) }
@@ -58,12 +73,10 @@ fn go_on(alloc: Global, mut raw: RawCertificate, words: &Texts) -> Result<Progre
     if is_end(words) {
         return Ok(Progress::Done(raw));
     }
-    match part_of(alloc, &raw.kind, words)? {
-        Some(part) => {
-            raw.parts.push(part)?;
-            Ok(Progress::More(raw))
-        }
-        None => Ok(Progress::Unfit),
+    if add_part(alloc, &mut raw, words)? {
+        Ok(Progress::More(raw))
+    } else {
+        Ok(Progress::Unfit)
     }
 }
 

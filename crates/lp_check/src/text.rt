@@ -1,5 +1,5 @@
 // The text of a certificate.
-ghost use Rattle.std.specs.Prelude.{◌≡◌, ◌++◌, length, IfOk, OnOk};
+ghost use Rattle.std.specs.Prelude.{◌≡◌, ◌∷◌, ◌++◌, codes, length, IfOk, OnOk};
 ghost use Rattle.spec_check.specs.Certificate.{IsFor};
 ghost use Rattle.spec_check.specs.TextWritten as text_written;
 ghost use Rattle.lp_check.specs.Answer.{IsPlace};
@@ -23,12 +23,19 @@ fn letter_text(letter: Letter) -> &'static [u8]
     }
 }
 
+// Adds a word after a blank.
+fn add_word(text: &mut Bytes, word: &[u8]) -> Result<(), AllocError>
+    ensures { OnOk result (text.new ≡ text.old ++ 32 ∷ word.now) }
+{
+    text.push(b' ')?;
+    text.extend(word)
+}
+
 fn part_text(alloc: Global, letter: Letter, name: &[u8], value: Frac) -> Result<Bytes, AllocError>
     ensures { IfOk result (λ text. text ≡ text_written.part_text letter name.now value) }
 {
     let mut text = Bytes::from_slice(alloc, letter_text(letter))?;
-    text.push(b' ')?;
-    text.extend(name)?;
+    add_word(&mut text, name)?;
     text.push(b' ')?;
     lp_numtext::write(alloc, value, &mut text)?;
     Ok(text)
@@ -89,6 +96,14 @@ fn add_values(
     Ok(())
 }
 
+fn clash_text(alloc: Global, name: &[u8]) -> Result<Bytes, AllocError>
+    ensures { IfOk result (λ text. text ≡ codes "CLASH" ++ 32 ∷ name.now) }
+{
+    let mut text = Bytes::from_slice(alloc, b"CLASH")?;
+    add_word(&mut text, name)?;
+    Ok(text)
+}
+
 fn kind_text(alloc: Global, model: &Model, cert: &Certificate) -> Result<Bytes, AllocError>
     requires { IsFor model.now cert.now }
     ensures { IfOk result (λ text. text ≡ text_written.kind_text model.now cert.now) }
@@ -97,12 +112,7 @@ fn kind_text(alloc: Global, model: &Model, cert: &Certificate) -> Result<Bytes, 
         Certificate::Optimal { .. } => Bytes::from_slice(alloc, b"OPTIMAL"),
         Certificate::Infeasible { .. } => Bytes::from_slice(alloc, b"INFEASIBLE"),
         Certificate::Unbounded { .. } => Bytes::from_slice(alloc, b"UNBOUNDED"),
-        Certificate::Clash(j) => {
-            let mut text = Bytes::from_slice(alloc, b"CLASH")?;
-            text.push(b' ')?;
-            text.extend(model.col(*j).name.as_slice())?;
-            Ok(text)
-        }
+        Certificate::Clash(j) => clash_text(alloc, model.col(*j).name.as_slice()),
     }
 }
 
@@ -130,16 +140,29 @@ fn add_parts(
     }
 }
 
+// Adds the lines of the certificate's text.
+#[tactic(auto, unfolding(spec_check::specs::TextWritten::certificate_lines))]
+fn add_lines(
+    alloc: Global,
+    model: &Model,
+    cert: &Certificate,
+    lines: &mut Texts,
+) -> Result<(), AllocError>
+    requires { IsFor model.now cert.now }
+    ensures { OnOk result (lines.new ≡ lines.old ++ text_written.certificate_lines model.now cert.now) }
+{
+    lines.push(kind_text(alloc, model, cert)?)?;
+    add_parts(alloc, model, cert, lines)?;
+    lines.push(Bytes::from_slice(alloc, b"END")?)
+}
+
 /// The lines of the certificate's text: its kind, a part for each number that is not 0 in the order of
 /// the model, and `END`.
-#[tactic(auto, unfolding(spec_check::specs::TextWritten::certificate_lines))]
 pub fn cert_text(alloc: Global, model: &Model, cert: &Certificate) -> Result<Texts, AllocError>
     requires { IsFor model.now cert.now }
     ensures { IfOk result (λ lines. lines ≡ text_written.certificate_lines model.now cert.now) }
 {
     let mut lines = Texts::new(alloc);
-    lines.push(kind_text(alloc, model, cert)?)?;
-    add_parts(alloc, model, cert, &mut lines)?;
-    lines.push(Bytes::from_slice(alloc, b"END")?)?;
+    add_lines(alloc, model, cert, &mut lines)?;
     Ok(lines)
 }
