@@ -105,8 +105,10 @@ fn lists(alloc: Global, form: &Form, basis: &Basis) -> Result<ColumnLists, Alloc
     requires kept { IsForm form.now }
     requires statuses { length basis.now ≡ form.now.cols + form.now.rows }
     ensures value { IfOk result (λ l.
-        l.value.items ≡ made (form.now.cols + form.now.rows + form.now.rows) (elimination.basis_value form.now basis.now)) }
-    ensures reduced { IfOk result (λ l. l.reduced.items ≡ replicate (form.now.cols + form.now.rows + form.now.rows) 0ℚ) }
+        l.value.items ≡ made (form.now.cols + form.now.rows + form.now.rows)
+        (elimination.basis_value form.now basis.now)) }
+    ensures reduced { IfOk result (λ l.
+        l.reduced.items ≡ replicate (form.now.cols + form.now.rows + form.now.rows) 0ℚ) }
     ensures status { IfOk result (λ l. l.status.items ≡ elimination.basis_status form.now basis.now) }
     ensures lower { IfOk result (λ l. l.lower.items ≡ elimination.basis_lower form.now) }
     ensures upper { IfOk result (λ l. l.upper.items ≡ elimination.basis_upper form.now) }

@@ -342,10 +342,13 @@ pub fn first_costs(alloc: Global, form: &Form, starts: &[RowStart]) -> Result<Ve
 fn lists(alloc: Global, form: &Form, starts: &[RowStart]) -> Result<ColumnLists, AllocError>
     requires { length starts.now ≡ form.now.rows }
     ensures value { IfOk result (λ l.
-        l.value.items ≡ made (form.now.cols + form.now.rows + form.now.rows) (starting.start_value form.now starts.now)) }
-    ensures reduced { IfOk result (λ l. l.reduced.items ≡ replicate (form.now.cols + form.now.rows + form.now.rows) 0ℚ) }
+        l.value.items ≡ made (form.now.cols + form.now.rows + form.now.rows)
+        (starting.start_value form.now starts.now)) }
+    ensures reduced { IfOk result (λ l.
+        l.reduced.items ≡ replicate (form.now.cols + form.now.rows + form.now.rows) 0ℚ) }
     ensures status { IfOk result (λ l.
-        l.status.items ≡ made (form.now.cols + form.now.rows + form.now.rows) (starting.start_status form.now starts.now)) }
+        l.status.items ≡ made (form.now.cols + form.now.rows + form.now.rows)
+        (starting.start_status form.now starts.now)) }
     ensures lower { IfOk result (λ l. l.lower.items ≡ form.now.lower ++ replicate form.now.rows (Some 0ℚ)) }
     ensures upper { IfOk result (λ l. l.upper.items ≡ form.now.upper ++ map starting.artificial_upper starts.now) }
 {
