@@ -48,5 +48,7 @@ pub(crate) fn answer<K: Sink>(
 {
     let session = asked.session;
     let reply = sessions.step(alloc, asked);
-    write_reply(alloc, session, &reply, out)
+    let written = write_reply(alloc, session, &reply, out);
+    drop(reply);
+    written
 }

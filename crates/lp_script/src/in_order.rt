@@ -1,6 +1,8 @@
 // The run of a script by one worker.
-ghost use Rattle.std.specs.Prelude.{IsErrOf};
+ghost use Rattle.std.specs.Prelude.{◌≡◌, IsErrOf};
 ghost use Rattle.lp_base.specs.Causes.{Rose};
+ghost use Rattle.lp_base.specs.LinesState.{at_start};
+ghost use Rattle.lp_script.specs.Answer.{opening_with};
 ghost use Rattle.lp_script.specs.Run.{IsPlaces, Runs};
 ghost use Rattle.spec_server.specs.Streams.{streams};
 
@@ -10,6 +12,31 @@ use crate::sessions::Sessions;
 use lp_base::{Lines, Sink, Source};
 use lp_line::{Addressing, Taken, take};
 use std::alloc::Global;
+
+// Answers the asks of a script, from its start and with all sessions as they open.
+fn answer_asks<S: Source, K: Sink>(
+    alloc: Global,
+    lines: &mut Lines,
+    sessions: &mut Sessions,
+    src: &mut S,
+    out: &mut K,
+) -> Result<(), Halt>
+    requires lines { lines.old ≡ at_start }
+    requires sessions { sessions.old ≡ opening_with sessions.old.sharing.places }
+    ensures output { Runs 1 sessions.old.sharing.places
+        (streams (S.left src.old) (S.left src.new) (K.taken out.old) (K.taken out.new)) result }
+    ensures read { IsErrOf result Halt.Read → Rose (S.read_faults src.old) (S.read_faults src.new) }
+    ensures write { IsErrOf result Halt.Write → Rose (K.write_faults out.old) (K.write_faults out.new) }
+{
+    loop {
+        match take(alloc, Addressing::Numbered, lines, src)? {
+            Taken::Ask(asked) => answer(alloc, sessions, asked, out)?,
+            Taken::End => return Ok(()),
+            Taken::Cut => return Err(Halt::Cut),
+            Taken::Over => return Err(Halt::Over),
+        }
+    }
+}
 
 /// Answers each ask of the script that the source gives before it reads the next one.
 /// The sessions share so many places.
@@ -27,12 +54,8 @@ pub(crate) fn run_in_order<S: Source, K: Sink>(
 {
     let mut lines = Lines::new(alloc)?;
     let mut sessions = Sessions::new(alloc, places)?;
-    loop {
-        match take(alloc, Addressing::Numbered, &mut lines, src)? {
-            Taken::Ask(asked) => answer(alloc, &mut sessions, asked, out)?,
-            Taken::End => return Ok(()),
-            Taken::Cut => return Err(Halt::Cut),
-            Taken::Over => return Err(Halt::Over),
-        }
-    }
+    let run = answer_asks(alloc, &mut lines, &mut sessions, src, out);
+    drop(sessions);
+    drop(lines);
+    run
 }

@@ -1,10 +1,10 @@
--- Where the run begins, goes on and halts.
-use Rattle.std.proofs.Common.{◌∙◌, ap, arith, inl, inr, ⊎_elim, Err}
+-- Where the run cannot begin, and what it does.
+use Rattle.std.proofs.Common.{◌∙◌, ap, sym, subst, inr}
 use Rattle.std.proofs.lemmas.Result.{err_from_is_err_and}
-use Rattle.spec_server.specs.Script.{Ended, Cut}
-use Rattle.lp_line.specs.declared.taking.Taken.TheVariants as taken
-use Rattle.lp_script.proofs.Moving.{stops_so, nothing, ends_as}
-use Rattle.lp_script.proofs.Turns.{start, stopped, ended, too_long, in_answer, turn_on, takes_as}
+use Rattle.spec_server.specs.Streams.{streams}
+use Rattle.lp_script.specs.Answer.{Together, opening_with}
+use Rattle.lp_script.specs.Run.{Runs}
+use Rattle.lp_script.proofs.Moving.{stops_so, nothing}
 use Rattle.lp_script.proofs.in_order.run_in_order.Goals as goal
 
 pub returns-in_err-lines-clause-output : goal.returns-in_err-lines-clause-output
@@ -17,48 +17,15 @@ returns-in_err-sessions-clause-output g c =
     let p = err_from_is_err_and c.from_residual-in_err-sessions.result c.from_residual-in_err-sessions.ensures.1 in
     stops_so (nothing _ _ _ _) c.from_residual-in_err-sessions.result p.0 p.1 (inr p.2)
 
-pub loop-sessions-init : goal.loop-sessions-init
-loop-sessions-init g c = record {
-  turn = start _ _ _ c.in_ok-lines.lines c.in_ok-sessions.sessions c.in_ok-lines.ensures c.in_ok-sessions.ensures;
-  read = omega arith;
-  write = omega arith;
-}
+pub answer_asks-run-requires-clause-sessions : goal.answer_asks-run-requires-clause-sessions
+answer_asks-run-requires-clause-sessions g c =
+    let e = c.in_ok-sessions.ensures in
+    e ∙ ap opening_with (sym (ap (λ (all : Together). all.sharing.places) e))
 
-pub returns-in_err-asked-clause-output : goal.returns-in_err-asked-clause-output
-returns-in_err-asked-clause-output g c =
-    let p = err_from_is_err_and c.from_residual-in_err-asked.result c.from_residual-in_err-asked.ensures.1 in
-    ends_as c.from_residual-in_err-asked.result _ (p.1 ∙ ap Err p.2)
-    (stopped _ c.loop-sessions.invariant.turn _ _ c.in_err-asked.ensures.taken)
-
-pub loop-sessions-preserved : goal.loop-sessions-preserved
-loop-sessions-preserved g c = record {
-  turn = turn_on _ c.loop-sessions.invariant.turn _ _ c.in-Ask.asked
-      (takes_as _ _ _ _ _ (taken.Ask c.in-Ask.asked) c.in-Ask.is c.in_ok-asked.ensures.taken) _
-      c.in_ok-answer-in-Ask.ensures.ok;
-  read = omega (arith, c.take.ensures.later);
-  write = omega (arith, c.answer.ensures.later);
-}
-
-pub returns-in_err-answer-in-Ask-clause-output : goal.returns-in_err-answer-in-Ask-clause-output
-returns-in_err-answer-in-Ask-clause-output g c =
-    let p =
-    err_from_is_err_and c.from_residual-in_err-answer-in-Ask.result c.from_residual-in_err-answer-in-Ask.ensures.1 in
-    stops_so
-    (in_answer _ c.loop-sessions.invariant.turn _ _ c.in-Ask.asked
-    (takes_as _ _ _ _ _ (taken.Ask c.in-Ask.asked) c.in-Ask.is c.in_ok-asked.ensures.taken) c.answer.ensures.part)
-    c.from_residual-in_err-answer-in-Ask.result p.0 p.1
-    (⊎_elim (λ e. inl (p.2 ∙ e)) (λ e. inr (p.2 ∙ e)) c.in_err-answer-in-Ask.ensures.halts)
-
-pub returns-in-End-clause-output : goal.returns-in-End-clause-output
-returns-in-End-clause-output g c =
-    ended _ c.loop-sessions.invariant.turn Ended
-    (takes_as _ _ _ _ _ taken.End c.in-End.is c.in_ok-asked.ensures.taken)
-
-pub returns-in-Cut-clause-output : goal.returns-in-Cut-clause-output
-returns-in-Cut-clause-output g c =
-    ended _ c.loop-sessions.invariant.turn Cut (takes_as _ _ _ _ _ taken.Cut c.in-Cut.is c.in_ok-asked.ensures.taken)
-
-pub returns-in-Over-clause-output : goal.returns-in-Over-clause-output
-returns-in-Over-clause-output g c =
-    too_long _ c.loop-sessions.invariant.turn
-    (takes_as _ _ _ _ _ taken.Over c.in-Over.is c.in_ok-asked.ensures.taken)
+pub returns-clause-output : goal.returns-clause-output
+returns-clause-output g c =
+    subst
+    (λ places. Runs 1 places
+    (streams (g.S.Source.left c.args.src.now) (g.S.Source.left c.answer_asks-run.new.src)
+    (g.K.Sink.taken c.args.out.now) (g.K.Sink.taken c.answer_asks-run.new.out)) c.answer_asks-run.result)
+    (ap (λ (all : Together). all.sharing.places) c.in_ok-sessions.ensures) c.answer_asks-run.ensures.output
