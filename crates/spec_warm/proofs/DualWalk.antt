@@ -1,5 +1,5 @@
 -- Dual steps up to an end: what holds of the first tableau holds of the last.
-use Rattle.std.proofs.Common.{◌≡◌, ℕ, zero, suc, ◌+◌, Option, Result, Ok, Err, Bool, sym, ap, ◌∙◌, subst, subst₂}
+use Rattle.std.proofs.Common.{◌≡◌, ℕ, zero, suc, ◌+◌, Option, Result, Ok, Bool, sym, ap, ◌∙◌, subst, subst₂}
 use Rattle.spec_exact.specs.Fraction.{ℚ}
 use Rattle.spec_pivot.specs.Tableau.{Matrix}
 use Rattle.spec_pivot.specs.Simplex.{Bounds}
@@ -15,6 +15,7 @@ use Rattle.spec_simplex.specs.declared.ends.DualChoice.TheVariants.{End, Pivot}
 use Rattle.spec_warm.specs.Based.{IsReady, IsDualStep, IsDualMeant}
 use Rattle.spec_simplex.specs.Dual.{passed_bound, dual_choice_run, dual_pivot_run, DualEnded}
 use Rattle.spec_simplex.specs.Dual.{dual_end_or_spent, dual_end_or_next, dual_from}
+use Rattle.spec_warm.proofs.Results.{ok_same, err_not_ok}
 use Rattle.spec_warm.proofs.Stepped.{choice_meant, pivot_ready, pivot_table}
 
 module _ (limit : Option ℕ) (m n : ℕ) (f : Matrix) (cost : ℕ → ℚ) (b : Bounds) where
@@ -58,10 +59,9 @@ module _ (limit : Option ℕ) (m n : ℕ) (f : Matrix) (cost : ℕ → ℚ) (b :
   ends_here : (t : Tableau) (used : ℕ) (e : DualEnded) (choice : DualChoice) → IsReady m n f cost b t →
       dual_choice_run limit t ≡ Ok choice → dual_end_or_spent t used choice ≡ Ok e → IsDualEnd e
   ends_here t used e (End end) s c h =
-      let z : ◌≡◌ {A = DualEnded} (record { end = end; tableau = t; used = used }) e = cc in
-      subst IsDualEnd z (record { after = s; end = ready_meant t (End end) s c })
-  ends_here t used e (Pivot p j to) s c h =
-      let z : ◌≡◌ {A = Result DualEnded (RunStop ℚ)} (Err stop.Spent) (Ok e) = h in cc
+      subst IsDualEnd (ok_same (record { end = end; tableau = t; used = used }) e h)
+      (record { after = s; end = ready_meant t (End end) s c })
+  ends_here t used e (Pivot p j to) s c h = err_not_ok {E = RunStop ℚ} stop.Spent e h
 
   goes_on : (t : Tableau) (used : ℕ) (e : DualEnded) (next : Tableau → Result DualEnded (RunStop ℚ))
       (choice : DualChoice) → IsReady m n f cost b t →

@@ -1,7 +1,8 @@
 -- Elimination keeps the span of the equations, and makes the basic columns those of the unit matrix.
 use Rattle.std.proofs.Common.{◌≡◌, ◌≢◌, ℕ, zero, suc, ◌+◌, ◌<◌, List, [], length, get_or}
-use Rattle.std.proofs.Common.{set, Option, Some, None, Result, Ok, Err, Bool, true, false}
+use Rattle.std.proofs.Common.{set, Option, Some, None, Ok, Bool, true, false}
 use Rattle.std.proofs.Common.{not, ◌&&◌, cond, refl, sym, ap, ◌∙◌, subst, subst₂, arith}
+use Rattle.std.proofs.lemmas.Bool.{false≢true}
 use Rattle.std.proofs.Math.Path.{fun_ext}
 use Rattle.std.proofs.lemmas.List.{length-set, length-replicate, get_or-set_same, get_or-set_other, get_or-replicate}
 use Rattle.spec_exact.specs.Fraction.{ℚ, 0ℚ, eq_ℚ}
@@ -24,6 +25,7 @@ use Rattle.spec_warm.specs.Based.{equations}
 use Rattle.spec_simplex.specs.Eliminate.{basis_at, basics_below, Elimination, equation, unsolved, has_none, is_open}
 use Rattle.spec_simplex.specs.Eliminate.{or_place, open_below, solved_at, solved_by, solved_run, eliminate_run}
 use Rattle.spec_warm.proofs.Counts.{basic_if, basic_test, filled, filled_set, none_is}
+use Rattle.spec_warm.proofs.Results.{ok_same, err_not_ok}
 use Rattle.spec_warm.proofs.Unsolved.{unsolved_length, unsolved_forth, unsolved_back}
 
 -- ---- the position that is taken
@@ -41,10 +43,10 @@ open_means e j n p h o = by (has_none (get_or e.basic p None)) (eq_ℚ (at_place
         record {
           position = h;
           free = c;
-          entry = λ z. let y : false ≡ true = sym d ∙ eq_test (at_place e.rows p j) 0ℚ z in cc;
+          entry = λ z. false≢true (sym d ∙ eq_test (at_place e.rows p j) 0ℚ z);
         }
-    by true true c d o = let z : false ≡ true = o in cc
-    by false d c y o = let z : false ≡ true = o in cc
+    by true true c d o = absurd (false≢true o)
+    by false d c y o = absurd (false≢true o)
 
 pub open_is : (e : Elimination) (j n p : ℕ) → open_below e j n ≡ Some p → IsOpen e j n p
 open_is e j zero p h = let z : None ≡ Some p = h in cc
@@ -111,7 +113,7 @@ module _ (limit : Option ℕ) (f : Form) (basis : List Status) where
     back = s.back;
     units = s.units;
     placed = λ k h b. by_eq k j
-        (λ z. let y : false ≡ true = sym c ∙ basic_test (basis_at basis j) (ap (basis_at basis) (sym z) ∙ b) in cc)
+        (λ z. absurd (false≢true (sym c ∙ basic_test (basis_at basis j) (ap (basis_at basis) (sym z) ∙ b))))
         (λ z. s.placed k (omega (arith, h, z)) b);
     only = λ i k h z. let o = s.only i k h z in (omega (arith, o.0), o.1);
     count =
@@ -191,18 +193,18 @@ module _ (limit : Option ℕ) (f : Form) (basis : List Status) where
           let a =
           then_ok (turned_run limit f.rows (f.cols + f.rows + f.rows) e.rows p j) _ u
           (refused_ok stop.Past (solved_at limit f e j p) u h) in
-          let z : ◌≡◌ {A = Elimination} (record { rows = a.0; basic = set e.basic p (Some j) }) u = cc in
-          subst (Solving (suc j)) z (solved j e s b p (open_is e j f.rows p o) a.0 a.1)
+          subst (Solving (suc j)) (ok_same (record { rows = a.0; basic = set e.basic p (Some j) }) u a.2)
+          (solved j e s b p (open_is e j f.rows p o) a.0 a.1)
 
       place : (o : Option ℕ) → open_below e j f.rows ≡ o → basis_at basis j ≡ Basic → solved_by limit f e j o ≡ Ok u →
           Solving (suc j) u
-      place None o b h = let z : ◌≡◌ {A = Result Elimination (StartStop ℚ)} (Err stop.Singular) (Ok u) = h in cc
+      place None o b h = err_not_ok {E = StartStop ℚ} stop.Singular u h
       place (Some p) o b h = taken p o b h
 
       by : (c : Bool) → is_basic (basis_at basis j) ≡ c → cond c (solved_run limit f e j) (Ok e) ≡ Ok u →
           Solving (suc j) u
       by true c h = place (open_below e j f.rows) refl (basic_if (basis_at basis j) c) h
-      by false c h = let z : e ≡ u = cc in subst (Solving (suc j)) z (goes_by j e c s)
+      by false c h = subst (Solving (suc j)) (ok_same e u h) (goes_by j e c s)
 
   -- after some of the columns
   pub eliminated_below : (j : ℕ) (e : Elimination) →

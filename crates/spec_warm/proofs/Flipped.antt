@@ -1,6 +1,7 @@
 -- The flips give each reduced cost the sign that belongs to its status.
-use Rattle.std.proofs.Common.{◌≡◌, ◌≢◌, ℕ, suc, ◌+◌, ◌<◌, ◌≤◌, List, Option, Some, None, Result, Ok, Err, Bool, true}
+use Rattle.std.proofs.Common.{◌≡◌, ◌≢◌, ℕ, suc, ◌+◌, ◌<◌, ◌≤◌, List, Option, Some, None, Ok, Bool, true}
 use Rattle.std.proofs.Common.{false, not, ◌&&◌, ◌||◌, cond, nat_le, refl, sym, ap, ap₂, ◌∙◌, subst, subst₂, arith}
+use Rattle.std.proofs.lemmas.Bool.{false≢true}
 use Rattle.std.proofs.lemmas.List.{get_or-set_same, get_or-set_other}
 use Rattle.spec_exact.specs.Fraction.{ℚ, 0ℚ, ◌+ℚ◌, ◌-ℚ◌, ◌*ℚ◌, lt_ℚ}
 use Rattle.spec_exact.proofs.Order.{<ℚ-le, lt_if}
@@ -31,6 +32,7 @@ use Rattle.spec_simplex.specs.Fit.{needs_flip, is_there, meets_need, needs_flip_
 use Rattle.spec_warm.proofs.Bounded.{own_counts, given_counts, lower_same}
 use Rattle.spec_warm.proofs.Bounded.{upper_same, fixed_is, not_fixed_is, free_open}
 use Rattle.spec_warm.proofs.Fits.{met_suits}
+use Rattle.spec_warm.proofs.Results.{ok_same, err_not_ok}
 
 -- ---- a column that needs its other bound
 -- it is at one bound, has the other one, and its reduced cost has the sign that belongs to the other one
@@ -42,16 +44,16 @@ pub record IsWrong (s : Status) (d : ℚ) (l u : Option ℚ) (up : Bool) : Type 
   pub suits : Suits (other_bound up) d
 
 there_is : (o : Option ℚ) → is_there o ≡ true → (v : ℚ) × (o ≡ Some v)
-there_is None h = let z : false ≡ true = h in cc
+there_is None h = absurd (false≢true h)
 there_is (Some v) h = (v, refl)
 
 either : (a c : Bool) → not a || c ≡ true → a ≡ true → c ≡ true
 either true c h e = h
-either false c h e = let z : false ≡ true = e in cc
+either false c h e = absurd (false≢true e)
 
 pub wrong : (s : Status) (d v : ℚ) (l u : Option ℚ) → Stands s l u v → meets_need s d l u ≡ true →
     needs_flip s d ≡ true → (up : Bool) × IsWrong s d l u up
-wrong Basic d v l u st h n = let z : false ≡ true = n in cc
+wrong Basic d v l u st h n = absurd (false≢true n)
 wrong AtLower d v l u st h n = (
   true,
   record {
@@ -72,7 +74,7 @@ wrong AtUpper d v l u st h n = (
     suits = <ℚ-le 0ℚ d (lt_if 0ℚ d n);
   },
 )
-wrong AtZero d v l u st h n = let z : false ≡ true = n in cc
+wrong AtZero d v l u st h n = absurd (false≢true n)
 
 other_nonbasic : (up : Bool) → ¬ (other_bound up ≡ Basic)
 other_nonbasic true e = let z : AtUpper ≡ Basic = e in cc
@@ -89,7 +91,7 @@ unfolding flip_run
 flip_shape limit t u j h =
     let a = then_ok (difference_run limit (or_zero (upper_at t j)) (or_zero (lower_at t j))) _ u h in
     let c = then_ok (moved_run limit t j (directed (flip_way (status_at t j)) a.0) None) _ u a.2 in
-    record { values = c.0; is = let z : flipped t j (other_bound (flip_way (status_at t j))) c.0 ≡ u = cc in z }
+    record { values = c.0; is = ok_same (flipped t j (other_bound (flip_way (status_at t j))) c.0) u c.2 }
 
 module _ (limit : Option ℕ) (f : Matrix) (cost : ℕ → ℚ) (b : Bounds) (t : Tableau)
     (s : IsBased t.rows t.cols f cost b t) (j : ℕ) (j_in : j < all_columns t) (free : ¬ (IsFixed b j))
@@ -228,7 +230,7 @@ module _ (limit : Option ℕ) (budget m n : ℕ) (f : Matrix) (cost : ℕ → �
           not c && needs_flip (status_at r.tableau i) (reduced_at r.tableau i) ≡ true
           → c || meets_need (status_at r.tableau i) (reduced_at r.tableau i)
           (lower_at r.tableau i) (upper_at r.tableau i) ≡ true → Flipping (suc i) (one_more r u)
-      by true c h g = let z : false ≡ true = h in cc
+      by true c h g = absurd (false≢true h)
       by false c h g =
           let w =
           wrong (status_at r.tableau i) (reduced_at r.tableau i)
@@ -240,11 +242,10 @@ module _ (limit : Option ℕ) (budget m n : ℕ) (f : Matrix) (cost : ℕ → �
 
   next : (i : ℕ) (x y : Reached) → i < n + m + m → Flipping i x → needs_flip_at x.tableau i ≡ true → (c : Bool) →
       flip_by limit i x c ≡ Ok y → Flipping (suc i) y
-  next i x y i_in v e true h = let z : ◌≡◌ {A = Result Reached (RunStop ℚ)} (Err stop.Spent) (Ok y) = h in cc
+  next i x y i_in v e true h = err_not_ok {E = RunStop ℚ} stop.Spent y h
   next i x y i_in v e false h =
       let o = then_ok (refused_as stop.Past (flip_run limit x.tableau i)) (λ u. Ok (one_more x u)) y h in
-      let z : one_more x o.0 ≡ y = cc in
-      subst (Flipping (suc i)) z (flip i x o.0 i_in v e (refused_ok stop.Past (flip_run limit x.tableau i) o.0 o.1))
+      subst (Flipping (suc i)) (ok_same (one_more x o.0) y o.2) (flip i x o.0 i_in v e (refused_ok stop.Past (flip_run limit x.tableau i) o.0 o.1))
 
   step : (i : ℕ) (x y : Reached) → i < n + m + m → Flipping i x →
       cond (needs_flip_at x.tableau i) (flip_next limit budget i x) (Ok x) ≡ Ok y → Flipping (suc i) y
@@ -253,7 +254,7 @@ module _ (limit : Option ℕ) (budget m n : ℕ) (f : Matrix) (cost : ℕ → �
       by : (c : Bool) → needs_flip_at x.tableau i ≡ c → cond c (flip_next limit budget i x) (Ok x) ≡ Ok y →
           Flipping (suc i) y
       by true e h = next i x y i_in v e (nat_le budget x.used) h
-      by false e h = let z : x ≡ y = cc in subst (Flipping (suc i)) z (pass i x i_in v e)
+      by false e h = subst (Flipping (suc i)) (ok_same x y h) (pass i x i_in v e)
 
   pub flips_ready : (t : Tableau) (r : Reached) → IsBased m n f cost b t →
       ((k : ℕ) → k < n + m + m → meets_need_at t k ≡ true) → flips_run limit budget t ≡ Ok r →

@@ -1,3 +1,4 @@
+pub mod Results
 pub mod Counts
 pub mod Unsolved
 pub mod Eliminated

@@ -2,6 +2,7 @@
 use Rattle.std.proofs.Common.{◌≡◌, ◌≢◌, ℕ, zero, suc, ◌+◌, ◌<◌, ◌⊎◌, List, get_or, Option}
 use Rattle.std.proofs.Common.{Some, None, Result, Ok, Err, Bool, true, false, not, ◌&&◌}
 use Rattle.std.proofs.Common.{cond, inl, inr, ⊎_elim, refl, sym, ap, ap₂, ◌∙◌, subst, arith}
+use Rattle.std.proofs.lemmas.Bool.{true≢false}
 use Rattle.spec_exact.specs.Fraction.{ℚ, ◌-ℚ◌, ◌*ℚ◌, 0ℚ, 1ℚ, eq_ℚ}
 use Rattle.spec_exact.specs.Sums.{sum_below}
 use Rattle.spec_exact.proofs.Field.{+ℚ_neg, *ℚ_comm, *ℚ_zero}
@@ -27,6 +28,7 @@ use Rattle.spec_simplex.specs.Eliminate.{or_place, open_below, solved_at, solved
 use Rattle.spec_simplex.specs.Eliminate.{eliminate_run, or_first, with_basis, filled_run, start_from}
 use Rattle.spec_warm.proofs.Counts.{basic_if, some_is}
 use Rattle.spec_warm.proofs.Eliminated.{Solving, eliminated_below}
+use Rattle.spec_warm.proofs.Results.{ok_not_err, err_same}
 
 -- ---- no position is open
 none_open : (e : Elimination) (j n : ℕ) → open_below e j n ≡ None → (i : ℕ) → i < n → is_open e j i ≡ false
@@ -48,7 +50,7 @@ closed e j i h = by (has_none (get_or e.basic i None)) (eq_ℚ (at_place e.rows 
         (has_none (get_or e.basic i None) ≡ false) ⊎ (at_place e.rows i j ≡ 0ℚ)
     by false d p q h = inl p
     by true true p q h = inr (eq_if (at_place e.rows i j) 0ℚ q)
-    by true false p q h = let z : true ≡ false = h in cc
+    by true false p q h = absurd (true≢false h)
 
 module _ (limit : Option ℕ) (f : Form) (basis : List Status) (j : ℕ)
     (j_in : j < f.cols + f.rows) (b : basis_at basis j ≡ Basic) (e : Elimination)
@@ -150,7 +152,7 @@ module _ (limit : Option ℕ) (f : Form) (basis : List Status) (j : ℕ)
 -- a stop is that of some step, and those before it gave results
 stops_at : {A E : Type 0} (n : ℕ) (f : ℕ → A → Result A E) (a : A) (e : E) → steps n f a ≡ Err e →
     (i : ℕ) × (i < n) × (x : A) × (steps i f a ≡ Ok x) × (f i x ≡ Err e)
-stops_at {A} {E} zero f a e h = let z : ◌≡◌ {A = Result A E} (Ok a) (Err e) = h in cc
+stops_at zero f a e h = ok_not_err a e h
 stops_at {A} {E} (suc n) f a e h = by (steps n f a) refl h (λ h. stops_at n f a e h)
   where
     by : (o : Result A E) → steps n f a ≡ o → (o >>= λ b. f n b) ≡ Err e →
@@ -161,7 +163,7 @@ stops_at {A} {E} (suc n) f a e h = by (steps n f a) refl h (λ h. stops_at n f a
 
 -- an operation that is refused is not singular
 never_singular : {A : Type 0} (o : Run A) → ¬ (refused_as stop.Past o ≡ Err stop.Singular)
-never_singular {A} (Ok a) h = let z : ◌≡◌ {A = Result A (StartStop ℚ)} (Ok a) (Err stop.Singular) = h in cc
+never_singular (Ok a) h = ok_not_err {E = StartStop ℚ} a stop.Singular h
 never_singular {A} (Err p) h =
     let z : ◌≡◌ {A = Result A (StartStop ℚ)} (Err (stop.Past p)) (Err stop.Singular) = h in
     let y : stop.Past p ≡ stop.Singular = cc in cc
@@ -188,7 +190,7 @@ eliminate_singular limit f basis h =
       solution limit f basis j l (basic_if (basis_at basis j) c) e s (no_place limit f e j (open_below e j f.rows) h),
       depends limit f basis j l (basic_if (basis_at basis j) c) e s (no_place limit f e j (open_below e j f.rows) h),
     )
-    by j l e s false c h = let z : ◌≡◌ {A = Result Elimination (StartStop ℚ)} (Ok e) (Err stop.Singular) = h in cc
+    by j l e s false c h = ok_not_err {E = StartStop ℚ} e stop.Singular h
 
 pub start_singular : (limit : Option ℕ) (f : Form) (basis : List Status) →
     start_from limit f basis ≡ Err stop.Singular → (j : ℕ) × (x : ℕ → ℚ) × IsDependent f basis j x
@@ -199,4 +201,4 @@ start_singular limit f basis h = by (eliminate_run limit f basis) refl h
         (o >>= λ e. refused_as stop.Past (filled_run limit f (with_basis f basis e))) ≡ Err stop.Singular →
         (j : ℕ) × (x : ℕ → ℚ) × IsDependent f basis j x
     by (Ok e) p h = absurd (never_singular (filled_run limit f (with_basis f basis e)) h)
-    by (Err d) p h = let z : d ≡ stop.Singular = cc in eliminate_singular limit f basis (p ∙ ap Err z)
+    by (Err d) p h = eliminate_singular limit f basis (p ∙ ap Err (err_same d stop.Singular h))
