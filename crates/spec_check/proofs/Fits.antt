@@ -7,6 +7,7 @@ use Rattle.std.proofs.Math.ListN.{length-set, length-replicate}
 use borrow.Author.Tests.{ltb-true}
 use Rattle.spec_text.specs.Words.{same}
 use Rattle.spec_exact.specs.Fraction.{ℚ, 0ℚ}
+use Rattle.spec_exact.proofs.Results.{ok_same}
 use Rattle.spec_model.specs.Model.{Model, Name, ExactColumn, width, height}
 use Rattle.spec_model.specs.Kept.{column_place}
 use Rattle.spec_check.specs.declared.certificate.Letter.{Letter}
@@ -25,9 +26,6 @@ after_ok : {A B : Type 0} (o : Settled A) (next : A → Settled B) (b : B) → (
     (a : A) × (o ≡ Ok a) × (next a ≡ Ok b)
 after_ok (Ok a) next b e = (a, refl, e)
 after_ok (Err fault) next b e = cc
-
-ok_same : {A : Type 0} (a b : A) → ◌≡◌ {A = Settled A} (Ok a) (Ok b) → a ≡ b
-ok_same a b e = cc
 
 known_ok : (o : Option ℕ) (name : Name) (k : ℕ) → known o name ≡ Ok k → o ≡ Some k
 known_ok None name k e = cc

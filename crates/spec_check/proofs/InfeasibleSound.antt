@@ -11,6 +11,7 @@ use Rattle.spec_exact.proofs.Field.{+ℚ_zero, *ℚ_zero}
 use Rattle.spec_exact.proofs.Ruleset.{zero-+ℚ}
 use Rattle.spec_exact.proofs.Order.{clash_ℚ, <ℚ-le, lt_if, le_if_not, lt_test, not_lt_test}
 use Rattle.spec_exact.specs.Run.{◌>>=◌, steps}
+use Rattle.spec_exact.proofs.Results.{ok_same}
 use Rattle.spec_model.specs.Model.{Model, Limits, width, height, bounds, limits, row, coefficient, part}
 use Rattle.spec_check.specs.declared.certificate.Known.{Known}
 use Rattle.spec_check.specs.declared.certificate.Known.TheVariants as known
@@ -19,7 +20,7 @@ use Rattle.spec_check.specs.Checks.{rows_ask, ChecksInfeasible, ChecksClash}
 use Rattle.spec_check.specs.Run.{Run, step, need, lower_run, upper_run}
 use Rattle.spec_check.specs.Run.{weighed_at, weighed, row_asks_run, priced_run, column_gives_run}
 use Rattle.spec_check.specs.Run.{rows_ask_run, columns_give_run, infeasible_run, crossed_run, clash_run}
-use Rattle.spec_check.proofs.StepsSound.{after_ok, need_ok, ok_same, sum_ok, some_ok_at, plus_ok}
+use Rattle.spec_check.proofs.StepsSound.{after_ok, need_ok, sum_ok, some_ok_at, plus_ok}
 use Rattle.spec_check.proofs.StepsSound.{products_ok, lower_ok, upper_ok, less_from, greater_from, compared}
 
 -- what weighing a limit says

@@ -8,6 +8,7 @@ use Rattle.spec_exact.specs.declared.past.Op.TheVariants.{Add}
 use Rattle.spec_exact.proofs.Order.{clash_ℚ, <ℚ-le, lt_if, le_if_not}
 use Rattle.spec_exact.proofs.Sums.{neg-sum_below}
 use Rattle.spec_exact.specs.Run.{◌>>=◌}
+use Rattle.spec_exact.proofs.Results.{ok_same}
 use Rattle.spec_model.specs.Model.{Model, width, height, bounds, limits, row}
 use Rattle.spec_model.specs.Model.{cost, coefficient, activity, part, value_of}
 use Rattle.spec_check.specs.declared.certificate.Known.{Known}
@@ -16,7 +17,7 @@ use Rattle.spec_check.specs.Checks.{signed, reduced, IsTight, ChecksOptimal}
 use Rattle.spec_check.specs.Run.{Run, step, need, each, less_product, lower_run, upper_run}
 use Rattle.spec_check.specs.Run.{stands_at, is_tight, columns_run, activity_run, rows_run, reduced_run}
 use Rattle.spec_check.specs.Run.{column_tight_run, row_tight_run, cost_run, value_run, optimal_run}
-use Rattle.spec_check.proofs.StepsSound.{after_ok, need_ok, ok_same, each_ok, sum_ok, less_ok, products_ok, added}
+use Rattle.spec_check.proofs.StepsSound.{after_ok, need_ok, each_ok, sum_ok, less_ok, products_ok, added}
 use Rattle.spec_check.proofs.StepsSound.{lower_ok, upper_ok, stands_from, tight_from, activity_ok, feasible_ok}
 
 -- ---- complementary multipliers

@@ -16,6 +16,7 @@ use Rattle.spec_exact.proofs.Order.{≤ℚ_refl, <ℚ-le, lt_test, not_lt_test}
 use Rattle.spec_exact.proofs.Limit.{add_gives, sub_gives, mul_gives}
 use Rattle.spec_exact.proofs.Compare.{compare_gives, order_less, order_equal, order_greater}
 use Rattle.spec_exact.proofs.Same.{eq_if}
+use Rattle.spec_exact.proofs.Results.{ok_same}
 use Rattle.spec_exact.specs.Run.{◌>>=◌, steps}
 use Rattle.spec_model.specs.declared.parts.Kind.{Kind}
 use Rattle.spec_model.specs.declared.parts.Kind.TheVariants.{L, G, E}
@@ -42,9 +43,6 @@ step_ok op v w None x e = cc
 pub need_ok : (n : ℕ) (t : Bool) (u : ⊤) → need n t ≡ Ok u → t ≡ true
 need_ok n true u e = refl
 need_ok n false u e = cc
-
-pub ok_same : {A : Type 0} (a b : A) → ◌≡◌ {A = Run A} (Ok a) (Ok b) → a ≡ b
-ok_same a b e = cc
 
 -- below n + 1 is below n or n itself
 pub last : {P : Type 0} (i n : ℕ) → i < suc n → (i < n → P) → (i ≡ n → P) → P

@@ -4,13 +4,14 @@ use Rattle.std.proofs.Common.{IfSome, Bool, true, false, not, refl, sym, subst}
 use Rattle.std.specs.Prelude.{⊤}
 use Rattle.spec_exact.specs.Fraction.{ℚ, 0ℚ, ◌≤ℚ◌, ◌<ℚ◌, lt_ℚ}
 use Rattle.spec_exact.proofs.Order.{lt_if, le_if_not}
+use Rattle.spec_exact.proofs.Results.{ok_same}
 use Rattle.spec_model.specs.Model.{Model, width, height, bounds, limits, row, cost, activity, part, cost_of}
 use Rattle.spec_check.specs.declared.certificate.Known.{Known}
 use Rattle.spec_check.specs.declared.certificate.Known.TheVariants as known
 use Rattle.spec_check.specs.Checks.{signed, Allows, ChecksUnbounded}
 use Rattle.spec_check.specs.Run.{need, each, lower_run, upper_run, columns_run, activity_run, rows_run, cost_run}
 use Rattle.spec_check.specs.Run.{not_below, not_above, column_allows_run, row_allows_run, better_run, unbounded_run}
-use Rattle.spec_check.proofs.StepsSound.{after_ok, need_ok, ok_same, each_ok, products_ok}
+use Rattle.spec_check.proofs.StepsSound.{after_ok, need_ok, each_ok, products_ok}
 use Rattle.spec_check.proofs.StepsSound.{lower_ok, upper_ok, activity_ok, feasible_ok}
 
 not_true : (t : Bool) → not t ≡ true → t ≡ false

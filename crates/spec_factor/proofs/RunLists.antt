@@ -6,6 +6,7 @@ use Rattle.std.proofs.lemmas.List.{length-set}
 use Rattle.std.proofs.lemmas.List.Elements.{All-head, All-tail}
 use Rattle.spec_exact.specs.Fraction.{ℚ, ◌+ℚ◌, ◌-ℚ◌, ◌*ℚ◌, 0ℚ, inverse}
 use Rattle.spec_exact.specs.Sums.{sum_below}
+use Rattle.spec_exact.proofs.Results.{ok_same}
 use Rattle.spec_exact.proofs.Ruleset.{ring}
 use Rattle.spec_exact.specs.Run.{Run, quotient_run, less_product, steps}
 use Rattle.spec_path.proofs.Runs.{then_ok, quotient_ok, less_ok, steps_ok, IsListOf, list_ok}
@@ -22,9 +23,6 @@ pub record Reads (m : ℕ) (xs : List ℚ) (f : ℕ → ℚ) : Type 0 where
 
 abbrev pub read : List ℚ → ℕ → ℚ
 read xs i = get_or xs i 0ℚ
-
-ok_is : {A : Type 0} (a b : A) → ◌≡◌ {A = Run A} (Ok a) (Ok b) → a ≡ b
-ok_is a b h = cc
 
 module _ (limit : Option ℕ) (m : ℕ) where
   -- ---- ftran
@@ -43,13 +41,13 @@ module _ (limit : Option ℕ) (m : ℕ) where
           cond c (Ok q) (less_product limit (pair_at e i) q (read v i)) ≡ Ok x
           → x ≡ cond c (read v e.place *ℚ inverse (pair_at e e.place))
           (read v i -ℚ pair_at e i *ℚ (read v e.place *ℚ inverse (pair_at e e.place)))
-      by true q is x i h = sym (ok_is q x h) ∙ is
+      by true q is x i h = sym (ok_same q x h) ∙ is
       by false q is x i h = less_ok limit (pair_at e i) q (read v i) x h ∙ ap (λ a. read v i -ℚ pair_at e i *ℚ a) is
 
   pub ftran_ok : (pairs : List Pair) (v z : List ℚ) → All (IsPair m) pairs → length v ≡ m →
       ftran_run limit m pairs v ≡ Ok z → Reads m z (forward pairs (read v))
   ftran_ok [] v z s all h =
-      let e : v ≡ z = ok_is v z h in subst (λ z. Reads m z (read v)) e (record { all = all; each = λ i _. refl })
+      let e : v ≡ z = ok_same v z h in subst (λ z. Reads m z (read v)) e (record { all = all; each = λ i _. refl })
   ftran_ok (e ∷ es) v z s all h =
       let a = then_ok (forward_run limit m e v) (λ w. ftran_run limit m es w) z h in
       let one : Reads m a.0 (forward_one e (read v)) = forward_ok e v a.0 a.1 in
@@ -86,7 +84,7 @@ module _ (limit : Option ℕ) (m : ℕ) where
           → cond c (Ok x) (less_product limit (read v i) (pair_at e i) x) ≡ Ok y
           → y ≡ read v
           e.place -ℚ (sum_below i (λ i. off e.place i (read v i *ℚ pair_at e i)) +ℚ cond c 0ℚ (read v i *ℚ pair_at e i))
-      by true i x y was is = sym (ok_is x y is) ∙ was ∙ none _ _
+      by true i x y was is = sym (ok_same x y is) ∙ was ∙ none _ _
       by false i x y was is =
           less_ok limit (read v i) (pair_at e i) x y is ∙ ap (λ a. a -ℚ read v i *ℚ pair_at e i) was ∙ more _ _ _
 
@@ -98,7 +96,7 @@ module _ (limit : Option ℕ) (m : ℕ) where
       then_ok (steps m (λ i s. cond (nat_eq i e.place) (Ok s) (less_product limit (read v i) (pair_at e i) s))
       (read v e.place)) _ w h in
       let b = then_ok (quotient_run limit a.0 (pair_at e e.place)) (λ q. Ok (set v e.place q)) w a.2 in
-      let z : set v e.place b.0 ≡ w = ok_is (set v e.place b.0) w b.2 in
+      let z : set v e.place b.0 ≡ w = ok_same (set v e.place b.0) w b.2 in
       let q : b.0 ≡ (read v e.place -ℚ taken m e (read v)) *ℚ inverse (pair_at e e.place) =
       quotient_ok limit a.0 (pair_at e e.place) b.0 b.1
       ∙ ap (λ a. a *ℚ inverse (pair_at e e.place)) (less_others e v a.0 a.1) in
@@ -115,7 +113,7 @@ module _ (limit : Option ℕ) (m : ℕ) where
       btran_run limit m pairs c ≡ Ok y → Reads m y (backward m pairs (read c))
   unfolding backward
   btran_ok [] c y s all h =
-      let e : c ≡ y = ok_is c y h in subst (λ y. Reads m y (read c)) e (record { all = all; each = λ i _. refl })
+      let e : c ≡ y = ok_same c y h in subst (λ y. Reads m y (read c)) e (record { all = all; each = λ i _. refl })
   btran_ok (e ∷ es) c y s all h =
       let a = then_ok (btran_run limit m es c) (λ w. backward_run limit m e w) y h in
       let rest : Reads m a.0 (backward m es (read c)) = btran_ok es c a.0 (All-tail (IsPair m) e es s) all a.1 in

@@ -2,6 +2,7 @@
 -- tableau holds of the last.
 use Rattle.std.proofs.Common.{◌≡◌, ℕ, zero, suc, ◌+◌, ◌<◌, ◌^◌, Option, Result, Ok, Err, refl, sym, ap, subst, arith}
 use Rattle.spec_exact.specs.Fraction.{ℚ}
+use Rattle.spec_exact.proofs.Results.{ok_same, err_not_ok, ok_not_err}
 use Rattle.spec_pivot.specs.Tableau.{Matrix}
 use Rattle.spec_pivot.specs.Simplex.{Bounds, Table, IsTableau, Label, IsStep}
 use Rattle.spec_pivot.proofs.Count.{bounded}
@@ -25,13 +26,6 @@ pub data ThenErr {A B E : Type 0} (o : Result A E) (f : A → Result B E) (e : E
 pub then_err : {A B E : Type 0} (o : Result A E) (f : A → Result B E) (e : E) → (o >>= f) ≡ Err e → ThenErr o f e
 then_err (Ok a) f e h = second a refl h
 then_err (Err d) f e h = first (let z : d ≡ e = cc in ap Err z)
-
--- ---- results compared, whatever they hold
-same_result : {A E : Type 0} (a b : A) → ◌≡◌ {A = Result A E} (Ok a) (Ok b) → a ≡ b
-same_result a b h = cc
-
-never_both : {A E : Type 0} (a : A) (e : E) → ¬ (◌≡◌ {A = Result A E} (Ok a) (Err e))
-never_both a e h = cc
 
 -- an operation that is refused is not a spent budget
 pub never_spent : {A : Type 0} (o : Run A) → ¬ (refused_as stop.Past o ≡ Err stop.Spent)
@@ -97,7 +91,7 @@ module _ (limit : Option ℕ) (m n : ℕ) (f : Matrix) (cost : ℕ → ℚ) (b :
       IsEnd limit m n f cost b t used e
   ends_here t used e (End end) s i c h =
       let z : ◌≡◌ {A = PrimalEnded} (record { end = end; tableau = t; used = used }) e =
-      same_result {E = RunStop ℚ} (record { end = end; tableau = t; used = used }) e h in
+      ok_same {E = RunStop ℚ} (record { end = end; tableau = t; used = used }) e h in
       subst (IsEnd limit m n f cost b t used) z (record {
         after = s;
         within = i;
@@ -106,8 +100,8 @@ module _ (limit : Option ℕ) (m n : ℕ) (f : Matrix) (cost : ℕ → ℚ) (b :
         count = omega arith;
         walk = stand_still m n b t l;
       })
-  ends_here t used e (Flip j) s i c h = absurd (never_both e stop.Spent (sym h))
-  ends_here t used e (Pivot p j theta to) s i c h = absurd (never_both e stop.Spent (sym h))
+  ends_here t used e (Flip j) s i c h = err_not_ok stop.Spent e h
+  ends_here t used e (Pivot p j theta to) s i c h = err_not_ok stop.Spent e h
 
   on_from : (t u : Tableau) (used : ℕ) (e : PrimalEnded) → StepsTo m n f cost b t u →
       IsEnd limit m n f cost b u (used + 1) e → IsEnd limit m n f cost b t used e
@@ -176,7 +170,7 @@ module _ (limit : Option ℕ) (m n : ℕ) (f : Matrix) (cost : ℕ → ℚ) (b :
           → ((u : Tableau) → IsTableauOf m n f cost b u → IsWithinBounds m n b u →
           run_from limit left (used + 1) u ≡ Err stop.Spent → Walk m n b u left) → Walk m n b t (suc left)
       go (End end) c h more =
-          absurd (never_both {A = PrimalEnded} (record { end = end; tableau = t; used = used }) stop.Spent h)
+          ok_not_err {A = PrimalEnded} (record { end = end; tableau = t; used = used }) stop.Spent h
       go (Flip j) c h more =
           made (flip_run limit t j) (choice_is_meant limit m n f cost b t (Flip j) s i c)
           (then_err (refused_as stop.Past (flip_run limit t j)) (λ u. run_from limit left (used + 1) u) stop.Spent h)

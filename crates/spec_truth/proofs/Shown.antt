@@ -6,6 +6,7 @@ use Rattle.spec_exact.specs.Limit.{add}
 use Rattle.spec_exact.specs.Answer.{told}
 use Rattle.spec_exact.specs.Narrow.{IsNarrow}
 use Rattle.spec_exact.specs.declared.past.Op.TheVariants.{Add}
+use Rattle.spec_exact.proofs.Results.{ok_same}
 use Rattle.spec_model.specs.Model.{Model, width, height}
 use Rattle.spec_check.specs.declared.certificate.Certificate.{Certificate}
 use Rattle.spec_check.specs.declared.certificate.Certificate.TheVariants.{Optimal, Infeasible, Clash, Unbounded}
@@ -25,7 +26,7 @@ use Rattle.spec_check.proofs.RunSound.{run_sound}
 use Rattle.spec_check.proofs.Sound.{checks_hold}
 use Rattle.spec_check.proofs.InfeasibleSound.{infeasible_ok, clash_ok}
 use Rattle.spec_check.proofs.UnboundedSound.{unbounded_ok}
-use Rattle.spec_check.proofs.StepsSound.{after_ok, step_ok, ok_same}
+use Rattle.spec_check.proofs.StepsSound.{after_ok, step_ok}
 use Rattle.spec_check.specs.declared.solve_end.SolveEnd.TheVariants as outcome
 use Rattle.spec_cold.specs.Cold.{ExactSolveEnd}
 use Rattle.spec_server.specs.declared.answer.Answer.{Answer}

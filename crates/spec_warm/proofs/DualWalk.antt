@@ -15,7 +15,7 @@ use Rattle.spec_simplex.specs.declared.ends.DualChoice.TheVariants.{End, Pivot}
 use Rattle.spec_warm.specs.Based.{IsReady, IsDualStep, IsDualMeant}
 use Rattle.spec_simplex.specs.Dual.{passed_bound, dual_choice_run, dual_pivot_run, DualEnded}
 use Rattle.spec_simplex.specs.Dual.{dual_end_or_spent, dual_end_or_next, dual_from}
-use Rattle.spec_warm.proofs.Results.{ok_same, err_not_ok}
+use Rattle.spec_exact.proofs.Results.{ok_same, err_not_ok}
 use Rattle.spec_warm.proofs.Stepped.{choice_meant, pivot_ready, pivot_table}
 
 module _ (limit : Option ℕ) (m n : ℕ) (f : Matrix) (cost : ℕ → ℚ) (b : Bounds) where

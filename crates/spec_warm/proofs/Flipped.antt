@@ -32,7 +32,7 @@ use Rattle.spec_simplex.specs.Fit.{needs_flip, is_there, meets_need, needs_flip_
 use Rattle.spec_warm.proofs.Bounded.{own_counts, given_counts, lower_same}
 use Rattle.spec_warm.proofs.Bounded.{upper_same, fixed_is, not_fixed_is, free_open}
 use Rattle.spec_warm.proofs.Fits.{met_suits}
-use Rattle.spec_warm.proofs.Results.{ok_same, err_not_ok}
+use Rattle.spec_exact.proofs.Results.{ok_same, err_not_ok}
 
 -- ---- a column that needs its other bound
 -- it is at one bound, has the other one, and its reduced cost has the sign that belongs to the other one

@@ -1,4 +1,3 @@
-pub mod Results
 pub mod Counts
 pub mod Unsolved
 pub mod Eliminated

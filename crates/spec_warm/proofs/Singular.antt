@@ -28,7 +28,7 @@ use Rattle.spec_simplex.specs.Eliminate.{or_place, open_below, solved_at, solved
 use Rattle.spec_simplex.specs.Eliminate.{eliminate_run, or_first, with_basis, filled_run, start_from}
 use Rattle.spec_warm.proofs.Counts.{basic_if, some_is}
 use Rattle.spec_warm.proofs.Eliminated.{Solving, eliminated_below}
-use Rattle.spec_warm.proofs.Results.{ok_not_err, err_same}
+use Rattle.spec_exact.proofs.Results.{ok_not_err, err_same}
 
 -- ---- no position is open
 none_open : (e : Elimination) (j n : ℕ) → open_below e j n ≡ None → (i : ℕ) → i < n → is_open e j i ≡ false

@@ -36,8 +36,8 @@ returns-in_err-end-clause-answer c =
 
 pub returns-clause-answer : goal.returns-clause-answer
 returns-clause-answer c =
-    is_finished _ _ _ _ c.requires.start _ _ _ c.in_ok-phase_one.ensures (sym c.is_stuck.ensures ∙ c.if-is_stuck.false) _
-    c.in_ok-phase_two.ensures _ c.in_ok-end.ensures.ended
+    is_finished _ _ _ _ c.requires.start _ _ _ c.in_ok-phase_one.ensures
+    (sym c.is_stuck.ensures ∙ c.if-is_stuck.false) _ c.in_ok-phase_two.ensures _ c.in_ok-end.ensures.ended
 
 pub returns-clause-inside : goal.returns-clause-inside
 returns-clause-inside c = run_inside _ _ _ _ _ _ _ c.in_ok-end.ensures.ended

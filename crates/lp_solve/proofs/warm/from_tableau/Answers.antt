@@ -16,8 +16,8 @@ returns-in-Ok-Primal-clause-answer c =
 pub returns-in-Ok-Dual-clause-answer : goal.returns-in-Ok-Dual-clause-answer
 returns-in-Ok-Dual-clause-answer c =
     subst (λ run. IfOk c.by_dual.result (λ w. w ≡ after_run (Some largest) c.args.model.now run))
-    (sym (runs_by (Some largest) c.args.budget c.args.form.now c.args.basis.now c.args.tab.now c.requires.starts fit.Dual
-    (sym c.fit.ensures ∙ c.in-Ok-Dual.is ∙ ap Ok c.in-Ok-Dual.field-0-is)))
+    (sym (runs_by (Some largest) c.args.budget c.args.form.now c.args.basis.now c.args.tab.now c.requires.starts
+    fit.Dual (sym c.fit.ensures ∙ c.in-Ok-Dual.is ∙ ap Ok c.in-Ok-Dual.field-0-is)))
     c.by_dual.ensures.answer
 
 pub returns-in-Ok-Unfit-clause-answer : goal.returns-in-Ok-Unfit-clause-answer
