@@ -117,6 +117,7 @@ class BadPeers(Linked):
 
     def test_no_end_of_a_line_or_a_reply(self) -> None:
         def serve(link: socket.socket) -> None:
+            link.recv(1)
             while True:
                 link.sendall(b"x" * 1000)
 
