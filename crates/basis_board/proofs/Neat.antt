@@ -10,7 +10,7 @@ use Rattle.basis_board.specs.declared.seats.Read.{Read}
 use Rattle.basis_board.specs.declared.seats.Read.TheVariants.{Count, Open, See, Claim, Lost, Done}
 use Rattle.spec_shape.specs.Words.{IsWellFormed}
 use Rattle.basis_board.specs.Board.{Each, Has, count, owning, noted, finished, opening_place, grown_seen}
-use Rattle.basis_board.specs.Board.{grown_reads, reading, met, cut_left, cut_right, first_view}
+use Rattle.basis_board.specs.Board.{grown_reads, reading, met}
 use Rattle.basis_board.specs.Rule.{SeenFits, ReadFits, Fits, Kept, Agree, published_places}
 use Rattle.basis_board.specs.Rule.{StandsIn, Neat, ReadAgrees, Consistent}
 use Rattle.basis_board.proofs.Totals.{total_at, each_map, each_append, has_left, has_right}
@@ -141,39 +141,6 @@ at_here : {X : Type 0} (xs : List X) (i : ℕ) (x y : X) → get_elem? xs i ≡ 
 at_here [] i x y e = absurd (some-ne-none x (sym e))
 at_here (z ∷ zs) zero x y e = refl
 at_here (z ∷ zs) (suc i) x y e = at_here zs i x y e
-
-pub consistent_left : (v : View) → Consistent v → Consistent (cut_left v)
-consistent_left v h =
-    record {
-      neat = record { published = h.neat.published; stands = h.neat.stands };
-      agree = h.agree;
-      reads_agree = h.reads_agree;
-      formed = h.formed;
-      own = h.own;
-      once = h.once;
-    }
-
-pub consistent_right : (v : View) → Consistent v → Consistent (cut_right v)
-consistent_right v h =
-    record {
-      neat = record { published = refl; stands = tt };
-      agree = h.agree;
-      reads_agree = tt;
-      formed = h.formed;
-      own = tt;
-      once = λ k. omega arith;
-    }
-
-pub consistent_first : (places : ℕ) → Consistent (first_view places)
-consistent_first places =
-    record {
-      neat = record { published = refl; stands = tt };
-      agree = tt;
-      reads_agree = tt;
-      formed = tt;
-      own = tt;
-      once = λ k. omega arith;
-    }
 
 module _ (places : ℕ) where
   pub consistent : (s : St) → Kept places s → (id : ℕ) (v : View) → get_elem? s.views id ≡ some v → Consistent v

@@ -1,10 +1,10 @@
 -- What a publish comes to.
-use Rattle.std.proofs.Common.{◌≡◌, ◌≢◌, ℕ, ◌<◌, ◌≤◌, List, ap, ◌∙◌, subst, arith}
+use Rattle.std.proofs.Common.{◌≢◌, ℕ, ◌<◌, ◌≤◌, ap, ◌∙◌, subst, arith}
 use Rattle.basis_board.specs.declared.seats.View.{View}
 use Rattle.basis_board.specs.declared.seats.Read.TheVariants.{Lost}
-use Rattle.basis_board.specs.Board.{noted, claiming, storing, finished}
+use Rattle.basis_board.specs.Board.{noted}
 use Rattle.basis_board.specs.Rule.{OwnsBelow, CountTells, Counted, Claimed}
-use Rattle.basis_board.specs.Calls.{IsPublished, IsFull, IsRaced}
+use Rattle.basis_board.specs.Calls.{IsFull, IsRaced}
 
 -- a whole view cannot own the places below two numbers
 two_bounds : (v : View) (n e : ℕ) → n < e → OwnsBelow v n → OwnsBelow v e → ⊥
@@ -30,13 +30,3 @@ raced v v1 w n e h g apart =
 
 pub full : (v v1 : View) (n : ℕ) → Counted v n v1 → v.places ≤ n → IsFull v n v1
 full v v1 n h most = let a = h.tells.within in record { view = h.view; all = omega arith; tells = h.tells }
-
-pub published_view : (v v1 v2 v3 w : View) (n e : ℕ) (xs : List ℕ) → Counted v n v1 → Claimed n v1 e v2 → e ≡ n →
-    v3 ≡ storing v2 n xs → w ≡ finished v3.held v3 → n < v.places → IsPublished v xs n w
-published_view v v1 v2 v3 w n e xs h g hit stored ended inside = record {
-  view =
-      ended ∙ ap (λ (u : View). finished u.held u)
-      (stored ∙ ap (λ u. storing u n xs) (g.won hit ∙ ap (λ u. claiming u n) h.view));
-  inside = inside;
-  tells = h.tells;
-}

@@ -218,8 +218,5 @@ module _ (names : List (Bor (List ℕ))) (all rest : List (List ℕ))
         ∙ ap (λ t. decided t (is_some (value_in option more))) k
         ∙ ap (λ (o : Option (List ℕ)). decided true (is_some o)) (sym is_found)
 
-    pub are-given : is_some found ≡ true → false ≡ are_in (bytes_of names) all
-    are-given g = sym (second ∙ ap (decided true) g)
-
     pub are-more : is_some found ≡ false → are_in (bytes_of names) more ≡ are_in (bytes_of names) all
     are-more g = sym (second ∙ ap (decided true) g)

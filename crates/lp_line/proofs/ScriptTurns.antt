@@ -96,10 +96,6 @@ lines_read reader = reader.lines
 abbrev lines_of_certificate : certificate_reading.CertificateRead → ℕ
 lines_of_certificate reader = reader.lines
 
-pub text_begins : (form : Style) (reader : TextRead) → reader ≡ record { style = form; state = start; lines = 0 } →
-    TextFits form [] (body.Reading reader)
-text_begins form reader is = subst (λ (r : TextRead). TextFits form [] (body.Reading r)) (sym is) (λ more answer h. h)
-
 text_passes : (form : Style) (lines : List (Line (List ℕ))) (held next : Body TextRead TextSaid)
     (here : Line (List ℕ)) →
     TextFits form lines held → PassesTo TextSays lines_read held here next → TextFits form (lines ++ here ∷ []) next
@@ -112,12 +108,6 @@ text_closes : (form : Style) (lines : List (Line (List ℕ))) (held : Body TextR
     verdict_said (text.judge form start 1 lines) ≡ what
 text_closes form lines held what fits h =
     same_said _ what (sym (text_judged form start 0 lines) ∙ fits (line.End ∷ []) (Some what) h)
-
-pub certificate_begins : (reader : certificate_reading.CertificateRead) → reader ≡ record { raw = None; lines = 0 } →
-    CertificateFits [] (body.Reading reader)
-certificate_begins reader is =
-    subst (λ (r : certificate_reading.CertificateRead). CertificateFits [] (body.Reading r)) (sym is)
-    (λ more answer h. h)
 
 certificate_passes : (lines : List (Line (List ℕ)))
     (held next : Body certificate_reading.CertificateRead CertificateSaid) (here : Line (List ℕ)) →

@@ -1,13 +1,12 @@
 -- Desks, the workers at them, and passes that are met into one.
-use Rattle.std.proofs.Common.{◌≡◌, ℕ, zero, suc, ◌+◌, ◌<◌, ◌≤◌, List, [], ◌∷◌, ◌++◌, length, map, reverse}
-use Rattle.std.proofs.Common.{Option, Some, None, false}
+use Rattle.std.proofs.Common.{◌≡◌, ℕ, ◌+◌, ◌≤◌, List, [], ◌∷◌, ◌++◌, length, reverse}
+use Rattle.std.proofs.Common.{Option, Some, false}
 use Rattle.std.specs.Prelude.{vec_capacity}
-use Rattle.std.proofs.Common.{refl, sym, ap, ◌∙◌, subst, arith, append-nil}
+use Rattle.std.proofs.Common.{refl, sym, ap, ◌∙◌, subst, arith}
 use Rattle.std.specs.List.Sorted.{IsPermutation}
 use Rattle.std.proofs.lemmas.List.{append_assoc, reverse-append}
-use Rattle.std.proofs.lemmas.List.Sorted.{IsPermutation-refl, IsPermutation-trans, IsPermutation-append_right}
+use Rattle.std.proofs.lemmas.List.Sorted.{IsPermutation-trans, IsPermutation-append_right}
 use Rattle.std.proofs.lemmas.List.Sorted.{IsPermutation-append_comm}
-use Rattle.spec_reads.specs.Reads.{ExactRead}
 use Rattle.basis_board.specs.declared.board.Board.{Board}
 use Rattle.basis_board.specs.declared.seats.View.{View}
 use Rattle.basis_board.specs.Board.{cut_right}
@@ -58,18 +57,6 @@ at_desk board each desk w free pass ends well = record {
 
 -- ---- passes are met
 
-pub met_one : (board : Board) (pass : Known) → IsOf board pass → (passes : List Known) → passes ≡ [] →
-    HasMet board (pass ∷ passes) pass
-met_one board pass is_of passes none =
-    subst (λ ps. HasMet board (pass ∷ ps) pass) (sym none)
-    (record {
-      is_of = is_of;
-      share = omega arith;
-      whole = λ two. absurd (omega (arith, two));
-      reads = subst (λ rs. IsPermutation rs (reads_of pass.view)) (sym (append-nil (reads_of pass.view)))
-          (IsPermutation-refl (reads_of pass.view));
-    })
-
 -- one pass more is met into that of others
 pub met_more : (board : Board) (first pass next : Known) → IsOf board next → Meets first.view pass.view next.view →
     (passes : List Known) → HasMet board passes first → HasMet board (pass ∷ passes) next
@@ -99,11 +86,6 @@ met_next board all left rest met pass next so split more = record {
   split = sym (append_assoc rest (pass ∷ []) so.done) ∙ ap (λ ps. ps ++ so.done) (sym split) ∙ so.split;
   is_met = more;
 }
-
-pub met_all : (board : Board) (all left : List Known) (met : Option Known) → MetOf board all left met → left ≡ [] →
-    Met board all met
-met_all board all left met so none =
-    subst (λ ps. Met board ps met) (sym (ap (λ ps. ps ++ so.done) none) ∙ so.split) so.is_met
 
 -- ---- lists that are taken from the end
 

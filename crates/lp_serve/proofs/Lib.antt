@@ -5,7 +5,6 @@ pub mod Turning
 pub mod Hiring
 pub mod AllServed
 pub mod RunsOver
-pub mod EndLines
 pub mod Finishing
 pub mod LinkReading
 pub mod LinkSteps

@@ -1,16 +1,16 @@
 -- The parts of a step over a board are a whole one.
-use Rattle.std.proofs.Common.{◌≡◌, List, [], ◌++◌, IfSome, refl, sym, ap, ◌∙◌, subst, inl, inr}
-use Rattle.std.proofs.lemmas.List.{append-nil, append_assoc}
+use Rattle.std.proofs.Common.{◌≡◌, List, ◌++◌, refl, sym, ap, ◌∙◌, subst, inl, inr}
+use Rattle.std.proofs.lemmas.List.{append_assoc}
 use Rattle.spec_shape.specs.Words.{IsWellFormed}
 use Rattle.spec_reads.specs.declared.read.Put.{Put as ExactPut}
-use Rattle.spec_reads.specs.Reads.{Words, ExactRead, Looked, front, LookReads, PutReads}
+use Rattle.spec_reads.specs.Reads.{Words, ExactRead, Looked, LookReads, PutReads}
 use Rattle.spec_server.specs.declared.halves.Next.{Next}
 use Rattle.spec_server.specs.declared.halves.Next.TheVariants as next
 use Rattle.spec_server.specs.declared.halves.Started.{Started}
 use Rattle.spec_server.specs.declared.halves.Started.TheVariants as started
 use Rattle.spec_server.specs.Machine.{ExactAsk, ExactReply, State}
 use Rattle.spec_server.specs.Step as step
-use Rattle.spec_server.specs.Halves.{WhatBecameOf, Standing, StartFits, MayBeFound, AwaitsPut, NextFits, PutFits}
+use Rattle.spec_server.specs.Halves.{WhatBecameOf, Standing, StartFits, AwaitsPut, NextFits, PutFits}
 use Rattle.basis_board.specs.declared.seats.View.{View}
 use Rattle.basis_board.specs.declared.board.Look.{Look}
 use Rattle.basis_board.specs.declared.board.Look.TheVariants.{Found, NoneReady}
@@ -27,39 +27,16 @@ places_kept shape v w (NoneReady c) d = ap (λ (x : View). x.places) d.view
 places_kept shape v w (Found k xs) f =
     ap (λ (x : View). x.places) f.finds.view ∙ ap (λ (x : View). x.places) f.down.view
 
-pub finds_formed : (shape : Words) (v w : View) (look : Look) → Looks shape v look w →
-    IfSome (looked_by look) (λ place. IsWellFormed place.words × (front place.words ≡ shape))
-finds_formed shape v w (NoneReady c) d = tt
-finds_formed shape v w (Found k xs) f = (f.finds.formed, f.finds.shape_is)
-
 -- ---- the reads of a look and a put
 reads_both : (xs made both ys zs : List ExactRead) → ys ≡ xs ++ made → zs ≡ ys ++ both → zs ≡ xs ++ (made ++ both)
 reads_both xs made both ys zs e f = f ∙ ap (λ rs. rs ++ both) e ∙ append_assoc xs made both
 
 module _ (old : State) (asked : ExactAsk) (begun : Started ExactReply) (first : Standing)
     (start : StartFits old asked begun first) (v : View) where
-  -- nothing is looked for
-  pub replies_so : (replied : ExactReply) → begun ≡ started.Reply replied → AddsStep old asked v replied first.state v
-  replies_so replied is =
-      let so : StartFits old asked (started.Reply replied) first =
-      subst (λ begun. StartFits old asked begun first) is start in
-      record {
-        reads = [];
-        step = record { begun = step.Answers replied first.state; begins = so.0; goes_on = (refl, refl, refl) };
-        all = sym (append-nil (reads_of v));
-      }
-
   module _ (shape : Words) (looks : begun ≡ started.Look shape) (w : View) (look : Look)
       (called : Looks shape v look w) where
     starts : StartFits old asked (started.Look shape) first
     starts = subst (λ begun. StartFits old asked begun first) looks start
-
-    -- what is found may be told
-    pub may_be_found : (found : Looked) → found ≡ looked_by look → MayBeFound first.awaits found
-    may_be_found found e =
-        subst (λ found. MayBeFound first.awaits found) (sym e)
-        (subst (λ (s : Standing). MayBeFound s.awaits (looked_by look)) (sym starts.1)
-        (finds_formed shape v w look called))
 
     made : AddsLook shape look v w
     made = looks_read shape v w look called

@@ -15,7 +15,7 @@ use Rattle.spec_server.specs.Exchanges.{Exchange}
 use Rattle.spec_world.specs.Workers.{asks_of_worker, exchanges_of_worker}
 use Rattle.lp_workers.specs.declared.worker.Worker.{Worker}
 use Rattle.lp_workers.specs.Workers.{HaveHad, IsReady}
-use Rattle.lp_workers.specs.Dealt.{AreDealt, AreHeld, HoldReplies, pass_of, passes_of}
+use Rattle.lp_workers.specs.Dealt.{AreDealt, AreHeld, pass_of, passes_of}
 use Rattle.lp_workers.proofs.OneMore.{hired_same}
 
 not_equal : (a b : ℕ) → nat_eq a b ≡ false → b ≢ a
@@ -37,10 +37,6 @@ pushed_same xs ys x y e =
     (sym (reverse-reverse xs) ∙ ap reverse g ∙ reverse-reverse ys, h)
 
 -- ---- asks
-
-pub dealt_none : (n : ℕ) (workers : List Worker) → length workers ≡ n →
-    All (λ (w : Worker). w.asks.items ≡ []) workers → AreDealt n [] workers
-dealt_none n workers all idle i d l = idle i d (subst (λ m. i < m) (sym all) l)
 
 module _ (n : ℕ) (workers : List Worker) (all : length workers ≡ n) (asked : Asked ExactAsk) (some : 0 < n)
     (w new : Worker) (is : w ≡ get_or workers (asked.session % n) w) where
@@ -95,19 +91,6 @@ pub record Dealing (n : ℕ) (all left : List (Asked ExactAsk)) (sessions : List
   pub many : length new ≡ n
   pub dealt : AreDealt n popped new
   pub ready : (board : Board) → All (IsReady board) old → All (IsReady board) new
-
-pub deal_begins : (n : ℕ) (all : List (Asked ExactAsk)) (sessions : List ℕ) (workers : List Worker) →
-    length workers ≡ n → sessions ≡ [] → All (λ (a : Asked ExactAsk). a.session ≤ 64) all →
-    All (λ (w : Worker). w.asks.items ≡ []) workers → Dealing n all all sessions workers workers
-deal_begins n all sessions workers many none low idle = record {
-  popped = [];
-  split = sym (append-nil all);
-  sessions_are = none;
-  low = low;
-  many = many;
-  dealt = dealt_none n workers many idle;
-  ready = λ board h. h;
-}
 
 module _ (n : ℕ) (all left : List (Asked ExactAsk)) (sessions : List ℕ) (old now : List Worker) (some : 0 < n)
     (so : Dealing n all left sessions old now) (rest : List (Asked ExactAsk)) (asked : Asked ExactAsk)
@@ -250,33 +233,3 @@ passes_stay workers i w new l is same =
     map-set pass_of workers i new
     ∙ ap (set (passes_of workers) i) (same ∙ ap pass_of is ∙ sym (get_or-map pass_of workers i w new.pass l))
     ∙ set-get_or (passes_of workers) i new.pass
-
--- after all sessions, all replies are there
-pub collect_begins : (n : ℕ) (workers : List Worker) (sessions : List ℕ) (replies : List ExactReply)
-    (exchanges : List Exchange) → replies ≡ [] → HoldReplies n sessions workers exchanges →
-    Collecting n 0 workers replies exchanges
-collect_begins n workers sessions replies exchanges none hold = record {
-  done = [];
-  rest = exchanges;
-  all = refl;
-  many = refl;
-  replied = none;
-  held = hold.held;
-}
-
-pub collected_all : (n : ℕ) (workers : List Worker) (sessions : List ℕ) (replies : List ExactReply)
-    (exchanges : List Exchange) (k : ℕ) → map (λ (x : Exchange). x.session) exchanges ≡ sessions →
-    length sessions ≤ k → Collecting n k workers replies exchanges →
-    reverse replies ≡ reverse (map (λ (x : Exchange). x.reply) exchanges)
-collected_all n workers sessions replies exchanges k are last so = by so.rest so.all
-  where
-    by : (rest : List Exchange) → exchanges ≡ so.done ++ rest →
-        reverse replies ≡ reverse (map (λ (x : Exchange). x.reply) exchanges)
-    by [] e =
-        ap reverse (so.replied ∙ ap (map (λ (x : Exchange). x.reply)) (sym (append-nil so.done) ∙ sym e))
-    by (x ∷ rest) e =
-        absurd
-        (let f = ap length (sym are) ∙ length-map exchanges (λ (x : Exchange). x.session) ∙ ap length e in
-        let g = length-append so.done (x ∷ rest) in
-        let h = so.many in
-        omega (arith, last, f, g, h))

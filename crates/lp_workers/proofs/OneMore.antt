@@ -191,9 +191,6 @@ module _ (board : Board) (held : List (Asked ExactAsk)) (w : Worker) (so : Turni
   low : All (λ (a : Asked ExactAsk). a.session ≤ 64) popped × (asked.session ≤ 64)
   low = All-pop (λ (a : Asked ExactAsk). a.session ≤ 64) w.asks.items popped (Some asked) split so.serving.sessions
 
-  pub session_so : asked.session ≤ 64
-  session_so = low.1
-
   pub turn_more : (reply : ExactReply) (next : Worker) → IsHired board next →
       HaveHad (so.done ++ asked ∷ []) (w.replies.items ++ reply ∷ []) next.pass.view next.sessions.items →
       next.asks.items ≡ popped → next.replies.items ≡ w.replies.items ++ reply ∷ [] →

@@ -1,10 +1,9 @@
 -- An edit of a model that is kept leaves one that may be kept.
-use Rattle.std.proofs.Common.{◌≡◌, ◌≤◌, not, leb, Ok, sym, subst, ⊎_elim}
+use Rattle.std.proofs.Common.{◌≡◌, not, leb, Ok, subst, ⊎_elim}
 use borrow.Author.Tests.{leb-false}
 use Rattle.std.proofs.lemmas.Bool.{not-false}
 use Rattle.spec_exact.specs.Fraction.{ℚ, neg_ℚ}
-use Rattle.spec_exact.specs.Narrow.{IsNarrow, widest}
-use Rattle.spec_exact.specs.Quotients.{abs-neg_ℤ}
+use Rattle.spec_exact.specs.Narrow.{IsNarrow}
 use Rattle.spec_exact.proofs.Narrow.{neg_narrow}
 use Rattle.spec_model.specs.Model.{Model, Name, ExactRow, height}
 use Rattle.spec_model.specs.Kept.{IsModel, IsNarrowRow, is_row_name, row_limit}

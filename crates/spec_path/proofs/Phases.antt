@@ -7,7 +7,7 @@ use Rattle.spec_model.specs.Model.{Model, width, height}
 use Rattle.spec_pivot.specs.declared.status.Way.{Way}
 use Rattle.spec_pivot.specs.declared.status.Way.TheVariants.{Up}
 use Rattle.spec_pivot.specs.declared.status.Status.TheVariants.{Basic}
-use Rattle.spec_pivot.specs.Simplex.{Bounds, IsEligible, Label, ray}
+use Rattle.spec_pivot.specs.Simplex.{Bounds, IsEligible, Label}
 use Rattle.spec_pivot.specs.Simplex as kind
 use Rattle.spec_simplex.specs.declared.ends.PrimalEnd.{PrimalEnd}
 use Rattle.spec_simplex.specs.declared.ends.PrimalEnd.TheVariants.{Optimal, Unbounded}

@@ -33,10 +33,6 @@ pub record Leaves (b : Bounds) (t u : Tableau) (v : Table) : Type 0 where
   pub table : table_of u ≡ v
   pub bounds : KeepsBounds b u
 
-by_test : {P : Type 0} (c : Bool) → (c ≡ true → P) → (c ≡ false → P) → P
-by_test true f g = f refl
-by_test false f g = g refl
-
 -- a column that enters is no artificial
 pub enters_before : (b : Bounds) (t : Tableau) (k : ℕ) → KeepsBounds b t → b.barred k ≡ false → k < form_columns t
 enters_before b t k keeps h =

@@ -8,7 +8,7 @@ use Rattle.spec_model.specs.declared.parts.Kind.{Kind}
 use Rattle.spec_model.specs.declared.parts.Kind.TheVariants.{L, G, E}
 use Rattle.spec_model.specs.Model.{ExactRow, Limits, limits_by, limits_of, from_to}
 use Rattle.spec_exact.specs.Run.{Run, sum_run, difference_run}
-use Rattle.spec_simplex.specs.Form.{equation_limits, limits_run}
+use Rattle.spec_simplex.specs.Form.{limits_run}
 use Rattle.spec_simplex.specs.Form as form
 use Rattle.spec_path.proofs.Runs.{then_ok, sum_ok, difference_ok}
 use Rattle.spec_exact.proofs.Sizes.{abs_above, abs_below}

@@ -4,8 +4,8 @@ use Rattle.spec_exact.specs.Fraction.{ℚ}
 use Rattle.spec_pivot.specs.declared.status.Status.{Status}
 use Rattle.spec_pivot.specs.declared.status.Status.TheVariants.{Basic, AtLower, AtUpper, AtZero}
 use Rattle.spec_pivot.specs.Tableau.{Matrix}
-use Rattle.spec_pivot.specs.Simplex.{Bounds, Table, IsTableau, IsWithin, CanMove, Stands, Enters, sign}
-use Rattle.spec_pivot.specs.Simplex.{after_pivot, after_flip, Pivots, Flips, Label, StepKind, IsStep}
+use Rattle.spec_pivot.specs.Simplex.{Bounds, Table, IsTableau, IsWithin, CanMove, Stands, Enters}
+use Rattle.spec_pivot.specs.Simplex.{after_pivot, after_flip, Pivots, Flips, Label, IsStep}
 use Rattle.spec_pivot.specs.Simplex as kind
 use Rattle.spec_pivot.specs.Ratio.{best_of, bound_ahead}
 use Rattle.spec_pivot.proofs.Best.{best_has_room, none_goes_on}

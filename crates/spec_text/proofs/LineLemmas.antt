@@ -10,9 +10,6 @@ use Rattle.std.proofs.lemmas.Bool.Decides.{nat_tests}
 use Rattle.spec_text.specs.Lines.{lines_of, line_of, ended_lines_of, all_but_last}
 use Rattle.spec_text.specs.declared.line.Line.TheVariants.{Text, Long}
 
-is_lf : ℕ → Bool
-is_lf b = eqb b 10
-
 -- there is always a first part
 parts_more : (x : List ℕ) (parts : List (List ℕ)) → (y : List ℕ) (more : List (List ℕ)) → parts ≡ y ∷ more →
     lines_of_parts (x ∷ parts) ≡ strip_carriage_return x ∷ lines_of_parts parts

@@ -8,8 +8,7 @@ use Rattle.spec_reads.specs.declared.read.Read.TheVariants as read
 use Rattle.spec_reads.specs.Reads.{ExactRead, Looked, basis_words, shape_words, front, has_shape, shown}
 use Rattle.spec_reads.specs.Places.{ExactPlace, place_at, IsShown}
 use Rattle.spec_server.specs.Machine.{ExactAsk, State, opening}
-use Rattle.spec_server.specs.Step.{Begun, Looks, Begins, Pending, Worked, Ends, Publishes, Works, answered, after_put}
-use Rattle.spec_server.specs.Step.{AloneStep}
+use Rattle.spec_server.specs.Step.{Begun, Looks, Begins, Worked, Ends, Publishes, Works}
 use Rattle.spec_server.specs.Step as step
 use Rattle.spec_server.specs.Exchanges.{Exchange, AloneRun}
 use Rattle.spec_world.specs.declared.event.Act.TheVariants as act

@@ -3,7 +3,7 @@ use Rattle.std.proofs.Common.{◌≡◌, ℕ, true, List, [], ◌∷◌, map, re
 use Rattle.spec_reads.specs.Reads.{ExactRead}
 use Rattle.spec_reads.specs.Places.{ExactPlace, Plays, logged}
 use Rattle.spec_server.specs.Machine.{ExactAsk, ExactReply, State}
-use Rattle.spec_server.specs.Step.{Begun, Looks, Begins, Worked, Ends, Publishes, Works, answered, Concludes}
+use Rattle.spec_server.specs.Step.{Begun, Looks, Begins}
 use Rattle.spec_server.specs.Step.{LookStep, GoesOn, AloneStep}
 use Rattle.spec_server.specs.Step as step
 use Rattle.spec_world.specs.declared.event.Act.TheVariants as act
