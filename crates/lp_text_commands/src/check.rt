@@ -62,15 +62,7 @@ fn status_of(reply: &Reply) -> ExitStatus
 {
     match reply {
         Reply::Refused(_) => ExitStatus::REFUSED,
-        Reply::Loaded(_, _)
-        | Reply::Written(_)
-        | Reply::Done
-        | Reply::Answered(_)
-        | Reply::Certified(_)
-        | Reply::Found { .. }
-        | Reply::Checked(_)
-        | Reply::Bye
-        | Reply::Memory => ExitStatus::DONE,
+        _ => ExitStatus::DONE,
     }
 }
 
