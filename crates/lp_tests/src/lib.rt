@@ -4,22 +4,17 @@
 //! | Item | What it tests | Where |
 //! |---|---|---|
 //! | `shapes` | words and shapes that `lp_shape` tells apart | src/shapes |
-//! | `factors`, `revised` | factors of one place, and each end of a run over factors | src/factors, src/revised |
 //! | `board` | passes of one board on two threads | src/board |
 //! | `worlds` | sessions of a world that publish at the same time | src/worlds |
 //! | `workers` | two workers beside each other | src/workers |
-//! | `links` | two links in memory that one worker serves, one that comes back, and a listener without a link | src/links |
+//! | `links` | two links in memory that one worker serves, and a listener without a link | src/links |
 //! | `tcp` | two links over loopback, each served by a worker of its own | src/tcp |
 #![tactic(auto)]
 
 #[cfg(test)]
 mod board;
 #[cfg(test)]
-mod factors;
-#[cfg(test)]
 mod links;
-#[cfg(test)]
-mod revised;
 #[cfg(test)]
 mod shapes;
 #[cfg(test)]

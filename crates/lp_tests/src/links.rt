@@ -1,9 +1,10 @@
-// Two links before one worker, one that comes back, and none.
-ghost use Rattle.std.specs.Prelude.{IfOk};
+// Two links before one worker, and none.
+ghost use Rattle.std.specs.Prelude.{◌≡◌, All, IfOk};
+ghost use Rattle.std.specs.Vec.{vec_len};
 ghost use Rattle.lp_link.specs.Memory.{IsUnwritten};
 
-use lp_base::{Bytes, MemSink, Sink, Source, Texts};
-use lp_link::{Listen, MemLink, MemListen};
+use lp_base::{Bytes, MemSink, Texts};
+use lp_link::{MemLink, MemListen};
 use lp_serve::{ServeFault, serve};
 use std::alloc::{AllocError, Global};
 use std::test::Fail;
@@ -27,13 +28,28 @@ fn link(alloc: Global, text: &[u8]) -> Result<MemLink, AllocError>
     Ok(MemLink::new(alloc, pieces, Vec::new(alloc), Vec::new(alloc)))
 }
 
+// Two links with the same commands.
+fn two_links(alloc: Global) -> Result<Vec<MemLink>, AllocError>
+    ensures { IfOk result (λ links. All IsUnwritten links.items) }
+{
+    let first = link(alloc, ASKS.as_bytes())?;
+    let second = link(alloc, ASKS.as_bytes())?;
+    Ok(std::vec![in alloc; first, second]?)
+}
+
+// One listener, on which these links come.
+fn listener(alloc: Global, links: Vec<MemLink>) -> Result<Vec<MemListen>, AllocError>
+    requires { All IsUnwritten links.items }
+    ensures { IfOk result (λ nets. vec_len nets ≡ 1) }
+{
+    let net = MemListen::new(alloc, links, Vec::new(alloc))?;
+    Ok(std::vec![in alloc; net]?)
+}
+
 #[test]
 fn links_are_served(rt: HostRuntime) -> Result<(), Fail> {
     let alloc = rt.alloc();
-    let asks = ASKS.as_bytes();
-    let links = std::vec![in alloc; link(alloc, asks)?, link(alloc, asks)?]?;
-    let net = MemListen::new(alloc, links, Vec::new(alloc))?;
-    let mut nets = std::vec![in alloc; net]?;
+    let mut nets = listener(alloc, two_links(alloc)?)?;
     let mut out = MemSink::new(alloc, Vec::new(alloc));
     serve(&rt, alloc, &mut nets, 2, 4, &mut out)?;
     let [first, second] = nets[0].links_back() else {
@@ -48,33 +64,10 @@ fn links_are_served(rt: HostRuntime) -> Result<(), Fail> {
 #[test]
 fn no_link_comes(rt: HostRuntime) -> Result<(), Fail> {
     let alloc = rt.alloc();
-    let net = MemListen::new(alloc, Vec::new(alloc), Vec::new(alloc))?;
-    let mut nets = std::vec![in alloc; net]?;
+    let mut nets = listener(alloc, Vec::new(alloc))?;
     let mut out = MemSink::new(alloc, Vec::new(alloc));
     let served = serve(&rt, alloc, &mut nets, 1, 4, &mut out);
     assert!(rt; matches!(served, Err(ServeFault::Accept)));
     assert!(rt; out.written().is_empty());
-    Ok(())
-}
-
-#[test]
-fn a_link_comes_back(rt: HostRuntime) -> Result<(), Fail> {
-    let alloc = rt.alloc();
-    let links = std::vec![in alloc; link(alloc, b"one")?, link(alloc, b"two")?]?;
-    let mut net = MemListen::new(alloc, links, std::vec![in alloc; 2]?)?;
-    let Ok(mut first) = net.accept() else {
-        return Ok(assert!(rt; false));
-    };
-    let mut text = [0; 8];
-    assert!(rt; matches!(first.read(&mut text), Ok(3)));
-    assert_eq!(rt; &text[..3], b"one".as_slice());
-    assert!(rt; matches!(first.write(b"reply"), Ok(5)));
-    net.give_back(first);
-    assert!(rt; net.accept().is_err());
-    assert!(rt; net.accept().is_ok());
-    assert!(rt; net.accept().is_err());
-    let back = net.links_back();
-    assert_eq!(rt; back.len(), 1);
-    assert_eq!(rt; back[0].written(), b"reply".as_slice());
     Ok(())
 }

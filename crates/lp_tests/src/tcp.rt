@@ -75,23 +75,22 @@ fn talk<R: Clock>(rt: &R, stream: TcpStream, heard: &Heard, awaited: &AtomicU64)
     is_answered(&stream, "QUIT\n", "BYE\n")
 }
 
-// A client's stream, to a socket that has not accepted it yet.
-fn connected<R>(rt: &R, socket: &TcpListener) -> io::Result<TcpStream>
+// A socket that listens, and the stream of a client that it has not accepted yet.
+fn listening<R>(rt: &R) -> io::Result<(TcpListener, TcpStream)>
 where
     R: Net<Listener = TcpListener, Stream = TcpStream>,
 {
+    let socket = TcpListener::bind(rt, "127.0.0.1:0")?;
     let stream = TcpStream::connect(rt, socket.local_addr()?)?;
     stream.set_read_timeout(Some(Duration::from_secs(PATIENCE)))?;
-    Ok(stream)
+    Ok((socket, stream))
 }
 
 #[test]
 fn two_links_are_served_beside_each_other(rt: HostRuntime) -> Result<(), Fail> {
     let alloc = rt.alloc();
-    let first = TcpListener::bind(&rt, "127.0.0.1:0")?;
-    let second = TcpListener::bind(&rt, "127.0.0.1:0")?;
-    let one = connected(&rt, &first)?;
-    let two = connected(&rt, &second)?;
+    let (first, one) = listening(&rt)?;
+    let (second, two) = listening(&rt)?;
     let (heard_one, heard_two) = (Heard::new(), Heard::new());
     let mut nets = vec![in alloc; TcpNet::new(Some(&first)), TcpNet::new(Some(&second))]?;
     let mut out = MemSink::new(alloc, Vec::new(alloc));

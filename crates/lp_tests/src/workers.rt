@@ -1,9 +1,9 @@
 // Two workers beside each other.
-ghost use Rattle.std.specs.Prelude.{◌≡◌, ◌≤◌, All, IfOk};
+ghost use Rattle.std.specs.Prelude.{◌≡◌, ◌≤◌, All, OnOk};
 
 use lp_base::Bytes;
 use lp_gen::make;
-use lp_line::{Ask, Asked, print_said};
+use lp_line::{Ask, Asked, Reply, print_said};
 use lp_workers::{Gate, answer_all};
 use spec_server::Plain;
 use std::alloc::{AllocError, Global};
@@ -54,17 +54,6 @@ impl Gate for Handshake {
     }
 }
 
-// To hold the greatest 9 C1 where 4 C1 is at most 27 and C1 at most 7.
-fn load(alloc: Global, session: u32) -> Result<Asked, AllocError>
-    ensures { IfOk result (λ asked. asked.session ≡ session) }
-{
-    let model = make(alloc, 4, 1, 1)?;
-    Ok(Asked {
-        session,
-        ask: Ask::Loaded(model),
-    })
-}
-
 fn solve(session: u32) -> Asked
     ensures { result.session ≡ session }
 {
@@ -74,13 +63,32 @@ fn solve(session: u32) -> Asked
     }
 }
 
-// Both sessions hold a model, and solve it twice.
-fn asks(alloc: Global) -> Result<Vec<Asked>, AllocError>
-    ensures { IfOk result (λ asks. All (λ asked. asked.session ≤ 64) asks.items) }
+fn push(asked: Asked, to: &mut Vec<Asked>) -> Result<(), AllocError>
+    requires session { asked.session ≤ 64 }
+    requires before { All (λ asked. asked.session ≤ 64) to.old.items }
+    ensures { OnOk result (All (λ asked. asked.session ≤ 64) to.new.items) }
 {
-    let one = load(alloc, 1)?;
-    let two = load(alloc, 2)?;
-    Ok(std::vec![in alloc; one, solve(1), solve(1), two, solve(2), solve(2)]?)
+    Ok(to.push(asked)?)
+}
+
+// The session holds a model and solves it twice: the greatest 9 C1 where 4 C1 is at most 27 and C1 at most 7.
+fn push_asks(alloc: Global, session: u32, to: &mut Vec<Asked>) -> Result<(), AllocError>
+    requires session { session ≤ 64 }
+    requires before { All (λ asked. asked.session ≤ 64) to.old.items }
+    ensures { OnOk result (All (λ asked. asked.session ≤ 64) to.new.items) }
+{
+    let ask = Ask::Loaded(make(alloc, 4, 1, 1)?);
+    push(Asked { session, ask }, to)?;
+    push(solve(session), to)?;
+    push(solve(session), to)
+}
+
+fn text_of(alloc: Global, replies: &[Reply]) -> Result<Bytes, AllocError> {
+    let mut text = Bytes::new(alloc);
+    for reply in replies {
+        print_said(alloc, reply, &mut text)?;
+    }
+    Ok(text)
 }
 
 #[test]
@@ -91,11 +99,10 @@ fn two_workers_run_beside_each_other(rt: HostRuntime) -> Result<(), Fail> {
         two_goes_on: AtomicU64::new(0),
         given_up: AtomicU64::new(0),
     };
-    let replies = answer_all(&rt, alloc, asks(alloc)?, 2, 4, &gate)?;
-    let mut text = Bytes::new(alloc);
-    for reply in &replies {
-        print_said(alloc, reply, &mut text)?;
-    }
+    let mut asks = Vec::new(alloc);
+    push_asks(alloc, 1, &mut asks)?;
+    push_asks(alloc, 2, &mut asks)?;
+    let text = text_of(alloc, &answer_all(&rt, alloc, asks, 2, 4, &gate)?)?;
     assert_eq!(rt; text.as_slice(), REPLIES.as_bytes());
     assert_eq!(rt; gate.given_up.load(Ordering::SeqCst), 0);
     Ok(())
