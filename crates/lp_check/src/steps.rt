@@ -8,8 +8,8 @@ use crate::certificate::CheckStop;
 use lp_frac::{Frac, Fracs, are_same, cmp};
 use std::cmp::Ordering;
 
-// The number at `k`, counted from 0.
-pub(crate) fn part(z: &Fracs, k: u32) -> Frac
+/// The number of a certificate's list at `k`, counted from 0.
+pub fn part(z: &Fracs, k: u32) -> Frac
     requires { k < length z.now }
     ensures { result ≡ part_of z.now k }
 {

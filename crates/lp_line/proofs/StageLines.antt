@@ -13,8 +13,8 @@ use Rattle.spec_server.specs.Said.{follow, said_by}
 use Rattle.spec_server.specs.SolveOut.{behind_line, text_step}
 use Rattle.mps_read.specs.Feeds as feeds
 use Rattle.mps_read.specs.TextRead.{TextRead}
-use Rattle.lp_check.specs.Feeds as certificate_feeds
-use Rattle.lp_check.specs.CertificateRead as certificate_reading
+use Rattle.lp_certificate.specs.Feeds as certificate_feeds
+use Rattle.lp_certificate.specs.CertificateRead as certificate_reading
 use Rattle.lp_line.specs.declared.hearing.Step.TheVariants.{On, Says}
 use Rattle.lp_line.specs.Hearing.{Leads}
 use Rattle.lp_line.specs.Stages.{TextSays, CertificateSaid, certificate_step, CertificateSays}

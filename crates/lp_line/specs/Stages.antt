@@ -6,7 +6,7 @@ use Rattle.spec_check.specs.Text as certificate
 use Rattle.spec_server.specs.Said.{Step, On, Says, said_by}
 use Rattle.spec_server.specs.SolveOut.{TextSaid, text_step}
 use Rattle.mps_read.specs.TextRead as text
-use Rattle.lp_check.specs.CertificateRead.{CertificateRead}
+use Rattle.lp_certificate.specs.CertificateRead.{CertificateRead}
 
 -- after a reader of a text
 abbrev pub TextSays : text.TextRead → List (Line (List ℕ)) → Option TextSaid → Type 0

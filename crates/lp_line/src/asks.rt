@@ -1,6 +1,6 @@
 // What sessions are asked and reply, with the models, names and numbers of the code.
 use lp_base::{Bytes, Name, Texts};
-use lp_check::RawCertificate;
+use lp_certificate::RawCertificate;
 use lp_edit::Edit;
 use lp_frac::Frac;
 use lp_model::Model;

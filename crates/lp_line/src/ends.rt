@@ -4,7 +4,7 @@ ghost use Rattle.spec_mps.specs.Cards as cards;
 ghost use Rattle.spec_server.specs.Script as script;
 
 use lp_base::{Line, Texts, are_same, is_blank, words};
-use lp_check::is_end;
+use lp_certificate::is_end;
 use std::alloc::{AllocError, Global};
 
 fn begins_with_blank(text: &[u8]) -> bool

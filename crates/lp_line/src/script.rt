@@ -19,7 +19,7 @@ use crate::hearing::{Stage, Step};
 use crate::stages::{CertificateSaid, TextSaid};
 use crate::taking::Taken;
 use lp_base::Line;
-use lp_check::CertReader;
+use lp_certificate::CertReader;
 use mps_read::Reader;
 use spec_server::Addressing;
 use std::alloc::{AllocError, Global};

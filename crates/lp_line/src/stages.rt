@@ -4,7 +4,7 @@ ghost use Rattle.std.specs.Prelude.{refl};
 
 use crate::hearing::{Stage, Step};
 use lp_base::Line;
-use lp_check::{CertFeed, CertReader, RawCertificate};
+use lp_certificate::{CertFeed, CertReader, RawCertificate};
 use lp_model::Model;
 use mps_read::{Feed, Reader};
 use spec_mps::MpsFault;

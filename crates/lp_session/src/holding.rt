@@ -11,7 +11,7 @@ use crate::solved::{answer_of, certificate_lines, solved_within};
 use crate::stage::{Begun, LastAnswer, Pending, Worked};
 use crate::verdict::verdict_on;
 use crate::working::{how_by, is_found, solved_from, words_of_end};
-use lp_check::RawCertificate;
+use lp_certificate::RawCertificate;
 use lp_edit::{Edit, EditError, EditFault, apply};
 use lp_form::Form;
 use lp_frac::Stop;

@@ -4,7 +4,7 @@ ghost use Rattle.spec_server.specs.Answers.{MayAnswer, IsSolved};
 ghost use Rattle.spec_server.specs.Machine as machine;
 
 use lp_base::Texts;
-use lp_check::cert_text;
+use lp_certificate::cert_text;
 use lp_frac::Frac;
 use lp_model::Model;
 use lp_solve::{End, Solved, solve};

@@ -1,8 +1,8 @@
 -- A line, unless the number is 0.
 use Rattle.spec_exact.specs.Fraction.{0ℚ}
 use Rattle.spec_exact.proofs.Same.{same_is}
-use Rattle.lp_check.proofs.Lines.{no_line, one_line}
-use Rattle.lp_check.proofs.text.add_part.Goals as goal
+use Rattle.lp_certificate.proofs.Lines.{no_line, one_line}
+use Rattle.lp_certificate.proofs.text.add_part.Goals as goal
 
 pub returns-in_ok-push : goal.returns-in_ok-push
 returns-in_ok-push c =

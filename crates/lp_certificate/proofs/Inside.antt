@@ -7,7 +7,7 @@ use Rattle.spec_check.specs.declared.certificate.Certificate.TheVariants.{Optima
 use Rattle.spec_check.specs.declared.certificate.Letter.{Letter}
 use Rattle.spec_check.specs.declared.certificate.Letter.TheVariants.{X, Y, R}
 use Rattle.spec_check.specs.Certificate.{IsFor}
-use Rattle.lp_check.specs.Answer.{IsPlace, IsInside}
+use Rattle.lp_certificate.specs.Answer.{IsPlace, IsInside}
 
 pub inside : (m : Model) (letter : Letter) (k : ℕ) (cert : Certificate (List ℚ)) → IsFor m cert → IsPlace m letter k →
     IsInside letter k cert

@@ -6,9 +6,9 @@ use Rattle.spec_model.specs.Model.{Model}
 use Rattle.spec_check.specs.declared.certificate.Certificate.{Certificate}
 use Rattle.spec_check.specs.Text.{ExactPart, ExactRaw}
 use Rattle.spec_check.specs.Settle.{◌>>=◌, blank, put, put_all, certificate_for}
-use Rattle.lp_check.specs.declared.settled.SettleError.{SettleError}
-use Rattle.lp_check.specs.declared.settled.SettleError.TheVariants.{Fault, NoMemory}
-use Rattle.lp_check.specs.Answer.{IsErrorOf}
+use Rattle.lp_certificate.specs.declared.settled.SettleError.{SettleError}
+use Rattle.lp_certificate.specs.declared.settled.SettleError.TheVariants.{Fault, NoMemory}
+use Rattle.lp_certificate.specs.Answer.{IsErrorOf}
 
 -- the parts from i on, put to the certificate so far, give what all of them give
 abbrev pub IsOnTheWay : Model → ExactRaw → ℕ → Certificate (List ℚ) → Type 0

@@ -1,7 +1,7 @@
 -- The first part that does not fit, and the end of the parts.
 use Rattle.std.proofs.lemmas.Result.{err_from_is_err_and}
-use Rattle.lp_check.proofs.Places.{at_start, blank_stopped}
-use Rattle.lp_check.proofs.settled.settle.Goals as goal
+use Rattle.lp_certificate.proofs.Places.{at_start, blank_stopped}
+use Rattle.lp_certificate.proofs.settled.settle.Goals as goal
 
 pub returns-in_err-cert-clause-answer : goal.returns-in_err-cert-clause-answer
 returns-in_err-cert-clause-answer c =

@@ -2,12 +2,11 @@
 ghost use Rattle.std.specs.Prelude.{◌≡◌, ◌∷◌, ◌++◌, codes, length, IfOk, OnOk};
 ghost use Rattle.spec_check.specs.Certificate.{IsFor};
 ghost use Rattle.spec_check.specs.TextWritten as text_written;
-ghost use Rattle.lp_check.specs.Answer.{IsPlace};
-ghost use Rattle.lp_check.specs.Letters.{count_of, name_at, value_lines};
+ghost use Rattle.lp_certificate.specs.Answer.{IsPlace};
+ghost use Rattle.lp_certificate.specs.Letters.{count_of, name_at, value_lines};
 
-use crate::certificate::Certificate;
-use crate::steps::part;
 use lp_base::{Bytes, Texts};
+use lp_check::{Certificate, part};
 use lp_frac::{Frac, Fracs, is_zero};
 use lp_model::Model;
 use spec_check::Letter;

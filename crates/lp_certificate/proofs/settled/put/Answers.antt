@@ -1,6 +1,6 @@
 -- The place is in the letter's list.
-use Rattle.lp_check.proofs.Inside.{inside}
-use Rattle.lp_check.proofs.settled.put.Goals as goal
+use Rattle.lp_certificate.proofs.Inside.{inside}
+use Rattle.lp_certificate.proofs.settled.put.Goals as goal
 
 pub set-requires : goal.set-requires
 set-requires c =

@@ -2,9 +2,9 @@
 use Rattle.std.specs.Prelude.{ℕ, ◌≡◌, Some}
 use Rattle.spec_check.specs.declared.progress.Progress.TheVariants as progress
 use Rattle.spec_check.specs.Text.{ExactRaw, Outcome}
-use Rattle.lp_check.specs.declared.reader.CertFeed.{CertFeed}
-use Rattle.lp_check.specs.declared.reader.CertFeed.TheVariants as feed
-use Rattle.lp_check.specs.CertificateRead.{CertificateRead}
+use Rattle.lp_certificate.specs.declared.reader.CertFeed.{CertFeed}
+use Rattle.lp_certificate.specs.declared.reader.CertFeed.TheVariants as feed
+use Rattle.lp_certificate.specs.CertificateRead.{CertificateRead}
 
 -- the text continues after line n
 pub record GoesOn (outcome : Outcome) (n : ℕ) (new : CertificateRead) : Type 0 where

@@ -8,9 +8,9 @@ use Rattle.spec_check.specs.declared.certificate.Letter.{Letter}
 use Rattle.spec_check.specs.declared.certificate.Letter.TheVariants.{X, Y, R}
 use Rattle.spec_check.specs.declared.certificate.SettleFault.TheVariants.{UnknownName, Repeated}
 use Rattle.spec_check.specs.Settle.{Settled}
-use Rattle.lp_check.specs.Letters.{count_of}
-use Rattle.lp_check.specs.declared.settled.SettleError.{SettleError}
-use Rattle.lp_check.specs.declared.settled.SettleError.TheVariants.{Fault, NoMemory}
+use Rattle.lp_certificate.specs.Letters.{count_of}
+use Rattle.lp_certificate.specs.declared.settled.SettleError.{SettleError}
+use Rattle.lp_certificate.specs.declared.settled.SettleError.TheVariants.{Fault, NoMemory}
 
 -- the fault is the one that the answer has; that there is no memory says nothing of the answer
 abbrev pub IsErrorOf : {A : Type 0} → Settled A → SettleError → Type 0

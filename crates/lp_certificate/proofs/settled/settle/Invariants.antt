@@ -1,7 +1,7 @@
 -- The loop over the parts.
 use Rattle.spec_check.specs.Certificate.{IsFor}
-use Rattle.lp_check.proofs.Places.{IsOnTheWay}
-use Rattle.lp_check.proofs.settled.settle.Given as goal
+use Rattle.lp_certificate.proofs.Places.{IsOnTheWay}
+use Rattle.lp_certificate.proofs.settled.settle.Given as goal
 
 -- the parts that are left give what all of them give
 abbrev pub invariant-loop-i : goal.invariant-loop-i

@@ -1,8 +1,8 @@
 -- The loop over the columns, or over the rows.
 use Rattle.std.proofs.Common.{◌≡◌, ◌++◌}
 use Rattle.spec_check.specs.TextWritten.{lines_below}
-use Rattle.lp_check.specs.Letters.{name_at}
-use Rattle.lp_check.proofs.text.add_values.Given as goal
+use Rattle.lp_certificate.specs.Letters.{name_at}
+use Rattle.lp_certificate.proofs.text.add_values.Given as goal
 
 -- the lines of those so far follow the first
 abbrev pub invariant-loop-k : goal.invariant-loop-k

@@ -2,7 +2,7 @@
 ghost use Rattle.std.specs.Prelude.{◌≡◌, ◌+◌, ◌<◌, ◌-◌, ◌^◌, ◌++◌, ◌∷◌, [], None, IfOk, OnOk, if◌then◌else◌};
 ghost use Rattle.spec_check.specs.Text as certificate;
 ghost use Rattle.spec_check.specs.declared.progress.Progress.TheVariants.{More, Unfit};
-ghost use Rattle.lp_check.specs.Feeds.{Feeds};
+ghost use Rattle.lp_certificate.specs.Feeds.{Feeds};
 
 use crate::certificate::{Parts, RawCertificate};
 use crate::words::{is_end, kind_of, part_of};
@@ -32,7 +32,7 @@ pub struct CertReader {
 }
 
 impl Model for CertReader {
-    ghost use Rattle.lp_check.specs.CertificateRead.{CertificateRead};
+    ghost use Rattle.lp_certificate.specs.CertificateRead.{CertificateRead};
 
     ghost Value = { CertificateRead };
 

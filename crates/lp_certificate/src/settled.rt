@@ -2,11 +2,12 @@
 ghost use Rattle.std.specs.Prelude.{◌≡◌, ◌<◌, length, IfOk, IfSome, Ok};
 ghost use Rattle.spec_check.specs.Certificate.{IsFor};
 ghost use Rattle.spec_check.specs.Settle as settling;
-ghost use Rattle.lp_check.specs.Answer.{Settles, Puts, IsPlace, IsInside, IsUnknown, IsRepeated};
-ghost use Rattle.lp_check.specs.declared.settled.SettleError.TheVariants.{NoMemory};
+ghost use Rattle.lp_certificate.specs.Answer.{Settles, Puts, IsPlace, IsInside, IsUnknown, IsRepeated};
+ghost use Rattle.lp_certificate.specs.declared.settled.SettleError.TheVariants.{NoMemory};
 
-use crate::certificate::{Certificate, CertificateKind, Part, RawCertificate, SettleFault};
+use crate::certificate::{CertificateKind, Part, RawCertificate, SettleFault};
 use lp_base::{Name, are_same};
+use lp_check::Certificate;
 use lp_frac::{Frac, Fracs, zeros};
 use lp_model::Model;
 use spec_check::Letter;
