@@ -73,30 +73,38 @@ fn go_on(alloc: Global, mut raw: RawCertificate, words: &Texts) -> Result<Progre
     if is_end(words) {
         return Ok(Progress::Done(raw));
     }
-    if add_part(alloc, &mut raw, words)? {
-        Ok(Progress::More(raw))
-    } else {
-        Ok(Progress::Unfit)
+    match add_part(alloc, &mut raw, words) {
+        Ok(true) => Ok(Progress::More(raw)),
+        Ok(false) => {
+            drop(raw);
+            Ok(Progress::Unfit)
+        }
+        Err(error) => {
+            drop(raw);
+            Err(error)
+        }
     }
 }
 
-// What a line leads to, after what was read before it.
+// What a line leads to, after what was read before it, which is taken where the line has words.
 #[tactic(auto, unfolding(spec_check::specs::Text::step))]
 fn advance(
     alloc: Global,
-    so_far: Option<RawCertificate>,
+    so_far: &mut Option<RawCertificate>,
     line: &Line,
 ) -> Result<Progress, AllocError>
-    ensures { IfOk result (λ progress. progress ≡ certificate.step so_far line.now) }
+    ensures { IfOk result (λ progress. progress ≡ certificate.step so_far.old line.now) }
 {
     let Line::Text(bytes) = line else {
         return Ok(Progress::Unfit);
     };
     let words = words(alloc, bytes.as_slice())?;
-    match so_far {
+    let progress = match so_far.take() {
         None => open(alloc, &words),
         Some(raw) => go_on(alloc, raw, &words),
-    }
+    };
+    drop(words);
+    progress
 }
 
 impl CertReader {
@@ -116,7 +124,10 @@ impl CertReader {
         ensures { Feeds (certificate.step self.old.raw line.now) (self.old.lines + 1) self.new result }
     {
         let number = self.lines + 1;
-        match advance(alloc, self.raw.take(), line) {
+        let mut so_far = self.raw.take();
+        let progress = advance(alloc, &mut so_far, line);
+        drop(so_far);
+        match progress {
             Ok(Progress::More(raw)) => {
                 self.raw = Some(raw);
                 self.lines = number;

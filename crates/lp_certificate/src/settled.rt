@@ -96,23 +96,13 @@ fn set(cert: &mut Certificate, letter: Letter, k: u32, value: Frac)
     ensures { cert.new ≡ settling.with_value letter k value cert.old }
 {
     let k = k as usize;
-    match cert {
-        Certificate::Optimal { x, y } => match letter {
-            Letter::X => x.set(k, value),
-            Letter::Y => y.set(k, value),
-            Letter::R => {}
-        },
-        Certificate::Infeasible { y } => {
-            if letter == Letter::Y {
-                y.set(k, value);
-            }
-        }
-        Certificate::Clash(_) => {}
-        Certificate::Unbounded { x, r } => match letter {
-            Letter::X => x.set(k, value),
-            Letter::R => r.set(k, value),
-            Letter::Y => {}
-        },
+    match (cert, letter) {
+        (Certificate::Optimal { x, .. }, Letter::X) => x.set(k, value),
+        (Certificate::Optimal { y, .. }, Letter::Y) => y.set(k, value),
+        (Certificate::Infeasible { y }, Letter::Y) => y.set(k, value),
+        (Certificate::Unbounded { x, .. }, Letter::X) => x.set(k, value),
+        (Certificate::Unbounded { r, .. }, Letter::R) => r.set(k, value),
+        _ => {}
     }
 }
 
@@ -166,7 +156,10 @@ pub fn settle(
     let mut cert = blank(alloc, model, &raw.kind)?;
     let parts = raw.parts.as_slice();
     for i in 0..parts.len() {
-        put(alloc, model, &parts[..i], &parts[i], &mut cert)?;
+        if let Err(error) = put(alloc, model, &parts[..i], &parts[i], &mut cert) {
+            drop(cert);
+            return Err(error);
+        }
     }
     Ok(cert)
 }
