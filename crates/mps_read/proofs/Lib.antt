@@ -1,9 +1,11 @@
+pub mod Adding
 pub mod ColumnPlaces
 pub mod EntryOrder
 pub mod Feeding
 pub mod Lists
 pub mod MarkLists
 pub mod NewNames
+pub mod Opening
 pub mod Runs
 pub mod SameNumbers
 pub mod TextLists

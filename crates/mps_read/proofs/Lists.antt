@@ -1,6 +1,6 @@
 -- One place of a list, and one number of a column.
 use Rattle.std.proofs.Common.{◌≡◌, ℕ, zero, suc, ◌<◌, ◌≤◌, Bool, true, false, List, [], ◌∷◌}
-use Rattle.std.proofs.Common.{length, reverse, ◌||◌, get_or, cond, refl, ap, ◌∙◌, arith}
+use Rattle.std.proofs.Common.{length, reverse, ◌||◌, get_or, cond, refl, ap, ◌∙◌, arith, Result, Ok, Err, OnOk}
 use Rattle.std.specs.List.{list_any}
 use Rattle.std.proofs.Math.ListN.{set}
 use Rattle.std.proofs.lemmas.List.{reverse-append}
@@ -28,14 +28,17 @@ changed_at-past (x ∷ xs) (suc i) f l = ap (λ ys. x ∷ ys) (changed_at-past x
 pub number_zero : (c : ExactColumn) (i : ℕ) (v : ℚ) → v ≡ 0ℚ → c ≡ with_number c (target.Row i) v
 number_zero c i v e = rw (eq_test v 0ℚ e) refl
 
-pub number_put : (c : ExactColumn) (i : ℕ) (v : ℚ) → (v ≡ 0ℚ → ⊥) →
-    record c { entries = put_entry i v c.entries } ≡ with_number c (target.Row i) v
-number_put c i v n = go (eq_ℚ v 0ℚ) refl
+-- any other is put among them, unless there is no memory
+pub number_put : {T E : Type 0} (result : Result T E) (c : ExactColumn) (i : ℕ) (v : ℚ) (new : List (ℕ × ℚ))
+    (is_zero : Bool) → (v ≡ 0ℚ → is_zero ≡ true) → is_zero ≡ false → OnOk result (new ≡ put_entry i v c.entries) →
+    OnOk result (record c { entries = new } ≡ with_number c (target.Row i) v)
+number_put (Ok done) c i v new is_zero e f h = ap (λ es. record c { entries = es }) h ∙ go (eq_ℚ v 0ℚ) refl
   where
     go : (b : Bool) → eq_ℚ v 0ℚ ≡ b →
         record c { entries = put_entry i v c.entries } ≡ cond b c (record c { entries = put_entry i v c.entries })
-    go true e = absurd (n (eq_if v 0ℚ e))
-    go false e = refl
+    go true q = absurd (let t = e (eq_if v 0ℚ q) in cc)
+    go false q = refl
+number_put (Err fault) c i v new is_zero e f h = tt
 
 -- a test that some element passes does not ask in which order they stand
 pub list_any-reverse : {X : Type 0} (p : X → Bool) (xs : List X) → list_any p (reverse xs) ≡ list_any p xs

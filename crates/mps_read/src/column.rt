@@ -1,5 +1,5 @@
 // Columns, and the numbers of the one that is read.
-ghost use Rattle.std.specs.Prelude.{◌≡◌, ◌≤◌, ℕ, length, IfOk, OnOk};
+ghost use Rattle.std.specs.Prelude.{◌≡◌, ◌≤◌, ℕ, length, OnOk};
 ghost use Rattle.std.specs.List.{insert};
 ghost use Rattle.std.specs.List.Sorted.{IsNonDecreasingBy};
 ghost use Rattle.spec_exact.specs.Fraction.{ℚ};
@@ -12,17 +12,16 @@ use spec_mps::Target;
 use std::alloc::{AllocError, Global};
 
 /// A column with the bounds 0 and none, and no numbers.
-pub(crate) fn make_column(alloc: Global, name: &[u8]) -> Result<Column, AllocError>
-    ensures { IfOk result (λ column. column ≡ reader.new_column name.now) }
+pub(crate) fn make_column(alloc: Global, name: Name) -> Column
+    ensures { result ≡ reader.new_column name }
 {
-    let name = Name::from_slice(alloc, name)?;
-    Ok(Column {
+    Column {
         name,
         cost: zero(),
         lower: Some(zero()),
         upper: None,
         entries: Entries::new(alloc),
-    })
+    }
 }
 
 /// Puts a number where it belongs: to the cost, or among the entries, unless it is 0.
@@ -33,14 +32,17 @@ pub(crate) fn put_number(column: &mut Column, target: Target, value: Frac) -> Re
     ensures ordered { IsNonDecreasingBy (λ e. e.0) column.new.entries }
 {
     match target {
-        Target::Objective => column.cost = value,
+        Target::Objective => {
+            column.cost = value;
+            Ok(())
+        }
         Target::Row(row) => {
-            if !is_zero(value) {
-                put_entry(&mut column.entries, row, value)?;
+            if is_zero(value) {
+                return Ok(());
             }
+            put_entry(&mut column.entries, row, value)
         }
     }
-    Ok(())
 }
 
 // In the order of rows.

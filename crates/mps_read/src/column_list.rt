@@ -9,7 +9,7 @@ ghost use Rattle.mps_read.specs.BoundSeen.{bound_seen};
 
 use crate::bound_card::{BoundCard, bound_at};
 use crate::column::{make_column, put_number};
-use lp_base::are_same;
+use lp_base::{Name, are_same};
 use lp_frac::Frac;
 use lp_model::{Column, NameIndex};
 use spec_mps::Target;
@@ -101,9 +101,9 @@ impl Columns {
         requires new { list_any (λ c. same c.name name.now) self.old.whole ≡ false }
         ensures { OnOk result (self.new ≡ record { whole = self.old.whole; current = Some (new_column name.now) }) }
     {
-        let column = make_column(alloc, name)?;
+        let own = Name::from_slice(alloc, name)?;
         self.names.push(name)?;
-        self.current = Some(column);
+        drop(self.current.replace(make_column(alloc, own)));
         Ok(())
     }
 
@@ -130,6 +130,13 @@ impl Columns {
     pub(crate) fn into_vec(self) -> Vec<Column>
         ensures { result.items ≡ self.whole }
     {
-        self.whole
+        let Columns {
+            whole,
+            current,
+            names,
+        } = self;
+        drop(current);
+        drop(names);
+        whole
     }
 }

@@ -62,14 +62,6 @@ impl Draft {
         self.pairs(Numbers::Entries, pairs)
     }
 
-    /// No more cards are read of the column.
-    pub(crate) fn close(&mut self) -> Result<(), AllocError>
-        ensures { OnOk result (state_of self.new
-            ≡ record (state_of self.old) { columns = reader.whole_columns (state_of self.old); column = None }) }
-    {
-        self.columns.close()
-    }
-
     // Cards of this column are read, or of none that is there already.
     #[tactic(auto, unfolding(spec_mps::specs::Reader::opened))]
     fn open(&mut self, alloc: Global, name: &[u8]) -> Result<(), Fault>
@@ -78,7 +70,7 @@ impl Draft {
         if self.columns.is_open(name) {
             return Ok(());
         }
-        self.close()?;
+        self.columns.close()?;
         if self.columns.has(name) {
             return Err(Fault::Code(Code::ColumnTaken));
         }

@@ -1,5 +1,5 @@
 // What was read of a text so far, and what its names stand for.
-ghost use Rattle.std.specs.Prelude.{◌≡◌};
+ghost use Rattle.std.specs.Prelude.{◌≡◌, Some, OnOk};
 ghost use Rattle.spec_mps.specs.Reader as reader;
 ghost use Rattle.mps_read.specs.Draft.{state_of};
 
@@ -11,7 +11,7 @@ use lp_frac::{Frac, zero};
 use lp_model::{NameIndex, Sense};
 use lp_numtext::read;
 use spec_mps::{Code, Place, Section, Seen, Target};
-use std::alloc::Global;
+use std::alloc::{AllocError, Global};
 
 /// A model that is read.
 #[derive(Drop)]
@@ -88,6 +88,18 @@ impl Draft {
             None => None,
         }
     }
+}
+
+/// Puts a name where there may be one.
+pub(crate) fn set_name(
+    place: &mut Option<Name>,
+    alloc: Global,
+    name: &[u8],
+) -> Result<(), AllocError>
+    ensures { OnOk result (place.new ≡ Some name.now) }
+{
+    drop(place.replace(Name::from_slice(alloc, name)?));
+    Ok(())
 }
 
 /// The number that a text is.

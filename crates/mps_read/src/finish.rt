@@ -9,12 +9,15 @@ ghost use Rattle.mps_read.specs.Answer.{Fails};
 ghost use Rattle.mps_read.specs.Finished.{Ends, IsKept};
 ghost use Rattle.mps_read.specs.Leads.{IsReached};
 
+use crate::column_list::Columns;
 use crate::draft::Draft;
 use crate::fault::{Fault, Went};
+use crate::row_list::Rows;
 use lp_base::{Line, Name};
 use lp_model::{Model, Sense};
 use spec_mps::{Code, Style};
 use std::alloc::{AllocError, Global};
+use std::mem;
 
 fn name_or_none(alloc: Global, name: Option<Name>) -> Result<Name, AllocError>
     ensures { IfOk result (λ made. made ≡ name_of name) }
@@ -63,28 +66,25 @@ impl Draft {
     }
 
     // The text has ended.
-    fn end(self, alloc: Global) -> Result<Progress, Fault>
+    fn end(mut self, alloc: Global) -> Result<Progress, Fault>
         requires { IsKept (steps.finished (state_of self)) }
         ensures { Advances (steps.finished (state_of self)) result }
     {
-        match self.finish(alloc) {
+        let model = self.finish(alloc);
+        drop(self);
+        match model {
             Ok(model) => Ok(Progress::Done(model)),
             Err(fault) => Err(fault),
         }
     }
 
     /// The model, if there is an objective.
-    fn finish(mut self, alloc: Global) -> Result<Model, Fault>
-        requires { IsKept (steps.finished (state_of self)) }
-        ensures { Ends (steps.finished (state_of self)) result }
+    fn finish(&mut self, alloc: Global) -> Result<Model, Fault>
+        requires { IsKept (steps.finished (state_of self.old)) }
+        ensures { Ends (steps.finished (state_of self.old)) result }
     {
-        match self.take_names(alloc) {
-            Ok((name, objective)) => Ok(self.into_model(name, objective)),
-            Err(fault) => {
-                drop(self);
-                Err(fault)
-            }
-        }
+        let (name, objective) = self.take_names(alloc)?;
+        Ok(self.take_model(alloc, name, objective))
     }
 
     // The names of the model and of its objective, if there is one. The last column is whole then.
@@ -94,7 +94,7 @@ impl Draft {
             ≡ Ok (steps.Done (steps.model_by (record (state_of self.new) { name = names.0; column = None }) names.1))) }
         ensures failed { IfErr result (λ fault. Fails (steps.finished (state_of self.old)) fault) }
     {
-        self.close()?;
+        self.columns.close()?;
         let Some(objective) = self.objective.take() else {
             return Err(Fault::Code(Code::NoObjective));
         };
@@ -104,22 +104,17 @@ impl Draft {
 
     // The model of what was read, with these names and the columns that are whole.
     #[tactic(auto, unfolding(spec_mps::specs::Steps::model_by))]
-    fn into_model(self, name: Name, objective: Name) -> Model
-        requires { IsModel (steps.model_by (record (state_of self) { name = name; column = None }) objective) }
-        ensures { result ≡ steps.model_by (record (state_of self) { name = name; column = None }) objective }
+    fn take_model(&mut self, alloc: Global, name: Name, objective: Name) -> Model
+        requires { IsModel (steps.model_by (record (state_of self.old) { name = name; column = None }) objective) }
+        ensures { result ≡ steps.model_by (record (state_of self.old) { name = name; column = None }) objective }
     {
-        let Draft {
-            sense,
-            offset,
-            rows,
-            columns,
-            ..
-        } = self;
+        let rows = mem::replace(&mut self.rows, Rows::new(alloc));
+        let columns = mem::replace(&mut self.columns, Columns::new(alloc));
         Model::new(
             name,
-            sense_or_min(sense),
+            sense_or_min(self.sense),
             objective,
-            offset,
+            self.offset,
             rows.into_vec(),
             columns.into_vec(),
         )

@@ -7,12 +7,11 @@ ghost use Rattle.mps_read.specs.Answer.{GivesState};
 ghost use Rattle.mps_read.specs.Draft.{state_of};
 ghost use Rattle.mps_read.specs.Parts.{put_row};
 
-use crate::draft::Draft;
+use crate::draft::{Draft, set_name};
 use crate::fault::Fault;
 use crate::row_list::make_row;
 use crate::shapes::has_shape;
 use crate::words::row_type_of;
-use lp_base::Name;
 use lp_model::{Kind, is_row_name};
 use mps_card::Fields;
 use spec_mps::{Code, RowType, Section, Style};
@@ -68,7 +67,7 @@ impl Draft {
         ensures { GivesState (put_row (state_of self.old) row_type.Unlimited name.now) (state_of self.new) result }
     {
         if self.objective.is_none() {
-            self.objective = Some(Name::from_slice(alloc, name)?);
+            set_name(&mut self.objective, alloc, name)?;
             return Ok(());
         }
         if !self.has_room() {

@@ -1,14 +1,13 @@
 // The cards that begin sections.
-ghost use Rattle.std.specs.Prelude.{◌≡◌, ◌&&◌, not, OnOk, None, Some};
+ghost use Rattle.std.specs.Prelude.{◌≡◌, OnOk, None, Some};
 ghost use Rattle.spec_mps.specs.declared.section.Section.TheVariants as part;
 ghost use Rattle.spec_mps.specs.Steps as steps;
 ghost use Rattle.mps_read.specs.Answer.{GivesState, Goes};
 ghost use Rattle.mps_read.specs.Draft.{state_of};
 
-use crate::draft::Draft;
+use crate::draft::{Draft, set_name};
 use crate::fault::{Fault, Went};
 use crate::words::section_of;
-use lp_base::Name;
 use lp_model::is_model_name;
 use mps_card::Fields;
 use spec_mps::{Code, Section, Seen};
@@ -57,12 +56,6 @@ fn may_follow(seen: Seen, part: Section) -> bool
     }
 }
 
-fn may_begin(seen: Seen, part: Section) -> bool
-    ensures { result ≡ (steps.may_follow seen part && not (steps.has_begun seen part)) }
-{
-    may_follow(seen, part) && !has_begun(seen, part)
-}
-
 impl Draft {
     #[tactic(auto, unfolding(spec_mps::specs::Steps::section_card))]
     pub(crate) fn section_card(&mut self, alloc: Global, fields: &Fields) -> Result<Went, Fault>
@@ -71,7 +64,7 @@ impl Draft {
         let Some(part) = section_of(fields.text_at(1)) else {
             return Err(Fault::Code(Code::UnknownSection));
         };
-        if !may_begin(self.seen, part) {
+        if !may_follow(self.seen, part) || has_begun(self.seen, part) {
             return Err(Fault::Code(Code::SectionOrder));
         }
         self.begin(alloc, part, fields.text_at(2))
@@ -80,7 +73,7 @@ impl Draft {
     fn begin(&mut self, alloc: Global, part: Section, word: &[u8]) -> Result<Went, Fault>
         ensures { Goes (steps.begin (state_of self.old) part word.now) (state_of self.new) result }
     {
-        if part == Section::End {
+        if let Section::End = part {
             return Ok(Went::ToEnd);
         }
         self.begin_part(part)?;
@@ -92,11 +85,11 @@ impl Draft {
     fn begin_part(&mut self, part: Section) -> Result<(), AllocError>
         ensures { OnOk result (state_of self.new ≡ steps.begun (state_of self.old) part) }
     {
-        self.close()?;
+        self.columns.close()?;
         self.part = Some(part);
         self.seen = with_section(self.seen, part);
         self.paired.clear();
-        self.set = None;
+        drop(self.set.take());
         Ok(())
     }
 
@@ -127,7 +120,7 @@ impl Draft {
         if !is_model_name(word) {
             return Err(Fault::Code(Code::Name));
         }
-        self.name = Some(Name::from_slice(alloc, word)?);
+        set_name(&mut self.name, alloc, word)?;
         Ok(())
     }
 }

@@ -2,7 +2,6 @@
 ghost use Rattle.mps_read.specs.Answer.{GivesState};
 ghost use Rattle.mps_read.specs.Draft.{state_of};
 ghost use Rattle.mps_read.specs.Numbers as numbers;
-ghost use Rattle.mps_read.specs.Sets.{card_seen};
 
 use crate::draft::Draft;
 use crate::fault::Fault;
@@ -28,13 +27,7 @@ impl Draft {
         if !has_shape(style, what.section(), fields.as_slice()) {
             return Err(Fault::Code(Code::CardShape));
         }
-        self.set_by(alloc, what, SetAndPairs::new(fields.as_slice()))
-    }
-
-    fn set_by(&mut self, alloc: Global, what: Numbers, card: SetAndPairs) -> Result<(), Fault>
-        ensures { GivesState (numbers.set_by what (state_of self.old) (card_seen card.entry))
-            (state_of self.new) result }
-    {
+        let card = SetAndPairs::new(fields.as_slice());
         if !is_used(&self.set, card.set) {
             return Ok(());
         }
