@@ -1,5 +1,5 @@
 // The lines between two commands.
-ghost use Rattle.std.specs.Prelude.{◌≡◌, IfOk};
+ghost use Rattle.std.specs.Prelude.{◌≡◌, Some, IfOk};
 ghost use Rattle.spec_text.specs.declared.line.Line.TheVariants as line;
 ghost use Rattle.spec_server.specs.Command.{style_of, budget_of};
 ghost use Rattle.spec_server.specs.Command as commands;
@@ -80,19 +80,29 @@ fn command_of(alloc: Global, words: &[Bytes]) -> Result<Command, AllocError>
     }
 }
 
+// A command of this session.
+fn addressed(alloc: Global, session: u32, words: &[Bytes]) -> Result<Option<Addressed>, AllocError>
+    ensures { IfOk result (λ found. found ≡
+        Some (record { session = session; command = commands.command_of words.now })) }
+{
+    let command = command_of(alloc, words)?;
+    Ok(Some(Addressed { session, command }))
+}
+
 // A command after the word that is to be the number of its session.
-fn addressed_to(alloc: Global, number: &[u8], words: &[Bytes]) -> Result<Addressed, AllocError>
-    ensures { IfOk result (λ addressed. addressed ≡ lines.addressed_to (commands.session_of number.now) words.now) }
+fn addressed_to(
+    alloc: Global,
+    number: &[u8],
+    words: &[Bytes],
+) -> Result<Option<Addressed>, AllocError>
+    ensures { IfOk result (λ found. found ≡ Some (lines.addressed_to (commands.session_of number.now) words.now)) }
 {
     match session_of(number) {
-        Some(session) => Ok(Addressed {
-            session,
-            command: command_of(alloc, words)?,
-        }),
-        None => Ok(Addressed {
+        Some(session) => addressed(alloc, session, words),
+        None => Ok(Some(Addressed {
             session: 0,
             command: Command::Bad(LineFault::Word),
-        }),
+        })),
     }
 }
 
@@ -107,11 +117,8 @@ fn addressed_by(
         return Ok(None);
     };
     match addressing {
-        Addressing::Numbered => Ok(Some(addressed_to(alloc, first.as_slice(), behind)?)),
-        Addressing::Alone => Ok(Some(Addressed {
-            session: 0,
-            command: command_of(alloc, words)?,
-        })),
+        Addressing::Numbered => addressed_to(alloc, first.as_slice(), behind),
+        Addressing::Alone => addressed(alloc, 0, words),
     }
 }
 

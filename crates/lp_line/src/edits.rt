@@ -1,8 +1,9 @@
 // The edits that command lines ask for.
-ghost use Rattle.std.specs.Prelude.{◌≡◌, IfOk, IfSome};
+ghost use Rattle.std.specs.Prelude.{◌≡◌, Ok, IfOk, IfSome};
 ghost use Rattle.spec_model.specs.Kept.{IsBound};
 ghost use Rattle.spec_mps.specs.BoundText.{bound_of, bound_answer};
 ghost use Rattle.spec_server.specs.declared.command.EditWord.TheVariants as word;
+ghost use Rattle.spec_edit.specs.declared.edit.Edit.TheVariants as edit;
 ghost use Rattle.spec_server.specs.EditCommand as edit_command;
 ghost use Rattle.lp_line.specs.GivesWords.{GivesWords};
 ghost use Rattle.lp_line.specs.declared.edits.EditStop.TheVariants.{Fault, NoMemory};
@@ -145,24 +146,17 @@ fn pairs_in(alloc: Global, words: &[Bytes]) -> Result<Pairs, EditStop>
     Ok(pairs)
 }
 
-#[tactic(auto, unfolding(spec_server::specs::EditCommand::edit_by))]
-fn add_row(alloc: Global, words: &[Bytes]) -> Result<Edit, EditStop>
-    ensures { GivesWords (edit_command.edit_by word.AddRow words.now) result }
+fn row(
+    alloc: Global,
+    name: &Bytes,
+    kind: Kind,
+    rhs: Frac,
+    range: Option<Frac>,
+) -> Result<Edit, EditStop>
+    ensures { GivesWords (Ok (edit.AddRow name.now kind rhs range)) result }
 {
-    let (name, kind, rhs, range) = match words {
-        [name, kind, rhs] => (name, kind, rhs, None),
-        [name, kind, rhs, range] => (name, kind, rhs, Some(range)),
-        _ => return Err(LineFault::Word.into()),
-    };
-    let kind = kind_in(kind)?;
-    let rhs = number_in(rhs)?;
-    let range = match range {
-        Some(range) => Some(number_in(range)?),
-        None => None,
-    };
-    let name = name_in(alloc, name)?;
     Ok(Edit::AddRow {
-        name,
+        name: name_in(alloc, name)?,
         kind,
         rhs,
         range,
@@ -170,11 +164,26 @@ fn add_row(alloc: Global, words: &[Bytes]) -> Result<Edit, EditStop>
 }
 
 #[tactic(auto, unfolding(spec_server::specs::EditCommand::edit_by))]
+fn add_row(alloc: Global, words: &[Bytes]) -> Result<Edit, EditStop>
+    ensures { GivesWords (edit_command.edit_by word.AddRow words.now) result }
+{
+    match words {
+        [name, kind, rhs] => row(alloc, name, kind_in(kind)?, number_in(rhs)?, None),
+        [name, kind, rhs, range] => {
+            let kind = kind_in(kind)?;
+            let rhs = number_in(rhs)?;
+            row(alloc, name, kind, rhs, Some(number_in(range)?))
+        }
+        _ => Err(EditStop::Fault(LineFault::Word)),
+    }
+}
+
+#[tactic(auto, unfolding(spec_server::specs::EditCommand::edit_by))]
 fn delete_row(alloc: Global, words: &[Bytes]) -> Result<Edit, EditStop>
     ensures { GivesWords (edit_command.edit_by word.DelRow words.now) result }
 {
     let [name] = words else {
-        return Err(LineFault::Word.into());
+        return Err(EditStop::Fault(LineFault::Word));
     };
     Ok(Edit::DelRow(name_in(alloc, name)?))
 }
@@ -184,7 +193,7 @@ fn column_in(alloc: Global, name: &Bytes, cost: &Bytes, pairs: &[Bytes]) -> Resu
     ensures { GivesWords (edit_command.column_in name.now cost.now (edit_command.two_by_two pairs.now)) result }
 {
     if pairs.len() % 2 != 0 {
-        return Err(LineFault::Word.into());
+        return Err(EditStop::Fault(LineFault::Word));
     }
     let cost = number_in(cost)?;
     let pairs = pairs_in(alloc, pairs)?;
@@ -198,7 +207,7 @@ fn add_column(alloc: Global, words: &[Bytes]) -> Result<Edit, EditStop>
 {
     match words {
         [name, cost, pairs @ ..] => column_in(alloc, name, cost, pairs),
-        _ => Err(LineFault::Word.into()),
+        _ => Err(EditStop::Fault(LineFault::Word)),
     }
 }
 
@@ -207,7 +216,7 @@ fn delete_column(alloc: Global, words: &[Bytes]) -> Result<Edit, EditStop>
     ensures { GivesWords (edit_command.edit_by word.DelCol words.now) result }
 {
     let [name] = words else {
-        return Err(LineFault::Word.into());
+        return Err(EditStop::Fault(LineFault::Word));
     };
     Ok(Edit::DelCol(name_in(alloc, name)?))
 }
@@ -217,7 +226,7 @@ fn set_cost(alloc: Global, words: &[Bytes]) -> Result<Edit, EditStop>
     ensures { GivesWords (edit_command.edit_by word.SetCost words.now) result }
 {
     let [name, value] = words else {
-        return Err(LineFault::Word.into());
+        return Err(EditStop::Fault(LineFault::Word));
     };
     let value = number_in(value)?;
     Ok(Edit::SetCost(name_in(alloc, name)?, value))
@@ -228,7 +237,7 @@ fn set_coefficient(alloc: Global, words: &[Bytes]) -> Result<Edit, EditStop>
     ensures { GivesWords (edit_command.edit_by word.SetCoef words.now) result }
 {
     let [row, column, value] = words else {
-        return Err(LineFault::Word.into());
+        return Err(EditStop::Fault(LineFault::Word));
     };
     let value = number_in(value)?;
     let row = name_in(alloc, row)?;
@@ -241,7 +250,7 @@ fn set_right_side(alloc: Global, words: &[Bytes]) -> Result<Edit, EditStop>
     ensures { GivesWords (edit_command.edit_by word.SetRhs words.now) result }
 {
     let [name, value] = words else {
-        return Err(LineFault::Word.into());
+        return Err(EditStop::Fault(LineFault::Word));
     };
     let value = number_in(value)?;
     Ok(Edit::SetRhs(name_in(alloc, name)?, value))
@@ -252,7 +261,7 @@ fn set_range(alloc: Global, words: &[Bytes]) -> Result<Edit, EditStop>
     ensures { GivesWords (edit_command.edit_by word.SetRange words.now) result }
 {
     let [name, range] = words else {
-        return Err(LineFault::Word.into());
+        return Err(EditStop::Fault(LineFault::Word));
     };
     let range = range_in(range)?;
     Ok(Edit::SetRange(name_in(alloc, name)?, range))
@@ -263,7 +272,7 @@ fn set_bounds(alloc: Global, words: &[Bytes]) -> Result<Edit, EditStop>
     ensures { GivesWords (edit_command.edit_by word.SetBound words.now) result }
 {
     let [column, lower, upper] = words else {
-        return Err(LineFault::Word.into());
+        return Err(EditStop::Fault(LineFault::Word));
     };
     let lower = lower_in(lower)?;
     let upper = upper_in(upper)?;
@@ -277,7 +286,7 @@ fn set_sense(words: &[Bytes]) -> Result<Edit, EditStop>
     ensures { GivesWords (edit_command.edit_by word.Sense words.now) result }
 {
     let [sense] = words else {
-        return Err(LineFault::Word.into());
+        return Err(EditStop::Fault(LineFault::Word));
     };
     Ok(Edit::SetSense(sense_in(sense)?))
 }

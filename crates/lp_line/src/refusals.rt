@@ -49,30 +49,13 @@ fn code_number(code: Code) -> u64
     }
 }
 
+// A fault of a text.
 #[tactic(auto, unfolding(spec_server::specs::Output::fault_text))]
 fn push_fault(alloc: Global, fault: MpsFault, to: &mut Bytes) -> Result<(), AllocError>
-    ensures { OnOk result (to.new ≡ to.old ++ output.fault_text fault) }
+    ensures { OnOk result (to.new ≡ to.old ++ (codes "8 " ++ output.fault_text fault)) }
 {
-    push_numbered(alloc, b"MPS ", u64::from(fault.line), to)?;
+    push_numbered(alloc, b"8 MPS ", u64::from(fault.line), to)?;
     push_numbered(alloc, b" M", code_number(fault.code), to)
-}
-
-// What is too wide for fixed form.
-#[tactic(auto, unfolding(spec_server::specs::Output::item_text))]
-fn push_item(item: &Bytes, to: &mut Bytes) -> Result<(), AllocError>
-    ensures { OnOk result (to.new ≡ to.old ++ output.item_text item.now) }
-{
-    to.extend(b"FIXEDWIDE ")?;
-    to.extend(item.as_slice())
-}
-
-// A name that stands twice.
-#[tactic(auto, unfolding(spec_server::specs::Output::repeated_text))]
-fn push_repeated(name: &[u8], to: &mut Bytes) -> Result<(), AllocError>
-    ensures { OnOk result (to.new ≡ to.old ++ output.repeated_text name.now) }
-{
-    to.extend(b"REPEATED ")?;
-    to.extend(name)
 }
 
 fn which_name(which: Which) -> &'static [u8]
@@ -93,15 +76,16 @@ fn push_limit(alloc: Global, which: Which, count: u32, to: &mut Bytes) -> Result
     push_numbered(alloc, b" ", u64::from(count), to)
 }
 
-// A word, and the name of which it speaks.
-fn push_named(word: &[u8], name: &[u8], to: &mut Bytes) -> Result<(), AllocError>
-    ensures { OnOk result (to.new ≡ to.old ++ (word.now ++ name.now)) }
+// Words, and the name of which they speak.
+fn push_named(words: &[u8], name: &[u8], to: &mut Bytes) -> Result<(), AllocError>
+    ensures { OnOk result (to.new ≡ to.old ++ (words.now ++ name.now)) }
 {
-    to.extend(word)?;
+    to.extend(words)?;
     to.extend(name)
 }
 
 /// Writes a refusal after what is there.
+#[tactic(auto, unfolding(spec_server::specs::Output::repeated_text, spec_server::specs::Output::item_text))]
 pub(crate) fn push_refusal(
     alloc: Global,
     refusal: &Refusal,
@@ -117,18 +101,9 @@ pub(crate) fn push_refusal(
         Refusal::Limit(which, count) => push_limit(alloc, *which, *count, to),
         Refusal::BadName => to.extend(b"13 BADNAME"),
         Refusal::NoAnswer => to.extend(b"9 NOANSWER"),
-        Refusal::Repeated(name) => {
-            to.extend(b"12 ")?;
-            push_repeated(name.as_slice(), to)
-        }
-        Refusal::Misspelled(fault) => {
-            to.extend(b"8 ")?;
-            push_fault(alloc, *fault, to)
-        }
+        Refusal::Repeated(name) => push_named(b"12 REPEATED ", name.as_slice(), to),
+        Refusal::Misspelled(fault) => push_fault(alloc, *fault, to),
         Refusal::Unfit(line) => push_numbered(alloc, b"14 CERT ", u64::from(*line), to),
-        Refusal::FixedWide(item) => {
-            to.extend(b"10 ")?;
-            push_item(item, to)
-        }
+        Refusal::FixedWide(item) => push_named(b"10 FIXEDWIDE ", item.as_slice(), to),
     }
 }

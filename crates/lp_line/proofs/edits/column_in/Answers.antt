@@ -1,12 +1,11 @@
-use Rattle.std.proofs.Common.{refl, ap, sym, ◌∙◌, Err}
+use Rattle.std.proofs.Common.{ap, sym, ◌∙◌, Err}
 use Rattle.std.proofs.lemmas.Result.{err_from_is_err_and}
-use Rattle.spec_server.specs.declared.command.LineFault.TheVariants as fault
 use Rattle.lp_line.proofs.Stops.{gives_fault}
 use Rattle.lp_line.proofs.NewColumn.{odd_column, cost_fault, pairs_fault, column_read}
 use Rattle.lp_line.proofs.edits.column_in.Goals as goal
 
 pub returns-then-pairs-ne0 : goal.returns-then-pairs-ne0
-returns-then-pairs-ne0 c = gives_fault _ _ _ fault.Word refl c.into.ensures (odd_column _ _ _ c.if-pairs-ne0.true)
+returns-then-pairs-ne0 c = odd_column _ _ _ c.if-pairs-ne0.true
 
 pub returns-in_err-cost : goal.returns-in_err-cost
 returns-in_err-cost c =
