@@ -13,6 +13,7 @@ use Rattle.spec_simplex.specs.Form.{Form, IsForm}
 use Rattle.spec_exact.specs.Run.{Run, ◌>>=◌, refused_as, less_product, steps, made}
 use Rattle.spec_simplex.specs.Start.{priced_run, with_reduced}
 use Rattle.spec_simplex.specs.Tableau.{Tableau, IsTableauShape, all_columns, entry_at, basic_at, value_at, status_at}
+use Rattle.spec_exact.proofs.Results.{ok_not_err, err_same}
 use Rattle.spec_exact.proofs.Stops.{steps_stop, length-made, All-made}
 use Rattle.spec_simplex.specs.Tableau.{is_basic}
 use Rattle.spec_simplex.specs.declared.ends.StartStop.{StartStop}
@@ -25,7 +26,7 @@ use Rattle.lp_form.specs.declared.stop.Singular.{Singular}
 use Rattle.lp_frac.specs.declared.stop.Stop.TheVariants as stop
 use Rattle.lp_tableau.specs.Grid.{IsGrid}
 use Rattle.lp_tableau.specs.Parts.{tableau_of}
-use Rattle.lp_tableau.specs.Based.{AreInside, StopsAt, stand_in}
+use Rattle.lp_tableau.specs.Based.{AreInside, StopsAt, based_run, stand_in}
 
 -- ---- the parts
 abbrev width_of : Form → ℕ
@@ -140,56 +141,75 @@ lent_is f basis rows t n new front rest now m b e g l k =
     (written_back n new front rest now m e g l k)
 
 module _ (limit : Option ℕ) (f : Form) (basis : List Status) where
-  abbrev after_rows : Result Elimination (StartStop ℚ) → Result Tableau (StartStop ℚ)
-  after_rows o = o >>= λ e. refused_as start.Past (filled_run limit f (with_basis f basis e))
+  abbrev with_rows : Result Elimination (StartStop ℚ) → Result Tableau (StartStop ℚ)
+  with_rows o = o >>= λ e. Ok (with_basis f basis e)
 
-  pub rows_stop : (s : Stop Singular) → StopsAt (eliminate_run limit f basis) s → StopsAt (start_from limit f basis) s
-  unfolding start_from
-  rows_stop (stop.Cause why) h = ap after_rows h
-  rows_stop (stop.Past p) h = ap after_rows h
+  pub rows_stop : (s : Stop Singular) → StopsAt (eliminate_run limit f basis) s → StopsAt (based_run limit f basis) s
+  rows_stop (stop.Cause why) h = ap with_rows h
+  rows_stop (stop.Past p) h = ap with_rows h
   rows_stop stop.NoMemory h = tt
 
-  module _ (e : Elimination) (t : Tableau) (r : eliminate_run limit f basis ≡ Ok e) (b : t ≡ with_basis f basis e) where
-    from_rows : start_from limit f basis ≡ refused_as start.Past (filled_run limit f t)
-    unfolding start_from
-    from_rows = ap after_rows r ∙ ap (λ t. refused_as start.Past (filled_run limit f t)) (sym b)
+  pub based : (e : Elimination) (t : Tableau) → eliminate_run limit f basis ≡ Ok e → t ≡ with_basis f basis e →
+      based_run limit f basis ≡ Ok t
+  based e t r b = ap with_rows r ∙ ap Ok (sym b)
 
-    abbrev after_values : Run (List ℚ) → Run Tableau
-    after_values o =
-        o >>= λ values. priced_run limit t f.cost >>= λ reduced. Ok (with_reduced (with_values t values) reduced)
+  abbrev completed : Result Tableau (StartStop ℚ) → Result Tableau (StartStop ℚ)
+  completed o = o >>= λ t. refused_as start.Past (filled_run limit f t)
 
-    by_values : (o : Run (List ℚ)) (s : Stop Singular) → valued_run limit t ≡ o → StopsAt (refused_as start.Past o) s →
+  in_parts : (o : Result Elimination (StartStop ℚ)) →
+      (o >>= λ e. refused_as start.Past (filled_run limit f (with_basis f basis e))) ≡ completed (with_rows o)
+  in_parts (Ok e) = refl
+  in_parts (Err x) = refl
+
+  start_is : start_from limit f basis ≡ completed (based_run limit f basis)
+  unfolding start_from
+  start_is = in_parts (eliminate_run limit f basis)
+
+  pub based_stop : (s : Stop Singular) → StopsAt (based_run limit f basis) s → StopsAt (start_from limit f basis) s
+  based_stop (stop.Cause why) h = start_is ∙ ap completed h
+  based_stop (stop.Past p) h = start_is ∙ ap completed h
+  based_stop stop.NoMemory h = tt
+
+  module _ (t : Tableau) (b : based_run limit f basis ≡ Ok t) where
+    pub filled_stop : (s : Stop Singular) → StopsAt (refused_as start.Past (filled_run limit f t)) s →
         StopsAt (start_from limit f basis) s
-    by_values (Ok values) (stop.Cause why) g h =
-        let z : ◌≡◌ {A = Result (List ℚ) (StartStop ℚ)} (Ok values) (Err start.Singular) = h in cc
-    by_values (Ok values) (stop.Past p) g h =
-        let z : ◌≡◌ {A = Result (List ℚ) (StartStop ℚ)} (Ok values) (Err (start.Past p)) = h in cc
-    by_values (Err x) (stop.Cause why) g h =
-        let z : ◌≡◌ {A = Result (List ℚ) (StartStop ℚ)} (Err (start.Past x)) (Err start.Singular) = h in cc
-    by_values (Err x) (stop.Past p) g h =
-        let z : ◌≡◌ {A = Result Tableau (StartStop ℚ)} (Err (start.Past x)) (Err (start.Past p)) =
-        (let y : ◌≡◌ {A = Result (List ℚ) (StartStop ℚ)} (Err (start.Past x)) (Err (start.Past p)) = h in cc) in
-        from_rows ∙ ap (λ o. refused_as start.Past (after_values o)) g ∙ z
-    by_values o stop.NoMemory g h = tt
+    filled_stop (stop.Cause why) h = start_is ∙ ap completed b ∙ h
+    filled_stop (stop.Past p) h = start_is ∙ ap completed b ∙ h
+    filled_stop stop.NoMemory h = tt
 
-    pub values_stop : (s : Stop Singular) → StopsAt (refused_as start.Past (valued_run limit t)) s →
-        StopsAt (start_from limit f basis) s
-    values_stop s h = by_values (valued_run limit t) s refl h
+    pub whole : (u : Tableau) → filled_run limit f t ≡ Ok u → start_from limit f basis ≡ Ok u
+    whole u h = start_is ∙ ap completed b ∙ ap (refused_as start.Past) h
 
-    module _ (values costs : List ℚ) (v : valued_run limit t ≡ Ok values) (c : costs ≡ f.cost) where
-      from_values : start_from limit f basis ≡ refused_as start.Past
-          (priced_run limit t costs >>= λ reduced. Ok (with_reduced (with_values t values) reduced))
-      from_values =
-          from_rows ∙ ap (λ o. refused_as start.Past (after_values o)) v
-          ∙ ap (λ costs. refused_as start.Past
-          (priced_run limit t costs >>= λ reduced. Ok (with_reduced (with_values t values) reduced))) (sym c)
+-- the values, and then the reduced costs
+module _ (limit : Option ℕ) (f : Form) (t : Tableau) where
+  abbrev after_values : Run (List ℚ) → Run Tableau
+  after_values o =
+      o >>= λ values. priced_run limit t f.cost >>= λ reduced. Ok (with_reduced (with_values t values) reduced)
 
-      abbrev last : Run (List ℚ) → Result Tableau (StartStop ℚ)
-      last o = refused_as start.Past (o >>= λ reduced. Ok (with_reduced (with_values t values) reduced))
+  by_values : (o : Run (List ℚ)) (s : Stop Singular) → StopsAt (refused_as start.Past o) s →
+      StopsAt (refused_as start.Past (after_values o)) s
+  by_values (Ok values) (stop.Cause why) h = ok_not_err values start.Singular h
+  by_values (Ok values) (stop.Past p) h = ok_not_err values (start.Past p) h
+  by_values (Err x) (stop.Cause why) h = ap Err (err_same (start.Past x) start.Singular h)
+  by_values (Err x) (stop.Past p) h = ap Err (err_same (start.Past x) (start.Past p) h)
+  by_values o stop.NoMemory h = tt
 
-      pub price_stop : (p : Past ℚ) → priced_run limit t costs ≡ Err p → start_from limit f basis ≡ Err (start.Past p)
-      price_stop p h = from_values ∙ ap last h
+  pub values_stop : (s : Stop Singular) → StopsAt (refused_as start.Past (valued_run limit t)) s →
+      StopsAt (refused_as start.Past (filled_run limit f t)) s
+  values_stop s h = by_values (valued_run limit t) s h
 
-      pub based : (x u : Tableau) → priced_run limit t costs ≡ Ok x.reduced → x ≡ with_reduced t x.reduced →
-          u ≡ with_values x values → start_from limit f basis ≡ Ok u
-      based x u h k w = from_values ∙ ap last h ∙ ap Ok (sym (w ∙ ap (λ x. with_values x values) k))
+  module _ (values costs : List ℚ) (v : valued_run limit t ≡ Ok values) (c : costs ≡ f.cost) where
+    abbrev with_costs : Run (List ℚ) → Run Tableau
+    with_costs o = o >>= λ reduced. Ok (with_reduced (with_values t values) reduced)
+
+    from_values : filled_run limit f t ≡ with_costs (priced_run limit t costs)
+    from_values = ap after_values v ∙ ap (λ costs. with_costs (priced_run limit t costs)) (sym c)
+
+    pub price_stop : (p : Past ℚ) → priced_run limit t costs ≡ Err p →
+        refused_as start.Past (filled_run limit f t) ≡ Err (start.Past p)
+    price_stop p h = ap (refused_as start.Past) (from_values ∙ ap with_costs h)
+
+    pub filled : (x u : Tableau) → priced_run limit t costs ≡ Ok x.reduced → x ≡ with_reduced t x.reduced →
+        u ≡ with_values x values → filled_run limit f t ≡ Ok u
+    filled x u h k w =
+        from_values ∙ ap with_costs h ∙ ap Ok (sym (w ∙ ap (λ x. with_values x values) k))

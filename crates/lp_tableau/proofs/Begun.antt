@@ -24,7 +24,7 @@ use Rattle.spec_simplex.specs.Start.{is_wanting, artificial_upper, one_at, logic
 use Rattle.spec_exact.proofs.Stops.{length-made, All-made, get_or-made}
 use Rattle.lp_tableau.specs.Grid.{rows_of, flat, IsBlock}
 use Rattle.lp_tableau.specs.Parts.{tableau_of}
-use Rattle.lp_tableau.specs.Begun.{is_below, start_front}
+use Rattle.lp_tableau.specs.Begun.{is_below, priced_start, start_front}
 use Rattle.lp_tableau.specs.Twins.{signed, twin, with_twins, twinned, IsTwinned}
 use Rattle.lp_tableau.specs.Answer.{Stops}
 use Rattle.lp_frac.specs.declared.stop.Stop.{Stop}
@@ -260,27 +260,28 @@ begun_is f starts rows cols entries basic value reduced status lower upper a b c
 
 -- ---- the start
 module _ (limit : Option ℕ) (f : Form) where
-  abbrev after_rows : List (RowStart ℚ) → Run Tableau
-  after_rows starts =
-      priced_run limit (begun f starts) (first_costs f starts) >>= λ reduced. Ok (with_reduced (begun f starts) reduced)
-
   pub rows_stop : (s : Stop Infallible) → Stops (list_run f.rows (row_start limit f)) s → Stops (start_of limit f) s
   unfolding start_of
   rows_stop (cold.Cause never) h = absurd h
-  rows_stop (cold.Past p) h = ap (λ o. o >>= after_rows) h
+  rows_stop (cold.Past p) h = ap (λ o. o >>= priced_start limit f) h
   rows_stop cold.NoMemory h = tt
 
+  pub start_is : (starts : List (RowStart ℚ)) → list_run f.rows (row_start limit f) ≡ Ok starts →
+      start_of limit f ≡ priced_start limit f starts
+  unfolding start_of
+  start_is starts r = ap (λ o. o >>= priced_start limit f) r
+
   module _ (starts : List (RowStart ℚ)) (t : Tableau) (costs : List ℚ)
-      (r : list_run f.rows (row_start limit f) ≡ Ok starts)
       (b : t ≡ begun f starts) (c : costs ≡ first_costs f starts) where
-    from_rows : start_of limit f ≡ (priced_run limit t costs >>= λ reduced. Ok (with_reduced t reduced))
-    unfolding start_of
-    from_rows =
-        ap (λ o. o >>= after_rows) r
-        ∙ sym (ap₂ (λ u cs. priced_run limit u cs >>= λ reduced. Ok (with_reduced u reduced)) b c)
+    abbrev with_costs : Run (List ℚ) → Run Tableau
+    with_costs o = o >>= λ reduced. Ok (with_reduced t reduced)
 
-    pub price_stops : (e : Past ℚ) → priced_run limit t costs ≡ Err e → start_of limit f ≡ Err e
-    price_stops e h = from_rows ∙ ap (λ o. o >>= λ reduced. Ok (with_reduced t reduced)) h
+    from_start : priced_start limit f starts ≡ with_costs (priced_run limit t costs)
+    from_start = sym (ap₂ (λ u cs. priced_run limit u cs >>= λ reduced. Ok (with_reduced u reduced)) b c)
 
-    pub started : (u : Tableau) → priced_run limit t costs ≡ Ok u.reduced → RepricedFrom t u → start_of limit f ≡ Ok u
-    started u h k = from_rows ∙ ap (λ o. o >>= λ reduced. Ok (with_reduced t reduced)) h ∙ ap Ok (sym k)
+    pub price_stops : (e : Past ℚ) → priced_run limit t costs ≡ Err e → priced_start limit f starts ≡ Err e
+    price_stops e h = from_start ∙ ap with_costs h
+
+    pub is_priced : (u : Tableau) → priced_run limit t costs ≡ Ok u.reduced → RepricedFrom t u →
+        priced_start limit f starts ≡ Ok u
+    is_priced u h k = from_start ∙ ap with_costs h ∙ ap Ok (sym k)

@@ -1,7 +1,7 @@
 -- Lists that grow by one item after the other.
-use Rattle.std.proofs.Common.{◌≡◌, ℕ, ◌+◌, ◌<◌, ◌≤◌, List, [], ◌∷◌, ◌++◌, length, map, take, get_or, replicate}
+use Rattle.std.proofs.Common.{◌≡◌, ℕ, ◌+◌, ◌-◌, ◌<◌, ◌≤◌, List, [], ◌∷◌, ◌++◌, length, map, take, get_or, replicate}
 use Rattle.std.proofs.Common.{sym, ap, ap₂, ◌∙◌, append_assoc, suc, arith}
-use Rattle.std.proofs.lemmas.List.{map-append, take_more, take_all, replicate_more}
+use Rattle.std.proofs.lemmas.List.{map-append, take_more, take_all}
 use Rattle.spec_exact.specs.Run.{made}
 use Rattle.lp_tableau.specs.Grid.{flat}
 use Rattle.spec_exact.specs.Fraction.{ℚ}
@@ -13,11 +13,6 @@ next_is n = omega arith
 one_more : {A : Type 0} (xs ys zs now : List A) (x y : A) → ys ≡ xs ++ zs → y ≡ x → now ≡ ys ++ y ∷ [] →
     now ≡ xs ++ (zs ++ x ∷ [])
 one_more xs ys zs now x y e i h = h ∙ ap₂ (λ ys y. ys ++ y ∷ []) e i ∙ append_assoc xs zs (x ∷ [])
-
-pub more_same : {A : Type 0} (xs ys now : List A) (n : ℕ) (x y : A) → ys ≡ xs ++ replicate n x → y ≡ x →
-    now ≡ ys ++ y ∷ [] → now ≡ xs ++ replicate (n + 1) x
-more_same xs ys now n x y e i h =
-    one_more xs ys (replicate n x) now x y e i h ∙ ap (λ zs. xs ++ zs) (replicate_more n x)
 
 pub more_made : {A : Type 0} (xs ys now : List A) (n : ℕ) (f : ℕ → A) (y : A) → ys ≡ xs ++ made n f → y ≡ f n →
     now ≡ ys ++ y ∷ [] → now ≡ xs ++ made (n + 1) f
@@ -44,3 +39,11 @@ all_mapped xs now f items i l e = e ∙ ap (λ zs. xs ++ map f zs) (take_all i i
 pub all_made : {A : Type 0} (xs now : List A) (i n m : ℕ) (f : ℕ → A) → now ≡ xs ++ made i f → i ≤ n → n ≤ i →
     n ≡ m → now ≡ xs ++ made m f
 all_made xs now i n m f e a b g = (let z : i ≡ m = omega arith in e ∙ ap (λ k. xs ++ made k f) z)
+
+-- the list xs, filled up with the same item k times
+pub filled_up : {A : Type 0} (xs ys now : List A) (n m k l : ℕ) (x y : A) → ys ≡ xs → length ys ≡ l → n ≡ l → m ≡ k →
+    y ≡ x → now ≡ take (n + m) ys ++ replicate (n + m - l) y → now ≡ xs ++ replicate k x
+filled_up xs ys now n m k l x y e w o r i h =
+    let more : n + m - l ≡ k = omega (arith, o, r) in
+    h ∙ ap₂ (λ zs j. zs ++ replicate j y) (take_all (n + m) ys (omega (arith, w, o)) ∙ e) more
+    ∙ ap (λ z. xs ++ replicate k z) i

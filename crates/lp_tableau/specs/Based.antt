@@ -3,10 +3,12 @@ use Rattle.std.specs.Prelude.{◌≡◌, ◌≢◌, ⊤, ℕ, ◌<◌, List, get
 use Rattle.spec_exact.specs.Fraction.{ℚ, 0ℚ}
 use Rattle.spec_pivot.specs.declared.status.Status.{Status}
 use Rattle.spec_pivot.specs.declared.status.Status.TheVariants.{Basic}
-use Rattle.spec_simplex.specs.Tableau.{at_place, stand}
+use Rattle.spec_exact.specs.Run.{◌>>=◌}
+use Rattle.spec_simplex.specs.Form.{Form}
+use Rattle.spec_simplex.specs.Tableau.{Tableau, at_place, stand}
 use Rattle.spec_simplex.specs.declared.ends.StartStop.{StartStop}
 use Rattle.spec_simplex.specs.declared.ends.StartStop.TheVariants as start
-use Rattle.spec_simplex.specs.Eliminate.{Elimination}
+use Rattle.spec_simplex.specs.Eliminate.{Elimination, eliminate_run, with_basis}
 use Rattle.lp_frac.specs.declared.stop.Stop.{Stop}
 use Rattle.lp_form.specs.declared.stop.Singular.{Singular}
 use Rattle.lp_frac.specs.declared.stop.Stop.TheVariants as stop
@@ -35,3 +37,7 @@ AreInside n basic = All (λ o. IfSome o (λ k. k < n)) basic
 -- where column k stands, by lists of statuses and bounds
 abbrev pub stand_in : List Status → List (Option ℚ) → List (Option ℚ) → ℕ → ℚ
 stand_in status lower upper k = stand (get_or status k Basic) (get_or lower k None) (get_or upper k None)
+
+-- the tableau of the rows and columns that the elimination gives
+abbrev pub based_run : Option ℕ → Form → List Status → Result Tableau (StartStop ℚ)
+based_run limit f basis = eliminate_run limit f basis >>= λ e. Ok (with_basis f basis e)

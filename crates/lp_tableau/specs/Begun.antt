@@ -1,12 +1,12 @@
 -- The rows that a tableau begins with, without the artificial columns.
-use Rattle.std.specs.Prelude.{◌≡◌, ℕ, ◌+◌, ◌<◌, ◌≤◌, List, Bool, true, false}
+use Rattle.std.specs.Prelude.{◌≡◌, ℕ, ◌+◌, ◌<◌, ◌≤◌, List, Bool, true, false, Option, Ok}
 use Rattle.spec_exact.specs.Fraction.{ℚ, 0ℚ}
 use Rattle.spec_simplex.specs.declared.ends.RowStart.{RowStart}
 use Rattle.spec_simplex.specs.declared.ends.RowStart.TheVariants.{Within, Below, Above}
-use Rattle.spec_exact.specs.Run.{made}
+use Rattle.spec_exact.specs.Run.{Run, ◌>>=◌, made}
 use Rattle.spec_simplex.specs.Form.{Form, form_entry}
-use Rattle.spec_simplex.specs.Tableau.{at_place}
-use Rattle.spec_simplex.specs.Start.{start_entry, start_at}
+use Rattle.spec_simplex.specs.Tableau.{Tableau, at_place}
+use Rattle.spec_simplex.specs.Start.{start_entry, start_at, begun, first_costs, priced_run, with_reduced}
 use Rattle.lp_tableau.specs.Grid.{IsGrid}
 
 -- whether the artificial is the negative of the logical
@@ -23,3 +23,8 @@ pub record HoldsColumns (f : Form) (n : ℕ) (rows : List (List ℚ)) : Type 0 w
   pub shape : IsGrid f.rows f.cols rows
   pub done : (i k : ℕ) → i < f.rows → k < n → at_place rows i k ≡ form_entry f i k
   pub rest : (i k : ℕ) → i < f.rows → n ≤ k → k < f.cols → at_place rows i k ≡ 0ℚ
+
+-- the tableau of these starts, with the reduced costs of phase one
+abbrev pub priced_start : Option ℕ → Form → List (RowStart ℚ) → Run Tableau
+priced_start limit f starts =
+    priced_run limit (begun f starts) (first_costs f starts) >>= λ reduced. Ok (with_reduced (begun f starts) reduced)

@@ -1,5 +1,5 @@
 // The tableau of a basis.
-ghost use Rattle.std.specs.Prelude.{◌≡◌, ◌<◌, ◌+◌, ◌++◌, IfOk, IfErr, Ok, Some, None, length, get_or, replicate};
+ghost use Rattle.std.specs.Prelude.{◌≡◌, ◌<◌, ◌+◌, ◌++◌, IfOk, IfErr, OnOk, Ok, Some, None, length, get_or, replicate};
 ghost use Rattle.spec_exact.specs.Fraction.{0ℚ};
 ghost use Rattle.spec_pivot.specs.declared.status.Status.TheVariants.{AtLower};
 ghost use Rattle.spec_exact.specs.Run.{made, refused_as};
@@ -8,13 +8,13 @@ ghost use Rattle.spec_simplex.specs.Tableau.{all_columns};
 ghost use Rattle.spec_simplex.specs.declared.ends.StartStop.TheVariants as start;
 ghost use Rattle.spec_simplex.specs.Eliminate as elimination;
 ghost use Rattle.lp_frac.specs.Narrow.{largest};
-ghost use Rattle.lp_tableau.specs.Answer.{GivesRun};
 ghost use Rattle.lp_tableau.specs.Grid.{IsGrid};
-ghost use Rattle.lp_tableau.specs.Based.{AreInside, StopsAt, stand_in};
+ghost use Rattle.lp_tableau.specs.Parts.{AreLists};
+ghost use Rattle.lp_tableau.specs.Based.{AreInside, StopsAt, based_run, stand_in};
 
 use crate::coefficients::coefficients;
 use crate::solve::eliminate;
-use crate::start::{lowers, rows, width, zeros};
+use crate::start::{RowStart, lowers, rows, width, zeros};
 use crate::steps::stand;
 use crate::tableau::{ColumnLists, Tableau};
 use crate::twins::Twins;
@@ -26,12 +26,9 @@ use std::alloc::{AllocError, Global};
 fn equations(alloc: Global, form: &Form) -> Result<Twins, AllocError>
     ensures { IfOk result (λ rows. rows ≡ (elimination.unsolved form.now).rows) }
 {
-    let starts = Vec::from_elem(
-        alloc,
-        spec_simplex::RowStart::Within(zero()),
-        form.rows() as usize,
-    )?;
-    rows(alloc, form, &coefficients(alloc, form)?, &starts)
+    let starts = Vec::from_elem(alloc, RowStart::Within(zero()), form.rows() as usize)?;
+    let coefficients = coefficients(alloc, form)?;
+    rows(alloc, form, &coefficients, &starts)
 }
 
 fn no_columns(alloc: Global, form: &Form) -> Result<Vec<Option<u32>>, AllocError>
@@ -66,9 +63,7 @@ fn statuses(alloc: Global, form: &Form, basis: &Basis) -> Result<Vec<Status>, Al
     ensures { IfOk result (λ v. v.items ≡ elimination.basis_status form.now basis.now) }
 {
     let mut statuses = Vec::from_slice(alloc, basis.as_slice())?;
-    for _ in 0..form.rows() {
-        statuses.push(Status::AtLower)?;
-    }
+    statuses.resize(statuses.len() + form.rows() as usize, Status::AtLower)?;
     Ok(statuses)
 }
 
@@ -76,9 +71,7 @@ fn uppers(alloc: Global, form: &Form) -> Result<Vec<Option<Frac>>, AllocError>
     ensures { IfOk result (λ v. v.items ≡ elimination.basis_upper form.now) }
 {
     let mut uppers = Vec::from_slice(alloc, form.uppers())?;
-    for _ in 0..form.rows() {
-        uppers.push(Some(zero()))?;
-    }
+    uppers.resize(uppers.len() + form.rows() as usize, Some(zero()))?;
     Ok(uppers)
 }
 
@@ -104,14 +97,10 @@ fn values(
 fn lists(alloc: Global, form: &Form, basis: &Basis) -> Result<ColumnLists, AllocError>
     requires kept { IsForm form.now }
     requires statuses { length basis.now ≡ form.now.cols + form.now.rows }
-    ensures value { IfOk result (λ l.
-        l.value.items ≡ made (form.now.cols + form.now.rows + form.now.rows)
-        (elimination.basis_value form.now basis.now)) }
-    ensures reduced { IfOk result (λ l.
-        l.reduced.items ≡ replicate (form.now.cols + form.now.rows + form.now.rows) 0ℚ) }
-    ensures status { IfOk result (λ l. l.status.items ≡ elimination.basis_status form.now basis.now) }
-    ensures lower { IfOk result (λ l. l.lower.items ≡ elimination.basis_lower form.now) }
-    ensures upper { IfOk result (λ l. l.upper.items ≡ elimination.basis_upper form.now) }
+    ensures { IfOk result (λ l. AreLists l
+        (made (form.now.cols + form.now.rows + form.now.rows) (elimination.basis_value form.now basis.now))
+        (replicate (form.now.cols + form.now.rows + form.now.rows) 0ℚ) (elimination.basis_status form.now basis.now)
+        (elimination.basis_lower form.now) (elimination.basis_upper form.now)) }
 {
     let status = statuses(alloc, form, basis)?;
     let (lower, upper) = (lowers(alloc, form)?, uppers(alloc, form)?);
@@ -160,28 +149,17 @@ impl Tableau {
         Ok(value)
     }
 
-    // The values of all columns, where `values` begins as what the tableau has.
-    fn fill(&self, values: &mut [Frac]) -> Result<(), Past>
-        requires begun { values.old ≡ self.now.value }
-        requires len { length values.old ≡ all_columns self.now }
-        ensures filled { GivesRun (elimination.valued_run (Some largest) self.now) values.new result }
-        ensures len { length values.new ≡ length values.old }
-    {
-        for i in 0..self.rows() {
-            let value = self.position(i)?;
-            values[self.basic(i) as usize] = value;
-        }
-        Ok(())
-    }
-
-    // The same in a list of its own.
+    // The values of all columns.
     fn valued(&self, alloc: Global) -> Result<Vec<Frac>, BasisStop>
         ensures ok { IfOk result (λ v. elimination.valued_run (Some largest) self.now ≡ Ok v.items) }
         ensures len { IfOk result (λ v. length v.items ≡ all_columns self.now) }
         ensures err { IfErr result (StopsAt (refused_as start.Past (elimination.valued_run (Some largest) self.now))) }
     {
         let mut values = Vec::from_slice(alloc, &self.value)?;
-        self.fill(&mut values)?;
+        for i in 0..self.rows() {
+            let value = self.position(i)?;
+            values[self.basic(i) as usize] = value;
+        }
         Ok(values)
     }
 
@@ -191,6 +169,31 @@ impl Tableau {
     {
         self.value = values;
     }
+
+    // The values of the basic columns, and the reduced costs for the form's costs.
+    fn complete(&mut self, alloc: Global, form: &Form) -> Result<(), BasisStop>
+        ensures ok { OnOk result (elimination.filled_run (Some largest) form.now self.old ≡ Ok self.new) }
+        ensures err { IfErr result (StopsAt (refused_as start.Past
+            (elimination.filled_run (Some largest) form.now self.old))) }
+    {
+        let values = self.valued(alloc)?;
+        self.price(form.costs())?;
+        self.set_values(values);
+        Ok(())
+    }
+}
+
+// The form's equations solved for the basic columns.
+fn solved(alloc: Global, form: &Form, basis: &Basis) -> Result<Tableau, BasisStop>
+    requires { length basis.now ≡ form.now.cols + form.now.rows }
+    ensures ok { IfOk result (λ t. based_run (Some largest) form.now basis.now ≡ Ok t) }
+    ensures err { IfErr result (StopsAt (based_run (Some largest) form.now basis.now)) }
+{
+    let mut grid = equations(alloc, form)?;
+    let mut basic = no_columns(alloc, form)?;
+    eliminate(&mut grid, &mut basic, form, basis)?;
+    let tab = begun(alloc, form, basis, grid, &basic)?;
+    Ok(tab)
 }
 
 /// The tableau of a basis: the form's equations solved for the basic columns, one after the other, each
@@ -201,12 +204,12 @@ pub fn start_from(alloc: Global, form: &Form, basis: &Basis) -> Result<Tableau, 
     ensures ok { IfOk result (λ t. elimination.start_from (Some largest) form.now basis.now ≡ Ok t) }
     ensures err { IfErr result (StopsAt (elimination.start_from (Some largest) form.now basis.now)) }
 {
-    let mut grid = equations(alloc, form)?;
-    let mut basic = no_columns(alloc, form)?;
-    eliminate(&mut grid, &mut basic, form, basis)?;
-    let mut tab = begun(alloc, form, basis, grid, &basic)?;
-    let values = tab.valued(alloc)?;
-    tab.price(form.costs())?;
-    tab.set_values(values);
-    Ok(tab)
+    let mut tab = solved(alloc, form, basis)?;
+    match tab.complete(alloc, form) {
+        Ok(()) => Ok(tab),
+        Err(stop) => {
+            drop(tab);
+            Err(stop)
+        }
+    }
 }

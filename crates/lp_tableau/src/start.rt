@@ -6,7 +6,8 @@ ghost use Rattle.spec_simplex.specs.Start as starting;
 ghost use Rattle.lp_frac.specs.Narrow.{largest};
 ghost use Rattle.lp_tableau.specs.Answer.{Stops};
 ghost use Rattle.lp_tableau.specs.Grid.{flat};
-ghost use Rattle.lp_tableau.specs.Begun.{HoldsColumns, is_below, start_front};
+ghost use Rattle.lp_tableau.specs.Parts.{AreLists};
+ghost use Rattle.lp_tableau.specs.Begun.{HoldsColumns, is_below, priced_start, start_front};
 
 use crate::coefficients::coefficients;
 use crate::ends::ColdStop;
@@ -17,7 +18,7 @@ use crate::steps::or_zero;
 use crate::tableau::{ColumnLists, Tableau};
 use crate::twins::Twins;
 use lp_form::{Form, Status};
-use lp_frac::{Frac, neg, one, zero};
+use lp_frac::{Frac, Stop, neg, one, zero};
 use std::alloc::{AllocError, Global};
 
 // One of three, by whether column `k` is structural, logical or artificial; the latter two by their rows.
@@ -263,9 +264,10 @@ pub(crate) fn rows(
     ensures { IfOk result (λ rows. rows ≡ made form.now.rows (starting.start_row form.now starts.now)) }
 {
     let (first, others) = (form.cols(), form.rows());
+    let turned = turns(alloc, starts)?;
     let block = block(alloc, form, coefficients, starts)?;
     let grid = Grid::from_block(others as usize, front(form) as usize, block);
-    Ok(Twins::from_grid(first, others, grid, turns(alloc, starts)?))
+    Ok(Twins::from_grid(first, others, grid, turned))
 }
 
 /// The basic column of each position.
@@ -299,9 +301,7 @@ pub fn lowers(alloc: Global, form: &Form) -> Result<Vec<Option<Frac>>, AllocErro
     ensures { IfOk result (λ v. v.items ≡ form.now.lower ++ replicate form.now.rows (Some 0ℚ)) }
 {
     let mut lowers = Vec::from_slice(alloc, form.lowers())?;
-    for _ in 0..form.rows() {
-        lowers.push(Some(zero()))?;
-    }
+    lowers.resize(lowers.len() + form.rows() as usize, Some(zero()))?;
     Ok(lowers)
 }
 
@@ -341,16 +341,12 @@ pub fn first_costs(alloc: Global, form: &Form, starts: &[RowStart]) -> Result<Ve
 // The lists of the tableau by columns, without reduced costs.
 fn lists(alloc: Global, form: &Form, starts: &[RowStart]) -> Result<ColumnLists, AllocError>
     requires { length starts.now ≡ form.now.rows }
-    ensures value { IfOk result (λ l.
-        l.value.items ≡ made (form.now.cols + form.now.rows + form.now.rows)
-        (starting.start_value form.now starts.now)) }
-    ensures reduced { IfOk result (λ l.
-        l.reduced.items ≡ replicate (form.now.cols + form.now.rows + form.now.rows) 0ℚ) }
-    ensures status { IfOk result (λ l.
-        l.status.items ≡ made (form.now.cols + form.now.rows + form.now.rows)
-        (starting.start_status form.now starts.now)) }
-    ensures lower { IfOk result (λ l. l.lower.items ≡ form.now.lower ++ replicate form.now.rows (Some 0ℚ)) }
-    ensures upper { IfOk result (λ l. l.upper.items ≡ form.now.upper ++ map starting.artificial_upper starts.now) }
+    ensures { IfOk result (λ l. AreLists l
+        (made (form.now.cols + form.now.rows + form.now.rows) (starting.start_value form.now starts.now))
+        (replicate (form.now.cols + form.now.rows + form.now.rows) 0ℚ)
+        (made (form.now.cols + form.now.rows + form.now.rows) (starting.start_status form.now starts.now))
+        (form.now.lower ++ replicate form.now.rows (Some 0ℚ))
+        (form.now.upper ++ map starting.artificial_upper starts.now)) }
 {
     Ok(ColumnLists {
         value: values(alloc, form, starts)?,
@@ -379,6 +375,29 @@ fn begun(
     Ok(Tableau::from_parts(height, cols, grid, basic, lists))
 }
 
+// The tableau with the reduced costs of phase one.
+fn priced(
+    alloc: Global,
+    form: &Form,
+    coefficients: &Grid,
+    starts: &[RowStart],
+) -> Result<Tableau, ColdStop>
+    requires held { HoldsColumns form.now form.now.cols coefficients.now }
+    requires starts { length starts.now ≡ form.now.rows }
+    ensures ok { IfOk result (λ t. priced_start (Some largest) form.now starts.now ≡ Ok t) }
+    ensures err { IfErr result (Stops (priced_start (Some largest) form.now starts.now)) }
+{
+    let costs = first_costs(alloc, form, starts)?;
+    let mut tableau = begun(alloc, form, coefficients, starts)?;
+    match tableau.price(&costs) {
+        Ok(()) => Ok(tableau),
+        Err(past) => {
+            drop(tableau);
+            Err(Stop::Past(past))
+        }
+    }
+}
+
 /// How all rows begin, in order, with each structural column at its first place.
 pub fn starts(alloc: Global, form: &Form) -> Result<Vec<RowStart>, ColdStop>
     ensures ok { IfOk result (λ v. list_run form.now.rows (starting.row_start (Some largest) form.now) ≡ Ok v.items) }
@@ -399,8 +418,5 @@ pub fn start_cold(alloc: Global, form: &Form) -> Result<Tableau, ColdStop>
 {
     let coefficients = coefficients(alloc, form)?;
     let starts = row_starts(alloc, form, &coefficients)?;
-    let mut tableau = begun(alloc, form, &coefficients, &starts)?;
-    let costs = first_costs(alloc, form, &starts)?;
-    tableau.price(&costs)?;
-    Ok(tableau)
+    priced(alloc, form, &coefficients, &starts)
 }

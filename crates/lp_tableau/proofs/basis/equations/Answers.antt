@@ -12,7 +12,7 @@ pub returns : goal.returns
 returns c =
     let starts : c.in_ok-starts.starts.items ≡ replicate c.rows.result (Within c.zero.result) =
     c.in_ok-starts.ensures.items_if_clones_equal (λ y h. search rules) in
-    subst (λ xs. IfOk c.rows-3.result (λ rows. rows ≡ xs))
+    subst (λ xs. IfOk c.rows-2.result (λ rows. rows ≡ xs))
     (equations_are c.args.form.now c.deref.result.now
     (c.deref.ensures.value ∙ starts ∙ ap₂ (λ n v. replicate n (Within v)) c.rows.ensures.value c.zero.ensures))
-    c.rows-3.ensures
+    c.rows-2.ensures

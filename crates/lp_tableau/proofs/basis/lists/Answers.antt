@@ -14,20 +14,14 @@ values-requires-clause-upper c =
     uppers_beside c.args.form.now c.args.basis.now c.requires.kept c.requires.statuses _ _
     (c.deref-3.ensures.value ∙ c.in_ok-upper.ensures) (c.deref.ensures.value ∙ c.in_ok-status.ensures)
 
-pub returns-clause-value : goal.returns-clause-value
-returns-clause-value c =
-    values_are c.args.form.now c.args.basis.now c.requires.kept c.requires.statuses _ _ _ _
-    (c.deref.ensures.value ∙ c.in_ok-status.ensures) (c.deref-2.ensures.value ∙ c.in_ok-lower.ensures)
-    (c.deref-3.ensures.value ∙ c.in_ok-upper.ensures) c.in_ok-values.ensures
-
-pub returns-clause-reduced : goal.returns-clause-reduced
-returns-clause-reduced c = c.in_ok-zeros.ensures ∙ ap (λ n. replicate n 0ℚ) c.width.ensures.value
-
-pub returns-clause-status : goal.returns-clause-status
-returns-clause-status c = c.in_ok-status.ensures
-
-pub returns-clause-lower : goal.returns-clause-lower
-returns-clause-lower c = c.in_ok-lower.ensures
-
-pub returns-clause-upper : goal.returns-clause-upper
-returns-clause-upper c = c.in_ok-upper.ensures
+pub returns : goal.returns
+returns c = record {
+  value =
+      values_are c.args.form.now c.args.basis.now c.requires.kept c.requires.statuses _ _ _ _
+      (c.deref.ensures.value ∙ c.in_ok-status.ensures) (c.deref-2.ensures.value ∙ c.in_ok-lower.ensures)
+      (c.deref-3.ensures.value ∙ c.in_ok-upper.ensures) c.in_ok-values.ensures;
+  reduced = c.in_ok-zeros.ensures ∙ ap (λ n. replicate n 0ℚ) c.width.ensures.value;
+  status = c.in_ok-status.ensures;
+  lower = c.in_ok-lower.ensures;
+  upper = c.in_ok-upper.ensures;
+}

@@ -1,68 +1,20 @@
--- A stop in the rows, one in the values, one in the reduced costs, and the tableau.
-use Rattle.std.proofs.Common.{◌+◌, ◌∙◌, Some, sym, ap, subst, length}
+-- A stop in the rows, one after them, and the tableau.
+use Rattle.std.proofs.Common.{Some}
 use Rattle.std.proofs.lemmas.Result.{err_from_is_err_and}
 use Rattle.lp_frac.specs.Narrow.{largest}
-use Rattle.spec_simplex.specs.Tableau.{all_columns}
-use Rattle.lp_tableau.specs.Based.{AreInside}
-use Rattle.lp_tableau.proofs.Based.{written_back, lent_is, rows_stop, values_stop, price_stop, based}
+use Rattle.lp_tableau.proofs.Based.{based_stop, filled_stop, whole}
 use Rattle.lp_tableau.proofs.basis.start_from.Goals as goal
 
-pub returns-in_err-eliminate-clause-err : goal.returns-in_err-eliminate-clause-err
-returns-in_err-eliminate-clause-err c =
-    let p = err_from_is_err_and c.from_residual-in_err-eliminate.result c.from_residual-in_err-eliminate.ensures.1 in
-    rw (p.1, p.2) (rows_stop (Some largest) c.args.form.now c.args.basis.now _ c.in_err-eliminate.ensures.solved)
+pub returns-in_err-tab-clause-err : goal.returns-in_err-tab-clause-err
+returns-in_err-tab-clause-err c =
+    let p = err_from_is_err_and c.from_residual.result c.from_residual.ensures.1 in
+    rw (p.1, p.2) (based_stop (Some largest) c.args.form.now c.args.basis.now _ c.in_err-tab.ensures.err)
 
-pub returns-in_err-values-clause-err : goal.returns-in_err-values-clause-err
-returns-in_err-values-clause-err c =
-    let p = err_from_is_err_and c.from_residual-in_err-values.result c.from_residual-in_err-values.ensures.1 in
-    let b =
-    lent_is c.args.form.now c.args.basis.now c.eliminate.new.grid c.in_ok-tab.tab _ c.eliminate.new.basic _ _ _ _
-    c.in_ok-tab.ensures c.deref.ensures.value (c.deref_mut.ensures.value ∙ c.in_ok-basic.ensures)
-    c.deref_mut.ensures.len c.in_ok-eliminate.ensures.places in
-    rw (p.1, p.2) (values_stop (Some largest) c.args.form.now c.args.basis.now _
-    c.in_ok-tab.tab c.in_ok-eliminate.ensures.solved b _ c.in_err-values.ensures.err)
+pub returns-in-Ok-clause-ok : goal.returns-in-Ok-clause-ok
+returns-in-Ok-clause-ok c =
+    whole (Some largest) c.args.form.now c.args.basis.now c.in_ok-tab.tab c.in_ok-tab.ensures.ok _ c.in-Ok.ensures.ok
 
-pub returns-in_err-price-clause-err : goal.returns-in_err-price-clause-err
-returns-in_err-price-clause-err c =
-    let p = err_from_is_err_and c.from_residual-in_err-price.result c.from_residual-in_err-price.ensures.1 in
-    let b =
-    lent_is c.args.form.now c.args.basis.now c.eliminate.new.grid c.in_ok-tab.tab _ c.eliminate.new.basic _ _ _ _
-    c.in_ok-tab.ensures c.deref.ensures.value (c.deref_mut.ensures.value ∙ c.in_ok-basic.ensures)
-    c.deref_mut.ensures.len c.in_ok-eliminate.ensures.places in
-    rw (p.1, p.2) (price_stop (Some largest) c.args.form.now c.args.basis.now _ c.in_ok-tab.tab
-    c.in_ok-eliminate.ensures.solved b _ _ c.in_ok-values.ensures.ok c.costs.ensures _ c.in_err-price.ensures.priced)
-
-pub returns-clause-ok : goal.returns-clause-ok
-returns-clause-ok c =
-    let b =
-    lent_is c.args.form.now c.args.basis.now c.eliminate.new.grid c.in_ok-tab.tab _ c.eliminate.new.basic _ _ _ _
-    c.in_ok-tab.ensures c.deref.ensures.value (c.deref_mut.ensures.value ∙ c.in_ok-basic.ensures)
-    c.deref_mut.ensures.len c.in_ok-eliminate.ensures.places in
-    based (Some largest) c.args.form.now c.args.basis.now _ c.in_ok-tab.tab
-    c.in_ok-eliminate.ensures.solved b _ _ c.in_ok-values.ensures.ok c.costs.ensures
-    c.price.new.self _ c.in_ok-price.ensures.priced c.in_ok-price.ensures.rest c.set_values.ensures
-
-pub eliminate-requires-clause-rows : goal.eliminate-requires-clause-rows
-eliminate-requires-clause-rows c = c.in_ok-grid.ensures
-
-pub eliminate-requires-clause-places : goal.eliminate-requires-clause-places
-eliminate-requires-clause-places c = c.deref_mut.ensures.value ∙ c.in_ok-basic.ensures
-
-pub begun-requires-clause-shape : goal.begun-requires-clause-shape
-begun-requires-clause-shape c = c.in_ok-eliminate.ensures.shape
-
-pub begun-requires-clause-places : goal.begun-requires-clause-places
-begun-requires-clause-places c =
-    ap length (written_back _ c.eliminate.new.basic _ _ _ _ c.deref.ensures.value
-    (c.deref_mut.ensures.value ∙ c.in_ok-basic.ensures) c.deref_mut.ensures.len c.in_ok-eliminate.ensures.places)
-    ∙ c.in_ok-eliminate.ensures.places
-
-pub begun-requires-clause-inside : goal.begun-requires-clause-inside
-begun-requires-clause-inside c =
-    subst (AreInside (c.args.form.now.cols + c.args.form.now.rows + c.args.form.now.rows))
-    (sym (written_back _ c.eliminate.new.basic _ _ _ _ c.deref.ensures.value
-    (c.deref_mut.ensures.value ∙ c.in_ok-basic.ensures) c.deref_mut.ensures.len c.in_ok-eliminate.ensures.places))
-    c.in_ok-eliminate.ensures.inside
-
-pub set_values-requires : goal.set_values-requires
-set_values-requires c = c.in_ok-values.ensures.len ∙ sym (ap all_columns c.in_ok-price.ensures.rest)
+pub returns-in-Err-clause-err : goal.returns-in-Err-clause-err
+returns-in-Err-clause-err c =
+    filled_stop (Some largest) c.args.form.now c.args.basis.now c.in_ok-tab.tab c.in_ok-tab.ensures.ok _
+    c.in-Err.ensures.err

@@ -1,8 +1,10 @@
--- One artificial more.
-use Rattle.std.proofs.Common.{refl}
-use Rattle.lp_tableau.proofs.Lists.{more_same}
+-- The statuses of the basis, and one for each artificial.
+use Rattle.std.proofs.Common.{◌∙◌, refl, arith}
+use Rattle.lp_tableau.proofs.Lists.{filled_up}
 use Rattle.lp_tableau.proofs.basis.statuses.Goals as goal
 
-pub loop-preserved : goal.loop-preserved
-loop-preserved c =
-    more_same c.args.basis.now _ _ c.loop.counter _ _ c.loop.invariant refl c.in_ok-push.ensures.items
+pub returns : goal.returns
+returns c =
+    filled_up c.args.basis.now _ _ _ _ _ c.in_ok-statuses.statuses.len _ _
+    (c.in_ok-statuses.ensures.items ∙ c.as_slice.ensures) (omega (arith, c.in_ok-statuses.statuses.ok.0)) c.len.ensures
+    c.rows.ensures.value refl c.in_ok-resize.ensures.items

@@ -1,9 +1,10 @@
--- One artificial more.
-use Rattle.std.proofs.Common.{ap, Some}
-use Rattle.lp_tableau.proofs.Lists.{more_same}
+-- The form's bounds, and 0 for each artificial.
+use Rattle.std.proofs.Common.{◌∙◌, ap, Some, arith}
+use Rattle.lp_tableau.proofs.Lists.{filled_up}
 use Rattle.lp_tableau.proofs.basis.uppers.Goals as goal
 
-pub loop-preserved : goal.loop-preserved
-loop-preserved c =
-    more_same c.args.form.now.upper _ _ c.loop.counter _ _ c.loop.invariant (ap Some c.zero.ensures)
-    c.in_ok-push.ensures.items
+pub returns : goal.returns
+returns c =
+    filled_up c.args.form.now.upper _ _ _ _ _ c.in_ok-uppers.uppers.len _ _
+    (c.in_ok-uppers.ensures.items ∙ c.uppers.ensures) (omega (arith, c.in_ok-uppers.uppers.ok.0)) c.len.ensures
+    c.rows.ensures.value (ap Some c.zero.ensures) c.in_ok-resize.ensures.items

@@ -26,3 +26,15 @@ returns-clause-solved c =
 
 pub returns-clause-inside : goal.returns-clause-inside
 returns-clause-inside c = one_inside _ c.args.basic.now _ c.args.j c.requires.inside c.requires.column
+
+pub open-requires-clause-shape : goal.open-requires-clause-shape
+open-requires-clause-shape c = c.requires.shape
+
+pub returns-in_default-clause-shape : goal.returns-in_default-clause-shape
+returns-in_default-clause-shape c = c.requires.shape
+
+pub returns-in_default-clause-inside : goal.returns-in_default-clause-inside
+returns-in_default-clause-inside c = c.requires.inside
+
+pub returns-in_err-turn-clause-inside : goal.returns-in_err-turn-clause-inside
+returns-in_err-turn-clause-inside c = c.requires.inside

@@ -14,7 +14,7 @@ from_grid-requires c =
     c.from_block-grid.ensures ∙ grid_is c.args.form.now c.args.starts.now _ _ _
     c.front.ensures.value c.rows-others.ensures.value c.in_ok-block.ensures in
     is_twinned c.args.form.now c.args.starts.now _ _ _ _ c.rows-others.ensures.kept
-    c.requires.starts c.cols-first.ensures.value c.rows-others.ensures.value c.in_ok-turns.ensures g
+    c.requires.starts c.cols-first.ensures.value c.rows-others.ensures.value c.in_ok-turned.ensures g
 
 pub returns : goal.returns
 returns c =
@@ -22,4 +22,4 @@ returns c =
     c.from_block-grid.ensures ∙ grid_is c.args.form.now c.args.starts.now _ _ _
     c.front.ensures.value c.rows-others.ensures.value c.in_ok-block.ensures in
     c.from_grid.ensures ∙ twins_are c.args.form.now c.args.starts.now _ _
-    _ c.requires.starts c.cols-first.ensures.value c.in_ok-turns.ensures g
+    _ c.requires.starts c.cols-first.ensures.value c.in_ok-turned.ensures g

@@ -1,9 +1,10 @@
--- A refusal in the rows, one in the reduced costs, and the start.
-use Rattle.std.proofs.Common.{ap, ◌∙◌, length}
+-- A refusal in the rows, and the start from them.
+use Rattle.std.proofs.Common.{◌≡◌, ap, sym, subst, ◌∙◌, length, Ok}
+use Rattle.std.specs.Result.{IfOk, IfErr}
 use Rattle.std.proofs.lemmas.Result.{err_from_is_err_and}
-use Rattle.spec_simplex.specs.Start.{begun, first_costs}
 use Rattle.spec_exact.proofs.Stops.{length-list_run}
-use Rattle.lp_tableau.proofs.Begun.{rows_stop, price_stops, started}
+use Rattle.lp_tableau.specs.Answer.{Stops}
+use Rattle.lp_tableau.proofs.Begun.{rows_stop, start_is}
 use Rattle.lp_tableau.proofs.start.start_cold.Goals as goal
 
 pub returns-in_err-starts-clause-err : goal.returns-in_err-starts-clause-err
@@ -11,20 +12,15 @@ returns-in_err-starts-clause-err c =
     let p = err_from_is_err_and c.from_residual-in_err-starts.result c.from_residual-in_err-starts.ensures.1 in
     rw (p.1, p.2) (rows_stop _ _ _ c.in_err-starts.ensures.err)
 
-pub begun-requires-clause-starts : goal.begun-requires-clause-starts
-begun-requires-clause-starts c = ap length c.deref.ensures.value ∙ length-list_run _ _ _ c.in_ok-starts.ensures.ok
-
-pub returns-in_err-price-clause-err : goal.returns-in_err-price-clause-err
-returns-in_err-price-clause-err c =
-    let p = err_from_is_err_and c.from_residual-in_err-price.result c.from_residual-in_err-price.ensures.1 in
-    let t = c.in_ok-tableau.ensures ∙ ap (begun c.args.form.now) c.deref.ensures.value in
-    let k =
-    c.deref-3.ensures.value ∙ c.in_ok-costs.ensures ∙ ap (first_costs c.args.form.now) c.deref-2.ensures.value in
-    rw (p.1, p.2) (price_stops _ _ _ _ _ c.in_ok-starts.ensures.ok t k _ c.in_err-price.ensures.priced)
+pub priced-requires-clause-starts : goal.priced-requires-clause-starts
+priced-requires-clause-starts c = ap length c.deref.ensures.value ∙ length-list_run _ _ _ c.in_ok-starts.ensures.ok
 
 pub returns-clause-ok : goal.returns-clause-ok
 returns-clause-ok c =
-    let t = c.in_ok-tableau.ensures ∙ ap (begun c.args.form.now) c.deref.ensures.value in
-    let k =
-    c.deref-3.ensures.value ∙ c.in_ok-costs.ensures ∙ ap (first_costs c.args.form.now) c.deref-2.ensures.value in
-    started _ _ _ _ _ c.in_ok-starts.ensures.ok t k _ c.in_ok-price.ensures.priced c.in_ok-price.ensures.rest
+    subst (λ run. IfOk c.priced.result (λ t. run ≡ Ok t))
+    (sym (start_is _ _ _ (c.in_ok-starts.ensures.ok ∙ ap Ok (sym c.deref.ensures.value)))) c.priced.ensures.ok
+
+pub returns-clause-err : goal.returns-clause-err
+returns-clause-err c =
+    subst (λ run. IfErr c.priced.result (Stops run))
+    (sym (start_is _ _ _ (c.in_ok-starts.ensures.ok ∙ ap Ok (sym c.deref.ensures.value)))) c.priced.ensures.err
