@@ -1,6 +1,6 @@
 -- Both phases over factors, part by part.
 use Rattle.std.proofs.Common.{◌≡◌, ℕ, ◌-◌, List, Option, Some, None, Result, Ok, true, false, cond, sym, ap, ◌∙◌, subst}
-use Rattle.std.proofs.Common.{arith}
+use Rattle.std.proofs.Common.{Bool, ap₂, arith}
 use Rattle.spec_exact.specs.Fraction.{ℚ}
 use Rattle.spec_check.specs.declared.certificate.Certificate.{Certificate}
 use Rattle.spec_check.specs.declared.certificate.Certificate.TheVariants as certificate
@@ -10,6 +10,7 @@ use Rattle.spec_simplex.specs.declared.ends.PrimalEnd.TheVariants.{Optimal}
 use Rattle.spec_simplex.specs.declared.ends.RunStop.{RunStop}
 use Rattle.spec_simplex.specs.declared.ends.RunStop.TheVariants as cause
 use Rattle.spec_simplex.specs.Form.{Form}
+use Rattle.spec_simplex.specs.Tableau.{Tableau}
 use Rattle.spec_exact.specs.Run.{◌>>=◌, refused_as, list_run}
 use Rattle.spec_simplex.specs.Start.{row_start, begun, first_costs}
 use Rattle.spec_simplex.specs.Phases.{wants_phase_one, is_stuck}
@@ -23,7 +24,8 @@ use Rattle.lp_revised.specs.declared.steps.StepsEnd.{StepsEnd}
 use Rattle.lp_frac.specs.declared.stop.Stop.{Stop}
 use Rattle.lp_revised.specs.declared.stop.Spent.{Spent}
 use Rattle.lp_revised.specs.Answer.{StopsRevised}
-use Rattle.lp_revised.specs.Runs.{EndsOver, ended_of, second_run, selection_at}
+use Rattle.lp_revised.specs.Runs.{EndsOver, ended_of, over_end, selection_at}
+use Rattle.lp_revised.specs.Runs.{second_run, after_one_run, begun_run}
 use Rattle.lp_revised.proofs.Renewed.{stops_after}
 
 module _ (budget : ℕ) (f : Form) (starts : List (RowStart ℚ)) (s : Revised) where
@@ -47,36 +49,37 @@ module _ (budget : ℕ) (f : Form) (starts : List (RowStart ℚ)) (s : Revised) 
       ∙ ap (λ k. Ok (record { end = Optimal; state = s; selection = nothing_seen s; used = k })) (sym z)
 
   -- ---- both
-  abbrev after_one : RevisedEnded → Result OverEnd (RunStop ℚ)
-  after_one one = cond (is_stuck one.state.bare) (Ok (stuck_answer one)) (over_two (Some largest) budget f starts one)
-
   pub first_stops : (e : Stop Spent) → StopsRevised (over_one (Some largest) budget f starts s) e →
       StopsRevised (over_phases (Some largest) budget f starts s) e
-  first_stops e h = stops_after (over_one (Some largest) budget f starts s) after_one e h
+  first_stops e h =
+      stops_after (over_one (Some largest) budget f starts s) (after_one_run budget f starts) e h
 
-  module _ (u : Revised) (used : ℕ) (one : StepsEnd) (h : over_one (Some largest) budget f starts s ≡ Ok
-      (ended_of starts u used one)) where
-    after_first : over_phases (Some largest) budget f starts s ≡ after_one (ended_of starts u used one)
-    after_first = ap (λ o. o >>= after_one) h
+  pub then_after : (one : RevisedEnded) (result : Result RunEnd (Stop Spent)) →
+      over_one (Some largest) budget f starts s ≡ Ok one → EndsOver (after_one_run budget f starts one) result →
+      EndsOver (over_phases (Some largest) budget f starts s) result
+  then_after one result h g =
+      subst (λ r. EndsOver r result) (sym (ap (λ o. o >>= after_one_run budget f starts) h)) g
 
-    pub is_infeasible : (y : List ℚ) (rows : ℕ) → is_stuck u.bare ≡ true → rows ≡ u.bare.rows →
-        y ≡ negatives rows one.multipliers →
-        over_phases (Some largest) budget f starts s
-        ≡ Ok (record { certificate = certificate.Infeasible y; basis = None; pivots = used })
-    is_infeasible y rows t r e =
-        after_first
-        ∙ ap (λ b. cond b (Ok (stuck_answer (ended_of starts u used one)))
-        (over_two (Some largest) budget f starts (ended_of starts u used one))) t
-        ∙ ap (λ (z : List ℚ). Ok (record { certificate = certificate.Infeasible z; basis = None; pivots = used }))
-        (sym (e ∙ ap (λ m. negatives m one.multipliers) r))
+-- ---- after phase one
+module _ (budget : ℕ) (f : Form) (starts : List (RowStart ℚ)) (u : Revised) (used : ℕ) (one : StepsEnd) where
+  abbrev by_test : Bool → Result OverEnd (RunStop ℚ)
+  by_test b =
+      cond b (Ok (stuck_answer (ended_of starts u used one)))
+      (over_two (Some largest) budget f starts (ended_of starts u used one))
 
-    pub then_second : (result : Result RunEnd (Stop Spent)) → is_stuck u.bare ≡ false →
-        EndsOver (second_run budget f starts used u) result → EndsOver (over_phases (Some largest) budget f starts s)
-        result
-    then_second result t g =
-        subst (λ r. EndsOver r result)
-        (sym (after_first ∙ ap (λ b. cond b (Ok (stuck_answer (ended_of starts u used one)))
-        (over_two (Some largest) budget f starts (ended_of starts u used one))) t)) g
+  pub is_infeasible : (y : List ℚ) (rows : ℕ) → is_stuck u.bare ≡ true → rows ≡ u.bare.rows →
+      y ≡ negatives rows one.multipliers →
+      after_one_run budget f starts (ended_of starts u used one)
+      ≡ Ok (record { certificate = certificate.Infeasible y; basis = None; pivots = used })
+  is_infeasible y rows t r e =
+      ap by_test t
+      ∙ ap (λ (z : List ℚ). Ok (record { certificate = certificate.Infeasible z; basis = None; pivots = used }))
+      (sym (e ∙ ap (λ m. negatives m one.multipliers) r))
+
+  pub then_second : (result : Result RunEnd (Stop Spent)) → is_stuck u.bare ≡ false →
+      EndsOver (second_run budget f starts used u) result →
+      EndsOver (after_one_run budget f starts (ended_of starts u used one)) result
+  then_second result t g = subst (λ r. EndsOver r result) (sym (ap by_test t)) g
 
 -- ---- phase two
 module _ (budget : ℕ) (f : Form) (starts : List (RowStart ℚ)) (used : ℕ) (s t : Revised) (costs : List ℚ)
@@ -95,22 +98,24 @@ module _ (budget : ℕ) (f : Form) (starts : List (RowStart ℚ)) (used : ℕ) (
       subst (λ r. StopsRevised r e) (sym second_is)
       (stops_after (over_from (Some largest) f starts costs (budget - used) used t) (λ two. Ok (end_answer two)) e h)
 
-  pub is_finished : (u : Revised) (now : ℕ) (e : StepsEnd) (cert : Certificate (List ℚ)) (basis : Option (List Status))
-      →
+  pub is_finished : (u : Revised) (now : ℕ) (e : StepsEnd) (ended : RunEnd) →
       over_from (Some largest) f starts costs (budget - used) used t ≡ Ok (ended_of starts u now e) →
-      cert ≡ over_certificate u.bare (selection_at starts u.bare e) e.end → basis ≡ basis_at u.bare e.end →
-      second_run budget f starts used s ≡ Ok (record { certificate = cert; basis = basis; pivots = now })
-  is_finished u now e cert basis h k i =
-      second_is ∙ ap (λ o. o >>= λ two. Ok (end_answer two)) h
-      ∙ ap (λ (z : Certificate (List ℚ)). Ok (record { certificate = z; basis = basis_at u.bare e.end; pivots = now }))
-      (sym k)
-      ∙ ap (λ (z : Option (List Status)). Ok (record { certificate = cert; basis = z; pivots = now })) (sym i)
+      over_end ended ≡ end_answer (ended_of starts u now e) →
+      second_run budget f starts used s ≡ Ok (over_end ended)
+  is_finished u now e ended h k = second_is ∙ ap (λ o. o >>= λ two. Ok (end_answer two)) h ∙ ap Ok (sym k)
+
+abbrev answer_of : ℕ → Certificate (List ℚ) → Option (List Status) → OverEnd
+answer_of pivots cert basis = record { certificate = cert; basis = basis; pivots = pivots }
+
+pub is_ended : (starts : List (RowStart ℚ)) (u : Revised) (now : ℕ) (e : StepsEnd) (cert : Certificate (List ℚ))
+    (basis : Option (List Status)) → cert ≡ over_certificate u.bare (selection_at starts u.bare e) e.end →
+    basis ≡ basis_at u.bare e.end → answer_of now cert basis ≡ end_answer (ended_of starts u now e)
+is_ended starts u now e cert basis k i = ap₂ (answer_of now) k i
 
 -- ---- the whole
 module _ (budget : ℕ) (f : Form) where
   abbrev after_rows : List (RowStart ℚ) → Result OverEnd (RunStop ℚ)
-  after_rows starts =
-      refactor_run (Some largest) f (bare_of (begun f starts)) >>= λ s. over_phases (Some largest) budget f starts s
+  after_rows starts = begun_run budget f starts (bare_of (begun f starts))
 
   pub rows_stop : (e : Stop Spent) →
       StopsRevised (refused_as cause.Past (list_run f.rows (row_start (Some largest) f))) e →
@@ -118,24 +123,28 @@ module _ (budget : ℕ) (f : Form) where
   unfolding over_run
   rows_stop e h = stops_after (refused_as cause.Past (list_run f.rows (row_start (Some largest) f))) after_rows e h
 
-  module _ (starts : List (RowStart ℚ)) (s : Revised) (h : list_run f.rows (row_start (Some largest) f) ≡ Ok starts)
-      (b : s.bare ≡ bare_of (begun f starts)) where
-    from_rows : over_run (Some largest) budget f
-        ≡ (refactor_run (Some largest) f s.bare >>= λ s. over_phases (Some largest) budget f starts s)
-    unfolding over_run
-    from_rows =
-        ap (λ o. refused_as cause.Past o >>= after_rows) h
-        ∙ sym (ap (λ t. refactor_run (Some largest) f t >>= λ s. over_phases (Some largest) budget f starts s) b)
+  pub runs_whole : (starts : List (RowStart ℚ)) (t : Tableau) (result : Result RunEnd (Stop Spent)) →
+      list_run f.rows (row_start (Some largest) f) ≡ Ok starts → t ≡ bare_of (begun f starts) →
+      EndsOver (begun_run budget f starts t) result → EndsOver (over_run (Some largest) budget f) result
+  unfolding over_run
+  runs_whole starts t result h b g =
+      subst (λ r. EndsOver r result)
+      (sym (ap (λ o. refused_as cause.Past o >>= after_rows) h ∙ ap (begun_run budget f starts) (sym b))) g
 
-    pub factors_stop : (e : Stop Spent) → StopsRevised (refactor_run (Some largest) f s.bare) e →
-        StopsRevised (over_run (Some largest) budget f) e
-    factors_stop e k =
-        subst (λ r. StopsRevised r e) (sym from_rows)
-        (stops_after (refactor_run (Some largest) f s.bare) (λ s. over_phases (Some largest) budget f starts s) e k)
+-- the first factors, and what goes on from them
+module _ (budget : ℕ) (f : Form) (starts : List (RowStart ℚ)) (t : Tableau) where
+  pub factors_stop : (e : Stop Spent) → StopsRevised (refactor_run (Some largest) f t) e →
+      StopsRevised (begun_run budget f starts t) e
+  factors_stop e h = stops_after (refactor_run (Some largest) f t) (over_phases (Some largest) budget f starts) e h
 
-    pub runs_whole : (u : Revised) (result : Result RunEnd (Stop Spent)) → refactor_run (Some largest) f s.bare ≡ Ok u →
-        EndsOver (over_phases (Some largest) budget f starts u) result → EndsOver (over_run (Some largest) budget f)
-        result
-    runs_whole u result k g =
-        subst (λ r. EndsOver r result)
-        (sym (from_rows ∙ ap (λ o. o >>= λ s. over_phases (Some largest) budget f starts s) k)) g
+  module _ (s : Revised) (h : refactor_run (Some largest) f t ≡ Ok s) where
+    from_factors : begun_run budget f starts t ≡ over_phases (Some largest) budget f starts s
+    from_factors = ap (λ o. o >>= over_phases (Some largest) budget f starts) h
+
+    pub phases_stop : (e : Stop Spent) → StopsRevised (over_phases (Some largest) budget f starts s) e →
+        StopsRevised (begun_run budget f starts t) e
+    phases_stop e g = subst (λ r. StopsRevised r e) (sym from_factors) g
+
+    pub phases_end : (result : Result RunEnd (Stop Spent)) →
+        EndsOver (over_phases (Some largest) budget f starts s) result → EndsOver (begun_run budget f starts t) result
+    phases_end result g = subst (λ r. EndsOver r result) (sym from_factors) g

@@ -1,5 +1,6 @@
 -- Steps over factors up to an end, as the code has them.
 use Rattle.std.specs.Prelude.{◌≡◌, ℕ, ◌-◌, List, length, Option, Some, None, Result, Ok, Err}
+use Rattle.std.specs.Prelude.{if◌then◌else◌}
 use Rattle.spec_exact.specs.Fraction.{ℚ}
 use Rattle.spec_simplex.specs.declared.ends.RowStart.{RowStart}
 use Rattle.spec_simplex.specs.declared.ends.Choice.{Choice}
@@ -11,9 +12,10 @@ use Rattle.spec_simplex.specs.declared.ends.RunStop.TheVariants as cause
 use Rattle.spec_simplex.specs.Form.{Form}
 use Rattle.spec_exact.specs.Run.{◌>>=◌, refused_as}
 use Rattle.spec_simplex.specs.Tableau.{Tableau}
-use Rattle.spec_simplex.specs.Phases.{PhasesEnd}
-use Rattle.spec_factor.specs.Revised.{Revised, Selection, flip_over_run, pivot_over_run}
-use Rattle.spec_factor.specs.Over.{RevisedEnded, OverEnd, over_from, second_state, end_answer, answer_in}
+use Rattle.spec_simplex.specs.Phases.{PhasesEnd, is_stuck}
+use Rattle.spec_factor.specs.Revised.{Revised, Selection, flip_over_run, pivot_over_run, refactor_run}
+use Rattle.spec_factor.specs.Over.{RevisedEnded, OverEnd, over_from, over_two, over_phases}
+use Rattle.spec_factor.specs.Over.{second_state, stuck_answer, end_answer, answer_in}
 use Rattle.lp_frac.specs.Narrow.{largest}
 use Rattle.lp_revised.specs.declared.cold_run.RunEnd.{RunEnd}
 use Rattle.lp_revised.specs.declared.select.Column.{Column}
@@ -72,6 +74,15 @@ EndsOver answer (Err e) = StopsRevised answer e
 abbrev pub second_run : ℕ → Form → List (RowStart ℚ) → ℕ → Revised → Result OverEnd (RunStop ℚ)
 second_run budget f starts used s =
     over_from (Some largest) f starts f.cost (budget - used) used (second_state s) >>= λ two. Ok (end_answer two)
+
+-- what follows phase one
+abbrev pub after_one_run : ℕ → Form → List (RowStart ℚ) → RevisedEnded → Result OverEnd (RunStop ℚ)
+after_one_run budget f starts one =
+    if is_stuck one.state.bare then Ok (stuck_answer one) else over_two (Some largest) budget f starts one
+
+-- both phases, with the first factors of these columns
+abbrev pub begun_run : ℕ → Form → List (RowStart ℚ) → Tableau → Result OverEnd (RunStop ℚ)
+begun_run budget f starts t = refactor_run (Some largest) f t >>= λ s. over_phases (Some largest) budget f starts s
 
 -- without a limit the run on whole tableaus ends so, or is spent too
 abbrev pub EndsWhole : Result PhasesEnd (RunStop ℚ) → Result RunEnd (Stop Spent) → Type 0

@@ -8,10 +8,11 @@ ghost use Rattle.spec_simplex.specs.Start as starting;
 ghost use Rattle.spec_simplex.specs.Form.{form_of};
 ghost use Rattle.spec_simplex.specs.Phases.{phases_run};
 ghost use Rattle.spec_factor.specs.Revised.{bare_of, replacements};
-ghost use Rattle.spec_factor.specs.Over.{over_one, over_phases, over_run};
+ghost use Rattle.spec_factor.specs.Over.{over_one, over_run, end_answer};
 ghost use Rattle.lp_frac.specs.Narrow.{largest};
 ghost use Rattle.lp_revised.specs.Answer.{StopsRevised};
-ghost use Rattle.lp_revised.specs.Runs.{RunsFirst, EndsOver, EndsWhole, second_run};
+ghost use Rattle.lp_revised.specs.Runs.{RunsFirst, EndsOver, EndsWith, EndsWhole, ended_of, over_end};
+ghost use Rattle.lp_revised.specs.Runs.{second_run, after_one_run, begun_run};
 
 use crate::ends::{Certificate, negatives_of};
 use crate::state::{Revised, RowStart};
@@ -98,6 +99,28 @@ impl Revised {
         }
     }
 
+    // The certificate and the basis of an end, before which `pivots` pivots and flips were made.
+    fn ended(
+        &self,
+        alloc: Global,
+        starts: &[RowStart],
+        end: &StepsEnd,
+        pivots: u64,
+    ) -> Result<RunEnd, AllocError>
+        requires starts { length starts.now ≡ self.now.bare.rows }
+        requires with { EndsWith self.now.bare end.now.column end.now.end }
+        ensures value { IfOk result (λ e. over_end e ≡ end_answer (ended_of starts.now self.now pivots end.now)) }
+        ensures narrow { IfOk result (λ e. IsNarrowCertificate e.certificate) }
+    {
+        let basis = self.basis_at(alloc, end.end)?;
+        let certificate = self.certificate(alloc, starts, end)?;
+        Ok(RunEnd {
+            certificate,
+            basis,
+            pivots,
+        })
+    }
+
     // Phase two, before which `used` pivots and flips were made, and what it ends with.
     fn phase_two(
         &mut self,
@@ -117,16 +140,42 @@ impl Revised {
         self.fix_artificials();
         let mut pivots = used;
         let end = self.run(alloc, form, starts, form.costs(), &mut pivots, budget)?;
-        let certificate = self.certificate(alloc, starts, &end)?;
-        let basis = self.basis_at(alloc, end.end)?;
-        Ok(RunEnd {
-            certificate,
-            basis,
-            pivots,
-        })
+        let ended = self.ended(alloc, starts, &end, pivots);
+        drop(end);
+        Ok(ended?)
     }
 
-    // Both phases, which share the budget. Where phase one leaves an artificial that is not 0, no point is feasible.
+    // What follows phase one, which made `used` pivots and flips. Where it leaves an artificial that is not 0, no point
+    // is feasible.
+    fn after_one(
+        &mut self,
+        alloc: Global,
+        form: &Form,
+        starts: &[RowStart],
+        one: &StepsEnd,
+        used: u64,
+        budget: u64,
+    ) -> Result<RunEnd, RevisedStop>
+        requires rows { form.now.rows ≡ self.old.bare.rows }
+        requires cols { form.now.cols ≡ self.old.bare.cols }
+        requires starts { length starts.now ≡ self.old.bare.rows }
+        requires few { self.old.replaced < replacements }
+        ensures run { EndsOver (after_one_run budget form.now starts.now (ended_of starts.now self.old used one.now))
+            result }
+        ensures narrow { IfOk result (λ e. IsNarrowCertificate e.certificate) }
+    {
+        if self.is_stuck() {
+            let y = negatives_of(alloc, self.rows(), &one.multipliers)?;
+            return Ok(RunEnd {
+                certificate: Certificate::Infeasible { y },
+                basis: None,
+                pivots: used,
+            });
+        }
+        self.phase_two(alloc, form, starts, used, budget)
+    }
+
+    // The first factors, and both phases, which share the budget.
     fn phases(
         &mut self,
         alloc: Global,
@@ -137,21 +186,14 @@ impl Revised {
         requires rows { form.now.rows ≡ self.old.bare.rows }
         requires cols { form.now.cols ≡ self.old.bare.cols }
         requires starts { length starts.now ≡ self.old.bare.rows }
-        requires few { self.old.replaced < replacements }
-        ensures run { EndsOver (over_phases (Some largest) budget form.now starts.now self.old) result }
+        ensures run { EndsOver (begun_run budget form.now starts.now self.old.bare) result }
         ensures narrow { IfOk result (λ e. IsNarrowCertificate e.certificate) }
     {
+        self.refactor(alloc, form)?;
         let (one, used) = self.phase_one(alloc, form, starts, budget)?;
-        if self.is_stuck() {
-            return Ok(RunEnd {
-                certificate: Certificate::Infeasible {
-                    y: negatives_of(alloc, self.rows(), &one.multipliers)?,
-                },
-                basis: None,
-                pivots: used,
-            });
-        }
-        self.phase_two(alloc, form, starts, used, budget)
+        let ended = self.after_one(alloc, form, starts, &one, used, budget);
+        drop(one);
+        ended
     }
 }
 
@@ -168,6 +210,7 @@ pub fn cold(alloc: Global, form: &Form, budget: u64) -> Result<RunEnd, RevisedSt
 {
     let starts = row_starts(alloc, form)?;
     let mut state = begun(alloc, form, &starts)?;
-    state.refactor(alloc, form)?;
-    state.phases(alloc, form, &starts, budget)
+    let ended = state.phases(alloc, form, &starts, budget);
+    drop(state);
+    ended
 }

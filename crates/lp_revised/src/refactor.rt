@@ -91,6 +91,19 @@ impl Revised {
         Ok(basic)
     }
 
+    // Factors of the basic columns.
+    fn new_factors(&self, alloc: Global, form: &Form) -> Result<Factors, RevisedStop>
+        requires rows { form.now.rows ≡ self.now.bare.rows }
+        requires cols { form.now.cols ≡ self.now.bare.cols }
+        ensures run { AnswersRevised (factor_stop (factor_run (Some largest) form.now (factor_basis self.now.bare)))
+            result }
+        ensures all { IfOk result (λ s. length s.basic ≡ self.now.bare.rows) }
+        ensures inside { IfOk result (λ s. All (λ k. k < form_columns_of self.now.bare) s.basic) }
+    {
+        let basis = self.factor_basis(alloc)?;
+        factors_of(alloc, form, &basis)
+    }
+
     // Takes factors anew: the positions are then the places of the factors.
     pub(crate) fn refactor(&mut self, alloc: Global, form: &Form) -> Result<(), RevisedStop>
         requires rows { form.now.rows ≡ self.old.bare.rows }
@@ -100,8 +113,7 @@ impl Revised {
         ensures cols { self.new.bare.cols ≡ self.old.bare.cols }
         ensures fresh { OnOk result (self.new.replaced ≡ 0) }
     {
-        let basis = self.factor_basis(alloc)?;
-        let factors = factors_of(alloc, form, &basis)?;
+        let factors = self.new_factors(alloc, form)?;
         let basic = self.positions(alloc, &factors)?;
         self.basic = basic;
         self.factors = factors;

@@ -15,5 +15,5 @@ pub returns-clause-run : goal.returns-clause-run
 returns-clause-run c =
     is_finished c.args.budget c.args.form.now c.args.starts.now c.args.used c.args.self.now c.fix_artificials.new.self
     c.costs.result.now
-    c.fix_artificials.ensures c.costs.ensures c.run.new.self c.run.new.used c.in_ok-end.end _ _ c.in_ok-end.ensures.run
-    c.in_ok-certificate.ensures.value c.in_ok-basis.ensures
+    c.fix_artificials.ensures c.costs.ensures c.run.new.self c.run.new.used c.in_ok-end.end _ c.in_ok-end.ensures.run
+    c.in_ok-ended.ensures.value
