@@ -1,28 +1,23 @@
 -- What all workers have served.
-use Rattle.std.proofs.Common.{◌≡◌, ℕ, zero, suc, ◌+◌, ◌<◌, ◌≤◌, List, [], ◌∷◌, ◌++◌, length, map, get_or, Bool, true}
+use Rattle.std.proofs.Common.{◌≡◌, ℕ, zero, suc, ◌<◌, List, [], ◌∷◌, ◌++◌, length, map, get_or, Bool, true}
 use Rattle.std.proofs.Common.{false}
 use Rattle.std.proofs.Common.{refl, sym, ap, ◌∙◌, subst, arith}
 use Rattle.std.specs.Prelude.{◌||◌}
 use Rattle.std.specs.List.{All, AllByRecursion, flat_map, list_any}
-use Rattle.std.proofs.lemmas.List.{get_or-map}
 use Rattle.std.proofs.lemmas.List.Elements.{All-append, All-nil, All-from_recursion}
 use Rattle.spec_reads.specs.Orders.{InPairs, AreInOrder}
-use Rattle.spec_reads.specs.Reads.{ExactRead}
-use Rattle.spec_server.specs.Exchanges.{Exchange, RunAlone}
-use Rattle.spec_serve.specs.declared.link_end.LinkEnd.{LinkEnd}
 use Rattle.spec_serve.specs.Links.{exchanges_of_links}
 use Rattle.spec_serve.proofs.Apart.{links_run_alone, links_reads}
 use Rattle.spec_world.specs.Workers.{reads_in_all, HasServedAlone}
 use Rattle.basis_board.specs.declared.board.Board.{Board}
-use Rattle.basis_board.specs.declared.seats.View.{View}
 use Rattle.board_reads.specs.Orderly.{IsOrderly, IsWhole}
-use Rattle.board_reads.specs.PassReads.{exact_read, reads_of}
+use Rattle.board_reads.specs.PassReads.{reads_of}
 use Rattle.lp_base.specs.Causes.{Rose}
 use Rattle.lp_link.specs.Listening.{ListenerState}
 use Rattle.lp_workers.specs.Dealt.{reads_of_all}
 use Rattle.lp_serve.specs.declared.worker.Worker.{Worker}
 use Rattle.lp_serve.specs.Gathering.{passes_of, nets_of, shares_of, IsOf}
-use Rattle.lp_serve.specs.Serving.{Served, Listened, ends_of, exchanges_of, no_listener, SomeFailed}
+use Rattle.lp_serve.specs.Serving.{Served, Listened, ends_of, exchanges_of, no_listener}
 use Rattle.lp_serve.specs.Workers.{IsReady, ServedLinks, HasServed, ends_in}
 use Rattle.lp_serve.proofs.LinkRuns.{exchanges_in, links_read, links_orderly, links_run}
 

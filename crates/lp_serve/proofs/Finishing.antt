@@ -1,5 +1,5 @@
 -- What a server has done when all its workers have.
-use Rattle.std.proofs.Common.{◌≡◌, ℕ, ◌<◌, ◌≤◌, ◌⊎◌, List, [], ◌∷◌, suc, length, map, take, drop, ◌++◌, true, false}
+use Rattle.std.proofs.Common.{◌≡◌, ℕ, ◌<◌, ◌⊎◌, List, [], ◌∷◌, suc, length, map, take, drop, ◌++◌, true, false}
 use Rattle.std.proofs.Common.{Option, Ok, Err, Result}
 use Rattle.std.proofs.Common.{refl, sym, ap, ◌∙◌, subst, inl, inr, arith, append-nil}
 use Rattle.std.specs.List.{All, AllByRecursion}
@@ -130,6 +130,13 @@ pub ended_write : (said : Result (Unit {0}) ServeFault) (failed : Bool) →
 ended_write (Err why) failed e = e
 ended_write (Ok u) true e = cc
 ended_write (Ok u) false e = e
+
+-- memory that ran out is no fault of the writing
+pub not_write : (result : Result (Unit {0}) ServeFault) → IsErrAnd result (λ why. why ≡ fault.NoMemory) →
+    IsErrOf result fault.Write → ⊥
+not_write (Ok u) stop e = absurd stop
+not_write (Err why) stop e =
+    let f : Err fault.Write ≡ Err fault.NoMemory = sym e ∙ ap Err stop in cc
 
 -- why a call has failed
 err_of : (result : Result (Unit {0}) ServeFault) (P : ServeFault → Type 0) → IsErrAnd result P →

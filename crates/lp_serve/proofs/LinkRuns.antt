@@ -2,7 +2,6 @@
 use Rattle.std.proofs.Common.{◌≡◌, ℕ, List, [], ◌∷◌, ◌++◌, map, refl, sym, ap, ◌∙◌, subst, append-nil}
 use Rattle.std.specs.List.{flat_map, AllByRecursion}
 use Rattle.std.proofs.lemmas.List.{append_assoc}
-use Rattle.spec_reads.specs.Reads.{ExactRead}
 use Rattle.spec_server.specs.Machine.{State, opening}
 use Rattle.spec_server.specs.Exchanges.{Exchange, AloneRun}
 use Rattle.spec_world.specs.Workers.{reads_in_all}

@@ -1,5 +1,5 @@
 -- What the only pass of a board reads in the steps of links is as the places are.
-use Rattle.std.proofs.Common.{◌≡◌, ℕ, suc, List, [], ◌∷◌, ◌++◌, map, refl, sym, ap, ◌∙◌, subst, inl, inr}
+use Rattle.std.proofs.Common.{◌≡◌, ℕ, suc, List, [], ◌∷◌, ◌++◌, refl, sym, ap, ◌∙◌, subst, inl, inr}
 use Rattle.std.proofs.lemmas.Grind.{flat_map-append}
 use Rattle.spec_reads.specs.Reads.{Words}
 use Rattle.spec_reads.specs.Places.{ExactPlace, Logged, logged, Plays}
@@ -14,7 +14,7 @@ use Rattle.basis_board.specs.declared.board.Put.{Put}
 use Rattle.basis_board.specs.declared.board.Put.TheVariants.{Published, Full, Raced}
 use Rattle.basis_board.specs.Rule.{Consistent}
 use Rattle.basis_board.specs.Calls.{Looks, Puts}
-use Rattle.lp_session.specs.Boarding.{AddsStep, StepCalls, MayPut}
+use Rattle.lp_session.specs.Boarding.{StepCalls, MayPut}
 use Rattle.lp_places.specs.Only.{published_words, AreInOrder}
 use Rattle.lp_places.specs.Sharing.{as_places}
 use Rattle.lp_places.proofs.Plays.{reads_since}

@@ -1,8 +1,7 @@
 -- The exchanges of all links are those that so many workers may have had.
-use Rattle.std.proofs.Common.{◌≡◌, ℕ, zero, suc, ◌+◌, ◌<◌, ◌≤◌, List, [], ◌∷◌, ◌++◌, length, map, get_or, Option}
+use Rattle.std.proofs.Common.{◌≡◌, ℕ, ◌<◌, ◌≤◌, List, [], ◌∷◌, length, Option}
 use Rattle.std.proofs.Common.{Some, None}
 use Rattle.std.proofs.Common.{refl, sym, ap, ◌∙◌, subst, arith, append-nil, ⊎_elim}
-use Rattle.std.specs.List.{All, AllByRecursion, flat_map}
 use Rattle.std.specs.List.Sorted.{IsPermutation}
 use Rattle.std.proofs.lemmas.Bool.{cases_lt}
 use Rattle.std.proofs.lemmas.List.{length-map}
@@ -13,7 +12,7 @@ use Rattle.spec_reads.specs.Places.{Plays}
 use Rattle.spec_server.specs.Exchanges.{Exchange, RunFits, log_of}
 use Rattle.spec_serve.specs.Links.{exchanges_of_links, exchanges_from, RunsOver}
 use Rattle.spec_serve.proofs.Apart.{worker_has_own, all_reads}
-use Rattle.spec_world.specs.Workers.{reads_in_all, exchanges_of_worker, HasServedAlone, RunsBy}
+use Rattle.spec_world.specs.Workers.{reads_in_all, HasServedAlone, RunsBy}
 use Rattle.spec_world.proofs.Interleaving.{many_fit}
 use Rattle.spec_world.proofs.ManyFromOne.{one_runs_by}
 use Rattle.basis_board.specs.declared.board.Board.{Board}
@@ -30,7 +29,7 @@ use Rattle.lp_serve.specs.declared.worker.Worker.{Worker}
 use Rattle.lp_serve.specs.Gathering.{passes_of, shares_of, HasMet, Met}
 use Rattle.lp_serve.specs.Serving.{Served, exchanges_of}
 use Rattle.lp_serve.proofs.LinkRuns.{exchanges_in}
-use Rattle.lp_serve.proofs.OnlyPass.{IsAlone, PlaysTo, links_play, done_in}
+use Rattle.lp_serve.proofs.OnlyPass.{IsAlone, links_play, done_in}
 use Rattle.lp_serve.proofs.AllServed.{AreServed, news_many, shares_are, reads_are, reads_whole, each_alone}
 
 module _ {N : Type 0} (state : N → ListenerState) (board : Board) (each : ℕ) where

@@ -1,5 +1,5 @@
 -- The turn of a worker, link by link.
-use Rattle.std.proofs.Common.{◌≡◌, ℕ, suc, ◌+◌, ◌<◌, ◌≤◌, List, [], ◌∷◌, ◌++◌, length, map, true, false, Option, Some}
+use Rattle.std.proofs.Common.{◌≡◌, ℕ, ◌+◌, ◌<◌, ◌≤◌, List, [], ◌∷◌, ◌++◌, length, map, true, false, Option, Some}
 use Rattle.std.proofs.Common.{None}
 use Rattle.std.proofs.Common.{refl, sym, ap, ◌∙◌, subst, inl, inr, arith, append-nil, length-append}
 use Rattle.std.specs.Prelude.{vec_capacity}
@@ -18,8 +18,8 @@ use Rattle.lp_link.specs.LinkState.{LinkState, IsNothing}
 use Rattle.lp_link.specs.Listening.{ListenerState, Grows, HasOneOut, AreNoMore}
 use Rattle.spec_serve.specs.Link.{ServesLink}
 use Rattle.lp_serve.specs.Service.{ServesBy}
-use Rattle.lp_serve.specs.Serving.{Served, IsServed, Listened, streams_of}
-use Rattle.lp_serve.specs.Workers.{IsReady, LinkSteps, ServedLinks, HasServed}
+use Rattle.lp_serve.specs.Serving.{Served, IsServed, streams_of}
+use Rattle.lp_serve.specs.Workers.{IsReady, LinkSteps, HasServed}
 use Rattle.lp_serve.specs.declared.worker.Worker.{Worker}
 use Rattle.lp_serve.proofs.LinkRuns.{links_places, links_more}
 

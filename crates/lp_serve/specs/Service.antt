@@ -1,6 +1,5 @@
 -- The service of one link: the steps of its session, with the calls of a pass, and what is read and written of it.
 use Rattle.std.specs.Prelude.{ℕ, ◌≡◌, ◌++◌, List, [], ◌∷◌, Option, Result, Ok, Err}
-use Rattle.spec_reads.specs.Reads.{ExactRead}
 use Rattle.spec_server.specs.declared.addressing.Addressing.TheVariants.{Alone}
 use Rattle.spec_server.specs.Exchanges.{Exchange}
 use Rattle.spec_server.specs.Machine.{ExactAsk, State, opening}

@@ -1,8 +1,8 @@
--- One more desk.
-use Rattle.std.proofs.Common.{ap, sym, ◌∙◌, subst, arith, [], ◌∷◌}
+-- No desk, one more, and the last one.
+use Rattle.std.proofs.Common.{refl, ap, sym, ◌∙◌, subst, arith, [], ◌∷◌}
 use Rattle.std.specs.List.{All}
 use Rattle.std.proofs.lemmas.List.{map-append}
-use Rattle.std.proofs.lemmas.List.Elements.{All-push}
+use Rattle.std.proofs.lemmas.List.Elements.{All-push, All-nil}
 use Rattle.basis_board.specs.declared.seats.View.{View}
 use Rattle.basis_board.specs.Known.{Known}
 use Rattle.basis_board.specs.Rule.{Consistent}
@@ -10,6 +10,31 @@ use Rattle.lp_serve.specs.declared.gather.Desk.{Desk}
 use Rattle.lp_serve.specs.Gathering.{IsFree, passes_at, shares_of}
 use Rattle.lp_serve.proofs.Hiring.{desk_is_free, shares_more}
 use Rattle.lp_serve.proofs.gather.desks.Goals as goal
+
+pub loop-index-init : goal.loop-index-init
+loop-index-init c =
+    let made = c.in_ok-desks.ensures in
+    let none = ap (λ ds. shares_of (passes_at ds)) made.items in
+    record {
+      board = refl;
+      places = refl;
+      fresh = c.requires.fresh;
+      consistent = c.requires.consistent;
+      len = omega (arith, made.len);
+      room = made.exact;
+      share = omega (arith, none);
+      parts = omega (arith, made.len);
+      free = subst (All (IsFree c.args.board.now c.args.each)) (sym made.items)
+          (All-nil (IsFree c.args.board.now c.args.each));
+    }
+
+pub split-pass-requires-clause-board : goal.split-pass-requires-clause-board
+split-pass-requires-clause-board c = c.loop-index.invariant.board ∙ c.requires.board.0
+
+pub split-pass-requires-clause-share : goal.split-pass-requires-clause-share
+split-pass-requires-clause-share c =
+    let so = c.loop-index.invariant in
+    omega (arith, so.parts, so.len, c.requires.share, c.loop-index-test.true)
 
 pub loop-index-preserved : goal.loop-index-preserved
 loop-index-preserved c =
@@ -59,6 +84,21 @@ loop-index-preserved c =
           (ap (λ (k : Known). k.view) new.pass ∙ cut.new.1) (so.places ∙ c.requires.board.1)
           (subst (λ (k : Known). Consistent k.view) (sym new.pass) cut.consistent.1) new.none new.room));
     }
+
+pub returns-clause-free : goal.returns-clause-free
+returns-clause-free c =
+    let so = c.loop-index.invariant in
+    let new = c.in_ok-new-2.ensures in
+    let free = IsFree c.args.board.now c.args.each in
+    subst (All free) (sym c.push_reserved-2.ensures.items)
+    (All-push free c.loop-index.desks.items c.in_ok-new-2.field-0 so.free (record {
+      of_board = ap (λ (k : Known). k.board) new.pass ∙ so.board ∙ c.requires.board.0;
+      places = ap (λ (k : Known). k.view.places) new.pass ∙ so.places ∙ c.requires.board.1;
+      fresh = ap (λ (k : Known). k.view.reads) new.pass ∙ so.fresh;
+      consistent = subst (λ (k : Known). Consistent k.view) (sym new.pass) so.consistent;
+      none = new.none;
+      room = new.room;
+    }))
 
 pub returns-clause-shares : goal.returns-clause-shares
 returns-clause-shares c =

@@ -1,5 +1,5 @@
 -- The workers so far, the last one first.
-use Rattle.std.proofs.Common.{◌≡◌, ◌+◌, ◌≤◌, ℕ, vec_len, vec_capacity}
+use Rattle.std.proofs.Common.{◌≡◌, ◌+◌, ℕ, vec_len, vec_capacity}
 use Rattle.std.specs.Prelude.{All}
 use Rattle.basis_board.specs.declared.board.Board.{Board}
 use Rattle.lp_serve.specs.Gathering.{IsFree, passes_at, passes_of, nets_of}

@@ -9,19 +9,39 @@ use Rattle.lp_base.specs.Beside.{Takes}
 use Rattle.lp_link.specs.Listening.{listener_of}
 use Rattle.lp_serve.specs.declared.worker.Worker.{Worker}
 use Rattle.lp_serve.specs.Gathering.{shares_of}
-use Rattle.lp_serve.specs.Serving.{Serves, ended_with}
 use Rattle.lp_serve.specs.Workers.{ends_in}
 use Rattle.lp_serve.proofs.AllServed.{failed_in}
-use Rattle.lp_serve.proofs.Finishing.{unserved, when_ended, ended_write}
+use Rattle.lp_serve.proofs.Finishing.{unserved, not_write, when_ended, ended_write}
 use Rattle.lp_serve.proofs.serving.serve.Goals as goal
+
+pub returns-in_err-board-clause-len : goal.returns-in_err-board-clause-len
+returns-in_err-board-clause-len g c = refl
+
+pub returns-in_err-board-clause-write : goal.returns-in_err-board-clause-write
+returns-in_err-board-clause-write g c = λ e.
+    absurd (not_write c.from_residual.result c.from_residual.ensures.1 e)
 
 pub returns-in_err-board-clause-serves : goal.returns-in_err-board-clause-serves
 returns-in_err-board-clause-serves g c =
     unserved _ _ _ _ _ c.from_residual.result c.from_residual.ensures.1 refl
 
+pub returns-in_err-desks-clause-len : goal.returns-in_err-desks-clause-len
+returns-in_err-desks-clause-len g c = refl
+
+pub returns-in_err-desks-clause-write : goal.returns-in_err-desks-clause-write
+returns-in_err-desks-clause-write g c = λ e.
+    absurd (not_write c.from_residual-in_err-desks.result c.from_residual-in_err-desks.ensures.1 e)
+
 pub returns-in_err-desks-clause-serves : goal.returns-in_err-desks-clause-serves
 returns-in_err-desks-clause-serves g c =
     unserved _ _ _ _ _ c.from_residual-in_err-desks.result c.from_residual-in_err-desks.ensures.1 refl
+
+pub returns-in_err-workers-clause-len : goal.returns-in_err-workers-clause-len
+returns-in_err-workers-clause-len g c = ap (λ v. v.len) c.in_err-workers.ensures.kept
+
+pub returns-in_err-workers-clause-write : goal.returns-in_err-workers-clause-write
+returns-in_err-workers-clause-write g c = λ e.
+    absurd (not_write c.from_residual-in_err-workers.result c.from_residual-in_err-workers.ensures.1 e)
 
 pub returns-in_err-workers-clause-serves : goal.returns-in_err-workers-clause-serves
 returns-in_err-workers-clause-serves g c =
@@ -29,9 +49,40 @@ returns-in_err-workers-clause-serves g c =
     (ap (λ v. map (listener_of g.N.Listen.handed g.N.Listen.returned g.N.Listen.accept_faults) v.items)
     c.in_err-workers.ensures.kept)
 
+pub desks-requires-clause-board : goal.desks-requires-clause-board
+desks-requires-clause-board g c =
+    let made = c.in_ok-board.ensures in (made.1, ap (λ (v : View). v.places) made.2 ∙ sym made.0)
+
+pub desks-requires-clause-share : goal.desks-requires-clause-share
+desks-requires-clause-share g c =
+    let share = ap (λ (v : View). v.share) c.in_ok-board.ensures.2 in
+    omega (arith, c.len.ensures, c.requires.nets, share)
+
 pub work_all-requires-after_bounds : goal.work_all-requires-after_bounds
 work_all-requires-after_bounds g c = λ lives bounds.
     c.in_ok-workers.ensures.ready c.in_ok-board.board c.args.each c.in_ok-desks.ensures.free
+
+pub dismiss-whole-requires-clause-empty : goal.dismiss-whole-requires-clause-empty
+dismiss-whole-requires-clause-empty g c = c.in_ok-workers.ensures.left
+
+pub dismiss-whole-requires-clause-passes : goal.dismiss-whole-requires-clause-passes
+dismiss-whole-requires-clause-passes g c = c.work_all.ensures.passes
+
+pub returns-clause-len : goal.returns-clause-len
+returns-clause-len g c =
+    let net = (λ (w : Worker g.row.N.Denot). w.net) in
+    let back = ap length c.dismiss-whole.ensures.nets in
+    let gave = ap length c.in_ok-workers.ensures.nets in
+    omega (
+      arith,
+      c.dismiss-whole.new.nets.ok.0,
+      back,
+      length-map c.work_all.new.workers.items net,
+      c.work_all.ensures.many,
+      length-map c.in_ok-workers.workers.items net,
+      gave,
+      c.args.nets.now.ok.0,
+    )
 
 pub returns-clause-serves : goal.returns-clause-serves
 returns-clause-serves g c =
