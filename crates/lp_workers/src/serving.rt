@@ -57,7 +57,7 @@ pub fn answer_all<R: Threads + Wait + Sync, G: Gate + Sync>(
     let mut hired = hire(alloc, &board, &mut first, workers)?;
     let sessions = deal(alloc, asks, &mut hired)?;
     serve(rt, alloc, &board, hired.as_mut_slice(), gate);
-    let replies = collect(alloc, sessions.as_slice(), &mut hired)?;
+    let replies = collect(alloc, sessions.as_slice(), &mut hired);
     let _whole = gather(&board, first, hired);
-    Ok(replies)
+    replies
 }

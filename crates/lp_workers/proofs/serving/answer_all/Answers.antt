@@ -1,6 +1,7 @@
 -- The replies are those of exchanges that many workers may have had.
 use Rattle.std.proofs.Common.{◌<◌, reverse, ap, sym, ◌∙◌, subst, arith}
 use Rattle.std.specs.List.{All}
+use Rattle.std.proofs.lemmas.Result.{IfOk-weaker}
 use Rattle.basis_board.specs.declared.seats.View.{View}
 use Rattle.lp_workers.specs.AnswersAll.{AnswersAll}
 use Rattle.lp_workers.specs.Dealt.{HasPart, passes_of}
@@ -13,8 +14,8 @@ serve-requires-after_bounds g c = λ lives bounds.
     subst (All (IsReady c.in_ok-board.board)) (sym c.as_mut_slice.ensures.value)
     (c.in_ok-sessions.ensures.ready c.in_ok-board.board c.in_ok-hired.ensures.ready)
 
-pub collect-requires-clause-held : goal.collect-requires-clause-held
-collect-requires-clause-held g c =
+pub collect-replies-requires-clause-held : goal.collect-replies-requires-clause-held
+collect-replies-requires-clause-held g c =
     let n = c.deal.new.workers.len in
     let old = c.deal.new.workers.items in
     let some : 0 < n = omega (arith, c.requires.workers, c.in_ok-hired.ensures.len, c.deal.ensures.len) in
@@ -33,7 +34,7 @@ gather-whole-requires-clause-parts g c =
     let so = served_now c.in_ok-board.board n c.in_ok-hired.hired.len c.args.asks.items c.deal.new.workers.items
     c.as_mut_slice.result.now c.serve.new.workers c.deal.new.workers.ok.0 (sym c.deal.ensures.len)
     c.as_mut_slice.ensures.value c.serve.auto.workers c.in_ok-sessions.ensures.dealt c.serve.ensures in
-    subst (All (HasPart c.in_ok-board.board)) (sym c.collect.ensures.passes)
+    subst (All (HasPart c.in_ok-board.board)) (sym c.collect-replies.ensures.passes)
     (parts_so c.in_ok-board.board n c.args.asks.items _ some so)
 
 pub returns : goal.returns
@@ -53,14 +54,17 @@ returns g c =
     let parts = ap (λ (x : View). x.share) made.2 in
     let cut = c.in_ok-hired.ensures.share in
     let met = c.gather-whole.ensures.share in
-    let kept = c.collect.ensures.len in
-    let all = answers_all board n asks _ some so first last
+    let kept = c.collect-replies.ensures.len in
+    let replied = c.collect-replies.ensures.replies (reverse (xs board n asks _ some so))
+    (replies_held board n asks _ some so c.as_slice.result.now
+    (c.as_slice.ensures.value ∙ c.in_ok-sessions.ensures.sessions)) in
+    IfOk-weaker c.collect-replies.result _ (λ replies. AnswersAll c.args.workers c.args.places asks replies.items)
+    (λ replies are.
+    subst (λ m. AnswersAll m c.args.places asks replies.items) (len ∙ hired)
+    (subst (λ places. AnswersAll n places asks replies.items) made.0
+    (answers_all board n asks _ some so first last
     (ap (λ (x : View). x.reads) (c.hire.ensures.rest) ∙ ap (λ (x : View). x.reads) made.2)
     c.gather-whole.ensures.consistent (omega (arith, parts, cut, met, kept, hired, len)) c.gather-whole.ensures.whole
-    (passes_of c.collect.new.workers.items) c.collect.ensures.passes c.gather-whole.ensures.reads
-    c.in_ok-replies.replies.items
-    (c.in_ok-replies.ensures.replies (reverse (xs board n asks _ some so))
-    (replies_held board n asks _ some so c.as_slice.result.now
-    (c.as_slice.ensures.value ∙ c.in_ok-sessions.ensures.sessions))) in
-    subst (λ m. AnswersAll m c.args.places asks c.in_ok-replies.replies.items) (len ∙ hired)
-    (subst (λ places. AnswersAll n places asks c.in_ok-replies.replies.items) made.0 all)
+    (passes_of c.collect-replies.new.workers.items) c.collect-replies.ensures.passes c.gather-whole.ensures.reads
+    replies.items are)))
+    replied
