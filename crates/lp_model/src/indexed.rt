@@ -15,11 +15,11 @@ pub(crate) fn names_of_rows(alloc: Global, rows: &[Row]) -> Option<NameIndex>
     requires { AllPairs (λ x y. x ≢ y) (map (λ (r : ExactRow). r.name) rows.now) }
     ensures { IfSome result (λ names. names ≡ map (λ (r : ExactRow). r.name) rows.now) }
 {
-    let mut names = NameIndex::new(alloc);
+    let mut names = Some(NameIndex::new(alloc));
     for row in rows {
-        names.push(row.name.as_slice()).ok()?;
+        names = with_name(names, row.name.as_slice());
     }
-    Some(names)
+    names
 }
 
 /// The names of the columns.
@@ -27,11 +27,11 @@ pub(crate) fn names_of_columns(alloc: Global, columns: &[Column]) -> Option<Name
     requires { AllPairs (λ x y. x ≢ y) (map (λ (c : ExactColumn). c.name) columns.now) }
     ensures { IfSome result (λ names. names ≡ map (λ (c : ExactColumn). c.name) columns.now) }
 {
-    let mut names = NameIndex::new(alloc);
+    let mut names = Some(NameIndex::new(alloc));
     for column in columns {
-        names.push(column.name.as_slice()).ok()?;
+        names = with_name(names, column.name.as_slice());
     }
-    Some(names)
+    names
 }
 
 /// The names with one more at the end.
@@ -40,8 +40,10 @@ pub(crate) fn with_name(names: Option<NameIndex>, name: &[u8]) -> Option<NameInd
     ensures { (xs : List (List ℕ)) → IfSome names (λ old. old ≡ xs) → IfSome result (λ new. new ≡ xs ++ name.now ∷ []) }
 {
     let mut names = names?;
-    names.push(name).ok()?;
-    Some(names)
+    match names.push(name) {
+        Ok(()) => Some(names),
+        Err(_) => None,
+    }
 }
 
 /// Takes out the name at a place.
