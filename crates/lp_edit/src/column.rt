@@ -19,9 +19,13 @@ fn is_given(name: &[u8], pairs: &[(Name, Frac)]) -> bool
     pairs.iter().any(|p| are_same(p.0.as_slice(), name))
 }
 
-/// The entries of the pairs of a new column.
-pub(crate) fn entries_of(alloc: Global, model: &Model, pairs: Pairs) -> Result<Entries, EditError>
-    ensures answer { GivesEdited (edited.entries_of model.now [] pairs []) result }
+/// The entries of the pairs of a new column. A name that is no good is taken out of the pairs.
+pub(crate) fn entries_of(
+    alloc: Global,
+    model: &Model,
+    pairs: &mut Pairs,
+) -> Result<Entries, EditError>
+    ensures answer { GivesEdited (edited.entries_of model.now [] pairs.old []) result }
     ensures kept { IfOk result (AreEntries (height model.now)) }
     ensures narrow { IfOk result (All (λ e. IsNarrow e.1)) }
 {
@@ -29,10 +33,10 @@ pub(crate) fn entries_of(alloc: Global, model: &Model, pairs: Pairs) -> Result<E
     for place in 0..pairs.len() {
         let (name, value) = &pairs.as_slice()[place];
         let Some(row) = model.row_of(name.as_slice()) else {
-            return Err(EditFault::UnknownName(pairs.into_name(place)).into());
+            return Err(EditFault::UnknownName(pairs.take_name(place)).into());
         };
         if is_given(name.as_slice(), &pairs.as_slice()[..place]) {
-            return Err(EditFault::Repeated(pairs.into_name(place)).into());
+            return Err(EditFault::Repeated(pairs.take_name(place)).into());
         }
         put_entry(&mut entries, row, *value)?;
     }

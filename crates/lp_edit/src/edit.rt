@@ -91,13 +91,12 @@ impl Pairs {
         &self.items
     }
 
-    /// The name of the pair at `place`, counted from 0.
-    pub(crate) fn into_name(self, place: usize) -> Name
-        requires { place < length self }
-        ensures { IfSome (slice_get self place) (λ p. result ≡ p.0) }
+    /// Takes out the name of the pair at `place`, counted from 0.
+    pub(crate) fn take_name(&mut self, place: usize) -> Name
+        requires { place < length self.old }
+        ensures { IfSome (slice_get self.old place) (λ p. result ≡ p.0) }
     {
-        let mut items = self.items;
-        items.swap_remove(place).0
+        self.items.swap_remove(place).0
     }
 }
 

@@ -75,9 +75,9 @@ fn add_column(
     model: &mut Model,
     name: Name,
     cost: Frac,
-    pairs: Pairs,
+    pairs: &mut Pairs,
 ) -> Result<(), EditError>
-    ensures { Leaves (edited.new_column model.old name cost pairs) true model.old model.new result }
+    ensures { Leaves (edited.new_column model.old name cost pairs.old) true model.old model.new result }
 {
     if !is_name(name.as_slice()) {
         return Err(EditFault::BadName.into());
@@ -179,7 +179,11 @@ pub fn apply(alloc: Global, model: &mut Model, edit: Edit) -> Result<(), EditErr
             },
         ),
         Edit::DelRow(name) => delete_row(model, name),
-        Edit::AddCol { name, cost, pairs } => add_column(alloc, model, name, cost, pairs),
+        Edit::AddCol {
+            name,
+            cost,
+            mut pairs,
+        } => add_column(alloc, model, name, cost, &mut pairs),
         Edit::DelCol(name) => delete_column(model, name),
         Edit::SetCost(name, value) => set_cost(model, name, value),
         Edit::SetCoef { row, column, value } => set_coefficient(model, row, column, value),

@@ -17,20 +17,20 @@ bounds-as_slice-place c = rw (c.as_slice.ensures, c.loop-place.invariant.pairs) 
 pub returns-in_default-clause-answer : goal.returns-in_default-clause-answer
 returns-in_default-clause-answer c =
     rw c.into.ensures (sym c.loop-place.invariant.answer
-    ∙ unknown_read c.args.model.now _ c.args.pairs c.loop-place.place c.loop-place.entries
+    ∙ unknown_read c.args.model.now _ c.args.pairs.now c.loop-place.place c.loop-place.entries
     c.index-as_slice-place.result _ _ (c.as_slice.ensures ∙ c.loop-place.invariant.pairs) c.index-as_slice-place.is
     (omega arith) c.as_slice-in-loop-place.ensures c.row_of.ensures.value _ _ c.loop-place.invariant.pairs
-    c.into_name.ensures c.in_default.is)
+    c.take_name.ensures c.in_default.is)
 
 pub returns-then-is_given-clause-answer : goal.returns-then-is_given-clause-answer
 returns-then-is_given-clause-answer c =
-    let given = given_so _ _ c.args.pairs _ _ _ _ c.as_slice-in-loop-place-2.ensures
+    let given = given_so _ _ c.args.pairs.now _ _ _ _ c.as_slice-in-loop-place-2.ensures
     (c.as_slice-in-loop-place-3.ensures ∙ c.loop-place.invariant.pairs) c.is_given.ensures c.if-is_given.true in
     rw c.into-then-is_given.ensures (sym c.loop-place.invariant.answer
-    ∙ repeated_read c.args.model.now _ c.args.pairs c.loop-place.place c.loop-place.entries
+    ∙ repeated_read c.args.model.now _ c.args.pairs.now c.loop-place.place c.loop-place.entries
     c.index-as_slice-place.result _ _ (c.as_slice.ensures ∙ c.loop-place.invariant.pairs) c.index-as_slice-place.is
     (omega arith) c.as_slice-in-loop-place.ensures c.row_of.ensures.value _ _ c.loop-place.invariant.pairs
-    c.into_name-then-is_given.ensures c.in-Some.row c.in-Some.is given)
+    c.take_name-then-is_given.ensures c.in-Some.row c.in-Some.is given)
 
 pub loop-place-preserved : goal.loop-place-preserved
 loop-place-preserved c =
@@ -40,12 +40,12 @@ loop-place-preserved c =
     c.in_ok-put_entry.ensures.ok in
     record {
       answer =
-          ap (entries_of m (take (c.loop-place.place + 1) c.args.pairs) (drop (c.loop-place.place + 1) c.args.pairs))
-          put
-          ∙ read_on m _ c.args.pairs c.loop-place.place c.loop-place.entries p _ _
+          ap (entries_of m (take (c.loop-place.place + 1) c.args.pairs.now)
+          (drop (c.loop-place.place + 1) c.args.pairs.now)) put
+          ∙ read_on m _ c.args.pairs.now c.loop-place.place c.loop-place.entries p _ _
           (c.as_slice.ensures ∙ c.loop-place.invariant.pairs) c.index-as_slice-place.is (omega arith)
           c.as_slice-in-loop-place.ensures c.row_of.ensures.value c.in-Some.row c.in-Some.is
-          (given_so _ _ c.args.pairs _ _ _ _ c.as_slice-in-loop-place-2.ensures
+          (given_so _ _ c.args.pairs.now _ _ _ _ c.as_slice-in-loop-place-2.ensures
           (c.as_slice-in-loop-place-3.ensures ∙ c.loop-place.invariant.pairs) c.is_given.ensures c.if-is_given.false)
           ∙ c.loop-place.invariant.answer;
       kept =
@@ -59,6 +59,7 @@ loop-place-preserved c =
 
 pub returns-clause-answer : goal.returns-clause-answer
 returns-clause-answer c =
-    let past : drop c.loop-place.place c.args.pairs ≡ [] = drop_all c.loop-place.place c.args.pairs (omega arith) in
+    let past : drop c.loop-place.place c.args.pairs.now ≡ [] =
+    drop_all c.loop-place.place c.args.pairs.now (omega arith) in
     sym c.loop-place.invariant.answer
-    ∙ ap (λ ps. entries_of c.args.model.now (take c.loop-place.place c.args.pairs) ps c.loop-place.entries) past
+    ∙ ap (λ ps. entries_of c.args.model.now (take c.loop-place.place c.args.pairs.now) ps c.loop-place.entries) past
