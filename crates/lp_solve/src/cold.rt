@@ -43,10 +43,12 @@ pub(crate) fn answered(
         },
         Verdict::Past(past) => {
             drop(certificate);
+            drop(basis);
             End::Past(past)
         }
         Verdict::No(_) => {
             drop(certificate);
+            drop(basis);
             End::Spent
         }
     }

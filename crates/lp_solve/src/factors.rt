@@ -63,7 +63,10 @@ fn or_factors(
 {
     let end = over_factors(alloc, budget, model, form)?;
     match end {
-        End::Ended { .. } => Ok(end),
+        End::Ended { .. } => {
+            drop(refused);
+            Ok(end)
+        }
         End::Past(_) | End::Spent => Ok(refused),
     }
 }

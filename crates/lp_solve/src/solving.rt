@@ -117,7 +117,11 @@ pub fn solve(
     ensures narrow { IfOk result (λ s. IsFit model.now s.end) }
 {
     match form(alloc, model) {
-        Ok(form) => solve_formed(alloc, model, budget, &form, handed),
+        Ok(form) => {
+            let solved = solve_formed(alloc, model, budget, &form, handed);
+            drop(form);
+            solved
+        }
         Err(Stop::Cause(clash)) => {
             let certificate = Certificate::Clash(clash.column);
             Ok(cold(answered(model, certificate, None, 0)))

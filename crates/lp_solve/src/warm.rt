@@ -51,10 +51,12 @@ fn answered(model: &Model, certificate: Certificate, basis: Option<Basis>, pivot
         },
         Verdict::Past(past) => {
             drop(certificate);
+            drop(basis);
             Warm::Stopped(WarmStop::Past(past))
         }
         Verdict::No(_) => {
             drop(certificate);
+            drop(basis);
             Warm::Stopped(WarmStop::Spent)
         }
     }

@@ -5,8 +5,8 @@ use Rattle.lp_solve.proofs.Solved.{form_stop, form_clash, formless, clash_fits}
 use Rattle.lp_solve.proofs.WarmRuns.{fits_form, nothing_handed, solves_cold}
 use Rattle.lp_solve.proofs.solving.solve.Goals as goal
 
-pub solve_formed-requires-clause-fits : goal.solve_formed-requires-clause-fits
-solve_formed-requires-clause-fits c = fits_form _ _ _ _ _ c.in-Ok.ensures.ok c.requires
+pub solve_formed-solved-requires-clause-fits : goal.solve_formed-solved-requires-clause-fits
+solve_formed-solved-requires-clause-fits c = fits_form _ _ _ _ _ c.in-Ok.ensures.ok c.requires
 
 pub answered-requires-clause-fits : goal.answered-requires-clause-fits
 answered-requires-clause-fits c =
