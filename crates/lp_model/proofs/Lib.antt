@@ -1,4 +1,5 @@
 pub mod NamePlaces
+pub mod HashedLemmas
 pub mod Halved
 pub mod Splits
 pub mod Places

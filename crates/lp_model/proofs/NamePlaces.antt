@@ -1,19 +1,19 @@
--- Names among what has them: a row, a column, or a key.
-use Rattle.std.proofs.Common.{◌≡◌, ◌≢◌, ℕ, suc, ◌+◌, ◌<◌, Bool, true, false, ◌&&◌, ◌||◌, not, cond}
+-- Names among what has them: a row or a column.
+use Rattle.std.proofs.Common.{◌≡◌, ◌≢◌, ℕ, suc, ◌+◌, ◌<◌, Bool, true, false, ◌&&◌, not, cond}
 use Rattle.std.proofs.Common.{nat_eq, ltb, Option, Some, None, List, [], ◌∷◌, ◌++◌, length, map, take}
 use Rattle.std.proofs.Common.{get_or, set, All, refl, sym, ap, ap₂, ◌∙◌, subst, arith, get_or-take}
 use Rattle.std.specs.Prelude.{IfSome}
-use Rattle.std.specs.List.{list_any, position, position_or_len, AllPairs, remove}
+use Rattle.std.specs.List.{list_any, position, position_or_len, AllPairs}
 use Rattle.std.specs.Cmp.Lexicographic.{pointwise}
 use Rattle.std.proofs.lemmas.Bool.Decides.{nat_tests}
 use Rattle.std.proofs.lemmas.List.{length-map, length-take-le, map-append, take-map, get_or-map}
 use Rattle.std.proofs.lemmas.List.Elements.{All-weaker}
 use Rattle.std.proofs.lemmas.List.Folds.{list_any_none}
-use Rattle.spec_edit.proofs.ListLemmas.{map-remove, map-set_unseen}
+use Rattle.spec_edit.proofs.ListLemmas.{map-set_unseen}
 use Rattle.spec_text.specs.Words.{same}
 use Rattle.spec_text.proofs.WordLemmas.{same_true}
 
-abbrev Name : Type 0
+abbrev pub Name : Type 0
 Name = List ℕ
 
 -- ---- two names
@@ -24,7 +24,7 @@ pointwise_is [] (y ∷ ys) = refl
 pointwise_is (x ∷ xs) [] = refl
 pointwise_is (x ∷ xs) (y ∷ ys) = ap (λ t. nat_eq x y && t) (pointwise_is xs ys)
 
-same_turned : (a b : Name) → same a b ≡ same b a
+pub same_turned : (a b : Name) → same a b ≡ same b a
 same_turned [] [] = refl
 same_turned [] (y ∷ ys) = refl
 same_turned (x ∷ xs) [] = refl
@@ -45,10 +45,6 @@ module _ {X : Type 0} (p : X → Bool) (q : Name → Bool) (f : X → Name) (e :
   place_named xs =
       ap₂ (λ n m. cond (ltb n m) (Some n) None) (first_named xs) (sym (length-map xs f))
 
-  pub any_named : (xs : List X) → list_any p xs ≡ list_any q (map f xs)
-  any_named [] = refl
-  any_named (x ∷ xs) = ap₂ ◌||◌ (e x) (any_named xs)
-
 -- ---- one name more
 
 -- a name that no name of a list is
@@ -60,17 +56,6 @@ other_names name xs h =
     by : (x : Name) → x ≢ name → (t : Bool) → same name x ≡ t → t ≡ false
     by x n true e = absurd (n (sym (same_true name x e)))
     by x n false e = refl
-
--- a new key goes last, so its name does
-pub name_pushed : {X : Type 0} (f : X → Name) (k : X) (ks new : List X) (name : Name) (old : List Name) →
-    map f ks ≡ old → f k ≡ name → All (λ x. x ≢ name) old →
-    new ≡ cond (list_any (λ x. pointwise nat_eq (f k) (f x)) ks) ks (ks ++ k ∷ []) → map f new ≡ old ++ name ∷ []
-name_pushed f k ks new name old seen own others e =
-    let none : list_any (λ x. pointwise nat_eq (f k) (f x)) ks ≡ false =
-    any_named (λ x. pointwise nat_eq (f k) (f x)) (same (f k)) f (λ x. pointwise_is (f k) (f x)) ks
-    ∙ ap₂ (λ n xs. list_any (same n) xs) own seen ∙ other_names name old others in
-    ap (map f) (e ∙ ap (λ t. cond t ks (ks ++ k ∷ [])) none) ∙ map-append f ks (k ∷ [])
-    ∙ ap₂ (λ xs n. xs ++ n ∷ []) seen own
 
 -- the names before one of distinct names are others
 pub names_before : {X : Type 0} (f : X → Name) (xs : List X) (k : ℕ) (x : X) → x ≡ get_or xs k x → k < length xs →
@@ -115,14 +100,6 @@ module _ {X : Type 0} (f : X → Name) where
       subst (λ zs. IfSome made (λ ns. ns ≡ zs))
       (ap (λ n. map f xs ++ n ∷ []) g ∙ sym (map-append f xs (x ∷ [])) ∙ sym (ap (map f) k))
       (makes (map f xs) (subst (λ o. IfSome o (λ ns. ns ≡ map f xs)) (sym e) h))
-
-  -- one is taken out
-  pub names_less : (kept left : Option (List Name)) (xs new : List X) (i : ℕ) → IfSome kept (λ ns. ns ≡ map f xs) →
-      new ≡ remove xs i →
-      ((names : List Name) → IfSome kept (λ old. old ≡ names) → IfSome left (λ ns. ns ≡ remove names i)) →
-      IfSome left (λ ns. ns ≡ map f new)
-  names_less kept left xs new i h k leaves =
-      subst (λ zs. IfSome left (λ ns. ns ≡ zs)) (sym (map-remove f xs i) ∙ sym (ap (map f) k)) (leaves (map f xs) h)
 
   -- one is changed, and has its name still
   pub names_set : (kept : Option (List Name)) (xs : List X) (i : ℕ) (x y : X) → x ≡ get_or xs i x → i < length xs →

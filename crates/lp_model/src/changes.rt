@@ -8,7 +8,7 @@ ghost use Rattle.spec_edit.specs.Changes as changes;
 ghost use Rattle.spec_edit.specs.Edited.{is_row_taken, is_column_taken};
 
 use crate::entries::{put_entry, take_row_out};
-use crate::indexed::{take_name_out, with_name};
+use crate::indexed::with_name;
 use crate::model::{Column, Model, Row};
 use crate::narrow::{narrow, narrow_column, narrow_if, narrow_row};
 use lp_frac::Frac;
@@ -62,7 +62,7 @@ impl Model {
         ensures { self.new ≡ changes.without_row self.old i }
     {
         self.rows.remove(i as usize);
-        take_name_out(&mut self.row_names, i as usize);
+        self.row_names = None;
         take_row_out_of(&mut self.columns, i);
     }
 
@@ -72,7 +72,7 @@ impl Model {
         ensures { self.new ≡ changes.without_column self.old j }
     {
         self.columns.remove(j as usize);
-        take_name_out(&mut self.column_names, j as usize);
+        self.column_names = None;
     }
 
     /// Gives column `j` this cost.

@@ -1,7 +1,7 @@
-// The names of rows and columns that are kept beside a model to find them. Where there was no memory for the names,
-// there are none, and rows and columns are found by a walk.
+// The names of rows and columns that are kept beside a model to find them. Where there was no memory for the names, or
+// one was taken out, there are none, and rows or columns are found by a walk.
 ghost use Rattle.std.specs.Prelude.{◌≡◌, ◌≢◌, ◌<◌, ◌++◌, ◌∷◌, [], All, AllPairs, List, ℕ, length, map, IfSome};
-ghost use Rattle.std.specs.List.{position, remove};
+ghost use Rattle.std.specs.List.{position};
 ghost use Rattle.spec_text.specs.Words.{same};
 ghost use Rattle.spec_model.specs.Model.{ExactRow, ExactColumn};
 
@@ -43,16 +43,6 @@ pub(crate) fn with_name(names: Option<NameIndex>, name: &[u8]) -> Option<NameInd
     match names.push(name) {
         Ok(()) => Some(names),
         Err(_) => None,
-    }
-}
-
-/// Takes out the name at a place.
-pub(crate) fn take_name_out(names: &mut Option<NameIndex>, at: usize)
-    requires { IfSome names.old (λ old. at < length old) }
-    ensures { (xs : List (List ℕ)) → IfSome names.old (λ old. old ≡ xs) → IfSome names.new (λ new. new ≡ remove xs at) }
-{
-    if let Some(names) = names {
-        names.remove(at);
     }
 }
 

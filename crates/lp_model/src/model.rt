@@ -26,7 +26,7 @@ pub struct Model {
     pub(crate) offset: Frac,
     pub(crate) rows: Vec<Row>,
     pub(crate) columns: Vec<Column>,
-    /// The names of the rows, by which they are found; none where there was no memory for them.
+    /// The names of the rows, by which they are found; none where there was no memory for them, or a row was taken out.
     pub(crate) row_names: Option<NameIndex>,
     /// The names of the columns, as those of the rows.
     pub(crate) column_names: Option<NameIndex>,

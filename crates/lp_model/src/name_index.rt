@@ -1,24 +1,30 @@
 // Names that are found by their hashes.
 ghost use Rattle.std.specs.Prelude.{◌≡◌, ◌≢◌, ◌<◌, ◌++◌, ◌∷◌, [], All, length, IfSome, OnOk, OnErr};
-ghost use Rattle.std.specs.List.{list_any, position, remove};
+ghost use Rattle.std.specs.List.{list_any, position};
 ghost use Rattle.spec_text.specs.Words.{same};
 
-use indexmap::IndexSet;
 use std::alloc::{AllocError, Global};
+use std::collections::HashMap;
 use std::marker::Model;
 
 /// Distinct names in their order. The time to find one does not grow with how many there are.
 #[derive(Drop)]
 pub struct NameIndex {
-    names: IndexSet<Vec<u8>>,
+    names: Vec<Vec<u8>>,
+    /// The place of each name, counted from 0.
+    places: HashMap<Vec<u8>, usize>,
 }
 
 impl Model for NameIndex {
     ghost use Rattle.std.specs.Prelude.{List, ℕ, map};
+    ghost use Rattle.lp_model.specs.Hashed.{AreFound};
 
     ghost Value = { List (List ℕ) };
 
-    ghost view = { λ n. map (λ name. name.items) n.names.keys };
+    ghost view = { λ n. map (λ name. name.items) n.names.items };
+
+    ghost invariant = { λ n.
+        AreFound (λ name. name.items) (map (λ name. name.items) n.names.items) n.places.entries };
 }
 
 impl NameIndex {
@@ -26,7 +32,8 @@ impl NameIndex {
         ensures { result ≡ [] }
     {
         NameIndex {
-            names: IndexSet::new(alloc),
+            names: Vec::new(alloc),
+            places: HashMap::new(alloc),
         }
     }
 
@@ -43,24 +50,20 @@ impl NameIndex {
         ensures ok { OnOk result (self.new ≡ self.old ++ name.now ∷ []) }
         ensures err { OnErr result (self.new ≡ self.old) }
     {
-        let name = Vec::from_slice(*self.names.allocator(), name)?;
-        self.names.insert(name)?;
+        let alloc = *self.names.allocator();
+        let key = Vec::from_slice(alloc, name)?;
+        let name = Vec::from_slice(alloc, name)?;
+        self.names.reserve(1)?;
+        self.places.insert(key, self.names.len())?;
+        self.names.push_reserved(name);
         Ok(())
-    }
-
-    /// Takes out the name at a place. The names after it move down by one.
-    pub fn remove(&mut self, at: usize)
-        requires { at < length self.old }
-        ensures { self.new ≡ remove self.old at }
-    {
-        self.names.shift_remove_index(at);
     }
 
     /// Whether a name is among them.
     pub fn has(&self, name: &[u8]) -> bool
         ensures { result ≡ list_any (same name.now) self.now }
     {
-        self.names.contains(name)
+        self.places.contains_key(name)
     }
 
     /// The place of a name, counted from 0.
@@ -68,6 +71,6 @@ impl NameIndex {
         ensures value { result ≡ position (λ x. same x name.now) self.now }
         ensures inside { IfSome result (λ i. i < length self.now) }
     {
-        self.names.get_index_of(name)
+        self.places.get(name).copied()
     }
 }

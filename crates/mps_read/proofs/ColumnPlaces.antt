@@ -1,7 +1,7 @@
 -- Names of columns, of which the last one may be the one that cards are read of.
-use Rattle.std.proofs.Common.{◌≡◌, ◌≢◌, ℕ, ◌+◌, ◌<◌, ◌≤◌, Bool, true, false, ◌&&◌, cond}
+use Rattle.std.proofs.Common.{◌≡◌, ◌≢◌, ℕ, ◌+◌, ◌<◌, ◌≤◌, Bool, true, false, ◌&&◌, ◌||◌, cond}
 use Rattle.std.proofs.Common.{not, eqb, ltb, Option, Some, None, List, [], ◌∷◌, ◌++◌, length}
-use Rattle.std.proofs.Common.{map, All, refl, sym, ap, ◌∙◌, arith, ◌⊎◌, inl, inr, ⊎_elim}
+use Rattle.std.proofs.Common.{map, All, refl, sym, ap, ap₂, ◌∙◌, arith, ◌⊎◌, inl, inr, ⊎_elim}
 use borrow.Author.Tests.{lt-ltb, le-ltb, eqb-true, eqb-false}
 use Rattle.std.specs.List.{list_any, position, position_or_len}
 use Rattle.std.proofs.lemmas.List.{length-append}
@@ -14,7 +14,7 @@ use Rattle.spec_text.proofs.WordLemmas.{same_false}
 use Rattle.spec_model.specs.Model.{Name, ExactColumn, no_column}
 use Rattle.spec_mps.specs.Bounds.{BoundCard, SetsUpper, SetsLower, SetsBoth, bounded, is_negative}
 use Rattle.spec_mps.specs.Reader.{columns_with}
-use Rattle.lp_model.proofs.NamePlaces.{place_named, any_named, pointwise_is, pointwise_turned}
+use Rattle.lp_model.proofs.NamePlaces.{place_named, pointwise_is, pointwise_turned}
 use Rattle.mps_read.specs.Named.{ColumnsRead, AreColumns}
 use Rattle.mps_read.proofs.NewNames.{name_of, none_passes, names_new}
 
@@ -33,6 +33,12 @@ bounded_name lowered (SetsLower l) c = refl
 bounded_name lowered (SetsBoth l u) c = refl
 
 -- ---- a column by its name
+
+-- a test that asks for the name alone
+any_named : {X : Type 0} (p : X → Bool) (q : Name → Bool) (f : X → Name) → ((x : X) → p x ≡ q (f x)) →
+    (xs : List X) → list_any p xs ≡ list_any q (map f xs)
+any_named p q f e [] = refl
+any_named p q f e (x ∷ xs) = ap₂ ◌||◌ (e x) (any_named p q f e xs)
 
 module _ (columns : ColumnsRead) (names : List Name) (kept : AreColumns columns names) (name : Name) where
   pub has_named : list_any (same name) names

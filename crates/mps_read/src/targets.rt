@@ -3,26 +3,30 @@ ghost use Rattle.std.specs.Prelude.{◌≡◌, [], ◌∷◌, false, OnOk};
 ghost use Rattle.spec_mps.specs.Reader.{is_among};
 ghost use Rattle.mps_read.specs.Marks.{mark_of};
 
-use indexmap::IndexSet;
 use spec_mps::Target;
 use std::alloc::{AllocError, Global};
+use std::collections::HashSet;
 use std::marker::Model;
 
 /// A list of targets without doubles, each found by its hash. What was put in last stands first.
 #[derive(Drop)]
 pub(crate) struct Targets {
-    /// Rows by their numbers, and the objective as none.
-    marks: IndexSet<Option<u32>>,
+    /// Rows by their numbers, and the objective as none, in the order in which they were put in.
+    marks: Vec<Option<u32>>,
+    /// The same marks, as a set.
+    seen: HashSet<Option<u32>>,
 }
 
 impl Model for Targets {
     ghost use Rattle.std.specs.Prelude.{List, map, reverse};
     ghost use Rattle.spec_mps.specs.declared.target.Target.{Target};
-    ghost use Rattle.mps_read.specs.Marks.{target_of};
+    ghost use Rattle.mps_read.specs.Marks.{target_of, AreSeen};
 
     ghost Value = { List Target };
 
-    ghost view = { λ t. reverse (map target_of t.marks.keys) };
+    ghost view = { λ t. reverse (map target_of t.marks.items) };
+
+    ghost invariant = { λ t. AreSeen t.marks.items t.seen.keys };
 }
 
 impl Targets {
@@ -30,7 +34,8 @@ impl Targets {
         ensures { result ≡ [] }
     {
         Targets {
-            marks: IndexSet::new(alloc),
+            marks: Vec::new(alloc),
+            seen: HashSet::new(alloc),
         }
     }
 
@@ -38,14 +43,18 @@ impl Targets {
         ensures { result ≡ is_among target self.now }
     {
         let mark = mark_of(target);
-        self.marks.contains(&mark)
+        self.seen.contains(&mark)
     }
 
     pub(crate) fn push(&mut self, target: Target) -> Result<(), AllocError>
         requires { is_among target self.old ≡ false }
         ensures { OnOk result (self.new ≡ target ∷ self.old) }
     {
-        self.marks.insert(mark_of(target))?;
+        let mark = mark_of(target);
+        // Where there is room in the list, only the set can fail.
+        self.marks.reserve(1)?;
+        self.seen.insert(mark)?;
+        self.marks.push_reserved(mark);
         Ok(())
     }
 
@@ -53,6 +62,7 @@ impl Targets {
         ensures { self.new ≡ [] }
     {
         self.marks.clear();
+        self.seen.clear();
     }
 }
 

@@ -1,7 +1,6 @@
 use Rattle.std.proofs.Common.{◌<◌, subst, sym}
-use Rattle.spec_model.specs.Model.{ExactColumn, width}
+use Rattle.spec_model.specs.Model.{width}
 use Rattle.spec_edit.proofs.Keeping.{without_column-kept}
-use Rattle.lp_model.proofs.NamePlaces.{names_less}
 use Rattle.lp_model.proofs.model.Model.remove_col.Goals as goal
 
 pub invariant_of-self : goal.invariant_of-self
@@ -12,7 +11,5 @@ invariant_of-self c =
           (without_column-kept _ c.args.j c.self.invariant.model
           (subst (λ m. c.args.j < width m) (sym c.self.view_is) c.requires));
       rows = c.self.invariant.rows;
-      columns =
-          names_less (λ (x : ExactColumn). x.name) _ _ c.self.inside.columns.items _ c.args.j c.self.invariant.columns
-          c.remove.ensures.items c.take_name_out.ensures;
+      columns = tt;
     }

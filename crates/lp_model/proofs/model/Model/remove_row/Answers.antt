@@ -1,9 +1,9 @@
 use Rattle.std.proofs.Common.{◌<◌, ◌∙◌, map, refl, ap, subst, sym}
-use Rattle.spec_model.specs.Model.{ExactRow, ExactColumn, height}
+use Rattle.spec_model.specs.Model.{ExactColumn, height}
 use Rattle.spec_edit.proofs.ListLemmas.{map-map_unseen}
 use Rattle.spec_edit.proofs.Keeping.{lowered, without_row-kept}
 use Rattle.lp_model.proofs.Columns.{mapped_back}
-use Rattle.lp_model.proofs.NamePlaces.{names_less, names_stay}
+use Rattle.lp_model.proofs.NamePlaces.{names_stay}
 use Rattle.lp_model.proofs.model.Model.remove_row.Goals as goal
 
 pub invariant_of-self : goal.invariant_of-self
@@ -16,9 +16,7 @@ invariant_of-self c =
           rw (c.remove.ensures.items, lowered_all)
           (without_row-kept _ c.args.i c.self.invariant.model
           (subst (λ m. c.args.i < height m) (sym c.self.view_is) c.requires));
-      rows =
-          names_less (λ (x : ExactRow). x.name) _ _ c.self.inside.rows.items _ c.args.i c.self.invariant.rows
-          c.remove.ensures.items c.take_name_out.ensures;
+      rows = tt;
       columns =
           names_stay _ _ _
           (ap (map (λ (x : ExactColumn). x.name)) lowered_all
