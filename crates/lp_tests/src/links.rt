@@ -52,12 +52,17 @@ fn links_are_served(rt: HostRuntime) -> Result<(), Fail> {
     let mut nets = listener(alloc, two_links(alloc)?)?;
     let mut out = MemSink::new(alloc, Vec::new(alloc));
     serve(&rt, alloc, &mut nets, 2, 4, &mut out)?;
-    let [first, second] = nets[0].links_back() else {
-        return Ok(assert!(rt; false));
+    let as_wanted = match nets[0].links_back() {
+        [first, second] => [
+            first.written() == FIRST.as_bytes(),
+            second.written() == SECOND.as_bytes(),
+            out.written() == b"1 1 DONE\n1 2 DONE\n".as_slice(),
+        ],
+        _ => [false; 3],
     };
-    assert_eq!(rt; first.written(), FIRST.as_bytes());
-    assert_eq!(rt; second.written(), SECOND.as_bytes());
-    assert_eq!(rt; out.written(), b"1 1 DONE\n1 2 DONE\n".as_slice());
+    drop(nets);
+    drop(out);
+    assert_eq!(rt; as_wanted, [true; 3]);
     Ok(())
 }
 

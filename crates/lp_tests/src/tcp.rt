@@ -105,9 +105,10 @@ fn two_links_are_served_beside_each_other(rt: HostRuntime) -> Result<(), Fail> {
             )
         },
     );
-    assert!(rt; one_did);
-    assert!(rt; two_did);
-    served?;
-    assert_eq!(rt; out.written(), b"1 1 DONE\n2 1 DONE\n".as_slice());
+    let is_written = out.written() == b"1 1 DONE\n2 1 DONE\n".as_slice();
+    drop(out);
+    drop(nets);
+    drop((first, second));
+    assert_eq!(rt; [one_did, two_did, served.is_ok(), is_written], [true; 4]);
     Ok(())
 }

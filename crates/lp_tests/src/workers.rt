@@ -1,5 +1,5 @@
 // Two workers beside each other.
-ghost use Rattle.std.specs.Prelude.{◌≡◌, ◌≤◌, All, OnOk};
+ghost use Rattle.std.specs.Prelude.{◌≡◌, ◌≤◌, All, IfOk, OnOk};
 
 use lp_base::Bytes;
 use lp_gen::make;
@@ -83,6 +83,16 @@ fn push_asks(alloc: Global, session: u32, to: &mut Vec<Asked>) -> Result<(), All
     push(solve(session), to)
 }
 
+// The asks of both sessions.
+fn asks(alloc: Global) -> Result<Vec<Asked>, AllocError>
+    ensures { IfOk result (λ asks. All (λ asked. asked.session ≤ 64) asks.items) }
+{
+    let mut asks = Vec::new(alloc);
+    push_asks(alloc, 1, &mut asks)?;
+    push_asks(alloc, 2, &mut asks)?;
+    Ok(asks)
+}
+
 fn text_of(alloc: Global, replies: &[Reply]) -> Result<Bytes, AllocError> {
     let mut text = Bytes::new(alloc);
     for reply in replies {
@@ -99,11 +109,12 @@ fn two_workers_run_beside_each_other(rt: HostRuntime) -> Result<(), Fail> {
         two_goes_on: AtomicU64::new(0),
         given_up: AtomicU64::new(0),
     };
-    let mut asks = Vec::new(alloc);
-    push_asks(alloc, 1, &mut asks)?;
-    push_asks(alloc, 2, &mut asks)?;
-    let text = text_of(alloc, &answer_all(&rt, alloc, asks, 2, 4, &gate)?)?;
-    assert_eq!(rt; text.as_slice(), REPLIES.as_bytes());
-    assert_eq!(rt; gate.given_up.load(Ordering::SeqCst), 0);
+    let text = text_of(alloc, &answer_all(&rt, alloc, asks(alloc)?, 2, 4, &gate)?)?;
+    let are_replies = text.as_slice() == REPLIES.as_bytes();
+    drop(text);
+    assert_eq!(rt;
+        (are_replies, gate.given_up.load(Ordering::SeqCst)),
+        (true, 0)
+    );
     Ok(())
 }
