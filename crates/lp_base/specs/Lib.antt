@@ -6,4 +6,5 @@ pub mod LinesState
 pub mod Memory
 pub mod NextLine
 pub mod Pieces
+pub mod Tables
 pub mod Taking

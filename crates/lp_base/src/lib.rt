@@ -8,7 +8,9 @@
 //! | `Calls` | numbers calls, and says which of them fail | src/calls |
 //! | `Lines`, `Line` | the lines of a source, one by one | src/lines |
 //! | `Bytes`, `Name`, `Texts` | lists of bytes, and a list of them | src/bytes |
-//! | `words`, `by_word` | the words of a line, and what stands beside a word in a table | src/word |
+//! | `words` | the words of a line | src/word |
+//! | `look_up`, `by_word` | what stands beside a word in a table, and what is done for a word | src/word |
+//! | `beside` | what stands beside a word in a table | specs/Tables |
 //! | `Rose`, `HasCause` | a fault was counted | specs/Causes |
 //! | `ReadsLines` | the lines that several calls took, and of which bytes | specs/Taking |
 //! | `ReadsAll`, `ReadsFront` | what was read in all, where a reader stops | specs/Taking |
@@ -28,4 +30,4 @@ pub use calls::Calls;
 pub use lines::{Line, LineStop, Lines};
 pub use memory::{MemSink, MemSource};
 pub use outside::{Failed, Sink, Source, WriteFault, send};
-pub use word::{is_blank, words};
+pub use word::{is_blank, look_up, words};

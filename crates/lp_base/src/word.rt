@@ -1,8 +1,9 @@
-// The words of a line.
+// The words of a line, and tables of words.
 ghost use Rattle.std.specs.Prelude.{◌≡◌, IfOk};
 ghost use Rattle.spec_text.specs.Words as text;
+ghost use Rattle.lp_base.specs.Tables.{beside};
 
-use crate::{Bytes, Texts};
+use crate::{Bytes, Texts, are_same};
 use std::alloc::{AllocError, Global};
 
 /// What stands beside the first text that a word is, or else the last value.
@@ -11,6 +12,18 @@ macro_rules! by_word {
     ($word:expr, { $($($text:literal)|+ => $value:expr,)+ _ => $other:expr $(,)? }) => {
         $(if $($crate::are_same($word, $text))||+ { $value } else)+ { $other }
     };
+}
+
+/// What stands beside a word in a table.
+pub fn look_up<T: Copy>(word: &[u8], table: &[(&[u8], T)]) -> Option<T>
+    ensures { result ≡ beside word.now table.now }
+{
+    for line in table {
+        if are_same(word, line.0) {
+            return Some(line.1);
+        }
+    }
+    None
 }
 
 /// Whether a byte stands between words: a space or a tab.

@@ -1,0 +1,9 @@
+-- Tables of words, as they are held.
+use Rattle.std.specs.Prelude.{ℕ, Option, Some, None, List, [], ◌∷◌, if◌then◌else◌}
+use Rattle.spec_text.specs.Words.{same}
+use denote.Ref.{Bor}
+
+-- what stands beside a word
+abbrev pub beside : {A : Type 0} → List ℕ → List (Bor (List ℕ) × A) → Option A
+beside word [] = None
+beside word (line ∷ lines) = if same word line.0.now then Some line.1 else beside word lines
