@@ -14,7 +14,7 @@ ghost use Rattle.lp_tableau.specs.Based.{AreInside, StopsAt, based_run, stand_in
 
 use crate::coefficients::coefficients;
 use crate::solve::eliminate;
-use crate::start::{RowStart, lowers, rows, width, zeros};
+use crate::start::{RowStart, lowers, rows, width, with_artificials, zeros};
 use crate::steps::stand;
 use crate::tableau::{ColumnLists, Tableau};
 use crate::twins::Twins;
@@ -34,8 +34,7 @@ fn equations(alloc: Global, form: &Form) -> Result<Twins, AllocError>
 fn no_columns(alloc: Global, form: &Form) -> Result<Vec<Option<u32>>, AllocError>
     ensures { IfOk result (λ v. v.items ≡ (elimination.unsolved form.now).basic) }
 {
-    let none = Vec::from_elem(alloc, None, form.rows() as usize)?;
-    Ok(none)
+    Vec::from_elem(alloc, None, form.rows() as usize)
 }
 
 fn or_first(column: Option<u32>) -> u32
@@ -70,9 +69,7 @@ fn statuses(alloc: Global, form: &Form, basis: &Basis) -> Result<Vec<Status>, Al
 fn uppers(alloc: Global, form: &Form) -> Result<Vec<Option<Frac>>, AllocError>
     ensures { IfOk result (λ v. v.items ≡ elimination.basis_upper form.now) }
 {
-    let mut uppers = Vec::from_slice(alloc, form.uppers())?;
-    uppers.resize(uppers.len() + form.rows() as usize, Some(zero()))?;
-    Ok(uppers)
+    with_artificials(alloc, form.uppers(), form.rows())
 }
 
 // Where each column stands that is not basic.

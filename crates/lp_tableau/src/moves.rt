@@ -1,5 +1,5 @@
 // How the basic columns move with one that is not basic, and flips.
-ghost use Rattle.std.specs.Prelude.{◌≡◌, ◌<◌, Some};
+ghost use Rattle.std.specs.Prelude.{◌≡◌, ◌<◌, Some, slice_set};
 ghost use Rattle.spec_simplex.specs.Tableau.{all_columns};
 ghost use Rattle.spec_simplex.specs.Step.{CanFlip, directed as directed_by, other_bound as other_bound_of};
 ghost use Rattle.spec_simplex.specs.Step.{is_place as is_place_of, moved_at};
@@ -48,6 +48,13 @@ pub fn is_place(but: Option<u32>, i: u32) -> bool
 }
 
 impl Tableau {
+    pub(crate) fn set_value(&mut self, col: u32, value: Frac)
+        requires { col < all_columns self.old }
+        ensures { self.new ≡ record self.old { value = slice_set self.old.value col value } }
+    {
+        self.value[col as usize] = value;
+    }
+
     // The column at position `i` moves with column `col`.
     fn move_at(&mut self, col: u32, theta: Frac, i: u32) -> Result<(), Past>
         requires col_in_range { col < all_columns self.old }
@@ -55,15 +62,15 @@ impl Tableau {
         ensures moved { GivesRun (moved_at (Some largest) self.old col theta i self.old.value) self.new.value result }
         ensures rest { self.new ≡ record self.old { value = self.new.value } }
     {
-        let k = self.basic(i) as usize;
-        let entry = self.entry(i, col);
+        let k = self.basic(i);
+        let (entry, value) = (self.entry(i, col), self.value(k));
         within(theta);
-        within(self.value[k]);
+        within(value);
         if is_zero(entry) {
             return Ok(());
         }
-        let value = less_product(entry, theta, self.value[k])?;
-        self.value[k] = value;
+        let moved = less_product(entry, theta, value)?;
+        self.set_value(k, moved);
         Ok(())
     }
 
@@ -92,7 +99,7 @@ impl Tableau {
         ensures { self.new ≡ flipped self.old col to self.old.value }
     {
         let value = stand(to, self.lower(col), self.upper(col));
-        self.value[col as usize] = value;
+        self.set_value(col, value);
         self.status[col as usize] = to;
     }
 

@@ -1,6 +1,7 @@
 // Pivots.
-ghost use Rattle.std.specs.Prelude.{◌≡◌, ◌≢◌, ◌<◌, Some, length};
+ghost use Rattle.std.specs.Prelude.{◌≡◌, ◌≢◌, ◌<◌, Some, length, slice_set};
 ghost use Rattle.spec_exact.specs.Fraction.{0ℚ};
+ghost use Rattle.spec_pivot.specs.declared.status.Status.TheVariants.{Basic};
 ghost use Rattle.spec_simplex.specs.Tableau.{all_columns, entry_at};
 ghost use Rattle.spec_simplex.specs.Step.{CanPivot, turned_run, repriced_run, shifted_run, exchanged, pivot_run};
 ghost use Rattle.lp_frac.specs.Narrow.{largest};
@@ -42,8 +43,8 @@ impl Tableau {
         ensures value { GivesRun (shifted_run (Some largest) self.old.value col theta) self.new.value result }
         ensures rest { self.new ≡ record self.old { value = self.new.value } }
     {
-        let value = add(self.value[col as usize], theta)?;
-        self.value[col as usize] = value;
+        let value = add(self.value(col), theta)?;
+        self.set_value(col, value);
         Ok(())
     }
 
@@ -70,6 +71,19 @@ impl Tableau {
         reprice(&mut self.reduced, &self.grid, rows, place, col)
     }
 
+    // Column `col` takes a position.
+    fn make_basic(&mut self, place: u32, col: u32)
+        requires place { place < self.old.rows }
+        requires column { col < all_columns self.old }
+        ensures { self.new ≡ record self.old {
+          basic = slice_set self.old.basic place col;
+          status = slice_set self.old.status col Basic;
+        } }
+    {
+        self.basic[place as usize] = col;
+        self.status[col as usize] = Status::Basic;
+    }
+
     // The column at a position goes to the bound `to`, and column `col` takes the position. An
     // artificial that leaves is at 0 for good.
     fn exchange(&mut self, place: u32, col: u32, to: Status)
@@ -78,10 +92,9 @@ impl Tableau {
         ensures { self.new ≡ exchanged self.old place col to }
     {
         let leaving = self.basic(place);
-        let artificials = self.cols + self.rows;
+        let artificials = self.cols() + self.rows();
         self.put_at(leaving, to);
-        self.basic[place as usize] = col;
-        self.status[col as usize] = Status::Basic;
+        self.make_basic(place, col);
         if leaving >= artificials {
             self.fix(leaving);
         }

@@ -1,5 +1,5 @@
 // How the rows of a form begin.
-ghost use Rattle.std.specs.Prelude.{◌≡◌, ◌<◌, ◌++◌, [], ◌∷◌, IfOk, IfErr, OnOk, Ok, Some};
+ghost use Rattle.std.specs.Prelude.{◌≡◌, ◌<◌, ◌++◌, [], ◌∷◌, IfOk, IfErr, OnOk, Ok, Some, None};
 ghost use Rattle.spec_exact.specs.Run.{list_run};
 ghost use Rattle.spec_simplex.specs.Form.{form_lower, form_upper};
 ghost use Rattle.spec_simplex.specs.Start as starting;
@@ -64,15 +64,15 @@ fn below(bound: Option<Frac>, v: Frac) -> Result<Option<Frac>, Past>
     }
 }
 
-// How much `v` is above the bound, if it is.
-fn above(bound: Option<Frac>, v: Frac) -> Result<Option<Frac>, Past>
-    ensures { result ≡ starting.above_run (Some largest) bound v }
+// How a row begins whose sum `v` is not below its lower bound.
+fn within_or_above(upper: Option<Frac>, v: Frac) -> Result<RowStart, Past>
+    ensures { result ≡ starting.row_start_by (Some largest) upper v None }
 {
-    match bound {
-        None => Ok(None),
+    match upper {
+        None => Ok(RowStart::Within(v)),
         Some(u) => match cmp(v, u)? {
-            Ordering::Less | Ordering::Equal => Ok(None),
-            Ordering::Greater => Ok(Some(sub(v, u)?)),
+            Ordering::Less | Ordering::Equal => Ok(RowStart::Within(v)),
+            Ordering::Greater => Ok(RowStart::Above(sub(v, u)?)),
         },
     }
 }
@@ -84,12 +84,9 @@ fn row_start(form: &Form, coefficients: &Grid, i: u32) -> Result<RowStart, Past>
 {
     let v = row_sum(form, coefficients, i)?;
     let logical = form.logical(i);
-    if let Some(gap) = below(form.lower(logical), v)? {
-        return Ok(RowStart::Below(gap));
-    }
-    match above(form.upper(logical), v)? {
-        Some(gap) => Ok(RowStart::Above(gap)),
-        None => Ok(RowStart::Within(v)),
+    match below(form.lower(logical), v)? {
+        Some(gap) => Ok(RowStart::Below(gap)),
+        None => within_or_above(form.upper(logical), v),
     }
 }
 

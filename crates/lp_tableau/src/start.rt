@@ -296,13 +296,24 @@ pub fn statuses(alloc: Global, form: &Form, starts: &[RowStart]) -> Result<Vec<S
     listed!(alloc, k in 0..width(form) => status(form, starts, k))
 }
 
+// The bounds, and 0 for each artificial.
+pub(crate) fn with_artificials(
+    alloc: Global,
+    bounds: &[Option<Frac>],
+    artificials: u32,
+) -> Result<Vec<Option<Frac>>, AllocError>
+    ensures { IfOk result (λ v. v.items ≡ bounds.now ++ replicate artificials (Some 0ℚ)) }
+{
+    let mut all = Vec::from_slice(alloc, bounds)?;
+    all.resize(all.len() + artificials as usize, Some(zero()))?;
+    Ok(all)
+}
+
 /// The lower bound of each column.
 pub fn lowers(alloc: Global, form: &Form) -> Result<Vec<Option<Frac>>, AllocError>
     ensures { IfOk result (λ v. v.items ≡ form.now.lower ++ replicate form.now.rows (Some 0ℚ)) }
 {
-    let mut lowers = Vec::from_slice(alloc, form.lowers())?;
-    lowers.resize(lowers.len() + form.rows() as usize, Some(zero()))?;
-    Ok(lowers)
+    with_artificials(alloc, form.lowers(), form.rows())
 }
 
 /// The upper bound of each column.
@@ -323,8 +334,7 @@ pub fn uppers(
 pub(crate) fn zeros(alloc: Global, n: usize) -> Result<Vec<Frac>, AllocError>
     ensures { IfOk result (λ v. v.items ≡ replicate n 0ℚ) }
 {
-    let zeros = Vec::from_elem(alloc, zero(), n)?;
-    Ok(zeros)
+    Vec::from_elem(alloc, zero(), n)
 }
 
 /// The costs of phase one.

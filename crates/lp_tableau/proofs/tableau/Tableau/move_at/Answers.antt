@@ -1,21 +1,13 @@
 -- A column whose entry is 0 stays.
-use Rattle.std.proofs.Common.{get_or, refl, sym, ap, subst, ◌∙◌, arith}
+use Rattle.std.proofs.Common.{get_or, refl, sym, ap, subst, ◌∙◌}
 use Rattle.spec_exact.specs.Fraction.{0ℚ}
 use Rattle.spec_exact.specs.Laws.{IsWithin}
-use Rattle.spec_simplex.specs.Tableau.{IsTableauShape}
 use Rattle.lp_frac.specs.Narrow.{largest}
-use Rattle.lp_tableau.proofs.Done.{item_is}
 use Rattle.lp_tableau.proofs.Spots.{not_moved}
 use Rattle.lp_tableau.proofs.tableau.Tableau.move_at.Goals as goal
 
 pub returns-then-is_zero-clause-moved : goal.returns-then-is_zero-clause-moved
 returns-then-is_zero-clause-moved c =
-    let s = subst IsTableauShape c.self.view_is c.self.invariant in
-    let v = ap (λ t. t.value) c.self.view_is in
-    let r = c.index.ensures ∙ ap (λ xs. get_or xs c.basic-k.result c.index.result.now) v in
-    let e =
-    item_is c.args.self.now.value c.basic-k.result c.index.result.now r
-    (omega (arith, s.all_values, c.basic-k.ensures.inside))
-    ∙ ap (λ k. get_or c.args.self.now.value k 0ℚ) c.basic-k.ensures.value in
+    let e = c.value-value.ensures ∙ ap (λ k. get_or c.args.self.now.value k 0ℚ) c.basic-k.ensures.value in
     not_moved c.args.self.now _ _ _ (sym c.entry-entry.ensures ∙ c.if-is_zero.ensures.0 refl) c.within.ensures
     (subst (IsWithin largest) e c.within-2.ensures)
