@@ -1,14 +1,13 @@
 -- What a line leads to.
-use Rattle.std.specs.Prelude.{◌≡◌, Result, Ok, Err}
-use Rattle.spec_mps.specs.Steps.{Outcome}
-use Rattle.spec_mps.specs.Steps as steps
+use Rattle.std.specs.Prelude.{◌≡◌, Option, Some, None, Result, Ok, Err}
+use Rattle.spec_model.specs.Model.{Model}
+use Rattle.spec_mps.specs.Reader.{State}
+use Rattle.spec_mps.specs.Steps.{Outcome, More, Done}
 use Rattle.mps_read.specs.declared.fault.Fault.{Fault}
-use Rattle.mps_read.specs.declared.finish.Progress.{Progress}
-use Rattle.mps_read.specs.declared.finish.Progress.TheVariants.{More, Done}
 use Rattle.mps_read.specs.Answer.{Fails}
-use Rattle.mps_read.specs.Draft.{state_of}
 
-abbrev pub Advances : Outcome → Result Progress Fault → Type 0
-Advances outcome (Ok (More draft)) = outcome ≡ Ok (steps.More (state_of draft))
-Advances outcome (Ok (Done m)) = outcome ≡ Ok (steps.Done m)
-Advances outcome (Err fault) = Fails outcome fault
+-- the line leads to this state, or ends the text, or fails
+abbrev pub Advances : Outcome → State → Result (Option Model) Fault → Type 0
+Advances outcome state (Ok None) = outcome ≡ Ok (More state)
+Advances outcome state (Ok (Some m)) = outcome ≡ Ok (Done m)
+Advances outcome state (Err fault) = Fails outcome fault

@@ -90,7 +90,7 @@ impl Columns {
         // Where there is room for the column, nothing more can fail.
         self.whole.reserve(1)?;
         if let Some(column) = self.current.take() {
-            self.whole.push(column)?;
+            self.whole.push_reserved(column);
         }
         Ok(())
     }
@@ -112,10 +112,10 @@ impl Columns {
         ensures { OnOk result
             (self.new ≡ record (self.old) { current = option_map (λ c. with_number c target value) self.old.current }) }
     {
-        if let Some(column) = &mut self.current {
-            put_number(column, target, value)?;
-        }
-        Ok(())
+        let Some(column) = &mut self.current else {
+            return Ok(());
+        };
+        put_number(column, target, value)
     }
 
     /// Lets a card act on the whole column at a place. Past the end there is none.

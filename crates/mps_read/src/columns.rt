@@ -90,9 +90,8 @@ impl Draft {
           paired = [];
         }) }
     {
-        self.columns.begin(alloc, name)?;
-        self.lowered.push(false)?;
         self.paired.clear();
-        Ok(())
+        self.lowered.push(false)?;
+        self.columns.begin(alloc, name)
     }
 }

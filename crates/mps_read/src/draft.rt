@@ -12,6 +12,7 @@ use lp_model::{NameIndex, Sense};
 use lp_numtext::read;
 use spec_mps::{Code, Place, Section, Seen, Target};
 use std::alloc::{AllocError, Global};
+use std::mem;
 
 /// A model that is read.
 #[derive(Drop)]
@@ -61,6 +62,13 @@ impl Draft {
             paired: Targets::new(alloc),
             set: None,
         }
+    }
+
+    /// What was read is let go.
+    pub(crate) fn restart(&mut self, alloc: Global)
+        ensures { state_of self.new ≡ reader.start }
+    {
+        drop(mem::replace(self, Draft::new(alloc)));
     }
 
     fn is_objective(&self, name: &[u8]) -> bool

@@ -1,11 +1,9 @@
-// What a line leads to, and the model of a text that has ended. A draft is let go by `drop`, so that the drop of its
-// parts is proved once.
-ghost use Rattle.std.specs.Prelude.{◌≡◌, [], Option, Some, None, Ok, IfOk, IfErr};
+// What a line leads to, and the model of a text that has ended.
+ghost use Rattle.std.specs.Prelude.{◌≡◌, [], Option, Some, None, IfOk};
 ghost use Rattle.spec_model.specs.Kept.{IsModel};
 ghost use Rattle.spec_mps.specs.Steps as steps;
 ghost use Rattle.mps_read.specs.Draft.{state_of, name_of};
 ghost use Rattle.mps_read.specs.Advances.{Advances};
-ghost use Rattle.mps_read.specs.Answer.{Fails};
 ghost use Rattle.mps_read.specs.Finished.{Ends, IsKept};
 ghost use Rattle.mps_read.specs.Leads.{IsReached};
 
@@ -37,69 +35,35 @@ fn sense_or_min(sense: Option<Sense>) -> Sense
     }
 }
 
-/// What a line leads to: more lines, or the end of the text.
-#[derive(Drop)]
-pub(crate) enum Progress {
-    More(Draft),
-    Done(Model),
-}
-
 impl Draft {
-    /// Reads a line.
+    /// Reads a line. Where the text has ended, its model.
     pub(crate) fn advance(
-        mut self,
+        &mut self,
         alloc: Global,
         style: Style,
         line: &Line,
-    ) -> Result<Progress, Fault>
-        requires { IsReached style (state_of self) }
-        ensures { Advances (steps.step style (state_of self) line.now) result }
+    ) -> Result<Option<Model>, Fault>
+        requires { IsReached style (state_of self.old) }
+        ensures { Advances (steps.step style (state_of self.old) line.now) (state_of self.new) result }
     {
-        match self.step(alloc, style, line) {
-            Ok(Went::On) => Ok(Progress::More(self)),
-            Ok(Went::ToEnd) => self.end(alloc),
-            Err(fault) => {
-                drop(self);
-                Err(fault)
-            }
+        match self.step(alloc, style, line)? {
+            Went::On => Ok(None),
+            Went::ToEnd => Ok(Some(self.finish(alloc)?)),
         }
     }
 
-    // The text has ended.
-    fn end(mut self, alloc: Global) -> Result<Progress, Fault>
-        requires { IsKept (steps.finished (state_of self)) }
-        ensures { Advances (steps.finished (state_of self)) result }
-    {
-        let model = self.finish(alloc);
-        drop(self);
-        match model {
-            Ok(model) => Ok(Progress::Done(model)),
-            Err(fault) => Err(fault),
-        }
-    }
-
-    /// The model, if there is an objective.
+    /// The model, if there is an objective. The last column is whole then.
+    #[tactic(auto, unfolding(spec_mps::specs::Steps::finished, spec_mps::specs::Steps::model_by))]
     fn finish(&mut self, alloc: Global) -> Result<Model, Fault>
         requires { IsKept (steps.finished (state_of self.old)) }
         ensures { Ends (steps.finished (state_of self.old)) result }
     {
-        let (name, objective) = self.take_names(alloc)?;
-        Ok(self.take_model(alloc, name, objective))
-    }
-
-    // The names of the model and of its objective, if there is one. The last column is whole then.
-    #[tactic(auto, unfolding(spec_mps::specs::Steps::finished, spec_mps::specs::Steps::model_by))]
-    fn take_names(&mut self, alloc: Global) -> Result<(Name, Name), Fault>
-        ensures ended { IfOk result (λ names. steps.finished (state_of self.old)
-            ≡ Ok (steps.Done (steps.model_by (record (state_of self.new) { name = names.0; column = None }) names.1))) }
-        ensures failed { IfErr result (λ fault. Fails (steps.finished (state_of self.old)) fault) }
-    {
         self.columns.close()?;
-        let Some(objective) = self.objective.take() else {
-            return Err(Fault::Code(Code::NoObjective));
-        };
         let name = name_or_none(alloc, self.name.take())?;
-        Ok((name, objective))
+        match self.objective.take() {
+            Some(objective) => Ok(self.take_model(alloc, name, objective)),
+            None => Err(Fault::Code(Code::NoObjective)),
+        }
     }
 
     // The model of what was read, with these names and the columns that are whole.

@@ -78,10 +78,9 @@ impl Draft {
     fn put(&mut self, what: Numbers, target: Target, value: Frac) -> Result<(), Fault>
         ensures { GivesState (numbers.put_by what (state_of self.old) target value) (state_of self.new) result }
     {
-        if self.paired.has(target) {
+        if !self.paired.insert(target)? {
             return Err(Fault::Code(Code::EntryRepeated));
         }
-        self.paired.push(target)?;
         self.give(what, target, value)?;
         Ok(())
     }
@@ -90,7 +89,7 @@ impl Draft {
         ensures { OnOk result (state_of self.new ≡ numbers.with_by what (state_of self.old) target value) }
     {
         match what {
-            Numbers::Entries => self.columns.put_number(target, value)?,
+            Numbers::Entries => return self.columns.put_number(target, value),
             Numbers::Sides => self.set_side(target, value),
             Numbers::Ranges => self.set_range(target, value),
         }

@@ -9,12 +9,11 @@ ghost use Rattle.mps_read.specs.Feeds.{Feeds};
 
 use crate::draft::Draft;
 use crate::fault::Fault;
-use crate::finish::Progress;
 use lp_base::Line;
 use lp_model::Model;
 use spec_mps::{MpsFault, Style};
 use std::alloc::Global;
-use std::{marker, mem};
+use std::marker;
 
 /// What a line is answered.
 #[derive(Drop)]
@@ -77,16 +76,19 @@ impl Reader {
             (self.old.lines + 1) self.new result }
     {
         let number = self.lines + 1;
-        let draft = mem::replace(&mut self.draft, Draft::new(alloc));
-        match draft.advance(alloc, self.style, line) {
-            Ok(Progress::More(draft)) => {
-                // Not assigned, so that the old draft is dropped by a call.
-                drop(mem::replace(&mut self.draft, draft));
+        match self.draft.advance(alloc, self.style, line) {
+            Ok(None) => {
                 self.lines = number;
                 Feed::More
             }
-            Ok(Progress::Done(model)) => Feed::Done(model),
-            Err(fault) => refused(fault, number),
+            Ok(Some(model)) => {
+                self.draft.restart(alloc);
+                Feed::Done(model)
+            }
+            Err(fault) => {
+                self.draft.restart(alloc);
+                refused(fault, number)
+            }
         }
     }
 }

@@ -69,7 +69,7 @@ impl Rows {
         // Where there is room for the row, only its name can fail.
         self.items.reserve(1)?;
         self.names.push(row.name.as_slice())?;
-        self.items.push(row)?;
+        self.items.push_reserved(row);
         Ok(())
     }
 

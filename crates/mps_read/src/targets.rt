@@ -1,5 +1,5 @@
 // What has a number already.
-ghost use Rattle.std.specs.Prelude.{◌≡◌, [], ◌∷◌, false, OnOk};
+ghost use Rattle.std.specs.Prelude.{◌≡◌, [], ◌∷◌, not, IfOk, if◌then◌else◌};
 ghost use Rattle.spec_mps.specs.Reader.{is_among};
 ghost use Rattle.mps_read.specs.Marks.{mark_of};
 
@@ -39,23 +39,19 @@ impl Targets {
         }
     }
 
-    pub(crate) fn has(&self, target: Target) -> bool
-        ensures { result ≡ is_among target self.now }
-    {
-        let mark = mark_of(target);
-        self.seen.contains(&mark)
-    }
-
-    pub(crate) fn push(&mut self, target: Target) -> Result<(), AllocError>
-        requires { is_among target self.old ≡ false }
-        ensures { OnOk result (self.new ≡ target ∷ self.old) }
+    /// Puts a target in, unless it is there already. Whether it was put in.
+    pub(crate) fn insert(&mut self, target: Target) -> Result<bool, AllocError>
+        ensures value { IfOk result (λ is_new. is_new ≡ not (is_among target self.old)) }
+        ensures put { IfOk result (λ is_new. self.new ≡ (if is_new then target ∷ self.old else self.old)) }
     {
         let mark = mark_of(target);
         // Where there is room in the list, only the set can fail.
         self.marks.reserve(1)?;
-        self.seen.insert(mark)?;
+        if !self.seen.insert(mark)? {
+            return Ok(false);
+        }
         self.marks.push_reserved(mark);
-        Ok(())
+        Ok(true)
     }
 
     pub(crate) fn clear(&mut self)

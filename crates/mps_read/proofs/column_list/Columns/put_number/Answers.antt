@@ -5,8 +5,8 @@ use Rattle.mps_read.proofs.column_list.Columns.put_number.Goals as goal
 pub put_number-requires : goal.put_number-requires
 put_number-requires c = rw c.in-Some.is at c.self.invariant.ordered
 
-pub invariant_of-self : goal.invariant_of-self
-invariant_of-self c =
+pub invariant_of-self-2 : goal.invariant_of-self-2
+invariant_of-self-2 c =
     record {
       named =
           (rw c.in-Some.is at c.self.invariant.named)
