@@ -23,7 +23,6 @@ use Rattle.spec_server.specs.Script.{begun_by, asks_by, pending_after_line, asks
 use Rattle.mps_read.specs.TextRead.{TextRead}
 use Rattle.lp_certificate.specs.CertificateRead as certificate_reading
 use Rattle.lp_line.specs.declared.body.Body.{Body}
-use Rattle.lp_line.specs.declared.body.Body.TheVariants as body
 use Rattle.lp_line.specs.declared.hearing.Step as code
 use Rattle.lp_line.specs.declared.hearing.Step.TheVariants as step
 use Rattle.lp_line.specs.declared.script.ScriptStage.{ScriptStage}

@@ -1,6 +1,7 @@
 pub mod Body
 pub mod GivesWords
 pub mod Hearing
+pub mod NewRow
 pub mod Script
 pub mod Stages
 pub mod Takes

@@ -1,5 +1,5 @@
 // Answers, verdicts and how answers were found, as they are written.
-ghost use Rattle.std.specs.Prelude.{◌≡◌, ◌++◌, OnOk, decimal};
+ghost use Rattle.std.specs.Prelude.{◌≡◌, ◌++◌, OnOk, codes, decimal};
 ghost use Rattle.spec_server.specs.declared.asks.Reply.TheVariants as replies;
 ghost use Rattle.spec_server.specs.Output as output;
 
@@ -33,24 +33,23 @@ pub(crate) fn push_numbered(
     push_number(alloc, number, to)
 }
 
-fn op_name(op: Op) -> &'static [u8]
-    ensures { result.now ≡ output.op_text op }
+// What stands in front of the operands.
+fn past_front(op: Op) -> &'static [u8]
+    ensures { result.now ≡ codes "PAST " ++ output.op_text op ++ codes " " }
 {
     match op {
-        Op::Add => b"ADD",
-        Op::Sub => b"SUB",
-        Op::Mul => b"MUL",
-        Op::Div => b"DIV",
-        Op::Cmp => b"CMP",
+        Op::Add => b"PAST ADD ",
+        Op::Sub => b"PAST SUB ",
+        Op::Mul => b"PAST MUL ",
+        Op::Div => b"PAST DIV ",
+        Op::Cmp => b"PAST CMP ",
     }
 }
 
 fn push_past(alloc: Global, past: &Past, to: &mut Bytes) -> Result<(), AllocError>
     ensures { OnOk result (to.new ≡ to.old ++ output.past_text past.now) }
 {
-    to.extend(b"PAST ")?;
-    to.extend(op_name(past.op))?;
-    to.extend(b" ")?;
+    to.extend(past_front(past.op))?;
     lp_numtext::write(alloc, past.a, to)?;
     to.extend(b" ")?;
     lp_numtext::write(alloc, past.b, to)
@@ -98,67 +97,68 @@ pub(crate) fn push_answer(alloc: Global, answer: &Answer, to: &mut Bytes) -> Res
     }
 }
 
-/// The word of why a warm start was given up.
-pub(crate) fn fall_name(fall: Fall) -> &'static [u8]
-    ensures { result.now ≡ output.fall_text fall }
+/// A space, and the word of why a warm start was given up.
+pub(crate) fn fall_suffix(fall: Fall) -> &'static [u8]
+    ensures { result.now ≡ codes " " ++ output.fall_text fall }
 {
     match fall {
-        Fall::Singular => b"SINGULAR",
-        Fall::Unfit => b"UNFIT",
-        Fall::Past => b"PAST",
-        Fall::Spent => b"SPENT",
+        Fall::Singular => b" SINGULAR",
+        Fall::Unfit => b" UNFIT",
+        Fall::Past => b" PAST",
+        Fall::Spent => b" SPENT",
     }
 }
 
 fn push_how(alloc: Global, how: How, to: &mut Bytes) -> Result<(), AllocError>
-    ensures { OnOk result (to.new ≡ to.old ++ output.how_text how) }
+    ensures { OnOk result (to.new ≡ to.old ++ (codes "HOW " ++ output.how_text how)) }
 {
     match how {
-        How::Cold => to.extend(b"COLD"),
-        How::Basis(place) => push_numbered(alloc, b"BASIS ", u64::from(place), to),
+        How::Cold => to.extend(b"HOW COLD"),
+        How::Basis(place) => push_numbered(alloc, b"HOW BASIS ", u64::from(place), to),
         How::Fell(place, fall) => {
-            push_numbered(alloc, b"FELL ", u64::from(place), to)?;
-            to.extend(b" ")?;
-            to.extend(fall_name(fall))
+            push_numbered(alloc, b"HOW FELL ", u64::from(place), to)?;
+            to.extend(fall_suffix(fall))
         }
     }
 }
 
+// A space, and what came of an offer.
 fn push_put(alloc: Global, put: Put, to: &mut Bytes) -> Result<(), AllocError>
-    ensures { OnOk result (to.new ≡ to.old ++ output.put_text put) }
+    ensures { OnOk result (to.new ≡ to.old ++ (codes " " ++ output.put_text put)) }
 {
     match put {
-        Put::Published(place) => push_numbered(alloc, b"PUBLISHED ", u64::from(place), to),
-        Put::Raced(claimed) => push_numbered(alloc, b"RACED ", u64::from(claimed), to),
-        Put::Full(claimed) => push_numbered(alloc, b"FULL ", u64::from(claimed), to),
+        Put::Published(place) => push_numbered(alloc, b" PUBLISHED ", u64::from(place), to),
+        Put::Raced(claimed) => push_numbered(alloc, b" RACED ", u64::from(claimed), to),
+        Put::Full(claimed) => push_numbered(alloc, b" FULL ", u64::from(claimed), to),
     }
 }
 
+// A space, and what was given of an answer to other sessions.
 fn push_publication(
     alloc: Global,
     publication: Publication,
     to: &mut Bytes,
 ) -> Result<(), AllocError>
-    ensures { OnOk result (to.new ≡ to.old ++ output.publication_text publication) }
+    ensures { OnOk result (to.new ≡ to.old ++ (codes " " ++ output.publication_text publication)) }
 {
     match publication {
-        Publication::Nothing => to.extend(b"NONE"),
-        Publication::Same => to.extend(b"SAME"),
+        Publication::Nothing => to.extend(b" NONE"),
+        Publication::Same => to.extend(b" SAME"),
         Publication::Tried(put) => push_put(alloc, put, to),
     }
 }
 
-/// Writes a number of pivots after what is there.
+/// Writes a space, the word PIVOTS and their number after what is there.
 pub(crate) fn push_pivots(
     alloc: Global,
     pivots: Option<u64>,
     to: &mut Bytes,
 ) -> Result<(), AllocError>
-    ensures { OnOk result (to.new ≡ to.old ++ output.pivots_text pivots) }
+    ensures { OnOk result (to.new ≡ to.old ++ (codes " PIVOTS " ++ output.pivots_text pivots)) }
 {
     match pivots {
-        Some(pivots) => push_number(alloc, pivots, to),
-        None => to.extend(b"-"),
+        Some(pivots) => push_numbered(alloc, b" PIVOTS ", pivots, to),
+        None => to.extend(b" PIVOTS -"),
     }
 }
 
@@ -173,10 +173,7 @@ pub(crate) fn push_found(
 ) -> Result<(), AllocError>
     ensures { OnOk result (to.new ≡ to.old ++ output.reply_text (replies.Found how pivots publication)) }
 {
-    to.extend(b"HOW ")?;
     push_how(alloc, how, to)?;
-    to.extend(b" PIVOTS ")?;
     push_pivots(alloc, pivots, to)?;
-    to.extend(b" ")?;
     push_publication(alloc, publication, to)
 }

@@ -5,7 +5,7 @@ ghost use Rattle.spec_server.specs.Output as output;
 ghost use Rattle.spec_server.specs.BasisOut.{route_text, basis_fault_line};
 ghost use Rattle.spec_server.specs.declared.basis.BasisFault.TheVariants as faults;
 
-use crate::answers::{fall_name, push_numbered, push_pivots};
+use crate::answers::{fall_suffix, push_numbered, push_pivots};
 use lp_base::Bytes;
 use spec_bas::{BasCode, BasFault};
 use spec_warm::Route;
@@ -18,8 +18,8 @@ fn push_route(route: Route, to: &mut Bytes) -> Result<(), AllocError>
         Route::Cold => to.extend(b"COLD"),
         Route::Warm => to.extend(b"WARM"),
         Route::Fell(why) => {
-            to.extend(b"FELL ")?;
-            to.extend(fall_name(why))
+            to.extend(b"FELL")?;
+            to.extend(fall_suffix(why))
         }
     }
 }
@@ -35,7 +35,6 @@ pub fn print_route(
         to.old ++ (route_text route ++ codes " PIVOTS " ++ output.pivots_text pivots ++ 10 ∷ [])) }
 {
     push_route(route, to)?;
-    to.extend(b" PIVOTS ")?;
     push_pivots(alloc, pivots, to)?;
     to.extend(b"\n")
 }

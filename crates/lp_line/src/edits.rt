@@ -1,20 +1,24 @@
 // The edits that command lines ask for.
-ghost use Rattle.std.specs.Prelude.{◌≡◌, Ok, IfOk, IfSome};
+ghost use Rattle.std.specs.Prelude.{◌≡◌, IfOk, IfSome};
 ghost use Rattle.spec_model.specs.Kept.{IsBound};
 ghost use Rattle.spec_mps.specs.BoundText.{bound_of, bound_answer};
 ghost use Rattle.spec_server.specs.declared.command.EditWord.TheVariants as word;
-ghost use Rattle.spec_edit.specs.declared.edit.Edit.TheVariants as edit;
 ghost use Rattle.spec_server.specs.EditCommand as edit_command;
 ghost use Rattle.lp_line.specs.GivesWords.{GivesWords};
+ghost use Rattle.lp_line.specs.NewRow as new_row;
 ghost use Rattle.lp_line.specs.declared.edits.EditStop.TheVariants.{Fault, NoMemory};
 
-use lp_base::{Bytes, Name, are_same, by_word};
+use lp_base::{Bytes, Name, are_same, look_up};
 use lp_edit::{ColumnBounds, Edit, Pairs};
 use lp_frac::Frac;
 use lp_model::{Kind, Sense};
 use lp_numtext::{BoundValue, NumFault, read_bound};
 use spec_server::{EditWord, LineFault};
 use std::alloc::{AllocError, Global};
+
+const KINDS: [(&[u8], Kind); 3] = [(b"L", Kind::L), (b"G", Kind::G), (b"E", Kind::E)];
+
+const SENSES: [(&[u8], Sense); 2] = [(b"MIN", Sense::Min), (b"MAX", Sense::Max)];
 
 /// Why a line is not read as an edit.
 #[derive(Clone, Copy)]
@@ -62,25 +66,14 @@ fn number_in(word: &Bytes) -> Result<Frac, LineFault>
 fn kind_in(word: &Bytes) -> Result<Kind, LineFault>
     ensures { result ≡ edit_command.kind_in word.now }
 {
-    let word = word.as_slice();
-    by_word!(word, {
-        b"L" => Ok(Kind::L),
-        b"G" => Ok(Kind::G),
-        b"E" => Ok(Kind::E),
-        _ => Err(LineFault::Word),
-    })
+    look_up(word.as_slice(), &KINDS).ok_or(LineFault::Word)
 }
 
 #[tactic(auto, unfolding(spec_server::specs::EditCommand::sense_in))]
 fn sense_in(word: &Bytes) -> Result<Sense, LineFault>
     ensures { result ≡ edit_command.sense_in word.now }
 {
-    let word = word.as_slice();
-    by_word!(word, {
-        b"MIN" => Ok(Sense::Min),
-        b"MAX" => Ok(Sense::Max),
-        _ => Err(LineFault::Word),
-    })
+    look_up(word.as_slice(), &SENSES).ok_or(LineFault::Word)
 }
 
 #[tactic(auto, unfolding(spec_server::specs::EditCommand::range_in))]
@@ -146,15 +139,25 @@ fn pairs_in(alloc: Global, words: &[Bytes]) -> Result<Pairs, EditStop>
     Ok(pairs)
 }
 
-fn row(
+fn added_range(word: &Bytes) -> Result<Option<Frac>, LineFault>
+    ensures { result ≡ new_row.added_range word.now }
+{
+    Ok(Some(number_in(word)?))
+}
+
+// A new row, with its range as it was read: what is wrong with the words before it is told first.
+fn row_in(
     alloc: Global,
     name: &Bytes,
-    kind: Kind,
-    rhs: Frac,
-    range: Option<Frac>,
+    kind: &Bytes,
+    rhs: &Bytes,
+    range: Result<Option<Frac>, LineFault>,
 ) -> Result<Edit, EditStop>
-    ensures { GivesWords (Ok (edit.AddRow name.now kind rhs range)) result }
+    ensures { GivesWords (new_row.row_in name.now kind.now rhs.now range) result }
 {
+    let kind = kind_in(kind)?;
+    let rhs = number_in(rhs)?;
+    let range = range?;
     Ok(Edit::AddRow {
         name: name_in(alloc, name)?,
         kind,
@@ -168,12 +171,8 @@ fn add_row(alloc: Global, words: &[Bytes]) -> Result<Edit, EditStop>
     ensures { GivesWords (edit_command.edit_by word.AddRow words.now) result }
 {
     match words {
-        [name, kind, rhs] => row(alloc, name, kind_in(kind)?, number_in(rhs)?, None),
-        [name, kind, rhs, range] => {
-            let kind = kind_in(kind)?;
-            let rhs = number_in(rhs)?;
-            row(alloc, name, kind, rhs, Some(number_in(range)?))
-        }
+        [name, kind, rhs] => row_in(alloc, name, kind, rhs, Ok(None)),
+        [name, kind, rhs, range] => row_in(alloc, name, kind, rhs, added_range(range)),
         _ => Err(EditStop::Fault(LineFault::Word)),
     }
 }

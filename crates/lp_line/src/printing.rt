@@ -117,8 +117,7 @@ fn push_reply_lines(
     ensures { OnOk result (to.new ≡ to.old ++ output.reply_lines addressing session reply.now) }
 {
     push_front(alloc, addressing, session, to)?;
-    push_reply(alloc, reply, to)?;
-    to.extend(b"\n")?;
+    push_line(alloc, reply, to)?;
     push_lines_behind(reply, to)
 }
 

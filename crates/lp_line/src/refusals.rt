@@ -58,12 +58,13 @@ fn push_fault(alloc: Global, fault: MpsFault, to: &mut Bytes) -> Result<(), Allo
     push_numbered(alloc, b" M", code_number(fault.code), to)
 }
 
-fn which_name(which: Which) -> &'static [u8]
-    ensures { result.now ≡ output.which_text which }
+// What stands in front of how many there may be.
+fn limit_front(which: Which) -> &'static [u8]
+    ensures { result.now ≡ codes "7 LIMIT " ++ output.which_text which ++ codes " " }
 {
     match which {
-        Which::Rows => b"ROWS",
-        Which::Columns => b"COLUMNS",
+        Which::Rows => b"7 LIMIT ROWS ",
+        Which::Columns => b"7 LIMIT COLUMNS ",
     }
 }
 
@@ -71,9 +72,7 @@ fn push_limit(alloc: Global, which: Which, count: u32, to: &mut Bytes) -> Result
     ensures { OnOk result (to.new ≡ to.old ++
         (codes "7 LIMIT " ++ output.which_text which ++ codes " " ++ decimal count)) }
 {
-    to.extend(b"7 LIMIT ")?;
-    to.extend(which_name(which))?;
-    push_numbered(alloc, b" ", u64::from(count), to)
+    push_numbered(alloc, limit_front(which), u64::from(count), to)
 }
 
 // Words, and the name of which they speak.

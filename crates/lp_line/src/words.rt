@@ -2,7 +2,7 @@
 ghost use Rattle.std.specs.Prelude.{◌≡◌, ◌≤◌};
 ghost use Rattle.spec_server.specs.Command as commands;
 
-use lp_base::by_word;
+use lp_base::look_up;
 use spec_mps::Style;
 use spec_server::{CommandWord, EditWord};
 
@@ -58,42 +58,42 @@ pub(crate) fn budget_of(word: &[u8]) -> Option<u32>
     number_to(1_000_000, 7, word)
 }
 
+const FORMS: [(&[u8], Style); 2] = [(b"FREE", Style::Free), (b"FIXED", Style::Fixed)];
+
 /// The form that a word names.
 #[tactic(auto, unfolding(spec_server::specs::Command::style_of))]
 pub(crate) fn style_of(word: &[u8]) -> Option<Style>
     ensures { result ≡ commands.style_of word.now }
 {
-    by_word!(word, {
-        b"FREE" => Some(Style::Free),
-        b"FIXED" => Some(Style::Fixed),
-        _ => None,
-    })
+    look_up(word, &FORMS)
 }
+
+// The command words as they are written.
+const COMMAND_WORDS: [(&[u8], CommandWord); 18] = [
+    (b"LOAD", CommandWord::Load),
+    (b"WRITE", CommandWord::Write),
+    (b"SOLVE", CommandWord::Solve),
+    (b"CERT", CommandWord::Cert),
+    (b"HOW", CommandWord::How),
+    (b"BUDGET", CommandWord::Budget),
+    (b"CHECK", CommandWord::Check),
+    (b"QUIT", CommandWord::Quit),
+    (b"ADDROW", CommandWord::Edit(EditWord::AddRow)),
+    (b"DELROW", CommandWord::Edit(EditWord::DelRow)),
+    (b"ADDCOL", CommandWord::Edit(EditWord::AddCol)),
+    (b"DELCOL", CommandWord::Edit(EditWord::DelCol)),
+    (b"SETCOST", CommandWord::Edit(EditWord::SetCost)),
+    (b"SETCOEF", CommandWord::Edit(EditWord::SetCoef)),
+    (b"SETRHS", CommandWord::Edit(EditWord::SetRhs)),
+    (b"SETRANGE", CommandWord::Edit(EditWord::SetRange)),
+    (b"SETBOUND", CommandWord::Edit(EditWord::SetBound)),
+    (b"SENSE", CommandWord::Edit(EditWord::Sense)),
+];
 
 /// The command word that a word is.
 #[tactic(auto, unfolding(spec_server::specs::Command::command_word_of))]
 pub(crate) fn command_word_of(word: &[u8]) -> Option<CommandWord>
     ensures { result ≡ commands.command_word_of word.now }
 {
-    by_word!(word, {
-        b"LOAD" => Some(CommandWord::Load),
-        b"WRITE" => Some(CommandWord::Write),
-        b"SOLVE" => Some(CommandWord::Solve),
-        b"CERT" => Some(CommandWord::Cert),
-        b"HOW" => Some(CommandWord::How),
-        b"BUDGET" => Some(CommandWord::Budget),
-        b"CHECK" => Some(CommandWord::Check),
-        b"QUIT" => Some(CommandWord::Quit),
-        b"ADDROW" => Some(CommandWord::Edit(EditWord::AddRow)),
-        b"DELROW" => Some(CommandWord::Edit(EditWord::DelRow)),
-        b"ADDCOL" => Some(CommandWord::Edit(EditWord::AddCol)),
-        b"DELCOL" => Some(CommandWord::Edit(EditWord::DelCol)),
-        b"SETCOST" => Some(CommandWord::Edit(EditWord::SetCost)),
-        b"SETCOEF" => Some(CommandWord::Edit(EditWord::SetCoef)),
-        b"SETRHS" => Some(CommandWord::Edit(EditWord::SetRhs)),
-        b"SETRANGE" => Some(CommandWord::Edit(EditWord::SetRange)),
-        b"SETBOUND" => Some(CommandWord::Edit(EditWord::SetBound)),
-        b"SENSE" => Some(CommandWord::Edit(EditWord::Sense)),
-        _ => None,
-    })
+    look_up(word, &COMMAND_WORDS)
 }
