@@ -48,7 +48,8 @@ module _ {X : Type 0} (p : X → Bool) where
   -- an element at the end is the first that passes, where it passes and none before it does
   position_last : (xs : List X) (y : X) → list_any p xs ≡ false → p y ≡ true →
       position p (xs ++ y ∷ []) ≡ Some (length xs)
-  position_last xs y none here = position_from-zero p (xs ++ y ∷ []) ∙ last_from 0 xs y none here ∙ ap Some (omega arith)
+  position_last xs y none here =
+      position_from-zero p (xs ++ y ∷ []) ∙ last_from 0 xs y none here ∙ ap Some (omega arith)
 
   pub position_inside : (xs : List X) (d : X) (r : Option ℕ) → r ≡ position p xs → IfSome r (λ i. i < length xs)
   position_inside xs d None e = tt
@@ -98,7 +99,8 @@ module _ {K : Type 0} (name_of : K → Name) where
       KeepsOthers are_equal (are_equal k) old new → AreFound name_of names old →
       AreFound name_of (names ++ name ∷ []) new
   unfolding KeepsOthers
-  found_pushed k name names old new own others placed keeps found = λ asked_name. by asked_name (same name asked_name) refl
+  found_pushed k name names old new own others placed keeps found =
+      λ asked_name. by asked_name (same name asked_name) refl
     where
       by : (n : Name) (b : Bool) → same name n ≡ b →
           lookup (λ x. same (name_of x) n) new ≡ position (λ x. same x n) (names ++ name ∷ [])
@@ -114,9 +116,10 @@ module _ {K : Type 0} (name_of : K → Name) where
           ∙ found n ∙ sym (position_more (λ x. same x n) names name e)
 
   -- a name more in the list of what has the names, once there is room for it
-  pub table_pushed : (k x : K) (name : Name) (xs ys zs : List K) (place : ℕ) (names : List Name) (old new : List (K × ℕ)) →
-      map name_of xs ≡ names → name_of k ≡ name → name_of x ≡ name → All (λ y. y ≢ name) names → ys ≡ xs →
-      zs ≡ ys ++ x ∷ [] → place ≡ length ys → lookup (are_equal k) new ≡ Some place →
+  pub table_pushed : (k x : K) (name : Name) (xs ys zs : List K) (place : ℕ) (names : List Name)
+      (old new : List (K × ℕ)) → map name_of xs ≡ names → name_of k ≡ name → name_of x ≡ name →
+      All (λ y. y ≢ name) names → ys ≡ xs → zs ≡ ys ++ x ∷ [] → place ≡ length ys →
+      lookup (are_equal k) new ≡ Some place →
       KeepsOthers are_equal (are_equal k) old new → AreFound name_of (map name_of xs) old →
       AreFound name_of (map name_of zs) new
   table_pushed k x name xs ys zs place names old new seen own same_name others room pushed long placed keeps found =
