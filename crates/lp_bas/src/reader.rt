@@ -25,7 +25,6 @@ pub enum BasFeed {
 
 /// A basis file that is read line by line, for a model and its form. After any answer but `More` the reader is as it
 /// was before the line.
-#[derive(Drop)]
 pub struct BasReader {
     marks: Marks,
     lines: u32,
@@ -37,6 +36,13 @@ impl std::marker::Model for BasReader {
     ghost Value = { FileRead };
 
     ghost view = { λ r. record { state = r.marks; lines = r.lines } };
+}
+
+impl Drop for BasReader {
+    fn drop(self) {
+        let BasReader { marks, lines: _ } = self;
+        drop(marks);
+    }
 }
 
 impl BasReader {

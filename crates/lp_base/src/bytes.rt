@@ -11,7 +11,6 @@ use std::marker::Model;
 pub type Bytes = Items<u8>;
 
 /// A name, which is compared byte by byte.
-#[derive(Drop)]
 pub struct Name {
     text: Bytes,
 }
@@ -20,6 +19,13 @@ impl Model for Name {
     ghost Value = { List ℕ };
 
     ghost view = { λ n. n.text };
+}
+
+impl Drop for Name {
+    fn drop(self) {
+        let Name { text } = self;
+        drop(text);
+    }
 }
 
 impl Name {

@@ -51,7 +51,6 @@ impl From<AllocError> for LineStop {
 }
 
 /// Reads the lines of a source, through a buffer. Only as many bytes of a line are kept as a line may have.
-#[derive(Drop)]
 pub struct Lines {
     alloc: Global,
     buffer: Vec<u8>,
@@ -72,6 +71,20 @@ impl Model for Lines {
     ghost view = { state_of };
 
     ghost invariant = { IsBuffer };
+}
+
+impl Drop for Lines {
+    fn drop(self) {
+        let Lines {
+            alloc: _,
+            buffer,
+            from: _,
+            to: _,
+            given: _,
+            ended: _,
+        } = self;
+        drop(buffer);
+    }
 }
 
 impl Lines {

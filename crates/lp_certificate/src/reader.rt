@@ -25,7 +25,6 @@ pub enum CertFeed {
 }
 
 /// A text of a certificate that is read line by line. After any answer but `More` the reader has lost what it read.
-#[derive(Drop)]
 pub struct CertReader {
     raw: Option<RawCertificate>,
     lines: u32,
@@ -105,6 +104,13 @@ fn advance(
     };
     drop(words);
     progress
+}
+
+impl Drop for CertReader {
+    fn drop(self) {
+        let CertReader { raw, lines: _ } = self;
+        drop(raw);
+    }
 }
 
 impl CertReader {

@@ -41,7 +41,6 @@ impl From<AllocError> for EditError {
 }
 
 /// The coefficients of a new column, each with the name of its row.
-#[derive(Drop)]
 pub struct Pairs {
     items: Vec<(Name, Frac)>,
 }
@@ -52,6 +51,13 @@ impl Model for Pairs {
     ghost Value = { edited.Pairs };
 
     ghost view = { λ p. p.items.items };
+}
+
+impl Drop for Pairs {
+    fn drop(self) {
+        let Pairs { items } = self;
+        drop(items);
+    }
 }
 
 impl Pairs {

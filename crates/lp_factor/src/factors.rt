@@ -15,7 +15,6 @@ use std::marker::Model;
 
 /// Factors of a basis in product form: a list of pairs, each held as the items of its column that
 /// are not 0, and the basic column of each place.
-#[derive(Drop)]
 pub struct Factors {
     etas: Vec<Eta>,
     basic: Vec<u32>,
@@ -30,6 +29,14 @@ impl Model for Factors {
     ghost view = { λ s. record { pairs = s.etas.items; basic = s.basic.items } };
 
     ghost invariant = { λ s. AreFactorsOf (record { pairs = s.etas.items; basic = s.basic.items }) };
+}
+
+impl Drop for Factors {
+    fn drop(self) {
+        let Factors { etas, basic } = self;
+        drop(etas);
+        drop(basic);
+    }
 }
 
 impl Factors {

@@ -9,7 +9,6 @@ use spec_pivot::Status;
 use std::marker::Model;
 
 /// How each structural and then each logical column of a form stands, of which as many are basic as the form has rows.
-#[derive(Drop)]
 pub struct Basis {
     statuses: Vec<Status>,
     rows: u32,
@@ -26,6 +25,13 @@ impl Model for Basis {
     ghost view = { λ b. b.statuses.items };
 
     ghost invariant = { λ b. basics b.statuses.items ≡ b.rows };
+}
+
+impl Drop for Basis {
+    fn drop(self) {
+        let Basis { statuses, rows: _ } = self;
+        drop(statuses);
+    }
 }
 
 impl Basis {

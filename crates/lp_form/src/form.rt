@@ -13,7 +13,6 @@ use std::marker::Model;
 ///
 /// Column j below `cols` is structural, column `cols + i` is the logical of row i. There are at most
 /// 256 rows and 512 structural columns.
-#[derive(Drop)]
 pub struct Form {
     rows: u32,
     cols: u32,
@@ -45,6 +44,23 @@ impl Model for Form {
       upper = f.upper;
       cost = f.cost;
     }) };
+}
+
+impl Drop for Form {
+    fn drop(self) {
+        let Form {
+            rows: _,
+            cols: _,
+            entries,
+            lower,
+            upper,
+            cost,
+        } = self;
+        drop(entries);
+        drop(lower);
+        drop(upper);
+        drop(cost);
+    }
 }
 
 impl Form {

@@ -1,5 +1,4 @@
 // The readers of texts and of certificates, as stages.
-// What owns much is let go by a call of `drop`: one step of a proof, where the end of a scope is one for each part.
 ghost use Rattle.std.specs.Prelude.{refl};
 
 use crate::hearing::{Stage, Step};
@@ -30,18 +29,9 @@ impl Stage for Reader {
     fn advance(mut self, alloc: Global, line: &Line) -> Result<Step<Reader, TextSaid>, AllocError> {
         match self.feed(alloc, line) {
             Feed::More => Ok(Step::On(self)),
-            Feed::Done(model) => {
-                drop(self);
-                Ok(Step::Says(Ok(model)))
-            }
-            Feed::Refused(fault) => {
-                drop(self);
-                Ok(Step::Says(Err(fault)))
-            }
-            Feed::NoMemory => {
-                drop(self);
-                Err(AllocError)
-            }
+            Feed::Done(model) => Ok(Step::Says(Ok(model))),
+            Feed::Refused(fault) => Ok(Step::Says(Err(fault))),
+            Feed::NoMemory => Err(AllocError),
         }
     }
 }
@@ -64,18 +54,9 @@ impl Stage for CertReader {
     ) -> Result<Step<CertReader, CertificateSaid>, AllocError> {
         match self.feed(alloc, line) {
             CertFeed::More => Ok(Step::On(self)),
-            CertFeed::Done(raw) => {
-                drop(self);
-                Ok(Step::Says(Ok(raw)))
-            }
-            CertFeed::Refused(unfit) => {
-                drop(self);
-                Ok(Step::Says(Err(unfit)))
-            }
-            CertFeed::NoMemory => {
-                drop(self);
-                Err(AllocError)
-            }
+            CertFeed::Done(raw) => Ok(Step::Says(Ok(raw))),
+            CertFeed::Refused(unfit) => Ok(Step::Says(Err(unfit))),
+            CertFeed::NoMemory => Err(AllocError),
         }
     }
 }

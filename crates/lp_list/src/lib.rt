@@ -16,7 +16,6 @@ use std::fmt;
 use std::marker::Model;
 
 /// A list of items, which a contract sees as the plain list of them.
-#[derive(Drop)]
 pub struct Items<T> {
     items: Vec<T>,
 }
@@ -30,6 +29,14 @@ impl<T> Model for Items<T> {
     ghost coded = { coded_list T.code };
 
     ghost view = { λ i. i.items.items };
+}
+
+// By hand, so that it is proved here once: a derived drop is proved anew by each crate that lets go a list.
+impl<T: Drop> Drop for Items<T> {
+    fn drop(self) {
+        let Items { items } = self;
+        drop(items);
+    }
 }
 
 impl<T> Items<T> {
@@ -51,7 +58,8 @@ impl<T> Items<T> {
     pub fn into_vec(self) -> Vec<T>
         ensures { result.items ≡ self }
     {
-        self.items
+        let Items { items } = self;
+        items
     }
 
     pub fn as_slice(&self) -> &[T]

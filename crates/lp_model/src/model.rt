@@ -18,7 +18,6 @@ pub type Row = spec_model::Row<Name, Frac>;
 pub type Column = spec_model::Column<Name, Frac, Entries>;
 
 /// A linear program. It has at most 256 rows and 512 columns, with distinct names.
-#[derive(Drop)]
 pub struct Model {
     pub(crate) name: Name,
     pub(crate) sense: Sense,
@@ -55,6 +54,27 @@ impl std::marker::Model for Model {
       rows = m.rows.items;
       columns = m.columns.items;
     }) m.row_names m.column_names };
+}
+
+impl Drop for Model {
+    fn drop(self) {
+        let Model {
+            name,
+            sense: _,
+            objective,
+            offset: _,
+            rows,
+            columns,
+            row_names,
+            column_names,
+        } = self;
+        drop(name);
+        drop(objective);
+        drop(rows);
+        drop(columns);
+        drop(row_names);
+        drop(column_names);
+    }
 }
 
 impl Model {

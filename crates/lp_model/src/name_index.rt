@@ -8,7 +8,6 @@ use std::collections::HashMap;
 use std::marker::Model;
 
 /// Distinct names in their order. The time to find one does not grow with how many there are.
-#[derive(Drop)]
 pub struct NameIndex {
     names: Vec<Vec<u8>>,
     /// The place of each name, counted from 0.
@@ -25,6 +24,14 @@ impl Model for NameIndex {
 
     ghost invariant = { λ n.
         AreFound (λ name. name.items) (map (λ name. name.items) n.names.items) n.places.entries };
+}
+
+impl Drop for NameIndex {
+    fn drop(self) {
+        let NameIndex { names, places } = self;
+        drop(names);
+        drop(places);
+    }
 }
 
 impl NameIndex {

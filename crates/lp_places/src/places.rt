@@ -11,7 +11,6 @@ use std::marker::Model;
 
 /// Places for the bases that the sessions of one script share, which nobody else reads or writes: a board with the only
 /// pass of it. They are claimed one after the other, and each is written at once.
-#[derive(Drop)]
 pub struct Places {
     board: Board,
     pass: Pass,
@@ -27,6 +26,14 @@ impl Model for Places {
     ghost view = { λ p. sharing_of p.pass.view };
 
     ghost invariant = { λ p. IsOnly (id_of p.board) p.pass };
+}
+
+impl Drop for Places {
+    fn drop(self) {
+        let Places { board, pass } = self;
+        drop(board);
+        drop(pass);
+    }
 }
 
 impl Places {

@@ -13,7 +13,6 @@ use std::marker::Model;
 const SESSIONS: usize = 65;
 
 /// The sessions, by their numbers, and the places that they alone read and write.
-#[derive(Drop)]
 pub struct Sessions {
     all: Vec<Session>,
     places: Places,
@@ -28,6 +27,14 @@ impl Model for Sessions {
     ghost view = { λ s. record { states = states_of s.all.items; sharing = s.places } };
 
     ghost invariant = { λ s. (length s.all.items ≡ 65) × AreAtRest s.all.items };
+}
+
+impl Drop for Sessions {
+    fn drop(self) {
+        let Sessions { all, places } = self;
+        drop(all);
+        drop(places);
+    }
 }
 
 impl Sessions {

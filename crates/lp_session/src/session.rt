@@ -19,7 +19,6 @@ use std::marker::Model;
 use std::mem;
 
 /// A session: what it holds, and where it is in its ask.
-#[derive(Drop)]
 pub struct Session {
     holding: Holding,
     stage: Stage,
@@ -34,6 +33,14 @@ impl Model for Session {
     ghost view = { λ s. record { state = s.holding; awaits = awaits_of s.stage } };
 
     ghost invariant = { λ s. StageFits s.holding.model s.stage };
+}
+
+impl Drop for Session {
+    fn drop(self) {
+        let Session { holding, stage } = self;
+        drop(holding);
+        drop(stage);
+    }
 }
 
 impl Session {

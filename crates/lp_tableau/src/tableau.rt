@@ -13,7 +13,6 @@ use std::marker::Model;
 /// and for each column its value, its reduced cost, its status and its bounds.
 ///
 /// The columns are the structural ones, then the logical and then the artificial ones of the rows.
-#[derive(Drop)]
 pub struct Tableau {
     pub(crate) rows: u32,
     pub(crate) cols: u32,
@@ -47,6 +46,29 @@ pub(crate) struct ColumnLists {
     pub(crate) status: Vec<Status>,
     pub(crate) lower: Vec<Option<Frac>>,
     pub(crate) upper: Vec<Option<Frac>>,
+}
+
+impl Drop for Tableau {
+    fn drop(self) {
+        let Tableau {
+            rows: _,
+            cols: _,
+            grid,
+            basic,
+            value,
+            reduced,
+            status,
+            lower,
+            upper,
+        } = self;
+        drop(grid);
+        drop(basic);
+        drop(value);
+        drop(reduced);
+        drop(status);
+        drop(lower);
+        drop(upper);
+    }
 }
 
 impl Tableau {

@@ -28,7 +28,6 @@ pub enum Feed {
 }
 
 /// A text of a model that is read line by line. After any answer but `More` the reader has lost what it read.
-#[derive(Drop)]
 pub struct Reader {
     style: Style,
     draft: Draft,
@@ -54,6 +53,17 @@ fn refused(fault: Fault, line: u32) -> Feed
     match fault {
         Fault::Code(code) => Feed::Refused(MpsFault { line, code }),
         Fault::NoMemory => Feed::NoMemory,
+    }
+}
+
+impl Drop for Reader {
+    fn drop(self) {
+        let Reader {
+            style: _,
+            draft,
+            lines: _,
+        } = self;
+        drop(draft);
     }
 }
 
