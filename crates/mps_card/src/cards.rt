@@ -25,15 +25,13 @@ pub fn free(alloc: Global, line: &[u8]) -> Result<Card, CardFault>
 }
 
 /// The card of a line in fixed form.
-#[tactic(auto, unfolding(spec_mps::specs::Fields::fixed_fields))]
+#[tactic(auto, unfolding(spec_mps::specs::Fields::free_fields, spec_mps::specs::Fields::fixed_fields))]
 pub fn fixed(alloc: Global, line: &[u8]) -> Result<Card, CardFault>
     ensures { GivesCard result (field.fixed_fields line.now) }
 {
-    if is_skipped(line) {
-        return Ok(Card::Skip);
-    }
-    if !begins_with_blank(line) {
-        return Ok(Card::Section(word_fields(alloc, line)?));
+    // what is no data card is the same in both forms
+    if is_skipped(line) || !begins_with_blank(line) {
+        return free(alloc, line);
     }
     match misplaced(line) {
         Some(column) => Err(CardFault::Misplaced(column)),

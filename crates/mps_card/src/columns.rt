@@ -1,5 +1,5 @@
 // Fields by columns.
-ghost use Rattle.std.specs.Prelude.{◌≡◌, ◌+◌, ◌<◌, ◌≤◌, IfOk, take, drop};
+ghost use Rattle.std.specs.Prelude.{◌≡◌, ◌+◌, ◌<◌, ◌≤◌, IfOk, OnOk, [], take, drop};
 ghost use Rattle.spec_mps.specs.Fields as field;
 
 use crate::Fields;
@@ -91,17 +91,25 @@ fn in_columns(line: &[u8], first: usize, last: usize) -> &[u8]
     without_end(without_front(behind(first_bytes(line, last), first - 1)))
 }
 
-/// The fields of a card, none of whose bytes is misplaced.
+// Adds the fields of a card to fields of which there are none.
 #[tactic(auto, unfolding(spec_mps::specs::Fields::column_fields))]
-pub(crate) fn column_fields(alloc: Global, line: &[u8]) -> Result<Fields, AllocError>
-    ensures { IfOk result (λ fields. fields ≡ field.column_fields line.now) }
+fn push_columns(alloc: Global, line: &[u8], fields: &mut Fields) -> Result<(), AllocError>
+    requires { fields.old ≡ [] }
+    ensures { OnOk result (fields.new ≡ field.column_fields line.now) }
 {
-    let mut fields = Fields::new(alloc);
     fields.push(alloc, 1, in_columns(line, 2, 3))?;
     fields.push(alloc, 2, in_columns(line, 5, 12))?;
     fields.push(alloc, 3, in_columns(line, 15, 22))?;
     fields.push(alloc, 4, in_columns(line, 25, 36))?;
     fields.push(alloc, 5, in_columns(line, 40, 47))?;
-    fields.push(alloc, 6, in_columns(line, 50, 61))?;
+    fields.push(alloc, 6, in_columns(line, 50, 61))
+}
+
+/// The fields of a card, none of whose bytes is misplaced.
+pub(crate) fn column_fields(alloc: Global, line: &[u8]) -> Result<Fields, AllocError>
+    ensures { IfOk result (λ fields. fields ≡ field.column_fields line.now) }
+{
+    let mut fields = Fields::new(alloc);
+    push_columns(alloc, line, &mut fields)?;
     Ok(fields)
 }

@@ -51,7 +51,6 @@ impl MadeWith<Global> for Field {
 pub type Card = spec_mps::Card<Fields>;
 
 /// The fields of a card, in order.
-#[derive(Drop)]
 pub struct Fields {
     items: SmallVec<Field, 6>,
 }
@@ -62,6 +61,13 @@ impl Model for Fields {
     ghost Value = { card_field.Fields };
 
     ghost view = { λ f. f.items.items };
+}
+
+impl Drop for Fields {
+    fn drop(self) {
+        let Fields { items } = self;
+        drop(items);
+    }
 }
 
 impl Fields {
@@ -108,10 +114,7 @@ impl Fields {
     pub(crate) fn push_word(&mut self, alloc: Global, word: &[u8]) -> Result<(), AllocError>
         ensures { OnOk result (self.new ≡ self.old ++ card_field.field_of (length self.old + 1) word.now) }
     {
-        let Ok(count) = u32::try_from(self.items.len()) else {
-            return Err(AllocError);
-        };
-        let Some(number) = count.checked_add(1) else {
+        let Ok(number) = u32::try_from(self.items.len().saturating_add(1)) else {
             return Err(AllocError);
         };
         self.push(alloc, number, word)

@@ -6,7 +6,7 @@ use Rattle.spec_text.specs.Words.{has_bytes, words_of}
 use Rattle.spec_mps.specs.Fields.{Fields, numbered_from, field_of, word_fields}
 use Rattle.lp_base.proofs.BlankParts.{blank_parts_all}
 use Rattle.mps_card.proofs.Numbered.{next_word}
-use Rattle.mps_card.proofs.words.word_fields.Goals as goal
+use Rattle.mps_card.proofs.words.push_words.Goals as goal
 
 pub returns : goal.returns
 unfolding word_fields words_of
