@@ -49,18 +49,12 @@ impl<'a> Exponent<'a> {
     ghost use Rattle.spec_mps.specs.NumberText as number;
     ghost use Rattle.lp_numtext.specs.Seen.{exponent_seen};
 
-    // What follows the mark, where there is one.
+    // What follows the mark, and 0 where there is none.
     #[tactic(auto, unfolding(spec_mps::specs::NumberText::exponent_of))]
     fn parse(mark: Option<&'a [u8]>) -> Option<Exponent<'a>>
         ensures { option_map exponent_seen result ≡ number.exponent_of (option_copied mark.entry) }
     {
-        let Some(text) = mark else {
-            let digits = Digits::new(&[])?;
-            return Some(Exponent {
-                is_negative: false,
-                digits,
-            });
-        };
+        let text = mark.unwrap_or(b"0");
         let digits = Digits::new(without_sign(text))?;
         if digits.is_empty() {
             return None;
@@ -135,11 +129,10 @@ impl<'a> Parts<'a> {
         ensures { option_map parts_seen result ≡ number.parts_of text.now }
     {
         let is_negative = is_negative(text);
-        let parts = match split(without_sign(text), Separator::Slash) {
-            (top, Some(bottom)) => Parts::Quotient(Quotient::parse(is_negative, top, bottom)?),
-            (body, None) => Parts::Decimal(Decimal::parse(is_negative, body)?),
-        };
-        Some(parts)
+        match split(without_sign(text), Separator::Slash) {
+            (top, Some(bottom)) => Quotient::parse(is_negative, top, bottom).map(Parts::Quotient),
+            (body, None) => Decimal::parse(is_negative, body).map(Parts::Decimal),
+        }
     }
 
     #[tactic(auto, unfolding(spec_mps::specs::NumberText::scaled))]

@@ -13,5 +13,5 @@ pub(crate) fn within(n: u128) -> Option<u128>
 pub(crate) fn product(n: u128, k: u128) -> Option<u128>
     ensures { result ≡ width.within (n * k) }
 {
-    within(n.checked_mul(k)?)
+    within(n.saturating_mul(k))
 }
