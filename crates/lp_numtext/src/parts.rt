@@ -55,14 +55,13 @@ impl<'a> Exponent<'a> {
         ensures { option_map exponent_seen result ≡ number.exponent_of (option_copied mark.entry) }
     {
         let text = mark.unwrap_or(b"0");
-        let digits = Digits::new(without_sign(text))?;
-        if digits.is_empty() {
-            return None;
+        match Digits::new(without_sign(text)) {
+            Some(digits) if !digits.is_empty() => Some(Exponent {
+                is_negative: is_negative(text),
+                digits,
+            }),
+            _ => None,
         }
-        Some(Exponent {
-            is_negative: is_negative(text),
-            digits,
-        })
     }
 }
 
@@ -80,18 +79,19 @@ impl<'a> Decimal<'a> {
     {
         let (mantissa, mark) = split(body, Separator::Mark);
         let (front, back) = split(mantissa, Separator::Point);
-        let front = Digits::new(front)?;
-        let back = Digits::new(back.unwrap_or(&[]))?;
-        if !has_digit(front, back) {
-            return None;
+        match (
+            Digits::new(front),
+            Digits::new(back.unwrap_or(&[])),
+            Exponent::parse(mark),
+        ) {
+            (Some(front), Some(back), Some(exponent)) if has_digit(front, back) => Some(Decimal {
+                is_negative,
+                front,
+                back,
+                exponent,
+            }),
+            _ => None,
         }
-        let exponent = Exponent::parse(mark)?;
-        Some(Decimal {
-            is_negative,
-            front,
-            back,
-            exponent,
-        })
     }
 }
 
@@ -104,16 +104,14 @@ impl<'a> Quotient<'a> {
     fn parse(is_negative: bool, top: &'a [u8], bottom: &'a [u8]) -> Option<Quotient<'a>>
         ensures { option_map quotient_seen result ≡ number.quotient_of is_negative top.now bottom.now }
     {
-        let top = Digits::new(top)?;
-        let bottom = Digits::new(bottom)?;
-        if top.is_empty() || bottom.is_zero() {
-            return None;
+        match (Digits::new(top), Digits::new(bottom)) {
+            (Some(top), Some(bottom)) if !(top.is_empty() || bottom.is_zero()) => Some(Quotient {
+                is_negative,
+                top,
+                bottom,
+            }),
+            _ => None,
         }
-        Some(Quotient {
-            is_negative,
-            top,
-            bottom,
-        })
     }
 }
 

@@ -4,16 +4,17 @@ use Rattle.spec_mps.specs.NumberText as number
 use Rattle.lp_numtext.proofs.PieceSteps.{after, unwrapped, decimal_is}
 use Rattle.lp_numtext.proofs.parts.Decimal.parse.Goals as goal
 
-pub returns : goal.returns
-returns c =
-    decimal_is c.args.is_negative c.split.result.0.now c.in_ok-front.front.bytes.now c.in_ok-back.back.bytes.now
+pub returns-in-Some-Some-Some : goal.returns-in-Some-Some-Some
+returns-in-Some-Some-Some c =
+    let parts = c.in-Some-Some-Some in
+    decimal_is c.args.is_negative c.split.result.0.now parts.front.bytes.now parts.back.bytes.now
     (option_copied c.split.result.1) _
-    (c.in_ok-front.ensures.value ∙ c.split-2.ensures.before)
-    (c.in_ok-back.ensures.value
+    (parts.ensures.value ∙ c.split-2.ensures.before)
+    (parts.ensures'.value
     ∙ ap (λ (r : Bor (List ℕ)). r.now) c.unwrap_or.ensures
     ∙ unwrapped c.split-2.result.1 _
     ∙ ap (λ o. unwrap_or o []) c.split-2.ensures.behind
     ∙ after number.is_point c.split.result.0.now)
-    c.in_ok-exponent.ensures
-    (sym c.has_digit.ensures ∙ c.if-not-has_digit.false)
+    parts.ensures''
+    (sym c.has_digit.ensures ∙ c.if-has_digit.true)
     ∙ ap₂ (number.mantissa_of c.args.is_negative) c.split.ensures.before c.split.ensures.behind
