@@ -1,7 +1,8 @@
 -- A product and a difference whose parts are short are not refused, and what they give.
 use Rattle.std.proofs.Common.{◌≡◌, ◌<◌, ◌≤◌, zero, suc, Some, None, Ok, ℕ, ◌+◌, ◌*◌, ◌/◌, ℤ, pos}
 use Rattle.std.proofs.Common.{neg_ℤ, ◌+ℤ◌, ◌-ℤ◌, ◌*ℤ◌, int_div, unsigned_abs, Bool, true, ◌&&◌}
-use Rattle.std.proofs.Common.{if◌then◌else◌, [], ◌∷◌, le-leb, refl, sym, ap, ap₂, subst, ◌∙◌, arith}
+use Rattle.std.proofs.Common.{if◌then◌else◌, [], ◌∷◌, le-leb, refl, sym, ap, ap₂, subst, ◌∙◌, arith, SFits}
+use mir.Syntax.{w64}
 use Rattle.std.proofs.Math.Nat.{div-mul_cancel, div-le_self, mul-le-mul}
 use Rattle.std.proofs.Math.Nat.{mul-le-mul_left, mul-le-mul_right, mul-pos, le_trans}
 use Rattle.std.proofs.lemmas.Int.{ints, unsigned_abs-mul}
@@ -18,7 +19,8 @@ use Rattle.spec_exact.proofs.Whole.{by_ring}
 use Rattle.spec_exact.proofs.Fraction.{over-same, over_cross, exact_quotient}
 use Rattle.spec_exact.proofs.Limit.{product_exact, sum_exact}
 use Rattle.lp_frac.specs.Narrow.{largest}
-use Rattle.lp_frac.specs.Less.{IsSmall, IsShort, IsShortProduct, less_num, less_den}
+use Rattle.lp_frac.specs.Less.{IsSmall, IsShort, IsShortProduct, IsDenominator, less_num, less_den}
+use Rattle.lp_frac.proofs.Sizes.{fitted_size}
 
 test : (n k : ℕ) → n ≤ k → k ≤ largest → fits (Some largest) n ≡ true
 test n k h g = le-leb n largest (le_trans h g)
@@ -175,6 +177,18 @@ scaled_same e f n k p q hf hk hp h =
         ∙ ap (λ (z : ℕ). e *ℤ pos p *ℤ pos k *ℤ pos f +ℤ neg_ℤ (n *ℤ pos f *ℤ pos z)) (sym h)
         ∙ by_ring (e ∷ pos f ∷ n ∷ pos k ∷ pos p ∷ [])
         (v0 ⊗ v4 ⊗ v3 ⊗ v1 ⊖ v2 ⊗ v1 ⊗ (v4 ⊗ v1)) ((v0 ⊗ v3 ⊖ v2 ⊗ v1) ⊗ (v4 ⊗ v1)) refl
+
+-- the parts of a product of short parts
+pub product_of_short : (n a c : ℤ) (b d k : ℕ) (v w : ℚ) → IsShort a b v → IsShort c d w → IsDenominator k b d →
+    SFits w64 n → n ≡ a *ℤ c → IsShortProduct n k v w
+product_of_short n a c b d k v w x y z f e =
+    record {
+      num_is = e ∙ ap₂ ◌*ℤ◌ x.num_is y.num_is;
+      den_is = z.value ∙ ap₂ (λ i j. i * j) x.den_is y.den_is;
+      positive = subst (λ i. 0 < i) (sym z.value) (mul-pos x.positive y.positive);
+      num_size = fitted_size w64 n f;
+      den_size = z.size;
+    }
 
 pub less_short : (v w s x : ℚ) (n e : ℤ) (k f : ℕ) → IsShortProduct n k v w →
     IsShort e f s → x ≡ over (e *ℤ pos k -ℤ n *ℤ pos f) (k * f) →

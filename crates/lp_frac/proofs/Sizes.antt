@@ -24,14 +24,14 @@ computed w u z n e h k =
     record { fits = f; value = v; bound = h; size = subst (λ (x : ℤ). unsigned_abs x ≤ n) (sym v) h }
 
 -- ---- a number that is cast to a larger width
-fitted_size : (v : Width) (x : ℤ) → SFits v x → unsigned_abs x ≤ 2 ^ hbits v
+pub fitted_size : (v : Width) (x : ℤ) → SFits v x → unsigned_abs x ≤ 2 ^ hbits v
 fitted_size v (pos n) f = omega (arith, f.sfits)
 fitted_size v (negsuc n) f = omega (arith, f.sfits)
 
 pub cast_fits : (v w : Width) (x : ℤ) → SFits v x → 2 ^ hbits v ≤ 2 ^ hbits w → SFits w (to_z v (of_z v x))
 cast_fits v w x f h = subst (SFits w) (sym (to_z-of_z f)) (record { sfits = omega (arith, f.sfits, h) })
 
-cast_is : (v w : Width) (x : ℤ) → SFits v x → 2 ^ hbits v ≤ 2 ^ hbits w → to_z w (of_z w (to_z v (of_z v x))) ≡ x
+pub cast_is : (v w : Width) (x : ℤ) → SFits v x → 2 ^ hbits v ≤ 2 ^ hbits w → to_z w (of_z w (to_z v (of_z v x))) ≡ x
 cast_is v w x f h = to_z-of_z (cast_fits v w x f h) ∙ to_z-of_z f
 
 -- ---- products

@@ -1,8 +1,10 @@
 -- Without the greatest common divisor.
-use Rattle.std.proofs.Common.{rules, SFits, ℤ, to_z-of_z, ap, ◌∙◌}
+use Rattle.std.proofs.Common.{rules, ◌≡◌, ◌≤◌, SFits, ℤ, to_z-of_z, unsigned_abs, subst, sym, ap, ◌∙◌, arith}
 use mir.Syntax.{w64, w128}
 use Rattle.spec_exact.specs.Gcd.{gcd}
 use Rattle.spec_exact.specs.Fraction.{over}
+use Rattle.lp_frac.specs.Narrow.{largest}
+use Rattle.lp_frac.proofs.Sizes.{cast_is}
 use Rattle.lp_frac.proofs.Exact.{IsLowest, in_lowest}
 use Rattle.lp_frac.proofs.lowest.divided.Goals as goal
 
@@ -13,6 +15,26 @@ is_lowest c =
     c.short_part.result c.short_part_den.result c.requires.positive
     (c.common_of_short-g.ensures.value ∙ ap (λ k. gcd k c.args.den) (simp to_z-of_z at c.unsigned_abs.ensures.value))
     (simp to_z-of_z at c.short_part.ensures) c.short_part_den.ensures
+
+pub make-requires : goal.make-requires
+make-requires c =
+    let g = c.common_of_short-g in
+    let same = cast_is w64 w128 c.args.num c.ranges.num (omega arith) in
+    let size : c.unsigned_abs.result ≡ unsigned_abs c.args.num =
+    c.unsigned_abs.ensures.value ∙ ap unsigned_abs (to_z-of_z c.ranges.num) in
+    record {
+      positive = c.requires.positive;
+      lowest =
+          ap (λ z. gcd (unsigned_abs z) c.args.den) same
+          ∙ ap (λ k. gcd k c.args.den) (sym size) ∙ sym g.ensures.value ∙ c.if-g-eq1.true;
+      num_fits = subst (λ z. unsigned_abs z ≤ largest) (sym same) (omega (arith, c.requires.num_fits));
+      den_fits = omega (arith, c.requires.den_fits);
+    }
+
+pub returns-then-g-eq1 : goal.returns-then-g-eq1
+returns-then-g-eq1 c =
+    c.make.ensures
+    ∙ ap (λ (z : ℤ). over z c.args.den) (cast_is w64 w128 c.args.num c.ranges.num (omega arith))
 
 pub make-requires-2-clause-lowest : goal.make-requires-2-clause-lowest
 make-requires-2-clause-lowest c =
