@@ -1,5 +1,5 @@
 -- Without the greatest common divisor.
-use Rattle.std.proofs.Common.{rules, ◌≡◌, ◌≤◌, SFits, ℤ, to_z-of_z, unsigned_abs, subst, sym, ap, ◌∙◌, arith}
+use Rattle.std.proofs.Common.{◌≡◌, ◌≤◌, SFits, ℤ, to_z-of_z, unsigned_abs, subst, sym, ap, ◌∙◌, arith}
 use mir.Syntax.{w64, w128}
 use Rattle.spec_exact.specs.Gcd.{gcd}
 use Rattle.spec_exact.specs.Fraction.{over}
@@ -36,15 +36,29 @@ returns-then-g-eq1 c =
     c.make.ensures
     ∙ ap (λ (z : ℤ). over z c.args.den) (cast_is w64 w128 c.args.num c.ranges.num (omega arith))
 
-pub make-requires-2-clause-lowest : goal.make-requires-2-clause-lowest
-make-requires-2-clause-lowest c =
-    let n : SFits w128 c.short_part.result = search rules in
-    rw (to_z-of_z n) (is_lowest c).lowest
+pub short_part-requires : goal.short_part-requires
+short_part-requires c =
+    let g = c.common_of_short-g.ensures in
+    record {
+      positive = g.positive c.requires.positive;
+      small = omega (arith, g.small c.requires.positive, c.requires.den_fits);
+    }
+
+pub make-requires-2 : goal.make-requires-2
+make-requires-2 c =
+    let n : SFits w128 c.short_part.result = record { sfits = c.short_part.type_inv } in
+    let l = is_lowest c in
+    record {
+      positive = l.positive;
+      lowest = rw (to_z-of_z n) l.lowest;
+      num_fits = rw (to_z-of_z n) (omega (arith, l.num_fits, c.requires.num_fits));
+      den_fits = omega (arith, l.den_fits, c.requires.den_fits);
+    }
 
 pub returns : goal.returns
 returns c =
     let a : SFits w64 c.args.num = c.ranges.num in
-    let n : SFits w128 c.short_part.result = search rules in
+    let n : SFits w128 c.short_part.result = record { sfits = c.short_part.type_inv } in
     let l =
     in_lowest c.args.num c.args.den c.common_of_short-g.result
     c.short_part.result c.short_part_den.result c.requires.positive
