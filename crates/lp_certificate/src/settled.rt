@@ -52,6 +52,15 @@ fn repeated(alloc: Global, name: &Name) -> SettleError
     }
 }
 
+// Two lists of zeros, of these lengths.
+fn two_zeros(alloc: Global, first: usize, second: usize) -> Result<(Fracs, Fracs), AllocError>
+    ensures { IfOk result (λ lists. lists ≡ (settling.zeros first, settling.zeros second)) }
+{
+    let first = zeros(alloc, first)?;
+    let second = zeros(alloc, second)?;
+    Ok((first, second))
+}
+
 // The certificate of this kind in which all numbers are 0.
 #[tactic(auto, unfolding(spec_check::specs::Settle::blank))]
 fn blank(alloc: Global, model: &Model, kind: &CertificateKind) -> Result<Certificate, SettleError>
@@ -61,17 +70,18 @@ fn blank(alloc: Global, model: &Model, kind: &CertificateKind) -> Result<Certifi
     let columns = model.cols() as usize;
     let rows = model.rows() as usize;
     match kind {
-        CertificateKind::Optimal => Ok(Certificate::Optimal {
-            x: zeros(alloc, columns)?,
-            y: zeros(alloc, rows)?,
-        }),
-        CertificateKind::Infeasible => Ok(Certificate::Infeasible {
-            y: zeros(alloc, rows)?,
-        }),
-        CertificateKind::Unbounded => Ok(Certificate::Unbounded {
-            x: zeros(alloc, columns)?,
-            r: zeros(alloc, columns)?,
-        }),
+        CertificateKind::Optimal => {
+            let (x, y) = two_zeros(alloc, columns, rows)?;
+            Ok(Certificate::Optimal { x, y })
+        }
+        CertificateKind::Infeasible => {
+            let y = zeros(alloc, rows)?;
+            Ok(Certificate::Infeasible { y })
+        }
+        CertificateKind::Unbounded => {
+            let (x, r) = two_zeros(alloc, columns, columns)?;
+            Ok(Certificate::Unbounded { x, r })
+        }
         CertificateKind::Clash(name) => match model.col_of(name.as_slice()) {
             Some(j) => Ok(Certificate::Clash(j)),
             None => Err(unknown(alloc, name)),

@@ -1,5 +1,5 @@
 // The text of a certificate.
-ghost use Rattle.std.specs.Prelude.{◌≡◌, ◌∷◌, ◌++◌, codes, length, IfOk, OnOk};
+ghost use Rattle.std.specs.Prelude.{◌≡◌, ◌∷◌, ◌++◌, length, IfOk, OnOk};
 ghost use Rattle.spec_check.specs.Certificate.{IsFor};
 ghost use Rattle.spec_check.specs.TextWritten as text_written;
 ghost use Rattle.lp_certificate.specs.Answer.{IsPlace};
@@ -30,14 +30,20 @@ fn add_word(text: &mut Bytes, word: &[u8]) -> Result<(), AllocError>
     text.extend(word)
 }
 
-fn part_text(alloc: Global, letter: Letter, name: &[u8], value: Frac) -> Result<Bytes, AllocError>
-    ensures { IfOk result (λ text. text ≡ text_written.part_text letter name.now value) }
+// Adds the text of a part.
+fn add_part_text(
+    alloc: Global,
+    letter: Letter,
+    name: &[u8],
+    value: Frac,
+    text: &mut Bytes,
+) -> Result<(), AllocError>
+    ensures { OnOk result (text.new ≡ text.old ++ text_written.part_text letter name.now value) }
 {
-    let mut text = Bytes::from_slice(alloc, letter_text(letter))?;
-    add_word(&mut text, name)?;
+    text.extend(letter_text(letter))?;
+    add_word(text, name)?;
     text.push(b' ')?;
-    lp_numtext::write(alloc, value, &mut text)?;
-    Ok(text)
+    lp_numtext::write(alloc, value, text)
 }
 
 // Adds the line of a number, unless it is 0.
@@ -50,10 +56,12 @@ fn add_part(
 ) -> Result<(), AllocError>
     ensures { OnOk result (lines.new ≡ lines.old ++ text_written.part_lines letter name.now value) }
 {
-    if !is_zero(value) {
-        lines.push(part_text(alloc, letter, name, value)?)?;
+    if is_zero(value) {
+        return Ok(());
     }
-    Ok(())
+    let mut text = Bytes::new(alloc);
+    add_part_text(alloc, letter, name, value, &mut text)?;
+    lines.push(text)
 }
 
 // How many columns, or rows, have a number with this letter.
@@ -95,23 +103,19 @@ fn add_values(
     Ok(())
 }
 
-fn clash_text(alloc: Global, name: &[u8]) -> Result<Bytes, AllocError>
-    ensures { IfOk result (λ text. text ≡ codes "CLASH" ++ 32 ∷ name.now) }
-{
-    let mut text = Bytes::from_slice(alloc, b"CLASH")?;
-    add_word(&mut text, name)?;
-    Ok(text)
-}
-
-fn kind_text(alloc: Global, model: &Model, cert: &Certificate) -> Result<Bytes, AllocError>
+// Adds the text that says the kind.
+fn add_kind_text(model: &Model, cert: &Certificate, text: &mut Bytes) -> Result<(), AllocError>
     requires { IsFor model.now cert.now }
-    ensures { IfOk result (λ text. text ≡ text_written.kind_text model.now cert.now) }
+    ensures { OnOk result (text.new ≡ text.old ++ text_written.kind_text model.now cert.now) }
 {
     match cert {
-        Certificate::Optimal { .. } => Bytes::from_slice(alloc, b"OPTIMAL"),
-        Certificate::Infeasible { .. } => Bytes::from_slice(alloc, b"INFEASIBLE"),
-        Certificate::Unbounded { .. } => Bytes::from_slice(alloc, b"UNBOUNDED"),
-        Certificate::Clash(j) => clash_text(alloc, model.col(*j).name.as_slice()),
+        Certificate::Optimal { .. } => text.extend(b"OPTIMAL"),
+        Certificate::Infeasible { .. } => text.extend(b"INFEASIBLE"),
+        Certificate::Unbounded { .. } => text.extend(b"UNBOUNDED"),
+        Certificate::Clash(j) => {
+            text.extend(b"CLASH")?;
+            add_word(text, model.col(*j).name.as_slice())
+        }
     }
 }
 
@@ -150,7 +154,9 @@ fn add_lines(
     requires { IsFor model.now cert.now }
     ensures { OnOk result (lines.new ≡ lines.old ++ text_written.certificate_lines model.now cert.now) }
 {
-    lines.push(kind_text(alloc, model, cert)?)?;
+    let mut kind = Bytes::new(alloc);
+    add_kind_text(model, cert, &mut kind)?;
+    lines.push(kind)?;
     add_parts(alloc, model, cert, lines)?;
     lines.push(Bytes::from_slice(alloc, b"END")?)
 }

@@ -3,20 +3,17 @@ ghost use Rattle.std.specs.Prelude.{◌≡◌, [], ◌∷◌, IfOk};
 ghost use Rattle.spec_check.specs.Text as certificate;
 
 use crate::certificate::{CertificateKind, Part};
-use lp_base::{Name, Texts, are_same, by_word};
+use lp_base::{Name, Texts, are_same, by_word, look_up};
 use spec_check::Letter;
 use std::alloc::{AllocError, Global};
+
+const LETTERS: [(&[u8], Letter); 3] = [(b"x", Letter::X), (b"y", Letter::Y), (b"r", Letter::R)];
 
 #[tactic(auto, unfolding(spec_check::specs::Text::letter_of))]
 fn letter_of(word: &[u8]) -> Option<Letter>
     ensures { result ≡ certificate.letter_of word.now }
 {
-    by_word!(word, {
-        b"x" => Some(Letter::X),
-        b"y" => Some(Letter::Y),
-        b"r" => Some(Letter::R),
-        _ => None,
-    })
+    look_up(word, &LETTERS)
 }
 
 // Whether parts with this letter stand in a certificate of this kind.
