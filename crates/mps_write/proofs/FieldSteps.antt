@@ -10,7 +10,6 @@ use Rattle.spec_mps.specs.Fields.{Field, Fields}
 use Rattle.spec_mps.specs.Written.{Data, with_fields, padded}
 use Rattle.mps_write.specs.declared.fault.WriteFault.{WriteFault}
 use Rattle.mps_write.specs.declared.fault.WriteFault.TheVariants.{TooWide, NoMemory}
-use Rattle.mps_write.specs.declared.line.Field as code
 use Rattle.mps_write.specs.Adds.{IsAdded, Names, fields_of, is_wide_in, wide_field, wide_in}
 use Rattle.mps_write.proofs.AddSteps.{first_none, first_some}
 
@@ -37,24 +36,24 @@ wide_one style f h = rw h refl
 narrow_one : (style : Style) (f : Field) → is_wide_in style f ≡ false → wide_field style (f ∷ []) ≡ None
 narrow_one style f h = rw h refl
 
-abbrev pub seen : code.Field (Bor (List ℕ)) → Field
-seen f = record { number = f.number; text = f.text.now }
+abbrev pub seen : (ℕ × Bor (List ℕ)) → Field
+seen f = record { number = f.0; text = f.1.now }
 
-module _ (style : Style) (fs : List (code.Field (Bor (List ℕ)))) (i : ℕ)
-    (d : code.Field (Bor (List ℕ))) (inside : i < length fs) where
+module _ (style : Style) (fs : List (ℕ × Bor (List ℕ))) (i : ℕ)
+    (d : ℕ × Bor (List ℕ)) (inside : i < length fs) where
   fields_next : fields_of (take (i + 1) fs) ≡ fields_of (take i fs) ++ seen (get_or fs i d) ∷ []
   fields_next = ap (map seen) (take_more fs i d inside) ∙ map-append seen (take i fs) (get_or fs i d ∷ [])
 
   pub puts_next : (start line next : List ℕ) → wide_field style (fields_of (take i fs)) ≡ None →
       line ≡ with_fields style start (fields_of (take i fs))
       → is_wide_in style (seen (get_or fs i d)) ≡ false →
-      next ≡ padded style (get_or fs i d).number line ++ (get_or fs i d).text.now
+      next ≡ padded style (get_or fs i d).0 line ++ (get_or fs i d).1.now
       → (wide_field style (fields_of (take (i + 1) fs)) ≡ None)
       × (next ≡ with_fields style start (fields_of (take (i + 1) fs)))
   puts_next start line next narrow here room put = (
     ap (wide_field style) fields_next ∙ wide_behind style (fields_of (take i fs)) (seen (get_or fs i d) ∷ []) narrow
         ∙ narrow_one style (seen (get_or fs i d)) room,
-    put ∙ ap (λ l. padded style (get_or fs i d).number l ++ (get_or fs i d).text.now) here
+    put ∙ ap (λ l. padded style (get_or fs i d).0 l ++ (get_or fs i d).1.now) here
         ∙ sym (with_fields-append style start (fields_of (take i fs)) (seen (get_or fs i d) ∷ []))
         ∙ ap (with_fields style start) (sym fields_next),
   )
@@ -63,14 +62,14 @@ module _ (style : Style) (fs : List (code.Field (Bor (List ℕ)))) (i : ℕ)
   fields_all = ap (map seen) (sym (take-append-drop (i + 1) fs)) ∙ map-append seen (take (i + 1) fs) (drop (i + 1) fs)
 
   pub puts_stops : wide_field style (fields_of (take i fs)) ≡ None → is_wide_in style (seen (get_or fs i d)) ≡ true →
-      wide_field style (fields_of fs) ≡ Some (get_or fs i d).text.now
+      wide_field style (fields_of fs) ≡ Some (get_or fs i d).1.now
   puts_stops narrow wide =
       ap (wide_field style) fields_all
-      ∙ wide_first style (fields_of (take (i + 1) fs)) (fields_of (drop (i + 1) fs)) (get_or fs i d).text.now
+      ∙ wide_first style (fields_of (take (i + 1) fs)) (fields_of (drop (i + 1) fs)) (get_or fs i d).1.now
       (ap (wide_field style) fields_next ∙ wide_behind style (fields_of (take i fs)) (seen (get_or fs i d) ∷ []) narrow
       ∙ wide_one style (seen (get_or fs i d)) wide)
 
-pub puts_done : (style : Style) (fs : List (code.Field (Bor (List ℕ)))) (n : ℕ) (start line : List ℕ) → length fs ≤ n
+pub puts_done : (style : Style) (fs : List (ℕ × Bor (List ℕ))) (n : ℕ) (start line : List ℕ) → length fs ≤ n
     → wide_field style (fields_of (take n fs)) ≡ None → line ≡ with_fields style start (fields_of (take n fs))
     → (wide_field style (fields_of fs) ≡ None) × (line ≡ with_fields style start (fields_of fs))
 puts_done style fs n start line all narrow here = (
@@ -93,16 +92,14 @@ pub card_stops : (style : Style) (fs : Fields) (fault : WriteFault) → Names (w
 card_stops style fs (TooWide item) h = wide_card style fs ∙ h
 card_stops style fs NoMemory h = tt
 
--- a line feed after the line, and the line after the text
-pub card_done : (style : Style) (fs : Fields) (start line ended shown text next : List ℕ)
+pub card_done : (style : Style) (fs : Fields) (start line text next : List ℕ)
     → (wide_field style fs ≡ None) × (line ≡ with_fields style start fs) →
-    start ≡ [] → ended ≡ line ++ 10 ∷ [] → shown ≡ ended → next ≡ text ++ shown
-    → IsAdded style (Data fs ∷ []) text next
-card_done style fs start line ended shown text next puts empty end same put =
+    start ≡ [] → next ≡ text ++ (line ++ 10 ∷ []) → IsAdded style (Data fs ∷ []) text next
+card_done style fs start line text next puts empty put =
     record {
       narrow = wide_card style fs ∙ puts.0;
       text =
           put
-          ∙ ap (λ t. text ++ t) (same ∙ end ∙ ap (λ l. l ++ 10 ∷ []) (puts.1 ∙ ap (λ l. with_fields style l fs) empty)
+          ∙ ap (λ t. text ++ t) (ap (λ l. l ++ 10 ∷ []) (puts.1 ∙ ap (λ l. with_fields style l fs) empty)
           ∙ sym (append-nil (with_fields style [] fs ++ 10 ∷ [])));
     }

@@ -3,7 +3,6 @@ use Rattle.std.specs.Prelude.{ℕ, ◌≡◌, ⊤, Bool, false, Option, Some, No
 use Rattle.std.specs.Prelude.{Result, Ok, Err, List, [], ◌∷◌, ◌++◌, map, find, codes}
 use Rattle.std.specs.Borrow.{Bor}
 use Rattle.spec_model.specs.Model.{Model}
-use Rattle.mps_write.specs.declared.line.Field as code
 use Rattle.spec_mps.specs.declared.style.Style.{Style}
 use Rattle.spec_mps.specs.declared.style.Style.TheVariants.{Free, Fixed}
 use Rattle.spec_mps.specs.Fields.{Field, Fields}
@@ -13,9 +12,9 @@ use Rattle.spec_mps.specs.Written.{ranges_cards, bounds_cards, section_card, too
 use Rattle.mps_write.specs.declared.fault.WriteFault.{WriteFault}
 use Rattle.mps_write.specs.declared.fault.WriteFault.TheVariants.{TooWide, NoMemory}
 
--- fields of the code, with their bytes
-abbrev pub fields_of : List (code.Field (Bor (List ℕ))) → Fields
-fields_of fields = map (λ f. record { number = f.number; text = f.text.now }) fields
+-- numbers and texts as fields
+abbrev pub fields_of : List (ℕ × Bor (List ℕ)) → Fields
+fields_of fields = map (λ f. record { number = f.0; text = f.1.now }) fields
 
 -- free form has room for each field
 abbrev pub is_wide_in : Style → Field → Bool

@@ -43,11 +43,12 @@ fn pad(width: usize, line: &mut Bytes) -> Result<(), AllocError>
     Ok(())
 }
 
-/// A field of a card, by its number in fixed form, over the type T of texts.
-#[derive(Drop)]
-pub(crate) struct Field<T> {
-    pub number: u32,
-    pub text: T,
+// A line after a text.
+fn add_line(line: &[u8], to: &mut Bytes) -> Result<(), AllocError>
+    ensures { OnOk result (to.new ≡ to.old ++ (line.now ++ 10 ∷ [])) }
+{
+    to.extend(line)?;
+    to.push(b'\n')
 }
 
 /// What cards are written in, and where their memory comes from.
@@ -75,27 +76,26 @@ impl Writer {
         self.style == Style::Fixed && text.len() > field_width(number)
     }
 
-    // Fields after a line.
-    fn fields(&self, fields: &[Field<&[u8]>], line: &mut Bytes) -> Result<(), WriteFault>
+    // Fields after a line, each with its number in fixed form.
+    fn fields(&self, fields: &[(u32, &[u8])], line: &mut Bytes) -> Result<(), WriteFault>
         ensures { PutsFields self.now.style (fields_of fields.now) line.old line.new result }
     {
-        for field in fields {
-            if self.is_wide(field.number, field.text) {
-                return Err(WriteFault::TooWide(Bytes::from_slice(self.alloc, field.text)?));
+        for (number, text) in fields {
+            if self.is_wide(*number, text) {
+                return Err(WriteFault::TooWide(Bytes::from_slice(self.alloc, text)?));
             }
-            self.place(field.number, field.text, line)?;
+            self.place(*number, text, line)?;
         }
         Ok(())
     }
 
-    /// A data card.
-    pub fn data(&self, fields: &[Field<&[u8]>], to: &mut Bytes) -> Result<(), WriteFault>
+    /// A data card of these fields, each with its number in fixed form.
+    pub fn data(&self, fields: &[(u32, &[u8])], to: &mut Bytes) -> Result<(), WriteFault>
         ensures { Adds self.now.style (written.Data (fields_of fields.now) ∷ []) to.old to.new result }
     {
         let mut line = Bytes::new(self.alloc);
         self.fields(fields, &mut line)?;
-        line.push(b'\n')?;
-        to.extend(line.as_slice())?;
+        add_line(line.as_slice(), to)?;
         Ok(())
     }
 
@@ -103,10 +103,7 @@ impl Writer {
     pub fn section(&self, word: &[u8], to: &mut Bytes) -> Result<(), AllocError>
         ensures { OnOk result (IsAdded self.now.style (written.section_card word.now ∷ []) to.old to.new) }
     {
-        let mut line = Bytes::from_slice(self.alloc, word)?;
-        line.push(b'\n')?;
-        to.extend(line.as_slice())?;
-        Ok(())
+        add_line(word, to)
     }
 
     /// The card of a model's name.
@@ -117,8 +114,6 @@ impl Writer {
         if !name.is_empty() {
             self.place(3, name, &mut line)?;
         }
-        line.push(b'\n')?;
-        to.extend(line.as_slice())?;
-        Ok(())
+        add_line(line.as_slice(), to)
     }
 }

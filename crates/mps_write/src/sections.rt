@@ -8,7 +8,7 @@ ghost use Rattle.mps_write.specs.Adds.{Adds};
 ghost use Rattle.mps_write.specs.RowNumbers.{number_cards};
 
 use crate::fault::WriteFault;
-use crate::line::{Field, Writer};
+use crate::line::Writer;
 use crate::signs::{is_up_from_zero, is_zero};
 use lp_base::Bytes;
 use lp_frac::{Frac, are_same, neg};
@@ -34,18 +34,11 @@ fn kind_word(kind: Kind) -> &'static [u8]
     }
 }
 
-fn field(number: u32, text: &[u8]) -> Field<&[u8]>
-    ensures number { result.number ≡ number }
-    ensures text { result.text.now ≡ text.now }
-{
-    Field { number, text }
-}
-
 impl Writer {
     fn type_card(&self, word: &[u8], name: &[u8], to: &mut Bytes) -> Result<(), WriteFault>
         ensures { Adds self.now.style (written.type_card word.now name.now ∷ []) to.old to.new result }
     {
-        self.data(&[field(1, word), field(2, name)], to)
+        self.data(&[(1, word), (2, name)], to)
     }
 
     fn number_card(
@@ -58,16 +51,18 @@ impl Writer {
         ensures { Adds self.now.style (written.number_card group.now name.now value.now ∷ []) to.old to.new result }
     {
         let text = number_text(self.alloc, *value)?;
-        self.data(
-            &[field(2, group), field(3, name), field(4, text.as_slice())],
-            to,
-        )
+        self.data(&[(2, group), (3, name), (4, text.as_slice())], to)
     }
 
-    fn unbound_card(&self, kind: &[u8], name: &[u8], to: &mut Bytes) -> Result<(), WriteFault>
+    fn unbound_card<'a>(
+        &self,
+        kind: &'a [u8],
+        name: &'a [u8],
+        to: &mut Bytes,
+    ) -> Result<(), WriteFault>
         ensures { Adds self.now.style (written.unbound_card kind.now name.now ∷ []) to.old to.new result }
     {
-        self.data(&[field(1, kind), field(2, b"BND"), field(3, name)], to)
+        self.data(&[(1, kind), (2, b"BND"), (3, name)], to)
     }
 
     fn bound_card(
@@ -81,12 +76,7 @@ impl Writer {
     {
         let text = number_text(self.alloc, *value)?;
         self.data(
-            &[
-                field(1, kind),
-                field(2, b"BND"),
-                field(3, name),
-                field(4, text.as_slice()),
-            ],
+            &[(1, kind), (2, b"BND"), (3, name), (4, text.as_slice())],
             to,
         )
     }
@@ -246,7 +236,8 @@ impl Writer {
         match lower {
             None => self.upper_cards(name, upper, to),
             Some(l) => match upper {
-                None => self.lower_cards(name, l, to),
+                None if is_zero(l) => Ok(()),
+                None => self.bound_card(b"LO", name, &l, to),
                 Some(u) => self.both_cards(name, l, u, to),
             },
         }
@@ -268,15 +259,6 @@ impl Writer {
                 self.bound_card(b"UP", name, &u, to)
             }
         }
-    }
-
-    fn lower_cards(&self, name: &[u8], lower: Frac, to: &mut Bytes) -> Result<(), WriteFault>
-        ensures { Adds self.now.style (written.bound_cards name.now (Some lower) None) to.old to.new result }
-    {
-        if is_zero(lower) {
-            return Ok(());
-        }
-        self.bound_card(b"LO", name, &lower, to)
     }
 
     fn both_cards(

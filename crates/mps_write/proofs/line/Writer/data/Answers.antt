@@ -1,4 +1,5 @@
 -- A card has a wide field exactly where its fields have one.
+use Rattle.std.proofs.Common.{◌++◌, ◌∷◌, [], ap, ◌∙◌}
 use Rattle.std.proofs.lemmas.Result.{err_from_is_err_and}
 use Rattle.mps_write.specs.Adds.{fields_of}
 use Rattle.mps_write.proofs.FieldSteps.{card_stops, card_done}
@@ -12,5 +13,5 @@ returns-in_err-fields c =
 
 pub returns : goal.returns
 returns c =
-    card_done c.args.self.now.style (fields_of c.args.fields.now) _ _ _ _ _ _ c.in_ok-fields.ensures
-    c.new-line.ensures c.in_ok-push.ensures.ok c.as_slice.ensures c.in_ok-extend.ensures.ok
+    card_done c.args.self.now.style (fields_of c.args.fields.now) _ _ _ _ c.in_ok-fields.ensures c.new-line.ensures
+    (c.in_ok-add_line.ensures ∙ ap (λ line. c.args.to.now ++ (line ++ 10 ∷ [])) c.as_slice.ensures)

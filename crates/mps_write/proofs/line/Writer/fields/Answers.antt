@@ -3,21 +3,21 @@ use Rattle.std.proofs.Common.{refl, sym, ◌∙◌, ap, Some, arith}
 use Rattle.mps_write.proofs.FieldSteps.{puts_next, puts_stops, puts_done}
 use Rattle.mps_write.proofs.line.Writer.fields.Goals as goal
 
-pub loop-field-init : goal.loop-field-init
-loop-field-init c = (refl, refl)
+pub loop-number-init : goal.loop-number-init
+loop-number-init c = (refl, refl)
 
-pub loop-field-preserved : goal.loop-field-preserved
-loop-field-preserved c =
-    puts_next c.args.self.now.style c.args.fields.now c.loop-field.field-index _
-    (omega arith) c.args.line.now c.loop-field.line c.place.new.line c.loop-field.invariant.0 c.loop-field.invariant.1
+pub loop-number-preserved : goal.loop-number-preserved
+loop-number-preserved c =
+    puts_next c.args.self.now.style c.args.fields.now c.loop-number.number-index _
+    (omega arith) c.args.line.now c.loop-number.line c.place.new.line c.loop-number.invariant.0 c.loop-number.invariant.1
     (sym c.is_wide.ensures ∙ c.if-is_wide.false) c.in_ok-place.ensures
 
 pub returns-then-is_wide : goal.returns-then-is_wide
 returns-then-is_wide c =
-    puts_stops c.args.self.now.style c.args.fields.now c.loop-field.field-index _ (omega arith) c.loop-field.invariant.0
+    puts_stops c.args.self.now.style c.args.fields.now c.loop-number.number-index _ (omega arith) c.loop-number.invariant.0
     (sym c.is_wide.ensures ∙ c.if-is_wide.true) ∙ ap Some (sym c.in_ok-from_slice.ensures)
 
 pub returns : goal.returns
 returns c =
-    puts_done c.args.self.now.style c.args.fields.now c.loop-field.field-index c.args.line.now c.loop-field.line
-    (omega arith) c.loop-field.invariant.0 c.loop-field.invariant.1
+    puts_done c.args.self.now.style c.args.fields.now c.loop-number.number-index c.args.line.now c.loop-number.line
+    (omega arith) c.loop-number.invariant.0 c.loop-number.invariant.1

@@ -4,7 +4,7 @@ use Rattle.spec_mps.specs.Written.{with_fields}
 use Rattle.mps_write.specs.Adds.{fields_of, wide_field}
 use Rattle.mps_write.proofs.line.Writer.fields.Given as goal
 
-abbrev pub invariant-loop-field : goal.invariant-loop-field
-invariant-loop-field l =
-    (wide_field l.self.style (fields_of (take l.field-index l.fields)) ≡ None)
-    × (l.line ≡ with_fields l.self.style l.initial.line (fields_of (take l.field-index l.fields)))
+abbrev pub invariant-loop-number : goal.invariant-loop-number
+invariant-loop-number l =
+    (wide_field l.self.style (fields_of (take l.number-index l.fields)) ≡ None)
+    × (l.line ≡ with_fields l.self.style l.initial.line (fields_of (take l.number-index l.fields)))
