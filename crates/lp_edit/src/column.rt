@@ -33,10 +33,10 @@ pub(crate) fn entries_of(
     for place in 0..pairs.len() {
         let (name, value) = &pairs.as_slice()[place];
         let Some(row) = model.row_of(name.as_slice()) else {
-            return Err(EditFault::UnknownName(pairs.take_name(place)).into());
+            return Err(EditError::Fault(EditFault::UnknownName(pairs.take_name(place))));
         };
         if is_given(name.as_slice(), &pairs.as_slice()[..place]) {
-            return Err(EditFault::Repeated(pairs.take_name(place)).into());
+            return Err(EditError::Fault(EditFault::Repeated(pairs.take_name(place))));
         }
         put_entry(&mut entries, row, *value)?;
     }

@@ -49,13 +49,13 @@ fn add_row(model: &mut Model, row: Row) -> Result<(), EditError>
     ensures { Leaves (edited.new_row model.old row) true model.old model.new result }
 {
     if !is_row_name(row.name.as_slice()) {
-        return Err(EditFault::BadName.into());
+        return Err(EditError::Fault(EditFault::BadName));
     }
     if is_row_taken(model, row.name.as_slice()) {
-        return Err(EditFault::Taken(row.name).into());
+        return Err(EditError::Fault(EditFault::Taken(row.name)));
     }
     if model.rows() >= MAX_ROWS {
-        return Err(EditFault::Limit(Which::Rows, MAX_ROWS).into());
+        return Err(EditError::Fault(EditFault::Limit(Which::Rows, MAX_ROWS)));
     }
     model.push_row(row)?;
     Ok(())
@@ -80,13 +80,13 @@ fn add_column(
     ensures { Leaves (edited.new_column model.old name cost pairs.old) true model.old model.new result }
 {
     if !is_name(name.as_slice()) {
-        return Err(EditFault::BadName.into());
+        return Err(EditError::Fault(EditFault::BadName));
     }
     if model.col_of(name.as_slice()).is_some() {
-        return Err(EditFault::Taken(name).into());
+        return Err(EditError::Fault(EditFault::Taken(name)));
     }
     if model.cols() >= MAX_COLUMNS {
-        return Err(EditFault::Limit(Which::Columns, MAX_COLUMNS).into());
+        return Err(EditError::Fault(EditFault::Limit(Which::Columns, MAX_COLUMNS)));
     }
     let entries = entries_of(alloc, model, pairs)?;
     model.push_col(Column {

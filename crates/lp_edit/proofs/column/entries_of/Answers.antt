@@ -16,21 +16,21 @@ bounds-as_slice-place c = rw (c.as_slice.ensures, c.loop-place.invariant.pairs) 
 
 pub returns-in_default-clause-answer : goal.returns-in_default-clause-answer
 returns-in_default-clause-answer c =
-    rw c.into.ensures (sym c.loop-place.invariant.answer
+    sym c.loop-place.invariant.answer
     ∙ unknown_read c.args.model.now _ c.args.pairs.now c.loop-place.place c.loop-place.entries
     c.index-as_slice-place.result _ _ (c.as_slice.ensures ∙ c.loop-place.invariant.pairs) c.index-as_slice-place.is
     (omega arith) c.as_slice-in-loop-place.ensures c.row_of.ensures.value _ _ c.loop-place.invariant.pairs
-    c.take_name.ensures c.in_default.is)
+    c.take_name.ensures c.in_default.is
 
 pub returns-then-is_given-clause-answer : goal.returns-then-is_given-clause-answer
 returns-then-is_given-clause-answer c =
     let given = given_so _ _ c.args.pairs.now _ _ _ _ c.as_slice-in-loop-place-2.ensures
     (c.as_slice-in-loop-place-3.ensures ∙ c.loop-place.invariant.pairs) c.is_given.ensures c.if-is_given.true in
-    rw c.into-then-is_given.ensures (sym c.loop-place.invariant.answer
+    sym c.loop-place.invariant.answer
     ∙ repeated_read c.args.model.now _ c.args.pairs.now c.loop-place.place c.loop-place.entries
     c.index-as_slice-place.result _ _ (c.as_slice.ensures ∙ c.loop-place.invariant.pairs) c.index-as_slice-place.is
     (omega arith) c.as_slice-in-loop-place.ensures c.row_of.ensures.value _ _ c.loop-place.invariant.pairs
-    c.take_name-then-is_given.ensures c.in-Some.row c.in-Some.is given)
+    c.take_name-then-is_given.ensures c.in-Some.row c.in-Some.is given
 
 pub loop-place-preserved : goal.loop-place-preserved
 loop-place-preserved c =
