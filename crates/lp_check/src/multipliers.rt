@@ -79,15 +79,18 @@ fn row_tight(model: &Model, x: &Fracs, y: &Fracs, i: u32) -> Result<(), CheckSto
     ensures { result ≡ run.row_tight_run (Some largest) model.now x.now y.now i }
 {
     let multiplier = part(y, i);
-    if is_positive(multiplier) {
-        let sum = activity(model, x, i)?;
-        need(4, stands_at(lower_limit(model.row(i))?, sum))
-    } else if is_negative(multiplier) {
-        let sum = activity(model, x, i)?;
-        need(4, stands_at(upper_limit(model.row(i))?, sum))
-    } else {
-        Ok(())
+    let is_above = is_positive(multiplier);
+    if !is_above && !is_negative(multiplier) {
+        return Ok(());
     }
+    let sum = activity(model, x, i)?;
+    let row = model.row(i);
+    let limit = if is_above {
+        lower_limit(row)
+    } else {
+        upper_limit(row)
+    };
+    need(4, stands_at(limit?, sum))
 }
 
 // Each row's sum stands at the limit that its multiplier asks for.
