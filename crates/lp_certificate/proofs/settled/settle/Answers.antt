@@ -1,6 +1,7 @@
 -- The first part that does not fit, and the end of the parts.
+use Rattle.std.proofs.Common.{sym}
 use Rattle.std.proofs.lemmas.Result.{err_from_is_err_and}
-use Rattle.lp_certificate.proofs.Places.{at_start, blank_stopped}
+use Rattle.lp_certificate.proofs.Places.{at_start, one_more, stopped, blank_stopped, all_put}
 use Rattle.lp_certificate.proofs.settled.settle.Goals as goal
 
 pub returns-in_err-cert-clause-answer : goal.returns-in_err-cert-clause-answer
@@ -13,3 +14,26 @@ loop-i-init c = record {
   fits = c.in_ok-cert.ensures.fits;
   way = at_start _ _ _ c.in_ok-cert.ensures.answer;
 }
+
+pub loop-i-preserved : goal.loop-i-preserved
+loop-i-preserved c =
+    let whole = sym c.as_slice-parts.ensures in
+    record {
+      fits = c.put.ensures.fits;
+      way =
+          one_more c.args.model.now c.args.raw.now c.loop-i.i c.index-parts-i.result c.loop-i.cert c.put.new.cert
+          (rw whole c.loop-i-test.true) (rw whole (sym c.index-parts-i.is)) c.loop-i.invariant.way
+          (rw whole c.in_default.ensures.answer);
+    }
+
+pub returns-in-Err-clause-answer : goal.returns-in-Err-clause-answer
+returns-in-Err-clause-answer c =
+    let whole = sym c.as_slice-parts.ensures in
+    stopped c.args.model.now c.args.raw.now c.loop-i.i c.index-parts-i.result c.loop-i.cert c.in-Err.error
+    (rw whole c.loop-i-test.true) (rw whole (sym c.index-parts-i.is)) c.loop-i.invariant.way
+    (rw whole c.in-Err.ensures.answer)
+
+pub returns-clause-answer : goal.returns-clause-answer
+returns-clause-answer c =
+    all_put c.args.model.now c.args.raw.now c.loop-i.i c.loop-i.cert
+    (rw (sym c.as_slice-parts.ensures) c.loop-i-test.false) c.loop-i.invariant.way
