@@ -1,3 +1,4 @@
+pub mod Blanks
 pub mod Inside
 pub mod Lines
 pub mod Places
