@@ -10,9 +10,12 @@ use Rattle.spec_warm.specs.Solve.{SolveEnd}
 use Rattle.spec_shape.specs.Words.{IsWellFormed, shape_of}
 use Rattle.spec_reads.specs.Reads.{Looked, front}
 use Rattle.spec_server.specs.Answers.{number_limit, MayAnswer, IsSolved}
-use Rattle.spec_server.specs.Machine.{ExactAsk, State}
+use Rattle.spec_server.specs.declared.asks.Reply.TheVariants as reply
+use Rattle.spec_server.specs.Machine.{ExactAsk, ExactReply, State, edit_refusal}
 use Rattle.spec_server.specs.Step as step
 use Rattle.spec_server.specs.Halves.{Awaits, Nothing, WhatIsFound, WhatBecameOf}
+use Rattle.lp_edit.specs.declared.edit.EditError.{EditError}
+use Rattle.lp_edit.specs.declared.edit.EditError.TheVariants as edits
 use Rattle.lp_session.specs.declared.stage.Begun.{Begun}
 use Rattle.lp_session.specs.declared.stage.Begun.TheVariants as begun
 use Rattle.lp_session.specs.declared.stage.Pending.{Pending}
@@ -44,6 +47,11 @@ LeavesBasis f other = Unit {0}
 abbrev pub IsSolvedBy : Option Model → ℕ → Looked → SolveEnd → Type 0
 IsSolvedBy None budget found solved = ⊥
 IsSolvedBy (Some m) budget found solved = IsSolved m budget (step.handed_by found) solved
+
+-- what is replied to an edit that is not applied
+abbrev pub reply_unapplied : EditError → ExactReply
+reply_unapplied (edits.Fault fault) = edit_refusal fault
+reply_unapplied edits.NoMemory = reply.Memory
 
 -- ---- where a session is in its ask
 

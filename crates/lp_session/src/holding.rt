@@ -5,7 +5,7 @@ ghost use Rattle.spec_server.specs.Step as step;
 ghost use Rattle.spec_server.specs.declared.asks.Ask.TheVariants as asks;
 ghost use Rattle.spec_server.specs.declared.asks.Reply.TheVariants as replies;
 ghost use Rattle.spec_server.specs.declared.command.Plain.TheVariants as commands;
-ghost use Rattle.lp_session.specs.Stages.{IsFormHeld, IsEndOf, FitsForm, BeginsSo, WorksSo};
+ghost use Rattle.lp_session.specs.Stages.{IsFormHeld, IsEndOf, FitsForm, BeginsSo, WorksSo, reply_unapplied};
 
 use crate::solved::{answer_of, certificate_lines, solved_within};
 use crate::stage::{Begun, LastAnswer, Pending, Worked};
@@ -117,8 +117,7 @@ impl Holding {
                 drop(self.last.take()); // of the model before the edit
                 Reply::Done
             }
-            Err(EditError::Fault(fault)) => Reply::Refused(refusal_of(fault)),
-            Err(EditError::NoMemory) => Reply::Memory,
+            Err(error) => reply_unapplied(error),
         }
     }
 
@@ -219,7 +218,17 @@ impl Holding {
         let Some(model) = &self.model else {
             return Reply::Refused(Refusal::NoModel);
         };
-        text_of(alloc, model, style)
+        match style {
+            Style::Free => match free(alloc, model) {
+                Ok(text) => Reply::Written(text),
+                Err(_) => Reply::Memory,
+            },
+            Style::Fixed => match fixed(alloc, model) {
+                Ok(text) => Reply::Written(text),
+                Err(WriteFault::TooWide(item)) => Reply::Refused(Refusal::FixedWide(item)),
+                Err(WriteFault::NoMemory) => Reply::Memory,
+            },
+        }
     }
 
     fn check(&self, alloc: Global, raw: &RawCertificate) -> Reply
@@ -232,16 +241,19 @@ impl Holding {
     }
 }
 
-// Why an edit is refused.
-fn refusal_of(fault: EditFault) -> Refusal
-    ensures { machine.edit_refusal fault ≡ replies.Refused result }
+// What is replied to an edit that is not applied.
+fn reply_unapplied(error: EditError) -> Reply
+    ensures { result ≡ reply_unapplied error }
 {
-    match fault {
-        EditFault::UnknownName(name) => Refusal::Name(name),
-        EditFault::Taken(name) => Refusal::Taken(name),
-        EditFault::Limit(which, count) => Refusal::Limit(which, count),
-        EditFault::BadName => Refusal::BadName,
-        EditFault::Repeated(name) => Refusal::Repeated(name),
+    match error {
+        EditError::Fault(EditFault::UnknownName(name)) => Reply::Refused(Refusal::Name(name)),
+        EditError::Fault(EditFault::Taken(name)) => Reply::Refused(Refusal::Taken(name)),
+        EditError::Fault(EditFault::Limit(which, count)) => {
+            Reply::Refused(Refusal::Limit(which, count))
+        }
+        EditError::Fault(EditFault::BadName) => Reply::Refused(Refusal::BadName),
+        EditError::Fault(EditFault::Repeated(name)) => Reply::Refused(Refusal::Repeated(name)),
+        EditError::NoMemory => Reply::Memory,
     }
 }
 
@@ -251,19 +263,5 @@ fn pivots_of(solved: &End) -> Option<u64>
     match solved {
         End::Ended { pivots, .. } => Some(*pivots),
         End::Past(_) | End::Spent => None,
-    }
-}
-
-fn text_of(alloc: Global, model: &Model, style: Style) -> Reply
-    ensures { (result ≡ machine.text_reply model.now style) ⊎ (result ≡ replies.Memory) }
-{
-    let written = match style {
-        Style::Free => free(alloc, model).map_err(WriteFault::from),
-        Style::Fixed => fixed(alloc, model),
-    };
-    match written {
-        Ok(text) => Reply::Written(text),
-        Err(WriteFault::TooWide(item)) => Reply::Refused(Refusal::FixedWide(item)),
-        Err(WriteFault::NoMemory) => Reply::Memory,
     }
 }

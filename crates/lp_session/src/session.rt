@@ -74,11 +74,11 @@ impl Session {
         requires { MayBeFound self.old.awaits found }
         ensures { NextFits self.old.state found result self.new }
     {
-        let Stage::Looking(form) = mem::replace(&mut self.stage, Stage::Rest) else {
+        let Stage::Looking(form) = &self.stage else {
             unreachable!()
         };
-        let worked = self.holding.work(alloc, &form, found);
-        drop(form);
+        let worked = self.holding.work(alloc, form, found);
+        drop(mem::replace(&mut self.stage, Stage::Rest));
         match worked {
             Worked::Reply(reply) => Next::Reply(reply),
             Worked::Publish(pending) => {
