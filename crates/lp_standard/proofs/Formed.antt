@@ -1,8 +1,8 @@
 -- The form of a model from its parts, and why there is none.
 use Rattle.std.proofs.Common.{◌≡◌, ℕ, ◌+◌, ◌<◌, ◌≤◌, List, [], ◌∷◌, ◌++◌, length, take, get_or, map}
-use Rattle.std.proofs.Common.{replicate, Option, Result, Ok, Err, sym, subst, ap, ap₂, ◌∙◌, arith}
+use Rattle.std.proofs.Common.{replicate, Option, Some, Result, Ok, Err, sym, subst, ap, ap₂, ◌∙◌, arith}
 use Rattle.std.specs.Prelude.{All}
-use Rattle.std.proofs.lemmas.List.{length-append, length-map, length-replicate, map_more}
+use Rattle.std.proofs.lemmas.List.{length-append, length-map, length-replicate, map_more, append_assoc, map-append}
 use Rattle.spec_exact.specs.Fraction.{ℚ, 0ℚ}
 use Rattle.spec_model.specs.Model.{Model, ExactColumn, width, height, row, no_column}
 use Rattle.spec_model.specs.Kept.{AreEntries}
@@ -11,6 +11,9 @@ use Rattle.spec_simplex.specs.declared.ends.FormFault.TheVariants as fault
 use Rattle.spec_exact.specs.Run.{◌>>=◌, refused_as, list_run, steps}
 use Rattle.spec_simplex.specs.Form.{Form, IsForm, limits_run, column_clash, least_cost, formed, form_of}
 use Rattle.lp_standard.specs.Answer.{IsFaultOf, IsStopOf}
+use Rattle.spec_exact.proofs.Stops.{list_more}
+use Rattle.lp_frac.specs.Narrow.{largest}
+use Rattle.lp_standard.specs.Bounds.{AreBounds}
 use Rattle.lp_standard.specs.Fault.{stop_of}
 use Rattle.lp_frac.specs.declared.stop.Stop.{Stop}
 use Rattle.lp_standard.specs.declared.fault.Clash.{Clash}
@@ -23,6 +26,25 @@ pub entries_more : (xs : List ExactColumn) (j : ℕ) (done : List (List (ℕ × 
     done ++ e ∷ [] ≡ map (λ c. c.entries) (take (j + 1) xs)
 entries_more xs j done e h g l =
     ap₂ (λ ys y. ys ++ y ∷ []) h g ∙ sym (map_more (λ (c : ExactColumn). c.entries) xs j no_column l)
+
+-- ---- one row more
+pushed : {A B : Type 0} (f : A → B) (front : List B) (done : List A) (a : A) (all : List B) →
+    all ≡ front ++ map f done → all ++ f a ∷ [] ≡ front ++ map f (done ++ a ∷ [])
+pushed f front done a all h =
+    ap (λ all. all ++ f a ∷ []) h
+    ∙ append_assoc front (map f done) (f a ∷ [])
+    ∙ ap (λ back. front ++ back) (sym (map-append f done (a ∷ [])))
+
+pub row_more : (m : Model) (lower upper : List (Option ℚ)) (i : ℕ) (least most : Option ℚ) →
+    AreBounds m i lower upper → limits_run (Some largest) (row m i) ≡ Ok (least, most) →
+    AreBounds m (i + 1) (lower ++ least ∷ []) (upper ++ most ∷ [])
+row_more m lower upper i least most b e =
+    record {
+      limits = b.limits ++ (least, most) ∷ [];
+      taken = list_more i (λ i. limits_run (Some largest) (row m i)) b.limits (least, most) b.taken e;
+      lower_is = pushed (λ l. l.0) (map (λ c. c.lower) m.columns) b.limits (least, most) lower b.lower_is;
+      upper_is = pushed (λ l. l.1) (map (λ c. c.upper) m.columns) b.limits (least, most) upper b.upper_is;
+    }
 
 -- ---- the parts are those of a form
 module _ (m : Model) (limits : List (Option ℚ × Option ℚ)) (rows cols : ℕ)

@@ -1,3 +1,3 @@
 pub mod Answer
+pub mod Bounds
 pub mod Fault
-pub mod Side

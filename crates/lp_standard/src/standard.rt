@@ -7,7 +7,7 @@ ghost use Rattle.spec_exact.specs.Run.{list_run, steps};
 ghost use Rattle.spec_simplex.specs.Form as forms;
 ghost use Rattle.lp_frac.specs.Narrow.{largest};
 ghost use Rattle.lp_standard.specs.Answer.{IsFaultOf, IsStopOf};
-ghost use Rattle.lp_standard.specs.Side.{on_side};
+ghost use Rattle.lp_standard.specs.Bounds.{AreBounds};
 
 use crate::fault::{FormStop, stop_of};
 use crate::limits::{clash, limits};
@@ -18,28 +18,37 @@ use std::alloc::{AllocError, Global};
 
 type FormFault = spec_simplex::FormFault<Frac>;
 
-// The least and the most that a row's sum may be.
-type Limits = (Option<Frac>, Option<Frac>);
-
-fn push_limits(all: &mut Vec<Limits>, limits: Limits) -> Result<(), AllocError>
-    ensures { OnOk result (all.new.items ≡ all.old.items ++ limits ∷ []) }
+fn push_bounds(
+    lower: &mut BoundList,
+    upper: &mut BoundList,
+    least: Option<Frac>,
+    most: Option<Frac>,
+) -> Result<(), AllocError>
+    ensures lower { OnOk result (lower.new ≡ lower.old ++ least ∷ []) }
+    ensures upper { OnOk result (upper.new ≡ upper.old ++ most ∷ []) }
 {
-    all.push(limits)?;
+    lower.push(least)?;
+    upper.push(most)?;
     Ok(())
 }
 
-// The limits of all rows, the lower and the upper one of each.
-fn all_limits(alloc: Global, model: &Model) -> Result<Vec<Limits>, FormStop>
-    ensures ok { IfOk result
-        (λ v. list_run (height model.now) (λ i. forms.limits_run (Some largest) (row model.now i)) ≡ Ok v.items) }
+// Puts the bounds of all columns into both lists, and then the limits of all rows.
+fn fill_bounds(model: &Model, lower: &mut BoundList, upper: &mut BoundList) -> Result<(), FormStop>
+    requires lower { lower.old ≡ [] }
+    requires upper { upper.old ≡ [] }
+    ensures ok { OnOk result (AreBounds model.now (height model.now) lower.new upper.new) }
     ensures err { IfErr result
         (IsStopOf (list_run (height model.now) (λ i. forms.limits_run (Some largest) (row model.now i)))) }
 {
-    let mut all = Vec::new(alloc);
-    for i in 0..model.rows() {
-        push_limits(&mut all, limits(model.row(i))?)?;
+    for j in 0..model.cols() {
+        let column = model.col(j);
+        push_bounds(lower, upper, column.lower, column.upper)?;
     }
-    Ok(all)
+    for i in 0..model.rows() {
+        let (least, most) = limits(model.row(i))?;
+        push_bounds(lower, upper, least, most)?;
+    }
+    Ok(())
 }
 
 // The first column whose bounds clash, if there is one.
@@ -64,44 +73,6 @@ fn entries(alloc: Global, model: &Model) -> Result<Columns, AllocError>
         entries.push(Entries::from_vec(column))?;
     }
     Ok(entries)
-}
-
-// Which of two limits is meant.
-#[derive(Clone, Copy)]
-enum Side {
-    Lower,
-    Upper,
-}
-
-// The limit on this side.
-fn on_side(side: Side, lower: Option<Frac>, upper: Option<Frac>) -> Option<Frac>
-    ensures { result ≡ on_side side lower upper }
-{
-    match side {
-        Side::Lower => lower,
-        Side::Upper => upper,
-    }
-}
-
-// The bounds on this side of all columns, and then the limits on it of all rows.
-fn bounds(
-    alloc: Global,
-    model: &Model,
-    limits: &[Limits],
-    side: Side,
-) -> Result<BoundList, AllocError>
-    ensures { IfOk result (λ v. v
-        ≡ map (λ c. on_side side c.lower c.upper) model.now.columns ++ map (λ l. on_side side l.0 l.1) limits.now) }
-{
-    let mut bounds = BoundList::new(alloc);
-    for j in 0..model.cols() {
-        let column = model.col(j);
-        bounds.push(on_side(side, column.lower, column.upper))?;
-    }
-    for (lower, upper) in limits {
-        bounds.push(on_side(side, *lower, *upper))?;
-    }
-    Ok(bounds)
 }
 
 // The cost to be made least.
@@ -136,13 +107,13 @@ pub fn form(alloc: Global, model: &Model) -> Result<Form, FormStop>
     ensures ok { IfOk result (λ f. forms.form_of (Some largest) model.now ≡ Ok f) }
     ensures err { IfErr result (IsFaultOf (forms.form_of (Some largest) model.now)) }
 {
-    let limits = all_limits(alloc, model)?;
+    let mut lower = BoundList::new(alloc);
+    let mut upper = BoundList::new(alloc);
+    fill_bounds(model, &mut lower, &mut upper)?;
     if let Err(fault) = first_clash(model) {
         return Err(stop_of(fault));
     }
     let entries = entries(alloc, model)?;
-    let lower = bounds(alloc, model, &limits, Side::Lower)?;
-    let upper = bounds(alloc, model, &limits, Side::Upper)?;
     let cost = costs(alloc, model)?;
     Ok(Form::new(model.rows(), model.cols(), entries, lower, upper, cost))
 }

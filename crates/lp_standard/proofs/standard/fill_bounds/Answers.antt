@@ -1,0 +1,19 @@
+-- A refused row stops the run, and one row more.
+use Rattle.std.proofs.Common.{sym}
+use Rattle.std.proofs.lemmas.Result.{err_from_is_err_and}
+use Rattle.spec_exact.proofs.Stops.{list_stops}
+use Rattle.lp_standard.proofs.Formed.{row_more}
+use Rattle.lp_standard.proofs.standard.fill_bounds.Goals as goal
+
+pub returns-in_err-least-clause-err : goal.returns-in_err-least-clause-err
+returns-in_err-least-clause-err c =
+    let p = err_from_is_err_and c.from_residual-in_err-least.result c.from_residual-in_err-least.ensures.1 in
+    let step = rw c.row.ensures at c.in_err-least.ensures in
+    rw (p.1, p.2, ← c.rows-i-end.ensures.value)
+    (list_stops _ _ _ _ _ c.loop-i-test.true c.loop-i.invariant.taken (sym step))
+
+pub loop-i-preserved : goal.loop-i-preserved
+loop-i-preserved c =
+    let step = rw c.row.ensures at c.in_ok-least.ensures in
+    rw (c.in_ok-push_bounds-2.ensures.lower, c.in_ok-push_bounds-2.ensures.upper)
+    (row_more c.args.model.now _ _ c.loop-i.i c.in_ok-least.least c.in_ok-least.most c.loop-i.invariant (sym step))
