@@ -1,5 +1,5 @@
 -- The cold solve by its form, and certificates that fit their model.
-use Rattle.std.proofs.Common.{◌≡◌, ℕ, ◌<◌, Option, Result, Ok, Err, refl, sym, subst, ap, ◌∙◌}
+use Rattle.std.proofs.Common.{◌≡◌, ℕ, ◌<◌, Option, Some, None, Result, Ok, Err, refl, sym, subst, ap, ◌∙◌}
 use Rattle.spec_exact.specs.Fraction.{ℚ}
 use Rattle.spec_exact.specs.declared.past.Past.{Past}
 use Rattle.spec_model.specs.Model.{Model, width}
@@ -7,13 +7,15 @@ use Rattle.spec_check.specs.declared.certificate.Certificate.TheVariants as cert
 use Rattle.spec_check.specs.Certificate.{IsFor}
 use Rattle.spec_simplex.specs.declared.ends.FormFault.{FormFault}
 use Rattle.spec_simplex.specs.declared.ends.FormFault.TheVariants as fault
+use Rattle.spec_simplex.specs.declared.ends.PrimalEnd.{PrimalEnd}
 use Rattle.spec_simplex.specs.Form.{Form, form_of}
+use Rattle.spec_simplex.specs.Tableau.{Tableau}
 use Rattle.spec_exact.specs.Run.{Run}
 use Rattle.spec_simplex.specs.Start.{start_of}
 use Rattle.spec_simplex.specs.Phases.{PhasesEnd, phases_run}
 use Rattle.spec_check.specs.declared.solve_end.SolveEnd.TheVariants as outcome
 use Rattle.spec_cold.specs.Accepted.{IsAccepted}
-use Rattle.spec_cold.specs.Cold.{ExactSolveEnd, certificate_of, after_phases, after_form, cold}
+use Rattle.spec_cold.specs.Cold.{ExactSolveEnd, certificate_of, basis_of, answered, after_phases, after_form, cold}
 use Rattle.spec_cold.proofs.Solved.{end_accepted, clash_accepted}
 use Rattle.spec_solve.specs.Order.{cold_by, cold_over}
 use Rattle.lp_standard.specs.Answer.{IsFaultOf}
@@ -22,6 +24,7 @@ use Rattle.lp_standard.specs.declared.fault.Clash.{Clash}
 use Rattle.lp_tableau.specs.Answer.{Stops}
 use Rattle.std.specs.declared.convert.Infallible.{Infallible}
 use Rattle.lp_frac.specs.declared.stop.Stop.TheVariants as stop
+use Rattle.lp_solve.specs.Ends.{end_by}
 use Rattle.lp_solve.proofs.BothPhases.{start_refused}
 
 -- ---- stops as the code has them
@@ -36,6 +39,13 @@ form_stop run s p e h = subst (IsFaultOf run) e h
 pub form_clash : {A : Type 0} (run : Result A (FormFault ℚ)) (s : Stop Clash) (clash : Clash) → s ≡ stop.Cause clash →
     IsFaultOf run s → run ≡ Err (fault.Clash clash.column)
 form_clash run s clash e h = subst (IsFaultOf run) e h
+
+-- ---- the end of both phases, as the code keeps it
+pub finishes : (limit : Option ℕ) (m : Model) (tab : Tableau) (used : ℕ) (end : Option PrimalEnd) →
+    answered limit m (certificate_of (end_by tab used end)) (basis_of (end_by tab used end)) used
+    ≡ after_phases limit m (Ok (end_by tab used end))
+finishes limit m tab used None = refl
+finishes limit m tab used (Some end) = refl
 
 -- ---- the solve
 module _ (limit : Option ℕ) (budget : ℕ) (m : Model) where

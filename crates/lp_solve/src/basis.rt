@@ -1,5 +1,5 @@
 // The bases of ends.
-ghost use Rattle.std.specs.Prelude.{◌≡◌, ◌<◌, ◌++◌, ◌∷◌, [], IfOk, IfSome, OnOk};
+ghost use Rattle.std.specs.Prelude.{◌≡◌, ◌<◌, IfOk, IfSome};
 ghost use Rattle.spec_simplex.specs.Eliminate.{IsBasisOf};
 ghost use Rattle.spec_exact.specs.Run.{made};
 ghost use Rattle.spec_simplex.specs.Tableau.{form_columns};
@@ -23,22 +23,15 @@ fn basis_status(tab: &Tableau, k: u32) -> Status
     }
 }
 
-fn push_status(statuses: &mut Vec<Status>, status: Status) -> Result<(), AllocError>
-    ensures { OnOk result (statuses.new.items ≡ statuses.old.items ++ status ∷ []) }
-{
-    statuses.push(status)?;
-    Ok(())
-}
-
 // The statuses of the model's columns and of the rows' logicals.
 fn statuses(alloc: Global, tab: &Tableau) -> Result<StatusList, AllocError>
     ensures { IfOk result (λ b. b ≡ made (form_columns tab.now) (cold.basis_status tab.now)) }
 {
-    let mut statuses = Vec::new(alloc);
+    let mut statuses = StatusList::new(alloc);
     for k in 0..tab.cols() + tab.rows() {
-        push_status(&mut statuses, basis_status(tab, k))?;
+        statuses.push(basis_status(tab, k))?;
     }
-    Ok(StatusList::from_vec(statuses))
+    Ok(statuses)
 }
 
 // The statuses of the basis of an end by the primal method, which an optimal one has.

@@ -118,13 +118,14 @@ pub(crate) fn certificate_at(
     ensures value { IfOk result (λ c. c ≡ cold.certificate_at tab.now end) }
     ensures narrow { IfOk result IsNarrowCertificate }
 {
+    let x = point(alloc, tab)?;
     match end {
         PrimalEnd::Optimal => Ok(Certificate::Optimal {
-            x: point(alloc, tab)?,
+            x,
             y: multipliers(alloc, tab)?,
         }),
         PrimalEnd::Unbounded { col, up } => Ok(Certificate::Unbounded {
-            x: point(alloc, tab)?,
+            x,
             r: direction(alloc, tab, col, up)?,
         }),
     }

@@ -6,4 +6,4 @@ use Rattle.lp_solve.proofs.basis.statuses.Given as goal
 
 -- the statuses so far are there
 abbrev pub invariant-loop-k : goal.invariant-loop-k
-invariant-loop-k l = l.statuses.items ≡ made l.k (basis_status l.tab)
+invariant-loop-k l = l.statuses ≡ made l.k (basis_status l.tab)

@@ -1,0 +1,22 @@
+-- The certificate fits the model, the basis is one of the form, and the count is that of the end.
+use Rattle.std.proofs.Common.{List, Option, Some, IfSome, sym, subst, ◌∙◌}
+use Rattle.spec_check.specs.Certificate.{IsFor}
+use Rattle.spec_pivot.specs.declared.status.Status.{Status}
+use Rattle.spec_simplex.specs.Eliminate.{IsBasisOf}
+use Rattle.lp_frac.specs.Narrow.{largest}
+use Rattle.lp_solve.proofs.Solved.{finishes}
+use Rattle.lp_solve.proofs.cold.finished.Goals as goal
+
+pub basis_of-requires : goal.basis_of-requires
+basis_of-requires c =
+    subst (λ (o : Option (List Status)). IfSome o (λ basis. IsBasisOf c.args.form.now basis))
+    (sym c.in_ok-statuses.ensures) c.requires.based
+
+pub answered-requires-clause-fits : goal.answered-requires-clause-fits
+answered-requires-clause-fits c =
+    subst (IsFor c.args.model.now) (sym c.in_ok-certificate.ensures.value) c.requires.fits
+
+pub returns-clause-answer : goal.returns-clause-answer
+returns-clause-answer c =
+    rw (c.in_ok-certificate.ensures.value, c.basis_of.ensures, c.in_ok-statuses.ensures) at c.answered.ensures.answer
+    ∙ finishes (Some largest) c.args.model.now c.args.ended.now.tab c.args.ended.now.used c.args.ended.now.end
