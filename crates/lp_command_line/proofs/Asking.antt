@@ -1,76 +1,183 @@
--- What the words of `run` and of `serve` ask, by the numbers that they give.
-use Rattle.std.proofs.Common.{◌≡◌, ℕ, ◌≤◌, ◌<◌, Bool, true, cond, List, [], ◌∷◌, length, map, get_or, Option, Some}
-use Rattle.std.proofs.Common.{None, arith, refl, sym, ap, ◌∙◌}
-use Rattle.std.specs.Prelude.{codes, string_bytes, option_and_then}
+-- What the words after a command's word ask.
+use Rattle.std.proofs.Common.{◌≡◌, ℕ, Bool, true, false, cond, List, [], ◌∷◌, length, map, take, drop, get_or, Option, Some, None}
+use Rattle.std.proofs.Common.{◌<◌, ◌≤◌, ◌-◌, le-leb, arith, refl, sym, ap, ◌∙◌}
+use Rattle.std.specs.Prelude.{codes, option_map, option_and_then}
 use Rattle.spec_mps.specs.Shapes.{look_up}
+use Rattle.spec_mps.specs.declared.style.Style.{Style}
 use Rattle.spec_program.specs.declared.command_line.CommandLine.{CommandLine}
-use Rattle.spec_program.specs.CommandLine as command_lines
-use Rattle.spec_program.specs.CommandLine.{Options, workers_given, links_given, places_given, is_address, run_by}
-use Rattle.spec_program.specs.CommandLine.{run_row, serve_by, serve_with, serve_row, asked_by}
-use Rattle.lp_command_line.specs.declared.line.Given.{Given}
-use Rattle.lp_command_line.specs.Words.{value_in, serve_in, IsGiven}
-use Rattle.lp_command_line.proofs.OptionLemmas.{value-look_up}
+use Rattle.spec_program.specs.declared.command_line.CommandLine.TheVariants.{Read}
+use Rattle.spec_program.specs.declared.command_line.TextCommand.{TextCommand}
+use Rattle.spec_program.specs.CommandLine.{Given, Row, Options, in_pairs, options_in, given_in, asked_by}
+use Rattle.spec_program.specs.CommandLine.{workers_given, links_given, places_given, form_given, run_by, serve_by}
+use Rattle.spec_program.specs.CommandLine.{run_row, text_row, generate_row, generate_by, serve_row, is_address}
+use Rattle.spec_program.specs.CommandLine.{seed_of, row_count_of, column_count_of}
+use Rattle.std.proofs.Math.Seq.{take-length}
+use Rattle.lp_command_line.specs.Words.{value_in, are_in, serve_in}
+use Rattle.lp_command_line.proofs.OptionLemmas.{value-look_up, options-some, options-none}
 
-pub asks-run : (words : List (List ℕ)) (given : Given) (worker_word place_word : Option (List ℕ))
-    (workers places : Option ℕ) →
-    IsGiven (command_lines.given_in 0 (codes "--workers" ∷ codes "--places" ∷ []) words) (Some given) →
-    worker_word ≡ value_in (codes "--workers") (map string_bytes given.options.now) →
-    place_word ≡ value_in (codes "--places") (map string_bytes given.options.now) →
-    workers_given worker_word ≡ workers → places_given place_word ≡ places →
-    asked_by words run_row ≡ run_by workers places
-asks-run words given worker_word place_word workers places is_given is_worker is_place are_workers are_places =
-    ap (option_and_then run_row.asks) is_given.1
-    ∙ ap (λ v. run_by (workers_given v) (places_given (look_up (codes "--places") is_given.0)))
-    (sym (is_worker ∙ value-look_up (codes "--workers") (map string_bytes given.options.now) is_given.0 is_given.2))
-    ∙ ap (λ v. run_by (workers_given worker_word) (places_given v))
-    (sym (is_place ∙ value-look_up (codes "--places") (map string_bytes given.options.now) is_given.0 is_given.2))
-    ∙ ap (λ w. run_by w (places_given place_word)) are_workers
-    ∙ ap (run_by workers) are_places
+-- ---- options after plain words
 
--- ---- an address, and the numbers of a server
+module _ (row : Row) (words : List (List ℕ)) (enough : row.plain ≤ length words) where
+  abbrev given : Options → Given
+  given options = record { plain = take row.plain words; options = options }
 
-abbrev pub serve_names : List (List ℕ)
-serve_names = codes "--workers" ∷ codes "--each" ∷ codes "--places" ∷ []
+  abbrev asked : Option Options → Option CommandLine
+  asked options = option_and_then row.asks (option_map given options)
 
--- one plain word
-pub one-plain : {X : Type 0} (f : X → List ℕ) (plain : List X) (item : X) → 1 ≤ length plain → length plain < 2 →
-    item ≡ get_or plain 0 item → map f plain ≡ f item ∷ []
-one-plain f [] item some few is = absurd (omega (arith, some))
-one-plain f (x ∷ []) item some few is = ap (λ y. f y ∷ []) (sym is)
-one-plain f (x ∷ y ∷ plain) item some few is = absurd (omega (arith, few))
+  asks : asked_by words row ≡ asked (options_in row.names (drop row.plain words))
+  unfolding given_in
+  asks =
+      ap (λ (t : Bool).
+      option_and_then row.asks (cond t (option_map given (options_in row.names (drop row.plain words))) None))
+      (le-leb row.plain (length words) enough)
 
--- more of them ask nothing
-many-plain : {X : Type 0} (f : X → List ℕ) (plain : List X) (options : Options) → 2 ≤ length plain →
-    serve_with (map f plain) options ≡ None
-many-plain f [] options many = absurd (omega (arith, many))
-many-plain f (x ∷ []) options many = absurd (omega (arith, many))
-many-plain f (x ∷ y ∷ plain) options many = refl
+  -- words that are no options ask nothing
+  pub refused : are_in row.names (drop row.plain words) ≡ false → asked_by words row ≡ None
+  refused e = asks ∙ ap asked (options-none row.names (drop row.plain words) e)
 
-pub address-is : (bytes address : List ℕ) (test : Bool) → bytes ≡ address → test ≡ is_address bytes → test ≡ true →
-    is_address address ≡ true
-address-is bytes address test same is holds = ap is_address (sym same) ∙ sym is ∙ holds
+  -- others ask what is asked with the pairs that they are
+  taken : are_in row.names (drop row.plain words) ≡ true →
+      (options : Options) ×
+      (asked_by words row ≡ row.asks (given options)) ×
+      (in_pairs (drop row.plain words) ≡ Some options)
+  taken e = let o = options-some row.names (drop row.plain words) e in (o.0, asks ∙ ap asked o.1, o.2)
 
-module _ (words : List (List ℕ)) (given : Given)
-    (is_given : IsGiven (command_lines.given_in 1 serve_names words) (Some given)) where
-  pub asks-nothing : 2 ≤ length given.plain.now → asked_by words serve_row ≡ None
-  asks-nothing many =
-      ap (option_and_then serve_row.asks) is_given.1 ∙ many-plain string_bytes given.plain.now is_given.0 many
+-- ---- a script, or a text: no plain words
 
-  -- by the options that are given
-  value-is : (name : List ℕ) → look_up name is_given.0 ≡ value_in name (map string_bytes given.options.now)
-  value-is name = sym (value-look_up name (map string_bytes given.options.now) is_given.0 is_given.2)
+module _ (words : List (List ℕ)) where
+  at_once : 0 ≤ length words
+  at_once = omega arith
 
-  abbrev by_address : Bool → Option CommandLine
-  by_address test =
+  pub run-refused : are_in run_row.names words ≡ false → asked_by words run_row ≡ None
+  run-refused = refused run_row words at_once
+
+  pub asks-run : (workers places : Option ℕ) → are_in run_row.names words ≡ true →
+      workers_given (value_in (codes "--workers") words) ≡ workers →
+      places_given (value_in (codes "--places") words) ≡ places → asked_by words run_row ≡ run_by workers places
+  asks-run workers places e are_workers are_places =
+      let t = taken run_row words at_once e in
+      t.1
+      ∙ ap (λ v. run_by (workers_given v) (places_given (look_up (codes "--places") t.0)))
+      (sym (value-look_up (codes "--workers") words t.0 t.2))
+      ∙ ap (λ v. run_by (workers_given (value_in (codes "--workers") words)) (places_given v))
+      (sym (value-look_up (codes "--places") words t.0 t.2))
+      ∙ ap (λ w. run_by w (places_given (value_in (codes "--places") words))) are_workers
+      ∙ ap (run_by workers) are_places
+
+  module _ (command : TextCommand) where
+    pub text-refused : are_in (text_row command).names words ≡ false → asked_by words (text_row command) ≡ None
+    text-refused = refused (text_row command) words at_once
+
+    pub asks-text : (style : Option Style) → are_in (text_row command).names words ≡ true →
+        form_given (value_in (codes "--form") words) ≡ style →
+        asked_by words (text_row command) ≡ option_map (Read command) style
+    asks-text style e is_style =
+        let t = taken (text_row command) words at_once e in
+        t.1
+        ∙ ap (λ v. option_map (Read command) (form_given v)) (sym (value-look_up (codes "--form") words t.0 t.2))
+        ∙ ap (option_map (Read command)) is_style
+
+-- ---- a model that is made: three plain words
+
+pub few-generate : {X : Type 0} (f : X → List ℕ) (words : List X) → length words < 3 →
+    asked_by (map f words) generate_row ≡ None
+unfolding given_in
+few-generate f [] few = refl
+few-generate f (a ∷ []) few = refl
+few-generate f (a ∷ b ∷ []) few = refl
+few-generate f (a ∷ b ∷ c ∷ words) few = absurd (omega (arith, few))
+
+-- what is behind them would be an option, of which there are none
+no-option : (words : List (List ℕ)) → 1 ≤ length words → are_in [] words ≡ false
+no-option [] some = absurd (omega (arith, some))
+no-option (d ∷ []) some = refl
+no-option (d ∷ e ∷ words) some = refl
+
+pub many-generate : {X : Type 0} (f : X → List ℕ) (words : List X) → 4 ≤ length words →
+    asked_by (map f words) generate_row ≡ None
+many-generate f [] many = absurd (omega (arith, many))
+many-generate f (a ∷ []) many = absurd (omega (arith, many))
+many-generate f (a ∷ b ∷ []) many = absurd (omega (arith, many))
+many-generate f (a ∷ b ∷ c ∷ []) many = absurd (omega (arith, many))
+many-generate f (a ∷ b ∷ c ∷ d ∷ words) many =
+    refused generate_row (f a ∷ f b ∷ f c ∷ f d ∷ map f words) (omega arith)
+    (no-option (f d ∷ map f words) (omega arith))
+
+-- three items, and the texts of each
+pub three-words : {X : Type 0} (f : X → List ℕ) (words : List X) (x y z : X) (a b c : List ℕ) → 3 ≤ length words →
+    length words < 4 → x ≡ get_or words 0 x → y ≡ get_or words 1 y → z ≡ get_or words 2 z → a ≡ f x → b ≡ f y →
+    c ≡ f z → map f words ≡ a ∷ b ∷ c ∷ []
+three-words f [] x y z a b c enough few is_x is_y is_z is_a is_b is_c = absurd (omega (arith, enough))
+three-words f (u ∷ []) x y z a b c enough few is_x is_y is_z is_a is_b is_c = absurd (omega (arith, enough))
+three-words f (u ∷ v ∷ []) x y z a b c enough few is_x is_y is_z is_a is_b is_c = absurd (omega (arith, enough))
+three-words f (u ∷ v ∷ w ∷ []) x y z a b c enough few is_x is_y is_z is_a is_b is_c =
+    ap (λ t. t ∷ f v ∷ f w ∷ []) (ap f (sym is_x) ∙ sym is_a)
+    ∙ ap (λ t. a ∷ t ∷ f w ∷ []) (ap f (sym is_y) ∙ sym is_b)
+    ∙ ap (λ t. a ∷ b ∷ t ∷ []) (ap f (sym is_z) ∙ sym is_c)
+three-words f (u ∷ v ∷ w ∷ t ∷ words) x y z a b c enough few is_x is_y is_z is_a is_b is_c = absurd (omega (arith, few))
+
+-- by what is read of them
+pub asks-generate : (words : List (List ℕ)) (a b c : List ℕ) (seed rows columns : Option ℕ) →
+    words ≡ a ∷ b ∷ c ∷ [] → seed_of a ≡ seed → row_count_of b ≡ rows → column_count_of c ≡ columns →
+    asked_by words generate_row ≡ generate_by seed rows columns
+unfolding given_in options_in
+asks-generate words a b c seed rows columns three is_seed are_rows are_columns =
+    ap (λ (ws : List (List ℕ)). asked_by ws generate_row) three
+    ∙ ap (λ s. generate_by s (row_count_of b) (column_count_of c)) is_seed
+    ∙ ap (λ r. generate_by seed r (column_count_of c)) are_rows
+    ∙ ap (generate_by seed rows) are_columns
+
+-- ---- a server: an address, and options
+
+pub few-serve : {X : Type 0} (f : X → List ℕ) (words : List X) → length words < 1 →
+    asked_by (map f words) serve_row ≡ None
+unfolding given_in
+few-serve f [] few = refl
+few-serve f (x ∷ words) few = absurd (omega (arith, few))
+
+-- the first word's text, and the words behind it
+pub first-word : {X : Type 0} (f : X → List ℕ) (words : List X) (x : X) (a : List ℕ) → 1 ≤ length words →
+    x ≡ get_or words 0 x → a ≡ f x → map f words ≡ a ∷ map f (take (length words - 1) (drop 1 words))
+first-word f [] x a enough is_x is_a = absurd (omega (arith, enough))
+first-word f (u ∷ words) x a enough is_x is_a =
+    let behind : length words ≡ length (u ∷ words) - 1 = omega arith in
+    ap (λ t. t ∷ map f words) (ap f (sym is_x) ∙ sym is_a)
+    ∙ ap (λ ws. a ∷ map f ws) (sym (take-length words))
+    ∙ ap (λ n. a ∷ map f (take n words)) behind
+
+module _ (address : List ℕ) (words all : List (List ℕ)) (cut : all ≡ address ∷ words) where
+  one_more : 1 ≤ length (address ∷ words)
+  one_more = omega arith
+
+  same_line : asked_by all serve_row ≡ asked_by (address ∷ words) serve_row
+  same_line = ap (λ (ws : List (List ℕ)). asked_by ws serve_row) cut
+
+  abbrev by_address : Options → Bool → Option CommandLine
+  by_address options test =
       cond test
-      (serve_by (workers_given (look_up (codes "--workers") is_given.0))
-      (links_given (look_up (codes "--each") is_given.0)) (places_given (look_up (codes "--places") is_given.0)))
+      (serve_by (workers_given (look_up (codes "--workers") options))
+      (links_given (look_up (codes "--each") options)) (places_given (look_up (codes "--places") options)))
       None
 
-  pub asks-serve : (address : List ℕ) → map string_bytes given.plain.now ≡ address ∷ [] →
-      is_address address ≡ true → asked_by words serve_row ≡ serve_in (map string_bytes given.options.now)
-  asks-serve address is_plain holds =
-      ap (option_and_then serve_row.asks) is_given.1
-      ∙ ap (λ (plain : List (List ℕ)). serve_with plain is_given.0) is_plain
-      ∙ ap by_address holds
-      ∙ rw (value-is (codes "--workers"), value-is (codes "--each"), value-is (codes "--places")) refl
+  pub no-address : is_address address ≡ false → asked_by all serve_row ≡ None
+  no-address e = same_line ∙ asks serve_row (address ∷ words) one_more ∙ each (options_in serve_row.names words)
+    where
+      each : (options : Option Options) → asked serve_row (address ∷ words) one_more options ≡ None
+      each None = refl
+      each (Some options) = ap (by_address options) e
+
+  pub serve-refused : are_in serve_row.names words ≡ false → asked_by all serve_row ≡ None
+  serve-refused e = same_line ∙ refused serve_row (address ∷ words) one_more e
+
+  pub asks-serve : is_address address ≡ true → are_in serve_row.names words ≡ true →
+      asked_by all serve_row ≡ serve_in words
+  asks-serve holds e =
+      let t = taken serve_row (address ∷ words) one_more e in
+      same_line
+      ∙ t.1
+      ∙ ap (by_address t.0) holds
+      ∙ rw (
+        sym (value-look_up (codes "--workers") words t.0 t.2),
+        sym (value-look_up (codes "--each") words t.0 t.2),
+        sym (value-look_up (codes "--places") words t.0 t.2),
+      ) refl

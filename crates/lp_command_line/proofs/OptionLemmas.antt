@@ -1,19 +1,14 @@
 -- The options of a command line, option by option and as a whole.
-use Rattle.std.proofs.Common.{◌≡◌, ℕ, ◌&&◌, ◌||◌, Bool, true, false, not, cond, nat_le, le-leb, ◌<◌, ◌≤◌, ◌==◌, arith}
-use Rattle.std.proofs.Common.{List, [], ◌∷◌, length, take, drop, map, Option, Some, None, refl, sym, ap, ◌∙◌}
-use Rattle.std.specs.Prelude.{option_copied, is_some, option_map, option_and_then, string_bytes}
+use Rattle.std.proofs.Common.{◌≡◌, ℕ, ◌&&◌, ◌||◌, Bool, true, false, not, cond, ◌<◌, ◌==◌, arith}
+use Rattle.std.proofs.Common.{List, [], ◌∷◌, length, map, Option, Some, None, refl, sym, ap, ◌∙◌}
+use Rattle.std.specs.Prelude.{option_copied, is_some, option_map, option_and_then}
 use Rattle.std.specs.List.{list_all, list_any}
-use Rattle.std.proofs.lemmas.Bool.{lt-leb}
-use Rattle.std.proofs.lemmas.List.{take-map, drop-map, length-map}
 use denote.Ref.{Bor}
 use Rattle.spec_text.specs.Words.{same}
 use Rattle.spec_mps.specs.Shapes.{look_up}
-use Rattle.spec_program.specs.declared.command_line.CommandLine.{CommandLine}
-use Rattle.spec_program.specs.CommandLine as command_lines
 use Rattle.spec_program.specs.CommandLine.{Options, OptionNames, in_pairs, is_one_of, are_distinct, are_options_of}
 use Rattle.spec_program.specs.CommandLine.{options_in}
-use Rattle.lp_command_line.specs.declared.line.Given.{Given}
-use Rattle.lp_command_line.specs.Words.{value_in, is_new_option, are_in, bytes_of, IsGiven}
+use Rattle.lp_command_line.specs.Words.{value_in, is_new_option, are_in, bytes_of}
 
 -- the value of an option among the pairs
 pub value-look_up : (name : List ℕ) (words : List (List ℕ)) (options : Options) → in_pairs words ≡ Some options →
@@ -121,73 +116,6 @@ pub any-bytes : (word : List ℕ) (names : List (Bor (List ℕ))) →
     list_any (λ name. same word name.now) names ≡ is_one_of word (bytes_of names)
 any-bytes word [] = refl
 any-bytes word (name ∷ names) = ap (λ t. same word name.now || t) (any-bytes word names)
-
--- ---- plain words, and options after them
-
-module _ {X : Type 0} (f : X → List ℕ) (plain : ℕ) (names : OptionNames) (words : List X) where
-  -- by the plain words and the others
-  abbrev both : List (List ℕ) → List (List ℕ) → Option command_lines.Given
-  both front back = option_map (λ options. record { plain = front; options = options }) (options_in names back)
-
-  abbrev behind : Bool → Option command_lines.Given
-  behind t = cond t (both (take plain (map f words)) (drop plain (map f words))) None
-
-  pub given-few : length words < plain → command_lines.given_in plain names (map f words) ≡ None
-  unfolding command_lines.given_in
-  given-few h = ap behind (lt-leb plain (length (map f words)) (let e = length-map words f in omega arith))
-
-  module _ (enough : plain ≤ length words) (front back : List X) (is_front : front ≡ take plain words)
-      (is_back : back ≡ drop plain words) where
-    is_enough : nat_le plain (length (map f words)) ≡ true
-    is_enough = le-leb plain (length (map f words)) (let e = length-map words f in omega arith)
-
-    same_back : drop plain (map f words) ≡ map f back
-    same_back = drop-map f plain words ∙ ap (map f) (sym is_back)
-
-    same_front : take plain (map f words) ≡ map f front
-    same_front = take-map f plain words ∙ ap (map f) (sym is_front)
-
-    given-is : command_lines.given_in plain names (map f words) ≡ both (map f front) (map f back)
-    unfolding command_lines.given_in
-    given-is =
-        ap behind is_enough
-        ∙ ap (both (take plain (map f words))) same_back
-        ∙ ap (λ (ws : List (List ℕ)). both ws (map f back)) same_front
-
-    pub given-none : are_in names (map f back) ≡ false → command_lines.given_in plain names (map f words) ≡ None
-    given-none h =
-        given-is
-        ∙ ap (option_map (λ options. record { plain = map f front; options = options }))
-        (options-none names (map f back) h)
-
-    pub given-some : are_in names (map f back) ≡ true →
-        (options : Options) ×
-        (command_lines.given_in plain names (map f words) ≡ Some (record { plain = map f front; options = options })) ×
-        (in_pairs (map f back) ≡ Some options)
-    given-some h =
-        let o = options-some names (map f back) h in
-        (o.0, given-is ∙ ap (option_map (λ options. record { plain = map f front; options = options })) o.1, o.2)
-
--- ---- a command with one option and no plain words
-
--- it asks what is made of what is read of the option's value, or of none
-abbrev pub with_option : {X : Type 0} → List ℕ → (Option (List ℕ) → Option X) → (X → CommandLine) → command_lines.Row
-with_option name read make = record {
-  plain = 0;
-  names = name ∷ [];
-  asks = λ given. option_map make (read (look_up name given.options));
-}
-
--- by what is given, and the value of the option among it
-pub asks-option : {X : Type 0} (name : List ℕ) (read : Option (List ℕ) → Option X) (make : X → CommandLine)
-    (words : List (List ℕ)) (given : Given) (value : Option (List ℕ)) (made : Option X) →
-    IsGiven (command_lines.given_in 0 (name ∷ []) words) (Some given) →
-    value ≡ value_in name (map string_bytes given.options.now) → read value ≡ made →
-    command_lines.asked_by words (with_option name read make) ≡ option_map make made
-asks-option name read make words given value made is_given is_value is_made =
-    ap (option_and_then (λ g. option_map make (read (look_up name g.options)))) is_given.1
-    ∙ ap (λ v. option_map make (read v)) (sym (is_value ∙ value-look_up name _ is_given.0 is_given.2))
-    ∙ ap (option_map make) is_made
 
 pub some-copied : {X : Type 0} (o : Option (Bor X)) → is_some (option_copied o) ≡ is_some o
 some-copied None = refl

@@ -1,13 +1,11 @@
 -- The words of a command line, as they are cut up.
-use Rattle.std.specs.Prelude.{ℕ, ◌≡◌, ◌&&◌, Bool, true, false, not, List, [], ◌∷◌, map, Option, Some, None, is_some}
+use Rattle.std.specs.Prelude.{ℕ, ◌&&◌, Bool, true, false, not, List, [], ◌∷◌, map, Option, Some, None, is_some}
 use Rattle.std.specs.Prelude.{codes, string_bytes, if◌then◌else◌}
 use Rattle.spec_text.specs.Words.{same}
 use denote.Ref.{Bor}
 use Rattle.spec_program.specs.declared.command_line.CommandLine.{CommandLine}
-use Rattle.spec_program.specs.CommandLine.{Options, Address, in_pairs, is_one_of}
+use Rattle.spec_program.specs.CommandLine.{Address, is_one_of}
 use Rattle.spec_program.specs.CommandLine.{serve_by, workers_given, links_given, places_given}
-use Rattle.spec_program.specs.CommandLine as command_lines
-use Rattle.lp_command_line.specs.declared.line.Given.{Given}
 use Rattle.lp_command_line.specs.declared.listening.Serving.{Serving}
 
 abbrev pub bytes_of : List (Bor (List ℕ)) → List (List ℕ)
@@ -27,14 +25,6 @@ abbrev pub are_in : List (List ℕ) → List (List ℕ) → Bool
 are_in names [] = true
 are_in names (option ∷ []) = false
 are_in names (option ∷ value ∷ words) = if is_new_option option names words then are_in names words else false
-
--- what the words give, by their plain words and the words of their options
-abbrev pub IsGiven : Option command_lines.Given → Option Given → Type 0
-IsGiven is None = is ≡ None
-IsGiven is (Some given) =
-    (options : Options) ×
-    (is ≡ Some (record { plain = map string_bytes given.plain.now; options = options })) ×
-    (in_pairs (map string_bytes given.options.now) ≡ Some options)
 
 -- where a server listens, as the code has it
 abbrev pub planned : Option Serving → Option Address

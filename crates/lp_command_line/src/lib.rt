@@ -4,7 +4,7 @@
 //! |---|---|---|
 //! | `command_line_of` | what the words ask, if they are a command line | src/line |
 //! | `plan`, `Serving` | at which address a server listens, and for how many workers | src/listening |
-//! | `IsGiven`, `are_in` | the words as they are cut up | specs/Words |
+//! | `are_in`, `value_in` | the options as they are read | specs/Words |
 #![tactic(auto)]
 
 mod line;

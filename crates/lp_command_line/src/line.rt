@@ -1,16 +1,36 @@
 // The words of a command line.
-ghost use Rattle.std.specs.Prelude.{◌≡◌, map, length, is_some, option_copied, string_bytes, Some, None};
+ghost use Rattle.std.specs.Prelude.{◌≡◌, map, length, codes, option_copied, string_bytes};
 ghost use Rattle.std.specs.Prelude.{MatchOption, IfSome, ◌<◌, ◌∷◌};
 ghost use Rattle.std.specs.List.{list_any};
 ghost use Rattle.spec_text.specs.Words.{same};
 ghost use Rattle.spec_program.specs.CommandLine.{run_row, text_row, generate_row, serve_row, asked_by};
 ghost use Rattle.spec_program.specs.CommandLine as command_lines;
-ghost use Rattle.lp_command_line.specs.Words.{bytes_of, value_in, are_in, serve_in, IsGiven};
+ghost use Rattle.lp_command_line.specs.Words.{bytes_of, value_in, are_in, serve_in};
 
-use lp_base::{are_same, by_word};
+use lp_base::{are_same, look_up};
 use lp_line::number_to;
 use spec_mps::Style;
 use spec_program::{CommandLine, TextCommand};
+
+// The commands that a word names.
+#[derive(Clone, Copy)]
+enum Command {
+    Run,
+    Read(TextCommand),
+    Generate,
+    Serve,
+}
+
+const COMMANDS: [(&[u8], Command); 6] = [
+    (b"run", Command::Run),
+    (b"solve", Command::Read(TextCommand::Solve)),
+    (b"check", Command::Read(TextCommand::Check)),
+    (b"basis", Command::Read(TextCommand::Basis)),
+    (b"gen", Command::Generate),
+    (b"serve", Command::Serve),
+];
+
+const FORMS: [(&[u8], Style); 2] = [(b"free", Style::Free), (b"fixed", Style::Fixed)];
 
 // How many workers there are, unless it is said.
 const USUAL_WORKERS: u32 = 1;
@@ -20,13 +40,6 @@ const USUAL_PLACES: u32 = 256;
 
 // How many links each worker of a server serves, unless it is said.
 const USUAL_LINKS: u32 = 1;
-
-// What follows a command's word: plain words, and options, each a name and a value.
-#[derive(Clone, Copy)]
-struct Given<'a> {
-    plain: &'a [String],
-    options: &'a [String],
-}
 
 fn is_one_of(word: &[u8], names: &[&str]) -> bool
     ensures { result ≡ list_any (λ name. same word.now name.now) names.now }
@@ -77,57 +90,46 @@ fn are_options(words: &[String], names: &[&str]) -> bool
     rest.is_empty()
 }
 
-// The words as so many plain ones, and options with these names after them.
-fn given_in<'a>(words: &'a [String], plain: usize, names: &[&str]) -> Option<Given<'a>>
-    ensures { IsGiven (command_lines.given_in plain (bytes_of names.now) (map string_bytes words.now)) result }
-{
-    if words.len() < plain {
-        return None;
-    }
-    let (plain, options) = words.split_at(plain);
-    if !are_options(options, names) {
-        return None;
-    }
-    Some(Given { plain, options })
-}
-
-fn form_of(word: &[u8]) -> Option<Style>
-    ensures { result ≡ command_lines.form_of word.now }
-{
-    by_word!(word, {
-        b"free" => Some(Style::Free),
-        b"fixed" => Some(Style::Fixed),
-        _ => None,
-    })
-}
-
+// How many workers the options give.
 #[tactic(auto, unfolding(spec_program::specs::CommandLine::workers_of))]
-fn workers_given(word: Option<&[u8]>) -> Option<u32>
-    ensures { result ≡ command_lines.workers_given (option_copied word.entry) }
+fn workers_in(options: &[String]) -> Option<u32>
+    ensures { result ≡ command_lines.workers_given (value_in (codes "--workers") (map string_bytes options.now)) }
 {
-    match word {
+    match value_of(options, b"--workers") {
         Some(number) => number_to(16, 2, number),
         None => Some(USUAL_WORKERS),
     }
 }
 
+// How many places they give.
 #[tactic(auto, unfolding(spec_program::specs::CommandLine::places_of))]
-fn places_given(word: Option<&[u8]>) -> Option<u32>
-    ensures { result ≡ command_lines.places_given (option_copied word.entry) }
+fn places_in(options: &[String]) -> Option<u32>
+    ensures { result ≡ command_lines.places_given (value_in (codes "--places") (map string_bytes options.now)) }
 {
-    match word {
+    match value_of(options, b"--places") {
         Some(number) => number_to(1024, 7, number),
         None => Some(USUAL_PLACES),
     }
 }
 
+// How many links for each worker.
 #[tactic(auto, unfolding(spec_program::specs::CommandLine::links_of))]
-fn links_given(word: Option<&[u8]>) -> Option<u32>
-    ensures { result ≡ command_lines.links_given (option_copied word.entry) }
+fn links_in(options: &[String]) -> Option<u32>
+    ensures { result ≡ command_lines.links_given (value_in (codes "--each") (map string_bytes options.now)) }
 {
-    match word {
+    match value_of(options, b"--each") {
         Some(number) => number_to(1000, 4, number),
         None => Some(USUAL_LINKS),
+    }
+}
+
+// The form that a text is read in, free unless another is given.
+fn form_in(options: &[String]) -> Option<Style>
+    ensures { result ≡ command_lines.form_given (value_in (codes "--form") (map string_bytes options.now)) }
+{
+    match value_of(options, b"--form") {
+        Some(form) => look_up(form, &FORMS),
+        None => Some(Style::Free),
     }
 }
 
@@ -135,21 +137,22 @@ fn links_given(word: Option<&[u8]>) -> Option<u32>
 fn run_line(words: &[String]) -> Option<CommandLine>
     ensures { result ≡ asked_by (map string_bytes words.now) run_row }
 {
-    let given = given_in(words, 0, &["--workers", "--places"])?;
-    let workers = workers_given(value_of(given.options, b"--workers"))?;
-    let places = places_given(value_of(given.options, b"--places"))?;
+    if !are_options(words, &["--workers", "--places"]) {
+        return None;
+    }
+    let workers = workers_in(words)?;
+    let places = places_in(words)?;
     Some(CommandLine::Run { workers, places })
 }
 
-// A text is read, in free form unless another is given.
+// A text is read in a form.
 fn text_line(command: TextCommand, words: &[String]) -> Option<CommandLine>
     ensures { result ≡ asked_by (map string_bytes words.now) (text_row command) }
 {
-    let given = given_in(words, 0, &["--form"])?;
-    let style = match value_of(given.options, b"--form") {
-        Some(form) => form_of(form)?,
-        None => Style::Free,
-    };
+    if !are_options(words, &["--form"]) {
+        return None;
+    }
+    let style = form_in(words)?;
     Some(CommandLine::Read(command, style))
 }
 
@@ -169,18 +172,20 @@ fn seed_of(word: &[u8]) -> Option<u32>
 fn generate_line(words: &[String]) -> Option<CommandLine>
     ensures { result ≡ asked_by (map string_bytes words.now) generate_row }
 {
-    let given = given_in(words, 3, &[])?;
-    let [seed, rows, columns] = given.plain else {
+    let [seed, rows, columns] = words else {
         return None;
     };
-    let seed = seed_of(seed.as_bytes())?;
-    let rows = number_to(256, 3, rows.as_bytes())?;
-    let columns = number_to(512, 3, columns.as_bytes())?;
-    Some(CommandLine::Generate {
-        seed,
-        rows,
-        columns,
-    })
+    let seed = seed_of(seed.as_bytes());
+    let rows = number_to(256, 3, rows.as_bytes());
+    let columns = number_to(512, 3, columns.as_bytes());
+    match (seed, rows, columns) {
+        (Some(seed), Some(rows), Some(columns)) => Some(CommandLine::Generate {
+            seed,
+            rows,
+            columns,
+        }),
+        _ => None,
+    }
 }
 
 fn is_address(word: &[u8]) -> bool
@@ -196,9 +201,9 @@ fn is_address(word: &[u8]) -> bool
 fn serve_with(options: &[String]) -> Option<CommandLine>
     ensures { result ≡ serve_in (map string_bytes options.now) }
 {
-    let workers = workers_given(value_of(options, b"--workers"))?;
-    let each = links_given(value_of(options, b"--each"))?;
-    let places = places_given(value_of(options, b"--places"))?;
+    let workers = workers_in(options)?;
+    let each = links_in(options)?;
+    let places = places_in(options)?;
     Some(CommandLine::Serve {
         workers,
         each,
@@ -210,14 +215,15 @@ fn serve_with(options: &[String]) -> Option<CommandLine>
 fn serve_line(words: &[String]) -> Option<CommandLine>
     ensures { result ≡ asked_by (map string_bytes words.now) serve_row }
 {
-    let given = given_in(words, 1, &["--workers", "--each", "--places"])?;
-    let [address] = given.plain else {
+    let [address, options @ ..] = words else {
         return None;
     };
-    if !is_address(address.as_bytes()) {
+    if !is_address(address.as_bytes())
+        || !are_options(options, &["--workers", "--each", "--places"])
+    {
         return None;
     }
-    serve_with(given.options)
+    serve_with(options)
 }
 
 /// What the words ask, if they are a command line.
@@ -228,14 +234,10 @@ pub fn command_line_of(words: &[String]) -> Option<CommandLine>
     let [word, behind @ ..] = words else {
         return None;
     };
-    let word = word.as_bytes();
-    by_word!(word, {
-        b"run" => run_line(behind),
-        b"solve" => text_line(TextCommand::Solve, behind),
-        b"check" => text_line(TextCommand::Check, behind),
-        b"basis" => text_line(TextCommand::Basis, behind),
-        b"gen" => generate_line(behind),
-        b"serve" => serve_line(behind),
-        _ => None,
-    })
+    match look_up(word.as_bytes(), &COMMANDS)? {
+        Command::Run => run_line(behind),
+        Command::Read(command) => text_line(command, behind),
+        Command::Generate => generate_line(behind),
+        Command::Serve => serve_line(behind),
+    }
 }

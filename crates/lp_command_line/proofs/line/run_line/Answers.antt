@@ -1,24 +1,26 @@
--- By the numbers of workers and of places that are given.
+-- No options, no number of workers, none of places, and both.
 use Rattle.std.proofs.Common.{Some, None, refl, sym, ◌∙◌, map}
 use Rattle.std.specs.Prelude.{string_bytes}
-use Rattle.lp_command_line.proofs.Asking.{asks-run}
+use Rattle.lp_command_line.proofs.Asking.{run-refused, asks-run}
 use Rattle.lp_command_line.proofs.line.run_line.Goals as goal
+
+pub returns-then-not-are_options : goal.returns-then-not-are_options
+returns-then-not-are_options c =
+    sym (run-refused (map string_bytes c.args.words.now) (sym c.are_options.ensures ∙ c.if-not-are_options.true))
 
 pub returns-in_err-workers : goal.returns-in_err-workers
 returns-in_err-workers c =
-    c.from_residual-in_err-workers.ensures
-    ∙ sym (asks-run (map string_bytes c.args.words.now) c.in_ok-given.given _ _ None _ c.in_ok-given.ensures
-    c.value_of.ensures refl (sym c.in_err-workers.ensures) refl)
+    c.from_residual.ensures
+    ∙ sym (asks-run (map string_bytes c.args.words.now) None _ (sym c.are_options.ensures ∙ c.if-not-are_options.false)
+    (sym c.in_err-workers.ensures) refl)
 
 pub returns-in_err-places : goal.returns-in_err-places
 returns-in_err-places c =
     c.from_residual-in_err-places.ensures
-    ∙ sym (asks-run (map string_bytes c.args.words.now) c.in_ok-given.given _ _ (Some c.in_ok-workers.workers) None
-    c.in_ok-given.ensures c.value_of.ensures c.value_of-2.ensures (sym c.in_ok-workers.ensures)
-    (sym c.in_err-places.ensures))
+    ∙ sym (asks-run (map string_bytes c.args.words.now) (Some c.in_ok-workers.workers) None
+    (sym c.are_options.ensures ∙ c.if-not-are_options.false) (sym c.in_ok-workers.ensures) (sym c.in_err-places.ensures))
 
 pub returns : goal.returns
 returns c =
-    sym (asks-run (map string_bytes c.args.words.now) c.in_ok-given.given _ _ (Some c.in_ok-workers.workers)
-    (Some c.in_ok-places.places) c.in_ok-given.ensures c.value_of.ensures c.value_of-2.ensures
-    (sym c.in_ok-workers.ensures) (sym c.in_ok-places.ensures))
+    sym (asks-run (map string_bytes c.args.words.now) (Some c.in_ok-workers.workers) (Some c.in_ok-places.places)
+    (sym c.are_options.ensures ∙ c.if-not-are_options.false) (sym c.in_ok-workers.ensures) (sym c.in_ok-places.ensures))

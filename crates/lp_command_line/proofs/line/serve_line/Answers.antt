@@ -1,20 +1,37 @@
--- By the address and the numbers that are given.
-use Rattle.std.proofs.Common.{sym, ◌∙◌, map}
+-- No words, an address or options that are none, and a server.
+use Rattle.std.proofs.Common.{sym, ◌∙◌, map, take, drop, length, ◌-◌}
 use Rattle.std.specs.Prelude.{string_bytes}
-use Rattle.lp_command_line.proofs.Asking.{one-plain, address-is, asks-nothing, asks-serve}
+use Rattle.lp_command_line.proofs.Asking.{few-serve, first-word, no-address, serve-refused, asks-serve}
+use Rattle.lp_command_line.proofs.line.serve_line.Goals.{then-not-is_address-via-then-not-is_address}
+use Rattle.lp_command_line.proofs.line.serve_line.Goals.{then-not-is_address-via-else-not-is_address+then-not-are_options}
 use Rattle.lp_command_line.proofs.line.serve_line.Goals as goal
 
-pub returns-in_default-2 : goal.returns-in_default-2
-returns-in_default-2 c =
-    sym (asks-nothing (map string_bytes c.args.words.now) c.in_ok-given.given c.in_ok-given.ensures
-    c.in_default.len_at_least)
+pub returns-in_default : goal.returns-in_default
+returns-in_default c = sym (few-serve string_bytes c.args.words.now c.in_default.len_below)
+
+pub returns-then-not-is_address : goal.returns-then-not-is_address
+returns-then-not-is_address c =
+    let options = map string_bytes (take (length c.args.words.now - 1) (drop 1 c.args.words.now)) in
+    let cut =
+    first-word string_bytes c.args.words.now c.address-item.result c.as_bytes.result.now c.in-len1-up.len_at_least
+    c.address-item.is c.as_bytes.ensures.value
+    in
+    elim c.then-not-is_address.branch [
+      | then-not-is_address-via-then-not-is_address w ↦
+          sym (no-address c.as_bytes.result.now options (map string_bytes c.args.words.now) cut
+          (sym c.is_address.ensures ∙ w.if-not-is_address.true))
+      | then-not-is_address-via-else-not-is_address+then-not-are_options w ↦
+          sym (serve-refused c.as_bytes.result.now options (map string_bytes c.args.words.now) cut
+          (sym w.are_options.ensures ∙ w.if-not-are_options.true))
+    ]
 
 pub returns : goal.returns
 returns c =
     c.serve_with.ensures
-    ∙ sym (asks-serve (map string_bytes c.args.words.now) c.in_ok-given.given c.in_ok-given.ensures
-    (string_bytes c.address-item.result)
-    (one-plain string_bytes c.in_ok-given.given.plain.now c.address-item.result c.in-len1.len_at_least
-    c.in-len1.len_below c.address-item.is)
-    (address-is c.as_bytes.result.now (string_bytes c.address-item.result) c.is_address.result
-    c.as_bytes.ensures.value c.is_address.ensures c.if-not-is_address.false))
+    ∙ sym (asks-serve c.as_bytes.result.now
+    (map string_bytes (take (length c.args.words.now - 1) (drop 1 c.args.words.now)))
+    (map string_bytes c.args.words.now)
+    (first-word string_bytes c.args.words.now c.address-item.result c.as_bytes.result.now c.in-len1-up.len_at_least
+    c.address-item.is c.as_bytes.ensures.value)
+    (sym c.is_address.ensures ∙ c.if-not-is_address.false)
+    (sym c.are_options.ensures ∙ c.if-not-are_options.false))

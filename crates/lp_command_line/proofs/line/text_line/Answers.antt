@@ -1,25 +1,21 @@
--- By the form that is given.
-use Rattle.std.proofs.Common.{Some, None, refl, sym, ◌∙◌, map}
-use Rattle.std.specs.Prelude.{codes, string_bytes}
-use Rattle.spec_program.specs.CommandLine.{form_given}
-use Rattle.spec_program.specs.declared.command_line.CommandLine.TheVariants.{Read}
-use Rattle.lp_command_line.proofs.OptionLemmas.{asks-option}
+-- No options, no form, and a form.
+use Rattle.std.proofs.Common.{Some, None, sym, ◌∙◌, map}
+use Rattle.std.specs.Prelude.{string_bytes}
+use Rattle.lp_command_line.proofs.Asking.{text-refused, asks-text}
 use Rattle.lp_command_line.proofs.line.text_line.Goals as goal
 
-pub returns-in_err-style-in-Some : goal.returns-in_err-style-in-Some
-returns-in_err-style-in-Some c =
-    c.from_residual-in_err-style-in-Some.ensures
-    ∙ sym (asks-option (codes "--form") form_given (Read c.args.command) (map string_bytes c.args.words.now)
-    c.in_ok-given.given (Some c.in-Some.form.now) None c.in_ok-given.ensures c.in-Some.ensures
-    (sym c.in_err-style-in-Some.ensures))
+pub returns-then-not-are_options : goal.returns-then-not-are_options
+returns-then-not-are_options c =
+    sym (text-refused (map string_bytes c.args.words.now) c.args.command
+    (sym c.are_options.ensures ∙ c.if-not-are_options.true))
 
-pub returns-in_ok-style-in-Some : goal.returns-in_ok-style-in-Some
-returns-in_ok-style-in-Some c =
-    sym (asks-option (codes "--form") form_given (Read c.args.command) (map string_bytes c.args.words.now)
-    c.in_ok-given.given (Some c.in-Some.form.now) (Some c.in_ok-style-in-Some.style) c.in_ok-given.ensures
-    c.in-Some.ensures (sym c.in_ok-style-in-Some.ensures))
+pub returns-in_err-style : goal.returns-in_err-style
+returns-in_err-style c =
+    c.from_residual.ensures
+    ∙ sym (asks-text (map string_bytes c.args.words.now) c.args.command None
+    (sym c.are_options.ensures ∙ c.if-not-are_options.false) (sym c.in_err-style.ensures))
 
-pub returns-in-None : goal.returns-in-None
-returns-in-None c =
-    sym (asks-option (codes "--form") form_given (Read c.args.command) (map string_bytes c.args.words.now)
-    c.in_ok-given.given None _ c.in_ok-given.ensures c.in-None.ensures refl)
+pub returns : goal.returns
+returns c =
+    sym (asks-text (map string_bytes c.args.words.now) c.args.command (Some c.in_ok-style.style)
+    (sym c.are_options.ensures ∙ c.if-not-are_options.false) (sym c.in_ok-style.ensures))
