@@ -1,6 +1,6 @@
 -- What the words after a command's word ask.
-use Rattle.std.proofs.Common.{◌≡◌, ℕ, Bool, true, false, cond, List, [], ◌∷◌, length, map, take, drop, get_or, Option, Some, None}
-use Rattle.std.proofs.Common.{◌<◌, ◌≤◌, ◌-◌, le-leb, arith, refl, sym, ap, ◌∙◌}
+use Rattle.std.proofs.Common.{◌≡◌, ℕ, Bool, true, false, cond, List, [], ◌∷◌, length, map, take, drop, get_or}
+use Rattle.std.proofs.Common.{Option, Some, None, ◌<◌, ◌≤◌, ◌-◌, le-leb, arith, refl, sym, ap, ◌∙◌}
 use Rattle.std.specs.Prelude.{codes, option_map, option_and_then}
 use Rattle.spec_mps.specs.Shapes.{look_up}
 use Rattle.spec_mps.specs.declared.style.Style.{Style}

@@ -168,7 +168,6 @@ fn seed_of(word: &[u8]) -> Option<u32>
 }
 
 // A model is made from a seed, with so many rows and columns.
-#[tactic(auto, unfolding(spec_program::specs::CommandLine::row_count_of, spec_program::specs::CommandLine::column_count_of))]
 fn generate_line(words: &[String]) -> Option<CommandLine>
     ensures { result ≡ asked_by (map string_bytes words.now) generate_row }
 {

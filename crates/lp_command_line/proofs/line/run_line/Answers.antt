@@ -18,9 +18,11 @@ pub returns-in_err-places : goal.returns-in_err-places
 returns-in_err-places c =
     c.from_residual-in_err-places.ensures
     ∙ sym (asks-run (map string_bytes c.args.words.now) (Some c.in_ok-workers.workers) None
-    (sym c.are_options.ensures ∙ c.if-not-are_options.false) (sym c.in_ok-workers.ensures) (sym c.in_err-places.ensures))
+    (sym c.are_options.ensures ∙ c.if-not-are_options.false) (sym c.in_ok-workers.ensures)
+    (sym c.in_err-places.ensures))
 
 pub returns : goal.returns
 returns c =
     sym (asks-run (map string_bytes c.args.words.now) (Some c.in_ok-workers.workers) (Some c.in_ok-places.places)
-    (sym c.are_options.ensures ∙ c.if-not-are_options.false) (sym c.in_ok-workers.ensures) (sym c.in_ok-places.ensures))
+    (sym c.are_options.ensures ∙ c.if-not-are_options.false) (sym c.in_ok-workers.ensures)
+    (sym c.in_ok-places.ensures))

@@ -2,8 +2,6 @@
 use Rattle.std.proofs.Common.{sym, ◌∙◌, map, take, drop, length, ◌-◌}
 use Rattle.std.specs.Prelude.{string_bytes}
 use Rattle.lp_command_line.proofs.Asking.{few-serve, first-word, no-address, serve-refused, asks-serve}
-use Rattle.lp_command_line.proofs.line.serve_line.Goals.{then-not-is_address-via-then-not-is_address}
-use Rattle.lp_command_line.proofs.line.serve_line.Goals.{then-not-is_address-via-else-not-is_address+then-not-are_options}
 use Rattle.lp_command_line.proofs.line.serve_line.Goals as goal
 
 pub returns-in_default : goal.returns-in_default
@@ -17,10 +15,10 @@ returns-then-not-is_address c =
     c.address-item.is c.as_bytes.ensures.value
     in
     elim c.then-not-is_address.branch [
-      | then-not-is_address-via-then-not-is_address w ↦
+      | goal.then-not-is_address-via-then-not-is_address w ↦
           sym (no-address c.as_bytes.result.now options (map string_bytes c.args.words.now) cut
           (sym c.is_address.ensures ∙ w.if-not-is_address.true))
-      | then-not-is_address-via-else-not-is_address+then-not-are_options w ↦
+      | goal.then-not-is_address-via-else-not-is_address+then-not-are_options w ↦
           sym (serve-refused c.as_bytes.result.now options (map string_bytes c.args.words.now) cut
           (sym w.are_options.ensures ∙ w.if-not-are_options.true))
     ]
