@@ -12,6 +12,11 @@ use Rattle.spec_program.specs.CommandLine.{workers_given, links_given, places_gi
 use Rattle.spec_program.specs.CommandLine.{run_row, text_row, generate_row, generate_by, serve_row, is_address}
 use Rattle.spec_program.specs.CommandLine.{seed_of, row_count_of, column_count_of}
 use Rattle.std.proofs.Math.Seq.{take-length}
+use Rattle.spec_program.specs.CommandLine.{command_line_of}
+use Rattle.spec_text.specs.Words.{same}
+use Rattle.spec_program.specs.declared.command_line.TextCommand.TheVariants as text
+use Rattle.lp_command_line.specs.declared.line.Command.{Command}
+use Rattle.lp_command_line.specs.declared.line.Command.TheVariants as command
 use Rattle.lp_command_line.specs.Words.{value_in, are_in, serve_in}
 use Rattle.lp_command_line.proofs.OptionLemmas.{value-look_up, options-some, options-none}
 
@@ -181,3 +186,47 @@ module _ (address : List ℕ) (words all : List (List ℕ)) (cut : all ≡ addre
         sym (value-look_up (codes "--each") words t.0 t.2),
         sym (value-look_up (codes "--places") words t.0 t.2),
       ) refl
+
+-- ---- a command, by the word that names it
+
+abbrev pub command_words : List (List ℕ × Command)
+command_words =
+    (codes "run", command.Run)
+    ∷ (codes "solve", command.Read text.Solve)
+    ∷ (codes "check", command.Read text.Check)
+    ∷ (codes "basis", command.Read text.Basis)
+    ∷ (codes "gen", command.Generate)
+    ∷ (codes "serve", command.Serve)
+    ∷ []
+
+abbrev pub row_of : Command → Row
+row_of command.Run = run_row
+row_of (command.Read asked) = text_row asked
+row_of command.Generate = generate_row
+row_of command.Serve = serve_row
+
+look_up-map : {A B : Type 0} (f : A → B) (word : List ℕ) (table : List (List ℕ × A)) →
+    look_up word (map (λ line. (line.0, f line.1)) table) ≡ option_map f (look_up word table)
+look_up-map f word [] = refl
+look_up-map f word (line ∷ table) = by (same word line.0) (look_up-map f word table)
+  where
+    by : (t : Bool) →
+        look_up word (map (λ line. (line.0, f line.1)) table) ≡ option_map f (look_up word table) →
+        cond t (Some (f line.1)) (look_up word (map (λ line. (line.0, f line.1)) table))
+        ≡ option_map f (cond t (Some line.1) (look_up word table))
+    by true rest = refl
+    by false rest = rest
+
+pub asks-command : (words behind : List (List ℕ)) (word : List ℕ) (found : Option Command) → words ≡ word ∷ behind →
+    look_up word command_words ≡ found →
+    command_line_of words ≡ option_and_then (asked_by behind) (option_map row_of found)
+unfolding command_line_of
+asks-command words behind word found cut is_found =
+    ap command_line_of cut
+    ∙ ap (option_and_then (asked_by behind)) (look_up-map row_of word command_words)
+    ∙ ap (λ found. option_and_then (asked_by behind) (option_map row_of found)) is_found
+
+pub no-words : {X : Type 0} (f : X → List ℕ) (words : List X) → length words < 1 → command_line_of (map f words) ≡ None
+unfolding command_line_of
+no-words f [] few = refl
+no-words f (x ∷ words) few = absurd (omega (arith, few))
