@@ -1,1 +1,2 @@
+pub mod NewColumn
 pub mod PairSteps
