@@ -9,13 +9,14 @@ loop-number-init c = (refl, refl)
 pub loop-number-preserved : goal.loop-number-preserved
 loop-number-preserved c =
     puts_next c.args.self.now.style c.args.fields.now c.loop-number.number-index _
-    (omega arith) c.args.line.now c.loop-number.line c.place.new.line c.loop-number.invariant.0 c.loop-number.invariant.1
+    (omega arith) c.args.line.now c.loop-number.line c.place.new.line
+    c.loop-number.invariant.0 c.loop-number.invariant.1
     (sym c.is_wide.ensures ∙ c.if-is_wide.false) c.in_ok-place.ensures
 
 pub returns-then-is_wide : goal.returns-then-is_wide
 returns-then-is_wide c =
-    puts_stops c.args.self.now.style c.args.fields.now c.loop-number.number-index _ (omega arith) c.loop-number.invariant.0
-    (sym c.is_wide.ensures ∙ c.if-is_wide.true) ∙ ap Some (sym c.in_ok-from_slice.ensures)
+    puts_stops c.args.self.now.style c.args.fields.now c.loop-number.number-index _ (omega arith)
+    c.loop-number.invariant.0 (sym c.is_wide.ensures ∙ c.if-is_wide.true) ∙ ap Some (sym c.in_ok-from_slice.ensures)
 
 pub returns : goal.returns
 returns c =
