@@ -11,6 +11,7 @@ use Rattle.spec_pivot.specs.declared.status.Status.{Status}
 use Rattle.spec_simplex.specs.declared.ends.Fit.{Fit}
 use Rattle.spec_simplex.specs.declared.ends.Fit.TheVariants as fit
 use Rattle.spec_simplex.specs.declared.ends.FormFault.{FormFault}
+use Rattle.spec_simplex.specs.declared.ends.RunStop.{RunStop}
 use Rattle.spec_simplex.specs.declared.ends.StartStop.{StartStop}
 use Rattle.spec_simplex.specs.declared.ends.StartStop.TheVariants as begun
 use Rattle.spec_simplex.specs.declared.ends.WarmStop.{WarmStop}
@@ -64,6 +65,14 @@ module _ (limit : Option ℕ) (budget : ℕ) where
   pub dual_ends : (t : Tableau) (e : DualEnded) → dual_run limit budget t ≡ Ok e →
       run_by limit budget t fit.Dual ≡ Ok (ByDual e)
   dual_ends t e h = ap (λ o. stopped_as run_stop o >>= λ e. Ok (ByDual e)) h
+
+  pub primal_stops : (t : Tableau) (s : RunStop ℚ) → run_from limit budget 0 t ≡ Err s →
+      run_by limit budget t fit.Primal ≡ Err (run_stop s)
+  primal_stops t s h = ap (λ o. stopped_as run_stop o >>= λ e. Ok (ByPrimal e)) h
+
+  pub dual_stops : (t : Tableau) (s : RunStop ℚ) → dual_run limit budget t ≡ Err s →
+      run_by limit budget t fit.Dual ≡ Err (run_stop s)
+  dual_stops t s h = ap (λ o. stopped_as run_stop o >>= λ e. Ok (ByDual e)) h
 
   -- ---- the run
   pub start_stops : (f : Form) (basis : List Status) (s : StartStop ℚ) → start_from limit f basis ≡ Err s →

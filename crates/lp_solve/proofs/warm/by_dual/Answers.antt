@@ -5,7 +5,7 @@ use Rattle.spec_pivot.specs.declared.status.Status.{Status}
 use Rattle.spec_simplex.specs.Eliminate.{IsBasisOf}
 use Rattle.spec_warm.specs.Warm.{after_run}
 use Rattle.lp_frac.specs.Narrow.{largest}
-use Rattle.lp_solve.proofs.WarmRuns.{can_run, dual_ends, dual_fits, dual_leaves}
+use Rattle.lp_solve.proofs.WarmRuns.{can_run, dual_ends, dual_stops, dual_fits, dual_leaves}
 use Rattle.lp_solve.proofs.warm.by_dual.Goals as goal
 
 pub run-requires-clause-ready : goal.run-requires-clause-ready
@@ -32,3 +32,9 @@ returns-in_ok-certificate-in-Ok-clause-answer c =
     ∙ ap (after_run (Some largest) c.args.model.now)
     (sym (dual_ends (Some largest) c.args.budget c.args.tab.now
     (record { end = c.in-Ok.end; tableau = c.run.new.tab; used = c.run.new.used }) c.in-Ok.ensures.runs))
+
+pub returns-in-Err-clause-answer : goal.returns-in-Err-clause-answer
+returns-in-Err-clause-answer c =
+    rw c.run_stop.ensures
+    (ap (after_run (Some largest) c.args.model.now)
+    (sym (dual_stops (Some largest) c.args.budget c.args.tab.now c.in-Err.stop c.in-Err.ensures.runs)))

@@ -7,7 +7,7 @@ use Rattle.spec_warm.specs.Warm.{after_run}
 use native.Mathlib.Numerals.{unary_clauses}
 use Rattle.lp_frac.specs.Narrow.{largest}
 use Rattle.lp_solve.proofs.Runs.{run_inside}
-use Rattle.lp_solve.proofs.WarmRuns.{primal_ends, primal_fits, primal_leaves}
+use Rattle.lp_solve.proofs.WarmRuns.{primal_ends, primal_stops, primal_fits, primal_leaves}
 use Rattle.lp_solve.proofs.warm.by_primal.Goals as goal
 
 pub certificate_at-requires : goal.certificate_at-requires
@@ -35,3 +35,10 @@ returns-in_ok-certificate-in-Ok-clause-answer c =
     (sym (primal_ends (Some largest) c.args.budget c.args.tab.now
     (record { end = c.in-Ok.end; tableau = c.run.new.tab; used = c.run.new.used })
     (simp unary_clauses at c.in-Ok.ensures.ended)))
+
+pub returns-in-Err-clause-answer : goal.returns-in-Err-clause-answer
+returns-in-Err-clause-answer c =
+    rw c.run_stop.ensures
+    (ap (after_run (Some largest) c.args.model.now)
+    (sym (primal_stops (Some largest) c.args.budget c.args.tab.now c.in-Err.stop
+    (simp unary_clauses at c.in-Err.ensures.ended))))

@@ -1,0 +1,15 @@
+-- Lists of numbers of at most 127 bits.
+use Rattle.std.proofs.Common.{◌≡◌, ℕ, ◌+◌, List, [], ◌∷◌, ◌++◌, All, sym, ap, subst, ◌∙◌}
+use Rattle.std.proofs.lemmas.List.Elements.{All-push}
+use Rattle.spec_exact.specs.Fraction.{ℚ}
+use Rattle.spec_exact.specs.Narrow.{IsNarrow}
+use Rattle.spec_exact.specs.Run.{made}
+use Rattle.spec_exact.proofs.Stops.{made_more}
+
+-- one number more
+pub pushed : (f : ℕ → ℚ) (n : ℕ) (before after : List ℚ) (v : ℚ) → after ≡ before ++ v ∷ [] → IsNarrow v → v ≡ f n →
+    (before ≡ made n f) × All IsNarrow before → (after ≡ made (n + 1) f) × All IsNarrow after
+pushed f n before after v put narrow is so_far = (
+  put ∙ ap (λ v. before ++ v ∷ []) is ∙ made_more n f before so_far.0,
+  subst (All IsNarrow) (sym put) (All-push IsNarrow before v so_far.1 narrow),
+)
