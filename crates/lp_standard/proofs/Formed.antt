@@ -21,11 +21,11 @@ use Rattle.lp_frac.specs.declared.stop.Stop.TheVariants.{Cause, NoMemory}
 use Rattle.lp_frac.specs.declared.stop.Stop.TheVariants as stop
 
 -- ---- one column more
-pub entries_more : (xs : List ExactColumn) (j : ℕ) (done : List (List (ℕ × ℚ))) (e : List (ℕ × ℚ)) →
-    done ≡ map (λ c. c.entries) (take j xs) → e ≡ (get_or xs j no_column).entries → j < length xs →
-    done ++ e ∷ [] ≡ map (λ c. c.entries) (take (j + 1) xs)
-entries_more xs j done e h g l =
-    ap₂ (λ ys y. ys ++ y ∷ []) h g ∙ sym (map_more (λ (c : ExactColumn). c.entries) xs j no_column l)
+pub column_more : {B : Type 0} (f : ExactColumn → B) (xs : List ExactColumn) (j : ℕ) (before after : List B) (v : B) →
+    after ≡ before ++ v ∷ [] → before ≡ map f (take j xs) → v ≡ f (get_or xs j no_column) → j < length xs →
+    after ≡ map f (take (j + 1) xs)
+column_more f xs j before after v put so_far is l =
+    put ∙ ap₂ (λ ys y. ys ++ y ∷ []) so_far is ∙ sym (map_more f xs j no_column l)
 
 -- ---- one row more
 pushed : {A B : Type 0} (f : A → B) (front : List B) (done : List A) (a : A) (all : List B) →

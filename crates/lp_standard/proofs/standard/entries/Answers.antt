@@ -4,7 +4,7 @@ use Rattle.std.specs.Prelude.{All}
 use Rattle.std.proofs.lemmas.List.Elements.{All-push}
 use Rattle.spec_model.specs.Model.{height}
 use Rattle.spec_model.specs.Kept.{AreEntries}
-use Rattle.lp_standard.proofs.Formed.{entries_more}
+use Rattle.lp_standard.proofs.Formed.{column_more}
 use Rattle.lp_standard.proofs.standard.entries.Goals as goal
 
 pub loop-j-preserved : goal.loop-j-preserved
@@ -14,7 +14,9 @@ loop-j-preserved c =
     let l : c.loop-j.j < length m.columns = omega (arith, c.loop-j-test.true, c.cols-j-end.ensures.value) in
     let e = c.from_vec.ensures ∙ c.in_ok-column.ensures.items in
     record {
-      items = c.in_ok-push.ensures.ok ∙ entries_more m.columns _ _ _ i.items (e ∙ c.entries.ensures.value) l;
+      items =
+          column_more (λ c. c.entries) m.columns _ _ _ _ c.in_ok-push.ensures.ok i.items
+          (e ∙ c.entries.ensures.value) l;
       kept =
           subst (All (AreEntries (height m))) (sym c.in_ok-push.ensures.ok)
           (All-push (AreEntries (height m)) _ _ i.kept (subst (AreEntries (height m)) (sym e) c.entries.ensures.kept));
