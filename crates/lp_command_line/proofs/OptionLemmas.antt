@@ -98,6 +98,13 @@ options-none names words e = by (in_pairs words) (sym (are-pairs names words) �
     by None h = refl
     by (Some options) h = ap (λ t. cond t (Some options) None) h
 
+-- the value in several words, by their first option
+pub value-first : (name : List ℕ) (rest : List (List ℕ)) (option value : List ℕ) (more : List (List ℕ)) (test : Bool) →
+    rest ≡ option ∷ value ∷ more → same name option ≡ test →
+    value_in name rest ≡ cond test (Some value) (value_in name more)
+value-first name rest option value more test cut is =
+    ap (value_in name) cut ∙ ap (λ t. cond t (Some value) (value_in name more)) is
+
 -- ---- the words that are left at the end of a loop
 
 pub value-short : {X : Type 0} (name : List ℕ) (f : X → List ℕ) (rest : List X) → length rest < 2 →

@@ -64,9 +64,9 @@ fn value_of<'a>(words: &'a [String], name: &[u8]) -> Option<&'a [u8]>
     ensures { option_copied result ≡ value_in name.now (map string_bytes words.now) }
 {
     let mut rest = words;
-    while let [option, value, more @ ..] = rest {
-        if are_same(name, option.as_bytes()) {
-            return Some(value.as_bytes());
+    while let Some((option, value, more)) = first_option(rest) {
+        if are_same(name, option) {
+            return Some(value);
         }
         rest = more;
     }

@@ -4,8 +4,8 @@ use Rattle.std.specs.Prelude.{string_bytes}
 use Rattle.lp_command_line.specs.Words.{value_in}
 use Rattle.lp_command_line.proofs.line.value_of.Given as goal
 
-abbrev pub invariant-loop-rest : goal.invariant-loop-rest
-invariant-loop-rest l = value_in l.name (map string_bytes l.rest) ≡ value_in l.name (map string_bytes l.words)
+abbrev pub invariant-loop-option : goal.invariant-loop-option
+invariant-loop-option l = value_in l.name (map string_bytes l.rest) ≡ value_in l.name (map string_bytes l.words)
 
-abbrev pub decreases-loop-rest : goal.decreases-loop-rest
-decreases-loop-rest l = length l.rest
+abbrev pub decreases-loop-option : goal.decreases-loop-option
+decreases-loop-option l = length l.rest
