@@ -1,5 +1,5 @@
 -- The reading of a script, ask by ask.
-use Rattle.std.proofs.Common.{◌≡◌, ℕ, ◌≤◌, ◌⊎◌, List, [], ◌∷◌, ◌++◌, Option, Ok, Err, refl, sym, ap, ◌∙◌, inl}
+use Rattle.std.proofs.Common.{◌≡◌, ℕ, ◌≤◌, List, [], ◌∷◌, ◌++◌, Option, Ok, Err, refl, sym, ap, ◌∙◌, inl}
 use Rattle.std.proofs.Common.{⊎_elim, append-nil, Result, subst}
 use Rattle.std.specs.Prelude.{All}
 use Rattle.std.specs.declared.alloc.AllocError.{AllocError}

@@ -6,7 +6,7 @@ use Rattle.std.specs.List.{flat_map, zip}
 use Rattle.std.specs.Io.KnownBytes.{Appends}
 use Rattle.std.proofs.KnownBytes.{Appends-nil, Appends-trans}
 use Rattle.std.proofs.lemmas.Grind.{flat_map-append}
-use Rattle.std.proofs.lemmas.List.{take_more, take_all, take-append-drop}
+use Rattle.std.proofs.lemmas.List.{take_more, take_all, take-append-drop, map-append}
 use Rattle.std.proofs.lemmas.Slice.Zip.{length-zip, get_or-zip}
 use Rattle.spec_text.specs.Lines.{IsPrefixOf}
 use Rattle.spec_text.specs.declared.line.Line.{Line}
@@ -190,3 +190,15 @@ module _ {workers places : ℕ} {asks : List (Asked ExactAsk)} (many : workers �
           let m = answered end read (script_out answers.exchanges) (subst (Appends taken now) all_is all)
           (whole_front answers.exchanges) in
           (m.0, m.1 refl)
+
+-- ---- what is read of each item, one more and all
+
+pub one-more-read : {X : Type 0} (f : X → ℕ) (items : List X) (at : ℕ) (item : X) (before after : List ℕ) →
+    at < length items → item ≡ get_or items at item → before ≡ map f (take at items) → after ≡ before ++ f item ∷ [] →
+    after ≡ map f (take (at + 1) items)
+one-more-read f items at item before after inside is so_far pushed =
+    pushed
+    ∙ ap (λ read. read ++ f item ∷ []) so_far
+    ∙ ap (λ x. map f (take at items) ++ f x ∷ []) is
+    ∙ sym (ap (map f) (take_more items at item inside)
+    ∙ map-append f (take at items) (get_or items at item ∷ []))
