@@ -1,0 +1,127 @@
+-- The tableau of a basis, with the bounds and the statuses that the form and the basis say.
+use Rattle.std.proofs.Common.{◌≡◌, ℕ, ◌+◌, ◌-◌, ◌<◌, ◌≤◌, List, ◌++◌, length, get_or, replicate}
+use Rattle.std.proofs.Common.{Option, Some, None, Ok, nat_le, refl, sym, ap, ap₂, ◌∙◌, subst, subst₂, arith}
+use Rattle.std.proofs.lemmas.Bool.{lt-leb}
+use Rattle.std.proofs.lemmas.List.{get_or_append_left, get_or-append-add, get_or-replicate}
+use Rattle.spec_exact.specs.Fraction.{ℚ, 0ℚ, ◌≤ℚ◌}
+use Rattle.spec_exact.proofs.Order.{≤ℚ_refl}
+use Rattle.spec_pivot.specs.declared.status.Status.{Status}
+use Rattle.spec_pivot.specs.declared.status.Status.TheVariants.{Basic, AtLower}
+use Rattle.spec_pivot.specs.Simplex.{Bounds, IsTableau}
+use Rattle.spec_simplex.specs.declared.ends.StartStop.TheVariants as stop
+use Rattle.spec_simplex.specs.Form.{Form, form_lower, form_upper}
+use Rattle.spec_simplex.specs.Start.{cost_at, priced_run, with_reduced}
+use Rattle.spec_simplex.specs.Tableau.{Tableau}
+use Rattle.spec_simplex.specs.Eliminate.{IsBasisOf, basis_at, basis_status, basis_lower, basis_upper, with_basis}
+use Rattle.spec_simplex.specs.Eliminate.{eliminate_run, valued_run, with_values, filled_run, start_from}
+use Rattle.spec_path.specs.Tables.{table_of, bounds_of}
+use Rattle.spec_path.specs.Begins.{IsProper}
+use Rattle.spec_path.proofs.Formed.{HasBounds}
+use Rattle.spec_path.proofs.Lists.{by_lt}
+use Rattle.spec_path.proofs.Runs.{then_ok, refused_ok}
+use Rattle.spec_dual.specs.Dual.{IsOrdered}
+use Rattle.spec_warm.specs.Based.{equations, BeginsFrom}
+use Rattle.spec_warm.proofs.Started.{start_begins_from}
+
+-- what a tableau has of a form and a basis
+pub record IsOf (f : Form) (basis : List Status) (t : Tableau) : Type 0 where
+  pub rows : t.rows ≡ f.rows
+  pub cols : t.cols ≡ f.cols
+  pub status : t.status ≡ basis_status f basis
+  pub lower : t.lower ≡ basis_lower f
+  pub upper : t.upper ≡ basis_upper f
+
+pub start_is_of : (limit : Option ℕ) (f : Form) (basis : List Status) (t : Tableau) → start_from limit f basis ≡ Ok t →
+    IsOf f basis t
+unfolding start_from
+start_is_of limit f basis t h =
+    let a = then_ok (eliminate_run limit f basis) _ t h in
+    let h' = refused_ok stop.Past (filled_run limit f (with_basis f basis a.0)) t a.2 in
+    let c = then_ok (valued_run limit (with_basis f basis a.0)) _ t h' in
+    let d = then_ok (priced_run limit (with_basis f basis a.0) f.cost) _ t c.2 in
+    let z : with_reduced (with_values (with_basis f basis a.0) c.0) d.0 ≡ t = cc in
+    subst (IsOf f basis) z (record { rows = refl; cols = refl; status = refl; lower = refl; upper = refl })
+
+-- the bounds of a form, with those of the artificial columns
+abbrev pub bounds_in : List (Option ℚ) → List (Option ℚ) → ℕ → Bounds
+bounds_in lower upper n =
+    record { lower = λ k. get_or lower k None; upper = λ k. get_or upper k None; barred = λ k. nat_le n k }
+
+abbrev pub form_bounds : Form → Bounds
+form_bounds f = bounds_in (basis_lower f) (basis_upper f) (f.cols + f.rows)
+
+bounds_are : (f : Form) (basis : List Status) (t : Tableau) → IsOf f basis t → bounds_of t ≡ form_bounds f
+bounds_are f basis t s =
+    ap₂ (λ l u. bounds_in l u (t.cols + t.rows)) s.lower s.upper
+    ∙ ap₂ (λ c r. bounds_in (basis_lower f) (basis_upper f) (c + r)) s.cols s.rows
+
+-- a tableau of the form's equations, costs and bounds
+abbrev pub IsFor : Form → Tableau → Type 0
+IsFor f t =
+    IsTableau f.rows (f.cols + f.rows + f.rows) (equations f) (cost_at f.cost) (form_bounds f) (table_of t)
+
+module _ (limit : Option ℕ) (f : Form) (proper : IsProper f) (basis : List Status) (fits : IsBasisOf f basis)
+    (few : length f.cost ≤ f.cols + f.rows + f.rows) (t : Tableau) (ok : start_from limit f basis ≡ Ok t) where
+  pub begun : BeginsFrom f t
+  begun = start_begins_from limit f basis t proper fits few ok
+
+  pub of : IsOf f basis t
+  of = start_is_of limit f basis t ok
+
+  pub is_for : IsFor f t
+  is_for =
+      subst (λ b. IsTableau f.rows (f.cols + f.rows + f.rows) (equations f) (cost_at f.cost) b (table_of t))
+      (bounds_are f basis t of) begun.based.tableau.tableau
+
+-- ---- the lists of a basis
+module _ (f : Form) (proper : IsProper f) where
+  lower_before : (k : ℕ) → k < f.cols + f.rows → get_or (basis_lower f) k None ≡ form_lower f k
+  lower_before k h = get_or_append_left f.lower (replicate f.rows (Some 0ℚ)) None k (omega (arith, h, proper.all_lower))
+
+  upper_before : (k : ℕ) → k < f.cols + f.rows → get_or (basis_upper f) k None ≡ form_upper f k
+  upper_before k h = get_or_append_left f.upper (replicate f.rows (Some 0ℚ)) None k (omega (arith, h, proper.all_upper))
+
+  bound_after : (bounds : List (Option ℚ)) → length bounds ≡ f.cols + f.rows → (r : ℕ) → r < f.rows →
+      get_or (bounds ++ replicate f.rows (Some 0ℚ)) (f.cols + f.rows + r) None ≡ Some 0ℚ
+  bound_after bounds all r h =
+      ap (λ k. get_or (bounds ++ replicate f.rows (Some 0ℚ)) (k + r) None) (sym all)
+      ∙ get_or-append-add bounds (replicate f.rows (Some 0ℚ)) r None
+      ∙ get_or-replicate f.rows r (Some 0ℚ) None h
+
+  pub bounded : HasBounds f (form_bounds f)
+  bounded =
+      record { lower = lower_before; upper = upper_before; entering = λ k l. lt-leb (f.cols + f.rows) k l }
+
+  pub fixed_after : (i : ℕ) → i < f.rows →
+      ((form_bounds f).lower (f.cols + f.rows + i) ≡ Some 0ℚ) × ((form_bounds f).upper (f.cols + f.rows + i) ≡ Some 0ℚ)
+  fixed_after i h = (bound_after f.lower proper.all_lower i h, bound_after f.upper proper.all_upper i h)
+
+  -- an artificial by the number of its row
+  pub by_artificial : (P : ℕ → Type 0) (k : ℕ) → f.cols + f.rows ≤ k → k < f.cols + f.rows + f.rows →
+      ((r : ℕ) → r < f.rows → P (f.cols + f.rows + r)) → P k
+  by_artificial P k h l g =
+      let z : f.cols + f.rows + (k - (f.cols + f.rows)) ≡ k = omega (arith, h) in
+      subst P z (g (k - (f.cols + f.rows)) (omega (arith, h, l)))
+
+  pub ordered : IsOrdered (f.cols + f.rows + f.rows) (form_bounds f)
+  ordered k l u k_in p q =
+      by_lt k (f.cols + f.rows)
+      (λ z. proper.ordered k l u z (sym (lower_before k z) ∙ p) (sym (upper_before k z) ∙ q))
+      (λ z. by_artificial
+      (λ k. (form_bounds f).lower k ≡ Some l → (form_bounds f).upper k ≡ Some u → l ≤ℚ u) k z k_in
+      (λ i i_in p q. let o = fixed_after i i_in in
+      let x : Some 0ℚ ≡ Some l = sym o.0 ∙ p in
+      let y : Some 0ℚ ≡ Some u = sym o.1 ∙ q in
+      let x' : 0ℚ ≡ l = cc in let y' : 0ℚ ≡ u = cc in subst₂ ◌≤ℚ◌ x' y' (≤ℚ_refl 0ℚ)) p q)
+
+pub status_before : (f : Form) (basis : List Status) → IsBasisOf f basis → (k : ℕ) → k < f.cols + f.rows →
+    get_or (basis_status f basis) k Basic ≡ basis_at basis k
+status_before f basis fits k h =
+    get_or_append_left basis (replicate f.rows AtLower) Basic k (omega (arith, h, fits.all))
+
+pub status_after : (f : Form) (basis : List Status) → IsBasisOf f basis → (r : ℕ) → r < f.rows →
+    get_or (basis_status f basis) (f.cols + f.rows + r) Basic ≡ AtLower
+status_after f basis fits r h =
+    ap (λ k. get_or (basis ++ replicate f.rows AtLower) (k + r) Basic) (sym fits.all)
+    ∙ get_or-append-add basis (replicate f.rows AtLower) r Basic
+    ∙ get_or-replicate f.rows r AtLower Basic h
