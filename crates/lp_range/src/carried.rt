@@ -1,0 +1,118 @@
+// The ends of a right side: where basic values come to their bounds.
+ghost use Rattle.std.specs.Prelude.{◌≡◌, ◌≢◌, ◌<◌, Some};
+ghost use Rattle.spec_exact.specs.Fraction.{0ℚ};
+ghost use Rattle.spec_simplex.specs.Tableau.{all_columns};
+ghost use Rattle.spec_range.specs.Rule as rule;
+ghost use Rattle.lp_frac.specs.Narrow.{largest};
+ghost use Rattle.lp_range.specs.Answer.{IsSeated};
+
+use crate::columns::{is_there, is_zero, place};
+use crate::ends::{Ends, at_side, no_ends};
+use lp_form::is_basic;
+use lp_frac::{Frac, Past, add, div, is_positive, sub};
+use lp_tableau::Tableau;
+
+// The right side with which the bound, as it moves along, comes to `value`.
+fn shifted(rhs: Frac, value: Frac, bound: Option<Frac>) -> Result<Option<Frac>, Past>
+    ensures { result ≡ rule.shifted_run (Some largest) rhs value bound }
+{
+    let Some(bound) = bound else {
+        return Ok(None);
+    };
+    let gap = sub(value, bound)?;
+    let x = add(rhs, gap)?;
+    Ok(Some(x))
+}
+
+// The ends for the right side of a row whose logical is basic, at `value`.
+fn still(rhs: Frac, value: Frac, lower: Option<Frac>, upper: Option<Frac>) -> Result<Ends, Past>
+    ensures { result ≡ rule.still_ends (Some largest) rhs value lower upper }
+{
+    let high = shifted(rhs, value, lower)?;
+    let low = shifted(rhs, value, upper)?;
+    Ok(Ends { low, high })
+}
+
+// The ends with the one at which a basic value comes to a bound.
+fn bounded(
+    rhs: Frac,
+    value: Frac,
+    entry: Frac,
+    bound: Option<Frac>,
+    upper: bool,
+    ends: Ends,
+) -> Result<Ends, Past>
+    requires { entry ≢ 0ℚ }
+    ensures { result ≡ rule.bound_ends (Some largest) rhs value entry bound upper ends }
+{
+    let Some(bound) = bound else {
+        return Ok(ends);
+    };
+    let gap = sub(value, bound)?;
+    let q = div(gap, entry)?;
+    let x = add(rhs, q)?;
+    at_side(upper, x, ends)
+}
+
+// The ends with those at which a basic value comes to either bound.
+fn carried(
+    rhs: Frac,
+    value: Frac,
+    entry: Frac,
+    lower: Option<Frac>,
+    upper: Option<Frac>,
+    ends: Ends,
+) -> Result<Ends, Past>
+    requires { entry ≢ 0ℚ }
+    ensures { result ≡ rule.carried_ends (Some largest) rhs value entry lower upper ends }
+{
+    let falls = is_positive(entry);
+    let ends = bounded(rhs, value, entry, lower, falls, ends)?;
+    bounded(rhs, value, entry, upper, !falls, ends)
+}
+
+// The ends with those that column `k` asks for, where the logical `s` is not basic.
+fn carried_if(tab: &Tableau, rhs: Frac, s: u32, k: u32, ends: Ends) -> Result<Ends, Past>
+    requires logical { s < all_columns tab.now }
+    requires column { k < all_columns tab.now }
+    requires seated { IsSeated tab.now }
+    ensures { result ≡ rule.carried_if (Some largest) rhs tab.now s k ends }
+{
+    if !is_basic(tab.status(k)) {
+        return Ok(ends);
+    }
+    let entry = tab.entry(place(tab, k), s);
+    if is_zero(entry) {
+        return Ok(ends);
+    }
+    carried(rhs, tab.value(k), entry, tab.lower(k), tab.upper(k), ends)
+}
+
+// The ends for the right side of a row whose logical is not basic and has a bound.
+fn nonbasic(tab: &Tableau, rhs: Frac, s: u32) -> Result<Ends, Past>
+    requires logical { s < all_columns tab.now }
+    requires seated { IsSeated tab.now }
+    ensures { result ≡ rule.nonbasic_ends (Some largest) rhs tab.now s }
+{
+    let mut ends = no_ends();
+    for k in 0..tab.width() {
+        ends = carried_if(tab, rhs, s, k, ends)?;
+    }
+    Ok(ends)
+}
+
+// The ends for the right side of the row whose logical is column `s`.
+pub(crate) fn side_ends(tab: &Tableau, rhs: Frac, s: u32) -> Result<Ends, Past>
+    requires logical { s < all_columns tab.now }
+    requires seated { IsSeated tab.now }
+    ensures { result ≡ rule.side_ends (Some largest) rhs tab.now s }
+{
+    let (lower, upper) = (tab.lower(s), tab.upper(s));
+    if is_basic(tab.status(s)) {
+        still(rhs, tab.value(s), lower, upper)
+    } else if is_there(lower) || is_there(upper) {
+        nonbasic(tab, rhs, s)
+    } else {
+        Ok(no_ends())
+    }
+}

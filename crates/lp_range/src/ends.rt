@@ -1,0 +1,79 @@
+// The ends so far, of which the tightest are kept.
+ghost use Rattle.std.specs.Prelude.{◌≡◌, Some};
+ghost use Rattle.spec_range.specs.Rule as rule;
+ghost use Rattle.lp_frac.specs.Narrow.{largest};
+
+use lp_frac::{Frac, Past, cmp};
+use std::cmp::Ordering;
+
+/// The ends of a range, as far as they are there.
+pub type Ends = spec_range::Ends<Frac>;
+
+/// A range, and by how much the optimal value grows with each unit of the number.
+pub type Range = spec_range::Range<Frac>;
+
+// Every number.
+pub(crate) fn no_ends() -> Ends
+    ensures { result ≡ rule.no_ends }
+{
+    Ends {
+        low: None,
+        high: None,
+    }
+}
+
+fn greater(new: Frac, kept: Option<Frac>) -> Result<Frac, Past>
+    ensures { result ≡ rule.greater_run (Some largest) new kept }
+{
+    let Some(kept) = kept else {
+        return Ok(new);
+    };
+    match cmp(new, kept)? {
+        Ordering::Less | Ordering::Equal => Ok(kept),
+        Ordering::Greater => Ok(new),
+    }
+}
+
+fn lesser(new: Frac, kept: Option<Frac>) -> Result<Frac, Past>
+    ensures { result ≡ rule.lesser_run (Some largest) new kept }
+{
+    let Some(kept) = kept else {
+        return Ok(new);
+    };
+    match cmp(new, kept)? {
+        Ordering::Less => Ok(new),
+        Ordering::Equal | Ordering::Greater => Ok(kept),
+    }
+}
+
+// With `v` as a lower end too.
+pub(crate) fn at_least(v: Frac, ends: Ends) -> Result<Ends, Past>
+    ensures { result ≡ rule.at_least (Some largest) v ends }
+{
+    let low = greater(v, ends.low)?;
+    Ok(Ends {
+        low: Some(low),
+        high: ends.high,
+    })
+}
+
+// With `v` as an upper end too.
+pub(crate) fn at_most(v: Frac, ends: Ends) -> Result<Ends, Past>
+    ensures { result ≡ rule.at_most (Some largest) v ends }
+{
+    let high = lesser(v, ends.high)?;
+    Ok(Ends {
+        low: ends.low,
+        high: Some(high),
+    })
+}
+
+pub(crate) fn at_side(upper: bool, v: Frac, ends: Ends) -> Result<Ends, Past>
+    ensures { result ≡ rule.at_side (Some largest) upper v ends }
+{
+    if upper {
+        at_most(v, ends)
+    } else {
+        at_least(v, ends)
+    }
+}

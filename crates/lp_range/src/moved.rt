@@ -1,0 +1,127 @@
+// The ends of a cost: where reduced costs change their sign.
+ghost use Rattle.std.specs.Prelude.{◌≡◌, ◌≢◌, ◌<◌, Some};
+ghost use Rattle.spec_exact.specs.Fraction.{0ℚ};
+ghost use Rattle.spec_simplex.specs.Tableau.{all_columns, entry_at};
+ghost use Rattle.spec_range.specs.Rule as rule;
+ghost use Rattle.lp_frac.specs.Narrow.{largest};
+ghost use Rattle.lp_range.specs.Answer.{IsSeated};
+
+use crate::columns::{is_zero, least_cost, place};
+use crate::ends::{Ends, at_least, at_most, at_side, no_ends};
+use lp_form::{Status, is_basic};
+use lp_frac::{Frac, Past, add, div, is_positive, neg, one, sub};
+use lp_model::Sense;
+use lp_primal::is_fixed;
+use lp_tableau::Tableau;
+
+// The ends that a column of this status asks for, whose reduced cost is 0 where the cost is `v`.
+fn ends_by(status: Status, falls: bool, v: Frac, ends: Ends) -> Result<Ends, Past>
+    ensures { result ≡ rule.ends_by (Some largest) status falls v ends }
+{
+    match status {
+        Status::Basic => Ok(ends),
+        Status::AtLower => at_side(falls, v, ends),
+        Status::AtUpper => at_side(!falls, v, ends),
+        Status::AtZero => {
+            let ends = at_least(v, ends)?;
+            at_most(v, ends)
+        }
+    }
+}
+
+// Whether the reduced cost of a column with this entry in the moving column's row falls as the cost grows.
+fn falls(sense: Sense, entry: Frac) -> bool
+    ensures { result ≡ rule.falls_by sense entry }
+{
+    is_positive(least_cost(sense, entry))
+}
+
+// Where the cost of a column that is not basic makes its own reduced cost 0.
+fn own_number(sense: Sense, cost: Frac, status: Status, reduced: Frac) -> Result<Frac, Past>
+    ensures { result ≡ rule.own_number (Some largest) sense cost status reduced }
+{
+    match status {
+        Status::Basic | Status::AtZero => Ok(cost),
+        Status::AtLower | Status::AtUpper => sub(cost, least_cost(sense, reduced)),
+    }
+}
+
+// The ends for the cost of a column that is not basic.
+fn own(tab: &Tableau, sense: Sense, cost: Frac, col: u32) -> Result<Ends, Past>
+    requires { col < all_columns tab.now }
+    ensures { result ≡ rule.own_ends (Some largest) sense cost tab.now col }
+{
+    if is_fixed(tab.lower(col), tab.upper(col)) {
+        return Ok(no_ends());
+    }
+    let status = tab.status(col);
+    let v = own_number(sense, cost, status, tab.reduced(col))?;
+    ends_by(status, falls(sense, neg(one())), v, no_ends())
+}
+
+// Whether column `k` asks for an end where the cost of the basic column at position `p` moves.
+fn is_moved(tab: &Tableau, p: u32, k: u32) -> bool
+    requires place { p < tab.now.rows }
+    requires column { k < all_columns tab.now }
+    ensures { result ≡ rule.is_moved tab.now p k }
+{
+    !(is_basic(tab.status(k)) || (is_fixed(tab.lower(k), tab.upper(k)) || is_zero(tab.entry(p, k))))
+}
+
+// The ends with those that column `k` asks for.
+fn moved(tab: &Tableau, sense: Sense, cost: Frac, p: u32, k: u32, ends: Ends) -> Result<Ends, Past>
+    requires place { p < tab.now.rows }
+    requires column { k < all_columns tab.now }
+    requires entry { entry_at tab.now p k ≢ 0ℚ }
+    ensures { result ≡ rule.moved_ends (Some largest) sense cost tab.now p k ends }
+{
+    let entry = tab.entry(p, k);
+    let q = div(least_cost(sense, tab.reduced(k)), entry)?;
+    let v = add(cost, q)?;
+    ends_by(tab.status(k), falls(sense, entry), v, ends)
+}
+
+// The same of a column that may ask for none.
+fn moved_if(
+    tab: &Tableau,
+    sense: Sense,
+    cost: Frac,
+    p: u32,
+    k: u32,
+    ends: Ends,
+) -> Result<Ends, Past>
+    requires place { p < tab.now.rows }
+    requires column { k < all_columns tab.now }
+    ensures { result ≡ rule.moved_if (Some largest) sense cost tab.now p k ends }
+{
+    if is_moved(tab, p, k) {
+        moved(tab, sense, cost, p, k, ends)
+    } else {
+        Ok(ends)
+    }
+}
+
+// The ends for the cost of the basic column at position `p`.
+fn basic(tab: &Tableau, sense: Sense, cost: Frac, p: u32) -> Result<Ends, Past>
+    requires { p < tab.now.rows }
+    ensures { result ≡ rule.basic_ends (Some largest) sense cost tab.now p }
+{
+    let mut ends = no_ends();
+    for k in 0..tab.width() {
+        ends = moved_if(tab, sense, cost, p, k, ends)?;
+    }
+    Ok(ends)
+}
+
+// The ends for the cost of column `col`.
+pub(crate) fn cost_ends(tab: &Tableau, sense: Sense, cost: Frac, col: u32) -> Result<Ends, Past>
+    requires column { col < all_columns tab.now }
+    requires seated { IsSeated tab.now }
+    ensures { result ≡ rule.cost_ends (Some largest) sense cost tab.now col }
+{
+    if is_basic(tab.status(col)) {
+        basic(tab, sense, cost, place(tab, col))
+    } else {
+        own(tab, sense, cost, col)
+    }
+}
