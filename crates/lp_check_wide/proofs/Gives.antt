@@ -1,0 +1,253 @@
+-- Steps of a run without a limit, from what each call gives.
+use Rattle.std.proofs.Common.{◌≡◌, ℕ, ◌<◌, [], ◌∷◌, List, Option, Some, None, Ok, Err, Bool, true, false, not, cond}
+use Rattle.std.proofs.Common.{refl, sym, ap, ap₂, ◌∙◌, pos}
+use Rattle.std.specs.Prelude.{⊤, ok_or, int_lt, neg_ℤ, ℤ}
+use Rattle.std.proofs.Common.{arith}
+use Rattle.std.proofs.lemmas.Int.{ints}
+use Rattle.spec_exact.proofs.Signs.{negative_test, positive_test}
+use Rattle.spec_check.specs.Run.{rows_ask_run, columns_give_run, crossed_run, column_allows_run, row_allows_run, better_run}
+use Rattle.spec_model.specs.Model.{bounds}
+use Rattle.std.specs.Ordering.{is_lt, is_gt, is_eq}
+use Rattle.std.specs.declared.cmp.Ordering.{Ordering}
+use Rattle.std.specs.declared.cmp.Ordering.TheVariants.{Less, Equal, Greater}
+use Rattle.spec_exact.specs.Fraction.{ℚ, 0ℚ, ◌+ℚ◌, ◌-ℚ◌, ◌*ℚ◌, neg_ℚ, abs_ℚ, lt_ℚ, eq_ℚ}
+use Rattle.spec_exact.specs.Limit.{add, sub, order, compare}
+use Rattle.spec_exact.specs.declared.past.Op.TheVariants.{Add, Sub, Cmp}
+use Rattle.spec_exact.specs.Run.{◌>>=◌}
+use Rattle.spec_exact.proofs.Ring.{◌⊕◌, ◌⊖◌, ◌⊗◌, minus, lit, v0, v1, v2}
+use Rattle.spec_exact.proofs.Field.{by_ring_ℚ, +ℚ_zero, *ℚ_zero, *ℚ_comm}
+use Rattle.spec_exact.proofs.Ruleset.{zero-*ℚ}
+use Rattle.spec_exact.proofs.Compare.{order_equal}
+use Rattle.spec_exact.proofs.Same.{eq_if, eq_test}
+use Rattle.spec_model.specs.declared.parts.Kind.TheVariants.{L, G, E}
+use Rattle.spec_model.specs.Model.{Model, ExactRow, ExactColumn, width, height, column}
+use Rattle.spec_check.specs.declared.certificate.Certificate.TheVariants.{Optimal, Infeasible, Unbounded, Clash}
+use Rattle.spec_check.specs.declared.certificate.CheckStop.TheVariants as stop
+use Rattle.spec_check.specs.declared.certificate.Known.TheVariants as known
+use Rattle.spec_check.specs.Run.{Run, step, need, each, plus_product, less_product, some_run, lower_by_run, upper_by_run}
+use Rattle.spec_check.specs.Run.{lower_run, upper_run, at_least, at_most, stands_at, columns_run, rows_run}
+use Rattle.spec_check.specs.Run.{column_tight_run, row_tight_run, value_run, check_run}
+use Rattle.spec_check.proofs.StepsComplete.{added, taken, ordered, plus_all, less_all}
+
+-- ---- limits
+some_of : (o : Run ℚ) (u v : ℚ) → o ≡ Ok u → v ≡ u → some_run o ≡ Ok (Some v)
+some_of o u v e f = ap some_run e ∙ ap (λ z. Ok (Some z)) (sym f)
+
+pub lower_L : (r : ExactRow) (g a v : ℚ) → r.kind ≡ L → r.range ≡ Some g → a ≡ abs_ℚ g → v ≡ r.rhs -ℚ a →
+    lower_run None r ≡ Ok (Some v)
+lower_L r g a v e f h i =
+    ap₂ (λ k o. lower_by_run None k r.rhs o) e f
+    ∙ some_of _ _ v (taken r.rhs (abs_ℚ g)) (i ∙ ap (λ z. r.rhs -ℚ z) h)
+
+pub lower_E : (r : ExactRow) (g v : ℚ) (t : Bool) → r.kind ≡ E → r.range ≡ Some g → t ≡ lt_ℚ g 0ℚ → t ≡ true →
+    v ≡ r.rhs +ℚ g → lower_run None r ≡ Ok (Some v)
+lower_E r g v t e f h i j =
+    ap₂ (λ k o. lower_by_run None k r.rhs o) e f
+    ∙ ap (λ s. cond s (some_run (step Add r.rhs g (add None r.rhs g))) (Ok (Some r.rhs))) (sym h ∙ i)
+    ∙ some_of _ _ v (added r.rhs g) j
+
+pub upper_G : (r : ExactRow) (g a v : ℚ) → r.kind ≡ G → r.range ≡ Some g → a ≡ abs_ℚ g → v ≡ r.rhs +ℚ a →
+    upper_run None r ≡ Ok (Some v)
+upper_G r g a v e f h i =
+    ap₂ (λ k o. upper_by_run None k r.rhs o) e f
+    ∙ some_of _ _ v (added r.rhs (abs_ℚ g)) (i ∙ ap (λ z. r.rhs +ℚ z) h)
+
+pub upper_E : (r : ExactRow) (g v : ℚ) (t : Bool) → r.kind ≡ E → r.range ≡ Some g → t ≡ lt_ℚ g 0ℚ → t ≡ false →
+    v ≡ r.rhs +ℚ g → upper_run None r ≡ Ok (Some v)
+upper_E r g v t e f h i j =
+    ap₂ (λ k o. upper_by_run None k r.rhs o) e f
+    ∙ ap (λ s. cond s (Ok (Some r.rhs)) (some_run (step Add r.rhs g (add None r.rhs g)))) (sym h ∙ i)
+    ∙ some_of _ _ v (added r.rhs g) j
+
+-- ---- tests
+pub least_is : (l : Option ℚ) (k v : ℚ) (o : Ordering) (t : Bool) → l ≡ Some k → o ≡ order v k → t ≡ is_lt o →
+    (n : ℕ) → at_least n None l v ≡ need n (not t)
+least_is l k v o t e f g n =
+    ap (λ z. at_least n None z v) e ∙ ap (λ z. z >>= λ o. need n (not (is_lt o))) (ordered v k)
+    ∙ ap (λ z. need n (not z)) (sym (g ∙ ap is_lt f))
+
+pub most_is : (l : Option ℚ) (k v : ℚ) (o : Ordering) (t : Bool) → l ≡ Some k → o ≡ order v k → t ≡ is_gt o →
+    (n : ℕ) → at_most n None l v ≡ need n (not t)
+most_is l k v o t e f g n =
+    ap (λ z. at_most n None z v) e ∙ ap (λ z. z >>= λ o. need n (not (is_gt o))) (ordered v k)
+    ∙ ap (λ z. need n (not z)) (sym (g ∙ ap is_gt f))
+
+differs : (k v : ℚ) → (order k v ≡ Equal → ⊥) → false ≡ eq_ℚ k v
+differs k v h = by (eq_ℚ k v) refl
+  where
+    by : (t : Bool) → eq_ℚ k v ≡ t → false ≡ t
+    by true e = absurd (h ((order_equal k v).1 (eq_if k v e)))
+    by false e = refl
+
+equal_order : (k v : ℚ) → is_eq (order k v) ≡ eq_ℚ k v
+equal_order k v = by (order k v) refl
+  where
+    by : (o : Ordering) → order k v ≡ o → is_eq o ≡ eq_ℚ k v
+    by Less e = differs k v (λ f. let g : Less ≡ Equal = sym e ∙ f in cc)
+    by Equal e = sym (eq_test k v ((order_equal k v).0 e))
+    by Greater e = differs k v (λ f. let g : Greater ≡ Equal = sym e ∙ f in cc)
+
+pub stands_is : (l : Option ℚ) (k v : ℚ) (o : Ordering) (t : Bool) → l ≡ Some k → o ≡ order k v → t ≡ is_eq o →
+    t ≡ stands_at l v
+stands_is l k v o t e f g = g ∙ ap is_eq f ∙ equal_order k v ∙ ap (λ z. stands_at z v) (sym e)
+
+-- ---- products
+pub plus_no_left : (v w s : ℚ) → v ≡ 0ℚ → plus_product None v w s ≡ Ok s
+plus_no_left v w s e =
+    plus_all v w s ∙ ap Ok (ap (λ z. s +ℚ z *ℚ w) e ∙ ap (λ z. s +ℚ z) (zero-*ℚ w) ∙ +ℚ_zero s)
+
+pub plus_no_right : (v w s : ℚ) → w ≡ 0ℚ → plus_product None v w s ≡ Ok s
+plus_no_right v w s e =
+    plus_all v w s ∙ ap Ok (ap (λ z. s +ℚ v *ℚ z) e ∙ ap (λ z. s +ℚ z) (*ℚ_zero v) ∙ +ℚ_zero s)
+
+pub plus_gives : (v w s p r : ℚ) → p ≡ v *ℚ w → r ≡ s +ℚ p → plus_product None v w s ≡ Ok r
+plus_gives v w s p r e f = plus_all v w s ∙ ap Ok (sym (f ∙ ap (λ z. s +ℚ z) e))
+
+turned : (v w s : ℚ) → s +ℚ neg_ℚ w *ℚ v ≡ s -ℚ v *ℚ w
+turned v w s = by_ring_ℚ (v ∷ w ∷ s ∷ []) (v2 ⊕ minus v1 ⊗ v0) (v2 ⊖ v0 ⊗ v1) refl
+
+pub less_gives : (v w s n p r : ℚ) → n ≡ neg_ℚ w → p ≡ n *ℚ v → r ≡ s +ℚ p → less_product None v w s ≡ Ok r
+less_gives v w s n p r d e f =
+    less_all v w s ∙ ap Ok (sym (f ∙ ap (λ z. s +ℚ z) (e ∙ ap (λ z. z *ℚ v) d) ∙ turned v w s))
+
+less_nothing : (v w s p : ℚ) → p ≡ neg_ℚ w *ℚ v → p ≡ 0ℚ → less_product None v w s ≡ Ok s
+less_nothing v w s p e f = less_gives v w s (neg_ℚ w) p s refl e (sym (ap (λ z. s +ℚ z) f ∙ +ℚ_zero s))
+
+neg_none : (w : ℚ) → w ≡ 0ℚ → neg_ℚ w ≡ 0ℚ
+neg_none w e = ap neg_ℚ e ∙ by_ring_ℚ [] (minus (lit (pos 0))) (lit (pos 0)) refl
+
+pub less_no_left : (v w s : ℚ) → v ≡ 0ℚ → less_product None v w s ≡ Ok s
+less_no_left v w s e = less_nothing v w s _ refl (ap (λ z. neg_ℚ w *ℚ z) e ∙ *ℚ_zero (neg_ℚ w))
+
+pub less_no_right : (v w s : ℚ) → w ≡ 0ℚ → less_product None v w s ≡ Ok s
+less_no_right v w s e = less_nothing v w s _ refl (ap (λ z. z *ℚ v) (neg_none w e) ∙ zero-*ℚ v)
+
+-- ---- the value
+pub value_is : (o : Run ℚ) (s f g r : ℚ) → o ≡ Ok s → g ≡ f → r ≡ s +ℚ g →
+    (o >>= λ s. step Add s f (add None s f)) ≡ Ok r
+value_is o s f g r e h i =
+    ap (λ z. z >>= λ s. step Add s f (add None s f)) e ∙ added s f ∙ ap Ok (sym (i ∙ ap (λ z. s +ℚ z) h))
+
+-- ---- all conditions in order
+pub passes : (n : ℕ) (b : Bool) (o : Run ⊤) → o ≡ need n b → b ≡ true → o ≡ Ok tt
+passes n b o e f = e ∙ ap (need n) f
+
+pub fails : (n : ℕ) (b : Bool) (o : Run ⊤) → o ≡ need n b → b ≡ false → o ≡ Err (stop.No n)
+fails n b o e f = e ∙ ap (need n) f
+
+pub no_first : (m : Model) (x y : List ℚ) → columns_run None m x ≡ Err (stop.No 1) →
+    check_run None m (Optimal x y) ≡ Err (stop.No 1)
+unfolding check_run
+no_first m x y a = rw a refl
+
+pub no_second : (m : Model) (x y : List ℚ) → columns_run None m x ≡ Ok tt → rows_run None m x ≡ Err (stop.No 2) →
+    check_run None m (Optimal x y) ≡ Err (stop.No 2)
+unfolding check_run
+no_second m x y a b = rw (a, b) refl
+
+pub no_third : (m : Model) (x y : List ℚ) → columns_run None m x ≡ Ok tt → rows_run None m x ≡ Ok tt →
+    each (width m) (column_tight_run None m x y) ≡ Err (stop.No 3) →
+    check_run None m (Optimal x y) ≡ Err (stop.No 3)
+unfolding check_run
+no_third m x y a b c = rw (a, b, c) refl
+
+pub no_fourth : (m : Model) (x y : List ℚ) → columns_run None m x ≡ Ok tt → rows_run None m x ≡ Ok tt →
+    each (width m) (column_tight_run None m x y) ≡ Ok tt →
+    each (height m) (row_tight_run None m x y) ≡ Err (stop.No 4) →
+    check_run None m (Optimal x y) ≡ Err (stop.No 4)
+unfolding check_run
+no_fourth m x y a b c d = rw (a, b, c, d) refl
+
+pub all_pass : (m : Model) (x y : List ℚ) (v : ℚ) → columns_run None m x ≡ Ok tt → rows_run None m x ≡ Ok tt →
+    each (width m) (column_tight_run None m x y) ≡ Ok tt →
+    each (height m) (row_tight_run None m x y) ≡ Ok tt → value_run None m x ≡ Ok v →
+    check_run None m (Optimal x y) ≡ Ok (known.Optimal v)
+unfolding check_run
+all_pass m x y v a b c d e = rw (a, b, c, d, e) refl
+
+-- ---- sums of what rows ask for and columns give
+pub missing : (n : ℕ) (o : Option ℚ) (r : Run ℚ) → r ≡ ok_or o (stop.No n) → o ≡ None → r ≡ Err (stop.No n)
+missing n o r e f = e ∙ ap (λ z. ok_or z (stop.No n)) f
+
+pub there : (n : ℕ) (o : Option ℚ) (r : Run ℚ) (v : ℚ) → r ≡ ok_or o (stop.No n) → o ≡ Some v → r ≡ Ok v
+there n o r v e f = e ∙ ap (λ z. ok_or z (stop.No n)) f
+
+pub onto_gives : (v w s p r : ℚ) → p ≡ w *ℚ v → r ≡ s +ℚ p → plus_product None v w s ≡ Ok r
+onto_gives v w s p r e f = plus_gives v w s p r (e ∙ *ℚ_comm w v) f
+
+pub no_rows : (m : Model) (y : List ℚ) → rows_ask_run None m y ≡ Err (stop.No 1) →
+    check_run None m (Infeasible y) ≡ Err (stop.No 1)
+unfolding check_run
+no_rows m y a = rw a refl
+
+pub no_columns : (m : Model) (y : List ℚ) (a : ℚ) → rows_ask_run None m y ≡ Ok a →
+    columns_give_run None m y ≡ Err (stop.No 2) → check_run None m (Infeasible y) ≡ Err (stop.No 2)
+unfolding check_run
+no_columns m y a e f = rw (e, f) refl
+
+pub compared : (m : Model) (y : List ℚ) (a g : ℚ) (o : Ordering) (t : Bool) → rows_ask_run None m y ≡ Ok a →
+    columns_give_run None m y ≡ Ok g → o ≡ order g a → t ≡ is_lt o →
+    check_run None m (Infeasible y) ≡ (need 3 t >>= λ _. Ok known.Infeasible)
+unfolding check_run
+compared m y a g o t e f h i =
+    rw (e, f) (ap (λ z. z >>= λ o. need 3 (is_lt o) >>= λ _. Ok known.Infeasible) (ordered g a)
+    ∙ ap (λ z. need 3 z >>= λ _. Ok known.Infeasible) (sym (i ∙ ap is_lt h)))
+
+pub clashed : (m : Model) (j : ℕ) (t : Bool) → crossed_run None (bounds m j).lower (bounds m j).upper ≡ need 1 t →
+    check_run None m (Clash j) ≡ (need 1 t >>= λ _. Ok known.Infeasible)
+unfolding check_run
+clashed m j t e = ap (λ z. z >>= λ _. Ok known.Infeasible) e
+
+pub crossed_bounds : (m : Model) (j : ℕ) (l u : Option ℚ) (c : ExactColumn) (t : Bool) → l ≡ c.lower → u ≡ c.upper →
+    c ≡ column m j → crossed_run None l u ≡ need 1 t →
+    crossed_run None (bounds m j).lower (bounds m j).upper ≡ need 1 t
+crossed_bounds m j l u c t e f g h =
+    sym (ap₂ (crossed_run None) (e ∙ ap (λ (k : ExactColumn). k.lower) g) (f ∙ ap (λ (k : ExactColumn). k.upper) g)) ∙ h
+
+pub crossed_is : (l u : Option ℚ) (a b : ℚ) (o : Ordering) (t : Bool) → l ≡ Some a → u ≡ Some b → o ≡ order a b →
+    t ≡ is_gt o → crossed_run None l u ≡ need 1 t
+crossed_is l u a b o t e f g h =
+    ap₂ (crossed_run None) e f ∙ ap (λ z. z >>= λ o. need 1 (is_gt o)) (ordered a b)
+    ∙ ap (need 1) (sym (h ∙ ap is_gt g))
+
+pub by_test : (n : ℕ) (t b : Bool) (r : Run (known.the_data ℚ)) → r ≡ (need n t >>= λ _. Ok known.Infeasible) → t ≡ b →
+    r ≡ (need n b >>= λ _. Ok known.Infeasible)
+by_test n t b r e f = e ∙ ap (λ z. need n z >>= λ _. Ok known.Infeasible) f
+
+-- ---- rays
+turned_sign : (z : ℤ) → int_lt (pos 0) z ≡ int_lt (neg_ℤ z) (pos 0)
+turned_sign z = grind (arith, ints)
+
+pub better_above : (v : ℚ) (t : Bool) → t ≡ lt_ℚ 0ℚ v → t ≡ lt_ℚ (neg_ℚ v) 0ℚ
+unfolding neg_ℚ
+better_above v t e = e ∙ sym (positive_test v) ∙ turned_sign v.num ∙ negative_test (neg_ℚ v)
+
+pub ray_first : (m : Model) (x r : List ℚ) → columns_run None m x ≡ Err (stop.No 1) →
+    check_run None m (Unbounded x r) ≡ Err (stop.No 1)
+unfolding check_run
+ray_first m x r a = rw a refl
+
+pub ray_second : (m : Model) (x r : List ℚ) → columns_run None m x ≡ Ok tt → rows_run None m x ≡ Err (stop.No 2) →
+    check_run None m (Unbounded x r) ≡ Err (stop.No 2)
+unfolding check_run
+ray_second m x r a b = rw (a, b) refl
+
+pub ray_third : (m : Model) (x r : List ℚ) → columns_run None m x ≡ Ok tt → rows_run None m x ≡ Ok tt → each (width m) (column_allows_run m r) ≡ Err (stop.No 3) →
+    check_run None m (Unbounded x r) ≡ Err (stop.No 3)
+unfolding check_run
+ray_third m x r a b c = rw (a, b, c) refl
+
+pub ray_fourth : (m : Model) (x r : List ℚ) → columns_run None m x ≡ Ok tt → rows_run None m x ≡ Ok tt → each (width m) (column_allows_run m r) ≡ Ok tt → each (height m) (row_allows_run None m r) ≡ Err (stop.No 4) →
+    check_run None m (Unbounded x r) ≡ Err (stop.No 4)
+unfolding check_run
+ray_fourth m x r a b c d = rw (a, b, c, d) refl
+
+pub ray_fifth : (m : Model) (x r : List ℚ) → columns_run None m x ≡ Ok tt → rows_run None m x ≡ Ok tt → each (width m) (column_allows_run m r) ≡ Ok tt → each (height m) (row_allows_run None m r) ≡ Ok tt → better_run None m r ≡ Err (stop.No 5) →
+    check_run None m (Unbounded x r) ≡ Err (stop.No 5)
+unfolding check_run
+ray_fifth m x r a b c d e = rw (a, b, c, d, e) refl
+
+pub ray_all : (m : Model) (x r : List ℚ) → columns_run None m x ≡ Ok tt → rows_run None m x ≡ Ok tt → each (width m) (column_allows_run m r) ≡ Ok tt → each (height m) (row_allows_run None m r) ≡ Ok tt → better_run None m r ≡ Ok tt →
+    check_run None m (Unbounded x r) ≡ Ok known.Unbounded
+unfolding check_run
+ray_all m x r a b c d e = rw (a, b, c, d, e) refl

@@ -1,0 +1,24 @@
+//! The check of certificates whose numbers have any width.
+//!
+//! | Item | What it is | Where |
+//! |---|---|---|
+//! | `check` | what the conditions of `spec_check`, run without a limit, say of a certificate | src/conditions |
+//! | `Certificate` | what is given to show something of one model | src/certificate |
+//! | `Ratios` | a certificate's list of numbers | src/certificate |
+//! | `Verdict`, `Known` | what a check says, and what a certificate shows | src/certificate |
+//!
+//! The model's numbers are narrow. Nothing is refused but for want of memory, so a verdict is never `Past`. That an
+//! accepted certificate is true, and a true one accepted, are laws of `spec_check` about what the contract names.
+#![tactic(auto)]
+
+mod certificate;
+mod conditions;
+mod farkas;
+mod limits;
+mod multipliers;
+mod point;
+mod ray;
+mod steps;
+
+pub use certificate::{Certificate, Known, Ratios, Verdict};
+pub use conditions::check;
