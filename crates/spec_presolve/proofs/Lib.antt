@@ -1,0 +1,16 @@
+pub mod Skips
+pub mod Scaled
+pub mod Tightened
+pub mod RowMore
+pub mod OverEmpty
+pub mod OverSingle
+pub mod OverSingleRun
+pub mod OverFixed
+pub mod InRows
+pub mod Chosen
+pub mod After
+pub mod Carried
+pub mod Halts
+pub mod Ends
+pub mod Narrow
+pub mod Kept

@@ -1,0 +1,3 @@
+pub mod Choose
+pub mod Reduce
+pub mod Carry

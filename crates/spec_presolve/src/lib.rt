@@ -1,0 +1,65 @@
+//! A model made smaller before it is solved, and the certificate of the smaller one carried back.
+//!
+//! | Item | What it is | Where |
+//! |---|---|---|
+//! | `Reduction`, `Halt`, `Choice`, `InRow` | one step to a smaller model, and why none follows | src/reduction |
+//! | `chosen` | which row or column goes next, by which rule | specs/Choose |
+//! | `after`, `reduced` | the model after one reduction, and the models after each of all | specs/Reduce |
+//! | `halted` | the certificate of an end that shows that no point is feasible | specs/Carry |
+//! | `carried_over`, `carried` | a certificate carried back over one reduction, and over all | specs/Carry |
+//! | `IsCarried`, `IsShown` | that a certificate is accepted for a model, and shows the same, or that no point is feasible | specs/Carry |
+//!
+//! Each definition has a limit, at which an operation may be refused. The laws on certificates hold at each limit.
+//!
+//! The functions here have the laws as their contracts.
+#![tactic(auto)]
+
+mod reduction;
+
+ghost use Rattle.std.specs.Prelude.{All, ◌≡◌, ◌+◌, ℕ, Option, Some, Ok, length};
+ghost use Rattle.spec_model.specs.Model.{Model, width, height};
+ghost use Rattle.spec_exact.specs.Narrow.{widest};
+ghost use Rattle.spec_model.specs.Kept.{IsModel};
+ghost use Rattle.spec_check.specs.Certificate.{IsFor, shown, Holds};
+ghost use Rattle.spec_check.specs.Run.{Agrees, check_run};
+ghost use Rattle.spec_check.specs.Checks.{Checks};
+ghost use Rattle.spec_presolve.specs.declared.reduction.Choice.TheVariants as choice;
+ghost use Rattle.spec_presolve.specs.Choose.{chosen};
+ghost use Rattle.spec_presolve.specs.Reduce.{Reductions, reduced};
+ghost use Rattle.spec_presolve.specs.Carry.{ExactCertificate, carried, halted, IsCarried, IsShown};
+
+pub use reduction::{Choice, Halt, InRow, Reduction};
+
+/// A certificate of the last model, carried back at any limit, is accepted for the first one, and shows the same of it,
+/// which is true. The checker's run at a limit says so, or is refused an operation; it never says no.
+pub fn certificates_are_carried_back()
+    ensures conditions { (limit : Option ℕ) (m : Model) (r : Reductions) (c back : ExactCertificate) →
+        reduced limit m ≡ Ok r → carried limit r.steps c ≡ Ok back → IsFor r.last c → Checks r.last c →
+        IsCarried m r.last c back }
+    ensures truth { (limit : Option ℕ) (m : Model) (r : Reductions) (c back : ExactCertificate) →
+        reduced limit m ≡ Ok r → carried limit r.steps c ≡ Ok back → IsFor r.last c → Checks r.last c →
+        Holds m (shown r.last c) }
+    ensures accepted { (limit other : Option ℕ) (m : Model) (r : Reductions) (c back : ExactCertificate) →
+        reduced limit m ≡ Ok r → carried limit r.steps c ≡ Ok back → IsFor r.last c → Checks r.last c →
+        Agrees (check_run other m back) (Ok (shown r.last c)) }
+{}
+
+/// Where reductions end because no point is feasible, the certificate of the end is accepted for the last model.
+pub fn ends_are_certified()
+    ensures { (limit : Option ℕ) (m : Model) (r : Reductions) (c : ExactCertificate) →
+        reduced limit m ≡ Ok r → halted r.last r.halt ≡ Some c → IsShown r.last c }
+{}
+
+/// Reductions end where none applies, and each of them takes a row or a column.
+pub fn reductions_end()
+    ensures none_applies { (limit : Option ℕ) (m : Model) (r : Reductions) →
+        reduced limit m ≡ Ok r → chosen limit r.last ≡ Ok (choice.Halt r.halt) }
+    ensures count { (limit : Option ℕ) (m : Model) (r : Reductions) → reduced limit m ≡ Ok r →
+        length r.steps + (width r.last + height r.last) ≡ width m + height m }
+{}
+
+/// At the limit of 127 bits each reduction of a model that may be kept leads to one that may be kept.
+pub fn reduced_models_may_be_kept()
+    ensures { (m : Model) (r : Reductions) → IsModel m → reduced (Some widest) m ≡ Ok r →
+        All (λ s. IsModel s.1) r.steps × IsModel r.last }
+{}
