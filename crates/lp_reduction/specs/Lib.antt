@@ -1,0 +1,4 @@
+pub mod Kept
+pub mod Tells
+pub mod Sums
+pub mod Clash

@@ -1,0 +1,59 @@
+// Bounds of a column that a row with one entry gives.
+ghost use Rattle.std.specs.Prelude.{◌≡◌, ◌≢◌, Some};
+ghost use Rattle.spec_exact.specs.Fraction.{0ℚ};
+ghost use Rattle.spec_presolve.specs.Choose as choose;
+ghost use Rattle.lp_frac.specs.Narrow.{largest};
+
+use lp_frac::{Frac, Past, cmp, den, div, num};
+use std::cmp::Ordering;
+
+// The limit over the entry, if there is a limit.
+pub(crate) fn quotient(limit: Option<Frac>, entry: Frac) -> Result<Option<Frac>, Past>
+    requires { entry ≢ 0ℚ }
+    ensures { result ≡ choose.quotient (Some largest) limit entry }
+{
+    match limit {
+        None => Ok(None),
+        Some(limit) => Ok(Some(div(limit, entry)?)),
+    }
+}
+
+// Whether it is 10 ^ 20 or more from 0: as many times its denominator fit into its numerator.
+pub(crate) fn is_far(bound: &Option<Frac>) -> bool
+    ensures { result ≡ choose.is_far bound.now }
+{
+    match bound {
+        None => false,
+        Some(bound) => {
+            num(*bound).unsigned_abs() / 100_000_000_000_000_000_000 >= den(*bound).unsigned_abs()
+        }
+    }
+}
+
+// The new lower bound, if the one that was there is below it.
+pub(crate) fn raised(bound: Option<Frac>, old: Option<Frac>) -> Result<Option<Frac>, Past>
+    ensures { result ≡ choose.raised (Some largest) bound old }
+{
+    match (bound, old) {
+        (None, _) => Ok(None),
+        (Some(bound), None) => Ok(Some(bound)),
+        (Some(bound), Some(old)) => match cmp(bound, old)? {
+            Ordering::Greater => Ok(Some(bound)),
+            Ordering::Less | Ordering::Equal => Ok(None),
+        },
+    }
+}
+
+// The new upper bound, if the one that was there is above it.
+pub(crate) fn cut(bound: Option<Frac>, old: Option<Frac>) -> Result<Option<Frac>, Past>
+    ensures { result ≡ choose.cut (Some largest) bound old }
+{
+    match (bound, old) {
+        (None, _) => Ok(None),
+        (Some(bound), None) => Ok(Some(bound)),
+        (Some(bound), Some(old)) => match cmp(bound, old)? {
+            Ordering::Less => Ok(Some(bound)),
+            Ordering::Greater | Ordering::Equal => Ok(None),
+        },
+    }
+}

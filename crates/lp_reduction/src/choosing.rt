@@ -1,0 +1,235 @@
+// The row or column that goes next.
+ghost use Rattle.std.specs.Prelude.{◌≡◌, ◌<◌, ◌||◌, ◌≢◌, Some, Ok, IfSome};
+ghost use Rattle.spec_exact.specs.Fraction.{0ℚ};
+ghost use Rattle.spec_model.specs.Model.{width, height};
+ghost use Rattle.spec_presolve.specs.Choose as choose;
+ghost use Rattle.lp_frac.specs.Narrow.{largest};
+
+use crate::bounds::{cut, is_far, quotient, raised};
+use crate::rows::{InRow, in_row, limits};
+use lp_frac::{Frac, Past, are_same, cmp, is_negative, is_positive};
+use lp_model::Model;
+use spec_presolve::Halt;
+use std::cmp::Ordering;
+
+/// One step to a smaller model.
+pub type Reduction = spec_presolve::Reduction<Frac>;
+
+pub(crate) type Choice = spec_presolve::Choice<Frac>;
+
+// Whether there is no number between both.
+fn crossed(lower: Option<Frac>, upper: Option<Frac>) -> Result<bool, Past>
+    ensures { result ≡ choose.crossed (Some largest) lower upper }
+{
+    match (lower, upper) {
+        (Some(lower), Some(upper)) => match cmp(lower, upper)? {
+            Ordering::Greater => Ok(true),
+            Ordering::Less | Ordering::Equal => Ok(false),
+        },
+        _ => Ok(false),
+    }
+}
+
+// Whether the bounds of column `j` clash.
+fn clash_at(model: &Model, j: u32) -> Result<Option<Choice>, Past>
+    requires { j < width model.now }
+    ensures { result ≡ choose.clash_at (Some largest) model.now j }
+{
+    let column = model.col(j);
+    if crossed(column.lower, column.upper)? {
+        Ok(Some(Choice::Halt(Halt::Clash { column: j })))
+    } else {
+        Ok(None)
+    }
+}
+
+fn is_above(lower: Option<Frac>) -> bool
+    ensures { result ≡ choose.is_above lower }
+{
+    match lower {
+        None => false,
+        Some(lower) => is_positive(lower),
+    }
+}
+
+fn is_below(upper: Option<Frac>) -> bool
+    ensures { result ≡ choose.is_below upper }
+{
+    match upper {
+        None => false,
+        Some(upper) => is_negative(upper),
+    }
+}
+
+// What comes next of a row without entries.
+fn empty_row(row: u32, lower: Option<Frac>, upper: Option<Frac>) -> Choice
+    ensures { result ≡ choose.empty_row row lower upper }
+{
+    if is_above(lower) {
+        Choice::Halt(Halt::Above { row })
+    } else if is_below(upper) {
+        Choice::Halt(Halt::Below { row })
+    } else {
+        Choice::Reduce(Reduction::Empty { row })
+    }
+}
+
+// Row `i`, if it has no entries.
+fn empty_at(model: &Model, i: u32) -> Result<Option<Choice>, Past>
+    requires { i < height model.now }
+    ensures { result ≡ choose.empty_at (Some largest) model.now i }
+{
+    match in_row(model, i) {
+        InRow::Nothing => {
+            let (lower, upper) = limits(model.row(i))?;
+            Ok(Some(empty_row(i, lower, upper)))
+        }
+        InRow::One { .. } | InRow::More => Ok(None),
+    }
+}
+
+// Row `row` goes, which has one entry, and whose sum over that entry is between these two.
+fn given(
+    model: &Model,
+    row: u32,
+    column: u32,
+    value: Frac,
+    lower: Option<Frac>,
+    upper: Option<Frac>,
+) -> Result<Option<Choice>, Past>
+    requires { column < width model.now }
+    ensures { result ≡ choose.given (Some largest) model.now row column value lower upper }
+{
+    let old = model.col(column);
+    let lower = raised(lower, old.lower)?;
+    let upper = cut(upper, old.upper)?;
+    Ok(Some(Choice::Reduce(Reduction::Single {
+        row,
+        column,
+        value,
+        lower,
+        upper,
+    })))
+}
+
+// Whether one of them is too far from 0.
+fn are_far(least: &Option<Frac>, most: &Option<Frac>) -> bool
+    ensures { result ≡ choose.is_far least.now || choose.is_far most.now }
+{
+    if is_far(least) { true } else { is_far(most) }
+}
+
+// The same, unless one of them is too far from 0.
+fn near(
+    model: &Model,
+    row: u32,
+    column: u32,
+    value: Frac,
+    least: Option<Frac>,
+    most: Option<Frac>,
+) -> Result<Option<Choice>, Past>
+    requires { column < width model.now }
+    ensures { result ≡ choose.near (Some largest) model.now row column value least most }
+{
+    if are_far(&least, &most) {
+        Ok(None)
+    } else if is_negative(value) {
+        given(model, row, column, value, most, least)
+    } else {
+        given(model, row, column, value, least, most)
+    }
+}
+
+// Row `i`, if it has one entry.
+fn single_at(model: &Model, i: u32) -> Result<Option<Choice>, Past>
+    requires { i < height model.now }
+    ensures { result ≡ choose.single_at (Some largest) model.now i }
+{
+    match in_row(model, i) {
+        InRow::One { column, value } => {
+            let (lower, upper) = limits(model.row(i))?;
+            let least = quotient(lower, value)?;
+            let most = quotient(upper, value)?;
+            near(model, i, column, value, least, most)
+        }
+        InRow::Nothing | InRow::More => Ok(None),
+    }
+}
+
+fn fixed_by(column: u32, lower: Option<Frac>, upper: Option<Frac>) -> Option<Choice>
+    ensures { result ≡ choose.fixed_by column lower upper }
+{
+    match (lower, upper) {
+        (Some(lower), Some(upper)) if are_same(lower, upper) => {
+            Some(Choice::Reduce(Reduction::Fixed {
+                column,
+                value: lower,
+            }))
+        }
+        _ => None,
+    }
+}
+
+fn first_clash(model: &Model) -> Result<Option<Choice>, Past>
+    ensures { result ≡ choose.first (width model.now) (choose.clash_at (Some largest) model.now) }
+{
+    for j in 0..model.cols() {
+        if let Some(choice) = clash_at(model, j)? {
+            return Ok(Some(choice));
+        }
+    }
+    Ok(None)
+}
+
+fn first_empty(model: &Model) -> Result<Option<Choice>, Past>
+    ensures { result ≡ choose.first (height model.now) (choose.empty_at (Some largest) model.now) }
+{
+    for i in 0..model.rows() {
+        if let Some(choice) = empty_at(model, i)? {
+            return Ok(Some(choice));
+        }
+    }
+    Ok(None)
+}
+
+fn first_single(model: &Model) -> Result<Option<Choice>, Past>
+    ensures { result ≡ choose.first (height model.now) (choose.single_at (Some largest) model.now) }
+{
+    for i in 0..model.rows() {
+        if let Some(choice) = single_at(model, i)? {
+            return Ok(Some(choice));
+        }
+    }
+    Ok(None)
+}
+
+fn first_fixed(model: &Model) -> Option<Choice>
+    ensures { Ok result ≡ choose.first (width model.now) (choose.fixed_at model.now) }
+{
+    for j in 0..model.cols() {
+        let column = model.col(j);
+        if let Some(choice) = fixed_by(j, column.lower, column.upper) {
+            return Some(choice);
+        }
+    }
+    None
+}
+
+/// What comes next: the first row or column that goes by the first rule that applies, or that none does.
+pub(crate) fn choose(model: &Model) -> Result<Choice, Past>
+    ensures { result ≡ choose.chosen (Some largest) model.now }
+{
+    if let Some(choice) = first_clash(model)? {
+        return Ok(choice);
+    }
+    if let Some(choice) = first_empty(model)? {
+        return Ok(choice);
+    }
+    if let Some(choice) = first_single(model)? {
+        return Ok(choice);
+    }
+    match first_fixed(model) {
+        Some(choice) => Ok(choice),
+        None => Ok(Choice::Halt(Halt::Done)),
+    }
+}

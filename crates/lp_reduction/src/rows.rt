@@ -1,0 +1,66 @@
+// What stands in a row, and between which limits its sum is.
+ghost use Rattle.std.specs.Prelude.{◌≡◌, ◌<◌, Some};
+ghost use Rattle.spec_model.specs.Model.{height};
+ghost use Rattle.spec_simplex.specs.Form as forms;
+ghost use Rattle.spec_presolve.specs.Choose as choose;
+ghost use Rattle.lp_frac.specs.Narrow.{largest};
+
+use lp_frac::{Frac, Past, abs, add, are_same, is_negative, sub, zero};
+use lp_model::{Kind, Model, Row};
+
+pub(crate) type InRow = spec_presolve::InRow<Frac>;
+
+// One entry more.
+fn and_next(found: InRow, column: u32, value: Frac) -> InRow
+    ensures { result ≡ choose.and_next found column value }
+{
+    if are_same(value, zero()) {
+        return found;
+    }
+    match found {
+        InRow::Nothing => InRow::One { column, value },
+        InRow::One { .. } => InRow::More,
+        InRow::More => InRow::More,
+    }
+}
+
+// What stands in row `i`.
+pub(crate) fn in_row(model: &Model, i: u32) -> InRow
+    requires { i < height model.now }
+    ensures { result ≡ choose.in_row model.now i }
+{
+    let mut found = InRow::Nothing;
+    for j in 0..model.cols() {
+        found = and_next(found, j, model.entry(i, j));
+        if matches!(&found, InRow::More) {
+            return InRow::More;
+        }
+    }
+    found
+}
+
+// The least and the most that the sum of an equation with a range may be.
+fn around(rhs: Frac, range: Frac) -> Result<(Option<Frac>, Option<Frac>), Past>
+    ensures { result ≡ forms.equation_limits (Some largest) rhs range }
+{
+    let other = add(rhs, range)?;
+    if is_negative(range) {
+        Ok((Some(other), Some(rhs)))
+    } else {
+        Ok((Some(rhs), Some(other)))
+    }
+}
+
+// The least and the most that the row's sum may be.
+pub(crate) fn limits(row: &Row) -> Result<(Option<Frac>, Option<Frac>), Past>
+    ensures { result ≡ forms.limits_run (Some largest) row.now }
+{
+    match (row.kind, row.range) {
+        (Kind::L, None) => Ok((None, Some(row.rhs))),
+        (Kind::L, Some(range)) => Ok((Some(sub(row.rhs, abs(range))?), Some(row.rhs))),
+        (Kind::G, None) => Ok((Some(row.rhs), None)),
+        (Kind::G, Some(range)) => Ok((Some(row.rhs), Some(add(row.rhs, abs(range))?))),
+        (Kind::E, None) => Ok((Some(row.rhs), Some(row.rhs))),
+        (Kind::E, Some(range)) => around(row.rhs, range),
+    }
+}
