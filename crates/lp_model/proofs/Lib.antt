@@ -1,5 +1,4 @@
 pub mod NamePlaces
-pub mod HashedLemmas
 pub mod Halved
 pub mod Splits
 pub mod Places

@@ -1,5 +1,5 @@
 -- Names among what has them: a row or a column.
-use Rattle.std.proofs.Common.{◌≡◌, ◌≢◌, ℕ, suc, ◌+◌, ◌<◌, Bool, true, false, ◌&&◌, not, cond}
+use Rattle.std.proofs.Common.{◌≡◌, ◌≢◌, ℕ, suc, ◌+◌, ◌<◌, Bool, true, false, ◌&&◌, ◌||◌, not, cond}
 use Rattle.std.proofs.Common.{nat_eq, ltb, Option, Some, None, List, [], ◌∷◌, ◌++◌, length, map, take}
 use Rattle.std.proofs.Common.{get_or, set, All, refl, sym, ap, ap₂, ◌∙◌, subst, arith, get_or-take}
 use Rattle.std.specs.Prelude.{IfSome}
@@ -45,6 +45,10 @@ module _ {X : Type 0} (p : X → Bool) (q : Name → Bool) (f : X → Name) (e :
   place_named xs =
       ap₂ (λ n m. cond (ltb n m) (Some n) None) (first_named xs) (sym (length-map xs f))
 
+  pub any_named : (xs : List X) → list_any p xs ≡ list_any q (map f xs)
+  any_named [] = refl
+  any_named (x ∷ xs) = ap₂ ◌||◌ (e x) (any_named xs)
+
 -- ---- one name more
 
 -- a name that no name of a list is
@@ -56,6 +60,17 @@ other_names name xs h =
     by : (x : Name) → x ≢ name → (t : Bool) → same name x ≡ t → t ≡ false
     by x n true e = absurd (n (sym (same_true name x e)))
     by x n false e = refl
+
+-- a new key goes last, so its name does
+pub name_pushed : {X : Type 0} (f : X → Name) (k : X) (ks new : List X) (name : Name) (old : List Name) →
+    map f ks ≡ old → f k ≡ name → All (λ x. x ≢ name) old →
+    new ≡ cond (list_any (λ x. pointwise nat_eq (f k) (f x)) ks) ks (ks ++ k ∷ []) → map f new ≡ old ++ name ∷ []
+name_pushed f k ks new name old seen own others e =
+    let none : list_any (λ x. pointwise nat_eq (f k) (f x)) ks ≡ false =
+    any_named (λ x. pointwise nat_eq (f k) (f x)) (same (f k)) f (λ x. pointwise_is (f k) (f x)) ks
+    ∙ ap₂ (λ n xs. list_any (same n) xs) own seen ∙ other_names name old others in
+    ap (map f) (e ∙ ap (λ t. cond t ks (ks ++ k ∷ [])) none) ∙ map-append f ks (k ∷ [])
+    ∙ ap₂ (λ xs n. xs ++ n ∷ []) seen own
 
 -- the names before one of distinct names are others
 pub names_before : {X : Type 0} (f : X → Name) (xs : List X) (k : ℕ) (x : X) → x ≡ get_or xs k x → k < length xs →

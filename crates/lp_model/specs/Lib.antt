@@ -1,3 +1,2 @@
-pub mod Hashed
 pub mod Indexed
 pub mod Place

@@ -3,34 +3,27 @@ ghost use Rattle.std.specs.Prelude.{◌≡◌, ◌≢◌, ◌<◌, ◌++◌, ◌
 ghost use Rattle.std.specs.List.{list_any, position};
 ghost use Rattle.spec_text.specs.Words.{same};
 
+use indexmap::IndexSet;
 use std::alloc::{AllocError, Global};
-use std::collections::HashMap;
 use std::marker::Model;
 
 /// Distinct names in their order. The time to find one does not grow with how many there are.
 pub struct NameIndex {
-    names: Vec<Vec<u8>>,
-    /// The place of each name, counted from 0.
-    places: HashMap<Vec<u8>, usize>,
+    names: IndexSet<Vec<u8>>,
 }
 
 impl Model for NameIndex {
     ghost use Rattle.std.specs.Prelude.{List, ℕ, map};
-    ghost use Rattle.lp_model.specs.Hashed.{AreFound};
 
     ghost Value = { List (List ℕ) };
 
-    ghost view = { λ n. map (λ name. name.items) n.names.items };
-
-    ghost invariant = { λ n.
-        AreFound (λ name. name.items) (map (λ name. name.items) n.names.items) n.places.entries };
+    ghost view = { λ n. map (λ name. name.items) n.names.keys };
 }
 
 impl Drop for NameIndex {
     fn drop(self) {
-        let NameIndex { names, places } = self;
+        let NameIndex { names } = self;
         drop(names);
-        drop(places);
     }
 }
 
@@ -39,8 +32,7 @@ impl NameIndex {
         ensures { result ≡ [] }
     {
         NameIndex {
-            names: Vec::new(alloc),
-            places: HashMap::new(alloc),
+            names: IndexSet::new(alloc),
         }
     }
 
@@ -57,12 +49,8 @@ impl NameIndex {
         ensures ok { OnOk result (self.new ≡ self.old ++ name.now ∷ []) }
         ensures err { OnErr result (self.new ≡ self.old) }
     {
-        let alloc = *self.names.allocator();
-        let key = Vec::from_slice(alloc, name)?;
-        let name = Vec::from_slice(alloc, name)?;
-        self.names.reserve(1)?;
-        self.places.insert(key, self.names.len())?;
-        self.names.push_reserved(name);
+        let name = Vec::from_slice(*self.names.allocator(), name)?;
+        self.names.insert(name)?;
         Ok(())
     }
 
@@ -70,7 +58,7 @@ impl NameIndex {
     pub fn has(&self, name: &[u8]) -> bool
         ensures { result ≡ list_any (same name.now) self.now }
     {
-        self.places.contains_key(name)
+        self.names.contains(name)
     }
 
     /// The place of a name, counted from 0.
@@ -78,6 +66,6 @@ impl NameIndex {
         ensures value { result ≡ position (λ x. same x name.now) self.now }
         ensures inside { IfSome result (λ i. i < length self.now) }
     {
-        self.places.get(name).copied()
+        self.names.get_index_of(name)
     }
 }
