@@ -3,30 +3,26 @@ ghost use Rattle.std.specs.Prelude.{◌≡◌, [], ◌∷◌, not, IfOk, if◌th
 ghost use Rattle.spec_mps.specs.Reader.{is_among};
 ghost use Rattle.mps_read.specs.Marks.{mark_of};
 
+use indexmap::IndexSet;
 use spec_mps::Target;
 use std::alloc::{AllocError, Global};
-use std::collections::HashSet;
 use std::marker::Model;
 
 /// A list of targets without doubles, each found by its hash. What was put in last stands first.
 #[derive(Drop)]
 pub(crate) struct Targets {
     /// Rows by their numbers, and the objective as none, in the order in which they were put in.
-    marks: Vec<Option<u32>>,
-    /// The same marks, as a set.
-    seen: HashSet<Option<u32>>,
+    marks: IndexSet<Option<u32>>,
 }
 
 impl Model for Targets {
     ghost use Rattle.std.specs.Prelude.{List, map, reverse};
     ghost use Rattle.spec_mps.specs.declared.target.Target.{Target};
-    ghost use Rattle.mps_read.specs.Marks.{target_of, AreSeen};
+    ghost use Rattle.mps_read.specs.Marks.{target_of};
 
     ghost Value = { List Target };
 
-    ghost view = { λ t. reverse (map target_of t.marks.items) };
-
-    ghost invariant = { λ t. AreSeen t.marks.items t.seen.keys };
+    ghost view = { λ t. reverse (map target_of t.marks.keys) };
 }
 
 impl Targets {
@@ -34,8 +30,7 @@ impl Targets {
         ensures { result ≡ [] }
     {
         Targets {
-            marks: Vec::new(alloc),
-            seen: HashSet::new(alloc),
+            marks: IndexSet::new(alloc),
         }
     }
 
@@ -44,21 +39,14 @@ impl Targets {
         ensures value { IfOk result (λ is_new. is_new ≡ not (is_among target self.old)) }
         ensures put { IfOk result (λ is_new. self.new ≡ (if is_new then target ∷ self.old else self.old)) }
     {
-        let mark = mark_of(target);
-        // Where there is room in the list, only the set can fail.
-        self.marks.reserve(1)?;
-        if !self.seen.insert(mark)? {
-            return Ok(false);
-        }
-        self.marks.push_reserved(mark);
-        Ok(true)
+        let is_new = self.marks.insert(mark_of(target))?;
+        Ok(is_new)
     }
 
     pub(crate) fn clear(&mut self)
         ensures { self.new ≡ [] }
     {
         self.marks.clear();
-        self.seen.clear();
     }
 }
 
