@@ -2,6 +2,7 @@
 use Rattle.std.specs.Prelude.{◌≡◌, ◌≢◌, ℕ, ◌+◌, ◌<◌, ◌≤◌, List, [], ◌∷◌, ◌++◌, length, take, slice_index}
 use Rattle.atomic_table.specs.declared.shared.Seat.{Seat}
 use Rattle.basis_board.specs.declared.seats.View.{View}
+use Rattle.basis_board.specs.declared.seats.Sight.{Sight}
 use Rattle.basis_board.specs.declared.seats.Read.{Read}
 use Rattle.basis_board.specs.declared.seats.Read.TheVariants.{Count, Open, See, Lost}
 use Rattle.basis_board.specs.declared.board.Put.{Put}
@@ -13,10 +14,10 @@ use Rattle.basis_board.specs.Board.{Each, noted, seeing, publishing, met}
 use Rattle.basis_board.specs.Rule.{OwnsBelow, Consistent}
 pub use Rattle.basis_board.specs.Rule.{CountTells}
 
-abbrev pub known : Seat ℕ View → View
-known s = s.me.0
+abbrev pub known : Seat ℕ Sight → View
+known s = s.me.0.view
 
-abbrev pub IsSameSeat : Seat ℕ View → Seat ℕ View → Type 0
+abbrev pub IsSameSeat : Seat ℕ Sight → Seat ℕ Sight → Type 0
 IsSameSeat s t = (t.table_id ≡ s.table_id) × (t.id ≡ s.id) × (t.me.1 ≡ s.me.1)
 
 pub record IsPublished (v : View) (xs : List ℕ) (k : ℕ) (w : View) : Type 0 where

@@ -1,9 +1,9 @@
 // The board: places on which bases are published, and found again.
-ghost use Rattle.std.specs.Prelude.{◌≡◌, ◌<◌, ◌≤◌, ◌*◌, ◌+◌, [], Some, None, IfOk, IfSome, IfNone};
+ghost use Rattle.std.specs.Prelude.{◌≡◌, ◌<◌, ◌≤◌, ◌*◌, ◌+◌, ◌++◌, [], Some, None, IfOk, IfSome, IfNone};
 ghost use Rattle.spec_shape.specs.Words.{IsWellFormed};
 ghost use Rattle.basis_board.specs.Board.{first_view, cut_left, cut_right, storing};
 
-use crate::seats::{Pass, View, Words};
+use crate::seats::{Pass, Sight, Words};
 use crate::steps::{Claims, Counts, Finishes, Joins, Learns, Parts, Reads, Sees, Writes};
 use atomic_table::Seat;
 use std::alloc::{AllocError, Global};
@@ -42,11 +42,14 @@ impl Board {
     ghost use Rattle.basis_board.specs.Id.{id_of};
     ghost use Rattle.basis_board.specs.Calls.{known, IsSameSeat, Puts, Meets, PassesBy, Finds, Looks};
     ghost use Rattle.basis_board.specs.Rule.{Consistent};
+    ghost use Rattle.basis_board.specs.Known.{notes_of};
+    ghost use Rattle.basis_board.specs.Moments.{Later, NotesMore, WereTrue, IsOneLog};
 
     /// An empty board, and a pass that is the only one of it.
     pub fn new(alloc: Global, places: u32) -> Result<(Board, Pass), AllocError>
         requires { (0 < places) × (places ≤ 1024) }
-        ensures { IfOk result (λ r. (r.0.places ≡ places) × (r.1.board ≡ id_of r.0) × (r.1.view ≡ first_view places)) }
+        ensures { IfOk result (λ r. (r.0.places ≡ places) × (r.1.board ≡ id_of r.0)
+            × (r.1.view ≡ first_view places) × (r.1.moments ≡ [])) }
     {
         let words = std::vec![in alloc; 0u64; 50 * places as usize + 1]?;
         let (table, seat) = Words::of_words(alloc, words.as_slice(), &u64::from(places))?;
@@ -60,6 +63,8 @@ impl Board {
         ensures old { (pass.new.board ≡ pass.old.board) × (pass.new.view ≡ cut_left (pass.old.view)) }
         ensures new { (result.board ≡ pass.old.board) × (result.view ≡ cut_right (pass.old.view)) }
         ensures consistent { Consistent pass.new.view × Consistent result.view }
+        ensures moments { (pass.new.moments ≡ pass.old.moments) × (result.moments ≡ []) }
+        ensures then { WereTrue pass.new.moments (pass.new.view).reads × WereTrue result.moments (result.view).reads }
     {
         let seat = self.table.shared.split_seat::<Parts>(&mut pass.seat);
         Pass { seat }
@@ -71,6 +76,9 @@ impl Board {
         ensures board { result.board ≡ id_of self.entry.now }
         ensures view { Meets a.view b.view result.view }
         ensures consistent { Consistent result.view }
+        ensures moments { result.moments ≡ b.moments ++ a.moments }
+        ensures log { (result.view).share ≡ 64 → IsOneLog (notes_of result) }
+        ensures then { WereTrue result.moments (result.view).reads }
     {
         let Pass { mut seat } = a;
         let Pass { seat: other } = b;
@@ -80,10 +88,11 @@ impl Board {
     }
 
     // Stores the words of a place that was claimed.
-    fn fill(&self, seat: &mut Seat<u8, View>, place: u64, words: &[u64; 49])
+    fn fill(&self, seat: &mut Seat<u8, Sight>, place: u64, words: &[u64; 49])
         requires board { (seat.old.table_id ≡ id_of self.now) × (place < self.now.places) }
         requires view { ((known seat.old).held ≡ Some (place, [])) × (0 < (known seat.old).share) }
-        ensures { IsSameSeat seat.old seat.new × (known seat.new ≡ storing (known seat.old) place words.now) }
+        ensures stored { IsSameSeat seat.old seat.new × (known seat.new ≡ storing (known seat.old) place words.now) }
+        ensures moments { NotesMore seat.old.me.0.moments seat.new.me.0.moments }
     {
         let first = 50 * place as usize + 1;
         for i in 0..49 {
@@ -99,6 +108,8 @@ impl Board {
         ensures put { Puts (pass.old.view) words.now result (pass.new.view) }
         ensures consistent { Consistent pass.new.view }
         ensures share { (pass.new.view).share ≡ (pass.old.view).share }
+        ensures moments { NotesMore pass.old.moments pass.new.moments }
+        ensures then { WereTrue pass.new.moments (pass.new.view).reads }
     {
         let shared = &self.table.shared;
         let count = shared.load::<Counts>(&mut pass.seat, 0);
@@ -115,13 +126,14 @@ impl Board {
     }
 
     // The words of the place, if it is done and of this shape.
-    fn see(&self, seat: &mut Seat<u8, View>, place: u64, shape: &[u64; 25]) -> Option<[u64; 49]>
+    fn see(&self, seat: &mut Seat<u8, Sight>, place: u64, shape: &[u64; 25]) -> Option<[u64; 49]>
         requires board { (seat.old.table_id ≡ id_of self.now) × (place < self.now.places) }
         requires share { 0 < (known seat.old).share }
         ensures seat { IsSameSeat seat.old seat.new }
         ensures consistent { Consistent (known seat.new) }
         ensures some { IfSome result (λ xs. Finds shape.now place xs (known seat.old) (known seat.new)) }
         ensures none { IfNone result (PassesBy shape.now place (known seat.old) (known seat.new)) }
+        ensures later { Later seat.old.me.0 seat.new.me.0 }
     {
         let shared = &self.table.shared;
         let first = 50 * place as usize + 1;
@@ -142,11 +154,12 @@ impl Board {
     }
 
     // From the newest place down to the first that is done and of this shape.
-    fn look_down(&self, seat: &mut Seat<u8, View>, shape: &[u64; 25]) -> Look
+    fn look_down(&self, seat: &mut Seat<u8, Sight>, shape: &[u64; 25]) -> Look
         requires board { (seat.old.table_id ≡ id_of self.now) × ((known seat.old).places ≡ self.now.places) }
         requires idle { ((known seat.old).held ≡ None) × (0 < (known seat.old).share) }
         ensures seat { IsSameSeat seat.old seat.new }
         ensures look { Looks shape.now (known seat.old) result (known seat.new) }
+        ensures later { Later seat.old.me.0 seat.new.me.0 }
         ensures consistent { Consistent (known seat.new) }
     {
         let count = self.table.shared.load::<Counts>(seat, 0);
@@ -167,6 +180,8 @@ impl Board {
         ensures look { Looks shape.now pass.old.view result pass.new.view }
         ensures consistent { Consistent pass.new.view }
         ensures share { (pass.new.view).share ≡ (pass.old.view).share }
+        ensures moments { NotesMore pass.old.moments pass.new.moments }
+        ensures then { WereTrue pass.new.moments (pass.new.view).reads }
     {
         self.look_down(&mut pass.seat, shape)
     }

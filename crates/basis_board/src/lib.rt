@@ -8,6 +8,8 @@
 //! | `View`, `Read` | what contracts see of a pass: what it has seen, published and read | src/seats |
 //! | `Looks`, `Puts`, `Meets` | what the calls promise | specs/Calls |
 //! | `Kept` | the rule of the board's words, which each atomic step keeps | specs/Rule |
+//! | `Timed`, `NotesMore` | when each read was noted, and that it was so then | specs/Moments |
+//! | `Turns`, `IsOneLog` | what befell the places at each note, and the notes of all passes in one order | specs/Moments |
 //! | `board_of` | the places that the board's words spell | specs/Places |
 //!
 //! Every place that a pass has read as done shows it, and every other pass, the same well-formed words for good,
@@ -23,5 +25,8 @@ mod seats;
 mod steps;
 
 pub use board::{Board, Look, Put};
-pub use laws::{meaning, seen_words_stay, steps_are_events, whole_passes_own_all};
-pub use seats::{Pass, Read, View};
+pub use laws::{
+    meaning, notes_are_made_then, only_what_is_so_is_noted, rule_is_kept, seen_words_stay,
+    steps_are_events, whole_passes_own_all,
+};
+pub use seats::{Pass, Read, Sight, View};

@@ -37,22 +37,28 @@ pub struct View {
     pub reads: LinkedList<Read>,
 }
 
+/// What a pass knows, and when it noted each of its reads. No value of it is made.
+pub struct Sight {
+    pub view: View,
+    /// One for each of the view's reads, the newest first: which note of all passes it was, and what the words were.
+    pub moments: LinkedList<(u64, LinkedList<u64>)>,
+}
+
 /// The rule of the board's words.
 pub struct BoardRule;
 
-impl TableRule<u8, View, u64> for BoardRule {
-    ghost use Rattle.basis_board.specs.Rule.{Kept};
-    ghost use Rattle.basis_board.specs.Board.{first_view};
+impl TableRule<u8, Sight, u64> for BoardRule {
+    ghost use Rattle.basis_board.specs.Moments.{KeptInTime, first_sight};
 
-    ghost holds = { Kept };
+    ghost holds = { KeptInTime };
 
-    ghost first = { first_view };
+    ghost first = { first_sight };
 }
 
 /// A pass of a board, which claims no place between calls. It takes no bytes.
 #[derive(Drop)]
 pub struct Pass {
-    pub(crate) seat: Seat<u8, View>,
+    pub(crate) seat: Seat<u8, Sight>,
 }
 
 impl Model for Pass {
@@ -68,4 +74,4 @@ impl Model for Pass {
 }
 
 /// The words of a board.
-pub type Words = Table<u8, View, u64, BoardRule, Global>;
+pub type Words = Table<u8, Sight, u64, BoardRule, Global>;

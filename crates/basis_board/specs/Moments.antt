@@ -1,0 +1,221 @@
+-- When each read of a pass was noted, and what the words of the board were then.
+use Rattle.std.specs.Prelude.{◌≡◌, ◌≢◌, ℕ, ◌+◌, ◌<◌, ◌≤◌, ◌==◌, List, [], ◌∷◌, ◌++◌, length, map, slice_index}
+use Rattle.std.specs.Prelude.{slice_set}
+use mathlib.Core.Option.{some}
+use lib.ListN.{get_elem?}
+use Rattle.atomic_table.specs.Table.{State, Me, Step, Act, stepped, Allows}
+use Rattle.basis_board.specs.declared.seats.View.{View}
+use Rattle.basis_board.specs.declared.seats.Sight.{Sight}
+use Rattle.basis_board.specs.declared.seats.Read.{Read}
+use Rattle.basis_board.specs.declared.seats.Read.TheVariants.{Count, Open, See, Claim, Lost, Done}
+use Rattle.basis_board.specs.Board.{Each, Has, total, one_if, count, done, first_view, cut_left, cut_right, met, spent}
+use Rattle.basis_board.specs.Rule.{Kept, learned}
+
+-- which note of all passes it was, counted from 0, and the words after the step that noted it
+abbrev pub Moment : Type 0
+Moment = ℕ × List ℕ
+
+-- a read with its moment
+pub record Note : Type 0 where
+  pub number : ℕ
+  pub words : List ℕ
+  pub read : Read
+
+-- one for each read, the newest first
+abbrev pub notes : List Moment → List Read → List Note
+notes [] rs = []
+notes (m ∷ ms) [] = []
+notes (m ∷ ms) (r ∷ rs) = record { number = m.0; words = m.1; read = r } ∷ notes ms rs
+
+abbrev pub notes_in : Sight → List Note
+notes_in v = notes v.moments v.view.reads
+
+abbrev pub sight : View → List Moment → Sight
+sight v ms = record { view = v; moments = ms }
+
+-- ---- what words say of a read
+
+-- what a read says is so of these words
+abbrev pub IsTrueOf : List ℕ → Read → Type 0
+IsTrueOf ws (Count c) = count ws ≡ c
+IsTrueOf ws (Open k) = done ws k ≡ 0
+IsTrueOf ws (See k xs) = done ws k ≡ 1
+IsTrueOf ws (Claim k) = count ws ≡ k + 1
+IsTrueOf ws (Lost c) = count ws ≡ c
+IsTrueOf ws (Done k xs) = done ws k ≡ 1
+
+-- each read has its moment, and was so then
+abbrev pub WereTrue : List Moment → List Read → Type 0
+WereTrue [] [] = Unit {0}
+WereTrue [] (r ∷ rs) = ⊥
+WereTrue (m ∷ ms) [] = ⊥
+WereTrue (m ∷ ms) (r ∷ rs) = IsTrueOf m.1 r × WereTrue ms rs
+
+-- no count is less, and no place is done no more
+pub record Grows (ws us : List ℕ) : Type 0 where
+  pub counted : count ws ≤ count us
+  pub dones : (k : ℕ) → done ws k ≤ done us k
+
+-- as many places are claimed, and the same ones are done
+pub record IsLike (ws us : List ℕ) : Type 0 where
+  pub counted : count us ≡ count ws
+  pub dones : (k : ℕ) → done us k ≡ done ws k
+
+-- place k is claimed, and nothing else befalls any place
+pub record ClaimsPlace (k : ℕ) (ws us : List ℕ) : Type 0 where
+  pub before : count ws ≡ k
+  pub after : count us ≡ k + 1
+  pub dones : (j : ℕ) → done us j ≡ done ws j
+
+-- place k becomes done, and nothing else befalls any place
+pub record FinishesPlace (k : ℕ) (ws us : List ℕ) : Type 0 where
+  pub counted : count us ≡ count ws
+  pub before : done ws k ≡ 0
+  pub after : done us k ≡ 1
+  pub others : (j : ℕ) → j ≢ k → done us j ≡ done ws j
+
+-- what befell the places when the read was noted: the words before, and after
+abbrev pub Turns : Read → List ℕ → List ℕ → Type 0
+Turns (Claim k) ws us = ClaimsPlace k ws us
+Turns (Done k xs) ws us = FinishesPlace k ws us
+Turns other ws us = IsLike ws us
+
+-- ---- the notes of all passes
+
+-- 1 where the pass made note number t
+abbrev pub stamped_in : ℕ → List Moment → ℕ
+stamped_in t ms = total (λ m. one_if (m.0 == t)) ms
+
+abbrev pub stamped : ℕ → Sight → ℕ
+stamped t v = stamped_in t v.moments
+
+-- some pass noted something then
+abbrev pub IsNoted : List Sight → Moment → Type 0
+IsNoted sights m = (j : ℕ) × (v : Sight) × (get_elem? sights j ≡ some v) × Has v.moments m
+
+-- some pass has this note
+abbrev pub HasNote : List Sight → Note → Type 0
+HasNote sights n = (j : ℕ) × (v : Sight) × (get_elem? sights j ≡ some v) × Has (notes_in v) n
+
+-- The rule of moments: the notes of all passes are numbered from 0 on, and each number is one pass's. From the words of
+-- each to those of the next, nothing befell the places but what the next one notes, and the words of the last one are
+-- the words now, as far as the count and the done words go. Before the first one no place was claimed.
+pub record Timed (ws : List ℕ) (sights : List Sight) : Type 0 where
+  pub now : ℕ
+  pub once : (t : ℕ) → t < now → total (stamped t) sights ≡ 1
+  pub no_later : (t : ℕ) → now ≤ t → total (stamped t) sights ≡ 0
+  pub ordered : (m n : Moment) → IsNoted sights m → IsNoted sights n → m.0 ≤ n.0 → Grows m.1 n.1
+  pub past : (m : Moment) → IsNoted sights m → Grows m.1 ws
+  pub latest : (m : Moment) → IsNoted sights m → m.0 + 1 ≡ now → Grows ws m.1
+  pub unnoted : now ≡ 0 → Grows ws []
+  pub first : (n : Note) → HasNote sights n → n.number ≡ 0 → Turns n.read [] n.words
+  pub next : (m : Moment) (n : Note) → IsNoted sights m → HasNote sights n → n.number ≡ m.0 + 1 →
+      Turns n.read m.1 n.words
+  pub were_true : (j : ℕ) (v : Sight) → get_elem? sights j ≡ some v → WereTrue v.moments v.view.reads
+
+abbrev pub viewed : State ℕ Sight → State ℕ View
+viewed s = record { words = s.words; homes = s.homes; views = map (λ v. v.view) s.views }
+
+-- the whole rule
+pub record KeptInTime (places : ℕ) (s : State ℕ Sight) : Type 0 where
+  pub kept : Kept places (viewed s)
+  pub timed : Timed s.words s.views
+
+-- ---- what a step, and a call, does to the moments of a pass
+
+-- each of these moments is later than those before it, the newest first
+abbrev pub ComeAfter : List Moment → List Moment → Type 0
+ComeAfter [] old = Unit {0}
+ComeAfter (m ∷ ms) old = Each (λ n. n.0 < m.0) (ms ++ old) × ComeAfter ms old
+
+-- later moments came to the old ones, which stay
+pub record NotesMore (old new : List Moment) : Type 0 where
+  pub more : List Moment
+  pub all : new ≡ more ++ old
+  pub later : ComeAfter more old
+
+pub record Later (v w : Sight) : Type 0 where
+  pub notes : NotesMore v.moments w.moments
+  pub were_true : WereTrue w.moments w.view.reads
+
+abbrev pub seen_of : Me ℕ Sight → Me ℕ View
+seen_of m = (m.0.view, m.1)
+
+-- a kind of step that does so besides what it tells of the view
+abbrev pub in_time : (Step ℕ → Me ℕ View → ℕ → Me ℕ View → Type 0) → Step ℕ → Me ℕ Sight → ℕ → Me ℕ Sight → Type 0
+in_time told st m n m' = told st (seen_of m) n (seen_of m') × Later m.0 m'.0
+
+-- ---- the notes of all passes, when one has them all
+
+abbrev pub numbered : ℕ → List Note → ℕ
+numbered t all = total (λ n. one_if (n.number == t)) all
+
+-- Each number is there once, and each read was so when it was noted. From the words of each to those of the next,
+-- nothing befell the places but what the next one notes, and before the first one no place was claimed. So a count is
+-- the number of claims before it.
+pub record IsOneLog (all : List Note) : Type 0 where
+  pub size : ℕ
+  pub once : (t : ℕ) → t < size → numbered t all ≡ 1
+  pub no_later : (t : ℕ) → size ≤ t → numbered t all ≡ 0
+  pub ordered : (m n : Note) → Has all m → Has all n → m.number ≤ n.number → Grows m.words n.words
+  pub first : (n : Note) → Has all n → n.number ≡ 0 → Turns n.read [] n.words
+  pub next : (m n : Note) → Has all m → Has all n → n.number ≡ m.number + 1 → Turns n.read m.words n.words
+  pub so : (n : Note) → Has all n → IsTrueOf n.words n.read
+
+-- the load after a meeting, which notes nothing
+abbrev pub learned_in_time : Step ℕ → Me ℕ Sight → ℕ → Me ℕ Sight → Type 0
+learned_in_time st m n m' =
+    learned st (seen_of m) n (seen_of m') × (Later m.0 m'.0 × (m'.0.view.share ≡ 64 → IsOneLog (notes_in m'.0)))
+
+-- ---- passes as they begin, are cut in two, and meet
+
+abbrev pub first_sight : ℕ → Sight
+first_sight places = sight (first_view places) []
+
+abbrev pub left_sight : Sight → Sight
+left_sight v = sight (cut_left v.view) v.moments
+
+abbrev pub right_sight : Sight → Sight
+right_sight v = sight (cut_right v.view) []
+
+abbrev pub met_sight : Sight → Sight → Sight
+met_sight v w = sight (met v.view w.view) (w.moments ++ v.moments)
+
+abbrev pub spent_sight : Sight
+spent_sight = sight spent []
+
+-- ---- what no kind of step can do
+
+-- these words lie between those
+pub record IsBetween (ws us : List ℕ) (m : Moment) : Type 0 where
+  pub after : Grows ws m.1
+  pub before : Grows m.1 us
+
+-- One seat takes one step, of whatever kind: it leaves the words us and notes what it will. If the rule held before and
+-- holds after, what was noted was noted of words between those before the step and those after it.
+abbrev pub NotesAreMadeThen : Type 0
+NotesAreMadeThen =
+    (ws us : List ℕ) (sights : List Sight) (id : ℕ) (v w : Sight) (made : List Moment) → Timed ws sights →
+    get_elem? sights id ≡ some v → Timed us (slice_set sights id w) → w.moments ≡ made ++ v.moments →
+    Each (IsBetween ws us) made
+
+-- A step that leaves its word as it was, a load or a compare-exchange that fails, is of whatever kind. If the rule
+-- holds before and after it, and it notes one read more, then what it notes is so of the words that it is taken at.
+abbrev pub OnlyWhatIsSo : Type 0
+OnlyWhatIsSo =
+    (places i n id : ℕ) (s : State ℕ Sight) (v w : Sight) (slots : List (ℕ × ℕ)) (act : Act ℕ) (read : Read) →
+    KeptInTime places s → get_elem? s.views id ≡ some v → n ≡ slice_index s.words i →
+    KeptInTime places (stepped s i n id slots w act) → Later v w → w.view.reads ≡ read ∷ v.view.reads →
+    IsTrueOf s.words read
+
+-- So a kind of load that notes one read more, by the value that it finds, is allowed only where that read is so in
+-- every state in which it may be taken. f is what a step makes of its word: a load and a compare-exchange that fails
+-- leave it as it was.
+abbrev pub AllowedNotesAreSo : Type 0
+AllowedNotesAreSo =
+    (places slots id i : ℕ) (me : Me ℕ Sight) (f : ℕ → ℕ) (read : ℕ → Read) →
+    Allows (KeptInTime places) slots id me i f
+    (λ n m. (m.0.view.reads ≡ read n ∷ me.0.view.reads) × Later me.0 m.0) →
+    (s : State ℕ Sight) → KeptInTime places s → length s.homes ≡ slots → get_elem? s.views id ≡ some me.0 →
+    slice_index s.words i < 18446744073709551616 → f (slice_index s.words i) ≡ slice_index s.words i →
+    IsTrueOf s.words (read (slice_index s.words i))
