@@ -7,3 +7,4 @@ pub mod AnyOrder
 pub mod Pushing
 pub mod KeepOrder
 pub mod WholePass
+pub mod AnyKind

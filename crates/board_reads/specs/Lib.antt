@@ -1,3 +1,4 @@
 pub mod PassReads
 pub mod Spelled
 pub mod Orderly
+pub mod Noted

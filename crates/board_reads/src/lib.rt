@@ -6,6 +6,7 @@
 //! | `AddsLook`, `AddsPut` | that a pass reads one look more, or one put | specs/PassReads |
 //! | `spelled`, `Changes` | the places that a board's words spell, and what a read changes of them | specs/Spelled |
 //! | `StepsAreReads` | the read that each kind of step of a board is | specs/Spelled |
+//! | `AnyKindIsAnswered` | that no kind of step notes a read that the places don't answer | specs/Noted |
 //! | `IsOrderly` | what holds of the reads of a pass | specs/Orderly |
 #![tactic(auto)]
 
@@ -25,6 +26,7 @@ ghost use Rattle.basis_board.specs.Rule.{Consistent, Kept, OwnsBelow};
 ghost use Rattle.board_reads.specs.Orderly.{IsWhole, IsOrderly};
 ghost use Rattle.board_reads.specs.PassReads.{reads_of, AddsLook, AddsPut};
 ghost use Rattle.board_reads.specs.Spelled.{Changes, AreSpelled, StepsAreReads};
+ghost use Rattle.board_reads.specs.Noted.{AnyKindIsAnswered};
 
 /// A look of a pass reads one look.
 pub fn looks_are_read()
@@ -49,6 +51,12 @@ pub fn reads_change_the_board()
 pub fn steps_are_reads()
     ensures { (places : ℕ) (s : State ℕ View) (now : List ExactPlace) →
         Kept places s → AreSpelled s.words now → StepsAreReads places s now }
+{}
+
+/// No kind of step, and none that anyone may yet write, notes by a load or by a lost compare-exchange a read that the
+/// places do not answer when it is taken.
+pub fn any_kind_is_answered()
+    ensures { AnyKindIsAnswered }
 {}
 
 /// Whatever a pass is called for, its counts never fall, and a place that it read as done or published is below each
