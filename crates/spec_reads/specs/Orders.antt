@@ -1,10 +1,10 @@
--- What the reads of one who serves sessions say of each other, and those of all who share the places. Nothing is said
--- here of one order of all the reads.
-use Rattle.std.specs.Prelude.{ℕ, ◌≡◌, ◌<◌, ◌≤◌, ◌↔◌, List, [], ◌∷◌}
-use Rattle.std.specs.List.{flat_map, Contains, AllByRecursion}
+-- What the reads of one who serves sessions say of each other, and those of all who share the places, without an order
+-- and in one order.
+use Rattle.std.specs.Prelude.{ℕ, ◌≡◌, ◌==◌, ◌%◌, ◌<◌, ◌≤◌, ◌↔◌, List, [], ◌∷◌}
+use Rattle.std.specs.List.{filter, flat_map, Contains, AllByRecursion}
 use Rattle.spec_reads.specs.declared.read.Read.TheVariants.{Count, NotDone, Seen, Lost, Done}
 use Rattle.spec_reads.specs.Reads.{Words, ExactRead}
-use Rattle.spec_reads.specs.Places.{IsShown}
+use Rattle.spec_reads.specs.Places.{ExactPlace, IsShown, Logged, Plays}
 
 -- ---- the reads of one
 
@@ -49,3 +49,17 @@ pub record AreBacked (all : List ExactRead) : Type 0 where
   pub claimed : ℕ
   pub published : (k : ℕ) → Contains (published_in all) k ↔ (k < claimed)
   pub backed : AllByRecursion (IsBacked all claimed) all
+
+-- ---- the reads of all, in one order
+
+-- a session is one worker's, by its number
+abbrev pub log_of_worker : ℕ → ℕ → List Logged → List Logged
+log_of_worker workers worker log = filter (λ x. x.session % workers == worker) log
+
+-- So many workers made these reads. There is one order of all of them, in which those of each worker stand as it made
+-- them, and each is answered by the places as they are then. No place is claimed at first.
+pub record HaveOneOrder (places workers : ℕ) (logs : ℕ → List Logged) : Type 0 where
+  pub log : List Logged
+  pub last : List ExactPlace
+  pub played : Plays places [] log last
+  pub parts : (worker : ℕ) → worker < workers → log_of_worker workers worker log ≡ logs worker

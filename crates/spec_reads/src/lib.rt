@@ -9,6 +9,7 @@
 //! | `LookReads`, `PutReads` | a look and a put, by what they read | specs/Reads |
 //! | `Answers`, `Plays` | reads that the places answer, one and all in one order | specs/Places |
 //! | `AreInOrder`, `AreBacked` | what the reads of one say of each other, and those of all | specs/Orders |
+//! | `HaveOneOrder` | that the reads of all stand in one order, which the places answer | specs/Orders |
 //!
 //! The places are claimed one after the other, and each is written once. A look reads how many are claimed, and goes
 //! over them from the newest down to the first whose words have a shape. A put claims one place in one try, and writes
