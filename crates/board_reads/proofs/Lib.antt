@@ -8,3 +8,6 @@ pub mod Pushing
 pub mod KeepOrder
 pub mod WholePass
 pub mod AnyKind
+pub mod Merging
+pub mod Replaying
+pub mod Played

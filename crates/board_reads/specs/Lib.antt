@@ -2,3 +2,4 @@ pub mod PassReads
 pub mod Spelled
 pub mod Orderly
 pub mod Noted
+pub mod Played

@@ -8,6 +8,7 @@
 //! | `StepsAreReads` | the read that each kind of step of a board is | specs/Spelled |
 //! | `AnyKindIsAnswered` | that no kind of step notes a read that the places don't answer | specs/Noted |
 //! | `IsOrderly` | what holds of the reads of a pass | specs/Orderly |
+//! | `IsLogOf` | the reads of a pass, each with the session that it was made for | specs/Played |
 #![tactic(auto)]
 
 ghost use Rattle.std.specs.Prelude.{◌≡◌, ℕ, List, length};
@@ -27,6 +28,7 @@ ghost use Rattle.board_reads.specs.Orderly.{IsWhole, IsOrderly};
 ghost use Rattle.board_reads.specs.PassReads.{reads_of, AddsLook, AddsPut};
 ghost use Rattle.board_reads.specs.Spelled.{Changes, AreSpelled, StepsAreReads};
 ghost use Rattle.board_reads.specs.Noted.{AnyKindIsAnswered};
+ghost use Rattle.board_reads.specs.Played.{WholeLogsArePlayed};
 
 /// A look of a pass reads one look.
 pub fn looks_are_read()
@@ -78,4 +80,10 @@ pub fn whole_passes_are_backed()
 /// Reads that are backed are so in any other order.
 pub fn backed_in_any_order()
     ensures { (a b : List ExactRead) → IsPermutation a b → AreBacked a → AreBacked b }
+{}
+
+/// What workers read, each by a pass of its own, stands in one order, which places answer one read after the other, if
+/// the notes of their passes together are those of all passes of a board.
+pub fn whole_logs_are_played()
+    ensures { WholeLogsArePlayed }
 {}
