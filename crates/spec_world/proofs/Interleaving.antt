@@ -2,12 +2,12 @@
 use Rattle.std.proofs.Common.{◌≡◌, ℕ, ◌<◌, ◌%◌, Bool, true, false, List, [], ◌∷◌, ◌++◌, map, refl, sym, ap, ◌∙◌, subst}
 use Rattle.std.proofs.Common.{nat_eq, eqb-true, cond}
 use Rattle.std.proofs.lemmas.Bool.{eq-eqb}
-use Rattle.spec_reads.specs.Orders.{InPairs, AreInOrder, AreBacked}
+use Rattle.spec_reads.specs.Orders.{InPairs, AreInOrder, AreBacked, HaveOneOrder}
 use Rattle.spec_server.specs.declared.asks.Asked.{Asked}
 use Rattle.spec_server.specs.Machine.{ExactAsk, opening}
 use Rattle.spec_server.specs.Exchanges.{Exchange, asked_in, AloneRun, of_session}
 use Rattle.spec_world.specs.Workers.{reads_in_all, reads_of_worker, exchanges_of_worker, asks_of_worker, Interleaves}
-use Rattle.spec_world.specs.Workers.{HasServedAlone, ManyFits}
+use Rattle.spec_world.specs.Workers.{HasServedAlone, ManyFits, logs_of}
 
 module _ (workers : ℕ) where
   -- ---- the exchanges in one order
@@ -153,12 +153,13 @@ module _ (workers : ℕ) where
 
   pub many_fit : (places : ℕ) (xs : List Exchange) → ((session : ℕ) → session % workers < workers) →
       ((worker : ℕ) → worker < workers → HasServedAlone places (exchanges_of_worker workers worker xs)) →
-      AreBacked (reads_in_all xs) → ManyFits places workers xs
-  many_fit places xs below served backed = record {
+      AreBacked (reads_in_all xs) → HaveOneOrder places workers (logs_of workers xs) → ManyFits places workers xs
+  many_fit places xs below served backed together = record {
     alone = λ session. let run = (served (session % workers) (below session)).alone session in (
       run.0,
       subst (λ ys. AloneRun places opening ys run.0) (own_session session xs) run.1,
     );
     ordered = λ worker l. subst (InPairs AreInOrder) (reads_of_its_own worker xs) (served worker l).ordered;
     backed = backed;
+    together = together;
   }

@@ -9,10 +9,10 @@ use Rattle.spec_reads.specs.declared.place.Place.TheVariants as place
 use Rattle.spec_reads.specs.declared.read.Read.TheVariants.{Count, NotDone, Seen, Claim, Lost, Done}
 use Rattle.spec_reads.specs.Reads.{ExactRead}
 use Rattle.spec_reads.specs.Places.{ExactPlace, place_at, Answers, Logged, Plays, logged}
-use Rattle.spec_reads.specs.Orders.{InPairs, AreInOrder, published_by, published_in, IsBacked}
+use Rattle.spec_reads.specs.Orders.{InPairs, AreInOrder, published_by, published_in, IsBacked, log_of_worker}
 use Rattle.spec_server.specs.Machine.{opening}
 use Rattle.spec_server.specs.Exchanges.{Exchange, log_of, RunFits}
-use Rattle.spec_world.specs.Workers.{reads_in_all, reads_of_worker, ManyFits, RunsBy}
+use Rattle.spec_world.specs.Workers.{reads_in_all, reads_of_worker, exchanges_of_worker, logs_of, ManyFits, RunsBy}
 use Rattle.spec_world.proofs.Places.{place_some, place_below, answers_grow, answers_before}
 use Rattle.spec_world.proofs.InOrder.{served, served_in_order, published, published_once}
 use Rattle.spec_world.proofs.AllDone.{NoneClaimed, all_done}
@@ -60,6 +60,36 @@ served_reads workers worker (x ∷ xs) =
     (one_served (λ session. nat_eq (session % workers) worker) x.session x.reads
     (nat_eq (x.session % workers) worker) refl)
     ∙ ap (λ rs. cond (nat_eq (x.session % workers) worker) x.reads [] ++ rs) (served_reads workers worker xs)
+
+one_worker_log : (workers worker session : ℕ) (rs : List ExactRead) (t : Bool) → nat_eq (session % workers) worker ≡ t →
+    log_of_worker workers worker (logged session rs) ≡ cond t (logged session rs) []
+one_worker_log workers worker session [] true e = refl
+one_worker_log workers worker session [] false e = refl
+one_worker_log workers worker session (r ∷ rs) true e =
+    ap (λ b. cond b (record { session = session; read = r } ∷ log_of_worker workers worker (logged session rs))
+    (log_of_worker workers worker (logged session rs))) e
+    ∙ ap (λ xs. record { session = session; read = r } ∷ xs) (one_worker_log workers worker session rs true e)
+one_worker_log workers worker session (r ∷ rs) false e =
+    ap (λ b. cond b (record { session = session; read = r } ∷ log_of_worker workers worker (logged session rs))
+    (log_of_worker workers worker (logged session rs))) e
+    ∙ one_worker_log workers worker session rs false e
+
+-- the reads of a worker in the log of all
+log_more : (workers worker : ℕ) (x : Exchange) (xs : List Exchange) (t : Bool) →
+    cond t (logged x.session x.reads) [] ++ logs_of workers xs worker
+    ≡ log_of (cond t (x ∷ exchanges_of_worker workers worker xs) (exchanges_of_worker workers worker xs))
+log_more workers worker x xs true = refl
+log_more workers worker x xs false = refl
+
+worker_logs : (workers worker : ℕ) (xs : List Exchange) →
+    log_of_worker workers worker (log_of xs) ≡ logs_of workers xs worker
+worker_logs workers worker [] = refl
+worker_logs workers worker (x ∷ xs) =
+    filter-append (λ (y : Logged). nat_eq (y.session % workers) worker) (logged x.session x.reads) (log_of xs)
+    ∙ ap (λ ls. log_of_worker workers worker (logged x.session x.reads) ++ ls) (worker_logs workers worker xs)
+    ∙ ap (λ ls. ls ++ logs_of workers xs worker)
+    (one_worker_log workers worker x.session x.reads (nat_eq (x.session % workers) worker) refl)
+    ∙ log_more workers worker x xs (nat_eq (x.session % workers) worker)
 
 published_log : (log : List Logged) → published log ≡ flat_map published_by (reads_in log)
 published_log [] = refl
@@ -192,6 +222,12 @@ one_is_many places workers xs f =
         );
         backed = subst (λ rs. AllByRecursion (IsBacked rs (length f.last)) rs) (log_reads xs)
             (backed places [] f.last (log_of xs) (reads_in (log_of xs)) (λ r h. h) (λ k words e. cc) f.played);
+      };
+      together = record {
+        log = log;
+        last = f.last;
+        played = f.played;
+        parts = λ worker l. worker_logs workers worker xs;
       };
     }
 

@@ -2,10 +2,11 @@
 use Rattle.std.specs.Prelude.{ℕ, ◌≡◌, ◌==◌, ◌%◌, ◌<◌, List, [], map, if◌then◌else◌}
 use Rattle.std.specs.List.{filter, flat_map}
 use Rattle.spec_reads.specs.Reads.{ExactRead}
-use Rattle.spec_reads.specs.Orders.{InPairs, AreInOrder, AreBacked}
+use Rattle.spec_reads.specs.Orders.{InPairs, AreInOrder, AreBacked, HaveOneOrder}
+use Rattle.spec_reads.specs.Places.{Logged}
 use Rattle.spec_server.specs.declared.asks.Asked.{Asked}
 use Rattle.spec_server.specs.Machine.{ExactAsk}
-use Rattle.spec_server.specs.Exchanges.{Exchange, asked_in, RunAlone, RunFits}
+use Rattle.spec_server.specs.Exchanges.{Exchange, asked_in, log_of, RunAlone, RunFits}
 
 abbrev pub reads_in_all : List Exchange → List ExactRead
 reads_in_all xs = flat_map (λ x. x.reads) xs
@@ -14,12 +15,22 @@ reads_in_all xs = flat_map (λ x. x.reads) xs
 abbrev pub reads_of_worker : ℕ → ℕ → List Exchange → List ExactRead
 reads_of_worker workers worker xs = flat_map (λ x. if x.session % workers == worker then x.reads else []) xs
 
--- Each session runs alone, and each worker answered its asks one after the other. No place was published twice, the
--- published places are those below some number, and what is read as done was published in this run with those words.
+-- those exchanges
+abbrev pub exchanges_of_worker : ℕ → ℕ → List Exchange → List Exchange
+exchanges_of_worker workers worker xs = filter (λ x. x.session % workers == worker) xs
+
+-- the reads of each worker, with the session that each was made for, in the order in which it made them
+abbrev pub logs_of : ℕ → List Exchange → ℕ → List Logged
+logs_of workers xs worker = log_of (exchanges_of_worker workers worker xs)
+
+-- Each session runs alone, and each worker answered its asks one after the other. The reads of all workers stand in one
+-- order, in which each is answered by the places as they are then; so no place was published twice, the published
+-- places are those below some number, and what is read as done was published before it with those words.
 pub record ManyFits (places workers : ℕ) (xs : List Exchange) : Type 0 where
   pub alone : RunAlone places xs
   pub ordered : (worker : ℕ) → worker < workers → InPairs AreInOrder (reads_of_worker workers worker xs)
   pub backed : AreBacked (reads_in_all xs)
+  pub together : HaveOneOrder places workers (logs_of workers xs)
 
 -- By so many workers; and with one of them the asks are answered one after the other, each read by the places as they
 -- are then.
@@ -28,9 +39,6 @@ pub record RunsBy (workers places : ℕ) (xs : List Exchange) : Type 0 where
   pub one : workers ≡ 1 → RunFits places xs
 
 -- ---- what each worker has had by itself
-
-abbrev pub exchanges_of_worker : ℕ → ℕ → List Exchange → List Exchange
-exchanges_of_worker workers worker xs = filter (λ x. x.session % workers == worker) xs
 
 abbrev pub asks_of_worker : ℕ → ℕ → List (Asked ExactAsk) → List (Asked ExactAsk)
 asks_of_worker workers worker asks = filter (λ asked. asked.session % workers == worker) asks

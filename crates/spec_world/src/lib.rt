@@ -26,7 +26,7 @@ ghost use Rattle.spec_shape.specs.Words.{IsWellFormed};
 ghost use Rattle.spec_reads.specs.declared.place.Place.TheVariants as place;
 ghost use Rattle.spec_reads.specs.Reads.{Words};
 ghost use Rattle.spec_reads.specs.Places.{ExactPlace, place_at, Logged, Plays};
-ghost use Rattle.spec_reads.specs.Orders.{InPairs, AreInOrder, AreBacked, published_by};
+ghost use Rattle.spec_reads.specs.Orders.{InPairs, AreInOrder, AreBacked, HaveOneOrder, published_by};
 ghost use Rattle.spec_server.specs.declared.asks.Asked.{Asked};
 ghost use Rattle.spec_server.specs.Machine.{ExactAsk};
 ghost use Rattle.spec_server.specs.Exchanges.{Exchange, asked_in, of_session, RunFits};
@@ -36,7 +36,7 @@ ghost use Rattle.spec_world.specs.World.{Server, ExactEvent, ExactEnd, World, op
 ghost use Rattle.spec_world.specs.World.{WorldStep, WorldRun};
 ghost use Rattle.spec_world.specs.Sound.{IsSound, AreKeptEvents, ReadsNow, EndFits};
 ghost use Rattle.spec_world.specs.Workers.{RunsBy, ManyFits, reads_in_all, exchanges_of_worker, asks_of_worker};
-ghost use Rattle.spec_world.specs.Workers.{Interleaves, HasServedAlone};
+ghost use Rattle.spec_world.specs.Workers.{Interleaves, HasServedAlone, logs_of};
 ghost use Rattle.spec_world.specs.Together.{Together, HaveSessions};
 
 mod event;
@@ -124,14 +124,15 @@ pub fn one_worker_is_many()
 {}
 
 /// What workers had beside each other, each with its own asks, stands in the order of the asks; and then it is what
-/// many workers may reply, if each answered its own asks alone and in order, and all that was read is backed.
+/// many workers may reply, if each answered its own asks alone and in order, and all that was read is backed and stands
+/// in one order.
 pub fn workers_are_many()
     ensures interleave { (workers : ℕ) (asks : List (Asked ExactAsk)) (had : ℕ → List Exchange) →
         ((worker : ℕ) → map asked_in (had worker) ≡ asks_of_worker workers worker asks) →
         Interleaves workers asks had }
     ensures fits { (places workers : ℕ) (xs : List Exchange) → 0 < workers →
         ((worker : ℕ) → worker < workers → HasServedAlone places (exchanges_of_worker workers worker xs)) →
-        AreBacked (reads_in_all xs) → ManyFits places workers xs }
+        AreBacked (reads_in_all xs) → HaveOneOrder places workers (logs_of workers xs) → ManyFits places workers xs }
 {}
 
 /// Two runs of the same asks, by any numbers of workers and with any numbers of places, give each session the same

@@ -5,6 +5,6 @@ use Rattle.spec_world.proofs.workers_are_many.Goals as goal
 pub returns : goal.returns
 returns c = record {
   interleave = interleaved;
-  fits = λ places workers xs some served backed.
-      many_fit workers places xs (λ session. omega arith) served backed;
+  fits = λ places workers xs some served backed together.
+      many_fit workers places xs (λ session. omega arith) served backed together;
 }
