@@ -1,0 +1,71 @@
+#!/usr/bin/env python3
+"""Checks that the program stands on the kit's crates that docs/ARCHITECTURE.md names.
+
+    check_kit.py
+
+Each crate in the table under "Crates of the kit" has to be named in the line of crates.txt, and in a `use` of the sources,
+of a crate that the program stands on; and each crate of the kit that such a crate names in crates.txt has to be in the
+table. It prints what is not so; the status is 1 where something is.
+"""
+import re
+import sys
+from pathlib import Path
+
+TOP = Path(__file__).resolve().parent.parent
+PROGRAM = "lpd"
+
+
+def below():
+    """What each crate of the repository names in its line of crates.txt."""
+    found = {}
+    for line in (TOP / "crates.txt").read_text(encoding="utf-8").splitlines():
+        head, colon, names = line.partition("#")[0].partition(":")
+        if colon:
+            found[head.split()[0]] = names.split()
+    return found
+
+
+def standing(lines):
+    """The crates of the repository that the program stands on, and itself."""
+    found, left = set(), [PROGRAM]
+    while left:
+        crate = left.pop()
+        if crate in lines and crate not in found:
+            found.add(crate)
+            left += lines[crate]
+    return found
+
+
+def uses(crate, name):
+    sources = (TOP / "crates" / crate / "src").rglob("*.rt")
+    return any(re.search(rf"^\s*use {name}::", path.read_text(encoding="utf-8"), re.M) for path in sources)
+
+
+def named():
+    """The crates of the kit in the table of docs/ARCHITECTURE.md."""
+    text = (TOP / "docs" / "ARCHITECTURE.md").read_text(encoding="utf-8")
+    section = text.partition("### Crates of the kit")[2].partition("\n#")[0]
+    return set(re.findall(r"^\| `(\w+)` \|", section, re.M))
+
+
+def complaints():
+    lines, kit = below(), named()
+    crates = standing(lines)
+    for name in sorted(kit):
+        if not any(name in lines[crate] and uses(crate, name) for crate in crates):
+            yield f"docs/ARCHITECTURE.md names {name} of the kit, but no crate below {PROGRAM} uses it"
+    for name in sorted({name for crate in crates for name in lines[crate]} - set(lines) - kit):
+        yield f"a crate below {PROGRAM} names {name} of the kit, but docs/ARCHITECTURE.md does not"
+    if not kit:
+        yield "docs/ARCHITECTURE.md has no table of the kit's crates"
+
+
+def main():
+    found = list(complaints())
+    for complaint in found:
+        print(complaint)
+    sys.exit(1 if found else 0)
+
+
+if __name__ == "__main__":
+    main()
