@@ -1,0 +1,93 @@
+-- The column that enters, from a row of reduced costs.
+use Rattle.std.proofs.Common.{◌≡◌, ℕ, zero, suc, ◌+◌, ◌-◌, ◌<◌, ◌≤◌, Option, Some, None, List, length, get_or, pos}
+use Rattle.std.proofs.Common.{int_cmp}
+use Rattle.std.proofs.Common.{Bool, true, false, cond, refl, sym, subst, ap, ap₂, ◌∙◌, arith, Ordering, Less, Equal}
+use Rattle.std.proofs.Common.{Greater}
+use Rattle.std.proofs.lemmas.List.{get_or_default}
+use Rattle.std.specs.Ordering.{is_lt, is_gt}
+use Rattle.spec_exact.specs.Fraction.{ℚ, over}
+use Rattle.spec_exact.specs.Limit.{sign}
+use Rattle.spec_exact.proofs.Signs.{below_zero, above_zero}
+use Rattle.spec_pivot.specs.declared.status.Status.{Status}
+use Rattle.spec_pivot.specs.declared.status.Status.TheVariants.{Basic, AtLower, AtUpper, AtZero}
+use Rattle.spec_simplex.specs.declared.ends.Entering.{Entering}
+use Rattle.spec_simplex.specs.Tableau.{Tableau, form_columns}
+use Rattle.spec_simplex.specs.Step.{way_by, way_at, or_enters, entering_below}
+use Rattle.lp_wide.specs.Whole.{whole}
+use Rattle.lp_wide.specs.declared.signed.Signed.{Signed}
+use Rattle.lp_rows.specs.Row.{at}
+use Rattle.lp_rows.specs.Entering.{of_sign, way_of, way_with, IsPriced}
+use Rattle.lp_rows.proofs.Done.{item-at}
+use Rattle.lp_rows.proofs.Cleared.{fraction-at}
+use Rattle.lp_rows.proofs.Orders.{sign-over}
+
+-- ---- the least of many
+stays : (t : Tableau) (n d : ℕ) (e : Entering) → entering_below t n ≡ Some e → entering_below t (n + d) ≡ Some e
+stays t n zero e h = (let z : n + 0 ≡ n = omega arith in ap (entering_below t) z) ∙ h
+stays t n (suc d) e h =
+    (let z : n + suc d ≡ suc (n + d) = omega arith in ap (entering_below t) z)
+    ∙ ap (λ o. or_enters o (n + d) (way_at t (n + d))) (stays t n d e h)
+
+pub none_more : (t : Tableau) (k : ℕ) → entering_below t k ≡ None → way_at t k ≡ None → entering_below t (k + 1) ≡ None
+none_more t k h g = (let z : k + 1 ≡ suc k = omega arith in ap (entering_below t) z) ∙ ap₂ (λ o w. or_enters o k w) h g
+
+pub enters_at : (t : Tableau) (k n : ℕ) (up : Bool) → entering_below t k ≡ None → k < n → way_at t k ≡ Some up →
+    entering_below t n ≡ Some (record { col = k; up = up })
+enters_at t k n up h l g =
+    let z : suc k + (n - suc k) ≡ n = omega arith in
+    subst (λ i. entering_below t i ≡ Some (record { col = k; up = up })) z
+    (stays t (suc k) (n - suc k) (record { col = k; up = up }) (ap₂ (λ o w. or_enters o k w) h g))
+
+-- none of the columns from n on
+pub none_behind : (t : Tableau) (n d : ℕ) → entering_below t n ≡ None →
+    ((k : ℕ) → n ≤ k → k < n + d → way_at t k ≡ None) → entering_below t (n + d) ≡ None
+none_behind t n zero h f = (let z : n + 0 ≡ n = omega arith in ap (entering_below t) z) ∙ h
+none_behind t n (suc d) h f =
+    (let z : n + suc d ≡ suc (n + d) = omega arith in ap (entering_below t) z)
+    ∙ ap₂ (λ o w. or_enters o (n + d) w)
+    (none_behind t n d h (λ k l i. f k l (omega (arith, i)))) (f (n + d) (omega arith) (omega arith))
+
+-- ---- by the sign
+way_is : (s : Status) (d : ℚ) (o : Ordering) → o ≡ sign d → way_of s o ≡ way_by s d
+way_is Basic d o e = refl
+way_is AtLower d o e = by o ∙ ap (λ a. cond a (Some true) None) (below_zero d o e)
+  where
+    by : (o : Ordering) → ◌≡◌ {A = Option Bool} (of_sign o (Some true) None None) (cond (is_lt o) (Some true) None)
+    by Less = refl
+    by Equal = refl
+    by Greater = refl
+way_is AtUpper d o e = by o ∙ ap (λ a. cond a (Some false) None) (above_zero d o e)
+  where
+    by : (o : Ordering) →
+        ◌≡◌ {A = Option Bool} (of_sign o None None (Some false)) (cond (is_gt o) (Some false) None)
+    by Less = refl
+    by Equal = refl
+    by Greater = refl
+way_is AtZero d o e =
+    by o ∙ ap₂ (λ a b. cond a (Some true) (cond b (Some false) None)) (below_zero d o e) (above_zero d o e)
+  where
+    by : (o : Ordering) →
+        ◌≡◌ {A = Option Bool} (of_sign o (Some true) None (Some false))
+        (cond (is_lt o) (Some true) (cond (is_gt o) (Some false) None))
+    by Less = refl
+    by Equal = refl
+    by Greater = refl
+
+pub way_there : {T : Type 0} (value : T → ℕ) (t : Tableau) (numbers : List (Signed T)) (d k : ℕ)
+    (statuses : List Status) (fixed : List Bool) (x : Signed T) (s : Status) (w : Option Bool) →
+    IsPriced value t numbers d statuses fixed → 0 < d → k < length fixed → length fixed ≤ length numbers →
+    length fixed ≤ length statuses → x ≡ get_or numbers k x →
+    w ≡ way_with (get_or fixed k false) (get_or statuses k s) (int_cmp (whole x.negative (value x.size)) (pos 0)) →
+    way_at t k ≡ w
+way_there value t numbers d k statuses fixed x s w h p l m o a e =
+    let there : k < form_columns t = omega (arith, l, h.columns) in
+    let inside : k < length numbers = omega (arith, l, m) in
+    let stood : k < length statuses = omega (arith, l, o) in
+    ap₂ (λ u v. cond u None v) (h.fixes k there)
+    (ap₂ way_by
+    (ap (λ (ys : List Status). get_or ys k Basic) h.status ∙ get_or_default statuses k Basic s stood)
+    (h.reduced k there ∙ fraction-at value numbers d k inside)
+    ∙ sym (way_is (get_or statuses k s) (over (at value numbers k) d) _
+    (ap (λ z. int_cmp z (pos 0)) (sym (item-at value numbers k x inside a))
+    ∙ sym (sign-over (at value numbers k) d p))))
+    ∙ sym e

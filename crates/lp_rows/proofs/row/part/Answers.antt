@@ -1,0 +1,13 @@
+use Rattle.std.proofs.Common.{◌<◌, ◌≤◌, length, ◌∙◌, sym, arith}
+use Rattle.lp_rows.proofs.Done.{one_so, item-at}
+use Rattle.lp_rows.proofs.Cleared.{whole-times}
+use Rattle.lp_rows.proofs.row.part.Goals as goal
+
+pub loop-k-preserved : goal.loop-k-preserved
+loop-k-preserved g c =
+    let d = c.loop-k.invariant in
+    let n : c.loop-k.k < length c.loop-k.row = omega (arith, d.len, c.loop-k-test.true) in
+    let e : c.loop-k.k ≤ c.loop-k.k = omega arith in
+    one_so g.T.Words.value c.loop-k.k _ c.args.row.now c.loop-k.row _ d n
+    (sym (whole-times c.index-row-k.result.negative _ _ _ c.in-Some.ensures)
+    ∙ sym (item-at g.T.Words.value c.loop-k.row c.loop-k.k _ n c.index-row-k.is) ∙ d.rest c.loop-k.k e)

@@ -1,0 +1,59 @@
+-- What stops the entering column, with its ratio as a fraction.
+use Rattle.std.specs.Prelude.{ℕ, ◌*◌, ℤ, ◌-ℤ◌, ◌*ℤ◌, pos, ◌≡◌, Bool, true, false, Option, Some, None, Ok}
+use Rattle.std.specs.declared.cmp.Ordering.{Ordering}
+use Rattle.std.specs.declared.cmp.Ordering.TheVariants.{Less, Equal, Greater}
+use Rattle.spec_exact.specs.Run.{Run}
+use Rattle.spec_simplex.specs.Step.{better_run, rise_run, fall_run}
+use Rattle.lp_wide.specs.declared.signed.Signed.{Signed}
+use Rattle.spec_exact.specs.Fraction.{ℚ, over}
+use Rattle.spec_simplex.specs.declared.ends.Best.{Best}
+use Rattle.lp_wide.specs.Whole.{whole}
+use Rattle.lp_rows.specs.declared.ratio.Stopper.{Stopper}
+use Rattle.lp_rows.specs.declared.ratio.Gap.{Gap}
+use Rattle.spec_pivot.specs.declared.status.Status.{Status}
+
+-- d is the denominator of all bounds
+abbrev pub best_of : {T : Type 0} → (T → ℕ) → ℕ → Stopper T → Best ℚ
+best_of value d s =
+    record {
+      ratio = over (whole s.gap.negative (value s.gap.size)) (d * value s.entry);
+      col = s.col;
+      place = s.place;
+      to = s.to;
+    }
+
+-- from the value up to the bound, or down to it
+abbrev pub room_of : Bool → ℤ → ℤ → ℤ
+room_of true bound value = bound -ℤ value
+room_of false bound value = value -ℤ bound
+
+-- a bound, or none, on the denominator d
+abbrev pub bound_of : {T : Type 0} → (T → ℕ) → ℕ → Option (Signed T) → Option ℚ
+bound_of value d None = None
+bound_of value d (Some b) = Some (over (whole b.negative (value b.size)) d)
+
+-- the best so far, with what stops the column in one position
+abbrev pub stopped : {T : Type 0} → (T → ℕ) → ℕ → Option (Stopper T) → Option (Best ℚ) → Run (Option (Best ℚ))
+stopped value d None best = Ok best
+stopped value d (Some s) best = better_run None (best_of value d s) best
+
+-- the gap as a fraction, and the bound: d is the denominator of all bounds, and e that of the row
+abbrev pub gap_of : {T : Type 0} → (T → ℕ) → ℕ → ℕ → Option (Gap T) → Option (ℚ × Status)
+gap_of value d e None = None
+gap_of value d e (Some g) = Some (over (whole g.size.negative (value g.size.size)) (d * e), g.to)
+
+-- the gap of a column at v that rises, stands or falls
+abbrev pub gap_by : Ordering → Option ℚ → Option ℚ → ℚ → Run (Option (ℚ × Status))
+gap_by Less lower upper v = rise_run None upper v
+gap_by Equal lower upper v = Ok None
+gap_by Greater lower upper v = fall_run None lower v
+
+-- the bound is there, and so is the gap up or down to it; or neither is
+abbrev pub IsGap : {T : Type 0} → (T → ℕ) → Bool → Option (Signed T) → Signed T → ℕ → Status → Option (Gap T) → Type 0
+IsGap value rises None v e to None = Unit {0}
+IsGap value rises None v e to (Some g) = ⊥
+IsGap value rises (Some b) v e to None = ⊥
+IsGap value rises (Some b) v e to (Some g) =
+    (whole g.size.negative (value g.size.size) ≡
+    room_of rises (whole b.negative (value b.size) *ℤ pos e) (whole v.negative (value v.size)))
+    × (g.to ≡ to)

@@ -1,0 +1,29 @@
+-- The whole numbers of a row, and the fractions that they are on its denominator.
+use Rattle.std.specs.Prelude.{ℕ, zero, suc, ◌<◌, ◌≡◌, ℤ, pos, neg_ℤ, Bool, true, false, List, [], ◌∷◌, length, get_or}
+use Rattle.spec_exact.specs.Fraction.{ℚ, 0ℚ, over}
+use Rattle.lp_wide.specs.Whole.{whole}
+use Rattle.lp_wide.specs.declared.signed.Signed.{Signed}
+
+-- that of column k, and 0 past the end
+abbrev pub at : {T : Type 0} → (T → ℕ) → List (Signed T) → ℕ → ℤ
+at value [] k = pos 0
+at value (x ∷ xs) zero = whole x.negative (value x.size)
+at value (x ∷ xs) (suc k) = at value xs k
+
+-- each over d
+unfoldable pub fractions : {T : Type 0} → (T → ℕ) → List (Signed T) → ℕ → List ℚ
+fractions value [] d = []
+fractions value (x ∷ xs) d = over (whole x.negative (value x.size)) d ∷ fractions value xs d
+
+abbrev pub fraction_at : {T : Type 0} → (T → ℕ) → List (Signed T) → ℕ → ℕ → ℚ
+fraction_at value xs d k = get_or (fractions value xs d) k 0ℚ
+
+-- as many fractions as before, and that of column k is f k
+pub record AreNow {T : Type 0} (value : T → ℕ) (f : ℕ → ℚ) (n : ℕ) (xs : List (Signed T)) (d : ℕ) : Type 0 where
+  pub len : length xs ≡ n
+  pub each : (k : ℕ) → k < n → fraction_at value xs d k ≡ f k
+
+-- n, or its negative
+abbrev pub turned_if : Bool → ℤ → ℤ
+turned_if true n = neg_ℤ n
+turned_if false n = n

@@ -1,0 +1,137 @@
+// Rows as fractions.
+ghost use Rattle.std.specs.Prelude.{false, ◌≡◌, ◌≢◌, ◌<◌, ℕ, ◌*◌, IsTrue, IfSome, length};
+ghost use Rattle.spec_exact.specs.Fraction.{0ℚ, inverse, ◌-ℚ◌, ◌*ℚ◌};
+ghost use Rattle.lp_rows.specs.Row.{fraction_at, AreNow};
+
+use crate::row::{eliminate, part, turn};
+use lp_wide::{Signed, Words, product, quotient, some_common};
+use std::cmp::Ordering;
+
+/// Whole numbers on a denominator, which is not 0. The last of them is the value of the row's basic column.
+#[derive(Drop)]
+pub struct Row<T: Words> {
+    pub numbers: Vec<Signed<T>>,
+    pub denominator: T,
+}
+
+// What two numbers are times a divisor that they have in common.
+#[derive(Clone, Copy)]
+pub(crate) struct Shares<T> {
+    pub(crate) first: T,
+    pub(crate) second: T,
+    pub(crate) common: T,
+}
+
+// Both numbers over a divisor that they have in common. There is none where what is found divides one of them not.
+pub(crate) fn share_common<T: Words>(a: T, b: T) -> Option<Shares<T>>
+    ensures { IfSome result (λ s. (T.value s.first * T.value s.common ≡ T.value a)
+        × (T.value s.second * T.value s.common ≡ T.value b)) }
+{
+    let common = some_common(a, b);
+    match (quotient(a, common), quotient(b, common)) {
+        (Some(first), Some(second)) => Some(Shares {
+            first,
+            second,
+            common,
+        }),
+        _ => None,
+    }
+}
+
+/// Takes the other row off as often as the entry in column `j` says. Where it is false a number is past the width, and
+/// the row is spent.
+pub fn clear<T: Words>(row: &mut Row<T>, other: &Row<T>, j: usize) -> bool
+    requires same { length other.now.numbers.items ≡ length row.old.numbers.items }
+    requires column { j < length row.old.numbers.items }
+    requires positive { 0 < T.value row.old.denominator }
+    requires below { 0 < T.value other.now.denominator }
+    ensures rest { IsTrue result → AreNow T.value (λ k.
+        fraction_at T.value row.old.numbers.items (T.value row.old.denominator) k -ℚ
+        fraction_at T.value row.old.numbers.items (T.value row.old.denominator) j *ℚ
+        fraction_at T.value other.now.numbers.items (T.value other.now.denominator) k)
+        (length row.old.numbers.items) row.new.numbers.items (T.value row.new.denominator) }
+    ensures positive { IsTrue result → 0 < T.value row.new.denominator }
+{
+    let entry = row.numbers[j];
+    match share_common(other.denominator, entry.size) {
+        Some(s) => match product(row.denominator, s.first) {
+            Some(denominator) => {
+                row.denominator = denominator;
+                let a = Signed {
+                    negative: false,
+                    size: s.first,
+                };
+                let b = Signed {
+                    negative: entry.negative,
+                    size: s.second,
+                };
+                eliminate(&mut row.numbers, &other.numbers, a, b)
+            }
+            None => false,
+        },
+        None => false,
+    }
+}
+
+// Whether a number with a sign is 0.
+fn is_none<T: Words>(n: Signed<T>) -> bool
+    ensures { result ≡ false → 0 < T.value n.size }
+{
+    n.size.is_zero()
+}
+
+/// Divides a row by its entry in column `j`. Where it is false that entry is 0, and the row as it was.
+pub fn divide<T: Words>(row: &mut Row<T>, j: usize) -> bool
+    requires column { j < length row.old.numbers.items }
+    requires positive { 0 < T.value row.old.denominator }
+    ensures rest { IsTrue result → AreNow T.value (λ k.
+        fraction_at T.value row.old.numbers.items (T.value row.old.denominator) k *ℚ
+        inverse (fraction_at T.value row.old.numbers.items (T.value row.old.denominator) j))
+        (length row.old.numbers.items) row.new.numbers.items (T.value row.new.denominator) }
+    ensures positive { 0 < T.value row.new.denominator }
+{
+    let entry = row.numbers[j];
+    if is_none(entry) {
+        return false;
+    }
+    row.denominator = entry.size;
+    turn(&mut row.numbers, entry.negative);
+    true
+}
+
+// A divisor that a row's numbers have in common with its denominator. Nothing is promised of it.
+fn divisor<T: Words>(numbers: &[Signed<T>], denominator: T) -> T {
+    let mut found = denominator;
+    for number in numbers {
+        if is_one(found) {
+            break;
+        }
+        found = some_common(found, number.size);
+    }
+    found
+}
+
+fn is_one<T: Words>(n: T) -> bool {
+    n.compare(T::one()) == Ordering::Equal
+}
+
+/// Takes out what a row's numbers have in common with its denominator. Where it is false the row is spent.
+pub fn reduce<T: Words>(row: &mut Row<T>) -> bool
+    requires positive { 0 < T.value row.old.denominator }
+    ensures rest { IsTrue result → AreNow T.value
+        (fraction_at T.value row.old.numbers.items (T.value row.old.denominator))
+        (length row.old.numbers.items) row.new.numbers.items (T.value row.new.denominator) }
+    ensures positive { IsTrue result → 0 < T.value row.new.denominator }
+{
+    let by = divisor(&row.numbers, row.denominator);
+    if is_one(by) {
+        return true;
+    }
+    match quotient(row.denominator, by) {
+        Some(denominator) => {
+            row.denominator = denominator;
+            part(&mut row.numbers, by)
+        }
+        None => false,
+    }
+}

@@ -1,0 +1,28 @@
+//! Rows of whole numbers on a common denominator.
+//!
+//! | Item | What it is | Where |
+//! |---|---|---|
+//! | `eliminate` | a row's multiple less that of another row, or none where a number is past the width | src/row |
+//! | `Row` | a row with its denominator and the value of its basic column | src/fractions |
+//! | `clear` | a row less another one, as often as an entry says | src/fractions |
+//! | `divide`, `reduce` | a row over one of its entries; a row without what its numbers have in common | src/fractions |
+//! | `entering` | the column that enters, by a row of reduced costs | src/choice |
+//! | `toward` | a number as a column moves that rises or falls | src/ratio |
+//! | `goes`, `Gap`, `gap_for` | whether a basic column rises or falls; how far a basic column may go, and up to which bound | src/ratio |
+//! | `Stopper`, `stopper_at`, `better` | what stops the entering column; that in one position; the first of two | src/ratio |
+//! | `fraction` | a number of a row as a fraction of 127 bits | src/narrow |
+//! | `fractions` | what a row means: exact fractions | specs/Row |
+//! | `at` | the whole number of a column | specs/Row |
+#![tactic(auto)]
+
+mod choice;
+mod fractions;
+mod narrow;
+mod ratio;
+mod row;
+
+pub use choice::entering;
+pub use fractions::{Row, clear, divide, reduce};
+pub use narrow::fraction;
+pub use ratio::{Gap, Stopper, better, gap_for, goes, stopper_at, toward};
+pub use row::eliminate;

@@ -1,0 +1,200 @@
+// Which of two positions stops the entering column first: ratios are compared crosswise, and nothing is divided.
+ghost use Rattle.std.specs.Prelude.{◌≡◌, ◌<◌, ◌+◌, ◌*◌, ℕ, IsTrue, false, pos, ◌*ℤ◌, Ok, Some, None, IfSome, Option, not, ◌⊎◌};
+ghost use Rattle.std.specs.Ordering.{int_cmp};
+ghost use Rattle.spec_exact.specs.Fraction.{ℚ, over};
+ghost use Rattle.spec_simplex.specs.declared.ends.Best.{Best};
+ghost use Rattle.spec_simplex.specs.Step as step;
+ghost use Rattle.lp_wide.specs.Whole.{whole};
+ghost use Rattle.lp_rows.specs.Row.{turned_if};
+ghost use Rattle.lp_rows.specs.Ratio.{best_of, room_of, bound_of, gap_of, gap_by, stopped, IsGap};
+
+use crate::choice::sign;
+use lp_wide::{Signed, Words, cross_compare, minus, times};
+use spec_pivot::Status;
+use std::cmp::Ordering;
+
+/// What stops the entering column: its ratio is the gap over the entry, and over what all bounds have as their
+/// denominator.
+#[derive(Clone, Copy)]
+pub struct Stopper<T> {
+    pub gap: Signed<T>,
+    pub entry: T,
+    pub col: u32,
+    /// The column's position, which the entering column itself has none of.
+    pub place: Option<u32>,
+    /// The bound that the column goes to.
+    pub to: Status,
+}
+
+// Whether both products are 0, of which the second factors are not.
+fn are_none<T: Words>(a: T, m: T, b: T, n: T) -> bool
+    requires first { 0 < T.value m }
+    requires second { 0 < T.value n }
+    ensures none { IsTrue result → (T.value a * T.value m ≡ 0) × (T.value b * T.value n ≡ 0) }
+    ensures some { result ≡ false → 0 < T.value a * T.value m + T.value b * T.value n }
+{
+    if a.is_zero() { b.is_zero() } else { false }
+}
+
+// How `a m` stands to `b n`.
+fn order<T: Words>(a: Signed<T>, m: T, b: Signed<T>, n: T) -> Ordering
+    requires first { 0 < T.value m }
+    requires second { 0 < T.value n }
+    ensures { result ≡ int_cmp (whole a.negative (T.value a.size) *ℤ pos (T.value m))
+        (whole b.negative (T.value b.size) *ℤ pos (T.value n)) }
+{
+    if a.negative {
+        if b.negative {
+            cross_compare(b.size, n, a.size, m)
+        } else if are_none(a.size, m, b.size, n) {
+            Ordering::Equal
+        } else {
+            Ordering::Less
+        }
+    } else if b.negative {
+        if are_none(a.size, m, b.size, n) {
+            Ordering::Equal
+        } else {
+            Ordering::Greater
+        }
+    } else {
+        cross_compare(a.size, m, b.size, n)
+    }
+}
+
+/// The better of two: the lesser ratio, and of equal ones the lesser column.
+pub fn better<T: Words>(new: Stopper<T>, best: Stopper<T>) -> Stopper<T>
+    requires first { 0 < T.value new.entry }
+    requires second { 0 < T.value best.entry }
+    ensures value { (d : ℕ) → 0 < d → step.better_run None (best_of T.value d new) (Some (best_of T.value d best)) ≡
+        Ok (Some (best_of T.value d result)) }
+    ensures one { (result ≡ new) ⊎ (result ≡ best) }
+{
+    match order(new.gap, best.entry, best.gap, new.entry) {
+        Ordering::Less => new,
+        Ordering::Equal => { if new.col < best.col { new } else { best } }
+        Ordering::Greater => best,
+    }
+}
+
+/// How far a basic column is from the bound that stops it, and which bound that is.
+#[derive(Clone, Copy)]
+pub struct Gap<T> {
+    pub size: Signed<T>,
+    pub to: Status,
+}
+
+// A column that rises up to its upper bound, or falls down to its lower one.
+fn room<T: Words>(
+    rises: bool,
+    bound: Signed<T>,
+    value: Signed<T>,
+    denominator: T,
+) -> Option<Signed<T>>
+    ensures { IfSome result (λ r. whole r.negative (T.value r.size) ≡ room_of rises
+        (whole bound.negative (T.value bound.size) *ℤ pos (T.value denominator))
+        (whole value.negative (T.value value.size))) }
+{
+    let on = Signed {
+        negative: false,
+        size: denominator,
+    };
+    match times(bound, on) {
+        Some(bound) => {
+            if rises {
+                minus(bound, value)
+            } else {
+                minus(value, bound)
+            }
+        }
+        None => None,
+    }
+}
+
+// That, where the bound is there.
+fn gap_to<T: Words>(
+    rises: bool,
+    bound: Option<Signed<T>>,
+    value: Signed<T>,
+    denominator: T,
+    to: Status,
+) -> Option<Option<Gap<T>>>
+    requires { 0 < T.value denominator }
+    ensures { IfSome result (λ g. IsGap T.value rises bound value (T.value denominator) to g) }
+{
+    match bound {
+        Some(bound) => match room(rises, bound, value, denominator) {
+            Some(size) => Some(Some(Gap { size, to })),
+            None => None,
+        },
+        None => Some(None),
+    }
+}
+
+/// How far a basic column may go, which rises (`Less`), stands or falls, if a bound stops it. `value` is on the row's
+/// denominator times that of all bounds, `lower` and `upper` are on the latter. There is none where a number is past
+/// the width.
+pub fn gap_for<T: Words>(
+    goes: Ordering,
+    lower: Option<Signed<T>>,
+    upper: Option<Signed<T>>,
+    value: Signed<T>,
+    denominator: T,
+) -> Option<Option<Gap<T>>>
+    requires { 0 < T.value denominator }
+    ensures { IfSome result (λ g. (d : ℕ) → 0 < d → gap_by goes (bound_of T.value d lower) (bound_of T.value d upper)
+        (over (whole value.negative (T.value value.size)) (d * T.value denominator)) ≡
+        Ok (gap_of T.value d (T.value denominator) g)) }
+{
+    match goes {
+        Ordering::Less => gap_to(true, upper, value, denominator, Status::AtUpper),
+        Ordering::Equal => Some(None),
+        Ordering::Greater => gap_to(false, lower, value, denominator, Status::AtLower),
+    }
+}
+
+/// What stops the column in a position with this entry, whose basic column has this gap.
+pub fn stopper_at<T: Words>(
+    place: u32,
+    col: u32,
+    entry: Signed<T>,
+    gap: Option<Gap<T>>,
+) -> Option<Stopper<T>>
+    requires { 0 < T.value entry.size }
+    ensures step { (d e : ℕ) → 0 < d → 0 < e → (best : Option (Best ℚ)) →
+        step.with_gap None place col (over (whole entry.negative (T.value entry.size)) e) best (gap_of T.value d e gap) ≡
+        stopped T.value d result best }
+    ensures positive { IfSome result (λ s. 0 < T.value s.entry) }
+    ensures place { IfSome result (λ s. s.place ≡ Some place) }
+{
+    match gap {
+        Some(gap) => Some(Stopper {
+            gap: gap.size,
+            entry: entry.size,
+            col,
+            place: Some(place),
+            to: gap.to,
+        }),
+        None => None,
+    }
+}
+
+/// Whether a basic column rises (`Less`), stands or falls, whose position has this entry, as the entering column rises
+/// (`up`) or falls.
+pub fn goes<T: Words>(up: bool, entry: Signed<T>) -> Ordering
+    ensures { (e : ℕ) → 0 < e → (lower upper : Option ℚ) (v : ℚ) →
+        step.gap_run None up (over (whole entry.negative (T.value entry.size)) e) lower upper v ≡
+        gap_by result lower upper v }
+{
+    sign(toward(up, entry))
+}
+
+/// The number, or its negative where the entering column falls.
+pub fn toward<T: Words>(up: bool, n: Signed<T>) -> Signed<T>
+    ensures { whole result.negative (T.value result.size) ≡ turned_if (not up) (whole n.negative (T.value n.size)) }
+{
+    Signed {
+        negative: n.negative == up,
+        size: n.size,
+    }
+}
