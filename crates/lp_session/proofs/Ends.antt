@@ -8,7 +8,7 @@ use Rattle.spec_simplex.specs.Eliminate.{IsBasisOf}
 use Rattle.spec_check.specs.declared.solve_end.SolveEnd.TheVariants.{Ended, Past, Spent}
 use Rattle.spec_cold.specs.Cold.{ExactSolveEnd}
 use Rattle.spec_warm.specs.Solve.{SolveEnd, HasBasis}
-use Rattle.spec_solve.specs.Order.{solve_over}
+use Rattle.spec_solve.specs.Order.{MayEnd}
 use Rattle.spec_shape.specs.Words.{IsWellFormed, packed, unpacked}
 use Rattle.spec_shape.proofs.Bases.{packed_fits, unpacked_fits}
 use Rattle.spec_reads.specs.declared.read.Found.{Found}
@@ -23,11 +23,11 @@ use Rattle.spec_server.proofs.Solves.{is_solved}
 -- ---- it is allowed
 module _ {E : Type 0} (m : Model) (handed : Option (List Status)) (r : Result SolveEnd E) where
   pub solved_ok : (budget given : ℕ) → given ≡ budget → IfSome handed (HasBasis (Some number_limit) m) →
-      IfOk r (λ s. s ≡ solve_over (Some number_limit) given m handed) → IfOk r (λ s. IsFit m s.end) →
+      IfOk r (MayEnd (Some number_limit) given m handed) → IfOk r (λ s. IsFit m s.end) →
       IfOk r (λ s. IsSolved m budget handed s)
   solved_ok budget given same has = by r
     where
-      by : (r : Result SolveEnd E) → IfOk r (λ s. s ≡ solve_over (Some number_limit) given m handed) →
+      by : (r : Result SolveEnd E) → IfOk r (MayEnd (Some number_limit) given m handed) →
           IfOk r (λ s. IsFit m s.end) → IfOk r (λ s. IsSolved m budget handed s)
       by (Ok s) e fit =
           subst (λ budget. IsSolved m budget handed s) same
@@ -35,10 +35,10 @@ module _ {E : Type 0} (m : Model) (handed : Option (List Status)) (r : Result So
       by (Err why) e fit = tt
 
   pub leaves_ok : (given : ℕ) (f : Form) → form_of (Some number_limit) m ≡ Ok f → IfSome handed (IsBasisOf f) →
-      IfOk r (λ s. s ≡ solve_over (Some number_limit) given m handed) → IfOk r (λ s. LeavesBasis f s.end)
+      IfOk r (MayEnd (Some number_limit) given m handed) → IfOk r (λ s. LeavesBasis f s.end)
   leaves_ok given f formed fits = by r
     where
-      by : (r : Result SolveEnd E) → IfOk r (λ s. s ≡ solve_over (Some number_limit) given m handed) →
+      by : (r : Result SolveEnd E) → IfOk r (MayEnd (Some number_limit) given m handed) →
           IfOk r (λ s. LeavesBasis f s.end)
       by (Ok s) e = leaves_basis (Some number_limit) given m f formed handed s fits e
       by (Err why) e = tt

@@ -21,10 +21,10 @@ use Rattle.spec_cold.specs.Cold.{ExactSolveEnd, cold}
 use Rattle.spec_warm.specs.declared.ends.Warm.TheVariants as warm
 use Rattle.spec_warm.specs.Warm as warms
 use Rattle.spec_warm.specs.Warm.{WarmEnd, WarmResult, warm_run, warm as warm_start}
-use Rattle.spec_warm.specs.Solve.{SolveEnd, solved_by}
+use Rattle.spec_warm.specs.Solve.{SolveEnd}
 use Rattle.spec_warm.proofs.TrueEnds.{run_left, phases_left}
 use Rattle.spec_revised.proofs.OverCold.{form_without}
-use Rattle.spec_solve.specs.Order.{cold_over, solve_over}
+use Rattle.spec_solve.specs.Order.{MayEndCold, MayEndBy, MayEnd}
 use Rattle.spec_solve.proofs.Orders.{part_ends}
 use Rattle.lp_session.specs.Stages.{LeavesBasis}
 
@@ -71,11 +71,11 @@ module _ (limit : Option ℕ) (budget : ℕ) (m : Model) (f : Form) (formed : fo
       (by_phases (phases_run limit budget f) refl)
 
 module _ (limit : Option ℕ) (budget : ℕ) (m : Model) (f : Form) (formed : form_of limit m ≡ Ok f) where
-  -- the cold part of a solve ends as the cold solve without a limit
-  part_leaves : ColdLeaves f (cold_over limit budget m)
-  part_leaves = λ known c left pivots e.
+  -- an answer of the cold part of a solve is that of the cold solve without a limit
+  part_leaves : (end : ExactSolveEnd) → MayEndCold limit budget m end → ColdLeaves f end
+  part_leaves end may = λ known c left pivots e.
       cold_leaves None budget m f (form_without limit m f formed) known c left pivots
-      (part_ends limit budget m known c (Some left) pivots e)
+      (part_ends limit budget m known c (Some left) pivots (subst (MayEndCold limit budget m) e may))
 
   module _ (basis : List Status) (fits : IsBasisOf f basis) where
     by_run : (o : Result WarmEnd (WarmStop ℚ)) → warm_run limit budget f basis ≡ o →
@@ -93,23 +93,24 @@ module _ (limit : Option ℕ) (budget : ℕ) (m : Model) (f : Form) (formed : fo
         subst (λ o. WarmLeaves f (warms.after_form limit budget m basis o)) (sym formed)
         (by_run (warm_run limit budget f basis) refl)
 
-  by_warm : (w : WarmResult) → WarmLeaves f w → ColdLeaves f (solved_by (cold_over limit budget m) w).end
-  by_warm (warm.Ended answer c basis pivots) h = λ known d left n e.
+  by_warm : (w : WarmResult) (s : SolveEnd) → WarmLeaves f w → MayEndBy limit budget m w s → ColdLeaves f s.end
+  by_warm (warm.Ended answer c basis pivots) s h is =
+      subst (λ (s : SolveEnd). ColdLeaves f s.end) (sym is)
+      (λ known d left n e.
       let g : basis ≡ Some left = cc in
-      h answer c left pivots (ap (λ basis. warm.Ended answer c basis pivots) g)
-  by_warm (warm.Stopped s) h = part_leaves
+      h answer c left pivots (ap (λ basis. warm.Ended answer c basis pivots) g))
+  by_warm (warm.Stopped why) s h may = part_leaves s.end may.0
 
-  solve_leaves : (handed : Option (List Status)) → IfSome handed (IsBasisOf f) →
-      ColdLeaves f (solve_over limit budget m handed).end
-  unfolding solve_over
-  solve_leaves None fits = part_leaves
-  solve_leaves (Some basis) fits = by_warm (warm_start limit budget m basis) (warm_leaves basis fits)
+  solve_leaves : (handed : Option (List Status)) (s : SolveEnd) → IfSome handed (IsBasisOf f) →
+      MayEnd limit budget m handed s → ColdLeaves f s.end
+  unfolding MayEnd
+  solve_leaves None s fits may = part_leaves s.end may.0
+  solve_leaves (Some basis) s fits may = by_warm (warm_start limit budget m basis) s (warm_leaves basis fits) may
 
   leaves_by : (end : ExactSolveEnd) → ColdLeaves f end → LeavesBasis f end
   leaves_by (Ended (known.Optimal v) c (Some left) pivots) h = h (known.Optimal v) c left pivots refl
   leaves_by end h = tt
 
   pub leaves_basis : (handed : Option (List Status)) (s : SolveEnd) → IfSome handed (IsBasisOf f) →
-      s ≡ solve_over limit budget m handed → LeavesBasis f s.end
-  leaves_basis handed s fits e =
-      leaves_by s.end (subst (λ (s : SolveEnd). ColdLeaves f s.end) (sym e) (solve_leaves handed fits))
+      MayEnd limit budget m handed s → LeavesBasis f s.end
+  leaves_basis handed s fits may = leaves_by s.end (solve_leaves handed s fits may)

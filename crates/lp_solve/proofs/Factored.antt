@@ -14,13 +14,12 @@ use Rattle.spec_simplex.specs.Eliminate.{IsBasisOf}
 use Rattle.spec_simplex.specs.Phases.{PhasesEnd, phases_run}
 use Rattle.spec_check.specs.declared.solve_end.SolveEnd.TheVariants as outcome
 use Rattle.spec_cold.specs.Accepted.{IsAccepted}
-use Rattle.spec_cold.specs.Cold.{ExactSolveEnd, certificate_of, answered, cold, after_form}
+use Rattle.spec_cold.specs.Cold.{ExactSolveEnd, certificate_of, basis_of, pivots_of, answered, cold, after_form}
 use Rattle.spec_cold.proofs.Solved.{end_accepted}
 use Rattle.spec_factor.specs.Over.{OverEnd, over_run, answer_of, answer_in, after_over, over_factors}
 use Rattle.spec_revised.proofs.OverCold.{form_without}
-use Rattle.spec_solve.specs.Order.{GivesUp, or_tableaus, cold_by, cold_over, solve_over}
-use Rattle.spec_warm.specs.Solve.{SolveEnd, solve}
-use Rattle.spec_solve.proofs.Orders.{solve_kept}
+use Rattle.spec_solve.specs.Order.{GivesUp, MayEndCold, or_tableaus, cold_by, cold_over}
+use Rattle.spec_solve.proofs.Orders.{part_may, part_kept, checked_may}
 use Rattle.lp_frac.specs.Narrow.{largest}
 use Rattle.lp_revised.specs.declared.cold_run.RunEnd.{RunEnd}
 use Rattle.lp_frac.specs.declared.stop.Stop.{Stop}
@@ -79,7 +78,7 @@ module _ (budget : ℕ) (m : Model) (f : Form) (formed : form_of (Some largest) 
   spent_stops s why e h =
       sym (ap (after_over (Some largest) m) (subst (StopsRevised (over_run (Some largest) budget f)) e h))
 
-  -- ---- the cold part
+  -- ---- both runs
   part_is : cold_by (Some largest) budget m (Ok f) ≡ cold_over (Some largest) budget m
   unfolding cold_over
   part_is = ap (cold_by (Some largest) budget m) (sym formed)
@@ -107,18 +106,10 @@ module _ (budget : ℕ) (m : Model) (f : Form) (formed : form_of (Some largest) 
       is ∙ cold_is (Some largest) budget m (Ok f) formed ∙ or_is outcome.Spent (sym spent ∙ h)
 
   -- ---- tableaus first
-  -- the cold part is the solve over them, or that one gives up
+  -- both runs end as the solve over them, or that one gives up
   cold_kept : (cold_over (Some largest) budget m ≡ cold (Some largest) budget m)
       ⊎ GivesUp (cold (Some largest) budget m)
-  unfolding solve_over solve
-  cold_kept = by (solve_kept (Some largest) budget m None)
-    where
-      by : (solve_over (Some largest) budget m None ≡ solve (Some largest) budget m None)
-          ⊎ GivesUp (solve (Some largest) budget m None).end →
-          (cold_over (Some largest) budget m ≡ cold (Some largest) budget m)
-          ⊎ GivesUp (cold (Some largest) budget m)
-      by (inl e) = inl (ap (λ (s : SolveEnd). s.end) e)
-      by (inr up) = inr up
+  cold_kept = part_kept (Some largest) budget m (cold_over (Some largest) budget m) (part_may (Some largest) budget m)
 
   -- what they answer
   pub tableaus_ended : (o : ExactSolveEnd) (known : Known ℚ) (c : Certificate (List ℚ)) (basis : Option (List Status))
@@ -150,3 +141,35 @@ module _ (budget : ℕ) (m : Model) (f : Form) (formed : form_of (Some largest) 
   gives_up_fits (outcome.Ended known c basis pivots) up = absurd up
   gives_up_fits (outcome.Past p) up = tt
   gives_up_fits outcome.Spent up = tt
+
+  -- ---- the cold part
+  -- both runs may be all that is tried
+  pub stated_may : {E : Type 0} (r : Result ExactSolveEnd E) → IfOk r (λ s. s ≡ cold_over (Some largest) budget m) →
+      IfOk r (MayEndCold (Some largest) budget m)
+  stated_may (Ok end) is = subst (MayEndCold (Some largest) budget m) (sym is) (part_may (Some largest) budget m)
+  stated_may (Err e) is = tt
+
+  -- another run may win the answer: what it ends with is the end of both phases without a limit, and the checker says
+  -- yes to its certificate
+  pub other_may : (a : OverEnd) (end : ExactSolveEnd) (known : Known ℚ) (c : Certificate (List ℚ))
+      (basis : Option (List Status)) (pivots : ℕ) →
+      answer_in (phases_run None budget f) ≡ Ok a →
+      end ≡ answered (Some largest) m a.certificate a.basis a.pivots → end ≡ outcome.Ended known c basis pivots →
+      MayEndCold (Some largest) budget m end
+  other_may a end known c basis pivots ends is ended = by (phases_run None budget f) refl ends
+    where
+      either : (e : PhasesEnd) → end ≡ answered (Some largest) m (certificate_of e) (basis_of e) (pivots_of e) →
+          MayEndCold (Some largest) budget m (answered (Some largest) m (certificate_of e) (basis_of e) (pivots_of e))
+          ⊎ GivesUp (answered (Some largest) m (certificate_of e) (basis_of e) (pivots_of e)) →
+          MayEndCold (Some largest) budget m end
+      either e same (inl may) = subst (MayEndCold (Some largest) budget m) (sym same) may
+      either e same (inr up) = absurd (subst GivesUp (sym same ∙ ended) up)
+
+      by : (o : Result PhasesEnd (RunStop ℚ)) → phases_run None budget f ≡ o → answer_in o ≡ Ok a →
+          MayEndCold (Some largest) budget m end
+      by (Ok e) q h =
+          let same : answer_of e ≡ a = cc in
+          either e
+          (is ∙ ap (λ (a : OverEnd). answered (Some largest) m a.certificate a.basis a.pivots) (sym same))
+          (checked_may (Some largest) budget m f formed e q)
+      by (Err s) q h = let z : ◌≡◌ {A = Result OverEnd (RunStop ℚ)} (Err s) (Ok a) = h in cc

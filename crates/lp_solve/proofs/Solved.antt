@@ -17,7 +17,8 @@ use Rattle.spec_check.specs.declared.solve_end.SolveEnd.TheVariants as outcome
 use Rattle.spec_cold.specs.Accepted.{IsAccepted}
 use Rattle.spec_cold.specs.Cold.{ExactSolveEnd, certificate_of, basis_of, answered, after_phases, after_form, cold}
 use Rattle.spec_cold.proofs.Solved.{end_accepted, clash_accepted}
-use Rattle.spec_solve.specs.Order.{cold_by, cold_over}
+use Rattle.spec_solve.specs.Order.{MayEndCold}
+use Rattle.spec_solve.proofs.Orders.{formless_may}
 use Rattle.lp_standard.specs.Answer.{IsFaultOf}
 use Rattle.lp_frac.specs.declared.stop.Stop.{Stop}
 use Rattle.lp_standard.specs.declared.fault.Clash.{Clash}
@@ -54,13 +55,11 @@ module _ (limit : Option ℕ) (budget : ℕ) (m : Model) where
   unfolding cold
   cold_is o h = ap (after_form limit budget m) (sym h)
 
-  -- a model without a form has no run over factors
-  pub formless : (why : FormFault ℚ) → form_of limit m ≡ Err why →
-      after_form limit budget m (Err why) ≡ cold_over limit budget m
-  unfolding cold_over
-  formless why h =
-      cold_is (Err why) h
-      ∙ subst (λ o. cold limit budget m ≡ cold_by limit budget m o) (sym h) refl
+  -- for a model without a form nothing else is tried
+  pub formless : (why : FormFault ℚ) (end : ExactSolveEnd) → form_of limit m ≡ Err why →
+      end ≡ after_form limit budget m (Err why) → MayEndCold limit budget m end
+  formless why end h is =
+      subst (MayEndCold limit budget m) (sym (is ∙ cold_is (Err why) h)) (formless_may limit budget m why h)
 
   pub refused_from : (f : Form) (p : Past ℚ) → start_of limit f ≡ Err p →
       ◌≡◌ {A = ExactSolveEnd} (outcome.Past p) (after_phases limit m (phases_run limit budget f))

@@ -33,8 +33,8 @@ use Rattle.spec_warm.specs.declared.ends.Warm.TheVariants as warm
 use Rattle.spec_warm.specs.Based.{BeginsFrom}
 use Rattle.spec_warm.specs.Warm.{WarmResult, ByPrimal, ByDual, stopped_as, start_stop, run_stop, run_by, warm_run}
 use Rattle.spec_warm.specs.Warm.{warm_certificate, dual_certificate, dual_basis, after_form, warm as warm_start}
-use Rattle.spec_warm.specs.Solve.{SolveEnd, HasBasis, fall_of, solved_by}
-use Rattle.spec_solve.specs.Order.{cold_over, solve_over}
+use Rattle.spec_warm.specs.Solve.{SolveEnd, HasBasis, fall_of}
+use Rattle.spec_solve.specs.Order.{MayEndCold, MayEndBy, MayEnd}
 use Rattle.spec_warm.proofs.Started.{start_begins_from}
 use Rattle.spec_warm.proofs.TrueEnds.{run_accepted}
 use Rattle.lp_frac.specs.Narrow.{largest}
@@ -103,21 +103,21 @@ module _ (limit : Option ℕ) (budget : ℕ) where
     warm_is = ap (after_form limit budget m basis) (sym formed)
 
     pub ends_warm : (answer : Known ℚ) (c : Certificate (List ℚ)) (left : Option (List Status)) (pivots : ℕ)
-        (w : WarmResult) → w ≡ warm.Ended answer c left pivots → w ≡ after_form limit budget m basis (Ok f)
-        → ◌≡◌ {A = SolveEnd} (record { end = cold.Ended answer c left pivots; route = route.Warm })
-        (solve_over limit budget m (Some basis))
-    unfolding solve_over
-    ends_warm answer c left pivots w e h = ap (solved_by (cold_over limit budget m)) (sym e ∙ h ∙ warm_is)
+        (w : WarmResult) → w ≡ warm.Ended answer c left pivots → w ≡ after_form limit budget m basis (Ok f) →
+        MayEnd limit budget m (Some basis) (record { end = cold.Ended answer c left pivots; route = route.Warm })
+    unfolding MayEnd
+    ends_warm answer c left pivots w e h =
+        subst
+        (λ w. MayEndBy limit budget m w (record { end = cold.Ended answer c left pivots; route = route.Warm }))
+        (sym e ∙ h ∙ warm_is) refl
 
     pub falls : (s : WarmStop ℚ) (w : WarmResult) (end : colds.ExactSolveEnd) → w ≡ warm.Stopped s →
-        w ≡ after_form limit
-        budget m basis (Ok f) → end ≡ cold_over limit budget m
-        → ◌≡◌ {A = SolveEnd} (record { end = end; route = route.Fell (fall_of s) })
-        (solve_over limit budget m (Some basis))
-    unfolding solve_over
-    falls s w end e h g =
-        ap (λ (end : colds.ExactSolveEnd). solved_by end (warm.Stopped s)) g
-        ∙ ap (solved_by (cold_over limit budget m)) (sym e ∙ h ∙ warm_is)
+        w ≡ after_form limit budget m basis (Ok f) → MayEndCold limit budget m end →
+        MayEnd limit budget m (Some basis) (record { end = end; route = route.Fell (fall_of s) })
+    unfolding MayEnd
+    falls s w end e h may =
+        subst (λ w. MayEndBy limit budget m w (record { end = end; route = route.Fell (fall_of s) }))
+        (sym e ∙ h ∙ warm_is) (may, refl)
 
 -- ---- where nothing is handed
 pub nothing_handed : {B : Type 0} (limit : Option ℕ) (m : Model) (view : B → List Status) (handed : Option B)
@@ -137,13 +137,12 @@ fits_form limit m view (Some basis) f h fits =
     subst (λ f. IsBasisOf f (view basis)) is fits.2
 
 pub solves_cold : {B : Type 0} (limit : Option ℕ) (budget : ℕ) (m : Model) (view : B → List Status) (handed : Option B)
-    (end : colds.ExactSolveEnd) → handed ≡ None → end ≡ cold_over limit budget m
-    → ◌≡◌ {A = SolveEnd} (record { end = end; route = route.Cold }) (solve_over limit budget m (option_map view handed))
-unfolding solve_over
-solves_cold limit budget m view handed end e h =
-    subst (λ handed. ◌≡◌ {A = SolveEnd} (record { end = end; route = route.Cold })
-    (solve_over limit budget m (option_map view handed))) (sym e)
-    (ap (λ (end : colds.ExactSolveEnd). record { end = end; route = route.Cold }) h)
+    (end : colds.ExactSolveEnd) (s : SolveEnd) → handed ≡ None → s ≡ record { end = end; route = route.Cold } →
+    MayEndCold limit budget m end → MayEnd limit budget m (option_map view handed) s
+unfolding MayEnd
+solves_cold limit budget m view handed end s e is may =
+    subst (λ handed. MayEnd limit budget m (option_map view handed) s) (sym e)
+    (subst (MayEnd limit budget m None) (sym is) (may, refl))
 
 -- ---- what is known of the tableau of a basis
 form_costs : (limit : Option ℕ) (m : Model) (f : Form) → form_of limit m ≡ Ok f →

@@ -121,14 +121,9 @@ fn suits_factors(form: &Form) -> bool {
     has_columns_beside(form, entries) || has_few_sparse_columns(form, entries)
 }
 
-/// The run over factors and the one over whole tableaus, each with the whole budget: the answer of either, or what the
-/// tableaus are refused. Which of them comes first is a choice of speed alone.
-pub(crate) fn cold_part(
-    alloc: Global,
-    budget: u64,
-    model: &Model,
-    form: &Form,
-) -> Result<End, AllocError>
+// The two stated runs, each with the whole budget: the answer of either, or what the tableaus are refused. Which of
+// them comes first is a choice of speed alone.
+fn stated_runs(alloc: Global, budget: u64, model: &Model, form: &Form) -> Result<End, AllocError>
     requires { form_of (Some largest) model.now ≡ Ok form.now }
     ensures answer { IfOk result (λ s. s ≡ order.cold_over (Some largest) budget model.now) }
     ensures narrow { IfOk result (IsFit model.now) }
@@ -138,4 +133,19 @@ pub(crate) fn cold_part(
     } else {
         tableaus_first(alloc, budget, model, form)
     }
+}
+
+/// The cold part of a solve, with the whole budget: an answer of the cold solve without a limit, to which the checker
+/// says yes at 127 bits; or without one what the tableaus are refused, where the run over factors gives up too.
+pub(crate) fn cold_part(
+    alloc: Global,
+    budget: u64,
+    model: &Model,
+    form: &Form,
+) -> Result<End, AllocError>
+    requires { form_of (Some largest) model.now ≡ Ok form.now }
+    ensures answer { IfOk result (order.MayEndCold (Some largest) budget model.now) }
+    ensures narrow { IfOk result (IsFit model.now) }
+{
+    stated_runs(alloc, budget, model, form)
 }

@@ -2,15 +2,15 @@
 //!
 //! `solve` gives the answer, the certificate that the checker accepted for it, the basis of an optimum and the count
 //! of pivots; or the first operation that is past 127 bits, or that the budget is spent; and how it came to that;
-//! exactly as spec_solve's `solve_over` has it. A basis never costs an answer: where the start from it stops, the cold
-//! part of the solve has the whole budget. Nor do factors: where one of both cold runs gives up, the other one has the
-//! whole budget. Which comes first is a choice of speed alone.
+//! as spec_solve's `MayEnd` says that a solve may. A basis never costs an answer: where the start from it stops, the
+//! cold part of the solve has the whole budget. Nor do factors: where one of both cold runs gives up, the other one has
+//! the whole budget. Which comes first is a choice of speed alone.
 //!
 //! | Item | What it is | Where |
 //! |---|---|---|
 //! | `solve`, `Solved` | the solve of a model, and how it ends | src/solving |
 //! | `solve_formed` | the same by the model's form | src/solving |
-//! | `cold_part` | the cold part: over factors and over whole tableaus | src/factors |
+//! | `cold_part` | the cold part, by the two stated runs: over factors and over whole tableaus | src/factors |
 //! | `End`, `from_form` | what a solve ends with, and the run over whole tableaus from a form | src/cold |
 //! | `from_basis` | the warm start from a basis | src/warm |
 //! | `Ended` | how both phases of a cold solve ended | src/phases |

@@ -46,7 +46,7 @@ fn warm_first(
 ) -> Result<Solved, AllocError>
     requires formed { form_of (Some largest) model.now ≡ Ok form.now }
     requires fits { IsBasisOf form.now basis.now }
-    ensures answer { IfOk result (λ s. s ≡ order.solve_over (Some largest) budget model.now (Some basis.now)) }
+    ensures answer { IfOk result (order.MayEnd (Some largest) budget model.now (Some basis.now)) }
     ensures narrow { IfOk result (λ s. IsFit model.now s.end) }
 {
     match from_basis(alloc, budget, model, form, basis)? {
@@ -92,7 +92,7 @@ pub fn solve_formed(
     requires formed { form_of (Some largest) model.now ≡ Ok form.now }
     requires fits { IfSome handed (λ basis. IsBasisOf form.now basis.now) }
     ensures answer { IfOk result
-        (λ s. s ≡ order.solve_over (Some largest) budget model.now (option_map (λ basis. basis.now) handed.entry)) }
+        (order.MayEnd (Some largest) budget model.now (option_map (λ basis. basis.now) handed.entry)) }
     ensures narrow { IfOk result (λ s. IsFit model.now s.end) }
 {
     match handed {
@@ -113,7 +113,7 @@ pub fn solve(
 ) -> Result<Solved, AllocError>
     requires { IfSome handed (λ basis. solve.HasBasis (Some largest) model.now basis.now) }
     ensures answer { IfOk result
-        (λ s. s ≡ order.solve_over (Some largest) budget model.now (option_map (λ basis. basis.now) handed.entry)) }
+        (order.MayEnd (Some largest) budget model.now (option_map (λ basis. basis.now) handed.entry)) }
     ensures narrow { IfOk result (λ s. IsFit model.now s.end) }
 {
     match form(alloc, model) {

@@ -1,5 +1,5 @@
 -- What is due to each ask can be done, with memory enough, where models are ones that may be kept.
-use Rattle.std.proofs.Common.{◌≡◌, ℕ, false, List, [], ◌∷◌, Option, Some, None, Result, Ok, Err, refl, ap, ◌∙◌, inl}
+use Rattle.std.proofs.Common.{◌≡◌, ℕ, false, List, [], ◌∷◌, Option, Some, None, Result, Ok, Err, refl, ◌∙◌, inl, subst}
 use Rattle.spec_pivot.specs.declared.status.Status.{Status}
 use Rattle.std.specs.Prelude.{IfSome}
 use Rattle.spec_exact.specs.Fraction.{ℚ}
@@ -24,8 +24,8 @@ use Rattle.spec_cold.specs.Cold.{ExactSolveEnd, cold}
 use Rattle.spec_check.specs.declared.solve_end.SolveEnd.TheVariants.{Ended, Past, Spent}
 use Rattle.spec_warm.specs.declared.ends.Route.TheVariants as route
 use Rattle.spec_factor.specs.Over.{over_factors}
-use Rattle.spec_solve.specs.Order.{or_tableaus, cold_by, cold_over}
-use Rattle.spec_solve.proofs.Orders.{part_true}
+use Rattle.spec_solve.specs.Order.{MayEndCold, or_tableaus, cold_by}
+use Rattle.spec_solve.proofs.Orders.{part_true, by_may}
 use Rattle.spec_reads.specs.declared.read.Put.TheVariants.{Full}
 use Rattle.spec_reads.specs.declared.read.Read.TheVariants.{Count}
 use Rattle.spec_reads.specs.Reads.{Words, ExactRead}
@@ -60,17 +60,15 @@ or_narrow known c basis pivots budget m f Spent formed kept q e = cold_narrow kn
 abbrev part_end : ℕ → Model → Result Form (FormFault ℚ) → ExactSolveEnd
 part_end budget m o = cold_by (Some number_limit) budget m o
 
-part_is : (budget : ℕ) (m : Model) (o : Result Form (FormFault ℚ)) → form_of (Some number_limit) m ≡ o →
-    cold_over (Some number_limit) budget m ≡ part_end budget m o
-unfolding cold_over
-part_is budget m o e = ap (part_end budget m) e
-
 pub part_is_solved : (m : Model) (budget : ℕ) (f : Form) → form_of (Some number_limit) m ≡ Ok f → IsModel m →
     IsSolved m budget None (record { end = part_end budget m (Ok f); route = route.Cold })
 part_is_solved m budget f formed kept =
-    cold_solved m budget (part_end budget m (Ok f)) (part_is budget m (Ok f) formed)
+    let may : MayEndCold (Some number_limit) budget m (part_end budget m (Ok f)) =
+    by_may (Some number_limit) budget m (Ok f) formed in
+    cold_solved m budget (part_end budget m (Ok f)) may
     (λ known c basis pivots e. (
-      (part_true (Some number_limit) budget m known c basis pivots (part_is budget m (Ok f) formed ∙ e)).1,
+      (part_true (Some number_limit) budget m known c basis pivots
+          (subst (MayEndCold (Some number_limit) budget m) e may)).1,
       or_narrow known c basis pivots budget m f (over_factors (Some number_limit) budget m f) formed kept refl e,
     ))
 

@@ -1,7 +1,7 @@
 -- What a solve ends with is one of the ends that a solve may have, where its certificate is one for the model with
 -- narrow numbers.
 use Rattle.std.proofs.Common.{◌≡◌, ℕ, ◌<◌, Bool, true, false, leb, leb-true, List, Option, Some, None, IfSome, Ok, Err}
-use Rattle.std.proofs.Common.{refl, sym, ◌∙◌, subst}
+use Rattle.std.proofs.Common.{refl, sym, ap, ◌∙◌, subst}
 use Rattle.std.proofs.lemmas.Bool.{leb-false}
 use Rattle.spec_exact.specs.Fraction.{ℚ}
 use Rattle.spec_model.specs.Model.{Model}
@@ -22,11 +22,12 @@ use Rattle.spec_cold.proofs.Solved.{by_end, enough}
 use Rattle.spec_warm.specs.declared.ends.Route.TheVariants as route
 use Rattle.spec_warm.specs.declared.ends.Warm.TheVariants as warm
 use Rattle.spec_warm.specs.Warm.{WarmResult, warm as warm_start}
-use Rattle.spec_warm.specs.Solve.{SolveEnd, HasBasis, solved_by}
+use Rattle.spec_warm.specs.Solve.{SolveEnd, HasBasis}
 use Rattle.spec_warm.proofs.TrueEnds as warm_ends
 use Rattle.spec_factor.specs.Over.{over_factors}
-use Rattle.spec_solve.specs.Order.{GivesUp, cold_by, cold_over, solve_over}
-use Rattle.spec_solve.proofs.Orders.{part_true, part_ends, tableaus_give_up, factors_give_up}
+use Rattle.spec_solve.specs.Order.{GivesUp, MayEndCold, MayEndBy, MayEnd}
+use Rattle.spec_solve.proofs.Orders as orders
+use Rattle.spec_solve.proofs.Orders.{part_true, part_ends, tableaus_give_up, factors_give_up, formless_ends}
 use Rattle.spec_server.specs.Answers.{number_limit, enough_pivots, MayAnswer, ColdFits, WarmFits, IsSolved}
 
 -- ---- the cold solve
@@ -55,23 +56,24 @@ HasFitEnd m end = (known : Known ℚ) (c : Certificate (List ℚ)) (basis : Opti
     end ≡ Ended known c basis pivots → IsFor m c × IsNarrowCertificate c
 
 module _ (m : Model) (budget : ℕ) where
+  abbrev pub MayEndSo : ExactSolveEnd → Type 0
+  MayEndSo end = MayEndCold (Some number_limit) budget m end
+
   -- a solve over whole tableaus gives up as the cold part does
-  given_up : (end : ExactSolveEnd) → cold_over (Some number_limit) budget m ≡ end → GivesUp end →
-      cold (Some number_limit) budget m ≡ end
-  given_up end e h = sym (tableaus_give_up (Some number_limit) budget m (subst GivesUp (sym e) h)) ∙ e
+  given_up : (end : ExactSolveEnd) → MayEndSo end → GivesUp end → cold (Some number_limit) budget m ≡ end
+  given_up end may h = sym (tableaus_give_up (Some number_limit) budget m end may h)
 
-  cold_may : (end : ExactSolveEnd) → cold_over (Some number_limit) budget m ≡ end → HasFitEnd m end →
-      MayAnswer m budget end
-  cold_may (Ended known c basis pivots) e fit =
+  cold_may : (end : ExactSolveEnd) → MayEndSo end → HasFitEnd m end → MayAnswer m budget end
+  cold_may (Ended known c basis pivots) may fit =
       let f = fit known c basis pivots refl in
-      (f.0, f.1, (part_true (Some number_limit) budget m known c basis pivots e).2)
-  cold_may (Past p) e fit = given_up (Past p) e tt
-  cold_may Spent e fit = let tableaus = given_up Spent e tt in (tableaus, spent_is_below m budget tableaus)
+      (f.0, f.1, (part_true (Some number_limit) budget m known c basis pivots may).2)
+  cold_may (Past p) may fit = given_up (Past p) may tt
+  cold_may Spent may fit = let tableaus = given_up Spent may tt in (tableaus, spent_is_below m budget tableaus)
 
-  cold_how : (end : ExactSolveEnd) → cold_over (Some number_limit) budget m ≡ end → ColdFits m budget end
-  cold_how (Ended known c basis pivots) e = part_ends (Some number_limit) budget m known c basis pivots e
-  cold_how (Past p) e = tt
-  cold_how Spent e = tt
+  cold_how : (end : ExactSolveEnd) → MayEndSo end → ColdFits m budget end
+  cold_how (Ended known c basis pivots) may = part_ends (Some number_limit) budget m known c basis pivots may
+  cold_how (Past p) may = tt
+  cold_how Spent may = tt
 
   -- ---- a model without a form
 
@@ -98,17 +100,11 @@ module _ (m : Model) (budget : ℕ) where
       fault_narrow why known c basis pivots
       (subst (λ r. after_form (Some number_limit) budget m r ≡ Ended known c basis pivots) no_form e)
 
-  formless_same : (why : FormFault ℚ) → form_of (Some number_limit) m ≡ Err why →
-      cold_over (Some number_limit) budget m ≡ cold (Some number_limit) budget m
-  unfolding cold_over
-  formless_same why no_form =
-      subst (λ o. cold_by (Some number_limit) budget m o ≡ cold (Some number_limit) budget m) (sym no_form) refl
-
   -- the cold solve at the limit ends with what may be answered
   pub formless_may : (why : FormFault ℚ) → form_of (Some number_limit) m ≡ Err why →
       MayAnswer m budget (cold (Some number_limit) budget m)
   formless_may why no_form =
-      cold_may (cold (Some number_limit) budget m) (formless_same why no_form)
+      cold_may (cold (Some number_limit) budget m) (orders.formless_may (Some number_limit) budget m why no_form)
       (λ known c basis pivots e. (
         cold_fits (Some number_limit) budget m known c basis pivots e,
         formless_narrow why no_form known c basis pivots e,
@@ -116,13 +112,13 @@ module _ (m : Model) (budget : ℕ) where
 
   -- ---- with nothing handed
 
-  pub cold_solved : (end : ExactSolveEnd) → cold_over (Some number_limit) budget m ≡ end → HasFitEnd m end →
+  pub cold_solved : (end : ExactSolveEnd) → MayEndSo end → HasFitEnd m end →
       IsSolved m budget None (record { end = end; route = route.Cold })
-  cold_solved end e fit = record {
-    may_answer = cold_may end e fit;
-    how_fits = (refl, cold_how end e);
-    without_form = λ why no_form. sym e ∙ formless_same why no_form;
-    by_factors = λ f formed h. factors_give_up (Some number_limit) budget m f formed (subst GivesUp (sym e) h);
+  cold_solved end may fit = record {
+    may_answer = cold_may end may fit;
+    how_fits = (refl, cold_how end may);
+    without_form = λ why no_form. formless_ends (Some number_limit) budget m end why no_form may;
+    by_factors = λ f formed h. factors_give_up (Some number_limit) budget m end f formed may h;
   }
 
   -- ---- the solve from a basis of the form
@@ -136,45 +132,42 @@ module _ (m : Model) (budget : ℕ) where
     formed : (why : FormFault ℚ) → form_of (Some number_limit) m ≡ Err why → ⊥
     formed why e = let both = sym has.1 ∙ e in cc
 
-    warm_may : (result : WarmResult) → warm_start (Some number_limit) budget m basis ≡ result →
-        HasFitEnd m (solved_by (cold_over (Some number_limit) budget m) result).end →
-        MayAnswer m budget (solved_by (cold_over (Some number_limit) budget m) result).end
-    warm_may (warm.Ended known c left pivots) e fit =
-        let f = fit known c left pivots refl in
+    abbrev MayEndSoBy : WarmResult → SolveEnd → Type 0
+    MayEndSoBy result s = MayEndBy (Some number_limit) budget m result s
+
+    warm_may : (result : WarmResult) (s : SolveEnd) → warm_start (Some number_limit) budget m basis ≡ result →
+        MayEndSoBy result s → HasFitEnd m s.end → MayAnswer m budget s.end
+    warm_may (warm.Ended known c left pivots) s e is fit =
+        let f = fit known c left pivots (ap (λ (s : SolveEnd). s.end) is) in
+        subst (λ (s : SolveEnd). MayAnswer m budget s.end) (sym is)
         (f.0, f.1, (warm_ends.ended_is_true (Some number_limit) budget m basis known c left pivots form_is_based e).1)
-    warm_may (warm.Stopped stop) e fit = cold_may (cold_over (Some number_limit) budget m) refl fit
+    warm_may (warm.Stopped stop) s e may fit = cold_may s.end may.0 fit
 
-    warm_how : (result : WarmResult) →
-        WarmFits m budget result (solved_by (cold_over (Some number_limit) budget m) result)
-    warm_how (warm.Ended known c left pivots) = refl
-    warm_how (warm.Stopped stop) = (refl, cold_how (cold_over (Some number_limit) budget m) refl)
+    warm_how : (result : WarmResult) (s : SolveEnd) → MayEndSoBy result s → WarmFits m budget result s
+    warm_how (warm.Ended known c left pivots) s is = is
+    warm_how (warm.Stopped stop) s may = (may.1, cold_how s.end may.0)
 
-    warm_by_factors : (result : WarmResult) (f : Form) → form_of (Some number_limit) m ≡ Ok f →
-        GivesUp (solved_by (cold_over (Some number_limit) budget m) result).end →
+    warm_by_factors : (result : WarmResult) (s : SolveEnd) → MayEndSoBy result s →
+        (f : Form) → form_of (Some number_limit) m ≡ Ok f → GivesUp s.end →
         GivesUp (over_factors (Some number_limit) budget m f)
-    warm_by_factors (warm.Ended known c left pivots) f e h = absurd h
-    warm_by_factors (warm.Stopped stop) f e h = factors_give_up (Some number_limit) budget m f e h
+    warm_by_factors (warm.Ended known c left pivots) s is f e h =
+        absurd (subst (λ (s : SolveEnd). GivesUp s.end) is h)
+    warm_by_factors (warm.Stopped stop) s may f e h = factors_give_up (Some number_limit) budget m s.end f e may.0 h
 
-    abbrev warm_solve : SolveEnd
-    warm_solve = solved_by (cold_over (Some number_limit) budget m) (warm_start (Some number_limit) budget m basis)
-
-    warm_solved : HasFitEnd m warm_solve.end → IsSolved m budget (Some basis) warm_solve
-    warm_solved fit = record {
-      may_answer = warm_may (warm_start (Some number_limit) budget m basis) refl fit;
-      how_fits = warm_how (warm_start (Some number_limit) budget m basis);
+    warm_solved : (s : SolveEnd) → MayEndSoBy (warm_start (Some number_limit) budget m basis) s → HasFitEnd m s.end →
+        IsSolved m budget (Some basis) s
+    warm_solved s may fit = record {
+      may_answer = warm_may (warm_start (Some number_limit) budget m basis) s refl may fit;
+      how_fits = warm_how (warm_start (Some number_limit) budget m basis) s may;
       without_form = λ why no_form. absurd (formed why no_form);
-      by_factors = warm_by_factors (warm_start (Some number_limit) budget m basis);
+      by_factors = warm_by_factors (warm_start (Some number_limit) budget m basis) s may;
     }
 
-  solve_so : (handed : Option (List Status)) → IfSome handed (HasBasis (Some number_limit) m) →
-      HasFitEnd m (solve_over (Some number_limit) budget m handed).end →
-      IsSolved m budget handed (solve_over (Some number_limit) budget m handed)
-  unfolding solve_over
-  solve_so None h fit = cold_solved (cold_over (Some number_limit) budget m) refl fit
-  solve_so (Some basis) h fit = warm_solved basis h fit
-
-  -- the solve of the model is one that is allowed
+  -- a solve of the model that may end so is one that is allowed
   pub is_solved : (handed : Option (List Status)) (s : SolveEnd) → IfSome handed (HasBasis (Some number_limit) m) →
-      s ≡ solve_over (Some number_limit) budget m handed → HasFitEnd m s.end → IsSolved m budget handed s
-  is_solved handed s h e fit =
-      subst (IsSolved m budget handed) (sym e) (solve_so handed h (subst (λ (s : SolveEnd). HasFitEnd m s.end) e fit))
+      MayEnd (Some number_limit) budget m handed s → HasFitEnd m s.end → IsSolved m budget handed s
+  unfolding MayEnd
+  is_solved None s h may fit =
+      subst (λ way. IsSolved m budget None (record { end = s.end; route = way })) (sym may.1)
+      (cold_solved s.end may.0 fit)
+  is_solved (Some basis) s h may fit = warm_solved basis h s may fit

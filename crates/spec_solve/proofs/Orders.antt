@@ -1,4 +1,4 @@
--- The cold part of a solve beside both cold runs.
+-- How the cold part of a solve may end, beside the cold solve without a limit and the two stated runs.
 use Rattle.std.proofs.Common.{◌≡◌, ◌⊎◌, inl, inr, ⊎_elim, ℕ, List, Option, Some, None, Result, Ok, Err}
 use Rattle.std.proofs.Common.{refl, sym, ap, ◌∙◌, subst}
 use Rattle.spec_exact.specs.Fraction.{ℚ}
@@ -8,121 +8,180 @@ use Rattle.spec_check.specs.declared.certificate.Certificate.{Certificate}
 use Rattle.spec_check.specs.declared.certificate.CheckStop.TheVariants as check
 use Rattle.spec_check.specs.declared.certificate.Known.{Known}
 use Rattle.spec_check.specs.Certificate.{IsFor, Holds}
-use Rattle.spec_check.specs.Run.{Run, check_run}
+use Rattle.spec_check.specs.Run.{Run, Agrees, check_run}
+use Rattle.spec_check.proofs.RunAgrees.{run_agrees}
 use Rattle.spec_pivot.specs.declared.status.Status.{Status}
 use Rattle.spec_simplex.specs.declared.ends.FormFault.{FormFault}
 use Rattle.spec_simplex.specs.declared.ends.RunStop.{RunStop}
 use Rattle.spec_simplex.specs.declared.ends.RunStop.TheVariants as stop
 use Rattle.spec_simplex.specs.Form.{Form, form_of}
+use Rattle.spec_simplex.specs.Phases.{PhasesEnd, phases_run}
 use Rattle.spec_check.specs.declared.solve_end.SolveEnd.TheVariants.{Ended, Past, Spent}
-use Rattle.spec_cold.specs.Cold.{ExactSolveEnd, checked, cold}
+use Rattle.spec_cold.specs.Cold.{ExactSolveEnd, certificate_of, basis_of, pivots_of}
+use Rattle.spec_cold.specs.Cold.{checked, answered, after_phases, after_form, cold}
 use Rattle.spec_cold.proofs.Solved as colds
 use Rattle.spec_cold.proofs.LimitCold.{cold_same}
+use Rattle.spec_warm.specs.declared.ends.Route.{Route}
 use Rattle.spec_warm.specs.declared.ends.Route.TheVariants as route
 use Rattle.spec_warm.specs.declared.ends.Warm.TheVariants as warms
 use Rattle.spec_warm.specs.Warm.{WarmResult, warm}
-use Rattle.spec_warm.specs.Solve.{SolveEnd, solved_by, solve}
+use Rattle.spec_warm.specs.Solve.{SolveEnd, fall_of, solved_by, solve}
 use Rattle.spec_factor.specs.Over.{OverEnd, over_run, after_over, over_factors}
-use Rattle.spec_revised.proofs.OverCold.{over_same}
-use Rattle.spec_solve.specs.Order.{GivesUp, or_tableaus, cold_by, cold_over, solve_over}
+use Rattle.spec_revised.proofs.OverCold.{form_without, over_same}
+use Rattle.spec_solve.specs.Order.{GivesUp, IsChecked, MayEndCold, Answered, GaveUp, MayEndBy, MayEnd}
+use Rattle.spec_solve.specs.Order.{or_tableaus, cold_by, cold_over}
 
 abbrev Same : ExactSolveEnd → ExactSolveEnd → Type 0
 Same o u = (o ≡ u) ⊎ ((p : Refused ℚ) × (o ≡ Past p))
 
--- ---- one end or another
-
-or_same : (o other exact : ExactSolveEnd) → Same o exact → Same other exact → Same (or_tableaus o other) exact
-or_same (Ended known c basis pivots) other exact g h = g
-or_same (Past p) other exact g h = h
-or_same Spent other exact g h = h
-
-pub or_gives_up : (o other : ExactSolveEnd) → GivesUp (or_tableaus o other) → GivesUp o × (or_tableaus o other ≡ other)
-or_gives_up (Ended known c basis pivots) other h = absurd h
-or_gives_up (Past p) other h = (tt, refl)
-or_gives_up Spent other h = (tt, refl)
-
-ended_same : (known : Known ℚ) (c : Certificate (List ℚ)) (basis : Option (List Status)) (pivots : ℕ)
-    (exact : ExactSolveEnd) →
-    Same (Ended known c basis pivots) exact → Ended known c basis pivots ≡ exact
-ended_same known c basis pivots exact (inl e) = e
-ended_same known c basis pivots exact (inr h) =
-    let z : ◌≡◌ {A = ExactSolveEnd} (Ended known c basis pivots) (Past h.0) = h.1 in cc
-
-or_kept : (o other exact : ExactSolveEnd) → Same o exact → Same other exact →
-    (or_tableaus o other ≡ other) ⊎ GivesUp other
-or_kept (Past p) other exact g h = inl refl
-or_kept Spent other exact g h = inl refl
-or_kept (Ended known c basis pivots) (Past p) exact g h = inr tt
-or_kept (Ended known c basis pivots) Spent exact g h = inr tt
-or_kept (Ended known c basis pivots) (Ended known' c' basis' pivots') exact g h =
-    inl (ended_same known c basis pivots exact g ∙ sym (ended_same known' c' basis' pivots' exact h))
-
 -- ---- an end with an answer was checked
 
-module _ (limit : Option ℕ) (budget : ℕ) (m : Model) (known : Known ℚ) (cert : Certificate (List ℚ))
-    (left : Option (List Status)) (pivots : ℕ) where
-  abbrev IsThis : ExactSolveEnd → Type 0
-  IsThis end = end ≡ Ended known cert left pivots
+abbrev ChecksOut : Option ℕ → Model → ExactSolveEnd → Type 0
+ChecksOut limit m end = GivesUp end ⊎ IsChecked limit m end
 
-  checked_says : (c : Certificate (List ℚ)) (basis : Option (List Status)) (n : ℕ) (r : Run (Known ℚ)) →
-      check_run limit m c ≡ r → IsThis (checked c basis n r) → check_run limit m cert ≡ Ok known
-  checked_says c basis n (Ok answer) q e =
-      let z : ◌≡◌ {A = ExactSolveEnd} (Ended answer c basis n) (Ended known cert left pivots) = e in
-      let same_certificate : c ≡ cert = cc in
-      let same_answer : answer ≡ known = cc in
-      ap (check_run limit m) (sym same_certificate) ∙ q ∙ ap Ok same_answer
-  checked_says c basis n (Err (check.Past p)) q e =
-      let z : ◌≡◌ {A = ExactSolveEnd} (Past p) (Ended known cert left pivots) = e in cc
-  checked_says c basis n (Err (check.No k)) q e =
-      let z : ◌≡◌ {A = ExactSolveEnd} Spent (Ended known cert left pivots) = e in cc
+pub checks_out : (limit : Option ℕ) (m : Model) (c : Certificate (List ℚ)) (basis : Option (List Status)) (pivots : ℕ) →
+    ChecksOut limit m (answered limit m c basis pivots)
+checks_out limit m c basis pivots = by (check_run limit m c) refl
+  where
+    by : (r : Run (Known ℚ)) → check_run limit m c ≡ r → ChecksOut limit m (checked c basis pivots r)
+    by (Ok known) e = inr e
+    by (Err (check.Past p)) e = inl tt
+    by (Err (check.No n)) e = inl tt
 
-  after_says : (r : Result OverEnd (RunStop ℚ)) → IsThis (after_over limit m r) → check_run limit m cert ≡ Ok known
-  after_says (Ok a) e = checked_says a.certificate a.basis a.pivots (check_run limit m a.certificate) refl e
-  after_says (Err (stop.Past p)) e = let z : ◌≡◌ {A = ExactSolveEnd} (Past p) (Ended known cert left pivots) = e in cc
-  after_says (Err stop.Spent) e = let z : ◌≡◌ {A = ExactSolveEnd} Spent (Ended known cert left pivots) = e in cc
+over_checks_out : (limit : Option ℕ) (budget : ℕ) (m : Model) (f : Form) →
+    ChecksOut limit m (over_factors limit budget m f)
+unfolding over_factors
+over_checks_out limit budget m f = by (over_run limit budget f)
+  where
+    by : (r : Result OverEnd (RunStop ℚ)) → ChecksOut limit m (after_over limit m r)
+    by (Ok a) = checks_out limit m a.certificate a.basis a.pivots
+    by (Err (stop.Past p)) = inl tt
+    by (Err stop.Spent) = inl tt
 
-  over_says : (f : Form) → IsThis (over_factors limit budget m f) → check_run limit m cert ≡ Ok known
-  unfolding over_factors
-  over_says f e = after_says (over_run limit budget f) e
+cold_checks_out : (limit : Option ℕ) (budget : ℕ) (m : Model) → ChecksOut limit m (cold limit budget m)
+cold_checks_out limit budget m =
+    colds.by_end limit budget m (ChecksOut limit m) (λ answer c basis pivots t. inr t.checks) (λ p. inl tt)
+    (λ f formed spent. inl tt)
 
-  tableaus_say : IsThis (cold limit budget m) → check_run limit m cert ≡ Ok known
-  tableaus_say e = (colds.ended_is_true limit budget m known cert left pivots e).1
+not_both : (limit : Option ℕ) (m : Model) (end : ExactSolveEnd) → GivesUp end → ¬ (IsChecked limit m end)
+not_both limit m (Ended known c basis pivots) up checks = absurd up
+not_both limit m (Past p) up checks = checks
+not_both limit m Spent up checks = checks
 
-  or_says : (f : Form) (o : ExactSolveEnd) → over_factors limit budget m f ≡ o →
-      IsThis (or_tableaus o (cold limit budget m)) → check_run limit m cert ≡ Ok known
-  or_says f (Ended known' c basis n) q e = over_says f (q ∙ e)
-  or_says f (Past p) q e = tableaus_say e
-  or_says f Spent q e = tableaus_say e
+refused_gives_up : (end : ExactSolveEnd) (p : Refused ℚ) → end ≡ Past p → GivesUp end
+refused_gives_up end p e = subst GivesUp (sym e) tt
 
-  by_says : (o : Result Form (FormFault ℚ)) → IsThis (cold_by limit budget m o) → check_run limit m cert ≡ Ok known
-  by_says (Ok f) e = or_says f (over_factors limit budget m f) refl e
-  by_says (Err fault) e = tableaus_say e
+same_form : (limit : Option ℕ) (m : Model) (f g : Form) → form_of limit m ≡ Ok f → form_of limit m ≡ Ok g → f ≡ g
+same_form limit m f g h k = let z : ◌≡◌ {A = Result Form (FormFault ℚ)} (Ok f) (Ok g) = sym h ∙ k in cc
 
-  says : IsThis (cold_over limit budget m) → check_run limit m cert ≡ Ok known
-  unfolding cold_over
-  says e = by_says (form_of limit m) e
+not_formless : (limit : Option ℕ) (m : Model) (f : Form) (why : FormFault ℚ) → form_of limit m ≡ Ok f →
+    ¬ (form_of limit m ≡ Err why)
+not_formless limit m f why h k = let z : ◌≡◌ {A = Result Form (FormFault ℚ)} (Ok f) (Err why) = sym h ∙ k in cc
 
--- ---- the laws
+-- what the checker says at a limit it says without one
+check_without : (limit : Option ℕ) (m : Model) (c : Certificate (List ℚ)) (known : Known ℚ) →
+    check_run limit m c ≡ Ok known → check_run None m c ≡ Ok known
+unfolding Agrees
+check_without limit m c known h =
+    ⊎_elim (λ e. sym e ∙ h)
+    (λ p. let z : ◌≡◌ {A = Run (Known ℚ)} (Err (check.Past p.0)) (Ok known) = sym p.1 ∙ h in cc)
+    (run_agrees limit m c)
+
+-- ---- which ends may be
 
 module _ (limit : Option ℕ) (budget : ℕ) (m : Model) where
-  by_same : (o : Result Form (FormFault ℚ)) → form_of limit m ≡ o → Same (cold_by limit budget m o) (cold None budget m)
-  by_same (Ok f) e =
-      or_same (over_factors limit budget m f) (cold limit budget m) (cold None budget m)
-      (over_same limit budget m f e) (cold_same limit budget m)
-  by_same (Err fault) e = cold_same limit budget m
+  abbrev FactorsGiveUp : Type 0
+  FactorsGiveUp = (f : Form) → form_of limit m ≡ Ok f → GivesUp (over_factors limit budget m f)
 
-  pub part_same : Same (cold_over limit budget m) (cold None budget m)
+  -- one with an answer
+  answered_may : (end : ExactSolveEnd) → Same end (cold None budget m) → IsChecked limit m end →
+      ((why : FormFault ℚ) → form_of limit m ≡ Err why → end ≡ cold limit budget m) → MayEndCold limit budget m end
+  answered_may end (inl e) checks formless = Answered e checks formless
+  answered_may end (inr p) checks formless =
+      absurd (not_both limit m end (refused_gives_up end p.0 p.1) checks)
+
+  -- that of the solve over whole tableaus, where the run over factors gives up
+  tableaus_may : FactorsGiveUp → MayEndCold limit budget m (cold limit budget m)
+  tableaus_may factors =
+      ⊎_elim (λ up. GaveUp up refl factors)
+      (λ checks. answered_may (cold limit budget m) (cold_same limit budget m) checks (λ why e. refl))
+      (cold_checks_out limit budget m)
+
+  -- that of the two stated runs
+  or_may : (f : Form) → form_of limit m ≡ Ok f → (o : ExactSolveEnd) → over_factors limit budget m f ≡ o →
+      MayEndCold limit budget m (or_tableaus o (cold limit budget m))
+  or_may f formed (Ended known c basis pivots) q =
+      answered_may (Ended known c basis pivots)
+      (subst (λ o. Same o (cold None budget m)) q (over_same limit budget m f formed))
+      (⊎_elim (λ up. absurd up) (λ checks. checks) (subst (ChecksOut limit m) q (over_checks_out limit budget m f)))
+      (λ why e. absurd (not_formless limit m f why formed e))
+  or_may f formed (Past p) q =
+      tableaus_may
+      (λ g h. subst (λ g. GivesUp (over_factors limit budget m g)) (same_form limit m f g formed h)
+      (subst GivesUp (sym q) tt))
+  or_may f formed Spent q =
+      tableaus_may
+      (λ g h. subst (λ g. GivesUp (over_factors limit budget m g)) (same_form limit m f g formed h)
+      (subst GivesUp (sym q) tt))
+
+  pub by_may : (o : Result Form (FormFault ℚ)) → form_of limit m ≡ o →
+      MayEndCold limit budget m (cold_by limit budget m o)
+  by_may (Ok f) e = or_may f e (over_factors limit budget m f) refl
+  by_may (Err why) e = tableaus_may (λ f h. absurd (not_formless limit m f why h e))
+
+  pub part_may : MayEndCold limit budget m (cold_over limit budget m)
   unfolding cold_over
-  part_same = by_same (form_of limit m) refl
+  part_may = by_may (form_of limit m) refl
+
+  -- that of the cold solve at the limit, for a model without a form
+  pub formless_may : (why : FormFault ℚ) → form_of limit m ≡ Err why → MayEndCold limit budget m (cold limit budget m)
+  formless_may why e = tableaus_may (λ f h. absurd (not_formless limit m f why h e))
+
+  -- what the check makes of the end of both phases without a limit
+  module _ (f : Form) (formed : form_of limit m ≡ Ok f) (e : PhasesEnd) (ended : phases_run None budget f ≡ Ok e) where
+    exact_is : cold None budget m ≡ answered None m (certificate_of e) (basis_of e) (pivots_of e)
+    unfolding cold
+    exact_is =
+        ap (after_form None budget m) (form_without limit m f formed) ∙ ap (after_phases None m) ended
+
+    pub checked_ends_may : (known : Known ℚ) → check_run limit m (certificate_of e) ≡ Ok known →
+        MayEndCold limit budget m (Ended known (certificate_of e) (basis_of e) (pivots_of e))
+    checked_ends_may known accepted =
+        Answered
+        (sym (exact_is ∙ ap (checked (certificate_of e) (basis_of e) (pivots_of e))
+        (check_without limit m (certificate_of e) known accepted)))
+        accepted (λ why h. absurd (not_formless limit m f why formed h))
+
+    -- either way
+    pub checked_may : MayEndCold limit budget m (answered limit m (certificate_of e) (basis_of e) (pivots_of e))
+        ⊎ GivesUp (answered limit m (certificate_of e) (basis_of e) (pivots_of e))
+    checked_may = by (check_run limit m (certificate_of e)) refl
+      where
+        by : (r : Run (Known ℚ)) → check_run limit m (certificate_of e) ≡ r →
+            MayEndCold limit budget m (checked (certificate_of e) (basis_of e) (pivots_of e) r)
+            ⊎ GivesUp (checked (certificate_of e) (basis_of e) (pivots_of e) r)
+        by (Ok known) h = inl (checked_ends_may known h)
+        by (Err (check.Past p)) h = inr tt
+        by (Err (check.No n)) h = inr tt
+
+-- ---- what holds of each end that may be
+
+module _ (limit : Option ℕ) (budget : ℕ) (m : Model) where
+  pub part_same : (end : ExactSolveEnd) → MayEndCold limit budget m end → Same end (cold None budget m)
+  part_same end (Answered e checks formless) = inl e
+  part_same end (GaveUp up e factors) = subst (λ o. Same o (cold None budget m)) (sym e) (cold_same limit budget m)
 
   pub part_ends : (known : Known ℚ) (cert : Certificate (List ℚ)) (left : Option (List Status)) (pivots : ℕ) →
-      cold_over limit budget m ≡ Ended known cert left pivots →
-      cold None budget m ≡ Ended known cert left pivots
-  part_ends known cert left pivots e =
-      sym (ended_same known cert left pivots (cold None budget m)
-      (subst (λ o. Same o (cold None budget m)) e part_same))
+      MayEndCold limit budget m (Ended known cert left pivots) → cold None budget m ≡ Ended known cert left pivots
+  part_ends known cert left pivots (Answered e checks formless) = sym e
+  part_ends known cert left pivots (GaveUp up e factors) = absurd up
 
-  pub part_fits : (known : Known ℚ) (cert : Certificate (List ℚ)) (left : Option (List Status)) (pivots : ℕ) →
+  part_checked : (known : Known ℚ) (cert : Certificate (List ℚ)) (left : Option (List Status)) (pivots : ℕ) →
+      MayEndCold limit budget m (Ended known cert left pivots) → check_run limit m cert ≡ Ok known
+  part_checked known cert left pivots (Answered e checks formless) = checks
+  part_checked known cert left pivots (GaveUp up e factors) = absurd up
+
+  part_fits : (known : Known ℚ) (cert : Certificate (List ℚ)) (left : Option (List Status)) (pivots : ℕ) →
       cold None budget m ≡ Ended known cert left pivots → IsFor m cert
   part_fits known cert left pivots =
       colds.by_end None budget m (λ e. e ≡ Ended known cert left pivots → IsFor m cert)
@@ -131,55 +190,79 @@ module _ (limit : Option ℕ) (budget : ℕ) (m : Model) where
       (λ f p q e. let z : ◌≡◌ {A = ExactSolveEnd} Spent (Ended known cert left pivots) = e in cc)
 
   pub part_true : (known : Known ℚ) (cert : Certificate (List ℚ)) (left : Option (List Status)) (pivots : ℕ) →
-      cold_over limit budget m ≡ Ended known cert left pivots →
+      MayEndCold limit budget m (Ended known cert left pivots) →
       Holds m known × IsFor m cert × (check_run limit m cert ≡ Ok known)
-  part_true known cert left pivots e =
-      let exact = part_ends known cert left pivots e in (
+  part_true known cert left pivots may =
+      let exact = part_ends known cert left pivots may in (
         (colds.ended_is_true None budget m known cert left pivots exact).0,
         part_fits known cert left pivots exact,
-        says limit budget m known cert left pivots e,
+        part_checked known cert left pivots may,
       )
 
-  by_gives_up : (o : Result Form (FormFault ℚ)) → GivesUp (cold_by limit budget m o) →
-      cold_by limit budget m o ≡ cold limit budget m
-  by_gives_up (Ok f) h = (or_gives_up (over_factors limit budget m f) (cold limit budget m) h).1
-  by_gives_up (Err fault) h = refl
+  pub tableaus_give_up : (end : ExactSolveEnd) → MayEndCold limit budget m end → GivesUp end →
+      end ≡ cold limit budget m
+  tableaus_give_up end (Answered e checks formless) up = absurd (not_both limit m end up checks)
+  tableaus_give_up end (GaveUp up e factors) up' = e
 
-  pub tableaus_give_up : GivesUp (cold_over limit budget m) → cold_over limit budget m ≡ cold limit budget m
+  pub factors_give_up : (end : ExactSolveEnd) (f : Form) → form_of limit m ≡ Ok f → MayEndCold limit budget m end →
+      GivesUp end → GivesUp (over_factors limit budget m f)
+  factors_give_up end f formed (Answered e checks formless) up = absurd (not_both limit m end up checks)
+  factors_give_up end f formed (GaveUp up e factors) up' = factors f formed
+
+  pub formless_ends : (end : ExactSolveEnd) (why : FormFault ℚ) → form_of limit m ≡ Err why →
+      MayEndCold limit budget m end → end ≡ cold limit budget m
+  formless_ends end why no_form (Answered e checks formless) = formless why no_form
+  formless_ends end why no_form (GaveUp up e factors) = e
+
+  -- ---- answers are only added
+
+  abbrev Kept : ExactSolveEnd → ExactSolveEnd → Type 0
+  Kept end other = (end ≡ other) ⊎ GivesUp other
+
+  kept_by : (end other : ExactSolveEnd) → end ≡ cold None budget m → Same other (cold None budget m) → Kept end other
+  kept_by end other e (inl is) = inl (e ∙ sym is)
+  kept_by end other e (inr p) = inr (refused_gives_up other p.0 p.1)
+
+  given_up : FactorsGiveUp limit budget m → cold limit budget m ≡ cold_over limit budget m
   unfolding cold_over
-  tableaus_give_up h = by_gives_up (form_of limit m) h
+  given_up factors = by (form_of limit m) refl
+    where
+      or_given : (o : ExactSolveEnd) → GivesUp o → cold limit budget m ≡ or_tableaus o (cold limit budget m)
+      or_given (Ended known c basis pivots) up = absurd up
+      or_given (Past p) up = refl
+      or_given Spent up = refl
 
-  pub factors_give_up : (f : Form) → form_of limit m ≡ Ok f → GivesUp (cold_over limit budget m) →
-      GivesUp (over_factors limit budget m f)
-  unfolding cold_over
-  factors_give_up f e h =
-      (or_gives_up (over_factors limit budget m f) (cold limit budget m)
-      (subst (λ o. GivesUp (cold_by limit budget m o)) e h)).0
+      by : (o : Result Form (FormFault ℚ)) → form_of limit m ≡ o → cold limit budget m ≡ cold_by limit budget m o
+      by (Ok f) e = or_given (over_factors limit budget m f) (factors f e)
+      by (Err why) e = refl
 
-  abbrev Kept : ExactSolveEnd → Type 0
-  Kept end = (end ≡ cold limit budget m) ⊎ GivesUp (cold limit budget m)
+  pub stated_kept : (end : ExactSolveEnd) → MayEndCold limit budget m end → Kept end (cold_over limit budget m)
+  stated_kept end (Answered e checks formless) =
+      kept_by end (cold_over limit budget m) e
+      (part_same (cold_over limit budget m) (part_may limit budget m))
+  stated_kept end (GaveUp up e factors) = inl (e ∙ given_up factors)
 
-  by_kept : (o : Result Form (FormFault ℚ)) → form_of limit m ≡ o → Kept (cold_by limit budget m o)
-  by_kept (Ok f) e =
-      or_kept (over_factors limit budget m f) (cold limit budget m) (cold None budget m)
-      (over_same limit budget m f e) (cold_same limit budget m)
-  by_kept (Err fault) e = inl refl
-
-  part_kept : Kept (cold_over limit budget m)
-  unfolding cold_over
-  part_kept = by_kept (form_of limit m) refl
+  pub part_kept : (end : ExactSolveEnd) → MayEndCold limit budget m end → Kept end (cold limit budget m)
+  part_kept end (Answered e checks formless) = kept_by end (cold limit budget m) e (cold_same limit budget m)
+  part_kept end (GaveUp up e factors) = inl e
 
   abbrev KeptSolve : SolveEnd → SolveEnd → Type 0
   KeptSolve s t = (s ≡ t) ⊎ GivesUp t.end
 
-  warm_kept : (w : WarmResult) → KeptSolve (solved_by (cold_over limit budget m) w) (solved_by (cold limit budget m) w)
-  warm_kept (warms.Ended known c left pivots) = inl refl
-  warm_kept (warms.Stopped why) =
-      ⊎_elim (λ e. inl (ap (λ end. solved_by end (warms.Stopped why)) e)) (λ h. inr h) part_kept
+  solved_kept : (s : SolveEnd) (way : Route) → s.route ≡ way → Kept s.end (cold limit budget m) →
+      KeptSolve s (record { end = cold limit budget m; route = way })
+  solved_kept s way h (inl e) =
+      inl (ap (λ end. record { end = end; route = s.route }) e
+      ∙ ap (λ way. record { end = cold limit budget m; route = way }) h)
+  solved_kept s way h (inr up) = inr up
 
-  pub solve_kept : (handed : Option (List Status)) →
-      KeptSolve (solve_over limit budget m handed) (solve limit budget m handed)
-  unfolding solve solve_over
-  solve_kept None =
-      ⊎_elim (λ e. inl (ap (λ end. record { end = end; route = route.Cold }) e)) (λ h. inr h) part_kept
-  solve_kept (Some basis) = warm_kept (warm limit budget m basis)
+  warm_kept : (w : WarmResult) (s : SolveEnd) → MayEndBy limit budget m w s →
+      KeptSolve s (solved_by (cold limit budget m) w)
+  warm_kept (warms.Ended known c left pivots) s h = inl h
+  warm_kept (warms.Stopped why) s h = solved_kept s (route.Fell (fall_of why)) h.1 (part_kept s.end h.0)
+
+  pub solve_kept : (handed : Option (List Status)) (s : SolveEnd) → MayEnd limit budget m handed s →
+      KeptSolve s (solve limit budget m handed)
+  unfolding solve MayEnd
+  solve_kept None s h = solved_kept s route.Cold h.1 (part_kept s.end h.0)
+  solve_kept (Some basis) s h = warm_kept (warm limit budget m basis) s h

@@ -1,17 +1,20 @@
--- The order of a solve, at a limit and within a budget: the start from the basis that is handed to it, if one is;
--- where nothing is handed or this start stops, the cold run over factors; and where that ends without an answer, the
--- cold solve over whole tableaus. Each of them has the whole budget, and the last one alone decides what is refused.
-use Rattle.std.specs.Prelude.{ℕ, List, Option, Some, None, Result, Ok, Err}
+-- How a solve may end, at a limit and within a budget: from the basis that is handed to it, if one is; and where
+-- nothing is handed or this start stops, by a cold run with the whole budget. Any run that ends as the cold solve
+-- without a limit may win the answer, if the checker says yes to its certificate at the limit. Without an answer a
+-- solve ends as the cold solve over whole tableaus at the limit, and only where the run over factors gives up too.
+use Rattle.std.specs.Prelude.{◌≡◌, ℕ, List, Option, Some, None, Result, Ok, Err}
 use Rattle.spec_exact.specs.Fraction.{ℚ}
 use Rattle.spec_model.specs.Model.{Model}
 use Rattle.spec_pivot.specs.declared.status.Status.{Status}
 use Rattle.spec_simplex.specs.declared.ends.FormFault.{FormFault}
 use Rattle.spec_simplex.specs.Form.{Form, form_of}
+use Rattle.spec_check.specs.Run.{check_run}
 use Rattle.spec_check.specs.declared.solve_end.SolveEnd.TheVariants.{Ended, Past, Spent}
 use Rattle.spec_cold.specs.Cold.{ExactSolveEnd, cold}
 use Rattle.spec_warm.specs.declared.ends.Route.TheVariants as route
-use Rattle.spec_warm.specs.Warm.{warm}
-use Rattle.spec_warm.specs.Solve.{SolveEnd, solved_by}
+use Rattle.spec_warm.specs.declared.ends.Warm.TheVariants as warms
+use Rattle.spec_warm.specs.Warm.{WarmResult, warm}
+use Rattle.spec_warm.specs.Solve.{SolveEnd, fall_of}
 use Rattle.spec_factor.specs.Over.{over_factors}
 
 -- it ends without an answer: an operation is refused, or the budget is spent
@@ -20,6 +23,39 @@ GivesUp (Ended known certificate basis pivots) = ⊥
 GivesUp (Past p) = Unit {0}
 GivesUp Spent = Unit {0}
 
+-- the checker says yes at the limit to the certificate that it ends with
+abbrev pub IsChecked : Option ℕ → Model → ExactSolveEnd → Type 0
+IsChecked limit m (Ended known certificate basis pivots) = check_run limit m certificate ≡ Ok known
+IsChecked limit m (Past p) = ⊥
+IsChecked limit m Spent = ⊥
+
+-- ---- the relation
+-- how the cold part of a solve may end
+pub data MayEndCold (limit : Option ℕ) (budget : ℕ) (m : Model) (end : ExactSolveEnd) : Type 0 where
+  -- with an answer, as the cold solve without a limit; and for a model without a form at the limit nothing but the cold
+  -- solve at the limit is tried
+  Answered : end ≡ cold None budget m → IsChecked limit m end →
+      ((fault : FormFault ℚ) → form_of limit m ≡ Err fault → end ≡ cold limit budget m) →
+      MayEndCold limit budget m end
+  -- without one, as the solve over whole tableaus at the limit, where the run over factors gives up too
+  GaveUp : GivesUp end → end ≡ cold limit budget m →
+      ((f : Form) → form_of limit m ≡ Ok f → GivesUp (over_factors limit budget m f)) →
+      MayEndCold limit budget m end
+
+-- by how the start from the basis ended: with what the solve ends with; or it was given up, for this reason, for a cold
+-- start
+abbrev pub MayEndBy : Option ℕ → ℕ → Model → WarmResult → SolveEnd → Type 0
+MayEndBy limit budget m (warms.Ended known certificate basis pivots) solved =
+    solved ≡ record { end = Ended known certificate basis pivots; route = route.Warm }
+MayEndBy limit budget m (warms.Stopped stop) solved =
+    MayEndCold limit budget m solved.end × (solved.route ≡ route.Fell (fall_of stop))
+
+-- how a solve may end, with this basis handed to it, if one is
+unfoldable pub MayEnd : Option ℕ → ℕ → Model → Option (List Status) → SolveEnd → Type 0
+MayEnd limit budget m None solved = MayEndCold limit budget m solved.end × (solved.route ≡ route.Cold)
+MayEnd limit budget m (Some basis) solved = MayEndBy limit budget m (warm limit budget m basis) solved
+
+-- ---- the two stated runs
 -- by how the run over factors ended, and how the solve over whole tableaus ends
 abbrev pub or_tableaus : ExactSolveEnd → ExactSolveEnd → ExactSolveEnd
 or_tableaus (Ended known certificate basis pivots) other = Ended known certificate basis pivots
@@ -31,11 +67,6 @@ abbrev pub cold_by : Option ℕ → ℕ → Model → Result Form (FormFault ℚ
 cold_by limit budget m (Ok f) = or_tableaus (over_factors limit budget m f) (cold limit budget m)
 cold_by limit budget m (Err fault) = cold limit budget m
 
--- from the start that each model has
+-- the run over factors, and where it gives up the one over whole tableaus
 unfoldable pub cold_over : Option ℕ → ℕ → Model → ExactSolveEnd
 cold_over limit budget m = cold_by limit budget m (form_of limit m)
-
--- the whole
-unfoldable pub solve_over : Option ℕ → ℕ → Model → Option (List Status) → SolveEnd
-solve_over limit budget m None = record { end = cold_over limit budget m; route = route.Cold }
-solve_over limit budget m (Some basis) = solved_by (cold_over limit budget m) (warm limit budget m basis)

@@ -1,18 +1,19 @@
-//! The order of a solve: its definition, and laws of what the factors add to it.
+//! How a solve may end: the relation, the two stated cold runs, and laws of both.
 //!
 //! | Item | What it is | Where |
 //! |---|---|---|
-//! | `cold_over` | the cold part of a solve: over factors, and where they give up over whole tableaus | specs/Order |
-//! | `solve_over` | the solve of a model, of which a basis may be handed | specs/Order |
-//! | `GivesUp` | a cold end without an answer | specs/Order |
+//! | `MayEndCold` | how the cold part of a solve may end | specs/Order |
+//! | `MayEnd` | how a solve may, of which a basis may be handed | specs/Order |
+//! | `cold_over` | the two stated runs: over factors, and where they give up over whole tableaus | specs/Order |
+//! | `GivesUp`, `IsChecked` | a cold end without an answer; one to which the checker says yes | specs/Order |
 //!
 //! All runs take a limit: `Some m` refuses numbers past m, `None` refuses nothing. The functions here have the laws as
 //! their contracts.
 //!
-//! The solve without factors is that of `spec_warm`, the run over factors that of `spec_factor`.
+//! The solve over whole tableaus alone is that of `spec_warm`, the run over factors that of `spec_factor`.
 #![tactic(auto)]
 
-ghost use Rattle.std.specs.Prelude.{◌≡◌, ◌⊎◌, ℕ, List, Option, None, Ok};
+ghost use Rattle.std.specs.Prelude.{◌≡◌, ◌⊎◌, ℕ, List, Option, None, Ok, Err};
 ghost use Rattle.spec_exact.specs.Fraction.{ℚ};
 ghost use Rattle.spec_exact.specs.declared.past.Past.{Past};
 ghost use Rattle.spec_model.specs.Model.{Model};
@@ -21,38 +22,62 @@ ghost use Rattle.spec_check.specs.declared.certificate.Known.{Known};
 ghost use Rattle.spec_check.specs.Certificate.{IsFor, Holds};
 ghost use Rattle.spec_check.specs.Run.{check_run};
 ghost use Rattle.spec_pivot.specs.declared.status.Status.{Status};
+ghost use Rattle.spec_simplex.specs.declared.ends.FormFault.{FormFault};
 ghost use Rattle.spec_simplex.specs.Form.{Form, form_of};
+ghost use Rattle.spec_simplex.specs.Phases.{PhasesEnd, phases_run};
 ghost use Rattle.spec_check.specs.declared.solve_end.SolveEnd.TheVariants as outcome;
-ghost use Rattle.spec_cold.specs.Cold.{cold};
-ghost use Rattle.spec_warm.specs.Solve.{solve};
+ghost use Rattle.spec_cold.specs.Cold.{ExactSolveEnd, certificate_of, basis_of, pivots_of, cold};
+ghost use Rattle.spec_warm.specs.Solve.{SolveEnd, solve};
 ghost use Rattle.spec_factor.specs.Over.{over_factors};
-ghost use Rattle.spec_solve.specs.Order.{GivesUp, cold_over, solve_over};
+ghost use Rattle.spec_solve.specs.Order.{GivesUp, MayEndCold, MayEnd, cold_over};
 
 /// The cold part of a solve ends as the cold solve without a limit, or with an operation that is refused.
 pub fn cold_parts_end_as_without_a_limit()
-    ensures { (limit : Option ℕ) (budget : ℕ) (m : Model) →
-        (cold_over limit budget m ≡ cold None budget m) ⊎
-        ((p : Past ℚ) × (cold_over limit budget m ≡ outcome.Past p)) }
+    ensures { (limit : Option ℕ) (budget : ℕ) (m : Model) (end : ExactSolveEnd) → MayEndCold limit budget m end →
+        (end ≡ cold None budget m) ⊎ ((p : Past ℚ) × (end ≡ outcome.Past p)) }
 {}
 
 /// What it ends with is true, and the checker accepts its certificate.
 pub fn cold_parts_end_true()
     ensures { (limit : Option ℕ) (budget : ℕ) (m : Model) (known : Known ℚ) (cert : Certificate (List ℚ))
         (basis : Option (List Status)) (pivots : ℕ) →
-        cold_over limit budget m ≡ outcome.Ended known cert basis pivots →
+        MayEndCold limit budget m (outcome.Ended known cert basis pivots) →
         Holds m known × IsFor m cert × (check_run limit m cert ≡ Ok known) }
 {}
 
 /// It gives up only where the run over factors does, and then as the solve over whole tableaus.
 pub fn both_cold_runs_give_up()
-    ensures factors { (limit : Option ℕ) (budget : ℕ) (m : Model) (f : Form) → form_of limit m ≡ Ok f →
-        GivesUp (cold_over limit budget m) → GivesUp (over_factors limit budget m f) }
-    ensures tableaus { (limit : Option ℕ) (budget : ℕ) (m : Model) → GivesUp (cold_over limit budget m) →
-        cold_over limit budget m ≡ cold limit budget m }
+    ensures factors { (limit : Option ℕ) (budget : ℕ) (m : Model) (end : ExactSolveEnd) (f : Form) →
+        form_of limit m ≡ Ok f → MayEndCold limit budget m end → GivesUp end → GivesUp (over_factors limit budget m f) }
+    ensures tableaus { (limit : Option ℕ) (budget : ℕ) (m : Model) (end : ExactSolveEnd) →
+        MayEndCold limit budget m end → GivesUp end → end ≡ cold limit budget m }
 {}
 
-/// The factors take no answer away and change none: a solve is the one without factors, or that one gives up.
-pub fn factors_only_add_answers()
-    ensures { (limit : Option ℕ) (budget : ℕ) (m : Model) (handed : Option (List Status)) →
-        (solve_over limit budget m handed ≡ solve limit budget m handed) ⊎ GivesUp (solve limit budget m handed).end }
+/// For a model without a form at the limit nothing but the cold solve at the limit is tried.
+pub fn models_without_a_form_end_as_the_cold_solve()
+    ensures { (limit : Option ℕ) (budget : ℕ) (m : Model) (end : ExactSolveEnd) (fault : FormFault ℚ) →
+        form_of limit m ≡ Err fault → MayEndCold limit budget m end → end ≡ cold limit budget m }
+{}
+
+/// The two stated runs may be all that is tried.
+pub fn stated_runs_may_end_so()
+    ensures { (limit : Option ℕ) (budget : ℕ) (m : Model) → MayEndCold limit budget m (cold_over limit budget m) }
+{}
+
+/// Any other run may win the answer, if it ends as both phases without a limit do, and the checker says yes to its
+/// certificate at the limit.
+pub fn checked_ends_without_a_limit_may_be()
+    ensures { (limit : Option ℕ) (budget : ℕ) (m : Model) (f : Form) (e : PhasesEnd) (known : Known ℚ) →
+        form_of limit m ≡ Ok f → phases_run None budget f ≡ Ok e → check_run limit m (certificate_of e) ≡ Ok known →
+        MayEndCold limit budget m (outcome.Ended known (certificate_of e) (basis_of e) (pivots_of e)) }
+{}
+
+/// Further runs take no answer away and change none: the cold part ends as the two stated runs, or these give up; and
+/// a solve ends as the one over whole tableaus alone, or that one gives up.
+pub fn further_runs_only_add_answers()
+    ensures stated { (limit : Option ℕ) (budget : ℕ) (m : Model) (end : ExactSolveEnd) →
+        MayEndCold limit budget m end → (end ≡ cold_over limit budget m) ⊎ GivesUp (cold_over limit budget m) }
+    ensures solve { (limit : Option ℕ) (budget : ℕ) (m : Model) (handed : Option (List Status)) (solved : SolveEnd) →
+        MayEnd limit budget m handed solved →
+        (solved ≡ solve limit budget m handed) ⊎ GivesUp (solve limit budget m handed).end }
 {}

@@ -1,5 +1,5 @@
 -- By the form, or why there is none, where nothing can be handed.
-use Rattle.std.proofs.Common.{◌∙◌, Some}
+use Rattle.std.proofs.Common.{Some, refl}
 use Rattle.lp_frac.specs.Narrow.{largest}
 use Rattle.lp_solve.proofs.Solved.{form_stop, form_clash, formless, clash_fits}
 use Rattle.lp_solve.proofs.WarmRuns.{fits_form, nothing_handed, solves_cold}
@@ -17,14 +17,14 @@ pub returns-in-Err-Cause-clause-answer : goal.returns-in-Err-Cause-clause-answer
 returns-in-Err-Cause-clause-answer c =
     let stop = form_clash _ _ _ c.in-Err-Cause.field-0-is c.in-Err-Cause.ensures.err in
     let answered = rw c.in-Err-Cause.clash-is at c.answered.ensures.answer in
-    c.cold.ensures
-    ∙ solves_cold (Some largest) c.args.budget c.args.model.now _ c.args.handed _
-    (nothing_handed (Some largest) c.args.model.now _ c.args.handed _ stop c.requires)
-    (answered ∙ formless _ _ _ _ stop)
+    solves_cold (Some largest) c.args.budget c.args.model.now _ c.args.handed _ _
+    (nothing_handed (Some largest) c.args.model.now _ c.args.handed _ stop c.requires) c.cold.ensures
+    (formless _ _ _ _ _ stop answered)
 
 pub returns-in-Err-Past-clause-answer : goal.returns-in-Err-Past-clause-answer
 returns-in-Err-Past-clause-answer c =
     let stop = form_stop _ _ _ c.in-Err-Past.field-0-is c.in-Err-Past.ensures.err in
     let told = rw c.in-Err-Past.past-is at c.cold-in-Err-Past.ensures in
-    told ∙ solves_cold (Some largest) c.args.budget c.args.model.now _ c.args.handed _
-    (nothing_handed (Some largest) c.args.model.now _ c.args.handed _ stop c.requires) (formless _ _ _ _ stop)
+    solves_cold (Some largest) c.args.budget c.args.model.now _ c.args.handed _ _
+    (nothing_handed (Some largest) c.args.model.now _ c.args.handed _ stop c.requires) told
+    (formless _ _ _ _ _ stop refl)
