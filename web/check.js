@@ -1,0 +1,235 @@
+"use strict";
+// The check: the conditions of each kind of certificate (docs/FORMATS.md, "The check"). All conditions are taken, not
+// only up to the first that fails, so that everything that fails can be shown.
+
+/** A number in a sentence: as texts have it, or rounded where that is long. */
+function told(a) {
+  const text = written(a);
+  return text.length <= 40 ? text : `about ${approximation(a)}`;
+}
+
+/** What fails, in the order in which the conditions are taken: by condition, and then by place. */
+class Findings {
+  constructor() {
+    this.failures = [];
+  }
+
+  /** The item is a row or a column of the report, or null where a condition is of none. */
+  fail(condition, item, words) {
+    const failure = { condition, of: item?.of ?? "", name: item?.name ?? "", words };
+    item?.fails.push(failure);
+    this.failures.push(failure);
+  }
+
+  inOrder() {
+    return this.failures.sort((one, other) => one.condition - other.condition);
+  }
+}
+
+/** Whether a value lies between two limits; what is wrong goes to the findings. */
+function between(findings, condition, item, value, called) {
+  const { lower, upper, name } = item;
+  const opening = `${called} ${name} is ${told(value)}, and has to be`;
+  if (lower !== null && compare(value, lower) < 0) {
+    findings.fail(condition, item, `${opening} at least ${told(lower)}: it is ${told(minus(lower, value))} below.`);
+  } else if (upper !== null && compare(value, upper) > 0) {
+    findings.fail(condition, item, `${opening} at most ${told(upper)}: it is ${told(minus(value, upper))} above.`);
+  }
+}
+
+/** How far a value is from the nearer of its limits; below 0 outside them, and null where there is none. */
+function slackOf(value, { lower, upper }) {
+  const down = lower === null ? null : minus(value, lower);
+  const up = upper === null ? null : minus(upper, value);
+  if (down === null || up === null) return down ?? up;
+  return compare(down, up) < 0 ? down : up;
+}
+
+function itemsOf(model) {
+  const rows = model.rows.map((row) => {
+    const { name, type, line } = row;
+    return { of: "row", name, type, line, ...limitsOf(row), fails: [] };
+  });
+  const columns = model.columns.map((column) => ({ of: "column", ...column, fails: [] }));
+  return { rows, columns };
+}
+
+/** The sums of the rows at a point. */
+function sumsOfRows(model, point, progress) {
+  return model.rows.map((row, place) => {
+    progress(place / model.rows.length);
+    const sum = new Sum();
+    for (const [column, coefficient] of row.entries) if (point[column].n !== 0n) sum.add(coefficient, point[column]);
+    return sum.value();
+  });
+}
+
+/** For each column a start and then the sum of the multipliers times its coefficients. */
+function sumsOfColumns(model, starts, multipliers, progress) {
+  const sums = starts.map((start) => new Sum(start));
+  model.rows.forEach((row, place) => {
+    progress(place / model.rows.length);
+    if (multipliers[place].n === 0n) return;
+    for (const [column, coefficient] of row.entries) sums[column].add(multipliers[place], coefficient);
+  });
+  return sums.map((sum) => sum.value());
+}
+
+function sumOfCosts(columns, point, start) {
+  const sum = new Sum(start);
+  columns.forEach((column, place) => sum.add(column.cost, point[place]));
+  return sum.value();
+}
+
+/** Conditions 1 and 2 of OPTIMAL and of UNBOUNDED: the point is feasible. */
+function checkPoint(findings, model, items, point, progress) {
+  items.columns.forEach((column, place) => {
+    column.value = point[place];
+    column.slack = slackOf(column.value, column);
+    between(findings, 1, column, column.value, "Column");
+  });
+  const sums = sumsOfRows(model, point, progress);
+  items.rows.forEach((row, place) => {
+    row.sum = sums[place];
+    row.slack = slackOf(row.sum, row);
+    between(findings, 2, row, row.sum, "The sum of row");
+  });
+}
+
+/** A number above 0 asks for the lower limit, one below 0 for the upper. */
+function limitFor(item, number) {
+  return sign(number) > 0 ? { limit: item.lower, side: "lower" } : { limit: item.upper, side: "upper" };
+}
+
+/** Conditions 3 and 4 of OPTIMAL: where a number is not 0, the value is at the limit of its sign. */
+function checkAtLimit(findings, condition, item, number, value, { has, limits }) {
+  if (number.n === 0n) return;
+  const { limit, side } = limitFor(item, number);
+  const opening = `${has} ${told(number)}, so it has to be at its ${side} ${limits}`;
+  if (limit === null) {
+    findings.fail(condition, item, `${opening}, and it has none.`);
+  } else if (compare(limit, value) !== 0) {
+    findings.fail(condition, item, `${opening} ${told(limit)}, and is ${told(value)}.`);
+  }
+}
+
+function checkOptimal(model, items, { x, y }, progress) {
+  const findings = new Findings();
+  checkPoint(findings, model, items, x, (part) => progress("The sums of the rows", part / 2));
+  const costs = model.columns.map(({ cost }) => model.maximize ? negative(cost) : cost);
+  const multiplied = y.map(negative);
+  const reduced = sumsOfColumns(model, costs, multiplied, (part) => progress("The reduced costs", 0.5 + part / 2));
+  items.columns.forEach((column, place) => {
+    column.reduced = reduced[place];
+    const has = `Column ${column.name} has the reduced cost`;
+    checkAtLimit(findings, 3, column, column.reduced, column.value, { has, limits: "bound" });
+  });
+  items.rows.forEach((row, place) => {
+    row.multiplier = y[place];
+    const has = `Row ${row.name} has the multiplier`;
+    checkAtLimit(findings, 4, row, row.multiplier, row.sum, { has, limits: "limit" });
+  });
+  return { failures: findings.inOrder(), value: sumOfCosts(model.columns, x, model.offset) };
+}
+
+/** Adds a number times the limit that its sign asks for to a sum, and says where there is no such limit. */
+function addProduct(findings, condition, item, number, { limit, side }, sum) {
+  if (number.n === 0n) return;
+  item.used = limit;
+  if (limit === null) {
+    const words = item.of === "row"
+      ? `Row ${item.name} has the multiplier ${told(number)}, and no ${side} limit.`
+      : `Column ${item.name} has the sum ${told(number)}, and no ${side} bound.`;
+    findings.fail(condition, item, words);
+    return;
+  }
+  item.product = times(number, limit);
+  sum.add(number, limit);
+}
+
+/** How many terms of a row are shown. */
+const TERMS_SHOWN = 8;
+
+/** What the rows that are added up say of the columns. */
+function addTerms(model, rows) {
+  rows.forEach((row, place) => {
+    if (row.product === undefined) return;
+    const { entries } = model.rows[place];
+    row.terms = entries.slice(0, TERMS_SHOWN).map(([column, coefficient]) => [model.columns[column].name, coefficient]);
+    row.more = entries.length - row.terms.length;
+  });
+}
+
+function checkInfeasible(model, items, { y }, progress) {
+  const findings = new Findings();
+  const required = new Sum(), allowed = new Sum();
+  items.rows.forEach((row, place) => {
+    row.multiplier = y[place];
+    addProduct(findings, 1, row, row.multiplier, limitFor(row, row.multiplier), required);
+  });
+  const sums = sumsOfColumns(model, model.columns.map(() => ZERO), y, (part) => progress("The combined row", part));
+  items.columns.forEach((column, place) => {
+    column.combined = sums[place];
+    addProduct(findings, 2, column, column.combined, limitFor(column, negative(column.combined)), allowed);
+  });
+  addTerms(model, items.rows);
+  const totals = { required: required.value(), allowed: allowed.value() };
+  if (findings.failures.length === 0 && compare(totals.allowed, totals.required) >= 0) {
+    const { required: least, allowed: most } = totals;
+    const words = `The rows require ${told(least)}, and the bounds of the columns allow ${told(most)}`;
+    findings.fail(3, null, `${words}, which is not less.`);
+  }
+  return { failures: findings.inOrder(), ...totals };
+}
+
+/** Conditions 3 and 4 of UNBOUNDED: a ray does not lead to a limit. */
+function checkAway(findings, condition, item, step, called) {
+  const to = sign(step) < 0 ? { limit: item.lower, side: "lower" } : { limit: item.upper, side: "upper" };
+  if (step.n === 0n || to.limit === null) return;
+  const limit = `${to.side} ${item.of === "row" ? "limit" : "bound"} ${told(to.limit)}`;
+  const words = `Along the ray ${called} ${item.name} changes by ${told(step)}`;
+  findings.fail(condition, item, `${words}, towards its ${limit}.`);
+}
+
+function checkUnbounded(model, items, { x, r }, progress) {
+  const findings = new Findings();
+  checkPoint(findings, model, items, x, (part) => progress("The sums of the rows", part / 2));
+  items.columns.forEach((column, place) => {
+    column.ray = r[place];
+    checkAway(findings, 3, column, column.ray, "column");
+  });
+  const steps = sumsOfRows(model, r, (part) => progress("The ray", 0.5 + part / 2));
+  items.rows.forEach((row, place) => {
+    row.ray = steps[place];
+    checkAway(findings, 4, row, row.ray, "the sum of row");
+  });
+  const change = sumOfCosts(model.columns, r, ZERO);
+  if (sign(change) * (model.maximize ? -1 : 1) >= 0) {
+    findings.fail(5, null, `Along the ray the objective changes by ${told(change)}, which is not better.`);
+  }
+  return { failures: findings.inOrder(), value: sumOfCosts(model.columns, x, model.offset), change };
+}
+
+function checkClash(items, place) {
+  const findings = new Findings();
+  const column = items.columns[place];
+  const { name, lower, upper } = column;
+  const has = (bound, side) => bound === null ? `no ${side} bound` : `the ${side} bound ${told(bound)}`;
+  if (lower === null || upper === null || compare(lower, upper) <= 0) {
+    const words = `Column ${name} has ${has(lower, "lower")} and ${has(upper, "upper")}`;
+    findings.fail(1, column, `${words}: they do not clash.`);
+  }
+  return { failures: findings.inOrder(), clash: name };
+}
+
+/** What a certificate shows of a model: all of its sums, and what fails. */
+function check(model, kind, found, progress) {
+  const items = itemsOf(model);
+  const checks = {
+    OPTIMAL: () => checkOptimal(model, items, found, progress),
+    INFEASIBLE: () => checkInfeasible(model, items, found, progress),
+    UNBOUNDED: () => checkUnbounded(model, items, found, progress),
+    CLASH: () => checkClash(items, found.clash),
+  };
+  return { kind, ...items, ...checks[kind]() };
+}
