@@ -9,6 +9,7 @@ from .. import errors
 from ..conversion import Question, convert
 from ..model import Model, read_model
 from ..number_text import shown
+from ..page import write_page
 from ..replies import Answer, Infeasible, Optimal, Past, Spent, Unbounded
 from ..report import Report, conflict, report
 from ..session import Session
@@ -30,6 +31,7 @@ def add(commands: "argparse._SubParsersAction[argparse.ArgumentParser]") -> None
     add_options(solve)
     solve.add_argument("--show", choices=SHOWN, default="all", help="what of an optimal point is shown (all)")
     solve.add_argument("--decimals", type=int, metavar="D", help="shows D decimals, rounded, beside each fraction")
+    solve.add_argument("--page", metavar="FILE", help="writes a page that checks the model and its certificate in a browser")
     output = solve.add_mutually_exclusive_group()
     output.add_argument("--json", action="store_true")
     output.add_argument("--csv", action="store_true", help="a line for each column and row")
@@ -116,6 +118,8 @@ def run(words: argparse.Namespace) -> int:
             session.budget(words.budget)
         model = read_model(session.write())
         answer, certificate = session.solve_checked(model)
+        if words.page:
+            write_page(words.page, session.write(), certificate, answer)
     found = report(model, certificate) if isinstance(answer, Optimal) else None
     if words.json or words.csv:
         print(as_json(answer, certificate, found) if words.json else as_csv(answer, found))
