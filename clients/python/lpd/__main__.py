@@ -17,6 +17,7 @@ from .commands.common import asked, tell
 from .conversion import Question, Unconvertible
 from .dialects import Inexact
 from .number_text import NotANumber
+from .version import ShowVersion
 
 EPILOG = __doc__.partition("\n\n")[2] if __doc__ else None
 
@@ -26,6 +27,7 @@ def parser() -> argparse.ArgumentParser:
     commands = top.add_subparsers(dest="command", required=True)
     for command in (solve, check, convert, certify, batch):
         command.add(commands)
+    top.add_argument("--version", action=ShowVersion, nargs=0, help="shows the version and the commit, and ends")
     return top
 
 

@@ -7,7 +7,7 @@ import subprocess
 import tempfile
 from pathlib import Path
 from types import TracebackType
-from typing import IO, List, Optional, Sequence, Type
+from typing import IO, List, Optional, Sequence, Tuple, Type
 
 from .errors import ProgramEnded, ProgramMissing, Unexpected
 
@@ -15,12 +15,21 @@ REPOSITORY = Path(__file__).resolve().parents[3]
 SESSIONS = 64
 
 
+def home() -> Tuple[Optional[Path], str]:
+    """Where this repository, or this unpacked release, has its program, and what to do where there is none."""
+    if (REPOSITORY / "crates.txt").exists():
+        return REPOSITORY / "crates" / "lpd" / "out" / "lpd", "build it with ./lpd build"
+    if (REPOSITORY / "VERSION").exists():
+        return REPOSITORY / "lpd", "unpack the release anew"
+    return None, "install it"
+
+
 def find_program() -> str:
-    """The program that $LPD names, or that this repository has built, or that is on the path as lpd."""
-    named, built = os.environ.get("LPD"), REPOSITORY / "crates" / "lpd" / "out" / "lpd"
-    found = named or (str(built) if os.access(built, os.X_OK) else shutil.which("lpd"))
+    """The program that $LPD names, or that this repository or this unpacked release has, or that is on the path as lpd."""
+    place, help = home()
+    found = os.environ.get("LPD") or (str(place) if place and os.access(place, os.X_OK) else shutil.which("lpd"))
     if not found:
-        raise ProgramMissing("there is no program lpd: build it with ./lpd build, or name it in the environment variable LPD")
+        raise ProgramMissing(f"there is no program lpd: {help}, or name it in the environment variable LPD")
     return found
 
 

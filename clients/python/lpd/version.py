@@ -1,0 +1,41 @@
+"""Which lpd this is: its version, and the commit that it is of."""
+from __future__ import annotations
+
+import argparse
+import subprocess
+from importlib import metadata
+from pathlib import Path
+from typing import Optional
+
+REPOSITORY = Path(__file__).resolve().parents[3]
+# A release has this file, which no repository has.
+RELEASE = Path(__file__).with_name("RELEASE")
+
+
+def version() -> str:
+    """The version and the commit: those of the release, or of the repository that this file is in, with a + where its files
+    were changed since; of an installed package that is no release, the version alone."""
+    if RELEASE.exists():
+        return RELEASE.read_text(encoding="ascii").strip()
+    if not (REPOSITORY / "VERSION").exists():
+        return metadata.version("lpd")
+    number = (REPOSITORY / "VERSION").read_text(encoding="ascii").strip()
+    return f"{number} {commit()}".strip()
+
+
+def commit() -> str:
+    """The commit of the repository, or nothing where there is no git to ask."""
+    try:
+        asked = ["git", "describe", "--always", "--abbrev=40", "--exclude=*", "--dirty=+"]
+        done = subprocess.run(asked, cwd=REPOSITORY, capture_output=True, text=True)
+    except OSError:
+        return ""
+    return done.stdout.strip() if done.returncode == 0 else ""
+
+
+class ShowVersion(argparse.Action):
+    """An option that shows the version and the commit, and ends."""
+
+    def __call__(self, parser: argparse.ArgumentParser, words: argparse.Namespace, value: object, option: Optional[str] = None) -> None:
+        print(f"lpd {version()}")
+        parser.exit()
