@@ -63,7 +63,7 @@ const STATUSES: &str = "Statuses:
   8  standard input is longer than 67,108,864 bytes
   9  the text was refused
 
-The manual is docs/lpd.1, which `man -l docs/lpd.1` shows.";
+The manual is the page lpd(1): `man lpd`, or in the repository `man -l docs/lpd.1`.";
 
 /// The commands and their options, the statuses, and where the manual is.
 pub fn usage(alloc: Global) -> Result<String, AllocError> {
