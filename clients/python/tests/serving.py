@@ -8,7 +8,7 @@ from lpd.program import Program
 from lpd.session import encoded
 
 HOST = "127.0.0.1"
-SECONDS = 20.0
+SECONDS = 120.0  # for what comes at once, but on a machine that is busy
 Serve = Callable[[socket.socket], object]
 
 

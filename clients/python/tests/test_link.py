@@ -13,13 +13,13 @@ import lpd
 
 from . import test_session
 from .models import has_program
-from .serving import HOST, Serve, Server, by_bytes, by_program
+from .serving import HOST, SECONDS, Serve, Server, by_bytes, by_program, commands
 
 MODELS = Path(__file__).resolve().parents[3] / "examples" / "models"
 
 
 class Linked(unittest.TestCase):
-    def link(self, serve: Serve, timeout: float = 10) -> lpd.Session:
+    def link(self, serve: Serve, timeout: float = SECONDS) -> lpd.Session:
         server = Server(serve)
         session = lpd.connect(HOST, server.port, timeout)
         self.addCleanup(self.ended, server)
@@ -27,7 +27,7 @@ class Linked(unittest.TestCase):
         return session
 
     def ended(self, server: Server) -> None:
-        server.join(10)
+        server.join(SECONDS)
         self.assertFalse(server.is_alive(), "the server did not end")
 
 
@@ -89,35 +89,33 @@ class BadPeers(Linked):
     def test_silence(self) -> None:
         for replies in ((), (b"OPTIMAL",), (b"OPTIMAL 1\n", b"CERT 2\nOPTIMAL\n")):
             with self.subTest(replies):
-                session, started = self.link(by_bytes(*replies, stays=True), 0.3), time.monotonic()
-                with self.assertRaisesRegex(lpd.LinkTimeout, "within 0.3 seconds"):
+                session = self.link(by_bytes(*replies, stays=True), 0.3 if len(replies) < 2 else 2)
+                with self.assertRaisesRegex(lpd.LinkTimeout, "within [0-9.]+ seconds"):
                     session.solve()
                     session.certificate()
-                self.assertLess(time.monotonic() - started, 5)
                 with self.assertRaises(lpd.LinkClosed):
                     session.solve()
 
     def test_a_reply_that_drips(self) -> None:
         def serve(link: socket.socket) -> None:
+            next(commands(link))
             for _ in range(100):
                 link.sendall(b"O")
                 time.sleep(0.05)
 
-        session, started = self.link(serve, 0.4), time.monotonic()
-        with self.assertRaises(lpd.LinkTimeout):
-            session.solve()
-        self.assertLess(time.monotonic() - started, 3)
+        with self.assertRaises(lpd.LinkTimeout):  # and not LinkClosed, after the last byte
+            self.link(serve, 0.4).solve()
 
     def test_a_peer_that_does_not_read(self) -> None:
         is_over = threading.Event()
-        session = self.link(lambda link: not is_over.wait(10), 0.5)
+        session = self.link(lambda link: is_over.wait(), 0.5)
+        self.addCleanup(is_over.set)
         with self.assertRaises(lpd.LinkTimeout):
             session.load(f"* {'x' * 10_000}\n" * 3000 + test_session.TEXT)
-        is_over.set()
 
     def test_no_end_of_a_line_or_a_reply(self) -> None:
         def serve(link: socket.socket) -> None:
-            link.recv(1)
+            next(commands(link))
             while True:
                 link.sendall(b"x" * 1000)
 
@@ -137,11 +135,11 @@ class BadPeers(Linked):
             by_bytes(b"OPTIMAL 1\n")(link)
             time.sleep(0.1)
             link.sendall(b"OPTIMAL 2\n")
-            link.recv(1)
+            link.recv(1)  # until the client closes the link
 
         session = self.link(serve)
         self.assertEqual(session.solve(), lpd.Optimal(Fraction(1)))
-        select.select([session.transport.socket], [], [], 10)
+        select.select([session.transport.socket], [], [], SECONDS)
         with self.assertRaisesRegex(lpd.LinkFailed, r"sent b'OPTIMAL 2\\n' when nothing was asked"):
             session.solve()
 
