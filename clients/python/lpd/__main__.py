@@ -34,8 +34,11 @@ def parser() -> argparse.ArgumentParser:
 def status_of_error(error: Exception) -> int:
     """Says what went wrong, and gives its status."""
     if isinstance(error, errors.Refused):
-        tell(f"{error.reply}\n{error}")
+        tell(f"{errors.readable(error.reply)}\n{error}")
         return 9
+    if isinstance(error, check.NoClaim):
+        tell(f"lpd: {error}")
+        return 2
     if isinstance(error, Question):
         tell(f"lpd: {asked(error)}.")
         return 2

@@ -5,7 +5,7 @@ from dataclasses import dataclass
 from fractions import Fraction
 from typing import Dict, List, NamedTuple, NoReturn, Optional, Sequence, Tuple, Union
 
-from .errors import CertificateFault, NameRepeated, UnknownName
+from .errors import CertificateFault, NameRepeated, UnknownName, readable
 from .model import LONGEST_LINE, Limits, Model, lines_of, read_lines, words_of
 from .number_text import NotANumber, TooWide, number, shown
 from .replies import Accepted, Infeasible, Known, Optimal, Rejected, Unbounded
@@ -60,13 +60,13 @@ def matched(model: Model, certificate: Certificate) -> Dict[str, Values]:
         if not (name in model.rows if letter == "y" else name in model.columns):
             raise_unknown(name, "row" if letter == "y" else "column")
         if name in given[letter]:
-            raise NameRepeated(f"ERR 12 REPEATED {name}", f"the certificate has two parts {letter} {name}", name)
+            raise NameRepeated(f"ERR 12 REPEATED {name}", f"the certificate has two parts {letter} {readable(name)}", name)
         given[letter][name] = value
     return given
 
 
 def raise_unknown(name: str, what: str) -> NoReturn:
-    raise UnknownName(f"ERR 5 NAME {name}", f"the model has no {what} {name!r}", name)
+    raise UnknownName(f"ERR 5 NAME {name}", f"the model has no {what} {readable(name)!r}", name)
 
 
 # ---- conditions

@@ -3,6 +3,21 @@ from __future__ import annotations
 
 from typing import Dict, NamedTuple, Optional, Sequence, Type
 
+from .number_text import NotANumber, parse
+
+
+def readable(text: str) -> str:
+    """A text whose characters stand for bytes, as UTF-8 where these are that, so that people can read it."""
+    try:
+        return text.encode("latin-1").decode("utf-8")
+    except UnicodeError:
+        return text
+
+
+def quoted(text: Optional[str]) -> str:
+    """A line, behind the words that say what is wrong with it."""
+    return "" if text is None else f": {readable(text).strip()[:120]!r}"
+
 
 class LpdError(Exception):
     """Whatever goes wrong in this package."""
@@ -106,8 +121,7 @@ class TextFault(Refused):
     def __init__(self, line: int, fault: int, text: Optional[str] = None) -> None:
         self.line, self.fault, self.text = line, fault, text
         what, self.hint = FAULTS[fault]
-        stood = "" if text is None else f": {text.strip()[:120]!r}"
-        super().__init__(f"ERR 8 MPS {line} M{fault}", f"line {line} of the model's text: {what} (fault {fault}){stood}")
+        super().__init__(f"ERR 8 MPS {line} M{fault}", f"line {line} of the model's text: {what} (fault {fault}){quoted(text)}")
 
 
 class NoAnswer(Refused):
@@ -139,8 +153,18 @@ class BadName(Refused):
     hint = "A name is 1 to 64 bytes from ! to ~, and no row is named 'MARKER'."
 
 
+def is_too_wide(word: str) -> bool:
+    """Whether a word is a number that does not fit 127 bits."""
+    try:
+        found = parse(word)
+    except NotANumber:
+        return False
+    return found.is_cut or not found.is_narrow
+
+
 class CertificateFault(Refused):
-    """A text spells no certificate. `line` is the first that does not fit."""
+    """A text spells no certificate. `line` is the first that does not fit, and `is_wide` says whether that is for a number past
+    127 bits alone, which the checker in Python takes with wide=True (--wide)."""
 
     code = 14
     hint = (
@@ -150,8 +174,12 @@ class CertificateFault(Refused):
 
     def __init__(self, line: int, text: Optional[str] = None) -> None:
         self.line, self.text = line, text
-        stood = "" if text is None else f": {text.strip()[:120]!r}"
-        super().__init__(f"ERR 14 CERT {line}", f"line {line} of the certificate does not fit{stood}")
+        words = (text or "").split()
+        self.is_wide = len(words) == 3 and words[0] in ("x", "y", "r") and is_too_wide(words[2])
+        what = "does not fit"
+        if self.is_wide:
+            what, self.hint = "has a number past 127 bits", "The checker in Python takes numbers of any width with --wide (wide=True)."
+        super().__init__(f"ERR 14 CERT {line}", f"line {line} of the certificate {what}{quoted(text)}")
 
 
 class BasisFault(Refused):
@@ -162,8 +190,7 @@ class BasisFault(Refused):
     def __init__(self, line: int, fault: int, text: Optional[str] = None) -> None:
         self.line, self.fault, self.text = line, fault, text
         what, self.hint = BASIS_FAULTS[fault]
-        stood = "" if text is None else f": {text.strip()[:120]!r}"
-        super().__init__(f"ERR 17 BAS {line} B{fault}", f"line {line} of the basis file: {what} (fault {fault}){stood}")
+        super().__init__(f"ERR 17 BAS {line} B{fault}", f"line {line} of the basis file: {what} (fault {fault}){quoted(text)}")
 
 
 class FaultWords(NamedTuple):
@@ -241,9 +268,9 @@ def refusal_of(words: Sequence[str], line: str, body: Sequence[str]) -> LpdError
     named: Dict[str, Type[UnknownName]] = {"5": UnknownName, "6": NameTaken, "12": NameRepeated}
     if code in named:
         what = {"5": "there is no row or column", "6": "there is already a row or column", "12": "this name comes twice:"}[code]
-        return named[code](reply, f"{what} {last!r}, in {line!r}", last)
+        return named[code](reply, f"{what} {readable(last)!r}, in {readable(line)!r}", last)
     if code == "10":
-        return TooWideForFixed(reply, f"{last!r} is too wide for fixed form", last)
+        return TooWideForFixed(reply, f"{readable(last)!r} is too wide for fixed form", last)
     plain: Dict[str, Type[Refused]] = {"1": BadCommand, "2": BadNumber, "3": NumberTooWide, "4": NoModel, "7": LimitReached, "9": NoAnswer}
     plain.update({"11": LineTooLong, "13": BadName})
     whats = {
@@ -257,5 +284,5 @@ def refusal_of(words: Sequence[str], line: str, body: Sequence[str]) -> LpdError
         "13": "this is no name for a row or a column",
     }
     if code in plain:
-        return plain[code](reply, f"{whats[code]}, in {line[:200]!r}")
+        return plain[code](reply, f"{whats[code]}, in {readable(line)[:200]!r}")
     return no_reply(words, line)

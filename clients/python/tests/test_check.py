@@ -1,5 +1,6 @@
 """The checker: the examples' certificates, each condition, each fault of a text, and numbers of any width."""
 import re
+import tempfile
 import unittest
 from fractions import Fraction
 from pathlib import Path
@@ -7,6 +8,8 @@ from pathlib import Path
 import lpd
 from lpd.number_text import number, shown
 from lpd.report import conflict, report
+
+from .commands import Said, command
 
 EXAMPLES = Path(__file__).resolve().parents[3] / "examples"
 LEAST = "ROWS\n N cost\n G R1\nCOLUMNS\n a cost 1 R1 1\n b cost 2 R1 1\nRHS\n cost -3 R1 1\nENDATA\n"
@@ -83,6 +86,61 @@ class Checks(unittest.TestCase):
         self.assertEqual(number("+.5e+2"), 50)
         self.assertEqual(number("1" * 5000, wide=True), int("1" * 4000) * 10**1000 + int("1" * 1000))
         self.assertEqual(shown(Fraction(10**9000)), "1" + "0" * 9000)
+
+
+class TheCommand(unittest.TestCase):
+    """python3 -m lpd check, which needs no program."""
+
+    def said(self, *words: str, text: str = LEAST, certificate: str = "OPTIMAL\nx a 1\ny R1 1\nEND\n") -> Said:
+        with tempfile.TemporaryDirectory() as folder:
+            (Path(folder) / "certificate").write_bytes(certificate.encode())
+            return command("check", "-", str(Path(folder) / "certificate"), *words, stdin=text.encode())
+
+    def test_the_claim_is_judged_first(self) -> None:
+        self.assertEqual(self.said("--claim", "4")[:2], (0, "YES OPTIMAL 4\n"))
+        said = self.said("--claim", "4.5")
+        self.assertEqual((said.status, said.output.splitlines()[0]), (1, "NO CLAIM"))
+        self.assertIn("shows OPTIMAL 4, and the claim is OPTIMAL 4.5, which is off by 0.5", said.output)
+
+    def test_other_claims(self) -> None:
+        self.assertEqual(self.said("--claim", "infeasible").output.splitlines()[0], "NO CLAIM")
+        self.assertEqual(self.said("--claim", "OPTIMAL 8/2").status, 0)
+        said = self.said("--claim", "four")
+        self.assertEqual((said.status, said.output), (2, ""))
+        self.assertIn("the claim 'four' is no answer", said.complaints)
+
+    def test_what_lpd_solve_prints(self) -> None:
+        for path in sorted((EXAMPLES / "models").glob("*.mps")):
+            form = "fixed" if ".fixed." in path.name else "free"
+            answer = path.with_suffix(".solved").read_text().splitlines()[0]
+            with self.subTest(path.name):
+                said = command("check", str(path), str(path.with_suffix(".solved")), "--form", form)
+                self.assertEqual(said, (0, f"YES {answer}\n", ""))
+        answered = "OPTIMAL\nx a 1\ny R1 1\nEND\n"
+        self.assertEqual(self.said(certificate=f"OPTIMAL 5\n{answered}").output.splitlines()[0], "NO CLAIM")
+        self.assertEqual(self.said(certificate=f"OPTIMAL 4\nWARM PIVOTS 0\n{answered}NAME\nENDATA\n").status, 0)
+        self.assertIn("without a certificate", self.said(certificate="PAST ADD 1 2\n").complaints)
+
+    def test_a_text_without_a_last_newline(self) -> None:
+        for certificate in ("OPTIMAL\nx a 1\ny R1 1\nEND\n", "OPTIMAL 4\nOPTIMAL\nx a 1\ny R1 1\nEND\n"):
+            said = command("check", "-", stdin=f"{LEAST.rstrip()}{certificate}".encode())
+            self.assertEqual(said[:2], (0, "YES OPTIMAL 4\n"))
+            self.assertIn("no newline behind ENDATA", said.complaints)
+
+    def test_a_number_past_127_bits(self) -> None:
+        said = self.said(certificate=f"OPTIMAL\nx a 1\ny R1 {10**40}\nEND\n")
+        self.assertEqual(said.status, 9)
+        self.assertIn("line 3 of the certificate has a number past 127 bits", said.complaints)
+        self.assertIn("--wide", said.complaints)
+        self.assertNotIn("The first line is", said.complaints)
+        self.assertEqual(self.said("--wide", certificate=f"OPTIMAL\nx a 1\ny R1 {10**40}\nEND\n").status, 1)
+
+    def test_utf8_in_errors(self) -> None:
+        said = self.said(text=LEAST.replace(" b cost 2", " é_ü cost two"))
+        self.assertIn("' é_ü cost two R1 1'".replace("' ", "'"), said.complaints)
+        said = self.said(certificate="OPTIMAL\nx größe 1\nEND\n")
+        self.assertIn("ERR 5 NAME größe", said.complaints)
+        self.assertIn("the model has no column 'größe'", said.complaints)
 
 
 class Reports(unittest.TestCase):

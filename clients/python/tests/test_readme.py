@@ -17,7 +17,7 @@ NEEDS = {"--with glpsol": "glpsol"}
 
 def commands(path: Path) -> "list[str]":
     blocks = re.findall(r"^```(\w*)\n(.*?)^```$", path.read_text(encoding="utf-8"), re.S | re.M)
-    return [line for language, block in blocks if not language for line in block.splitlines() if re.match("python3|sed|{ cat|./lpd solve", line)]
+    return [line for language, block in blocks if not language for line in block.splitlines() if re.match("python3|sed|{ awk|./lpd solve", line)]
 
 
 @unittest.skipUnless(has_program(), "the program is not built")

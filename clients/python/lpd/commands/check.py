@@ -1,41 +1,98 @@
-"""python3 -m lpd check MODEL [CERTIFICATE]: whether a certificate is accepted, and if not, what fails."""
+"""python3 -m lpd check MODEL [CERTIFICATE]: whether a certificate is accepted and shows what is claimed, and if not, what fails."""
 from __future__ import annotations
 
 import argparse
+import re
+from typing import Dict, List, Optional, Tuple
 
-from ..certificate import check
-from ..model import lines_of
-from ..number_text import number, shown
-from ..replies import Optimal, Rejected
-from .common import as_text, read
+from ..certificate import check_lines
+from ..errors import LpdError
+from ..model import lines_of, read_lines, words_of
+from ..number_text import NotANumber, number, shown
+from ..replies import Accepted, Infeasible, Known, Optimal, Rejected, Unbounded
+from .common import as_text, read, tell
+
+OTHERS: Dict[str, Known] = {"INFEASIBLE": Infeasible(), "UNBOUNDED": Unbounded()}
+KINDS = ("OPTIMAL", "INFEASIBLE", "UNBOUNDED", "CLASH")
+# The last line of a text that has no final newline, and the certificate behind it.
+JOINED = re.compile(rf"^ENDATA(?=(?:OPTIMAL|INFEASIBLE|UNBOUNDED|CLASH [^\n]*)(?: [^ \n]*)?\r?$)", re.M)
+
+
+class NoClaim(LpdError):
+    """What is given as an answer is none that a certificate shows."""
 
 
 def add(commands: "argparse._SubParsersAction[argparse.ArgumentParser]") -> None:
     checks = commands.add_parser("check", help="checks anyone's certificate for a model, exactly")
     checks.set_defaults(run=run)
     checks.add_argument("model", help="a file of MPS text, or - for standard input")
-    checks.add_argument("certificate", nargs="?", help="a file; without it the certificate comes after ENDATA in the model's file")
+    told = "a file: a certificate, or what lpd solve or lpd basis printed; without it that comes after ENDATA in the model's file"
+    checks.add_argument("certificate", nargs="?", help=told)
     checks.add_argument("--form", choices=["free", "fixed"], default="free")
-    checks.add_argument("--claim", metavar="VALUE", help="the optimal value has to be this one, exactly")
+    claim = "what the certificate has to show, exactly: the optimal value, INFEASIBLE or UNBOUNDED"
+    checks.add_argument("--claim", metavar="ANSWER", help=claim)
     checks.add_argument("--wide", action="store_true", help="numbers of any width")
 
 
-def without_comments(certificate: str) -> str:
-    """A certificate without blank lines and lines that begin with #, which people write into it."""
-    return "".join(f"{line}\n" for line in lines_of(certificate) if line.strip() and not line.startswith("#"))
+def answer_of(claim: str, wide: bool = True) -> Known:
+    """What is claimed: an answer, or an optimal value alone."""
+    words = words_of(claim)
+    if len(words) == 1 and words[0].upper() in OTHERS:
+        return OTHERS[words[0].upper()]
+    if words[:1] and words[0].upper() == "OPTIMAL":
+        del words[0]
+    try:
+        return Optimal(number(" ".join(words), wide))
+    except NotANumber:
+        raise NoClaim(f"the claim {claim!r} is no answer: give a value as 92.5 or 185/2, INFEASIBLE or UNBOUNDED") from None
+
+
+def with_newline(text: str) -> str:
+    """The text with the newline that it lacks where a certificate was put behind a text without one."""
+    joined = JOINED.sub("ENDATA\n", text)
+    if joined != text:
+        tell("note: the model's text has no newline behind ENDATA, and is read as if it had one")
+    return joined
+
+
+def parted(lines: List[str]) -> Tuple[Optional[Known], List[str]]:
+    """The answer that stands in front of a certificate, as lpd solve and lpd basis print it, and the certificate."""
+    words = words_of(lines[0]) if lines else []
+    behind = lines[2:] if len(lines) > 1 and "PIVOTS" in words_of(lines[1]) else lines[1:]
+    if words[:1] and words[0] in ("PAST", "SPENT") and not behind:
+        raise NoClaim(f"{lines[0]} is an answer without a certificate: there is nothing to check")
+    follows = bool(behind) and words_of(behind[0])[:1] != [] and words_of(behind[0])[0] in KINDS
+    if follows and (len(words) == 2 and words[0] == "OPTIMAL" or words in (["INFEASIBLE"], ["UNBOUNDED"])):
+        return answer_of(lines[0]), behind
+    return None, lines
+
+
+def without_comments(certificate: str) -> List[str]:
+    """The lines of a certificate without blank ones and those that begin with #, which people write into it."""
+    return [line for line in lines_of(certificate) if line.strip() and not line.startswith("#")]
 
 
 def run(words: argparse.Namespace) -> int:
-    certificate = None if words.certificate is None else without_comments(as_text(read(words.certificate)))
-    verdict = check(as_text(read(words.model)), certificate, words.form == "fixed", words.wide)
-    print(verdict)
+    claims = [] if words.claim is None else [answer_of(words.claim)]
+    lines = lines_of(with_newline(as_text(read(words.model))))
+    model, count = read_lines(lines, words.form == "fixed", words.wide)
+    given = lines[count:] if words.certificate is None else without_comments(as_text(read(words.certificate)))
+    printed, certificate = parted(given)
+    verdict = check_lines(model, certificate, words.wide)
     if isinstance(verdict, Rejected):
         why = verdict.why or ""
-        print(f"{why[:1].upper()}{why[1:]}.")
+        print(f"{verdict}\n{why[:1].upper()}{why[1:]}.")
         return 1
-    if words.claim is not None:
-        claimed = number(words.claim, wide=True)
-        if verdict.known != Optimal(claimed):
-            print(f"The claimed value is {shown(claimed)}.")
-            return 1
+    other = next((claim for claim in [*claims, *([printed] if printed else [])] if claim != verdict.known), None)
+    if other is not None:
+        print(f"NO CLAIM\n{told(verdict, other)}")
+        return 1
+    print(verdict)
     return 0
+
+
+def told(verdict: Accepted, claim: Known) -> str:
+    """How what is claimed differs from what an accepted certificate shows."""
+    known = verdict.known
+    off = f", which is off by {shown(claim.value - known.value)}" if isinstance(claim, Optimal) and isinstance(known, Optimal) else ""
+    return f"The certificate is accepted and shows {known}, and the claim is {claim}{off}."
