@@ -10,7 +10,7 @@ from dataclasses import dataclass, field, replace
 from typing import Callable, Dict, Iterator, List, NamedTuple, Optional, Sequence, Set, Tuple
 
 from .errors import LpdError, TextFault
-from .model import FIELDS, GAPS, SECTIONS, SENSES, Model, is_name, lines_of, read_lines, words_of
+from .model import FIELDS, GAPS, SECTIONS, SENSES, Fault, Model, Reader, is_name, lines_of, read_lines, words_of
 from .names import Renamed, renamed
 from .number_text import NotANumber, parse
 
@@ -504,9 +504,13 @@ class Converter:
             card.set = of_sets.get(card.set, card.set) if card.set else None
             card.pairs = [(of_rows.get(row, row), number) for row, number in card.pairs]
 
+    def shown(self, encoding: str) -> List[str]:
+        """The lines of the text, in which characters stand for bytes."""
+        return [card.shown().encode(encoding, "replace").decode("latin-1") for card in self.read.cards]
+
     def converted(self, encoding: str, has_mark: bool) -> Converted:
         """The text, in which characters stand for bytes, and the model that it spells."""
-        lines = [card.shown().encode(encoding, "replace").decode("latin-1") for card in self.read.cards]
+        lines = self.shown(encoding)
         numbers = [card.line for card in self.read.cards]
         try:
             model, _ = read_lines(lines, wide=self.options.wide)
@@ -530,8 +534,34 @@ class Converter:
 def of_form(data: bytes, fixed: bool, options: Options) -> Converted:
     text, encoding, has_mark = decoded(data)
     converter = Converter(text, fixed, options)
-    converter.run()
-    return converter.converted(encoding, has_mark)
+    try:
+        converter.run()
+        return converter.converted(encoding, has_mark)
+    except TextFault as fault:
+        raise as_the_program(fault, lines_of(text), fixed, encoding, options.wide) from None
+
+
+def as_the_program(fault: TextFault, lines: List[str], fixed: bool, encoding: str, wide: bool) -> TextFault:
+    """The fault as the program has it, which reads the lines before it as they were converted, and its own as it stands: a line
+    that is wrong in each dialect is told by the profile's rule, and one before it that only the profile's reader sees is first."""
+    if fault.line > len(lines):
+        return fault
+    before = Converter("".join(f"{line}\n" for line in lines[: fault.line - 1]), fixed, Options(True, "own", "none", wide))
+    try:
+        before.run()
+    except (TextFault, Unconvertible, Question):
+        return fault
+    numbers, reader = [card.line for card in before.read.cards], Reader(wide=wide)
+    text = lines[fault.line - 1].encode(encoding, "replace").decode("latin-1")
+    for number, line in [*zip(numbers, before.shown(encoding)), (fault.line, text)]:
+        reader.fixed = fixed and number == fault.line
+        try:
+            reader.feed(line)
+        except Fault as found:
+            if number < fault.line:
+                return as_the_program(TextFault(number, found.number, lines[number - 1]), lines, fixed, encoding, wide)
+            return fault if before.names else TextFault(number, found.number, lines[number - 1])
+    return fault
 
 
 def convert(data: bytes, form: Optional[str] = None, options: Options = Options()) -> Converted:
