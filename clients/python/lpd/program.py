@@ -1,10 +1,13 @@
 """The program `lpd run` as a process that replies as lines come."""
 from __future__ import annotations
 
+import functools
 import os
+import select
 import shutil
 import subprocess
 import tempfile
+import time
 from pathlib import Path
 from types import TracebackType
 from typing import IO, List, Optional, Sequence, Tuple, Type
@@ -13,6 +16,8 @@ from .errors import ProgramEnded, ProgramMissing, Unexpected
 
 REPOSITORY = Path(__file__).resolve().parents[3]
 SESSIONS = 64
+# A program that is asked for nothing but BYE, or whose input has ended, has so many seconds.
+SECONDS = 10.0
 
 
 def home() -> Tuple[Optional[Path], str]:
@@ -25,12 +30,59 @@ def home() -> Tuple[Optional[Path], str]:
 
 
 def find_program() -> str:
-    """The program that $LPD names, or that this repository or this unpacked release has, or that is on the path as lpd."""
+    """The program that $LPD names, or that this repository or this unpacked release has, or that is on the path as lpd.
+    Where it is not lpd, ProgramMissing says what it did instead, within seconds."""
     place, help = home()
-    found = os.environ.get("LPD") or (str(place) if place and os.access(place, os.X_OK) else shutil.which("lpd"))
+    named = os.environ.get("LPD")
+    found = named or (str(place) if place and os.access(place, os.X_OK) else shutil.which("lpd"))
     if not found:
         raise ProgramMissing(f"there is no program lpd: {help}, or name it in the environment variable LPD")
+    wrong = wrong_about(found)
+    if wrong:
+        said = "is what the environment variable LPD names, and" if named else "is"
+        raise ProgramMissing(f"{found} {said} not lpd: {wrong}")
     return found
+
+
+@functools.lru_cache(maxsize=None)
+def wrong_about(path: str) -> str:
+    """What a program does instead of what lpd does with a session that quits at once; nothing where it is lpd."""
+    try:
+        process = subprocess.Popen([path, "run"], stdin=subprocess.PIPE, stdout=subprocess.PIPE, stderr=subprocess.DEVNULL)
+    except OSError as error:
+        return f"it does not start ({error.strerror})"
+    try:
+        asked, replied = process.stdin, process.stdout
+        if asked is None or replied is None:
+            return "it has no pipes"
+        try:
+            asked.write(b"1 QUIT\n")
+            asked.close()
+        except BrokenPipeError:
+            pass  # what it wrote says more
+        said = first_bytes(replied, 64)
+    finally:
+        process.kill()
+        process.wait()
+        if process.stdout is not None:
+            process.stdout.close()
+    if said is None:
+        return f"it does not reply to '1 QUIT' within {SECONDS:g} seconds"
+    return "" if said == b"1 BYE\n" else f"it replies {said.decode('latin-1')[:40]!r} to '1 QUIT'"
+
+
+def first_bytes(source: IO[bytes], most: int) -> Optional[bytes]:
+    """The first bytes that come until the end, or None where neither comes in time."""
+    got, end = b"", time.monotonic() + SECONDS
+    while len(got) < most:
+        ready, _, _ = select.select([source], [], [], max(0.0, end - time.monotonic()))
+        if not ready:
+            return None
+        piece = os.read(source.fileno(), most - len(got))
+        if not piece:
+            break
+        got += piece
+    return got
 
 
 class Program:
@@ -79,16 +131,24 @@ class Program:
         return line[:-1].decode("latin-1")
 
     def close(self) -> None:
-        """Ends the input of the program, and waits for its end."""
+        """Ends the input of the program, and waits for its end. One that still works on what nobody waits for is ended."""
         source, sink = self.pipes()
         if not source.closed:
             try:
                 source.close()
             except BrokenPipeError:
                 pass
-            self.process.wait()
+            self.wait()
             sink.close()
             self.complaints.close()
+
+    def wait(self) -> int:
+        """The status of the program, which ends by itself within seconds, or is ended."""
+        try:
+            return self.process.wait(SECONDS / 2)
+        except subprocess.TimeoutExpired:
+            self.process.kill()
+            return self.process.wait()
 
     def pipes(self) -> "tuple[IO[bytes], IO[bytes]]":
         if self.process.stdin is None or self.process.stdout is None:
@@ -97,11 +157,7 @@ class Program:
 
     def ended(self) -> ProgramEnded:
         """Why there is no reply. The program has ended, or it is ended here."""
-        try:
-            status: Optional[int] = self.process.wait(timeout=5)
-        except subprocess.TimeoutExpired:
-            self.process.kill()
-            status = self.process.wait()
+        status = self.wait()
         said = b""
         if not self.complaints.closed:
             self.complaints.seek(0)

@@ -1,8 +1,13 @@
 """Sessions and the command over the program itself, where it is built."""
 import json
+import os
+import subprocess
+import sys
+import tempfile
 import unittest
 from fractions import Fraction
 from pathlib import Path
+from unittest import mock
 
 import lpd
 from lpd.program import find_program
@@ -15,6 +20,41 @@ try:
     PROGRAM = find_program()
 except lpd.ProgramMissing:
     PROGRAM = ""
+
+
+class AnotherProgram(unittest.TestCase):
+    """What $LPD names and is not lpd is told within seconds."""
+
+    def told(self, text: str, seconds: float = 10) -> str:
+        with tempfile.TemporaryDirectory() as folder:
+            path = Path(folder) / "other"
+            path.write_text(f"#!/bin/sh\n{text}\n")
+            path.chmod(0o755)
+            code = "import sys, lpd.program as p; from lpd.__main__ import main; p.SECONDS = float(sys.argv[1]); sys.exit(main(sys.argv[2:]))"
+            words = [sys.executable, "-c", code, str(seconds), "solve", str(MODELS / "diet.mps")]
+            said = subprocess.run(words, env={**os.environ, "LPD": str(path)}, capture_output=True, text=True, timeout=60)
+            self.assertEqual((said.returncode, said.stdout), (3, ""), said.stderr)
+            self.assertIn("not lpd", said.stderr)
+            return said.stderr
+
+    def test_one_that_writes_without_end(self) -> None:
+        self.assertIn("it replies 'run", self.told("exec yes run"))
+
+    def test_one_that_repeats(self) -> None:
+        self.assertIn("it replies '1 QUIT", self.told("exec cat"))
+
+    def test_one_that_is_silent(self) -> None:
+        self.assertIn("it does not reply", self.told("exec sleep 100", 1))
+
+    def test_one_that_fails(self) -> None:
+        self.assertIn("it replies ''", self.told("exit 1"))
+
+    def test_a_session_that_is_left_in_mid_answer(self) -> None:
+        program = lpd.Program(str(Path(__file__).with_name("busy.sh")))
+        program.send(b"1 SOLVE\n")
+        with mock.patch("lpd.program.SECONDS", 0.2):
+            program.close()
+        self.assertIsNotNone(program.process.returncode)
 
 
 @unittest.skipUnless(PROGRAM, "the program is not built")
