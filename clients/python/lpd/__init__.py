@@ -46,6 +46,7 @@ from .model import Model, read_model
 from .program import Program, run
 from .replies import Accepted, Answer, Infeasible, Loaded, Optimal, Past, Rejected, Spent, Unbounded, Verdict
 from .replies import Basis, Cold, Fell, Found, Full, Published, Raced, Same, Unpublished
+from .report import ColumnReport, Conflict, ConflictRow, Report, RowReport, conflict, report
 from .session import Session, connect
 
 __all__ = [
@@ -59,6 +60,9 @@ __all__ = [
     "CertificateFault",
     "Certified",
     "Cold",
+    "ColumnReport",
+    "Conflict",
+    "ConflictRow",
     "ConnectFailed",
     "Converted",
     "Fell",
@@ -92,6 +96,8 @@ __all__ = [
     "Raced",
     "Refused",
     "Rejected",
+    "Report",
+    "RowReport",
     "Same",
     "Session",
     "Spent",
@@ -105,9 +111,11 @@ __all__ = [
     "Verdict",
     "certify",
     "check",
+    "conflict",
     "connect",
     "convert",
     "read_model",
+    "report",
     "run",
     "solve_from",
 ]

@@ -1,6 +1,9 @@
-"""What an answer says of a model, as a planner reads it: columns with values, rows with sums, slacks and prices."""
+"""What an answer says of a model, as a planner reads it: columns with values, rows with sums, slacks and prices, and which rows
+contradict each other."""
 from __future__ import annotations
 
+import functools
+import math
 from dataclasses import dataclass
 from fractions import Fraction
 from typing import Dict, List, Optional, Sequence
@@ -62,17 +65,70 @@ def report(model: Model, certificate: Sequence[str]) -> Report:
     return Report(columns, rows)
 
 
-def conflict(model: Model, certificate: Sequence[str]) -> str:
-    """Why there is no feasible point, as a sentence, by a certificate of it."""
+@dataclass(frozen=True)
+class ConflictRow:
+    """A row of a conflict: how often it counts in the combination, whether by its lower limit, and that limit."""
+
+    name: str
+    multiplier: Fraction
+    is_lower: bool
+    limit: Fraction
+
+    def __str__(self) -> str:
+        return f"{self.name} is at {'least' if self.is_lower else 'most'} {shown(self.limit)}"
+
+
+@dataclass(frozen=True)
+class Conflict:
+    """Why there is no feasible point: the rows, each times its multiplier, ask for `asked` at least, and the bounds of the columns
+    allow `allowed` at most, which is less. The multipliers are whole numbers without a common divisor. Or else `column` has
+    a lower bound above its upper one, and these are the two."""
+
+    rows: List[ConflictRow]
+    asked: Fraction
+    allowed: Fraction
+    column: Optional[str] = None
+
+    def __str__(self) -> str:
+        asked, allowed = shown(self.asked), shown(self.allowed)
+        if self.column is not None:
+            return f"Column {self.column} has the lower bound {asked} above its upper bound {allowed}."
+        if len(self.rows) == 1:
+            row, times = self.rows[0], abs(self.rows[0].multiplier)
+            most = shown(self.allowed / times if row.is_lower else -self.allowed / times)
+            if row.is_lower:
+                return f"Row {row.name} asks for {shown(row.limit)} at least, and the bounds of the columns allow {most} at most."
+            return f"Row {row.name} allows {shown(row.limit)} at most, and the bounds of the columns ask for {most} at least."
+        rows = "".join(f"\n  {row}" for row in self.rows)
+        terms = [f"{'-' if row.multiplier < 0 else '+'} {times_of(row)}{row.name}" for row in self.rows]
+        sum_of = " ".join(terms)[2:] if self.rows[0].is_lower else " ".join(terms)
+        together = f"Together, as {sum_of}, they ask for {asked} at least, and the bounds of the columns allow {allowed} at most."
+        return f"These rows contradict each other:{rows}\n{together}"
+
+
+def times_of(row: ConflictRow) -> str:
+    times = abs(row.multiplier)
+    return "" if times == 1 else f"{shown(times)} "
+
+
+def conflict(model: Model, certificate: Sequence[str]) -> Conflict:
+    """Why there is no feasible point, by a certificate of it, in the numbers of the model."""
     found = read_certificate(certificate, wide=True)
     if found.column is not None:
         lower, upper = model.columns[found.column].limits()
-        return f"Column {found.column} has the lower bound {text_of(lower)} above its upper bound {text_of(upper)}."
-    y = {name: value for name, value in matched(model, found)["y"].items() if value}
-    asked = sum((value * (side_of(model.rows[name].limits(), value) or ZERO) for name, value in y.items()), ZERO)
-    given = sum((most_of(model, y, name) for name in model.columns), ZERO)
-    terms = " + ".join(f"{shown(value)} times {name}" for name, value in y.items())
-    return f"These rows contradict each other: {terms} requires at least {shown(asked)}, and the bounds of the columns allow at most {shown(given)}."
+        return Conflict([], lower or ZERO, upper or ZERO, found.column)
+    y = without_fractions({name: value for name, value in matched(model, found)["y"].items() if value})
+    rows = [ConflictRow(name, value, value > 0, side_of(model.rows[name].limits(), value) or ZERO) for name, value in y.items()]
+    rows.sort(key=lambda row: not row.is_lower)
+    asked = sum((row.multiplier * row.limit for row in rows), ZERO)
+    return Conflict(rows, asked, sum((most_of(model, y, name) for name in model.columns), ZERO))
+
+
+def without_fractions(values: Dict[str, Fraction]) -> Dict[str, Fraction]:
+    """The same numbers but for a factor above 0: whole ones without a common divisor."""
+    bottom = functools.reduce(lambda a, b: a * b // math.gcd(a, b), (value.denominator for value in values.values()), 1)
+    top = functools.reduce(math.gcd, (int(value * bottom) for value in values.values()), 0)
+    return {name: value * bottom / (top or 1) for name, value in values.items()}
 
 
 def side_of(limits: Limits, sign: Fraction) -> Optional[Fraction]:
@@ -83,7 +139,3 @@ def most_of(model: Model, y: Dict[str, Fraction], name: str) -> Fraction:
     """The most that a column gives to the combination of the rows."""
     part = model.priced(y, name)
     return part * (side_of(model.columns[name].limits(), -part) or ZERO)
-
-
-def text_of(value: Optional[Fraction]) -> str:
-    return "none" if value is None else shown(value)

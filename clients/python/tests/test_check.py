@@ -7,7 +7,6 @@ from pathlib import Path
 
 import lpd
 from lpd.number_text import number, shown
-from lpd.report import conflict, report
 
 from .commands import Said, command
 
@@ -146,7 +145,7 @@ class TheCommand(unittest.TestCase):
 class Reports(unittest.TestCase):
     def test_prices(self) -> None:
         model = lpd.read_model(LEAST)
-        found = report(model, ["OPTIMAL", "x a 1", "y R1 1", "END"])
+        found = lpd.report(model, ["OPTIMAL", "x a 1", "y R1 1", "END"])
         self.assertEqual([(c.name, c.value, c.reduced_cost) for c in found.columns], [("a", 1, 0), ("b", 0, 1)])
         self.assertEqual([(r.name, r.activity, r.slack, r.price) for r in found.rows], [("R1", 1, 0, 1)])
 
@@ -154,9 +153,26 @@ class Reports(unittest.TestCase):
         text = "OBJSENSE MAX\nROWS\n N gain\n L R1\nCOLUMNS\n x gain 2 R1 1\nRHS\n R1 3\nENDATA\n"
         certificate = ["OPTIMAL", "x x 3", "y R1 -2", "END"]
         self.assertEqual(str(lpd.check(text, "\n".join(certificate) + "\n")), "YES OPTIMAL 6")
-        self.assertEqual(report(lpd.read_model(text), certificate).rows[0].price, 2)
+        self.assertEqual(lpd.report(lpd.read_model(text), certificate).rows[0].price, 2)
 
-    def test_a_conflict_in_words(self) -> None:
+    def test_a_conflict_of_rows(self) -> None:
         text = "ROWS\n N cost\n L R1\n G R2\nCOLUMNS\n x R1 1 R2 1\nRHS\n R1 1 R2 2\nENDATA\n"
-        words = conflict(lpd.read_model(text), ["INFEASIBLE", "y R1 -1", "y R2 1", "END"])
-        self.assertEqual(words, "These rows contradict each other: -1 times R1 + 1 times R2 requires at least 1, and the bounds of the columns allow at most 0.")
+        found = lpd.conflict(lpd.read_model(text), ["INFEASIBLE", "y R1 -1/7", "y R2 1/7", "END"])
+        self.assertEqual(
+            str(found),
+            "These rows contradict each other:\n  R2 is at least 2\n  R1 is at most 1\n"
+            "Together, as R2 - R1, they ask for 1 at least, and the bounds of the columns allow 0 at most.",
+        )
+
+    def test_a_conflict_with_the_columns(self) -> None:
+        text = (EXAMPLES / "models" / "diet.mps").read_text().replace("energy 2000", "energy 5000")
+        found = lpd.conflict(lpd.read_model(text), ["INFEASIBLE", "y energy 1/205", "END"])
+        self.assertEqual(str(found), "Row energy asks for 5000 at least, and the bounds of the columns allow 4015 at most.")
+        text = "ROWS\n N c\n L r\nCOLUMNS\n x r 2\nRHS\n r 3\nBOUNDS\n LO B x 5\nENDATA\n"
+        found = lpd.conflict(lpd.read_model(text), ["INFEASIBLE", "y r -1/3", "END"])
+        self.assertEqual(str(found), "Row r allows 3 at most, and the bounds of the columns ask for 10 at least.")
+
+    def test_a_conflict_of_bounds(self) -> None:
+        text = "ROWS\n N c\nCOLUMNS\n x c 2\nBOUNDS\n LO B x 5\n UP B x 4.5\nENDATA\n"
+        found = lpd.conflict(lpd.read_model(text), ["CLASH x", "END"])
+        self.assertEqual(str(found), "Column x has the lower bound 5 above its upper bound 4.5.")
