@@ -7,7 +7,7 @@ from typing import List, Optional, Sequence
 
 from .errors import ProgramEnded, ProgramMissing, Refused, Unexpected, refusal
 from .model import words_of
-from .program import find_program
+from .program import the_program
 from .replies import Answer, Spent
 from .session import FALLS, body_of, count_of, encoded, known_of, past_of
 
@@ -55,7 +55,7 @@ def solve_from(text: str, basis: Sequence[str], path: Optional[str] = None) -> F
     """The answer to a text of the profile in free form from the basis of a file, by its lines. A text or a file that is
     refused raises what `errors` has for it, and a program without the command ProgramEnded with status 2."""
     body = body_of(text, fixed=False)
-    program = path or find_program()
+    program = path or the_program()
     try:
         done = subprocess.run([program, "basis"], input=encoded([*body, *basis]), capture_output=True)
     except OSError as error:

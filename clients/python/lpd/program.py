@@ -30,17 +30,21 @@ def home() -> Tuple[Optional[Path], str]:
 
 
 def find_program() -> str:
-    """The program that $LPD names, or that this repository or this unpacked release has, or that is on the path as lpd.
-    Where it is not lpd, ProgramMissing says what it did instead, within seconds."""
+    """The program that $LPD names, or that this repository or this unpacked release has, or that is on the path as lpd."""
     place, help = home()
-    named = os.environ.get("LPD")
-    found = named or (str(place) if place and os.access(place, os.X_OK) else shutil.which("lpd"))
+    found = os.environ.get("LPD") or (str(place) if place and os.access(place, os.X_OK) else shutil.which("lpd"))
     if not found:
         raise ProgramMissing(f"there is no program lpd: {help}, or name it in the environment variable LPD")
+    return found
+
+
+def the_program() -> str:
+    """The program that is found. Where it is not lpd, ProgramMissing says within seconds what it did instead."""
+    found = find_program()
     wrong = wrong_about(found)
     if wrong:
-        said = "is what the environment variable LPD names, and" if named else "is"
-        raise ProgramMissing(f"{found} {said} not lpd: {wrong}")
+        named = ", which the environment variable LPD names," if found == os.environ.get("LPD") else ""
+        raise ProgramMissing(f"{found}{named} is not lpd: {wrong}")
     return found
 
 
@@ -89,7 +93,7 @@ class Program:
     """A running `lpd run`, which holds up to 64 sessions. As a context manager it ends the program."""
 
     def __init__(self, path: Optional[str] = None) -> None:
-        self.path = path or find_program()
+        self.path = path or the_program()
         self.complaints = tempfile.TemporaryFile()
         try:
             self.process = subprocess.Popen([self.path, "run"], stdin=subprocess.PIPE, stdout=subprocess.PIPE, stderr=self.complaints)
@@ -167,7 +171,7 @@ class Program:
 
 def run(script: str, path: Optional[str] = None) -> str:
     """The output of a whole script. A status other than 0 raises ProgramEnded."""
-    done = subprocess.run([path or find_program(), "run"], input=script.encode("latin-1"), capture_output=True)
+    done = subprocess.run([path or the_program(), "run"], input=script.encode("latin-1"), capture_output=True)
     if done.returncode:
         raise ProgramEnded(done.returncode, done.stderr.decode("latin-1").strip())
     return done.stdout.decode("latin-1")
