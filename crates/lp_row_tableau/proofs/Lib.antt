@@ -1,0 +1,9 @@
+pub mod Chosen
+pub mod Flipped
+pub mod Kept
+pub mod Lasts
+pub mod Made
+pub mod Numbers
+pub mod Pivoted
+pub mod Stops
+pub mod Whole

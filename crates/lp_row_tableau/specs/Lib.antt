@@ -1,0 +1,5 @@
+pub mod Shows
+pub mod Steps
+pub mod Stops
+pub mod Moves
+pub mod Changes
