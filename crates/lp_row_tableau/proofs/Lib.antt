@@ -1,9 +1,13 @@
 pub mod Chosen
+pub mod Converted
 pub mod Flipped
+pub mod Held
 pub mod Kept
 pub mod Lasts
+pub mod Lists
 pub mod Made
 pub mod Numbers
 pub mod Pivoted
+pub mod SameNumbers
 pub mod Stops
 pub mod Whole

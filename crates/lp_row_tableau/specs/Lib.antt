@@ -3,3 +3,4 @@ pub mod Steps
 pub mod Stops
 pub mod Moves
 pub mod Changes
+pub mod Held

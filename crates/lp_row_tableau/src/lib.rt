@@ -1,4 +1,5 @@
-//! Tableaus over rows of whole numbers: what a step of the primal method does, and the step.
+//! Tableaus over rows of whole numbers: what a step of the primal method does, and the step; the start from a tableau of
+//! fractions, and the same rows in wider words.
 //!
 //! Contracts speak of each tableau of exact fractions that the rows show (specs/Shows): no number has a limit there.
 //! What is past the width of the words is no answer, and then nothing is promised.
@@ -9,18 +10,25 @@
 //! | `Step`, `next_step` | what a step of the primal method does; that of a tableau, by the ratio test of src/ratio | src/choice |
 //! | `make` | the flip or the pivot of a step, over src/moves: what it does to rows | src/pivot |
 //! | `is_roomy` | a guess whether a step will stay within the width | src/room |
+//! | `from_tableau` | the rows of a tableau of fractions | src/convert |
+//! | `widened` | the same rows in words of twice the width | src/widen |
 //! | `Shows` | which tableau of exact fractions the rows are | specs/Shows |
 //! | `IsFlipped`, `IsPivoted` | a tableau of rows before and after a flip, and before and after a pivot | specs/Changes |
 #![tactic(auto)]
 
 mod choice;
+mod common;
+mod convert;
 mod moves;
 mod pivot;
 mod ratio;
 mod room;
 mod tableau;
+mod widen;
 
 pub use choice::{Step, next_step};
+pub use convert::from_tableau;
 pub use pivot::make;
 pub use room::is_roomy;
 pub use tableau::RowTableau;
+pub use widen::widened;
