@@ -1,3 +1,5 @@
+pub mod Asks
+pub mod Begun
 pub mod Chosen
 pub mod Converted
 pub mod Flipped
@@ -10,4 +12,5 @@ pub mod Numbers
 pub mod Pivoted
 pub mod SameNumbers
 pub mod Stops
+pub mod Taken
 pub mod Whole

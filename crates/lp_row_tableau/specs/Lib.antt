@@ -4,3 +4,4 @@ pub mod Stops
 pub mod Moves
 pub mod Changes
 pub mod Held
+pub mod Second
