@@ -10,6 +10,7 @@ pub mod Lists
 pub mod Made
 pub mod Numbers
 pub mod Pivoted
+pub mod Read
 pub mod SameNumbers
 pub mod Stops
 pub mod Taken

@@ -3,5 +3,6 @@ pub mod Steps
 pub mod Stops
 pub mod Moves
 pub mod Changes
+pub mod Ends
 pub mod Held
 pub mod Second

@@ -1,5 +1,5 @@
-//! Tableaus over rows of whole numbers: what a step does, and the step; the start from a tableau of fractions, and phase
-//! two.
+//! Tableaus over rows of whole numbers: what a step does, and the step; the start from a tableau of fractions, phase
+//! two, and the certificate and the basis of an end.
 //!
 //! Contracts speak of each tableau of exact fractions that the rows show (specs/Shows): no number has a limit there.
 //! What is past the width of the words is no answer, and then nothing is promised.
@@ -13,6 +13,7 @@
 //! | `from_tableau` | the rows of a tableau of fractions | src/convert |
 //! | `widened` | the same rows in words of twice the width | src/widen |
 //! | `wants_phase_one`, `is_stuck`, `phase_two` | what the phases ask, and the reduced costs of the second | src/phases |
+//! | `certificate`, `basis` | the certificate and the basis of an end | src/ends |
 //! | `Shows` | which tableau of exact fractions the rows are | specs/Shows |
 //! | `IsFlipped`, `IsPivoted` | a tableau of rows before and after a flip, and before and after a pivot | specs/Changes |
 #![tactic(auto)]
@@ -20,6 +21,7 @@
 mod choice;
 mod common;
 mod convert;
+mod ends;
 mod moves;
 mod phases;
 mod pivot;
@@ -31,6 +33,7 @@ mod widen;
 
 pub use choice::{Step, next_step};
 pub use convert::from_tableau;
+pub use ends::{basis, certificate};
 pub use phases::{is_stuck, phase_two, wants_phase_one};
 pub use pivot::make;
 pub use room::is_roomy;

@@ -1,0 +1,13 @@
+-- The moves so far, each of at most 127 bits.
+use Rattle.std.proofs.Common.{◌≡◌, All}
+use Rattle.spec_exact.specs.Narrow.{IsNarrow}
+use Rattle.spec_exact.specs.Run.{made}
+use Rattle.spec_simplex.specs.Tableau.{Tableau}
+use Rattle.spec_cold.specs.Cold.{moves_by}
+use Rattle.lp_row_tableau.specs.Shows.{Shows}
+use Rattle.lp_row_tableau.proofs.ends.direction.Given as goal
+
+abbrev pub invariant-loop-k : goal.invariant-loop-k
+invariant-loop-k g l =
+    ((t : Tableau) → Shows g.T.Words.value l.tab t →
+    l.direction ≡ made l.k (moves_by t l.j l.up)) × All IsNarrow l.direction

@@ -1,0 +1,11 @@
+-- The values so far, each of at most 127 bits.
+use Rattle.std.proofs.Common.{◌≡◌, All}
+use Rattle.spec_exact.specs.Narrow.{IsNarrow}
+use Rattle.spec_exact.specs.Run.{made}
+use Rattle.spec_simplex.specs.Tableau.{Tableau, value_at}
+use Rattle.lp_row_tableau.specs.Shows.{Shows}
+use Rattle.lp_row_tableau.proofs.ends.point.Given as goal
+
+abbrev pub invariant-loop-j : goal.invariant-loop-j
+invariant-loop-j g l =
+    ((t : Tableau) → Shows g.T.Words.value l.tab t → l.point ≡ made l.j (value_at t)) × All IsNarrow l.point
