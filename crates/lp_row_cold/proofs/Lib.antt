@@ -1,0 +1,4 @@
+pub mod Reached
+pub mod OneStep
+pub mod BothPhases
+pub mod Widths

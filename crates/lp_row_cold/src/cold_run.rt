@@ -1,0 +1,304 @@
+// The run of a form: its start, and both phases at one width after the other.
+ghost use Rattle.std.specs.Prelude.{◌≡◌, ℕ, IfOk, IfSome, Ok, Some, None};
+ghost use Rattle.spec_model.specs.Model.{Model};
+ghost use Rattle.spec_simplex.specs.Form.{Form as Forms, form_of};
+ghost use Rattle.spec_simplex.specs.Tableau as tableaus;
+ghost use Rattle.spec_simplex.specs.Phases.{phases_run};
+ghost use Rattle.lp_frac.specs.Narrow.{largest};
+ghost use Rattle.lp_row_tableau.specs.Shows.{IsWhole, IsReached, Shows};
+ghost use Rattle.lp_row_cold.specs.Phases.{rest_run, HasCosts, IsReady, IsLeft};
+ghost use Rattle.lp_row_cold.specs.Cold.{start_run, EndsAs, IsNarrowEnd, LeavesAt, LeavesReady};
+
+use crate::phases::{Phase, PhasesPause, RowEnd, State, go_on};
+use lp_form::Form;
+use lp_frac::Stop;
+use lp_row_tableau::{from_tableau, wants_phase_one, widened};
+use lp_tableau::{Tableau, start_cold};
+use lp_wide::{Double, Words};
+use std::alloc::{AllocError, Global};
+
+type Words128 = Double<u64>;
+
+type Words256 = Double<Words128>;
+
+type Words512 = Double<Words256>;
+
+// How many words a run may change: some seconds of it.
+const WORK: u64 = 64_000_000;
+
+// What a width leaves.
+#[derive(Drop)]
+pub(crate) enum Left<T: Words> {
+    Ended(RowEnd),
+    /// The rows in wider words, from which to go on.
+    Wider(State<T>),
+    GaveUp,
+}
+
+// The state of the tableau that a form begins with. There is none where a number is past the width.
+fn begun<T: Words>(alloc: Global, tab: &Tableau) -> Result<Option<State<T>>, AllocError>
+    ensures run { (budget : ℕ) (f : Forms) → IsReached tab.now →
+        IfOk result (λ o. IfSome o (IsLeft T.value budget f (start_run budget f tab.now))) }
+    ensures ready { (f : Forms) → f.rows ≡ tab.now.rows → f.cols ≡ tab.now.cols →
+        IfOk result (λ o. IfSome o (IsReady T.value f)) }
+{
+    match from_tableau::<T>(alloc, tab)? {
+        Some(rows) => {
+            let phase = if wants_phase_one(&rows) {
+                Phase::One
+            } else {
+                Phase::Between
+            };
+            Ok(Some(State {
+                tab: rows,
+                phase,
+                used: 0,
+                work: WORK,
+            }))
+        }
+        None => Ok(None),
+    }
+}
+
+// The same state in wider words.
+fn wider<T: Words>(alloc: Global, state: &State<T>) -> Result<State<Double<T>>, AllocError>
+    requires { IsWhole T.value state.now.tab }
+    ensures run { (budget : ℕ) (f : Forms) (t : tableaus.Tableau) → IsReached t → Shows T.value state.now.tab t →
+        IfOk result (IsLeft ⟦<Double<T> as Words>⟧.value budget f
+        (rest_run budget f state.now.phase state.now.used t)) }
+    ensures ready { (f : Forms) → IsReady T.value f state.now →
+        IfOk result (IsReady ⟦<Double<T> as Words>⟧.value f) }
+{
+    Ok(State {
+        tab: widened(alloc, &state.tab)?,
+        phase: state.phase,
+        used: state.used,
+        work: state.work,
+    })
+}
+
+// Both phases at a width that is not the last one.
+fn at_width<T: Words>(
+    alloc: Global,
+    form: &Form,
+    budget: u64,
+    state: &mut State<T>,
+) -> Result<Left<Double<T>>, AllocError>
+    requires { IsReady T.value form.now state.old }
+    ensures run { (t : tableaus.Tableau) → HasCosts form.now → IsReached t → Shows T.value state.old.tab t →
+        IfOk result (LeavesAt ⟦<Double<T> as Words>⟧.value budget form.now
+        (rest_run budget form.now state.old.phase state.old.used t)) }
+    ensures ready { IfOk result (LeavesReady ⟦<Double<T> as Words>⟧.value form.now) }
+{
+    match go_on(alloc, form, state, budget, true)? {
+        PhasesPause::Ended(end) => Ok(Left::Ended(end)),
+        PhasesPause::Narrow => Ok(Left::Wider(wider(alloc, state)?)),
+        PhasesPause::GaveUp => Ok(Left::GaveUp),
+    }
+}
+
+// Both phases from where they stand, in the widest words.
+fn at_512(
+    alloc: Global,
+    form: &Form,
+    budget: u64,
+    state: &mut State<Words512>,
+) -> Result<Option<RowEnd>, AllocError>
+    requires { IsReady ⟦<Double<Double<Double<u64>>> as Words>⟧.value form.now state.old }
+    ensures run { (t : tableaus.Tableau) → HasCosts form.now → IsReached t →
+        Shows ⟦<Double<Double<Double<u64>>> as Words>⟧.value state.old.tab t →
+        IfOk result (EndsAs (rest_run budget form.now state.old.phase state.old.used t)) }
+    ensures narrow { IfOk result IsNarrowEnd }
+{
+    match go_on(alloc, form, state, budget, false)? {
+        PhasesPause::Ended(end) => Ok(Some(end)),
+        PhasesPause::Narrow | PhasesPause::GaveUp => Ok(None),
+    }
+}
+
+// The same from words of 256 bits on.
+fn from_256(
+    alloc: Global,
+    form: &Form,
+    budget: u64,
+    state: &mut State<Words256>,
+) -> Result<Option<RowEnd>, AllocError>
+    requires { IsReady ⟦<Double<Double<u64>> as Words>⟧.value form.now state.old }
+    ensures run { (t : tableaus.Tableau) → HasCosts form.now → IsReached t →
+        Shows ⟦<Double<Double<u64>> as Words>⟧.value state.old.tab t →
+        IfOk result (EndsAs (rest_run budget form.now state.old.phase state.old.used t)) }
+    ensures narrow { IfOk result IsNarrowEnd }
+{
+    match at_width(alloc, form, budget, state)? {
+        Left::Ended(end) => Ok(Some(end)),
+        Left::Wider(mut state) => {
+            let end = at_512(alloc, form, budget, &mut state);
+            drop(state);
+            end
+        }
+        Left::GaveUp => Ok(None),
+    }
+}
+
+// The same from words of 128 bits on.
+fn from_128(
+    alloc: Global,
+    form: &Form,
+    budget: u64,
+    state: &mut State<Words128>,
+) -> Result<Option<RowEnd>, AllocError>
+    requires { IsReady ⟦<Double<u64> as Words>⟧.value form.now state.old }
+    ensures run { (t : tableaus.Tableau) → HasCosts form.now → IsReached t →
+        Shows ⟦<Double<u64> as Words>⟧.value state.old.tab t →
+        IfOk result (EndsAs (rest_run budget form.now state.old.phase state.old.used t)) }
+    ensures narrow { IfOk result IsNarrowEnd }
+{
+    match at_width(alloc, form, budget, state)? {
+        Left::Ended(end) => Ok(Some(end)),
+        Left::Wider(mut state) => {
+            let end = from_256(alloc, form, budget, &mut state);
+            drop(state);
+            end
+        }
+        Left::GaveUp => Ok(None),
+    }
+}
+
+// The same from words of 64 bits on.
+fn from_64(
+    alloc: Global,
+    form: &Form,
+    budget: u64,
+    state: &mut State<u64>,
+) -> Result<Option<RowEnd>, AllocError>
+    requires { IsReady ⟦<u64 as Words>⟧.value form.now state.old }
+    ensures run { (t : tableaus.Tableau) → HasCosts form.now → IsReached t →
+        Shows ⟦<u64 as Words>⟧.value state.old.tab t →
+        IfOk result (EndsAs (rest_run budget form.now state.old.phase state.old.used t)) }
+    ensures narrow { IfOk result IsNarrowEnd }
+{
+    match at_width(alloc, form, budget, state)? {
+        Left::Ended(end) => Ok(Some(end)),
+        Left::Wider(mut state) => {
+            let end = from_128(alloc, form, budget, &mut state);
+            drop(state);
+            end
+        }
+        Left::GaveUp => Ok(None),
+    }
+}
+
+// From a start that needs the widest words.
+fn begun_512(
+    alloc: Global,
+    form: &Form,
+    budget: u64,
+    tab: &Tableau,
+) -> Result<Option<RowEnd>, AllocError>
+    requires rows { form.now.rows ≡ tab.now.rows }
+    requires cols { form.now.cols ≡ tab.now.cols }
+    ensures run { HasCosts form.now → IsReached tab.now →
+        IfOk result (EndsAs (start_run budget form.now tab.now)) }
+    ensures narrow { IfOk result IsNarrowEnd }
+{
+    match begun::<Words512>(alloc, tab)? {
+        Some(mut state) => {
+            let end = at_512(alloc, form, budget, &mut state);
+            drop(state);
+            end
+        }
+        None => Ok(None),
+    }
+}
+
+// From a start that needs words of 256 bits, or wider ones.
+fn begun_256(
+    alloc: Global,
+    form: &Form,
+    budget: u64,
+    tab: &Tableau,
+) -> Result<Option<RowEnd>, AllocError>
+    requires rows { form.now.rows ≡ tab.now.rows }
+    requires cols { form.now.cols ≡ tab.now.cols }
+    ensures run { HasCosts form.now → IsReached tab.now →
+        IfOk result (EndsAs (start_run budget form.now tab.now)) }
+    ensures narrow { IfOk result IsNarrowEnd }
+{
+    match begun::<Words256>(alloc, tab)? {
+        Some(mut state) => {
+            let end = from_256(alloc, form, budget, &mut state);
+            drop(state);
+            end
+        }
+        None => begun_512(alloc, form, budget, tab),
+    }
+}
+
+// From a start that needs words of 128 bits, or wider ones.
+fn begun_128(
+    alloc: Global,
+    form: &Form,
+    budget: u64,
+    tab: &Tableau,
+) -> Result<Option<RowEnd>, AllocError>
+    requires rows { form.now.rows ≡ tab.now.rows }
+    requires cols { form.now.cols ≡ tab.now.cols }
+    ensures run { HasCosts form.now → IsReached tab.now →
+        IfOk result (EndsAs (start_run budget form.now tab.now)) }
+    ensures narrow { IfOk result IsNarrowEnd }
+{
+    match begun::<Words128>(alloc, tab)? {
+        Some(mut state) => {
+            let end = from_128(alloc, form, budget, &mut state);
+            drop(state);
+            end
+        }
+        None => begun_256(alloc, form, budget, tab),
+    }
+}
+
+// From the start in words of 64 bits, or in the least ones that it fits.
+fn from_start(
+    alloc: Global,
+    form: &Form,
+    budget: u64,
+    tab: &Tableau,
+) -> Result<Option<RowEnd>, AllocError>
+    requires rows { form.now.rows ≡ tab.now.rows }
+    requires cols { form.now.cols ≡ tab.now.cols }
+    ensures run { HasCosts form.now → IsReached tab.now →
+        IfOk result (EndsAs (start_run budget form.now tab.now)) }
+    ensures narrow { IfOk result IsNarrowEnd }
+{
+    match begun::<u64>(alloc, tab)? {
+        Some(mut state) => {
+            let end = from_64(alloc, form, budget, &mut state);
+            drop(state);
+            end
+        }
+        None => begun_128(alloc, form, budget, tab),
+    }
+}
+
+/// The cold run over rows of whole numbers, within a budget of pivots and flips: from the form's start through both
+/// phases, with the certificate of the end.
+///
+/// For the form of a model it ends as the stated run with no limit on numbers, or has no end: where the start is past
+/// 127 bits, a number of a row past 512, or one of the certificate past 127, or where the budget is spent, or a bound
+/// on the work. Which of these it is, is not said, and nothing is promised of when they come. Only want of memory is an
+/// error.
+pub fn cold(alloc: Global, form: &Form, budget: u64) -> Result<Option<RowEnd>, AllocError>
+    ensures whole { (m : Model) → form_of (Some largest) m ≡ Ok form.now →
+        IfOk result (EndsAs (phases_run None budget form.now)) }
+    ensures narrow { IfOk result IsNarrowEnd }
+{
+    match start_cold(alloc, form) {
+        Ok(tab) => {
+            let end = from_start(alloc, form, budget, &tab);
+            drop(tab);
+            end
+        }
+        Err(Stop::Past(_)) => Ok(None),
+        Err(Stop::NoMemory) => Err(AllocError),
+    }
+}

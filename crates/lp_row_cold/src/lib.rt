@@ -1,0 +1,19 @@
+//! The cold run over rows of whole numbers: both phases of the simplex method, in words of 64 bits, and where a number
+//! does not fit, on from there in words of 128, 256 and 512.
+//!
+//! | Item | What it is | Where |
+//! |---|---|---|
+//! | `cold`, `RowEnd` | the run of a form within a budget, and what it ends with | src/cold_run, src/phases |
+//! | `go_on`, `State`, `Phase` | both phases at one width, from where they stand | src/phases |
+//! | `run` | steps at one width | src/steps |
+//!
+//! What the run ends with is the end of spec_simplex's `phases_run` without a limit. That it ends is not promised:
+//! numbers past the widest words, the budget and a bound on the work let it give up.
+#![tactic(auto)]
+
+mod cold_run;
+mod phases;
+mod steps;
+
+pub use cold_run::cold;
+pub use phases::RowEnd;
