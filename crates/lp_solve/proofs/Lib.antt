@@ -5,3 +5,4 @@ pub mod Pushed
 pub mod Runs
 pub mod Solved
 pub mod WarmRuns
+pub mod FromRows

@@ -1,4 +1,4 @@
-// The cold part of a solve: over factors and over whole tableaus.
+// The cold part of a solve: over rows of whole numbers, over factors and over whole tableaus.
 ghost use Rattle.std.specs.Prelude.{◌≡◌, IfOk, Ok, Some};
 ghost use Rattle.spec_simplex.specs.Form.{form_of};
 ghost use Rattle.spec_factor.specs.Over as over;
@@ -10,6 +10,7 @@ ghost use Rattle.lp_solve.specs.Fit.{IsFit};
 
 use crate::basis::basis_of;
 use crate::cold::{End, answered, from_form};
+use crate::rows::over_rows;
 use lp_form::Form;
 use lp_frac::Stop;
 use lp_model::Model;
@@ -135,8 +136,9 @@ fn stated_runs(alloc: Global, budget: u64, model: &Model, form: &Form) -> Result
     }
 }
 
-/// The cold part of a solve, with the whole budget: an answer of the cold solve without a limit, to which the checker
-/// says yes at 127 bits; or without one what the tableaus are refused, where the run over factors gives up too.
+/// The cold part of a solve, of which each run has the whole budget: an answer of the cold solve without a limit, to
+/// which the checker says yes at 127 bits, over rows of whole numbers or by a stated run; or without one what the
+/// tableaus are refused, where the run over factors gives up too.
 pub(crate) fn cold_part(
     alloc: Global,
     budget: u64,
@@ -147,5 +149,8 @@ pub(crate) fn cold_part(
     ensures answer { IfOk result (order.MayEndCold (Some largest) budget model.now) }
     ensures narrow { IfOk result (IsFit model.now) }
 {
-    stated_runs(alloc, budget, model, form)
+    match over_rows(alloc, budget, model, form)? {
+        Some(end) => Ok(end),
+        None => stated_runs(alloc, budget, model, form),
+    }
 }

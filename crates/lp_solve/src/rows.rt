@@ -1,0 +1,51 @@
+// The run over rows of whole numbers, and the check of its certificate.
+ghost use Rattle.std.specs.Prelude.{◌≡◌, IfOk, IfSome, Ok, Some, None};
+ghost use Rattle.spec_simplex.specs.Form.{form_of};
+ghost use Rattle.spec_simplex.specs.Eliminate.{IsBasisOf};
+ghost use Rattle.spec_check.specs.Certificate.{IsFor, IsNarrowCertificate};
+ghost use Rattle.spec_cold.specs.Cold as cold;
+ghost use Rattle.spec_solve.specs.Order as order;
+ghost use Rattle.lp_frac.specs.Narrow.{largest};
+ghost use Rattle.lp_solve.specs.Fit.{IsFit};
+
+use crate::basis::basis_of;
+use crate::cold::{End, answered};
+use lp_form::Form;
+use lp_model::Model;
+use lp_row_cold::RowEnd;
+use std::alloc::{AllocError, Global};
+
+// What the run ended with, where the checker says yes to its certificate.
+fn checked(model: &Model, form: &Form, end: RowEnd) -> Option<End>
+    requires fits { IsFor model.now end.certificate }
+    requires based { IfSome end.basis (λ basis. IsBasisOf form.now basis) }
+    requires narrow { IsNarrowCertificate end.certificate }
+    ensures answer { IfSome result (λ s. (¬ (order.GivesUp s)) ×
+        (s ≡ cold.answered (Some largest) model.now end.certificate end.basis end.pivots)) }
+    ensures narrow { IfSome result (IsFit model.now) }
+{
+    let basis = basis_of(form, end.basis);
+    let answered = answered(model, end.certificate, basis, end.pivots);
+    match answered {
+        End::Ended { .. } => Some(answered),
+        End::Past(_) | End::Spent => None,
+    }
+}
+
+/// The answer that the run over rows of whole numbers wins, if it ends, and the checker says yes to its certificate at
+/// 127 bits.
+pub(crate) fn over_rows(
+    alloc: Global,
+    budget: u64,
+    model: &Model,
+    form: &Form,
+) -> Result<Option<End>, AllocError>
+    requires { form_of (Some largest) model.now ≡ Ok form.now }
+    ensures answer { IfOk result (λ o. IfSome o (order.MayEndCold (Some largest) budget model.now)) }
+    ensures narrow { IfOk result (λ o. IfSome o (IsFit model.now)) }
+{
+    match lp_row_cold::cold(alloc, form, budget)? {
+        Some(end) => Ok(checked(model, form, end)),
+        None => Ok(None),
+    }
+}
