@@ -107,7 +107,7 @@ goes_keeps places me old (Looks shape) reads replied new now last g plays none =
 -- ---- all asks
 
 -- what each session still does, once one of them has answered
-after_one : (places : ℕ) (states : ℕ → State) (x : Exchange) (xs : List Exchange) (next end : State) →
+pub after_one : (places : ℕ) (states : ℕ → State) (x : Exchange) (xs : List Exchange) (next end : State) →
     AloneRun places next (of_session x.session xs) end →
     ((session : ℕ) → (end : State) × AloneRun places (states session) (of_session session (x ∷ xs)) end) →
     (session : ℕ) → (end : State)

@@ -25,3 +25,4 @@ pub mod WorkersAgree
 pub mod FormWords
 pub mod FormedWords
 pub mod FormedWorlds
+pub mod Newest

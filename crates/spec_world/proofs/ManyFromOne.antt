@@ -19,14 +19,14 @@ use Rattle.spec_world.proofs.AllDone.{NoneClaimed, all_done}
 
 -- ---- the log of exchanges
 
-abbrev reads_in : List Logged → List ExactRead
+abbrev pub reads_in : List Logged → List ExactRead
 reads_in log = map (λ (x : Logged). x.read) log
 
 one_log : (session : ℕ) (rs : List ExactRead) → reads_in (logged session rs) ≡ rs
 one_log session [] = refl
 one_log session (r ∷ rs) = ap (λ qs. r ∷ qs) (one_log session rs)
 
-log_reads : (xs : List Exchange) → reads_in (log_of xs) ≡ reads_in_all xs
+pub log_reads : (xs : List Exchange) → reads_in (log_of xs) ≡ reads_in_all xs
 log_reads [] = refl
 log_reads (x ∷ xs) =
     map-append (λ (y : Logged). y.read) (logged x.session x.reads) (log_of xs)

@@ -13,6 +13,7 @@
 //! | `ReadsNow`, `EndFits` | what holds of each event | specs/Sound |
 //! | `ManyFits`, `RunsBy` | what sessions may reply that workers serve | specs/Workers |
 //! | `Interleaves` | what workers had, in the order of the asks | specs/Workers |
+//! | `LooksFindTheNewest` | what a look finds while others publish | specs/Newest |
 //! | `Together` | worlds in which the events of each ask stand together | specs/Together |
 //!
 //! An event is what one session does while no other does anything: it is asked, reads how many places are claimed,
@@ -38,6 +39,7 @@ ghost use Rattle.spec_world.specs.Sound.{IsSound, AreKeptEvents, ReadsNow, EndFi
 ghost use Rattle.spec_world.specs.Workers.{RunsBy, ManyFits, reads_in_all, exchanges_of_worker, asks_of_worker};
 ghost use Rattle.spec_world.specs.Workers.{Interleaves, HasServedAlone, logs_of};
 ghost use Rattle.spec_world.specs.Together.{Together, HaveSessions};
+ghost use Rattle.spec_world.specs.Newest.{LooksFindTheNewest};
 
 mod event;
 
@@ -133,6 +135,12 @@ pub fn workers_are_many()
     ensures fits { (places workers : ℕ) (xs : List Exchange) → 0 < workers →
         ((worker : ℕ) → worker < workers → HasServedAlone places (exchanges_of_worker workers worker xs)) →
         AreBacked (reads_in_all xs) → HaveOneOrder places workers (logs_of workers xs) → ManyFits places workers xs }
+{}
+
+/// A look finds a place that is done with its shape when it begins, or a newer one, whatever other sessions do
+/// meanwhile.
+pub fn looks_find_the_newest()
+    ensures { LooksFindTheNewest }
 {}
 
 /// Two runs of the same asks, by any numbers of workers and with any numbers of places, give each session the same

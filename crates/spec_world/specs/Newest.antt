@@ -1,0 +1,19 @@
+-- What a look finds of the places that others claim and write at the same time.
+use Rattle.std.specs.Prelude.{ℕ, ◌≡◌, ◌≤◌, true, Some, List}
+use Rattle.spec_reads.specs.declared.place.Place.TheVariants as place
+use Rattle.spec_reads.specs.declared.read.Found.{Found}
+use Rattle.spec_reads.specs.Reads.{Words, Looked, LookReads, has_shape}
+use Rattle.spec_reads.specs.Places.{ExactPlace, place_at, Logged, Plays}
+use Rattle.spec_world.specs.Sound.{reads_in}
+
+-- a place was found, this one or a newer one
+abbrev pub FindsFrom : ℕ → Looked → Type 0
+FindsFrom k found = (newest : Found Words) × (found ≡ Some newest) × (k ≤ newest.place)
+
+-- The log is of a time in which a session makes one look, and others do what they will. A place that is done with the
+-- shape when the look begins is found, or a newer one is.
+abbrev pub LooksFindTheNewest : Type 0
+LooksFindTheNewest =
+    (places session : ℕ) (now last : List ExactPlace) (log : List Logged) (shape : Words) (found : Looked) (k : ℕ)
+    (words : Words) → Plays places now log last → LookReads shape (reads_in session log) found →
+    place_at now k ≡ Some (place.Done words) → has_shape shape words ≡ true → FindsFrom k found
