@@ -94,8 +94,8 @@ done_alike (r ∷ rs) once k a b (suc i, l, e) (suc j, m, f) =
 
 -- ---- the places as they are after some of the notes
 
--- a place that is not done is one that is claimed, there is a place for each claim, and a place that is done was claimed
--- before by the same session
+-- A place that is not done is one that is claimed, there is a place for each claim, and a place that is done was
+-- claimed before by the same session.
 abbrev pub IsFounded : ℕ → List Mark → Mark → Read → Type 0
 IsFounded places all x (Open k) = k < count x.words
 IsFounded places all x (Claim k) = k < places
