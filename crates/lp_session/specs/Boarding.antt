@@ -8,6 +8,8 @@ use Rattle.basis_board.specs.declared.seats.View.{View}
 use Rattle.basis_board.specs.declared.board.Look.{Look}
 use Rattle.basis_board.specs.declared.board.Put.{Put}
 use Rattle.basis_board.specs.Calls.{Looks, Puts}
+use Rattle.basis_board.specs.Known.{Known}
+use Rattle.basis_board.specs.Moments.{NotesMore, WereTrue}
 use Rattle.basis_board.specs.Rule.{Consistent}
 use Rattle.board_reads.specs.PassReads.{reads_of}
 
@@ -17,6 +19,11 @@ pub record AddsStep (before : State) (asked : ExactAsk) (old : View) (replied : 
   pub reads : List ExactRead
   pub step : AloneStep old.places before asked reads replied after
   pub all : reads_of new ≡ reads_of old ++ reads
+
+-- what the pass has noted since comes after all that it had noted, and was so when it was noted
+pub record NotesOn (old new : Known) : Type 0 where
+  pub notes : NotesMore old.moments new.moments
+  pub were_true : WereTrue old.moments old.view.reads → WereTrue new.moments new.view.reads
 
 -- at most one publication, of well-formed words
 abbrev pub MayPut : View → View → Type 0

@@ -4,7 +4,7 @@ ghost use Rattle.spec_server.specs.Machine.{opening};
 ghost use Rattle.spec_server.specs.Halves.{Nothing, at_rest, StartFits, MayBeFound, NextFits, IsPutAwaited, PutFits};
 ghost use Rattle.basis_board.specs.Id.{id_of};
 ghost use Rattle.basis_board.specs.Rule.{Consistent};
-ghost use Rattle.lp_session.specs.Boarding.{AddsStep, StepCalls};
+ghost use Rattle.lp_session.specs.Boarding.{AddsStep, StepCalls, NotesOn};
 
 use crate::boarding::{found_by, put_by};
 use crate::holding::Holding;
@@ -111,6 +111,7 @@ impl Session {
         ensures board { pass.new.board ≡ pass.old.board }
         ensures consistent { Consistent pass.old.view → Consistent pass.new.view }
         ensures share { (pass.new.view).share ≡ (pass.old.view).share }
+        ensures notes { NotesOn pass.old pass.new }
     {
         let shape = match self.start(alloc, ask) {
             Started::Reply(reply) => return reply,

@@ -1,4 +1,6 @@
 -- An answer after a look, and one whose basis was to be published.
+use Rattle.std.proofs.Common.{refl}
+use Rattle.basis_board.proofs.Timing.{notes_none, notes_on}
 use Rattle.lp_session.proofs.Boards.{ends_so, publishes_so, publishes_formed, calls_look, calls_both}
 use Rattle.lp_session.proofs.session.Session.step.Goals as goal
 
@@ -21,3 +23,17 @@ pub returns-clause-calls : goal.returns-clause-calls
 returns-clause-calls c =
     calls_both _ c.look.result _ c.publish.result _ _ _ c.look.ensures.look c.look.ensures.consistent
     (publishes_formed _ _ _ _ _ c.found.ensures c.in-Publish.is) c.publish.ensures.put
+
+pub returns-in-Reply-clause-notes : goal.returns-in-Reply-clause-notes
+returns-in-Reply-clause-notes c = record { notes = notes_none _ _ refl; were_true = λ h. h }
+
+pub returns-in-Reply-found-clause-notes : goal.returns-in-Reply-found-clause-notes
+returns-in-Reply-found-clause-notes c =
+    record { notes = c.look.ensures.moments; were_true = λ h. c.look.ensures.then }
+
+pub returns-clause-notes : goal.returns-clause-notes
+returns-clause-notes c =
+    record {
+      notes = notes_on _ _ _ c.look.ensures.moments c.publish.ensures.moments;
+      were_true = λ h. c.publish.ensures.then;
+    }
