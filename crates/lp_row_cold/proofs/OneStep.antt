@@ -18,7 +18,8 @@ use Rattle.lp_row_tableau.specs.Shows.{IsReached, Shows}
 use Rattle.lp_row_tableau.specs.Steps.{step_of}
 use Rattle.lp_row_cold.specs.declared.steps.StepsPause.{StepsPause}
 use Rattle.lp_row_cold.specs.declared.steps.StepsPause.TheVariants.{Ended, Narrow, GaveUp}
-use Rattle.lp_row_cold.specs.Steps.{steps_from, ComesTo, EndsAt, PausesAt, StepsTo, Advances, Keeps, KeepsAt, KeepsStep, KeepsAdvance}
+use Rattle.lp_row_cold.specs.Steps.{steps_from, ComesTo, EndsAt, PausesAt, StepsTo, Advances}
+use Rattle.lp_row_cold.specs.Steps.{Keeps, KeepsAt, KeepsStep, KeepsAdvance}
 use Rattle.lp_row_cold.proofs.Reached.{done_given, step_reached}
 
 -- a step that is no end

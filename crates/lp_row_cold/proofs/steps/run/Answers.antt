@@ -30,5 +30,6 @@ loop-pause-preserved g c = record {
       then_comes g.T.Words.value c.args.budget c.args.used.now t c.loop-pause.tab c.loop-pause.used k c.step.new.tab _
       (c.in_default.ensures.run k.tableau k.reached k.shown);
   keeps =
-      kept g.T.Words.value c.args.tab.now c.loop-pause.tab c.step.new.tab c.loop-pause.invariant.keeps c.in_default.ensures.kept;
+      kept g.T.Words.value c.args.tab.now c.loop-pause.tab c.step.new.tab
+      c.loop-pause.invariant.keeps c.in_default.ensures.kept;
 }
