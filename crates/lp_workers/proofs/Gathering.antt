@@ -12,7 +12,9 @@ use Rattle.std.proofs.lemmas.List.Sorted.{IsPermutation-append_comm}
 use Rattle.basis_board.specs.declared.board.Board.{Board}
 use Rattle.basis_board.specs.declared.seats.View.{View}
 use Rattle.basis_board.specs.Id.{id_of}
-use Rattle.basis_board.specs.Known.{Known}
+use Rattle.basis_board.specs.Known.{Known, notes_of}
+use Rattle.basis_board.specs.Moments.{Moment, notes, NotesMore, WereTrue, IsOneLog}
+use Rattle.basis_board.proofs.Timing.{notes_none, notes_join}
 use Rattle.basis_board.specs.Rule.{Consistent}
 use Rattle.basis_board.specs.Board.{cut_right, met}
 use Rattle.board_reads.specs.Orderly.{IsWhole}
@@ -25,7 +27,7 @@ use Rattle.spec_server.specs.Halves.{Standing, Nothing, at_rest}
 use Rattle.spec_server.specs.Machine.{ExactAsk, opening}
 use Rattle.lp_workers.specs.declared.worker.Worker.{Worker}
 use Rattle.lp_workers.specs.Workers.{states_of, state_at, IsReady}
-use Rattle.lp_workers.specs.Dealt.{pass_of, passes_of, reads_of_all}
+use Rattle.lp_workers.specs.Dealt.{notes_of_all, pass_of, passes_of, reads_of_all}
 
 -- ---- a worker as it is hired
 
@@ -42,15 +44,18 @@ states_open zero = refl
 states_open (suc n) = ap (λ states. opening ∷ states) (states_open n)
 
 pub new_is_ready : (board : Board) (w : Worker) (v : View) → w.pass.board ≡ id_of board → w.pass.view ≡ cut_right v →
-    v.places ≡ board.places → Consistent w.pass.view → w.sessions.items ≡ replicate 65 (at_rest opening) →
+    v.places ≡ board.places → Consistent w.pass.view → w.pass.moments ≡ [] →
+    WereTrue w.pass.moments w.pass.view.reads → w.sessions.items ≡ replicate 65 (at_rest opening) →
     length w.solves.items ≡ 65 →
     w.asks.items ≡ [] → w.replies.items ≡ [] → IsReady board w
-new_is_ready board w v of_board view places consistent opened solves asks replies = record {
+new_is_ready board w v of_board view places consistent moments so opened solves asks replies = record {
   hired = record {
     of_board = of_board;
     places = ap (λ (x : View). x.places) view ∙ places;
     share = ap (λ (x : View). x.share) view;
     consistent = consistent;
+    notes = notes_none [] w.pass.moments moments;
+    were_true = so;
     all = ap length opened ∙ length-replicate 65 (at_rest opening);
     counted = solves;
     at_rest = All-same (λ (s : Standing). s.awaits ≡ Nothing) w.sessions.items (replicate 65 (at_rest opening)) opened
@@ -105,6 +110,36 @@ module _ (all : List ExactRead) (first next : View) (rest : List Known) (pass : 
       (IsPermutation-append_right (reads_of first) (reads_of_all rest ++ reads_of pass.view)
       (reads_of pass.view ++ reads_of_all rest)
       (IsPermutation-append_comm (reads_of_all rest) (reads_of pass.view))))
+
+pub met_notes : (first next pass : Known) → next.view ≡ met first.view pass.view →
+    next.moments ≡ pass.moments ++ first.moments → WereTrue pass.moments pass.view.reads →
+    notes_of next ≡ notes_of pass ++ notes_of first
+met_notes first next pass view moments so =
+    ap (λ (x : View). notes next.moments x.reads) view
+    ∙ ap (λ ms. notes ms (pass.view.reads ++ first.view.reads)) moments
+    ∙ notes_join pass.moments first.moments pass.view.reads first.view.reads so
+
+-- what the notes of the passes that are left and of the one that they are met into come to
+pub gathered_notes : (first next : Known) (rest : List Known) (pass : Known) → next.view ≡ met first.view pass.view →
+    next.moments ≡ pass.moments ++ first.moments → WereTrue pass.moments pass.view.reads → (passes : List Known) →
+    passes ≡ rest ++ pass ∷ [] → notes_of_all rest ++ notes_of next ≡ notes_of_all passes ++ notes_of first
+gathered_notes first next rest pass view moments so passes split =
+    ap (λ ns. notes_of_all rest ++ ns) (met_notes first next pass view moments so)
+    ∙ sym (append_assoc (notes_of_all rest) (notes_of pass) (notes_of first))
+    ∙ ap (λ ns. ns ++ notes_of first)
+    (ap (λ ns. notes_of_all rest ++ ns) (sym (append-nil (notes_of pass)))
+    ∙ sym (flat_map-append notes_of rest (pass ∷ [])) ∙ ap notes_of_all (sym split))
+
+no_notes : (ms : List Moment) → notes ms [] ≡ []
+no_notes [] = refl
+no_notes (m ∷ ms) = refl
+
+-- the first pass has read nothing, so all notes are those of the others
+pub one_log : (first last : Known) (passes : List Known) → first.view.reads ≡ [] →
+    notes_of last ≡ notes_of_all passes ++ notes_of first → IsOneLog (notes_of last) → IsOneLog (notes_of_all passes)
+one_log first last passes fresh are log =
+    subst IsOneLog (are ∙ ap (λ ns. notes_of_all passes ++ ns) (ap (notes first.moments) fresh ∙ no_notes first.moments)
+    ∙ append-nil (notes_of_all passes)) log
 
 pub split_passes : (workers rest : List Worker) (w : Worker) → workers ≡ rest ++ w ∷ [] →
     passes_of workers ≡ passes_of rest ++ w.pass ∷ []

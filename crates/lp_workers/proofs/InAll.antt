@@ -12,26 +12,32 @@ use Rattle.std.proofs.lemmas.List.Sorted.{All-permutation}
 use Rattle.std.proofs.lemmas.List.Sorted.{IsPermutation-refl, IsPermutation-sym, IsPermutation-trans}
 use Rattle.std.proofs.lemmas.List.Sorted.{IsPermutation-append_left, IsPermutation-append_right}
 use Rattle.std.proofs.lemmas.List.Sorted.{IsPermutation-append_comm}
-use Rattle.spec_reads.specs.Orders.{InPairs, AreInOrder, AreBacked}
+use Rattle.spec_reads.specs.Orders.{InPairs, AreInOrder, AreBacked, HaveOneOrder}
 use Rattle.spec_reads.specs.Reads.{ExactRead}
 use Rattle.spec_server.specs.declared.asks.Asked.{Asked}
 use Rattle.spec_server.specs.Machine.{ExactAsk, ExactReply, State, opening}
 use Rattle.spec_server.specs.Exchanges.{Exchange, asked_in, AloneRun, of_session, RunAlone}
-use Rattle.spec_world.specs.Workers.{reads_in_all, exchanges_of_worker, asks_of_worker, Interleaves}
+use Rattle.spec_world.specs.Workers.{reads_in_all, exchanges_of_worker, logs_of, asks_of_worker, Interleaves}
+use Rattle.spec_world.proofs.ManyFromOne.{log_reads}
 use Rattle.spec_world.proofs.Interleaving.{interleaved, many_fit}
 use Rattle.basis_board.specs.declared.board.Board.{Board}
 use Rattle.basis_board.specs.declared.seats.View.{View}
 use Rattle.basis_board.specs.Known.{Known}
+use Rattle.basis_board.specs.Moments.{ComeAfter, IsOneLog}
 use Rattle.basis_board.specs.Rule.{Consistent}
 use Rattle.board_reads.specs.Orderly.{IsWhole}
 use Rattle.board_reads.specs.PassReads.{exact_read, reads_of}
 use Rattle.board_reads.proofs.WholePass.{whole_backed}
+use Rattle.board_reads.specs.Played.{IsLogOf}
 use Rattle.board_reads.proofs.AnyOrder.{any_order}
+use Rattle.board_reads.proofs.Played.{all_played}
 use Rattle.lp_workers.specs.declared.worker.Worker.{Worker}
 use Rattle.lp_workers.specs.AnswersAll.{AnswersAll}
 use Rattle.lp_workers.specs.Workers.{states_of, state_at, IsServing, HasServed}
-use Rattle.lp_workers.specs.Dealt.{AreDealt, HoldReplies, pass_of, passes_of, HasPart, reads_of_all, KnowsWhole}
+use Rattle.lp_workers.specs.Dealt.{AreDealt, HoldReplies, pass_of, passes_of, HasPart, reads_of_all, notes_of_all}
+use Rattle.lp_workers.specs.Dealt.{KnowsWhole}
 use Rattle.lp_workers.proofs.Dealing.{last_first}
+use Rattle.lp_workers.proofs.Founded.{run_founded, log_own}
 
 not_equal : (a b : ℕ) → nat_eq a b ≡ false → a ≢ b
 not_equal a b e same =
@@ -307,11 +313,37 @@ module _ (board : Board) (n : ℕ) (asks : List (Asked ExactAsk)) (workers : Lis
       let its = (so.each i one h).hired in
       subst (HasPart board)
       (sym (get_or-map pass_of workers i one d (omega (arith, h, so.many))))
-      (its.of_board, its.share)
+      (its.of_board, its.share, its.were_true)
+
+  -- ---- one order of all reads
+
+  many_passes : length (passes_of workers) ≡ n
+  many_passes = length-map workers pass_of ∙ so.many
+
+  its_log : (i : ℕ) → i < n → IsLogOf board.places n i (get_or workers i one).pass (logs_of n xs i)
+  its_log i l =
+      let its = so.each i one l in
+      let ys = exchanges_of_worker n i xs in record {
+        reads = log_reads ys ∙ sym ((had_of i l).reads one);
+        own = log_own n i xs;
+        founded = run_founded board.places (λ session. opening) ys (had_of i l).alone;
+        later = subst (λ ms. ComeAfter ms []) (sym (its.hired.notes.all ∙ append-nil its.hired.notes.more))
+            its.hired.notes.later;
+        were_true = its.hired.were_true;
+      }
+
+  its_log_at : (i : ℕ) (d : Known) → i < length (passes_of workers) →
+      IsLogOf board.places (length (passes_of workers)) i (get_or (passes_of workers) i d) (logs_of n xs i)
+  its_log_at i d l =
+      let h : i < n = omega (arith, l, many_passes) in
+      subst (λ m. IsLogOf board.places m i (get_or (passes_of workers) i d) (logs_of n xs i)) (sym many_passes)
+      (subst (λ (pass : Known). IsLogOf board.places n i pass (logs_of n xs i))
+      (sym (get_or-map pass_of workers i one d (omega (arith, h, so.many)))) (its_log i h))
 
   module _ (first last : View) (fresh : first.reads ≡ []) (now : Consistent last) (share : last.share ≡ 64)
       (knows : last.share ≡ 64 → KnowsWhole last) (passes : List Known) (same : passes ≡ passes_of workers)
-      (gathered : IsPermutation (reads_of first ++ reads_of_all passes) (reads_of last)) where
+      (gathered : IsPermutation (reads_of first ++ reads_of_all passes) (reads_of last))
+      (one_log : IsOneLog (notes_of_all passes)) where
     together : reads_of first ++ reads_of_all passes ≡ by_worker n 0 n xs
     together =
         ap (λ rs. map exact_read (reverse rs) ++ reads_of_all passes) fresh ∙ ap reads_of_all same ∙ reads_so
@@ -333,6 +365,18 @@ module _ (board : Board) (n : ℕ) (asks : List (Asked ExactAsk)) (workers : Lis
         (IsPermutation-trans (reads_in_all xs) (by_worker n 0 n xs) (reads_of last) (by_workers n xs some) moved))
         backed_last
 
+    backed_passes : AreBacked (reads_of_all (passes_of workers))
+    backed_passes =
+        subst AreBacked (sym reads_so)
+        (any_order (reads_of last) (by_worker n 0 n xs) (IsPermutation-sym (by_worker n 0 n xs) (reads_of last) moved)
+        backed_last)
+
+    one_order : HaveOneOrder board.places n (logs_of n xs)
+    one_order =
+        subst (λ m. HaveOneOrder board.places m (logs_of n xs)) many_passes
+        (all_played board.places (passes_of workers) (logs_of n xs) its_log_at
+        (subst (λ ps. IsOneLog (notes_of_all ps)) same one_log) backed_passes)
+
     pub answers_all : (replies : List ExactReply) →
         replies ≡ reverse (map (λ (x : Exchange). x.reply) (reverse xs)) → AnswersAll n board.places asks replies
     answers_all replies are = record {
@@ -341,5 +385,5 @@ module _ (board : Board) (n : ℕ) (asks : List (Asked ExactAsk)) (workers : Lis
       replied = sym (are ∙ ap reverse (map_reverse (λ (x : Exchange). x.reply) xs)
           ∙ reverse-reverse (map (λ (x : Exchange). x.reply) xs));
       fits = many_fit n board.places xs (λ session. omega (arith, some))
-          (λ i l. record { alone = (had_of i l).alone; ordered = (had_of i l).ordered }) backed;
+          (λ i l. record { alone = (had_of i l).alone; ordered = (had_of i l).ordered }) backed one_order;
     }

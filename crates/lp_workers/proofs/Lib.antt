@@ -1,4 +1,5 @@
 pub mod OneMore
 pub mod Dealing
 pub mod Gathering
+pub mod Founded
 pub mod InAll

@@ -23,6 +23,7 @@ use Rattle.basis_board.specs.declared.board.Look.TheVariants.{Found, NoneReady}
 use Rattle.basis_board.specs.declared.board.Put.{Put}
 use Rattle.basis_board.specs.declared.board.Put.TheVariants.{Published, Full, Raced}
 use Rattle.basis_board.specs.Calls.{Looks, Puts}
+use Rattle.basis_board.specs.Moments.{NotesMore, WereTrue}
 use Rattle.basis_board.specs.Rule.{Consistent}
 use Rattle.board_reads.specs.Orderly.{IsOrderly}
 use Rattle.board_reads.specs.PassReads.{reads_of}
@@ -171,6 +172,8 @@ module _ (board : Board) (w new : Worker) (pass : new.pass ≡ w.pass) (sessions
     places = ap (λ (k : Known). k.view.places) pass ∙ h.places;
     share = ap (λ (k : Known). k.view.share) pass ∙ h.share;
     consistent = subst (λ (k : Known). Consistent k.view) (sym pass) h.consistent;
+    notes = subst (λ (k : Known). NotesMore [] k.moments) (sym pass) h.notes;
+    were_true = subst (λ (k : Known). WereTrue k.moments k.view.reads) (sym pass) h.were_true;
     all = ap (λ s. length s.items) sessions ∙ h.all;
     counted = ap (λ s. length s.items) solves ∙ h.counted;
     at_rest = subst (λ s. All (λ (x : Standing). x.awaits ≡ Nothing) s.items) (sym sessions) h.at_rest;

@@ -9,7 +9,8 @@ use Rattle.spec_world.specs.Workers.{asks_of_worker, exchanges_of_worker}
 use Rattle.basis_board.specs.declared.board.Board.{Board}
 use Rattle.basis_board.specs.declared.seats.View.{View}
 use Rattle.basis_board.specs.Id.{id_of}
-use Rattle.basis_board.specs.Known.{Known}
+use Rattle.basis_board.specs.Known.{Known, notes_of}
+use Rattle.basis_board.specs.Moments.{Note, WereTrue}
 use Rattle.basis_board.specs.Rule.{OwnsBelow}
 use Rattle.basis_board.specs.Calls.{CountTells}
 use Rattle.board_reads.specs.PassReads.{reads_of}
@@ -40,13 +41,18 @@ pass_of w = w.pass
 abbrev pub passes_of : List Worker → List Known
 passes_of workers = map pass_of workers
 
--- the pass is of this board, and has one part
+-- the pass is of this board, and has one part; and each of its reads was so when it was noted
 abbrev pub HasPart : Board → Known → Type 0
-HasPart board pass = (pass.board ≡ id_of board) × (pass.view.share ≡ 1)
+HasPart board pass =
+    (pass.board ≡ id_of board) × (pass.view.share ≡ 1) × WereTrue pass.moments pass.view.reads
 
 -- what passes read, one after the other
 abbrev pub reads_of_all : List Known → List ExactRead
 reads_of_all passes = flat_map (λ (pass : Known). reads_of pass.view) passes
+
+-- what passes noted, those of one after those of the other
+abbrev pub notes_of_all : List Known → List Note
+notes_of_all passes = flat_map notes_of passes
 
 -- a pass with all parts owns the places below some number, and no count exceeds it
 abbrev pub KnowsWhole : View → Type 0

@@ -9,6 +9,7 @@ use Rattle.spec_world.specs.Workers.{reads_in_all}
 use Rattle.basis_board.specs.declared.board.Board.{Board}
 use Rattle.basis_board.specs.declared.seats.View.{View}
 use Rattle.basis_board.specs.Id.{id_of}
+use Rattle.basis_board.specs.Moments.{NotesMore, WereTrue}
 use Rattle.basis_board.specs.Rule.{Consistent}
 use Rattle.board_reads.specs.Orderly.{IsOrderly}
 use Rattle.board_reads.specs.PassReads.{reads_of}
@@ -21,12 +22,15 @@ states_of all = map (λ session. session.state) all
 abbrev pub state_at : List State → ℕ → State
 state_at sessions session = slice_index_or sessions session opening
 
--- Its pass is one of the board's, with one of the 64 parts, and its sessions are in the middle of no ask.
+-- Its pass is one of the board's, with one of the 64 parts; each of its notes was so, and is later than those before.
+-- Its sessions are in the middle of no ask.
 pub record IsHired (board : Board) (w : Worker) : Type 0 where
   pub of_board : w.pass.board ≡ id_of board
   pub places : w.pass.view.places ≡ board.places
   pub share : w.pass.view.share ≡ 1
   pub consistent : Consistent w.pass.view
+  pub notes : NotesMore [] w.pass.moments
+  pub were_true : WereTrue w.pass.moments w.pass.view.reads
   pub all : length w.sessions.items ≡ 65
   pub counted : length w.solves.items ≡ 65
   pub at_rest : All (λ (s : Standing). s.awaits ≡ Nothing) w.sessions.items

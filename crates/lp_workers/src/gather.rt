@@ -2,9 +2,11 @@
 ghost use Rattle.std.specs.Prelude.{◌≡◌, ◌+◌, ◌<◌, ◌++◌, [], All, IfOk, vec_len};
 ghost use Rattle.std.specs.List.Sorted.{IsPermutation};
 ghost use Rattle.basis_board.specs.Id.{id_of};
+ghost use Rattle.basis_board.specs.Known.{notes_of};
+ghost use Rattle.basis_board.specs.Moments.{IsOneLog};
 ghost use Rattle.basis_board.specs.Rule.{Consistent};
 ghost use Rattle.board_reads.specs.PassReads.{reads_of};
-ghost use Rattle.lp_workers.specs.Dealt.{HasPart, KnowsWhole, part_of, passes_of, reads_of_all};
+ghost use Rattle.lp_workers.specs.Dealt.{HasPart, KnowsWhole, notes_of_all, part_of, passes_of, reads_of_all};
 ghost use Rattle.lp_workers.specs.Workers.{IsReady};
 
 use crate::worker::Worker;
@@ -42,12 +44,15 @@ pub(crate) fn gather(board: &Board, mut first: Pass, mut workers: Vec<Worker>) -
     requires parts { All (HasPart board.now) (passes_of workers.items) }
     requires consistent { Consistent first.view }
     requires whole { first.view.share ≡ 64 → KnowsWhole first.view }
+    requires log { first.view.share ≡ 64 → IsOneLog (notes_of first) }
     ensures board { result.board ≡ first.board }
     ensures consistent { Consistent result.view }
     ensures share { result.view.share ≡ first.view.share + vec_len workers }
     ensures whole { result.view.share ≡ 64 → KnowsWhole result.view }
     ensures reads { IsPermutation
         (reads_of first.view ++ reads_of_all (passes_of workers.items)) (reads_of result.view) }
+    ensures notes { notes_of result ≡ notes_of_all (passes_of workers.items) ++ notes_of first }
+    ensures log { result.view.share ≡ 64 → IsOneLog (notes_of result) }
 {
     while let Some(worker) = workers.pop() {
         let Worker { pass, .. } = worker;

@@ -3,7 +3,7 @@ use Rattle.std.proofs.Common.{◌≡◌, ◌++◌, [], ◌∷◌, Some, ap, sym,
 use Rattle.std.proofs.lemmas.List.Elements.{All-pop}
 use Rattle.basis_board.specs.declared.seats.View.{View}
 use Rattle.lp_workers.specs.Dealt.{HasPart, passes_of}
-use Rattle.lp_workers.proofs.Gathering.{gathered_more, split_passes}
+use Rattle.lp_workers.proofs.Gathering.{gathered_more, gathered_notes, split_passes}
 use Rattle.lp_workers.proofs.gather.gather.Goals as goal
 
 pub loop-worker-preserved : goal.loop-worker-preserved
@@ -23,4 +23,7 @@ loop-worker-preserved c =
       parts.0,
       gathered_more _ c.loop-worker.first.view c.meet-first.result.view (passes_of rest) w.pass
           c.meet-first.ensures.view.view (passes_of c.loop-worker.workers.items) split c.loop-worker.invariant.5,
+      c.meet-first.ensures.log,
+      gathered_notes c.loop-worker.first c.meet-first.result (passes_of rest) w.pass c.meet-first.ensures.view.view
+          c.meet-first.ensures.moments parts.1.2 passes split ∙ c.loop-worker.invariant.7,
     )

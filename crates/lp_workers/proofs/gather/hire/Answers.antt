@@ -5,6 +5,7 @@ use Rattle.std.proofs.lemmas.List.Elements.{All-push}
 use Rattle.basis_board.specs.declared.seats.View.{View}
 use Rattle.basis_board.specs.Board.{cut_left}
 use Rattle.basis_board.specs.Known.{Known}
+use Rattle.basis_board.specs.Moments.{WereTrue}
 use Rattle.basis_board.specs.Rule.{Consistent}
 use Rattle.lp_workers.specs.declared.worker.Worker.{Worker}
 use Rattle.lp_workers.specs.Dealt.{part_of}
@@ -33,5 +34,7 @@ loop-index-preserved c =
           (ap (λ (k : Known). k.view) new.pass ∙ c.split-pass.ensures.new.1)
           (ap (λ (x : View). x.places) so.4 ∙ c.requires.board.1)
           (subst (λ (k : Known). Consistent k.view) (sym new.pass) c.split-pass.ensures.consistent.1)
+          (ap (λ (k : Known). k.moments) new.pass ∙ c.split-pass.ensures.moments.1)
+          (subst (λ (k : Known). WereTrue k.moments k.view.reads) (sym new.pass) c.split-pass.ensures.then.1)
           new.sessions new.solves new.idle.0 new.idle.1)),
     )

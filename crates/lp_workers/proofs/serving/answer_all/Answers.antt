@@ -6,6 +6,7 @@ use Rattle.basis_board.specs.declared.seats.View.{View}
 use Rattle.lp_workers.specs.AnswersAll.{AnswersAll}
 use Rattle.lp_workers.specs.Dealt.{HasPart, passes_of}
 use Rattle.lp_workers.specs.Workers.{IsReady}
+use Rattle.lp_workers.proofs.Gathering.{one_log}
 use Rattle.lp_workers.proofs.InAll.{served_now, replies_held, xs, parts_so, answers_all}
 use Rattle.lp_workers.proofs.serving.answer_all.Goals as goal
 
@@ -66,5 +67,8 @@ returns g c =
     (ap (λ (x : View). x.reads) (c.hire.ensures.rest) ∙ ap (λ (x : View). x.reads) made.2)
     c.gather-whole.ensures.consistent (omega (arith, parts, cut, met, kept, hired, len)) c.gather-whole.ensures.whole
     (passes_of c.collect-replies.new.workers.items) c.collect-replies.ensures.passes c.gather-whole.ensures.reads
+    (one_log c.hire.new.first c.gather-whole.result (passes_of c.collect-replies.new.workers.items)
+    (ap (λ (x : View). x.reads) (c.hire.ensures.rest) ∙ ap (λ (x : View). x.reads) made.2)
+    c.gather-whole.ensures.notes (c.gather-whole.ensures.log (omega (arith, parts, cut, met, kept, hired, len))))
     replies.items are)))
     replied

@@ -1,7 +1,21 @@
 -- The asks that were had are one more.
-use Rattle.std.proofs.Common.{arith}
+use Rattle.std.proofs.Common.{arith, rules}
+use Rattle.basis_board.proofs.Timing.{notes_on}
 use Rattle.lp_workers.proofs.OneMore.{had_more}
 use Rattle.lp_workers.proofs.worker.Worker.answer.Goals as goal
+
+pub returns-clause-hired : goal.returns-clause-hired
+returns-clause-hired g c = record {
+  of_board = search rules;
+  places = search rules;
+  share = search rules;
+  consistent = search rules;
+  notes = notes_on _ _ _ c.requires.hired.notes c.step.ensures.notes.notes;
+  were_true = c.step.ensures.notes.were_true c.requires.hired.were_true;
+  all = search rules;
+  counted = search rules;
+  at_rest = search rules;
+}
 
 pub returns-clause-had : goal.returns-clause-had
 returns-clause-had g c = λ asks replies had.
