@@ -8,8 +8,11 @@ use Rattle.std.proofs.lemmas.List.Elements.{All-append, All-nil, All-from_recurs
 use Rattle.spec_reads.specs.Orders.{InPairs, AreInOrder}
 use Rattle.spec_serve.specs.Links.{exchanges_of_links}
 use Rattle.spec_serve.proofs.Apart.{links_run_alone, links_reads}
+use Rattle.spec_server.specs.Exchanges.{Exchange}
 use Rattle.spec_world.specs.Workers.{reads_in_all, HasServedAlone}
 use Rattle.basis_board.specs.declared.board.Board.{Board}
+use Rattle.basis_board.specs.Known.{Known}
+use Rattle.basis_board.specs.Moments.{NotesMore, WereTrue}
 use Rattle.board_reads.specs.Orderly.{IsOrderly, IsWhole}
 use Rattle.board_reads.specs.PassReads.{reads_of}
 use Rattle.lp_base.specs.Causes.{Rose}
@@ -20,6 +23,7 @@ use Rattle.lp_serve.specs.Gathering.{passes_of, nets_of, shares_of, IsOf}
 use Rattle.lp_serve.specs.Serving.{Served, Listened, ends_of, exchanges_of, no_listener}
 use Rattle.lp_serve.specs.Workers.{IsReady, ServedLinks, HasServed, ends_in}
 use Rattle.lp_serve.proofs.LinkRuns.{exchanges_in, links_read, links_orderly, links_run}
+use Rattle.lp_serve.proofs.Noting.{noted_all}
 
 module _ {N : Type 0} (state : N → ListenerState) (board : Board) (each : ℕ) where
   -- the links of each worker, with what it had before its turn and after it
@@ -89,7 +93,8 @@ module _ {N : Type 0} (state : N → ListenerState) (board : Board) (each : ℕ)
       AllByRecursion (IsOf board) (passes_of news)
   passes_are =
       by_each (λ olds news served. AllByRecursion (IsOf board) (passes_of news)) tt
-      (λ old new links olds news served ready so rest. ((so.of_board, so.consistent), rest))
+      (λ old new links olds news served ready so rest.
+      ((so.of_board, so.consistent, (noted_all old.pass new.pass ready.unnoted ready.fresh so.notes).1), rest))
 
   -- ---- one worker
 
@@ -154,6 +159,33 @@ module _ {N : Type 0} (state : N → ListenerState) (board : Board) (each : ℕ)
           EachAlone (links ∷ served)
       more old new links olds news served ready so rest n w zero some l = served_alone old new links ready so n w some
       more old new links olds news served ready so rest n w (suc i) some l = rest n w i some (omega (arith, l))
+
+  -- ---- the notes
+
+  -- the pass noted what was read in these exchanges, each note later than those before it
+  pub record HasNoted (pass : Known) (xs : List Exchange) : Type 0 where
+    pub reads : reads_in_all xs ≡ reads_of pass.view
+    pub notes : NotesMore [] pass.moments
+    pub were_true : WereTrue pass.moments pass.view.reads
+
+  abbrev EachNoted : List (Worker N) → List (List Served) → Type 0
+  EachNoted news served = (n w i : ℕ) (d : Known) → i < length served →
+      HasNoted (get_or (passes_of news) i d) (exchanges_of_links n w 0 (get_or (exchanges_of served) i []))
+
+  pub each_noted : (olds news : List (Worker N)) (served : List (List Served)) → AreServed olds news served →
+      EachNoted news served
+  each_noted = by_each (λ olds news served. EachNoted news served) (λ n w i d l. absurd (omega (arith, l))) more
+    where
+      more : (old new : Worker N) (links : List Served) (olds news : List (Worker N)) (served : List (List Served)) →
+          IsReady board each old → ServedLinks state board each old new links → EachNoted news served →
+          EachNoted (new ∷ news) (links ∷ served)
+      more old new links olds news served ready so rest n w zero d l =
+          let all = noted_all old.pass new.pass ready.unnoted ready.fresh so.notes in record {
+            reads = links_reads n w 0 (exchanges_in links) ∙ sym (reads_now old new links ready so);
+            notes = all.0;
+            were_true = all.1;
+          }
+      more old new links olds news served ready so rest n w (suc i) d l = rest n w i d (omega (arith, l))
 
   -- ---- the listeners
 

@@ -12,11 +12,12 @@ use Rattle.basis_board.specs.declared.seats.View.{View}
 use Rattle.basis_board.specs.Board.{cut_right}
 use Rattle.basis_board.specs.Calls.{Meets}
 use Rattle.basis_board.specs.Id.{id_of}
-use Rattle.basis_board.specs.Known.{Known}
+use Rattle.basis_board.specs.Known.{Known, notes_of}
+use Rattle.basis_board.specs.Moments.{WereTrue, IsOneLog}
 use Rattle.basis_board.specs.Rule.{Consistent}
 use Rattle.board_reads.specs.PassReads.{reads_of}
 use Rattle.lp_workers.specs.Dealt.{reads_of_all}
-use Rattle.lp_workers.proofs.Gathering.{met_reads}
+use Rattle.lp_workers.proofs.Gathering.{met_reads, met_notes}
 use Rattle.lp_serve.specs.declared.gather.Desk.{Desk}
 use Rattle.lp_serve.specs.declared.worker.Worker.{Worker}
 use Rattle.lp_serve.specs.Gathering.{IsFree, IsOf, HasMet, Met, shares_of}
@@ -32,12 +33,13 @@ shares_more (first ∷ passes) pass = let more = shares_more passes pass in omeg
 -- ---- a desk, and the worker at it
 
 pub desk_is_free : (board : Board) (each : ℕ) (desk : Desk) (v : View) → desk.pass.board ≡ id_of board →
-    desk.pass.view ≡ cut_right v → v.places ≡ board.places → Consistent desk.pass.view → desk.ends.items ≡ [] →
-    each ≤ vec_capacity desk.ends → IsFree board each desk
-desk_is_free board each desk v of_board view places consistent none room = record {
+    desk.pass.view ≡ cut_right v → v.places ≡ board.places → Consistent desk.pass.view → desk.pass.moments ≡ [] →
+    desk.ends.items ≡ [] → each ≤ vec_capacity desk.ends → IsFree board each desk
+desk_is_free board each desk v of_board view places consistent unnoted none room = record {
   of_board = of_board;
   places = ap (λ (x : View). x.places) view ∙ places;
   fresh = ap (λ (x : View). x.reads) view;
+  unnoted = unnoted;
   consistent = consistent;
   none = none;
   room = room;
@@ -49,6 +51,7 @@ at_desk board each desk w free pass ends well = record {
   of_board = ap (λ (k : Known). k.board) pass ∙ free.of_board;
   places = ap (λ (k : Known). k.view.places) pass ∙ free.places;
   fresh = ap (λ (k : Known). k.view.reads) pass ∙ free.fresh;
+  unnoted = ap (λ (k : Known). k.moments) pass ∙ free.unnoted;
   consistent = subst (λ (k : Known). Consistent k.view) (sym pass) free.consistent;
   none = ap (λ v. v.items) ends ∙ free.none;
   room = let cap = ap (λ v. v.cap) ends in omega (arith, cap, free.room);
@@ -59,8 +62,10 @@ at_desk board each desk w free pass ends well = record {
 
 -- one pass more is met into that of others
 pub met_more : (board : Board) (first pass next : Known) → IsOf board next → Meets first.view pass.view next.view →
-    (passes : List Known) → HasMet board passes first → HasMet board (pass ∷ passes) next
-met_more board first pass next is_of meets passes so = record {
+    next.moments ≡ pass.moments ++ first.moments → (next.view.share ≡ 64 → IsOneLog (notes_of next)) →
+    WereTrue pass.moments pass.view.reads → (passes : List Known) → HasMet board passes first →
+    HasMet board (pass ∷ passes) next
+met_more board first pass next is_of meets moments log true_then passes so = record {
   is_of = is_of;
   share = let e = ap (λ (v : View). v.share) meets.view in omega (arith, e, so.share);
   whole = λ two. meets.whole;
@@ -70,6 +75,8 @@ met_more board first pass next is_of meets passes so = record {
       (subst (IsPermutation (reads_of pass.view ++ reads_of first.view))
       (sym (ap reads_of meets.view ∙ met_reads first.view pass.view))
       (IsPermutation-append_comm (reads_of pass.view) (reads_of first.view)));
+  notes = met_notes first next pass meets.view moments true_then ∙ ap (λ ns. notes_of pass ++ ns) so.notes;
+  log = λ two. log;
 }
 
 -- those that were met, of passes from which they are taken one by one

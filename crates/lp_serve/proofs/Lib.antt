@@ -1,4 +1,5 @@
 -- Lemmas.
+pub mod Noting
 pub mod LinkRuns
 pub mod OnlyPass
 pub mod Turning

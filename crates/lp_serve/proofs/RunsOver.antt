@@ -1,36 +1,42 @@
 -- The exchanges of all links are those that so many workers may have had.
 use Rattle.std.proofs.Common.{◌≡◌, ℕ, ◌<◌, ◌≤◌, List, [], ◌∷◌, length, Option}
-use Rattle.std.proofs.Common.{Some, None}
+use Rattle.std.proofs.Common.{Some, None, get_or}
 use Rattle.std.proofs.Common.{refl, sym, ap, ◌∙◌, subst, arith, append-nil, ⊎_elim}
 use Rattle.std.specs.List.Sorted.{IsPermutation}
 use Rattle.std.proofs.lemmas.Bool.{cases_lt}
 use Rattle.std.proofs.lemmas.List.{length-map}
 use Rattle.std.proofs.lemmas.List.Elements.{recursion_from_All}
 use Rattle.std.proofs.lemmas.List.Sorted.{All-permutation, IsPermutation-sym}
-use Rattle.spec_reads.specs.Orders.{AreBacked}
+use Rattle.spec_reads.specs.Orders.{AreBacked, HaveOneOrder}
 use Rattle.spec_reads.specs.Places.{Plays}
-use Rattle.spec_server.specs.Exchanges.{Exchange, RunFits, log_of}
+use Rattle.spec_server.specs.Exchanges.{Exchange, RunAlone, RunFits, log_of}
+use Rattle.spec_server.specs.Machine.{opening}
 use Rattle.spec_serve.specs.Links.{exchanges_of_links, exchanges_from, RunsOver}
 use Rattle.spec_serve.proofs.Apart.{worker_has_own, all_reads}
-use Rattle.spec_world.specs.Workers.{reads_in_all, HasServedAlone, RunsBy}
+use Rattle.spec_world.specs.Workers.{reads_in_all, exchanges_of_worker, logs_of, HasServedAlone, RunsBy}
 use Rattle.spec_world.proofs.Interleaving.{many_fit}
-use Rattle.spec_world.proofs.ManyFromOne.{one_runs_by}
+use Rattle.spec_world.proofs.ManyFromOne.{one_runs_by, log_reads}
 use Rattle.basis_board.specs.declared.board.Board.{Board}
 use Rattle.basis_board.specs.Known.{Known}
+use Rattle.basis_board.specs.Moments.{ComeAfter, IsOneLog}
 use Rattle.board_reads.specs.Orderly.{IsWhole}
 use Rattle.board_reads.specs.PassReads.{reads_of}
 use Rattle.board_reads.proofs.WholePass.{whole_backed}
+use Rattle.board_reads.specs.Played.{IsLogOf}
 use Rattle.board_reads.proofs.AnyOrder.{any_order}
+use Rattle.board_reads.proofs.Played.{all_played}
 use Rattle.lp_link.specs.Listening.{ListenerState}
 use Rattle.lp_places.specs.Only.{published_words, AreInOrder}
 use Rattle.lp_places.specs.Sharing.{as_places}
 use Rattle.lp_workers.specs.Dealt.{KnowsWhole, reads_of_all}
+use Rattle.lp_workers.proofs.Founded.{run_founded, log_own}
 use Rattle.lp_serve.specs.declared.worker.Worker.{Worker}
 use Rattle.lp_serve.specs.Gathering.{passes_of, shares_of, HasMet, Met}
 use Rattle.lp_serve.specs.Serving.{Served, exchanges_of}
 use Rattle.lp_serve.proofs.LinkRuns.{exchanges_in}
 use Rattle.lp_serve.proofs.OnlyPass.{IsAlone, links_play, done_in}
 use Rattle.lp_serve.proofs.AllServed.{AreServed, news_many, shares_are, reads_are, reads_whole, each_alone}
+use Rattle.lp_serve.proofs.AllServed.{each_noted}
 
 module _ {N : Type 0} (state : N → ListenerState) (board : Board) (each : ℕ) where
   -- ---- by one worker
@@ -110,12 +116,50 @@ module _ {N : Type 0} (state : N → ListenerState) (board : Board) (each : ℕ)
           any_order (reads_of pass.view) (reads_in_all xs)
           (IsPermutation-sym (reads_in_all xs) (reads_of pass.view) moved) backed_last
 
+      backed_passes : AreBacked (reads_of_all (passes_of news))
+      backed_passes =
+          any_order (reads_of pass.view) (reads_of_all (passes_of news))
+          (IsPermutation-sym (reads_of_all (passes_of news)) (reads_of pass.view) met.reads) backed_last
+
+      own : (i : ℕ) → i < length served →
+          exchanges_of_worker n i xs ≡ exchanges_of_links n i 0 (get_or (exchanges_of served) i [])
+      own i l = worker_has_own n i (exchanges_of served) refl (omega (arith, l, many))
+
+      its_log : (i : ℕ) (d : Known) → i < length (passes_of news) →
+          IsLogOf board.places n i (get_or (passes_of news) i d) (logs_of n xs i)
+      its_log i d l =
+          let h : i < length served = omega (arith, l, passes_many) in
+          let ys = exchanges_of_worker n i xs in
+          let noted = each_noted state board each olds news served so n i i d h in record {
+            reads = log_reads ys ∙ ap reads_in_all (own i h) ∙ noted.reads;
+            own = log_own n i xs;
+            founded = run_founded board.places (λ session. opening) ys
+                (subst (RunAlone board.places) (sym (own i h))
+                (each_alone state board each olds news served so n i i (omega (arith, some, many)) h).alone);
+            later = subst (λ ms. ComeAfter ms []) (sym (noted.notes.all ∙ append-nil noted.notes.more))
+                noted.notes.later;
+            were_true = noted.were_true;
+          }
+
+      same_many : length (passes_of news) ≡ n
+      same_many = passes_many ∙ sym many
+
+      one_order : HaveOneOrder board.places n (logs_of n xs)
+      one_order =
+          subst (λ m. HaveOneOrder board.places m (logs_of n xs)) same_many
+          (all_played board.places (passes_of news) (logs_of n xs)
+          (λ i d l. subst (λ m. IsLogOf board.places m i (get_or (passes_of news) i d) (logs_of n xs i))
+          (sym same_many) (its_log i d l))
+          (subst IsOneLog met.notes
+          (met.log (omega (arith, two, passes_many))
+          (met.share ∙ shares_are state board each olds news served so ∙ all))) backed_passes)
+
       many_runs : RunsOver board.places (exchanges_of served)
       many_runs = record {
         many = many_fit n board.places xs (λ session. omega (arith, some, many))
             (λ i l. subst (HasServedAlone board.places) (sym (worker_has_own n i (exchanges_of served) refl l))
             (each_alone state board each olds news served so n i i (omega (arith, some, many))
-            (omega (arith, l, many)))) backed;
+            (omega (arith, l, many)))) backed one_order;
         one = λ one. absurd (omega (arith, one, many, two));
       }
 

@@ -21,6 +21,8 @@ use Rattle.lp_serve.specs.Service.{ServesBy}
 use Rattle.lp_serve.specs.Serving.{Served, IsServed, streams_of}
 use Rattle.lp_serve.specs.Workers.{IsReady, LinkSteps, HasServed}
 use Rattle.lp_serve.specs.declared.worker.Worker.{Worker}
+use Rattle.lp_session.specs.Boarding.{NotesOn}
+use Rattle.lp_serve.proofs.Noting.{none_noted, noted_on}
 use Rattle.lp_serve.proofs.LinkRuns.{links_places, links_more}
 
 -- ---- what grows
@@ -65,6 +67,7 @@ module _ {N : Type 0} (state : N → ListenerState) (board : Board) (each : ℕ)
     pub many : length links ≡ index
     pub ends : now.ends.items ≡ map (λ (x : Served). x.ended) links
     pub steps : LinkSteps begun.pass.view links now.pass.view
+    pub notes : NotesOn begun.pass now.pass
     pub later : (state begun.net).accept_faults ≤ (state now.net).accept_faults
     pub well : now.has_failed ≡ false
     pub room : each ≤ vec_capacity now.ends
@@ -82,6 +85,7 @@ module _ {N : Type 0} (state : N → ListenerState) (board : Board) (each : ℕ)
     many = refl;
     ends = ready.none;
     steps = refl;
+    notes = none_noted begun.pass;
     later = omega arith;
     well = ready.well;
     room = ready.room;
@@ -104,6 +108,7 @@ module _ {N : Type 0} (state : N → ListenerState) (board : Board) (each : ℕ)
       };
       ends = so.ends;
       steps = so.steps;
+      notes = so.notes;
       all = λ well. so.many;
       failed = λ failed. (let h : false ≡ true = sym so.well ∙ failed in cc);
     };
@@ -137,6 +142,7 @@ module _ {N : Type 0} (state : N → ListenerState) (board : Board) (each : ℕ)
             };
             ends = ap (λ v. v.items) ends ∙ so.ends;
             steps = subst (λ (k : Known). LinkSteps begun.pass.view so.links k.view) (sym pass) so.steps;
+            notes = subst (NotesOn begun.pass) (sym pass) so.notes;
             all = λ well. (let h : true ≡ false = sym failed ∙ well in cc);
             failed = λ failed. risen;
           };
@@ -156,7 +162,7 @@ module _ {N : Type 0} (state : N → ListenerState) (board : Board) (each : ℕ)
           (ended ≡ end.Read → Rose given.source.read_faults back.source.read_faults) →
           (ended ≡ end.Write → Rose given.sink.write_faults back.sink.write_faults) →
           next.pass.board ≡ now.pass.board → next.pass.view.share ≡ now.pass.view.share →
-          (Consistent now.pass.view → Consistent next.pass.view) →
+          (Consistent now.pass.view → Consistent next.pass.view) → NotesOn now.pass next.pass →
           Grows (state now.net).handed (state met).handed (given ∷ []) →
           (state met).returned ≡ (state now.net).returned →
           (state now.net).accept_faults ≤ (state met).accept_faults →
@@ -165,7 +171,7 @@ module _ {N : Type 0} (state : N → ListenerState) (board : Board) (each : ℕ)
           (state next.net).accept_faults ≡ (state met).accept_faults →
           next.ends.items ≡ now.ends.items ++ ended ∷ [] → each ≤ vec_capacity next.ends →
           next.has_failed ≡ now.has_failed → Turning (index + 1) next
-      turn_more fresh read write of_board share consistent gives kept later handed takes faults ends room well =
+      turn_more fresh read write of_board share consistent notes gives kept later handed takes faults ends room well =
           record {
             links = links_now;
             of_board = of_board ∙ so.of_board;
@@ -195,6 +201,7 @@ module _ {N : Type 0} (state : N → ListenerState) (board : Board) (each : ℕ)
             ends = ends ∙ ap (λ es. es ++ ended ∷ []) so.ends
                 ∙ sym (map-append (λ (x : Served). x.ended) so.links (one ∷ []));
             steps = steps;
+            notes = noted_on begun.pass now.pass next.pass so.notes notes;
             later = omega (arith, so.later, later, faults);
             well = well ∙ so.well;
             room = room;

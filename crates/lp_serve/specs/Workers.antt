@@ -8,6 +8,7 @@ use Rattle.basis_board.specs.Rule.{Consistent}
 use Rattle.basis_board.specs.declared.seats.View.{View}
 use Rattle.lp_base.specs.Causes.{Rose}
 use Rattle.lp_link.specs.Listening.{ListenerState}
+use Rattle.lp_session.specs.Boarding.{NotesOn}
 use Rattle.lp_serve.specs.Service.{Steps}
 use Rattle.lp_serve.specs.Serving.{Served, Listened}
 use Rattle.lp_serve.specs.declared.worker.Worker.{Worker}
@@ -16,11 +17,12 @@ use Rattle.lp_serve.specs.declared.worker.Worker.{Worker}
 abbrev pub ends_in : {N : Type 0} → Worker N → List LinkEnd
 ends_in w = w.ends.items
 
--- Its pass is one of the board's, which has read nothing, and it has served no link, with room for so many.
+-- Its pass is one of the board's, which has read and noted nothing, and it has served no link, with room for so many.
 pub record IsReady {N : Type 0} (board : Board) (each : ℕ) (w : Worker N) : Type 0 where
   pub of_board : w.pass.board ≡ id_of board
   pub places : w.pass.view.places ≡ board.places
   pub fresh : w.pass.view.reads ≡ []
+  pub unnoted : w.pass.moments ≡ []
   pub consistent : Consistent w.pass.view
   pub none : w.ends.items ≡ []
   pub room : each ≤ vec_capacity w.ends
@@ -41,6 +43,7 @@ pub record ServedLinks {N : Type 0} (state : N → ListenerState) (board : Board
   pub listened : Listened board.places each (state old.net) (state new.net) links
   pub ends : new.ends.items ≡ map (λ (x : Served). x.ended) links
   pub steps : LinkSteps old.pass.view links new.pass.view
+  pub notes : NotesOn old.pass new.pass
   pub all : new.has_failed ≡ false → length links ≡ each
   pub failed : new.has_failed ≡ true → Rose (state old.net).accept_faults (state new.net).accept_faults
 

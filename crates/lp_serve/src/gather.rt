@@ -43,6 +43,7 @@ pub(crate) fn desks(
     requires board { (first.board ≡ id_of board.now) × (first.view.places ≡ board.now.places) }
     requires share { count ≤ first.view.share }
     requires fresh { first.view.reads ≡ [] }
+    requires unnoted { first.moments ≡ [] }
     requires consistent { Consistent first.view }
     ensures len { IfOk result (λ desks. vec_len desks ≡ count) }
     ensures free { IfOk result (λ desks. All (IsFree board.now each) desks.items) }

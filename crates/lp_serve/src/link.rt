@@ -8,6 +8,7 @@ ghost use Rattle.lp_base.specs.Causes.{Rose};
 ghost use Rattle.lp_base.specs.LinesState.{at_start};
 ghost use Rattle.lp_link.specs.LinkState.{sink_of, source_of};
 ghost use Rattle.lp_serve.specs.Service.{ServesBy, TakesAsk};
+ghost use Rattle.lp_session.specs.Boarding.{NotesOn};
 ghost use Rattle.spec_serve.specs.Link as links;
 ghost use Rattle.spec_server.specs.Halves.{at_rest};
 ghost use Rattle.spec_server.specs.Machine.{opening};
@@ -93,6 +94,7 @@ fn serve_asks<L: Link>(
     ensures board { pass.new.board ≡ pass.old.board }
     ensures consistent { Consistent pass.old.view → Consistent pass.new.view }
     ensures share { (pass.new.view).share ≡ (pass.old.view).share }
+    ensures notes { NotesOn pass.old pass.new }
 {
     loop {
         let ask = match next_ask(alloc, lines, link) {
@@ -125,6 +127,7 @@ pub fn serve_link<L: Link>(alloc: Global, link: &mut L, board: &Board, pass: &mu
     ensures board { pass.new.board ≡ pass.old.board }
     ensures consistent { Consistent pass.old.view → Consistent pass.new.view }
     ensures share { (pass.new.view).share ≡ (pass.old.view).share }
+    ensures notes { NotesOn pass.old pass.new }
 {
     let Ok(mut lines) = Lines::new(alloc) else {
         return LinkEnd::NoMemory;

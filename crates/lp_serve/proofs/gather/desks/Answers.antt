@@ -19,6 +19,7 @@ loop-index-init c =
       board = refl;
       places = refl;
       fresh = c.requires.fresh;
+      unnoted = c.requires.unnoted;
       consistent = c.requires.consistent;
       len = omega (arith, made.len);
       room = made.exact;
@@ -53,6 +54,7 @@ loop-index-preserved c =
       board = cut.old.0 ∙ so.board;
       places = ap (λ (x : View). x.places) cut.old.1 ∙ so.places;
       fresh = ap (λ (x : View). x.reads) cut.old.1 ∙ so.fresh;
+      unnoted = cut.moments.0 ∙ so.unnoted;
       consistent = cut.consistent.0;
       len = omega (arith, c.push_reserved.ensures.len, so.len);
       room = c.push_reserved.ensures.capacity ∙ so.room;
@@ -82,7 +84,8 @@ loop-index-preserved c =
           (desk_is_free c.args.board.now c.args.each desk c.loop-index.first.view
           (ap (λ (k : Known). k.board) new.pass ∙ cut.new.0 ∙ so.board ∙ c.requires.board.0)
           (ap (λ (k : Known). k.view) new.pass ∙ cut.new.1) (so.places ∙ c.requires.board.1)
-          (subst (λ (k : Known). Consistent k.view) (sym new.pass) cut.consistent.1) new.none new.room));
+          (subst (λ (k : Known). Consistent k.view) (sym new.pass) cut.consistent.1)
+          (ap (λ (k : Known). k.moments) new.pass ∙ cut.moments.1) new.none new.room));
     }
 
 pub returns-clause-free : goal.returns-clause-free
@@ -95,6 +98,7 @@ returns-clause-free c =
       of_board = ap (λ (k : Known). k.board) new.pass ∙ so.board ∙ c.requires.board.0;
       places = ap (λ (k : Known). k.view.places) new.pass ∙ so.places ∙ c.requires.board.1;
       fresh = ap (λ (k : Known). k.view.reads) new.pass ∙ so.fresh;
+      unnoted = ap (λ (k : Known). k.moments) new.pass ∙ so.unnoted;
       consistent = subst (λ (k : Known). Consistent k.view) (sym new.pass) so.consistent;
       none = new.none;
       room = new.room;

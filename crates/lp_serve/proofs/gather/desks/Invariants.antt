@@ -11,6 +11,7 @@ invariant-loop-index l =
       board : l.first.board ≡ l.fn.first.board;
       places : l.first.view.places ≡ l.fn.first.view.places;
       fresh : l.first.view.reads ≡ [];
+      unnoted : l.first.moments ≡ [];
       consistent : Consistent l.first.view;
       len : vec_len l.desks + 1 ≡ l.index;
       room : vec_capacity l.desks ≡ l.count;

@@ -4,6 +4,7 @@ use Rattle.spec_server.specs.Halves.{Standing}
 use Rattle.lp_base.specs.Beside.{SinkState, SourceState}
 use Rattle.lp_serve.proofs.LinkTurns.{start}
 use Rattle.lp_serve.proofs.LinkLoop.{stops, breaks, ends, goes_on}
+use Rattle.lp_serve.proofs.Noting.{none_noted, noted_on}
 use Rattle.lp_serve.proofs.link.serve_asks.Goals as goal
 
 pub loop-ask-init : goal.loop-ask-init
@@ -14,6 +15,7 @@ loop-ask-init g c = record {
   board = refl;
   consistent = λ h. h;
   share = refl;
+  notes = none_noted _;
   read = omega arith;
   write = omega arith;
 }
@@ -47,6 +49,7 @@ loop-ask-preserved g c = record {
   board = c.step-reply.ensures.board ∙ c.loop-ask.invariant.board;
   consistent = λ h. c.step-reply.ensures.consistent (c.loop-ask.invariant.consistent h);
   share = c.step-reply.ensures.share ∙ c.loop-ask.invariant.share;
+  notes = noted_on _ _ _ c.loop-ask.invariant.notes c.step-reply.ensures.notes;
   read = omega (
     arith,
     c.next_ask.ensures.cause.0,
@@ -58,3 +61,9 @@ loop-ask-preserved g c = record {
     ap (λ (s : SinkState). s.write_faults) c.next_ask.ensures.beside,
   );
 }
+
+pub returns-in-Err-sent-clause-notes : goal.returns-in-Err-sent-clause-notes
+returns-in-Err-sent-clause-notes g c = noted_on _ _ _ c.loop-ask.invariant.notes c.step-reply.ensures.notes
+
+pub returns-then-quits-clause-notes : goal.returns-then-quits-clause-notes
+returns-then-quits-clause-notes g c = noted_on _ _ _ c.loop-ask.invariant.notes c.step-reply.ensures.notes

@@ -2,6 +2,7 @@
 use Rattle.std.proofs.Common.{◌≡◌, ◌-◌, ◌^◌, ◌≤◌}
 use Rattle.spec_server.specs.Halves.{Nothing}
 use Rattle.basis_board.specs.Rule.{Consistent}
+use Rattle.lp_session.specs.Boarding.{NotesOn}
 use Rattle.lp_serve.proofs.LinkTurns.{Turn}
 use Rattle.lp_serve.proofs.link.serve_asks.Given as goal
 
@@ -13,6 +14,7 @@ invariant-loop-ask g l = record {
   board : l.pass.board ≡ l.fn.pass.board;
   consistent : Consistent l.fn.pass.view → Consistent l.pass.view;
   share : l.pass.view.share ≡ l.fn.pass.view.share;
+  notes : NotesOn l.fn.pass l.pass;
   read : g.L.Source.read_faults l.fn.link ≤ g.L.Source.read_faults l.link;
   write : g.L.Sink.write_faults l.fn.link ≤ g.L.Sink.write_faults l.link;
 }

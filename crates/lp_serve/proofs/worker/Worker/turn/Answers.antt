@@ -56,7 +56,7 @@ loop-index-preserved g c =
     turn_more (listener_of g.N.Listen.handed g.N.Listen.returned g.N.Listen.accept_faults) c.args.board.now c.args.each
     c.args.self.now c.loop-index.index c.loop-index.self so _ c.loop-index-test.true c.accept.new.self
     (known c.in-Ok.link) (known c.serve_link-end.new.link) c.serve_link-end.result served.serves
-    c.in-Ok.ensures.handed.1 served.read.1 served.write.1 served.board served.share served.consistent
+    c.in-Ok.ensures.handed.1 served.read.1 served.write.1 served.board served.share served.consistent served.notes
     c.in-Ok.ensures.handed.0 c.in-Ok.ensures.returned c.in-Ok.ensures.cause.later c.give_back.ensures.handed
     c.give_back.ensures.returned c.give_back.ensures.faults c.push_reserved.ensures.items
     (omega (arith, so.room, c.push_reserved.ensures.capacity)) refl
