@@ -1,4 +1,5 @@
-// Two links over loopback, each served by a worker of its own. Each client waits for what the other one reads.
+// Two links over loopback, each served by a worker of its own. Each client waits for what the other one reads, and the
+// one that solves last begins with the basis that the other one's worker has published.
 use lp_base::MemSink;
 use lp_net::TcpNet;
 use lp_serve::serve;
@@ -11,6 +12,11 @@ use std::{io, thread};
 
 const LOAD: &str =
     "LOAD FREE\nNAME a\nROWS\n N cost\n G R1\nCOLUMNS\n x cost 1 R1 1\nRHS\n R1 1\nENDATA\n";
+
+// How the first answer is found, and the second, whose solve begins when the first client has its reply.
+const PUBLISHES: &str = "HOW COLD PIVOTS 1 PUBLISHED 0\n";
+
+const FINDS: &str = "HOW BASIS 0 PIVOTS 0 SAME\n";
 
 // The most turns that a client waits for the other, of a millisecond or more.
 const TURNS: u32 = 10_000;
@@ -61,9 +67,15 @@ fn is_answered(mut stream: &TcpStream, text: &str, reply: &str) -> bool {
     stream.write_all(text.as_bytes()).is_ok() && hears(stream, reply)
 }
 
-// A client, which solves its model only once what it waits for has come. Whether it read every reply; it closes its
-// link at the first that it did not.
-fn talk<R: Clock>(rt: &R, stream: TcpStream, heard: &Heard, awaited: &AtomicU64) -> bool {
+// A client, which solves its model only once what it waits for has come, and asks how its answer was found. Whether it
+// read every reply; it closes its link at the first that it did not.
+fn talk<R: Clock>(
+    rt: &R,
+    stream: TcpStream,
+    heard: &Heard,
+    awaited: &AtomicU64,
+    how: &str,
+) -> bool {
     if !is_answered(&stream, LOAD, "LOADED 1 1\n") {
         return false;
     }
@@ -72,7 +84,7 @@ fn talk<R: Clock>(rt: &R, stream: TcpStream, heard: &Heard, awaited: &AtomicU64)
         return false;
     }
     heard.solved.store(1, Ordering::SeqCst);
-    is_answered(&stream, "QUIT\n", "BYE\n")
+    is_answered(&stream, "HOW\n", how) && is_answered(&stream, "QUIT\n", "BYE\n")
 }
 
 // A socket that listens, and the stream of a client that it has not accepted yet.
@@ -100,8 +112,8 @@ fn two_links_are_served_beside_each_other(rt: HostRuntime) -> Result<(), Fail> {
         || {
             thread::join(
                 &rt,
-                || talk(&rt, one, &heard_one, &heard_two.loaded),
-                || talk(&rt, two, &heard_two, &heard_one.solved),
+                || talk(&rt, one, &heard_one, &heard_two.loaded, PUBLISHES),
+                || talk(&rt, two, &heard_two, &heard_one.solved, FINDS),
             )
         },
     );

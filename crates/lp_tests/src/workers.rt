@@ -1,4 +1,4 @@
-// Two workers beside each other.
+// Two workers beside each other, of which the one finds what the other has published.
 ghost use Rattle.std.specs.Prelude.{◌≡◌, ◌≤◌, All, IfOk, OnOk};
 
 use lp_base::Bytes;
@@ -12,8 +12,9 @@ use std::sync::atomic::{AtomicU64, Ordering};
 use std::test::Fail;
 use std::thread;
 
-const REPLIES: &str =
-    "LOADED 1 1\nOPTIMAL 60.75\nOPTIMAL 60.75\nLOADED 1 1\nOPTIMAL 60.75\nOPTIMAL 60.75\n";
+// Session 2 solves first, without a basis, and publishes one. Session 1 is let go after that, and begins with it.
+const REPLIES: &str = "LOADED 1 1\nOPTIMAL 60.75\nHOW BASIS 0 PIVOTS 0 SAME\nOPTIMAL 60.75\n\
+     LOADED 1 1\nOPTIMAL 60.75\nHOW COLD PIVOTS 1 PUBLISHED 0\nOPTIMAL 60.75\n";
 
 // The most turns that a solve is held.
 const TURNS: u32 = 20_000_000;
@@ -54,13 +55,10 @@ impl Gate for Handshake {
     }
 }
 
-fn solve(session: u32) -> Asked
+fn asked(session: u32, ask: Ask) -> Asked
     ensures { result.session ≡ session }
 {
-    Asked {
-        session,
-        ask: Ask::Plain(Plain::Solve),
-    }
+    Asked { session, ask }
 }
 
 fn push(asked: Asked, to: &mut Vec<Asked>) -> Result<(), AllocError>
@@ -71,7 +69,8 @@ fn push(asked: Asked, to: &mut Vec<Asked>) -> Result<(), AllocError>
     Ok(to.push(asked)?)
 }
 
-// The session holds a model and solves it twice: the greatest 9 C1 where 4 C1 is at most 27 and C1 at most 7.
+// The session holds a model and solves it twice: the greatest 9 C1 where 4 C1 is at most 27 and C1 at most 7. In between
+// it is asked how the first answer was found.
 fn push_asks(alloc: Global, session: u32, to: &mut Vec<Asked>) -> Result<(), AllocError>
     requires session { session ≤ 64 }
     requires before { All (λ asked. asked.session ≤ 64) to.old.items }
@@ -79,8 +78,9 @@ fn push_asks(alloc: Global, session: u32, to: &mut Vec<Asked>) -> Result<(), All
 {
     let ask = Ask::Loaded(make(alloc, 4, 1, 1)?);
     push(Asked { session, ask }, to)?;
-    push(solve(session), to)?;
-    push(solve(session), to)
+    push(asked(session, Ask::Plain(Plain::Solve)), to)?;
+    push(asked(session, Ask::Plain(Plain::How)), to)?;
+    push(asked(session, Ask::Plain(Plain::Solve)), to)
 }
 
 // The asks of both sessions.
