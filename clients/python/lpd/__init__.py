@@ -48,10 +48,12 @@ from .replies import Accepted, Answer, Infeasible, Loaded, Optimal, Past, Reject
 from .replies import Basis, Cold, Fell, Found, Full, Published, Raced, Same, Unpublished
 from .report import ColumnReport, Conflict, ConflictRow, Report, RowReport, conflict, report
 from .session import Session, connect
+from .ways import Answered, Effort, answered
 
 __all__ = [
     "Accepted",
     "Answer",
+    "Answered",
     "BadCommand",
     "BadName",
     "BadNumber",
@@ -65,6 +67,7 @@ __all__ = [
     "ConflictRow",
     "ConnectFailed",
     "Converted",
+    "Effort",
     "Fell",
     "Found",
     "FromBasis",
@@ -109,6 +112,7 @@ __all__ = [
     "UnknownName",
     "Unpublished",
     "Verdict",
+    "answered",
     "certify",
     "check",
     "conflict",

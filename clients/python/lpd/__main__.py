@@ -8,22 +8,47 @@ answer whose certificate the checker in Python alone accepts, since a number pas
 from __future__ import annotations
 
 import argparse
+import difflib
+import os
+import re
 import sys
-from typing import List, Optional
+from typing import List, NoReturn, Optional
 
 from . import errors
 from .commands import batch, certify, check, convert, solve
-from .commands.common import asked, tell
+from .commands.common import tell
 from .conversion import Question, Unconvertible
 from .dialects import Inexact
+from .lp_format import Unreadable
 from .number_text import NotANumber
 from .version import ShowVersion
 
 EPILOG = __doc__.partition("\n\n")[2] if __doc__ else None
 
 
+INTERRUPTED, CLOSED = 130, 141  # as a shell has it for the signals that end other programs then
+
+
+class Words(argparse.ArgumentParser):
+    """Says which word is wrong, the one that was likely meant, and how help is had."""
+
+    def error(self, message: str) -> NoReturn:
+        unknown = re.search(r"unrecognized arguments: (\S+)|invalid choice: '([^']*)'", message)
+        words = [] if unknown is None else difflib.get_close_matches(unknown[1] or unknown[2], self.known(), 1)
+        meant = f": did you mean {words[0]}?" if words else ""
+        self.exit(2, f"{self.prog}: {message}{meant}\n{self.prog} --help says which words there are.\n")
+
+    def known(self) -> List[str]:
+        """The words that stand in the usage, and for an option that follows a command those of all commands."""
+        found = set(re.findall(r"--?[a-z][\w-]*|\b[a-z][\w-]+\b", self.format_usage()))
+        for action in self._actions:
+            if isinstance(action, argparse._SubParsersAction):
+                found.update(*(each.known() for each in action.choices.values()))
+        return sorted(found)
+
+
 def parser() -> argparse.ArgumentParser:
-    top = argparse.ArgumentParser(prog="python3 -m lpd", epilog=EPILOG, formatter_class=argparse.RawDescriptionHelpFormatter)
+    top = Words(prog="python3 -m lpd", epilog=EPILOG, formatter_class=argparse.RawDescriptionHelpFormatter)
     commands = top.add_subparsers(dest="command", required=True)
     for command in (solve, check, convert, certify, batch):
         command.add(commands)
@@ -40,22 +65,34 @@ def status_of_error(error: Exception) -> int:
         tell(f"lpd: {error}")
         return 2
     if isinstance(error, Question):
-        tell(f"lpd: {asked(error)}.")
+        tell(f"lpd: {error.asked()}.")
         return 2
     if isinstance(error, NotANumber):
         tell(f"lpd: {error} is not a number")
         return 2
     tell(f"lpd: {error}")
-    return 9 if isinstance(error, (Unconvertible, Inexact)) else 3
+    return 9 if isinstance(error, (Unconvertible, Inexact, Unreadable)) else 3
 
 
 def main(arguments: Optional[List[str]] = None) -> int:
     words = parser().parse_args(arguments)
     try:
         status: int = words.run(words)
+        sys.stdout.flush()
         return status
+    except BrokenPipeError:
+        return closed()
+    except KeyboardInterrupt:
+        tell("lpd: interrupted")
+        return INTERRUPTED
     except (errors.LpdError, NotANumber, OSError) as error:
         return status_of_error(error)
+
+
+def closed() -> int:
+    """The status where nobody reads standard output any more, to which nothing more is written, not even at the end."""
+    os.dup2(os.open(os.devnull, os.O_WRONLY), sys.stdout.fileno())
+    return CLOSED
 
 
 if __name__ == "__main__":

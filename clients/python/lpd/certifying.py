@@ -10,7 +10,7 @@ from .basis_file import basis_lines, reordered
 from .certificate import check_lines
 from .dialects import PROFILE, written
 from .errors import CertificateFault, LpdError, ProgramEnded, TextFault
-from .exact import Basis, Simplex, certificate_lines
+from .exact import Basis, Simplex, Watch, certificate_lines
 from .floating import NONE, Claim, ask
 from .from_basis import BAD_WORDS, FromBasis, solve_from
 from .model import Model, read_model
@@ -91,7 +91,7 @@ def judged(text: str, certificate: List[str]) -> "tuple[Optional[Known], str]":
     return verdict.known, ""
 
 
-def certified(model: Model, claim: Claim) -> Tuple[Known, List[str], int]:
+def certified(model: Model, claim: Claim, watch: Optional[Watch] = None) -> Tuple[Known, List[str], int]:
     """What an accepted certificate shows, its lines, and the exact steps to it in Python. An exact solver's own
     certificate is tried first."""
     if claim.parts:
@@ -99,7 +99,7 @@ def certified(model: Model, claim: Claim) -> Tuple[Known, List[str], int]:
         verdict = check_lines(model, lines, wide=True)
         if isinstance(verdict, Accepted):
             return verdict.known, lines, 0
-    simplex = Simplex(model, claim.basis or Basis())
+    simplex = Simplex(model, claim.basis or Basis(), watch)
     lines = simplex.run()
     verdict = check_lines(model, lines, wide=True)
     if not isinstance(verdict, Accepted):
@@ -142,9 +142,9 @@ def by_program(text: str, model: Model, basis: Basis, lines: Sequence[str], note
     return Exact(verdict.known, found.certificate, found.pivots or 0, PROGRAM, found.start, notes)
 
 
-def made_exact(text: str, model: Model, claim: Claim, way: Optional[str] = None) -> Exact:
+def made_exact(text: str, model: Model, claim: Claim, way: Optional[str] = None, watch: Optional[Watch] = None) -> Exact:
     """What is exactly true of the model of a text, from a solver's basis: by `lpd basis`, and where it has no answer by
-    exact steps in Python, or only one of the two ways."""
+    exact steps in Python, which the watch may end, or only one of the two ways."""
     notes: List[str] = []
     if way != PYTHON:
         basis = claim.basis or Basis()
@@ -155,16 +155,18 @@ def made_exact(text: str, model: Model, claim: Claim, way: Optional[str] = None)
             if way == PROGRAM:
                 raise
             notes.append(str(failed))
-    known, certificate, steps = certified(model, claim)
+    known, certificate, steps = certified(model, claim, watch)
     return Exact(known, certificate, steps, PYTHON, notes=notes)
 
 
 def certify(text: str, solver: str = "glpsol", seconds: Optional[float] = None, way: Optional[str] = None) -> Certified:
     """What is exactly true of the model that a text of the profile spells, whose numbers may have any width: by `lpd
-    basis` from the solver's basis, or else by exact steps in Python; `way` names the one that alone is taken."""
+    basis` from the solver's basis, or else by exact steps in Python; `way` names the one that alone is taken. The solver may take
+    so many seconds, and the steps behind it as many: then they end with OutOfTime."""
     model = read_model(text, wide=True)
     claim = ask(solver, model, seconds)
-    found = made_exact(text, model, claim, way)
+    with Watch(seconds) as watch:
+        found = made_exact(text, model, claim, way, watch)
     by_checker, why = judged(text, found.certificate)
     if by_checker is not None and by_checker != found.known:
         raise NotCertified(f"lpd check says {by_checker}, and the checker in Python {found.known}")

@@ -44,6 +44,13 @@ class Question(LpdError):
         self.choices = tuple(choices)
         super().__init__(f"line {line}: {what}")
 
+    def asked(self) -> str:
+        """The question with the words of a command that answer it."""
+        option = f"--{self.option.replace('_', '-')}"
+        if self.option == "relax":
+            return f"{self}. {option} solves without that"
+        return f"{self}. Say which: {' or '.join(f'{option} {choice}' for choice in self.choices)}"
+
 
 @dataclass(frozen=True)
 class Changes:

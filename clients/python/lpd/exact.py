@@ -6,16 +6,53 @@ certificate, and its word counts for nothing: a checker judges the certificate.
 """
 from __future__ import annotations
 
+import sys
+import time
 from dataclasses import dataclass, field
 from fractions import Fraction
-from typing import Dict, List, Mapping, NamedTuple, Optional, Sequence, Set, Tuple, Union
+from types import TracebackType
+from typing import Dict, List, Mapping, NamedTuple, Optional, Sequence, Set, Tuple, Type, Union
 
+from .errors import LpdError
 from .model import ZERO, Limits, Model
 from .number_text import shown
 
 Vector = Dict[int, Fraction]
 BASIC, LOWER, UPPER = "basic", "at its lower bound", "at its upper bound"
 STALLED = 20  # so many steps that do not move, and then Bland's rule
+
+
+class OutOfTime(LpdError):
+    """The steps are not done in the time that they may take."""
+
+
+class Watch:
+    """Lets exact steps go on for so many seconds from the beginning of the block that it manages, or for ever. On a terminal it
+    says how far they are."""
+
+    def __init__(self, seconds: Optional[float] = None) -> None:
+        self.seconds, self.started, self.told = seconds, time.monotonic(), 0.0
+
+    def __enter__(self) -> Watch:
+        self.started = time.monotonic()
+        return self
+
+    def __exit__(self, kind: Optional[Type[BaseException]], error: Optional[BaseException], trace: Optional[TracebackType]) -> None:
+        if self.told:
+            print("\r\x1b[K", end="", file=sys.stderr, flush=True)
+
+    def left(self) -> Optional[float]:
+        """How many seconds are left."""
+        return None if self.seconds is None else max(0.1, self.seconds - (time.monotonic() - self.started))
+
+    def step(self, steps: int, what: str) -> None:
+        """Before each step: how many were made. OutOfTime ends them."""
+        spent = time.monotonic() - self.started
+        if self.seconds is not None and spent > self.seconds:
+            raise OutOfTime(f"{steps} exact steps in Python were not enough in {self.seconds:g} seconds: --seconds allows more")
+        if spent - self.told > 1 and sys.stderr.isatty():
+            self.told = spent
+            print(f"\r\x1b[K{steps} exact steps in Python, {what}, {spent:.0f} seconds", end="", file=sys.stderr, flush=True)
 
 
 class Factors:
@@ -129,8 +166,8 @@ def certificate_lines(kind: str, parts: Sequence[Tuple[str, Mapping[str, Fractio
 class Simplex:
     """Variables are the columns, and behind them for each row its sum, which its limits bound."""
 
-    def __init__(self, model: Model, basis: Basis) -> None:
-        self.model = model
+    def __init__(self, model: Model, basis: Basis, watch: Optional[Watch] = None) -> None:
+        self.model, self.watch = model, watch or Watch()
         self.names, self.row_names = list(model.columns), list(model.rows)
         self.count = len(self.names)
         at = {name: i for i, name in enumerate(self.row_names)}
@@ -290,6 +327,7 @@ class Simplex:
                 return [f"CLASH {name}", "END"]
         while True:
             violations = self.violations()
+            self.watch.step(self.steps, f"{len(violations)} limits are not kept" if violations else "all limits are kept")
             cost = violations or self.cost
             y = self.prices(cost)
             found = self.entering(cost, y)

@@ -1,15 +1,78 @@
 """Tables of the answers to all models of a folder."""
+import csv
+import gzip
+import io
 import json
+import os
 import shutil
+import signal
+import subprocess
+import sys
 import tempfile
+import time
 import unittest
 from pathlib import Path
+from typing import Dict, List
+
+from lpd import tables
+from lpd.batching import Result
+from lpd.tables import cells_of
 
 from .commands import command
 from .models import has_program
 
 MODELS = Path(__file__).resolve().parents[3] / "examples" / "models"
+PACKAGE = Path(__file__).resolve().parents[1]
+NAMES = ["currency", "cycling", "diet", "orders", "plan.fixed", "transport"]
 WHOLE = "ROWS\n N cost\nCOLUMNS\n M1 'MARKER' 'INTORG'\n x cost 1\n M2 'MARKER' 'INTEND'\nENDATA\n"
+SETS = "NAME\nROWS\n N cost\n G a\n G b\nCOLUMNS\n x cost 2 a 1\n x b 1\nRHS\n RHS1 a 3\n RHS2 b 11\nENDATA\n"
+COLUMNS = ["model", "rows", "columns", "answer", "value", "way", "accepted by", "pivots", "seconds", "note"]
+
+
+def rows_of(text: str) -> List[Dict[str, str]]:
+    """The lines of a table, but for how long each took."""
+    return [{name: cell for name, cell in row.items() if name != "seconds"} for row in csv.DictReader(io.StringIO(text))]
+
+
+class Tables(unittest.TestCase):
+    """What needs no program."""
+
+    def kept(self, text: str) -> tables.Kept:
+        folder = tempfile.TemporaryDirectory()
+        self.addCleanup(folder.cleanup)
+        path = Path(folder.name) / "table.csv"
+        path.write_text(text)
+        return tables.Kept(str(path), COLUMNS)
+
+    def test_a_line_that_was_cut_short(self) -> None:
+        whole = "a,1,2,OPTIMAL,3,lpd solve,lpd check,4,0.1,\n"
+        for cut in ("", "b", "b,1,2,OPTIMAL,3,lpd solve,lpd check,4,0.1,", "b,1,2\n", "b,,,FAILED,,,,,,why\n"):
+            kept = self.kept(",".join(COLUMNS) + "\n" + whole + cut)
+            self.assertEqual((list(kept.rows), kept.path.read_text()), (["a"], ",".join(COLUMNS) + "\n" + whole))
+
+    def test_another_table(self) -> None:
+        with self.assertRaisesRegex(tables.OtherTable, "a table with the columns model, rows"):
+            self.kept("model,rows\n")
+
+    def test_the_order_of_names(self) -> None:
+        kept = self.kept("")
+        for name in "bca":
+            kept.add(cells_of(Result(name, answer="OPTIMAL", value="1/3", notes=["one, two", "three"])))
+        kept.write()
+        self.assertEqual([row["model"] for row in rows_of(kept.path.read_text())], ["a", "b", "c"])
+        self.assertEqual(rows_of(kept.path.read_text())[0]["note"], "one, two; three")
+
+    def test_long_values(self) -> None:
+        cells = cells_of(Result("a", answer="OPTIMAL", value=f"{10**60}/3"))
+        self.assertIn("~3.333333333e+59", tables.Writer("text", COLUMNS, ["a"]).line(cells))
+        self.assertIn(f"{10**60}/3", tables.Writer("csv", COLUMNS, ["a"]).line(cells))
+
+    def test_known_answers(self) -> None:
+        known = tables.read_optima("name\toutcome\tvalue\na\toptimal\t1/2\tboth\nb\tinfeasible\t\tboth\n")
+        cases = [("OPTIMAL", "0.5", "a", "same"), ("OPTIMAL", "0.6", "a", "OTHER"), ("INFEASIBLE", "", "b", "same")]
+        cases += [("UNBOUNDED", "", "b", "OTHER"), ("PAST", "ADD 1 2", "a", ""), ("OPTIMAL", "1", "c", "")]
+        for answer, value, name, word in cases:
+            self.assertEqual(tables.against({"answer": answer, "value": value}, known.get(name)), word)
 
 
 @unittest.skipUnless(has_program(), "the program is not built")
@@ -17,34 +80,126 @@ class Batch(unittest.TestCase):
     def test_answers(self) -> None:
         said = command("batch", str(MODELS), "--json")
         self.assertEqual(said.status, 0)
-        for row in json.loads(said.output):
+        rows = json.loads(said.output)
+        self.assertEqual(list(rows[0]), [*COLUMNS, "decimals"])
+        for row in rows:
             words = (MODELS / f"{row['model']}.solved").read_text().splitlines()[0].split()
             self.assertEqual([row["answer"], row["value"]], [words[0], words[1] if len(words) > 1 else ""])
+            self.assertEqual((row["way"], row["accepted by"]), ("lpd solve", "lpd check"))
         self.assertIn("6/6 transport\n", said.complaints)
 
     def test_a_table_and_csv(self) -> None:
         said = command("batch", str(MODELS), "--budget", "2")
-        self.assertIn("6 models: 1 INFEASIBLE, 4 SPENT, 1 UNBOUNDED\n", said.output)
+        self.assertIn("6 models: 1 INFEASIBLE, 4 SPENT, 1 UNBOUNDED; 2 accepted by lpd check, 0 by", said.output)
         said = command("batch", str(MODELS), "--csv")
         lines = said.output.splitlines()
-        self.assertEqual((lines[0], len(lines)), ("model,rows,columns,answer,value,pivots,seconds,note", 7))
-        self.assertTrue(lines[3].startswith("diet,3,6,OPTIMAL,92.5,10,"))
+        self.assertEqual((lines[0], len(lines)), (",".join(COLUMNS), 7))
+        self.assertTrue(lines[3].startswith("diet,3,6,OPTIMAL,92.5,lpd solve,lpd check,10,"))
 
     def test_what_is_refused_and_asked(self) -> None:
         with tempfile.TemporaryDirectory() as folder:
             (Path(folder) / "a.mps").write_text(WHOLE)
             (Path(folder) / "b.MPS").write_text("ROWS\n N cost\nSOS1\n")
             (Path(folder) / "c.mps").write_text("ROWS\n N cost\nCOLUMNS\n x cost one\nENDATA\n")
-            (Path(folder) / "d.mps").write_text("ROWS\n N cost\n\nCOLUMNS\n x cost 1 $\nENDATA\n")
+            (Path(folder) / "d.mps.gz").write_bytes(gzip.compress(b"ROWS\n N cost\n\nCOLUMNS\n x cost 1 $\nENDATA\n"))
+            (Path(folder) / "e.mps").write_text(SETS)
             rows = json.loads(command("batch", folder, "--json").output)
-            self.assertEqual([row["answer"] for row in rows], ["ASKED", "FAILED", "ERR 8 MPS 4 M9", "OPTIMAL"])
+            self.assertEqual([row["answer"] for row in rows], ["ASKED", "FAILED", "ERR 8 MPS 4 M9", "OPTIMAL", "OPTIMAL"])
             self.assertEqual(rows[3]["note"], "converted: 1 changes")
+            said = command("batch", folder)
+            self.assertIn(" --relax solves without that\n", said.output)
+            self.assertIn("1 CARD OF OTHER SETS NOT READ", said.output)
+            self.assertIn("; 1 WITH CARDS OF OTHER SETS NOT READ\n", said.output)
             rows = json.loads(command("batch", folder, "--json", "--relax", "--no-bound", "none").output)
             self.assertEqual(rows[0]["answer"], "OPTIMAL")
         with tempfile.TemporaryDirectory() as folder:
             self.assertEqual(command("batch", folder).status, 3)
 
+    def test_known_answers(self) -> None:
+        with tempfile.TemporaryDirectory() as folder:
+            optima = Path(folder) / "optima"
+            optima.write_text("name\toutcome\toptimum\ndiet\toptimal\t185/2\norders\tinfeasible\t-\n")
+            said = command("batch", str(MODELS), "--optima", str(optima))
+            self.assertEqual(said.status, 0)
+            self.assertIn("; 2 answers as they are known, 0 others\n", said.output)
+            optima.write_text("name\toutcome\toptimum\ndiet\toptimal\t93\n")
+            self.assertEqual(command("batch", str(MODELS), "--optima", str(optima)).status, 1)
+
+    def test_several_at_a_time(self) -> None:
+        one, two = (command("batch", str(MODELS), "--csv", "--jobs", jobs) for jobs in ("1", "3"))
+        self.assertEqual((one.status, two.status), (0, 0))
+        self.assertEqual(rows_of(one.output), sorted(rows_of(two.output), key=lambda row: row["model"]))
+
     @unittest.skipUnless(shutil.which("clp"), "clp is not on the path")
     def test_certificates(self) -> None:
         said = command("batch", str(MODELS), "--with", "clp")
         self.assertIn("6 certified by lpd check, 0 by the checker in Python alone", said.output)
+
+
+@unittest.skipUnless(has_program(), "the program is not built")
+class Interrupted(unittest.TestCase):
+    """A run that is stopped before its end, as its own process."""
+
+    def setUp(self) -> None:
+        folder = tempfile.TemporaryDirectory()
+        self.addCleanup(folder.cleanup)
+        self.folder, self.table = Path(folder.name) / "models", Path(folder.name) / "table.csv"
+        self.folder.mkdir()
+        for name in NAMES:
+            shutil.copy(MODELS / f"{name}.mps", self.folder)
+        # The last model waits until somebody writes it.
+        os.mkfifo(self.folder / "z.mps")
+
+    def begin(self, *words: str) -> "subprocess.Popen[str]":
+        line = [sys.executable, "-m", "lpd", "batch", str(self.folder), *words]
+        return subprocess.Popen(line, cwd=PACKAGE, stdout=subprocess.PIPE, stderr=subprocess.PIPE, text=True)
+
+    def lines(self, count: int) -> None:
+        """Waits until the table has so many lines."""
+        end = time.monotonic() + 120
+        while time.monotonic() < end and (not self.table.exists() or self.table.read_text().count("\n") < count):
+            time.sleep(0.05)
+
+    def test_each_line_comes_as_its_model_ends(self) -> None:
+        run = self.begin("--csv")
+        lines = [run.stdout.readline() for _ in range(7)] if run.stdout else []
+        self.assertEqual([line.split(",")[0] for line in lines[1:]], NAMES)
+        run.send_signal(signal.SIGINT)
+        output, complaints = run.communicate(timeout=60)
+        self.assertEqual((run.returncode, output), (130, ""))
+        self.assertIn("lpd: interrupted: 6 of 7 models are done\n", complaints)
+        self.assertNotIn("Traceback", complaints)
+
+    def test_json_is_whole(self) -> None:
+        run = self.begin("--json", "--resume", str(self.table))
+        self.lines(7)
+        run.send_signal(signal.SIGINT)
+        output, _ = run.communicate(timeout=60)
+        self.assertEqual([row["model"] for row in json.loads(output)], NAMES)
+
+    def test_a_run_that_is_killed_is_gone_on_with(self) -> None:
+        run = self.begin("--resume", str(self.table))
+        self.lines(4)
+        run.kill()
+        run.communicate(timeout=60)
+        first = rows_of(self.table.read_text())
+        self.assertGreaterEqual(len(first), 3)
+        (self.folder / "z.mps").unlink()
+        for name in NAMES[:3]:
+            (self.folder / f"{name}.mps").write_text("what stands here now is not read\n")
+        said = command("batch", str(self.folder), "--csv", "--resume", str(self.table))
+        self.assertEqual(said.status, 0, said.complaints)
+        whole = rows_of(command("batch", str(MODELS), "--csv").output)
+        self.assertEqual(rows_of(self.table.read_text()), whole)
+        self.assertEqual(rows_of(said.output), whole)
+
+    def test_a_closed_pipe(self) -> None:
+        for words in (["convert", "../../examples/models/plan.fixed.mps"], ["batch", "../../examples/models", "--csv"]):
+            run = subprocess.Popen([sys.executable, "-m", "lpd", *words], cwd=PACKAGE, stdout=subprocess.PIPE, stderr=subprocess.PIPE)
+            if run.stdout:
+                run.stdout.close()
+                run.stdout = None
+            complaints = run.communicate(timeout=60)[1].decode()
+            self.assertEqual(run.returncode, 141)
+            self.assertNotIn("Traceback", complaints)
+            self.assertNotIn("Broken pipe", complaints)

@@ -1,4 +1,5 @@
 """Conversions: each dialect with a text, what is asked and not guessed, and what other programs make of the texts for them."""
+import os
 import random
 import re
 import shutil
@@ -239,12 +240,20 @@ class Command(unittest.TestCase):
         with tempfile.TemporaryDirectory() as folder:
             names, output = f"{folder}/names", f"{folder}/out"
             text = plain("x", "größe", plain(" G need", " G need $"))
-            said = command("convert", "-", "--names", names, "-o", output, stdin=text.encode())
+            said = command("convert", "-", "--renames", names, "-o", output, stdin=text.encode())
             self.assertEqual((said.status, said.output), (0, ""))
             self.assertIn("line 3: a comment behind $ is taken out\n", said.complaints)
-            self.assertIn("column 'größe' is named gro_e\n", said.complaints)
+            self.assertIn(f"column 'größe' is named gro_e, as {names} has it\n", said.complaints)
             self.assertEqual(Path(names).read_text(encoding="utf-8"), "column\tgröße\tgro_e\n")
             self.assertEqual(Path(output).read_text(), plain("x", "gro_e"))
+
+    def test_many_names(self) -> None:
+        rows = "".join(f" L  row {n:03}\n" for n in range(200))
+        text = f"NAME\nROWS\n N  cost\n{rows}COLUMNS\n    x         cost      1\nENDATA\n"
+        said = command("convert", "-", "--form", "fixed", "-o", os.devnull, stdin=text.encode())
+        self.assertEqual(said.status, 0, said.complaints)
+        self.assertIn("row 'row 000' is named row_000, and 199 more names are changed: --renames FILE puts them down\n", said.complaints)
+        self.assertLess(len(said.complaints.splitlines()), 5)
 
     def test_questions(self) -> None:
         said = command("convert", "-", stdin=plain("UP BND x 3", "UP BND y 9\n UP x 3").encode())
@@ -276,9 +285,9 @@ class Command(unittest.TestCase):
         self.assertEqual(command("solve", "-", "--relax", "--show", "answer", stdin=text)[:2], (0, "OPTIMAL 5\n"))
         said = command("solve", "-", "--csv", stdin=plain("UP BND x 3", "UP BND x 3\n UP OTHER x 1").encode())
         self.assertEqual(said.output.splitlines()[1:3], ["answer,OPTIMAL,5,,", "column,x,3,-1,"])
-        self.assertIn("note: cards of other sets are skipped, as docs/FORMATS.md has it: line 11\n", said.complaints)
+        self.assertEqual(said.complaints, "1 CARD OF OTHER SETS NOT READ: line 11 (docs/FORMATS.md)\n")
         said = command("solve", "-", "--show", "prices", "--decimals", "1", stdin=PLAIN.encode())
-        self.assertEqual(said.output, "OPTIMAL 5\n\nrow   price\nneed  2 (2.0)\n\ncolumn  reduced cost\nx       -1 (-1.0)\n")
+        self.assertEqual(said.output, "OPTIMAL 5 (5.0)\n\nrow   price\nneed  2 (2.0)\n\ncolumn  reduced cost\nx       -1 (-1.0)\n")
 
 
 class ForOthers(unittest.TestCase):

@@ -2,159 +2,144 @@
 from __future__ import annotations
 
 import argparse
-import json
 import sys
-import time
-from dataclasses import dataclass
 from pathlib import Path
-from typing import Dict, List, Optional
+from typing import Dict, Iterator, List, Optional
 
-from ..certifying import WAYS, Certified, NotAnswered, certify
-from ..conversion import Converted, Options, Question, convert
-from ..errors import LpdError, Refused
+from ..batching import FAILED, Result, Work, by_dask, by_processes, one_by_one
+from ..certifying import WAYS
 from ..floating import CHOICES
-from ..number_text import shown
-from ..replies import Optimal
-from ..session import Session
-from .certify import claim_of, off_of
-from .common import add_options, asked, csv_line, options_of, table, tell
+from ..reading import end_of, name_of
+from ..tables import LPD_CHECK, OTHER, PYTHON_ALONE, SAME, Cells, Kept, Writer, against, cells_of, columns_of, read_optima
+from ..ways import SECONDS, Effort
+from .common import add_options, budget, options_of, seconds, tell
+
+INTERRUPTED = 130
 
 
-
-
-@dataclass
-class Result:
-    """What is found of one model. `seconds` are those of solving and checking, `certified` is by another solver's basis."""
-
-    name: str
-    rows: Optional[int] = None
-    columns: Optional[int] = None
-    answer: str = ""
-    value: str = ""
-    pivots: Optional[int] = None
-    seconds: float = 0.0
-    certified: Optional[Certified] = None
-    certify_seconds: float = 0.0
-    note: str = ""
-
-    def cells(self, with_certified: bool) -> Dict[str, str]:
-        told = {
-            "model": self.name,
-            "rows": "" if self.rows is None else str(self.rows),
-            "columns": "" if self.columns is None else str(self.columns),
-            "answer": self.answer,
-            "value": self.value,
-            "pivots": "" if self.pivots is None else str(self.pivots),
-            "seconds": f"{self.seconds:.3f}",
-        }
-        if with_certified:
-            found = self.certified
-            told["exactly"] = str(found.known) if found else ""
-            told["judge"] = "" if found is None else "lpd check" if found.narrow else "python alone"
-            told["claim"] = claim_of(found) if found else ""
-            told["off"] = (off_of(found) or "") if found else ""
-            told["certify seconds"] = f"{self.certify_seconds:.3f}" if found else ""
-        return {**told, "note": self.note}
+def jobs(word: str) -> int:
+    if not (word.isascii() and word.isdigit() and len(word) <= 3 and int(word) >= 1):
+        raise argparse.ArgumentTypeError(f"{word} is no number of processes, from 1 to 999")
+    return int(word)
 
 
 def add(commands: "argparse._SubParsersAction[argparse.ArgumentParser]") -> None:
     batch = commands.add_parser("batch", help="solves all models of a folder, and shows a table of the answers")
     batch.set_defaults(run=run)
-    batch.add_argument("folder", help="a folder; its files *.mps are taken in the order of their names")
+    batch.add_argument("folder", help="a folder; its files *.mps and *.lp, also with .gz, are taken in the order of their names")
     batch.add_argument("--form", choices=["free", "fixed"], help="the form of all texts (for each the one that fits)")
     add_options(batch)
-    batch.add_argument("--budget", type=int, metavar="N", help="makes at most N pivots and flips a model, up to 1000000 (10000)")
+    batch.add_argument("--budget", type=budget, metavar="N", help="makes at most N pivots and flips a model, up to 1000000 (10000)")
+    batch.add_argument("--only-lpd", action="store_true", help="takes PAST and SPENT for the end, and goes no other way")
     batch.add_argument("--with", dest="solver", choices=CHOICES, help="certifies each model too, as the command certify does")
     batch.add_argument("--by", dest="way", choices=WAYS, help="what makes its basis exact, as in the command certify")
-    batch.add_argument("--seconds", type=float, metavar="N", help="how long the other solver may take for a model")
+    limit = f"how long the other ways of a model may take together, and a certificate of its own ({SECONDS:g})"
+    batch.add_argument("--seconds", type=seconds, metavar="N", default=SECONDS, help=limit)
+    batch.add_argument("--optima", metavar="FILE", help="compares with known answers: lines of a name, an outcome and a value, between tabs")
+    resume = "keeps the table in this file too, as CSV, and takes what stands there of an earlier run"
+    batch.add_argument("--resume", metavar="TABLE", help=resume)
+    engine = batch.add_mutually_exclusive_group()
+    engine.add_argument("--jobs", type=jobs, metavar="N", default=1, help="solves N models at a time, each in a process (1)")
+    engine.add_argument("--dask", metavar="ADDRESS", help="gives the models to the scheduler of Dask at this address")
     output = batch.add_mutually_exclusive_group()
-    output.add_argument("--json", action="store_true")
+    output.add_argument("--json", action="store_true", help="a list of objects, as docs/JSON.md has it")
     output.add_argument("--csv", action="store_true")
 
 
-def solved(result: Result, found: Converted, budget: Optional[int]) -> None:
-    """Solves the model, and has both checkers accept the certificate."""
-    with Session() as session:
-        loaded = session.load(found.text)
-        result.rows, result.columns = loaded.rows, loaded.columns
-        if budget is not None:
-            session.budget(budget)
-        answer, _ = session.solve_checked(found.model)
-        result.pivots = session.how().pivots
-    result.answer = str(answer).split(" ")[0]
-    result.value = shown(answer.value) if isinstance(answer, Optimal) else " ".join(str(answer).split(" ")[1:])
+def results(paths: List[Path], words: argparse.Namespace) -> Iterator[Result]:
+    """The results by the engine that is asked for, as they come."""
+    effort = Effort(words.budget, words.only_lpd, words.solver, words.seconds)
+    work = Work(words.form, options_of(words), effort, words.solver, words.way)
+    if words.dask:
+        return by_dask(paths, work, words.dask)
+    return one_by_one(paths, work) if words.jobs == 1 else by_processes(paths, work, words.jobs)
 
 
-def result_of(path: Path, words: argparse.Namespace) -> Result:
-    """Solves the model of a file, and certifies it where that is asked. What goes wrong is told in the result."""
-    result = Result(path.stem)
-    options = options_of(words)
-    try:
-        data = path.read_bytes()
-        wide = convert(data, words.form, Options(options.relax, options.no_set, options.no_bound, wide=True))
-        result.note = f"converted: {len(wide.changes)} changes" if wide.changes else ""
-        started = time.monotonic()
-        try:
-            solved(result, wide, words.budget)
-        except Refused as refused:
-            result.answer, result.note = refused.reply, str(refused)
-        result.seconds = time.monotonic() - started
-        if words.solver:
-            started = time.monotonic()
-            try:
-                result.certified = certify(wide.text, words.solver, words.seconds, words.way)
-            except NotAnswered as failed:
-                result.note = str(failed)
-            result.certify_seconds = time.monotonic() - started
-    except Question as question:
-        result.answer, result.note = "ASKED", asked(question)
-    except Refused as refused:
-        result.answer, result.note = refused.reply, str(refused)
-    except (LpdError, OSError) as error:
-        result.answer, result.note = "FAILED", str(error)
-    return result
+class Progress:
+    """On a terminal one line of standard error, which is renewed, and else a line for each model that is done."""
+
+    def __init__(self, count: int) -> None:
+        self.count, self.done, self.is_live = count, 0, sys.stderr.isatty()
+
+    def clear(self) -> None:
+        if self.is_live:
+            print("\r\x1b[K", end="", file=sys.stderr, flush=True)
+
+    def show(self, name: str = "") -> None:
+        self.done += bool(name)
+        if self.is_live:
+            print(f"\r\x1b[K{self.done}/{self.count} {name}", end="", file=sys.stderr, flush=True)
+        elif name:
+            tell(f"{self.done}/{self.count} {name}")
 
 
-def results(folder: Path, words: argparse.Namespace) -> List[Result]:
-    """The results of all models, with a line of progress on standard error."""
-    paths = sorted(path for path in folder.iterdir() if path.suffix.lower() == ".mps")
-    found = []
-    for number, path in enumerate(paths, 1):
-        if sys.stderr.isatty():
-            print(f"\r\x1b[K{number}/{len(paths)} {path.stem}", end="", file=sys.stderr, flush=True)
-        else:
-            tell(f"{number}/{len(paths)} {path.stem}")
-        found.append(result_of(path, words))
-    if sys.stderr.isatty():
-        print("\r\x1b[K", end="", file=sys.stderr, flush=True)
-    return found
-
-
-def summary(found: List[Result]) -> str:
-    """How many models have which answer."""
+def summary(rows: List[Cells]) -> str:
+    """How many models have which answer, by whom they are accepted, and of how many not all was read."""
     counts: Dict[str, int] = {}
-    for result in found:
-        kind = "refused" if result.answer.startswith("ERR") else result.answer
+    for cells in rows:
+        kind = "refused" if cells["answer"].startswith("ERR") else cells["answer"]
         counts[kind] = counts.get(kind, 0) + 1
-    said = f"{len(found)} models: " + ", ".join(f"{count} {kind}" for kind, count in sorted(counts.items()))
-    certified = [result.certified for result in found if result.certified]
-    if certified:
-        narrow = sum(one.narrow for one in certified)
-        said += f"; {narrow} certified by lpd check, {len(certified) - narrow} by the checker in Python alone"
-    return said
+
+    def count(column: str, word: str) -> int:
+        return sum(cells.get(column, "") == word for cells in rows)
+
+    said = [f"{len(rows)} models: " + ", ".join(f"{count} {kind}" for kind, count in sorted(counts.items()))]
+    said.append(f"{count('accepted by', LPD_CHECK)} accepted by lpd check, {count('accepted by', PYTHON_ALONE)} by the checker in Python alone")
+    if any(cells.get("exactly") for cells in rows):
+        said.append(f"{count('judge', LPD_CHECK)} certified by lpd check, {count('judge', PYTHON_ALONE)} by the checker in Python alone")
+    if any("optimum" in cells for cells in rows):
+        said.append(f"{count('optimum', SAME)} answers as they are known, {count('optimum', OTHER)} others")
+    skipped = sum("OF OTHER SETS NOT READ" in cells.get("note", "") for cells in rows)
+    return "; ".join(said + ([f"{skipped} WITH CARDS OF OTHER SETS NOT READ"] if skipped else []))
 
 
 def run(words: argparse.Namespace) -> int:
-    found = results(Path(words.folder), words)
-    if not found:
-        tell(f"lpd: {words.folder} has no file *.mps")
+    paths = sorted(path for path in Path(words.folder).iterdir() if end_of(path))
+    if not paths:
+        tell(f"lpd: {words.folder} has no file *.mps or *.lp, nor one of these with .gz")
         return 3
-    rows = [result.cells(bool(words.solver)) for result in found]
-    if words.json:
-        print(json.dumps(rows, indent=2))
-    elif words.csv:
-        print("\n".join(csv_line(cells) for cells in [list(rows[0]), *(list(row.values()) for row in rows)]))
-    else:
-        print(table([list(rows[0]), *([cell[:60] for cell in row.values()] for row in rows)]))
-        print("\n" + summary(found))
-    return 0 if all(result.answer != "FAILED" for result in found) else 3
+    optima = read_optima(Path(words.optima).read_text(encoding="utf-8")) if words.optima else None
+    columns = columns_of(bool(words.solver), optima is not None)
+    kept = Kept(words.resume, columns) if words.resume else None
+    writer = Writer("json" if words.json else "csv" if words.csv else "text", columns, [name_of(path) for path in paths])
+    rows: List[Cells] = []
+    is_whole = False
+    print(writer.head(), end="", flush=True)
+    try:
+        for cells in found_cells(paths, words, kept, optima):
+            rows.append(cells)
+            print(writer.line(cells), end="", flush=True)
+        is_whole = True
+    except KeyboardInterrupt:
+        tell(f"lpd: interrupted: {len(rows)} of {len(paths)} models are done" + (f", and {words.resume} has them" if kept else ""))
+    print(writer.foot(), end="")
+    if kept:
+        kept.write()
+    if not (words.json or words.csv):
+        print("\n" + summary(rows))
+    if not is_whole:
+        return INTERRUPTED
+    if any(cells["answer"] == FAILED for cells in rows):
+        return 3
+    return 1 if any(cells.get("optimum") == OTHER for cells in rows) else 0
+
+
+def found_cells(paths: List[Path], words: argparse.Namespace, kept: Optional[Kept], optima: Optional[Dict[str, str]]) -> Iterator[Cells]:
+    """The cells of each model: first those of an earlier run, and then the others as they end."""
+    old = dict(kept.rows) if kept else {}
+    yield from (old[name_of(path)] for path in paths if name_of(path) in old)
+    left = [path for path in paths if name_of(path) not in old]
+    progress = Progress(len(left))
+    progress.show()
+    try:
+        for result in results(left, words):
+            cells = cells_of(result)
+            if optima is not None:
+                cells["optimum"] = against(cells, optima.get(result.name))
+            if kept:
+                kept.add(cells)
+            progress.clear()
+            yield cells
+            progress.show(result.name)
+    finally:
+        progress.clear()

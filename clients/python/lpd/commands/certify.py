@@ -4,57 +4,36 @@ from __future__ import annotations
 import argparse
 import json
 import time
-from fractions import Fraction
-from typing import Dict, Optional
+from typing import Dict
 
 from ..certifying import PYTHON, WAYS, Certified, NotAnswered, certify
 from ..conversion import Options
 from ..floating import CHOICES, NONE
-from ..number_text import rounded, shown
+from ..reading import read_model_file
 from ..replies import Optimal
-from .common import add_options, converted, lines_text, options_of, read, status_of, tell, with_decimals
-from .convert import put
-
-PYTHON_ALONE = 14
+from ..tables import claim_of, off_of
+from .common import PYTHON_ALONE, add_options, converted, decimals, lines_text, options_of, put, seconds, status_of, tell, with_decimals
 
 
 def add(commands: "argparse._SubParsersAction[argparse.ArgumentParser]") -> None:
     certifies = commands.add_parser("certify", help="makes another solver's answer exact, with a certificate that is judged")
     certifies.set_defaults(run=run)
-    certifies.add_argument("model", help="a file of MPS text, or - for standard input")
+    certifies.add_argument("model", help="a file of MPS text, which may be compressed by gzip (.gz), or of the LP format (.lp), or - for standard input")
     certifies.add_argument("--with", dest="solver", choices=CHOICES, default="glpsol", help="the solver that is asked for a basis (glpsol), or none")
-    certifies.add_argument("--seconds", type=float, metavar="N", help="how long the solver may take; then the exact steps begin at no basis of its own")
+    certifies.add_argument("--seconds", type=seconds, metavar="N", help="how long the solver may take; then the exact steps begin at no basis of its own")
     ways = "what makes its basis exact: lpd basis, or steps in Python (lpd, and python where that has no answer)"
     certifies.add_argument("--by", dest="way", choices=WAYS, help=ways)
     certifies.add_argument("--form", choices=["free", "fixed"], help="the form of the text (the one that fits)")
     add_options(certifies)
-    certifies.add_argument("--decimals", type=int, metavar="D", default=10, help="shows D decimals, rounded, beside fractions (10)")
+    certifies.add_argument("--decimals", type=decimals, metavar="D", default=10, help="shows D decimals, rounded, beside fractions (10)")
     certifies.add_argument("-o", "--output", metavar="FILE", help="where the certificate goes")
     certifies.add_argument("--json", action="store_true")
-
-
-def small(value: Fraction) -> str:
-    """A difference in three digits."""
-    try:
-        return f"{float(value):.3g}"
-    except OverflowError:
-        return rounded(value, 0)
 
 
 def judge_of(found: Certified) -> str:
     if found.narrow:
         return "accepted by lpd check, and by the checker in Python"
     return f"accepted by the checker in Python alone: {found.why}"
-
-
-def claim_of(found: Certified) -> str:
-    value = found.claim.value
-    return found.claim.said if value is None else f"{found.claim.said} {shown(value)}"
-
-
-def off_of(found: Certified) -> Optional[str]:
-    off = found.off()
-    return None if off is None else small(off)
 
 
 def steps_of(found: Certified) -> str:
@@ -75,7 +54,7 @@ def as_json(found: Certified, solver: str, seconds: float) -> str:
 def run(words: argparse.Namespace) -> int:
     started = time.monotonic()
     options = options_of(words)
-    text = converted(words, read(words.model), Options(options.relax, options.no_set, options.no_bound, wide=True)).text
+    text = converted(words, read_model_file(words.model), Options(options.relax, options.no_set, options.no_bound, wide=True)).text
     try:
         found = certify(text, words.solver, words.seconds, words.way)
     except NotAnswered as failed:

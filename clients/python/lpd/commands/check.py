@@ -9,6 +9,7 @@ from ..certificate import check_lines
 from ..errors import LpdError
 from ..model import lines_of, read_lines, words_of
 from ..number_text import NotANumber, number, shown
+from ..reading import read_model_file
 from ..replies import Accepted, Infeasible, Known, Optimal, Rejected, Unbounded
 from .common import as_text, read, tell
 
@@ -25,7 +26,7 @@ class NoClaim(LpdError):
 def add(commands: "argparse._SubParsersAction[argparse.ArgumentParser]") -> None:
     checks = commands.add_parser("check", help="checks anyone's certificate for a model, exactly")
     checks.set_defaults(run=run)
-    checks.add_argument("model", help="a file of MPS text, or - for standard input")
+    checks.add_argument("model", help="a file of MPS text, which may be compressed by gzip (.gz), or of the LP format (.lp), or - for standard input")
     told = "a file: a certificate, or what lpd solve or lpd basis printed; without it that comes after ENDATA in the model's file"
     checks.add_argument("certificate", nargs="?", help=told)
     checks.add_argument("--form", choices=["free", "fixed"], default="free")
@@ -74,7 +75,7 @@ def without_comments(certificate: str) -> List[str]:
 
 def run(words: argparse.Namespace) -> int:
     claims = [] if words.claim is None else [answer_of(words.claim)]
-    lines = lines_of(with_newline(as_text(read(words.model))))
+    lines = lines_of(with_newline(as_text(read_model_file(words.model))))
     model, count = read_lines(lines, words.form == "fixed", words.wide)
     given = lines[count:] if words.certificate is None else without_comments(as_text(read(words.certificate)))
     printed, certificate = parted(given)

@@ -7,16 +7,19 @@ from fractions import Fraction
 from pathlib import Path
 from typing import List, Optional, Sequence
 
-from ..conversion import Converted, Options, Question, convert
-from ..model import Model, read_model
+from ..conversion import Converted, Options, convert
+from ..model import Model
+from ..names import Renamed
 from ..number_text import rounded, shown
+from ..reading import unpacked
 from ..replies import Answer, Infeasible, Optimal, Past, Unbounded
 
-OPTION_TEXTS = {"relax": "--relax", "no_set": "--no-set", "no_bound": "--no-bound", "form": "--form"}
+MOST_DECIMALS, MOST_PIVOTS = 1000, 1000000
+PYTHON_ALONE = 14  # an answer whose certificate the checker in Python alone accepts
 
 
 def read(path: str) -> bytes:
-    return sys.stdin.buffer.read() if path == "-" else Path(path).read_bytes()
+    return unpacked(sys.stdin.buffer.read() if path == "-" else Path(path).read_bytes(), path)
 
 
 def as_text(data: bytes) -> str:
@@ -24,8 +27,43 @@ def as_text(data: bytes) -> str:
     return data.decode("latin-1")
 
 
+def put(text: str, path: Optional[str]) -> None:
+    """Writes a text, whose characters stand for bytes, to a file or to standard output."""
+    data = text.encode("latin-1")
+    if path is None:
+        sys.stdout.buffer.write(data)
+        sys.stdout.flush()
+    else:
+        Path(path).write_bytes(data)
+
+
 def tell(words: str) -> None:
     print(words, file=sys.stderr)
+
+
+def decimals(word: str) -> int:
+    """How many decimals are shown."""
+    if not (word.isascii() and word.isdigit() and int(word[:6]) <= MOST_DECIMALS and len(word) < 6):
+        raise argparse.ArgumentTypeError(f"{word} is no number of decimals, from 0 to {MOST_DECIMALS}")
+    return int(word)
+
+
+def seconds(word: str) -> float:
+    """How long something may take."""
+    try:
+        found = float(word)
+    except ValueError:
+        found = -1.0
+    if not 0 < found < float("inf"):
+        raise argparse.ArgumentTypeError(f"{word} is no number of seconds above 0")
+    return found
+
+
+def budget(word: str) -> int:
+    """How many pivots and flips a solve may make."""
+    if not (word.isascii() and word.isdigit() and len(word) <= 7 and 1 <= int(word) <= MOST_PIVOTS):
+        raise argparse.ArgumentTypeError(f"{word} is no budget of pivots, from 1 to {MOST_PIVOTS}")
+    return int(word)
 
 
 def status_of(answer: Answer) -> int:
@@ -44,13 +82,22 @@ def with_decimals(value: Optional[Fraction], decimals: Optional[int]) -> str:
     return shown(value) if decimals is None else f"{shown(value)} ({rounded(value, decimals)})"
 
 
+def number_in(value: Optional[Fraction], places: Optional[int]) -> Optional[float]:
+    """The number of JSON that is nearest to a fraction, or to its decimal of so many places; none where it is past all floats."""
+    try:
+        return None if value is None else float(value if places is None else round(value, places))
+    except OverflowError:
+        return None
+
+
 def table(rows: Sequence[Sequence[str]]) -> str:
     widths = [max(len(row[column]) for row in rows) for column in range(len(rows[0]))]
     return "\n".join("  ".join(text.ljust(width) for text, width in zip(row, widths)).rstrip() for row in rows)
 
 
 def add_options(parser: argparse.ArgumentParser) -> None:
-    """The words that answer what a conversion asks."""
+    """The words that answer what a conversion asks, and say where the names go that it changes."""
+    parser.add_argument("--renames", "--names", metavar="FILE", help="where a table of the changed names goes: kind, old, new, between tabs")
     parser.add_argument("--relax", action="store_true", help="solves without the condition that columns are whole numbers")
     no_set = "a card without a set, where others have one, is of the same set, or of its own"
     parser.add_argument("--no-set", choices=["same", "own"], help=no_set)
@@ -62,37 +109,37 @@ def options_of(words: argparse.Namespace) -> Options:
     return Options(words.relax, words.no_set, words.no_bound)
 
 
-def asked(question: Question) -> str:
-    """A question with the words that answer it."""
-    option = OPTION_TEXTS[question.option]
-    answers = [option] if question.option == "relax" else [f"{option} {choice}" for choice in question.choices]
-    return f"{question}. Say which: {' or '.join(answers)}" if len(answers) > 1 else f"{question}. {option} solves without that"
-
-
 def converted(words: argparse.Namespace, data: bytes, options: Optional[Options] = None) -> Converted:
     """The text in the profile. What was changed goes to standard error."""
     found = convert(data, words.form, options or options_of(words))
-    tell_changes(found)
+    tell_changes(found, words.renames)
     return found
 
 
-def tell_changes(found: Converted) -> None:
+def tell_changes(found: Converted, renames: Optional[str] = None) -> None:
+    """What was changed, and how many names were, whose table goes to a file."""
     for change in found.changes:
         tell(str(change))
-    for name in found.names:
-        tell(f"{name.kind} {name.old!r} is named {name.new}")
+    tell_renames(found.names, renames)
 
 
-def tell_skipped(model: Model) -> None:
-    if model.skipped:
-        lines = ", ".join(map(str, model.skipped[:8])) + (", .." if len(model.skipped) > 8 else "")
-        tell(f"note: cards of other sets are skipped, as docs/FORMATS.md has it: line{'s' if len(model.skipped) > 1 else ''} {lines}")
+def tell_renames(names: Sequence[Renamed], renames: Optional[str]) -> None:
+    """Each name that was changed, or the first one and how many more, and where their table is."""
+    if not names:
+        return
+    if renames:
+        Path(renames).write_text("".join(f"{name.kind}\t{name.old}\t{name.new}\n" for name in names), encoding="utf-8")
+    first = f"{names[0].kind} {names[0].old!r} is named {names[0].new}"
+    more = f", and {len(names) - 1} more names are changed" if len(names) > 1 else ""
+    tell(first + more + (f", as {renames} has it" if renames else f": --renames FILE puts them down" if more else ""))
 
 
-def model_of(text: str, form: Optional[str]) -> Model:
-    model = read_model(text, form == "fixed")
-    tell_skipped(model)
-    return model
+def skipped_words(model: Model) -> str:
+    """That cards of other sets were not read, in capitals, so that it is seen beside an answer; nothing where all were."""
+    if not model.skipped:
+        return ""
+    count, lines = len(model.skipped), listed([str(line) for line in model.skipped], 8)
+    return f"{count} CARD{'S' if count > 1 else ''} OF OTHER SETS NOT READ: line{'s' if count > 1 else ''} {lines} (docs/FORMATS.md)"
 
 
 def lines_text(lines: Sequence[str]) -> str:

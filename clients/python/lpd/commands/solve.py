@@ -3,84 +3,153 @@ from __future__ import annotations
 
 import argparse
 import json
-from typing import Dict, List, Optional
+from dataclasses import replace
+from fractions import Fraction
+from pathlib import Path
+from typing import Dict, List, Optional, Tuple
 
 from .. import errors
 from ..conversion import Question, convert
+from ..dialects import PROFILE, written
+from ..floating import CHOICES
 from ..model import Model, read_model
-from ..number_text import shown
+from ..number_text import rounded, shown
 from ..page import write_page
+from ..reading import is_lp, read_model_file
 from ..replies import Answer, Infeasible, Optimal, Past, Spent, Unbounded
 from ..report import Report, conflict, report
-from ..session import Session
-from .common import add_options, as_text, converted, csv_line, model_of, read, status_of, table, tell, with_decimals
+from ..ways import SECONDS, Answered, Effort, answered
+from .common import add_options, as_text, budget, converted, csv_line, decimals, number_in, options_of, put, seconds, skipped_words
+from .common import PYTHON_ALONE, lines_text, status_of, table, tell, with_decimals
 
 SHOWN = ["all", "point", "rows", "prices", "answer"]
+LONG = 40  # a fraction of more characters is shown with decimals beside it
 
 
 def add(commands: "argparse._SubParsersAction[argparse.ArgumentParser]") -> None:
     solve = commands.add_parser("solve", help="solves a model, and checks the certificate of the answer twice")
     solve.set_defaults(run=run)
-    solve.add_argument("model", help="a file of MPS text, or - for standard input")
+    solve.add_argument("model", help="a file of MPS text, which may be compressed by gzip (.gz), or of the LP format (.lp), or - for standard input")
     solve.add_argument("--form", choices=["free", "fixed"], help="the form of the text (free; with --convert or --relax the one that fits)")
     sense = solve.add_mutually_exclusive_group()
     sense.add_argument("--max", action="store_true", help="maximizes, whatever the text says")
     sense.add_argument("--min", action="store_true", help="minimizes, whatever the text says")
-    solve.add_argument("--budget", type=int, metavar="N", help="makes at most N pivots and flips, up to 1000000 (10000)")
+    solve.add_argument("--budget", type=budget, metavar="N", help="makes at most N pivots and flips, up to 1000000 (10000)")
     solve.add_argument("--convert", action="store_true", help="converts the text from other dialects first, as the command convert does")
     add_options(solve)
+    add_ways(solve)
     solve.add_argument("--show", choices=SHOWN, default="all", help="what of an optimal point is shown (all)")
-    solve.add_argument("--decimals", type=int, metavar="D", help="shows D decimals, rounded, beside each fraction")
+    solve.add_argument("--decimals", type=decimals, metavar="D", help="shows D decimals, rounded, beside each fraction; in CSV in place of it")
+    solve.add_argument("-o", "--output", metavar="FILE", help="where the answer and its certificate go too, as lpd solve prints them")
     solve.add_argument("--page", metavar="FILE", help="writes a page that checks the model and its certificate in a browser")
     output = solve.add_mutually_exclusive_group()
-    output.add_argument("--json", action="store_true")
+    output.add_argument("--json", action="store_true", help="an object, as docs/JSON.md has it")
     output.add_argument("--csv", action="store_true", help="a line for each column and row")
+
+
+def add_ways(parser: argparse.ArgumentParser) -> None:
+    """What is done where lpd has no answer within 127 bits."""
+    parser.add_argument("--only-lpd", action="store_true", help="takes PAST and SPENT for the end, and goes no other way")
+    solver = "the solver whose basis is made exact where lpd has no answer (the first that is there, or none)"
+    parser.add_argument("--with", dest="solver", choices=CHOICES, help=solver)
+    limit = f"how long the other ways of a model may take together ({SECONDS:g})"
+    parser.add_argument("--seconds", type=seconds, metavar="N", default=SECONDS, help=limit)
+
+
+def effort_of(words: argparse.Namespace) -> Effort:
+    return Effort(words.budget, words.only_lpd, words.solver, words.seconds)
 
 
 def words_for(answer: Answer, model: Model, certificate: List[str]) -> str:
     """What an answer without a point means."""
     if isinstance(answer, Infeasible):
-        return conflict(model, certificate)
+        return str(conflict(model, certificate))
     if isinstance(answer, Unbounded):
         return "Feasible points get better without limit, from the x of the certificate along its r."
     if isinstance(answer, Past):
-        return "The result of this operation does not fit 127 bits, so lpd has no answer: python3 -m lpd certify may have one."
+        return "The result of this operation does not fit 127 bits, so lpd solve has no answer."
     return f"The solve is not done after {answer.budget} pivots and flips: --budget allows more." if isinstance(answer, Spent) else ""
 
 
-def print_report(found: Report, show: str, decimals: Optional[int]) -> None:
+def shown_answer(answer: Answer, places: Optional[int]) -> str:
+    """The answer, with decimals where they are wanted, or its value is long."""
+    if isinstance(answer, Optimal) and (places is not None or len(shown(answer.value)) > LONG):
+        return f"OPTIMAL {with_decimals(answer.value, 10 if places is None else places)}"
+    return str(answer)
+
+
+def print_report(found: Report, show: str, places: Optional[int]) -> None:
     if show in ("point", "all"):
-        columns = [[c.name, with_decimals(c.value, decimals), with_decimals(c.reduced_cost, decimals)] for c in found.columns]
+        columns = [[c.name, with_decimals(c.value, places), with_decimals(c.reduced_cost, places)] for c in found.columns]
         print("\n" + table([["column", "value", "reduced cost"], *columns]))
     if show in ("rows", "all"):
-        rows = [[r.name, *(with_decimals(v, decimals) for v in (r.activity, r.slack, r.price))] for r in found.rows]
+        rows = [[r.name, *(with_decimals(v, places) for v in (r.activity, r.slack, r.price))] for r in found.rows]
         print("\n" + table([["row", "sum", "slack", "price"], *rows]))
     if show == "prices":
-        prices = [[r.name, with_decimals(r.price, decimals)] for r in found.rows if r.price]
-        costs = [[c.name, with_decimals(c.reduced_cost, decimals)] for c in found.columns if c.reduced_cost]
+        prices = [[r.name, with_decimals(r.price, places)] for r in found.rows if r.price]
+        costs = [[c.name, with_decimals(c.reduced_cost, places)] for c in found.columns if c.reduced_cost]
         print("\n" + table([["row", "price"], *prices]) + "\n\n" + table([["column", "reduced cost"], *costs]))
 
 
-def as_json(answer: Answer, certificate: List[str], found: Optional[Report]) -> str:
-    told: Dict[str, object] = {"answer": str(answer), "certificate": certificate}
+def numbers(places: Optional[int], **values: Optional[Fraction]) -> Dict[str, object]:
+    """Fractions as texts, and beside them decimals as numbers."""
+    told: Dict[str, object] = {name: None if value is None else shown(value) for name, value in values.items()}
+    told["decimals"] = {name: number_in(value, places) for name, value in values.items()}
+    return told
+
+
+def parts_of(found: Report, show: str, places: Optional[int]) -> Dict[str, object]:
+    """The columns and rows of a point, by their names, and of each what is to be shown."""
+    told: Dict[str, object] = {}
+    if show == "prices":
+        told["columns"] = {c.name: numbers(places, reduced_cost=c.reduced_cost) for c in found.columns}
+        told["rows"] = {r.name: numbers(places, price=r.price) for r in found.rows}
+    if show in ("all", "point"):
+        told["columns"] = {c.name: numbers(places, value=c.value, reduced_cost=c.reduced_cost) for c in found.columns}
+    if show in ("all", "rows"):
+        told["rows"] = {r.name: numbers(places, sum=r.activity, slack=r.slack, price=r.price) for r in found.rows}
+    return told
+
+
+def conflict_in_json(model: Model, certificate: List[str]) -> Dict[str, object]:
+    """Why there is no feasible point."""
+    found = conflict(model, certificate)
+    told: Dict[str, object] = {"words": str(found)}
+    if found.column is not None:
+        return {**told, "column": found.column, "lower": shown(found.asked), "upper": shown(found.allowed)}
+    rows = {
+        row.name: {"multiplier": shown(row.multiplier), "side": "lower" if row.is_lower else "upper", "limit": shown(row.limit)}
+        for row in found.rows
+    }
+    return {**told, "rows": rows, "asked": shown(found.asked), "allowed": shown(found.allowed)}
+
+
+def as_json(found: Answered, model: Model, point: Optional[Report], show: str, places: Optional[int]) -> str:
+    answer = found.answer
+    told: Dict[str, object] = {"answer": str(answer), "kind": str(answer).split(" ")[0]}
     if isinstance(answer, Optimal):
-        told["value"] = shown(answer.value)
-    if found:
-        told["columns"] = {c.name: {"value": shown(c.value), "reduced_cost": shown(c.reduced_cost)} for c in found.columns}
-        told["rows"] = {
-            r.name: {"sum": shown(r.activity), "slack": None if r.slack is None else shown(r.slack), "price": shown(r.price)}
-            for r in found.rows
-        }
-    return json.dumps(told, indent=2)
+        told.update(numbers(places, value=answer.value))
+    told.update({"way": found.way, "accepted_by": found.accepted_by, "notes": found.notes, "cards_not_read": model.skipped})
+    if isinstance(answer, Infeasible):
+        told["conflict"] = conflict_in_json(model, found.certificate)
+    if point:
+        told.update(parts_of(point, show, places))
+    return json.dumps({**told, "certificate": found.certificate}, indent=2)
 
 
-def as_csv(answer: Answer, found: Optional[Report]) -> str:
+def as_csv(answer: Answer, point: Optional[Report], show: str, places: Optional[int]) -> str:
     """A line for the answer, one for each column (value, reduced cost), and one for each row (sum, price, slack)."""
+
+    def cell(value: Optional[Fraction], shows: bool = True) -> str:
+        return "" if value is None or not shows else shown(value) if places is None else rounded(value, places)
+
     lines = [["kind", "name", "value", "price", "slack"]]
-    lines.append(["answer", str(answer).split(" ")[0], shown(answer.value) if isinstance(answer, Optimal) else "", "", ""])
-    if found:
-        lines += [["column", c.name, shown(c.value), shown(c.reduced_cost), ""] for c in found.columns]
-        lines += [["row", r.name, shown(r.activity), shown(r.price), "" if r.slack is None else shown(r.slack)] for r in found.rows]
+    lines.append(["answer", str(answer).split(" ")[0], cell(answer.value if isinstance(answer, Optimal) else None), "", ""])
+    is_whole = show != "prices"
+    if point and show in ("all", "point", "prices"):
+        lines += [["column", c.name, cell(c.value, is_whole), cell(c.reduced_cost), ""] for c in point.columns]
+    if point and show in ("all", "rows", "prices"):
+        lines += [["row", r.name, cell(r.activity, is_whole), cell(r.price), cell(r.slack, is_whole)] for r in point.rows]
     return "\n".join(csv_line(line) for line in lines)
 
 
@@ -95,38 +164,63 @@ def can_be_converted(words: argparse.Namespace, data: bytes) -> bool:
     return True
 
 
-def load(session: Session, words: argparse.Namespace) -> None:
-    data = read(words.model)
+def loaded(words: argparse.Namespace) -> Tuple[str, Model, bool]:
+    """The text in free form, its model, and whether the text is another than that of the file."""
+    data = read_model_file(words.model)
     if words.convert or words.relax:
-        session.load(converted(words, data).text)
-        return
-    try:
-        session.load(as_text(data), words.form == "fixed")
-    except errors.TextFault:
-        if can_be_converted(words, data):
-            tell("The text is of another dialect, which --convert, or the command convert, turns into the profile.")
-        raise
-    model_of(as_text(data), words.form)
+        found = converted(words, data, replace(options_of(words), wide=True))
+        text, model, is_other = found.text, found.model, bool(found.changes) or is_lp(words.model)
+    else:
+        text = as_text(data)
+        try:
+            model = read_model(text, words.form == "fixed", wide=True)
+        except errors.TextFault:
+            if can_be_converted(words, data):
+                tell("The text is of another dialect, which --convert, or the command convert, turns into the profile.")
+            raise
+        is_other = words.form == "fixed" or is_lp(words.model)
+    if words.max or words.min:
+        model, is_other = replace(model, sense=-1 if words.max else 1), True
+    return (written(model, PROFILE).text if is_other else text), model, is_other
+
+
+def put_answer(words: argparse.Namespace, found: Answered, text: str, is_other: bool) -> None:
+    """Writes the answer and its certificate as lpd solve does, and beside them the text, where it is not that of the file."""
+    Path(words.output).write_bytes(lines_text([str(found.answer), *found.certificate]).encode("latin-1"))
+    if is_other:
+        put(text, f"{words.output}.mps")
+        tell(f"the text that was solved is {words.output}.mps, and {words.output} is for that")
 
 
 def run(words: argparse.Namespace) -> int:
-    with Session() as session:
-        load(session, words)
-        if words.max or words.min:
-            session.set_sense(maximize=words.max)
-        if words.budget is not None:
-            session.budget(words.budget)
-        model = read_model(session.write())
-        answer, certificate = session.solve_checked(model)
-        if words.page:
-            write_page(words.page, session.write(), certificate, answer)
-    found = report(model, certificate) if isinstance(answer, Optimal) else None
+    text, model, is_other = loaded(words)
+    found = answered(text, model, effort_of(words))
+    if words.output:
+        put_answer(words, found, text, is_other)
+    if words.page:
+        write_page(words.page, text, found.certificate, found.answer)
+    point = report(model, found.certificate) if isinstance(found.answer, Optimal) else None
+    skipped = skipped_words(model)
     if words.json or words.csv:
-        print(as_json(answer, certificate, found) if words.json else as_csv(answer, found))
-        return status_of(answer)
-    print(answer)
-    if found:
-        print_report(found, words.show, words.decimals)
+        if skipped:
+            tell(skipped)
+        is_json = as_json(found, model, point, words.show, words.decimals) if words.json else ""
+        print(is_json or as_csv(found.answer, point, words.show, words.decimals))
+    else:
+        print_answer(words, found, model, point, skipped)
+    return status_of(found.answer) if found.is_narrow or not found.certificate else PYTHON_ALONE
+
+
+def print_answer(words: argparse.Namespace, found: Answered, model: Model, point: Optional[Report], skipped: str) -> None:
+    """The answer as people read it: first what was not read, and how the answer came where that was not lpd solve alone."""
+    lines = [skipped] if skipped else []
+    lines.append(shown_answer(found.answer, words.decimals))
+    if not found.is_by_lpd:
+        lines.append(found.told())
+    print("\n".join(lines))
+    for note in found.notes:
+        tell(f"note: {note}")
+    if point:
+        print_report(point, words.show, words.decimals)
     elif words.show != "answer":
-        print(words_for(answer, model, certificate))
-    return status_of(answer)
+        print(words_for(found.answer, model, found.certificate))

@@ -1,0 +1,168 @@
+"""The answers to many models: what is found of each, and the engines that find it, one after the other, by processes, or by Dask."""
+from __future__ import annotations
+
+import signal
+import time
+from concurrent.futures import FIRST_COMPLETED, Future, ProcessPoolExecutor, wait
+from concurrent.futures.process import BrokenProcessPool
+from dataclasses import dataclass, field, replace
+from importlib import import_module
+from pathlib import Path
+from typing import Any, Dict, Iterator, List, Optional, Set, Tuple
+
+from .certifying import Certified, NotAnswered, certify
+from .conversion import Options, Question, convert
+from .errors import LpdError, Refused
+from .exact import OutOfTime
+from .lp_format import from_lp
+from .model import Model
+from .number_text import shown
+from .reading import is_lp, name_of, unpacked
+from .replies import Optimal
+from .ways import Effort, answered
+
+FAILED = "FAILED"
+
+
+@dataclass(frozen=True)
+class Work:
+    """What is done with each model: how it is read, how far it is solved, and by which solver and way it is certified too."""
+
+    form: Optional[str] = None
+    options: Options = Options()
+    effort: Effort = Effort()
+    certifier: Optional[str] = None
+    way: Optional[str] = None
+
+
+@dataclass
+class Result:
+    """What is found of one model. `seconds` are those of all ways to the answer, `certified` is by another solver's basis."""
+
+    name: str
+    rows: Optional[int] = None
+    columns: Optional[int] = None
+    answer: str = ""
+    value: str = ""
+    way: str = ""
+    accepted_by: str = ""
+    pivots: Optional[int] = None
+    seconds: float = 0.0
+    not_read: int = 0
+    certified: Optional[Certified] = None
+    certify_seconds: float = 0.0
+    notes: List[str] = field(default_factory=list)
+
+
+def solve_into(result: Result, text: str, model: Model, work: Work) -> None:
+    """Solves the model by whichever way there is, and puts down what is found."""
+    started = time.monotonic()
+    try:
+        found = answered(text, model, work.effort)
+        result.answer = str(found.answer).split(" ")[0]
+        result.value = shown(found.answer.value) if isinstance(found.answer, Optimal) else " ".join(str(found.answer).split(" ")[1:])
+        result.way, result.accepted_by, result.pivots = found.way, found.accepted_by, found.pivots
+        result.notes += found.notes
+    except OutOfTime as late:
+        result.answer = "PAST"
+        result.notes.append(str(late))
+    except Refused as refused:
+        result.answer = refused.reply
+        result.notes.append(str(refused))
+    result.seconds = time.monotonic() - started
+
+
+def certify_into(result: Result, text: str, work: Work) -> None:
+    """Certifies the model by another solver's basis, and puts down what is found."""
+    started = time.monotonic()
+    try:
+        result.certified = certify(text, work.certifier or "", work.effort.seconds, work.way)
+    except (NotAnswered, OutOfTime) as failed:
+        result.notes.append(str(failed))
+    result.certify_seconds = time.monotonic() - started
+
+
+def result_of(name: str, path: str, data: bytes, work: Work) -> Result:
+    """Solves the model of a file's content, and certifies it where that is asked. What goes wrong is told in the result."""
+    result = Result(name)
+    try:
+        text = unpacked(data, path)
+        wide = convert(from_lp(text, path) if is_lp(path) else text, work.form, replace(work.options, wide=True))
+        result.rows, result.columns = len(wide.model.rows), len(wide.model.columns)
+        result.not_read = len(wide.model.skipped)
+        if wide.changes:
+            result.notes.append(f"converted: {len(wide.changes)} changes")
+        solve_into(result, wide.text, wide.model, work)
+        if work.certifier:
+            certify_into(result, wide.text, work)
+    except Question as question:
+        result.answer = "ASKED"
+        result.notes.append(question.asked())
+    except Refused as refused:
+        result.answer = refused.reply
+        result.notes.append(str(refused))
+    except (LpdError, OSError) as error:
+        result.answer = FAILED
+        result.notes.append(str(error))
+    return result
+
+
+def result_of_file(path: Path, work: Work) -> Result:
+    try:
+        return result_of(name_of(path), str(path), path.read_bytes(), work)
+    except OSError as error:
+        return Result(name_of(path), answer=FAILED, notes=[f"{path}: {error.strerror}"])
+
+
+# ---- engines: each gives the results as they come
+
+
+def one_by_one(paths: List[Path], work: Work) -> Iterator[Result]:
+    for path in paths:
+        yield result_of_file(path, work)
+
+
+def ignore_interrupts() -> None:
+    """An interrupt of the terminal is for the process that began the others."""
+    signal.signal(signal.SIGINT, signal.SIG_IGN)
+
+
+def by_processes(paths: List[Path], work: Work, jobs: int) -> Iterator[Result]:
+    """Solves so many models at a time. The models of a process that is killed are solved once more, one by one."""
+    done: Set[Path] = set()
+    pool = ProcessPoolExecutor(jobs, initializer=ignore_interrupts)
+    futures: Dict["Future[Result]", Path] = {}
+    try:
+        futures = {pool.submit(result_of_file, path, work): path for path in paths}
+        left = set(futures)
+        while left:
+            ended, left = wait(left, return_when=FIRST_COMPLETED)
+            for future in ended:
+                if isinstance(future.exception(), BrokenProcessPool):
+                    continue
+                done.add(futures[future])
+                yield future.result()
+    finally:
+        for future in futures:
+            future.cancel()
+        pool.shutdown(wait=False)
+    yield from one_by_one([path for path in paths if path not in done], work)
+
+
+def by_dask(paths: List[Path], work: Work, address: str) -> Iterator[Result]:
+    """Gives each model, with its text, to a scheduler of Dask, whose workers run a program lpd of their own. The models of a worker
+    that is lost are given to others by the scheduler."""
+    try:
+        distributed: Any = import_module("distributed")
+    except ImportError:
+        raise LpdError("--dask needs Dask (Debian's python3-distributed), here and on the workers") from None
+    with distributed.Client(address, timeout=30) as client:
+        futures: List[Tuple[Any, Path]] = []
+        for path in paths:
+            data = path.read_bytes()
+            futures.append((client.submit(result_of, name_of(path), str(path), data, work, pure=False), path))
+        names = {future.key: path for future, path in futures}
+        for future in distributed.as_completed([future for future, _ in futures]):
+            error = future.exception()
+            path = names[future.key]
+            yield future.result() if error is None else Result(name_of(path), answer=FAILED, notes=[f"Dask: {error}"])

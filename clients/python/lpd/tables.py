@@ -1,0 +1,190 @@
+"""Tables of the answers to many models: their cells, and how they are written line by line, kept in a file, and read again."""
+from __future__ import annotations
+
+import csv
+import io
+import json
+import os
+from fractions import Fraction
+from pathlib import Path
+from typing import Dict, List, Optional, Sequence
+
+from .batching import Result
+from .certifying import Certified
+from .errors import LpdError
+from .number_text import NotANumber, number, rounded, shown
+from .ways import BOTH
+
+Cells = Dict[str, str]
+ANSWERED = ["model", "rows", "columns", "answer", "value", "way", "accepted by", "pivots", "seconds"]
+CERTIFIED = ["exactly", "judge", "claim", "off", "certify seconds"]
+# How wide the columns of a table are that is written before all its cells are known.
+WIDTHS = {"rows": 4, "columns": 7, "answer": 10, "value": 24, "way": 42, "accepted by": 12, "pivots": 6, "seconds": 8}
+LPD_CHECK, PYTHON_ALONE = "lpd check", "python alone"
+SAME, OTHER = "same", "OTHER"
+
+
+class OtherTable(LpdError):
+    """A file holds another table than the one that would be written."""
+
+
+def columns_of(is_certified: bool, has_optima: bool) -> List[str]:
+    return [*ANSWERED, *(["optimum"] if has_optima else []), *(CERTIFIED if is_certified else []), "note"]
+
+
+def small(value: Fraction) -> str:
+    """A difference in three digits."""
+    try:
+        return f"{float(value):.3g}"
+    except OverflowError:
+        return rounded(value, 0)
+
+
+def claim_of(found: Certified) -> str:
+    value = found.claim.value
+    return found.claim.said if value is None else f"{found.claim.said} {shown(value)}"
+
+
+def off_of(found: Certified) -> Optional[str]:
+    off = found.off()
+    return None if off is None else small(off)
+
+
+def not_read(count: int) -> str:
+    return f"{count} CARD{'S' if count > 1 else ''} OF OTHER SETS NOT READ"
+
+
+def cells_of(result: Result) -> Cells:
+    """All cells of a result: texts, empty where there is nothing to say."""
+    found = result.certified
+    judge = {True: LPD_CHECK, False: PYTHON_ALONE}
+    notes = ([not_read(result.not_read)] if result.not_read else []) + result.notes
+    return {
+        "model": result.name,
+        "rows": "" if result.rows is None else str(result.rows),
+        "columns": "" if result.columns is None else str(result.columns),
+        "answer": result.answer,
+        "value": result.value,
+        "way": result.way.partition(",")[0],
+        "accepted by": judge[result.accepted_by == BOTH] if result.accepted_by else "",
+        "pivots": "" if result.pivots is None else str(result.pivots),
+        "seconds": f"{result.seconds:.3f}",
+        "exactly": str(found.known) if found else "",
+        "judge": judge[found.narrow] if found else "",
+        "claim": claim_of(found) if found else "",
+        "off": (off_of(found) or "") if found else "",
+        "certify seconds": f"{result.certify_seconds:.3f}" if found else "",
+        "note": "; ".join(notes).replace("\n", " "),
+    }
+
+
+def read_optima(text: str) -> Dict[str, str]:
+    """Known answers by the names of models: lines of a name, an outcome and an optimum, between tabs, below a line of heads."""
+    found = {}
+    for line in text.splitlines()[1:]:
+        name, outcome, value, *_ = [*line.split("\t"), "", "", ""]
+        found[name] = f"{outcome.upper()} {value}".strip()
+    return found
+
+
+def against(cells: Cells, known: Optional[str]) -> str:
+    """Whether an answer is the known one: SAME, OTHER, or nothing where one of the two is missing."""
+    if known is None or cells["answer"] not in ("OPTIMAL", "INFEASIBLE", "UNBOUNDED"):
+        return ""
+    outcome, _, value = known.partition(" ")
+    if outcome != cells["answer"]:
+        return OTHER
+    try:
+        return SAME if outcome != "OPTIMAL" or number(value, wide=True) == number(cells["value"], wide=True) else OTHER
+    except NotANumber:
+        return ""
+
+
+def csv_text(cells: Sequence[str]) -> str:
+    """A line of comma-separated values, with quotes where they are needed."""
+    line = io.StringIO()
+    csv.writer(line, lineterminator="\n").writerow(cells)
+    return line.getvalue()
+
+
+def is_long(cell: str) -> bool:
+    return len(cell) > WIDTHS["value"]
+
+
+def about(value: str) -> str:
+    """A long number in few digits, behind the sign that it is not exact."""
+    try:
+        found = number(value, wide=True)
+        short = rounded(found, 6)
+        return f"~{short}" if not is_long(short) else f"~{float(found):.9e}"
+    except (NotANumber, OverflowError):
+        return value
+
+
+class Writer:
+    """Writes a table line by line, as text, as CSV or as JSON."""
+
+    def __init__(self, style: str, columns: List[str], names: Sequence[str]) -> None:
+        self.style, self.columns, self.count = style, columns, 0
+        widths = {**WIDTHS, "model": max(map(len, names), default=0)}
+        self.widths = [max(len(column), widths.get(column, 12)) for column in columns]
+
+    def head(self) -> str:
+        if self.style == "json":
+            return "[\n"
+        return csv_text(self.columns) if self.style == "csv" else self.padded(self.columns)
+
+    def line(self, cells: Cells) -> str:
+        self.count += 1
+        told = {column: cells.get(column, "") for column in self.columns}
+        if self.style == "json":
+            before = ",\n" if self.count > 1 else ""
+            return before + json.dumps({**told, **decimals_of(told)}, indent=2)
+        if self.style == "csv":
+            return csv_text(list(told.values()))
+        return self.padded([about(cell) if column == "value" and is_long(cell) and told["answer"] == "OPTIMAL" else cell for column, cell in told.items()])
+
+    def padded(self, cells: Sequence[str]) -> str:
+        return "  ".join(cell.ljust(width) for cell, width in zip(cells, self.widths)).rstrip() + "\n"
+
+    def foot(self) -> str:
+        return ("\n" if self.count else "") + "]\n" if self.style == "json" else ""
+
+
+def decimals_of(cells: Cells) -> Dict[str, object]:
+    """The value of an optimum as a number too."""
+    if cells["answer"] != "OPTIMAL":
+        return {"decimals": {"value": None}}
+    try:
+        return {"decimals": {"value": float(number(cells["value"], wide=True))}}
+    except OverflowError:
+        return {"decimals": {"value": None}}
+
+
+class Kept:
+    """A table in a file, CSV, to which each line is put as it comes, and which a later run goes on with. A line that was cut short
+    in the writing is dropped."""
+
+    def __init__(self, path: str, columns: List[str]) -> None:
+        self.path, self.columns = Path(path), columns
+        self.rows: Dict[str, Cells] = {}
+        text = self.path.read_text(encoding="utf-8") if self.path.exists() else ""
+        lines = list(csv.reader(io.StringIO(text[: text.rfind("\n") + 1])))
+        if lines and lines[0] != columns:
+            raise OtherTable(f"{path} holds a table with the columns {', '.join(lines[0])[:200]}, and this one has {', '.join(columns)}")
+        for cells in lines[1:]:
+            if len(cells) == len(columns) and cells[columns.index("answer")] != "FAILED":
+                self.rows[cells[0]] = dict(zip(columns, cells))
+        self.write()
+
+    def add(self, cells: Cells) -> None:
+        self.rows[cells["model"]] = cells
+        with open(self.path, "a", encoding="utf-8", newline="") as file:
+            file.write(csv_text([cells.get(column, "") for column in self.columns]))
+
+    def write(self) -> None:
+        """Writes the table anew, in the order of names, in one step."""
+        beside = self.path.with_name(f"{self.path.name}.new")
+        rows = [[row.get(column, "") for column in self.columns] for _, row in sorted(self.rows.items())]
+        beside.write_text("".join(map(csv_text, [self.columns, *rows])), encoding="utf-8", newline="")
+        os.replace(beside, self.path)

@@ -1,0 +1,171 @@
+"""The command solve: what it shows and in which style, what was not read, and how it goes on where lpd has no answer."""
+import csv
+import gzip
+import io
+import json
+import shutil
+import tempfile
+import unittest
+from fractions import Fraction
+from pathlib import Path
+from unittest import mock
+
+import lpd
+from lpd.ways import ALONE, BOTH
+
+from .commands import command
+from .models import has_program
+
+MODELS = Path(__file__).resolve().parents[3] / "examples" / "models"
+DIET = str(MODELS / "diet.mps")
+PAST = lpd.Answered(lpd.Past("ADD", Fraction(1), Fraction(2)), [], "lpd solve")
+WIDE = f"ROWS\n N cost\n G need\nCOLUMNS\n x cost 1 need 3\nRHS\n RHS need {10**50}\nENDATA\n"
+THIRD = "ROWS\n N cost\n G need\nCOLUMNS\n x cost 1 need 3\nRHS\n RHS need 1\nENDATA\n"
+# As glpsol takes it, x is at least 3 and costs 2: one right side has a set, the other none.
+SETS = "NAME\nROWS\n N cost\n G a\n G b\nCOLUMNS\n x cost 2 a 1\n x b 1\nRHS\n RHS1 a 3\n b 11\nENDATA\n"
+
+
+class Words(unittest.TestCase):
+    def test_numbers_that_are_none(self) -> None:
+        for words in (["--decimals", "-2"], ["--decimals", "two"], ["--seconds", "0"], ["--seconds", "nan"], ["--budget", "0"]):
+            with self.subTest(words):
+                said = command("solve", DIET, *words)
+                self.assertEqual((said.status, said.output), (2, ""))
+                self.assertIn(f"{words[1]} is no", said.complaints)
+
+    def test_words_that_were_likely_meant(self) -> None:
+        cases = {"solv": "did you mean solve?", "solve x --jsno": "did you mean --json?", "convert x --to glpslo": "did you mean glpsol?"}
+        for words, meant in cases.items():
+            said = command(*words.split())
+            self.assertEqual((said.status, said.output), (2, ""))
+            self.assertIn(meant, said.complaints)
+            self.assertIn("--help says which words there are", said.complaints)
+
+
+@unittest.skipUnless(has_program(), "the program is not built")
+class Shown(unittest.TestCase):
+    def test_json(self) -> None:
+        told = json.loads(command("solve", "-", "--json", stdin=THIRD.encode()).output)
+        self.assertEqual((told["answer"], told["kind"], told["value"], told["decimals"]), ("OPTIMAL 1/3", "OPTIMAL", "1/3", {"value": 1 / 3}))
+        self.assertEqual(told["columns"]["x"]["value"], "1/3")
+        self.assertEqual(told["columns"]["x"]["decimals"], {"value": 1 / 3, "reduced_cost": 0.0})
+        self.assertEqual(told["rows"]["need"]["price"], "1/3")
+        self.assertEqual((told["way"], told["accepted_by"], told["cards_not_read"]), ("lpd solve", BOTH, []))
+        told = json.loads(command("solve", "-", "--json", "--decimals", "2", stdin=THIRD.encode()).output)
+        self.assertEqual(told["columns"]["x"]["decimals"], {"value": 0.33, "reduced_cost": 0.0})
+
+    def test_json_of_parts(self) -> None:
+        parts = {"answer": [], "point": ["columns"], "rows": ["rows"], "prices": ["columns", "rows"], "all": ["columns", "rows"]}
+        for show, names in parts.items():
+            told = json.loads(command("solve", DIET, "--json", "--show", show).output)
+            self.assertEqual([name for name in ("columns", "rows") if name in told], names)
+        told = json.loads(command("solve", DIET, "--json", "--show", "prices").output)
+        self.assertEqual(list(told["rows"]["energy"]), ["price", "decimals"])
+
+    def test_json_of_a_conflict(self) -> None:
+        told = json.loads(command("solve", str(MODELS / "orders.mps"), "--json").output)["conflict"]
+        self.assertEqual((told["asked"], told["allowed"]), ("3", "0"))
+        self.assertEqual(told["rows"]["bolts"], {"multiplier": "2", "side": "lower", "limit": "11"})
+        self.assertIn("bolts is at least 11", told["words"])
+
+    def test_csv_of_parts_and_decimals(self) -> None:
+        def lines(*words: str) -> "list[list[str]]":
+            return list(csv.reader(io.StringIO(command("solve", "-", "--csv", *words, stdin=THIRD.encode()).output)))[1:]
+
+        self.assertEqual(lines(), [["answer", "OPTIMAL", "1/3", "", ""], ["column", "x", "1/3", "0", ""], ["row", "need", "1", "1/3", "0"]])
+        self.assertEqual(lines("--decimals", "2")[1], ["column", "x", "0.33", "0.00", ""])
+        self.assertEqual([line[0] for line in lines("--show", "point")], ["answer", "column"])
+        self.assertEqual(lines("--show", "rows")[1], ["row", "need", "1", "1/3", "0"])
+        self.assertEqual(lines("--show", "prices")[1:], [["column", "x", "", "0", ""], ["row", "need", "", "1/3", ""]])
+        self.assertEqual(len(lines("--show", "answer")), 1)
+
+    def test_cards_that_were_not_read_come_first(self) -> None:
+        said = command("solve", "-", stdin=SETS.encode())
+        self.assertEqual(said.output.splitlines()[:2], ["1 CARD OF OTHER SETS NOT READ: line 11 (docs/FORMATS.md)", "OPTIMAL 6"])
+        self.assertEqual(json.loads(command("solve", "-", "--json", stdin=SETS.encode()).output)["cards_not_read"], [11])
+
+    def test_the_answer_in_a_file(self) -> None:
+        with tempfile.TemporaryDirectory() as folder:
+            answer = f"{folder}/answer"
+            for words in ([], ["--max"], ["--convert"]):
+                self.assertEqual(command("solve", DIET, "-o", answer, *words).status, 0)
+                model = f"{answer}.mps" if words == ["--max"] else DIET
+                said = command("check", model, answer)
+                self.assertEqual((said.status, said.output), (0, f"YES {Path(answer).read_text().splitlines()[0]}\n"))
+            command("solve", DIET, "-o", answer)
+            self.assertEqual(Path(answer).read_text(), (MODELS / "diet.solved").read_text())
+
+    def test_a_compressed_text(self) -> None:
+        with tempfile.TemporaryDirectory() as folder:
+            path = Path(folder) / "diet.mps.gz"
+            path.write_bytes(gzip.compress(Path(DIET).read_bytes()))
+            self.assertEqual(command("solve", str(path), "--show", "answer")[:2], (0, "OPTIMAL 92.5\n"))
+            path.write_bytes(path.read_bytes()[:-20])
+            said = command("solve", str(path))
+            self.assertEqual((said.status, said.output), (9, ""))
+            self.assertIn("is no whole gzip file", said.complaints)
+
+    @unittest.skipUnless(shutil.which("glpsol"), "glpsol is not on the path")
+    def test_the_lp_format(self) -> None:
+        text = "Maximize\n gain: 3 x + 0.1 y + 7 one\nSubject To\n c1: x + y <= 4\n c2: x - y >= -1\n c3: x + y >= 0.1\n"
+        text += "Bounds\n x <= 2.5\n y free\n one = 1\nEnd\n"
+        with tempfile.TemporaryDirectory() as folder:
+            path = Path(folder) / "model.lp"
+            path.write_text(text)
+            self.assertEqual(command("solve", str(path), "--show", "answer")[:2], (0, "OPTIMAL 14.65\n"))
+            path.write_text(text.replace("End", "Generals\n x\nEnd"))
+            self.assertIn("whole-number columns (x)", command("solve", str(path), "--convert").complaints)
+            path.write_text("Maximize\n gain: 3 x +\nSubject To\n")
+            self.assertIn("is in the LP format, and glpsol does not read it: line ", command("solve", str(path)).complaints)
+
+    def test_the_lp_format_without_glpsol(self) -> None:
+        with tempfile.TemporaryDirectory() as folder, mock.patch("shutil.which", return_value=None):
+            (Path(folder) / "model.lp").write_text("Minimize\nEnd\n")
+            said = command("solve", f"{folder}/model.lp")
+        self.assertEqual(said.status, 9)
+        self.assertIn("is in the LP format, which glpsol reads", said.complaints)
+
+
+@unittest.skipUnless(has_program(), "the program is not built")
+class GoingOn(unittest.TestCase):
+    """A model that lpd solve has no answer to."""
+
+    def test_from_a_number_past_127_bits(self) -> None:
+        said = command("solve", "-", "--with", "none", "--show", "answer", stdin=WIDE.encode())
+        self.assertEqual(said.status, 14)
+        self.assertEqual(said.output.splitlines()[0], f"OPTIMAL {10**50}/3 (33333333333333333333333333333333333333333333333333.3333333333)")
+        self.assertIn(f"by exact steps in Python from no basis, 1 of them, accepted by {ALONE}, since line 7 of the model has", said.output)
+        self.assertEqual(command("solve", "-", "--only-lpd", stdin=WIDE.encode()).status, 9)
+
+    def test_from_past(self) -> None:
+        for solver, way in (("none", "exact steps in Python from no basis"), ("glpsol", "lpd basis from glpsol's basis, in 0 pivots")):
+            if solver == "none" or shutil.which(solver):
+                with mock.patch("lpd.ways.by_lpd", return_value=PAST), self.subTest(solver):
+                    said = command("solve", DIET, "--with", solver)
+                    self.assertEqual((said.status, said.output.splitlines()[0]), (0, "OPTIMAL 92.5"))
+                    self.assertIn(f"This answer is by {way}", said.output.splitlines()[1])
+                    self.assertIn(f"accepted by {BOTH}.", said.output.splitlines()[1])
+                    self.assertIn("lpd solve ends with PAST ADD 1 2", said.complaints)
+
+    def test_only_lpd(self) -> None:
+        with mock.patch("lpd.ways.by_lpd", return_value=PAST):
+            said = command("solve", DIET, "--only-lpd")
+        self.assertEqual((said.status, said.output.splitlines()[0]), (12, "PAST ADD 1 2"))
+
+    def test_a_budget_that_is_set_is_kept_to(self) -> None:
+        self.assertEqual(command("solve", DIET, "--budget", "1").status, 13)
+        spent = lpd.Answered(lpd.Spent(10000), [], "lpd solve")
+        with mock.patch("lpd.ways.by_lpd", return_value=spent):
+            self.assertEqual(command("solve", DIET, "--with", "none", "--show", "answer").output.splitlines()[0], "OPTIMAL 92.5")
+
+    def test_the_time_is_kept_to(self) -> None:
+        with mock.patch("lpd.ways.by_lpd", return_value=PAST):
+            said = command("solve", DIET, "--with", "none", "--seconds", "1e-9")
+        self.assertEqual((said.status, said.output.splitlines()[0]), (12, "PAST ADD 1 2"))
+        self.assertIn("exact steps in Python were not enough in 1e-09 seconds: --seconds allows more", said.complaints)
+
+    def test_json_says_the_way(self) -> None:
+        with mock.patch("lpd.ways.by_lpd", return_value=PAST):
+            told = json.loads(command("solve", DIET, "--with", "none", "--json").output)
+        self.assertTrue(told["way"].startswith("exact steps in Python from no basis"))
+        self.assertEqual((told["accepted_by"], told["notes"]), (BOTH, ["lpd solve ends with PAST ADD 1 2"]))
