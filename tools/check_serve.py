@@ -342,8 +342,9 @@ def out_of_time(*_: object) -> NoReturn:
 
 
 def main(command: List[str]) -> int:
-    if not command:
-        sys.exit(__doc__)
+    if command[:1] in ([], ["-h"], ["--help"]):
+        print(__doc__)
+        return 0 if command else 2
     signal.signal(signal.SIGALRM, out_of_time)
     signal.alarm(ALL_SECONDS)
     faults = 0

@@ -103,8 +103,9 @@ def fault_of(talk: Talk) -> Optional[str]:
 
 
 def main(command: List[str]) -> int:
-    if not command:
-        sys.exit(__doc__)
+    if command[:1] in ([], ["-h"], ["--help"]):
+        print(__doc__)
+        return 0 if command else 2
     with tempfile.TemporaryDirectory(prefix="lpd-talk-") as room, Talk([*command, "run"], room) as talk:
         fault = fault_of(talk)
     if fault:

@@ -51,6 +51,9 @@ def played(words, workers):
 
 
 def main():
+    if sys.argv[1:2] in ([], ["-h"], ["--help"]):
+        print(__doc__)
+        return 0 if sys.argv[1:] else 2
     alone, one = played(sys.argv[1:], "1")
     beside, more = played(sys.argv[1:], "2")
     if alone != beside or alone.count(b" OPTIMAL ") != 2:

@@ -7,12 +7,17 @@ The script has the commands of docs/PROTOCOL.md without a session's number. Each
 and its whole reply is printed before the next one is sent. With --ca the link is encrypted, and the certificate of the
 other side has to be one that FILE vouches for. Connecting, and each reply, may take SECONDS (60).
 
+Where a command is refused as unknown, a line on standard error says where the commands are described, and for a script with
+numbers of sessions how these come out. On a terminal it begins with a line of the commands.
+
 The status is 0 after BYE, and where the script ended and each command has its reply. It is 1 where there is no link, where
-the link ended early, and where a reply did not come in time; a line on standard error says which.
+the link ended early, and where a reply did not come in time; a line on standard error says which. It is 141 where nobody reads
+the replies any more, and 130 after an interrupt.
 """
 from __future__ import annotations
 
 import argparse
+import os
 import re
 import socket
 import ssl
@@ -26,6 +31,10 @@ SECONDS = 60.0
 LONGEST = 16384
 PIECE = 2**16
 LOADS = ([b"LOAD", b"FREE"], [b"LOAD", b"FIXED"])
+BANNER = """talk.py: one session on this link. LOAD FREE, and then the lines of a model until ENDATA; SOLVE; CERT; HOW; SETRHS ROW VALUE;
+talk.py: WRITE FREE; QUIT, and more in docs/PROTOCOL.md, without a session's number."""
+UNKNOWN = "talk.py: docs/PROTOCOL.md describes the commands, of which this is none"
+NUMBERED = "talk.py: a link has one session, and its commands have no number: sed 's/^[0-9][0-9]* //' takes it off the script's lines"
 FOLLOWED = re.compile(rb"(?:TEXT|CERT) (\d{1,9})\n")
 
 
@@ -142,7 +151,15 @@ def commands(lines: Iterable[bytes]) -> Iterator[tuple[bytes, bool]]:
             yield b"".join(parts), parts[-1].endswith(b"\n")
 
 
+def hint_of(command: bytes, reply: bytes) -> str:
+    """What helps where a command is refused as unknown."""
+    if not reply.startswith(b"ERR 1 "):
+        return ""
+    return NUMBERED if words_of(command.split(b"\n")[0])[0].isdigit() else UNKNOWN
+
+
 def talk(link: Link, script: Iterable[bytes]) -> None:
+    told = ""
     for command, is_whole in commands(script):
         link.send(command)
         if not is_whole:
@@ -150,6 +167,10 @@ def talk(link: Link, script: Iterable[bytes]) -> None:
         reply = link.reply()
         sys.stdout.buffer.write(reply)
         sys.stdout.buffer.flush()
+        hint = hint_of(command, reply)
+        if hint and hint != told:
+            told = hint
+            print(hint, file=sys.stderr)
         if reply == b"BYE\n":
             return
     link.close_asks()
@@ -171,12 +192,20 @@ def main() -> int:
     options.add_argument("--ca", metavar="FILE")
     given = options.parse_args()
     host, port = given.address
+    if sys.stdin.isatty():
+        print(BANNER, file=sys.stderr)
     try:
         with Link(host, port, given.timeout, given.ca) as link:
             talk(link, sys.stdin.buffer)
     except Ended as why:
         print(f"talk.py: {why}", file=sys.stderr)
         return 1
+    except BrokenPipeError:
+        # nothing more is written, not even at the end
+        os.dup2(os.open(os.devnull, os.O_WRONLY), sys.stdout.fileno())
+        return 141
+    except KeyboardInterrupt:
+        return 130
     return 0
 
 

@@ -1,0 +1,54 @@
+"""The tools that people begin by hand: their help, and what talk.py says where it is asked for what there is not."""
+import socket
+import subprocess
+import sys
+import unittest
+from pathlib import Path
+from typing import List
+
+from .serving import HOST, Server, by_bytes, commands
+
+TOOLS = Path(__file__).resolve().parents[3] / "tools"
+
+
+class Help(unittest.TestCase):
+    def test_help(self) -> None:
+        for name in ("check_certificate", "check_serve", "check_talk", "check_threads", "check_workers", "talk"):
+            with self.subTest(name):
+                said = subprocess.run([sys.executable, str(TOOLS / f"{name}.py"), "--help"], capture_output=True, text=True, timeout=60)
+                self.assertEqual((said.returncode, said.stderr), (0, ""))
+                self.assertIn(f"{name}.py", said.stdout)
+
+
+class Talk(unittest.TestCase):
+    def talk(self, script: bytes, *replies: bytes) -> "subprocess.CompletedProcess[bytes]":
+        server = Server(by_bytes(*replies))
+        self.addCleanup(server.join, 60)
+        return subprocess.run([sys.executable, str(TOOLS / "talk.py"), f"{HOST}:{server.port}"], input=script, capture_output=True, timeout=60)
+
+    def test_a_script_with_numbers(self) -> None:
+        said = self.talk(b"1 SOLVE\n1 QUIT\n", b"ERR 1 WORD\n", b"ERR 1 WORD\n")
+        self.assertEqual(said.stdout, b"ERR 1 WORD\nERR 1 WORD\n")
+        self.assertEqual(said.stderr.count(b"a link has one session, and its commands have no number: sed"), 1)
+
+    def test_a_command_that_there_is_not(self) -> None:
+        said = self.talk(b"SOLV\n", b"ERR 1 WORD\n")
+        self.assertIn(b"docs/PROTOCOL.md describes the commands", said.stderr)
+
+    def test_nobody_reads(self) -> None:
+        replied: List[bytes] = []
+
+        def serve(link: socket.socket) -> None:
+            for _ in commands(link):
+                link.sendall(b"TEXT 1\n" + b"x" * 1000 + b"\n")
+                replied.append(b"")
+
+        server = Server(serve)
+        self.addCleanup(server.join, 60)
+        words = [sys.executable, str(TOOLS / "talk.py"), f"{HOST}:{server.port}"]
+        with subprocess.Popen(words, stdin=subprocess.PIPE, stdout=subprocess.PIPE, stderr=subprocess.PIPE) as run:
+            if run.stdin and run.stdout and run.stderr:
+                run.stdout.close()
+                run.stdin.write(b"WRITE FREE\n" * 9)
+                run.stdin.close()
+                self.assertEqual((run.wait(60), run.stderr.read()), (141, b""))
