@@ -95,6 +95,20 @@ class Shown(unittest.TestCase):
             command("solve", DIET, "-o", answer)
             self.assertEqual(Path(answer).read_text(), (MODELS / "diet.solved").read_text())
 
+    def test_a_text_that_was_converted(self) -> None:
+        text = Path(DIET).read_text().replace(" eggs ", " œufs ").replace("ROWS\n", "rows\n")
+        with tempfile.TemporaryDirectory() as folder:
+            model, answer = f"{folder}/model.mps", f"{folder}/answer"
+            Path(model).write_text(text, encoding="utf-8")
+            for words in (["solve", model, "--convert"], ["certify", model, "--with", "none"]):
+                said = command(*words, "-o", answer)
+                self.assertEqual(said.status, 0, said.complaints)
+                self.assertIn(f"{answer} is for the text {answer}.mps\n", said.complaints)
+                for converted in ([f"{answer}.mps"], [model, "--convert"]):
+                    self.assertEqual(command("check", converted[0], answer, *converted[1:])[:2], (0, "YES OPTIMAL 92.5\n"))
+            behind = Path(model).read_bytes() + Path(answer).read_bytes()
+            self.assertEqual(command("check", "-", "--convert", stdin=behind)[:2], (0, "YES OPTIMAL 92.5\n"))
+
     def test_a_compressed_text(self) -> None:
         with tempfile.TemporaryDirectory() as folder:
             path = Path(folder) / "diet.mps.gz"

@@ -4,15 +4,15 @@ from __future__ import annotations
 import argparse
 import json
 import time
+from dataclasses import replace
 from typing import Dict
 
 from ..certifying import PYTHON, WAYS, Certified, NotAnswered, certify
-from ..conversion import Options
 from ..floating import CHOICES, NONE
-from ..reading import read_model_file
+from ..reading import is_lp, read_model_file
 from ..replies import Optimal
 from ..tables import claim_of, off_of
-from .common import PYTHON_ALONE, add_options, converted, decimals, lines_text, options_of, put, seconds, status_of, tell, with_decimals
+from .common import PYTHON_ALONE, add_options, converted, decimals, options_of, put_beside, seconds, status_of, tell, with_decimals
 
 
 def add(commands: "argparse._SubParsersAction[argparse.ArgumentParser]") -> None:
@@ -26,7 +26,7 @@ def add(commands: "argparse._SubParsersAction[argparse.ArgumentParser]") -> None
     certifies.add_argument("--form", choices=["free", "fixed"], help="the form of the text (the one that fits)")
     add_options(certifies)
     certifies.add_argument("--decimals", type=decimals, metavar="D", default=10, help="shows D decimals, rounded, beside fractions (10)")
-    certifies.add_argument("-o", "--output", metavar="FILE", help="where the certificate goes")
+    certifies.add_argument("-o", "--output", metavar="FILE", help="where the certificate goes; a text that was converted goes beside it, to FILE.mps")
     certifies.add_argument("--json", action="store_true")
 
 
@@ -54,7 +54,8 @@ def as_json(found: Certified, solver: str, seconds: float) -> str:
 def run(words: argparse.Namespace) -> int:
     started = time.monotonic()
     options = options_of(words)
-    text = converted(words, read_model_file(words.model), Options(options.relax, options.no_set, options.no_bound, wide=True)).text
+    read = converted(words, read_model_file(words.model), replace(options, wide=True))
+    text, changed = read.text, bool(read.changes) or is_lp(words.model)
     try:
         found = certify(text, words.solver, words.seconds, words.way)
     except NotAnswered as failed:
@@ -66,7 +67,7 @@ def run(words: argparse.Namespace) -> int:
     for note in found.notes:
         tell(f"{words.solver}: {note}")
     if words.output:
-        put(lines_text(found.certificate), words.output)
+        put_beside(words.output, found.certificate, text if changed else None)
     if words.json:
         print(as_json(found, words.solver, seconds))
     else:

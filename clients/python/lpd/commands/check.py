@@ -3,15 +3,16 @@ from __future__ import annotations
 
 import argparse
 import re
+from dataclasses import replace
 from typing import Dict, List, Optional, Tuple
 
 from ..certificate import check_lines
 from ..errors import LpdError
-from ..model import lines_of, read_lines, words_of
+from ..model import Model, lines_of, read_lines, words_of
 from ..number_text import NotANumber, number, shown
 from ..reading import read_model_file
 from ..replies import Accepted, Infeasible, Known, Optimal, Rejected, Unbounded
-from .common import as_text, read, tell
+from .common import add_options, as_text, converted, options_of, read, skipped_words, tell
 
 OTHERS: Dict[str, Known] = {"INFEASIBLE": Infeasible(), "UNBOUNDED": Unbounded()}
 KINDS = ("OPTIMAL", "INFEASIBLE", "UNBOUNDED", "CLASH")
@@ -29,7 +30,9 @@ def add(commands: "argparse._SubParsersAction[argparse.ArgumentParser]") -> None
     checks.add_argument("model", help="a file of MPS text, which may be compressed by gzip (.gz), or of the LP format (.lp), or - for standard input")
     told = "a file: a certificate, or what lpd solve or lpd basis printed; without it that comes after ENDATA in the model's file"
     checks.add_argument("certificate", nargs="?", help=told)
-    checks.add_argument("--form", choices=["free", "fixed"], default="free")
+    checks.add_argument("--form", choices=["free", "fixed"], help="the form of the text (free; with --convert or --relax the one that fits)")
+    checks.add_argument("--convert", action="store_true", help="converts the text from other dialects first, as solve does")
+    add_options(checks)
     claim = "what the certificate has to show, exactly: the optimal value, INFEASIBLE or UNBOUNDED"
     checks.add_argument("--claim", metavar="ANSWER", help=claim)
     checks.add_argument("--wide", action="store_true", help="numbers of any width")
@@ -73,12 +76,26 @@ def without_comments(certificate: str) -> List[str]:
     return [line for line in lines_of(certificate) if line.strip() and not line.startswith("#")]
 
 
+def model_of(words: argparse.Namespace) -> "tuple[Model, List[str]]":
+    """The model, and what stands behind its text."""
+    text = with_newline(as_text(read_model_file(words.model)))
+    lines = lines_of(text)
+    if words.convert or words.relax:
+        found = converted(words, text.encode("latin-1"), replace(options_of(words), wide=words.wide))
+        end = next((n for n, line in enumerate(lines, 1) if line[:1] not in " \t" and words_of(line)[0].upper() == "ENDATA"), len(lines))
+        return found.model, lines[end:]
+    model, count = read_lines(lines, words.form == "fixed", words.wide)
+    return model, lines[count:]
+
+
 def run(words: argparse.Namespace) -> int:
     claims = [] if words.claim is None else [answer_of(words.claim)]
-    lines = lines_of(with_newline(as_text(read_model_file(words.model))))
-    model, count = read_lines(lines, words.form == "fixed", words.wide)
-    given = lines[count:] if words.certificate is None else without_comments(as_text(read(words.certificate)))
+    model, behind = model_of(words)
+    given = behind if words.certificate is None else without_comments(as_text(read(words.certificate)))
     printed, certificate = parted(given)
+    skipped = skipped_words(model)
+    if skipped:
+        tell(skipped)
     verdict = check_lines(model, certificate, words.wide)
     if isinstance(verdict, Rejected):
         why = verdict.why or ""

@@ -37,6 +37,15 @@ def put(text: str, path: Optional[str]) -> None:
         Path(path).write_bytes(data)
 
 
+def put_beside(path: str, lines: Sequence[str], text: Optional[str]) -> None:
+    """Writes a certificate, or an answer in front of one, and beside it the text that it is for, where that is not the
+    one of the file."""
+    put(lines_text(lines), path)
+    if text is not None:
+        put(text, f"{path}.mps")
+        tell(f"{path} is for the text {path}.mps")
+
+
 def tell(words: str) -> None:
     print(words, file=sys.stderr)
 

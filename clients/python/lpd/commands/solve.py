@@ -5,7 +5,6 @@ import argparse
 import json
 from dataclasses import replace
 from fractions import Fraction
-from pathlib import Path
 from typing import Dict, List, Optional, Tuple
 
 from .. import errors
@@ -19,8 +18,8 @@ from ..reading import is_lp, read_model_file
 from ..replies import Answer, Infeasible, Optimal, Past, Spent, Unbounded
 from ..report import Report, conflict, report
 from ..ways import SECONDS, Answered, Effort, answered
-from .common import add_options, as_text, budget, converted, csv_line, decimals, number_in, options_of, put, seconds, skipped_words
-from .common import PYTHON_ALONE, lines_text, status_of, table, tell, with_decimals
+from .common import add_options, as_text, budget, converted, csv_line, decimals, number_in, options_of, put_beside, seconds, skipped_words
+from .common import PYTHON_ALONE, status_of, table, tell, with_decimals
 
 SHOWN = ["all", "point", "rows", "prices", "answer"]
 LONG = 40  # a fraction of more characters is shown with decimals beside it
@@ -184,19 +183,11 @@ def loaded(words: argparse.Namespace) -> Tuple[str, Model, bool]:
     return (written(model, PROFILE).text if is_other else text), model, is_other
 
 
-def put_answer(words: argparse.Namespace, found: Answered, text: str, is_other: bool) -> None:
-    """Writes the answer and its certificate as lpd solve does, and beside them the text, where it is not that of the file."""
-    Path(words.output).write_bytes(lines_text([str(found.answer), *found.certificate]).encode("latin-1"))
-    if is_other:
-        put(text, f"{words.output}.mps")
-        tell(f"the text that was solved is {words.output}.mps, and {words.output} is for that")
-
-
 def run(words: argparse.Namespace) -> int:
     text, model, is_other = loaded(words)
     found = answered(text, model, effort_of(words))
     if words.output:
-        put_answer(words, found, text, is_other)
+        put_beside(words.output, [str(found.answer), *found.certificate], text if is_other else None)
     if words.page:
         write_page(words.page, text, found.certificate, found.answer)
     point = report(model, found.certificate) if isinstance(found.answer, Optimal) else None
