@@ -6,26 +6,29 @@ varValue, dj, pi and slack as PuLP's own solvers do, in floats, and keeps in pro
 """
 from __future__ import annotations
 
+import argparse
 import math
 import numbers
 from dataclasses import dataclass, field
 from decimal import Decimal
 from fractions import Fraction
-from typing import Any, Dict, Iterable, List, Optional
+from typing import Any, Dict, Iterable, List, NoReturn, Optional
 
 import pulp  # type: ignore[import]
 
 from .certificate import matched, read_certificate
-from .certifying import TOO_WIDE, made_exact
+from .commands.common import budget as budget_word
+from .commands.solve import add_ways
 from .dialects import PROFILE, written
-from .errors import LpdError, ProgramMissing, TextFault
-from .floating import CHOICES, ask
-from .model import Column, Model, Row, is_name, read_model
+from .errors import LpdError, ProgramMissing
+from .exact import OutOfTime
+from .floating import CHOICES
+from .model import MOST_COLUMNS, MOST_ROWS, Column, Model, Row, is_name, read_model
 from .names import LONGEST, plain
-from .program import find_program
+from .program import the_program
 from .replies import Answer, Infeasible, Optimal, Unbounded
 from .report import report
-from .session import Session
+from .ways import Effort, answered, other_solver
 
 KINDS = {pulp.LpConstraintLE: "L", pulp.LpConstraintEQ: "E", pulp.LpConstraintGE: "G"}
 
@@ -42,6 +45,8 @@ class Exact:
     pi: Dict[str, Fraction] = field(default_factory=dict)
     slack: Dict[str, Fraction] = field(default_factory=dict)
     certified_with: Optional[str] = None  # the other solver, where lpd itself had no answer
+    way: str = ""
+    accepted_by: str = ""
 
 
 def exactly(value: Any, binary: bool = False) -> Fraction:
@@ -105,64 +110,116 @@ def must_be_linear(problem: Any, relaxes: bool) -> None:
         raise pulp.PulpSolverError(f"lpd solves linear programs, and these are special ordered sets: {', '.join(map(str, sets[:6]))}")
 
 
+def must_fit(problem: Any) -> None:
+    """Refuses a problem that is too large, in its own terms."""
+    rows, columns = len(problem.constraints), len(problem.variables())
+    if rows > MOST_ROWS or columns > MOST_COLUMNS:
+        size = f"this problem has {rows} constraints and {columns} variables"
+        raise pulp.PulpSolverError(f"lpd: {size}, and lpd takes at most {MOST_ROWS} and {MOST_COLUMNS}")
+
+
+class Options(argparse.ArgumentParser):
+    """The words of `options`, which are those of the command solve."""
+
+    def __init__(self) -> None:
+        super().__init__(prog="options of LPD", add_help=False)
+        self.add_argument("--budget", type=budget_word)
+        add_ways(self)
+        self.add_argument("--binary", action="store_true")
+
+    def error(self, message: str) -> NoReturn:
+        raise pulp.PulpSolverError(f"lpd: {message}: {self.format_usage().strip()}")
+
+
 class LPD(pulp.LpSolver):  # type: ignore[misc]
-    """The solver. `budget` is the most pivots; with `certify` another solver (glpsol, clp, cbc, esolver, highs, or none) is
-    asked for a basis where lpd itself has no answer within 127 bits or the budget; `mip=False` takes whole-number variables
-    as real ones."""
+    """The solver. `budget` is the most pivots, and `timeLimit` the seconds of all ways together. Where lpd itself has no answer
+    within 127 bits it goes on by the basis of the solver that `certify` names (glpsol, clp, cbc, esolver, highs, or none), or of
+    the first that is there, unless only_lpd=True; where a budget is set it is kept to, unless certify names one. `mip=False`
+    takes whole-number variables as real ones. `options` are words as those of python3 -m lpd solve, as ["--budget", "500"], and
+    the log, that msg=True shows, goes to the file `logPath` too."""
 
     name = "LPD"
 
-    def __init__(self, mip: bool = True, msg: bool = True, budget: Optional[int] = None, binary: bool = False, certify: Optional[str] = None) -> None:
-        super().__init__(mip=mip, msg=msg)
+    def __init__(
+        self,
+        mip: bool = True,
+        msg: bool = True,
+        budget: Optional[int] = None,
+        binary: bool = False,
+        certify: Optional[str] = None,
+        timeLimit: Optional[float] = None,
+        logPath: Optional[str] = None,
+        options: Optional[List[str]] = None,
+        only_lpd: bool = False,
+    ) -> None:
+        super().__init__(mip=mip, msg=msg, options=options, timeLimit=timeLimit, logPath=logPath)
         if certify is not None and certify not in CHOICES:
             raise ValueError(f"certify is one of {', '.join(CHOICES)}")
-        self.budget, self.binary, self.certify = budget, binary, certify
+        words = Options().parse_args([str(word) for word in options or []])
+        self.budget = words.budget if budget is None else budget
+        self.binary, self.only_lpd, self.logPath = binary or words.binary, only_lpd or words.only_lpd, logPath
+        self.certify = certify or words.solver
+        self.seconds: float = words.seconds
 
     def copy(self) -> LPD:
-        return LPD(self.mip, self.msg, self.budget, self.binary, self.certify)
+        return LPD(self.mip, self.msg, self.budget, self.binary, self.certify, self.timeLimit, self.logPath, self.options, self.only_lpd)
 
     def available(self) -> bool:
         try:
-            return bool(find_program())
+            return bool(the_program())
         except ProgramMissing:
             return False
 
     def actualSolve(self, lp: Any) -> int:
-        """Solves the problem, and gives PuLP's status: Not Solved past 127 bits or the budget."""
+        """Solves the problem, and gives PuLP's status: Not Solved where there is no answer in the end."""
         must_be_linear(lp, relaxes=not self.mip)
+        must_fit(lp)
         text = written(model_of(lp, self.binary), PROFILE).text
+        lp.exact = None
         try:
             model = read_model(text, wide=True)
-            exact = self.solved(text, model)
+            found = answered(text, model, self.effort())
+        except OutOfTime as late:
+            self.log([f"lpd: {late}"])
+            return put_nothing(lp)
         except LpdError as error:
             raise pulp.PulpSolverError(f"lpd: {error}") from error
-        lp.exact = exact
+        other = None if found.is_by_lpd else other_solver(self.certify)
+        lp.exact = Exact(found.answer, found.certificate, text, certified_with=other, way=found.way, accepted_by=found.accepted_by)
+        self.log([f"lpd: {found.answer}", *(f"lpd: {line}" for line in [*found.notes, *([] if found.is_by_lpd else [found.told()])])])
+        put_values(lp, model, lp.exact)
+        return put_status(lp, lp.exact.answer)
+
+    def effort(self) -> Effort:
+        seconds = self.seconds if self.timeLimit is None else float(self.timeLimit)
+        return Effort(self.budget, self.only_lpd, self.certify, seconds, self.timeLimit)
+
+    def log(self, lines: List[str]) -> None:
         if self.msg:
-            print(f"lpd: {exact.answer}")
-        put_values(lp, model, exact)
-        return put_status(lp, exact.answer)
+            print("\n".join(lines))
+        if self.logPath:
+            with open(self.logPath, "a", encoding="utf-8") as file:
+                file.writelines(f"{line}\n" for line in lines)
 
-    def solved(self, text: str, model: Model) -> Exact:
-        """The answer of lpd, or else, where that is asked for, of another solver's basis."""
-        exact: Optional[Exact] = None
-        try:
-            exact = self.by_lpd(text, model)
-        except TextFault as fault:
-            if not self.certify or fault.fault != TOO_WIDE:
-                raise
-        if self.certify and (exact is None or not exact.certificate):
-            found = made_exact(text, model, ask(self.certify, model))
-            return Exact(found.known, found.certificate, text, certified_with=self.certify)
-        if exact is None:
-            raise LpdError("there is no answer")
-        return exact
 
-    def by_lpd(self, text: str, model: Model) -> Exact:
-        with Session() as session:
-            session.load(text)
-            if self.budget is not None:
-                session.budget(self.budget)
-            return Exact(*session.solve_checked(model), text)
+def register() -> None:
+    """Lets pulp.getSolver("LPD") and pulp.listSolvers() know the solver."""
+    known = getattr(pulp.apis, "_all_solvers", None)
+    if isinstance(known, list) and LPD not in known:
+        known.append(LPD)
+
+
+register()
+
+
+def put_nothing(problem: Any) -> int:
+    """Sets that there is no answer."""
+    for variable in problem.variables():
+        variable.varValue = variable.dj = None
+    for constraint in problem.constraints.values():
+        constraint.pi = constraint.slack = None
+    problem.assignStatus(pulp.LpStatusNotSolved, pulp.LpSolutionNoSolutionFound)
+    return int(pulp.LpStatusNotSolved)
 
 
 def put_values(problem: Any, model: Model, exact: Exact) -> None:

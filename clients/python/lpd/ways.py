@@ -7,15 +7,18 @@ certificate is judged, and it is said who accepted it.
 """
 from __future__ import annotations
 
+import contextlib
 import shutil
+import threading
 from dataclasses import dataclass, field, replace
-from typing import List, Optional
+from typing import Iterator, List, Optional
 
 from .certifying import PROGRAM, PYTHON, TOO_WIDE, Exact, judged, made_exact
-from .errors import LpdError, TextFault
+from .errors import LpdError, ProgramEnded, TextFault
 from .exact import OutOfTime, Watch
 from .floating import NONE, SOLVERS, ask
 from .model import Model
+from .program import Program
 from .replies import Answer, Spent
 from .session import Session
 
@@ -25,13 +28,15 @@ BOTH, ALONE = "lpd check and the checker in Python", "the checker in Python alon
 
 @dataclass(frozen=True)
 class Effort:
-    """How far it goes: at most so many pivots of the program (a number that is set is kept to), whether the program alone is
-    asked, which other solver (else the first that is there), and how many seconds the other ways have."""
+    """How far it goes: at most so many pivots of the program (a number that is set is kept to, unless a solver is named),
+    whether the program alone is asked, which other solver (else the first that is there), how many seconds the other ways
+    have, and how many the program's own solve has (else as many as it takes)."""
 
     budget: Optional[int] = None
     only_lpd: bool = False
     solver: Optional[str] = None
     seconds: float = SECONDS
+    solve_seconds: Optional[float] = None
 
 
 @dataclass(frozen=True)
@@ -68,14 +73,38 @@ def other_solver(named: Optional[str]) -> str:
     return named or (there[0] if there else NONE)
 
 
-def by_lpd(text: str, model: Model, budget: Optional[int] = None) -> Answered:
-    """The answer of the program's own solve, whose certificate both checkers accept."""
-    with Session() as session:
+def by_lpd(text: str, model: Model, budget: Optional[int] = None, seconds: Optional[float] = None) -> Answered:
+    """The answer of the program's own solve, whose certificate both checkers accept. OutOfTime says that it is not done in as
+    many seconds: then the program is ended."""
+    with Program() as program, Session(program) as session, ended_after(program, seconds):
         session.load(text)
         if budget is not None:
             session.budget(budget)
         answer, certificate = session.solve_checked(model)
         return Answered(answer, certificate, "lpd solve", BOTH if certificate else "", session.how().pivots)
+
+
+@contextlib.contextmanager
+def ended_after(program: Program, seconds: Optional[float]) -> Iterator[None]:
+    """Ends the program where the block is not done in so many seconds."""
+    is_late = threading.Event()
+
+    def end() -> None:
+        is_late.set()
+        program.process.kill()
+
+    timer = None if seconds is None else threading.Timer(seconds, end)
+    try:
+        if timer:
+            timer.start()
+        yield
+    except ProgramEnded:
+        if is_late.is_set():
+            raise OutOfTime(f"lpd solve is not done in {seconds:g} seconds") from None
+        raise
+    finally:
+        if timer:
+            timer.cancel()
 
 
 def way_of(found: Exact, solver: str) -> str:
@@ -102,12 +131,12 @@ def by_others(text: str, model: Model, effort: Effort) -> Answered:
 def by_lpd_first(text: str, model: Model, effort: Effort) -> "tuple[Optional[Answered], str]":
     """The answer of the program's own solve, if it has one to a text with such numbers, and why that is not the end."""
     try:
-        found = by_lpd(text, model, effort.budget)
+        found = by_lpd(text, model, effort.budget, effort.solve_seconds)
     except TextFault as fault:
         if fault.fault != TOO_WIDE or effort.only_lpd:
             raise
         return None, f"line {fault.line} of the model has a number past 127 bits"
-    is_meant = isinstance(found.answer, Spent) and effort.budget is not None
+    is_meant = isinstance(found.answer, Spent) and effort.budget is not None and effort.solver is None
     return found, "" if found.certificate or effort.only_lpd or is_meant else f"lpd solve ends with {found.answer}"
 
 

@@ -1,10 +1,15 @@
 """lpd as a solver of PuLP, beside glpsol on random models, and what it refuses."""
+import contextlib
+import io
 import random
 import shutil
+import tempfile
 import unittest
 from decimal import Decimal
 from fractions import Fraction
+from pathlib import Path
 from typing import Any
+from unittest import mock
 
 import lpd
 
@@ -109,9 +114,56 @@ class WithPulp(unittest.TestCase):
         problem += x
         problem += Fraction(1, 10**50) * x >= 1
         with self.assertRaises(pulp.PulpSolverError):
-            problem.solve(LPD(msg=False))
+            problem.solve(LPD(msg=False, only_lpd=True))
         problem.solve(LPD(msg=False, certify="glpsol"))
         self.assertEqual(problem.exact.answer, lpd.Optimal(Fraction(10**50)))
+
+    def test_it_goes_on_by_itself(self) -> None:
+        past = lpd.Answered(lpd.Past("ADD", Fraction(1), Fraction(2)), [], "lpd solve")
+        with mock.patch("lpd.ways.by_lpd", return_value=past):
+            problem = self.diet()
+            self.assertEqual(problem.solve(LPD(msg=False, options=["--with", "none"])), pulp.LpStatusOptimal)
+            self.assertEqual((self.milk.varValue, problem.exact.certified_with), (3.0, "none"))
+            self.assertTrue(problem.exact.way.startswith("exact steps in Python"))
+            self.assertEqual(problem.solve(LPD(msg=False, options=["--only-lpd"])), pulp.LpStatusNotSolved)
+            self.assertEqual((self.milk.varValue, problem.exact.answer), (None, past.answer))
+
+    def test_options_as_others_take_them(self) -> None:
+        problem = self.diet()
+        self.assertEqual(problem.solve(LPD(msg=False, options=["--budget", "1"])), pulp.LpStatusNotSolved)
+        with self.assertRaisesRegex(pulp.PulpSolverError, "unrecognized arguments: --bugdet"):
+            LPD(options=["--bugdet", "1"])
+        solver = pulp.getSolver("LPD", msg=False, timeLimit=60)
+        self.assertEqual((solver.timeLimit, problem.solve(solver)), (60, pulp.LpStatusOptimal))
+        self.assertIn("LPD", pulp.listSolvers(onlyAvailable=True))
+        again = solver.copy()
+        self.assertEqual((again.timeLimit, again.msg), (60, False))
+
+    def test_a_log(self) -> None:
+        with tempfile.TemporaryDirectory() as folder:
+            path = f"{folder}/log"
+            said = io.StringIO()
+            with contextlib.redirect_stdout(said):
+                self.diet().solve(LPD(logPath=path))
+            self.assertEqual((said.getvalue(), Path(path).read_text()), ("lpd: OPTIMAL 2.6\n", "lpd: OPTIMAL 2.6\n"))
+            with contextlib.redirect_stdout(said):
+                self.diet().solve(LPD(logPath=path, msg=False))
+            self.assertEqual(said.getvalue(), "lpd: OPTIMAL 2.6\n")
+            self.assertEqual(len(Path(path).read_text().splitlines()), 2)
+
+    def test_a_limit_of_time(self) -> None:
+        busy = str(Path(__file__).with_name("busy.sh"))
+        with mock.patch("lpd.program.the_program", return_value=busy), mock.patch("lpd.program.SECONDS", 1):
+            problem = self.diet()
+            self.assertEqual(problem.solve(LPD(msg=False, timeLimit=0.2)), pulp.LpStatusNotSolved)
+            self.assertEqual((problem.exact, self.bread.varValue), (None, None))
+
+    def test_a_problem_that_is_too_large(self) -> None:
+        problem = self.diet()
+        for number in range(300):
+            problem += self.bread <= 100 + number
+        with self.assertRaisesRegex(pulp.PulpSolverError, "this problem has 302 constraints and 2 variables, and lpd takes at most 256 and 512"):
+            problem.solve(LPD(msg=False))
 
     def test_what_is_no_linear_program(self) -> None:
         problem = self.diet()
