@@ -2,6 +2,7 @@
 from __future__ import annotations
 
 import socket
+import ssl
 import time
 from collections import deque
 from typing import Deque, List, Optional, Sequence
@@ -15,24 +16,41 @@ PIECE = 2**16
 TIMEOUT = 60.0
 
 
+def encrypted(link: socket.socket, host: str, ca: Optional[str]) -> socket.socket:
+    return ssl.create_default_context(cafile=ca).wrap_socket(link, server_hostname=host)
+
+
+def reason_of(error: ssl.SSLError) -> str:
+    return getattr(error, "verify_message", "") or error.reason or str(error)
+
+
 class Link:
     """A link to the server at this address. Connecting, and each reply from its command to its last byte, may take
     `timeout` seconds; how long a host's name is looked up is the system's matter. After a fault the link is closed, since
-    what would come next is not the next command's reply."""
+    what would come next is not the next command's reply. With `tls` it is encrypted, and the certificate of the other side has
+    to be for the host, and one that the file `ca` vouches for, or without it the system."""
 
-    def __init__(self, host: str, port: int, timeout: float = TIMEOUT) -> None:
+    def __init__(self, host: str, port: int, timeout: float = TIMEOUT, tls: bool = False, ca: Optional[str] = None) -> None:
         self.peer, self.timeout = f"{host}:{port}", timeout
         self.is_taken = False
         self.lines: Deque[bytes] = deque()
         self.rest = b""
         self.received = 0
         self.deadline = 0.0
+        self.socket: Optional[socket.socket] = None
         try:
-            self.socket: Optional[socket.socket] = socket.create_connection((host, port), timeout)
+            self.socket = socket.create_connection((host, port), timeout)
             self.socket.setsockopt(socket.IPPROTO_TCP, socket.TCP_NODELAY, 1)
+            if tls or ca:
+                self.socket = encrypted(self.socket, host, ca)
+        except ssl.SSLError as error:
+            self.close()
+            raise ConnectFailed(f"the link to {self.peer} is not encrypted as it should be: {reason_of(error)}") from None
         except socket.timeout:
+            self.close()
             raise ConnectFailed(f"{self.peer} does not answer within {timeout} seconds") from None
         except OSError as error:
+            self.close()
             raise ConnectFailed(f"there is no link to {self.peer}: {error.strerror or error}") from None
 
     def begin_session(self) -> List[str]:

@@ -275,10 +275,11 @@ def encoded(lines: Sequence[str]) -> bytes:
         raise ValueError(f"{text[error.start]!r} is no byte: read a file of another encoding as latin-1") from None
 
 
-def connect(host: str, port: int, timeout: float = TIMEOUT) -> Session:
+def connect(host: str, port: int, timeout: float = TIMEOUT, tls: bool = False, ca: Optional[str] = None) -> Session:
     """A session of the server at this address, over a link that ends with it. Connecting, and each reply, may take
-    `timeout` seconds."""
-    return Session(Link(host, port, timeout), owns_transport=True)
+    `timeout` seconds. With `tls` the link is encrypted, and the certificate of the other side is one that the file `ca`
+    vouches for, or without it the system."""
+    return Session(Link(host, port, timeout, tls, ca), owns_transport=True)
 
 
 def body_of(text: str, fixed: bool) -> List[str]:

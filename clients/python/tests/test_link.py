@@ -1,6 +1,10 @@
 """Sessions over links: the replies of test_session without numbers, bad peers, and the program behind a server."""
 import select
+import shutil
 import socket
+import ssl
+import subprocess
+import tempfile
 import threading
 import time
 import unittest
@@ -158,6 +162,61 @@ class BadPeers(Linked):
         with self.assertRaises(KeyError), lpd.connect(HOST, server.port):
             raise KeyError
         self.ended(server)
+
+
+@unittest.skipUnless(shutil.which("openssl"), "openssl is not on the path")
+class Encrypted(Linked):
+    """A server with a certificate for 127.0.0.1 that it signed itself."""
+
+    @classmethod
+    def setUpClass(cls) -> None:
+        cls.folder = tempfile.TemporaryDirectory()
+        cls.key, cls.ca = f"{cls.folder.name}/key", f"{cls.folder.name}/certificate"
+        words = ["-newkey", "rsa:2048", "-nodes", "-keyout", cls.key, "-out", cls.ca, "-days", "2", "-subj", "/CN=lpd"]
+        subprocess.run(["openssl", "req", "-x509", *words, "-addext", f"subjectAltName=IP:{HOST}"], check=True, capture_output=True)
+
+    @classmethod
+    def tearDownClass(cls) -> None:
+        cls.folder.cleanup()
+
+    def port_of(self, serve: Serve) -> int:
+        context = ssl.SSLContext(ssl.PROTOCOL_TLS_SERVER)
+        context.load_cert_chain(self.ca, self.key)
+
+        def serves(link: socket.socket) -> None:
+            with context.wrap_socket(link, server_side=True) as inner:
+                serve(inner)
+
+        server = Server(serves)
+        self.addCleanup(self.ended, server)
+        return server.port
+
+    def test_a_session(self) -> None:
+        port = self.port_of(by_bytes(b"OPTIMAL 1\n", b"CERT 1\nEND\n", b"BYE\n"))
+        with lpd.connect(HOST, port, SECONDS, tls=True, ca=self.ca) as session:
+            self.assertEqual((session.solve(), session.certificate()), (lpd.Optimal(Fraction(1)), ["END"]))
+
+    def test_silence_and_a_close(self) -> None:
+        with self.assertRaises(lpd.LinkTimeout):
+            session = lpd.connect(HOST, self.port_of(by_bytes(b"OPT", stays=True)), SECONDS, ca=self.ca)
+            session.transport.timeout = 0.5
+            session.solve()
+        with self.assertRaises(lpd.LinkClosed):
+            lpd.connect(HOST, self.port_of(by_bytes(b"OPT")), SECONDS, ca=self.ca).solve()
+
+    def test_a_certificate_that_nobody_vouches_for(self) -> None:
+        with self.assertRaisesRegex(lpd.ConnectFailed, "is not encrypted as it should be: self-signed certificate"):
+            lpd.connect(HOST, self.port_of(by_bytes()), SECONDS, tls=True)
+
+    def test_another_host(self) -> None:
+        with self.assertRaisesRegex(lpd.ConnectFailed, "not encrypted as it should be: Hostname mismatch"):
+            lpd.connect("localhost", self.port_of(by_bytes()), SECONDS, ca=self.ca)
+
+    def test_a_server_without_tls(self) -> None:
+        server = Server(lambda link: link.sendall(b"ERR 1 WORD\n" * 100))
+        self.addCleanup(self.ended, server)
+        with self.assertRaises(lpd.ConnectFailed):
+            lpd.connect(HOST, server.port, SECONDS, ca=self.ca)
 
 
 @unittest.skipUnless(has_program(), "the program is not built")
