@@ -1,4 +1,4 @@
-"""lpd for people: python3 -m lpd solve, check, convert, certify, or batch, each with --help.
+"""lpd for people: python3 -m lpd solve, check, convert, certify, batch, or plot, each with --help.
 
 Status: 0 an optimal value, accepted by both checkers (solve), an accepted certificate (check), a text (convert), or a table
 (batch); 1 a certificate that is not accepted; 2 wrong words, or a question that words have to answer; 3 no program, or it
@@ -15,12 +15,13 @@ import sys
 from typing import List, NoReturn, Optional
 
 from . import errors
-from .commands import batch, certify, check, convert, solve
+from .commands import batch, certify, check, convert, plot, solve
 from .commands.common import tell
 from .conversion import Question, Unconvertible
 from .dialects import Inexact
 from .lp_format import Unreadable
 from .number_text import NotANumber
+from .plotting import NoPicture
 from .version import ShowVersion
 
 EPILOG = __doc__.partition("\n\n")[2] if __doc__ else None
@@ -50,7 +51,7 @@ class Words(argparse.ArgumentParser):
 def parser() -> argparse.ArgumentParser:
     top = Words(prog="python3 -m lpd", epilog=EPILOG, formatter_class=argparse.RawDescriptionHelpFormatter)
     commands = top.add_subparsers(dest="command", required=True)
-    for command in (solve, check, convert, certify, batch):
+    for command in (solve, check, convert, certify, batch, plot):
         command.add(commands)
     top.add_argument("--version", action=ShowVersion, nargs=0, help="shows the version and the commit, and ends")
     return top
@@ -61,14 +62,14 @@ def status_of_error(error: Exception) -> int:
     if isinstance(error, errors.Refused):
         tell(f"{errors.readable(error.reply)}\n{error}")
         return 9
-    if isinstance(error, check.NoClaim):
-        tell(f"lpd: {error}")
-        return 2
     if isinstance(error, Question):
         tell(f"lpd: {error.asked()}.")
         return 2
     if isinstance(error, NotANumber):
         tell(f"lpd: {error} is not a number")
+        return 2
+    if isinstance(error, (NoPicture, check.NoClaim)):
+        tell(f"lpd: {error}")
         return 2
     tell(f"lpd: {error}")
     return 9 if isinstance(error, (Unconvertible, Inexact, Unreadable)) else 3

@@ -1,0 +1,59 @@
+"""python3 -m lpd plot MODEL: the plane of a model of two columns, or the optimum over one of a model's numbers, as SVG."""
+from __future__ import annotations
+
+import argparse
+from fractions import Fraction
+
+from ..model import Model
+from ..number_text import number, rounded, shown
+from ..plotting import NoPicture, curve, plane, turns_of
+from .common import add_options, put, tell
+from .solve import add_ways, effort_of, loaded
+
+
+def number_word(word: str) -> Fraction:
+    try:
+        return number(word, wide=True)
+    except ValueError:
+        raise argparse.ArgumentTypeError(f"{word} is no number") from None
+
+
+def add(commands: "argparse._SubParsersAction[argparse.ArgumentParser]") -> None:
+    plot = commands.add_parser("plot", help="draws a model of two columns, or the optimum over one number, as SVG")
+    plot.set_defaults(run=run, max=False, min=False, budget=None)
+    plot.add_argument("model", help="a file of a model, as for solve")
+    plot.add_argument("--form", choices=["free", "fixed"], help="the form of the text (free; with --convert or --relax the one that fits)")
+    plot.add_argument("--convert", action="store_true", help="converts the text from other dialects first, as the command convert does")
+    add_options(plot)
+    add_ways(plot)
+    over = plot.add_mutually_exclusive_group()
+    over.add_argument("--rhs", metavar="ROW", help="the optimum over the right side of this row")
+    over.add_argument("--cost", metavar="COLUMN", help="the optimum over the cost of this column")
+    plot.add_argument("--from", dest="low", type=number_word, metavar="A", help="where the number begins (half of what it is)")
+    plot.add_argument("--to", dest="high", type=number_word, metavar="B", help="where the number ends (one and a half times what it is)")
+    plot.add_argument("-o", "--output", metavar="FILE", help="where the picture goes (standard output)")
+
+
+def around(model: Model, words: argparse.Namespace) -> "tuple[Fraction, Fraction]":
+    """The ends that are asked for, or else some around what the number is."""
+    row, column = model.rows.get(words.rhs), model.columns.get(words.cost)
+    now = row.rhs if row else column.cost if column else Fraction(0)
+    gap = abs(now) / 2 or Fraction(1)
+    return (now - gap if words.low is None else words.low), (now + gap if words.high is None else words.high)
+
+
+def run(words: argparse.Namespace) -> int:
+    _, model, _ = loaded(words)
+    if words.rhs is None and words.cost is None:
+        if words.low is not None or words.high is not None:
+            raise NoPicture("--from and --to are of a number: name it by --rhs ROW or --cost COLUMN")
+        put(plane(model, effort_of(words)), words.output)
+        return 0
+    low, high = around(model, words)
+    turns = turns_of(model, words.rhs, words.cost, low, high, effort_of(words))
+    name, what = (words.rhs, "right side of") if words.rhs is not None else (words.cost, "cost of")
+    for turn, after in zip(turns, turns[1:]):
+        slope = (after.value - turn.value) / (after.number - turn.number)
+        tell(f"from {shown(turn.number)} to {shown(after.number)}: {shown(turn.value)} to {shown(after.value)}, {shown(slope)} for each unit ({rounded(slope, 4)})")
+    put(curve(turns, name, what), words.output)
+    return 0

@@ -1,0 +1,101 @@
+"""Pictures as SVG, by hand: a plane with axes, in which points have exact coordinates."""
+from __future__ import annotations
+
+from fractions import Fraction
+from typing import List, NamedTuple, Sequence, Tuple
+from xml.sax.saxutils import escape
+
+from .number_text import rounded, shown
+
+Point = Tuple[Fraction, Fraction]
+WIDTH, HEIGHT, LEFT, RIGHT, TOP, FOOT = 720, 480, 80, 40, 34, 50
+TICKS = 5
+
+
+class Box(NamedTuple):
+    """What a picture shows of the plane. Neither side is empty."""
+
+    left: Fraction
+    right: Fraction
+    foot: Fraction
+    top: Fraction
+
+
+def box_around(points: Sequence[Point], margin: Fraction = Fraction(1, 8)) -> Box:
+    """The box of these points with a margin."""
+    sides: List[Fraction] = []
+    for along in (0, 1):
+        low, high = min(point[along] for point in points), max(point[along] for point in points)
+        more = (high - low) * margin or Fraction(1)
+        sides += [low - more, high + more]
+    return Box(*sides)
+
+
+def ticks(low: Fraction, high: Fraction) -> List[Fraction]:
+    """Round numbers between two others, a handful, with the same gap."""
+    gap = Fraction(10) ** (len(str(int((high - low) / TICKS))) - 1) if high - low >= TICKS else Fraction(1)
+    while gap * TICKS > high - low:
+        gap /= 10
+    gap *= next(times for times in (1, 2, 5, 10) if gap * times * (TICKS + 1) >= high - low)
+    first = -(-low // gap)
+    return [gap * n for n in range(first, int(high // gap) + 1)]
+
+
+def label(value: Fraction) -> str:
+    """A number in few signs: as it is where that is short, or else rounded."""
+    text = shown(value)
+    return text if len(text) <= 9 else rounded(value, 3 if abs(value) < 1000 else 0)
+
+
+class Picture:
+    def __init__(self, box: Box, title: str) -> None:
+        self.box = box
+        start = f'<svg xmlns="http://www.w3.org/2000/svg" width="{WIDTH}" height="{HEIGHT}" viewBox="0 0 {WIDTH} {HEIGHT}" font-family="sans-serif" font-size="12">'
+        self.parts = [start, f'<rect width="{WIDTH}" height="{HEIGHT}" fill="white"/>']
+        self.parts.append(f'<text x="{LEFT}" y="20" font-size="14">{escape(title)}</text>')
+
+    def place(self, point: Point) -> Tuple[float, float]:
+        x = (point[0] - self.box.left) / (self.box.right - self.box.left)
+        y = (point[1] - self.box.foot) / (self.box.top - self.box.foot)
+        return LEFT + float(x) * (WIDTH - LEFT - RIGHT), HEIGHT - FOOT - float(y) * (HEIGHT - TOP - FOOT)
+
+    def path(self, points: Sequence[Point]) -> str:
+        return " ".join("{:.2f},{:.2f}".format(*self.place(point)) for point in points)
+
+    def polygon(self, points: Sequence[Point], fill: str) -> None:
+        self.parts.append(f'<polygon points="{self.path(points)}" fill="{fill}"/>')
+
+    def line(self, points: Sequence[Point], stroke: str, dashes: str = "", width: float = 1.5) -> None:
+        dashed = f' stroke-dasharray="{dashes}"' if dashes else ""
+        self.parts.append(f'<polyline points="{self.path(points)}" fill="none" stroke="{stroke}" stroke-width="{width}"{dashed}/>')
+
+    def arrow(self, start: Point, end: Point, stroke: str) -> None:
+        """A line with a head at its end."""
+        (x, y), (u, v) = self.place(start), self.place(end)
+        size = max(1e-9, ((u - x) ** 2 + (v - y) ** 2) ** 0.5)
+        across, down = (u - x) / size, (v - y) / size
+        head = [(u - 9 * across + 4 * side * down, v - 9 * down - 4 * side * across) for side in (1, -1)]
+        path = f"M{x:.2f},{y:.2f} L{u:.2f},{v:.2f} M{head[0][0]:.2f},{head[0][1]:.2f} L{u:.2f},{v:.2f} L{head[1][0]:.2f},{head[1][1]:.2f}"
+        self.parts.append(f'<path d="{path}" fill="none" stroke="{stroke}" stroke-width="2"/>')
+
+    def dot(self, point: Point, fill: str) -> None:
+        x, y = self.place(point)
+        self.parts.append(f'<circle cx="{x:.2f}" cy="{y:.2f}" r="4" fill="{fill}"/>')
+
+    def text(self, point: Point, words: str, fill: str = "black", across: float = 6, down: float = -6, anchor: str = "start") -> None:
+        x, y = self.place(point)
+        self.parts.append(f'<text x="{x + across:.2f}" y="{y + down:.2f}" fill="{fill}" text-anchor="{anchor}">{escape(words)}</text>')
+
+    def axes(self, across: str, up: str) -> None:
+        """The frame, with numbers along it and the names of both directions."""
+        box = self.box
+        self.line([(box.left, box.top), (box.left, box.foot), (box.right, box.foot)], "black", width=1)
+        for x in ticks(box.left, box.right):
+            self.text((x, box.foot), label(x), "dimgray", 0, 16, "middle")
+        for y in ticks(box.foot, box.top):
+            self.text((box.left, y), label(y), "dimgray", -6, 4, "end")
+        self.text((box.right, box.foot), across, across=0, down=34, anchor="end")
+        self.text((box.left, box.top), up, across=-6, down=-8, anchor="end")
+
+    def svg(self) -> str:
+        return "\n".join([*self.parts, "</svg>"]) + "\n"

@@ -1,0 +1,100 @@
+"""Pictures of models of two columns, and of the optimum over one number."""
+import re
+import unittest
+from fractions import Fraction
+from pathlib import Path
+from typing import List
+from xml.etree import ElementTree
+
+import lpd
+from lpd.plotting import Turn, over_number, turns_of
+from lpd.svg import ticks
+
+from .commands import Said, command
+from .models import has_program
+
+EXAMPLES = Path(__file__).resolve().parents[3] / "examples"
+DIET = str(EXAMPLES / "models" / "diet.mps")
+SHOP = "NAME shop\nOBJSENSE MAX\nROWS\n N profit\n L wood\n L hours\nCOLUMNS\n tables profit 30 wood 4\n tables hours 2\n"
+SHOP += " chairs profit 20 wood 1\n chairs hours 3\nRHS\n wood 40 hours 42\nENDATA\n"
+
+
+class Numbers(unittest.TestCase):
+    def test_ticks(self) -> None:
+        cases = [((0, 10), [0, 2, 4, 6, 8, 10]), ((-3, 3), [-3, -2, -1, 0, 1, 2, 3]), ((0, 4700), [0, 1000, 2000, 3000, 4000])]
+        for (low, high), expected in cases:
+            self.assertEqual(ticks(Fraction(low), Fraction(high)), expected)
+        for low, high in ((Fraction(1, 7), Fraction(2, 7)), (Fraction(-(10**9)), Fraction(3)), (Fraction(5), Fraction(5) + Fraction(1, 10**6))):
+            self.assertTrue(2 <= len(ticks(low, high)) <= 8, ticks(low, high))
+
+    def test_every_kink_is_found(self) -> None:
+        """Of the greatest of some lines, which are convex together."""
+        lines = [(Fraction(slope), Fraction(start)) for slope, start in ((-2, 3), (0, 0), (1, -1), (3, -9), (7, -100))]
+
+        def solve(number: Fraction) -> Turn:
+            value, slope = max((slope * number + start, slope) for slope, start in lines)
+            return Turn(number, value, slope)
+
+        turns = over_number(solve, Fraction(-1), Fraction(40))
+        self.assertEqual([turn.number for turn in turns], [-1, Fraction(4, 3), 4, Fraction(91, 4), 40])
+
+    def test_a_straight_line(self) -> None:
+        self.assertEqual(len(over_number(lambda number: Turn(number, 2 * number, Fraction(2)), Fraction(0), Fraction(9))), 2)
+
+
+@unittest.skipUnless(has_program(), "the program is not built")
+class Plot(unittest.TestCase):
+    def points(self, said: Said, kind: str) -> "List[List[float]]":
+        self.assertEqual((said.status, said.complaints if kind == "polygon" else ""), (0, ""))
+        found = ElementTree.fromstring(said.output).find(f"{{http://www.w3.org/2000/svg}}{kind}")
+        return [] if found is None else [[float(number) for number in point.split(",")] for point in found.attrib["points"].split()]
+
+    def test_a_region(self) -> None:
+        said = command("plot", "-", stdin=SHOP.encode())
+        self.assertEqual(len(self.points(said, "polygon")), 4)
+        for words in ("shop: OPTIMAL 410", "tables 7.8, chairs 8.8", ">wood<", ">hours<", "<path "):
+            self.assertIn(words, said.output)
+
+    def test_other_ends(self) -> None:
+        said = command("plot", "-", stdin=SHOP.replace(" L ", " G ").encode())
+        self.assertIn("UNBOUNDED", said.output)
+        self.assertGreater(len(self.points(said, "polygon")), 3)
+        said = command("plot", str(EXAMPLES / "models" / "orders.mps"))
+        self.assertIn("INFEASIBLE", said.output)
+        self.assertEqual(self.points(said, "polygon"), [])
+
+    def test_more_columns(self) -> None:
+        said = command("plot", DIET)
+        self.assertEqual((said.status, said.output), (2, ""))
+        self.assertIn("the model has 6 columns, and a plane has two: --rhs ROW or --cost COLUMN", said.complaints)
+
+    def test_over_a_right_side(self) -> None:
+        said = command("plot", DIET, "--rhs", "energy", "--from", "0", "--to", "4015")
+        stored = re.findall(r"from (\S+) to (\S+): from (\S+) to (\S+) cents", (EXAMPLES / "python" / "optimum_over_demand.out").read_text())
+        told = re.findall(r"^from (\S+) to (\S+): (\S+) to (\S+),", said.complaints, re.M)
+        self.assertEqual([list(map(Fraction, line)) for line in told], [list(map(Fraction, line)) for line in stored])
+        self.assertEqual(said.output.count("<circle"), len(stored) + 1)
+        ElementTree.fromstring(said.output)
+
+    def test_over_a_cost(self) -> None:
+        model = lpd.read_model(Path(DIET).read_text())
+        turns = turns_of(model, None, "milk", Fraction(0), Fraction(40))
+        self.assertGreater(len(turns), 2)
+        for turn in turns:
+            with lpd.Session() as session:
+                session.load(Path(DIET).read_text())
+                session.set_cost("milk", turn.number)
+                self.assertEqual(session.solve(), lpd.Optimal(turn.value))
+
+    def test_what_cannot_be_shown(self) -> None:
+        cases = {
+            "--rhs none": "the model has no row none",
+            "--cost energy": "the model has no column energy",
+            "--rhs energy --from 9 --to 1": "from 9 to 1 there is nothing to be shown",
+            "--rhs energy --to 9999": "at 9999 the answer is INFEASIBLE: choose other ends",
+            "--from 1": "name it by --rhs ROW or --cost COLUMN",
+        }
+        for words, expected in cases.items():
+            said = command("plot", DIET, *words.split())
+            self.assertEqual((said.status, said.output), (2, ""))
+            self.assertIn(expected, said.complaints)
