@@ -60,6 +60,8 @@ def is_missing(language, snippet):
     if language == "python":
         names = re.findall(r"^(?:import|from) (\w+)", snippet, re.M)
         return next((name for name in names if name != "lpd" and subprocess.run(["python3", "-c", f"import {name}"], capture_output=True).returncode), None)
+    if "distributed.cli" in snippet and subprocess.run(["python3", "-c", "import distributed"], capture_output=True).returncode:
+        return "distributed"
     return next((tool for words, tool in NEEDED.items() if words in snippet and not shutil.which(tool)), None)
 
 
@@ -112,10 +114,11 @@ def script_of(page, top, room, servers):
     script, commands = [], []
     for number, (language, snippet, folder) in enumerate(snippets(page)):
         missing = is_missing(language, snippet)
-        if missing is None and not any(map(begins_server, snippet.splitlines())):
+        if missing is None and not any(map(begins_server, snippet.splitlines())) and "distributed.cli" not in snippet:
             missing = servers.begin(snippet)
         if missing:
-            print(f"SKIPPED: a snippet of {page.relative_to(TOP)}, since there is no {missing}" if " " not in missing else f"SKIPPED: a snippet of {page.relative_to(TOP)}: {missing}")
+            why = missing if " " in missing else f"there is no {missing}"
+            print(f"SKIPPED: a snippet of {page.relative_to(TOP)}, since {why}")
             continue
         script.append(f"cd '{top / folder}'")
         for line in lines_of(language, snippet, room, number):

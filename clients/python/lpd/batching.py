@@ -14,10 +14,9 @@ from .certifying import Certified, NotAnswered, certify
 from .conversion import Options, Question, convert
 from .errors import LpdError, Refused
 from .exact import OutOfTime
-from .lp_format import from_lp
 from .model import Model
 from .number_text import shown
-from .reading import is_lp, name_of, unpacked
+from .reading import mps_of_file, name_of
 from .replies import Optimal
 from .ways import Effort, answered
 
@@ -86,8 +85,7 @@ def result_of(name: str, path: str, data: bytes, work: Work) -> Result:
     """Solves the model of a file's content, and certifies it where that is asked. What goes wrong is told in the result."""
     result = Result(name)
     try:
-        text = unpacked(data, path)
-        wide = convert(from_lp(text, path) if is_lp(path) else text, work.form, replace(work.options, wide=True))
+        wide = convert(mps_of_file(data, path), work.form, replace(work.options, wide=True))
         result.rows, result.columns = len(wide.model.rows), len(wide.model.columns)
         result.not_read = len(wide.model.skipped)
         if wide.changes:

@@ -1,6 +1,6 @@
-"""Models in the LP format, which glpsol reads, as MPS.
+"""Models in the LP format and in GNU MathProg, which glpsol reads, as MPS.
 
-glpsol holds numbers as floats and writes them in 15 digits: a longer number of an LP file is not the one that is solved.
+glpsol holds numbers as floats and writes them in 15 digits: a longer number of such a file is not the one that is solved.
 """
 from __future__ import annotations
 
@@ -14,6 +14,8 @@ from typing import List, Sequence, Tuple
 from .errors import LpdError
 from .number_text import parse, shown
 
+# By the end of a file's name: the option of glpsol that reads it, and what it is called.
+FORMATS = {".lp": ("--lp", "the LP format"), ".mod": ("--math", "GNU MathProg")}
 ROW_KINDS = {"f": "N", "l": "G", "u": "L", "d": "G", "s": "E"}
 
 
@@ -21,19 +23,20 @@ class Unreadable(LpdError):
     """A file holds no text of a model."""
 
 
-def from_lp(data: bytes, name: str) -> bytes:
-    """The MPS text of a model in the LP format, as glpsol reads it."""
+def from_lp(data: bytes, name: str, end: str = ".lp") -> bytes:
+    """The MPS text of a model in the format with this end of a name, as glpsol reads it."""
+    option, what = FORMATS[end]
     if not shutil.which("glpsol"):
-        raise Unreadable(f"{name} is in the LP format, which glpsol reads, and that is not on the path (Debian's glpk-utils)")
+        raise Unreadable(f"{name} is in {what}, which glpsol reads, and that is not on the path (Debian's glpk-utils)")
     with tempfile.TemporaryDirectory() as folder:
-        (Path(folder) / "model.lp").write_bytes(data)
-        command = ["glpsol", "--lp", "model.lp", "--check", "--wglp", "model.glp"]
+        (Path(folder) / "model").write_bytes(data)
+        command = ["glpsol", option, "model", "--check", "--wglp", "model.glp"]
         done = subprocess.run(command, cwd=folder, capture_output=True, stdin=subprocess.DEVNULL)
         written = Path(folder) / "model.glp"
         if done.returncode or not written.exists():
-            said = [line for line in done.stdout.decode("utf-8", "replace").splitlines() if line.startswith("model.lp:")]
-            why = said[0].replace("model.lp:", "line ") if said else f"its status is {done.returncode}"
-            raise Unreadable(f"{name} is in the LP format, and glpsol does not read it: {why}")
+            said = [line for line in done.stdout.decode("utf-8", "replace").splitlines() if line.startswith("model:")]
+            why = said[0].replace("model:", "line ") if said else f"its status is {done.returncode}"
+            raise Unreadable(f"{name} is in {what}, and glpsol does not read it: {why}")
         return mps_of(written.read_text(encoding="latin-1")).encode("latin-1")
 
 
@@ -85,12 +88,16 @@ def mps_of(text: str) -> str:
     rows = [Item("OBJ", "f", []), *(Item(f"R{n}", "s", ["0"]) for n in range(1, int(head[3]) + 1))]
     columns = [Item("", "s", []), *(Item(f"C{n}", "l", ["0"]) for n in range(1, int(head[4]) + 1))]
     for words in lines[1:]:
-        if words[0] == "n":
-            (rows[0] if words[1] == "z" else (rows if words[1] == "i" else columns)[int(words[2])]).name = words[-1]
+        if words[:2] == ["n", "z"]:
+            rows[0].name = words[2]
+        elif words[0] == "n" and words[1] in ("i", "j"):
+            (rows if words[1] == "i" else columns)[int(words[2])].name = words[3]
         elif words[0] in ("i", "j"):
             set_item((rows if words[0] == "i" else columns)[int(words[1])], words[2:], words[0] == "j" and head[1] == "mip")
         elif words[0] == "a":
             columns[int(words[2])].entries.append((int(words[1]), words[3]))
+    if any(row.name == rows[0].name for row in rows[1:]):
+        rows[0].name = next(name for name in ("OBJ", *(f"OBJ{n}" for n in range(len(rows)))) if all(row.name != name for row in rows[1:]))
     return "".join(f"{line}\n" for line in mps_lines(head[2] == "max", rows, columns))
 
 

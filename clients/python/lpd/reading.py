@@ -1,4 +1,4 @@
-"""Files of models: MPS, as it is or compressed by gzip, and the LP format."""
+"""Files of models: MPS, as it is or compressed by gzip, and what glpsol reads."""
 from __future__ import annotations
 
 import gzip
@@ -7,11 +7,11 @@ import sys
 import zlib
 from pathlib import Path
 
-from .lp_format import Unreadable, from_lp
+from .lp_format import FORMATS, Unreadable, from_lp
 
 MOST = 2**26  # bytes, which is what the program reads
 GZIP = b"\x1f\x8b"
-ENDS = (".mps", ".lp")
+ENDS = (".mps", *FORMATS)
 
 
 def unpacked(data: bytes, name: str) -> bytes:
@@ -29,23 +29,28 @@ def unpacked(data: bytes, name: str) -> bytes:
 
 
 def end_of(path: Path) -> str:
-    """.mps or .lp, whether or not .gz stands behind it, or nothing."""
+    """The end of a name that says what a file is, whether or not .gz stands behind it, or nothing."""
     name = path.name.lower()
     name = name[:-3] if name.endswith(".gz") else name
     return next((end for end in ENDS if name.endswith(end)), "")
 
 
 def name_of(path: Path) -> str:
-    """The file's name without .mps or .lp, and without .gz behind these."""
+    """The file's name without that end, and without .gz behind it."""
     return path.name[: path.name.lower().rindex(end_of(path))] if end_of(path) else path.name
 
 
 def is_lp(path: str) -> bool:
-    """Whether a file is of the LP format, by its name."""
-    return end_of(Path(path)) == ".lp"
+    """Whether a file is one that glpsol reads, by its name."""
+    return end_of(Path(path)) in FORMATS
+
+
+def mps_of_file(data: bytes, path: str) -> bytes:
+    """The MPS text of a model in a file with this content."""
+    text = unpacked(data, path)
+    return from_lp(text, path, end_of(Path(path))) if is_lp(path) else text
 
 
 def read_model_file(path: str) -> bytes:
     """The MPS text of a model: of a file, or of standard input where the path is -."""
-    data = unpacked(sys.stdin.buffer.read() if path == "-" else Path(path).read_bytes(), path)
-    return from_lp(data, path) if is_lp(path) else data
+    return mps_of_file(sys.stdin.buffer.read() if path == "-" else Path(path).read_bytes(), path)

@@ -132,6 +132,14 @@ class Shown(unittest.TestCase):
             path.write_text("Maximize\n gain: 3 x +\nSubject To\n")
             self.assertIn("is in the LP format, and glpsol does not read it: line ", command("solve", str(path)).complaints)
 
+    @unittest.skipUnless(shutil.which("glpsol"), "glpsol is not on the path")
+    def test_mathprog(self) -> None:
+        text = "var x >= 0, <= 3; var y >= 0; maximize z: 3*x + 2*y + 7; s.t. c1: x + y <= 4; s.t. c2: 1 <= x + 3*y <= 6; end;\n"
+        with tempfile.TemporaryDirectory() as folder:
+            path = Path(folder) / "model.mod"
+            path.write_text(text)
+            self.assertEqual(command("solve", str(path), "--show", "answer")[:2], (0, "OPTIMAL 18\n"))
+
     def test_the_lp_format_without_glpsol(self) -> None:
         with tempfile.TemporaryDirectory() as folder, mock.patch("shutil.which", return_value=None):
             (Path(folder) / "model.lp").write_text("Minimize\nEnd\n")

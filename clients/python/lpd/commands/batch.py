@@ -26,7 +26,7 @@ def jobs(word: str) -> int:
 def add(commands: "argparse._SubParsersAction[argparse.ArgumentParser]") -> None:
     batch = commands.add_parser("batch", help="solves all models of a folder, and shows a table of the answers")
     batch.set_defaults(run=run)
-    batch.add_argument("folder", help="a folder; its files *.mps and *.lp, also with .gz, are taken in the order of their names")
+    batch.add_argument("folder", help="a folder; its files *.mps, *.lp and *.mod, also with .gz, are taken in the order of their names")
     batch.add_argument("--form", choices=["free", "fixed"], help="the form of all texts (for each the one that fits)")
     add_options(batch)
     batch.add_argument("--budget", type=budget, metavar="N", help="makes at most N pivots and flips a model, up to 1000000 (10000)")
@@ -96,7 +96,7 @@ def summary(rows: List[Cells]) -> str:
 def run(words: argparse.Namespace) -> int:
     paths = sorted(path for path in Path(words.folder).iterdir() if end_of(path))
     if not paths:
-        tell(f"lpd: {words.folder} has no file *.mps or *.lp, nor one of these with .gz")
+        tell(f"lpd: {words.folder} has no file *.mps, *.lp or *.mod, nor one of these with .gz")
         return 3
     optima = read_optima(Path(words.optima).read_text(encoding="utf-8")) if words.optima else None
     columns = columns_of(bool(words.solver), optima is not None)

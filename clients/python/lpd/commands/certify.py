@@ -18,7 +18,7 @@ from .common import PYTHON_ALONE, add_options, converted, decimals, options_of, 
 def add(commands: "argparse._SubParsersAction[argparse.ArgumentParser]") -> None:
     certifies = commands.add_parser("certify", help="makes another solver's answer exact, with a certificate that is judged")
     certifies.set_defaults(run=run)
-    certifies.add_argument("model", help="a file of MPS text, which may be compressed by gzip (.gz), or of the LP format (.lp), or - for standard input")
+    certifies.add_argument("model", help="a file of MPS text, or of the LP format (.lp) or GNU MathProg (.mod), each also with .gz, or - for standard input")
     certifies.add_argument("--with", dest="solver", choices=CHOICES, default="glpsol", help="the solver that is asked for a basis (glpsol), or none")
     certifies.add_argument("--seconds", type=seconds, metavar="N", help="how long the solver may take; then the exact steps begin at no basis of its own")
     ways = "what makes its basis exact: lpd basis, or steps in Python (lpd, and python where that has no answer)"

@@ -27,7 +27,7 @@ class NoClaim(LpdError):
 def add(commands: "argparse._SubParsersAction[argparse.ArgumentParser]") -> None:
     checks = commands.add_parser("check", help="checks anyone's certificate for a model, exactly")
     checks.set_defaults(run=run)
-    checks.add_argument("model", help="a file of MPS text, which may be compressed by gzip (.gz), or of the LP format (.lp), or - for standard input")
+    checks.add_argument("model", help="a file of MPS text, or of the LP format (.lp) or GNU MathProg (.mod), each also with .gz, or - for standard input")
     told = "a file: a certificate, or what lpd solve or lpd basis printed; without it that comes after ENDATA in the model's file"
     checks.add_argument("certificate", nargs="?", help=told)
     checks.add_argument("--form", choices=["free", "fixed"], help="the form of the text (free; with --convert or --relax the one that fits)")

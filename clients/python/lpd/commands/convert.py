@@ -12,7 +12,7 @@ from .common import add_options, options_of, put, tell, tell_renames
 def add(commands: "argparse._SubParsersAction[argparse.ArgumentParser]") -> None:
     converts = commands.add_parser("convert", help="turns other dialects of MPS into the profile, and the profile into other dialects")
     converts.set_defaults(run=run)
-    converts.add_argument("model", help="a file of MPS text, which may be compressed by gzip (.gz), or of the LP format (.lp), or - for standard input")
+    converts.add_argument("model", help="a file of MPS text, or of the LP format (.lp) or GNU MathProg (.mod), each also with .gz, or - for standard input")
     converts.add_argument("--form", choices=["free", "fixed"], help="the form of the text (the one that fits)")
     add_options(converts)
     converts.add_argument("--to", choices=list(DIALECTS), help="writes the model as this program reads it")

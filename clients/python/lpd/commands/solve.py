@@ -28,7 +28,7 @@ LONG = 40  # a fraction of more characters is shown with decimals beside it
 def add(commands: "argparse._SubParsersAction[argparse.ArgumentParser]") -> None:
     solve = commands.add_parser("solve", help="solves a model, and checks the certificate of the answer twice")
     solve.set_defaults(run=run)
-    solve.add_argument("model", help="a file of MPS text, which may be compressed by gzip (.gz), or of the LP format (.lp), or - for standard input")
+    solve.add_argument("model", help="a file of MPS text, or of the LP format (.lp) or GNU MathProg (.mod), each also with .gz, or - for standard input")
     solve.add_argument("--form", choices=["free", "fixed"], help="the form of the text (free; with --convert or --relax the one that fits)")
     sense = solve.add_mutually_exclusive_group()
     sense.add_argument("--max", action="store_true", help="maximizes, whatever the text says")
