@@ -11,6 +11,7 @@ from pathlib import Path
 from unittest import mock
 
 import lpd
+from lpd.version import version
 from lpd.ways import ALONE, BOTH
 
 from .commands import command
@@ -51,6 +52,7 @@ class Shown(unittest.TestCase):
         self.assertEqual(told["columns"]["x"]["decimals"], {"value": 1 / 3, "reduced_cost": 0.0})
         self.assertEqual(told["rows"]["need"]["price"], "1/3")
         self.assertEqual((told["way"], told["accepted_by"], told["cards_not_read"]), ("lpd solve", BOTH, []))
+        self.assertEqual(told["lpd"], version())
         told = json.loads(command("solve", "-", "--json", "--decimals", "2", stdin=THIRD.encode()).output)
         self.assertEqual(told["columns"]["x"]["decimals"], {"value": 0.33, "reduced_cost": 0.0})
 

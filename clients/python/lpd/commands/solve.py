@@ -17,6 +17,7 @@ from ..page import write_page
 from ..reading import is_lp, read_model_file
 from ..replies import Answer, Infeasible, Optimal, Past, Spent, Unbounded
 from ..report import Report, conflict, report
+from ..version import version
 from ..ways import SECONDS, Answered, Effort, answered
 from .common import add_options, as_text, budget, converted, csv_line, decimals, number_in, options_of, put_beside, seconds, skipped_words
 from .common import PYTHON_ALONE, status_of, table, tell, with_decimals
@@ -133,7 +134,7 @@ def as_json(found: Answered, model: Model, point: Optional[Report], show: str, p
         told["conflict"] = conflict_in_json(model, found.certificate)
     if point:
         told.update(parts_of(point, show, places))
-    return json.dumps({**told, "certificate": found.certificate}, indent=2)
+    return json.dumps({**told, "certificate": found.certificate, "lpd": version()}, indent=2)
 
 
 def as_csv(answer: Answer, point: Optional[Report], show: str, places: Optional[int]) -> str:
