@@ -102,7 +102,6 @@ def control(checkout: Checkout, program: Path, files: List[Entry]) -> str:
 
 
 def lay(files: List[Entry], room: Path) -> None:
-    os.umask(0o022)
     for file in files:
         to = room / file.path
         to.parent.mkdir(parents=True, exist_ok=True)
@@ -118,6 +117,8 @@ def pack(checkout: Checkout, program: Path, into: Path) -> Path:
     with tempfile.TemporaryDirectory(prefix="lpd-deb-") as place:
         room = Path(place) / "lpd"
         lay([*files, *told], room)
+        for folder in (room, *(path for path in room.rglob("*") if path.is_dir())):
+            folder.chmod(0o755)  # whatever the umask is
         # one thread and no times of this packing: the same bytes each time
         command = ["dpkg-deb", "--root-owner-group", "-Zxz", "--threads-max=1", "--build", str(room), str(to)]
         environment = {**os.environ, "SOURCE_DATE_EPOCH": str(checkout.seconds)}

@@ -1,4 +1,4 @@
-"""The release as a tar file: the program at the top of a folder, and beside it what the repository has at the same paths."""
+"""The release as a tar file: the program at the top of a folder, and beside it files of the repository at their paths."""
 from __future__ import annotations
 
 import gzip
@@ -12,7 +12,8 @@ from .checkout import Checkout, Entry, committed, entries
 # What of the repository goes along: the documents, the manual page, the completion, the checkers and the examples.
 PLACES = [
     "README.md", "CHANGELOG.md", "CONTRIBUTING.md", "SECURITY.md", "LICENSE", "VERSION", "docs", "examples", "web",
-    "tools/lpd.bash", "tools/talk.py", "tools/check_certificate.py", "clients/python/lpd", "clients/python/README.md",
+    "tools/lpd.bash", "tools/lpd-py", "tools/talk.py", "tools/check_certificate.py",
+    "clients/python/lpd", "clients/python/README.md",
 ]  # fmt: skip
 
 

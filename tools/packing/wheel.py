@@ -1,4 +1,4 @@
-"""The Python front as a wheel (PEP 427), written by hand, so that its bytes are the same whatever setuptools is there."""
+"""The front in Python as a wheel (PEP 427), written here, so that its bytes are the same whatever setuptools is there."""
 from __future__ import annotations
 
 import base64
@@ -42,7 +42,8 @@ def contents(checkout: Checkout, information: str) -> List[Entry]:
     if not project.keys() <= CARRIED:
         raise Unfit(f"{PROJECT} has what the wheel would lose: {', '.join(project.keys() - CARRIED)}")
     modules = entries(committed("clients/python/lpd"), "lpd/", "clients/python/lpd/")
-    told = [("LICENSE", (TOP / "LICENSE").read_text(encoding="utf-8")), ("METADATA", metadata(project, checkout.version)), ("WHEEL", WHEEL)]
+    license_text = (TOP / "LICENSE").read_text(encoding="utf-8")
+    told = [("LICENSE", license_text), ("METADATA", metadata(project, checkout.version)), ("WHEEL", WHEEL)]
     if project.get("scripts"):
         told.append(("entry_points.txt", scripts(project)))
     release = Entry("lpd/RELEASE", f"{checkout.name}\n".encode())
@@ -66,6 +67,7 @@ def pack(checkout: Checkout, into: Path) -> Path:
     with zipfile.ZipFile(to, "w", zipfile.ZIP_DEFLATED, compresslevel=9) as wheel:
         for file in files:
             head = zipfile.ZipInfo(file.path, time.gmtime(checkout.seconds)[:6])
-            head.compress_type, head.external_attr, head.create_system = zipfile.ZIP_DEFLATED, (stat.S_IFREG | file.mode) << 16, 3
+            head.compress_type, head.create_system = zipfile.ZIP_DEFLATED, 3
+            head.external_attr = (stat.S_IFREG | file.mode) << 16
             wheel.writestr(head, file.data)
     return to
