@@ -30,9 +30,10 @@ git checkout {commit}
 tools/release --log gate.log
 ```
 
-Program and files then have the checksums above. They hold nothing of the machine, the folder or the hour that they were made
-in: all times in them are those of the commit. With the kit's proofs kept on that machine this takes minutes, and else as long
-as the gate does. `tools/try_release dist` installs the files and uses them.
+The program is what the kit makes of the sources, and the files should have the checksums above: `tools/release` refuses a
+program with other bytes than the gate's, and all times in the files are those of the commit. The gate packs them twice, and
+compares. With the kit's proofs kept on that machine this takes minutes, and else as long as the gate does.
+`tools/try_release dist` installs the files and uses them.
 
 What is proved, and what is only tested or trusted, is said in docs/PROOFS.md.
 """
