@@ -26,7 +26,7 @@ import threading
 import time
 import urllib.request
 from pathlib import Path
-from typing import Dict, List
+from typing import Dict, List, NoReturn
 
 from talk import Ended, Link
 
@@ -37,7 +37,7 @@ HOST, NAMES = "127.0.0.1", ("one", "two")
 PORTS = (7443, 7000, 7080, 7007, 7008)
 MODEL = b"LOAD FREE\n" + (TOP / "examples" / "models" / "diet.mps").read_bytes()
 CLIENTS, SOLVES, THINKS = 12, 10, 0.02
-SECONDS, ALL_SECONDS = 30.0, 60
+SECONDS, ALL_SECONDS = 30.0, 120
 MOST_LINKS = 64
 
 
@@ -199,9 +199,14 @@ def check_numbers(proxy: Proxy) -> None:
         raise Wrong(f"of {len(links)} links HAProxy counts {found}")
 
 
+def out_of_time(*_: object) -> NoReturn:
+    raise Wrong(f"the checks are not done within {ALL_SECONDS} seconds")
+
+
 def main(words: List[str]) -> int:
     if len(words) != 1 or words[0].startswith("-"):
         sys.exit(__doc__)
+    signal.signal(signal.SIGALRM, out_of_time)
     signal.alarm(ALL_SECONDS)
     with tempfile.TemporaryDirectory(prefix="lpd-proxy-") as place:
         room = Path(place)
