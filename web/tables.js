@@ -92,7 +92,7 @@ class ItemTable {
     this.descending = false;
     this.most = LINES_AT_FIRST;
     this.body = element("tbody");
-    this.caption = element("caption", { role: "status" });
+    this.count = element("span", { role: "status" });
     this.heads = columns.map((column) => this.headOf(column));
     this.more = button("Show all", () => {
       this.most = items.length;
@@ -109,7 +109,8 @@ class ItemTable {
   }
 
   build() {
-    const table = element("table", {}, this.caption, element("thead", {}, element("tr", {}, ...this.heads)), this.body);
+    const head = element("thead", {}, element("tr", {}, ...this.heads));
+    const table = element("table", { "aria-label": this.title }, head, this.body);
     const scroll = element("div", { class: "scroll", tabindex: "0", role: "region", "aria-label": this.title }, table);
     return element("section", {}, element("h3", {}, this.title), this.filters(), scroll, this.more);
   }
@@ -121,7 +122,7 @@ class ItemTable {
     select.addEventListener("change", () => { this.filter = select.value; this.fill(); });
     search.addEventListener("input", () => { this.wanted = search.value; this.fill(); });
     const labels = [element("label", {}, "Show ", select), element("label", {}, "Name with ", search)];
-    return element("p", { class: "filters" }, ...labels);
+    return element("p", { class: "filters" }, ...labels, this.count);
   }
 
   sortBy(column) {
@@ -142,7 +143,7 @@ class ItemTable {
     this.body.replaceChildren(...shown.map((item) => lineOf(item, this.columns)));
     this.more.hidden = shown.length === items.length;
     const fitting = this.more.hidden ? "" : `; ${items.length} fit`;
-    this.caption.textContent = `${shown.length} of ${this.items.length}${fitting}`;
+    this.count.textContent = `${shown.length} of ${this.items.length}${fitting}`;
   }
 }
 
