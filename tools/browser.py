@@ -15,7 +15,8 @@ import time
 NAMES = ["chromium", "chromium-browser", "google-chrome"]
 
 OPTIONS = ["--headless", "--no-sandbox", "--disable-gpu", "--remote-debugging-pipe", "--no-first-run",
-           "--disable-dev-shm-usage", "--disable-background-networking"]
+           "--disable-dev-shm-usage", "--disable-background-networking", "--disable-renderer-backgrounding",
+           "--disable-background-timer-throttling"]
 
 
 def find_browser():

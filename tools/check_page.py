@@ -6,8 +6,8 @@
 It checks that
 
 - web/check.html is what tools/build_page.py makes, its security policy lets nothing out, and nothing is asked for;
-- the page says of the examples, of texts with each fault, and of the texts in examples/cases.txt what `PROGRAM check`
-  says, and what is said there;
+- the page says of the examples, of texts with each fault, of texts at the edges of the formats, and of the texts in
+  examples/cases.txt what `PROGRAM check` says, and what is said there;
 - so it is of models that are made with right certificates, of these with one number changed, and of mutated texts: the
   same line and, where a condition fails, the same row or column as the checker of clients/python. Where PROGRAM says
   PAST, or numbers pass 127 bits, what that checker says counts;
@@ -40,7 +40,7 @@ import lpd  # noqa: E402
 from browser import Browser, find_browser  # noqa: E402
 from lpd.page import page_with  # noqa: E402
 from made_models import Made, Maker, mutated, with_one_number_changed  # noqa: E402
-from page_texts import CLAIMS, FAULTS, large_model  # noqa: E402
+from page_texts import CLAIMS, FAULTS, edges, large_model  # noqa: E402
 
 PAGE = TOP / "web" / "check.html"
 # A certificate for the diet of examples/models, which fails in several places.
@@ -221,6 +221,7 @@ class PageCheck:
         texts = [each for path in scripts for each in loads.findall(path.read_text(encoding="latin-1"))]
         mades = [Made(text, form == "FIXED", "CLASH nothing\nEND\n") for form, text in texts if "\n%" not in text]
         self.compare([(made, False) for made in mades], "texts of the cases")
+        self.compare([(Made(*edge), False) for edge in edges()], "texts at the edges of the formats")
 
     def batch(self, cases):
         """The page's line, reason, and row or column of each case, from one worker. Of all, or some, all is shown."""

@@ -1,4 +1,4 @@
-"""Texts for tools/check_page.py: each fault of a model's text, claims, and a large model."""
+"""Texts for tools/check_page.py: each fault of a model's text, the edges of the formats, claims, and a large model."""
 import random
 
 FREE = """NAME a
@@ -107,6 +107,87 @@ FAULTS = [
     (FREE.replace("ENDATA\n", ""), False, LAST, 19), ("", False, 1, 19), ("\n", True, 2, 19),
     (FIXED[: FIXED.index("ENDATA")] + "* end", True, LAST + 1, 19),
 ]
+
+# Texts at the edges of docs/FORMATS.md: what is said of each is what PROGRAM says.
+SMALL = """NAME a
+ROWS
+ N cost
+ N other
+ L r
+COLUMNS
+ x cost 1 r 1
+RHS
+ RHS r 4
+BOUNDS
+ UP BND x 3
+ENDATA
+"""
+NONE = "OPTIMAL\nEND\n"
+# What a text is changed from, and to.
+REPLACED = [
+    ("ROWS", "ROWS x y"), ("ENDATA", "ENDATA x y"), ("NAME a", "NAME a b c"), ("NAME a", "OBJSENSE MAX MIN x"),
+    ("RHS\n", "RHS z\n"), ("BOUNDS", "BOUNDS\r"), ("BOUNDS\n", "BOUNDS \r\r\n"), ("BOUNDS\n", "\r\r\nBOUNDS\n"),
+    ("BOUNDS\n", " \t\r\r\nBOUNDS\n"), ("BOUNDS\n", "\r*\nBOUNDS\n"), (" r 1\n", " r 1 \r\n"),
+    (" r 1\n", " r 1\r\r\n"), ("\n", "\r\n"), ("ENDATA\n", "ENDATA\r"), ("ENDATA\n", "ENDATA"),
+    (" x cost 1 r 1", " 'MARKER'"), (" x cost 1 r 1", " m 'MARKER'"),
+    (" x cost 1 r 1", " 'MARKER' cost 1"), (" x cost 1 r 1", " x 'MARKER' 1 1 1 1"), (" L r", " L 'MARKER'"),
+]
+SECTIONS = """OBJSENSE; MAX|OBJSENSE;MAX|OBJSENSE;\tMAX  |OBJSENSE;    MAXIMIZE|OBJSENSE; max|OBJSENSE MAXI
+OBJSENSE;;* c; MIN|OBJSENSE;OBJSENSE|OBJSENSE;NAME x; MAX|NAME a; MAX""".replace("\n", "|").split("|")
+SIDES = """RHS; r 4; RHS r 5|RHS; RHS r 4; r 5; B r 9|RHS; r 4 cost 2|RHS; r 4 cost 2 1 1|RHS; r|RHS; r other 1
+RHS; a r 4 other 5; a other 5 other 7|RANGES; R other 4; R other 5; Q zz zz|RANGES; R r 0|RANGES; cost 1|RHS; zz r x
+RHS; RHS r 4; RHS2 zz qq|RHS; zz r 4; r 5""".replace("\n", "|").split("|")
+BOUNDS = """ UP x -1| UP x -1; UP x 1| LO x 0; UP x -1| MI x; UP x -1| UP x -1e-3; LO x -5| UP x -1e20| UP x 1e20
+ LO x -1e20| LO x 100000000000000000000| LO x 99999999999999999999.9| UP x 1/1| UP x 200000000000000000000/2
+ UP x 1e99999999999999999999| UP x -1e99999999999999999999| LO x 1e-99999| UP x INF| UP x +InFiNiTy| UP x -0| PL x
+ PL BND x 3| BV x| FX x 2; FR x; UP x -1| UP q x| FR x; FR B x| FR x; UP x 3""".replace("\n", "|").split("|")
+FIXED_BOUNDS = """ FR BND       x| FR BND       x         zzz| FR BND       x         1              r| UP BND       x
+ FR BND       x                                  1| UP           x         3|    BND       x         3
+ UP BND       x         1 2| UPBND       x         3| U  BND       x         3|  U BND       x         3
+\tUP BND       x         3| UP BND       x         3\t""".replace("\n", "|").split("|")
+FIXED_ROWS = [" N  c", " N  c   d", " N c", " N  cost", " L", " L  q           q", " L  q   q"]
+CERTIFICATES = """|OPTIMAL|OPTIMAL;END\r| OPTIMAL\t;\tEND ;|OPTIMAL x;END;|OPTIMAL;END x;|CLASH x;x x 1;END;|CLASH;END;
+OPTIMAL;y cost 1;END;|OPTIMAL;y other 1;END;|OPTIMAL;r x 1;END;|OPTIMAL;x x 1;x x 2;x q 1;END;|OPTIMAL;x x 1e;END;
+OPTIMAL;x x inf;END;|;OPTIMAL;END;|INFEASIBLE;x x 1;END;|OPTIMAL;x x 1;* c;END;|OPTIMAL;x x 1;;END;|optimal;END;
+UNBOUNDED;END;|CLASH q;END;|CLASH x y;END;
+INFEASIBLE;END;|OPTIMAL;END;END;|OPTIMAL;x x 1 1;END;|OPTIMAL;x;END;|OPTIMAL;x q 1;x x 1e;END;
+UNBOUNDED;r x 1;x x -1;END;""".replace("\n", "|").split("|")
+FIXED_SMALL = """ROWS
+ N  cost
+ L  r
+COLUMNS
+    x         cost      1              r         1
+BOUNDS
+%s
+ENDATA
+"""
+
+
+def lines(text):
+    return text.replace(";", "\n")
+
+
+def edges():
+    """The text of a model, whether it is of fixed form, and a certificate."""
+    yield from ((SMALL.replace(*pair), False, NONE) for pair in REPLACED)
+    yield from ((SMALL.replace("RHS\n RHS r 4", lines(side)), False, NONE) for side in SIDES)
+    for bound in BOUNDS:
+        text = SMALL.replace(" UP BND x 3", lines(bound))
+        for said in ("OPTIMAL;x x 1;y r 1;END;", "CLASH x;END;", "UNBOUNDED;r x -1;END;"):
+            yield text, False, lines(said)
+    for section in SECTIONS:
+        text = lines(section) + "\nROWS\n N  cost\nCOLUMNS\nENDATA\n"
+        yield from ((text, fixed, NONE) for fixed in (False, True))
+    yield from ((FIXED_SMALL % bound, True, NONE) for bound in FIXED_BOUNDS)
+    # Bytes up to column 62 and from 63 on.
+    for width in (60, 61, 62):
+        yield FIXED_SMALL % (" UP BND       x         3".ljust(width) + "x"), True, NONE
+    yield from ((f"ROWS\n N  cost\n{row}\nCOLUMNS\nENDATA\n", True, NONE) for row in FIXED_ROWS)
+    yield from ((SMALL, False, lines(said)) for said in CERTIFICATES)
+    # Lines of up to 16,384 bytes and longer ones.
+    for zeros in (16379, 16380, 16381):
+        yield from ((SMALL, False, f"OPTIMAL\nx x {'0' * zeros}{end}END\n") for end in ("\n", "\r\n"))
+
 
 # A claim on the diet of examples/models, whether it holds, and what is said of it.
 CLAIMS = [
