@@ -47,12 +47,16 @@ class Watch:
 
     def step(self, steps: int, what: str) -> None:
         """Before each step: how many were made. OutOfTime ends them."""
-        spent = time.monotonic() - self.started
-        if self.seconds is not None and spent > self.seconds:
+        if self.seconds is not None and time.monotonic() - self.started > self.seconds:
             raise OutOfTime(f"{steps} exact steps in Python were not enough in {self.seconds:g} seconds: --seconds allows more")
+        self.tell(f"{steps} exact steps in Python, {what}")
+
+    def tell(self, what: str) -> None:
+        """On a terminal, each second: how far it is."""
+        spent = time.monotonic() - self.started
         if spent - self.told > 1 and sys.stderr.isatty():
             self.told = spent
-            print(f"\r\x1b[K{steps} exact steps in Python, {what}, {spent:.0f} seconds", end="", file=sys.stderr, flush=True)
+            print(f"\r\x1b[K{what}, {spent:.0f} seconds", end="", file=sys.stderr, flush=True)
 
 
 class Factors:

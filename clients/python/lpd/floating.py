@@ -16,6 +16,7 @@ from .errors import LpdError
 from .exact import BASIC, LOWER, UPPER, Basis
 from .model import Model, Row
 from .number_text import NotANumber, parse
+from .rough import rough_basis
 
 Parts = Dict[str, Fraction]
 
@@ -139,7 +140,7 @@ def read_highs(said: str, folder: Path) -> Claim:
     return claim
 
 
-NONE = "none"  # no solver: the exact steps begin where the sums of all rows are basic
+NONE = "none"  # no solver: the exact steps begin at a basis that rough steps in Python come to
 SOLVERS = {
     solver.name: solver
     for solver in (
@@ -187,9 +188,10 @@ def renamed_back(claim: Claim, rows: Dict[str, str], columns: Dict[str, str], se
 
 
 def ask(name: str, model: Model, seconds: Optional[float] = None) -> Claim:
-    """What a solver says of the model, written with plain names and with numbers rounded where it reads no quotients."""
+    """What a solver says of the model, written with plain names and with numbers rounded where it reads no quotients. Without a
+    solver there is a rough basis of the package's own."""
     if name == NONE:
-        return Claim("nothing")
+        return Claim("nothing", basis=rough_basis(model, seconds))
     solver = SOLVERS[name]
     if not shutil.which(name):
         raise SolverMissing(f"{name} is not on the path")

@@ -2,7 +2,7 @@
 
 The first way is the program's own solve. Where it ends past 127 bits, or after the pivots that it makes where nobody sets a
 budget, a person still wants an answer: then another solver's basis is made exact, by `lpd basis` or by exact steps in Python,
-or without another solver the exact steps begin at no basis, for as long as they may take. Whatever finds an answer, its
+or without another solver a basis that rough steps in Python come to, for as long as that may take. Whatever finds an answer, its
 certificate is judged, and it is said who accepted it.
 """
 from __future__ import annotations
@@ -13,7 +13,7 @@ import threading
 from dataclasses import dataclass, field, replace
 from typing import Iterator, List, Optional
 
-from .certifying import PROGRAM, PYTHON, TOO_WIDE, Exact, judged, made_exact
+from .certifying import PROGRAM, TOO_WIDE, Exact, judged, made_exact
 from .errors import LpdError, ProgramEnded, TextFault
 from .exact import OutOfTime, Watch
 from .floating import NONE, SOLVERS, ask
@@ -109,7 +109,7 @@ def ended_after(program: Program, seconds: Optional[float]) -> Iterator[None]:
 
 def way_of(found: Exact, solver: str) -> str:
     """What made the steps from where to the answer."""
-    begin = "no basis" if solver == NONE else f"{solver}'s basis"
+    begin = "a basis of its own" if solver == NONE else f"{solver}'s basis"
     if found.way == PROGRAM:
         return f"lpd basis from {begin}, in {found.steps} pivots"
     return f"exact steps in Python from {begin}, {found.steps} of them"
@@ -120,7 +120,7 @@ def by_others(text: str, model: Model, effort: Effort) -> Answered:
     solver = other_solver(effort.solver)
     with Watch(effort.seconds) as watch:
         claim = ask(solver, model, watch.left())
-        found = made_exact(text, model, claim, PYTHON if solver == NONE else None, watch)
+        found = made_exact(text, model, claim, watch=watch)
     by_checker, why = judged(text, found.certificate)
     if by_checker is not None and by_checker != found.known:
         raise LpdError(f"lpd check says {by_checker}, and the checker in Python {found.known}")

@@ -124,7 +124,7 @@ class WithPulp(unittest.TestCase):
             problem = self.diet()
             self.assertEqual(problem.solve(LPD(msg=False, options=["--with", "none"])), pulp.LpStatusOptimal)
             self.assertEqual((self.milk.varValue, problem.exact.certified_with), (3.0, "none"))
-            self.assertTrue(problem.exact.way.startswith("exact steps in Python"))
+            self.assertTrue(problem.exact.way.startswith("lpd basis from a basis of its own"))
             self.assertEqual(problem.solve(LPD(msg=False, options=["--only-lpd"])), pulp.LpStatusNotSolved)
             self.assertEqual((self.milk.varValue, problem.exact.answer), (None, past.answer))
 

@@ -11,6 +11,7 @@ from pathlib import Path
 from unittest import mock
 
 import lpd
+from lpd.certifying import NotAnswered
 from lpd.version import version
 from lpd.ways import ALONE, BOTH
 
@@ -158,11 +159,11 @@ class GoingOn(unittest.TestCase):
         said = command("solve", "-", "--with", "none", "--show", "answer", stdin=WIDE.encode())
         self.assertEqual(said.status, 14)
         self.assertEqual(said.output.splitlines()[0], f"OPTIMAL {10**50}/3 (33333333333333333333333333333333333333333333333333.3333333333)")
-        self.assertIn(f"by exact steps in Python from no basis, 1 of them, accepted by {ALONE}, since line 7 of the model has", said.output)
+        self.assertIn(f"by exact steps in Python from a basis of its own, 0 of them, accepted by {ALONE}, since line 7 of the model has", said.output)
         self.assertEqual(command("solve", "-", "--only-lpd", stdin=WIDE.encode()).status, 9)
 
     def test_from_past(self) -> None:
-        for solver, way in (("none", "exact steps in Python from no basis"), ("glpsol", "lpd basis from glpsol's basis, in 0 pivots")):
+        for solver, way in (("none", "lpd basis from a basis of its own, in 0 pivots"), ("glpsol", "lpd basis from glpsol's basis, in 0 pivots")):
             if solver == "none" or shutil.which(solver):
                 with mock.patch("lpd.ways.by_lpd", return_value=PAST), self.subTest(solver):
                     said = command("solve", DIET, "--with", solver)
@@ -183,7 +184,7 @@ class GoingOn(unittest.TestCase):
             self.assertEqual(command("solve", DIET, "--with", "none", "--show", "answer").output.splitlines()[0], "OPTIMAL 92.5")
 
     def test_the_time_is_kept_to(self) -> None:
-        with mock.patch("lpd.ways.by_lpd", return_value=PAST):
+        with mock.patch("lpd.ways.by_lpd", return_value=PAST), mock.patch("lpd.certifying.answered", side_effect=NotAnswered("PAST")):
             said = command("solve", DIET, "--with", "none", "--seconds", "1e-9")
         self.assertEqual((said.status, said.output.splitlines()[0]), (12, "PAST ADD 1 2"))
         self.assertIn("exact steps in Python were not enough in 1e-09 seconds: --seconds allows more", said.complaints)
@@ -191,5 +192,5 @@ class GoingOn(unittest.TestCase):
     def test_json_says_the_way(self) -> None:
         with mock.patch("lpd.ways.by_lpd", return_value=PAST):
             told = json.loads(command("solve", DIET, "--with", "none", "--json").output)
-        self.assertTrue(told["way"].startswith("exact steps in Python from no basis"))
+        self.assertTrue(told["way"].startswith("lpd basis from a basis of its own"))
         self.assertEqual((told["accepted_by"], told["notes"]), (BOTH, ["lpd solve ends with PAST ADD 1 2"]))
