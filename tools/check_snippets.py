@@ -5,8 +5,8 @@
 
 A snippet is a block between lines ``` that says python behind the first, or begins with a command of this repository. It is run
 at the top, or in the folder of its page where the paragraph before it says "in this folder". The snippets of a page are run
-one after the other in one shell. Where one speaks of a server at 127.0.0.1, `lpd serve` runs there; the file SCRIPT is a script
-for a link. A command has to end with status 0, or with the one of the table below. What needs a solver or a package that is not
+one after the other in one shell. A command `./lpd serve` runs beside those that follow on its page, and has to listen; where a
+page speaks of a server at 127.0.0.1 that it does not begin, one is begun for it. The file SCRIPT is a script for a link. A command has to end with status 0, or with the one of the table below. What needs a solver or a package that is not
 there is left out, and said in a line SKIPPED. The status is 1 where a command ends otherwise, and 2 without the program.
 """
 import os
@@ -21,7 +21,7 @@ from pathlib import Path
 
 TOP = Path(__file__).resolve().parent.parent
 PROGRAM = TOP / "crates" / "lpd" / "out" / "lpd"
-SECONDS = 300
+SECONDS = 1200
 BLOCK = re.compile(r"^```(\w*)\n(.*?)^```$", re.S | re.M)
 COMMANDS = ("./lpd ", "python3 ", "lpd-py ", "export ")
 SERVER = re.compile(r"127\.0\.0\.1[:\", ]+(\d+)")
@@ -79,11 +79,22 @@ def listens(port):
         return link.connect_ex(("127.0.0.1", int(port))) == 0
 
 
+def waits(port):
+    """Whether something listens at this port of the machine within two minutes."""
+    end = time.monotonic() + 120
+    while not listens(port) and time.monotonic() < end:
+        time.sleep(0.1)
+    return listens(port)
+
+
 class Servers:
-    """The servers that snippets speak of, until the end of the block."""
+    """The servers that a page speaks of and does not begin, until the end of the block."""
+
+    def __init__(self, page):
+        self.servers = {}
+        self.own = {port for _, snippet, _ in snippets(page) for line in snippet.splitlines() if begins_server(line) for port in SERVER.findall(line)}
 
     def __enter__(self):
-        self.servers = {}
         return self
 
     def __exit__(self, *_):
@@ -92,16 +103,14 @@ class Servers:
             server.wait()
 
     def begin(self, snippet):
-        """Begins a server at each address that the snippet names, unless it begins one there itself."""
+        """Begins a server at each address that the snippet names; why that is not possible."""
         for port in set(SERVER.findall(snippet)) - self.servers.keys():
             if listens(port):
                 return f"something else listens at 127.0.0.1:{port}"
-            self.servers[port] = subprocess.Popen([str(PROGRAM), "serve", f"127.0.0.1:{port}", "--each", "9"], stdout=subprocess.DEVNULL)
-            end = time.monotonic() + 60
-            while not listens(port):
-                if self.servers[port].poll() is not None or time.monotonic() > end:
-                    return f"no server at 127.0.0.1:{port}"
-                time.sleep(0.05)
+            if port not in self.own and "distributed.cli" not in snippet:
+                self.servers[port] = subprocess.Popen([str(PROGRAM), "serve", f"127.0.0.1:{port}", "--each", "9"], stdout=subprocess.DEVNULL)
+                if not waits(port):
+                    return f"no server listens at 127.0.0.1:{port}"
         return None
 
 
@@ -110,37 +119,38 @@ def begins_server(line):
 
 
 def script_of(page, top, room, servers):
-    """The script of a page, and its commands in their order; a command that begins a server is run by itself, and ended."""
-    script, commands = [], []
+    """The script of a page, and its commands in their order."""
+    script, commands = ["servers="], []
     for number, (language, snippet, folder) in enumerate(snippets(page)):
-        missing = is_missing(language, snippet)
-        if missing is None and not any(map(begins_server, snippet.splitlines())) and "distributed.cli" not in snippet:
-            missing = servers.begin(snippet)
+        missing = is_missing(language, snippet) or servers.begin(snippet)
         if missing:
             why = missing if " " in missing else f"there is no {missing}"
             print(f"SKIPPED: a snippet of {page.relative_to(TOP)}, since {why}")
             continue
         script.append(f"cd '{top / folder}'")
         for line in lines_of(language, snippet, room, number):
-            run = f"timeout 5 {line}" if begins_server(line) else line
-            script += [run, 'echo "$?" >&3']
+            if begins_server(line):
+                wait = f"'{sys.executable}' '{Path(__file__).resolve()}' --wait {SERVER.findall(line)[0]}"
+                script.append(f'{line} & servers="$servers $!"\n{wait}')
+            else:
+                script.append(line)
+            script.append('echo "$?" >&3')
             commands.append(line if language != "python" else f"the snippet {number} in Python: {snippet.splitlines()[0]}")
-    return "\n".join(script) + "\n", commands
+    return "\n".join([*script, '[ -z "$servers" ] || kill $servers']) + "\n", commands
 
 
 def wanted(command):
-    if begins_server(command):
-        return 124  # as timeout has it: a server runs until it is ended
     return next((status for words, status in STATUSES.items() if words in command), 0)
 
 
 def faults_of(page, top, room):
     """What ends otherwise than it should."""
-    with Servers() as servers:
+    with Servers(page) as servers:
         script, commands = script_of(page, top, room, servers)
         told = room / "statuses"
         with open(room / "said", "w+b") as said:
-            done = subprocess.run(["sh", "-c", f"exec 3>'{told}'\n{script}"], cwd=top, stdin=subprocess.DEVNULL, stdout=said, stderr=said, timeout=SECONDS)
+            words = ["timeout", str(SECONDS), "sh", "-c", f"exec 3>'{told}'\n{script}"]
+            done = subprocess.run(words, cwd=top, stdin=subprocess.DEVNULL, stdout=said, stderr=said)
             said.seek(0)
             tail = said.read().decode("utf-8", "replace")[-2000:]
     statuses = [int(line) for line in told.read_text().split()]
@@ -152,6 +162,8 @@ def faults_of(page, top, room):
 
 
 def main():
+    if sys.argv[1:2] == ["--wait"]:
+        return 0 if waits(sys.argv[2]) else 1
     if not os.access(PROGRAM, os.X_OK):
         print("the program is not built")
         return 2
