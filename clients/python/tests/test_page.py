@@ -46,6 +46,29 @@ class Pages(unittest.TestCase):
         self.assertEqual((given["form"], given["claim"]), ("free", "OPTIMAL 92.5"))
 
     @unittest.skipUnless(has_program(), "the program is not built")
+    def test_a_page_past_127_bits(self) -> None:
+        text = f"* seen\nROWS\n N cost\n G need\nCOLUMNS\n x cost 1 need 3\nRHS\n RHS need {10**50}\nENDATA\n"
+        with tempfile.TemporaryDirectory() as folder:
+            path = Path(folder) / "out.html"
+            said = command("solve", "-", "--with", "none", "--page", str(path), stdin=text.encode())
+            self.assertEqual(said.status, 14, said.complaints)
+            given = given_in(path.read_text())
+        model, certificate = (base64.b64decode(given[name]).decode() for name in ("model", "certificate"))
+        self.assertEqual((model, given["claim"]), (text, f"OPTIMAL {10**50}/3"))
+        self.assertEqual(str(lpd.check(model, certificate, wide=True)), f"YES OPTIMAL {10**50}/3")
+
+    @unittest.skipUnless(has_program(), "the program is not built")
+    def test_a_page_of_another_sense(self) -> None:
+        with tempfile.TemporaryDirectory() as folder:
+            path = Path(folder) / "out.html"
+            said = command("solve", str(EXAMPLES / "models" / "diet.mps"), "--max", "--page", str(path))
+            self.assertEqual(said.status, 0, said.complaints)
+            given = given_in(path.read_text())
+        model, certificate = (base64.b64decode(given[name]).decode() for name in ("model", "certificate"))
+        self.assertEqual(str(lpd.check(model, certificate)), f"YES {given['claim']}")
+        self.assertNotEqual(given["claim"], "OPTIMAL 92.5")
+
+    @unittest.skipUnless(has_program(), "the program is not built")
     def test_no_page_without_a_certificate(self) -> None:
         with tempfile.TemporaryDirectory() as folder:
             path = Path(folder) / "out.html"
