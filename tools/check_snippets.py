@@ -30,6 +30,8 @@ STATUSES = {"solve examples/models/orders.mps": 10, "check examples/no-contradic
 NEEDED = {"--with glpsol": "glpsol"}
 # The gate runs this script, and is not run by it.
 GATE = ".ci/run"
+# The Python that packages of Debian are for, where another one stands before it on the path.
+DEBIAN = "/usr/bin/python3"
 LINK = "LOAD FREE\n{text}SOLVE\nQUIT\n"
 
 
@@ -53,6 +55,11 @@ def copy_of_repository(room):
     (top / "crates").symlink_to(TOP / "crates")
     (top / "SCRIPT").write_text(LINK.format(text=(top / "examples" / "models" / "diet.mps").read_text()))
     return top
+
+
+def has_packages(python):
+    """Whether a Python has the packages that snippets use and that are not of the standard library."""
+    return subprocess.run([python, "-c", "import pulp, distributed"], capture_output=True).returncode == 0
 
 
 def is_missing(language, snippet):
@@ -167,6 +174,8 @@ def main():
     if not os.access(PROGRAM, os.X_OK):
         print("the program is not built")
         return 2
+    if not has_packages("python3") and os.path.exists(DEBIAN) and has_packages(DEBIAN):
+        os.environ["PATH"] = f"{os.path.dirname(DEBIAN)}:{os.environ['PATH']}"
     os.environ.pop("PYTHONPATH", None)
     os.environ.pop("LPD", None)
     wrong = 0

@@ -17,7 +17,7 @@ from .errors import ProgramEnded, ProgramMissing, Unexpected
 REPOSITORY = Path(__file__).resolve().parents[3]
 SESSIONS = 64
 # A program that is asked for nothing but BYE, or whose input has ended, has so many seconds.
-SECONDS = 10.0
+SECONDS = 20.0
 
 
 def home() -> Tuple[Optional[Path], str]:

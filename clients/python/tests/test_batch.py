@@ -156,7 +156,7 @@ class Interrupted(unittest.TestCase):
 
     def lines(self, count: int) -> None:
         """Waits until the table has so many lines."""
-        end = time.monotonic() + 120
+        end = time.monotonic() + 300
         while time.monotonic() < end and (not self.table.exists() or self.table.read_text().count("\n") < count):
             time.sleep(0.05)
 
@@ -165,7 +165,7 @@ class Interrupted(unittest.TestCase):
         lines = [run.stdout.readline() for _ in range(7)] if run.stdout else []
         self.assertEqual([line.split(",")[0] for line in lines[1:]], NAMES)
         run.send_signal(signal.SIGINT)
-        output, complaints = run.communicate(timeout=60)
+        output, complaints = run.communicate(timeout=300)
         self.assertEqual((run.returncode, output), (130, ""))
         self.assertIn("lpd: interrupted: 6 of 7 models are done\n", complaints)
         self.assertNotIn("Traceback", complaints)
@@ -174,14 +174,14 @@ class Interrupted(unittest.TestCase):
         run = self.begin("--json", "--resume", str(self.table))
         self.lines(7)
         run.send_signal(signal.SIGINT)
-        output, _ = run.communicate(timeout=60)
+        output, _ = run.communicate(timeout=300)
         self.assertEqual([row["model"] for row in json.loads(output)], NAMES)
 
     def test_a_run_that_is_killed_is_gone_on_with(self) -> None:
         run = self.begin("--resume", str(self.table))
         self.lines(4)
         run.kill()
-        run.communicate(timeout=60)
+        run.communicate(timeout=300)
         first = rows_of(self.table.read_text())
         self.assertGreaterEqual(len(first), 3)
         (self.folder / "z.mps").unlink()
@@ -199,7 +199,7 @@ class Interrupted(unittest.TestCase):
             if run.stdout:
                 run.stdout.close()
                 run.stdout = None
-            complaints = run.communicate(timeout=60)[1].decode()
+            complaints = run.communicate(timeout=300)[1].decode()
             self.assertEqual(run.returncode, 141)
             self.assertNotIn("Traceback", complaints)
             self.assertNotIn("Broken pipe", complaints)

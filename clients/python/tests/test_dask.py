@@ -19,8 +19,8 @@ from .models import has_program
 
 MODELS = Path(__file__).resolve().parents[3] / "examples" / "models"
 PACKAGE = Path(__file__).resolve().parents[1]
-TIMES = 3
-SECONDS = 300.0
+TIMES = 2
+SECONDS = 600.0
 
 
 def rows_of(text: str) -> List[Dict[str, str]]:

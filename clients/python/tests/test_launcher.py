@@ -30,7 +30,7 @@ class Launcher(unittest.TestCase):
         self.program.chmod(0o755)
 
     def run_lpd(self, *words: str) -> "subprocess.CompletedProcess[str]":
-        return subprocess.run([str(self.top / "lpd"), *words], env={"PATH": "/usr/bin:/bin"}, capture_output=True, text=True, timeout=60)
+        return subprocess.run([str(self.top / "lpd"), *words], env={"PATH": "/usr/bin:/bin"}, capture_output=True, text=True, timeout=300)
 
     def old(self, path: Path, seconds: int) -> None:
         """Sets the date of a file so many seconds back."""

