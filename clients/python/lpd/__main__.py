@@ -2,7 +2,7 @@
 
 Status: 0 an optimal value, accepted by both checkers (solve), an accepted certificate (check), a text (convert), or a table
 (batch); 1 a certificate that is not accepted; 2 wrong words, or a question that words have to answer; 3 no program, or it
-ended; 9 a refused text, certificate or name; 10 infeasible; 11 unbounded; 12 past 127 bits; 13 the budget is spent; 14 an
+ended; 9 a refused text, certificate or name; 10 infeasible; 11 unbounded; 12 past 127 bits; 13 the budget or the time is spent; 14 an
 answer whose certificate the checker in Python alone accepts, since a number passes 127 bits (certify).
 """
 from __future__ import annotations
@@ -19,6 +19,7 @@ from .commands import batch, certify, check, convert, plot, solve
 from .commands.common import tell
 from .conversion import Question, Unconvertible
 from .dialects import Inexact
+from .exact import OutOfTime
 from .lp_format import Unreadable
 from .number_text import NotANumber
 from .plotting import NoPicture
@@ -72,6 +73,8 @@ def status_of_error(error: Exception) -> int:
         tell(f"lpd: {error}")
         return 2
     tell(f"lpd: {error}")
+    if isinstance(error, OutOfTime):
+        return 13
     return 9 if isinstance(error, (Unconvertible, Inexact, Unreadable)) else 3
 
 

@@ -62,6 +62,14 @@ class Tables(unittest.TestCase):
         self.assertEqual([row["model"] for row in rows_of(kept.path.read_text())], ["a", "b", "c"])
         self.assertEqual(rows_of(kept.path.read_text())[0]["note"], "one, two; three")
 
+    def test_two_files_of_one_name(self) -> None:
+        with tempfile.TemporaryDirectory() as folder:
+            for name in ("a.mps", "a.lp", "b.mps"):
+                (Path(folder) / name).write_text("ENDATA\n")
+            said = command("batch", folder)
+        self.assertEqual((said.status, said.output), (2, ""))
+        self.assertIn("are named a but for their ends", said.complaints)
+
     def test_long_values(self) -> None:
         cells = cells_of(Result("a", answer="OPTIMAL", value=f"{10**60}/3"))
         self.assertIn("~3.333333333e+59", tables.Writer("text", COLUMNS, ["a"]).line(cells))

@@ -193,6 +193,8 @@ class GoingOn(unittest.TestCase):
             said = command("solve", DIET, "--with", "none", "--seconds", "1e-9")
         self.assertEqual((said.status, said.output.splitlines()[0]), (12, "PAST ADD 1 2"))
         self.assertIn("exact steps in Python were not enough in 1e-09 seconds: --seconds allows more", said.complaints)
+        said = command("solve", "-", "--with", "none", "--seconds", "1e-9", stdin=WIDE.encode())
+        self.assertEqual((said.status, said.output), (13, ""))
 
     def test_json_says_the_way(self) -> None:
         with mock.patch("lpd.ways.by_lpd", return_value=PAST):

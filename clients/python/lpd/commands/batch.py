@@ -94,10 +94,14 @@ def summary(rows: List[Cells]) -> str:
 
 
 def run(words: argparse.Namespace) -> int:
-    paths = sorted(path for path in Path(words.folder).iterdir() if end_of(path))
+    paths = sorted((path for path in Path(words.folder).iterdir() if end_of(path)), key=lambda path: (name_of(path), path.name))
     if not paths:
         tell(f"lpd: {words.folder} has no file *.mps, *.lp or *.mod, nor one of these with .gz")
         return 3
+    twice = next((path for path, after in zip(paths, paths[1:]) if name_of(path) == name_of(after)), None)
+    if twice:
+        tell(f"lpd: two files of {words.folder} are named {name_of(twice)} but for their ends, and a table has each name once")
+        return 2
     optima = read_optima(Path(words.optima).read_text(encoding="utf-8")) if words.optima else None
     columns = columns_of(bool(words.solver), optima is not None)
     kept = Kept(words.resume, columns) if words.resume else None
