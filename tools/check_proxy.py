@@ -39,6 +39,7 @@ MODEL = b"LOAD FREE\n" + (TOP / "examples" / "models" / "diet.mps").read_bytes()
 CLIENTS, SOLVES, THINKS = 12, 10, 0.02
 SECONDS, ALL_SECONDS = 30.0, 120
 MOST_LINKS = 64
+LINKS_NOW = 'haproxy_frontend_current_sessions{proxy="links"}'
 
 
 class Wrong(Exception):
@@ -181,22 +182,27 @@ def check_renewal(room: Path, proxy: Proxy, servers: Dict[str, Server]) -> None:
 
 def check_numbers(proxy: Proxy) -> None:
     """More links than an address may have: the last ones are refused, and all is counted."""
-    links = []
-    for _ in range(MOST_LINKS + 6):
-        links.append(socket.create_connection((HOST, proxy.ports[7000]), SECONDS))
-    time.sleep(1)
     page = (TOP / "docs" / "SERVING.md").read_text(encoding="utf-8")
     queries = re.findall(r"(haproxy_\w+\{[^}]*\})", page.partition("## What to watch")[2].partition("\n## ")[0])
-    metrics = proxy.metrics()
-    for link in links:
-        link.close()
-    for query in queries:
-        if query not in metrics:
-            raise Wrong(f"HAProxy has no {query}")
-    queue, at_once, refused, vain, servers = (metrics[query] for query in queries)
-    found = (queue, at_once, refused, vain, servers)
-    if found != (MOST_LINKS - 8, MOST_LINKS, 6, 0, 2):
-        raise Wrong(f"of {len(links)} links HAProxy counts {found}")
+    # the links that were there before have to be gone, since an address has only so many
+    wait_for(proxy, [LINKS_NOW], [0])
+    links = [socket.create_connection((HOST, proxy.ports[7000]), SECONDS) for _ in range(MOST_LINKS + 6)]
+    try:
+        wait_for(proxy, queries, [MOST_LINKS - 8, MOST_LINKS, 6, 0, 2])
+    finally:
+        for link in links:
+            link.close()
+
+
+def wait_for(proxy: Proxy, queries: List[str], wanted: List[float]) -> None:
+    """Until HAProxy counts that."""
+    end, found = time.monotonic() + SECONDS, None
+    while found != wanted:
+        if time.monotonic() > end:
+            raise Wrong(f"HAProxy counts {found} of {', '.join(queries)}, and not {wanted}")
+        time.sleep(0.1)
+        metrics = proxy.metrics()
+        found = [metrics.get(query) for query in queries]
 
 
 def out_of_time(*_: object) -> NoReturn:
