@@ -123,8 +123,8 @@ class ModelReader {
     throw new Fault(3, "no section takes this card");
   }
 
-  /** The words of a card for its places: in fixed form the fields, in free form the words, with "" where the optional
-   * second one (free form: by their number) is absent. Shape 3 where others are there. */
+  /** What a card has of the fields that its section takes, first the needed ones: in free form all of its words, whose
+   * number has to be that of the needed ones, or of all. */
   shaped(words, needed, optional) {
     if (!this.fixed) {
       const short = needed.length, long = short + optional.length;

@@ -209,7 +209,7 @@ function remediesFor(verdict) {
   const { faultOf, faultLine } = verdict;
   const buttons = [];
   const { area } = fields[faultOf];
-  if (!area.hidden && faultLine <= area.value.split("\n").length) {
+  if (!area.hidden && area.value !== "" && faultLine <= area.value.split("\n").length) {
     buttons.push(button(`Go to line ${faultLine}`, () => pointAt(verdict), { id: "go-to-line" }));
   }
   if (faultOf === "certificate" && answerLine() !== null) {
