@@ -200,16 +200,18 @@ class PageCheck:
             self.count("examples")
 
     def check_faults(self):
-        """Each fault in each form, where the page says it and where it points."""
-        for text, fixed, line, code in FAULTS:
+        """Each fault, and where the page says it; one of each in each form by the fields of the page."""
+        said = self.batch([(Made(text, fixed, ""), False) for text, fixed, _, _ in FAULTS])
+        for (text, fixed, line, code), (told, words, _) in zip(FAULTS, said):
             expected = f"ERR 8 MPS {line} M{code}"
             if self.program:
                 same(by_program(self.program, Made(text, fixed, "")), expected, f"PROGRAM on {text[-200:]!r}")
-            self.run("byId('narrow').checked = true")
-            same(self.typed(text, "OPTIMAL\nEND\n", fixed=fixed), expected, repr(text[-200:]))
-            words = self.run("byId('reason').textContent")
-            expect(f"Line {line} of the model is wrong: " in words, f"{expected}: {words}")
+            same(told, expected, repr(text[-200:]))
+            expect(words.startswith(f"Line {line} of the model is wrong: "), f"{expected}: {words}")
             self.count("faults")
+        self.run("byId('narrow').checked = true")
+        for (code, fixed), (text, line) in {(code, fixed): (text, line) for text, fixed, line, code in FAULTS}.items():
+            same(self.typed(text, "OPTIMAL\nEND\n", fixed=fixed), f"ERR 8 MPS {line} M{code}", repr(text[-200:]))
         self.run("byId('narrow').checked = false")
         codes = {code for _, _, _, code in FAULTS}
         expect(codes == set(range(1, 20)), f"no text with the faults {set(range(1, 20)) - codes}")
@@ -227,7 +229,7 @@ class PageCheck:
         """The page's line, reason, and row or column of each case, from one worker. Of all, or some, all is shown."""
         texts = [(base64.b64encode((made.text + made.certificate).encode("latin-1")).decode(), made.fixed, wide)
                  for made, wide in cases]
-        return self.run(f"batch({json.dumps(texts)}, {1 if self.words.all else 4})")
+        return self.run(f"batch({json.dumps(texts)}, {1 if self.words.all else 8})")
 
     def expected(self, made, wide):
         """The line that counts, and why it is so."""
