@@ -42,12 +42,14 @@ def contents(checkout: Checkout, information: str) -> List[Entry]:
     if not project.keys() <= CARRIED:
         raise Unfit(f"{PROJECT} has what the wheel would lose: {', '.join(project.keys() - CARRIED)}")
     modules = entries(committed("clients/python/lpd"), "lpd/", "clients/python/lpd/")
+    # beside the modules stands the page that solve --page puts a result into
+    page = entries(committed("web/check.html"), "lpd/", "web/")
     license_text = (TOP / "LICENSE").read_text(encoding="utf-8")
     told = [("LICENSE", license_text), ("METADATA", metadata(project, checkout.version)), ("WHEEL", WHEEL)]
     if project.get("scripts"):
         told.append(("entry_points.txt", scripts(project)))
     release = Entry("lpd/RELEASE", f"{checkout.name}\n".encode())
-    return [*modules, release, *(Entry(f"{information}/{name}", text.encode()) for name, text in told)]
+    return [*modules, *page, release, *(Entry(f"{information}/{name}", text.encode()) for name, text in told)]
 
 
 def record(files: List[Entry], path: str) -> Entry:
