@@ -40,6 +40,7 @@ from .errors import (
     Unexpected,
     UnknownName,
 )
+from .exact import OutOfTime
 from .from_basis import FromBasis, solve_from
 from .link import Link
 from .model import Model, read_model
@@ -90,6 +91,7 @@ __all__ = [
     "Optimal",
     "Options",
     "OutOfMemory",
+    "OutOfTime",
     "Past",
     "Program",
     "ProgramEnded",
