@@ -186,5 +186,6 @@ class Kept:
         """Writes the table anew, in the order of names, in one step."""
         beside = self.path.with_name(f"{self.path.name}.new")
         rows = [[row.get(column, "") for column in self.columns] for _, row in sorted(self.rows.items())]
-        beside.write_text("".join(map(csv_text, [self.columns, *rows])), encoding="utf-8", newline="")
+        with open(beside, "w", encoding="utf-8", newline="") as file:
+            file.writelines(map(csv_text, [self.columns, *rows]))
         os.replace(beside, self.path)

@@ -1,12 +1,14 @@
 """The rough basis: exact steps from it are few, and end as they do from no basis."""
+import io
 import random
 import unittest
 from fractions import Fraction
 from pathlib import Path
+from unittest import mock
 
 from lpd.certificate import check_lines
 from lpd.conversion import convert
-from lpd.exact import Basis, Simplex, Watch
+from lpd.exact import Basis, OutOfTime, Simplex, Watch
 from lpd.model import Column, Model, Row
 from lpd.rough import Rough, rough_basis
 
@@ -52,6 +54,21 @@ class RoughBasis(unittest.TestCase):
         model = Model("wide", 1, "cost", rows={"r": Row("G", Fraction(10**400))}, columns={"x": Column(Fraction(1), entries={"r": Fraction(1)})})
         self.assertIsNone(rough_basis(model))
         self.assertEqual(ends(model, Basis())[0], f"YES OPTIMAL {10**400}")
+
+    def test_a_terminal_sees_how_far_it_is(self) -> None:
+        class Terminal(io.StringIO):
+            def isatty(self) -> bool:
+                return True
+
+        for stream, said in ((Terminal(), "\r\x1b[K3 exact steps in Python, all limits are kept, 5 seconds\r\x1b[K"), (io.StringIO(), "")):
+            with mock.patch("sys.stderr", stream), Watch(60) as watch:
+                watch.started -= 5
+                watch.step(3, "all limits are kept")
+                watch.step(4, "all limits are kept")  # within the same second
+            self.assertEqual(stream.getvalue(), said)
+        with Watch(1) as watch, self.assertRaisesRegex(OutOfTime, "7 exact steps in Python were not enough in 1 seconds"):
+            watch.started -= 2
+            watch.step(7, "")
 
     def test_the_time_is_kept_to(self) -> None:
         model = convert((MODELS / "transport.mps").read_bytes()).model
