@@ -44,6 +44,7 @@ from .exact import OutOfTime
 from .from_basis import FromBasis, solve_from
 from .link import Link
 from .model import Model, read_model
+from .plotting import Turn, curve, plane, turns_of
 from .program import Program, run
 from .replies import Accepted, Answer, Infeasible, Loaded, Optimal, Past, Rejected, Spent, Unbounded, Verdict
 from .replies import Basis, Cold, Fell, Found, Full, Published, Raced, Same, Unpublished
@@ -108,6 +109,7 @@ __all__ = [
     "Spent",
     "TextFault",
     "TooWideForFixed",
+    "Turn",
     "Unbounded",
     "Unconvertible",
     "Unexpected",
@@ -120,8 +122,11 @@ __all__ = [
     "conflict",
     "connect",
     "convert",
+    "curve",
+    "plane",
     "read_model",
     "report",
     "run",
     "solve_from",
+    "turns_of",
 ]
