@@ -37,7 +37,7 @@ HOST, NAMES = "127.0.0.1", ("one", "two")
 PORTS = (7443, 7000, 7080, 7007, 7008)
 MODEL = b"LOAD FREE\n" + (TOP / "examples" / "models" / "diet.mps").read_bytes()
 CLIENTS, SOLVES, THINKS = 12, 10, 0.02
-SECONDS, ALL_SECONDS = 30.0, 120
+SECONDS, ALL_SECONDS = 120.0, 600
 MOST_LINKS = 64
 LINKS_NOW = 'haproxy_frontend_current_sessions{proxy="links"}'
 

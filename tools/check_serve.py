@@ -13,7 +13,7 @@ It starts 'PROGRAM WORD .. serve' some times, each time for as many links as it 
 - where it cannot listen or accept, where its words are no command line, and where its output cannot be written, its status
   says so.
 
-It prints what is wrong, and its status is 1 where something is. It takes some seconds, and a minute at most.
+It prints what is wrong, and its status is 1 where something is. It takes some seconds, and ten minutes at most.
 """
 from __future__ import annotations
 
@@ -34,7 +34,7 @@ from talk import Ended, Link
 
 HOST = "127.0.0.1"
 # How many seconds a reply, a line of the server and its end may take, and all of the checks.
-SECONDS, ALL_SECONDS = 20.0, 60
+SECONDS, ALL_SECONDS = 120.0, 600
 # How long a server that takes nothing more is watched.
 STILL = 0.3
 # The most bytes of one link that are read.

@@ -80,9 +80,9 @@ def difference(want, got):
 
 def fault_of(case, program):
     try:
-        run = subprocess.run(program + case.words, input=bytes_of(case.parts["in"]), capture_output=True, timeout=60)
+        run = subprocess.run(program + case.words, input=bytes_of(case.parts["in"]), capture_output=True, timeout=600)
     except subprocess.TimeoutExpired:
-        return "no end within a minute"
+        return "no end within ten minutes"
     if run.returncode != case.status:
         return "expected the status %d, got %d" % (case.status, run.returncode)
     said = run.stderr.decode("latin-1").split("\n")[0]

@@ -305,7 +305,7 @@ class ForOthers(unittest.TestCase):
         command = out.command + self.MORE[name]
         if name == "esolver":
             command[1:1] = ["-O", "solution"]
-        done = subprocess.run(command, cwd=folder, capture_output=True, text=True, timeout=60)
+        done = subprocess.run(command, cwd=folder, capture_output=True, text=True, timeout=600)
         said = done.stdout + done.stderr
         pages = {"glpsol": "page", "esolver": "solution"}
         if name in pages:

@@ -15,7 +15,7 @@ EXAMPLES = Path(__file__).resolve().parents[3] / "examples" / "python"
 class Examples(unittest.TestCase):
     def prints(self, name: str, *words: str) -> None:
         command = [sys.executable, str(EXAMPLES / f"{name}.py"), *words]
-        done = subprocess.run(command, capture_output=True, text=True, timeout=60)
+        done = subprocess.run(command, capture_output=True, text=True, timeout=600)
         self.assertEqual((done.returncode, done.stdout), (0, (EXAMPLES / f"{name}.out").read_text()), done.stderr)
 
     def test_transportation(self) -> None:
