@@ -13,7 +13,7 @@ import sys
 from pathlib import Path
 
 TOP = Path(__file__).resolve().parent.parent
-PATH = re.compile(r"(?:crates|docs|examples|tools|bench)/[\w./-]*")
+PATH = re.compile(r"(?:crates|docs|examples|tools|bench|web)/[\w./-]*")
 NAME = re.compile(r"[A-Za-z]\w*(?:[:-]+\w+)*")
 # What a build makes.
 MADE = {"crates/lpd/out/lpd"}
