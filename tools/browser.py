@@ -31,7 +31,7 @@ class BrowserFailed(Exception):
 class Browser:
     """A browser with one page. Use it as a context."""
 
-    def __init__(self, program, seconds=120):
+    def __init__(self, program, seconds=600):
         self.program, self.seconds, self.number, self.kept, self.events = program, seconds, 0, b"", []
 
     def __enter__(self):

@@ -229,7 +229,9 @@ class PageCheck:
         """The page's line, reason, and row or column of each case, from one worker. Of all, or some, all is shown."""
         texts = [(base64.b64encode((made.text + made.certificate).encode("latin-1")).decode(), made.fixed, wide)
                  for made, wide in cases]
-        return self.run(f"batch({json.dumps(texts)}, {1 if self.words.all else 8})")
+        every = 1 if self.words.all else 8
+        parts = [texts[start:start + 25] for start in range(0, len(texts), 25)]
+        return [told for part in parts for told in self.run(f"batch({json.dumps(part)}, {every})")]
 
     def expected(self, made, wide):
         """The line that counts, and why it is so."""
@@ -242,14 +244,12 @@ class PageCheck:
 
     def compare(self, cases, what):
         """The same line, and the same row or column, as the program and the checker of clients/python."""
-        for start in range(0, len(cases), 100):
-            part = cases[start:start + 100]
-            for (made, wide), (line, _, name) in zip(part, self.batch(part)):
-                expected, why = self.expected(made, wide)
-                shown = f"{made.text[:3000]!r} {made.certificate!r} {'fixed' if made.fixed else 'free'}"
-                same(line, expected, shown)
-                expect(name in why, f"{shown}: {name} fails, and not as in {why!r}")
-                self.count(what)
+        for (made, wide), (line, _, name) in zip(cases, self.batch(cases)):
+            expected, why = self.expected(made, wide)
+            shown = f"{made.text[:3000]!r} {made.certificate!r} {'fixed' if made.fixed else 'free'}"
+            same(line, expected, shown)
+            expect(name in why, f"{shown}: {name} fails, and not as in {why!r}")
+            self.count(what)
 
     def check_made(self):
         dice = random.Random(self.words.seed)
