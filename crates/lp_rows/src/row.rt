@@ -3,7 +3,7 @@ ghost use Rattle.std.specs.Prelude.{◌≡◌, ◌<◌, ℕ, IsTrue, length, ◌
 ghost use Rattle.lp_wide.specs.Whole.{whole};
 ghost use Rattle.lp_rows.specs.Row.{at, turned_if};
 
-use lp_wide::{Signed, Words, less_products, quotient};
+use lp_wide::{Signed, Words, less_products, low_inverse, quotient_by};
 
 /// Makes of each number of a row `a` times it, less `b` times that of the other row. Where it is false a number is past
 /// the width, and the row is spent.
@@ -48,9 +48,10 @@ pub(crate) fn part<T: Words>(row: &mut [Signed<T>], by: T) -> bool
         at T.value row.new k *ℤ pos (T.value by) ≡ at T.value row.old k }
     ensures len { length row.new ≡ length row.old }
 {
+    let inverse = low_inverse(by);
     for k in 0..row.len() {
         let number = row[k];
-        match quotient(number.size, by) {
+        match quotient_by(number.size, by, inverse) {
             Some(size) => {
                 row[k] = Signed {
                     negative: number.negative,
