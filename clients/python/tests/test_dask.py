@@ -77,7 +77,7 @@ class Dask(unittest.TestCase):
             output, complaints = run.communicate(timeout=SECONDS)
         self.assertEqual(run.returncode, 0, complaints)
         alone = command(*words)
-        self.assertEqual(len(rows_of(alone.output)), 6 * TIMES)
+        self.assertEqual(len(rows_of(alone.output)), len(list(MODELS.glob("*.mps"))) * TIMES)
         self.assertEqual(rows_of(output.decode()), rows_of(alone.output))
         self.assertEqual(rows_of(table.read_text()), rows_of(alone.output))
 
