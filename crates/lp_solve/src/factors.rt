@@ -1,4 +1,4 @@
-// The cold part of a solve: over rows of whole numbers, over factors and over whole tableaus.
+// The cold part of a solve: over factors, over whole tableaus and over rows of whole numbers.
 ghost use Rattle.std.specs.Prelude.{◌≡◌, IfOk, Ok, Some};
 ghost use Rattle.spec_simplex.specs.Form.{form_of};
 ghost use Rattle.spec_factor.specs.Over as over;
@@ -136,9 +136,41 @@ fn stated_runs(alloc: Global, budget: u64, model: &Model, form: &Form) -> Result
     }
 }
 
+// What they end with is one way in which the cold part may end.
+fn stated_part(alloc: Global, budget: u64, model: &Model, form: &Form) -> Result<End, AllocError>
+    requires { form_of (Some largest) model.now ≡ Ok form.now }
+    ensures answer { IfOk result (order.MayEndCold (Some largest) budget model.now) }
+    ensures narrow { IfOk result (IsFit model.now) }
+{
+    stated_runs(alloc, budget, model, form)
+}
+
+// The answer over rows of whole numbers, or else what the stated runs ended with.
+fn or_rows(
+    alloc: Global,
+    budget: u64,
+    model: &Model,
+    form: &Form,
+    refused: End,
+) -> Result<End, AllocError>
+    requires formed { form_of (Some largest) model.now ≡ Ok form.now }
+    requires may { order.MayEndCold (Some largest) budget model.now refused }
+    requires narrow { IsFit model.now refused }
+    ensures answer { IfOk result (order.MayEndCold (Some largest) budget model.now) }
+    ensures narrow { IfOk result (IsFit model.now) }
+{
+    match over_rows(alloc, budget, model, form)? {
+        Some(end) => {
+            drop(refused);
+            Ok(end)
+        }
+        None => Ok(refused),
+    }
+}
+
 /// The cold part of a solve, of which each run has the whole budget: an answer of the cold solve without a limit, to
-/// which the checker says yes at 127 bits, over rows of whole numbers or by a stated run; or without one what the
-/// tableaus are refused, where the run over factors gives up too.
+/// which the checker says yes at 127 bits, by a stated run or, where these give up, over rows of whole numbers; or
+/// without one what the tableaus are refused, where the run over factors gives up too.
 pub(crate) fn cold_part(
     alloc: Global,
     budget: u64,
@@ -149,8 +181,9 @@ pub(crate) fn cold_part(
     ensures answer { IfOk result (order.MayEndCold (Some largest) budget model.now) }
     ensures narrow { IfOk result (IsFit model.now) }
 {
-    match over_rows(alloc, budget, model, form)? {
-        Some(end) => Ok(end),
-        None => stated_runs(alloc, budget, model, form),
+    let end = stated_part(alloc, budget, model, form)?;
+    match end {
+        End::Ended { .. } => Ok(end),
+        End::Past(_) | End::Spent => or_rows(alloc, budget, model, form, end),
     }
 }

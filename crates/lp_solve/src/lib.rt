@@ -3,15 +3,15 @@
 //! `solve` gives the answer, the certificate that the checker accepted for it, the basis of an optimum and the count
 //! of pivots; or the first operation that is past 127 bits, or that the budget is spent; and how it came to that;
 //! as spec_solve's `MayEnd` says that a solve may. A basis never costs an answer: where the start from it stops, the
-//! cold part of the solve has the whole budget. Nor does one of the three cold runs, over rows of whole numbers, over
-//! factors and over whole tableaus: where one of them gives up, the next one has the whole budget. Which comes first is
-//! a choice of speed alone. Of an answer over rows the checker says yes to the certificate, as of each other.
+//! cold part of the solve has the whole budget. Nor does one of the three cold runs, over factors,
+//! over whole tableaus and over rows of whole numbers: where one of them gives up, the next one has the whole budget.
+//! Which comes first is a choice of speed alone. Of an answer over rows the checker says yes to the certificate, as of each other.
 //!
 //! | Item | What it is | Where |
 //! |---|---|---|
 //! | `solve`, `Solved` | the solve of a model, and how it ends | src/solving |
 //! | `solve_formed` | the same by the model's form | src/solving |
-//! | `cold_part` | the cold part: over rows, over factors and over whole tableaus | src/factors |
+//! | `cold_part` | the cold part: over factors, over whole tableaus and over rows | src/factors |
 //! | `over_rows` | the answer that the run over rows of whole numbers wins | src/rows |
 //! | `End`, `from_form` | what a solve ends with, and the run over whole tableaus from a form | src/cold |
 //! | `from_basis` | the warm start from a basis | src/warm |
