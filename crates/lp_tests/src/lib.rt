@@ -6,7 +6,7 @@
 //! | `shapes` | words and shapes that `lp_shape` tells apart | src/shapes |
 //! | `board` | passes of one board on two threads | src/board |
 //! | `worlds` | sessions of a world that publish at the same time | src/worlds |
-//! | `workers` | two workers beside each other | src/workers |
+//! | `workers` | a script that two workers run beside each other | src/workers |
 //! | `links` | two links in memory that one worker serves, and a listener without a link | src/links |
 //! | `tcp` | two links over loopback, each served by a worker of its own | src/tcp |
 #![tactic(auto)]

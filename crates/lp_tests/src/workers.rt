@@ -1,20 +1,30 @@
-// Two workers beside each other, of which the one finds what the other has published.
-ghost use Rattle.std.specs.Prelude.{◌≡◌, ◌≤◌, All, IfOk, OnOk};
-
-use lp_base::Bytes;
-use lp_gen::make;
-use lp_line::{Ask, Asked, Reply, print_said};
-use lp_workers::{Gate, answer_all};
-use spec_server::Plain;
+// A script of two sessions by two workers beside each other, of which the one finds what the other has published.
+use lp_base::{Bytes, MemSink, MemSource, Texts};
+use lp_script::{Gate, run_script};
 use std::alloc::{AllocError, Global};
 use std::sync::Wait;
 use std::sync::atomic::{AtomicU64, Ordering};
 use std::test::Fail;
 use std::thread;
 
+// The greatest 9 x where 4 x is at most 27 and x at most 7.
+const MODEL: &str =
+    "NAME a\nOBJSENSE MAX\nROWS\n N value\n L R1\nCOLUMNS\n x value 9 R1 4\nRHS\n R1 27\nBOUNDS\n UP x 7\nENDATA\n";
+
+// Each session holds the model and solves it twice. In between it is asked how the first answer was found.
+const SCRIPT: [&str; 6] = [
+    "1 LOAD FREE\n",
+    MODEL,
+    "1 SOLVE\n1 HOW\n1 SOLVE\n",
+    "2 LOAD FREE\n",
+    MODEL,
+    "2 SOLVE\n2 HOW\n2 SOLVE\n",
+];
+
 // Session 2 solves first, without a basis, and publishes one. Session 1 is let go after that, and begins with it.
-const REPLIES: &str = "LOADED 1 1\nOPTIMAL 60.75\nHOW BASIS 0 PIVOTS 0 SAME\nOPTIMAL 60.75\n\
-     LOADED 1 1\nOPTIMAL 60.75\nHOW COLD PIVOTS 1 PUBLISHED 0\nOPTIMAL 60.75\n";
+const REPLIES: &str =
+    "1 LOADED 1 1\n1 OPTIMAL 60.75\n1 HOW BASIS 0 PIVOTS 0 SAME\n1 OPTIMAL 60.75\n\
+     2 LOADED 1 1\n2 OPTIMAL 60.75\n2 HOW COLD PIVOTS 1 PUBLISHED 0\n2 OPTIMAL 60.75\n";
 
 // The most turns that a solve is held.
 const TURNS: u32 = 20_000_000;
@@ -55,50 +65,13 @@ impl Gate for Handshake {
     }
 }
 
-fn asked(session: u32, ask: Ask) -> Asked
-    ensures { result.session ≡ session }
-{
-    Asked { session, ask }
-}
-
-fn push(asked: Asked, to: &mut Vec<Asked>) -> Result<(), AllocError>
-    requires session { asked.session ≤ 64 }
-    requires before { All (λ asked. asked.session ≤ 64) to.old.items }
-    ensures { OnOk result (All (λ asked. asked.session ≤ 64) to.new.items) }
-{
-    Ok(to.push(asked)?)
-}
-
-// The session holds a model and solves it twice: the greatest 9 C1 where 4 C1 is at most 27 and C1 at most 7. In between
-// it is asked how the first answer was found.
-fn push_asks(alloc: Global, session: u32, to: &mut Vec<Asked>) -> Result<(), AllocError>
-    requires session { session ≤ 64 }
-    requires before { All (λ asked. asked.session ≤ 64) to.old.items }
-    ensures { OnOk result (All (λ asked. asked.session ≤ 64) to.new.items) }
-{
-    let ask = Ask::Loaded(make(alloc, 4, 1, 1)?);
-    push(Asked { session, ask }, to)?;
-    push(asked(session, Ask::Plain(Plain::Solve)), to)?;
-    push(asked(session, Ask::Plain(Plain::How)), to)?;
-    push(asked(session, Ask::Plain(Plain::Solve)), to)
-}
-
-// The asks of both sessions.
-fn asks(alloc: Global) -> Result<Vec<Asked>, AllocError>
-    ensures { IfOk result (λ asks. All (λ asked. asked.session ≤ 64) asks.items) }
-{
-    let mut asks = Vec::new(alloc);
-    push_asks(alloc, 1, &mut asks)?;
-    push_asks(alloc, 2, &mut asks)?;
-    Ok(asks)
-}
-
-fn text_of(alloc: Global, replies: &[Reply]) -> Result<Bytes, AllocError> {
-    let mut text = Bytes::new(alloc);
-    for reply in replies {
-        print_said(alloc, reply, &mut text)?;
+// A source that gives the script.
+fn script(alloc: Global) -> Result<MemSource, AllocError> {
+    let mut pieces = Texts::new(alloc);
+    for piece in SCRIPT {
+        pieces.push(Bytes::from_slice(alloc, piece.as_bytes())?)?;
     }
-    Ok(text)
+    Ok(MemSource::new(pieces, Vec::new(alloc)))
 }
 
 #[test]
@@ -109,12 +82,19 @@ fn two_workers_run_beside_each_other(rt: HostRuntime) -> Result<(), Fail> {
         two_goes_on: AtomicU64::new(0),
         given_up: AtomicU64::new(0),
     };
-    let text = text_of(alloc, &answer_all(&rt, alloc, asks(alloc)?, 2, 4, &gate)?)?;
-    let are_replies = text.as_slice() == REPLIES.as_bytes();
-    drop(text);
+    let mut source = script(alloc)?;
+    let mut out = MemSink::new(alloc, Vec::new(alloc));
+    let run = run_script(&rt, alloc, &mut source, &mut out, 2, 4, &gate);
+    let are_replies = out.written() == REPLIES.as_bytes();
+    drop(out);
+    drop(source);
     assert_eq!(rt;
-        (are_replies, gate.given_up.load(Ordering::SeqCst)),
-        (true, 0)
+        (
+            run.is_ok(),
+            are_replies,
+            gate.given_up.load(Ordering::SeqCst)
+        ),
+        (true, true, 0)
     );
     Ok(())
 }
