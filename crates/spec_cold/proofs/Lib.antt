@@ -8,3 +8,6 @@ pub mod Shown
 pub mod Phases
 pub mod Solved
 pub mod LimitCold
+pub mod Steps
+pub mod PhaseSteps
+pub mod Instance
