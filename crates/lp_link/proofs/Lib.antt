@@ -1,1 +1,3 @@
 -- Lemmas.
+pub mod Logs
+pub mod Remembered

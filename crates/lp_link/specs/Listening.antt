@@ -1,40 +1,41 @@
 -- What a listener gives and takes back.
-use Rattle.std.specs.Prelude.{ℕ, ◌≡◌, ◌<◌, ◌≤◌, ◌++◌, List, [], ◌∷◌, length, Option, Some, None, Result, Ok, Err}
+use Rattle.std.specs.Prelude.{ℕ, ◌≡◌, ◌<◌, ◌+◌, ◌-◌, ◌++◌, List, [], ◌∷◌, Option, Some, None, Result, Ok, Err}
 use Rattle.lp_base.specs.declared.outside.Failed.{Failed}
 use Rattle.lp_link.specs.LinkState.{LinkState, IsNothing}
 
--- a list that is known has these items more at its end; one that is not known stays so
-abbrev pub Grows : Option (List LinkState) → Option (List LinkState) → List LinkState → Type 0
-Grows None after more = after ≡ None
-Grows (Some list) after more = after ≡ Some (list ++ more)
+-- a link was given or came back, as it then was
+pub data LinkEvent : Type 0 where
+  Given : (link : LinkState) → LinkEvent
+  Returned : (link : LinkState) → LinkEvent
 
--- the link that is given stands behind those that were
-abbrev pub HandsOver : {L : Type 0} → (L → LinkState) → Option (List LinkState) → Option (List LinkState) →
+-- a log that is known has these events more at its end; one that is not known stays so
+abbrev pub Grows : Option (List LinkEvent) → Option (List LinkEvent) → List LinkEvent → Type 0
+Grows None after more = after ≡ None
+Grows (Some log) after more = after ≡ Some (log ++ more)
+
+-- that a link was given is the last of the log
+abbrev pub HandsOver : {L : Type 0} → (L → LinkState) → Option (List LinkEvent) → Option (List LinkEvent) →
     Result L Failed → Type 0
-HandsOver known before after (Ok link) = Grows before after (known link ∷ []) × IsNothing (known link).sink.taken
+HandsOver known before after (Ok link) = Grows before after (Given (known link) ∷ []) × IsNothing (known link).sink.taken
 HandsOver known before after (Err why) = after ≡ before
 
--- more links were given than came back
-abbrev pub HasOneOut : Option (List LinkState) → Option (List LinkState) → Type 0
-HasOneOut (Some handed) (Some returned) = length returned < length handed
-HasOneOut (Some handed) None = Unit {0}
-HasOneOut None returned = Unit {0}
+-- how many links have not come back after these events, of which so many were out before
+abbrev pub links_out : ℕ → List LinkEvent → ℕ
+links_out out [] = out
+links_out out (Given link ∷ log) = links_out (out + 1) log
+links_out out (Returned link ∷ log) = links_out (out - 1) log
 
--- as many were given as came back, or more
-abbrev pub AreNoMore : Option (List LinkState) → Option (List LinkState) → Type 0
-AreNoMore (Some returned) (Some handed) = length returned ≤ length handed
-AreNoMore (Some returned) None = Unit {0}
-AreNoMore None handed = Unit {0}
+-- a link was given that has not come back
+abbrev pub HasOneOut : Option (List LinkEvent) → Type 0
+HasOneOut None = Unit {0}
+HasOneOut (Some log) = 0 < links_out 0 log
 
--- what is known of a listener: the links that it gave and those that came back, where they are known, and how often it
--- has failed to give one
+-- what is known of a listener: which links it gave and which came back, in the order of time, where that is known, and
+-- how often it has failed to give one
 pub record ListenerState : Type 0 where
-  pub handed : Option (List LinkState)
-  pub returned : Option (List LinkState)
+  pub log : Option (List LinkEvent)
   pub accept_faults : ℕ
 
 -- by what it tells
-abbrev pub listener_of : {N : Type 0} → (N → Option (List LinkState)) → (N → Option (List LinkState)) → (N → ℕ) → N →
-    ListenerState
-listener_of handed returned faults net =
-    record { handed = handed net; returned = returned net; accept_faults = faults net }
+abbrev pub listener_of : {N : Type 0} → (N → Option (List LinkEvent)) → (N → ℕ) → N → ListenerState
+listener_of log faults net = record { log = log net; accept_faults = faults net }

@@ -1,7 +1,11 @@
 -- What the links in memory show.
-use Rattle.std.specs.Prelude.{◌≡◌, [], Some}
+use Rattle.std.specs.Prelude.{◌≡◌, List, [], Some, map}
 use Rattle.lp_base.specs.Memory.{unread, source_faults, bytes_taken, sink_faults}
 use Rattle.lp_link.specs.LinkState.{LinkState, source_of, sink_of}
+use Rattle.lp_link.specs.Listening.{LinkEvent}
+use Rattle.lp_link.specs.Listening as links
+use Rattle.lp_link.specs.declared.mem_event.MemEvent.{MemEvent}
+use Rattle.lp_link.specs.declared.mem_event.MemEvent.TheVariants.{Given, Returned}
 use Rattle.lp_link.specs.declared.mem_link.MemLink.{MemLink}
 
 -- what is known of a link in memory
@@ -14,3 +18,11 @@ mem_link_state link = record {
 -- nothing was written to it
 abbrev pub IsUnwritten : MemLink → Type 0
 IsUnwritten link = bytes_taken link.sink ≡ []
+
+-- the events that were remembered
+abbrev pub event_of : MemEvent → LinkEvent
+event_of (Given link) = links.Given (mem_link_state link.value)
+event_of (Returned link) = links.Returned (mem_link_state link.value)
+
+abbrev pub events_of : List MemEvent → List LinkEvent
+events_of log = map event_of log

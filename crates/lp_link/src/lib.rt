@@ -7,10 +7,12 @@
 //! | `MemLink` | a link in memory, which fails at the calls that are listed | src/mem_link |
 //! | `MemListen` | gives links in memory, and keeps those that come back | src/mem_listen |
 //! | `LinkState` | what is known of a link | specs/LinkState |
+//! | `LinkEvent` | that a link was given, or that it came back | specs/Listening |
 #![tactic(auto)]
 
 mod link;
 mod listen;
+mod mem_event;
 mod mem_link;
 mod mem_listen;
 

@@ -1,14 +1,15 @@
 // A listener in memory.
-ghost use Rattle.std.specs.Prelude.{◌≡◌, ◌↔◌, ◌⊎◌, ℕ, ◌+◌, ◌-◌, ◌^◌, ◌<◌, ◌≤◌, ◌++◌, List, [], ◌∷◌, All};
-ghost use Rattle.std.specs.Prelude.{length, min, map, Some, IsErr, OnErr, IfOk};
+ghost use Rattle.std.specs.Prelude.{◌≡◌, ◌↔◌, ◌⊎◌, ◌+◌, ◌*◌, ◌-◌, ◌^◌, ◌<◌, ◌≤◌, ◌++◌, [], ◌∷◌, All};
+ghost use Rattle.std.specs.Prelude.{min, Some, IsErr, OnErr, IfOk};
 ghost use Rattle.std.specs.List.{Contains};
 ghost use Rattle.std.specs.Vec.{vec_len, vec_capacity};
 ghost use Rattle.std.specs.VecDeque.{deque_len};
 ghost use Rattle.std.proofs.Props.{props};
 ghost use Rattle.lp_base.specs.Causes.{HasCause};
-ghost use Rattle.lp_link.specs.Listening.{HandsOver};
-ghost use Rattle.lp_link.specs.Memory.{mem_link_state, IsUnwritten};
+ghost use Rattle.lp_link.specs.Listening.{HandsOver, Returned, links_out};
+ghost use Rattle.lp_link.specs.Memory.{mem_link_state, events_of, IsUnwritten};
 
+use crate::mem_event::MemEvent;
 use crate::{Listen, MemLink};
 use lp_base::{Calls, Failed};
 use std::alloc::{AllocError, Global};
@@ -20,35 +21,34 @@ use std::snapshot::Snapshot;
 #[derive(Drop)]
 pub struct MemListen {
     waiting: VecDeque<MemLink>,
-    // Those that were given, as they were then.
-    given: Vec<Snapshot<MemLink>>,
+    log: Vec<MemEvent>,
     back: Vec<MemLink>,
     calls: Calls,
-    ghost few_back: { vec_len back ≤ vec_len given },
-    ghost room_to_give: { vec_len given + deque_len waiting ≤ vec_capacity given },
-    ghost room_for_back: { vec_len given + deque_len waiting ≤ vec_capacity back },
+    // Each link that waits is given and comes back, and each that is out comes back.
+    ghost room_to_log: { vec_len log + 2 * deque_len waiting + links_out 0 (events_of log.items) ≤ vec_capacity log },
+    ghost room_for_back: { vec_len back + deque_len waiting + links_out 0 (events_of log.items) ≤ vec_capacity back },
     ghost unwritten: { All IsUnwritten waiting.items } by { Prim.hlevel props },
 }
 
 impl MemListen {
-    ghost use Rattle.lp_link.specs.MemListening.{links_waiting, links_given, links_returned};
+    ghost use Rattle.lp_link.specs.MemListening.{links_waiting, links_returned, link_log};
     ghost use Rattle.lp_link.specs.MemListening.{next_accept, failing_accepts, listen_faults};
 
     /// Listens for these links, to none of which anything was written yet.
     pub fn new(alloc: Global, links: Vec<MemLink>, fails: Vec<u64>) -> Result<Self, AllocError>
         requires { All IsUnwritten links.items }
         ensures waiting { IfOk result (λ net. links_waiting net ≡ links.items) }
-        ensures given { IfOk result (λ net. links_given net ≡ []) }
         ensures back { IfOk result (λ net. links_returned net ≡ []) }
+        ensures log { IfOk result (λ net. link_log net ≡ []) }
         ensures next { IfOk result (λ net. next_accept net ≡ 1) }
         ensures fails { IfOk result (λ net. failing_accepts net ≡ fails.items) }
         ensures faults { IfOk result (λ net. listen_faults net ≡ 0) }
     {
-        let given = Vec::with_capacity(alloc, links.len())?;
         let back = Vec::with_capacity(alloc, links.len())?;
+        let log = Vec::with_capacity(alloc, links.len().saturating_mul(2))?;
         Ok(MemListen {
             waiting: VecDeque::from(links),
-            given,
+            log,
             back,
             calls: Calls::new(fails),
         })
@@ -63,21 +63,17 @@ impl MemListen {
 }
 
 impl Listen for MemListen {
-    ghost use Rattle.lp_link.specs.MemListening.{few_by_lengths, links_waiting, links_given, links_returned};
+    ghost use Rattle.lp_link.specs.MemListening.{links_waiting, links_returned, link_log};
     ghost use Rattle.lp_link.specs.MemListening.{next_accept, failing_accepts, listen_faults};
 
     type Link = MemLink;
 
-    ghost handed = { λ net. Some (links_given net) };
-
-    ghost returned = { λ net. Some (map mem_link_state (links_returned net)) };
+    ghost log = { λ net. Some (link_log net) };
 
     ghost accept_faults = { listen_faults };
 
-    ghost few_back = { few_by_lengths };
-
     fn accept(&mut self) -> Result<MemLink, Failed>
-        ensures handed { HandsOver mem_link_state (Some (links_given self.old)) (Some (links_given self.new)) result }
+        ensures log { HandsOver mem_link_state (Some (link_log self.old)) (Some (link_log self.new)) result }
         ensures cause { HasCause (listen_faults self.old) (listen_faults self.new) result }
         ensures listed { IsErr result
             ↔ (Contains (failing_accepts self.old) (next_accept self.old) ⊎ (links_waiting self.old ≡ [])) }
@@ -91,19 +87,21 @@ impl Listen for MemListen {
         let Some(link) = self.waiting.pop_front() else {
             return Err(self.calls.fail());
         };
-        self.given.push_reserved(Snapshot::of(&link));
+        self.log.push_reserved(MemEvent::Given(Snapshot::of(&link)));
         Ok(link)
     }
 
     fn give_back(&mut self, link: MemLink)
-        requires { length (links_returned self.old) < length (links_given self.old) }
+        requires { 0 < links_out 0 (link_log self.old) }
+        ensures log { link_log self.new ≡ link_log self.old ++ Returned (mem_link_state link) ∷ [] }
         ensures back { links_returned self.new ≡ links_returned self.old ++ link ∷ [] }
         ensures waiting { links_waiting self.new ≡ links_waiting self.old }
-        ensures given { links_given self.new ≡ links_given self.old }
         ensures next { next_accept self.new ≡ next_accept self.old }
         ensures fails { failing_accepts self.new ≡ failing_accepts self.old }
         ensures faults { listen_faults self.new ≡ listen_faults self.old }
     {
+        self.log
+            .push_reserved(MemEvent::Returned(Snapshot::of(&link)));
         self.back.push_reserved(link);
     }
 }

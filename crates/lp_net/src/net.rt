@@ -43,13 +43,9 @@ fn is_passing(kind: ErrorKind) -> bool {
 impl<'a> Listen for TcpNet<'a> {
     type Link = TcpLink;
 
-    ghost handed = { λ _. None };
-
-    ghost returned = { λ _. None };
+    ghost log = { λ _. None };
 
     ghost accept_faults = { λ net. net.faults };
-
-    ghost few_back = { λ _. tt };
 
     fn accept(&mut self) -> Result<TcpLink, Failed> {
         if let Some(socket) = self.socket {

@@ -1,10 +1,10 @@
 -- The turn of a worker, link by link.
-use Rattle.std.proofs.Common.{◌≡◌, ℕ, ◌+◌, ◌<◌, ◌≤◌, List, [], ◌∷◌, ◌++◌, length, map, true, false, Option, Some}
-use Rattle.std.proofs.Common.{None}
-use Rattle.std.proofs.Common.{refl, sym, ap, ◌∙◌, subst, inl, inr, arith, append-nil, length-append}
+use Rattle.std.proofs.Common.{◌≡◌, ℕ, ◌+◌, ◌<◌, ◌≤◌, List, [], ◌∷◌, ◌++◌, length, map, true, false}
+use Rattle.std.proofs.Common.{refl, sym, ap, ◌∙◌, subst, inl, inr, arith, length-append}
 use Rattle.std.specs.Prelude.{vec_capacity}
-use Rattle.std.specs.List.{All}
-use Rattle.std.proofs.lemmas.List.{append_assoc, map-append}
+use Rattle.std.specs.List.{All, flat_map}
+use Rattle.std.proofs.lemmas.Grind.{flat_map-append}
+use Rattle.std.proofs.lemmas.List.{map-append}
 use Rattle.std.proofs.lemmas.List.Elements.{All-push, All-nil}
 use Rattle.spec_server.specs.Streams.{streams}
 use Rattle.spec_serve.specs.declared.link_end.LinkEnd.{LinkEnd}
@@ -15,43 +15,16 @@ use Rattle.basis_board.specs.Known.{Known}
 use Rattle.basis_board.specs.Rule.{Consistent}
 use Rattle.lp_base.specs.Causes.{Rose}
 use Rattle.lp_link.specs.LinkState.{LinkState, IsNothing}
-use Rattle.lp_link.specs.Listening.{ListenerState, Grows, HasOneOut, AreNoMore}
+use Rattle.lp_link.specs.Listening.{ListenerState, Given, Returned, Grows}
+use Rattle.lp_link.proofs.Logs.{grows_none, grows_more}
 use Rattle.spec_serve.specs.Link.{ServesLink}
 use Rattle.lp_serve.specs.Service.{ServesBy}
-use Rattle.lp_serve.specs.Serving.{Served, IsServed, streams_of}
+use Rattle.lp_serve.specs.Serving.{Served, IsServed, streams_of, events_of}
 use Rattle.lp_serve.specs.Workers.{IsReady, LinkSteps, HasServed}
 use Rattle.lp_serve.specs.declared.worker.Worker.{Worker}
 use Rattle.lp_session.specs.Boarding.{NotesOn}
 use Rattle.lp_serve.proofs.Noting.{none_noted, noted_on}
 use Rattle.lp_serve.proofs.LinkRuns.{links_places, links_more}
-
--- ---- what grows
-
-grows_none : (known : Option (List LinkState)) → Grows known known []
-grows_none None = refl
-grows_none (Some list) = ap Some (sym (append-nil list))
-
-grows_more : (a b c : Option (List LinkState)) (xs ys : List LinkState) → Grows a b xs → Grows b c ys →
-    Grows a c (xs ++ ys)
-grows_more None None c xs ys first second = second
-grows_more None (Some b) c xs ys first second = cc
-grows_more (Some a) b c xs ys first second = by (subst (λ known. Grows known c ys) first second)
-  where
-    by : c ≡ Some ((a ++ xs) ++ ys) → c ≡ Some (a ++ (xs ++ ys))
-    by e = e ∙ ap Some (append_assoc a xs ys)
-
--- a link that was just given has not come back
-pub one_out : (handed now returned : Option (List LinkState)) (x : LinkState) → AreNoMore returned handed →
-    Grows handed now (x ∷ []) → HasOneOut now returned
-one_out handed None returned x few grows = none returned
-  where
-    none : (returned : Option (List LinkState)) → HasOneOut None returned
-    none returned = tt
-one_out None (Some now) returned x few grows = cc
-one_out (Some handed) (Some now) None x few grows = tt
-one_out (Some handed) (Some now) (Some returned) x few grows =
-    subst (λ known. HasOneOut known (Some returned)) (sym grows)
-    (omega (arith, few, length-append handed (x ∷ [])))
 
 module _ {N : Type 0} (state : N → ListenerState) (board : Board) (each : ℕ) (begun : Worker N) where
   -- so many links were served, and none was wanting
@@ -61,8 +34,7 @@ module _ {N : Type 0} (state : N → ListenerState) (board : Board) (each : ℕ)
     pub share : now.pass.view.share ≡ begun.pass.view.share
     pub consistent : Consistent now.pass.view
     pub places : now.pass.view.places ≡ board.places
-    pub handed : Grows (state begun.net).handed (state now.net).handed (map (λ (x : Served). x.given) links)
-    pub returned : Grows (state begun.net).returned (state now.net).returned (map (λ (x : Served). x.back) links)
+    pub log : Grows (state begun.net).log (state now.net).log (flat_map events_of links)
     pub served : All (IsServed board.places) links
     pub many : length links ≡ index
     pub ends : now.ends.items ≡ map (λ (x : Served). x.ended) links
@@ -79,8 +51,7 @@ module _ {N : Type 0} (state : N → ListenerState) (board : Board) (each : ℕ)
     share = refl;
     consistent = ready.consistent;
     places = ready.places;
-    handed = grows_none (state begun.net).handed;
-    returned = grows_none (state begun.net).returned;
+    log = grows_none (state begun.net).log;
     served = All-nil (IsServed board.places);
     many = refl;
     ends = ready.none;
@@ -99,8 +70,7 @@ module _ {N : Type 0} (state : N → ListenerState) (board : Board) (each : ℕ)
       share = so.share;
       consistent = so.consistent;
       listened = record {
-        handed = so.handed;
-        returned = so.returned;
+        log = so.log;
         served = so.served;
         few = omega (arith, so.many);
         all = inl so.many;
@@ -117,11 +87,10 @@ module _ {N : Type 0} (state : N → ListenerState) (board : Board) (each : ℕ)
   module _ (index : ℕ) (now : Worker N) (so : Turning index now) (next : Worker N) (within : index < each) where
     -- the listener has failed
     pub turn_fails : next.pass ≡ now.pass → next.ends ≡ now.ends →
-        (state next.net).handed ≡ (state now.net).handed → (state next.net).returned ≡ (state now.net).returned →
-        (state now.net).accept_faults ≤ (state next.net).accept_faults →
+        (state next.net).log ≡ (state now.net).log → (state now.net).accept_faults ≤ (state next.net).accept_faults →
         Rose (state now.net).accept_faults (state next.net).accept_faults → next.has_failed ≡ true →
         HasServed state board each begun next
-    turn_fails pass ends handed returned later rose failed =
+    turn_fails pass ends log later rose failed =
         let risen : Rose (state begun.net).accept_faults (state next.net).accept_faults =
         omega (arith, so.later, rose) in record {
           links = so.links;
@@ -130,11 +99,7 @@ module _ {N : Type 0} (state : N → ListenerState) (board : Board) (each : ℕ)
             share = ap (λ (k : Known). k.view.share) pass ∙ so.share;
             consistent = subst (λ (k : Known). Consistent k.view) (sym pass) so.consistent;
             listened = record {
-              handed = subst (λ known. Grows (state begun.net).handed known (map (λ (x : Served). x.given) so.links))
-                  (sym handed) so.handed;
-              returned = subst
-                  (λ known. Grows (state begun.net).returned known (map (λ (x : Served). x.back) so.links))
-                  (sym returned) so.returned;
+              log = subst (λ known. Grows (state begun.net).log known (flat_map events_of so.links)) (sym log) so.log;
               served = so.served;
               few = omega (arith, so.many, within);
               all = inr risen;
@@ -163,15 +128,13 @@ module _ {N : Type 0} (state : N → ListenerState) (board : Board) (each : ℕ)
           (ended ≡ end.Write → Rose given.sink.write_faults back.sink.write_faults) →
           next.pass.board ≡ now.pass.board → next.pass.view.share ≡ now.pass.view.share →
           (Consistent now.pass.view → Consistent next.pass.view) → NotesOn now.pass next.pass →
-          Grows (state now.net).handed (state met).handed (given ∷ []) →
-          (state met).returned ≡ (state now.net).returned →
+          Grows (state now.net).log (state met).log (Given given ∷ []) →
           (state now.net).accept_faults ≤ (state met).accept_faults →
-          (state next.net).handed ≡ (state met).handed →
-          Grows (state met).returned (state next.net).returned (back ∷ []) →
+          Grows (state met).log (state next.net).log (Returned back ∷ []) →
           (state next.net).accept_faults ≡ (state met).accept_faults →
           next.ends.items ≡ now.ends.items ++ ended ∷ [] → each ≤ vec_capacity next.ends →
           next.has_failed ≡ now.has_failed → Turning (index + 1) next
-      turn_more fresh read write of_board share consistent notes gives kept later handed takes faults ends room well =
+      turn_more fresh read write of_board share consistent notes gives later takes faults ends room well =
           record {
             links = links_now;
             of_board = of_board ∙ so.of_board;
@@ -179,17 +142,12 @@ module _ {N : Type 0} (state : N → ListenerState) (board : Board) (each : ℕ)
             consistent = consistent so.consistent;
             places = links_places begun.pass.view links_now next.pass.view steps
                 ∙ sym (links_places begun.pass.view so.links now.pass.view so.steps) ∙ so.places;
-            handed = subst (λ known. Grows (state begun.net).handed known (map (λ (x : Served). x.given) links_now))
-                (sym handed)
-                (subst (Grows (state begun.net).handed (state met).handed)
-                (sym (map-append (λ (x : Served). x.given) so.links (one ∷ [])))
-                (grows_more (state begun.net).handed (state now.net).handed (state met).handed
-                (map (λ (x : Served). x.given) so.links) (given ∷ []) so.handed gives));
-            returned = subst (Grows (state begun.net).returned (state next.net).returned)
-                (sym (map-append (λ (x : Served). x.back) so.links (one ∷ [])))
-                (grows_more (state begun.net).returned (state now.net).returned (state next.net).returned
-                (map (λ (x : Served). x.back) so.links) (back ∷ []) so.returned
-                (subst (λ known. Grows known (state next.net).returned (back ∷ [])) kept takes));
+            log = subst (Grows (state begun.net).log (state next.net).log)
+                (sym (flat_map-append events_of so.links (one ∷ [])))
+                (grows_more (state begun.net).log (state now.net).log (state next.net).log
+                (flat_map events_of so.links) (events_of one) so.log
+                (grows_more (state now.net).log (state met).log (state next.net).log
+                (Given given ∷ []) (Returned back ∷ []) gives takes));
             served = All-push (IsServed board.places) so.links one so.served (record {
               fresh = fresh;
               serves = subst (λ places. ServesLink places (streams_of one) serves.exchanges ended) so.places

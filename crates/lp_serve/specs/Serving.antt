@@ -1,7 +1,8 @@
 -- What a server does with the links of its listeners, each of which is served by a worker of its own.
-use Rattle.std.specs.Prelude.{ℕ, ◌≡◌, ◌≤◌, ◌<◌, ◌⊎◌, List, [], All, length, map, slice_index_or}
+use Rattle.std.specs.Prelude.{ℕ, ◌≡◌, ◌≤◌, ◌<◌, ◌⊎◌, List, [], ◌∷◌, All, length, map, slice_index_or}
 use Rattle.std.specs.Prelude.{Option, None, Result, Ok, Err, Bool, true, false}
 use Rattle.std.specs.Io.KnownBytes.{Appends}
+use Rattle.std.specs.List.{flat_map}
 use Rattle.spec_server.specs.Exchanges.{Exchange}
 use Rattle.spec_server.specs.Streams.{Streams, streams}
 use Rattle.spec_serve.specs.declared.link_end.LinkEnd.{LinkEnd}
@@ -12,7 +13,7 @@ use Rattle.spec_serve.specs.Links.{RunsOver}
 use Rattle.lp_base.specs.Beside.{Takes}
 use Rattle.lp_base.specs.Causes.{Rose}
 use Rattle.lp_link.specs.LinkState.{LinkState, IsNothing}
-use Rattle.lp_link.specs.Listening.{Grows, ListenerState}
+use Rattle.lp_link.specs.Listening.{Grows, LinkEvent, Given, Returned, ListenerState}
 use Rattle.lp_serve.specs.declared.fault.ServeFault.{ServeFault}
 use Rattle.lp_serve.specs.declared.fault.ServeFault.TheVariants as fault
 
@@ -37,10 +38,13 @@ pub record IsServed (places : ℕ) (x : Served) : Type 0 where
 
 -- ---- one listener
 
--- It gave these links and they came back, one after the other: so many, or fewer where it has failed.
+-- it was given, and it came back
+abbrev pub events_of : Served → List LinkEvent
+events_of x = Given x.given ∷ Returned x.back ∷ []
+
+-- It gave these links, and took each back before it gave the next: so many, or fewer where it has failed.
 pub record Listened (places each : ℕ) (old new : ListenerState) (links : List Served) : Type 0 where
-  pub handed : Grows old.handed new.handed (map (λ (x : Served). x.given) links)
-  pub returned : Grows old.returned new.returned (map (λ (x : Served). x.back) links)
+  pub log : Grows old.log new.log (flat_map events_of links)
   pub served : All (IsServed places) links
   pub few : length links ≤ each
   pub all : (length links ≡ each) ⊎ Rose old.accept_faults new.accept_faults
@@ -56,7 +60,7 @@ exchanges_of served = map (λ links. map (λ (x : Served). x.exchanges) links) s
 
 -- a state for one that is not there
 abbrev pub no_listener : ListenerState
-no_listener = record { handed = None; returned = None; accept_faults = 0 }
+no_listener = record { log = None; accept_faults = 0 }
 
 -- some listener has failed
 abbrev pub SomeFailed : List ListenerState → List ListenerState → Type 0

@@ -9,7 +9,7 @@
 //! | `IsReady`, `HasServed` | a worker before its turn and after it | specs/Workers |
 //! | `IsFree`, `Met` | passes as they are given to workers, and as they come together again | specs/Gathering |
 //! | `Steps`, `ServesBy` | the steps of a link's session, by the calls of a pass | specs/Service |
-//! | `Served`, `Serves` | links as they were given and came back, and what a server does with them | specs/Serving |
+//! | `Served`, `Listened`, `Serves` | links as they were given and came back, one after the other, and what a server does | specs/Serving |
 #![tactic(auto)]
 
 mod ends;

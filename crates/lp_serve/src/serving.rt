@@ -32,7 +32,7 @@ where
     N::Link: Send,
     requires { All (IsReady board.now each) workers.old }
     ensures { (i : ℕ) (d : exact_worker N) → i < length workers.old →
-        HasServed (listener_of N.handed N.returned N.accept_faults) board.now each
+        HasServed (listener_of N.log N.accept_faults) board.now each
         (slice_index_or workers.old i d) (slice_index_or workers.new i d) }
 {
     if workers.is_empty() {
@@ -60,7 +60,7 @@ where
     requires { All (IsReady board.now each) workers.old.items }
     ensures many { length workers.new.items ≡ length workers.old.items }
     ensures served { (i : ℕ) (d : exact_worker N) → i < length workers.old.items →
-        HasServed (listener_of N.handed N.returned N.accept_faults) board.now each
+        HasServed (listener_of N.log N.accept_faults) board.now each
         (slice_index_or workers.old.items i d) (slice_index_or workers.new.items i d) }
     ensures passes { All (IsOf board.now) (passes_of workers.new.items) }
 {
@@ -107,8 +107,8 @@ where
     requires places { (1 ≤ places) × (places ≤ 1024) }
     ensures len { vec_len nets.new ≡ vec_len nets.old }
     ensures serves { Serves places each
-        (map (listener_of N.handed N.returned N.accept_faults) nets.old.items)
-        (map (listener_of N.handed N.returned N.accept_faults) nets.new.items)
+        (map (listener_of N.log N.accept_faults) nets.old.items)
+        (map (listener_of N.log N.accept_faults) nets.new.items)
         (K.taken out.old) (K.taken out.new) result }
     ensures write { IsErrOf result ServeFault.Write → Rose (K.write_faults out.old) (K.write_faults out.new) }
 {

@@ -23,7 +23,7 @@ impl<N: Listen> Worker<N> {
     /// Serves so many links, one after the other, and gives each back when it has ended. It stops where none is given.
     pub(crate) fn turn(&mut self, alloc: Global, board: &Board, each: u32)
         requires { IsReady board.now each self.old }
-        ensures { HasServed (listener_of N.handed N.returned N.accept_faults) board.now each self.old self.new }
+        ensures { HasServed (listener_of N.log N.accept_faults) board.now each self.old self.new }
     {
         for index in 0..each {
             let Ok(mut link) = self.net.accept() else {

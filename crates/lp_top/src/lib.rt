@@ -66,13 +66,13 @@ where
     ensures output { Does (command_line_of (map string_bytes words.now))
         (streams (S.left src.old) (S.left src.new) (K.taken out.old) (K.taken out.new)) result.code }
 
-    // Of a server, each listener's links came back in the order in which they were given, so many unless the listener
-    // failed; to each was written what its session replies, as if it were alone with what it reads of the places, to
-    // what the link asks; and how they ended was written to the sink. No other command uses a listener.
+    // Of a server, each listener's links were given and came back one after the other, each before the next was given: so
+    // many, unless the listener failed. To each was written what its session replies, as if it were alone with what it
+    // reads of the places, to what the link asks. How they ended was written to the sink. No other command uses a listener.
     ensures links { DoesOver (command_line_of (map string_bytes words.now))
         (streams (S.left src.old) (S.left src.new) (K.taken out.old) (K.taken out.new))
-        (map (listener_of N.handed N.returned N.accept_faults) nets.old.items)
-        (map (listener_of N.handed N.returned N.accept_faults) nets.new.items) result.code }
+        (map (listener_of N.log N.accept_faults) nets.old.items)
+        (map (listener_of N.log N.accept_faults) nets.new.items) result.code }
     ensures nets { vec_len nets.new ≡ vec_len nets.old }
 
     ensures codes { IsStatus (command_line_of (map string_bytes words.now)) result.code }
@@ -84,8 +84,8 @@ where
     ensures read { result.code ≡ 3 → Rose (S.read_faults src.old) (S.read_faults src.new) }
     ensures write { result.code ≡ 4 → Rose (K.write_faults out.old) (K.write_faults out.new) }
     ensures accept { result.code ≡ 7 → SomeFailed
-        (map (listener_of N.handed N.returned N.accept_faults) nets.old.items)
-        (map (listener_of N.handed N.returned N.accept_faults) nets.new.items) }
+        (map (listener_of N.log N.accept_faults) nets.old.items)
+        (map (listener_of N.log N.accept_faults) nets.new.items) }
 {
     match command_line_of(words) {
         None => ExitStatus::BAD_COMMAND_LINE,
@@ -111,15 +111,15 @@ where
         (streams (S.left src.old) (S.left src.new) (K.taken out.old) (K.taken out.new)) result.code }
     ensures links { DoesOver (Some command)
         (streams (S.left src.old) (S.left src.new) (K.taken out.old) (K.taken out.new))
-        (map (listener_of N.handed N.returned N.accept_faults) nets.old.items)
-        (map (listener_of N.handed N.returned N.accept_faults) nets.new.items) result.code }
+        (map (listener_of N.log N.accept_faults) nets.old.items)
+        (map (listener_of N.log N.accept_faults) nets.new.items) result.code }
     ensures nets { vec_len nets.new ≡ vec_len nets.old }
     ensures codes { IsStatus (Some command) result.code }
     ensures read { result.code ≡ 3 → Rose (S.read_faults src.old) (S.read_faults src.new) }
     ensures write { result.code ≡ 4 → Rose (K.write_faults out.old) (K.write_faults out.new) }
     ensures accept { result.code ≡ 7 → SomeFailed
-        (map (listener_of N.handed N.returned N.accept_faults) nets.old.items)
-        (map (listener_of N.handed N.returned N.accept_faults) nets.new.items) }
+        (map (listener_of N.log N.accept_faults) nets.old.items)
+        (map (listener_of N.log N.accept_faults) nets.new.items) }
 {
     match command {
         CommandLine::Run { workers, places } => {

@@ -46,7 +46,7 @@ returns-in_err-workers-clause-write g c = λ e.
 pub returns-in_err-workers-clause-serves : goal.returns-in_err-workers-clause-serves
 returns-in_err-workers-clause-serves g c =
     unserved _ _ _ _ _ c.from_residual-in_err-workers.result c.from_residual-in_err-workers.ensures.1
-    (ap (λ v. map (listener_of g.N.Listen.handed g.N.Listen.returned g.N.Listen.accept_faults) v.items)
+    (ap (λ v. map (listener_of g.N.Listen.log g.N.Listen.accept_faults) v.items)
     c.in_err-workers.ensures.kept)
 
 pub desks-requires-clause-board : goal.desks-requires-clause-board
@@ -86,7 +86,7 @@ returns-clause-len g c =
 
 pub returns-clause-serves : goal.returns-clause-serves
 returns-clause-serves g c =
-    let state = listener_of g.N.Listen.handed g.N.Listen.returned g.N.Listen.accept_faults in
+    let state = listener_of g.N.Listen.log g.N.Listen.accept_faults in
     let board = c.in_ok-board.board in
     let old = c.in_ok-workers.workers.items in
     let made = c.in_ok-board.ensures in

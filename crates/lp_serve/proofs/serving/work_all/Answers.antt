@@ -12,7 +12,7 @@ work-requires-after_bounds g c = λ lives bounds.
 
 pub returns : goal.returns
 returns g c =
-    let state = listener_of g.N.Listen.handed g.N.Listen.returned g.N.Listen.accept_faults in
+    let state = listener_of g.N.Listen.log g.N.Listen.accept_faults in
     let board = c.args.board.now in
     let hired = c.args.workers.now in
     let old = hired.items in

@@ -1,22 +1,22 @@
 -- One more link is served.
-use Rattle.std.proofs.Common.{length, ap, sym, subst, arith, refl}
+use Rattle.std.proofs.Common.{length, ap, arith, refl}
 use Rattle.std.proofs.lemmas.List.{length-map}
 use Rattle.lp_link.specs.LinkState.{state_of}
-use Rattle.lp_link.specs.Listening.{listener_of, AreNoMore}
+use Rattle.lp_link.specs.Listening.{listener_of}
+use Rattle.lp_link.proofs.Logs.{one_out}
 use Rattle.lp_serve.specs.Serving.{Served}
-use Rattle.lp_serve.proofs.Turning.{turn_begins, turn_more, turn_fails, one_out}
+use Rattle.lp_serve.proofs.Turning.{turn_begins, turn_more, turn_fails}
 use Rattle.lp_serve.proofs.worker.Worker.turn.Goals as goal
 
 pub returns-in_default : goal.returns-in_default
 returns-in_default g c =
-    turn_fails (listener_of g.N.Listen.handed g.N.Listen.returned g.N.Listen.accept_faults) c.args.board.now c.args.each
+    turn_fails (listener_of g.N.Listen.log g.N.Listen.accept_faults) c.args.board.now c.args.each
     c.args.self.now c.loop-index.index c.loop-index.self c.loop-index.invariant _ c.loop-index-test.true refl refl
-    c.in_default.ensures.handed c.in_default.ensures.returned c.in_default.ensures.cause.later
-    c.in_default.ensures.cause.failed refl
+    c.in_default.ensures.log c.in_default.ensures.cause.later c.in_default.ensures.cause.failed refl
 
 pub loop-index-init : goal.loop-index-init
 loop-index-init g c =
-    turn_begins (listener_of g.N.Listen.handed g.N.Listen.returned g.N.Listen.accept_faults) c.args.board.now
+    turn_begins (listener_of g.N.Listen.log g.N.Listen.accept_faults) c.args.board.now
     c.args.each c.args.self.now c.requires
 
 pub serve_link-end-requires : goal.serve_link-end-requires
@@ -28,10 +28,7 @@ give_back-requires g c =
     let now = c.accept.new.self in
     let known = state_of g.N.Link.Source.left g.N.Link.Source.read_faults g.N.Link.Sink.taken
     g.N.Link.Sink.write_faults in
-    one_out (g.N.Listen.handed net) (g.N.Listen.handed now) (g.N.Listen.returned now) (known c.in-Ok.link)
-    (subst (λ returned. AreNoMore returned (g.N.Listen.handed net)) (sym c.in-Ok.ensures.returned)
-    (g.N.Listen.few_back net))
-    c.in-Ok.ensures.handed.0
+    one_out (g.N.Listen.log net) (g.N.Listen.log now) (known c.in-Ok.link) c.in-Ok.ensures.log.0
 
 pub push_reserved-requires : goal.push_reserved-requires
 push_reserved-requires g c =
@@ -53,10 +50,10 @@ loop-index-preserved g c =
     let served = c.serve_link-end.ensures in
     let known = state_of g.N.Link.Source.left g.N.Link.Source.read_faults g.N.Link.Sink.taken
     g.N.Link.Sink.write_faults in
-    turn_more (listener_of g.N.Listen.handed g.N.Listen.returned g.N.Listen.accept_faults) c.args.board.now c.args.each
+    turn_more (listener_of g.N.Listen.log g.N.Listen.accept_faults) c.args.board.now c.args.each
     c.args.self.now c.loop-index.index c.loop-index.self so _ c.loop-index-test.true c.accept.new.self
     (known c.in-Ok.link) (known c.serve_link-end.new.link) c.serve_link-end.result served.serves
-    c.in-Ok.ensures.handed.1 served.read.1 served.write.1 served.board served.share served.consistent served.notes
-    c.in-Ok.ensures.handed.0 c.in-Ok.ensures.returned c.in-Ok.ensures.cause.later c.give_back.ensures.handed
-    c.give_back.ensures.returned c.give_back.ensures.faults c.push_reserved.ensures.items
+    c.in-Ok.ensures.log.1 served.read.1 served.write.1 served.board served.share served.consistent served.notes
+    c.in-Ok.ensures.log.0 c.in-Ok.ensures.cause.later c.give_back.ensures.log c.give_back.ensures.faults
+    c.push_reserved.ensures.items
     (omega (arith, so.room, c.push_reserved.ensures.capacity)) refl

@@ -5,5 +5,4 @@ use Rattle.lp_serve.proofs.worker.Worker.turn.Given as goal
 
 abbrev pub invariant-loop-index : goal.invariant-loop-index
 invariant-loop-index g l =
-    Turning (listener_of g.N.Listen.handed g.N.Listen.returned g.N.Listen.accept_faults) l.board l.each l.fn.self
-    l.index l.self
+    Turning (listener_of g.N.Listen.log g.N.Listen.accept_faults) l.board l.each l.fn.self l.index l.self

@@ -1,0 +1,10 @@
+// What a listener in memory remembers.
+use crate::MemLink;
+use std::snapshot::Snapshot;
+
+/// A link was given or came back, as it was then.
+#[derive(Drop)]
+pub(crate) enum MemEvent {
+    Given(Snapshot<MemLink>),
+    Returned(Snapshot<MemLink>),
+}
