@@ -10,6 +10,8 @@ It starts 'PROGRAM WORD .. serve' some times, each time for as many links as it 
 - a bad peer (one that closes within a line, a body or a reply, sends too much or no text, never reads, or resets) ends
   its own link alone: another link is served meanwhile, a later one finds the same basis, and the server goes on;
 - at its end the server writes how each link ended, and another one can listen at the same address at once;
+- as each link ends, it says so in a line on standard error, with the same word, the link's peer and what it took;
+- a server whose standard error takes nothing serves as another does;
 - where it cannot listen or accept, where its words are no command line, and where its output cannot be written, its status
   says so.
 
@@ -17,6 +19,7 @@ It prints what is wrong, and its status is 1 where something is. It takes some s
 """
 from __future__ import annotations
 
+import os
 import resource
 import re
 import select
@@ -26,8 +29,9 @@ import struct
 import subprocess
 import sys
 import tempfile
+import time
 from types import TracebackType
-from typing import Callable, Iterator, List, NoReturn, Optional, Set, Tuple, Type
+from typing import Callable, Iterator, List, NamedTuple, NoReturn, Optional, Set, Tuple, Type
 
 from check_talk import MODEL, SESSION
 from talk import Ended, Link
@@ -40,6 +44,11 @@ STILL = 0.3
 # The most bytes of one link that are read.
 MOST = 2**26
 LISTENING = re.compile(rf"lpd: listening on {re.escape(HOST)}:(\d+)\n")
+# What a server says when a link has ended.
+LINK = re.compile(
+    r"time=\d{4}-\d\d-\d\dT\d\d:\d\d:\d\d\.\d{3}Z worker=(\d+) link=(\d+) "
+    rf"peer={re.escape(HOST)}:(\d+) word=([A-Z]+) commands=(\d+) in=(\d+) out=(\d+) seconds=(\d+\.\d{{3}})\n"
+)
 LOAD = b"LOAD FREE\n" + MODEL.encode()
 LOADED, SOLVED = b"LOADED 1 1\n", b"OPTIMAL 6\n"
 TEXT = b"TEXT 10\nNAME talk\nROWS\n N cost\n G R1\nCOLUMNS\n x cost 2\n x R1 1\nRHS\n RHS R1 3\nENDATA\n"
@@ -54,13 +63,27 @@ class Wrong(Exception):
     """What is wrong."""
 
 
+class Said(NamedTuple):
+    """What a server says of a link that has ended."""
+
+    worker: int
+    link: int
+    port: int
+    word: str
+    commands: int
+    read: int
+    written: int
+    seconds: float
+
+
 class Server:
     """A program that serves. As a context manager it ends the program."""
 
     def __init__(self, command: List[str], workers: int, each: int, port: int = 0, output: Optional[str] = None) -> None:
         self.output = open(output, "wb") if output else tempfile.TemporaryFile()
+        self.errors = tempfile.TemporaryFile()
         words = [*command, "serve", f"{HOST}:{port}", "--workers", str(workers), "--each", str(each)]
-        self.program = subprocess.Popen(words, bufsize=0, stdout=self.output, stderr=subprocess.PIPE)
+        self.program = subprocess.Popen(words, bufsize=0, stdout=self.output, stderr=self.errors)
         try:
             self.port = self.port_said()
         except Wrong:
@@ -68,19 +91,30 @@ class Server:
             raise
 
     def port_said(self) -> int:
-        assert self.program.stderr is not None
-        ready, _, _ = select.select([self.program.stderr], [], [], SECONDS)
-        line = self.program.stderr.readline().decode("latin-1") if ready else ""
-        found = LISTENING.fullmatch(line)
+        end, said = time.monotonic() + SECONDS, ""
+        while "\n" not in said and self.program.poll() is None and time.monotonic() < end:
+            time.sleep(0.01)
+            said = self.said()
+        found = LISTENING.match(said)
         if not found:
-            raise Wrong(f"the server says {line!r}, and not where it listens")
+            raise Wrong(f"the server says {said!r}, and not where it listens")
         return int(found[1])
+
+    def said(self) -> str:
+        """What it has written on standard error so far."""
+        return os.pread(self.errors.fileno(), os.fstat(self.errors.fileno()).st_size, 0).decode("latin-1")
+
+    def links(self) -> List[Said]:
+        """What it has said of its links, in the order of their ends."""
+        lines = LINK.findall(self.said())
+        return [Said(int(w), int(n), int(p), word, int(c), int(i), int(o), float(s)) for w, n, p, word, c, i, o, s in lines]
 
     def __enter__(self) -> Server:
         return self
 
     def __exit__(self, kind: Optional[Type[BaseException]], error: Optional[BaseException], trace: Optional[TracebackType]) -> None:
         self.output.close()
+        self.errors.close()
         if self.program.poll() is None:
             self.program.kill()
             self.program.wait()
@@ -89,16 +123,19 @@ class Server:
         return Link(HOST, self.port, SECONDS)
 
     def end(self) -> Tuple[int, str, str]:
-        """Its status, and what it wrote, when it has ended."""
+        """Its status, what it wrote, and what else it said than where it listens and how links ended, when it has ended."""
         try:
-            _, told = self.program.communicate(timeout=SECONDS)
+            self.program.wait(SECONDS)
         except subprocess.TimeoutExpired:
             raise Wrong("the server does not end after its links") from None
         written = b""
         if self.output.readable():
             self.output.seek(0)
             written = self.output.read()
-        return self.program.returncode, written.decode("latin-1"), told.decode("latin-1")
+        lines = written.decode("latin-1")
+        if self.output.readable():
+            expect("the words that are said of links", "".join(f"{s.worker} {s.link} {s.word}\n" for s in sorted(self.links())), lines)
+        return self.program.returncode, lines, LINK.sub("", LISTENING.sub("", self.said()))
 
 
 def expect(what: str, got: object, *wanted: object) -> None:
@@ -117,6 +154,17 @@ def ask(link: Link, *pairs: Tuple[bytes, bytes]) -> None:
         expect(command.split(b"\n", 1)[0].decode("latin-1")[:40], link.ask(command), reply)
 
 
+def port_of(link: Link) -> int:
+    return int(link.socket.getsockname()[1])
+
+
+def is_said(server: Server, port: int, *pairs: Tuple[bytes, bytes]) -> None:
+    """The server has said of the link from this port that it had these commands and replies."""
+    said = [(s.word, s.commands, s.read, s.written) for s in server.links() if s.port == port]
+    wanted = ("DONE", len(pairs), sum(len(command) for command, _ in pairs), sum(len(reply) for _, reply in pairs))
+    expect("what is said of a link", said, [wanted])
+
+
 def ends(link: Link) -> None:
     """No more comes."""
     expect("the end of a link", link.line(), b"")
@@ -127,28 +175,35 @@ def ends(link: Link) -> None:
 
 def check_workers(command: List[str]) -> None:
     """The second link is loaded before the first is solved, and solved after that."""
+    load, cold, bye = (LOAD, LOADED), [(b"SOLVE\n", SOLVED), (b"HOW\n", COLD)], (b"QUIT\n", b"BYE\n")
+    warm = [(b"SOLVE\n", SOLVED), (b"HOW\n", WARM)]
     with Server(command, 2, 1) as server:
         with server.link() as one, server.link() as other:
-            ask(one, (LOAD, LOADED))
-            ask(other, (LOAD, LOADED))
-            ask(one, (b"SOLVE\n", SOLVED), (b"HOW\n", COLD))
-            ask(other, (b"SOLVE\n", SOLVED), (b"HOW\n", WARM), (b"QUIT\n", b"BYE\n"))
+            ports = port_of(one), port_of(other)
+            ask(one, load)
+            ask(other, load)
+            ask(one, *cold)
+            ask(other, *warm, bye)
             ends(other)
-            ask(one, (b"SOLVE\n", SOLVED), (b"HOW\n", WARM), (b"WRITE FREE\n", TEXT), (b"QUIT\n", b"BYE\n"))
+            ask(one, *warm, (b"WRITE FREE\n", TEXT), bye)
             ends(one)
         expect("the server's end", server.end(), (0, "1 1 DONE\n2 1 DONE\n", ""))
+        is_said(server, ports[0], load, *cold, *warm, (b"WRITE FREE\n", TEXT), bye)
+        is_said(server, ports[1], load, *warm, bye)
 
 
 def check_session(command: List[str]) -> None:
     """The session that a program is also asked over FIFOs. Then another server listens where this one did."""
-    port = 0
+    port, pairs = 0, [(text[2:].encode(), reply[2:].encode()) for text, reply in SESSION]
     for _ in range(2):
         with Server(command, 1, 1, port) as server:
             port = server.port
             with server.link() as link:
-                ask(link, *((text[2:].encode(), reply[2:].encode()) for text, reply in SESSION))
+                from_port = port_of(link)
+                ask(link, *pairs)
                 ends(link)
             expect("the server's end", server.end(), (0, "1 1 DONE\n", ""))
+            is_said(server, from_port, *pairs)
 
 
 # ---- bad peers: each yields where another link has to be served
@@ -319,6 +374,35 @@ def check_output(command: List[str]) -> None:
     expect("the end of a server that cannot write", (status, told.count("(status 4)\n")), (4, 1))
 
 
+def check_errors(command: List[str]) -> None:
+    """Nothing can be said on standard error, neither where it listens nor of its link."""
+    with socket.create_server((HOST, 0)) as free:
+        port = int(free.getsockname()[1])
+    with open("/dev/full", "wb") as full, tempfile.TemporaryFile() as output:
+        program = subprocess.Popen([*command, "serve", f"{HOST}:{port}"], stdout=output, stderr=full)
+        try:
+            with first_link(port) as link:
+                ask(link, (b"QUIT\n", b"BYE\n"))
+            status = program.wait(SECONDS)
+        finally:
+            program.kill()
+            program.wait()
+        output.seek(0)
+        expect("the end of a server that can say nothing", (status, output.read()), (0, b"1 1 DONE\n"))
+
+
+def first_link(port: int) -> Link:
+    """A link to a server that has just been started."""
+    end = time.monotonic() + SECONDS
+    while True:
+        try:
+            return Link(HOST, port, SECONDS)
+        except (Ended, OSError):
+            if time.monotonic() > end:
+                raise
+            time.sleep(0.05)
+
+
 def check_words(command: List[str]) -> None:
     """An address that another program has, what is none, and words that are no command line."""
     with socket.create_server((HOST, 0)) as taken:
@@ -348,7 +432,7 @@ def main(command: List[str]) -> int:
     signal.signal(signal.SIGALRM, out_of_time)
     signal.alarm(ALL_SECONDS)
     faults = 0
-    for check in (check_workers, check_session, check_peers, check_accept, check_output, check_words):
+    for check in (check_workers, check_session, check_peers, check_accept, check_output, check_errors, check_words):
         try:
             check(command)
         except (Wrong, Ended, OSError, subprocess.TimeoutExpired) as error:

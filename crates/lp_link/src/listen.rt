@@ -4,7 +4,7 @@ ghost use Rattle.lp_base.specs.Causes.{HasCause};
 ghost use Rattle.lp_link.specs.LinkState.{state_of};
 ghost use Rattle.lp_link.specs.Listening.{LinkEvent, Returned, HandsOver, HasOneOut, Grows};
 
-use crate::Link;
+use crate::{Link, LinkReport};
 use lp_base::Failed;
 
 /// Gives links, and takes them back when they have ended.
@@ -24,8 +24,8 @@ pub trait Listen {
             (log self.old) (log self.new) result }
         ensures cause { HasCause (accept_faults self.old) (accept_faults self.new) result };
 
-    /// Takes back a link that has ended.
-    fn give_back(&mut self, link: Self::Link)
+    /// Takes back a link that has ended, with what is told of it.
+    fn give_back(&mut self, link: Self::Link, report: LinkReport)
         requires { HasOneOut (log self.old) }
         ensures log { Grows (log self.old) (log self.new) (Returned
             (state_of Self.Link.left Self.Link.read_faults Self.Link.taken Self.Link.write_faults link) ∷ []) }

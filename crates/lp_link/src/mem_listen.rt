@@ -10,7 +10,7 @@ ghost use Rattle.lp_link.specs.Listening.{HandsOver, Returned, links_out};
 ghost use Rattle.lp_link.specs.Memory.{mem_link_state, events_of, IsUnwritten};
 
 use crate::mem_event::MemEvent;
-use crate::{Listen, MemLink};
+use crate::{LinkReport, Listen, MemLink};
 use lp_base::{Calls, Failed};
 use std::alloc::{AllocError, Global};
 use std::collections::VecDeque;
@@ -91,7 +91,7 @@ impl Listen for MemListen {
         Ok(link)
     }
 
-    fn give_back(&mut self, link: MemLink)
+    fn give_back(&mut self, link: MemLink, _report: LinkReport)
         requires { 0 < links_out 0 (link_log self.old) }
         ensures log { link_log self.new ≡ link_log self.old ++ Returned (mem_link_state link) ∷ [] }
         ensures back { links_returned self.new ≡ links_returned self.old ++ link ∷ [] }

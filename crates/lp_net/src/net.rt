@@ -2,32 +2,45 @@
 ghost use Rattle.std.specs.Prelude.{None};
 
 use crate::TcpLink;
+use crate::said::LinkLine;
 use lp_base::Failed;
-use lp_link::Listen;
+use lp_link::{LinkReport, Listen};
 use std::io::ErrorKind;
 use std::net::TcpListener;
+use std::time::{Clock, Instant};
 
-/// Gives one worker the links of a socket, which others may share. Where there is no socket, none is given.
+/// Gives one worker the links of a socket, which others may share. Where there is no socket, none is given. When a link
+/// comes back, it is closed, and a line on standard error says how it ended; a fault of that write changes nothing.
 #[derive(Drop)]
-pub struct TcpNet<'a> {
+pub struct TcpNet<'a, R> {
+    rt: &'a R,
     socket: Option<&'a TcpListener>,
     faults: u64,
+    worker: u32,
+    links: u64,
 }
 
-impl<'a> TcpNet<'a> {
-    pub fn new(socket: Option<&'a TcpListener>) -> Self {
-        TcpNet { socket, faults: 0 }
+impl<'a, R> TcpNet<'a, R> {
+    /// The lines say the worker's number.
+    pub fn new(rt: &'a R, socket: Option<&'a TcpListener>, worker: u32) -> Self {
+        TcpNet {
+            rt,
+            socket,
+            faults: 0,
+            worker,
+            links: 0,
+        }
     }
 }
 
 // The next link of a socket, whose small pieces are sent at once. What a signal interrupts is tried again, and so is a
 // link whose peer has gone already, up to 2 ^ 32 - 1 times.
-fn next_link(socket: &TcpListener) -> Result<TcpLink, Failed> {
+fn next_link<R: Clock>(rt: &R, socket: &TcpListener) -> Result<TcpLink, Failed> {
     for _ in 0..u32::MAX {
         match socket.accept() {
-            Ok((stream, _)) => {
+            Ok((stream, peer)) => {
                 let _ = stream.set_nodelay(true);
-                return Ok(TcpLink::new(stream));
+                return Ok(TcpLink::new(stream, peer, Instant::now(rt).ok()));
             }
             Err(error) if is_passing(error.kind()) => {}
             Err(_) => break,
@@ -40,7 +53,7 @@ fn is_passing(kind: ErrorKind) -> bool {
     kind == ErrorKind::Interrupted || kind == ErrorKind::ConnectionAborted
 }
 
-impl<'a> Listen for TcpNet<'a> {
+impl<'a, R: Clock + Eprint> Listen for TcpNet<'a, R> {
     type Link = TcpLink;
 
     ghost log = { λ _. None };
@@ -49,7 +62,7 @@ impl<'a> Listen for TcpNet<'a> {
 
     fn accept(&mut self) -> Result<TcpLink, Failed> {
         if let Some(socket) = self.socket {
-            if let Ok(link) = next_link(socket) {
+            if let Ok(link) = next_link(self.rt, socket) {
                 return Ok(link);
             }
         }
@@ -57,7 +70,10 @@ impl<'a> Listen for TcpNet<'a> {
         Err(Failed)
     }
 
-    fn give_back(&mut self, link: TcpLink) {
+    fn give_back(&mut self, link: TcpLink, report: LinkReport) {
+        self.links = self.links.saturating_add(1);
+        let line = LinkLine::of(self.rt, self.worker, self.links, &link, report);
         drop(link);
+        let _ = eprintln!(self.rt; "{line}");
     }
 }

@@ -12,7 +12,8 @@ use lp_base::{Bytes, Sink, send};
 use spec_serve::LinkEnd;
 use std::alloc::{AllocError, Global};
 
-fn word(end: LinkEnd) -> &'static str
+/// How a link ended, in a word.
+pub(crate) fn word(end: LinkEnd) -> &'static str
     ensures { result.now ≡ end_text end }
 {
     match end {

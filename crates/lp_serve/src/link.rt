@@ -80,6 +80,7 @@ fn serve_asks<L: Link>(
     pass: &mut Pass,
     lines: &mut Lines,
     session: &mut Session,
+    commands: &mut u64,
 ) -> LinkEnd
     requires board { pass.old.board ≡ id_of board.now }
     requires lines { lines.old ≡ at_start }
@@ -101,6 +102,7 @@ fn serve_asks<L: Link>(
             Ok(ask) => ask,
             Err(end) => return end,
         };
+        *commands = commands.saturating_add(1);
         let quits = is_quit(&ask);
         let reply = session.step(alloc, board, pass, ask);
         let sent = send_reply(alloc, &reply, link);
@@ -115,7 +117,14 @@ fn serve_asks<L: Link>(
 }
 
 /// Serves the session of a link over a board that others may share: each reply is sent before the next command is read.
-pub fn serve_link<L: Link>(alloc: Global, link: &mut L, board: &Board, pass: &mut Pass) -> LinkEnd
+/// It adds the commands that came, of which no clause speaks.
+pub fn serve_link<L: Link>(
+    alloc: Global,
+    link: &mut L,
+    board: &Board,
+    pass: &mut Pass,
+    commands: &mut u64,
+) -> LinkEnd
     requires board { pass.old.board ≡ id_of board.now }
     ensures serves { ServesBy
         (streams (L.left link.old) (L.left link.new) (L.taken link.old) (L.taken link.new))
@@ -133,7 +142,7 @@ pub fn serve_link<L: Link>(alloc: Global, link: &mut L, board: &Board, pass: &mu
         return LinkEnd::NoMemory;
     };
     let mut session = Session::new();
-    let end = serve_asks(alloc, link, board, pass, &mut lines, &mut session);
+    let end = serve_asks(alloc, link, board, pass, &mut lines, &mut session, commands);
     drop(session);
     drop(lines);
     end

@@ -3,9 +3,10 @@ ghost use Rattle.std.specs.Prelude.{◌≤◌};
 ghost use Rattle.lp_link.specs.Listening.{listener_of};
 ghost use Rattle.lp_serve.specs.Workers.{IsReady, HasServed};
 
+use crate::ends::word;
 use crate::link::serve_link;
 use basis_board::{Board, Pass};
-use lp_link::Listen;
+use lp_link::{LinkReport, Listen};
 use spec_serve::LinkEnd;
 use std::alloc::Global;
 
@@ -30,8 +31,10 @@ impl<N: Listen> Worker<N> {
                 self.has_failed = true;
                 return;
             };
-            let end = serve_link(alloc, &mut link, board, &mut self.pass);
-            self.net.give_back(link);
+            let mut commands = 0;
+            let end = serve_link(alloc, &mut link, board, &mut self.pass, &mut commands);
+            let word = word(end);
+            self.net.give_back(link, LinkReport { word, commands });
             self.ends.push_reserved(end);
         }
     }

@@ -104,7 +104,10 @@ fn two_links_are_served_beside_each_other(rt: HostRuntime) -> Result<(), Fail> {
     let (first, one) = listening(&rt)?;
     let (second, two) = listening(&rt)?;
     let (heard_one, heard_two) = (Heard::new(), Heard::new());
-    let mut nets = vec![in alloc; TcpNet::new(Some(&first)), TcpNet::new(Some(&second))]?;
+    let mut nets = vec![in alloc;
+        TcpNet::new(&rt, Some(&first), 1),
+        TcpNet::new(&rt, Some(&second), 2),
+    ]?;
     let mut out = MemSink::new(alloc, Vec::new(alloc));
     let (served, (one_did, two_did)) = thread::join(
         &rt,

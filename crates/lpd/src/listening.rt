@@ -30,17 +30,18 @@ pub fn wanted(words: &[String]) -> u32
     }
 }
 
-/// So many listeners, all of one socket.
+/// So many listeners, all of one socket, which count their workers from 1.
 pub fn nets_at<'a>(
+    rt: &'a HostRuntime,
     alloc: Global,
     count: u32,
     socket: Option<&'a TcpListener>,
-) -> Result<Vec<TcpNet<'a>>, AllocError>
+) -> Result<Vec<TcpNet<'a, HostRuntime>>, AllocError>
     ensures { IfOk result (λ nets. vec_len nets ≡ count) }
 {
     let mut nets = Vec::new(alloc);
     for index in 0..count {
-        nets.push(TcpNet::new(socket))?;
+        nets.push(TcpNet::new(rt, socket, index + 1))?;
     }
     Ok(nets)
 }

@@ -26,7 +26,7 @@ fn main(rt: HostRuntime) -> ExitCode {
         Some(serving) => listen(&rt, serving.address),
         None => None,
     };
-    let status = match nets_at(alloc, wanted(&words), socket.as_ref()) {
+    let status = match nets_at(&rt, alloc, wanted(&words), socket.as_ref()) {
         Ok(mut nets) => {
             let mut source = Counted::new(rt.stdin());
             let mut sink = Counted::new(rt.stdout());

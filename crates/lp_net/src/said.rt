@@ -1,0 +1,66 @@
+// What is said of a link on standard error, in logfmt. No contract speaks of it.
+use crate::TcpLink;
+use jiff::Timestamp;
+use lp_link::LinkReport;
+use std::fmt;
+use std::net::SocketAddr;
+use std::time::{Clock, Duration};
+
+/// The line of a link that has ended. A time that the clock did not tell is left out.
+#[derive(Drop)]
+pub(crate) struct LinkLine {
+    time: Option<Timestamp>,
+    worker: u32,
+    number: u64,
+    peer: SocketAddr,
+    report: LinkReport,
+    bytes_read: u64,
+    bytes_written: u64,
+    lasted: Option<Duration>,
+}
+
+impl LinkLine {
+    /// Of a link that ends now, by the number of its worker and its own with that worker.
+    pub fn of<R: Clock>(
+        rt: &R,
+        worker: u32,
+        number: u64,
+        link: &TcpLink,
+        report: LinkReport,
+    ) -> Self {
+        LinkLine {
+            time: Timestamp::now(rt).ok(),
+            worker,
+            number,
+            peer: link.peer,
+            report,
+            bytes_read: link.bytes_read,
+            bytes_written: link.bytes_written,
+            lasted: lasted(rt, link),
+        }
+    }
+}
+
+// How long a link has lasted.
+fn lasted<R: Clock>(rt: &R, link: &TcpLink) -> Option<Duration> {
+    link.since?.elapsed(rt).ok()
+}
+
+impl fmt::Display for LinkLine {
+    fn fmt<W: fmt::Write>(&self, f: &mut fmt::Formatter<W>) -> fmt::Result {
+        if let Some(time) = self.time {
+            write!(f, "time={time:.3} ")?;
+        }
+        let (worker, number, peer) = (self.worker, self.number, self.peer);
+        write!(f, "worker={worker} link={number} peer={peer}")?;
+        let (word, commands) = (self.report.word, self.report.commands);
+        write!(f, " word={word} commands={commands}")?;
+        let (read, written) = (self.bytes_read, self.bytes_written);
+        write!(f, " in={read} out={written}")?;
+        if let Some(lasted) = self.lasted {
+            let (seconds, millis) = (lasted.as_secs(), lasted.subsec_millis());
+            write!(f, " seconds={seconds}.{millis:03}")?;
+        }
+        Ok(())
+    }
+}
