@@ -64,7 +64,7 @@ line_kept addressing (Text session form body) next =
 line_kept addressing (Certificate session body) next =
     if_kept (ends_certificate next) session _ (judgement_kept (certificate.judge None 1 (body ++ next ∷ [])))
 
-lines_kept : (addressing : Addressing) (p : Pending) (lines : List (Line (List ℕ))) →
+pub lines_kept : (addressing : Addressing) (p : Pending) (lines : List (Line (List ℕ))) →
     AreKept (asks_from addressing p lines)
 lines_kept addressing p [] = none_kept
 lines_kept addressing p (next ∷ lines) =
@@ -73,8 +73,11 @@ lines_kept addressing p (next ∷ lines) =
     (asks_from addressing after lines)
     (line_kept addressing p next) (lines_kept addressing after lines)
 
-pub script_kept : (addressing : Addressing) (bytes : List ℕ) → AreKept (script_of addressing bytes).asks
+pub ended_kept : (addressing : Addressing) (bytes : List ℕ) → AreKept (ended_asks_of addressing bytes)
 unfolding ended_asks_of
+ended_kept addressing bytes = lines_kept addressing Between (ended_lines_of (take input_limit bytes))
+
+pub script_kept : (addressing : Addressing) (bytes : List ℕ) → AreKept (script_of addressing bytes).asks
 script_kept addressing bytes =
     subst (λ (s : Script). AreKept s.asks)
     (sym (script_by addressing bytes (nat_le (length bytes) input_limit) refl))
@@ -82,4 +85,4 @@ script_kept addressing bytes =
   where
     by : (t : Bool) → AreKept (cond t (whole_script addressing bytes) (long_script addressing bytes)).asks
     by true = lines_kept addressing Between (lines_of bytes)
-    by false = lines_kept addressing Between (ended_lines_of (take input_limit bytes))
+    by false = ended_kept addressing bytes

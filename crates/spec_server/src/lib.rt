@@ -32,6 +32,7 @@
 
 ghost use Rattle.std.specs.Prelude.{◌≡◌, ◌⊎◌, ℕ, List, [], ◌++◌, map, Option, Some, None, IfSome};
 ghost use Rattle.std.specs.List.{filter};
+ghost use Rattle.spec_text.specs.declared.line.Line.{Line};
 ghost use Rattle.spec_exact.specs.Fraction.{ℚ};
 ghost use Rattle.spec_model.specs.Model.{Model};
 ghost use Rattle.spec_model.specs.Kept.{IsModel};
@@ -59,8 +60,8 @@ ghost use Rattle.spec_server.specs.Machine.{ExactAsk, ExactReply, ExactLastAnswe
 ghost use Rattle.spec_server.specs.Machine.{is_memory, State, opening};
 ghost use Rattle.spec_server.specs.Step.{AloneStep};
 ghost use Rattle.spec_server.specs.Exchanges.{Exchange, asked_in, AloneRun, RunAlone};
-ghost use Rattle.spec_server.specs.declared.addressing.Addressing.TheVariants.{Numbered};
-ghost use Rattle.spec_server.specs.Script.{script_of};
+ghost use Rattle.spec_server.specs.declared.addressing.Addressing.{Addressing as addressing_kind};
+ghost use Rattle.spec_server.specs.Script.{Between, asks_from, ended_asks_of, script_of};
 ghost use Rattle.spec_server.specs.Output.{ended_lines};
 ghost use Rattle.spec_server.specs.Said.{IsSaidEarly};
 ghost use Rattle.spec_server.specs.CheckOut.{said};
@@ -117,8 +118,8 @@ pub fn sessions_keep_models()
         IfSome new.model IsModel }
 {}
 
-/// Whatever a session was asked before, with models and edits that may be kept, as those of scripts are: its last
-/// answer stands up. What is known by it is true of the model that the session holds, and to the text of this model
+/// Whatever a session was asked before, with models and edits that may be kept, as those of scripts and of links are: its
+/// last answer stands up. What is known by it is true of the model that the session holds, and to the text of this model
 /// with the lines of the answer's certificate after it the command `check` says yes, and that the same is known.
 pub fn last_answers_stand_up()
     ensures { (places : ℕ) (xs : List Exchange) (state : State) (m : Model) (last : ExactLastAnswer)
@@ -160,8 +161,11 @@ pub fn asks_have_a_run()
         × (filter (λ x. is_memory x.reply) xs ≡ []) }
 {}
 
-/// The models that a script's asks are to hold may be kept, and its edits have numbers and bounds that a kept model may
-/// have.
+/// The models that asks are to hold may be kept, and their edits have numbers and bounds that a kept model may have: the
+/// asks of lines, of the lines that end among some bytes, and of a whole script, whether its lines name sessions or not.
 pub fn scripts_ask_kept_models()
-    ensures { (bytes : List ℕ) → AreKept (script_of Numbered bytes).asks }
+    ensures lines { (addressing : addressing_kind) (lines : List (Line (List ℕ))) →
+        AreKept (asks_from addressing Between lines) }
+    ensures ended { (addressing : addressing_kind) (bytes : List ℕ) → AreKept (ended_asks_of addressing bytes) }
+    ensures whole { (addressing : addressing_kind) (bytes : List ℕ) → AreKept (script_of addressing bytes).asks }
 {}

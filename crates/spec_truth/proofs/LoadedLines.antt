@@ -11,7 +11,6 @@ use Rattle.spec_mps.specs.Steps.{Verdict, Spelled, Refused, judge}
 use Rattle.spec_check.specs.Text as certificate
 use Rattle.spec_server.specs.declared.addressing.Addressed.{Addressed}
 use Rattle.spec_server.specs.declared.addressing.Addressing.{Addressing}
-use Rattle.spec_server.specs.declared.addressing.Addressing.TheVariants.{Numbered}
 use Rattle.spec_server.specs.declared.asks.Ask.TheVariants as ask
 use Rattle.spec_server.specs.declared.asks.Asked.{Asked}
 use Rattle.spec_server.specs.declared.command.Command.TheVariants as command
@@ -339,18 +338,18 @@ module _ (addressing : Addressing) where
           absurd
           (not_certified (ends_certificate r.last) s (certificate.judge None 1 (b ++ r.last ∷ [])) session m h)
 
--- ---- the bytes of a script
+  -- ---- the bytes of a script
 
-pub loaded_from_ended : (bytes : List ℕ) (before behind : Asks) (session : ℕ) (m : Model) →
-    ended_asks_of Numbered bytes ≡ before ++ loaded session m ∷ behind →
-    IsLoadedFrom Numbered (ended_lines_of (take input_limit bytes)) before session m
-unfolding ended_asks_of
-loaded_from_ended bytes before behind session m e =
-    loaded_from Numbered (ended_lines_of (take input_limit bytes)) before behind session m e
+  pub loaded_from_ended : (bytes : List ℕ) (before behind : Asks) (session : ℕ) (m : Model) →
+      ended_asks_of addressing bytes ≡ before ++ loaded session m ∷ behind →
+      IsLoadedFrom addressing (ended_lines_of (take input_limit bytes)) before session m
+  unfolding ended_asks_of
+  loaded_from_ended bytes before behind session m e =
+      loaded_from (ended_lines_of (take input_limit bytes)) before behind session m e
 
-pub loaded_from_whole : (bytes : List ℕ) (before behind : Asks) (session : ℕ) (m : Model) →
-    length bytes ≤ input_limit → (script_of Numbered bytes).asks ≡ before ++ loaded session m ∷ behind →
-    IsLoadedFrom Numbered (lines_of bytes) before session m
-loaded_from_whole bytes before behind session m h e =
-    loaded_from Numbered (lines_of bytes) before behind session m
-    (ap (λ (s : Script). s.asks) (sym (script_within Numbered bytes h)) ∙ e)
+  pub loaded_from_whole : (bytes : List ℕ) (before behind : Asks) (session : ℕ) (m : Model) →
+      length bytes ≤ input_limit → (script_of addressing bytes).asks ≡ before ++ loaded session m ∷ behind →
+      IsLoadedFrom addressing (lines_of bytes) before session m
+  loaded_from_whole bytes before behind session m h e =
+      loaded_from (lines_of bytes) before behind session m
+      (ap (λ (s : Script). s.asks) (sym (script_within addressing bytes h)) ∙ e)

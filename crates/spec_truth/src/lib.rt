@@ -31,7 +31,6 @@ ghost use Rattle.spec_check.specs.declared.certificate.Known.{Known};
 ghost use Rattle.spec_check.specs.declared.certificate.Known.TheVariants as known;
 ghost use Rattle.spec_check.specs.declared.certificate.Verdict.TheVariants as verdict;
 ghost use Rattle.spec_server.specs.declared.addressing.Addressing.{Addressing};
-ghost use Rattle.spec_server.specs.declared.addressing.Addressing.TheVariants.{Numbered};
 ghost use Rattle.spec_server.specs.declared.answer.Answer.{Answer};
 ghost use Rattle.spec_server.specs.declared.answer.Answer.TheVariants as answer;
 ghost use Rattle.spec_server.specs.declared.asks.Ask.TheVariants as ask;
@@ -66,20 +65,21 @@ pub fn edits_answered_ok_are_made()
 {}
 
 /// A model that a script asks a session to hold is spelled by the lines after a line with the command LOAD of the
-/// session: by lines of any input, and by those of the bytes that a run of `lpd` reads, up to the last line feed or to
-/// the end.
+/// session, whether lines name sessions or not: by lines of any input, and by those of the bytes that are read, up to
+/// the last line feed or to the end.
 pub fn loaded_models_are_spelled()
     ensures lines { (addressing : Addressing) (lines : List (Line (List ℕ))) (before behind : List (asked_of ExactAsk))
         (session : ℕ) (m : Model) →
         asks_from addressing Between lines ≡ before ++ record { session = session; ask = ask.Loaded m } ∷ behind →
         IsLoadedFrom addressing lines before session m }
-    ensures ended { (bytes : List ℕ) (before behind : List (asked_of ExactAsk)) (session : ℕ) (m : Model) →
-        ended_asks_of Numbered bytes ≡ before ++ record { session = session; ask = ask.Loaded m } ∷ behind →
-        IsLoadedFrom Numbered (ended_lines_of (take input_limit bytes)) before session m }
-    ensures whole { (bytes : List ℕ) (before behind : List (asked_of ExactAsk)) (session : ℕ) (m : Model) →
-        length bytes ≤ input_limit →
-        (script_of Numbered bytes).asks ≡ before ++ record { session = session; ask = ask.Loaded m } ∷ behind →
-        IsLoadedFrom Numbered (lines_of bytes) before session m }
+    ensures ended { (addressing : Addressing) (bytes : List ℕ) (before behind : List (asked_of ExactAsk)) (session : ℕ)
+        (m : Model) →
+        ended_asks_of addressing bytes ≡ before ++ record { session = session; ask = ask.Loaded m } ∷ behind →
+        IsLoadedFrom addressing (ended_lines_of (take input_limit bytes)) before session m }
+    ensures whole { (addressing : Addressing) (bytes : List ℕ) (before behind : List (asked_of ExactAsk)) (session : ℕ)
+        (m : Model) → length bytes ≤ input_limit →
+        (script_of addressing bytes).asks ≡ before ++ record { session = session; ask = ask.Loaded m } ∷ behind →
+        IsLoadedFrom addressing (lines_of bytes) before session m }
 {}
 
 /// In each run of sessions, an answer to a solve is true of the model that the session has then.

@@ -1,6 +1,7 @@
-use Rattle.spec_server.specs.declared.addressing.Addressing.TheVariants.{Numbered}
-use Rattle.spec_server.proofs.ScriptKept.{script_kept}
+use Rattle.spec_server.specs.Script.{Between}
+use Rattle.spec_server.proofs.ScriptKept.{lines_kept, ended_kept, script_kept}
 use Rattle.spec_server.proofs.scripts_ask_kept_models.Goals as goal
 
 pub returns : goal.returns
-returns c = script_kept Numbered
+returns c =
+    record { lines = λ addressing lines. lines_kept addressing Between lines; ended = ended_kept; whole = script_kept }
