@@ -1,5 +1,8 @@
 -- Lines that name no session ask session 0.
-use Rattle.std.proofs.Common.{◌≡◌, ℕ, Bool, true, false, cond, Option, Some, None, List, [], ◌∷◌, ◌++◌, refl, subst}
+use Rattle.std.proofs.Common.{◌≡◌, ℕ, Bool, true, false, cond, Option, Some, None, List, [], ◌∷◌, ◌++◌, length, take}
+use Rattle.std.proofs.Common.{refl, sym, subst}
+use Rattle.std.specs.Prelude.{nat_le}
+use Rattle.spec_text.specs.Lines.{lines_of, ended_lines_of, input_limit}
 use Rattle.spec_text.specs.declared.line.Line.{Line}
 use Rattle.spec_text.specs.declared.line.Line.TheVariants as line
 use Rattle.spec_text.specs.Words.{words_of}
@@ -13,13 +16,15 @@ use Rattle.spec_server.specs.Machine.{ExactAsk}
 use Rattle.spec_server.specs.Addressing.{addressed_by, addressed_in, begins_with_hash}
 use Rattle.spec_server.specs.Script.{Pending, Between, Text, Certificate, ends_text, ends_certificate, begun, begun_by}
 use Rattle.spec_server.specs.Script.{pending_after_line, asks_of_command, asks_by, asks_of_line, asks_from}
+use Rattle.spec_server.specs.Script.{Script, ended_asks_of, script_of}
+use Rattle.spec_server.proofs.ScriptBytes.{whole_script, long_script, script_by}
 
 -- ---- what is session 0's
 
 abbrev IsAlone : Asked ExactAsk → Type 0
 IsAlone asked = asked.session ≡ 0
 
-abbrev AreAlone : List (Asked ExactAsk) → Type 0
+abbrev pub AreAlone : List (Asked ExactAsk) → Type 0
 AreAlone [] = Unit {0}
 AreAlone (asked ∷ asks) = IsAlone asked × AreAlone asks
 
@@ -109,3 +114,14 @@ asks_alone p (next ∷ lines) h =
 pub asked_alone : (lines : List (Line (List ℕ))) (asked : Asked ExactAsk) →
     asks_from Alone Between lines ≡ asked ∷ [] → asked.session ≡ 0
 asked_alone lines asked e = (subst AreAlone e (asks_alone Between lines tt)).0
+
+-- all asks of bytes
+pub script_alone : (bytes : List ℕ) → AreAlone (script_of Alone bytes).asks
+unfolding ended_asks_of
+script_alone bytes =
+    subst (λ (s : Script). AreAlone s.asks) (sym (script_by Alone bytes (nat_le (length bytes) input_limit) refl))
+    (by (nat_le (length bytes) input_limit))
+  where
+    by : (t : Bool) → AreAlone (cond t (whole_script Alone bytes) (long_script Alone bytes)).asks
+    by true = asks_alone Between (lines_of bytes) tt
+    by false = asks_alone Between (ended_lines_of (take input_limit bytes)) tt
