@@ -5,6 +5,8 @@ pub mod TrueRuns
 pub mod TextLemmas
 pub mod AnswerLines
 pub mod SolvedTexts
+pub mod BasisLemmas
+pub mod BasisTexts
 pub mod ReplyLines
 pub mod CertifiedTexts
 pub mod YesLines

@@ -20,13 +20,13 @@ use Rattle.spec_truth.proofs.Shown.{IsShownBy, answer_shown, answer_holds}
 use Rattle.spec_truth.proofs.TextLemmas.{spelled_said}
 use Rattle.spec_truth.proofs.AnswerLines.{HasNoFeed, optimal_line, infeasible_line, unbounded_line}
 
-record IsAnswered (m : Model) (written : List ℕ) : Type 0 where
-  answer : Answer ℚ
-  behind : List ℕ
-  line : written ≡ answer_text answer ++ 10 ∷ behind
-  shown : IsShownBy m answer
+pub record IsAnswered (m : Model) (written : List ℕ) : Type 0 where
+  pub answer : Answer ℚ
+  pub behind : List ℕ
+  pub line : written ≡ answer_text answer ++ 10 ∷ behind
+  pub shown : IsShownBy m answer
 
-solved_begins : (m : Model) (solved : ExactSolveEnd) →
+pub solved_begins : (m : Model) (solved : ExactSolveEnd) →
     solved_lines m solved ≡ answer_text (answer_of opening_budget solved) ++ 10 ∷ ended_lines (lines_of_solved m solved)
 unfolding solved_lines check_line reply_text
 solved_begins m solved =

@@ -2,4 +2,5 @@ pub mod ModelThen
 pub mod TrueAnswer
 pub mod Certified
 pub mod LoadedFrom
+pub mod SpelledBasis
 pub mod Agree

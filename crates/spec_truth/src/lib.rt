@@ -9,10 +9,11 @@
 //! | `IsTrueOf` | that what an answer says of a model is so | specs/TrueAnswer |
 //! | `IsNarrowKnown` | that a known value is of at most 127 bits | specs/TrueAnswer |
 //! | `IsCertified` | lines of a model and a certificate after it, and what is so of the model | specs/Certified |
+//! | `AreHanded` | lines of a model and a basis file after it | specs/SpelledBasis |
 //! | `RepliesAgree` | replies that two runs of one session may give to the same asks | specs/Agree |
 #![tactic(auto)]
 
-ghost use Rattle.std.specs.Prelude.{◌≡◌, ◌≢◌, ◌≤◌, ◌↔◌, ℕ, Some, None, Ok, Err};
+ghost use Rattle.std.specs.Prelude.{◌≡◌, ◌≢◌, ◌≤◌, ◌↔◌, ◌⊎◌, ℕ, Some, None, Ok, Err};
 ghost use Rattle.std.specs.Prelude.{List, [], ◌∷◌, ◌++◌, length, take, map, All, codes};
 ghost use Rattle.spec_text.specs.Lines.{lines_of, ended_lines_of, input_limit};
 ghost use Rattle.spec_text.specs.declared.line.Line.{Line};
@@ -25,6 +26,8 @@ ghost use Rattle.spec_mps.specs.declared.style.Style.{Style};
 ghost use Rattle.spec_mps.specs.NumberText.{Is, number_of};
 ghost use Rattle.spec_mps.specs.NumberWritten.{number_text};
 ghost use Rattle.spec_mps.specs.Steps.{Spells, Refuses};
+ghost use Rattle.spec_bas.specs.declared.fault.BasCode.TheVariants as file_code;
+ghost use Rattle.spec_bas.specs.declared.fault.BasFault.{BasFault};
 ghost use Rattle.spec_edit.specs.Edited.{ExactEdit, edited};
 ghost use Rattle.spec_check.specs.Certificate.{Holds};
 ghost use Rattle.spec_check.specs.declared.certificate.Known.{Known};
@@ -36,6 +39,7 @@ ghost use Rattle.spec_server.specs.declared.answer.Answer.TheVariants as answer;
 ghost use Rattle.spec_server.specs.declared.asks.Ask.TheVariants as ask;
 ghost use Rattle.spec_server.specs.declared.asks.Asked.{Asked as asked_of};
 ghost use Rattle.spec_server.specs.declared.asks.Reply.TheVariants as reply;
+ghost use Rattle.spec_server.specs.declared.basis.BasisFault.TheVariants as basis_fault;
 ghost use Rattle.spec_server.specs.declared.command.Plain.TheVariants as command;
 ghost use Rattle.spec_server.specs.Machine.{ExactAsk, ExactReply, State, opening};
 ghost use Rattle.spec_server.specs.Exchanges.{Exchange, of_session, AloneRun, RunAlone};
@@ -44,9 +48,11 @@ ghost use Rattle.spec_server.specs.Script.{Between, asks_from, ended_asks_of, sc
 ghost use Rattle.spec_server.specs.Output.{reply_text};
 ghost use Rattle.spec_server.specs.CheckOut.{said, check_line};
 ghost use Rattle.spec_server.specs.SolveOut.{TextSaid, text_said, SolveOut};
+ghost use Rattle.spec_server.specs.BasisOut.{Handed, BasisSaid, basis_said, BasisOut};
 ghost use Rattle.spec_truth.specs.Certified.{IsCertified};
 ghost use Rattle.spec_truth.specs.LoadedFrom.{IsLoadedFrom};
 ghost use Rattle.spec_truth.specs.ModelThen.{model_then};
+ghost use Rattle.spec_truth.specs.SpelledBasis.{AreHanded, HaveWrongFile};
 ghost use Rattle.spec_truth.specs.TrueAnswer.{Says, IsTrueOf, IsNarrowKnown};
 
 /// A session holds the model that its asks and replies say.
@@ -137,6 +143,42 @@ pub fn solved_texts_have_true_answers()
     ensures unbounded { (style : Style) (lines : List (Line (List ℕ))) (m : Model) (what : TextSaid)
         (written : List ℕ) → text_said style lines ≡ Some what → SolveOut what written → Spells style lines m →
         (behind : List ℕ) → written ≡ codes "UNBOUNDED" ++ 10 ∷ behind → IsUnbounded m }
+{}
+
+/// What `basis` takes its input for is the model that the text spells and, behind it, the basis that the file spells for
+/// the model's form; or it is the line and the fault that refuse the text, or the file.
+pub fn basis_reads_what_texts_and_files_spell()
+    ensures spelled { (style : Style) (lines : List (Line (List ℕ))) (handed : Handed) →
+        basis_said style lines ≡ Some (Ok handed) ↔ AreHanded style lines handed }
+    ensures text_refused { (style : Style) (lines : List (Line (List ℕ))) (fault : MpsFault) →
+        basis_said style lines ≡ Some (Err (basis_fault.Text fault)) → Refuses style lines fault.line fault.code }
+    ensures file_refused { (style : Style) (lines : List (Line (List ℕ))) (fault : BasFault) →
+        basis_said style lines ≡ Some (Err (basis_fault.File fault)) →
+        HaveWrongFile style lines fault.line fault.code }
+    ensures cut { (style : Style) (lines : List (Line (List ℕ))) → basis_said style lines ≡ None →
+        ((n : ℕ) × Refuses style lines n code.Cut) ⊎ ((n : ℕ) × HaveWrongFile style lines n file_code.Cut) }
+{}
+
+/// What `basis` writes of a model and a basis begins with the line of an answer, which is true of the model that the
+/// text spells. The first line alone says it: after the word OPTIMAL stands the text of the optimal value.
+pub fn answers_from_bases_are_true()
+    ensures answer { (style : Style) (lines : List (Line (List ℕ))) (handed : Handed) (written : List ℕ) →
+        basis_said style lines ≡ Some (Ok handed) → BasisOut (Ok handed) written →
+        Spells style lines handed.model
+        × ((answer : Answer ℚ) × (behind : List ℕ)
+        × (written ≡ reply_text (reply.Answered answer) ++ 10 ∷ behind) × IsTrueOf handed.model answer) }
+    ensures optimal { (style : Style) (lines : List (Line (List ℕ))) (what : BasisSaid) (written : List ℕ) →
+        basis_said style lines ≡ Some what → BasisOut what written →
+        (text behind : List ℕ) → All (λ b. b ≢ 10) text → written ≡ codes "OPTIMAL " ++ text ++ 10 ∷ behind →
+        (v : ℚ) × (number_of text ≡ Is v) × ((m : Model) × Spells style lines m × IsOptimal m v) }
+    ensures infeasible { (style : Style) (lines : List (Line (List ℕ))) (what : BasisSaid) (written : List ℕ) →
+        basis_said style lines ≡ Some what → BasisOut what written →
+        (behind : List ℕ) → written ≡ codes "INFEASIBLE" ++ 10 ∷ behind →
+        (m : Model) × Spells style lines m × IsInfeasible m }
+    ensures unbounded { (style : Style) (lines : List (Line (List ℕ))) (what : BasisSaid) (written : List ℕ) →
+        basis_said style lines ≡ Some what → BasisOut what written →
+        (behind : List ℕ) → written ≡ codes "UNBOUNDED" ++ 10 ∷ behind →
+        (m : Model) × Spells style lines m × IsUnbounded m }
 {}
 
 /// Where `check` says yes, the lines spell a model and, after its text, a certificate, and what the yes says is true

@@ -1,0 +1,51 @@
+-- What the command `basis` takes its input for: the model that a text spells, and the basis that a file behind the text
+-- spells for the model's form.
+use Rattle.std.specs.Prelude.{ℕ, ◌≡◌, Option, Some, None, Result, Ok, Err, List, [], ◌∷◌, ◌++◌}
+use Rattle.spec_text.specs.declared.line.Line.{Line}
+use Rattle.spec_exact.specs.Fraction.{ℚ}
+use Rattle.spec_model.specs.Model.{Model}
+use Rattle.spec_mps.specs.declared.style.Style.{Style}
+use Rattle.spec_mps.specs.Steps as text
+use Rattle.spec_pivot.specs.declared.status.Status.{Status}
+use Rattle.spec_simplex.specs.declared.ends.FormFault.{FormFault}
+use Rattle.spec_simplex.specs.Form.{Form, form_of}
+use Rattle.spec_bas.specs.declared.fault.BasCode.{BasCode}
+use Rattle.spec_bas.specs.Steps as file
+use Rattle.spec_bas.specs.Spelled.{SpellsBasis}
+use Rattle.spec_server.specs.Answers.{number_limit}
+use Rattle.spec_server.specs.SolveOut.{text_said}
+use Rattle.spec_server.specs.BasisOut.{Handed}
+
+-- the lines up to the first one that ends the text of a model, and those behind it
+pub record BeginsWithText (style : Style) (lines : List (Line (List ℕ))) (m : Model) (behind : List (Line (List ℕ))) :
+    Type 0 where
+  pub front : List (Line (List ℕ))
+  pub last : Line (List ℕ)
+  pub cut : lines ≡ front ++ last ∷ behind
+  pub undecided : text_said style front ≡ None
+  pub spelled : text.Spells style (front ++ last ∷ []) m
+
+-- the form of a model at the limit of the server's numbers, if it has one there
+abbrev pub form_at_limit : Model → Result Form (FormFault ℚ)
+form_at_limit m = form_of (Some number_limit) m
+
+-- lines spell this basis for the form; where there is no form no file is read, and there is no basis
+abbrev pub IsFileOf : Model → Result Form (FormFault ℚ) → List (Line (List ℕ)) → Option (List Status) → Type 0
+IsFileOf m (Ok f) lines (Some basis) = SpellsBasis m f lines basis
+IsFileOf m (Ok f) lines None = ⊥
+IsFileOf m (Err why) lines basis = basis ≡ None
+
+-- the lines spell the model and, behind its text, the basis
+pub record AreHanded (style : Style) (lines : List (Line (List ℕ))) (handed : Handed) : Type 0 where
+  pub behind : List (Line (List ℕ))
+  pub text : BeginsWithText style lines handed.model behind
+  pub file : IsFileOf handed.model (form_at_limit handed.model) behind handed.basis
+
+-- the lines spell a model with a form and, behind its text, no file: its line n is the first wrong one
+pub record HaveWrongFile (style : Style) (lines : List (Line (List ℕ))) (n : ℕ) (code : BasCode) : Type 0 where
+  pub model : Model
+  pub form : Form
+  pub behind : List (Line (List ℕ))
+  pub text : BeginsWithText style lines model behind
+  pub formed : form_at_limit model ≡ Ok form
+  pub refused : file.Refuses model form behind n code
