@@ -83,7 +83,7 @@ same_spelled : (a b : certificate.ExactRaw) → certificate.Spelled a ≡ certif
 same_spelled a b e = cc
 
 -- what is said of the certificate that lines spell
-certificate_said : (m : Model) (lines : List (Line (List ℕ))) (so_far : Option certificate.ExactRaw) (n : ℕ)
+pub certificate_said : (m : Model) (lines : List (Line (List ℕ))) (so_far : Option certificate.ExactRaw) (n : ℕ)
     (raw : certificate.ExactRaw) → certificate.judge so_far (n + 1) lines ≡ certificate.Spelled raw
     → said_from (InCertificate m so_far n) lines ≡ Some (verdict_on m (certificate_for m raw))
 unfolding check_step

@@ -4,9 +4,11 @@ pub mod TrueReplies
 pub mod TrueRuns
 pub mod TextLemmas
 pub mod AnswerLines
+pub mod PlainText
 pub mod SolvedTexts
 pub mod BasisLemmas
 pub mod BasisTexts
+pub mod AcceptedTexts
 pub mod ReplyLines
 pub mod CertifiedTexts
 pub mod YesLines

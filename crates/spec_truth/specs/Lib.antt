@@ -3,4 +3,5 @@ pub mod TrueAnswer
 pub mod Certified
 pub mod LoadedFrom
 pub mod SpelledBasis
+pub mod AcceptedLines
 pub mod Agree

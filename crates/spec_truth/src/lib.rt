@@ -10,6 +10,7 @@
 //! | `IsNarrowKnown` | that a known value is of at most 127 bits | specs/TrueAnswer |
 //! | `IsCertified` | lines of a model and a certificate after it, and what is so of the model | specs/Certified |
 //! | `AreHanded` | lines of a model and a basis file after it | specs/SpelledBasis |
+//! | `IsAccepted` | that `check` says yes to lines with written ones behind them | specs/AcceptedLines |
 //! | `RepliesAgree` | replies that two runs of one session may give to the same asks | specs/Agree |
 #![tactic(auto)]
 
@@ -49,10 +50,11 @@ ghost use Rattle.spec_server.specs.Output.{reply_text};
 ghost use Rattle.spec_server.specs.CheckOut.{said, check_line};
 ghost use Rattle.spec_server.specs.SolveOut.{TextSaid, text_said, SolveOut};
 ghost use Rattle.spec_server.specs.BasisOut.{Handed, BasisSaid, basis_said, BasisOut};
+ghost use Rattle.spec_truth.specs.AcceptedLines.{IsAccepted};
 ghost use Rattle.spec_truth.specs.Certified.{IsCertified};
 ghost use Rattle.spec_truth.specs.LoadedFrom.{IsLoadedFrom};
 ghost use Rattle.spec_truth.specs.ModelThen.{model_then};
-ghost use Rattle.spec_truth.specs.SpelledBasis.{AreHanded, HaveWrongFile};
+ghost use Rattle.spec_truth.specs.SpelledBasis.{BeginsWithText, AreHanded, HaveWrongFile};
 ghost use Rattle.spec_truth.specs.TrueAnswer.{Says, IsTrueOf, IsNarrowKnown};
 
 /// A session holds the model that its asks and replies say.
@@ -179,6 +181,20 @@ pub fn answers_from_bases_are_true()
         basis_said style lines ≡ Some what → BasisOut what written →
         (behind : List ℕ) → written ≡ codes "UNBOUNDED" ++ 10 ∷ behind →
         (m : Model) × Spells style lines m × IsUnbounded m }
+{}
+
+/// Behind the answer's line `solve` writes the lines of a certificate, and so does `basis` behind the line after it: to
+/// the lines of the text with these behind them `check` says yes, and that the same is known.
+pub fn written_certificates_are_accepted()
+    ensures solve { (style : Style) (lines : List (Line (List ℕ))) (m : Model) (after : List (Line (List ℕ)))
+        (written : List ℕ) (text : BeginsWithText style lines m after) → SolveOut (Ok m) written →
+        (answer : Answer ℚ) × (behind : List ℕ) × (written ≡ reply_text (reply.Answered answer) ++ 10 ∷ behind)
+        × IsAccepted style (text.front ++ text.last ∷ []) answer behind }
+    ensures basis { (style : Style) (lines : List (Line (List ℕ))) (handed : Handed) (written : List ℕ)
+        (are : AreHanded style lines handed) → BasisOut (Ok handed) written →
+        (answer : Answer ℚ) × (how behind : List ℕ)
+        × (written ≡ reply_text (reply.Answered answer) ++ 10 ∷ (how ++ 10 ∷ behind)) × All (λ b. b ≢ 10) how
+        × IsAccepted style (are.text.front ++ are.text.last ∷ []) answer behind }
 {}
 
 /// Where `check` says yes, the lines spell a model and, after its text, a certificate, and what the yes says is true
