@@ -9,6 +9,7 @@ pub mod SolvedTexts
 pub mod BasisLemmas
 pub mod BasisTexts
 pub mod AcceptedTexts
+pub mod GeneratedModels
 pub mod ReplyLines
 pub mod CertifiedTexts
 pub mod YesLines

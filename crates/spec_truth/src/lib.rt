@@ -15,7 +15,7 @@
 #![tactic(auto)]
 
 ghost use Rattle.std.specs.Prelude.{◌≡◌, ◌≢◌, ◌≤◌, ◌↔◌, ◌⊎◌, ℕ, Some, None, Ok, Err};
-ghost use Rattle.std.specs.Prelude.{List, [], ◌∷◌, ◌++◌, length, take, map, All, codes};
+ghost use Rattle.std.specs.Prelude.{List, [], ◌∷◌, ◌++◌, length, take, map, All, codes, decimal};
 ghost use Rattle.spec_text.specs.Lines.{lines_of, ended_lines_of, input_limit};
 ghost use Rattle.spec_text.specs.declared.line.Line.{Line};
 ghost use Rattle.spec_exact.specs.Fraction.{ℚ};
@@ -27,6 +27,7 @@ ghost use Rattle.spec_mps.specs.declared.style.Style.{Style};
 ghost use Rattle.spec_mps.specs.NumberText.{Is, number_of};
 ghost use Rattle.spec_mps.specs.NumberWritten.{number_text};
 ghost use Rattle.spec_mps.specs.Steps.{Spells, Refuses};
+ghost use Rattle.spec_gen.specs.Generated.{generated};
 ghost use Rattle.spec_bas.specs.declared.fault.BasCode.TheVariants as file_code;
 ghost use Rattle.spec_bas.specs.declared.fault.BasFault.{BasFault};
 ghost use Rattle.spec_edit.specs.Edited.{ExactEdit, edited};
@@ -50,6 +51,7 @@ ghost use Rattle.spec_server.specs.Output.{reply_text};
 ghost use Rattle.spec_server.specs.CheckOut.{said, check_line};
 ghost use Rattle.spec_server.specs.SolveOut.{TextSaid, text_said, SolveOut};
 ghost use Rattle.spec_server.specs.BasisOut.{Handed, BasisSaid, basis_said, BasisOut};
+ghost use Rattle.spec_program.specs.GenOut.{entry_count, size_text, GenOut};
 ghost use Rattle.spec_truth.specs.AcceptedLines.{IsAccepted};
 ghost use Rattle.spec_truth.specs.Certified.{IsCertified};
 ghost use Rattle.spec_truth.specs.LoadedFrom.{IsLoadedFrom};
@@ -195,6 +197,30 @@ pub fn written_certificates_are_accepted()
         (answer : Answer ℚ) × (how behind : List ℕ)
         × (written ≡ reply_text (reply.Answered answer) ++ 10 ∷ (how ++ 10 ∷ behind)) × All (λ b. b ≢ 10) how
         × IsAccepted style (are.text.front ++ are.text.last ∷ []) answer behind }
+{}
+
+/// What `gen` writes is the line of the size of the model that is made from the seed, and the line of an answer, which
+/// is true of this model. The second line alone says it: after the word OPTIMAL stands the text of the optimal value. It
+/// is never the line of a model that is infeasible or unbounded.
+pub fn generated_models_have_true_answers()
+    ensures size { (seed rows columns : ℕ) →
+        size_text (generated seed rows columns)
+        ≡ codes "MODEL " ++ decimal rows ++ codes " " ++ decimal columns ++ codes " "
+        ++ decimal (entry_count (generated seed rows columns)) ++ 10 ∷ [] }
+    ensures answer { (seed rows columns : ℕ) (written : List ℕ) → GenOut seed rows columns written →
+        (answer : Answer ℚ) × (behind : List ℕ)
+        × (written ≡ size_text (generated seed rows columns) ++ reply_text (reply.Answered answer) ++ 10 ∷ behind)
+        × IsTrueOf (generated seed rows columns) answer }
+    ensures optimal { (seed rows columns : ℕ) (written size text behind : List ℕ) → GenOut seed rows columns written →
+        All (λ b. b ≢ 10) size → All (λ b. b ≢ 10) text →
+        written ≡ size ++ 10 ∷ (codes "OPTIMAL " ++ text ++ 10 ∷ behind) →
+        (v : ℚ) × (number_of text ≡ Is v) × IsOptimal (generated seed rows columns) v }
+    ensures never_infeasible { (seed rows columns : ℕ) (written size behind : List ℕ) →
+        GenOut seed rows columns written → All (λ b. b ≢ 10) size →
+        ¬ (written ≡ size ++ 10 ∷ (codes "INFEASIBLE" ++ 10 ∷ behind)) }
+    ensures never_unbounded { (seed rows columns : ℕ) (written size behind : List ℕ) →
+        GenOut seed rows columns written → All (λ b. b ≢ 10) size →
+        ¬ (written ≡ size ++ 10 ∷ (codes "UNBOUNDED" ++ 10 ∷ behind)) }
 {}
 
 /// Where `check` says yes, the lines spell a model and, after its text, a certificate, and what the yes says is true
