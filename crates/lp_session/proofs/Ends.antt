@@ -9,11 +9,11 @@ use Rattle.spec_check.specs.declared.solve_end.SolveEnd.TheVariants.{Ended, Past
 use Rattle.spec_cold.specs.Cold.{ExactSolveEnd}
 use Rattle.spec_warm.specs.Solve.{SolveEnd, HasBasis}
 use Rattle.spec_solve.specs.Order.{MayEnd}
+use Rattle.spec_solve.specs.Answers.{number_limit, MayAnswer, IsSolved}
 use Rattle.spec_shape.specs.Words.{IsWellFormed, packed, unpacked}
 use Rattle.spec_shape.proofs.Bases.{packed_fits, unpacked_fits}
 use Rattle.spec_reads.specs.declared.read.Found.{Found}
 use Rattle.spec_reads.specs.Reads.{Words, Looked}
-use Rattle.spec_server.specs.Answers.{number_limit, MayAnswer, IsSolved}
 use Rattle.spec_server.specs.Step.{handed_by, words_of_end}
 use Rattle.lp_solve.specs.Fit.{IsFit}
 use Rattle.lp_session.specs.Stages.{IsEndOf, FitsForm, LeavesBasis}

@@ -3,10 +3,10 @@ use Rattle.std.proofs.Common.{◌≡◌, Bool, true, false, Option, Some, None, 
 use Rattle.spec_model.specs.Model.{Model}
 use Rattle.spec_simplex.specs.Form.{Form}
 use Rattle.spec_warm.specs.Solve.{SolveEnd}
+use Rattle.spec_solve.specs.Answers.{IsSolved}
 use Rattle.spec_reads.specs.Reads.{Words, Looked}
 use Rattle.spec_server.specs.declared.answer.How.{How}
 use Rattle.spec_server.specs.declared.answer.Publication.TheVariants as publication
-use Rattle.spec_server.specs.Answers.{IsSolved}
 use Rattle.spec_server.specs.Machine.{ExactReply, State}
 use Rattle.spec_server.specs.Step.{Worked, Ends, Publishes, Works, answered, with_answer}
 use Rattle.spec_server.specs.Step.{handed_by, how_by, is_found, words_of_end, worked_with}

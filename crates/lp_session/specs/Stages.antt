@@ -7,9 +7,9 @@ use Rattle.spec_simplex.specs.Eliminate.{IsBasisOf}
 use Rattle.spec_check.specs.declared.solve_end.SolveEnd.TheVariants as cold
 use Rattle.spec_cold.specs.Cold.{ExactSolveEnd}
 use Rattle.spec_warm.specs.Solve.{SolveEnd}
+use Rattle.spec_solve.specs.Answers.{number_limit, MayAnswer, IsSolved}
 use Rattle.spec_shape.specs.Words.{IsWellFormed, shape_of}
 use Rattle.spec_reads.specs.Reads.{Looked, front}
-use Rattle.spec_server.specs.Answers.{number_limit, MayAnswer, IsSolved}
 use Rattle.spec_server.specs.declared.asks.Reply.TheVariants as reply
 use Rattle.spec_server.specs.Machine.{ExactAsk, ExactReply, State, edit_refusal}
 use Rattle.spec_server.specs.Step as step

@@ -1,6 +1,6 @@
 // Solves of models, and what is said of them.
 ghost use Rattle.std.specs.Prelude.{◌≡◌, ℕ, None, IfOk};
-ghost use Rattle.spec_server.specs.Answers.{MayAnswer, IsSolved};
+ghost use Rattle.spec_solve.specs.Answers.{MayAnswer, IsSolved};
 ghost use Rattle.spec_server.specs.Machine as machine;
 
 use lp_base::Texts;

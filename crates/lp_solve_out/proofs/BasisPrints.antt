@@ -7,11 +7,11 @@ use Rattle.spec_simplex.specs.declared.ends.FormFault.{FormFault}
 use Rattle.spec_simplex.specs.Form.{Form, form_of}
 use Rattle.spec_warm.specs.Solve.{SolveEnd}
 use Rattle.spec_mps.specs.declared.fault.MpsFault.{MpsFault}
+use Rattle.spec_solve.specs.Answers.{IsSolved, number_limit}
 use Rattle.spec_server.specs.declared.asks.Reply.TheVariants as reply
 use Rattle.spec_server.specs.declared.asks.Refusal.TheVariants as refusal
 use Rattle.spec_server.specs.declared.basis.BasisFault.{BasisFault}
 use Rattle.spec_server.specs.declared.basis.BasisFault.TheVariants as fault
-use Rattle.spec_server.specs.Answers.{IsSolved, number_limit}
 use Rattle.spec_server.specs.Machine.{opening_budget}
 use Rattle.spec_server.specs.CheckOut.{check_line}
 use Rattle.spec_server.specs.BasisOut.{Handed, BasisOut, basis_fault_line, basis_lines}

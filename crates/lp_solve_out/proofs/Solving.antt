@@ -3,7 +3,7 @@ use Rattle.std.proofs.Common.{◌≡◌, ℕ, List, ◌++◌, None, Result, Ok, 
 use Rattle.std.specs.Prelude.{OnOk}
 use Rattle.spec_model.specs.Model.{Model}
 use Rattle.spec_warm.specs.Solve.{SolveEnd}
-use Rattle.spec_server.specs.Answers.{IsSolved}
+use Rattle.spec_solve.specs.Answers.{IsSolved}
 use Rattle.spec_server.specs.Machine.{opening_budget}
 use Rattle.spec_server.specs.SolveOut.{SolveOut, solved_lines}
 use Rattle.lp_solve_out.specs.Prints.{Prints}

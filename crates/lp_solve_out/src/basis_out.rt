@@ -1,7 +1,7 @@
 // The solve of a model from the basis of a file.
 ghost use Rattle.std.specs.Prelude.{◌≡◌, ◌++◌, OnOk, Ok, Some};
 ghost use Rattle.spec_simplex.specs.Form.{form_of};
-ghost use Rattle.spec_server.specs.Answers.{number_limit, MayAnswer};
+ghost use Rattle.spec_solve.specs.Answers.{number_limit, MayAnswer};
 ghost use Rattle.spec_server.specs.Machine.{opening_budget, pivots_of_solved};
 ghost use Rattle.spec_server.specs.BasisOut.{BasisOut, final_text};
 ghost use Rattle.spec_server.specs.CheckOut.{check_line};

@@ -1,6 +1,6 @@
 // The solve of a model.
 ghost use Rattle.std.specs.Prelude.{◌≡◌, ◌++◌, ℕ, Ok, OnOk};
-ghost use Rattle.spec_server.specs.Answers.{MayAnswer};
+ghost use Rattle.spec_solve.specs.Answers.{MayAnswer};
 ghost use Rattle.spec_server.specs.CheckOut.{check_line};
 ghost use Rattle.spec_server.specs.Machine as machine;
 ghost use Rattle.spec_server.specs.Output.{ended_lines};

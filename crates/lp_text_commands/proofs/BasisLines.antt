@@ -9,9 +9,9 @@ use Rattle.spec_mps.specs.declared.style.Style.{Style}
 use Rattle.spec_mps.specs.Steps as text
 use Rattle.spec_simplex.specs.declared.ends.FormFault.{FormFault}
 use Rattle.spec_simplex.specs.Form.{Form, form_of}
+use Rattle.spec_solve.specs.Answers.{number_limit}
 use Rattle.spec_bas.specs.Cards.{reading_of}
 use Rattle.spec_bas.specs.Steps as file
-use Rattle.spec_server.specs.Answers.{number_limit}
 use Rattle.spec_server.specs.BasisOut as reading
 use Rattle.spec_server.specs.BasisOut.{basis_step}
 use Rattle.spec_server.specs.Said as said

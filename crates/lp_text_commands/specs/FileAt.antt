@@ -2,9 +2,9 @@
 use Rattle.std.specs.Prelude.{ℕ, ◌≡◌, Some, Ok}
 use Rattle.spec_model.specs.Model.{Model}
 use Rattle.spec_simplex.specs.Form.{Form, form_of}
+use Rattle.spec_solve.specs.Answers.{number_limit}
 use Rattle.spec_bas.specs.Steps as file
 use Rattle.spec_bas.specs.Fits.{IsMarking}
-use Rattle.spec_server.specs.Answers.{number_limit}
 
 -- a model, its form, what was read of the file so far, and of how many lines
 pub record FileAt : Type 0 where

@@ -11,12 +11,12 @@ use Rattle.spec_pivot.specs.declared.status.Status.{Status}
 use Rattle.spec_check.specs.declared.solve_end.SolveEnd.TheVariants as outcome
 use Rattle.spec_cold.specs.Cold.{ExactSolveEnd, cold}
 use Rattle.spec_cold.proofs.Solved.{ended_is_true}
+use Rattle.spec_solve.specs.Answers.{number_limit, MayAnswer}
 use Rattle.spec_reads.specs.Reads.{ExactRead}
 use Rattle.spec_server.specs.declared.asks.Ask.TheVariants as ask
 use Rattle.spec_server.specs.declared.asks.Reply.TheVariants as reply
 use Rattle.spec_server.specs.declared.answer.Answer.TheVariants as answer
 use Rattle.spec_server.specs.declared.command.Plain.TheVariants as command
-use Rattle.spec_server.specs.Answers.{number_limit, MayAnswer}
 use Rattle.spec_server.specs.Machine.{ExactReply, State, solve_due, answer_of}
 use Rattle.spec_server.specs.Step.{AloneStep}
 use Rattle.spec_server.proofs.Simply.{SolveStep, Does, WantsMemory, step_simply}

@@ -26,6 +26,7 @@ use Rattle.spec_warm.specs.declared.ends.Route.TheVariants as route
 use Rattle.spec_factor.specs.Over.{over_factors}
 use Rattle.spec_solve.specs.Order.{MayEndCold, or_tableaus, cold_by}
 use Rattle.spec_solve.proofs.Orders.{part_true, by_may}
+use Rattle.spec_solve.specs.Answers.{number_limit, IsSolved}
 use Rattle.spec_reads.specs.declared.read.Put.TheVariants.{Full}
 use Rattle.spec_reads.specs.declared.read.Read.TheVariants.{Count}
 use Rattle.spec_reads.specs.Reads.{Words, ExactRead}
@@ -34,7 +35,6 @@ use Rattle.spec_server.specs.declared.answer.Publication.{Publication}
 use Rattle.spec_server.specs.declared.answer.Publication.TheVariants as publication
 use Rattle.spec_server.specs.declared.asks.Ask.TheVariants as ask
 use Rattle.spec_server.specs.declared.command.Plain.TheVariants as command
-use Rattle.spec_server.specs.Answers.{number_limit, IsSolved}
 use Rattle.spec_server.specs.Machine.{ExactAsk, ExactReply, ExactLastAnswer, IsKeptAsk, State, is_memory, verdict_on}
 use Rattle.spec_server.specs.Machine.{check_reply, fixed_reply, text_reply, write_reply, cert_reply, how_reply, Due}
 use Rattle.spec_server.specs.Machine.{Replies, Solves, solve_due, edit_refusal, edit_due, change_due, due}

@@ -40,7 +40,7 @@ use Rattle.spec_cold.specs.Cold.{ExactSolveEnd, point, multipliers, moves_below,
 use Rattle.spec_cold.specs.Cold.{certificate_of}
 use Rattle.spec_cold.specs.Cold.{basis_of, pivots_of, checked, after_phases, after_form, cold}
 use Rattle.spec_path.proofs.Runs.{then_ok, refused_ok}
-use Rattle.spec_server.specs.Answers.{number_limit}
+use Rattle.spec_solve.specs.Answers.{number_limit}
 use Rattle.spec_server.proofs.NarrowSteps.{NarrowBound, AreNarrow, number_at, place_narrow, flip_narrow, pivot_narrow}
 use Rattle.spec_server.proofs.NarrowStart.{IsNarrowForm, one_narrow, form_narrow, start_narrow, priced_narrow}
 

@@ -45,7 +45,7 @@ use Rattle.spec_factor.specs.Over.{RevisedEnded, over_or_spent, over_or_next, ov
 use Rattle.spec_factor.specs.Over.{second_state, OverEnd, negatives, stuck_answer, over_certificate, end_answer}
 use Rattle.spec_factor.specs.Over.{over_two}
 use Rattle.spec_factor.specs.Over.{over_phases, over_run, after_over, over_factors}
-use Rattle.spec_server.specs.Answers.{number_limit}
+use Rattle.spec_solve.specs.Answers.{number_limit}
 use Rattle.spec_server.proofs.NarrowRuns.{quotient_narrow, less_narrow, all_given}
 use Rattle.spec_server.proofs.NarrowSteps.{AreNarrow, number_at, moved_narrow, shifted_narrow}
 use Rattle.spec_server.proofs.NarrowSteps.{flip_narrow, exchanged_narrow}

@@ -18,7 +18,7 @@ use Rattle.spec_mps.proofs.NarrowNumbers.{zero_narrow}
 use Rattle.spec_exact.specs.Run.{Run, sum_run, difference_run, product_run, quotient_run, plus_product, less_product}
 use Rattle.spec_exact.specs.Run.{list_run}
 use Rattle.spec_path.proofs.Runs.{then_ok, list_ok}
-use Rattle.spec_server.specs.Answers.{number_limit}
+use Rattle.spec_solve.specs.Answers.{number_limit}
 
 -- ---- one operation
 

@@ -31,7 +31,7 @@ use Rattle.spec_simplex.specs.Start.{with_reduced, first_cost, first_costs, star
 use Rattle.spec_exact.proofs.Stops.{All-made}
 use Rattle.spec_exact.proofs.Narrow.{neg_narrow}
 use Rattle.spec_path.proofs.Runs.{then_ok, refused_ok, steps_ok}
-use Rattle.spec_server.specs.Answers.{number_limit}
+use Rattle.spec_solve.specs.Answers.{number_limit}
 use Rattle.spec_server.proofs.NarrowRuns.{sum_narrow, difference_narrow, plus_narrow, less_narrow, all_given}
 use Rattle.spec_server.proofs.NarrowSteps.{NarrowBound, AreNarrow, at, number_at, bound_at, or_zero_narrow}
 use Rattle.spec_server.proofs.NarrowSteps.{stand_narrow}

@@ -17,7 +17,7 @@ use Rattle.spec_simplex.specs.Step.{directed, other_bound, is_place, moved_at, m
 use Rattle.spec_simplex.specs.Step.{scaled_run, cleared_run, turned_run, repriced_run, leave_bound, exchanged, turned}
 use Rattle.spec_simplex.specs.Step.{shifted_run, pivot_run}
 use Rattle.spec_path.proofs.Runs.{then_ok, steps_ok}
-use Rattle.spec_server.specs.Answers.{number_limit}
+use Rattle.spec_solve.specs.Answers.{number_limit}
 use Rattle.spec_server.proofs.NarrowRuns.{sum_narrow, quotient_narrow, less_narrow, all_given}
 
 abbrev pub NarrowBound : Option ℚ → Type 0

@@ -13,10 +13,10 @@ use Rattle.spec_check.specs.Certificate.{Holds}
 use Rattle.spec_check.specs.TextWritten.{certificate_lines}
 use Rattle.spec_pivot.specs.declared.status.Status.{Status}
 use Rattle.spec_check.specs.declared.solve_end.SolveEnd.TheVariants.{Ended}
+use Rattle.spec_solve.specs.Answers.{MayAnswer}
 use Rattle.spec_reads.specs.Reads.{ExactRead}
 use Rattle.spec_server.specs.declared.asks.Asked.{Asked}
 use Rattle.spec_server.specs.declared.asks.Reply.TheVariants as reply
-use Rattle.spec_server.specs.Answers.{MayAnswer}
 use Rattle.spec_server.specs.LastFits.{LastFits}
 use Rattle.spec_server.specs.Machine.{ExactAsk, ExactReply, ExactLastAnswer, IsKeptAsk, AreKept, State, opening, Due}
 use Rattle.spec_server.specs.Machine.{Replies, Solves, due}

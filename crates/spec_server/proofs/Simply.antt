@@ -7,6 +7,7 @@ use Rattle.spec_edit.specs.Edited.{ExactEdit, OrFault, edited}
 use Rattle.spec_simplex.specs.declared.ends.FormFault.{FormFault}
 use Rattle.spec_simplex.specs.Form.{Form, form_of}
 use Rattle.spec_cold.specs.Cold.{ExactSolveEnd, cold}
+use Rattle.spec_solve.specs.Answers.{number_limit, MayAnswer}
 use Rattle.spec_reads.specs.Reads.{Words, ExactRead, Looked}
 use Rattle.spec_server.specs.declared.answer.How.{How}
 use Rattle.spec_server.specs.declared.answer.How.TheVariants as how
@@ -15,7 +16,6 @@ use Rattle.spec_server.specs.declared.answer.Publication.TheVariants as publicat
 use Rattle.spec_server.specs.declared.asks.Ask.TheVariants as ask
 use Rattle.spec_server.specs.declared.asks.Reply.TheVariants as reply
 use Rattle.spec_server.specs.declared.command.Plain.TheVariants as command
-use Rattle.spec_server.specs.Answers.{number_limit, MayAnswer}
 use Rattle.spec_server.specs.Machine.{ExactAsk, ExactReply, State, Due, Replies, Solves, solve_due, edit_due}
 use Rattle.spec_server.specs.Machine.{change_due, due}
 use Rattle.spec_server.specs.Step.{answered, with_answer, solve_begun, begun_by, Begins, Worked, Ends, Publishes}

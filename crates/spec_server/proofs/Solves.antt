@@ -28,7 +28,7 @@ use Rattle.spec_factor.specs.Over.{over_factors}
 use Rattle.spec_solve.specs.Order.{GivesUp, MayEndCold, MayEndBy, MayEnd}
 use Rattle.spec_solve.proofs.Orders as orders
 use Rattle.spec_solve.proofs.Orders.{part_true, part_ends, tableaus_give_up, factors_give_up, formless_ends}
-use Rattle.spec_server.specs.Answers.{number_limit, enough_pivots, MayAnswer, ColdFits, WarmFits, IsSolved}
+use Rattle.spec_solve.specs.Answers.{number_limit, enough_pivots, MayAnswer, ColdFits, WarmFits, IsSolved}
 
 -- ---- the cold solve
 

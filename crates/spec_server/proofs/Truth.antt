@@ -18,6 +18,7 @@ use Rattle.spec_cold.specs.Cold.{ExactSolveEnd}
 use Rattle.spec_check.proofs.Fits.{settled_fits}
 use Rattle.spec_check.proofs.RunSound.{run_sound}
 use Rattle.spec_check.proofs.Sound.{checks_hold}
+use Rattle.spec_solve.specs.Answers.{number_limit, MayAnswer}
 use Rattle.spec_reads.specs.Reads.{ExactRead}
 use Rattle.spec_server.specs.declared.asks.Ask.TheVariants as ask
 use Rattle.spec_server.specs.declared.asks.Reply.TheVariants as reply
@@ -25,7 +26,6 @@ use Rattle.spec_server.specs.declared.asks.Refusal.TheVariants as refusal
 use Rattle.spec_server.specs.declared.answer.Answer.{Answer}
 use Rattle.spec_server.specs.declared.answer.Answer.TheVariants as answer
 use Rattle.spec_server.specs.declared.command.Plain.TheVariants as command
-use Rattle.spec_server.specs.Answers.{number_limit, MayAnswer}
 use Rattle.spec_server.specs.Machine.{State, ExactReply, verdict_on, check_reply, solve_due, answer_of}
 use Rattle.spec_server.specs.Step.{AloneStep}
 use Rattle.spec_server.proofs.Simply.{Does, WantsMemory, step_simply}

@@ -31,8 +31,8 @@ use Rattle.spec_check.specs.TextWritten.{certificate_lines}
 use Rattle.spec_check.proofs.ReadBack.{read_back}
 use Rattle.spec_pivot.specs.declared.status.Status.{Status}
 use Rattle.spec_check.specs.declared.solve_end.SolveEnd.TheVariants.{Ended}
+use Rattle.spec_solve.specs.Answers.{MayAnswer}
 use Rattle.spec_server.specs.declared.asks.Reply.TheVariants as reply
-use Rattle.spec_server.specs.Answers.{MayAnswer}
 use Rattle.spec_server.specs.Machine.{verdict_on}
 use Rattle.spec_server.specs.Output.{ended_lines}
 use Rattle.spec_server.specs.Said.{IsSaidEarly, follow}

@@ -16,6 +16,7 @@ use Rattle.spec_cold.specs.Cold.{ExactSolveEnd}
 use Rattle.spec_warm.specs.declared.ends.Route.{Route}
 use Rattle.spec_warm.specs.declared.ends.Route.TheVariants as route
 use Rattle.spec_warm.specs.Solve.{SolveEnd}
+use Rattle.spec_solve.specs.Answers.{IsSolved, number_limit}
 use Rattle.spec_bas.specs.Steps.{code_number}
 use Rattle.spec_bas.specs.Steps as file
 use Rattle.spec_bas.specs.Written.{bas_text}
@@ -23,7 +24,6 @@ use Rattle.spec_server.specs.declared.asks.Reply.TheVariants as reply
 use Rattle.spec_server.specs.declared.asks.Refusal.TheVariants as refusal
 use Rattle.spec_server.specs.declared.basis.BasisFault.{BasisFault}
 use Rattle.spec_server.specs.declared.basis.BasisFault.TheVariants as fault
-use Rattle.spec_server.specs.Answers.{IsSolved, number_limit}
 use Rattle.spec_server.specs.Machine.{opening_budget, answer_of, lines_of_solved, pivots_of_solved}
 use Rattle.spec_server.specs.Output.{ended_lines, fall_text, pivots_text}
 use Rattle.spec_server.specs.Said.{Step, On, Says, said_by}

@@ -20,6 +20,7 @@ use Rattle.spec_edit.specs.Edited as edits
 use Rattle.spec_pivot.specs.declared.status.Status.{Status}
 use Rattle.spec_check.specs.declared.solve_end.SolveEnd.TheVariants as outcome
 use Rattle.spec_cold.specs.Cold.{ExactSolveEnd}
+use Rattle.spec_solve.specs.Answers.{number_limit}
 use Rattle.spec_server.specs.declared.answer.Answer.{Answer}
 use Rattle.spec_server.specs.declared.answer.Answer.TheVariants as answer
 use Rattle.spec_server.specs.declared.answer.LastAnswer.{LastAnswer}
@@ -31,7 +32,6 @@ use Rattle.spec_server.specs.declared.asks.Reply.TheVariants as reply
 use Rattle.spec_server.specs.declared.asks.Refusal.TheVariants as refusal
 use Rattle.spec_server.specs.declared.command.Plain.{Plain}
 use Rattle.spec_server.specs.declared.command.Plain.TheVariants as command
-use Rattle.spec_server.specs.Answers.{number_limit}
 
 -- an ask, a reply and a last answer of exact numbers
 abbrev pub ExactAsk : Type 0

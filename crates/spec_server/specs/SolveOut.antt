@@ -8,9 +8,9 @@ use Rattle.spec_mps.specs.Reader.{State, start}
 use Rattle.spec_mps.specs.Steps as text
 use Rattle.spec_cold.specs.Cold.{ExactSolveEnd}
 use Rattle.spec_warm.specs.Solve.{SolveEnd}
+use Rattle.spec_solve.specs.Answers.{IsSolved}
 use Rattle.spec_server.specs.declared.asks.Reply.TheVariants as reply
 use Rattle.spec_server.specs.declared.asks.Refusal.TheVariants as refusal
-use Rattle.spec_server.specs.Answers.{IsSolved}
 use Rattle.spec_server.specs.Machine.{opening_budget, answer_of, lines_of_solved}
 use Rattle.spec_server.specs.Output.{ended_lines}
 use Rattle.spec_server.specs.Said.{Step, On, Says, said_by}

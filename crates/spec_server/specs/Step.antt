@@ -15,6 +15,7 @@ use Rattle.spec_cold.specs.Cold.{ExactSolveEnd, cold}
 use Rattle.spec_warm.specs.declared.ends.Route.{Route}
 use Rattle.spec_warm.specs.declared.ends.Route.TheVariants as route
 use Rattle.spec_warm.specs.Solve.{SolveEnd}
+use Rattle.spec_solve.specs.Answers.{number_limit, IsSolved}
 use Rattle.spec_shape.specs.Words.{shape_of, packed, unpacked}
 use Rattle.spec_reads.specs.declared.read.Put.{Put}
 use Rattle.spec_reads.specs.Reads.{Words, ExactRead, Looked, LookReads, PutReads}
@@ -23,7 +24,6 @@ use Rattle.spec_server.specs.declared.answer.How.TheVariants as how
 use Rattle.spec_server.specs.declared.answer.Publication.{Publication}
 use Rattle.spec_server.specs.declared.answer.Publication.TheVariants as publication
 use Rattle.spec_server.specs.declared.asks.Reply.TheVariants as reply
-use Rattle.spec_server.specs.Answers.{number_limit, IsSolved}
 use Rattle.spec_server.specs.Machine.{ExactAsk, ExactReply, State, Due, Replies, Solves, due, answer_of, takes_memory}
 
 -- ---- an ask begins

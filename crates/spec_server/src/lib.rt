@@ -9,7 +9,6 @@
 //! | `Addressing`, `addressed_in` | whether lines name sessions, and which | src/addressing, specs/Addressing |
 //! | `edit_by` | the edit that a line's words ask for | specs/EditCommand |
 //! | `Pending` | what the lines of a script have begun | specs/Script |
-//! | `MayAnswer`, `HowFits`, `IsSolved` | what a solve may end with, and how it was found | specs/Answers |
 //! | `LastFits` | what holds of the last answer that a session keeps | specs/LastFits |
 //! | `IsAcceptedBack` | that the certificate of an answer is accepted, handed back | specs/HandedBack |
 //! | `AreKept` | asks whose models and edits may be kept | specs/Machine |
@@ -47,12 +46,12 @@ ghost use Rattle.spec_check.specs.TextWritten.{certificate_lines};
 ghost use Rattle.spec_pivot.specs.declared.status.Status.{Status};
 ghost use Rattle.spec_check.specs.declared.solve_end.SolveEnd.TheVariants as outcome;
 ghost use Rattle.spec_cold.specs.Cold.{cold};
+ghost use Rattle.spec_solve.specs.Answers.{number_limit, MayAnswer};
 ghost use Rattle.spec_server.specs.declared.answer.Answer.TheVariants as answer;
 ghost use Rattle.spec_server.specs.declared.asks.Ask.TheVariants as ask;
 ghost use Rattle.spec_server.specs.declared.asks.Asked.{Asked as asked_of};
 ghost use Rattle.spec_server.specs.declared.asks.Reply.TheVariants as reply;
 ghost use Rattle.spec_server.specs.declared.command.Plain.TheVariants as command;
-ghost use Rattle.spec_server.specs.Answers.{number_limit, MayAnswer};
 ghost use Rattle.spec_server.specs.HandedBack.{IsAcceptedBack};
 ghost use Rattle.spec_server.specs.LastFits.{LastFits};
 ghost use Rattle.spec_reads.specs.Reads.{ExactRead};

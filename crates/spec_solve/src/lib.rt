@@ -1,4 +1,4 @@
-//! How a solve may end: the relation, the two stated cold runs, and laws of both.
+//! How a solve may end, and what may be answered: the relation, the two stated cold runs, and laws of both.
 //!
 //! | Item | What it is | Where |
 //! |---|---|---|
@@ -6,6 +6,10 @@
 //! | `MayEnd` | how a solve may, of which a basis may be handed | specs/Order |
 //! | `cold_over` | the two stated runs: over factors, and where they give up over whole tableaus | specs/Order |
 //! | `GivesUp`, `IsChecked` | a cold end without an answer; one to which the checker says yes | specs/Order |
+//! | `MayAnswer` | what a solve may end with, at the limit of the program and within a budget | specs/Answers |
+//! | `HowFits`, `ColdFits`, `WarmFits` | how the end was found | specs/Answers |
+//! | `IsSolved` | all that holds of what a solve ends with, of which a basis may be handed | specs/Answers |
+//! | `number_limit`, `enough_pivots` | the limit of the program, and so many pivots and flips as are enough | specs/Answers |
 //!
 //! All runs take a limit: `Some m` refuses numbers past m, `None` refuses nothing. The functions here have the laws as
 //! their contracts.

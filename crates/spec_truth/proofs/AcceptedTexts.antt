@@ -28,7 +28,7 @@ use Rattle.spec_warm.specs.declared.ends.Fall.TheVariants as fall
 use Rattle.spec_warm.specs.Solve.{SolveEnd}
 use Rattle.spec_server.specs.declared.answer.Answer.{Answer}
 use Rattle.spec_server.specs.declared.asks.Reply.TheVariants as reply
-use Rattle.spec_server.specs.Answers.{MayAnswer}
+use Rattle.spec_solve.specs.Answers.{MayAnswer}
 use Rattle.spec_server.specs.Machine.{opening_budget, answer_of, lines_of_solved, pivots_of_solved, verdict_on}
 use Rattle.spec_server.specs.Output.{reply_text, ended_lines, fall_text, pivots_text}
 use Rattle.spec_server.specs.Said.{follow, said_by}

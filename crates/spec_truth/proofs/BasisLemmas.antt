@@ -19,7 +19,7 @@ use Rattle.spec_bas.specs.Fits.{HasSizeOf}
 use Rattle.spec_bas.proofs.Files.{gives_spells, spells_gives}
 use Rattle.spec_bas.proofs.Sizes.{sized}
 use Rattle.spec_server.specs.declared.basis.BasisFault.TheVariants as fault
-use Rattle.spec_server.specs.Answers.{number_limit}
+use Rattle.spec_solve.specs.Answers.{number_limit}
 use Rattle.spec_server.specs.Said.{follow, said_by}
 use Rattle.spec_server.specs.SolveOut.{TextSaid, behind_line, text_step}
 use Rattle.spec_server.specs.BasisOut.{Handed, InText, InFile, BasisSaid, begun_file, behind_text, behind_file, basis_step}

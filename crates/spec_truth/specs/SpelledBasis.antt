@@ -12,7 +12,7 @@ use Rattle.spec_simplex.specs.Form.{Form, form_of}
 use Rattle.spec_bas.specs.declared.fault.BasCode.{BasCode}
 use Rattle.spec_bas.specs.Steps as file
 use Rattle.spec_bas.specs.Spelled.{SpellsBasis}
-use Rattle.spec_server.specs.Answers.{number_limit}
+use Rattle.spec_solve.specs.Answers.{number_limit}
 use Rattle.spec_server.specs.SolveOut.{text_said}
 use Rattle.spec_server.specs.BasisOut.{Handed}
 

@@ -7,11 +7,11 @@ use Rattle.spec_simplex.specs.Form.{Form, form_of}
 use Rattle.spec_check.specs.declared.solve_end.SolveEnd.TheVariants.{Ended, Past, Spent}
 use Rattle.spec_cold.specs.Cold.{ExactSolveEnd}
 use Rattle.spec_warm.specs.Solve.{SolveEnd}
+use Rattle.spec_solve.specs.Answers.{number_limit, IsSolved}
 use Rattle.spec_shape.specs.Words.{packed}
 use Rattle.spec_reads.specs.declared.read.Read.TheVariants as read
 use Rattle.spec_reads.specs.Reads.{Words, ExactRead, Looked, LookReads}
 use Rattle.spec_server.specs.declared.asks.Reply.TheVariants as reply
-use Rattle.spec_server.specs.Answers.{number_limit, IsSolved}
 use Rattle.spec_server.specs.Machine.{State}
 use Rattle.spec_server.specs.Step.{Looks, Begins, Pending, Worked, Ends, Publishes, handed_by, how_by, is_found}
 use Rattle.spec_server.specs.Step.{words_of_end, worked_with, SolvesWith}

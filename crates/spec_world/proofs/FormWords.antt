@@ -32,7 +32,7 @@ use Rattle.spec_warm.specs.Warm as warms
 use Rattle.spec_warm.specs.Warm.{WarmEnd, WarmResult, warm_run, warm_certificate, warm_basis, warm_pivots, warm}
 use Rattle.spec_warm.specs.Solve.{SolveEnd}
 use Rattle.spec_warm.proofs.TrueEnds.{run_left, phases_left}
-use Rattle.spec_server.specs.Answers.{number_limit, ColdFits, WarmFits, IsSolved}
+use Rattle.spec_solve.specs.Answers.{number_limit, ColdFits, WarmFits, IsSolved}
 
 -- ---- forms
 

@@ -12,12 +12,12 @@ use Rattle.spec_simplex.specs.Form.{Form, IsForm, form_of}
 use Rattle.spec_simplex.specs.Eliminate.{IsBasisOf}
 use Rattle.spec_check.specs.declared.solve_end.SolveEnd.TheVariants.{Ended, Past, Spent}
 use Rattle.spec_cold.specs.Cold.{ExactSolveEnd}
+use Rattle.spec_solve.specs.Answers.{number_limit}
 use Rattle.spec_shape.specs.Words.{shape_of, packed, unpacked, IsWellFormed}
 use Rattle.spec_shape.proofs.Bases.{packed_fits, unpacked_fits}
 use Rattle.spec_reads.specs.declared.read.Read.TheVariants as read
 use Rattle.spec_reads.specs.Reads.{Words, ExactRead, Looked, front, has_shape, SeenBy, SeesDown, LookReads}
 use Rattle.spec_server.specs.declared.asks.Reply.TheVariants as reply
-use Rattle.spec_server.specs.Answers.{number_limit}
 use Rattle.spec_server.specs.Machine.{State, solve_due}
 use Rattle.spec_server.specs.Step.{Begun, Answers, Looks, solve_begun, begun_by, Begins, Pending, Ends}
 use Rattle.spec_server.specs.Step.{Publishes, handed_by, how_by, is_found, words_of_end, worked_with, SolvesWith, Works}

@@ -1,6 +1,6 @@
 -- With the basis that was found, or with nothing.
 use Rattle.std.proofs.Common.{Some, None, IfOk, sym, ap, subst}
-use Rattle.spec_server.specs.Answers.{IsSolved}
+use Rattle.spec_solve.specs.Answers.{IsSolved}
 use Rattle.spec_server.specs.Step.{handed_by}
 use Rattle.lp_session.proofs.Ends.{solved_ok, leaves_ok, found_fits, found_handed}
 use Rattle.lp_session.proofs.working.solved_from.Goals as goal

@@ -1,4 +1,4 @@
--- What a solve may end with.
+-- What a solve at the limit of the program may end with.
 use Rattle.std.specs.Prelude.{◌≡◌, ◌*◌, ◌+◌, ◌^◌, ◌<◌, ℕ, Option, Some, None, Ok, Err, List}
 use Rattle.spec_exact.specs.Fraction.{ℚ}
 use Rattle.spec_model.specs.Model.{Model, width, height}
@@ -16,7 +16,7 @@ use Rattle.spec_warm.specs.Solve.{SolveEnd, fall_of}
 use Rattle.spec_factor.specs.Over.{over_factors}
 use Rattle.spec_solve.specs.Order.{GivesUp}
 
--- the limit of the numbers that the server holds, 2 ^ 127 - 1
+-- the limit of the numbers that the program holds, 2 ^ 127 - 1
 abbrev pub number_limit : ℕ
 number_limit = 170141183460469231731687303715884105727
 
