@@ -10,6 +10,7 @@ use Rattle.spec_cold.specs.Cold.{ExactSolveEnd}
 use Rattle.spec_warm.specs.Solve.{SolveEnd, HasBasis}
 use Rattle.spec_solve.specs.Order.{MayEnd}
 use Rattle.spec_solve.specs.Answers.{number_limit, MayAnswer, IsSolved}
+use Rattle.spec_solve.proofs.Solves.{is_solved}
 use Rattle.spec_shape.specs.Words.{IsWellFormed, packed, unpacked}
 use Rattle.spec_shape.proofs.Bases.{packed_fits, unpacked_fits}
 use Rattle.spec_reads.specs.declared.read.Found.{Found}
@@ -18,7 +19,6 @@ use Rattle.spec_server.specs.Step.{handed_by, words_of_end}
 use Rattle.lp_solve.specs.Fit.{IsFit}
 use Rattle.lp_session.specs.Stages.{IsEndOf, FitsForm, LeavesBasis}
 use Rattle.lp_session.proofs.Left.{leaves_basis}
-use Rattle.spec_server.proofs.Solves.{is_solved}
 
 -- ---- it is allowed
 module _ {E : Type 0} (m : Model) (handed : Option (List Status)) (r : Result SolveEnd E) where

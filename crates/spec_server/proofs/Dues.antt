@@ -1,6 +1,5 @@
 -- What is due to each ask can be done, with memory enough, where models are ones that may be kept.
-use Rattle.std.proofs.Common.{◌≡◌, ℕ, false, List, [], ◌∷◌, Option, Some, None, Result, Ok, Err, refl, ◌∙◌, inl, subst}
-use Rattle.spec_pivot.specs.declared.status.Status.{Status}
+use Rattle.std.proofs.Common.{◌≡◌, ℕ, false, List, [], ◌∷◌, Option, Some, None, Result, Ok, Err, refl, inl}
 use Rattle.std.specs.Prelude.{IfSome}
 use Rattle.spec_exact.specs.Fraction.{ℚ}
 use Rattle.spec_model.specs.Model.{Model, Name}
@@ -10,8 +9,6 @@ use Rattle.spec_mps.specs.declared.style.Style.TheVariants as style
 use Rattle.spec_mps.specs.Written.{too_wide}
 use Rattle.spec_check.specs.declared.certificate.Certificate.{Certificate}
 use Rattle.spec_check.specs.declared.certificate.SettleFault.TheVariants as settle
-use Rattle.spec_check.specs.declared.certificate.Known.{Known}
-use Rattle.spec_check.specs.Certificate.{IsNarrowCertificate}
 use Rattle.spec_check.specs.Settle.{Settled, certificate_for}
 use Rattle.spec_check.specs.Text.{ExactRaw}
 use Rattle.spec_edit.specs.declared.edit.EditFault.{EditFault}
@@ -20,13 +17,11 @@ use Rattle.spec_edit.specs.Edited.{ExactEdit, OrFault, IsKeptEdit, edited}
 use Rattle.spec_edit.proofs.EditsKeep.{edited-kept}
 use Rattle.spec_simplex.specs.declared.ends.FormFault.{FormFault}
 use Rattle.spec_simplex.specs.Form.{Form, form_of}
-use Rattle.spec_cold.specs.Cold.{ExactSolveEnd, cold}
-use Rattle.spec_check.specs.declared.solve_end.SolveEnd.TheVariants.{Ended, Past, Spent}
+use Rattle.spec_cold.specs.Cold.{ExactSolveEnd}
 use Rattle.spec_warm.specs.declared.ends.Route.TheVariants as route
-use Rattle.spec_factor.specs.Over.{over_factors}
-use Rattle.spec_solve.specs.Order.{MayEndCold, or_tableaus, cold_by}
-use Rattle.spec_solve.proofs.Orders.{part_true, by_may}
-use Rattle.spec_solve.specs.Answers.{number_limit, IsSolved}
+use Rattle.spec_solve.specs.Order.{cold_by}
+use Rattle.spec_solve.specs.Answers.{number_limit}
+use Rattle.spec_solve.proofs.Stated.{part_is_solved}
 use Rattle.spec_reads.specs.declared.read.Put.TheVariants.{Full}
 use Rattle.spec_reads.specs.declared.read.Read.TheVariants.{Count}
 use Rattle.spec_reads.specs.Reads.{Words, ExactRead}
@@ -38,39 +33,12 @@ use Rattle.spec_server.specs.declared.command.Plain.TheVariants as command
 use Rattle.spec_server.specs.Machine.{ExactAsk, ExactReply, ExactLastAnswer, IsKeptAsk, State, is_memory, verdict_on}
 use Rattle.spec_server.specs.Machine.{check_reply, fixed_reply, text_reply, write_reply, cert_reply, how_reply, Due}
 use Rattle.spec_server.specs.Machine.{Replies, Solves, solve_due, edit_refusal, edit_due, change_due, due}
-use Rattle.spec_server.proofs.NarrowCold.{cold_narrow}
-use Rattle.spec_server.proofs.NarrowOver.{over_narrow}
-use Rattle.spec_server.proofs.Solves.{cold_solved}
 use Rattle.spec_server.specs.Step.{answered, with_answer, solve_begun, begun_by, words_of_end, worked_with, Concludes}
 use Rattle.spec_server.specs.Step.{GoesOn, AloneStep}
 
--- ---- the cold part of a solve at the limit is a solve that is allowed
-
--- its certificate has narrow numbers, whichever of both runs ended with it
-or_narrow : (known : Known ℚ) (c : Certificate (List ℚ)) (basis : Option (List Status)) (pivots : ℕ) (budget : ℕ)
-    (m : Model) (f : Form) (o : ExactSolveEnd) →
-    form_of (Some number_limit) m ≡ Ok f → IsModel m → over_factors (Some number_limit) budget m f ≡ o →
-    or_tableaus o (cold (Some number_limit) budget m) ≡ Ended known c basis pivots → IsNarrowCertificate c
-or_narrow known c basis pivots budget m f (Ended a d b n) formed kept q e =
-    over_narrow known c basis pivots budget m f formed kept (q ∙ e)
-or_narrow known c basis pivots budget m f (Past p) formed kept q e = cold_narrow known c basis pivots budget m kept e
-or_narrow known c basis pivots budget m f Spent formed kept q e = cold_narrow known c basis pivots budget m kept e
-
--- the end of the cold part, by the model's form
+-- the end of the cold part of a solve at the limit, by the model's form
 abbrev part_end : ℕ → Model → Result Form (FormFault ℚ) → ExactSolveEnd
 part_end budget m o = cold_by (Some number_limit) budget m o
-
-pub part_is_solved : (m : Model) (budget : ℕ) (f : Form) → form_of (Some number_limit) m ≡ Ok f → IsModel m →
-    IsSolved m budget None (record { end = part_end budget m (Ok f); route = route.Cold })
-part_is_solved m budget f formed kept =
-    let may : MayEndCold (Some number_limit) budget m (part_end budget m (Ok f)) =
-    by_may (Some number_limit) budget m (Ok f) formed in
-    cold_solved m budget (part_end budget m (Ok f)) may
-    (λ known c basis pivots e. (
-      (part_true (Some number_limit) budget m known c basis pivots
-          (subst (MayEndCold (Some number_limit) budget m) e may)).1,
-      or_narrow known c basis pivots budget m f (over_factors (Some number_limit) budget m f) formed kept refl e,
-    ))
 
 -- ---- with no place claimed for the look, and all of them for the put
 

@@ -1,10 +1,4 @@
 -- Lemmas.
-pub mod NarrowRuns
-pub mod NarrowSteps
-pub mod NarrowStart
-pub mod NarrowCold
-pub mod NarrowOver
-pub mod Solves
 pub mod Simply
 pub mod Dues
 pub mod HandedBack

@@ -14,6 +14,7 @@ use Rattle.spec_check.specs.TextWritten.{certificate_lines}
 use Rattle.spec_pivot.specs.declared.status.Status.{Status}
 use Rattle.spec_check.specs.declared.solve_end.SolveEnd.TheVariants.{Ended}
 use Rattle.spec_solve.specs.Answers.{MayAnswer}
+use Rattle.spec_solve.proofs.TrueAnswers.{ended_true}
 use Rattle.spec_reads.specs.Reads.{ExactRead}
 use Rattle.spec_server.specs.declared.asks.Asked.{Asked}
 use Rattle.spec_server.specs.declared.asks.Reply.TheVariants as reply
@@ -28,7 +29,6 @@ use Rattle.spec_server.specs.CheckOut.{said}
 use Rattle.spec_server.proofs.Dues.{IsKeptState, due_next, after_kept}
 use Rattle.spec_server.proofs.LastFits.{step_fits}
 use Rattle.spec_server.proofs.Simply.{Does, WantsMemory, step_simply}
-use Rattle.spec_server.proofs.Truth.{ended_true}
 use Rattle.spec_server.proofs.WrittenChecks.{free_checks}
 
 -- ---- steps

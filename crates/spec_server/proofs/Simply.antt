@@ -8,6 +8,7 @@ use Rattle.spec_simplex.specs.declared.ends.FormFault.{FormFault}
 use Rattle.spec_simplex.specs.Form.{Form, form_of}
 use Rattle.spec_cold.specs.Cold.{ExactSolveEnd, cold}
 use Rattle.spec_solve.specs.Answers.{number_limit, MayAnswer}
+use Rattle.spec_solve.proofs.Solves.{formless_solved}
 use Rattle.spec_reads.specs.Reads.{Words, ExactRead, Looked}
 use Rattle.spec_server.specs.declared.answer.How.{How}
 use Rattle.spec_server.specs.declared.answer.How.TheVariants as how
@@ -21,7 +22,6 @@ use Rattle.spec_server.specs.Machine.{change_due, due}
 use Rattle.spec_server.specs.Step.{answered, with_answer, solve_begun, begun_by, Begins, Worked, Ends, Publishes}
 use Rattle.spec_server.specs.Step.{how_by, is_found, words_of_end, worked_with, SolvesWith, Works, Concludes, GoesOn}
 use Rattle.spec_server.specs.Step.{AloneStep}
-use Rattle.spec_server.proofs.Solves.{formless_may}
 
 -- a solve replies its answer, and the session keeps it
 pub record SolveStep (old : State) (m : Model) (replied : ExactReply) (new : State) : Type 0 where
@@ -129,7 +129,7 @@ module _ (places : ℕ) (old : State) (reads : List ExactRead) (replied : ExactR
     how = how.Cold;
     publication = publication.Nothing;
     held = held;
-    may_answer = formless_may m old.budget why is;
+    may_answer = (formless_solved m old.budget why is).may_answer;
     answer = g.1;
     kept = g.2;
   })

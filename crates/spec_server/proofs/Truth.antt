@@ -12,13 +12,13 @@ use Rattle.spec_check.specs.Certificate.{Holds}
 use Rattle.spec_check.specs.Text.{ExactRaw}
 use Rattle.spec_check.specs.Settle.{Settled, certificate_for}
 use Rattle.spec_check.specs.Run.{Run, check_run, verdict_of}
-use Rattle.spec_pivot.specs.declared.status.Status.{Status}
 use Rattle.spec_check.specs.declared.solve_end.SolveEnd.TheVariants as outcome
 use Rattle.spec_cold.specs.Cold.{ExactSolveEnd}
 use Rattle.spec_check.proofs.Fits.{settled_fits}
 use Rattle.spec_check.proofs.RunSound.{run_sound}
 use Rattle.spec_check.proofs.Sound.{checks_hold}
 use Rattle.spec_solve.specs.Answers.{number_limit, MayAnswer}
+use Rattle.spec_solve.proofs.TrueAnswers.{ended_true}
 use Rattle.spec_reads.specs.Reads.{ExactRead}
 use Rattle.spec_server.specs.declared.asks.Ask.TheVariants as ask
 use Rattle.spec_server.specs.declared.asks.Reply.TheVariants as reply
@@ -81,13 +81,6 @@ answers_same a b e = cc
 
 knowns_same : (a b : Known ℚ) → ◌≡◌ {A = Answer ℚ} (answer.Known a) (answer.Known b) → a ≡ b
 knowns_same a b e = cc
-
-pub ended_true : (m : Model) (budget : ℕ) (known : Known ℚ) (cert : Certificate (List ℚ)) (basis : Option (List Status))
-    (pivots : ℕ) →
-    MayAnswer m budget (outcome.Ended known cert basis pivots) → Holds m known
-ended_true m budget known cert basis pivots h =
-    let sound = run_sound (Some number_limit) m cert known h.0 h.2 in
-    subst (Holds m) (sym sound.1) (checks_hold m cert sound.0)
 
 solved_true : (m : Model) (budget : ℕ) (solved : ExactSolveEnd) (said : Known ℚ) → MayAnswer m budget solved →
     answer.Known said ≡ answer_of budget solved → Holds m said

@@ -1,1 +1,10 @@
 pub mod Orders
+pub mod NarrowRuns
+pub mod NarrowSteps
+pub mod NarrowStart
+pub mod NarrowCold
+pub mod NarrowOver
+pub mod Solves
+pub mod Stated
+pub mod TrueAnswers
+pub mod Left

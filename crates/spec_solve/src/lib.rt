@@ -17,23 +17,27 @@
 //! The solve over whole tableaus alone is that of `spec_warm`, the run over factors that of `spec_factor`.
 #![tactic(auto)]
 
-ghost use Rattle.std.specs.Prelude.{◌≡◌, ◌⊎◌, ℕ, List, Option, None, Ok, Err};
+ghost use Rattle.std.specs.Prelude.{◌≡◌, ◌⊎◌, ℕ, List, Option, Some, None, Ok, Err, IfSome};
 ghost use Rattle.spec_exact.specs.Fraction.{ℚ};
 ghost use Rattle.spec_exact.specs.declared.past.Past.{Past};
 ghost use Rattle.spec_model.specs.Model.{Model};
+ghost use Rattle.spec_model.specs.Kept.{IsModel};
 ghost use Rattle.spec_check.specs.declared.certificate.Certificate.{Certificate};
 ghost use Rattle.spec_check.specs.declared.certificate.Known.{Known};
-ghost use Rattle.spec_check.specs.Certificate.{IsFor, Holds};
+ghost use Rattle.spec_check.specs.Certificate.{IsFor, IsNarrowCertificate, Holds};
 ghost use Rattle.spec_check.specs.Run.{check_run};
 ghost use Rattle.spec_pivot.specs.declared.status.Status.{Status};
 ghost use Rattle.spec_simplex.specs.declared.ends.FormFault.{FormFault};
 ghost use Rattle.spec_simplex.specs.Form.{Form, form_of};
+ghost use Rattle.spec_simplex.specs.Eliminate.{IsBasisOf};
 ghost use Rattle.spec_simplex.specs.Phases.{PhasesEnd, phases_run};
 ghost use Rattle.spec_check.specs.declared.solve_end.SolveEnd.TheVariants as outcome;
 ghost use Rattle.spec_cold.specs.Cold.{ExactSolveEnd, certificate_of, basis_of, pivots_of, cold};
-ghost use Rattle.spec_warm.specs.Solve.{SolveEnd, solve};
+ghost use Rattle.spec_warm.specs.declared.ends.Route.TheVariants as route;
+ghost use Rattle.spec_warm.specs.Solve.{SolveEnd, HasBasis, solve};
 ghost use Rattle.spec_factor.specs.Over.{over_factors};
 ghost use Rattle.spec_solve.specs.Order.{GivesUp, MayEndCold, MayEnd, cold_over};
+ghost use Rattle.spec_solve.specs.Answers.{number_limit, MayAnswer, IsSolved};
 
 /// The cold part of a solve ends as the cold solve without a limit, or with an operation that is refused.
 pub fn cold_parts_end_as_without_a_limit()
@@ -84,4 +88,49 @@ pub fn further_runs_only_add_answers()
     ensures solve { (limit : Option ℕ) (budget : ℕ) (m : Model) (handed : Option (List Status)) (solved : SolveEnd) →
         MayEnd limit budget m handed solved →
         (solved ≡ solve limit budget m handed) ⊎ GivesUp (solve limit budget m handed).end }
+{}
+
+/// What may be answered is true.
+pub fn what_may_be_answered_is_true()
+    ensures { (m : Model) (budget : ℕ) (known : Known ℚ) (cert : Certificate (List ℚ)) (basis : Option (List Status))
+        (pivots : ℕ) →
+        MayAnswer m budget (outcome.Ended known cert basis pivots) → Holds m known }
+{}
+
+/// Where the cold solve at the limit knows something of the model, the same is answered, and nothing else.
+pub fn what_the_cold_solve_finds_is_answered()
+    ensures { (m : Model) (budget : ℕ) (known : Known ℚ) (cert : Certificate (List ℚ)) (basis : Option (List Status))
+        (pivots : ℕ) (end : ExactSolveEnd) →
+        cold (Some number_limit) budget m ≡ outcome.Ended known cert basis pivots → MayAnswer m budget end →
+        (c : Certificate (List ℚ)) × (b : Option (List Status)) × (n : ℕ) × (end ≡ outcome.Ended known c b n) }
+{}
+
+/// What a solve may end with are the ends that the relation allows at the limit, where a certificate is one for the
+/// model, of narrow numbers.
+pub fn answers_are_ends_of_solves()
+    ensures allowed { (m : Model) (budget : ℕ) (handed : Option (List Status)) (solved : SolveEnd) →
+        IfSome handed (HasBasis (Some number_limit) m) → MayEnd (Some number_limit) budget m handed solved →
+        ((known : Known ℚ) (cert : Certificate (List ℚ)) (basis : Option (List Status)) (pivots : ℕ) →
+        solved.end ≡ outcome.Ended known cert basis pivots → IsFor m cert × IsNarrowCertificate cert) →
+        IsSolved m budget handed solved }
+    ensures ends { (m : Model) (budget : ℕ) (handed : Option (List Status)) (solved : SolveEnd) →
+        IsSolved m budget handed solved → MayEnd (Some number_limit) budget m handed solved }
+    ensures certificates { (m : Model) (budget : ℕ) (handed : Option (List Status)) (solved : SolveEnd)
+        (known : Known ℚ) (cert : Certificate (List ℚ)) (basis : Option (List Status)) (pivots : ℕ) →
+        IsSolved m budget handed solved → solved.end ≡ outcome.Ended known cert basis pivots →
+        IsFor m cert × IsNarrowCertificate cert }
+{}
+
+/// The two stated runs may be all that is tried, of a model that may be kept.
+pub fn stated_runs_are_solves()
+    ensures { (m : Model) (budget : ℕ) → IsModel m →
+        IsSolved m budget None (record { end = cold_over (Some number_limit) budget m; route = route.Cold }) }
+{}
+
+/// The basis that a solve leaves is one of the model's form, if the basis that was handed to it is.
+pub fn solves_leave_bases_of_the_form()
+    ensures { (m : Model) (budget : ℕ) (f : Form) (handed : Option (List Status)) (solved : SolveEnd)
+        (known : Known ℚ) (cert : Certificate (List ℚ)) (left : List Status) (pivots : ℕ) →
+        form_of (Some number_limit) m ≡ Ok f → IfSome handed (IsBasisOf f) → IsSolved m budget handed solved →
+        solved.end ≡ outcome.Ended known cert (Some left) pivots → IsBasisOf f left }
 {}

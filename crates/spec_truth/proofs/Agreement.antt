@@ -8,6 +8,7 @@ use Rattle.spec_edit.specs.Edited.{ExactEdit, OrFault, edited}
 use Rattle.spec_check.specs.declared.solve_end.SolveEnd.TheVariants.{Ended, Past, Spent}
 use Rattle.spec_cold.specs.Cold.{ExactSolveEnd}
 use Rattle.spec_solve.specs.Answers.{MayAnswer}
+use Rattle.spec_solve.proofs.TrueAnswers.{ended_true, one_truth}
 use Rattle.spec_reads.specs.Reads.{ExactRead}
 use Rattle.spec_server.specs.declared.answer.Answer.TheVariants as answer
 use Rattle.spec_server.specs.declared.asks.Ask.TheVariants as ask
@@ -17,9 +18,7 @@ use Rattle.spec_server.specs.Machine.{ExactAsk, ExactReply, ExactLastAnswer, Sta
 use Rattle.spec_server.specs.Machine.{answer_of, cert_reply, how_reply, solve_due, edit_due, change_due, due}
 use Rattle.spec_server.specs.Step.{AloneStep}
 use Rattle.spec_server.specs.Exchanges.{Exchange, AloneRun}
-use Rattle.spec_server.proofs.ColdAnswers.{one_truth}
 use Rattle.spec_server.proofs.Simply.{SolveStep, Does, WantsMemory, step_simply}
-use Rattle.spec_server.proofs.Truth.{ended_true}
 use Rattle.spec_truth.specs.Agree.{IsWon, MayDiffer, IsSameBut, RepliesAgree, HasMemory}
 
 -- ---- answers

@@ -30,11 +30,11 @@ use Rattle.spec_check.proofs.StepsSound.{after_ok, step_ok}
 use Rattle.spec_check.specs.declared.solve_end.SolveEnd.TheVariants as outcome
 use Rattle.spec_cold.specs.Cold.{ExactSolveEnd}
 use Rattle.spec_solve.specs.Answers.{number_limit, MayAnswer}
+use Rattle.spec_solve.proofs.NarrowRuns.{sum_narrow}
 use Rattle.spec_server.specs.declared.answer.Answer.{Answer}
 use Rattle.spec_server.specs.declared.answer.Answer.TheVariants as answer
 use Rattle.spec_server.specs.declared.asks.Reply.TheVariants as reply
 use Rattle.spec_server.specs.Machine.{ExactReply, verdict_on, answer_of}
-use Rattle.spec_server.proofs.NarrowRuns.{sum_narrow}
 use Rattle.spec_truth.specs.TrueAnswer.{IsTrueOf}
 
 -- a certificate for the model, to which the checker says yes

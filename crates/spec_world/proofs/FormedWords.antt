@@ -6,14 +6,14 @@ use Rattle.spec_exact.specs.Fraction.{ℚ}
 use Rattle.spec_model.specs.Model.{Model}
 use Rattle.spec_model.specs.Kept.{IsModel}
 use Rattle.spec_check.specs.declared.certificate.Known.TheVariants as known
-use Rattle.spec_pivot.specs.declared.status.Status.{Status}
 use Rattle.spec_simplex.specs.declared.ends.FormFault.{FormFault}
 use Rattle.spec_simplex.specs.Form.{Form, IsForm, form_of}
 use Rattle.spec_simplex.specs.Eliminate.{IsBasisOf}
 use Rattle.spec_check.specs.declared.solve_end.SolveEnd.TheVariants.{Ended, Past, Spent}
 use Rattle.spec_cold.specs.Cold.{ExactSolveEnd}
 use Rattle.spec_solve.specs.Answers.{number_limit}
-use Rattle.spec_shape.specs.Words.{shape_of, packed, unpacked, IsWellFormed}
+use Rattle.spec_solve.proofs.Left.{solved_left}
+use Rattle.spec_shape.specs.Words.{shape_of, packed, IsWellFormed}
 use Rattle.spec_shape.proofs.Bases.{packed_fits, unpacked_fits}
 use Rattle.spec_reads.specs.declared.read.Read.TheVariants as read
 use Rattle.spec_reads.specs.Reads.{Words, ExactRead, Looked, front, has_shape, SeenBy, SeesDown, LookReads}
@@ -23,7 +23,7 @@ use Rattle.spec_server.specs.Step.{Begun, Answers, Looks, solve_begun, begun_by,
 use Rattle.spec_server.specs.Step.{Publishes, handed_by, how_by, is_found, words_of_end, worked_with, SolvesWith, Works}
 use Rattle.spec_world.specs.World.{solve}
 use Rattle.spec_world.proofs.Bases.{published_words}
-use Rattle.spec_world.proofs.FormWords.{form_kept, solved_left}
+use Rattle.spec_world.proofs.FormWords.{form_kept}
 
 -- ---- what a look finds has the shape
 
@@ -71,16 +71,14 @@ abbrev pub IsFormedFound : Looked → Type 0
 IsFormedFound found = IfSome found (λ p. IsWellFormed p.words)
 
 handed_fits : (f : Form) → IsForm f → (found : Looked) → IsFormedFound found → HasShape (shape_of f) found →
-    (basis : List Status) → handed_by found ≡ Some basis → IsBasisOf f basis
-handed_fits f is None formed shaped basis e = cc
-handed_fits f is (Some p) formed shaped basis e =
+    IfSome (handed_by found) (IsBasisOf f)
+handed_fits f is None formed shaped = tt
+handed_fits f is (Some p) formed shaped =
     let front_so : front p.words ≡ shape_of f = (same_is_equal (front p.words) (shape_of f)).0 shaped in
-    let basis_so : unpacked p.words ≡ basis = cc in
-    subst (IsBasisOf f) basis_so (unpacked_fits f is p.words front_so formed)
+    unpacked_fits f is p.words front_so formed
 
 module _ (state : State) (found : Looked) (pending : Pending) (s : SolvesWith state found (Publishes pending))
-    (is : IsForm s.form)
-    (fits : (basis : List Status) → handed_by found ≡ Some basis → IsBasisOf s.form basis) where
+    (is : IsForm s.form) (fits : IfSome (handed_by found) (IsBasisOf s.form)) where
   by_end : (end : ExactSolveEnd) → s.solved.end ≡ end →
       Publishes pending ≡ worked_with state found end (how_by found s.solved.route) (words_of_end s.form end) →
       IsWellFormed pending.words

@@ -1,4 +1,4 @@
--- The certificate of a cold solve at the limit of the server, of a model whose numbers are of at most 127 bits, has
+-- The certificate of a cold solve at the limit of the program, of a model whose numbers are of at most 127 bits, has
 -- such numbers.
 use Rattle.std.proofs.Common.{◌≡◌, ◌+◌, ◌-◌, ℕ, zero, suc, Bool, true, false, cond, Option, Some, None, Result, Ok, Err}
 use Rattle.std.proofs.Common.{List, nat_eq, refl, subst}
@@ -15,7 +15,6 @@ use Rattle.spec_check.specs.declared.certificate.CheckStop.{CheckStop}
 use Rattle.spec_check.specs.declared.certificate.CheckStop.TheVariants as check
 use Rattle.spec_check.specs.Certificate.{IsNarrowCertificate}
 use Rattle.spec_check.specs.Run.{check_run}
-use Rattle.spec_mps.proofs.NarrowNumbers.{zero_narrow}
 use Rattle.spec_pivot.specs.declared.status.Status.{Status}
 use Rattle.spec_simplex.specs.declared.ends.Choice.{Choice}
 use Rattle.spec_simplex.specs.declared.ends.Choice.TheVariants.{End, Flip, Pivot}
@@ -41,8 +40,9 @@ use Rattle.spec_cold.specs.Cold.{certificate_of}
 use Rattle.spec_cold.specs.Cold.{basis_of, pivots_of, checked, after_phases, after_form, cold}
 use Rattle.spec_path.proofs.Runs.{then_ok, refused_ok}
 use Rattle.spec_solve.specs.Answers.{number_limit}
-use Rattle.spec_server.proofs.NarrowSteps.{NarrowBound, AreNarrow, number_at, place_narrow, flip_narrow, pivot_narrow}
-use Rattle.spec_server.proofs.NarrowStart.{IsNarrowForm, one_narrow, form_narrow, start_narrow, priced_narrow}
+use Rattle.spec_solve.proofs.NarrowRuns.{zero_narrow}
+use Rattle.spec_solve.proofs.NarrowSteps.{NarrowBound, AreNarrow, number_at, place_narrow, flip_narrow, pivot_narrow}
+use Rattle.spec_solve.proofs.NarrowStart.{IsNarrowForm, one_narrow, form_narrow, start_narrow, priced_narrow}
 
 -- ---- steps up to an end
 

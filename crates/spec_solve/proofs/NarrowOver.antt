@@ -1,4 +1,4 @@
--- The certificate of a run over factors at the limit of the server, of a model whose numbers are of at most 127 bits,
+-- The certificate of a run over factors at the limit of the program, of a model whose numbers are of at most 127 bits,
 -- has such numbers.
 use Rattle.std.proofs.Common.{◌≡◌, ◌+◌, ◌-◌, ℕ, zero, suc, Bool, true, false, cond, Option, Some, None, Result, Ok, Err}
 use Rattle.std.proofs.Common.{List, [], ◌∷◌, get_or, set, nat_eq, refl, sym, subst}
@@ -13,7 +13,6 @@ use Rattle.spec_check.specs.declared.certificate.Certificate.{Certificate}
 use Rattle.spec_check.specs.declared.certificate.Known.{Known}
 use Rattle.spec_check.specs.Certificate.{IsNarrowCertificate}
 use Rattle.spec_check.specs.Run.{check_run}
-use Rattle.spec_mps.proofs.NarrowNumbers.{zero_narrow}
 use Rattle.spec_pivot.specs.declared.status.Status.{Status}
 use Rattle.spec_simplex.specs.declared.ends.Choice.{Choice}
 use Rattle.spec_simplex.specs.declared.ends.Choice.TheVariants.{End, Flip, Pivot}
@@ -46,12 +45,12 @@ use Rattle.spec_factor.specs.Over.{second_state, OverEnd, negatives, stuck_answe
 use Rattle.spec_factor.specs.Over.{over_two}
 use Rattle.spec_factor.specs.Over.{over_phases, over_run, after_over, over_factors}
 use Rattle.spec_solve.specs.Answers.{number_limit}
-use Rattle.spec_server.proofs.NarrowRuns.{quotient_narrow, less_narrow, all_given}
-use Rattle.spec_server.proofs.NarrowSteps.{AreNarrow, number_at, moved_narrow, shifted_narrow}
-use Rattle.spec_server.proofs.NarrowSteps.{flip_narrow, exchanged_narrow}
-use Rattle.spec_server.proofs.NarrowStart.{IsNarrowForm, NarrowStart, one_narrow, form_narrow, form_entry_narrow}
-use Rattle.spec_server.proofs.NarrowStart.{one_at_narrow, row_start_narrow, begun_narrow, first_costs_narrow}
-use Rattle.spec_server.proofs.NarrowCold.{fixed_narrow, moves_narrow, point_narrow, by_check}
+use Rattle.spec_solve.proofs.NarrowRuns.{zero_narrow, quotient_narrow, less_narrow, all_given}
+use Rattle.spec_solve.proofs.NarrowSteps.{AreNarrow, number_at, moved_narrow, shifted_narrow}
+use Rattle.spec_solve.proofs.NarrowSteps.{flip_narrow, exchanged_narrow}
+use Rattle.spec_solve.proofs.NarrowStart.{IsNarrowForm, NarrowStart, one_narrow, form_narrow, form_entry_narrow}
+use Rattle.spec_solve.proofs.NarrowStart.{one_at_narrow, row_start_narrow, begun_narrow, first_costs_narrow}
+use Rattle.spec_solve.proofs.NarrowCold.{fixed_narrow, moves_narrow, point_narrow, by_check}
 
 -- ---- solves over pairs
 

@@ -25,7 +25,7 @@ use Rattle.spec_warm.specs.Warm.{WarmResult, warm as warm_start}
 use Rattle.spec_warm.specs.Solve.{SolveEnd, HasBasis}
 use Rattle.spec_warm.proofs.TrueEnds as warm_ends
 use Rattle.spec_factor.specs.Over.{over_factors}
-use Rattle.spec_solve.specs.Order.{GivesUp, MayEndCold, MayEndBy, MayEnd}
+use Rattle.spec_solve.specs.Order.{GivesUp, MayEndCold, Answered, GaveUp, MayEndBy, MayEnd}
 use Rattle.spec_solve.proofs.Orders as orders
 use Rattle.spec_solve.proofs.Orders.{part_true, part_ends, tableaus_give_up, factors_give_up, formless_ends}
 use Rattle.spec_solve.specs.Answers.{number_limit, enough_pivots, MayAnswer, ColdFits, WarmFits, IsSolved}
@@ -100,16 +100,6 @@ module _ (m : Model) (budget : ℕ) where
       fault_narrow why known c basis pivots
       (subst (λ r. after_form (Some number_limit) budget m r ≡ Ended known c basis pivots) no_form e)
 
-  -- the cold solve at the limit ends with what may be answered
-  pub formless_may : (why : FormFault ℚ) → form_of (Some number_limit) m ≡ Err why →
-      MayAnswer m budget (cold (Some number_limit) budget m)
-  formless_may why no_form =
-      cold_may (cold (Some number_limit) budget m) (orders.formless_may (Some number_limit) budget m why no_form)
-      (λ known c basis pivots e. (
-        cold_fits (Some number_limit) budget m known c basis pivots e,
-        formless_narrow why no_form known c basis pivots e,
-      ))
-
   -- ---- with nothing handed
 
   pub cold_solved : (end : ExactSolveEnd) → MayEndSo end → HasFitEnd m end →
@@ -120,6 +110,16 @@ module _ (m : Model) (budget : ℕ) where
     without_form = λ why no_form. formless_ends (Some number_limit) budget m end why no_form may;
     by_factors = λ f formed h. factors_give_up (Some number_limit) budget m end f formed may h;
   }
+
+  -- of a model without a form, the cold solve at the limit
+  pub formless_solved : (why : FormFault ℚ) → form_of (Some number_limit) m ≡ Err why →
+      IsSolved m budget None (record { end = cold (Some number_limit) budget m; route = route.Cold })
+  formless_solved why no_form =
+      cold_solved (cold (Some number_limit) budget m) (orders.formless_may (Some number_limit) budget m why no_form)
+      (λ known c basis pivots e. (
+        cold_fits (Some number_limit) budget m known c basis pivots e,
+        formless_narrow why no_form known c basis pivots e,
+      ))
 
   -- ---- the solve from a basis of the form
 
@@ -163,6 +163,8 @@ module _ (m : Model) (budget : ℕ) where
       by_factors = warm_by_factors (warm_start (Some number_limit) budget m basis) s may;
     }
 
+  -- ---- either way
+
   -- a solve of the model that may end so is one that is allowed
   pub is_solved : (handed : Option (List Status)) (s : SolveEnd) → IfSome handed (HasBasis (Some number_limit) m) →
       MayEnd (Some number_limit) budget m handed s → HasFitEnd m s.end → IsSolved m budget handed s
@@ -171,3 +173,38 @@ module _ (m : Model) (budget : ℕ) where
       subst (λ way. IsSolved m budget None (record { end = s.end; route = way })) (sym may.1)
       (cold_solved s.end may.0 fit)
   is_solved (Some basis) s h may fit = warm_solved basis h s may fit
+
+  -- nothing else is allowed
+
+  cold_ends : (end : ExactSolveEnd) → MayAnswer m budget end → ColdFits m budget end →
+      ((why : FormFault ℚ) → form_of (Some number_limit) m ≡ Err why → end ≡ cold (Some number_limit) budget m) →
+      ((f : Form) → form_of (Some number_limit) m ≡ Ok f → GivesUp end →
+      GivesUp (over_factors (Some number_limit) budget m f)) →
+      MayEndSo end
+  cold_ends (Ended known c basis pivots) may fits formless factors = Answered (sym fits) may.2 formless
+  cold_ends (Past p) may fits formless factors = GaveUp tt (sym may) (λ f h. factors f h tt)
+  cold_ends Spent may fits formless factors = GaveUp tt (sym may.0) (λ f h. factors f h tt)
+
+  warm_ends_by : (result : WarmResult) (s : SolveEnd) → WarmFits m budget result s → MayAnswer m budget s.end →
+      ((why : FormFault ℚ) → form_of (Some number_limit) m ≡ Err why → s.end ≡ cold (Some number_limit) budget m) →
+      ((f : Form) → form_of (Some number_limit) m ≡ Ok f → GivesUp s.end →
+      GivesUp (over_factors (Some number_limit) budget m f)) →
+      MayEndBy (Some number_limit) budget m result s
+  warm_ends_by (warm.Ended known c left pivots) s fits may formless factors = fits
+  warm_ends_by (warm.Stopped stop) s fits may formless factors =
+      (cold_ends s.end may fits.1 formless factors, fits.0)
+
+  pub solved_ends : (handed : Option (List Status)) (s : SolveEnd) → IsSolved m budget handed s →
+      MayEnd (Some number_limit) budget m handed s
+  unfolding MayEnd
+  solved_ends None s h = (cold_ends s.end h.may_answer h.how_fits.1 h.without_form h.by_factors, h.how_fits.0)
+  solved_ends (Some basis) s h =
+      warm_ends_by (warm_start (Some number_limit) budget m basis) s h.how_fits h.may_answer h.without_form
+      h.by_factors
+
+  answer_fits : (end : ExactSolveEnd) → MayAnswer m budget end → HasFitEnd m end
+  answer_fits end may = λ known c basis pivots e.
+      let h : MayAnswer m budget (Ended known c basis pivots) = subst (MayAnswer m budget) e may in (h.0, h.1)
+
+  pub solved_fits : (handed : Option (List Status)) (s : SolveEnd) → IsSolved m budget handed s → HasFitEnd m s.end
+  solved_fits handed s h = answer_fits s.end h.may_answer

@@ -1,11 +1,11 @@
--- At the limit of the server operations give fractions of at most 127 bits, and so do runs of them.
+-- At the limit of the program operations give fractions of at most 127 bits, and so do runs of them.
 use Rattle.std.proofs.Common.{◌≡◌, ◌≤◌, ◌<◌, ◌/◌, ℕ, zero, suc, ◌&&◌, Bool, true, false, cond, Option, Some, None, Ok}
 use Rattle.std.proofs.Common.{List, get_or, ℤ, pos, int_div, unsigned_abs, refl, sym, subst, arith}
 use Rattle.std.specs.Prelude.{All}
 use Rattle.std.proofs.Math.Nat.{div-le_self}
 use Rattle.std.proofs.lemmas.Bool.{and_parts}
 use borrow.Author.Tests.{leb-true}
-use Rattle.spec_exact.specs.Fraction.{ℚ, over, neg_ℚ, inverse}
+use Rattle.spec_exact.specs.Fraction.{ℚ, 0ℚ, whole, over, neg_ℚ, inverse}
 use Rattle.spec_exact.specs.Gcd.{gcd}
 use Rattle.spec_exact.specs.Quotients.{abs-int_div}
 use Rattle.spec_exact.specs.Limit.{fits, left_num, right_num, whole_sum, sum_common, sum_num, sum_den, sum_fits}
@@ -14,11 +14,14 @@ use Rattle.spec_exact.specs.Narrow.{IsNarrow}
 use Rattle.spec_exact.specs.Answer.{told}
 use Rattle.spec_exact.specs.declared.past.Op.{Op}
 use Rattle.spec_exact.specs.declared.past.Op.TheVariants.{Add, Sub, Div}
-use Rattle.spec_mps.proofs.NarrowNumbers.{zero_narrow}
 use Rattle.spec_exact.specs.Run.{Run, sum_run, difference_run, product_run, quotient_run, plus_product, less_product}
 use Rattle.spec_exact.specs.Run.{list_run}
 use Rattle.spec_path.proofs.Runs.{then_ok, list_ok}
 use Rattle.spec_solve.specs.Answers.{number_limit}
+
+pub zero_narrow : IsNarrow 0ℚ
+unfolding whole
+zero_narrow = record { top = omega arith; bottom = omega arith }
 
 -- ---- one operation
 

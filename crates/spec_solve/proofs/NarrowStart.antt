@@ -1,5 +1,5 @@
 -- Where a model's numbers are of at most 127 bits, so are those of its form and of the tableau that the form begins
--- with, at the limit of the server.
+-- with, at the limit of the program.
 use Rattle.std.proofs.Common.{◌≡◌, ◌+◌, ◌-◌, ℕ, suc, Bool, true, false, cond, Option, Some, None, Ok, List, [], ◌∷◌}
 use Rattle.std.proofs.Common.{get_or, map, replicate, nat_eq, subst, arith}
 use Rattle.std.specs.Prelude.{All, nat_lt}
@@ -14,7 +14,6 @@ use Rattle.spec_model.specs.declared.parts.Kind.{Kind}
 use Rattle.spec_model.specs.declared.parts.Kind.TheVariants.{L, G, E}
 use Rattle.spec_model.specs.Model.{Model, ExactColumn, no_row, width, height, row, entry_of}
 use Rattle.spec_model.specs.Kept.{IsNarrowRow, IsNarrowColumn}
-use Rattle.spec_mps.proofs.NarrowNumbers.{zero_narrow}
 use Rattle.spec_simplex.specs.declared.ends.FormFault.TheVariants as fault
 use Rattle.spec_simplex.specs.declared.ends.RowStart.{RowStart}
 use Rattle.spec_simplex.specs.declared.ends.RowStart.TheVariants.{Within, Below, Above}
@@ -32,9 +31,10 @@ use Rattle.spec_exact.proofs.Stops.{All-made}
 use Rattle.spec_exact.proofs.Narrow.{neg_narrow}
 use Rattle.spec_path.proofs.Runs.{then_ok, refused_ok, steps_ok}
 use Rattle.spec_solve.specs.Answers.{number_limit}
-use Rattle.spec_server.proofs.NarrowRuns.{sum_narrow, difference_narrow, plus_narrow, less_narrow, all_given}
-use Rattle.spec_server.proofs.NarrowSteps.{NarrowBound, AreNarrow, at, number_at, bound_at, or_zero_narrow}
-use Rattle.spec_server.proofs.NarrowSteps.{stand_narrow}
+use Rattle.spec_solve.proofs.NarrowRuns.{zero_narrow, sum_narrow, difference_narrow, plus_narrow, less_narrow}
+use Rattle.spec_solve.proofs.NarrowRuns.{all_given}
+use Rattle.spec_solve.proofs.NarrowSteps.{NarrowBound, AreNarrow, at, number_at, bound_at, or_zero_narrow}
+use Rattle.spec_solve.proofs.NarrowSteps.{stand_narrow}
 
 pub one_narrow : IsNarrow 1ℚ
 unfolding whole

@@ -1,4 +1,4 @@
--- The numbers of a tableau, of at most 127 bits, stay so in each step of the method at the limit of the server.
+-- The numbers of a tableau, of at most 127 bits, stay so in each step of the method at the limit of the program.
 use Rattle.std.proofs.Common.{◌≡◌, ℕ, Bool, true, false, cond, Option, Some, None, Ok, List, [], length, get_or, set}
 use Rattle.std.proofs.Common.{sym, subst, ⊎_elim}
 use Rattle.std.specs.Prelude.{All, IfSome, nat_eq}
@@ -7,7 +7,6 @@ use Rattle.std.proofs.lemmas.List.{get_or_past}
 use Rattle.std.proofs.lemmas.List.Elements.{All-nil, All-set}
 use Rattle.spec_exact.specs.Fraction.{ℚ, 0ℚ}
 use Rattle.spec_exact.specs.Narrow.{IsNarrow}
-use Rattle.spec_mps.proofs.NarrowNumbers.{zero_narrow}
 use Rattle.spec_pivot.specs.declared.status.Status.{Status}
 use Rattle.spec_pivot.specs.declared.status.Status.TheVariants.{Basic, AtLower, AtUpper, AtZero}
 use Rattle.spec_exact.specs.Run.{Run, difference_run, list_run, less_product, quotient_run, sum_run}
@@ -18,7 +17,7 @@ use Rattle.spec_simplex.specs.Step.{scaled_run, cleared_run, turned_run, reprice
 use Rattle.spec_simplex.specs.Step.{shifted_run, pivot_run}
 use Rattle.spec_path.proofs.Runs.{then_ok, steps_ok}
 use Rattle.spec_solve.specs.Answers.{number_limit}
-use Rattle.spec_server.proofs.NarrowRuns.{sum_narrow, quotient_narrow, less_narrow, all_given}
+use Rattle.spec_solve.proofs.NarrowRuns.{zero_narrow, sum_narrow, quotient_narrow, less_narrow, all_given}
 
 abbrev pub NarrowBound : Option ℚ → Type 0
 NarrowBound bound = IfSome bound IsNarrow
