@@ -10,8 +10,8 @@ ghost use Rattle.lp_generate.specs.Generating.{Writes};
 
 use lp_base::{Bytes, Sink, send};
 use lp_gen::make;
+use lp_line::Halt;
 use lp_model::Model;
-use lp_script::Halt;
 use lp_session::{OPENING_BUDGET, solved_within};
 use lp_solve::End;
 use lp_solve_out::print_answer;

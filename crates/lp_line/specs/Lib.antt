@@ -1,5 +1,6 @@
 pub mod Body
 pub mod GivesWords
+pub mod Halt
 pub mod Hearing
 pub mod NewRow
 pub mod Script

@@ -8,6 +8,7 @@
 //! | `hear`, `Heard` | reads lines up to the one at which something is said | src/hearing, specs/Hearing |
 //! | `Stage`, `Step` | what was read so far, and where the next line leads | src/hearing, src/stages, src/script |
 //! | `take`, `Taken` | reads the lines of the next ask | src/taking, specs/Takes |
+//! | `Halt` | why a command halts before it has done all that is asked | src/halt, specs/Halt |
 //! | `number_to` | the number that a word gives | src/words |
 //! | `print` | writes a session's reply | src/printing |
 //! | `print_said` | writes a reply without a session | src/printing |
@@ -22,6 +23,7 @@ mod body;
 mod command;
 mod edits;
 mod ends;
+mod halt;
 mod hearing;
 mod printing;
 mod refusals;
@@ -33,6 +35,7 @@ mod words;
 pub use asks::{Addressed, Answer, Ask, Asked, Command, Plain, Refusal, Reply};
 pub use bases::{print_basis_fault, print_route};
 pub use command::read;
+pub use halt::Halt;
 pub use hearing::{Heard, Stage, Step, hear};
 pub use printing::{print, print_lines, print_said};
 pub use spec_server::{Addressing, How, LineFault, Publication};

@@ -20,8 +20,8 @@ use Rattle.spec_server.proofs.ScriptBytes.{with_asks, script_within, script_past
 use Rattle.spec_world.specs.Workers.{RunsBy}
 use Rattle.spec_world.proofs.ManyFromOne.{one_runs_by}
 use Rattle.lp_base.specs.Taking.{ReadsAll, ReadsFront, ReadsPart}
-use Rattle.lp_script.specs.declared.halt.Halt.{Halt}
-use Rattle.lp_script.specs.declared.halt.Halt.TheVariants as halts
+use Rattle.lp_line.specs.declared.halt.Halt.{Halt}
+use Rattle.lp_line.specs.declared.halt.Halt.TheVariants as halts
 use Rattle.lp_script.specs.Run.{Moves, EndsWith, EndsInput, BreaksOff, EndsSo}
 use Rattle.spec_server.specs.Streams.{Streams, streams}
 use Rattle.lp_script.proofs.SoFar.{IsSoFar, goes_on}

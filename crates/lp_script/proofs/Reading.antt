@@ -19,7 +19,7 @@ use Rattle.lp_line.specs.Hearing.{TakesPart}
 use Rattle.lp_base.specs.declared.lines.LineStop.{LineStop}
 use Rattle.lp_line.specs.declared.taking.Taken.{Taken}
 use Rattle.lp_line.specs.Takes.{TakesAsk, TakesNone, TakesEnd, TakesNext}
-use Rattle.lp_script.specs.declared.halt.Halt.TheVariants as halts
+use Rattle.lp_line.specs.declared.halt.Halt.TheVariants as halts
 use Rattle.lp_script.specs.declared.script.Script.{Script}
 use Rattle.lp_script.specs.Script.{IsRead, ReadsSome, ReadsScript, ReadsToEnd}
 use Rattle.lp_script.proofs.SoFar.{asks_more, pending_more}

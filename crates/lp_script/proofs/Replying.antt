@@ -19,8 +19,8 @@ use Rattle.spec_world.specs.Workers.{RunsBy}
 use Rattle.lp_base.specs.Beside.{Takes}
 use Rattle.lp_base.specs.Taking.{ReadsFront, ReadsPart, ReadsLittleMore}
 use Rattle.lp_workers.specs.AnswersAll.{AnswersAll}
-use Rattle.lp_script.specs.declared.halt.Halt.{Halt}
-use Rattle.lp_script.specs.declared.halt.Halt.TheVariants as halts
+use Rattle.lp_line.specs.declared.halt.Halt.{Halt}
+use Rattle.lp_line.specs.declared.halt.Halt.TheVariants as halts
 use Rattle.lp_script.specs.Replies.{lines_of_reply, replies_out}
 use Rattle.lp_script.specs.Run.{Moves, EndsSo}
 use Rattle.lp_script.specs.Script.{IsRead, ReadsSome}

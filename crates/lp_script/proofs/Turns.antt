@@ -24,10 +24,10 @@ use Rattle.lp_base.specs.declared.lines.LineStop.TheVariants as line_stops
 use Rattle.lp_line.specs.declared.taking.Taken.{Taken}
 use Rattle.lp_line.specs.Takes.{TakesAsk, TakesNone, TakesEnd, TakesNext}
 use Rattle.lp_places.specs.Sharing.{Sharing, as_places, SharesStep}
-use Rattle.lp_script.specs.declared.halt.Halt.TheVariants as halts
+use Rattle.lp_line.specs.declared.halt.Halt.TheVariants as halts
 use Rattle.lp_script.specs.Answer.{Together, opening_with, state_at, Answers, AnswersInPart}
 use Rattle.lp_script.specs.Run.{Moves, EndsInput, EndsSo}
-use Rattle.lp_script.specs.Halt.{halt_of}
+use Rattle.lp_line.specs.Halt.{halt_of}
 use Rattle.spec_server.specs.Streams.{streams}
 use Rattle.lp_workers.proofs.OneMore.{exchange_of, one_run}
 use Rattle.lp_script.proofs.Answering.{one_run_to, one_log, one_line}

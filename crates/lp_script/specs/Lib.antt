@@ -1,4 +1,3 @@
-pub mod Halt
 pub mod Answer
 pub mod Run
 pub mod Script

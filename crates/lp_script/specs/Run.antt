@@ -10,8 +10,8 @@ use Rattle.spec_server.specs.Script.{Ending, Ended, Cut, script_of, ended_asks_o
 use Rattle.spec_server.specs.Script as script
 use Rattle.spec_server.specs.Output.{script_out}
 use Rattle.spec_world.specs.Workers.{RunsBy}
-use Rattle.lp_script.specs.declared.halt.Halt.{Halt}
-use Rattle.lp_script.specs.declared.halt.Halt.TheVariants as halts
+use Rattle.lp_line.specs.declared.halt.Halt.{Halt}
+use Rattle.lp_line.specs.declared.halt.Halt.TheVariants as halts
 use Rattle.spec_server.specs.Streams.{Streams}
 
 -- so many places may be shared, and so many workers may share them

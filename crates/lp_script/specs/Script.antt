@@ -7,8 +7,8 @@ use Rattle.spec_server.specs.declared.asks.Asked.{Asked}
 use Rattle.spec_server.specs.Machine.{ExactAsk}
 use Rattle.spec_server.specs.Script.{Between, Ending, Ended, Cut, asks_from, pending_after, ending_by}
 use Rattle.lp_base.specs.Taking.{ReadsAll, ReadsPart, ReadsPast, ReadsToFault}
-use Rattle.lp_script.specs.declared.halt.Halt.{Halt}
-use Rattle.lp_script.specs.declared.halt.Halt.TheVariants as halts
+use Rattle.lp_line.specs.declared.halt.Halt.{Halt}
+use Rattle.lp_line.specs.declared.halt.Halt.TheVariants as halts
 use Rattle.lp_script.specs.declared.script.Script.{Script}
 
 -- all lines were read, and the script ends so

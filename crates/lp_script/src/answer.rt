@@ -7,10 +7,9 @@ ghost use Rattle.spec_server.specs.declared.addressing.Addressing.TheVariants.{N
 ghost use Rattle.spec_server.specs.Output.{reply_lines};
 ghost use Rattle.lp_script.specs.Answer.{Answers, AnswersInPart};
 
-use crate::halt::Halt;
 use crate::sessions::Sessions;
 use lp_base::{Bytes, Sink, send};
-use lp_line::{Addressing, Asked, Reply, print};
+use lp_line::{Addressing, Asked, Halt, Reply, print};
 use std::alloc::Global;
 
 /// Writes the reply of a session.

@@ -7,10 +7,9 @@ ghost use Rattle.lp_script.specs.Run.{IsPlaces, Runs};
 ghost use Rattle.spec_server.specs.Streams.{streams};
 
 use crate::answer::answer;
-use crate::halt::Halt;
 use crate::sessions::Sessions;
 use lp_base::{Lines, Sink, Source};
-use lp_line::{Addressing, Taken, take};
+use lp_line::{Addressing, Halt, Taken, take};
 use std::alloc::Global;
 
 // Answers the asks of a script, from its start and with all sessions as they open.

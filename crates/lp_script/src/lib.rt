@@ -3,7 +3,6 @@
 //! | Item | What it is | Where |
 //! |---|---|---|
 //! | `run_script` | runs the script that a source gives | src/run |
-//! | `Halt` | why a command halts before it has done all that is asked | src/halt |
 //! | `Gate`, `NeverHolds` | what is told before each solve of many workers | `lp_workers` |
 //! | `Sessions` | the sessions of a script, and the places that they share | src/sessions |
 //! | `Moves`, `Runs` | what a run reads and writes, and what its end says of that | specs/Run |
@@ -13,13 +12,11 @@
 #![tactic(auto)]
 
 mod answer;
-mod halt;
 mod in_order;
 mod run;
 mod script;
 mod sessions;
 mod side_by_side;
 
-pub use halt::Halt;
 pub use lp_workers::{Gate, NeverHolds};
 pub use run::run_script;

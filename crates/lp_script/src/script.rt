@@ -3,9 +3,8 @@ ghost use Rattle.std.specs.Prelude.{IfOk, IsErrOf};
 ghost use Rattle.lp_base.specs.Causes.{Rose};
 ghost use Rattle.lp_script.specs.Script.{ReadsScript};
 
-use crate::halt::Halt;
 use lp_base::{LineStop, Lines, Source};
-use lp_line::{Addressing, Asked, Taken, take};
+use lp_line::{Addressing, Asked, Halt, Taken, take};
 use std::alloc::{AllocError, Global};
 
 /// The asks that were read whole, and why no more were.

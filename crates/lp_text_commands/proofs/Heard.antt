@@ -18,10 +18,10 @@ use Rattle.lp_base.specs.declared.lines.LineStop.TheVariants as line_stops
 use Rattle.lp_line.specs.declared.hearing.Heard.{Heard}
 use Rattle.lp_line.specs.declared.hearing.Heard.TheVariants as heard
 use Rattle.lp_line.specs.Hearing.{HearsAt, HearsUntil, HearsAtEnd, TakesPart, HearsNext}
-use Rattle.lp_script.specs.declared.halt.Halt.{Halt}
-use Rattle.lp_script.specs.declared.halt.Halt.TheVariants as halts
+use Rattle.lp_line.specs.declared.halt.Halt.{Halt}
+use Rattle.lp_line.specs.declared.halt.Halt.TheVariants as halts
 use Rattle.lp_text_commands.specs.Hearing.{Agrees, StopsSoon, Hears, HearsNothing, HearsTooMuch, Reads, HearsSo}
-use Rattle.lp_script.specs.Halt.{halt_of}
+use Rattle.lp_line.specs.Halt.{halt_of}
 
 -- a reader at its start has not ended
 from_start : {before after : Option (List ℕ)} {bytes : List ℕ} {new : LinesState} {lines : List (Line (List ℕ))} →

@@ -15,8 +15,8 @@ use Rattle.mps_read.specs.TextRead.{TextRead}
 use Rattle.lp_line.specs.Stages.{TextSays}
 use Rattle.lp_text_commands.specs.declared.check.CheckStage.TheVariants as stage
 use Rattle.lp_text_commands.specs.declared.exit_status.ExitStatus.{ExitStatus}
-use Rattle.lp_script.specs.declared.halt.Halt.{Halt}
-use Rattle.lp_script.specs.declared.halt.Halt.TheVariants as halts
+use Rattle.lp_line.specs.declared.halt.Halt.{Halt}
+use Rattle.lp_line.specs.declared.halt.Halt.TheVariants as halts
 use Rattle.lp_solve_out.specs.Prints.{Prints}
 use Rattle.lp_text_commands.specs.Hearing.{Agrees, Hears, HearsSo, Says, SaysInPart, SaysSo}
 use Rattle.spec_server.specs.BasisOut.{BasisSaid, basis_said, BasisOut, basis_code}

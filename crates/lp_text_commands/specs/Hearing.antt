@@ -6,8 +6,8 @@ use Rattle.spec_text.specs.Lines.{lines_of, input_limit}
 use Rattle.spec_text.specs.declared.line.Line.{Line}
 use Rattle.spec_server.specs.Said.{IsSaid, IsUndecided}
 use Rattle.lp_base.specs.Beside.{Takes}
-use Rattle.lp_script.specs.declared.halt.Halt.{Halt}
-use Rattle.lp_script.specs.declared.halt.Halt.TheVariants as halts
+use Rattle.lp_line.specs.declared.halt.Halt.{Halt}
+use Rattle.lp_line.specs.declared.halt.Halt.TheVariants as halts
 use Rattle.lp_text_commands.specs.declared.exit_status.ExitStatus.{ExitStatus}
 use Rattle.spec_server.specs.Streams.{Streams}
 

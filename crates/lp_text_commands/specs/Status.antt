@@ -1,7 +1,7 @@
 -- The status of what halts a command.
 use Rattle.std.specs.Prelude.{ℕ}
-use Rattle.lp_script.specs.declared.halt.Halt.{Halt}
-use Rattle.lp_script.specs.declared.halt.Halt.TheVariants as halts
+use Rattle.lp_line.specs.declared.halt.Halt.{Halt}
+use Rattle.lp_line.specs.declared.halt.Halt.TheVariants as halts
 
 -- its code
 abbrev pub code_behind : Halt → ℕ

@@ -3,7 +3,7 @@ use Rattle.std.specs.Prelude.{Result, ℕ}
 use Rattle.spec_mps.specs.declared.style.Style.{Style}
 use Rattle.spec_program.specs.declared.command_line.TextCommand.{TextCommand}
 use Rattle.spec_program.specs.TextOut.{said_of, MayWrite, code_of}
-use Rattle.lp_script.specs.declared.halt.Halt.{Halt}
+use Rattle.lp_line.specs.declared.halt.Halt.{Halt}
 use Rattle.lp_text_commands.specs.declared.exit_status.ExitStatus.{ExitStatus}
 use Rattle.lp_text_commands.specs.Hearing.{SaysSo, TellsOf}
 use Rattle.spec_server.specs.Streams.{Streams}

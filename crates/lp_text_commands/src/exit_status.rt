@@ -1,7 +1,7 @@
 // How a call of the program ended.
 ghost use Rattle.std.specs.Prelude.{◌≡◌};
 
-use lp_script::Halt;
+use lp_line::Halt;
 
 /// The status that the program exits with.
 #[derive(Clone, Copy, PartialEq, Eq)]

@@ -8,8 +8,7 @@ ghost use Rattle.spec_server.specs.Streams.{streams};
 
 use crate::exit_status::ExitStatus;
 use lp_base::{Bytes, Lines, Sink, Source, send};
-use lp_line::{Heard, Stage, hear};
-use lp_script::Halt;
+use lp_line::{Halt, Heard, Stage, hear};
 use std::alloc::{AllocError, Global};
 
 /// What is said of an input, as it is written.

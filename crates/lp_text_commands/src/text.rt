@@ -9,7 +9,7 @@ use crate::check::CheckStage;
 use crate::exit_status::ExitStatus;
 use crate::hearing::say;
 use lp_base::{Sink, Source};
-use lp_script::Halt;
+use lp_line::Halt;
 use mps_read::Reader;
 use spec_mps::Style;
 use spec_program::TextCommand;

@@ -6,8 +6,8 @@ use Rattle.spec_program.specs.declared.command_line.CommandLine.{CommandLine}
 use Rattle.spec_program.specs.declared.command_line.TextCommand.{TextCommand}
 use Rattle.spec_program.specs.TextOut.{said_of, MayWrite, code_of}
 use Rattle.spec_mps.specs.declared.style.Style.{Style}
-use Rattle.lp_script.specs.declared.halt.Halt.{Halt}
-use Rattle.lp_script.specs.declared.halt.Halt.TheVariants as halts
+use Rattle.lp_line.specs.declared.halt.Halt.{Halt}
+use Rattle.lp_line.specs.declared.halt.Halt.TheVariants as halts
 use Rattle.lp_generate.specs.Generating.{Writes, WritesAll, TellsOfWriting}
 use Rattle.lp_text_commands.specs.Hearing.{SaysSo, TellsOf}
 use Rattle.lp_script.specs.Run.{Moves, EndsSo}

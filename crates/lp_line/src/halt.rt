@@ -1,6 +1,6 @@
 // What halts a command.
 ghost use Rattle.std.specs.Prelude.{◌≡◌};
-ghost use Rattle.lp_script.specs.declared.halt.Halt.TheVariants.{Write, NoMemory};
+ghost use Rattle.lp_line.specs.declared.halt.Halt.TheVariants.{Write, NoMemory};
 
 use lp_base::{LineStop, WriteFault};
 use std::alloc::AllocError;
@@ -20,7 +20,7 @@ pub enum Halt {
 }
 
 impl From<LineStop> for Halt {
-    ghost use Rattle.lp_script.specs.Halt.{halt_of};
+    ghost use Rattle.lp_line.specs.Halt.{halt_of};
 
     ghost from_gives = { λ e halt. halt ≡ halt_of e };
 
