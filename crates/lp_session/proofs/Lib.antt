@@ -1,5 +1,4 @@
 -- Lemmas.
-pub mod Left
 pub mod Ends
 pub mod Works
 pub mod Boards

@@ -1,10 +1,7 @@
 -- A session between the parts of a step, as the code keeps it.
 use Rattle.std.specs.Prelude.{ℕ, ◌≡◌, Option, Some, None, Ok, IfSome}
 use Rattle.spec_model.specs.Model.{Model}
-use Rattle.spec_check.specs.declared.certificate.Known.TheVariants as known
 use Rattle.spec_simplex.specs.Form.{Form, form_of}
-use Rattle.spec_simplex.specs.Eliminate.{IsBasisOf}
-use Rattle.spec_check.specs.declared.solve_end.SolveEnd.TheVariants as cold
 use Rattle.spec_cold.specs.Cold.{ExactSolveEnd}
 use Rattle.spec_warm.specs.Solve.{SolveEnd}
 use Rattle.spec_solve.specs.Answers.{number_limit, MayAnswer, IsSolved}
@@ -37,11 +34,6 @@ IsEndOf (Some m) end = (budget : ℕ) × MayAnswer m budget end
 -- what is found has the shape of the form
 abbrev pub FitsForm : Form → Looked → Type 0
 FitsForm f found = IfSome found (λ place. IsWellFormed place.words × (front place.words ≡ shape_of f))
-
--- the basis of an optimum is one of the form
-abbrev pub LeavesBasis : Form → ExactSolveEnd → Type 0
-LeavesBasis f (cold.Ended (known.Optimal v) certificate (Some basis) pivots) = IsBasisOf f basis
-LeavesBasis f other = Unit {0}
 
 -- the model that is held is solved, with what was found
 abbrev pub IsSolvedBy : Option Model → ℕ → Looked → SolveEnd → Type 0

@@ -3,7 +3,7 @@ ghost use Rattle.std.specs.Prelude.{◌≡◌, IfOk, Ok, Some};
 ghost use Rattle.spec_simplex.specs.Form.{form_of};
 ghost use Rattle.spec_simplex.specs.Eliminate.{IsBasisOf};
 ghost use Rattle.spec_solve.specs.Answers.{number_limit, IsSolved};
-ghost use Rattle.lp_session.specs.Stages.{LeavesBasis};
+ghost use Rattle.lp_solve.specs.Fit.{LeavesBasis};
 
 use lp_form::{Basis, Form};
 use lp_model::Model;

@@ -4,7 +4,8 @@ ghost use Rattle.spec_simplex.specs.Form.{form_of};
 ghost use Rattle.spec_solve.specs.Answers.{number_limit, IsSolved};
 ghost use Rattle.spec_shape.specs.Words.{IsWellFormed};
 ghost use Rattle.spec_server.specs.Step as step;
-ghost use Rattle.lp_session.specs.Stages.{FitsForm, LeavesBasis};
+ghost use Rattle.lp_solve.specs.Fit.{LeavesBasis};
+ghost use Rattle.lp_session.specs.Stages.{FitsForm};
 
 use lp_check::Known;
 use lp_form::Form;

@@ -6,3 +6,4 @@ pub mod Runs
 pub mod Solved
 pub mod WarmRuns
 pub mod FromRows
+pub mod Allowed

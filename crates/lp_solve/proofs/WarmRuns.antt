@@ -1,5 +1,5 @@
 -- The warm start part by part, from the tableau of a basis.
-use Rattle.std.proofs.Common.{◌≡◌, ℕ, ◌+◌, ◌≤◌, List, length, Option, Some, None, IfSome, option_map, Result, Ok, Err}
+use Rattle.std.proofs.Common.{◌≡◌, ℕ, ◌+◌, ◌≤◌, List, length, Option, Some, None, IfSome, Result, Ok, Err}
 use Rattle.std.proofs.Common.{refl, ap, sym, subst, ◌∙◌, arith}
 use Rattle.spec_exact.specs.Fraction.{ℚ}
 use Rattle.spec_exact.specs.declared.past.Past.{Past}
@@ -33,7 +33,7 @@ use Rattle.spec_warm.specs.declared.ends.Warm.TheVariants as warm
 use Rattle.spec_warm.specs.Based.{BeginsFrom}
 use Rattle.spec_warm.specs.Warm.{WarmResult, ByPrimal, ByDual, stopped_as, start_stop, run_stop, run_by, warm_run}
 use Rattle.spec_warm.specs.Warm.{warm_certificate, dual_certificate, dual_basis, after_form, warm as warm_start}
-use Rattle.spec_warm.specs.Solve.{SolveEnd, HasBasis, fall_of}
+use Rattle.spec_warm.specs.Solve.{HasBasis, fall_of}
 use Rattle.spec_solve.specs.Order.{MayEndCold, MayEndBy, MayEnd}
 use Rattle.spec_warm.proofs.Started.{start_begins_from}
 use Rattle.spec_warm.proofs.TrueEnds.{run_accepted}
@@ -135,14 +135,6 @@ fits_form limit m view (Some basis) f h fits =
     let same : ◌≡◌ {A = Result Form (FormFault ℚ)} (Ok fits.0) (Ok f) = sym fits.1 ∙ h in
     let is : fits.0 ≡ f = cc in
     subst (λ f. IsBasisOf f (view basis)) is fits.2
-
-pub solves_cold : {B : Type 0} (limit : Option ℕ) (budget : ℕ) (m : Model) (view : B → List Status) (handed : Option B)
-    (end : colds.ExactSolveEnd) (s : SolveEnd) → handed ≡ None → s ≡ record { end = end; route = route.Cold } →
-    MayEndCold limit budget m end → MayEnd limit budget m (option_map view handed) s
-unfolding MayEnd
-solves_cold limit budget m view handed end s e is may =
-    subst (λ handed. MayEnd limit budget m (option_map view handed) s) (sym e)
-    (subst (MayEnd limit budget m None) (sym is) (may, refl))
 
 -- ---- what is known of the tableau of a basis
 form_costs : (limit : Option ℕ) (m : Model) (f : Form) → form_of limit m ≡ Ok f →

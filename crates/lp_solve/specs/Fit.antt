@@ -1,6 +1,10 @@
--- What holds of the certificate of an answer.
+-- What holds of the certificate of an answer, and of its basis.
+use Rattle.std.specs.Prelude.{Some}
 use Rattle.spec_model.specs.Model.{Model}
 use Rattle.spec_check.specs.Certificate.{IsFor, IsNarrowCertificate}
+use Rattle.spec_check.specs.declared.certificate.Known.TheVariants as known
+use Rattle.spec_simplex.specs.Form.{Form}
+use Rattle.spec_simplex.specs.Eliminate.{IsBasisOf}
 use Rattle.spec_check.specs.declared.solve_end.SolveEnd.TheVariants.{Ended, Past, Spent}
 use Rattle.spec_cold.specs.Cold.{ExactSolveEnd}
 use Rattle.spec_warm.specs.declared.ends.Warm.TheVariants as warm
@@ -16,3 +20,8 @@ IsFit m Spent = Unit {0}
 abbrev pub IsWarmFit : Model → WarmResult → Type 0
 IsWarmFit m (warm.Ended answer certificate basis pivots) = IsFor m certificate × IsNarrowCertificate certificate
 IsWarmFit m (warm.Stopped stop) = Unit {0}
+
+-- the basis of an optimum is one of the form
+abbrev pub LeavesBasis : Form → ExactSolveEnd → Type 0
+LeavesBasis f (Ended (known.Optimal v) certificate (Some basis) pivots) = IsBasisOf f basis
+LeavesBasis f other = Unit {0}

@@ -1,11 +1,13 @@
 //! The solve of a model, cold or from a basis that is handed to it.
 //!
 //! `solve` gives the answer, the certificate that the checker accepted for it, the basis of an optimum and the count
-//! of pivots; or the first operation that is past 127 bits, or that the budget is spent; and how it came to that;
-//! as spec_solve's `MayEnd` says that a solve may. A basis never costs an answer: where the start from it stops, the
-//! cold part of the solve has the whole budget. Nor does one of the three cold runs, over factors,
-//! over whole tableaus and over rows of whole numbers: where one of them gives up, the next one has the whole budget.
-//! Which comes first is a choice of speed alone. Of an answer over rows the checker says yes to the certificate, as of each other.
+//! of pivots; or the first operation that is past 127 bits, or that the budget is spent; and how it came to that.
+//! It ends with what may be answered (spec_solve's `IsSolved`): with an answer only by a certificate for the model to
+//! which the checker says yes, and with a spent budget only where this is below the number of pivots that is enough.
+//! A basis never costs an answer: where the start from it stops, the cold part of the solve has the whole budget. Nor
+//! does one of the three cold runs, over factors, over whole tableaus and over rows of whole numbers: where one of them
+//! gives up, the next one has the whole budget. Which comes first is a choice of speed alone. Of an answer over rows the
+//! checker says yes to the certificate, as of each other.
 //!
 //! | Item | What it is | Where |
 //! |---|---|---|
@@ -17,7 +19,7 @@
 //! | `from_basis` | the warm start from a basis | src/warm |
 //! | `Ended` | how both phases of a cold solve ended | src/phases |
 //! | `certificate_at`, `basis_at` | the certificate and the basis of an end | src/certificate, src/basis |
-//! | `IsFit` | what holds of the certificate of an answer | specs/Fit |
+//! | `IsFit`, `LeavesBasis` | what holds of the certificate of an answer, and of its basis | specs/Fit |
 #![tactic(auto)]
 
 mod basis;

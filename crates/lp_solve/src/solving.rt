@@ -4,9 +4,9 @@ ghost use Rattle.spec_simplex.specs.Eliminate.{IsBasisOf};
 ghost use Rattle.spec_simplex.specs.Form.{form_of};
 ghost use Rattle.spec_warm.specs.declared.ends.Route.TheVariants as route;
 ghost use Rattle.spec_warm.specs.Solve as solve;
-ghost use Rattle.spec_solve.specs.Order as order;
+ghost use Rattle.spec_solve.specs.Answers.{number_limit, IsSolved};
 ghost use Rattle.lp_frac.specs.Narrow.{largest};
-ghost use Rattle.lp_solve.specs.Fit.{IsFit};
+ghost use Rattle.lp_solve.specs.Fit.{LeavesBasis};
 
 use crate::cold::{End, answered};
 use crate::factors::cold_part;
@@ -46,8 +46,7 @@ fn warm_first(
 ) -> Result<Solved, AllocError>
     requires formed { form_of (Some largest) model.now ≡ Ok form.now }
     requires fits { IsBasisOf form.now basis.now }
-    ensures answer { IfOk result (order.MayEnd (Some largest) budget model.now (Some basis.now)) }
-    ensures narrow { IfOk result (λ s. IsFit model.now s.end) }
+    ensures { IfOk result (IsSolved model.now budget (Some basis.now)) }
 {
     match from_basis(alloc, budget, model, form, basis)? {
         Warm::Ended {
@@ -81,7 +80,7 @@ fn cold(end: End) -> Solved
     }
 }
 
-/// The same solve of a model whose form is at hand.
+/// The same solve of a model whose form is at hand. The basis of an optimum is one of this form.
 pub fn solve_formed(
     alloc: Global,
     model: &Model,
@@ -89,11 +88,10 @@ pub fn solve_formed(
     form: &Form,
     handed: Option<&Basis>,
 ) -> Result<Solved, AllocError>
-    requires formed { form_of (Some largest) model.now ≡ Ok form.now }
+    requires formed { form_of (Some number_limit) model.now ≡ Ok form.now }
     requires fits { IfSome handed (λ basis. IsBasisOf form.now basis.now) }
-    ensures answer { IfOk result
-        (order.MayEnd (Some largest) budget model.now (option_map (λ basis. basis.now) handed.entry)) }
-    ensures narrow { IfOk result (λ s. IsFit model.now s.end) }
+    ensures solved { IfOk result (IsSolved model.now budget (option_map (λ basis. basis.now) handed.entry)) }
+    ensures basis { IfOk result (λ s. LeavesBasis form.now s.end) }
 {
     match handed {
         Some(basis) => warm_first(alloc, budget, model, form, basis),
@@ -104,17 +102,16 @@ pub fn solve_formed(
 /// Solves the model within a budget of pivots and flips, and has the certificate of the end checked: from the basis
 /// that is handed to it, if one is, by the method that this is fit for; and where nothing is handed, or the start from
 /// the basis stops, from the start that each model has, with the whole budget: over factors, and where these give up,
-/// with the whole budget again over whole tableaus, which alone decide what is refused.
+/// with the whole budget again over whole tableaus, which alone decide what is refused. Only a budget below
+/// `enough_pivots` is ever spent.
 pub fn solve(
     alloc: Global,
     model: &Model,
     budget: u64,
     handed: Option<&Basis>,
 ) -> Result<Solved, AllocError>
-    requires { IfSome handed (λ basis. solve.HasBasis (Some largest) model.now basis.now) }
-    ensures answer { IfOk result
-        (order.MayEnd (Some largest) budget model.now (option_map (λ basis. basis.now) handed.entry)) }
-    ensures narrow { IfOk result (λ s. IsFit model.now s.end) }
+    requires { IfSome handed (λ basis. solve.HasBasis (Some number_limit) model.now basis.now) }
+    ensures { IfOk result (IsSolved model.now budget (option_map (λ basis. basis.now) handed.entry)) }
 {
     match form(alloc, model) {
         Ok(form) => {

@@ -7,7 +7,7 @@ ghost use Rattle.spec_server.specs.BasisOut.{BasisOut, final_text};
 ghost use Rattle.spec_server.specs.CheckOut.{check_line};
 ghost use Rattle.spec_server.specs.declared.asks.Reply.TheVariants as replies;
 ghost use Rattle.spec_server.specs.declared.asks.Refusal.TheVariants as refusals;
-ghost use Rattle.lp_session.specs.Stages.{LeavesBasis};
+ghost use Rattle.lp_solve.specs.Fit.{LeavesBasis};
 ghost use Rattle.lp_solve_out.specs.Ends.{end_lines};
 ghost use Rattle.lp_solve_out.specs.Handed.{handed_of, IsStartOf};
 ghost use Rattle.lp_solve_out.specs.Prints.{Prints};

@@ -1,9 +1,8 @@
 -- Nothing is handed.
-use Rattle.std.proofs.Common.{None}
-use Rattle.lp_session.proofs.Ends.{solved_ok}
+use Rattle.std.proofs.Common.{None, IfOk, subst}
+use Rattle.spec_solve.specs.Answers.{IsSolved}
 use Rattle.lp_session.proofs.solved.solved_within.Goals as goal
 
 pub returns : goal.returns
 returns c =
-    solved_ok c.args.model.now None c.solve.result c.args.budget _ c.from.ensures tt c.solve.ensures.answer
-    c.solve.ensures.narrow
+    subst (λ budget. IfOk c.solve.result (IsSolved c.args.model.now budget None)) c.from.ensures c.solve.ensures

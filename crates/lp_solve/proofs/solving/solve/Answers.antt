@@ -2,7 +2,8 @@
 use Rattle.std.proofs.Common.{Some, refl}
 use Rattle.lp_frac.specs.Narrow.{largest}
 use Rattle.lp_solve.proofs.Solved.{form_stop, form_clash, formless, clash_fits}
-use Rattle.lp_solve.proofs.WarmRuns.{fits_form, nothing_handed, solves_cold}
+use Rattle.lp_solve.proofs.WarmRuns.{fits_form, nothing_handed}
+use Rattle.lp_solve.proofs.Allowed.{nothing_solved}
 use Rattle.lp_solve.proofs.solving.solve.Goals as goal
 
 pub solve_formed-solved-requires-clause-fits : goal.solve_formed-solved-requires-clause-fits
@@ -13,18 +14,18 @@ answered-requires-clause-fits c =
     rw c.in-Err-Cause.clash-is (clash_fits _ c.args.budget _ _
     (form_clash _ _ _ c.in-Err-Cause.field-0-is c.in-Err-Cause.ensures.err))
 
-pub returns-in-Err-Cause-clause-answer : goal.returns-in-Err-Cause-clause-answer
-returns-in-Err-Cause-clause-answer c =
+pub returns-in-Err-Cause : goal.returns-in-Err-Cause
+returns-in-Err-Cause c =
     let stop = form_clash _ _ _ c.in-Err-Cause.field-0-is c.in-Err-Cause.ensures.err in
     let answered = rw c.in-Err-Cause.clash-is at c.answered.ensures.answer in
-    solves_cold (Some largest) c.args.budget c.args.model.now _ c.args.handed _ _
+    nothing_solved c.args.budget c.args.model.now _ c.args.handed _ _
     (nothing_handed (Some largest) c.args.model.now _ c.args.handed _ stop c.requires) c.cold.ensures
-    (formless _ _ _ _ _ stop answered)
+    (formless _ _ _ _ _ stop answered) c.answered.ensures.narrow
 
-pub returns-in-Err-Past-clause-answer : goal.returns-in-Err-Past-clause-answer
-returns-in-Err-Past-clause-answer c =
+pub returns-in-Err-Past : goal.returns-in-Err-Past
+returns-in-Err-Past c =
     let stop = form_stop _ _ _ c.in-Err-Past.field-0-is c.in-Err-Past.ensures.err in
     let told = rw c.in-Err-Past.past-is at c.cold-in-Err-Past.ensures in
-    solves_cold (Some largest) c.args.budget c.args.model.now _ c.args.handed _ _
+    nothing_solved c.args.budget c.args.model.now _ c.args.handed _ _
     (nothing_handed (Some largest) c.args.model.now _ c.args.handed _ stop c.requires) told
-    (formless _ _ _ _ _ stop refl)
+    (formless _ _ _ _ _ stop refl) tt

@@ -1,17 +1,31 @@
 -- From the basis that is handed; and where nothing is, the solve is cold.
-use Rattle.std.proofs.Common.{IfOk, Some, option_map, sym, subst}
-use Rattle.spec_solve.specs.Order.{MayEnd}
-use Rattle.lp_frac.specs.Narrow.{largest}
-use Rattle.lp_solve.proofs.WarmRuns.{solves_cold}
+use Rattle.std.proofs.Common.{IfOk, option_map, sym, subst}
+use Rattle.spec_solve.specs.Answers.{IsSolved}
+use Rattle.lp_solve.proofs.Allowed.{nothing_solved, solve_leaves, solves_leave}
 use Rattle.lp_solve.proofs.solving.solve_formed.Goals as goal
 
-pub returns-in-Some-clause-answer : goal.returns-in-Some-clause-answer
-returns-in-Some-clause-answer c =
+pub returns-in-Some-clause-solved : goal.returns-in-Some-clause-solved
+returns-in-Some-clause-solved c =
     subst (λ handed. IfOk c.warm_first.result
-    (MayEnd (Some largest) c.args.budget c.args.model.now (option_map (λ basis. basis.now) handed)))
-    (sym c.in-Some.is) c.warm_first.ensures.answer
+    (IsSolved c.args.model.now c.args.budget (option_map (λ basis. basis.now) handed)))
+    (sym c.in-Some.is) c.warm_first.ensures
 
-pub returns-in_ok-cold_part-in-None-clause-answer : goal.returns-in_ok-cold_part-in-None-clause-answer
-returns-in_ok-cold_part-in-None-clause-answer c =
-    solves_cold (Some largest) c.args.budget c.args.model.now _ c.args.handed _ _ c.in-None.is c.cold.ensures
-    c.in_ok-cold_part-in-None.ensures.answer
+pub returns-in-Some-clause-basis : goal.returns-in-Some-clause-basis
+returns-in-Some-clause-basis c =
+    solves_leave c.args.budget c.args.model.now c.args.form.now _ c.args.handed c.requires.formed c.requires.fits
+    c.warm_first.result
+    (subst (λ handed. IfOk c.warm_first.result
+    (IsSolved c.args.model.now c.args.budget (option_map (λ basis. basis.now) handed)))
+    (sym c.in-Some.is) c.warm_first.ensures)
+
+pub returns-in_ok-cold_part-in-None-clause-solved : goal.returns-in_ok-cold_part-in-None-clause-solved
+returns-in_ok-cold_part-in-None-clause-solved c =
+    nothing_solved c.args.budget c.args.model.now _ c.args.handed _ _ c.in-None.is c.cold.ensures
+    c.in_ok-cold_part-in-None.ensures.answer c.in_ok-cold_part-in-None.ensures.narrow
+
+pub returns-in_ok-cold_part-in-None-clause-basis : goal.returns-in_ok-cold_part-in-None-clause-basis
+returns-in_ok-cold_part-in-None-clause-basis c =
+    solve_leaves c.args.budget c.args.model.now c.args.form.now _ c.args.handed c.requires.formed c.requires.fits
+    c.cold.result
+    (nothing_solved c.args.budget c.args.model.now _ c.args.handed _ _ c.in-None.is c.cold.ensures
+    c.in_ok-cold_part-in-None.ensures.answer c.in_ok-cold_part-in-None.ensures.narrow)

@@ -1,0 +1,80 @@
+-- What a solve ends with may be answered.
+use Rattle.std.proofs.Common.{◌≡◌, ℕ, List, Option, Some, None, IfSome, Result, Ok, Err, IfOk, option_map}
+use Rattle.std.proofs.Common.{refl, sym, subst}
+use Rattle.spec_exact.specs.Fraction.{ℚ}
+use Rattle.spec_model.specs.Model.{Model}
+use Rattle.spec_check.specs.declared.certificate.Certificate.{Certificate}
+use Rattle.spec_check.specs.declared.certificate.Known.{Known}
+use Rattle.spec_check.specs.declared.certificate.Known.TheVariants as known
+use Rattle.spec_pivot.specs.declared.status.Status.{Status}
+use Rattle.spec_simplex.specs.declared.ends.WarmStop.{WarmStop}
+use Rattle.spec_simplex.specs.Form.{Form, form_of}
+use Rattle.spec_simplex.specs.Eliminate.{IsBasisOf}
+use Rattle.spec_check.specs.declared.solve_end.SolveEnd.TheVariants.{Ended}
+use Rattle.spec_cold.specs.Cold.{ExactSolveEnd}
+use Rattle.spec_warm.specs.declared.ends.Route.TheVariants as route
+use Rattle.spec_warm.specs.declared.ends.Warm.TheVariants as warm
+use Rattle.spec_warm.specs.Warm.{WarmResult, after_form}
+use Rattle.spec_warm.specs.Solve.{SolveEnd, fall_of}
+use Rattle.spec_solve.specs.Order.{MayEndCold, MayEnd}
+use Rattle.spec_solve.specs.Answers.{IsSolved}
+use Rattle.spec_solve.proofs.Solves.{HasFitEnd, cold_solved, is_solved}
+use Rattle.spec_solve.proofs.Left.{solved_left}
+use Rattle.lp_frac.specs.Narrow.{largest}
+use Rattle.lp_solve.specs.Fit.{IsFit, IsWarmFit, LeavesBasis}
+use Rattle.lp_solve.proofs.WarmRuns.{ends_warm, falls}
+
+fit_end : (m : Model) (end : ExactSolveEnd) → IsFit m end → HasFitEnd m end
+fit_end m end fit = λ known c basis pivots is. subst (IsFit m) is fit
+
+-- ---- from a basis of the form
+module _ (budget : ℕ) (m : Model) (f : Form) (basis : List Status) (formed : form_of (Some largest) m ≡ Ok f)
+    (fits : IsBasisOf f basis) where
+  handed_solved : (s : SolveEnd) → MayEnd (Some largest) budget m (Some basis) s → IsFit m s.end →
+      IsSolved m budget (Some basis) s
+  handed_solved s may fit = is_solved m budget (Some basis) s (f, formed, fits) may (fit_end m s.end fit)
+
+  pub warm_solved : (answer : Known ℚ) (c : Certificate (List ℚ)) (left : Option (List Status)) (pivots : ℕ)
+      (w : WarmResult) → w ≡ warm.Ended answer c left pivots → w ≡ after_form (Some largest) budget m basis (Ok f) →
+      IsWarmFit m w →
+      IsSolved m budget (Some basis) (record { end = Ended answer c left pivots; route = route.Warm })
+  warm_solved answer c left pivots w e h fit =
+      handed_solved (record { end = Ended answer c left pivots; route = route.Warm })
+      (ends_warm (Some largest) budget m f basis formed answer c left pivots w e h) (subst (IsWarmFit m) e fit)
+
+  pub fall_solved : (stop : WarmStop ℚ) (w : WarmResult) (end : ExactSolveEnd) → w ≡ warm.Stopped stop →
+      w ≡ after_form (Some largest) budget m basis (Ok f) → MayEndCold (Some largest) budget m end → IsFit m end →
+      IsSolved m budget (Some basis) (record { end = end; route = route.Fell (fall_of stop) })
+  fall_solved stop w end e h may fit =
+      handed_solved (record { end = end; route = route.Fell (fall_of stop) })
+      (falls (Some largest) budget m f basis formed stop w end e h may) fit
+
+-- ---- where nothing is handed
+pub nothing_solved : {B : Type 0} (budget : ℕ) (m : Model) (view : B → List Status) (handed : Option B)
+    (end : ExactSolveEnd) (s : SolveEnd) → handed ≡ None → s ≡ record { end = end; route = route.Cold } →
+    MayEndCold (Some largest) budget m end → IsFit m end → IsSolved m budget (option_map view handed) s
+nothing_solved budget m view handed end s e is may fit =
+    subst (λ handed. IsSolved m budget (option_map view handed) s) (sym e)
+    (subst (IsSolved m budget None) (sym is) (cold_solved m budget end may (fit_end m end fit)))
+
+-- ---- the basis that is left
+handed_fits : {B : Type 0} (view : B → List Status) (f : Form) (handed : Option B) →
+    IfSome handed (λ basis. IsBasisOf f (view basis)) → IfSome (option_map view handed) (IsBasisOf f)
+handed_fits view f None fits = tt
+handed_fits view f (Some basis) fits = fits
+
+module _ {B : Type 0} (budget : ℕ) (m : Model) (f : Form) (view : B → List Status) (handed : Option B)
+    (formed : form_of (Some largest) m ≡ Ok f) (fits : IfSome handed (λ basis. IsBasisOf f (view basis))) where
+  pub solve_leaves : (s : SolveEnd) → IsSolved m budget (option_map view handed) s → LeavesBasis f s.end
+  solve_leaves s h = by s.end refl
+    where
+      by : (end : ExactSolveEnd) → s.end ≡ end → LeavesBasis f end
+      by (Ended (known.Optimal v) c (Some left) pivots) is =
+          solved_left (known.Optimal v) c left pivots m budget f formed s is (option_map view handed)
+          (handed_fits view f handed fits) h
+      by end is = tt
+
+  pub solves_leave : {E : Type 0} (r : Result SolveEnd E) → IfOk r (IsSolved m budget (option_map view handed)) →
+      IfOk r (λ s. LeavesBasis f s.end)
+  solves_leave (Ok s) h = solve_leaves s h
+  solves_leave (Err why) h = tt
