@@ -30,11 +30,11 @@ fn bits_of_bound<T: Words>(bound: Option<Signed<T>>) -> u32 {
 
 // The most bits that a number of a row has in use, or its denominator.
 fn bits_of_row<T: Words>(row: &Row<T>) -> u32 {
-    let mut most = row.denominator.bits();
+    let mut most = row.denominator;
     for number in &row.numbers {
-        most = more(most, bits_of_number(*number));
+        most = most.either(number.size);
     }
-    most
+    most.bits()
 }
 
 // Whether a row whose entry in column `j` is not 0 has room for `a` times it less that entry times another row, where

@@ -4,7 +4,7 @@ ghost use Rattle.spec_exact.specs.Fraction.{0ℚ, inverse, ◌-ℚ◌, ◌*ℚ�
 ghost use Rattle.lp_rows.specs.Row.{fraction_at, AreNow};
 
 use crate::row::{eliminate, part, turn};
-use lp_wide::{Signed, Words, product, quotient, some_common};
+use lp_wide::{Signed, Words, low_inverse, product, quotient, quotient_by, some_common};
 use std::cmp::Ordering;
 
 /// Whole numbers on a denominator, which is not 0. The last of them is the value of the row's basic column.
@@ -102,11 +102,15 @@ pub fn divide<T: Words>(row: &mut Row<T>, j: usize) -> bool
 // A divisor that a row's numbers have in common with its denominator. Nothing is promised of it.
 fn divisor<T: Words>(numbers: &[Signed<T>], denominator: T) -> T {
     let mut found = denominator;
+    let mut inverse = low_inverse(found);
     for number in numbers {
         if is_one(found) {
             break;
         }
-        found = some_common(found, number.size);
+        if quotient_by(number.size, found, inverse).is_none() {
+            found = some_common(found, number.size);
+            inverse = low_inverse(found);
+        }
     }
     found
 }
