@@ -23,8 +23,10 @@ type Words256 = Double<Words128>;
 
 type Words512 = Double<Words256>;
 
-// How many words a run may change: some seconds of it.
-const WORK: u64 = 64_000_000;
+type Words1024 = Double<Words512>;
+
+// The effort of a run, some seconds of it: each number that is changed counts for the square of its words.
+const WORK: u64 = 512_000_000;
 
 // What a width leaves.
 #[derive(Drop)]
@@ -98,7 +100,26 @@ fn at_width<T: Words>(
 }
 
 // Both phases from where they stand, in the widest words.
-fn at_512(
+fn at_1024(
+    alloc: Global,
+    form: &Form,
+    budget: u64,
+    state: &mut State<Words1024>,
+) -> Result<Option<RowEnd>, AllocError>
+    requires { IsReady ⟦<Double<Double<Double<Double<u64>>>> as Words>⟧.value form.now state.old }
+    ensures run { (t : tableaus.Tableau) → HasCosts form.now → IsReached t →
+        Shows ⟦<Double<Double<Double<Double<u64>>>> as Words>⟧.value state.old.tab t →
+        IfOk result (EndsAs (rest_run budget form.now state.old.phase state.old.used t)) }
+    ensures narrow { IfOk result IsNarrowEnd }
+{
+    match go_on(alloc, form, state, budget, false)? {
+        PhasesPause::Ended(end) => Ok(Some(end)),
+        PhasesPause::Narrow | PhasesPause::GaveUp => Ok(None),
+    }
+}
+
+// The same from words of 512 bits on.
+fn from_512(
     alloc: Global,
     form: &Form,
     budget: u64,
@@ -110,9 +131,14 @@ fn at_512(
         IfOk result (EndsAs (rest_run budget form.now state.old.phase state.old.used t)) }
     ensures narrow { IfOk result IsNarrowEnd }
 {
-    match go_on(alloc, form, state, budget, false)? {
-        PhasesPause::Ended(end) => Ok(Some(end)),
-        PhasesPause::Narrow | PhasesPause::GaveUp => Ok(None),
+    match at_width(alloc, form, budget, state)? {
+        Left::Ended(end) => Ok(Some(end)),
+        Left::Wider(mut state) => {
+            let end = at_1024(alloc, form, budget, &mut state);
+            drop(state);
+            end
+        }
+        Left::GaveUp => Ok(None),
     }
 }
 
@@ -132,7 +158,7 @@ fn from_256(
     match at_width(alloc, form, budget, state)? {
         Left::Ended(end) => Ok(Some(end)),
         Left::Wider(mut state) => {
-            let end = at_512(alloc, form, budget, &mut state);
+            let end = from_512(alloc, form, budget, &mut state);
             drop(state);
             end
         }
@@ -189,6 +215,29 @@ fn from_64(
 }
 
 // From a start that needs the widest words.
+fn begun_1024(
+    alloc: Global,
+    form: &Form,
+    budget: u64,
+    tab: &Tableau,
+) -> Result<Option<RowEnd>, AllocError>
+    requires rows { form.now.rows ≡ tab.now.rows }
+    requires cols { form.now.cols ≡ tab.now.cols }
+    ensures run { HasCosts form.now → IsReached tab.now →
+        IfOk result (EndsAs (start_run budget form.now tab.now)) }
+    ensures narrow { IfOk result IsNarrowEnd }
+{
+    match begun::<Words1024>(alloc, tab)? {
+        Some(mut state) => {
+            let end = at_1024(alloc, form, budget, &mut state);
+            drop(state);
+            end
+        }
+        None => Ok(None),
+    }
+}
+
+// From a start that needs words of 512 bits, or wider ones.
 fn begun_512(
     alloc: Global,
     form: &Form,
@@ -203,11 +252,11 @@ fn begun_512(
 {
     match begun::<Words512>(alloc, tab)? {
         Some(mut state) => {
-            let end = at_512(alloc, form, budget, &mut state);
+            let end = from_512(alloc, form, budget, &mut state);
             drop(state);
             end
         }
-        None => Ok(None),
+        None => begun_1024(alloc, form, budget, tab),
     }
 }
 
@@ -284,7 +333,7 @@ fn from_start(
 /// phases, with the certificate of the end.
 ///
 /// For the form of a model it ends as the stated run with no limit on numbers, or has no end: where the start is past
-/// 127 bits, a number of a row past 512, or one of the certificate past 127, or where the budget is spent, or a bound
+/// 127 bits, a number of a row past 1,024, or one of the certificate past 127, or where the budget is spent, or a bound
 /// on the work. Which of these it is, is not said, and nothing is promised of when they come. Only want of memory is an
 /// error.
 pub fn cold(alloc: Global, form: &Form, budget: u64) -> Result<Option<RowEnd>, AllocError>

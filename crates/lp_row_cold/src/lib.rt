@@ -1,5 +1,5 @@
 //! The cold run over rows of whole numbers: both phases of the simplex method, in words of 64 bits, and where a number
-//! does not fit, on from there in words of 128, 256 and 512.
+//! does not fit, on from there in words of 128, 256, 512 and 1,024.
 //!
 //! | Item | What it is | Where |
 //! |---|---|---|

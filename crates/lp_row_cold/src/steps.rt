@@ -9,7 +9,7 @@ ghost use Rattle.lp_row_tableau.specs.Shows.{IsWhole, IsReached, Shows};
 ghost use Rattle.lp_row_tableau.specs.Steps.{step_of, MayMake};
 ghost use Rattle.lp_row_cold.specs.Steps.{PausesAt, StepsTo, KeepsAt, KeepsStep, Advances, KeepsAdvance};
 
-use lp_row_tableau::{RowTableau, Step, is_roomy, make, next_step, words_changed};
+use lp_row_tableau::{RowTableau, Step, effort_of, is_roomy, make, next_step};
 use lp_tableau::PrimalEnd;
 use lp_wide::Words;
 
@@ -63,7 +63,7 @@ fn advance<T: Words>(
     if is_too_narrow(tab, step, may_widen) {
         return Some(StepsPause::Narrow);
     }
-    if !spend(work, words_changed(tab, step)) {
+    if !spend(work, effort_of(tab, step)) {
         return Some(StepsPause::GaveUp);
     }
     if make(tab, step) {

@@ -12,25 +12,36 @@ fn has_entry<T: Words>(row: &Row<T>, j: usize) -> bool {
     }
 }
 
-// How many rows have an entry in column `j`, and the row of reduced costs beside them.
-fn rows_changed<T: Words>(tab: &RowTableau<T>, j: usize) -> usize {
-    let mut count: usize = 1;
-    for row in &tab.rows {
-        if has_entry(row, j) {
+// How many numbers of a row are not 0.
+fn entry_count<T: Words>(row: &Row<T>) -> usize {
+    let mut count: usize = 0;
+    for number in &row.numbers {
+        if !number.size.is_zero() {
             count = count.saturating_add(1);
         }
     }
     count
 }
 
-/// How many words of 64 bits a step changes: those of all numbers of each row with an entry in its column, and of the
-/// reduced costs. It measures the work; nothing is promised of it.
-pub fn words_changed<T: Words>(tab: &RowTableau<T>, step: Step) -> u64 {
+// How many entries there are in the rows that have one in column `j`, and in the row of reduced costs.
+fn entries_changed<T: Words>(tab: &RowTableau<T>, j: usize) -> usize {
+    let mut count = entry_count(&tab.costs);
+    for row in &tab.rows {
+        if has_entry(row, j) {
+            count = count.saturating_add(entry_count(row));
+        }
+    }
+    count
+}
+
+/// How much a step changes: all numbers that are not 0 of each row with an entry in its column, and of the reduced costs,
+/// each by the square of its words, since it is multiplied. Nothing is promised of it.
+pub fn effort_of<T: Words>(tab: &RowTableau<T>, step: Step) -> u64 {
     let col = match step {
         Step::End(_) => return 0,
         Step::Flip(col) => col,
         Step::Pivot { col, .. } => col,
     };
-    let numbers = tab.costs.numbers.len().saturating_mul(T::count());
-    rows_changed(tab, col as usize).saturating_mul(numbers) as u64
+    let each = T::count().saturating_mul(T::count());
+    entries_changed(tab, col as usize).saturating_mul(each) as u64
 }

@@ -14,7 +14,7 @@
 //! | `widened` | the same rows in words of twice the width | src/widen |
 //! | `wants_phase_one`, `is_stuck`, `phase_two` | what the phases ask, and the reduced costs of the second | src/phases |
 //! | `certificate`, `basis` | the certificate and the basis of an end | src/ends |
-//! | `words_changed` | how much a step changes | src/effort |
+//! | `effort_of` | how much a step changes | src/effort |
 //! | `Shows` | which tableau of exact fractions the rows are | specs/Shows |
 //! | `IsFlipped`, `IsPivoted` | a tableau of rows before and after a flip, and before and after a pivot | specs/Changes |
 #![tactic(auto)]
@@ -35,7 +35,7 @@ mod widen;
 
 pub use choice::{Step, next_step};
 pub use convert::from_tableau;
-pub use effort::words_changed;
+pub use effort::effort_of;
 pub use ends::{basis, certificate};
 pub use phases::{is_stuck, phase_two, wants_phase_one};
 pub use pivot::make;

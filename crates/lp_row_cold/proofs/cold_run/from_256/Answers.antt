@@ -9,4 +9,4 @@ returns-in-Ended-clause-run c = λ t costs reached shown.
 pub returns-in-Wider-clause-run : goal.returns-in-Wider-clause-run
 returns-in-Wider-clause-run c = λ t costs reached shown.
     let l = width_left _ _ _ _ _ _ c.in-Wider.is (c.in_ok-end.ensures.run t costs reached shown) in
-    then_ends _ _ c.at_512-end.result l.same (c.at_512-end.ensures.run l.tableau costs l.reached l.shown)
+    then_ends _ _ c.from_512-end.result l.same (c.from_512-end.ensures.run l.tableau costs l.reached l.shown)
