@@ -168,9 +168,35 @@ fn or_rows(
     }
 }
 
+// The stated runs first.
+fn stated_first(alloc: Global, budget: u64, model: &Model, form: &Form) -> Result<End, AllocError>
+    requires { form_of (Some largest) model.now ≡ Ok form.now }
+    ensures answer { IfOk result (order.MayEndCold (Some largest) budget model.now) }
+    ensures narrow { IfOk result (IsFit model.now) }
+{
+    let end = stated_part(alloc, budget, model, form)?;
+    match end {
+        End::Ended { .. } => Ok(end),
+        End::Past(_) | End::Spent => or_rows(alloc, budget, model, form, end),
+    }
+}
+
+// The run over rows of whole numbers first.
+fn rows_first(alloc: Global, budget: u64, model: &Model, form: &Form) -> Result<End, AllocError>
+    requires { form_of (Some largest) model.now ≡ Ok form.now }
+    ensures answer { IfOk result (order.MayEndCold (Some largest) budget model.now) }
+    ensures narrow { IfOk result (IsFit model.now) }
+{
+    match over_rows(alloc, budget, model, form)? {
+        Some(end) => Ok(end),
+        None => stated_part(alloc, budget, model, form),
+    }
+}
+
 /// The cold part of a solve, of which each run has the whole budget: an answer of the cold solve without a limit, to
-/// which the checker says yes at 127 bits, by a stated run or, where these give up, over rows of whole numbers; or
-/// without one what the tableaus are refused, where the run over factors gives up too.
+/// which the checker says yes at 127 bits, by a stated run or over rows of whole numbers; or without one what the
+/// tableaus are refused, where the run over factors gives up too. Rows come first where the tableaus would, and last
+/// where the run over factors is likely the quicker one: a choice of speed alone.
 pub(crate) fn cold_part(
     alloc: Global,
     budget: u64,
@@ -181,9 +207,9 @@ pub(crate) fn cold_part(
     ensures answer { IfOk result (order.MayEndCold (Some largest) budget model.now) }
     ensures narrow { IfOk result (IsFit model.now) }
 {
-    let end = stated_part(alloc, budget, model, form)?;
-    match end {
-        End::Ended { .. } => Ok(end),
-        End::Past(_) | End::Spent => or_rows(alloc, budget, model, form, end),
+    if suits_factors(form) {
+        stated_first(alloc, budget, model, form)
+    } else {
+        rows_first(alloc, budget, model, form)
     }
 }
