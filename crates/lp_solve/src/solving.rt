@@ -101,9 +101,9 @@ pub fn solve_formed(
 
 /// Solves the model within a budget of pivots and flips, and has the certificate of the end checked: from the basis
 /// that is handed to it, if one is, by the method that this is fit for; and where nothing is handed, or the start from
-/// the basis stops, from the start that each model has, with the whole budget: over factors, and where these give up,
-/// with the whole budget again over whole tableaus, which alone decide what is refused. Only a budget below
-/// `enough_pivots` is ever spent.
+/// the basis stops, from the start that each model has: over rows of whole numbers, over whole tableaus and over factors,
+/// each with the whole budget, until one of them has an answer. The tableaus alone decide what is refused. Only a budget
+/// below `enough_pivots` is ever spent.
 pub fn solve(
     alloc: Global,
     model: &Model,

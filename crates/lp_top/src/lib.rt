@@ -59,7 +59,7 @@ where
 
     // For some bytes that were read and written: of a script, what was written is the output of a run in which each
     // session replies as if it were alone with what it reads of the places, which nobody else writes; there are as many
-    // workers and places as the command line says; whole or in part as the status says. Of the text of a model, what
+    // places as the command line says; whole or in part as the status says. Of the text of a model, what
     // was written is what the command may write of what its lines say, as far as an input may be read. Of a generated
     // model, it is its size and what a solve of it may end with, and nothing is read. A server reads nothing of the
     // source either.
