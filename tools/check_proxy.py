@@ -15,6 +15,7 @@ It prints what is wrong, and its status is 1 where something is. It takes some t
 """
 from __future__ import annotations
 
+import contextlib
 import os
 import re
 import signal
@@ -186,12 +187,12 @@ def check_numbers(proxy: Proxy) -> None:
     queries = re.findall(r"(haproxy_\w+\{[^}]*\})", page.partition("## What to watch")[2].partition("\n## ")[0])
     # the links that were there before have to be gone, since an address has only so many
     wait_for(proxy, [LINKS_NOW], [0])
-    links = [socket.create_connection((HOST, proxy.ports[7000]), SECONDS) for _ in range(MOST_LINKS + 6)]
-    try:
+    with contextlib.ExitStack() as links:
+        for _ in range(MOST_LINKS + 6):
+            # a link that is refused may be reset while it is made
+            with contextlib.suppress(ConnectionResetError):
+                links.enter_context(socket.create_connection((HOST, proxy.ports[7000]), SECONDS))
         wait_for(proxy, queries, [MOST_LINKS - 8, MOST_LINKS, 6, 0, 2])
-    finally:
-        for link in links:
-            link.close()
 
 
 def wait_for(proxy: Proxy, queries: List[str], wanted: List[float]) -> None:
@@ -201,8 +202,10 @@ def wait_for(proxy: Proxy, queries: List[str], wanted: List[float]) -> None:
         if time.monotonic() > end:
             raise Wrong(f"HAProxy counts {found} of {', '.join(queries)}, and not {wanted}")
         time.sleep(0.1)
-        metrics = proxy.metrics()
-        found = [metrics.get(query) for query in queries]
+        # the page may be cut off while HAProxy is busy with what it counts
+        with contextlib.suppress(OSError):
+            metrics = proxy.metrics()
+            found = [metrics.get(query) for query in queries]
 
 
 def out_of_time(*_: object) -> NoReturn:
