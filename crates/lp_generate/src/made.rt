@@ -8,11 +8,11 @@ ghost use Rattle.spec_server.specs.Machine.{pivots_of_solved};
 ghost use Rattle.spec_server.specs.Output.{pivots_text};
 ghost use Rattle.lp_generate.specs.Generating.{Writes};
 
+use lp_answer::{OPENING_BUDGET, solved_within};
 use lp_base::{Bytes, Sink, send};
 use lp_gen::make;
 use lp_line::Halt;
 use lp_model::Model;
-use lp_session::{OPENING_BUDGET, solved_within};
 use lp_solve::End;
 use lp_solve_out::print_answer;
 use std::alloc::{AllocError, Global};

@@ -7,10 +7,9 @@ ghost use Rattle.spec_server.specs.declared.asks.Reply.TheVariants as replies;
 ghost use Rattle.spec_server.specs.declared.command.Plain.TheVariants as commands;
 ghost use Rattle.lp_session.specs.Stages.{IsFormHeld, IsEndOf, FitsForm, BeginsSo, WorksSo, reply_unapplied};
 
-use crate::solved::{answer_of, certificate_lines, solved_within};
 use crate::stage::{Begun, LastAnswer, Pending, Worked};
-use crate::verdict::verdict_on;
 use crate::working::{how_by, is_found, solved_from, words_of_end};
+use lp_answer::{OPENING_BUDGET, answer_of, certificate_lines, solved_within, verdict_on};
 use lp_certificate::RawCertificate;
 use lp_edit::{Edit, EditError, EditFault, apply};
 use lp_form::Form;
@@ -25,9 +24,6 @@ use spec_reads::Found;
 use spec_server::{How, Plain, Publication};
 use std::alloc::Global;
 use std::{marker, mem};
-
-/// The pivots and flips that a solve of a new session may make.
-pub const OPENING_BUDGET: u32 = 10_000;
 
 /// What a session holds: its model once one is loaded, its budget and what its last solve ended with.
 #[derive(Drop)]

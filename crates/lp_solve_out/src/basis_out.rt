@@ -14,13 +14,13 @@ ghost use Rattle.lp_solve_out.specs.Prints.{Prints};
 
 use crate::basis_start::{Handed, Start};
 use crate::solve::{print_answer, print_certificate};
+use lp_answer::{OPENING_BUDGET, solved_from_basis, solved_within};
 use lp_bas::write;
 use lp_base::Bytes;
 use lp_check::Known;
 use lp_form::Form;
 use lp_line::{Refusal, Reply, print_basis_fault, print_route, print_said};
 use lp_model::Model;
-use lp_session::{OPENING_BUDGET, solved_from_basis, solved_within};
 use lp_solve::{End, Solved};
 use spec_mps::MpsFault;
 use spec_server::BasisFault;

@@ -8,10 +8,10 @@ ghost use Rattle.spec_server.specs.SolveOut.{SolveOut, solved_lines};
 ghost use Rattle.spec_server.specs.declared.asks.Reply.TheVariants as replies;
 ghost use Rattle.lp_solve_out.specs.Prints.{Prints};
 
+use lp_answer::{OPENING_BUDGET, answer_of, certificate_lines, solved_within};
 use lp_base::Bytes;
 use lp_line::{Reply, print_lines, print_said};
 use lp_model::Model;
-use lp_session::{OPENING_BUDGET, answer_of, certificate_lines, solved_within};
 use lp_solve::End;
 use std::alloc::{AllocError, Global};
 

@@ -7,11 +7,11 @@ ghost use Rattle.lp_text_commands.specs.Stage.{step_of, count_of, CheckSays};
 
 use crate::exit_status::ExitStatus;
 use crate::hearing::Output;
+use lp_answer::verdict_on;
 use lp_base::{Bytes, Line};
 use lp_certificate::{CertFeed, CertReader, RawCertificate};
 use lp_line::{Refusal, Reply, Stage, Step, print_said};
 use lp_model::Model;
-use lp_session::verdict_on;
 use mps_read::{Feed, Reader};
 use std::alloc::{AllocError, Global};
 

@@ -1,5 +1,5 @@
-// A solve with a basis that is handed to it.
-ghost use Rattle.std.specs.Prelude.{◌≡◌, IfOk, Ok, Some};
+// Solves of models within a budget.
+ghost use Rattle.std.specs.Prelude.{◌≡◌, None, IfOk, Ok, Some};
 ghost use Rattle.spec_simplex.specs.Form.{form_of};
 ghost use Rattle.spec_simplex.specs.Eliminate.{IsBasisOf};
 ghost use Rattle.spec_solve.specs.Answers.{number_limit, IsSolved};
@@ -7,10 +7,20 @@ ghost use Rattle.lp_solve.specs.Fit.{LeavesBasis};
 
 use lp_form::{Basis, Form};
 use lp_model::Model;
-use lp_solve::{Solved, solve_formed};
+use lp_solve::{Solved, solve, solve_formed};
 use std::alloc::{AllocError, Global};
 
-/// What a solve of a model ends with, within a budget of pivots and flips, from a basis of its form.
+/// The pivots and flips that a solve of a new session may make.
+pub const OPENING_BUDGET: u32 = 10_000;
+
+/// What a solve of a model ends with, within a budget of pivots and flips, from the start that each model has.
+pub fn solved_within(alloc: Global, model: &Model, budget: u32) -> Result<Solved, AllocError>
+    ensures { IfOk result (λ solved. IsSolved model.now budget None solved) }
+{
+    solve(alloc, model, u64::from(budget), None)
+}
+
+/// The same from a basis of its form.
 pub fn solved_from_basis(
     alloc: Global,
     model: &Model,

@@ -1,22 +1,15 @@
-// Solves of models, and what is said of them.
-ghost use Rattle.std.specs.Prelude.{◌≡◌, ℕ, None, IfOk};
-ghost use Rattle.spec_solve.specs.Answers.{MayAnswer, IsSolved};
+// What is said of what a solve ended with.
+ghost use Rattle.std.specs.Prelude.{◌≡◌, ℕ, IfOk};
+ghost use Rattle.spec_solve.specs.Answers.{MayAnswer};
 ghost use Rattle.spec_server.specs.Machine as machine;
 
 use lp_base::Texts;
 use lp_certificate::cert_text;
 use lp_frac::Frac;
 use lp_model::Model;
-use lp_solve::{End, Solved, solve};
+use lp_solve::End;
 use spec_server::Answer;
 use std::alloc::{AllocError, Global};
-
-/// What a solve of a model ends with, within a budget of pivots and flips, from the start that each model has.
-pub fn solved_within(alloc: Global, model: &Model, budget: u32) -> Result<Solved, AllocError>
-    ensures { IfOk result (λ solved. IsSolved model.now budget None solved) }
-{
-    solve(alloc, model, u64::from(budget), None)
-}
 
 /// What is answered of a solve within a budget.
 pub fn answer_of(budget: u32, solved: &End) -> Answer<Frac>
