@@ -5,8 +5,11 @@
 
 The program takes those of the table `commands` in crates/spec_program/specs/CommandLine.antt. docs/lpd.1 has to describe
 each command with as many plain words, and each of its options; the usage of crates/lpd/src/usage.rt has to name each
-command and option. bash, completing by tools/lpd.bash, has to offer each command, then nothing for a plain word, and
-then the options that are not given yet. It prints what differs; the status is 1 where something does.
+command with as many plain words, and each option. bash, completing by tools/lpd.bash, has to offer each command, then
+nothing for a plain word, and then the options that are not given yet. In place of a command there may stand the notices
+of `named` in crates/lp_command_line/specs/Notices.antt, which the page's synopsis and bash have to name too. The version
+that the program shows, and that its definition has, is that of the file VERSION. It prints what differs; the status is 1
+where something does.
 """
 import re
 import subprocess
@@ -17,6 +20,12 @@ TOP = Path(__file__).resolve().parent.parent
 TABLE = TOP / "crates" / "spec_program" / "specs" / "CommandLine.antt"
 PAGE = TOP / "docs" / "lpd.1"
 USAGE = TOP / "crates" / "lpd" / "src" / "usage.rt"
+NOTICES = TOP / "crates" / "lp_command_line" / "specs" / "Notices.antt"
+# The files with the line of the version, and how it stands there.
+VERSIONS = {
+    TOP / "crates" / "lpd" / "src" / "notice.rt": r'^const VERSION: &str = "lpd ([^"]*)\\n";$',
+    TOP / "crates" / "lpd" / "specs" / "Notices.antt": r'^IsTextOf Version text = text ≡ codes "lpd ([^"]*)" \+\+ 10 ∷ \[\]$',
+}
 COMPLETION = TOP / "tools" / "lpd.bash"
 ROW = re.compile(r"^(\w+)(?: \w+)* = record \{\s*plain = (\d+);\s*names = ([^;]*);", re.M)
 NAMES = re.compile(r'(?:codes "--[\w-]+" ∷ )*\[\]')
@@ -30,15 +39,24 @@ def taken():
     rows = {}
     for name, plain, names in ROW.findall(text):
         if not NAMES.fullmatch(" ".join(names.split())):
-            raise ValueError(f"the options of {name} are not read: {names}")
+            raise ValueError(f"{TABLE.relative_to(TOP)}: the options of {name} are not read: {names}")
         rows[name] = int(plain), set(re.findall(r'"([^"]+)"', names))
     table = re.search(r"^commands =\s+(.*?)\n\n", text, re.M | re.S)
     if not table or COMMAND.sub("", table[1]).split() != ["∷"] * len(COMMAND.findall(table[1])) + ["[]"]:
-        raise ValueError("the table of commands is not read")
+        raise ValueError(f"{TABLE.relative_to(TOP)}: the table of commands is not read")
     commands = dict(COMMAND.findall(table[1]))
     if not commands or not set(commands.values()) <= rows.keys():
-        raise ValueError("the rows of the table of commands are not read")
+        raise ValueError(f"{TABLE.relative_to(TOP)}: the rows of the table of commands are not read")
     return {command: rows[row] for command, row in commands.items()}
+
+
+def shown():
+    """The words that ask for a notice."""
+    found = re.search(r"^named word =\n(.*?)\n\n", NOTICES.read_text(encoding="utf-8"), re.M | re.S)
+    words = re.findall(r'same word \(codes "(--[\w-]+)"\)', found[1]) if found else []
+    if not words:
+        raise ValueError(f"{NOTICES.relative_to(TOP)}: the notices are not read")
+    return set(words)
 
 
 def section(page, title):
@@ -60,13 +78,16 @@ def described():
 
 
 def used():
-    """The options of each command that the usage names."""
-    tables = r"^const (?:COMMANDS|OPTIONS): [^=]*= \[(.*?)^\];"
+    """The same of the commands that the usage names."""
+    tables = r"^pub const (?:COMMANDS|OPTIONS): [^=]*= \[(.*?)^\];"
     commands, options = re.findall(tables, USAGE.read_text(encoding="utf-8"), re.M | re.S)
-    named = {command: set() for command in re.findall(r'\(\s*"([\w-]+)",', commands)}
+    named = {}
+    for head in re.findall(r'\(\s*"([\w-]+(?: [A-Z]+)*)",', commands):
+        command, *plain = head.split()
+        named[command] = len(plain), set()
     for heading, option in re.findall(r'\(\s*"Options of ([\w, -]+)",\s*"([\w-]+)",', options):
         for command in re.split(", | and ", heading):
-            named.setdefault(command, set()).add(f"--{option}")
+            named.setdefault(command, (0, set()))[1].add(f"--{option}")
     return named
 
 
@@ -74,9 +95,8 @@ def wrong_usage(commands):
     """Where the usage names something else than what the program takes."""
     found = used()
     for command in sorted(commands.keys() | found.keys()):
-        wanted = commands.get(command, (0, None))[1]
-        if found.get(command) != wanted:
-            yield f"crates/lpd/src/usage.rt: of {command} it names {found.get(command)}, and not {wanted}"
+        if found.get(command) != commands.get(command):
+            yield f"crates/lpd/src/usage.rt: of {command} it names {found.get(command)}, and not {commands.get(command)}"
 
 
 def completed(*words):
@@ -85,9 +105,9 @@ def completed(*words):
     return set(subprocess.run(command, capture_output=True, text=True, check=True).stdout.split())
 
 
-def wrong_completions(commands):
+def wrong_completions(commands, notices):
     """Where the completion offers something else than what the program takes."""
-    tried = [((), set(commands))]
+    tried = [((), set(commands) | notices)]
     for command, (plain, options) in commands.items():
         tried += [((command, *["1"] * count), set()) for count in range(plain)]
         words = (command, *["1"] * plain)
@@ -100,8 +120,20 @@ def wrong_completions(commands):
             yield f"tools/lpd.bash: after '{after}' it offers {sorted(found)}, and not {sorted(wanted)}"
 
 
-def wrong_descriptions(commands):
+def wrong_versions():
+    """Where the line of the version has another one than the file VERSION."""
+    version = (TOP / "VERSION").read_text(encoding="ascii").strip()
+    for path, line in VERSIONS.items():
+        found = re.findall(line, path.read_text(encoding="utf-8"), re.M)
+        if found != [version]:
+            yield f"{path.relative_to(TOP)}: it has the versions {found}, and VERSION has {version}"
+
+
+def wrong_descriptions(commands, notices):
     """Where the manual page names something else than what the program takes."""
+    synopsis = set(re.findall(r"--[\w-]+", section(PAGE.read_text(encoding="utf-8").replace("\\-", "-"), "SYNOPSIS")))
+    if synopsis != notices:
+        yield f"docs/lpd.1: its synopsis names {sorted(synopsis)}, and not {sorted(notices)}"
     found = described()
     for command in sorted(commands.keys() | found.keys()):
         if found.get(command) != commands.get(command):
@@ -110,11 +142,12 @@ def wrong_descriptions(commands):
 
 def main():
     try:
-        commands = taken()
+        commands, notices = taken(), shown()
     except ValueError as error:
-        print(f"{TABLE.relative_to(TOP)}: {error}")
+        print(error)
         return 1
-    wrong = [*wrong_descriptions(commands), *wrong_usage(commands), *wrong_completions(commands)]
+    wrong = [*wrong_descriptions(commands, notices), *wrong_usage(commands), *wrong_completions(commands, notices)]
+    wrong += wrong_versions()
     for what in wrong:
         print(what)
     return 1 if wrong else 0

@@ -13,7 +13,7 @@ It starts 'PROGRAM WORD .. serve' some times, each time for as many links as it 
 - as each link ends, it says so in a line on standard error, with the same word, the link's peer and what it took;
 - a server whose standard error takes nothing serves as another does;
 - where it cannot listen or accept, where its words are no command line, and where its output cannot be written, its status
-  says so.
+  says so, and standard error why it cannot listen.
 
 It prints what is wrong, and its status is 1 where something is. It takes some seconds, and ten minutes at most.
 """
@@ -43,6 +43,8 @@ SECONDS, ALL_SECONDS = 120.0, 600
 STILL = 0.3
 # The most bytes of one link that are read.
 MOST = 2**26
+# What is said of a word that can be no address.
+NO_PLACE = "it is no host, colon and port"
 LISTENING = re.compile(rf"lpd: listening on {re.escape(HOST)}:(\d+)\n")
 # What a server says when a link has ended.
 LINK = re.compile(
@@ -406,9 +408,12 @@ def first_link(port: int) -> Link:
 def check_words(command: List[str]) -> None:
     """An address that another program has, what is none, and words that are no command line."""
     with socket.create_server((HOST, 0)) as taken:
-        for address in (f"{HOST}:{taken.getsockname()[1]}", "nowhere", f"{HOST}:65536"):
+        busy = f"{HOST}:{taken.getsockname()[1]}"
+        reasons = {busy: "it is in use", "nowhere": NO_PLACE, f"{HOST}:65536": NO_PLACE}
+        reasons["192.0.2.1:0"] = "this machine has no such address"
+        for address, why in reasons.items():
             done = run(command, address)
-            told = f"lpd: cannot listen on {address} (status 7)\n"
+            told = f"lpd: cannot listen on {address}: {why} (status 7)\n"
             expect(f"serve {address}", (done.returncode, done.stdout, done.stderr), (7, "", told))
     free = f"{HOST}:0"
     refused = [(), ("",), ("--workers", "2"), (free, "1"), (free, "--workers", "0"), (free, "--workers", "17")]

@@ -12,6 +12,9 @@ declare -A _lpd_commands=(
     [serve]="ADDRESS --workers --each --places"
 )
 
+# What may stand in place of a command.
+_lpd_notices="--help --version"
+
 # The values of those options that take few.
 declare -A _lpd_values=(
     [--form]="free fixed"
@@ -20,7 +23,7 @@ declare -A _lpd_values=(
 _lpd() {
     local word=${COMP_WORDS[COMP_CWORD]} choices="" place=2 each
     if ((COMP_CWORD == 1)); then
-        choices=${!_lpd_commands[*]}
+        choices="${!_lpd_commands[*]} $_lpd_notices"
     else
         for each in ${_lpd_commands[${COMP_WORDS[1]:--}]-}; do
             if [[ $each != --* ]]; then

@@ -33,7 +33,7 @@ if inside sh -c 'command -v rt || command -v lpd' >/dev/null; then fail "the cop
 inside dpkg -i /lpd.deb >"$room/said" 2>&1 || fail "dpkg -i: $(cat "$room/said")"
 answer=$(inside sh -c 'lpd solve < /usr/share/doc/lpd/examples/models/diet.mps | head -n 1')
 [ "$answer" = "OPTIMAL 92.5" ] || fail "the installed program answers '$answer'"
-said=$(inside lpd 2>&1)
+said=$(inside lpd --help) || fail "lpd --help of the installed program fails"
 case $said in
 *"man lpd"*) ;;
 *) fail "the usage of the installed program does not name man lpd: $said" ;;

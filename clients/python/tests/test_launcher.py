@@ -7,7 +7,7 @@ import unittest
 from pathlib import Path
 
 TOP = Path(__file__).resolve().parents[3]
-PROGRAM = "#!/bin/sh\n[ $# != 0 ] && echo ran \"$@\" && exit\necho lpd: bad command line >&2\necho the usage >&2\nexit 2\n"
+PROGRAM = "#!/bin/sh\n[ $# != 0 ] && echo ran \"$@\" && exit\necho lpd: bad command line: there is no word >&2\nexit 2\n"
 
 
 class Launcher(unittest.TestCase):
@@ -18,6 +18,7 @@ class Launcher(unittest.TestCase):
         self.addCleanup(folder.cleanup)
         self.top = Path(folder.name)
         shutil.copy(TOP / "lpd", self.top)
+        shutil.copy(TOP / "VERSION", self.top)
         (self.top / "crates.txt").write_text("low:\nother:\nlpd: low\n")
         for crate in ("low", "other", "lpd"):
             (self.top / "crates" / crate / "src").mkdir(parents=True)
@@ -48,9 +49,15 @@ class Launcher(unittest.TestCase):
 
     def test_help_of_a_program(self) -> None:
         self.build()
-        said = self.run_lpd("--help")
-        self.assertEqual((said.returncode, said.stdout, said.stderr), (0, "the usage\n", ""))
+        for word in ("--help", "-h", "help"):
+            said = self.run_lpd(word)
+            self.assertEqual((said.returncode, said.stdout, said.stderr), (0, "ran --help\n", ""))
         self.assertEqual(self.run_lpd().returncode, 2)
+
+    def test_version_needs_no_kit(self) -> None:
+        said = self.run_lpd("--version")
+        version = (TOP / "VERSION").read_text(encoding="ascii").strip()
+        self.assertEqual((said.returncode, said.stdout, said.stderr), (0, f"lpd {version}\n", ""))
 
     def test_the_content_counts_and_not_the_date(self) -> None:
         self.build()

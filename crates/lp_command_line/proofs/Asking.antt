@@ -205,7 +205,7 @@ row_of (command.Read asked) = text_row asked
 row_of command.Generate = generate_row
 row_of command.Serve = serve_row
 
-look_up-map : {A B : Type 0} (f : A → B) (word : List ℕ) (table : List (List ℕ × A)) →
+pub look_up-map : {A B : Type 0} (f : A → B) (word : List ℕ) (table : List (List ℕ × A)) →
     look_up word (map (λ line. (line.0, f line.1)) table) ≡ option_map f (look_up word table)
 look_up-map f word [] = refl
 look_up-map f word (line ∷ table) = by (same word line.0) (look_up-map f word table)

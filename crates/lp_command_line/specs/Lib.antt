@@ -1,1 +1,3 @@
 pub mod Words
+pub mod Notices
+pub mod WordFaults

@@ -4,11 +4,19 @@
 //! |---|---|---|
 //! | `command_line_of` | what the words ask, if they are a command line | src/line |
 //! | `plan`, `Serving` | at which address a server listens, and for how many workers | src/listening |
+//! | `word_fault`, `WordFault` | which word is at fault, if they are none | src/finding, specs/WordFaults |
+//! | `notice_of`, `Notice` | what they ask for in place of a command | src/notices, specs/Notices |
 //! | `are_in`, `value_in` | the options as they are read | specs/Words |
 #![tactic(auto)]
 
+mod fault;
+mod finding;
 mod line;
 mod listening;
+mod notices;
 
+pub use fault::{Plain, WordFault};
+pub use finding::word_fault;
 pub use line::command_line_of;
 pub use listening::{Serving, plan};
+pub use notices::{Notice, notice_of};

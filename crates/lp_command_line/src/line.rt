@@ -14,14 +14,14 @@ use spec_program::{CommandLine, TextCommand};
 
 // The commands that a word names.
 #[derive(Clone, Copy)]
-enum Command {
+pub(crate) enum Command {
     Run,
     Read(TextCommand),
     Generate,
     Serve,
 }
 
-const COMMANDS: [(&[u8], Command); 6] = [
+pub(crate) const COMMANDS: [(&[u8], Command); 6] = [
     (b"run", Command::Run),
     (b"solve", Command::Read(TextCommand::Solve)),
     (b"check", Command::Read(TextCommand::Check)),
@@ -41,14 +41,14 @@ const USUAL_PLACES: u32 = 256;
 // How many links each worker of a server serves, unless it is said.
 const USUAL_LINKS: u32 = 1;
 
-fn is_one_of(word: &[u8], names: &[&str]) -> bool
+pub(crate) fn is_one_of(word: &[u8], names: &[&str]) -> bool
     ensures { result ≡ list_any (λ name. same word.now name.now) names.now }
 {
     names.iter().any(|name| are_same(word, name.as_bytes()))
 }
 
 // The first option and its value, and the words after them.
-fn first_option(words: &[String]) -> Option<(&[u8], &[u8], &[String])>
+pub(crate) fn first_option(words: &[String]) -> Option<(&[u8], &[u8], &[String])>
     ensures cut { MatchOption result (length words.now < 2)
         (λ p. map string_bytes words.now ≡ p.0.now ∷ p.1.now ∷ map string_bytes p.2.now) }
     ensures fewer { IfSome result (λ p. length p.2.now < length words.now) }
@@ -60,7 +60,7 @@ fn first_option(words: &[String]) -> Option<(&[u8], &[u8], &[String])>
 }
 
 // The value of an option, if its name is given.
-fn value_of<'a>(words: &'a [String], name: &[u8]) -> Option<&'a [u8]>
+pub(crate) fn value_of<'a>(words: &'a [String], name: &[u8]) -> Option<&'a [u8]>
     ensures { option_copied result ≡ value_in name.now (map string_bytes words.now) }
 {
     let mut rest = words;
@@ -92,7 +92,7 @@ fn are_options(words: &[String], names: &[&str]) -> bool
 
 // How many workers the options give.
 #[tactic(auto, unfolding(spec_program::specs::CommandLine::workers_of))]
-fn workers_in(options: &[String]) -> Option<u32>
+pub(crate) fn workers_in(options: &[String]) -> Option<u32>
     ensures { result ≡ command_lines.workers_given (value_in (codes "--workers") (map string_bytes options.now)) }
 {
     match value_of(options, b"--workers") {
@@ -103,7 +103,7 @@ fn workers_in(options: &[String]) -> Option<u32>
 
 // How many places they give.
 #[tactic(auto, unfolding(spec_program::specs::CommandLine::places_of))]
-fn places_in(options: &[String]) -> Option<u32>
+pub(crate) fn places_in(options: &[String]) -> Option<u32>
     ensures { result ≡ command_lines.places_given (value_in (codes "--places") (map string_bytes options.now)) }
 {
     match value_of(options, b"--places") {
@@ -114,7 +114,7 @@ fn places_in(options: &[String]) -> Option<u32>
 
 // How many links for each worker.
 #[tactic(auto, unfolding(spec_program::specs::CommandLine::links_of))]
-fn links_in(options: &[String]) -> Option<u32>
+pub(crate) fn links_in(options: &[String]) -> Option<u32>
     ensures { result ≡ command_lines.links_given (value_in (codes "--each") (map string_bytes options.now)) }
 {
     match value_of(options, b"--each") {
@@ -124,7 +124,7 @@ fn links_in(options: &[String]) -> Option<u32>
 }
 
 // The form that a text is read in, free unless another is given.
-fn form_in(options: &[String]) -> Option<Style>
+pub(crate) fn form_in(options: &[String]) -> Option<Style>
     ensures { result ≡ command_lines.form_given (value_in (codes "--form") (map string_bytes options.now)) }
 {
     match value_of(options, b"--form") {
@@ -158,7 +158,7 @@ fn text_line(command: TextCommand, words: &[String]) -> Option<CommandLine>
 
 // The number that a model is made from; 0 is one too.
 #[tactic(auto, unfolding(spec_program::specs::CommandLine::seed_of))]
-fn seed_of(word: &[u8]) -> Option<u32>
+pub(crate) fn seed_of(word: &[u8]) -> Option<u32>
     ensures { result ≡ command_lines.seed_of word.now }
 {
     if are_same(word, b"0") {
@@ -187,7 +187,7 @@ fn generate_line(words: &[String]) -> Option<CommandLine>
     }
 }
 
-fn is_address(word: &[u8]) -> bool
+pub(crate) fn is_address(word: &[u8]) -> bool
     ensures { result ≡ command_lines.is_address word.now }
 {
     match word {

@@ -3,6 +3,7 @@ ghost use Rattle.std.specs.Prelude.{◌≡◌, map, string_bytes, vec_len, IfOk}
 ghost use Rattle.spec_program.specs.CommandLine.{command_line_of};
 ghost use Rattle.lp_top.specs.Top.{HasListeners};
 
+use crate::unbound::Unbound;
 use lp_net::TcpNet;
 use lp_top::plan;
 use std::alloc::{AllocError, Global};
@@ -10,14 +11,15 @@ use std::net::TcpListener;
 
 /// The socket of a server, at this address. Where it is bound, that is said on standard error, with the address as it
 /// was bound; a fault of that write changes nothing.
-pub fn listen(rt: &HostRuntime, address: &String) -> Option<TcpListener> {
-    let Ok(socket) = TcpListener::bind(rt, address) else {
-        return None;
+pub fn listen<'a>(rt: &HostRuntime, address: &'a String) -> Result<TcpListener, Unbound<'a>> {
+    let socket = match TcpListener::bind(rt, address) {
+        Ok(socket) => socket,
+        Err(error) => return Err(Unbound { address, error }),
     };
     if let Ok(bound) = socket.local_addr() {
         let _ = eprintln!(rt; "lpd: listening on {bound}");
     }
-    Some(socket)
+    Ok(socket)
 }
 
 /// How many listeners a command line wants: one for each worker of a server, and else none.

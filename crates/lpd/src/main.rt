@@ -2,31 +2,46 @@
 #![tactic(auto)]
 
 mod listening;
+mod nearest;
+mod notice;
 mod outside;
 mod told;
+mod unbound;
 mod usage;
+mod wrong_words;
 
 use listening::{listen, nets_at, wanted};
+use lp_command_line::notice_of;
 use lp_top::{ExitStatus, NeverHolds, lpd_top, plan};
+use notice::show;
 use outside::Counted;
 use std::alloc::{AllocError, Global};
 use std::io::ErrorKind;
 use std::process::ExitCode;
 use std::{env, io};
 use told::tell;
+use unbound::Unbound;
 
 fn main(rt: HostRuntime) -> ExitCode {
     let alloc = rt.alloc();
     let words = match words_of(&rt, alloc) {
         Ok(words) => words,
-        Err(error) => return end(&rt, alloc, status_of(&error), None),
+        Err(error) => return end(&rt, alloc, status_of(&error), None, None),
     };
-    let serving = plan(&words);
-    let socket = match serving {
-        Some(serving) => listen(&rt, serving.address),
+    if let Some(notice) = notice_of(&words) {
+        let mut sink = Counted::new(rt.stdout());
+        let status = show(alloc, notice, &mut sink);
+        return end(&rt, alloc, status, Some(&words), None);
+    }
+    let bound = match plan(&words) {
+        Some(serving) => Some(listen(&rt, serving.address)),
         None => None,
     };
-    let status = match nets_at(&rt, alloc, wanted(&words), socket.as_ref()) {
+    let socket = match &bound {
+        Some(Ok(socket)) => Some(socket),
+        _ => None,
+    };
+    let status = match nets_at(&rt, alloc, wanted(&words), socket) {
         Ok(mut nets) => {
             let mut source = Counted::new(rt.stdin());
             let mut sink = Counted::new(rt.stdout());
@@ -42,16 +57,22 @@ fn main(rt: HostRuntime) -> ExitCode {
         }
         Err(AllocError) => ExitStatus::NO_MEMORY,
     };
-    let unbound = match serving {
-        Some(serving) if socket.is_none() => Some(serving.address),
+    let unbound = match &bound {
+        Some(Err(unbound)) => Some(unbound),
         _ => None,
     };
-    end(&rt, alloc, status, unbound)
+    end(&rt, alloc, status, Some(&words), unbound)
 }
 
 // Says what happened, and gives the status.
-fn end(rt: &HostRuntime, alloc: Global, status: ExitStatus, unbound: Option<&String>) -> ExitCode {
-    let _ = tell(rt, alloc, status, unbound);
+fn end(
+    rt: &HostRuntime,
+    alloc: Global,
+    status: ExitStatus,
+    words: Option<&[String]>,
+    unbound: Option<&Unbound<'_>>,
+) -> ExitCode {
+    let _ = tell(rt, alloc, status, words, unbound);
     ExitCode::from(status.code)
 }
 

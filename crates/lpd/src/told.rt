@@ -1,36 +1,34 @@
 // What is said on standard error.
-use crate::usage::usage;
+use crate::unbound::{Unbound, tell_unbound};
+use crate::wrong_words::tell_words;
 use lp_top::ExitStatus;
 use std::alloc::Global;
 use std::io;
 
-/// Writes on standard error what happened, if not all was done, and the usage after a bad command line. The address is
-/// that of a server which could not listen there. Where memory runs out or a write fails, no more is written.
+/// Writes on standard error what happened, if not all was done. `words` are those of the command line, unless they could
+/// not be read, and `unbound` is where a server could not listen. Where memory runs out or a write fails, no more is
+/// written.
 pub fn tell(
     rt: &HostRuntime,
     alloc: Global,
     status: ExitStatus,
-    unbound: Option<&String>,
+    words: Option<&[String]>,
+    unbound: Option<&Unbound<'_>>,
 ) -> io::Result<()> {
-    if status == ExitStatus::ACCEPT {
-        if let Some(address) = unbound {
-            return eprintln!(rt; "lpd: cannot listen on {address} (status 7)");
-        }
+    match (status, words, unbound) {
+        (ExitStatus::ACCEPT, _, Some(unbound)) => return tell_unbound(rt, unbound),
+        (ExitStatus::BAD_COMMAND_LINE, Some(words), _) => return tell_words(rt, alloc, words),
+        _ => {}
     }
-    let Some(what) = what_happened(status) else {
-        return Ok(());
-    };
-    eprintln!(rt; "lpd: {what}")?;
-    if status == ExitStatus::BAD_COMMAND_LINE {
-        let text = usage(alloc)?;
-        eprint!(rt; "{text}")?;
+    match what_happened(status) {
+        Some(what) => eprintln!(rt; "lpd: {what}"),
+        None => Ok(()),
     }
-    Ok(())
 }
 
 fn what_happened(status: ExitStatus) -> Option<&'static str> {
     match status {
-        ExitStatus::BAD_COMMAND_LINE => Some("bad command line"),
+        ExitStatus::BAD_COMMAND_LINE => Some("bad command line: a word is not UTF-8"),
         ExitStatus::READ => Some("standard input could not be read (status 3)"),
         ExitStatus::WRITE => Some("standard output could not be written (status 4)"),
         ExitStatus::NO_MEMORY => Some("out of memory (status 5)"),

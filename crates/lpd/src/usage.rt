@@ -1,9 +1,9 @@
-// What is written where the words are no command line: clap lays it out, and decides nothing about the words.
+// The text of the usage: clap lays it out, and decides nothing about the words.
 use clap::{Arg, Command};
 use std::alloc::{AllocError, Global};
 
-// The commands, and what each does.
-const COMMANDS: [(&str, &str); 6] = [
+/// The commands with their plain words, and what each does.
+pub const COMMANDS: [(&str, &str); 6] = [
     ("run", "Run a script of up to 64 sessions"),
     ("solve", "Solve the model of one text"),
     (
@@ -15,17 +15,17 @@ const COMMANDS: [(&str, &str); 6] = [
         "Solve a model from a basis file, which follows its text",
     ),
     (
-        "gen",
-        "SEED ROWS COLS: make a model from these numbers, and solve it",
+        "gen SEED ROWS COLS",
+        "Make a model from these numbers, and solve it",
     ),
     (
-        "serve",
-        "ADDRESS: listen at this TCP address, and serve a session on each link",
+        "serve ADDRESS",
+        "Listen at this TCP address, and serve a session on each link",
     ),
 ];
 
-// The options, below the commands that have them: their names, their values and what they say.
-const OPTIONS: [(&str, &str, &str, &str); 4] = [
+/// The options, below the commands that have them: their names, their values and what they say.
+pub const OPTIONS: [(&str, &str, &str, &str); 4] = [
     (
         "Options of run and serve",
         "workers",

@@ -1,0 +1,235 @@
+-- A word is at fault exactly where words are no command line.
+use Rattle.std.proofs.Common.{◌≡◌, ℕ, Bool, true, false, ◌&&◌, not, cond, List, [], ◌∷◌, Option, Some, None}
+use Rattle.std.proofs.Common.{arith, refl, sym, ap, ◌∙◌}
+use Rattle.std.specs.Prelude.{codes, option_map, option_and_then, is_some, is_none}
+use Rattle.std.specs.Option.{option_or}
+use denote.Ref.{Bor}
+use Rattle.spec_mps.specs.Shapes.{look_up}
+use Rattle.spec_program.specs.declared.command_line.CommandLine.TheVariants.{Read}
+use Rattle.spec_program.specs.declared.command_line.TextCommand.{TextCommand}
+use Rattle.spec_program.specs.CommandLine.{Word, OptionNames, given_or, given_in, asked_by, is_one_of, is_address}
+use Rattle.spec_program.specs.CommandLine.{usual_workers, workers_of, workers_given, usual_links, links_of, links_given}
+use Rattle.spec_program.specs.CommandLine.{usual_places, places_of, places_given, form_of, form_given}
+use Rattle.spec_program.specs.CommandLine.{seed_of, row_count_of, column_count_of, run_by, serve_by, generate_by}
+use Rattle.spec_program.specs.CommandLine.{run_row, text_row, generate_row, serve_row, command_line_of}
+use Rattle.spec_mps.specs.declared.style.Style.{Style}
+use Rattle.spec_mps.specs.declared.style.Style.TheVariants.{Free}
+use Rattle.lp_command_line.specs.Words.{value_in, are_in}
+use Rattle.lp_command_line.specs.declared.fault.Plain.{Plain}
+use Rattle.lp_command_line.specs.declared.fault.Plain.TheVariants.{Address, Seed, Rows, Columns}
+use Rattle.lp_command_line.specs.declared.fault.WordFault.{WordFault}
+use Rattle.lp_command_line.specs.declared.fault.WordFault.TheVariants.{NoOption, Twice, NotValue}
+use Rattle.lp_command_line.specs.WordFaults.{Fault, told, option_fault, value_fault, plain_fault, workers_fault}
+use Rattle.lp_command_line.specs.WordFaults.{links_fault}
+use Rattle.lp_command_line.specs.WordFaults.{places_fault, form_fault, run_fault, text_fault, generate_fault}
+use Rattle.lp_command_line.specs.WordFaults.{serve_fault, fault_by, word_fault}
+use Rattle.lp_command_line.specs.declared.line.Command.{Command}
+use Rattle.lp_command_line.specs.declared.line.Command.TheVariants as command
+use Rattle.lp_command_line.proofs.Asking.{refused, run-refused, asks-run, text-refused, asks-text, asks-generate}
+use Rattle.lp_command_line.proofs.Asking.{no-address, serve-refused, asks-serve, command_words, row_of, look_up-map}
+use Rattle.lp_command_line.proofs.Asking.{asks-command}
+
+-- ---- one fault, or another
+
+neither : (a b : Option Fault) (x y : Bool) → is_none a ≡ x → is_none b ≡ y → is_none (option_or a b) ≡ (x && y)
+neither None b x y ex ey = ey ∙ ap (λ t. t && y) ex
+neither (Some fault) b x y ex ey = ap (λ t. t && y) ex
+
+and_false : (t : Bool) → (t && false) ≡ false
+and_false true = refl
+and_false false = refl
+
+-- ---- options, their values, and plain words
+
+no-option_fault : (names : OptionNames) (words : List Word) → is_none (option_fault names words) ≡ are_in names words
+no-option_fault names [] = refl
+no-option_fault names (option ∷ []) = refl
+no-option_fault names (option ∷ value ∷ words) =
+    by (is_one_of option names) (is_some (value_in option words)) (no-option_fault names words)
+  where
+    by : (known given : Bool) → is_none (option_fault names words) ≡ are_in names words →
+        is_none (cond known (cond given (Some (Twice option)) (option_fault names words)) (Some (NoOption option)))
+        ≡ cond (known && not given) (are_in names words) false
+    by true true rest = refl
+    by true false rest = rest
+    by false given rest = refl
+
+module _ {A : Type 0} (usual : A) (of : Word → Option A) (name : Word) (words : List Word) where
+  no-value_fault : is_none (value_fault name words (is_some (given_or usual of (value_in name words))))
+      ≡ is_some (given_or usual of (value_in name words))
+  no-value_fault = by (value_in name words) refl
+    where
+      read : (value : Word) → value_in name words ≡ Some value → (found : Option A) →
+          is_none (value_fault name words (is_some found)) ≡ is_some found
+      read value is (Some a) = refl
+      read value is None = ap (λ v. is_none (option_map (NotValue name) v)) is
+
+      by : (value : Option Word) → value_in name words ≡ value →
+          is_none (value_fault name words (is_some (given_or usual of value))) ≡ is_some (given_or usual of value)
+      by None is = refl
+      by (Some value) is = read value is (of value)
+
+no-plain_fault : (plain : Plain) (word : Word) (is_right : Bool) → is_none (plain_fault plain word is_right) ≡ is_right
+no-plain_fault plain word true = refl
+no-plain_fault plain word false = refl
+
+-- ---- each command
+
+module _ (words : List Word) where
+  abbrev workers : Option ℕ
+  workers = workers_given (value_in (codes "--workers") words)
+
+  abbrev places : Option ℕ
+  places = places_given (value_in (codes "--places") words)
+
+  abbrev links : Option ℕ
+  links = links_given (value_in (codes "--each") words)
+
+  abbrev form : Option Style
+  form = form_given (value_in (codes "--form") words)
+
+  no-workers_fault : is_none (workers_fault words) ≡ is_some workers
+  no-workers_fault = no-value_fault usual_workers workers_of (codes "--workers") words
+
+  no-places_fault : is_none (places_fault words) ≡ is_some places
+  no-places_fault = no-value_fault usual_places places_of (codes "--places") words
+
+  no-links_fault : is_none (links_fault words) ≡ is_some links
+  no-links_fault = no-value_fault usual_links links_of (codes "--each") words
+
+  no-form_fault : is_none (form_fault words) ≡ is_some form
+  no-form_fault = no-value_fault Free form_of (codes "--form") words
+
+run_by-some : (w p : Option ℕ) → (is_some w && is_some p) ≡ is_some (run_by w p)
+run_by-some None p = refl
+run_by-some (Some k) None = refl
+run_by-some (Some k) (Some n) = refl
+
+no-run_fault : (words : List Word) → is_none (run_fault words) ≡ is_some (asked_by words run_row)
+no-run_fault words =
+    neither _ _ _ _
+    (neither _ _ _ _ (no-option_fault run_row.names words) (no-workers_fault words))
+    (no-places_fault words)
+    ∙ by (are_in run_row.names words) refl
+  where
+    by : (t : Bool) → are_in run_row.names words ≡ t →
+        ((t && is_some (workers words)) && is_some (places words)) ≡ is_some (asked_by words run_row)
+    by true e =
+        run_by-some (workers words) (places words)
+        ∙ ap is_some (sym (asks-run words (workers words) (places words) e refl refl))
+    by false e = ap is_some (sym (run-refused words e))
+
+read-some : (text : TextCommand) (style : Option Style) → is_some style ≡ is_some (option_map (Read text) style)
+read-some text None = refl
+read-some text (Some style) = refl
+
+no-text_fault : (text : TextCommand) (words : List Word) → is_none (text_fault words) ≡ is_some (asked_by words (text_row text))
+no-text_fault text words =
+    neither _ _ _ _ (no-option_fault (text_row text).names words) (no-form_fault words)
+    ∙ by (are_in (text_row text).names words) refl
+  where
+    by : (t : Bool) → are_in (text_row text).names words ≡ t →
+        (t && is_some (form words)) ≡ is_some (asked_by words (text_row text))
+    by true e =
+        read-some text (form words) ∙ ap is_some (sym (asks-text words text (form words) e refl))
+    by false e = ap is_some (sym (text-refused words text e))
+
+generate_by-some : (seed rows columns : Option ℕ) →
+    (((is_some seed && is_some rows) && is_some columns) && true) ≡ is_some (generate_by seed rows columns)
+generate_by-some None rows columns = refl
+generate_by-some (Some s) None columns = refl
+generate_by-some (Some s) (Some r) None = refl
+generate_by-some (Some s) (Some r) (Some c) = refl
+
+no-option : (word : Word) (words : List Word) → are_in [] (word ∷ words) ≡ false
+no-option word [] = refl
+no-option word (value ∷ words) = refl
+
+no-generate_fault : (words : List Word) → is_none (generate_fault words) ≡ is_some (asked_by words generate_row)
+unfolding given_in
+no-generate_fault [] = refl
+no-generate_fault (seed ∷ []) = refl
+no-generate_fault (seed ∷ rows ∷ []) = refl
+no-generate_fault (seed ∷ rows ∷ columns ∷ []) =
+    neither _ _ _ _
+    (neither _ _ _ _
+    (neither _ _ _ _ (no-plain_fault Seed seed (is_some (seed_of seed)))
+    (no-plain_fault Rows rows (is_some (row_count_of rows))))
+    (no-plain_fault Columns columns (is_some (column_count_of columns))))
+    refl
+    ∙ generate_by-some (seed_of seed) (row_count_of rows) (column_count_of columns)
+    ∙ ap is_some (sym (asks-generate (seed ∷ rows ∷ columns ∷ []) seed rows columns (seed_of seed) (row_count_of rows)
+    (column_count_of columns) refl refl refl refl))
+no-generate_fault (seed ∷ rows ∷ columns ∷ word ∷ words) =
+    let none = no-option word words in
+    neither _ _ _ _ refl (no-option_fault [] (word ∷ words) ∙ none)
+    ∙ and_false _
+    ∙ ap is_some (sym (refused generate_row (seed ∷ rows ∷ columns ∷ word ∷ words) (omega arith) none))
+
+serve_by-some : (w l p : Option ℕ) → ((is_some w && is_some l) && is_some p) ≡ is_some (serve_by w l p)
+serve_by-some None l p = refl
+serve_by-some (Some k) None p = refl
+serve_by-some (Some k) (Some c) None = refl
+serve_by-some (Some k) (Some c) (Some n) = refl
+
+no-serve_fault : (words : List Word) → is_none (serve_fault words) ≡ is_some (asked_by words serve_row)
+unfolding given_in
+no-serve_fault [] = refl
+no-serve_fault (address ∷ words) =
+    neither _ _ _ _
+    (neither _ _ _ _
+    (neither _ _ _ _
+    (neither _ _ _ _ (no-plain_fault Address address (is_address address)) (no-option_fault serve_row.names words))
+    (no-workers_fault words))
+    (no-links_fault words))
+    (no-places_fault words)
+    ∙ by (is_address address) (are_in serve_row.names words) refl refl
+  where
+    by : (a t : Bool) → is_address address ≡ a → are_in serve_row.names words ≡ t →
+        ((((a && t) && is_some (workers words)) && is_some (links words)) && is_some (places words))
+        ≡ is_some (asked_by (address ∷ words) serve_row)
+    by false t h e = ap is_some (sym (no-address address words (address ∷ words) refl h))
+    by true false h e = ap is_some (sym (serve-refused address words (address ∷ words) refl e))
+    by true true h e =
+        serve_by-some (workers words) (links words) (places words)
+        ∙ ap is_some (sym (asks-serve address words (address ∷ words) refl h e))
+
+-- ---- all of them
+
+abbrev pub fault_of : Command → List Word → Option Fault
+fault_of command.Run = run_fault
+fault_of (command.Read asked) = text_fault
+fault_of command.Generate = generate_fault
+fault_of command.Serve = serve_fault
+
+pub by-command : (word : Word) (words : List Word) (found : Option Command) → look_up word command_words ≡ found →
+    word_fault (word ∷ words) ≡ fault_by word words (option_map fault_of found)
+unfolding word_fault
+by-command word words found is =
+    ap (fault_by word words) (look_up-map fault_of word command_words)
+    ∙ ap (λ found. fault_by word words (option_map fault_of found)) is
+
+pub no-word_fault : (words : List Word) → is_none (word_fault words) ≡ is_some (command_line_of words)
+unfolding word_fault command_line_of
+no-word_fault [] = refl
+no-word_fault (word ∷ words) =
+    ap is_none (by-command word words (look_up word command_words) refl)
+    ∙ by (look_up word command_words)
+    ∙ ap is_some (sym (asks-command (word ∷ words) words word (look_up word command_words) refl refl))
+  where
+    by : (found : Option Command) → is_none (fault_by word words (option_map fault_of found))
+        ≡ is_some (option_and_then (asked_by words) (option_map row_of found))
+    by None = refl
+    by (Some command.Run) = no-run_fault words
+    by (Some (command.Read asked)) = no-text_fault asked words
+    by (Some command.Generate) = no-generate_fault words
+    by (Some command.Serve) = no-serve_fault words
+
+-- as it is told of the code's fault
+pub no-told_fault : (words : List Word) (found : Option (WordFault (Bor (List ℕ)))) → told found ≡ word_fault words →
+    is_none found ≡ is_some (command_line_of words)
+no-told_fault words found is = same-told found ∙ ap is_none is ∙ no-word_fault words
+  where
+    same-told : (found : Option (WordFault (Bor (List ℕ)))) → is_none found ≡ is_none (told found)
+    same-told None = refl
+    same-told (Some fault) = refl

@@ -1,0 +1,103 @@
+-- Words that ask for a notice are no command line.
+use Rattle.std.proofs.Common.{◌≡◌, ℕ, Bool, true, false, cond, ◌<◌, ◌≤◌, arith, List, [], ◌∷◌, length, map, get_or}
+use Rattle.std.proofs.Common.{Option, Some, None, refl, sym, ap, ◌∙◌}
+use Rattle.std.specs.Prelude.{codes, option_map, option_and_then, IsSome}
+use Rattle.spec_text.specs.Words.{same}
+use Rattle.spec_text.proofs.WordLemmas.{same_true}
+use Rattle.spec_mps.specs.Shapes.{look_up}
+use Rattle.spec_program.specs.CommandLine.{Word, given_in, asked_by, command_line_of}
+use Rattle.lp_command_line.specs.declared.notices.Notice.{Notice}
+use Rattle.lp_command_line.specs.declared.notices.Notice.TheVariants.{Usage, Version}
+use Rattle.lp_command_line.specs.declared.line.Command.{Command}
+use Rattle.lp_command_line.specs.declared.line.Command.TheVariants as command
+use Rattle.lp_command_line.specs.Notices.{named, notice_of}
+use Rattle.lp_command_line.proofs.Asking.{run-refused, text-refused, no-address, command_words, row_of, asks-command}
+
+none_is_not : {A : Type 0} (a : A) → ◌≡◌ {A = Option A} None (Some a) → ⊥
+none_is_not a e = cc
+
+alone : (word name : Word) → command_line_of (name ∷ []) ≡ None → same word name ≡ true → command_line_of (word ∷ []) ≡ None
+alone word name none e = ap (λ w. command_line_of (w ∷ [])) (same_true word name e) ∙ none
+
+usage_alone : command_line_of (codes "--help" ∷ []) ≡ None
+unfolding command_line_of
+usage_alone = refl
+
+version_alone : command_line_of (codes "--version" ∷ []) ≡ None
+unfolding command_line_of
+version_alone = refl
+
+-- the usage is no option, number or address of any command
+generates_nothing : asked_by (codes "--help" ∷ []) (row_of command.Generate) ≡ None
+unfolding given_in
+generates_nothing = refl
+
+usage_behind : (word : Word) → command_line_of (word ∷ codes "--help" ∷ []) ≡ None
+usage_behind word =
+    asks-command (word ∷ codes "--help" ∷ []) (codes "--help" ∷ []) word (look_up word command_words) refl refl
+    ∙ by (look_up word command_words)
+  where
+    by : (found : Option Command) → option_and_then (asked_by (codes "--help" ∷ [])) (option_map row_of found) ≡ None
+    by None = refl
+    by (Some command.Run) = run-refused (codes "--help" ∷ []) refl
+    by (Some (command.Read asked)) = text-refused (codes "--help" ∷ []) asked refl
+    by (Some command.Generate) = generates_nothing
+    by (Some command.Serve) = no-address (codes "--help") [] (codes "--help" ∷ []) refl refl
+
+pub no-command : (words : List Word) (notice : Notice) → notice_of words ≡ Some notice → command_line_of words ≡ None
+unfolding notice_of
+no-command [] notice e = absurd (none_is_not notice e)
+no-command (word ∷ []) notice e = by (same word (codes "--help")) (same word (codes "--version")) refl refl e
+  where
+    by : (h v : Bool) → same word (codes "--help") ≡ h → same word (codes "--version") ≡ v →
+        cond h (Some Usage) (cond v (Some Version) None) ≡ Some notice → command_line_of (word ∷ []) ≡ None
+    by true v is_help is_version e = alone word (codes "--help") usage_alone is_help
+    by false true is_help is_version e = alone word (codes "--version") version_alone is_version
+    by false false is_help is_version e = absurd (none_is_not notice e)
+no-command (word ∷ option ∷ []) notice e = by (same option (codes "--help")) refl e
+  where
+    by : (h : Bool) → same option (codes "--help") ≡ h → cond h (Some Usage) None ≡ Some notice →
+        command_line_of (word ∷ option ∷ []) ≡ None
+    by true is_help e =
+        ap (λ o. command_line_of (word ∷ o ∷ [])) (same_true option (codes "--help") is_help) ∙ usage_behind word
+    by false is_help e = absurd (none_is_not notice e)
+no-command (word ∷ option ∷ more ∷ words) notice e = absurd (none_is_not notice e)
+
+pub no-command-by : (words : List Word) (found : Option Notice) → found ≡ notice_of words → IsSome found →
+    command_line_of words ≡ None
+no-command-by words None is some = absurd (let z : false ≡ true = some in cc)
+no-command-by words (Some notice) is some = no-command words notice (sym is)
+
+-- ---- by how many words there are
+
+module _ {X : Type 0} (f : X → List ℕ) where
+  pub no-words-ask : (words : List X) → length words < 1 → None ≡ notice_of (map f words)
+  unfolding notice_of
+  no-words-ask [] few = refl
+  no-words-ask (u ∷ words) few = absurd (omega (arith, few))
+
+  pub one-word-asks : (words : List X) (x : X) (word : List ℕ) → 1 ≤ length words → length words < 2 →
+      x ≡ get_or words 0 x → word ≡ f x → named word ≡ notice_of (map f words)
+  unfolding notice_of
+  one-word-asks [] x word enough few is_x is_word = absurd (omega (arith, enough))
+  one-word-asks (u ∷ []) x word enough few is_x is_word = ap named (is_word ∙ ap f is_x)
+  one-word-asks (u ∷ v ∷ words) x word enough few is_x is_word = absurd (omega (arith, few))
+
+  pub two-words-ask : (words : List X) (x : X) (option : List ℕ) (known test : Bool) → 2 ≤ length words →
+      length words < 3 → x ≡ get_or words 1 x → option ≡ f x → known ≡ same option (codes "--help") → known ≡ test →
+      cond test (Some Usage) None ≡ notice_of (map f words)
+  unfolding notice_of
+  two-words-ask [] x option known test enough few is_x is_option is_known is = absurd (omega (arith, enough))
+  two-words-ask (u ∷ []) x option known test enough few is_x is_option is_known is = absurd (omega (arith, enough))
+  two-words-ask (u ∷ v ∷ []) x option known test enough few is_x is_option is_known is =
+      ap (λ t. cond t (Some Usage) None) (sym is ∙ is_known)
+      ∙ ap (λ (o : List ℕ). cond (same o (codes "--help")) (Some Usage) None) (is_option ∙ ap f is_x)
+  two-words-ask (u ∷ v ∷ w ∷ words) x option known test enough few is_x is_option is_known is =
+      absurd (omega (arith, few))
+
+  pub many-words-ask : (words : List X) → 3 ≤ length words → None ≡ notice_of (map f words)
+  unfolding notice_of
+  many-words-ask [] many = absurd (omega (arith, many))
+  many-words-ask (u ∷ []) many = absurd (omega (arith, many))
+  many-words-ask (u ∷ v ∷ []) many = absurd (omega (arith, many))
+  many-words-ask (u ∷ v ∷ w ∷ words) many = refl

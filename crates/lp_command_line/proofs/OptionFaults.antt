@@ -1,0 +1,77 @@
+-- The fault of options, option by option.
+use Rattle.std.proofs.Common.{◌≡◌, ℕ, Bool, true, false, cond, ◌<◌, ◌≤◌, arith, List, [], ◌∷◌, length, map, get_or}
+use Rattle.std.proofs.Common.{Option, Some, None, refl, sym, ap, ◌∙◌}
+use Rattle.std.specs.Prelude.{is_some}
+use Rattle.std.specs.Option.{option_or}
+use Rattle.std.specs.List.{list_any}
+use denote.Ref.{Bor}
+use Rattle.spec_text.specs.Words.{same}
+use Rattle.spec_program.specs.CommandLine.{OptionNames}
+use Rattle.lp_command_line.specs.Words.{bytes_of, value_in}
+use Rattle.lp_command_line.specs.declared.fault.WordFault.{WordFault}
+use Rattle.lp_command_line.specs.declared.fault.WordFault.TheVariants.{NoOption, Twice, NoValue}
+use Rattle.lp_command_line.specs.WordFaults.{Fault, told, option_fault}
+use Rattle.lp_command_line.proofs.OptionLemmas.{any-bytes}
+
+-- a fault or another, as they are told
+pub told-or : (a b : Option (WordFault (Bor (List ℕ)))) → told (option_or a b) ≡ option_or (told a) (told b)
+told-or None b = refl
+told-or (Some fault) b = refl
+
+pub told-either : (a b : Option (WordFault (Bor (List ℕ)))) (x y : Option Fault) → told a ≡ x → told b ≡ y →
+    told (option_or a b) ≡ option_or x y
+told-either a b x y is_x is_y = told-or a b ∙ ap (λ t. option_or t (told b)) is_x ∙ ap (option_or x) is_y
+
+pub told-by : (r a b : Option (WordFault (Bor (List ℕ)))) (x y : Option Fault) → r ≡ option_or a b → told a ≡ x →
+    told b ≡ y → told r ≡ option_or x y
+told-by r a b x y is is_x is_y = ap told is ∙ told-either a b x y is_x is_y
+
+-- no word is left
+pub none-left : {X : Type 0} (names : OptionNames) (f : X → List ℕ) (rest : List X) → length rest < 1 →
+    None ≡ option_fault names (map f rest)
+none-left names f [] h = refl
+none-left names f (x ∷ rest) h = absurd (omega (arith, h))
+
+-- one word is left
+pub one-left : {X : Type 0} (names : List (Bor (List ℕ))) (f : X → List ℕ) (rest : List X) (x : X) (word : List ℕ)
+    (known test : Bool) → 1 ≤ length rest → length rest < 2 → x ≡ get_or rest 0 x → word ≡ f x →
+    known ≡ list_any (λ name. same word name.now) names → known ≡ test →
+    Some (cond test (NoValue word) (NoOption word)) ≡ option_fault (bytes_of names) (map f rest)
+one-left names f [] x word known test enough few is_x is_word is_known is = absurd (omega (arith, enough))
+one-left names f (u ∷ []) x word known test enough few is_x is_word is_known is =
+    ap (λ t. Some (cond t (NoValue word) (NoOption word))) (sym is ∙ is_known ∙ any-bytes word names)
+    ∙ ap (λ w. option_fault (bytes_of names) (w ∷ [])) (is_word ∙ ap f is_x)
+one-left names f (u ∷ v ∷ rest) x word known test enough few is_x is_word is_known is = absurd (omega (arith, few))
+
+-- ---- one option of several words
+
+module _ (names : List (Bor (List ℕ))) (all rest : List (List ℕ))
+    (invariant : option_fault (bytes_of names) rest ≡ option_fault (bytes_of names) all) (option value : List ℕ)
+    (more : List (List ℕ)) (cut : rest ≡ option ∷ value ∷ more) (known : Bool)
+    (is_known : known ≡ list_any (λ name. same option name.now) names) where
+  abbrev decided : Bool → Bool → Option Fault
+  decided t given =
+      cond t (cond given (Some (Twice option)) (option_fault (bytes_of names) more)) (Some (NoOption option))
+
+  first : option_fault (bytes_of names) all ≡ decided known (is_some (value_in option more))
+  first =
+      sym invariant
+      ∙ ap (option_fault (bytes_of names)) cut
+      ∙ ap (λ t. decided t (is_some (value_in option more))) (sym (any-bytes option names) ∙ sym is_known)
+
+  pub unknown-fault : known ≡ false → Some (NoOption option) ≡ option_fault (bytes_of names) all
+  unknown-fault u = sym (first ∙ ap (λ t. decided t (is_some (value_in option more))) u)
+
+  module _ (k : known ≡ true) (found : Option (List ℕ)) (is_found : found ≡ value_in option more) where
+    second : option_fault (bytes_of names) all ≡ decided true (is_some found)
+    second =
+        first
+        ∙ ap (λ t. decided t (is_some (value_in option more))) k
+        ∙ ap (λ (o : Option (List ℕ)). decided true (is_some o)) (sym is_found)
+
+    pub twice-fault : is_some found ≡ true → Some (Twice option) ≡ option_fault (bytes_of names) all
+    twice-fault g = sym (second ∙ ap (decided true) g)
+
+    pub more-fault : is_some found ≡ false →
+        option_fault (bytes_of names) more ≡ option_fault (bytes_of names) all
+    more-fault g = sym (second ∙ ap (decided true) g)

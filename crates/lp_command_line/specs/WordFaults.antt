@@ -1,0 +1,117 @@
+-- Which word is at fault where words are no command line: the first one that is, of the command, of its plain words and of
+-- its options' names, and else the first value by the order of the command's options.
+use Rattle.std.specs.Prelude.{ℕ, Bool, true, false, List, [], ◌∷◌, Option, Some, None, option_map, is_some}
+use Rattle.std.specs.Prelude.{codes, if◌then◌else◌}
+use denote.Ref.{Bor}
+use Rattle.std.specs.Option.{option_or}
+use Rattle.spec_mps.specs.Shapes.{look_up}
+use Rattle.spec_program.specs.CommandLine.{Word, OptionNames, is_one_of, is_address}
+use Rattle.spec_program.specs.CommandLine.{workers_given, links_given, places_given, form_given}
+use Rattle.spec_program.specs.CommandLine.{seed_of, row_count_of, column_count_of}
+use Rattle.lp_command_line.specs.Words.{value_in}
+use Rattle.lp_command_line.specs.declared.fault.Plain.{Plain}
+use Rattle.lp_command_line.specs.declared.fault.Plain.TheVariants.{Address, Seed, Rows, Columns}
+use Rattle.lp_command_line.specs.declared.fault.WordFault.{WordFault}
+use Rattle.lp_command_line.specs.declared.fault.WordFault.TheVariants.{NoWord, NoCommand, TooFew, NotPlain}
+use Rattle.lp_command_line.specs.declared.fault.WordFault.TheVariants.{NoOption, Twice, NoValue, NotValue}
+
+abbrev pub Fault : Type 0
+Fault = WordFault Word
+
+-- a fault with the words themselves, as the code has them behind references
+abbrev pub spelled : WordFault (Bor (List ℕ)) → Fault
+spelled NoWord = NoWord
+spelled (NoCommand word) = NoCommand word.now
+spelled TooFew = TooFew
+spelled (NotPlain plain word) = NotPlain plain word.now
+spelled (NoOption word) = NoOption word.now
+spelled (Twice word) = Twice word.now
+spelled (NoValue word) = NoValue word.now
+spelled (NotValue option value) = NotValue option.now value.now
+
+abbrev pub told : Option (WordFault (Bor (List ℕ))) → Option Fault
+told = option_map spelled
+
+-- the last word, where it stands alone in place of an option
+abbrev pub lone_fault : OptionNames → Word → Fault
+lone_fault names option = if is_one_of option names then NoValue option else NoOption option
+
+-- a word where an option is due is none of these, is given again behind its value, or has no value
+abbrev pub option_fault : OptionNames → List Word → Option Fault
+option_fault names [] = None
+option_fault names (option ∷ []) = Some (lone_fault names option)
+option_fault names (option ∷ value ∷ words) =
+    if is_one_of option names
+    then (if is_some (value_in option words) then Some (Twice option) else option_fault names words)
+    else Some (NoOption option)
+
+-- the value of this option, unless something is given by it, or by there being none
+abbrev pub value_fault : Word → List Word → Bool → Option Fault
+value_fault name words true = None
+value_fault name words false = option_map (NotValue name) (value_in name words)
+
+-- a plain word, unless something is given by it
+abbrev pub plain_fault : Plain → Word → Bool → Option Fault
+plain_fault plain word true = None
+plain_fault plain word false = Some (NotPlain plain word)
+
+abbrev pub workers_fault : List Word → Option Fault
+workers_fault words = value_fault (codes "--workers") words (is_some (workers_given (value_in (codes "--workers") words)))
+
+abbrev pub links_fault : List Word → Option Fault
+links_fault words = value_fault (codes "--each") words (is_some (links_given (value_in (codes "--each") words)))
+
+abbrev pub places_fault : List Word → Option Fault
+places_fault words = value_fault (codes "--places") words (is_some (places_given (value_in (codes "--places") words)))
+
+abbrev pub form_fault : List Word → Option Fault
+form_fault words = value_fault (codes "--form") words (is_some (form_given (value_in (codes "--form") words)))
+
+abbrev pub run_fault : List Word → Option Fault
+run_fault words =
+    option_or (option_or (option_fault (codes "--workers" ∷ codes "--places" ∷ []) words) (workers_fault words))
+    (places_fault words)
+
+abbrev pub text_fault : List Word → Option Fault
+text_fault words = option_or (option_fault (codes "--form" ∷ []) words) (form_fault words)
+
+abbrev pub generate_fault : List Word → Option Fault
+generate_fault (seed ∷ rows ∷ columns ∷ words) =
+    option_or
+    (option_or
+    (option_or (plain_fault Seed seed (is_some (seed_of seed))) (plain_fault Rows rows (is_some (row_count_of rows))))
+    (plain_fault Columns columns (is_some (column_count_of columns))))
+    (option_fault [] words)
+generate_fault words = Some TooFew
+
+abbrev pub serve_fault : List Word → Option Fault
+serve_fault [] = Some TooFew
+serve_fault (address ∷ words) =
+    option_or
+    (option_or
+    (option_or
+    (option_or (plain_fault Address address (is_address address))
+    (option_fault (codes "--workers" ∷ codes "--each" ∷ codes "--places" ∷ []) words))
+    (workers_fault words))
+    (links_fault words))
+    (places_fault words)
+
+-- each command's own; in the order of the table of commands
+abbrev pub faults : List (Word × (List Word → Option Fault))
+faults =
+    (codes "run", run_fault)
+    ∷ (codes "solve", text_fault)
+    ∷ (codes "check", text_fault)
+    ∷ (codes "basis", text_fault)
+    ∷ (codes "gen", generate_fault)
+    ∷ (codes "serve", serve_fault)
+    ∷ []
+
+abbrev pub fault_by : Word → List Word → Option (List Word → Option Fault) → Option Fault
+fault_by word words None = Some (NoCommand word)
+fault_by word words (Some fault) = fault words
+
+-- nothing where the words are a command line
+unfoldable pub word_fault : List Word → Option Fault
+word_fault [] = Some NoWord
+word_fault (word ∷ words) = fault_by word words (look_up word faults)

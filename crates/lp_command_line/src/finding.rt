@@ -1,0 +1,162 @@
+// Which word is at fault where words are no command line.
+ghost use Rattle.std.specs.Prelude.{◌≡◌, ◌<◌, length, map, string_bytes, is_none, is_some};
+ghost use Rattle.spec_program.specs.CommandLine.{command_line_of};
+ghost use Rattle.lp_command_line.specs.Words.{bytes_of};
+ghost use Rattle.lp_command_line.specs.WordFaults.{told};
+ghost use Rattle.lp_command_line.specs.WordFaults as faults;
+
+use crate::fault::{Plain, WordFault};
+use crate::line::{
+    COMMANDS, Command, first_option, form_in, is_address, is_one_of, links_in, places_in, seed_of,
+    value_of, workers_in,
+};
+use lp_base::look_up;
+use lp_line::number_to;
+
+// The last word, if there is one, where an option is due.
+fn lone_fault<'a>(words: &'a [String], names: &[&str]) -> Option<WordFault<&'a [u8]>>
+    requires { length words.now < 2 }
+    ensures { told result ≡ faults.option_fault (bytes_of names.now) (map string_bytes words.now) }
+{
+    let [option, ..] = words else {
+        return None;
+    };
+    let option = option.as_bytes();
+    if is_one_of(option, names) {
+        Some(WordFault::NoValue(option))
+    } else {
+        Some(WordFault::NoOption(option))
+    }
+}
+
+// The first word that is none of these options where one is due, is given again, or has no value.
+fn option_fault<'a>(words: &'a [String], names: &[&str]) -> Option<WordFault<&'a [u8]>>
+    ensures { told result ≡ faults.option_fault (bytes_of names.now) (map string_bytes words.now) }
+{
+    let mut rest = words;
+    while let Some((option, _, more)) = first_option(rest) {
+        if !is_one_of(option, names) {
+            return Some(WordFault::NoOption(option));
+        }
+        if value_of(more, option).is_some() {
+            return Some(WordFault::Twice(option));
+        }
+        rest = more;
+    }
+    lone_fault(rest, names)
+}
+
+// The value of an option, unless it is right.
+fn value_fault<'a>(
+    words: &'a [String],
+    name: &'a [u8],
+    is_right: bool,
+) -> Option<WordFault<&'a [u8]>>
+    ensures { told result ≡ faults.value_fault name.now (map string_bytes words.now) is_right }
+{
+    if is_right {
+        return None;
+    }
+    let value = value_of(words, name)?;
+    Some(WordFault::NotValue(name, value))
+}
+
+// A plain word, unless it is right.
+fn plain_fault(plain: Plain, word: &[u8], is_right: bool) -> Option<WordFault<&[u8]>>
+    ensures { told result ≡ faults.plain_fault plain word.now is_right }
+{
+    if is_right {
+        return None;
+    }
+    Some(WordFault::NotPlain(plain, word))
+}
+
+fn workers_fault(options: &[String]) -> Option<WordFault<&[u8]>>
+    ensures { told result ≡ faults.workers_fault (map string_bytes options.now) }
+{
+    value_fault(options, b"--workers", workers_in(options).is_some())
+}
+
+fn links_fault(options: &[String]) -> Option<WordFault<&[u8]>>
+    ensures { told result ≡ faults.links_fault (map string_bytes options.now) }
+{
+    value_fault(options, b"--each", links_in(options).is_some())
+}
+
+fn places_fault(options: &[String]) -> Option<WordFault<&[u8]>>
+    ensures { told result ≡ faults.places_fault (map string_bytes options.now) }
+{
+    value_fault(options, b"--places", places_in(options).is_some())
+}
+
+fn run_fault(words: &[String]) -> Option<WordFault<&[u8]>>
+    ensures { told result ≡ faults.run_fault (map string_bytes words.now) }
+{
+    option_fault(words, &["--workers", "--places"])
+        .or(workers_fault(words))
+        .or(places_fault(words))
+}
+
+fn text_fault(words: &[String]) -> Option<WordFault<&[u8]>>
+    ensures { told result ≡ faults.text_fault (map string_bytes words.now) }
+{
+    let form = value_fault(words, b"--form", form_in(words).is_some());
+    option_fault(words, &["--form"]).or(form)
+}
+
+#[tactic(auto, unfolding(spec_program::specs::CommandLine::row_count_of, spec_program::specs::CommandLine::column_count_of))]
+fn generate_fault(words: &[String]) -> Option<WordFault<&[u8]>>
+    ensures { told result ≡ faults.generate_fault (map string_bytes words.now) }
+{
+    let [seed, rows, columns, behind @ ..] = words else {
+        return Some(WordFault::TooFew);
+    };
+    let (seed, rows, columns) = (seed.as_bytes(), rows.as_bytes(), columns.as_bytes());
+    let seed = plain_fault(Plain::Seed, seed, seed_of(seed).is_some());
+    let rows = plain_fault(Plain::Rows, rows, number_to(256, 3, rows).is_some());
+    let columns = plain_fault(
+        Plain::Columns,
+        columns,
+        number_to(512, 3, columns).is_some(),
+    );
+    seed.or(rows).or(columns).or(option_fault(behind, &[]))
+}
+
+fn serve_fault(words: &[String]) -> Option<WordFault<&[u8]>>
+    ensures { told result ≡ faults.serve_fault (map string_bytes words.now) }
+{
+    let [address, options @ ..] = words else {
+        return Some(WordFault::TooFew);
+    };
+    let address = address.as_bytes();
+    plain_fault(Plain::Address, address, is_address(address))
+        .or(option_fault(options, &["--workers", "--each", "--places"]))
+        .or(workers_fault(options))
+        .or(links_fault(options))
+        .or(places_fault(options))
+}
+
+#[tactic(auto, unfolding(crate::specs::WordFaults::word_fault))]
+fn first_fault(words: &[String]) -> Option<WordFault<&[u8]>>
+    ensures { told result ≡ faults.word_fault (map string_bytes words.now) }
+{
+    let [word, behind @ ..] = words else {
+        return Some(WordFault::NoWord);
+    };
+    let word = word.as_bytes();
+    match look_up(word, &COMMANDS) {
+        None => Some(WordFault::NoCommand(word)),
+        Some(Command::Run) => run_fault(behind),
+        Some(Command::Read(_)) => text_fault(behind),
+        Some(Command::Generate) => generate_fault(behind),
+        Some(Command::Serve) => serve_fault(behind),
+    }
+}
+
+/// Which word is at fault; none exactly where the words are a command line.
+pub fn word_fault(words: &[String]) -> Option<WordFault<&[u8]>>
+    ensures fault { told result ≡ faults.word_fault (map string_bytes words.now) }
+    ensures none { is_none result ≡ is_some (command_line_of (map string_bytes words.now)) }
+{
+    first_fault(words)
+}

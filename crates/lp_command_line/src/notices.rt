@@ -1,0 +1,46 @@
+// What the words ask for in place of a command.
+ghost use Rattle.std.specs.Prelude.{◌≡◌, map, string_bytes, IsSome, None};
+ghost use Rattle.spec_program.specs.CommandLine as command_lines;
+ghost use Rattle.lp_command_line.specs.Notices as asked;
+
+use lp_base::are_same;
+
+/// What the program shows of itself.
+#[derive(Clone, Copy)]
+pub enum Notice {
+    /// Its commands, their options and the statuses.
+    Usage,
+    /// Its name and its version.
+    Version,
+}
+
+fn named(word: &[u8]) -> Option<Notice>
+    ensures { result ≡ asked.named word.now }
+{
+    if are_same(word, b"--help") {
+        return Some(Notice::Usage);
+    }
+    if are_same(word, b"--version") {
+        return Some(Notice::Version);
+    }
+    None
+}
+
+#[tactic(auto, unfolding(crate::specs::Notices::notice_of))]
+fn asked_by(words: &[String]) -> Option<Notice>
+    ensures { result ≡ asked.notice_of (map string_bytes words.now) }
+{
+    match words {
+        [word] => named(word.as_bytes()),
+        [_, option] if are_same(option.as_bytes(), b"--help") => Some(Notice::Usage),
+        _ => None,
+    }
+}
+
+/// What the words ask for, if it is a notice. Such words are no command line.
+pub fn notice_of(words: &[String]) -> Option<Notice>
+    ensures notice { result ≡ asked.notice_of (map string_bytes words.now) }
+    ensures none { IsSome result → command_lines.command_line_of (map string_bytes words.now) ≡ None }
+{
+    asked_by(words)
+}

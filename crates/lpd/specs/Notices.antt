@@ -1,0 +1,18 @@
+-- What is written where the words ask for a notice.
+use Rattle.std.specs.Prelude.{ℕ, ◌≡◌, ◌++◌, List, [], ◌∷◌, Option, codes}
+use Rattle.std.specs.Io.KnownBytes.{Appends}
+use Rattle.lp_base.specs.Beside.{Takes}
+use Rattle.lp_command_line.specs.declared.notices.Notice.{Notice}
+use Rattle.lp_command_line.specs.declared.notices.Notice.TheVariants.{Usage, Version}
+
+-- the line of the version; of the usage nothing is said, since clap lays it out
+abbrev pub IsTextOf : Notice → List ℕ → Type 0
+IsTextOf Version text = text ≡ codes "lpd 0.1.0" ++ 10 ∷ []
+IsTextOf Usage text = Unit {0}
+
+abbrev pub ShowsAll : Notice → Option (List ℕ) → Option (List ℕ) → Type 0
+ShowsAll notice before after = (text : List ℕ) × IsTextOf notice text × Appends before after text
+
+-- as far as was taken
+abbrev pub ShowsPart : Notice → Option (List ℕ) → Option (List ℕ) → Type 0
+ShowsPart notice before after = (text : List ℕ) × IsTextOf notice text × Takes before after text

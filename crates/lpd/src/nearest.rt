@@ -1,0 +1,28 @@
+// What may have been meant by a word.
+use std::alloc::{AllocError, Global};
+use strsim::osa_distance;
+
+/// The name that is nearest to a word, if one is near: a third of the word's characters, or one, may be other ones,
+/// missing or exchanged. Dashes before both do not count, nor does the case.
+pub fn nearest(
+    alloc: Global,
+    word: &str,
+    names: &[&'static str],
+) -> Result<Option<&'static str>, AllocError> {
+    let word = bare(alloc, word)?;
+    let mut least = word.len().max(3) / 3;
+    let mut found = None;
+    for name in names {
+        let other = bare(alloc, name)?;
+        let distance = osa_distance(alloc, word.as_str(), other.as_str())?;
+        if distance < least || (found.is_none() && distance == least) {
+            least = distance;
+            found = Some(*name);
+        }
+    }
+    Ok(found)
+}
+
+fn bare(alloc: Global, word: &str) -> Result<String, AllocError> {
+    word.trim_start_matches('-').to_ascii_lowercase(alloc)
+}

@@ -1,0 +1,219 @@
+// What is said of words that are no command line: which word is at fault, what may have been meant in its place, and how
+// the command is used.
+use crate::nearest::nearest;
+use crate::usage::{COMMANDS, OPTIONS, usage};
+use lp_command_line::{Plain, WordFault, word_fault};
+use std::alloc::{AllocError, Global};
+use std::io;
+
+// The words that are answered by a notice.
+const NOTICES: [&str; 2] = ["--help", "--version"];
+
+// The commands that read standard input: a word behind them is often the name of a file.
+const READERS: [&str; 4] = ["run", "solve", "check", "basis"];
+
+/// Writes on standard error why the words are no command line. Where memory runs out, it says no more than that they are
+/// none.
+pub fn tell_words(rt: &HostRuntime, alloc: Global, words: &[String]) -> io::Result<()> {
+    let (Some(first), Some(fault)) = (words.first(), word_fault(words)) else {
+        eprintln!(rt; "lpd: bad command line: there is no word")?;
+        let text = usage(alloc)?;
+        return eprint!(rt; "{text}");
+    };
+    let command = command_of(first.as_str());
+    let Ok(why) = reason_and_hint(alloc, command, fault) else {
+        return eprintln!(rt; "lpd: bad command line");
+    };
+    eprintln!(rt; "lpd: bad command line: {why}")?;
+    if let Some(command) = command {
+        let line = line_of(alloc, command)?;
+        eprintln!(rt; "Usage: {line}")?;
+    }
+    eprintln!(rt; "lpd --help shows the commands, their options and the statuses")
+}
+
+// A command: its name, and its plain words.
+#[derive(Clone, Copy)]
+struct Head {
+    name: &'static str,
+    plain: &'static str,
+}
+
+fn head_of(command: &'static str) -> Head {
+    match command.split_once(' ') {
+        Some((name, plain)) => Head { name, plain },
+        None => Head {
+            name: command,
+            plain: "",
+        },
+    }
+}
+
+fn command_of(word: &str) -> Option<Head> {
+    for (command, _) in COMMANDS {
+        let head = head_of(command);
+        if head.name == word {
+            return Some(head);
+        }
+    }
+    None
+}
+
+// Whether options under this heading are the command's.
+fn is_of(command: &str, heading: &str) -> bool {
+    heading
+        .split(' ')
+        .any(|word| word.trim_end_matches(',') == command)
+}
+
+// The command, its plain words and its options.
+fn line_of(alloc: Global, command: Head) -> Result<String, AllocError> {
+    let mut line = format!(in alloc; "lpd {}", command.name)?;
+    if command.plain != "" {
+        line.push_str(" ")?;
+        line.push_str(command.plain)?;
+    }
+    for (heading, name, value, _) in OPTIONS {
+        if is_of(command.name, heading) {
+            let option = format!(in alloc; " [--{name} {value}]")?;
+            line.push_str(option.as_str())?;
+        }
+    }
+    Ok(line)
+}
+
+// What is wrong, and what may have been meant.
+fn reason_and_hint(
+    alloc: Global,
+    command: Option<Head>,
+    fault: WordFault<&[u8]>,
+) -> Result<String, AllocError> {
+    let mut said = reason(alloc, command, fault)?;
+    let hint = hint(alloc, command, fault)?;
+    said.push_str(hint.as_str())?;
+    Ok(said)
+}
+
+// What is wrong with the word that is at fault.
+fn reason(
+    alloc: Global,
+    command: Option<Head>,
+    fault: WordFault<&[u8]>,
+) -> Result<String, AllocError> {
+    let (name, plain) = match command {
+        Some(head) => (head.name, head.plain),
+        None => ("lpd", "a command"),
+    };
+    match fault {
+        WordFault::NoWord => format!(in alloc; "there is no word"),
+        WordFault::NoCommand(word) => format!(in alloc; "there is no command {:?}", text(word)),
+        WordFault::TooFew => format!(in alloc; "{name} wants {plain}"),
+        WordFault::NotPlain(place, word) => {
+            format!(in alloc; "{:?} is no {}", text(word), wanted(place))
+        }
+        WordFault::NoOption(word) if word.starts_with(b"-") => {
+            format!(in alloc; "{name} has no option {:?}", text(word))
+        }
+        WordFault::NoOption(word) => {
+            format!(in alloc; "{name} takes no further word {:?}", text(word))
+        }
+        WordFault::Twice(word) => format!(in alloc; "{} is given twice", text(word)),
+        WordFault::NoValue(word) => format!(in alloc; "{} has no value", text(word)),
+        WordFault::NotValue(option, value) => {
+            let option = text(option);
+            format!(in alloc;
+                "{:?} is no value of {option}: {}",
+                text(value),
+                said_of(option)
+            )
+        }
+    }
+}
+
+// The words are text; what is none can't come here.
+fn text(word: &[u8]) -> &str {
+    match str::from_utf8(word) {
+        Ok(text) => text,
+        Err(_) => "?",
+    }
+}
+
+fn wanted(plain: Plain) -> &'static str {
+    match plain {
+        Plain::Address => "ADDRESS: an IP address or a host, a colon and a port",
+        Plain::Seed => "SEED: 0 to 1,000,000",
+        Plain::Rows => "ROWS: 1 to 256",
+        Plain::Columns => "COLS: 1 to 512",
+    }
+}
+
+// What the usage says of an option.
+fn said_of(option: &str) -> &'static str {
+    let bare = option.trim_start_matches('-');
+    for (_, name, _, says) in OPTIONS {
+        if name == bare {
+            return says;
+        }
+    }
+    ""
+}
+
+// What may have been meant, to be written behind the reason.
+fn hint(
+    alloc: Global,
+    command: Option<Head>,
+    fault: WordFault<&[u8]>,
+) -> Result<String, AllocError> {
+    match (command, fault) {
+        (None, WordFault::NoCommand(word)) => meant_command(alloc, text(word)),
+        (Some(head), WordFault::NoOption(word)) => meant_option(alloc, head.name, text(word)),
+        (Some(_), WordFault::NotValue(b"--form", value)) => {
+            meant(alloc, nearest(alloc, text(value), &["free", "fixed"])?)
+        }
+        _ => Ok(String::new(alloc)),
+    }
+}
+
+fn meant(alloc: Global, name: Option<&str>) -> Result<String, AllocError> {
+    match name {
+        Some(name) => format!(in alloc; "; did you mean {name}?"),
+        None => Ok(String::new(alloc)),
+    }
+}
+
+fn meant_command(alloc: Global, word: &str) -> Result<String, AllocError> {
+    let mut names = Vec::new(alloc);
+    for (command, _) in COMMANDS {
+        names.push(head_of(command).name)?;
+    }
+    for notice in NOTICES {
+        names.push(notice)?;
+    }
+    meant(alloc, nearest(alloc, word, names.as_slice())?)
+}
+
+// An option and its value may stand in one word. What is no option may be the name of a file.
+fn meant_option(alloc: Global, command: &str, word: &str) -> Result<String, AllocError> {
+    let mut names = Vec::new(alloc);
+    for (heading, name, _, _) in OPTIONS {
+        if is_of(command, heading) {
+            names.push(name)?;
+        }
+    }
+    let (name, value) = match word.split_once('=') {
+        Some((name, value)) => (name, value),
+        None => (word, ""),
+    };
+    match nearest(alloc, name, names.as_slice())? {
+        Some(option) if value != "" => { format!(in alloc; "; did you mean --{option} {value}?") }
+        Some(option) => format!(in alloc; "; did you mean --{option}?"),
+        None if reads(command) && !word.starts_with('-') => {
+            format!(in alloc; "; it reads standard input: did you mean < {word}?")
+        }
+        None => Ok(String::new(alloc)),
+    }
+}
+
+fn reads(command: &str) -> bool {
+    READERS.iter().any(|reader| *reader == command)
+}
