@@ -1,14 +1,19 @@
 """The answers to many models: what is found of each, and the engines that find it, one after the other, by processes, or by Dask."""
 from __future__ import annotations
 
+import contextlib
+import multiprocessing
+import os
 import signal
+import threading
 import time
-from concurrent.futures import FIRST_COMPLETED, Future, ProcessPoolExecutor, wait
+from concurrent.futures import ProcessPoolExecutor, as_completed
 from concurrent.futures.process import BrokenProcessPool
 from dataclasses import dataclass, field, replace
 from importlib import import_module
+from multiprocessing import connection
 from pathlib import Path
-from typing import Any, Dict, Iterator, List, Optional, Set, Tuple
+from typing import Any, Iterable, Iterator, List, Optional, Set, Tuple
 
 from .certifying import Certified, NotAnswered, certify
 from .conversion import Options, Question, convert
@@ -120,30 +125,43 @@ def one_by_one(paths: List[Path], work: Work) -> Iterator[Result]:
         yield result_of_file(path, work)
 
 
-def ignore_interrupts() -> None:
-    """An interrupt of the terminal is for the process that began the others."""
-    signal.signal(signal.SIGINT, signal.SIG_IGN)
+def begin_worker() -> None:
+    """Puts a worker and the programs that it runs into a group of their own, which an interrupt of the terminal does not reach, and
+    which ends when the process that began the worker does, however that ends."""
+    os.setpgid(0, 0)
+    threading.Thread(target=end_with_parent, daemon=True).start()
+
+
+def end_with_parent() -> None:
+    parent = multiprocessing.parent_process()
+    if parent is not None:
+        connection.wait([parent.sentinel])
+        os.killpg(0, signal.SIGKILL)
+
+
+def end_workers(workers: Iterable[multiprocessing.process.BaseProcess]) -> None:
+    """Ends workers at once, with the programs that they run."""
+    for worker in workers:
+        worker.kill()  # also where it has no group of its own yet
+        with contextlib.suppress(ProcessLookupError):
+            if worker.pid:
+                os.killpg(worker.pid, signal.SIGKILL)
 
 
 def by_processes(paths: List[Path], work: Work, jobs: int) -> Iterator[Result]:
     """Solves so many models at a time. The models of a process that is killed are solved once more, one by one."""
     done: Set[Path] = set()
-    pool = ProcessPoolExecutor(jobs, initializer=ignore_interrupts)
-    futures: Dict["Future[Result]", Path] = {}
-    try:
-        futures = {pool.submit(result_of_file, path, work): path for path in paths}
-        left = set(futures)
-        while left:
-            ended, left = wait(left, return_when=FIRST_COMPLETED)
-            for future in ended:
-                if isinstance(future.exception(), BrokenProcessPool):
-                    continue
-                done.add(futures[future])
-                yield future.result()
-    finally:
-        for future in futures:
-            future.cancel()
-        pool.shutdown(wait=False)
+    others = set(multiprocessing.active_children())
+    with ProcessPoolExecutor(jobs, initializer=begin_worker) as pool:
+        try:
+            futures = {pool.submit(result_of_file, path, work): path for path in paths}
+            for future in as_completed(futures):
+                if not isinstance(future.exception(), BrokenProcessPool):
+                    done.add(futures[future])
+                    yield future.result()
+        except BaseException:  # an interrupt, or nobody takes the results any more
+            end_workers(set(multiprocessing.active_children()) - others)
+            raise
     yield from one_by_one([path for path in paths if path not in done], work)
 
 

@@ -9,6 +9,7 @@ import signal
 import subprocess
 import sys
 import tempfile
+import threading
 import time
 import unittest
 from pathlib import Path
@@ -26,6 +27,7 @@ PACKAGE = Path(__file__).resolve().parents[1]
 NAMES = ["currency", "cycling", "diet", "orders", "plan.fixed", "teams", "transport"]
 WHOLE = "ROWS\n N cost\nCOLUMNS\n M1 'MARKER' 'INTORG'\n x cost 1\n M2 'MARKER' 'INTEND'\nENDATA\n"
 SETS = "NAME\nROWS\n N cost\n G a\n G b\nCOLUMNS\n x cost 2 a 1\n x b 1\nRHS\n RHS1 a 3\n RHS2 b 11\nENDATA\n"
+SECONDS = 300
 COLUMNS = ["model", "rows", "columns", "answer", "value", "way", "accepted by", "pivots", "seconds", "note"]
 
 
@@ -159,47 +161,77 @@ class Interrupted(unittest.TestCase):
         os.mkfifo(self.folder / "z.mps")
 
     def begin(self, *words: str) -> "subprocess.Popen[str]":
+        """Begins a run in a group of its own, as a shell does."""
         line = [sys.executable, "-m", "lpd", "batch", str(self.folder), *words]
-        return subprocess.Popen(line, cwd=PACKAGE, stdout=subprocess.PIPE, stderr=subprocess.PIPE, text=True)
+        run = subprocess.Popen(line, cwd=PACKAGE, stdout=subprocess.PIPE, stderr=subprocess.PIPE, text=True, start_new_session=True)
+        hangs = threading.Timer(SECONDS, run.kill)
+        hangs.start()
+        self.addCleanup(hangs.cancel)
+        return run
 
     def lines(self, count: int) -> None:
         """Waits until the table has so many lines."""
-        end = time.monotonic() + 300
+        end = time.monotonic() + SECONDS
         while time.monotonic() < end and (not self.table.exists() or self.table.read_text().count("\n") < count):
             time.sleep(0.05)
+
+    def waits(self, run: "subprocess.Popen[str]") -> None:
+        """Waits until all models but the last one are done: the line of progress comes when the line of the table is written."""
+        for line in run.stderr or ():
+            if line.startswith(f"{len(NAMES)}/"):
+                return
+
+    def interrupted(self, run: "subprocess.Popen[str]") -> str:
+        """What a run still writes that is interrupted as a terminal does it: all of its group is."""
+        os.killpg(run.pid, signal.SIGINT)
+        output, complaints = run.communicate(timeout=SECONDS)
+        self.assertEqual(run.returncode, 130, complaints)
+        self.assertIn(f"lpd: interrupted: {len(NAMES)} of {len(NAMES) + 1} models are done", complaints)
+        self.assertNotIn("Traceback", complaints)
+        return output
+
+    def gone_on_with(self) -> None:
+        """Begins the same command again, and compares the table with that of a whole run. What is done is not read again."""
+        (self.folder / "z.mps").unlink()
+        for row in rows_of(self.table.read_text()):
+            (self.folder / f"{row['model']}.mps").write_text("what stands here now is not read\n")
+        said = command("batch", str(self.folder), "--csv", "--resume", str(self.table))
+        self.assertEqual(said.status, 0, said.complaints)
+        whole = rows_of(command("batch", str(MODELS), "--csv").output)
+        self.assertEqual(rows_of(self.table.read_text()), whole)
+        self.assertEqual(sorted(rows_of(said.output), key=lambda row: row["model"]), whole)
 
     def test_each_line_comes_as_its_model_ends(self) -> None:
         run = self.begin("--csv")
         lines = [run.stdout.readline() for _ in range(len(NAMES) + 1)] if run.stdout else []
         self.assertEqual([line.split(",")[0] for line in lines[1:]], NAMES)
-        run.send_signal(signal.SIGINT)
-        output, complaints = run.communicate(timeout=300)
-        self.assertEqual((run.returncode, output), (130, ""))
-        self.assertIn(f"lpd: interrupted: {len(NAMES)} of {len(NAMES) + 1} models are done\n", complaints)
-        self.assertNotIn("Traceback", complaints)
+        self.assertEqual(self.interrupted(run), "")
 
     def test_json_is_whole(self) -> None:
-        run = self.begin("--json", "--resume", str(self.table))
-        self.lines(len(NAMES) + 1)
-        run.send_signal(signal.SIGINT)
-        output, _ = run.communicate(timeout=300)
-        self.assertEqual([row["model"] for row in json.loads(output)], NAMES)
+        run = self.begin("--json")
+        self.waits(run)
+        self.assertEqual([row["model"] for row in json.loads(self.interrupted(run))], NAMES)
+
+    def test_an_interrupted_run_is_gone_on_with(self) -> None:
+        # Two of three processes go on with the other models, while the third waits.
+        for jobs in ("1", "3"):
+            with self.subTest(jobs=jobs):
+                self.setUp()
+                run = self.begin("--jobs", jobs, "--resume", str(self.table))
+                self.waits(run)
+                self.interrupted(run)
+                self.gone_on_with()
 
     def test_a_run_that_is_killed_is_gone_on_with(self) -> None:
-        run = self.begin("--resume", str(self.table))
-        self.lines(4)
-        run.kill()
-        run.communicate(timeout=300)
-        first = rows_of(self.table.read_text())
-        self.assertGreaterEqual(len(first), 3)
-        (self.folder / "z.mps").unlink()
-        for name in NAMES[:3]:
-            (self.folder / f"{name}.mps").write_text("what stands here now is not read\n")
-        said = command("batch", str(self.folder), "--csv", "--resume", str(self.table))
-        self.assertEqual(said.status, 0, said.complaints)
-        whole = rows_of(command("batch", str(MODELS), "--csv").output)
-        self.assertEqual(rows_of(self.table.read_text()), whole)
-        self.assertEqual(rows_of(said.output), whole)
+        for jobs in ("1", "3"):
+            with self.subTest(jobs=jobs):
+                self.setUp()
+                run = self.begin("--jobs", jobs, "--resume", str(self.table))
+                self.lines(4)
+                run.kill()
+                run.communicate(timeout=SECONDS)  # until the last of its processes is gone
+                self.assertGreaterEqual(len(rows_of(self.table.read_text())), 3)
+                self.gone_on_with()
 
     def test_a_closed_pipe(self) -> None:
         for words in (["convert", "../../examples/models/plan.fixed.mps"], ["batch", "../../examples/models", "--csv"]):
@@ -207,7 +239,7 @@ class Interrupted(unittest.TestCase):
             if run.stdout:
                 run.stdout.close()
                 run.stdout = None
-            complaints = run.communicate(timeout=300)[1].decode()
+            complaints = run.communicate(timeout=SECONDS)[1].decode()
             self.assertEqual(run.returncode, 141)
             self.assertNotIn("Traceback", complaints)
             self.assertNotIn("Broken pipe", complaints)

@@ -119,7 +119,7 @@ def run(words: argparse.Namespace) -> int:
     print(writer.foot(), end="")
     if kept:
         kept.write()
-    if not (words.json or words.csv):
+    if rows and not (words.json or words.csv):
         print("\n" + summary(rows))
     if not is_whole:
         return INTERRUPTED
