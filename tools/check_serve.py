@@ -97,6 +97,7 @@ class Server:
         while "\n" not in said and self.program.poll() is None and time.monotonic() < end:
             time.sleep(0.01)
             said = self.said()
+        said = self.said()  # one that has ended may have written since
         found = LISTENING.match(said)
         if not found:
             raise Wrong(f"the server says {said!r}, and not where it listens")
