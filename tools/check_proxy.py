@@ -1,20 +1,22 @@
 #!/usr/bin/env python3
 """Runs HAProxy with examples/serve/haproxy.cfg before two servers on 127.0.0.1, and renews one of them under load.
 
-    check_proxy.py PROGRAM
+    check_proxy.py [--clients N] PROGRAM
 
-The file is taken as it is, but for its ports, in whose place free ones stand, and its certificate, which is left out. Clients
-have sessions all the time, each of which thinks between its commands; examples/serve/renew.py starts one server anew, and then
-the other. It checks that
+The file is taken as it is, but for its ports, in whose place free ones stand, and its certificate, which is left out. N clients
+(12) connect at once, from as many addresses of the loopback as the file's limit of links asks for, and have sessions all the time,
+each of which thinks between its commands; examples/serve/renew.py starts one server anew, and then the other. It checks that
 
 - HAProxy takes the file, and its stats socket is for its user alone;
 - each session of each client ends with BYE, and each server was started anew;
 - the metrics that docs/SERVING.md names are those that HAProxy has, and one address gets no more links than it may.
 
-It prints what is wrong, and its status is 1 where something is. It takes some ten seconds.
+It prints what is wrong, and its status is 1 where something is. It takes some ten seconds; with --clients, which prints the counts
+too, as long as it takes eight workers to serve each client.
 """
 from __future__ import annotations
 
+import argparse
 import contextlib
 import os
 import re
@@ -27,7 +29,7 @@ import threading
 import time
 import urllib.request
 from pathlib import Path
-from typing import Dict, List, NoReturn
+from typing import Dict, List, NoReturn, Tuple
 
 from talk import Ended, Link
 
@@ -37,9 +39,11 @@ HOST, NAMES = "127.0.0.1", ("one", "two")
 # The ports of haproxy.cfg: with TLS, without, the page, and the two servers.
 PORTS = (7443, 7000, 7080, 7007, 7008)
 MODEL = b"LOAD FREE\n" + (TOP / "examples" / "models" / "diet.mps").read_bytes()
-CLIENTS, SOLVES, THINKS = 12, 10, 0.02
+CLIENTS, SOLVES, THINKS = 12, 5, 0.01
 SECONDS, ALL_SECONDS = 120.0, 600
 MOST_LINKS = 64
+# Clients of one address, which may have some more links.
+PER_ADDRESS = 50
 LINKS_NOW = 'haproxy_frontend_current_sessions{proxy="links"}'
 
 
@@ -78,8 +82,9 @@ class Proxy:
         self.process.wait()
         self.log.close()
 
-    def link(self) -> Link:
-        return Link(HOST, self.ports[7000], SECONDS)
+    def link(self, address: str) -> Link:
+        """A link from an address of the loopback."""
+        return Link(HOST, self.ports[7000], SECONDS, source=address)
 
     def wait(self) -> None:
         """Until it has a stats socket and takes links."""
@@ -122,28 +127,32 @@ class Server:
 
 
 class Client(threading.Thread):
-    """Has sessions until it is told to stop, and keeps what went wrong."""
+    """Has sessions until it is told to stop, and keeps from when to when each was, and what went wrong."""
 
-    def __init__(self, proxy: Proxy) -> None:
+    def __init__(self, proxy: Proxy, number: int) -> None:
         super().__init__(daemon=True)
-        self.proxy, self.stops, self.done, self.faults = proxy, False, 0, []  # type: ignore[var-annotated]
+        self.proxy, self.address, self.stops = proxy, f"127.0.0.{2 + number // PER_ADDRESS}", False
+        self.done: List[Tuple[float, float]] = []
+        self.faults: List[str] = []
         self.start()
 
     def run(self) -> None:
-        while not self.stops:
+        while not self.stops and not self.faults:
             try:
                 self.session()
-                self.done += 1
             except (Ended, Wrong) as why:
                 self.faults.append(str(why))
 
     def session(self) -> None:
-        with self.proxy.link() as link:
+        with self.proxy.link(self.address) as link:
+            begun = 0.0
             for command in [MODEL, *[b"SETRHS energy 2100\n", b"SOLVE\n"] * SOLVES, b"QUIT\n"]:
                 reply = link.ask(command)
+                begun = begun or time.monotonic()
                 if not reply.startswith((b"LOADED", b"OK", b"OPTIMAL", b"BYE")):
                     raise Wrong(f"{command[:20]!r} was answered {reply!r}")
                 time.sleep(THINKS)
+            self.done.append((begun, time.monotonic()))
 
 
 def renew(room: Path, name: str, server: Server) -> None:
@@ -164,12 +173,15 @@ def renew(room: Path, name: str, server: Server) -> None:
 # ---- the checks
 
 
-def check_renewal(room: Path, proxy: Proxy, servers: Dict[str, Server]) -> None:
+def check_renewal(room: Path, proxy: Proxy, servers: Dict[str, Server], count: int) -> str:
+    """That no session is broken off or refused; how many there were."""
     if os.stat(room / "haproxy.sock").st_mode & 0o077:
         raise Wrong("others than its user may write to the stats socket")
-    clients = [Client(proxy) for _ in range(CLIENTS)]
+    clients = [Client(proxy, number) for number in range(count)]
+    begun = time.monotonic()
     for name, server in servers.items():
         renew(room, name, server)
+    ended = time.monotonic()
     for client in clients:
         client.stops = True
     for client in clients:
@@ -179,6 +191,12 @@ def check_renewal(room: Path, proxy: Proxy, servers: Dict[str, Server]) -> None:
         raise Wrong(f"{len(faults)} sessions were broken off or refused, the first as: {faults[0]}")
     if not all(client.done for client in clients) or any(server.starts != 2 for server in servers.values()):
         raise Wrong("not each client had a session, or not each server was started anew")
+    sessions = [session for client in clients for session in client.done]
+    meanwhile = sum(first < ended and last > begun for first, last in sessions)
+    return (
+        f"{count:,} clients had {len(sessions):,} sessions, {meanwhile:,} of them while the servers were started anew, "
+        f"which took {ended - begun:.1f} s of {time.monotonic() - begun:.1f} s; each ended with BYE"
+    )
 
 
 def check_numbers(proxy: Proxy) -> None:
@@ -212,29 +230,38 @@ def out_of_time(*_: object) -> NoReturn:
     raise Wrong(f"the checks are not done within {ALL_SECONDS} seconds")
 
 
-def main(words: List[str]) -> int:
-    if len(words) != 1 or words[0].startswith("-"):
-        sys.exit(__doc__)
+def check(room: Path, program: str, count: int) -> str:
+    """All checks; what was counted."""
+    with Proxy(room) as proxy:
+        proxy.wait()
+        servers = {name: Server(program, proxy.ports[port]) for name, port in zip(NAMES, PORTS[3:])}
+        try:
+            time.sleep(1)
+            counted = check_renewal(room, proxy, servers, count)
+            check_numbers(proxy)
+        finally:
+            for server in servers.values():
+                server.stop()
+    return counted
+
+
+def main() -> int:
+    options = argparse.ArgumentParser(description=__doc__, formatter_class=argparse.RawDescriptionHelpFormatter)
+    options.add_argument("program")
+    options.add_argument("--clients", type=int, metavar="N")
+    words = options.parse_args()
     signal.signal(signal.SIGALRM, out_of_time)
     signal.alarm(ALL_SECONDS)
     with tempfile.TemporaryDirectory(prefix="lpd-proxy-") as place:
-        room = Path(place)
         try:
-            with Proxy(room) as proxy:
-                proxy.wait()
-                servers = {name: Server(words[0], proxy.ports[port]) for name, port in zip(NAMES, PORTS[3:])}
-                try:
-                    time.sleep(1)
-                    check_renewal(room, proxy, servers)
-                    check_numbers(proxy)
-                finally:
-                    for server in servers.values():
-                        server.stop()
+            counted = check(Path(place), words.program, words.clients or CLIENTS)
         except (Wrong, OSError) as why:
             print(f"check_proxy: {why}")
             return 1
+    if words.clients:
+        print(f"check_proxy: {counted}")
     return 0
 
 
 if __name__ == "__main__":
-    sys.exit(main(sys.argv[1:]))
+    sys.exit(main())

@@ -45,10 +45,10 @@ class Ended(Exception):
 class Link:
     """One session. As a context manager it closes the link."""
 
-    def __init__(self, host: str, port: int, seconds: float = SECONDS, ca: Optional[str] = None) -> None:
+    def __init__(self, host: str, port: int, seconds: float = SECONDS, ca: Optional[str] = None, source: str = "") -> None:
         self.seconds, self.end, self.rest = seconds, time.monotonic() + seconds, b""
         try:
-            self.socket = socket.create_connection((host, port), seconds)
+            self.socket = socket.create_connection((host, port), seconds, (source, 0) if source else None)
             self.socket.setsockopt(socket.IPPROTO_TCP, socket.TCP_NODELAY, 1)
             if ca:
                 self.socket = ssl.create_default_context(cafile=ca).wrap_socket(self.socket, server_hostname=host)
