@@ -37,12 +37,17 @@ def loaded(options, data, forms):
 
 
 def pivots_before(options, form, data):
-    """The least budget that is not spent before the refusal."""
-    low, high = 0, LARGEST
+    """The least budget that is not spent before the refusal; few of those that are tried are larger, since these take longest."""
+
+    def is_spent(budget):
+        return budget == 0 or "SPENT" in ask(options, form, data, f"BUDGET {budget}", "SOLVE")[2]
+
+    low, high = 0, 1
+    while high < LARGEST and is_spent(high):
+        low, high = high + 1, min(2 * high, LARGEST)
     while low < high:
         middle = (low + high) // 2
-        spent = middle == 0 or "SPENT" in ask(options, form, data, f"BUDGET {middle}", "SOLVE")[2]
-        low, high = (middle + 1, high) if spent else (low, middle)
+        low, high = (middle + 1, high) if is_spent(middle) else (low, middle)
     return low
 
 
