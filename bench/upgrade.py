@@ -1,13 +1,13 @@
 #!/usr/bin/env python3
 """Counts what a thousand clients see while both servers behind HAProxy are started anew as another version.
 
-    upgrade.py [--program PROGRAM] [--clients N] [--solves N] [--write PAGE]
+    upgrade.py [--program PROGRAM] [--clients N] [--over SECONDS] [--solves N] [--write PAGE]
 
 It starts two servers of four workers at the ports that examples/serve/haproxy.cfg names, and HAProxy with that file. N (1,000)
-clients connect at once, from as many addresses of the loopback as the file's limit of links asks for; each loads a model of 3
-rows, changes and solves it N (20) times, a hundredth of a second apart, and quits. While they wait and are served, examples/serve/renew.py starts one
-server anew and then the other, from another path. Then the same is done without renew.py: both servers are killed and started
-anew, as by an operator in a hurry.
+clients connect, at once or evenly over some SECONDS, from as many addresses of the loopback as the file's limit of links asks for;
+each loads a model of 3 rows, changes and solves it N (20) times, a hundredth of a second apart, and quits. While they come, wait
+and are served, examples/serve/renew.py starts one server anew and then the other, from another path. Then the same is done without
+renew.py: both servers are killed and started anew, as by an operator in a hurry.
 
 A client does not try again. 'Refused' are those that got no reply at all, 'broken off' those that got one and no BYE. The
 clients are one process, and HAProxy and the servers have the rest of the machine. It needs haproxy on the path, and the ports
@@ -78,14 +78,15 @@ async def ask(reader, writer, command):
     return reply
 
 
-async def client(seed, solves, ends):
+async def client(seed, options, ends):
     """One session, whose end is counted: done, refused or broken off."""
     dice, replies = random.Random(seed), 0
+    await asyncio.sleep(options.over * seed / options.clients)
     try:
         # addresses of the loopback, so that no address has more links than it may
         place = (f"127.0.0.{2 + seed // PER_ADDRESS}", 0)
         reader, writer = await asyncio.open_connection(HOST, FRONT, local_addr=place)
-        for command in [load_of("diet"), *commands(dice, solves)]:
+        for command in [load_of("diet"), *commands(dice, options.solves)]:
             reply = await ask(reader, writer, command)
             await asyncio.sleep(THINKS if command == b"SOLVE\n" else 0)
             if reply.startswith((b"ERR", b"MEMORY")):
@@ -105,9 +106,9 @@ def commands(dice, solves):
 
 
 async def clients(options, upgrade):
-    """All clients at once, and the upgrade beside them: how they ended, and how long both took."""
+    """All clients, and the upgrade beside them: how they ended, and how long both took."""
     ends, begun = collections.Counter(), time.monotonic()
-    sessions = [asyncio.create_task(client(seed, options.solves, ends)) for seed in range(options.clients)]
+    sessions = [asyncio.create_task(client(seed, options, ends)) for seed in range(options.clients)]
     await asyncio.sleep(BEGINS)
     started, before = time.monotonic(), sum(ends.values())
     await asyncio.to_thread(upgrade)
@@ -187,6 +188,7 @@ def main():
     options = argparse.ArgumentParser(description=__doc__, formatter_class=argparse.RawDescriptionHelpFormatter)
     options.add_argument("--program", default=os.environ.get("LPD", PROGRAM))
     options.add_argument("--clients", type=int, default=1000)
+    options.add_argument("--over", type=float, default=0.0, metavar="SECONDS")
     options.add_argument("--solves", type=int, default=20)
     options.add_argument("--write", type=pathlib.Path)
     options = options.parse_args()
