@@ -21,6 +21,7 @@ pub fn tell_words(rt: &HostRuntime, alloc: Global, words: &[String]) -> io::Resu
         return eprint!(rt; "{text}");
     };
     let command = command_of(first.as_str());
+    let fault = fault_behind(command, words, fault);
     let Ok(why) = reason_and_hint(alloc, command, fault) else {
         return eprintln!(rt; "lpd: bad command line");
     };
@@ -56,7 +57,26 @@ fn command_of(word: &str) -> Option<Head> {
             return Some(head);
         }
     }
+    for name in NOTICES {
+        if name == word {
+            return Some(Head { name, plain: "" });
+        }
+    }
     None
+}
+
+// The fault, where a notice counts as a command that takes no further word.
+fn fault_behind<'a>(
+    command: Option<Head>,
+    words: &'a [String],
+    fault: WordFault<&'a [u8]>,
+) -> WordFault<&'a [u8]> {
+    match (command, fault, words) {
+        (Some(_), WordFault::NoCommand(_), [_, further, ..]) => {
+            WordFault::NoOption(further.as_bytes())
+        }
+        _ => fault,
+    }
 }
 
 // Whether options under this heading are the command's.
