@@ -10,9 +10,9 @@ pub struct Unbound<'a> {
 }
 
 /// Writes on standard error that the server cannot listen, and why: in words of this program where the kind of the error
-/// says it, and else in those of the system.
+/// says it, and else in those of the system. Of the address no control character is written.
 pub fn tell_unbound(rt: &HostRuntime, unbound: &Unbound<'_>) -> io::Result<()> {
-    let address = unbound.address;
+    let address = unbound.address.escape_debug();
     match why(unbound.error.kind()) {
         Some(why) => eprintln!(rt; "lpd: cannot listen on {address}: {why} (status 7)"),
         None => {

@@ -212,7 +212,8 @@ fn meant_command(alloc: Global, word: &str) -> Result<String, AllocError> {
     meant(alloc, nearest(alloc, word, names.as_slice())?)
 }
 
-// An option and its value may stand in one word. What is no option may be the name of a file.
+// An option and its value may stand in one word. What is no option may be the name of a file. Of the word itself no
+// control character is written.
 fn meant_option(alloc: Global, command: &str, word: &str) -> Result<String, AllocError> {
     let mut names = Vec::new(alloc);
     for (heading, name, _, _) in OPTIONS {
@@ -225,10 +226,13 @@ fn meant_option(alloc: Global, command: &str, word: &str) -> Result<String, Allo
         None => (word, ""),
     };
     match nearest(alloc, name, names.as_slice())? {
-        Some(option) if value != "" => { format!(in alloc; "; did you mean --{option} {value}?") }
+        Some(option) if value != "" => {
+            format!(in alloc; "; did you mean --{option} {}?", value.escape_debug())
+        }
         Some(option) => format!(in alloc; "; did you mean --{option}?"),
         None if reads(command) && !word.starts_with('-') => {
-            format!(in alloc; "; it reads standard input: did you mean < {word}?")
+            let file = word.escape_debug();
+            format!(in alloc; "; it reads standard input: did you mean < {file}?")
         }
         None => Ok(String::new(alloc)),
     }
