@@ -8,6 +8,7 @@ declare -A _lpd_commands=(
     [solve]="--form"
     [check]="--form"
     [basis]="--form"
+    [range]="WHAT NAME --form"
     [gen]="SEED ROWS COLS"
     [serve]="ADDRESS --workers --each --places"
 )

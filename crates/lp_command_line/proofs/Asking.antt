@@ -1,15 +1,16 @@
 -- What the words after a command's word ask.
-use Rattle.std.proofs.Common.{◌≡◌, ℕ, Bool, true, false, cond, List, [], ◌∷◌, length, map, take, drop, get_or}
-use Rattle.std.proofs.Common.{Option, Some, None, ◌<◌, ◌≤◌, ◌-◌, le-leb, arith, refl, sym, ap, ◌∙◌}
+use Rattle.std.proofs.Common.{◌≡◌, ℕ, Bool, true, false, cond, ◌==◌, List, [], ◌∷◌, length, map, take, drop, get_or}
+use Rattle.std.proofs.Common.{Option, Some, None, ◌<◌, ◌≤◌, ◌-◌, le-leb, eqb-true, arith, refl, sym, ap, ◌∙◌}
 use Rattle.std.specs.Prelude.{codes, option_map, option_and_then}
 use Rattle.spec_mps.specs.Shapes.{look_up}
 use Rattle.spec_mps.specs.declared.style.Style.{Style}
-use Rattle.spec_program.specs.declared.command_line.CommandLine.{CommandLine}
 use Rattle.spec_program.specs.declared.command_line.CommandLine.TheVariants.{Read}
-use Rattle.spec_program.specs.declared.command_line.TextCommand.{TextCommand}
+use Rattle.spec_program.specs.declared.command_line.Moved.{Moved}
+use Rattle.spec_program.specs.Spelled.{spelled_text}
+use Rattle.spec_program.specs.CommandLine.{ExactLine, ExactTextCommand, moved_of, range_by, range_row}
 use Rattle.spec_program.specs.CommandLine.{Given, Row, Options, in_pairs, options_in, given_in, asked_by}
 use Rattle.spec_program.specs.CommandLine.{workers_given, links_given, places_given, form_given, run_by, serve_by}
-use Rattle.spec_program.specs.CommandLine.{run_row, text_row, generate_row, generate_by, serve_row, is_address}
+use Rattle.spec_program.specs.CommandLine.{run_row, text_row, generate_row, generate_by, serve_row, is_plain}
 use Rattle.spec_program.specs.CommandLine.{seed_of, row_count_of, column_count_of}
 use Rattle.std.proofs.Math.Seq.{take-length}
 use Rattle.spec_program.specs.CommandLine.{command_line_of}
@@ -17,7 +18,7 @@ use Rattle.spec_text.specs.Words.{same}
 use Rattle.spec_program.specs.declared.command_line.TextCommand.TheVariants as text
 use Rattle.lp_command_line.specs.declared.line.Command.{Command}
 use Rattle.lp_command_line.specs.declared.line.Command.TheVariants as command
-use Rattle.lp_command_line.specs.Words.{value_in, are_in, serve_in}
+use Rattle.lp_command_line.specs.Words.{value_in, are_in, range_in, serve_in}
 use Rattle.lp_command_line.proofs.OptionLemmas.{value-look_up, options-some, options-none}
 
 -- ---- options after plain words
@@ -26,7 +27,7 @@ module _ (row : Row) (words : List (List ℕ)) (enough : row.plain ≤ length wo
   abbrev given : Options → Given
   given options = record { plain = take row.plain words; options = options }
 
-  abbrev asked : Option Options → Option CommandLine
+  abbrev asked : Option Options → Option ExactLine
   asked options = option_and_then row.asks (option_map given options)
 
   asks : asked_by words row ≡ asked (options_in row.names (drop row.plain words))
@@ -69,7 +70,7 @@ module _ (words : List (List ℕ)) where
       ∙ ap (λ w. run_by w (places_given (value_in (codes "--places") words))) are_workers
       ∙ ap (run_by workers) are_places
 
-  module _ (command : TextCommand) where
+  module _ (command : ExactTextCommand) where
     pub text-refused : are_in (text_row command).names words ≡ false → asked_by words (text_row command) ≡ None
     text-refused = refused (text_row command) words at_once
 
@@ -92,34 +93,25 @@ few-generate f (a ∷ []) few = refl
 few-generate f (a ∷ b ∷ []) few = refl
 few-generate f (a ∷ b ∷ c ∷ words) few = absurd (omega (arith, few))
 
--- what is behind them would be an option, of which there are none
-no-option : (words : List (List ℕ)) → 1 ≤ length words → are_in [] words ≡ false
-no-option [] some = absurd (omega (arith, some))
-no-option (d ∷ []) some = refl
-no-option (d ∷ e ∷ words) some = refl
+-- words behind the three
+module _ {X : Type 0} (f : X → List ℕ) (behind : List X) (a b c : List ℕ) (words : List (List ℕ))
+    (cut : words ≡ a ∷ b ∷ c ∷ map f behind) where
+  pub many-generate : (length behind == 0) ≡ false → asked_by words generate_row ≡ None
+  many-generate some =
+      ap (λ (ws : List (List ℕ)). asked_by ws generate_row) cut
+      ∙ refused generate_row (a ∷ b ∷ c ∷ map f behind) (omega arith) (by behind some)
+    where
+      by : (rest : List X) → (length rest == 0) ≡ false → are_in [] (map f rest) ≡ false
+      by [] h = absurd (let z : true ≡ false = h in cc)
+      by (x ∷ []) h = refl
+      by (x ∷ y ∷ rest) h = refl
 
-pub many-generate : {X : Type 0} (f : X → List ℕ) (words : List X) → 4 ≤ length words →
-    asked_by (map f words) generate_row ≡ None
-many-generate f [] many = absurd (omega (arith, many))
-many-generate f (a ∷ []) many = absurd (omega (arith, many))
-many-generate f (a ∷ b ∷ []) many = absurd (omega (arith, many))
-many-generate f (a ∷ b ∷ c ∷ []) many = absurd (omega (arith, many))
-many-generate f (a ∷ b ∷ c ∷ d ∷ words) many =
-    refused generate_row (f a ∷ f b ∷ f c ∷ f d ∷ map f words) (omega arith)
-    (no-option (f d ∷ map f words) (omega arith))
-
--- three items, and the texts of each
-pub three-words : {X : Type 0} (f : X → List ℕ) (words : List X) (x y z : X) (a b c : List ℕ) → 3 ≤ length words →
-    length words < 4 → x ≡ get_or words 0 x → y ≡ get_or words 1 y → z ≡ get_or words 2 z → a ≡ f x → b ≡ f y →
-    c ≡ f z → map f words ≡ a ∷ b ∷ c ∷ []
-three-words f [] x y z a b c enough few is_x is_y is_z is_a is_b is_c = absurd (omega (arith, enough))
-three-words f (u ∷ []) x y z a b c enough few is_x is_y is_z is_a is_b is_c = absurd (omega (arith, enough))
-three-words f (u ∷ v ∷ []) x y z a b c enough few is_x is_y is_z is_a is_b is_c = absurd (omega (arith, enough))
-three-words f (u ∷ v ∷ w ∷ []) x y z a b c enough few is_x is_y is_z is_a is_b is_c =
-    ap (λ t. t ∷ f v ∷ f w ∷ []) (ap f (sym is_x) ∙ sym is_a)
-    ∙ ap (λ t. a ∷ t ∷ f w ∷ []) (ap f (sym is_y) ∙ sym is_b)
-    ∙ ap (λ t. a ∷ b ∷ t ∷ []) (ap f (sym is_z) ∙ sym is_c)
-three-words f (u ∷ v ∷ w ∷ t ∷ words) x y z a b c enough few is_x is_y is_z is_a is_b is_c = absurd (omega (arith, few))
+  pub three-words : (length behind == 0) ≡ true → words ≡ a ∷ b ∷ c ∷ []
+  three-words none = cut ∙ ap (λ ws. a ∷ b ∷ c ∷ ws) (by behind none)
+    where
+      by : (rest : List X) → (length rest == 0) ≡ true → map f rest ≡ []
+      by [] h = refl
+      by (x ∷ rest) h = let none : length (x ∷ rest) ≡ 0 = eqb-true _ _ h in absurd (omega (arith, none))
 
 -- by what is read of them
 pub asks-generate : (words : List (List ℕ)) (a b c : List ℕ) (seed rows columns : Option ℕ) →
@@ -157,14 +149,14 @@ module _ (address : List ℕ) (words all : List (List ℕ)) (cut : all ≡ addre
   same_line : asked_by all serve_row ≡ asked_by (address ∷ words) serve_row
   same_line = ap (λ (ws : List (List ℕ)). asked_by ws serve_row) cut
 
-  abbrev by_address : Options → Bool → Option CommandLine
+  abbrev by_address : Options → Bool → Option ExactLine
   by_address options test =
       cond test
       (serve_by (workers_given (look_up (codes "--workers") options))
       (links_given (look_up (codes "--each") options)) (places_given (look_up (codes "--places") options)))
       None
 
-  pub no-address : is_address address ≡ false → asked_by all serve_row ≡ None
+  pub no-address : is_plain address ≡ false → asked_by all serve_row ≡ None
   no-address e = same_line ∙ asks serve_row (address ∷ words) one_more ∙ each (options_in serve_row.names words)
     where
       each : (options : Option Options) → asked serve_row (address ∷ words) one_more options ≡ None
@@ -174,7 +166,7 @@ module _ (address : List ℕ) (words all : List (List ℕ)) (cut : all ≡ addre
   pub serve-refused : are_in serve_row.names words ≡ false → asked_by all serve_row ≡ None
   serve-refused e = same_line ∙ refused serve_row (address ∷ words) one_more e
 
-  pub asks-serve : is_address address ≡ true → are_in serve_row.names words ≡ true →
+  pub asks-serve : is_plain address ≡ true → are_in serve_row.names words ≡ true →
       asked_by all serve_row ≡ serve_in words
   asks-serve holds e =
       let t = taken serve_row (address ∷ words) one_more e in
@@ -187,6 +179,64 @@ module _ (address : List ℕ) (words all : List (List ℕ)) (cut : all ≡ addre
         sym (value-look_up (codes "--places") words t.0 t.2),
       ) refl
 
+-- ---- a range: which number, a name, and options
+
+pub few-range : {X : Type 0} (f : X → List ℕ) (words : List X) → length words < 2 →
+    asked_by (map f words) range_row ≡ None
+unfolding given_in
+few-range f [] few = refl
+few-range f (a ∷ []) few = refl
+few-range f (a ∷ b ∷ words) few = absurd (omega (arith, few))
+
+-- the first two texts, and the words behind them
+pub first-two : {X : Type 0} (f : X → List ℕ) (words : List X) (x y : X) (a b : List ℕ) → 2 ≤ length words →
+    x ≡ get_or words 0 x → y ≡ get_or words 1 y → a ≡ f x → b ≡ f y →
+    map f words ≡ a ∷ b ∷ map f (take (length words - 2) (drop 2 words))
+first-two f [] x y a b enough is_x is_y is_a is_b = absurd (omega (arith, enough))
+first-two f (u ∷ []) x y a b enough is_x is_y is_a is_b = absurd (omega (arith, enough))
+first-two f (u ∷ v ∷ words) x y a b enough is_x is_y is_a is_b =
+    let behind : length words ≡ length (u ∷ v ∷ words) - 2 = omega arith in
+    ap (λ t. t ∷ f v ∷ map f words) (ap f (sym is_x) ∙ sym is_a)
+    ∙ ap (λ t. a ∷ t ∷ map f words) (ap f (sym is_y) ∙ sym is_b)
+    ∙ ap (λ ws. a ∷ b ∷ map f ws) (sym (take-length words))
+    ∙ ap (λ n. a ∷ b ∷ map f (take n words)) behind
+
+module _ (what name : List ℕ) (words all : List (List ℕ)) (cut : all ≡ what ∷ name ∷ words) where
+  two_more : 2 ≤ length (what ∷ name ∷ words)
+  two_more = omega arith
+
+  same_range : asked_by all range_row ≡ asked_by (what ∷ name ∷ words) range_row
+  same_range = ap (λ (ws : List (List ℕ)). asked_by ws range_row) cut
+
+  abbrev by_name : Option Style → Option Moved → Bool → Option ExactLine
+  by_name style moved test = range_by moved (cond test (Some name) None) style
+
+  no_place : (style : Option Style) (moved : Option Moved) → by_name style moved false ≡ None
+  no_place style None = refl
+  no_place style (Some w) = refl
+
+  pub no-name : is_plain name ≡ false → asked_by all range_row ≡ None
+  no-name e = same_range ∙ asks range_row (what ∷ name ∷ words) two_more ∙ each (options_in range_row.names words)
+    where
+      each : (options : Option Options) → asked range_row (what ∷ name ∷ words) two_more options ≡ None
+      each None = refl
+      each (Some options) =
+          ap (by_name (form_given (look_up (codes "--form") options)) (moved_of what)) e
+          ∙ no_place (form_given (look_up (codes "--form") options)) (moved_of what)
+
+  pub range-refused : are_in range_row.names words ≡ false → asked_by all range_row ≡ None
+  range-refused e = same_range ∙ refused range_row (what ∷ name ∷ words) two_more e
+
+  pub asks-range : (moved : Option Moved) → is_plain name ≡ true → are_in range_row.names words ≡ true →
+      moved_of what ≡ moved → asked_by all range_row ≡ option_and_then (λ w. range_in w name words) moved
+  asks-range moved holds e is_moved =
+      let t = taken range_row (what ∷ name ∷ words) two_more e in
+      same_range
+      ∙ t.1
+      ∙ ap (by_name (form_given (look_up (codes "--form") t.0)) (moved_of what)) holds
+      ∙ ap (λ v. by_name (form_given v) (moved_of what) true) (sym (value-look_up (codes "--form") words t.0 t.2))
+      ∙ ap (λ m. by_name (form_given (value_in (codes "--form") words)) m true) is_moved
+
 -- ---- a command, by the word that names it
 
 abbrev pub command_words : List (List ℕ × Command)
@@ -195,13 +245,15 @@ command_words =
     ∷ (codes "solve", command.Read text.Solve)
     ∷ (codes "check", command.Read text.Check)
     ∷ (codes "basis", command.Read text.Basis)
+    ∷ (codes "range", command.Range)
     ∷ (codes "gen", command.Generate)
     ∷ (codes "serve", command.Serve)
     ∷ []
 
 abbrev pub row_of : Command → Row
 row_of command.Run = run_row
-row_of (command.Read asked) = text_row asked
+row_of (command.Read asked) = text_row (spelled_text asked)
+row_of command.Range = range_row
 row_of command.Generate = generate_row
 row_of command.Serve = serve_row
 

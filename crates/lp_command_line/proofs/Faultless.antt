@@ -6,8 +6,11 @@ use Rattle.std.specs.Option.{option_or}
 use denote.Ref.{Bor}
 use Rattle.spec_mps.specs.Shapes.{look_up}
 use Rattle.spec_program.specs.declared.command_line.CommandLine.TheVariants.{Read}
-use Rattle.spec_program.specs.declared.command_line.TextCommand.{TextCommand}
-use Rattle.spec_program.specs.CommandLine.{Word, OptionNames, given_or, given_in, asked_by, is_one_of, is_address}
+use Rattle.spec_program.specs.declared.command_line.Moved.{Moved}
+use Rattle.spec_program.specs.declared.command_line.TextCommand.TheVariants.{Range}
+use Rattle.spec_program.specs.Spelled.{spelled_text}
+use Rattle.spec_program.specs.CommandLine.{ExactTextCommand, moved_of, range_row}
+use Rattle.spec_program.specs.CommandLine.{Word, OptionNames, given_or, given_in, asked_by, is_one_of, is_plain}
 use Rattle.spec_program.specs.CommandLine.{usual_workers, workers_of, workers_given, usual_links, links_of, links_given}
 use Rattle.spec_program.specs.CommandLine.{usual_places, places_of, places_given, form_of, form_given}
 use Rattle.spec_program.specs.CommandLine.{seed_of, row_count_of, column_count_of, run_by, serve_by, generate_by}
@@ -16,18 +19,18 @@ use Rattle.spec_mps.specs.declared.style.Style.{Style}
 use Rattle.spec_mps.specs.declared.style.Style.TheVariants.{Free}
 use Rattle.lp_command_line.specs.Words.{value_in, are_in}
 use Rattle.lp_command_line.specs.declared.fault.Plain.{Plain}
-use Rattle.lp_command_line.specs.declared.fault.Plain.TheVariants.{Address, Seed, Rows, Columns}
+use Rattle.lp_command_line.specs.declared.fault.Plain.TheVariants.{Address, Number, Name, Seed, Rows, Columns}
 use Rattle.lp_command_line.specs.declared.fault.WordFault.{WordFault}
 use Rattle.lp_command_line.specs.declared.fault.WordFault.TheVariants.{NoOption, Twice, NotValue}
 use Rattle.lp_command_line.specs.WordFaults.{Fault, told, option_fault, value_fault, plain_fault, workers_fault}
 use Rattle.lp_command_line.specs.WordFaults.{links_fault}
 use Rattle.lp_command_line.specs.WordFaults.{places_fault, form_fault, run_fault, text_fault, generate_fault}
-use Rattle.lp_command_line.specs.WordFaults.{serve_fault, fault_by, word_fault}
+use Rattle.lp_command_line.specs.WordFaults.{range_fault, serve_fault, fault_by, word_fault}
 use Rattle.lp_command_line.specs.declared.line.Command.{Command}
 use Rattle.lp_command_line.specs.declared.line.Command.TheVariants as command
 use Rattle.lp_command_line.proofs.Asking.{refused, run-refused, asks-run, text-refused, asks-text, asks-generate}
 use Rattle.lp_command_line.proofs.Asking.{no-address, serve-refused, asks-serve, command_words, row_of, look_up-map}
-use Rattle.lp_command_line.proofs.Asking.{asks-command}
+use Rattle.lp_command_line.proofs.Asking.{no-name, range-refused, asks-range, asks-command}
 
 -- ---- one fault, or another
 
@@ -119,11 +122,11 @@ no-run_fault words =
         ∙ ap is_some (sym (asks-run words (workers words) (places words) e refl refl))
     by false e = ap is_some (sym (run-refused words e))
 
-read-some : (text : TextCommand) (style : Option Style) → is_some style ≡ is_some (option_map (Read text) style)
+read-some : (text : ExactTextCommand) (style : Option Style) → is_some style ≡ is_some (option_map (Read text) style)
 read-some text None = refl
 read-some text (Some style) = refl
 
-no-text_fault : (text : TextCommand) (words : List Word) → is_none (text_fault words) ≡ is_some (asked_by words (text_row text))
+no-text_fault : (text : ExactTextCommand) (words : List Word) → is_none (text_fault words) ≡ is_some (asked_by words (text_row text))
 no-text_fault text words =
     neither _ _ _ _ (no-option_fault (text_row text).names words) (no-form_fault words)
     ∙ by (are_in (text_row text).names words) refl
@@ -133,6 +136,51 @@ no-text_fault text words =
     by true e =
         read-some text (form words) ∙ ap is_some (sym (asks-text words text (form words) e refl))
     by false e = ap is_some (sym (text-refused words text e))
+
+module _ (x y : Bool) where
+  no_name : ((x && false) && y) ≡ false
+  no_name = by x
+    where
+      by : (t : Bool) → ((t && false) && y) ≡ false
+      by true = refl
+      by false = refl
+
+  no_options : ((x && true) && (false && y)) ≡ false
+  no_options = by x
+    where
+      by : (t : Bool) → ((t && true) && (false && y)) ≡ false
+      by true = refl
+      by false = refl
+
+range-some : (name : Word) (moved : Option Moved) (style : Option Style) →
+    ((is_some moved && true) && (true && is_some style))
+    ≡ is_some (option_and_then (λ w. option_map (Read (Range w name)) style) moved)
+range-some name None style = refl
+range-some name (Some w) None = refl
+range-some name (Some w) (Some style) = refl
+
+no-range_fault : (words : List Word) → is_none (range_fault words) ≡ is_some (asked_by words range_row)
+unfolding given_in
+no-range_fault [] = refl
+no-range_fault (what ∷ []) = refl
+no-range_fault (what ∷ name ∷ words) =
+    neither _ _ _ _
+    (neither _ _ _ _ (no-plain_fault Number what (is_some (moved_of what))) (no-plain_fault Name name (is_plain name)))
+    (neither _ _ _ _ (no-option_fault range_row.names words) (no-form_fault words))
+    ∙ by (is_plain name) (are_in range_row.names words) refl refl
+  where
+    by : (a t : Bool) → is_plain name ≡ a → are_in range_row.names words ≡ t →
+        ((is_some (moved_of what) && a) && (t && is_some (form words)))
+        ≡ is_some (asked_by (what ∷ name ∷ words) range_row)
+    by false t h e =
+        no_name (is_some (moved_of what)) (t && is_some (form words))
+        ∙ ap is_some (sym (no-name what name words (what ∷ name ∷ words) refl h))
+    by true false h e =
+        no_options (is_some (moved_of what)) (is_some (form words))
+        ∙ ap is_some (sym (range-refused what name words (what ∷ name ∷ words) refl e))
+    by true true h e =
+        range-some name (moved_of what) (form words)
+        ∙ ap is_some (sym (asks-range what name words (what ∷ name ∷ words) refl (moved_of what) h e refl))
 
 generate_by-some : (seed rows columns : Option ℕ) →
     (((is_some seed && is_some rows) && is_some columns) && true) ≡ is_some (generate_by seed rows columns)
@@ -179,13 +227,13 @@ no-serve_fault (address ∷ words) =
     neither _ _ _ _
     (neither _ _ _ _
     (neither _ _ _ _
-    (neither _ _ _ _ (no-plain_fault Address address (is_address address)) (no-option_fault serve_row.names words))
+    (neither _ _ _ _ (no-plain_fault Address address (is_plain address)) (no-option_fault serve_row.names words))
     (no-workers_fault words))
     (no-links_fault words))
     (no-places_fault words)
-    ∙ by (is_address address) (are_in serve_row.names words) refl refl
+    ∙ by (is_plain address) (are_in serve_row.names words) refl refl
   where
-    by : (a t : Bool) → is_address address ≡ a → are_in serve_row.names words ≡ t →
+    by : (a t : Bool) → is_plain address ≡ a → are_in serve_row.names words ≡ t →
         ((((a && t) && is_some (workers words)) && is_some (links words)) && is_some (places words))
         ≡ is_some (asked_by (address ∷ words) serve_row)
     by false t h e = ap is_some (sym (no-address address words (address ∷ words) refl h))
@@ -199,6 +247,7 @@ no-serve_fault (address ∷ words) =
 abbrev pub fault_of : Command → List Word → Option Fault
 fault_of command.Run = run_fault
 fault_of (command.Read asked) = text_fault
+fault_of command.Range = range_fault
 fault_of command.Generate = generate_fault
 fault_of command.Serve = serve_fault
 
@@ -221,7 +270,8 @@ no-word_fault (word ∷ words) =
         ≡ is_some (option_and_then (asked_by words) (option_map row_of found))
     by None = refl
     by (Some command.Run) = no-run_fault words
-    by (Some (command.Read asked)) = no-text_fault asked words
+    by (Some (command.Read asked)) = no-text_fault (spelled_text asked) words
+    by (Some command.Range) = no-range_fault words
     by (Some command.Generate) = no-generate_fault words
     by (Some command.Serve) = no-serve_fault words
 

@@ -10,6 +10,7 @@ use Rattle.lp_command_line.specs.declared.notices.Notice.{Notice}
 use Rattle.lp_command_line.specs.declared.notices.Notice.TheVariants.{Usage, Version}
 use Rattle.lp_command_line.specs.declared.line.Command.{Command}
 use Rattle.lp_command_line.specs.declared.line.Command.TheVariants as command
+use Rattle.spec_program.specs.Spelled.{spelled_text}
 use Rattle.lp_command_line.specs.Notices.{named, notice_of}
 use Rattle.lp_command_line.proofs.Asking.{run-refused, text-refused, no-address, command_words, row_of, asks-command}
 
@@ -32,6 +33,10 @@ generates_nothing : asked_by (codes "--help" ∷ []) (row_of command.Generate) �
 unfolding given_in
 generates_nothing = refl
 
+ranges_nothing : asked_by (codes "--help" ∷ []) (row_of command.Range) ≡ None
+unfolding given_in
+ranges_nothing = refl
+
 usage_behind : (word : Word) → command_line_of (word ∷ codes "--help" ∷ []) ≡ None
 usage_behind word =
     asks-command (word ∷ codes "--help" ∷ []) (codes "--help" ∷ []) word (look_up word command_words) refl refl
@@ -40,7 +45,8 @@ usage_behind word =
     by : (found : Option Command) → option_and_then (asked_by (codes "--help" ∷ [])) (option_map row_of found) ≡ None
     by None = refl
     by (Some command.Run) = run-refused (codes "--help" ∷ []) refl
-    by (Some (command.Read asked)) = text-refused (codes "--help" ∷ []) asked refl
+    by (Some (command.Read asked)) = text-refused (codes "--help" ∷ []) (spelled_text asked) refl
+    by (Some command.Range) = ranges_nothing
     by (Some command.Generate) = generates_nothing
     by (Some command.Serve) = no-address (codes "--help") [] (codes "--help" ∷ []) refl refl
 

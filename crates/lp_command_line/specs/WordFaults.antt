@@ -5,12 +5,12 @@ use Rattle.std.specs.Prelude.{codes, if◌then◌else◌}
 use denote.Ref.{Bor}
 use Rattle.std.specs.Option.{option_or}
 use Rattle.spec_mps.specs.Shapes.{look_up}
-use Rattle.spec_program.specs.CommandLine.{Word, OptionNames, is_one_of, is_address}
+use Rattle.spec_program.specs.CommandLine.{Word, OptionNames, is_one_of, is_plain}
 use Rattle.spec_program.specs.CommandLine.{workers_given, links_given, places_given, form_given}
-use Rattle.spec_program.specs.CommandLine.{seed_of, row_count_of, column_count_of}
+use Rattle.spec_program.specs.CommandLine.{seed_of, row_count_of, column_count_of, moved_of}
 use Rattle.lp_command_line.specs.Words.{value_in}
 use Rattle.lp_command_line.specs.declared.fault.Plain.{Plain}
-use Rattle.lp_command_line.specs.declared.fault.Plain.TheVariants.{Address, Seed, Rows, Columns}
+use Rattle.lp_command_line.specs.declared.fault.Plain.TheVariants.{Address, Number, Name, Seed, Rows, Columns}
 use Rattle.lp_command_line.specs.declared.fault.WordFault.{WordFault}
 use Rattle.lp_command_line.specs.declared.fault.WordFault.TheVariants.{NoWord, NoCommand, TooFew, NotPlain}
 use Rattle.lp_command_line.specs.declared.fault.WordFault.TheVariants.{NoOption, Twice, NoValue, NotValue}
@@ -75,6 +75,13 @@ run_fault words =
 abbrev pub text_fault : List Word → Option Fault
 text_fault words = option_or (option_fault (codes "--form" ∷ []) words) (form_fault words)
 
+abbrev pub range_fault : List Word → Option Fault
+range_fault (what ∷ name ∷ words) =
+    option_or
+    (option_or (plain_fault Number what (is_some (moved_of what))) (plain_fault Name name (is_plain name)))
+    (text_fault words)
+range_fault words = Some TooFew
+
 abbrev pub generate_fault : List Word → Option Fault
 generate_fault (seed ∷ rows ∷ columns ∷ words) =
     option_or
@@ -90,7 +97,7 @@ serve_fault (address ∷ words) =
     option_or
     (option_or
     (option_or
-    (option_or (plain_fault Address address (is_address address))
+    (option_or (plain_fault Address address (is_plain address))
     (option_fault (codes "--workers" ∷ codes "--each" ∷ codes "--places" ∷ []) words))
     (workers_fault words))
     (links_fault words))
@@ -103,6 +110,7 @@ faults =
     ∷ (codes "solve", text_fault)
     ∷ (codes "check", text_fault)
     ∷ (codes "basis", text_fault)
+    ∷ (codes "range", range_fault)
     ∷ (codes "gen", generate_fault)
     ∷ (codes "serve", serve_fault)
     ∷ []

@@ -1,11 +1,14 @@
 -- The words of a command line, as they are cut up.
 use Rattle.std.specs.Prelude.{ℕ, ◌&&◌, Bool, true, false, not, List, [], ◌∷◌, map, Option, Some, None, is_some}
+use Rattle.std.specs.Prelude.{option_map}
 use Rattle.std.specs.Prelude.{codes, string_bytes, if◌then◌else◌}
 use Rattle.spec_text.specs.Words.{same}
 use denote.Ref.{Bor}
-use Rattle.spec_program.specs.declared.command_line.CommandLine.{CommandLine}
-use Rattle.spec_program.specs.CommandLine.{Address, is_one_of}
-use Rattle.spec_program.specs.CommandLine.{serve_by, workers_given, links_given, places_given}
+use Rattle.spec_program.specs.declared.command_line.CommandLine.TheVariants.{Read}
+use Rattle.spec_program.specs.declared.command_line.Moved.{Moved}
+use Rattle.spec_program.specs.declared.command_line.TextCommand.TheVariants.{Range}
+use Rattle.spec_program.specs.CommandLine.{Address, ExactLine, is_one_of}
+use Rattle.spec_program.specs.CommandLine.{serve_by, workers_given, links_given, places_given, form_given}
 use Rattle.lp_command_line.specs.declared.listening.Serving.{Serving}
 
 abbrev pub bytes_of : List (Bor (List ℕ)) → List (List ℕ)
@@ -31,8 +34,12 @@ abbrev pub planned : Option Serving → Option Address
 planned None = None
 planned (Some serving) = Some (record { address = string_bytes serving.address.now; workers = serving.workers })
 
+-- the range of a number, by options
+abbrev pub range_in : Moved → List ℕ → List (List ℕ) → Option ExactLine
+range_in moved name options = option_map (Read (Range moved name)) (form_given (value_in (codes "--form") options))
+
 -- the numbers of a server, by options
-abbrev pub serve_in : List (List ℕ) → Option CommandLine
+abbrev pub serve_in : List (List ℕ) → Option ExactLine
 serve_in options =
     serve_by (workers_given (value_in (codes "--workers") options)) (links_given (value_in (codes "--each") options))
     (places_given (value_in (codes "--places") options))

@@ -4,6 +4,10 @@
 #[derive(Clone, Copy)]
 pub enum Plain {
     Address,
+    /// Which number of a model.
+    Number,
+    /// The name of a column or row.
+    Name,
     Seed,
     Rows,
     Columns,

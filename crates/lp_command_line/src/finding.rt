@@ -7,8 +7,8 @@ ghost use Rattle.lp_command_line.specs.WordFaults as faults;
 
 use crate::fault::{Plain, WordFault};
 use crate::line::{
-    COMMANDS, Command, first_option, form_in, is_address, is_one_of, links_in, places_in, seed_of,
-    value_of, workers_in,
+    COMMANDS, Command, first_option, form_in, is_one_of, is_plain, links_in, moved_of, places_in,
+    seed_of, value_of, workers_in,
 };
 use lp_base::look_up;
 use lp_line::number_to;
@@ -104,6 +104,18 @@ fn text_fault(words: &[String]) -> Option<WordFault<&[u8]>>
     option_fault(words, &["--form"]).or(form)
 }
 
+fn range_fault(words: &[String]) -> Option<WordFault<&[u8]>>
+    ensures { told result ≡ faults.range_fault (map string_bytes words.now) }
+{
+    let [what, name, options @ ..] = words else {
+        return Some(WordFault::TooFew);
+    };
+    let (what, name) = (what.as_bytes(), name.as_bytes());
+    plain_fault(Plain::Number, what, moved_of(what).is_some())
+        .or(plain_fault(Plain::Name, name, is_plain(name)))
+        .or(text_fault(options))
+}
+
 #[tactic(auto, unfolding(spec_program::specs::CommandLine::row_count_of, spec_program::specs::CommandLine::column_count_of))]
 fn generate_fault(words: &[String]) -> Option<WordFault<&[u8]>>
     ensures { told result ≡ faults.generate_fault (map string_bytes words.now) }
@@ -129,7 +141,7 @@ fn serve_fault(words: &[String]) -> Option<WordFault<&[u8]>>
         return Some(WordFault::TooFew);
     };
     let address = address.as_bytes();
-    plain_fault(Plain::Address, address, is_address(address))
+    plain_fault(Plain::Address, address, is_plain(address))
         .or(option_fault(options, &["--workers", "--each", "--places"]))
         .or(workers_fault(options))
         .or(links_fault(options))
@@ -148,6 +160,7 @@ fn first_fault(words: &[String]) -> Option<WordFault<&[u8]>>
         None => Some(WordFault::NoCommand(word)),
         Some(Command::Run) => run_fault(behind),
         Some(Command::Read(_)) => text_fault(behind),
+        Some(Command::Range) => range_fault(behind),
         Some(Command::Generate) => generate_fault(behind),
         Some(Command::Serve) => serve_fault(behind),
     }

@@ -3,34 +3,40 @@ ghost use Rattle.std.specs.Prelude.{◌≡◌, map, length, codes, option_copied
 ghost use Rattle.std.specs.Prelude.{MatchOption, IfSome, ◌<◌, ◌∷◌};
 ghost use Rattle.std.specs.List.{list_any};
 ghost use Rattle.spec_text.specs.Words.{same};
-ghost use Rattle.spec_program.specs.CommandLine.{run_row, text_row, generate_row, serve_row, asked_by};
+ghost use Rattle.spec_program.specs.CommandLine.{run_row, text_row, range_row, generate_row, serve_row, asked_by};
 ghost use Rattle.spec_program.specs.CommandLine as command_lines;
-ghost use Rattle.lp_command_line.specs.Words.{bytes_of, value_in, are_in, serve_in};
+ghost use Rattle.spec_program.specs.Spelled.{spelled_text, told};
+ghost use Rattle.lp_command_line.specs.Words.{bytes_of, value_in, are_in, range_in, serve_in};
 
 use lp_base::{are_same, look_up};
 use lp_line::number_to;
 use spec_mps::Style;
-use spec_program::{CommandLine, TextCommand};
+use spec_program::{CommandLine, Moved, TextCommand};
 
 // The commands that a word names.
 #[derive(Clone, Copy)]
 pub(crate) enum Command {
     Run,
-    Read(TextCommand),
+    Read(TextCommand<&'static [u8]>),
+    Range,
     Generate,
     Serve,
 }
 
-pub(crate) const COMMANDS: [(&[u8], Command); 6] = [
+pub(crate) const COMMANDS: [(&[u8], Command); 7] = [
     (b"run", Command::Run),
     (b"solve", Command::Read(TextCommand::Solve)),
     (b"check", Command::Read(TextCommand::Check)),
     (b"basis", Command::Read(TextCommand::Basis)),
+    (b"range", Command::Range),
     (b"gen", Command::Generate),
     (b"serve", Command::Serve),
 ];
 
 const FORMS: [(&[u8], Style); 2] = [(b"free", Style::Free), (b"fixed", Style::Fixed)];
+
+// The numbers of which there is a range.
+const MOVED: [(&[u8], Moved); 2] = [(b"cost", Moved::Cost), (b"rhs", Moved::RightSide)];
 
 // How many workers there are, unless it is said.
 const USUAL_WORKERS: u32 = 1;
@@ -134,8 +140,8 @@ pub(crate) fn form_in(options: &[String]) -> Option<Style>
 }
 
 // A script is run by so many workers, and its sessions share so many places.
-fn run_line(words: &[String]) -> Option<CommandLine>
-    ensures { result ≡ asked_by (map string_bytes words.now) run_row }
+fn run_line(words: &[String]) -> Option<CommandLine<&[u8]>>
+    ensures { told result ≡ asked_by (map string_bytes words.now) run_row }
 {
     if !are_options(words, &["--workers", "--places"]) {
         return None;
@@ -146,14 +152,57 @@ fn run_line(words: &[String]) -> Option<CommandLine>
 }
 
 // A text is read in a form.
-fn text_line(command: TextCommand, words: &[String]) -> Option<CommandLine>
-    ensures { result ≡ asked_by (map string_bytes words.now) (text_row command) }
+fn text_line<'a>(
+    command: TextCommand<&'static [u8]>,
+    words: &'a [String],
+) -> Option<CommandLine<&'a [u8]>>
+    ensures { told result ≡ asked_by (map string_bytes words.now) (text_row (spelled_text command.entry)) }
 {
     if !are_options(words, &["--form"]) {
         return None;
     }
     let style = form_in(words)?;
     Some(CommandLine::Read(command, style))
+}
+
+// Which number of a model a word names.
+pub(crate) fn moved_of(word: &[u8]) -> Option<Moved>
+    ensures { result ≡ command_lines.moved_of word.now }
+{
+    look_up(word, &MOVED)
+}
+
+// Whether a word may be an address or a name.
+pub(crate) fn is_plain(word: &[u8]) -> bool
+    ensures { result ≡ command_lines.is_plain word.now }
+{
+    match word {
+        [first, ..] => *first != b'-',
+        [] => false,
+    }
+}
+
+// The number of the column or row of this name is ranged, in a text that is read in a form.
+fn range_with<'a>(moved: Moved, name: &'a [u8], options: &[String]) -> Option<CommandLine<&'a [u8]>>
+    ensures { told result ≡ range_in moved name.now (map string_bytes options.now) }
+{
+    let style = form_in(options)?;
+    Some(CommandLine::Read(TextCommand::Range { moved, name }, style))
+}
+
+// The cost of a column, or the right side of a row, is ranged.
+fn range_line(words: &[String]) -> Option<CommandLine<&[u8]>>
+    ensures { told result ≡ asked_by (map string_bytes words.now) range_row }
+{
+    let [what, name, options @ ..] = words else {
+        return None;
+    };
+    let name = name.as_bytes();
+    if !is_plain(name) || !are_options(options, &["--form"]) {
+        return None;
+    }
+    let moved = moved_of(what.as_bytes())?;
+    range_with(moved, name, options)
 }
 
 // The number that a model is made from; 0 is one too.
@@ -167,38 +216,43 @@ pub(crate) fn seed_of(word: &[u8]) -> Option<u32>
     number_to(1_000_000, 7, word)
 }
 
-// A model is made from a seed, with so many rows and columns.
-fn generate_line(words: &[String]) -> Option<CommandLine>
-    ensures { result ≡ asked_by (map string_bytes words.now) generate_row }
+// A model is made from these numbers, if each is there.
+fn generate_by<'a>(
+    seed: Option<u32>,
+    rows: Option<u32>,
+    columns: Option<u32>,
+) -> Option<CommandLine<&'a [u8]>>
+    ensures { told result ≡ command_lines.generate_by seed rows columns }
 {
-    let [seed, rows, columns] = words else {
+    let seed = seed?;
+    let rows = rows?;
+    let columns = columns?;
+    Some(CommandLine::Generate {
+        seed,
+        rows,
+        columns,
+    })
+}
+
+// A model is made from a seed, with so many rows and columns.
+fn generate_line(words: &[String]) -> Option<CommandLine<&[u8]>>
+    ensures { told result ≡ asked_by (map string_bytes words.now) generate_row }
+{
+    let [seed, rows, columns, behind @ ..] = words else {
         return None;
     };
+    if !behind.is_empty() {
+        return None;
+    }
     let seed = seed_of(seed.as_bytes());
     let rows = number_to(256, 3, rows.as_bytes());
     let columns = number_to(512, 3, columns.as_bytes());
-    match (seed, rows, columns) {
-        (Some(seed), Some(rows), Some(columns)) => Some(CommandLine::Generate {
-            seed,
-            rows,
-            columns,
-        }),
-        _ => None,
-    }
-}
-
-pub(crate) fn is_address(word: &[u8]) -> bool
-    ensures { result ≡ command_lines.is_address word.now }
-{
-    match word {
-        [first, ..] => *first != b'-',
-        [] => false,
-    }
+    generate_by(seed, rows, columns)
 }
 
 // The numbers of a server, by the options that are given.
-fn serve_with(options: &[String]) -> Option<CommandLine>
-    ensures { result ≡ serve_in (map string_bytes options.now) }
+fn serve_with(options: &[String]) -> Option<CommandLine<&[u8]>>
+    ensures { told result ≡ serve_in (map string_bytes options.now) }
 {
     let workers = workers_in(options)?;
     let each = links_in(options)?;
@@ -211,13 +265,13 @@ fn serve_with(options: &[String]) -> Option<CommandLine>
 }
 
 // Sessions are served at an address, by so many workers, which serve so many links each, over so many places.
-fn serve_line(words: &[String]) -> Option<CommandLine>
-    ensures { result ≡ asked_by (map string_bytes words.now) serve_row }
+fn serve_line(words: &[String]) -> Option<CommandLine<&[u8]>>
+    ensures { told result ≡ asked_by (map string_bytes words.now) serve_row }
 {
     let [address, options @ ..] = words else {
         return None;
     };
-    if !is_address(address.as_bytes())
+    if !is_plain(address.as_bytes())
         || !are_options(options, &["--workers", "--each", "--places"])
     {
         return None;
@@ -227,8 +281,8 @@ fn serve_line(words: &[String]) -> Option<CommandLine>
 
 /// What the words ask, if they are a command line.
 #[tactic(auto, unfolding(spec_program::specs::CommandLine::command_line_of))]
-pub fn command_line_of(words: &[String]) -> Option<CommandLine>
-    ensures { result ≡ command_lines.command_line_of (map string_bytes words.now) }
+pub fn command_line_of(words: &[String]) -> Option<CommandLine<&[u8]>>
+    ensures { told result ≡ command_lines.command_line_of (map string_bytes words.now) }
 {
     let [word, behind @ ..] = words else {
         return None;
@@ -236,6 +290,7 @@ pub fn command_line_of(words: &[String]) -> Option<CommandLine>
     match look_up(word.as_bytes(), &COMMANDS)? {
         Command::Run => run_line(behind),
         Command::Read(command) => text_line(command, behind),
+        Command::Range => range_line(behind),
         Command::Generate => generate_line(behind),
         Command::Serve => serve_line(behind),
     }

@@ -1,12 +1,16 @@
 -- What is written of what is said of an input.
-use Rattle.std.proofs.Common.{◌≡◌, ℕ, List, [], ◌++◌, Option, Result, Err, ap, sym, ◌∙◌, subst}
+use Rattle.std.proofs.Common.{◌≡◌, ℕ, List, [], ◌++◌, Option, Result, Ok, Err, ap, sym, ◌∙◌, subst}
 use Rattle.std.specs.Io.KnownBytes.{Appends}
 use Rattle.std.proofs.KnownBytes.{Appends-nil}
 use Rattle.spec_text.specs.declared.line.Line.{Line}
 use Rattle.spec_mps.specs.declared.style.Style.{Style}
 use Rattle.spec_mps.specs.Reader.{start}
+use denote.Ref.{Bor}
+use Rattle.spec_program.specs.declared.command_line.Moved.{Moved}
 use Rattle.spec_program.specs.declared.command_line.TextCommand.{TextCommand}
-use Rattle.spec_program.specs.declared.command_line.TextCommand.TheVariants.{Solve, Check, Basis}
+use Rattle.spec_program.specs.declared.command_line.TextCommand.TheVariants.{Solve, Check, Basis, Range}
+use Rattle.spec_program.specs.RangeOut.{RangeOut, range_code}
+use Rattle.spec_program.specs.Spelled.{spelled_text}
 use Rattle.spec_server.specs.Machine.{ExactReply}
 use Rattle.spec_server.specs.CheckOut.{said, CheckOut, check_code}
 use Rattle.spec_server.specs.SolveOut.{TextSaid, text_said, SolveOut, solve_code}
@@ -18,7 +22,8 @@ use Rattle.lp_text_commands.specs.declared.exit_status.ExitStatus.{ExitStatus}
 use Rattle.lp_line.specs.declared.halt.Halt.{Halt}
 use Rattle.lp_line.specs.declared.halt.Halt.TheVariants as halts
 use Rattle.lp_solve_out.specs.Prints.{Prints}
-use Rattle.lp_text_commands.specs.Hearing.{Agrees, Hears, HearsSo, Says, SaysInPart, SaysSo}
+use Rattle.lp_text_commands.specs.Hearing.{Agrees, Hears, HearsSo, SaysSo}
+use Rattle.lp_text_commands.specs.Writing.{WritesAll, WritesInPart, WritesSo}
 use Rattle.spec_server.specs.BasisOut.{BasisSaid, basis_said, BasisOut, basis_code}
 use Rattle.lp_text_commands.specs.declared.basis.BasisStage.TheVariants as basis_stage
 use Rattle.lp_text_commands.specs.Basis.{BasisSays}
@@ -44,35 +49,53 @@ module _ {R : Type 0} (tells : List (Line (List ℕ)) → Option R) (Out : R →
       subst (λ (r : Result ExitStatus Halt). SaysSo tells Out code_of (streams before after taken taken) r)
       (sym (is ∙ ap Err same)) (halts_so halt h)
 
-  -- where memory is wanting for what is said, nothing is written
-  pub says_none : (what : R) → Hears tells before after what →
-      (result : Result ExitStatus Halt) (got : Halt) → result ≡ Err got → got ≡ halts.NoMemory →
-      SaysSo tells Out code_of (streams before after taken taken) result
-  says_none what h result got is same =
-      says_nothing halts.NoMemory (record { read = h.read; consumed = h.consumed }) result got is same
+  -- something is said, and that is written
+  pub says : (what : R) → Hears tells before after what → (now : Option (List ℕ)) (result : Result ExitStatus Halt) →
+      WritesSo (Out what) (code_of what) taken now result →
+      SaysSo tells Out code_of (streams before after taken now) result
+  says what h now (Ok status) w =
+      record {
+        what = what;
+        hears = h;
+        output = w.output;
+        is_output = w.is_output;
+        written = w.written;
+        status = w.status;
+      }
+  says what h now (Err halts.Write) w =
+      record { what = what; hears = h; output = w.output; is_output = w.is_output; written = w.written }
+  says what h now (Err halts.NoMemory) w = (record { read = h.read; consumed = h.consumed }, w)
+  says what h now (Err halts.Read) w = absurd w
+  says what h now (Err halts.Cut) w = absurd w
+  says what h now (Err halts.Over) w = absurd w
 
-  module _ (what : R) (h : Hears tells before after what) (none text piece : List ℕ) (is_none : none ≡ [])
-      (printed : Prints (Out what) none text) (whole : piece ≡ text) (now : Option (List ℕ)) where
+-- ---- what is written of what is said
+
+module _ (Out : List ℕ → Type 0) (code : ℕ) (taken : Option (List ℕ)) where
+  -- where memory is wanting, nothing is
+  pub writes_none : (result : Result ExitStatus Halt) (got : Halt) → result ≡ Err got → got ≡ halts.NoMemory →
+      WritesSo Out code taken taken result
+  writes_none result got is same =
+      subst (λ (r : Result ExitStatus Halt). WritesSo Out code taken taken r) (sym (is ∙ ap Err same))
+      (Appends-nil taken)
+
+  module _ (none text piece : List ℕ) (is_none : none ≡ []) (printed : Prints Out none text) (whole : piece ≡ text)
+      (now : Option (List ℕ)) where
     same : piece ≡ printed.output
     same = whole ∙ printed.behind ∙ ap (λ bs. bs ++ printed.output) is_none
 
-    pub says : Appends taken now piece → (code : ℕ) → code ≡ code_of what →
-        Says tells Out code_of (streams before after taken now) code
-    says written code is =
+    pub writes : Appends taken now piece → (is : ℕ) → is ≡ code → WritesAll Out code taken now is
+    writes written is e =
         record {
-          what = what;
-          hears = h;
           output = printed.output;
           is_output = printed.is_output;
           written = subst (Appends taken now) same written;
-          status = is;
+          status = e;
         }
 
-    pub says_in_part : Takes taken now piece → SaysInPart tells Out (streams before after taken now)
-    says_in_part written =
+    pub writes_in_part : Takes taken now piece → WritesInPart Out taken now
+    writes_in_part written =
         record {
-          what = what;
-          hears = h;
           output = printed.output;
           is_output = printed.is_output;
           written = subst (Takes taken now) same written;
@@ -80,9 +103,13 @@ module _ {R : Type 0} (tells : List (Line (List ℕ)) → Option R) (Out : R →
 
 -- ---- from the start of a text on
 
-reads_as : (command is : TextCommand) (style : Style) (s : Streams) (result : Result ExitStatus Halt) → command ≡ is →
-    ReadsText is style s result → ReadsText command style s result
-reads_as command is style s result e h = subst (λ (asked : TextCommand). ReadsText asked style s result) (sym e) h
+abbrev Asked : Type 0
+Asked = TextCommand (Bor (List ℕ))
+
+reads_as : (command is : Asked) (style : Style) (s : Streams) (result : Result ExitStatus Halt) → command ≡ is →
+    ReadsText (spelled_text is) style s result → ReadsText (spelled_text command) style s result
+reads_as command is style s result e h =
+    subst (λ (asked : Asked). ReadsText (spelled_text asked) style s result) (sym e) h
 
 module _ (style : Style) (reader : TextRead) (begun : reader ≡ record { style = style; state = start; lines = 0 }) where
   text_agrees : Agrees (TextSays reader) (text_said style)
@@ -91,26 +118,34 @@ module _ (style : Style) (reader : TextRead) (begun : reader ≡ record { style 
   check_agrees : Agrees (CheckSays (stage.Text reader)) (said style)
   check_agrees lines answer h = subst (λ (r : TextRead). CheckSays (stage.Text r) lines answer) begun h
 
-  pub solve_reads : (command : TextCommand) → command ≡ Solve → (s : Streams) (result : Result ExitStatus Halt) →
+  pub solve_reads : (command : Asked) → command ≡ Solve → (s : Streams) (result : Result ExitStatus Halt) →
       ((said : List (Line (List ℕ)) → Option TextSaid) → Agrees (TextSays reader) said →
       SaysSo said SolveOut solve_code s result) →
-      ReadsText command style s result
+      ReadsText (spelled_text command) style s result
   solve_reads command asked s result h =
       reads_as command Solve style s result asked (h (text_said style) text_agrees)
 
-  pub check_reads : (command : TextCommand) → command ≡ Check → (s : Streams) (result : Result ExitStatus Halt) →
+  pub check_reads : (command : Asked) → command ≡ Check → (s : Streams) (result : Result ExitStatus Halt) →
       ((said : List (Line (List ℕ)) → Option ExactReply) → Agrees (CheckSays (stage.Text reader)) said →
       SaysSo said CheckOut check_code s result) →
-      ReadsText command style s result
+      ReadsText (spelled_text command) style s result
   check_reads command asked s result h =
       reads_as command Check style s result asked (h (said style) check_agrees)
 
   basis_agrees : Agrees (BasisSays (basis_stage.Text reader)) (basis_said style)
   basis_agrees lines answer h = subst (λ (r : TextRead). BasisSays (basis_stage.Text r) lines answer) begun h
 
-  pub basis_reads : (command : TextCommand) → command ≡ Basis → (s : Streams) (result : Result ExitStatus Halt) →
+  pub basis_reads : (command : Asked) → command ≡ Basis → (s : Streams) (result : Result ExitStatus Halt) →
       ((said : List (Line (List ℕ)) → Option BasisSaid) → Agrees (BasisSays (basis_stage.Text reader)) said →
       SaysSo said BasisOut basis_code s result) →
-      ReadsText command style s result
+      ReadsText (spelled_text command) style s result
   basis_reads command asked s result h =
       reads_as command Basis style s result asked (h (basis_said style) basis_agrees)
+
+  pub range_reads : (command : Asked) (moved : Moved) (name : Bor (List ℕ)) → command ≡ Range moved name →
+      (s : Streams) (result : Result ExitStatus Halt) →
+      ((said : List (Line (List ℕ)) → Option TextSaid) → Agrees (TextSays reader) said →
+      SaysSo said (RangeOut moved name.now) (range_code moved name.now) s result) →
+      ReadsText (spelled_text command) style s result
+  range_reads command moved name asked s result h =
+      reads_as command (Range moved name) style s result asked (h (text_said style) text_agrees)

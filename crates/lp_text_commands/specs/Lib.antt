@@ -1,5 +1,6 @@
 pub mod Status
 pub mod Hearing
+pub mod Writing
 pub mod Leading
 pub mod Stage
 pub mod FileAt

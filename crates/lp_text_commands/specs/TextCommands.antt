@@ -1,16 +1,16 @@
 -- What the commands that read the text of a model read and write.
 use Rattle.std.specs.Prelude.{Result, ℕ}
 use Rattle.spec_mps.specs.declared.style.Style.{Style}
-use Rattle.spec_program.specs.declared.command_line.TextCommand.{TextCommand}
+use Rattle.spec_program.specs.CommandLine.{ExactTextCommand}
 use Rattle.spec_program.specs.TextOut.{said_of, MayWrite, code_of}
 use Rattle.lp_line.specs.declared.halt.Halt.{Halt}
 use Rattle.lp_text_commands.specs.declared.exit_status.ExitStatus.{ExitStatus}
 use Rattle.lp_text_commands.specs.Hearing.{SaysSo, TellsOf}
 use Rattle.spec_server.specs.Streams.{Streams}
 
-abbrev pub ReadsText : TextCommand → Style → Streams → Result ExitStatus Halt → Type 0
+abbrev pub ReadsText : ExactTextCommand → Style → Streams → Result ExitStatus Halt → Type 0
 ReadsText command style s result = SaysSo (said_of command style) (MayWrite command) (code_of command) s result
 
 -- by the status
-abbrev pub TellsOfText : TextCommand → Style → Streams → ℕ → Type 0
+abbrev pub TellsOfText : ExactTextCommand → Style → Streams → ℕ → Type 0
 TellsOfText command style s code = TellsOf (said_of command style) (MayWrite command) (code_of command) s code

@@ -4,6 +4,7 @@ ghost use Rattle.lp_base.specs.Causes.{Rose};
 ghost use Rattle.spec_text.specs.declared.line.Line.{Line as exact_line};
 ghost use Rattle.lp_solve_out.specs.Prints.{Prints};
 ghost use Rattle.lp_text_commands.specs.Hearing.{Agrees, HearsSo, SaysSo};
+ghost use Rattle.lp_text_commands.specs.Writing.{WritesSo};
 ghost use Rattle.spec_server.specs.Streams.{streams};
 
 use crate::exit_status::ExitStatus;
@@ -43,6 +44,21 @@ pub(crate) fn hear_input<S: Source, T: Stage>(
     }
 }
 
+/// Writes what is said of an input.
+pub(crate) fn write_said<O: Output, K: Sink>(
+    alloc: Global,
+    said: O,
+    out: &mut K,
+) -> Result<ExitStatus, Halt>
+    ensures output { WritesSo (O.may_write said) (O.code said) (K.taken out.old) (K.taken out.new) result }
+    ensures write { IsErrOf result Halt.Write → Rose (K.write_faults out.old) (K.write_faults out.new) }
+{
+    let mut text = Bytes::new(alloc);
+    let status = said.print(alloc, &mut text)?;
+    send(out, text.as_slice())?;
+    Ok(status)
+}
+
 /// Reads the input that the source gives, and writes what is said of it.
 pub(crate) fn say<S: Source, K: Sink, T: Stage>(
     alloc: Global,
@@ -60,8 +76,5 @@ where
     ensures write { IsErrOf result Halt.Write → Rose (K.write_faults out.old) (K.write_faults out.new) }
 {
     let said = hear_input(alloc, first, src)?;
-    let mut text = Bytes::new(alloc);
-    let status = said.print(alloc, &mut text)?;
-    send(out, text.as_slice())?;
-    Ok(status)
+    write_said(alloc, said, out)
 }

@@ -2,12 +2,14 @@
 ghost use Rattle.std.specs.Prelude.{◌≡◌, IsErrOf};
 ghost use Rattle.lp_base.specs.Causes.{Rose};
 ghost use Rattle.spec_server.specs.Streams.{streams};
+ghost use Rattle.spec_program.specs.Spelled.{spelled_text};
 ghost use Rattle.lp_text_commands.specs.TextCommands.{ReadsText};
 
 use crate::basis::BasisStage;
 use crate::check::CheckStage;
 use crate::exit_status::ExitStatus;
 use crate::hearing::say;
+use crate::ranged::say_range;
 use lp_base::{Sink, Source};
 use lp_line::Halt;
 use mps_read::Reader;
@@ -18,12 +20,12 @@ use std::alloc::Global;
 /// Reads the text that the source gives, and writes what the command says of it.
 pub fn read_text<S: Source, K: Sink>(
     alloc: Global,
-    command: TextCommand,
+    command: TextCommand<&[u8]>,
     style: Style,
     src: &mut S,
     out: &mut K,
 ) -> Result<ExitStatus, Halt>
-    ensures output { ReadsText command style
+    ensures output { ReadsText (spelled_text command.entry) style
         (streams (S.left src.old) (S.left src.new) (K.taken out.old) (K.taken out.new)) result }
     ensures read { IsErrOf result Halt.Read → Rose (S.read_faults src.old) (S.read_faults src.new) }
     ensures write { IsErrOf result Halt.Write → Rose (K.write_faults out.old) (K.write_faults out.new) }
@@ -33,5 +35,6 @@ pub fn read_text<S: Source, K: Sink>(
         TextCommand::Solve => say(alloc, text, src, out),
         TextCommand::Check => say(alloc, CheckStage::Text(text), src, out),
         TextCommand::Basis => say(alloc, BasisStage::Text(text), src, out),
+        TextCommand::Range { moved, name } => say_range(alloc, text, moved, name, src, out),
     }
 }

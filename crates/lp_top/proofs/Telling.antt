@@ -1,9 +1,11 @@
 -- What the top call tells.
 use Rattle.std.proofs.Common.{◌≡◌, ◌⊎◌, ℕ, List, [], Option, Some, Ok, Err, arith, sym, inl, inr, subst}
 use Rattle.std.specs.Io.KnownBytes.{Consumes}
+use denote.Ref.{Bor}
 use Rattle.spec_text.specs.declared.line.Line.{Line}
 use Rattle.spec_program.specs.declared.command_line.CommandLine.{CommandLine}
-use Rattle.spec_program.specs.declared.command_line.TextCommand.{TextCommand}
+use Rattle.spec_program.specs.CommandLine.{ExactTextCommand}
+use Rattle.spec_program.specs.Spelled.{spelled}
 use Rattle.spec_program.specs.TextOut.{said_of, MayWrite, code_of}
 use Rattle.spec_mps.specs.declared.style.Style.{Style}
 use Rattle.lp_line.specs.declared.halt.Halt.{Halt}
@@ -115,7 +117,7 @@ module _ {R : Type 0} (said : List (Line (List ℕ)) → Option R) (Out : R → 
     over = λ e. h;
   }
 
-pub text_halted : (command : TextCommand) (style : Style) (s : Streams) (halt : Halt) (code : ℕ) →
+pub text_halted : (command : ExactTextCommand) (style : Style) (s : Streams) (halt : Halt) (code : ℕ) →
     code ≡ code_behind halt → ReadsText command style s (Err halt) → TellsOfText command style s code
 text_halted command style s halt code e h =
     subst (λ n. TellsOfText command style s n) (sym e) (stop_told (said_of command style) (MayWrite command)
@@ -143,6 +145,7 @@ module _ {Out : List ℕ → Type 0} {s : Streams} (reads : Consumes s.left_befo
   not_generated halt code e h = subst (λ n. TellsOfWriting Out s n) (sym e) (writing_stopped halt h)
 
 -- by the command
-pub does_as : (asked is : CommandLine) (s : Streams) (code : ℕ) → asked ≡ is → Does (Some is) s code →
-    Does (Some asked) s code
-does_as asked is s code e h = subst (λ c. Does (Some c) s code) (sym e) h
+pub does_as : (asked is : CommandLine (Bor (List ℕ))) (s : Streams) (code : ℕ) → asked ≡ is →
+    Does (Some (spelled is)) s code → Does (Some (spelled asked)) s code
+does_as asked is s code e h =
+    subst (λ (c : CommandLine (Bor (List ℕ))). Does (Some (spelled c)) s code) (sym e) h

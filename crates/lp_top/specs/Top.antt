@@ -1,8 +1,8 @@
 -- What the top call reads and writes, by its status.
 use Rattle.std.specs.Prelude.{ℕ, ◌≡◌, ◌⊎◌, List, [], Option, Some, None, Result}
 use Rattle.std.specs.Io.KnownBytes.{Consumes, Appends}
-use Rattle.spec_program.specs.declared.command_line.CommandLine.{CommandLine}
 use Rattle.spec_program.specs.declared.command_line.CommandLine.TheVariants.{Run, Read, Generate, Serve}
+use Rattle.spec_program.specs.CommandLine.{ExactLine}
 use Rattle.spec_program.specs.GenOut.{GenOut}
 use Rattle.spec_server.specs.Script.{Ended, Cut}
 use Rattle.spec_server.specs.Script as script
@@ -16,7 +16,7 @@ use Rattle.spec_server.specs.Streams.{Streams}
 use Rattle.lp_text_commands.specs.TextCommands.{TellsOfText}
 
 -- the statuses of a command line
-abbrev pub IsStatus : Option CommandLine → ℕ → Type 0
+abbrev pub IsStatus : Option ExactLine → ℕ → Type 0
 IsStatus None code = code ≡ 2
 IsStatus (Some (Run workers places)) code =
     (code ≡ 0) ⊎ (code ≡ 3) ⊎ (code ≡ 4) ⊎ (code ≡ 5) ⊎ (code ≡ 6) ⊎ (code ≡ 8)
@@ -33,7 +33,7 @@ pub record Tells {workers places : ℕ} {s : Streams} (code : ℕ) (moves : Move
   pub over : code ≡ 8 → EndsWith moves script.Over
 
 -- what a command line reads and writes; other words read and write nothing
-abbrev pub Does : Option CommandLine → Streams → ℕ → Type 0
+abbrev pub Does : Option ExactLine → Streams → ℕ → Type 0
 Does None s code = Consumes s.left_before s.left_after [] × Appends s.taken_before s.taken_after []
 Does (Some (Run workers places)) s code = (moves : Moves workers places s) × Tells code moves
 Does (Some (Read command style)) s code = TellsOfText command style s code
@@ -43,7 +43,7 @@ Does (Some (Serve workers each places)) s code = Consumes s.left_before s.left_a
 -- ---- with the listeners of a server
 
 -- a server has as many listeners as workers; other commands need none
-abbrev pub HasListeners : Option CommandLine → ℕ → Type 0
+abbrev pub HasListeners : Option ExactLine → ℕ → Type 0
 HasListeners (Some (Serve workers each places)) count = count ≡ workers
 HasListeners other count = Unit {0}
 
@@ -54,6 +54,6 @@ pub record TellsOfLinks (places each : ℕ) (s : Streams) (olds news : List List
   pub status : code ≡ code_of_service result
 
 -- no other command uses a listener
-abbrev pub DoesOver : Option CommandLine → Streams → List ListenerState → List ListenerState → ℕ → Type 0
+abbrev pub DoesOver : Option ExactLine → Streams → List ListenerState → List ListenerState → ℕ → Type 0
 DoesOver (Some (Serve workers each places)) s olds news code = TellsOfLinks places each s olds news code
 DoesOver other s olds news code = news ≡ olds

@@ -16,6 +16,7 @@ ghost use Rattle.lp_base.specs.Causes.{Rose};
 ghost use Rattle.spec_program.specs.CommandLine.{command_line_of};
 ghost use Rattle.spec_server.specs.Streams.{streams};
 ghost use Rattle.spec_program.specs.Fits.{Fits};
+ghost use Rattle.spec_program.specs.Spelled.{spelled};
 ghost use Rattle.lp_link.specs.Listening.{listener_of};
 ghost use Rattle.lp_serve.specs.Serving.{SomeFailed};
 ghost use Rattle.lp_top.specs.Status.{code_of_fault};
@@ -97,7 +98,7 @@ where
 fn obey<R: Threads + Wait + Sync, S: Source, K: Sink, N: Listen + Send + Drop, G: Gate + Sync>(
     rt: &R,
     alloc: Global,
-    command: CommandLine,
+    command: CommandLine<&[u8]>,
     src: &mut S,
     out: &mut K,
     nets: &mut Vec<N>,
@@ -105,16 +106,16 @@ fn obey<R: Threads + Wait + Sync, S: Source, K: Sink, N: Listen + Send + Drop, G
 ) -> ExitStatus
 where
     N::Link: Send,
-    requires fits { Fits command }
-    requires nets { HasListeners (Some command) (vec_len nets.old) }
-    ensures output { Does (Some command)
+    requires fits { Fits (spelled command) }
+    requires nets { HasListeners (Some (spelled command)) (vec_len nets.old) }
+    ensures output { Does (Some (spelled command.entry))
         (streams (S.left src.old) (S.left src.new) (K.taken out.old) (K.taken out.new)) result.code }
-    ensures links { DoesOver (Some command)
+    ensures links { DoesOver (Some (spelled command.entry))
         (streams (S.left src.old) (S.left src.new) (K.taken out.old) (K.taken out.new))
         (map (listener_of N.log N.accept_faults) nets.old.items)
         (map (listener_of N.log N.accept_faults) nets.new.items) result.code }
     ensures nets { vec_len nets.new ≡ vec_len nets.old }
-    ensures codes { IsStatus (Some command) result.code }
+    ensures codes { IsStatus (Some (spelled command.entry)) result.code }
     ensures read { result.code ≡ 3 → Rose (S.read_faults src.old) (S.read_faults src.new) }
     ensures write { result.code ≡ 4 → Rose (K.write_faults out.old) (K.write_faults out.new) }
     ensures accept { result.code ≡ 7 → SomeFailed

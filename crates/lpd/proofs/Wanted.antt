@@ -1,7 +1,6 @@
 -- As many listeners as a server has workers.
 use Rattle.std.proofs.Common.{◌≡◌, ℕ, List, Option, Some, None, refl, ap, ◌∙◌}
-use Rattle.spec_program.specs.CommandLine.{Word, Address, command_line_of, address_of}
-use Rattle.spec_program.specs.declared.command_line.CommandLine.{CommandLine}
+use Rattle.spec_program.specs.CommandLine.{Word, ExactLine, Address, command_line_of, address_of}
 use Rattle.spec_program.specs.declared.command_line.CommandLine.TheVariants.{Run, Read, Generate, Serve}
 use Rattle.spec_program.proofs.Addresses.{has_address}
 use Rattle.lp_top.specs.Top.{HasListeners}
@@ -14,7 +13,7 @@ pub are-wanted : (words : List Word) (server : Option Address) → server ≡ ad
     HasListeners (command_line_of words) (workers_at server)
 are-wanted words server is = by (command_line_of words) refl
   where
-    by : (command : Option CommandLine) → command_line_of words ≡ command → HasListeners command (workers_at server)
+    by : (command : Option ExactLine) → command_line_of words ≡ command → HasListeners command (workers_at server)
     by None e = tt
     by (Some (Run workers places)) e = tt
     by (Some (Read command style)) e = tt

@@ -3,7 +3,7 @@ use clap::{Arg, Command};
 use std::alloc::{AllocError, Global};
 
 /// The commands with their plain words, and what each does.
-pub const COMMANDS: [(&str, &str); 6] = [
+pub const COMMANDS: [(&str, &str); 7] = [
     ("run", "Run a script of up to 64 sessions"),
     ("solve", "Solve the model of one text"),
     (
@@ -13,6 +13,10 @@ pub const COMMANDS: [(&str, &str); 6] = [
     (
         "basis",
         "Solve a model from a basis file, which follows its text",
+    ),
+    (
+        "range WHAT NAME",
+        "Solve a model, and range a cost or a right side (rhs)",
     ),
     (
         "gen SEED ROWS COLS",
@@ -45,7 +49,7 @@ pub const OPTIONS: [(&str, &str, &str, &str); 4] = [
         "Links that each worker serves, 1 to 1,000; else 1",
     ),
     (
-        "Options of solve, check and basis",
+        "Options of solve, check, basis and range",
         "form",
         "FORM",
         "The text's form, free or fixed; else free",

@@ -10,7 +10,7 @@ use std::io;
 const NOTICES: [&str; 2] = ["--help", "--version"];
 
 // The commands that read standard input: a word behind them is often the name of a file.
-const READERS: [&str; 4] = ["run", "solve", "check", "basis"];
+const READERS: [&str; 5] = ["run", "solve", "check", "basis", "range"];
 
 /// Writes on standard error why the words are no command line. Where memory runs out, it says no more than that they are
 /// none.
@@ -161,6 +161,8 @@ fn text(word: &[u8]) -> &str {
 fn wanted(plain: Plain) -> &'static str {
     match plain {
         Plain::Address => "ADDRESS: an IP address or a host, a colon and a port",
+        Plain::Number => "WHAT: cost or rhs",
+        Plain::Name => "NAME: that of a column or row, and it begins with no -",
         Plain::Seed => "SEED: 0 to 1,000,000",
         Plain::Rows => "ROWS: 1 to 256",
         Plain::Columns => "COLS: 1 to 512",
@@ -189,6 +191,9 @@ fn hint(
         (Some(head), WordFault::NoOption(word)) => meant_option(alloc, head.name, text(word)),
         (Some(_), WordFault::NotValue(b"--form", value)) => {
             meant(alloc, nearest(alloc, text(value), &["free", "fixed"])?)
+        }
+        (Some(_), WordFault::NotPlain(Plain::Number, word)) => {
+            meant(alloc, nearest(alloc, text(word), &["cost", "rhs"])?)
         }
         _ => Ok(String::new(alloc)),
     }

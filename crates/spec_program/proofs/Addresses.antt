@@ -5,25 +5,23 @@ use Rattle.std.specs.Prelude.{codes, option_map, option_and_then}
 use Rattle.spec_text.specs.Words.{same}
 use Rattle.spec_mps.specs.declared.style.Style.{Style}
 use Rattle.spec_mps.specs.Shapes.{look_up}
-use Rattle.spec_program.specs.CommandLine.{Word, Given, given_in, form_given, workers_given, places_given, seed_of}
+use Rattle.spec_program.specs.CommandLine.{Word, ExactLine, ExactTextCommand, Given, given_in, form_given, workers_given, places_given, seed_of}
 use Rattle.spec_program.specs.CommandLine.{row_count_of, column_count_of, Row, run_by, run_row, text_row, generate_by}
 use Rattle.spec_program.specs.CommandLine.{generate_with, generate_row, serve_row, asked_by, command_line_of}
-use Rattle.spec_program.specs.CommandLine.{served_at, address_of}
-use Rattle.spec_program.specs.declared.command_line.CommandLine.{CommandLine}
+use Rattle.spec_program.specs.CommandLine.{served_at, address_of, range_row}
 use Rattle.spec_program.specs.declared.command_line.CommandLine.TheVariants.{Run, Read, Generate, Serve}
-use Rattle.spec_program.specs.declared.command_line.TextCommand.{TextCommand}
 use Rattle.spec_program.specs.declared.command_line.TextCommand.TheVariants.{Solve, Check, Basis}
 use Rattle.spec_program.proofs.Fitting.{none_is_not, row_of}
 
 -- ---- a word alone asks for no server
 
-abbrev IsNoServer : CommandLine → Type 0
+abbrev IsNoServer : ExactLine → Type 0
 IsNoServer (Run workers places) = Unit {0}
 IsNoServer (Read command style) = Unit {0}
 IsNoServer (Generate seed rows columns) = Unit {0}
 IsNoServer (Serve workers each places) = ⊥
 
-asked : (row : Row) (words : List Word) (command : CommandLine) →
+asked : (row : Row) (words : List Word) (command : ExactLine) →
     ((given : Given) → row.asks given ≡ Some command → IsNoServer command) → asked_by words row ≡ Some command →
     IsNoServer command
 asked row words command none e = by (given_in row.plain row.names words) e
@@ -32,24 +30,24 @@ asked row words command none e = by (given_in row.plain row.names words) e
     by None h = absurd (none_is_not command h)
     by (Some given) h = none given h
 
-runs : (workers places : Option ℕ) (command : CommandLine) → run_by workers places ≡ Some command → IsNoServer command
+runs : (workers places : Option ℕ) (command : ExactLine) → run_by workers places ≡ Some command → IsNoServer command
 runs None places command e = absurd (none_is_not command e)
 runs (Some k) None command e = absurd (none_is_not command e)
 runs (Some k) (Some n) command e = let is : Run k n ≡ command = cc in subst IsNoServer is tt
 
-reads : (text : TextCommand) (style : Option Style) (command : CommandLine) →
+reads : (text : ExactTextCommand) (style : Option Style) (command : ExactLine) →
     option_map (Read text) style ≡ Some command → IsNoServer command
 reads text None command e = absurd (none_is_not command e)
 reads text (Some style) command e = let is : Read text style ≡ command = cc in subst IsNoServer is tt
 
-makes_by : (seed rows columns : Option ℕ) (command : CommandLine) → generate_by seed rows columns ≡ Some command →
+makes_by : (seed rows columns : Option ℕ) (command : ExactLine) → generate_by seed rows columns ≡ Some command →
     IsNoServer command
 makes_by None rows columns command e = absurd (none_is_not command e)
 makes_by (Some s) None columns command e = absurd (none_is_not command e)
 makes_by (Some s) (Some n) None command e = absurd (none_is_not command e)
 makes_by (Some s) (Some n) (Some k) command e = let is : Generate s n k ≡ command = cc in subst IsNoServer is tt
 
-makes : (words : List Word) (command : CommandLine) → generate_with words ≡ Some command → IsNoServer command
+makes : (words : List Word) (command : ExactLine) → generate_with words ≡ Some command → IsNoServer command
 makes [] command e = absurd (none_is_not command e)
 makes (seed ∷ []) command e = absurd (none_is_not command e)
 makes (seed ∷ rows ∷ []) command e = absurd (none_is_not command e)
@@ -57,37 +55,42 @@ makes (seed ∷ rows ∷ columns ∷ []) command e =
     makes_by (seed_of seed) (row_count_of rows) (column_count_of columns) command e
 makes (seed ∷ rows ∷ columns ∷ word ∷ words) command e = absurd (none_is_not command e)
 
-serves_nothing : (command : CommandLine) → asked_by [] serve_row ≡ Some command → ⊥
+serves_nothing : (command : ExactLine) → asked_by [] serve_row ≡ Some command → ⊥
 unfolding given_in
 serves_nothing command e = none_is_not command e
 
-alone : (word : Word) (command : CommandLine) → command_line_of (word ∷ []) ≡ Some command → IsNoServer command
+ranges_nothing : (command : ExactLine) → asked_by [] range_row ≡ Some command → ⊥
+unfolding given_in
+ranges_nothing command e = none_is_not command e
+
+alone : (word : Word) (command : ExactLine) → command_line_of (word ∷ []) ≡ Some command → IsNoServer command
 unfolding command_line_of
 alone word command e =
     by (same word (codes "run")) (same word (codes "solve")) (same word (codes "check")) (same word (codes "basis"))
-    (same word (codes "gen")) (same word (codes "serve")) e
+    (same word (codes "range")) (same word (codes "gen")) (same word (codes "serve")) e
   where
-    by : (r s c b g v : Bool) → option_and_then (asked_by []) (row_of r s c b g v) ≡ Some command → IsNoServer command
-    by true s c b g v h =
+    by : (r s c b a g v : Bool) → option_and_then (asked_by []) (row_of r s c b a g v) ≡ Some command → IsNoServer command
+    by true s c b a g v h =
         asked run_row [] command
         (λ given. runs (workers_given (look_up (codes "--workers") given.options))
         (places_given (look_up (codes "--places") given.options)) command) h
-    by false true c b g v h =
+    by false true c b a g v h =
         asked (text_row Solve) [] command
         (λ given. reads Solve (form_given (look_up (codes "--form") given.options)) command) h
-    by false false true b g v h =
+    by false false true b a g v h =
         asked (text_row Check) [] command
         (λ given. reads Check (form_given (look_up (codes "--form") given.options)) command) h
-    by false false false true g v h =
+    by false false false true a g v h =
         asked (text_row Basis) [] command
         (λ given. reads Basis (form_given (look_up (codes "--form") given.options)) command) h
-    by false false false false true v h = asked generate_row [] command (λ given. makes given.plain command) h
-    by false false false false false true h = absurd (serves_nothing command h)
-    by false false false false false false h = absurd (none_is_not command h)
+    by false false false false true g v h = absurd (ranges_nothing command h)
+    by false false false false false true v h = asked generate_row [] command (λ given. makes given.plain command) h
+    by false false false false false false true h = absurd (serves_nothing command h)
+    by false false false false false false false h = absurd (none_is_not command h)
 
 -- ---- so a server has an address
 
-empty : (command : CommandLine) → command_line_of [] ≡ Some command → ⊥
+empty : (command : ExactLine) → command_line_of [] ≡ Some command → ⊥
 unfolding command_line_of
 empty command e = none_is_not command e
 

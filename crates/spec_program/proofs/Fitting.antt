@@ -9,15 +9,15 @@ use Rattle.spec_mps.specs.declared.style.Style.{Style}
 use Rattle.spec_mps.specs.NumberText.{spelled_from}
 use Rattle.spec_mps.specs.Shapes.{look_up}
 use Rattle.spec_server.specs.Command.{is_digit, begins_with_zero, number_to}
-use Rattle.spec_program.specs.CommandLine.{Word, Given, given_in, form_given, workers_of, workers_given, places_of}
+use Rattle.spec_program.specs.CommandLine.{Word, ExactLine, ExactTextCommand, Given, given_in, form_given, workers_of, workers_given, places_of}
 use Rattle.spec_program.specs.CommandLine.{places_given, links_of, links_given, seed_of, row_count_of, column_count_of}
-use Rattle.spec_program.specs.CommandLine.{Options, Row, is_address, run_by, run_row, text_row, generate_by}
+use Rattle.spec_program.specs.CommandLine.{Options, Row, is_plain, run_by, run_row, text_row, generate_by}
 use Rattle.spec_program.specs.CommandLine.{generate_with, generate_row, serve_by, serve_with, serve_row, asked_by}
+use Rattle.spec_program.specs.CommandLine.{moved_of, name_of, range_by, range_with, range_row}
 use Rattle.spec_program.specs.CommandLine.{command_line_of}
-use Rattle.spec_program.specs.declared.command_line.CommandLine.{CommandLine}
 use Rattle.spec_program.specs.declared.command_line.CommandLine.TheVariants.{Run, Read, Generate, Serve}
-use Rattle.spec_program.specs.declared.command_line.TextCommand.{TextCommand}
-use Rattle.spec_program.specs.declared.command_line.TextCommand.TheVariants.{Solve, Check, Basis}
+use Rattle.spec_program.specs.declared.command_line.Moved.{Moved}
+use Rattle.spec_program.specs.declared.command_line.TextCommand.TheVariants.{Solve, Check, Basis, Range}
 use Rattle.spec_program.specs.Fits.{IsWorkers, IsPlaces, IsLinks, Fits}
 
 -- ---- numbers
@@ -78,7 +78,7 @@ columns-within word n e = (number-within 512 3 word n e).1
 
 -- ---- commands
 
-row-fits : (row : Row) (words : List Word) (command : CommandLine) →
+row-fits : (row : Row) (words : List Word) (command : ExactLine) →
     ((given : Given) → row.asks given ≡ Some command → Fits command) → asked_by words row ≡ Some command →
     Fits command
 row-fits row words command fits e = by (given_in row.plain row.names words) e
@@ -87,7 +87,7 @@ row-fits row words command fits e = by (given_in row.plain row.names words) e
     by None h = absurd (none_is_not command h)
     by (Some given) h = fits given h
 
-run_by-fits : (workers places : Option ℕ) (command : CommandLine) →
+run_by-fits : (workers places : Option ℕ) (command : ExactLine) →
     ((k : ℕ) → workers ≡ Some k → IsWorkers k) → ((n : ℕ) → places ≡ Some n → IsPlaces n) →
     run_by workers places ≡ Some command → Fits command
 run_by-fits None places command w p e = absurd (none_is_not command e)
@@ -95,7 +95,7 @@ run_by-fits (Some k) None command w p e = absurd (none_is_not command e)
 run_by-fits (Some k) (Some n) command w p e =
     let same : Run k n ≡ command = cc in subst Fits same (w k refl, p n refl)
 
-run-fits : (words : List Word) (command : CommandLine) → asked_by words run_row ≡ Some command → Fits command
+run-fits : (words : List Word) (command : ExactLine) → asked_by words run_row ≡ Some command → Fits command
 run-fits words command e =
     row-fits run_row words command
     (λ given h. run_by-fits (workers_given (look_up (codes "--workers") given.options))
@@ -103,18 +103,36 @@ run-fits words command e =
     (workers-within (look_up (codes "--workers") given.options))
     (places-within (look_up (codes "--places") given.options)) h) e
 
-read-fits : (asked : TextCommand) (style : Option Style) (command : CommandLine) →
+read-fits : (asked : ExactTextCommand) (style : Option Style) (command : ExactLine) →
     option_map (Read asked) style ≡ Some command → Fits command
 read-fits asked None command e = absurd (none_is_not command e)
 read-fits asked (Some style) command e = let same : Read asked style ≡ command = cc in subst Fits same tt
 
-text-fits : (asked : TextCommand) (words : List Word) (command : CommandLine) →
+text-fits : (asked : ExactTextCommand) (words : List Word) (command : ExactLine) →
     asked_by words (text_row asked) ≡ Some command → Fits command
 text-fits asked words command e =
     row-fits (text_row asked) words command
     (λ given h. read-fits asked (form_given (look_up (codes "--form") given.options)) command h) e
 
-generate_by-fits : (seed rows columns : Option ℕ) (command : CommandLine) →
+range_by-fits : (moved : Option Moved) (name : Option Word) (style : Option Style) (command : ExactLine) →
+    range_by moved name style ≡ Some command → Fits command
+range_by-fits None name style command e = absurd (none_is_not command e)
+range_by-fits (Some w) None style command e = absurd (none_is_not command e)
+range_by-fits (Some w) (Some n) style command e = read-fits (Range w n) style command e
+
+range_with-fits : (words : List Word) (options : Options) (command : ExactLine) →
+    range_with words options ≡ Some command → Fits command
+range_with-fits [] options command e = absurd (none_is_not command e)
+range_with-fits (what ∷ []) options command e = absurd (none_is_not command e)
+range_with-fits (what ∷ name ∷ []) options command e =
+    range_by-fits (moved_of what) (name_of name) (form_given (look_up (codes "--form") options)) command e
+range_with-fits (what ∷ name ∷ word ∷ words) options command e = absurd (none_is_not command e)
+
+range-fits : (words : List Word) (command : ExactLine) → asked_by words range_row ≡ Some command → Fits command
+range-fits words command e =
+    row-fits range_row words command (λ given h. range_with-fits given.plain given.options command h) e
+
+generate_by-fits : (seed rows columns : Option ℕ) (command : ExactLine) →
     ((n : ℕ) → rows ≡ Some n → n ≤ 256) → ((n : ℕ) → columns ≡ Some n → n ≤ 512) →
     generate_by seed rows columns ≡ Some command → Fits command
 generate_by-fits None rows columns command r c e = absurd (none_is_not command e)
@@ -123,7 +141,7 @@ generate_by-fits (Some s) (Some n) None command r c e = absurd (none_is_not comm
 generate_by-fits (Some s) (Some n) (Some k) command r c e =
     let same : Generate s n k ≡ command = cc in subst Fits same (r n refl, c k refl)
 
-generate_with-fits : (words : List Word) (command : CommandLine) → generate_with words ≡ Some command → Fits command
+generate_with-fits : (words : List Word) (command : ExactLine) → generate_with words ≡ Some command → Fits command
 generate_with-fits [] command e = absurd (none_is_not command e)
 generate_with-fits (seed ∷ []) command e = absurd (none_is_not command e)
 generate_with-fits (seed ∷ rows ∷ []) command e = absurd (none_is_not command e)
@@ -132,11 +150,11 @@ generate_with-fits (seed ∷ rows ∷ columns ∷ []) command e =
     (columns-within columns) e
 generate_with-fits (seed ∷ rows ∷ columns ∷ word ∷ words) command e = absurd (none_is_not command e)
 
-generate-fits : (words : List Word) (command : CommandLine) → asked_by words generate_row ≡ Some command → Fits command
+generate-fits : (words : List Word) (command : ExactLine) → asked_by words generate_row ≡ Some command → Fits command
 generate-fits words command e =
     row-fits generate_row words command (λ given h. generate_with-fits given.plain command h) e
 
-serve_by-fits : (workers each places : Option ℕ) (command : CommandLine) →
+serve_by-fits : (workers each places : Option ℕ) (command : ExactLine) →
     ((k : ℕ) → workers ≡ Some k → IsWorkers k) → ((c : ℕ) → each ≡ Some c → IsLinks c) →
     ((n : ℕ) → places ≡ Some n → IsPlaces n) → serve_by workers each places ≡ Some command → Fits command
 serve_by-fits None each places command w l p e = absurd (none_is_not command e)
@@ -145,12 +163,12 @@ serve_by-fits (Some k) (Some c) None command w l p e = absurd (none_is_not comma
 serve_by-fits (Some k) (Some c) (Some n) command w l p e =
     let same : Serve k c n ≡ command = cc in subst Fits same (w k refl, l c refl, p n refl)
 
-serve_with-fits : (words : List Word) (options : Options) (command : CommandLine) →
+serve_with-fits : (words : List Word) (options : Options) (command : ExactLine) →
     serve_with words options ≡ Some command → Fits command
 serve_with-fits [] options command e = absurd (none_is_not command e)
 serve_with-fits (address ∷ word ∷ words) options command e = absurd (none_is_not command e)
 serve_with-fits (address ∷ []) options command e =
-    by (is_address address) (workers_given workers) (links_given each) (places_given places) (workers-within workers)
+    by (is_plain address) (workers_given workers) (links_given each) (places_given places) (workers-within workers)
     (links-within each) (places-within places) e
   where
     workers : Option Word
@@ -167,30 +185,32 @@ serve_with-fits (address ∷ []) options command e =
     by true k c n w l p h = serve_by-fits k c n command w l p h
     by false k c n w l p h = absurd (none_is_not command h)
 
-serve-fits : (words : List Word) (command : CommandLine) → asked_by words serve_row ≡ Some command → Fits command
+serve-fits : (words : List Word) (command : ExactLine) → asked_by words serve_row ≡ Some command → Fits command
 serve-fits words command e =
     row-fits serve_row words command (λ given h. serve_with-fits given.plain given.options command h) e
 
 -- the row of a command's word, by whether it is each of the words
-abbrev pub row_of : Bool → Bool → Bool → Bool → Bool → Bool → Option Row
-row_of r s c b g v =
+abbrev pub row_of : Bool → Bool → Bool → Bool → Bool → Bool → Bool → Option Row
+row_of r s c b a g v =
     cond r (Some run_row)
     (cond s (Some (text_row Solve))
     (cond c (Some (text_row Check))
-    (cond b (Some (text_row Basis)) (cond g (Some generate_row) (cond v (Some serve_row) None)))))
+    (cond b (Some (text_row Basis))
+    (cond a (Some range_row) (cond g (Some generate_row) (cond v (Some serve_row) None))))))
 
-pub command-fits : (words : List Word) (command : CommandLine) → command_line_of words ≡ Some command → Fits command
+pub command-fits : (words : List Word) (command : ExactLine) → command_line_of words ≡ Some command → Fits command
 unfolding command_line_of
 command-fits [] command e = absurd (none_is_not command e)
 command-fits (word ∷ words) command e =
     by (same word (codes "run")) (same word (codes "solve")) (same word (codes "check")) (same word (codes "basis"))
-    (same word (codes "gen")) (same word (codes "serve")) e
+    (same word (codes "range")) (same word (codes "gen")) (same word (codes "serve")) e
   where
-    by : (r s c b g v : Bool) → option_and_then (asked_by words) (row_of r s c b g v) ≡ Some command → Fits command
-    by true s c b g v h = run-fits words command h
-    by false true c b g v h = text-fits Solve words command h
-    by false false true b g v h = text-fits Check words command h
-    by false false false true g v h = text-fits Basis words command h
-    by false false false false true v h = generate-fits words command h
-    by false false false false false true h = serve-fits words command h
-    by false false false false false false h = absurd (none_is_not command h)
+    by : (r s c b a g v : Bool) → option_and_then (asked_by words) (row_of r s c b a g v) ≡ Some command → Fits command
+    by true s c b a g v h = run-fits words command h
+    by false true c b a g v h = text-fits Solve words command h
+    by false false true b a g v h = text-fits Check words command h
+    by false false false true a g v h = text-fits Basis words command h
+    by false false false false true g v h = range-fits words command h
+    by false false false false false true v h = generate-fits words command h
+    by false false false false false false true h = serve-fits words command h
+    by false false false false false false false h = absurd (none_is_not command h)

@@ -1,3 +1,5 @@
 -- Lemmas.
 pub mod Fitting
 pub mod Addresses
+pub mod Kept
+pub mod NarrowRanges

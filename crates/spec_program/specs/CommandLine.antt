@@ -10,12 +10,21 @@ use Rattle.spec_mps.specs.declared.style.Style.TheVariants.{Free, Fixed}
 use Rattle.spec_mps.specs.Shapes.{look_up}
 use Rattle.spec_program.specs.declared.command_line.CommandLine.{CommandLine}
 use Rattle.spec_program.specs.declared.command_line.CommandLine.TheVariants.{Run, Read, Generate, Serve}
+use Rattle.spec_program.specs.declared.command_line.Moved.{Moved}
+use Rattle.spec_program.specs.declared.command_line.Moved.TheVariants.{Cost, RightSide}
 use Rattle.spec_program.specs.declared.command_line.TextCommand.{TextCommand}
-use Rattle.spec_program.specs.declared.command_line.TextCommand.TheVariants.{Solve, Check, Basis}
+use Rattle.spec_program.specs.declared.command_line.TextCommand.TheVariants.{Solve, Check, Basis, Range}
 use Rattle.spec_server.specs.Command.{number_to}
 
 abbrev pub Word : Type 0
 Word = List ℕ
+
+-- a command line with the names themselves
+abbrev pub ExactLine : Type 0
+ExactLine = CommandLine Word
+
+abbrev pub ExactTextCommand : Type 0
+ExactTextCommand = TextCommand Word
 
 -- ---- options
 
@@ -109,10 +118,10 @@ links_of word = number_to 1000 4 word
 abbrev pub links_given : Option Word → Option ℕ
 links_given = given_or usual_links links_of
 
--- a word that may name an address: it is not empty, and does not begin as an option does
-abbrev pub is_address : Word → Bool
-is_address [] = false
-is_address (b ∷ bs) = not (b == 45)
+-- a word that may be an address, or the name of a column or row: it is not empty, and does not begin as an option does
+abbrev pub is_plain : Word → Bool
+is_plain [] = false
+is_plain (b ∷ bs) = not (b == 45)
 
 -- the number that a model is made from, up to 1,000,000; 0 is one too
 unfoldable pub seed_of : Word → Option ℕ
@@ -129,9 +138,9 @@ column_count_of word = number_to 512 3 word
 pub record Row : Type 0 where
   pub plain : ℕ
   pub names : OptionNames
-  pub asks : Given → Option CommandLine
+  pub asks : Given → Option ExactLine
 
-abbrev pub run_by : Option ℕ → Option ℕ → Option CommandLine
+abbrev pub run_by : Option ℕ → Option ℕ → Option ExactLine
 run_by workers places = option_and_then (λ k. option_map (Run k) places) workers
 
 abbrev pub run_row : Row
@@ -142,33 +151,53 @@ run_row = record {
       (places_given (look_up (codes "--places") given.options));
 }
 
-abbrev pub text_row : TextCommand → Row
+abbrev pub text_row : ExactTextCommand → Row
 text_row command = record {
   plain = 0;
   names = codes "--form" ∷ [];
   asks = λ given. option_map (Read command) (form_given (look_up (codes "--form") given.options));
 }
 
-abbrev pub generate_by : Option ℕ → Option ℕ → Option ℕ → Option CommandLine
+-- which number the range is of
+abbrev pub moved_of : Word → Option Moved
+moved_of word = look_up word ((codes "cost", Cost) ∷ (codes "rhs", RightSide) ∷ [])
+
+abbrev pub name_of : Word → Option Word
+name_of word = if is_plain word then Some word else None
+
+abbrev pub range_by : Option Moved → Option Word → Option Style → Option ExactLine
+range_by moved name style =
+    option_and_then (λ w. option_and_then (λ n. option_map (Read (Range w n)) style) name) moved
+
+-- which number, the name of its column or row, and the form
+abbrev pub range_with : List Word → Options → Option ExactLine
+range_with (what ∷ name ∷ []) options =
+    range_by (moved_of what) (name_of name) (form_given (look_up (codes "--form") options))
+range_with words options = None
+
+abbrev pub range_row : Row
+range_row = record { plain = 2; names = codes "--form" ∷ []; asks = λ given. range_with given.plain given.options }
+
+abbrev pub generate_by : Option ℕ → Option ℕ → Option ℕ → Option ExactLine
 generate_by seed rows columns =
     option_and_then (λ s. option_and_then (λ r. option_map (Generate s r) columns) rows) seed
 
 -- a seed, and how many rows and columns
-abbrev pub generate_with : List Word → Option CommandLine
+abbrev pub generate_with : List Word → Option ExactLine
 generate_with (seed ∷ rows ∷ columns ∷ []) = generate_by (seed_of seed) (row_count_of rows) (column_count_of columns)
 generate_with words = None
 
 abbrev pub generate_row : Row
 generate_row = record { plain = 3; names = []; asks = λ given. generate_with given.plain }
 
-abbrev pub serve_by : Option ℕ → Option ℕ → Option ℕ → Option CommandLine
+abbrev pub serve_by : Option ℕ → Option ℕ → Option ℕ → Option ExactLine
 serve_by workers each places =
     option_and_then (λ k. option_and_then (λ c. option_map (Serve k c) places) each) workers
 
 -- an address, and the numbers of workers, of links for each of them, and of places
-abbrev pub serve_with : List Word → Options → Option CommandLine
+abbrev pub serve_with : List Word → Options → Option ExactLine
 serve_with (address ∷ []) options =
-    if is_address address
+    if is_plain address
     then serve_by (workers_given (look_up (codes "--workers") options))
     (links_given (look_up (codes "--each") options)) (places_given (look_up (codes "--places") options))
     else None
@@ -187,16 +216,17 @@ commands =
     ∷ (codes "solve", text_row Solve)
     ∷ (codes "check", text_row Check)
     ∷ (codes "basis", text_row Basis)
+    ∷ (codes "range", range_row)
     ∷ (codes "gen", generate_row)
     ∷ (codes "serve", serve_row)
     ∷ []
 
 -- what the words after a command's word ask
-abbrev pub asked_by : List Word → Row → Option CommandLine
+abbrev pub asked_by : List Word → Row → Option ExactLine
 asked_by words row = option_and_then row.asks (given_in row.plain row.names words)
 
 -- what the words after the program's name ask
-unfoldable pub command_line_of : List Word → Option CommandLine
+unfoldable pub command_line_of : List Word → Option ExactLine
 command_line_of [] = None
 command_line_of (word ∷ words) = option_and_then (asked_by words) (look_up word commands)
 
@@ -208,7 +238,7 @@ pub record Address : Type 0 where
   pub workers : ℕ
 
 -- the address is the word after the command's; other command lines have none
-abbrev pub served_at : List Word → Option CommandLine → Option Address
+abbrev pub served_at : List Word → Option ExactLine → Option Address
 served_at (word ∷ address ∷ words) (Some (Serve workers each places)) =
     Some (record { address = address; workers = workers })
 served_at words command = None

@@ -1,7 +1,7 @@
 -- The numbers that a command line may have.
 use Rattle.std.specs.Prelude.{ℕ, ◌≤◌}
 use Rattle.spec_model.specs.Kept.{row_limit, column_limit}
-use Rattle.spec_program.specs.declared.command_line.CommandLine.{CommandLine}
+use Rattle.spec_program.specs.CommandLine.{ExactLine}
 use Rattle.spec_program.specs.declared.command_line.CommandLine.TheVariants.{Run, Read, Generate, Serve}
 
 -- so many workers there may be
@@ -17,7 +17,7 @@ abbrev pub IsLinks : ℕ → Type 0
 IsLinks each = (1 ≤ each) × (each ≤ 1000)
 
 -- a command line has no numbers but those that its command can be done with
-abbrev pub Fits : CommandLine → Type 0
+abbrev pub Fits : ExactLine → Type 0
 Fits (Run workers places) = IsWorkers workers × IsPlaces places
 Fits (Read command style) = Unit {0}
 Fits (Generate seed rows columns) = (rows ≤ row_limit) × (columns ≤ column_limit)

@@ -1,27 +1,38 @@
-// The command lines of the program.
+// The command lines of the program, over the type N of names.
 use spec_mps::Style;
+
+/// Which number of a model a range is of.
+#[derive(Clone, Copy)]
+pub enum Moved {
+    /// The cost of a column.
+    Cost,
+    /// The right side of a row.
+    RightSide,
+}
 
 /// A command that reads the text of a model, and says something of it.
 #[derive(Clone, Copy)]
-pub enum TextCommand {
+pub enum TextCommand<N> {
     /// To solve the model.
     Solve,
     /// To check the certificate after the text.
     Check,
     /// To solve the model from the basis of the file after the text.
     Basis,
+    /// To solve the model, and to range this number of the column or row with this name.
+    Range { moved: Moved, name: N },
 }
 
 /// What the words of a command line ask.
 #[derive(Clone, Copy)]
-pub enum CommandLine {
+pub enum CommandLine<N> {
     /// To run the script that the source gives with so many workers, and so many places that its sessions share.
     Run {
         workers: u32,
         places: u32,
     },
     /// To read the text in this form that the source gives.
-    Read(TextCommand, Style),
+    Read(TextCommand<N>, Style),
     /// To make the model of this seed with so many rows and columns, and to solve it.
     Generate {
         seed: u32,

@@ -3,14 +3,15 @@ use Rattle.std.proofs.Common.{subst}
 use Rattle.spec_program.specs.declared.command_line.CommandLine.TheVariants.{Run, Read, Generate}
 use Rattle.std.proofs.KnownBytes.{Consumes-nil}
 use Rattle.spec_program.specs.Fits.{Fits}
+use Rattle.spec_program.specs.Spelled.{spelled, spelled_text}
 use Rattle.lp_top.proofs.Telling.{run_done, run_stopped, text_halted, generated, not_generated, does_as}
 use Rattle.lp_top.proofs.obey.Goals as goal
 
 pub run_script-requires-clause-workers : goal.run_script-requires-clause-workers
-run_script-requires-clause-workers g c = λ lives bounds. (subst Fits c.in-Run.is c.requires.fits).0
+run_script-requires-clause-workers g c = λ lives bounds. (subst (λ k. Fits (spelled k)) c.in-Run.is c.requires.fits).0
 
 pub run_script-requires-clause-places : goal.run_script-requires-clause-places
-run_script-requires-clause-places g c = λ lives bounds. (subst Fits c.in-Run.is c.requires.fits).1
+run_script-requires-clause-places g c = λ lives bounds. (subst (λ k. Fits (spelled k)) c.in-Run.is c.requires.fits).1
 
 pub returns-in-Ok-clause-output : goal.returns-in-Ok-clause-output
 returns-in-Ok-clause-output g c =
@@ -24,7 +25,7 @@ returns-in-Err-clause-output g c =
 pub returns-in-Err-read_text-clause-output : goal.returns-in-Err-read_text-clause-output
 returns-in-Err-read_text-clause-output g c =
     does_as c.args.command (Read c.in-Read.command c.in-Read.style) _ _ c.in-Read.is
-    (text_halted c.in-Read.command c.in-Read.style _ c.in-Err-read_text.halt c.from-in-Err-read_text.result.code
+    (text_halted (spelled_text c.in-Read.command) c.in-Read.style _ c.in-Err-read_text.halt c.from-in-Err-read_text.result.code
     c.from-in-Err-read_text.ensures c.in-Err-read_text.ensures.output)
 
 pub returns-in-Ok-generate-clause-output : goal.returns-in-Ok-generate-clause-output

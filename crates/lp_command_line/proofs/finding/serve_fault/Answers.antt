@@ -14,7 +14,7 @@ returns c =
     c.in-len1-up.len_at_least c.address-item.is c.as_bytes-address.ensures.value
     in
     let address =
-    c.plain_fault.ensures ∙ ap (plain_fault Address c.as_bytes-address.result.now) c.is_address.ensures
+    c.plain_fault.ensures ∙ ap (plain_fault Address c.as_bytes-address.result.now) c.is_plain.ensures
     in
     let named = told-by c.or.result c.plain_fault.result c.option_fault.result _ _ c.or.ensures address c.option_fault.ensures in
     let workers = told-by c.or-2.result c.or.result c.workers_fault.result _ _ c.or-2.ensures named c.workers_fault.ensures in

@@ -1,7 +1,8 @@
 -- By the row of the command that the word names.
 use Rattle.std.proofs.Common.{Some, None, sym, ap, ◌∙◌, map}
 use Rattle.std.specs.Prelude.{string_bytes}
-use Rattle.lp_command_line.specs.declared.line.Command.TheVariants.{Run, Read, Generate, Serve}
+use Rattle.spec_program.specs.Spelled.{told}
+use Rattle.lp_command_line.specs.declared.line.Command.TheVariants.{Run, Read, Range, Generate, Serve}
 use Rattle.lp_command_line.proofs.Asking.{first-word, asks-command, no-words}
 use Rattle.lp_command_line.proofs.line.command_line_of.Goals as goal
 
@@ -10,7 +11,7 @@ returns-in_default c = sym (no-words string_bytes c.args.words.now c.in_default.
 
 pub returns-in_err-look_up : goal.returns-in_err-look_up
 returns-in_err-look_up c =
-    c.from_residual.ensures
+    ap told c.from_residual.ensures
     ∙ sym (asks-command (map string_bytes c.args.words.now) _ c.as_bytes.result.now None
     (first-word string_bytes c.args.words.now c.word-item.result c.as_bytes.result.now c.in-len1-up.len_at_least
     c.word-item.is c.as_bytes.ensures.value)
@@ -31,6 +32,14 @@ returns-in-Read c =
     (first-word string_bytes c.args.words.now c.word-item.result c.as_bytes.result.now c.in-len1-up.len_at_least
     c.word-item.is c.as_bytes.ensures.value)
     (sym c.in_ok-look_up.ensures ∙ ap Some c.in-Read.is))
+
+pub returns-in-Range : goal.returns-in-Range
+returns-in-Range c =
+    c.range_line.ensures
+    ∙ sym (asks-command (map string_bytes c.args.words.now) _ c.as_bytes.result.now (Some Range)
+    (first-word string_bytes c.args.words.now c.word-item.result c.as_bytes.result.now c.in-len1-up.len_at_least
+    c.word-item.is c.as_bytes.ensures.value)
+    (sym c.in_ok-look_up.ensures ∙ ap Some c.in-Range.is))
 
 pub returns-in-Generate : goal.returns-in-Generate
 returns-in-Generate c =

@@ -1,6 +1,7 @@
 -- No options, no number of workers, none of places, and both.
-use Rattle.std.proofs.Common.{Some, None, refl, sym, ◌∙◌, map}
+use Rattle.std.proofs.Common.{Some, None, refl, sym, ap, ◌∙◌, map}
 use Rattle.std.specs.Prelude.{string_bytes}
+use Rattle.spec_program.specs.Spelled.{told}
 use Rattle.lp_command_line.proofs.Asking.{run-refused, asks-run}
 use Rattle.lp_command_line.proofs.line.run_line.Goals as goal
 
@@ -10,13 +11,13 @@ returns-then-not-are_options c =
 
 pub returns-in_err-workers : goal.returns-in_err-workers
 returns-in_err-workers c =
-    c.from_residual.ensures
+    ap told c.from_residual.ensures
     ∙ sym (asks-run (map string_bytes c.args.words.now) None _ (sym c.are_options.ensures ∙ c.if-not-are_options.false)
     (sym c.in_err-workers.ensures) refl)
 
 pub returns-in_err-places : goal.returns-in_err-places
 returns-in_err-places c =
-    c.from_residual-in_err-places.ensures
+    ap told c.from_residual-in_err-places.ensures
     ∙ sym (asks-run (map string_bytes c.args.words.now) (Some c.in_ok-workers.workers) None
     (sym c.are_options.ensures ∙ c.if-not-are_options.false) (sym c.in_ok-workers.ensures)
     (sym c.in_err-places.ensures))

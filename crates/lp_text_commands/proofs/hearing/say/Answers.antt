@@ -1,6 +1,6 @@
 -- What is written of what is said.
 use Rattle.std.proofs.lemmas.Result.{err_from_is_err_and}
-use Rattle.lp_text_commands.proofs.Saying.{says_nothing, says_none, says, says_in_part}
+use Rattle.lp_text_commands.proofs.Saying.{says_nothing, says}
 use Rattle.lp_text_commands.proofs.hearing.say.Goals as goal
 
 pub returns-in_err-said-clause-output : goal.returns-in_err-said-clause-output
@@ -11,28 +11,8 @@ returns-in_err-said-clause-output g c = λ tells agrees.
     (c.in_err-said.ensures.output tells agrees)
     c.from_residual.result p.0 p.1 p.2
 
-pub returns-in_err-status-clause-output : goal.returns-in_err-status-clause-output
-returns-in_err-status-clause-output g c = λ tells agrees.
-    let p = err_from_is_err_and c.from_residual-in_err-status.result c.from_residual-in_err-status.ensures.1 in
-    says_none tells g.T.Said.Output.may_write g.T.Said.Output.code (g.S.Source.left c.args.src.now)
-    (g.S.Source.left c.hear_input.new.src) (g.K.Sink.taken c.args.out.now) c.in_ok-said.said
-    (c.in_ok-said.ensures.output tells agrees)
-    c.from_residual-in_err-status.result p.0 p.1 p.2
-
-pub returns-in_err-send-clause-output : goal.returns-in_err-send-clause-output
-returns-in_err-send-clause-output g c = λ tells agrees.
-    let p = err_from_is_err_and c.from_residual-in_err-send.result c.from_residual-in_err-send.ensures.1 in
-    rw (p.1, p.2)
-    (says_in_part tells g.T.Said.Output.may_write g.T.Said.Output.code (g.S.Source.left c.args.src.now)
-    (g.S.Source.left c.hear_input.new.src) (g.K.Sink.taken c.args.out.now) c.in_ok-said.said
-    (c.in_ok-said.ensures.output tells agrees) c.new-text.result
-    c.print.new.to c.as_slice.result.now c.new-text.ensures c.in_ok-status.ensures.output c.as_slice.ensures _
-    c.send.ensures.part)
-
 pub returns-clause-output : goal.returns-clause-output
 returns-clause-output g c = λ tells agrees.
     says tells g.T.Said.Output.may_write g.T.Said.Output.code (g.S.Source.left c.args.src.now)
     (g.S.Source.left c.hear_input.new.src) (g.K.Sink.taken c.args.out.now) c.in_ok-said.said
-    (c.in_ok-said.ensures.output tells agrees) c.new-text.result
-    c.print.new.to c.as_slice.result.now c.new-text.ensures c.in_ok-status.ensures.output c.as_slice.ensures _
-    c.in_ok-send.ensures.ok c.in_ok-status.status.code c.in_ok-status.ensures.status
+    (c.in_ok-said.ensures.output tells agrees) _ c.write_said.result c.write_said.ensures.output

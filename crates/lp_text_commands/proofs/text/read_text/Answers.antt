@@ -1,5 +1,5 @@
 -- From the start of a text on.
-use Rattle.lp_text_commands.proofs.Saying.{solve_reads, check_reads, basis_reads}
+use Rattle.lp_text_commands.proofs.Saying.{solve_reads, check_reads, basis_reads, range_reads}
 use Rattle.lp_text_commands.proofs.text.read_text.Goals as goal
 
 pub returns-in-Solve-clause-output : goal.returns-in-Solve-clause-output
@@ -15,3 +15,8 @@ pub returns-in-Basis-clause-output : goal.returns-in-Basis-clause-output
 returns-in-Basis-clause-output g c =
     basis_reads c.args.style c.new-text.result c.new-text.ensures c.args.command c.in-Basis.is _ _
     c.say-in-Basis.ensures.output
+
+pub returns-in-Range-clause-output : goal.returns-in-Range-clause-output
+returns-in-Range-clause-output g c =
+    range_reads c.args.style c.new-text.result c.new-text.ensures c.args.command c.in-Range.moved c.in-Range.name
+    c.in-Range.is _ _ c.say_range.ensures.output

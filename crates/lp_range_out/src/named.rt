@@ -1,0 +1,35 @@
+// The column or the row whose number is ranged.
+ghost use Rattle.std.specs.Prelude.{◌≡◌, ◌<◌, ◌++◌, OnOk, IfSome};
+ghost use Rattle.spec_program.specs.RangeOut.{place_by};
+ghost use Rattle.spec_server.specs.CheckOut.{check_line};
+ghost use Rattle.spec_server.specs.declared.asks.Reply.TheVariants as replies;
+ghost use Rattle.spec_server.specs.declared.asks.Refusal.TheVariants as refusals;
+ghost use Rattle.lp_range_out.specs.Ends.{count_by};
+
+use lp_base::{Bytes, Name};
+use lp_line::{Refusal, Reply, print_said};
+use lp_model::Model;
+use spec_program::Moved;
+use std::alloc::{AllocError, Global};
+
+/// Where the column, or the row, with this name stands.
+pub fn place_of(model: &Model, moved: Moved, name: &[u8]) -> Option<u32>
+    ensures value { result ≡ place_by moved model.now name.now }
+    ensures inside { IfSome result (λ at. at < count_by moved model.now) }
+{
+    match moved {
+        Moved::Cost => model.col_of(name),
+        Moved::RightSide => model.row_of(name),
+    }
+}
+
+/// Writes that nothing has the name.
+pub fn print_unknown(alloc: Global, name: &[u8], to: &mut Bytes) -> Result<(), AllocError>
+    ensures { OnOk result (to.new ≡ to.old ++ check_line (replies.Refused (refusals.Name name.now))) }
+{
+    let name = Name::from_slice(alloc, name)?;
+    let reply = Reply::Refused(Refusal::Name(name));
+    let printed = print_said(alloc, &reply, to);
+    drop(reply);
+    printed
+}

@@ -1,0 +1,28 @@
+-- What is written of what was said.
+use Rattle.std.specs.Prelude.{ℕ, ◌≡◌, List, [], Option, Result, Ok, Err}
+use Rattle.std.specs.Io.KnownBytes.{Appends}
+use Rattle.lp_base.specs.Beside.{Takes}
+use Rattle.lp_line.specs.declared.halt.Halt.{Halt}
+use Rattle.lp_line.specs.declared.halt.Halt.TheVariants as halts
+use Rattle.lp_text_commands.specs.declared.exit_status.ExitStatus.{ExitStatus}
+
+-- all of an output of this kind was written, and the status is this
+pub record WritesAll (Out : List ℕ → Type 0) (is_code : ℕ) (before after : Option (List ℕ)) (code : ℕ) : Type 0 where
+  pub output : List ℕ
+  pub is_output : Out output
+  pub written : Appends before after output
+  pub status : code ≡ is_code
+
+-- a prefix of one was written
+pub record WritesInPart (Out : List ℕ → Type 0) (before after : Option (List ℕ)) : Type 0 where
+  pub output : List ℕ
+  pub is_output : Out output
+  pub written : Takes before after output
+
+abbrev pub WritesSo : (List ℕ → Type 0) → ℕ → Option (List ℕ) → Option (List ℕ) → Result ExitStatus Halt → Type 0
+WritesSo Out code before after (Ok status) = WritesAll Out code before after status.code
+WritesSo Out code before after (Err halts.Write) = WritesInPart Out before after
+WritesSo Out code before after (Err halts.NoMemory) = Appends before after []
+WritesSo Out code before after (Err halts.Read) = ⊥
+WritesSo Out code before after (Err halts.Cut) = ⊥
+WritesSo Out code before after (Err halts.Over) = ⊥

@@ -1,0 +1,90 @@
+// What is said of a text, of which a number is ranged.
+ghost use Rattle.std.specs.Prelude.{◌≡◌, List, ℕ, OnOk, IfOk, IsErrOf, Option, Ok};
+ghost use Rattle.lp_base.specs.Causes.{Rose};
+ghost use Rattle.spec_text.specs.declared.line.Line.{Line as exact_line};
+ghost use Rattle.spec_program.specs.RangeOut.{PlaceOut, RangeOut, place_code, range_code, place_by};
+ghost use Rattle.spec_server.specs.SolveOut.{TextSaid as exact_said};
+ghost use Rattle.spec_server.specs.Streams.{streams};
+ghost use Rattle.lp_line.specs.Stages.{TextSays};
+ghost use Rattle.lp_solve_out.specs.Prints.{Prints};
+ghost use Rattle.lp_text_commands.specs.Hearing.{Agrees, SaysSo};
+
+use crate::exit_status::ExitStatus;
+use crate::hearing::{Output, hear_input, write_said};
+use lp_base::{Bytes, Sink, Source};
+use lp_line::{Halt, Refusal, Reply, TextSaid};
+use lp_model::Model;
+use lp_range_out::{place_of, print_ranged, print_unknown};
+use mps_read::Reader;
+use spec_program::Moved;
+use std::alloc::{AllocError, Global};
+
+/// What a text says, and which number of the model is ranged: that of the column or row with this name.
+#[derive(Drop)]
+pub(crate) struct Ranged<'a> {
+    pub said: TextSaid,
+    pub moved: Moved,
+    pub name: &'a [u8],
+}
+
+impl<'a> Output for Ranged<'a> {
+    ghost may_write = { λ ranged. RangeOut ranged.moved ranged.name.now ranged.said };
+
+    ghost code = { λ ranged. range_code ranged.moved ranged.name.now ranged.said };
+
+    fn print(self, alloc: Global, to: &mut Bytes) -> Result<ExitStatus, AllocError> {
+        let Ranged { said, moved, name } = self;
+        match said {
+            Ok(model) => {
+                let printed = print_model(alloc, &model, moved, name, to);
+                drop(model);
+                printed
+            }
+            Err(fault) => Reply::Refused(Refusal::Misspelled(fault)).print(alloc, to),
+        }
+    }
+}
+
+// Writes the range of the number, unless nothing has the name.
+fn print_model(
+    alloc: Global,
+    model: &Model,
+    moved: Moved,
+    name: &[u8],
+    to: &mut Bytes,
+) -> Result<ExitStatus, AllocError>
+    ensures output { OnOk result
+        (Prints (PlaceOut moved name.now model.now (place_by moved model.now name.now)) to.old to.new) }
+    ensures status { IfOk result (λ status. status.code ≡ place_code (place_by moved model.now name.now)) }
+{
+    match place_of(model, moved, name) {
+        Some(at) => {
+            print_ranged(alloc, model, moved, at, to)?;
+            Ok(ExitStatus::DONE)
+        }
+        None => {
+            print_unknown(alloc, name, to)?;
+            Ok(ExitStatus::REFUSED)
+        }
+    }
+}
+
+/// Reads the text that the source gives, and writes what a solve of it ends with and the range of the number.
+pub(crate) fn say_range<S: Source, K: Sink>(
+    alloc: Global,
+    text: Reader,
+    moved: Moved,
+    name: &[u8],
+    src: &mut S,
+    out: &mut K,
+) -> Result<ExitStatus, Halt>
+    requires { text.lines ≡ 0 }
+    ensures output { (said : List (exact_line (List ℕ)) → Option exact_said) → Agrees (TextSays text) said →
+        SaysSo said (RangeOut moved name.now) (range_code moved name.now)
+        (streams (S.left src.old) (S.left src.new) (K.taken out.old) (K.taken out.new)) result }
+    ensures read { IsErrOf result Halt.Read → Rose (S.read_faults src.old) (S.read_faults src.new) }
+    ensures write { IsErrOf result Halt.Write → Rose (K.write_faults out.old) (K.write_faults out.new) }
+{
+    let said = hear_input(alloc, text, src)?;
+    write_said(alloc, Ranged { said, moved, name }, out)
+}

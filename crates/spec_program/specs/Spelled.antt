@@ -1,0 +1,23 @@
+-- Command lines with the names themselves, which the code has behind references.
+use Rattle.std.specs.Prelude.{ℕ, List, Option, option_map}
+use denote.Ref.{Bor}
+use Rattle.spec_program.specs.declared.command_line.CommandLine.{CommandLine}
+use Rattle.spec_program.specs.declared.command_line.CommandLine.TheVariants.{Run, Read, Generate, Serve}
+use Rattle.spec_program.specs.declared.command_line.TextCommand.{TextCommand}
+use Rattle.spec_program.specs.declared.command_line.TextCommand.TheVariants.{Solve, Check, Basis, Range}
+use Rattle.spec_program.specs.CommandLine.{ExactLine, ExactTextCommand}
+
+abbrev pub spelled_text : TextCommand (Bor (List ℕ)) → ExactTextCommand
+spelled_text Solve = Solve
+spelled_text Check = Check
+spelled_text Basis = Basis
+spelled_text (Range moved name) = Range moved name.now
+
+abbrev pub spelled : CommandLine (Bor (List ℕ)) → ExactLine
+spelled (Run workers places) = Run workers places
+spelled (Read command style) = Read (spelled_text command) style
+spelled (Generate seed rows columns) = Generate seed rows columns
+spelled (Serve workers each places) = Serve workers each places
+
+abbrev pub told : Option (CommandLine (Bor (List ℕ))) → Option ExactLine
+told = option_map spelled
