@@ -18,3 +18,4 @@ pub mod OwnTexts
 pub mod LoadedLines
 pub mod MadeEdits
 pub mod Agreement
+pub mod RangedTexts

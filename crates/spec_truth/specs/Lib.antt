@@ -5,3 +5,4 @@ pub mod LoadedFrom
 pub mod SpelledBasis
 pub mod AcceptedLines
 pub mod Agree
+pub mod SaidRange

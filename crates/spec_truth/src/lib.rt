@@ -11,6 +11,7 @@
 //! | `IsCertified` | lines of a model and a certificate after it, and what is so of the model | specs/Certified |
 //! | `AreHanded` | lines of a model and a basis file after it | specs/SpelledBasis |
 //! | `IsAccepted` | that `check` says yes to lines with written ones behind them | specs/AcceptedLines |
+//! | `SaysRange` | what a line `RANGE` says of a model | specs/SaidRange |
 //! | `RepliesAgree` | replies that two runs of one session may give to the same asks | specs/Agree |
 #![tactic(auto)]
 
@@ -19,7 +20,7 @@ ghost use Rattle.std.specs.Prelude.{List, [], ◌∷◌, ◌++◌, length, take,
 ghost use Rattle.spec_text.specs.Lines.{lines_of, ended_lines_of, input_limit};
 ghost use Rattle.spec_text.specs.declared.line.Line.{Line};
 ghost use Rattle.spec_exact.specs.Fraction.{ℚ};
-ghost use Rattle.spec_model.specs.Model.{Model};
+ghost use Rattle.spec_model.specs.Model.{Model, Name};
 ghost use Rattle.spec_model.specs.Truth.{IsOptimal, IsInfeasible, IsUnbounded};
 ghost use Rattle.spec_mps.specs.declared.fault.Code.TheVariants as code;
 ghost use Rattle.spec_mps.specs.declared.fault.MpsFault.{MpsFault};
@@ -40,6 +41,7 @@ ghost use Rattle.spec_server.specs.declared.answer.Answer.{Answer};
 ghost use Rattle.spec_server.specs.declared.answer.Answer.TheVariants as answer;
 ghost use Rattle.spec_server.specs.declared.asks.Ask.TheVariants as ask;
 ghost use Rattle.spec_server.specs.declared.asks.Asked.{Asked as asked_of};
+ghost use Rattle.spec_server.specs.declared.asks.Refusal.TheVariants as refusal;
 ghost use Rattle.spec_server.specs.declared.asks.Reply.TheVariants as reply;
 ghost use Rattle.spec_server.specs.declared.basis.BasisFault.TheVariants as basis_fault;
 ghost use Rattle.spec_server.specs.declared.command.Plain.TheVariants as command;
@@ -51,11 +53,14 @@ ghost use Rattle.spec_server.specs.Output.{reply_text};
 ghost use Rattle.spec_server.specs.CheckOut.{said, check_line};
 ghost use Rattle.spec_server.specs.SolveOut.{TextSaid, text_said, SolveOut};
 ghost use Rattle.spec_server.specs.BasisOut.{Handed, BasisSaid, basis_said, BasisOut};
+ghost use Rattle.spec_program.specs.declared.command_line.Moved.{Moved};
 ghost use Rattle.spec_program.specs.GenOut.{entry_count, size_text, GenOut};
+ghost use Rattle.spec_program.specs.RangeOut.{place_by, RangeOut};
 ghost use Rattle.spec_truth.specs.AcceptedLines.{IsAccepted};
 ghost use Rattle.spec_truth.specs.Certified.{IsCertified};
 ghost use Rattle.spec_truth.specs.LoadedFrom.{IsLoadedFrom};
 ghost use Rattle.spec_truth.specs.ModelThen.{model_then};
+ghost use Rattle.spec_truth.specs.SaidRange.{SaysRange};
 ghost use Rattle.spec_truth.specs.SpelledBasis.{BeginsWithText, AreHanded, HaveWrongFile};
 ghost use Rattle.spec_truth.specs.TrueAnswer.{Says, IsTrueOf, IsNarrowKnown};
 
@@ -197,6 +202,43 @@ pub fn written_certificates_are_accepted()
         (answer : Answer ℚ) × (how behind : List ℕ)
         × (written ≡ reply_text (reply.Answered answer) ++ 10 ∷ (how ++ 10 ∷ behind)) × All (λ b. b ≢ 10) how
         × IsAccepted style (are.text.front ++ are.text.last ∷ []) answer behind }
+{}
+
+/// What `range` writes of a text that spells a model is true of the model: where nothing has the name, that; else the line
+/// of an answer and, after `OPTIMAL` alone, a line that says a range: with exactly the numbers in it in place of the one that
+/// the model has, the basis that shows the optimum shows one again, and the optimal value with each of them is the stated
+/// one. The lines alone say it.
+pub fn ranges_of_texts_are_true()
+    ensures unknown { (style : Style) (lines : List (Line (List ℕ))) (m : Model) (moved : Moved) (name : Name)
+        (what : TextSaid) (written : List ℕ) →
+        text_said style lines ≡ Some what → RangeOut moved name what written → Spells style lines m →
+        written ≡ check_line (reply.Refused (refusal.Name name)) → place_by moved m name ≡ None }
+    ensures answer { (style : Style) (lines : List (Line (List ℕ))) (m : Model) (moved : Moved) (name : Name)
+        (what : TextSaid) (written : List ℕ) →
+        text_said style lines ≡ Some what → RangeOut moved name what written → Spells style lines m →
+        (at : ℕ) → place_by moved m name ≡ Some at →
+        (answer : Answer ℚ) × (behind : List ℕ)
+        × (written ≡ reply_text (reply.Answered answer) ++ 10 ∷ behind) × IsTrueOf m answer }
+    ensures optimal { (style : Style) (lines : List (Line (List ℕ))) (m : Model) (moved : Moved) (name : Name)
+        (what : TextSaid) (written : List ℕ) →
+        text_said style lines ≡ Some what → RangeOut moved name what written → Spells style lines m →
+        (text behind : List ℕ) → All (λ b. b ≢ 10) text → written ≡ codes "OPTIMAL " ++ text ++ 10 ∷ behind →
+        (v : ℚ) × (number_of text ≡ Is v) × IsOptimal m v }
+    ensures infeasible { (style : Style) (lines : List (Line (List ℕ))) (m : Model) (moved : Moved) (name : Name)
+        (what : TextSaid) (written : List ℕ) →
+        text_said style lines ≡ Some what → RangeOut moved name what written → Spells style lines m →
+        (behind : List ℕ) → written ≡ codes "INFEASIBLE" ++ 10 ∷ behind → IsInfeasible m }
+    ensures unbounded { (style : Style) (lines : List (Line (List ℕ))) (m : Model) (moved : Moved) (name : Name)
+        (what : TextSaid) (written : List ℕ) →
+        text_said style lines ≡ Some what → RangeOut moved name what written → Spells style lines m →
+        (behind : List ℕ) → written ≡ codes "UNBOUNDED" ++ 10 ∷ behind → IsUnbounded m }
+    ensures range { (style : Style) (lines : List (Line (List ℕ))) (m : Model) (moved : Moved) (name : Name)
+        (what : TextSaid) (written : List ℕ) →
+        text_said style lines ≡ Some what → RangeOut moved name what written → Spells style lines m →
+        (value low high slope : List ℕ) →
+        All (λ b. b ≢ 10) value → All (λ b. b ≢ 32) low → All (λ b. b ≢ 32) high → All (λ b. b ≢ 10) slope →
+        written ≡ codes "OPTIMAL " ++ value ++ 10 ∷ (codes "RANGE " ++ low ++ codes " " ++ high ++ codes " SLOPE " ++ slope ++ 10 ∷ []) →
+        SaysRange moved name m value low high slope }
 {}
 
 /// What `gen` writes is the line of the size of the model that is made from the seed, and the line of an answer, which
