@@ -12,8 +12,9 @@ from .dialects import PROFILE, written
 from .errors import CertificateFault, LpdError, ProgramEnded, TextFault
 from .exact import Basis, Simplex, Watch, certificate_lines
 from .floating import NONE, Claim, ask
-from .from_basis import BAD_WORDS, FromBasis, solve_from
+from .from_basis import FromBasis, solve_from
 from .model import Model, read_model
+from .once import BAD_WORDS
 from .replies import Accepted, Answer, Known, Optimal, Past, Spent
 from .session import Session
 

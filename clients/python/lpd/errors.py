@@ -36,6 +36,17 @@ class ProgramEnded(LpdError):
         super().__init__(f"lpd ended with status {status} before it replied: {STATUSES.get(status, 'a status of its own')}.{said}")
 
 
+class CommandMissing(ProgramEnded):
+    """The program does not know a command, which later versions of it have."""
+
+    def __init__(self, command: str, complaint: str = "") -> None:
+        super().__init__(2, complaint)
+        self.command = command
+
+    def __str__(self) -> str:
+        return f"this program has no command {self.command}"
+
+
 class LinkFailed(LpdError):
     """A link to a server failed. It is closed."""
 

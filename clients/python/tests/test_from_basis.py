@@ -13,7 +13,8 @@ from lpd.basis_file import basis_lines, read_bas
 from lpd.certifying import PROGRAM, PYTHON, NotAnswered, NotCertified, made_exact
 from lpd.exact import BASIC, LOWER, UPPER, Basis
 from lpd.floating import SOLVERS, Claim, ask
-from lpd.from_basis import FromBasis, has_command, read_answer, solve_from
+from lpd.from_basis import FromBasis, read_answer, solve_from
+from lpd.once import has_command
 
 from .commands import command
 from .models import has_program
@@ -209,7 +210,7 @@ class FirstWay(unittest.TestCase):
         self.assertEqual(self.notes, [OPEN])
 
 
-@unittest.skipUnless(has_program() and has_command(), "there is no program, or it has no command basis")
+@unittest.skipUnless(has_program() and has_command("basis"), "there is no program, or it has no command basis")
 class WithTheProgram(unittest.TestCase):
     def test_an_optimal_basis_takes_no_pivot(self) -> None:
         for path in sorted(MODELS.glob("*.mps")):
