@@ -46,6 +46,7 @@ from .from_basis import FromBasis, solve_from
 from .link import Link
 from .model import Model, read_model
 from .plotting import Turn, curve, plane, turns_of
+from .presolving import Presolved, presolve
 from .program import Program, run
 from .replies import Accepted, Answer, Infeasible, Loaded, Optimal, Past, Rejected, Spent, Unbounded, Verdict
 from .replies import Basis, Cold, Fell, Found, Full, Published, Raced, Same, Unpublished
@@ -96,6 +97,7 @@ __all__ = [
     "OutOfMemory",
     "OutOfTime",
     "Past",
+    "Presolved",
     "Program",
     "ProgramEnded",
     "ProgramMissing",
@@ -126,6 +128,7 @@ __all__ = [
     "convert",
     "curve",
     "plane",
+    "presolve",
     "read_model",
     "report",
     "run",

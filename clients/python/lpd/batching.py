@@ -21,6 +21,7 @@ from .errors import LpdError, Refused
 from .exact import OutOfTime
 from .model import Model
 from .number_text import shown
+from .presolving import Size
 from .reading import mps_of_file, name_of
 from .replies import Optimal
 from .ways import Effort, answered
@@ -41,7 +42,8 @@ class Work:
 
 @dataclass
 class Result:
-    """What is found of one model. `seconds` are those of all ways to the answer, `certified` is by another solver's basis."""
+    """What is found of one model. `seconds` are those of all ways to the answer, `certified` is by another solver's basis, and
+    `reduced` the size that lpd presolve left."""
 
     name: str
     rows: Optional[int] = None
@@ -56,6 +58,7 @@ class Result:
     certified: Optional[Certified] = None
     certify_seconds: float = 0.0
     notes: List[str] = field(default_factory=list)
+    reduced: Optional[Size] = None
 
 
 def solve_into(result: Result, text: str, model: Model, work: Work) -> None:
@@ -66,6 +69,7 @@ def solve_into(result: Result, text: str, model: Model, work: Work) -> None:
         result.answer = str(found.answer).split(" ")[0]
         result.value = shown(found.answer.value) if isinstance(found.answer, Optimal) else " ".join(str(found.answer).split(" ")[1:])
         result.way, result.accepted_by, result.pivots = found.way, found.accepted_by, found.pivots
+        result.reduced = found.reduced
         result.notes += found.notes
     except OutOfTime as late:
         result.answer = "PAST"

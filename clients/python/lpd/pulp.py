@@ -184,7 +184,7 @@ class LPD(pulp.LpSolver):  # type: ignore[misc]
             return put_nothing(lp)
         except LpdError as error:
             raise pulp.PulpSolverError(f"lpd: {error}") from error
-        other = None if found.is_by_lpd else other_solver(self.certify)
+        other = None if found.is_by_program else other_solver(self.certify)
         lp.exact = Exact(found.answer, found.certificate, text, certified_with=other, way=found.way, accepted_by=found.accepted_by)
         self.log([f"lpd: {found.answer}", *(f"lpd: {line}" for line in [*found.notes, *([] if found.is_by_lpd else [found.told()])])])
         put_values(lp, model, lp.exact)

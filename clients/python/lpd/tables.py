@@ -17,9 +17,10 @@ from .ways import BOTH
 
 Cells = Dict[str, str]
 ANSWERED = ["model", "rows", "columns", "answer", "value", "way", "accepted by", "pivots", "seconds"]
+REDUCED = ["rows left", "columns left"]  # by lpd presolve
 CERTIFIED = ["exactly", "judge", "claim", "off", "certify seconds"]
 # How wide the columns of a table are that is written before all its cells are known.
-WIDTHS = {"rows": 4, "columns": 7, "answer": 10, "value": 24, "way": 42, "accepted by": 12, "pivots": 6, "seconds": 8}
+WIDTHS = {"rows": 4, "columns": 7, "rows left": 9, "columns left": 12, "answer": 10, "value": 24, "way": 42, "accepted by": 12, "pivots": 6, "seconds": 8}
 LPD_CHECK, PYTHON_ALONE = "lpd check", "python alone"
 SAME, OTHER = "same", "OTHER"
 
@@ -28,8 +29,9 @@ class OtherTable(LpdError):
     """A file holds another table than the one that would be written."""
 
 
-def columns_of(is_certified: bool, has_optima: bool) -> List[str]:
-    return [*ANSWERED, *(["optimum"] if has_optima else []), *(CERTIFIED if is_certified else []), "note"]
+def columns_of(is_certified: bool, has_optima: bool, is_presolved: bool = False) -> List[str]:
+    answered = [*ANSWERED[:3], *(REDUCED if is_presolved else []), *ANSWERED[3:]]
+    return [*answered, *(["optimum"] if has_optima else []), *(CERTIFIED if is_certified else []), "note"]
 
 
 def small(value: Fraction) -> str:
@@ -63,6 +65,8 @@ def cells_of(result: Result) -> Cells:
         "model": result.name,
         "rows": "" if result.rows is None else str(result.rows),
         "columns": "" if result.columns is None else str(result.columns),
+        "rows left": "" if result.reduced is None else str(result.reduced.rows),
+        "columns left": "" if result.reduced is None else str(result.reduced.columns),
         "answer": result.answer,
         "value": result.value,
         "way": result.way.partition(",")[0],

@@ -1,9 +1,10 @@
 """An answer by whichever way there is.
 
 The first way is the program's own solve. Where it ends past 127 bits, or after the pivots that it makes where nobody sets a
-budget, a person still wants an answer: then another solver's basis is made exact, by `lpd basis` or by exact steps in Python,
-or without another solver a basis that rough steps in Python come to, for as long as that may take. Whatever finds an answer, its
-certificate is judged, and it is said who accepted it.
+budget, a person still wants an answer: past 127 bits `lpd presolve` is tried, in whose smaller model numbers are often shorter; and
+then another solver's basis is made exact, by `lpd basis` or by exact steps in Python, or without another solver a basis that
+rough steps in Python come to, for as long as that may take. Whatever finds an answer, its certificate is judged, and it is said
+who accepted it.
 """
 from __future__ import annotations
 
@@ -13,36 +14,42 @@ import threading
 from dataclasses import dataclass, field, replace
 from typing import Iterator, List, Optional
 
-from .certifying import PROGRAM, TOO_WIDE, Exact, judged, made_exact
-from .errors import LpdError, ProgramEnded, TextFault
+from .certificate import check_lines
+from .certifying import PROGRAM, TOO_WIDE, Exact, NotCertified, judged, made_exact
+from .errors import CommandMissing, LpdError, ProgramEnded, TextFault
 from .exact import OutOfTime, Watch
 from .floating import NONE, SOLVERS, ask
 from .model import Model
+from .presolving import Presolved, Size, presolve
 from .program import Program
-from .replies import Answer, Spent
+from .replies import Accepted, Answer, Past, Spent
 from .session import Session
 
 SECONDS = 60.0  # for all other ways of a model together
 BOTH, ALONE = "lpd check and the checker in Python", "the checker in Python alone"
+SOLVE, PRESOLVE = "lpd solve", "lpd presolve"
 
 
 @dataclass(frozen=True)
 class Effort:
     """How far it goes: at most so many pivots of the program (a number that is set is kept to, unless a solver is named),
     whether the program alone is asked, which other solver (else the first that is there), how many seconds the other ways
-    have, and how many the program's own solve has (else as many as it takes)."""
+    have, and how many the program's own solve has (else as many as it takes). With `presolve` that is `lpd presolve`, which has
+    a budget of its own."""
 
     budget: Optional[int] = None
     only_lpd: bool = False
     solver: Optional[str] = None
     seconds: float = SECONDS
     solve_seconds: Optional[float] = None
+    presolve: bool = False
 
 
 @dataclass(frozen=True)
 class Answered:
     """An answer, and its certificate, which Past and Spent have not; by which way it came, and who accepted the certificate
-    (BOTH, or ALONE and why). The notes say what came of the ways that led to none."""
+    (BOTH, or ALONE and why). The notes say what came of the ways that led to none. `reduced` is the size of the smaller model that
+    `lpd presolve` solved."""
 
     answer: Answer
     certificate: List[str]
@@ -50,6 +57,7 @@ class Answered:
     accepted_by: str = ""
     pivots: Optional[int] = None
     notes: List[str] = field(default_factory=list)
+    reduced: Optional[Size] = None
 
     @property
     def is_narrow(self) -> bool:
@@ -57,9 +65,14 @@ class Answered:
         return self.accepted_by == BOTH
 
     @property
+    def is_by_program(self) -> bool:
+        """Whether it is the answer of the program, by its own solve or by its presolve."""
+        return self.way.partition(",")[0] in (SOLVE, PRESOLVE)
+
+    @property
     def is_by_lpd(self) -> bool:
         """Whether it is the answer of the program's own solve."""
-        return self.way == "lpd solve"
+        return self.way == SOLVE
 
     def told(self) -> str:
         """How the answer came, in a sentence."""
@@ -81,7 +94,30 @@ def by_lpd(text: str, model: Model, budget: Optional[int] = None, seconds: Optio
         if budget is not None:
             session.budget(budget)
         answer, certificate = session.solve_checked(model)
-        return Answered(answer, certificate, "lpd solve", BOTH if certificate else "", session.how().pivots)
+        return Answered(answer, certificate, SOLVE, BOTH if certificate else "", session.how().pivots)
+
+
+def by_presolve(text: str, model: Model, seconds: Optional[float] = None) -> Answered:
+    """The answer of `lpd presolve`, whose certificate both checkers accept for the model as it is given."""
+    found = presolve(text, seconds=seconds)
+    if found.certificate:
+        for known in (judged(text, found.certificate)[0], known_in_python(model, found.certificate)):
+            if known != found.answer:
+                raise NotCertified(f"lpd presolve answers {found.answer}, and a checker says {known} to its certificate")
+    notes = [f"lpd presolve solved the model as it is, since the smaller one ended with {found.plain}"] if found.plain else []
+    return Answered(found.answer, found.certificate, way_to(found, model), BOTH if found.certificate else "", None, notes, found.reduced)
+
+
+def known_in_python(model: Model, certificate: List[str]) -> Optional[Answer]:
+    verdict = check_lines(model, certificate)
+    return verdict.known if isinstance(verdict, Accepted) else None
+
+
+def way_to(found: Presolved, model: Model) -> str:
+    if found.reduced is None:
+        return PRESOLVE
+    rows, columns = found.reduced
+    return f"{PRESOLVE}, which left {rows} of {len(model.rows)} rows and {columns} of {len(model.columns)} columns"
 
 
 @contextlib.contextmanager
@@ -115,12 +151,11 @@ def way_of(found: Exact, solver: str) -> str:
     return f"exact steps in Python from {begin}, {found.steps} of them"
 
 
-def by_others(text: str, model: Model, effort: Effort) -> Answered:
+def by_others(text: str, model: Model, effort: Effort, watch: Watch) -> Answered:
     """The answer from another solver's basis, or from none. OutOfTime says that the seconds were not enough."""
     solver = other_solver(effort.solver)
-    with Watch(effort.seconds) as watch:
-        claim = ask(solver, model, watch.left())
-        found = made_exact(text, model, claim, watch=watch)
+    claim = ask(solver, model, watch.left())
+    found = made_exact(text, model, claim, watch=watch)
     by_checker, why = judged(text, found.certificate)
     if by_checker is not None and by_checker != found.known:
         raise LpdError(f"lpd check says {by_checker}, and the checker in Python {found.known}")
@@ -128,16 +163,39 @@ def by_others(text: str, model: Model, effort: Effort) -> Answered:
     return Answered(found.known, found.certificate, way_of(found, solver), accepted, found.steps, found.notes)
 
 
+def by_program(text: str, model: Model, effort: Effort) -> Answered:
+    """The answer of the program's own solve, or of its presolve where that is asked for and the program has it."""
+    if not effort.presolve:
+        return by_lpd(text, model, effort.budget, effort.solve_seconds)
+    try:
+        return by_presolve(text, model, effort.solve_seconds)
+    except CommandMissing as missing:
+        found = by_lpd(text, model, effort.budget, effort.solve_seconds)
+        return replace(found, notes=[f"{missing}, so lpd solve was asked", *found.notes])
+
+
 def by_lpd_first(text: str, model: Model, effort: Effort) -> "tuple[Optional[Answered], str]":
     """The answer of the program's own solve, if it has one to a text with such numbers, and why that is not the end."""
     try:
-        found = by_lpd(text, model, effort.budget, effort.solve_seconds)
+        found = by_program(text, model, effort)
     except TextFault as fault:
         if fault.fault != TOO_WIDE or effort.only_lpd:
             raise
         return None, f"line {fault.line} of the model has a number past 127 bits"
     is_meant = isinstance(found.answer, Spent) and effort.budget is not None and effort.solver is None
-    return found, "" if found.certificate or effort.only_lpd or is_meant else f"lpd solve ends with {found.answer}"
+    ended = f"{found.way.partition(',')[0]} ends with {found.answer}"
+    return found, "" if found.certificate or effort.only_lpd or is_meant else ended
+
+
+def by_presolve_then(text: str, model: Model, first: Optional[Answered], watch: Watch) -> Optional[Answered]:
+    """The answer of `lpd presolve` where lpd solve ends past 127 bits, if the program has the command, and that one."""
+    if first is None or not first.is_by_lpd or not isinstance(first.answer, Past):
+        return None
+    try:
+        found = by_presolve(text, model, watch.left())
+    except (CommandMissing, OutOfTime):
+        return None
+    return found if found.certificate else None
 
 
 def answered(text: str, model: Model, effort: Effort = Effort()) -> Answered:
@@ -145,10 +203,12 @@ def answered(text: str, model: Model, effort: Effort = Effort()) -> Answered:
     first, ended = by_lpd_first(text, model, effort)
     if first is not None and not ended:
         return first
-    try:
-        found = by_others(text, model, effort)
-    except OutOfTime as late:
-        if first is None:
-            raise OutOfTime(f"{ended}, and {late}") from None
-        return replace(first, notes=[f"{ended}, and {late}"])
-    return replace(found, notes=[ended, *found.notes])
+    before = first.notes if first else []
+    with Watch(effort.seconds) as watch:
+        try:
+            found = by_presolve_then(text, model, first, watch) or by_others(text, model, effort, watch)
+        except OutOfTime as late:
+            if first is None:
+                raise OutOfTime(f"{ended}, and {late}") from None
+            return replace(first, notes=[*before, f"{ended}, and {late}"])
+    return replace(found, notes=[*before, ended, *found.notes])

@@ -120,7 +120,7 @@ class WithPulp(unittest.TestCase):
 
     def test_it_goes_on_by_itself(self) -> None:
         past = lpd.Answered(lpd.Past("ADD", Fraction(1), Fraction(2)), [], "lpd solve")
-        with mock.patch("lpd.ways.by_lpd", return_value=past):
+        with mock.patch("lpd.ways.by_lpd", return_value=past), mock.patch("lpd.ways.presolve", side_effect=lpd.CommandMissing("presolve")):
             problem = self.diet()
             self.assertEqual(problem.solve(LPD(msg=False, options=["--with", "none"])), pulp.LpStatusOptimal)
             self.assertEqual((self.milk.varValue, problem.exact.certified_with), (3.0, "none"))

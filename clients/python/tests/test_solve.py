@@ -158,7 +158,12 @@ class Shown(unittest.TestCase):
 
 @unittest.skipUnless(has_program(), "the program is not built")
 class GoingOn(unittest.TestCase):
-    """A model that lpd solve has no answer to."""
+    """A model that lpd solve has no answer to, nor lpd presolve."""
+
+    def setUp(self) -> None:
+        without = mock.patch("lpd.ways.presolve", side_effect=lpd.CommandMissing("presolve"))
+        without.start()
+        self.addCleanup(without.stop)
 
     def test_from_a_number_past_127_bits(self) -> None:
         said = command("solve", "-", "--with", "none", "--show", "answer", stdin=WIDE.encode())

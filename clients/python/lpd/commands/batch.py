@@ -12,7 +12,7 @@ from ..floating import CHOICES
 from ..reading import end_of, name_of
 from ..tables import LPD_CHECK, OTHER, PYTHON_ALONE, SAME, Cells, Kept, Writer, against, cells_of, columns_of, read_optima
 from ..ways import SECONDS, Effort
-from .common import add_options, budget, options_of, seconds, tell
+from .common import add_options, add_presolve, budget, options_of, seconds, tell
 
 INTERRUPTED = 130
 
@@ -29,7 +29,9 @@ def add(commands: "argparse._SubParsersAction[argparse.ArgumentParser]") -> None
     batch.add_argument("folder", help="a folder; its files *.mps, *.lp and *.mod, also with .gz, are taken in the order of their names")
     batch.add_argument("--form", choices=["free", "fixed"], help="the form of all texts (for each the one that fits)")
     add_options(batch)
-    batch.add_argument("--budget", type=budget, metavar="N", help="makes at most N pivots and flips a model, up to 1000000 (10000)")
+    own = batch.add_mutually_exclusive_group()
+    own.add_argument("--budget", type=budget, metavar="N", help="makes at most N pivots and flips a model, up to 1000000 (10000)")
+    add_presolve(own)
     batch.add_argument("--only-lpd", action="store_true", help="takes PAST and SPENT for the end, and goes no other way")
     batch.add_argument("--with", dest="solver", choices=CHOICES, help="certifies each model too, as the command certify does")
     batch.add_argument("--by", dest="way", choices=WAYS, help="what makes its basis exact, as in the command certify")
@@ -48,7 +50,7 @@ def add(commands: "argparse._SubParsersAction[argparse.ArgumentParser]") -> None
 
 def results(paths: List[Path], words: argparse.Namespace) -> Iterator[Result]:
     """The results by the engine that is asked for, as they come."""
-    effort = Effort(words.budget, words.only_lpd, words.solver, words.seconds)
+    effort = Effort(words.budget, words.only_lpd, words.solver, words.seconds, presolve=words.presolve)
     work = Work(words.form, options_of(words), effort, words.solver, words.way)
     if words.dask:
         return by_dask(paths, work, words.dask)
@@ -103,7 +105,7 @@ def run(words: argparse.Namespace) -> int:
         tell(f"lpd: two files of {words.folder} are named {name_of(twice)} but for their ends, and a table has each name once")
         return 2
     optima = read_optima(Path(words.optima).read_text(encoding="utf-8")) if words.optima else None
-    columns = columns_of(bool(words.solver), optima is not None)
+    columns = columns_of(bool(words.solver), optima is not None, words.presolve)
     kept = Kept(words.resume, columns) if words.resume else None
     writer = Writer("json" if words.json else "csv" if words.csv else "text", columns, [name_of(path) for path in paths])
     rows: List[Cells] = []

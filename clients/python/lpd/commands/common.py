@@ -114,6 +114,11 @@ def add_options(parser: argparse.ArgumentParser) -> None:
     parser.add_argument("--no-bound", choices=["1", "none"], help=no_bound)
 
 
+def add_presolve(group: "argparse._MutuallyExclusiveGroup") -> None:
+    """Stands beside --budget, since the program's presolve has a budget of its own."""
+    group.add_argument("--presolve", action="store_true", help="makes the model smaller first, and solves that, by lpd presolve")
+
+
 def options_of(words: argparse.Namespace) -> Options:
     return Options(words.relax, words.no_set, words.no_bound)
 

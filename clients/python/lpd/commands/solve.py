@@ -19,7 +19,7 @@ from ..replies import Answer, Infeasible, Optimal, Past, Spent, Unbounded
 from ..report import Report, conflict, report
 from ..version import version
 from ..ways import SECONDS, Answered, Effort, answered
-from .common import add_options, as_text, budget, converted, csv_line, decimals, number_in, options_of, put_beside, seconds, skipped_words
+from .common import add_options, add_presolve, as_text, budget, converted, csv_line, decimals, number_in, options_of, put_beside, seconds, skipped_words
 from .common import PYTHON_ALONE, status_of, table, tell, with_decimals
 
 SHOWN = ["all", "point", "rows", "prices", "answer"]
@@ -34,7 +34,9 @@ def add(commands: "argparse._SubParsersAction[argparse.ArgumentParser]") -> None
     sense = solve.add_mutually_exclusive_group()
     sense.add_argument("--max", action="store_true", help="maximizes, whatever the text says")
     sense.add_argument("--min", action="store_true", help="minimizes, whatever the text says")
-    solve.add_argument("--budget", type=budget, metavar="N", help="makes at most N pivots and flips, up to 1000000 (10000)")
+    own = solve.add_mutually_exclusive_group()
+    own.add_argument("--budget", type=budget, metavar="N", help="makes at most N pivots and flips, up to 1000000 (10000)")
+    add_presolve(own)
     solve.add_argument("--convert", action="store_true", help="converts the text from other dialects first, as the command convert does")
     add_options(solve)
     add_ways(solve)
@@ -57,7 +59,7 @@ def add_ways(parser: argparse.ArgumentParser) -> None:
 
 
 def effort_of(words: argparse.Namespace) -> Effort:
-    return Effort(words.budget, words.only_lpd, words.solver, words.seconds)
+    return Effort(words.budget, words.only_lpd, words.solver, words.seconds, presolve=words.presolve)
 
 
 def words_for(answer: Answer, model: Model, certificate: List[str]) -> str:
@@ -134,6 +136,8 @@ def as_json(found: Answered, model: Model, point: Optional[Report], show: str, p
         told["conflict"] = conflict_in_json(model, found.certificate)
     if point:
         told.update(parts_of(point, show, places))
+    if found.reduced:
+        told["reduced"] = found.reduced._asdict()
     return json.dumps({**told, "certificate": found.certificate, "lpd": version()}, indent=2)
 
 
@@ -207,7 +211,7 @@ def print_answer(words: argparse.Namespace, found: Answered, model: Model, point
     """The answer as people read it: first what was not read, and how the answer came where that was not lpd solve alone."""
     lines = [skipped] if skipped else []
     lines.append(shown_answer(found.answer, words.decimals))
-    if not found.is_by_lpd:
+    if not found.is_by_lpd and found.certificate:
         lines.append(found.told())
     print("\n".join(lines))
     for note in found.notes:
