@@ -43,6 +43,7 @@ from .errors import (
 )
 from .exact import OutOfTime
 from .from_basis import FromBasis, solve_from
+from .irreducible import Irreducible, Member, iis
 from .link import Link
 from .model import Model, read_model
 from .plotting import Turn, curve, plane, turns_of
@@ -78,6 +79,7 @@ __all__ = [
     "FromBasis",
     "Full",
     "Infeasible",
+    "Irreducible",
     "LimitReached",
     "LineTooLong",
     "Link",
@@ -86,6 +88,7 @@ __all__ = [
     "LinkTimeout",
     "Loaded",
     "LpdError",
+    "Member",
     "Model",
     "NameRepeated",
     "NameTaken",
@@ -127,6 +130,7 @@ __all__ = [
     "connect",
     "convert",
     "curve",
+    "iis",
     "plane",
     "presolve",
     "read_model",

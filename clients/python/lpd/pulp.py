@@ -7,6 +7,7 @@ varValue, dj, pi and slack as PuLP's own solvers do, in floats, and keeps in pro
 from __future__ import annotations
 
 import argparse
+import functools
 import math
 import numbers
 from dataclasses import dataclass, field
@@ -23,6 +24,7 @@ from .dialects import PROFILE, written
 from .errors import LpdError, ProgramMissing
 from .exact import OutOfTime
 from .floating import CHOICES
+from .irreducible import Irreducible, iis, renamed
 from .model import MOST_COLUMNS, MOST_ROWS, Column, Model, Row, is_name, read_model
 from .names import LONGEST, plain
 from .program import the_program
@@ -47,6 +49,14 @@ class Exact:
     certified_with: Optional[str] = None  # the other solver, where lpd itself had no answer
     way: str = ""
     accepted_by: str = ""
+    rows: Dict[str, str] = field(default_factory=dict)  # PuLP's names of the rows and columns of `text`
+    columns: Dict[str, str] = field(default_factory=dict)
+
+    @functools.cached_property
+    def conflict(self) -> Irreducible:
+        """Constraints and bounds of an infeasible problem that contradict each other, none of which can be left out, by PuLP's names,
+        from a solve of their own (`lpd iis`), as `lpd.iis` has them."""
+        return renamed(iis(self.text), self.rows, self.columns)
 
 
 def exactly(value: Any, binary: bool = False) -> Fraction:
@@ -186,6 +196,8 @@ class LPD(pulp.LpSolver):  # type: ignore[misc]
             raise pulp.PulpSolverError(f"lpd: {error}") from error
         other = None if found.is_by_program else other_solver(self.certify)
         lp.exact = Exact(found.answer, found.certificate, text, certified_with=other, way=found.way, accepted_by=found.accepted_by)
+        lp.exact.rows = dict(zip(model.rows, lp.constraints))
+        lp.exact.columns = dict(zip(model.columns, (variable.name for variable in lp.variables())))
         self.log([f"lpd: {found.answer}", *(f"lpd: {line}" for line in [*found.notes, *([] if found.is_by_lpd else [found.told()])])])
         put_values(lp, model, lp.exact)
         return put_status(lp, lp.exact.answer)

@@ -3,7 +3,7 @@ from __future__ import annotations
 
 from fractions import Fraction
 from types import TracebackType
-from typing import List, Mapping, Optional, Protocol, Sequence, Tuple, Type, Union
+from typing import TYPE_CHECKING, List, Mapping, Optional, Protocol, Sequence, Tuple, Type, Union
 
 from .certificate import check_lines
 from .errors import OutOfMemory, Unexpected, no_reply, refusal
@@ -13,6 +13,9 @@ from .number_text import NotANumber, parse, shown
 from .program import Program
 from .replies import Accepted, Answer, Infeasible, Known, Loaded, Optimal, Past, Rejected, Spent, Unbounded, Verdict
 from .replies import Basis, Cold, Fell, Found, Full, Publication, Published, Raced, Same, Start, Unpublished
+
+if TYPE_CHECKING:
+    from .irreducible import Irreducible
 
 # What may be given as a number: an int, a fraction, or its text, as "0.1". A float is not, since it is seldom what it looks like.
 Numeric = Union[int, Fraction, str]
@@ -228,6 +231,18 @@ class Session:
         if verdict is None:
             raise unexpected(words)
         return verdict
+
+    # ---- what the program's commands of one text say of the model; those modules import this one
+
+    def conflict(self) -> Irreducible:
+        """Limits of the model that contradict each other, none of which can be left out, as a program of this machine has them."""
+        from .irreducible import iis
+
+        return iis(self.write(), path=self.path())
+
+    def path(self) -> Optional[str]:
+        """Where the program is that the session is of, if it is one of this machine."""
+        return self.transport.path if isinstance(self.transport, Program) else None
 
     # ---- commands
 

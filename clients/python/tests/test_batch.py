@@ -24,7 +24,7 @@ from .models import has_program
 
 MODELS = Path(__file__).resolve().parents[3] / "examples" / "models"
 PACKAGE = Path(__file__).resolve().parents[1]
-NAMES = ["currency", "cycling", "diet", "orders", "plan.fixed", "teams", "transport"]
+NAMES = ["currency", "cycling", "departments", "diet", "orders", "plan.fixed", "teams", "transport"]
 WHOLE = "ROWS\n N cost\nCOLUMNS\n M1 'MARKER' 'INTORG'\n x cost 1\n M2 'MARKER' 'INTEND'\nENDATA\n"
 SETS = "NAME\nROWS\n N cost\n G a\n G b\nCOLUMNS\n x cost 2 a 1\n x b 1\nRHS\n RHS1 a 3\n RHS2 b 11\nENDATA\n"
 SECONDS = 300
@@ -96,15 +96,15 @@ class Batch(unittest.TestCase):
             words = (MODELS / f"{row['model']}.solved").read_text().splitlines()[0].split()
             self.assertEqual([row["answer"], row["value"]], [words[0], words[1] if len(words) > 1 else ""])
             self.assertEqual((row["way"], row["accepted by"]), ("lpd solve", "lpd check"))
-        self.assertIn("7/7 transport\n", said.complaints)
+        self.assertIn("8/8 transport\n", said.complaints)
 
     def test_a_table_and_csv(self) -> None:
         said = command("batch", str(MODELS), "--budget", "2")
-        self.assertIn("7 models: 1 INFEASIBLE, 5 SPENT, 1 UNBOUNDED; 2 accepted by lpd check, 0 by", said.output)
+        self.assertIn("8 models: 1 INFEASIBLE, 6 SPENT, 1 UNBOUNDED; 2 accepted by lpd check, 0 by", said.output)
         said = command("batch", str(MODELS), "--csv")
         lines = said.output.splitlines()
-        self.assertEqual((lines[0], len(lines)), (",".join(COLUMNS), 8))
-        self.assertTrue(lines[3].startswith("diet,3,6,OPTIMAL,92.5,lpd solve,lpd check,10,"))
+        self.assertEqual((lines[0], len(lines)), (",".join(COLUMNS), 9))
+        self.assertTrue(lines[4].startswith("diet,3,6,OPTIMAL,92.5,lpd solve,lpd check,10,"))
 
     def test_what_is_refused_and_asked(self) -> None:
         with tempfile.TemporaryDirectory() as folder:
@@ -143,7 +143,7 @@ class Batch(unittest.TestCase):
     @unittest.skipUnless(shutil.which("clp"), "clp is not on the path")
     def test_certificates(self) -> None:
         said = command("batch", str(MODELS), "--with", "clp")
-        self.assertIn("7 certified by lpd check, 0 by the checker in Python alone", said.output)
+        self.assertIn("8 certified by lpd check, 0 by the checker in Python alone", said.output)
 
 
 @unittest.skipUnless(has_program(), "the program is not built")

@@ -3,6 +3,7 @@ from __future__ import annotations
 
 import argparse
 import json
+import sys
 from dataclasses import replace
 from fractions import Fraction
 from typing import Dict, List, Optional, Tuple
@@ -21,6 +22,7 @@ from ..version import version
 from ..ways import SECONDS, Answered, Effort, answered
 from .common import add_options, add_presolve, as_text, budget, converted, csv_line, decimals, number_in, options_of, put_beside, seconds, skipped_words
 from .common import PYTHON_ALONE, status_of, table, tell, with_decimals
+from .conflicts import add_iis, found_limits, limits_in_json, print_list, print_sentences
 
 SHOWN = ["all", "point", "rows", "prices", "answer"]
 LONG = 40  # a fraction of more characters is shown with decimals beside it
@@ -44,6 +46,7 @@ def add(commands: "argparse._SubParsersAction[argparse.ArgumentParser]") -> None
     solve.add_argument("--decimals", type=decimals, metavar="D", help="shows D decimals, rounded, beside each fraction; in CSV in place of it")
     solve.add_argument("-o", "--output", metavar="FILE", help="where the answer and its certificate go too, as lpd solve prints them")
     solve.add_argument("--page", metavar="FILE", help="writes a page that checks the model and its certificate in a browser")
+    add_iis(solve)
     output = solve.add_mutually_exclusive_group()
     output.add_argument("--json", action="store_true", help="an object, as docs/JSON.md has it")
     output.add_argument("--csv", action="store_true", help="a line for each column and row")
@@ -126,7 +129,8 @@ def conflict_in_json(model: Model, certificate: List[str]) -> Dict[str, object]:
     return {**told, "rows": rows, "asked": shown(found.asked), "allowed": shown(found.allowed)}
 
 
-def as_json(found: Answered, model: Model, point: Optional[Report], show: str, places: Optional[int]) -> str:
+def as_json(found: Answered, model: Model, point: Optional[Report], show: str, places: Optional[int], more: Dict[str, object]) -> str:
+    """An object with the answer and its parts, and with `more`, which is asked for by name."""
     answer = found.answer
     told: Dict[str, object] = {"answer": str(answer), "kind": str(answer).split(" ")[0]}
     if isinstance(answer, Optimal):
@@ -138,7 +142,7 @@ def as_json(found: Answered, model: Model, point: Optional[Report], show: str, p
         told.update(parts_of(point, show, places))
     if found.reduced:
         told["reduced"] = found.reduced._asdict()
-    return json.dumps({**told, "certificate": found.certificate, "lpd": version()}, indent=2)
+    return json.dumps({**told, **more, "certificate": found.certificate, "lpd": version()}, indent=2)
 
 
 def as_csv(answer: Answer, point: Optional[Report], show: str, places: Optional[int]) -> str:
@@ -200,11 +204,28 @@ def run(words: argparse.Namespace) -> int:
     if words.json or words.csv:
         if skipped:
             tell(skipped)
-        is_json = as_json(found, model, point, words.show, words.decimals) if words.json else ""
+        is_json = as_json(found, model, point, words.show, words.decimals, more_in_json(words, text, found)) if words.json else ""
         print(is_json or as_csv(found.answer, point, words.show, words.decimals))
     else:
         print_answer(words, found, model, point, skipped)
+        sys.stdout.flush()
+        print_more(words, text, found)
     return status_of(found.answer) if found.is_narrow or not found.certificate else PYTHON_ALONE
+
+
+def more_in_json(words: argparse.Namespace, text: str, found: Answered) -> Dict[str, object]:
+    """The members that are asked for by name: null where they are not known."""
+    return {"iis": limits_in_json(found_limits(words, text, found.answer), words.decimals)} if words.iis else {}
+
+
+def print_more(words: argparse.Namespace, text: str, found: Answered) -> None:
+    """Of an infeasible model which limits contradict each other."""
+    if words.iis or isinstance(found.answer, Infeasible) and words.show != "answer":
+        limits = found_limits(words, text, found.answer)
+        if limits and words.show != "answer":
+            print_sentences(limits)
+        if limits and words.iis:
+            print_list(limits, words.decimals)
 
 
 def print_answer(words: argparse.Namespace, found: Answered, model: Model, point: Optional[Report], skipped: str) -> None:
