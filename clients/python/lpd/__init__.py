@@ -46,9 +46,11 @@ from .from_basis import FromBasis, solve_from
 from .irreducible import Irreducible, Member, iis
 from .link import Link
 from .model import Model, read_model
+from .pieces import Curve, Piece, curve_of
 from .plotting import Turn, curve, plane, turns_of
 from .presolving import Presolved, presolve
 from .program import Program, run
+from .ranging import Range, Ranges, ranges
 from .replies import Accepted, Answer, Infeasible, Loaded, Optimal, Past, Rejected, Spent, Unbounded, Verdict
 from .replies import Basis, Cold, Fell, Found, Full, Published, Raced, Same, Unpublished
 from .report import ColumnReport, Conflict, ConflictRow, Report, RowReport, conflict, report
@@ -73,6 +75,7 @@ __all__ = [
     "ConflictRow",
     "ConnectFailed",
     "Converted",
+    "Curve",
     "Effort",
     "Fell",
     "Found",
@@ -100,6 +103,7 @@ __all__ = [
     "OutOfMemory",
     "OutOfTime",
     "Past",
+    "Piece",
     "Presolved",
     "Program",
     "ProgramEnded",
@@ -107,6 +111,8 @@ __all__ = [
     "Published",
     "Question",
     "Raced",
+    "Range",
+    "Ranges",
     "Refused",
     "Rejected",
     "Report",
@@ -130,9 +136,11 @@ __all__ = [
     "connect",
     "convert",
     "curve",
+    "curve_of",
     "iis",
     "plane",
     "presolve",
+    "ranges",
     "read_model",
     "report",
     "run",

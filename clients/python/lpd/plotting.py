@@ -6,7 +6,6 @@ point is solved: every kink is found, exactly.
 """
 from __future__ import annotations
 
-from dataclasses import replace
 from fractions import Fraction
 from typing import Callable, List, NamedTuple, Optional, Sequence
 
@@ -14,6 +13,7 @@ from .dialects import PROFILE, written
 from .errors import LpdError
 from .model import ZERO, Limits, Model
 from .number_text import shown
+from .ranging import COST, RHS, with_number
 from .replies import Optimal
 from .report import report
 from .svg import Box, Picture, Point, box_around, label
@@ -173,12 +173,9 @@ def kinks(solve: Callable[[Fraction], Turn], first: Turn, last: Turn) -> List[Tu
     return [*kinks(solve, first, turn), turn, *kinks(solve, turn, last)]
 
 
-def with_number(model: Model, rhs: Optional[str], cost: Optional[str], number: Fraction) -> Model:
+def with_number_of(model: Model, rhs: Optional[str], cost: Optional[str], number: Fraction) -> Model:
     """The model with another right side of a row, or another cost of a column."""
-    if rhs is not None:
-        return replace(model, rows={**model.rows, rhs: replace(model.rows[rhs], rhs=number)})
-    name = cost or ""
-    return replace(model, columns={**model.columns, name: replace(model.columns[name], cost=number)})
+    return with_number(model, RHS, rhs, number) if rhs is not None else with_number(model, COST, cost or "", number)
 
 
 def turns_of(model: Model, rhs: Optional[str], cost: Optional[str], low: Fraction, high: Fraction, effort: Effort = Effort()) -> List[Turn]:
@@ -189,7 +186,7 @@ def turns_of(model: Model, rhs: Optional[str], cost: Optional[str], low: Fractio
         raise NoPicture(f"from {shown(low)} to {shown(high)} there is nothing to be shown")
 
     def solve(number: Fraction) -> Turn:
-        changed = with_number(model, rhs, cost, number)
+        changed = with_number_of(model, rhs, cost, number)
         found = answered(written(changed, PROFILE).text, changed, effort)
         if not isinstance(found.answer, Optimal):
             raise NoPicture(f"at {shown(number)} the answer is {found.answer}: choose other ends by --from and --to")

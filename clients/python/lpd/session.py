@@ -16,6 +16,7 @@ from .replies import Basis, Cold, Fell, Found, Full, Publication, Published, Rac
 
 if TYPE_CHECKING:
     from .irreducible import Irreducible
+    from .ranging import Ranges
 
 # What may be given as a number: an int, a fraction, or its text, as "0.1". A float is not, since it is seldom what it looks like.
 Numeric = Union[int, Fraction, str]
@@ -233,6 +234,12 @@ class Session:
         return verdict
 
     # ---- what the program's commands of one text say of the model; those modules import this one
+
+    def ranges(self) -> Ranges:
+        """The ranges of all costs and right sides of the model, as a program of this machine has them of a cold solve."""
+        from .ranging import ranges
+
+        return ranges(self.write(), path=self.path())
 
     def conflict(self) -> Irreducible:
         """Limits of the model that contradict each other, none of which can be left out, as a program of this machine has them."""

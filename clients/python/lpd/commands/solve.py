@@ -15,6 +15,7 @@ from ..floating import CHOICES
 from ..model import Model, read_model
 from ..number_text import rounded, shown
 from ..page import write_page
+from ..ranging import COST, RHS, Ranges
 from ..reading import is_lp, read_model_file
 from ..replies import Answer, Infeasible, Optimal, Past, Spent, Unbounded
 from ..report import Report, conflict, report
@@ -23,6 +24,7 @@ from ..ways import SECONDS, Answered, Effort, answered
 from .common import add_options, add_presolve, as_text, budget, converted, csv_line, decimals, number_in, options_of, put_beside, seconds, skipped_words
 from .common import PYTHON_ALONE, status_of, table, tell, with_decimals
 from .conflicts import add_iis, found_limits, limits_in_json, print_list, print_sentences
+from .range_tables import add_ranges, asked_ranges, csv_cells, draw, number_named, print_ranges, ranges_in_json
 
 SHOWN = ["all", "point", "rows", "prices", "answer"]
 LONG = 40  # a fraction of more characters is shown with decimals beside it
@@ -46,6 +48,7 @@ def add(commands: "argparse._SubParsersAction[argparse.ArgumentParser]") -> None
     solve.add_argument("--decimals", type=decimals, metavar="D", help="shows D decimals, rounded, beside each fraction; in CSV in place of it")
     solve.add_argument("-o", "--output", metavar="FILE", help="where the answer and its certificate go too, as lpd solve prints them")
     solve.add_argument("--page", metavar="FILE", help="writes a page that checks the model and its certificate in a browser")
+    add_ranges(solve)
     add_iis(solve)
     output = solve.add_mutually_exclusive_group()
     output.add_argument("--json", action="store_true", help="an object, as docs/JSON.md has it")
@@ -145,8 +148,9 @@ def as_json(found: Answered, model: Model, point: Optional[Report], show: str, p
     return json.dumps({**told, **more, "certificate": found.certificate, "lpd": version()}, indent=2)
 
 
-def as_csv(answer: Answer, point: Optional[Report], show: str, places: Optional[int]) -> str:
-    """A line for the answer, one for each column (value, reduced cost), and one for each row (sum, price, slack)."""
+def as_csv(answer: Answer, point: Optional[Report], show: str, places: Optional[int], ranges: Optional[Ranges]) -> str:
+    """A line for the answer, one for each column (value, reduced cost), and one for each row (sum, price, slack); of ranges also the
+    cost, or the right side, and the ends of its range."""
 
     def cell(value: Optional[Fraction], shows: bool = True) -> str:
         return "" if value is None or not shows else shown(value) if places is None else rounded(value, places)
@@ -158,6 +162,10 @@ def as_csv(answer: Answer, point: Optional[Report], show: str, places: Optional[
         lines += [["column", c.name, cell(c.value, is_whole), cell(c.reduced_cost), ""] for c in point.columns]
     if point and show in ("all", "rows", "prices"):
         lines += [["row", r.name, cell(r.activity, is_whole), cell(r.price), cell(r.slack, is_whole)] for r in point.rows]
+    if ranges:
+        lines[0] += ["now", "low", "high"]
+        for line in lines[1:]:
+            line += csv_cells(ranges, COST if line[0] == "column" else RHS, line[1], places) if line[0] != "answer" else ["", "", ""]
     return "\n".join(csv_line(line) for line in lines)
 
 
@@ -194,6 +202,7 @@ def loaded(words: argparse.Namespace) -> Tuple[str, Model, bool]:
 
 def run(words: argparse.Namespace) -> int:
     text, model, is_other = loaded(words)
+    number = number_named(model, words.plot) if words.plot else None
     found = answered(text, model, effort_of(words))
     if words.output:
         put_beside(words.output, [str(found.answer), *found.certificate], text if is_other else None)
@@ -204,22 +213,31 @@ def run(words: argparse.Namespace) -> int:
     if words.json or words.csv:
         if skipped:
             tell(skipped)
-        is_json = as_json(found, model, point, words.show, words.decimals, more_in_json(words, text, found)) if words.json else ""
-        print(is_json or as_csv(found.answer, point, words.show, words.decimals))
+        ranges = asked_ranges(words, text, found.answer)
+        is_json = as_json(found, model, point, words.show, words.decimals, more_in_json(words, text, found, ranges)) if words.json else ""
+        print(is_json or as_csv(found.answer, point, words.show, words.decimals, ranges))
     else:
         print_answer(words, found, model, point, skipped)
         sys.stdout.flush()
         print_more(words, text, found)
+    if number:
+        draw(model, number, words.picture)
     return status_of(found.answer) if found.is_narrow or not found.certificate else PYTHON_ALONE
 
 
-def more_in_json(words: argparse.Namespace, text: str, found: Answered) -> Dict[str, object]:
+def more_in_json(words: argparse.Namespace, text: str, found: Answered, ranges: Optional[Ranges]) -> Dict[str, object]:
     """The members that are asked for by name: null where they are not known."""
-    return {"iis": limits_in_json(found_limits(words, text, found.answer), words.decimals)} if words.iis else {}
+    more: Dict[str, object] = {"ranges": ranges_in_json(ranges, words.decimals)} if words.ranges else {}
+    if words.iis:
+        more["iis"] = limits_in_json(found_limits(words, text, found.answer), words.decimals)
+    return more
 
 
 def print_more(words: argparse.Namespace, text: str, found: Answered) -> None:
-    """Of an infeasible model which limits contradict each other."""
+    """What is asked for behind the answer, and of an infeasible model which limits contradict each other."""
+    ranges = asked_ranges(words, text, found.answer)
+    if ranges:
+        print_ranges(ranges, words.decimals)
     if words.iis or isinstance(found.answer, Infeasible) and words.show != "answer":
         limits = found_limits(words, text, found.answer)
         if limits and words.show != "answer":

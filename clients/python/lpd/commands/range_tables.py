@@ -1,0 +1,159 @@
+"""What the command solve shows of ranges: tables with the heads that `glpsol --ranges` has, members of JSON, cells of CSV, and a
+picture of the optimum over one number."""
+from __future__ import annotations
+
+import argparse
+from fractions import Fraction
+from pathlib import Path
+from typing import Dict, List, Mapping, Optional, Sequence, Tuple
+
+from ..errors import CommandMissing, Refused
+from ..exact import Watch
+from ..model import Model
+from ..number_text import rounded, shown
+from ..pieces import Curve, curve_of, picture_of
+from ..plotting import NoPicture
+from ..ranging import COST, RHS, Range, Ranged, Ranges, ranges
+from ..replies import Answer, Optimal
+from .common import number_in, put, table, tell
+
+PLACES = 4  # of the decimals beside quotients where nothing is said
+
+
+def add_ranges(parser: argparse.ArgumentParser) -> None:
+    shows = "shows for each cost and right side in which range the basis of the optimum stays optimal, and what limits it"
+    parser.add_argument("--ranges", action="store_true", help=shows)
+    draws = "draws the optimum over the right side of this row, or the cost of this column, beyond the range of the basis"
+    parser.add_argument("--plot", metavar="NAME", help=f"{draws}; rhs:NAME and cost:NAME where both have the name")
+    parser.add_argument("--picture", metavar="FILE", help="where that picture goes, as SVG (NAME.svg)")
+
+
+def asked_ranges(words: argparse.Namespace, text: str, answer: Answer) -> Optional[Ranges]:
+    """The ranges, where they are asked for and there are any. Why there are none is told in a line."""
+    if not words.ranges:
+        return None
+    if not isinstance(answer, Optimal):
+        tell(f"lpd: there are no ranges: --ranges are those of an optimum, and the answer is {answer}")
+        return None
+    try:
+        with Watch() as watch:
+            found = ranges(text, tell=lambda done, count: watch.tell(f"{done} of {count} ranges"))
+    except (CommandMissing, Refused) as why:
+        tell(f"lpd: there are no ranges: {why}")
+        return None
+    if not isinstance(found.answer, Optimal):
+        tell(f"lpd: there are no ranges: lpd range ends with {found.answer}")
+        return None
+    return found
+
+
+# ---- tables
+
+
+def both(value: Optional[Fraction], places: Optional[int]) -> str:
+    """A number, with a decimal beside it where it is a quotient, or where decimals are asked for."""
+    if value is None:
+        return ""
+    text = shown(value)
+    return text if places is None and "/" not in text else f"{text} ({rounded(value, PLACES if places is None else places)})"
+
+
+def lines_of(name: str, found: Ranged, places: Optional[int]) -> List[List[str]]:
+    """Two lines: of the lower end of the range, and of the upper one."""
+    if not isinstance(found, Range):
+        return [[name, "", "", str(found), "", ""]]
+    ends = [("from", found.low, "-inf", found.below), ("to  ", found.high, "inf", found.above)]
+    lines = []
+    for word, end, without, limiting in ends:
+        there = "" if end is None else both(found.optimum(end), places)
+        lines.append(["", "", "", f"{word} {both(end, places) or without}", there, "; ".join(limiting)])
+    lines[0][:3] = [name, both(found.now, places), both(found.slope, places)]
+    return lines
+
+
+def table_of(found: Mapping[str, Ranged], heads: Sequence[str], places: Optional[int]) -> str:
+    return table([list(heads), *(line for name, one in found.items() for line in lines_of(name, one, places))])
+
+
+def print_ranges(found: Ranges, places: Optional[int]) -> None:
+    behind = ["obj value at break point", "limiting variable"]
+    print("\n" + table_of(found.costs, ["column", "obj coef", "value", "obj coef range", *behind], places))
+    print("\n" + table_of(found.sides, ["row", "right side", "price", "right side range", *behind], places))
+
+
+def in_json(found: Ranged, places: Optional[int]) -> Dict[str, object]:
+    if not isinstance(found, Range):
+        return {"past": str(found)}
+    low, high = found.low, found.high
+    values: Dict[str, Optional[Fraction]] = {"now": found.now, "low": low, "high": high, "slope": found.slope}
+    values["value_at_low"] = None if low is None else found.optimum(low)
+    values["value_at_high"] = None if high is None else found.optimum(high)
+    told: Dict[str, object] = {name: None if value is None else shown(value) for name, value in values.items()}
+    decimals = {name: number_in(value, places) for name, value in values.items()}
+    return {**told, "decimals": decimals, "below": found.below, "above": found.above}
+
+
+def ranges_in_json(found: Optional[Ranges], places: Optional[int]) -> Optional[Dict[str, object]]:
+    if found is None:
+        return None
+    parts = {"costs": found.costs, "right_sides": found.sides}
+    return {part: {name: in_json(one, places) for name, one in named.items()} for part, named in parts.items()}
+
+
+def csv_cells(found: Optional[Ranges], what: str, name: str, places: Optional[int]) -> List[str]:
+    """The number as it is, and the ends of its range, or nothing where they are not known."""
+    one = None if found is None else (found.costs if what == COST else found.sides).get(name)
+    if not isinstance(one, Range):
+        return ["", "", ""]
+    ends = [shown(value) if places is None else rounded(value, places) for value in (one.now, one.low, one.high) if value is not None]
+    return [ends.pop(0), "-inf" if one.low is None else ends.pop(0), "inf" if one.high is None else ends.pop(0)]
+
+
+# ---- the picture
+
+
+def number_named(model: Model, word: str) -> Tuple[str, str]:
+    """Which number of a model is meant: a cost or a right side, and of whom."""
+    kinds = {RHS: set(model.rows), COST: set(model.columns)}
+    for what, names in kinds.items():
+        name = word[len(what) + 1 :]
+        if word == f"{what}:{name}" and name in names and not any(word in others for others in kinds.values()):
+            return what, name
+    found = [what for what, names in kinds.items() if word in names]
+    if not found:
+        raise NoPicture(f"the model has no row and no column {word}")
+    if len(found) == 2:
+        raise NoPicture(f"{word} is a row and a column: rhs:{word} is the right side of the one, cost:{word} the cost of the other")
+    return found[0], word
+
+
+def draw(model: Model, number: Tuple[str, str], path: Optional[str]) -> None:
+    """Writes the picture, and tells the pieces of the optimum; or why there is none."""
+    what, name = number
+    try:
+        answer, found = curve_of(model, what, name)
+    except (CommandMissing, Refused) as why:
+        tell(f"lpd: there is no picture: {why}")
+        return
+    if not isinstance(found, Curve):
+        tell(f"lpd: there is no picture: lpd range ends with {answer if found is None else found}")
+        return
+    for line in lines_of_curve(found):
+        tell(line)
+    file = path or f"{Path(name.replace('/', '_')).name}.svg"
+    put(picture_of(found, name, "cost of" if what == COST else "right side of"), file)
+    tell(f"{file} has the picture")
+
+
+def lines_of_curve(found: Curve) -> List[str]:
+    """The pieces in words, as the command plot tells them, and what is beyond them."""
+    lines = []
+    for piece in found.pieces:
+        ends = [(None if end is None else shown(end), "" if end is None else shown(piece.optimum(end))) for end in (piece.low, piece.high)]
+        span = f"from {ends[0][0] or '-inf'} to {ends[1][0] or 'inf'}"
+        values = " to ".join(value for _, value in ends if value) or shown(piece.value)
+        lines.append(f"{span}: {values}, {shown(piece.slope)} for each unit ({rounded(piece.slope, PLACES)})")
+    below, above = found.beyond.get(-1), found.beyond.get(1)
+    lines += [f"below {shown(found.pieces[0].low)}: {below}"] if below and found.pieces[0].low is not None else []
+    lines += [f"above {shown(found.pieces[-1].high)}: {above}"] if above and found.pieces[-1].high is not None else []
+    return lines
