@@ -213,6 +213,8 @@ def run(words: argparse.Namespace) -> int:
     if words.json or words.csv:
         if skipped:
             tell(skipped)
+        if words.csv and words.iis:
+            tell("lpd: there is no list: --iis is for text and --json, and CSV has no cells for it")
         ranges = asked_ranges(words, text, found.answer)
         is_json = as_json(found, model, point, words.show, words.decimals, more_in_json(words, text, found, ranges)) if words.json else ""
         print(is_json or as_csv(found.answer, point, words.show, words.decimals, ranges))
