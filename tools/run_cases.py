@@ -5,7 +5,7 @@
 
 A case begins with a line '== NAME: WORDS', where WORDS are those of the command line. The lines of its input follow a line
 '-- in', and those of its output a line '-- out'. A line '-- status N' after them gives the status, if it is not 0, and a line
-'-- says TEXT' the first line on standard error, of which nothing is asked otherwise. In the input a line '%repeat N TEXT'
+'-- says TEXT' the next line on standard error, from the first one on, of which nothing is asked otherwise. In the input a line '%repeat N TEXT'
 stands for TEXT N times on one line, '%pad N TEXT' for TEXT with blanks up to N bytes, '%return TEXT' for TEXT with a carriage
 return behind it, '%lines N TEXT' for N lines, each with its number from 0 on in place of the '@' of TEXT, and '%cut' as the
 last line removes the line feed before it.
@@ -18,7 +18,7 @@ import sys
 
 class Case:
     def __init__(self, name, words):
-        self.name, self.words, self.status, self.says = name, words, 0, None
+        self.name, self.words, self.status, self.says = name, words, 0, []
         self.parts = {"in": [], "out": []}
 
 
@@ -35,7 +35,8 @@ def cases_of(table):
         elif line.startswith("-- status "):
             cases[-1].status, part = int(line[10:]), None
         elif line.startswith("-- says "):
-            cases[-1].says, part = line[8:], None
+            cases[-1].says.append(line[8:])
+            part = None
         elif part is not None:
             part.append(line)
         elif line and not line.startswith("#"):
@@ -85,8 +86,8 @@ def fault_of(case, program):
         return "no end within ten minutes"
     if run.returncode != case.status:
         return "expected the status %d, got %d" % (case.status, run.returncode)
-    said = run.stderr.decode("latin-1").split("\n")[0]
-    if case.says not in (None, said):
+    said = run.stderr.decode("latin-1").split("\n")[: len(case.says)]
+    if said != case.says:
         return "expected %r on standard error, got %r" % (case.says, said)
     return difference(bytes_of(case.parts["out"]), run.stdout)
 

@@ -7,7 +7,7 @@ import unittest
 from pathlib import Path
 
 TOP = Path(__file__).resolve().parents[3]
-PROGRAM = "#!/bin/sh\n[ $# != 0 ] && echo ran \"$@\" && exit\necho lpd: bad command line: there is no word >&2\nexit 2\n"
+PROGRAM = "#!/bin/sh\n[ $# != 0 ] && echo ran \"$@\" && exit\necho lpd: bad command line >&2\nexit 2\n"
 
 
 class Launcher(unittest.TestCase):

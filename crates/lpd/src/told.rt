@@ -28,7 +28,7 @@ pub fn tell(
 
 fn what_happened(status: ExitStatus) -> Option<&'static str> {
     match status {
-        ExitStatus::BAD_COMMAND_LINE => Some("bad command line: a word is not UTF-8"),
+        ExitStatus::BAD_COMMAND_LINE => Some("bad command line\nlpd: a word is not UTF-8"),
         ExitStatus::READ => Some("standard input could not be read (status 3)"),
         ExitStatus::WRITE => Some("standard output could not be written (status 4)"),
         ExitStatus::NO_MEMORY => Some("out of memory (status 5)"),

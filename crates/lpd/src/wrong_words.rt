@@ -12,20 +12,21 @@ const NOTICES: [&str; 2] = ["--help", "--version"];
 // The commands that read standard input: a word behind them is often the name of a file.
 const READERS: [&str; 5] = ["run", "solve", "check", "basis", "range"];
 
-/// Writes on standard error why the words are no command line. Where memory runs out, it says no more than that they are
-/// none.
+/// Writes on standard error that the words are no command line, and behind that line why. Where memory runs out, it says
+/// no more than what it has said by then.
 pub fn tell_words(rt: &HostRuntime, alloc: Global, words: &[String]) -> io::Result<()> {
+    eprintln!(rt; "lpd: bad command line")?;
     let (Some(first), Some(fault)) = (words.first(), word_fault(words)) else {
-        eprintln!(rt; "lpd: bad command line: there is no word")?;
+        eprintln!(rt; "lpd: there is no word")?;
         let text = usage(alloc)?;
         return eprint!(rt; "{text}");
     };
     let command = command_of(first.as_str());
     let fault = fault_behind(command, words, fault);
     let Ok(why) = reason_and_hint(alloc, command, fault) else {
-        return eprintln!(rt; "lpd: bad command line");
+        return Ok(());
     };
-    eprintln!(rt; "lpd: bad command line: {why}")?;
+    eprintln!(rt; "lpd: {why}")?;
     if let Some(command) = command {
         let line = line_of(alloc, command)?;
         eprintln!(rt; "Usage: {line}")?;
