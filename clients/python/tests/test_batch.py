@@ -27,7 +27,7 @@ PACKAGE = Path(__file__).resolve().parents[1]
 NAMES = ["currency", "cycling", "departments", "diet", "orders", "plan.fixed", "teams", "transport"]
 WHOLE = "ROWS\n N cost\nCOLUMNS\n M1 'MARKER' 'INTORG'\n x cost 1\n M2 'MARKER' 'INTEND'\nENDATA\n"
 SETS = "NAME\nROWS\n N cost\n G a\n G b\nCOLUMNS\n x cost 2 a 1\n x b 1\nRHS\n RHS1 a 3\n RHS2 b 11\nENDATA\n"
-SECONDS = 300
+SECONDS = 1200
 COLUMNS = ["model", "rows", "columns", "answer", "value", "way", "accepted by", "pivots", "seconds", "note"]
 
 

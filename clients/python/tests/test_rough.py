@@ -61,7 +61,7 @@ class RoughBasis(unittest.TestCase):
                 return True
 
         for stream, said in ((Terminal(), "\r\x1b[K3 exact steps in Python, all limits are kept, 5 seconds\r\x1b[K"), (io.StringIO(), "")):
-            with mock.patch("sys.stderr", stream), Watch(60) as watch:
+            with mock.patch("sys.stderr", stream), mock.patch("time.monotonic", return_value=100.0), Watch(60) as watch:
                 watch.started -= 5
                 watch.step(3, "all limits are kept")
                 watch.step(4, "all limits are kept")  # within the same second
