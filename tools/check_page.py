@@ -1,7 +1,7 @@
 #!/usr/bin/env python3
 """Opens web/check.html in Chromium, from its file and without a window, and checks what it says.
 
-    check_page.py [--all] [--seed N] [--certificates DIR] [--pictures DIR] [PROGRAM]
+    check_page.py [--all] [--seed N] [--models DIR] [--certificates DIR] [--pictures DIR] [PROGRAM]
 
 It checks that
 
@@ -16,20 +16,23 @@ It checks that
 - a model of 256 rows, 512 columns and 100,000 entries is checked while the page goes on, a text of 66 MB is read, and
   one of 70 MB refused in words.
 
-With --all it makes 500 models, instead of 40, for each of the three. With --certificates it also checks each pair of
-NAME.mps (or NAME.fixed.mps) and NAME.certificate in DIR, which all have to be accepted. With --pictures it takes the
-pictures of docs/. Without PROGRAM the checker of clients/python stands for it. It prints what is wrong, and the status
+With --all it makes 500 models, instead of 40, for each of the three. With --models it makes the basis at which glpsol stops on
+each model DIR/*.mps exact, as `certify --by python` of clients/python does, in numbers of any width, and the page has to accept
+that certificate for the text, or for what it is converted to. With --certificates it checks each pair of NAME.mps (or
+NAME.fixed.mps) and NAME.certificate in DIR, which all have to be accepted. With --pictures it takes the pictures of docs/. Without PROGRAM the checker of clients/python stands for it. It prints what is wrong, and the status
 is 1 where something is.
 """
 import argparse
 import base64
 import json
+import os
 import random
 import re
 import subprocess
 import sys
 import tempfile
 import time
+from fractions import Fraction
 from pathlib import Path
 
 TOP = Path(__file__).resolve().parent.parent
@@ -38,6 +41,8 @@ sys.path.insert(0, str(TOP / "clients" / "python"))
 import build_page  # noqa: E402
 import lpd  # noqa: E402
 from browser import Browser, find_browser  # noqa: E402
+from lpd.certifying import PYTHON, certify  # noqa: E402
+from lpd.conversion import Options, convert  # noqa: E402
 from lpd.page import page_with  # noqa: E402
 from made_models import Made, Maker, mutated, with_one_number_changed  # noqa: E402
 from page_texts import CLAIMS, FAULTS, edges, large_model  # noqa: E402
@@ -121,6 +126,12 @@ def by_python(made, wide):
     except lpd.Refused as refused:
         return refused.reply, ""
     return str(verdict), getattr(verdict, "why", None) or ""
+
+
+def bits_of(line):
+    """The bits of the number in a line of a certificate."""
+    number = Fraction(line.split()[2]) if line.count(" ") == 2 else Fraction(0)
+    return max(number.numerator.bit_length(), number.denominator.bit_length())
 
 
 def by_program(program, made):
@@ -273,6 +284,25 @@ class PageCheck:
             expect(line.startswith("YES "), f"{path.name}: {line} {reason}")
             same(line, by_python(made, True)[0], path.name)
             self.count("certificates of the folder")
+
+    def check_models(self):
+        """What holds of each model of a folder, in numbers of any width: its text as it is, and what it is converted to."""
+        widest = 0
+        for path in sorted(Path(self.words.models).glob("*.mps")):
+            data = path.read_bytes().rstrip(b"\n") + b"\n"
+            text = convert(data, None, Options(wide=True)).text
+            found = certify(text, way=PYTHON)
+            certificate = "".join(f"{line}\n" for line in found.certificate)
+            mades = [Made(data.decode("latin-1"), fixed, certificate) for fixed in (False, True)]
+            mades = [made for made in mades if by_python(made, True)[0].startswith("YES ")]
+            self.count("models of the folder")
+            self.count("of their texts as they are", len(mades))
+            mades.append(Made(text, False, certificate))
+            for made, (line, reason, _) in zip(mades, self.batch([(made, True) for made in mades])):
+                same(line, f"YES {found.known}", f"{path.name}, {'fixed' if made.fixed else 'free'} form: {reason}")
+            self.count("of them past 127 bits", not found.narrow)
+            widest = max(widest, *map(bits_of, found.certificate))
+        self.count("bits of the widest number", widest)
 
     # What a person does
 
@@ -440,10 +470,13 @@ def main():
     parser = argparse.ArgumentParser(description="Checks web/check.html in Chromium.")
     parser.add_argument("--all", action="store_true", help="500 made models, instead of 40")
     parser.add_argument("--seed", type=int, default=1, metavar="N", help="of what is made (1)")
+    parser.add_argument("--models", metavar="DIR", help="models, each of which is certified and checked")
     parser.add_argument("--certificates", metavar="DIR", help="pairs of NAME.mps and NAME.certificate, all right")
     parser.add_argument("--pictures", metavar="DIR", help="where pictures of three states are put, as docs/ has them")
     parser.add_argument("program", nargs="?", help="the proved program")
     words = parser.parse_args()
+    if words.program:
+        os.environ["LPD"] = words.program = os.path.abspath(words.program)
     wrong, started = 0, time.monotonic()
     program = find_browser()
     if program is None:
@@ -453,8 +486,8 @@ def main():
         checks = [page.check_build, page.check_policy, page.check_silence, page.check_examples, page.check_faults,
                   page.check_cases, page.check_made, page.check_claims, page.check_answer, page.check_tables,
                   page.check_reports, page.check_keys, page.check_files, page.check_large, page.check_megabytes]
-        if words.certificates:
-            checks.append(page.check_certificates)
+        checks += [page.check_models] if words.models else []
+        checks += [page.check_certificates] if words.certificates else []
         for check in checks:
             try:
                 check()
