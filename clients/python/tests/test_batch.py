@@ -151,6 +151,8 @@ class Interrupted(unittest.TestCase):
     """A run that is stopped before its end, as its own process."""
 
     def setUp(self) -> None:
+        # What a script begins in its background, and what that begins, ignores interrupts: a run of these tests does not.
+        self.addCleanup(signal.signal, signal.SIGINT, signal.signal(signal.SIGINT, signal.default_int_handler))
         folder = tempfile.TemporaryDirectory()
         self.addCleanup(folder.cleanup)
         self.folder, self.table = Path(folder.name) / "models", Path(folder.name) / "table.csv"
