@@ -1,0 +1,3 @@
+pub mod Agree
+pub mod AllDigits
+pub mod ReadBack

@@ -1,0 +1,2 @@
+pub mod WideText
+pub mod WideWritten
