@@ -1,0 +1,2 @@
+pub mod WideSteps
+pub mod WriteSteps

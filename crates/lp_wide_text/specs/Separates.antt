@@ -1,0 +1,10 @@
+-- What ends a part of a text.
+use Rattle.std.specs.Prelude.{ℕ, Bool}
+use Rattle.spec_mps.specs.NumberText.{is_mark, is_point, is_slash}
+use Rattle.lp_wide_text.specs.declared.pieces.Separator.{Separator}
+use Rattle.lp_wide_text.specs.declared.pieces.Separator.TheVariants.{Slash, Mark, Point}
+
+abbrev pub separates : Separator → ℕ → Bool
+separates Slash = is_slash
+separates Mark = is_mark
+separates Point = is_point
