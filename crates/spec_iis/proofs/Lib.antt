@@ -1,0 +1,9 @@
+pub mod Listed
+pub mod Picked
+pub mod Entries
+pub mod Points
+pub mod Used
+pub mod Few
+pub mod Filtered
+pub mod Keeping
+pub mod Readings

@@ -1,0 +1,5 @@
+pub mod Sides
+pub mod Only
+pub mod Irreducible
+pub mod Rule
+pub mod Found

@@ -1,0 +1,54 @@
+-- Sides of a model: single limits of rows, and single bounds of columns.
+use Rattle.std.specs.Prelude.{◌≡◌, ◌<◌, ◌==◌, ◌&&◌, Bool, true, false, not, List, length, All, Option, Some, IfSome}
+use Rattle.std.specs.Prelude.{if◌then◌else◌}
+use Rattle.std.specs.List.{list_any}
+use Rattle.spec_exact.specs.Fraction.{ℚ, ◌≤ℚ◌}
+use Rattle.spec_model.specs.Model.{Model, Limits, width, height, bounds, limits, activity, part}
+use Rattle.spec_iis.specs.declared.side.Side.{Side}
+
+-- the limits of its row, or the bounds of its column
+abbrev pub limits_at : Model → Side → Limits
+limits_at m s = if s.row then limits m s.at else bounds m s.at
+
+abbrev pub end_of : Bool → Limits → Option ℚ
+end_of true l = l.upper
+end_of false l = l.lower
+
+-- a row or a column of the model has this limit or bound
+pub record IsSide (m : Model) (s : Side) : Type 0 where
+  pub inside : s.at < (if s.row then height m else width m)
+  pub there : (b : ℚ) × (end_of s.upper (limits_at m s) ≡ Some b)
+
+-- the same row or column, and the same one of its two sides
+abbrev pub same_way : Bool → Bool → Bool
+same_way true b = b
+same_way false b = not b
+
+abbrev pub same_side : Side → Side → Bool
+same_side s t = same_way s.row t.row && ((s.at == t.at) && same_way s.upper t.upper)
+
+unfoldable pub is_listed : List Side → Side → Bool
+is_listed sides s = list_any (same_side s) sides
+
+-- each of the first ones is one of the others
+abbrev pub Among : List Side → List Side → Type 0
+Among few more = All (λ s. is_listed more s ≡ true) few
+
+-- ---- points
+
+-- at most an upper end, at least a lower one
+abbrev pub IsWithin : Bool → Option ℚ → ℚ → Type 0
+IsWithin true bound v = IfSome bound (λ k. v ≤ℚ k)
+IsWithin false bound v = IfSome bound (λ k. k ≤ℚ v)
+
+-- what a point has there
+abbrev pub value_at : Model → List ℚ → Side → ℚ
+value_at m z s = if s.row then activity m z s.at else part z s.at
+
+abbrev pub Meets : Model → List ℚ → Side → Type 0
+Meets m z s = IsWithin s.upper (end_of s.upper (limits_at m s)) (value_at m z s)
+
+-- a part for each column, and each of the sides is met
+pub record MeetsAll (m : Model) (sides : List Side) (z : List ℚ) : Type 0 where
+  pub one_each : length z ≡ width m
+  pub met : All (Meets m z) sides

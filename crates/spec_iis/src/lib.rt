@@ -1,0 +1,99 @@
+//! Irreducible infeasible subsets: sets of single limits and bounds that no point meets together, though each set of
+//! all but one is met.
+//!
+//! | Item | What it is | Where |
+//! |---|---|---|
+//! | `Side` | a single limit of a row, or a single bound of a column | src/side |
+//! | `Iis` | what a search for such a set ends with | src/outcome |
+//! | `IsSide`, `Meets` | a side that a model has, and a point that meets it | specs/Sides |
+//! | `only` | the model with some of its sides alone | specs/Only |
+//! | `IsIrreducible` | no point meets the sides together, though each set of all but one is met | specs/Irreducible |
+//! | `used`, `used_among` | the sides that a certificate uses | specs/Rule |
+//! | `IsClash` | a few of some sides that no point meets together | specs/Rule |
+//! | `Reaches`, `IsFiltered` | the rule by which sides are left out, and what holds on its way | specs/Rule |
+//! | `MayFind` | what a search may end with, at the limit of the program and within a budget for each solve | specs/Found |
+//!
+//! The functions here have the laws as their contracts.
+//!
+//! The rule is the deletion filter (Chinneck and Dravnieks, Locating minimal infeasible constraint sets in linear
+//! programs, ORSA Journal on Computing 3, 1991), which begins with the sides that one certificate uses.
+#![tactic(auto)]
+
+mod outcome;
+mod side;
+
+ghost use Rattle.std.specs.Prelude.{◌≡◌, ◌↔◌, ◌++◌, ◌∷◌, [], ℕ, List, All, Option, Ok, false};
+ghost use Rattle.spec_exact.specs.Fraction.{ℚ};
+ghost use Rattle.spec_model.specs.Model.{Model};
+ghost use Rattle.spec_model.specs.Kept.{IsModel, IsNarrowRow};
+ghost use Rattle.spec_model.specs.Truth.{IsFeasible, IsInfeasible};
+ghost use Rattle.spec_check.specs.declared.certificate.Certificate.{Certificate};
+ghost use Rattle.spec_check.specs.declared.certificate.Known.TheVariants as known;
+ghost use Rattle.spec_check.specs.Certificate.{IsFor};
+ghost use Rattle.spec_check.specs.Run.{check_run};
+ghost use Rattle.spec_iis.specs.declared.side.Side.{Side};
+ghost use Rattle.spec_iis.specs.Sides.{IsSide, MeetsAll, is_listed, Among};
+ghost use Rattle.spec_iis.specs.Only.{only};
+ghost use Rattle.spec_iis.specs.Irreducible.{IsIrreducible, ArePointsWithout};
+ghost use Rattle.spec_iis.specs.Rule.{used, used_among, IsClash, IsFiltered, IsRead};
+
+pub use outcome::Iis;
+pub use side::Side;
+
+/// The points that are feasible for some sides alone are those that meet each of these.
+pub fn points_of_sides_meet_them()
+    ensures { (m : Model) (sides : List Side) (z : List ℚ) →
+        All (IsSide m) sides → (IsFeasible (only m sides) z ↔ MeetsAll m sides z) }
+{}
+
+/// Fewer sides have more points.
+pub fn fewer_sides_have_more_points()
+    ensures { (m : Model) (few more : List Side) (z : List ℚ) → All (IsSide m) more →
+        Among few more → IsFeasible (only m more) z → IsFeasible (only m few) z }
+{}
+
+/// The sides that an accepted certificate uses are sides of the model, and no point meets them together. Where the
+/// certificate is accepted at a limit, none of their limits is refused there.
+pub fn used_sides_are_infeasible()
+    ensures present { (limit : Option ℕ) (m : Model) (cert : Certificate (List ℚ)) → IsFor m cert →
+        check_run limit m cert ≡ Ok known.Infeasible → All (IsSide m) (used m cert) }
+    ensures infeasible { (limit : Option ℕ) (m : Model) (cert : Certificate (List ℚ)) → IsFor m cert →
+        check_run limit m cert ≡ Ok known.Infeasible → IsInfeasible (only m (used m cert)) }
+    ensures read { (limit : Option ℕ) (m : Model) (cert : Certificate (List ℚ)) →
+        check_run limit m cert ≡ Ok known.Infeasible → All (IsRead limit m) (used m cert) }
+{}
+
+/// Those of some sides that an accepted certificate uses, which is of the model with them alone, clash.
+pub fn sides_that_a_certificate_uses_clash()
+    ensures { (limit : Option ℕ) (m : Model) (sides : List Side) (cert : Certificate (List ℚ)) → All (IsSide m) sides →
+        IsFor (only m sides) cert → check_run limit (only m sides) cert ≡ Ok known.Infeasible →
+        IsClash m sides (used_among m sides cert) }
+{}
+
+/// Where a few of some sides clash, no point meets them all; and each that is none of the few can be left out.
+pub fn sides_beside_a_clash_are_not_needed()
+    ensures all { (m : Model) (sides few : List Side) → All (IsSide m) sides → IsClash m sides few →
+        IsInfeasible (only m sides) }
+    ensures others { (m : Model) (kept : List Side) (x : Side) (rest few : List Side) →
+        IsClash m (kept ++ x ∷ rest) few → is_listed few x ≡ false → IsClash m (kept ++ rest) few }
+{}
+
+/// Some sides alone of a model that may be kept make one that may be kept, if the limits in it are narrow.
+pub fn sides_alone_may_be_kept()
+    ensures { (m : Model) (sides : List Side) →
+        IsModel m → All IsNarrowRow (only m sides).rows → IsModel (only m sides) }
+{}
+
+/// On the way of the rule: it begins with sides that are infeasible together; a side is left out where the others are,
+/// and kept with a point that meets the others; and where none is left, those that are kept are irreducible.
+pub fn the_rule_keeps_what_is_needed()
+    ensures begin { (m : Model) (sides : List Side) →
+        All (IsSide m) sides → IsInfeasible (only m sides) → IsFiltered m [] sides [] }
+    ensures without { (m : Model) (kept : List Side) (x : Side) (rest : List Side) (points : List (List ℚ)) →
+        IsFiltered m kept (x ∷ rest) points → IsInfeasible (only m (kept ++ rest)) → IsFiltered m kept rest points }
+    ensures with { (m : Model) (kept : List Side) (x : Side) (rest : List Side) (points : List (List ℚ)) (z : List ℚ) →
+        IsFiltered m kept (x ∷ rest) points → IsFeasible (only m (kept ++ rest)) z →
+        IsFiltered m (kept ++ x ∷ []) rest (points ++ z ∷ []) }
+    ensures end { (m : Model) (kept : List Side) (points : List (List ℚ)) →
+        IsFiltered m kept [] points → IsIrreducible m kept × ArePointsWithout m kept points }
+{}
