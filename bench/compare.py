@@ -1,7 +1,8 @@
 #!/usr/bin/env python3
 """Measures lpd beside other exact solvers, and checks that all of them answer the same.
 
-    compare.py [--program PROGRAM] [--models FOLDER] [--only NAME,..] [--runs N] [--seconds N] [--write PAGE]
+    compare.py [--program PROGRAM] [--before PROGRAM] [--beside SOLVER,..] [--models FOLDER] [--only NAME,..] [--runs N]
+               [--seconds N] [--write PAGE]
 
 The models are those of examples/models, some that are made here from stated seeds, and those of FOLDER. lpd solves each
 in a session with the largest budget. solvers.py says which the other solvers are and what they read. gmp_bland takes
@@ -17,6 +18,7 @@ what stands between the two marks of PAGE.
 import argparse
 import os
 import pathlib
+import statistics
 import sys
 import tempfile
 from dataclasses import dataclass, field
@@ -28,6 +30,8 @@ from solvers import LARGEST, MADE, PROGRAM, TOP, Esolver, Glpsol, GmpBland, leas
 BEGIN, END = "<!-- measured by bench/compare.py -->", "<!-- end -->"
 ANSWERS = ("OPTIMAL", "INFEASIBLE", "UNBOUNDED")
 SHORTEST = 0.002
+# Models that took longer before count in the mean.
+LONG = 0.005
 
 
 @dataclass
@@ -42,6 +46,7 @@ class Measured:
     nonzeros: int = None
     bits: int = None
     ratios: dict = field(default_factory=dict)
+    before: "Measured" = None
 
     def each(self, number):
         """The time for each of a number, in seconds, where it can be told."""
@@ -49,12 +54,20 @@ class Measured:
             return self.solving / number
         return None
 
+    def quicker(self):
+        """How many times quicker it is than before, where both answer or both refuse."""
+        same = self.before and self.before.answer[0] == self.answer[0] != "TIME"
+        return self.before.spent / self.spent if same else None
+
     def cells(self):
         pivot, nonzero = self.each(self.pivots), self.each(self.nonzeros)
         visited = self.nonzeros / self.pivots if self.nonzeros and self.pivots else None
         yield self.answer[0]
         yield "" if self.pivots is None else str(self.pivots)
         yield f"{self.spent * 1e3:.1f}"
+        if self.before:
+            told = self.before.answer[0] if self.quicker() is None else f"{self.quicker():.2f}"
+            yield f"{self.before.spent * 1e3:.1f} ({told})"
         yield "" if pivot is None else f"{pivot * 1e6:.0f}"
         yield "" if visited is None else f"{visited:.0f}"
         yield "" if nonzero is None else f"{nonzero * 1e9:.0f}"
@@ -62,22 +75,35 @@ class Measured:
 
 
 def by_lpd(options, model):
-    """The answer, the pivots behind an answer, and the time of the solve and of the load alone."""
+    """The answer, the pivots behind an answer, and the time of the solve and of the load alone; and the same before."""
+    solve, times, replies = [f"BUDGET {LARGEST}", "SOLVE", "HOW"], {}, {}
+    for _ in range(options.runs):
+        for name, program in options.programs.items():
+            for commands in [solve, []] if replies.get(name, True) else []:
+                said, spent = session(program, model.form, model.data, commands, options.seconds)
+                times.setdefault((name, bool(commands)), []).append(spent)
+                if commands:
+                    replies[name] = said
+    found = {}
+    for name, said in replies.items():
+        if said is None:
+            found[name] = Measured(model.name, ("TIME",), options.seconds, 0)
+            continue
+        spent, loading = min(times[name, True]), min(times[name, False])
+        answer, how = said[2].split()[1:], said[3].split()
+        answer = ("OPTIMAL", Fraction(answer[1])) if answer[0] == "OPTIMAL" else tuple(answer)
+        pivots = int(how[4]) if answer[0] in ANSWERS else None
+        found[name] = Measured(model.name, answer, spent, spent - loading, pivots)
+    mine = found["lpd"]
+    mine.before = found.get("before")
+    return mine
 
-    def solve():
-        replies, spent = session(options.program, model.form, model.data, commands, options.seconds)
-        return replies, spent
 
-    commands = [f"BUDGET {LARGEST}", "SOLVE", "HOW"]
-    replies, spent = least(options.runs, solve)
-    if replies is None:
-        return Measured(model.name, ("TIME",), options.seconds, 0)
-    commands = []
-    loading = least(options.runs, solve)[1]
-    words, how = replies[2].split()[1:], replies[3].split()
-    answer = ("OPTIMAL", Fraction(words[1])) if words[0] == "OPTIMAL" else (words[0],)
-    pivots = int(how[4]) if answer[0] in ANSWERS else None
-    return Measured(model.name, answer, spent, spent - loading, pivots)
+def changed(mine):
+    """What is wrong with an answer, by that before: a PAST may have become an answer, and nothing else."""
+    words = (mine.before or mine).answer
+    if words != mine.answer and "TIME" not in (words[0], mine.answer[0]) and (words[0] != "PAST" or mine.answer[0] == "PAST"):
+        yield f"{mine.name}: lpd says {mine.answer}, and said {words} before"
 
 
 def agrees(model, ours, theirs, is_exact):
@@ -117,13 +143,14 @@ def row(cells):
 
 def measure(options, models, others, faults):
     """The lines of the table, and what was measured for each model."""
-    heads = ["Model", "Rows", "Columns", "lpd", "Pivots", "ms"]
+    heads = ["Model", "Rows", "Columns", "lpd", "Pivots", "ms", *["before, ms"] * bool(options.before)]
     heads += ["µs a pivot", "Non-zeros a pivot", "ns a non-zero", "Bits"]
     heads += [f"{other.name}, ms" for other in others]
     lines, all_measured = [row(heads), "|---" * len(heads) + "|"], []
     print("\n".join(lines), flush=True)
     for model in models:
         mine = by_lpd(options, model)
+        faults += changed(mine)
         with tempfile.TemporaryDirectory() as name:
             folder = pathlib.Path(name)
             (folder / "model.mps").write_text(model.text())
@@ -156,9 +183,26 @@ def summary(all_measured, others):
             yield f"- ns for a non-zero, at the most on numbers {scope}: {spent:.0f} ({worst.name})"
 
 
+def since(all_measured):
+    """How much quicker than before: on answered models in the mean and at the least, and on refused ones at the least."""
+    for scope, words in (("answered", ANSWERS), ("refused", ("PAST",))):
+        found = [mine for mine in all_measured if mine.quicker() and mine.answer[0] in words]
+        long = [mine for mine in found if mine.before.spent > LONG]
+        if long:
+            mean = statistics.geometric_mean(mine.quicker() for mine in long)
+            yield f"- times quicker than before, in the geometric mean over {len(long)} {scope} models of more than 5 ms: {mean:.2f}"
+        if found:
+            worst = min(found, key=Measured.quicker)
+            told = f"{worst.quicker():.2f} ({worst.name}, {worst.spent * 1e3:.1f} ms)"
+            yield f"- times quicker than before, at the least on {scope} models: {told}"
+    won = [mine.name for mine in all_measured if mine.before and mine.before.answer[0] == "PAST" and mine.answer[0] in ANSWERS]
+    if won:
+        yield f"- refused before, and answered: {', '.join(won)}"
+
+
 def starts(options, others):
     """How long the processes take that do nothing."""
-    idle = {"lpd": options.program + ["run"], **{other.name: other.idle for other in others if other.idle}}
+    idle = {"lpd": options.programs["lpd"] + ["run"], **{other.name: other.idle for other in others if other.idle}}
     for name, command in idle.items():
         spent = least(options.runs * 2, lambda: run(command, b"", options.seconds))[1]
         yield f"{name} {spent * 1e3:.1f} ms"
@@ -167,15 +211,18 @@ def starts(options, others):
 def main():
     options = argparse.ArgumentParser(description=__doc__, formatter_class=argparse.RawDescriptionHelpFormatter)
     options.add_argument("--program", default=PROGRAM)
+    options.add_argument("--before")
+    options.add_argument("--beside")
     options.add_argument("--models")
     options.add_argument("--only")
     options.add_argument("--runs", type=int, default=3)
     options.add_argument("--seconds", type=int, default=60)
     options.add_argument("--write", type=pathlib.Path)
     options = options.parse_args()
-    options.program = options.program.split()
+    options.programs = {"lpd": options.program.split()} | ({"before": options.before.split()} if options.before else {})
     os.environ["LC_ALL"] = "C"
     others = [other for other in [GmpBland(), GmpBland("--plain"), Esolver(), Glpsol()] if other.is_there()]
+    others = [other for other in others if not options.beside or other.name in options.beside.split(",")]
     models = [*models_of(TOP / "examples/models"), *(made(*shape) for shape in MADE)]
     models += models_of(options.models) if options.models else []
     if options.only:
@@ -183,7 +230,7 @@ def main():
     faults = []
     lines, all_measured = measure(options, models, others, faults)
     front = ["A process that does nothing: " + ", ".join(starts(options, others)) + ".", ""]
-    behind = ["", *summary(all_measured, others)]
+    behind = ["", *since(all_measured), *summary(all_measured, others)]
     print("\n".join([*front, *behind]))
     if options.write:
         write(options.write, BEGIN, END, front + lines + behind)
