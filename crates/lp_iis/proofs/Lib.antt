@@ -1,0 +1,4 @@
+pub mod OneMore
+pub mod Tried
+pub mod Placed
+pub mod Steps

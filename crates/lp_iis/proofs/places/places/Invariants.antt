@@ -1,0 +1,12 @@
+use Rattle.std.proofs.Common.{◌≡◌}
+use Rattle.spec_exact.specs.Run.{made}
+use Rattle.spec_iis.specs.Only.{stays, rank}
+use Rattle.lp_iis.specs.Reading.{place_by}
+use Rattle.lp_iis.proofs.places.places.Given as goal
+
+-- the places of the rows before this one, and the next number
+abbrev pub invariant-loop-i : goal.invariant-loop-i
+invariant-loop-i l = record {
+  items : l.places.items ≡ made l.i (place_by (stays l.sides));
+  next : l.next ≡ rank (stays l.sides) l.i;
+}

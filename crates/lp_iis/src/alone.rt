@@ -1,0 +1,35 @@
+// The model with some of its sides alone.
+ghost use Rattle.std.specs.Prelude.{◌≡◌, All, IfOk, Some};
+ghost use Rattle.spec_model.specs.Kept.{IsModel};
+ghost use Rattle.spec_iis.specs.Only.{only};
+ghost use Rattle.spec_iis.specs.Rule.{IsRead};
+ghost use Rattle.lp_frac.specs.Narrow.{largest};
+
+use crate::columns::columns;
+use crate::places::places;
+use crate::rows::rows;
+use lp_frac::zero;
+use lp_model::{Model, Sense};
+use spec_iis::Side;
+use std::alloc::{AllocError, Global};
+
+/// The model with these sides alone, and the objective 0.
+#[tactic(auto, unfolding(spec_iis::specs::Only::only))]
+pub fn only(alloc: Global, model: &Model, sides: &[Side]) -> Result<Model, AllocError>
+    requires kept { IsModel model.now }
+    requires read { All (IsRead (Some largest) model.now) sides.now }
+    ensures { IfOk result (λ alone. alone ≡ only model.now sides.now) }
+{
+    let places = places(alloc, model, sides)?;
+    let columns = columns(alloc, model, sides, &places)?;
+    drop(places);
+    let rows = rows(alloc, model, sides)?;
+    Ok(Model::new(
+        model.name().copy(alloc)?,
+        Sense::Min,
+        model.objective().copy(alloc)?,
+        zero(),
+        rows,
+        columns,
+    ))
+}

@@ -1,0 +1,145 @@
+// The sides that a certificate uses.
+ghost use Rattle.std.specs.Prelude.{◌≡◌, ◌<◌, ◌++◌, IfOk, OnOk, Ok, Some, length, true, false};
+ghost use Rattle.spec_model.specs.Model.{width, height, part as part_of};
+ghost use Rattle.spec_check.specs.declared.certificate.Known.TheVariants as known;
+ghost use Rattle.spec_check.specs.Certificate.{IsFor};
+ghost use Rattle.spec_check.specs.Checks as checks;
+ghost use Rattle.spec_check.specs.Run as run;
+ghost use Rattle.spec_check.specs.declared.certificate.Certificate.TheVariants as certificates;
+ghost use Rattle.spec_iis.specs.Rule as rule;
+ghost use Rattle.lp_frac.specs.Narrow.{largest};
+
+use crate::lists::Sides;
+use lp_check::{Certificate, part};
+use lp_frac::{Frac, Fracs, is_negative, is_positive, zero};
+use lp_model::Model;
+use spec_iis::Side;
+use std::alloc::{AllocError, Global};
+
+type CheckStop = spec_check::CheckStop<Frac>;
+
+// `v * w` onto `s`.
+fn plus_product(v: Frac, w: Frac, s: Frac) -> Result<Frac, CheckStop>
+    ensures { result ≡ run.plus_product (Some largest) v w s }
+{
+    let sum = lp_frac::plus_product(v, w, s)?;
+    Ok(sum)
+}
+
+// The multipliers' part in column `j`.
+fn priced(model: &Model, y: &Fracs, j: u32) -> Result<Frac, CheckStop>
+    requires inside { j < width model.now }
+    requires multipliers { length y.now ≡ height model.now }
+    ensures { result ≡ run.priced_run (Some largest) model.now y.now j }
+{
+    let mut sum = zero();
+    for i in 0..model.rows() {
+        sum = plus_product(part(y, i), model.entry(i, j), sum)?;
+    }
+    Ok(sum)
+}
+
+// Adds the side, if it is used.
+pub(crate) fn push_if(used: bool, side: Side, to: &mut Sides) -> Result<(), AllocError>
+    ensures { OnOk result (to.new ≡ to.old ++ rule.side_if used side) }
+{
+    if used {
+        to.push(side)?;
+    }
+    Ok(())
+}
+
+// Adds the lower one of the row or column, if it is used, and then the upper one.
+fn push_sides(
+    row: bool,
+    at: u32,
+    lower: bool,
+    upper: bool,
+    to: &mut Sides,
+) -> Result<(), AllocError>
+    ensures { OnOk result (to.new ≡ to.old
+        ++ (rule.side_if lower (record { row = row; at = at; upper = false })
+        ++ rule.side_if upper (record { row = row; at = at; upper = true }))) }
+{
+    push_if(
+        lower,
+        Side {
+            row,
+            at,
+            upper: false,
+        },
+        to,
+    )?;
+    push_if(
+        upper,
+        Side {
+            row,
+            at,
+            upper: true,
+        },
+        to,
+    )
+}
+
+// Adds those of all rows.
+fn push_rows(model: &Model, y: &Fracs, to: &mut Sides) -> Result<(), AllocError>
+    requires { length y.now ≡ height model.now }
+    ensures { OnOk result (to.new ≡ to.old ++ rule.gathered (λ i. rule.row_sides i (part_of y.now i)) (height model.now)) }
+{
+    for i in 0..model.rows() {
+        let multiplier = part(y, i);
+        push_sides(
+            true,
+            i,
+            is_positive(multiplier),
+            is_negative(multiplier),
+            to,
+        )?;
+    }
+    Ok(())
+}
+
+// Adds those of column `j`.
+fn push_column(model: &Model, y: &Fracs, j: u32, to: &mut Sides) -> Result<(), AllocError>
+    requires inside { j < width model.now }
+    requires multipliers { length y.now ≡ height model.now }
+    requires read { run.priced_run (Some largest) model.now y.now j ≡ Ok (checks.priced model.now y.now j) }
+    ensures { OnOk result (to.new ≡ to.old ++ rule.column_sides j (checks.priced model.now y.now j)) }
+{
+    match priced(model, y, j) {
+        Ok(part) => push_sides(false, j, is_negative(part), is_positive(part), to),
+        Err(_) => Ok(()),
+    }
+}
+
+// Adds those of all columns.
+fn push_columns(model: &Model, y: &Fracs, to: &mut Sides) -> Result<(), AllocError>
+    requires multipliers { length y.now ≡ height model.now }
+    requires accepted { run.check_run (Some largest) model.now (certificates.Infeasible y.now) ≡ Ok known.Infeasible }
+    ensures { OnOk result
+        (to.new ≡ to.old ++ rule.gathered (λ j. rule.column_sides j (checks.priced model.now y.now j)) (width model.now)) }
+{
+    for j in 0..model.cols() {
+        push_column(model, y, j, to)?;
+    }
+    Ok(())
+}
+
+/// The sides that an accepted certificate uses, those of rows first.
+#[tactic(auto, unfolding(spec_iis::specs::Rule::used))]
+pub(crate) fn used(alloc: Global, model: &Model, cert: &Certificate) -> Result<Sides, AllocError>
+    requires fits { IsFor model.now cert.now }
+    requires accepted { run.check_run (Some largest) model.now cert.now ≡ Ok known.Infeasible }
+    ensures { IfOk result (λ sides. sides ≡ rule.used model.now cert.now) }
+{
+    let mut sides = Sides::new(alloc);
+    match cert {
+        Certificate::Infeasible { y } => {
+            push_rows(model, y, &mut sides)?;
+            push_columns(model, y, &mut sides)?;
+        }
+        Certificate::Clash(j) => push_sides(false, *j, true, true, &mut sides)?,
+        Certificate::Optimal { .. } | Certificate::Unbounded { .. } => {}
+    }
+    Ok(sides)
+}

@@ -1,0 +1,93 @@
+// Those of some sides that a certificate uses which is of the model with them alone.
+ghost use Rattle.std.specs.Prelude.{◌≡◌, ◌<◌, ◌++◌, true, All, IfOk, OnOk, length};
+ghost use Rattle.std.specs.List.{filter};
+ghost use Rattle.spec_iis.specs.Sides.{IsSide, is_listed};
+ghost use Rattle.spec_iis.specs.Only as only;
+ghost use Rattle.spec_iis.specs.Rule as rule;
+ghost use Rattle.spec_iis.specs.Found.{ShowsInfeasible};
+ghost use Rattle.lp_iis.specs.Reading.{placed};
+
+use crate::certificate::{push_if, used};
+use crate::listed::is_listed;
+use crate::lists::Sides;
+use crate::places::places;
+use lp_check::Certificate;
+use lp_model::Model;
+use spec_iis::Side;
+use std::alloc::{AllocError, Global};
+
+// The number of the row or column, that of a row by the place that it has.
+fn place_of(places: &[Option<u32>], row: bool, at: u32) -> u32
+    requires { row ≡ true → at < length places.now }
+    ensures { result ≡ (placed places.now (record { row = row; at = at; upper = true })).at }
+{
+    if row {
+        places[at as usize].unwrap_or(at)
+    } else {
+        at
+    }
+}
+
+// The same side of the model in which the rows have these places.
+fn moved(places: &[Option<u32>], side: Side) -> Side
+    requires { side.row ≡ true → side.at < length places.now }
+    ensures { result ≡ placed places.now side }
+{
+    Side {
+        row: side.row,
+        at: place_of(places, side.row, side.at),
+        upper: side.upper,
+    }
+}
+
+// Adds the side, if in the model in which the rows have these places it is one of those that are used.
+fn push_used(
+    used: &Sides,
+    places: &[Option<u32>],
+    side: Side,
+    few: &mut Sides,
+) -> Result<(), AllocError>
+    requires { side.row ≡ true → side.at < length places.now }
+    ensures { OnOk result (few.new ≡ few.old ++ rule.side_if (is_listed used.now (placed places.now side)) side) }
+{
+    let is_used = is_listed(used.as_slice(), moved(places, side));
+    push_if(is_used, side, few)
+}
+
+// Those of the sides that are used, where these places give each the number that it has among those that stay.
+fn used_of(
+    alloc: Global,
+    used: &Sides,
+    places: &[Option<u32>],
+    sides: &Sides,
+) -> Result<Sides, AllocError>
+    requires inside { All (λ s. s.row ≡ true → s.at < length places.now) sides.now }
+    requires same { All (λ s. placed places.now s ≡ only.renumbered sides.now s) sides.now }
+    ensures { IfOk result
+        (λ few. few ≡ filter (λ s. is_listed used.now (only.renumbered sides.now s)) sides.now) }
+{
+    let mut few = Sides::new(alloc);
+    for i in 0..sides.len() {
+        let side = sides.at(i);
+        push_used(used, places, side, &mut few)?;
+    }
+    Ok(few)
+}
+
+/// Those of the sides that the certificate uses, in the same order.
+pub(crate) fn used_among(
+    alloc: Global,
+    model: &Model,
+    sides: &Sides,
+    alone: &Model,
+    certificate: &Certificate,
+) -> Result<Sides, AllocError>
+    requires alone { alone.now ≡ only.only model.now sides.now }
+    requires present { All (IsSide model.now) sides.now }
+    requires shows { ShowsInfeasible alone.now certificate.now }
+    ensures { IfOk result (λ few. few ≡ rule.used_among model.now sides.now certificate.now) }
+{
+    let used = used(alloc, alone, certificate)?;
+    let places = places(alloc, model, sides.as_slice())?;
+    used_of(alloc, &used, &places, sides)
+}

@@ -1,0 +1,126 @@
+// A look at some sides alone: whether a point meets them all.
+ghost use Rattle.std.specs.Prelude.{◌≡◌, ◌++◌, ◌∷◌, All, IfOk, Some};
+ghost use Rattle.spec_model.specs.Kept.{IsModel};
+ghost use Rattle.spec_iis.specs.Sides.{IsSide};
+ghost use Rattle.spec_iis.specs.Only.{only};
+ghost use Rattle.spec_iis.specs.Rule.{IsRead, IsClash};
+ghost use Rattle.lp_frac.specs.Narrow.{largest};
+ghost use Rattle.lp_iis.specs.Ways.{IsSeen};
+ghost use Rattle.lp_iis.specs.declared.look.Look.TheVariants as looks;
+
+use crate::alone::only;
+use crate::few::used_among;
+use crate::listed::is_listed;
+use crate::lists::Sides;
+use crate::trial::{Trial, try_model};
+use lp_frac::Fracs;
+use lp_model::Model;
+use lp_solve::End;
+use spec_iis::Side;
+use std::alloc::{AllocError, Global};
+
+/// What is seen of some sides.
+#[derive(Drop)]
+pub(crate) enum Look {
+    /// No point meets these few of them together.
+    Clash(Sides),
+    /// This point meets them all.
+    Point(Fracs),
+    /// The solve of them gives up.
+    Stopped(End),
+}
+
+// By the model with the sides alone.
+fn look_into(
+    alloc: Global,
+    model: &Model,
+    budget: u64,
+    sides: &Sides,
+    alone: &Model,
+) -> Result<Look, AllocError>
+    requires alone { alone.now ≡ only model.now sides.now }
+    requires present { All (IsSide model.now) sides.now }
+    ensures { IfOk result (IsSeen budget model.now sides.now) }
+{
+    match try_model(alloc, alone, budget)? {
+        Trial::Infeasible(certificate) => {
+            let few = used_among(alloc, model, sides, alone, &certificate);
+            drop(certificate);
+            Ok(Look::Clash(few?))
+        }
+        Trial::Point(point) => Ok(Look::Point(point)),
+        Trial::Stopped(end) => Ok(Look::Stopped(end)),
+    }
+}
+
+// By a solve.
+fn look_at(alloc: Global, model: &Model, budget: u64, sides: &Sides) -> Result<Look, AllocError>
+    requires model { IsModel model.now }
+    requires present { All (IsSide model.now) sides.now }
+    requires read { All (IsRead (Some largest) model.now) sides.now }
+    ensures { IfOk result (IsSeen budget model.now sides.now) }
+{
+    let alone = only(alloc, model, sides.as_slice())?;
+    let look = look_into(alloc, model, budget, sides, &alone);
+    drop(alone);
+    look
+}
+
+// The first ones, and the others behind them.
+fn joined(alloc: Global, first: &Sides, others: &[Side]) -> Result<Sides, AllocError>
+    ensures { IfOk result (λ sides. sides ≡ first.now ++ others.now) }
+{
+    let mut sides = Sides::from_slice(alloc, first.as_slice())?;
+    sides.extend(others)?;
+    Ok(sides)
+}
+
+// The same of the kept sides and the others together.
+fn look_at_both(
+    alloc: Global,
+    model: &Model,
+    budget: u64,
+    kept: &Sides,
+    others: &[Side],
+) -> Result<Look, AllocError>
+    requires model { IsModel model.now }
+    requires present { All (IsSide model.now) (kept.now ++ others.now) }
+    requires read { All (IsRead (Some largest) model.now) (kept.now ++ others.now) }
+    ensures { IfOk result (IsSeen budget model.now (kept.now ++ others.now)) }
+{
+    let sides = joined(alloc, kept, others)?;
+    let look = look_at(alloc, model, budget, &sides);
+    drop(sides);
+    look
+}
+
+// That the same few clash.
+fn as_before(alloc: Global, clash: &Sides) -> Result<Look, AllocError>
+    ensures { IfOk result (λ look. look ≡ looks.Clash clash.now) }
+{
+    Ok(Look::Clash(Sides::from_slice(alloc, clash.as_slice())?))
+}
+
+/// What is seen of the kept sides and those behind one: by a solve only if the side is one of the few that are known to
+/// clash. Else these few are among the others, and clash as before.
+pub(crate) fn look_without(
+    alloc: Global,
+    model: &Model,
+    budget: u64,
+    clash: &Sides,
+    kept: &Sides,
+    side: Side,
+    behind: &[Side],
+) -> Result<Look, AllocError>
+    requires model { IsModel model.now }
+    requires present { All (IsSide model.now) (kept.now ++ behind.now) }
+    requires read { All (IsRead (Some largest) model.now) (kept.now ++ behind.now) }
+    requires clash { IsClash model.now (kept.now ++ side ∷ behind.now) clash.now }
+    ensures { IfOk result (IsSeen budget model.now (kept.now ++ behind.now)) }
+{
+    if is_listed(clash.as_slice(), side) {
+        look_at_both(alloc, model, budget, kept, behind)
+    } else {
+        as_before(alloc, clash)
+    }
+}

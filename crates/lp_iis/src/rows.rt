@@ -1,0 +1,138 @@
+// The rows of a model with some of its sides alone.
+ghost use Rattle.std.specs.Prelude.{◌≡◌, ◌<◌, true, false, All, IfOk, IfSome, Some};
+ghost use Rattle.spec_exact.specs.Narrow.{IsNarrow};
+ghost use Rattle.spec_model.specs.Model.{height};
+ghost use Rattle.spec_model.specs.Kept.{IsNarrowRow};
+ghost use Rattle.spec_iis.specs.Only as only;
+ghost use Rattle.spec_iis.specs.Rule.{IsRead};
+ghost use Rattle.lp_frac.specs.Narrow.{largest};
+ghost use Rattle.lp_iis.specs.Reading.{IsReadable};
+
+use crate::limits::{is_limited_above, is_limited_below, lower_limit, upper_limit};
+use crate::listed::{has_lower, has_upper, stays};
+use lp_frac::{Frac, LARGEST, den, num};
+use lp_model::{Kind, Model, Row};
+use spec_iis::Side;
+use std::alloc::{AllocError, Global};
+
+// The same fraction, whose parts have at most 127 bits as those of each one.
+fn narrow(v: Frac) -> Frac
+    ensures value { result ≡ v }
+    ensures narrow { IsNarrow v }
+{
+    prove!(num(v).unsigned_abs() <= LARGEST);
+    prove!(den(v).unsigned_abs() <= LARGEST);
+    v
+}
+
+// The row with this kind and right side, without a range.
+fn single(alloc: Global, kind: Kind, row: &Row, rhs: Frac) -> Result<Row, AllocError>
+    ensures value { IfOk result (λ r. r ≡ only.single kind row.now rhs) }
+    ensures narrow { IfOk result IsNarrowRow }
+{
+    Ok(Row {
+        name: row.name.copy(alloc)?,
+        kind,
+        rhs: narrow(rhs),
+        range: None,
+    })
+}
+
+fn narrow_range(range: Option<Frac>) -> Option<Frac>
+    ensures value { result ≡ range }
+    ensures narrow { IfSome range IsNarrow }
+{
+    match range {
+        Some(range) => Some(narrow(range)),
+        None => None,
+    }
+}
+
+// The row as it is.
+fn copy(alloc: Global, row: &Row) -> Result<Row, AllocError>
+    ensures value { IfOk result (λ r. r ≡ row.now) }
+    ensures narrow { IfOk result IsNarrowRow }
+{
+    Ok(Row {
+        name: row.name.copy(alloc)?,
+        kind: row.kind,
+        rhs: narrow(row.rhs),
+        range: narrow_range(row.range),
+    })
+}
+
+// The row with its lower side alone.
+fn lower_alone(alloc: Global, row: &Row) -> Result<Row, AllocError>
+    requires { IsReadable false row.now }
+    ensures value { IfOk result (λ r. r ≡ only.only_row true false row.now) }
+    ensures narrow { IfOk result IsNarrowRow }
+{
+    if is_limited_above(row) {
+        match lower_limit(row) {
+            Some(low) => single(alloc, Kind::G, row, low),
+            None => copy(alloc, row),
+        }
+    } else {
+        copy(alloc, row)
+    }
+}
+
+// The row with its upper side alone.
+fn upper_alone(alloc: Global, row: &Row) -> Result<Row, AllocError>
+    requires { IsReadable true row.now }
+    ensures value { IfOk result (λ r. r ≡ only.only_row false true row.now) }
+    ensures narrow { IfOk result IsNarrowRow }
+{
+    if is_limited_below(row) {
+        match upper_limit(row) {
+            Some(high) => single(alloc, Kind::L, row, high),
+            None => copy(alloc, row),
+        }
+    } else {
+        copy(alloc, row)
+    }
+}
+
+// The row with these of its sides.
+#[tactic(auto, unfolding(spec_iis::specs::Only::only_row))]
+fn row_with(alloc: Global, row: &Row, lower: bool, upper: bool) -> Result<Row, AllocError>
+    requires lower { lower ≡ true → IsReadable false row.now }
+    requires upper { upper ≡ true → IsReadable true row.now }
+    ensures value { IfOk result (λ r. r ≡ only.only_row lower upper row.now) }
+    ensures narrow { IfOk result IsNarrowRow }
+{
+    match (lower, upper) {
+        (true, false) => lower_alone(alloc, row),
+        (false, true) => upper_alone(alloc, row),
+        (true, true) => copy(alloc, row),
+        (false, false) => copy(alloc, row),
+    }
+}
+
+// Row `i` with its sides that are listed.
+fn row_at(alloc: Global, model: &Model, sides: &[Side], i: u32) -> Result<Row, AllocError>
+    requires inside { i < height model.now }
+    requires read { All (IsRead (Some largest) model.now) sides.now }
+    ensures value { IfOk result (λ r. r ≡ only.only_row_at model.now sides.now i) }
+    ensures narrow { IfOk result IsNarrowRow }
+{
+    let lower = has_lower(sides, true, i);
+    let upper = has_upper(sides, true, i);
+    row_with(alloc, model.row(i), lower, upper)
+}
+
+/// The rows that stay, each with its sides that are listed.
+pub(crate) fn rows(alloc: Global, model: &Model, sides: &[Side]) -> Result<Vec<Row>, AllocError>
+    requires { All (IsRead (Some largest) model.now) sides.now }
+    ensures value { IfOk result
+        (λ rows. rows.items ≡ only.picked (only.stays sides.now) (only.only_row_at model.now sides.now) (height model.now)) }
+    ensures narrow { IfOk result (λ rows. All IsNarrowRow rows.items) }
+{
+    let mut rows = Vec::new(alloc);
+    for i in 0..model.rows() {
+        if stays(sides, i) {
+            rows.push(row_at(alloc, model, sides, i)?)?;
+        }
+    }
+    Ok(rows)
+}

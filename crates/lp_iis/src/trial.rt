@@ -1,0 +1,65 @@
+// The solve of a model whose objective is 0.
+ghost use Rattle.std.specs.Prelude.{◌≡◌, IfOk};
+ghost use Rattle.lp_iis.specs.Trials.{IsTried};
+ghost use Rattle.lp_iis.specs.Trials as trials;
+
+use lp_check::Certificate;
+use lp_frac::Fracs;
+use lp_model::Model;
+use lp_solve::{End, solve};
+use std::alloc::{AllocError, Global};
+
+/// What a solve says of a model whose objective is 0.
+#[derive(Drop)]
+pub(crate) enum Trial {
+    /// No point is feasible, by this certificate.
+    Infeasible(Certificate),
+    /// This point is feasible.
+    Point(Fracs),
+    /// The solve gives up.
+    Stopped(End),
+}
+
+// What a certificate says.
+fn said(certificate: Certificate) -> Trial
+    ensures { result ≡ trials.trial_by certificate }
+{
+    match certificate {
+        Certificate::Optimal { x, y } => {
+            drop(y);
+            Trial::Point(x)
+        }
+        Certificate::Unbounded { x, r } => {
+            drop(r);
+            Trial::Point(x)
+        }
+        Certificate::Infeasible { .. } | Certificate::Clash(_) => Trial::Infeasible(certificate),
+    }
+}
+
+// What the end of a solve says.
+fn said_by(end: End) -> Trial
+    ensures { result ≡ trials.trial_of end }
+{
+    match end {
+        End::Ended {
+            answer: _,
+            certificate,
+            basis,
+            pivots: _,
+        } => {
+            drop(basis);
+            said(certificate)
+        }
+        End::Past(past) => Trial::Stopped(End::Past(past)),
+        End::Spent => Trial::Stopped(End::Spent),
+    }
+}
+
+/// What the cold solve says of the model.
+pub(crate) fn try_model(alloc: Global, model: &Model, budget: u64) -> Result<Trial, AllocError>
+    ensures { IfOk result (IsTried budget model.now) }
+{
+    let solved = solve(alloc, model, budget, None)?;
+    Ok(said_by(solved.end))
+}
