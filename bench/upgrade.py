@@ -5,7 +5,7 @@
 
 It starts two servers of four workers at the ports that examples/serve/haproxy.cfg names, and HAProxy with that file. N (1,000)
 clients connect, at once or evenly over some SECONDS, from as many addresses of the loopback as the file's limit of links asks for;
-each loads a model of 3 rows, changes and solves it N (5) times, a hundredth of a second apart, and quits. While they come, wait
+each loads a model of 3 rows, changes and solves it N (20) times, a hundredth of a second apart, and quits. While they come, wait
 and are served, examples/serve/renew.py starts one server anew and then the other, from another path. Then the same is done without
 renew.py: both servers are killed and started anew, as by an operator in a hurry.
 
@@ -189,7 +189,7 @@ def main():
     options.add_argument("--program", default=os.environ.get("LPD", PROGRAM))
     options.add_argument("--clients", type=int, default=1000)
     options.add_argument("--over", type=float, default=0.0, metavar="SECONDS")
-    options.add_argument("--solves", type=int, default=5)
+    options.add_argument("--solves", type=int, default=20)
     options.add_argument("--write", type=pathlib.Path)
     options = options.parse_args()
     for name in ("haproxy", "openssl"):
