@@ -1,4 +1,2 @@
 pub mod Reading
-pub mod Seen
-pub mod Separates
 pub mod Writing

@@ -10,10 +10,7 @@
 //! lp_numtext does, by that crate's laws.
 #![tactic(auto)]
 
-mod digits;
 mod naturals;
-mod parts;
-mod pieces;
 mod reading;
 mod writing;
 
