@@ -1,6 +1,5 @@
 -- A place in the model is one in the list of the letter.
 use Rattle.std.proofs.Common.{ℕ, List, arith}
-use Rattle.spec_exact.specs.Fraction.{ℚ}
 use Rattle.spec_model.specs.Model.{Model}
 use Rattle.spec_check.specs.declared.certificate.Certificate.{Certificate}
 use Rattle.spec_check.specs.declared.certificate.Certificate.TheVariants.{Optimal, Infeasible, Clash, Unbounded}
@@ -9,7 +8,7 @@ use Rattle.spec_check.specs.declared.certificate.Letter.TheVariants.{X, Y, R}
 use Rattle.spec_check.specs.Certificate.{IsFor}
 use Rattle.lp_certificate.specs.Answer.{IsPlace, IsInside}
 
-pub inside : (m : Model) (letter : Letter) (k : ℕ) (cert : Certificate (List ℚ)) → IsFor m cert → IsPlace m letter k →
+pub inside : {F : Type 0} (m : Model) (letter : Letter) (k : ℕ) (cert : Certificate (List F)) → IsFor m cert → IsPlace m letter k →
     IsInside letter k cert
 inside m X k (Optimal x y) f h = omega (arith, f.0, h)
 inside m Y k (Optimal x y) f h = omega (arith, f.1, h)

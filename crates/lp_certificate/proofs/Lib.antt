@@ -1,4 +1,5 @@
 pub mod Blanks
 pub mod Inside
 pub mod Lines
+pub mod Numbers
 pub mod Places

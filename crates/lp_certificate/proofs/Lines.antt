@@ -4,7 +4,7 @@ use Rattle.std.proofs.lemmas.List.{append-nil}
 use Rattle.spec_exact.specs.Fraction.{ℚ, 0ℚ, eq_ℚ}
 use Rattle.spec_model.specs.Model.{Name}
 use Rattle.spec_check.specs.declared.certificate.Letter.{Letter}
-use Rattle.spec_check.specs.TextWritten.{part_text, part_lines}
+use Rattle.spec_certificate.specs.TextWritten.{part_text, part_lines}
 
 -- a number that is 0 has none
 pub no_line : (letter : Letter) (name : Name) (v : ℚ) (lines : List (List ℕ)) (zero : Bool) → zero ≡ eq_ℚ v 0ℚ →

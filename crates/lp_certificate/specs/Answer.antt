@@ -1,6 +1,5 @@
 -- What putting a certificate to a model says.
 use Rattle.std.specs.Prelude.{◌≡◌, ◌<◌, ℕ, ⊤, List, length, Result, Ok, Err}
-use Rattle.spec_exact.specs.Fraction.{ℚ}
 use Rattle.spec_model.specs.Model.{Model, Name}
 use Rattle.spec_check.specs.declared.certificate.Certificate.{Certificate}
 use Rattle.spec_check.specs.declared.certificate.Certificate.TheVariants.{Optimal, Infeasible, Unbounded}
@@ -18,12 +17,12 @@ IsErrorOf answer (Fault fault) = answer ≡ Err fault
 IsErrorOf answer NoMemory = Unit {0}
 
 -- the answer's certificate, or its fault
-abbrev pub Settles : Settled (Certificate (List ℚ)) → Result (Certificate (List ℚ)) SettleError → Type 0
+abbrev pub Settles : {F : Type 0} → Settled (Certificate (List F)) → Result (Certificate (List F)) SettleError → Type 0
 Settles answer (Ok cert) = answer ≡ Ok cert
 Settles answer (Err error) = IsErrorOf answer error
 
 -- the answer's certificate after a step, or its fault
-abbrev pub Puts : Settled (Certificate (List ℚ)) → Certificate (List ℚ) → Result ⊤ SettleError → Type 0
+abbrev pub Puts : {F : Type 0} → Settled (Certificate (List F)) → Certificate (List F) → Result ⊤ SettleError → Type 0
 Puts answer after (Ok done) = answer ≡ Ok after
 Puts answer after (Err error) = IsErrorOf answer error
 
@@ -32,7 +31,7 @@ abbrev pub IsPlace : Model → Letter → ℕ → Type 0
 IsPlace m letter k = k < count_of m letter
 
 -- a place in the list of the letter
-abbrev pub IsInside : Letter → ℕ → Certificate (List ℚ) → Type 0
+abbrev pub IsInside : {F : Type 0} → Letter → ℕ → Certificate (List F) → Type 0
 IsInside X k (Optimal x y) = k < length x
 IsInside Y k (Optimal x y) = k < length y
 IsInside Y k (Infeasible y) = k < length y

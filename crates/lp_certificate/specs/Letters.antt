@@ -4,7 +4,7 @@ use Rattle.spec_exact.specs.Fraction.{ℚ}
 use Rattle.spec_model.specs.Model.{Model, Name, width, height, row, column}
 use Rattle.spec_check.specs.declared.certificate.Letter.{Letter}
 use Rattle.spec_check.specs.declared.certificate.Letter.TheVariants.{X, Y, R}
-use Rattle.spec_check.specs.TextWritten.{lines_below}
+use Rattle.spec_certificate.specs.TextWritten.{lines_below}
 
 abbrev pub count_of : Model → Letter → ℕ
 count_of m X = width m

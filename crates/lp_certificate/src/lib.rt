@@ -6,21 +6,30 @@
 //! | `cert_text` | the lines of a certificate's text | src/text |
 //! | `CertReader`, `CertFeed` | a text of a certificate that is read line by line, and what a line is answered | src/reader |
 //! | `is_end` | whether the words of a line end a text of a certificate | src/words |
-//! | `RawCertificate`, `CertificateKind`, `Parts`, `Part`, `Letter` | a certificate as its text has it, with names | src/certificate, `spec_check` |
+//! | `ReaderOf`, `FeedOf` | the same over the type of numbers | src/reader |
+//! | `RawCertificate`, `CertificateKind`, `Letter` | a certificate as its text has it, with names | src/certificate, `spec_check` |
+//! | `RawOf`, `PartsOf`, `PartOf`, `CertificateOf` | the same, and a certificate of a model, over the type of numbers | src/certificate |
+//! | `Number` | a number of a certificate: of 127 bits, or of any width | src/number, src/narrow, src/wide |
 //! | `SettleError`, `SettleFault` | why parts make no certificate of a model | src/settled, src/certificate |
 //!
-//! That a written certificate is read back is a law of `spec_check`; the contracts here are equations with what the law
+//! That a written certificate is read back is a law of `spec_certificate`; the contracts here are equations with what the law
 //! speaks of.
 #![tactic(auto)]
 
 mod certificate;
+mod narrow;
+mod number;
 mod reader;
 mod settled;
 mod text;
+mod wide;
 mod words;
 
-pub use certificate::{CertificateKind, Part, Parts, RawCertificate, SettleFault};
-pub use reader::{CertFeed, CertReader};
+pub use certificate::{
+    CertificateKind, CertificateOf, PartOf, PartsOf, RawCertificate, RawOf, SettleFault,
+};
+pub use number::Number;
+pub use reader::{CertFeed, CertReader, FeedOf, ReaderOf};
 pub use settled::{SettleError, settle};
 pub use spec_check::Letter;
 pub use text::cert_text;

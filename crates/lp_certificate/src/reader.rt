@@ -1,60 +1,69 @@
 // A text of a certificate that is read line by line.
 ghost use Rattle.std.specs.Prelude.{◌≡◌, ◌+◌, ◌<◌, ◌-◌, ◌^◌, ◌++◌, ◌∷◌, [], None, IfOk, OnOk, if◌then◌else◌};
-ghost use Rattle.spec_check.specs.Text as certificate;
-ghost use Rattle.spec_check.specs.declared.progress.Progress.TheVariants.{More, Unfit};
+ghost use Rattle.spec_certificate.specs.Text as certificate;
+ghost use Rattle.spec_certificate.specs.declared.progress.Progress.TheVariants.{More, Unfit};
 ghost use Rattle.lp_certificate.specs.Feeds.{Feeds};
 
-use crate::certificate::{Parts, RawCertificate};
+use crate::certificate::RawOf;
+use crate::number::Number;
 use crate::words::{is_end, kind_of, part_of};
 use lp_base::{Line, Texts, words};
+use lp_frac::Frac;
+use lp_list::Items;
+use spec_certificate::Progress;
+use spec_check::RawCertificate;
 use std::alloc::{AllocError, Global};
 use std::marker::Model;
 
-type Progress = spec_check::Progress<RawCertificate>;
-
 /// What a line is answered.
 #[derive(Drop)]
-pub enum CertFeed {
+pub enum FeedOf<N> {
     /// The text continues.
     More,
     /// It has ended, and spells this.
-    Done(RawCertificate),
+    Done(RawOf<N>),
     /// The line with this number does not fit.
     Refused(u32),
     NoMemory,
 }
 
 /// A text of a certificate that is read line by line. After any answer but `More` the reader has lost what it read.
-pub struct CertReader {
-    raw: Option<RawCertificate>,
+pub struct ReaderOf<N> {
+    raw: Option<RawOf<N>>,
     lines: u32,
 }
 
-impl Model for CertReader {
+/// What a line is answered, where numbers are of 127 bits.
+pub type CertFeed = FeedOf<Frac>;
+
+/// A text whose numbers are of 127 bits.
+pub type CertReader = ReaderOf<Frac>;
+
+impl<N> Model for ReaderOf<N> {
     ghost use Rattle.lp_certificate.specs.CertificateRead.{CertificateRead};
 
-    ghost Value = { CertificateRead };
+    ghost Value = { CertificateRead N };
 
     ghost view = { λ r. record { raw = r.raw; lines = r.lines } };
 }
 
 // A first line.
-fn open(alloc: Global, words: &Texts) -> Result<Progress, AllocError>
+fn open<N: Drop>(alloc: Global, words: &Texts) -> Result<Progress<RawOf<N>>, AllocError>
     ensures { IfOk result (λ progress. progress ≡ certificate.opened (certificate.kind_of words.now)) }
 {
     match kind_of(alloc, words)? {
         Some(kind) => Ok(Progress::More(RawCertificate {
             kind,
-            parts: Parts::new(alloc),
+            parts: Items::new(alloc),
         })),
         None => Ok(Progress::Unfit),
     }
 }
 
 // Adds the part that the words of a line say. Whether they say one.
-fn add_part(alloc: Global, raw: &mut RawCertificate, words: &Texts) -> Result<bool, AllocError>
+fn add_part<N: Number>(alloc: Global, raw: &mut RawOf<N>, words: &Texts) -> Result<bool, AllocError>
     ensures { IfOk result (λ is_part. (if is_part then More raw.new else Unfit)
-        ≡ certificate.with_part raw.old (certificate.part_of raw.old.kind words.now)) }
+        ≡ certificate.with_part raw.old (certificate.part_by N.reading raw.old.kind words.now)) }
 {
     match part_of(alloc, &raw.kind, words)? {
         Some(part) => {
@@ -66,8 +75,12 @@ fn add_part(alloc: Global, raw: &mut RawCertificate, words: &Texts) -> Result<bo
 }
 
 // A line after the first.
-fn go_on(alloc: Global, mut raw: RawCertificate, words: &Texts) -> Result<Progress, AllocError>
-    ensures { IfOk result (λ progress. progress ≡ certificate.step_by_words (Some raw) words.now) }
+fn go_on<N: Number>(
+    alloc: Global,
+    mut raw: RawOf<N>,
+    words: &Texts,
+) -> Result<Progress<RawOf<N>>, AllocError>
+    ensures { IfOk result (λ progress. progress ≡ certificate.words_step N.reading (Some raw) words.now) }
 {
     if is_end(words) {
         return Ok(Progress::Done(raw));
@@ -86,13 +99,13 @@ fn go_on(alloc: Global, mut raw: RawCertificate, words: &Texts) -> Result<Progre
 }
 
 // What a line leads to, after what was read before it, which is taken where the line has words.
-#[tactic(auto, unfolding(spec_check::specs::Text::step))]
-fn advance(
+#[tactic(auto, unfolding(spec_certificate::specs::Text::step_by))]
+fn advance<N: Number>(
     alloc: Global,
-    so_far: &mut Option<RawCertificate>,
+    so_far: &mut Option<RawOf<N>>,
     line: &Line,
-) -> Result<Progress, AllocError>
-    ensures { IfOk result (λ progress. progress ≡ certificate.step so_far.old line.now) }
+) -> Result<Progress<RawOf<N>>, AllocError>
+    ensures { IfOk result (λ progress. progress ≡ certificate.step_by N.reading so_far.old line.now) }
 {
     let Line::Text(bytes) = line else {
         return Ok(Progress::Unfit);
@@ -106,28 +119,30 @@ fn advance(
     progress
 }
 
-impl Drop for CertReader {
+impl<N: Drop> Drop for ReaderOf<N> {
     fn drop(self) {
-        let CertReader { raw, lines: _ } = self;
+        let ReaderOf { raw, lines: _ } = self;
         drop(raw);
     }
 }
 
-impl CertReader {
+impl<N> ReaderOf<N> {
     /// Nothing was read.
     pub fn new() -> Self
         ensures { result ≡ record { raw = None; lines = 0 } }
     {
-        CertReader {
+        ReaderOf {
             raw: None,
             lines: 0,
         }
     }
+}
 
+impl<N: Number> ReaderOf<N> {
     /// Takes the next line.
-    pub fn feed(&mut self, alloc: Global, line: &Line) -> CertFeed
+    pub fn feed(&mut self, alloc: Global, line: &Line) -> FeedOf<N>
         requires { self.old.lines < 2 ^ 32 - 1 }
-        ensures { Feeds (certificate.step self.old.raw line.now) (self.old.lines + 1) self.new result }
+        ensures { Feeds (certificate.step_by N.reading self.old.raw line.now) (self.old.lines + 1) self.new result }
     {
         let number = self.lines + 1;
         let mut so_far = self.raw.take();
@@ -137,11 +152,11 @@ impl CertReader {
             Ok(Progress::More(raw)) => {
                 self.raw = Some(raw);
                 self.lines = number;
-                CertFeed::More
+                FeedOf::More
             }
-            Ok(Progress::Done(raw)) => CertFeed::Done(raw),
-            Ok(Progress::Unfit) => CertFeed::Refused(number),
-            Err(_) => CertFeed::NoMemory,
+            Ok(Progress::Done(raw)) => FeedOf::Done(raw),
+            Ok(Progress::Unfit) => FeedOf::Refused(number),
+            Err(_) => FeedOf::NoMemory,
         }
     }
 }

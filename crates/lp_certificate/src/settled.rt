@@ -1,16 +1,16 @@
 // The parts of a certificate, put to the rows and columns of a model.
-ghost use Rattle.std.specs.Prelude.{◌≡◌, ◌<◌, length, IfOk, IfSome, Ok};
+ghost use Rattle.std.specs.Prelude.{◌≡◌, ◌<◌, ◌==◌, length, replicate, IfOk, IfSome, Ok};
 ghost use Rattle.spec_check.specs.Certificate.{IsFor};
 ghost use Rattle.spec_check.specs.Settle as settling;
 ghost use Rattle.lp_certificate.specs.Answer.{Settles, Puts, IsPlace, IsInside, IsUnknown, IsRepeated};
 ghost use Rattle.lp_certificate.specs.declared.settled.SettleError.TheVariants.{NoMemory};
 
-use crate::certificate::{CertificateKind, Part, RawCertificate, SettleFault};
+use crate::certificate::{CertificateKind, CertificateOf, PartOf, RawOf, SettleFault};
+use crate::number::Number;
 use lp_base::{Name, are_same};
-use lp_check::Certificate;
-use lp_frac::{Frac, Fracs, zeros};
+use lp_list::Items;
 use lp_model::Model;
-use spec_check::Letter;
+use spec_check::{Certificate, Letter};
 use std::alloc::{AllocError, Global};
 use thiserror::Error;
 
@@ -52,9 +52,25 @@ fn repeated(alloc: Global, name: &Name) -> SettleError
     }
 }
 
+// A list of `n` zeros.
+fn zeros<N: Number>(alloc: Global, n: usize) -> Result<Items<N>, AllocError>
+    ensures { IfOk result (λ list. list ≡ replicate n N.nothing) }
+{
+    let mut list: Items<N> = Items::new(alloc);
+    for i in 0..n {
+        let zero = N::zero(alloc)?;
+        list.push(zero)?;
+    }
+    Ok(list)
+}
+
 // Two lists of zeros, of these lengths.
-fn two_zeros(alloc: Global, first: usize, second: usize) -> Result<(Fracs, Fracs), AllocError>
-    ensures { IfOk result (λ lists. lists ≡ (settling.zeros first, settling.zeros second)) }
+fn two_zeros<N: Number>(
+    alloc: Global,
+    first: usize,
+    second: usize,
+) -> Result<(Items<N>, Items<N>), AllocError>
+    ensures { IfOk result (λ lists. lists ≡ (replicate first N.nothing, replicate second N.nothing)) }
 {
     let first = zeros(alloc, first)?;
     let second = zeros(alloc, second)?;
@@ -63,8 +79,12 @@ fn two_zeros(alloc: Global, first: usize, second: usize) -> Result<(Fracs, Fracs
 
 // The certificate of this kind in which all numbers are 0.
 #[tactic(auto, unfolding(spec_check::specs::Settle::blank))]
-fn blank(alloc: Global, model: &Model, kind: &CertificateKind) -> Result<Certificate, SettleError>
-    ensures answer { Settles (settling.blank model.now kind.now) result }
+fn blank<N: Number>(
+    alloc: Global,
+    model: &Model,
+    kind: &CertificateKind,
+) -> Result<CertificateOf<N>, SettleError>
+    ensures answer { Settles (settling.blank N.nothing model.now kind.now) result }
     ensures fits { IfOk result (IsFor model.now) }
 {
     let columns = model.cols() as usize;
@@ -101,7 +121,7 @@ fn place_of(model: &Model, letter: Letter, name: &[u8]) -> Option<u32>
 }
 
 // Puts a number into its place.
-fn set(cert: &mut Certificate, letter: Letter, k: u32, value: Frac)
+fn set<N: Drop>(cert: &mut CertificateOf<N>, letter: Letter, k: u32, value: N)
     requires { IsInside letter k cert.old }
     ensures { cert.new ≡ settling.with_value letter k value cert.old }
 {
@@ -123,7 +143,7 @@ fn is_same_letter(letter: Letter, other: Letter) -> bool
 }
 
 // Whether one of the parts has this letter and this name.
-fn is_given(part: &Part, parts: &[Part]) -> bool
+fn is_given<N>(part: &PartOf<N>, parts: &[PartOf<N>]) -> bool
     ensures { result ≡ settling.is_given part.now.letter part.now.name parts.now }
 {
     parts.iter().any(|p| is_same_letter(p.letter, part.letter)
@@ -132,12 +152,12 @@ fn is_given(part: &Part, parts: &[Part]) -> bool
 
 // Puts the part into its place, after those before it.
 #[tactic(auto, unfolding(spec_check::specs::Settle::put))]
-fn put(
+fn put<N: Number>(
     alloc: Global,
     model: &Model,
-    before: &[Part],
-    part: &Part,
-    cert: &mut Certificate,
+    before: &[PartOf<N>],
+    part: &PartOf<N>,
+    cert: &mut CertificateOf<N>,
 ) -> Result<(), SettleError>
     requires { IsFor model.now cert.old }
     ensures answer { Puts (settling.put model.now before.now part.now cert.old) cert.new result }
@@ -149,18 +169,19 @@ fn put(
     if is_given(part, before) {
         return Err(repeated(alloc, &part.name));
     }
-    set(cert, part.letter, k, part.value);
+    let value = part.value.copied(alloc)?;
+    set(cert, part.letter, k, value);
     Ok(())
 }
 
 /// The certificate that these parts make for the model. What they do not name is 0. It fails with
 /// the first name that is not known, or that stands in an earlier part with the same letter.
-pub fn settle(
+pub fn settle<N: Number>(
     alloc: Global,
     model: &Model,
-    raw: &RawCertificate,
-) -> Result<Certificate, SettleError>
-    ensures answer { Settles (settling.certificate_for model.now raw.now) result }
+    raw: &RawOf<N>,
+) -> Result<CertificateOf<N>, SettleError>
+    ensures answer { Settles (settling.certificate_by N.nothing model.now raw.now) result }
     ensures fits { IfOk result (IsFor model.now) }
 {
     let mut cert = blank(alloc, model, &raw.kind)?;

@@ -1,7 +1,7 @@
 // The text of a certificate.
 ghost use Rattle.std.specs.Prelude.{◌≡◌, ◌∷◌, ◌++◌, length, IfOk, OnOk};
 ghost use Rattle.spec_check.specs.Certificate.{IsFor};
-ghost use Rattle.spec_check.specs.TextWritten as text_written;
+ghost use Rattle.spec_certificate.specs.TextWritten as text_written;
 ghost use Rattle.lp_certificate.specs.Answer.{IsPlace};
 ghost use Rattle.lp_certificate.specs.Letters.{count_of, name_at, value_lines};
 
@@ -144,7 +144,7 @@ fn add_parts(
 }
 
 // Adds the lines of the certificate's text.
-#[tactic(auto, unfolding(spec_check::specs::TextWritten::certificate_lines))]
+#[tactic(auto, unfolding(spec_certificate::specs::TextWritten::certificate_lines))]
 fn add_lines(
     alloc: Global,
     model: &Model,

@@ -1,15 +1,16 @@
 // The words of a certificate's text.
 ghost use Rattle.std.specs.Prelude.{◌≡◌, [], ◌∷◌, IfOk};
-ghost use Rattle.spec_check.specs.Text as certificate;
+ghost use Rattle.spec_certificate.specs.Text as certificate;
 
-use crate::certificate::{CertificateKind, Part};
+use crate::certificate::{CertificateKind, PartOf};
+use crate::number::Number;
 use lp_base::{Name, Texts, are_same, by_word, look_up};
-use spec_check::Letter;
+use spec_check::{Letter, Part};
 use std::alloc::{AllocError, Global};
 
 const LETTERS: [(&[u8], Letter); 3] = [(b"x", Letter::X), (b"y", Letter::Y), (b"r", Letter::R)];
 
-#[tactic(auto, unfolding(spec_check::specs::Text::letter_of))]
+#[tactic(auto, unfolding(spec_certificate::specs::Text::letter_of))]
 fn letter_of(word: &[u8]) -> Option<Letter>
     ensures { result ≡ certificate.letter_of word.now }
 {
@@ -29,7 +30,7 @@ fn takes(kind: &CertificateKind, letter: Letter) -> bool
 }
 
 // The kind that one word says.
-#[tactic(auto, unfolding(spec_check::specs::Text::kind_of))]
+#[tactic(auto, unfolding(spec_certificate::specs::Text::kind_of))]
 fn kind_by_word(word: &[u8]) -> Option<CertificateKind>
     ensures { result ≡ certificate.kind_of (word.now ∷ []) }
 {
@@ -42,7 +43,7 @@ fn kind_by_word(word: &[u8]) -> Option<CertificateKind>
 }
 
 // The kind that the words of a first line say.
-#[tactic(auto, unfolding(spec_check::specs::Text::kind_of))]
+#[tactic(auto, unfolding(spec_certificate::specs::Text::kind_of))]
 pub(crate) fn kind_of(alloc: Global, words: &Texts) -> Result<Option<CertificateKind>, AllocError>
     ensures { IfOk result (λ kind. kind ≡ certificate.kind_of words.now) }
 {
@@ -57,13 +58,13 @@ pub(crate) fn kind_of(alloc: Global, words: &Texts) -> Result<Option<Certificate
 }
 
 // The part that the words of a line say, in a certificate of this kind.
-#[tactic(auto, unfolding(spec_check::specs::Text::part_of))]
-pub(crate) fn part_of(
+#[tactic(auto, unfolding(spec_certificate::specs::Text::part_by))]
+pub(crate) fn part_of<N: Number>(
     alloc: Global,
     kind: &CertificateKind,
     words: &Texts,
-) -> Result<Option<Part>, AllocError>
-    ensures { IfOk result (λ part. part ≡ certificate.part_of kind.now words.now) }
+) -> Result<Option<PartOf<N>>, AllocError>
+    ensures { IfOk result (λ part. part ≡ certificate.part_by N.reading kind.now words.now) }
 {
     if words.len() != 3 {
         return Ok(None);
@@ -74,7 +75,7 @@ pub(crate) fn part_of(
     if !takes(kind, letter) {
         return Ok(None);
     }
-    let Ok(value) = lp_numtext::read(words.get(2).as_slice()) else {
+    let Some(value) = N::read(alloc, words.get(2).as_slice())? else {
         return Ok(None);
     };
     let name = Name::from_slice(alloc, words.get(1).as_slice())?;
@@ -86,7 +87,7 @@ pub(crate) fn part_of(
 }
 
 /// Whether these words end a text of a certificate.
-#[tactic(auto, unfolding(spec_check::specs::Text::is_end))]
+#[tactic(auto, unfolding(spec_certificate::specs::Text::is_end))]
 pub fn is_end(words: &Texts) -> bool
     ensures { result ≡ certificate.is_end words.now }
 {

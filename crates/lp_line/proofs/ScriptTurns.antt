@@ -7,8 +7,9 @@ use Rattle.spec_mps.specs.declared.style.Style.{Style}
 use Rattle.spec_mps.specs.declared.fault.Code.TheVariants.{Cut}
 use Rattle.spec_mps.specs.Reader.{State, start}
 use Rattle.spec_mps.specs.Steps as text
-use Rattle.spec_check.specs.declared.progress.Progress.TheVariants as progress
-use Rattle.spec_check.specs.Text as certificate
+use Rattle.spec_certificate.specs.declared.progress.Progress.TheVariants as progress
+use Rattle.spec_certificate.specs.Text.{step_by}
+use Rattle.spec_certificate.specs.NarrowText as certificate
 use Rattle.spec_edit.specs.Edited.{ExactEdit}
 use Rattle.spec_server.specs.declared.addressing.Addressed.{Addressed}
 use Rattle.spec_server.specs.declared.addressing.Addressing.{Addressing}
@@ -21,7 +22,6 @@ use Rattle.spec_server.specs.Script.{Pending, Between, Text, Certificate, ends_t
 use Rattle.spec_server.specs.Script.{ask_of_judgement}
 use Rattle.spec_server.specs.Script.{begun_by, asks_by, pending_after_line, asks_of_line}
 use Rattle.mps_read.specs.TextRead.{TextRead}
-use Rattle.lp_certificate.specs.CertificateRead as certificate_reading
 use Rattle.lp_line.specs.declared.body.Body.{Body}
 use Rattle.lp_line.specs.declared.hearing.Step as code
 use Rattle.lp_line.specs.declared.hearing.Step.TheVariants as step
@@ -33,7 +33,7 @@ use Rattle.lp_line.specs.Body.{BodySays, PassesTo}
 use Rattle.lp_line.specs.Hearing.{LeadsOn, Leads}
 use Rattle.lp_line.specs.Script.{behind_asks, script_step, TextFits, CertificateFits, Fits, ScriptSays, lines_in}
 use Rattle.lp_line.specs.Script.{Begins, IsEndOf, verdict_said, judgement_said}
-use Rattle.lp_line.specs.Stages.{TextSays, CertificateSaid, certificate_step, CertificateSays}
+use Rattle.lp_line.specs.Stages.{NarrowRead, TextSays, CertificateSaid, certificate_step, CertificateSays}
 use Rattle.lp_line.specs.Stages as stages
 
 same_said : {A : Type 0} (a b : A) → ◌≡◌ {A = Option A} (Some a) (Some b) → a ≡ b
@@ -64,7 +64,7 @@ text_judged form s n (here ∷ lines) = by (text.step form s here) (λ t. text_j
     by (Err code) rest = refl
 
 certificate_cut : (raw : Option certificate.ExactRaw) → certificate.step raw line.End ≡ progress.Unfit
-unfolding certificate.step
+unfolding step_by
 certificate_cut raw = refl
 
 certificate_judged : (raw : Option certificate.ExactRaw) (n : ℕ) (lines : List (Line (List ℕ))) →
@@ -92,7 +92,7 @@ certificate_judged raw n (here ∷ lines) =
 abbrev lines_read : TextRead → ℕ
 lines_read reader = reader.lines
 
-abbrev lines_of_certificate : certificate_reading.CertificateRead → ℕ
+abbrev lines_of_certificate : NarrowRead → ℕ
 lines_of_certificate reader = reader.lines
 
 text_passes : (form : Style) (lines : List (Line (List ℕ))) (held next : Body TextRead TextSaid)
@@ -109,14 +109,14 @@ text_closes form lines held what fits h =
     same_said _ what (sym (text_judged form start 0 lines) ∙ fits (line.End ∷ []) (Some what) h)
 
 certificate_passes : (lines : List (Line (List ℕ)))
-    (held next : Body certificate_reading.CertificateRead CertificateSaid) (here : Line (List ℕ)) →
+    (held next : Body NarrowRead CertificateSaid) (here : Line (List ℕ)) →
     CertificateFits lines held → PassesTo CertificateSays lines_of_certificate held here next →
     CertificateFits (lines ++ here ∷ []) next
 certificate_passes lines held next here fits p = λ more answer h.
     ap (said_by certificate_step (record { raw = None; lines = 0 })) (append_assoc lines (here ∷ []) more)
     ∙ fits (here ∷ more) answer (p.behind more answer h)
 
-certificate_closes : (lines : List (Line (List ℕ))) (held : Body certificate_reading.CertificateRead CertificateSaid)
+certificate_closes : (lines : List (Line (List ℕ))) (held : Body NarrowRead CertificateSaid)
     (what : CertificateSaid) →
     CertificateFits lines held → BodySays CertificateSays held (line.End ∷ []) (Some what) →
     judgement_said (certificate.judge None 1 lines) ≡ what
@@ -254,7 +254,7 @@ text_ends own held next here said ask what no_end e p closed asks is =
 -- ---- a line in a certificate
 
 fit_certificate : (P : Addressing → Pending →
-    Type 0) (own : ℕ) (held : Body certificate_reading.CertificateRead CertificateSaid) →
+    Type 0) (own : ℕ) (held : Body NarrowRead CertificateSaid) →
     ((addressing : Addressing) (lines : List (Line (List ℕ))) → CertificateFits lines held →
     P addressing (Certificate own lines)) →
     (addressing : Addressing) (pending : Pending) → Fits addressing pending (stage.Certificate own held) →
@@ -264,7 +264,7 @@ fit_certificate P own held h addressing (Text session form lines) f = absurd f
 fit_certificate P own held h addressing (Certificate session lines) f =
     subst (λ (s : ℕ). P addressing (Certificate s lines)) f.0 (h addressing lines f.1)
 
-pub certificate_goes_on : (own : ℕ) (held next : Body certificate_reading.CertificateRead CertificateSaid)
+pub certificate_goes_on : (own : ℕ) (held next : Body NarrowRead CertificateSaid)
     (here : Line (List ℕ)) → here ≢ line.End →
     false ≡ ends_certificate here → PassesTo CertificateSays lines_of_certificate held here next →
     Leads ScriptSays lines_in (stage.Certificate own held) here (step.On (stage.Certificate own next))
@@ -286,7 +286,7 @@ certificate_goes_on own held next here no_end e p =
     })
     (omega (arith, p.counts))
 
-pub certificate_ends : (own : ℕ) (held next : Body certificate_reading.CertificateRead CertificateSaid)
+pub certificate_ends : (own : ℕ) (held next : Body NarrowRead CertificateSaid)
     (here : Line (List ℕ)) (said : CertificateSaid) (ask : ExactAsk)
     (what : Taken) → here ≢ line.End → true ≡ ends_certificate here →
     PassesTo CertificateSays lines_of_certificate held here next →

@@ -7,17 +7,17 @@ use Rattle.spec_mps.specs.declared.fault.MpsFault.{MpsFault}
 use Rattle.spec_mps.specs.declared.style.Style.{Style}
 use Rattle.spec_mps.specs.Reader.{State}
 use Rattle.spec_mps.specs.Steps as text
-use Rattle.spec_check.specs.declared.progress.Progress.TheVariants as progress
-use Rattle.spec_check.specs.Text as certificate
+use Rattle.spec_certificate.specs.declared.progress.Progress.TheVariants as progress
+use Rattle.spec_certificate.specs.Text.{step_by}
+use Rattle.spec_certificate.specs.NarrowText as certificate
 use Rattle.spec_server.specs.Said.{follow, said_by}
 use Rattle.spec_server.specs.SolveOut.{behind_line, text_step}
 use Rattle.mps_read.specs.Feeds as feeds
 use Rattle.mps_read.specs.TextRead.{TextRead}
 use Rattle.lp_certificate.specs.Feeds as certificate_feeds
-use Rattle.lp_certificate.specs.CertificateRead as certificate_reading
 use Rattle.lp_line.specs.declared.hearing.Step.TheVariants.{On, Says}
 use Rattle.lp_line.specs.Hearing.{Leads}
-use Rattle.lp_line.specs.Stages.{TextSays, CertificateSaid, certificate_step, CertificateSays}
+use Rattle.lp_line.specs.Stages.{NarrowRead, TextSays, CertificateSaid, certificate_step, CertificateSays}
 use Rattle.lp_line.specs.Stages as stages
 
 abbrev lines_read : TextRead → ℕ
@@ -71,15 +71,15 @@ text_is_wrong old line fault r = λ more.
 
 -- ---- a certificate
 
-abbrev lines_of_certificate : certificate_reading.CertificateRead → ℕ
+abbrev lines_of_certificate : NarrowRead → ℕ
 lines_of_certificate reader = reader.lines
 
 no_certificate_behind_end : (raw : Option certificate.ExactRaw) (next : certificate.ExactRaw) →
     certificate.step raw End ≡ progress.More next → ⊥
-unfolding certificate.step
+unfolding step_by
 no_certificate_behind_end raw next e = cc
 
-by_judgement : (old : certificate_reading.CertificateRead) (line : Line (List ℕ)) (more : List (Line (List ℕ)))
+by_judgement : (old : NarrowRead) (line : Line (List ℕ)) (more : List (Line (List ℕ)))
     (outcome : certificate.Outcome) →
     certificate.step old.raw line ≡ outcome →
     said_by certificate_step old (line ∷ more) ≡
@@ -89,24 +89,24 @@ by_judgement old line more outcome e =
     ap (λ (o : certificate.Outcome). follow (stages.behind_line (old.lines + 1) o)
     (λ next. said_by certificate_step next more)) e
 
-pub certificate_goes_on : (old new : certificate_reading.CertificateRead) (line : Line (List ℕ)) →
+pub certificate_goes_on : (old new : NarrowRead) (line : Line (List ℕ)) →
     certificate_feeds.GoesOn (certificate.step old.raw line) (old.lines + 1) new →
     Leads CertificateSays lines_of_certificate old line (On new)
 certificate_goes_on old new line g = record {
   behind = λ more answer h.
       by_judgement old line more (progress.More g.raw) g.state
-      ∙ ap (λ (reader : certificate_reading.CertificateRead). said_by certificate_step reader more) (sym g.kept) ∙ h;
-  counts = omega (arith, ap (λ (reader : certificate_reading.CertificateRead). reader.lines) g.kept);
+      ∙ ap (λ (reader : NarrowRead). said_by certificate_step reader more) (sym g.kept) ∙ h;
+  counts = omega (arith, ap (λ (reader : NarrowRead). reader.lines) g.kept);
   no_end = λ h. no_certificate_behind_end old.raw g.raw (ap (certificate.step old.raw) (sym h) ∙ g.state);
 }
 
-pub certificate_spells : (old : certificate_reading.CertificateRead) (line : Line (List ℕ))
+pub certificate_spells : (old : NarrowRead) (line : Line (List ℕ))
     (raw : certificate.ExactRaw) →
     certificate.step old.raw line ≡ progress.Done raw →
     Leads CertificateSays lines_of_certificate old line (Says (Ok raw))
 certificate_spells old line raw e = λ more. by_judgement old line more (progress.Done raw) e
 
-pub certificate_is_unfit : (old : certificate_reading.CertificateRead) (line : Line (List ℕ)) (n : ℕ) →
+pub certificate_is_unfit : (old : NarrowRead) (line : Line (List ℕ)) (n : ℕ) →
     certificate_feeds.IsUnfit (certificate.step old.raw line) (old.lines + 1) n →
     Leads CertificateSays lines_of_certificate old line (Says (Err n))
 certificate_is_unfit old line n u = λ more.

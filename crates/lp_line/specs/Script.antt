@@ -5,7 +5,7 @@ use Rattle.spec_text.specs.declared.line.Line.TheVariants as line
 use Rattle.spec_mps.specs.declared.style.Style.{Style}
 use Rattle.spec_mps.specs.Reader.{start}
 use Rattle.spec_mps.specs.Steps as text
-use Rattle.spec_check.specs.Text as certificate
+use Rattle.spec_certificate.specs.NarrowText as certificate
 use Rattle.spec_server.specs.declared.addressing.Addressing.{Addressing}
 use Rattle.spec_server.specs.declared.asks.Asked.{Asked}
 use Rattle.spec_server.specs.Machine.{ExactAsk}
@@ -14,7 +14,6 @@ use Rattle.spec_server.specs.Said.{Step, On, Says, said_by}
 use Rattle.spec_server.specs.SolveOut.{TextSaid, text_step}
 use Rattle.spec_server.specs.Script.{Pending, Between, Text, Certificate, Ending, Ended, Cut, Over, ending_by, begun}
 use Rattle.spec_server.specs.Script.{asks_of_command, pending_after_line, asks_of_line}
-use Rattle.lp_certificate.specs.CertificateRead as certificate_reading
 use Rattle.mps_read.specs.TextRead as text_reading
 use Rattle.lp_line.specs.declared.body.Body.{Body}
 use Rattle.lp_line.specs.declared.hearing.Step as code
@@ -24,7 +23,7 @@ use Rattle.lp_line.specs.declared.script.ScriptStage.TheVariants as stage
 use Rattle.lp_line.specs.declared.taking.Taken.{Taken}
 use Rattle.lp_line.specs.declared.taking.Taken.TheVariants as taken
 use Rattle.lp_line.specs.Body.{BodySays, count_in}
-use Rattle.lp_line.specs.Stages.{TextSays, CertificateSaid, certificate_step, CertificateSays}
+use Rattle.lp_line.specs.Stages.{NarrowRead, TextSays, CertificateSaid, certificate_step, CertificateSays}
 
 -- ---- the lines of a script, one by one, with all lines of a body
 
@@ -57,7 +56,7 @@ TextFits form lines body =
     (more : List (Line (List ℕ))) (answer : Option TextSaid) → BodySays TextSays body more answer →
     said_by (text_step form) (record { state = start; lines = 0 }) (lines ++ more) ≡ answer
 
-abbrev pub CertificateFits : List (Line (List ℕ)) → Body certificate_reading.CertificateRead CertificateSaid → Type 0
+abbrev pub CertificateFits : List (Line (List ℕ)) → Body NarrowRead CertificateSaid → Type 0
 CertificateFits lines body =
     (more : List (Line (List ℕ))) (answer : Option CertificateSaid) → BodySays CertificateSays body more answer →
     said_by certificate_step (record { raw = None; lines = 0 }) (lines ++ more) ≡ answer
@@ -79,7 +78,7 @@ abbrev pub lines_in : ScriptStage → ℕ
 lines_in (stage.Between addressing) = 0
 lines_in (stage.Text session body) = count_in (λ (reader : text_reading.TextRead). reader.lines) body + 1
 lines_in (stage.Certificate session body) =
-    count_in (λ (reader : certificate_reading.CertificateRead). reader.lines) body + 1
+    count_in (λ (reader : NarrowRead). reader.lines) body + 1
 
 -- ---- parts of a step
 

@@ -1,8 +1,9 @@
 -- What the lines of a text and of a certificate say.
 use Rattle.std.specs.Prelude.{ℕ, ◌≡◌, ◌+◌, Option, Some, Result, Ok, Err, List}
 use Rattle.spec_text.specs.declared.line.Line.{Line}
-use Rattle.spec_check.specs.declared.progress.Progress.TheVariants as progress
-use Rattle.spec_check.specs.Text as certificate
+use Rattle.spec_exact.specs.Fraction.{ℚ}
+use Rattle.spec_certificate.specs.declared.progress.Progress.TheVariants as progress
+use Rattle.spec_certificate.specs.NarrowText as certificate
 use Rattle.spec_server.specs.Said.{Step, On, Says, said_by}
 use Rattle.spec_server.specs.SolveOut.{TextSaid, text_step}
 use Rattle.mps_read.specs.TextRead as text
@@ -13,19 +14,23 @@ abbrev pub TextSays : text.TextRead → List (Line (List ℕ)) → Option TextSa
 TextSays reader lines answer =
     said_by (text_step reader.style) (record { state = reader.state; lines = reader.lines }) lines ≡ answer
 
+-- a text of a certificate that is read, of numbers of 127 bits
+abbrev pub NarrowRead : Type 0
+NarrowRead = CertificateRead ℚ
+
 -- the certificate that a text spells, or the first line that does not fit
 abbrev pub CertificateSaid : Type 0
 CertificateSaid = Result certificate.ExactRaw ℕ
 
 -- where line n leads
-abbrev pub behind_line : ℕ → certificate.Outcome → Step CertificateRead CertificateSaid
+abbrev pub behind_line : ℕ → certificate.Outcome → Step NarrowRead CertificateSaid
 behind_line n (progress.More raw) = On (record { raw = Some raw; lines = n })
 behind_line n (progress.Done raw) = Says (Ok raw)
 behind_line n progress.Unfit = Says (Err n)
 
-unfoldable pub certificate_step : CertificateRead → Line (List ℕ) → Step CertificateRead CertificateSaid
+unfoldable pub certificate_step : NarrowRead → Line (List ℕ) → Step NarrowRead CertificateSaid
 certificate_step reader line = behind_line (reader.lines + 1) (certificate.step reader.raw line)
 
 -- after a reader of a certificate
-abbrev pub CertificateSays : CertificateRead → List (Line (List ℕ)) → Option CertificateSaid → Type 0
+abbrev pub CertificateSays : NarrowRead → List (Line (List ℕ)) → Option CertificateSaid → Type 0
 CertificateSays reader lines answer = said_by certificate_step reader lines ≡ answer

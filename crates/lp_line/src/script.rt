@@ -4,7 +4,7 @@ ghost use Rattle.std.specs.Prelude.{◌≡◌, ◌≢◌, ◌<◌, ◌+◌, ◌-
 ghost use Rattle.spec_text.specs.declared.line.Line.TheVariants.{End};
 ghost use Rattle.spec_server.specs.Script.{ask_of_verdict, ask_of_judgement};
 ghost use Rattle.spec_mps.specs.Steps.{Verdict};
-ghost use Rattle.spec_check.specs.Text.{Judgement};
+ghost use Rattle.spec_certificate.specs.NarrowText.{Judgement};
 ghost use Rattle.lp_line.specs.Hearing.{Leads};
 ghost use Rattle.lp_line.specs.Script.{ScriptSays, lines_in, Begins, IsEndOf, verdict_said, judgement_said};
 ghost use Rattle.lp_line.specs.declared.hearing.Step.TheVariants as step;

@@ -5,8 +5,8 @@ use Rattle.spec_text.specs.declared.line.Line.{Line}
 use Rattle.spec_model.specs.Model.{Model}
 use Rattle.spec_mps.specs.declared.style.Style.{Style}
 use Rattle.spec_mps.specs.Steps as text
-use Rattle.spec_check.specs.declared.progress.Progress.TheVariants as progress
-use Rattle.spec_check.specs.Text as certificate
+use Rattle.spec_certificate.specs.declared.progress.Progress.TheVariants as progress
+use Rattle.spec_certificate.specs.NarrowText as certificate
 use Rattle.spec_server.specs.Machine.{ExactReply}
 use Rattle.spec_server.specs.CheckOut as reading
 use Rattle.spec_server.specs.CheckOut.{check_step}

@@ -17,9 +17,9 @@ use Rattle.spec_check.specs.declared.certificate.Certificate.{Certificate}
 use Rattle.spec_check.specs.declared.certificate.Certificate.TheVariants.{Optimal, Infeasible, Clash, Unbounded}
 use Rattle.spec_check.specs.declared.certificate.SettleFault.TheVariants.{Repeated}
 use Rattle.spec_check.specs.Certificate.{IsFor}
-use Rattle.spec_check.specs.Text.{ExactPart, ExactRaw, ExactKind}
+use Rattle.spec_check.specs.Raw.{ExactPart, ExactRaw, ExactKind}
 use Rattle.spec_check.specs.Settle.{Settled, ◌>>=◌, known, place_of, with_value}
-use Rattle.spec_check.specs.Settle.{is_given, blank, put, put_all, certificate_for}
+use Rattle.spec_check.specs.Settle.{is_given, blank, put, put_all, certificate_by, certificate_for}
 
 -- what an answer came from
 after_ok : {A B : Type 0} (o : Settled A) (next : A → Settled B) (b : B) → (o >>= next) ≡ Ok b →
@@ -83,7 +83,7 @@ all_fit m before (p ∷ parts) cert last f e =
     let a = after_ok (put m before p cert) (λ next. put_all m (before ++ p ∷ []) parts next) last e in
     all_fit m (before ++ p ∷ []) parts a.0 last (put_fits m before p cert a.0 f a.1) a.2
 
-blank_fits : (m : Model) (k : ExactKind) (cert : Certificate (List ℚ)) → blank m k ≡ Ok cert → IsFor m cert
+blank_fits : (m : Model) (k : ExactKind) (cert : Certificate (List ℚ)) → blank 0ℚ m k ≡ Ok cert → IsFor m cert
 unfolding blank
 blank_fits m kind.Optimal cert e =
     subst (IsFor m) (ok_same _ cert e) (length-replicate (width m) 0ℚ, length-replicate (height m) 0ℚ)
@@ -97,7 +97,7 @@ blank_fits m (kind.Clash name) cert e =
 
 pub settled_fits : (m : Model) (raw : ExactRaw) (cert : Certificate (List ℚ)) → certificate_for m raw ≡ Ok cert →
     IsFor m cert
-unfolding certificate_for
+unfolding certificate_by
 settled_fits m raw cert e =
-    let a = after_ok (blank m raw.kind) (λ first. put_all m [] raw.parts first) cert e in
+    let a = after_ok (blank 0ℚ m raw.kind) (λ first. put_all m [] raw.parts first) cert e in
     all_fit m [] raw.parts a.0 cert (blank_fits m raw.kind a.0 a.1) a.2

@@ -10,7 +10,7 @@ use Rattle.spec_check.specs.declared.certificate.Known.{Known}
 use Rattle.spec_check.specs.declared.certificate.Known.TheVariants as known
 
 -- the lists have a number for each column or each row, and the column that is named is one
-abbrev pub IsFor : Model → Certificate (List ℚ) → Type 0
+abbrev pub IsFor : {F : Type 0} → Model → Certificate (List F) → Type 0
 IsFor m (Optimal x y) = (length x ≡ width m) × (length y ≡ height m)
 IsFor m (Infeasible y) = length y ≡ height m
 IsFor m (Clash j) = j < width m

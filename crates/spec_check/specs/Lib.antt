@@ -1,7 +1,5 @@
 pub mod Certificate
 pub mod Checks
 pub mod Run
+pub mod Raw
 pub mod Settle
-pub mod Text
-pub mod TextWritten
-pub mod TextRead

@@ -1,4 +1,4 @@
--- The parts of a certificate, put to the rows and columns of a model by their names.
+-- The parts of a certificate, put to the rows and columns of a model by their names, over the type of its numbers.
 use Rattle.std.specs.Prelude.{ℕ, ◌&&◌, Bool, true, false, Option, Some, None, Result, Ok}
 use Rattle.std.specs.Prelude.{Err, List, [], ◌∷◌, ◌++◌, replicate, slice_set, if◌then◌else◌}
 use Rattle.std.specs.List.{list_any}
@@ -13,7 +13,7 @@ use Rattle.spec_check.specs.declared.certificate.Certificate.{Certificate}
 use Rattle.spec_check.specs.declared.certificate.Certificate.TheVariants.{Optimal, Infeasible, Clash, Unbounded}
 use Rattle.spec_check.specs.declared.certificate.SettleFault.{SettleFault}
 use Rattle.spec_check.specs.declared.certificate.SettleFault.TheVariants.{UnknownName, Repeated}
-use Rattle.spec_check.specs.Text.{ExactPart, ExactRaw, ExactKind}
+use Rattle.spec_check.specs.Raw.{PartOf, RawOf, ExactRaw, ExactKind}
 
 abbrev pub Settled : Type 0 → Type 0
 Settled A = Result A (SettleFault Name)
@@ -37,15 +37,15 @@ place_of m R name = column_place m name
 abbrev pub zeros : ℕ → List ℚ
 zeros n = replicate n 0ℚ
 
--- the certificate of this kind in which all numbers are 0
-unfoldable pub blank : Model → ExactKind → Settled (Certificate (List ℚ))
-blank m kind.Optimal = Ok (Optimal (zeros (width m)) (zeros (height m)))
-blank m kind.Infeasible = Ok (Infeasible (zeros (height m)))
-blank m kind.Unbounded = Ok (Unbounded (zeros (width m)) (zeros (width m)))
-blank m (kind.Clash name) = known (column_place m name) name >>= λ j. Ok (Clash j)
+-- the certificate of this kind in which all numbers are this one
+unfoldable pub blank : {F : Type 0} → F → Model → ExactKind → Settled (Certificate (List F))
+blank v m kind.Optimal = Ok (Optimal (replicate (width m) v) (replicate (height m) v))
+blank v m kind.Infeasible = Ok (Infeasible (replicate (height m) v))
+blank v m kind.Unbounded = Ok (Unbounded (replicate (width m) v) (replicate (width m) v))
+blank v m (kind.Clash name) = known (column_place m name) name >>= λ j. Ok (Clash j)
 
 -- the certificate with this number in its place
-abbrev pub with_value : Letter → ℕ → ℚ → Certificate (List ℚ) → Certificate (List ℚ)
+abbrev pub with_value : {F : Type 0} → Letter → ℕ → F → Certificate (List F) → Certificate (List F)
 with_value X j v (Optimal x y) = Optimal (slice_set x j v) y
 with_value Y i v (Optimal x y) = Optimal x (slice_set y i v)
 with_value Y i v (Infeasible y) = Infeasible (slice_set y i v)
@@ -60,20 +60,26 @@ same_letter R R = true
 same_letter a b = false
 
 -- a part before has this letter and name already
-abbrev pub is_given : Letter → Name → List ExactPart → Bool
+abbrev pub is_given : {F : Type 0} → Letter → Name → List (PartOf F) → Bool
 is_given letter name parts = list_any (λ p. same_letter p.letter letter && same p.name name) parts
 
 -- one part, after those before it
-unfoldable pub put : Model → List ExactPart → ExactPart → Certificate (List ℚ) → Settled (Certificate (List ℚ))
+unfoldable pub put : {F : Type 0} → Model → List (PartOf F) → PartOf F → Certificate (List F) →
+    Settled (Certificate (List F))
 put m before p cert =
     known (place_of m p.letter p.name) p.name >>= λ k.
     if is_given p.letter p.name before then Err (Repeated p.name) else Ok (with_value p.letter k p.value cert)
 
 -- each part in order, up to the first whose name is not known or was given before
-abbrev pub put_all : Model → List ExactPart → List ExactPart → Certificate (List ℚ) → Settled (Certificate (List ℚ))
+abbrev pub put_all : {F : Type 0} → Model → List (PartOf F) → List (PartOf F) → Certificate (List F) →
+    Settled (Certificate (List F))
 put_all m before [] cert = Ok cert
 put_all m before (p ∷ parts) cert = put m before p cert >>= λ next. put_all m (before ++ p ∷ []) parts next
 
--- the certificate of these parts, in which what is not named is 0; or the first name that does not fit
-unfoldable pub certificate_for : Model → ExactRaw → Settled (Certificate (List ℚ))
-certificate_for m raw = blank m raw.kind >>= λ cert. put_all m [] raw.parts cert
+-- the certificate of these parts, in which what is not named is v; or the first name that does not fit
+unfoldable pub certificate_by : {F : Type 0} → F → Model → RawOf F → Settled (Certificate (List F))
+certificate_by v m raw = blank v m raw.kind >>= λ cert. put_all m [] raw.parts cert
+
+-- what is not named is 0
+abbrev pub certificate_for : Model → ExactRaw → Settled (Certificate (List ℚ))
+certificate_for m raw = certificate_by 0ℚ m raw

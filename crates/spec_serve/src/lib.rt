@@ -23,7 +23,7 @@ ghost use Rattle.spec_check.specs.declared.certificate.Known.{Known};
 ghost use Rattle.spec_check.specs.declared.certificate.Verdict.TheVariants as verdict;
 ghost use Rattle.spec_check.specs.declared.solve_end.SolveEnd.TheVariants as outcome;
 ghost use Rattle.spec_check.specs.Certificate.{Holds};
-ghost use Rattle.spec_check.specs.TextWritten.{certificate_lines};
+ghost use Rattle.spec_certificate.specs.TextWritten.{certificate_lines};
 ghost use Rattle.spec_pivot.specs.declared.status.Status.{Status};
 ghost use Rattle.spec_server.specs.declared.addressing.Addressing.TheVariants.{Alone};
 ghost use Rattle.spec_server.specs.declared.asks.Ask.TheVariants as ask;

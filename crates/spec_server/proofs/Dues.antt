@@ -10,7 +10,7 @@ use Rattle.spec_mps.specs.Written.{too_wide}
 use Rattle.spec_check.specs.declared.certificate.Certificate.{Certificate}
 use Rattle.spec_check.specs.declared.certificate.SettleFault.TheVariants as settle
 use Rattle.spec_check.specs.Settle.{Settled, certificate_for}
-use Rattle.spec_check.specs.Text.{ExactRaw}
+use Rattle.spec_check.specs.Raw.{ExactRaw}
 use Rattle.spec_edit.specs.declared.edit.EditFault.{EditFault}
 use Rattle.spec_edit.specs.declared.edit.EditFault.TheVariants as fault
 use Rattle.spec_edit.specs.Edited.{ExactEdit, OrFault, IsKeptEdit, edited}

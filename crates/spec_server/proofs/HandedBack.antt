@@ -6,7 +6,7 @@ use Rattle.spec_model.specs.Kept.{IsModel}
 use Rattle.spec_check.specs.declared.certificate.Certificate.{Certificate}
 use Rattle.spec_check.specs.declared.certificate.Known.{Known}
 use Rattle.spec_check.specs.Run.{verdict_of}
-use Rattle.spec_check.proofs.ReadBack.{read_back}
+use Rattle.spec_certificate.proofs.ReadBack.{read_back}
 use Rattle.spec_pivot.specs.declared.status.Status.{Status}
 use Rattle.spec_check.specs.declared.solve_end.SolveEnd.TheVariants.{Ended}
 use Rattle.spec_solve.specs.Answers.{MayAnswer}

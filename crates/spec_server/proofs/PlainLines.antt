@@ -28,8 +28,8 @@ use Rattle.spec_check.specs.declared.certificate.Letter.TheVariants.{X, Y, R}
 use Rattle.spec_check.specs.declared.certificate.Certificate.{Certificate}
 use Rattle.spec_check.specs.declared.certificate.Certificate.TheVariants.{Optimal, Infeasible, Clash, Unbounded}
 use Rattle.spec_check.specs.Certificate.{IsFor, IsNarrowCertificate}
-use Rattle.spec_check.specs.TextWritten.{letter_text, part_text, part_lines, lines_below, column_lines, row_lines}
-use Rattle.spec_check.specs.TextWritten.{kind_text, all_part_lines, certificate_lines}
+use Rattle.spec_certificate.specs.TextWritten.{letter_text, part_text, part_lines, lines_below, column_lines, row_lines}
+use Rattle.spec_certificate.specs.TextWritten.{kind_text, all_part_lines, certificate_lines}
 
 -- ---- lines one after the other
 

@@ -9,7 +9,7 @@ use Rattle.spec_mps.specs.declared.style.Style.{Style}
 use Rattle.spec_mps.specs.Reader.{start}
 use Rattle.spec_mps.specs.Steps.{Verdict, Spelled, Refused, judge}
 use Rattle.spec_mps.proofs.SpelledKept.{spelled_kept}
-use Rattle.spec_check.specs.Text as certificate
+use Rattle.spec_certificate.specs.NarrowText as certificate
 use Rattle.spec_server.specs.declared.asks.Ask.TheVariants as ask
 use Rattle.spec_server.specs.declared.asks.Asked.{Asked}
 use Rattle.spec_edit.specs.Edited.{ExactEdit}

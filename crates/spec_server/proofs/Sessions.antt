@@ -10,7 +10,7 @@ use Rattle.spec_check.specs.declared.certificate.Certificate.{Certificate}
 use Rattle.spec_check.specs.declared.certificate.Known.{Known}
 use Rattle.spec_check.specs.declared.certificate.Verdict.TheVariants.{Yes}
 use Rattle.spec_check.specs.Certificate.{Holds}
-use Rattle.spec_check.specs.TextWritten.{certificate_lines}
+use Rattle.spec_certificate.specs.TextWritten.{certificate_lines}
 use Rattle.spec_pivot.specs.declared.status.Status.{Status}
 use Rattle.spec_check.specs.declared.solve_end.SolveEnd.TheVariants.{Ended}
 use Rattle.spec_solve.specs.Answers.{MayAnswer}

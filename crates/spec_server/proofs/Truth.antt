@@ -9,7 +9,7 @@ use Rattle.spec_check.specs.declared.certificate.CheckStop.TheVariants as stop
 use Rattle.spec_check.specs.declared.certificate.Verdict.{Verdict}
 use Rattle.spec_check.specs.declared.certificate.Verdict.TheVariants as verdict
 use Rattle.spec_check.specs.Certificate.{Holds}
-use Rattle.spec_check.specs.Text.{ExactRaw}
+use Rattle.spec_check.specs.Raw.{ExactRaw}
 use Rattle.spec_check.specs.Settle.{Settled, certificate_for}
 use Rattle.spec_check.specs.Run.{Run, check_run, verdict_of}
 use Rattle.spec_check.specs.declared.solve_end.SolveEnd.TheVariants as outcome

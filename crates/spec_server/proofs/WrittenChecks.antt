@@ -23,12 +23,12 @@ use Rattle.spec_mps.proofs.WrittenWhole.{free_spells, fixed_spells}
 use Rattle.spec_check.specs.declared.certificate.Certificate.{Certificate}
 use Rattle.spec_check.specs.declared.certificate.Known.{Known}
 use Rattle.spec_check.specs.declared.certificate.Verdict.TheVariants.{Yes}
-use Rattle.spec_check.specs.declared.progress.Progress.TheVariants as progress
+use Rattle.spec_certificate.specs.declared.progress.Progress.TheVariants as progress
 use Rattle.spec_check.specs.Run.{verdict_of}
 use Rattle.spec_check.specs.Settle.{certificate_for}
-use Rattle.spec_check.specs.Text as certificate
-use Rattle.spec_check.specs.TextWritten.{certificate_lines}
-use Rattle.spec_check.proofs.ReadBack.{read_back}
+use Rattle.spec_certificate.specs.NarrowText as certificate
+use Rattle.spec_certificate.specs.TextWritten.{certificate_lines}
+use Rattle.spec_certificate.proofs.ReadBack.{read_back}
 use Rattle.spec_pivot.specs.declared.status.Status.{Status}
 use Rattle.spec_check.specs.declared.solve_end.SolveEnd.TheVariants.{Ended}
 use Rattle.spec_solve.specs.Answers.{MayAnswer}

@@ -7,8 +7,8 @@ use Rattle.spec_model.specs.Model.{Model}
 use Rattle.spec_check.specs.declared.certificate.Certificate.{Certificate}
 use Rattle.spec_check.specs.declared.certificate.Known.{Known}
 use Rattle.spec_check.specs.declared.certificate.Verdict.TheVariants.{Yes}
-use Rattle.spec_check.specs.Text.{ExactRaw, Spells}
-use Rattle.spec_check.specs.TextWritten.{certificate_lines}
+use Rattle.spec_certificate.specs.NarrowText.{ExactRaw, Spells}
+use Rattle.spec_certificate.specs.TextWritten.{certificate_lines}
 use Rattle.spec_server.specs.declared.asks.Reply.TheVariants as reply
 use Rattle.spec_server.specs.Machine.{check_reply}
 

@@ -6,8 +6,8 @@ use Rattle.spec_model.specs.Kept.{IsModel}
 use Rattle.spec_check.specs.declared.certificate.Certificate.{Certificate}
 use Rattle.spec_check.specs.declared.certificate.SettleFault.{SettleFault}
 use Rattle.spec_check.specs.declared.certificate.SettleFault.TheVariants as settle
-use Rattle.spec_check.specs.Text.{ExactRaw}
-use Rattle.spec_check.specs.TextWritten.{certificate_lines}
+use Rattle.spec_check.specs.Raw.{ExactRaw}
+use Rattle.spec_certificate.specs.TextWritten.{certificate_lines}
 use Rattle.spec_check.specs.Settle.{Settled, certificate_for}
 use Rattle.spec_check.specs.Run.{check_run, verdict_of}
 use Rattle.spec_mps.specs.declared.style.Style.{Style}

@@ -41,8 +41,8 @@ ghost use Rattle.spec_check.specs.declared.certificate.Certificate.{Certificate}
 ghost use Rattle.spec_check.specs.declared.certificate.Known.{Known};
 ghost use Rattle.spec_check.specs.declared.certificate.Verdict.TheVariants as verdict;
 ghost use Rattle.spec_check.specs.Certificate.{Holds};
-ghost use Rattle.spec_check.specs.Text.{ExactRaw};
-ghost use Rattle.spec_check.specs.TextWritten.{certificate_lines};
+ghost use Rattle.spec_check.specs.Raw.{ExactRaw};
+ghost use Rattle.spec_certificate.specs.TextWritten.{certificate_lines};
 ghost use Rattle.spec_pivot.specs.declared.status.Status.{Status};
 ghost use Rattle.spec_check.specs.declared.solve_end.SolveEnd.TheVariants as outcome;
 ghost use Rattle.spec_cold.specs.Cold.{cold};

@@ -18,8 +18,8 @@ use Rattle.spec_check.specs.declared.certificate.Known.{Known}
 use Rattle.spec_check.specs.declared.certificate.Verdict.TheVariants.{Yes}
 use Rattle.spec_check.specs.declared.solve_end.SolveEnd.TheVariants.{Ended, Past, Spent}
 use Rattle.spec_check.specs.Run.{verdict_of}
-use Rattle.spec_check.specs.TextWritten.{certificate_lines}
-use Rattle.spec_check.proofs.ReadBack.{read_back}
+use Rattle.spec_certificate.specs.TextWritten.{certificate_lines}
+use Rattle.spec_certificate.proofs.ReadBack.{read_back}
 use Rattle.spec_cold.specs.Cold.{ExactSolveEnd}
 use Rattle.spec_warm.specs.declared.ends.Route.{Route}
 use Rattle.spec_warm.specs.declared.ends.Route.TheVariants as route

@@ -7,10 +7,10 @@ use Rattle.spec_mps.specs.declared.style.Style.{Style}
 use Rattle.spec_mps.specs.Reader.{State, start}
 use Rattle.spec_mps.specs.Steps as text
 use Rattle.spec_check.specs.declared.certificate.Known.{Known}
-use Rattle.spec_check.specs.declared.progress.Progress.TheVariants as progress
+use Rattle.spec_certificate.specs.declared.progress.Progress.TheVariants as progress
 use Rattle.spec_check.specs.Certificate.{Holds}
 use Rattle.spec_check.specs.Settle.{certificate_for}
-use Rattle.spec_check.specs.Text as certificate
+use Rattle.spec_certificate.specs.NarrowText as certificate
 use Rattle.spec_server.specs.declared.asks.Reply.TheVariants as reply
 use Rattle.spec_server.specs.declared.asks.Refusal.{Refusal}
 use Rattle.spec_server.specs.declared.asks.Refusal.TheVariants as refusal

@@ -20,7 +20,7 @@ use Rattle.spec_check.specs.Certificate.{IsFor, Holds}
 use Rattle.spec_check.specs.Run.{Run, step, each, columns_run, rows_run, column_tight_run, row_tight_run, cost_run}
 use Rattle.spec_check.specs.Run.{value_run, check_run, verdict_of}
 use Rattle.spec_check.specs.Settle.{Settled, certificate_for}
-use Rattle.spec_check.specs.Text.{ExactRaw}
+use Rattle.spec_check.specs.Raw.{ExactRaw}
 use Rattle.spec_check.proofs.Fits.{settled_fits}
 use Rattle.spec_check.proofs.RunSound.{run_sound}
 use Rattle.spec_check.proofs.Sound.{checks_hold}

@@ -11,7 +11,7 @@ use Rattle.spec_check.specs.declared.certificate.Known.{Known}
 use Rattle.spec_check.specs.declared.certificate.Verdict.TheVariants as verdict
 use Rattle.spec_check.specs.declared.certificate.SettleFault.TheVariants as settle
 use Rattle.spec_check.specs.Settle.{Settled, certificate_for}
-use Rattle.spec_check.specs.Text.{ExactRaw}
+use Rattle.spec_check.specs.Raw.{ExactRaw}
 use Rattle.spec_edit.specs.declared.edit.EditFault.{EditFault}
 use Rattle.spec_edit.specs.declared.edit.EditFault.TheVariants as fault
 use Rattle.spec_edit.specs.Edited.{ExactEdit, OrFault, edited}

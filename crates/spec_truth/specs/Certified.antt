@@ -4,7 +4,7 @@ use Rattle.spec_text.specs.declared.line.Line.{Line}
 use Rattle.spec_model.specs.Model.{Model}
 use Rattle.spec_mps.specs.declared.style.Style.{Style}
 use Rattle.spec_mps.specs.Steps as text
-use Rattle.spec_check.specs.Text as certificate
+use Rattle.spec_certificate.specs.NarrowText as certificate
 use Rattle.spec_server.specs.SolveOut.{text_said}
 
 -- The lines up to the first one that ends the text of a model, the lines of a certificate after it, and what is so of

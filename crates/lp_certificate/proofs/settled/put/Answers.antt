@@ -3,5 +3,5 @@ use Rattle.lp_certificate.proofs.Inside.{inside}
 use Rattle.lp_certificate.proofs.settled.put.Goals as goal
 
 pub set-requires : goal.set-requires
-set-requires c =
+set-requires g c =
     inside c.args.model.now c.args.part.now.letter c.in-Some.k c.args.cert.now c.requires c.in-Some.ensures.inside

@@ -3,7 +3,7 @@ use Rattle.std.proofs.Common.{◌++◌, ap, ◌∙◌}
 use Rattle.std.proofs.lemmas.Result.{on_ok_weaker}
 use Rattle.spec_exact.specs.Fraction.{0ℚ}
 use Rattle.spec_exact.proofs.Same.{same_is}
-use Rattle.spec_check.specs.TextWritten.{part_text}
+use Rattle.spec_certificate.specs.TextWritten.{part_text}
 use Rattle.lp_certificate.proofs.Lines.{no_line, one_line}
 use Rattle.lp_certificate.proofs.text.add_part.Goals as goal
 

@@ -1,6 +1,6 @@
 -- The loop over the columns, or over the rows.
 use Rattle.std.proofs.Common.{◌≡◌, ◌++◌}
-use Rattle.spec_check.specs.TextWritten.{lines_below}
+use Rattle.spec_certificate.specs.TextWritten.{lines_below}
 use Rattle.lp_certificate.specs.Letters.{name_at}
 use Rattle.lp_certificate.proofs.text.add_values.Given as goal
 

@@ -19,15 +19,16 @@ use Rattle.spec_check.specs.declared.certificate.CertificateKind.TheVariants as 
 use Rattle.spec_check.specs.declared.certificate.Certificate.{Certificate}
 use Rattle.spec_check.specs.declared.certificate.Certificate.TheVariants.{Optimal, Infeasible, Clash, Unbounded}
 use Rattle.spec_check.specs.Certificate.{IsFor, IsNarrowCertificate}
-use Rattle.spec_check.specs.declared.progress.Progress.TheVariants.{More, Done}
-use Rattle.spec_check.specs.Text.{ExactPart, ExactRaw, ExactKind, kind_of, takes}
-use Rattle.spec_check.specs.Text.{is_end, step_by_words, step, Leads, Spells}
-use Rattle.spec_check.specs.Settle.{◌>>=◌, zeros, blank, with_value, same_letter, put_all, certificate_for}
-use Rattle.spec_check.specs.TextWritten.{lines_below, column_lines, kind_text, all_part_lines, certificate_lines}
-use Rattle.spec_check.specs.TextRead.{IsReadBack}
-use Rattle.spec_check.proofs.TextSteps.{goes_on, ends, with_parts, parts_below, parts_lead}
-use Rattle.spec_check.proofs.NamesKnown.{AreNames, column_word, columns_named, rays_named, rows_named}
-use Rattle.spec_check.proofs.PartsPlaced.{put_more, free_at_first, free_behind, filled}
+use Rattle.spec_certificate.specs.declared.progress.Progress.TheVariants.{More, Done}
+use Rattle.spec_check.specs.Raw.{ExactPart, ExactRaw, ExactKind}
+use Rattle.spec_certificate.specs.Text.{kind_of, takes, is_end, words_step, step_by}
+use Rattle.spec_certificate.specs.NarrowText.{narrow, step, Leads, Spells}
+use Rattle.spec_check.specs.Settle.{◌>>=◌, zeros, blank, with_value, same_letter, put_all, certificate_by}
+use Rattle.spec_certificate.specs.TextWritten.{lines_below, column_lines, kind_text, all_part_lines, certificate_lines}
+use Rattle.spec_certificate.specs.TextRead.{IsReadBack}
+use Rattle.spec_certificate.proofs.TextSteps.{goes_on, ends, with_parts, parts_below, parts_lead}
+use Rattle.spec_certificate.proofs.NamesKnown.{AreNames, column_word, columns_named, rays_named, rows_named}
+use Rattle.spec_certificate.proofs.PartsPlaced.{put_more, free_at_first, free_behind, filled}
 
 abbrev raw_of : ExactKind → List ExactPart → ExactRaw
 raw_of kind parts = record { kind = kind; parts = parts }
@@ -42,20 +43,20 @@ end_word : IsWord (codes "END")
 end_word = record { some = refl; printable = refl }
 
 end_step : (raw : ExactRaw) → step (Some raw) (Text (codes "END")) ≡ Done raw
-unfolding step is_end
-end_step raw = ap (step_by_words (Some raw)) (one_word (codes "END") end_word)
+unfolding step_by is_end
+end_step raw = ap (words_step narrow (Some raw)) (one_word (codes "END") end_word)
 
 optimal_step : step None (Text (codes "OPTIMAL")) ≡ More (raw_of kind.Optimal [])
-unfolding step kind_of
-optimal_step = ap (step_by_words None) (one_word (codes "OPTIMAL") (record { some = refl; printable = refl }))
+unfolding step_by kind_of
+optimal_step = ap (words_step narrow None) (one_word (codes "OPTIMAL") (record { some = refl; printable = refl }))
 
 infeasible_step : step None (Text (codes "INFEASIBLE")) ≡ More (raw_of kind.Infeasible [])
-unfolding step kind_of
-infeasible_step = ap (step_by_words None) (one_word (codes "INFEASIBLE") (record { some = refl; printable = refl }))
+unfolding step_by kind_of
+infeasible_step = ap (words_step narrow None) (one_word (codes "INFEASIBLE") (record { some = refl; printable = refl }))
 
 unbounded_step : step None (Text (codes "UNBOUNDED")) ≡ More (raw_of kind.Unbounded [])
-unfolding step kind_of
-unbounded_step = ap (step_by_words None) (one_word (codes "UNBOUNDED") (record { some = refl; printable = refl }))
+unfolding step_by kind_of
+unbounded_step = ap (words_step narrow None) (one_word (codes "UNBOUNDED") (record { some = refl; printable = refl }))
 
 clash_words : (name : List ℕ) → IsWord name → words_of (codes "CLASH" ++ 32 ∷ name) ≡ codes "CLASH" ∷ name ∷ []
 unfolding words_of
@@ -65,8 +66,8 @@ clash_words name h =
 
 clash_step : (name : List ℕ) → IsWord name →
     step None (Text (codes "CLASH" ++ 32 ∷ name)) ≡ More (raw_of (kind.Clash name) [])
-unfolding step kind_of
-clash_step name h = ap (step_by_words None) (clash_words name h)
+unfolding step_by kind_of
+clash_step name h = ap (words_step narrow None) (clash_words name h)
 
 -- the lines of a whole certificate, from those before END
 whole : (m : Model) (cert : Certificate (List ℚ)) (raw : ExactRaw) →
@@ -77,7 +78,7 @@ whole m cert raw l more =
     subst (λ ls. Spells ls raw)
     (sym (ap (λ ls. ls ++ more) (map-append Text (kind_text m cert ∷ all_part_lines m cert) (codes "END" ∷ []))
     ∙ append_assoc (map Text (kind_text m cert ∷ all_part_lines m cert)) (Text (codes "END") ∷ []) more))
-    (ends (map Text (kind_text m cert ∷ all_part_lines m cert)) more
+    (ends narrow (map Text (kind_text m cert ∷ all_part_lines m cert)) more
     (Text (codes "END")) (Some raw) raw l (end_step raw))
 
 -- two letters, one after the other
@@ -91,7 +92,7 @@ two_lead raw a b names others xs ys n k s t h p i q =
     let one : ExactRaw = with_parts raw (parts_below a names xs n) in
     subst (λ ls. Leads (Some raw) ls (Some (with_parts one (parts_below b others ys k))))
     (sym (map-append Text (lines_below a names xs n) (lines_below b others ys k)))
-    (goes_on (Some raw) (Some one) (Some (with_parts one (parts_below b others ys k))) _ _
+    (goes_on narrow (Some raw) (Some one) (Some (with_parts one (parts_below b others ys k))) _ _
     (parts_lead raw a names xs n s h p) (parts_lead one b others ys k t i q))
 
 narrow_at : (xs : List ℚ) (n : ℕ) → length xs ≡ n → All IsNarrow xs → (k : ℕ) → k < n → IsNarrow (part xs k)
@@ -106,10 +107,10 @@ two_back : (m : Model) (k : ExactKind) (b : Letter) (names : ℕ → Name) (n : 
     takes k X ≡ true → takes k b ≡ true → same_letter X b ≡ false →
     step None (Text (kind_text m (cert x y))) ≡ More (raw_of k []) →
     all_part_lines m (cert x y) ≡ column_lines m X x ++ lines_below b names y n →
-    blank m k ≡ Ok (cert (zeros (width m)) (zeros n)) →
+    blank 0ℚ m k ≡ Ok (cert (zeros (width m)) (zeros n)) →
     ((u z : List ℚ) (j : ℕ) (v : ℚ) → with_value X j v (cert z u) ≡ cert (slice_set z j v) u) →
     ((u z : List ℚ) (j : ℕ) (v : ℚ) → with_value b j v (cert u z) ≡ cert u (slice_set z j v)) → IsReadBack m (cert x y)
-unfolding certificate_for
+unfolding certificate_by
 two_back m k b names n cert x y h named f narrow first second apart begins lines blank_is fills_x fills_y =
     let start : ExactRaw = raw_of k [] in
     let xs : List ExactPart = parts_below X (column_name m) x (width m) in
@@ -142,7 +143,7 @@ optimal_back m x y h f n =
 
 infeasible_back : (m : Model) (y : List ℚ) → IsModel m → IsFor m (Infeasible y) → IsNarrowCertificate (Infeasible y) →
     IsReadBack m (Infeasible y)
-unfolding blank certificate_for
+unfolding blank certificate_by
 infeasible_back m y h f n =
     let start : ExactRaw = raw_of kind.Infeasible [] in
     let ys : List ExactPart = parts_below Y (row_name m) y (height m) in
@@ -166,8 +167,8 @@ unbounded_back m x r h f n =
     two_back m kind.Unbounded R (column_name m) (width m) Unbounded x r h (rays_named m h) f n refl refl refl
     unbounded_step refl refl (λ u z j v. refl) (λ u z j v. refl)
 
-clash_back : (m : Model) (j : ℕ) → IsModel m → IsFor m (Clash j) → IsReadBack m (Clash j)
-unfolding blank certificate_for
+clash_back : (m : Model) (j : ℕ) → IsModel m → IsFor {F = ℚ} m (Clash j) → IsReadBack m (Clash j)
+unfolding blank certificate_by
 clash_back m j h f =
     let raw : ExactRaw = raw_of (kind.Clash (column_name m j)) [] in
     record {

@@ -5,9 +5,9 @@ use Rattle.spec_text.specs.declared.line.Line.TheVariants.{Text}
 use Rattle.spec_exact.specs.Fraction.{ℚ}
 use Rattle.spec_model.specs.Model.{Model}
 use Rattle.spec_check.specs.declared.certificate.Certificate.{Certificate}
-use Rattle.spec_check.specs.Text.{ExactRaw, Spells}
+use Rattle.spec_certificate.specs.NarrowText.{ExactRaw, Spells}
 use Rattle.spec_check.specs.Settle.{certificate_for}
-use Rattle.spec_check.specs.TextWritten.{certificate_lines}
+use Rattle.spec_certificate.specs.TextWritten.{certificate_lines}
 
 -- the lines of the written text, with more lines after them, spell parts that are this certificate of the model
 pub record IsReadBack (m : Model) (cert : Certificate (List ℚ)) : Type 0 where

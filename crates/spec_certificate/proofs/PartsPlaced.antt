@@ -10,10 +10,10 @@ use Rattle.spec_exact.proofs.Same.{eq_if}
 use Rattle.spec_model.specs.Model.{Model, Name, part}
 use Rattle.spec_check.specs.declared.certificate.Letter.{Letter}
 use Rattle.spec_check.specs.declared.certificate.Certificate.{Certificate}
-use Rattle.spec_check.specs.Text.{ExactPart}
+use Rattle.spec_check.specs.Raw.{ExactPart}
 use Rattle.spec_check.specs.Settle.{Settled, ◌>>=◌, zeros, with_value, same_letter, is_given, put, put_all}
-use Rattle.spec_check.proofs.TextSteps.{the_part, part_if, parts_below}
-use Rattle.spec_check.proofs.NamesKnown.{AreNames}
+use Rattle.spec_certificate.proofs.TextSteps.{the_part, part_if, parts_below}
+use Rattle.spec_certificate.proofs.NamesKnown.{AreNames}
 
 -- ---- parts one after another
 

@@ -8,54 +8,56 @@ use Rattle.spec_text.specs.Words.{words_of}
 use Rattle.spec_exact.specs.Fraction.{ℚ, 0ℚ, eq_ℚ}
 use Rattle.spec_exact.specs.Narrow.{IsNarrow}
 use Rattle.spec_model.specs.Model.{Name, part}
-use Rattle.spec_mps.specs.NumberText.{number_of}
 use Rattle.spec_mps.specs.NumberWritten.{number_text, IsWord}
 use Rattle.spec_mps.proofs.RoundTrip.{read_written}
 use Rattle.spec_mps.proofs.WrittenNumbers.{number_word}
 use Rattle.spec_mps.proofs.WrittenWords.{parts_word, parts_word_then}
 use Rattle.spec_check.specs.declared.certificate.Letter.{Letter}
 use Rattle.spec_check.specs.declared.certificate.Letter.TheVariants.{X, Y, R}
-use Rattle.spec_check.specs.declared.progress.Progress.TheVariants.{More, Done, Unfit}
-use Rattle.spec_check.specs.Text.{ExactPart, ExactRaw, Refused, letter_of, takes, lettered, valued, part_of}
-use Rattle.spec_check.specs.Text.{with_part, is_end, step_by_words, step, settled, judge, Leads, Spells, Refuses}
-use Rattle.spec_check.specs.TextWritten.{letter_text, part_text, part_lines, lines_below}
+use Rattle.spec_certificate.specs.declared.progress.Progress.TheVariants.{More, Done, Unfit}
+use Rattle.spec_check.specs.Raw.{RawOf, ExactPart, ExactRaw}
+use Rattle.spec_certificate.specs.Text.{Reading, Refused, letter_of, takes, lettered, valued, part_by, with_part, is_end}
+use Rattle.spec_certificate.specs.Text.{words_step, step_by, settled, judge_by, LeadsBy, SpellsBy, RefusesBy}
+use Rattle.spec_certificate.specs.NarrowText.{narrow, value_in, step, Leads}
+use Rattle.spec_certificate.specs.TextWritten.{letter_text, part_text, part_lines, lines_below}
 
 -- ---- runs of lines
 
-pub goes_on : (s t u : Option ExactRaw) (xs ys : List (Line (List ℕ))) → Leads s xs t → Leads t ys u →
-    Leads s (xs ++ ys) u
-goes_on s t u [] ys l k = subst (λ v. Leads v ys u) (sym l) k
-goes_on s t u (x ∷ xs) ys l k = (l.0, l.1, goes_on (Some l.0) t u xs ys l.2 k)
+module _ {F : Type 0} (read : Reading F) where
+  pub goes_on : (s t u : Option (RawOf F)) (xs ys : List (Line (List ℕ))) → LeadsBy read s xs t → LeadsBy read t ys u →
+      LeadsBy read s (xs ++ ys) u
+  goes_on s t u [] ys l k = subst (λ v. LeadsBy read v ys u) (sym l) k
+  goes_on s t u (x ∷ xs) ys l k = (l.0, l.1, goes_on (Some l.0) t u xs ys l.2 k)
 
--- the lines after a run decide
-joined : (s t : Option ExactRaw) (n : ℕ) (xs more : List (Line (List ℕ))) → Leads s xs t →
-    judge s n (xs ++ more) ≡ judge t (n + length xs) more
-joined s t n [] more l = let e : n ≡ n + 0 = omega arith in ap (λ u. judge u n more) l ∙ ap (λ k. judge t k more) e
-joined s t n (x ∷ xs) more l =
-    let e : n + 1 + length xs ≡ n + length (x ∷ xs) = omega arith in
-    ap (settled n (λ raw. judge (Some raw) (n + 1) (xs ++ more))) l.1
-    ∙ joined (Some l.0) t (n + 1) xs more l.2 ∙ ap (λ k. judge t k more) e
+  -- the lines after a run decide
+  joined : (s t : Option (RawOf F)) (n : ℕ) (xs more : List (Line (List ℕ))) → LeadsBy read s xs t →
+      judge_by read s n (xs ++ more) ≡ judge_by read t (n + length xs) more
+  joined s t n [] more l = let e : n ≡ n + 0 = omega arith in ap (λ u. judge_by read u n more) l ∙ ap (λ k. judge_by read t k more) e
+  joined s t n (x ∷ xs) more l =
+      let e : n + 1 + length xs ≡ n + length (x ∷ xs) = omega arith in
+      ap (settled n (λ raw. judge_by read (Some raw) (n + 1) (xs ++ more))) l.1
+      ∙ joined (Some l.0) t (n + 1) xs more l.2 ∙ ap (λ k. judge_by read t k more) e
 
-pub one_more : (s t : Option ExactRaw) (u : ExactRaw) (xs : List (Line (List ℕ))) (x : Line (List ℕ)) → Leads s xs t →
-    step t x ≡ More u → Leads s (xs ++ x ∷ []) (Some u)
-one_more s t u xs x l h = goes_on s t (Some u) xs (x ∷ []) l (u, h, refl)
+  pub one_more : (s t : Option (RawOf F)) (u : RawOf F) (xs : List (Line (List ℕ))) (x : Line (List ℕ)) → LeadsBy read s xs t →
+      step_by read t x ≡ More u → LeadsBy read s (xs ++ x ∷ []) (Some u)
+  one_more s t u xs x l h = goes_on s t (Some u) xs (x ∷ []) l (u, h, refl)
 
-pub ends : (xs more : List (Line (List ℕ))) (x : Line (List ℕ)) (s : Option ExactRaw) (raw : ExactRaw) →
-    Leads None xs s → step s x ≡ Done raw → Spells (xs ++ x ∷ more) raw
-ends xs more x s raw l h =
-    joined None s 1 xs (x ∷ more) l ∙ ap (settled (1 + length xs) (λ raw. judge (Some raw) (1 + length xs + 1) more)) h
+  pub ends : (xs more : List (Line (List ℕ))) (x : Line (List ℕ)) (s : Option (RawOf F)) (raw : RawOf F) →
+      LeadsBy read None xs s → step_by read s x ≡ Done raw → SpellsBy read (xs ++ x ∷ more) raw
+  ends xs more x s raw l h =
+      joined None s 1 xs (x ∷ more) l ∙ ap (settled (1 + length xs) (λ raw. judge_by read (Some raw) (1 + length xs + 1) more)) h
 
-pub refuses : (xs more : List (Line (List ℕ))) (x : Line (List ℕ)) (s : Option ExactRaw) → Leads None xs s →
-    step s x ≡ Unfit → Refuses (xs ++ x ∷ more) (length xs + 1)
-refuses xs more x s l h =
-    let e : 1 + length xs ≡ length xs + 1 = omega arith in
-    joined None s 1 xs (x ∷ more) l
-    ∙ ap (settled (1 + length xs) (λ raw. judge (Some raw) (1 + length xs + 1) more)) h ∙ ap Refused e
+  pub refuses : (xs more : List (Line (List ℕ))) (x : Line (List ℕ)) (s : Option (RawOf F)) → LeadsBy read None xs s →
+      step_by read s x ≡ Unfit → RefusesBy read (xs ++ x ∷ more) (length xs + 1)
+  refuses xs more x s l h =
+      let e : 1 + length xs ≡ length xs + 1 = omega arith in
+      joined None s 1 xs (x ∷ more) l
+      ∙ ap (settled (1 + length xs) (λ raw. judge_by read (Some raw) (1 + length xs + 1) more)) h ∙ ap Refused e
 
-pub cut_off : (xs : List (Line (List ℕ))) (s : Option ExactRaw) → Leads None xs s → Refuses xs (length xs + 1)
-cut_off xs s l =
-    let e : 1 + length xs ≡ length xs + 1 = omega arith in
-    ap (judge None 1) (sym (append-nil xs)) ∙ joined None s 1 xs [] l ∙ ap Refused e
+  pub cut_off : (xs : List (Line (List ℕ))) (s : Option (RawOf F)) → LeadsBy read None xs s → RefusesBy read xs (length xs + 1)
+  cut_off xs s l =
+      let e : 1 + length xs ≡ length xs + 1 = omega arith in
+      ap (judge_by read None 1) (sym (append-nil xs)) ∙ joined None s 1 xs [] l ∙ ap Refused e
 
 -- ---- a part that is written
 
@@ -85,17 +87,17 @@ abbrev pub the_part : Letter → Name → ℚ → ExactPart
 the_part letter name v = record { letter = letter; name = name; value = v }
 
 known : (raw : ExactRaw) (letter : Letter) (name : Name) (v : ℚ) → takes raw.kind letter ≡ true → IsNarrow v →
-    lettered raw.kind (letter_of (letter_text letter)) name (number_text v) ≡ Some (the_part letter name v)
+    lettered narrow raw.kind (letter_of (letter_text letter)) name (number_text v) ≡ Some (the_part letter name v)
 known raw letter name v t n =
-    ap (λ o. lettered raw.kind o name (number_text v)) (letter_known letter)
-    ∙ ap (λ b. cond b (valued letter name (number_of (number_text v))) None) t
-    ∙ ap (valued letter name) (read_written v n.top n.bottom)
+    ap (λ o. lettered narrow raw.kind o name (number_text v)) (letter_known letter)
+    ∙ ap (λ b. cond b (valued letter name (narrow (number_text v))) None) t
+    ∙ ap (λ r. valued letter name (value_in r)) (read_written v n.top n.bottom)
 
 pub part_step : (raw : ExactRaw) (letter : Letter) (name : Name) (v : ℚ) → takes raw.kind letter ≡ true → IsWord name →
     IsNarrow v → step (Some raw) (Text (part_text letter name v)) ≡ More (with_parts raw (the_part letter name v ∷ []))
-unfolding step part_of is_end
+unfolding step_by part_by is_end
 part_step raw letter name v t h n =
-    ap (step_by_words (Some raw)) (part_words letter name v h (number_word v n.top n.bottom))
+    ap (words_step narrow (Some raw)) (part_words letter name v h (number_word v n.top n.bottom))
     ∙ ap (with_part raw) (known raw letter name v t n)
 
 -- ---- the parts of the first n columns, or rows
@@ -133,4 +135,4 @@ parts_lead raw letter names values (suc n) t h k =
     (subst (λ ps. Leads (Some raw)
     (map Text (lines_below letter names values n) ++ map Text (part_lines letter (names n) (part values n)))
     (Some (record raw { parts = ps }))) (append_assoc raw.parts before last)
-    (goes_on (Some raw) (Some (with_parts raw before)) (Some (with_parts (with_parts raw before) last)) _ _ a b))
+    (goes_on narrow (Some raw) (Some (with_parts raw before)) (Some (with_parts (with_parts raw before) last)) _ _ a b))

@@ -1,0 +1,39 @@
+// Certificates with numbers of 127 bits.
+ghost use Rattle.std.specs.Prelude.{◌≡◌};
+ghost use Rattle.spec_certificate.specs.NarrowText as narrow_text;
+
+use crate::number::Number;
+use lp_frac::{Frac, zero};
+use std::alloc::{AllocError, Global};
+
+impl Number for Frac {
+    ghost use Rattle.spec_exact.specs.Fraction.{0ℚ};
+    ghost use Rattle.spec_certificate.specs.NarrowText.{narrow};
+
+    ghost reading = { narrow };
+
+    ghost nothing = { 0ℚ };
+
+    fn read(_: Global, text: &[u8]) -> Result<Option<Frac>, AllocError> {
+        Ok(number_of(text))
+    }
+
+    fn zero(_: Global) -> Result<Frac, AllocError> {
+        Ok(zero())
+    }
+
+    fn copied(&self, _: Global) -> Result<Frac, AllocError> {
+        Ok(*self)
+    }
+}
+
+// The number that a text is, within 127 bits.
+#[tactic(auto, using(crate::proofs::Numbers::narrow_ok, crate::proofs::Numbers::narrow_err))]
+fn number_of(text: &[u8]) -> Option<Frac>
+    ensures { result ≡ narrow_text.narrow text.now }
+{
+    match lp_numtext::read(text) {
+        Ok(v) => Some(v),
+        Err(_) => None,
+    }
+}

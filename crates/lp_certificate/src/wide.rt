@@ -1,0 +1,41 @@
+// Certificates with numbers of any width.
+ghost use Rattle.std.specs.Prelude.{◌≡◌, IfOk};
+ghost use Rattle.spec_certificate.specs.WideText as wide_text;
+
+use crate::number::Number;
+use lp_ratio::Ratio;
+use lp_wide_text::{WideFault, read_wide};
+use std::alloc::{AllocError, Global};
+
+impl Number for Ratio {
+    ghost use Rattle.spec_exact.specs.Fraction.{0ℚ};
+    ghost use Rattle.spec_certificate.specs.WideText.{wide};
+
+    ghost reading = { wide };
+
+    ghost nothing = { 0ℚ };
+
+    fn read(alloc: Global, text: &[u8]) -> Result<Option<Ratio>, AllocError> {
+        number_of(alloc, text)
+    }
+
+    fn zero(alloc: Global) -> Result<Ratio, AllocError> {
+        Ratio::zero(alloc)
+    }
+
+    fn copied(&self, alloc: Global) -> Result<Ratio, AllocError> {
+        Ratio::copied(self, alloc)
+    }
+}
+
+// The number that a text is, of any width.
+#[tactic(auto, using(crate::proofs::Numbers::wide_ok, crate::proofs::Numbers::wide_shape, crate::proofs::Numbers::wide_far))]
+fn number_of(alloc: Global, text: &[u8]) -> Result<Option<Ratio>, AllocError>
+    ensures { IfOk result (λ value. value ≡ wide_text.wide text.now) }
+{
+    match read_wide(alloc, text) {
+        Ok(v) => Ok(Some(v)),
+        Err(WideFault::Shape | WideFault::Far) => Ok(None),
+        Err(WideFault::NoMemory) => Err(AllocError),
+    }
+}

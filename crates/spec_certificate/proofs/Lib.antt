@@ -1,0 +1,5 @@
+pub mod TextSteps
+pub mod NamesKnown
+pub mod PartsPlaced
+pub mod ReadBack
+pub mod Wider

@@ -1,0 +1,14 @@
+-- The text of a certificate whose numbers may have any width.
+use Rattle.std.specs.Prelude.{Option, Some, None}
+use Rattle.spec_exact.specs.Fraction.{ℚ}
+use Rattle.spec_wide_text.specs.WideText.{WideReading, Is, Shape, Far, wide_of}
+use Rattle.spec_certificate.specs.Text.{Reading}
+
+-- the number that a text is; one with too far an exponent is none
+abbrev pub wide_in : WideReading → Option ℚ
+wide_in (Is value) = Some value
+wide_in Shape = None
+wide_in Far = None
+
+abbrev pub wide : Reading ℚ
+wide text = wide_in (wide_of text)

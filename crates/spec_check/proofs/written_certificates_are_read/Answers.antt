@@ -1,6 +1,0 @@
--- Line by line, and part by part.
-use Rattle.spec_check.proofs.ReadBack.{read_back}
-use Rattle.spec_check.proofs.written_certificates_are_read.Goals as goal
-
-pub returns : goal.returns
-returns c = read_back
