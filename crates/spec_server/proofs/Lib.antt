@@ -19,3 +19,4 @@ pub mod WrittenLengths
 pub mod CertificateLengths
 pub mod WrittenChecks
 pub mod Sessions
+pub mod WideChecks

@@ -11,6 +11,7 @@ pub mod Script
 pub mod Streams
 pub mod Said
 pub mod CheckOut
+pub mod CheckWideOut
 pub mod SolveOut
 pub mod BasisOut
 pub mod Halves

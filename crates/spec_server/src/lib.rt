@@ -23,6 +23,7 @@
 //! | `Streams` | what a source has left and a sink has taken, before a call and after it | specs/Streams |
 //! | `IsSaid` | what a step from line to line says of an input | specs/Said |
 //! | `said`, `check_line` | what the command `check` says of its input, and the line that it writes | specs/CheckOut |
+//! | `wide_said`, `wide_check_line` | the same, where the certificate's numbers may have any width | specs/CheckWideOut |
 //! | `text_said`, `SolveOut` | what the command `solve` reads, and what it writes of it | specs/SolveOut |
 //! | `basis_said`, `BasisOut` | what the command `basis` reads, and what it writes of it | specs/BasisOut |
 //! | `BasisFault` | why it has no model to solve | src/basis |
@@ -33,12 +34,15 @@ ghost use Rattle.std.specs.Prelude.{◌≡◌, ◌⊎◌, ℕ, List, [], ◌++�
 ghost use Rattle.std.specs.List.{filter};
 ghost use Rattle.spec_text.specs.declared.line.Line.{Line};
 ghost use Rattle.spec_exact.specs.Fraction.{ℚ};
+ghost use Rattle.spec_exact.specs.declared.past.Past.{Past};
 ghost use Rattle.spec_model.specs.Model.{Model};
 ghost use Rattle.spec_model.specs.Kept.{IsModel};
+ghost use Rattle.spec_mps.specs.declared.style.Style.{Style};
 ghost use Rattle.spec_mps.specs.declared.style.Style.TheVariants as form;
 ghost use Rattle.spec_mps.specs.Written.{free, fixed, too_wide};
 ghost use Rattle.spec_check.specs.declared.certificate.Certificate.{Certificate};
 ghost use Rattle.spec_check.specs.declared.certificate.Known.{Known};
+ghost use Rattle.spec_check.specs.declared.certificate.Verdict.{Verdict};
 ghost use Rattle.spec_check.specs.declared.certificate.Verdict.TheVariants as verdict;
 ghost use Rattle.spec_check.specs.Certificate.{Holds};
 ghost use Rattle.spec_check.specs.Raw.{ExactRaw};
@@ -64,6 +68,7 @@ ghost use Rattle.spec_server.specs.Script.{Between, asks_from, ended_asks_of, sc
 ghost use Rattle.spec_server.specs.Output.{ended_lines};
 ghost use Rattle.spec_server.specs.Said.{IsSaidEarly};
 ghost use Rattle.spec_server.specs.CheckOut.{said};
+ghost use Rattle.spec_server.specs.CheckWideOut.{wide_said};
 
 mod addressing;
 mod answer;
@@ -167,4 +172,11 @@ pub fn scripts_ask_kept_models()
         AreKept (asks_from addressing Between lines) }
     ensures ended { (addressing : addressing_kind) (bytes : List ℕ) → AreKept (ended_asks_of addressing bytes) }
     ensures whole { (addressing : addressing_kind) (bytes : List ℕ) → AreKept (script_of addressing bytes).asks }
+{}
+
+/// What a check says of a certificate is said where numbers may have any width too, unless an operation is past 127 bits.
+pub fn wide_checks_say_the_same()
+    ensures { (style : Style) (lines : List (Line (List ℕ))) (v : Verdict ℚ) →
+        said style lines ≡ Some (reply.Checked v) →
+        (wide_said style lines ≡ Some (reply.Checked v)) ⊎ ((p : Past ℚ) × (v ≡ verdict.Past p)) }
 {}
