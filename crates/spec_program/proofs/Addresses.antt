@@ -8,9 +8,9 @@ use Rattle.spec_mps.specs.Shapes.{look_up}
 use Rattle.spec_program.specs.CommandLine.{Word, ExactLine, ExactTextCommand, Given, given_in, form_given, workers_given, places_given, seed_of}
 use Rattle.spec_program.specs.CommandLine.{row_count_of, column_count_of, Row, run_by, run_row, text_row, generate_by}
 use Rattle.spec_program.specs.CommandLine.{generate_with, generate_row, serve_row, asked_by, command_line_of}
-use Rattle.spec_program.specs.CommandLine.{served_at, address_of, range_row}
+use Rattle.spec_program.specs.CommandLine.{served_at, address_of, range_row, by_width, wide_row}
 use Rattle.spec_program.specs.declared.command_line.CommandLine.TheVariants.{Run, Read, Generate, Serve}
-use Rattle.spec_program.specs.declared.command_line.TextCommand.TheVariants.{Solve, Check, Basis}
+use Rattle.spec_program.specs.declared.command_line.TextCommand.TheVariants.{Solve, Check, CheckWide, Basis, Iis}
 use Rattle.spec_program.proofs.Fitting.{none_is_not, row_of}
 
 -- ---- a word alone asks for no server
@@ -24,7 +24,7 @@ IsNoServer (Serve workers each places) = ⊥
 asked : (row : Row) (words : List Word) (command : ExactLine) →
     ((given : Given) → row.asks given ≡ Some command → IsNoServer command) → asked_by words row ≡ Some command →
     IsNoServer command
-asked row words command none e = by (given_in row.plain row.names words) e
+asked row words command none e = by (given_in row.plain row.names row.switches words) e
   where
     by : (given : Option Given) → option_and_then row.asks given ≡ Some command → IsNoServer command
     by None h = absurd (none_is_not command h)
@@ -67,26 +67,31 @@ alone : (word : Word) (command : ExactLine) → command_line_of (word ∷ []) �
 unfolding command_line_of
 alone word command e =
     by (same word (codes "run")) (same word (codes "solve")) (same word (codes "check")) (same word (codes "basis"))
-    (same word (codes "range")) (same word (codes "gen")) (same word (codes "serve")) e
+    (same word (codes "iis")) (same word (codes "range")) (same word (codes "gen")) (same word (codes "serve")) e
   where
-    by : (r s c b a g v : Bool) → option_and_then (asked_by []) (row_of r s c b a g v) ≡ Some command → IsNoServer command
-    by true s c b a g v h =
+    by : (r s c b i a g v : Bool) → option_and_then (asked_by []) (row_of r s c b i a g v) ≡ Some command →
+        IsNoServer command
+    by true s c b i a g v h =
         asked run_row [] command
         (λ given. runs (workers_given (look_up (codes "--workers") given.options))
         (places_given (look_up (codes "--places") given.options)) command) h
-    by false true c b a g v h =
+    by false true c b i a g v h =
         asked (text_row Solve) [] command
         (λ given. reads Solve (form_given (look_up (codes "--form") given.options)) command) h
-    by false false true b a g v h =
-        asked (text_row Check) [] command
-        (λ given. reads Check (form_given (look_up (codes "--form") given.options)) command) h
-    by false false false true a g v h =
+    by false false true b i a g v h =
+        asked (wide_row Check CheckWide) [] command
+        (λ given. reads (by_width Check CheckWide (look_up (codes "--wide") given.options))
+        (form_given (look_up (codes "--form") given.options)) command) h
+    by false false false true i a g v h =
         asked (text_row Basis) [] command
         (λ given. reads Basis (form_given (look_up (codes "--form") given.options)) command) h
-    by false false false false true g v h = absurd (ranges_nothing command h)
-    by false false false false false true v h = asked generate_row [] command (λ given. makes given.plain command) h
-    by false false false false false false true h = absurd (serves_nothing command h)
-    by false false false false false false false h = absurd (none_is_not command h)
+    by false false false false true a g v h =
+        asked (text_row Iis) [] command
+        (λ given. reads Iis (form_given (look_up (codes "--form") given.options)) command) h
+    by false false false false false true g v h = absurd (ranges_nothing command h)
+    by false false false false false false true v h = asked generate_row [] command (λ given. makes given.plain command) h
+    by false false false false false false false true h = absurd (serves_nothing command h)
+    by false false false false false false false false h = absurd (none_is_not command h)
 
 -- ---- so a server has an address
 

@@ -14,10 +14,11 @@ use Rattle.spec_program.specs.CommandLine.{places_given, links_of, links_given, 
 use Rattle.spec_program.specs.CommandLine.{Options, Row, is_plain, run_by, run_row, text_row, generate_by}
 use Rattle.spec_program.specs.CommandLine.{generate_with, generate_row, serve_by, serve_with, serve_row, asked_by}
 use Rattle.spec_program.specs.CommandLine.{moved_of, name_of, range_by, range_with, range_row}
+use Rattle.spec_program.specs.CommandLine.{by_width, wide_row}
 use Rattle.spec_program.specs.CommandLine.{command_line_of}
 use Rattle.spec_program.specs.declared.command_line.CommandLine.TheVariants.{Run, Read, Generate, Serve}
 use Rattle.spec_program.specs.declared.command_line.Moved.{Moved}
-use Rattle.spec_program.specs.declared.command_line.TextCommand.TheVariants.{Solve, Check, Basis, Range}
+use Rattle.spec_program.specs.declared.command_line.TextCommand.TheVariants.{Solve, Check, CheckWide, Basis, Iis, Range}
 use Rattle.spec_program.specs.Fits.{IsWorkers, IsPlaces, IsLinks, Fits}
 
 -- ---- numbers
@@ -81,7 +82,7 @@ columns-within word n e = (number-within 512 3 word n e).1
 row-fits : (row : Row) (words : List Word) (command : ExactLine) →
     ((given : Given) → row.asks given ≡ Some command → Fits command) → asked_by words row ≡ Some command →
     Fits command
-row-fits row words command fits e = by (given_in row.plain row.names words) e
+row-fits row words command fits e = by (given_in row.plain row.names row.switches words) e
   where
     by : (given : Option Given) → option_and_then row.asks given ≡ Some command → Fits command
     by None h = absurd (none_is_not command h)
@@ -113,6 +114,13 @@ text-fits : (asked : ExactTextCommand) (words : List Word) (command : ExactLine)
 text-fits asked words command e =
     row-fits (text_row asked) words command
     (λ given h. read-fits asked (form_given (look_up (codes "--form") given.options)) command h) e
+
+wide-fits : (narrow wide : ExactTextCommand) (words : List Word) (command : ExactLine) →
+    asked_by words (wide_row narrow wide) ≡ Some command → Fits command
+wide-fits narrow wide words command e =
+    row-fits (wide_row narrow wide) words command
+    (λ given h. read-fits (by_width narrow wide (look_up (codes "--wide") given.options))
+    (form_given (look_up (codes "--form") given.options)) command h) e
 
 range_by-fits : (moved : Option Moved) (name : Option Word) (style : Option Style) (command : ExactLine) →
     range_by moved name style ≡ Some command → Fits command
@@ -190,27 +198,30 @@ serve-fits words command e =
     row-fits serve_row words command (λ given h. serve_with-fits given.plain given.options command h) e
 
 -- the row of a command's word, by whether it is each of the words
-abbrev pub row_of : Bool → Bool → Bool → Bool → Bool → Bool → Bool → Option Row
-row_of r s c b a g v =
+abbrev pub row_of : Bool → Bool → Bool → Bool → Bool → Bool → Bool → Bool → Option Row
+row_of r s c b i a g v =
     cond r (Some run_row)
     (cond s (Some (text_row Solve))
-    (cond c (Some (text_row Check))
+    (cond c (Some (wide_row Check CheckWide))
     (cond b (Some (text_row Basis))
-    (cond a (Some range_row) (cond g (Some generate_row) (cond v (Some serve_row) None))))))
+    (cond i (Some (text_row Iis))
+    (cond a (Some range_row) (cond g (Some generate_row) (cond v (Some serve_row) None)))))))
 
 pub command-fits : (words : List Word) (command : ExactLine) → command_line_of words ≡ Some command → Fits command
 unfolding command_line_of
 command-fits [] command e = absurd (none_is_not command e)
 command-fits (word ∷ words) command e =
     by (same word (codes "run")) (same word (codes "solve")) (same word (codes "check")) (same word (codes "basis"))
-    (same word (codes "range")) (same word (codes "gen")) (same word (codes "serve")) e
+    (same word (codes "iis")) (same word (codes "range")) (same word (codes "gen")) (same word (codes "serve")) e
   where
-    by : (r s c b a g v : Bool) → option_and_then (asked_by words) (row_of r s c b a g v) ≡ Some command → Fits command
-    by true s c b a g v h = run-fits words command h
-    by false true c b a g v h = text-fits Solve words command h
-    by false false true b a g v h = text-fits Check words command h
-    by false false false true a g v h = text-fits Basis words command h
-    by false false false false true g v h = range-fits words command h
-    by false false false false false true v h = generate-fits words command h
-    by false false false false false false true h = serve-fits words command h
-    by false false false false false false false h = absurd (none_is_not command h)
+    by : (r s c b i a g v : Bool) → option_and_then (asked_by words) (row_of r s c b i a g v) ≡ Some command →
+        Fits command
+    by true s c b i a g v h = run-fits words command h
+    by false true c b i a g v h = text-fits Solve words command h
+    by false false true b i a g v h = wide-fits Check CheckWide words command h
+    by false false false true i a g v h = text-fits Basis words command h
+    by false false false false true a g v h = text-fits Iis words command h
+    by false false false false false true g v h = range-fits words command h
+    by false false false false false false true v h = generate-fits words command h
+    by false false false false false false false true h = serve-fits words command h
+    by false false false false false false false false h = absurd (none_is_not command h)

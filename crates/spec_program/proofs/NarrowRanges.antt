@@ -7,7 +7,7 @@ use Rattle.std.specs.declared.cmp.Ordering.TheVariants.{Less, Equal, Greater}
 use Rattle.std.proofs.lemmas.List.Elements.{All-append, All-replicate, All-set}
 use Rattle.spec_exact.specs.Fraction.{ℚ, 0ℚ, 1ℚ, neg_ℚ, lt_ℚ}
 use Rattle.spec_exact.specs.Narrow.{IsNarrow}
-use Rattle.spec_exact.specs.Run.{Run, ◌>>=◌, refused_as, sum_run, difference_run, quotient_run, order_run, steps}
+use Rattle.spec_exact.specs.Run.{Run, ◌>>=◌, refused_as, sum_run, difference_run, quotient_run, order_run}
 use Rattle.spec_exact.specs.Run.{less_product}
 use Rattle.spec_exact.proofs.Narrow.{neg_narrow}
 use Rattle.spec_exact.proofs.Stops.{All-made}

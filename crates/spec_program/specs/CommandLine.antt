@@ -1,5 +1,5 @@
 -- The command lines of the program: the word of a command, its plain words, and after them its options, each a name and
--- a value, in any order and each at most once.
+-- a value or a switch, which has none, in any order and each at most once.
 use Rattle.std.specs.Prelude.{ℕ, ◌==◌, ◌&&◌, Bool, true, false, not, Option, Some, None, option_map, option_and_then}
 use Rattle.std.specs.Prelude.{List, [], ◌∷◌}
 use Rattle.std.specs.Prelude.{length, map, take, drop, nat_le, codes, if◌then◌else◌}
@@ -13,7 +13,7 @@ use Rattle.spec_program.specs.declared.command_line.CommandLine.TheVariants.{Run
 use Rattle.spec_program.specs.declared.command_line.Moved.{Moved}
 use Rattle.spec_program.specs.declared.command_line.Moved.TheVariants.{Cost, RightSide}
 use Rattle.spec_program.specs.declared.command_line.TextCommand.{TextCommand}
-use Rattle.spec_program.specs.declared.command_line.TextCommand.TheVariants.{Solve, Check, Basis, Range}
+use Rattle.spec_program.specs.declared.command_line.TextCommand.TheVariants.{Solve, Check, CheckWide, Basis, Iis, Range}
 use Rattle.spec_server.specs.Command.{number_to}
 
 abbrev pub Word : Type 0
@@ -28,21 +28,24 @@ ExactTextCommand = TextCommand Word
 
 -- ---- options
 
--- the options that are given: their names and their values
+-- the options that are given: their names and their values; that of a switch is the empty word
 abbrev pub Options : Type 0
 Options = List (Word × Word)
 
 abbrev pub OptionNames : Type 0
 OptionNames = List Word
 
--- the words two by two; nothing where the last name has no value
-abbrev pub in_pairs : List Word → Option Options
-in_pairs [] = Some []
-in_pairs (name ∷ []) = None
-in_pairs (name ∷ value ∷ words) = option_map (λ pairs. (name, value) ∷ pairs) (in_pairs words)
-
 abbrev pub is_one_of : Word → OptionNames → Bool
 is_one_of name names = list_any (λ other. same name other) names
+
+-- the words two by two, but a switch alone; nothing where the last name has no value
+abbrev pub in_pairs : OptionNames → List Word → Option Options
+in_pairs switches [] = Some []
+in_pairs switches (name ∷ []) = if is_one_of name switches then Some ((name, []) ∷ []) else None
+in_pairs switches (name ∷ value ∷ words) =
+    if is_one_of name switches
+    then option_map (λ pairs. (name, []) ∷ pairs) (in_pairs switches (value ∷ words))
+    else option_map (λ pairs. (name, value) ∷ pairs) (in_pairs switches words)
 
 abbrev pub are_distinct : OptionNames → Bool
 are_distinct [] = true
@@ -53,10 +56,10 @@ abbrev pub are_options_of : OptionNames → Options → Bool
 are_options_of names options =
     list_all (λ option. is_one_of option.0 names) options && are_distinct (map (λ option. option.0) options)
 
--- the options that the words give; nothing where they are no options with these names
-unfoldable pub options_in : OptionNames → List Word → Option Options
-options_in names words =
-    option_and_then (λ options. if are_options_of names options then Some options else None) (in_pairs words)
+-- the options that the words give; nothing where they are no options with these names, of which some are switches
+unfoldable pub options_in : OptionNames → OptionNames → List Word → Option Options
+options_in names switches words =
+    option_and_then (λ options. if are_options_of names options then Some options else None) (in_pairs switches words)
 
 -- what is given after a command's word
 pub record Given : Type 0 where
@@ -64,11 +67,11 @@ pub record Given : Type 0 where
   pub options : Options
 
 -- so many plain words, and options with these names after them
-unfoldable pub given_in : ℕ → OptionNames → List Word → Option Given
-given_in plain names words =
+unfoldable pub given_in : ℕ → OptionNames → OptionNames → List Word → Option Given
+given_in plain names switches words =
     if nat_le plain (length words)
     then option_map (λ options. record { plain = take plain words; options = options })
-    (options_in names (drop plain words))
+    (options_in names switches (drop plain words))
     else None
 
 -- ---- the table of commands
@@ -134,10 +137,12 @@ row_count_of word = number_to 256 3 word
 unfoldable pub column_count_of : Word → Option ℕ
 column_count_of word = number_to 512 3 word
 
--- a command: how many plain words it has, the names of its options, and what it asks with these
+-- a command: how many plain words it has, the names of its options, which of these are switches, and what it asks with
+-- all of them
 pub record Row : Type 0 where
   pub plain : ℕ
   pub names : OptionNames
+  pub switches : OptionNames
   pub asks : Given → Option ExactLine
 
 abbrev pub run_by : Option ℕ → Option ℕ → Option ExactLine
@@ -147,6 +152,7 @@ abbrev pub run_row : Row
 run_row = record {
   plain = 0;
   names = codes "--workers" ∷ codes "--places" ∷ [];
+  switches = [];
   asks = λ given. run_by (workers_given (look_up (codes "--workers") given.options))
       (places_given (look_up (codes "--places") given.options));
 }
@@ -155,7 +161,22 @@ abbrev pub text_row : ExactTextCommand → Row
 text_row command = record {
   plain = 0;
   names = codes "--form" ∷ [];
+  switches = [];
   asks = λ given. option_map (Read command) (form_given (look_up (codes "--form") given.options));
+}
+
+-- the command, or the one for numbers of any width where that is asked for
+abbrev pub by_width : ExactTextCommand → ExactTextCommand → Option Word → ExactTextCommand
+by_width narrow wide None = narrow
+by_width narrow wide (Some given) = wide
+
+abbrev pub wide_row : ExactTextCommand → ExactTextCommand → Row
+wide_row narrow wide = record {
+  plain = 0;
+  names = codes "--form" ∷ codes "--wide" ∷ [];
+  switches = codes "--wide" ∷ [];
+  asks = λ given. option_map (Read (by_width narrow wide (look_up (codes "--wide") given.options)))
+      (form_given (look_up (codes "--form") given.options));
 }
 
 -- which number the range is of
@@ -176,7 +197,12 @@ range_with (what ∷ name ∷ []) options =
 range_with words options = None
 
 abbrev pub range_row : Row
-range_row = record { plain = 2; names = codes "--form" ∷ []; asks = λ given. range_with given.plain given.options }
+range_row = record {
+  plain = 2;
+  names = codes "--form" ∷ [];
+  switches = [];
+  asks = λ given. range_with given.plain given.options;
+}
 
 abbrev pub generate_by : Option ℕ → Option ℕ → Option ℕ → Option ExactLine
 generate_by seed rows columns =
@@ -188,7 +214,7 @@ generate_with (seed ∷ rows ∷ columns ∷ []) = generate_by (seed_of seed) (r
 generate_with words = None
 
 abbrev pub generate_row : Row
-generate_row = record { plain = 3; names = []; asks = λ given. generate_with given.plain }
+generate_row = record { plain = 3; names = []; switches = []; asks = λ given. generate_with given.plain }
 
 abbrev pub serve_by : Option ℕ → Option ℕ → Option ℕ → Option ExactLine
 serve_by workers each places =
@@ -207,6 +233,7 @@ abbrev pub serve_row : Row
 serve_row = record {
   plain = 1;
   names = codes "--workers" ∷ codes "--each" ∷ codes "--places" ∷ [];
+  switches = [];
   asks = λ given. serve_with given.plain given.options;
 }
 
@@ -214,8 +241,9 @@ abbrev pub commands : List (Word × Row)
 commands =
     (codes "run", run_row)
     ∷ (codes "solve", text_row Solve)
-    ∷ (codes "check", text_row Check)
+    ∷ (codes "check", wide_row Check CheckWide)
     ∷ (codes "basis", text_row Basis)
+    ∷ (codes "iis", text_row Iis)
     ∷ (codes "range", range_row)
     ∷ (codes "gen", generate_row)
     ∷ (codes "serve", serve_row)
@@ -223,7 +251,7 @@ commands =
 
 -- what the words after a command's word ask
 abbrev pub asked_by : List Word → Row → Option ExactLine
-asked_by words row = option_and_then row.asks (given_in row.plain row.names words)
+asked_by words row = option_and_then row.asks (given_in row.plain row.names row.switches words)
 
 -- what the words after the program's name ask
 unfoldable pub command_line_of : List Word → Option ExactLine

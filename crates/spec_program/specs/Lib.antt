@@ -2,5 +2,6 @@ pub mod CommandLine
 pub mod Spelled
 pub mod Fits
 pub mod RangeOut
+pub mod IisOut
 pub mod TextOut
 pub mod GenOut

@@ -17,8 +17,12 @@ pub enum TextCommand<N> {
     Solve,
     /// To check the certificate after the text.
     Check,
+    /// The same of a certificate whose numbers may have any width.
+    CheckWide,
     /// To solve the model from the basis of the file after the text.
     Basis,
+    /// To solve the model and, where it has no feasible point, to find limits that contradict each other.
+    Iis,
     /// To solve the model, and to range this number of the column or row with this name.
     Range { moved: Moved, name: N },
 }
