@@ -10,7 +10,7 @@ use Rattle.spec_program.specs.Spelled.{spelled_text}
 use Rattle.spec_program.specs.CommandLine.{ExactLine, ExactTextCommand, moved_of, range_by, range_row}
 use Rattle.spec_program.specs.CommandLine.{Given, Row, Options, in_pairs, options_in, given_in, asked_by}
 use Rattle.spec_program.specs.CommandLine.{workers_given, links_given, places_given, form_given, run_by, serve_by}
-use Rattle.spec_program.specs.CommandLine.{run_row, text_row, generate_row, generate_by, serve_row, is_plain}
+use Rattle.spec_program.specs.CommandLine.{OptionNames, by_width, wide_row, run_row, text_row, generate_row, generate_by, serve_row, is_plain}
 use Rattle.spec_program.specs.CommandLine.{seed_of, row_count_of, column_count_of}
 use Rattle.std.proofs.Math.Seq.{take-length}
 use Rattle.spec_program.specs.CommandLine.{command_line_of}
@@ -30,23 +30,23 @@ module _ (row : Row) (words : List (List ℕ)) (enough : row.plain ≤ length wo
   abbrev asked : Option Options → Option ExactLine
   asked options = option_and_then row.asks (option_map given options)
 
-  asks : asked_by words row ≡ asked (options_in row.names (drop row.plain words))
+  asks : asked_by words row ≡ asked (options_in row.names row.switches (drop row.plain words))
   unfolding given_in
   asks =
       ap (λ (t : Bool).
-      option_and_then row.asks (cond t (option_map given (options_in row.names (drop row.plain words))) None))
+      option_and_then row.asks (cond t (option_map given (options_in row.names row.switches (drop row.plain words))) None))
       (le-leb row.plain (length words) enough)
 
   -- words that are no options ask nothing
-  pub refused : are_in row.names (drop row.plain words) ≡ false → asked_by words row ≡ None
-  refused e = asks ∙ ap asked (options-none row.names (drop row.plain words) e)
+  pub refused : are_in row.names row.switches (drop row.plain words) ≡ false → asked_by words row ≡ None
+  refused e = asks ∙ ap asked (options-none row.names row.switches (drop row.plain words) e)
 
   -- others ask what is asked with the pairs that they are
-  taken : are_in row.names (drop row.plain words) ≡ true →
+  taken : are_in row.names row.switches (drop row.plain words) ≡ true →
       (options : Options) ×
       (asked_by words row ≡ row.asks (given options)) ×
-      (in_pairs (drop row.plain words) ≡ Some options)
-  taken e = let o = options-some row.names (drop row.plain words) e in (o.0, asks ∙ ap asked o.1, o.2)
+      (in_pairs row.switches (drop row.plain words) ≡ Some options)
+  taken e = let o = options-some row.names row.switches (drop row.plain words) e in (o.0, asks ∙ ap asked o.1, o.2)
 
 -- ---- a script, or a text: no plain words
 
@@ -54,34 +54,60 @@ module _ (words : List (List ℕ)) where
   at_once : 0 ≤ length words
   at_once = omega arith
 
-  pub run-refused : are_in run_row.names words ≡ false → asked_by words run_row ≡ None
+  pub run-refused : are_in run_row.names run_row.switches words ≡ false → asked_by words run_row ≡ None
   run-refused = refused run_row words at_once
 
-  pub asks-run : (workers places : Option ℕ) → are_in run_row.names words ≡ true →
-      workers_given (value_in (codes "--workers") words) ≡ workers →
-      places_given (value_in (codes "--places") words) ≡ places → asked_by words run_row ≡ run_by workers places
+  pub asks-run : (workers places : Option ℕ) → are_in run_row.names run_row.switches words ≡ true →
+      workers_given (value_in [] (codes "--workers") words) ≡ workers →
+      places_given (value_in [] (codes "--places") words) ≡ places → asked_by words run_row ≡ run_by workers places
   asks-run workers places e are_workers are_places =
       let t = taken run_row words at_once e in
       t.1
       ∙ ap (λ v. run_by (workers_given v) (places_given (look_up (codes "--places") t.0)))
-      (sym (value-look_up (codes "--workers") words t.0 t.2))
-      ∙ ap (λ v. run_by (workers_given (value_in (codes "--workers") words)) (places_given v))
-      (sym (value-look_up (codes "--places") words t.0 t.2))
-      ∙ ap (λ w. run_by w (places_given (value_in (codes "--places") words))) are_workers
+      (sym (value-look_up [] (codes "--workers") words t.0 t.2))
+      ∙ ap (λ v. run_by (workers_given (value_in [] (codes "--workers") words)) (places_given v))
+      (sym (value-look_up [] (codes "--places") words t.0 t.2))
+      ∙ ap (λ w. run_by w (places_given (value_in [] (codes "--places") words))) are_workers
       ∙ ap (run_by workers) are_places
 
   module _ (command : ExactTextCommand) where
-    pub text-refused : are_in (text_row command).names words ≡ false → asked_by words (text_row command) ≡ None
+    pub text-refused : are_in (text_row command).names (text_row command).switches words ≡ false → asked_by words (text_row command) ≡ None
     text-refused = refused (text_row command) words at_once
 
-    pub asks-text : (style : Option Style) → are_in (text_row command).names words ≡ true →
-        form_given (value_in (codes "--form") words) ≡ style →
+    pub asks-text : (style : Option Style) → are_in (text_row command).names (text_row command).switches words ≡ true →
+        form_given (value_in [] (codes "--form") words) ≡ style →
         asked_by words (text_row command) ≡ option_map (Read command) style
     asks-text style e is_style =
         let t = taken (text_row command) words at_once e in
         t.1
-        ∙ ap (λ v. option_map (Read command) (form_given v)) (sym (value-look_up (codes "--form") words t.0 t.2))
+        ∙ ap (λ v. option_map (Read command) (form_given v)) (sym (value-look_up [] (codes "--form") words t.0 t.2))
         ∙ ap (option_map (Read command)) is_style
+
+-- ---- a check, whose numbers may have any width
+
+module _ (words : List (List ℕ)) (narrow wide : ExactTextCommand) where
+  abbrev switches : OptionNames
+  switches = (wide_row narrow wide).switches
+
+  abbrev chosen : Option (List ℕ) → ExactTextCommand
+  chosen given = by_width narrow wide given
+
+  pub wide-refused : are_in (wide_row narrow wide).names switches words ≡ false →
+      asked_by words (wide_row narrow wide) ≡ None
+  wide-refused = refused (wide_row narrow wide) words (at_once words)
+
+  pub asks-wide : (style : Option Style) → are_in (wide_row narrow wide).names switches words ≡ true →
+      form_given (value_in switches (codes "--form") words) ≡ style →
+      asked_by words (wide_row narrow wide)
+      ≡ option_map (Read (chosen (value_in switches (codes "--wide") words))) style
+  asks-wide style e is_style =
+      let t = taken (wide_row narrow wide) words (at_once words) e in
+      t.1
+      ∙ ap (λ v. option_map (Read (chosen (look_up (codes "--wide") t.0))) (form_given v))
+      (sym (value-look_up switches (codes "--form") words t.0 t.2))
+      ∙ ap (λ v. option_map (Read (chosen v)) (form_given (value_in switches (codes "--form") words)))
+      (sym (value-look_up switches (codes "--wide") words t.0 t.2))
+      ∙ ap (option_map (Read (chosen (value_in switches (codes "--wide") words)))) is_style
 
 -- ---- a model that is made: three plain words
 
@@ -101,7 +127,7 @@ module _ {X : Type 0} (f : X → List ℕ) (behind : List X) (a b c : List ℕ) 
       ap (λ (ws : List (List ℕ)). asked_by ws generate_row) cut
       ∙ refused generate_row (a ∷ b ∷ c ∷ map f behind) (omega arith) (by behind some)
     where
-      by : (rest : List X) → (length rest == 0) ≡ false → are_in [] (map f rest) ≡ false
+      by : (rest : List X) → (length rest == 0) ≡ false → are_in [] [] (map f rest) ≡ false
       by [] h = absurd (let z : true ≡ false = h in cc)
       by (x ∷ []) h = refl
       by (x ∷ y ∷ rest) h = refl
@@ -157,16 +183,16 @@ module _ (address : List ℕ) (words all : List (List ℕ)) (cut : all ≡ addre
       None
 
   pub no-address : is_plain address ≡ false → asked_by all serve_row ≡ None
-  no-address e = same_line ∙ asks serve_row (address ∷ words) one_more ∙ each (options_in serve_row.names words)
+  no-address e = same_line ∙ asks serve_row (address ∷ words) one_more ∙ each (options_in serve_row.names serve_row.switches words)
     where
       each : (options : Option Options) → asked serve_row (address ∷ words) one_more options ≡ None
       each None = refl
       each (Some options) = ap (by_address options) e
 
-  pub serve-refused : are_in serve_row.names words ≡ false → asked_by all serve_row ≡ None
+  pub serve-refused : are_in serve_row.names serve_row.switches words ≡ false → asked_by all serve_row ≡ None
   serve-refused e = same_line ∙ refused serve_row (address ∷ words) one_more e
 
-  pub asks-serve : is_plain address ≡ true → are_in serve_row.names words ≡ true →
+  pub asks-serve : is_plain address ≡ true → are_in serve_row.names serve_row.switches words ≡ true →
       asked_by all serve_row ≡ serve_in words
   asks-serve holds e =
       let t = taken serve_row (address ∷ words) one_more e in
@@ -174,9 +200,9 @@ module _ (address : List ℕ) (words all : List (List ℕ)) (cut : all ≡ addre
       ∙ t.1
       ∙ ap (by_address t.0) holds
       ∙ rw (
-        sym (value-look_up (codes "--workers") words t.0 t.2),
-        sym (value-look_up (codes "--each") words t.0 t.2),
-        sym (value-look_up (codes "--places") words t.0 t.2),
+        sym (value-look_up [] (codes "--workers") words t.0 t.2),
+        sym (value-look_up [] (codes "--each") words t.0 t.2),
+        sym (value-look_up [] (codes "--places") words t.0 t.2),
       ) refl
 
 -- ---- a range: which number, a name, and options
@@ -216,7 +242,7 @@ module _ (what name : List ℕ) (words all : List (List ℕ)) (cut : all ≡ wha
   no_place style (Some w) = refl
 
   pub no-name : is_plain name ≡ false → asked_by all range_row ≡ None
-  no-name e = same_range ∙ asks range_row (what ∷ name ∷ words) two_more ∙ each (options_in range_row.names words)
+  no-name e = same_range ∙ asks range_row (what ∷ name ∷ words) two_more ∙ each (options_in range_row.names range_row.switches words)
     where
       each : (options : Option Options) → asked range_row (what ∷ name ∷ words) two_more options ≡ None
       each None = refl
@@ -224,18 +250,18 @@ module _ (what name : List ℕ) (words all : List (List ℕ)) (cut : all ≡ wha
           ap (by_name (form_given (look_up (codes "--form") options)) (moved_of what)) e
           ∙ no_place (form_given (look_up (codes "--form") options)) (moved_of what)
 
-  pub range-refused : are_in range_row.names words ≡ false → asked_by all range_row ≡ None
+  pub range-refused : are_in range_row.names range_row.switches words ≡ false → asked_by all range_row ≡ None
   range-refused e = same_range ∙ refused range_row (what ∷ name ∷ words) two_more e
 
-  pub asks-range : (moved : Option Moved) → is_plain name ≡ true → are_in range_row.names words ≡ true →
+  pub asks-range : (moved : Option Moved) → is_plain name ≡ true → are_in range_row.names range_row.switches words ≡ true →
       moved_of what ≡ moved → asked_by all range_row ≡ option_and_then (λ w. range_in w name words) moved
   asks-range moved holds e is_moved =
       let t = taken range_row (what ∷ name ∷ words) two_more e in
       same_range
       ∙ t.1
       ∙ ap (by_name (form_given (look_up (codes "--form") t.0)) (moved_of what)) holds
-      ∙ ap (λ v. by_name (form_given v) (moved_of what) true) (sym (value-look_up (codes "--form") words t.0 t.2))
-      ∙ ap (λ m. by_name (form_given (value_in (codes "--form") words)) m true) is_moved
+      ∙ ap (λ v. by_name (form_given v) (moved_of what) true) (sym (value-look_up [] (codes "--form") words t.0 t.2))
+      ∙ ap (λ m. by_name (form_given (value_in [] (codes "--form") words)) m true) is_moved
 
 -- ---- a command, by the word that names it
 
@@ -243,8 +269,9 @@ abbrev pub command_words : List (List ℕ × Command)
 command_words =
     (codes "run", command.Run)
     ∷ (codes "solve", command.Read text.Solve)
-    ∷ (codes "check", command.Read text.Check)
+    ∷ (codes "check", command.Check)
     ∷ (codes "basis", command.Read text.Basis)
+    ∷ (codes "iis", command.Read text.Iis)
     ∷ (codes "range", command.Range)
     ∷ (codes "gen", command.Generate)
     ∷ (codes "serve", command.Serve)
@@ -253,6 +280,7 @@ command_words =
 abbrev pub row_of : Command → Row
 row_of command.Run = run_row
 row_of (command.Read asked) = text_row (spelled_text asked)
+row_of command.Check = wide_row text.Check text.CheckWide
 row_of command.Range = range_row
 row_of command.Generate = generate_row
 row_of command.Serve = serve_row

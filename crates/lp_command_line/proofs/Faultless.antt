@@ -7,28 +7,28 @@ use denote.Ref.{Bor}
 use Rattle.spec_mps.specs.Shapes.{look_up}
 use Rattle.spec_program.specs.declared.command_line.CommandLine.TheVariants.{Read}
 use Rattle.spec_program.specs.declared.command_line.Moved.{Moved}
-use Rattle.spec_program.specs.declared.command_line.TextCommand.TheVariants.{Range}
+use Rattle.spec_program.specs.declared.command_line.TextCommand.TheVariants.{Check, CheckWide, Range}
 use Rattle.spec_program.specs.Spelled.{spelled_text}
 use Rattle.spec_program.specs.CommandLine.{ExactTextCommand, moved_of, range_row}
 use Rattle.spec_program.specs.CommandLine.{Word, OptionNames, given_or, given_in, asked_by, is_one_of, is_plain}
 use Rattle.spec_program.specs.CommandLine.{usual_workers, workers_of, workers_given, usual_links, links_of, links_given}
 use Rattle.spec_program.specs.CommandLine.{usual_places, places_of, places_given, form_of, form_given}
 use Rattle.spec_program.specs.CommandLine.{seed_of, row_count_of, column_count_of, run_by, serve_by, generate_by}
-use Rattle.spec_program.specs.CommandLine.{run_row, text_row, generate_row, serve_row, command_line_of}
+use Rattle.spec_program.specs.CommandLine.{run_row, text_row, by_width, wide_row, generate_row, serve_row, command_line_of}
 use Rattle.spec_mps.specs.declared.style.Style.{Style}
 use Rattle.spec_mps.specs.declared.style.Style.TheVariants.{Free}
-use Rattle.lp_command_line.specs.Words.{value_in, are_in}
+use Rattle.lp_command_line.specs.Words.{value_in, is_new_option, are_in, wide_switch}
 use Rattle.lp_command_line.specs.declared.fault.Plain.{Plain}
 use Rattle.lp_command_line.specs.declared.fault.Plain.TheVariants.{Address, Number, Name, Seed, Rows, Columns}
 use Rattle.lp_command_line.specs.declared.fault.WordFault.{WordFault}
 use Rattle.lp_command_line.specs.declared.fault.WordFault.TheVariants.{NoOption, Twice, NotValue}
-use Rattle.lp_command_line.specs.WordFaults.{Fault, told, option_fault, value_fault, plain_fault, workers_fault}
+use Rattle.lp_command_line.specs.WordFaults.{Fault, told, lone_fault, behind_option, option_fault, value_fault, plain_fault, workers_fault}
 use Rattle.lp_command_line.specs.WordFaults.{links_fault}
-use Rattle.lp_command_line.specs.WordFaults.{places_fault, form_fault, run_fault, text_fault, generate_fault}
+use Rattle.lp_command_line.specs.WordFaults.{places_fault, form_fault, run_fault, text_fault, wide_fault, generate_fault}
 use Rattle.lp_command_line.specs.WordFaults.{range_fault, serve_fault, fault_by, word_fault}
 use Rattle.lp_command_line.specs.declared.line.Command.{Command}
 use Rattle.lp_command_line.specs.declared.line.Command.TheVariants as command
-use Rattle.lp_command_line.proofs.Asking.{refused, run-refused, asks-run, text-refused, asks-text, asks-generate}
+use Rattle.lp_command_line.proofs.Asking.{refused, run-refused, asks-run, text-refused, asks-text, wide-refused, asks-wide, asks-generate}
 use Rattle.lp_command_line.proofs.Asking.{no-address, serve-refused, asks-serve, command_words, row_of, look_up-map}
 use Rattle.lp_command_line.proofs.Asking.{no-name, range-refused, asks-range, asks-command}
 
@@ -44,33 +44,68 @@ and_false false = refl
 
 -- ---- options, their values, and plain words
 
-no-option_fault : (names : OptionNames) (words : List Word) → is_none (option_fault names words) ≡ are_in names words
-no-option_fault names [] = refl
-no-option_fault names (option ∷ []) = refl
-no-option_fault names (option ∷ value ∷ words) =
-    by (is_one_of option names) (is_some (value_in option words)) (no-option_fault names words)
+-- one option more
+no-more_fault : (names : OptionNames) (option : Word) (again : Option Word) (fault : Option Fault) (test : Bool) →
+    is_none fault ≡ test →
+    is_none (behind_option names option again fault) ≡ cond (is_new_option names option again) test false
+no-more_fault names option again fault test rest = by (is_one_of option names) (is_some again)
   where
-    by : (known given : Bool) → is_none (option_fault names words) ≡ are_in names words →
-        is_none (cond known (cond given (Some (Twice option)) (option_fault names words)) (Some (NoOption option)))
-        ≡ cond (known && not given) (are_in names words) false
-    by true true rest = refl
-    by true false rest = rest
-    by false given rest = refl
+    by : (known given : Bool) →
+        is_none (cond known (cond given (Some (Twice option)) fault) (Some (NoOption option)))
+        ≡ cond (known && not given) test false
+    by true true = refl
+    by true false = rest
+    by false given = refl
 
-module _ {A : Type 0} (usual : A) (of : Word → Option A) (name : Word) (words : List Word) where
-  no-value_fault : is_none (value_fault name words (is_some (given_or usual of (value_in name words))))
-      ≡ is_some (given_or usual of (value_in name words))
-  no-value_fault = by (value_in name words) refl
-    where
-      read : (value : Word) → value_in name words ≡ Some value → (found : Option A) →
-          is_none (value_fault name words (is_some found)) ≡ is_some found
-      read value is (Some a) = refl
-      read value is None = ap (λ v. is_none (option_map (NotValue name) v)) is
+-- an option and the words behind it
+abbrev fault_with : OptionNames → OptionNames → Word → List Word → Option Fault
+fault_with names switches option rest =
+    behind_option names option (value_in switches option rest) (option_fault names switches rest)
 
-      by : (value : Option Word) → value_in name words ≡ value →
-          is_none (value_fault name words (is_some (given_or usual of value))) ≡ is_some (given_or usual of value)
-      by None is = refl
-      by (Some value) is = read value is (of value)
+abbrev are_with : OptionNames → OptionNames → Word → List Word → Bool
+are_with names switches option rest =
+    cond (is_new_option names option (value_in switches option rest)) (are_in names switches rest) false
+
+no-option_fault : (names switches : OptionNames) (words : List Word) →
+    is_none (option_fault names switches words) ≡ are_in names switches words
+no-option_fault names switches [] = refl
+no-option_fault names switches (option ∷ []) = by (is_one_of option switches)
+  where
+    by : (s : Bool) →
+        is_none (cond s (behind_option names option None None) (Some (lone_fault names option)))
+        ≡ cond s (cond (is_new_option names option None) true false) false
+    by true = no-more_fault names option None None true refl
+    by false = refl
+no-option_fault names switches (option ∷ value ∷ words) =
+    by (is_one_of option switches)
+    (no-more_fault names option (value_in switches option (value ∷ words)) _ _
+    (no-option_fault names switches (value ∷ words)))
+    (no-more_fault names option (value_in switches option words) _ _ (no-option_fault names switches words))
+  where
+    by : (s : Bool) →
+        is_none (fault_with names switches option (value ∷ words)) ≡ are_with names switches option (value ∷ words) →
+        is_none (fault_with names switches option words) ≡ are_with names switches option words →
+        is_none
+        (cond s (fault_with names switches option (value ∷ words)) (fault_with names switches option words))
+        ≡ cond s (are_with names switches option (value ∷ words)) (are_with names switches option words)
+    by true alone paired = alone
+    by false alone paired = paired
+
+module _ {A : Type 0} (usual : A) (of : Word → Option A) (switches : OptionNames) (name : Word) (words : List Word)
+  where
+    no-value_fault : is_none (value_fault switches name words (is_some (given_or usual of (value_in switches name words))))
+        ≡ is_some (given_or usual of (value_in switches name words))
+    no-value_fault = by (value_in switches name words) refl
+      where
+        read : (value : Word) → value_in switches name words ≡ Some value → (found : Option A) →
+            is_none (value_fault switches name words (is_some found)) ≡ is_some found
+        read value is (Some a) = refl
+        read value is None = ap (λ v. is_none (option_map (NotValue name) v)) is
+
+        by : (value : Option Word) → value_in switches name words ≡ value →
+            is_none (value_fault switches name words (is_some (given_or usual of value))) ≡ is_some (given_or usual of value)
+        by None is = refl
+        by (Some value) is = read value is (of value)
 
 no-plain_fault : (plain : Plain) (word : Word) (is_right : Bool) → is_none (plain_fault plain word is_right) ≡ is_right
 no-plain_fault plain word true = refl
@@ -80,28 +115,28 @@ no-plain_fault plain word false = refl
 
 module _ (words : List Word) where
   abbrev workers : Option ℕ
-  workers = workers_given (value_in (codes "--workers") words)
+  workers = workers_given (value_in [] (codes "--workers") words)
 
   abbrev places : Option ℕ
-  places = places_given (value_in (codes "--places") words)
+  places = places_given (value_in [] (codes "--places") words)
 
   abbrev links : Option ℕ
-  links = links_given (value_in (codes "--each") words)
+  links = links_given (value_in [] (codes "--each") words)
 
-  abbrev form : Option Style
-  form = form_given (value_in (codes "--form") words)
+  abbrev form : OptionNames → Option Style
+  form switches = form_given (value_in switches (codes "--form") words)
 
   no-workers_fault : is_none (workers_fault words) ≡ is_some workers
-  no-workers_fault = no-value_fault usual_workers workers_of (codes "--workers") words
+  no-workers_fault = no-value_fault usual_workers workers_of [] (codes "--workers") words
 
   no-places_fault : is_none (places_fault words) ≡ is_some places
-  no-places_fault = no-value_fault usual_places places_of (codes "--places") words
+  no-places_fault = no-value_fault usual_places places_of [] (codes "--places") words
 
   no-links_fault : is_none (links_fault words) ≡ is_some links
-  no-links_fault = no-value_fault usual_links links_of (codes "--each") words
+  no-links_fault = no-value_fault usual_links links_of [] (codes "--each") words
 
-  no-form_fault : is_none (form_fault words) ≡ is_some form
-  no-form_fault = no-value_fault Free form_of (codes "--form") words
+  no-form_fault : (switches : OptionNames) → is_none (form_fault switches words) ≡ is_some (form switches)
+  no-form_fault switches = no-value_fault Free form_of switches (codes "--form") words
 
 run_by-some : (w p : Option ℕ) → (is_some w && is_some p) ≡ is_some (run_by w p)
 run_by-some None p = refl
@@ -111,11 +146,11 @@ run_by-some (Some k) (Some n) = refl
 no-run_fault : (words : List Word) → is_none (run_fault words) ≡ is_some (asked_by words run_row)
 no-run_fault words =
     neither _ _ _ _
-    (neither _ _ _ _ (no-option_fault run_row.names words) (no-workers_fault words))
+    (neither _ _ _ _ (no-option_fault run_row.names run_row.switches words) (no-workers_fault words))
     (no-places_fault words)
-    ∙ by (are_in run_row.names words) refl
+    ∙ by (are_in run_row.names run_row.switches words) refl
   where
-    by : (t : Bool) → are_in run_row.names words ≡ t →
+    by : (t : Bool) → are_in run_row.names run_row.switches words ≡ t →
         ((t && is_some (workers words)) && is_some (places words)) ≡ is_some (asked_by words run_row)
     by true e =
         run_by-some (workers words) (places words)
@@ -128,14 +163,27 @@ read-some text (Some style) = refl
 
 no-text_fault : (text : ExactTextCommand) (words : List Word) → is_none (text_fault words) ≡ is_some (asked_by words (text_row text))
 no-text_fault text words =
-    neither _ _ _ _ (no-option_fault (text_row text).names words) (no-form_fault words)
-    ∙ by (are_in (text_row text).names words) refl
+    neither _ _ _ _ (no-option_fault (text_row text).names (text_row text).switches words) (no-form_fault words [])
+    ∙ by (are_in (text_row text).names (text_row text).switches words) refl
   where
-    by : (t : Bool) → are_in (text_row text).names words ≡ t →
-        (t && is_some (form words)) ≡ is_some (asked_by words (text_row text))
+    by : (t : Bool) → are_in (text_row text).names (text_row text).switches words ≡ t →
+        (t && is_some (form words [])) ≡ is_some (asked_by words (text_row text))
     by true e =
-        read-some text (form words) ∙ ap is_some (sym (asks-text words text (form words) e refl))
+        read-some text (form words []) ∙ ap is_some (sym (asks-text words text (form words []) e refl))
     by false e = ap is_some (sym (text-refused words text e))
+
+no-wide_fault : (narrow wide : ExactTextCommand) (words : List Word) →
+    is_none (wide_fault words) ≡ is_some (asked_by words (wide_row narrow wide))
+no-wide_fault narrow wide words =
+    neither _ _ _ _ (no-option_fault (wide_row narrow wide).names wide_switch words) (no-form_fault words wide_switch)
+    ∙ by (are_in (wide_row narrow wide).names wide_switch words) refl
+  where
+    by : (t : Bool) → are_in (wide_row narrow wide).names wide_switch words ≡ t →
+        (t && is_some (form words wide_switch)) ≡ is_some (asked_by words (wide_row narrow wide))
+    by true e =
+        read-some (by_width narrow wide (value_in wide_switch (codes "--wide") words)) (form words wide_switch)
+        ∙ ap is_some (sym (asks-wide words narrow wide (form words wide_switch) e refl))
+    by false e = ap is_some (sym (wide-refused words narrow wide e))
 
 module _ (x y : Bool) where
   no_name : ((x && false) && y) ≡ false
@@ -166,20 +214,20 @@ no-range_fault (what ∷ []) = refl
 no-range_fault (what ∷ name ∷ words) =
     neither _ _ _ _
     (neither _ _ _ _ (no-plain_fault Number what (is_some (moved_of what))) (no-plain_fault Name name (is_plain name)))
-    (neither _ _ _ _ (no-option_fault range_row.names words) (no-form_fault words))
-    ∙ by (is_plain name) (are_in range_row.names words) refl refl
+    (neither _ _ _ _ (no-option_fault range_row.names range_row.switches words) (no-form_fault words []))
+    ∙ by (is_plain name) (are_in range_row.names range_row.switches words) refl refl
   where
-    by : (a t : Bool) → is_plain name ≡ a → are_in range_row.names words ≡ t →
-        ((is_some (moved_of what) && a) && (t && is_some (form words)))
+    by : (a t : Bool) → is_plain name ≡ a → are_in range_row.names range_row.switches words ≡ t →
+        ((is_some (moved_of what) && a) && (t && is_some (form words [])))
         ≡ is_some (asked_by (what ∷ name ∷ words) range_row)
     by false t h e =
-        no_name (is_some (moved_of what)) (t && is_some (form words))
+        no_name (is_some (moved_of what)) (t && is_some (form words []))
         ∙ ap is_some (sym (no-name what name words (what ∷ name ∷ words) refl h))
     by true false h e =
-        no_options (is_some (moved_of what)) (is_some (form words))
+        no_options (is_some (moved_of what)) (is_some (form words []))
         ∙ ap is_some (sym (range-refused what name words (what ∷ name ∷ words) refl e))
     by true true h e =
-        range-some name (moved_of what) (form words)
+        range-some name (moved_of what) (form words [])
         ∙ ap is_some (sym (asks-range what name words (what ∷ name ∷ words) refl (moved_of what) h e refl))
 
 generate_by-some : (seed rows columns : Option ℕ) →
@@ -189,7 +237,7 @@ generate_by-some (Some s) None columns = refl
 generate_by-some (Some s) (Some r) None = refl
 generate_by-some (Some s) (Some r) (Some c) = refl
 
-no-option : (word : Word) (words : List Word) → are_in [] (word ∷ words) ≡ false
+no-option : (word : Word) (words : List Word) → are_in [] [] (word ∷ words) ≡ false
 no-option word [] = refl
 no-option word (value ∷ words) = refl
 
@@ -210,7 +258,7 @@ no-generate_fault (seed ∷ rows ∷ columns ∷ []) =
     (column_count_of columns) refl refl refl refl))
 no-generate_fault (seed ∷ rows ∷ columns ∷ word ∷ words) =
     let none = no-option word words in
-    neither _ _ _ _ refl (no-option_fault [] (word ∷ words) ∙ none)
+    neither _ _ _ _ refl (no-option_fault [] [] (word ∷ words) ∙ none)
     ∙ and_false _
     ∙ ap is_some (sym (refused generate_row (seed ∷ rows ∷ columns ∷ word ∷ words) (omega arith) none))
 
@@ -227,13 +275,13 @@ no-serve_fault (address ∷ words) =
     neither _ _ _ _
     (neither _ _ _ _
     (neither _ _ _ _
-    (neither _ _ _ _ (no-plain_fault Address address (is_plain address)) (no-option_fault serve_row.names words))
+    (neither _ _ _ _ (no-plain_fault Address address (is_plain address)) (no-option_fault serve_row.names serve_row.switches words))
     (no-workers_fault words))
     (no-links_fault words))
     (no-places_fault words)
-    ∙ by (is_plain address) (are_in serve_row.names words) refl refl
+    ∙ by (is_plain address) (are_in serve_row.names serve_row.switches words) refl refl
   where
-    by : (a t : Bool) → is_plain address ≡ a → are_in serve_row.names words ≡ t →
+    by : (a t : Bool) → is_plain address ≡ a → are_in serve_row.names serve_row.switches words ≡ t →
         ((((a && t) && is_some (workers words)) && is_some (links words)) && is_some (places words))
         ≡ is_some (asked_by (address ∷ words) serve_row)
     by false t h e = ap is_some (sym (no-address address words (address ∷ words) refl h))
@@ -247,6 +295,7 @@ no-serve_fault (address ∷ words) =
 abbrev pub fault_of : Command → List Word → Option Fault
 fault_of command.Run = run_fault
 fault_of (command.Read asked) = text_fault
+fault_of command.Check = wide_fault
 fault_of command.Range = range_fault
 fault_of command.Generate = generate_fault
 fault_of command.Serve = serve_fault
@@ -271,6 +320,7 @@ no-word_fault (word ∷ words) =
     by None = refl
     by (Some command.Run) = no-run_fault words
     by (Some (command.Read asked)) = no-text_fault (spelled_text asked) words
+    by (Some command.Check) = no-wide_fault Check CheckWide words
     by (Some command.Range) = no-range_fault words
     by (Some command.Generate) = no-generate_fault words
     by (Some command.Serve) = no-serve_fault words

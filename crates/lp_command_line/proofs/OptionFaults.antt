@@ -7,11 +7,11 @@ use Rattle.std.specs.List.{list_any}
 use denote.Ref.{Bor}
 use Rattle.spec_text.specs.Words.{same}
 use Rattle.spec_program.specs.CommandLine.{OptionNames}
-use Rattle.lp_command_line.specs.Words.{bytes_of, value_in}
+use Rattle.lp_command_line.specs.Words.{Cut, first_in, bytes_of, value_in}
 use Rattle.lp_command_line.specs.declared.fault.WordFault.{WordFault}
 use Rattle.lp_command_line.specs.declared.fault.WordFault.TheVariants.{NoOption, Twice, NoValue}
-use Rattle.lp_command_line.specs.WordFaults.{Fault, told, option_fault}
-use Rattle.lp_command_line.proofs.OptionLemmas.{any-bytes}
+use Rattle.lp_command_line.specs.WordFaults.{Fault, told, lone_fault, behind_option, option_fault}
+use Rattle.lp_command_line.proofs.OptionLemmas.{none_is_not, any-bytes, first-lone, first-more, no-more, lone-none}
 
 -- a fault or another, as they are told
 pub told-or : (a b : Option (WordFault (Bor (List ℕ)))) → told (option_or a b) ≡ option_or (told a) (told b)
@@ -27,51 +27,70 @@ pub told-by : (r a b : Option (WordFault (Bor (List ℕ)))) (x y : Option Fault)
 told-by r a b x y is is_x is_y = ap told is ∙ told-either a b x y is_x is_y
 
 -- no word is left
-pub none-left : {X : Type 0} (names : OptionNames) (f : X → List ℕ) (rest : List X) → length rest < 1 →
-    None ≡ option_fault names (map f rest)
-none-left names f [] h = refl
-none-left names f (x ∷ rest) h = absurd (omega (arith, h))
+pub none-left : {X : Type 0} (names switches : OptionNames) (f : X → List ℕ) (rest : List X) → length rest < 1 →
+    None ≡ option_fault names switches (map f rest)
+none-left names switches f [] h = refl
+none-left names switches f (x ∷ rest) h = absurd (omega (arith, h))
 
 -- one word is left
-pub one-left : {X : Type 0} (names : List (Bor (List ℕ))) (f : X → List ℕ) (rest : List X) (x : X) (word : List ℕ)
-    (known test : Bool) → 1 ≤ length rest → length rest < 2 → x ≡ get_or rest 0 x → word ≡ f x →
+pub one-left : {X : Type 0} (names : List (Bor (List ℕ))) (switches : OptionNames) (f : X → List ℕ) (rest : List X)
+    (x : X) (word : List ℕ) (known test : Bool) → 1 ≤ length rest → first_in switches (map f rest) ≡ None →
+    x ≡ get_or rest 0 x → word ≡ f x →
     known ≡ list_any (λ name. same word name.now) names → known ≡ test →
-    Some (cond test (NoValue word) (NoOption word)) ≡ option_fault (bytes_of names) (map f rest)
-one-left names f [] x word known test enough few is_x is_word is_known is = absurd (omega (arith, enough))
-one-left names f (u ∷ []) x word known test enough few is_x is_word is_known is =
+    Some (cond test (NoValue word) (NoOption word)) ≡ option_fault (bytes_of names) switches (map f rest)
+one-left names switches f [] x word known test enough few is_x is_word is_known is = absurd (omega (arith, enough))
+one-left names switches f (u ∷ []) x word known test enough few is_x is_word is_known is =
     ap (λ t. Some (cond t (NoValue word) (NoOption word))) (sym is ∙ is_known ∙ any-bytes word names)
-    ∙ ap (λ w. option_fault (bytes_of names) (w ∷ [])) (is_word ∙ ap f is_x)
-one-left names f (u ∷ v ∷ rest) x word known test enough few is_x is_word is_known is = absurd (omega (arith, few))
+    ∙ ap (λ w. Some (lone_fault (bytes_of names) w)) (is_word ∙ ap f is_x)
+    ∙ sym (ap (λ t.
+    cond t (behind_option (bytes_of names) (f u) None None) (Some (lone_fault (bytes_of names) (f u))))
+    (lone-none switches (f u) few))
+one-left names switches f (u ∷ v ∷ rest) x word known test enough few is_x is_word is_known is =
+    no-more switches (f u) (f v) (map f rest) few
 
 -- ---- one option of several words
 
-module _ (names : List (Bor (List ℕ))) (all rest : List (List ℕ))
-    (invariant : option_fault (bytes_of names) rest ≡ option_fault (bytes_of names) all) (option value : List ℕ)
-    (more : List (List ℕ)) (cut : rest ≡ option ∷ value ∷ more) (known : Bool)
+module _ (names : List (Bor (List ℕ))) (switches : OptionNames) (all rest : List (List ℕ))
+    (invariant : option_fault (bytes_of names) switches rest ≡ option_fault (bytes_of names) switches all)
+    (option value : List ℕ) (more : List (List ℕ))
+    (cut : first_in switches rest ≡ Some (record { option = option; value = value; behind = more })) (known : Bool)
     (is_known : known ≡ list_any (λ name. same option name.now) names) where
+  abbrev fault_by : Cut → Option Fault
+  fault_by c =
+      behind_option (bytes_of names) c.option (value_in switches c.option c.behind)
+      (option_fault (bytes_of names) switches c.behind)
+
+  fault-cut : (words : List (List ℕ)) (c : Cut) → first_in switches words ≡ Some c →
+      option_fault (bytes_of names) switches words ≡ fault_by c
+  unfolding first_in
+  fault-cut [] c e = absurd (none_is_not c e)
+  fault-cut (option ∷ []) c e =
+      first-lone switches fault_by option c e (Some (lone_fault (bytes_of names) option))
+  fault-cut (option ∷ value ∷ words) c e = first-more switches fault_by option value words c e
+
   abbrev decided : Bool → Bool → Option Fault
   decided t given =
-      cond t (cond given (Some (Twice option)) (option_fault (bytes_of names) more)) (Some (NoOption option))
+      cond t (cond given (Some (Twice option)) (option_fault (bytes_of names) switches more)) (Some (NoOption option))
 
-  first : option_fault (bytes_of names) all ≡ decided known (is_some (value_in option more))
+  first : option_fault (bytes_of names) switches all ≡ decided known (is_some (value_in switches option more))
   first =
       sym invariant
-      ∙ ap (option_fault (bytes_of names)) cut
-      ∙ ap (λ t. decided t (is_some (value_in option more))) (sym (any-bytes option names) ∙ sym is_known)
+      ∙ fault-cut rest (record { option = option; value = value; behind = more }) cut
+      ∙ ap (λ t. decided t (is_some (value_in switches option more))) (sym (any-bytes option names) ∙ sym is_known)
 
-  pub unknown-fault : known ≡ false → Some (NoOption option) ≡ option_fault (bytes_of names) all
-  unknown-fault u = sym (first ∙ ap (λ t. decided t (is_some (value_in option more))) u)
+  pub unknown-fault : known ≡ false → Some (NoOption option) ≡ option_fault (bytes_of names) switches all
+  unknown-fault u = sym (first ∙ ap (λ t. decided t (is_some (value_in switches option more))) u)
 
-  module _ (k : known ≡ true) (found : Option (List ℕ)) (is_found : found ≡ value_in option more) where
-    second : option_fault (bytes_of names) all ≡ decided true (is_some found)
+  module _ (k : known ≡ true) (found : Option (List ℕ)) (is_found : found ≡ value_in switches option more) where
+    second : option_fault (bytes_of names) switches all ≡ decided true (is_some found)
     second =
         first
-        ∙ ap (λ t. decided t (is_some (value_in option more))) k
+        ∙ ap (λ t. decided t (is_some (value_in switches option more))) k
         ∙ ap (λ (o : Option (List ℕ)). decided true (is_some o)) (sym is_found)
 
-    pub twice-fault : is_some found ≡ true → Some (Twice option) ≡ option_fault (bytes_of names) all
+    pub twice-fault : is_some found ≡ true → Some (Twice option) ≡ option_fault (bytes_of names) switches all
     twice-fault g = sym (second ∙ ap (decided true) g)
 
     pub more-fault : is_some found ≡ false →
-        option_fault (bytes_of names) more ≡ option_fault (bytes_of names) all
+        option_fault (bytes_of names) switches more ≡ option_fault (bytes_of names) switches all
     more-fault g = sym (second ∙ ap (decided true) g)

@@ -8,22 +8,178 @@ use Rattle.spec_text.specs.Words.{same}
 use Rattle.spec_mps.specs.Shapes.{look_up}
 use Rattle.spec_program.specs.CommandLine.{Options, OptionNames, in_pairs, is_one_of, are_distinct, are_options_of}
 use Rattle.spec_program.specs.CommandLine.{options_in}
-use Rattle.lp_command_line.specs.Words.{value_in, is_new_option, are_in, bytes_of}
+use Rattle.lp_command_line.specs.Words.{Cut, first_in, value_in, is_new_option, are_in, bytes_of}
+
+pub none_is_not : {A : Type 0} (a : A) → ◌≡◌ {A = Option A} None (Some a) → ⊥
+none_is_not a e = cc
+
+-- ---- the first option
+
+module _ (switches : OptionNames) where
+  pub cut-none : {X : Type 0} (f : X → List ℕ) (words : List X) → length words < 1 →
+      first_in switches (map f words) ≡ None
+  unfolding first_in
+  cut-none f [] h = refl
+  cut-none f (x ∷ words) h = absurd (omega (arith, h))
+
+  pub cut-switch : (words : List (List ℕ)) (option : List ℕ) (behind : List (List ℕ)) → words ≡ option ∷ behind →
+      is_one_of option switches ≡ true →
+      first_in switches words ≡ Some (record { option = option; value = []; behind = behind })
+  unfolding first_in
+  cut-switch words option behind cut h = ap (first_in switches) cut ∙ by behind
+    where
+      by : (behind : List (List ℕ)) →
+          first_in switches (option ∷ behind) ≡ Some (record { option = option; value = []; behind = behind })
+      by [] = ap (λ t. cond t (Some (record { option = option; value = []; behind = [] })) None) h
+      by (value ∷ words) =
+          ap (λ t.
+          cond t (Some (record { option = option; value = []; behind = value ∷ words }))
+          (Some (record { option = option; value = value; behind = words }))) h
+
+  pub cut-short : {X : Type 0} (f : X → List ℕ) (words : List (List ℕ)) (option : List ℕ) (behind : List X) →
+      words ≡ option ∷ map f behind → length behind < 1 → is_one_of option switches ≡ false →
+      first_in switches words ≡ None
+  unfolding first_in
+  cut-short f words option [] cut l h =
+      ap (first_in switches) cut
+      ∙ ap (λ t. cond t (Some (record { option = option; value = []; behind = [] })) None) h
+  cut-short f words option (x ∷ behind) cut l h = absurd (omega (arith, l))
+
+  pub cut-value : (words : List (List ℕ)) (option value : List ℕ) (behind : List (List ℕ)) →
+      words ≡ option ∷ value ∷ behind → is_one_of option switches ≡ false →
+      first_in switches words ≡ Some (record { option = option; value = value; behind = behind })
+  unfolding first_in
+  cut-value words option value behind cut h =
+      ap (first_in switches) cut
+      ∙ ap (λ t.
+      cond t (Some (record { option = option; value = []; behind = value ∷ behind }))
+      (Some (record { option = option; value = value; behind = behind }))) h
+
+  -- what is said by the first option, if there is one
+  module _ {A : Type 0} (said : Cut → A) where
+    pub first-lone : (option : List ℕ) (c : Cut) → first_in switches (option ∷ []) ≡ Some c → (none : A) →
+        cond (is_one_of option switches) (said (record { option = option; value = []; behind = [] })) none ≡ said c
+    unfolding first_in
+    first-lone option c e none = by (is_one_of option switches) e
+      where
+        by : (s : Bool) → cond s (Some (record { option = option; value = []; behind = [] })) None ≡ Some c →
+            cond s (said (record { option = option; value = []; behind = [] })) none ≡ said c
+        by true h = let is : ◌≡◌ {A = Cut} (record { option = option; value = []; behind = [] }) c = cc in ap said is
+        by false h = absurd (none_is_not c h)
+
+    pub first-more : (option value : List ℕ) (words : List (List ℕ)) (c : Cut) →
+        first_in switches (option ∷ value ∷ words) ≡ Some c →
+        cond (is_one_of option switches) (said (record { option = option; value = []; behind = value ∷ words }))
+        (said (record { option = option; value = value; behind = words })) ≡ said c
+    unfolding first_in
+    first-more option value words c e = by (is_one_of option switches) e
+      where
+        by : (s : Bool) →
+            cond s (Some (record { option = option; value = []; behind = value ∷ words }))
+            (Some (record { option = option; value = value; behind = words })) ≡ Some c →
+            cond s (said (record { option = option; value = []; behind = value ∷ words }))
+            (said (record { option = option; value = value; behind = words })) ≡ said c
+        by true h =
+            let is : ◌≡◌ {A = Cut} (record { option = option; value = []; behind = value ∷ words }) c = cc in ap said is
+        by false h =
+            let is : ◌≡◌ {A = Cut} (record { option = option; value = value; behind = words }) c = cc in ap said is
+
+  -- no option is first of no words, and of a lone one that has no value
+  pub no-more : {B : Type 0} (option value : List ℕ) (words : List (List ℕ)) →
+      first_in switches (option ∷ value ∷ words) ≡ None → B
+  unfolding first_in
+  no-more {B} option value words e = by (is_one_of option switches) e
+    where
+      by : (s : Bool) →
+          cond {A = Option Cut} s (Some (record { option = option; value = []; behind = value ∷ words }))
+          (Some (record { option = option; value = value; behind = words })) ≡ None → B
+      by true h = absurd (none_is_not _ (sym h))
+      by false h = absurd (none_is_not _ (sym h))
+
+  pub lone-none : (option : List ℕ) → first_in switches (option ∷ []) ≡ None → is_one_of option switches ≡ false
+  unfolding first_in
+  lone-none option e = by (is_one_of option switches) e
+    where
+      by : (s : Bool) → cond {A = Option Cut} s (Some (record { option = option; value = []; behind = [] })) None ≡ None → s ≡ false
+      by true h = absurd (none_is_not _ (sym h))
+      by false h = refl
+
+-- ---- the value of an option
+
+module _ (switches : OptionNames) (name : List ℕ) where
+  -- by the first option
+  abbrev pub value_by : Cut → Option (List ℕ)
+  value_by c = cond (same name c.option) (Some c.value) (value_in switches name c.behind)
+
+  pub value-cut : (words : List (List ℕ)) (c : Cut) → first_in switches words ≡ Some c →
+      value_in switches name words ≡ value_by c
+  unfolding first_in
+  value-cut [] c e = absurd (none_is_not c e)
+  value-cut (option ∷ []) c e = first-lone switches value_by option c e None
+  value-cut (option ∷ value ∷ words) c e = first-more switches value_by option value words c e
+
+  pub value-none : (words : List (List ℕ)) → first_in switches words ≡ None → value_in switches name words ≡ None
+  value-none [] e = refl
+  value-none (option ∷ []) e =
+      ap (λ t. cond t (cond (same name option) (Some []) None) None) (lone-none switches option e)
+  value-none (option ∷ value ∷ words) e = no-more switches option value words e
+
+  pub value-first : (words : List (List ℕ)) (option value : List ℕ) (more : List (List ℕ)) (test : Bool) →
+      first_in switches words ≡ Some (record { option = option; value = value; behind = more }) →
+      same name option ≡ test →
+      value_in switches name words ≡ cond test (Some value) (value_in switches name more)
+  value-first words option value more test cut is =
+      value-cut words (record { option = option; value = value; behind = more }) cut
+      ∙ ap (λ t. cond t (Some value) (value_in switches name more)) is
+
+-- ---- the words two by two
+
+-- the value of an option among the pairs, one more of them
+module _ (switches : OptionNames) (name option value : List ℕ) (words : List (List ℕ))
+    (rest : (options : Options) → in_pairs switches words ≡ Some options →
+    value_in switches name words ≡ look_up name options) where
+  pushed : (options : Options) →
+      option_map (λ pairs. (option, value) ∷ pairs) (in_pairs switches words) ≡ Some options →
+      cond (same name option) (Some value) (value_in switches name words) ≡ look_up name options
+  pushed options e = by (in_pairs switches words) refl e
+    where
+      by : (p : Option Options) → in_pairs switches words ≡ p →
+          option_map (λ pairs. (option, value) ∷ pairs) p ≡ Some options →
+          cond (same name option) (Some value) (value_in switches name words) ≡ look_up name options
+      by None q h = absurd (none_is_not options h)
+      by (Some pairs) q h =
+          let is : ◌≡◌ {A = Options} ((option, value) ∷ pairs) options = cc in
+          ap (λ o. cond (same name option) (Some value) o) (rest pairs q) ∙ ap (look_up name) is
 
 -- the value of an option among the pairs
-pub value-look_up : (name : List ℕ) (words : List (List ℕ)) (options : Options) → in_pairs words ≡ Some options →
-    value_in name words ≡ look_up name options
-value-look_up name [] options e = let same' : ◌≡◌ {A = Options} [] options = cc in ap (look_up name) same'
-value-look_up name (option ∷ []) options e = absurd (let z : ◌≡◌ {A = Option Options} None (Some options) = e in cc)
-value-look_up name (option ∷ value ∷ words) options e = by (in_pairs words) refl e (value-look_up name words)
+pub value-look_up : (switches : OptionNames) (name : List ℕ) (words : List (List ℕ)) (options : Options) →
+    in_pairs switches words ≡ Some options → value_in switches name words ≡ look_up name options
+value-look_up switches name [] options e = let same' : ◌≡◌ {A = Options} [] options = cc in ap (look_up name) same'
+value-look_up switches name (option ∷ []) options e = by (is_one_of option switches) e
   where
-    by : (p : Option Options) → in_pairs words ≡ p → option_map (λ pairs. (option, value) ∷ pairs) p ≡ Some options →
-        ((pairs : Options) → in_pairs words ≡ Some pairs → value_in name words ≡ look_up name pairs) →
-        value_in name (option ∷ value ∷ words) ≡ look_up name options
-    by None q h rest = absurd (let z : ◌≡◌ {A = Option Options} None (Some options) = h in cc)
-    by (Some pairs) q h rest =
-        let is : ◌≡◌ {A = Options} ((option, value) ∷ pairs) options = cc in
-        ap (λ o. cond (same name option) (Some value) o) (rest pairs q) ∙ ap (look_up name) is
+    by : (s : Bool) → cond s (Some ((option, []) ∷ [])) None ≡ Some options →
+        cond s (cond (same name option) (Some []) None) None ≡ look_up name options
+    by true h = let is : ◌≡◌ {A = Options} ((option, []) ∷ []) options = cc in ap (look_up name) is
+    by false h = absurd (none_is_not options h)
+value-look_up switches name (option ∷ value ∷ words) options e =
+    by (is_one_of option switches) e
+    (pushed switches name option [] (value ∷ words) (value-look_up switches name (value ∷ words)))
+    (pushed switches name option value words (value-look_up switches name words))
+  where
+    by : (s : Bool) →
+        cond s (option_map (λ pairs. (option, []) ∷ pairs) (in_pairs switches (value ∷ words)))
+        (option_map (λ pairs. (option, value) ∷ pairs) (in_pairs switches words)) ≡ Some options →
+        ((options : Options) →
+        option_map (λ pairs. (option, []) ∷ pairs) (in_pairs switches (value ∷ words)) ≡ Some options →
+        cond (same name option) (Some []) (value_in switches name (value ∷ words)) ≡ look_up name options) →
+        ((options : Options) →
+        option_map (λ pairs. (option, value) ∷ pairs) (in_pairs switches words) ≡ Some options →
+        cond (same name option) (Some value) (value_in switches name words) ≡ look_up name options) →
+        cond s (cond (same name option) (Some []) (value_in switches name (value ∷ words)))
+        (cond (same name option) (Some value) (value_in switches name words))
+        ≡ look_up name options
+    by true h alone paired = alone options h
+    by false h alone paired = paired options h
 
 -- a name among the pairs
 given-one_of : (name : List ℕ) (options : Options) →
@@ -54,31 +210,63 @@ and_false : (t : Bool) → cond t false false ≡ false
 and_false true = refl
 and_false false = refl
 
-pub are-pairs : (names : OptionNames) (words : List (List ℕ)) → are_in names words ≡ pairs_are names (in_pairs words)
+module _ (names switches : OptionNames) (option value : List ℕ) (words : List (List ℕ)) where
+  abbrev is_new : Bool
+  is_new = is_new_option names option (value_in switches option words)
+
+  more-pairs : are_in names switches words ≡ pairs_are names (in_pairs switches words) →
+      cond is_new (are_in names switches words) false
+      ≡ pairs_are names (option_map (λ pairs. (option, value) ∷ pairs) (in_pairs switches words))
+  unfolding pairs_are
+  more-pairs rest = by (in_pairs switches words) refl rest
+    where
+      by : (p : Option Options) → in_pairs switches words ≡ p → are_in names switches words ≡ pairs_are names p →
+          cond is_new (are_in names switches words) false
+          ≡ pairs_are names (option_map (λ pairs. (option, value) ∷ pairs) p)
+      by None q r = ap (λ t. cond is_new t false) r ∙ and_false is_new
+      by (Some pairs) q r =
+          ap (λ t. cond is_new t false) r
+          ∙ ap (λ (v : Option (List ℕ)). cond (is_new_option names option v) (are_options_of names pairs) false)
+          (value-look_up switches option words pairs q)
+          ∙ ap (λ (b : Bool). cond (is_one_of option names && not b) (are_options_of names pairs) false)
+          (given-one_of option pairs)
+          ∙ swap_and (is_one_of option names) (is_one_of option (map (λ o. o.0) pairs))
+          (list_all (λ o. is_one_of o.0 names) pairs) (are_distinct (map (λ o. o.0) pairs))
+
+pub are-pairs : (names switches : OptionNames) (words : List (List ℕ)) →
+    are_in names switches words ≡ pairs_are names (in_pairs switches words)
 unfolding pairs_are
-are-pairs names [] = refl
-are-pairs names (option ∷ []) = refl
-are-pairs names (option ∷ value ∷ words) = by (in_pairs words) refl (are-pairs names words)
+are-pairs names switches [] = refl
+are-pairs names switches (option ∷ []) = by (is_one_of option switches)
   where
-    by : (p : Option Options) → in_pairs words ≡ p → are_in names words ≡ pairs_are names p →
-        are_in names (option ∷ value ∷ words) ≡ pairs_are names (option_map (λ pairs. (option, value) ∷ pairs) p)
-    by None q r =
-        ap (λ t. cond (is_new_option option names words) t false) r ∙ and_false (is_new_option option names words)
-    by (Some pairs) q r =
-        ap (λ t. cond (is_new_option option names words) t false) r
-        ∙ ap (λ (v : Option (List ℕ)).
-        cond (is_one_of option names && not (is_some v)) (are_options_of names pairs) false)
-        (value-look_up option words pairs q)
-        ∙ ap (λ (b : Bool). cond (is_one_of option names && not b) (are_options_of names pairs) false)
-        (given-one_of option pairs)
-        ∙ swap_and (is_one_of option names) (is_one_of option (map (λ o. o.0) pairs))
-        (list_all (λ o. is_one_of o.0 names) pairs) (are_distinct (map (λ o. o.0) pairs))
+    by : (s : Bool) →
+        cond s (cond (is_new_option names option None) true false) false
+        ≡ pairs_are names (cond s (Some ((option, []) ∷ [])) None)
+    by true = swap_and (is_one_of option names) false true true
+    by false = refl
+are-pairs names switches (option ∷ value ∷ words) =
+    by (is_one_of option switches)
+    (more-pairs names switches option [] (value ∷ words) (are-pairs names switches (value ∷ words)))
+    (more-pairs names switches option value words (are-pairs names switches words))
+  where
+    by : (s : Bool)
+        → cond (is_new names switches option [] (value ∷ words)) (are_in names switches (value ∷ words)) false
+        ≡ pairs_are names (option_map (λ pairs. (option, []) ∷ pairs) (in_pairs switches (value ∷ words)))
+        → cond (is_new names switches option value words) (are_in names switches words) false
+        ≡ pairs_are names (option_map (λ pairs. (option, value) ∷ pairs) (in_pairs switches words))
+        → cond s (cond (is_new names switches option [] (value ∷ words)) (are_in names switches (value ∷ words)) false)
+        (cond (is_new names switches option value words) (are_in names switches words) false)
+        ≡ pairs_are names
+        (cond s (option_map (λ pairs. (option, []) ∷ pairs) (in_pairs switches (value ∷ words)))
+        (option_map (λ pairs. (option, value) ∷ pairs) (in_pairs switches words)))
+    by true alone paired = alone
+    by false alone paired = paired
 
 -- the options, where the words are some
-pub options-some : (names : OptionNames) (words : List (List ℕ)) → are_in names words ≡ true →
-    (options : Options) × (options_in names words ≡ Some options) × (in_pairs words ≡ Some options)
+pub options-some : (names switches : OptionNames) (words : List (List ℕ)) → are_in names switches words ≡ true →
+    (options : Options) × (options_in names switches words ≡ Some options) × (in_pairs switches words ≡ Some options)
 unfolding options_in pairs_are
-options-some names words e = by (in_pairs words) (sym (are-pairs names words) ∙ e)
+options-some names switches words e = by (in_pairs switches words) (sym (are-pairs names switches words) ∙ e)
   where
     by : (p : Option Options) → pairs_are names p ≡ true →
         (options : Options) ×
@@ -88,36 +276,24 @@ options-some names words e = by (in_pairs words) (sym (are-pairs names words) �
     by (Some options) h = (options, ap (λ t. cond t (Some options) None) h, refl)
 
 -- nothing, where they are none
-pub options-none : (names : OptionNames) (words : List (List ℕ)) → are_in names words ≡ false →
-    options_in names words ≡ None
+pub options-none : (names switches : OptionNames) (words : List (List ℕ)) → are_in names switches words ≡ false →
+    options_in names switches words ≡ None
 unfolding options_in pairs_are
-options-none names words e = by (in_pairs words) (sym (are-pairs names words) ∙ e)
+options-none names switches words e = by (in_pairs switches words) (sym (are-pairs names switches words) ∙ e)
   where
     by : (p : Option Options) → pairs_are names p ≡ false →
         option_and_then (λ o. cond (are_options_of names o) (Some o) None) p ≡ None
     by None h = refl
     by (Some options) h = ap (λ t. cond t (Some options) None) h
 
--- the value in several words, by their first option
-pub value-first : (name : List ℕ) (rest : List (List ℕ)) (option value : List ℕ) (more : List (List ℕ)) (test : Bool) →
-    rest ≡ option ∷ value ∷ more → same name option ≡ test →
-    value_in name rest ≡ cond test (Some value) (value_in name more)
-value-first name rest option value more test cut is =
-    ap (value_in name) cut ∙ ap (λ t. cond t (Some value) (value_in name more)) is
-
 -- ---- the words that are left at the end of a loop
 
-pub value-short : {X : Type 0} (name : List ℕ) (f : X → List ℕ) (rest : List X) → length rest < 2 →
-    value_in name (map f rest) ≡ None
-value-short name f [] h = refl
-value-short name f (x ∷ []) h = refl
-value-short name f (x ∷ y ∷ more) h = absurd (omega arith)
-
-pub are-short : {X : Type 0} (names : OptionNames) (f : X → List ℕ) (rest : List X) → length rest < 2 →
-    (length rest == 0) ≡ are_in names (map f rest)
-are-short names f [] h = refl
-are-short names f (x ∷ []) h = refl
-are-short names f (x ∷ y ∷ more) h = absurd (omega arith)
+pub are-short : {X : Type 0} (names switches : OptionNames) (f : X → List ℕ) (rest : List X) →
+    first_in switches (map f rest) ≡ None → (length rest == 0) ≡ are_in names switches (map f rest)
+are-short names switches f [] h = refl
+are-short names switches f (x ∷ []) h =
+    sym (ap (λ t. cond t (cond (is_new_option names (f x) None) true false) false) (lone-none switches (f x) h))
+are-short names switches f (x ∷ y ∷ more) h = no-more switches (f x) (f y) (map f more) h
 
 pub any-bytes : (word : List ℕ) (names : List (Bor (List ℕ))) →
     list_any (λ name. same word name.now) names ≡ is_one_of word (bytes_of names)
@@ -130,28 +306,48 @@ some-copied (Some x) = refl
 
 -- ---- one option of several words
 
-module _ (names : List (Bor (List ℕ))) (all rest : List (List ℕ))
-    (invariant : are_in (bytes_of names) rest ≡ are_in (bytes_of names) all) (option value : List ℕ)
-    (more : List (List ℕ)) (cut : rest ≡ option ∷ value ∷ more) (known : Bool)
+module _ (names : List (Bor (List ℕ))) (switches : OptionNames) (all rest : List (List ℕ))
+    (invariant : are_in (bytes_of names) switches rest ≡ are_in (bytes_of names) switches all)
+    (option value : List ℕ) (more : List (List ℕ))
+    (cut : first_in switches rest ≡ Some (record { option = option; value = value; behind = more })) (known : Bool)
     (is_known : known ≡ list_any (λ name. same option name.now) names) where
   one : is_one_of option (bytes_of names) ≡ known
   one = sym (any-bytes option names) ∙ sym is_known
 
   abbrev decided : Bool → Bool → Bool
-  decided t given = cond (t && not given) (are_in (bytes_of names) more) false
+  decided t given = cond (t && not given) (are_in (bytes_of names) switches more) false
 
-  first : are_in (bytes_of names) all ≡ decided known (is_some (value_in option more))
-  first = sym invariant ∙ ap (are_in (bytes_of names)) cut ∙ ap (λ t. decided t (is_some (value_in option more))) one
+  abbrev are_by : Cut → Bool
+  are_by c =
+      cond (is_new_option (bytes_of names) c.option (value_in switches c.option c.behind))
+      (are_in (bytes_of names) switches c.behind) false
 
-  pub are-unknown : known ≡ false → false ≡ are_in (bytes_of names) all
-  are-unknown u = sym (first ∙ ap (λ t. decided t (is_some (value_in option more))) u)
+  are-cut : (words : List (List ℕ)) (c : Cut) → first_in switches words ≡ Some c →
+      are_in (bytes_of names) switches words ≡ are_by c
+  unfolding first_in
+  are-cut [] c e = absurd (none_is_not c e)
+  are-cut (option ∷ []) c e = first-lone switches are_by option c e false
+  are-cut (option ∷ value ∷ words) c e = first-more switches are_by option value words c e
 
-  module _ (k : known ≡ true) (found : Option (List ℕ)) (is_found : found ≡ value_in option more) where
-    second : are_in (bytes_of names) all ≡ decided true (is_some found)
+  first : are_in (bytes_of names) switches all ≡ decided known (is_some (value_in switches option more))
+  first =
+      sym invariant
+      ∙ are-cut rest (record { option = option; value = value; behind = more }) cut
+      ∙ ap (λ t. decided t (is_some (value_in switches option more))) one
+
+  pub are-unknown : known ≡ false → false ≡ are_in (bytes_of names) switches all
+  are-unknown u = sym (first ∙ ap (λ t. decided t (is_some (value_in switches option more))) u)
+
+  module _ (k : known ≡ true) (found : Option (List ℕ)) (is_found : found ≡ value_in switches option more) where
+    second : are_in (bytes_of names) switches all ≡ decided true (is_some found)
     second =
         first
-        ∙ ap (λ t. decided t (is_some (value_in option more))) k
+        ∙ ap (λ t. decided t (is_some (value_in switches option more))) k
         ∙ ap (λ (o : Option (List ℕ)). decided true (is_some o)) (sym is_found)
 
-    pub are-more : is_some found ≡ false → are_in (bytes_of names) more ≡ are_in (bytes_of names) all
+    pub are-again : is_some found ≡ true → false ≡ are_in (bytes_of names) switches all
+    are-again g = sym (second ∙ ap (decided true) g)
+
+    pub are-more : is_some found ≡ false →
+        are_in (bytes_of names) switches more ≡ are_in (bytes_of names) switches all
     are-more g = sym (second ∙ ap (decided true) g)

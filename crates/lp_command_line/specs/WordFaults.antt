@@ -8,7 +8,7 @@ use Rattle.spec_mps.specs.Shapes.{look_up}
 use Rattle.spec_program.specs.CommandLine.{Word, OptionNames, is_one_of, is_plain}
 use Rattle.spec_program.specs.CommandLine.{workers_given, links_given, places_given, form_given}
 use Rattle.spec_program.specs.CommandLine.{seed_of, row_count_of, column_count_of, moved_of}
-use Rattle.lp_command_line.specs.Words.{value_in}
+use Rattle.lp_command_line.specs.Words.{value_in, wide_switch}
 use Rattle.lp_command_line.specs.declared.fault.Plain.{Plain}
 use Rattle.lp_command_line.specs.declared.fault.Plain.TheVariants.{Address, Number, Name, Seed, Rows, Columns}
 use Rattle.lp_command_line.specs.declared.fault.WordFault.{WordFault}
@@ -36,19 +36,27 @@ told = option_map spelled
 abbrev pub lone_fault : OptionNames → Word → Fault
 lone_fault names option = if is_one_of option names then NoValue option else NoOption option
 
--- a word where an option is due is none of these, is given again behind its value, or has no value
-abbrev pub option_fault : OptionNames → List Word → Option Fault
-option_fault names [] = None
-option_fault names (option ∷ []) = Some (lone_fault names option)
-option_fault names (option ∷ value ∷ words) =
-    if is_one_of option names
-    then (if is_some (value_in option words) then Some (Twice option) else option_fault names words)
-    else Some (NoOption option)
+-- an option is none of these, or is given again in the words behind it, or the fault is one of those
+abbrev pub behind_option : OptionNames → Word → Option Word → Option Fault → Option Fault
+behind_option names option again fault =
+    if is_one_of option names then (if is_some again then Some (Twice option) else fault) else Some (NoOption option)
+
+-- a word where an option is due is none of these, is given again behind its value, or has no value; a switch has none
+abbrev pub option_fault : OptionNames → OptionNames → List Word → Option Fault
+option_fault names switches [] = None
+option_fault names switches (option ∷ []) =
+    if is_one_of option switches then behind_option names option None None else Some (lone_fault names option)
+option_fault names switches (option ∷ value ∷ words) =
+    if is_one_of option switches
+    then
+    behind_option names option (value_in switches option (value ∷ words)) (option_fault names switches (value ∷ words))
+    else
+    behind_option names option (value_in switches option words) (option_fault names switches words)
 
 -- the value of this option, unless something is given by it, or by there being none
-abbrev pub value_fault : Word → List Word → Bool → Option Fault
-value_fault name words true = None
-value_fault name words false = option_map (NotValue name) (value_in name words)
+abbrev pub value_fault : OptionNames → Word → List Word → Bool → Option Fault
+value_fault switches name words true = None
+value_fault switches name words false = option_map (NotValue name) (value_in switches name words)
 
 -- a plain word, unless something is given by it
 abbrev pub plain_fault : Plain → Word → Bool → Option Fault
@@ -56,24 +64,29 @@ plain_fault plain word true = None
 plain_fault plain word false = Some (NotPlain plain word)
 
 abbrev pub workers_fault : List Word → Option Fault
-workers_fault words = value_fault (codes "--workers") words (is_some (workers_given (value_in (codes "--workers") words)))
+workers_fault words = value_fault [] (codes "--workers") words (is_some (workers_given (value_in [] (codes "--workers") words)))
 
 abbrev pub links_fault : List Word → Option Fault
-links_fault words = value_fault (codes "--each") words (is_some (links_given (value_in (codes "--each") words)))
+links_fault words = value_fault [] (codes "--each") words (is_some (links_given (value_in [] (codes "--each") words)))
 
 abbrev pub places_fault : List Word → Option Fault
-places_fault words = value_fault (codes "--places") words (is_some (places_given (value_in (codes "--places") words)))
+places_fault words = value_fault [] (codes "--places") words (is_some (places_given (value_in [] (codes "--places") words)))
 
-abbrev pub form_fault : List Word → Option Fault
-form_fault words = value_fault (codes "--form") words (is_some (form_given (value_in (codes "--form") words)))
+abbrev pub form_fault : OptionNames → List Word → Option Fault
+form_fault switches words =
+    value_fault switches (codes "--form") words (is_some (form_given (value_in switches (codes "--form") words)))
 
 abbrev pub run_fault : List Word → Option Fault
 run_fault words =
-    option_or (option_or (option_fault (codes "--workers" ∷ codes "--places" ∷ []) words) (workers_fault words))
+    option_or (option_or (option_fault (codes "--workers" ∷ codes "--places" ∷ []) [] words) (workers_fault words))
     (places_fault words)
 
 abbrev pub text_fault : List Word → Option Fault
-text_fault words = option_or (option_fault (codes "--form" ∷ []) words) (form_fault words)
+text_fault words = option_or (option_fault (codes "--form" ∷ []) [] words) (form_fault [] words)
+
+abbrev pub wide_fault : List Word → Option Fault
+wide_fault words =
+    option_or (option_fault (codes "--form" ∷ codes "--wide" ∷ []) wide_switch words) (form_fault wide_switch words)
 
 abbrev pub range_fault : List Word → Option Fault
 range_fault (what ∷ name ∷ words) =
@@ -88,7 +101,7 @@ generate_fault (seed ∷ rows ∷ columns ∷ words) =
     (option_or
     (option_or (plain_fault Seed seed (is_some (seed_of seed))) (plain_fault Rows rows (is_some (row_count_of rows))))
     (plain_fault Columns columns (is_some (column_count_of columns))))
-    (option_fault [] words)
+    (option_fault [] [] words)
 generate_fault words = Some TooFew
 
 abbrev pub serve_fault : List Word → Option Fault
@@ -98,7 +111,7 @@ serve_fault (address ∷ words) =
     (option_or
     (option_or
     (option_or (plain_fault Address address (is_plain address))
-    (option_fault (codes "--workers" ∷ codes "--each" ∷ codes "--places" ∷ []) words))
+    (option_fault (codes "--workers" ∷ codes "--each" ∷ codes "--places" ∷ []) [] words))
     (workers_fault words))
     (links_fault words))
     (places_fault words)
@@ -108,8 +121,9 @@ abbrev pub faults : List (Word × (List Word → Option Fault))
 faults =
     (codes "run", run_fault)
     ∷ (codes "solve", text_fault)
-    ∷ (codes "check", text_fault)
+    ∷ (codes "check", wide_fault)
     ∷ (codes "basis", text_fault)
+    ∷ (codes "iis", text_fault)
     ∷ (codes "range", range_fault)
     ∷ (codes "gen", generate_fault)
     ∷ (codes "serve", serve_fault)

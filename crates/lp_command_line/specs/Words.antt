@@ -7,39 +7,72 @@ use denote.Ref.{Bor}
 use Rattle.spec_program.specs.declared.command_line.CommandLine.TheVariants.{Read}
 use Rattle.spec_program.specs.declared.command_line.Moved.{Moved}
 use Rattle.spec_program.specs.declared.command_line.TextCommand.TheVariants.{Range}
-use Rattle.spec_program.specs.CommandLine.{Address, ExactLine, is_one_of}
+use Rattle.spec_program.specs.CommandLine.{Address, ExactLine, OptionNames, is_one_of}
 use Rattle.spec_program.specs.CommandLine.{serve_by, workers_given, links_given, places_given, form_given}
 use Rattle.lp_command_line.specs.declared.listening.Serving.{Serving}
 
 abbrev pub bytes_of : List (Bor (List ℕ)) → List (List ℕ)
 bytes_of names = map (λ name. name.now) names
 
--- the value after an option's name, option by option
-abbrev pub value_in : List ℕ → List (List ℕ) → Option (List ℕ)
-value_in name (option ∷ value ∷ words) = if same name option then Some value else value_in name words
-value_in name words = None
+-- the first option, its value, and the words behind them
+pub record Cut : Type 0 where
+  pub option : List ℕ
+  pub value : List ℕ
+  pub behind : List (List ℕ)
 
--- it has one of these names, and is not given again in the words after it
-abbrev pub is_new_option : List ℕ → List (List ℕ) → List (List ℕ) → Bool
-is_new_option option names behind = is_one_of option names && not (is_some (value_in option behind))
+-- A switch has the empty value, and takes no word behind it for one. Nothing where no word is left, or one that has no
+-- value.
+unfoldable pub first_in : OptionNames → List (List ℕ) → Option Cut
+first_in switches [] = None
+first_in switches (option ∷ []) =
+    if is_one_of option switches then Some (record { option = option; value = []; behind = [] }) else None
+first_in switches (option ∷ value ∷ words) =
+    if is_one_of option switches
+    then Some (record { option = option; value = []; behind = value ∷ words })
+    else Some (record { option = option; value = value; behind = words })
+
+-- the value of the option with this name, option by option
+abbrev pub value_in : OptionNames → List ℕ → List (List ℕ) → Option (List ℕ)
+value_in switches name [] = None
+value_in switches name (option ∷ []) =
+    if is_one_of option switches then (if same name option then Some [] else None) else None
+value_in switches name (option ∷ value ∷ words) =
+    if is_one_of option switches
+    then (if same name option then Some [] else value_in switches name (value ∷ words))
+    else (if same name option then Some value else value_in switches name words)
+
+-- it has one of these names, and this is what stands behind it under the same name: nothing
+abbrev pub is_new_option : OptionNames → List ℕ → Option (List ℕ) → Bool
+is_new_option names option again = is_one_of option names && not (is_some again)
 
 -- whether the words are options with these names, none of them given twice, option by option
-abbrev pub are_in : List (List ℕ) → List (List ℕ) → Bool
-are_in names [] = true
-are_in names (option ∷ []) = false
-are_in names (option ∷ value ∷ words) = if is_new_option option names words then are_in names words else false
+abbrev pub are_in : OptionNames → OptionNames → List (List ℕ) → Bool
+are_in names switches [] = true
+are_in names switches (option ∷ []) =
+    if is_one_of option switches then (if is_new_option names option None then true else false) else false
+are_in names switches (option ∷ value ∷ words) =
+    if is_one_of option switches
+    then
+    (if is_new_option names option (value_in switches option (value ∷ words))
+    then are_in names switches (value ∷ words) else false)
+    else
+    (if is_new_option names option (value_in switches option words) then are_in names switches words else false)
 
 -- where a server listens, as the code has it
 abbrev pub planned : Option Serving → Option Address
 planned None = None
 planned (Some serving) = Some (record { address = string_bytes serving.address.now; workers = serving.workers })
 
+-- the switch that `check` has
+abbrev pub wide_switch : OptionNames
+wide_switch = codes "--wide" ∷ []
+
 -- the range of a number, by options
 abbrev pub range_in : Moved → List ℕ → List (List ℕ) → Option ExactLine
-range_in moved name options = option_map (Read (Range moved name)) (form_given (value_in (codes "--form") options))
+range_in moved name options = option_map (Read (Range moved name)) (form_given (value_in [] (codes "--form") options))
 
 -- the numbers of a server, by options
 abbrev pub serve_in : List (List ℕ) → Option ExactLine
 serve_in options =
-    serve_by (workers_given (value_in (codes "--workers") options)) (links_given (value_in (codes "--each") options))
-    (places_given (value_in (codes "--places") options))
+    serve_by (workers_given (value_in [] (codes "--workers") options)) (links_given (value_in [] (codes "--each") options))
+    (places_given (value_in [] (codes "--places") options))

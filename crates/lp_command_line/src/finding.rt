@@ -1,22 +1,27 @@
 // Which word is at fault where words are no command line.
-ghost use Rattle.std.specs.Prelude.{◌≡◌, ◌<◌, length, map, string_bytes, is_none, is_some};
+ghost use Rattle.std.specs.Prelude.{◌≡◌, None, map, string_bytes, is_none, is_some};
 ghost use Rattle.spec_program.specs.CommandLine.{command_line_of};
-ghost use Rattle.lp_command_line.specs.Words.{bytes_of};
+ghost use Rattle.lp_command_line.specs.Words.{bytes_of, first_in};
 ghost use Rattle.lp_command_line.specs.WordFaults.{told};
 ghost use Rattle.lp_command_line.specs.WordFaults as faults;
 
 use crate::fault::{Plain, WordFault};
 use crate::line::{
-    COMMANDS, Command, first_option, form_in, is_one_of, is_plain, links_in, moved_of, places_in,
-    seed_of, value_of, workers_in,
+    COMMANDS, Command, WIDE, first_option, form_in, is_one_of, is_plain, links_in, moved_of,
+    places_in, seed_of, value_of, workers_in,
 };
 use lp_base::look_up;
 use lp_line::number_to;
 
 // The last word, if there is one, where an option is due.
-fn lone_fault<'a>(words: &'a [String], names: &[&str]) -> Option<WordFault<&'a [u8]>>
-    requires { length words.now < 2 }
-    ensures { told result ≡ faults.option_fault (bytes_of names.now) (map string_bytes words.now) }
+fn lone_fault<'a>(
+    words: &'a [String],
+    names: &[&str],
+    switches: &[&str],
+) -> Option<WordFault<&'a [u8]>>
+    requires { first_in (bytes_of switches.now) (map string_bytes words.now) ≡ None }
+    ensures { told result
+        ≡ faults.option_fault (bytes_of names.now) (bytes_of switches.now) (map string_bytes words.now) }
 {
     let [option, ..] = words else {
         return None;
@@ -30,34 +35,41 @@ fn lone_fault<'a>(words: &'a [String], names: &[&str]) -> Option<WordFault<&'a [
 }
 
 // The first word that is none of these options where one is due, is given again, or has no value.
-fn option_fault<'a>(words: &'a [String], names: &[&str]) -> Option<WordFault<&'a [u8]>>
-    ensures { told result ≡ faults.option_fault (bytes_of names.now) (map string_bytes words.now) }
+fn option_fault<'a>(
+    words: &'a [String],
+    names: &[&str],
+    switches: &[&str],
+) -> Option<WordFault<&'a [u8]>>
+    ensures { told result
+        ≡ faults.option_fault (bytes_of names.now) (bytes_of switches.now) (map string_bytes words.now) }
 {
     let mut rest = words;
-    while let Some((option, _, more)) = first_option(rest) {
+    while let Some((option, _, more)) = first_option(rest, switches) {
         if !is_one_of(option, names) {
             return Some(WordFault::NoOption(option));
         }
-        if value_of(more, option).is_some() {
+        if value_of(more, option, switches).is_some() {
             return Some(WordFault::Twice(option));
         }
         rest = more;
     }
-    lone_fault(rest, names)
+    lone_fault(rest, names, switches)
 }
 
 // The value of an option, unless it is right.
 fn value_fault<'a>(
     words: &'a [String],
     name: &'a [u8],
+    switches: &[&str],
     is_right: bool,
 ) -> Option<WordFault<&'a [u8]>>
-    ensures { told result ≡ faults.value_fault name.now (map string_bytes words.now) is_right }
+    ensures { told result
+        ≡ faults.value_fault (bytes_of switches.now) name.now (map string_bytes words.now) is_right }
 {
     if is_right {
         return None;
     }
-    let value = value_of(words, name)?;
+    let value = value_of(words, name, switches)?;
     Some(WordFault::NotValue(name, value))
 }
 
@@ -74,34 +86,46 @@ fn plain_fault(plain: Plain, word: &[u8], is_right: bool) -> Option<WordFault<&[
 fn workers_fault(options: &[String]) -> Option<WordFault<&[u8]>>
     ensures { told result ≡ faults.workers_fault (map string_bytes options.now) }
 {
-    value_fault(options, b"--workers", workers_in(options).is_some())
+    value_fault(options, b"--workers", &[], workers_in(options).is_some())
 }
 
 fn links_fault(options: &[String]) -> Option<WordFault<&[u8]>>
     ensures { told result ≡ faults.links_fault (map string_bytes options.now) }
 {
-    value_fault(options, b"--each", links_in(options).is_some())
+    value_fault(options, b"--each", &[], links_in(options).is_some())
 }
 
 fn places_fault(options: &[String]) -> Option<WordFault<&[u8]>>
     ensures { told result ≡ faults.places_fault (map string_bytes options.now) }
 {
-    value_fault(options, b"--places", places_in(options).is_some())
+    value_fault(options, b"--places", &[], places_in(options).is_some())
 }
 
 fn run_fault(words: &[String]) -> Option<WordFault<&[u8]>>
     ensures { told result ≡ faults.run_fault (map string_bytes words.now) }
 {
-    option_fault(words, &["--workers", "--places"])
+    option_fault(words, &["--workers", "--places"], &[])
         .or(workers_fault(words))
         .or(places_fault(words))
+}
+
+fn form_fault<'a>(words: &'a [String], switches: &[&str]) -> Option<WordFault<&'a [u8]>>
+    ensures { told result ≡ faults.form_fault (bytes_of switches.now) (map string_bytes words.now) }
+{
+    let is_form = form_in(words, switches).is_some();
+    value_fault(words, b"--form", switches, is_form)
 }
 
 fn text_fault(words: &[String]) -> Option<WordFault<&[u8]>>
     ensures { told result ≡ faults.text_fault (map string_bytes words.now) }
 {
-    let form = value_fault(words, b"--form", form_in(words).is_some());
-    option_fault(words, &["--form"]).or(form)
+    option_fault(words, &["--form"], &[]).or(form_fault(words, &[]))
+}
+
+fn check_fault(words: &[String]) -> Option<WordFault<&[u8]>>
+    ensures { told result ≡ faults.wide_fault (map string_bytes words.now) }
+{
+    option_fault(words, &["--form", "--wide"], &WIDE).or(form_fault(words, &WIDE))
 }
 
 fn range_fault(words: &[String]) -> Option<WordFault<&[u8]>>
@@ -131,7 +155,7 @@ fn generate_fault(words: &[String]) -> Option<WordFault<&[u8]>>
         columns,
         number_to(512, 3, columns).is_some(),
     );
-    seed.or(rows).or(columns).or(option_fault(behind, &[]))
+    seed.or(rows).or(columns).or(option_fault(behind, &[], &[]))
 }
 
 fn serve_fault(words: &[String]) -> Option<WordFault<&[u8]>>
@@ -142,7 +166,7 @@ fn serve_fault(words: &[String]) -> Option<WordFault<&[u8]>>
     };
     let address = address.as_bytes();
     plain_fault(Plain::Address, address, is_plain(address))
-        .or(option_fault(options, &["--workers", "--each", "--places"]))
+        .or(option_fault(options, &["--workers", "--each", "--places"], &[]))
         .or(workers_fault(options))
         .or(links_fault(options))
         .or(places_fault(options))
@@ -160,6 +184,7 @@ fn first_fault(words: &[String]) -> Option<WordFault<&[u8]>>
         None => Some(WordFault::NoCommand(word)),
         Some(Command::Run) => run_fault(behind),
         Some(Command::Read(_)) => text_fault(behind),
+        Some(Command::Check) => check_fault(behind),
         Some(Command::Range) => range_fault(behind),
         Some(Command::Generate) => generate_fault(behind),
         Some(Command::Serve) => serve_fault(behind),

@@ -1,12 +1,14 @@
 // The words of a command line.
 ghost use Rattle.std.specs.Prelude.{◌≡◌, map, length, codes, option_copied, string_bytes};
-ghost use Rattle.std.specs.Prelude.{MatchOption, IfSome, ◌<◌, ◌∷◌};
+ghost use Rattle.std.specs.Prelude.{MatchOption, IfSome, ◌<◌, Some, None, []};
 ghost use Rattle.std.specs.List.{list_any};
 ghost use Rattle.spec_text.specs.Words.{same};
-ghost use Rattle.spec_program.specs.CommandLine.{run_row, text_row, range_row, generate_row, serve_row, asked_by};
+ghost use Rattle.spec_program.specs.CommandLine.{run_row, text_row, wide_row, by_width, range_row, generate_row};
+ghost use Rattle.spec_program.specs.CommandLine.{serve_row, asked_by};
 ghost use Rattle.spec_program.specs.CommandLine as command_lines;
+ghost use Rattle.spec_program.specs.declared.command_line.TextCommand.TheVariants.{Check, CheckWide};
 ghost use Rattle.spec_program.specs.Spelled.{spelled_text, told};
-ghost use Rattle.lp_command_line.specs.Words.{bytes_of, value_in, are_in, range_in, serve_in};
+ghost use Rattle.lp_command_line.specs.Words.{bytes_of, first_in, value_in, are_in, wide_switch, range_in, serve_in};
 
 use lp_base::{are_same, look_up};
 use lp_line::number_to;
@@ -18,16 +20,18 @@ use spec_program::{CommandLine, Moved, TextCommand};
 pub(crate) enum Command {
     Run,
     Read(TextCommand<&'static [u8]>),
+    Check,
     Range,
     Generate,
     Serve,
 }
 
-pub(crate) const COMMANDS: [(&[u8], Command); 7] = [
+pub(crate) const COMMANDS: [(&[u8], Command); 8] = [
     (b"run", Command::Run),
     (b"solve", Command::Read(TextCommand::Solve)),
-    (b"check", Command::Read(TextCommand::Check)),
+    (b"check", Command::Check),
     (b"basis", Command::Read(TextCommand::Basis)),
+    (b"iis", Command::Read(TextCommand::Iis)),
     (b"range", Command::Range),
     (b"gen", Command::Generate),
     (b"serve", Command::Serve),
@@ -37,6 +41,9 @@ const FORMS: [(&[u8], Style); 2] = [(b"free", Style::Free), (b"fixed", Style::Fi
 
 // The numbers of which there is a range.
 const MOVED: [(&[u8], Moved); 2] = [(b"cost", Moved::Cost), (b"rhs", Moved::RightSide)];
+
+// The switch of a check.
+pub(crate) const WIDE: [&str; 1] = ["--wide"];
 
 // How many workers there are, unless it is said.
 const USUAL_WORKERS: u32 = 1;
@@ -53,24 +60,35 @@ pub(crate) fn is_one_of(word: &[u8], names: &[&str]) -> bool
     names.iter().any(|name| are_same(word, name.as_bytes()))
 }
 
-// The first option and its value, and the words after them.
-pub(crate) fn first_option(words: &[String]) -> Option<(&[u8], &[u8], &[String])>
-    ensures cut { MatchOption result (length words.now < 2)
-        (λ p. map string_bytes words.now ≡ p.0.now ∷ p.1.now ∷ map string_bytes p.2.now) }
+// The first option and its value, which is empty if it is a switch, and the words after them.
+pub(crate) fn first_option<'a>(
+    words: &'a [String],
+    switches: &[&str],
+) -> Option<(&'a [u8], &'a [u8], &'a [String])>
+    ensures cut { MatchOption result (first_in (bytes_of switches.now) (map string_bytes words.now) ≡ None)
+        (λ p. first_in (bytes_of switches.now) (map string_bytes words.now)
+        ≡ Some (record { option = p.0.now; value = p.1.now; behind = map string_bytes p.2.now })) }
     ensures fewer { IfSome result (λ p. length p.2.now < length words.now) }
 {
-    match words {
-        [option, value, behind @ ..] => Some((option.as_bytes(), value.as_bytes(), behind)),
-        _ => None,
+    let [option, behind @ ..] = words else {
+        return None;
+    };
+    let option = option.as_bytes();
+    if is_one_of(option, switches) {
+        return Some((option, b"", behind));
     }
+    let [value, behind @ ..] = behind else {
+        return None;
+    };
+    Some((option, value.as_bytes(), behind))
 }
 
 // The value of an option, if its name is given.
-pub(crate) fn value_of<'a>(words: &'a [String], name: &[u8]) -> Option<&'a [u8]>
-    ensures { option_copied result ≡ value_in name.now (map string_bytes words.now) }
+pub(crate) fn value_of<'a>(words: &'a [String], name: &[u8], switches: &[&str]) -> Option<&'a [u8]>
+    ensures { option_copied result ≡ value_in (bytes_of switches.now) name.now (map string_bytes words.now) }
 {
     let mut rest = words;
-    while let Some((option, value, more)) = first_option(rest) {
+    while let Some((option, value, more)) = first_option(rest, switches) {
         if are_same(name, option) {
             return Some(value);
         }
@@ -79,16 +97,16 @@ pub(crate) fn value_of<'a>(words: &'a [String], name: &[u8]) -> Option<&'a [u8]>
     None
 }
 
-// Whether the words are options with these names, none of them given twice.
-fn are_options(words: &[String], names: &[&str]) -> bool
-    ensures { result ≡ are_in (bytes_of names.now) (map string_bytes words.now) }
+// Whether the words are options with these names, some of them switches, and none of them given twice.
+fn are_options(words: &[String], names: &[&str], switches: &[&str]) -> bool
+    ensures { result ≡ are_in (bytes_of names.now) (bytes_of switches.now) (map string_bytes words.now) }
 {
     let mut rest = words;
-    while let Some((option, _, more)) = first_option(rest) {
+    while let Some((option, _, more)) = first_option(rest, switches) {
         if !is_one_of(option, names) {
             return false;
         }
-        if value_of(more, option).is_some() {
+        if value_of(more, option, switches).is_some() {
             return false;
         }
         rest = more;
@@ -99,9 +117,9 @@ fn are_options(words: &[String], names: &[&str]) -> bool
 // How many workers the options give.
 #[tactic(auto, unfolding(spec_program::specs::CommandLine::workers_of))]
 pub(crate) fn workers_in(options: &[String]) -> Option<u32>
-    ensures { result ≡ command_lines.workers_given (value_in (codes "--workers") (map string_bytes options.now)) }
+    ensures { result ≡ command_lines.workers_given (value_in [] (codes "--workers") (map string_bytes options.now)) }
 {
-    match value_of(options, b"--workers") {
+    match value_of(options, b"--workers", &[]) {
         Some(number) => number_to(16, 2, number),
         None => Some(USUAL_WORKERS),
     }
@@ -110,9 +128,9 @@ pub(crate) fn workers_in(options: &[String]) -> Option<u32>
 // How many places they give.
 #[tactic(auto, unfolding(spec_program::specs::CommandLine::places_of))]
 pub(crate) fn places_in(options: &[String]) -> Option<u32>
-    ensures { result ≡ command_lines.places_given (value_in (codes "--places") (map string_bytes options.now)) }
+    ensures { result ≡ command_lines.places_given (value_in [] (codes "--places") (map string_bytes options.now)) }
 {
-    match value_of(options, b"--places") {
+    match value_of(options, b"--places", &[]) {
         Some(number) => number_to(1024, 7, number),
         None => Some(USUAL_PLACES),
     }
@@ -121,19 +139,20 @@ pub(crate) fn places_in(options: &[String]) -> Option<u32>
 // How many links for each worker.
 #[tactic(auto, unfolding(spec_program::specs::CommandLine::links_of))]
 pub(crate) fn links_in(options: &[String]) -> Option<u32>
-    ensures { result ≡ command_lines.links_given (value_in (codes "--each") (map string_bytes options.now)) }
+    ensures { result ≡ command_lines.links_given (value_in [] (codes "--each") (map string_bytes options.now)) }
 {
-    match value_of(options, b"--each") {
+    match value_of(options, b"--each", &[]) {
         Some(number) => number_to(1000, 4, number),
         None => Some(USUAL_LINKS),
     }
 }
 
 // The form that a text is read in, free unless another is given.
-pub(crate) fn form_in(options: &[String]) -> Option<Style>
-    ensures { result ≡ command_lines.form_given (value_in (codes "--form") (map string_bytes options.now)) }
+pub(crate) fn form_in(options: &[String], switches: &[&str]) -> Option<Style>
+    ensures { result ≡ command_lines.form_given
+        (value_in (bytes_of switches.now) (codes "--form") (map string_bytes options.now)) }
 {
-    match value_of(options, b"--form") {
+    match value_of(options, b"--form", switches) {
         Some(form) => look_up(form, &FORMS),
         None => Some(Style::Free),
     }
@@ -143,7 +162,7 @@ pub(crate) fn form_in(options: &[String]) -> Option<Style>
 fn run_line(words: &[String]) -> Option<CommandLine<&[u8]>>
     ensures { told result ≡ asked_by (map string_bytes words.now) run_row }
 {
-    if !are_options(words, &["--workers", "--places"]) {
+    if !are_options(words, &["--workers", "--places"], &[]) {
         return None;
     }
     let workers = workers_in(words)?;
@@ -158,11 +177,33 @@ fn text_line<'a>(
 ) -> Option<CommandLine<&'a [u8]>>
     ensures { told result ≡ asked_by (map string_bytes words.now) (text_row (spelled_text command.entry)) }
 {
-    if !are_options(words, &["--form"]) {
+    if !are_options(words, &["--form"], &[]) {
         return None;
     }
-    let style = form_in(words)?;
+    let style = form_in(words, &[])?;
     Some(CommandLine::Read(command, style))
+}
+
+// The check that the options ask for.
+fn checked_in(options: &[String]) -> TextCommand<&'static [u8]>
+    ensures { spelled_text result ≡ by_width Check CheckWide
+        (value_in wide_switch (codes "--wide") (map string_bytes options.now)) }
+{
+    match value_of(options, b"--wide", &WIDE) {
+        Some(_) => TextCommand::CheckWide,
+        None => TextCommand::Check,
+    }
+}
+
+// A certificate is checked, with numbers of any width where that is asked for.
+fn check_line(words: &[String]) -> Option<CommandLine<&[u8]>>
+    ensures { told result ≡ asked_by (map string_bytes words.now) (wide_row Check CheckWide) }
+{
+    if !are_options(words, &["--form", "--wide"], &WIDE) {
+        return None;
+    }
+    let style = form_in(words, &WIDE)?;
+    Some(CommandLine::Read(checked_in(words), style))
 }
 
 // Which number of a model a word names.
@@ -186,7 +227,7 @@ pub(crate) fn is_plain(word: &[u8]) -> bool
 fn range_with<'a>(moved: Moved, name: &'a [u8], options: &[String]) -> Option<CommandLine<&'a [u8]>>
     ensures { told result ≡ range_in moved name.now (map string_bytes options.now) }
 {
-    let style = form_in(options)?;
+    let style = form_in(options, &[])?;
     Some(CommandLine::Read(TextCommand::Range { moved, name }, style))
 }
 
@@ -198,7 +239,7 @@ fn range_line(words: &[String]) -> Option<CommandLine<&[u8]>>
         return None;
     };
     let name = name.as_bytes();
-    if !is_plain(name) || !are_options(options, &["--form"]) {
+    if !is_plain(name) || !are_options(options, &["--form"], &[]) {
         return None;
     }
     let moved = moved_of(what.as_bytes())?;
@@ -272,7 +313,7 @@ fn serve_line(words: &[String]) -> Option<CommandLine<&[u8]>>
         return None;
     };
     if !is_plain(address.as_bytes())
-        || !are_options(options, &["--workers", "--each", "--places"])
+        || !are_options(options, &["--workers", "--each", "--places"], &[])
     {
         return None;
     }
@@ -290,6 +331,7 @@ pub fn command_line_of(words: &[String]) -> Option<CommandLine<&[u8]>>
     match look_up(word.as_bytes(), &COMMANDS)? {
         Command::Run => run_line(behind),
         Command::Read(command) => text_line(command, behind),
+        Command::Check => check_line(behind),
         Command::Range => range_line(behind),
         Command::Generate => generate_line(behind),
         Command::Serve => serve_line(behind),

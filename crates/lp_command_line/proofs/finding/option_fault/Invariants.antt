@@ -7,8 +7,8 @@ use Rattle.lp_command_line.proofs.finding.option_fault.Given as goal
 
 abbrev pub invariant-loop-option : goal.invariant-loop-option
 invariant-loop-option l =
-    option_fault (bytes_of l.names) (map string_bytes l.rest)
-    ≡ option_fault (bytes_of l.names) (map string_bytes l.words)
+    option_fault (bytes_of l.names) (bytes_of l.switches) (map string_bytes l.rest)
+    ≡ option_fault (bytes_of l.names) (bytes_of l.switches) (map string_bytes l.words)
 
 abbrev pub decreases-loop-option : goal.decreases-loop-option
 decreases-loop-option l = length l.rest

@@ -6,7 +6,8 @@ use Rattle.lp_command_line.proofs.line.are_options.Given as goal
 
 abbrev pub invariant-loop-option : goal.invariant-loop-option
 invariant-loop-option l =
-    are_in (bytes_of l.names) (map string_bytes l.rest) ≡ are_in (bytes_of l.names) (map string_bytes l.words)
+    are_in (bytes_of l.names) (bytes_of l.switches) (map string_bytes l.rest)
+    ≡ are_in (bytes_of l.names) (bytes_of l.switches) (map string_bytes l.words)
 
 abbrev pub decreases-loop-option : goal.decreases-loop-option
 decreases-loop-option l = length l.rest
