@@ -13,9 +13,11 @@ pub mod GeneratedModels
 pub mod ReplyLines
 pub mod CertifiedTexts
 pub mod YesLines
+pub mod WideLines
 pub mod PrintedRuns
 pub mod OwnTexts
 pub mod LoadedLines
 pub mod MadeEdits
 pub mod Agreement
 pub mod RangedTexts
+pub mod SidesTexts

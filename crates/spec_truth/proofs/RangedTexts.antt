@@ -74,7 +74,7 @@ cut_at d (c ∷ a) (f ∷ b) x y h k e =
     let whole : ◌≡◌ {A = List ℕ} (c ∷ a) (f ∷ b) = cc in
     (whole, rest.1)
 
-printed_has_no : (d : ℕ) → d ≤ 32 → (w : List ℕ) → list_all is_printable w ≡ true → HasNo d w
+pub printed_has_no : (d : ℕ) → d ≤ 32 → (w : List ℕ) → list_all is_printable w ≡ true → HasNo d w
 printed_has_no d l [] h = All-nil (λ b. b ≢ d)
 printed_has_no d l (b ∷ w) h =
     let p = both (is_printable b) (list_all is_printable w) h in

@@ -41,7 +41,7 @@ out_answered m written out =
       shown = answer_shown m opening_budget out.0.end out.1.may_answer;
     }
 
-same_said : (a b : TextSaid) → ◌≡◌ {A = Option TextSaid} (Some a) (Some b) → a ≡ b
+pub same_said : (a b : TextSaid) → ◌≡◌ {A = Option TextSaid} (Some a) (Some b) → a ≡ b
 same_said a b e = cc
 
 answered : (style : Style) (lines : List (Line (List ℕ))) (m : Model) (what : TextSaid) (written : List ℕ) →

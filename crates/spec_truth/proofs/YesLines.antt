@@ -16,7 +16,7 @@ use Rattle.spec_truth.proofs.AnswerLines.{read_back}
 use Rattle.spec_truth.proofs.ReplyLines as reply_lines
 use Rattle.spec_truth.proofs.CertifiedTexts.{certified, yes_holds}
 
-same_end : (a b : List ℕ) → a ++ 10 ∷ [] ≡ b ++ 10 ∷ [] → a ≡ b
+pub same_end : (a b : List ℕ) → a ++ 10 ∷ [] ≡ b ++ 10 ∷ [] → a ≡ b
 same_end [] [] e = refl
 same_end [] (c ∷ []) e = cc
 same_end [] (c ∷ d ∷ b) e = cc

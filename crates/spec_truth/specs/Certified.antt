@@ -1,15 +1,20 @@
 -- Lines that spell a model and, after it, a certificate.
 use Rattle.std.specs.Prelude.{ℕ, ◌≡◌, None, List, [], ◌∷◌, ◌++◌}
 use Rattle.spec_text.specs.declared.line.Line.{Line}
+use Rattle.spec_exact.specs.Fraction.{ℚ}
 use Rattle.spec_model.specs.Model.{Model}
 use Rattle.spec_mps.specs.declared.style.Style.{Style}
 use Rattle.spec_mps.specs.Steps as text
-use Rattle.spec_certificate.specs.NarrowText as certificate
+use Rattle.spec_check.specs.Raw.{ExactRaw}
+use Rattle.spec_certificate.specs.Text.{Reading, SpellsBy}
+use Rattle.spec_certificate.specs.NarrowText.{narrow}
+use Rattle.spec_certificate.specs.WideText.{wide}
 use Rattle.spec_server.specs.SolveOut.{text_said}
 
--- The lines up to the first one that ends the text of a model, the lines of a certificate after it, and what is so of
--- the model.
-pub record IsCertified (style : Style) (lines : List (Line (List ℕ))) (IsSo : Model → Type 0) : Type 0 where
+-- The lines up to the first one that ends the text of a model, the lines of a certificate after it, whose numbers are read
+-- so, and what is so of the model.
+pub record IsCertifiedBy (read : Reading ℚ) (style : Style) (lines : List (Line (List ℕ)))
+    (IsSo : Model → Type 0) : Type 0 where
   pub front : List (Line (List ℕ))
   pub last : Line (List ℕ)
   pub behind : List (Line (List ℕ))
@@ -17,6 +22,14 @@ pub record IsCertified (style : Style) (lines : List (Line (List ℕ))) (IsSo : 
   pub undecided : text_said style front ≡ None
   pub model : Model
   pub spelled : text.Spells style (front ++ last ∷ []) model
-  pub raw : certificate.ExactRaw
-  pub certified : certificate.Spells behind raw
+  pub raw : ExactRaw
+  pub certified : SpellsBy read behind raw
   pub is_so : IsSo model
+
+-- numbers of the certificate are of 127 bits
+abbrev pub IsCertified : Style → List (Line (List ℕ)) → (Model → Type 0) → Type 0
+IsCertified = IsCertifiedBy narrow
+
+-- they may have any width
+abbrev pub IsWidelyCertified : Style → List (Line (List ℕ)) → (Model → Type 0) → Type 0
+IsWidelyCertified = IsCertifiedBy wide

@@ -6,3 +6,4 @@ pub mod SpelledBasis
 pub mod AcceptedLines
 pub mod Agree
 pub mod SaidRange
+pub mod SaidSides

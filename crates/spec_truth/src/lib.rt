@@ -8,10 +8,11 @@
 //! | `Says` | that a reply's text is this, perhaps behind the word YES | specs/TrueAnswer |
 //! | `IsTrueOf` | that what an answer says of a model is so | specs/TrueAnswer |
 //! | `IsNarrowKnown` | that a known value is of at most 127 bits | specs/TrueAnswer |
-//! | `IsCertified` | lines of a model and a certificate after it, and what is so of the model | specs/Certified |
+//! | `IsCertified`, `IsWidelyCertified` | lines of a model and a certificate after it, and what is so of the model | specs/Certified |
 //! | `AreHanded` | lines of a model and a basis file after it | specs/SpelledBasis |
 //! | `IsAccepted` | that `check` says yes to lines with written ones behind them | specs/AcceptedLines |
 //! | `SaysRange` | what a line `RANGE` says of a model | specs/SaidRange |
+//! | `SaysSides` | what the lines behind a line `IIS` say of a model | specs/SaidSides |
 //! | `RepliesAgree` | replies that two runs of one session may give to the same asks | specs/Agree |
 #![tactic(auto)]
 
@@ -28,6 +29,9 @@ ghost use Rattle.spec_mps.specs.declared.style.Style.{Style};
 ghost use Rattle.spec_mps.specs.NumberText.{Is, number_of};
 ghost use Rattle.spec_mps.specs.NumberWritten.{number_text};
 ghost use Rattle.spec_mps.specs.Steps.{Spells, Refuses};
+ghost use Rattle.spec_wide_text.specs.WideText.{most_zeros, wide_of};
+ghost use Rattle.spec_wide_text.specs.WideText as wide;
+ghost use Rattle.spec_wide_text.specs.WideWritten.{wide_text};
 ghost use Rattle.spec_gen.specs.Generated.{generated};
 ghost use Rattle.spec_bas.specs.declared.fault.BasCode.TheVariants as file_code;
 ghost use Rattle.spec_bas.specs.declared.fault.BasFault.{BasFault};
@@ -51,16 +55,19 @@ ghost use Rattle.spec_truth.specs.Agree.{HasMemory, RepliesAgree};
 ghost use Rattle.spec_server.specs.Script.{Between, asks_from, ended_asks_of, script_of};
 ghost use Rattle.spec_server.specs.Output.{reply_text};
 ghost use Rattle.spec_server.specs.CheckOut.{said, check_line};
+ghost use Rattle.spec_server.specs.CheckWideOut.{wide_said, wide_check_line};
 ghost use Rattle.spec_server.specs.SolveOut.{TextSaid, text_said, SolveOut};
 ghost use Rattle.spec_server.specs.BasisOut.{Handed, BasisSaid, basis_said, BasisOut};
 ghost use Rattle.spec_program.specs.declared.command_line.Moved.{Moved};
 ghost use Rattle.spec_program.specs.GenOut.{entry_count, size_text, GenOut};
+ghost use Rattle.spec_program.specs.IisOut.{IisOut};
 ghost use Rattle.spec_program.specs.RangeOut.{place_by, RangeOut};
 ghost use Rattle.spec_truth.specs.AcceptedLines.{IsAccepted};
-ghost use Rattle.spec_truth.specs.Certified.{IsCertified};
+ghost use Rattle.spec_truth.specs.Certified.{IsCertified, IsWidelyCertified};
 ghost use Rattle.spec_truth.specs.LoadedFrom.{IsLoadedFrom};
 ghost use Rattle.spec_truth.specs.ModelThen.{model_then};
 ghost use Rattle.spec_truth.specs.SaidRange.{SaysRange};
+ghost use Rattle.spec_truth.specs.SaidSides.{SaysSides};
 ghost use Rattle.spec_truth.specs.SpelledBasis.{BeginsWithText, AreHanded, HaveWrongFile};
 ghost use Rattle.spec_truth.specs.TrueAnswer.{Says, IsTrueOf, IsNarrowKnown};
 
@@ -241,6 +248,30 @@ pub fn ranges_of_texts_are_true()
         SaysRange moved name m value low high slope }
 {}
 
+/// What `iis` writes of a text that spells a model begins with the line of an answer, which is true of the model. Where a
+/// line `IIS n` follows, the n lines behind it are those of n single limits and bounds that no point meets together, though
+/// each set of all but one is met. The lines alone say it: they are those of no others.
+pub fn contradictions_of_texts_are_true()
+    ensures answer { (style : Style) (lines : List (Line (List ℕ))) (m : Model) (what : TextSaid) (written : List ℕ) →
+        text_said style lines ≡ Some what → IisOut what written → Spells style lines m →
+        (answer : Answer ℚ) × (behind : List ℕ)
+        × (written ≡ reply_text (reply.Answered answer) ++ 10 ∷ behind) × IsTrueOf m answer }
+    ensures optimal { (style : Style) (lines : List (Line (List ℕ))) (m : Model) (what : TextSaid) (written : List ℕ) →
+        text_said style lines ≡ Some what → IisOut what written → Spells style lines m →
+        (text behind : List ℕ) → All (λ b. b ≢ 10) text → written ≡ codes "OPTIMAL " ++ text ++ 10 ∷ behind →
+        (v : ℚ) × (number_of text ≡ Is v) × IsOptimal m v }
+    ensures infeasible { (style : Style) (lines : List (Line (List ℕ))) (m : Model) (what : TextSaid)
+        (written : List ℕ) → text_said style lines ≡ Some what → IisOut what written → Spells style lines m →
+        (behind : List ℕ) → written ≡ codes "INFEASIBLE" ++ 10 ∷ behind → IsInfeasible m }
+    ensures unbounded { (style : Style) (lines : List (Line (List ℕ))) (m : Model) (what : TextSaid)
+        (written : List ℕ) → text_said style lines ≡ Some what → IisOut what written → Spells style lines m →
+        (behind : List ℕ) → written ≡ codes "UNBOUNDED" ++ 10 ∷ behind → IsUnbounded m }
+    ensures sides { (style : Style) (lines : List (Line (List ℕ))) (m : Model) (what : TextSaid) (written : List ℕ) →
+        text_said style lines ≡ Some what → IisOut what written → Spells style lines m →
+        (count behind : List ℕ) → All (λ b. b ≢ 10) count →
+        written ≡ codes "INFEASIBLE" ++ 10 ∷ (codes "IIS " ++ count ++ 10 ∷ behind) → SaysSides m count behind }
+{}
+
 /// What `gen` writes is the line of the size of the model that is made from the seed, and the line of an answer, which
 /// is true of this model. The second line alone says it: after the word OPTIMAL stands the text of the optimal value. It
 /// is never the line of a model that is infeasible or unbounded.
@@ -284,6 +315,31 @@ pub fn certified_texts_are_true()
     ensures unbounded_line { (style : Style) (lines : List (Line (List ℕ))) (what : ExactReply) →
         said style lines ≡ Some what → check_line what ≡ codes "YES UNBOUNDED" ++ 10 ∷ [] →
         IsCertified style lines IsUnbounded }
+{}
+
+/// Where `check --wide` says yes, the lines spell a model and, after its text, a certificate whose numbers may have any
+/// width, and what the yes says is true of the model. The line that is written alone says it: behind `YES OPTIMAL` stands the
+/// text of the optimal value, and it is read as this value where it is no longer than a power of ten may have zeros.
+pub fn widely_certified_texts_are_true()
+    ensures optimal { (style : Style) (lines : List (Line (List ℕ))) (v : ℚ) →
+        wide_said style lines ≡ Some (reply.Checked (verdict.Yes (known.Optimal v))) →
+        IsWidelyCertified style lines (λ m. IsOptimal m v) }
+    ensures infeasible { (style : Style) (lines : List (Line (List ℕ))) →
+        wide_said style lines ≡ Some (reply.Checked (verdict.Yes known.Infeasible)) →
+        IsWidelyCertified style lines IsInfeasible }
+    ensures unbounded { (style : Style) (lines : List (Line (List ℕ))) →
+        wide_said style lines ≡ Some (reply.Checked (verdict.Yes known.Unbounded)) →
+        IsWidelyCertified style lines IsUnbounded }
+    ensures optimal_line { (style : Style) (lines : List (Line (List ℕ))) (what : ExactReply) (text : List ℕ) →
+        wide_said style lines ≡ Some what → wide_check_line what ≡ codes "YES OPTIMAL " ++ text ++ 10 ∷ [] →
+        (v : ℚ) × (text ≡ wide_text v) × (length text ≤ most_zeros → wide_of text ≡ wide.Is v)
+        × IsWidelyCertified style lines (λ m. IsOptimal m v) }
+    ensures infeasible_line { (style : Style) (lines : List (Line (List ℕ))) (what : ExactReply) →
+        wide_said style lines ≡ Some what → wide_check_line what ≡ codes "YES INFEASIBLE" ++ 10 ∷ [] →
+        IsWidelyCertified style lines IsInfeasible }
+    ensures unbounded_line { (style : Style) (lines : List (Line (List ℕ))) (what : ExactReply) →
+        wide_said style lines ≡ Some what → wide_check_line what ≡ codes "YES UNBOUNDED" ++ 10 ∷ [] →
+        IsWidelyCertified style lines IsUnbounded }
 {}
 
 /// What is known has a text of its own: different answers have different texts, as far as their values are of at most

@@ -1,0 +1,19 @@
+-- What the lines behind a line `IIS` say of a model.
+use Rattle.std.specs.Prelude.{ℕ, ◌≡◌, List, ◌++◌, length, map, All, decimal}
+use Rattle.spec_model.specs.Model.{Model}
+use Rattle.spec_iis.specs.declared.side.Side.{Side}
+use Rattle.spec_iis.specs.Sides.{IsSide}
+use Rattle.spec_iis.specs.Irreducible.{IsIrreducible}
+use Rattle.spec_server.specs.Output.{ended_lines}
+use Rattle.spec_program.specs.IisOut.{side_line}
+
+-- So many lines as the text says are those of sides that no point meets together, though each set of all but one is met.
+-- As many lines are those of no other sides of the model.
+pub record SaysSides (m : Model) (count behind : List ℕ) : Type 0 where
+  pub sides : List Side
+  pub more : List ℕ
+  pub counted : count ≡ decimal (length sides)
+  pub listed : behind ≡ ended_lines (map (side_line m) sides) ++ more
+  pub irreducible : IsIrreducible m sides
+  pub no_others : (others : List Side) (rest : List ℕ) → length others ≡ length sides → All (IsSide m) others →
+      behind ≡ ended_lines (map (side_line m) others) ++ rest → others ≡ sides
