@@ -49,7 +49,7 @@ LISTENING = re.compile(rf"lpd: listening on {re.escape(HOST)}:(\d+)\n")
 # What a server says when a link has ended.
 LINK = re.compile(
     r"time=\d{4}-\d\d-\d\dT\d\d:\d\d:\d\d\.\d{3}Z worker=(\d+) link=(\d+) "
-    rf"peer={re.escape(HOST)}:(\d+) word=([A-Z]+) commands=(\d+) in=(\d+) out=(\d+) seconds=(\d+\.\d{{3}})\n"
+    rf"peer={re.escape(HOST)}:(\d+) word=([A-Z]+) commands=(\d+) pivots=(\d+) in=(\d+) out=(\d+) seconds=(\d+\.\d{{3}})\n"
 )
 LOAD = b"LOAD FREE\n" + MODEL.encode()
 LOADED, SOLVED = b"LOADED 1 1\n", b"OPTIMAL 6\n"
@@ -73,6 +73,7 @@ class Said(NamedTuple):
     port: int
     word: str
     commands: int
+    pivots: int
     read: int
     written: int
     seconds: float
@@ -110,7 +111,10 @@ class Server:
     def links(self) -> List[Said]:
         """What it has said of its links, in the order of their ends."""
         lines = LINK.findall(self.said())
-        return [Said(int(w), int(n), int(p), word, int(c), int(i), int(o), float(s)) for w, n, p, word, c, i, o, s in lines]
+        return [
+            Said(int(w), int(n), int(p), word, int(c), int(v), int(i), int(o), float(s))
+            for w, n, p, word, c, v, i, o, s in lines
+        ]
 
     def __enter__(self) -> Server:
         return self
@@ -161,11 +165,22 @@ def port_of(link: Link) -> int:
     return int(link.socket.getsockname()[1])
 
 
+def pivots_of(*pairs: Tuple[bytes, bytes]) -> int:
+    """The pivots that HOW tells of after each solve."""
+    solves = [i for i, (command, _) in enumerate(pairs) if command == b"SOLVE\n"]
+    return sum(int(re.findall(rb"PIVOTS (\d+)", pairs[i + 1][1])[0]) for i in solves)
+
+
 def is_said(server: Server, port: int, *pairs: Tuple[bytes, bytes]) -> None:
     """The server has said of the link from this port that it had these commands and replies."""
     said = [(s.word, s.commands, s.read, s.written) for s in server.links() if s.port == port]
     wanted = ("DONE", len(pairs), sum(len(command) for command, _ in pairs), sum(len(reply) for _, reply in pairs))
     expect("what is said of a link", said, [wanted])
+
+
+def are_said(server: Server, port: int, pivots: int) -> None:
+    """The server has said of the link from this port that its solves took so many pivots."""
+    expect("the pivots of a link", [s.pivots for s in server.links() if s.port == port], [pivots])
 
 
 def ends(link: Link) -> None:
@@ -193,6 +208,8 @@ def check_workers(command: List[str]) -> None:
         expect("the server's end", server.end(), (0, "1 1 DONE\n2 1 DONE\n", ""))
         is_said(server, ports[0], load, *cold, *warm, (b"WRITE FREE\n", TEXT), bye)
         is_said(server, ports[1], load, *warm, bye)
+        are_said(server, ports[0], pivots_of(*cold, *warm))
+        are_said(server, ports[1], pivots_of(*warm))
 
 
 def check_session(command: List[str]) -> None:

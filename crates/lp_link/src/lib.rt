@@ -4,7 +4,7 @@
 //! |---|---|---|
 //! | `Link` | a source and a sink on one object | src/link |
 //! | `Listen` | what gives links, one after the other, and takes them back | src/listen |
-//! | `LinkReport` | what is told of a link that has ended | src/report |
+//! | `LinkReport`, `LinkWork` | what is told of a link that has ended | src/report |
 //! | `MemLink` | a link in memory, which fails at the calls that are listed | src/mem_link |
 //! | `MemListen` | gives links in memory, and keeps those that come back | src/mem_listen |
 //! | `LinkState` | what is known of a link | specs/LinkState |
@@ -22,4 +22,4 @@ pub use link::Link;
 pub use listen::Listen;
 pub use mem_link::MemLink;
 pub use mem_listen::MemListen;
-pub use report::LinkReport;
+pub use report::{LinkReport, LinkWork};

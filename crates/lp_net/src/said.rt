@@ -53,8 +53,9 @@ impl fmt::Display for LinkLine {
         }
         let (worker, number, peer) = (self.worker, self.number, self.peer);
         write!(f, "worker={worker} link={number} peer={peer}")?;
-        let (word, commands) = (self.report.word, self.report.commands);
-        write!(f, " word={word} commands={commands}")?;
+        let (word, work) = (self.report.word, self.report.work);
+        let (commands, pivots) = (work.commands, work.pivots);
+        write!(f, " word={word} commands={commands} pivots={pivots}")?;
         let (read, written) = (self.bytes_read, self.bytes_written);
         write!(f, " in={read} out={written}")?;
         if let Some(lasted) = self.lasted {

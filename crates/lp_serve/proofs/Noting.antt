@@ -1,5 +1,5 @@
 -- What a pass notes, one step after the other.
-use Rattle.std.proofs.Common.{◌≡◌, List, [], ◌∷◌, refl, sym, ap, subst}
+use Rattle.std.proofs.Common.{◌≡◌, [], refl, sym, subst}
 use Rattle.basis_board.specs.Known.{Known}
 use Rattle.basis_board.specs.Moments.{NotesMore, WereTrue}
 use Rattle.basis_board.proofs.Timing.{notes_none, notes_on}

@@ -19,7 +19,7 @@ ghost use Rattle.spec_server.specs.declared.addressing.Addressing.TheVariants.{A
 use basis_board::{Board, Pass};
 use lp_base::{Bytes, LineStop, Lines, send};
 use lp_line::{Addressing, Ask, Plain, Reply, Taken, print, take};
-use lp_link::Link;
+use lp_link::{Link, LinkWork};
 use lp_session::Session;
 use spec_serve::LinkEnd;
 use std::alloc::Global;
@@ -72,6 +72,15 @@ fn send_reply<L: Link>(alloc: Global, reply: &Reply, link: &mut L) -> Result<(),
     }
 }
 
+// Counts a command that got this reply, and what it took if it is an answer.
+fn count(work: &mut LinkWork, reply: &Reply, session: &Session) {
+    work.commands = work.commands.saturating_add(1);
+    if let Reply::Answered(_) = reply {
+        let pivots = session.pivots().unwrap_or(0);
+        work.pivots = work.pivots.saturating_add(pivots);
+    }
+}
+
 // Answers the asks of a link, from the start of its lines and of its session.
 fn serve_asks<L: Link>(
     alloc: Global,
@@ -80,7 +89,7 @@ fn serve_asks<L: Link>(
     pass: &mut Pass,
     lines: &mut Lines,
     session: &mut Session,
-    commands: &mut u64,
+    work: &mut LinkWork,
 ) -> LinkEnd
     requires board { pass.old.board ≡ id_of board.now }
     requires lines { lines.old ≡ at_start }
@@ -102,9 +111,9 @@ fn serve_asks<L: Link>(
             Ok(ask) => ask,
             Err(end) => return end,
         };
-        *commands = commands.saturating_add(1);
         let quits = is_quit(&ask);
         let reply = session.step(alloc, board, pass, ask);
+        count(work, &reply, session);
         let sent = send_reply(alloc, &reply, link);
         drop(reply);
         if let Err(end) = sent {
@@ -117,13 +126,13 @@ fn serve_asks<L: Link>(
 }
 
 /// Serves the session of a link over a board that others may share: each reply is sent before the next command is read.
-/// It adds the commands that came, of which no clause speaks.
+/// It adds to the work what is done, of which no clause speaks.
 pub fn serve_link<L: Link>(
     alloc: Global,
     link: &mut L,
     board: &Board,
     pass: &mut Pass,
-    commands: &mut u64,
+    work: &mut LinkWork,
 ) -> LinkEnd
     requires board { pass.old.board ≡ id_of board.now }
     ensures serves { ServesBy
@@ -142,7 +151,7 @@ pub fn serve_link<L: Link>(
         return LinkEnd::NoMemory;
     };
     let mut session = Session::new();
-    let end = serve_asks(alloc, link, board, pass, &mut lines, &mut session, commands);
+    let end = serve_asks(alloc, link, board, pass, &mut lines, &mut session, work);
     drop(session);
     drop(lines);
     end

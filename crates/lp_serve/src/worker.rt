@@ -6,7 +6,7 @@ ghost use Rattle.lp_serve.specs.Workers.{IsReady, HasServed};
 use crate::ends::word;
 use crate::link::serve_link;
 use basis_board::{Board, Pass};
-use lp_link::{LinkReport, Listen};
+use lp_link::{LinkReport, LinkWork, Listen};
 use spec_serve::LinkEnd;
 use std::alloc::Global;
 
@@ -31,10 +31,10 @@ impl<N: Listen> Worker<N> {
                 self.has_failed = true;
                 return;
             };
-            let mut commands = 0;
-            let end = serve_link(alloc, &mut link, board, &mut self.pass, &mut commands);
+            let mut work = LinkWork::default();
+            let end = serve_link(alloc, &mut link, board, &mut self.pass, &mut work);
             let word = word(end);
-            self.net.give_back(link, LinkReport { word, commands });
+            self.net.give_back(link, LinkReport { word, work });
             self.ends.push_reserved(end);
         }
     }

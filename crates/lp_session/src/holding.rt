@@ -1,5 +1,5 @@
 // What a session holds.
-ghost use Rattle.std.specs.Prelude.{◌≡◌, ◌⊎◌};
+ghost use Rattle.std.specs.Prelude.{◌≡◌, ◌⊎◌, option_and_then};
 ghost use Rattle.spec_server.specs.Machine as machine;
 ghost use Rattle.spec_server.specs.Step as step;
 ghost use Rattle.spec_server.specs.declared.asks.Ask.TheVariants as asks;
@@ -181,6 +181,16 @@ impl Holding {
             publication,
         });
         Reply::Answered(answer)
+    }
+
+    /// The pivots and flips of the last answer, where it has them.
+    pub(crate) fn pivots(&self) -> Option<u64>
+        ensures { result ≡ option_and_then (λ last. machine.pivots_of_solved last.solved) self.now.last }
+    {
+        match &self.last {
+            Some(last) => pivots_of(&last.solved),
+            None => None,
+        }
     }
 
     fn certify(&self, alloc: Global) -> Reply

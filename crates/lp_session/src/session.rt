@@ -1,6 +1,6 @@
 // A session.
-ghost use Rattle.std.specs.Prelude.{◌≡◌};
-ghost use Rattle.spec_server.specs.Machine.{opening};
+ghost use Rattle.std.specs.Prelude.{◌≡◌, option_and_then};
+ghost use Rattle.spec_server.specs.Machine.{opening, pivots_of_solved};
 ghost use Rattle.spec_server.specs.Halves.{Nothing, at_rest, StartFits, MayBeFound, NextFits, IsPutAwaited, PutFits};
 ghost use Rattle.basis_board.specs.Id.{id_of};
 ghost use Rattle.basis_board.specs.Rule.{Consistent};
@@ -44,6 +44,13 @@ impl Drop for Session {
 }
 
 impl Session {
+    /// The pivots and flips of the last answer, where it has them.
+    pub fn pivots(&self) -> Option<u64>
+        ensures { result ≡ option_and_then (λ last. pivots_of_solved last.solved) (self.now.state).last }
+    {
+        self.holding.pivots()
+    }
+
     /// A session without a model.
     pub fn new() -> Self
         ensures { result ≡ at_rest opening }
