@@ -24,10 +24,20 @@ def sources():
     return "\n".join(path.read_text(encoding="utf-8") for path in files)
 
 
+def prose(document):
+    """The text of a document without its examples."""
+    return re.sub(r"```.*?```", "", document.read_text(encoding="utf-8"), flags=re.S)
+
+
+def local_links(document):
+    """The links of a document that lead to files, less the names of places within these."""
+    return re.findall(r"\]\(([^)#:]+)(?:#[^)]*)?\)", prose(document))
+
+
 def missing_in(document, names):
     """What the document names and is not there, by the names that there are."""
-    text = re.sub(r"```.*?```", "", document.read_text(encoding="utf-8"), flags=re.S)
-    for link in re.findall(r"\]\(([^)#:]+)\)", text):
+    text = prose(document)
+    for link in local_links(document):
         if not (document.parent / link).exists():
             yield link
     for quoted in re.findall(r"`([^`\n]+)`", text):

@@ -16,8 +16,11 @@ from .needs import needs_of
 
 DOCUMENTS = "usr/share/doc/lpd"
 MAINTAINER = "Feryqtos maintainers <maintainers@users.noreply.feryqtos.example>"
-# What of the repository stands below /usr/share/doc/lpd, at the same paths.
-PLACES = ["README.md", "SECURITY.md", "docs/*.md", "examples"]
+# What of the repository stands below /usr/share/doc/lpd, at the same paths: the documents, what they link to, and the examples.
+PLACES = [
+    "README.md", "CHANGELOG.md", "CONTRIBUTING.md", "SECURITY.md", "docs/*.md", "docs/*.png", "web/check.html",
+    "clients/python/README.md", "examples",
+]  # fmt: skip
 DESCRIPTION = """exact solver and server for linear programs
  lpd reads linear programs in MPS format and answers exactly, in fractions:
  an optimal value, or that the model is infeasible or unbounded. Each answer
