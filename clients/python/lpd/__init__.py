@@ -10,6 +10,7 @@
 The program decides: this package talks to it, and says in words what it refuses. Numbers are exact, as
 fractions.Fraction. It needs nothing but Python's standard library.
 """
+from . import interrupts  # before all that takes its time
 from .certificate import check
 from .certifying import Certified, certify
 from .conversion import Converted, Options, Question, Unconvertible, convert

@@ -14,7 +14,7 @@ import re
 import sys
 from typing import List, NoReturn, Optional
 
-from . import errors
+from . import errors, interrupts
 from .commands import batch, certify, check, convert, plot, solve
 from .commands.common import tell
 from .conversion import Question, Unconvertible
@@ -26,9 +26,7 @@ from .plotting import NoPicture
 from .version import ShowVersion
 
 EPILOG = __doc__.partition("\n\n")[2] if __doc__ else None
-
-
-INTERRUPTED, CLOSED = 130, 141  # as a shell has it for the signals that end other programs then
+CLOSED = 141  # as a shell has it for the signal that ends other programs then
 
 
 class Words(argparse.ArgumentParser):
@@ -79,16 +77,17 @@ def status_of_error(error: Exception) -> int:
 
 
 def main(arguments: Optional[List[str]] = None) -> int:
-    words = parser().parse_args(arguments)
     try:
+        interrupts.raised()
+        words = parser().parse_args(arguments)
         status: int = words.run(words)
         sys.stdout.flush()
         return status
     except BrokenPipeError:
         return closed()
     except KeyboardInterrupt:
-        tell("lpd: interrupted")
-        return INTERRUPTED
+        tell(interrupts.WORDS)
+        return interrupts.INTERRUPTED
     except (errors.LpdError, NotANumber, OSError) as error:
         return status_of_error(error)
 

@@ -3,7 +3,11 @@ import csv
 import gzip
 import io
 import json
+import os
 import shutil
+import signal
+import subprocess
+import sys
 import tempfile
 import unittest
 from fractions import Fraction
@@ -18,7 +22,8 @@ from lpd.ways import ALONE, BOTH
 from .commands import command
 from .models import has_program
 
-MODELS = Path(__file__).resolve().parents[3] / "examples" / "models"
+PACKAGE = Path(__file__).resolve().parents[1]
+MODELS = PACKAGE.parents[1] / "examples" / "models"
 DIET = str(MODELS / "diet.mps")
 PAST = lpd.Answered(lpd.Past("ADD", Fraction(1), Fraction(2)), [], "lpd solve")
 WIDE = f"ROWS\n N cost\n G need\nCOLUMNS\n x cost 1 need 3\nRHS\n RHS need {10**50}\nENDATA\n"
@@ -39,6 +44,21 @@ class Words(unittest.TestCase):
         for name in ("convert", "certify"):
             with mock.patch(f"lpd.commands.{name}.{name}", side_effect=KeyboardInterrupt):
                 self.assertEqual(command(name, DIET), (130, "", "lpd: interrupted\n"))
+
+    @unittest.skipUnless(hasattr(sys, "orig_argv"), "this Python does not say what it was told to run")
+    def test_an_interrupt_while_python_imports(self) -> None:
+        """Modules that the package and its command import, in whose place others stand here that wait to be interrupted."""
+        # What a script begins in its background, and what that begins, ignores interrupts: a run of these tests does not.
+        self.addCleanup(signal.signal, signal.SIGINT, signal.signal(signal.SIGINT, signal.default_int_handler))
+        for module in ("fractions", "difflib"):
+            with self.subTest(module), tempfile.TemporaryDirectory() as folder:
+                (Path(folder) / f"{module}.py").write_text("import time\nprint('waits', flush=True)\ntime.sleep(300)\n")
+                line, path = [sys.executable, "-m", "lpd", "--version"], f"{folder}:{PACKAGE}"
+                with subprocess.Popen(line, env={**os.environ, "PYTHONPATH": path}, stdout=subprocess.PIPE, stderr=subprocess.PIPE, text=True) as run:
+                    self.assertEqual(run.stdout and run.stdout.readline(), "waits\n")
+                    run.send_signal(signal.SIGINT)
+                    self.assertEqual(run.communicate(), ("", "lpd: interrupted\n"))
+                self.assertEqual(run.returncode, 130)
 
     def test_words_that_were_likely_meant(self) -> None:
         cases = {"solv": "did you mean solve?", "solve x --jsno": "did you mean --json?", "convert x --to glpslo": "did you mean glpsol?"}

@@ -9,12 +9,11 @@ from typing import Dict, Iterator, List, Optional
 from ..batching import FAILED, Result, Work, by_dask, by_processes, one_by_one
 from ..certifying import WAYS
 from ..floating import CHOICES
+from ..interrupts import INTERRUPTED, WORDS
 from ..reading import end_of, name_of
 from ..tables import LPD_CHECK, OTHER, PYTHON_ALONE, SAME, Cells, Kept, Writer, against, cells_of, columns_of, read_optima
 from ..ways import SECONDS, Effort
 from .common import add_options, add_presolve, budget, options_of, seconds, tell
-
-INTERRUPTED = 130
 
 
 def jobs(word: str) -> int:
@@ -117,7 +116,7 @@ def run(words: argparse.Namespace) -> int:
             print(writer.line(cells), end="", flush=True)
         is_whole = True
     except KeyboardInterrupt:
-        tell(f"lpd: interrupted: {len(rows)} of {len(paths)} models are done" + (f", and {words.resume} has them" if kept else ""))
+        tell(f"{WORDS}: {len(rows)} of {len(paths)} models are done" + (f", and {words.resume} has them" if kept else ""))
     print(writer.foot(), end="")
     if kept:
         kept.write()
