@@ -1,7 +1,9 @@
 """The tools that people begin by hand: their help, and what talk.py says where it is asked for what there is not."""
+import shutil
 import socket
 import subprocess
 import sys
+import tempfile
 import unittest
 from pathlib import Path
 from typing import List
@@ -9,6 +11,7 @@ from typing import List
 from .serving import HOST, Server, by_bytes, commands
 
 TOOLS = Path(__file__).resolve().parents[3] / "tools"
+GATE = TOOLS.parent / ".ci" / "run"
 
 
 class Help(unittest.TestCase):
@@ -18,6 +21,17 @@ class Help(unittest.TestCase):
                 said = subprocess.run([sys.executable, str(TOOLS / f"{name}.py"), "--help"], capture_output=True, text=True, timeout=300)
                 self.assertEqual((said.returncode, said.stderr), (0, ""))
                 self.assertIn(f"{name}.py", said.stdout)
+
+    def test_the_gate_begins_at_no_word(self) -> None:
+        """With nothing on the path that a gate could be made of."""
+        with tempfile.TemporaryDirectory() as folder:
+            Path(folder, "cat").symlink_to(shutil.which("cat") or "")
+            cases = {("--help",): 0, ("-h",): 0, ("help",): 0, ("--hlep",): 2, ("",): 2, ("--help", "more"): 2}
+            for words, status in cases.items():
+                said = subprocess.run(["/bin/sh", str(GATE), *words], env={"PATH": folder}, capture_output=True, text=True, timeout=300)
+                self.assertEqual(said.returncode, status, words)
+                self.assertIn(".ci/run takes no words", said.stderr if status else said.stdout)
+                self.assertEqual(said.stdout if status else said.stderr, "")
 
 
 class Talk(unittest.TestCase):
