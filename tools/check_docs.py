@@ -3,7 +3,7 @@
 
     check_docs.py
 
-Each path in backquotes in the pages at the top and in docs/ has to exist, each link has to lead to a file, and each name in
+Each path in backquotes in the pages at the top and in docs/ and its folders has to exist, each link has to lead to a file, and each name in
 backquotes in docs/READING.md and docs/PROOFS.md has to be a crate or stand in the sources of one. Each crate stands in one
 layer of the drawing in docs/ARCHITECTURE.md, and names in crates.txt only crates of its layer and of those below. It prints
 what is missing; the status is 1 where something is.
@@ -77,7 +77,7 @@ def misplaced():
 def main():
     names = set(re.findall(r"[\w◌-]+", sources())) | {path.name for path in (TOP / "crates").iterdir()}
     named = {TOP / "docs" / "READING.md", TOP / "docs" / "PROOFS.md"}
-    documents = [*sorted(TOP.glob("*.md")), *sorted((TOP / "docs").glob("*.md"))]
+    documents = [*sorted(TOP.glob("*.md")), *sorted((TOP / "docs").rglob("*.md"))]
     missing = [(document, what) for document in documents for what in missing_in(document, names if document in named else None)]
     for document, what in missing:
         print(f"{document.relative_to(TOP)}: there is no {what}")
