@@ -6,6 +6,7 @@ from typing import NamedTuple
 from unittest import mock
 
 from lpd.__main__ import main
+from lpd.version import version
 
 
 class Said(NamedTuple):
@@ -33,3 +34,8 @@ def command(*words: str, stdin: bytes = b"") -> Said:
         except SystemExit as ended:
             status = int(ended.code or 0)
     return Said(status, output.data().decode("latin-1"), complaints.getvalue())
+
+
+def reported(text: str) -> str:
+    """A report of the command solve, whose last line names the version."""
+    return f"{text}\nlpd {version()}\n"

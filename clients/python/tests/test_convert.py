@@ -16,7 +16,7 @@ from lpd.dialects import DIALECTS, PROFILE, Inexact, written
 from lpd.model import Model
 from lpd.names import Renamed
 
-from .commands import command
+from .commands import command, reported
 from .models import has_program, some_model
 
 MODELS = Path(__file__).resolve().parents[3] / "examples" / "models"
@@ -282,12 +282,12 @@ class Command(unittest.TestCase):
         self.assertEqual((said.status, said.output), (9, ""))
         self.assertIn("--convert", said.complaints)
         self.assertEqual(command("solve", "-", "--convert", stdin=text).status, 2)
-        self.assertEqual(command("solve", "-", "--relax", "--show", "answer", stdin=text)[:2], (0, "OPTIMAL 5\n"))
+        self.assertEqual(command("solve", "-", "--relax", "--show", "answer", stdin=text)[:2], (0, reported("OPTIMAL 5\n")))
         said = command("solve", "-", "--csv", stdin=plain("UP BND x 3", "UP BND x 3\n UP OTHER x 1").encode())
         self.assertEqual(said.output.splitlines()[1:3], ["answer,OPTIMAL,5,,", "column,x,3,-1,"])
         self.assertEqual(said.complaints, "1 CARD OF OTHER SETS NOT READ: line 11 (docs/FORMATS.md)\n")
         said = command("solve", "-", "--show", "prices", "--decimals", "1", stdin=PLAIN.encode())
-        self.assertEqual(said.output, "OPTIMAL 5 (5.0)\n\nrow   price\nneed  2 (2.0)\n\ncolumn  reduced cost\nx       -1 (-1.0)\n")
+        self.assertEqual(said.output, reported("OPTIMAL 5 (5.0)\n\nrow   price\nneed  2 (2.0)\n\ncolumn  reduced cost\nx       -1 (-1.0)\n"))
 
 
 class ForOthers(unittest.TestCase):

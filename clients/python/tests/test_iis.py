@@ -17,7 +17,7 @@ from lpd.irreducible import Side, best_of, only, read_iis, renamed, satisfies
 from lpd.model import Model
 from lpd.once import has_command
 
-from .commands import command
+from .commands import command, reported
 from .models import has_program, some_model
 
 try:
@@ -162,7 +162,7 @@ class WithTheProgram(unittest.TestCase):
         told = "10 more is enough for the others, and point 1 satisfies the others: brochures 120, manuals 40, textbooks 30, with 160 of hours."
         self.assertIn(f"  {SENTENCES[0]}; {told}\n", said.output)
         self.assertNotIn("POINT", said.output)
-        self.assertEqual(command("solve", str(DEPARTMENTS), "--show", "answer").output, "INFEASIBLE\n")
+        self.assertEqual(command("solve", str(DEPARTMENTS), "--show", "answer").output, reported("INFEASIBLE\n"))
 
     def test_one_row_and_the_columns(self) -> None:
         said = command("solve", "-", stdin=PROTEIN.encode())
@@ -176,7 +176,7 @@ class WithTheProgram(unittest.TestCase):
         self.assertEqual(lines[3].split(), ["1", "the", "upper", "limit", "of", "row", "hours", "150", "160", "10", "160"])
         self.assertIn("POINT 2\nx manuals 40\nx textbooks 30\n", said.output)
         said = command("solve", str(MODELS / "diet.mps"), "--iis", "--show", "answer")
-        self.assertEqual(said, (0, "OPTIMAL 92.5\n", "lpd: there is no list: --iis is for an infeasible model, and the answer is OPTIMAL 92.5\n"))
+        self.assertEqual(said, (0, reported("OPTIMAL 92.5\n"), "lpd: there is no list: --iis is for an infeasible model, and the answer is OPTIMAL 92.5\n"))
 
     def test_json(self) -> None:
         told = json.loads(command("solve", str(DEPARTMENTS), "--iis", "--json").output)["iis"]

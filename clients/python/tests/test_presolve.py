@@ -16,7 +16,7 @@ from lpd.once import has_command
 from lpd.presolving import Size, read_presolved
 from lpd.ways import BOTH, Effort, answered
 
-from .commands import command
+from .commands import command, reported
 from .models import has_program, some_model
 
 MODELS = Path(__file__).resolve().parents[3] / "examples" / "models"
@@ -68,7 +68,7 @@ class Ways(unittest.TestCase):
     def test_a_program_without_the_command(self) -> None:
         with mock.patch("lpd.ways.presolve", side_effect=lpd.CommandMissing("presolve")):
             said = command("solve", str(MODELS / "diet.mps"), "--presolve", "--show", "answer")
-            self.assertEqual(said, (0, "OPTIMAL 92.5\n", "note: this program has no command presolve, so lpd solve was asked\n"))
+            self.assertEqual(said, (0, reported("OPTIMAL 92.5\n"), "note: this program has no command presolve, so lpd solve was asked\n"))
             with mock.patch("lpd.ways.by_lpd", return_value=lpd.Answered(PAST, [], "lpd solve")):
                 said = command("solve", str(MODELS / "diet.mps"), "--with", "none", "--show", "answer")
         self.assertEqual((said.status, said.complaints), (0, "note: lpd solve ends with PAST ADD 1 2\n"))
@@ -106,7 +106,7 @@ class WithTheProgram(unittest.TestCase):
 
     def test_solve(self) -> None:
         said = command("solve", "-", "--presolve", "--show", "answer", stdin=TEXT.encode())
-        self.assertEqual(said, (0, f"OPTIMAL 2\nThis answer is by {BY_PRESOLVE}, accepted by {BOTH}.\n", ""))
+        self.assertEqual(said, (0, reported(f"OPTIMAL 2\nThis answer is by {BY_PRESOLVE}, accepted by {BOTH}.\n"), ""))
         told = json.loads(command("solve", "-", "--presolve", "--json", stdin=TEXT.encode()).output)
         self.assertEqual((told["reduced"], told["way"]), ({"rows": 1, "columns": 2}, BY_PRESOLVE))
         self.assertNotIn("reduced", json.loads(command("solve", "-", "--json", stdin=TEXT.encode()).output))

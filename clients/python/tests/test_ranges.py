@@ -20,7 +20,7 @@ from lpd.once import has_command
 from lpd.pieces import DOWN, UP, Piece, Walk, edge, picture_of
 from lpd.ranging import COST, RHS, Range, number_of, range_of, read_range, with_number
 
-from .commands import Said, command
+from .commands import Said, command, reported
 from .models import has_program, some_model
 
 MODELS = Path(__file__).resolve().parents[3] / "examples" / "models"
@@ -171,10 +171,10 @@ class WithoutTheCommand(unittest.TestCase):
     def test_it_is_told_in_a_line(self) -> None:
         with mock.patch("lpd.commands.range_tables.ranges", side_effect=lpd.CommandMissing("range")):
             said = command("solve", DIET, "--ranges", "--show", "answer")
-        self.assertEqual(said, (0, "OPTIMAL 92.5\n", "lpd: there are no ranges: this program has no command range\n"))
+        self.assertEqual(said, (0, reported("OPTIMAL 92.5\n"), "lpd: there are no ranges: this program has no command range\n"))
         with mock.patch("lpd.commands.range_tables.curve_of", side_effect=lpd.CommandMissing("range")):
             said = command("solve", DIET, "--plot", "energy", "--show", "answer")
-        self.assertEqual(said, (0, "OPTIMAL 92.5\n", "lpd: there is no picture: this program has no command range\n"))
+        self.assertEqual(said, (0, reported("OPTIMAL 92.5\n"), "lpd: there is no picture: this program has no command range\n"))
 
     def test_its_status(self) -> None:
         with tempfile.TemporaryDirectory() as folder:
@@ -322,14 +322,14 @@ class Shown(unittest.TestCase):
 
     def test_no_optimum(self) -> None:
         said = command("solve", str(MODELS / "orders.mps"), "--ranges", "--show", "answer")
-        self.assertEqual((said.status, said.output), (10, "INFEASIBLE\n"))
+        self.assertEqual((said.status, said.output), (10, reported("INFEASIBLE\n")))
         self.assertEqual(said.complaints, "lpd: there are no ranges: --ranges are those of an optimum, and the answer is INFEASIBLE\n")
 
     def test_a_picture(self) -> None:
         with tempfile.TemporaryDirectory() as folder:
             file = f"{folder}/picture.svg"
             said = self.solve(KINKED, "--plot", "need", "--picture", file, "--show", "answer")
-            self.assertEqual((said.status, said.output), (0, "OPTIMAL 4\n"))
+            self.assertEqual((said.status, said.output), (0, reported("OPTIMAL 4\n")))
             self.assertIn("from 1 to 4: 0 to 6, 2 for each unit (2.0000)\nabove 4: INFEASIBLE\n", said.complaints)
             drawn = Path(file).read_text()
             ElementTree.fromstring(drawn)

@@ -19,7 +19,7 @@ from lpd.certifying import NotAnswered
 from lpd.version import version
 from lpd.ways import ALONE, BOTH
 
-from .commands import command
+from .commands import command, reported
 from .models import has_program
 
 PACKAGE = Path(__file__).resolve().parents[1]
@@ -141,7 +141,7 @@ class Shown(unittest.TestCase):
         with tempfile.TemporaryDirectory() as folder:
             path = Path(folder) / "diet.mps.gz"
             path.write_bytes(gzip.compress(Path(DIET).read_bytes()))
-            self.assertEqual(command("solve", str(path), "--show", "answer")[:2], (0, "OPTIMAL 92.5\n"))
+            self.assertEqual(command("solve", str(path), "--show", "answer")[:2], (0, reported("OPTIMAL 92.5\n")))
             path.write_bytes(path.read_bytes()[:-20])
             said = command("solve", str(path))
             self.assertEqual((said.status, said.output), (9, ""))
@@ -154,7 +154,7 @@ class Shown(unittest.TestCase):
         with tempfile.TemporaryDirectory() as folder:
             path = Path(folder) / "model.lp"
             path.write_text(text)
-            self.assertEqual(command("solve", str(path), "--show", "answer")[:2], (0, "OPTIMAL 14.65\n"))
+            self.assertEqual(command("solve", str(path), "--show", "answer")[:2], (0, reported("OPTIMAL 14.65\n")))
             path.write_text(text.replace("End", "Generals\n x\nEnd"))
             self.assertIn("whole-number columns (x)", command("solve", str(path), "--convert").complaints)
             path.write_text("Maximize\n gain: 3 x +\nSubject To\n")
@@ -166,7 +166,7 @@ class Shown(unittest.TestCase):
         with tempfile.TemporaryDirectory() as folder:
             path = Path(folder) / "model.mod"
             path.write_text(text)
-            self.assertEqual(command("solve", str(path), "--show", "answer")[:2], (0, "OPTIMAL 18\n"))
+            self.assertEqual(command("solve", str(path), "--show", "answer")[:2], (0, reported("OPTIMAL 18\n")))
 
     def test_the_lp_format_without_glpsol(self) -> None:
         with tempfile.TemporaryDirectory() as folder, mock.patch("shutil.which", return_value=None):

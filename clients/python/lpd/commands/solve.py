@@ -222,6 +222,7 @@ def run(words: argparse.Namespace) -> int:
         print_answer(words, found, model, point, skipped)
         sys.stdout.flush()
         print_more(words, text, found)
+        print(f"\nlpd {version()}")
     if number:
         draw(model, number, words.picture)
     return status_of(found.answer) if found.is_narrow or not found.certificate else PYTHON_ALONE
