@@ -45,6 +45,7 @@ from .errors import (
 from .exact import OutOfTime
 from .from_basis import FromBasis, solve_from
 from .irreducible import Irreducible, Member, iis
+from .judging import check_wide
 from .link import Link
 from .model import Model, read_model
 from .pieces import Curve, Piece, curve_of
@@ -133,6 +134,7 @@ __all__ = [
     "answered",
     "certify",
     "check",
+    "check_wide",
     "conflict",
     "connect",
     "convert",

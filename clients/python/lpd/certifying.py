@@ -9,23 +9,18 @@ from typing import List, Optional, Sequence, Tuple
 from .basis_file import basis_lines, reordered
 from .certificate import check_lines
 from .dialects import PROFILE, written
-from .errors import CertificateFault, LpdError, ProgramEnded, TextFault
+from .errors import LpdError, ProgramEnded, TextFault
 from .exact import Basis, Simplex, Watch, certificate_lines
 from .floating import NONE, Claim, ask
 from .from_basis import FromBasis, solve_from
+from .judging import LPD_CHECK, PYTHON_ALONE, TOO_WIDE, NotCertified, judged
 from .model import Model, read_model
 from .once import BAD_WORDS
 from .replies import Accepted, Answer, Known, Optimal, Past, Spent
-from .session import Session
 
-TOO_WIDE = 10
 PROGRAM, PYTHON = "lpd", "python"
 WAYS = (PROGRAM, PYTHON)
 NO_BASIS = "it gives no basis, so the steps begin where the sums of all rows are basic"
-
-
-class NotCertified(LpdError):
-    """A checker does not accept the certificate that was found."""
 
 
 class NotAnswered(LpdError):
@@ -53,43 +48,34 @@ class Exact:
 @dataclass(frozen=True)
 class Certified:
     """What is exactly true, by a certificate; what the solver said; the steps from its basis, and what took them (see
-    `Exact`). `narrow` says whether the program's checker accepted the certificate; if not, `why` says which number does
-    not fit it, and the checker in Python alone accepted it."""
+    `Exact`). `judge` is by whom the certificate is accepted beside the checker in Python (see `Judged`), and `why` says
+    which number does not fit `lpd check`, where that does not judge it."""
 
     known: Known
     certificate: List[str]
     claim: Claim
     steps: int
-    narrow: bool
+    judge: str
     why: str = ""
     way: str = PYTHON
     start: str = ""
     notes: List[str] = field(default_factory=list)
+
+    @property
+    def narrow(self) -> bool:
+        """Whether all numbers fit `lpd check`, which accepted the certificate."""
+        return self.judge == LPD_CHECK
+
+    @property
+    def is_proved(self) -> bool:
+        """Whether a proved checker accepted the certificate."""
+        return self.judge != PYTHON_ALONE
 
     def off(self) -> Optional[Fraction]:
         """How much more the solver's value is than the exact one."""
         if isinstance(self.known, Optimal) and self.claim.value is not None:
             return self.claim.value - self.known.value
         return None
-
-
-def judged(text: str, certificate: List[str]) -> "tuple[Optional[Known], str]":
-    """What the program's checker accepts, or why it cannot judge: a number of the text, the certificate or a sum is too wide."""
-    with Session() as session:
-        try:
-            session.load(text)
-            verdict = session.check(certificate)
-        except TextFault as fault:
-            if fault.fault != TOO_WIDE:
-                raise
-            return None, f"line {fault.line} of the model has a number past 127 bits"
-        except CertificateFault as unfit:
-            return None, f"line {unfit.line} of the certificate has a number past 127 bits"
-    if isinstance(verdict, Past):
-        return None, f"the check comes to {str(verdict)[:80]}"
-    if not isinstance(verdict, Accepted):
-        raise NotCertified(f"lpd check says {verdict} to the certificate")
-    return verdict.known, ""
 
 
 def certified(model: Model, claim: Claim, watch: Optional[Watch] = None) -> Tuple[Known, List[str], int]:
@@ -168,9 +154,8 @@ def certify(text: str, solver: str = "glpsol", seconds: Optional[float] = None, 
     claim = ask(solver, model, seconds)
     with Watch(seconds) as watch:
         found = made_exact(text, model, claim, way, watch)
-    by_checker, why = judged(text, found.certificate)
-    if by_checker is not None and by_checker != found.known:
-        raise NotCertified(f"lpd check says {by_checker}, and the checker in Python {found.known}")
+    by = judged(text, found.certificate)
+    if by.known not in (None, found.known):
+        raise NotCertified(f"{by.judge} says {by.known}, and the checker in Python {found.known}")
     notes = ([] if claim.basis or solver == NONE else [NO_BASIS]) + found.notes
-    steps, narrow = found.steps, by_checker is not None
-    return Certified(found.known, found.certificate, claim, steps, narrow, why, found.way, found.start, notes)
+    return Certified(found.known, found.certificate, claim, found.steps, by.judge, by.why, found.way, found.start, notes)

@@ -175,7 +175,7 @@ def is_too_wide(word: str) -> bool:
 
 class CertificateFault(Refused):
     """A text spells no certificate. `line` is the first that does not fit, and `is_wide` says whether that is for a number past
-    127 bits alone, which the checker in Python takes with wide=True (--wide)."""
+    127 bits alone, which lpd check --wide takes, and the checker in Python with wide=True (--wide)."""
 
     code = 14
     hint = (
@@ -189,7 +189,8 @@ class CertificateFault(Refused):
         self.is_wide = len(words) == 3 and words[0] in ("x", "y", "r") and is_too_wide(words[2])
         what = "does not fit"
         if self.is_wide:
-            what, self.hint = "has a number past 127 bits", "The checker in Python takes numbers of any width with --wide (wide=True)."
+            what = "has a number past 127 bits"
+            self.hint = "Numbers of any width are for lpd check --wide, and for the checker in Python with --wide (wide=True)."
         super().__init__(f"ERR 14 CERT {line}", f"line {line} of the certificate {what}{quoted(text)}")
 
 

@@ -13,8 +13,16 @@ from .session import count_of, encoded, known_of, past_of
 
 REFUSED, BAD_WORDS = 9, 2
 # Words of each command with which it refuses a text that has no model.
-WORDS = {"basis": ["basis"], "iis": ["iis"], "presolve": ["presolve"], "range": ["range", "cost", "x"]}
+WORDS = {
+    "basis": ["basis"],
+    "check --wide": ["check", "--wide"],
+    "iis": ["iis"],
+    "presolve": ["presolve"],
+    "range": ["range", "cost", "x"],
+}
 NO_MODEL = ["ENDATA"]
+# What is refused in the lines behind the text: a certificate, and a basis file.
+BEHIND = (["14"], ["17"])
 
 
 def output_of(
@@ -36,7 +44,7 @@ def output_of(
     lines, complaint = done.stdout.decode("latin-1").split("\n")[:-1], done.stderr.decode("latin-1").strip()
     if done.returncode == REFUSED and lines:
         replied = words_of(lines[0])
-        raise refusal(replied, " ".join(words), behind if replied[1:2] == ["17"] else body)
+        raise refusal(replied, " ".join(words), behind if replied[1:2] in BEHIND else body)
     if done.returncode == BAD_WORDS:
         raise CommandMissing(words[0], complaint)
     if done.returncode:

@@ -55,6 +55,13 @@ def past_of(words: Sequence[str]) -> Optional[Past]:
     return Past(words[1], value_of(words[2]), value_of(words[3])) if len(words) == 4 and words[0] == "PAST" else None
 
 
+def verdict_of(words: Sequence[str]) -> Optional[Verdict]:
+    known = known_of(words[1:]) if words[:1] == ["YES"] else None
+    if known is not None:
+        return Accepted(known)
+    return Rejected(count_of(words[1])) if len(words) == 2 and words[0] == "NO" else past_of(words)
+
+
 FALLS = ("SINGULAR", "UNFIT", "PAST", "SPENT")
 
 
@@ -223,12 +230,7 @@ class Session:
         lines = lines_of(certificate) if isinstance(certificate, str) else list(certificate)
         end = next((n for n, line in enumerate(lines, 1) if words_of(line) == ["END"]), None)
         words = self.ask(["CHECK"], lines + ["END"] if end is None else lines[:end])
-        verdict: Optional[Verdict] = past_of(words)
-        if words[0] == "YES":
-            known = known_of(words[1:])
-            verdict = None if known is None else Accepted(known)
-        elif words[0] == "NO" and len(words) == 2:
-            verdict = Rejected(count_of(words[1]))
+        verdict = verdict_of(words)
         if verdict is None:
             raise unexpected(words)
         return verdict

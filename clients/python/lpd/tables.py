@@ -12,16 +12,16 @@ from typing import Dict, List, Optional, Sequence
 from .batching import Result
 from .certifying import Certified
 from .errors import LpdError
+from .judging import LPD_CHECK, LPD_CHECK_WIDE, PYTHON_ALONE
 from .number_text import NotANumber, number, rounded, shown
-from .ways import BOTH
+from .ways import BOTH, WIDE
 
 Cells = Dict[str, str]
 ANSWERED = ["model", "rows", "columns", "answer", "value", "way", "accepted by", "pivots", "seconds"]
 REDUCED = ["rows left", "columns left"]  # by lpd presolve
 CERTIFIED = ["exactly", "judge", "claim", "off", "certify seconds"]
 # How wide the columns of a table are that is written before all its cells are known.
-WIDTHS = {"rows": 4, "columns": 7, "rows left": 9, "columns left": 12, "answer": 10, "value": 24, "way": 42, "accepted by": 12, "pivots": 6, "seconds": 8}
-LPD_CHECK, PYTHON_ALONE = "lpd check", "python alone"
+WIDTHS = {"rows": 4, "columns": 7, "rows left": 9, "columns left": 12, "answer": 10, "value": 24, "way": 42, "accepted by": 16, "pivots": 6, "seconds": 8, "judge": 16}
 SAME, OTHER = "same", "OTHER"
 
 
@@ -59,7 +59,7 @@ def not_read(count: int) -> str:
 def cells_of(result: Result) -> Cells:
     """All cells of a result: texts, empty where there is nothing to say."""
     found = result.certified
-    judge = {True: LPD_CHECK, False: PYTHON_ALONE}
+    judges = {"": "", BOTH: LPD_CHECK, WIDE: LPD_CHECK_WIDE}
     notes = ([not_read(result.not_read)] if result.not_read else []) + result.notes
     return {
         "model": result.name,
@@ -70,11 +70,11 @@ def cells_of(result: Result) -> Cells:
         "answer": result.answer,
         "value": result.value,
         "way": result.way.partition(",")[0],
-        "accepted by": judge[result.accepted_by == BOTH] if result.accepted_by else "",
+        "accepted by": judges.get(result.accepted_by, PYTHON_ALONE),
         "pivots": "" if result.pivots is None else str(result.pivots),
         "seconds": f"{result.seconds:.3f}",
         "exactly": str(found.known) if found else "",
-        "judge": judge[found.narrow] if found else "",
+        "judge": found.judge if found else "",
         "claim": claim_of(found) if found else "",
         "off": (off_of(found) or "") if found else "",
         "certify seconds": f"{result.certify_seconds:.3f}" if found else "",

@@ -15,10 +15,11 @@ from dataclasses import dataclass, field, replace
 from typing import Iterator, List, Optional
 
 from .certificate import check_lines
-from .certifying import PROGRAM, TOO_WIDE, Exact, NotCertified, judged, made_exact
+from .certifying import PROGRAM, Exact, made_exact
 from .errors import CommandMissing, LpdError, ProgramEnded, TextFault
 from .exact import OutOfTime, Watch
 from .floating import NONE, SOLVERS, ask
+from .judging import LPD_CHECK, LPD_CHECK_WIDE, TOO_WIDE, Judged, NotCertified, judged
 from .model import Model
 from .presolving import Presolved, Size, presolve
 from .program import Program
@@ -26,7 +27,7 @@ from .replies import Accepted, Answer, Past, Spent
 from .session import Session
 
 SECONDS = 60.0  # for all other ways of a model together
-BOTH, ALONE = "lpd check and the checker in Python", "the checker in Python alone"
+BOTH, WIDE, ALONE = (f"{LPD_CHECK} and the checker in Python", f"{LPD_CHECK_WIDE} and the checker in Python", "the checker in Python alone")
 SOLVE, PRESOLVE = "lpd solve", "lpd presolve"
 
 
@@ -48,7 +49,7 @@ class Effort:
 @dataclass(frozen=True)
 class Answered:
     """An answer, and its certificate, which Past and Spent have not; by which way it came, and who accepted the certificate
-    (BOTH, or ALONE and why). The notes say what came of the ways that led to none. `reduced` is the size of the smaller model that
+    (BOTH, WIDE, or ALONE and why). The notes say what came of the ways that led to none. `reduced` is the size of the smaller model that
     `lpd presolve` solved."""
 
     answer: Answer
@@ -60,9 +61,9 @@ class Answered:
     reduced: Optional[Size] = None
 
     @property
-    def is_narrow(self) -> bool:
-        """Whether the proved checker accepted the certificate."""
-        return self.accepted_by == BOTH
+    def is_proved(self) -> bool:
+        """Whether a proved checker accepted the certificate."""
+        return self.accepted_by in (BOTH, WIDE)
 
     @property
     def is_by_program(self) -> bool:
@@ -101,7 +102,7 @@ def by_presolve(text: str, model: Model, seconds: Optional[float] = None) -> Ans
     """The answer of `lpd presolve`, whose certificate both checkers accept for the model as it is given."""
     found = presolve(text, seconds=seconds)
     if found.certificate:
-        for known in (judged(text, found.certificate)[0], known_in_python(model, found.certificate)):
+        for known in (judged(text, found.certificate).known, known_in_python(model, found.certificate)):
             if known != found.answer:
                 raise NotCertified(f"lpd presolve answers {found.answer}, and a checker says {known} to its certificate")
     notes = [f"lpd presolve solved the model as it is, since the smaller one ended with {found.plain}"] if found.plain else []
@@ -156,11 +157,17 @@ def by_others(text: str, model: Model, effort: Effort, watch: Watch) -> Answered
     solver = other_solver(effort.solver)
     claim = ask(solver, model, watch.left())
     found = made_exact(text, model, claim, watch=watch)
-    by_checker, why = judged(text, found.certificate)
-    if by_checker is not None and by_checker != found.known:
-        raise LpdError(f"lpd check says {by_checker}, and the checker in Python {found.known}")
-    accepted = BOTH if by_checker is not None else f"{ALONE}, since {why}"
-    return Answered(found.known, found.certificate, way_of(found, solver), accepted, found.steps, found.notes)
+    by = judged(text, found.certificate)
+    if by.known not in (None, found.known):
+        raise NotCertified(f"{by.judge} says {by.known}, and the checker in Python {found.known}")
+    return Answered(found.known, found.certificate, way_of(found, solver), accepted_by(by), found.steps, found.notes)
+
+
+def accepted_by(found: Judged) -> str:
+    """Who accepted a certificate, in words."""
+    if found.judge == LPD_CHECK:
+        return BOTH
+    return WIDE if found.judge == LPD_CHECK_WIDE else f"{ALONE}, since {found.why}"
 
 
 def by_program(text: str, model: Model, effort: Effort) -> Answered:

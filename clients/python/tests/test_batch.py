@@ -143,7 +143,7 @@ class Batch(unittest.TestCase):
     @unittest.skipUnless(shutil.which("clp"), "clp is not on the path")
     def test_certificates(self) -> None:
         said = command("batch", str(MODELS), "--with", "clp")
-        self.assertIn("8 certified by lpd check, 0 by the checker in Python alone", said.output)
+        self.assertIn("8 certified by lpd check, 0 by lpd check --wide, 0 by the checker in Python alone", said.output)
 
 
 @unittest.skipUnless(has_program(), "the program is not built")

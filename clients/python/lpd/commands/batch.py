@@ -10,8 +10,9 @@ from ..batching import FAILED, Result, Work, by_dask, by_processes, one_by_one
 from ..certifying import WAYS
 from ..floating import CHOICES
 from ..interrupts import INTERRUPTED, WORDS
+from ..judging import LPD_CHECK, LPD_CHECK_WIDE, PYTHON_ALONE
 from ..reading import end_of, name_of
-from ..tables import LPD_CHECK, OTHER, PYTHON_ALONE, SAME, Cells, Kept, Writer, against, cells_of, columns_of, read_optima
+from ..tables import OTHER, SAME, Cells, Kept, Writer, against, cells_of, columns_of, read_optima
 from ..ways import SECONDS, Effort
 from .common import add_options, add_presolve, budget, options_of, seconds, tell
 
@@ -85,9 +86,10 @@ def summary(rows: List[Cells]) -> str:
         return sum(cells.get(column, "") == word for cells in rows)
 
     said = [f"{len(rows)} models: " + ", ".join(f"{count} {kind}" for kind, count in sorted(counts.items()))]
-    said.append(f"{count('accepted by', LPD_CHECK)} accepted by lpd check, {count('accepted by', PYTHON_ALONE)} by the checker in Python alone")
-    if any(cells.get("exactly") for cells in rows):
-        said.append(f"{count('judge', LPD_CHECK)} certified by lpd check, {count('judge', PYTHON_ALONE)} by the checker in Python alone")
+    for column, what in (("accepted by", "accepted"), ("judge", "certified")):
+        narrow, wide, alone = (count(column, judge) for judge in (LPD_CHECK, LPD_CHECK_WIDE, PYTHON_ALONE))
+        if column == "accepted by" or any(cells.get("exactly") for cells in rows):
+            said.append(f"{narrow} {what} by {LPD_CHECK}, {wide} by {LPD_CHECK_WIDE}, {alone} by the checker in Python alone")
     if any("optimum" in cells for cells in rows):
         said.append(f"{count('optimum', SAME)} answers as they are known, {count('optimum', OTHER)} others")
     skipped = sum("OF OTHER SETS NOT READ" in cells.get("note", "") for cells in rows)

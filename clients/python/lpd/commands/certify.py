@@ -31,8 +31,8 @@ def add(commands: "argparse._SubParsersAction[argparse.ArgumentParser]") -> None
 
 
 def judge_of(found: Certified) -> str:
-    if found.narrow:
-        return "accepted by lpd check, and by the checker in Python"
+    if found.is_proved:
+        return f"accepted by {found.judge}, and by the checker in Python" + (f": {found.why}" if found.why else "")
     return f"accepted by the checker in Python alone: {found.why}"
 
 
@@ -47,7 +47,7 @@ def steps_of(found: Certified) -> str:
 def as_json(found: Certified, solver: str, seconds: float) -> str:
     told: Dict[str, object] = {"answer": str(found.known), "solver": solver, "said": claim_of(found), "off": off_of(found)}
     told.update({"steps": found.steps, "by": found.way, "start": found.start, "notes": found.notes})
-    told.update({"accepted_by_lpd_check": found.narrow, "why": found.why, "seconds": round(seconds, 3)})
+    told.update({"judge": found.judge, "accepted_by_lpd_check": found.is_proved, "why": found.why, "seconds": round(seconds, 3)})
     return json.dumps({**told, "certificate": found.certificate}, indent=2)
 
 
@@ -79,4 +79,4 @@ def run(words: argparse.Namespace) -> int:
             print(f"off by        {off_of(found)}, as {words.solver} prints its value")
         print(f"from there    {steps_of(found)}")
         print(f"certificate   {judge_of(found)}")
-    return status_of(found.known) if found.narrow else PYTHON_ALONE
+    return status_of(found.known) if found.is_proved else PYTHON_ALONE

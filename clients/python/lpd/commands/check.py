@@ -4,15 +4,16 @@ from __future__ import annotations
 import argparse
 import re
 from dataclasses import replace
-from typing import Dict, List, Optional, Tuple
+from typing import Dict, List, NamedTuple, Optional, Tuple
 
 from ..certificate import check_lines
-from ..errors import LpdError
+from ..errors import LpdError, ProgramMissing
+from ..judging import PYTHON_ALONE, Judged, NotCertified, judged_wide
 from ..model import Model, lines_of, read_lines, words_of
 from ..number_text import NotANumber, number, shown
 from ..reading import read_model_file
 from ..replies import Accepted, Infeasible, Known, Optimal, Rejected, Unbounded
-from .common import add_options, as_text, converted, options_of, read, skipped_words, tell
+from .common import add_options, as_text, converted, lines_text, options_of, read, skipped_words, tell
 
 OTHERS: Dict[str, Known] = {"INFEASIBLE": Infeasible(), "UNBOUNDED": Unbounded()}
 KINDS = ("OPTIMAL", "INFEASIBLE", "UNBOUNDED", "CLASH")
@@ -35,7 +36,7 @@ def add(commands: "argparse._SubParsersAction[argparse.ArgumentParser]") -> None
     add_options(checks)
     claim = "what the certificate has to show, exactly: the optimal value, INFEASIBLE or UNBOUNDED"
     checks.add_argument("--claim", metavar="ANSWER", help=claim)
-    checks.add_argument("--wide", action="store_true", help="numbers of any width")
+    checks.add_argument("--wide", action="store_true", help="takes numbers of any width, and has lpd check --wide judge too, if the program has it")
 
 
 def answer_of(claim: str, wide: bool = True) -> Known:
@@ -76,27 +77,35 @@ def without_comments(certificate: str) -> List[str]:
     return [line for line in lines_of(certificate) if line.strip() and not line.startswith("#")]
 
 
-def model_of(words: argparse.Namespace) -> "tuple[Model, List[str]]":
-    """The model, and what stands behind its text."""
+class Given(NamedTuple):
+    """A model, the text that spells it, in which form, and the lines behind that."""
+
+    model: Model
+    text: str
+    is_fixed: bool
+    behind: List[str]
+
+
+def given(words: argparse.Namespace) -> Given:
     text = with_newline(as_text(read_model_file(words.model)))
     lines = lines_of(text)
     if words.convert or words.relax:
         found = converted(words, text.encode("latin-1"), replace(options_of(words), wide=words.wide))
         end = next((n for n, line in enumerate(lines, 1) if line[:1] not in " \t" and words_of(line)[0].upper() == "ENDATA"), len(lines))
-        return found.model, lines[end:]
-    model, count = read_lines(lines, words.form == "fixed", words.wide)
-    return model, lines[count:]
+        return Given(found.model, found.text, False, lines[end:])
+    is_fixed = words.form == "fixed"
+    model, count = read_lines(lines, is_fixed, words.wide)
+    return Given(model, lines_text(lines[:count]), is_fixed, lines[count:])
 
 
 def run(words: argparse.Namespace) -> int:
     claims = [] if words.claim is None else [answer_of(words.claim)]
-    model, behind = model_of(words)
-    given = behind if words.certificate is None else without_comments(as_text(read(words.certificate)))
-    printed, certificate = parted(given)
-    skipped = skipped_words(model)
+    of = given(words)
+    printed, certificate = parted(of.behind if words.certificate is None else without_comments(as_text(read(words.certificate))))
+    skipped = skipped_words(of.model)
     if skipped:
         tell(skipped)
-    verdict = check_lines(model, certificate, words.wide)
+    verdict = check_lines(of.model, certificate, words.wide)
     if isinstance(verdict, Rejected):
         why = verdict.why or ""
         print(f"{verdict}\n{why[:1].upper()}{why[1:]}.")
@@ -105,8 +114,22 @@ def run(words: argparse.Namespace) -> int:
     if other is not None:
         print(f"NO CLAIM\n{told(verdict, other)}")
         return 1
-    print(verdict)
+    judge = judge_of(of, certificate, verdict.known) if words.wide else ""
+    print("\n".join([str(verdict), *([judge] if judge else [])]))
     return 0
+
+
+def judge_of(of: Given, certificate: List[str], known: Known) -> str:
+    """By whom a certificate is accepted whose numbers may have any width, and which the checker in Python accepts."""
+    try:
+        found = judged_wide(of.text, certificate, of.is_fixed)
+    except ProgramMissing as missing:
+        found = Judged(PYTHON_ALONE, why=str(missing))
+    if found.judge == PYTHON_ALONE:
+        return f"accepted by the checker in Python alone: {found.why}"
+    if found.known != known:
+        raise NotCertified(f"{found.judge} says {found.known}, and the checker in Python {known}")
+    return f"accepted by {found.judge}, and by the checker in Python"
 
 
 def told(verdict: Accepted, claim: Known) -> str:

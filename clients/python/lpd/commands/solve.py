@@ -225,7 +225,7 @@ def run(words: argparse.Namespace) -> int:
         print(f"\nlpd {version()}")
     if number:
         draw(model, number, words.picture)
-    return status_of(found.answer) if found.is_narrow or not found.certificate else PYTHON_ALONE
+    return status_of(found.answer) if found.is_proved or not found.certificate else PYTHON_ALONE
 
 
 def more_in_json(words: argparse.Namespace, text: str, found: Answered, ranges: Optional[Ranges]) -> Dict[str, object]:

@@ -1,0 +1,97 @@
+"""Who accepts a certificate: `lpd check`, whose numbers have 127 bits; where these do not do `lpd check --wide`, whose numbers have
+any width, if the program has it; or the checker in Python alone."""
+from __future__ import annotations
+
+from dataclasses import dataclass, replace
+from typing import List, Optional, Sequence
+
+from .errors import CertificateFault, CommandMissing, LpdError, TextFault
+from .model import words_of
+from .once import output_of, unexpected_of
+from .replies import Accepted, Known, Past, Verdict
+from .session import Session, body_of, verdict_of
+
+TOO_WIDE = 10  # the fault of a text
+LPD_CHECK, LPD_CHECK_WIDE, PYTHON_ALONE = "lpd check", "lpd check --wide", "python alone"
+
+
+class NotCertified(LpdError):
+    """A checker does not accept the certificate that was found."""
+
+
+class TooLong(LpdError):
+    """A number of a certificate, or of its check, that does not fit 127 bits."""
+
+
+@dataclass(frozen=True)
+class Judged:
+    """By whom a certificate is accepted beside the checker in Python (LPD_CHECK, LPD_CHECK_WIDE, or nobody: PYTHON_ALONE), what it
+    shows them, and why those before cannot judge it."""
+
+    judge: str
+    known: Optional[Known] = None
+    why: str = ""
+
+
+def check_wide(text: str, certificate: Sequence[str], fixed: bool = False, path: Optional[str] = None) -> Verdict:
+    """The verdict of `lpd check --wide` on a certificate, whose numbers may have any width, for the model of a text, whose
+    numbers have 127 bits. A program without it raises CommandMissing."""
+    form = ["--form", "fixed"] if fixed else []
+    end = next((n for n, line in enumerate(certificate, 1) if words_of(line) == ["END"]), len(certificate))
+    try:
+        lines = output_of(["check", "--wide", *form], body_of(text, fixed), certificate[:end], path)
+    except CommandMissing as missing:
+        raise CommandMissing("check --wide", missing.complaint) from None
+    words = words_of(lines[0]) if lines else []
+    verdict = verdict_of(words)
+    if verdict is None:
+        raise unexpected_of("check", words, "a verdict stands")
+    return verdict
+
+
+def judged(text: str, certificate: List[str]) -> Judged:
+    """By whom a certificate is accepted that the checker in Python accepts."""
+    try:
+        return Judged(LPD_CHECK, by_check(text, certificate))
+    except TextFault as fault:
+        return too_wide(fault)
+    except TooLong as long:
+        found = judged_wide(text, certificate)
+        return replace(found, why=f"{long}, and {found.why}" if found.why else str(long))
+
+
+def judged_wide(text: str, certificate: Sequence[str], fixed: bool = False) -> Judged:
+    """By whom a certificate is accepted whose numbers may have any width: by LPD_CHECK_WIDE, or PYTHON_ALONE, and why."""
+    try:
+        return Judged(LPD_CHECK_WIDE, shown_by(check_wide(text, certificate, fixed), LPD_CHECK_WIDE))
+    except CommandMissing as missing:
+        return Judged(PYTHON_ALONE, why=str(missing))
+    except CertificateFault as unfit:
+        return Judged(PYTHON_ALONE, why=f"{LPD_CHECK_WIDE} does not take line {unfit.line} of the certificate")
+    except TextFault as fault:
+        return too_wide(fault)
+
+
+def too_wide(fault: TextFault) -> Judged:
+    if fault.fault != TOO_WIDE:
+        raise fault
+    return Judged(PYTHON_ALONE, why=f"line {fault.line} of the model has a number past 127 bits")
+
+
+def by_check(text: str, certificate: List[str]) -> Known:
+    """What `lpd check` accepts."""
+    with Session() as session:
+        session.load(text)
+        try:
+            verdict = session.check(certificate)
+        except CertificateFault as unfit:
+            raise TooLong(f"line {unfit.line} of the certificate has a number past 127 bits") from None
+    if isinstance(verdict, Past):
+        raise TooLong(f"the check comes to {str(verdict)[:80]}")
+    return shown_by(verdict, LPD_CHECK)
+
+
+def shown_by(verdict: Verdict, judge: str) -> Known:
+    if not isinstance(verdict, Accepted):
+        raise NotCertified(f"{judge} says {verdict} to the certificate")
+    return verdict.known
