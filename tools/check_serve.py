@@ -9,6 +9,7 @@ It starts 'PROGRAM WORD .. serve' some times, each time for as many links as it 
   and what one link has published another one finds;
 - a bad peer (one that closes within a line, a body or a reply, sends too much or no text, never reads, or resets) ends
   its own link alone: another link is served meanwhile, a later one finds the same basis, and the server goes on;
+- a client that sends more behind its QUIT, or too much, gets the replies that it has not read, and no reset;
 - at its end the server writes how each link ended, and another one can listen at the same address at once;
 - as each link ends, it says so in a line on standard error, with the same word, the link's peer and what it took;
 - a server whose standard error takes nothing serves as another does;
@@ -43,6 +44,8 @@ SECONDS, ALL_SECONDS = 120.0, 600
 STILL = 0.3
 # The most bytes of one link that are read.
 MOST = 2**26
+# How many bytes come behind those, or behind QUIT.
+BEHIND = 2**20
 # What is said of a word that can be no address.
 NO_PLACE = "it is no host, colon and port"
 LISTENING = re.compile(rf"lpd: listening on {re.escape(HOST)}:(\d+)\n")
@@ -267,10 +270,20 @@ def sends_too_much(link: Link) -> Iterator[None]:
 
 
 def sends_too_much_at_last(link: Link) -> Iterator[None]:
-    ask(link, (LOAD, LOADED), (b"SOLVE\n", SOLVED))
-    link.send(b"x" * (MOST - len(LOAD) - len(b"SOLVE\n")))
+    """It gets the reply that it has not read, though it sends more than the server reads."""
+    ask(link, (LOAD, LOADED))
+    link.send(b"SOLVE\n" + b"x" * (MOST - len(LOAD) - len(b"SOLVE\n")))
     yield
-    link.send(b"x")
+    link.send(b"x" * BEHIND)
+    expect("the reply before too much", link.reply(), SOLVED)
+    ends(link)
+
+
+def asks_on_behind_its_quit(link: Link) -> Iterator[None]:
+    """It gets all its replies, of which it reads none before it has sent more than the server reads."""
+    link.send(LOAD + b"SOLVE\nQUIT\n" + b"SOLVE\n" * (BEHIND // 6))
+    yield
+    expect("the last replies", [link.reply() for _ in range(3)], [LOADED, SOLVED, b"BYE\n"])
     ends(link)
 
 
@@ -322,6 +335,7 @@ PEERS: List[Tuple[Peer, Set[str]]] = [
     (closes_in_a_certificate, {"CUT"}),
     (sends_too_much, {"OVER"}),
     (sends_too_much_at_last, {"OVER"}),
+    (asks_on_behind_its_quit, {"DONE"}),
     (sends_no_text, {"DONE"}),
     (never_reads, {"READ", "WRITE"}),
     (closes_in_a_reply, {"READ", "WRITE"}),

@@ -5,8 +5,18 @@ ghost use Rattle.lp_link.specs.LinkState.{sink_of, source_of};
 use crate::again::{counted, read_again, write_again};
 use lp_base::{Failed, Sink, Source};
 use lp_link::Link;
-use std::net::{SocketAddr, TcpStream};
-use std::time::Instant;
+use std::io;
+use std::io::{ErrorKind, Read};
+use std::net::{Shutdown, SocketAddr, TcpStream};
+use std::time::{Clock, Duration, Instant};
+
+// For how many seconds, by how many reads and by how many bytes each, what a client still sends is read and dropped: at
+// most 2 ^ 26 bytes.
+const PATIENCE: u64 = 2;
+
+const MOST_READS: u32 = 16_384;
+
+const MOST_AT_ONCE: usize = 4096;
 
 /// A TCP stream as a link. A call that a signal interrupts is tried again, and a write that takes nothing is a fault.
 #[derive(Drop)]
@@ -33,6 +43,34 @@ impl TcpLink {
             bytes_written: 0,
         }
     }
+
+    /// Closes the link: the client hears at once that no more comes. What it still sends is read and dropped for a while,
+    /// since a system resets a link that is closed with bytes unread, and then a client may lose replies.
+    pub(crate) fn close<R: Clock>(mut self, rt: &R) {
+        if self.stream.shutdown(Shutdown::Write).is_ok() {
+            let _ = drop_rest(rt, &mut self.stream);
+        }
+    }
+}
+
+// Reads and drops what comes, until no more comes or the time is up.
+fn drop_rest<R: Clock>(rt: &R, stream: &mut TcpStream) -> io::Result<()> {
+    let (since, patience) = (Instant::now(rt)?, Duration::from_secs(PATIENCE));
+    let mut dropped = [0; MOST_AT_ONCE];
+    for _ in 0..MOST_READS {
+        let left = patience.saturating_sub(since.elapsed(rt)?);
+        if left.is_zero() {
+            break;
+        }
+        stream.set_read_timeout(Some(left))?;
+        match stream.read(&mut dropped) {
+            Ok(0) => break,
+            Ok(_) => {}
+            Err(error) if error.kind() == ErrorKind::Interrupted => {}
+            Err(error) => return Err(error),
+        }
+    }
+    Ok(())
 }
 
 // So many bytes more, where the call did not fail.

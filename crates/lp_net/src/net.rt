@@ -10,7 +10,7 @@ use std::net::TcpListener;
 use std::time::{Clock, Instant};
 
 /// Gives one worker the links of a socket, which others may share. Where there is no socket, none is given. When a link
-/// comes back, it is closed, and a line on standard error says how it ended; a fault of that write changes nothing.
+/// comes back, it is closed, after which a line on standard error says how it ended; a fault of that write changes nothing.
 #[derive(Drop)]
 pub struct TcpNet<'a, R> {
     rt: &'a R,
@@ -73,7 +73,7 @@ impl<'a, R: Clock + Eprint> Listen for TcpNet<'a, R> {
     fn give_back(&mut self, link: TcpLink, report: LinkReport) {
         self.links = self.links.saturating_add(1);
         let line = LinkLine::of(self.rt, self.worker, self.links, &link, report);
-        drop(link);
+        link.close(self.rt);
         let _ = eprintln!(self.rt; "{line}");
     }
 }
