@@ -11,6 +11,7 @@ It starts 'PROGRAM WORD .. serve' some times, each time for as many links as it 
   its own link alone: another link is served meanwhile, a later one finds the same basis, and the server goes on;
 - a client that sends more behind its QUIT, or too much, gets the replies that it has not read, and no reset;
 - at its end the server writes how each link ended, and another one can listen at the same address at once;
+- a server that examples/serve/stop.py has end serves the link that is open to its end;
 - as each link ends, it says so in a line on standard error, with the same word, the link's peer and what it took;
 - a server whose standard error takes nothing serves as another does;
 - where it cannot listen or accept, where its words are no command line, and where its output cannot be written, its status
@@ -31,6 +32,7 @@ import subprocess
 import sys
 import tempfile
 import time
+from pathlib import Path
 from types import TracebackType
 from typing import Callable, Iterator, List, NamedTuple, NoReturn, Optional, Set, Tuple, Type
 
@@ -38,6 +40,7 @@ from check_talk import MODEL, SESSION
 from talk import Ended, Link
 
 HOST = "127.0.0.1"
+STOP = Path(__file__).resolve().parent.parent / "examples" / "serve" / "stop.py"
 # How many seconds a reply, a line of the server and its end may take, and all of the checks.
 SECONDS, ALL_SECONDS = 120.0, 600
 # How long a server that takes nothing more is watched.
@@ -400,6 +403,22 @@ def check_accept(command: List[str]) -> None:
     expect("the end of a server that cannot accept", (status, lines, told.count("(status 7)\n")), (7, "1 1 DONE\n", 1))
 
 
+def check_stop(command: List[str]) -> None:
+    """A server that examples/serve/stop.py has end serves the link that is open to its end, and says how all have ended."""
+    each = 20
+    with Server(command, 2, each) as server:
+        with server.link() as link:
+            ask(link, (LOAD, LOADED))
+            stop = subprocess.Popen([sys.executable, str(STOP), f"{HOST}:{server.port}"])
+            while len(server.links()) < each and stop.poll() is None:
+                time.sleep(0.01)
+            ask(link, (b"SOLVE\n", SOLVED), (b"QUIT\n", b"BYE\n"))
+        expect("the status of stop.py", stop.wait(SECONDS), 0)
+        status, lines, told = server.end()
+    words = [line.split(" ")[-1] for line in lines.splitlines()]
+    expect("the end of a server that is stopped", (status, told, words), (0, "", ["DONE"] * (2 * each)))
+
+
 def check_output(command: List[str]) -> None:
     with Server(command, 1, 1, output="/dev/full") as server:
         with server.link() as link:
@@ -469,7 +488,7 @@ def main(command: List[str]) -> int:
     signal.signal(signal.SIGALRM, out_of_time)
     signal.alarm(ALL_SECONDS)
     faults = 0
-    for check in (check_workers, check_session, check_peers, check_accept, check_output, check_errors, check_words):
+    for check in (check_workers, check_session, check_peers, check_stop, check_accept, check_output, check_errors, check_words):
         try:
             check(command)
         except (Wrong, Ended, OSError, subprocess.TimeoutExpired) as error:
