@@ -1,5 +1,5 @@
 // The search: the sides that a certificate uses, one by one.
-ghost use Rattle.std.specs.Prelude.{◌≡◌, ◌<◌, ◌+◌, [], All, IfOk, Some, length, drop as drop_front};
+ghost use Rattle.std.specs.Prelude.{◌≡◌, ◌<◌, ◌+◌, ◌++◌, ◌∷◌, [], All, IfOk, OnOk, Some, length, drop as drop_front};
 ghost use Rattle.spec_model.specs.Truth.{IsInfeasible};
 ghost use Rattle.spec_model.specs.Kept.{IsModel};
 ghost use Rattle.spec_iis.specs.Sides.{IsSide};
@@ -16,6 +16,7 @@ use crate::lists::{Iis, Points, Sides};
 use crate::look::{Look, look_without};
 use crate::trial::{Trial, try_model};
 use lp_check::{Certificate, Known};
+use lp_frac::Fracs;
 use lp_model::Model;
 use lp_solve::{End, solve};
 use spec_iis::Side;
@@ -47,6 +48,16 @@ fn behind(sides: &Sides, i: usize) -> &[Side]
     &sides.as_slice()[i + 1..]
 }
 
+// Keeps the side, and the point that meets the others.
+fn keep(side: Side, point: Fracs, kept: &mut Sides, points: &mut Points) -> Result<(), AllocError>
+    ensures kept { OnOk result (kept.new ≡ kept.old ++ side ∷ []) }
+    ensures points { OnOk result (points.new ≡ points.old ++ point ∷ []) }
+{
+    kept.push(side)?;
+    points.push(point)?;
+    Ok(())
+}
+
 // Leaves out each side, in order, without which the others and the kept ones are infeasible, and keeps it else.
 fn filter(alloc: Global, model: &Model, budget: u64, sides: &Sides) -> Result<Left, AllocError>
     requires model { IsModel model.now }
@@ -62,10 +73,7 @@ fn filter(alloc: Global, model: &Model, budget: u64, sides: &Sides) -> Result<Le
         let side = sides.at(i);
         match look_without(alloc, model, budget, &clash, &kept, side, behind(sides, i))? {
             Look::Clash(few) => clash = few,
-            Look::Point(point) => {
-                kept.push(side)?;
-                points.push(point)?;
-            }
+            Look::Point(point) => keep(side, point, &mut kept, &mut points)?,
             Look::Stopped(end) => return Ok(Left::Stopped(end)),
         }
     }

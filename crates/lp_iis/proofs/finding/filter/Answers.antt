@@ -8,7 +8,7 @@ use Rattle.lp_iis.specs.Ways.{IsSeen}
 use Rattle.lp_iis.proofs.Steps.{ahead_first, ahead_at, others_present, others_read, others_reached}
 use Rattle.lp_iis.proofs.Steps.{ahead_without, ahead_kept, ahead_same}
 use Rattle.lp_iis.proofs.finding.filter.Goals as goal
-use Rattle.lp_iis.proofs.finding.filter.Goals.{in-Clash, in-Point+in_ok-push-in-Point+in_ok-push-in-Point-2}
+use Rattle.lp_iis.proofs.finding.filter.Goals.{in-Clash, in-Point+in_ok-keep-in-Point}
 
 pub loop-i-init : goal.loop-i-init
 loop-i-init c =
@@ -70,12 +70,12 @@ loop-i-preserved c =
           w.clash-is
           (ahead_without c.args.model.now c.args.sides.now c.loop-i.kept c.at-side.result _ c.loop-i.points c.loop-i.clash
           ahead w.in-Clash.few seen)
-      | in-Point+in_ok-push-in-Point+in_ok-push-in-Point-2 w ↦
+      | in-Point+in_ok-keep-in-Point w ↦
           let seen =
           subst₂ (λ s t. IsSeen c.args.budget c.args.model.now (c.loop-i.kept ++ s) t) c.behind.ensures w.in-Point.is
           c.in_ok-few.ensures in
           ahead_same c.args.model.now c.args.sides.now _ _ _ _ _ c.loop-i.clash _
-          (w.kept-is ∙ w.in_ok-push-in-Point.ensures.ok) (w.points-is ∙ w.in_ok-push-in-Point-2.ensures.ok) w.clash-is
+          (w.kept-is ∙ w.in_ok-keep-in-Point.ensures.kept) (w.points-is ∙ w.in_ok-keep-in-Point.ensures.points) w.clash-is
           (ahead_kept c.args.model.now c.args.sides.now c.loop-i.kept c.at-side.result _ c.loop-i.points c.loop-i.clash ahead
           w.in-Point.point seen)
     ]
