@@ -1,0 +1,64 @@
+-- What is known of the sides and points that a search finds.
+use Rattle.std.proofs.Common.{◌≡◌, ℕ, ◌<◌, List, [], ◌∷◌, ◌++◌, All, Some, Result, Ok, Err, length, refl, sym, ◌∙◌}
+use Rattle.std.proofs.Common.{append-nil, ap, subst, ⊎_elim}
+use Rattle.std.proofs.lemmas.List.{append_assoc, get_or_default}
+use Rattle.std.specs.Prelude.{OnOk}
+use Rattle.spec_exact.specs.Fraction.{ℚ}
+use Rattle.spec_exact.proofs.Stops.{length-made}
+use Rattle.spec_model.specs.Model.{Model, width}
+use Rattle.spec_check.specs.declared.certificate.Certificate.{Certificate}
+use Rattle.spec_iis.specs.declared.side.Side.{Side}
+use Rattle.spec_iis.specs.Only.{only, only_column_at}
+use Rattle.spec_iis.specs.Rule.{IsRead, Reaches, used}
+use Rattle.spec_iis.specs.Irreducible.{ArePointsWithout}
+use Rattle.spec_iis.specs.Found.{ExactIis, IsFound, MayFind}
+use Rattle.spec_iis.proofs.Listed.{listed_holds, among_both}
+use Rattle.spec_iis.proofs.Readings.{used_read}
+use Rattle.spec_server.specs.Machine.{opening_budget}
+use Rattle.spec_server.specs.Output.{ended_lines}
+use Rattle.spec_program.specs.IisOut.{IisOut, iis_lines}
+use Rattle.lp_frac.specs.Narrow.{largest}
+use Rattle.lp_solve_out.specs.Prints.{Prints}
+
+-- ---- the sides
+
+-- what holds of all sides of which some are kept holds of those
+reached_hold : (P : Side → Type 0) (m : Model) (kept rest s : List Side) → All P (kept ++ rest) →
+    Reaches m kept rest s → All P s
+reached_hold P m kept [] s all r = subst (All P) (append-nil kept ∙ sym r) all
+reached_hold P m kept (x ∷ rest) s all r =
+    let others : All P (kept ++ rest) =
+    λ k d l. listed_holds P (kept ++ x ∷ rest) _ all (among_both kept x rest k d l) in
+    ⊎_elim (λ e. subst (All P) (sym e) others)
+    (⊎_elim (λ h. reached_hold P m kept rest s others h.1)
+    (λ h. reached_hold P m (kept ++ x ∷ []) rest s (subst (All P) (sym (append_assoc kept (x ∷ []) rest)) all) h.1)) r
+
+-- none of their limits is refused
+pub found_read : (m : Model) (budget : ℕ) (sides : List Side) (cert : Certificate (List ℚ)) (points : List (List ℚ)) →
+    IsFound m budget sides cert points → All (IsRead (Some largest) m) sides
+found_read m budget sides cert points f =
+    let r = f.reached in
+    reached_hold (IsRead (Some largest) m) m [] (used m r.certificate) sides
+    (used_read (Some largest) m r.certificate r.ends.may_answer.2) r.reached
+
+-- ---- the points
+
+width_alone : (m : Model) (sides : List Side) → width (only m sides) ≡ width m
+unfolding only
+width_alone m sides = length-made (width m) (only_column_at m sides)
+
+-- a part for each column
+pub points_fit : (m : Model) (sides : List Side) (points : List (List ℚ)) → ArePointsWithout m sides points →
+    All (λ z. length z ≡ width m) points
+points_fit m sides points w = λ k d l.
+    let inside : k < length sides = subst (λ n. k < n) w.one_each l in
+    ap length (get_or_default points k d [] l) ∙ (w.feasible k inside).one_each ∙ width_alone m _
+
+-- ---- the output
+
+pub prints_iis : {T E : Type 0} (m : Model) (found : ExactIis) (before after : List ℕ) (result : Result T E) →
+    MayFind m opening_budget found → OnOk result (after ≡ before ++ ended_lines (iis_lines m found)) →
+    OnOk result (Prints (IisOut (Ok m)) before after)
+prints_iis m found before after (Ok u) may lines =
+    record { output = ended_lines (iis_lines m found); is_output = (found, may, refl); behind = lines }
+prints_iis m found before after (Err why) may lines = tt

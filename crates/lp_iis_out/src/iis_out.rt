@@ -1,0 +1,120 @@
+// What a search for an irreducible infeasible subset of a model ends with.
+ghost use Rattle.std.specs.Prelude.{◌≡◌, ◌++◌, ◌∷◌, [], All, Ok, OnOk, Some, codes, decimal};
+ghost use Rattle.spec_model.specs.Kept.{IsModel};
+ghost use Rattle.spec_check.specs.Certificate.{IsFor};
+ghost use Rattle.spec_certificate.specs.TextWritten.{certificate_lines};
+ghost use Rattle.spec_iis.specs.Only.{only};
+ghost use Rattle.spec_iis.specs.Rule.{IsRead};
+ghost use Rattle.spec_iis.specs.Found.{IsFound, MayFind};
+ghost use Rattle.spec_server.specs.Machine.{opening_budget};
+ghost use Rattle.spec_server.specs.Output.{ended_lines};
+ghost use Rattle.spec_program.specs.IisOut.{IisOut, end_words, found_lines, iis_lines};
+ghost use Rattle.lp_frac.specs.Narrow.{largest};
+ghost use Rattle.lp_solve_out.specs.Prints.{Prints};
+
+use crate::points::print_points;
+use crate::sides::print_sides;
+use lp_answer::OPENING_BUDGET;
+use lp_base::Bytes;
+use lp_certificate::cert_text;
+use lp_check::Certificate;
+use lp_iis::{Iis, Points, Sides, find, only};
+use lp_line::print_lines;
+use lp_model::Model;
+use lp_solve::End;
+use lp_solve_out::print_answer;
+use std::alloc::{AllocError, Global};
+
+/// Writes what a search of the model ends with, within the budget of a new session for each solve.
+pub fn print_iis(alloc: Global, model: &Model, to: &mut Bytes) -> Result<(), AllocError>
+    requires { IsModel model.now }
+    ensures { OnOk result (Prints (IisOut (Ok model.now)) to.old to.new) }
+{
+    let found = find(alloc, model, u64::from(OPENING_BUDGET))?;
+    let printed = print_ended(alloc, model, &found, to);
+    drop(found);
+    printed
+}
+
+// Writes what a search ended with.
+fn print_ended(alloc: Global, model: &Model, found: &Iis, to: &mut Bytes) -> Result<(), AllocError>
+    requires model { IsModel model.now }
+    requires found { MayFind model.now opening_budget found.now }
+    ensures { OnOk result (to.new ≡ to.old ++ ended_lines (iis_lines model.now found.now)) }
+{
+    match found {
+        Iis::Found {
+            sides,
+            certificate,
+            points,
+        } => print_found(alloc, model, sides, certificate, points, to),
+        Iis::Other(end) => print_end(alloc, end, to),
+        Iis::Stopped(end) => print_stopped(alloc, end, to),
+    }
+}
+
+// The line of what a solve ended with.
+fn print_end(alloc: Global, end: &End, to: &mut Bytes) -> Result<(), AllocError>
+    ensures { OnOk result (to.new ≡ to.old ++ ended_lines (end_words end.now ∷ [])) }
+{
+    print_answer(alloc, end, to)
+}
+
+// Nothing was found, since a solve of some sides gave up.
+fn print_stopped(alloc: Global, end: &End, to: &mut Bytes) -> Result<(), AllocError>
+    ensures { OnOk result
+        (to.new ≡ to.old ++ ended_lines (codes "INFEASIBLE" ∷ (codes "STOPPED " ++ end_words end.now) ∷ [])) }
+{
+    to.extend(b"INFEASIBLE\nSTOPPED ")?;
+    print_end(alloc, end, to)
+}
+
+// Writes the sides that were found, the certificate that no point meets them together, and the points.
+fn print_found(
+    alloc: Global,
+    model: &Model,
+    sides: &Sides,
+    certificate: &Certificate,
+    points: &Points,
+    to: &mut Bytes,
+) -> Result<(), AllocError>
+    requires model { IsModel model.now }
+    requires found { IsFound model.now opening_budget sides.now certificate.now points.now }
+    ensures { OnOk result
+        (to.new ≡ to.old ++ ended_lines (found_lines model.now sides.now certificate.now points.now)) }
+{
+    print_heading(alloc, sides.len(), to)?;
+    print_sides(model, sides, to)?;
+    print_certificate(alloc, model, sides, certificate, to)?;
+    print_points(alloc, model, points, to)?;
+    to.extend(b"END\n")
+}
+
+// That no point is feasible, and how many sides were found.
+fn print_heading(alloc: Global, count: usize, to: &mut Bytes) -> Result<(), AllocError>
+    ensures { OnOk result (to.new ≡ to.old ++ ((codes "INFEASIBLE\nIIS " ++ decimal count) ++ 10 ∷ [])) }
+{
+    let lines = format!(in alloc; "INFEASIBLE\nIIS {count}\n")?;
+    to.extend(lines.as_bytes())
+}
+
+// The certificate is of the model with the sides alone.
+fn print_certificate(
+    alloc: Global,
+    model: &Model,
+    sides: &Sides,
+    certificate: &Certificate,
+    to: &mut Bytes,
+) -> Result<(), AllocError>
+    requires model { IsModel model.now }
+    requires read { All (IsRead (Some largest) model.now) sides.now }
+    requires fits { IsFor (only model.now sides.now) certificate.now }
+    ensures { OnOk result
+        (to.new ≡ to.old ++ ended_lines (certificate_lines (only model.now sides.now) certificate.now)) }
+{
+    let alone = only(alloc, model, sides.as_slice())?;
+    let lines = cert_text(alloc, &alone, certificate);
+    drop(alone);
+    let lines = lines?;
+    print_lines(&lines, to)
+}
