@@ -27,20 +27,21 @@ VERSIONS = {
     TOP / "crates" / "lpd" / "specs" / "Notices.antt": r'^IsTextOf Version text = text ≡ codes "lpd ([^"]*)" \+\+ 10 ∷ \[\]$',
 }
 COMPLETION = TOP / "tools" / "lpd.bash"
-ROW = re.compile(r"^(\w+)(?: \w+)* = record \{\s*plain = (\d+);\s*names = ([^;]*);", re.M)
+ROW = re.compile(r"^(\w+)(?: \w+)* = record \{\s*plain = (\d+);\s*names = ([^;]*);\s*switches = ([^;]*);", re.M)
 NAMES = re.compile(r'(?:codes "--[\w-]+" ∷ )*\[\]')
 COMMAND = re.compile(r'\(codes "([\w-]+)", (\w+)(?: \w+)*\)')
 COMPLETES = 'source "$1"; shift; COMP_WORDS=("$@"); COMP_CWORD=$(($# - 1)); _lpd; printf "%s\\n" "${COMPREPLY[@]}"'
 
 
 def taken():
-    """The commands that the program takes: of each, how many plain words and which options it has."""
+    """The commands that the program takes: of each, how many plain words it has, which options, and which of these are switches."""
     text = TABLE.read_text(encoding="utf-8")
     rows = {}
-    for name, plain, names in ROW.findall(text):
-        if not NAMES.fullmatch(" ".join(names.split())):
-            raise ValueError(f"{TABLE.relative_to(TOP)}: the options of {name} are not read: {names}")
-        rows[name] = int(plain), set(re.findall(r'"([^"]+)"', names))
+    for name, plain, *options in ROW.findall(text):
+        for names in options:
+            if not NAMES.fullmatch(" ".join(names.split())):
+                raise ValueError(f"{TABLE.relative_to(TOP)}: the options of {name} are not read: {names}")
+        rows[name] = int(plain), *(set(re.findall(r'"([^"]+)"', names)) for names in options)
     table = re.search(r"^commands =\s+(.*?)\n\n", text, re.M | re.S)
     if not table or COMMAND.sub("", table[1]).split() != ["∷"] * len(COMMAND.findall(table[1])) + ["[]"]:
         raise ValueError(f"{TABLE.relative_to(TOP)}: the table of commands is not read")
@@ -63,17 +64,26 @@ def section(page, title):
     return re.search(rf"^\.SH {title}\n(.*?)(?=^\.SH )", page, re.M | re.S)[1]
 
 
+def add_option(commands, command, option, is_switch):
+    """One more option of a command."""
+    _, options, switches = commands.setdefault(command, (0, set(), set()))
+    options.add(option)
+    if is_switch:
+        switches.add(option)
+
+
 def described():
     """The same of the commands that the manual page describes."""
     page = PAGE.read_text(encoding="utf-8").replace("\\-", "-")
     commands = {}
     for head in re.findall(r"^\.TP\n\.BI? (.*)$", section(page, "COMMANDS"), re.M):
         command, *plain = head.replace('"', " ").split()
-        commands[command] = len(plain), set()
+        commands[command] = len(plain), set(), set()
     for row in section(page, "OPTIONS").splitlines():
         cells = row.split("\t")
         if len(cells) == 3 and cells[1].startswith("--"):
-            commands.setdefault(cells[0], (0, set()))[1].add(cells[1].split()[0])
+            option, *value = cells[1].split()
+            add_option(commands, cells[0], option, not value)
     return commands
 
 
@@ -84,10 +94,10 @@ def used():
     named = {}
     for head in re.findall(r'\(\s*"([\w-]+(?: [A-Z]+)*)",', commands):
         command, *plain = head.split()
-        named[command] = len(plain), set()
-    for heading, option in re.findall(r'\(\s*"Options of ([\w, -]+)",\s*"([\w-]+)",', options):
+        named[command] = len(plain), set(), set()
+    for heading, option, value in re.findall(r'\(\s*"Options of ([\w, -]+)",\s*"([\w-]+)",\s*"([^"]*)",', options):
         for command in re.split(", | and ", heading):
-            named.setdefault(command, (0, set()))[1].add(f"--{option}")
+            add_option(named, command, f"--{option}", not value)
     return named
 
 
@@ -108,11 +118,12 @@ def completed(*words):
 def wrong_completions(commands, notices):
     """Where the completion offers something else than what the program takes."""
     tried = [((), set(commands) | notices)]
-    for command, (plain, options) in commands.items():
+    for command, (plain, options, switches) in commands.items():
         tried += [((command, *["1"] * count), set()) for count in range(plain)]
         words = (command, *["1"] * plain)
         tried.append((words, options))
-        tried += [((*words, option, "1"), options - {option}) for option in options]
+        tried += [((*words, option, "1"), options - {option}) for option in options - switches]
+        tried += [((*words, option), options - {option}) for option in switches]
     for words, wanted in tried:
         found = completed(*words)
         if found != wanted:

@@ -6,8 +6,9 @@
 declare -A _lpd_commands=(
     [run]="--workers --places"
     [solve]="--form"
-    [check]="--form"
+    [check]="--form --wide"
     [basis]="--form"
+    [iis]="--form"
     [range]="WHAT NAME --form"
     [gen]="SEED ROWS COLS"
     [serve]="ADDRESS --workers --each --places"
@@ -16,13 +17,16 @@ declare -A _lpd_commands=(
 # What may stand in place of a command.
 _lpd_notices="--help --version"
 
+# The options that are switches: they have no value.
+_lpd_switches="--wide"
+
 # The values of those options that take few.
 declare -A _lpd_values=(
     [--form]="free fixed"
 )
 
 _lpd() {
-    local word=${COMP_WORDS[COMP_CWORD]} choices="" place=2 each
+    local word=${COMP_WORDS[COMP_CWORD]} choices="" place=2 each due=""
     if ((COMP_CWORD == 1)); then
         choices="${!_lpd_commands[*]} $_lpd_notices"
     else
@@ -35,8 +39,18 @@ _lpd() {
         done
         if ((COMP_CWORD < place)); then
             choices=""
-        elif (((COMP_CWORD - place) % 2)); then
-            choices=${_lpd_values[${COMP_WORDS[COMP_CWORD - 1]}]-}
+        else
+            # The option whose value is due, if one is.
+            for each in "${COMP_WORDS[@]:place:COMP_CWORD-place}"; do
+                if [[ $due || " $_lpd_switches " == *" $each "* ]]; then
+                    due=""
+                else
+                    due=$each
+                fi
+            done
+            if [[ $due ]]; then
+                choices=${_lpd_values[$due]-}
+            fi
         fi
     fi
     mapfile -t COMPREPLY < <(compgen -W "$choices" -- "$word")

@@ -1,9 +1,9 @@
 // The text of the usage: clap lays it out, and decides nothing about the words.
-use clap::{Arg, Command};
+use clap::{Arg, ArgAction, Command};
 use std::alloc::{AllocError, Global};
 
 /// The commands with their plain words, and what each does.
-pub const COMMANDS: [(&str, &str); 7] = [
+pub const COMMANDS: [(&str, &str); 8] = [
     ("run", "Run a script of up to 64 sessions"),
     ("solve", "Solve the model of one text"),
     (
@@ -13,6 +13,10 @@ pub const COMMANDS: [(&str, &str); 7] = [
     (
         "basis",
         "Solve a model from a basis file, which follows its text",
+    ),
+    (
+        "iis",
+        "Solve a model, or find limits that contradict each other",
     ),
     (
         "range WHAT NAME",
@@ -28,8 +32,9 @@ pub const COMMANDS: [(&str, &str); 7] = [
     ),
 ];
 
-/// The options, below the commands that have them: their names, their values and what they say.
-pub const OPTIONS: [(&str, &str, &str, &str); 4] = [
+/// The options, below the commands that have them: their names, their values and what they say. A switch has no value: that
+/// is empty.
+pub const OPTIONS: [(&str, &str, &str, &str); 5] = [
     (
         "Options of run and serve",
         "workers",
@@ -49,10 +54,16 @@ pub const OPTIONS: [(&str, &str, &str, &str); 4] = [
         "Links that each worker serves, 1 to 1,000; else 1",
     ),
     (
-        "Options of solve, check, basis and range",
+        "Options of solve, check, basis, iis and range",
         "form",
         "FORM",
         "The text's form, free or fixed; else free",
+    ),
+    (
+        "Options of check",
+        "wide",
+        "",
+        "Numbers of any width; else of up to 127 bits",
     ),
 ];
 
@@ -73,7 +84,7 @@ The manual is the page lpd(1): `man lpd`, or in the repository `man -l docs/lpd.
 pub fn usage(alloc: Global) -> Result<String, AllocError> {
     let mut program = Command::new(alloc, "lpd")
         .about("Solve linear programs exactly, and check certificates")
-        .override_usage("lpd COMMAND [WORD]... [--OPTION VALUE]...")
+        .override_usage("lpd COMMAND [WORD]... [--OPTION [VALUE]]...")
         .after_help(STATUSES)
         .disable_help_flag(true)
         .disable_help_subcommand(true);
@@ -83,9 +94,13 @@ pub fn usage(alloc: Global) -> Result<String, AllocError> {
     for (commands, name, value, what) in OPTIONS {
         let option = Arg::new(alloc, name)
             .long(name)
-            .value_name(value)
             .help(what)
             .help_heading(commands);
+        let option = if value == "" {
+            option.action(ArgAction::SetTrue)
+        } else {
+            option.value_name(value)
+        };
         program = program.arg(option)?;
     }
     program.render_help()

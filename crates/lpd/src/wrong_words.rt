@@ -10,7 +10,7 @@ use std::io;
 const NOTICES: [&str; 2] = ["--help", "--version"];
 
 // The commands that read standard input: a word behind them is often the name of a file.
-const READERS: [&str; 5] = ["run", "solve", "check", "basis", "range"];
+const READERS: [&str; 6] = ["run", "solve", "check", "basis", "iis", "range"];
 
 /// Writes on standard error that the words are no command line, and behind that line why. Where memory runs out, it says
 /// no more than what it has said by then.
@@ -96,11 +96,19 @@ fn line_of(alloc: Global, command: Head) -> Result<String, AllocError> {
     }
     for (heading, name, value, _) in OPTIONS {
         if is_of(command.name, heading) {
-            let option = format!(in alloc; " [--{name} {value}]")?;
+            let option = option_of(alloc, name, value)?;
             line.push_str(option.as_str())?;
         }
     }
     Ok(line)
+}
+
+// An option behind a blank; a switch has no value.
+fn option_of(alloc: Global, name: &str, value: &str) -> Result<String, AllocError> {
+    if value == "" {
+        return format!(in alloc; " [--{name}]");
+    }
+    format!(in alloc; " [--{name} {value}]")
 }
 
 // What is wrong, and what may have been meant.
@@ -181,6 +189,13 @@ fn said_of(option: &str) -> &'static str {
     ""
 }
 
+// Whether an option has a value; a switch has none.
+fn has_value(option: &str) -> bool {
+    OPTIONS
+        .iter()
+        .any(|(_, name, value, _)| *name == option && *value != "")
+}
+
 // What may have been meant, to be written behind the reason.
 fn hint(
     alloc: Global,
@@ -232,7 +247,7 @@ fn meant_option(alloc: Global, command: &str, word: &str) -> Result<String, Allo
         None => (word, ""),
     };
     match nearest(alloc, name, names.as_slice())? {
-        Some(option) if value != "" => {
+        Some(option) if value != "" && has_value(option) => {
             format!(in alloc; "; did you mean --{option} {}?", value.escape_debug())
         }
         Some(option) => format!(in alloc; "; did you mean --{option}?"),
