@@ -1,5 +1,5 @@
 -- Where the lines of a text and of a certificate after it lead.
-use Rattle.std.proofs.Common.{◌≡◌, ℕ, ◌+◌, ◌≤◌, Result, Ok, Err, List, arith, ap, sym, ◌∙◌, refl, subst}
+use Rattle.std.proofs.Common.{◌≡◌, ℕ, ◌+◌, ◌≤◌, Result, Ok, Err, List, arith, refl, subst}
 use Rattle.std.specs.Prelude.{IfOk}
 use Rattle.spec_text.specs.declared.line.Line.{Line}
 use Rattle.spec_model.specs.Model.{Model}
@@ -21,11 +21,11 @@ use Rattle.lp_text_commands.specs.Stage.{stage_of, step_of, count_of, CheckSays}
 
 -- ---- a line counts for one
 
-abbrev lines_in : reading.Stage → ℕ
+abbrev pub lines_in : reading.Stage → ℕ
 lines_in (reading.InText style s n) = n
 lines_in (reading.InCertificate m raw n) = n
 
-text_counts : (style : Style) (n : ℕ) (o : text.Outcome) (next : reading.Stage) →
+pub text_counts : (style : Style) (n : ℕ) (o : text.Outcome) (next : reading.Stage) →
     reading.behind_text style n o ≡ reading.On next → lines_in next ≤ n
 text_counts style n (Ok (text.More s)) next e = subst (λ a. lines_in a ≤ n) (on_same _ next e) (omega arith)
 text_counts style n (Ok (text.Done m)) next e = subst (λ a. lines_in a ≤ n) (on_same _ next e) (omega arith)

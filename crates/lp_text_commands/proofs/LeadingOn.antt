@@ -1,5 +1,5 @@
 -- Where a line leads from a stage, for readings whose step is a definition and whose lines are counted.
-use Rattle.std.proofs.Common.{◌≡◌, ℕ, ◌+◌, ◌≤◌, Result, Ok, Err, List, Option, arith, ap, sym, ◌∙◌}
+use Rattle.std.proofs.Common.{◌≡◌, ℕ, ◌+◌, ◌≤◌, Result, Ok, Err, List, arith, ap, sym, ◌∙◌}
 use Rattle.std.specs.Prelude.{IfOk}
 use Rattle.spec_text.specs.declared.line.Line.{Line}
 use Rattle.spec_text.specs.declared.line.Line.TheVariants.{End}

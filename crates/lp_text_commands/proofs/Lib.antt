@@ -2,5 +2,7 @@
 pub mod Heard
 pub mod LeadingOn
 pub mod CheckLines
+pub mod WideLines
 pub mod BasisLines
+pub mod SpelledKept
 pub mod Saying

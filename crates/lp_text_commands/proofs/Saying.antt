@@ -8,11 +8,13 @@ use Rattle.spec_mps.specs.Reader.{start}
 use denote.Ref.{Bor}
 use Rattle.spec_program.specs.declared.command_line.Moved.{Moved}
 use Rattle.spec_program.specs.declared.command_line.TextCommand.{TextCommand}
-use Rattle.spec_program.specs.declared.command_line.TextCommand.TheVariants.{Solve, Check, Basis, Range}
+use Rattle.spec_program.specs.declared.command_line.TextCommand.TheVariants.{Solve, Check, CheckWide, Basis, Iis, Range}
+use Rattle.spec_program.specs.IisOut.{IisOut, iis_code}
 use Rattle.spec_program.specs.RangeOut.{RangeOut, range_code}
 use Rattle.spec_program.specs.Spelled.{spelled_text}
 use Rattle.spec_server.specs.Machine.{ExactReply}
 use Rattle.spec_server.specs.CheckOut.{said, CheckOut, check_code}
+use Rattle.spec_server.specs.CheckWideOut.{wide_said, WideCheckOut}
 use Rattle.spec_server.specs.SolveOut.{TextSaid, text_said, SolveOut, solve_code}
 use Rattle.lp_base.specs.Beside.{Takes}
 use Rattle.mps_read.specs.TextRead.{TextRead}
@@ -27,6 +29,8 @@ use Rattle.lp_text_commands.specs.Writing.{WritesAll, WritesInPart, WritesSo}
 use Rattle.spec_server.specs.BasisOut.{BasisSaid, basis_said, BasisOut, basis_code}
 use Rattle.lp_text_commands.specs.declared.basis.BasisStage.TheVariants as basis_stage
 use Rattle.lp_text_commands.specs.Basis.{BasisSays}
+use Rattle.lp_text_commands.specs.declared.check_wide.WideStage.TheVariants as wide_stage
+use Rattle.lp_text_commands.specs.WideStage.{WideSays}
 use Rattle.lp_text_commands.specs.Stage.{CheckSays}
 use Rattle.spec_server.specs.Streams.{Streams, streams}
 use Rattle.lp_text_commands.specs.TextCommands.{ReadsText}
@@ -132,6 +136,16 @@ module _ (style : Style) (reader : TextRead) (begun : reader ≡ record { style 
   check_reads command asked s result h =
       reads_as command Check style s result asked (h (said style) check_agrees)
 
+  wide_agrees : Agrees (WideSays (wide_stage.Text reader)) (wide_said style)
+  wide_agrees lines answer h = subst (λ (r : TextRead). WideSays (wide_stage.Text r) lines answer) begun h
+
+  pub wide_reads : (command : Asked) → command ≡ CheckWide → (s : Streams) (result : Result ExitStatus Halt) →
+      ((said : List (Line (List ℕ)) → Option ExactReply) → Agrees (WideSays (wide_stage.Text reader)) said →
+      SaysSo said WideCheckOut check_code s result) →
+      ReadsText (spelled_text command) style s result
+  wide_reads command asked s result h =
+      reads_as command CheckWide style s result asked (h (wide_said style) wide_agrees)
+
   basis_agrees : Agrees (BasisSays (basis_stage.Text reader)) (basis_said style)
   basis_agrees lines answer h = subst (λ (r : TextRead). BasisSays (basis_stage.Text r) lines answer) begun h
 
@@ -149,3 +163,9 @@ module _ (style : Style) (reader : TextRead) (begun : reader ≡ record { style 
       ReadsText (spelled_text command) style s result
   range_reads command moved name asked s result h =
       reads_as command (Range moved name) style s result asked (h (text_said style) text_agrees)
+
+  pub iis_reads : (command : Asked) → command ≡ Iis → (s : Streams) (result : Result ExitStatus Halt) →
+      SaysSo (text_said reader.style) IisOut iis_code s result → ReadsText (spelled_text command) style s result
+  iis_reads command asked s result h =
+      reads_as command Iis style s result asked
+      (subst (λ (r : TextRead). SaysSo (text_said r.style) IisOut iis_code s result) begun h)

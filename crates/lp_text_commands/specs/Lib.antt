@@ -3,6 +3,9 @@ pub mod Hearing
 pub mod Writing
 pub mod Leading
 pub mod Stage
+pub mod WideSaid
+pub mod WideStage
 pub mod FileAt
 pub mod Basis
+pub mod Searched
 pub mod TextCommands

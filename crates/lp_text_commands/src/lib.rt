@@ -1,5 +1,5 @@
 //! The commands that read the text of a model from an input: to solve it, to check the certificate after it, to solve it
-//! from the basis of the file after it, and to range one of its numbers.
+//! from the basis of the file after it, to find limits that contradict each other, and to range one of its numbers.
 //!
 //! | Item | What it is | Where |
 //! |---|---|---|
@@ -7,17 +7,20 @@
 //! | `ExitStatus` | how a command ended | src/exit_status |
 //! | `say`, `Output` | reads an input, and writes what is said of it, whatever says it | src/hearing |
 //! | `say_range`, `Ranged` | the same of a text of which a number is ranged | src/ranged |
-//! | `CheckStage`, `BasisStage` | where the reading stands | src/check, src/basis |
+//! | `say_iis`, `Searched` | the same of a text in whose model limits are sought that contradict each other | src/searched |
+//! | `CheckStage`, `WideStage`, `BasisStage` | where the reading stands | src/check, src/check_wide, src/basis |
 //! | `ReadsText`, `TellsOfText` | what is read and written, by the answer and by the status | specs/TextCommands |
 #![tactic(auto)]
 
 mod basis;
 mod basis_file;
 mod check;
+mod check_wide;
 mod exit_status;
 mod hearing;
 mod outputs;
 mod ranged;
+mod searched;
 mod text;
 
 pub use exit_status::ExitStatus;

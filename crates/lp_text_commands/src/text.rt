@@ -7,9 +7,11 @@ ghost use Rattle.lp_text_commands.specs.TextCommands.{ReadsText};
 
 use crate::basis::BasisStage;
 use crate::check::CheckStage;
+use crate::check_wide::WideStage;
 use crate::exit_status::ExitStatus;
 use crate::hearing::say;
 use crate::ranged::say_range;
+use crate::searched::say_iis;
 use lp_base::{Sink, Source};
 use lp_line::Halt;
 use mps_read::Reader;
@@ -34,7 +36,9 @@ pub fn read_text<S: Source, K: Sink>(
     match command {
         TextCommand::Solve => say(alloc, text, src, out),
         TextCommand::Check => say(alloc, CheckStage::Text(text), src, out),
+        TextCommand::CheckWide => say(alloc, WideStage::Text(text), src, out),
         TextCommand::Basis => say(alloc, BasisStage::Text(text), src, out),
+        TextCommand::Iis => say_iis(alloc, text, src, out),
         TextCommand::Range { moved, name } => say_range(alloc, text, moved, name, src, out),
     }
 }

@@ -1,5 +1,5 @@
 -- From the start of a text on.
-use Rattle.lp_text_commands.proofs.Saying.{solve_reads, check_reads, basis_reads, range_reads}
+use Rattle.lp_text_commands.proofs.Saying.{solve_reads, check_reads, wide_reads, basis_reads, iis_reads, range_reads}
 use Rattle.lp_text_commands.proofs.text.read_text.Goals as goal
 
 pub returns-in-Solve-clause-output : goal.returns-in-Solve-clause-output
@@ -11,10 +11,19 @@ returns-in-Check-clause-output g c =
     check_reads c.args.style c.new-text.result c.new-text.ensures c.args.command c.in-Check.is _ _
     c.say-in-Check.ensures.output
 
+pub returns-in-CheckWide-clause-output : goal.returns-in-CheckWide-clause-output
+returns-in-CheckWide-clause-output g c =
+    wide_reads c.args.style c.new-text.result c.new-text.ensures c.args.command c.in-CheckWide.is _ _
+    c.say-in-CheckWide.ensures.output
+
 pub returns-in-Basis-clause-output : goal.returns-in-Basis-clause-output
 returns-in-Basis-clause-output g c =
     basis_reads c.args.style c.new-text.result c.new-text.ensures c.args.command c.in-Basis.is _ _
     c.say-in-Basis.ensures.output
+
+pub returns-in-Iis-clause-output : goal.returns-in-Iis-clause-output
+returns-in-Iis-clause-output g c =
+    iis_reads c.args.style c.new-text.result c.new-text.ensures c.args.command c.in-Iis.is _ _ c.say_iis.ensures.output
 
 pub returns-in-Range-clause-output : goal.returns-in-Range-clause-output
 returns-in-Range-clause-output g c =

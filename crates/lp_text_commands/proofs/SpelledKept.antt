@@ -1,0 +1,54 @@
+-- The model that is said of a text may be kept.
+use Rattle.std.proofs.Common.{◌≡◌, ℕ, ◌+◌, List, [], ◌∷◌, ◌++◌, take, Option, Some, Ok, Err, ap, subst₂, ⊎_elim}
+use Rattle.spec_text.specs.declared.line.Line.{Line}
+use Rattle.spec_text.specs.declared.line.Line.TheVariants as line
+use Rattle.spec_text.specs.Lines.{lines_of, ended_lines_of, input_limit}
+use Rattle.spec_model.specs.Model.{Model}
+use Rattle.spec_mps.specs.declared.style.Style.{Style}
+use Rattle.spec_mps.specs.Reader.{State, start}
+use Rattle.spec_mps.specs.Steps as text
+use Rattle.spec_mps.proofs.SpelledKept.{spelled_kept}
+use Rattle.spec_server.specs.Said.{said_by, follow}
+use Rattle.spec_server.specs.SolveOut.{TextSaid, text_said, text_step, behind_line}
+use Rattle.mps_read.specs.TextRead.{TextRead}
+use Rattle.lp_line.specs.Stages.{TextSays}
+use Rattle.lp_text_commands.specs.Hearing.{Agrees, Hears}
+use Rattle.lp_text_commands.specs.Searched.{MayBeKept}
+
+same_model : (m o : Model) → ◌≡◌ {A = Option TextSaid} (Some (Ok m)) (Some (Ok o)) → m ≡ o
+same_model m o e = cc
+
+-- lines that say a model spell it
+spelled_from : (style : Style) (lines : List (Line (List ℕ))) (s : State) (n : ℕ) (m : Model) →
+    said_by (text_step style) (record { state = s; lines = n }) lines ≡ Some (Ok m) →
+    text.judge style s (n + 1) lines ≡ text.Spelled m
+unfolding text_step
+spelled_from style [] s n m h = absurd (cc)
+spelled_from style (next ∷ lines) s n m h = by (text.step style s next) (λ t. spelled_from style lines t (n + 1) m) h
+  where
+    by : (o : text.Outcome)
+        → ((t : State) → said_by (text_step style) (record { state = t; lines = n + 1 }) lines ≡ Some (Ok m) →
+        text.judge style t (n + 1 + 1) lines ≡ text.Spelled m)
+        → follow (behind_line (n + 1) o) (λ stage. said_by (text_step style) stage lines) ≡ Some (Ok m)
+        → text.settled (n + 1) (λ t. text.judge style t (n + 1 + 1) lines) o ≡ text.Spelled m
+    by (Ok (text.More t)) rest h = rest t h
+    by (Ok (text.Done d)) rest h = ap text.Spelled (same_model d m h)
+    by (Err code) rest h = absurd (cc)
+
+said_kept : (style : Style) (lines : List (Line (List ℕ))) (what : TextSaid) → text_said style lines ≡ Some what →
+    MayBeKept what
+said_kept style lines (Ok m) h = spelled_kept style lines m (spelled_from style lines start 0 m h)
+said_kept style lines (Err fault) h = tt
+
+-- what is heard of a text from its start on
+pub heard_kept : (style : Style) (before after : Option (List ℕ)) (what : TextSaid) →
+    Hears (text_said style) before after what → MayBeKept what
+heard_kept style before after what h =
+    ⊎_elim (λ early. said_kept style (ended_lines_of (take input_limit (h.read ++ []))) what (early []))
+    (λ at_end. said_kept style (lines_of h.read ++ line.End ∷ []) what at_end.all) h.is_said
+
+-- a reader at the start of a text
+pub start_agrees : (reader : TextRead) → reader.state ≡ start → reader.lines ≡ 0 →
+    Agrees (TextSays reader) (text_said reader.style)
+start_agrees reader state lines said answer h =
+    subst₂ (λ s n. said_by (text_step reader.style) (record { state = s; lines = n }) said ≡ answer) state lines h

@@ -1,0 +1,16 @@
+-- What a check with wide numbers says, as the definitions have it.
+use Rattle.spec_check.specs.declared.certificate.Verdict.TheVariants as verdict
+use Rattle.spec_server.specs.declared.asks.Reply.TheVariants as reply
+use Rattle.spec_server.specs.Machine.{ExactReply}
+use Rattle.lp_check_wide.specs.declared.certificate.Verdict.{Verdict}
+use Rattle.lp_check_wide.specs.declared.certificate.Verdict.TheVariants as wide
+use Rattle.lp_text_commands.specs.declared.check_wide.WideSaid.{WideSaid}
+use Rattle.lp_text_commands.specs.declared.check_wide.WideSaid.TheVariants as said
+
+abbrev pub verdict_reply : Verdict → ExactReply
+verdict_reply (wide.Yes what) = reply.Checked (verdict.Yes what)
+verdict_reply (wide.No n) = reply.Checked (verdict.No n)
+
+abbrev pub reply_of : WideSaid → ExactReply
+reply_of (said.Checked checked) = verdict_reply checked
+reply_of (said.Refused why) = reply.Refused why
