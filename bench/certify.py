@@ -16,19 +16,22 @@ import shutil
 import sys
 from fractions import Fraction
 
-from page import write
+from page import ended
 
 TOP = pathlib.Path(__file__).resolve().parent.parent
 sys.path.insert(0, str(TOP / "clients" / "python"))
 
-from lpd.certifying import PYTHON  # noqa: E402  (the package of this repository)
-from lpd.commands import batch  # noqa: E402
-from lpd.commands.certify import off_of  # noqa: E402
+from lpd.batching import Work, one_by_one  # noqa: E402  (the package of this repository)
+from lpd.certifying import PYTHON  # noqa: E402
+from lpd.judging import LPD_CHECK, LPD_CHECK_WIDE, PYTHON_ALONE  # noqa: E402
 from lpd.replies import Optimal  # noqa: E402
+from lpd.tables import off_of  # noqa: E402
+from lpd.ways import Effort  # noqa: E402
 
 BEGIN, END = "<!-- measured by bench/certify.py -->", "<!-- end of the certificates -->"
 LARGEST = 1_000_000
 ANSWERS = ("OPTIMAL", "INFEASIBLE", "UNBOUNDED")
+JUDGES = {LPD_CHECK: "`lpd check`", LPD_CHECK_WIDE: "`lpd check --wide`", PYTHON_ALONE: "the checker in Python alone"}
 
 
 def row(cells):
@@ -54,34 +57,37 @@ def cells_of(result):
     """What a certificate is: who judged it, the exact steps, how far off the other solver was, and the time."""
     found = result.certified
     if found is None:
-        return [result.note, "", "", ""]
-    judge = "lpd check" if found.narrow else "Python alone"
-    return [judge, str(found.steps), off_of(found) or "", f"{result.certify_seconds:.2f}"]
+        return ["; ".join(result.notes), "", "", ""]
+    return [found.judge, str(found.steps), off_of(found) or "", f"{result.certify_seconds:.2f}"]
 
 
 def count(solver, results):
     found = [result for result in results if result.certified]
-    narrow = sum(result.certified.narrow for result in found)
+    counts = [(sum(result.certified.judge == judge for result in found), words) for judge, words in JUDGES.items()]
     times = sorted(result.certify_seconds for result in found)
-    said = f"With the bases of `{solver}` {len(found)} of {len(results)} models are certified: {narrow} by `lpd check`"
-    said += f" and {len(found) - narrow} by the checker in Python alone, each within {times[-1]:.1f} s, half of them within"
-    return f"{said} {times[len(times) // 2]:.2f} s; {sum(r.certified.steps > 0 for r in found)} need exact steps."
+    said = f"With the bases of `{solver}` {len(found)} of {len(results)} models are certified: "
+    said += " and ".join(f"{number} by {words}" for number, words in counts if number)
+    said += f", each within {times[-1]:.1f} s, half of them within {times[len(times) // 2]:.2f} s;"
+    return f"{said} {sum(r.certified.steps > 0 for r in found)} need exact steps."
+
+
+def after_convert(results):
+    return [result for result in results if result.answer in ANSWERS and any(note.startswith("converted") for note in result.notes)]
 
 
 def measure(options, faults):
     """The lines of the table, with the counts before it."""
     optima, by_solver = optima_of(options.optima), {}
     for solver in options.solvers:
-        words = argparse.Namespace(form=None, relax=False, no_set=None, no_bound=None, budget=LARGEST, solver=solver)
-        words.seconds, words.way = options.seconds, PYTHON
-        by_solver[solver] = batch.results(pathlib.Path(options.folder), words)
+        work = Work(effort=Effort(LARGEST, only_lpd=True, seconds=options.seconds), certifier=solver, way=PYTHON)
+        by_solver[solver] = list(one_by_one(sorted(pathlib.Path(options.folder).glob("*.mps")), work))
     first = by_solver[options.solvers[0]]
     answered = sum(result.answer in ANSWERS for result in first)
-    yield f"`solve` answers {answered} of {len(first)} models, {sum('converted' in r.note for r in first)} of them after `convert`."
+    yield f"`solve` answers {answered} of {len(first)} models, {len(after_convert(first))} of them after `convert`."
     for solver, results in by_solver.items():
         yield count(solver, results)
         for result in results:
-            faults += wrong(result.name, result.certified.known, optima) if result.certified else [f"{result.name}: {result.note}"]
+            faults += wrong(result.name, result.certified.known, optima) if result.certified else [f"{result.name}: {result.notes}"]
     yield ""
     yield row(["Model", "`solve`", "s", *(head for solver in by_solver for head in (f"`{solver}`: judge", "steps", "off by", "s"))])
     yield row(["---"] * (3 + 4 * len(by_solver)))
@@ -96,7 +102,7 @@ def main():
     parser.add_argument("--with", dest="solvers", type=lambda text: text.split(","), default=["glpsol", "clp"])
     parser.add_argument("--optima", metavar="FILE")
     parser.add_argument("--seconds", type=float, default=60)
-    parser.add_argument("--write", metavar="PAGE")
+    parser.add_argument("--write", type=pathlib.Path, metavar="PAGE")
     options = parser.parse_args()
     os.environ["LPD"] = options.program
     missing = [solver for solver in options.solvers if not shutil.which(solver)]
@@ -105,11 +111,7 @@ def main():
     faults = []
     lines = list(measure(options, faults))
     print("\n".join(lines))
-    if options.write:
-        write(pathlib.Path(options.write), BEGIN, END, lines)
-    for fault in faults:
-        print(f"FAULT: {fault}", file=sys.stderr)
-    return 1 if faults else 0
+    return ended(options.write, BEGIN, END, lines, faults)
 
 
 if __name__ == "__main__":
