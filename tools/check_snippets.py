@@ -36,7 +36,7 @@ LINK = "LOAD FREE\n{text}SOLVE\nQUIT\n"
 
 
 def pages():
-    return [TOP / "README.md", TOP / "clients" / "python" / "README.md", *sorted((TOP / "docs").glob("*.md")), *sorted((TOP / "examples").glob("*/README.md"))]
+    return [TOP / "README.md", TOP / "clients" / "python" / "README.md", *sorted((TOP / "docs").rglob("*.md")), *sorted((TOP / "examples").glob("*/README.md"))]
 
 
 def snippets(page):
