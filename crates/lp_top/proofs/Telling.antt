@@ -1,19 +1,24 @@
 -- What the top call tells.
-use Rattle.std.proofs.Common.{◌≡◌, ◌⊎◌, ℕ, List, [], Option, Some, Ok, Err, arith, sym, inl, inr, subst}
+use Rattle.std.proofs.Common.{◌≡◌, ◌⊎◌, ℕ, List, [], Option, Some, None, Ok, Err, arith, refl, sym, inl, inr, subst}
 use Rattle.std.specs.Io.KnownBytes.{Consumes}
 use denote.Ref.{Bor}
 use Rattle.spec_text.specs.declared.line.Line.{Line}
 use Rattle.spec_program.specs.declared.command_line.CommandLine.{CommandLine}
+use Rattle.spec_program.specs.declared.command_line.TextCommand.TheVariants.{Solve, Check, CheckWide, Basis, Iis, Range}
 use Rattle.spec_program.specs.CommandLine.{ExactTextCommand}
 use Rattle.spec_program.specs.Spelled.{spelled}
-use Rattle.spec_program.specs.TextOut.{said_of, MayWrite, code_of}
+use Rattle.spec_program.specs.RangeOut.{place_by, place_code}
+use Rattle.spec_program.specs.TextOut.{SaidBy, said_of, MayWrite, code_of}
 use Rattle.spec_mps.specs.declared.style.Style.{Style}
 use Rattle.lp_line.specs.declared.halt.Halt.{Halt}
 use Rattle.lp_line.specs.declared.halt.Halt.TheVariants as halts
 use Rattle.lp_generate.specs.Generating.{Writes, WritesAll, TellsOfWriting}
-use Rattle.lp_text_commands.specs.Hearing.{SaysSo, TellsOf}
+use Rattle.lp_text_commands.specs.Hearing.{Says, SaysSo, TellsOf}
 use Rattle.lp_script.specs.Run.{Moves, EndsSo}
 use Rattle.lp_text_commands.specs.Status.{code_behind}
+use Rattle.spec_server.specs.declared.asks.Reply.TheVariants as reply
+use Rattle.spec_server.specs.CheckOut.{check_code}
+use Rattle.spec_server.specs.Machine.{ExactReply}
 use Rattle.spec_server.specs.Streams.{Streams}
 use Rattle.lp_text_commands.specs.TextCommands.{ReadsText, TellsOfText}
 use Rattle.lp_top.specs.Top.{Tells, Does}
@@ -116,6 +121,52 @@ module _ {R : Type 0} (said : List (Line (List ℕ)) → Option R) (Out : R → 
     memory = λ e. absurd (omega (arith, e));
     over = λ e. h;
   }
+
+  done_told : (code : ℕ) → Says said Out code_of s code → (code ≡ 0) ⊎ (code ≡ 9) → TellsOf said Out code_of s code
+  done_told code h either = record {
+    done = λ e. h;
+    fault = λ e. absurd (not_done code (λ z. omega (arith, z, e)) (λ z. omega (arith, z, e)) either);
+    sink = λ e. absurd (not_done code (λ z. omega (arith, z, e)) (λ z. omega (arith, z, e)) either);
+    memory = λ e. absurd (not_done code (λ z. omega (arith, z, e)) (λ z. omega (arith, z, e)) either);
+    over = λ e. absurd (not_done code (λ z. omega (arith, z, e)) (λ z. omega (arith, z, e)) either);
+  }
+
+-- the status of what is said is one of two
+
+check_codes : (replied : ExactReply) → (check_code replied ≡ 0) ⊎ (check_code replied ≡ 9)
+check_codes (reply.Refused why) = inr refl
+check_codes (reply.Loaded rows columns) = inl refl
+check_codes (reply.Written text) = inl refl
+check_codes reply.Done = inl refl
+check_codes (reply.Answered what) = inl refl
+check_codes (reply.Certified lines) = inl refl
+check_codes (reply.Found how pivots publication) = inl refl
+check_codes (reply.Checked what) = inl refl
+check_codes reply.Bye = inl refl
+check_codes reply.Memory = inl refl
+
+place_codes : (place : Option ℕ) → (place_code place ≡ 0) ⊎ (place_code place ≡ 9)
+place_codes None = inr refl
+place_codes (Some at) = inl refl
+
+text_codes : (command : ExactTextCommand) (what : SaidBy command) →
+    (code_of command what ≡ 0) ⊎ (code_of command what ≡ 9)
+text_codes Solve (Ok m) = inl refl
+text_codes Solve (Err fault) = inr refl
+text_codes Check what = check_codes what
+text_codes CheckWide what = check_codes what
+text_codes Basis (Ok handed) = inl refl
+text_codes Basis (Err fault) = inr refl
+text_codes Iis (Ok m) = inl refl
+text_codes Iis (Err fault) = inr refl
+text_codes (Range moved name) (Ok m) = place_codes (place_by moved m name)
+text_codes (Range moved name) (Err fault) = inr refl
+
+pub text_done : (command : ExactTextCommand) (style : Style) (s : Streams) (code : ℕ) →
+    Says (said_of command style) (MayWrite command) (code_of command) s code → TellsOfText command style s code
+text_done command style s code h =
+    done_told (said_of command style) (MayWrite command) (code_of command) s code h
+    (subst (λ n. (n ≡ 0) ⊎ (n ≡ 9)) (sym h.status) (text_codes command h.what))
 
 pub text_halted : (command : ExactTextCommand) (style : Style) (s : Streams) (halt : Halt) (code : ℕ) →
     code ≡ code_behind halt → ReadsText command style s (Err halt) → TellsOfText command style s code

@@ -4,7 +4,7 @@ use Rattle.spec_program.specs.declared.command_line.CommandLine.TheVariants.{Run
 use Rattle.std.proofs.KnownBytes.{Consumes-nil}
 use Rattle.spec_program.specs.Fits.{Fits}
 use Rattle.spec_program.specs.Spelled.{spelled, spelled_text}
-use Rattle.lp_top.proofs.Telling.{run_done, run_stopped, text_halted, generated, not_generated, does_as}
+use Rattle.lp_top.proofs.Telling.{run_done, run_stopped, text_done, text_halted, generated, not_generated, does_as}
 use Rattle.lp_top.proofs.obey.Goals as goal
 
 pub run_script-requires-clause-workers : goal.run_script-requires-clause-workers
@@ -21,6 +21,12 @@ pub returns-in-Err-clause-output : goal.returns-in-Err-clause-output
 returns-in-Err-clause-output g c =
     does_as c.args.command (Run c.in-Run.workers c.in-Run.places) _ _ c.in-Run.is
     (run_stopped c.in-Err.halt c.from.result.code c.from.ensures c.in-Err.ensures.output)
+
+pub returns-in-Ok-read_text-clause-output : goal.returns-in-Ok-read_text-clause-output
+returns-in-Ok-read_text-clause-output g c =
+    does_as c.args.command (Read c.in-Read.command c.in-Read.style) _ _ c.in-Read.is
+    (text_done (spelled_text c.in-Read.command) c.in-Read.style _ c.in-Ok-read_text.status.code
+    c.in-Ok-read_text.ensures.output)
 
 pub returns-in-Err-read_text-clause-output : goal.returns-in-Err-read_text-clause-output
 returns-in-Err-read_text-clause-output g c =
