@@ -89,9 +89,6 @@ module _ (words : List (List ℕ)) (narrow wide : ExactTextCommand) where
   abbrev switches : OptionNames
   switches = (wide_row narrow wide).switches
 
-  abbrev chosen : Option (List ℕ) → ExactTextCommand
-  chosen given = by_width narrow wide given
-
   pub wide-refused : are_in (wide_row narrow wide).names switches words ≡ false →
       asked_by words (wide_row narrow wide) ≡ None
   wide-refused = refused (wide_row narrow wide) words (at_once words)
@@ -99,15 +96,15 @@ module _ (words : List (List ℕ)) (narrow wide : ExactTextCommand) where
   pub asks-wide : (style : Option Style) → are_in (wide_row narrow wide).names switches words ≡ true →
       form_given (value_in switches (codes "--form") words) ≡ style →
       asked_by words (wide_row narrow wide)
-      ≡ option_map (Read (chosen (value_in switches (codes "--wide") words))) style
+      ≡ option_map (Read (by_width narrow wide (value_in switches (codes "--wide") words))) style
   asks-wide style e is_style =
       let t = taken (wide_row narrow wide) words (at_once words) e in
       t.1
-      ∙ ap (λ v. option_map (Read (chosen (look_up (codes "--wide") t.0))) (form_given v))
+      ∙ ap (λ v. option_map (Read (by_width narrow wide (look_up (codes "--wide") t.0))) (form_given v))
       (sym (value-look_up switches (codes "--form") words t.0 t.2))
-      ∙ ap (λ v. option_map (Read (chosen v)) (form_given (value_in switches (codes "--form") words)))
+      ∙ ap (λ v. option_map (Read (by_width narrow wide v)) (form_given (value_in switches (codes "--form") words)))
       (sym (value-look_up switches (codes "--wide") words t.0 t.2))
-      ∙ ap (option_map (Read (chosen (value_in switches (codes "--wide") words)))) is_style
+      ∙ ap (option_map (Read (by_width narrow wide (value_in switches (codes "--wide") words)))) is_style
 
 -- ---- a model that is made: three plain words
 
