@@ -54,6 +54,23 @@ one_done value k f old new x d h e =
     past_it : (j k : ℕ) → k + 1 ≤ j → j ≡ k → ⊥
     past_it j k l s = absurd (omega (arith, l, s))
 
+-- the next one is as it was
+pub one_kept : {T : Type 0} (value : T → ℕ) (k : ℕ) (f : ℕ → ℤ) (old new : List (Signed T)) →
+    IsDone value k f old new → at value new k ≡ f k → IsDone value (k + 1) f old new
+one_kept value k f old new d e =
+    record {
+      done = λ j l.
+          ⊎_elim
+          (λ (s : j ≡ k). ap (at value new) s ∙ e ∙ ap f (sym s))
+          (λ (n : j ≢ k). d.done j (less_than j k l n))
+          (cases_eq j k);
+      rest = λ j l. d.rest j (omega (arith, l));
+      len = d.len;
+    }
+  where
+    less_than : (j k : ℕ) → j < k + 1 → j ≢ k → j < k
+    less_than j k l n = grind (arith, l, n)
+
 -- of the first k numbers P says so, and the others are as they were
 pub record AreSo {T : Type 0} (value : T → ℕ) (k : ℕ) (P : ℕ → ℤ → Type 0) (old new : List (Signed T)) : Type 0 where
   pub done : (j : ℕ) → j < k → P j (at value new j)

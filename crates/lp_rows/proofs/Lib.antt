@@ -6,3 +6,4 @@ pub mod Orders
 pub mod Divided
 pub mod Cleared
 pub mod Done
+pub mod Kept

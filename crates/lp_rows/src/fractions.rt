@@ -27,6 +27,13 @@ pub(crate) fn share_common<T: Words>(a: T, b: T) -> Option<Shares<T>>
     ensures { IfSome result (λ s. (T.value s.first * T.value s.common ≡ T.value a)
         × (T.value s.second * T.value s.common ≡ T.value b)) }
 {
+    if is_one(a) {
+        return Some(Shares {
+            first: a,
+            second: b,
+            common: T::one(),
+        });
+    }
     let common = some_common(a, b);
     match (quotient(a, common), quotient(b, common)) {
         (Some(first), Some(second)) => Some(Shares {
@@ -102,8 +109,14 @@ pub fn divide<T: Words>(row: &mut Row<T>, j: usize) -> bool
 // A divisor that a row's numbers have in common with its denominator. Nothing is promised of it.
 fn divisor<T: Words>(numbers: &[Signed<T>], denominator: T) -> T {
     let mut found = denominator;
+    if is_one(found) {
+        return found;
+    }
     let mut inverse = low_inverse(found);
     for number in numbers {
+        if number.size.is_zero() {
+            continue;
+        }
         if is_one(found) {
             break;
         }

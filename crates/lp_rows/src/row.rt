@@ -4,9 +4,71 @@ ghost use Rattle.lp_wide.specs.Whole.{whole};
 ghost use Rattle.lp_rows.specs.Row.{at, turned_if};
 
 use lp_wide::{Signed, Words, less_products, low_inverse, quotient_by};
+use std::cmp::Ordering;
+
+// Whether a number with a sign is 1.
+fn is_unit<T: Words>(a: Signed<T>) -> bool
+    ensures { IsTrue result → whole a.negative (T.value a.size) ≡ pos 1 }
+{
+    !a.negative && a.size.compare(T::one()) == Ordering::Equal
+}
+
+// Whether both numbers are 0.
+fn are_none<T: Words>(x: Signed<T>, y: Signed<T>) -> bool
+    ensures first { IsTrue result → T.value x.size ≡ 0 }
+    ensures second { IsTrue result → T.value y.size ≡ 0 }
+{
+    x.size.is_zero() && y.size.is_zero()
+}
+
+// Takes the other row `b` times off a row. Where it is false a number is past the width, and the row is spent.
+fn take_off<T: Words>(row: &mut [Signed<T>], other: &[Signed<T>], b: Signed<T>) -> bool
+    requires { length other.now ≡ length row.old }
+    ensures each { IsTrue result → (k : ℕ) → k < length row.old → at T.value row.new k ≡
+        at T.value row.old k -ℤ whole b.negative (T.value b.size) *ℤ at T.value other.now k }
+    ensures len { length row.new ≡ length row.old }
+{
+    let one = Signed {
+        negative: false,
+        size: T::one(),
+    };
+    for k in 0..row.len() {
+        let y = other[k];
+        if y.size.is_zero() {
+            continue;
+        }
+        match less_products(one, row[k], b, y) {
+            Some(number) => row[k] = number,
+            None => return false,
+        }
+    }
+    true
+}
+
+// Makes of each number of a row `a` times it, less `b` times that of the other row. Where it is false a number is past
+// the width, and the row is spent.
+fn combine<T: Words>(row: &mut [Signed<T>], other: &[Signed<T>], a: Signed<T>, b: Signed<T>) -> bool
+    requires { length other.now ≡ length row.old }
+    ensures each { IsTrue result → (k : ℕ) → k < length row.old → at T.value row.new k ≡
+        whole a.negative (T.value a.size) *ℤ at T.value row.old k -ℤ
+        whole b.negative (T.value b.size) *ℤ at T.value other.now k }
+    ensures len { length row.new ≡ length row.old }
+{
+    for k in 0..row.len() {
+        let (x, y) = (row[k], other[k]);
+        if are_none(x, y) {
+            continue;
+        }
+        match less_products(a, x, b, y) {
+            Some(number) => row[k] = number,
+            None => return false,
+        }
+    }
+    true
+}
 
 /// Makes of each number of a row `a` times it, less `b` times that of the other row. Where it is false a number is past
-/// the width, and the row is spent.
+/// the width, and the row is spent. Where `a` is 1, it passes over what the other row has none of.
 pub fn eliminate<T: Words>(
     row: &mut [Signed<T>],
     other: &[Signed<T>],
@@ -19,13 +81,11 @@ pub fn eliminate<T: Words>(
         whole b.negative (T.value b.size) *ℤ at T.value other.now k }
     ensures len { length row.new ≡ length row.old }
 {
-    for k in 0..row.len() {
-        match less_products(a, row[k], b, other[k]) {
-            Some(number) => row[k] = number,
-            None => return false,
-        }
+    if is_unit(a) {
+        take_off(row, other, b)
+    } else {
+        combine(row, other, a, b)
     }
-    true
 }
 
 /// Turns the sign of each number, or leaves them as they are.

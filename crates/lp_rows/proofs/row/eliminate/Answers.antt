@@ -1,18 +1,8 @@
--- One number more.
-use Rattle.std.proofs.Common.{◌≤◌, ◌<◌, length, sym, ap₂, ◌∙◌, arith, ◌*ℤ◌, ◌-ℤ◌}
-use Rattle.lp_wide.specs.Whole.{whole}
-use Rattle.lp_rows.proofs.Done.{one_done, item-at}
+-- The other row once, where the row stays as it is.
+use Rattle.std.proofs.Common.{sym, ◌∙◌, refl}
+use Rattle.lp_rows.proofs.Kept.{once}
 use Rattle.lp_rows.proofs.row.eliminate.Goals as goal
 
-pub loop-k-preserved : goal.loop-k-preserved
-loop-k-preserved g c =
-    let d = c.loop-k.invariant in
-    let n : c.loop-k.k < length c.loop-k.row = omega (arith, d.len, c.loop-k-test.true) in
-    let o : c.loop-k.k < length c.args.other.now = omega (arith, c.requires, c.loop-k-test.true) in
-    let e : c.loop-k.k ≤ c.loop-k.k = omega arith in
-    one_done g.T.Words.value c.loop-k.k _ c.args.row.now c.loop-k.row c.in-Some.number d n
-    (c.in-Some.ensures
-    ∙ ap₂ (λ x y. whole c.args.a.negative (g.T.Words.value c.args.a.size) *ℤ x -ℤ
-    whole c.args.b.negative (g.T.Words.value c.args.b.size) *ℤ y)
-    (sym (item-at g.T.Words.value c.loop-k.row c.loop-k.k _ n c.index-row-k.is) ∙ d.rest c.loop-k.k e)
-    (sym (item-at g.T.Words.value c.args.other.now c.loop-k.k _ o c.index-other-k.is)))
+pub returns-then-is_unit-clause-each : goal.returns-then-is_unit-clause-each
+returns-then-is_unit-clause-each g c t k l =
+    c.take_off.ensures.each t k l ∙ sym (once _ _ _ (c.if-is_unit.ensures refl))

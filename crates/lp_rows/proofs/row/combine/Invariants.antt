@@ -3,7 +3,7 @@ use Rattle.std.proofs.Common.{◌*ℤ◌, ◌-ℤ◌}
 use Rattle.lp_wide.specs.Whole.{whole}
 use Rattle.lp_rows.specs.Row.{at}
 use Rattle.lp_rows.proofs.Done.{IsDone}
-use Rattle.lp_rows.proofs.row.eliminate.Given as goal
+use Rattle.lp_rows.proofs.row.combine.Given as goal
 
 abbrev pub invariant-loop-k : goal.invariant-loop-k
 invariant-loop-k g l =

@@ -1,0 +1,26 @@
+-- A number of which nothing is taken, and one that is taken once.
+use Rattle.std.proofs.Common.{◌≡◌, ℕ, ℤ, pos, ◌*ℤ◌, ◌-ℤ◌, [], ◌∷◌, Bool, true, false, refl, sym, ap, ◌∙◌}
+use Rattle.spec_exact.proofs.Ring.{◌⊕◌, ◌⊗◌, minus, lit, v0, v1}
+use Rattle.spec_exact.proofs.Whole.{by_ring}
+use Rattle.lp_wide.specs.Whole.{whole}
+
+none : (negative : Bool) (n : ℕ) → n ≡ 0 → whole negative n ≡ pos 0
+none false n e = ap pos e
+none true n e = ap (whole true) e
+
+pub once : (u v w : ℤ) → u ≡ pos 1 → u *ℤ v -ℤ w ≡ v -ℤ w
+once u v w e =
+    ap (λ z. z *ℤ v -ℤ w) e ∙ by_ring (v ∷ w ∷ []) (lit (pos 1) ⊗ v0 ⊕ minus v1) (v0 ⊕ minus v1) refl
+
+pub less_none : (v b : ℤ) (m : Bool) (y : ℕ) → y ≡ 0 → v ≡ v -ℤ b *ℤ whole m y
+less_none v b m y e =
+    sym
+    (ap (λ z. v -ℤ b *ℤ z) (none m y e)
+    ∙ by_ring (v ∷ b ∷ []) (v0 ⊕ minus (v1 ⊗ lit (pos 0))) v0 refl)
+
+pub both_none : (u b : ℤ) (n m : Bool) (x y : ℕ) → x ≡ 0 → y ≡ 0 → whole n x ≡ u *ℤ whole n x -ℤ b *ℤ whole m y
+both_none u b n m x y d e =
+    none n x d
+    ∙ sym (by_ring (u ∷ []) (v0 ⊗ lit (pos 0)) (lit (pos 0)) refl)
+    ∙ ap (λ z. u *ℤ z) (sym (none n x d))
+    ∙ less_none (u *ℤ whole n x) b m y e

@@ -1,0 +1,11 @@
+-- The numbers that are done.
+use Rattle.std.proofs.Common.{◌*ℤ◌, ◌-ℤ◌}
+use Rattle.lp_wide.specs.Whole.{whole}
+use Rattle.lp_rows.specs.Row.{at}
+use Rattle.lp_rows.proofs.Done.{IsDone}
+use Rattle.lp_rows.proofs.row.take_off.Given as goal
+
+abbrev pub invariant-loop-k : goal.invariant-loop-k
+invariant-loop-k g l =
+    IsDone g.T.Words.value l.k (λ k. at g.T.Words.value l.fn.row k -ℤ
+    whole l.b.negative (g.T.Words.value l.b.size) *ℤ at g.T.Words.value l.other k) l.fn.row l.row
