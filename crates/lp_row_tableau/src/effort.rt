@@ -12,8 +12,12 @@ fn has_entry<T: Words>(row: &Row<T>, j: usize) -> bool {
     }
 }
 
-// How many numbers of a row are not 0.
+// How many numbers of a row are not 0. Those of one word are changed about as quickly as they are counted, so a quarter
+// of them stands for the count.
 fn entry_count<T: Words>(row: &Row<T>) -> usize {
+    if T::count() == 1 {
+        return row.numbers.len() / 4;
+    }
     let mut count: usize = 0;
     for number in &row.numbers {
         if !number.size.is_zero() {
@@ -34,8 +38,8 @@ fn entries_changed<T: Words>(tab: &RowTableau<T>, j: usize) -> usize {
     count
 }
 
-/// How much a step changes: all numbers that are not 0 of each row with an entry in its column, and of the reduced costs,
-/// each by the square of its words, since it is multiplied. Nothing is promised of it.
+/// How much a step changes: about as many numbers as are not 0 in the rows with an entry in its column, and in the
+/// reduced costs, each by the square of its words, since it is multiplied. Nothing is promised of it.
 pub fn effort_of<T: Words>(tab: &RowTableau<T>, step: Step) -> u64 {
     let col = match step {
         Step::End(_) => return 0,
