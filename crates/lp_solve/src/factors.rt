@@ -122,6 +122,15 @@ fn suits_factors(form: &Form) -> bool {
     has_columns_beside(form, entries) || has_few_sparse_columns(form, entries)
 }
 
+// How many rows for each column a tall model has.
+const TALL: u32 = 4;
+
+// Whether the tableaus are likely quicker than the rows of whole numbers, of which a step looks at each number: in a row
+// the basic columns are 0, one for each row of the model, and a tableau passes over them (docs/PERFORMANCE.md).
+fn is_tall(form: &Form) -> bool {
+    form.rows() / TALL >= form.cols()
+}
+
 // The two stated runs, each with the whole budget: the answer of either, or what the tableaus are refused. Which of
 // them comes first is a choice of speed alone.
 fn stated_runs(alloc: Global, budget: u64, model: &Model, form: &Form) -> Result<End, AllocError>
@@ -195,8 +204,8 @@ fn rows_first(alloc: Global, budget: u64, model: &Model, form: &Form) -> Result<
 
 /// The cold part of a solve, of which each run has the whole budget: an answer of the cold solve without a limit, to
 /// which the checker says yes at 127 bits, by a stated run or over rows of whole numbers; or without one what the
-/// tableaus are refused, where the run over factors gives up too. Rows come first where the tableaus would, and last
-/// where the run over factors is likely the quicker one: a choice of speed alone.
+/// tableaus are refused, where the run over factors gives up too. Rows come first, or last where a stated run is likely
+/// the quicker one: a choice of speed alone.
 pub(crate) fn cold_part(
     alloc: Global,
     budget: u64,
@@ -207,7 +216,7 @@ pub(crate) fn cold_part(
     ensures answer { IfOk result (order.MayEndCold (Some largest) budget model.now) }
     ensures narrow { IfOk result (IsFit model.now) }
 {
-    if suits_factors(form) {
+    if suits_factors(form) || is_tall(form) {
         stated_first(alloc, budget, model, form)
     } else {
         rows_first(alloc, budget, model, form)
