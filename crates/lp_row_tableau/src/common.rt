@@ -10,9 +10,13 @@ use lp_frac::{Frac, den, num};
 use lp_rows::Row;
 use lp_wide::{Signed, Words, from_number, from_whole, product, quotient, some_common, times};
 use std::alloc::{AllocError, Global};
+use std::cmp::Ordering;
 
 // A common multiple of both, in practice the least one. Nothing rests on its value.
 fn common_multiple<T: Words>(a: T, b: T) -> Option<T> {
+    if b.compare(T::one()) == Ordering::Equal {
+        return Some(a);
+    }
     match quotient(a, some_common(a, b)) {
         Some(share) => product(share, b),
         None => None,
