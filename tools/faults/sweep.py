@@ -10,6 +10,8 @@ For each script, with the output and the status of a run without faults as the m
 - Each read fails in turn. The run ends with status 3 and has written the replies to the commands that were read whole.
 - Each write fails in turn. The run ends with status 4 and has written a prefix of the output.
 - Each read and each write is interrupted in turn (EINTR), and all of them are short. Nothing changes.
+- The script is cut after each of its bytes. The run ends with status 6 inside a body, and else with status 0, with the same
+  replies to the commands that were left whole and one to a last line without its end, as if that had one.
 
 It builds refuse_memory.c and disturb_io.c beside it with the C compiler, $CC or cc, in a temporary folder, and preloads
 them. It prints each run that ends otherwise, and the counts last; the status is 0 where there is no such run.
@@ -22,8 +24,9 @@ from concurrent.futures import ThreadPoolExecutor
 from pathlib import Path
 
 HERE = Path(__file__).resolve().parent
-# At most so many bytes a call, in the runs in which each call of a kind is disturbed in turn.
-PIECE = 96
+# At most so many bytes a call, in the runs in which each call of a kind is disturbed in turn; and the smaller ones in which
+# each read fails in turn as well.
+PIECE, SMALL_PIECE = 96, 7
 SHORT = [1, 7]
 DATA_FORMS = (b"FREE", b"FIXED")
 
@@ -79,8 +82,8 @@ def body_end(words):
     return ends_certificate if len(words) == 2 and words[1] == b"CHECK" else None
 
 
-def commands_of(script):
-    """The commands of a script, each with its body and with the lines without a reply before it."""
+def parts_of(script):
+    """The commands of a script, each with its body and with the lines without a reply before it; and whether it ends in a body."""
     commands, open_lines, is_end = [], b"", None
     for line in script.splitlines(keepends=True):
         open_lines += line
@@ -93,7 +96,7 @@ def commands_of(script):
         if is_whole:
             commands.append(open_lines)
             open_lines, is_end = b"", None
-    return commands
+    return commands, is_end is not None
 
 
 def replies_of(output):
@@ -117,7 +120,7 @@ def replies_of(output):
 class Sweep:
     def __init__(self, program, name, script):
         self.program, self.name, self.script = program, name, script
-        self.commands = commands_of(script)
+        self.commands, _ = parts_of(script)
         self.status, self.output, _ = program.run(script)
         self.replies = replies_of(self.output)
         self.is_measure = self.status == 0 and len(self.replies) == len(self.commands)
@@ -132,11 +135,15 @@ class Sweep:
             yield f"request {n} for memory refused", lambda n=n: self.without_memory(n)
         reads, writes = self.program.counts(self.script, self.program.io, read_most=PIECE, write_most=PIECE)
         for n in range(1, reads + 1):
-            yield f"read {n} failing", lambda n=n: self.failing_read(n)
+            yield f"read {n} failing", lambda n=n: self.failing_read(n, PIECE)
             yield f"read {n} interrupted", lambda n=n: self.unchanged(read_interrupted_at=n, read_most=PIECE)
         for n in range(1, writes + 1):
             yield f"write {n} failing", lambda n=n: self.failing_write(n)
             yield f"write {n} interrupted", lambda n=n: self.unchanged(write_interrupted_at=n, write_most=PIECE)
+        for n in range(1, self.program.counts(self.script, self.program.io, read_most=SMALL_PIECE)[0] + 1):
+            yield f"read {n} of {SMALL_PIECE} bytes failing", lambda n=n: self.failing_read(n, SMALL_PIECE)
+        for size in range(len(self.script)):
+            yield f"a cut after {size} bytes", lambda size=size: self.cut(self.script[:size])
         for most in SHORT:
             yield f"reads of {most} bytes", lambda most=most: self.unchanged(read_most=most)
             yield f"writes of {most} bytes", lambda most=most: self.unchanged(write_most=most)
@@ -147,14 +154,19 @@ class Sweep:
             return f"status {status}, and {'the same' if output == self.output else 'another'} output"
         return None
 
-    def failing_read(self, n):
-        status, output, _ = self.program.run(self.script, self.program.io, read_fails_at=n, read_most=PIECE)
+    def whole_within(self, size):
+        """How many commands end within so many bytes."""
+        whole = 0
+        while whole < len(self.commands) and len(self.commands[whole]) <= size:
+            size -= len(self.commands[whole])
+            whole += 1
+        return whole
+
+    def failing_read(self, n, piece):
+        status, output, _ = self.program.run(self.script, self.program.io, read_fails_at=n, read_most=piece)
         if status != 3:
             return f"status {status} in place of 3"
-        whole, left = 0, PIECE * (n - 1)
-        while whole < len(self.commands) and len(self.commands[whole]) <= left:
-            left -= len(self.commands[whole])
-            whole += 1
+        whole = self.whole_within(piece * (n - 1))
         return None if output == b"".join(self.replies[:whole]) else f"other output than of the {whole} commands that were read"
 
     def failing_write(self, n):
@@ -162,6 +174,16 @@ class Sweep:
         if status != 4:
             return f"status {status} in place of 4"
         return None if self.output.startswith(output) else "no prefix of the output"
+
+    def cut(self, script):
+        commands, is_in_body = parts_of(script)
+        status, output, _ = self.program.run(script)
+        if status != (6 if is_in_body else 0):
+            return f"status {status}, {'inside' if is_in_body else 'outside'} a body"
+        replies, whole = replies_of(output), self.whole_within(len(script))
+        if replies[:whole] != self.replies[:whole] or len(replies) != len(commands):
+            return f"{len(replies)} replies to {len(commands)} commands, or others than to the {whole} that are whole"
+        return None if self.program.run(script + b"\n")[:2] == (status, output) else "a line without an end is none"
 
     def without_memory(self, n):
         status, output, _ = self.program.run(self.script, self.program.memory, memory_at=n)
