@@ -1,3 +1,4 @@
 pub mod Choose
 pub mod Reduce
 pub mod Carry
+pub mod Presolved

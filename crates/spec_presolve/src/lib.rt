@@ -8,26 +8,36 @@
 //! | `halted` | the certificate of an end that shows that no point is feasible | specs/Carry |
 //! | `carried_over`, `carried` | a certificate carried back over one reduction, and over all | specs/Carry |
 //! | `IsCarried`, `IsShown` | that a certificate is accepted for a model, and shows the same, or that no point is feasible | specs/Carry |
+//! | `Presolved`, `Way`, `Why` | how a solve by the smaller model ends, and which model was solved | src/presolved |
+//! | `IsPresolved` | what it may end with, at the limit of the program and within a budget | specs/Presolved |
 //!
-//! Each definition has a limit, at which an operation may be refused. The laws on certificates hold at each limit.
+//! Each other definition has a limit, at which an operation may be refused. The laws on certificates hold at each limit.
 //!
 //! The functions here have the laws as their contracts.
 #![tactic(auto)]
 
+mod presolved;
 mod reduction;
 
-ghost use Rattle.std.specs.Prelude.{All, ◌≡◌, ◌+◌, ℕ, Option, Some, Ok, length};
+ghost use Rattle.std.specs.Prelude.{All, ◌≡◌, ◌+◌, ℕ, List, Option, Some, Ok, length};
+ghost use Rattle.spec_exact.specs.Fraction.{ℚ};
 ghost use Rattle.spec_model.specs.Model.{Model, width, height};
 ghost use Rattle.spec_exact.specs.Narrow.{widest};
 ghost use Rattle.spec_model.specs.Kept.{IsModel};
+ghost use Rattle.spec_check.specs.declared.certificate.Certificate.{Certificate};
+ghost use Rattle.spec_check.specs.declared.certificate.Known.{Known};
+ghost use Rattle.spec_check.specs.declared.solve_end.SolveEnd.TheVariants.{Ended};
 ghost use Rattle.spec_check.specs.Certificate.{IsFor, shown, Holds};
 ghost use Rattle.spec_check.specs.Run.{Agrees, check_run};
 ghost use Rattle.spec_check.specs.Checks.{Checks};
+ghost use Rattle.spec_pivot.specs.declared.status.Status.{Status};
 ghost use Rattle.spec_presolve.specs.declared.reduction.Choice.TheVariants as choice;
 ghost use Rattle.spec_presolve.specs.Choose.{chosen};
 ghost use Rattle.spec_presolve.specs.Reduce.{Reductions, reduced};
 ghost use Rattle.spec_presolve.specs.Carry.{ExactCertificate, carried, halted, IsCarried, IsShown};
+ghost use Rattle.spec_presolve.specs.Presolved.{ExactPresolved, IsPresolved};
 
+pub use presolved::{Presolved, Way, Why};
 pub use reduction::{Choice, Halt, InRow, Reduction};
 
 /// A certificate of the last model, carried back at any limit, is accepted for the first one, and shows the same of it,
@@ -62,4 +72,11 @@ pub fn reductions_end()
 pub fn reduced_models_may_be_kept()
     ensures { (m : Model) (r : Reductions) → IsModel m → reduced (Some widest) m ≡ Ok r →
         All (λ s. IsModel s.1) r.steps × IsModel r.last }
+{}
+
+/// What is known by a smaller model is true of the model itself.
+pub fn presolved_answers_are_true()
+    ensures { (m : Model) (budget : ℕ) (p : ExactPresolved) (known : Known ℚ) (cert : Certificate (List ℚ))
+        (basis : Option (List Status)) (pivots : ℕ) →
+        IsPresolved m budget p → p.end ≡ Ended known cert basis pivots → Holds m known }
 {}
