@@ -1,0 +1,161 @@
+-- What is found by the last model, and why nothing is.
+use Rattle.std.proofs.Common.{◌≡◌, ◌≢◌, ℕ, ◌+◌, ◌<◌, ◌≤◌, ◌^◌, Some, None, Result, Ok, Err, List, [], ◌++◌, length}
+use Rattle.std.proofs.Common.{inl, inr}
+use Rattle.std.proofs.Common.{refl, sym, ap, ◌∙◌, subst, arith}
+use Rattle.std.proofs.lemmas.List.{length-map}
+use Rattle.spec_exact.specs.Fraction.{ℚ}
+use Rattle.spec_exact.specs.declared.past.Past.{Past as Refusal}
+use Rattle.spec_model.specs.Model.{Model, width, height}
+use Rattle.spec_model.specs.Kept.{IsModel}
+use Rattle.spec_check.specs.declared.certificate.Certificate.TheVariants.{Optimal, Infeasible, Clash, Unbounded}
+use Rattle.spec_check.specs.declared.certificate.CheckStop.{CheckStop}
+use Rattle.spec_check.specs.declared.certificate.CheckStop.TheVariants as check
+use Rattle.spec_check.specs.declared.certificate.Known.{Known}
+use Rattle.spec_check.specs.declared.solve_end.SolveEnd.TheVariants.{Ended}
+use Rattle.spec_check.specs.Certificate.{IsFor, IsNarrowCertificate, shown}
+use Rattle.spec_check.specs.Run.{check_run, Agrees}
+use Rattle.spec_check.proofs.RunAgrees.{run_agrees}
+use Rattle.spec_check.proofs.RunComplete.{run_complete}
+use Rattle.spec_solve.specs.Answers.{number_limit, MayAnswer}
+use Rattle.spec_presolve.specs.declared.presolved.Why.TheVariants as why
+use Rattle.spec_presolve.specs.declared.presolved.Way.TheVariants.{Reduced}
+use Rattle.spec_presolve.specs.declared.reduction.Halt.{Halt}
+use Rattle.spec_presolve.specs.Reduce.{Reductions, reduced, reduced_within}
+use Rattle.spec_presolve.specs.Carry.{ExactCertificate, halted, carried, IsCarried}
+use Rattle.spec_presolve.specs.Presolved.{ExactWhy, ExactPresolved, IsLast, IsPlain, ByCheck, ByCarried, ByReductions}
+use Rattle.spec_presolve.specs.Presolved.{IsPresolved}
+use Rattle.spec_presolve.proofs.Carried.{carries}
+use Rattle.spec_presolve.proofs.Ends.{ends_well}
+use Rattle.lp_frac.specs.declared.stop.Stop.{Stop}
+use Rattle.lp_frac.specs.declared.stop.Stop.TheVariants as stop
+use Rattle.lp_frac.specs.Narrow.{largest}
+use Rattle.lp_reduction.specs.declared.step.Step.{Step}
+use Rattle.lp_reduction.specs.Clash.{clash_of}
+use Rattle.lp_reduction.specs.Kept.{all_kept}
+use Rattle.lp_reduction.specs.Tells.{Tells, LeadsTo, StopsAt}
+use Rattle.lp_presolve.specs.Tries.{LastTells, Accepts, Led, Falls, Tries}
+use Rattle.lp_presolve.proofs.Lasts.{Fits, last_fits}
+
+-- ---- the model as it is
+
+falls : (m : Model) (budget : ℕ) (w : ExactWhy) →
+    ((p : ExactPresolved) → IsPlain m budget w p → ByReductions m budget (reduced (Some number_limit) m) p) → Falls m budget w
+falls m budget w f p (way, (solved, is, end)) =
+    record {
+      may_answer = subst (MayAnswer m budget) (sym end) is.may_answer;
+      by_reductions = f p (way, (solved, is, end));
+    }
+
+-- ---- the reductions
+
+pub led : (m first last : Model) (before now : List Step) (n : ℕ) (halt : Halt) → n ≡ width m + height m → first ≡ m →
+    before ≡ [] → LeadsTo (reduced_within (Some largest) n first) last before now halt → Led m last now halt
+led m first last before now n halt e f g (steps, h, k) =
+    record {
+      steps = steps;
+      run = sym (ap (λ n. reduced_within (Some number_limit) n m) e) ∙ sym (ap (reduced_within (Some number_limit) n) f) ∙ h;
+      are_kept = k ∙ ap (λ xs. xs ++ all_kept steps) g;
+    }
+
+pub not_reduced : {C : Type 0} (m first : Model) (budget n : ℕ) (e : Stop C) → n ≡ width m + height m → first ≡ m →
+    StopsAt (reduced_within (Some largest) n first) e → Tries m budget (Err e)
+not_reduced m first budget n (stop.Cause c) e f h = absurd h
+not_reduced m first budget n (stop.Past q) e f h =
+    let run : reduced (Some number_limit) m ≡ Err q =
+    sym (ap (λ n. reduced_within (Some number_limit) n m) e) ∙ sym (ap (reduced_within (Some number_limit) n) f) ∙ h in
+    falls m budget (why.Past q) (λ p plain. subst (λ r. ByReductions m budget r p) (sym run) plain)
+not_reduced m first budget n stop.NoMemory e f h = tt
+
+module _ (m last : Model) (budget : ℕ) (now : List Step) (halt : Halt) (l : Led m last now halt) where
+  abbrev all : Reductions
+  all = record { steps = l.steps; last = last; halt = halt }
+
+  -- ---- the last model
+
+  pub not_solved : {C : Type 0} (e : Stop C) → LastTells last budget (halted last halt) (Err e) → Tries m budget (Err e)
+  not_solved (stop.Cause c) is =
+      falls m budget why.Spent
+      (λ p plain. subst (λ r. ByReductions m budget r p) (sym l.run) (Err why.Spent, is, plain))
+  not_solved (stop.Past q) is =
+      falls m budget (why.Past q)
+      (λ p plain. subst (λ r. ByReductions m budget r p) (sym l.run) (Err (why.Past q), is, plain))
+  not_solved stop.NoMemory is = tt
+
+  -- ---- its certificate
+
+  module _ (c : ExactCertificate) (pivots : ℕ) (is : IsLast last budget (halted last halt) (Ok (c, pivots))) where
+    fit : Fits last c
+    fit = last_fits m budget all c pivots l.run is
+
+    -- few enough steps, so that the number of a column that clashes is one of 32 bits on the whole way
+    pub few_steps : IsModel m → clash_of c + length now < 2 ^ 32
+    few_steps model =
+        let count : length l.steps + (width last + height last) ≡ width m + height m =
+        (ends_well (Some number_limit) m all l.run).count in
+        let same : length now ≡ length l.steps = ap length l.are_kept ∙ length-map l.steps _ in
+        let clash = clash_inside c fit.fits in
+        let rows : height m ≤ 256 = model.few_rows in
+        let columns : width m ≤ 512 = model.few_columns in
+        omega (arith, count, same, clash, rows, columns)
+      where
+        clash_inside : (c : ExactCertificate) → IsFor last c → clash_of c ≤ width last
+        clash_inside (Optimal x y) f = omega arith
+        clash_inside (Infeasible y) f = omega arith
+        clash_inside (Clash k) f = omega (arith, f)
+        clash_inside (Unbounded x r) f = omega arith
+
+    pub not_carried : {C : Type 0} (e : Stop C) → Tells (carried (Some largest) l.steps c) (Err e) → Tries m budget (Err e)
+    not_carried (stop.Cause x) t = absurd t
+    not_carried (stop.Past q) t =
+        falls m budget (why.Past q)
+        (λ p plain. subst (λ r. ByReductions m budget r p) (sym l.run)
+        (Ok (c, pivots), is, subst (λ b. ByCarried m budget last pivots b p) (sym t) plain))
+    not_carried stop.NoMemory t = tt
+
+    -- ---- what is carried back
+
+    module _ (back : ExactCertificate) (t : carried (Some largest) l.steps c ≡ Ok back) where
+      is_carried : IsCarried m last c back
+      is_carried = carries (Some number_limit) m all c back l.run t fit.fits fit.checks
+
+      pub back_fits : IsFor m back
+      back_fits = is_carried.fits
+
+      pub never_no : (n : ℕ) → check_run (Some largest) m back ≢ Err (check.No n)
+      unfolding Agrees
+      never_no n e = by (run_agrees (Some number_limit) m back)
+        where
+          whole : check_run None m back ≡ Ok (shown m back)
+          whole = run_complete m back is_carried.checks
+
+          by : Agrees (check_run (Some number_limit) m back) (check_run None m back) → ⊥
+          by (inl same) =
+              let z : ◌≡◌ {A = Result (Known ℚ) (CheckStop ℚ)} (Err (check.No n)) (Ok (shown m back)) = sym e ∙ same ∙ whole in cc
+          by (inr (q, past)) =
+              let z : ◌≡◌ {A = Result (Known ℚ) (CheckStop ℚ)} (Err (check.No n)) (Err (check.Past q)) = sym e ∙ past in cc
+
+      -- by what the checker says
+      checked : (p : ExactPresolved) → ByCheck m budget last back pivots (check_run (Some number_limit) m back) p →
+          ByReductions m budget (reduced (Some number_limit) m) p
+      checked p by =
+          subst (λ r. ByReductions m budget r p) (sym l.run)
+          (Ok (c, pivots), is, subst (λ b. ByCarried m budget last pivots b p) (sym t) by)
+
+      pub not_accepted : (q : Refusal ℚ) → Accepts m last back pivots (Err q) → Falls m budget (why.Past q)
+      not_accepted q refused =
+          falls m budget (why.Past q)
+          (λ p plain. checked p (subst (λ v. ByCheck m budget last back pivots v p) (sym refused) plain))
+
+      pub found : (p : ExactPresolved) → IsNarrowCertificate back → Accepts m last back pivots (Ok p) →
+          IsPresolved m budget p
+      found p narrow (known, says, e) = subst (IsPresolved m budget) (sym e) whole
+        where
+          answer : ExactPresolved
+          answer = record { way = Reduced (height last) (width last); end = Ended known back None pivots }
+
+          whole : IsPresolved m budget answer
+          whole =
+              record {
+                may_answer = (back_fits, narrow, says);
+                by_reductions = checked answer (subst (λ v. ByCheck m budget last back pivots v answer) (sym says) (refl, refl));
+              }
