@@ -9,6 +9,7 @@
 //! | `MayAnswer` | what a solve may end with, at the limit of the program and within a budget | specs/Answers |
 //! | `HowFits`, `ColdFits`, `WarmFits` | how the end was found | specs/Answers |
 //! | `IsSolved` | all that holds of what a solve ends with, of which a basis may be handed | specs/Answers |
+//! | `WideSolved`, `IsWideSolved` | what a solve ends with whose certificate may have numbers of any width | src/wide_solved, specs/Wide |
 //! | `number_limit`, `enough_pivots` | the limit of the program, and so many pivots and flips as are enough | specs/Answers |
 //!
 //! All runs take a limit: `Some m` refuses numbers past m, `None` refuses nothing. The functions here have the laws as
@@ -16,6 +17,8 @@
 //!
 //! The solve over whole tableaus alone is that of `spec_warm`, the run over factors that of `spec_factor`.
 #![tactic(auto)]
+
+mod wide_solved;
 
 ghost use Rattle.std.specs.Prelude.{◌≡◌, ◌⊎◌, ℕ, List, Option, Some, None, Ok, Err, IfSome};
 ghost use Rattle.spec_exact.specs.Fraction.{ℚ};
@@ -38,6 +41,10 @@ ghost use Rattle.spec_warm.specs.Solve.{SolveEnd, HasBasis, solve};
 ghost use Rattle.spec_factor.specs.Over.{over_factors};
 ghost use Rattle.spec_solve.specs.Order.{GivesUp, MayEndCold, MayEnd, cold_over};
 ghost use Rattle.spec_solve.specs.Answers.{number_limit, MayAnswer, IsSolved};
+ghost use Rattle.spec_solve.specs.declared.wide_solved.WideSolved.TheVariants as wide;
+ghost use Rattle.spec_solve.specs.Wide.{IsWideSolved};
+
+pub use wide_solved::WideSolved;
 
 /// The cold part of a solve ends as the cold solve without a limit, or with an operation that is refused.
 pub fn cold_parts_end_as_without_a_limit()
@@ -133,4 +140,21 @@ pub fn solves_leave_bases_of_the_form()
         (known : Known ℚ) (cert : Certificate (List ℚ)) (left : List Status) (pivots : ℕ) →
         form_of (Some number_limit) m ≡ Ok f → IfSome handed (IsBasisOf f) → IsSolved m budget handed solved →
         solved.end ≡ outcome.Ended known cert (Some left) pivots → IsBasisOf f left }
+{}
+
+/// What is answered with numbers of any width is true, and without a limit the checker accepts its certificate, which
+/// is one for the model.
+pub fn wide_answers_are_true()
+    ensures { (m : Model) (budget : ℕ) (known : Known ℚ) (cert : Certificate (List ℚ)) →
+        IsWideSolved m budget (wide.Wide known cert) →
+        Holds m known × IsFor m cert × (check_run None m cert ≡ Ok known) }
+{}
+
+/// A wide solve that ends as a solve ends as one, and it ends otherwise only where a solve may be refused an operation.
+pub fn wide_solves_only_add_answers()
+    ensures narrow { (m : Model) (budget : ℕ) (solved : SolveEnd) →
+        IsWideSolved m budget (wide.Narrow solved) → IsSolved m budget None solved }
+    ensures wide { (m : Model) (budget : ℕ) (known : Known ℚ) (cert : Certificate (List ℚ)) →
+        IsWideSolved m budget (wide.Wide known cert) →
+        (solved : SolveEnd) × (p : Past ℚ) × IsSolved m budget None solved × (solved.end ≡ outcome.Past p) }
 {}
