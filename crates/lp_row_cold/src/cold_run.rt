@@ -7,12 +7,14 @@ ghost use Rattle.spec_simplex.specs.Phases.{phases_run};
 ghost use Rattle.lp_frac.specs.Narrow.{largest};
 ghost use Rattle.lp_row_tableau.specs.Shows.{IsWhole, IsReached, Shows};
 ghost use Rattle.lp_row_cold.specs.Phases.{rest_run, HasCosts, IsReady, IsLeft};
-ghost use Rattle.lp_row_cold.specs.Cold.{start_run, EndsAs, IsNarrowEnd, LeavesAt, LeavesReady};
+ghost use Rattle.lp_row_cold.specs.Cold.{start_run, EndsAs, EndsAsStated, IsFitEnd, IsNarrowEnd, LeavesAt, LeavesReady};
 
 use crate::phases::{Phase, PhasesPause, RowEnd, State, go_on};
 use lp_form::Form;
-use lp_frac::Stop;
+use lp_frac::{Frac, Stop};
+use lp_ratio::Ratio;
 use lp_row_tableau::{from_tableau, wants_phase_one, widened};
+use lp_rows::Listed;
 use lp_tableau::{Tableau, start_cold};
 use lp_wide::{Double, Words};
 use std::alloc::{AllocError, Global};
@@ -25,20 +27,35 @@ type Words512 = Double<Words256>;
 
 type Words1024 = Double<Words512>;
 
-// The effort of a run, some seconds of it: each number that is changed counts for the square of its words.
+type Words2048 = Double<Words1024>;
+
+// The effort of a run whose certificate has numbers of 127 bits, some seconds of it: each number that is changed counts
+// for the square of its words.
 const WORK: u64 = 512_000_000;
+
+// How far a run goes before it gives up.
+#[derive(Clone, Copy)]
+struct Reach {
+    work: u64,
+    // Whether it goes on in words of 2,048 bits.
+    is_far: bool,
+}
 
 // What a width leaves.
 #[derive(Drop)]
-pub(crate) enum Left<T: Words> {
-    Ended(RowEnd),
+pub(crate) enum Left<T: Words, N> {
+    Ended(RowEnd<N>),
     /// The rows in wider words, from which to go on.
     Wider(State<T>),
     GaveUp,
 }
 
 // The state of the tableau that a form begins with. There is none where a number is past the width.
-fn begun<T: Words>(alloc: Global, tab: &Tableau) -> Result<Option<State<T>>, AllocError>
+fn begun<T: Words>(
+    alloc: Global,
+    tab: &Tableau,
+    reach: Reach,
+) -> Result<Option<State<T>>, AllocError>
     ensures run { (budget : ℕ) (f : Forms) → IsReached tab.now →
         IfOk result (λ o. IfSome o (IsLeft T.value budget f (start_run budget f tab.now))) }
     ensures ready { (f : Forms) → f.rows ≡ tab.now.rows → f.cols ≡ tab.now.cols →
@@ -55,7 +72,8 @@ fn begun<T: Words>(alloc: Global, tab: &Tableau) -> Result<Option<State<T>>, All
                 tab: rows,
                 phase,
                 used: 0,
-                work: WORK,
+                work: reach.work,
+                is_far: reach.is_far,
             }))
         }
         None => Ok(None),
@@ -76,21 +94,22 @@ fn wider<T: Words>(alloc: Global, state: &State<T>) -> Result<State<Double<T>>, 
         phase: state.phase,
         used: state.used,
         work: state.work,
+        is_far: state.is_far,
     })
 }
 
 // Both phases at a width that is not the last one.
-fn at_width<T: Words>(
+fn at_width<T: Words, N: Listed>(
     alloc: Global,
     form: &Form,
     budget: u64,
     state: &mut State<T>,
-) -> Result<Left<Double<T>>, AllocError>
+) -> Result<Left<Double<T>, N>, AllocError>
     requires { IsReady T.value form.now state.old }
     ensures run { (t : tableaus.Tableau) → HasCosts form.now → IsReached t → Shows T.value state.old.tab t →
-        IfOk result (LeavesAt ⟦<Double<T> as Words>⟧.value budget form.now
+        IfOk result (LeavesAt N.of ⟦<Double<T> as Words>⟧.value budget form.now
         (rest_run budget form.now state.old.phase state.old.used t)) }
-    ensures ready { IfOk result (LeavesReady ⟦<Double<T> as Words>⟧.value form.now) }
+    ensures ready { IfOk result (LeavesReady N.fits ⟦<Double<T> as Words>⟧.value form.now) }
 {
     match go_on(alloc, form, state, budget, true)? {
         PhasesPause::Ended(end) => Ok(Left::Ended(end)),
@@ -99,42 +118,69 @@ fn at_width<T: Words>(
     }
 }
 
-// Both phases from where they stand, in the widest words.
-fn at_1024(
+// Both phases from where they stand, in the widest words, if the run goes that far.
+fn at_2048<N: Listed>(
     alloc: Global,
     form: &Form,
     budget: u64,
-    state: &mut State<Words1024>,
-) -> Result<Option<RowEnd>, AllocError>
-    requires { IsReady ⟦<Double<Double<Double<Double<u64>>>> as Words>⟧.value form.now state.old }
+    state: &mut State<Words2048>,
+) -> Result<Option<RowEnd<N>>, AllocError>
+    requires { IsReady ⟦<Double<Double<Double<Double<Double<u64>>>>> as Words>⟧.value form.now state.old }
     ensures run { (t : tableaus.Tableau) → HasCosts form.now → IsReached t →
-        Shows ⟦<Double<Double<Double<Double<u64>>>> as Words>⟧.value state.old.tab t →
-        IfOk result (EndsAs (rest_run budget form.now state.old.phase state.old.used t)) }
-    ensures narrow { IfOk result IsNarrowEnd }
+        Shows ⟦<Double<Double<Double<Double<Double<u64>>>>> as Words>⟧.value state.old.tab t →
+        IfOk result (EndsAs N.of (rest_run budget form.now state.old.phase state.old.used t)) }
+    ensures fits { IfOk result (IsFitEnd N.fits) }
 {
+    if !state.is_far {
+        return Ok(None);
+    }
     match go_on(alloc, form, state, budget, false)? {
         PhasesPause::Ended(end) => Ok(Some(end)),
         PhasesPause::Narrow | PhasesPause::GaveUp => Ok(None),
     }
 }
 
-// The same from words of 512 bits on.
-fn from_512(
+// The same from words of 1,024 bits on.
+fn from_1024<N: Listed>(
     alloc: Global,
     form: &Form,
     budget: u64,
-    state: &mut State<Words512>,
-) -> Result<Option<RowEnd>, AllocError>
-    requires { IsReady ⟦<Double<Double<Double<u64>>> as Words>⟧.value form.now state.old }
+    state: &mut State<Words1024>,
+) -> Result<Option<RowEnd<N>>, AllocError>
+    requires { IsReady ⟦<Double<Double<Double<Double<u64>>>> as Words>⟧.value form.now state.old }
     ensures run { (t : tableaus.Tableau) → HasCosts form.now → IsReached t →
-        Shows ⟦<Double<Double<Double<u64>>> as Words>⟧.value state.old.tab t →
-        IfOk result (EndsAs (rest_run budget form.now state.old.phase state.old.used t)) }
-    ensures narrow { IfOk result IsNarrowEnd }
+        Shows ⟦<Double<Double<Double<Double<u64>>>> as Words>⟧.value state.old.tab t →
+        IfOk result (EndsAs N.of (rest_run budget form.now state.old.phase state.old.used t)) }
+    ensures fits { IfOk result (IsFitEnd N.fits) }
 {
     match at_width(alloc, form, budget, state)? {
         Left::Ended(end) => Ok(Some(end)),
         Left::Wider(mut state) => {
-            let end = at_1024(alloc, form, budget, &mut state);
+            let end = at_2048(alloc, form, budget, &mut state);
+            drop(state);
+            end
+        }
+        Left::GaveUp => Ok(None),
+    }
+}
+
+// The same from words of 512 bits on.
+fn from_512<N: Listed>(
+    alloc: Global,
+    form: &Form,
+    budget: u64,
+    state: &mut State<Words512>,
+) -> Result<Option<RowEnd<N>>, AllocError>
+    requires { IsReady ⟦<Double<Double<Double<u64>>> as Words>⟧.value form.now state.old }
+    ensures run { (t : tableaus.Tableau) → HasCosts form.now → IsReached t →
+        Shows ⟦<Double<Double<Double<u64>>> as Words>⟧.value state.old.tab t →
+        IfOk result (EndsAs N.of (rest_run budget form.now state.old.phase state.old.used t)) }
+    ensures fits { IfOk result (IsFitEnd N.fits) }
+{
+    match at_width(alloc, form, budget, state)? {
+        Left::Ended(end) => Ok(Some(end)),
+        Left::Wider(mut state) => {
+            let end = from_1024(alloc, form, budget, &mut state);
             drop(state);
             end
         }
@@ -143,17 +189,17 @@ fn from_512(
 }
 
 // The same from words of 256 bits on.
-fn from_256(
+fn from_256<N: Listed>(
     alloc: Global,
     form: &Form,
     budget: u64,
     state: &mut State<Words256>,
-) -> Result<Option<RowEnd>, AllocError>
+) -> Result<Option<RowEnd<N>>, AllocError>
     requires { IsReady ⟦<Double<Double<u64>> as Words>⟧.value form.now state.old }
     ensures run { (t : tableaus.Tableau) → HasCosts form.now → IsReached t →
         Shows ⟦<Double<Double<u64>> as Words>⟧.value state.old.tab t →
-        IfOk result (EndsAs (rest_run budget form.now state.old.phase state.old.used t)) }
-    ensures narrow { IfOk result IsNarrowEnd }
+        IfOk result (EndsAs N.of (rest_run budget form.now state.old.phase state.old.used t)) }
+    ensures fits { IfOk result (IsFitEnd N.fits) }
 {
     match at_width(alloc, form, budget, state)? {
         Left::Ended(end) => Ok(Some(end)),
@@ -167,17 +213,17 @@ fn from_256(
 }
 
 // The same from words of 128 bits on.
-fn from_128(
+fn from_128<N: Listed>(
     alloc: Global,
     form: &Form,
     budget: u64,
     state: &mut State<Words128>,
-) -> Result<Option<RowEnd>, AllocError>
+) -> Result<Option<RowEnd<N>>, AllocError>
     requires { IsReady ⟦<Double<u64> as Words>⟧.value form.now state.old }
     ensures run { (t : tableaus.Tableau) → HasCosts form.now → IsReached t →
         Shows ⟦<Double<u64> as Words>⟧.value state.old.tab t →
-        IfOk result (EndsAs (rest_run budget form.now state.old.phase state.old.used t)) }
-    ensures narrow { IfOk result IsNarrowEnd }
+        IfOk result (EndsAs N.of (rest_run budget form.now state.old.phase state.old.used t)) }
+    ensures fits { IfOk result (IsFitEnd N.fits) }
 {
     match at_width(alloc, form, budget, state)? {
         Left::Ended(end) => Ok(Some(end)),
@@ -191,17 +237,17 @@ fn from_128(
 }
 
 // The same from words of 64 bits on.
-fn from_64(
+fn from_64<N: Listed>(
     alloc: Global,
     form: &Form,
     budget: u64,
     state: &mut State<u64>,
-) -> Result<Option<RowEnd>, AllocError>
+) -> Result<Option<RowEnd<N>>, AllocError>
     requires { IsReady ⟦<u64 as Words>⟧.value form.now state.old }
     ensures run { (t : tableaus.Tableau) → HasCosts form.now → IsReached t →
         Shows ⟦<u64 as Words>⟧.value state.old.tab t →
-        IfOk result (EndsAs (rest_run budget form.now state.old.phase state.old.used t)) }
-    ensures narrow { IfOk result IsNarrowEnd }
+        IfOk result (EndsAs N.of (rest_run budget form.now state.old.phase state.old.used t)) }
+    ensures fits { IfOk result (IsFitEnd N.fits) }
 {
     match at_width(alloc, form, budget, state)? {
         Left::Ended(end) => Ok(Some(end)),
@@ -215,21 +261,22 @@ fn from_64(
 }
 
 // From a start that needs the widest words.
-fn begun_1024(
+fn begun_2048<N: Listed>(
     alloc: Global,
     form: &Form,
     budget: u64,
     tab: &Tableau,
-) -> Result<Option<RowEnd>, AllocError>
+    reach: Reach,
+) -> Result<Option<RowEnd<N>>, AllocError>
     requires rows { form.now.rows ≡ tab.now.rows }
     requires cols { form.now.cols ≡ tab.now.cols }
     ensures run { HasCosts form.now → IsReached tab.now →
-        IfOk result (EndsAs (start_run budget form.now tab.now)) }
-    ensures narrow { IfOk result IsNarrowEnd }
+        IfOk result (EndsAs N.of (start_run budget form.now tab.now)) }
+    ensures fits { IfOk result (IsFitEnd N.fits) }
 {
-    match begun::<Words1024>(alloc, tab)? {
+    match begun::<Words2048>(alloc, tab, reach)? {
         Some(mut state) => {
-            let end = at_1024(alloc, form, budget, &mut state);
+            let end = at_2048(alloc, form, budget, &mut state);
             drop(state);
             end
         }
@@ -237,95 +284,145 @@ fn begun_1024(
     }
 }
 
-// From a start that needs words of 512 bits, or wider ones.
-fn begun_512(
+// From a start that needs words of 1,024 bits, or wider ones.
+fn begun_1024<N: Listed>(
     alloc: Global,
     form: &Form,
     budget: u64,
     tab: &Tableau,
-) -> Result<Option<RowEnd>, AllocError>
+    reach: Reach,
+) -> Result<Option<RowEnd<N>>, AllocError>
     requires rows { form.now.rows ≡ tab.now.rows }
     requires cols { form.now.cols ≡ tab.now.cols }
     ensures run { HasCosts form.now → IsReached tab.now →
-        IfOk result (EndsAs (start_run budget form.now tab.now)) }
-    ensures narrow { IfOk result IsNarrowEnd }
+        IfOk result (EndsAs N.of (start_run budget form.now tab.now)) }
+    ensures fits { IfOk result (IsFitEnd N.fits) }
 {
-    match begun::<Words512>(alloc, tab)? {
+    match begun::<Words1024>(alloc, tab, reach)? {
+        Some(mut state) => {
+            let end = from_1024(alloc, form, budget, &mut state);
+            drop(state);
+            end
+        }
+        None => begun_2048(alloc, form, budget, tab, reach),
+    }
+}
+
+// From a start that needs words of 512 bits, or wider ones.
+fn begun_512<N: Listed>(
+    alloc: Global,
+    form: &Form,
+    budget: u64,
+    tab: &Tableau,
+    reach: Reach,
+) -> Result<Option<RowEnd<N>>, AllocError>
+    requires rows { form.now.rows ≡ tab.now.rows }
+    requires cols { form.now.cols ≡ tab.now.cols }
+    ensures run { HasCosts form.now → IsReached tab.now →
+        IfOk result (EndsAs N.of (start_run budget form.now tab.now)) }
+    ensures fits { IfOk result (IsFitEnd N.fits) }
+{
+    match begun::<Words512>(alloc, tab, reach)? {
         Some(mut state) => {
             let end = from_512(alloc, form, budget, &mut state);
             drop(state);
             end
         }
-        None => begun_1024(alloc, form, budget, tab),
+        None => begun_1024(alloc, form, budget, tab, reach),
     }
 }
 
 // From a start that needs words of 256 bits, or wider ones.
-fn begun_256(
+fn begun_256<N: Listed>(
     alloc: Global,
     form: &Form,
     budget: u64,
     tab: &Tableau,
-) -> Result<Option<RowEnd>, AllocError>
+    reach: Reach,
+) -> Result<Option<RowEnd<N>>, AllocError>
     requires rows { form.now.rows ≡ tab.now.rows }
     requires cols { form.now.cols ≡ tab.now.cols }
     ensures run { HasCosts form.now → IsReached tab.now →
-        IfOk result (EndsAs (start_run budget form.now tab.now)) }
-    ensures narrow { IfOk result IsNarrowEnd }
+        IfOk result (EndsAs N.of (start_run budget form.now tab.now)) }
+    ensures fits { IfOk result (IsFitEnd N.fits) }
 {
-    match begun::<Words256>(alloc, tab)? {
+    match begun::<Words256>(alloc, tab, reach)? {
         Some(mut state) => {
             let end = from_256(alloc, form, budget, &mut state);
             drop(state);
             end
         }
-        None => begun_512(alloc, form, budget, tab),
+        None => begun_512(alloc, form, budget, tab, reach),
     }
 }
 
 // From a start that needs words of 128 bits, or wider ones.
-fn begun_128(
+fn begun_128<N: Listed>(
     alloc: Global,
     form: &Form,
     budget: u64,
     tab: &Tableau,
-) -> Result<Option<RowEnd>, AllocError>
+    reach: Reach,
+) -> Result<Option<RowEnd<N>>, AllocError>
     requires rows { form.now.rows ≡ tab.now.rows }
     requires cols { form.now.cols ≡ tab.now.cols }
     ensures run { HasCosts form.now → IsReached tab.now →
-        IfOk result (EndsAs (start_run budget form.now tab.now)) }
-    ensures narrow { IfOk result IsNarrowEnd }
+        IfOk result (EndsAs N.of (start_run budget form.now tab.now)) }
+    ensures fits { IfOk result (IsFitEnd N.fits) }
 {
-    match begun::<Words128>(alloc, tab)? {
+    match begun::<Words128>(alloc, tab, reach)? {
         Some(mut state) => {
             let end = from_128(alloc, form, budget, &mut state);
             drop(state);
             end
         }
-        None => begun_256(alloc, form, budget, tab),
+        None => begun_256(alloc, form, budget, tab, reach),
     }
 }
 
 // From the start in words of 64 bits, or in the least ones that it fits.
-fn from_start(
+fn from_start<N: Listed>(
     alloc: Global,
     form: &Form,
     budget: u64,
     tab: &Tableau,
-) -> Result<Option<RowEnd>, AllocError>
+    reach: Reach,
+) -> Result<Option<RowEnd<N>>, AllocError>
     requires rows { form.now.rows ≡ tab.now.rows }
     requires cols { form.now.cols ≡ tab.now.cols }
     ensures run { HasCosts form.now → IsReached tab.now →
-        IfOk result (EndsAs (start_run budget form.now tab.now)) }
-    ensures narrow { IfOk result IsNarrowEnd }
+        IfOk result (EndsAs N.of (start_run budget form.now tab.now)) }
+    ensures fits { IfOk result (IsFitEnd N.fits) }
 {
-    match begun::<u64>(alloc, tab)? {
+    match begun::<u64>(alloc, tab, reach)? {
         Some(mut state) => {
             let end = from_64(alloc, form, budget, &mut state);
             drop(state);
             end
         }
-        None => begun_128(alloc, form, budget, tab),
+        None => begun_128(alloc, form, budget, tab, reach),
+    }
+}
+
+// The cold run over rows of whole numbers, with the certificate in one kind of numbers.
+fn cold_run<N: Listed>(
+    alloc: Global,
+    form: &Form,
+    budget: u64,
+    reach: Reach,
+) -> Result<Option<RowEnd<N>>, AllocError>
+    ensures whole { (m : Model) → form_of (Some largest) m ≡ Ok form.now →
+        IfOk result (EndsAs N.of (phases_run None budget form.now)) }
+    ensures fits { IfOk result (IsFitEnd N.fits) }
+{
+    match start_cold(alloc, form) {
+        Ok(tab) => {
+            let end = from_start(alloc, form, budget, &tab, reach);
+            drop(tab);
+            end
+        }
+        Err(Stop::Past(_)) => Ok(None),
+        Err(Stop::NoMemory) => Err(AllocError),
     }
 }
 
@@ -336,18 +433,29 @@ fn from_start(
 /// 127 bits, a number of a row past 1,024, or one of the certificate past 127, or where the budget is spent, or a bound
 /// on the work. Which of these it is, is not said, and nothing is promised of when they come. Only want of memory is an
 /// error.
-pub fn cold(alloc: Global, form: &Form, budget: u64) -> Result<Option<RowEnd>, AllocError>
+pub fn cold(alloc: Global, form: &Form, budget: u64) -> Result<Option<RowEnd<Frac>>, AllocError>
     ensures whole { (m : Model) → form_of (Some largest) m ≡ Ok form.now →
-        IfOk result (EndsAs (phases_run None budget form.now)) }
+        IfOk result (EndsAsStated (phases_run None budget form.now)) }
     ensures narrow { IfOk result IsNarrowEnd }
 {
-    match start_cold(alloc, form) {
-        Ok(tab) => {
-            let end = from_start(alloc, form, budget, &tab);
-            drop(tab);
-            end
-        }
-        Err(Stop::Past(_)) => Ok(None),
-        Err(Stop::NoMemory) => Err(AllocError),
-    }
+    let reach = Reach {
+        work: WORK,
+        is_far: false,
+    };
+    cold_run(alloc, form, budget, reach)
+}
+
+/// The same run with a certificate whose numbers have any width, and with numbers of rows of up to 2,048 bits, within a
+/// bound on the work that the caller has: each number that is changed counts for the square of its words.
+pub fn wide_cold(
+    alloc: Global,
+    form: &Form,
+    budget: u64,
+    work: u64,
+) -> Result<Option<RowEnd<Ratio>>, AllocError>
+    ensures { (m : Model) → form_of (Some largest) m ≡ Ok form.now →
+        IfOk result (EndsAsStated (phases_run None budget form.now)) }
+{
+    let reach = Reach { work, is_far: true };
+    cold_run(alloc, form, budget, reach)
 }

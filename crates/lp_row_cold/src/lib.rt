@@ -1,9 +1,10 @@
 //! The cold run over rows of whole numbers: both phases of the simplex method, in words of 64 bits, and where a number
-//! does not fit, on from there in words of 128, 256, 512 and 1,024.
+//! does not fit, on from there in words of 128, 256, 512 and 1,024; and in words of 2,048, where the numbers of the
+//! certificate may have any width.
 //!
 //! | Item | What it is | Where |
 //! |---|---|---|
-//! | `cold`, `RowEnd` | the run of a form within a budget, and what it ends with | src/cold_run, src/phases |
+//! | `cold`, `wide_cold`, `RowEnd` | the run of a form within a budget, with numbers of 127 bits or of any width in the certificate, and what it ends with | src/cold_run, src/phases |
 //! | `go_on`, `State`, `Phase` | both phases at one width, from where they stand | src/phases |
 //! | `run` | steps at one width | src/steps |
 //!
@@ -15,5 +16,5 @@ mod cold_run;
 mod phases;
 mod steps;
 
-pub use cold_run::cold;
+pub use cold_run::{cold, wide_cold};
 pub use phases::RowEnd;

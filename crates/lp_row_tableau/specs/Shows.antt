@@ -1,6 +1,6 @@
 -- Which tableau of exact fractions the rows of whole numbers are.
 use Rattle.std.specs.Prelude.{◌≡◌, ◌≢◌, ℕ, zero, suc, ◌+◌, ◌*◌, ◌<◌, ◌≤◌, List, [], ◌∷◌, length, get_or}
-use Rattle.std.specs.Prelude.{None, Bool, false, All}
+use Rattle.std.specs.Prelude.{None, false, All}
 use Rattle.spec_exact.specs.Fraction.{ℚ, 0ℚ}
 use Rattle.spec_model.specs.Kept.{row_limit, column_limit}
 use Rattle.spec_pivot.specs.Tableau.{Matrix}

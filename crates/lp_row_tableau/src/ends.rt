@@ -1,25 +1,24 @@
 // The certificate and the basis of an end.
 ghost use Rattle.std.specs.Prelude.{◌≡◌, ◌≢◌, ◌<◌, ◌++◌, ◌∷◌, [], ◌&&◌, All, IfOk, IfSome, OnOk, Some, None, get_or};
 ghost use Rattle.std.specs.Prelude.{length, nat_le, ◌+◌, ◌*◌};
-ghost use Rattle.spec_exact.specs.Fraction.{neg_ℚ};
-ghost use Rattle.spec_exact.specs.Narrow.{IsNarrow};
+ghost use Rattle.spec_exact.specs.Fraction.{ℚ, neg_ℚ};
 ghost use Rattle.spec_exact.specs.Run.{made};
 ghost use Rattle.spec_pivot.specs.declared.status.Status.TheVariants as statuses;
-ghost use Rattle.spec_check.specs.Certificate.{IsNarrowCertificate};
 ghost use Rattle.spec_simplex.specs.declared.ends.PrimalEnd.TheVariants as primal;
 ghost use Rattle.spec_simplex.specs.Step as step;
 ghost use Rattle.spec_simplex.specs.Tableau as tableaus;
 ghost use Rattle.spec_cold.specs.Cold as cold;
+ghost use Rattle.lp_rows.specs.Number.{fraction_of};
 ghost use Rattle.lp_rows.specs.Row.{fraction_at};
 ghost use Rattle.lp_rows.specs.Ratio.{bound_of};
 ghost use Rattle.lp_row_tableau.specs.Shows.{IsRow, IsWhole, IsReached, Shows, height, width, all_width, row_at};
-ghost use Rattle.lp_row_tableau.specs.Ends.{certificate_by, basis_by, IsInside};
+ghost use Rattle.lp_row_tableau.specs.Ends.{certificate_as, basis_by, AllFit, IsInside, point_as, multipliers_as, direction_as};
 
 use crate::tableau::RowTableau;
 use lp_form::{Status, StatusList, is_basic};
-use lp_frac::{Frac, Fracs, LARGEST, den, neg, num, one, zero};
-use lp_rows::{Row, fraction};
-use lp_tableau::{PrimalEnd, directed};
+use lp_list::Items;
+use lp_rows::{Listed, Row, RowFraction, directed, negated, one, zero};
+use lp_tableau::PrimalEnd;
 use lp_wide::{Signed, Words, product};
 use spec_check::Certificate;
 use std::alloc::{AllocError, Global};
@@ -39,47 +38,54 @@ fn place_of(basic: &[u32], k: u32) -> Option<usize>
 }
 
 // The value of a position's basic column.
-fn basic_value<T: Words>(tab: &RowTableau<T>, i: usize) -> Option<Frac>
+fn basic_value<T: Words>(tab: &RowTableau<T>, i: usize) -> Option<RowFraction<T>>
     requires whole { IsWhole T.value tab.now }
     requires inside { i < height tab.now }
-    ensures { IfSome result
-        (λ v. v ≡ row_at T.value (T.value tab.now.denominator) tab.now.rows.items i (width tab.now)) }
+    ensures { IfSome result (λ v. fraction_of T.value v ≡
+        row_at T.value (T.value tab.now.denominator) tab.now.rows.items i (width tab.now)) }
 {
     let last = tab.width();
     last_number(&tab.rows[i], last, tab.denominator)
 }
 
 // The number of a row's last column, on a further denominator.
-fn last_number<T: Words>(row: &Row<T>, last: usize, denominator: T) -> Option<Frac>
+fn last_number<T: Words>(row: &Row<T>, last: usize, denominator: T) -> Option<RowFraction<T>>
     requires row { IsRow T.value last row.now }
-    requires positive { 0 < T.value denominator }
-    ensures { IfSome result (λ v. v ≡
+    ensures { IfSome result (λ v. fraction_of T.value v ≡
         fraction_at T.value row.now.numbers.items (T.value denominator * T.value row.now.denominator) last) }
 {
     match product(denominator, row.denominator) {
-        Some(both) => fraction(row.numbers[last], both),
+        Some(both) => Some(RowFraction {
+            number: row.numbers[last],
+            denominator: both,
+        }),
         None => None,
     }
 }
 
 // A number of a row.
-fn number<T: Words>(row: &Row<T>, columns: usize, k: usize) -> Option<Frac>
+fn number<T: Words>(row: &Row<T>, columns: usize, k: usize) -> RowFraction<T>
     requires row { IsRow T.value columns row.now }
     requires inside { k < columns }
-    ensures { IfSome result (λ v. v ≡
-        fraction_at T.value row.now.numbers.items (T.value row.now.denominator) k) }
+    ensures { fraction_of T.value result ≡
+        fraction_at T.value row.now.numbers.items (T.value row.now.denominator) k }
 {
-    fraction(row.numbers[k], row.denominator)
+    RowFraction {
+        number: row.numbers[k],
+        denominator: row.denominator,
+    }
 }
 
 // A bound, as 0 where there is none.
-fn bound_or_zero<T: Words>(bound: Option<Signed<T>>, denominator: T) -> Option<Frac>
-    requires { 0 < T.value denominator }
-    ensures { IfSome result (λ v. v ≡ tableaus.or_zero (bound_of T.value (T.value denominator) bound)) }
+fn bound_or_zero<T: Words>(bound: Option<Signed<T>>, denominator: T) -> RowFraction<T>
+    ensures { fraction_of T.value result ≡ tableaus.or_zero (bound_of T.value (T.value denominator) bound) }
 {
     match bound {
-        Some(n) => fraction(n, denominator),
-        None => Some(zero()),
+        Some(number) => RowFraction {
+            number,
+            denominator,
+        },
+        None => zero(),
     }
 }
 
@@ -89,24 +95,24 @@ fn stand<T: Words>(
     lower: Option<Signed<T>>,
     upper: Option<Signed<T>>,
     denominator: T,
-) -> Option<Frac>
-    requires { 0 < T.value denominator }
-    ensures { IfSome result (λ v. (status ≢ statuses.Basic) × (v ≡ tableaus.stand status
+) -> Option<RowFraction<T>>
+    ensures { IfSome result (λ v. (status ≢ statuses.Basic) × (fraction_of T.value v ≡ tableaus.stand status
         (bound_of T.value (T.value denominator) lower) (bound_of T.value (T.value denominator) upper))) }
 {
     match status {
         Status::Basic => None,
-        Status::AtLower => bound_or_zero(lower, denominator),
-        Status::AtUpper => bound_or_zero(upper, denominator),
+        Status::AtLower => Some(bound_or_zero(lower, denominator)),
+        Status::AtUpper => Some(bound_or_zero(upper, denominator)),
         Status::AtZero => Some(zero()),
     }
 }
 
 // The value of a column.
-fn value_of<T: Words>(tab: &RowTableau<T>, j: u32) -> Option<Frac>
+fn value_of<T: Words>(tab: &RowTableau<T>, j: u32) -> Option<RowFraction<T>>
     requires whole { IsWhole T.value tab.now }
     requires inside { j < all_width tab.now }
-    ensures { (t : tableaus.Tableau) → Shows T.value tab.now t → IfSome result (λ v. v ≡ tableaus.value_at t j) }
+    ensures { (t : tableaus.Tableau) → Shows T.value tab.now t →
+        IfSome result (λ v. fraction_of T.value v ≡ tableaus.value_at t j) }
 {
     let k = j as usize;
     match place_of(&tab.basic, j) {
@@ -116,29 +122,27 @@ fn value_of<T: Words>(tab: &RowTableau<T>, j: u32) -> Option<Frac>
 }
 
 // The reduced cost of a row's logical.
-fn multiplier<T: Words>(tab: &RowTableau<T>, i: usize) -> Option<Frac>
+fn multiplier<T: Words>(tab: &RowTableau<T>, i: usize) -> RowFraction<T>
     requires whole { IsWhole T.value tab.now }
     requires inside { i < height tab.now }
     ensures { (t : tableaus.Tableau) → Shows T.value tab.now t →
-        IfSome result (λ v. v ≡ tableaus.reduced_at t (t.cols + i)) }
+        fraction_of T.value result ≡ tableaus.reduced_at t (t.cols + i) }
 {
     let columns = tab.width();
     number(&tab.costs, columns, tab.cols as usize + i)
 }
 
 // How the basic column of a position moves while column `j` enters and rises or falls by 1.
-fn basic_move<T: Words>(tab: &RowTableau<T>, i: usize, j: u32, up: bool) -> Option<Frac>
+fn basic_move<T: Words>(tab: &RowTableau<T>, i: usize, j: u32, up: bool) -> RowFraction<T>
     requires whole { IsWhole T.value tab.now }
     requires place { i < height tab.now }
     requires column { j < width tab.now }
     ensures { (t : tableaus.Tableau) → Shows T.value tab.now t →
-        IfSome result (λ v. v ≡ neg_ℚ (step.directed up (tableaus.entry_at t i j))) }
+        fraction_of T.value result ≡ neg_ℚ (step.directed up (tableaus.entry_at t i j)) }
 {
     let columns = tab.width();
-    match number(&tab.rows[i], columns, j as usize) {
-        Some(entry) => Some(neg(directed(up, entry))),
-        None => None,
-    }
+    let entry = number(&tab.rows[i], columns, j as usize);
+    negated(directed(up, entry))
 }
 
 // How column `k` moves then by this position and what it does by those before.
@@ -148,14 +152,14 @@ fn move_by<T: Words>(
     j: u32,
     up: bool,
     k: u32,
-    so_far: Option<Frac>,
-) -> Option<Frac>
+    so_far: RowFraction<T>,
+) -> RowFraction<T>
     requires whole { IsWhole T.value tab.now }
     requires place { i < height tab.now }
     requires column { j < width tab.now }
     ensures { (t : tableaus.Tableau) → Shows T.value tab.now t →
-        IfSome so_far (λ v. v ≡ cold.moves_below t j up k i) →
-        IfSome result (λ v. v ≡ cold.moves_below t j up k (i + 1)) }
+        fraction_of T.value so_far ≡ cold.moves_below t j up k i →
+        fraction_of T.value result ≡ cold.moves_below t j up k (i + 1) }
 {
     if tab.basic[i] == k {
         basic_move(tab, i, j, up)
@@ -164,14 +168,21 @@ fn move_by<T: Words>(
     }
 }
 
+// How the entering column itself moves, and each other one but for the positions.
+fn own_move<T: Words>(j: u32, up: bool, k: u32) -> RowFraction<T>
+    ensures { (t : tableaus.Tableau) → fraction_of T.value result ≡ cold.moves_below t j up k 0 }
+{
+    if k == j { directed(up, one()) } else { zero() }
+}
+
 // How column `k` moves then.
-fn move_of<T: Words>(tab: &RowTableau<T>, j: u32, up: bool, k: u32) -> Option<Frac>
+fn move_of<T: Words>(tab: &RowTableau<T>, j: u32, up: bool, k: u32) -> RowFraction<T>
     requires whole { IsWhole T.value tab.now }
     requires column { j < width tab.now }
     ensures { (t : tableaus.Tableau) → Shows T.value tab.now t →
-        IfSome result (λ v. v ≡ cold.moves_by t j up k) }
+        fraction_of T.value result ≡ cold.moves_by t j up k }
 {
-    let mut moved = Some(if k == j { directed(up, one()) } else { zero() });
+    let mut moved = own_move(j, up, k);
     for i in 0..tab.rows.len() {
         moved = move_by(tab, i, j, up, k, moved);
     }
@@ -180,28 +191,40 @@ fn move_of<T: Words>(tab: &RowTableau<T>, j: u32, up: bool, k: u32) -> Option<Fr
 
 // ---- lists of numbers
 
-// Puts a fraction at the end, whose parts have at most 127 bits as those of each one.
-fn push(fracs: &mut Fracs, v: Frac) -> Result<(), AllocError>
-    ensures pushed { OnOk result (fracs.new ≡ fracs.old ++ v ∷ []) }
-    ensures narrow { IsNarrow v }
+// The number of a list, if there is one.
+fn listed<T: Words, N: Listed>(
+    alloc: Global,
+    v: Option<RowFraction<T>>,
+) -> Result<Option<N>, AllocError>
+    ensures value { (q : ℚ) → IfSome v (λ v. fraction_of T.value v ≡ q) →
+        IfOk result (λ o. IfSome o (λ n. n ≡ N.of q)) }
+    ensures fits { IfOk result (λ o. IfSome o N.fits) }
 {
-    prove!(num(v).unsigned_abs() <= LARGEST);
-    prove!(den(v).unsigned_abs() <= LARGEST);
-    fracs.push(v)?;
-    Ok(())
+    match v {
+        Some(v) => {
+            if v.denominator.is_zero() {
+                return Ok(None);
+            }
+            N::from_row(alloc, v)
+        }
+        None => Ok(None),
+    }
 }
 
 // The values of the model's columns.
-fn point<T: Words>(alloc: Global, tab: &RowTableau<T>) -> Result<Option<Fracs>, AllocError>
+fn point<T: Words, N: Listed>(
+    alloc: Global,
+    tab: &RowTableau<T>,
+) -> Result<Option<Items<N>>, AllocError>
     requires { IsWhole T.value tab.now }
     ensures value { (t : tableaus.Tableau) → Shows T.value tab.now t →
-        IfOk result (λ o. IfSome o (λ x. x ≡ cold.point t)) }
-    ensures narrow { IfOk result (λ o. IfSome o (All IsNarrow)) }
+        IfOk result (λ o. IfSome o (λ x. x ≡ point_as N.of t)) }
+    ensures fits { IfOk result (λ o. IfSome o (All N.fits)) }
 {
-    let mut point = Fracs::new(alloc);
+    let mut point: Items<N> = Items::new(alloc);
     for j in 0..tab.cols {
-        match value_of(tab, j) {
-            Some(v) => push(&mut point, v)?,
+        match listed(alloc, value_of(tab, j))? {
+            Some(v) => point.push(v)?,
             None => return Ok(None),
         }
     }
@@ -209,16 +232,19 @@ fn point<T: Words>(alloc: Global, tab: &RowTableau<T>) -> Result<Option<Fracs>, 
 }
 
 // The reduced costs of the rows' logicals.
-fn multipliers<T: Words>(alloc: Global, tab: &RowTableau<T>) -> Result<Option<Fracs>, AllocError>
+fn multipliers<T: Words, N: Listed>(
+    alloc: Global,
+    tab: &RowTableau<T>,
+) -> Result<Option<Items<N>>, AllocError>
     requires { IsWhole T.value tab.now }
     ensures value { (t : tableaus.Tableau) → Shows T.value tab.now t →
-        IfOk result (λ o. IfSome o (λ y. y ≡ cold.multipliers t)) }
-    ensures narrow { IfOk result (λ o. IfSome o (All IsNarrow)) }
+        IfOk result (λ o. IfSome o (λ y. y ≡ multipliers_as N.of t)) }
+    ensures fits { IfOk result (λ o. IfSome o (All N.fits)) }
 {
-    let mut multipliers = Fracs::new(alloc);
+    let mut multipliers: Items<N> = Items::new(alloc);
     for i in 0..tab.rows.len() {
-        match multiplier(tab, i) {
-            Some(v) => push(&mut multipliers, v)?,
+        match listed(alloc, Some(multiplier(tab, i)))? {
+            Some(v) => multipliers.push(v)?,
             None => return Ok(None),
         }
     }
@@ -226,22 +252,22 @@ fn multipliers<T: Words>(alloc: Global, tab: &RowTableau<T>) -> Result<Option<Fr
 }
 
 // How the model's columns move while column `j` enters and rises or falls by 1.
-fn direction<T: Words>(
+fn direction<T: Words, N: Listed>(
     alloc: Global,
     tab: &RowTableau<T>,
     j: u32,
     up: bool,
-) -> Result<Option<Fracs>, AllocError>
+) -> Result<Option<Items<N>>, AllocError>
     requires whole { IsWhole T.value tab.now }
     requires column { j < width tab.now }
     ensures value { (t : tableaus.Tableau) → Shows T.value tab.now t →
-        IfOk result (λ o. IfSome o (λ r. r ≡ cold.direction t j up)) }
-    ensures narrow { IfOk result (λ o. IfSome o (All IsNarrow)) }
+        IfOk result (λ o. IfSome o (λ r. r ≡ direction_as N.of t j up)) }
+    ensures fits { IfOk result (λ o. IfSome o (All N.fits)) }
 {
-    let mut direction = Fracs::new(alloc);
+    let mut direction: Items<N> = Items::new(alloc);
     for k in 0..tab.cols {
-        match move_of(tab, j, up, k) {
-            Some(v) => push(&mut direction, v)?,
+        match listed(alloc, Some(move_of(tab, j, up, k)))? {
+            Some(v) => direction.push(v)?,
             None => return Ok(None),
         }
     }
@@ -250,14 +276,14 @@ fn direction<T: Words>(
 
 // ---- certificates
 
-fn infeasible<T: Words>(
+fn infeasible<T: Words, N: Listed>(
     alloc: Global,
     tab: &RowTableau<T>,
-) -> Result<Option<Certificate<Fracs>>, AllocError>
+) -> Result<Option<Certificate<Items<N>>>, AllocError>
     requires { IsWhole T.value tab.now }
     ensures value { (t : tableaus.Tableau) → Shows T.value tab.now t →
-        IfOk result (λ o. IfSome o (λ c. c ≡ certificate_by t None)) }
-    ensures narrow { IfOk result (λ o. IfSome o IsNarrowCertificate) }
+        IfOk result (λ o. IfSome o (λ c. c ≡ certificate_as N.of t None)) }
+    ensures fits { IfOk result (λ o. IfSome o (AllFit N.fits)) }
 {
     match multipliers(alloc, tab)? {
         Some(y) => Ok(Some(Certificate::Infeasible { y })),
@@ -265,14 +291,14 @@ fn infeasible<T: Words>(
     }
 }
 
-fn optimal<T: Words>(
+fn optimal<T: Words, N: Listed>(
     alloc: Global,
     tab: &RowTableau<T>,
-) -> Result<Option<Certificate<Fracs>>, AllocError>
+) -> Result<Option<Certificate<Items<N>>>, AllocError>
     requires { IsWhole T.value tab.now }
     ensures value { (t : tableaus.Tableau) → Shows T.value tab.now t →
-        IfOk result (λ o. IfSome o (λ c. c ≡ certificate_by t (Some primal.Optimal))) }
-    ensures narrow { IfOk result (λ o. IfSome o IsNarrowCertificate) }
+        IfOk result (λ o. IfSome o (λ c. c ≡ certificate_as N.of t (Some primal.Optimal))) }
+    ensures fits { IfOk result (λ o. IfSome o (AllFit N.fits)) }
 {
     let Some(x) = point(alloc, tab)? else {
         return Ok(None);
@@ -283,17 +309,17 @@ fn optimal<T: Words>(
     }
 }
 
-fn unbounded<T: Words>(
+fn unbounded<T: Words, N: Listed>(
     alloc: Global,
     tab: &RowTableau<T>,
     col: u32,
     up: bool,
-) -> Result<Option<Certificate<Fracs>>, AllocError>
+) -> Result<Option<Certificate<Items<N>>>, AllocError>
     requires whole { IsWhole T.value tab.now }
     requires column { col < width tab.now }
     ensures value { (t : tableaus.Tableau) → Shows T.value tab.now t →
-        IfOk result (λ o. IfSome o (λ c. c ≡ certificate_by t (Some (primal.Unbounded col up)))) }
-    ensures narrow { IfOk result (λ o. IfSome o IsNarrowCertificate) }
+        IfOk result (λ o. IfSome o (λ c. c ≡ certificate_as N.of t (Some (primal.Unbounded col up)))) }
+    ensures fits { IfOk result (λ o. IfSome o (AllFit N.fits)) }
 {
     let Some(x) = point(alloc, tab)? else {
         return Ok(None);
@@ -305,16 +331,16 @@ fn unbounded<T: Words>(
 }
 
 // The certificate of an end of phase two.
-fn certificate_at<T: Words>(
+fn certificate_at<T: Words, N: Listed>(
     alloc: Global,
     tab: &RowTableau<T>,
     end: PrimalEnd,
-) -> Result<Option<Certificate<Fracs>>, AllocError>
+) -> Result<Option<Certificate<Items<N>>>, AllocError>
     requires whole { IsWhole T.value tab.now }
     requires inside { IsInside tab.now (Some end) }
     ensures value { (t : tableaus.Tableau) → Shows T.value tab.now t →
-        IfOk result (λ o. IfSome o (λ c. c ≡ certificate_by t (Some end))) }
-    ensures narrow { IfOk result (λ o. IfSome o IsNarrowCertificate) }
+        IfOk result (λ o. IfSome o (λ c. c ≡ certificate_as N.of t (Some end))) }
+    ensures fits { IfOk result (λ o. IfSome o (AllFit N.fits)) }
 {
     match end {
         PrimalEnd::Optimal => optimal(alloc, tab),
@@ -323,17 +349,17 @@ fn certificate_at<T: Words>(
 }
 
 /// The certificate of an end: that of phase two, or of phase one where it leaves an artificial column that is not 0.
-/// There is none where a number is past 127 bits.
-pub fn certificate<T: Words>(
+/// There is none where a number is past the width of its kind, or past that of the words.
+pub fn certificate<T: Words, N: Listed>(
     alloc: Global,
     tab: &RowTableau<T>,
     end: Option<PrimalEnd>,
-) -> Result<Option<Certificate<Fracs>>, AllocError>
+) -> Result<Option<Certificate<Items<N>>>, AllocError>
     requires whole { IsWhole T.value tab.now }
     requires inside { IsInside tab.now end }
     ensures value { (t : tableaus.Tableau) → IsReached t → Shows T.value tab.now t →
-        IfOk result (λ o. IfSome o (λ c. c ≡ certificate_by t end)) }
-    ensures narrow { IfOk result (λ o. IfSome o IsNarrowCertificate) }
+        IfOk result (λ o. IfSome o (λ c. c ≡ certificate_as N.of t end)) }
+    ensures fits { IfOk result (λ o. IfSome o (AllFit N.fits)) }
 {
     match end {
         Some(end) => certificate_at(alloc, tab, end),

@@ -7,3 +7,4 @@ pub mod Divided
 pub mod Cleared
 pub mod Done
 pub mod Kept
+pub mod Numbers

@@ -1,3 +1,4 @@
 pub mod Row
 pub mod Entering
 pub mod Ratio
+pub mod Number

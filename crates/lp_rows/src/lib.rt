@@ -10,7 +10,8 @@
 //! | `toward` | a number as a column moves that rises or falls | src/ratio |
 //! | `goes`, `Gap`, `gap_for` | whether a basic column rises or falls; how far a basic column may go, and up to which bound | src/ratio |
 //! | `Stopper`, `stopper_at`, `better` | what stops the entering column; that in one position; the first of two | src/ratio |
-//! | `fraction` | a number of a row as a fraction of 127 bits | src/narrow |
+//! | `RowFraction`, `zero`, `one`, `negated`, `directed` | a number of a row over a denominator | src/number |
+//! | `Listed` | numbers of lists that are made of those of rows: of 127 bits, or of any width | src/number, src/narrow, src/wide |
 //! | `fractions` | what a row means: exact fractions | specs/Row |
 //! | `at` | the whole number of a column | specs/Row |
 #![tactic(auto)]
@@ -18,11 +19,13 @@
 mod choice;
 mod fractions;
 mod narrow;
+mod number;
 mod ratio;
 mod row;
+mod wide;
 
 pub use choice::entering;
 pub use fractions::{Row, clear, divide, reduce};
-pub use narrow::fraction;
+pub use number::{Listed, RowFraction, directed, negated, one, zero};
 pub use ratio::{Gap, Stopper, better, gap_for, goes, stopper_at, toward};
 pub use row::eliminate;

@@ -1,11 +1,15 @@
 // Fractions of 127 bits, as whole numbers and back.
 ghost use Rattle.std.specs.Prelude.{◌≡◌, ◌<◌, ℕ, pos, IfSome};
 ghost use Rattle.spec_exact.specs.Fraction.{over};
+ghost use Rattle.spec_exact.specs.Narrow.{IsNarrow};
 ghost use Rattle.lp_wide.specs.Whole.{whole};
+ghost use Rattle.lp_rows.specs.Number.{fraction_of};
 
 use crate::fractions::share_common;
-use lp_frac::{Frac, den, num};
-use lp_wide::{Signed, Words, from_number, from_whole, to_whole};
+use crate::number::{Listed, RowFraction};
+use lp_frac::{Frac, LARGEST, den, num};
+use lp_wide::{Signed, Words, to_whole};
+use std::alloc::{AllocError, Global};
 
 // The whole number, if it is not past 127 bits.
 fn whole_of<T: Words>(negative: bool, size: T) -> Option<i128>
@@ -24,16 +28,48 @@ fn made(a: i128, b: i128) -> Option<Frac>
     }
 }
 
-/// The fraction of a number of a row over its denominator. There may be none where it is past 127 bits.
-pub fn fraction<T: Words>(n: Signed<T>, denominator: T) -> Option<Frac>
-    requires { 0 < T.value denominator }
-    ensures { IfSome result (λ f. f ≡ over (whole n.negative (T.value n.size)) (T.value denominator)) }
+// The fraction of both numbers, if it is not past 127 bits.
+fn fraction<T: Words>(v: RowFraction<T>) -> Option<Frac>
+    requires { 0 < T.value v.denominator }
+    ensures { IfSome result (λ f. f ≡ fraction_of T.value v) }
 {
-    match share_common(n.size, denominator) {
-        Some(s) => match (whole_of(n.negative, s.first), whole_of(false, s.second)) {
+    let RowFraction {
+        number,
+        denominator,
+    } = v;
+    match share_common(number.size, denominator) {
+        Some(s) => match (
+            whole_of(number.negative, s.first),
+            whole_of(false, s.second),
+        ) {
             (Some(a), Some(b)) => made(a, b),
             _ => None,
         },
         None => None,
+    }
+}
+
+// The fraction, whose parts have at most 127 bits as those of each one.
+fn kept(v: Option<Frac>) -> Option<Frac>
+    ensures same { result ≡ v }
+    ensures narrow { IfSome result IsNarrow }
+{
+    if let Some(v) = v {
+        prove!(num(v).unsigned_abs() <= LARGEST);
+        prove!(den(v).unsigned_abs() <= LARGEST);
+        return Some(v);
+    }
+    None
+}
+
+impl Listed for Frac {
+    ghost use Rattle.spec_exact.specs.Narrow.{IsNarrow};
+
+    ghost of = { λ q. q };
+
+    ghost fits = { IsNarrow };
+
+    fn from_row<T: Words>(_: Global, v: RowFraction<T>) -> Result<Option<Frac>, AllocError> {
+        Ok(kept(fraction(v)))
     }
 }

@@ -1,5 +1,6 @@
 -- What a run over rows ends with, as what one over factors does.
 use Rattle.std.proofs.Common.{◌≡◌, ℕ, Option, Some, None, IfSome, Ok, refl}
+use Rattle.spec_exact.specs.Fraction.{ℚ}
 use Rattle.spec_model.specs.Model.{Model}
 use Rattle.spec_simplex.specs.Form.{Form, form_of}
 use Rattle.spec_simplex.specs.Phases.{phases_run}
@@ -13,7 +14,7 @@ use Rattle.lp_revised.specs.Runs.{over_end}
 use Rattle.lp_row_cold.specs.declared.phases.RowEnd.{RowEnd}
 use Rattle.lp_solve.proofs.Factored.{other_may}
 
-abbrev pub run_end : RowEnd → RunEnd
+abbrev pub run_end : RowEnd ℚ → RunEnd
 run_end e = record { certificate = e.certificate; basis = e.basis; pivots = e.pivots }
 
 module _ (budget : ℕ) (m : Model) (f : Form) (formed : form_of (Some largest) m ≡ Ok f) (e : RunEnd)

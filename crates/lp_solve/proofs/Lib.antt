@@ -4,6 +4,7 @@ pub mod Left
 pub mod Pushed
 pub mod Runs
 pub mod Solved
+pub mod Unlimited
 pub mod WarmRuns
 pub mod FromRows
 pub mod Allowed

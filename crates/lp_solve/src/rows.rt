@@ -11,12 +11,13 @@ ghost use Rattle.lp_solve.specs.Fit.{IsFit};
 use crate::basis::basis_of;
 use crate::cold::{End, answered};
 use lp_form::Form;
+use lp_frac::Frac;
 use lp_model::Model;
 use lp_row_cold::RowEnd;
 use std::alloc::{AllocError, Global};
 
 // What the run ended with, where the checker says yes to its certificate.
-fn checked(model: &Model, form: &Form, end: RowEnd) -> Option<End>
+fn checked(model: &Model, form: &Form, end: RowEnd<Frac>) -> Option<End>
     requires fits { IsFor model.now end.certificate }
     requires based { IfSome end.basis (λ basis. IsBasisOf form.now basis) }
     requires narrow { IsNarrowCertificate end.certificate }

@@ -4,11 +4,11 @@ use Rattle.lp_row_cold.proofs.cold_run.at_width.Goals as goal
 
 pub returns-in-Ended-clause-run : goal.returns-in-Ended-clause-run
 returns-in-Ended-clause-run g c = λ t costs reached shown.
-    pause_ended g.T.Words.value _ _ _ _ _ _ c.in-Ended.is (c.in_ok-end.ensures.run t costs reached shown)
+    pause_ended g.T.Words.value _ _ _ g.N.Listed.of _ _ _ c.in-Ended.is (c.in_ok-end.ensures.run t costs reached shown)
 
 pub returns-in_ok-wider-in-Narrow-clause-run : goal.returns-in_ok-wider-in-Narrow-clause-run
 returns-in_ok-wider-in-Narrow-clause-run g c = λ t costs reached shown.
-    let l = pause_left g.T.Words.value _ _ _ _ _ c.in-Narrow.is (c.in_ok-end.ensures.run t costs reached shown) in
+    let l = pause_left g.T.Words.value _ _ _ g.N.Listed.of _ _ c.in-Narrow.is (c.in_ok-end.ensures.run t costs reached shown) in
     then_left _ _ _ _ _ _ l.same
     (c.in_ok-wider-in-Narrow.ensures.run c.args.budget c.args.form.now l.tableau l.reached l.shown)
 

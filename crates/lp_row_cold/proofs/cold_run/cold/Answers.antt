@@ -1,16 +1,9 @@
--- The start is reached, and has the form's size.
-use Rattle.std.proofs.Common.{Some}
-use Rattle.lp_frac.specs.Narrow.{largest}
-use Rattle.lp_row_cold.proofs.Widths.{start_size, whole_ends}
+-- The certificate has fractions of 127 bits.
+use Rattle.lp_row_cold.proofs.Widths.{as_stated, as_narrow}
 use Rattle.lp_row_cold.proofs.cold_run.cold.Goals as goal
 
-pub from_start-end-requires-clause-rows : goal.from_start-end-requires-clause-rows
-from_start-end-requires-clause-rows c = (start_size (Some largest) _ _ c.in-Ok.ensures.ok).0
+pub returns-clause-whole : goal.returns-clause-whole
+returns-clause-whole c = λ m formed. as_stated _ c.cold_run.result (c.cold_run.ensures.whole m formed)
 
-pub from_start-end-requires-clause-cols : goal.from_start-end-requires-clause-cols
-from_start-end-requires-clause-cols c = (start_size (Some largest) _ _ c.in-Ok.ensures.ok).1
-
-pub returns-in-Ok-clause-whole : goal.returns-in-Ok-clause-whole
-returns-in-Ok-clause-whole c = λ m formed.
-    whole_ends (Some largest) c.args.budget m c.args.form.now c.in-Ok.tab c.from_start-end.result formed
-    c.in-Ok.ensures.ok c.from_start-end.ensures.run
+pub returns-clause-narrow : goal.returns-clause-narrow
+returns-clause-narrow c = as_narrow c.cold_run.result c.cold_run.ensures.fits

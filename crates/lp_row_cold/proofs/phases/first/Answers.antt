@@ -6,11 +6,11 @@ pub returns-in-Ended-clause-run : goal.returns-in-Ended-clause-run
 returns-in-Ended-clause-run g c = λ t costs reached shown.
     let e = c.in-Ended.ensures.run t reached shown in
     if_ok _ _
-    (first_ends g.T.Words.value c.args.budget c.args.form.now c.args.state.now.used t c.run.new.tab c.run.new.used
+    (first_ends g.N.Listed.of g.T.Words.value c.args.budget c.args.form.now c.args.state.now.used t c.run.new.tab c.run.new.used
     c.in-Ended.field-0 e c.between.new.state) c.between.result
     (c.between.ensures.run e.tableau costs e.reached e.shown)
 
 pub returns-in-Narrow-clause-run : goal.returns-in-Narrow-clause-run
 returns-in-Narrow-clause-run g c = λ t costs reached shown.
-    first_left g.T.Words.value c.args.budget c.args.form.now c.args.state.now.used t _ c.requires.phase
+    first_left g.N.Listed.of g.T.Words.value c.args.budget c.args.form.now c.args.state.now.used t _ c.requires.phase
     (c.in-Narrow.ensures.run t reached shown)

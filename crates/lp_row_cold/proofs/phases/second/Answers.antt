@@ -6,10 +6,10 @@ pub returns-in-Ended-clause-run : goal.returns-in-Ended-clause-run
 returns-in-Ended-clause-run g c = λ t reached shown.
     let e = c.in-Ended.ensures.run t reached shown in
     if_ok _ _
-    (second_ends g.T.Words.value c.args.budget c.args.form.now c.args.state.now.used t c.run.new.tab c.run.new.used
+    (second_ends g.N.Listed.of g.T.Words.value c.args.budget c.args.form.now c.args.state.now.used t c.run.new.tab c.run.new.used
     c.in-Ended.end e _) c.ended.result (c.ended.ensures.run e.tableau e.reached e.shown)
 
 pub returns-in-Narrow-clause-run : goal.returns-in-Narrow-clause-run
 returns-in-Narrow-clause-run g c = λ t reached shown.
-    second_left g.T.Words.value c.args.budget c.args.form.now c.args.state.now.used t _ c.requires.phase
+    second_left g.N.Listed.of g.T.Words.value c.args.budget c.args.form.now c.args.state.now.used t _ c.requires.phase
     (c.in-Narrow.ensures.run t reached shown)

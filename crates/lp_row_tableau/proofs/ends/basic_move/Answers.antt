@@ -4,11 +4,11 @@ use Rattle.spec_simplex.specs.Step.{directed}
 use Rattle.lp_row_tableau.proofs.Read.{entry_is}
 use Rattle.lp_row_tableau.proofs.ends.basic_move.Goals as goal
 
-pub returns-in-Some : goal.returns-in-Some
-returns-in-Some g c t s =
-    c.neg.ensures ∙ ap neg_ℚ c.directed.ensures
+pub returns : goal.returns
+returns g c t s =
+    c.negated.ensures ∙ ap neg_ℚ c.directed.ensures
     ∙ ap (λ v. neg_ℚ (directed c.args.up v))
-    (c.in-Some.ensures
+    (c.number-entry.ensures
     ∙ entry_is g.T.Words.value c.args.tab.now t c.args.i c.args.j c.index.result.now s c.requires.place
     c.requires.column
     c.index.ensures)

@@ -1,6 +1,5 @@
--- The moves so far, each of at most 127 bits.
+-- The moves so far, each of the kind of the list.
 use Rattle.std.proofs.Common.{◌≡◌, All}
-use Rattle.spec_exact.specs.Narrow.{IsNarrow}
 use Rattle.spec_exact.specs.Run.{made}
 use Rattle.spec_simplex.specs.Tableau.{Tableau}
 use Rattle.spec_cold.specs.Cold.{moves_by}
@@ -10,4 +9,4 @@ use Rattle.lp_row_tableau.proofs.ends.direction.Given as goal
 abbrev pub invariant-loop-k : goal.invariant-loop-k
 invariant-loop-k g l =
     ((t : Tableau) → Shows g.T.Words.value l.tab t →
-    l.direction ≡ made l.k (moves_by t l.j l.up)) × All IsNarrow l.direction
+    l.direction ≡ made l.k (λ k. g.N.Listed.of (moves_by t l.j l.up k))) × All g.N.Listed.fits l.direction

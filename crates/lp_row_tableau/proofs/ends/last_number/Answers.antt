@@ -5,6 +5,6 @@ use Rattle.lp_row_tableau.proofs.ends.last_number.Goals as goal
 
 pub returns-in-Some : goal.returns-in-Some
 returns-in-Some g c =
-    read_at g.T.Words.value c.args.row.now.numbers.items _ _ c.args.last c.index.result.now c.fraction.result
+    read_at g.T.Words.value c.args.row.now.numbers.items _ _ c.args.last c.index.result.now
     (omega (arith, c.requires.row.numbers)) c.index.ensures
-    (below_gives g.T.Words.value g.T.Words.base _ c.in-Some.both c.in-Some.ensures) c.fraction.ensures
+    (below_gives g.T.Words.value g.T.Words.base _ c.in-Some.both c.in-Some.ensures)

@@ -1,11 +1,11 @@
 -- By the last position so far.
 use Rattle.std.proofs.Common.{◌≡◌}
-use Rattle.std.specs.Prelude.{IfSome}
 use Rattle.spec_simplex.specs.Tableau.{Tableau}
 use Rattle.spec_cold.specs.Cold.{moves_below}
+use Rattle.lp_rows.specs.Number.{fraction_of}
 use Rattle.lp_row_tableau.specs.Shows.{Shows}
 use Rattle.lp_row_tableau.proofs.ends.move_of.Given as goal
 
 abbrev pub invariant-loop-i : goal.invariant-loop-i
 invariant-loop-i g l =
-    (t : Tableau) → Shows g.T.Words.value l.tab t → IfSome l.moved (λ v. v ≡ moves_below t l.j l.up l.k l.i)
+    (t : Tableau) → Shows g.T.Words.value l.tab t → fraction_of g.T.Words.value l.moved ≡ moves_below t l.j l.up l.k l.i

@@ -4,5 +4,5 @@ use Rattle.lp_row_tableau.proofs.ends.number.Goals as goal
 
 pub returns : goal.returns
 returns g c =
-    read_at g.T.Words.value c.args.row.now.numbers.items _ _ c.args.k c.index.result.now c.fraction.result
-    (omega (arith, c.requires.row.numbers, c.requires.inside)) c.index.ensures refl c.fraction.ensures
+    read_at g.T.Words.value c.args.row.now.numbers.items _ _ c.args.k c.index.result.now
+    (omega (arith, c.requires.row.numbers, c.requires.inside)) c.index.ensures refl

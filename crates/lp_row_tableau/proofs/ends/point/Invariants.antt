@@ -1,6 +1,5 @@
--- The values so far, each of at most 127 bits.
+-- The values so far, each of the kind of the list.
 use Rattle.std.proofs.Common.{◌≡◌, All}
-use Rattle.spec_exact.specs.Narrow.{IsNarrow}
 use Rattle.spec_exact.specs.Run.{made}
 use Rattle.spec_simplex.specs.Tableau.{Tableau, value_at}
 use Rattle.lp_row_tableau.specs.Shows.{Shows}
@@ -8,4 +7,5 @@ use Rattle.lp_row_tableau.proofs.ends.point.Given as goal
 
 abbrev pub invariant-loop-j : goal.invariant-loop-j
 invariant-loop-j g l =
-    ((t : Tableau) → Shows g.T.Words.value l.tab t → l.point ≡ made l.j (value_at t)) × All IsNarrow l.point
+    ((t : Tableau) → Shows g.T.Words.value l.tab t → l.point ≡ made l.j (λ j. g.N.Listed.of (value_at t j)))
+    × All g.N.Listed.fits l.point

@@ -1,0 +1,42 @@
+-- Numbers over a denominator.
+use Rattle.std.proofs.Common.{◌≡◌, ℕ, zero, suc, ◌*◌, ◌<◌, pos, neg_ℤ, [], ◌∷◌, Bool, true, false, not}
+use Rattle.std.proofs.Common.{refl, sym, ap, ap₂, ◌∙◌, arith}
+use Rattle.spec_exact.specs.Fraction.{over, neg_ℚ, 0ℚ, 1ℚ}
+use Rattle.spec_exact.proofs.Ring.{minus, lit, v0}
+use Rattle.spec_exact.proofs.Whole.{by_ring}
+use Rattle.spec_exact.proofs.Field.{by_ring_ℚ, whole_over}
+use Rattle.lp_ratio.specs.Parts.{with_sign}
+use Rattle.lp_wide.specs.Whole.{whole}
+use Rattle.lp_wide.proofs.Rows.{without_divisor}
+use Rattle.lp_rows.proofs.Cleared.{over_neg, positive_left, positive_right, whole-times}
+
+pub zero_is : (n d : ℕ) → n ≡ 0 → d ≡ 1 → over (pos n) d ≡ 0ℚ
+zero_is n d e f = ap₂ (λ n d. over (pos n) d) e f ∙ sym (whole_over (pos 0))
+
+pub one_is : (n d : ℕ) → n ≡ 1 → d ≡ 1 → over (pos n) d ≡ 1ℚ
+one_is n d e f = ap₂ (λ n d. over (pos n) d) e f ∙ sym (whole_over (pos 1))
+
+turned : (negative : Bool) (n : ℕ) → whole (not negative) n ≡ neg_ℤ (whole negative n)
+turned true n = by_ring (pos n ∷ []) v0 (minus (minus v0)) refl
+turned false n = refl
+
+pub negated_is : (negative : Bool) (n d : ℕ) → over (whole (not negative) n) d ≡ neg_ℚ (over (whole negative n) d)
+unfolding over
+negated_is negative n zero = by_ring_ℚ [] (lit (pos 0)) (minus (lit (pos 0))) refl
+negated_is negative n (suc d) =
+    ap (λ z. over z (suc d)) (turned negative n) ∙ over_neg (whole negative n) (suc d) (omega arith)
+
+-- both parts without a divisor
+pub shared_is : (negative : Bool) (size d p q g : ℕ) → 0 < d → p * g ≡ size → q * g ≡ d →
+    over (whole negative p) q ≡ over (whole negative size) d
+shared_is negative size d p q g l e f =
+    sym (without_divisor (whole negative size) (whole negative p) d q g (positive_left q g d f l)
+    (positive_right q g d f l) (sym (whole-times negative p g size e)) f)
+
+pub same_sign : (negative : Bool) (n : ℕ) → with_sign negative n ≡ whole negative n
+same_sign true n = refl
+same_sign false n = refl
+
+pub ratio_is : (negative : Bool) (n d m e : ℕ) → n ≡ m → d ≡ e →
+    over (with_sign negative n) d ≡ over (whole negative m) e
+ratio_is negative n d m e f g = ap₂ (λ n d. over (with_sign negative n) d) f g ∙ ap (λ z. over z e) (same_sign negative m)

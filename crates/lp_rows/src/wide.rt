@@ -1,0 +1,56 @@
+// Numbers of any width, which are made of those of rows.
+ghost use Rattle.std.specs.Prelude.{◌≡◌, ◌<◌, ℕ, ◌*◌, IfOk};
+ghost use Rattle.lp_rows.specs.Number.{fraction_of};
+
+use crate::fractions::share_common;
+use crate::number::{Listed, RowFraction};
+use lp_ratio::Ratio;
+use lp_wide::{Signed, Words};
+use std::alloc::{AllocError, Global};
+
+// The same fraction without what both numbers have in common, as far as that is found.
+fn shared<T: Words>(v: RowFraction<T>) -> RowFraction<T>
+    requires { 0 < T.value v.denominator }
+    ensures value { fraction_of T.value result ≡ fraction_of T.value v }
+    ensures positive { 0 < T.value result.denominator }
+{
+    let RowFraction {
+        number,
+        denominator,
+    } = v;
+    match share_common(number.size, denominator) {
+        Some(s) => RowFraction {
+            number: Signed {
+                negative: number.negative,
+                size: s.first,
+            },
+            denominator: s.second,
+        },
+        None => v,
+    }
+}
+
+// The fraction on the heap.
+fn ratio<T: Words>(alloc: Global, v: RowFraction<T>) -> Result<Ratio, AllocError>
+    requires { 0 < T.value v.denominator }
+    ensures { IfOk result (λ r. r ≡ fraction_of T.value v) }
+{
+    let RowFraction {
+        number,
+        denominator,
+    } = v;
+    let top = number.size.natural(alloc)?;
+    let bottom = denominator.natural(alloc)?;
+    Ok(Ratio::quotient(alloc, number.negative, top, bottom))
+}
+
+impl Listed for Ratio {
+    ghost of = { λ q. q };
+
+    ghost fits = { λ r. Unit {0} };
+
+    fn from_row<T: Words>(alloc: Global, v: RowFraction<T>) -> Result<Option<Ratio>, AllocError> {
+        let r = ratio(alloc, shared(v))?;
+        Ok(Some(r))
+    }
+}
