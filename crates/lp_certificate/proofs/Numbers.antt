@@ -1,6 +1,8 @@
 -- The readings of numbers, by what their readers answer.
-use Rattle.std.proofs.Common.{◌≡◌, Option, Some, None, Result, Ok, Err, refl, sym, ap}
-use Rattle.spec_exact.specs.Fraction.{ℚ}
+use Rattle.std.proofs.Common.{◌≡◌, Bool, true, false, not, Some, None, Ok, Err, refl, sym, ap, ◌∙◌}
+use Rattle.spec_exact.specs.Fraction.{ℚ, 0ℚ, eq_ℚ, lt_ℚ}
+use Rattle.spec_exact.proofs.Order.{≤ℚ_refl, ≤ℚ_antisym, le_if_not, not_lt_test}
+use Rattle.spec_exact.proofs.Same.{eq_if, eq_test}
 use Rattle.spec_mps.specs.declared.number.NumFault.{NumFault}
 use Rattle.spec_mps.specs.NumberText.{NumberReading, Is, Shape, Wide, answer}
 use Rattle.spec_wide_text.specs.WideText.{WideReading}
@@ -26,3 +28,24 @@ wide_shape reading e = sym (ap wide_in e)
 
 pub wide_far : (reading : WideReading) → reading ≡ wide.Far → None ≡ wide_in reading
 wide_far reading e = sym (ap wide_in e)
+
+-- ---- which of them is 0
+pub above_is : (v : ℚ) → lt_ℚ 0ℚ v ≡ true → false ≡ eq_ℚ v 0ℚ
+above_is v h = by (eq_ℚ v 0ℚ) refl
+  where
+    by : (t : Bool) → eq_ℚ v 0ℚ ≡ t → false ≡ t
+    by true e =
+        let z : true ≡ false =
+        sym h ∙ ap (lt_ℚ 0ℚ) (eq_if v 0ℚ e) ∙ not_lt_test 0ℚ 0ℚ (≤ℚ_refl 0ℚ) in cc
+    by false e = refl
+
+pub not_above_is : (v : ℚ) (below : Bool) → lt_ℚ 0ℚ v ≡ false → below ≡ lt_ℚ v 0ℚ → not below ≡ eq_ℚ v 0ℚ
+not_above_is v true h k = by (eq_ℚ v 0ℚ) refl
+  where
+    by : (t : Bool) → eq_ℚ v 0ℚ ≡ t → false ≡ t
+    by true e =
+        let z : true ≡ false =
+        k ∙ ap (λ (v : ℚ). lt_ℚ v 0ℚ) (eq_if v 0ℚ e) ∙ not_lt_test 0ℚ 0ℚ (≤ℚ_refl 0ℚ) in cc
+    by false e = refl
+not_above_is v false h k =
+    sym (eq_test v 0ℚ (≤ℚ_antisym v 0ℚ (le_if_not 0ℚ v h) (le_if_not v 0ℚ (sym k))))

@@ -1,10 +1,9 @@
 -- The columns, or the rows, that have a number with a letter.
 use Rattle.std.specs.Prelude.{ℕ, List}
-use Rattle.spec_exact.specs.Fraction.{ℚ}
 use Rattle.spec_model.specs.Model.{Model, Name, width, height, row, column}
 use Rattle.spec_check.specs.declared.certificate.Letter.{Letter}
 use Rattle.spec_check.specs.declared.certificate.Letter.TheVariants.{X, Y, R}
-use Rattle.spec_certificate.specs.TextWritten.{lines_below}
+use Rattle.spec_certificate.specs.TextWritten.{Writing, lines_below_by}
 
 abbrev pub count_of : Model → Letter → ℕ
 count_of m X = width m
@@ -17,5 +16,5 @@ name_at m Y = λ i. (row m i).name
 name_at m R = λ j. (column m j).name
 
 -- the lines of their numbers
-abbrev pub value_lines : Model → Letter → List ℚ → List (List ℕ)
-value_lines m letter values = lines_below letter (name_at m letter) values (count_of m letter)
+abbrev pub value_lines : {F : Type 0} → Writing F → Model → Letter → List F → List (List ℕ)
+value_lines write m letter values = lines_below_by write letter (name_at m letter) values (count_of m letter)

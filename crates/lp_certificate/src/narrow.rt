@@ -1,9 +1,11 @@
 // Certificates with numbers of 127 bits.
 ghost use Rattle.std.specs.Prelude.{◌≡◌};
+ghost use Rattle.spec_exact.specs.Fraction.{0ℚ, eq_ℚ};
 ghost use Rattle.spec_certificate.specs.NarrowText as narrow_text;
 
 use crate::number::Number;
-use lp_frac::{Frac, zero};
+use lp_base::Bytes;
+use lp_frac::{Frac, is_zero, zero};
 use std::alloc::{AllocError, Global};
 
 impl Number for Frac {
@@ -13,6 +15,10 @@ impl Number for Frac {
     ghost reading = { narrow };
 
     ghost nothing = { 0ℚ };
+
+    ghost use Rattle.spec_certificate.specs.TextWritten.{narrow_writing};
+
+    ghost writing = { narrow_writing };
 
     fn read(_: Global, text: &[u8]) -> Result<Option<Frac>, AllocError> {
         Ok(number_of(text))
@@ -25,6 +31,14 @@ impl Number for Frac {
     fn copied(&self, _: Global) -> Result<Frac, AllocError> {
         Ok(*self)
     }
+
+    fn is_none(&self) -> bool {
+        is_none(*self)
+    }
+
+    fn write(&self, alloc: Global, text: &mut Bytes) -> Result<(), AllocError> {
+        lp_numtext::write(alloc, *self, text)
+    }
 }
 
 // The number that a text is, within 127 bits.
@@ -36,4 +50,10 @@ fn number_of(text: &[u8]) -> Option<Frac>
         Ok(v) => Some(v),
         Err(_) => None,
     }
+}
+
+fn is_none(v: Frac) -> bool
+    ensures { result ≡ eq_ℚ v 0ℚ }
+{
+    is_zero(v)
 }

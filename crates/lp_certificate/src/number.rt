@@ -1,6 +1,8 @@
 // The numbers that certificates may have.
-ghost use Rattle.std.specs.Prelude.{◌≡◌, ℕ, List, Option, IfOk};
+ghost use Rattle.std.specs.Prelude.{◌≡◌, ◌++◌, ℕ, List, Option, IfOk, OnOk};
+ghost use Rattle.spec_certificate.specs.TextWritten.{Writing};
 
+use lp_base::Bytes;
 use std::alloc::{AllocError, Global};
 
 /// A number of a certificate.
@@ -10,6 +12,9 @@ pub trait Number: Drop {
 
     // what it is for a name that no part has
     ghost nothing: { Self };
+
+    // how one is written
+    ghost writing: { Writing Self };
 
     /// The number that a text is.
     fn read(alloc: Global, text: &[u8]) -> Result<Option<Self>, AllocError>
@@ -22,4 +27,12 @@ pub trait Number: Drop {
     /// The same number again.
     fn copied(&self, alloc: Global) -> Result<Self, AllocError>
         ensures { IfOk result (λ value. value ≡ self.now) };
+
+    /// Whether it is 0.
+    fn is_none(&self) -> bool
+        ensures { result ≡ writing.is_none self.now };
+
+    /// Adds the text of it.
+    fn write(&self, alloc: Global, text: &mut Bytes) -> Result<(), AllocError>
+        ensures { OnOk result (text.new ≡ text.old ++ writing.text self.now) };
 }

@@ -1,15 +1,16 @@
 // The text of a certificate.
-ghost use Rattle.std.specs.Prelude.{◌≡◌, ◌∷◌, ◌++◌, length, IfOk, OnOk};
+ghost use Rattle.std.specs.Prelude.{◌≡◌, ◌<◌, ◌∷◌, ◌++◌, length, get_or, IfOk, OnOk};
 ghost use Rattle.spec_check.specs.Certificate.{IsFor};
 ghost use Rattle.spec_certificate.specs.TextWritten as text_written;
 ghost use Rattle.lp_certificate.specs.Answer.{IsPlace};
 ghost use Rattle.lp_certificate.specs.Letters.{count_of, name_at, value_lines};
 
+use crate::certificate::CertificateOf;
+use crate::number::Number;
 use lp_base::{Bytes, Texts};
-use lp_check::{Certificate, part};
-use lp_frac::{Frac, Fracs, is_zero};
+use lp_list::Items;
 use lp_model::Model;
-use spec_check::Letter;
+use spec_check::{Certificate, Letter};
 use std::alloc::{AllocError, Global};
 
 fn letter_text(letter: Letter) -> &'static [u8]
@@ -31,32 +32,32 @@ fn add_word(text: &mut Bytes, word: &[u8]) -> Result<(), AllocError>
 }
 
 // Adds the text of a part.
-fn add_part_text(
+fn add_part_text<N: Number>(
     alloc: Global,
     letter: Letter,
     name: &[u8],
-    value: Frac,
+    value: &N,
     text: &mut Bytes,
 ) -> Result<(), AllocError>
-    ensures { OnOk result (text.new ≡ text.old ++ text_written.part_text letter name.now value) }
+    ensures { OnOk result (text.new ≡ text.old ++ text_written.part_text_by N.writing letter name.now value.now) }
 {
     text.extend(letter_text(letter))?;
     add_word(text, name)?;
     text.push(b' ')?;
-    lp_numtext::write(alloc, value, text)
+    value.write(alloc, text)
 }
 
 // Adds the line of a number, unless it is 0.
-fn add_part(
+fn add_part<N: Number>(
     alloc: Global,
     letter: Letter,
     name: &[u8],
-    value: Frac,
+    value: &N,
     lines: &mut Texts,
 ) -> Result<(), AllocError>
-    ensures { OnOk result (lines.new ≡ lines.old ++ text_written.part_lines letter name.now value) }
+    ensures { OnOk result (lines.new ≡ lines.old ++ text_written.part_lines_by N.writing letter name.now value.now) }
 {
-    if is_zero(value) {
+    if value.is_none() {
         return Ok(());
     }
     let mut text = Bytes::new(alloc);
@@ -85,26 +86,38 @@ fn name_at(model: &Model, letter: Letter, k: u32) -> &[u8]
     }
 }
 
+// The number at `k`.
+fn number_at<N: Number>(values: &Items<N>, k: u32) -> &N
+    requires { k < length values.now }
+    ensures { result.now ≡ get_or values.now k N.writing.none }
+{
+    values.get(k as usize)
+}
+
 // Adds the lines of the numbers with this letter.
-fn add_values(
+fn add_values<N: Number>(
     alloc: Global,
     model: &Model,
     letter: Letter,
-    values: &Fracs,
+    values: &Items<N>,
     lines: &mut Texts,
 ) -> Result<(), AllocError>
     requires { length values.now ≡ count_of model.now letter }
-    ensures { OnOk result (lines.new ≡ lines.old ++ value_lines model.now letter values.now) }
+    ensures { OnOk result (lines.new ≡ lines.old ++ value_lines N.writing model.now letter values.now) }
 {
     for k in 0..count_of(model, letter) {
         let name = name_at(model, letter, k);
-        add_part(alloc, letter, name, part(values, k), lines)?;
+        add_part(alloc, letter, name, number_at(values, k), lines)?;
     }
     Ok(())
 }
 
 // Adds the text that says the kind.
-fn add_kind_text(model: &Model, cert: &Certificate, text: &mut Bytes) -> Result<(), AllocError>
+fn add_kind_text<N>(
+    model: &Model,
+    cert: &CertificateOf<N>,
+    text: &mut Bytes,
+) -> Result<(), AllocError>
     requires { IsFor model.now cert.now }
     ensures { OnOk result (text.new ≡ text.old ++ text_written.kind_text model.now cert.now) }
 {
@@ -120,14 +133,14 @@ fn add_kind_text(model: &Model, cert: &Certificate, text: &mut Bytes) -> Result<
 }
 
 // Adds the lines of all parts.
-fn add_parts(
+fn add_parts<N: Number>(
     alloc: Global,
     model: &Model,
-    cert: &Certificate,
+    cert: &CertificateOf<N>,
     lines: &mut Texts,
 ) -> Result<(), AllocError>
     requires { IsFor model.now cert.now }
-    ensures { OnOk result (lines.new ≡ lines.old ++ text_written.all_part_lines model.now cert.now) }
+    ensures { OnOk result (lines.new ≡ lines.old ++ text_written.all_part_lines_by N.writing model.now cert.now) }
 {
     match cert {
         Certificate::Optimal { x, y } => {
@@ -144,15 +157,15 @@ fn add_parts(
 }
 
 // Adds the lines of the certificate's text.
-#[tactic(auto, unfolding(spec_certificate::specs::TextWritten::certificate_lines))]
-fn add_lines(
+#[tactic(auto, unfolding(spec_certificate::specs::TextWritten::certificate_lines_by))]
+fn add_lines<N: Number>(
     alloc: Global,
     model: &Model,
-    cert: &Certificate,
+    cert: &CertificateOf<N>,
     lines: &mut Texts,
 ) -> Result<(), AllocError>
     requires { IsFor model.now cert.now }
-    ensures { OnOk result (lines.new ≡ lines.old ++ text_written.certificate_lines model.now cert.now) }
+    ensures { OnOk result (lines.new ≡ lines.old ++ text_written.certificate_lines_by N.writing model.now cert.now) }
 {
     let mut kind = Bytes::new(alloc);
     add_kind_text(model, cert, &mut kind)?;
@@ -163,9 +176,13 @@ fn add_lines(
 
 /// The lines of the certificate's text: its kind, a part for each number that is not 0 in the order of
 /// the model, and `END`.
-pub fn cert_text(alloc: Global, model: &Model, cert: &Certificate) -> Result<Texts, AllocError>
+pub fn cert_text<N: Number>(
+    alloc: Global,
+    model: &Model,
+    cert: &CertificateOf<N>,
+) -> Result<Texts, AllocError>
     requires { IsFor model.now cert.now }
-    ensures { IfOk result (λ lines. lines ≡ text_written.certificate_lines model.now cert.now) }
+    ensures { IfOk result (λ lines. lines ≡ text_written.certificate_lines_by N.writing model.now cert.now) }
 {
     let mut lines = Texts::new(alloc);
     add_lines(alloc, model, cert, &mut lines)?;

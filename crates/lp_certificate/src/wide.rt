@@ -1,10 +1,12 @@
 // Certificates with numbers of any width.
 ghost use Rattle.std.specs.Prelude.{◌≡◌, IfOk};
-ghost use Rattle.spec_certificate.specs.WideText as wide_text;
+ghost use Rattle.spec_exact.specs.Fraction.{0ℚ, eq_ℚ};
+ghost use Rattle.spec_certificate.specs.WideText as wide_reading;
 
 use crate::number::Number;
+use lp_base::Bytes;
 use lp_ratio::Ratio;
-use lp_wide_text::{WideFault, read_wide};
+use lp_wide_text::{WideFault, read_wide, wide_text};
 use std::alloc::{AllocError, Global};
 
 impl Number for Ratio {
@@ -14,6 +16,10 @@ impl Number for Ratio {
     ghost reading = { wide };
 
     ghost nothing = { 0ℚ };
+
+    ghost use Rattle.spec_certificate.specs.TextWritten.{wide_writing};
+
+    ghost writing = { wide_writing };
 
     fn read(alloc: Global, text: &[u8]) -> Result<Option<Ratio>, AllocError> {
         number_of(alloc, text)
@@ -26,16 +32,34 @@ impl Number for Ratio {
     fn copied(&self, alloc: Global) -> Result<Ratio, AllocError> {
         Ratio::copied(self, alloc)
     }
+
+    fn is_none(&self) -> bool {
+        is_none(self)
+    }
+
+    fn write(&self, alloc: Global, text: &mut Bytes) -> Result<(), AllocError> {
+        let written = wide_text(alloc, self)?;
+        text.extend(written.as_slice())
+    }
 }
 
 // The number that a text is, of any width.
 #[tactic(auto, using(crate::proofs::Numbers::wide_ok, crate::proofs::Numbers::wide_shape, crate::proofs::Numbers::wide_far))]
 fn number_of(alloc: Global, text: &[u8]) -> Result<Option<Ratio>, AllocError>
-    ensures { IfOk result (λ value. value ≡ wide_text.wide text.now) }
+    ensures { IfOk result (λ value. value ≡ wide_reading.wide text.now) }
 {
     match read_wide(alloc, text) {
         Ok(v) => Ok(Some(v)),
         Err(WideFault::Shape | WideFault::Far) => Ok(None),
         Err(WideFault::NoMemory) => Err(AllocError),
     }
+}
+
+fn is_none(v: &Ratio) -> bool
+    ensures { result ≡ eq_ℚ v.now 0ℚ }
+{
+    if v.is_positive() {
+        return false;
+    }
+    !v.is_negative()
 }

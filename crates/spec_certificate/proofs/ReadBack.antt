@@ -25,6 +25,7 @@ use Rattle.spec_certificate.specs.Text.{kind_of, takes, is_end, words_step, step
 use Rattle.spec_certificate.specs.NarrowText.{narrow, step, Leads, Spells}
 use Rattle.spec_check.specs.Settle.{◌>>=◌, zeros, blank, with_value, same_letter, put_all, certificate_by}
 use Rattle.spec_certificate.specs.TextWritten.{lines_below, column_lines, kind_text, all_part_lines, certificate_lines}
+use Rattle.spec_certificate.specs.TextWritten.{certificate_lines_by}
 use Rattle.spec_certificate.specs.TextRead.{IsReadBack}
 use Rattle.spec_certificate.proofs.TextSteps.{goes_on, ends, with_parts, parts_below, parts_lead}
 use Rattle.spec_certificate.proofs.NamesKnown.{AreNames, column_word, columns_named, rays_named, rows_named}
@@ -73,7 +74,7 @@ clash_step name h = ap (words_step narrow None) (clash_words name h)
 whole : (m : Model) (cert : Certificate (List ℚ)) (raw : ExactRaw) →
     Leads None (map Text (kind_text m cert ∷ all_part_lines m cert)) (Some raw)
     → (more : List (Line (List ℕ))) → Spells (map Text (certificate_lines m cert) ++ more) raw
-unfolding certificate_lines
+unfolding certificate_lines_by
 whole m cert raw l more =
     subst (λ ls. Spells ls raw)
     (sym (ap (λ ls. ls ++ more) (map-append Text (kind_text m cert ∷ all_part_lines m cert) (codes "END" ∷ []))

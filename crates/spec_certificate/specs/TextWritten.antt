@@ -1,12 +1,26 @@
--- The text that a certificate is written as.
-use Rattle.std.specs.Prelude.{ℕ, zero, suc, List, [], ◌∷◌, ◌++◌, codes, if◌then◌else◌}
+-- The text that a certificate is written as, over the type F of numbers, and how these are written.
+use Rattle.std.specs.Prelude.{ℕ, zero, suc, Bool, List, [], ◌∷◌, ◌++◌, codes, get_or, if◌then◌else◌}
 use Rattle.spec_exact.specs.Fraction.{ℚ, 0ℚ, eq_ℚ}
-use Rattle.spec_model.specs.Model.{Model, Name, width, height, row, column, part}
+use Rattle.spec_model.specs.Model.{Model, Name, width, height, row, column}
 use Rattle.spec_mps.specs.NumberWritten.{number_text}
+use Rattle.spec_wide_text.specs.WideWritten.{wide_text}
 use Rattle.spec_check.specs.declared.certificate.Letter.{Letter}
 use Rattle.spec_check.specs.declared.certificate.Letter.TheVariants.{X, Y, R}
 use Rattle.spec_check.specs.declared.certificate.Certificate.{Certificate}
 use Rattle.spec_check.specs.declared.certificate.Certificate.TheVariants.{Optimal, Infeasible, Clash, Unbounded}
+
+-- how numbers are written: the one that is 0, whether one is, and the text of each
+pub record Writing (F : Type 0) : Type 0 where
+  pub none : F
+  pub is_none : F → Bool
+  pub text : F → List ℕ
+
+-- as numbers of 127 bits, and as numbers of any width
+abbrev pub narrow_writing : Writing ℚ
+narrow_writing = record { none = 0ℚ; is_none = λ v. eq_ℚ v 0ℚ; text = number_text }
+
+abbrev pub wide_writing : Writing ℚ
+wide_writing = record { none = 0ℚ; is_none = λ v. eq_ℚ v 0ℚ; text = wide_text }
 
 abbrev pub letter_text : Letter → List ℕ
 letter_text X = codes "x"
@@ -14,37 +28,63 @@ letter_text Y = codes "y"
 letter_text R = codes "r"
 
 -- the letter, the name and the number, with one blank between
-abbrev pub part_text : Letter → Name → ℚ → List ℕ
-part_text letter name v = letter_text letter ++ 32 ∷ (name ++ 32 ∷ number_text v)
+abbrev pub part_text_by : {F : Type 0} → Writing F → Letter → Name → F → List ℕ
+part_text_by write letter name v = letter_text letter ++ 32 ∷ (name ++ 32 ∷ write.text v)
 
 -- a number that is 0 has no line
-abbrev pub part_lines : Letter → Name → ℚ → List (List ℕ)
-part_lines letter name v = if eq_ℚ v 0ℚ then [] else part_text letter name v ∷ []
+abbrev pub part_lines_by : {F : Type 0} → Writing F → Letter → Name → F → List (List ℕ)
+part_lines_by write letter name v = if write.is_none v then [] else part_text_by write letter name v ∷ []
 
 -- the lines of the first n columns, or rows
-abbrev pub lines_below : Letter → (ℕ → Name) → List ℚ → ℕ → List (List ℕ)
-lines_below letter names values zero = []
-lines_below letter names values (suc n) =
-    lines_below letter names values n ++ part_lines letter (names n) (part values n)
+abbrev pub lines_below_by : {F : Type 0} → Writing F → Letter → (ℕ → Name) → List F → ℕ → List (List ℕ)
+lines_below_by write letter names values zero = []
+lines_below_by write letter names values (suc n) =
+    lines_below_by write letter names values n ++ part_lines_by write letter (names n) (get_or values n write.none)
 
-abbrev pub column_lines : Model → Letter → List ℚ → List (List ℕ)
-column_lines m letter values = lines_below letter (λ j. (column m j).name) values (width m)
+abbrev pub column_lines_by : {F : Type 0} → Writing F → Model → Letter → List F → List (List ℕ)
+column_lines_by write m letter values = lines_below_by write letter (λ j. (column m j).name) values (width m)
 
-abbrev pub row_lines : Model → Letter → List ℚ → List (List ℕ)
-row_lines m letter values = lines_below letter (λ i. (row m i).name) values (height m)
+abbrev pub row_lines_by : {F : Type 0} → Writing F → Model → Letter → List F → List (List ℕ)
+row_lines_by write m letter values = lines_below_by write letter (λ i. (row m i).name) values (height m)
 
-abbrev pub kind_text : Model → Certificate (List ℚ) → List ℕ
+abbrev pub kind_text : {F : Type 0} → Model → Certificate (List F) → List ℕ
 kind_text m (Optimal x y) = codes "OPTIMAL"
 kind_text m (Infeasible y) = codes "INFEASIBLE"
 kind_text m (Unbounded x r) = codes "UNBOUNDED"
 kind_text m (Clash j) = codes "CLASH" ++ 32 ∷ (column m j).name
 
-abbrev pub all_part_lines : Model → Certificate (List ℚ) → List (List ℕ)
-all_part_lines m (Optimal x y) = column_lines m X x ++ row_lines m Y y
-all_part_lines m (Infeasible y) = row_lines m Y y
-all_part_lines m (Unbounded x r) = column_lines m X x ++ column_lines m R r
-all_part_lines m (Clash j) = []
+abbrev pub all_part_lines_by : {F : Type 0} → Writing F → Model → Certificate (List F) → List (List ℕ)
+all_part_lines_by write m (Optimal x y) = column_lines_by write m X x ++ row_lines_by write m Y y
+all_part_lines_by write m (Infeasible y) = row_lines_by write m Y y
+all_part_lines_by write m (Unbounded x r) = column_lines_by write m X x ++ column_lines_by write m R r
+all_part_lines_by write m (Clash j) = []
 
 -- the kind, the parts that are not 0 in the order of the model, and END
-unfoldable pub certificate_lines : Model → Certificate (List ℚ) → List (List ℕ)
-certificate_lines m cert = (kind_text m cert ∷ all_part_lines m cert) ++ codes "END" ∷ []
+unfoldable pub certificate_lines_by : {F : Type 0} → Writing F → Model → Certificate (List F) → List (List ℕ)
+certificate_lines_by write m cert = (kind_text m cert ∷ all_part_lines_by write m cert) ++ codes "END" ∷ []
+
+-- ---- with numbers of 127 bits
+abbrev pub part_text : Letter → Name → ℚ → List ℕ
+part_text = part_text_by narrow_writing
+
+abbrev pub part_lines : Letter → Name → ℚ → List (List ℕ)
+part_lines = part_lines_by narrow_writing
+
+abbrev pub lines_below : Letter → (ℕ → Name) → List ℚ → ℕ → List (List ℕ)
+lines_below = lines_below_by narrow_writing
+
+abbrev pub column_lines : Model → Letter → List ℚ → List (List ℕ)
+column_lines = column_lines_by narrow_writing
+
+abbrev pub row_lines : Model → Letter → List ℚ → List (List ℕ)
+row_lines = row_lines_by narrow_writing
+
+abbrev pub all_part_lines : Model → Certificate (List ℚ) → List (List ℕ)
+all_part_lines = all_part_lines_by narrow_writing
+
+abbrev pub certificate_lines : Model → Certificate (List ℚ) → List (List ℕ)
+certificate_lines = certificate_lines_by narrow_writing
+
+-- ---- with numbers of any width
+abbrev pub wide_certificate_lines : Model → Certificate (List ℚ) → List (List ℕ)
+wide_certificate_lines = certificate_lines_by wide_writing

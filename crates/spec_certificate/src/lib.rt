@@ -6,7 +6,8 @@
 //! | `SpellsBy`, `RefusesBy` | what a text of a certificate is, by how the texts of numbers are read | specs/Text |
 //! | `step`, `Spells`, `Refuses` | the same, where numbers are of 127 bits | specs/NarrowText |
 //! | `wide` | how the texts of numbers of any width are read | specs/WideText |
-//! | `certificate_lines` | the text that a certificate is written as | specs/TextWritten |
+//! | `certificate_lines_by` | the text that a certificate is written as, by how its numbers are written | specs/TextWritten |
+//! | `certificate_lines`, `wide_certificate_lines` | the same with numbers of 127 bits, and of any width | specs/TextWritten |
 //!
 //! What the parts of a text make for a model is defined in spec_check (specs/Settle). The functions here have the laws as
 //! their contracts.

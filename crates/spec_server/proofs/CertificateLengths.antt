@@ -19,7 +19,7 @@ use Rattle.spec_check.specs.declared.certificate.Certificate.{Certificate}
 use Rattle.spec_check.specs.declared.certificate.Certificate.TheVariants.{Optimal, Infeasible, Clash, Unbounded}
 use Rattle.spec_check.specs.Certificate.{IsFor, IsNarrowCertificate}
 use Rattle.spec_certificate.specs.TextWritten.{letter_text, part_text, part_lines, lines_below, column_lines, row_lines}
-use Rattle.spec_certificate.specs.TextWritten.{kind_text, all_part_lines, certificate_lines}
+use Rattle.spec_certificate.specs.TextWritten.{kind_text, all_part_lines, certificate_lines, certificate_lines_by}
 use Rattle.spec_server.specs.Output.{ended_lines}
 use Rattle.spec_server.proofs.PlainLines.{both_short, column_named, row_named}
 use Rattle.spec_server.proofs.WrittenLengths.{model_fits}
@@ -125,7 +125,7 @@ module _ (m : Model) (kept : IsModel m) where
 
   certificate_fits : (cert : Certificate (List ℚ)) → IsFor m cert → IsNarrowCertificate cert →
       size (certificate_lines m cert) ≤ 210000
-  unfolding certificate_lines
+  unfolding certificate_lines_by
   certificate_fits cert f n =
       let a = size-append (kind_text m cert ∷ all_part_lines m cert) (codes "END" ∷ []) in
       let b = size-append (kind_text m cert ∷ []) (all_part_lines m cert) in

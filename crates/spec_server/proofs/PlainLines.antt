@@ -29,7 +29,7 @@ use Rattle.spec_check.specs.declared.certificate.Certificate.{Certificate}
 use Rattle.spec_check.specs.declared.certificate.Certificate.TheVariants.{Optimal, Infeasible, Clash, Unbounded}
 use Rattle.spec_check.specs.Certificate.{IsFor, IsNarrowCertificate}
 use Rattle.spec_certificate.specs.TextWritten.{letter_text, part_text, part_lines, lines_below, column_lines, row_lines}
-use Rattle.spec_certificate.specs.TextWritten.{kind_text, all_part_lines, certificate_lines}
+use Rattle.spec_certificate.specs.TextWritten.{kind_text, all_part_lines, certificate_lines, certificate_lines_by}
 
 -- ---- lines one after the other
 
@@ -205,7 +205,7 @@ module _ (m : Model) (kept : IsModel m) where
 
   pub certificate_plain : (cert : Certificate (List ℚ)) → IsFor m cert → IsNarrowCertificate cert →
       All IsPlainLine (certificate_lines m cert)
-  unfolding certificate_lines
+  unfolding certificate_lines_by
   certificate_plain cert f n =
       All-append IsPlainLine (kind_text m cert ∷ all_part_lines m cert) (codes "END" ∷ [])
       (All-cons IsPlainLine (kind_text m cert) (all_part_lines m cert) (kind_plain cert f) (parts_plain cert f n))

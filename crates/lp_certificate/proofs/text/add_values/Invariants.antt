@@ -1,9 +1,10 @@
 -- The loop over the columns, or over the rows.
 use Rattle.std.proofs.Common.{◌≡◌, ◌++◌}
-use Rattle.spec_certificate.specs.TextWritten.{lines_below}
+use Rattle.spec_certificate.specs.TextWritten.{lines_below_by}
 use Rattle.lp_certificate.specs.Letters.{name_at}
 use Rattle.lp_certificate.proofs.text.add_values.Given as goal
 
 -- the lines of those so far follow the first
 abbrev pub invariant-loop-k : goal.invariant-loop-k
-invariant-loop-k l = l.lines ≡ l.fn.lines ++ lines_below l.letter (name_at l.model l.letter) l.values l.k
+invariant-loop-k g l =
+    l.lines ≡ l.fn.lines ++ lines_below_by g.N.Number.writing l.letter (name_at l.model l.letter) l.values l.k
