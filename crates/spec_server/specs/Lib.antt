@@ -13,5 +13,6 @@ pub mod Said
 pub mod CheckOut
 pub mod CheckWideOut
 pub mod SolveOut
+pub mod SolveWideOut
 pub mod BasisOut
 pub mod Halves

@@ -25,6 +25,7 @@
 //! | `said`, `check_line` | what the command `check` says of its input, and the line that it writes | specs/CheckOut |
 //! | `wide_said`, `wide_check_line` | the same, where the certificate's numbers may have any width | specs/CheckWideOut |
 //! | `text_said`, `SolveOut` | what the command `solve` reads, and what it writes of it | specs/SolveOut |
+//! | `SolveWideOut` | what it writes where the numbers of its answer may have any width | specs/SolveWideOut |
 //! | `basis_said`, `BasisOut` | what the command `basis` reads, and what it writes of it | specs/BasisOut |
 //! | `BasisFault` | why it has no model to solve | src/basis |
 //! | `script_out` | what is written of the replies | specs/Output |
