@@ -4,6 +4,7 @@
 //! |---|---|---|
 //! | `print_solved` | writes what a solve of a model ends with | src/solve |
 //! | `print_answer` | writes the line of the answer that a solve ended with | src/solve |
+//! | `print_end` | writes it, and the certificate behind it | src/solve |
 //! | `Handed`, `Start` | a model, and the basis from which it is solved | src/basis_start |
 //! | `print_handed` | writes what a solve from the basis of a file ends with | src/basis_out |
 //! | `print_fault` | writes what is wrong with a text or a basis file | src/basis_out |
@@ -16,4 +17,4 @@ mod solve;
 
 pub use basis_out::{print_fault, print_handed};
 pub use basis_start::{Handed, Start};
-pub use solve::{print_answer, print_solved};
+pub use solve::{print_answer, print_end, print_solved};

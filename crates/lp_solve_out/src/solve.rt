@@ -25,9 +25,9 @@ pub fn print_solved(alloc: Global, model: &Model, to: &mut Bytes) -> Result<(), 
     printed
 }
 
-// Writes the answer that a solve ended with, and its certificate.
+/// Writes the answer that a solve within the budget of a new session ended with, and its certificate.
 #[tactic(auto, unfolding(spec_server::specs::SolveOut::solved_lines))]
-fn print_end(alloc: Global, model: &Model, end: &End, to: &mut Bytes) -> Result<(), AllocError>
+pub fn print_end(alloc: Global, model: &Model, end: &End, to: &mut Bytes) -> Result<(), AllocError>
     requires { MayAnswer model.now machine.opening_budget end.now }
     ensures { OnOk result (to.new ≡ to.old ++ solved_lines model.now end.now) }
 {

@@ -9,6 +9,7 @@
 //! | `address_of` | where a server listens, and for how many workers | specs/CommandLine |
 //! | `said_of`, `MayWrite`, `code_of` | what a command that reads a text says of it, and writes, with its status | specs/TextOut |
 //! | `RangeOut` | what the command `range` writes of a text | specs/RangeOut |
+//! | `PresolveOut` | what the command `presolve` writes of a text | specs/PresolveOut |
 //! | `IisOut` | what the command `iis` writes of a text | specs/IisOut |
 //! | `GenOut` | what the command `gen` writes of the model that it makes | specs/GenOut |
 #![tactic(auto)]
