@@ -37,10 +37,13 @@ use Rattle.spec_server.specs.SolveOut.{behind_line, text_step, SolveOut}
 use Rattle.spec_server.specs.BasisOut.{Handed, route_text, route_line, final_text, BasisOut}
 use Rattle.spec_server.proofs.PlainLines.{ended_lines_behind, certificate_plain}
 use Rattle.spec_server.proofs.WrittenChecks.{certificate_said}
+use Rattle.spec_presolve.specs.declared.presolved.Way.{Way}
+use Rattle.spec_program.specs.PresolveOut.{way_line, PresolveOut}
 use Rattle.spec_truth.specs.SpelledBasis.{BeginsWithText, form_at_limit, AreHanded}
 use Rattle.spec_truth.specs.AcceptedLines.{IsAccepted}
 use Rattle.spec_truth.proofs.AnswerLines.{HasNoFeed}
 use Rattle.spec_truth.proofs.SolvedTexts.{solved_begins}
+use Rattle.spec_truth.proofs.PresolvedTexts.{presolved_begins}
 use Rattle.spec_truth.proofs.BasisTexts.{basis_begins}
 use Rattle.spec_truth.proofs.PlainText.{tested_no_feed, both_no_feed, decimal_no_feed}
 
@@ -130,6 +133,20 @@ module _ (style : Style) (lines : List (Line (List ℕ))) (m : Model) (after : L
     answer_of opening_budget out.0.end,
     ended_lines (lines_of_solved m out.0.end),
     out.2 ∙ solved_begins m out.0.end,
+    accepted opening_budget out.0.end out.1.may_answer,
+  )
+
+  -- ---- what `presolve` writes
+
+  pub presolve_accepted : (written : List ℕ) → PresolveOut (Ok m) written →
+      (way : Way ℚ) × (a : Answer ℚ) × (behind : List ℕ)
+      × (written ≡ way_line way ++ (reply_text (reply.Answered a) ++ 10 ∷ behind)) × IsAccepted style own a behind
+  unfolding reply_text
+  presolve_accepted written out = (
+    out.0.way,
+    answer_of opening_budget out.0.end,
+    ended_lines (lines_of_solved m out.0.end),
+    out.2 ∙ presolved_begins m out.0,
     accepted opening_budget out.0.end out.1.may_answer,
   )
 

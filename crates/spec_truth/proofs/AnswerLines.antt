@@ -36,6 +36,15 @@ same_line (d ∷ a) (c ∷ b) x y h k e =
     let rest : a ≡ b = same_line a b x y (All-tail (λ b. b ≢ 10) d a h) (All-tail (λ b. b ≢ 10) c b k) more in
     cc
 
+-- what follows the first line feed
+pub same_rest : (a b x y : List ℕ) → HasNoFeed a → HasNoFeed b → a ++ 10 ∷ x ≡ b ++ 10 ∷ y → x ≡ y
+same_rest [] [] x y h k e = cc
+same_rest [] (c ∷ b) x y h k e = absurd (All-head (λ b. b ≢ 10) c b k (let z : 10 ≡ c = cc in sym z))
+same_rest (d ∷ a) [] x y h k e = absurd (All-head (λ b. b ≢ 10) d a h (let z : d ≡ 10 = cc in z))
+same_rest (d ∷ a) (c ∷ b) x y h k e =
+    let more : a ++ 10 ∷ x ≡ b ++ 10 ∷ y = cc in
+    same_rest a b x y (All-tail (λ b. b ≢ 10) d a h) (All-tail (λ b. b ≢ 10) c b k) more
+
 printed_no_feed : (w : List ℕ) → list_all is_printable w ≡ true → HasNoFeed w
 printed_no_feed [] h = All-nil (λ b. b ≢ 10)
 printed_no_feed (b ∷ w) h =

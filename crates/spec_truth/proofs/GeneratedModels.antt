@@ -1,7 +1,6 @@
 -- What `gen` writes: the line of a size and the line of an answer that is shown of the model.
-use Rattle.std.proofs.Common.{◌≡◌, ◌≢◌, ℕ, List, [], ◌∷◌, ◌++◌, refl, sym, ap, ◌∙◌, append_assoc}
+use Rattle.std.proofs.Common.{◌≡◌, ℕ, List, [], ◌∷◌, ◌++◌, refl, sym, ap, ◌∙◌, append_assoc}
 use Rattle.std.specs.Prelude.{codes, decimal, replicate}
-use Rattle.std.proofs.lemmas.List.Elements.{All-head, All-tail}
 use Rattle.std.proofs.lemmas.List.FromFn.{length-map-range_with_len}
 use Rattle.spec_exact.specs.Fraction.{ℚ, 0ℚ}
 use Rattle.spec_model.specs.Model.{Model, width, height}
@@ -20,7 +19,7 @@ use Rattle.spec_server.specs.CheckOut.{check_line}
 use Rattle.spec_program.specs.GenOut.{entry_count, size_text, generated_lines, SolvedOut, GenOut}
 use Rattle.spec_truth.specs.TrueAnswer.{IsTrueOf}
 use Rattle.spec_truth.proofs.Shown.{IsShownBy, answer_shown, answer_holds}
-use Rattle.spec_truth.proofs.AnswerLines.{HasNoFeed, optimal_line, infeasible_line, unbounded_line}
+use Rattle.spec_truth.proofs.AnswerLines.{HasNoFeed, same_rest, optimal_line, infeasible_line, unbounded_line}
 use Rattle.spec_truth.proofs.PlainText.{tested_no_feed, both_no_feed, decimal_no_feed}
 
 -- ---- what is written
@@ -81,15 +80,6 @@ out_answered m written out = record {
 }
 
 -- ---- the second line
-
--- what follows the first line feed
-same_rest : (a b x y : List ℕ) → HasNoFeed a → HasNoFeed b → a ++ 10 ∷ x ≡ b ++ 10 ∷ y → x ≡ y
-same_rest [] [] x y h k e = cc
-same_rest [] (c ∷ b) x y h k e = absurd (All-head (λ b. b ≢ 10) c b k (let z : 10 ≡ c = cc in sym z))
-same_rest (d ∷ a) [] x y h k e = absurd (All-head (λ b. b ≢ 10) d a h (let z : d ≡ 10 = cc in z))
-same_rest (d ∷ a) (c ∷ b) x y h k e =
-    let more : a ++ 10 ∷ x ≡ b ++ 10 ∷ y = cc in
-    same_rest a b x y (All-tail (λ b. b ≢ 10) d a h) (All-tail (λ b. b ≢ 10) c b k) more
 
 second_line : (m : Model) (written size rest : List ℕ) (r : IsSizeAndAnswer m written) → HasNoFeed size →
     written ≡ size ++ 10 ∷ rest → answer_text r.answer ++ 10 ∷ r.behind ≡ rest

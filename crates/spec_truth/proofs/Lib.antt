@@ -20,4 +20,5 @@ pub mod LoadedLines
 pub mod MadeEdits
 pub mod Agreement
 pub mod RangedTexts
+pub mod PresolvedTexts
 pub mod SidesTexts

@@ -61,6 +61,8 @@ ghost use Rattle.spec_server.specs.BasisOut.{Handed, BasisSaid, basis_said, Basi
 ghost use Rattle.spec_program.specs.declared.command_line.Moved.{Moved};
 ghost use Rattle.spec_program.specs.GenOut.{entry_count, size_text, GenOut};
 ghost use Rattle.spec_program.specs.IisOut.{IisOut};
+ghost use Rattle.spec_presolve.specs.declared.presolved.Way.{Way};
+ghost use Rattle.spec_program.specs.PresolveOut.{way_line, PresolveOut};
 ghost use Rattle.spec_program.specs.RangeOut.{place_by, RangeOut};
 ghost use Rattle.spec_truth.specs.AcceptedLines.{IsAccepted};
 ghost use Rattle.spec_truth.specs.Certified.{IsCertified, IsWidelyCertified};
@@ -197,8 +199,8 @@ pub fn answers_from_bases_are_true()
         (m : Model) × Spells style lines m × IsUnbounded m }
 {}
 
-/// Behind the answer's line `solve` writes the lines of a certificate, and so does `basis` behind the line after it: to
-/// the lines of the text with these behind them `check` says yes, and that the same is known.
+/// Behind the answer's line `solve` and `presolve` write the lines of a certificate, and so does `basis` behind the line
+/// after it: to the lines of the text with these behind them `check` says yes, and that the same is known.
 pub fn written_certificates_are_accepted()
     ensures solve { (style : Style) (lines : List (Line (List ℕ))) (m : Model) (after : List (Line (List ℕ)))
         (written : List ℕ) (text : BeginsWithText style lines m after) → SolveOut (Ok m) written →
@@ -209,6 +211,11 @@ pub fn written_certificates_are_accepted()
         (answer : Answer ℚ) × (how behind : List ℕ)
         × (written ≡ reply_text (reply.Answered answer) ++ 10 ∷ (how ++ 10 ∷ behind)) × All (λ b. b ≢ 10) how
         × IsAccepted style (are.text.front ++ are.text.last ∷ []) answer behind }
+    ensures presolve { (style : Style) (lines : List (Line (List ℕ))) (m : Model) (after : List (Line (List ℕ)))
+        (written : List ℕ) (text : BeginsWithText style lines m after) → PresolveOut (Ok m) written →
+        (way : Way ℚ) × (answer : Answer ℚ) × (behind : List ℕ)
+        × (written ≡ way_line way ++ (reply_text (reply.Answered answer) ++ 10 ∷ behind))
+        × IsAccepted style (text.front ++ text.last ∷ []) answer behind }
 {}
 
 /// What `range` writes of a text that spells a model is true of the model: where nothing has the name, that; else the line
@@ -270,6 +277,29 @@ pub fn contradictions_of_texts_are_true()
         text_said style lines ≡ Some what → IisOut what written → Spells style lines m →
         (count behind : List ℕ) → All (λ b. b ≢ 10) count →
         written ≡ codes "INFEASIBLE" ++ 10 ∷ (codes "IIS " ++ count ++ 10 ∷ behind) → SaysSides m count behind }
+{}
+
+/// What `presolve` writes of a text that spells a model begins with the line that says which model was solved; behind it
+/// stands the line of an answer, which is true of the model that the text spells. Behind the line of a smaller model the
+/// answer's line alone says it.
+pub fn presolved_texts_have_true_answers()
+    ensures answer { (style : Style) (lines : List (Line (List ℕ))) (m : Model) (what : TextSaid) (written : List ℕ) →
+        text_said style lines ≡ Some what → PresolveOut what written → Spells style lines m →
+        (way : Way ℚ) × (answer : Answer ℚ) × (behind : List ℕ)
+        × (written ≡ way_line way ++ (reply_text (reply.Answered answer) ++ 10 ∷ behind)) × IsTrueOf m answer }
+    ensures optimal { (style : Style) (lines : List (Line (List ℕ))) (m : Model) (what : TextSaid) (written : List ℕ) →
+        text_said style lines ≡ Some what → PresolveOut what written → Spells style lines m →
+        (size text behind : List ℕ) → All (λ b. b ≢ 10) size → All (λ b. b ≢ 10) text →
+        written ≡ codes "REDUCED " ++ size ++ 10 ∷ (codes "OPTIMAL " ++ text ++ 10 ∷ behind) →
+        (v : ℚ) × (number_of text ≡ Is v) × IsOptimal m v }
+    ensures infeasible { (style : Style) (lines : List (Line (List ℕ))) (m : Model) (what : TextSaid)
+        (written : List ℕ) → text_said style lines ≡ Some what → PresolveOut what written → Spells style lines m →
+        (size behind : List ℕ) → All (λ b. b ≢ 10) size →
+        written ≡ codes "REDUCED " ++ size ++ 10 ∷ (codes "INFEASIBLE" ++ 10 ∷ behind) → IsInfeasible m }
+    ensures unbounded { (style : Style) (lines : List (Line (List ℕ))) (m : Model) (what : TextSaid)
+        (written : List ℕ) → text_said style lines ≡ Some what → PresolveOut what written → Spells style lines m →
+        (size behind : List ℕ) → All (λ b. b ≢ 10) size →
+        written ≡ codes "REDUCED " ++ size ++ 10 ∷ (codes "UNBOUNDED" ++ 10 ∷ behind) → IsUnbounded m }
 {}
 
 /// What `gen` writes is the line of the size of the model that is made from the seed, and the line of an answer, which
