@@ -47,12 +47,12 @@ class Makers:
         self.dice = dice
 
     def made(self, kind: str) -> bytes:
-        make: Callable[[], bytes] = {"bytes": self.bytes, "lines": self.lines, "sessions": self.session}[kind]
+        make: Callable[[], bytes] = {"bytes": self.noise, "lines": self.lines, "sessions": self.session}[kind]
         return probed(make())
 
     # ---- bytes
 
-    def bytes(self) -> bytes:
+    def noise(self) -> bytes:
         size = int(2 ** self.dice.uniform(0, 10))
         way = self.dice.random()
         if way < 0.2:
