@@ -12,7 +12,8 @@ links, the next one is started.
   place of PAST or SPENT; each answer is accepted by the checker in Python. Then the link ends, without a reset, with DONE.
 - Bad ones are silent, are cut off, flood the server, send more than 2^26 bytes, reset their link in the midst of a reply,
   send a byte at a time, speak HTTP or TLS, or send bytes at random. Their links end by any word but MEMORY.
-- After the last round the server has as many descriptors as before the first, and hardly more memory than after the second.
+- After the last round the server has as many descriptors as before the first, and hardly more memory than in the middle. (At
+  first each worker's share grows to what the largest sessions take.)
 
 A client whose link is reset before its first reply, as the system does where its queue is full for long, is tried again, and
 counted. It tells of each round on standard error, prints a line of counts for each server, and has status 1 where something is
@@ -52,8 +53,8 @@ SECONDS = 600.0
 STAYS = 0.5
 # How many sessions the good clients of a server draw from: a tenth of its clients at once, and at least so many.
 SESSIONS = 20
-# How much memory a server may gain from the end of its second round to that of its last: of what it had, and in KiB.
-GAIN, GAIN_KIB = 0.25, 2048
+# How much memory a server may gain from the middle of its rounds to the last: of what it had, and in KiB.
+GAIN, GAIN_KIB = 0.1, 1024
 MOST = 2**26
 LINE = re.compile(r"worker=(\d+) link=(\d+) peer=([\d.]+:\d+) word=([A-Z]+) ")
 HTTP = b"GET / HTTP/1.1\r\nHost: lpd\r\nUser-Agent: stranger\r\n\r\n"
@@ -375,19 +376,21 @@ class Served:
             self.wrong.append(f"the server ends with status {status}, {len(lines)} lines and the words {dict(words)}")
         self.wrong += [f"a good link ended with {ends.get(name)}" for name in self.good if "DONE" not in ends.get(name, set())]
         self.judge_size(before)
-        first, last = (self.sizes[min(1, len(self.sizes) - 1)], self.sizes[-1]) if self.sizes else (None, None)
-        print(f"links {len(lines)}: {dict(words)}; clients: {dict(self.counts)}; before {before}, after the second round {first}, after the last {last}; {len(self.wrong)} wrong", flush=True)
+        rounds = len(self.sizes)
+        first, middle, last = (self.sizes[0], self.sizes[rounds // 2], self.sizes[-1]) if rounds else (None, None, None)
+        print(f"links {len(lines)}: {dict(words)}; clients in {rounds} rounds: {dict(self.counts)}; {len(self.wrong)} wrong")
+        print(f"  before {before}, after the first round {first}, in the middle {middle}, after the last {last}", flush=True)
         for why, count in Counter(self.wrong).most_common(10):
             print(f"  {count} times: {why}")
 
     def judge_size(self, before: Optional[Size]) -> None:
         if not before or not self.sizes:
             return
-        second, last = self.sizes[min(1, len(self.sizes) - 1)], self.sizes[-1]
+        middle, last = self.sizes[len(self.sizes) // 2], self.sizes[-1]
         if last.descriptors != before.descriptors:
             self.wrong.append(f"{last.descriptors} descriptors in place of {before.descriptors}")
-        if last.memory > second.memory * (1 + GAIN) + GAIN_KIB:
-            self.wrong.append(f"{last.memory} KiB, after {second.memory} KiB when the second round had ended")
+        if last.memory > middle.memory * (1 + GAIN) + GAIN_KIB:
+            self.wrong.append(f"{last.memory} KiB after the last round, and {middle.memory} KiB in the middle")
 
 
 def main() -> int:
