@@ -5,14 +5,17 @@
 //! |---|---|---|
 //! | `shapes` | words and shapes that `lp_shape` tells apart | src/shapes |
 //! | `board` | passes of one board on two threads | src/board |
+//! | `full_board` | sixteen passes on threads that publish on one place | src/full_board |
 //! | `worlds` | sessions of a world that publish at the same time | src/worlds |
 //! | `workers` | a script that two workers run beside each other | src/workers |
-//! | `links` | two links in memory that one worker serves, and a listener without a link | src/links |
+//! | `links` | two links in memory that one worker serves, a listener without a link, and links that fail | src/links |
 //! | `tcp` | two links over loopback, each served by a worker of its own | src/tcp |
 #![tactic(auto)]
 
 #[cfg(test)]
 mod board;
+#[cfg(test)]
+mod full_board;
 #[cfg(test)]
 mod links;
 #[cfg(test)]

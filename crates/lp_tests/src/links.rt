@@ -1,4 +1,4 @@
-// Two links before one worker, and none.
+// Two links before one worker, none, and links that fail at each of their reads and writes.
 ghost use Rattle.std.specs.Prelude.{◌≡◌, All, IfOk};
 ghost use Rattle.std.specs.Vec.{vec_len};
 ghost use Rattle.lp_link.specs.Memory.{IsUnwritten};
@@ -7,7 +7,9 @@ use lp_base::{Bytes, MemSink, Texts};
 use lp_link::{MemLink, MemListen};
 use lp_serve::{ServeFault, serve};
 use std::alloc::{AllocError, Global};
+use std::sync::Wait;
 use std::test::Fail;
+use std::thread::Threads;
 
 const ASKS: &str =
     "LOAD FREE\nNAME a\nROWS\n N cost\n G R1\nCOLUMNS\n x cost 1 R1 1\nRHS\n R1 1\nENDATA\nSOLVE\nHOW\nQUIT\n";
@@ -17,15 +19,27 @@ const FIRST: &str = "LOADED 1 1\nOPTIMAL 1\nHOW COLD PIVOTS 1 PUBLISHED 0\nBYE\n
 
 const SECOND: &str = "LOADED 1 1\nOPTIMAL 1\nHOW BASIS 0 PIVOTS 0 SAME\nBYE\n";
 
-// A link on which these bytes come, three at a time.
-fn link(alloc: Global, text: &[u8]) -> Result<MemLink, AllocError>
+// A link on which these bytes come, three at a time, and of which these reads and writes fail.
+fn failing_link(
+    alloc: Global,
+    text: &[u8],
+    read_fails: Vec<u64>,
+    write_fails: Vec<u64>,
+) -> Result<MemLink, AllocError>
     ensures { IfOk result IsUnwritten }
 {
     let mut pieces = Texts::new(alloc);
     for piece in text.chunks(3) {
         pieces.push(Bytes::from_slice(alloc, piece)?)?;
     }
-    Ok(MemLink::new(alloc, pieces, Vec::new(alloc), Vec::new(alloc)))
+    Ok(MemLink::new(alloc, pieces, read_fails, write_fails))
+}
+
+// A link on which these bytes come.
+fn link(alloc: Global, text: &[u8]) -> Result<MemLink, AllocError>
+    ensures { IfOk result IsUnwritten }
+{
+    failing_link(alloc, text, Vec::new(alloc), Vec::new(alloc))
 }
 
 // Two links with the same commands.
@@ -74,5 +88,50 @@ fn no_link_comes(rt: HostRuntime) -> Result<(), Fail> {
     let served = serve(&rt, alloc, &mut nets, 1, 4, &mut out);
     assert!(rt; matches!(served, Err(ServeFault::Accept)));
     assert!(rt; out.written().is_empty());
+    Ok(())
+}
+
+// Whether a link is served so: its line is this one, and what was taken is the first of its replies, and not all.
+fn ends_early<R: Threads + Wait + Sync>(
+    rt: &R,
+    alloc: Global,
+    link: MemLink,
+    line: &str,
+) -> Result<bool, Fail>
+    requires { IsUnwritten link }
+{
+    let mut nets = listener(alloc, std::vec![in alloc; link]?)?;
+    let mut out = MemSink::new(alloc, Vec::new(alloc));
+    serve(rt, alloc, &mut nets, 1, 4, &mut out)?;
+    let is_early = match nets[0].links_back() {
+        [back] => {
+            FIRST.as_bytes().starts_with(back.written()) && back.written().len() < FIRST.len()
+        }
+        _ => false,
+    };
+    let is_said = out.written() == line.as_bytes();
+    drop(nets);
+    drop(out);
+    Ok(is_early && is_said)
+}
+
+// Each of the reads up to QUIT fails in turn, and each of the writes.
+#[test]
+fn links_that_fail_end_early(rt: HostRuntime) -> Result<(), Fail> {
+    let alloc = rt.alloc();
+    let mut early = 0;
+    for read in 1..ASKS.len().div_ceil(3) as u64 + 1 {
+        let fails = std::vec![in alloc; read]?;
+        let link = failing_link(alloc, ASKS.as_bytes(), fails, Vec::new(alloc))?;
+        if !ends_early(&rt, alloc, link, "1 1 READ\n")? {
+            return Ok(assert_eq!(rt; early, read));
+        }
+        early = read;
+    }
+    for write in 1..5u64 {
+        let fails = std::vec![in alloc; write]?;
+        let link = failing_link(alloc, ASKS.as_bytes(), Vec::new(alloc), fails)?;
+        assert!(rt; ends_early(&rt, alloc, link, "1 1 WRITE\n")?);
+    }
     Ok(())
 }

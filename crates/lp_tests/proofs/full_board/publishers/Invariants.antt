@@ -1,0 +1,13 @@
+-- The publishers so far, and the pass that others are cut off.
+use Rattle.std.proofs.Common.{◌≡◌, ◌+◌}
+use Rattle.std.specs.Prelude.{All}
+use Rattle.basis_board.specs.Id.{id_of}
+use Rattle.lp_tests.proofs.full_board.publishers.Given as goal
+
+abbrev pub invariant-loop-index : goal.invariant-loop-index
+invariant-loop-index l =
+    record {
+      board : l.first.board ≡ id_of l.board;
+      share : l.first.view.share + l.index ≡ 65;
+      boards : All (λ one. one.pass.board ≡ id_of l.board) l.all.items;
+    }

@@ -1,0 +1,120 @@
+// Sixteen passes that publish on one place, each on a thread of its own.
+ghost use Rattle.std.specs.Prelude.{◌≡◌, All, IfOk};
+ghost use Rattle.basis_board.specs.Id.{id_of};
+ghost use Rattle.spec_shape.specs.Words.{IsWellFormed};
+
+use basis_board::{Board, Look, Pass, Put};
+use lp_shape::well_formed;
+use std::alloc::{AllocError, Global};
+use std::test::Fail;
+use std::thread;
+use std::thread::Threads;
+
+const PASSES: usize = 16;
+
+// A pass, and what its publication and its look came to.
+#[derive(Drop)]
+struct Publisher {
+    pass: Pass,
+    put: Option<Put>,
+    has_found: bool,
+}
+
+impl Publisher {
+    fn new(pass: Pass) -> Self
+        ensures { result.pass ≡ pass }
+    {
+        Publisher {
+            pass,
+            put: None,
+            has_found: false,
+        }
+    }
+
+    fn publish(&mut self, board: &Board, words: &[u64; 49])
+        requires board { self.old.pass.board ≡ id_of board.now }
+        requires formed { IsWellFormed words.now }
+        ensures { self.new.pass.board ≡ id_of board.now }
+    {
+        self.put = Some(board.publish(&mut self.pass, words));
+    }
+
+    // Whether the words are found at place 0.
+    fn look(&mut self, board: &Board, words: &[u64; 49])
+        requires { self.old.pass.board ≡ id_of board.now }
+        ensures { self.new.pass.board ≡ id_of board.now }
+    {
+        let mut shape = [0u64; 25];
+        shape.copy_from_slice(&words[..25]);
+        self.has_found = board.look(&mut self.pass, &shape) == Look::Found(0, *words);
+    }
+
+    fn was_first(&self) -> bool {
+        self.put == Some(Put::Published(0))
+    }
+
+    fn was_refused(&self) -> bool {
+        self.put == Some(Put::Full(1)) || self.put == Some(Put::Raced(1))
+    }
+}
+
+// The pass and others that are cut off it, as publishers.
+fn publishers(alloc: Global, board: &Board, mut first: Pass) -> Result<Vec<Publisher>, AllocError>
+    requires board { first.board ≡ id_of board.now }
+    requires share { first.view.share ≡ 64 }
+    ensures { IfOk result (λ all. All (λ one. one.pass.board ≡ id_of board.now) all.items) }
+{
+    let mut all = Vec::new(alloc);
+    for index in 1..PASSES {
+        let pass = board.split(&mut first);
+        all.push(Publisher::new(pass))?;
+    }
+    all.push(Publisher::new(first))?;
+    Ok(all)
+}
+
+fn publish_all<R: Threads + Sync>(rt: &R, board: &Board, words: &[u64; 49], all: &mut [Publisher])
+    requires boards { All (λ one. one.pass.board ≡ id_of board.now) all.old }
+    requires formed { IsWellFormed words.now }
+    ensures { All (λ one. one.pass.board ≡ id_of board.now) all.new }
+{
+    thread::for_each_mut(
+        rt,
+        all,
+        PASSES,
+        &|_, one: &mut Publisher| one.publish(board, words),
+    );
+}
+
+fn look_all<R: Threads + Sync>(rt: &R, board: &Board, words: &[u64; 49], all: &mut [Publisher])
+    requires { All (λ one. one.pass.board ≡ id_of board.now) all.old }
+{
+    thread::for_each_mut(
+        rt,
+        all,
+        PASSES,
+        &|_, one: &mut Publisher| one.look(board, words),
+    );
+}
+
+#[test]
+fn one_of_sixteen_passes_publishes_and_all_find(rt: HostRuntime) -> Result<(), Fail> {
+    let alloc = rt.alloc();
+    let (board, pass) = Board::new(alloc, 1)?;
+    // one row with a lower limit alone, whose logical is at it, and one basic column with a lower bound alone
+    let mut words = [0u64; 49];
+    words[0] = 65537;
+    words[1] = 5;
+    words[25] = 4;
+    if !well_formed(&words) {
+        return Ok(assert!(rt; false));
+    }
+    let mut all = publishers(alloc, &board, pass)?;
+    publish_all(&rt, &board, &words, all.as_mut_slice());
+    let first = all.iter().filter(|one| one.was_first()).count();
+    let refused = all.iter().filter(|one| one.was_refused()).count();
+    look_all(&rt, &board, &words, all.as_mut_slice());
+    let found = all.iter().filter(|one| one.has_found).count();
+    assert_eq!(rt; (first, refused, found), (1, PASSES - 1, PASSES));
+    Ok(())
+}
