@@ -11,18 +11,10 @@ import re
 import sys
 from pathlib import Path
 
+from count_definitions import crates_below
+
 TOP = Path(__file__).resolve().parent.parent
 PROGRAM = "lpd"
-
-
-def below():
-    """What each crate of the repository names in its line of crates.txt."""
-    found = {}
-    for line in (TOP / "crates.txt").read_text(encoding="utf-8").splitlines():
-        head, colon, names = line.partition("#")[0].partition(":")
-        if colon:
-            found[head.split()[0]] = names.split()
-    return found
 
 
 def standing(lines):
@@ -49,7 +41,7 @@ def named():
 
 
 def complaints():
-    lines, kit = below(), named()
+    lines, kit = crates_below(), named()
     crates = standing(lines)
     for name in sorted(kit):
         if not any(name in lines[crate] and uses(crate, name) for crate in crates):
