@@ -5,12 +5,15 @@
 
 Each path in backquotes in the pages at the top and in docs/ and its folders has to exist, each link has to lead to a file, and each name in
 backquotes in docs/READING.md and docs/PROOFS.md has to be a crate or stand in the sources of one. Each crate stands in one
-layer of the drawing in docs/ARCHITECTURE.md, and names in crates.txt only crates of its layer and of those below. It prints
-what is missing; the status is 1 where something is.
+layer of the drawing in docs/ARCHITECTURE.md, and names in crates.txt only crates of its layer and of those below. Each has one
+row in the tables there, which says that it stands on crates that crates.txt names for it, and of these leaves out only such
+that one of the others stands on. It prints what is missing; the status is 1 where something is.
 """
 import re
 import sys
 from pathlib import Path
+
+from count_definitions import crates_below
 
 TOP = Path(__file__).resolve().parent.parent
 PATH = re.compile(r"(?:crates|docs|examples|tools|bench|web)/[\w./-]*")
@@ -49,10 +52,14 @@ def missing_in(document, names):
                 yield quoted
 
 
+def section_of_crates():
+    text = (TOP / "docs" / "ARCHITECTURE.md").read_text(encoding="utf-8")
+    return text.partition("## The crates\n")[2].partition("### Crates of the kit\n")[0]
+
+
 def layers():
     """The layer of each crate, counted from the top of the drawing."""
-    text = (TOP / "docs" / "ARCHITECTURE.md").read_text(encoding="utf-8")
-    drawing = text.partition("## The crates")[2].partition("```\n")[2].partition("```")[0]
+    drawing = section_of_crates().partition("```\n")[2].partition("```")[0]
     layer, found = 0, {}
     for line in drawing.splitlines():
         # a line of a layer begins with its name, and goes on in lines that begin behind it
@@ -64,14 +71,39 @@ def layers():
 def misplaced():
     """Why the drawing of the layers is not that of crates.txt."""
     layer = layers()
-    for line in (TOP / "crates.txt").read_text(encoding="utf-8").splitlines():
-        crate, _, below = line.partition("#")[0].partition(":")
-        crate = (crate.split() or [""])[0]
-        if crate and crate not in layer:
+    for crate, below in crates_below().items():
+        if crate not in layer:
             yield f"no layer for {crate}"
-        for name in below.split():
+        for name in below:
             if layer.get(name, 99) < layer.get(crate, 0):
                 yield f"{crate} names {name}, of a layer above its own"
+
+
+def standing(names, below):
+    """These crates, and all that they stand on."""
+    found, left = set(), [*names]
+    while left:
+        crate = left.pop()
+        if crate not in found:
+            found.add(crate)
+            left += below.get(crate, [])
+    return found
+
+
+def misstated():
+    """Why the tables of crates do not say what the crates stand on."""
+    below = crates_below()
+    rows = re.findall(r"^\| `(\w+)` \|.*\|([^|]*)\|$", section_of_crates(), re.M)
+    for crate in sorted({*below}.symmetric_difference(crate for crate, _ in rows)):
+        yield f"no row for {crate}" if crate in below else f"a row for {crate}, which crates.txt does not name"
+    for crate, cell in rows:
+        said, names = re.findall(r"`(\w+)`", cell), below.get(crate, [])
+        for name in said:
+            if name not in names:
+                yield f"the row of {crate} says that it stands on {name}, and crates.txt does not"
+        for name in names:
+            if name in below and name not in standing(said, below):
+                yield f"{crate} stands on {name}, and its row names neither it nor a crate above it"
 
 
 def main():
@@ -81,7 +113,7 @@ def main():
     missing = [(document, what) for document in documents for what in missing_in(document, names if document in named else None)]
     for document, what in missing:
         print(f"{document.relative_to(TOP)}: there is no {what}")
-    wrong = [*misplaced()]
+    wrong = [*misplaced(), *misstated()]
     for what in wrong:
         print(f"docs/ARCHITECTURE.md: {what}")
     return 1 if missing or wrong else 0
