@@ -83,7 +83,7 @@ module _ (words : List (List ℕ)) where
         ∙ ap (λ v. option_map (Read command) (form_given v)) (sym (value-look_up [] (codes "--form") words t.0 t.2))
         ∙ ap (option_map (Read command)) is_style
 
--- ---- a check, whose numbers may have any width
+-- ---- a text, with numbers of any width where that is asked for
 
 module _ (words : List (List ℕ)) (narrow wide : ExactTextCommand) where
   abbrev switches : OptionNames
@@ -265,9 +265,10 @@ module _ (what name : List ℕ) (words all : List (List ℕ)) (cut : all ≡ wha
 abbrev pub command_words : List (List ℕ × Command)
 command_words =
     (codes "run", command.Run)
-    ∷ (codes "solve", command.Read text.Solve)
-    ∷ (codes "check", command.Check)
+    ∷ (codes "solve", command.ByWidth text.Solve text.SolveWide)
+    ∷ (codes "check", command.ByWidth text.Check text.CheckWide)
     ∷ (codes "basis", command.Read text.Basis)
+    ∷ (codes "presolve", command.Read text.Presolve)
     ∷ (codes "iis", command.Read text.Iis)
     ∷ (codes "range", command.Range)
     ∷ (codes "gen", command.Generate)
@@ -277,7 +278,7 @@ command_words =
 abbrev pub row_of : Command → Row
 row_of command.Run = run_row
 row_of (command.Read asked) = text_row (spelled_text asked)
-row_of command.Check = wide_row text.Check text.CheckWide
+row_of (command.ByWidth narrow wide) = wide_row (spelled_text narrow) (spelled_text wide)
 row_of command.Range = range_row
 row_of command.Generate = generate_row
 row_of command.Serve = serve_row

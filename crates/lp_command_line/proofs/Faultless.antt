@@ -7,7 +7,7 @@ use denote.Ref.{Bor}
 use Rattle.spec_mps.specs.Shapes.{look_up}
 use Rattle.spec_program.specs.declared.command_line.CommandLine.TheVariants.{Read}
 use Rattle.spec_program.specs.declared.command_line.Moved.{Moved}
-use Rattle.spec_program.specs.declared.command_line.TextCommand.TheVariants.{Check, CheckWide, Range}
+use Rattle.spec_program.specs.declared.command_line.TextCommand.TheVariants.{Range}
 use Rattle.spec_program.specs.Spelled.{spelled_text}
 use Rattle.spec_program.specs.CommandLine.{ExactTextCommand, moved_of, range_row}
 use Rattle.spec_program.specs.CommandLine.{Word, OptionNames, given_or, given_in, asked_by, is_one_of, is_plain}
@@ -295,7 +295,7 @@ no-serve_fault (address ∷ words) =
 abbrev pub fault_of : Command → List Word → Option Fault
 fault_of command.Run = run_fault
 fault_of (command.Read asked) = text_fault
-fault_of command.Check = wide_fault
+fault_of (command.ByWidth narrow wide) = wide_fault
 fault_of command.Range = range_fault
 fault_of command.Generate = generate_fault
 fault_of command.Serve = serve_fault
@@ -320,7 +320,7 @@ no-word_fault (word ∷ words) =
     by None = refl
     by (Some command.Run) = no-run_fault words
     by (Some (command.Read asked)) = no-text_fault (spelled_text asked) words
-    by (Some command.Check) = no-wide_fault Check CheckWide words
+    by (Some (command.ByWidth narrow wide)) = no-wide_fault (spelled_text narrow) (spelled_text wide) words
     by (Some command.Range) = no-range_fault words
     by (Some command.Generate) = no-generate_fault words
     by (Some command.Serve) = no-serve_fault words

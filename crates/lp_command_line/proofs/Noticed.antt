@@ -10,7 +10,6 @@ use Rattle.lp_command_line.specs.declared.notices.Notice.{Notice}
 use Rattle.lp_command_line.specs.declared.notices.Notice.TheVariants.{Usage, Version}
 use Rattle.lp_command_line.specs.declared.line.Command.{Command}
 use Rattle.lp_command_line.specs.declared.line.Command.TheVariants as command
-use Rattle.spec_program.specs.declared.command_line.TextCommand.TheVariants.{Check, CheckWide}
 use Rattle.spec_program.specs.Spelled.{spelled_text}
 use Rattle.lp_command_line.specs.Notices.{named, notice_of}
 use Rattle.lp_command_line.proofs.Asking.{run-refused, text-refused, wide-refused, no-address, command_words, row_of, asks-command}
@@ -47,7 +46,8 @@ usage_behind word =
     by None = refl
     by (Some command.Run) = run-refused (codes "--help" ∷ []) refl
     by (Some (command.Read asked)) = text-refused (codes "--help" ∷ []) (spelled_text asked) refl
-    by (Some command.Check) = wide-refused (codes "--help" ∷ []) Check CheckWide refl
+    by (Some (command.ByWidth narrow wide)) =
+        wide-refused (codes "--help" ∷ []) (spelled_text narrow) (spelled_text wide) refl
     by (Some command.Range) = ranges_nothing
     by (Some command.Generate) = generates_nothing
     by (Some command.Serve) = no-address (codes "--help") [] (codes "--help" ∷ []) refl refl

@@ -120,9 +120,10 @@ serve_fault (address ∷ words) =
 abbrev pub faults : List (Word × (List Word → Option Fault))
 faults =
     (codes "run", run_fault)
-    ∷ (codes "solve", text_fault)
+    ∷ (codes "solve", wide_fault)
     ∷ (codes "check", wide_fault)
     ∷ (codes "basis", text_fault)
+    ∷ (codes "presolve", text_fault)
     ∷ (codes "iis", text_fault)
     ∷ (codes "range", range_fault)
     ∷ (codes "gen", generate_fault)

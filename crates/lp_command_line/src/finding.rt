@@ -122,7 +122,7 @@ fn text_fault(words: &[String]) -> Option<WordFault<&[u8]>>
     option_fault(words, &["--form"], &[]).or(form_fault(words, &[]))
 }
 
-fn check_fault(words: &[String]) -> Option<WordFault<&[u8]>>
+fn wide_fault(words: &[String]) -> Option<WordFault<&[u8]>>
     ensures { told result ≡ faults.wide_fault (map string_bytes words.now) }
 {
     option_fault(words, &["--form", "--wide"], &WIDE).or(form_fault(words, &WIDE))
@@ -184,7 +184,7 @@ fn first_fault(words: &[String]) -> Option<WordFault<&[u8]>>
         None => Some(WordFault::NoCommand(word)),
         Some(Command::Run) => run_fault(behind),
         Some(Command::Read(_)) => text_fault(behind),
-        Some(Command::Check) => check_fault(behind),
+        Some(Command::ByWidth { .. }) => wide_fault(behind),
         Some(Command::Range) => range_fault(behind),
         Some(Command::Generate) => generate_fault(behind),
         Some(Command::Serve) => serve_fault(behind),

@@ -6,7 +6,6 @@ ghost use Rattle.spec_text.specs.Words.{same};
 ghost use Rattle.spec_program.specs.CommandLine.{run_row, text_row, wide_row, by_width, range_row, generate_row};
 ghost use Rattle.spec_program.specs.CommandLine.{serve_row, asked_by};
 ghost use Rattle.spec_program.specs.CommandLine as command_lines;
-ghost use Rattle.spec_program.specs.declared.command_line.TextCommand.TheVariants.{Check, CheckWide};
 ghost use Rattle.spec_program.specs.Spelled.{spelled_text, told};
 ghost use Rattle.lp_command_line.specs.Words.{bytes_of, first_in, value_in, are_in, wide_switch, range_in, serve_in};
 
@@ -20,17 +19,34 @@ use spec_program::{CommandLine, Moved, TextCommand};
 pub(crate) enum Command {
     Run,
     Read(TextCommand<&'static [u8]>),
-    Check,
+    // The one or the other, by whether numbers of any width are asked for.
+    ByWidth {
+        narrow: TextCommand<&'static [u8]>,
+        wide: TextCommand<&'static [u8]>,
+    },
     Range,
     Generate,
     Serve,
 }
 
-pub(crate) const COMMANDS: [(&[u8], Command); 8] = [
+pub(crate) const COMMANDS: [(&[u8], Command); 9] = [
     (b"run", Command::Run),
-    (b"solve", Command::Read(TextCommand::Solve)),
-    (b"check", Command::Check),
+    (
+        b"solve",
+        Command::ByWidth {
+            narrow: TextCommand::Solve,
+            wide: TextCommand::SolveWide,
+        },
+    ),
+    (
+        b"check",
+        Command::ByWidth {
+            narrow: TextCommand::Check,
+            wide: TextCommand::CheckWide,
+        },
+    ),
     (b"basis", Command::Read(TextCommand::Basis)),
+    (b"presolve", Command::Read(TextCommand::Presolve)),
     (b"iis", Command::Read(TextCommand::Iis)),
     (b"range", Command::Range),
     (b"gen", Command::Generate),
@@ -42,7 +58,7 @@ const FORMS: [(&[u8], Style); 2] = [(b"free", Style::Free), (b"fixed", Style::Fi
 // The numbers of which there is a range.
 const MOVED: [(&[u8], Moved); 2] = [(b"cost", Moved::Cost), (b"rhs", Moved::RightSide)];
 
-// The switch of a check.
+// The switch that asks for numbers of any width.
 pub(crate) const WIDE: [&str; 1] = ["--wide"];
 
 // How many workers there are, unless it is said.
@@ -184,26 +200,36 @@ fn text_line<'a>(
     Some(CommandLine::Read(command, style))
 }
 
-// The check that the options ask for.
-fn checked_in(options: &[String]) -> TextCommand<&'static [u8]>
-    ensures { spelled_text result ≡ by_width Check CheckWide
+// Which of the two commands the options ask for.
+fn command_by_width(
+    narrow: TextCommand<&'static [u8]>,
+    wide: TextCommand<&'static [u8]>,
+    options: &[String],
+) -> TextCommand<&'static [u8]>
+    ensures { spelled_text result ≡ by_width (spelled_text narrow.entry) (spelled_text wide.entry)
         (value_in wide_switch (codes "--wide") (map string_bytes options.now)) }
 {
     match value_of(options, b"--wide", &WIDE) {
-        Some(_) => TextCommand::CheckWide,
-        None => TextCommand::Check,
+        Some(_) => wide,
+        None => narrow,
     }
 }
 
-// A certificate is checked, with numbers of any width where that is asked for.
-fn check_line(words: &[String]) -> Option<CommandLine<&[u8]>>
-    ensures { told result ≡ asked_by (map string_bytes words.now) (wide_row Check CheckWide) }
+// A text is read in a form by one of the two commands.
+fn wide_line<'a>(
+    narrow: TextCommand<&'static [u8]>,
+    wide: TextCommand<&'static [u8]>,
+    words: &'a [String],
+) -> Option<CommandLine<&'a [u8]>>
+    ensures { told result ≡ asked_by (map string_bytes words.now)
+        (wide_row (spelled_text narrow.entry) (spelled_text wide.entry)) }
 {
     if !are_options(words, &["--form", "--wide"], &WIDE) {
         return None;
     }
     let style = form_in(words, &WIDE)?;
-    Some(CommandLine::Read(checked_in(words), style))
+    let command = command_by_width(narrow, wide, words);
+    Some(CommandLine::Read(command, style))
 }
 
 // Which number of a model a word names.
@@ -331,7 +357,7 @@ pub fn command_line_of(words: &[String]) -> Option<CommandLine<&[u8]>>
     match look_up(word.as_bytes(), &COMMANDS)? {
         Command::Run => run_line(behind),
         Command::Read(command) => text_line(command, behind),
-        Command::Check => check_line(behind),
+        Command::ByWidth { narrow, wide } => wide_line(narrow, wide, behind),
         Command::Range => range_line(behind),
         Command::Generate => generate_line(behind),
         Command::Serve => serve_line(behind),

@@ -10,7 +10,7 @@ use Rattle.spec_program.specs.CommandLine.{row_count_of, column_count_of, Row, r
 use Rattle.spec_program.specs.CommandLine.{generate_with, generate_row, serve_row, asked_by, command_line_of}
 use Rattle.spec_program.specs.CommandLine.{served_at, address_of, range_row, by_width, wide_row}
 use Rattle.spec_program.specs.declared.command_line.CommandLine.TheVariants.{Run, Read, Generate, Serve}
-use Rattle.spec_program.specs.declared.command_line.TextCommand.TheVariants.{Solve, Check, CheckWide, Basis, Iis}
+use Rattle.spec_program.specs.declared.command_line.TextCommand.TheVariants.{Solve, SolveWide, Check, CheckWide, Basis, Presolve, Iis}
 use Rattle.spec_program.proofs.Fitting.{none_is_not, row_of}
 
 -- ---- a word alone asks for no server
@@ -67,31 +67,36 @@ alone : (word : Word) (command : ExactLine) → command_line_of (word ∷ []) �
 unfolding command_line_of
 alone word command e =
     by (same word (codes "run")) (same word (codes "solve")) (same word (codes "check")) (same word (codes "basis"))
-    (same word (codes "iis")) (same word (codes "range")) (same word (codes "gen")) (same word (codes "serve")) e
+    (same word (codes "presolve")) (same word (codes "iis")) (same word (codes "range")) (same word (codes "gen")) (same word (codes "serve")) e
   where
-    by : (r s c b i a g v : Bool) → option_and_then (asked_by []) (row_of r s c b i a g v) ≡ Some command →
+    by : (r s c b p i a g v : Bool) → option_and_then (asked_by []) (row_of r s c b p i a g v) ≡ Some command →
         IsNoServer command
-    by true s c b i a g v h =
+    by true s c b p i a g v h =
         asked run_row [] command
         (λ given. runs (workers_given (look_up (codes "--workers") given.options))
         (places_given (look_up (codes "--places") given.options)) command) h
-    by false true c b i a g v h =
-        asked (text_row Solve) [] command
-        (λ given. reads Solve (form_given (look_up (codes "--form") given.options)) command) h
-    by false false true b i a g v h =
+    by false true c b p i a g v h =
+        asked (wide_row Solve SolveWide) [] command
+        (λ given. reads (by_width Solve SolveWide (look_up (codes "--wide") given.options))
+        (form_given (look_up (codes "--form") given.options)) command) h
+    by false false true b p i a g v h =
         asked (wide_row Check CheckWide) [] command
         (λ given. reads (by_width Check CheckWide (look_up (codes "--wide") given.options))
         (form_given (look_up (codes "--form") given.options)) command) h
-    by false false false true i a g v h =
+    by false false false true p i a g v h =
         asked (text_row Basis) [] command
         (λ given. reads Basis (form_given (look_up (codes "--form") given.options)) command) h
-    by false false false false true a g v h =
+    by false false false false true i a g v h =
+        asked (text_row Presolve) [] command
+        (λ given. reads Presolve (form_given (look_up (codes "--form") given.options)) command) h
+    by false false false false false true a g v h =
         asked (text_row Iis) [] command
         (λ given. reads Iis (form_given (look_up (codes "--form") given.options)) command) h
-    by false false false false false true g v h = absurd (ranges_nothing command h)
-    by false false false false false false true v h = asked generate_row [] command (λ given. makes given.plain command) h
-    by false false false false false false false true h = absurd (serves_nothing command h)
-    by false false false false false false false false h = absurd (none_is_not command h)
+    by false false false false false false true g v h = absurd (ranges_nothing command h)
+    by false false false false false false false true v h =
+        asked generate_row [] command (λ given. makes given.plain command) h
+    by false false false false false false false false true h = absurd (serves_nothing command h)
+    by false false false false false false false false false h = absurd (none_is_not command h)
 
 -- ---- so a server has an address
 

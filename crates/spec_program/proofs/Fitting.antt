@@ -18,7 +18,7 @@ use Rattle.spec_program.specs.CommandLine.{by_width, wide_row}
 use Rattle.spec_program.specs.CommandLine.{command_line_of}
 use Rattle.spec_program.specs.declared.command_line.CommandLine.TheVariants.{Run, Read, Generate, Serve}
 use Rattle.spec_program.specs.declared.command_line.Moved.{Moved}
-use Rattle.spec_program.specs.declared.command_line.TextCommand.TheVariants.{Solve, Check, CheckWide, Basis, Iis, Range}
+use Rattle.spec_program.specs.declared.command_line.TextCommand.TheVariants.{Solve, SolveWide, Check, CheckWide, Basis, Presolve, Iis, Range}
 use Rattle.spec_program.specs.Fits.{IsWorkers, IsPlaces, IsLinks, Fits}
 
 -- ---- numbers
@@ -198,30 +198,33 @@ serve-fits words command e =
     row-fits serve_row words command (λ given h. serve_with-fits given.plain given.options command h) e
 
 -- the row of a command's word, by whether it is each of the words
-abbrev pub row_of : Bool → Bool → Bool → Bool → Bool → Bool → Bool → Bool → Option Row
-row_of r s c b i a g v =
+abbrev pub row_of : Bool → Bool → Bool → Bool → Bool → Bool → Bool → Bool → Bool → Option Row
+row_of r s c b p i a g v =
     cond r (Some run_row)
-    (cond s (Some (text_row Solve))
+    (cond s (Some (wide_row Solve SolveWide))
     (cond c (Some (wide_row Check CheckWide))
     (cond b (Some (text_row Basis))
+    (cond p (Some (text_row Presolve))
     (cond i (Some (text_row Iis))
-    (cond a (Some range_row) (cond g (Some generate_row) (cond v (Some serve_row) None)))))))
+    (cond a (Some range_row) (cond g (Some generate_row) (cond v (Some serve_row) None))))))))
 
 pub command-fits : (words : List Word) (command : ExactLine) → command_line_of words ≡ Some command → Fits command
 unfolding command_line_of
 command-fits [] command e = absurd (none_is_not command e)
 command-fits (word ∷ words) command e =
     by (same word (codes "run")) (same word (codes "solve")) (same word (codes "check")) (same word (codes "basis"))
-    (same word (codes "iis")) (same word (codes "range")) (same word (codes "gen")) (same word (codes "serve")) e
+    (same word (codes "presolve")) (same word (codes "iis")) (same word (codes "range")) (same word (codes "gen"))
+    (same word (codes "serve")) e
   where
-    by : (r s c b i a g v : Bool) → option_and_then (asked_by words) (row_of r s c b i a g v) ≡ Some command →
+    by : (r s c b p i a g v : Bool) → option_and_then (asked_by words) (row_of r s c b p i a g v) ≡ Some command →
         Fits command
-    by true s c b i a g v h = run-fits words command h
-    by false true c b i a g v h = text-fits Solve words command h
-    by false false true b i a g v h = wide-fits Check CheckWide words command h
-    by false false false true i a g v h = text-fits Basis words command h
-    by false false false false true a g v h = text-fits Iis words command h
-    by false false false false false true g v h = range-fits words command h
-    by false false false false false false true v h = generate-fits words command h
-    by false false false false false false false true h = serve-fits words command h
-    by false false false false false false false false h = absurd (none_is_not command h)
+    by true s c b p i a g v h = run-fits words command h
+    by false true c b p i a g v h = wide-fits Solve SolveWide words command h
+    by false false true b p i a g v h = wide-fits Check CheckWide words command h
+    by false false false true p i a g v h = text-fits Basis words command h
+    by false false false false true i a g v h = text-fits Presolve words command h
+    by false false false false false true a g v h = text-fits Iis words command h
+    by false false false false false false true g v h = range-fits words command h
+    by false false false false false false false true v h = generate-fits words command h
+    by false false false false false false false false true h = serve-fits words command h
+    by false false false false false false false false false h = absurd (none_is_not command h)

@@ -15,12 +15,16 @@ pub enum Moved {
 pub enum TextCommand<N> {
     /// To solve the model.
     Solve,
+    /// The same, with a certificate whose numbers may have any width where the solve is refused an operation.
+    SolveWide,
     /// To check the certificate after the text.
     Check,
     /// The same of a certificate whose numbers may have any width.
     CheckWide,
     /// To solve the model from the basis of the file after the text.
     Basis,
+    /// To solve the model by a smaller one.
+    Presolve,
     /// To solve the model and, where it has no feasible point, to find limits that contradict each other.
     Iis,
     /// To solve the model, and to range this number of the column or row with this name.

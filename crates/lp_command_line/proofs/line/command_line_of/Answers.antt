@@ -2,7 +2,7 @@
 use Rattle.std.proofs.Common.{Some, None, sym, ap, ◌∙◌, map}
 use Rattle.std.specs.Prelude.{string_bytes}
 use Rattle.spec_program.specs.Spelled.{told}
-use Rattle.lp_command_line.specs.declared.line.Command.TheVariants.{Run, Read, Check, Range, Generate, Serve}
+use Rattle.lp_command_line.specs.declared.line.Command.TheVariants.{Run, Read, ByWidth, Range, Generate, Serve}
 use Rattle.lp_command_line.proofs.Asking.{first-word, asks-command, no-words}
 use Rattle.lp_command_line.proofs.line.command_line_of.Goals as goal
 
@@ -33,13 +33,14 @@ returns-in-Read c =
     c.word-item.is c.as_bytes.ensures.value)
     (sym c.in_ok-look_up.ensures ∙ ap Some c.in-Read.is))
 
-pub returns-in-Check : goal.returns-in-Check
-returns-in-Check c =
-    c.check_line.ensures
-    ∙ sym (asks-command (map string_bytes c.args.words.now) _ c.as_bytes.result.now (Some Check)
+pub returns-in-ByWidth : goal.returns-in-ByWidth
+returns-in-ByWidth c =
+    c.wide_line.ensures
+    ∙ sym (asks-command (map string_bytes c.args.words.now) _ c.as_bytes.result.now
+    (Some (ByWidth c.in-ByWidth.narrow c.in-ByWidth.wide))
     (first-word string_bytes c.args.words.now c.word-item.result c.as_bytes.result.now c.in-len1-up.len_at_least
     c.word-item.is c.as_bytes.ensures.value)
-    (sym c.in_ok-look_up.ensures ∙ ap Some c.in-Check.is))
+    (sym c.in_ok-look_up.ensures ∙ ap Some c.in-ByWidth.is))
 
 pub returns-in-Range : goal.returns-in-Range
 returns-in-Range c =
