@@ -6,6 +6,7 @@ pub mod TextLemmas
 pub mod AnswerLines
 pub mod PlainText
 pub mod SolvedTexts
+pub mod WideTexts
 pub mod BasisLemmas
 pub mod BasisTexts
 pub mod AcceptedTexts

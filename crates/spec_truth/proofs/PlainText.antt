@@ -1,12 +1,16 @@
 -- Texts without a line feed.
 use Rattle.std.proofs.Common.{◌≡◌, ◌≢◌, ℕ, zero, suc, ◌+◌, ◌/◌, ◌%◌, Bool, true, false, cond, not, nat_eq, List, [], ◌∷◌}
-use Rattle.std.proofs.Common.{◌++◌, arith, sym, ap, ◌∙◌, eq-eqb}
+use Rattle.std.proofs.Common.{◌++◌, pos, unsigned_abs, int_lt, refl, arith, sym, ap, ◌∙◌, eq-eqb, leb-true}
 use Rattle.std.specs.Prelude.{decimal, nat_lt}
 use Rattle.std.specs.Fmt.{digit_glyph, digits_onto, digits}
 use Rattle.std.specs.List.{list_all}
 use Rattle.std.proofs.lemmas.Bool.{and_parts}
 use Rattle.std.proofs.lemmas.List.Elements.{All-nil, All-cons, All-append}
-use Rattle.spec_truth.proofs.AnswerLines.{HasNoFeed}
+use Rattle.spec_exact.specs.Fraction.{ℚ}
+use Rattle.spec_exact.specs.Narrow.{IsNarrow}
+use Rattle.spec_mps.specs.NumberWritten.{number_text}
+use Rattle.spec_wide_text.specs.WideWritten.{all_digits, past_text, is_within, wide_text}
+use Rattle.spec_truth.proofs.AnswerLines.{HasNoFeed, number_no_feed}
 
 -- by a test of each byte
 pub tested_no_feed : (text : List ℕ) → list_all (λ b. not (nat_eq b 10)) text ≡ true → HasNoFeed text
@@ -44,3 +48,32 @@ onto_no_feed (suc k) n acc h =
 pub decimal_no_feed : (n : ℕ) → HasNoFeed (decimal n)
 unfolding digits
 decimal_no_feed n = onto_no_feed 64 n [] (All-nil (λ b. b ≢ 10))
+
+-- ---- numbers of any width
+
+all_no_feed : (n : ℕ) → HasNoFeed (all_digits n)
+unfolding all_digits
+all_no_feed n = onto_no_feed (suc n) n [] (All-nil (λ b. b ≢ 10))
+
+past_no_feed : (n den : ℕ) → HasNoFeed (past_text n den)
+unfolding past_text
+past_no_feed n den =
+    either_no_feed (nat_eq den 1) (all_digits n) (all_digits n ++ 47 ∷ all_digits den) (all_no_feed n)
+    (both_no_feed (all_digits n) (47 ∷ all_digits den) (all_no_feed n)
+    (both_no_feed (47 ∷ []) (all_digits den) (tested_no_feed (47 ∷ []) refl) (all_no_feed den)))
+
+pub wide_no_feed : (q : ℚ) → HasNoFeed (wide_text q)
+unfolding wide_text
+wide_no_feed q = by (is_within q) refl
+  where
+    by : (t : Bool) → is_within q ≡ t →
+        HasNoFeed (cond t (number_text q)
+        (cond (int_lt q.num (pos 0)) (45 ∷ []) [] ++ past_text (unsigned_abs q.num) q.den))
+    by true e =
+        let p = and_parts _ _ e in
+        let narrow : IsNarrow q = record { top = leb-true _ _ p.0; bottom = leb-true _ _ p.1 } in
+        number_no_feed q narrow
+    by false e =
+        both_no_feed (cond (int_lt q.num (pos 0)) (45 ∷ []) []) (past_text (unsigned_abs q.num) q.den)
+        (either_no_feed (int_lt q.num (pos 0)) (45 ∷ []) [] (tested_no_feed (45 ∷ []) refl) (All-nil (λ b. b ≢ 10)))
+        (past_no_feed (unsigned_abs q.num) q.den)

@@ -32,7 +32,7 @@ unfolding solved_lines check_line reply_text
 solved_begins m solved =
     append_assoc (answer_text (answer_of opening_budget solved)) (10 ∷ []) (ended_lines (lines_of_solved m solved))
 
-out_answered : (m : Model) (written : List ℕ) → SolveOut (Ok m) written → IsAnswered m written
+pub out_answered : (m : Model) (written : List ℕ) → SolveOut (Ok m) written → IsAnswered m written
 out_answered m written out =
     record {
       answer = answer_of opening_budget out.0.end;

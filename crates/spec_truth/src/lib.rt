@@ -57,6 +57,7 @@ ghost use Rattle.spec_server.specs.Output.{reply_text};
 ghost use Rattle.spec_server.specs.CheckOut.{said, check_line};
 ghost use Rattle.spec_server.specs.CheckWideOut.{wide_said, wide_check_line};
 ghost use Rattle.spec_server.specs.SolveOut.{TextSaid, text_said, SolveOut};
+ghost use Rattle.spec_server.specs.SolveWideOut.{SolveWideOut};
 ghost use Rattle.spec_server.specs.BasisOut.{Handed, BasisSaid, basis_said, BasisOut};
 ghost use Rattle.spec_program.specs.declared.command_line.Moved.{Moved};
 ghost use Rattle.spec_program.specs.GenOut.{entry_count, size_text, GenOut};
@@ -160,6 +161,22 @@ pub fn solved_texts_have_true_answers()
         (behind : List ℕ) → written ≡ codes "INFEASIBLE" ++ 10 ∷ behind → IsInfeasible m }
     ensures unbounded { (style : Style) (lines : List (Line (List ℕ))) (m : Model) (what : TextSaid)
         (written : List ℕ) → text_said style lines ≡ Some what → SolveOut what written → Spells style lines m →
+        (behind : List ℕ) → written ≡ codes "UNBOUNDED" ++ 10 ∷ behind → IsUnbounded m }
+{}
+
+/// What `solve --wide` writes of a text that spells a model is true of the model, as its first line alone says it: behind
+/// `OPTIMAL` stands the text of the optimal value, and it is read as this value, however wide, where it is no longer than a
+/// power of ten may have zeros.
+pub fn wide_solved_texts_have_true_answers()
+    ensures optimal { (style : Style) (lines : List (Line (List ℕ))) (m : Model) (what : TextSaid) (written : List ℕ) →
+        text_said style lines ≡ Some what → SolveWideOut what written → Spells style lines m →
+        (text behind : List ℕ) → All (λ b. b ≢ 10) text → written ≡ codes "OPTIMAL " ++ text ++ 10 ∷ behind →
+        (v : ℚ) × (text ≡ wide_text v) × (length text ≤ most_zeros → wide_of text ≡ wide.Is v) × IsOptimal m v }
+    ensures infeasible { (style : Style) (lines : List (Line (List ℕ))) (m : Model) (what : TextSaid)
+        (written : List ℕ) → text_said style lines ≡ Some what → SolveWideOut what written → Spells style lines m →
+        (behind : List ℕ) → written ≡ codes "INFEASIBLE" ++ 10 ∷ behind → IsInfeasible m }
+    ensures unbounded { (style : Style) (lines : List (Line (List ℕ))) (m : Model) (what : TextSaid)
+        (written : List ℕ) → text_said style lines ≡ Some what → SolveWideOut what written → Spells style lines m →
         (behind : List ℕ) → written ≡ codes "UNBOUNDED" ++ 10 ∷ behind → IsUnbounded m }
 {}
 

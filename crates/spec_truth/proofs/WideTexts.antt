@@ -1,0 +1,138 @@
+-- What `solve --wide` writes of a text that spells a model begins with the line of an answer that is true of the model.
+use Rattle.std.proofs.Common.{◌≡◌, ◌≤◌, ℕ, List, [], ◌∷◌, ◌++◌, length, Some, Ok, ◌⊎◌, inl, inr, refl, sym, ◌∙◌, ap, subst}
+use Rattle.std.proofs.Common.{append_assoc}
+use Rattle.std.specs.Prelude.{codes}
+use Rattle.spec_text.specs.declared.line.Line.{Line}
+use Rattle.spec_exact.specs.Fraction.{ℚ}
+use Rattle.spec_model.specs.Model.{Model}
+use Rattle.spec_model.specs.Truth.{IsOptimal, IsInfeasible, IsUnbounded}
+use Rattle.spec_mps.specs.declared.style.Style.{Style}
+use Rattle.spec_mps.specs.NumberWritten.{number_text}
+use Rattle.spec_mps.specs.Steps.{Spells}
+use Rattle.spec_wide_text.specs.WideText.{most_zeros, Is, wide_of}
+use Rattle.spec_wide_text.specs.WideWritten.{wide_text}
+use Rattle.spec_wide_text.proofs.ReadBack.{same_text, read_again}
+use Rattle.spec_check.specs.declared.certificate.Certificate.{Certificate}
+use Rattle.spec_check.specs.declared.certificate.Known.{Known}
+use Rattle.spec_check.specs.declared.certificate.Known.TheVariants as known
+use Rattle.spec_check.specs.Certificate.{Holds}
+use Rattle.spec_certificate.specs.TextWritten.{wide_certificate_lines}
+use Rattle.spec_solve.specs.declared.wide_solved.WideSolved.TheVariants.{Narrow, Wide}
+use Rattle.spec_solve.proofs.WideAnswers.{unlimited_true}
+use Rattle.spec_server.specs.declared.answer.Answer.{Answer}
+use Rattle.spec_server.specs.declared.answer.Answer.TheVariants as answer
+use Rattle.spec_server.specs.Machine.{opening_budget}
+use Rattle.spec_server.specs.Output.{answer_text, ended_lines}
+use Rattle.spec_server.specs.SolveOut.{TextSaid, text_said}
+use Rattle.spec_server.specs.SolveWideOut.{wide_known_text, wide_known_line, wide_solved_lines, SolveWideOut}
+use Rattle.spec_truth.proofs.Shown.{IsShownBy, shown_holds, value_fits}
+use Rattle.spec_truth.proofs.TextLemmas.{spelled_said}
+use Rattle.spec_truth.proofs.AnswerLines.{HasNoFeed, same_line, first, apart, infeasible_line, unbounded_line}
+use Rattle.spec_truth.proofs.PlainText.{wide_no_feed}
+use Rattle.spec_truth.proofs.SolvedTexts.{IsAnswered, out_answered, same_said}
+
+-- ---- an answer with numbers of any width
+
+record IsWideAnswered (m : Model) (written : List ℕ) : Type 0 where
+  what : Known ℚ
+  behind : List ℕ
+  line : written ≡ wide_known_text what ++ 10 ∷ behind
+  holds : Holds m what
+
+wide_begins : (m : Model) (what : Known ℚ) (cert : Certificate (List ℚ)) →
+    wide_solved_lines m what cert ≡ wide_known_text what ++ 10 ∷ ended_lines (wide_certificate_lines m cert)
+unfolding wide_solved_lines wide_known_line
+wide_begins m what cert = append_assoc (wide_known_text what) (10 ∷ []) (ended_lines (wide_certificate_lines m cert))
+
+abbrev IsRead : Model → List ℕ → Type 0
+IsRead m text =
+    (v : ℚ) × (text ≡ wide_text v) × (length text ≤ most_zeros → wide_of text ≡ Is v) × IsOptimal m v
+
+wide_optimal : (m : Model) (what : Known ℚ) (text x y : List ℕ) → Holds m what → HasNoFeed text →
+    wide_known_text what ++ 10 ∷ x ≡ codes "OPTIMAL " ++ text ++ 10 ∷ y → IsRead m text
+wide_optimal m (known.Optimal v) text x y h k e =
+    let more : wide_text v ++ 10 ∷ x ≡ text ++ 10 ∷ y = cc in
+    let same : wide_text v ≡ text = same_line (wide_text v) text x y (wide_no_feed v) k more in
+    (v, sym same, subst (λ (t : List ℕ). length t ≤ most_zeros → wide_of t ≡ Is v) same (read_again v), h)
+wide_optimal m known.Infeasible text x y h k e = absurd (apart 73 79 refl (ap first e))
+wide_optimal m known.Unbounded text x y h k e = absurd (apart 85 79 refl (ap first e))
+
+wide_infeasible : (m : Model) (what : Known ℚ) (x y : List ℕ) → Holds m what →
+    wide_known_text what ++ 10 ∷ x ≡ codes "INFEASIBLE" ++ 10 ∷ y → IsInfeasible m
+wide_infeasible m (known.Optimal v) x y h e = absurd (apart 79 73 refl (ap first e))
+wide_infeasible m known.Infeasible x y h e = h
+wide_infeasible m known.Unbounded x y h e = absurd (apart 85 73 refl (ap first e))
+
+wide_unbounded : (m : Model) (what : Known ℚ) (x y : List ℕ) → Holds m what →
+    wide_known_text what ++ 10 ∷ x ≡ codes "UNBOUNDED" ++ 10 ∷ y → IsUnbounded m
+wide_unbounded m (known.Optimal v) x y h e = absurd (apart 79 85 refl (ap first e))
+wide_unbounded m known.Infeasible x y h e = absurd (apart 73 85 refl (ap first e))
+wide_unbounded m known.Unbounded x y h e = h
+
+-- ---- an answer of `solve`
+
+-- its value is written as it is with numbers of any width
+narrow_optimal : (m : Model) (a : Answer ℚ) (text x y : List ℕ) → IsShownBy m a → HasNoFeed text →
+    answer_text a ++ 10 ∷ x ≡ codes "OPTIMAL " ++ text ++ 10 ∷ y → IsRead m text
+narrow_optimal m (answer.Known (known.Optimal v)) text x y s k e =
+    let same : wide_text v ≡ number_text v = same_text v (value_fits m v s) in
+    wide_optimal m (known.Optimal v) text x y (shown_holds m (known.Optimal v) s) k
+    (ap (λ t. codes "OPTIMAL " ++ t ++ 10 ∷ x) same ∙ e)
+narrow_optimal m (answer.Known known.Infeasible) text x y s k e = absurd (apart 73 79 refl (ap first e))
+narrow_optimal m (answer.Known known.Unbounded) text x y s k e = absurd (apart 85 79 refl (ap first e))
+narrow_optimal m (answer.Past p) text x y s k e = absurd (apart 80 79 refl (ap first e))
+narrow_optimal m (answer.Spent budget) text x y s k e = absurd (apart 83 79 refl (ap first e))
+
+-- ---- either answer
+
+abbrev IsEither : Model → List ℕ → Type 0
+IsEither m written = IsAnswered m written ⊎ IsWideAnswered m written
+
+out_either : (m : Model) (written : List ℕ) → SolveWideOut (Ok m) written → IsEither m written
+out_either m written (Narrow solved, h, e) = inl (out_answered m written (solved, h, e))
+out_either m written (Wide what cert, h, e) =
+    inr (record {
+      what = what;
+      behind = ended_lines (wide_certificate_lines m cert);
+      line = e ∙ wide_begins m what cert;
+      holds = (unlimited_true m opening_budget what cert h.1).0;
+    })
+
+either : (style : Style) (lines : List (Line (List ℕ))) (m : Model) (what : TextSaid) (written : List ℕ) →
+    text_said style lines ≡ Some what → SolveWideOut what written → Spells style lines m → IsEither m written
+either style lines m what written is out spells =
+    let same : what ≡ Ok m = same_said what (Ok m) (sym is ∙ spelled_said style lines m spells) in
+    out_either m written (subst (λ (w : TextSaid). SolveWideOut w written) same out)
+
+-- ---- the laws
+
+pub optimal_begins : (style : Style) (lines : List (Line (List ℕ))) (m : Model) (what : TextSaid) (written : List ℕ) →
+    text_said style lines ≡ Some what → SolveWideOut what written → Spells style lines m →
+    (text behind : List ℕ) → HasNoFeed text → written ≡ codes "OPTIMAL " ++ text ++ 10 ∷ behind →
+    (v : ℚ) × (text ≡ wide_text v) × (length text ≤ most_zeros → wide_of text ≡ Is v) × IsOptimal m v
+optimal_begins style lines m what written is out spells text behind no_feed e =
+    by (either style lines m what written is out spells)
+  where
+    by : IsEither m written → IsRead m text
+    by (inl r) = narrow_optimal m r.answer text r.behind behind r.shown no_feed (sym r.line ∙ e)
+    by (inr r) = wide_optimal m r.what text r.behind behind r.holds no_feed (sym r.line ∙ e)
+
+pub infeasible_begins : (style : Style) (lines : List (Line (List ℕ))) (m : Model) (what : TextSaid)
+    (written : List ℕ) → text_said style lines ≡ Some what → SolveWideOut what written → Spells style lines m →
+    (behind : List ℕ) → written ≡ codes "INFEASIBLE" ++ 10 ∷ behind → IsInfeasible m
+infeasible_begins style lines m what written is out spells behind e =
+    by (either style lines m what written is out spells)
+  where
+    by : IsEither m written → IsInfeasible m
+    by (inl r) = infeasible_line m r.answer r.behind behind r.shown (sym r.line ∙ e)
+    by (inr r) = wide_infeasible m r.what r.behind behind r.holds (sym r.line ∙ e)
+
+pub unbounded_begins : (style : Style) (lines : List (Line (List ℕ))) (m : Model) (what : TextSaid) (written : List ℕ) →
+    text_said style lines ≡ Some what → SolveWideOut what written → Spells style lines m →
+    (behind : List ℕ) → written ≡ codes "UNBOUNDED" ++ 10 ∷ behind → IsUnbounded m
+unbounded_begins style lines m what written is out spells behind e =
+    by (either style lines m what written is out spells)
+  where
+    by : IsEither m written → IsUnbounded m
+    by (inl r) = unbounded_line m r.answer r.behind behind r.shown (sym r.line ∙ e)
+    by (inr r) = wide_unbounded m r.what r.behind behind r.holds (sym r.line ∙ e)
