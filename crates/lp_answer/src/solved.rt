@@ -3,11 +3,12 @@ ghost use Rattle.std.specs.Prelude.{◌≡◌, None, IfOk, Ok, Some};
 ghost use Rattle.spec_simplex.specs.Form.{form_of};
 ghost use Rattle.spec_simplex.specs.Eliminate.{IsBasisOf};
 ghost use Rattle.spec_solve.specs.Answers.{number_limit, IsSolved};
+ghost use Rattle.spec_solve.specs.Wide.{IsWideSolved};
 ghost use Rattle.lp_solve.specs.Fit.{LeavesBasis};
 
 use lp_form::{Basis, Form};
 use lp_model::Model;
-use lp_solve::{Solved, solve, solve_formed};
+use lp_solve::{Solved, WideSolved, solve, solve_formed, solve_wide};
 use std::alloc::{AllocError, Global};
 
 /// The pivots and flips that a solve of a new session may make.
@@ -20,7 +21,18 @@ pub fn solved_within(alloc: Global, model: &Model, budget: u32) -> Result<Solved
     solve(alloc, model, u64::from(budget), None)
 }
 
-/// The same from a basis of its form.
+/// The same, and where an operation is refused an answer with numbers of any width.
+pub fn wide_solved_within(
+    alloc: Global,
+    model: &Model,
+    budget: u32,
+) -> Result<WideSolved, AllocError>
+    ensures { IfOk result (λ solved. IsWideSolved model.now budget solved) }
+{
+    solve_wide(alloc, model, u64::from(budget))
+}
+
+/// What a solve ends with from a basis of the model's form.
 pub fn solved_from_basis(
     alloc: Global,
     model: &Model,

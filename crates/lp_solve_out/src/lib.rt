@@ -3,6 +3,7 @@
 //! | Item | What it is | Where |
 //! |---|---|---|
 //! | `print_solved` | writes what a solve of a model ends with | src/solve |
+//! | `print_wide_solved` | writes what a wide solve of a model ends with | src/wide |
 //! | `print_answer` | writes the line of the answer that a solve ended with | src/solve |
 //! | `print_end` | writes it, and the certificate behind it | src/solve |
 //! | `Handed`, `Start` | a model, and the basis from which it is solved | src/basis_start |
@@ -14,7 +15,9 @@
 mod basis_out;
 mod basis_start;
 mod solve;
+mod wide;
 
 pub use basis_out::{print_fault, print_handed};
 pub use basis_start::{Handed, Start};
 pub use solve::{print_answer, print_end, print_solved};
+pub use wide::print_wide_solved;
